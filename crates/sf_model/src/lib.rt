@@ -1,0 +1,22 @@
+//! The model: designs, plans, and what a floorplan costs.
+#![tactic(auto)]
+
+pub mod design;
+pub mod laws;
+pub mod lists;
+pub mod name;
+pub mod parts;
+pub mod plan;
+pub mod raw;
+pub mod raw_lists;
+
+pub use design::Design;
+pub use lists::{BlockList, NetList, PadList, Pins, Shapes};
+pub use name::Name;
+pub use parts::{Block, Net, Outline, Pad, Pin, Shape, Weights};
+pub use plan::{Plan, Spot};
+pub use raw::{Kind, Parts, RawBlock, RawNet, RawPad, RawPin};
+pub use raw_lists::{NameList, RawBlockList, RawNetList, RawPadList, RawPins};
+
+/// No cost: the greatest number, which every cost is below.
+pub const MAX: u64 = 18_446_744_073_709_551_615;

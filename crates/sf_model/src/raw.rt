@@ -1,0 +1,49 @@
+//! Blocks, pads and nets as they stand in a text.
+
+use crate::name::Name;
+use crate::raw_lists::{NameList, RawBlockList, RawNetList, RawPadList, RawPins};
+
+/// What kind of block it is: a hard one by its sides, or a soft one by its area and the least and greatest
+/// height over width, these two in millionths.
+#[derive(Clone, Copy, Debug, PartialEq, Eq)]
+pub enum Kind {
+    Hard { w: u64, h: u64 },
+    Soft { area: u64, min: u64, max: u64 },
+}
+
+#[derive(Debug, Drop)]
+pub struct RawBlock {
+    pub name: Name,
+    pub kind: Kind,
+}
+
+/// A pad and its place, where the text tells one.
+#[derive(Debug, Drop)]
+pub struct RawPad {
+    pub name: Name,
+    pub place: Option<(i64, i64)>,
+}
+
+/// A pin of a net: by name, or by the place of its block or pad.
+#[derive(Debug, Drop)]
+pub enum RawPin {
+    Named(Name),
+    Block(u32),
+    Pad(u32),
+}
+
+#[derive(Debug, Drop)]
+pub struct RawNet {
+    pub pins: RawPins,
+}
+
+/// All that the texts of a design say. `strangers` are the placed names that no block and no pad has, and
+/// `pads_in` is false where no text places the pads, which are then left out of all nets.
+#[derive(Debug, Drop)]
+pub struct Parts {
+    pub blocks: RawBlockList,
+    pub pads: RawPadList,
+    pub nets: RawNetList,
+    pub strangers: NameList,
+    pub pads_in: bool,
+}
