@@ -1,0 +1,77 @@
+-- No plan belongs to two children of a subproblem by extending.
+use Rattle.std.proofs.Common.{◌≡◌, ◌≢◌, ℕ, suc, ◌+◌, ◌<◌, ◌≤◌, List, [], ◌∷◌, ◌++◌, length, map, take, length-append, arith, refl, ap, sym, subst, ◌∙◌, Bool, true, false}
+use Rattle.std.proofs.lemmas.List.{append_cancel_left}
+use Rattle.std.specs.Prelude.{filter, AllPairs}
+use Rattle.std.specs.List.{AllByRecursion, range_with_len}
+use Rattle.sf_model.specs.declared.design.Design.{Design}
+use Rattle.sf_model.specs.Tree.{Tree}
+use Rattle.sf_model.specs.Legal.{block_count}
+use Rattle.sf_model.proofs.Each.{Any-from_recursion, EachPair, EachPair-append, EachPair-map, EachPair-filter, EachPair-range, EachPair-weaker, AllPairs-from_recursion, each-append, each-map, each-filter, each-range, each-weaker}
+use Rattle.sf_polish.specs.declared.expr.Token.{Token}
+use Rattle.sf_polish.specs.declared.expr.Token.TheVariants as token
+use Rattle.sf_polish.specs.Postfix.{postfix}
+use Rattle.sf_node.specs.Parts.{Parts}
+use Rattle.sf_node.specs.Subproblem.{Belongs, is_complete}
+use Rattle.sf_node.specs.Children.{may_join, is_unused, when, next_tokens, step_of, after, extended}
+use Rattle.sf_node.specs.Laws.{BelongsToOne}
+use Rattle.sf_node.proofs.Cover.{extended-some}
+
+unfoldable pub rank : Token → ℕ
+rank token.Beside = 0
+rank token.Above = 1
+rank (token.Block b) = b + 2
+
+tokens-after : (node : Parts) (t : Token) → (after node (step_of t)).tokens ≡ node.tokens ++ t ∷ []
+tokens-after node token.Beside = refl
+tokens-after node token.Above = refl
+tokens-after node (token.Block b) = refl
+
+head-same : (s t : Token) → ◌≡◌ {A = List Token} (s ∷ []) (t ∷ []) → s ≡ t
+head-same s t e = cc
+
+same-token : (design : Design) (node : Parts) (tree : Tree) (s t : Token) → Belongs design (after node (step_of s)) tree → Belongs design (after node (step_of t)) tree → s ≡ t
+same-token design node tree s t a b =
+    let p : take (length (node.tokens ++ s ∷ [])) (postfix tree) ≡ node.tokens ++ s ∷ [] = subst (λ z. take (length z) (postfix tree) ≡ z) (tokens-after node s) a.begins in
+    let q : take (length (node.tokens ++ t ∷ [])) (postfix tree) ≡ node.tokens ++ t ∷ [] = subst (λ z. take (length z) (postfix tree) ≡ z) (tokens-after node t) b.begins in
+    let n : length (node.tokens ++ s ∷ []) ≡ length (node.tokens ++ t ∷ []) = length-append node.tokens (s ∷ []) ∙ sym (length-append node.tokens (t ∷ [])) in
+    head-same s t (append_cancel_left node.tokens (s ∷ []) (t ∷ []) (sym p ∙ ap (λ k. take k (postfix tree)) n ∙ q))
+
+each-when : (P : Token → Type 0) (b : Bool) (t : Token) → P t → AllByRecursion P (when b t)
+each-when P true t p = (p, tt)
+each-when P false t p = tt
+
+pair-when : (R : Token → Token → Type 0) (b : Bool) (t : Token) → EachPair R (when b t)
+pair-when R true t = (tt, tt)
+pair-when R false t = tt
+
+pub next-rising : (node : Parts) → EachPair (λ s t. rank s < rank t) (next_tokens node)
+unfolding rank
+next-rising node =
+    let ts = node.tokens in
+    EachPair-append (λ s t. rank s < rank t) (λ t. rank t < 2) (λ t. 2 ≤ rank t) (λ s t p q. omega (arith, p, q))
+    (when (may_join token.Beside ts) token.Beside ++ when (may_join token.Above ts) token.Above)
+    (map (λ b. token.Block b) (filter (λ b. is_unused b ts) (range_with_len 0 (length node.spans))))
+    (EachPair-append (λ s t. rank s < rank t) (λ t. rank t < 1) (λ t. 1 ≤ rank t) (λ s t p q. omega (arith, p, q))
+    (when (may_join token.Beside ts) token.Beside) (when (may_join token.Above ts) token.Above)
+    (pair-when _ (may_join token.Beside ts) token.Beside) (pair-when _ (may_join token.Above ts) token.Above)
+    (each-when _ (may_join token.Beside ts) token.Beside (omega arith)) (each-when _ (may_join token.Above ts) token.Above (omega arith)))
+    (EachPair-map (λ s t. rank s < rank t) (λ b. token.Block b) (filter (λ b. is_unused b ts) (range_with_len 0 (length node.spans)))
+    (EachPair-filter (λ a b. a + 2 < b + 2) (λ b. is_unused b ts) (range_with_len 0 (length node.spans))
+    (EachPair-weaker (λ a b. a < b) (λ a b. a + 2 < b + 2) (λ a b h. omega arith) (range_with_len 0 (length node.spans)) (EachPair-range 0 (length node.spans)))))
+    (each-append _ (when (may_join token.Beside ts) token.Beside) (when (may_join token.Above ts) token.Above)
+    (each-when _ (may_join token.Beside ts) token.Beside (omega arith)) (each-when _ (may_join token.Above ts) token.Above (omega arith)))
+    (each-map (λ t. 2 ≤ rank t) (λ b. token.Block b) (filter (λ b. is_unused b ts) (range_with_len 0 (length node.spans)))
+    (each-filter (λ b. 2 ≤ b + 2) (λ b. is_unused b ts) (range_with_len 0 (length node.spans)) (each-range (λ b. 2 ≤ b + 2) 0 (length node.spans) (λ i h. omega arith))))
+
+extended-no_two : (design : Design) (node : Parts) (tree : Tree) → AllPairs (λ a b. ¬ (Belongs design a tree × Belongs design b tree)) (extended node)
+extended-no_two design node tree =
+    AllPairs-from_recursion (λ a b. ¬ (Belongs design a tree × Belongs design b tree)) (extended node)
+    (EachPair-map (λ a b. ¬ (Belongs design a tree × Belongs design b tree)) (λ t. after node (step_of t)) (next_tokens node)
+    (EachPair-weaker (λ s t. rank s < rank t) (λ s t. ¬ (Belongs design (after node (step_of s)) tree × Belongs design (after node (step_of t)) tree)) (λ s t h both. let e = ap rank (same-token design node tree s t both.0 both.1) in absurd (omega arith)) (next_tokens node) (next-rising node)))
+
+-- a plan of an incomplete subproblem belongs to exactly one of its children
+pub extended-one : (design : Design) (node : Parts) (tree : Tree) → length node.spans ≡ block_count design → is_complete node ≡ false → Belongs design node tree → BelongsToOne design (extended node) tree
+extended-one design node tree spans partly belongs = record {
+  some = Any-from_recursion (λ child. Belongs design child tree) (extended node) (extended-some design node tree spans partly belongs);
+  no_two = extended-no_two design node tree;
+}

@@ -1,0 +1,9 @@
+pub mod Cover
+pub mod Apart
+pub mod Halves
+pub mod Reached
+pub mod Last
+pub mod Grown
+pub mod Depth
+pub mod Normalised
+pub mod Spanned

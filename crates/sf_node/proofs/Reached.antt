@@ -1,0 +1,116 @@
+-- Each child of a subproblem of the design is one, and each skewed floorplan belongs to the root.
+use Rattle.std.proofs.Common.{◌≡◌, ℕ, suc, ◌+◌, ◌-◌, ◌<◌, ◌≤◌, List, [], ◌∷◌, ◌++◌, length, map, take, drop, get_or, All, length-set, arith, refl, ap, sym, subst, ◌∙◌, ◌==◌, Bool, true, false}
+use Prim.Native.Nat.{zero}
+use Rattle.std.specs.Prelude.{Contains, slice_range, slice_index_or, filter, IsTrue}
+use Rattle.std.specs.List.{AllByRecursion, range_with_len}
+use Rattle.std.proofs.lemmas.List.{get_or-map, length-map}
+use Rattle.std.proofs.lemmas.Bool.{cond_both}
+use Rattle.std.proofs.lemmas.List.Elements.{recursion_from_All, All-from_recursion}
+use Rattle.sf_model.specs.declared.design.Design.{Design}
+use Rattle.sf_model.specs.declared.parts.Shape.{Shape}
+use Rattle.sf_model.specs.Tree.{Tree, leaves}
+use Rattle.sf_model.specs.Legal.{IsLegal, block_count, shapes_of}
+use Rattle.sf_model.proofs.Each.{each-append, each-map, each-weaker}
+use Rattle.sf_polish.specs.declared.expr.Token.{Token}
+use Rattle.sf_polish.specs.declared.expr.Token.TheVariants as token
+use Rattle.sf_polish.specs.Postfix.{IsSkewed, postfix}
+use Rattle.sf_node.specs.declared.step.Step.{Step}
+use Rattle.sf_node.specs.declared.step.Step.TheVariants.{Beside, Above, Block, Left, Right}
+use Rattle.sf_node.specs.Parts.{Parts}
+use Rattle.sf_node.specs.Subproblem.{Belongs, root, span_of}
+use Rattle.sf_node.specs.Children.{may_join, is_unused, when, next_tokens, step_of, after, extended, split, CanSplit, CanStep, CanWalk, walk, IsSubproblem}
+use Rattle.sf_node.proofs.Halves.{InSpan, from_in_span}
+
+walk-append : (node : Parts) (ss : List Step) (s : Step) → walk node (ss ++ s ∷ []) ≡ after (walk node ss) s
+walk-append node [] s = refl
+walk-append node (x ∷ ss) s = walk-append (after node x) ss s
+
+CanWalk-append : (node : Parts) (ss : List Step) (s : Step) → CanWalk node ss → CanStep (walk node ss) s → CanWalk node (ss ++ s ∷ [])
+CanWalk-append node [] s w c = (c, tt)
+CanWalk-append node (x ∷ ss) s w c = (w.0, CanWalk-append (after node x) ss s w.1 c)
+
+pub steps-after : (node : Parts) (s : Step) → (after node s).steps ≡ node.steps ++ s ∷ []
+steps-after node Beside = refl
+steps-after node Above = refl
+steps-after node (Block b) = refl
+steps-after node (Left b) = refl
+steps-after node (Right b) = refl
+
+pub after-subproblem : (design : Design) (node : Parts) (s : Step) → IsSubproblem design node → CanStep node s → IsSubproblem design (after node s)
+after-subproblem design node s sub can = record {
+  reached = subst (CanWalk (root design)) (sym (steps-after node s)) (CanWalk-append (root design) node.steps s sub.reached (subst (λ n. CanStep n s) sub.is can));
+  is = ap (λ n. after n s) sub.is ∙ sym (walk-append (root design) node.steps s) ∙ ap (walk (root design)) (sym (steps-after node s));
+}
+
+spans-after : (node : Parts) (s : Step) → length (after node s).spans ≡ length node.spans
+spans-after node Beside = refl
+spans-after node Above = refl
+spans-after node (Block b) = refl
+spans-after node (Left b) = length-set node.spans b _
+spans-after node (Right b) = length-set node.spans b _
+
+spans-walk : (ss : List Step) (node : Parts) → length (walk node ss).spans ≡ length node.spans
+spans-walk [] node = refl
+spans-walk (s ∷ ss) node = spans-walk ss (after node s) ∙ spans-after node s
+
+-- a subproblem has one span for each block
+pub subproblem-spans : (design : Design) (node : Parts) → IsSubproblem design node → length node.spans ≡ block_count design
+subproblem-spans design node sub =
+    ap (λ n. length n.spans) sub.is ∙ spans-walk node.steps (root design) ∙ length-map design.blocks (λ block. (0, length block.shapes))
+
+each-when : (P : Token → Type 0) (b : Bool) (t : Token) → (b ≡ true → P t) → AllByRecursion P (when b t)
+each-when P true t f = (f refl, tt)
+each-when P false t f = tt
+
+each-passing : (P : ℕ → Type 0) (test : ℕ → Bool) (xs : List ℕ) → AllByRecursion (λ x. test x ≡ true → P x) xs → AllByRecursion P (filter test xs)
+each-passing P test [] h = tt
+each-passing P test (x ∷ xs) h = cond_both (test x) (x ∷ filter test xs) (filter test xs) (AllByRecursion P) (λ e. (h.0 e, each-passing P test xs h.1)) (λ e. each-passing P test xs h.1)
+
+each-below : (P : ℕ → Type 0) (a n : ℕ) → ((i : ℕ) → a ≤ i → i < a + n → P i) → AllByRecursion P (range_with_len a n)
+each-below P a zero f = tt
+each-below P a (suc n) f = (f a (omega arith) (omega arith), each-below P (a + 1) n (λ i h k. f i (omega arith) (omega arith)))
+
+pub next-can : (node : Parts) → AllByRecursion (λ t. CanStep node (step_of t)) (next_tokens node)
+next-can node =
+    let ts = node.tokens in
+    let P : Token → Type 0 = λ t. CanStep node (step_of t) in
+    each-append P (when (may_join token.Beside ts) token.Beside ++ when (may_join token.Above ts) token.Above) (map (λ b. token.Block b) (filter (λ b. is_unused b ts) (range_with_len 0 (length node.spans))))
+    (each-append P (when (may_join token.Beside ts) token.Beside) (when (may_join token.Above ts) token.Above)
+    (each-when P (may_join token.Beside ts) token.Beside (λ e. e)) (each-when P (may_join token.Above ts) token.Above (λ e. e)))
+    (each-map P (λ b. token.Block b) (filter (λ b. is_unused b ts) (range_with_len 0 (length node.spans)))
+    (each-passing (λ b. P (token.Block b)) (λ b. is_unused b ts) (range_with_len 0 (length node.spans))
+    (each-below (λ b. is_unused b ts ≡ true → P (token.Block b)) 0 (length node.spans) (λ i h k e. (omega arith, e)))))
+
+pub extended-subproblems : (design : Design) (node : Parts) → IsSubproblem design node → AllByRecursion (IsSubproblem design) (extended node)
+extended-subproblems design node sub =
+    each-map (IsSubproblem design) (λ t. after node (step_of t)) (next_tokens node)
+    (each-weaker (λ t. CanStep node (step_of t)) (λ t. IsSubproblem design (after node (step_of t))) (λ t c. after-subproblem design node (step_of t) sub c) (next_tokens node) (next-can node))
+
+pub split-subproblems : (design : Design) (node : Parts) (b : ℕ) → IsSubproblem design node → CanSplit node b → AllByRecursion (IsSubproblem design) (split node b)
+split-subproblems design node b sub can = (after-subproblem design node (Left b) sub can, (after-subproblem design node (Right b) sub can, tt))
+
+pub root-subproblem : (design : Design) → IsSubproblem design (root design)
+root-subproblem design = record { reached = tt; is = refl }
+
+root-chosen : (design : Design) (leaf : ℕ × Shape) → leaf.0 < block_count design → Contains (shapes_of design leaf.0) leaf.1 → (let span = span_of (root design) leaf.0 in Contains (slice_range (shapes_of design leaf.0) span.0 span.1) leaf.1)
+root-chosen design leaf inside c =
+    let e : span_of (root design) leaf.0 ≡ (0, length (shapes_of design leaf.0)) = get_or-map (λ block. (0, length block.shapes)) design.blocks leaf.0 (record { name = []; shapes = [] }) (0, 0) inside in
+    let stands : InSpan (shapes_of design leaf.0) 0 (length (shapes_of design leaf.0)) leaf.1 = record { at = c.0; low = omega arith; high = c.1; within = c.1; is = c.2 } in
+    subst (λ z. Contains (slice_range (shapes_of design leaf.0) z.0 z.1) leaf.1) (sym e) (from_in_span (shapes_of design leaf.0) 0 (length (shapes_of design leaf.0)) leaf.1 stands)
+
+each-two : {X : Type 0} (P Q R : X → Type 0) → ((x : X) → P x → Q x → R x) → (xs : List X) → AllByRecursion P xs → AllByRecursion Q xs → AllByRecursion R xs
+each-two P Q R f [] p q = tt
+each-two P Q R f (x ∷ xs) p q = (f x p.0 q.0, each-two P Q R f xs p.1 q.1)
+
+-- each skewed floorplan belongs to the root
+pub root-belongs : (design : Design) (tree : Tree) → IsSkewed tree → IsLegal design tree → Belongs design (root design) tree
+root-belongs design tree skewed legal = record {
+  skewed = skewed;
+  legal = legal;
+  begins = refl;
+  chosen = All-from_recursion _ (leaves tree)
+      (each-two (λ leaf. leaf.0 < block_count design) (λ leaf. Contains (shapes_of design leaf.0) leaf.1) (λ leaf. let span = span_of (root design) leaf.0 in Contains (slice_range (shapes_of design leaf.0) span.0 span.1) leaf.1)
+      (root-chosen design) (leaves tree)
+      (recursion_from_All (λ leaf. leaf.0 < block_count design) (leaves tree) legal.blocks.no_other)
+      (recursion_from_All (λ leaf. Contains (shapes_of design leaf.0) leaf.1) (leaves tree) legal.listed));
+}

@@ -1,0 +1,13 @@
+//! Subproblems, and the ways in which they branch.
+#![tactic(auto)]
+
+pub mod laws;
+pub mod node;
+pub mod step;
+pub mod task;
+pub mod values;
+
+pub use node::{Node, is_unused};
+pub use step::Step;
+pub use task::Task;
+pub use values::Values;

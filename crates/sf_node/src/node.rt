@@ -1,0 +1,248 @@
+ghost use Rattle.std.specs.Prelude.{◌≡◌, ◌<◌, ◌≤◌, not, true, length, MatchOption, slice_index_or, nat_lt, ◌&&◌};
+ghost use Rattle.sf_node.specs.Full.{first_wide_from};
+ghost use Rattle.std.specs.List.{list_all};
+ghost use Rattle.sf_polish.specs.Normal.{ends_in, is_operand, same_operator};
+ghost use Rattle.sf_node.specs.Subproblem.{is_wide};
+ghost use Rattle.sf_node.specs.Children.{is_unused, may_join};
+
+use crate::step::Step;
+use sf_model::Design;
+use sf_polish::expr::Token;
+use std::alloc::{AllocError as NoMemory, Global};
+use std::marker::Model;
+
+/// A subproblem: the steps that lead to it, its tokens, and the span of each block's shapes.
+#[derive(Drop)]
+pub struct Node {
+    steps: Vec<Step>,
+    tokens: Vec<Token>,
+    spans: Vec<(u16, u16)>,
+}
+
+impl Model for Node {
+    ghost use Rattle.sf_node.specs.Parts.{Parts};
+
+    ghost Value = { Parts };
+
+    ghost view = { λ n. record { steps = n.steps.items; tokens = n.tokens.items; spans = n.spans.items } };
+}
+
+/// Whether a span has more than one place.
+fn is_wide(span: (u16, u16)) -> bool
+    ensures { result ≡ is_wide span }
+{
+    u32::from(span.0) + 1 < u32::from(span.1)
+}
+
+/// The place of the first span with more than one place.
+fn first_wide(spans: &[(u16, u16)]) -> Option<u16>
+    requires { length spans.now ≤ 320 }
+    ensures { MatchOption result (first_wide_from 0 spans.now ≡ length spans.now) (λ block. (block ≡ first_wide_from 0 spans.now) × (block < length spans.now) × (is_wide (slice_index_or spans.now block (0, 0)) ≡ true)) }
+{
+    for (block, span) in spans.iter().enumerate() {
+        if is_wide(*span) {
+            return Some(block as u16);
+        }
+    }
+    None
+}
+
+fn all_single(spans: &[(u16, u16)]) -> bool
+    ensures { result ≡ list_all (λ span. not (is_wide span)) spans.now }
+{
+    spans.iter().all(|span| !is_wide(*span))
+}
+
+/// Whether a block may come next.
+pub fn is_unused(block: u16, tokens: &[Token]) -> bool
+    ensures { result ≡ is_unused block tokens.now }
+{
+    let count = tokens
+        .iter()
+        .filter(|token| **token == Token::Block(block))
+        .count();
+    count == 0
+}
+
+fn is_operand(token: Token) -> bool
+    ensures { result ≡ is_operand token }
+{
+    matches!(token, Token::Block(_))
+}
+
+/// Whether an operator may come next.
+fn may_join(operator: Token, tokens: &[Token]) -> bool
+    ensures { result ≡ may_join operator tokens.now }
+{
+    let operands = tokens.iter().filter(|token| is_operand(**token)).count();
+    let operators = tokens.iter().filter(|token| !is_operand(**token)).count();
+    operators + 2 <= operands && !ends_in(operator, tokens)
+}
+
+#[tactic(auto, using(crate::proofs::Last::last_or_place))]
+fn ends_in(operator: Token, tokens: &[Token]) -> bool
+    ensures { result ≡ ends_in operator tokens.now }
+{
+    if tokens.is_empty() {
+        return false;
+    }
+    let last = tokens.len() - 1;
+    same_operator(tokens[last], operator)
+}
+
+fn same_operator(first: Token, second: Token) -> bool
+    ensures { result ≡ same_operator first second }
+{
+    match (first, second) {
+        (Token::Beside, Token::Beside) => true,
+        (Token::Above, Token::Above) => true,
+        _ => false,
+    }
+}
+
+impl Node {
+    ghost use Rattle.std.specs.Prelude.{◌+◌, ◌^◌, map, ◌++◌, IfOk, ◌∷◌, []};
+    ghost use Rattle.sf_node.specs.Subproblem.{root, span_of, is_complete, is_solved};
+    ghost use Rattle.sf_node.specs.Children.{split, extended, after, step_of, when, may_join, can_split, CanSplit, with_token, with_span, IsSubproblem};
+
+    /// The subproblem of all plans.
+    pub fn root(alloc: Global, design: &Design) -> Result<Node, NoMemory>
+        ensures { IfOk result (λ n. n ≡ root design.now) }
+    {
+        let mut spans = Vec::new(alloc);
+        for block in design.blocks.as_slice() {
+            spans.push((0, block.shapes.as_slice().len() as u16))?;
+        }
+        Ok(Node {
+            steps: Vec::new(alloc),
+            tokens: Vec::new(alloc),
+            spans,
+        })
+    }
+
+    /// The first block whose span has more than one place.
+    pub fn first_wide(&self) -> Option<u16>
+        requires { length self.now.spans ≤ 320 }
+        ensures { MatchOption result (first_wide_from 0 self.now.spans ≡ length self.now.spans) (λ block. (block ≡ first_wide_from 0 self.now.spans) × CanSplit self.now block) }
+    {
+        first_wide(&self.spans)
+    }
+
+    /// Whether the block is one of the design, and its span has more than one place.
+    pub fn can_split(&self, block: u16) -> bool
+        ensures { result ≡ can_split self.now block }
+    {
+        usize::from(block) < self.spans.len() && is_wide(self.spans[usize::from(block)])
+    }
+
+    pub fn steps(&self) -> &[Step]
+        ensures { result.now ≡ self.now.steps }
+    {
+        &self.steps
+    }
+
+    pub fn allocator(&self) -> Global {
+        *self.steps.allocator()
+    }
+
+    pub fn tokens(&self) -> &[Token]
+        ensures { result.now ≡ self.now.tokens }
+    {
+        &self.tokens
+    }
+
+    pub fn span(&self, block: u16) -> (u16, u16)
+        requires { block < length self.now.spans }
+        ensures { result ≡ span_of self.now block }
+    {
+        self.spans[block as usize]
+    }
+
+    pub fn is_complete(&self) -> bool
+        ensures { result ≡ is_complete self.now }
+    {
+        self.tokens.len() + 1 == 2 * self.spans.len()
+    }
+
+    /// Whether one plan is left, or the least area decides.
+    pub fn is_solved(&self, design: &Design) -> bool
+        ensures { result ≡ is_solved design.now self.now }
+    {
+        self.is_complete() && (design.weights.wire == 0 || all_single(&self.spans))
+    }
+
+    pub fn copy(&self) -> Result<Node, NoMemory>
+        ensures { IfOk result (λ n. n ≡ self.now) }
+    {
+        Ok(Node {
+            steps: self.steps.clone()?,
+            tokens: self.tokens.clone()?,
+            spans: self.spans.clone()?,
+        })
+    }
+
+    /// The subproblem with one more token.
+    fn with_token(&self, step: Step, token: Token) -> Result<Node, NoMemory>
+        ensures { IfOk result (λ n. n ≡ with_token self.now step token) }
+    {
+        let mut child = self.copy()?;
+        child.steps.push(step)?;
+        child.tokens.push(token)?;
+        Ok(child)
+    }
+
+    /// The subproblem with another span of a block.
+    fn with_span(&self, step: Step, block: u16, span: (u16, u16)) -> Result<Node, NoMemory>
+        requires { block < length self.now.spans }
+        ensures { IfOk result (λ n. n ≡ with_span self.now step block span) }
+    {
+        let mut child = self.copy()?;
+        child.steps.push(step)?;
+        child.spans[block as usize] = span;
+        Ok(child)
+    }
+
+    /// The two halves of a block's span.
+    pub fn split_children(&self, design: &Design, block: u16) -> Result<(Node, Node), NoMemory>
+        requires { CanSplit self.now block }
+        ensures { IfOk result (λ halves. halves.0 ∷ halves.1 ∷ [] ≡ split self.now block) }
+    {
+        let (from, to) = self.span(block);
+        let middle = from.midpoint(to);
+        let left = self.with_span(Step::Left(block), block, (from, middle))?;
+        let right = self.with_span(Step::Right(block), block, (middle, to))?;
+        Ok((left, right))
+    }
+
+    /// The children with one more token, in order.
+    pub fn extend_children(&self, design: &Design) -> Result<Vec<Node>, NoMemory>
+        requires { IsSubproblem design.now self.now }
+        ensures { IfOk result (λ children. children.items ≡ extended self.now) }
+    {
+        let mut children = Vec::new(*self.steps.allocator());
+        self.push_join(&mut children, Step::Beside, Token::Beside)?;
+        self.push_join(&mut children, Step::Above, Token::Above)?;
+        let blocks = design.blocks.as_slice().len();
+        for block in 0..blocks as u16 {
+            if is_unused(block, &self.tokens) {
+                children.push(self.with_token(Step::Block(block), Token::Block(block))?)?;
+            }
+        }
+        Ok(children)
+    }
+
+    fn push_join(
+        &self,
+        children: &mut Vec<Node>,
+        step: Step,
+        operator: Token,
+    ) -> Result<(), NoMemory>
+        requires { with_token self.now step operator ≡ after self.now (step_of operator) }
+        ensures { IfOk result (λ _. children.new.items ≡ children.old.items ++ map (λ t. after self.now (step_of t)) (when (may_join operator self.now.tokens) operator)) }
+    {
+        if may_join(operator, &self.tokens) {
+            children.push(self.with_token(step, operator)?)?;
+        }
+        Ok(())
+    }
+}

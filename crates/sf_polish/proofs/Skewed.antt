@@ -1,0 +1,82 @@
+-- Each plan has a skewed plan with the same leaves and the same spots: a right child with its parent's operator is taken apart.
+use Rattle.std.proofs.Common.{◌≡◌, ℕ, ◌+◌, max, List, [], ◌∷◌, ◌++◌, append_assoc, arith, refl, ap, sym, ◌∙◌}
+use Rattle.sf_model.specs.Tree.{Tree, Leaf, Beside, Above, width, height, leaves, spots_at}
+use Rattle.sf_polish.specs.Postfix.{IsSkewed, is_beside, is_above}
+use Rattle.sf_polish.specs.Skewing.{beside, above, skewed, IsSamePlace}
+
+-- t is the plan of l and r side by side
+pub record JoinsBeside (l r t : Tree) : Type 0 where
+  pub skewed : IsSkewed t
+  pub same_leaves : leaves t ≡ leaves l ++ leaves r
+  pub wide : width t ≡ width l + width r
+  pub high : height t ≡ max (height l) (height r)
+  pub same_spots : (x y : ℕ) → spots_at x y t ≡ spots_at x y l ++ spots_at (x + width l) y r
+
+pub record JoinsAbove (l r t : Tree) : Type 0 where
+  pub skewed : IsSkewed t
+  pub same_leaves : leaves t ≡ leaves l ++ leaves r
+  pub wide : width t ≡ max (width l) (width r)
+  pub high : height t ≡ height l + height r
+  pub same_spots : (x y : ℕ) → spots_at x y t ≡ spots_at x y l ++ spots_at x (y + height l) r
+
+pub beside-joins : (l r : Tree) → IsSkewed l → IsSkewed r → JoinsBeside l r (beside l r)
+beside-joins l (Leaf b s) h k = record { skewed = (h, k, refl); same_leaves = refl; wide = refl; high = refl; same_spots = λ x y. refl }
+beside-joins l (Above r q) h k = record { skewed = (h, k, refl); same_leaves = refl; wide = refl; high = refl; same_spots = λ x y. refl }
+beside-joins l (Beside r q) h k =
+    let j = beside-joins l r h k.0 in
+    record {
+      skewed = (j.skewed, k.1, k.2);
+      same_leaves = ap (λ z. z ++ leaves q) j.same_leaves ∙ append_assoc (leaves l) (leaves r) (leaves q);
+      wide = omega (arith, j.wide);
+      high = omega (arith, j.high);
+      same_spots = λ x y.
+          let e : x + width (beside l r) ≡ (x + width l) + width r = omega (arith, j.wide) in
+          ap (λ z. z ++ spots_at (x + width (beside l r)) y q) (j.same_spots x y)
+          ∙ ap (λ n. (spots_at x y l ++ spots_at (x + width l) y r) ++ spots_at n y q) e
+          ∙ append_assoc (spots_at x y l) (spots_at (x + width l) y r) (spots_at ((x + width l) + width r) y q);
+    }
+
+pub above-joins : (l r : Tree) → IsSkewed l → IsSkewed r → JoinsAbove l r (above l r)
+above-joins l (Leaf b s) h k = record { skewed = (h, k, refl); same_leaves = refl; wide = refl; high = refl; same_spots = λ x y. refl }
+above-joins l (Beside r q) h k = record { skewed = (h, k, refl); same_leaves = refl; wide = refl; high = refl; same_spots = λ x y. refl }
+above-joins l (Above r q) h k =
+    let j = above-joins l r h k.0 in
+    record {
+      skewed = (j.skewed, k.1, k.2);
+      same_leaves = ap (λ z. z ++ leaves q) j.same_leaves ∙ append_assoc (leaves l) (leaves r) (leaves q);
+      wide = omega (arith, j.wide);
+      high = omega (arith, j.high);
+      same_spots = λ x y.
+          let e : y + height (above l r) ≡ (y + height l) + height r = omega (arith, j.high) in
+          ap (λ z. z ++ spots_at x (y + height (above l r)) q) (j.same_spots x y)
+          ∙ ap (λ n. (spots_at x y l ++ spots_at x (y + height l) r) ++ spots_at x n q) e
+          ∙ append_assoc (spots_at x y l) (spots_at x (y + height l) r) (spots_at x ((y + height l) + height r) q);
+    }
+
+pub skewed-skewed : (t : Tree) → IsSkewed (skewed t)
+skewed-skewed (Leaf b s) = tt
+skewed-skewed (Beside l r) = (beside-joins (skewed l) (skewed r) (skewed-skewed l) (skewed-skewed r)).skewed
+skewed-skewed (Above l r) = (above-joins (skewed l) (skewed r) (skewed-skewed l) (skewed-skewed r)).skewed
+
+pub skewed-same : (t : Tree) → IsSamePlace (skewed t) t
+skewed-same (Leaf b s) = record { order = refl; wide = refl; high = refl; places = λ x y. refl }
+skewed-same (Beside l r) =
+    let j = beside-joins (skewed l) (skewed r) (skewed-skewed l) (skewed-skewed r) in
+    let a = skewed-same l in
+    let b = skewed-same r in
+    record {
+      order = j.same_leaves ∙ cc (a.order, b.order);
+      wide = omega (arith, j.wide, a.wide, b.wide);
+      high = omega (arith, j.high, a.high, b.high);
+      places = λ x y. j.same_spots x y ∙ cc (a.places x y, a.wide, b.places (x + width l) y);
+    }
+skewed-same (Above l r) =
+    let j = above-joins (skewed l) (skewed r) (skewed-skewed l) (skewed-skewed r) in
+    let a = skewed-same l in
+    let b = skewed-same r in
+    record {
+      order = j.same_leaves ∙ cc (a.order, b.order);
+      wide = omega (arith, j.wide, a.wide, b.wide);
+      high = omega (arith, j.high, a.high, b.high);
+      places = λ x y. j.same_spots x y ∙ cc (a.places x y, a.high, b.places x (y + height l));
+    }

@@ -1,0 +1,54 @@
+ghost use Rattle.std.specs.Prelude.{◌≡◌};
+
+use sf_model::lists::Shapes;
+use std::marker::Model;
+
+/// An operand or an operator of a plan in postfix.
+#[derive(Clone, Copy, Debug, PartialEq, Eq)]
+pub enum Token {
+    Beside,
+    Above,
+    Block(u16),
+}
+
+/// A list of tokens.
+#[derive(Debug, Drop)]
+pub struct Tokens {
+    items: Vec<Token>,
+}
+
+impl Model for Tokens {
+    ghost use Rattle.std.specs.Prelude.{List};
+    ghost use Rattle.sf_polish.specs.declared.expr.Token.{Token};
+
+    ghost Value = { List Token };
+
+    ghost view = { λ s. s.items.items };
+}
+
+impl Tokens {
+    pub fn from_vec(items: Vec<Token>) -> Tokens
+        ensures { result ≡ items.items }
+    {
+        Tokens { items }
+    }
+
+    pub fn into_vec(self) -> Vec<Token>
+        ensures { result.items ≡ self }
+    {
+        self.items
+    }
+
+    pub fn as_slice(&self) -> &[Token]
+        ensures { result.now ≡ self.now }
+    {
+        &self.items
+    }
+}
+
+/// A plan in postfix, and the shape of each block by number.
+#[derive(Debug, Drop)]
+pub struct Expr {
+    pub tokens: Tokens,
+    pub shapes: Shapes,
+}

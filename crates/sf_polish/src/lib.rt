@@ -1,0 +1,12 @@
+//! Plans in postfix.
+#![tactic(auto)]
+
+pub mod expr;
+pub mod shape_of_tokens;
+pub mod skew;
+pub mod spell;
+
+pub use expr::{Expr, Token, Tokens};
+pub use shape_of_tokens::is_normal;
+pub use skew::normalise;
+pub use spell::plan_of;
