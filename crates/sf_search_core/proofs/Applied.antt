@@ -1,0 +1,132 @@
+-- Each accepted event keeps a core state.
+use Rattle.std.proofs.Common.{◌≡◌, ℕ, suc, ◌+◌, ◌<◌, ◌≤◌, min, List, [], ◌∷◌, ◌++◌, map, reverse, length, get_or, All, arith, refl, ap, sym, subst, append-nil, ◌∙◌, Option, Some, None, Result, Ok, Err, ◌⊎◌, inl, inr, Bool, true, false, cond, not, ◌==◌, IsPermutation}
+use Prim.Native.Nat.{zero}
+use Rattle.std.specs.Prelude.{IfOk, IsTrue, slice_get, slice_set, remove, nat_lt, ◌&&◌}
+use Rattle.std.specs.List.{AllByRecursion}
+use Rattle.std.proofs.lemmas.Bool.{cases_Bool, cond-true, cond-false, and_parts, eqb-true, ltb-true, true≢false, true_from_ne_false, cases_lt, lt-ltb}
+use Rattle.std.proofs.lemmas.List.Elements.{All-from_recursion, All-nil}
+use Rattle.sf_model.specs.declared.design.Design.{Design}
+use Rattle.sf_node.specs.declared.task.Task.{Task}
+use Rattle.sf_node.specs.Parts.{Parts}
+use Rattle.sf_node.specs.Subproblem.{is_complete, is_solved, is_wide, span_of}
+use Rattle.sf_node.specs.Children.{extended, split, CanSplit, IsSubproblem}
+use Rattle.sf_node.proofs.Reached.{extended-subproblems, split-subproblems}
+use Rattle.sf_search_core.specs.declared.entry.Kind.TheVariants as kind
+use Rattle.sf_search_core.specs.declared.event.How.{How}
+use Rattle.sf_search_core.specs.declared.event.How.TheVariants as how
+use Rattle.sf_search_core.specs.declared.event.Event.{Event}
+use Rattle.sf_search_core.specs.declared.event.Event.TheVariants.{Take, Replace, Close, Offer}
+use Rattle.sf_search_core.specs.declared.refusal.Refusal.{Refusal}
+use Rattle.sf_search_core.specs.State.{State}
+use Rattle.sf_search_core.specs.Conserved.{IsDecided, branched}
+use Rattle.sf_search_core.specs.Core.{IsCoreState}
+use Rattle.sf_search_core.specs.Events.{held_in, held_by, kind_of, may_branch, tasks, take, replace, close, offer, applied, AreBounds, CanCome}
+use Rattle.sf_search_core.proofs.Kept.{take-kept, decide-kept, offer-kept, held-valued}
+
+pick : (b : Bool) (x y : Result State Refusal) (s : State) → cond b x y ≡ Ok s → ((b ≡ true) × (x ≡ Ok s)) ⊎ ((b ≡ false) × (y ≡ Ok s))
+pick true x y s e = inl (refl, e)
+pick false x y s e = inr (refl, e)
+
+ok-same : (s t : State) → ◌≡◌ {A = Result State Refusal} (Ok s) (Ok t) → s ≡ t
+ok-same s t e = cc
+
+not-true : (b : Bool) → not b ≡ false → b ≡ true
+not-true true e = refl
+not-true false e = absurd (true≢false e)
+
+not-false : (b : Bool) → not b ≡ true → b ≡ false
+not-false true e = absurd (true≢false (sym e))
+not-false false e = refl
+
+pub held-some : (o : Option (Option Task)) (t : Task) → held_in o ≡ Some t → o ≡ Some (Some t)
+held-some None t e = absurd (cc)
+held-some (Some h) t e = ap Some e
+
+held-none : (xs : List (Option Task)) (w : ℕ) → w < length xs → held_in (slice_get xs w) ≡ None → slice_get xs w ≡ Some None
+held-none [] w h e = absurd (omega arith)
+held-none (x ∷ xs) zero h e = ap Some e
+held-none (x ∷ xs) (suc w) h e = held-none xs w (omega arith) e
+
+not-below : (a b : ℕ) → nat_lt a b ≡ false → b ≤ a
+not-below a b e = elim (cases_lt a b) [ inl h ↦ absurd (true≢false (sym (lt-ltb a b h) ∙ e)) | inr h ↦ h ]
+
+tasks-nodes : (bound : Parts → ℕ) (ns : List Parts) → map (λ task. task.node) (tasks ns (map bound ns)) ≡ ns
+tasks-nodes bound [] = refl
+tasks-nodes bound (n ∷ ns) = ap (λ z. n ∷ z) (tasks-nodes bound ns)
+
+tasks-valued : (design : Design) (bound : Parts → ℕ) (ns : List Parts) → AllByRecursion (IsSubproblem design) ns → AllByRecursion (λ task. IsSubproblem design task.node × (task.bound ≡ bound task.node)) (tasks ns (map bound ns))
+tasks-valued design bound [] a = tt
+tasks-valued design bound (n ∷ ns) a = ((a.0, refl), tasks-valued design bound ns a.1)
+
+branch-subproblems : (design : Design) (way : How) (node : Parts) → IsSubproblem design node → may_branch way node ≡ true → AllByRecursion (IsSubproblem design) (branched (kind_of way) node)
+branch-subproblems design how.Extend node sub may = extended-subproblems design node sub
+branch-subproblems design (how.Split b) node sub may =
+    let p = and_parts (nat_lt b (length node.spans)) (is_wide (span_of node b)) may in
+    split-subproblems design node b sub (ltb-true b (length node.spans) p.0, p.1)
+
+branch-decided : (way : How) (node : Parts) (bound value : ℕ) → bound < value → may_branch way node ≡ true → IsDecided (kind_of way) node bound value
+branch-decided how.Extend node bound value h may = (h, not-false (is_complete node) may)
+branch-decided (how.Split b) node bound value h may =
+    let p = and_parts (nat_lt b (length node.spans)) (is_wide (span_of node b)) may in
+    (h, (ltb-true b (length node.spans) p.0, p.1))
+
+module _ (design : Design) (bound : Parts → ℕ) (state next : State) (core : IsCoreState design bound state) where
+  take-next : (w i : ℕ) (t held : Option Task) → w < length state.held → slice_get state.waiting i ≡ t → held_by state w ≡ held → take state w i t held ≡ Ok next → IsCoreState design bound next
+  take-next w i None held h a b e = absurd (cc)
+  take-next w i (Some t) (Some u) h a b e = absurd (cc)
+  take-next w i (Some t) None h a b e =
+      subst (IsCoreState design bound) (ok-same _ next e) (take-kept design bound state w i t a (held-none state.held w h b) core)
+
+  replace-next : (w : ℕ) (way : How) (value : ℕ) (costs : List ℕ) (held : Option Task) → held_by state w ≡ held → AreBounds bound way costs held → replace state w way value costs held ≡ Ok next → IsCoreState design bound next
+  replace-next w way value costs None b good e = absurd (cc)
+  replace-next w way value costs (Some t) b good e =
+      let at = held-some (slice_get state.held w) t b in
+      let valued = held-valued design bound state w t at core in
+      elim (pick (nat_lt value state.word) _ _ next e) [
+        | inl p ↦ absurd (cc (p.1))
+        | inr p ↦ elim (pick (not (nat_lt t.bound value)) _ _ next p.1) [
+          | inl q ↦ absurd (cc (q.1))
+          | inr q ↦ elim (pick (not (may_branch way t.node)) _ _ next q.1) [
+            | inl r ↦ absurd (cc (r.1))
+            | inr r ↦
+                (let may = not-true (may_branch way t.node) r.0 in
+                let below : bound t.node < value = omega (arith, valued.1, ltb-true t.bound value (not-true (nat_lt t.bound value) q.0)) in
+                let ks = tasks (branched (kind_of way) t.node) (map bound (branched (kind_of way) t.node)) in
+                subst (IsCoreState design bound) (ok-same _ next (ap (λ cs. Ok (record state { waiting = state.waiting ++ reverse (tasks (branched (kind_of way) t.node) cs); held = slice_set state.held w None; entries = state.entries ++ record { node = t.node; kind = kind_of way; value = value } ∷ [] })) (sym good) ∙ r.1))
+                (decide-kept design bound state w t (kind_of way) value ks at (not-below value state.word p.0) (branch-decided way t.node (bound t.node) value below may)
+                (tasks-nodes bound (branched (kind_of way) t.node))
+                (All-from_recursion (λ task. IsSubproblem design task.node × (task.bound ≡ bound task.node)) ks (tasks-valued design bound (branched (kind_of way) t.node) (branch-subproblems design way t.node valued.0 may))) core))
+          ]
+        ]
+      ]
+
+  close-next : (w value : ℕ) (held : Option Task) → held_by state w ≡ held → close state w value held ≡ Ok next → IsCoreState design bound next
+  close-next w value None b e = absurd (cc)
+  close-next w value (Some t) b e =
+      let at = held-some (slice_get state.held w) t b in
+      let valued = held-valued design bound state w t at core in
+      elim (pick (nat_lt value state.word) _ _ next e) [
+        | inl p ↦ absurd (cc (p.1))
+        | inr p ↦ elim (pick (nat_lt t.bound value) _ _ next p.1) [
+          | inl q ↦ absurd (cc (q.1))
+          | inr q ↦ subst (IsCoreState design bound) (ok-same _ next (ap (λ ws. Ok (record state { waiting = ws; held = slice_set state.held w None; entries = state.entries ++ record { node = t.node; kind = kind.Closed; value = value } ∷ [] })) (append-nil state.waiting) ∙ q.1))
+              (decide-kept design bound state w t kind.Closed value [] at (not-below value state.word p.0) (omega (arith, valued.1, not-below t.bound value q.0)) refl (All-nil (λ task. IsSubproblem design task.node × (task.bound ≡ bound task.node))) core)
+        ]
+      ]
+
+  offer-next : (w cost : ℕ) (held : Option Task) → held_by state w ≡ held → offer design state cost held ≡ Ok next → IsCoreState design bound next
+  offer-next w cost None b e = absurd (cc)
+  offer-next w cost (Some t) b e =
+      let at = held-some (slice_get state.held w) t b in
+      let valued = held-valued design bound state w t at core in
+      elim (pick (is_solved design t.node && cost == t.bound) _ _ next e) [
+        | inl p ↦ (let both = and_parts (is_solved design t.node) (cost == t.bound) p.0 in
+            subst (IsCoreState design bound) (ok-same _ next p.1) (offer-kept design bound state w t cost at both.0 (omega (arith, valued.1, eqb-true cost t.bound both.1)) core))
+        | inr p ↦ absurd (cc (p.1))
+      ]
+
+pub applied-kept : (design : Design) (bound : Parts → ℕ) (state next : State) (event : Event) → IsCoreState design bound state → CanCome bound state event → applied design state event ≡ Ok next → IsCoreState design bound next
+applied-kept design bound state next (Take w i) core can e = take-next design bound state next core w i (slice_get state.waiting i) (held_by state w) can refl refl e
+applied-kept design bound state next (Replace w way value costs) core can e = replace-next design bound state next core w way value costs (held_by state w) refl (subst (λ r. IfOk r (λ (next : State). AreBounds bound way costs (held_by state w))) e can.1) e
+applied-kept design bound state next (Close w value) core can e = close-next design bound state next core w value (held_by state w) refl e
+applied-kept design bound state next (Offer w cost) core can e = offer-next design bound state next core w cost (held_by state w) refl e
