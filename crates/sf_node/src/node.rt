@@ -1,4 +1,4 @@
-ghost use Rattle.std.specs.Prelude.{◌≡◌, ◌<◌, ◌≤◌, not, true, length, MatchOption, slice_index_or, nat_lt, ◌&&◌};
+ghost use Rattle.std.specs.Prelude.{◌≡◌, ◌<◌, ◌≤◌, ℕ, not, true, length, IfOk, MatchOption, slice_index_or};
 ghost use Rattle.sf_node.specs.Full.{first_wide_from};
 ghost use Rattle.std.specs.List.{list_all};
 ghost use Rattle.sf_polish.specs.Normal.{ends_in, is_operand, same_operator};
@@ -64,6 +64,31 @@ pub fn is_unused(block: u16, tokens: &[Token]) -> bool
     count == 0
 }
 
+/// For each block by number, whether it is among the tokens: one pass over them.
+fn used_blocks(alloc: Global, blocks: usize, tokens: &[Token]) -> Result<Vec<bool>, NoMemory>
+    ensures each { IfOk result (λ used. length used.items ≡ blocks) }
+    ensures used { IfOk result (λ used. (b : ℕ) → b < blocks → slice_index_or used.items b true ≡ not (is_unused b tokens.now)) }
+{
+    let mut used = Vec::from_elem(alloc, false, blocks)?;
+    for token in tokens {
+        if let Token::Block(block) = token {
+            if let Some(flag) = used.get_mut(usize::from(*block)) {
+                *flag = true;
+            }
+        }
+    }
+    Ok(used)
+}
+
+/// A copy with room for so many more items, and no more.
+fn copy_with_room<T: Copy>(alloc: Global, items: &[T], more: usize) -> Result<Vec<T>, NoMemory>
+    ensures { IfOk result (λ copy. copy.items ≡ items.now) }
+{
+    let mut copy = Vec::with_capacity(alloc, items.len().saturating_add(more))?;
+    copy.extend_from_slice(items)?;
+    Ok(copy)
+}
+
 fn is_operand(token: Token) -> bool
     ensures { result ≡ is_operand token }
 {
@@ -101,7 +126,7 @@ fn same_operator(first: Token, second: Token) -> bool
 }
 
 impl Node {
-    ghost use Rattle.std.specs.Prelude.{◌+◌, ◌^◌, map, ◌++◌, IfOk, ◌∷◌, []};
+    ghost use Rattle.std.specs.Prelude.{◌+◌, ◌^◌, map, ◌++◌, ◌∷◌, []};
     ghost use Rattle.sf_node.specs.Subproblem.{root, span_of, is_complete, is_solved};
     ghost use Rattle.sf_node.specs.Children.{split, extended, after, step_of, when, may_join, can_split, CanSplit, with_token, with_span, IsSubproblem};
 
@@ -185,7 +210,7 @@ impl Node {
     fn with_token(&self, step: Step, token: Token) -> Result<Node, NoMemory>
         ensures { IfOk result (λ n. n ≡ with_token self.now step token) }
     {
-        let mut child = self.copy()?;
+        let mut child = self.grown(1)?;
         child.steps.push(step)?;
         child.tokens.push(token)?;
         Ok(child)
@@ -196,10 +221,22 @@ impl Node {
         requires { block < length self.now.spans }
         ensures { IfOk result (λ n. n ≡ with_span self.now step block span) }
     {
-        let mut child = self.copy()?;
+        let mut child = self.grown(0)?;
         child.steps.push(step)?;
         child.spans[block as usize] = span;
         Ok(child)
+    }
+
+    /// A copy with room for one more step and for more tokens.
+    fn grown(&self, tokens: usize) -> Result<Node, NoMemory>
+        ensures { IfOk result (λ n. n ≡ self.now) }
+    {
+        let alloc = self.allocator();
+        Ok(Node {
+            steps: copy_with_room(alloc, &self.steps, 1)?,
+            tokens: copy_with_room(alloc, &self.tokens, tokens)?,
+            spans: self.spans.clone()?,
+        })
     }
 
     /// The two halves of a block's span.
@@ -223,8 +260,9 @@ impl Node {
         self.push_join(&mut children, Step::Beside, Token::Beside)?;
         self.push_join(&mut children, Step::Above, Token::Above)?;
         let blocks = design.blocks.as_slice().len();
+        let used = used_blocks(self.allocator(), blocks, &self.tokens)?;
         for block in 0..blocks as u16 {
-            if is_unused(block, &self.tokens) {
+            if !used[block as usize] {
                 children.push(self.with_token(Step::Block(block), Token::Block(block))?)?;
             }
         }

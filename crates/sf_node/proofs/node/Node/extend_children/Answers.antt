@@ -1,22 +1,33 @@
-use Rattle.std.proofs.Common.{◌≡◌, ℕ, length, arith, ap, sym, ◌∙◌}
+use Rattle.std.proofs.Common.{◌≡◌, ℕ, ◌<◌, List, Bool, length, arith, ap, refl, sym, ◌∙◌, true, false}
+use Rattle.std.proofs.lemmas.List.{get_or_default}
+use Rattle.std.specs.Prelude.{not, slice_index_or}
 use Rattle.sf_node.proofs.Grown.{IsGrown, grown-start, grown-yes, grown-no, grown-all}
 use Rattle.sf_node.proofs.Reached.{subproblem-spans}
 use Rattle.sf_node.specs.Children.{is_unused}
 use Rattle.sf_node.proofs.node.Node.extend_children.Goals as goal
-use Rattle.sf_node.proofs.node.Node.extend_children.Goals.{then-is_unused+in_ok-with_token+in_ok-push, else-is_unused}
+use Rattle.sf_node.proofs.node.Node.extend_children.Goals.{then-not-index+in_ok-with_token+in_ok-push, else-not-index}
 
-pub loop-block-init : goal.loop-block-init
-loop-block-init c = grown-start c.args.self.now c.new-children.result.items c.push_join.new.children.items c.push_join-2.new.children.items c.new-children.ensures.items c.in_ok-push_join.ensures c.in_ok-push_join-2.ensures
+not-back : (x r : Bool) → not x ≡ r → x ≡ not r
+not-back true r e = ap not e
+not-back false r e = ap not e
+
+-- the flag at a place within the list does not depend on what stands past it
+flag-of : (flags : List Bool) (b n : ℕ) (r x : Bool) → b < n → length flags ≡ n → r ≡ slice_index_or flags b r → slice_index_or flags b true ≡ not x → x ≡ not r
+flag-of flags b n r x lt len is known =
+    let same : slice_index_or flags b r ≡ slice_index_or flags b true = get_or_default flags b r true (omega (arith, lt, len)) in
+    not-back x r (sym known ∙ sym same ∙ sym is)
 
 pub loop-block-preserved : goal.loop-block-preserved
 loop-block-preserved c =
     let same : c.deref.result.now ≡ c.args.self.now.tokens = c.deref.ensures.value ∙ ap (λ n. n.tokens) c.self.view_is in
-    let unused = c.is_unused.ensures ∙ ap (is_unused c.loop-block.block) same in
-    elim c.if-is_unused.branch [
-      | then-is_unused+in_ok-with_token+in_ok-push w ↦ grown-yes c.args.self.now c.loop-block.children.items c.if-is_unused.children.items w.in_ok-with_token.field-0 c.loop-block.block
-          (sym unused ∙ w.if-is_unused.true) c.loop-block.invariant w.in_ok-with_token.ensures (ap (λ v. v.items) w.children-is ∙ w.in_ok-push.ensures.items)
-      | else-is_unused w ↦ grown-no c.args.self.now c.loop-block.children.items c.if-is_unused.children.items c.loop-block.block
-          (sym unused ∙ w.if-is_unused.false) c.loop-block.invariant (ap (λ v. v.items) w.children-is)
+    let is : c.index.result.now ≡ slice_index_or c.in_ok-used.used.items c.loop-block.block c.index.result.now = c.index.ensures in
+    let flag = flag-of c.in_ok-used.used.items c.loop-block.block (length c.as_slice-blocks.result.now) c.index.result.now (is_unused c.loop-block.block c.deref.result.now) c.loop-block-test.true c.in_ok-used.ensures.each is (c.in_ok-used.ensures.used c.loop-block.block c.loop-block-test.true) in
+    let unused : is_unused c.loop-block.block c.args.self.now.tokens ≡ not c.index.result.now = sym (ap (is_unused c.loop-block.block) same) ∙ flag in
+    elim c.if-not-index.branch [
+      | then-not-index+in_ok-with_token+in_ok-push w ↦ grown-yes c.args.self.now c.loop-block.children.items c.if-not-index.children.items w.in_ok-with_token.field-0 c.loop-block.block
+          (unused ∙ ap not w.if-not-index.true) c.loop-block.invariant w.in_ok-with_token.ensures (ap (λ v. v.items) w.children-is ∙ w.in_ok-push.ensures.items)
+      | else-not-index w ↦ grown-no c.args.self.now c.loop-block.children.items c.if-not-index.children.items c.loop-block.block
+          (unused ∙ ap not w.if-not-index.false) c.loop-block.invariant (ap (λ v. v.items) w.children-is)
     ]
 
 pub returns : goal.returns
