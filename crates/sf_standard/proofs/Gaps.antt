@@ -1,0 +1,150 @@
+-- Numbers that lie in intervals are spread at least as far as the gap between these.
+use Rattle.std.proofs.Common.{ℕ, ◌+◌, ◌≤◌, max, min, List, [], ◌∷◌, arith}
+use Rattle.std.specs.Prelude.{Contains, fold, ℤ, pos, negsuc, ◌+ℤ◌, ◌-ℤ◌, ◌≤ℤ◌, nat_abs}
+use Rattle.std.specs.List.{AllByRecursion}
+use Rattle.std.specs.Int.{int_max, int_min}
+use Rattle.std.proofs.lemmas.Int.{ints, clamps}
+use Rattle.sf_model.specs.declared.parts.Shape.{Shape}
+use Rattle.sf_model.specs.Wire.{spread}
+use Rattle.sf_model.proofs.Each.{EachPair}
+use Rattle.sf_curves.proofs.Members.{not_in_nil}
+use Rattle.sf_standard.specs.declared.hull.Extent.{Extent}
+use Rattle.sf_standard.specs.declared.hull.Interval.{Interval}
+use Rattle.sf_standard.specs.Hull.{extent_of, to_nat, gap, greatest_with, greatest_two}
+use Rattle.sf_standard.proofs.Listed.{each-contains}
+
+-- all lie between two numbers that are the spread apart
+pub record IsSpanned (zs : List ℤ) (low high : ℤ) : Type 0 where
+  pub above : AllByRecursion (λ z. low ≤ℤ z) zs
+  pub below : AllByRecursion (λ z. z ≤ℤ high) zs
+  pub apart : (high -ℤ low) ≤ℤ pos (spread zs)
+
+fold-max-above : (a : ℤ) (zs : List ℤ) → a ≤ℤ fold int_max a zs
+fold-max-above a [] = omega (arith, ints)
+fold-max-above a (z ∷ zs) = omega (arith, ints, clamps, fold-max-above (int_max a z) zs)
+
+fold-min-below : (a : ℤ) (zs : List ℤ) → fold int_min a zs ≤ℤ a
+fold-min-below a [] = omega (arith, ints)
+fold-min-below a (z ∷ zs) = omega (arith, ints, clamps, fold-min-below (int_min a z) zs)
+
+fold-max-each : (a : ℤ) (zs : List ℤ) → AllByRecursion (λ z. z ≤ℤ fold int_max a zs) zs
+fold-max-each a [] = tt
+fold-max-each a (z ∷ zs) = (omega (arith, ints, clamps, fold-max-above (int_max a z) zs), fold-max-each (int_max a z) zs)
+
+fold-min-each : (a : ℤ) (zs : List ℤ) → AllByRecursion (λ z. fold int_min a zs ≤ℤ z) zs
+fold-min-each a [] = tt
+fold-min-each a (z ∷ zs) = (omega (arith, ints, clamps, fold-min-below (int_min a z) zs), fold-min-each (int_min a z) zs)
+
+abs-above : (d : ℤ) → d ≤ℤ pos (nat_abs d)
+abs-above d = omega (arith, ints)
+
+pub spanned : (zs : List ℤ) → (low : ℤ) × (high : ℤ) × IsSpanned zs low high
+spanned [] = (pos 0, pos 0, record { above = tt; below = tt; apart = omega (arith, ints) })
+spanned (z ∷ zs) =
+    let low = fold int_min z zs in
+    let high = fold int_max z zs in (
+      low,
+      high,
+      record {
+        above = (fold-min-below z zs, fold-min-each z zs);
+        below = (fold-max-above z zs, fold-max-each z zs);
+        apart = abs-above (high -ℤ low);
+      },
+    )
+
+low-most : (a b : ℤ) (is : List Interval) → a ≤ℤ b → AllByRecursion (λ i. i.low ≤ℤ b) is → fold (λ z j. int_max z j.low) a is ≤ℤ b
+low-most a b [] h e = h
+low-most a b (i ∷ is) h e = low-most (int_max a i.low) b is (omega (arith, ints, clamps, h, e.0)) e.1
+
+high-least : (a b : ℤ) (is : List Interval) → b ≤ℤ a → AllByRecursion (λ i. b ≤ℤ i.high) is → b ≤ℤ fold (λ z j. int_min z j.high) a is
+high-least a b [] h e = h
+high-least a b (i ∷ is) h e = high-least (int_min a i.high) b is (omega (arith, ints, clamps, h, e.0)) e.1
+
+to_nat-le : (z : ℤ) (n : ℕ) → z ≤ℤ pos n → to_nat z ≤ n
+to_nat-le (pos m) n h = omega (arith, ints, h)
+to_nat-le (negsuc m) n h = omega arith
+
+-- the interval, moved by d, holds one of the numbers
+pub record Holds (d : ℤ) (zs : List ℤ) (i : Interval) : Type 0 where
+  pub at : ℤ
+  pub found : Contains zs at
+  pub low : (i.low +ℤ d) ≤ℤ at
+  pub high : at ≤ℤ (i.high +ℤ d)
+
+pub gap-le-spread : (d : ℤ) (zs : List ℤ) (is : List Interval) → AllByRecursion (Holds d zs) is → gap is ≤ spread zs
+gap-le-spread d zs [] h = omega arith
+gap-le-spread d zs (i ∷ is) h =
+    let s = spanned zs in
+    let low = s.0 in
+    let high = s.1 in
+    let lows = low-most i.low (high -ℤ d) is (lower s.1 s.2 i h.0) (lowers s.1 s.2 is h.1) in
+    let highs = high-least i.high (low -ℤ d) is (upper s.0 s.2 i h.0) (uppers s.0 s.2 is h.1) in
+    to_nat-le (fold (λ z j. int_max z j.low) i.low is -ℤ fold (λ z j. int_min z j.high) i.high is) (spread zs) (omega (arith, ints, lows, highs, s.2.apart))
+  where
+    lower : {low : ℤ} (high : ℤ) → IsSpanned zs low high → (i : Interval) → Holds d zs i → i.low ≤ℤ (high -ℤ d)
+    lower high s i k = omega (arith, ints, k.low, each-contains (λ z. z ≤ℤ high) zs k.at s.below k.found)
+
+    upper : {high : ℤ} (low : ℤ) → IsSpanned zs low high → (i : Interval) → Holds d zs i → (low -ℤ d) ≤ℤ i.high
+    upper low s i k = omega (arith, ints, k.high, each-contains (λ z. low ≤ℤ z) zs k.at s.above k.found)
+
+    lowers : {low : ℤ} (high : ℤ) → IsSpanned zs low high → (is : List Interval) → AllByRecursion (Holds d zs) is → AllByRecursion (λ i. i.low ≤ℤ (high -ℤ d)) is
+    lowers high s [] k = tt
+    lowers high s (j ∷ js) k = (lower high s j k.0, lowers high s js k.1)
+
+    uppers : {high : ℤ} (low : ℤ) → IsSpanned zs low high → (is : List Interval) → AllByRecursion (Holds d zs) is → AllByRecursion (λ i. (low -ℤ d) ≤ℤ i.high) is
+    uppers low s [] k = tt
+    uppers low s (j ∷ js) k = (upper low s j k.0, uppers low s js k.1)
+
+-- two of the numbers are no further apart than the spread
+pub apart-le-spread : (zs : List ℤ) (a b : ℤ) → Contains zs a → Contains zs b → (a -ℤ b) ≤ℤ pos (spread zs)
+apart-le-spread zs a b ca cb =
+    let s = spanned zs in
+    omega (arith, ints, each-contains (λ z. s.0 ≤ℤ z) zs b s.2.above cb, each-contains (λ z. z ≤ℤ s.1) zs a s.2.below ca, s.2.apart)
+
+-- what bounds the sum of each two bounds the greatest of these
+greatest_with-le : (m n : ℕ) (xs : List ℕ) → AllByRecursion (λ x. n + x ≤ m) xs → greatest_with n xs ≤ m
+greatest_with-le m n [] h = omega arith
+greatest_with-le m n (x ∷ xs) h = omega (arith, h.0, greatest_with-le m n xs h.1)
+
+pub greatest_two-le : (m : ℕ) (xs : List ℕ) → EachPair (λ a b. a + b ≤ m) xs → greatest_two xs ≤ m
+greatest_two-le m [] h = omega arith
+greatest_two-le m (x ∷ xs) h = omega (arith, greatest_with-le m x xs h.0, greatest_two-le m xs h.1)
+
+-- a shape of the extent
+pub record IsOfExtent (e : Extent) (w h : ℕ) : Type 0 where
+  pub wide : e.least_w ≤ w
+  pub narrow : w ≤ e.most_w
+  pub high : e.least_h ≤ h
+  pub low : h ≤ e.most_h
+
+module _ (key : Shape → ℕ) where
+  least-start : (a : ℕ) (ss : List Shape) → fold (λ n t. min n (key t)) a ss ≤ a
+  least-start a [] = omega arith
+  least-start a (s ∷ ss) = omega (arith, least-start (min a (key s)) ss)
+
+  least-each : (a : ℕ) (ss : List Shape) → AllByRecursion (λ s. fold (λ n t. min n (key t)) a ss ≤ key s) ss
+  least-each a [] = tt
+  least-each a (s ∷ ss) = (omega (arith, least-start (min a (key s)) ss), least-each (min a (key s)) ss)
+
+  most-start : (a : ℕ) (ss : List Shape) → a ≤ fold (λ n t. max n (key t)) a ss
+  most-start a [] = omega arith
+  most-start a (s ∷ ss) = omega (arith, most-start (max a (key s)) ss)
+
+  most-each : (a : ℕ) (ss : List Shape) → AllByRecursion (λ s. key s ≤ fold (λ n t. max n (key t)) a ss) ss
+  most-each a [] = tt
+  most-each a (s ∷ ss) = (omega (arith, most-start (max a (key s)) ss), most-each (max a (key s)) ss)
+
+  pub least-member : (s : Shape) (ss : List Shape) (x : Shape) → Contains (s ∷ ss) x → fold (λ n t. min n (key t)) (key s) ss ≤ key x
+  least-member s ss x c = each-contains (λ v. fold (λ n t. min n (key t)) (key s) ss ≤ key v) (s ∷ ss) x (least-start (key s) ss, least-each (key s) ss) c
+
+  pub most-member : (s : Shape) (ss : List Shape) (x : Shape) → Contains (s ∷ ss) x → key x ≤ fold (λ n t. max n (key t)) (key s) ss
+  most-member s ss x c = each-contains (λ v. key v ≤ fold (λ n t. max n (key t)) (key s) ss) (s ∷ ss) x (most-start (key s) ss, most-each (key s) ss) c
+
+pub of-extent : (ss : List Shape) (x : Shape) → Contains ss x → IsOfExtent (extent_of ss) x.w x.h
+of-extent [] x c = absurd (not_in_nil x c)
+of-extent (s ∷ ss) x c = record {
+  wide = least-member (λ t. t.w) s ss x c;
+  narrow = most-member (λ t. t.w) s ss x c;
+  high = least-member (λ t. t.h) s ss x c;
+  low = most-member (λ t. t.h) s ss x c;
+}

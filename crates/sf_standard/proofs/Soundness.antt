@@ -1,0 +1,53 @@
+-- The standard bound is sound, and exact at the end.
+use Rattle.std.proofs.Common.{◌≡◌, ◌+◌, ◌*◌, ◌≤◌, [], ◌∷◌, ◌++◌, map, length, arith, ap, sym, subst, ◌∙◌, true}
+use Rattle.std.specs.Prelude.{sum_by, nat_lt, if◌then◌else◌}
+use Rattle.std.specs.List.{list_any}
+use Rattle.std.proofs.Math.Nat.{mul-le-mul, mul-le-mul_left}
+use Rattle.std.proofs.lemmas.Bool.{cond_both, and_parts, ltb-true, true≢false}
+use Rattle.sf_model.specs.declared.design.Design.{Design}
+use Rattle.sf_model.specs.declared.TheConstants.{MAX}
+use Rattle.sf_model.specs.Cost.{cost}
+use Rattle.sf_model.specs.Legal.{Fits, block_count}
+use Rattle.sf_model.specs.Tree.{Tree}
+use Rattle.sf_node.specs.Parts.{Parts}
+use Rattle.sf_node.specs.Subproblem.{Belongs, is_complete, is_solved}
+use Rattle.sf_node.specs.Bounds.{IsSound}
+use Rattle.sf_node.proofs.Reached.{subproblem-spans}
+use Rattle.sf_standard.specs.Items.{items_of, unused, fitting}
+use Rattle.sf_standard.specs.Standard.{least_cost, has_none, needed_area, net_part, bounded, standard}
+use Rattle.sf_standard.proofs.Grown.{item_of, part-self}
+use Rattle.sf_standard.proofs.Cutting.{cut, part-fitting, least_of-le, needed-area, none-empty}
+use Rattle.sf_standard.proofs.NetWires.{nets-le}
+
+pub solved-complete : (design : Design) (node : Parts) → is_solved design node ≡ true → is_complete node ≡ true
+solved-complete design node h = (and_parts _ _ h).0
+
+bounded-le : (design : Design) (node : Parts) (tree : Tree) → length node.spans ≡ block_count design → Belongs design node tree → Fits design.outline tree → bounded design node (map (fitting design node) (items_of node ++ unused node)) ≤ cost design tree
+bounded-le design node tree spans belongs fit =
+    let plans = map (fitting design node) (items_of node ++ unused node) in
+    let part = needed-area design node tree spans belongs fit in
+    let total : design.weights.area * needed_area plans + design.weights.wire * sum_by (net_part design node) design.nets ≤ cost design tree =
+    omega (arith, mul-le-mul_left design.weights.area part, mul-le-mul_left design.weights.wire (nets-le design node tree spans belongs fit)) in
+    cond_both (list_any has_none plans) MAX (if nat_lt (design.outline.w * design.outline.h) (needed_area plans) then MAX else (design.weights.area * needed_area plans + design.weights.wire * sum_by (net_part design node) design.nets)) (λ v. v ≤ cost design tree)
+    (λ e. absurd (true≢false (sym e ∙ none-empty design node tree spans belongs fit)))
+    (λ _. cond_both (nat_lt (design.outline.w * design.outline.h) (needed_area plans)) MAX (design.weights.area * needed_area plans + design.weights.wire * sum_by (net_part design node) design.nets) (λ v. v ≤ cost design tree)
+    (λ e. absurd (omega (arith, ltb-true (design.outline.w * design.outline.h) (needed_area plans) e, part, mul-le-mul fit.0 fit.1)))
+    (λ _. total))
+
+pub solved-items : (design : Design) (node : Parts) (tree : Tree) → length node.spans ≡ block_count design → Belongs design node tree → is_solved design node ≡ true → items_of node ≡ item_of tree ∷ []
+solved-items design node tree spans belongs solved =
+    let k = cut design node tree spans belongs in
+    k.items ∙ ap (map item_of) (k.whole (solved-complete design node solved))
+
+least_cost-le : (design : Design) (node : Parts) (tree : Tree) → length node.spans ≡ block_count design → Belongs design node tree → Fits design.outline tree → is_solved design node ≡ true → least_cost design node (items_of node) ≤ cost design tree
+least_cost-le design node tree spans belongs fit solved =
+    subst (λ v. least_cost design node v ≤ cost design tree) (sym (solved-items design node tree spans belongs solved))
+    (least_of-le (cost design) (fitting design node (item_of tree)) tree (part-fitting design node tree belongs fit tree (part-self tree)))
+
+-- no plan that belongs to a subproblem and fits costs less than its bound
+pub standard_is_sound : (design : Design) → IsSound design (standard design)
+standard_is_sound design node sub tree belongs fit =
+    let spans = subproblem-spans design node sub in
+    cond_both (is_solved design node) (least_cost design node (items_of node)) (bounded design node (map (fitting design node) (items_of node ++ unused node))) (λ v. v ≤ cost design tree)
+    (λ solved. least_cost-le design node tree spans belongs fit solved)
+    (λ _. bounded-le design node tree spans belongs fit)

@@ -1,0 +1,138 @@
+-- What the wires of a net cost at least.
+use Rattle.std.specs.Prelude.{ℕ, ◌+◌, ◌*◌, max, min, List, [], ◌∷◌, ◌++◌, map, fold, Bool, true, false, cond, ◌==◌, if◌then◌else◌, ℤ, pos, negsuc, ◌-ℤ◌, ◌*ℤ◌}
+use Rattle.std.specs.Int.{int_max, int_min}
+use Rattle.sf_model.specs.declared.design.Design.{Design}
+use Rattle.sf_model.specs.declared.parts.Net.{Net}
+use Rattle.sf_model.specs.declared.parts.Pin.{Pin}
+use Rattle.sf_model.specs.declared.parts.Pin.TheVariants as pin
+use Rattle.sf_model.specs.declared.parts.Shape.{Shape}
+use Rattle.sf_model.specs.Wire.{pad_at}
+use Rattle.sf_standard.specs.declared.hull.Extent.{Extent}
+use Rattle.sf_standard.specs.declared.hull.Interval.{Interval}
+use Rattle.sf_standard.specs.Items.{Item, Block, Beside, Above}
+
+-- of one of these shapes
+abbrev pub extent_of : List Shape → Extent
+extent_of [] = record { least_w = 0; most_w = 0; least_h = 0; most_h = 0 }
+extent_of (s ∷ ss) = record {
+  least_w = fold (λ n t. min n t.w) s.w ss;
+  most_w = fold (λ n t. max n t.w) s.w ss;
+  least_h = fold (λ n t. min n t.h) s.h ss;
+  most_h = fold (λ n t. max n t.h) s.h ss;
+}
+
+abbrev pub to_nat : ℤ → ℕ
+to_nat (pos n) = n
+to_nat (negsuc n) = 0
+
+-- the greatest lower end less the least upper end, or 0
+abbrev pub gap : List Interval → ℕ
+gap [] = 0
+gap (i ∷ is) = to_nat (fold (λ z j. int_max z j.low) i.low is -ℤ fold (λ z j. int_min z j.high) i.high is)
+
+abbrev pub point : ℤ → Interval
+point z = record { low = pos 2 *ℤ z; high = pos 2 *ℤ z }
+
+-- where a pin lies across and upward, in doubled units, anywhere in the outline
+abbrev pub range_x : Design → (ℕ → Extent) → Pin → Interval
+range_x design extent (pin.Block b) = record { low = pos (extent b).least_w; high = pos (2 * design.outline.w) -ℤ pos (extent b).least_w }
+range_x design extent (pin.Pad p) = point (pad_at design p).x
+
+abbrev pub range_y : Design → (ℕ → Extent) → Pin → Interval
+range_y design extent (pin.Block b) = record { low = pos (extent b).least_h; high = pos (2 * design.outline.h) -ℤ pos (extent b).least_h }
+range_y design extent (pin.Pad p) = point (pad_at design p).y
+
+abbrev pub range_part : Design → (ℕ → Extent) → Net → ℕ
+range_part design extent net = gap (map (range_x design extent) net.pins) + gap (map (range_y design extent) net.pins)
+
+-- the greatest sum of two of the numbers, or 0 with fewer
+abbrev pub greatest_with : ℕ → List ℕ → ℕ
+greatest_with n [] = 0
+greatest_with n (m ∷ ms) = max (n + m) (greatest_with n ms)
+
+abbrev pub greatest_two : List ℕ → ℕ
+greatest_two [] = 0
+greatest_two (n ∷ ns) = max (greatest_with n ns) (greatest_two ns)
+
+-- the blocks among the pins
+abbrev pub block_pins : List Pin → List ℕ
+block_pins [] = []
+block_pins (pin.Block b ∷ pins) = b ∷ block_pins pins
+block_pins (pin.Pad p ∷ pins) = block_pins pins
+
+abbrev pub small_side : Extent → ℕ
+small_side e = min e.least_w e.least_h
+
+abbrev pub pair_part : (ℕ → Extent) → Net → ℕ
+pair_part extent net = greatest_two (map (λ b. small_side (extent b)) (block_pins net.pins))
+
+abbrev pub item_extent : (ℕ → Extent) → Item → Extent
+item_extent extent (Block b) = extent b
+item_extent extent (Beside l r) =
+    let p = item_extent extent l in
+    let q = item_extent extent r in
+    record { least_w = p.least_w + q.least_w; most_w = p.most_w + q.most_w; least_h = max p.least_h q.least_h; most_h = max p.most_h q.most_h }
+item_extent extent (Above l r) =
+    let p = item_extent extent l in
+    let q = item_extent extent r in
+    record { least_w = max p.least_w q.least_w; most_w = max p.most_w q.most_w; least_h = p.least_h + q.least_h; most_h = p.most_h + q.most_h }
+
+-- how far a block stands from the corner of its item, at least and at most
+pub record Offset : Type 0 where
+  pub block : ℕ
+  pub least_x : ℕ
+  pub most_x : ℕ
+  pub least_y : ℕ
+  pub most_y : ℕ
+
+-- the offset of a block that stands to the right of an item, or above it
+abbrev pub moved_right : Extent → Offset → Offset
+moved_right e o = record o { least_x = e.least_w + o.least_x; most_x = e.most_w + o.most_x }
+
+abbrev pub moved_up : Extent → Offset → Offset
+moved_up e o = record o { least_y = e.least_h + o.least_y; most_y = e.most_h + o.most_y }
+
+abbrev pub offsets : (ℕ → Extent) → Item → List Offset
+offsets extent (Block b) = record { block = b; least_x = 0; most_x = 0; least_y = 0; most_y = 0 } ∷ []
+offsets extent (Beside l r) =
+    offsets extent l ++ map (moved_right (item_extent extent l)) (offsets extent r)
+offsets extent (Above l r) =
+    offsets extent l ++ map (moved_up (item_extent extent l)) (offsets extent r)
+
+abbrev pub offset_x : (ℕ → Extent) → Offset → Interval
+offset_x extent o = record { low = pos (2 * o.least_x + (extent o.block).least_w); high = pos (2 * o.most_x + (extent o.block).most_w) }
+
+abbrev pub offset_y : (ℕ → Extent) → Offset → Interval
+offset_y extent o = record { low = pos (2 * o.least_y + (extent o.block).least_h); high = pos (2 * o.most_y + (extent o.block).most_h) }
+
+abbrev pub contains_pin : ℕ → List Pin → Bool
+contains_pin b [] = false
+contains_pin b (pin.Block c ∷ pins) = if c == b then true else contains_pin b pins
+contains_pin b (pin.Pad p ∷ pins) = contains_pin b pins
+
+-- the offsets of the net's blocks
+abbrev pub of_net : Net → List Offset → List Offset
+of_net net [] = []
+of_net net (o ∷ os) = if contains_pin o.block net.pins then (o ∷ of_net net os) else of_net net os
+
+-- the points of the net's pads
+abbrev pub pads_x : Design → List Pin → List Interval
+pads_x design [] = []
+pads_x design (pin.Block b ∷ pins) = pads_x design pins
+pads_x design (pin.Pad p ∷ pins) = point (pad_at design p).x ∷ pads_x design pins
+
+abbrev pub pads_y : Design → List Pin → List Interval
+pads_y design [] = []
+pads_y design (pin.Block b ∷ pins) = pads_y design pins
+pads_y design (pin.Pad p ∷ pins) = point (pad_at design p).y ∷ pads_y design pins
+
+-- one item: its blocks, and where the subproblem is complete the pads
+abbrev pub hull_of : Design → (ℕ → Extent) → Bool → Net → Item → ℕ
+hull_of design extent complete net item =
+    let os = of_net net (offsets extent item) in
+    gap (map (offset_x extent) os ++ cond complete (pads_x design net.pins) [])
+    + gap (map (offset_y extent) os ++ cond complete (pads_y design net.pins) [])
+
+abbrev pub hull_part : Design → (ℕ → Extent) → Bool → List Item → Net → ℕ
+hull_part design extent complete [] net = 0
+hull_part design extent complete (item ∷ items) net = max (hull_of design extent complete net item) (hull_part design extent complete items net)

@@ -1,0 +1,56 @@
+-- The standard bound of a subproblem.
+use Rattle.std.specs.Prelude.{ℕ, ◌+◌, ◌*◌, max, min, List, [], ◌∷◌, ◌++◌, length, map, sum, sum_by, Bool, nat_lt, ◌==◌, if◌then◌else◌}
+use Rattle.std.specs.List.{list_any}
+use Rattle.sf_model.specs.declared.design.Design.{Design}
+use Rattle.sf_model.specs.declared.parts.Net.{Net}
+use Rattle.sf_model.specs.declared.TheConstants.{MAX}
+use Rattle.sf_model.specs.Cost.{cost}
+use Rattle.sf_model.specs.Tree.{Tree, width, height}
+use Rattle.sf_node.specs.Parts.{Parts}
+use Rattle.sf_node.specs.Subproblem.{is_complete, is_solved}
+use Rattle.sf_standard.specs.Items.{Item, items_of, unused, span_shapes, fitting}
+use Rattle.sf_standard.specs.Hull.{extent_of, range_part, pair_part, hull_part}
+
+-- the least of f over the plans, or MAX where there is none
+abbrev pub least_of : (Tree → ℕ) → List Tree → ℕ
+least_of f [] = MAX
+least_of f (t ∷ ts) = min (f t) (least_of f ts)
+
+abbrev pub area : Tree → ℕ
+area t = width t * height t
+
+-- the least cost of the plans of these items that fit
+abbrev pub least_cost : Design → Parts → List Item → ℕ
+least_cost design node [] = MAX
+least_cost design node (item ∷ items) = least_of (cost design) (fitting design node item)
+
+abbrev pub has_none : List Tree → Bool
+has_none ts = length ts == 0
+
+abbrev pub greatest : List ℕ → ℕ
+greatest [] = 0
+greatest (n ∷ ns) = max n (greatest ns)
+
+-- the area that is needed: by the sum of the parts, and by the widest and the highest part. A size that another is no larger than changes none of these least values
+abbrev pub needed_area : List (List Tree) → ℕ
+needed_area plans =
+    max (sum (map (least_of area) plans))
+    (greatest (map (least_of width) plans) * greatest (map (least_of height) plans))
+
+abbrev pub net_part : Design → Parts → Net → ℕ
+net_part design node net =
+    let extent = λ (b : ℕ). extent_of (span_shapes design node b) in
+    if nat_lt (length net.pins) 2 then 0
+    else max (range_part design extent net) (max (pair_part extent net) (hull_part design extent (is_complete node) (items_of node) net))
+
+abbrev pub bounded : Design → Parts → List (List Tree) → ℕ
+bounded design node plans =
+    if list_any has_none plans then MAX
+    else (if nat_lt (design.outline.w * design.outline.h) (needed_area plans) then MAX
+    else (design.weights.area * needed_area plans + design.weights.wire * sum_by (net_part design node) design.nets))
+
+-- the value that the standard bound gives a subproblem
+abbrev pub standard : Design → Parts → ℕ
+standard design node =
+    if is_solved design node then least_cost design node (items_of node)
+    else bounded design node (map (fitting design node) (items_of node ++ unused node))
