@@ -1,0 +1,145 @@
+ghost use Rattle.std.specs.Prelude.{◌≡◌, ◌<◌, ◌≤◌, ◌++◌, ◌∷◌, [], length, map, min, All, IfOk, MatchOption, IsPermutation, IsSortedBy};
+ghost use Rattle.std.specs.Ordering.{is_lt};
+ghost use Rattle.sf_model.specs.Legal.{block_count};
+ghost use Rattle.sf_model.specs.declared.TheConstants.{MAX};
+ghost use Rattle.sf_node.specs.Subproblem.{root};
+ghost use Rattle.sf_search_core.specs.Conserved.{IsConserved};
+ghost use Rattle.sf_certificate.specs.Form.{IsPlanFor};
+ghost use Rattle.sf_node.specs.Order.{rank, step_cmp, steps_cmp};
+ghost use Rattle.sf_certificate.specs.Marks.{tag_of, given_marks};
+ghost use Rattle.sf_certificate.specs.Valid.{HasCost, IsValid, least};
+
+use crate::cert::Cert;
+use crate::mark::Mark;
+use crate::tag::{Tag, TagList};
+use sf_model::Design;
+use sf_node::{Step, Task, Values};
+use sf_polish::expr::Expr;
+use sf_search_core::{Entry, Kind};
+use std::alloc::{AllocError as NoMemory, Global};
+use std::cmp::Ordering;
+
+/// A number for each step, no two alike.
+fn rank(step: Step) -> u32
+    ensures { result ≡ rank step }
+{
+    match step {
+        Step::Beside => 0,
+        Step::Above => 1,
+        Step::Block(block) => 3 * u32::from(block) + 2,
+        Step::Left(block) => 3 * u32::from(block) + 3,
+        Step::Right(block) => 3 * u32::from(block) + 4,
+    }
+}
+
+/// The order of two lists of steps: by the first step in which they differ, and a list right before those that go on from it.
+fn compare_steps(first: &[Step], second: &[Step]) -> Ordering
+    ensures { result ≡ steps_cmp first.now second.now }
+{
+    let mut left = first;
+    let mut right = second;
+    while let Some((x, more)) = left.split_first() {
+        let Some((y, rest)) = right.split_first() else {
+            return Ordering::Greater;
+        };
+        let order = rank(*x).cmp(&rank(*y));
+        if order != Ordering::Equal {
+            return order;
+        }
+        left = more;
+        right = rest;
+    }
+    if right.is_empty() { Ordering::Equal } else { Ordering::Less }
+}
+
+fn tag_of(kind: Kind) -> Tag
+    ensures { result ≡ tag_of kind }
+{
+    match kind {
+        Kind::Extended => Tag::Extend,
+        Kind::Split(block) => Tag::Split(block),
+        Kind::Closed => Tag::Closed,
+    }
+}
+
+/// The entries and the open tasks with their tags.
+fn given_marks(alloc: Global, entries: Vec<Entry>, left: Vec<Task>) -> Result<Vec<Mark>, NoMemory>
+    ensures { IfOk result (λ marks. marks.items ≡ given_marks entries.items left.items) }
+{
+    let mut marks = Vec::new(alloc);
+    for entry in entries {
+        marks.push(Mark {
+            node: entry.node,
+            tag: tag_of(entry.kind),
+        })?;
+    }
+    for task in left {
+        marks.push(Mark {
+            node: task.node,
+            tag: Tag::Open,
+        })?;
+    }
+    Ok(marks)
+}
+
+/// Puts the marks into preorder.
+fn sort_marks(marks: &mut Vec<Mark>)
+    ensures moved { IsPermutation marks.old.items marks.new.items }
+    ensures sorted { IsSortedBy (λ a b. is_lt (steps_cmp a.node.steps b.node.steps)) marks.new.items }
+{
+    marks.sort_unstable_by(|a, b| compare_steps(a.node.steps(), b.node.steps()));
+}
+
+fn tags_of(alloc: Global, marks: &[Mark]) -> Result<Vec<Tag>, NoMemory>
+    ensures { IfOk result (λ tags. tags.items ≡ map (λ m. m.tag) marks.now) }
+{
+    let mut tags = Vec::new(alloc);
+    for mark in marks {
+        tags.push(mark.tag)?;
+    }
+    Ok(tags)
+}
+
+/// The least of the cost and the bounds of the tasks.
+fn least_bound(cost: u64, left: &[Task]) -> u64
+    ensures { result ≡ least cost (map (λ t. t.bound) left.now) }
+{
+    let mut bound = cost;
+    for task in left {
+        bound = bound.min(task.bound);
+    }
+    bound
+}
+
+/// The tree of the entries and the open tasks. Its bound is the least of the cost and the open bounds.
+pub fn merge<V: Values>(
+    alloc: Global,
+    design: &Design,
+    entries: Vec<Entry>,
+    left: Vec<Task>,
+    plan: Option<Expr>,
+    cost: u64,
+    values: &V,
+) -> Result<Cert, NoMemory>
+    requires conserved { IsConserved (V.value values.now design.now) (root design.now ∷ []) entries.items (map (λ t. t.node) left.items) }
+    requires fresh { All (λ e. cost ≤ e.value) entries.items }
+    requires valued { All (λ t. t.bound ≡ V.value values.now design.now t.node) left.items }
+    requires planned { MatchOption plan (cost ≡ MAX) (λ expr. HasCost design.now expr cost × IsPlanFor (block_count design.now) expr) }
+    ensures valid { IfOk result (λ c. IsValid design.now (V.value values.now design.now) c) }
+    ensures blocks { IfOk result (λ c. c.blocks ≡ block_count design.now) }
+    ensures plan { IfOk result (λ c. c.plan ≡ plan) }
+    ensures cost { IfOk result (λ c. c.cost ≡ cost) }
+{
+    let bound = least_bound(cost, &left);
+    let mut marks = given_marks(alloc, entries, left)?;
+    sort_marks(&mut marks);
+    let tags = TagList::from_vec(tags_of(alloc, &marks)?);
+    let blocks = design.blocks.as_slice().len() as u16;
+    Ok(Cert {
+        blocks,
+        plan,
+        cost,
+        bound,
+        tags,
+    })
+}

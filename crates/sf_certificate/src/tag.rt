@@ -1,0 +1,41 @@
+use std::marker::Model;
+
+/// What a certificate says of one subproblem.
+#[derive(Clone, Copy, Debug, PartialEq, Eq)]
+pub enum Tag {
+    Extend,
+    Split(u16),
+    Closed,
+    Open,
+}
+
+/// A list of tags.
+#[derive(Drop)]
+pub struct TagList {
+    items: Vec<Tag>,
+}
+
+impl Model for TagList {
+    ghost use Rattle.std.specs.Prelude.{List};
+    ghost use Rattle.sf_certificate.specs.declared.tag.Tag.{Tag};
+
+    ghost Value = { List Tag };
+
+    ghost view = { λ s. s.items.items };
+}
+
+impl TagList {
+    ghost use Rattle.std.specs.Prelude.{◌≡◌};
+
+    pub fn from_vec(items: Vec<Tag>) -> TagList
+        ensures { result ≡ items.items }
+    {
+        TagList { items }
+    }
+
+    pub fn as_slice(&self) -> &[Tag]
+        ensures { result.now ≡ self.now }
+    {
+        &self.items
+    }
+}
