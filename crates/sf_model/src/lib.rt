@@ -2,6 +2,7 @@
 #![tactic(auto)]
 
 pub mod design;
+pub mod fault;
 pub mod laws;
 pub mod lists;
 pub mod name;
@@ -11,6 +12,7 @@ pub mod raw;
 pub mod raw_lists;
 
 pub use design::Design;
+pub use fault::{BuildFault, Limit};
 pub use lists::{BlockList, NetList, PadList, Pins, Shapes};
 pub use name::Name;
 pub use parts::{Block, Net, Outline, Pad, Pin, Shape, Weights};

@@ -1,0 +1,89 @@
+-- The design that parts become with a list of shapes for each block.
+use Rattle.std.specs.Prelude.{◌≡◌, ℕ, ◌+◌, ◌<◌, ◌≤◌, ◌↔◌, List, [], ◌∷◌, length, take, zip, filter_map, count_by, All, AllPairs, Contains, Option, Some, None, is_some, if◌then◌else◌, ℤ}
+use Rattle.std.specs.Option.{option_map}
+use Rattle.std.specs.List.{position_from}
+use Rattle.std.specs.Str.{bytes_eq}
+use Rattle.sf_model.specs.Admitted.{block_names, pad_names}
+use Rattle.sf_model.specs.Limits.{IsSide, IsBefore, pin_order}
+use Rattle.sf_model.specs.declared.design.Design.{Design}
+use Rattle.sf_model.specs.declared.parts.Block.{Block}
+use Rattle.sf_model.specs.declared.parts.Net.{Net}
+use Rattle.sf_model.specs.declared.parts.Outline.{Outline}
+use Rattle.sf_model.specs.declared.parts.Pad.{Pad}
+use Rattle.sf_model.specs.declared.parts.Pin.{Pin}
+use Rattle.sf_model.specs.declared.parts.Pin.TheVariants as pin
+use Rattle.sf_model.specs.declared.parts.Shape.{Shape}
+use Rattle.sf_model.specs.declared.parts.Weights.{Weights}
+use Rattle.sf_model.specs.declared.raw.Parts.{Parts}
+use Rattle.sf_model.specs.declared.raw.RawBlock.{RawBlock}
+use Rattle.sf_model.specs.declared.raw.RawNet.{RawNet}
+use Rattle.sf_model.specs.declared.raw.RawPad.{RawPad}
+use Rattle.sf_model.specs.declared.raw.RawPin.{RawPin}
+use Rattle.sf_model.specs.declared.raw.RawPin.TheVariants as raw
+
+-- a list of shapes for a block, which may be empty
+pub record IsShapeChoice (shapes : List Shape) : Type 0 where
+  pub few : length shapes ≤ 256
+  pub sides : All (λ s. IsSide s.w × IsSide s.h) shapes
+  pub ordered : AllPairs IsBefore shapes
+
+-- one list for each block
+pub record HasShapeChoices (blocks : List RawBlock) (lists : List (List Shape)) : Type 0 where
+  pub one_each : length lists ≡ length blocks
+  pub fine : All IsShapeChoice lists
+
+-- the name of the first block that has no shape
+abbrev pub shapeless : List RawBlock → List (List Shape) → Option (List ℕ)
+shapeless [] lists = None
+shapeless (b ∷ bs) [] = None
+shapeless (b ∷ bs) ([] ∷ ls) = Some b.name
+shapeless (b ∷ bs) ((s ∷ ss) ∷ ls) = shapeless bs ls
+
+abbrev pub IsOutline : Outline → Type 0
+IsOutline outline = IsSide outline.w × IsSide outline.h
+
+abbrev pub IsWeighted : Weights → Type 0
+IsWeighted weights = 1 ≤ weights.area + weights.wire
+
+-- each block with its list
+abbrev pub design_blocks : List RawBlock → List (List Shape) → List Block
+design_blocks [] lists = []
+design_blocks (b ∷ bs) [] = []
+design_blocks (b ∷ bs) (l ∷ ls) = record { name = b.name; shapes = l } ∷ design_blocks bs ls
+
+-- a pad at its place
+abbrev pub placed_pad : RawPad → Option Pad
+placed_pad p = option_map (λ at. record { name = p.name; x = at.0; y = at.1 }) p.place
+
+-- the pads that have a place, or none
+abbrev pub design_pads : Parts → List Pad
+design_pads parts = if parts.pads_in then filter_map placed_pad parts.pads else []
+
+-- the pin of the pad at index i, by its number among the pads that have a place
+abbrev pub pad_pin : Parts → ℕ → Option Pin
+pad_pin parts i = if parts.pads_in then Some (pin.Pad (count_by (λ p. is_some p.place) (take i parts.pads))) else None
+
+-- the pin of the block at this index, or else of the pad at that one
+abbrev pub pin_at : Parts → Option ℕ → Option ℕ → Option Pin
+pin_at parts (Some b) pad = Some (pin.Block b)
+pin_at parts None (Some p) = pad_pin parts p
+pin_at parts None None = None
+
+-- what a pin as read stands for, and nothing where it is left out
+abbrev pub pin_of : Parts → RawPin → Option Pin
+pin_of parts (raw.Named n) = pin_at parts (position_from (bytes_eq n) 0 (block_names parts.blocks)) (position_from (bytes_eq n) 0 (pad_names parts.pads))
+pin_of parts (raw.Block b) = Some (pin.Block b)
+pin_of parts (raw.Pad p) = pad_pin parts p
+
+-- the set of the pins of a net as read
+pub record IsNetOf (parts : Parts) (read : RawNet) (net : Net) : Type 0 where
+  pub ascending : AllPairs (λ p q. pin_order p < pin_order q) net.pins
+  pub same : (p : Pin) → Contains net.pins p ↔ Contains (filter_map (pin_of parts) read.pins) p
+
+pub record IsDesignOf (parts : Parts) (lists : List (List Shape)) (outline : Outline) (weights : Weights) (design : Design) : Type 0 where
+  pub blocks : design.blocks ≡ design_blocks parts.blocks lists
+  pub pads : design.pads ≡ design_pads parts
+  pub net_count : length design.nets ≡ length parts.nets
+  pub nets : All (λ n. IsNetOf parts n.0 n.1) (zip parts.nets design.nets)
+  pub outline_is : design.outline ≡ outline
+  pub weights_are : design.weights ≡ weights
