@@ -5,8 +5,10 @@ pub mod expr;
 pub mod shape_of_tokens;
 pub mod skew;
 pub mod spell;
+pub mod write;
 
 pub use expr::{Expr, Token, Tokens};
 pub use shape_of_tokens::is_normal;
 pub use skew::normalise;
 pub use spell::plan_of;
+pub use write::{push_expr, write_expr};
