@@ -1,0 +1,9 @@
+-- What stands behind two hyphens.
+use Rattle.std.proofs.Common.{◌≡◌, ◌≢◌, ℕ, List, [], ◌∷◌, Option, Some, None, MatchOption, Bor, refl, sym, ap, ◌∙◌}
+use Rattle.sf_words.specs.Table.{Text}
+
+pub behind_two : (bs tail : Text) (r : Option (Bor (List ℕ))) → bs ≡ 45 ∷ tail
+    → MatchOption r ((rest : Text) → tail ≢ 45 ∷ rest) (λ x. tail ≡ 45 ∷ x.now)
+    → MatchOption r ((rest : Text) → bs ≢ 45 ∷ 45 ∷ rest) (λ x. bs ≡ 45 ∷ 45 ∷ x.now)
+behind_two bs tail None e h = λ rest two. h rest (let both : 45 ∷ tail ≡ 45 ∷ 45 ∷ rest = sym e ∙ two in cc)
+behind_two bs tail (Some x) e h = e ∙ ap (λ t. 45 ∷ t) h

@@ -1,0 +1,99 @@
+-- What a walk makes of the words of one option.
+use Rattle.std.proofs.Common.{◌≡◌, ℕ, true, false, ◌==◌, List, [], ◌∷◌, ◌++◌, Some, None, Contains, map, refl, ap, ◌∙◌, codes}
+use Rattle.clap.specs.Words.{Rule, Shape, Row, Text}
+use Rattle.clap.specs.Simple.{filled}
+use Rattle.clap.specs.Walk.{Walk, Held, idle, option, walked, reacted, settled, used, with_values, without, arg_by_id, arg_by_long, has_row}
+use Rattle.clap.specs.Takes.{settle_passes, turn_passes}
+use Rattle.sf_words.proofs.Lookup.{same_text}
+use Rattle.clap.specs.declared.parser.matches.ValueSource.TheVariants.{CommandLine}
+use Rattle.clap.specs.declared.builder.value_parser.Reading.TheVariants.{AsWritten}
+use Rattle.sf_words.specs.declared.options.Key.{Key}
+use Rattle.sf_words.specs.Table.{key_text, is_flag}
+use Rattle.sf_words.specs.App.{value_rule, flag_rule}
+use Rattle.sf_words.proofs.Lexing.{long_attached, attached_some, long_alone, alone_some}
+use Rattle.sf_words.specs.Kept.{full}
+use Rattle.sf_words.proofs.Rules.{find_id, find_long, full_value, full_flag}
+
+abbrev pub between : Held → Walk
+between h = record { held = h; waiting = idle; position = 1; is_trailing = false; stopped = None }
+
+abbrev pub waits : Text → Held → Walk
+waits name h = record { held = record h { pending = Some (name, []) }; waiting = option name; position = 1; is_trailing = false; stopped = None }
+
+abbrev pub valued : Key → Rule
+valued k = filled (value_rule (key_text k))
+
+abbrev pub flag : Key → Rule
+flag k = filled (flag_rule (key_text k))
+
+-- a built subcommand with these options
+abbrev pub leaf : Text → List Key → Shape
+leaf name keys = record {
+  name = name;
+  aliases = [];
+  rules = map full keys;
+  is_plain = true;
+  is_leaf = true;
+  no_binary_name = true;
+  disable_help_flag = true;
+  disable_help_subcommand = true;
+  disable_version_flag = false;
+  propagate_version = false;
+  has_version = false;
+  has_long_version = false;
+  args_override_self = false;
+  arg_required_else_help = false;
+  subcommand_required = false;
+  subcommand_negates_reqs = false;
+  is_built = true;
+}
+
+pub used_value : (k : Key) (v : Text) (rows : List Row) → used (valued k) (v ∷ []) rows ≡ with_values (key_text k) AsWritten CommandLine (v ∷ []) (without (key_text k) rows)
+used_value k v rows = refl
+
+pub used_flag : (k : Key) (rows : List Row) → used (flag k) [] rows ≡ with_values (key_text k) AsWritten CommandLine (codes "true" ∷ []) (without (key_text k) rows)
+used_flag k rows = refl
+
+module _ (keys : List Key) (k : Key) (inside : Contains keys k) where
+  pub value_by_id : is_flag k ≡ false → arg_by_id (map full keys) (key_text k) ≡ Some (valued k)
+  value_by_id e = find_id keys k inside ∙ ap (λ (r : Rule). Some r) (full_value k e)
+
+  pub value_by_long : is_flag k ≡ false → arg_by_long (map full keys) (key_text k) ≡ Some (valued k)
+  value_by_long e = find_long keys k inside ∙ ap (λ (r : Rule). Some r) (full_value k e)
+
+  pub flag_by_long : is_flag k ≡ true → arg_by_long (map full keys) (key_text k) ≡ Some (flag k)
+  flag_by_long e = find_long keys k inside ∙ ap (λ (r : Rule). Some r) (full_flag k e)
+
+  pub attached_word : is_flag k ≡ false → (h : Held) (v : Text) → walked (map full keys) [] (between h) (45 ∷ 45 ∷ (key_text k ++ 61 ∷ v)) ≡ between (reacted (map full keys) (valued k) (v ∷ []) h)
+  unfolding walked
+  attached_word e h v = rw (attached_some k v, long_attached k v, value_by_long e) refl
+
+  pub first_word : is_flag k ≡ false → (h : Held) → walked (map full keys) [] (between h) (45 ∷ 45 ∷ key_text k) ≡ waits (key_text k) (settled (map full keys) h)
+  unfolding walked
+  first_word e h = rw (alone_some k, long_alone k, value_by_long e) refl
+
+  pub flag_word : is_flag k ≡ true → (h : Held) → walked (map full keys) [] (between h) (45 ∷ 45 ∷ key_text k) ≡ between (reacted (map full keys) (flag k) [] h)
+  unfolding walked
+  flag_word e h = rw (alone_some k, long_alone k, flag_by_long e) refl
+
+  pub second_word : is_flag k ≡ false → (h : Held) (x : ℕ) (rest : Text) → (x == 45) ≡ false
+      → walked (map full keys) [] (waits (key_text k) h) (x ∷ rest) ≡ between (record h { pending = Some (key_text k, (x ∷ rest) ∷ []) })
+  unfolding walked
+  second_word e h x rest ne = rw (ne, ne, value_by_id e, same_text k k refl) refl
+
+  pub attached_passes : is_flag k ≡ false → (name : Text) (h : Held) (v : Text) → settle_passes (map full keys) false h ≡ true → has_row (key_text k) (settled (map full keys) h).rows ≡ false
+      → turn_passes (leaf name keys) [] (between h) (45 ∷ 45 ∷ (key_text k ++ 61 ∷ v)) ≡ true
+  attached_passes e name h v settles fresh = rw (attached_some k v, long_attached k v, value_by_long e, settles, fresh) refl
+
+  pub first_passes : is_flag k ≡ false → (name : Text) (h : Held) → settle_passes (map full keys) false h ≡ true → turn_passes (leaf name keys) [] (between h) (45 ∷ 45 ∷ key_text k) ≡ true
+  first_passes e name h settles = rw (alone_some k, long_alone k, value_by_long e, settles) refl
+
+  pub flag_passes : is_flag k ≡ true → (name : Text) (h : Held) → settle_passes (map full keys) false h ≡ true → has_row (key_text k) (settled (map full keys) h).rows ≡ false
+      → turn_passes (leaf name keys) [] (between h) (45 ∷ 45 ∷ key_text k) ≡ true
+  flag_passes e name h settles fresh = rw (alone_some k, long_alone k, flag_by_long e, settles, fresh) refl
+
+  pub second_passes : (name : Text) (h : Held) (x : ℕ) (rest : Text) → (x == 45) ≡ false → turn_passes (leaf name keys) [] (waits (key_text k) h) (x ∷ rest) ≡ true
+  second_passes name h x rest ne = rw (ne, ne) refl
+
+  pub value_settles : is_flag k ≡ false → (h : Held) (v : Text) → has_row (key_text k) h.rows ≡ false → settle_passes (map full keys) false (record h { pending = Some (key_text k, v ∷ []) }) ≡ true
+  value_settles e h v fresh = rw (value_by_id e, fresh) refl

@@ -1,0 +1,127 @@
+-- The texts of the options tell them apart.
+use Rattle.std.proofs.Common.{◌≡◌, ◌≢◌, ℕ, ◌<◌, ◌+◌, ◌-◌, Bool, true, false, cond, ◌==◌, List, [], ◌∷◌, ◌++◌, length, get_or, Option, Some, None, refl, sym, ap, ◌∙◌, arith, suc, zero}
+use Rattle.std.specs.List.{list_all}
+use Rattle.std.specs.Str.{bytes_eq}
+use Rattle.std.proofs.lemmas.List.{append-nil}
+use Rattle.sf_words.specs.declared.options.Key.{Key}
+use Rattle.sf_words.specs.declared.options.Key.TheVariants.{Format, Blocks, Nets, Pl, Yal, PerUnit, Fixed, Shapes, Outline, AreaWeight, WireWeight, Cert, PlOut, Workers, Nodes, Placed, Expr, Seed, Count, Kinds, Out}
+use Rattle.sf_words.specs.declared.options.Mode.{Mode}
+use Rattle.sf_words.specs.declared.options.Mode.TheVariants.{Plan, Check, Measure, Shape, Gen}
+use Rattle.sf_words.specs.Table.{Text, key_text, mode_text}
+
+abbrev pub all_keys : List Key
+all_keys = Format ∷ Blocks ∷ Nets ∷ Pl ∷ Yal ∷ PerUnit ∷ Fixed ∷ Shapes ∷ Outline ∷ AreaWeight ∷ WireWeight ∷ Cert ∷ PlOut ∷ Workers ∷ Nodes ∷ Placed ∷ Expr ∷ Seed ∷ Count ∷ Kinds ∷ Out ∷ []
+
+abbrev pub first_named : List Key → Text → Option Key
+first_named [] text = None
+first_named (key ∷ keys) text = cond (bytes_eq (key_text key) text) (Some key) (first_named keys text)
+
+named : (key : Key) → first_named all_keys (key_text key) ≡ Some key
+unfolding key_text
+named Format = refl
+named Blocks = refl
+named Nets = refl
+named Pl = refl
+named Yal = refl
+named PerUnit = refl
+named Fixed = refl
+named Shapes = refl
+named Outline = refl
+named AreaWeight = refl
+named WireWeight = refl
+named Cert = refl
+named PlOut = refl
+named Workers = refl
+named Nodes = refl
+named Placed = refl
+named Expr = refl
+named Seed = refl
+named Count = refl
+named Kinds = refl
+named Out = refl
+
+pub key_text-injective : (j k : Key) → key_text j ≡ key_text k → j ≡ k
+key_text-injective j k e =
+    let same : Some j ≡ Some k = sym (named j) ∙ (ap (first_named all_keys) e ∙ named k) in cc
+
+abbrev pub all_modes : List Mode
+all_modes = Plan ∷ Check ∷ Measure ∷ Shape ∷ Gen ∷ []
+
+abbrev pub mode_named : List Mode → Text → Option Mode
+mode_named [] text = None
+mode_named (mode ∷ modes) text = cond (bytes_eq (mode_text mode) text) (Some mode) (mode_named modes text)
+
+moded : (mode : Mode) → mode_named all_modes (mode_text mode) ≡ Some mode
+unfolding mode_text
+moded Plan = refl
+moded Check = refl
+moded Measure = refl
+moded Shape = refl
+moded Gen = refl
+
+pub mode_text-injective : (m n : Mode) → mode_text m ≡ mode_text n → m ≡ n
+mode_text-injective m n e =
+    let same : Some m ≡ Some n = sym (moded m) ∙ (ap (mode_named all_modes) e ∙ moded n) in cc
+
+-- the bytes that may stand in an option's name
+abbrev pub is_inner : ℕ → Bool
+is_inner b = cond (b == 61) false true
+
+pub key_text-inner : (key : Key) → list_all is_inner (key_text key) ≡ true
+unfolding key_text
+key_text-inner Format = refl
+key_text-inner Blocks = refl
+key_text-inner Nets = refl
+key_text-inner Pl = refl
+key_text-inner Yal = refl
+key_text-inner PerUnit = refl
+key_text-inner Fixed = refl
+key_text-inner Shapes = refl
+key_text-inner Outline = refl
+key_text-inner AreaWeight = refl
+key_text-inner WireWeight = refl
+key_text-inner Cert = refl
+key_text-inner PlOut = refl
+key_text-inner Workers = refl
+key_text-inner Nodes = refl
+key_text-inner Placed = refl
+key_text-inner Expr = refl
+key_text-inner Seed = refl
+key_text-inner Count = refl
+key_text-inner Kinds = refl
+key_text-inner Out = refl
+
+-- no byte of an option's name is the sign `=`
+pub inner_at : (bs : Text) → list_all is_inner bs ≡ true → (i : ℕ) → i < length bs → get_or bs i 0 ≢ 61
+inner_at [] h i lt = absurd (omega arith)
+inner_at (b ∷ bs) h zero lt = λ e. absurd (grind arith)
+inner_at (b ∷ bs) h (suc i) lt = let ih = inner_at bs in grind arith
+
+-- the text is empty or begins with the sign `=`
+abbrev pub Stops : Text → Type 0
+Stops [] = Unit {0}
+Stops (b ∷ bs) = is_inner b ≡ false
+
+-- two cuts behind a name are one
+pub cut_unique : (xs ys r s : Text) → list_all is_inner xs ≡ true → list_all is_inner ys ≡ true → Stops r → Stops s → xs ++ r ≡ ys ++ s → (xs ≡ ys) × (r ≡ s)
+cut_unique [] [] r s _ _ _ _ e = (refl, e)
+cut_unique [] (y ∷ ys) [] s _ _ _ _ e = absurd (grind arith)
+cut_unique [] (y ∷ ys) (b ∷ bs) s _ q t _ e = absurd (grind arith)
+cut_unique (x ∷ xs) [] r [] q u t w e = absurd (grind arith)
+cut_unique (x ∷ xs) [] r (b ∷ bs) q u t w e = absurd (grind arith)
+cut_unique (x ∷ xs) (y ∷ ys) r s q v t w e =
+    let ih = cut_unique xs ys r s in grind arith
+
+-- an option's name and what is behind the sign `=` are determined
+pub attached_unique : (j k : Key) (v w : Text) → key_text j ++ 61 ∷ v ≡ key_text k ++ 61 ∷ w → (j ≡ k) × (v ≡ w)
+attached_unique j k v w e =
+    let cut = cut_unique (key_text j) (key_text k) (61 ∷ v) (61 ∷ w) (key_text-inner j) (key_text-inner k) refl refl e in
+    let tails : 61 ∷ v ≡ 61 ∷ w = cut.1 in
+    (key_text-injective j k cut.0, cc)
+
+-- a name is no name with the sign `=`
+pub attached_not_alone : (j k : Key) (v : Text) → key_text j ++ 61 ∷ v ≢ key_text k
+attached_not_alone j k v e =
+    let whole : key_text j ++ 61 ∷ v ≡ key_text k ++ [] = e ∙ sym (append-nil (key_text k)) in
+    let cut = cut_unique (key_text j) (key_text k) (61 ∷ v) [] (key_text-inner j) (key_text-inner k) refl tt whole in
+    let tails : 61 ∷ v ≡ [] = cut.1 in cc

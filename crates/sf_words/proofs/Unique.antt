@@ -1,0 +1,131 @@
+-- A list of words has at most one meaning.
+use Rattle.std.proofs.Common.{◌≡◌, ◌≢◌, ℕ, Bool, true, false, cond, List, [], ◌∷◌, Option, Some, None, Result, Ok, codes, refl, sym, ap, ap₂, subst, ◌∙◌}
+use Rattle.sf_words.specs.declared.options.Mode.{Mode}
+use Rattle.sf_words.specs.declared.options.Mode.TheVariants.{Plan, Check, Measure, Shape, Gen}
+use Rattle.sf_words.specs.declared.options.Key.{Key}
+use Rattle.sf_words.specs.declared.options.Key.TheVariants.{Format, Blocks, Nets, Pl, Yal, PerUnit, Fixed, Shapes, Outline, AreaWeight, WireWeight, Cert, PlOut, Workers, Nodes, Placed, Expr, Seed, Count, Kinds as KindsKey, Out}
+use Rattle.sf_words.specs.Table.{Text, mode_text}
+use Rattle.sf_words.specs.Words.{Token, HasForm, AreOptions, words_of}
+use Rattle.sf_words.specs.Numbers.{SaysNumber, SaysOptional, default_of}
+use Rattle.sf_words.specs.declared.command.Kinds.{Kinds}
+use Rattle.sf_words.specs.declared.command.Kinds.TheVariants.{Hard, Mixed}
+use Rattle.sf_words.specs.Outline.{OutlineSays}
+use Rattle.sf_words.specs.Meaning.{Values, value_in, Input, gsrc, yal, InputSays, DesignOptions, DesignSays, WeightOptions, WeightsSay, PlanOptions, PlanSays, CheckOptions, CheckSays, MeasureOptions, MeasureSays, ShapeOptions, ShapeSays, KindsSay, GenOptions, GenSays, Command, plan, check, measure, shape, gen, mode_of, Says, Means}
+use Rattle.sf_words.proofs.Texts.{mode_text-injective}
+use Rattle.sf_words.proofs.Tokens.{options_unique, heads_same, tails_same}
+
+pub some_same : {X : Type 0} {x y : X} → Some x ≡ Some y → x ≡ y
+some_same e = cc
+
+pub number_unique : (key : Key) (text : Option Text) (m n : ℕ) → SaysNumber key text m → SaysNumber key text n → m ≡ n
+number_unique key None m n g h = some_same (sym g ∙ h)
+number_unique key (Some text) m n g h = g.0.value ∙ sym h.0.value
+
+pub optional_unique : (key : Key) (text : Option Text) (m n : Option ℕ) → SaysOptional key text m → SaysOptional key text n → m ≡ n
+optional_unique key None None None g h = refl
+optional_unique key (Some text) (Some m) (Some n) g h = ap (λ k. Some k) (g.0.value ∙ sym h.0.value)
+optional_unique key None None (Some n) g h = absurd h
+optional_unique key None (Some m) n g h = absurd g
+optional_unique key (Some text) None n g h = absurd g
+optional_unique key (Some text) (Some m) None g h = absurd h
+
+texts_same : (r : Option Text) (x y : Text) → r ≡ Some x → r ≡ Some y → x ≡ y
+texts_same r x y g h = some_same (sym g ∙ h)
+
+formats_differ : codes "gsrc" ≢ codes "yal"
+formats_differ e = cc
+
+input_unique : (v : Values) (a b : Input) → InputSays v a → InputSays v b → a ≡ b
+input_unique v (gsrc blocks nets pl) (gsrc blocks' nets' pl') g h =
+    let first = texts_same _ _ _ g.1 h.1 in let second = sym g.2 ∙ h.2 in let third = sym g.3 ∙ h.3 in cc
+input_unique v (gsrc blocks nets pl) (yal file) g h = absurd (formats_differ (texts_same _ _ _ g.0 h.0))
+input_unique v (yal file) (gsrc blocks nets pl) g h = absurd (formats_differ (texts_same _ _ _ h.0 g.0))
+input_unique v (yal file) (yal file') g h = ap yal (texts_same _ _ _ g.1 h.1)
+
+ok_same : {X E : Type 0} {r : Result X E} {x y : X} → r ≡ Ok x → r ≡ Ok y → x ≡ y
+ok_same g h = cc
+
+outline_unique : (unit : ℕ) (text : Option Text) (w h w' h' : ℕ) → OutlineSays unit text w h → OutlineSays unit text w' h' → (w ≡ w') × (h ≡ h')
+outline_unique unit None w h w' h' p q = (p.0 ∙ sym q.0, p.1 ∙ sym q.1)
+outline_unique unit (Some text) w h w' h' p q = (ok_same p.width_is.value q.width_is.value, ok_same p.height_is.value q.height_is.value)
+
+design_unique : (v : Values) (a b : DesignOptions) → DesignSays v a → DesignSays v b → a ≡ b
+design_unique v a b g h =
+    let input = input_unique v _ _ g.input h.input in
+    let unit = number_unique PerUnit _ _ _ g.per_unit h.per_unit in
+    let fixed = g.is_fixed ∙ sym h.is_fixed in
+    let shapes = number_unique Shapes _ _ _ g.shapes h.shapes in
+    let Sides : ℕ → Type 0 = λ u. OutlineSays u (v Outline) b.width b.height in
+    let sides = outline_unique a.per_unit (v Outline) a.width a.height b.width b.height g.outline (subst Sides (sym unit) h.outline) in
+    λ i. record { input = input i; per_unit = unit i; is_fixed = fixed i; shapes = shapes i; width = sides.0 i; height = sides.1 i }
+
+weights_unique : (v : Values) (a b : WeightOptions) → WeightsSay v a → WeightsSay v b → a ≡ b
+weights_unique v a b g h =
+    let area = number_unique AreaWeight _ _ _ g.area h.area in
+    let wire = number_unique WireWeight _ _ _ g.wire h.wire in
+    λ i. record { area = area i; wire = wire i }
+
+plan_unique : (v : Values) (a b : PlanOptions) → PlanSays v a → PlanSays v b → a ≡ b
+plan_unique v a b g h =
+    let design = design_unique v _ _ g.design h.design in
+    let weights = weights_unique v _ _ g.weights h.weights in
+    let cert = texts_same _ _ _ g.cert h.cert in
+    let pl_out = sym g.pl_out ∙ h.pl_out in
+    let workers = number_unique Workers _ _ _ g.workers h.workers in
+    let nodes = optional_unique Nodes _ _ _ g.nodes h.nodes in
+    λ i. record { design = design i; weights = weights i; cert = cert i; pl_out = pl_out i; workers = workers i; nodes = nodes i }
+
+check_unique : (v : Values) (a b : CheckOptions) → CheckSays v a → CheckSays v b → a ≡ b
+check_unique v a b g h =
+    let design = design_unique v _ _ g.design h.design in
+    let weights = weights_unique v _ _ g.weights h.weights in
+    let cert = texts_same _ _ _ g.cert h.cert in
+    λ i. record { design = design i; weights = weights i; cert = cert i }
+
+measure_unique : (v : Values) (a b : MeasureOptions) → MeasureSays v a → MeasureSays v b → a ≡ b
+measure_unique v a b g h =
+    let design = design_unique v _ _ g.design h.design in
+    let weights = weights_unique v _ _ g.weights h.weights in
+    let placed = texts_same _ _ _ g.placed h.placed in
+    λ i. record { design = design i; weights = weights i; placed = placed i }
+
+shape_unique : (v : Values) (a b : ShapeOptions) → ShapeSays v a → ShapeSays v b → a ≡ b
+shape_unique v a b g h =
+    let design = design_unique v _ _ g.design h.design in
+    let expr = texts_same _ _ _ g.expr h.expr in
+    λ i. record { design = design i; expr = expr i }
+
+kinds_unique : (text : Option Text) (a b : Kinds) → KindsSay text a → KindsSay text b → a ≡ b
+kinds_unique None a b g h = g ∙ sym h
+kinds_unique (Some text) Hard Hard g h = refl
+kinds_unique (Some text) Mixed Mixed g h = refl
+kinds_unique (Some text) Mixed Hard g h = let bad : codes "mixed" ≡ codes "hard" = sym g ∙ h in cc
+kinds_unique (Some text) Hard Mixed g h = let bad : codes "mixed" ≡ codes "hard" = sym h ∙ g in cc
+
+gen_unique : (v : Values) (a b : GenOptions) → GenSays v a → GenSays v b → a ≡ b
+gen_unique v a b g h =
+    let seed = number_unique Seed _ _ _ g.seed h.seed in
+    let count = number_unique Count _ _ _ g.count h.count in
+    let kinds = kinds_unique _ _ _ g.kinds h.kinds in
+    let nodes = optional_unique Nodes _ _ _ g.nodes h.nodes in
+    let out = texts_same _ _ _ g.out h.out in
+    λ i. record { seed = seed i; count = count i; kinds = kinds i; nodes = nodes i; out = out i }
+
+says_unique : (v : Values) (c d : Command) → mode_of c ≡ mode_of d → Says v c → Says v d → c ≡ d
+says_unique v (plan a) (plan b) e g h = ap plan (plan_unique v a b g h)
+says_unique v (check a) (check b) e g h = ap check (check_unique v a b g h)
+says_unique v (measure a) (measure b) e g h = ap measure (measure_unique v a b g h)
+says_unique v (shape a) (shape b) e g h = ap shape (shape_unique v a b g h)
+says_unique v (gen a) (gen b) e g h = ap gen (gen_unique v a b g h)
+says_unique v c d e g h = cc
+
+pub form_unique : (words : List Text) (m n : Mode) (ts us : List Token) → HasForm words m ts → HasForm words n us → (m ≡ n) × (ts ≡ us)
+form_unique words m n ts us g h =
+    let both = sym g.words_are ∙ h.words_are in
+    (mode_text-injective m n (heads_same both), options_unique m n ts us g.options h.options (tails_same both))
+
+pub meaning_unique : (words : List Text) (c d : Command) → Means words c → Means words d → c ≡ d
+meaning_unique words c d g h =
+    let form = form_unique words (mode_of c) (mode_of d) g.0 h.0 g.1 h.1 in
+    let P : List Token → Type 0 = λ ts. Says (value_in ts) d in
+    says_unique (value_in g.0) c d form.0 g.2 (subst P (sym form.1) h.2)

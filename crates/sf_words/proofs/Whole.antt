@@ -1,0 +1,148 @@
+-- The whole command line.
+use Rattle.std.proofs.Common.{◌≡◌, Bool, true, false, ◌&&◌, List, [], ◌∷◌, ◌++◌, Option, Some, map, fold, is_some, refl, sym, ap, ◌∙◌, append_assoc}
+use Rattle.std.specs.List.{list_all}
+use Rattle.std.proofs.lemmas.List.{append-nil}
+use Rattle.clap.specs.Words.{Rule, Row, Text, Shape, is_simple, subcommand_of, takes}
+use Rattle.clap.specs.Simple.{built, names_of, entered, rows_at, argument_words}
+use Rattle.clap.specs.Walk.{Walk, Held, Names, stop_after, walked, walk, walk_from, nothing_held, idle, finished, rows_after, with_default}
+use Rattle.clap.specs.Takes.{walk_passes, settle_passes, turn_passes, entered_passes, level_passes, default_passes, is_valid, built_takes}
+use Rattle.clap.proofs.OnLiterals.{clap_on_literals}
+use Rattle.sf_words.specs.declared.options.Mode.{Mode}
+use Rattle.sf_words.specs.declared.options.Mode.TheVariants.{Plan, Check, Measure, Shape as ShapeMode, Gen}
+use Rattle.sf_words.specs.Table.{modes, mode_text, key_text, is_flag, keys_of}
+use Rattle.sf_words.specs.Words.{Token, words_of, AreOptions, HasForm}
+use Rattle.sf_words.specs.App.{floorplan}
+use Rattle.sf_words.specs.Kept.{full, rows_for}
+use Rattle.sf_words.proofs.Steps.{leaf}
+use Rattle.sf_words.proofs.Walks.{absent_at_first, walked_all, Walked}
+
+-- the walk has stopped at a subcommand
+abbrev pub stopped_at : Text → List Text → Walk
+stopped_at name words = record { held = nothing_held; waiting = idle; position = 1; is_trailing = false; stopped = Some (name, words) }
+
+abbrev pub top : Shape
+top = (built floorplan).top
+
+abbrev pub names : Names
+names = names_of (built floorplan)
+
+abbrev pub leaf_of : Mode → Shape
+leaf_of m = leaf (mode_text m) (keys_of m)
+
+top_word : (m : Mode) → walked top.rules names (walk_from nothing_held) (mode_text m) ≡ stopped_at (mode_text m) []
+unfolding clap_on_literals floorplan modes mode_text key_text is_flag keys_of
+top_word Plan = refl
+top_word Check = refl
+top_word Measure = refl
+top_word ShapeMode = refl
+top_word Gen = refl
+
+top_turn : (m : Mode) → turn_passes top names (walk_from nothing_held) (mode_text m) ≡ true
+unfolding clap_on_literals floorplan modes mode_text key_text is_flag keys_of
+top_turn Plan = refl
+top_turn Check = refl
+top_turn Measure = refl
+top_turn ShapeMode = refl
+top_turn Gen = refl
+
+enters : (m : Mode) (words : List Text) → entered (built floorplan) (Some (mode_text m, words)) ≡ Some (rows_at (leaf_of m) words)
+unfolding clap_on_literals floorplan modes mode_text key_text is_flag keys_of
+enters Plan words = refl
+enters Check words = refl
+enters Measure words = refl
+enters ShapeMode words = refl
+enters Gen words = refl
+
+enters_passes : (m : Mode) (words : List Text) → entered_passes (built floorplan) (Some (mode_text m, words)) ≡ level_passes (leaf_of m) [] nothing_held words false
+unfolding clap_on_literals floorplan modes mode_text key_text is_flag keys_of
+enters_passes Plan words = refl
+enters_passes Check words = refl
+enters_passes Measure words = refl
+enters_passes ShapeMode words = refl
+enters_passes Gen words = refl
+
+defaults_pass : (m : Mode) → list_all default_passes (leaf_of m).rules ≡ true
+unfolding clap_on_literals floorplan modes mode_text key_text is_flag keys_of
+defaults_pass Plan = refl
+defaults_pass Check = refl
+defaults_pass Measure = refl
+defaults_pass ShapeMode = refl
+defaults_pass Gen = refl
+
+leaf_valid : (m : Mode) (rows : List Row) → is_valid (leaf_of m) rows false ≡ true
+unfolding clap_on_literals floorplan modes mode_text key_text is_flag keys_of
+leaf_valid Plan rows = refl
+leaf_valid Check rows = refl
+leaf_valid Measure rows = refl
+leaf_valid ShapeMode rows = refl
+leaf_valid Gen rows = refl
+
+pub simple : is_simple floorplan ≡ true
+unfolding clap_on_literals floorplan modes mode_text key_text is_flag keys_of
+simple = refl
+
+stopped_walk : (c : List Rule) (ns : Names) (n : Text) (p words : List Text) → fold (walked c ns) (stopped_at n p) words ≡ stopped_at n (p ++ words)
+unfolding walked
+stopped_walk c ns n p [] = ap (stopped_at n) (sym (append-nil p))
+stopped_walk c ns n p (w ∷ words) = stopped_walk c ns n (p ++ w ∷ []) words ∙ ap (stopped_at n) (append_assoc p (w ∷ []) words)
+
+stopped_passes : (s : Shape) (ns : Names) (n : Text) (p words : List Text) → walk_passes s ns (stopped_at n p) words ≡ true
+unfolding walked walk_passes
+stopped_passes s ns n p [] = refl
+stopped_passes s ns n p (w ∷ words) = stopped_passes s ns n (p ++ w ∷ []) words
+
+top_walk : (m : Mode) (words : List Text) → walk top.rules names nothing_held (mode_text m ∷ words) ≡ stopped_at (mode_text m) words
+top_walk m words = ap (λ (w : Walk). fold (walked top.rules names) w words) (top_word m) ∙ stopped_walk top.rules names (mode_text m) [] words
+
+and_true : {a b : Bool} → a ≡ true → b ≡ true → (a && b) ≡ true
+and_true {a = a} {b = b} g h = rw (g, h) refl
+
+top_ok : settle_passes top.rules top.args_override_self nothing_held && (list_all default_passes top.rules && is_valid top (finished top.rules nothing_held) true) ≡ true
+unfolding clap_on_literals floorplan modes mode_text key_text is_flag keys_of
+top_ok = refl
+
+top_level : (m : Mode) (words : List Text) → level_passes top names nothing_held (mode_text m ∷ words) true ≡ true
+unfolding walk_passes
+top_level m words =
+    let first : walk_passes top names (walk_from nothing_held) (mode_text m ∷ words) ≡ true =
+    and_true (top_turn m) (ap (λ (w : Walk). walk_passes top names w words) (top_word m) ∙ stopped_passes top names (mode_text m) [] words) in
+    let rest : Held → Bool = λ end. settle_passes top.rules top.args_override_self end && (list_all default_passes top.rules && is_valid top (finished top.rules end) true) in
+    and_true first (ap rest (ap (λ (w : Walk). w.held) (top_walk m words)) ∙ top_ok)
+
+pub arguments : (words : List Text) → argument_words floorplan words ≡ words
+unfolding floorplan modes
+arguments words = refl
+
+-- the walk over the options
+abbrev pub walked_options : (m : Mode) (ts : List Token) → AreOptions m ts → Walked (mode_text m) (keys_of m) ts nothing_held
+walked_options m ts options = walked_all (mode_text m) m ts nothing_held options (absent_at_first ts) refl
+
+leaf_level : (m : Mode) (ts : List Token) → AreOptions m ts → level_passes (leaf_of m) [] nothing_held (words_of ts) false ≡ true
+leaf_level m ts options =
+    let w = walked_options m ts options in
+    rw (w.passes, w.walks, w.settles, defaults_pass m) (leaf_valid m _)
+
+top_stop : (m : Mode) (words : List Text) → stop_after top.rules names (mode_text m ∷ words) ≡ Some (mode_text m, words)
+top_stop m words = ap (λ (w : Walk). w.stopped) (top_walk m words)
+
+built_takes_all : (m : Mode) (ts : List Token) → AreOptions m ts → built_takes (built floorplan) nothing_held (mode_text m ∷ words_of ts) ≡ true
+built_takes_all m ts options =
+    let words = words_of ts in
+    let all : Option (Text × List Text) → Bool = λ stop. entered_passes (built floorplan) stop && level_passes top names nothing_held (mode_text m ∷ words) (is_some (entered (built floorplan) stop)) in
+    let level : Option (Text × List Row) → Bool = λ o. level_passes top names nothing_held (mode_text m ∷ words) (is_some o) in
+    ap all (top_stop m words) ∙ and_true (enters_passes m words ∙ leaf_level m ts options) (ap level (enters m words) ∙ top_level m words)
+
+-- clap takes the words of a command and its options
+pub taken : (words : List Text) (m : Mode) (ts : List Token) → HasForm words m ts → takes floorplan words ≡ true
+taken words m ts form =
+    and_true simple (ap (built_takes (built floorplan) nothing_held) (arguments words ∙ form.words_are) ∙ built_takes_all m ts form.options)
+
+-- what clap finds
+pub found : (words : List Text) (m : Mode) (ts : List Token) → HasForm words m ts → subcommand_of floorplan words ≡ Some (mode_text m, rows_for m ts)
+found words m ts form =
+    let w = walked_options m ts form.options in
+    let ends : Walk → List Row = λ v. finished (map full (keys_of m)) v.held in
+    let rows : rows_after (map full (keys_of m)) [] (words_of ts) ≡ rows_for m ts =
+    ap ends w.walks ∙ ap (λ (r : List Row). fold with_default r (map full (keys_of m))) w.rows in
+    ap (λ (ws : List Text). entered (built floorplan) (stop_after top.rules names ws)) (arguments words ∙ form.words_are)
+    ∙ (ap (entered (built floorplan)) (top_stop m (words_of ts)) ∙ (enters m (words_of ts) ∙ ap (λ (r : List Row). Some (mode_text m, r)) rows))

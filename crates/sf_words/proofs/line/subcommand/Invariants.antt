@@ -1,0 +1,12 @@
+use Rattle.std.proofs.Common.{◌≡◌, take, false}
+use Rattle.clap.specs.Words.{app_of, new_app}
+use Rattle.clap.specs.declared.builder.command.Command.TheViews.{out-Command}
+use Rattle.sf_words.specs.Table.{mode_text, keys_of}
+use Rattle.sf_words.specs.App.{with_keys}
+use Rattle.sf_words.proofs.line.subcommand.Given as goal
+
+abbrev pub invariant-loop-key : goal.invariant-loop-key
+invariant-loop-key l =
+    (app_of l.command ≡ with_keys (new_app (mode_text l.fn.mode)) (take l.key-index l.key-items))
+    × ((out-Command l.command).has_globals ≡ false)
+    × (l.key-items ≡ keys_of l.fn.mode)

@@ -1,0 +1,151 @@
+-- What the words mean: a command with its options and defaults.
+use Rattle.std.specs.Prelude.{◌≡◌, ◌≢◌, ℕ, ◌+◌, ◌⊎◌, ◌<◌, Bool, true, false, cond, List, [], ◌∷◌, Option, Some, None, is_some, codes}
+use Rattle.std.specs.Str.{bytes_eq}
+use Rattle.sf_words.specs.declared.options.Mode.{Mode}
+use Rattle.sf_words.specs.declared.options.Mode.TheVariants.{Plan, Check, Measure, Shape, Gen}
+use Rattle.sf_words.specs.declared.options.Key.{Key}
+use Rattle.sf_words.specs.declared.options.Key.TheVariants.{Format, Blocks, Nets, Pl, Yal, PerUnit, Fixed, Shapes, Outline, AreaWeight, WireWeight, Cert, PlOut, Workers, Nodes, Placed, Expr, Seed, Count, Kinds as KindsKey, Out}
+use Rattle.sf_words.specs.Table.{Text, key_text}
+use Rattle.sf_words.specs.Words.{Token, key_of, value_of, HasForm}
+use Rattle.sf_words.specs.Numbers.{SaysNumber, SaysOptional}
+use Rattle.sf_words.specs.Outline.{OutlineSays}
+use Rattle.sf_words.specs.declared.command.Kinds.{Kinds}
+use Rattle.sf_words.specs.declared.command.Kinds.TheVariants.{Hard, Mixed}
+
+-- the texts that the options have
+abbrev pub Values : Type 0
+Values = Key → Option Text
+
+abbrev pub value_in : List Token → Values
+value_in [] key = None
+value_in (token ∷ tokens) key = cond (bytes_eq (key_text (key_of token)) (key_text key)) (Some (value_of token)) (value_in tokens key)
+
+-- the files that tell a design
+pub data Input : Type 0 where
+  gsrc : (blocks : Text) (nets pl : Option Text) → Input
+  yal : (file : Text) → Input
+
+-- an option of the other format isn't there
+abbrev pub InputSays : Values → Input → Type 0
+InputSays v (gsrc blocks nets pl) = (v Format ≡ Some (codes "gsrc")) × (v Blocks ≡ Some blocks) × (v Nets ≡ nets) × (v Pl ≡ pl) × (v Yal ≡ None)
+InputSays v (yal file) = (v Format ≡ Some (codes "yal")) × (v Yal ≡ Some file) × (v Blocks ≡ None) × (v Nets ≡ None) × (v Pl ≡ None)
+
+pub record DesignOptions : Type 0 where
+  pub input : Input
+  pub per_unit : ℕ
+  pub is_fixed : Bool
+  pub shapes : ℕ
+  pub width : ℕ
+  pub height : ℕ
+
+pub record DesignSays (v : Values) (o : DesignOptions) : Type 0 where
+  pub input : InputSays v o.input
+  pub per_unit : SaysNumber PerUnit (v PerUnit) o.per_unit
+  pub is_unit : (o.per_unit ≡ 1) ⊎ (o.per_unit ≡ 10) ⊎ (o.per_unit ≡ 100) ⊎ (o.per_unit ≡ 1000)
+  pub is_fixed : o.is_fixed ≡ is_some (v Fixed)
+  pub shapes : SaysNumber Shapes (v Shapes) o.shapes
+  pub outline : OutlineSays o.per_unit (v Outline) o.width o.height
+
+pub record WeightOptions : Type 0 where
+  pub area : ℕ
+  pub wire : ℕ
+
+pub record WeightsSay (v : Values) (o : WeightOptions) : Type 0 where
+  pub area : SaysNumber AreaWeight (v AreaWeight) o.area
+  pub wire : SaysNumber WireWeight (v WireWeight) o.wire
+  pub some : 0 < o.area + o.wire
+
+pub record PlanOptions : Type 0 where
+  pub design : DesignOptions
+  pub weights : WeightOptions
+  pub cert : Text
+  pub pl_out : Option Text
+  pub workers : ℕ
+  pub nodes : Option ℕ
+
+pub record PlanSays (v : Values) (o : PlanOptions) : Type 0 where
+  pub design : DesignSays v o.design
+  pub weights : WeightsSay v o.weights
+  pub cert : v Cert ≡ Some o.cert
+  pub pl_out : v PlOut ≡ o.pl_out
+  pub workers : SaysNumber Workers (v Workers) o.workers
+  pub nodes : SaysOptional Nodes (v Nodes) o.nodes
+
+pub record CheckOptions : Type 0 where
+  pub design : DesignOptions
+  pub weights : WeightOptions
+  pub cert : Text
+
+pub record CheckSays (v : Values) (o : CheckOptions) : Type 0 where
+  pub design : DesignSays v o.design
+  pub weights : WeightsSay v o.weights
+  pub cert : v Cert ≡ Some o.cert
+
+pub record MeasureOptions : Type 0 where
+  pub design : DesignOptions
+  pub weights : WeightOptions
+  pub placed : Text
+
+pub record MeasureSays (v : Values) (o : MeasureOptions) : Type 0 where
+  pub design : DesignSays v o.design
+  pub weights : WeightsSay v o.weights
+  pub placed : v Placed ≡ Some o.placed
+
+pub record ShapeOptions : Type 0 where
+  pub design : DesignOptions
+  pub expr : Text
+
+pub record ShapeSays (v : Values) (o : ShapeOptions) : Type 0 where
+  pub design : DesignSays v o.design
+  pub expr : v Expr ≡ Some o.expr
+
+-- how the kinds are written
+abbrev pub kinds_text : Kinds → Text
+kinds_text Hard = codes "hard"
+kinds_text Mixed = codes "mixed"
+
+abbrev pub KindsSay : Option Text → Kinds → Type 0
+KindsSay None kinds = kinds ≡ Hard
+KindsSay (Some text) kinds = text ≡ kinds_text kinds
+
+pub record GenOptions : Type 0 where
+  pub seed : ℕ
+  pub count : ℕ
+  pub kinds : Kinds
+  pub nodes : Option ℕ
+  pub out : Text
+
+pub record GenSays (v : Values) (o : GenOptions) : Type 0 where
+  pub seed : SaysNumber Seed (v Seed) o.seed
+  pub count : SaysNumber Count (v Count) o.count
+  pub kinds : KindsSay (v KindsKey) o.kinds
+  pub nodes : SaysOptional Nodes (v Nodes) o.nodes
+  pub out : v Out ≡ Some o.out
+
+pub data Command : Type 0 where
+  plan : PlanOptions → Command
+  check : CheckOptions → Command
+  measure : MeasureOptions → Command
+  shape : ShapeOptions → Command
+  gen : GenOptions → Command
+
+abbrev pub mode_of : Command → Mode
+mode_of (plan o) = Plan
+mode_of (check o) = Check
+mode_of (measure o) = Measure
+mode_of (shape o) = Shape
+mode_of (gen o) = Gen
+
+abbrev pub Says : Values → Command → Type 0
+Says v (plan o) = PlanSays v o
+Says v (check o) = CheckSays v o
+Says v (measure o) = MeasureSays v o
+Says v (shape o) = ShapeSays v o
+Says v (gen o) = GenSays v o
+
+-- the words mean this command
+abbrev pub Means : List Text → Command → Type 0
+Means words command = (tokens : List Token) × HasForm words (mode_of command) tokens × Says (value_in tokens) command
+
+abbrev pub HasNoMeaning : List Text → Type 0
+HasNoMeaning words = (command : Command) → Means words command → ⊥

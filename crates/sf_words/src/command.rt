@@ -1,0 +1,133 @@
+// Commands with their options, as the words give them or leave them to their defaults.
+ghost use Rattle.std.specs.Prelude.{◌+◌, ◌<◌, ◌≤◌};
+ghost use Rattle.std.specs.Option.{ForSome};
+
+/// The files that tell a design, by the format that was chosen.
+#[derive(Clone, Copy, Debug)]
+pub enum InputFiles<'a> {
+    /// The files of the GSRC floorplan benchmarks.
+    Gsrc {
+        blocks: &'a str,
+        nets: Option<&'a str>,
+        pl: Option<&'a str>,
+    },
+    /// A file of the MCNC benchmarks.
+    Yal { file: &'a str },
+}
+
+/// The options that tell a design.
+#[derive(Clone, Copy, Debug)]
+pub struct DesignWords<'a> {
+    pub input: InputFiles<'a>,
+    /// How many scaled units one unit of the file is: 1, 10, 100 or 1000.
+    pub per_unit: u64,
+    /// Whether a hard block keeps its given sides, and isn't turned.
+    pub is_fixed: bool,
+    /// The greatest number of shapes of a block.
+    pub shapes: u16,
+    /// The outline's width in scaled units.
+    pub width: u32,
+    /// The outline's height in scaled units.
+    pub height: u32,
+    ghost unit_low: { 1 ≤ per_unit },
+    ghost unit_high: { per_unit ≤ 1000 },
+    ghost shapes_low: { 2 ≤ shapes },
+    ghost shapes_high: { shapes ≤ 256 },
+    ghost width_low: { 1 ≤ width },
+    ghost width_high: { width ≤ 1_048_576 },
+    ghost height_low: { 1 ≤ height },
+    ghost height_high: { height ≤ 1_048_576 },
+}
+
+/// What counts in a cost.
+#[derive(Clone, Copy, Debug)]
+pub struct WeightWords {
+    pub area: u16,
+    pub wire: u16,
+    ghost some: { 0 < area + wire },
+}
+
+/// The options of `plan`.
+#[derive(Clone, Copy, Debug)]
+pub struct PlanWords<'a> {
+    pub design: DesignWords<'a>,
+    pub weights: WeightWords,
+    /// The file that the certificate is stored in.
+    pub cert: &'a str,
+    /// The file that the plan is stored in.
+    pub pl_out: Option<&'a str>,
+    pub workers: u16,
+    /// The greatest number of decisions. Its default and its limit depend on the number of blocks.
+    pub nodes: Option<u64>,
+    ghost workers_low: { 1 ≤ workers },
+    ghost workers_high: { workers ≤ 16 },
+    ghost nodes_low: { ForSome nodes (λ n. 1 ≤ n) },
+    ghost nodes_high: { ForSome nodes (λ n. n ≤ 4_000_000) },
+}
+
+/// The options of `check`.
+#[derive(Clone, Copy, Debug)]
+pub struct CheckWords<'a> {
+    pub design: DesignWords<'a>,
+    pub weights: WeightWords,
+    /// The file of the certificate that is checked.
+    pub cert: &'a str,
+}
+
+/// The options of `measure`.
+#[derive(Clone, Copy, Debug)]
+pub struct MeasureWords<'a> {
+    pub design: DesignWords<'a>,
+    pub weights: WeightWords,
+    /// The file that places each block.
+    pub placed: &'a str,
+}
+
+/// The options of `shape`.
+#[derive(Clone, Copy, Debug)]
+pub struct ShapeWords<'a> {
+    pub design: DesignWords<'a>,
+    /// The file of the expression whose curve is printed.
+    pub expr: &'a str,
+}
+
+/// Which blocks a generated design has.
+#[derive(Clone, Copy, Debug, PartialEq, Eq)]
+pub enum Kinds {
+    /// Hard blocks alone.
+    Hard,
+    /// Soft blocks at odd numbers.
+    Mixed,
+}
+
+/// The options of `gen`.
+#[derive(Clone, Copy, Debug)]
+pub struct GenWords<'a> {
+    pub seed: u64,
+    /// How many blocks are generated.
+    pub count: u16,
+    pub kinds: Kinds,
+    /// The greatest number of decisions. Its default and its limit depend on the number of blocks.
+    pub nodes: Option<u64>,
+    /// What the names of the files begin with.
+    pub out: &'a str,
+    ghost count_low: { 1 ≤ count },
+    ghost count_high: { count ≤ 320 },
+    ghost nodes_low: { ForSome nodes (λ n. 1 ≤ n) },
+    ghost nodes_high: { ForSome nodes (λ n. n ≤ 4_000_000) },
+}
+
+/// A command with its options.
+#[derive(Clone, Copy, Debug)]
+pub enum CommandWords<'a> {
+    /// Searches the slicing floorplan of least cost.
+    Plan(PlanWords<'a>),
+    /// Checks a certificate.
+    Check(CheckWords<'a>),
+    /// Measures a floorplan that is given.
+    Measure(MeasureWords<'a>),
+    /// Prints the shape curve of an expression.
+    Shape(ShapeWords<'a>),
+    /// Generates a design, and searches its floorplan.
+    Gen(GenWords<'a>),
+}

@@ -1,0 +1,214 @@
+// What the texts of options mean: required options, formats, ranges and defaults.
+ghost use Rattle.std.specs.Prelude.{◌≡◌, ◌↔◌, List, Option, Some, IsTrue, IfSome, IfNone, option_map, codes};
+ghost use Rattle.sf_words.specs.declared.options.Key.{Key};
+ghost use Rattle.sf_words.specs.declared.command.Kinds.{Kinds};
+ghost use Rattle.sf_words.specs.Table.{Text};
+ghost use Rattle.sf_words.specs.Meaning.{Input, InputSays, DesignOptions, DesignSays, WeightOptions, WeightsSay, PlanOptions, PlanSays, CheckOptions, CheckSays, MeasureOptions, MeasureSays, ShapeOptions, ShapeSays, KindsSay, GenOptions, GenSays, Command, Says, Means, mode_of};
+ghost use Rattle.sf_words.specs.Seen.{text_of, input_seen, design_seen, weights_seen, plan_seen, check_seen, measure_seen, shape_seen, gen_seen, command_seen};
+
+use crate::command::{
+    CheckWords, CommandWords, DesignWords, GenWords, InputFiles, Kinds, MeasureWords, PlanWords,
+    ShapeWords, WeightWords,
+};
+use crate::options::{Key, Mode};
+use crate::outline::read_outline;
+use crate::ranges::{number, optional_number};
+
+/// The texts that options have.
+pub trait OptionTexts<'a> {
+    ghost texts: { Self → Key → Option Text };
+
+    /// The text of an option, which is empty for a flag.
+    fn text(&self, key: Key) -> Option<&'a str>
+        ensures { option_map (λ s. s.now) result ≡ texts self.now key };
+}
+
+/// Whether the text is there and is this one.
+pub fn is_text(text: Option<&str>, other: &str) -> bool
+    ensures { IsTrue result ↔ (option_map (λ s. s.now) text.entry ≡ Some other.now) }
+{
+    match text {
+        None => false,
+        Some(text) => text == other,
+    }
+}
+
+fn read_gsrc<'a, T: OptionTexts<'a>>(texts: &T) -> Option<InputFiles<'a>>
+    requires { T.texts texts.now Key.Format ≡ Some (codes "gsrc") }
+    ensures input { IfSome result (λ i. InputSays (T.texts texts.now) (input_seen i)) }
+    ensures none { IfNone result ((i : Input) → InputSays (T.texts texts.now) i → ⊥) }
+{
+    if texts.text(Key::Yal).is_some() {
+        return None;
+    }
+    let blocks = texts.text(Key::Blocks)?;
+    Some(InputFiles::Gsrc {
+        blocks,
+        nets: texts.text(Key::Nets),
+        pl: texts.text(Key::Pl),
+    })
+}
+
+fn read_yal<'a, T: OptionTexts<'a>>(texts: &T) -> Option<InputFiles<'a>>
+    requires { T.texts texts.now Key.Format ≡ Some (codes "yal") }
+    ensures input { IfSome result (λ i. InputSays (T.texts texts.now) (input_seen i)) }
+    ensures none { IfNone result ((i : Input) → InputSays (T.texts texts.now) i → ⊥) }
+{
+    if texts.text(Key::Blocks).is_some()
+        || texts.text(Key::Nets).is_some()
+        || texts.text(Key::Pl).is_some()
+    {
+        return None;
+    }
+    let file = texts.text(Key::Yal)?;
+    Some(InputFiles::Yal { file })
+}
+
+fn read_input<'a, T: OptionTexts<'a>>(texts: &T) -> Option<InputFiles<'a>>
+    ensures input { IfSome result (λ i. InputSays (T.texts texts.now) (input_seen i)) }
+    ensures none { IfNone result ((i : Input) → InputSays (T.texts texts.now) i → ⊥) }
+{
+    let format = texts.text(Key::Format);
+    if is_text(format, "gsrc") {
+        read_gsrc(texts)
+    } else if is_text(format, "yal") {
+        read_yal(texts)
+    } else {
+        None
+    }
+}
+
+#[tactic(auto, unfolding(crate::specs::Numbers::least, crate::specs::Numbers::greatest))]
+fn read_design<'a, T: OptionTexts<'a>>(texts: &T) -> Option<DesignWords<'a>>
+    ensures options { IfSome result (λ o. DesignSays (T.texts texts.now) (design_seen o)) }
+    ensures none { IfNone result ((o : DesignOptions) → DesignSays (T.texts texts.now) o → ⊥) }
+{
+    let input = read_input(texts)?;
+    let per_unit = number(Key::PerUnit, texts.text(Key::PerUnit))?;
+    if !matches!(per_unit, 1 | 10 | 100 | 1000) {
+        return None;
+    }
+    let is_fixed = texts.text(Key::Fixed).is_some();
+    let shapes = number(Key::Shapes, texts.text(Key::Shapes))? as u16;
+    let (width, height) = read_outline(texts.text(Key::Outline), per_unit)?;
+    Some(DesignWords {
+        input,
+        per_unit,
+        is_fixed,
+        shapes,
+        width,
+        height,
+    })
+}
+
+#[tactic(auto, unfolding(crate::specs::Numbers::least, crate::specs::Numbers::greatest))]
+fn read_weights<'a, T: OptionTexts<'a>>(texts: &T) -> Option<WeightWords>
+    ensures options { IfSome result (λ o. WeightsSay (T.texts texts.now) (weights_seen o)) }
+    ensures none { IfNone result ((o : WeightOptions) → WeightsSay (T.texts texts.now) o → ⊥) }
+{
+    let area = number(Key::AreaWeight, texts.text(Key::AreaWeight))? as u16;
+    let wire = number(Key::WireWeight, texts.text(Key::WireWeight))? as u16;
+    if area == 0 && wire == 0 {
+        return None;
+    }
+    Some(WeightWords { area, wire })
+}
+
+#[tactic(auto, unfolding(crate::specs::Numbers::least, crate::specs::Numbers::greatest))]
+fn read_plan<'a, T: OptionTexts<'a>>(texts: &T) -> Option<PlanWords<'a>>
+    ensures options { IfSome result (λ o. PlanSays (T.texts texts.now) (plan_seen o)) }
+    ensures none { IfNone result ((o : PlanOptions) → PlanSays (T.texts texts.now) o → ⊥) }
+{
+    Some(PlanWords {
+        design: read_design(texts)?,
+        weights: read_weights(texts)?,
+        cert: texts.text(Key::Cert)?,
+        pl_out: texts.text(Key::PlOut),
+        workers: number(Key::Workers, texts.text(Key::Workers))? as u16,
+        nodes: optional_number(Key::Nodes, texts.text(Key::Nodes))?,
+    })
+}
+
+fn read_check<'a, T: OptionTexts<'a>>(texts: &T) -> Option<CheckWords<'a>>
+    ensures options { IfSome result (λ o. CheckSays (T.texts texts.now) (check_seen o)) }
+    ensures none { IfNone result ((o : CheckOptions) → CheckSays (T.texts texts.now) o → ⊥) }
+{
+    Some(CheckWords {
+        design: read_design(texts)?,
+        weights: read_weights(texts)?,
+        cert: texts.text(Key::Cert)?,
+    })
+}
+
+fn read_measure<'a, T: OptionTexts<'a>>(texts: &T) -> Option<MeasureWords<'a>>
+    ensures options { IfSome result (λ o. MeasureSays (T.texts texts.now) (measure_seen o)) }
+    ensures none { IfNone result ((o : MeasureOptions) → MeasureSays (T.texts texts.now) o → ⊥) }
+{
+    Some(MeasureWords {
+        design: read_design(texts)?,
+        weights: read_weights(texts)?,
+        placed: texts.text(Key::Placed)?,
+    })
+}
+
+fn read_shape<'a, T: OptionTexts<'a>>(texts: &T) -> Option<ShapeWords<'a>>
+    ensures options { IfSome result (λ o. ShapeSays (T.texts texts.now) (shape_seen o)) }
+    ensures none { IfNone result ((o : ShapeOptions) → ShapeSays (T.texts texts.now) o → ⊥) }
+{
+    Some(ShapeWords {
+        design: read_design(texts)?,
+        expr: texts.text(Key::Expr)?,
+    })
+}
+
+// Which blocks a generated design has.
+fn read_kinds(text: Option<&str>) -> Option<Kinds>
+    ensures kinds { IfSome result (KindsSay (text_of text.entry)) }
+    ensures none { IfNone result ((kinds : Kinds) → KindsSay (text_of text.entry) kinds → ⊥) }
+{
+    match text {
+        None => Some(Kinds::Hard),
+        Some(text) => {
+            if text == "hard" {
+                Some(Kinds::Hard)
+            } else if text == "mixed" {
+                Some(Kinds::Mixed)
+            } else {
+                None
+            }
+        }
+    }
+}
+
+#[tactic(auto, unfolding(crate::specs::Numbers::least, crate::specs::Numbers::greatest))]
+fn read_gen<'a, T: OptionTexts<'a>>(texts: &T) -> Option<GenWords<'a>>
+    ensures options { IfSome result (λ o. GenSays (T.texts texts.now) (gen_seen o)) }
+    ensures none { IfNone result ((o : GenOptions) → GenSays (T.texts texts.now) o → ⊥) }
+{
+    Some(GenWords {
+        seed: number(Key::Seed, texts.text(Key::Seed))?,
+        count: number(Key::Count, texts.text(Key::Count))? as u16,
+        kinds: read_kinds(texts.text(Key::Kinds))?,
+        nodes: optional_number(Key::Nodes, texts.text(Key::Nodes))?,
+        out: texts.text(Key::Out)?,
+    })
+}
+
+/// Reads the options of this command.
+pub fn read_command<'a, T: OptionTexts<'a>>(mode: Mode, texts: &T) -> Option<CommandWords<'a>>
+    ensures command { IfSome result (λ c. (mode_of (command_seen c) ≡ mode) × Says (T.texts texts.now) (command_seen c)) }
+    ensures none { IfNone result ((c : Command) → mode_of c ≡ mode → Says (T.texts texts.now) c → ⊥) }
+{
+    match mode {
+        Mode::Plan => Some(CommandWords::Plan(read_plan(texts)?)),
+        Mode::Check => Some(CommandWords::Check(read_check(texts)?)),
+        Mode::Measure => Some(CommandWords::Measure(read_measure(texts)?)),
+        Mode::Shape => Some(CommandWords::Shape(read_shape(texts)?)),
+        Mode::Gen => Some(CommandWords::Gen(read_gen(texts)?)),
+    }
+}
+
+/// A list of words has at most one meaning.
+pub fn meaning_is_unique()
+    ensures { (words : List Text) (c d : Command) → Means words c → Means words d → c ≡ d }
+{}

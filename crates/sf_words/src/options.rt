@@ -1,0 +1,210 @@
+// The commands, their options, and how these are written.
+ghost use Rattle.std.specs.Prelude.{◌≡◌, ◌≢◌, ◌↔◌, IsTrue, IfSome, IfNone, Contains, All, MatchOption};
+ghost use Rattle.sf_words.specs.declared.options.Mode.{Mode};
+ghost use Rattle.sf_words.specs.declared.options.Key.{Key};
+ghost use Rattle.sf_words.specs.Table.{modes, mode_text, key_text, is_flag, keys_of};
+
+/// What the program is asked to do.
+#[derive(Clone, Copy, PartialEq, Eq)]
+pub enum Mode {
+    Plan,
+    Check,
+    Measure,
+    Shape,
+    Gen,
+}
+
+/// The name of an option.
+#[derive(Clone, Copy, PartialEq, Eq)]
+pub enum Key {
+    Format,
+    Blocks,
+    Nets,
+    Pl,
+    Yal,
+    PerUnit,
+    Fixed,
+    Shapes,
+    Outline,
+    AreaWeight,
+    WireWeight,
+    Cert,
+    PlOut,
+    Workers,
+    Nodes,
+    Placed,
+    Expr,
+    Seed,
+    Count,
+    Kinds,
+    Out,
+}
+
+impl Mode {
+    /// The commands that are built.
+    #[tactic(auto, unfolding(crate::specs::Table::modes))]
+    pub fn all() -> &'static [Mode]
+        ensures { result.now ≡ modes }
+    {
+        &[
+            Mode::Plan,
+            Mode::Check,
+            Mode::Measure,
+            Mode::Shape,
+            Mode::Gen,
+        ]
+    }
+
+    /// The word that names the command.
+    #[tactic(auto, unfolding(crate::specs::Table::mode_text))]
+    pub fn text(self) -> &'static str
+        ensures { result.now ≡ mode_text self }
+    {
+        match self {
+            Mode::Plan => "plan",
+            Mode::Check => "check",
+            Mode::Measure => "measure",
+            Mode::Shape => "shape",
+            Mode::Gen => "gen",
+        }
+    }
+
+    /// The options that the command takes.
+    #[tactic(auto, unfolding(crate::specs::Table::keys_of))]
+    pub fn keys(self) -> &'static [Key]
+        ensures { result.now ≡ keys_of self }
+    {
+        match self {
+            Mode::Plan => &[
+                Key::Format,
+                Key::Blocks,
+                Key::Nets,
+                Key::Pl,
+                Key::Yal,
+                Key::PerUnit,
+                Key::Fixed,
+                Key::Shapes,
+                Key::Outline,
+                Key::AreaWeight,
+                Key::WireWeight,
+                Key::Cert,
+                Key::PlOut,
+                Key::Workers,
+                Key::Nodes,
+            ],
+            Mode::Check => &[
+                Key::Format,
+                Key::Blocks,
+                Key::Nets,
+                Key::Pl,
+                Key::Yal,
+                Key::PerUnit,
+                Key::Fixed,
+                Key::Shapes,
+                Key::Outline,
+                Key::AreaWeight,
+                Key::WireWeight,
+                Key::Cert,
+            ],
+            Mode::Measure => &[
+                Key::Format,
+                Key::Blocks,
+                Key::Nets,
+                Key::Pl,
+                Key::Yal,
+                Key::PerUnit,
+                Key::Fixed,
+                Key::Shapes,
+                Key::Outline,
+                Key::AreaWeight,
+                Key::WireWeight,
+                Key::Placed,
+            ],
+            Mode::Shape => &[
+                Key::Format,
+                Key::Blocks,
+                Key::Nets,
+                Key::Pl,
+                Key::Yal,
+                Key::PerUnit,
+                Key::Fixed,
+                Key::Shapes,
+                Key::Outline,
+                Key::Expr,
+            ],
+            Mode::Gen => &[Key::Nodes, Key::Seed, Key::Count, Key::Kinds, Key::Out],
+        }
+    }
+}
+
+impl Key {
+    /// The option's name, without its hyphens.
+    #[tactic(auto, unfolding(crate::specs::Table::key_text))]
+    pub fn text(self) -> &'static str
+        ensures { result.now ≡ key_text self }
+    {
+        match self {
+            Key::Format => "format",
+            Key::Blocks => "blocks",
+            Key::Nets => "nets",
+            Key::Pl => "pl",
+            Key::Yal => "yal",
+            Key::PerUnit => "per-unit",
+            Key::Fixed => "fixed",
+            Key::Shapes => "shapes",
+            Key::Outline => "outline",
+            Key::AreaWeight => "area-weight",
+            Key::WireWeight => "wire-weight",
+            Key::Cert => "cert",
+            Key::PlOut => "pl-out",
+            Key::Workers => "workers",
+            Key::Nodes => "nodes",
+            Key::Placed => "placed",
+            Key::Expr => "expr",
+            Key::Seed => "seed",
+            Key::Count => "count",
+            Key::Kinds => "kinds",
+            Key::Out => "out",
+        }
+    }
+
+    /// Whether the option takes no value.
+    #[tactic(auto, unfolding(crate::specs::Table::is_flag))]
+    pub fn is_flag(self) -> bool
+        ensures { result ≡ is_flag self }
+    {
+        matches!(self, Key::Fixed)
+    }
+}
+
+fn is_word(word: &str, text: &str) -> bool
+    ensures { IsTrue result ↔ (word.now ≡ text.now) }
+{
+    word == text
+}
+
+/// The one of these options that has this name.
+pub fn find_key(keys: &[Key], name: &str) -> Option<Key>
+    ensures key { IfSome result (λ k. Contains keys.now k × (name.now ≡ key_text k)) }
+    ensures none { IfNone result ((k : Key) → Contains keys.now k → name.now ≢ key_text k) }
+{
+    for key in keys {
+        if is_word(name, key.text()) {
+            return Some(*key);
+        }
+    }
+    None
+}
+
+/// The command that this word names.
+pub fn find_mode(word: &str) -> Option<Mode>
+    ensures mode { IfSome result (λ m. Contains modes m × (word.now ≡ mode_text m)) }
+    ensures none { IfNone result ((m : Mode) → Contains modes m → word.now ≢ mode_text m) }
+{
+    for mode in Mode::all() {
+        if is_word(word, mode.text()) {
+            return Some(*mode);
+        }
+    }
+    None
+}
