@@ -144,19 +144,3 @@ fn meets(from: i64, side: u32, other_from: i64, other_side: u32) -> bool
 {
     from < other_from + i64::from(other_side) && other_from < from + i64::from(side)
 }
-
-#[cfg(test)]
-mod tests {
-    use super::*;
-    use crate::{size, spots};
-    use sf_model::{Block, BlockList, Name, NetList, PadList, Plan, Shapes, Weights};
-    use std::alloc::Global;
-    use std::test::Fail;
-
-    fn block(alloc: Global, name: &[u8], w: u32, h: u32) -> Result<Block, Fail> {
-        Ok(Block {
-            name: Name::new(alloc, b"b")?,
-            shapes: Shapes::from_vec(vec![in alloc; Shape { w, h }]?),
-        })
-    }
-}
