@@ -11,5 +11,5 @@ pub mod placing;
 pub mod verdict;
 
 pub use measure::size;
-pub use placing::spots;
+pub use placing::{spot_at, spots};
 pub use verdict::{Verdict, check_spots};
