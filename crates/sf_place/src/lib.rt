@@ -8,6 +8,8 @@
 
 pub mod measure;
 pub mod placing;
+#[cfg(test)]
+mod tests;
 pub mod verdict;
 
 pub use measure::size;
