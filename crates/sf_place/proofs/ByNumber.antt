@@ -52,11 +52,14 @@ blocks-map f is a zero = refl
 blocks-map f is a (suc n) = let h = is a in let t = blocks-map f is (a + 1) n in cc
 
 -- spots looked up by number stand by number
-pub numbered-by_number : (n : ℕ) (ss : List Spot) → IsByNumber n (by_number n ss)
-numbered-by_number n ss = blocks-map (λ b. spot_of b ss) (λ b. block-spot_of b ss) 0 n
+blocks-by_number : (n : ℕ) (ss : List Spot) → map (λ s. s.block) (by_number n ss) ≡ range_with_len 0 n
+blocks-by_number n ss = blocks-map (λ b. spot_of b ss) (λ b. block-spot_of b ss) 0 n
 
 length-by_number : (n : ℕ) (ss : List Spot) → length (by_number n ss) ≡ n
 length-by_number n ss = length-map-range_with_len (λ b. spot_of b ss) 0 n
+
+numbered-by_number : (n : ℕ) (ss : List Spot) → IsByNumber (by_number n ss)
+numbered-by_number n ss = blocks-by_number n ss ∙ ap (range_with_len 0) (sym (length-by_number n ss))
 
 pub get-by_number : (n : ℕ) (ss : List Spot) (k : ℕ) (d : Spot) → k < n → get_or (by_number n ss) k d ≡ spot_of k ss
 get-by_number n ss k d h = get_or-map-range_with_len (λ b. spot_of b ss) 0 n k k d h (omega arith)
@@ -72,10 +75,9 @@ count-past a (suc n) b (s ∷ ss) e h =
 -- each block has the same spot
 pub spot_of-by_number : (n : ℕ) (ss : List Spot) → ((b : ℕ) → n ≤ b → count b ss ≡ 0) → (b : ℕ) → spot_of b (by_number n ss) ≡ spot_of b ss
 spot_of-by_number n ss none b =
-    let is = numbered-by_number n ss in
     elim (cases_lt b n) [
-      inl h ↦ spot_of_numbered n (by_number n ss) b (spot_of b []) is (omega (arith, h, length-by_number n ss)) ∙ get-by_number n ss b (spot_of b []) h
-    | inr h ↦ spot_of-none b (by_number n ss) (count-past 0 n b (by_number n ss) is (omega arith)) ∙ sym (spot_of-none b ss (none b h)) ]
+      inl h ↦ spot_of_numbered (by_number n ss) b (spot_of b []) (numbered-by_number n ss) (omega (arith, h, length-by_number n ss)) ∙ get-by_number n ss b (spot_of b []) h
+    | inr h ↦ spot_of-none b (by_number n ss) (count-past 0 n b (by_number n ss) (blocks-by_number n ss) (omega arith)) ∙ sym (spot_of-none b ss (none b h)) ]
 
 -- the wire depends on the spot of each block alone
 module _ (design : Design) (xs ys : List Spot) (same : (b : ℕ) → spot_of b xs ≡ spot_of b ys) where
@@ -159,7 +161,7 @@ module _ (n : ℕ) (tree : Tree) (once : HasEachOnce n tree) where
   same_greatest : (end : Spot → ℕ) → ((b : ℕ) → end (spot_of b []) ≡ 0) → greatest end (by_number n (spots_of tree)) ≡ greatest end (spots_of tree)
   same_greatest end nowhere =
       greatest-same end nowhere (by_number n (spots_of tree)) (spots_of tree)
-        (count-few 0 n (by_number n (spots_of tree)) (numbered-by_number n (spots_of tree))) few plan-spot_of
+        (count-few 0 n (by_number n (spots_of tree)) (blocks-by_number n (spots_of tree))) few plan-spot_of
 
   plan-right : right_end (by_number n (spots_of tree)) ≡ width tree
   plan-right = right_end-greatest (by_number n (spots_of tree)) ∙ same_greatest (λ s. nat_abs (s.x +ℤ pos s.w)) (λ b. refl) ∙ sym (right_end-greatest (spots_of tree)) ∙ right_end-spots_of tree
@@ -193,6 +195,7 @@ wider a b w h p q s i =
 -- the spots of a floorplan that fits are a legal placement
 pub plan-legal : (design : Design) (tree : Tree) → IsLegal design tree → Fits design.outline tree → AreLegal design (by_number (block_count design) (spots_of tree))
 plan-legal design tree legal fits = record {
+    one_each = length-by_number (block_count design) (spots_of tree);
     by_number = numbered-by_number (block_count design) (spots_of tree);
     listed = by_number-all (block_count design) tree legal.blocks (IsListed design)
       (spots-each (λ b s. Contains (shapes_of design b) s) 0 0 tree (recursion_from_All (λ leaf. Contains (shapes_of design leaf.0) leaf.1) (leaves tree) legal.listed));

@@ -3,3 +3,4 @@ pub mod Writes
 pub mod Numbered
 pub mod Found
 pub mod ByNumber
+pub mod Legality

@@ -1,13 +1,13 @@
 -- The spots of blocks, listed by block number.
-use Rattle.std.specs.Prelude.{◌≡◌, ℕ, ◌<◌, List, [], ◌∷◌, map, slice_set, pos, neg_ℤ, ◌≤ℤ◌}
+use Rattle.std.specs.Prelude.{◌≡◌, ℕ, ◌<◌, List, [], ◌∷◌, length, map, slice_set, pos, neg_ℤ, ◌≤ℤ◌}
 use Rattle.std.specs.List.{range_with_len}
 use Rattle.sf_model.specs.declared.plan.Spot.{Spot}
 use Rattle.sf_model.specs.Tree.{Tree, Leaf, Beside, Above}
 use Rattle.sf_model.specs.Wire.{spot_of}
 
--- one spot for each of the blocks, in the order of their numbers
-abbrev pub IsByNumber : ℕ → List Spot → Type 0
-IsByNumber blocks spots = map (λ s. s.block) spots ≡ range_with_len 0 blocks
+-- the spots are those of blocks 0, 1 and so on, in this order
+abbrev pub IsByNumber : List Spot → Type 0
+IsByNumber spots = map (λ s. s.block) spots ≡ range_with_len 0 (length spots)
 
 -- the spots of blocks 0, 1 and so on, each looked up by its number
 abbrev pub by_number : ℕ → List Spot → List Spot

@@ -1,5 +1,5 @@
 -- When rectangles are a floorplan of a design, and the first fault of those that aren't.
-use Rattle.std.specs.Prelude.{ℕ, ◌<◌, List, length, All, AllPairs, Contains}
+use Rattle.std.specs.Prelude.{◌≡◌, ℕ, ◌<◌, List, length, All, AllPairs, Contains}
 use Rattle.sf_model.specs.declared.design.Design.{Design}
 use Rattle.sf_model.specs.declared.parts.Outline.{Outline}
 use Rattle.sf_model.specs.declared.plan.Spot.{Spot}
@@ -19,7 +19,8 @@ LiesIn outline s = IsInside outline.w outline.h s
 
 -- one spot for each block, by number, of a listed size, in the outline, and no two overlap
 pub record AreLegal (design : Design) (spots : List Spot) : Type 0 where
-  pub by_number : IsByNumber (block_count design) spots
+  pub one_each : length spots ≡ block_count design
+  pub by_number : IsByNumber spots
   pub listed : All (IsListed design) spots
   pub inside : All (LiesIn design.outline) spots
   pub apart : AllPairs (λ s t. ¬ (Overlaps s t)) spots

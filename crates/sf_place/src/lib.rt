@@ -8,8 +8,10 @@
 
 pub mod measure;
 pub mod placing;
+#[cfg(test)]
+mod tests;
 pub mod verdict;
 
 pub use measure::size;
-pub use placing::spots;
+pub use placing::{spot_at, spots};
 pub use verdict::{Verdict, check_spots};

@@ -29,7 +29,7 @@ pub fn spots(alloc: Global, plan: &Plan, blocks: u16) -> Result<Vec<Spot>, NoMem
 
 /// The spot of a block, in a list that has one for each block, by number.
 pub fn spot_at(spots: &[Spot], block: usize) -> Spot
-    requires by_number { IsByNumber (length spots.now) spots.now }
+    requires by_number { IsByNumber spots.now }
     requires in_range { block < length spots.now }
     ensures spot { result ≡ spot_of block spots.now }
     ensures block { result.block ≡ block }

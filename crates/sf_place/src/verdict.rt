@@ -17,9 +17,9 @@ pub enum Verdict {
 }
 
 /// Judges a placement. Rectangles that share no more than edges don't overlap.
-#[tactic(auto, using(crate::proofs::Numbered::by_own_length))]
 pub fn check_spots(design: &Design, spots: &[Spot]) -> Verdict
-    requires by_number { IsByNumber (block_count design.now) spots.now }
+    requires one_each { length spots.now ≡ block_count design.now }
+    requires by_number { IsByNumber spots.now }
     requires near { All HasNearCorner spots.now }
     ensures verdict { IsVerdict design.now spots.now result }
     ensures legal { AreLegal design.now spots.now → result ≡ Verdict.Legal }
@@ -37,9 +37,10 @@ pub fn check_spots(design: &Design, spots: &[Spot]) -> Verdict
 }
 
 /// The first block whose size isn't in its list.
-#[tactic(auto, using(crate::proofs::Numbered::by_own_length, crate::proofs::Numbered::all_by_number))]
+#[tactic(auto, using(crate::proofs::Numbered::all_by_number))]
 fn first_unlisted(design: &Design, spots: &[Spot]) -> Option<u16>
-    requires { IsByNumber (block_count design.now) spots.now }
+    requires one_each { length spots.now ≡ block_count design.now }
+    requires by_number { IsByNumber spots.now }
     ensures { MatchOption result (All (IsListed design.now) spots.now) (IsFirstWithout (IsListed design.now) spots.now) }
 {
     for block in 0..spots.len() {
@@ -65,7 +66,7 @@ fn is_listed(design: &Design, spot: Spot) -> bool
 /// The first block that isn't in the outline.
 #[tactic(auto, using(crate::proofs::Numbered::all_by_number))]
 fn first_outside(outline: Outline, spots: &[Spot]) -> Option<u16>
-    requires by_number { IsByNumber (length spots.now) spots.now }
+    requires by_number { IsByNumber spots.now }
     requires near { All HasNearCorner spots.now }
     ensures { MatchOption result (All (LiesIn outline) spots.now) (IsFirstWithout (LiesIn outline) spots.now) }
 {
@@ -97,7 +98,7 @@ fn lies_between(from: i64, side: u32, end: u32) -> bool
 /// The first two blocks whose spots overlap.
 #[tactic(auto, using(crate::proofs::Numbered::apart_by_number))]
 fn first_overlap(spots: &[Spot]) -> Option<(u16, u16)>
-    requires by_number { IsByNumber (length spots.now) spots.now }
+    requires by_number { IsByNumber spots.now }
     requires near { All HasNearCorner spots.now }
     ensures { MatchOption result (AllPairs (λ s t. ¬ (Overlaps s t)) spots.now) (λ p. IsLeastPair spots.now p.0 p.1) }
 {
@@ -111,7 +112,7 @@ fn first_overlap(spots: &[Spot]) -> Option<(u16, u16)>
 
 /// The first block after this one whose spot overlaps its spot.
 fn first_over(spots: &[Spot], block: usize) -> Option<u16>
-    requires by_number { IsByNumber (length spots.now) spots.now }
+    requires by_number { IsByNumber spots.now }
     requires near { All HasNearCorner spots.now }
     requires in_range { block < length spots.now }
     ensures { MatchOption result (IsOverNone spots.now block) (IsFirstOver spots.now block) }
@@ -143,20 +144,4 @@ fn meets(from: i64, side: u32, other_from: i64, other_side: u32) -> bool
     ensures { IsTrue result ↔ (from <ℤ (other_from +ℤ pos other_side)) × (other_from <ℤ (from +ℤ pos side)) }
 {
     from < other_from + i64::from(other_side) && other_from < from + i64::from(side)
-}
-
-#[cfg(test)]
-mod tests {
-    use super::*;
-    use crate::{size, spots};
-    use sf_model::{Block, BlockList, Name, NetList, PadList, Plan, Shapes, Weights};
-    use std::alloc::Global;
-    use std::test::Fail;
-
-    fn block(alloc: Global, name: &[u8], w: u32, h: u32) -> Result<Block, Fail> {
-        Ok(Block {
-            name: Name::new(alloc, b"b")?,
-            shapes: Shapes::from_vec(vec![in alloc; Shape { w, h }]?),
-        })
-    }
 }

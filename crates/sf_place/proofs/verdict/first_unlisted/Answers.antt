@@ -1,12 +1,11 @@
 use Rattle.std.proofs.Common.{◌<◌, arith, length, subst}
 use borrow.Author.Count.{below_more}
-use Rattle.sf_model.specs.Legal.{block_count}
 use Rattle.sf_place.specs.Verdict.{IsListed}
-use Rattle.sf_place.proofs.Numbered.{all_by_number, by_own_length, length_by_number}
+use Rattle.sf_place.proofs.Numbered.{all_by_number}
 use Rattle.sf_place.proofs.verdict.first_unlisted.Goals as goal
 
 pub is_listed-requires : goal.is_listed-requires
-is_listed-requires c = omega (arith, c.spot_at-spot.ensures.block, length_by_number (block_count c.args.design.now) c.args.spots.now c.requires)
+is_listed-requires c = omega (arith, c.spot_at-spot.ensures.block)
 
 pub loop-block-preserved : goal.loop-block-preserved
 loop-block-preserved c =
@@ -14,5 +13,5 @@ loop-block-preserved c =
 
 pub returns : goal.returns
 returns c =
-    all_by_number (IsListed c.args.design.now) c.args.spots.now (by_own_length (block_count c.args.design.now) c.args.spots.now c.requires)
+    all_by_number (IsListed c.args.design.now) c.args.spots.now c.requires.by_number
       (λ a h. c.loop-block.invariant a (omega arith))

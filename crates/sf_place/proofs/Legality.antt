@@ -1,0 +1,23 @@
+-- A legal placement has no fault.
+use Rattle.std.proofs.Common.{◌≡◌, ℕ, ◌<◌, List, [], length, get_or, All, AllPairs, subst, sym, arith}
+use Rattle.sf_model.specs.declared.plan.Spot.{Spot}
+use Rattle.sf_model.specs.Tree.{Overlaps}
+use Rattle.sf_model.specs.Wire.{spot_of}
+use Rattle.sf_place.specs.Spots.{IsByNumber}
+use Rattle.sf_place.specs.Verdict.{IsFirstWithout, IsLeastPair}
+use Rattle.sf_place.proofs.Numbered.{spot_of_numbered}
+
+pub none_without : (P : Spot → Type 0) (spots : List Spot) (b : ℕ) → IsByNumber spots → All P spots → ¬ (IsFirstWithout P spots b)
+none_without P spots b e a f =
+    let d = spot_of b [] in f.without (subst P (sym (spot_of_numbered spots b d e f.in_range)) (a b d f.in_range))
+
+pub none_over : (spots : List Spot) (a b : ℕ) → IsByNumber spots → AllPairs (λ s t. ¬ (Overlaps s t)) spots → ¬ (IsLeastPair spots a b)
+none_over spots a b e apart least =
+    let f = least.pair in
+    let d = spot_of a [] in
+    let R : Spot → Spot → Type 0 = λ s t. ¬ (Overlaps s t) in
+    let a_low : a < length spots = omega (arith, f.in_order, f.in_range) in
+    let none : R (spot_of a spots) (spot_of b spots) =
+      subst (λ v. R v (spot_of b spots)) (sym (spot_of_numbered spots a d e a_low))
+        (subst (R (get_or spots a d)) (sym (spot_of_numbered spots b d e f.in_range)) (apart a b d f.in_order f.in_range)) in
+    none f.overlap

@@ -1,0 +1,4 @@
+pub mod Folds
+pub mod Ends
+pub mod Pinned
+pub mod Products

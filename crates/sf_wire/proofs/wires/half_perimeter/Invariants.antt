@@ -1,0 +1,18 @@
+use Rattle.std.proofs.Common.{◌≡◌, map, take, ℤ}
+use Rattle.std.specs.Prelude.{fold}
+use Rattle.std.specs.Int.{int_max, int_min}
+use Rattle.sf_model.specs.Wire.{pin_x, pin_y}
+use Rattle.sf_wire.specs.Near.{IsNear}
+use Rattle.sf_wire.proofs.wires.half_perimeter.Given as goal
+
+abbrev pub invariant-loop-pin : goal.invariant-loop-pin
+invariant-loop-pin l = record {
+  left : l.across.least ≡ fold int_min l.x (map (pin_x l.design l.spots) (take l.pin-index l.others));
+  right : l.across.greatest ≡ fold int_max l.x (map (pin_x l.design l.spots) (take l.pin-index l.others));
+  lower : l.upward.least ≡ fold int_min l.y (map (pin_y l.design l.spots) (take l.pin-index l.others));
+  upper : l.upward.greatest ≡ fold int_max l.y (map (pin_y l.design l.spots) (take l.pin-index l.others));
+  near_left : IsNear l.across.least;
+  near_right : IsNear l.across.greatest;
+  near_lower : IsNear l.upward.least;
+  near_upper : IsNear l.upward.greatest
+}

@@ -1,0 +1,49 @@
+ghost use Rattle.std.specs.Prelude.{◌≡◌, ◌<◌, ◌≤◌, ◌^◌, IfOk, All};
+ghost use Rattle.sf_model.specs.Tree.{tree_of};
+ghost use Rattle.sf_model.specs.Legal.{IsLegal, Fits};
+ghost use Rattle.sf_model.specs.Cost.{right_end, upper_end, cost, spots_cost};
+ghost use Rattle.sf_place.specs.Spots.{HasNearCorner};
+ghost use Rattle.sf_place.specs.Verdict.{AreLegal};
+
+use crate::wires::wire;
+use sf_model::{Design, Plan, Spot};
+use std::alloc::{AllocError as NoMemory, Global};
+
+/// The weighed area and wire length of a plan.
+pub fn cost(alloc: Global, design: &Design, plan: &Plan) -> Result<u64, NoMemory>
+    requires legal { IsLegal design.now (tree_of plan.now) }
+    requires fits { Fits design.now.outline (tree_of plan.now) }
+    ensures cost { IfOk result (λ c. c ≡ cost design.now (tree_of plan.now)) }
+    ensures bounded { IfOk result (λ c. c < 2 ^ 57) }
+{
+    let blocks = design.blocks.as_slice().len() as u16;
+    let spots = sf_place::spots(alloc, plan, blocks)?;
+    Ok(spots_cost(design, &spots))
+}
+
+/// The weighed area and wire length of a placement.
+pub fn spots_cost(design: &Design, spots: &[Spot]) -> u64
+    requires { AreLegal design.now spots.now }
+    ensures cost { result ≡ spots_cost design.now spots.now }
+    ensures bounded { result < 2 ^ 57 }
+{
+    let (width, height) = spots_size(spots);
+    let area = u64::from(design.weights.area) * (width * height);
+    area + u64::from(design.weights.wire) * wire(design, spots)
+}
+
+/// The greatest right and upper ends of rectangles, in scaled whole units.
+#[tactic(auto, using(crate::proofs::Ends::right_end_more, crate::proofs::Ends::upper_end_more))]
+pub fn spots_size(spots: &[Spot]) -> (u64, u64)
+    requires { All HasNearCorner spots.now }
+    ensures right { result.0 ≡ right_end spots.now }
+    ensures upper { result.1 ≡ upper_end spots.now }
+{
+    let mut right = 0;
+    let mut upper = 0;
+    for spot in spots {
+        right = (spot.x + i64::from(spot.w)).unsigned_abs().max(right);
+        upper = (spot.y + i64::from(spot.h)).unsigned_abs().max(upper);
+    }
+    (right, upper)
+}
