@@ -2,12 +2,15 @@
 #![tactic(auto)]
 
 pub mod expr;
+pub mod fault;
+mod piece;
 pub mod shape_of_tokens;
 pub mod skew;
 pub mod spell;
 pub mod write;
 
 pub use expr::{Expr, Token, Tokens};
+pub use fault::ExprFault;
 pub use shape_of_tokens::is_normal;
 pub use skew::normalise;
 pub use spell::plan_of;
