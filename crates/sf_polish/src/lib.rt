@@ -4,6 +4,7 @@
 pub mod expr;
 pub mod fault;
 mod piece;
+mod reading;
 pub mod shape_of_tokens;
 pub mod skew;
 pub mod spell;
