@@ -1,7 +1,6 @@
 -- What a text is read as: the tokens or the expression that it spells, or its first fault.
 use Rattle.std.specs.Prelude.{◌≡◌, ℕ, ◌+◌, Bool, not, ◌==◌, nat_le, List, [], ◌∷◌, ◌++◌, Option, Some, None, Result, Ok, Err, if◌then◌else◌, slice_set, replicate}
 use Rattle.std.specs.List.{list_any, list_all, range_with_len}
-use Rattle.std.specs.Option.{option_map}
 use Rattle.sf_lex.specs.Scan.{LineWord, line_words, last_line_of}
 use Rattle.sf_model.specs.declared.parts.Shape.{Shape}
 use Rattle.sf_polish.specs.declared.expr.Expr.{Expr}
@@ -12,7 +11,7 @@ use Rattle.sf_polish.specs.declared.fault.ExprFault.TheVariants.{BadToken, NotBa
 use Rattle.sf_polish.specs.declared.piece.Piece.{Piece}
 use Rattle.sf_polish.specs.declared.piece.Piece.TheVariants as piece
 use Rattle.sf_polish.specs.Normal.{is_block, operands, operators, ends_in}
-use Rattle.sf_polish.specs.Word.{token_of, token_in, piece_in}
+use Rattle.sf_polish.specs.Word.{token_in, shaped_token_in, piece_in}
 
 abbrev pub is_named : ℕ → List Token → Bool
 is_named b tokens = list_any (is_block b) tokens
@@ -73,7 +72,7 @@ abbrev pub expr_of_parts : List Shape → List Token → Result Expr ExprFault
 expr_of_parts shapes tokens = Ok (record { tokens = tokens; shapes = shapes })
 
 abbrev pub expr_read : ℕ → List ℕ → Result Expr ExprFault
-expr_read blocks text = tokens_from blocks (last_line_of text) (λ word. option_map token_of (piece_in blocks word)) [] (line_words text)
+expr_read blocks text = tokens_from blocks (last_line_of text) (shaped_token_in blocks) [] (line_words text)
     >>= expr_of_parts (shapes_from blocks (replicate blocks no_shape) (line_words text))
 
 -- ---- what a function returned

@@ -64,3 +64,7 @@ unfoldable pub piece_in : ℕ → List ℕ → Option Piece
 piece_in blocks word = if is_byte 42 word then Some Beside
     else if is_byte 43 word then Some Above
     else block_of_parts (block_in blocks (before_first is_colon word)) (shape_in (after_first is_colon word))
+
+-- its token, without the shape
+abbrev pub shaped_token_in : ℕ → List ℕ → Option Token
+shaped_token_in blocks word = option_map token_of (piece_in blocks word)

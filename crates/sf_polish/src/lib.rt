@@ -4,6 +4,7 @@
 pub mod expr;
 pub mod fault;
 mod piece;
+pub mod read;
 mod reading;
 pub mod shape_of_tokens;
 pub mod skew;
@@ -12,6 +13,7 @@ pub mod write;
 
 pub use expr::{Expr, Token, Tokens};
 pub use fault::ExprFault;
+pub use read::{read_expr, read_tokens};
 pub use shape_of_tokens::is_normal;
 pub use skew::normalise;
 pub use spell::plan_of;

@@ -1,7 +1,9 @@
 //! What a word of an expression text spells.
 
-ghost use Rattle.std.specs.Prelude.{◌≡◌, ◌≤◌, ◌==◌, length};
+ghost use Rattle.std.specs.Prelude.{◌≡◌, ◌<◌, ◌≤◌, ◌==◌, length, IfSome, IsFalse};
 ghost use Rattle.std.specs.List.{position_or_len, before_first, after_first};
+ghost use Rattle.std.specs.Option.{option_map};
+ghost use Rattle.sf_polish.specs.Normal.{is_outside};
 ghost use Rattle.sf_polish.specs.Word.{token_of, is_byte, block_in, side_in, shape_in, token_in, piece_in};
 
 use crate::expr::Token;
@@ -19,13 +21,15 @@ pub enum Piece {
 /// The greatest side of a shape.
 const MAX_SIDE: u64 = 1_048_576;
 
-pub fn token_of(piece: Piece) -> Token
-    ensures { result ≡ token_of piece }
+/// The token of a piece, without the shape.
+pub fn token_of(piece: Option<Piece>) -> Option<Token>
+    ensures { result ≡ option_map token_of piece }
 {
     match piece {
-        Piece::Beside => Token::Beside,
-        Piece::Above => Token::Above,
-        Piece::Block(block, _) => Token::Block(block),
+        None => None,
+        Some(Piece::Beside) => Some(Token::Beside),
+        Some(Piece::Above) => Some(Token::Above),
+        Some(Piece::Block(block, _)) => Some(Token::Block(block)),
     }
 }
 
@@ -39,7 +43,8 @@ fn is_byte(word: &[u8], byte: u8) -> bool
 }
 
 fn read_block(word: &[u8], blocks: u16) -> Option<u16>
-    ensures { result ≡ block_in blocks word.now }
+    ensures value { result ≡ block_in blocks word.now }
+    ensures below { IfSome result (λ b. b < blocks) }
 {
     match read_plain(word, u64::from(blocks)) {
         Some(block) if block < u64::from(blocks) => Some(block as u16),
@@ -88,7 +93,8 @@ fn read_shape(word: &[u8]) -> Option<Shape>
 /// A word of a token text: `*`, `+` or the number of a block.
 #[tactic(auto, unfolding(crate::specs::Word::token_in))]
 pub fn read_token(word: &[u8], blocks: u16) -> Option<Token>
-    ensures { result ≡ token_in blocks word.now }
+    ensures value { result ≡ token_in blocks word.now }
+    ensures inside { IfSome result (λ t. IsFalse (is_outside blocks t)) }
 {
     if is_byte(word, b'*') {
         return Some(Token::Beside);
@@ -103,7 +109,8 @@ pub fn read_token(word: &[u8], blocks: u16) -> Option<Token>
 /// A word of an expression text: `*`, `+`, or `i:wxh` for a block and its shape.
 #[tactic(auto, unfolding(crate::specs::Word::piece_in))]
 pub fn read_piece(word: &[u8], blocks: u16) -> Option<Piece>
-    ensures { result ≡ piece_in blocks word.now }
+    ensures value { result ≡ piece_in blocks word.now }
+    ensures inside { IfSome result (λ p. IsFalse (is_outside blocks (token_of p))) }
 {
     if is_byte(word, b'*') {
         return Some(Piece::Beside);

@@ -60,7 +60,7 @@ impl Reading {
         ensures token { OnOk result ((t : Token) × (token_after self.old.tokens.items line spelled ≡ Ok t)
             × (self.new.tokens.items ≡ self.old.tokens.items ++ t ∷ [])) }
         ensures fault { IfErr result (λ e. Fails e (token_after self.old.tokens.items line spelled)) }
-        ensures blocks { length self.new.named.items ≡ length self.old.named.items }
+        ensures same_blocks { length self.new.named.items ≡ length self.old.named.items }
     {
         match spelled {
             None => Err(ExprFault::BadToken(line)),
@@ -75,7 +75,7 @@ impl Reading {
         ensures token { OnOk result ((token_after self.old.tokens.items line (Some (Block block)) ≡ Ok (Block block))
             × (self.new.tokens.items ≡ self.old.tokens.items ++ Block block ∷ [])) }
         ensures fault { IfErr result (λ e. Fails e (token_after self.old.tokens.items line (Some (Block block)))) }
-        ensures blocks { length self.new.named.items ≡ length self.old.named.items }
+        ensures same_blocks { length self.new.named.items ≡ length self.old.named.items }
     {
         if self.named[block as usize] {
             return Err(ExprFault::RepeatedBlock(line));
@@ -91,7 +91,7 @@ impl Reading {
         ensures token { OnOk result ((operator_after self.old.tokens.items line operator ≡ Ok operator)
             × (self.new.tokens.items ≡ self.old.tokens.items ++ operator ∷ [])) }
         ensures fault { IfErr result (λ e. Fails e (operator_after self.old.tokens.items line operator)) }
-        ensures blocks { length self.new.named.items ≡ length self.old.named.items }
+        ensures same_blocks { length self.new.named.items ≡ length self.old.named.items }
     {
         if self.depth < 2 {
             return Err(ExprFault::NotBallot(line));
