@@ -10,8 +10,9 @@ use Rattle.sf_polish.specs.declared.fault.ExprFault.{ExprFault}
 use Rattle.sf_polish.specs.declared.fault.ExprFault.TheVariants.{BadToken, NotBallot, NotNormal, RepeatedBlock, MissingBlock, NoMemory}
 use Rattle.sf_polish.specs.declared.piece.Piece.{Piece}
 use Rattle.sf_polish.specs.declared.piece.Piece.TheVariants as pieces
+use Rattle.sf_polish.specs.Shaping.{no_shape}
 use Rattle.sf_polish.specs.Word.{shaped_token_in, piece_in}
-use Rattle.sf_polish.specs.Reading.{token_after, ended, tokens_from, shapes_with, shapes_from, no_shape, expr_of_parts, expr_read, Fails, ◌>>=◌}
+use Rattle.sf_polish.specs.Reading.{token_after, ended, tokens_from, shapes_with, shapes_from, expr_of_parts, expr_read, Fails, ◌>>=◌}
 
 -- a fault of the first reading is that of both
 pub fails-through : {A B : Type 0} (e : ExprFault) (r : Result A ExprFault) (f : A → Result B ExprFault) → Fails e r → Fails e (r >>= f)

@@ -11,6 +11,7 @@ use Rattle.sf_polish.specs.declared.fault.ExprFault.TheVariants.{BadToken, NotBa
 use Rattle.sf_polish.specs.declared.piece.Piece.{Piece}
 use Rattle.sf_polish.specs.declared.piece.Piece.TheVariants as piece
 use Rattle.sf_polish.specs.Normal.{is_block, operands, operators, ends_in}
+use Rattle.sf_polish.specs.Shaping.{no_shape}
 use Rattle.sf_polish.specs.Word.{token_in, shaped_token_in, piece_in}
 
 abbrev pub is_named : ℕ → List Token → Bool
@@ -58,10 +59,6 @@ shapes_with shapes (Some (piece.Block b s)) = slice_set shapes b s
 unfoldable pub shapes_from : ℕ → List Shape → List LineWord → List Shape
 shapes_from blocks shapes [] = shapes
 shapes_from blocks shapes (word ∷ more) = shapes_from blocks (shapes_with shapes (piece_in blocks word.text)) more
-
--- no shape yet
-abbrev pub no_shape : Shape
-no_shape = record { w = 0; h = 0 }
 
 -- ---- the two texts
 

@@ -4,6 +4,7 @@
 pub mod expr;
 pub mod fault;
 mod piece;
+mod postfix;
 pub mod read;
 mod reading;
 pub mod shape_of_tokens;
@@ -13,6 +14,7 @@ pub mod write;
 
 pub use expr::{Expr, Token, Tokens};
 pub use fault::ExprFault;
+pub use postfix::expr_of;
 pub use read::{read_expr, read_tokens};
 pub use shape_of_tokens::is_normal;
 pub use skew::normalise;

@@ -1,19 +1,20 @@
 //! Expressions read from their texts.
 
-ghost use Rattle.std.specs.Prelude.{◌≡◌, ◌≤◌, Ok, length, map, replicate, IfOk, IfErr, IfSome, IsFalse};
+ghost use Rattle.std.specs.Prelude.{◌≡◌, ◌≤◌, Ok, length, IfOk, IfErr, IfSome, IsFalse};
 ghost use Rattle.sf_polish.specs.Normal.{is_outside};
-ghost use Rattle.sf_polish.specs.Reading.{no_shape, tokens_read, expr_read, shapes_with, Fails};
+ghost use Rattle.sf_polish.specs.Reading.{tokens_read, expr_read, shapes_with, Fails};
 ghost use Rattle.sf_polish.specs.Text.{SpellsTokens, SpellsExpr};
 ghost use Rattle.sf_polish.specs.Word.{token_of};
 
 use crate::expr::{Expr, Token, Tokens};
 use crate::fault::ExprFault;
 use crate::piece::{Piece, read_piece, read_token, token_of};
+use crate::postfix::without_shapes;
 use crate::reading::Reading;
 use sf_lex::Scan;
 use sf_model::lists::Shapes;
 use sf_model::parts::Shape;
-use std::alloc::{AllocError as NoMemory, Global};
+use std::alloc::Global;
 
 /// The tokens of a text of block numbers, `*` and `+`, between blanks. Block numbers are below `blocks`.
 pub fn read_tokens(alloc: Global, text: &[u8], blocks: u16) -> Result<Vec<Token>, ExprFault>
@@ -47,13 +48,6 @@ pub fn read_expr(alloc: Global, text: &[u8], blocks: u16) -> Result<Expr, ExprFa
         tokens: Tokens::from_vec(tokens),
         shapes: Shapes::from_vec(shapes),
     })
-}
-
-/// A place for the shape of each block.
-fn without_shapes(alloc: Global, blocks: u16) -> Result<Vec<Shape>, NoMemory>
-    ensures { IfOk result (λ shapes. shapes.items ≡ replicate blocks no_shape) }
-{
-    vec![in alloc; Shape { w: 0, h: 0 }; blocks as usize]
 }
 
 fn keep_shape(shapes: &mut Vec<Shape>, piece: Option<Piece>)
