@@ -4,7 +4,7 @@ use Rattle.std.specs.List.{join_with_byte}
 use Rattle.std.proofs.lemmas.List.{take_more, map-append, length-map, length-take}
 use Rattle.sf_model.specs.declared.parts.Shape.{Shape}
 use Rattle.sf_polish.specs.declared.expr.Token.{Token}
-use Rattle.sf_polish.specs.Text.{token_text}
+use Rattle.sf_polish.specs.Text.{shaped_text}
 
 -- one word more, behind a space
 pub joined-push : (words : List (List ℕ)) (word : List ℕ) → 0 < length words → join_with_byte 32 (words ++ word ∷ []) ≡ join_with_byte 32 words ++ (32 ∷ word)
@@ -15,22 +15,22 @@ joined-push (x ∷ y ∷ words) word h =
 
 -- the text of the first tokens
 abbrev pub text_of : List Shape → List Token → List ℕ
-text_of shapes tokens = join_with_byte 32 (map (token_text shapes) tokens)
+text_of shapes tokens = join_with_byte 32 (map (shaped_text shapes) tokens)
 
 module _ (shapes : List Shape) (tokens : List Token) (i : ℕ) (t : Token) (h : i < length tokens) (old text : List ℕ) (e : text ≡ old ++ text_of shapes (take i tokens)) where
-  words-more : map (token_text shapes) (take (i + 1) tokens) ≡ map (token_text shapes) (take i tokens) ++ token_text shapes (get_or tokens i t) ∷ []
-  words-more = ap (map (token_text shapes)) (take_more tokens i t h) ∙ map-append (token_text shapes) (take i tokens) (get_or tokens i t ∷ [])
+  words-more : map (shaped_text shapes) (take (i + 1) tokens) ≡ map (shaped_text shapes) (take i tokens) ++ shaped_text shapes (get_or tokens i t) ∷ []
+  words-more = ap (map (shaped_text shapes)) (take_more tokens i t h) ∙ map-append (shaped_text shapes) (take i tokens) (get_or tokens i t ∷ [])
 
-  pub text-first : (front : List ℕ) → i ≡ 0 → front ≡ text → front ++ token_text shapes (get_or tokens i t) ≡ old ++ text_of shapes (take (i + 1) tokens)
+  pub text-first : (front : List ℕ) → i ≡ 0 → front ≡ text → front ++ shaped_text shapes (get_or tokens i t) ≡ old ++ text_of shapes (take (i + 1) tokens)
   text-first front z same =
       let none : take i tokens ≡ [] = ap (λ n. take n tokens) z in
-      ap (λ x. x ++ token_text shapes (get_or tokens i t)) (same ∙ e ∙ ap (λ x. old ++ text_of shapes x) none ∙ append-nil old)
-      ∙ ap (λ x. old ++ x) (sym (ap (join_with_byte 32) words-more ∙ ap (λ x. join_with_byte 32 (map (token_text shapes) x ++ token_text shapes (get_or tokens i t) ∷ [])) none))
+      ap (λ x. x ++ shaped_text shapes (get_or tokens i t)) (same ∙ e ∙ ap (λ x. old ++ text_of shapes x) none ∙ append-nil old)
+      ∙ ap (λ x. old ++ x) (sym (ap (join_with_byte 32) words-more ∙ ap (λ x. join_with_byte 32 (map (shaped_text shapes) x ++ shaped_text shapes (get_or tokens i t) ∷ [])) none))
 
-  pub text-next : (front : List ℕ) → 0 < i → front ≡ text ++ 32 ∷ [] → front ++ token_text shapes (get_or tokens i t) ≡ old ++ text_of shapes (take (i + 1) tokens)
+  pub text-next : (front : List ℕ) → 0 < i → front ≡ text ++ 32 ∷ [] → front ++ shaped_text shapes (get_or tokens i t) ≡ old ++ text_of shapes (take (i + 1) tokens)
   text-next front some spaced =
-      let words = map (token_text shapes) (take i tokens) in
-      let word = token_text shapes (get_or tokens i t) in
+      let words = map (shaped_text shapes) (take i tokens) in
+      let word = shaped_text shapes (get_or tokens i t) in
       ap (λ x. x ++ word) spaced
       ∙ append_assoc text (32 ∷ []) word
       ∙ ap (λ x. x ++ (32 ∷ word)) e

@@ -54,7 +54,7 @@ fn is_operand(token: Token) -> bool
     matches!(token, Token::Block(_))
 }
 
-fn same_operator(first: Token, second: Token) -> bool
+pub(crate) fn same_operator(first: Token, second: Token) -> bool
     ensures { result ≡ same_operator first second }
 {
     match (first, second) {

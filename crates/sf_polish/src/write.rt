@@ -3,7 +3,7 @@
 ghost use Rattle.std.specs.Prelude.{◌≡◌, ◌++◌, ◌∷◌, length, IfOk, OnOk, IsFalse, string_bytes};
 ghost use Rattle.sf_polish.specs.Normal.{is_outside, IsNormal};
 ghost use Rattle.std.specs.Fmt.{decimal};
-ghost use Rattle.sf_polish.specs.Text.{shape_text, token_text, expr_text};
+ghost use Rattle.sf_polish.specs.Text.{shape_text, shaped_text, expr_text};
 
 use crate::expr::{Expr, Token};
 use sf_model::parts::Shape;
@@ -37,7 +37,7 @@ pub fn push_expr(text: &mut String, expr: &Expr) -> Result<(), NoMemory>
 
 fn push_token(text: &mut String, token: Token, shapes: &[Shape]) -> Result<(), NoMemory>
     requires { IsFalse (is_outside (length shapes.now) token) }
-    ensures { OnOk result (string_bytes text.new ≡ string_bytes text.old ++ token_text shapes.now token) }
+    ensures { OnOk result (string_bytes text.new ≡ string_bytes text.old ++ shaped_text shapes.now token) }
 {
     match token {
         Token::Beside => text.push('*'),

@@ -1,0 +1,19 @@
+-- The last token by its place.
+use Rattle.std.proofs.Common.{◌≡◌, ℕ, suc, ◌-◌, ◌<◌, List, [], ◌∷◌, ◌++◌, length, get_or, arith, refl, ap, ◌∙◌, sym}
+use Rattle.sf_polish.specs.declared.expr.Token.{Token}
+use Rattle.sf_polish.specs.Normal.{last_or}
+
+last_or-some : (p x d : Token) (xs : List Token) → last_or p (x ∷ xs) ≡ get_or (x ∷ xs) (length xs) d
+last_or-some p x d [] = refl
+last_or-some p x d (y ∷ ys) = last_or-some x y d ys
+
+pub last_or_place : (p d : Token) (xs : List Token) (n : ℕ) → 0 < length xs → n ≡ length xs - 1 → last_or p xs ≡ get_or xs n d
+last_or_place p d [] n h e = absurd (omega arith)
+last_or_place p d (x ∷ xs) n h e =
+    let i : length xs ≡ n = omega arith in
+    last_or-some p x d xs ∙ ap (λ k. get_or (x ∷ xs) k d) i
+
+-- a token behind others is the last
+pub last_or-push : (p t : Token) (xs : List Token) → last_or p (xs ++ t ∷ []) ≡ t
+last_or-push p t [] = refl
+last_or-push p t (x ∷ xs) = last_or-push x t xs

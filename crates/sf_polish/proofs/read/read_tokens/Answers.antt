@@ -1,0 +1,45 @@
+use Rattle.std.proofs.Common.{◌≡◌, length, ap, sym, subst, ◌∙◌, Ok}
+use Rattle.std.proofs.lemmas.Result.{err_from_is_err_and, IfOk-weaker, IfErr-weaker}
+use Rattle.sf_lex.specs.Scan.{line_words, last_line_of, numbered_words}
+use Rattle.sf_polish.specs.Reading.{token_after, tokens_read, Fails, ended}
+use Rattle.sf_polish.specs.Word.{token_in}
+use Rattle.sf_polish.proofs.ReadSteps.{reading-step, reading-fails, reading-ends, fails-at}
+use Rattle.sf_polish.proofs.read.read_tokens.Goals as goal
+
+pub loop-word-preserved : goal.loop-word-preserved
+loop-word-preserved c =
+    let blocks = c.args.blocks in
+    let text = c.args.text.now in
+    let before = c.loop-word.reading.tokens.items in
+    let taken = c.in_ok-take.ensures.token in (
+      reading-step blocks (last_line_of text) (token_in blocks) (line_words text) before _ _ _ _ taken.0 c.loop-word.invariant.0 c.in-Some.ensures.numbered
+      (ap (token_after before c.in-Some.word.line) (sym c.read_token.ensures.value) ∙ taken.1) taken.2,
+      c.in_ok-take.ensures.same_blocks ∙ c.loop-word.invariant.1,
+    )
+
+pub returns-in_err-take-clause-fault : goal.returns-in_err-take-clause-fault
+returns-in_err-take-clause-fault c =
+    let blocks = c.args.blocks in
+    let text = c.args.text.now in
+    let before = c.loop-word.reading.tokens.items in
+    let p = err_from_is_err_and c.from_residual-in_err-take.result c.from_residual-in_err-take.ensures.1 in
+    rw (p.1, p.2) (reading-fails blocks (last_line_of text) (token_in blocks) (line_words text) before _ _ _ c.in_err-take.field-0.0 c.loop-word.invariant.0 c.in-Some.ensures.numbered
+    (subst (λ s. Fails c.in_err-take.field-0.0 (token_after before c.in-Some.word.line s)) c.read_token.ensures.value c.in_err-take.ensures.fault))
+
+pub returns-clause-tokens : goal.returns-clause-tokens
+returns-clause-tokens c =
+    let blocks = c.args.blocks in
+    let text = c.args.text.now in
+    let tokens = c.loop-word.reading.tokens.items in
+    let n = length c.loop-word.reading.named.items in
+    let all = reading-ends blocks (last_line_of text) (token_in blocks) (line_words text) tokens _ n c.loop-word.invariant.0 c.in_default.ensures.numbered c.loop-word.invariant.1 in
+    IfOk-weaker c.finish.result (λ v. ended n (last_line_of text) tokens ≡ Ok v.items) (λ v. tokens_read blocks text ≡ Ok v.items) (λ v h. all ∙ h) c.finish.ensures.tokens
+
+pub returns-clause-fault : goal.returns-clause-fault
+returns-clause-fault c =
+    let blocks = c.args.blocks in
+    let text = c.args.text.now in
+    let tokens = c.loop-word.reading.tokens.items in
+    let n = length c.loop-word.reading.named.items in
+    let all = reading-ends blocks (last_line_of text) (token_in blocks) (line_words text) tokens _ n c.loop-word.invariant.0 c.in_default.ensures.numbered c.loop-word.invariant.1 in
+    IfErr-weaker c.finish.result (λ e. Fails e (ended n (last_line_of text) tokens)) (λ e. Fails e (tokens_read blocks text)) (λ e h. fails-at e _ _ all h) c.finish.ensures.fault

@@ -1,0 +1,21 @@
+use Rattle.std.proofs.Common.{◌≡◌, refl, sym, ◌∙◌, arith, ap}
+use Rattle.std.specs.List.{list_all}
+use Rattle.std.specs.Prelude.{Err}
+use Rattle.sf_polish.specs.declared.fault.ExprFault.TheVariants.{MissingBlock, NotBallot}
+use Rattle.sf_polish.proofs.Named.{ended-missing, ended-unbalanced, ended-whole}
+use Rattle.sf_polish.proofs.reading.Reading.finish.Goals as goal
+
+pub returns-then-not-are_all_set-clause-fault : goal.returns-then-not-are_all_set-clause-fault
+returns-then-not-are_all_set-clause-fault c =
+    let r = c.args.self in
+    rw c.last_line.ensures (ended-missing _ r.depth r.named.items r.tokens.items r.flags r.balance (ap (list_all (λ b. b)) (sym c.deref.ensures.value) ∙ sym c.are_all_set.ensures ∙ c.if-not-are_all_set.true))
+
+pub returns-then-self-ne1-clause-fault : goal.returns-then-self-ne1-clause-fault
+returns-then-self-ne1-clause-fault c =
+    let r = c.args.self in
+    rw c.last_line-then-self-ne1.ensures (ended-unbalanced _ r.depth r.named.items r.tokens.items r.flags r.balance (ap (list_all (λ b. b)) (sym c.deref.ensures.value) ∙ sym c.are_all_set.ensures ∙ c.if-not-are_all_set.false) c.if-self-ne1.true)
+
+pub returns-clause-tokens : goal.returns-clause-tokens
+returns-clause-tokens c =
+    let r = c.args.self in
+    ended-whole _ r.depth r.named.items r.tokens.items r.flags r.balance (ap (list_all (λ b. b)) (sym c.deref.ensures.value) ∙ sym c.are_all_set.ensures ∙ c.if-not-are_all_set.false) c.if-self-ne1.false

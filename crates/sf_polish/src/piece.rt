@@ -1,0 +1,125 @@
+//! What a word of an expression text spells.
+
+ghost use Rattle.std.specs.Prelude.{◌≡◌, ◌<◌, ◌≤◌, ◌==◌, length, IfSome, IsFalse};
+ghost use Rattle.std.specs.List.{position_or_len, before_first, after_first};
+ghost use Rattle.std.specs.Option.{option_map};
+ghost use Rattle.sf_polish.specs.Normal.{is_outside};
+ghost use Rattle.sf_polish.specs.Word.{token_of, is_byte, block_in, side_in, shape_in, token_in, piece_in};
+
+use crate::expr::Token;
+use sf_lex::read_plain;
+use sf_model::parts::Shape;
+
+/// An operator, or a block in a shape.
+#[derive(Clone, Copy, Debug, PartialEq, Eq)]
+pub enum Piece {
+    Beside,
+    Above,
+    Block(u16, Shape),
+}
+
+/// The greatest side of a shape.
+const MAX_SIDE: u64 = 1_048_576;
+
+/// The token of a piece, without the shape.
+pub fn token_of(piece: Option<Piece>) -> Option<Token>
+    ensures { result ≡ option_map token_of piece }
+{
+    match piece {
+        None => None,
+        Some(Piece::Beside) => Some(Token::Beside),
+        Some(Piece::Above) => Some(Token::Above),
+        Some(Piece::Block(block, _)) => Some(Token::Block(block)),
+    }
+}
+
+fn is_byte(word: &[u8], byte: u8) -> bool
+    ensures { result ≡ is_byte byte word.now }
+{
+    match word {
+        [only] => *only == byte,
+        _ => false,
+    }
+}
+
+fn read_block(word: &[u8], blocks: u16) -> Option<u16>
+    ensures value { result ≡ block_in blocks word.now }
+    ensures below { IfSome result (λ b. b < blocks) }
+{
+    match read_plain(word, u64::from(blocks)) {
+        Some(block) if block < u64::from(blocks) => Some(block as u16),
+        _ => None,
+    }
+}
+
+fn read_side(word: &[u8]) -> Option<u32>
+    ensures { result ≡ side_in word.now }
+{
+    match read_plain(word, MAX_SIDE) {
+        Some(side) if side >= 1 => Some(side as u32),
+        _ => None,
+    }
+}
+
+fn bytes_before(word: &[u8], byte: u8) -> usize
+    ensures value { result ≡ position_or_len (λ b. b == byte) word.now }
+    ensures bound { result ≤ length word.now }
+{
+    word.iter().take_while(|b| **b != byte).count()
+}
+
+/// What stands before the first such byte, and what stands behind it.
+fn split_at_byte(word: &[u8], byte: u8) -> (&[u8], &[u8])
+    ensures before { result.0.now ≡ before_first (λ b. b == byte) word.now }
+    ensures after { result.1.now ≡ after_first (λ b. b == byte) word.now }
+{
+    let (before, rest) = word.split_at(bytes_before(word, byte));
+    match rest {
+        [] => (before, rest),
+        [_, after @ ..] => (before, after),
+    }
+}
+
+#[tactic(auto, unfolding(crate::specs::Word::shape_in))]
+fn read_shape(word: &[u8]) -> Option<Shape>
+    ensures { result ≡ shape_in word.now }
+{
+    let (w, h) = split_at_byte(word, b'x');
+    let w = read_side(w)?;
+    let h = read_side(h)?;
+    Some(Shape { w, h })
+}
+
+/// A word of a token text: `*`, `+` or the number of a block.
+#[tactic(auto, unfolding(crate::specs::Word::token_in))]
+pub fn read_token(word: &[u8], blocks: u16) -> Option<Token>
+    ensures value { result ≡ token_in blocks word.now }
+    ensures inside { IfSome result (λ t. IsFalse (is_outside blocks t)) }
+{
+    if is_byte(word, b'*') {
+        return Some(Token::Beside);
+    }
+    if is_byte(word, b'+') {
+        return Some(Token::Above);
+    }
+    let block = read_block(word, blocks)?;
+    Some(Token::Block(block))
+}
+
+/// A word of an expression text: `*`, `+`, or `i:wxh` for a block and its shape.
+#[tactic(auto, unfolding(crate::specs::Word::piece_in))]
+pub fn read_piece(word: &[u8], blocks: u16) -> Option<Piece>
+    ensures value { result ≡ piece_in blocks word.now }
+    ensures inside { IfSome result (λ p. IsFalse (is_outside blocks (token_of p))) }
+{
+    if is_byte(word, b'*') {
+        return Some(Piece::Beside);
+    }
+    if is_byte(word, b'+') {
+        return Some(Piece::Above);
+    }
+    let (number, shape) = split_at_byte(word, b':');
+    let block = read_block(number, blocks)?;
+    let shape = read_shape(shape)?;
+    Some(Piece::Block(block, shape))
+}

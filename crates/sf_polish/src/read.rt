@@ -1,0 +1,60 @@
+//! Expressions read from their texts.
+
+ghost use Rattle.std.specs.Prelude.{◌≡◌, ◌≤◌, Ok, length, IfOk, IfErr, IfSome, IsFalse};
+ghost use Rattle.sf_polish.specs.Normal.{is_outside};
+ghost use Rattle.sf_polish.specs.Reading.{tokens_read, expr_read, shapes_with, Fails};
+ghost use Rattle.sf_polish.specs.Text.{SpellsTokens, SpellsExpr};
+ghost use Rattle.sf_polish.specs.Word.{token_of};
+
+use crate::expr::{Expr, Token, Tokens};
+use crate::fault::ExprFault;
+use crate::piece::{Piece, read_piece, read_token, token_of};
+use crate::postfix::without_shapes;
+use crate::reading::Reading;
+use sf_lex::Scan;
+use sf_model::lists::Shapes;
+use sf_model::parts::Shape;
+use std::alloc::Global;
+
+/// The tokens of a text of block numbers, `*` and `+`, between blanks. Block numbers are below `blocks`.
+pub fn read_tokens(alloc: Global, text: &[u8], blocks: u16) -> Result<Vec<Token>, ExprFault>
+    ensures tokens { IfOk result (λ tokens. tokens_read blocks text.now ≡ Ok tokens.items) }
+    ensures fault { IfErr result (λ e. Fails e (tokens_read blocks text.now)) }
+{
+    let mut reading = Reading::new(alloc, blocks)?;
+    let mut scan = Scan::new(text);
+    while let Some(word) = scan.next_word() {
+        reading.take(read_token(word.text, blocks), word.line)?;
+    }
+    reading.finish(text)
+}
+
+/// The expression of a text as `write_expr` writes it, with any blanks between the words. Block numbers are
+/// below `blocks`, and sides are whole units from 1 to 1,048,576.
+pub fn read_expr(alloc: Global, text: &[u8], blocks: u16) -> Result<Expr, ExprFault>
+    ensures expr { IfOk result (λ expr. expr_read blocks text.now ≡ Ok expr) }
+    ensures fault { IfErr result (λ e. Fails e (expr_read blocks text.now)) }
+{
+    let mut reading = Reading::new(alloc, blocks)?;
+    let mut shapes = without_shapes(alloc, blocks)?;
+    let mut scan = Scan::new(text);
+    while let Some(word) = scan.next_word() {
+        let piece = read_piece(word.text, blocks);
+        reading.take(token_of(piece), word.line)?;
+        keep_shape(&mut shapes, piece);
+    }
+    let tokens = reading.finish(text)?;
+    Ok(Expr {
+        tokens: Tokens::from_vec(tokens),
+        shapes: Shapes::from_vec(shapes),
+    })
+}
+
+fn keep_shape(shapes: &mut Vec<Shape>, piece: Option<Piece>)
+    requires { IfSome piece (λ p. IsFalse (is_outside (length shapes.old.items) (token_of p))) }
+    ensures { shapes.new.items ≡ shapes_with shapes.old.items piece }
+{
+    if let Some(Piece::Block(block, shape)) = piece {
+        shapes[block as usize] = shape;
+    }
+}
