@@ -19,17 +19,8 @@ use Rattle.sf_gsrc.specs.declared.output.GsrcBlocks.{GsrcBlocks}
 use Rattle.sf_lex.specs.Gap.{is_gap}
 use Rattle.sf_gsrc.specs.Line.{◌>>=◌, Item, counted_by, count_said, plain_said}
 use Rattle.sf_gsrc.specs.Blocks.{content_of, is_title, Entry, Said, CountIs, ItemIs, or_else, is_same, count_at, count_in, count_after, entry_at, entry_by, entry_after, entries_from, last_of, is_soft, compared, finished_by, out_of, finished, titled, blocks_read, blocks_in, pads_in}
+use Rattle.sf_gsrc.proofs.Results.{bind_ok, ok_is, err_not_ok}
 use Rattle.sf_gsrc.specs.Standing.{SaysBy, SaysEntry, counts_of, StandsOnce, StandsFor}
-
-bind_ok : {A B E : Type 0} (r : Result A E) (f : A → Result B E) (y : B) → (r >>= f) ≡ Ok y → (x : A) × (r ≡ Ok x) × (f x ≡ Ok y)
-bind_ok (Ok x) f y e = (x, refl, e)
-bind_ok (Err d) f y e = absurd cc
-
-abbrev done : {A E : Type 0} → A → Result A E
-done x = Ok x
-
-ok_is : {A E : Type 0} (x y : A) → done {E = E} x ≡ done y → x ≡ y
-ok_is x y e = cc
 
 -- ---- the first count, and the counts
 
@@ -151,9 +142,6 @@ all_read scale earlier (line ∷ ls) es h =
       each = (one.says, more.each);
       most = λ most. more.most (one.most most);
     }
-
-err_not_ok : {A E : Type 0} (f : E) (x : A) → Err f ≡ Ok x → ⊥
-err_not_ok f x e = absurd cc
 
 compared_by : {X : Type 0} (count : Count) (found : ℕ) (next : Result X GsrcFault) (x : X) (b : Bool) → (count.said == found) ≡ b → compared count found next ≡ Ok x → (count.said ≡ found) × (next ≡ Ok x)
 compared_by count found next x true e h = (eqb-true count.said found e, rw e at h)

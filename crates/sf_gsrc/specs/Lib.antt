@@ -8,3 +8,7 @@ pub mod Found
 pub mod Standing
 pub mod Nets
 pub mod NetsFound
+pub mod PlaceLine
+pub mod Spots
+pub mod Places
+pub mod NetsStanding

@@ -11,12 +11,15 @@ mod line;
 mod nets;
 mod nets_found;
 mod output;
+mod place_line;
+mod places;
 mod vertices;
 
-pub use blocks::read_blocks;
+pub use blocks::{blocks_stand_for_one, read_blocks};
 pub use fault::GsrcFault;
-pub use nets::read_nets;
-pub use output::{GsrcBlocks, GsrcNets};
+pub use nets::{nets_stand_for_one, read_nets};
+pub use output::{GsrcBlocks, GsrcNets, GsrcPlaces, Place, PlaceList};
+pub use places::{places_stand_for_one, read_pl};
 
 #[cfg(test)]
 mod tests;

@@ -19,7 +19,8 @@ pub struct Corners {
     top: i64,
 }
 
-const LENGTH_LIMIT: u64 = 9_000_000_000_000_000;
+/// The greatest length and coordinate, in whole units of the scale.
+pub const LENGTH_LIMIT: u64 = 9_000_000_000_000_000;
 
 impl Corners {
     fn new(vertex: (i64, i64)) -> Corners
@@ -57,7 +58,8 @@ impl Corners {
     }
 }
 
-fn read_place(word: &[u8], scale: u64) -> Result<i64, LineFault>
+/// A coordinate.
+pub fn read_place(word: &[u8], scale: u64) -> Result<i64, LineFault>
     requires scale_low { 1 ≤ scale }
     requires scale_high { scale ≤ 1000 }
     ensures { result ≡ place_in_word scale word.now }
