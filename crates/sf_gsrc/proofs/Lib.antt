@@ -1,0 +1,10 @@
+pub mod VertexSteps
+pub mod Boxes
+pub mod Keeping
+pub mod LineSteps
+pub mod Results
+pub mod StandingLaws
+pub mod NetSteps
+pub mod PlaceSteps
+pub mod PlaceLaws
+pub mod NetLaws

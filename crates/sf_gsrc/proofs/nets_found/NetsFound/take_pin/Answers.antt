@@ -1,0 +1,17 @@
+use Rattle.std.proofs.Common.{◌≡◌, ◌∷◌, [], ◌++◌, List, refl, sym, ap, ◌∙◌}
+use Rattle.std.specs.Prelude.{is_some, not}
+use Rattle.sf_model.specs.declared.raw.RawPin.{RawPin}
+use Rattle.sf_model.specs.declared.raw.RawPin.TheVariants.{Named}
+use Rattle.sf_lex.specs.declared.field.Gap.TheVariants.{Blanks}
+use Rattle.sf_lex.specs.Gap.{first_word}
+use Rattle.sf_gsrc.specs.Nets.{PinIs}
+use Rattle.sf_gsrc.proofs.nets_found.NetsFound.take_pin.Goals as goal
+
+pub returns : goal.returns
+returns c = λ past keeps.
+    let open_net = ap is_some (sym keeps.degree) ∙ c.is_none.ensures ∙ ap not c.if-is_none.false in
+    let name = c.in_ok-name.ensures ∙ c.split_word.ensures.word in (
+      record { number = c.args.line.now.line; said = PinIs (first_word Blanks c.args.line.now.text.now) },
+      rw open_net refl,
+      record { count = keeps.count; degree = keeps.degree; nets = keeps.nets; pins = c.in_ok-push.ensures.items ∙ rw (keeps.pins, name) refl },
+    )

@@ -1,0 +1,14 @@
+pub mod Keywords
+pub mod Line
+pub mod Statement
+pub mod Corners
+pub mod Seen
+pub mod Blocks
+pub mod Found
+pub mod Standing
+pub mod Nets
+pub mod NetsFound
+pub mod PlaceLine
+pub mod Spots
+pub mod Places
+pub mod NetsStanding

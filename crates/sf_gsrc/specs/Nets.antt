@@ -1,0 +1,132 @@
+-- What a nets file stands for, and its first fault if it stands for nothing.
+use Rattle.std.specs.Prelude.{◌≡◌, ℕ, ◌==◌, List, [], ◌∷◌, ◌++◌, length, Option, Some, None, is_some, Result, Ok, Err, if◌then◌else◌, codes}
+use Rattle.std.specs.Str.{bytes_eq}
+use Rattle.sf_lex.specs.Text.{words}
+use Rattle.sf_lex.specs.Scan.{Line}
+use Rattle.sf_model.specs.declared.raw.RawNet.{RawNet}
+use Rattle.sf_model.specs.declared.raw.RawPin.{RawPin}
+use Rattle.sf_model.specs.declared.raw.RawPin.TheVariants.{Named}
+use Rattle.sf_gsrc.specs.declared.fault.GsrcFault.{GsrcFault}
+use Rattle.sf_gsrc.specs.declared.fault.GsrcFault.TheVariants as faults
+use Rattle.sf_gsrc.specs.declared.fault.LineFault.{LineFault}
+use Rattle.sf_lex.specs.declared.field.Gap.TheVariants.{Blanks, Colons}
+use Rattle.sf_gsrc.specs.declared.keywords.NetWord.{NetWord}
+use Rattle.sf_gsrc.specs.declared.keywords.NetWord.TheVariants as net_words
+use Rattle.sf_gsrc.specs.declared.count.Count.{Count}
+use Rattle.sf_gsrc.specs.declared.output.GsrcNets.{GsrcNets}
+use Rattle.sf_lex.specs.Gap.{is_gap, first_word}
+use Rattle.sf_gsrc.specs.Keywords.{net_word_by}
+use Rattle.sf_gsrc.specs.Line.{◌>>=◌, count_said}
+use Rattle.sf_gsrc.specs.Blocks.{content_of, is_title, last_of, fault_at, compared}
+
+-- what a line says
+pub data NetSaid : Type 0 where
+  NetsAre : ℕ → NetSaid
+  PinsAre : ℕ → NetSaid
+  DegreeIs : ℕ → NetSaid
+  PinIs : List ℕ → NetSaid
+
+pub record NetEntry : Type 0 where
+  pub number : ℕ
+  pub said : NetSaid
+
+-- ---- what the lines so far say, the last one first
+
+abbrev pub count_step : ℕ → NetSaid → Option Count → Option Count
+count_step n (NetsAre said) before = Some (record { line = n; said = said })
+count_step n (PinsAre said) before = before
+count_step n (DegreeIs d) before = before
+count_step n (PinIs name) before = before
+
+-- the number of nets that was said
+abbrev pub nets_said : List NetEntry → Option Count
+nets_said [] = None
+nets_said (e ∷ past) = count_step e.number e.said (nets_said past)
+
+abbrev pub degree_step : ℕ → NetSaid → Option Count → Option Count
+degree_step n (NetsAre said) before = before
+degree_step n (PinsAre said) before = before
+degree_step n (DegreeIs d) before = Some (record { line = n; said = d })
+degree_step n (PinIs name) before = before
+
+-- the degree of the last net
+abbrev pub degree_said : List NetEntry → Option Count
+degree_said [] = None
+degree_said (e ∷ past) = degree_step e.number e.said (degree_said past)
+
+abbrev pub pins_step : NetSaid → List RawPin → List RawPin
+pins_step (NetsAre said) before = before
+pins_step (PinsAre said) before = before
+pins_step (DegreeIs d) before = []
+pins_step (PinIs name) before = before ++ Named name ∷ []
+
+-- the pins of the last net
+abbrev pub last_pins : List NetEntry → List RawPin
+last_pins [] = []
+last_pins (e ∷ past) = pins_step e.said (last_pins past)
+
+-- these nets, and the last one if there is one
+abbrev pub with_last : List RawNet → Option Count → List RawPin → List RawNet
+with_last nets None pins = nets
+with_last nets (Some degree) pins = nets ++ record { pins = pins } ∷ []
+
+abbrev pub earlier_step : NetSaid → List RawNet → List RawNet → List RawNet
+earlier_step (NetsAre said) before all = before
+earlier_step (PinsAre said) before all = before
+earlier_step (DegreeIs d) before all = all
+earlier_step (PinIs name) before all = before
+
+-- the nets before the last one
+abbrev pub earlier_nets : List NetEntry → List RawNet
+earlier_nets [] = []
+earlier_nets (e ∷ past) = earlier_step e.said (earlier_nets past) (with_last (earlier_nets past) (degree_said past) (last_pins past))
+
+abbrev pub nets_of : List NetEntry → List RawNet
+nets_of past = with_last (earlier_nets past) (degree_said past) (last_pins past)
+
+-- ---- the faults of a line
+
+-- the last net has as many pins as its degree says
+abbrev pub degree_kept : {X : Type 0} → Option Count → ℕ → Result X GsrcFault → Result X GsrcFault
+degree_kept None found next = next
+degree_kept (Some degree) found next = if degree.said == found then next else Err (faults.BadDegree degree.line degree.said found)
+
+abbrev pub net_entry_at : ℕ → (ℕ → NetSaid) → Result ℕ LineFault → Result NetEntry GsrcFault
+net_entry_at n says (Ok x) = Ok (record { number = n; said = says x })
+net_entry_at n says (Err fault) = Err (fault_at n fault)
+
+abbrev pub number_of_line : Line → Result ℕ LineFault
+number_of_line line = count_said (words (is_gap Colons) line.bytes)
+
+abbrev pub net_entry_by : List NetEntry → Line → Option NetWord → Result NetEntry GsrcFault
+net_entry_by past line (Some net_words.Nets) = if is_some (nets_said past) then Err (faults.BadLine line.number) else net_entry_at line.number NetsAre (number_of_line line)
+net_entry_by past line (Some net_words.Pins) = net_entry_at line.number PinsAre (number_of_line line)
+net_entry_by past line (Some net_words.Degree) = degree_kept (degree_said past) (length (last_pins past)) (net_entry_at line.number DegreeIs (number_of_line line))
+net_entry_by past line None = if is_some (degree_said past) then Ok (record { number = line.number; said = PinIs (first_word Blanks line.bytes) }) else Err (faults.BadLine line.number)
+
+abbrev pub net_entry_after : List NetEntry → Line → Result NetEntry GsrcFault
+net_entry_after past line = net_entry_by past line (net_word_by line.bytes)
+
+unfoldable pub net_entries_from : List NetEntry → List Line → Result (List NetEntry) GsrcFault
+net_entries_from past [] = Ok past
+net_entries_from past (line ∷ more) = do
+  e ← net_entry_after past line
+  net_entries_from (e ∷ past) more
+
+-- ---- the end of the text
+
+abbrev pub nets_counted : ℕ → Option Count → List RawNet → Result GsrcNets GsrcFault
+nets_counted last None nets = Err (faults.Truncated last)
+nets_counted last (Some count) nets = compared count (length nets) (Ok (record { nets = nets }))
+
+abbrev pub nets_finished : ℕ → List NetEntry → Result GsrcNets GsrcFault
+nets_finished last past = degree_kept (degree_said past) (length (last_pins past)) (nets_counted last (nets_said past) (nets_of past))
+
+abbrev pub nets_titled : List Line → Result GsrcNets GsrcFault
+nets_titled [] = Err (faults.Truncated 0)
+nets_titled (title ∷ others) = if is_title (codes "nets") title.bytes
+    then (net_entries_from [] others >>= nets_finished (last_of title.number others))
+    else Err (faults.BadTitle title.number)
+
+unfoldable pub nets_read : List ℕ → Result GsrcNets GsrcFault
+nets_read text = nets_titled (content_of text)

@@ -1,0 +1,42 @@
+//! The lines of a text without comments and lines of blanks.
+
+ghost use Rattle.std.specs.Prelude.{◌≡◌, [], ◌∷◌, MatchOption, IsTrue, IfSome, ◌<◌, length};
+ghost use Rattle.sf_lex.specs.Scan.{numbered_rest, line_of};
+ghost use Rattle.sf_lex.specs.Gap.{first_word};
+ghost use Rattle.sf_gsrc.specs.Blocks.{is_content, content, is_title};
+
+use sf_lex::{Gap, split_word};
+use sf_lex::{Scan, Word};
+
+fn has_content(line: &Word) -> bool
+    ensures { result ≡ is_content (line_of line.now) }
+{
+    let (word, _) = split_word(line.text, Gap::Blanks);
+    match word.first() {
+        Some(byte) => *byte != b'#',
+        None => false,
+    }
+}
+
+/// The next line that is neither blank nor a comment.
+pub fn next_content<'a>(scan: &mut Scan<'a>) -> Option<Word<'a>>
+    ensures lines { MatchOption result (content (numbered_rest scan.old) ≡ [])
+        (λ w. content (numbered_rest scan.old) ≡ line_of w ∷ content (numbered_rest scan.new)) }
+    ensures content { IfSome result (λ w. 0 < length (first_word Gap.Blanks w.text.now)) }
+{
+    while let Some(line) = scan.next_line() {
+        if has_content(&line) {
+            return Some(line);
+        }
+    }
+    None
+}
+
+#[tactic(auto, unfolding(crate::specs::Blocks::is_title))]
+pub fn has_title(line: &[u8], kind: &[u8]) -> bool
+    ensures { result ≡ is_title kind.now line.now }
+{
+    let (first, rest) = split_word(line, Gap::Blanks);
+    let (second, _) = split_word(rest, Gap::Blanks);
+    (first == b"UCSC".as_slice() || first == b"UCLA".as_slice()) && second == kind
+}

@@ -1,0 +1,92 @@
+//! The words that have a meaning in a line.
+
+ghost use Rattle.std.specs.Prelude.{◌≡◌, ◌≤◌, length, Some, None};
+ghost use Rattle.std.specs.List.{position_or_len};
+ghost use Rattle.sf_gsrc.specs.Keywords.{is_colon, count_word, counted_of, form_of, net_word_of};
+
+use sf_lex::{Gap, split_word};
+
+/// What a count line counts.
+#[derive(Clone, Copy, Debug, PartialEq, Eq)]
+pub enum Counted {
+    Soft,
+    Hard,
+    Terminals,
+}
+
+/// What the second word of a line says of the first.
+#[derive(Clone, Copy, Debug, PartialEq, Eq)]
+pub enum Form {
+    Soft,
+    Hard,
+    Terminal,
+}
+
+fn place_of_colon(word: &[u8]) -> usize
+    ensures value { result ≡ position_or_len is_colon word.now }
+    ensures bound { result ≤ length word.now }
+{
+    word.iter().take_while(|byte| **byte != b':').count()
+}
+
+/// The first word of a line, up to a colon.
+pub fn count_word_in(line: &[u8]) -> &[u8]
+    ensures { result.now ≡ count_word line.now }
+{
+    let (word, _) = split_word(line, Gap::Blanks);
+    let (word, _) = word.split_at(place_of_colon(word));
+    word
+}
+
+#[tactic(auto, unfolding(crate::specs::Keywords::counted_of))]
+pub fn read_counted(word: &[u8]) -> Option<Counted>
+    ensures { result ≡ counted_of word.now }
+{
+    if word == b"NumSoftRectangularBlocks".as_slice() {
+        Some(Counted::Soft)
+    } else if word == b"NumHardRectilinearBlocks".as_slice() {
+        Some(Counted::Hard)
+    } else if word == b"NumTerminals".as_slice() {
+        Some(Counted::Terminals)
+    } else {
+        None
+    }
+}
+
+#[tactic(auto, unfolding(crate::specs::Keywords::form_of))]
+pub fn read_form(word: &[u8]) -> Option<Form>
+    ensures { result ≡ form_of word.now }
+{
+    if word == b"softrectangular".as_slice() {
+        Some(Form::Soft)
+    } else if word == b"hardrectilinear".as_slice() {
+        Some(Form::Hard)
+    } else if word == b"terminal".as_slice() {
+        Some(Form::Terminal)
+    } else {
+        None
+    }
+}
+
+/// What a count line of a nets file says.
+#[derive(Clone, Copy, Debug, PartialEq, Eq)]
+pub enum NetWord {
+    Nets,
+    Pins,
+    Degree,
+}
+
+#[tactic(auto, unfolding(crate::specs::Keywords::net_word_of))]
+pub fn read_net_word(word: &[u8]) -> Option<NetWord>
+    ensures { result ≡ net_word_of word.now }
+{
+    if word == b"NumNets".as_slice() {
+        Some(NetWord::Nets)
+    } else if word == b"NumPins".as_slice() {
+        Some(NetWord::Pins)
+    } else if word == b"NetDegree".as_slice() {
+        Some(NetWord::Degree)
+    } else {
+        None
+    }
+}

@@ -1,0 +1,143 @@
+//! What a line of a pl file says by itself. Nothing here takes memory.
+
+ghost use Rattle.std.specs.Prelude.{◌≡◌, ◌≤◌, IfOk, Ok, Err};
+ghost use Rattle.sf_lex.specs.Text.{words};
+ghost use Rattle.sf_lex.specs.Gap.{is_gap, first_word};
+ghost use Rattle.sf_gsrc.specs.PlaceLine.{length_in_word, size_words, size_in_words, point_said, sized_said, rest_said, place_said};
+ghost use Rattle.sf_gsrc.specs.Seen.{seen};
+ghost use Rattle.sf_gsrc.specs.Spots.{place_in};
+
+use crate::fault::LineFault;
+use crate::vertices::{LENGTH_LIMIT, read_place};
+use sf_lex::{Gap, next_field, read_decimal, split_word};
+
+/// A name at its place, and its size where the line tells one.
+#[derive(Clone, Copy, Debug)]
+pub struct Spot<'a> {
+    pub name: &'a [u8],
+    pub x: i64,
+    pub y: i64,
+    pub size: Option<(u64, u64)>,
+}
+
+fn read_length(word: &[u8], scale: u64) -> Result<u64, LineFault>
+    requires scale_low { 1 ≤ scale }
+    requires scale_high { scale ≤ 1000 }
+    ensures { result ≡ length_in_word scale word.now }
+{
+    Ok(read_decimal(word, scale, LENGTH_LIMIT)?)
+}
+
+/// The two words behind `DIMS`.
+#[tactic(auto, unfolding(crate::specs::PlaceLine::size_words))]
+fn next_sides(rest: &[u8]) -> Result<(&[u8], &[u8]), LineFault>
+    ensures { seen (λ s. (s.0.now, s.1.now)) result ≡ size_words (words (is_gap Gap.Sizes) rest.now) }
+{
+    let Some((w, rest)) = next_field(rest, Gap::Sizes) else {
+        return Err(LineFault::BadLine);
+    };
+    let Some((h, _)) = next_field(rest, Gap::Sizes) else {
+        return Err(LineFault::BadLine);
+    };
+    Ok((w, h))
+}
+
+#[tactic(auto, unfolding(crate::specs::PlaceLine::size_in_words))]
+fn read_size(w: &[u8], h: &[u8], scale: u64) -> Result<(u64, u64), LineFault>
+    requires scale_low { 1 ≤ scale }
+    requires scale_high { scale ≤ 1000 }
+    ensures { result ≡ size_in_words scale (w.now, h.now) }
+{
+    let w = read_length(w, scale)?;
+    let h = read_length(h, scale)?;
+    Ok((w, h))
+}
+
+#[tactic(auto, unfolding(crate::specs::PlaceLine::point_said))]
+fn point<'a>(name: &'a [u8], x: &[u8], y: &[u8], scale: u64) -> Result<Spot<'a>, LineFault>
+    requires scale_low { 1 ≤ scale }
+    requires scale_high { scale ≤ 1000 }
+    ensures says { seen place_in result ≡ point_said scale name.now x.now y.now }
+    ensures name { IfOk result (λ s. s.name.now ≡ name.now) }
+{
+    let x = read_place(x, scale)?;
+    let y = read_place(y, scale)?;
+    Ok(Spot {
+        name,
+        x,
+        y,
+        size: None,
+    })
+}
+
+#[tactic(auto, unfolding(crate::specs::PlaceLine::sized_said))]
+fn sized<'a>(
+    name: &'a [u8],
+    x: &[u8],
+    y: &[u8],
+    rest: &[u8],
+    scale: u64,
+) -> Result<Spot<'a>, LineFault>
+    requires scale_low { 1 ≤ scale }
+    requires scale_high { scale ≤ 1000 }
+    ensures says { seen place_in result
+        ≡ sized_said scale name.now x.now y.now (words (is_gap Gap.Sizes) rest.now) }
+    ensures name { IfOk result (λ s. s.name.now ≡ name.now) }
+{
+    let (w, h) = next_sides(rest)?;
+    let x = read_place(x, scale)?;
+    let y = read_place(y, scale)?;
+    let (w, h) = read_size(w, h, scale)?;
+    if w == 0 || h == 0 {
+        return Err(LineFault::ZeroSide);
+    }
+    Ok(Spot {
+        name,
+        x,
+        y,
+        size: Some((w, h)),
+    })
+}
+
+#[tactic(auto, unfolding(crate::specs::PlaceLine::rest_said))]
+fn with_rest<'a>(
+    name: &'a [u8],
+    x: &[u8],
+    y: &[u8],
+    rest: &[u8],
+    scale: u64,
+) -> Result<Spot<'a>, LineFault>
+    requires scale_low { 1 ≤ scale }
+    requires scale_high { scale ≤ 1000 }
+    ensures says { seen place_in result
+        ≡ rest_said scale name.now x.now y.now (words (is_gap Gap.Sizes) rest.now) }
+    ensures name { IfOk result (λ s. s.name.now ≡ name.now) }
+{
+    match next_field(rest, Gap::Sizes) {
+        Some((word, rest)) => {
+            if word == b"DIMS".as_slice() {
+                sized(name, x, y, rest, scale)
+            } else {
+                point(name, x, y, scale)
+            }
+        }
+        None => point(name, x, y, scale),
+    }
+}
+
+/// What a line says: a name, two coordinates, and maybe a size.
+#[tactic(auto, unfolding(crate::specs::PlaceLine::place_said))]
+pub fn read_place_line(line: &[u8], scale: u64) -> Result<Spot<'_>, LineFault>
+    requires scale_low { 1 ≤ scale }
+    requires scale_high { scale ≤ 1000 }
+    ensures says { seen place_in result ≡ place_said scale line.now }
+    ensures name { IfOk result (λ s. s.name.now ≡ first_word Gap.Blanks line.now) }
+{
+    let (name, rest) = split_word(line, Gap::Blanks);
+    let (x, rest) = split_word(rest, Gap::Blanks);
+    let (y, rest) = split_word(rest, Gap::Blanks);
+    if y.is_empty() {
+        return Err(LineFault::BadLine);
+    }
+    with_rest(name, x, y, rest, scale)
+}
