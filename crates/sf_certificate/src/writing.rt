@@ -1,0 +1,86 @@
+//! The text of a certificate.
+
+ghost use Rattle.std.specs.Prelude.{◌≡◌, [], ◌∷◌, ◌++◌, IfOk, OnOk, string_bytes, codes, length, MatchOption, ⊤};
+ghost use Rattle.std.specs.Fmt.{decimal};
+ghost use Rattle.sf_polish.specs.Normal.{IsNormal};
+ghost use Rattle.sf_certificate.specs.Text.{cost_text, plan_text, header_lines, ended, tag_text, tags_text, cert_text};
+
+use crate::cert::Cert;
+use crate::tag::Tag;
+use sf_model::MAX;
+use sf_polish::{Expr, push_expr};
+use std::alloc::{AllocError as NoMemory, Global};
+
+/// The text of a certificate: a header of six lines, then one line for each tag.
+pub fn write(alloc: Global, cert: &Cert) -> Result<Vec<u8>, NoMemory>
+    ensures text { IfOk result (λ text. text.items ≡ cert_text cert.now) }
+{
+    let mut text = String::new(alloc);
+    push_header(&mut text, cert)?;
+    push_tags(&mut text, cert.tags.as_slice())?;
+    Ok(text.into_bytes())
+}
+
+fn push_header(text: &mut String, cert: &Cert) -> Result<(), NoMemory>
+    ensures { OnOk result (string_bytes text.new
+        ≡ string_bytes text.old ++ ended (header_lines cert.now.blocks cert.now.plan cert.now.cost cert.now.bound)) }
+{
+    push_title(text, cert.blocks)?;
+    push_cost(text, "cost", cert.cost)?;
+    push_cost(text, "bound", cert.bound)?;
+    push_plan(text, &cert.plan)?;
+    text.push_str("tree\n")?;
+    Ok(())
+}
+
+/// The first two lines.
+fn push_title(text: &mut String, blocks: u16) -> Result<(), NoMemory>
+    ensures { OnOk result (string_bytes text.new ≡ string_bytes text.old ++ (codes "slicing-certificate 1\nblocks " ++ (decimal blocks ++ 10 ∷ []))) }
+{
+    write!(text, "slicing-certificate 1\nblocks {blocks}\n")
+}
+
+fn push_cost(text: &mut String, label: &str, cost: u64) -> Result<(), NoMemory>
+    ensures { OnOk result (string_bytes text.new ≡ string_bytes text.old ++ (label.now ++ 32 ∷ (cost_text cost ++ 10 ∷ []))) }
+{
+    if cost == MAX {
+        write!(text, "{label} none\n")
+    } else {
+        write!(text, "{label} {cost}\n")
+    }
+}
+
+fn push_plan(text: &mut String, plan: &Option<Expr>) -> Result<(), NoMemory>
+    requires { MatchOption plan.now ⊤ (λ expr. IsNormal (length expr.shapes) expr.tokens) }
+    ensures { OnOk result (string_bytes text.new ≡ string_bytes text.old ++ (codes "plan " ++ (plan_text plan.now ++ 10 ∷ []))) }
+{
+    text.push_str("plan ")?;
+    match plan {
+        None => text.push_str("none")?,
+        Some(expr) => push_expr(text, expr)?,
+    }
+    text.push_str("\n")?;
+    Ok(())
+}
+
+/// Adds the lines of the tags.
+fn push_tags(text: &mut String, tags: &[Tag]) -> Result<(), NoMemory>
+    ensures { OnOk result (string_bytes text.new ≡ string_bytes text.old ++ tags_text tags.now) }
+{
+    for tag in tags {
+        push_tag(text, *tag)?;
+        text.push('\n')?;
+    }
+    Ok(())
+}
+
+fn push_tag(text: &mut String, tag: Tag) -> Result<(), NoMemory>
+    ensures { OnOk result (string_bytes text.new ≡ string_bytes text.old ++ tag_text tag) }
+{
+    match tag {
+        Tag::Extend => text.push('E'),
+        Tag::Split(block) => write!(text, "S {block}"),
+        Tag::Closed => text.push('C'),
+        Tag::Open => text.push('O'),
+    }
+}
