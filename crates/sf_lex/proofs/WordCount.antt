@@ -1,0 +1,11 @@
+-- A text has no more words than bytes.
+use Rattle.std.proofs.Common.{ℕ, ◌+◌, ◌≤◌, Bool, List, length, arith}
+use Rattle.std.specs.List.{slice_split}
+use Rattle.std.proofs.lemmas.List.Sums.{length-filter, count_by-le-length}
+use Rattle.std.proofs.lemmas.List.Splits.{length-slice_split}
+use Rattle.sf_lex.specs.Text.{words, is_not_empty}
+
+pub length-words : (blank : ℕ → Bool) (bytes : List ℕ) → length (words blank bytes) ≤ length bytes + 1
+length-words blank bytes =
+    let parts = slice_split blank bytes in
+    omega (arith, length-filter is_not_empty parts, count_by-le-length is_not_empty parts, length-slice_split blank bytes, count_by-le-length blank bytes)
