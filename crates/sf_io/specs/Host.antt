@@ -1,0 +1,16 @@
+-- What a shelf of files and the standard output count.
+use Rattle.std.specs.Prelude.{ℕ}
+use Rattle.sf_io.specs.declared.host.HostShelf.{HostShelf}
+use Rattle.sf_io.specs.declared.host.HostSink.{HostSink}
+
+-- how many loads have failed, up to the end of u64
+abbrev pub host_load_faults : {R File Dir : Type 0} → HostShelf R File Dir → ℕ
+host_load_faults s = s.load_faults
+
+-- how many stores have failed, up to the end of u64
+abbrev pub host_store_faults : {R File Dir : Type 0} → HostShelf R File Dir → ℕ
+host_store_faults s = s.store_faults
+
+-- how many puts have failed, up to the end of u64
+abbrev pub host_faults : {P : Type 0} → HostSink P → ℕ
+host_faults s = s.faults

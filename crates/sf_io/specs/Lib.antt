@@ -1,0 +1,5 @@
+pub mod Outside
+pub mod MemShelf
+pub mod MemSink
+pub mod NeverShelf
+pub mod Host

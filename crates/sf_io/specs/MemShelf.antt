@@ -1,0 +1,26 @@
+-- What a shelf in memory shows of itself.
+use Rattle.std.specs.Prelude.{ℕ, List}
+use Rattle.std.specs.Option.{option_map}
+use Rattle.std.specs.BTreeMap.{get_by_text}
+use Rattle.sf_io.specs.declared.memory.MemShelf.{MemShelf}
+use Rattle.sf_io.specs.Outside.{Contents}
+
+-- the bytes under each name
+abbrev pub mem_texts : MemShelf → Contents
+mem_texts s name = option_map (λ v. v.items) (get_by_text s.texts name)
+
+-- the numbers of the calls that are to fail
+abbrev pub mem_failing : MemShelf → List ℕ
+mem_failing s = s.failing.items
+
+-- how many loads and stores were made, up to the end of u64
+abbrev pub mem_calls : MemShelf → ℕ
+mem_calls s = s.calls
+
+-- how many loads have failed, up to the end of u64
+abbrev pub mem_load_faults : MemShelf → ℕ
+mem_load_faults s = s.load_faults
+
+-- how many stores have failed, up to the end of u64
+abbrev pub mem_store_faults : MemShelf → ℕ
+mem_store_faults s = s.store_faults

@@ -1,0 +1,52 @@
+-- What a shelf holds, what a sink took, and when a fault was counted.
+use Rattle.std.specs.Prelude.{◌≡◌, ◌≢◌, ◌⊎◌, ℕ, ◌+◌, ◌-◌, ◌^◌, ◌<◌, ◌≤◌, min, List, length, Option, None, Some, ⊤, ◌++◌}
+
+-- the bytes under each name, and None where no text has that name
+abbrev pub Contents : Type 0
+Contents = List ℕ → Option (List ℕ)
+
+-- one more, up to the greatest number of u64
+abbrev pub one_more : ℕ → ℕ
+one_more n = min (n + 1) (2 ^ 64 - 1)
+
+-- the count is greater than before, or stands at the greatest number of u64
+abbrev pub Rose : ℕ → ℕ → Type 0
+Rose before now = one_more before ≤ now
+
+-- where the contents are told, the name holds these bytes
+abbrev pub Holds : Option Contents → List ℕ → List ℕ → Type 0
+Holds None name bytes = ⊤
+Holds (Some contents) name bytes = contents name ≡ Some bytes
+
+-- where the contents are told, the name holds more bytes than the limit
+abbrev pub HoldsMore : Option Contents → List ℕ → ℕ → Type 0
+HoldsMore None name limit = ⊤
+HoldsMore (Some contents) name limit =
+    (bytes : List ℕ) × (contents name ≡ Some bytes) × (limit < length bytes)
+
+-- each other name holds what it held
+abbrev pub KeepsOthers : Contents → Contents → List ℕ → Type 0
+KeepsOthers old new name = (other : List ℕ) → other ≢ name → new other ≡ old other
+
+-- where the contents are told, the name now holds these bytes, and each other name what it held
+abbrev pub Stores : Option Contents → Option Contents → List ℕ → List ℕ → Type 0
+Stores None new name bytes = ⊤
+Stores (Some old) None name bytes = ⊥
+Stores (Some old) (Some new) name bytes = (new name ≡ Some bytes) × KeepsOthers old new name
+
+-- the old text, or a prefix of these bytes
+abbrev pub HoldsPart : Option (List ℕ) → Option (List ℕ) → List ℕ → Type 0
+HoldsPart old new bytes =
+    (new ≡ old) ⊎ ((part rest : List ℕ) × (new ≡ Some part) × (part ++ rest ≡ bytes))
+
+-- where the contents are told, the name holds its old text or a prefix of these bytes, and each other name what it held
+abbrev pub StoresPart : Option Contents → Option Contents → List ℕ → List ℕ → Type 0
+StoresPart None new name bytes = ⊤
+StoresPart (Some old) None name bytes = ⊥
+StoresPart (Some old) (Some new) name bytes = HoldsPart (old name) (new name) bytes × KeepsOthers old new name
+
+-- what was taken, where it is told, grew by a prefix of the text
+abbrev pub Took : Option (List ℕ) → Option (List ℕ) → List ℕ → Type 0
+Took None new text = ⊤
+Took (Some old) None text = ⊥
+Took (Some old) (Some new) text = (part rest : List ℕ) × (new ≡ old ++ part) × (part ++ rest ≡ text)

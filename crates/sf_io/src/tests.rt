@@ -1,0 +1,95 @@
+// Each call once, with memory enough; and the shelf and the sink of the host against files and the standard output.
+
+use crate::{
+    Failed, HostShelf, HostSink, LoadFault, MemShelf, MemSink, NeverShelf, NeverSink, Shelf, Sink,
+    write_all,
+};
+use std::test::Fail;
+use std::{env, fs, process};
+
+fn is_text(answer: &Result<Vec<u8>, LoadFault>, text: &[u8]) -> bool {
+    match answer {
+        Ok(bytes) => bytes.as_slice() == text,
+        Err(_) => false,
+    }
+}
+
+fn is_fault(answer: &Result<Vec<u8>, LoadFault>, fault: LoadFault) -> bool {
+    match answer {
+        Ok(_) => false,
+        Err(met) => *met == fault,
+    }
+}
+
+#[test]
+fn memory(rt: HostRuntime) -> Result<(), Fail> {
+    let alloc = rt.alloc();
+    let mut shelf = MemShelf::new(alloc, [3, 6].to_vec(alloc)?);
+    shelf.add("a", b"first")?;
+    shelf.add("a", b"hello")?;
+    assert!(rt; is_text(&shelf.load("a", 5), b"hello"), "call 1");
+    assert!(rt; is_fault(&shelf.load("a", 4), LoadFault::TooLong), "call 2");
+    assert!(rt; is_fault(&shelf.load("a", 5), LoadFault::Failed), "call 3");
+    assert!(rt; is_fault(&shelf.load("b", 5), LoadFault::Failed), "call 4");
+    assert_eq!(rt; shelf.store("b", b"new"), Ok(()), "call 5");
+    assert_eq!(rt; shelf.store("b", b"newer"), Err(Failed), "call 6");
+    assert!(rt; shelf.bytes("b") == Some(b"new".as_slice()));
+    assert!(rt; shelf.bytes("c").is_none());
+
+    let mut sink = MemSink::new(alloc, [2].to_vec(alloc)?);
+    assert_eq!(rt; write_all(&mut sink, b"one"), Ok(()));
+    assert_eq!(rt; write_all(&mut sink, b"two"), Err(Failed));
+    assert_eq!(rt; write_all(&mut sink, b"three"), Ok(()));
+    assert!(rt; sink.bytes() == b"onethree".as_slice());
+    Ok(())
+}
+
+#[test]
+fn never(rt: HostRuntime) -> Result<(), Fail> {
+    let alloc = rt.alloc();
+    let mut texts = Vec::new(alloc);
+    for (name, text) in [("a", "first"), ("b", "other"), ("a", "second")] {
+        texts.push((
+            String::from_str(alloc, name)?,
+            text.as_bytes().to_vec(alloc)?,
+        ))?;
+    }
+    let mut shelf = NeverShelf::new(alloc, texts);
+    assert_eq!(rt; shelf.store("c", b"kept"), Ok(()));
+    for (name, text) in [("a", "first"), ("b", "other"), ("c", "")] {
+        assert!(rt; is_text(&shelf.load(name, 5), text.as_bytes()), "at {name}");
+    }
+    assert!(rt; is_fault(&shelf.load("a", 4), LoadFault::TooLong));
+    assert_eq!(rt; write_all(&mut NeverSink, b"text"), Ok(()));
+    Ok(())
+}
+
+#[test]
+fn host_shelf(rt: HostRuntime) -> Result<(), Fail> {
+    let alloc = rt.alloc();
+    let folder = env::temp_dir(&rt)?;
+    let name = format!(in alloc; "{}/sf_io-{}", folder.display(), process::id(rt.process()))?;
+    let mut shelf = HostShelf::new(rt, alloc);
+    let mut text = Vec::new(alloc);
+    for number in 0..40_000u32 {
+        text.push((number % 251) as u8)?;
+    }
+    assert_eq!(rt; shelf.store(name.as_str(), &text), Ok(()));
+    assert!(rt; is_text(&shelf.load(name.as_str(), 40_000), &text));
+    assert!(rt; is_fault(&shelf.load(name.as_str(), 39_999), LoadFault::TooLong));
+    assert_eq!(rt; shelf.store(name.as_str(), b"short"), Ok(()));
+    assert!(rt; is_text(&shelf.load(name.as_str(), 40_000), b"short"));
+    fs::remove_file(&rt, name.as_str())?;
+    assert!(rt; is_fault(&shelf.load(name.as_str(), 5), LoadFault::Failed));
+    assert!(rt; is_fault(&shelf.load("/dev/zero", 100_000), LoadFault::TooLong));
+    assert_eq!(rt; shelf.store("/dev/full", b"text"), Err(Failed));
+    Ok(())
+}
+
+#[test]
+fn host_sink(rt: HostRuntime) -> Result<(), Fail> {
+    let mut sink = HostSink::new(rt);
+    assert_eq!(rt; sink.put(b""), Ok(0));
+    assert_eq!(rt; write_all(&mut sink, b"a line of the sink\n"), Ok(()));
+    Ok(())
+}

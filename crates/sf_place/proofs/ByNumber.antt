@@ -1,0 +1,243 @@
+-- The spots of a plan by block number: the same wire, the same ends, and a legal placement.
+use Rattle.std.proofs.Common.{length-append, ◌≡◌, ℕ, suc, ◌+◌, ◌<◌, ◌≤◌, max, List, [], ◌∷◌, ◌++◌, map, length, get_or, All, AllPairs, arith, refl, sym, ap, subst, ◌∙◌, ◌==◌, cond, ◌⊎◌, inl, inr}
+use Prim.Native.Nat.{zero}
+use Rattle.std.specs.Prelude.{count_by, Contains, slice_set, pos, ◌+ℤ◌, ◌*ℤ◌, nat_abs, sum_by}
+use Rattle.std.specs.List.{AllByRecursion, range_with_len}
+use Rattle.std.proofs.lemmas.Bool.{cases_eq, cases_lt}
+use Rattle.std.proofs.lemmas.Int.{ints}
+use Rattle.std.proofs.lemmas.List.{get_or-set_same, get_or-set_other, length-set}
+use Rattle.std.proofs.lemmas.List.Sums.{sum_by-append, sum_by-cons}
+use Rattle.std.proofs.lemmas.List.Elements.{recursion_from_All}
+use Rattle.std.proofs.lemmas.List.FromFn.{fill_by_all, length-map-range_with_len, get_or-map-range_with_len}
+use Rattle.sf_model.specs.declared.design.Design.{Design}
+use Rattle.sf_model.specs.declared.parts.Net.{Net}
+use Rattle.sf_model.specs.declared.parts.Pin.{Pin}
+use Rattle.sf_model.specs.declared.parts.Pin.TheVariants as pin
+use Rattle.sf_model.specs.declared.parts.Shape.{Shape}
+use Rattle.sf_model.specs.declared.plan.Spot.{Spot}
+use Rattle.sf_model.specs.Tree.{Tree, Leaf, Beside, Above, width, height, leaves, leaf_count, spots_at, spots_of, Overlaps, IsInside}
+use Rattle.sf_model.specs.Legal.{HasEachOnce, IsLegal, Fits, block_count, shapes_of}
+use Rattle.sf_model.specs.Wire.{spot_of, pin_x, pin_y, net_wire, wire, spread}
+use Rattle.sf_model.specs.Cost.{right_end, upper_end, cost, spots_cost, weighed}
+use Rattle.sf_model.proofs.Each.{each-append, each-weaker, each-left, each-right, EachPair}
+use Rattle.sf_model.proofs.Places.{spots-inside, spots-apart}
+use Rattle.sf_model.proofs.Ends.{right_end-spots_of, upper_end-spots_of}
+use Rattle.sf_model.proofs.Counting.{length-leaves_once}
+use Rattle.sf_place.specs.Spots.{IsByNumber, by_number, placed, HasBlocksBelow}
+use Rattle.sf_place.specs.Verdict.{AreLegal, IsListed, LiesIn}
+use Rattle.sf_place.proofs.Found.{count, count-same, count-other, spot_of-same, spot_of-other, block-spot_of, spot_of-all, spot_of-none, spot_of-pair, greatest, greatest-same}
+use Rattle.sf_place.proofs.Numbered.{spot_of_numbered}
+
+-- a list by number has each block once at most
+count-before : (a n : ℕ) (ss : List Spot) → map (λ s. s.block) ss ≡ range_with_len a n → (b : ℕ) → b < a → count b ss ≡ 0
+count-before a n [] e b h = refl
+count-before a zero (s ∷ ss) e b h = cc
+count-before a (suc n) (s ∷ ss) e b h =
+    let is : s.block ≡ a = cc in
+    let tail : map (λ s. s.block) ss ≡ range_with_len (a + 1) n = cc in
+    omega (arith, count-other b s ss (λ q. absurd (omega (arith, is, q, h))), count-before (a + 1) n ss tail b (omega arith))
+
+count-few : (a n : ℕ) (ss : List Spot) → map (λ s. s.block) ss ≡ range_with_len a n → (b : ℕ) → count b ss ≤ 1
+count-few a n [] e b = omega arith
+count-few a zero (s ∷ ss) e b = cc
+count-few a (suc n) (s ∷ ss) e b =
+    let is : s.block ≡ a = cc in
+    let tail : map (λ s. s.block) ss ≡ range_with_len (a + 1) n = cc in
+    elim (cases_eq s.block b) [
+      inl q ↦ omega (arith, count-same b s ss q, count-before (a + 1) n ss tail b (omega (arith, is, q)))
+    | inr q ↦ omega (arith, count-other b s ss q, count-few (a + 1) n ss tail b) ]
+
+blocks-map : (f : ℕ → Spot) → ((b : ℕ) → (f b).block ≡ b) → (a n : ℕ) → map (λ s. s.block) (map f (range_with_len a n)) ≡ range_with_len a n
+blocks-map f is a zero = refl
+blocks-map f is a (suc n) = let h = is a in let t = blocks-map f is (a + 1) n in cc
+
+-- spots looked up by number stand by number
+pub numbered-by_number : (n : ℕ) (ss : List Spot) → IsByNumber n (by_number n ss)
+numbered-by_number n ss = blocks-map (λ b. spot_of b ss) (λ b. block-spot_of b ss) 0 n
+
+length-by_number : (n : ℕ) (ss : List Spot) → length (by_number n ss) ≡ n
+length-by_number n ss = length-map-range_with_len (λ b. spot_of b ss) 0 n
+
+pub get-by_number : (n : ℕ) (ss : List Spot) (k : ℕ) (d : Spot) → k < n → get_or (by_number n ss) k d ≡ spot_of k ss
+get-by_number n ss k d h = get_or-map-range_with_len (λ b. spot_of b ss) 0 n k k d h (omega arith)
+
+count-past : (a n b : ℕ) (ss : List Spot) → map (λ s. s.block) ss ≡ range_with_len a n → a + n ≤ b → count b ss ≡ 0
+count-past a n b [] e h = refl
+count-past a zero b (s ∷ ss) e h = cc
+count-past a (suc n) b (s ∷ ss) e h =
+    let is : s.block ≡ a = cc in
+    let tail : map (λ s. s.block) ss ≡ range_with_len (a + 1) n = cc in
+    omega (arith, count-other b s ss (λ q. absurd (omega (arith, is, q, h))), count-past (a + 1) n b ss tail (omega arith))
+
+-- each block has the same spot
+pub spot_of-by_number : (n : ℕ) (ss : List Spot) → ((b : ℕ) → n ≤ b → count b ss ≡ 0) → (b : ℕ) → spot_of b (by_number n ss) ≡ spot_of b ss
+spot_of-by_number n ss none b =
+    let is = numbered-by_number n ss in
+    elim (cases_lt b n) [
+      inl h ↦ spot_of_numbered n (by_number n ss) b (spot_of b []) is (omega (arith, h, length-by_number n ss)) ∙ get-by_number n ss b (spot_of b []) h
+    | inr h ↦ spot_of-none b (by_number n ss) (count-past 0 n b (by_number n ss) is (omega arith)) ∙ sym (spot_of-none b ss (none b h)) ]
+
+-- the wire depends on the spot of each block alone
+module _ (design : Design) (xs ys : List Spot) (same : (b : ℕ) → spot_of b xs ≡ spot_of b ys) where
+  pins_x-same : (pins : List Pin) → map (pin_x design xs) pins ≡ map (pin_x design ys) pins
+  pins_x-same [] = refl
+  pins_x-same (pin.Block b ∷ ps) = let h = ap (λ s. pos 2 *ℤ s.x +ℤ pos s.w) (same b) in let t = pins_x-same ps in cc
+  pins_x-same (pin.Pad p ∷ ps) = let t = pins_x-same ps in cc
+
+  pins_y-same : (pins : List Pin) → map (pin_y design xs) pins ≡ map (pin_y design ys) pins
+  pins_y-same [] = refl
+  pins_y-same (pin.Block b ∷ ps) = let h = ap (λ s. pos 2 *ℤ s.y +ℤ pos s.h) (same b) in let t = pins_y-same ps in cc
+  pins_y-same (pin.Pad p ∷ ps) = let t = pins_y-same ps in cc
+
+  nets-same : (nets : List Net) → sum_by (net_wire design xs) nets ≡ sum_by (net_wire design ys) nets
+  nets-same [] = refl
+  nets-same (net ∷ nets) =
+      omega (arith, sum_by-cons (net_wire design xs) net nets, sum_by-cons (net_wire design ys) net nets,
+        ap spread (pins_x-same net.pins), ap spread (pins_y-same net.pins), nets-same nets)
+
+  pub wire-same : wire design xs ≡ wire design ys
+  wire-same = nets-same design.nets
+
+right_end-greatest : (ss : List Spot) → right_end ss ≡ greatest (λ s. nat_abs (s.x +ℤ pos s.w)) ss
+right_end-greatest [] = refl
+right_end-greatest (s ∷ ss) = ap (max (nat_abs (s.x +ℤ pos s.w))) (right_end-greatest ss)
+
+upper_end-greatest : (ss : List Spot) → upper_end ss ≡ greatest (λ s. nat_abs (s.y +ℤ pos s.h)) ss
+upper_end-greatest [] = refl
+upper_end-greatest (s ∷ ss) = ap (max (nat_abs (s.y +ℤ pos s.h))) (upper_end-greatest ss)
+
+-- a block has as many spots as leaves
+count-spots : (b x y : ℕ) (t : Tree) → count b (spots_at x y t) ≡ count_by (λ leaf. leaf.0 == b) (leaves t)
+count-spots b x y (Leaf c s) = refl
+count-spots b x y (Beside l r) =
+    omega (arith, sum_by-append (λ s. cond (s.block == b) 1 0) (spots_at x y l) (spots_at (x + width l) y r), sum_by-append (λ leaf. cond (leaf.0 == b) 1 0) (leaves l) (leaves r), count-spots b x y l, count-spots b (x + width l) y r)
+count-spots b x y (Above l r) =
+    omega (arith, sum_by-append (λ s. cond (s.block == b) 1 0) (spots_at x y l) (spots_at x (y + height l) r), sum_by-append (λ leaf. cond (leaf.0 == b) 1 0) (leaves l) (leaves r), count-spots b x y l, count-spots b x (y + height l) r)
+
+-- what holds of each leaf holds of each spot
+spots-each : (P : ℕ → Shape → Type 0) (x y : ℕ) (t : Tree) → AllByRecursion (λ leaf. P leaf.0 leaf.1) (leaves t) → AllByRecursion (λ s. P s.block (record { w = s.w; h = s.h })) (spots_at x y t)
+spots-each P x y (Leaf b s) a = (a.0, tt)
+spots-each P x y (Beside l r) a =
+    each-append _ (spots_at x y l) (spots_at (x + width l) y r)
+      (spots-each P x y l (each-left _ (leaves l) (leaves r) a)) (spots-each P (x + width l) y r (each-right _ (leaves l) (leaves r) a))
+spots-each P x y (Above l r) a =
+    each-append _ (spots_at x y l) (spots_at x (y + height l) r)
+      (spots-each P x y l (each-left _ (leaves l) (leaves r) a)) (spots-each P x (y + height l) r (each-right _ (leaves l) (leaves r) a))
+
+none-past : (n : ℕ) (ss : List Spot) → AllByRecursion (λ s. s.block < n) ss → (b : ℕ) → n ≤ b → count b ss ≡ 0
+none-past n [] a b h = refl
+none-past n (s ∷ ss) a b h = omega (arith, count-other b s ss (λ q. absurd (omega (arith, q, h, a.0))), none-past n ss a.1 b h)
+
+recursion_from_AllPairs : {X : Type 0} (R : X → X → Type 0) (xs : List X) → AllPairs R xs → EachPair R xs
+recursion_from_AllPairs R [] p = tt
+recursion_from_AllPairs R (x ∷ xs) p =
+    (recursion_from_All (R x) xs (λ k d h. p 0 (suc k) d (omega arith) (omega arith)),
+     recursion_from_AllPairs R xs (λ i j d h k. p (suc i) (suc j) d (omega arith) (omega arith)))
+
+turned : (s t : Spot) → ¬ (Overlaps s t) → ¬ (Overlaps t s)
+turned s t apart o = apart (record { left = o.right; right = o.left; below = o.above; above = o.below })
+
+module _ (n : ℕ) (tree : Tree) (once : HasEachOnce n tree) where
+  below : AllByRecursion (λ s. s.block < n) (spots_of tree)
+  below = spots-each (λ b s. b < n) 0 0 tree (recursion_from_All (λ leaf. leaf.0 < n) (leaves tree) once.no_other)
+
+  none : (b : ℕ) → n ≤ b → count b (spots_of tree) ≡ 0
+  none = none-past n (spots_of tree) below
+
+  one : (b : ℕ) → b < n → count b (spots_of tree) ≡ 1
+  one b h = count-spots b 0 0 tree ∙ once.each_once b h
+
+  few : (b : ℕ) → count b (spots_of tree) ≤ 1
+  few b = elim (cases_lt b n) [ inl h ↦ omega (arith, one b h) | inr h ↦ omega (arith, none b h) ]
+
+  pub plan-spot_of : (b : ℕ) → spot_of b (by_number n (spots_of tree)) ≡ spot_of b (spots_of tree)
+  plan-spot_of = spot_of-by_number n (spots_of tree) none
+
+  pub plan-wire : (design : Design) → wire design (by_number n (spots_of tree)) ≡ wire design (spots_of tree)
+  plan-wire design = wire-same design (by_number n (spots_of tree)) (spots_of tree) plan-spot_of
+
+  same_greatest : (end : Spot → ℕ) → ((b : ℕ) → end (spot_of b []) ≡ 0) → greatest end (by_number n (spots_of tree)) ≡ greatest end (spots_of tree)
+  same_greatest end nowhere =
+      greatest-same end nowhere (by_number n (spots_of tree)) (spots_of tree)
+        (count-few 0 n (by_number n (spots_of tree)) (numbered-by_number n (spots_of tree))) few plan-spot_of
+
+  plan-right : right_end (by_number n (spots_of tree)) ≡ width tree
+  plan-right = right_end-greatest (by_number n (spots_of tree)) ∙ same_greatest (λ s. nat_abs (s.x +ℤ pos s.w)) (λ b. refl) ∙ sym (right_end-greatest (spots_of tree)) ∙ right_end-spots_of tree
+
+  plan-upper : upper_end (by_number n (spots_of tree)) ≡ height tree
+  plan-upper = upper_end-greatest (by_number n (spots_of tree)) ∙ same_greatest (λ s. nat_abs (s.y +ℤ pos s.h)) (λ b. refl) ∙ sym (upper_end-greatest (spots_of tree)) ∙ upper_end-spots_of tree
+
+  pub plan-cost : (design : Design) → spots_cost design (by_number n (spots_of tree)) ≡ cost design tree
+  plan-cost design = let a = plan-right in let b = plan-upper in let c = plan-wire design in cc
+
+  by_number-all : (P : Spot → Type 0) → AllByRecursion P (spots_of tree) → All P (by_number n (spots_of tree))
+  by_number-all P a k d h =
+      let lt : k < n = omega (arith, h, length-by_number n (spots_of tree)) in
+      subst P (sym (get-by_number n (spots_of tree) k d lt)) (spot_of-all P k (spots_of tree) a (omega (arith, one k lt)))
+
+  by_number-apart : AllPairs (λ s t. ¬ (Overlaps s t)) (by_number n (spots_of tree))
+  by_number-apart i j d h k =
+      let j_low : j < n = omega (arith, k, length-by_number n (spots_of tree)) in
+      let i_low : i < n = omega (arith, h, j_low) in
+      let R : Spot → Spot → Type 0 = λ s t. ¬ (Overlaps s t) in
+      subst (λ v. R v (get_or (by_number n (spots_of tree)) j d)) (sym (get-by_number n (spots_of tree) i d i_low))
+        (subst (R (spot_of i (spots_of tree))) (sym (get-by_number n (spots_of tree) j d j_low))
+          (spot_of-pair R turned i j (λ e. absurd (omega (arith, e, h))) (spots_of tree)
+            (recursion_from_AllPairs R (spots_of tree) (spots-apart tree)) (omega (arith, one i i_low)) (omega (arith, one j j_low))))
+
+wider : (outline_w outline_h w h : ℕ) → w ≤ outline_w → h ≤ outline_h → (s : Spot) → IsInside w h s → IsInside outline_w outline_h s
+wider a b w h p q s i =
+    let r = i.right in let u = i.above in
+    record { left = i.left; right = omega (arith, ints); below = i.below; above = omega (arith, ints) }
+
+-- the spots of a floorplan that fits are a legal placement
+pub plan-legal : (design : Design) (tree : Tree) → IsLegal design tree → Fits design.outline tree → AreLegal design (by_number (block_count design) (spots_of tree))
+plan-legal design tree legal fits = record {
+    by_number = numbered-by_number (block_count design) (spots_of tree);
+    listed = by_number-all (block_count design) tree legal.blocks (IsListed design)
+      (spots-each (λ b s. Contains (shapes_of design b) s) 0 0 tree (recursion_from_All (λ leaf. Contains (shapes_of design leaf.0) leaf.1) (leaves tree) legal.listed));
+    inside = by_number-all (block_count design) tree legal.blocks (LiesIn design.outline)
+      (each-weaker (IsInside (width tree) (height tree)) (LiesIn design.outline) (wider design.outline.w design.outline.h (width tree) (height tree) fits.0 fits.1) (spots_of tree)
+        (recursion_from_All (IsInside (width tree) (height tree)) (spots_of tree) (spots-inside tree)));
+    apart = by_number-apart (block_count design) tree legal.blocks
+  }
+
+blocks-below : (n : ℕ) (t : Tree) → AllByRecursion (λ leaf. leaf.0 < n) (leaves t) → HasBlocksBelow n t
+blocks-below n (Leaf b s) a = a.0
+blocks-below n (Beside l r) a = (blocks-below n l (each-left _ (leaves l) (leaves r) a), blocks-below n r (each-right _ (leaves l) (leaves r) a))
+blocks-below n (Above l r) a = (blocks-below n l (each-left _ (leaves l) (leaves r) a), blocks-below n r (each-right _ (leaves l) (leaves r) a))
+
+pub plan-below : (n : ℕ) (tree : Tree) → HasEachOnce n tree → HasBlocksBelow n tree
+plan-below n tree once = blocks-below n tree (recursion_from_All (λ leaf. leaf.0 < n) (leaves tree) once.no_other)
+
+leaf_count-leaves : (t : Tree) → leaf_count t ≡ length (leaves t)
+leaf_count-leaves (Leaf b s) = refl
+leaf_count-leaves (Beside l r) = omega (arith, leaf_count-leaves l, leaf_count-leaves r, length-append (leaves l) (leaves r))
+leaf_count-leaves (Above l r) = omega (arith, leaf_count-leaves l, leaf_count-leaves r, length-append (leaves l) (leaves r))
+
+pub plan-leaves : (n : ℕ) (tree : Tree) → HasEachOnce n tree → leaf_count tree ≡ n
+plan-leaves n tree once = leaf_count-leaves tree ∙ length-leaves_once n tree once
+
+length-placed : (old ss : List Spot) → length (placed old ss) ≡ length old
+length-placed old [] = refl
+length-placed old (s ∷ ss) = length-placed (slice_set old s.block s) ss ∙ length-set old s.block s
+
+untouched : (b : ℕ) (old ss : List Spot) (d : Spot) → count b ss ≡ 0 → get_or (placed old ss) b d ≡ get_or old b d
+untouched b old [] d h = refl
+untouched b old (s ∷ ss) d h = elim (cases_eq s.block b) [
+    inl e ↦ absurd (omega (arith, h, count-same b s ss e))
+  | inr n ↦ untouched b (slice_set old s.block s) ss d (omega (arith, h, count-other b s ss n)) ∙ get_or-set_other old s.block b s d (λ q. n (sym q)) ]
+
+written : (b : ℕ) (old ss : List Spot) (d : Spot) → b < length old → count b ss ≡ 1 → get_or (placed old ss) b d ≡ spot_of b ss
+written b old [] d l h = absurd (omega (arith, h))
+written b old (s ∷ ss) d l h = elim (cases_eq s.block b) [
+    inl e ↦ untouched b (slice_set old s.block s) ss d (omega (arith, h, count-same b s ss e))
+      ∙ subst (λ v. get_or (slice_set old v s) b d ≡ s) (sym e) (get_or-set_same old b s d l) ∙ sym (spot_of-same b s ss e)
+  | inr n ↦ written b (slice_set old s.block s) ss d (omega (arith, l, length-set old s.block s)) (omega (arith, h, count-other b s ss n)) ∙ sym (spot_of-other b s ss n) ]
+
+-- spots written at their blocks' numbers stand by number
+pub plan-placed : (n : ℕ) (tree : Tree) → HasEachOnce n tree → (old : List Spot) → length old ≡ n → placed old (spots_of tree) ≡ by_number n (spots_of tree)
+plan-placed n tree once old e =
+    fill_by_all (λ b. spot_of b (spots_of tree)) (placed old (spots_of tree)) n (spot_of 0 [])
+      (length-placed old (spots_of tree) ∙ e)
+      (λ b h. written b old (spots_of tree) (spot_of 0 []) (omega (arith, e, h)) (one n tree once b h))

@@ -1,0 +1,5 @@
+pub mod Measured
+pub mod Writes
+pub mod Numbered
+pub mod Found
+pub mod ByNumber
