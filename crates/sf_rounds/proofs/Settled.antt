@@ -26,7 +26,10 @@ use Rattle.sf_search_core.specs.Conserved.{branched}
 use Rattle.sf_search_core.specs.Events.{held_in, held_by, applied, take, close, offer, replace, kind_of, may_branch, tasks, AreBounds, CanCome}
 use Rattle.sf_search_core.specs.Outcome.{next_of, after_event, after_events}
 use Rattle.sf_search_core.proofs.Replaced.{replaced, replace-done}
+use Rattle.sf_model.specs.Legal.{block_count}
+use Rattle.sf_certificate.specs.Form.{IsPlanFor}
 use Rattle.sf_certificate.specs.Valid.{HasCost}
+use Rattle.sf_rounds.proofs.Formed.{plan-formed}
 use Rattle.sf_worker.specs.declared.decision.Decision.{Decision}
 use Rattle.sf_worker.specs.declared.decision.Decision.TheVariants.{Closed, Solved, Extended, Split}
 use Rattle.sf_worker.specs.Decided.{first_wide, valued, IsSolvedBy, IsSplitInto, IsExtendedTo, IsDecision}
@@ -92,7 +95,7 @@ pub record IsOffered (design : Design) (bound : Parts → ℕ) (state : State) (
   pub closes : IsOk (close (after_event design state (Offer 0 z)) 0 z (held_by (after_event design state (Offer 0 z)) 0))
   pub settled : after_events design state (settling design bound (held_by state 0) state.word) ≡ after_event design (after_event design state (Offer 0 z)) (Close 0 z)
   pub word : (after_event design (after_event design state (Offer 0 z)) (Close 0 z)).word ≡ z
-  pub best : HasCost design expr z
+  pub best : HasCost design expr z × IsPlanFor (block_count design) expr
 
 plan-cost : (design : Design) (node : Parts) (expr : Expr) (z : ℕ) → IsPlanOf design node expr z → HasCost design expr z
 plan-cost design node expr z p = record { tree = p.tree; spells = p.spells; legal = p.belongs.legal; fits = p.fits; costs = p.costs }
@@ -109,7 +112,7 @@ module _ (design : Design) (bound : Parts → ℕ) (state : State) where
         closes = subst (λ (s : State). IsOk (close s 0 t.bound (held_by s 0))) (sym first) (ap is_ok last);
         settled = ap (λ h. after_events design state (settling design bound h state.word)) e ∙ ap (after_events design state) (settling-solved design bound t state.word d.below d.solved);
         word = subst (λ (s : State). (after_event design s (Close 0 t.bound)).word ≡ t.bound) (sym first) (ap (λ r. (next_of s1 r).word) last ∙ least);
-        best = plan-cost design t.node expr t.bound (subst (IsPlanOf design t.node expr) d.same d.plan)
+        best = (let plan = subst (IsPlanOf design t.node expr) d.same d.plan in (plan-cost design t.node expr t.bound plan, plan-formed design t.node expr t.bound plan))
       })
 
   pub offered : (expr : Expr) (z : ℕ) → Decides design bound (held_by state 0) state.word (Solved expr z) → IsOffered design bound state expr z

@@ -8,6 +8,7 @@ ghost use Rattle.sf_rounds.specs.Run.{IsIdle, IsBest};
 
 use crate::events::turn;
 use sf_bounds::{Bounds, Room};
+use sf_io::Gate;
 use sf_model::Design;
 use sf_node::Node;
 use sf_polish::expr::Expr;
@@ -22,7 +23,7 @@ pub struct Searched {
 }
 
 /// Decides the last open task, turn by turn, until none is open or `nodes` are decided.
-pub fn search<B: Bounds>(alloc: Global, design: &Design, bounds: &B, nodes: u64) -> Result<Searched, NoMemory>
+pub fn search_pool<B: Bounds, G: Gate>(alloc: Global, design: &Design, bounds: &B, nodes: u64, gate: &G) -> Result<Searched, NoMemory>
     ensures run { IfOk result (λ done. done.pool ≡ turns design.now (B.Values.value bounds.now design.now) nodes (opening design.now (B.Values.value bounds.now design.now) 1)) }
     ensures core { IfOk result (λ done. IsCoreState design.now (B.Values.value bounds.now design.now) done.pool) }
     ensures idle { IfOk result (λ done. IsIdle done.pool) }
@@ -34,15 +35,16 @@ pub fn search<B: Bounds>(alloc: Global, design: &Design, bounds: &B, nodes: u64)
     ensures outcome { IfOk result (λ done. IsOutcome design.now done.pool) }
     ensures splits { IfOk result (λ done. AllBranchFirst design.now done.pool.entries) }
 {
-    let mut room = Room::new();
+    let mut room = Room::new(alloc);
     let root = Node::root(alloc, design)?;
     let bound = bounds.bound(design, &root, &mut room)?;
     let mut pool = Pool::new(alloc, design, bound, 1, bounds)?;
     let mut best = None;
-    for _turn in 0..nodes {
+    for step in 0..nodes {
         if pool.open_tasks().is_empty() {
             break;
         }
+        gate.at(0, step);
         turn(alloc, &mut pool, &mut best, design, bounds, &mut room)?;
     }
     Ok(Searched { pool, best })
