@@ -6,8 +6,8 @@ ghost use Rattle.sf_node.specs.Subproblem.{root};
 ghost use Rattle.sf_search_core.specs.Conserved.{IsConserved};
 ghost use Rattle.sf_certificate.specs.Form.{IsPlanFor};
 ghost use Rattle.sf_node.specs.Order.{rank, step_cmp, steps_cmp};
-ghost use Rattle.sf_certificate.specs.Marks.{tag_of, given_marks};
-ghost use Rattle.sf_certificate.specs.Valid.{HasCost, IsValid, least};
+ghost use Rattle.sf_certificate.specs.Marks.{tag_of, given_marks, marks};
+ghost use Rattle.sf_certificate.specs.Valid.{HasCost, IsValid, least, decided};
 
 use crate::cert::Cert;
 use crate::mark::Mark;
@@ -126,6 +126,10 @@ pub fn merge<V: Values>(
     requires valued { All (λ t. t.bound ≡ V.value values.now design.now t.node) left.items }
     requires planned { MatchOption plan (cost ≡ MAX) (λ expr. HasCost design.now expr cost × IsPlanFor (block_count design.now) expr) }
     ensures valid { IfOk result (λ c. IsValid design.now (V.value values.now design.now) c) }
+    // The tree's subproblems with their tags are the entries and the open tasks.
+    ensures placed { IfOk result (λ c. IsPermutation (given_marks entries.items left.items) (marks (root design.now ∷ []) c.tags)) }
+    ensures decided { IfOk result (λ c. decided c.tags ≡ length entries.items) }
+    ensures bound { IfOk result (λ c. c.bound ≡ least cost (map (λ t. t.bound) left.items)) }
     ensures blocks { IfOk result (λ c. c.blocks ≡ block_count design.now) }
     ensures plan { IfOk result (λ c. c.plan ≡ plan) }
     ensures cost { IfOk result (λ c. c.cost ≡ cost) }
