@@ -1,0 +1,240 @@
+-- The states that the events of a turn make.
+use Rattle.std.proofs.Common.{◌≡◌, ℕ, suc, ◌+◌, ◌-◌, ◌<◌, ◌≤◌, min, List, [], ◌∷◌, ◌++◌, map, reverse, length, All, arith, refl, ap, sym, subst, ◌∙◌, Option, Some, None, Result, Ok, Err, Bool, true, false, cond, not, length-append, eq-eqb, inl, inr}
+use Prim.Native.Nat.{zero}
+use Rattle.std.specs.Prelude.{IsOk, IfOk, slice_set, slice_get, nat_lt, nat_le, remove, IsTrue, IsFalse, ◌==◌, ◌&&◌, ◌||◌}
+use Rattle.std.specs.List.{list_all}
+use Rattle.std.specs.Result.{is_ok}
+use Rattle.std.proofs.lemmas.Bool.{lt-ltb, cond-true, cond-false, cases_Bool, cases_lt}
+use Rattle.std.proofs.lemmas.List.{length-map}
+use Rattle.std.proofs.lemmas.List.Elements.{All-push}
+use Rattle.sf_model.specs.declared.design.Design.{Design}
+use Rattle.sf_polish.specs.declared.expr.Expr.{Expr}
+use Rattle.sf_node.specs.declared.task.Task.{Task}
+use Rattle.sf_node.specs.Parts.{Parts}
+use Rattle.sf_node.specs.Subproblem.{is_complete, is_solved, is_wide, span_of}
+use Rattle.sf_node.specs.Children.{extended, split, CanSplit}
+use Rattle.sf_bounds.specs.Cheapest.{IsPlanOf}
+use Rattle.sf_search_core.specs.declared.entry.Entry.{Entry}
+use Rattle.sf_search_core.specs.declared.entry.Kind.{Kind}
+use Rattle.sf_search_core.specs.declared.entry.Kind.TheVariants as kind
+use Rattle.sf_search_core.specs.declared.event.Event.{Event}
+use Rattle.sf_search_core.specs.declared.event.Event.TheVariants.{Take, Replace, Close, Offer}
+use Rattle.sf_search_core.specs.declared.event.How.TheVariants as how
+use Rattle.sf_search_core.specs.declared.refusal.Refusal.{Refusal}
+use Rattle.sf_search_core.specs.State.{State}
+use Rattle.sf_search_core.specs.Conserved.{branched}
+use Rattle.sf_search_core.specs.Events.{held_in, held_by, applied, take, close, offer, replace, kind_of, may_branch, tasks, AreBounds, CanCome}
+use Rattle.sf_search_core.specs.Outcome.{next_of, after_event, after_events}
+use Rattle.sf_search_core.proofs.Replaced.{replaced, replace-done}
+use Rattle.sf_model.specs.Legal.{block_count}
+use Rattle.sf_certificate.specs.Form.{IsPlanFor}
+use Rattle.sf_certificate.specs.Valid.{HasCost}
+use Rattle.sf_rounds.proofs.Formed.{plan-formed}
+use Rattle.sf_worker.specs.declared.decision.Decision.{Decision}
+use Rattle.sf_worker.specs.declared.decision.Decision.TheVariants.{Closed, Solved, Extended, Split}
+use Rattle.sf_worker.specs.Decided.{first_wide, valued, IsSolvedBy, IsSplitInto, IsExtendedTo, IsDecision}
+use Rattle.sf_count.specs.Few.{BranchesFirst, AllBranchFirst}
+use Rattle.sf_count.proofs.Weighed.{entries-few}
+use Rattle.sf_node.specs.Full.{full}
+use Rattle.sf_search_core.specs.Core.{IsCoreState, held_tasks}
+use Rattle.sf_rounds.specs.Turns.{settling, turn_of, turn, turns}
+use Rattle.sf_rounds.specs.Run.{IsIdle, IsBest, Decides, IsTurned, IsSettled}
+
+not-lt : (a b : ℕ) → b ≤ a → nat_lt a b ≡ false
+not-lt a b h = grind arith
+
+not-le : (a b : ℕ) → b < a → nat_le a b ≡ false
+not-le a b h = grind arith
+
+is-le : (a b : ℕ) → a ≤ b → nat_le a b ≡ true
+is-le a b h = grind arith
+
+abbrev pub closed : State → Task → ℕ → State
+closed state t v = record state { held = slice_set state.held 0 None; entries = state.entries ++ record { node = t.node; kind = kind.Closed; value = v } ∷ [] }
+
+module _ (design : Design) (state : State) (t : Task) (held : held_by state 0 ≡ Some t) where
+  close-done : (v : ℕ) → state.word ≤ v → v ≤ t.bound → applied design state (Close 0 v) ≡ Ok (closed state t v)
+  close-done v h k = ap (close state 0 v) held ∙ cond-false _ _ _ (not-lt v state.word h) ∙ cond-false _ _ _ (not-lt t.bound v k)
+
+  both-true : is_solved design t.node ≡ true → (is_solved design t.node && t.bound == t.bound) ≡ true
+  both-true solved = ap (λ b. b && t.bound == t.bound) solved ∙ eq-eqb t.bound t.bound refl
+
+  offer-done : is_solved design t.node ≡ true → applied design state (Offer 0 t.bound) ≡ Ok (record state { word = min state.word t.bound })
+  offer-done solved = ap (offer design state t.bound) held ∙ cond-true _ _ _ (both-true solved)
+
+abbrev rest_of : Design → Parts → Bool
+rest_of design node = design.weights.wire == 0 || list_all (λ span. not (is_wide span)) node.spans
+
+-- the events that settle a task, by its case
+module _ (design : Design) (bound : Parts → ℕ) (t : Task) (value : ℕ) where
+  settling-closed : value ≤ t.bound → settling design bound (Some t) value ≡ Close 0 value ∷ []
+  settling-closed h = cond-true _ _ _ (is-le value t.bound h)
+
+  settling-solved : t.bound < value → is_solved design t.node ≡ true → settling design bound (Some t) value ≡ Offer 0 t.bound ∷ Close 0 t.bound ∷ []
+  settling-solved h solved = cond-false _ _ _ (not-le value t.bound h) ∙ cond-true _ _ _ solved
+
+  settling-split : t.bound < value → is_solved design t.node ≡ false → is_complete t.node ≡ true → settling design bound (Some t) value ≡ Replace 0 (how.Split (first_wide t.node)) value (map bound (split t.node (first_wide t.node))) ∷ []
+  settling-split h solved complete = cond-false _ _ _ (not-le value t.bound h) ∙ cond-false _ _ _ solved ∙ cond-true _ _ _ complete
+
+  incomplete-unsolved : is_complete t.node ≡ false → is_solved design t.node ≡ false
+  incomplete-unsolved e = ap (λ b. b && rest_of design t.node) e
+
+  settling-extended : t.bound < value → is_complete t.node ≡ false → settling design bound (Some t) value ≡ Replace 0 how.Extend value (map bound (extended t.node)) ∷ []
+  settling-extended h incomplete = cond-false _ _ _ (not-le value t.bound h) ∙ cond-false _ _ _ (incomplete-unsolved incomplete) ∙ cond-false _ _ _ incomplete
+
+tasks-bounds : (bound : Parts → ℕ) (ns : List Parts) → map (λ (task : Task). task.bound) (tasks ns (map bound ns)) ≡ map bound ns
+tasks-bounds bound [] = refl
+tasks-bounds bound (n ∷ ns) = ap (λ z. bound n ∷ z) (tasks-bounds bound ns)
+
+ok-const : {X E : Type 0} (P : Type 0) (r : Result X E) → P → IfOk r (λ (x : X). P)
+ok-const P (Ok x) p = p
+ok-const P (Err e) p = tt
+
+-- a solved task: the offer and the close are accepted, and the word is then its bound
+pub record IsOffered (design : Design) (bound : Parts → ℕ) (state : State) (expr : Expr) (z : ℕ) : Type 0 where
+  pub closes : IsOk (close (after_event design state (Offer 0 z)) 0 z (held_by (after_event design state (Offer 0 z)) 0))
+  pub settled : after_events design state (settling design bound (held_by state 0) state.word) ≡ after_event design (after_event design state (Offer 0 z)) (Close 0 z)
+  pub word : (after_event design (after_event design state (Offer 0 z)) (Close 0 z)).word ≡ z
+  pub best : HasCost design expr z × IsPlanFor (block_count design) expr
+
+plan-cost : (design : Design) (node : Parts) (expr : Expr) (z : ℕ) → IsPlanOf design node expr z → HasCost design expr z
+plan-cost design node expr z p = record { tree = p.tree; spells = p.spells; legal = p.belongs.legal; fits = p.fits; costs = p.costs }
+
+module _ (design : Design) (bound : Parts → ℕ) (state : State) where
+  offered-at : (held : Option Task) (expr : Expr) (z : ℕ) → held_by state 0 ≡ held → Decides design bound held state.word (Solved expr z) → IsOffered design bound state expr z
+  offered-at None expr z e d = absurd d
+  offered-at (Some t) expr z e d =
+      let s1 : State = record state { word = min state.word t.bound } in
+      let first : after_event design state (Offer 0 t.bound) ≡ s1 = ap (next_of state) (offer-done design state t e d.solved) in
+      let least : min state.word t.bound ≡ t.bound = omega (arith, d.below) in
+      let last : applied design s1 (Close 0 t.bound) ≡ Ok (closed s1 t t.bound) = close-done design s1 t e t.bound (omega arith) (omega arith) in
+      subst (IsOffered design bound state expr) (sym d.same) (record {
+        closes = subst (λ (s : State). IsOk (close s 0 t.bound (held_by s 0))) (sym first) (ap is_ok last);
+        settled = ap (λ h. after_events design state (settling design bound h state.word)) e ∙ ap (after_events design state) (settling-solved design bound t state.word d.below d.solved);
+        word = subst (λ (s : State). (after_event design s (Close 0 t.bound)).word ≡ t.bound) (sym first) (ap (λ r. (next_of s1 r).word) last ∙ least);
+        best = (let plan = subst (IsPlanOf design t.node expr) d.same d.plan in (plan-cost design t.node expr t.bound plan, plan-formed design t.node expr t.bound plan))
+      })
+
+  pub offered : (expr : Expr) (z : ℕ) → Decides design bound (held_by state 0) state.word (Solved expr z) → IsOffered design bound state expr z
+  offered expr z d = offered-at (held_by state 0) expr z refl d
+
+  extended-at : (held : Option Task) (made : List Task) (value : ℕ) → Decides design bound held value (Extended made) → (AreBounds bound how.Extend (map (λ task. task.bound) made) held) × (settling design bound held value ≡ Replace 0 how.Extend value (map (λ task. task.bound) made) ∷ [])
+  extended-at None made value d = absurd d
+  extended-at (Some t) made value d =
+      let same : map (λ (task : Task). task.bound) made ≡ map bound (extended t.node) = ap (map (λ (task : Task). task.bound)) d.children ∙ tasks-bounds bound (extended t.node) in
+      (same, settling-extended design bound t value d.below d.incomplete ∙ ap (λ (cs : List ℕ). Replace 0 how.Extend value cs ∷ []) (sym same))
+
+  pub extended-can : (made : List Task) (costs : List ℕ) → 0 < length state.held → costs ≡ map (λ task. task.bound) made → Decides design bound (held_by state 0) state.word (Extended made) → CanCome bound state (Replace 0 how.Extend state.word costs)
+  extended-can made costs h e d =
+      (h, ok-const (AreBounds bound how.Extend costs (held_by state 0)) (replace state 0 how.Extend state.word costs (held_by state 0))
+        (subst (λ cs. AreBounds bound how.Extend cs (held_by state 0)) (sym e) (extended-at (held_by state 0) made state.word d).0))
+
+  pub extended-made : (made : List Task) (costs : List ℕ) → costs ≡ map (λ task. task.bound) made → Decides design bound (held_by state 0) state.word (Extended made) → after_event design state (Replace 0 how.Extend state.word costs) ≡ after_events design state (settling design bound (held_by state 0) state.word)
+  extended-made made costs e d =
+      ap (λ cs. after_event design state (Replace 0 how.Extend state.word cs)) e ∙ sym (ap (after_events design state) (extended-at (held_by state 0) made state.word d).1)
+
+pub if-ok : {X E : Type 0} (r : Result X E) (P Q : X → Type 0) → ((x : X) → P x → Q x) → IfOk r P → IfOk r Q
+if-ok (Ok x) P Q f p = f x p
+if-ok (Err e) P Q f p = tt
+
+module _ (design : Design) (state : State) where
+  entry-settled : (new : State) (e : Entry) → new.held ≡ slice_set state.held 0 None → new.entries ≡ state.entries ++ e ∷ [] → BranchesFirst design e.kind e.node → IsSettled design state new
+  entry-settled new e h k first = record {
+        held = h;
+        one_more = omega (arith, ap length k, length-append state.entries (e ∷ []));
+        splits = λ a. subst (AllBranchFirst design) (sym k) (All-push (λ entry. BranchesFirst design entry.kind entry.node) state.entries e a first)
+      }
+
+  module _ (bound : Parts → ℕ) where
+    settled-at : (held : Option Task) (decision : Decision) → held_by state 0 ≡ held → Decides design bound held state.word decision → IsSettled design state (after_events design state (settling design bound held state.word))
+    settled-at None decision e d = absurd d
+    settled-at (Some t) Closed e d =
+        let same : after_events design state (settling design bound (Some t) state.word) ≡ closed state t state.word =
+          ap (after_events design state) (settling-closed design bound t state.word d) ∙ ap (next_of state) (close-done design state t e state.word (omega arith) d) in
+        subst (IsSettled design state) (sym same) (entry-settled (closed state t state.word) (record { node = t.node; kind = kind.Closed; value = state.word }) refl refl tt)
+    settled-at (Some t) (Solved expr z) e d =
+        let s1 : State = record state { word = min state.word t.bound } in
+        let same : after_events design state (settling design bound (Some t) state.word) ≡ closed s1 t t.bound =
+          ap (after_events design state) (settling-solved design bound t state.word d.below d.solved)
+            ∙ ap (λ r. after_event design (next_of state r) (Close 0 t.bound)) (offer-done design state t e d.solved)
+            ∙ ap (next_of s1) (close-done design s1 t e t.bound (omega arith) (omega arith)) in
+        subst (IsSettled design state) (sym same) (entry-settled (closed s1 t t.bound) (record { node = t.node; kind = kind.Closed; value = t.bound }) refl refl tt)
+    settled-at (Some t) (Split b left right) e d =
+        let i = first_wide t.node in
+        let wide : CanSplit t.node i = subst (CanSplit t.node) d.first d.wide in
+        let may : may_branch (how.Split i) t.node ≡ true = ap (λ x. x && is_wide (span_of t.node i)) (lt-ltb i (length t.node.spans) wide.0) ∙ wide.1 in
+        let costs = map bound (split t.node i) in
+        let same : after_events design state (settling design bound (Some t) state.word) ≡ replaced state 0 (how.Split i) state.word costs t =
+          ap (after_events design state) (settling-split design bound t state.word d.below d.unsolved d.complete)
+            ∙ ap (next_of state) (replace-done state 0 (how.Split i) state.word costs (held_by state 0) t e (omega arith) d.below may) in
+        subst (IsSettled design state) (sym same) (entry-settled (replaced state 0 (how.Split i) state.word costs t) (record { node = t.node; kind = kind.Split i; value = state.word }) refl refl (d.complete, d.unsolved, refl))
+    settled-at (Some t) (Extended made) e d =
+        let may : may_branch how.Extend t.node ≡ true = ap not d.incomplete in
+        let costs = map bound (extended t.node) in
+        let same : after_events design state (settling design bound (Some t) state.word) ≡ replaced state 0 how.Extend state.word costs t =
+          ap (after_events design state) (settling-extended design bound t state.word d.below d.incomplete)
+            ∙ ap (next_of state) (replace-done state 0 how.Extend state.word costs (held_by state 0) t e (omega arith) d.below may) in
+        subst (IsSettled design state) (sym same) (entry-settled (replaced state 0 how.Extend state.word costs t) (record { node = t.node; kind = kind.Extended; value = state.word }) refl refl tt)
+
+-- taking the last open task
+pub record IsTaken (old mid : State) : Type 0 where
+  pub task : Task
+  pub held : mid.held ≡ Some task ∷ []
+  pub entries : mid.entries ≡ old.entries
+
+got : {X : Type 0} (xs : List X) (i : ℕ) → i < length xs → slice_get xs i ≡ None → ⊥
+got [] i h e = absurd (omega arith)
+got (x ∷ xs) zero h e = absurd (cc)
+got (x ∷ xs) (suc i) h e = got xs i (omega arith) e
+
+module _ (design : Design) (state : State) (idle : IsIdle state) (some : 0 < length state.waiting) where
+  taken-at : (o : Option Task) → slice_get state.waiting (length state.waiting - 1) ≡ o → IsTaken state (after_event design state (Take 0 (length state.waiting - 1)))
+  taken-at None e = absurd (got state.waiting (length state.waiting - 1) (omega arith) e)
+  taken-at (Some t) e =
+      let place = length state.waiting - 1 in
+      let free : held_by state 0 ≡ None = ap (λ h. held_in (slice_get h 0)) idle in
+      let same : after_event design state (Take 0 place) ≡ record state { waiting = remove state.waiting place; held = slice_set state.held 0 (Some t) } =
+        ap (λ o. next_of state (take state 0 place o (held_by state 0))) e ∙ ap (λ h. next_of state (take state 0 place (Some t) h)) free in
+      record {
+        task = t;
+        held = ap (λ (s : State). s.held) same ∙ ap (λ h. slice_set h 0 (Some t)) idle;
+        entries = ap (λ (s : State). s.entries) same
+      }
+
+pub taken-is : (design : Design) (state mid : State) → IsIdle state → 0 < length state.waiting → mid ≡ after_event design state (Take 0 (length state.waiting - 1)) → IsTaken state mid
+taken-is design state mid idle some e = subst (IsTaken state) (sym e) (taken-at design state idle some (slice_get state.waiting (length state.waiting - 1)) refl)
+
+-- a turn: taking, then settling
+pub turned-is : (design : Design) (bound : Parts → ℕ) (old mid new : State) (task : Task) (decision : Decision) → IsTaken old mid → held_by mid 0 ≡ Some task → IsDecision design bound task mid.word decision → new ≡ after_events design mid (settling design bound (held_by mid 0) mid.word) → IsTurned design old new
+turned-is design bound old mid new task decision taken e d made =
+    let decides = subst (λ h. Decides design bound h mid.word decision) (sym e) d in
+    let settled = subst (IsSettled design mid) (sym made) (settled-at design mid bound (held_by mid 0) decision refl decides) in
+    record {
+      idle = settled.held ∙ ap (λ h. slice_set h 0 None) taken.held;
+      one_more = omega (arith, settled.one_more, ap length taken.entries);
+      splits = λ a. settled.splits (subst (AllBranchFirst design) (sym taken.entries) a)
+    }
+
+turn-empty : (design : Design) (bound : Parts → ℕ) (state : State) → state.waiting ≡ [] → turn design bound state ≡ state
+turn-empty design bound state e = ap (λ (ws : List Task). after_events design state (turn_of design bound state (slice_get ws (length ws - 1)))) e
+
+-- turns past the last open task change nothing
+pub turns-still : (design : Design) (bound : Parts → ℕ) (k n : ℕ) (state : State) → k ≤ n → (turns design bound k state).waiting ≡ [] → turns design bound n state ≡ turns design bound k state
+turns-still design bound k zero state h e = ap (λ i. turns design bound i state) (let z : 0 ≡ k = omega arith in z)
+turns-still design bound k (suc n) state h e =
+    elim (cases_lt n k) [
+      inl same ↦ ap (λ i. turns design bound i state) (let z : suc n ≡ k = omega arith in z)
+    | inr less ↦ ap (turn design bound) (turns-still design bound k n state less e) ∙ turn-empty design bound (turns design bound k state) e ]
+
+pub no-task : (ws : List Task) → length ws ≡ 0 → ws ≡ []
+no-task [] e = refl
+no-task (t ∷ ws) e = absurd (omega (arith, e))
+
+-- with a budget of the full count no task stays open
+pub all-decided : (design : Design) (bound : Parts → ℕ) (state : State) (nodes : ℕ) → IsCoreState design bound state → AllBranchFirst design state.entries → (0 < length state.waiting → length state.entries ≡ nodes) → full design ≤ nodes → state.waiting ≡ []
+all-decided design bound state nodes core first spent h =
+    let few = entries-few design bound state core first in
+    let tasks = state.waiting ++ held_tasks state in
+    no-task state.waiting (elim (cases_lt 0 (length state.waiting)) [
+      inl some ↦ absurd (omega (arith, few, spent some, h, length-map {B = Parts} tasks (λ (task : Task). task.node), length-append state.waiting (held_tasks state)))
+    | inr none ↦ omega arith ])

@@ -1,0 +1,99 @@
+//! The whole search, to its certificate.
+
+ghost use Rattle.std.specs.Prelude.{◌≡◌, ◌<◌, ◌≤◌, IfOk};
+ghost use Rattle.sf_model.specs.Legal.{block_count};
+ghost use Rattle.sf_node.specs.Full.{full};
+ghost use Rattle.sf_search_core.specs.Outcome.{opening};
+ghost use Rattle.sf_certificate.specs.Valid.{IsValid, decided};
+ghost use Rattle.sf_rounds.specs.Turns.{turns};
+ghost use Rattle.sf_rounds.specs.Found.{IsCertOf, AllSplitFirst};
+
+use crate::one_worker::search_pool;
+use sf_bounds::Bounds;
+use sf_certificate::Cert;
+use sf_certificate::merging::merge;
+use sf_io::Gate;
+use sf_model::{Design, Shapes};
+use sf_polish::{Expr, Tokens};
+use std::alloc::{AllocError as NoMemory, Global};
+use std::thread::Threads;
+
+/// How many workers are asked for, and how many subproblems may be decided.
+#[derive(Clone, Copy, Debug, PartialEq, Eq)]
+pub struct SearchOptions {
+    pub workers: u16,
+    pub nodes: u64,
+}
+
+/// The best plan found, its cost, a bound that no plan undercuts, the count of decided subproblems, and the certificate
+/// that shows all of it.
+#[derive(Drop)]
+pub struct Found {
+    pub plan: Option<Expr>,
+    pub cost: u64,
+    pub bound: u64,
+    pub decided: u64,
+    pub cert: Cert,
+}
+
+/// Decides the last open subproblem, turn by turn, until none is open or `nodes` are decided; of plans that cost the
+/// same the first is kept. All turns are made by the caller, however many workers are asked for.
+pub fn search<R: Threads + Sync, B: Bounds, G: Gate>(
+    rt: &R,
+    alloc: Global,
+    design: &Design,
+    bounds: &B,
+    options: SearchOptions,
+    gate: &G,
+) -> Result<Found, NoMemory>
+    // The certificate is valid, and what is handed over beside it is its own.
+    ensures valid { IfOk result (λ found. IsValid design.now (B.Values.value bounds.now design.now) found.cert) }
+    ensures blocks { IfOk result (λ found. found.cert.blocks ≡ block_count design.now) }
+    ensures plan { IfOk result (λ found. found.plan ≡ found.cert.plan) }
+    ensures cost { IfOk result (λ found. found.cost ≡ found.cert.cost) }
+    ensures bound { IfOk result (λ found. found.bound ≡ found.cert.bound) }
+    ensures decided { IfOk result (λ found. found.decided ≡ decided found.cert.tags) }
+
+    // The budget is kept, and spent where the bound is below the cost.
+    ensures few { IfOk result (λ found. found.decided ≤ options.nodes) }
+    ensures spent { IfOk result (λ found. found.bound < found.cost → found.decided ≡ options.nodes) }
+
+    // No search decides more than there is, and with so large a budget each one ends.
+    ensures splits { IfOk result (λ found. AllSplitFirst design.now found.cert.tags) }
+    ensures full { IfOk result (λ found. found.decided ≤ full design.now) }
+    ensures ended { IfOk result (λ found. full design.now ≤ options.nodes → found.bound ≡ found.cost) }
+
+    // It is a function of the design and the budget: the state after so many turns of the core.
+    ensures run { IfOk result (λ found. IsCertOf design.now (turns design.now (B.Values.value bounds.now design.now) options.nodes (opening design.now (B.Values.value bounds.now design.now) 1)) found.cert) }
+{
+    let searched = search_pool(alloc, design, bounds, options.nodes, gate)?;
+    let cost = searched.pool.word();
+    let plan = copy_plan(alloc, &searched.best)?;
+    let (left, entries) = searched.pool.into_parts();
+    let decided = entries.len() as u64;
+    let cert = merge(alloc, design, entries, left, searched.best, cost, bounds)?;
+    let bound = cert.bound;
+    Ok(Found {
+        plan,
+        cost,
+        bound,
+        decided,
+        cert,
+    })
+}
+
+fn copy_plan(alloc: Global, plan: &Option<Expr>) -> Result<Option<Expr>, NoMemory>
+    ensures { IfOk result (λ copy. copy ≡ plan.now) }
+{
+    match plan {
+        None => Ok(None),
+        Some(expr) => {
+            let tokens = Vec::from_slice(alloc, expr.tokens.as_slice())?;
+            let shapes = Vec::from_slice(alloc, expr.shapes.as_slice())?;
+            Ok(Some(Expr {
+                tokens: Tokens::from_vec(tokens),
+                shapes: Shapes::from_vec(shapes),
+            }))
+        }
+    }
+}
