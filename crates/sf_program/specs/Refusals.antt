@@ -1,0 +1,65 @@
+-- The lines that are printed where an input is refused.
+use Rattle.std.specs.Prelude.{ℕ, List, [], ◌∷◌, ◌++◌, codes}
+use Rattle.std.specs.Fmt.{decimal}
+use Rattle.sf_lex.specs.declared.number.NumberFault.{NumberFault}
+use Rattle.sf_lex.specs.declared.number.NumberFault.TheVariants.{NotNumber, TooManyDigits, NotWhole, TooLarge}
+use Rattle.sf_model.specs.declared.fault.BuildFault.{BuildFault}
+use Rattle.sf_model.specs.declared.fault.BuildFault.TheVariants as build
+use Rattle.sf_model.specs.declared.fault.Limit.{Limit}
+use Rattle.sf_model.specs.declared.fault.Limit.TheVariants.{Blocks, Pads, Nets, Pins, Side, Area, Coordinate}
+use Rattle.sf_gsrc.specs.declared.fault.GsrcFault.{GsrcFault}
+use Rattle.sf_gsrc.specs.declared.fault.GsrcFault.TheVariants as gsrc
+use Rattle.sf_program.specs.Outcome.{Refusal, bad, over}
+
+-- words with one space between two, and LF at the end
+abbrev pub line_of : List (List ℕ) → List ℕ
+line_of [] = 10 ∷ []
+line_of (word ∷ []) = word ++ 10 ∷ []
+line_of (word ∷ next ∷ words) = word ++ 32 ∷ line_of (next ∷ words)
+
+-- a text that stands for nothing: the kind of text, the line, and the fault with what it carries
+abbrev pub bad_input : List ℕ → ℕ → List (List ℕ) → Refusal
+bad_input source line fault = bad (line_of (codes "error" ∷ codes "BadInput" ∷ source ∷ decimal line ∷ fault))
+
+-- a quantity past its limit
+abbrev pub over_limit : List ℕ → ℕ → ℕ → Refusal
+over_limit quantity found limit = over (line_of (codes "error" ∷ codes "OverLimit" ∷ quantity ∷ decimal found ∷ decimal limit ∷ []))
+
+abbrev pub number_fault : NumberFault → List ℕ
+number_fault NotNumber = codes "NotNumber"
+number_fault TooManyDigits = codes "TooManyDigits"
+number_fault NotWhole = codes "NotWhole"
+number_fault TooLarge = codes "TooLarge"
+
+-- want of memory has no line; it is not met
+abbrev pub gsrc_refusal : List ℕ → GsrcFault → Refusal
+gsrc_refusal source (gsrc.BadTitle line) = bad_input source line (codes "BadTitle" ∷ [])
+gsrc_refusal source (gsrc.BadLine line) = bad_input source line (codes "BadLine" ∷ [])
+gsrc_refusal source (gsrc.BadNumber line fault) = bad_input source line (codes "BadNumber" ∷ number_fault fault ∷ [])
+gsrc_refusal source (gsrc.CountDiffers line said found) = bad_input source line (codes "CountDiffers" ∷ decimal said ∷ decimal found ∷ [])
+gsrc_refusal source (gsrc.BadDegree line said found) = bad_input source line (codes "BadDegree" ∷ decimal said ∷ decimal found ∷ [])
+gsrc_refusal source (gsrc.ZeroSide line) = bad_input source line (codes "ZeroSide" ∷ [])
+gsrc_refusal source (gsrc.Truncated line) = bad_input source line (codes "Truncated" ∷ [])
+gsrc_refusal source gsrc.NoMemory = bad []
+
+abbrev pub limit_word : Limit → List ℕ
+limit_word Blocks = codes "blocks"
+limit_word Pads = codes "pads"
+limit_word Nets = codes "nets"
+limit_word Pins = codes "pins"
+limit_word Side = codes "side"
+limit_word Area = codes "area"
+limit_word Coordinate = codes "coordinate"
+
+-- a fault of the design as a whole
+abbrev pub design_fault : List (List ℕ) → Refusal
+design_fault fault = bad_input (codes "design") 0 fault
+
+abbrev pub build_refusal : BuildFault → Refusal
+build_refusal (build.DuplicateName name) = design_fault (codes "DuplicateName" ∷ name ∷ [])
+build_refusal (build.UnknownName name) = design_fault (codes "UnknownName" ∷ name ∷ [])
+build_refusal build.NoBlocks = design_fault (codes "NoBlocks" ∷ [])
+build_refusal (build.NoShape name) = design_fault (codes "NoShape" ∷ name ∷ [])
+build_refusal (build.OverLimit quantity found limit) = over_limit (limit_word quantity) found limit
+build_refusal (build.MissingPlace name) = design_fault (codes "MissingPlace" ∷ name ∷ [])
+build_refusal build.NoMemory = bad []
