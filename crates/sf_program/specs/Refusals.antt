@@ -9,6 +9,8 @@ use Rattle.sf_model.specs.declared.fault.Limit.{Limit}
 use Rattle.sf_model.specs.declared.fault.Limit.TheVariants.{Blocks, Pads, Nets, Pins, Side, Area, Coordinate}
 use Rattle.sf_gsrc.specs.declared.fault.GsrcFault.{GsrcFault}
 use Rattle.sf_gsrc.specs.declared.fault.GsrcFault.TheVariants as gsrc
+use Rattle.sf_gsrc.specs.declared.fault.JoinFault.{JoinFault}
+use Rattle.sf_gsrc.specs.declared.fault.JoinFault.TheVariants as join
 use Rattle.sf_program.specs.Outcome.{Refusal, bad, over}
 
 -- words with one space between two, and LF at the end
@@ -41,6 +43,11 @@ gsrc_refusal source (gsrc.BadDegree line said found) = bad_input source line (co
 gsrc_refusal source (gsrc.ZeroSide line) = bad_input source line (codes "ZeroSide" ∷ [])
 gsrc_refusal source (gsrc.Truncated line) = bad_input source line (codes "Truncated" ∷ [])
 gsrc_refusal source gsrc.NoMemory = bad []
+
+-- a pl file that places a name twice
+abbrev pub join_refusal : JoinFault → Refusal
+join_refusal (join.PlacedTwice name) = bad_input (codes "design") 0 (codes "DuplicateName" ∷ name ∷ [])
+join_refusal join.NoMemory = bad []
 
 abbrev pub limit_word : Limit → List ℕ
 limit_word Blocks = codes "blocks"
