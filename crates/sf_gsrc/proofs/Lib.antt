@@ -8,3 +8,5 @@ pub mod NetSteps
 pub mod PlaceSteps
 pub mod PlaceLaws
 pub mod NetLaws
+pub mod Names
+pub mod Joining
