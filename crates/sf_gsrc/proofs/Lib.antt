@@ -10,3 +10,4 @@ pub mod PlaceLaws
 pub mod NetLaws
 pub mod Names
 pub mod Joining
+pub mod Likes

@@ -16,8 +16,8 @@ use Rattle.std.proofs.lemmas.List.{map-append, append-nil}
 use Rattle.std.proofs.lemmas.List.Elements.{filter-append}
 use Rattle.sf_model.specs.declared.raw.RawBlock.{RawBlock}
 use Rattle.sf_model.specs.declared.raw.RawPad.{RawPad}
-use Rattle.sf_gsrc.specs.Join.{names_of, has_name, first_twice, place_of, pads_at, is_known, strangers_of}
-use Rattle.sf_gsrc.specs.ByName.{PlacesByName, IsNameSet}
+use Rattle.sf_gsrc.specs.Join.{names_of, has_name, place_of, pads_at, is_known, strangers_of}
+use Rattle.sf_gsrc.specs.ByName.{first_again, PlacesByName, IsNameSet}
 
 abbrev pub names_cmp : Bor (List ℕ) → Bor (List ℕ) → Ordering
 names_cmp x y = slice_cmp nat_cmp x.now y.now
@@ -45,17 +45,17 @@ has_place (p ∷ places) name = has_place_step p places name (bytes_eq p.name na
 
 -- the name stands again behind its line
 pub twice_here : (places : List Place) (i j : ℕ) (p : Place) (later : Option (ℤ × ℤ)) → i < length places → j ≡ i + 1 → p ≡ get_or places i p → later ≡ place_of (drop j places) p.name → is_some later ≡ true
-    → Some p.name ≡ first_twice (names_of (drop i places))
+    → Some p.name ≡ first_again (names_of (drop i places))
 twice_here places i j p later lt next is found some =
     let again : has_name (names_of (drop (i + 1) places)) p.name ≡ true = sym (has_place (drop (i + 1) places) p.name) ∙ ap (λ (n : ℕ). is_some (place_of (drop n places) p.name)) (sym next) ∙ ap is_some (sym found) ∙ some in
     rw (cut places i p lt is, again) refl
 
 -- or it doesn't, and the first is one behind it
 pub twice_later : (places : List Place) (i j : ℕ) (p : Place) (later : Option (ℤ × ℤ)) (twice : Option (List ℕ)) → i < length places → j ≡ i + 1 → p ≡ get_or places i p → later ≡ place_of (drop j places) p.name → is_some later ≡ false
-    → twice ≡ first_twice (names_of (drop j places)) → twice ≡ first_twice (names_of (drop i places))
+    → twice ≡ first_again (names_of (drop j places)) → twice ≡ first_again (names_of (drop i places))
 twice_later places i j p later twice lt next is found none before =
     let again : has_name (names_of (drop (i + 1) places)) p.name ≡ false = sym (has_place (drop (i + 1) places) p.name) ∙ ap (λ (n : ℕ). is_some (place_of (drop n places) p.name)) (sym next) ∙ ap is_some (sym found) ∙ none in
-    rw (cut places i p lt is, again) (before ∙ ap (λ (n : ℕ). first_twice (names_of (drop n places))) next)
+    rw (cut places i p lt is, again) (before ∙ ap (λ (n : ℕ). first_again (names_of (drop n places))) next)
 
 -- ---- sets of names
 

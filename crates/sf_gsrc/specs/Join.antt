@@ -1,5 +1,5 @@
 -- Blocks, nets and places joined to the parts of a design.
-use Rattle.std.specs.Prelude.{◌≡◌, ℕ, ℤ, Bool, true, false, not, ◌||◌, List, [], ◌∷◌, map, filter, Option, Some, None, Result, Ok, Err, if◌then◌else◌}
+use Rattle.std.specs.Prelude.{◌≡◌, ℕ, ℤ, Bool, true, false, not, ◌||◌, nat_lt, List, [], ◌∷◌, map, filter, find, count_by, Option, Some, None, Result, Ok, Err, if◌then◌else◌}
 use Rattle.std.specs.List.{list_any}
 use Rattle.std.specs.Str.{bytes_eq}
 use Rattle.sf_model.specs.declared.raw.RawBlock.{RawBlock}
@@ -20,10 +20,13 @@ names_of places = map (λ p. p.name) places
 abbrev pub has_name : List (List ℕ) → List ℕ → Bool
 has_name names name = list_any (λ n. bytes_eq n name) names
 
--- the first name that has a like anywhere in the list: the first that stands again behind it
+-- the name stands twice or more often among these
+abbrev pub has_like : List (List ℕ) → List ℕ → Bool
+has_like names name = nat_lt 1 (count_by (λ n. bytes_eq n name) names)
+
+-- the first name that has a like anywhere in the list
 abbrev pub first_twice : List (List ℕ) → Option (List ℕ)
-first_twice [] = None
-first_twice (name ∷ names) = if has_name names name then Some name else first_twice names
+first_twice names = find (has_like names) names
 
 -- where the first line of that name places it
 abbrev pub place_of : List Place → List ℕ → Option (ℤ × ℤ)
