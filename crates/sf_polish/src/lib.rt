@@ -3,6 +3,7 @@
 
 pub mod expr;
 pub mod fault;
+pub mod laws;
 mod piece;
 mod postfix;
 pub mod read;
