@@ -33,7 +33,7 @@ front-start blocks = record { times = λ b. omega arith; inside = tt; depth = 0;
 
 -- ---- named and counted
 
-times-cons : (b : ℕ) (t : Token) (ts : List Token) → count_by (is_block b) (t ∷ ts) ≡ cond (is_block b t) 1 0 + count_by (is_block b) ts
+pub times-cons : (b : ℕ) (t : Token) (ts : List Token) → count_by (is_block b) (t ∷ ts) ≡ cond (is_block b t) 1 0 + count_by (is_block b) ts
 times-cons b t ts = sum_by-cons (λ x. cond (is_block b x) 1 0) t ts
 
 unnamed : (b : ℕ) (ts : List Token) → is_named b ts ≡ false → count_by (is_block b) ts ≡ 0
