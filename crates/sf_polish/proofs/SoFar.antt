@@ -36,7 +36,7 @@ front-start blocks = record { times = λ b. omega arith; inside = tt; depth = 0;
 pub times-cons : (b : ℕ) (t : Token) (ts : List Token) → count_by (is_block b) (t ∷ ts) ≡ cond (is_block b t) 1 0 + count_by (is_block b) ts
 times-cons b t ts = sum_by-cons (λ x. cond (is_block b x) 1 0) t ts
 
-unnamed : (b : ℕ) (ts : List Token) → is_named b ts ≡ false → count_by (is_block b) ts ≡ 0
+pub unnamed : (b : ℕ) (ts : List Token) → is_named b ts ≡ false → count_by (is_block b) ts ≡ 0
 unnamed b [] h = refl
 unnamed b (t ∷ ts) h = by_test (is_block b t) refl h (unnamed b ts)
   where
@@ -65,6 +65,15 @@ counted b ts h = by_test (is_named b ts) refl
     by_test : (x : Bool) → is_named b ts ≡ x → is_named b ts ≡ true
     by_test true e = e
     by_test false e = absurd (omega (arith, unnamed b ts e, h))
+
+-- a block past the last is not counted
+pub uncounted-outside : (blocks b : ℕ) (ts : List Token) → blocks ≤ b → AllByRecursion (λ t. is_outside blocks t ≡ false) ts → count_by (is_block b) ts ≡ 0
+uncounted-outside blocks b [] h inside = refl
+uncounted-outside blocks b (token.Beside ∷ ts) h inside = omega (arith, times-cons b token.Beside ts, uncounted-outside blocks b ts h inside.1)
+uncounted-outside blocks b (token.Above ∷ ts) h inside = omega (arith, times-cons b token.Above ts, uncounted-outside blocks b ts h inside.1)
+uncounted-outside blocks b (token.Block c ∷ ts) h inside =
+    let other : (c == b) ≡ false = elim (eqb_tells c b) [ inl p ↦ absurd (omega (arith, p.1, h, inside-number blocks c inside.0)) | inr p ↦ p.0 ] in
+    omega (arith, times-cons b (token.Block c) ts, uncounted-outside blocks b ts h inside.1, ap {B = ℕ} (λ z. cond z 1 0) other)
 
 -- ---- one token more
 

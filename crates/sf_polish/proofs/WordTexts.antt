@@ -135,7 +135,7 @@ cut-known c (b ∷ w) h = by_test (b == c) refl h (cut-known c w)
         let k : 0 < length (after_first (λ b. b == c) w) = rw (e, n) at h in
         rw (e, n, one_more (position_or_len (λ b. b == c) w)) (ap (λ z. b ∷ z) (more k))
 
-all-weaker : (p q : ℕ → Bool) → ((b : ℕ) → p b ≡ true → q b ≡ true) → (xs : List ℕ) → list_all p xs ≡ true → list_all q xs ≡ true
+pub all-weaker : (p q : ℕ → Bool) → ((b : ℕ) → p b ≡ true → q b ≡ true) → (xs : List ℕ) → list_all p xs ≡ true → list_all q xs ≡ true
 all-weaker p q f [] h = refl
 all-weaker p q f (x ∷ xs) h =
     let both = and_true (p x) (list_all p xs) h in
