@@ -14,28 +14,28 @@ use Rattle.sf_yal.specs.Parts.{with_signal, with_signals, signals_of, block_pins
 use Rattle.sf_yal.specs.Using.{NetUse, Uses, nothing_used, is_block, is_some_block, ends_with, with_pin, with_net_pin, with_pin_at, net_opened, used_at, used_once, used_all, used_by, finished_net}
 use Rattle.sf_yal.proofs.Indexes.{push_new, push_other, none_under, some_not_none}
 
-abbrev Signals : Type 0
+abbrev pub Signals : Type 0
 Signals = List (List ℕ)
 
 -- ---- folds
 
-fold-append : {A B : Type 0} (f : B → A → B) (b : B) (xs ys : List A) → fold f b (xs ++ ys) ≡ fold f (fold f b xs) ys
+pub fold-append : {A B : Type 0} (f : B → A → B) (b : B) (xs ys : List A) → fold f b (xs ++ ys) ≡ fold f (fold f b xs) ys
 fold-append f b [] ys = refl
 fold-append f b (x ∷ xs) ys = fold-append f (f b x) xs ys
 
 -- ---- a name in a list
 
-none_of : (o : Option ℕ) → is_some o ≡ false → o ≡ None
+pub none_of : (o : Option ℕ) → is_some o ≡ false → o ≡ None
 none_of None e = refl
 none_of (Some x) e = absurd cc
 
-same_name : (a b : List ℕ) → bytes_eq a b ≡ true → a ≡ b
+pub same_name : (a b : List ℕ) → bytes_eq a b ≡ true → a ≡ b
 same_name a b e = (bytes_eq-Decides a b).0 e
 
-is_same : (a : List ℕ) → bytes_eq a a ≡ true
+pub is_same : (a : List ℕ) → bytes_eq a a ≡ true
 is_same a = (bytes_eq-Decides a a).1 refl
 
-true_not_false : true ≡ false → ⊥
+pub true_not_false : true ≡ false → ⊥
 true_not_false e = absurd cc
 
 swapped : (a b : List ℕ) (t : Bool) → bytes_eq b a ≡ t → bytes_eq a b ≡ false → t ≡ false
@@ -43,10 +43,10 @@ swapped a b false e h = refl
 swapped a b true e h = absurd (true_not_false (sym (is_same a) ∙ ap (λ (x : List ℕ). bytes_eq a x) (sym (same_name b a e)) ∙ h))
 
 -- the other name isn't this one
-apart : (a b : List ℕ) → bytes_eq a b ≡ false → bytes_eq b a ≡ false
+pub apart : (a b : List ℕ) → bytes_eq a b ≡ false → bytes_eq b a ≡ false
 apart a b h = swapped a b (bytes_eq b a) refl h
 
-some_under : (o : Option ℕ) → is_some (option_map suc o) ≡ is_some o
+pub some_under : (o : Option ℕ) → is_some (option_map suc o) ≡ is_some o
 some_under None = refl
 some_under (Some x) = refl
 
@@ -54,16 +54,16 @@ has_step : (t s : List ℕ) (more : Signals) (b : Bool) → bytes_eq s t ≡ b �
 has_step t s more true e h = rw e refl
 has_step t s more false e h = rw e (some_under (index_of t more) ∙ h)
 
-has_push_same : (t : List ℕ) (names : Signals) → has_name t (names ++ t ∷ []) ≡ true
+pub has_push_same : (t : List ℕ) (names : Signals) → has_name t (names ++ t ∷ []) ≡ true
 has_push_same t [] = rw (is_same t) refl
 has_push_same t (s ∷ names) = has_step t s (names ++ t ∷ []) (bytes_eq s t) refl (has_push_same t names)
 
-has_push_other : (s t : List ℕ) (names : Signals) → bytes_eq t s ≡ false → has_name s (names ++ t ∷ []) ≡ has_name s names
+pub has_push_other : (s t : List ℕ) (names : Signals) → bytes_eq t s ≡ false → has_name s (names ++ t ∷ []) ≡ has_name s names
 has_push_other s t names e = ap is_some (push_other s t names e)
 
 -- ---- the pins of a signal
 
-abbrev pin_of : ℕ → List ℕ → Signals → List RawPin
+abbrev pub pin_of : ℕ → List ℕ → Signals → List RawPin
 pin_of n s taken = cond (has_name s taken) (pins.Block n ∷ []) []
 
 pins_step : (s : List ℕ) (m : ℕ) (first : Signals) (b : Bool) (rest : List RawPin) → has_name s first ≡ b → block_pins s m (first ∷ []) ≡ pin_of m s first
@@ -77,7 +77,7 @@ pins_more s m first taken earlier true e h = let k : m + 1 + length earlier ≡ 
 pins_more s m first taken earlier false e h = let k : m + 1 + length earlier ≡ m + suc (length earlier) = omega arith in rw (e, ← k) h
 
 -- the instance behind the earlier ones is the last pin, if it names the signal
-pins_last : (s : List ℕ) (m : ℕ) (earlier : List Signals) (taken : Signals) → block_pins s m (earlier ++ taken ∷ []) ≡ block_pins s m earlier ++ pin_of (m + length earlier) s taken
+pub pins_last : (s : List ℕ) (m : ℕ) (earlier : List Signals) (taken : Signals) → block_pins s m (earlier ++ taken ∷ []) ≡ block_pins s m earlier ++ pin_of (m + length earlier) s taken
 pins_last s m [] taken = let k : m + 0 ≡ m = omega arith in rw k (pins_step s m taken (has_name s taken) [] refl)
 pins_last s m (first ∷ earlier) taken = pins_more s m first taken earlier (has_name s first) refl (pins_last s (m + 1) earlier taken)
 
@@ -110,11 +110,11 @@ low_step s m k first more true e lt h = rw e (cons_low m k (block_pins s (m + 1)
 low_step s m k first more false e lt h = rw e h
 
 -- no earlier instance has a later number
-low : (s : List ℕ) (m k : ℕ) (uses : List Signals) → m + length uses ≤ k → ends_with k (block_pins s m uses) ≡ false
+pub low : (s : List ℕ) (m k : ℕ) (uses : List Signals) → m + length uses ≤ k → ends_with k (block_pins s m uses) ≡ false
 low s m k [] le = refl
 low s m k (first ∷ more) le = low_step s m k first more (has_name s first) refl (omega arith) (low s (m + 1) k more (omega arith))
 
-with_pin_by : (n : ℕ) (t : List ℕ) (taken : Signals) (before : List RawPin) (b : Bool) → has_name t taken ≡ b → ends_with n before ≡ false → with_pin n (before ++ pin_of n t taken) ≡ before ++ pins.Block n ∷ []
+pub with_pin_by : (n : ℕ) (t : List ℕ) (taken : Signals) (before : List RawPin) (b : Bool) → has_name t taken ≡ b → ends_with n before ≡ false → with_pin n (before ++ pin_of n t taken) ≡ before ++ pins.Block n ∷ []
 with_pin_by n t taken before true e h =
     let last : ends_with n (before ++ pins.Block n ∷ []) ≡ true = ends_push n before (pins.Block n) ∙ eq-eqb n n refl in
     rw (e, last) refl
@@ -122,11 +122,11 @@ with_pin_by n t taken before false e h = rw (e, append-nil before, h) refl
 
 -- ---- lists without repeats
 
-abbrev Once : Signals → Type 0
+abbrev pub Once : Signals → Type 0
 Once [] = Unit {0}
 Once (s ∷ more) = (index_of s more ≡ None) × Once more
 
-none_cons : (t s : List ℕ) (more : Signals) (b : Bool) → bytes_eq s t ≡ b → index_of t (s ∷ more) ≡ None → (bytes_eq s t ≡ false) × (index_of t more ≡ None)
+pub none_cons : (t s : List ℕ) (more : Signals) (b : Bool) → bytes_eq s t ≡ b → index_of t (s ∷ more) ≡ None → (bytes_eq s t ≡ false) × (index_of t more ≡ None)
 none_cons t s more true e h = absurd (some_not_none (rw e at h))
 none_cons t s more false e h = (e, none_under (index_of t more) (rw e at h))
 
@@ -144,7 +144,7 @@ once_all : (seen signals : Signals) → Once seen → Once (with_signals seen si
 once_all seen [] once = once
 once_all seen (t ∷ signals) once = once_all (with_signal seen t) signals (once_with seen t (has_name t seen) refl once)
 
-once_uses : (seen : Signals) (uses : List Signals) → Once seen → Once (fold with_signals seen uses)
+pub once_uses : (seen : Signals) (uses : List Signals) → Once seen → Once (fold with_signals seen uses)
 once_uses seen [] once = once
 once_uses seen (signals ∷ uses) once = once_uses (with_signals seen signals) uses (once_all seen signals once)
 
@@ -165,14 +165,14 @@ absent_with : (t w : List ℕ) (seen : Signals) (b : Bool) → has_name w seen �
 absent_with t w seen true e h = let none : index_of t seen ≡ None = rw e at h in (none, not_named t w seen (bytes_eq w t) refl e none)
 absent_with t w seen false e h = push_none t w seen (rw e at h)
 
-absent_all : (t : List ℕ) (seen signals : Signals) → index_of t (with_signals seen signals) ≡ None → (index_of t seen ≡ None) × (has_name t signals ≡ false)
+pub absent_all : (t : List ℕ) (seen signals : Signals) → index_of t (with_signals seen signals) ≡ None → (index_of t seen ≡ None) × (has_name t signals ≡ false)
 absent_all t seen [] h = (h, refl)
 absent_all t seen (w ∷ signals) h =
     let more = absent_all t (with_signal seen w) signals h in
     let here = absent_with t w seen (has_name w seen) refl more.0 in
     (here.0, rw here.1 (some_under (index_of t signals) ∙ more.1))
 
-absent_uses : (t : List ℕ) (m : ℕ) (seen : Signals) (uses : List Signals) → index_of t (fold with_signals seen uses) ≡ None → (index_of t seen ≡ None) × (block_pins t m uses ≡ [])
+pub absent_uses : (t : List ℕ) (m : ℕ) (seen : Signals) (uses : List Signals) → index_of t (fold with_signals seen uses) ≡ None → (index_of t seen ≡ None) × (block_pins t m uses ≡ [])
 absent_uses t m seen [] h = (h, refl)
 absent_uses t m seen (signals ∷ uses) h =
     let more = absent_uses t (m + 1) (with_signals seen signals) uses h in
