@@ -9,3 +9,5 @@ pub mod StatementSteps
 pub mod NetLaws
 pub mod Making
 pub mod NetsAre
+pub mod StandingLaws
+pub mod Standing

@@ -10,3 +10,4 @@ pub mod Instances
 pub mod Reading
 pub mod Parts
 pub mod Using
+pub mod Standing

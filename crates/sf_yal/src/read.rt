@@ -1,6 +1,8 @@
 //! The reader of YAL files.
 
-ghost use Rattle.std.specs.Prelude.{◌≡◌, ◌≤◌, length, Some};
+ghost use Rattle.std.specs.Prelude.{◌≡◌, ◌≤◌, ℕ, List, length, Some, Ok, IfOk};
+ghost use Rattle.sf_model.specs.declared.raw.Parts.{Parts};
+ghost use Rattle.sf_yal.specs.Standing.{StandsFor};
 ghost use Rattle.sf_yal.specs.Statements.{statements, pieces, last_piece};
 ghost use Rattle.sf_yal.specs.Reading.{Gives, start, after_statements, reading_in, ReadsAll};
 ghost use Rattle.sf_yal.specs.Parts.{parts_by, yal_read};
@@ -51,9 +53,8 @@ fn into_parts(alloc: Global, found: Found, parent: usize) -> Result<Parts, YalFa
     })
 }
 
-/// The parts for which a text stands, or its first fault.
 #[tactic(auto, unfolding(crate::specs::Parts::yal_read, crate::specs::Parts::parts_read))]
-pub fn read_yal(alloc: Global, text: &[u8], scale: u64) -> Result<Parts, YalFault>
+fn read_exactly(alloc: Global, text: &[u8], scale: u64) -> Result<Parts, YalFault>
     requires scale_low { 1 ≤ scale }
     requires scale_high { scale ≤ 1000 }
     requires size { length text.now ≤ 67_108_864 }
@@ -69,3 +70,23 @@ pub fn read_yal(alloc: Global, text: &[u8], scale: u64) -> Result<Parts, YalFaul
     };
     into_parts(alloc, found, parent)
 }
+
+/// The parts for which a text stands, or its first fault. Lengths are taken times the scale.
+pub fn read_yal(alloc: Global, text: &[u8], scale: u64) -> Result<Parts, YalFault>
+    requires scale_low { 1 ≤ scale }
+    requires scale_high { scale ≤ 1000 }
+    requires size { length text.now ≤ 67_108_864 }
+    // What is read is what the text stands for.
+    ensures found { IfOk result (StandsFor scale text.now) }
+    // What the text stands for is read, unless memory runs out.
+    ensures only { (out : Parts) → StandsFor scale text.now out → Gives result (Ok out) }
+    // Which fault it is.
+    ensures exact { Gives result (yal_read scale text.now) }
+{
+    read_exactly(alloc, text, scale)
+}
+
+/// A text stands for at most one output.
+pub fn stands_for_one()
+    ensures { (scale : ℕ) (text : List ℕ) (a b : Parts) → StandsFor scale text a → StandsFor scale text b → a ≡ b }
+{}
