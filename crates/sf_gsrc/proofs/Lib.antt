@@ -8,3 +8,6 @@ pub mod NetSteps
 pub mod PlaceSteps
 pub mod PlaceLaws
 pub mod NetLaws
+pub mod Names
+pub mod Joining
+pub mod Likes

@@ -12,3 +12,5 @@ pub mod PlaceLine
 pub mod Spots
 pub mod Places
 pub mod NetsStanding
+pub mod Join
+pub mod ByName

@@ -5,8 +5,7 @@ ghost use Rattle.sf_lex.specs.Scan.{numbered_rest, line_of};
 ghost use Rattle.sf_lex.specs.Gap.{first_word};
 ghost use Rattle.sf_gsrc.specs.Blocks.{is_content, content, is_title};
 
-use sf_lex::{Gap, split_word};
-use sf_lex::{Scan, Word};
+use sf_lex::{Gap, Scan, Word, split_word};
 
 fn has_content(line: &Word) -> bool
     ensures { result ≡ is_content (line_of line.now) }

@@ -1,12 +1,21 @@
-//! Reading of GSRC block files.
+//! Readers of GSRC floorplan benchmark files: blocks, nets and pl.
+//!
+//! Each reader goes over the lines of its text once, by `sf_lex`, and makes the raw parts of `sf_model`. The
+//! crates above use three clauses of a reader: `stands` (what is read is what the text stands for, by a relation
+//! on its lines that knows no order of work), `only` (what the text stands for is read, unless memory runs out),
+//! and `exact` (any fault is the first one, at its line and with its values). `join_parts` joins what the readers
+//! gave to the parts of one design. How the files are read is this project's own choice, lenient where the files
+//! of the benchmark vary.
 #![tactic(auto)]
 
 mod blocks;
+mod by_name;
 mod content;
 mod count;
 mod fault;
-mod keywords;
 mod found;
+mod join;
+mod keywords;
 mod line;
 mod nets;
 mod nets_found;
@@ -16,7 +25,8 @@ mod places;
 mod vertices;
 
 pub use blocks::{blocks_stand_for_one, read_blocks};
-pub use fault::GsrcFault;
+pub use fault::{GsrcFault, JoinFault};
+pub use join::join_parts;
 pub use nets::{nets_stand_for_one, read_nets};
 pub use output::{GsrcBlocks, GsrcNets, GsrcPlaces, Place, PlaceList};
 pub use places::{places_stand_for_one, read_pl};

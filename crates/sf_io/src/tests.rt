@@ -1,8 +1,8 @@
 // Each call once, with memory enough; and the shelf and the sink of the host against files and the standard output.
 
 use crate::{
-    Failed, HostShelf, HostSink, LoadFault, MemShelf, MemSink, NeverShelf, NeverSink, Shelf, Sink,
-    write_all,
+    Failed, Gate, HostShelf, HostSink, LoadFault, MemShelf, MemSink, NeverShelf, NeverSink,
+    OpenGate, Shelf, Sink, Status, write_all,
 };
 use std::test::Fail;
 use std::{env, fs, process};
@@ -61,6 +61,7 @@ fn never(rt: HostRuntime) -> Result<(), Fail> {
     }
     assert!(rt; is_fault(&shelf.load("a", 4), LoadFault::TooLong));
     assert_eq!(rt; write_all(&mut NeverSink, b"text"), Ok(()));
+    OpenGate.at(0, 0);
     Ok(())
 }
 
@@ -84,6 +85,26 @@ fn host_shelf(rt: HostRuntime) -> Result<(), Fail> {
     assert!(rt; is_fault(&shelf.load("/dev/zero", 100_000), LoadFault::TooLong));
     assert_eq!(rt; shelf.store("/dev/full", b"text"), Err(Failed));
     Ok(())
+}
+
+// The exit status of the process is the number of its status.
+#[test]
+fn statuses(rt: HostRuntime) {
+    let named = [
+        Status::Done,
+        Status::NoneFits,
+        Status::Usage,
+        Status::Open,
+        Status::No,
+        Status::BadInput,
+        Status::OverLimit,
+        Status::ReadFault,
+        Status::WriteFault,
+        Status::NoMemory,
+    ];
+    for (number, status) in named.iter().enumerate() {
+        assert_eq!(rt; *status as usize, number, "{status:?}");
+    }
 }
 
 #[test]

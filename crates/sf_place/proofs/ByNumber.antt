@@ -44,8 +44,9 @@ count-few a (suc n) (s ∷ ss) e b =
     let is : s.block ≡ a = cc in
     let tail : map (λ s. s.block) ss ≡ range_with_len (a + 1) n = cc in
     elim (cases_eq s.block b) [
-      inl q ↦ omega (arith, count-same b s ss q, count-before (a + 1) n ss tail b (omega (arith, is, q)))
-    | inr q ↦ omega (arith, count-other b s ss q, count-few (a + 1) n ss tail b) ]
+      | inl q ↦ omega (arith, count-same b s ss q, count-before (a + 1) n ss tail b (omega (arith, is, q)))
+      | inr q ↦ omega (arith, count-other b s ss q, count-few (a + 1) n ss tail b)
+    ]
 
 blocks-map : (f : ℕ → Spot) → ((b : ℕ) → (f b).block ≡ b) → (a n : ℕ) → map (λ s. s.block) (map f (range_with_len a n)) ≡ range_with_len a n
 blocks-map f is a zero = refl
@@ -76,8 +77,9 @@ count-past a (suc n) b (s ∷ ss) e h =
 pub spot_of-by_number : (n : ℕ) (ss : List Spot) → ((b : ℕ) → n ≤ b → count b ss ≡ 0) → (b : ℕ) → spot_of b (by_number n ss) ≡ spot_of b ss
 spot_of-by_number n ss none b =
     elim (cases_lt b n) [
-      inl h ↦ spot_of_numbered (by_number n ss) b (spot_of b []) (numbered-by_number n ss) (omega (arith, h, length-by_number n ss)) ∙ get-by_number n ss b (spot_of b []) h
-    | inr h ↦ spot_of-none b (by_number n ss) (count-past 0 n b (by_number n ss) (blocks-by_number n ss) (omega arith)) ∙ sym (spot_of-none b ss (none b h)) ]
+      | inl h ↦ spot_of_numbered (by_number n ss) b (spot_of b []) (numbered-by_number n ss) (omega (arith, h, length-by_number n ss)) ∙ get-by_number n ss b (spot_of b []) h
+      | inr h ↦ spot_of-none b (by_number n ss) (count-past 0 n b (by_number n ss) (blocks-by_number n ss) (omega arith)) ∙ sym (spot_of-none b ss (none b h))
+    ]
 
 -- the wire depends on the spot of each block alone
 module _ (design : Design) (xs ys : List Spot) (same : (b : ℕ) → spot_of b xs ≡ spot_of b ys) where
@@ -94,8 +96,14 @@ module _ (design : Design) (xs ys : List Spot) (same : (b : ℕ) → spot_of b x
   nets-same : (nets : List Net) → sum_by (net_wire design xs) nets ≡ sum_by (net_wire design ys) nets
   nets-same [] = refl
   nets-same (net ∷ nets) =
-      omega (arith, sum_by-cons (net_wire design xs) net nets, sum_by-cons (net_wire design ys) net nets,
-        ap spread (pins_x-same net.pins), ap spread (pins_y-same net.pins), nets-same nets)
+      omega (
+        arith,
+        sum_by-cons (net_wire design xs) net nets,
+        sum_by-cons (net_wire design ys) net nets,
+        ap spread (pins_x-same net.pins),
+        ap spread (pins_y-same net.pins),
+        nets-same nets,
+      )
 
   pub wire-same : wire design xs ≡ wire design ys
   wire-same = nets-same design.nets
@@ -121,10 +129,10 @@ spots-each : (P : ℕ → Shape → Type 0) (x y : ℕ) (t : Tree) → AllByRecu
 spots-each P x y (Leaf b s) a = (a.0, tt)
 spots-each P x y (Beside l r) a =
     each-append _ (spots_at x y l) (spots_at (x + width l) y r)
-      (spots-each P x y l (each-left _ (leaves l) (leaves r) a)) (spots-each P (x + width l) y r (each-right _ (leaves l) (leaves r) a))
+    (spots-each P x y l (each-left _ (leaves l) (leaves r) a)) (spots-each P (x + width l) y r (each-right _ (leaves l) (leaves r) a))
 spots-each P x y (Above l r) a =
     each-append _ (spots_at x y l) (spots_at x (y + height l) r)
-      (spots-each P x y l (each-left _ (leaves l) (leaves r) a)) (spots-each P x (y + height l) r (each-right _ (leaves l) (leaves r) a))
+    (spots-each P x y l (each-left _ (leaves l) (leaves r) a)) (spots-each P x (y + height l) r (each-right _ (leaves l) (leaves r) a))
 
 none-past : (n : ℕ) (ss : List Spot) → AllByRecursion (λ s. s.block < n) ss → (b : ℕ) → n ≤ b → count b ss ≡ 0
 none-past n [] a b h = refl
@@ -132,9 +140,10 @@ none-past n (s ∷ ss) a b h = omega (arith, count-other b s ss (λ q. absurd (o
 
 recursion_from_AllPairs : {X : Type 0} (R : X → X → Type 0) (xs : List X) → AllPairs R xs → EachPair R xs
 recursion_from_AllPairs R [] p = tt
-recursion_from_AllPairs R (x ∷ xs) p =
-    (recursion_from_All (R x) xs (λ k d h. p 0 (suc k) d (omega arith) (omega arith)),
-     recursion_from_AllPairs R xs (λ i j d h k. p (suc i) (suc j) d (omega arith) (omega arith)))
+recursion_from_AllPairs R (x ∷ xs) p = (
+  recursion_from_All (R x) xs (λ k d h. p 0 (suc k) d (omega arith) (omega arith)),
+  recursion_from_AllPairs R xs (λ i j d h k. p (suc i) (suc j) d (omega arith) (omega arith)),
+)
 
 turned : (s t : Spot) → ¬ (Overlaps s t) → ¬ (Overlaps t s)
 turned s t apart o = apart (record { left = o.right; right = o.left; below = o.above; above = o.below })
@@ -161,7 +170,7 @@ module _ (n : ℕ) (tree : Tree) (once : HasEachOnce n tree) where
   same_greatest : (end : Spot → ℕ) → ((b : ℕ) → end (spot_of b []) ≡ 0) → greatest end (by_number n (spots_of tree)) ≡ greatest end (spots_of tree)
   same_greatest end nowhere =
       greatest-same end nowhere (by_number n (spots_of tree)) (spots_of tree)
-        (count-few 0 n (by_number n (spots_of tree)) (blocks-by_number n (spots_of tree))) few plan-spot_of
+      (count-few 0 n (by_number n (spots_of tree)) (blocks-by_number n (spots_of tree))) few plan-spot_of
 
   plan-right : right_end (by_number n (spots_of tree)) ≡ width tree
   plan-right = right_end-greatest (by_number n (spots_of tree)) ∙ same_greatest (λ s. nat_abs (s.x +ℤ pos s.w)) (λ b. refl) ∙ sym (right_end-greatest (spots_of tree)) ∙ right_end-spots_of tree
@@ -183,9 +192,9 @@ module _ (n : ℕ) (tree : Tree) (once : HasEachOnce n tree) where
       let i_low : i < n = omega (arith, h, j_low) in
       let R : Spot → Spot → Type 0 = λ s t. ¬ (Overlaps s t) in
       subst (λ v. R v (get_or (by_number n (spots_of tree)) j d)) (sym (get-by_number n (spots_of tree) i d i_low))
-        (subst (R (spot_of i (spots_of tree))) (sym (get-by_number n (spots_of tree) j d j_low))
-          (spot_of-pair R turned i j (λ e. absurd (omega (arith, e, h))) (spots_of tree)
-            (recursion_from_AllPairs R (spots_of tree) (spots-apart tree)) (omega (arith, one i i_low)) (omega (arith, one j j_low))))
+      (subst (R (spot_of i (spots_of tree))) (sym (get-by_number n (spots_of tree) j d j_low))
+      (spot_of-pair R turned i j (λ e. absurd (omega (arith, e, h))) (spots_of tree)
+      (recursion_from_AllPairs R (spots_of tree) (spots-apart tree)) (omega (arith, one i i_low)) (omega (arith, one j j_low))))
 
 wider : (outline_w outline_h w h : ℕ) → w ≤ outline_w → h ≤ outline_h → (s : Spot) → IsInside w h s → IsInside outline_w outline_h s
 wider a b w h p q s i =
@@ -195,15 +204,15 @@ wider a b w h p q s i =
 -- the spots of a floorplan that fits are a legal placement
 pub plan-legal : (design : Design) (tree : Tree) → IsLegal design tree → Fits design.outline tree → AreLegal design (by_number (block_count design) (spots_of tree))
 plan-legal design tree legal fits = record {
-    one_each = length-by_number (block_count design) (spots_of tree);
-    by_number = numbered-by_number (block_count design) (spots_of tree);
-    listed = by_number-all (block_count design) tree legal.blocks (IsListed design)
+  one_each = length-by_number (block_count design) (spots_of tree);
+  by_number = numbered-by_number (block_count design) (spots_of tree);
+  listed = by_number-all (block_count design) tree legal.blocks (IsListed design)
       (spots-each (λ b s. Contains (shapes_of design b) s) 0 0 tree (recursion_from_All (λ leaf. Contains (shapes_of design leaf.0) leaf.1) (leaves tree) legal.listed));
-    inside = by_number-all (block_count design) tree legal.blocks (LiesIn design.outline)
+  inside = by_number-all (block_count design) tree legal.blocks (LiesIn design.outline)
       (each-weaker (IsInside (width tree) (height tree)) (LiesIn design.outline) (wider design.outline.w design.outline.h (width tree) (height tree) fits.0 fits.1) (spots_of tree)
-        (recursion_from_All (IsInside (width tree) (height tree)) (spots_of tree) (spots-inside tree)));
-    apart = by_number-apart (block_count design) tree legal.blocks
-  }
+      (recursion_from_All (IsInside (width tree) (height tree)) (spots_of tree) (spots-inside tree)));
+  apart = by_number-apart (block_count design) tree legal.blocks;
+}
 
 blocks-below : (n : ℕ) (t : Tree) → AllByRecursion (λ leaf. leaf.0 < n) (leaves t) → HasBlocksBelow n t
 blocks-below n (Leaf b s) a = a.0
@@ -228,19 +237,21 @@ length-placed old (s ∷ ss) = length-placed (slice_set old s.block s) ss ∙ le
 untouched : (b : ℕ) (old ss : List Spot) (d : Spot) → count b ss ≡ 0 → get_or (placed old ss) b d ≡ get_or old b d
 untouched b old [] d h = refl
 untouched b old (s ∷ ss) d h = elim (cases_eq s.block b) [
-    inl e ↦ absurd (omega (arith, h, count-same b s ss e))
-  | inr n ↦ untouched b (slice_set old s.block s) ss d (omega (arith, h, count-other b s ss n)) ∙ get_or-set_other old s.block b s d (λ q. n (sym q)) ]
+  | inl e ↦ absurd (omega (arith, h, count-same b s ss e))
+  | inr n ↦ untouched b (slice_set old s.block s) ss d (omega (arith, h, count-other b s ss n)) ∙ get_or-set_other old s.block b s d (λ q. n (sym q))
+]
 
 written : (b : ℕ) (old ss : List Spot) (d : Spot) → b < length old → count b ss ≡ 1 → get_or (placed old ss) b d ≡ spot_of b ss
 written b old [] d l h = absurd (omega (arith, h))
 written b old (s ∷ ss) d l h = elim (cases_eq s.block b) [
-    inl e ↦ untouched b (slice_set old s.block s) ss d (omega (arith, h, count-same b s ss e))
+  | inl e ↦ untouched b (slice_set old s.block s) ss d (omega (arith, h, count-same b s ss e))
       ∙ subst (λ v. get_or (slice_set old v s) b d ≡ s) (sym e) (get_or-set_same old b s d l) ∙ sym (spot_of-same b s ss e)
-  | inr n ↦ written b (slice_set old s.block s) ss d (omega (arith, l, length-set old s.block s)) (omega (arith, h, count-other b s ss n)) ∙ sym (spot_of-other b s ss n) ]
+  | inr n ↦ written b (slice_set old s.block s) ss d (omega (arith, l, length-set old s.block s)) (omega (arith, h, count-other b s ss n)) ∙ sym (spot_of-other b s ss n)
+]
 
 -- spots written at their blocks' numbers stand by number
 pub plan-placed : (n : ℕ) (tree : Tree) → HasEachOnce n tree → (old : List Spot) → length old ≡ n → placed old (spots_of tree) ≡ by_number n (spots_of tree)
 plan-placed n tree once old e =
     fill_by_all (λ b. spot_of b (spots_of tree)) (placed old (spots_of tree)) n (spot_of 0 [])
-      (length-placed old (spots_of tree) ∙ e)
-      (λ b h. written b old (spots_of tree) (spot_of 0 []) (omega (arith, e, h)) (one n tree once b h))
+    (length-placed old (spots_of tree) ∙ e)
+    (λ b h. written b old (spots_of tree) (spot_of 0 []) (omega (arith, e, h)) (one n tree once b h))

@@ -33,36 +33,41 @@ spot_of-other b s ss n = cond-false (s.block == b) s (spot_of b ss) (ne_eqb s.bl
 pub block-spot_of : (b : ℕ) (ss : List Spot) → (spot_of b ss).block ≡ b
 block-spot_of b [] = refl
 block-spot_of b (s ∷ ss) = elim (cases_eq s.block b) [
-    inl e ↦ ap (λ v. v.block) (spot_of-same b s ss e) ∙ e
-  | inr n ↦ ap (λ v. v.block) (spot_of-other b s ss n) ∙ block-spot_of b ss ]
+  | inl e ↦ ap (λ v. v.block) (spot_of-same b s ss e) ∙ e
+  | inr n ↦ ap (λ v. v.block) (spot_of-other b s ss n) ∙ block-spot_of b ss
+]
 
 -- what holds of all spots holds of that of a block that is there
 pub spot_of-all : (P : Spot → Type 0) (b : ℕ) (ss : List Spot) → AllByRecursion P ss → 1 ≤ count b ss → P (spot_of b ss)
 spot_of-all P b [] a h = absurd (omega (arith, h))
 spot_of-all P b (s ∷ ss) a h = elim (cases_eq s.block b) [
-    inl e ↦ subst P (sym (spot_of-same b s ss e)) a.0
-  | inr n ↦ subst P (sym (spot_of-other b s ss n)) (spot_of-all P b ss a.1 (omega (arith, h, count-other b s ss n))) ]
+  | inl e ↦ subst P (sym (spot_of-same b s ss e)) a.0
+  | inr n ↦ subst P (sym (spot_of-other b s ss n)) (spot_of-all P b ss a.1 (omega (arith, h, count-other b s ss n)))
+]
 
 -- a block that isn't there has the empty spot
 pub spot_of-none : (b : ℕ) (ss : List Spot) → count b ss ≡ 0 → spot_of b ss ≡ spot_of b []
 spot_of-none b [] h = refl
 spot_of-none b (s ∷ ss) h = elim (cases_eq s.block b) [
-    inl e ↦ absurd (omega (arith, h, count-same b s ss e))
-  | inr n ↦ spot_of-other b s ss n ∙ spot_of-none b ss (omega (arith, h, count-other b s ss n)) ]
+  | inl e ↦ absurd (omega (arith, h, count-same b s ss e))
+  | inr n ↦ spot_of-other b s ss n ∙ spot_of-none b ss (omega (arith, h, count-other b s ss n))
+]
 
 -- what holds of each two spots, in either order, holds of those of two blocks
 pub spot_of-pair : (R : Spot → Spot → Type 0) → ((s t : Spot) → R s t → R t s) → (a b : ℕ) → (a ≡ b → ⊥) → (ss : List Spot) → EachPair R ss → 1 ≤ count a ss → 1 ≤ count b ss → R (spot_of a ss) (spot_of b ss)
 spot_of-pair R turn a b ne [] e h k = absurd (omega (arith, h))
 spot_of-pair R turn a b ne (s ∷ ss) e h k = elim (cases_eq s.block a) [
-    inl p ↦ (let q : s.block ≡ b → ⊥ = λ r. ne (sym p ∙ r) in
+  | inl p ↦ (let q : s.block ≡ b → ⊥ = λ r. ne (sym p ∙ r) in
       subst (λ v. R v (spot_of b (s ∷ ss))) (sym (spot_of-same a s ss p))
-        (subst (R s) (sym (spot_of-other b s ss q)) (spot_of-all (R s) b ss e.0 (omega (arith, k, count-other b s ss q)))))
+      (subst (R s) (sym (spot_of-other b s ss q)) (spot_of-all (R s) b ss e.0 (omega (arith, k, count-other b s ss q)))))
   | inr p ↦ elim (cases_eq s.block b) [
-      inl q ↦ subst (λ v. R v (spot_of b (s ∷ ss))) (sym (spot_of-other a s ss p))
+    | inl q ↦ subst (λ v. R v (spot_of b (s ∷ ss))) (sym (spot_of-other a s ss p))
         (subst (R (spot_of a ss)) (sym (spot_of-same b s ss q)) (turn s (spot_of a ss) (spot_of-all (R s) a ss e.0 (omega (arith, h, count-other a s ss p)))))
     | inr q ↦ subst (λ v. R v (spot_of b (s ∷ ss))) (sym (spot_of-other a s ss p))
         (subst (R (spot_of a ss)) (sym (spot_of-other b s ss q))
-          (spot_of-pair R turn a b ne ss e.1 (omega (arith, h, count-other a s ss p)) (omega (arith, k, count-other b s ss q)))) ] ]
+        (spot_of-pair R turn a b ne ss e.1 (omega (arith, h, count-other a s ss p)) (omega (arith, k, count-other b s ss q))))
+  ]
+]
 
 -- the greatest of the ends of spots
 abbrev pub greatest : (Spot → ℕ) → List Spot → ℕ
@@ -73,19 +78,22 @@ module _ (end : Spot → ℕ) (nowhere : (b : ℕ) → end (spot_of b []) ≡ 0)
   end-most : (b : ℕ) (ss : List Spot) → end (spot_of b ss) ≤ greatest end ss
   end-most b [] = omega (arith, nowhere b)
   end-most b (s ∷ ss) = elim (cases_eq s.block b) [
-      inl e ↦ omega (arith, ap end (spot_of-same b s ss e))
-    | inr n ↦ omega (arith, ap end (spot_of-other b s ss n), end-most b ss) ]
+    | inl e ↦ omega (arith, ap end (spot_of-same b s ss e))
+    | inr n ↦ omega (arith, ap end (spot_of-other b s ss n), end-most b ss)
+  ]
 
   greatest-least : (m : ℕ) (ss : List Spot) → ((b : ℕ) → count b ss ≤ 1) → ((b : ℕ) → end (spot_of b ss) ≤ m) → greatest end ss ≤ m
   greatest-least m [] few h = omega arith
   greatest-least m (s ∷ ss) few h =
       let first : end s ≤ m = omega (arith, h s.block, ap end (spot_of-same s.block s ss refl)) in
       let few_left : (b : ℕ) → count b ss ≤ 1 = λ b. elim (cases_eq s.block b) [
-          inl e ↦ omega (arith, few b, count-same b s ss e)
-        | inr n ↦ omega (arith, few b, count-other b s ss n) ] in
+        | inl e ↦ omega (arith, few b, count-same b s ss e)
+        | inr n ↦ omega (arith, few b, count-other b s ss n)
+      ] in
       let left : (b : ℕ) → end (spot_of b ss) ≤ m = λ b. elim (cases_eq s.block b) [
-          inl e ↦ omega (arith, nowhere b, ap end (spot_of-none b ss (omega (arith, few b, count-same b s ss e))))
-        | inr n ↦ omega (arith, h b, ap end (spot_of-other b s ss n)) ] in
+        | inl e ↦ omega (arith, nowhere b, ap end (spot_of-none b ss (omega (arith, few b, count-same b s ss e))))
+        | inr n ↦ omega (arith, h b, ap end (spot_of-other b s ss n))
+      ] in
       omega (arith, first, greatest-least m ss few_left left)
 
   -- lists in which each block has the same spot have the same greatest end

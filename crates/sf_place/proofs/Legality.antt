@@ -18,6 +18,6 @@ none_over spots a b e apart least =
     let R : Spot → Spot → Type 0 = λ s t. ¬ (Overlaps s t) in
     let a_low : a < length spots = omega (arith, f.in_order, f.in_range) in
     let none : R (spot_of a spots) (spot_of b spots) =
-      subst (λ v. R v (spot_of b spots)) (sym (spot_of_numbered spots a d e a_low))
-        (subst (R (get_or spots a d)) (sym (spot_of_numbered spots b d e f.in_range)) (apart a b d f.in_order f.in_range)) in
+    subst (λ v. R v (spot_of b spots)) (sym (spot_of_numbered spots a d e a_low))
+    (subst (R (get_or spots a d)) (sym (spot_of_numbered spots b d e f.in_range)) (apart a b d f.in_order f.in_range)) in
     none f.overlap

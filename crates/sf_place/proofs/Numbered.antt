@@ -47,4 +47,4 @@ apart_by_number spots e f i j d h k =
     let R : Spot → Spot → Type 0 = λ s t. ¬ (Overlaps s t) in
     let i_low : i < length spots = omega (arith, h, k) in
     subst (λ v. R v (get_or spots j d)) (spot_of_numbered spots i d e i_low)
-      (subst (R (spot_of i spots)) (spot_of_numbered spots j d e k) (f i i_low j h k))
+    (subst (R (spot_of i spots)) (spot_of_numbered spots j d e k) (f i i_low j h k))

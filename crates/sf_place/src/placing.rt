@@ -10,7 +10,13 @@ ghost use Rattle.sf_place.specs.Verdict.{AreLegal};
 use sf_model::{Plan, Shape, Spot};
 use std::alloc::{AllocError as NoMemory, Global};
 
-const NOWHERE: Spot = Spot { block: 0, x: 0, y: 0, w: 0, h: 0 };
+const NOWHERE: Spot = Spot {
+    block: 0,
+    x: 0,
+    y: 0,
+    w: 0,
+    h: 0,
+};
 
 /// The rectangles of a plan whose lower left corner stands at (0, 0), by block number, in scaled
 /// whole units.

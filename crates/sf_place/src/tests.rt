@@ -40,8 +40,20 @@ fn places_and_judges(rt: HostRuntime) -> Result<(), Fail> {
     let plan = Plan::Beside(left, right);
     assert_eq!(rt; size(&plan), (5, 3));
     let placed = spots(alloc, &plan, 2)?;
-    let first = Spot { block: 0, x: 0, y: 0, w: 2, h: 3 };
-    let second = Spot { block: 1, x: 2, y: 0, w: 3, h: 2 };
+    let first = Spot {
+        block: 0,
+        x: 0,
+        y: 0,
+        w: 2,
+        h: 3,
+    };
+    let second = Spot {
+        block: 1,
+        x: 2,
+        y: 0,
+        w: 3,
+        h: 2,
+    };
     assert_eq!(rt; placed.as_slice(), [first, second].as_slice());
     let design = two_blocks(alloc)?;
     for (x, h, verdict) in [
@@ -51,7 +63,13 @@ fn places_and_judges(rt: HostRuntime) -> Result<(), Fail> {
         (3, 2, Verdict::Outside(1)),
         (2, 3, Verdict::Unlisted(1)),
     ] {
-        let moved = Spot { block: 1, x, y: 0, w: 3, h };
+        let moved = Spot {
+            block: 1,
+            x,
+            y: 0,
+            w: 3,
+            h,
+        };
         assert_eq!(rt; check_spots(&design, &[first, moved]), verdict);
     }
     Ok(())

@@ -74,7 +74,7 @@ Alternating-from p (x ∷ ts) a = (
       ap (λ n. same_operator (get_or (x ∷ ts) k d) (get_or (p ∷ x ∷ ts) n d)) e ∙ a (suc k) d (omega arith)),
 )
 
-first-free : (ts : List Token) → Alternates ts → Alternating (token.Block 0) ts
+pub first-free : (ts : List Token) → Alternates ts → Alternating (token.Block 0) ts
 first-free [] a = tt
 first-free (x ∷ ts) a = (refl, Alternating-from x ts (λ k d h. a k d h))
 

@@ -55,11 +55,11 @@ module _ (blocks last : ℕ) (spelled : List ℕ → Option Token) where
 -- ---- the shapes
 
 module _ (blocks : ℕ) where
-  shapes-step : (shapes : List Shape) (word : LineWord) (more : List LineWord) → shapes_from blocks shapes (word ∷ more) ≡ shapes_from blocks (shapes_with shapes (piece_in blocks word.text)) more
+  pub shapes-step : (shapes : List Shape) (word : LineWord) (more : List LineWord) → shapes_from blocks shapes (word ∷ more) ≡ shapes_from blocks (shapes_with shapes (piece_in blocks word.text)) more
   unfolding shapes_from
   shapes-step shapes word more = refl
 
-  shapes-end : (shapes : List Shape) → shapes_from blocks shapes [] ≡ shapes
+  pub shapes-end : (shapes : List Shape) → shapes_from blocks shapes [] ≡ shapes
   unfolding shapes_from
   shapes-end shapes = refl
 

@@ -13,9 +13,13 @@ use Rattle.sf_model.specs.Tree.{Tree, Leaf, Beside, Above, leaves}
 use Rattle.sf_model.proofs.Each.{each-append, each-left, each-right}
 use Rattle.sf_polish.specs.declared.expr.Expr.{Expr}
 use Rattle.sf_polish.specs.declared.expr.Token.{Token}
+use Rattle.sf_polish.specs.declared.expr.Token.TheVariants as tokens
+use Rattle.sf_polish.specs.Normal.{is_outside, IsNormal}
 use Rattle.sf_polish.specs.Postfix.{postfix, shape_at, Spells}
 use Rattle.sf_polish.specs.Shaping.{no_shape, with_leaves, HasBlocksBelow}
+use Rattle.sf_polish.proofs.Normality.{inside-number}
 use Rattle.sf_polish.proofs.Spelling.{HasShapes}
+use Rattle.sf_polish.proofs.Stack.{count_by-postfix}
 
 -- how often a block is among the leaves
 abbrev pub leaf_times : ℕ → Tree → ℕ
@@ -96,10 +100,10 @@ apart n t once b = elim (cases_lt b n) [
 ]
 
 pub spelled-by : (n : ℕ) (t : Tree) (expr : Expr) (start : List Shape) → HasEachOnce n t → length start ≡ n → expr.tokens ≡ postfix t → expr.shapes ≡ with_leaves start t → Spells expr t
-spelled-by n t expr start once all tokens shapes =
+spelled-by n t expr start once all written shapes =
     let below : HasBlocksBelow (length start) t = subst (λ k. HasBlocksBelow k t) (sym all) (once-below n t once) in
     record {
-      tokens = sym tokens;
+      tokens = sym written;
       shapes = All-from_recursion _ (leaves t) (subst (λ z. HasShapes z t) (sym shapes) (with-shapes t start below (apart n t once)));
     }
 
@@ -119,11 +123,29 @@ leaf-shape f g b (Above l r) h k some = elim (cases_lt 0 (leaf_times b l)) [
   | inr p ↦ leaf-shape f g b r (each-right _ (leaves l) (leaves r) h) (each-right _ (leaves l) (leaves r) k) (omega (arith, some, p, both_times b l r))
 ]
 
-same-expr : (tokens others : List Token) (shapes more : List Shape) → tokens ≡ others → shapes ≡ more → ◌≡◌ {A = Expr} (record { tokens = tokens; shapes = shapes }) (record { tokens = others; shapes = more })
-same-expr tokens others shapes more e f = cc
+same-expr : (front others : List Token) (shapes more : List Shape) → front ≡ others → shapes ≡ more → ◌≡◌ {A = Expr} (record { tokens = front; shapes = shapes }) (record { tokens = others; shapes = more })
+same-expr front others shapes more e f = cc
 
 -- expressions with one shape for each block that spell the same plan are the same
 pub one-expression : (n : ℕ) (e f : Expr) (t : Tree) → HasEachOnce n t → length e.shapes ≡ n → length f.shapes ≡ n → Spells e t → Spells f t → e ≡ f
 one-expression n e f t once es fs s u =
     same-expr e.tokens f.tokens e.shapes f.shapes (sym s.tokens ∙ u.tokens)
       (ext_get_or no_shape e.shapes f.shapes (es ∙ sym fs) (λ b h. leaf-shape e.shapes f.shapes b t (recursion_from_All _ (leaves t) s.shapes) (recursion_from_All _ (leaves t) u.shapes) (omega (arith, once.each_once b (omega (arith, es))))))
+
+leaves-inside : (n : ℕ) (t : Tree) → AllByRecursion (λ x. is_outside n x ≡ false) (postfix t) → AllByRecursion (λ leaf. leaf.0 < n) (leaves t)
+leaves-inside n (Leaf b s) h = (inside-number n b h.0, tt)
+leaves-inside n (Beside l r) h =
+    let both = each-left _ (postfix l ++ postfix r) (tokens.Beside ∷ []) h in
+    each-append _ (leaves l) (leaves r) (leaves-inside n l (each-left _ (postfix l) (postfix r) both)) (leaves-inside n r (each-right _ (postfix l) (postfix r) both))
+leaves-inside n (Above l r) h =
+    let both = each-left _ (postfix l ++ postfix r) (tokens.Above ∷ []) h in
+    each-append _ (leaves l) (leaves r) (leaves-inside n l (each-left _ (postfix l) (postfix r) both)) (leaves-inside n r (each-right _ (postfix l) (postfix r) both))
+
+-- a plan that normal tokens spell has each block once
+pub once-of_normal : (n : ℕ) (ts : List Token) (t : Tree) → IsNormal n ts → postfix t ≡ ts → HasEachOnce n t
+once-of_normal n ts t normal e =
+    let own : IsNormal n (postfix t) = subst (IsNormal n) (sym e) normal in
+    record {
+      each_once = λ b h. sym (count_by-postfix b t) ∙ own.each_once b h;
+      no_other = All-from_recursion (λ leaf. leaf.0 < n) (leaves t) (leaves-inside n t (recursion_from_All (λ x. is_outside n x ≡ false) (postfix t) own.no_other));
+    }

@@ -19,6 +19,7 @@ use std::alloc::Global;
 /// The tokens of a text of block numbers, `*` and `+`, between blanks. Block numbers are below `blocks`.
 pub fn read_tokens(alloc: Global, text: &[u8], blocks: u16) -> Result<Vec<Token>, ExprFault>
     ensures tokens { IfOk result (λ tokens. tokens_read blocks text.now ≡ Ok tokens.items) }
+    ensures spelled { IfOk result (λ tokens. SpellsTokens blocks text.now tokens.items) }
     ensures fault { IfErr result (λ e. Fails e (tokens_read blocks text.now)) }
 {
     let mut reading = Reading::new(alloc, blocks)?;
@@ -33,6 +34,7 @@ pub fn read_tokens(alloc: Global, text: &[u8], blocks: u16) -> Result<Vec<Token>
 /// below `blocks`, and sides are whole units from 1 to 1,048,576.
 pub fn read_expr(alloc: Global, text: &[u8], blocks: u16) -> Result<Expr, ExprFault>
     ensures expr { IfOk result (λ expr. expr_read blocks text.now ≡ Ok expr) }
+    ensures spelled { IfOk result (λ expr. SpellsExpr blocks text.now expr) }
     ensures fault { IfErr result (λ e. Fails e (expr_read blocks text.now)) }
 {
     let mut reading = Reading::new(alloc, blocks)?;

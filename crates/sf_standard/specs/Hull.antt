@@ -9,6 +9,7 @@ use Rattle.sf_model.specs.declared.parts.Shape.{Shape}
 use Rattle.sf_model.specs.Wire.{pad_at}
 use Rattle.sf_standard.specs.declared.hull.Extent.{Extent}
 use Rattle.sf_standard.specs.declared.hull.Interval.{Interval}
+use Rattle.sf_standard.specs.declared.hull.Offset.{Offset}
 use Rattle.sf_standard.specs.Items.{Item, Block, Beside, Above}
 
 -- of one of these shapes
@@ -76,14 +77,6 @@ item_extent extent (Above l r) =
     let p = item_extent extent l in
     let q = item_extent extent r in
     record { least_w = max p.least_w q.least_w; most_w = max p.most_w q.most_w; least_h = p.least_h + q.least_h; most_h = p.most_h + q.most_h }
-
--- how far a block stands from the corner of its item, at least and at most
-pub record Offset : Type 0 where
-  pub block : ℕ
-  pub least_x : ℕ
-  pub most_x : ℕ
-  pub least_y : ℕ
-  pub most_y : ℕ
 
 -- the offset of a block that stands to the right of an item, or above it
 abbrev pub moved_right : Extent → Offset → Offset

@@ -6,4 +6,4 @@
 pub mod hull;
 pub mod laws;
 
-pub use hull::{Extent, Interval};
+pub use hull::{Extent, Interval, Offset};

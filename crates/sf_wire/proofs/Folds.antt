@@ -14,9 +14,9 @@ use Rattle.sf_wire.specs.Near.{IsNear}
 pub fold_pins : (f : ℤ → ℤ → ℤ) (g : Pin → ℤ) (z : ℤ) (pins : List Pin) (i : ℕ) (d : Pin) (old new at : ℤ) → i < length pins → old ≡ fold f z (map g (take i pins)) → at ≡ g (get_or pins i d) → new ≡ f old at → new ≡ fold f z (map g (take (i + 1) pins))
 fold_pins f g z pins i d old new at h was is e =
     let more : fold f z (map g (take (i + 1) pins)) ≡ f (fold f z (map g (take i pins))) (g (get_or pins i d)) =
-      ap (λ v. fold f z (map g v)) (take_more pins i d h)
-        ∙ ap (fold f z) (map-append g (take i pins) (get_or pins i d ∷ []))
-        ∙ fold-append f z (map g (take i pins)) (g (get_or pins i d) ∷ []) in
+    ap (λ v. fold f z (map g v)) (take_more pins i d h)
+    ∙ ap (fold f z) (map-append g (take i pins) (get_or pins i d ∷ []))
+    ∙ fold-append f z (map g (take i pins)) (g (get_or pins i d) ∷ []) in
     e ∙ ap (λ v. f v at) was ∙ ap (f (fold f z (map g (take i pins)))) is ∙ sym more
 
 -- a near number comes through its bits unchanged

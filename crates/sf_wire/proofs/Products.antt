@@ -29,5 +29,5 @@ small design spots area w h wire length inside a r u b e =
     record {
       size = omega (arith, s);
       areas = product area (w * h) 65535 (2 ^ 40) (omega (arith, a, design.limits.area_weight)) (omega (arith, s));
-      wires = product wire length 65535 (2 ^ 39) (omega (arith, b, design.limits.wire_weight)) e
+      wires = product wire length 65535 (2 ^ 39) (omega (arith, b, design.limits.wire_weight)) e;
     }

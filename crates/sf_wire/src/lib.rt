@@ -7,6 +7,8 @@
 
 pub mod costs;
 mod extent;
+#[cfg(test)]
+mod tests;
 pub mod wires;
 
 pub use costs::{cost, spots_cost, spots_size};

@@ -65,7 +65,10 @@ fn point_of(design: &Design, pin: Pin, spots: &[Spot]) -> (i64, i64)
     match pin {
         Pin::Block(block) => {
             let spot = spot_at(spots, usize::from(block));
-            (2 * spot.x + i64::from(spot.w), 2 * spot.y + i64::from(spot.h))
+            (
+                2 * spot.x + i64::from(spot.w),
+                2 * spot.y + i64::from(spot.h),
+            )
         }
         Pin::Pad(pad) => {
             let pad = &design.pads.as_slice()[usize::from(pad)];

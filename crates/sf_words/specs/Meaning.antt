@@ -12,15 +12,16 @@ use Rattle.sf_words.specs.Outline.{OutlineSays}
 use Rattle.sf_words.specs.declared.command.Kinds.{Kinds}
 use Rattle.sf_words.specs.declared.command.Kinds.TheVariants.{Hard, Mixed}
 
--- the texts that the options have
+-- the text that each option has, where it is given
 abbrev pub Values : Type 0
 Values = Key → Option Text
 
+-- the texts that these options have
 abbrev pub value_in : List Token → Values
 value_in [] key = None
 value_in (token ∷ tokens) key = cond (bytes_eq (key_text (key_of token)) (key_text key)) (Some (value_of token)) (value_in tokens key)
 
--- the files that tell a design
+-- the files that tell a design, by the format that was chosen
 pub data Input : Type 0 where
   gsrc : (blocks : Text) (nets pl : Option Text) → Input
   yal : (file : Text) → Input
@@ -30,6 +31,8 @@ abbrev pub InputSays : Values → Input → Type 0
 InputSays v (gsrc blocks nets pl) = (v Format ≡ Some (codes "gsrc")) × (v Blocks ≡ Some blocks) × (v Nets ≡ nets) × (v Pl ≡ pl) × (v Yal ≡ None)
 InputSays v (yal file) = (v Format ≡ Some (codes "yal")) × (v Yal ≡ Some file) × (v Blocks ≡ None) × (v Nets ≡ None) × (v Pl ≡ None)
 
+-- The options that tell a design: its files, how many scaled units one unit of the file is, whether hard blocks keep
+-- their sides, the greatest number of shapes of a block, and the sides of the outline in scaled units.
 pub record DesignOptions : Type 0 where
   pub input : Input
   pub per_unit : ℕ
@@ -46,6 +49,7 @@ pub record DesignSays (v : Values) (o : DesignOptions) : Type 0 where
   pub shapes : SaysNumber Shapes (v Shapes) o.shapes
   pub outline : OutlineSays o.per_unit (v Outline) o.width o.height
 
+-- what counts in a cost, and how much; not both are 0
 pub record WeightOptions : Type 0 where
   pub area : ℕ
   pub wire : ℕ
@@ -55,6 +59,7 @@ pub record WeightsSay (v : Values) (o : WeightOptions) : Type 0 where
   pub wire : SaysNumber WireWeight (v WireWeight) o.wire
   pub some : 0 < o.area + o.wire
 
+-- the options of `plan`
 pub record PlanOptions : Type 0 where
   pub design : DesignOptions
   pub weights : WeightOptions
@@ -71,6 +76,7 @@ pub record PlanSays (v : Values) (o : PlanOptions) : Type 0 where
   pub workers : SaysNumber Workers (v Workers) o.workers
   pub nodes : SaysOptional Nodes (v Nodes) o.nodes
 
+-- the options of `check`
 pub record CheckOptions : Type 0 where
   pub design : DesignOptions
   pub weights : WeightOptions
@@ -81,6 +87,7 @@ pub record CheckSays (v : Values) (o : CheckOptions) : Type 0 where
   pub weights : WeightsSay v o.weights
   pub cert : v Cert ≡ Some o.cert
 
+-- the options of `measure`
 pub record MeasureOptions : Type 0 where
   pub design : DesignOptions
   pub weights : WeightOptions
@@ -91,6 +98,7 @@ pub record MeasureSays (v : Values) (o : MeasureOptions) : Type 0 where
   pub weights : WeightsSay v o.weights
   pub placed : v Placed ≡ Some o.placed
 
+-- the options of `shape`
 pub record ShapeOptions : Type 0 where
   pub design : DesignOptions
   pub expr : Text
@@ -104,10 +112,12 @@ abbrev pub kinds_text : Kinds → Text
 kinds_text Hard = codes "hard"
 kinds_text Mixed = codes "mixed"
 
+-- what the option says, given or not
 abbrev pub KindsSay : Option Text → Kinds → Type 0
 KindsSay None kinds = kinds ≡ Hard
 KindsSay (Some text) kinds = text ≡ kinds_text kinds
 
+-- the options of `gen`
 pub record GenOptions : Type 0 where
   pub seed : ℕ
   pub count : ℕ
@@ -122,6 +132,7 @@ pub record GenSays (v : Values) (o : GenOptions) : Type 0 where
   pub nodes : SaysOptional Nodes (v Nodes) o.nodes
   pub out : v Out ≡ Some o.out
 
+-- a command with its options
 pub data Command : Type 0 where
   plan : PlanOptions → Command
   check : CheckOptions → Command
@@ -129,6 +140,7 @@ pub data Command : Type 0 where
   shape : ShapeOptions → Command
   gen : GenOptions → Command
 
+-- the word that stands for it
 abbrev pub mode_of : Command → Mode
 mode_of (plan o) = Plan
 mode_of (check o) = Check
@@ -136,6 +148,7 @@ mode_of (measure o) = Measure
 mode_of (shape o) = Shape
 mode_of (gen o) = Gen
 
+-- the texts of the options say this command
 abbrev pub Says : Values → Command → Type 0
 Says v (plan o) = PlanSays v o
 Says v (check o) = CheckSays v o
@@ -143,9 +156,12 @@ Says v (measure o) = MeasureSays v o
 Says v (shape o) = ShapeSays v o
 Says v (gen o) = GenSays v o
 
--- the words mean this command
+-- The words mean this command: they are its word and some of its options, and the texts of these say what it asks for.
 abbrev pub Means : List Text → Command → Type 0
 Means words command = (tokens : List Token) × HasForm words (mode_of command) tokens × Says (value_in tokens) command
+
+abbrev pub HasMeaning : List Text → Type 0
+HasMeaning words = (command : Command) × Means words command
 
 abbrev pub HasNoMeaning : List Text → Type 0
 HasNoMeaning words = (command : Command) → Means words command → ⊥

@@ -18,7 +18,7 @@ pub record IsNumber (text : Text) (n : ℕ) : Type 0 where
   pub few : length text ≤ 20
   pub value : n ≡ read_on 0 text
 
--- the least and the greatest number that an option takes
+-- the least and the greatest number that an option takes, where it takes a number
 unfoldable pub least : Key → ℕ
 least Shapes = 2
 least AreaWeight = 0
@@ -37,7 +37,7 @@ greatest Count = 320
 greatest Seed = 18_446_744_073_709_551_615
 greatest key = 0
 
--- what an option is where it isn't given
+-- the number that an option has where it isn't given
 unfoldable pub default_of : Key → Option ℕ
 default_of PerUnit = Some 1
 default_of Shapes = Some 16
@@ -56,7 +56,7 @@ abbrev pub SaysNumber : Key → Option Text → ℕ → Type 0
 SaysNumber key None n = default_of key ≡ Some n
 SaysNumber key (Some text) n = IsNumber text n × IsInRange key n
 
--- the same, with no default
+-- what an option says that takes a number and has no default in the table
 abbrev pub SaysOptional : Key → Option Text → Option ℕ → Type 0
 SaysOptional key None None = Unit {0}
 SaysOptional key (Some text) (Some n) = IsNumber text n × IsInRange key n

@@ -1,4 +1,4 @@
--- What contracts see of the options that were read.
+-- What contracts see of the options that were read: each text as its bytes.
 use Rattle.std.specs.Prelude.{List, map, ℕ, Option, Some, None, option_map}
 use Rattle.std.specs.Borrow.{Bor}
 use Rattle.sf_words.specs.Table.{Text}

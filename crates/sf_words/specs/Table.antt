@@ -16,7 +16,7 @@ mode_text Measure = codes "measure"
 mode_text Shape = codes "shape"
 mode_text Gen = codes "gen"
 
--- the commands that are built
+-- the commands
 unfoldable pub modes : List Mode
 modes = Plan ∷ Check ∷ Measure ∷ Shape ∷ Gen ∷ []
 

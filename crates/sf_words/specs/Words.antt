@@ -10,6 +10,7 @@ pub data Token : Type 0 where
   spaced : (key : Key) (value : Text) → Token
   alone : (key : Key) → Token
 
+-- the option that it gives
 abbrev pub key_of : Token → Key
 key_of (attached key value) = key
 key_of (spaced key value) = key
@@ -21,6 +22,7 @@ value_of (attached key value) = value
 value_of (spaced key value) = value
 value_of (alone key) = []
 
+-- an option's name as a word, behind two hyphens
 abbrev pub key_word : Key → Text
 key_word key = 45 ∷ 45 ∷ key_text key
 
@@ -30,6 +32,7 @@ before (attached key value) words = (45 ∷ 45 ∷ (key_text key ++ 61 ∷ value
 before (spaced key value) words = key_word key ∷ value ∷ words
 before (alone key) words = key_word key ∷ words
 
+-- the words of these options, one after another
 abbrev pub words_of : List Token → List Text
 words_of [] = []
 words_of (token ∷ tokens) = before token (words_of tokens)
@@ -50,13 +53,14 @@ abbrev pub IsNew : Key → List Token → Type 0
 IsNew key [] = Unit {0}
 IsNew key (token ∷ tokens) = (key ≢ key_of token) × IsNew key tokens
 
--- options of a command, each at most once
+-- options of the command, each of its shape and at most once
 abbrev pub AreOptions : Mode → List Token → Type 0
 AreOptions mode [] = Unit {0}
 AreOptions mode (token ∷ tokens) = Contains (keys_of mode) (key_of token) × IsShaped token × IsNew (key_of token) tokens × AreOptions mode tokens
 
--- the words are a command and its options
+-- The words are a command and its options, in this order and in these spellings. Nothing is said of values beyond their
+-- shape, nor of options that a command must have.
 pub record HasForm (words : List Text) (mode : Mode) (tokens : List Token) : Type 0 where
-  pub built : Contains modes mode
+  pub known : Contains modes mode
   pub words_are : words ≡ mode_text mode ∷ words_of tokens
   pub options : AreOptions mode tokens

@@ -12,7 +12,9 @@ pub enum InputFiles<'a> {
         pl: Option<&'a str>,
     },
     /// A file of the MCNC benchmarks.
-    Yal { file: &'a str },
+    Yal {
+        file: &'a str,
+    },
 }
 
 /// The options that tell a design.

@@ -1,4 +1,4 @@
-// The command line, as clap reads it.
+// The command line that clap is asked to read, and what its words mean.
 ghost use Rattle.std.specs.Prelude.{◌≡◌, ◌≢◌, IfOk, IfErr, IfSome, IfNone, List, Option, Some, None, true, false, map, option_map, string_bytes};
 ghost use Rattle.clap.specs.Words.{App, app_of, with_rule, with_subcommand, new_app, kind_of, subcommand_rows_of, rows_of, found_of, shape_of};
 ghost use Rattle.clap.specs.declared.builder.command.Command.TheViews.{out-Command as fields_of};
@@ -99,7 +99,8 @@ impl<'b, 'a> OptionTexts<'a> for Parsed<'b, 'a> {
     }
 }
 
-/// What the words mean.
+/// What the words mean, those behind the name of the program: a command with its options and their defaults, or
+/// nothing. Files are named and not read. Help and version texts are no commands, and `--help` has no meaning.
 pub fn read_words(alloc: Global, words: &[String]) -> Result<Option<CommandWords<'_>>, Error>
     ensures means { IfOk result (λ r. IfSome r (λ c. Means (map string_bytes words.now) (command_seen c))) }
     ensures none { IfOk result (λ r. IfNone r (HasNoMeaning (map string_bytes words.now))) }

@@ -14,7 +14,7 @@ use crate::options::{Key, Mode};
 use crate::outline::read_outline;
 use crate::ranges::{number, optional_number};
 
-/// The texts that options have.
+/// The texts that options have, whoever read them: what they mean is told apart from how they are found.
 pub trait OptionTexts<'a> {
     ghost texts: { Self → Key → Option Text };
 
@@ -33,6 +33,7 @@ pub fn is_text(text: Option<&str>, other: &str) -> bool
     }
 }
 
+// Reads the files of a design in the format of GSRC.
 fn read_gsrc<'a, T: OptionTexts<'a>>(texts: &T) -> Option<InputFiles<'a>>
     requires { T.texts texts.now Key.Format ≡ Some (codes "gsrc") }
     ensures input { IfSome result (λ i. InputSays (T.texts texts.now) (input_seen i)) }
@@ -49,6 +50,7 @@ fn read_gsrc<'a, T: OptionTexts<'a>>(texts: &T) -> Option<InputFiles<'a>>
     })
 }
 
+// Reads the file of a design in the format of MCNC.
 fn read_yal<'a, T: OptionTexts<'a>>(texts: &T) -> Option<InputFiles<'a>>
     requires { T.texts texts.now Key.Format ≡ Some (codes "yal") }
     ensures input { IfSome result (λ i. InputSays (T.texts texts.now) (input_seen i)) }

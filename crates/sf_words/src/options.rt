@@ -41,7 +41,7 @@ pub enum Key {
 }
 
 impl Mode {
-    /// The commands that are built.
+    /// All commands.
     #[tactic(auto, unfolding(crate::specs::Table::modes))]
     pub fn all() -> &'static [Mode]
         ensures { result.now ≡ modes }

@@ -5,9 +5,82 @@ use std::alloc::{AllocError, Global};
 use std::test::Fail;
 
 const GSRC: &str = "--format gsrc --blocks a --nets b --pl c";
+
 const YAL: &str = "--format yal --yal a";
+
 const DESIGN: &str = "--per-unit 10 --fixed --shapes 16 --outline 10.5x7";
+
 const WEIGHTS: &str = "--area-weight 2 --wire-weight 3";
+
+// More words behind those of a plan, with which they have a meaning.
+const TAKEN: &str = "--outline 1048576x1
+--outline 104857.6x.1 --per-unit 10
+--shapes 2
+--shapes 256
+--area-weight 0 --wire-weight 65535
+--workers 00000000000000000016
+--nodes 1";
+
+// More words behind those of a plan, with which they have none.
+const REFUSED: &str = "--outline 1048577x1
+--outline 0x1
+--outline 1x0.0
+--outline 10.5x7
+--outline 7
+--outline 7x
+--outline x7
+--outline 7x7x7
+--outline 7X7
+--outline +7x7
+--shapes 1
+--shapes 257
+--per-unit 5
+--per-unit 10000
+--area-weight 0
+--area-weight 0 --wire-weight 0
+--wire-weight 65536
+--workers 0
+--workers 17
+--workers 000000000000000000016
+--nodes 0
+--nodes 4000001
+--nodes +1
+--nodes
+--yal b
+--fixed=on
+--fixed on
+--fixed --fixed
+--pl-out -e
+--pl-out=
+--cert d
+--placed p
+--
+help
+--help
+-h
+--version
+-V";
+
+// Lists of words without a meaning, the empty list first.
+const WITHOUT: &str = "
+--
+help
+--help
+-h
+--version
+-V
+Plan --cert d --format gsrc --blocks a
+--cert d plan --format gsrc --blocks a
+plan --format gsrc --blocks a.blocks
+plan --cert d --blocks a
+plan --cert d --format gsrc
+plan --cert d --format yal --blocks a
+plan --cert d --format GSRC --blocks a
+gen --seed 7 --seed 7 --count 4 --out g
+gen --seed 7 --count 321 --out g
+gen --seed 18446744073709551616 --count 4 --out g
+gen --seed 7 --count 4 --kinds soft --out g
+gen --help";
 
 // The words of these texts, valued options as `--name value`.
 fn spaced(alloc: Global, texts: &[&str]) -> Result<Vec<String>, AllocError> {
@@ -54,7 +127,13 @@ fn all_options(rt: HostRuntime) -> Result<(), Fail> {
         ["measure", YAL, DESIGN, WEIGHTS, "--placed d"],
         ["shape", GSRC, DESIGN, "", "--expr d"],
         ["shape", YAL, DESIGN, "", "--expr d"],
-        ["gen", "--seed 7", "--count 4 --kinds mixed", "--nodes 9", "--out g"],
+        [
+            "gen",
+            "--seed 7",
+            "--count 4 --kinds mixed",
+            "--nodes 9",
+            "--out g",
+        ],
     ];
     for row in rows {
         let words = spaced(alloc, &row)?;
@@ -82,11 +161,20 @@ fn values(rt: HostRuntime) -> Result<(), Fail> {
     };
     assert!(rt; matches!(read.design.input, InputFiles::Yal { file: "a" }));
     assert!(rt; read.cert == "x=y" && read.pl_out.is_none() && !read.design.is_fixed);
-    assert_eq!(rt; (read.weights.area, read.weights.wire, read.workers), (1, 0, 1));
+    assert_eq!(rt;
+        (read.weights.area, read.weights.wire, read.workers),
+        (1, 0, 1)
+    );
     assert_eq!(rt; (read.design.per_unit, read.design.shapes), (1, 16));
-    assert_eq!(rt; (read.design.width, read.design.height), (1_048_576, 1_048_576));
+    assert_eq!(rt;
+        (read.design.width, read.design.height),
+        (1_048_576, 1_048_576)
+    );
 
-    let words = spaced(alloc, &["shape --expr e --outline .50x007.25 --per-unit 0100", GSRC])?;
+    let words = spaced(
+        alloc,
+        &["shape --expr e --outline .50x007.25 --per-unit 0100", GSRC],
+    )?;
     let Some(CommandWords::Shape(read)) = read_words(alloc, &words)? else {
         return Err("shape".into());
     };
@@ -99,85 +187,20 @@ fn values(rt: HostRuntime) -> Result<(), Fail> {
 fn edges(rt: HostRuntime) -> Result<(), Fail> {
     let alloc = rt.alloc();
     let plan = "plan --cert d --format gsrc --blocks a";
-    let takes = [
-        "--outline 1048576x1",
-        "--outline 104857.6x.1 --per-unit 10",
-        "--shapes 2",
-        "--shapes 256",
-        "--area-weight 0 --wire-weight 65535",
-        "--workers 00000000000000000016",
-        "--nodes 1",
-    ];
-    for more in takes {
+    for more in TAKEN.lines() {
         assert!(rt; has_meaning(alloc, &[plan, more])?, "{more}");
     }
-    let refuses = [
-        "--outline 1048577x1",
-        "--outline 0x1",
-        "--outline 1x0.0",
-        "--outline 10.5x7",
-        "--outline 7",
-        "--outline 7x",
-        "--outline x7",
-        "--outline 7x7x7",
-        "--outline 7X7",
-        "--outline +7x7",
-        "--shapes 1",
-        "--shapes 257",
-        "--per-unit 5",
-        "--per-unit 10000",
-        "--area-weight 0",
-        "--area-weight 0 --wire-weight 0",
-        "--wire-weight 65536",
-        "--workers 0",
-        "--workers 17",
-        "--workers 000000000000000000016",
-        "--nodes 0",
-        "--nodes 4000001",
-        "--nodes +1",
-        "--nodes",
-        "--yal b",
-        "--fixed=on",
-        "--fixed on",
-        "--fixed --fixed",
-        "--pl-out -e",
-        "--pl-out=",
-        "--cert d",
-        "--placed p",
-        "--",
-        "help",
-        "--help",
-        "-h",
-        "--version",
-        "-V",
-    ];
-    for more in refuses {
+    for more in REFUSED.lines() {
         assert!(rt; !has_meaning(alloc, &[plan, more])?, "{more}");
     }
-    let lists = [
-        "",
-        "--",
-        "help",
-        "--help",
-        "-h",
-        "--version",
-        "-V",
-        "Plan --cert d --format gsrc --blocks a",
-        "--cert d plan --format gsrc --blocks a",
-        "plan --format gsrc --blocks a.blocks",
-        "plan --cert d --blocks a",
-        "plan --cert d --format gsrc",
-        "plan --cert d --format yal --blocks a",
-        "plan --cert d --format GSRC --blocks a",
-        "gen --seed 7 --seed 7 --count 4 --out g",
-        "gen --seed 7 --count 321 --out g",
-        "gen --seed 18446744073709551616 --count 4 --out g",
-        "gen --seed 7 --count 4 --kinds soft --out g",
-        "gen --help",
-    ];
-    for list in lists {
+    for list in WITHOUT.lines() {
         assert!(rt; !has_meaning(alloc, &[list])?, "{list}");
     }
-    assert!(rt; has_meaning(alloc, &["gen --seed 18446744073709551615 --count 320 --out g"])?);
+    assert!(rt;
+        has_meaning(
+            alloc,
+            &["gen --seed 18446744073709551615 --count 320 --out g"]
+        )?
+    );
     Ok(())
 }

@@ -30,8 +30,8 @@ returns-clause-placed c =
     let n : length c.deref_mut.result.now ≡ c.args.blocks = omega (arith, c.in_ok-spots.ensures.len, c.from.ensures, c.deref_mut.ensures.len) in
     let k : c.in_ok-spots.spots.len ≡ length c.place.new.spots = omega (arith, c.in_ok-spots.ensures.len, c.deref_mut.ensures.len, c.place.auto.spots) in
     taken c.place.new.spots c.in_ok-spots.spots.items c.in_ok-spots.spots.len k
-      ∙ c.place.ensures.placed
-      ∙ plan-placed c.args.blocks (tree_of c.args.plan.now) c.requires c.deref_mut.result.now n
+    ∙ c.place.ensures.placed
+    ∙ plan-placed c.args.blocks (tree_of c.args.plan.now) c.requires c.deref_mut.result.now n
 
 pub returns-clause-same_spots : goal.returns-clause-same_spots
 returns-clause-same_spots c b = ap (spot_of b) (returns-clause-placed c) ∙ plan-spot_of c.args.blocks (tree_of c.args.plan.now) c.requires b

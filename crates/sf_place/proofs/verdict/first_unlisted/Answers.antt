@@ -14,4 +14,4 @@ loop-block-preserved c =
 pub returns : goal.returns
 returns c =
     all_by_number (IsListed c.args.design.now) c.args.spots.now c.requires.by_number
-      (λ a h. c.loop-block.invariant a (omega arith))
+    (λ a h. c.loop-block.invariant a (omega arith))

@@ -1,10 +1,11 @@
-use Rattle.std.proofs.Common.{◌≡◌, length, ap, sym, subst, ◌∙◌, Ok}
+use Rattle.std.proofs.Common.{arith, ◌≡◌, length, ap, sym, subst, ◌∙◌, Ok}
 use Rattle.std.specs.Option.{option_map}
 use Rattle.std.proofs.lemmas.Result.{err_from_is_err_and}
 use Rattle.sf_lex.specs.Scan.{line_words, last_line_of, numbered_words}
 use Rattle.sf_polish.specs.Reading.{token_after, expr_read, shapes_with, Fails, ended}
 use Rattle.sf_polish.specs.Word.{token_of, shaped_token_in}
 use Rattle.sf_polish.proofs.ReadSteps.{reading-step, reading-fails, reading-ends, keeping-step, keeping-ends, fails-at, expr-read, expr-fails}
+use Rattle.sf_polish.proofs.TextLaws.{expr-spelled}
 use Rattle.sf_polish.proofs.read.read_expr.Goals as goal
 
 pub loop-word-preserved : goal.loop-word-preserved
@@ -48,3 +49,13 @@ returns-clause-expr c =
     let n = length c.loop-word.reading.named.items in
     let all = reading-ends blocks (last_line_of text) (shaped_token_in blocks) (line_words text) tokens _ n c.loop-word.invariant.0 c.in_default.ensures.numbered c.loop-word.invariant.1 in
     expr-read blocks text _ _ (all ∙ c.in_ok-tokens.ensures.tokens ∙ ap Ok (sym c.from_vec.ensures)) (keeping-ends blocks (line_words text) c.loop-word.shapes.items _ c.loop-word.invariant.2 c.in_default.ensures.numbered ∙ sym c.from_vec-2.ensures)
+
+pub returns-clause-spelled : goal.returns-clause-spelled
+returns-clause-spelled c =
+    let blocks = c.args.blocks in
+    let text = c.args.text.now in
+    let tokens = c.loop-word.reading.tokens.items in
+    let n = length c.loop-word.reading.named.items in
+    let all = reading-ends blocks (last_line_of text) (shaped_token_in blocks) (line_words text) tokens _ n c.loop-word.invariant.0 c.in_default.ensures.numbered c.loop-word.invariant.1 in
+    expr-spelled blocks (omega arith) text _
+      (expr-read blocks text _ _ (all ∙ c.in_ok-tokens.ensures.tokens ∙ ap Ok (sym c.from_vec.ensures)) (keeping-ends blocks (line_words text) c.loop-word.shapes.items _ c.loop-word.invariant.2 c.in_default.ensures.numbered ∙ sym c.from_vec-2.ensures))

@@ -1,9 +1,11 @@
-use Rattle.std.proofs.Common.{◌≡◌, length, ap, sym, subst, ◌∙◌, Ok}
+use Rattle.std.proofs.Common.{arith, ◌≡◌, length, ap, sym, subst, ◌∙◌, Ok}
 use Rattle.std.proofs.lemmas.Result.{err_from_is_err_and, IfOk-weaker, IfErr-weaker}
 use Rattle.sf_lex.specs.Scan.{line_words, last_line_of, numbered_words}
 use Rattle.sf_polish.specs.Reading.{token_after, tokens_read, Fails, ended}
+use Rattle.sf_polish.specs.Text.{SpellsTokens}
 use Rattle.sf_polish.specs.Word.{token_in}
 use Rattle.sf_polish.proofs.ReadSteps.{reading-step, reading-fails, reading-ends, fails-at}
+use Rattle.sf_polish.proofs.TextLaws.{tokens-spelled}
 use Rattle.sf_polish.proofs.read.read_tokens.Goals as goal
 
 pub loop-word-preserved : goal.loop-word-preserved
@@ -34,6 +36,15 @@ returns-clause-tokens c =
     let n = length c.loop-word.reading.named.items in
     let all = reading-ends blocks (last_line_of text) (token_in blocks) (line_words text) tokens _ n c.loop-word.invariant.0 c.in_default.ensures.numbered c.loop-word.invariant.1 in
     IfOk-weaker c.finish.result (λ v. ended n (last_line_of text) tokens ≡ Ok v.items) (λ v. tokens_read blocks text ≡ Ok v.items) (λ v h. all ∙ h) c.finish.ensures.tokens
+
+pub returns-clause-spelled : goal.returns-clause-spelled
+returns-clause-spelled c =
+    let blocks = c.args.blocks in
+    let text = c.args.text.now in
+    let tokens = c.loop-word.reading.tokens.items in
+    let n = length c.loop-word.reading.named.items in
+    let all = reading-ends blocks (last_line_of text) (token_in blocks) (line_words text) tokens _ n c.loop-word.invariant.0 c.in_default.ensures.numbered c.loop-word.invariant.1 in
+    IfOk-weaker c.finish.result (λ v. ended n (last_line_of text) tokens ≡ Ok v.items) (λ v. SpellsTokens blocks text v.items) (λ v h. tokens-spelled blocks (omega arith) text v.items (all ∙ h)) c.finish.ensures.tokens
 
 pub returns-clause-fault : goal.returns-clause-fault
 returns-clause-fault c =

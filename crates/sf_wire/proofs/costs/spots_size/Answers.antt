@@ -13,5 +13,5 @@ loop-spot-preserved c =
     let x = near.left in let x' = near.right in let y = near.lower in let y' = near.upper in
     record {
       right_end = omega (arith, ints, c.max-right.ensures, c.unsigned_abs.ensures.value, c.from.ensures, right_end_more spots i (record { block = 0; x = pos 0; y = pos 0; w = 0; h = 0 }) c.loop-spot-test.true);
-      upper_end = omega (arith, ints, c.max-upper.ensures, c.unsigned_abs-in-loop-spot.ensures.value, c.from-in-loop-spot.ensures, upper_end_more spots i (record { block = 0; x = pos 0; y = pos 0; w = 0; h = 0 }) c.loop-spot-test.true)
+      upper_end = omega (arith, ints, c.max-upper.ensures, c.unsigned_abs-in-loop-spot.ensures.value, c.from-in-loop-spot.ensures, upper_end_more spots i (record { block = 0; x = pos 0; y = pos 0; w = 0; h = 0 }) c.loop-spot-test.true);
     }

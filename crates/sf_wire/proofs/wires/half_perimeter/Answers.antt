@@ -36,7 +36,7 @@ loop-pin-preserved c =
       near_left = near_least c.loop-pin.across.least x c.with-across.result.least was.near_left p.near_x left;
       near_right = near_greatest c.loop-pin.across.greatest x c.with-across.result.greatest was.near_right p.near_x right;
       near_lower = near_least c.loop-pin.upward.least y c.with-upward.result.least was.near_lower p.near_y lower;
-      near_upper = near_greatest c.loop-pin.upward.greatest y c.with-upward.result.greatest was.near_upper p.near_y upper
+      near_upper = near_greatest c.loop-pin.upward.greatest y c.with-upward.result.greatest was.near_upper p.near_y upper;
     }
 
 pub returns-clause-wire : goal.returns-clause-wire
@@ -51,4 +51,4 @@ returns-clause-wire c =
     let across : c.spread.result ≡ spread (map x_of (first ∷ others)) = spread_of x_of first others c.loop-pin.pin-index _ _ _ c.spread.result c.loop-pin-test.false (near_same c.point_of-x.result.0 p.near_x ∙ p.x) was.left was.right c.spread.ensures.apart in
     let upward : c.spread-2.result ≡ spread (map y_of (first ∷ others)) = spread_of y_of first others c.loop-pin.pin-index _ _ _ c.spread-2.result c.loop-pin-test.false (near_same c.point_of-x.result.1 p.near_y ∙ p.y) was.lower was.upper c.spread-2.ensures.apart in
     ap (λ v. v + c.spread-2.result) across ∙ ap (λ v. spread (map x_of (first ∷ others)) + v) upward
-      ∙ ap (λ (pins : List Pin). spread (map x_of pins) + spread (map y_of pins)) (sym e)
+    ∙ ap (λ (pins : List Pin). spread (map x_of pins) + spread (map y_of pins)) (sym e)

@@ -14,5 +14,5 @@ invariant-loop-pin l = record {
   near_left : IsNear l.across.least;
   near_right : IsNear l.across.greatest;
   near_lower : IsNear l.upward.least;
-  near_upper : IsNear l.upward.greatest
+  near_upper : IsNear l.upward.greatest;
 }

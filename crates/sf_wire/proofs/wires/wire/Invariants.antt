@@ -6,5 +6,5 @@ use Rattle.sf_wire.proofs.wires.wire.Given as goal
 abbrev pub invariant-loop-net : goal.invariant-loop-net
 invariant-loop-net l = record {
   sum : l.total ≡ sum_by (net_wire l.design l.spots) (take l.net-index l.net-items);
-  bounded : l.total ≤ 2 ^ 23 * l.net-index
+  bounded : l.total ≤ 2 ^ 23 * l.net-index;
 }

@@ -1,0 +1,90 @@
+-- What intervals share tells their gap, whatever their order.
+use Rattle.std.proofs.Common.{◌≡◌, ℕ, suc, ◌+◌, ◌<◌, ◌≤◌, max, List, [], ◌∷◌, ◌++◌, map, arith, refl, ap, sym, subst, ◌∙◌, ◌⊎◌, inl, inr}
+use Rattle.std.specs.Prelude.{Contains, fold, ℤ, pos, neg_ℤ, ◌≤ℤ◌, ◌-ℤ◌}
+use Rattle.std.specs.Int.{int_max, int_min}
+use Rattle.std.specs.List.{AllByRecursion}
+use Rattle.std.proofs.lemmas.Int.{ints, clamps}
+use Rattle.sf_curves.proofs.Members.{not_in_nil, Contains-head, Contains-tail}
+use Rattle.sf_standard.specs.declared.hull.Interval.{Interval}
+use Rattle.sf_standard.specs.Hull.{to_nat, gap}
+use Rattle.sf_standard.proofs.Listed.{each-contains, each-from}
+use Rattle.sf_bounds.specs.Near.{IsNumber, IsNear, shared, endless}
+
+fold-low : (i : Interval) (is : List Interval) → (fold shared i is).low ≡ fold (λ z j. int_max z j.low) i.low is
+fold-low i [] = refl
+fold-low i (j ∷ js) = fold-low (shared i j) js
+
+fold-high : (i : Interval) (is : List Interval) → (fold shared i is).high ≡ fold (λ z j. int_min z j.high) i.high is
+fold-high i [] = refl
+fold-high i (j ∷ js) = fold-high (shared i j) js
+
+max-first : (z : ℤ) → IsNumber z → int_max (neg_ℤ (pos 700000000)) z ≡ z
+max-first z h = omega (arith, ints, clamps, h.0)
+
+min-first : (z : ℤ) → IsNumber z → int_min (pos 700000000) z ≡ z
+min-first z h = omega (arith, ints, clamps, h.1)
+
+endless-first : (i : Interval) → IsNear i → shared endless i ≡ i
+endless-first i h =
+    ap (λ z. (let k : Interval = record { low = z; high = int_min (pos 700000000) i.high } in k)) (max-first i.low h.0)
+    ∙ ap (λ z. (let k : Interval = record { low = i.low; high = z } in k)) (min-first i.high h.1)
+
+pub gap-shared : (is : List Interval) → AllByRecursion IsNear is → to_nat ((fold shared endless is).low -ℤ (fold shared endless is).high) ≡ gap is
+gap-shared [] h = refl
+gap-shared (i ∷ is) h =
+    ap (λ v. to_nat ((fold shared v is).low -ℤ (fold shared v is).high)) (endless-first i h.0)
+    ∙ ap (λ z. to_nat (z -ℤ (fold shared i is).high)) (fold-low i is)
+    ∙ ap (λ z. to_nat (fold (λ z j. int_max z j.low) i.low is -ℤ z)) (fold-high i is)
+
+low-start : (a : ℤ) (is : List Interval) → a ≤ℤ fold (λ z j. int_max z j.low) a is
+low-start a [] = omega (arith, ints)
+low-start a (i ∷ is) = omega (arith, ints, clamps, low-start (int_max a i.low) is)
+
+low-each : (a : ℤ) (is : List Interval) → AllByRecursion (λ i. i.low ≤ℤ fold (λ z j. int_max z j.low) a is) is
+low-each a [] = tt
+low-each a (i ∷ is) = (omega (arith, ints, clamps, low-start (int_max a i.low) is), low-each (int_max a i.low) is)
+
+high-start : (a : ℤ) (is : List Interval) → fold (λ z j. int_min z j.high) a is ≤ℤ a
+high-start a [] = omega (arith, ints)
+high-start a (i ∷ is) = omega (arith, ints, clamps, high-start (int_min a i.high) is)
+
+high-each : (a : ℤ) (is : List Interval) → AllByRecursion (λ i. fold (λ z j. int_min z j.high) a is ≤ℤ i.high) is
+high-each a [] = tt
+high-each a (i ∷ is) = (omega (arith, ints, clamps, high-start (int_min a i.high) is), high-each (int_min a i.high) is)
+
+low-most : (a b : ℤ) (is : List Interval) → a ≤ℤ b → AllByRecursion (λ i. i.low ≤ℤ b) is → fold (λ z j. int_max z j.low) a is ≤ℤ b
+low-most a b [] h e = h
+low-most a b (i ∷ is) h e = low-most (int_max a i.low) b is (omega (arith, ints, clamps, h, e.0)) e.1
+
+high-least : (a b : ℤ) (is : List Interval) → b ≤ℤ a → AllByRecursion (λ i. b ≤ℤ i.high) is → b ≤ℤ fold (λ z j. int_min z j.high) a is
+high-least a b [] h e = h
+high-least a b (i ∷ is) h e = high-least (int_min a i.high) b is (omega (arith, ints, clamps, h, e.0)) e.1
+
+-- the greatest lower end of some of the intervals
+lows-le : (i j : Interval) (is js : List Interval) → ((z : Interval) → Contains (i ∷ is) z → Contains (j ∷ js) z) → fold (λ z j. int_max z j.low) i.low is ≤ℤ fold (λ z j. int_max z j.low) j.low js
+lows-le i j is js sub =
+    let b = fold (λ z j. int_max z j.low) j.low js in
+    let each : AllByRecursion (λ k. k.low ≤ℤ b) (j ∷ js) = (low-start j.low js, low-each j.low js) in
+    let under : (z : Interval) → Contains (i ∷ is) z → z.low ≤ℤ b = λ z c. each-contains (λ k. k.low ≤ℤ b) (j ∷ js) z each (sub z c) in
+    low-most i.low b is (under i (Contains-head i is)) (each-from (λ k. k.low ≤ℤ b) is (λ z c. under z (Contains-tail i is z c)))
+
+highs-le : (i j : Interval) (is js : List Interval) → ((z : Interval) → Contains (i ∷ is) z → Contains (j ∷ js) z) → fold (λ z j. int_min z j.high) j.high js ≤ℤ fold (λ z j. int_min z j.high) i.high is
+highs-le i j is js sub =
+    let b = fold (λ z j. int_min z j.high) j.high js in
+    let each : AllByRecursion (λ k. b ≤ℤ k.high) (j ∷ js) = (high-start j.high js, high-each j.high js) in
+    let over : (z : Interval) → Contains (i ∷ is) z → b ≤ℤ z.high = λ z c. each-contains (λ k. b ≤ℤ k.high) (j ∷ js) z each (sub z c) in
+    high-least i.high b is (over i (Contains-head i is)) (each-from (λ k. b ≤ℤ k.high) is (λ z c. over z (Contains-tail i is z c)))
+
+same-order : (a b : ℤ) → a ≤ℤ b → b ≤ℤ a → a ≡ b
+same-order a b h k = omega (arith, ints, h, k)
+
+-- the order of the intervals, and how often each stands there, do not matter
+pub gap-same : (is js : List Interval) → ((z : Interval) → Contains is z → Contains js z) → ((z : Interval) → Contains js z → Contains is z) → gap is ≡ gap js
+gap-same [] [] f g = refl
+gap-same [] (j ∷ js) f g = absurd (not_in_nil j (g j (Contains-head j js)))
+gap-same (i ∷ is) [] f g = absurd (not_in_nil i (f i (Contains-head i is)))
+gap-same (i ∷ is) (j ∷ js) f g =
+    let low = same-order (fold (λ z j. int_max z j.low) i.low is) (fold (λ z j. int_max z j.low) j.low js) (lows-le i j is js f) (lows-le j i js is g) in
+    let high = same-order (fold (λ z j. int_min z j.high) i.high is) (fold (λ z j. int_min z j.high) j.high js) (highs-le j i js is g) (highs-le i j is js f) in
+    ap (λ z. to_nat (z -ℤ fold (λ z j. int_min z j.high) i.high is)) low
+    ∙ ap (λ z. to_nat (fold (λ z j. int_max z j.low) j.low js -ℤ z)) high

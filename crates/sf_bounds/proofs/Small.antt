@@ -1,0 +1,146 @@
+-- No extent, and no place of a block in an item, is too great.
+use Rattle.std.proofs.Common.{◌≡◌, ℕ, suc, ◌+◌, ◌*◌, ◌<◌, ◌≤◌, min, max, List, [], ◌∷◌, ◌++◌, length, reverse, map, ap, arith, length-append, ◌⊎◌, inl, inr, refl, sym, ◌∙◌, subst}
+use Rattle.std.specs.Prelude.{Contains, fold}
+use Rattle.std.specs.List.{AllByRecursion}
+use Rattle.std.proofs.lemmas.Bool.{cases_lt}
+use Rattle.std.proofs.lemmas.List.{get_or_past, length-map}
+use Rattle.std.proofs.lemmas.List.Elements.{All-from_recursion, All-contains}
+use Rattle.sf_model.specs.declared.design.Design.{Design}
+use Rattle.sf_model.specs.declared.parts.Shape.{Shape}
+use Rattle.sf_model.specs.Legal.{shapes_of}
+use Rattle.sf_model.specs.Limits.{IsSide}
+use Rattle.sf_model.proofs.Each.{each-append, each-map, each-weaker}
+use Rattle.sf_node.specs.Parts.{Parts}
+use Rattle.sf_node.specs.Subproblem.{span_of}
+use Rattle.sf_node.proofs.Halves.{in_span}
+use Rattle.sf_standard.specs.declared.hull.Extent.{Extent}
+use Rattle.sf_standard.specs.declared.hull.Offset.{Offset}
+use Rattle.sf_standard.specs.Items as item
+use Rattle.sf_standard.specs.Items.{Item, span_shapes}
+use Rattle.sf_standard.specs.Hull.{extent_of, item_extent, offsets, moved_right, moved_up}
+use Rattle.sf_standard.proofs.Listed.{each-from}
+use Rattle.sf_bounds.specs.declared.layout.Held.{Held}
+use Rattle.sf_bounds.specs.declared.layout.Seat.{Seat}
+use Rattle.sf_bounds.specs.Layout.{extent_in, held_of, seat_at, seats_from, IsModestExtent, IsModestOffset, AreModest}
+
+pub record IsSmallExtent (m : ℕ) (e : Extent) : Type 0 where
+  pub least_w : e.least_w ≤ m
+  pub most_w : e.most_w ≤ m
+  pub least_h : e.least_h ≤ m
+  pub most_h : e.most_h ≤ m
+
+pub record IsSmallOffset (m : ℕ) (o : Offset) : Type 0 where
+  pub least_x : o.least_x ≤ m
+  pub most_x : o.most_x ≤ m
+  pub least_y : o.least_y ≤ m
+  pub most_y : o.most_y ≤ m
+
+least-in : (key : Shape → ℕ) (a m : ℕ) (ss : List Shape) → a ≤ m → fold (λ n t. min n (key t)) a ss ≤ m
+least-in key a m [] h = h
+least-in key a m (s ∷ ss) h = least-in key (min a (key s)) m ss (omega (arith, h))
+
+most-in : (key : Shape → ℕ) (a m : ℕ) (ss : List Shape) → a ≤ m → AllByRecursion (λ s. key s ≤ m) ss → fold (λ n t. max n (key t)) a ss ≤ m
+most-in key a m [] h e = h
+most-in key a m (s ∷ ss) h e = most-in key (max a (key s)) m ss (omega (arith, h, e.0)) e.1
+
+extent-small : (m : ℕ) (ss : List Shape) → AllByRecursion (λ s. s.w ≤ m) ss → AllByRecursion (λ s. s.h ≤ m) ss → IsSmallExtent m (extent_of ss)
+extent-small m [] w h = record { least_w = omega arith; most_w = omega arith; least_h = omega arith; most_h = omega arith }
+extent-small m (s ∷ ss) w h = record {
+  least_w = least-in (λ t. t.w) s.w m ss w.0;
+  most_w = most-in (λ t. t.w) s.w m ss w.0 w.1;
+  least_h = least-in (λ t. t.h) s.h m ss h.0;
+  most_h = most-in (λ t. t.h) s.h m ss h.0 h.1;
+}
+
+side-in : (design : Design) (node : Parts) (b : ℕ) (s : Shape) → Contains (span_shapes design node b) s → (s.w ≤ 1048576) × (s.h ≤ 1048576)
+side-in design node b s c =
+    let i = in_span (shapes_of design b) (span_of node b).0 (span_of node b).1 s c in
+    elim (cases_lt b (length design.blocks)) [
+      | inl lt ↦ (let k = All-contains (λ s. IsSide s.w × IsSide s.h) (shapes_of design b) s (design.limits.shapes b (record { name = []; shapes = [] }) lt).sides (i.at, i.within, i.is) in
+          (omega (arith, k.0.1), omega (arith, k.1.1)))
+      | inr le ↦ absurd (omega (arith, i.within, ap (λ v. length v.shapes) (get_or_past design.blocks b (record { name = []; shapes = [] }) le)))
+    ]
+
+-- no side of a span's shapes is above 2^20
+pub span-small : (design : Design) (node : Parts) (b : ℕ) → IsSmallExtent 1048576 (extent_in design node b)
+span-small design node b =
+    extent-small 1048576 (span_shapes design node b)
+      (each-from (λ s. s.w ≤ 1048576) (span_shapes design node b) (λ s c. (side-in design node b s c).0))
+      (each-from (λ s. s.h ≤ 1048576) (span_shapes design node b) (λ s c. (side-in design node b s c).1))
+
+module _ (extent : ℕ → Extent) (small : (b : ℕ) → IsSmallExtent 1048576 (extent b)) where
+  pub item-small : (i : Item) → IsSmallExtent (1048576 * length (offsets extent i)) (item_extent extent i)
+  item-small (item.Block b) = let k = small b in record { least_w = omega (arith, k.least_w); most_w = omega (arith, k.most_w); least_h = omega (arith, k.least_h); most_h = omega (arith, k.most_h) }
+  item-small (item.Beside l r) =
+      let p = item-small l in
+      let q = item-small r in
+      let n = length-append (offsets extent l) (map (moved_right (item_extent extent l)) (offsets extent r)) in
+      let m = length-map (offsets extent r) (moved_right (item_extent extent l)) in
+      record { least_w = omega (arith, p.least_w, q.least_w, n, m); most_w = omega (arith, p.most_w, q.most_w, n, m); least_h = omega (arith, p.least_h, q.least_h, n, m); most_h = omega (arith, p.most_h, q.most_h, n, m) }
+  item-small (item.Above l r) =
+      let p = item-small l in
+      let q = item-small r in
+      let n = length-append (offsets extent l) (map (moved_up (item_extent extent l)) (offsets extent r)) in
+      let m = length-map (offsets extent r) (moved_up (item_extent extent l)) in
+      record { least_w = omega (arith, p.least_w, q.least_w, n, m); most_w = omega (arith, p.most_w, q.most_w, n, m); least_h = omega (arith, p.least_h, q.least_h, n, m); most_h = omega (arith, p.most_h, q.most_h, n, m) }
+
+  wider : (m n : ℕ) (o : Offset) → m ≤ n → IsSmallOffset m o → IsSmallOffset n o
+  wider m n o h k = record { least_x = omega (arith, h, k.least_x); most_x = omega (arith, h, k.most_x); least_y = omega (arith, h, k.least_y); most_y = omega (arith, h, k.most_y) }
+
+  pub offsets-small : (i : Item) → AllByRecursion (IsSmallOffset (1048576 * length (offsets extent i))) (offsets extent i)
+  offsets-small (item.Block b) = (record { least_x = omega arith; most_x = omega arith; least_y = omega arith; most_y = omega arith }, tt)
+  offsets-small (item.Beside l r) =
+      let e = item_extent extent l in
+      let p = item-small l in
+      let n = length-append (offsets extent l) (map (moved_right e) (offsets extent r)) in
+      let m = length-map (offsets extent r) (moved_right e) in
+      let total = 1048576 * length (offsets extent l ++ map (moved_right e) (offsets extent r)) in
+      each-append (IsSmallOffset total) (offsets extent l) (map (moved_right e) (offsets extent r))
+        (each-weaker (IsSmallOffset (1048576 * length (offsets extent l))) (IsSmallOffset total) (λ o k. wider (1048576 * length (offsets extent l)) total o (omega (arith, n)) k) (offsets extent l) (offsets-small l))
+        (each-map (IsSmallOffset total) (moved_right e) (offsets extent r)
+          (each-weaker (IsSmallOffset (1048576 * length (offsets extent r))) (λ o. IsSmallOffset total (moved_right e o)) (λ o k. record { least_x = omega (arith, n, m, k.least_x, p.least_w); most_x = omega (arith, n, m, k.most_x, p.most_w); least_y = omega (arith, n, m, k.least_y); most_y = omega (arith, n, m, k.most_y) }) (offsets extent r) (offsets-small r)))
+  offsets-small (item.Above l r) =
+      let e = item_extent extent l in
+      let p = item-small l in
+      let n = length-append (offsets extent l) (map (moved_up e) (offsets extent r)) in
+      let m = length-map (offsets extent r) (moved_up e) in
+      let total = 1048576 * length (offsets extent l ++ map (moved_up e) (offsets extent r)) in
+      each-append (IsSmallOffset total) (offsets extent l) (map (moved_up e) (offsets extent r))
+        (each-weaker (IsSmallOffset (1048576 * length (offsets extent l))) (IsSmallOffset total) (λ o k. wider (1048576 * length (offsets extent l)) total o (omega (arith, n)) k) (offsets extent l) (offsets-small l))
+        (each-map (IsSmallOffset total) (moved_up e) (offsets extent r)
+          (each-weaker (IsSmallOffset (1048576 * length (offsets extent r))) (λ o. IsSmallOffset total (moved_up e o)) (λ o k. record { least_x = omega (arith, n, m, k.least_x); most_x = omega (arith, n, m, k.most_x); least_y = omega (arith, n, m, k.least_y, p.least_h); most_y = omega (arith, n, m, k.most_y, p.most_h) }) (offsets extent r) (offsets-small r)))
+
+  seats-long : (k : ℕ) (i : Item) (is : List Item) → length (seats_from extent k (i ∷ is)) ≡ length (offsets extent i) + length (seats_from extent (suc k) is)
+  seats-long k i is = omega (arith, length-append (map (seat_at k) (offsets extent i)) (seats_from extent (suc k) is), length-map (offsets extent i) (seat_at k))
+
+  held-modest : (k m : ℕ) (is : List Item) → length (seats_from extent k is) ≤ m → m ≤ 320 → AllByRecursion (λ h. IsModestExtent h.extent × (h.blocks ≤ m)) (map (held_of extent) is)
+  held-modest k m [] h few = tt
+  held-modest k m (i ∷ is) h few =
+      let n = seats-long k i is in
+      let s = item-small i in
+      let le : length (offsets extent i) ≤ m = omega (arith, n, h) in (
+        (record { least_w = omega (arith, s.least_w, le, few); most_w = omega (arith, s.most_w, le, few); least_h = omega (arith, s.least_h, le, few); most_h = omega (arith, s.most_h, le, few) }, le),
+        held-modest (suc k) m is (omega (arith, n, h)) few,
+      )
+
+  seats-modest : (k m : ℕ) (is : List Item) → length (seats_from extent k is) ≤ m → m ≤ 320 → AllByRecursion (λ s. IsModestOffset s.offset) (seats_from extent k is)
+  seats-modest k m [] h few = tt
+  seats-modest k m (i ∷ is) h few =
+      let n = seats-long k i is in
+      let le : length (offsets extent i) ≤ m = omega (arith, n, h) in
+      each-append (λ s. IsModestOffset s.offset) (map (seat_at k) (offsets extent i)) (seats_from extent (suc k) is)
+        (each-map (λ s. IsModestOffset s.offset) (seat_at k) (offsets extent i)
+          (each-weaker (IsSmallOffset (1048576 * length (offsets extent i))) IsModestOffset (λ o s. record { least_x = omega (arith, s.least_x, le, few); most_x = omega (arith, s.most_x, le, few); least_y = omega (arith, s.least_y, le, few); most_y = omega (arith, s.most_y, le, few) }) (offsets extent i) (offsets-small i)))
+        (seats-modest (suc k) m is (omega (arith, n, h)) few)
+
+  -- so is all that is laid out
+  pub are-modest : (is : List Item) → length (seats_from extent 0 is) ≤ 320 → AreModest (map (held_of extent) is) (seats_from extent 0 is)
+  are-modest is few =
+      let n = length (seats_from extent 0 is) in
+      let h = held-modest 0 n is (omega arith) few in
+      record {
+        extents = All-from_recursion (λ h. IsModestExtent h.extent) (map (held_of extent) is) (each-weaker (λ h. IsModestExtent h.extent × (h.blocks ≤ n)) (λ h. IsModestExtent h.extent) (λ x k. k.0) (map (held_of extent) is) h);
+        blocks = All-from_recursion (λ h. h.blocks ≤ n) (map (held_of extent) is) (each-weaker (λ h. IsModestExtent h.extent × (h.blocks ≤ n)) (λ h. h.blocks ≤ n) (λ x k. k.1) (map (held_of extent) is) h);
+        offsets = All-from_recursion (λ s. IsModestOffset s.offset) (seats_from extent 0 is) (seats-modest 0 n is (omega arith) few);
+        few = few;
+      }

@@ -1,0 +1,105 @@
+-- Where the blocks of a subproblem stand: the extent of each, and its seat in an item.
+use Rattle.std.specs.Prelude.{◌≡◌, ℕ, suc, ◌+◌, ◌-◌, ◌<◌, ◌≤◌, max, List, [], ◌∷◌, ◌++◌, length, map, reverse, take, drop, All, Bool, cond, count_by, ◌==◌, if◌then◌else◌, slice_index_or}
+use Rattle.sf_model.specs.declared.design.Design.{Design}
+use Rattle.sf_model.specs.Legal.{block_count}
+use Rattle.sf_polish.specs.declared.expr.Token.{Token}
+use Rattle.sf_polish.specs.declared.expr.Token.TheVariants as token
+use Rattle.sf_polish.specs.Normal.{is_block}
+use Rattle.sf_node.specs.Parts.{Parts}
+use Rattle.sf_standard.specs.declared.hull.Extent.{Extent}
+use Rattle.sf_standard.specs.declared.hull.Offset.{Offset}
+use Rattle.sf_standard.specs.Items.{Item, items_of, span_shapes}
+use Rattle.sf_standard.specs.Hull.{extent_of, item_extent, offsets, moved_right, moved_up}
+use Rattle.sf_bounds.specs.declared.layout.Held.{Held}
+use Rattle.sf_bounds.specs.declared.layout.Seat.{Seat}
+
+-- the extent of each block in its span
+abbrev pub extent_in : Design → Parts → ℕ → Extent
+extent_in design node b = extent_of (span_shapes design node b)
+
+-- the list tells a function of the numbers below n
+pub record Tells {X : Type 0} (f : ℕ → X) (n : ℕ) (xs : List X) : Type 0 where
+  pub count : length xs ≡ n
+  pub each : (b : ℕ) (d : X) → b < n → slice_index_or xs b d ≡ f b
+
+-- the sides of two joined items
+abbrev pub beside_extent : Extent → Extent → Extent
+beside_extent p q = record { least_w = p.least_w + q.least_w; most_w = p.most_w + q.most_w; least_h = max p.least_h q.least_h; most_h = max p.most_h q.most_h }
+
+abbrev pub above_extent : Extent → Extent → Extent
+above_extent p q = record { least_w = max p.least_w q.least_w; most_w = max p.most_w q.most_w; least_h = p.least_h + q.least_h; most_h = p.most_h + q.most_h }
+
+abbrev pub held_of : (ℕ → Extent) → Item → Held
+held_of extent i = record { extent = item_extent extent i; blocks = length (offsets extent i) }
+
+abbrev pub seat_at : ℕ → Offset → Seat
+seat_at item o = record { item = item; offset = o }
+
+-- the seats of the blocks of some items, of which the first has the number k
+abbrev pub seats_from : (ℕ → Extent) → ℕ → List Item → List Seat
+seats_from extent k [] = []
+seats_from extent k (i ∷ is) = map (seat_at k) (offsets extent i) ++ seats_from extent (suc k) is
+
+-- the items, the last first, and what the code keeps of them, the last on top
+pub record IsLaid (extent : ℕ → Extent) (items : List Item) (stack : List Held) (places : List Seat) : Type 0 where
+  pub held : stack ≡ map (held_of extent) (reverse items)
+  pub seats : places ≡ seats_from extent 0 (reverse items)
+
+-- a seat in another item, after a move
+abbrev pub reseated : ℕ → (Offset → Offset) → Seat → Seat
+reseated item move s = record { item = item; offset = move s.offset }
+
+-- the top two items are joined, and the seats of the upper one are moved
+pub record JoinsTop (join : Extent → Extent → Extent) (move : Extent → Offset → Offset) (old new : List Held) (old_seats new_seats : List Seat) : Type 0 where
+  pub below : List Held
+  pub left : Held
+  pub right : Held
+  pub was : old ≡ (below ++ left ∷ []) ++ right ∷ []
+  pub is : new ≡ below ++ (record { extent = join left.extent right.extent; blocks = left.blocks + right.blocks }) ∷ []
+  pub seats : let start = length old_seats - right.blocks in
+      new_seats ≡ take start old_seats ++ map (reseated (length below) (move left.extent)) (drop start old_seats)
+
+abbrev pub Lays : (ℕ → Extent) → Token → List Held → List Held → List Seat → List Seat → Type 0
+Lays extent (token.Block b) old new old_seats new_seats =
+    (new ≡ old ++ (record { extent = extent b; blocks = 1 }) ∷ [])
+    × (new_seats ≡ old_seats ++ seat_at (length old) (record { block = b; least_x = 0; most_x = 0; least_y = 0; most_y = 0 }) ∷ [])
+Lays extent token.Beside old new old_seats new_seats = JoinsTop beside_extent moved_right old new old_seats new_seats
+Lays extent token.Above old new old_seats new_seats = JoinsTop above_extent moved_up old new old_seats new_seats
+
+-- numbers of sides and places are below 320 times 2^20
+abbrev pub IsModest : ℕ → Type 0
+IsModest n = n ≤ 335544320
+
+pub record IsModestExtent (e : Extent) : Type 0 where
+  pub least_w : IsModest e.least_w
+  pub most_w : IsModest e.most_w
+  pub least_h : IsModest e.least_h
+  pub most_h : IsModest e.most_h
+
+pub record IsModestOffset (o : Offset) : Type 0 where
+  pub least_x : IsModest o.least_x
+  pub most_x : IsModest o.most_x
+  pub least_y : IsModest o.least_y
+  pub most_y : IsModest o.most_y
+
+pub record AreModest (held : List Held) (seats : List Seat) : Type 0 where
+  pub extents : All (λ h. IsModestExtent h.extent) held
+  pub blocks : All (λ h. h.blocks ≤ length seats) held
+  pub offsets : All (λ s. IsModestOffset s.offset) seats
+  pub few : length seats ≤ 320
+
+-- the last seat of a block in the list, or d where there is none
+abbrev pub last_seat : Seat → ℕ → List Seat → Seat
+last_seat d b [] = d
+last_seat d b (s ∷ ss) = last_seat (if s.offset.block == b then s else d) b ss
+
+-- the seat of a block that stands in no item
+abbrev pub no_seat : ℕ → ℕ → Seat
+no_seat items b = seat_at items (record { block = b; least_x = 0; most_x = 0; least_y = 0; most_y = 0 })
+
+-- the items of a subproblem are laid out, and no block has two seats
+pub record AreSeated (design : Design) (node : Parts) (stack : List Held) (places : List Seat) : Type 0 where
+  pub laid : IsLaid (extent_in design node) (items_of node) stack places
+  pub once : (b : ℕ) → count_by (λ s. s.offset.block == b) places ≤ 1
+  pub inside : All (λ s. s.offset.block < block_count design) places
+  pub few : length places ≤ 320

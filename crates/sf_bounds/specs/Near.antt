@@ -1,0 +1,34 @@
+-- Ends of intervals, and of their meeting, that fit a machine number.
+use Rattle.std.specs.Prelude.{ℕ, ◌+◌, ℤ, pos, neg_ℤ, negsuc, ◌≤ℤ◌, ◌-ℤ◌}
+use Rattle.std.specs.Int.{int_max, int_min}
+use Rattle.sf_standard.specs.declared.hull.Interval.{Interval}
+use Rattle.sf_standard.specs.Hull.{to_nat}
+use Rattle.sf_bounds.specs.declared.reach.Reach.{Reach}
+
+abbrev pub IsNumber : ℤ → Type 0
+IsNumber z = (neg_ℤ (pos 700000000) ≤ℤ z) × (z ≤ℤ pos 700000000)
+
+abbrev pub IsNear : Interval → Type 0
+IsNear i = IsNumber i.low × IsNumber i.high
+
+-- the ends across and upward
+abbrev pub IsNearby : Reach → Type 0
+IsNearby r = IsNear r.across × IsNear r.upward
+
+-- what two intervals share: the greater lower end and the lesser upper end
+abbrev pub shared : Interval → Interval → Interval
+shared i j = record { low = int_max i.low j.low; high = int_min i.high j.high }
+
+abbrev pub met : Reach → Reach → Reach
+met r s = record { across = shared r.across s.across; upward = shared r.upward s.upward }
+
+-- what no interval narrows
+abbrev pub endless : Interval
+endless = record { low = neg_ℤ (pos 700000000); high = pos 700000000 }
+
+abbrev pub anywhere : Reach
+anywhere = record { across = endless; upward = endless }
+
+-- how far apart the ends are across and upward, where they passed each other
+abbrev pub reach_gap : Reach → ℕ
+reach_gap r = to_nat (r.across.low -ℤ r.across.high) + to_nat (r.upward.low -ℤ r.upward.high)

@@ -1,0 +1,85 @@
+ghost use Rattle.std.specs.Prelude.{◌≡◌, ◌<◌, ◌≤◌, length, slice_range, OnOk, fold, min, max};
+ghost use Rattle.sf_node.specs.Children.{IsSubproblem};
+ghost use Rattle.sf_standard.specs.Hull.{extent_of};
+ghost use Rattle.sf_bounds.specs.Layout.{extent_in, Tells};
+
+use sf_model::{Design, Shape};
+use sf_node::Node;
+use sf_standard::Extent;
+use std::alloc::AllocError as NoMemory;
+
+/// The least and the greatest sides of some shapes.
+pub fn extent_of(shapes: &[Shape]) -> Extent
+    ensures { result ≡ extent_of shapes.now }
+{
+    let Some((first, rest)) = shapes.split_first() else {
+        return Extent {
+            least_w: 0,
+            most_w: 0,
+            least_h: 0,
+            most_h: 0,
+        };
+    };
+    Extent {
+        least_w: least_width(first.w, rest),
+        most_w: most_width(first.w, rest),
+        least_h: least_height(first.h, rest),
+        most_h: most_height(first.h, rest),
+    }
+}
+
+fn least_width(first: u32, rest: &[Shape]) -> u32
+    ensures { result ≡ fold (λ n t. min n t.w) first rest.now }
+{
+    rest.iter().fold(first, |least, shape| least.min(shape.w))
+}
+
+fn most_width(first: u32, rest: &[Shape]) -> u32
+    ensures { result ≡ fold (λ n t. max n t.w) first rest.now }
+{
+    rest.iter().fold(first, |most, shape| most.max(shape.w))
+}
+
+fn least_height(first: u32, rest: &[Shape]) -> u32
+    ensures { result ≡ fold (λ n t. min n t.h) first rest.now }
+{
+    rest.iter().fold(first, |least, shape| least.min(shape.h))
+}
+
+fn most_height(first: u32, rest: &[Shape]) -> u32
+    ensures { result ≡ fold (λ n t. max n t.h) first rest.now }
+{
+    rest.iter().fold(first, |most, shape| most.max(shape.h))
+}
+
+fn part_extent(shapes: &[Shape], from: u16, to: u16) -> Extent
+    requires some { from < to }
+    requires in_list { to ≤ length shapes.now }
+    ensures { result ≡ extent_of (slice_range shapes.now from to) }
+{
+    extent_of(&shapes[usize::from(from)..usize::from(to)])
+}
+
+/// The extent of the shapes in a block's span.
+#[tactic(auto, using(crate::proofs::Building::span_some, crate::proofs::Building::span_inside, crate::proofs::Building::span_count))]
+fn block_extent(design: &Design, node: &Node, block: u16) -> Extent
+    requires subproblem { IsSubproblem design.now node.now }
+    requires inside { block < length design.now.blocks }
+    ensures { result ≡ extent_in design.now node.now block }
+{
+    let (from, to) = node.span(block);
+    let shapes = design.blocks.as_slice()[usize::from(block)].shapes.as_slice();
+    part_extent(shapes, from, to)
+}
+
+/// Fills the list with the extent of each block.
+pub fn fill_extents(extents: &mut Vec<Extent>, design: &Design, node: &Node) -> Result<(), NoMemory>
+    requires { IsSubproblem design.now node.now }
+    ensures { OnOk result (Tells (extent_in design.now node.now) (length design.now.blocks) extents.new.items) }
+{
+    extents.clear();
+    for block in 0..design.blocks.as_slice().len() as u16 {
+        extents.push(block_extent(design, node, block))?;
+    }
+    Ok(())
+}

@@ -1,0 +1,47 @@
+ghost use Rattle.std.specs.Prelude.{◌≡◌, ◌≤◌, ◌≤ℤ◌, ℤ, pos, ◌-ℤ◌};
+ghost use Rattle.sf_standard.specs.Hull.{to_nat};
+ghost use Rattle.sf_bounds.specs.Near.{IsNumber, IsNear, IsNearby, shared, met, reach_gap};
+
+use crate::reach::Reach;
+use sf_standard::Interval;
+
+fn shared(first: Interval, second: Interval) -> Interval
+    ensures { result ≡ shared first second }
+{
+    Interval {
+        low: first.low.max(second.low),
+        high: first.high.min(second.high),
+    }
+}
+
+/// What two reaches share.
+pub fn met(first: Reach, second: Reach) -> Reach
+    ensures { result ≡ met first second }
+{
+    Reach {
+        across: shared(first.across, second.across),
+        upward: shared(first.upward, second.upward),
+    }
+}
+
+/// How far the lower end lies above the upper one, or 0.
+#[tactic(auto, using(crate::proofs::Nearby::to_nat_none, crate::proofs::Nearby::to_nat_abs))]
+fn difference(interval: Interval) -> u64
+    requires near { IsNear interval }
+    ensures is { result ≡ to_nat (interval.low -ℤ interval.high) }
+    ensures small { result ≤ 1400000000 }
+{
+    if interval.low <= interval.high {
+        return 0;
+    }
+    (interval.low - interval.high) as u64
+}
+
+/// How far apart the ends are, across and upward.
+pub fn reach_gap(reach: Reach) -> u64
+    requires near { IsNearby reach }
+    ensures is { result ≡ reach_gap reach }
+    ensures small { result ≤ 2800000000 }
+{
+    difference(reach.across) + difference(reach.upward)
+}

@@ -1,0 +1,53 @@
+ghost use Rattle.std.specs.Prelude.{◌≡◌, IfOk, IsFalse, IsTrue};
+ghost use Rattle.sf_node.specs.Children.{IsSubproblem};
+ghost use Rattle.sf_node.specs.Subproblem.{is_solved};
+ghost use Rattle.sf_standard.specs.Standard.{standard};
+ghost use Rattle.sf_bounds.specs.Open.{AllHavePlans, IsNeededOrNone, IsWirePart};
+
+use crate::area::area_part;
+use crate::groups::group_curves;
+use crate::room::Room;
+use crate::solved::{least_by_area, one_plan_cost};
+use crate::wires::wire_part;
+use sf_model::{Design, MAX};
+use sf_node::Node;
+use std::alloc::{AllocError as NoMemory, Global};
+
+// The area that the items and the unused blocks need, or none where one of them fits in no way.
+fn needed_area(alloc: Global, design: &Design, node: &Node) -> Result<Option<u64>, NoMemory>
+    requires { IsSubproblem design.now node.now }
+    ensures { IfOk result (IsNeededOrNone design.now node.now) }
+{
+    let curves = group_curves(alloc, design, node)?;
+    Ok(area_part(&curves))
+}
+
+// The value of a subproblem that is not solved.
+fn open_value(room: &mut Room, design: &Design, node: &Node) -> Result<u64, NoMemory>
+    requires subproblem { IsSubproblem design.now node.now }
+    requires unsolved { IsFalse (is_solved design.now node.now) }
+    ensures { IfOk result (λ v. v ≡ standard design.now node.now) }
+{
+    let Some(needed) = needed_area(room.alloc, design, node)? else {
+        return Ok(MAX);
+    };
+    if needed > u64::from(design.outline.w) * u64::from(design.outline.h) {
+        return Ok(MAX);
+    }
+    let wires = wire_part(&mut room.layout, &mut room.reaches, design, node)?;
+    Ok(u64::from(design.weights.area) * needed + u64::from(design.weights.wire) * wires)
+}
+
+/// The value of the standard bound.
+pub fn standard_value(room: &mut Room, design: &Design, node: &Node) -> Result<u64, NoMemory>
+    requires { IsSubproblem design.now node.now }
+    ensures { IfOk result (λ v. v ≡ standard design.now node.now) }
+{
+    if !node.is_solved(design) {
+        return open_value(room, design, node);
+    }
+    if design.weights.wire == 0 {
+        return least_by_area(room.alloc, design, node);
+    }
+    one_plan_cost(room.alloc, design, node)
+}

@@ -1,0 +1,100 @@
+ghost use Rattle.std.specs.Prelude.{◌≡◌, ◌<◌, ◌≤◌, ◌+◌, ◌^◌, length, All, OnOk, IfOk};
+ghost use Rattle.sf_node.specs.Children.{IsSubproblem};
+ghost use Rattle.sf_standard.specs.Standard.{net_part};
+ghost use Rattle.sf_bounds.specs.Open.{IsWirePart};
+ghost use Rattle.sf_bounds.specs.Pins.{IsNet, IsLayout};
+
+use crate::extents::fill_extents;
+use crate::layout::Layout;
+use crate::laying::{fill_table, lay};
+use crate::pins::{hull_part, pair_part, range_part};
+use crate::reach::{ANYWHERE, Reach};
+use sf_model::{Design, Net};
+use sf_node::Node;
+use std::alloc::AllocError as NoMemory;
+
+// Lays a subproblem out.
+fn fill_layout(layout: &mut Layout, design: &Design, node: &Node) -> Result<(), NoMemory>
+    requires { IsSubproblem design.now node.now }
+    ensures { OnOk result (IsLayout design.now node.now layout.new) }
+{
+    fill_extents(&mut layout.extents, design, node)?;
+    lay(
+        &mut layout.held,
+        &mut layout.seats,
+        &layout.extents,
+        design,
+        node,
+    )?;
+    fill_table(&mut layout.table, &layout.seats, layout.held.len(), design)?;
+    layout.pads_item = if node.is_complete() {
+        0
+    } else {
+        layout.held.len()
+    };
+    Ok(())
+}
+
+// Makes the list long enough for the items and for what is in none.
+fn fill_reaches(reaches: &mut Vec<Reach>, items: usize) -> Result<(), NoMemory>
+    requires { items < 2 ^ 63 }
+    ensures { OnOk result (items < length reaches.new.items) }
+{
+    for _ in reaches.len()..items + 1 {
+        reaches.push(ANYWHERE)?;
+    }
+    Ok(())
+}
+
+// What the wire of a net costs at least.
+fn net_part(
+    reaches: &mut [Reach],
+    design: &Design,
+    node: &Node,
+    layout: &Layout,
+    net: &Net,
+) -> u64
+    requires subproblem { IsSubproblem design.now node.now }
+    requires layout { IsLayout design.now node.now layout.now }
+    requires inside { IsNet design.now net.now.pins }
+    requires sized { length layout.now.held.items < length reaches.old }
+    ensures is { result ≡ net_part design.now node.now net.now }
+    ensures small { result ≤ 2800000000 }
+{
+    let pins = net.pins.as_slice();
+    if pins.len() < 2 {
+        return 0;
+    }
+    let range = range_part(design, layout, pins);
+    let pair = pair_part(design, layout, pins);
+    let hull = hull_part(reaches, design, layout, pins);
+    range.max(pair.max(hull))
+}
+
+fn sum_nets(reaches: &mut [Reach], design: &Design, node: &Node, layout: &Layout) -> u64
+    requires subproblem { IsSubproblem design.now node.now }
+    requires layout { IsLayout design.now node.now layout.now }
+    requires sized { length layout.now.held.items < length reaches.old }
+    ensures { IsWirePart design.now node.now result }
+{
+    let mut total = 0;
+    for net in design.nets.as_slice() {
+        total += net_part(reaches, design, node, layout, net);
+    }
+    total
+}
+
+/// What the wires of the nets cost at least.
+pub fn wire_part(
+    layout: &mut Layout,
+    reaches: &mut Vec<Reach>,
+    design: &Design,
+    node: &Node,
+) -> Result<u64, NoMemory>
+    requires { IsSubproblem design.now node.now }
+    ensures { IfOk result (IsWirePart design.now node.now) }
+{
+    fill_layout(layout, design, node)?;
+    fill_reaches(reaches, layout.held.len())?;
+    Ok(sum_nets(reaches, design, node, layout))
+}

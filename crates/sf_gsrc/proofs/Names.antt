@@ -1,0 +1,123 @@
+-- Names in ordered maps and sets.
+use Rattle.std.proofs.Common.{◌≡◌, ℕ, zero, suc, ◌+◌, ◌<◌, Bool, true, false, cond, List, [], ◌∷◌, ◌++◌, length, map, take, drop, get_or, Option, Some, None, refl, sym, ap, ◌∙◌, arith, add-one, ℤ, Ordering}
+use Rattle.std.specs.Prelude.{is_some, ◌||◌, not, filter}
+use Rattle.std.specs.List.{list_any}
+use Rattle.std.specs.Str.{bytes_eq}
+use Rattle.std.specs.BTreeMap as tree
+use Rattle.std.specs.BTreeSet as sorted
+use Rattle.std.specs.Cmp.Lexicographic.{slice_cmp}
+use Rattle.std.specs.Ordering.{nat_cmp, is_eq}
+use Rattle.std.specs.Borrow.{Bor}
+use Rattle.std.proofs.lemmas.Map.Text.{btree_map_updates_str, is_eq-slice_cmp}
+use Rattle.std.proofs.Math.Seq.{drop-cons}
+use Rattle.std.proofs.lemmas.List.Folds.{list_any_more}
+use Rattle.sf_gsrc.specs.declared.output.Place.{Place}
+use Rattle.std.proofs.lemmas.List.{map-append, append-nil}
+use Rattle.std.proofs.lemmas.List.Elements.{filter-append}
+use Rattle.sf_model.specs.declared.raw.RawBlock.{RawBlock}
+use Rattle.sf_model.specs.declared.raw.RawPad.{RawPad}
+use Rattle.sf_gsrc.specs.Join.{names_of, has_name, place_of, pads_at, is_known, strangers_of}
+use Rattle.sf_gsrc.specs.ByName.{first_again, PlacesByName, IsNameSet}
+
+abbrev pub names_cmp : Bor (List ℕ) → Bor (List ℕ) → Ordering
+names_cmp x y = slice_cmp nat_cmp x.now y.now
+
+-- ---- places, from the last to the first
+
+cut : (places : List Place) (i : ℕ) (p : Place) → i < length places → p ≡ get_or places i p → drop i places ≡ p ∷ drop (i + 1) places
+cut places i p lt is = drop-cons places i p lt ∙ ap (λ (q : Place). q ∷ drop (suc i) places) (sym is) ∙ ap (λ (n : ℕ). p ∷ drop n places) (sym (add-one i))
+
+-- one place more, before the others
+pub placed_before : (places : List Place) (i j : ℕ) (p : Place) (key : List ℕ) (at : ℤ × ℤ) (m n : tree.BTreeMap (Bor (List ℕ)) (ℤ × ℤ)) → i < length places → j ≡ i + 1 → p ≡ get_or places i p → key ≡ p.name → at ≡ (p.x, p.y)
+    → tree.UpdatesBy names_cmp (λ k. slice_cmp nat_cmp key k.now) m n (Some at) → PlacesByName m (drop j places) → PlacesByName n (drop i places)
+placed_before places i j p key at m n lt next is named there updates known name =
+    let found = btree_map_updates_str key m n (Some at) updates name in
+    rw (cut places i p lt is) (found ∙ rw (known name, next, named, there) refl)
+
+has_place_step : (p : Place) (places : List Place) (name : List ℕ) (b : Bool) → bytes_eq p.name name ≡ b → is_some (place_of places name) ≡ has_name (names_of places) name → is_some (place_of (p ∷ places) name) ≡ has_name (names_of (p ∷ places)) name
+has_place_step p places name true e h = rw e refl
+has_place_step p places name false e h = rw e h
+
+-- a name has a place exactly where it is one of the names
+pub has_place : (places : List Place) (name : List ℕ) → is_some (place_of places name) ≡ has_name (names_of places) name
+has_place [] name = refl
+has_place (p ∷ places) name = has_place_step p places name (bytes_eq p.name name) refl (has_place places name)
+
+-- the name stands again behind its line
+pub twice_here : (places : List Place) (i j : ℕ) (p : Place) (later : Option (ℤ × ℤ)) → i < length places → j ≡ i + 1 → p ≡ get_or places i p → later ≡ place_of (drop j places) p.name → is_some later ≡ true
+    → Some p.name ≡ first_again (names_of (drop i places))
+twice_here places i j p later lt next is found some =
+    let again : has_name (names_of (drop (i + 1) places)) p.name ≡ true = sym (has_place (drop (i + 1) places) p.name) ∙ ap (λ (n : ℕ). is_some (place_of (drop n places) p.name)) (sym next) ∙ ap is_some (sym found) ∙ some in
+    rw (cut places i p lt is, again) refl
+
+-- or it doesn't, and the first is one behind it
+pub twice_later : (places : List Place) (i j : ℕ) (p : Place) (later : Option (ℤ × ℤ)) (twice : Option (List ℕ)) → i < length places → j ≡ i + 1 → p ≡ get_or places i p → later ≡ place_of (drop j places) p.name → is_some later ≡ false
+    → twice ≡ first_again (names_of (drop j places)) → twice ≡ first_again (names_of (drop i places))
+twice_later places i j p later twice lt next is found none before =
+    let again : has_name (names_of (drop (i + 1) places)) p.name ≡ false = sym (has_place (drop (i + 1) places) p.name) ∙ ap (λ (n : ℕ). is_some (place_of (drop n places) p.name)) (sym next) ∙ ap is_some (sym found) ∙ none in
+    rw (cut places i p lt is, again) (before ∙ ap (λ (n : ℕ). first_again (names_of (drop n places))) next)
+
+-- ---- sets of names
+
+or_is : (a b : Bool) → cond a true b ≡ (b || a)
+or_is true true = refl
+or_is true false = refl
+or_is false true = refl
+or_is false false = refl
+
+-- what the set says of a name
+pub known_is : (s : sorted.BTreeSet (Bor (List ℕ))) (has : List ℕ → Bool) (key name : List ℕ) (b : Bool) → IsNameSet s has → key ≡ name → b ≡ sorted.contains_by (λ k. slice_cmp nat_cmp key k.now) s → has name ≡ b
+known_is s has key name b known is found = sym (known name) ∙ ap (λ (n : List ℕ). sorted.contains_by (λ k. slice_cmp nat_cmp n k.now) s) (sym is) ∙ sym found
+
+-- one name more
+pub one_name_more : (s n : sorted.BTreeSet (Bor (List ℕ))) (key : List ℕ) (has : List ℕ → Bool) → sorted.UpdatesBy names_cmp (λ k. slice_cmp nat_cmp key k.now) s n true → IsNameSet s has
+    → IsNameSet n (λ name. has name || bytes_eq key name)
+one_name_more s n key has updates known name =
+    let q : Bor (List ℕ) = record { ref_ptr = (0, 0); now = name } in
+    updates.0 q ∙ rw (is_eq-slice_cmp key name, known name) (or_is (bytes_eq key name) (has name))
+
+has_name-map : {X : Type 0} (f : X → List ℕ) (xs : List X) (name : List ℕ) → has_name (map f xs) name ≡ list_any (λ x. bytes_eq (f x) name) xs
+has_name-map f [] name = refl
+has_name-map f (x ∷ xs) name = ap (λ (b : Bool). bytes_eq (f x) name || b) (has_name-map f xs name)
+
+pub has_name-more : {X : Type 0} (f : X → List ℕ) (xs : List X) (i : ℕ) (x : X) (key name : List ℕ) → i < length xs → x ≡ get_or xs i x → key ≡ f x
+    → has_name (map f (take (i + 1) xs)) name ≡ (has_name (map f (take i xs)) name || bytes_eq key name)
+has_name-more f xs i x key name lt is named =
+    has_name-map f (take (i + 1) xs) name ∙ list_any_more (λ y. bytes_eq (f y) name) xs i x lt ∙ rw (← is, ← named, has_name-map f (take i xs) name) refl
+
+or-assoc : (a b c : Bool) → ((a || b) || c) ≡ (a || (b || c))
+or-assoc true b c = refl
+or-assoc false b c = refl
+
+pub or_more : (a b c d : Bool) → d ≡ (b || c) → ((a || b) || c) ≡ (a || d)
+or_more a b c d e = or-assoc a b c ∙ ap (λ (x : Bool). a || x) (sym e)
+
+-- ---- pads
+
+-- one pad more, at its place
+pub one_pad_more : (places : List Place) (pads : List (List ℕ)) (name : List ℕ) (place : Option (ℤ × ℤ)) (old new : List RawPad) → old ≡ pads_at places pads → new ≡ old ++ record { name = name; place = place } ∷ [] → place ≡ place_of places name
+    → new ≡ pads_at places (pads ++ name ∷ [])
+one_pad_more places pads name place old new before more is =
+    more ∙ rw (before, is) (sym (map-append (λ (n : List ℕ). record { name = n; place = place_of places n }) pads (name ∷ [])))
+
+-- ---- strangers
+
+strangers-push : (blocks : List RawBlock) (pads : List (List ℕ)) (places : List Place) (p : Place)
+    → strangers_of blocks pads (places ++ p ∷ []) ≡ strangers_of blocks pads places ++ filter (λ name. not (is_known blocks pads name)) (p.name ∷ [])
+strangers-push blocks pads places p =
+    ap (filter (λ name. not (is_known blocks pads name))) (map-append (λ (q : Place). q.name) places (p ∷ []))
+    ∙ filter-append (λ name. not (is_known blocks pads name)) (names_of places) (p.name ∷ [])
+
+-- a known name is no stranger
+pub no_stranger : (blocks : List RawBlock) (pads : List (List ℕ)) (places : List Place) (p : Place) → is_known blocks pads p.name ≡ true
+    → strangers_of blocks pads places ≡ strangers_of blocks pads (places ++ p ∷ [])
+no_stranger blocks pads places p is =
+    let none : filter (λ name. not (is_known blocks pads name)) (p.name ∷ []) ≡ [] = rw is refl in
+    sym (strangers-push blocks pads places p ∙ ap (λ (ns : List (List ℕ)). strangers_of blocks pads places ++ ns) none ∙ append-nil (strangers_of blocks pads places))
+
+-- and any other is one
+pub one_stranger_more : (blocks : List RawBlock) (pads : List (List ℕ)) (places : List Place) (p : Place) → is_known blocks pads p.name ≡ false
+    → strangers_of blocks pads places ++ p.name ∷ [] ≡ strangers_of blocks pads (places ++ p ∷ [])
+one_stranger_more blocks pads places p is =
+    let one : filter (λ name. not (is_known blocks pads name)) (p.name ∷ []) ≡ p.name ∷ [] = rw is refl in
+    sym (strangers-push blocks pads places p ∙ ap (λ (ns : List (List ℕ)). strangers_of blocks pads places ++ ns) one)

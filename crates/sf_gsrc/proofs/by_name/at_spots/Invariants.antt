@@ -1,0 +1,8 @@
+use Rattle.std.proofs.Common.{◌≡◌, List}
+use Rattle.sf_gsrc.specs.declared.output.Place.{Place}
+use Rattle.sf_gsrc.specs.Join.{pads_at}
+use Rattle.sf_gsrc.specs.ByName.{PlacesByName}
+use Rattle.sf_gsrc.proofs.by_name.at_spots.Given as goal
+
+abbrev pub invariant-loop-name : goal.invariant-loop-name
+invariant-loop-name l = (places : List Place) → PlacesByName l.by_name places → l.all.items ≡ pads_at places l.yielded

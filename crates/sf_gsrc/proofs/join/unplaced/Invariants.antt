@@ -1,0 +1,6 @@
+use Rattle.std.proofs.Common.{◌≡◌, []}
+use Rattle.sf_gsrc.specs.Join.{pads_at}
+use Rattle.sf_gsrc.proofs.join.unplaced.Given as goal
+
+abbrev pub invariant-loop-name : goal.invariant-loop-name
+invariant-loop-name l = l.all.items ≡ pads_at [] l.yielded

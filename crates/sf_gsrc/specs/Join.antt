@@ -1,0 +1,86 @@
+-- Blocks, nets and places joined to the parts of a design.
+use Rattle.std.specs.Prelude.{◌≡◌, ℕ, ℤ, Bool, true, false, not, ◌||◌, nat_lt, List, [], ◌∷◌, map, filter, find, count_by, Option, Some, None, Result, Ok, Err, if◌then◌else◌}
+use Rattle.std.specs.List.{list_any}
+use Rattle.std.specs.Str.{bytes_eq}
+use Rattle.sf_model.specs.declared.raw.RawBlock.{RawBlock}
+use Rattle.sf_model.specs.declared.raw.RawPad.{RawPad}
+use Rattle.sf_model.specs.declared.raw.RawNet.{RawNet}
+use Rattle.sf_model.specs.declared.raw.Parts.{Parts}
+use Rattle.sf_gsrc.specs.declared.output.GsrcBlocks.{GsrcBlocks}
+use Rattle.sf_gsrc.specs.declared.output.GsrcNets.{GsrcNets}
+use Rattle.sf_gsrc.specs.declared.output.GsrcPlaces.{GsrcPlaces}
+use Rattle.sf_gsrc.specs.declared.output.Place.{Place}
+use Rattle.sf_gsrc.specs.declared.fault.JoinFault.{JoinFault}
+use Rattle.sf_gsrc.specs.declared.fault.JoinFault.TheVariants as faults
+
+abbrev pub names_of : List Place → List (List ℕ)
+names_of places = map (λ p. p.name) places
+
+-- the name is one of these
+abbrev pub has_name : List (List ℕ) → List ℕ → Bool
+has_name names name = list_any (λ n. bytes_eq n name) names
+
+-- the name stands twice or more often among these
+abbrev pub has_like : List (List ℕ) → List ℕ → Bool
+has_like names name = nat_lt 1 (count_by (λ n. bytes_eq n name) names)
+
+-- the first name that has a like anywhere in the list
+abbrev pub first_twice : List (List ℕ) → Option (List ℕ)
+first_twice names = find (has_like names) names
+
+-- where the first line of that name places it
+abbrev pub place_of : List Place → List ℕ → Option (ℤ × ℤ)
+place_of [] name = None
+place_of (p ∷ places) name = if bytes_eq p.name name then Some (p.x, p.y) else place_of places name
+
+-- each pad gets the place that its name has
+abbrev pub pads_at : List Place → List (List ℕ) → List RawPad
+pads_at places pads = map (λ name. record { name = name; place = place_of places name }) pads
+
+-- a block or a pad has the name
+abbrev pub is_known : List RawBlock → List (List ℕ) → List ℕ → Bool
+is_known blocks pads name = has_name (map (λ b. b.name) blocks) name || has_name pads name
+
+-- the names that are placed and that no block and no pad has, in the order of the lines
+abbrev pub strangers_of : List RawBlock → List (List ℕ) → List Place → List (List ℕ)
+strangers_of blocks pads places = filter (λ name. not (is_known blocks pads name)) (names_of places)
+
+-- without a nets file there are no nets
+abbrev pub nets_in : Option GsrcNets → List RawNet
+nets_in None = []
+nets_in (Some out) = out.nets
+
+-- the parts with a pl file
+abbrev pub placed_parts : GsrcBlocks → List RawNet → List Place → Parts
+placed_parts out nets places = record {
+  blocks = out.blocks;
+  pads = pads_at places out.pads;
+  nets = nets;
+  strangers = strangers_of out.blocks out.pads places;
+  pads_in = true;
+}
+
+-- the parts without one: no pad has a place
+abbrev pub unplaced_parts : GsrcBlocks → List RawNet → Parts
+unplaced_parts out nets = record {
+  blocks = out.blocks;
+  pads = pads_at [] out.pads;
+  nets = nets;
+  strangers = [];
+  pads_in = false;
+}
+
+abbrev pub placed_once : Option (List ℕ) → Parts → Result Parts JoinFault
+placed_once None parts = Ok parts
+placed_once (Some name) parts = Err (faults.PlacedTwice name)
+
+-- what the files are joined to
+abbrev pub joined : GsrcBlocks → Option GsrcNets → Option GsrcPlaces → Result Parts JoinFault
+joined out nets None = Ok (unplaced_parts out (nets_in nets))
+joined out nets (Some places) = placed_once (first_twice (names_of places.places)) (placed_parts out (nets_in nets) places.places)
+
+-- what a function returned is this, unless memory ran out
+abbrev pub Joins : {X : Type 0} → Result X JoinFault → Result X JoinFault → Type 0
+Joins (Ok x) wanted = wanted ≡ Ok x
+Joins (Err faults.NoMemory) wanted = Unit {0}
+Joins (Err (faults.PlacedTwice name)) wanted = wanted ≡ Err (faults.PlacedTwice name)

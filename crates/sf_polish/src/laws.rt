@@ -1,0 +1,44 @@
+//! Expressions and plans correspond, and so do expressions and their texts.
+
+ghost use Rattle.std.specs.Prelude.{◌≡◌, ◌<◌, ◌^◌, ℕ, List, Ok, length};
+ghost use Rattle.sf_model.specs.Legal.{HasEachOnce};
+ghost use Rattle.sf_model.specs.Tree.{Tree};
+ghost use Rattle.sf_polish.specs.declared.expr.Expr.{Expr};
+ghost use Rattle.sf_polish.specs.declared.expr.Token.{Token};
+ghost use Rattle.sf_polish.specs.Normal.{IsNormal};
+ghost use Rattle.sf_polish.specs.Postfix.{IsSkewed, Spells};
+ghost use Rattle.sf_polish.specs.Reading.{tokens_read, expr_read};
+ghost use Rattle.sf_polish.specs.Text.{expr_text, IsWritable, SpellsTokens, SpellsExpr};
+
+/// A normal expression spells exactly one plan, which is skewed, and a skewed plan is spelled by exactly one
+/// expression with a shape for each block. So `plan_of` and `expr_of` are each other's inverse.
+pub fn expressions_spell_skewed_plans()
+    ensures some_plan { (blocks : ℕ) (expr : Expr) → IsNormal blocks expr.tokens
+        → (tree : Tree) × Spells expr tree × IsSkewed tree }
+    ensures one_plan { (expr : Expr) (s t : Tree) → Spells expr s → Spells expr t → s ≡ t }
+    ensures each_once { (blocks : ℕ) (expr : Expr) (tree : Tree) → IsNormal blocks expr.tokens → Spells expr tree
+        → HasEachOnce blocks tree }
+    ensures normal { (blocks : ℕ) (expr : Expr) (tree : Tree) → HasEachOnce blocks tree → IsSkewed tree
+        → Spells expr tree → IsNormal blocks expr.tokens }
+    ensures one_expression { (blocks : ℕ) (e f : Expr) (tree : Tree) → HasEachOnce blocks tree
+        → length e.shapes ≡ blocks → length f.shapes ≡ blocks → Spells e tree → Spells f tree → e ≡ f }
+{}
+
+/// A text is read just where its words spell a normal expression, and then as that expression. So what
+/// `write_expr` writes is read again, and a text spells at most one expression.
+pub fn texts_spell_expressions()
+    ensures spelled { (blocks : ℕ) (text : List ℕ) (expr : Expr) → blocks < 2 ^ 16
+        → expr_read blocks text ≡ Ok expr → SpellsExpr blocks text expr }
+    ensures read { (blocks : ℕ) (text : List ℕ) (expr : Expr) → blocks < 2 ^ 16
+        → SpellsExpr blocks text expr → expr_read blocks text ≡ Ok expr }
+    ensures written { (blocks : ℕ) (expr : Expr) → blocks < 2 ^ 16
+        → IsWritable blocks expr → expr_read blocks (expr_text expr) ≡ Ok expr }
+{}
+
+/// The same for a text of tokens without shapes.
+pub fn texts_spell_tokens()
+    ensures spelled { (blocks : ℕ) (text : List ℕ) (tokens : List Token) → blocks < 2 ^ 16
+        → tokens_read blocks text ≡ Ok tokens → SpellsTokens blocks text tokens }
+    ensures read { (blocks : ℕ) (text : List ℕ) (tokens : List Token) → blocks < 2 ^ 16
+        → SpellsTokens blocks text tokens → tokens_read blocks text ≡ Ok tokens }
+{}

@@ -1,0 +1,13 @@
+pub mod Hiding
+pub mod Cutting
+pub mod VertexSteps
+pub mod Boxes
+pub mod Indexes
+pub mod Stepping
+pub mod NetSteps
+pub mod StatementSteps
+pub mod NetLaws
+pub mod Making
+pub mod NetsAre
+pub mod StandingLaws
+pub mod Standing

@@ -1,0 +1,23 @@
+-- The parts, once all are made.
+use Rattle.std.proofs.Common.{◌≡◌, ℕ, List, [], ◌∷◌, Result, Ok, Err, refl, sym, ap, ◌∙◌}
+use Rattle.std.specs.Prelude.{map, Option, Some, true}
+use Rattle.sf_model.specs.declared.raw.RawBlock.{RawBlock}
+use Rattle.sf_model.specs.declared.raw.RawPad.{RawPad}
+use Rattle.sf_model.specs.declared.raw.RawNet.{RawNet}
+use Rattle.sf_model.specs.declared.raw.Parts.{Parts}
+use Rattle.sf_yal.specs.declared.instance.Instance as code
+use Rattle.sf_yal.specs.Box.{◌>>=◌}
+use Rattle.sf_yal.specs.Instances.{instances_in}
+use Rattle.sf_yal.specs.Reading.{Reading}
+use Rattle.sf_yal.specs.Parts.{blocks_from, nets_of, parts_by, parts_with}
+use Rattle.sf_yal.specs.Using.{signals_in}
+
+pub signals_are : (items : List code.Instance) → signals_in items ≡ map (λ i. i.signals) (instances_in items)
+signals_are [] = refl
+signals_are (i ∷ items) = rw (signals_are items) refl
+
+pub parts_are : (r : Reading) (parent : ℕ) (found blocks : List RawBlock) (pads : List RawPad) (nets : List RawNet) (strangers : List (List ℕ))
+    → blocks_from r.names r.sizes parent [] r.instances ≡ Ok found → blocks ≡ found → pads ≡ r.pads → nets ≡ nets_of (map (λ i. i.signals) r.instances) r.pad_names → strangers ≡ []
+    → parts_by r (Some parent) ≡ Ok (record { blocks = blocks; pads = pads; nets = nets; strangers = strangers; pads_in = true })
+parts_are r parent found blocks pads nets strangers read b p n s =
+    rw read (λ i. Ok (record { blocks = sym b i; pads = sym p i; nets = sym n i; strangers = sym s i; pads_in = true }))

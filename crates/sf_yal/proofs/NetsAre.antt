@@ -1,0 +1,159 @@
+-- The nets that are kept signal by signal are those of the distinct signals.
+use Rattle.std.proofs.Common.{◌≡◌, ℕ, zero, suc, ◌+◌, Bool, true, false, List, [], ◌∷◌, ◌++◌, length, Option, Some, None, refl, sym, ap, subst, ◌∙◌, arith, append_assoc, length-append}
+use Rattle.std.specs.Prelude.{map, fold, is_some}
+use Rattle.std.specs.Option.{option_map}
+use Rattle.std.specs.Str.{bytes_eq}
+use Rattle.std.proofs.lemmas.List.{append-nil, map-append}
+use Rattle.sf_model.specs.declared.raw.RawNet.{RawNet}
+use Rattle.sf_model.specs.declared.raw.RawPin.{RawPin}
+use Rattle.sf_model.specs.declared.raw.RawPin.TheVariants as pins
+use Rattle.sf_yal.specs.Names.{index_of, has_name}
+use Rattle.sf_yal.specs.Parts.{with_signal, with_signals, signals_of, block_pins, net_of, nets_of}
+use Rattle.sf_yal.specs.Using.{NetUse, Uses, nothing_used, with_pin, with_pin_at, used_at, used_once, used_all, used_by, finished_net}
+use Rattle.sf_yal.proofs.Indexes.{some_not_none}
+use Rattle.sf_yal.proofs.NetLaws.{Signals, fold-append, apart, same_name, is_same, has_push_same, has_push_other, pin_of, pins_last, low, with_pin_by, Once, none_cons, once_uses, absent_uses}
+
+abbrev net_use : List Signals → List ℕ → NetUse
+net_use uses s = record { signal = s; pins = block_pins s 0 uses }
+
+abbrev nets_for : List Signals → Signals → List NetUse
+nets_for uses signals = map (net_use uses) signals
+
+-- what is kept once these instances were used
+abbrev kept : List Signals → Uses
+kept uses = record { signals = signals_of uses; nets = nets_for uses (signals_of uses) }
+
+front_empty : (xs ys : List RawPin) → xs ++ ys ≡ [] → xs ≡ []
+front_empty [] ys h = refl
+front_empty (x ∷ xs) ys h = absurd cc
+
+some_is : (j k : ℕ) → Some (suc j) ≡ Some k → k ≡ suc j
+some_is j k e = cc
+
+some_here : (k : ℕ) → Some 0 ≡ Some k → k ≡ 0
+some_here k e = cc
+
+under : (o : Option ℕ) (k : ℕ) → option_map suc o ≡ Some k → (j : ℕ) × (o ≡ Some j) × (k ≡ suc j)
+under None k h = absurd cc
+under (Some j) k h = (j, refl, some_is j k h)
+
+-- one signal more of the last instance
+module _ (earlier : List Signals) (taken : Signals) (t : List ℕ) where
+  abbrev old : List Signals
+  old = earlier ++ taken ∷ []
+
+  abbrev new : List Signals
+  new = earlier ++ (taken ++ t ∷ []) ∷ []
+
+  abbrev number : ℕ
+  number = 0 + length earlier
+
+  same_pins : (s : List ℕ) → bytes_eq t s ≡ false → block_pins s 0 new ≡ block_pins s 0 old
+  same_pins s e =
+      let has : has_name s (taken ++ t ∷ []) ≡ has_name s taken = has_push_other s t taken e in
+      pins_last s 0 earlier (taken ++ t ∷ []) ∙ rw has (sym (pins_last s 0 earlier taken))
+
+  new_pins : block_pins t 0 new ≡ block_pins t 0 earlier ++ pins.Block number ∷ []
+  new_pins = pins_last t 0 earlier (taken ++ t ∷ []) ∙ rw (has_push_same t taken) refl
+
+  pinned : with_pin number (block_pins t 0 old) ≡ block_pins t 0 new
+  pinned = ap (with_pin number) (pins_last t 0 earlier taken) ∙ with_pin_by number t taken (block_pins t 0 earlier) (has_name t taken) refl (low t 0 number earlier (omega arith)) ∙ sym new_pins
+
+  others : (signals : Signals) → index_of t signals ≡ None → nets_for old signals ≡ nets_for new signals
+  others [] h = refl
+  others (s ∷ more) h =
+      let k = none_cons t s more (bytes_eq s t) refl h in
+      let rest = others more k.1 in
+      let here : net_use old s ≡ net_use new s = ap (λ (ps : List RawPin). record { signal = s; pins = ps }) (sym (same_pins s (apart s t k.0))) in
+      ap (λ (x : NetUse). x ∷ nets_for old more) here ∙ ap (λ (xs : List NetUse). net_use new s ∷ xs) rest
+
+  found_here : (s : List ℕ) (more : Signals) (k : ℕ) → s ≡ t → k ≡ 0 → index_of t more ≡ None → with_pin_at number k (nets_for old (s ∷ more)) ≡ nets_for new (s ∷ more)
+  found_here s more k same zero_is none =
+      let here : record { signal = t; pins = with_pin number (block_pins t 0 old) } ≡ net_use new t = ap (λ (ps : List RawPin). record { signal = t; pins = ps }) pinned in
+      let at_t : with_pin_at number 0 (nets_for old (t ∷ more)) ≡ nets_for new (t ∷ more) = ap (λ (x : NetUse). x ∷ nets_for old more) here ∙ ap (λ (xs : List NetUse). net_use new t ∷ xs) (others more none) in
+      subst (λ (i : ℕ). with_pin_at number i (nets_for old (s ∷ more)) ≡ nets_for new (s ∷ more)) (sym zero_is)
+      (subst (λ (x : List ℕ). with_pin_at number 0 (nets_for old (x ∷ more)) ≡ nets_for new (x ∷ more)) (sym same) at_t)
+
+  found_there : (s : List ℕ) (more : Signals) (k j : ℕ) → bytes_eq s t ≡ false → k ≡ suc j → with_pin_at number j (nets_for old more) ≡ nets_for new more → with_pin_at number k (nets_for old (s ∷ more)) ≡ nets_for new (s ∷ more)
+  found_there s more k j e next rest =
+      let here : net_use old s ≡ net_use new s = ap (λ (ps : List RawPin). record { signal = s; pins = ps }) (sym (same_pins s (apart s t e))) in
+      subst (λ (i : ℕ). with_pin_at number i (nets_for old (s ∷ more)) ≡ nets_for new (s ∷ more)) (sym next)
+      (ap (λ (x : NetUse). x ∷ with_pin_at number j (nets_for old more)) here ∙ ap (λ (xs : List NetUse). net_use new s ∷ xs) rest)
+
+  found_by : (s : List ℕ) (more : Signals) (k : ℕ) (b : Bool) → bytes_eq s t ≡ b → ((j : ℕ) → index_of t more ≡ Some j → with_pin_at number j (nets_for old more) ≡ nets_for new more)
+      → index_of s more ≡ None → index_of t (s ∷ more) ≡ Some k → with_pin_at number k (nets_for old (s ∷ more)) ≡ nets_for new (s ∷ more)
+  found_by s more k true e rest once h =
+      let same = same_name s t e in
+      found_here s more k same (some_here k (rw e at h)) (subst (λ (x : List ℕ). index_of x more ≡ None) same once)
+  found_by s more k false e rest once h =
+      let u = under (index_of t more) k (rw e at h) in
+      found_there s more k u.0 e u.2 (rest u.0 u.1)
+
+  found : (signals : Signals) (k : ℕ) → Once signals → index_of t signals ≡ Some k → with_pin_at number k (nets_for old signals) ≡ nets_for new signals
+  found [] k once h = absurd cc
+  found (s ∷ more) k once h = found_by s more k (bytes_eq s t) refl (λ j e. found more j once.1 e) once.0 h
+
+  signals_old : signals_of old ≡ with_signals (signals_of earlier) taken
+  signals_old = fold-append with_signals [] earlier (taken ∷ [])
+
+  signals_new : signals_of new ≡ with_signal (signals_of old) t
+  signals_new = fold-append with_signals [] earlier ((taken ++ t ∷ []) ∷ []) ∙ fold-append with_signal (signals_of earlier) taken (t ∷ []) ∙ ap (λ (x : Signals). with_signal x t) (sym signals_old)
+
+  step_by : (o : Option ℕ) → index_of t (signals_of old) ≡ o → used_at number (kept old) t o ≡ kept new
+  step_by None e =
+      let has : has_name t (signals_of old) ≡ false = ap is_some e in
+      let same : signals_of new ≡ signals_of old ++ t ∷ [] = signals_new ∙ rw has refl in
+      let none = absent_uses t 0 [] old e in
+      let nothing : block_pins t 0 earlier ++ pin_of number t taken ≡ [] = sym (pins_last t 0 earlier taken) ∙ none.1 in
+      let alone : block_pins t 0 new ≡ pins.Block number ∷ [] = new_pins ∙ ap (λ (ps : List RawPin). ps ++ pins.Block number ∷ []) (front_empty (block_pins t 0 earlier) (pin_of number t taken) nothing) in
+      let nets : nets_for old (signals_of old) ++ record { signal = t; pins = pins.Block number ∷ [] } ∷ [] ≡ nets_for new (signals_of new) =
+      ap (λ (xs : List NetUse). xs ++ record { signal = t; pins = pins.Block number ∷ [] } ∷ []) (others (signals_of old) e)
+      ∙ ap (λ (ps : List RawPin). nets_for new (signals_of old) ++ record { signal = t; pins = ps } ∷ []) (sym alone)
+      ∙ sym (map-append (net_use new) (signals_of old) (t ∷ []))
+      ∙ ap (nets_for new) (sym same) in
+      λ i. record { signals = sym same i; nets = nets i }
+  step_by (Some k) e =
+      let has : has_name t (signals_of old) ≡ true = ap is_some e in
+      let same : signals_of new ≡ signals_of old = signals_new ∙ rw has refl in
+      let nets : with_pin_at number k (nets_for old (signals_of old)) ≡ nets_for new (signals_of new) = found (signals_of old) k (once_uses [] old tt) e ∙ ap (nets_for new) (sym same) in
+      λ i. record { signals = sym same i; nets = nets i }
+
+  step : used_once number (kept old) t ≡ kept new
+  step = step_by (index_of t (signals_of old)) refl
+
+-- all signals of the last instance
+all_used : (earlier : List Signals) (taken more : Signals) → used_all (0 + length earlier) (kept (earlier ++ taken ∷ [])) more ≡ kept (earlier ++ (taken ++ more) ∷ [])
+all_used earlier taken [] = ap (λ (x : Signals). kept (earlier ++ x ∷ [])) (sym (append-nil taken))
+all_used earlier taken (t ∷ more) =
+    ap (λ (u : Uses). used_all (0 + length earlier) u more) (step earlier taken t)
+    ∙ all_used earlier (taken ++ t ∷ []) more
+    ∙ ap (λ (x : Signals). kept (earlier ++ x ∷ [])) (append_assoc taken (t ∷ []) more)
+
+-- an instance without signals changes nothing
+same_nets : (earlier : List Signals) (signals : Signals) → nets_for earlier signals ≡ nets_for (earlier ++ [] ∷ []) signals
+same_nets earlier [] = refl
+same_nets earlier (s ∷ more) =
+    let here : block_pins s 0 earlier ≡ block_pins s 0 (earlier ++ [] ∷ []) = sym (pins_last s 0 earlier [] ∙ append-nil (block_pins s 0 earlier)) in
+    ap (λ (ps : List RawPin). record { signal = s; pins = ps } ∷ nets_for earlier more) here ∙ ap (λ (xs : List NetUse). net_use (earlier ++ [] ∷ []) s ∷ xs) (same_nets earlier more)
+
+idle : (earlier : List Signals) → kept earlier ≡ kept (earlier ++ [] ∷ [])
+idle earlier =
+    let same : signals_of earlier ≡ signals_of (earlier ++ [] ∷ []) = sym (fold-append with_signals [] earlier ([] ∷ [])) in
+    let nets : nets_for earlier (signals_of earlier) ≡ nets_for (earlier ++ [] ∷ []) (signals_of (earlier ++ [] ∷ [])) = same_nets earlier (signals_of earlier) ∙ ap (nets_for (earlier ++ [] ∷ [])) same in
+    λ i. record { signals = same i; nets = nets i }
+
+by_all : (n : ℕ) (earlier more : List Signals) → n ≡ 0 + length earlier → used_by n (kept earlier) more ≡ kept (earlier ++ more)
+by_all n earlier [] at = ap kept (sym (append-nil earlier))
+by_all n earlier (signals ∷ more) at =
+    let one : used_all n (kept earlier) signals ≡ kept (earlier ++ signals ∷ []) = ap (λ (k : ℕ). used_all k (kept earlier) signals) at ∙ ap (λ (u : Uses). used_all (0 + length earlier) u signals) (idle earlier) ∙ all_used earlier [] signals in
+    let next : n + 1 ≡ 0 + length (earlier ++ signals ∷ []) = omega (arith, length-append earlier (signals ∷ [])) in
+    ap (λ (u : Uses). used_by (n + 1) u more) one ∙ by_all (n + 1) (earlier ++ signals ∷ []) more next ∙ ap kept (append_assoc earlier (signals ∷ []) more)
+
+finished_all : (uses : List Signals) (pad_names signals : Signals) → map (finished_net pad_names) (nets_for uses signals) ≡ map (net_of uses pad_names) signals
+finished_all uses pad_names [] = refl
+finished_all uses pad_names (s ∷ more) = ap (λ (xs : List RawNet). net_of uses pad_names s ∷ xs) (finished_all uses pad_names more)
+
+pub nets_are : (uses : List Signals) (pad_names : Signals) → map (finished_net pad_names) (used_by 0 nothing_used uses).nets ≡ nets_of uses pad_names
+nets_are uses pad_names =
+    let all : used_by 0 nothing_used uses ≡ kept uses = by_all 0 [] uses (omega arith) in
+    ap (λ (u : Uses). map (finished_net pad_names) u.nets) all ∙ finished_all uses pad_names (signals_of uses)

@@ -1,0 +1,22 @@
+use Rattle.std.proofs.Common.{◌≡◌, ◌<◌, length, refl, sym, ap, ◌∙◌}
+use Rattle.std.proofs.lemmas.Bool.Decides.{nat_tests}
+use Rattle.std.proofs.Common.{arith}
+use Rattle.std.proofs.Common.{length-append, false}
+use Rattle.sf_yal.specs.Comments.{hide}
+use Rattle.sf_yal.proofs.Hiding.{hides_mark, hides_other, length_hide}
+use Rattle.sf_yal.proofs.comments.hide_comments.Goals as goal
+
+pub loop-rest-preserved-then-is_mark : goal.loop-rest-preserved-then-is_mark
+loop-rest-preserved-then-is_mark c =
+    rw (c.in_ok-extend_from_slice.ensures.items, c.split_at.ensures.back) (hides_mark _ _ _ _ c.loop-rest.invariant (sym c.is_mark.ensures ∙ c.if-is_mark.true))
+
+pub loop-rest-preserved : goal.loop-rest-preserved
+loop-rest-preserved c =
+    let some : 0 < length c.loop-rest.rest.now = grind (arith, nat_tests) in
+    rw (c.in_ok-push.ensures.items, c.split_at-else-is_mark.ensures.back, c.shown_byte.ensures) (hides_other _ _ _ _ c.loop-rest.invariant some (sym c.is_mark.ensures ∙ c.if-is_mark.false))
+
+pub returns-clause-length : goal.returns-clause-length
+returns-clause-length c =
+    let rest = c.loop-rest.rest.now in
+    let none : length rest ≡ 0 = grind (arith, nat_tests) in
+    omega (arith, ap length c.loop-rest.invariant.bytes, length-append c.loop-rest.out.items (hide c.loop-rest.inside rest), length_hide c.loop-rest.inside rest, length_hide false c.args.text.now)

@@ -1,0 +1,13 @@
+use Rattle.std.proofs.Common.{◌≡◌, sym, ap, ◌∙◌}
+use Rattle.sf_yal.specs.Instances.{instances_in}
+use Rattle.sf_yal.specs.Parts.{nets_of}
+use Rattle.sf_yal.specs.Reading.{reading_in}
+use Rattle.sf_yal.specs.Using.{signals_in}
+use Rattle.sf_yal.proofs.Making.{parts_are, signals_are}
+use Rattle.sf_yal.proofs.read.into_parts.Goals as goal
+
+pub returns : goal.returns
+returns c =
+    let read = rw (c.deref.ensures.value, c.deref-2.ensures.value) at c.in_ok-blocks.ensures in
+    let nets = rw (c.deref-3.ensures.value, signals_are c.args.found.instances.items) at c.in_ok-nets.ensures in
+    parts_are (reading_in c.args.found) c.args.parent _ c.from_vec.result c.from_vec-2.result c.in_ok-nets.nets c.from_vec-3.result read c.from_vec.ensures c.from_vec-2.ensures nets (c.from_vec-3.ensures ∙ c.new.ensures.items)

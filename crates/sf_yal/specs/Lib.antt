@@ -1,0 +1,13 @@
+pub mod Comments
+pub mod Words
+pub mod Statements
+pub mod Box
+pub mod Corners
+pub mod Seen
+pub mod Numbers
+pub mod Names
+pub mod Instances
+pub mod Reading
+pub mod Parts
+pub mod Using
+pub mod Standing

@@ -1,0 +1,24 @@
+-- Lists of names, and the places of names in them.
+use Rattle.std.specs.Prelude.{◌≡◌, ℕ, suc, Bool, List, [], ◌∷◌, map, Option, Some, None, is_some, if◌then◌else◌}
+use Rattle.std.specs.Option.{option_map}
+use Rattle.std.specs.Str.{bytes_eq}
+use Rattle.std.specs.Ordering.{nat_cmp}
+use Rattle.std.specs.Cmp.Lexicographic.{slice_cmp}
+use Rattle.std.specs.BTreeMap.{BTreeMap, get_by}
+use denote.Ref.{Bor}
+
+-- the place of the first name of the list that is this one
+abbrev pub index_of : List ℕ → List (List ℕ) → Option ℕ
+index_of name [] = None
+index_of name (other ∷ more) = if bytes_eq other name then Some 0 else option_map suc (index_of name more)
+
+abbrev pub has_name : List ℕ → List (List ℕ) → Bool
+has_name name names = is_some (index_of name names)
+
+-- the bytes of names that are borrowed
+abbrev pub bytes_of : List (Bor (List ℕ)) → List (List ℕ)
+bytes_of names = map (λ name. name.now) names
+
+-- the map finds the place of each name
+abbrev pub IsIndex : BTreeMap (Bor (List ℕ)) ℕ → List (List ℕ) → Type 0
+IsIndex places names = (q : List ℕ) → get_by (λ k. slice_cmp nat_cmp q k.now) places ≡ index_of q names

@@ -1,0 +1,84 @@
+-- The nets as the code finds them, signal by signal.
+use Rattle.std.specs.Prelude.{ℕ, zero, suc, ◌+◌, ◌-◌, Bool, true, false, ◌==◌, List, [], ◌∷◌, ◌++◌, length, map, fold, Option, Some, None, if◌then◌else◌, slice_get}
+use Rattle.sf_lex.specs.Text.{words, is_blank_byte}
+use Rattle.sf_model.specs.declared.raw.RawNet.{RawNet}
+use Rattle.sf_model.specs.declared.raw.RawPin.{RawPin}
+use Rattle.sf_model.specs.declared.raw.RawPin.TheVariants as pins
+use Rattle.sf_yal.specs.declared.instance.Instance as code
+use Rattle.sf_yal.specs.declared.nets.Net as found
+use Rattle.sf_yal.specs.declared.nets.Used as kept
+use Rattle.sf_yal.specs.Names.{index_of}
+use Rattle.sf_yal.specs.Parts.{pad_pins}
+
+-- a signal, and its pins so far
+pub record NetUse : Type 0 where
+  pub signal : List ℕ
+  pub pins : List RawPin
+
+pub record Uses : Type 0 where
+  pub signals : List (List ℕ)
+  pub nets : List NetUse
+
+abbrev pub nothing_used : Uses
+nothing_used = record { signals = []; nets = [] }
+
+abbrev pub is_block : ℕ → RawPin → Bool
+is_block n (pins.Named name) = false
+is_block n (pins.Block m) = m == n
+is_block n (pins.Pad m) = false
+
+abbrev pub is_some_block : ℕ → Option RawPin → Bool
+is_some_block n None = false
+is_some_block n (Some pin) = is_block n pin
+
+-- the last pin is this instance
+abbrev pub ends_with : ℕ → List RawPin → Bool
+ends_with n some = is_some_block n (slice_get some (length some - 1))
+
+-- the instance is a pin, once
+abbrev pub with_pin : ℕ → List RawPin → List RawPin
+with_pin n some = if ends_with n some then some else some ++ pins.Block n ∷ []
+
+abbrev pub with_net_pin : ℕ → NetUse → NetUse
+with_net_pin n net = record { signal = net.signal; pins = with_pin n net.pins }
+
+abbrev pub with_pin_at : ℕ → ℕ → List NetUse → List NetUse
+with_pin_at n k [] = []
+with_pin_at n zero (net ∷ more) = with_net_pin n net ∷ more
+with_pin_at n (suc k) (net ∷ more) = net ∷ with_pin_at n k more
+
+abbrev pub net_opened : ℕ → List ℕ → Uses → Uses
+net_opened n signal u = record { signals = u.signals ++ signal ∷ []; nets = u.nets ++ record { signal = signal; pins = pins.Block n ∷ [] } ∷ [] }
+
+abbrev pub used_at : ℕ → Uses → List ℕ → Option ℕ → Uses
+used_at n u signal None = net_opened n signal u
+used_at n u signal (Some k) = record { signals = u.signals; nets = with_pin_at n k u.nets }
+
+-- instance n names the signal
+abbrev pub used_once : ℕ → Uses → List ℕ → Uses
+used_once n u signal = used_at n u signal (index_of signal u.signals)
+
+abbrev pub used_all : ℕ → Uses → List (List ℕ) → Uses
+used_all n u signals = fold (used_once n) u signals
+
+-- the instances from number n on name these signals
+abbrev pub used_by : ℕ → Uses → List (List (List ℕ)) → Uses
+used_by n u [] = u
+used_by n u (signals ∷ more) = used_by (n + 1) (used_all n u signals) more
+
+abbrev pub finished_net : List (List ℕ) → NetUse → RawNet
+finished_net pad_names net = record { pins = net.pins ++ pad_pins (index_of net.signal pad_names) }
+
+-- ---- what the code keeps
+
+abbrev pub net_in : found.Net → NetUse
+net_in net = record { signal = net.signal.now; pins = net.pins.items }
+
+abbrev pub nets_in : List found.Net → List NetUse
+nets_in nets = map net_in nets
+
+abbrev pub used_in : kept.Used → Uses
+used_in used = record { signals = used.signals; nets = nets_in used.nets.items }
+
+abbrev pub signals_in : List code.Instance → List (List (List ℕ))
+signals_in items = map (λ (i : code.Instance). words is_blank_byte i.signals.now) items

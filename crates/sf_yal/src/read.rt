@@ -1,0 +1,92 @@
+//! The reader of YAL files.
+
+ghost use Rattle.std.specs.Prelude.{◌≡◌, ◌≤◌, ℕ, List, length, Some, Ok, IfOk};
+ghost use Rattle.sf_model.specs.declared.raw.Parts.{Parts};
+ghost use Rattle.sf_yal.specs.Standing.{StandsFor};
+ghost use Rattle.sf_yal.specs.Statements.{statements, pieces, last_piece};
+ghost use Rattle.sf_yal.specs.Reading.{Gives, start, after_statements, reading_in, ReadsAll};
+ghost use Rattle.sf_yal.specs.Parts.{parts_by, yal_read};
+
+use crate::blocks::read_instances;
+use crate::comments::hide_comments;
+use crate::fault::YalFault;
+use crate::field::{first_line, last_line_of, line_feeds, next_field, next_piece};
+use crate::found::{Found, Place};
+use crate::nets::read_nets;
+use sf_model::{NameList, Parts, RawBlockList, RawPadList};
+use std::alloc::Global;
+
+/// What the statements say, and what stands behind the last of them.
+fn read_statements<'a>(
+    alloc: Global,
+    text: &'a [u8],
+    scale: u64,
+) -> Result<(Found<'a>, &'a [u8]), YalFault>
+    requires scale_low { 1 ≤ scale }
+    requires scale_high { scale ≤ 1000 }
+    requires size { length text.now ≤ 67_108_864 }
+    ensures { ReadsAll result (after_statements scale start (statements 1 (pieces text.entry.now))) (last_piece (pieces text.entry.now)) }
+{
+    let mut found = Found::new(alloc);
+    let mut rest = text;
+    let mut line = 1;
+    while let Some((piece, after)) = next_piece(rest) {
+        found.take(alloc, piece, first_line(piece, line), scale)?;
+        line += line_feeds(piece);
+        rest = after;
+    }
+    Ok((found, rest))
+}
+
+/// The parts, once the whole text was read.
+fn into_parts(alloc: Global, found: Found, parent: usize) -> Result<Parts, YalFault>
+    ensures { Gives result (parts_by (reading_in found.entry) (Some parent)) }
+{
+    let blocks = read_instances(alloc, &found.instances, &found.names, &found.sizes, parent)?;
+    let nets = read_nets(alloc, &found.instances, &found.pad_names)?;
+    Ok(Parts {
+        blocks: RawBlockList::from_vec(blocks),
+        pads: RawPadList::from_vec(found.pads),
+        nets,
+        strangers: NameList::from_vec(Vec::new(alloc)),
+        pads_in: true,
+    })
+}
+
+#[tactic(auto, unfolding(crate::specs::Parts::yal_read, crate::specs::Parts::parts_read))]
+fn read_exactly(alloc: Global, text: &[u8], scale: u64) -> Result<Parts, YalFault>
+    requires scale_low { 1 ≤ scale }
+    requires scale_high { scale ≤ 1000 }
+    requires size { length text.now ≤ 67_108_864 }
+    ensures { Gives result (yal_read scale text.now) }
+{
+    let (hidden, open) = hide_comments(alloc, text)?;
+    let (found, rest) = read_statements(alloc, &hidden, scale)?;
+    if open || next_field(rest).is_some() || found.place != Place::Outside {
+        return Err(YalFault::Truncated(last_line_of(&hidden)));
+    }
+    let Some(parent) = found.parent else {
+        return Err(YalFault::NoParent);
+    };
+    into_parts(alloc, found, parent)
+}
+
+/// The parts for which a text stands, or its first fault. Lengths are taken times the scale.
+pub fn read_yal(alloc: Global, text: &[u8], scale: u64) -> Result<Parts, YalFault>
+    requires scale_low { 1 ≤ scale }
+    requires scale_high { scale ≤ 1000 }
+    requires size { length text.now ≤ 67_108_864 }
+    // What is read is what the text stands for.
+    ensures found { IfOk result (StandsFor scale text.now) }
+    // What the text stands for is read, unless memory runs out.
+    ensures only { (out : Parts) → StandsFor scale text.now out → Gives result (Ok out) }
+    // Which fault it is.
+    ensures exact { Gives result (yal_read scale text.now) }
+{
+    read_exactly(alloc, text, scale)
+}
+
+/// A text stands for at most one output.
+pub fn stands_for_one()
+    ensures { (scale : ℕ) (text : List ℕ) (a b : Parts) → StandsFor scale text a → StandsFor scale text b → a ≡ b }
+{}
