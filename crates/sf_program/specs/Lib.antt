@@ -1,3 +1,5 @@
 pub mod Outcome
 pub mod Refusals
 pub mod Reading
+pub mod Loads
+pub mod Stores

@@ -11,6 +11,8 @@ use Rattle.sf_gsrc.specs.declared.fault.GsrcFault.{GsrcFault}
 use Rattle.sf_gsrc.specs.declared.fault.GsrcFault.TheVariants as gsrc
 use Rattle.sf_gsrc.specs.declared.fault.JoinFault.{JoinFault}
 use Rattle.sf_gsrc.specs.declared.fault.JoinFault.TheVariants as join
+use Rattle.sf_yal.specs.declared.fault.YalFault.{YalFault}
+use Rattle.sf_yal.specs.declared.fault.YalFault.TheVariants as yal
 use Rattle.sf_program.specs.Outcome.{Refusal, bad, over}
 
 -- words with one space between two, and LF at the end
@@ -43,6 +45,16 @@ gsrc_refusal source (gsrc.BadDegree line said found) = bad_input source line (co
 gsrc_refusal source (gsrc.ZeroSide line) = bad_input source line (codes "ZeroSide" ∷ [])
 gsrc_refusal source (gsrc.Truncated line) = bad_input source line (codes "Truncated" ∷ [])
 gsrc_refusal source gsrc.NoMemory = bad []
+
+abbrev pub yal_refusal : YalFault → Refusal
+yal_refusal (yal.Truncated line) = bad_input (codes "yal") line (codes "Truncated" ∷ [])
+yal_refusal (yal.BadStatement line) = bad_input (codes "yal") line (codes "BadStatement" ∷ [])
+yal_refusal (yal.BadNumber line fault) = bad_input (codes "yal") line (codes "BadNumber" ∷ number_fault fault ∷ [])
+yal_refusal (yal.ZeroSide line) = bad_input (codes "yal") line (codes "ZeroSide" ∷ [])
+yal_refusal yal.NoParent = bad_input (codes "yal") 0 (codes "NoParent" ∷ [])
+yal_refusal (yal.TwoParents line) = bad_input (codes "yal") line (codes "TwoParents" ∷ [])
+yal_refusal (yal.UnknownModule line name) = bad_input (codes "yal") line (codes "UnknownModule" ∷ name ∷ [])
+yal_refusal yal.NoMemory = bad []
 
 -- a pl file that places a name twice
 abbrev pub join_refusal : JoinFault → Refusal

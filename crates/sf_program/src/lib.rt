@@ -1,6 +1,8 @@
 //! The floorplanner as one call.
 #![tactic(auto)]
 
+mod parsing;
+mod reading;
 mod refusals;
 mod stop;
 

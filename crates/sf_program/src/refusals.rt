@@ -3,12 +3,13 @@
 ghost use Rattle.std.specs.Prelude.{◌≡◌, ◌++◌, ◌∷◌, [], IfOk, codes, string_bytes};
 ghost use Rattle.std.specs.Fmt.{decimal};
 ghost use Rattle.sf_program.specs.Outcome.{Refuses};
-ghost use Rattle.sf_program.specs.Refusals.{bad_input, over_limit, number_fault, gsrc_refusal, limit_word, build_refusal, design_fault};
+ghost use Rattle.sf_program.specs.Refusals.{bad_input, over_limit, number_fault, gsrc_refusal, yal_refusal, limit_word, build_refusal, design_fault};
 
 use crate::stop::Stop;
 use sf_gsrc::GsrcFault;
 use sf_lex::NumberFault;
 use sf_model::{BuildFault, Limit, Name};
+use sf_yal::YalFault;
 use std::alloc::{AllocError as NoMemory, Global};
 
 /// A fault that carries nothing.
@@ -89,6 +90,24 @@ pub fn gsrc_fault(alloc: Global, source: &str, fault: GsrcFault) -> Result<Stop,
         GsrcFault::ZeroSide(line) => bare_fault(alloc, source, line, "ZeroSide"),
         GsrcFault::Truncated(line) => bare_fault(alloc, source, line, "Truncated"),
         GsrcFault::NoMemory => Err(NoMemory),
+    }
+}
+
+/// The first fault of a YAL text.
+pub fn yal_fault(alloc: Global, fault: YalFault) -> Result<Stop, NoMemory>
+    ensures { IfOk result (λ stop. Refuses stop (yal_refusal fault)) }
+{
+    match fault {
+        YalFault::Truncated(line) => bare_fault(alloc, "yal", line, "Truncated"),
+        YalFault::BadStatement(line) => bare_fault(alloc, "yal", line, "BadStatement"),
+        YalFault::BadNumber(line, number) => number_fault(alloc, "yal", line, number),
+        YalFault::ZeroSide(line) => bare_fault(alloc, "yal", line, "ZeroSide"),
+        YalFault::NoParent => bare_fault(alloc, "yal", 0, "NoParent"),
+        YalFault::TwoParents(line) => bare_fault(alloc, "yal", line, "TwoParents"),
+        YalFault::UnknownModule(line, name) => {
+            worded_fault(alloc, "yal", line, "UnknownModule", name.as_bytes())
+        }
+        YalFault::NoMemory => Err(NoMemory),
     }
 }
 

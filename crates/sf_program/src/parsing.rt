@@ -1,0 +1,85 @@
+//! Texts to what they stand for, or to their refusal.
+
+ghost use Rattle.std.specs.Prelude.{◌≡◌, ◌≤◌, ◌^◌, ℕ, length, codes, IfErr};
+ghost use Rattle.sf_gsrc.specs.Blocks.{blocks_read};
+ghost use Rattle.sf_gsrc.specs.Join.{joined};
+ghost use Rattle.sf_gsrc.specs.Nets.{nets_read};
+ghost use Rattle.sf_gsrc.specs.NetsStanding.{NetsStandFor};
+ghost use Rattle.sf_gsrc.specs.Places.{places_read, PlacesStandFor};
+ghost use Rattle.sf_gsrc.specs.Standing.{StandsFor};
+ghost use Rattle.sf_yal.specs.Parts.{yal_read};
+ghost use Rattle.sf_yal.specs.Standing as yals;
+ghost use Rattle.sf_program.specs.Loads.{TellsLoads};
+ghost use Rattle.sf_program.specs.Outcome.{Ends};
+ghost use Rattle.sf_program.specs.Reading.{Said, Judged};
+ghost use Rattle.sf_program.specs.Refusals.{gsrc_refusal, yal_refusal, join_refusal};
+
+use crate::refusals::{gsrc_fault, named_fault, yal_fault};
+use crate::stop::Stop;
+use sf_gsrc::{GsrcBlocks, GsrcFault, GsrcNets, GsrcPlaces, JoinFault, join_parts, read_blocks, read_nets, read_pl};
+use sf_model::Parts;
+use sf_yal::{YalFault, read_yal};
+use std::alloc::Global;
+
+pub fn parse_blocks(alloc: Global, text: &[u8], scale: u64) -> Result<GsrcBlocks, Stop>
+    requires scale_low { 1 ≤ scale }
+    requires scale_high { scale ≤ 1000 }
+    ensures tells { (loads loads_then : ℕ) → IfErr result (TellsLoads loads loads_then) }
+    ensures said { Ends (λ x. x) result (Said (StandsFor scale text.now) (blocks_read scale text.now) (gsrc_refusal (codes "blocks"))) }
+{
+    match read_blocks(alloc, text, scale) {
+        Ok(blocks) => Ok(blocks),
+        Err(GsrcFault::NoMemory) => Err(Stop::NoMemory),
+        Err(fault) => Err(gsrc_fault(alloc, "blocks", fault)?),
+    }
+}
+
+pub fn parse_nets(alloc: Global, text: &[u8]) -> Result<GsrcNets, Stop>
+    ensures tells { (loads loads_then : ℕ) → IfErr result (TellsLoads loads loads_then) }
+    ensures said { Ends (λ x. x) result (Said (NetsStandFor text.now) (nets_read text.now) (gsrc_refusal (codes "nets"))) }
+{
+    match read_nets(alloc, text) {
+        Ok(nets) => Ok(nets),
+        Err(GsrcFault::NoMemory) => Err(Stop::NoMemory),
+        Err(fault) => Err(gsrc_fault(alloc, "nets", fault)?),
+    }
+}
+
+/// A text of places: a pl file, or a placed file.
+pub fn parse_places(alloc: Global, source: &str, text: &[u8], scale: u64) -> Result<GsrcPlaces, Stop>
+    requires scale_low { 1 ≤ scale }
+    requires scale_high { scale ≤ 1000 }
+    ensures tells { (loads loads_then : ℕ) → IfErr result (TellsLoads loads loads_then) }
+    ensures said { Ends (λ x. x) result (Said (PlacesStandFor scale text.now) (places_read scale text.now) (gsrc_refusal source.now)) }
+{
+    match read_pl(alloc, text, scale) {
+        Ok(places) => Ok(places),
+        Err(GsrcFault::NoMemory) => Err(Stop::NoMemory),
+        Err(fault) => Err(gsrc_fault(alloc, source, fault)?),
+    }
+}
+
+pub fn parse_yal(alloc: Global, text: &[u8], scale: u64) -> Result<Parts, Stop>
+    requires scale_low { 1 ≤ scale }
+    requires scale_high { scale ≤ 1000 }
+    requires size { length text.now ≤ 2 ^ 26 }
+    ensures tells { (loads loads_then : ℕ) → IfErr result (TellsLoads loads loads_then) }
+    ensures said { Ends (λ x. x) result (Said (yals.StandsFor scale text.now) (yal_read scale text.now) yal_refusal) }
+{
+    match read_yal(alloc, text, scale) {
+        Ok(parts) => Ok(parts),
+        Err(YalFault::NoMemory) => Err(Stop::NoMemory),
+        Err(fault) => Err(yal_fault(alloc, fault)?),
+    }
+}
+
+pub fn join(alloc: Global, blocks: GsrcBlocks, nets: Option<GsrcNets>, places: Option<GsrcPlaces>) -> Result<Parts, Stop>
+    ensures tells { (loads loads_then : ℕ) → IfErr result (TellsLoads loads loads_then) }
+    ensures said { Ends (λ x. x) result (Judged (joined blocks nets places) join_refusal) }
+{
+    match join_parts(alloc, blocks, nets, places) {
+        Ok(parts) => Ok(parts),
+        Err(JoinFault::PlacedTwice(name)) => Err(named_fault(alloc, "DuplicateName", &name)?),
+        Err(JoinFault::NoMemory) => Err(Stop::NoMemory),
+    }
+}

@@ -1,0 +1,151 @@
+//! From the named files to the parts of a design.
+
+ghost use Rattle.std.specs.Prelude.{◌≡◌, ◌≤◌, ◌^◌, length, codes, IfErr};
+ghost use Rattle.sf_words.specs.Seen.{input_seen, text_of};
+ghost use Rattle.sf_program.specs.Loads.{IsRead, TellsLoads};
+ghost use Rattle.sf_program.specs.Outcome.{Ends};
+ghost use Rattle.sf_program.specs.Reading.{TextRead, BlocksRead, NetsRead, PlacesRead, YalRead, IfNamed, PlacedRead, WiredRead, GsrcRead, PartsRead};
+
+use crate::parsing::{join, parse_blocks, parse_nets, parse_places, parse_yal};
+use crate::refusals::over_limit;
+use crate::stop::Stop;
+use sf_gsrc::{GsrcBlocks, GsrcNets, GsrcPlaces};
+use sf_io::{LoadFault, Shelf};
+use sf_model::Parts;
+use sf_words::InputFiles;
+use std::alloc::Global;
+
+/// The most bytes that a file may have: 64 MiB.
+const FILE_LIMIT: u64 = 67_108_864;
+
+/// The bytes under a name.
+pub fn load_text<S: Shelf>(alloc: Global, shelf: &mut S, name: &str) -> Result<Vec<u8>, Stop>
+    ensures text { Ends (λ v. v.items) result (TextRead (S.holds shelf.old) name.now) }
+    ensures read { IsRead (S.holds shelf.old) (S.holds shelf.new) (S.load_faults shelf.old) (S.load_faults shelf.new) (S.store_faults shelf.old) (S.store_faults shelf.new) }
+    ensures tells { IfErr result (TellsLoads (S.load_faults shelf.old) (S.load_faults shelf.new)) }
+{
+    match shelf.load(name, FILE_LIMIT) {
+        Ok(text) => Ok(text),
+        Err(LoadFault::TooLong) => Err(over_limit(alloc, "file", FILE_LIMIT + 1, FILE_LIMIT)?),
+        Err(LoadFault::Failed) => Err(Stop::ReadFault),
+        Err(LoadFault::NoMemory) => Err(Stop::NoMemory),
+    }
+}
+
+fn read_blocks_file<S: Shelf>(alloc: Global, shelf: &mut S, scale: u64, name: &str) -> Result<GsrcBlocks, Stop>
+    requires scale_low { 1 ≤ scale }
+    requires scale_high { scale ≤ 1000 }
+    ensures blocks { Ends (λ x. x) result (BlocksRead (S.holds shelf.old) scale name.now) }
+    ensures read { IsRead (S.holds shelf.old) (S.holds shelf.new) (S.load_faults shelf.old) (S.load_faults shelf.new) (S.store_faults shelf.old) (S.store_faults shelf.new) }
+    ensures tells { IfErr result (TellsLoads (S.load_faults shelf.old) (S.load_faults shelf.new)) }
+{
+    let text = load_text(alloc, shelf, name)?;
+    parse_blocks(alloc, &text, scale)
+}
+
+fn read_nets_file<S: Shelf>(alloc: Global, shelf: &mut S, name: &str) -> Result<GsrcNets, Stop>
+    ensures nets { Ends (λ x. x) result (NetsRead (S.holds shelf.old) name.now) }
+    ensures read { IsRead (S.holds shelf.old) (S.holds shelf.new) (S.load_faults shelf.old) (S.load_faults shelf.new) (S.store_faults shelf.old) (S.store_faults shelf.new) }
+    ensures tells { IfErr result (TellsLoads (S.load_faults shelf.old) (S.load_faults shelf.new)) }
+{
+    let text = load_text(alloc, shelf, name)?;
+    parse_nets(alloc, &text)
+}
+
+/// A file of places: a pl file, or a placed file.
+pub fn read_places_file<S: Shelf>(alloc: Global, shelf: &mut S, source: &str, scale: u64, name: &str) -> Result<GsrcPlaces, Stop>
+    requires scale_low { 1 ≤ scale }
+    requires scale_high { scale ≤ 1000 }
+    ensures places { Ends (λ x. x) result (PlacesRead (S.holds shelf.old) source.now scale name.now) }
+    ensures read { IsRead (S.holds shelf.old) (S.holds shelf.new) (S.load_faults shelf.old) (S.load_faults shelf.new) (S.store_faults shelf.old) (S.store_faults shelf.new) }
+    ensures tells { IfErr result (TellsLoads (S.load_faults shelf.old) (S.load_faults shelf.new)) }
+{
+    let text = load_text(alloc, shelf, name)?;
+    parse_places(alloc, source, &text, scale)
+}
+
+fn read_yal_file<S: Shelf>(alloc: Global, shelf: &mut S, scale: u64, name: &str) -> Result<Parts, Stop>
+    requires scale_low { 1 ≤ scale }
+    requires scale_high { scale ≤ 1000 }
+    ensures parts { Ends (λ x. x) result (YalRead (S.holds shelf.old) scale name.now) }
+    ensures read { IsRead (S.holds shelf.old) (S.holds shelf.new) (S.load_faults shelf.old) (S.load_faults shelf.new) (S.store_faults shelf.old) (S.store_faults shelf.new) }
+    ensures tells { IfErr result (TellsLoads (S.load_faults shelf.old) (S.load_faults shelf.new)) }
+{
+    let text = load_text(alloc, shelf, name)?;
+    parse_yal(alloc, &text, scale)
+}
+
+fn read_named_nets<S: Shelf>(alloc: Global, shelf: &mut S, name: Option<&str>) -> Result<Option<GsrcNets>, Stop>
+    ensures nets { Ends (λ x. x) result (IfNamed (NetsRead (S.holds shelf.old)) (text_of name.entry)) }
+    ensures read { IsRead (S.holds shelf.old) (S.holds shelf.new) (S.load_faults shelf.old) (S.load_faults shelf.new) (S.store_faults shelf.old) (S.store_faults shelf.new) }
+    ensures tells { IfErr result (TellsLoads (S.load_faults shelf.old) (S.load_faults shelf.new)) }
+{
+    match name {
+        None => Ok(None),
+        Some(name) => Ok(Some(read_nets_file(alloc, shelf, name)?)),
+    }
+}
+
+fn read_named_places<S: Shelf>(alloc: Global, shelf: &mut S, scale: u64, name: Option<&str>) -> Result<Option<GsrcPlaces>, Stop>
+    requires scale_low { 1 ≤ scale }
+    requires scale_high { scale ≤ 1000 }
+    ensures places { Ends (λ x. x) result (IfNamed (PlacesRead (S.holds shelf.old) (codes "pl") scale) (text_of name.entry)) }
+    ensures read { IsRead (S.holds shelf.old) (S.holds shelf.new) (S.load_faults shelf.old) (S.load_faults shelf.new) (S.store_faults shelf.old) (S.store_faults shelf.new) }
+    ensures tells { IfErr result (TellsLoads (S.load_faults shelf.old) (S.load_faults shelf.new)) }
+{
+    match name {
+        None => Ok(None),
+        Some(name) => Ok(Some(read_places_file(alloc, shelf, "pl", scale, name)?)),
+    }
+}
+
+/// The rest of GSRC files behind the blocks and the nets.
+fn read_placed<S: Shelf>(alloc: Global, shelf: &mut S, scale: u64, blocks: GsrcBlocks, nets: Option<GsrcNets>, pl: Option<&str>) -> Result<Parts, Stop>
+    requires scale_low { 1 ≤ scale }
+    requires scale_high { scale ≤ 1000 }
+    ensures parts { Ends (λ x. x) result (PlacedRead (S.holds shelf.old) scale (text_of pl.entry) blocks nets) }
+    ensures read { IsRead (S.holds shelf.old) (S.holds shelf.new) (S.load_faults shelf.old) (S.load_faults shelf.new) (S.store_faults shelf.old) (S.store_faults shelf.new) }
+    ensures tells { IfErr result (TellsLoads (S.load_faults shelf.old) (S.load_faults shelf.new)) }
+{
+    let places = read_named_places(alloc, shelf, scale, pl)?;
+    join(alloc, blocks, nets, places)
+}
+
+/// The rest of GSRC files behind the blocks.
+fn read_wired<S: Shelf>(alloc: Global, shelf: &mut S, scale: u64, blocks: GsrcBlocks, nets: Option<&str>, pl: Option<&str>) -> Result<Parts, Stop>
+    requires scale_low { 1 ≤ scale }
+    requires scale_high { scale ≤ 1000 }
+    ensures parts { Ends (λ x. x) result (WiredRead (S.holds shelf.old) scale (text_of nets.entry) (text_of pl.entry) blocks) }
+    ensures read { IsRead (S.holds shelf.old) (S.holds shelf.new) (S.load_faults shelf.old) (S.load_faults shelf.new) (S.store_faults shelf.old) (S.store_faults shelf.new) }
+    ensures tells { IfErr result (TellsLoads (S.load_faults shelf.old) (S.load_faults shelf.new)) }
+{
+    let nets = read_named_nets(alloc, shelf, nets)?;
+    read_placed(alloc, shelf, scale, blocks, nets, pl)
+}
+
+fn read_gsrc_files<S: Shelf>(alloc: Global, shelf: &mut S, scale: u64, blocks: &str, nets: Option<&str>, pl: Option<&str>) -> Result<Parts, Stop>
+    requires scale_low { 1 ≤ scale }
+    requires scale_high { scale ≤ 1000 }
+    ensures parts { Ends (λ x. x) result (GsrcRead (S.holds shelf.old) scale blocks.now (text_of nets.entry) (text_of pl.entry)) }
+    ensures read { IsRead (S.holds shelf.old) (S.holds shelf.new) (S.load_faults shelf.old) (S.load_faults shelf.new) (S.store_faults shelf.old) (S.store_faults shelf.new) }
+    ensures tells { IfErr result (TellsLoads (S.load_faults shelf.old) (S.load_faults shelf.new)) }
+{
+    let blocks = read_blocks_file(alloc, shelf, scale, blocks)?;
+    read_wired(alloc, shelf, scale, blocks, nets, pl)
+}
+
+/// All that the files of a design say.
+pub fn read_parts<S: Shelf>(alloc: Global, shelf: &mut S, scale: u64, input: InputFiles<'_>) -> Result<Parts, Stop>
+    requires scale_low { 1 ≤ scale }
+    requires scale_high { scale ≤ 1000 }
+    ensures parts { Ends (λ x. x) result (PartsRead (S.holds shelf.old) scale (input_seen input.entry)) }
+    ensures read { IsRead (S.holds shelf.old) (S.holds shelf.new) (S.load_faults shelf.old) (S.load_faults shelf.new) (S.store_faults shelf.old) (S.store_faults shelf.new) }
+    ensures tells { IfErr result (TellsLoads (S.load_faults shelf.old) (S.load_faults shelf.new)) }
+{
+    match input {
+        InputFiles::Gsrc { blocks, nets, pl } => {
+            read_gsrc_files(alloc, shelf, scale, blocks, nets, pl)
+        }
+        InputFiles::Yal { file } => read_yal_file(alloc, shelf, scale, file),
+    }
+}
