@@ -4,3 +4,6 @@ pub mod Ends
 pub mod Rows
 pub mod Counting
 pub mod Bounded
+pub mod Walks
+pub mod Firsts
+pub mod Tables

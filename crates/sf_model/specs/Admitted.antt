@@ -1,6 +1,6 @@
 -- Which parts may become a design, and the first reason why others may not.
-use Rattle.std.specs.Prelude.{◌≡◌, ℕ, ◌+◌, ◌^◌, ◌<◌, Bool, true, false, not, ◌&&◌, ◌||◌, nat_lt, ◌==◌, List, [], ◌∷◌, ◌++◌, map, filter, length, sum_by, flat_map, filter_map, All, Option, Some, None, is_some, is_none, if◌then◌else◌, ℤ, nat_abs}
-use Rattle.std.specs.List.{list_any}
+use Rattle.std.specs.Prelude.{◌≡◌, ◌≢◌, ℕ, ◌+◌, ◌-◌, ◌^◌, min, Result, MatchResult, ◌<◌, Bool, true, false, not, ◌&&◌, ◌||◌, nat_lt, ◌==◌, List, [], ◌∷◌, ◌++◌, map, filter, length, sum_by, flat_map, filter_map, All, Option, Some, None, is_some, is_none, if◌then◌else◌, ℤ, nat_abs}
+use Rattle.std.specs.List.{list_any, position_from}
 use Rattle.std.specs.Str.{bytes_eq}
 use Rattle.sf_model.specs.declared.fault.BuildFault.{BuildFault}
 use Rattle.sf_model.specs.declared.fault.BuildFault.TheVariants as fault
@@ -51,12 +51,13 @@ is_pad_name parts n = list_any (bytes_eq n) (pad_names parts.pads)
 abbrev pub over : Limit → ℕ → ℕ → List BuildFault
 over quantity most found = if nat_lt most found then fault.OverLimit quantity found most ∷ [] else []
 
+-- the pins are counted as far as 64 bits go
 abbrev pub over_counts : Parts → List BuildFault
 over_counts parts =
     over limit.Blocks 320 (length parts.blocks)
     ++ over limit.Pads 16384 (length parts.pads)
     ++ over limit.Nets 65536 (length parts.nets)
-    ++ over limit.Pins 1048576 (sum_by (λ n. length n.pins) parts.nets)
+    ++ over limit.Pins 1048576 (min (sum_by (λ n. length n.pins) parts.nets) (2 ^ 64 - 1))
 
 abbrev pub over_kind : Kind → List BuildFault
 over_kind (kind.Hard w h) = over limit.Side (2 ^ 20) w ++ over limit.Side (2 ^ 20) h
@@ -84,19 +85,27 @@ ambiguous parts = filter (λ n. is_block_name parts n && is_pad_name parts n) (p
 abbrev pub unknown : Parts → List (List ℕ)
 unknown parts = filter (λ n. not (is_block_name parts n || is_pad_name parts n)) (pin_names parts.nets ++ parts.strangers)
 
--- whether it is a pin of the pad at index i of this name
-abbrev pub is_pin_of : ℕ → List ℕ → RawPin → Bool
-is_pin_of i n (raw.Named m) = bytes_eq n m
-is_pin_of i n (raw.Block b) = false
-is_pin_of i n (raw.Pad p) = p == i
+-- the index of a pin's pad, if it has one
+abbrev pub pad_of : List RawPad → RawPin → Option ℕ
+pad_of pads (raw.Named n) = position_from (bytes_eq n) 0 (pad_names pads)
+pad_of pads (raw.Block b) = None
+pad_of pads (raw.Pad p) = Some p
 
--- the pads, counted from i, that have a pin and no place
-abbrev pub unplaced : List RawPin → ℕ → List RawPad → List (List ℕ)
-unplaced pins i [] = []
-unplaced pins i (p ∷ ps) = if is_none p.place && list_any (is_pin_of i p.name) pins then p.name ∷ unplaced pins (i + 1) ps else unplaced pins (i + 1) ps
+abbrev pub is_index : ℕ → Option ℕ → Bool
+is_index i None = false
+is_index i (Some j) = j == i
+
+-- whether one of the pins is of the pad at index i
+abbrev pub is_wired : List RawPad → List RawPin → ℕ → Bool
+is_wired pads pins i = list_any (λ p. is_index i (pad_of pads p)) pins
+
+-- of these pads, whose first stands at index i, those that have a pin and no place
+abbrev pub unplaced : (ℕ → Bool) → ℕ → List RawPad → List (List ℕ)
+unplaced wired i [] = []
+unplaced wired i (p ∷ ps) = if is_none p.place && wired i then p.name ∷ unplaced wired (i + 1) ps else unplaced wired (i + 1) ps
 
 abbrev pub missing_places : Parts → List (List ℕ)
-missing_places parts = if parts.pads_in then unplaced (all_pins parts.nets) 0 parts.pads else []
+missing_places parts = if parts.pads_in then unplaced (is_wired parts.pads (all_pins parts.nets)) 0 parts.pads else []
 
 -- All faults of the parts, in the order in which they are answered.
 
@@ -124,6 +133,10 @@ first (x ∷ xs) = Some x
 -- the fault that is answered
 abbrev pub first_refusal : Parts → Option BuildFault
 first_refusal parts = first (faults parts)
+
+-- what a test of these faults answers: the first of them, or that there is none
+abbrev pub IsFirstOf : {X : Type 0} → List BuildFault → Result X BuildFault → Type 0
+IsFirstOf fs result = MatchResult result (λ _. first fs ≡ None) (λ f. f ≢ fault.NoMemory → first fs ≡ Some f)
 
 abbrev pub IsAdmitted : Parts → Type 0
 IsAdmitted parts = first_refusal parts ≡ None

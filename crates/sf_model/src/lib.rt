@@ -1,6 +1,7 @@
 //! The model: designs, plans, and what a floorplan costs.
 #![tactic(auto)]
 
+pub mod admit;
 pub mod design;
 pub mod fault;
 pub mod laws;
@@ -10,6 +11,7 @@ pub mod parts;
 pub mod plan;
 pub mod raw;
 pub mod raw_lists;
+mod table;
 
 pub use design::Design;
 pub use fault::{BuildFault, Limit};
