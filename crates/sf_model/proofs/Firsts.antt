@@ -1,8 +1,10 @@
 -- The first of two lists, one after the other.
-use Rattle.std.proofs.Common.{◌≡◌, ℕ, ◌+◌, ◌<◌, ◌≤◌, length, get_or, drop, map, List, [], ◌∷◌, ◌++◌, Option, Some, None, refl, ap, sym, ◌∙◌}
+use Rattle.std.proofs.Common.{◌≡◌, ◌≢◌, Result, Ok, Err, IsErrAnd, ℕ, ◌+◌, ◌<◌, ◌≤◌, length, get_or, drop, map, List, [], ◌∷◌, ◌++◌, Option, Some, None, refl, ap, sym, ◌∙◌}
 use Rattle.std.specs.List.{flat_map}
 use Rattle.std.proofs.Math.ListN.{drop_of_length-le}
-use Rattle.sf_model.specs.Admitted.{first}
+use Rattle.sf_model.specs.Admitted.{first, IsFirstOf}
+use Rattle.sf_model.specs.declared.fault.BuildFault.{BuildFault}
+use Rattle.sf_model.specs.declared.fault.BuildFault.TheVariants.{NoMemory}
 use Rattle.sf_model.proofs.Walks.{drop_step}
 
 pub first_none : {X : Type 0} (xs ys : List X) → first xs ≡ None → first (xs ++ ys) ≡ first ys
@@ -31,3 +33,10 @@ walk_found f xs i d y within so here = so ∙ ap (λ ys. first (flat_map f ys)) 
 
 pub walk_end : {X Y : Type 0} (f : X → List Y) (xs : List X) (i : ℕ) → length xs ≤ i → first (flat_map f xs) ≡ first (flat_map f (drop i xs)) → first (flat_map f xs) ≡ None
 walk_end f xs i past so = so ∙ ap (λ ys. first (flat_map f ys)) (drop_of_length-le xs past)
+
+-- a walk that ends at a fault of the element at i
+pub walk_refused : {X R : Type 0} (f : X → List BuildFault) (xs : List X) (i : ℕ) (d : X) (fault : BuildFault) (result : Result R BuildFault) → i < length xs → first (flat_map f xs) ≡ first (flat_map f (drop i xs)) → d ≡ get_or xs i d → (fault ≢ NoMemory → first (f d) ≡ Some fault) → IsErrAnd result (λ e. e ≡ fault) → IsFirstOf (flat_map f xs) result
+walk_refused f xs i d fault (Ok r) within so is here same = absurd same
+walk_refused f xs i d fault (Err e) within so is here same = λ other.
+    let found : first (f d) ≡ Some fault = here (λ z. other (same ∙ z)) in
+    walk_found f xs i d fault within so (ap (λ y. first (f y)) (sym is) ∙ found) ∙ ap Some (sym same)

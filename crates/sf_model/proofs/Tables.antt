@@ -1,13 +1,14 @@
 -- Tables of names, as names come to stand before those that are there.
-use Rattle.std.proofs.Common.{◌≡◌, ℕ, ◌+◌, ◌-◌, ◌<◌, ◌≤◌, map, length, drop, get_or, subst, Bool, true, false, ◌&&◌, ◌||◌, cond, nat_eq, List, [], ◌∷◌, Option, Some, None, is_some, refl, ap, sym, ◌∙◌, arith}
+use Rattle.std.proofs.Common.{◌≡◌, IfSome, ℕ, ◌+◌, ◌-◌, ◌<◌, ◌≤◌, map, length, drop, get_or, subst, Bool, true, false, ◌&&◌, ◌||◌, cond, nat_eq, List, [], ◌∷◌, Option, Some, None, is_some, refl, ap, sym, ◌∙◌, arith}
 use Rattle.std.specs.List.{list_any, position_from}
 use Rattle.std.specs.Map.{update}
 use Rattle.std.specs.Str.{bytes_eq}
 use Rattle.std.proofs.lemmas.Bool.Decides.{nat_tests}
 use Rattle.std.proofs.Math.Seq.{drop-length}
+use Rattle.std.proofs.lemmas.List.{length-map}
 use Rattle.sf_model.specs.declared.table.NameTable.{NameTable}
 use Rattle.sf_model.specs.Admitted.{first, repeated}
-use Rattle.sf_model.specs.Table.{IsTableOf}
+use Rattle.sf_model.specs.Table.{place_in, IsTableOf}
 use Rattle.sf_model.proofs.Walks.{drop_step}
 
 nat_eq_sym : (x y : ℕ) → nat_eq x y ≡ nat_eq y x
@@ -46,3 +47,18 @@ pub table_start : {X : Type 0} (name : X → List ℕ) (xs : List X) (t : NameTa
 table_start {X} name xs t empty =
     let P : List X → Type 0 = λ ys. IsTableOf t (length xs) (map name ys) in
     subst P (sym (drop-length xs)) (empty (length xs))
+
+-- what a table finds tells which names are there
+pub table_has : (t : NameTable) (names : List (List ℕ)) → IsTableOf t 0 names → (n : List ℕ) → is_some (place_in t n) ≡ list_any (bytes_eq n) names
+table_has t names is n = ap (λ (o : Option ℕ). is_some o) (is.found n) ∙ position_any (bytes_eq n) 0 names
+
+position_within : {X : Type 0} (p : X → Bool) (i : ℕ) (xs : List X) (j : ℕ) → position_from p i xs ≡ Some j → j < i + length xs
+position_within p i [] j h = cc
+position_within p i (x ∷ xs) j h =
+    let P : Bool → Type 0 = λ b. cond b (Some i) (position_from p (i + 1) xs) ≡ Some j → j < i + length (x ∷ xs) in
+    (elim (p x) as P [ true ↦ (λ e. let s : i ≡ j = cc in omega arith) | false ↦ (λ e. let s : j < i + 1 + length xs = position_within p (i + 1) xs j e in omega arith) ]) h
+
+-- a name stands within the list
+pub place_within : {X : Type 0} (name : X → List ℕ) (xs : List X) (n : List ℕ) (o : Option ℕ) → o ≡ position_from (bytes_eq n) 0 (map name xs) → IfSome o (λ i. i < length xs)
+place_within name xs n None h = tt
+place_within name xs n (Some j) h = let s : j < 0 + length (map name xs) = position_within (bytes_eq n) 0 (map name xs) j (sym h) in omega (arith, length-map xs name)

@@ -15,29 +15,13 @@ use Rattle.sf_model.specs.declared.raw.RawPad.{RawPad}
 use Rattle.sf_model.specs.declared.raw.RawPin.{RawPin}
 use Rattle.sf_model.specs.declared.raw.RawPin.TheVariants as raw
 
--- The names of blocks, of pads, and of pins that are given by name, each in its order.
+-- The names of blocks and of pads, each in its order.
 
 abbrev pub block_names : List RawBlock → List (List ℕ)
 block_names blocks = map (λ b. b.name) blocks
 
 abbrev pub pad_names : List RawPad → List (List ℕ)
 pad_names pads = map (λ p. p.name) pads
-
-abbrev pub pin_name : RawPin → Option (List ℕ)
-pin_name (raw.Named n) = Some n
-pin_name (raw.Block b) = None
-pin_name (raw.Pad p) = None
-
--- the pins of all nets, net by net
-abbrev pub all_pins : List RawNet → List RawPin
-all_pins nets = flat_map (λ n. n.pins) nets
-
-abbrev pub pin_names : List RawNet → List (List ℕ)
-pin_names nets = filter_map pin_name (all_pins nets)
-
--- the names of the pads that have a place
-abbrev pub placed_names : List RawPad → List (List ℕ)
-placed_names pads = pad_names (filter (λ p. is_some p.place) pads)
 
 abbrev pub is_block_name : Parts → List ℕ → Bool
 is_block_name parts n = list_any (bytes_eq n) (block_names parts.blocks)
@@ -77,13 +61,40 @@ abbrev pub repeated : List (List ℕ) → List (List ℕ)
 repeated [] = []
 repeated (n ∷ ns) = if list_any (bytes_eq n) ns then n ∷ repeated ns else repeated ns
 
--- the names of pins and the placed names that are of a block and of a pad
-abbrev pub ambiguous : Parts → List (List ℕ)
-ambiguous parts = filter (λ n. is_block_name parts n && is_pad_name parts n) (pin_names parts.nets ++ placed_names parts.pads)
+-- the fault of a name that is of a block and of a pad
+abbrev pub if_both : Parts → List ℕ → List BuildFault
+if_both parts n = if is_block_name parts n && is_pad_name parts n then fault.DuplicateName n ∷ [] else []
 
--- the names of pins and the strangers that are of no block and of no pad
-abbrev pub unknown : Parts → List (List ℕ)
-unknown parts = filter (λ n. not (is_block_name parts n || is_pad_name parts n)) (pin_names parts.nets ++ parts.strangers)
+-- the fault of a name that is of no block and of no pad
+abbrev pub if_neither : Parts → List ℕ → List BuildFault
+if_neither parts n = if is_block_name parts n || is_pad_name parts n then [] else fault.UnknownName n ∷ []
+
+-- the fault of the name of a pin, which may have none
+abbrev pub at_pin_name : (List ℕ → List BuildFault) → RawPin → List BuildFault
+at_pin_name f (raw.Named n) = f n
+at_pin_name f (raw.Block b) = []
+at_pin_name f (raw.Pad p) = []
+
+-- the faults of the names of pins, net by net
+abbrev pub at_pin_names : (List ℕ → List BuildFault) → List RawNet → List BuildFault
+at_pin_names f nets = flat_map (λ n. flat_map (at_pin_name f) n.pins) nets
+
+-- the fault of the name of a pad that has a place
+abbrev pub at_placed_name : (List ℕ → List BuildFault) → RawPad → List BuildFault
+at_placed_name f p = if is_some p.place then f p.name else []
+
+-- names of two blocks, of two pads, or of a block and of a pad where a pin has the name or it has a place
+abbrev pub duplicates : Parts → List BuildFault
+duplicates parts =
+    map fault.DuplicateName (repeated (block_names parts.blocks))
+    ++ map fault.DuplicateName (repeated (pad_names parts.pads))
+    ++ at_pin_names (if_both parts) parts.nets
+    ++ flat_map (at_placed_name (if_both parts)) parts.pads
+
+abbrev pub unknowns : Parts → List BuildFault
+unknowns parts = at_pin_names (if_neither parts) parts.nets ++ flat_map (if_neither parts) parts.strangers
+
+-- Places.
 
 -- the index of a pin's pad, if it has one
 abbrev pub pad_of : List RawPad → RawPin → Option ℕ
@@ -95,17 +106,17 @@ abbrev pub is_index : ℕ → Option ℕ → Bool
 is_index i None = false
 is_index i (Some j) = j == i
 
--- whether one of the pins is of the pad at index i
-abbrev pub is_wired : List RawPad → List RawPin → ℕ → Bool
-is_wired pads pins i = list_any (λ p. is_index i (pad_of pads p)) pins
+-- whether a net has a pin of the pad at index i
+abbrev pub is_wired : Parts → ℕ → Bool
+is_wired parts i = list_any (λ p. is_index i (pad_of parts.pads p)) (flat_map (λ n. n.pins) parts.nets)
 
--- of these pads, whose first stands at index i, those that have a pin and no place
-abbrev pub unplaced : (ℕ → Bool) → ℕ → List RawPad → List (List ℕ)
+-- of pads that begin at index i, the faults of those that are in a net and have no place
+abbrev pub unplaced : (ℕ → Bool) → ℕ → List RawPad → List BuildFault
 unplaced wired i [] = []
-unplaced wired i (p ∷ ps) = if is_none p.place && wired i then p.name ∷ unplaced wired (i + 1) ps else unplaced wired (i + 1) ps
+unplaced wired i (p ∷ ps) = if is_none p.place && wired i then fault.MissingPlace p.name ∷ unplaced wired (i + 1) ps else unplaced wired (i + 1) ps
 
-abbrev pub missing_places : Parts → List (List ℕ)
-missing_places parts = if parts.pads_in then unplaced (is_wired parts.pads (all_pins parts.nets)) 0 parts.pads else []
+abbrev pub missing_places : Parts → List BuildFault
+missing_places parts = if parts.pads_in then unplaced (is_wired parts) 0 parts.pads else []
 
 -- All faults of the parts, in the order in which they are answered.
 
@@ -115,16 +126,11 @@ no_blocks parts = if length parts.blocks == 0 then fault.NoBlocks ∷ [] else []
 abbrev pub over_limits : Parts → List BuildFault
 over_limits parts = over_counts parts ++ flat_map (λ b. over_kind b.kind) parts.blocks ++ over_places parts
 
-abbrev pub duplicates : Parts → List (List ℕ)
-duplicates parts = repeated (block_names parts.blocks) ++ repeated (pad_names parts.pads) ++ ambiguous parts
+abbrev pub name_faults : Parts → List BuildFault
+name_faults parts = duplicates parts ++ unknowns parts ++ missing_places parts
 
 abbrev pub faults : Parts → List BuildFault
-faults parts =
-    no_blocks parts
-    ++ over_limits parts
-    ++ map fault.DuplicateName (duplicates parts)
-    ++ map fault.UnknownName (unknown parts)
-    ++ map fault.MissingPlace (missing_places parts)
+faults parts = no_blocks parts ++ over_limits parts ++ name_faults parts
 
 abbrev pub first : {X : Type 0} → List X → Option X
 first [] = None

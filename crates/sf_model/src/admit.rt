@@ -1,100 +1,55 @@
 //! Whether parts may become a design.
 
-ghost use Rattle.std.specs.Prelude.{◌≡◌, ◌≢◌, ℕ, ◌+◌, ◌-◌, ◌^◌, ◌<◌, ◌≤◌, ◌++◌, List, length, map, min, sum_by, flat_map, OnOk, IfOk, IfErr, vec_len, EachIndex, IsNone, IfSome};
-ghost use Rattle.std.specs.Option.{option_copied};
-ghost use Rattle.sf_model.specs.Admitted.{first, faults, first_refusal, IsAdmitted, IsFirstOf, HasPinsInRange, IsPinInRange, over, over_counts, over_kind, over_place, over_places, over_limits, repeated};
-ghost use Rattle.sf_model.specs.Table.{IsTableOf, AreNamesOf};
+ghost use Rattle.std.specs.Prelude.{◌≡◌, ◌≢◌, OnOk, IfErr, Some};
+ghost use Rattle.sf_model.specs.Admitted.{first_refusal, IsAdmitted, IsFirstOf, HasPinsInRange, faults, name_faults};
+ghost use Rattle.sf_model.specs.declared.fault.BuildFault.TheVariants.{NoMemory};
 
-use crate::fault::{BuildFault, Limit};
-use crate::raw::{Kind, Parts, RawBlock, RawNet, RawPad};
+use crate::counted::check_limits;
+use crate::fault::BuildFault;
+use crate::index::Index;
+use crate::named::{check_duplicates, check_known};
+use crate::placed::check_places;
+use crate::raw::Parts;
+use std::alloc::Global;
 
-const MOST_BLOCKS: u64 = 320;
-const MOST_PADS: u64 = 16_384;
-const MOST_NETS: u64 = 65_536;
-const MOST_PINS: u64 = 1_048_576;
-const MOST_SIDE: u64 = 1_048_576;
-const MOST_AREA: u64 = 1_099_511_627_776;
-const MOST_COORDINATE: u64 = 1_048_576;
-
-fn within(quantity: Limit, most: u64, found: u64) -> Result<(), BuildFault>
-    ensures { IsFirstOf (over quantity most found) result }
-{
-    if most < found {
-        return Err(BuildFault::OverLimit(quantity, found, most));
-    }
-    Ok(())
-}
-
-fn pin_count(nets: &[RawNet]) -> u64
-    ensures { result ≡ min (sum_by (λ n. length n.pins) nets.now) (2 ^ 64 - 1) }
-{
-    let mut count = 0u64;
-    for net in nets {
-        count = count.saturating_add(net.pins.as_slice().len() as u64);
-    }
-    count
-}
-
-fn check_counts(parts: &Parts) -> Result<(), BuildFault>
-    ensures { IsFirstOf (over_counts parts.now) result }
-{
-    within(
-        Limit::Blocks,
-        MOST_BLOCKS,
-        parts.blocks.as_slice().len() as u64,
-    )?;
-    within(Limit::Pads, MOST_PADS, parts.pads.as_slice().len() as u64)?;
-    within(Limit::Nets, MOST_NETS, parts.nets.as_slice().len() as u64)?;
-    within(Limit::Pins, MOST_PINS, pin_count(parts.nets.as_slice()))
-}
-
-fn check_kind(kind: Kind) -> Result<(), BuildFault>
-    ensures { IsFirstOf (over_kind kind) result }
-{
-    match kind {
-        Kind::Hard { w, h } => {
-            within(Limit::Side, MOST_SIDE, w)?;
-            within(Limit::Side, MOST_SIDE, h)
-        }
-        Kind::Soft { area, .. } => within(Limit::Area, MOST_AREA, area),
+impl Parts {
+    /// Tests, in this order, that there is a block, that the counts, the sides, the areas and the places of
+    /// the pads keep their limits, that no two blocks, no two pads and no block and pad that a pin or a
+    /// place names share a name, that each named pin and each stranger is there, and that each pad of a net
+    /// has a place. Of several faults of one kind the first by its list is answered.
+    pub fn admit(&self, alloc: Global) -> Result<(), BuildFault>
+        requires { HasPinsInRange self.now }
+        ensures admitted { OnOk result (IsAdmitted self.now) }
+        ensures refused { IfErr result (λ fault. fault ≢ NoMemory → first_refusal self.now ≡ Some fault) }
+    {
+        check_parts(alloc, self)
     }
 }
 
-fn check_blocks(blocks: &[RawBlock]) -> Result<(), BuildFault>
-    ensures { IsFirstOf (flat_map (λ b. over_kind b.kind) blocks.now) result }
+fn check_parts(alloc: Global, parts: &Parts) -> Result<(), BuildFault>
+    requires { HasPinsInRange parts.now }
+    ensures { IsFirstOf (faults parts.now) result }
 {
-    for block in blocks {
-        check_kind(block.kind)?;
+    if parts.blocks.as_slice().is_empty() {
+        return Err(BuildFault::NoBlocks);
     }
-    Ok(())
+    check_limits(parts)?;
+    check_names(alloc, parts)
 }
 
-fn check_place(place: Option<(i64, i64)>) -> Result<(), BuildFault>
-    ensures { IsFirstOf (over_place place) result }
+fn check_names(alloc: Global, parts: &Parts) -> Result<(), BuildFault>
+    requires { HasPinsInRange parts.now }
+    ensures { IsFirstOf (name_faults parts.now) result }
 {
-    if let Some((x, y)) = place {
-        within(Limit::Coordinate, MOST_COORDINATE, x.unsigned_abs())?;
-        within(Limit::Coordinate, MOST_COORDINATE, y.unsigned_abs())?;
-    }
-    Ok(())
+    let index = Index::new(alloc, parts)?;
+    check_index(alloc, &index)
 }
 
-fn check_pads(pads: &[RawPad]) -> Result<(), BuildFault>
-    ensures { IsFirstOf (flat_map (λ p. over_place p.place) pads.now) result }
+fn check_index(alloc: Global, index: &Index<'_>) -> Result<(), BuildFault>
+    requires { HasPinsInRange index.now.parts.now }
+    ensures { IsFirstOf (name_faults index.now.parts.now) result }
 {
-    for pad in pads {
-        check_place(pad.place)?;
-    }
-    Ok(())
-}
-
-fn check_limits(parts: &Parts) -> Result<(), BuildFault>
-    ensures { IsFirstOf (over_limits parts.now) result }
-{
-    check_counts(parts)?;
-    check_blocks(parts.blocks.as_slice())?;
-    if parts.pads_in {
-        check_pads(parts.pads.as_slice())?;
-    }
-    Ok(())
+    check_duplicates(alloc, index)?;
+    check_known(alloc, index)?;
+    check_places(alloc, index)
 }

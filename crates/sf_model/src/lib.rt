@@ -2,12 +2,16 @@
 #![tactic(auto)]
 
 pub mod admit;
+mod counted;
 pub mod design;
 pub mod fault;
+mod index;
 pub mod laws;
 pub mod lists;
 pub mod name;
+mod named;
 pub mod parts;
+mod placed;
 pub mod plan;
 pub mod raw;
 pub mod raw_lists;

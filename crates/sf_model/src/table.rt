@@ -1,11 +1,11 @@
 //! The names of blocks and of pads, found by an ordered map.
 
-ghost use Rattle.std.specs.Prelude.{◌≡◌, ◌+◌, List, ℕ, [], ◌∷◌, IfOk, OnOk, ◌↔◌, IsTrue, ◌&&◌, ◌||◌, not};
+ghost use Rattle.std.specs.Prelude.{◌≡◌, ◌+◌, List, ℕ, [], ◌∷◌, IfOk, OnOk, is_some};
 ghost use Rattle.sf_model.specs.Admitted.{block_names, pad_names};
-ghost use Rattle.sf_model.specs.Table.{place_in, IsTableOf, AreNamesOf};
+ghost use Rattle.sf_model.specs.Table.{place_in, IsTableOf};
 
 use crate::name::Name;
-use crate::raw::{Parts, RawBlock, RawPad};
+use crate::raw::{RawBlock, RawPad};
 use std::alloc::{AllocError, Global};
 use std::collections::BTreeMap;
 
@@ -37,7 +37,7 @@ impl<'a> NameTable<'a> {
         Ok(())
     }
 
-    fn of_blocks(alloc: Global, blocks: &'a [RawBlock]) -> Result<NameTable<'a>, AllocError>
+    pub fn of_blocks(alloc: Global, blocks: &'a [RawBlock]) -> Result<NameTable<'a>, AllocError>
         ensures { IfOk result (λ table. IsTableOf table 0 (block_names blocks.now)) }
     {
         let mut table = NameTable::new(alloc);
@@ -49,7 +49,7 @@ impl<'a> NameTable<'a> {
         Ok(table)
     }
 
-    fn of_pads(alloc: Global, pads: &'a [RawPad]) -> Result<NameTable<'a>, AllocError>
+    pub fn of_pads(alloc: Global, pads: &'a [RawPad]) -> Result<NameTable<'a>, AllocError>
         ensures { IfOk result (λ table. IsTableOf table 0 (pad_names pads.now)) }
     {
         let mut table = NameTable::new(alloc);
@@ -66,22 +66,17 @@ impl<'a> NameTable<'a> {
     {
         self.places.get(name.as_bytes()).copied()
     }
-}
 
-/// The names of a design's blocks and of its pads.
-#[derive(Drop)]
-pub struct Names<'a> {
-    pub blocks: NameTable<'a>,
-    pub pads: NameTable<'a>,
-}
-
-impl<'a> Names<'a> {
-    pub fn new(alloc: Global, parts: &'a Parts) -> Result<Names<'a>, AllocError>
-        ensures { IfOk result (λ names. AreNamesOf names parts.now) }
+    pub fn has(&self, name: &Name) -> bool
+        ensures { result ≡ is_some (place_in self.now name.now) }
     {
-        Ok(Names {
-            blocks: NameTable::of_blocks(alloc, parts.blocks.as_slice())?,
-            pads: NameTable::of_pads(alloc, parts.pads.as_slice())?,
-        })
+        self.place_of(name).is_some()
+    }
+
+    /// The first name that stands again further on.
+    pub fn repeated(&self) -> Option<&'a Name>
+        ensures { result ≡ self.now.repeated }
+    {
+        self.repeated
     }
 }
