@@ -7,3 +7,4 @@ pub mod Bounded
 pub mod Walks
 pub mod Firsts
 pub mod Tables
+pub mod Limited

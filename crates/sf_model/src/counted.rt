@@ -7,11 +7,17 @@ use crate::fault::{BuildFault, Limit};
 use crate::raw::{Kind, Parts, RawBlock, RawNet, RawPad};
 
 const MOST_BLOCKS: u64 = 320;
+
 const MOST_PADS: u64 = 16_384;
+
 const MOST_NETS: u64 = 65_536;
+
 const MOST_PINS: u64 = 1_048_576;
+
 const MOST_SIDE: u64 = 1_048_576;
+
 const MOST_AREA: u64 = 1_099_511_627_776;
+
 const MOST_COORDINATE: u64 = 1_048_576;
 
 fn within(quantity: Limit, most: u64, found: u64) -> Result<(), BuildFault>

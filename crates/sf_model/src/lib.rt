@@ -16,7 +16,10 @@ pub mod plan;
 pub mod raw;
 pub mod raw_lists;
 mod table;
+#[cfg(test)]
+mod tests;
 
+pub use admit::admitted_parts_keep_limits;
 pub use design::Design;
 pub use fault::{BuildFault, Limit};
 pub use lists::{BlockList, NetList, PadList, Pins, Shapes};

@@ -46,10 +46,7 @@ pub fn check_places(alloc: Global, index: &Index<'_>) -> Result<(), BuildFault>
     let pads = index.parts.pads.as_slice();
     for i in 0..pads.len() {
         if pads[i].place.is_none() && wired[i] {
-            return Err(BuildFault::MissingPlace(Name::new(
-                alloc,
-                pads[i].name.as_bytes(),
-            )?));
+            return Err(BuildFault::MissingPlace(Name::new(alloc, pads[i].name.as_bytes())?));
         }
     }
     Ok(())

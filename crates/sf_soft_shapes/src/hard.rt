@@ -14,6 +14,8 @@ pub fn hard_shapes(alloc: Global, w: u32, h: u32, fixed: bool) -> Result<Vec<Sha
     requires width { IsSide w }
     requires height { IsSide h }
     ensures listed { IfOk result (λ shapes. shapes.items ≡ hard_list w h fixed) }
+    ensures choice { IfOk result (λ shapes. IsShapeChoice shapes.items) }
+    ensures some { IfOk result (λ shapes. 1 ≤ vec_len shapes) }
     ensures has_shape { result ≢ Err ShapeFault.NoShape }
 {
     if fixed || w == h {

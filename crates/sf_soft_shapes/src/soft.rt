@@ -1,6 +1,7 @@
 //! Shapes of a soft block.
 
 ghost use Rattle.std.specs.Prelude.{◌≡◌, ℕ, ◌+◌, ◌*◌, ◌^◌, ◌<◌, ◌≤◌, ◌↔◌, IsTrue, IfOk, vec_len, map};
+ghost use Rattle.sf_model.specs.Built.{IsShapeChoice};
 ghost use Rattle.sf_soft_shapes.specs.Listed.{IsAllowed, IsSoftList, height_at, shape, widths};
 ghost use Rattle.sf_soft_shapes.specs.Ends.{IsWide, IsNarrow};
 
@@ -109,6 +110,7 @@ pub fn soft_shapes(
     requires area { (1 ≤ area) × (area ≤ 2 ^ 40) }
     requires count { (2 ≤ k) × (k ≤ 256) }
     ensures listed { IfOk result (λ shapes. IsSoftList area least most k shapes.items) }
+    ensures choice { IfOk result (λ shapes. IsShapeChoice shapes.items) }
     ensures has_shape { IfOk result (λ shapes. 1 ≤ vec_len shapes) }
     ensures no_shape { result ≡ Err ShapeFault.NoShape → (w : ℕ) → ¬ (IsAllowed area least most w) }
 {
