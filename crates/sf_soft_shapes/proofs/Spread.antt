@@ -32,9 +32,9 @@ choice_at area n f few sides rise =
       few = omega arith;
       sides = λ k d low. subst P (sym (item g f n k d (omega arith))) (sides k (omega arith));
       ordered = λ i j d less low.
-        let a : get_or (map g (map f (range_with_len 0 n))) i d ≡ g (f i) = item g f n i d (omega arith) in
-        let b : get_or (map g (map f (range_with_len 0 n))) j d ≡ g (f j) = item g f n j d (omega arith) in
-        rw (a, b) (let r = rise i j less (omega arith) in (omega arith, λ e. absurd (omega arith)))
+          let a : get_or (map g (map f (range_with_len 0 n))) i d ≡ g (f i) = item g f n i d (omega arith) in
+          let b : get_or (map g (map f (range_with_len 0 n))) j d ≡ g (f j) = item g f n j d (omega arith) in
+          rw (a, b) (let r = rise i j less (omega arith) in (omega arith, λ e. absurd (omega arith)));
     }
 
 -- steps of at least one
@@ -65,15 +65,15 @@ allowed_sides area least most w some is = ((is.some, is.width), (height_some are
 
 widths_choice : (area k lo hi : ℕ) → 2 ≤ k → k ≤ 256 → ((w : ℕ) → lo ≤ w → w ≤ hi → IsSide w × IsSide (height_at area w)) → IsShapeChoice (map (λ w. shape w (height_at area w)) (widths k lo hi))
 widths_choice area k lo hi two few sides = elim (cases_lt k (width_count lo hi)) [
-    inl more ↦
+  | inl more ↦
       (let test : nat_le (width_count lo hi) k ≡ false = grind (arith, nat_tests) in
       rw test (choice_at area k (λ j. lo + j * (hi - lo) / (k - 1)) few
-        (λ i low. let w = step_within (hi - lo) (k - 1) i (omega arith) in sides (lo + i * (hi - lo) / (k - 1)) (omega arith) (omega arith))
-        (λ i j less low. let r = step_rises (hi - lo) (k - 1) i j (omega arith) (omega arith) less in omega arith)))
+      (λ i low. let w = step_within (hi - lo) (k - 1) i (omega arith) in sides (lo + i * (hi - lo) / (k - 1)) (omega arith) (omega arith))
+      (λ i j less low. let r = step_rises (hi - lo) (k - 1) i j (omega arith) (omega arith) less in omega arith)))
   | inr within ↦
       (let test : nat_le (width_count lo hi) k ≡ true = grind (arith, nat_tests) in
       rw test (choice_at area (width_count lo hi) (λ j. lo + j) (omega arith) (λ i low. sides (lo + i) (omega arith) (omega arith)) (λ i j less low. omega arith)))
-  ]
+]
 
 pub soft_choice : (area least most k : ℕ) (shapes : List Shape) → 1 ≤ area → 2 ≤ k → k ≤ 256 → IsSoftList area least most k shapes → IsShapeChoice shapes
 soft_choice area least most k shapes some two few is =

@@ -37,9 +37,9 @@ width_count lo hi = hi + 1 - lo
 -- the widths from lo to hi, or k of them at equal steps, rounded down, both ends among them
 abbrev pub widths : ℕ → ℕ → ℕ → List ℕ
 widths k lo hi =
-  if nat_le (width_count lo hi) k
-  then map (λ j. lo + j) (range_with_len 0 (width_count lo hi))
-  else map (λ j. lo + j * (hi - lo) / (k - 1)) (range_with_len 0 k)
+    if nat_le (width_count lo hi) k
+    then map (λ j. lo + j) (range_with_len 0 (width_count lo hi))
+    else map (λ j. lo + j * (hi - lo) / (k - 1)) (range_with_len 0 k)
 
 -- the allowed widths are those from lo to hi, and these shapes are listed of them
 pub record IsSoftList (area least most k : ℕ) (shapes : List Shape) : Type 0 where

@@ -10,7 +10,7 @@ ghost use Rattle.sf_soft_shapes.specs.Listed.{IsListOf, AreListsOf, HasNoneFor};
 use crate::fault::ShapeFault;
 use crate::hard::hard_shapes;
 use crate::soft::soft_shapes;
-use sf_model::{admitted_parts_keep_limits, BuildFault, Kind, Name, Parts, Shapes};
+use sf_model::{BuildFault, Kind, Name, Parts, Shapes, admitted_parts_keep_limits};
 use std::alloc::Global;
 
 /// The list of shapes of a block.
@@ -32,12 +32,7 @@ fn list_of(alloc: Global, kind: Kind, k: u16, fixed: bool) -> Result<Shapes, Sha
 
 /// The list of shapes of each block, in their order; each soft block has at most `k`, and each hard block
 /// is turned too unless `fixed`.
-pub fn lists(
-    alloc: Global,
-    parts: &Parts,
-    k: u16,
-    fixed: bool,
-) -> Result<Vec<Shapes>, BuildFault>
+pub fn lists(alloc: Global, parts: &Parts, k: u16, fixed: bool) -> Result<Vec<Shapes>, BuildFault>
     requires admitted { IsAdmitted parts.now }
     requires sized { HasSizes parts.now }
     requires count { (2 ≤ k) × (k ≤ 256) }
@@ -52,10 +47,7 @@ pub fn lists(
         match list_of(alloc, block.kind, k, fixed) {
             Ok(list) => lists.push(list)?,
             Err(ShapeFault::NoShape) => {
-                return Err(BuildFault::NoShape(Name::new(
-                    alloc,
-                    block.name.as_bytes(),
-                )?));
+                return Err(BuildFault::NoShape(Name::new(alloc, block.name.as_bytes())?));
             }
             Err(ShapeFault::NoMemory) => return Err(BuildFault::NoMemory),
         }

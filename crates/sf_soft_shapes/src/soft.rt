@@ -10,6 +10,7 @@ use sf_model::Shape;
 use std::alloc::{AllocError, Global};
 
 const MOST_SIDE: u64 = 1_048_576;
+
 const MILLION: u64 = 1_000_000;
 
 /// Whether a block of this width is low enough.
@@ -89,7 +90,11 @@ fn shapes_between(
     let count = hi + 1 - lo;
     let mut shapes = Vec::new(alloc);
     for j in 0..count.min(k) {
-        let w = if count <= k { lo + j } else { lo + j * (hi - lo) / (k - 1) };
+        let w = if count <= k {
+            lo + j
+        } else {
+            lo + j * (hi - lo) / (k - 1)
+        };
         shapes.push(Shape {
             w: w as u32,
             h: area.div_ceil(w) as u32,

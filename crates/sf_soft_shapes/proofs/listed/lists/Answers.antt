@@ -13,7 +13,7 @@ loop-block-init c = record {
   count = omega (arith, c.new-lists.ensures.len);
   listed = rw c.new-lists.ensures.items (lists_start c.args.k c.args.fixed c.args.parts.now.blocks);
   choices = rw c.new-lists.ensures.items (λ k d low. absurd (omega arith));
-  shaped = rw c.new-lists.ensures.items (λ k d low. absurd (omega arith))
+  shaped = rw c.new-lists.ensures.items (λ k d low. absurd (omega arith));
 }
 
 pub loop-block-preserved : goal.loop-block-preserved
@@ -31,7 +31,7 @@ loop-block-preserved c =
       count = omega (arith, c.in_ok-push-in-Ok.ensures.len);
       listed = rw put (lists_grow c.args.k c.args.fixed c.args.parts.now.blocks lists c.in-Ok.list item (omega arith) c.loop-block.invariant.listed (subst P at list));
       choices = rw put (all_one IsShapeChoice lists c.in-Ok.list c.loop-block.invariant.choices c.in-Ok.ensures.choice);
-      shaped = rw put (all_one (λ (l : List Shape). 1 ≤ length l) lists c.in-Ok.list c.loop-block.invariant.shaped c.in-Ok.ensures.has_shape)
+      shaped = rw put (all_one (λ (l : List Shape). 1 ≤ length l) lists c.in-Ok.list c.loop-block.invariant.shaped c.in-Ok.ensures.has_shape);
     }
 
 pub returns-clause-shaped : goal.returns-clause-shaped
@@ -49,7 +49,8 @@ returns-in-Err-NoShape-clause-refused c = λ other.
     let low : length lists < length blocks = omega arith in
     let none = c.in-Err-NoShape.ensures.no_shape (ap Err c.in-Err-NoShape.field-0-is) in
     let P : RawBlock → Type 0 = λ b. IsListOf c.args.k c.args.fixed b.kind [] in
-    let name : c.in_ok-new-in-Err-NoShape.field-0 ≡ (get_or blocks (length lists) item).name = c.in_ok-new-in-Err-NoShape.ensures ∙ c.as_bytes.ensures.value ∙ ap (λ b. b.name) at in
-    (lists ++ [] ∷ [],
-     lists_grow c.args.k c.args.fixed blocks lists [] item low c.loop-block.invariant.listed (subst P at none),
-     ap (option_map NoShape) (none_after blocks lists item low c.loop-block.invariant.shaped) ∙ ap (λ m. Some (NoShape m)) (sym name))
+    let name : c.in_ok-new-in-Err-NoShape.field-0 ≡ (get_or blocks (length lists) item).name = c.in_ok-new-in-Err-NoShape.ensures ∙ c.as_bytes.ensures.value ∙ ap (λ b. b.name) at in (
+      lists ++ [] ∷ [],
+      lists_grow c.args.k c.args.fixed blocks lists [] item low c.loop-block.invariant.listed (subst P at none),
+      ap (option_map NoShape) (none_after blocks lists item low c.loop-block.invariant.shaped) ∙ ap (λ m. Some (NoShape m)) (sym name),
+    )

@@ -11,5 +11,5 @@ invariant-loop-block l = record {
   count : vec_len l.lists ≡ l.block-index;
   listed : AreListsOf l.k l.fixed l.parts.blocks l.lists.items;
   choices : All IsShapeChoice l.lists.items;
-  shaped : All (λ (s : List Shape). 1 ≤ length s) l.lists.items
+  shaped : All (λ (s : List Shape). 1 ≤ length s) l.lists.items;
 }
