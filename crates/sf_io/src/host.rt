@@ -1,5 +1,5 @@
 // Files and the standard output. Nothing is told of what they hold or take.
-ghost use Rattle.std.specs.Prelude.{◌≡◌, ℕ, ◌+◌, ◌≤◌, ◌<◌, List, length, take, None, IfOk};
+ghost use Rattle.std.specs.Prelude.{◌≡◌, ◌+◌, ◌≤◌, ◌<◌, length, take, None, IfOk};
 
 use crate::{Failed, Gate, LoadFault, Shelf, Sink};
 use std::alloc::Global;

@@ -1,8 +1,7 @@
 // A shelf and a sink in memory, whose calls fail where a list says so.
-ghost use Rattle.std.specs.Prelude.{◌≡◌, ◌↔◌, ℕ, ◌≤◌, ◌<◌, ◌⊎◌, List, [], ◌++◌, length, take, Some, None, IfOk, OnOk, OnErr, IsErr, IsErrOf, Contains};
+ghost use Rattle.std.specs.Prelude.{◌≡◌, ◌↔◌, ℕ, ◌≤◌, ◌<◌, ◌⊎◌, List, [], ◌++◌, length, Some, None, IfOk, OnOk, OnErr, IsErr, IsErrOf, Contains};
 ghost use Rattle.std.specs.Option.{option_map};
-ghost use Rattle.std.specs.Io.KnownBytes.{Appends};
-ghost use Rattle.sf_io.specs.Outside.{Contents, one_more, Rose, HoldsMore, Stores, StoresPart, KeepsOthers};
+ghost use Rattle.sf_io.specs.Outside.{one_more, HoldsMore, Stores, StoresPart, KeepsOthers};
 
 use crate::{Failed, LoadFault, Shelf, Sink};
 use std::alloc::{AllocError as NoMemory, Global};

@@ -1,7 +1,5 @@
 // A shelf and a sink that never fail.
-ghost use Rattle.std.specs.Prelude.{◌≡◌, ◌↔◌, ℕ, ◌<◌, ◌≤◌, List, length, take, None, IsOk, IfOk, OnOk, OnErr, IsErrOf};
-ghost use Rattle.std.specs.Io.KnownBytes.{Appends};
-ghost use Rattle.sf_io.specs.Outside.{Contents, Rose, Holds, HoldsMore, Stores, StoresPart};
+ghost use Rattle.std.specs.Prelude.{◌≡◌, ◌↔◌, ◌<◌, ◌≤◌, length, None, IsOk, IfOk, IsErrOf};
 ghost use Rattle.sf_io.specs.NeverShelf.{text_under, texts_seen};
 
 use crate::{Failed, LoadFault, Shelf, Sink};

@@ -4,3 +4,7 @@ pub mod Ends
 pub mod Rows
 pub mod Counting
 pub mod Bounded
+pub mod Walks
+pub mod Firsts
+pub mod Tables
+pub mod Limited

@@ -1,6 +1,6 @@
 -- Which parts may become a design, and the first reason why others may not.
-use Rattle.std.specs.Prelude.{◌≡◌, ℕ, ◌+◌, ◌^◌, ◌<◌, Bool, true, false, not, ◌&&◌, ◌||◌, nat_lt, ◌==◌, List, [], ◌∷◌, ◌++◌, map, filter, length, sum_by, flat_map, filter_map, All, Option, Some, None, is_some, is_none, if◌then◌else◌, ℤ, nat_abs}
-use Rattle.std.specs.List.{list_any}
+use Rattle.std.specs.Prelude.{◌≡◌, ◌≢◌, ◌≤◌, IsTrue, ℕ, ◌+◌, ◌-◌, ◌^◌, min, Result, MatchResult, ◌<◌, Bool, true, false, not, ◌&&◌, ◌||◌, nat_lt, ◌==◌, List, [], ◌∷◌, ◌++◌, map, filter, length, sum_by, flat_map, filter_map, All, Option, Some, None, is_some, is_none, if◌then◌else◌, ℤ, nat_abs}
+use Rattle.std.specs.List.{list_any, position_from}
 use Rattle.std.specs.Str.{bytes_eq}
 use Rattle.sf_model.specs.declared.fault.BuildFault.{BuildFault}
 use Rattle.sf_model.specs.declared.fault.BuildFault.TheVariants as fault
@@ -15,29 +15,13 @@ use Rattle.sf_model.specs.declared.raw.RawPad.{RawPad}
 use Rattle.sf_model.specs.declared.raw.RawPin.{RawPin}
 use Rattle.sf_model.specs.declared.raw.RawPin.TheVariants as raw
 
--- The names of blocks, of pads, and of pins that are given by name, each in its order.
+-- The names of blocks and of pads, each in its order.
 
 abbrev pub block_names : List RawBlock → List (List ℕ)
 block_names blocks = map (λ b. b.name) blocks
 
 abbrev pub pad_names : List RawPad → List (List ℕ)
 pad_names pads = map (λ p. p.name) pads
-
-abbrev pub pin_name : RawPin → Option (List ℕ)
-pin_name (raw.Named n) = Some n
-pin_name (raw.Block b) = None
-pin_name (raw.Pad p) = None
-
--- the pins of all nets, net by net
-abbrev pub all_pins : List RawNet → List RawPin
-all_pins nets = flat_map (λ n. n.pins) nets
-
-abbrev pub pin_names : List RawNet → List (List ℕ)
-pin_names nets = filter_map pin_name (all_pins nets)
-
--- the names of the pads that have a place
-abbrev pub placed_names : List RawPad → List (List ℕ)
-placed_names pads = pad_names (filter (λ p. is_some p.place) pads)
 
 abbrev pub is_block_name : Parts → List ℕ → Bool
 is_block_name parts n = list_any (bytes_eq n) (block_names parts.blocks)
@@ -51,12 +35,13 @@ is_pad_name parts n = list_any (bytes_eq n) (pad_names parts.pads)
 abbrev pub over : Limit → ℕ → ℕ → List BuildFault
 over quantity most found = if nat_lt most found then fault.OverLimit quantity found most ∷ [] else []
 
+-- the pins are counted as far as 64 bits go
 abbrev pub over_counts : Parts → List BuildFault
 over_counts parts =
     over limit.Blocks 320 (length parts.blocks)
     ++ over limit.Pads 16384 (length parts.pads)
     ++ over limit.Nets 65536 (length parts.nets)
-    ++ over limit.Pins 1048576 (sum_by (λ n. length n.pins) parts.nets)
+    ++ over limit.Pins 1048576 (min (sum_by (λ n. length n.pins) parts.nets) (2 ^ 64 - 1))
 
 abbrev pub over_kind : Kind → List BuildFault
 over_kind (kind.Hard w h) = over limit.Side (2 ^ 20) w ++ over limit.Side (2 ^ 20) h
@@ -76,27 +61,68 @@ abbrev pub repeated : List (List ℕ) → List (List ℕ)
 repeated [] = []
 repeated (n ∷ ns) = if list_any (bytes_eq n) ns then n ∷ repeated ns else repeated ns
 
--- the names of pins and the placed names that are of a block and of a pad
-abbrev pub ambiguous : Parts → List (List ℕ)
-ambiguous parts = filter (λ n. is_block_name parts n && is_pad_name parts n) (pin_names parts.nets ++ placed_names parts.pads)
+-- the fault of a name that is of a block and of a pad
+abbrev pub if_both : Parts → List ℕ → List BuildFault
+if_both parts n = if is_block_name parts n && is_pad_name parts n then fault.DuplicateName n ∷ [] else []
 
--- the names of pins and the strangers that are of no block and of no pad
-abbrev pub unknown : Parts → List (List ℕ)
-unknown parts = filter (λ n. not (is_block_name parts n || is_pad_name parts n)) (pin_names parts.nets ++ parts.strangers)
+-- the fault of a name that is of no block and of no pad
+abbrev pub if_neither : Parts → List ℕ → List BuildFault
+if_neither parts n = if is_block_name parts n || is_pad_name parts n then [] else fault.UnknownName n ∷ []
 
--- whether it is a pin of the pad at index i of this name
-abbrev pub is_pin_of : ℕ → List ℕ → RawPin → Bool
-is_pin_of i n (raw.Named m) = bytes_eq n m
-is_pin_of i n (raw.Block b) = false
-is_pin_of i n (raw.Pad p) = p == i
+-- the fault of the name of a pin, which may have none
+abbrev pub at_pin_name : (List ℕ → List BuildFault) → RawPin → List BuildFault
+at_pin_name f (raw.Named n) = f n
+at_pin_name f (raw.Block b) = []
+at_pin_name f (raw.Pad p) = []
 
--- the pads, counted from i, that have a pin and no place
-abbrev pub unplaced : List RawPin → ℕ → List RawPad → List (List ℕ)
-unplaced pins i [] = []
-unplaced pins i (p ∷ ps) = if is_none p.place && list_any (is_pin_of i p.name) pins then p.name ∷ unplaced pins (i + 1) ps else unplaced pins (i + 1) ps
+-- the faults of the names of pins, net by net
+abbrev pub at_pin_names : (List ℕ → List BuildFault) → List RawNet → List BuildFault
+at_pin_names f nets = flat_map (λ n. flat_map (at_pin_name f) n.pins) nets
 
-abbrev pub missing_places : Parts → List (List ℕ)
-missing_places parts = if parts.pads_in then unplaced (all_pins parts.nets) 0 parts.pads else []
+-- the fault of the name of a pad that has a place
+abbrev pub at_placed_name : (List ℕ → List BuildFault) → RawPad → List BuildFault
+at_placed_name f p = if is_some p.place then f p.name else []
+
+-- names of two blocks, of two pads, or of a block and of a pad where a pin has the name or it has a place
+abbrev pub duplicates : Parts → List BuildFault
+duplicates parts =
+    map fault.DuplicateName (repeated (block_names parts.blocks))
+    ++ map fault.DuplicateName (repeated (pad_names parts.pads))
+    ++ at_pin_names (if_both parts) parts.nets
+    ++ flat_map (at_placed_name (if_both parts)) parts.pads
+
+abbrev pub unknowns : Parts → List BuildFault
+unknowns parts = at_pin_names (if_neither parts) parts.nets ++ flat_map (if_neither parts) parts.strangers
+
+-- Places.
+
+-- the index of a pin's block, if it has one
+abbrev pub block_of : List RawBlock → RawPin → Option ℕ
+block_of blocks (raw.Named n) = position_from (bytes_eq n) 0 (block_names blocks)
+block_of blocks (raw.Block b) = Some b
+block_of blocks (raw.Pad p) = None
+
+-- the index of a pin's pad, if it has one
+abbrev pub pad_of : List RawPad → RawPin → Option ℕ
+pad_of pads (raw.Named n) = position_from (bytes_eq n) 0 (pad_names pads)
+pad_of pads (raw.Block b) = None
+pad_of pads (raw.Pad p) = Some p
+
+abbrev pub is_index : ℕ → Option ℕ → Bool
+is_index i None = false
+is_index i (Some j) = j == i
+
+-- whether a net has a pin of the pad at index i
+abbrev pub is_wired : Parts → ℕ → Bool
+is_wired parts i = list_any (λ p. is_index i (pad_of parts.pads p)) (flat_map (λ n. n.pins) parts.nets)
+
+-- of pads that begin at index i, the faults of those that are in a net and have no place
+abbrev pub unplaced : (ℕ → Bool) → ℕ → List RawPad → List BuildFault
+unplaced wired i [] = []
+unplaced wired i (p ∷ ps) = if is_none p.place && wired i then fault.MissingPlace p.name ∷ unplaced wired (i + 1) ps else unplaced wired (i + 1) ps
+
+abbrev pub missing_places : Parts → List BuildFault
+missing_places parts = if parts.pads_in then unplaced (is_wired parts) 0 parts.pads else []
 
 -- All faults of the parts, in the order in which they are answered.
 
@@ -106,16 +132,11 @@ no_blocks parts = if length parts.blocks == 0 then fault.NoBlocks ∷ [] else []
 abbrev pub over_limits : Parts → List BuildFault
 over_limits parts = over_counts parts ++ flat_map (λ b. over_kind b.kind) parts.blocks ++ over_places parts
 
-abbrev pub duplicates : Parts → List (List ℕ)
-duplicates parts = repeated (block_names parts.blocks) ++ repeated (pad_names parts.pads) ++ ambiguous parts
+abbrev pub name_faults : Parts → List BuildFault
+name_faults parts = duplicates parts ++ unknowns parts ++ missing_places parts
 
 abbrev pub faults : Parts → List BuildFault
-faults parts =
-    no_blocks parts
-    ++ over_limits parts
-    ++ map fault.DuplicateName (duplicates parts)
-    ++ map fault.UnknownName (unknown parts)
-    ++ map fault.MissingPlace (missing_places parts)
+faults parts = no_blocks parts ++ over_limits parts ++ name_faults parts
 
 abbrev pub first : {X : Type 0} → List X → Option X
 first [] = None
@@ -125,8 +146,31 @@ first (x ∷ xs) = Some x
 abbrev pub first_refusal : Parts → Option BuildFault
 first_refusal parts = first (faults parts)
 
+-- what a test of these faults answers: the first of them, or that there is none
+abbrev pub IsFirstOf : {X : Type 0} → List BuildFault → Result X BuildFault → Type 0
+IsFirstOf fs result = MatchResult result (λ _. first fs ≡ None) (λ f. f ≢ fault.NoMemory → first fs ≡ Some f)
+
 abbrev pub IsAdmitted : Parts → Type 0
 IsAdmitted parts = first_refusal parts ≡ None
+
+-- What admitted parts keep.
+
+abbrev pub IsKindWithin : Kind → Type 0
+IsKindWithin (kind.Hard w h) = (w ≤ 2 ^ 20) × (h ≤ 2 ^ 20)
+IsKindWithin (kind.Soft area least most) = area ≤ 2 ^ 40
+
+abbrev pub IsPlaceWithin : Option (ℤ × ℤ) → Type 0
+IsPlaceWithin None = Unit {0}
+IsPlaceWithin (Some at) = (nat_abs at.0 ≤ 2 ^ 20) × (nat_abs at.1 ≤ 2 ^ 20)
+
+pub record KeepsLimits (parts : Parts) : Type 0 where
+  pub some_block : 1 ≤ length parts.blocks
+  pub few_blocks : length parts.blocks ≤ 320
+  pub few_pads : length parts.pads ≤ 16384
+  pub few_nets : length parts.nets ≤ 65536
+  pub few_pins : sum_by (λ n. length n.pins) parts.nets ≤ 1048576
+  pub kinds : All (λ b. IsKindWithin b.kind) parts.blocks
+  pub places : IsTrue parts.pads_in → All (λ p. IsPlaceWithin p.place) parts.pads
 
 -- What a reader keeps.
 

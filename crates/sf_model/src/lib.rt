@@ -1,16 +1,25 @@
 //! The model: designs, plans, and what a floorplan costs.
 #![tactic(auto)]
 
+pub mod admit;
+mod counted;
 pub mod design;
 pub mod fault;
+mod index;
 pub mod laws;
 pub mod lists;
 pub mod name;
+mod named;
 pub mod parts;
+mod placed;
 pub mod plan;
 pub mod raw;
 pub mod raw_lists;
+mod table;
+#[cfg(test)]
+mod tests;
 
+pub use admit::admitted_parts_keep_limits;
 pub use design::Design;
 pub use fault::{BuildFault, Limit};
 pub use lists::{BlockList, NetList, PadList, Pins, Shapes};

@@ -1,11 +1,11 @@
 -- Flags that say for each block whether it is among the tokens.
-use Rattle.std.proofs.Common.{◌≡◌, ℕ, ◌+◌, ◌<◌, ◌≤◌, Bool, true, false, List, [], ◌∷◌, ◌++◌, length, get_or, map, arith, refl, ap, sym, subst, ◌∙◌, inl, inr}
+use Rattle.std.proofs.Common.{◌≡◌, ℕ, ◌+◌, ◌<◌, Bool, true, false, List, [], ◌∷◌, ◌++◌, length, get_or, map, arith, refl, ap, sym, ◌∙◌, inl, inr}
 use Rattle.std.specs.Prelude.{◌||◌, ◌==◌, slice_set, replicate, ◌≢◌, Ok, Err}
-use Rattle.std.specs.List.{list_any, list_all, range_with_len}
+use Rattle.std.specs.List.{list_all, range_with_len}
 use Rattle.std.proofs.lemmas.Bool.Decides.{eqb_tells}
 use Rattle.std.proofs.lemmas.List.{get_or-set_same, get_or-set_other, length-set, get_or-replicate, length-replicate}
 use Rattle.std.proofs.lemmas.List.Folds.{list_any-append, list_all-map}
-use Rattle.std.proofs.lemmas.List.FromFn.{fill_by_all, get_or-map-range_with_len, length-map-range_with_len}
+use Rattle.std.proofs.lemmas.List.FromFn.{fill_by_all, get_or-map-range_with_len}
 use Rattle.sf_polish.specs.declared.expr.Token.{Token}
 use Rattle.sf_polish.specs.declared.expr.Token.TheVariants as token
 use Rattle.sf_polish.specs.declared.fault.ExprFault.TheVariants.{MissingBlock, NotBallot}
@@ -40,7 +40,7 @@ pub flags-none : (blocks : ℕ) (flags : List Bool) (ts : List Token) → ts ≡
 flags-none blocks flags ts none e =
     let n : length flags ≡ blocks = ap length e ∙ length-replicate blocks false in
     fill_by_all (λ b. is_named b ts) flags (length flags) false refl
-      (λ k h. ap (λ z. get_or z k false) e ∙ get_or-replicate blocks k false false (omega (arith, n)) ∙ sym (ap (is_named k) none))
+    (λ k h. ap (λ z. get_or z k false) e ∙ get_or-replicate blocks k false false (omega (arith, n)) ∙ sym (ap (is_named k) none))
 
 pub flag-at : (flags : List Bool) (ts : List Token) (b : ℕ) (d : Bool) → flags ≡ flags_of (length flags) ts → b < length flags → get_or flags b d ≡ is_named b ts
 flag-at flags ts b d e h = ap (λ z. get_or z b d) e ∙ get_or-map-range_with_len (λ b. is_named b ts) 0 (length flags) b b d h (omega arith)
@@ -55,7 +55,7 @@ flag-step flags ts b k e h i = elim (eqb_tells k b) [
 pub flags-push : (flags : List Bool) (ts new : List Token) (b : ℕ) → flags ≡ flags_of (length flags) ts → b < length flags → new ≡ ts ++ token.Block b ∷ [] → slice_set flags b true ≡ flags_of (length (slice_set flags b true)) new
 flags-push flags ts new b e h n =
     fill_by_all (λ k. is_named k new) (slice_set flags b true) (length (slice_set flags b true)) false refl
-      (λ k i. flag-step flags ts b k e h (omega (arith, length-set flags b true)) ∙ ap (is_named k) (sym n))
+    (λ k i. flag-step flags ts b k e h (omega (arith, length-set flags b true)) ∙ ap (is_named k) (sym n))
 
 -- all flags are set where each block is named
 pub flags-all : (flags : List Bool) (ts : List Token) → flags ≡ flags_of (length flags) ts → list_all (λ b. b) flags ≡ list_all (λ b. is_named b ts) (range_with_len 0 (length flags))

@@ -1,8 +1,8 @@
 -- The postfix of a skewed plan is normal, and each normal expression stands for one skewed plan.
-use Rattle.std.proofs.Common.{◌≡◌, ℕ, suc, ◌+◌, ◌-◌, ◌*◌, ◌<◌, ◌≤◌, List, [], ◌∷◌, ◌++◌, length, take, drop, get_or, All, take-append-drop, length-take, arith, refl, ap, sym, subst, ◌∙◌, Bool, true, false, cond, not, ◌==◌}
+use Rattle.std.proofs.Common.{◌≡◌, ℕ, suc, ◌+◌, ◌-◌, ◌<◌, ◌≤◌, List, [], ◌∷◌, ◌++◌, length, take, drop, get_or, take-append-drop, length-take, arith, refl, ap, sym, subst, ◌∙◌, false, cond, not, ◌==◌}
 use Prim.Native.Nat.{zero}
-use Rattle.std.specs.Prelude.{IsFalse, count_by, ⊤, nat_lt}
-use Rattle.std.specs.List.{AllByRecursion, AllAdjacentBelow}
+use Rattle.std.specs.Prelude.{IsFalse, count_by, nat_lt}
+use Rattle.std.specs.List.{AllByRecursion}
 use Rattle.std.proofs.lemmas.Bool.{lt-ltb, ltb-true, not_from_true, true_from_ne_false, true≢false}
 use Rattle.std.proofs.lemmas.List.Elements.{All-from_recursion, recursion_from_All}
 use Rattle.std.proofs.lemmas.List.Sums.{sum_by-cons}

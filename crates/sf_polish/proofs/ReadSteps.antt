@@ -1,11 +1,10 @@
 -- The steps of reading the words of a text one after another.
-use Rattle.std.proofs.Common.{◌≡◌, ℕ, List, [], ◌∷◌, ◌++◌, length, Option, Some, None, Result, Ok, Err, refl, ap, sym, subst, ◌∙◌}
+use Rattle.std.proofs.Common.{◌≡◌, ℕ, List, [], ◌∷◌, ◌++◌, length, Option, Some, None, Result, Ok, refl, ap, sym, subst, ◌∙◌}
 use Rattle.std.specs.Prelude.{replicate}
-use Rattle.std.proofs.lemmas.List.{length-replicate, length-set}
+use Rattle.std.proofs.lemmas.List.{length-set}
 use Rattle.sf_lex.specs.Scan.{LineWord, line_words, last_line_of}
 use Rattle.sf_model.specs.declared.parts.Shape.{Shape}
 use Rattle.sf_polish.specs.declared.expr.Token.{Token}
-use Rattle.sf_polish.specs.declared.expr.Token.TheVariants as token
 use Rattle.sf_polish.specs.declared.fault.ExprFault.{ExprFault}
 use Rattle.sf_polish.specs.declared.fault.ExprFault.TheVariants.{BadToken, NotBallot, NotNormal, RepeatedBlock, MissingBlock, NoMemory}
 use Rattle.sf_polish.specs.declared.piece.Piece.{Piece}

@@ -1,20 +1,18 @@
 -- The words of an expression's text are those that were written.
-use Rattle.std.proofs.Common.{◌≡◌, ℕ, zero, suc, ◌+◌, ◌*◌, ◌^◌, ◌<◌, ◌≤◌, Bool, true, false, cond, not, List, [], ◌∷◌, ◌++◌, length, arith, refl, ap, sym, subst, ◌∙◌, length-append, append-nil}
-use Rattle.std.specs.Prelude.{map, filter, ◌&&◌}
+use Rattle.std.proofs.Common.{◌≡◌, ℕ, ◌^◌, ◌<◌, Bool, true, false, not, List, [], ◌∷◌, ◌++◌, length, arith, refl, ap, ◌∙◌, length-append, append-nil}
+use Rattle.std.specs.Prelude.{map}
 use Rattle.std.specs.Fmt.{decimal}
-use Rattle.std.specs.List.{AllByRecursion, list_all, join_with_byte}
+use Rattle.std.specs.List.{AllByRecursion, join_with_byte}
 use Rattle.std.proofs.lemmas.Bool.Decides.{nat_tests}
-use Rattle.std.proofs.lemmas.Fmt.{decimal_nonempty}
 use Rattle.std.proofs.lemmas.List.{length-map}
 use Rattle.std.proofs.lemmas.List.Elements.{recursion_from_All}
 use Rattle.std.proofs.lemmas.List.Folds.{list_all-append}
 use Rattle.sf_lex.specs.Number.{is_digit}
-use Rattle.sf_lex.specs.Scan.{LineWord, Line, numbered, words_of_line, words_of_lines, line_words}
+use Rattle.sf_lex.specs.Scan.{LineWord, numbered, words_of_line, words_of_lines}
 use Rattle.sf_lex.specs.Text.{lines, words, is_blank_byte, is_line_feed, has_none}
 use Rattle.sf_lex.proofs.Decimals.{and_true}
 use Rattle.sf_lex.proofs.Spelled.{words-written, words-last}
 use Rattle.sf_lex.proofs.WrittenNumbers.{digits_written}
-use Rattle.sf_model.specs.declared.parts.Shape.{Shape}
 use Rattle.sf_polish.specs.declared.expr.Expr.{Expr}
 use Rattle.sf_polish.specs.declared.expr.Token.{Token}
 use Rattle.sf_polish.specs.declared.expr.Token.TheVariants as token

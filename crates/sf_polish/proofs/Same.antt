@@ -1,5 +1,5 @@
 -- A plan with the same leaves, size and spots is as legal, fits as well and costs the same.
-use Rattle.std.proofs.Common.{◌≡◌, ℕ, ◌<◌, List, All, arith, ap, sym, subst, ◌∙◌, ◌==◌}
+use Rattle.std.proofs.Common.{◌≡◌, ◌<◌, All, arith, ap, sym, subst, ◌∙◌, ◌==◌}
 use Rattle.std.specs.Prelude.{count_by, Contains}
 use Rattle.sf_model.specs.declared.design.Design.{Design}
 use Rattle.sf_model.specs.Tree.{Tree, leaves, width, height, spots_of}

@@ -1,10 +1,10 @@
 -- A plan with each block once is spelled by its postfix and the shapes of its leaves.
-use Rattle.std.proofs.Common.{◌≡◌, ℕ, ◌+◌, ◌<◌, ◌≤◌, Bool, true, false, cond, List, [], ◌∷◌, ◌++◌, length, get_or, All, arith, refl, ap, sym, subst, ◌∙◌, inl, inr}
-use Rattle.std.specs.Prelude.{◌==◌, count_by, slice_set, replicate, ◌≢◌}
+use Rattle.std.proofs.Common.{◌≡◌, ℕ, ◌+◌, ◌<◌, ◌≤◌, true, false, cond, List, [], ◌∷◌, ◌++◌, length, arith, refl, ap, sym, subst, ◌∙◌, inl, inr}
+use Rattle.std.specs.Prelude.{◌==◌, count_by, ◌≢◌}
 use Rattle.std.specs.List.{AllByRecursion}
 use Rattle.std.proofs.lemmas.Bool.{cases_lt}
 use Rattle.std.proofs.lemmas.Bool.Decides.{eqb_tells}
-use Rattle.std.proofs.lemmas.List.{ext_get_or, get_or-set_same, get_or-set_other, length-set, length-replicate}
+use Rattle.std.proofs.lemmas.List.{ext_get_or, get_or-set_same, get_or-set_other, length-set}
 use Rattle.std.proofs.lemmas.List.Elements.{All-from_recursion, recursion_from_All}
 use Rattle.std.proofs.lemmas.List.Sums.{sum_by-cons, sum_by-append}
 use Rattle.sf_model.specs.declared.parts.Shape.{Shape}
@@ -53,12 +53,12 @@ shapes-move : (t : Tree) (f g : List Shape) → ((b : ℕ) → 1 ≤ leaf_times 
 shapes-move (Leaf b s) f g agree h = (h.0 ∙ sym (agree b (omega (arith, leaf_once b s))), tt)
 shapes-move (Beside l r) f g agree h =
     each-append _ (leaves l) (leaves r)
-      (shapes-move l f g (λ b k. agree b (omega (arith, k, both_times b l r))) (each-left _ (leaves l) (leaves r) h))
-      (shapes-move r f g (λ b k. agree b (omega (arith, k, both_times b l r))) (each-right _ (leaves l) (leaves r) h))
+    (shapes-move l f g (λ b k. agree b (omega (arith, k, both_times b l r))) (each-left _ (leaves l) (leaves r) h))
+    (shapes-move r f g (λ b k. agree b (omega (arith, k, both_times b l r))) (each-right _ (leaves l) (leaves r) h))
 shapes-move (Above l r) f g agree h =
     each-append _ (leaves l) (leaves r)
-      (shapes-move l f g (λ b k. agree b (omega (arith, k, both_times b l r))) (each-left _ (leaves l) (leaves r) h))
-      (shapes-move r f g (λ b k. agree b (omega (arith, k, both_times b l r))) (each-right _ (leaves l) (leaves r) h))
+    (shapes-move l f g (λ b k. agree b (omega (arith, k, both_times b l r))) (each-left _ (leaves l) (leaves r) h))
+    (shapes-move r f g (λ b k. agree b (omega (arith, k, both_times b l r))) (each-right _ (leaves l) (leaves r) h))
 
 -- no block is among the leaves twice
 abbrev pub IsApart : Tree → Type 0
@@ -72,12 +72,12 @@ pub with-shapes : (t : Tree) (shapes : List Shape) → HasBlocksBelow (length sh
 with-shapes (Leaf b s) shapes h apart = (sym (get_or-set_same shapes b s no_shape h), tt)
 with-shapes (Beside l r) shapes h apart =
     with-both l r shapes (with-shapes l shapes h.0 (λ b. omega (arith, apart b, both_times b l r)))
-      (with-shapes r (with_leaves shapes l) (subst (λ n. HasBlocksBelow n r) (sym (length-with_leaves l shapes)) h.1) (λ b. omega (arith, apart b, both_times b l r)))
-      (λ b. omega (arith, apart b, both_times b l r))
+    (with-shapes r (with_leaves shapes l) (subst (λ n. HasBlocksBelow n r) (sym (length-with_leaves l shapes)) h.1) (λ b. omega (arith, apart b, both_times b l r)))
+    (λ b. omega (arith, apart b, both_times b l r))
 with-shapes (Above l r) shapes h apart =
     with-both l r shapes (with-shapes l shapes h.0 (λ b. omega (arith, apart b, both_times b l r)))
-      (with-shapes r (with_leaves shapes l) (subst (λ n. HasBlocksBelow n r) (sym (length-with_leaves l shapes)) h.1) (λ b. omega (arith, apart b, both_times b l r)))
-      (λ b. omega (arith, apart b, both_times b l r))
+    (with-shapes r (with_leaves shapes l) (subst (λ n. HasBlocksBelow n r) (sym (length-with_leaves l shapes)) h.1) (λ b. omega (arith, apart b, both_times b l r)))
+    (λ b. omega (arith, apart b, both_times b l r))
 
 below-leaves : (n : ℕ) (t : Tree) → AllByRecursion (λ leaf. leaf.0 < n) (leaves t) → HasBlocksBelow n t
 below-leaves n (Leaf b s) h = h.0
@@ -130,7 +130,7 @@ same-expr front others shapes more e f = cc
 pub one-expression : (n : ℕ) (e f : Expr) (t : Tree) → HasEachOnce n t → length e.shapes ≡ n → length f.shapes ≡ n → Spells e t → Spells f t → e ≡ f
 one-expression n e f t once es fs s u =
     same-expr e.tokens f.tokens e.shapes f.shapes (sym s.tokens ∙ u.tokens)
-      (ext_get_or no_shape e.shapes f.shapes (es ∙ sym fs) (λ b h. leaf-shape e.shapes f.shapes b t (recursion_from_All _ (leaves t) s.shapes) (recursion_from_All _ (leaves t) u.shapes) (omega (arith, once.each_once b (omega (arith, es))))))
+    (ext_get_or no_shape e.shapes f.shapes (es ∙ sym fs) (λ b h. leaf-shape e.shapes f.shapes b t (recursion_from_All _ (leaves t) s.shapes) (recursion_from_All _ (leaves t) u.shapes) (omega (arith, once.each_once b (omega (arith, es))))))
 
 leaves-inside : (n : ℕ) (t : Tree) → AllByRecursion (λ x. is_outside n x ≡ false) (postfix t) → AllByRecursion (λ leaf. leaf.0 < n) (leaves t)
 leaves-inside n (Leaf b s) h = (inside-number n b h.0, tt)

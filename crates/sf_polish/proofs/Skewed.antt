@@ -1,7 +1,7 @@
 -- Each plan has a skewed plan with the same leaves and the same spots: a right child with its parent's operator is taken apart.
-use Rattle.std.proofs.Common.{◌≡◌, ℕ, ◌+◌, max, List, [], ◌∷◌, ◌++◌, append_assoc, arith, refl, ap, sym, ◌∙◌}
+use Rattle.std.proofs.Common.{◌≡◌, ℕ, ◌+◌, max, ◌++◌, append_assoc, arith, refl, ap, ◌∙◌}
 use Rattle.sf_model.specs.Tree.{Tree, Leaf, Beside, Above, width, height, leaves, spots_at}
-use Rattle.sf_polish.specs.Postfix.{IsSkewed, is_beside, is_above}
+use Rattle.sf_polish.specs.Postfix.{IsSkewed}
 use Rattle.sf_polish.specs.Skewing.{beside, above, skewed, IsSamePlace}
 
 -- t is the plan of l and r side by side

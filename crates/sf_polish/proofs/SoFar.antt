@@ -1,20 +1,20 @@
 -- Tokens that are read one after another without a fault are the front of normal tokens, and at the end they are normal.
-use Rattle.std.proofs.Common.{◌≡◌, ℕ, zero, suc, ◌+◌, ◌-◌, ◌*◌, ◌<◌, ◌≤◌, Bool, true, false, cond, not, List, [], ◌∷◌, ◌++◌, length, take, All, Option, Some, None, Result, Ok, Err, append_assoc, append-nil, length-append, arith, refl, ap, sym, subst, ◌∙◌, inl, inr}
+use Rattle.std.proofs.Common.{◌≡◌, ℕ, zero, suc, ◌+◌, ◌-◌, ◌<◌, ◌≤◌, Bool, true, false, cond, not, List, [], ◌∷◌, ◌++◌, Option, Some, None, Result, Ok, Err, append_assoc, append-nil, arith, refl, ap, sym, subst, ◌∙◌, inl, inr}
 use Rattle.std.specs.Prelude.{count_by, nat_le, ◌==◌, ◌||◌, map}
-use Rattle.std.specs.List.{AllByRecursion, list_any, list_all, range_with_len}
+use Rattle.std.specs.List.{AllByRecursion, list_all, range_with_len}
 use Rattle.std.proofs.lemmas.Bool.Decides.{eqb_tells, leb_tells}
 use Rattle.std.proofs.lemmas.List.Elements.{All-from_recursion, recursion_from_All}
 use Rattle.std.proofs.lemmas.List.Sums.{sum_by-cons, sum_by-append}
 use Rattle.std.proofs.lemmas.Bool.{cases_lt}
 use Rattle.sf_lex.proofs.Decimals.{and_true}
 use Rattle.sf_model.proofs.Counting.{length-each_once}
-use Rattle.sf_model.proofs.Each.{each-append, each-left, each-right}
+use Rattle.sf_model.proofs.Each.{each-append, each-right}
 use Rattle.sf_lex.specs.Scan.{LineWord}
 use Rattle.sf_polish.specs.declared.expr.Token.{Token}
 use Rattle.sf_polish.specs.declared.expr.Token.TheVariants as token
 use Rattle.sf_polish.specs.declared.fault.ExprFault.{ExprFault}
-use Rattle.sf_polish.specs.declared.fault.ExprFault.TheVariants.{BadToken, NotBallot, NotNormal, RepeatedBlock, MissingBlock}
-use Rattle.sf_polish.specs.Normal.{is_operand, is_block, is_outside, same_operator, last_or, ends_in, operands, operators, IsNormal}
+use Rattle.sf_polish.specs.declared.fault.ExprFault.TheVariants.{NotBallot, NotNormal, RepeatedBlock, MissingBlock}
+use Rattle.sf_polish.specs.Normal.{is_block, is_outside, same_operator, last_or, ends_in, operands, operators, IsNormal}
 use Rattle.sf_polish.specs.Reading.{is_named, operator_after, token_after, ended, tokens_from, ◌>>=◌}
 use Rattle.sf_polish.proofs.Normality.{Reads-ballot, alternates, numbers, length-numbers, count-numbers, numbers-below, inside-number, both-kinds, normal-reads, first-free}
 use Rattle.sf_polish.proofs.ReadSteps.{tokens-step, tokens-end}
@@ -216,8 +216,8 @@ module _ (blocks last : ℕ) (spelled : List ℕ → Option Token) where
       record { rest = t ∷ k.rest; whole = k.whole ∙ append_assoc earlier (t ∷ []) k.rest; words = cc (e, k.words); normal = k.normal }
 
   by_word : (earlier us : List Token) (word : LineWord) (more : List LineWord) (o : Option Token) (r : Result Token ExprFault) → IsFront blocks earlier → ((t : Token) → spelled word.text ≡ Some t → is_outside blocks t ≡ false)
-    → ((t : Token) → IsFront blocks (earlier ++ t ∷ []) → tokens_from blocks last spelled (earlier ++ t ∷ []) more ≡ Ok us → IsSpelled blocks spelled (earlier ++ t ∷ []) more us)
-    → spelled word.text ≡ o → token_after earlier word.line o ≡ r → (r >>= (λ t. tokens_from blocks last spelled (earlier ++ t ∷ []) more)) ≡ Ok us → IsSpelled blocks spelled earlier (word ∷ more) us
+      → ((t : Token) → IsFront blocks (earlier ++ t ∷ []) → tokens_from blocks last spelled (earlier ++ t ∷ []) more ≡ Ok us → IsSpelled blocks spelled (earlier ++ t ∷ []) more us)
+      → spelled word.text ≡ o → token_after earlier word.line o ≡ r → (r >>= (λ t. tokens_from blocks last spelled (earlier ++ t ∷ []) more)) ≡ Ok us → IsSpelled blocks spelled earlier (word ∷ more) us
   by_word earlier us word more o (Err e) front within next p q h = absurd cc
   by_word earlier us word more None (Ok u) front within next p q h = absurd cc
   by_word earlier us word more (Some t) (Ok u) front within next p q h =
@@ -253,13 +253,13 @@ module _ (blocks last : ℕ) (spelled : List ℕ → Option Token) where
         let within = (each-right _ earlier (token.Block b ∷ rest) (subst (AllByRecursion (λ t. is_outside blocks t ≡ false)) e inside)).0 in
         let same : (b == b) ≡ true = elim (eqb_tells b b) [ inl p ↦ p.0 | inr p ↦ absurd (p.1 refl) ] in
         let none : count_by (is_block b) earlier ≡ 0 = omega (
-            arith,
-            normal.each_once b (inside-number blocks b within),
-            ap (count_by (is_block b)) e,
-            sum_by-append (λ x. cond (is_block b x) 1 0) earlier (token.Block b ∷ rest),
-            times-cons b (token.Block b) rest,
-            ap {B = ℕ} (λ z. cond z 1 0) same,
-          ) in
+          arith,
+          normal.each_once b (inside-number blocks b within),
+          ap (count_by (is_block b)) e,
+          sum_by-append (λ x. cond (is_block b x) 1 0) earlier (token.Block b ∷ rest),
+          times-cons b (token.Block b) rest,
+          ap {B = ℕ} (λ z. cond z 1 0) same,
+        ) in
         rw (uncounted b earlier none) refl
 
     end-passes : ended blocks last ts ≡ Ok ts

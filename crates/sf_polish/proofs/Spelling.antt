@@ -1,6 +1,6 @@
 -- The tree that an expression stands for, by reading its tokens onto a stack of trees.
-use Rattle.std.proofs.Common.{◌≡◌, ℕ, suc, ◌+◌, ◌-◌, ◌*◌, ◌<◌, ◌≤◌, List, [], ◌∷◌, ◌++◌, length, All, append_assoc, append-nil, arith, refl, ap, sym, subst, ◌∙◌, Bool, true, false}
-use Rattle.std.specs.Prelude.{IsFalse, ⊤}
+use Rattle.std.proofs.Common.{◌≡◌, ℕ, ◌+◌, ◌-◌, List, [], ◌∷◌, ◌++◌, length, append_assoc, append-nil, arith, refl, ap, sym, subst, ◌∙◌, false}
+use Rattle.std.specs.Prelude.{⊤}
 use Rattle.std.specs.List.{AllByRecursion}
 use Rattle.std.proofs.lemmas.List.Elements.{All-from_recursion, recursion_from_All}
 use Rattle.sf_model.specs.declared.parts.Shape.{Shape}
@@ -9,7 +9,7 @@ use Rattle.sf_model.proofs.Each.{each-append, each-left, each-right}
 use Rattle.sf_polish.specs.declared.expr.Expr.{Expr}
 use Rattle.sf_polish.specs.declared.expr.Token.{Token}
 use Rattle.sf_polish.specs.declared.expr.Token.TheVariants as token
-use Rattle.sf_polish.specs.Normal.{same_operator, last_or}
+use Rattle.sf_polish.specs.Normal.{same_operator}
 use Rattle.sf_polish.specs.Postfix.{postfix, is_beside, is_above, IsSkewed, shape_at, Spells}
 use Rattle.sf_polish.proofs.Stack.{Reads, Alternating, top}
 

@@ -1,12 +1,12 @@
 -- What a text is read as is what its words spell, and the other way round.
-use Rattle.std.proofs.Common.{◌≡◌, ℕ, zero, suc, ◌+◌, ◌*◌, ◌^◌, ◌<◌, ◌≤◌, Bool, true, false, cond, List, [], ◌∷◌, ◌++◌, length, get_or, All, Option, Some, None, Result, Ok, Err, arith, refl, ap, sym, subst, ◌∙◌, inl, inr}
-use Rattle.std.specs.Prelude.{count_by, map, replicate, slice_set, ◌==◌, ◌||◌}
+use Rattle.std.proofs.Common.{◌≡◌, ℕ, ◌^◌, ◌<◌, ◌≤◌, true, false, cond, List, [], ◌∷◌, ◌++◌, length, Option, Some, None, Result, Ok, Err, arith, refl, ap, sym, subst, ◌∙◌, inl, inr}
+use Rattle.std.specs.Prelude.{count_by, map, replicate, slice_set, ◌==◌}
 use Rattle.std.specs.Fmt.{decimal}
 use Rattle.std.specs.List.{AllByRecursion}
 use Rattle.std.specs.Option.{option_map}
 use Rattle.std.proofs.lemmas.Bool.{cases_lt}
 use Rattle.std.proofs.lemmas.Bool.Decides.{eqb_tells}
-use Rattle.std.proofs.lemmas.List.{get_or-set_same, get_or-set_other, get_or_default, length-set, length-replicate, ext_get_or}
+use Rattle.std.proofs.lemmas.List.{get_or-set_same, get_or-set_other, get_or_default, length-replicate, ext_get_or}
 use Rattle.std.proofs.lemmas.List.Elements.{recursion_from_All}
 use Rattle.sf_lex.specs.Scan.{LineWord, line_words, last_line_of}
 use Rattle.sf_model.specs.declared.parts.Shape.{Shape}
@@ -21,11 +21,11 @@ use Rattle.sf_polish.specs.Normal.{is_block, is_outside, IsNormal}
 use Rattle.sf_polish.specs.Postfix.{shape_at}
 use Rattle.sf_polish.specs.Reading.{is_named, tokens_from, shapes_with, shapes_from, tokens_read, expr_of_parts, expr_read, ◌>>=◌}
 use Rattle.sf_polish.specs.Shaping.{no_shape}
-use Rattle.sf_polish.specs.Text.{token_text, shape_text, shaped_text, expr_words, IsWritable, SpellsTokens, SpellsExpr}
+use Rattle.sf_polish.specs.Text.{token_text, shape_text, shaped_text, IsWritable, SpellsTokens, SpellsExpr}
 use Rattle.sf_polish.specs.Word.{token_in, piece_in, shaped_token_in, token_of}
 use Rattle.sf_polish.proofs.ReadSteps.{expr-read, shapes-step, shapes-end, shapes-same}
-use Rattle.sf_polish.proofs.SoFar.{IsFront, front-start, spelled_by, IsSpelled, tokens-known, tokens-again, unnamed, uncounted, counted, times-cons, uncounted-outside}
-use Rattle.sf_polish.proofs.WordTexts.{IsToken, token-known, token-written, IsPiece, piece-known, piece-written, piece_text, piece_sides, piece_at, below}
+use Rattle.sf_polish.proofs.SoFar.{front-start, spelled_by, tokens-known, tokens-again, unnamed, uncounted, counted, times-cons, uncounted-outside}
+use Rattle.sf_polish.proofs.WordTexts.{token-known, token-written, IsPiece, piece-known, piece-written, piece_text, piece_sides, piece_at, below}
 
 -- ---- texts of tokens
 
@@ -145,9 +145,9 @@ module _ (blocks : ℕ) (small : blocks < 2 ^ 16) where
       let at = piece-written-at cur s.part ws rest n s.word.within others (λ b. subst (λ x. count_by (is_block b) (x ∷ rest) ≤ 1) (sym s.token) (times b)) in
       let word : w.text ≡ shaped_text (shapes_from blocks next ws) t = word-kept w.text s.part (shapes_from blocks next ws) s.word at ∙ ap (shaped_text (shapes_from blocks next ws)) s.token in
       subst (AreKept (w ∷ ws) (t ∷ rest)) (sym step) (record {
-          words = cc (word, more.words);
-          sides = λ b k. side-kept w.text s.part rest (shapes_from blocks next ws) b s.word at (more.sides b) (ap (λ x. is_named b (x ∷ rest)) s.token ∙ k);
-        })
+        words = cc (word, more.words);
+        sides = λ b k. side-kept w.text s.part rest (shapes_from blocks next ws) b s.word at (more.sides b) (ap (λ x. is_named b (x ∷ rest)) s.token ∙ k);
+      })
 
   ok-parts : (shapes : List Shape) (r : Result (List Token) ExprFault) (expr : Expr) → (r >>= expr_of_parts shapes) ≡ Ok expr → (r ≡ Ok expr.tokens) × (expr.shapes ≡ shapes)
   ok-parts shapes (Err e) expr h = absurd cc
@@ -170,7 +170,7 @@ module _ (blocks : ℕ) (small : blocks < 2 ^ 16) where
       let kept = shapes-written ws expr.tokens start (length-replicate blocks no_shape) (s.words ∙ ap (map Some) (sym s.whole)) (at-most-once expr.tokens s.normal) in
       let n : length expr.shapes ≡ blocks = ap length parts.1 ∙ length-shapes ws start ∙ length-replicate blocks no_shape in
       let side : (b : ℕ) → b < blocks → IsSide (shape_at expr.shapes b).w × IsSide (shape_at expr.shapes b).h = λ b k.
-          subst (λ z. IsSide (shape_at z b).w × IsSide (shape_at z b).h) (sym parts.1) (kept.sides b (counted b expr.tokens (omega (arith, s.normal.each_once b k)))) in
+      subst (λ z. IsSide (shape_at z b).w × IsSide (shape_at z b).h) (sym parts.1) (kept.sides b (counted b expr.tokens (omega (arith, s.normal.each_once b k)))) in
       record {
         words = kept.words ∙ ap (λ z. map (shaped_text z) expr.tokens) (sym parts.1);
         writable = record {

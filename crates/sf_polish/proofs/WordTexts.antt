@@ -1,5 +1,5 @@
 -- What a word spells, and how that is written, correspond.
-use Rattle.std.proofs.Common.{◌≡◌, ℕ, suc, ◌+◌, ◌-◌, ◌*◌, ◌^◌, ◌<◌, ◌≤◌, Bool, true, false, cond, not, List, [], ◌∷◌, ◌++◌, length, get_or, Option, Some, None, arith, rules, tests, refl, ap, sym, subst, ◌∙◌, inl, inr, lit<}
+use Rattle.std.proofs.Common.{◌≡◌, ℕ, suc, ◌+◌, ◌^◌, ◌<◌, ◌≤◌, Bool, true, false, cond, not, List, [], ◌∷◌, ◌++◌, length, get_or, Option, Some, None, arith, rules, tests, refl, ap, sym, subst, ◌∙◌, inl, inr, lit<}
 use Rattle.std.specs.Prelude.{fold, nat_lt, nat_le, ◌==◌, ◌||◌, ◌&&◌}
 use Rattle.std.specs.Fmt.{decimal}
 use Rattle.std.specs.List.{list_all, position_or_len, before_first, after_first}
@@ -8,8 +8,8 @@ use Rattle.std.proofs.lemmas.Bool.Decides.{nat_tests, eqb_tells}
 use Rattle.std.proofs.lemmas.Fmt.{decimal-digits_value, decimal_nonempty}
 use Rattle.std.proofs.lemmas.List.{length-append}
 use Rattle.std.proofs.lemmas.Str.Parse.{IsNumeralModel, IsDigitsTest, numerals_by_fold}
-use Rattle.sf_lex.specs.Number.{is_digit, is_zero, number_of}
-use Rattle.sf_lex.specs.Text.{is_not_empty, has_none, is_blank_byte}
+use Rattle.sf_lex.specs.Number.{is_digit, number_of}
+use Rattle.sf_lex.specs.Text.{is_not_empty, has_none}
 use Rattle.sf_lex.specs.Whole.{is_plain, begins_with_zero, up_to, plain_read}
 use Rattle.sf_lex.proofs.Decimals.{digit_step, and_true}
 use Rattle.sf_lex.proofs.WrittenNumbers.{digits_written, plain_written}
@@ -21,7 +21,7 @@ use Rattle.sf_polish.specs.declared.piece.Piece.{Piece}
 use Rattle.sf_polish.specs.declared.piece.Piece.TheVariants as piece
 use Rattle.sf_polish.specs.Normal.{is_outside}
 use Rattle.sf_polish.specs.Postfix.{shape_at}
-use Rattle.sf_polish.specs.Text.{token_text, shape_text, shaped_text}
+use Rattle.sf_polish.specs.Text.{token_text, shape_text}
 use Rattle.sf_polish.specs.Word.{is_byte, is_colon, is_times, when_is, block_in, side_in, shape_of_sides, shape_in, token_in, block_of_parts, piece_in, token_of}
 
 -- ---- numbers
@@ -254,7 +254,7 @@ shape-by word s (Some w) (Some h) e f k =
     let upward = side-known h (after_first is_times word) f in
     let some : 0 < length (after_first is_times word) = omega (arith, ap length upward.0, decimal_nonempty h (omega (arith, upward.1.1))) in
     subst (λ s. (word ≡ shape_text s) × IsSide s.w × IsSide s.h) same
-      (cut-known 120 word some ∙ ap (λ z. z ++ (120 ∷ after_first is_times word)) across.0 ∙ ap (λ z. decimal w ++ (120 ∷ z)) upward.0, across.1, upward.1)
+    (cut-known 120 word some ∙ ap (λ z. z ++ (120 ∷ after_first is_times word)) across.0 ∙ ap (λ z. decimal w ++ (120 ∷ z)) upward.0, across.1, upward.1)
 
 shape-known : (word : List ℕ) (s : Shape) → shape_in word ≡ Some s → (word ≡ shape_text s) × IsSide s.w × IsSide s.h
 unfolding shape_in
@@ -266,7 +266,6 @@ pub record IsPiece (blocks : ℕ) (word : List ℕ) (p : Piece) : Type 0 where
   pub sides : piece_sides p
 
 piece_of_parts : (blocks : ℕ) (word : List ℕ) (p : Piece) (b : Option ℕ) (s : Option Shape) → blocks < 2 ^ 16 → block_in blocks (before_first is_colon word) ≡ b → shape_in (after_first is_colon word) ≡ s → block_of_parts b s ≡ Some p → IsPiece blocks word p
-
 piece_of_parts blocks word p None s small e f h = absurd cc
 piece_of_parts blocks word p (Some b) None small e f h = absurd cc
 piece_of_parts blocks word p (Some b) (Some s) small e f h =
@@ -275,13 +274,12 @@ piece_of_parts blocks word p (Some b) (Some s) small e f h =
     let shape = shape-known (after_first is_colon word) s f in
     let some : 0 < length (after_first is_colon word) = omega (arith, ap length shape.0, length-append (decimal s.w) (120 ∷ decimal s.h)) in
     subst (IsPiece blocks word) same (record {
-        text = cut-known 58 word some ∙ ap (λ z. z ++ (58 ∷ after_first is_colon word)) number.0 ∙ ap (λ z. decimal b ++ (58 ∷ z)) shape.0;
-        within = inside blocks b number.1;
-        sides = (shape.1, shape.2);
-      })
+      text = cut-known 58 word some ∙ ap (λ z. z ++ (58 ∷ after_first is_colon word)) number.0 ∙ ap (λ z. decimal b ++ (58 ∷ z)) shape.0;
+      within = inside blocks b number.1;
+      sides = (shape.1, shape.2);
+    })
 
 piece-by : (blocks : ℕ) (word : List ℕ) (p : Piece) (star plus : Bool) → blocks < 2 ^ 16 → is_byte 42 word ≡ star → is_byte 43 word ≡ plus → cond star (Some piece.Beside) (cond plus (Some piece.Above) (block_of_parts (block_in blocks (before_first is_colon word)) (shape_in (after_first is_colon word)))) ≡ Some p → IsPiece blocks word p
-
 piece-by blocks word p true plus small s e h =
     let same : piece.Beside ≡ p = cc in
     subst (IsPiece blocks word) same (record { text = byte-known 42 word s; within = refl; sides = tt })

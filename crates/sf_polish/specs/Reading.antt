@@ -78,8 +78,3 @@ expr_read blocks text = tokens_from blocks (last_line_of text) (shaped_token_in 
 abbrev pub Fails : {X : Type 0} → ExprFault → Result X ExprFault → Type 0
 Fails NoMemory read = Unit {0}
 Fails fault read = read ≡ Err fault
-
--- what a function returned is what reading gives, unless memory ran out
-abbrev pub Gives : {X : Type 0} → Result X ExprFault → Result X ExprFault → Type 0
-Gives (Ok x) read = read ≡ Ok x
-Gives (Err fault) read = Fails fault read

@@ -1,7 +1,7 @@
 -- What a word of a text spells by itself.
-use Rattle.std.specs.Prelude.{ℕ, Bool, true, false, cond, ◌==◌, nat_lt, nat_le, List, [], ◌∷◌, Option, Some, None, if◌then◌else◌}
+use Rattle.std.specs.Prelude.{ℕ, Bool, false, ◌==◌, nat_lt, nat_le, List, [], ◌∷◌, Option, Some, None, if◌then◌else◌}
 use Rattle.std.specs.List.{before_first, after_first}
-use Rattle.std.specs.Option.{option_map, option_and_then}
+use Rattle.std.specs.Option.{option_map}
 use Rattle.sf_lex.specs.Whole.{plain_read}
 use Rattle.sf_model.specs.declared.parts.Shape.{Shape}
 use Rattle.sf_polish.specs.declared.expr.Token.{Token}

@@ -28,3 +28,6 @@ pub use shape_of_tokens::is_normal;
 pub use skew::normalise;
 pub use spell::plan_of;
 pub use write::{push_expr, write_expr};
+
+#[cfg(test)]
+mod tests;

@@ -1,5 +1,5 @@
 -- What stands behind two hyphens.
-use Rattle.std.proofs.Common.{◌≡◌, ◌≢◌, ℕ, List, [], ◌∷◌, Option, Some, None, MatchOption, Bor, refl, sym, ap, ◌∙◌}
+use Rattle.std.proofs.Common.{◌≡◌, ◌≢◌, ℕ, List, ◌∷◌, Option, Some, None, MatchOption, Bor, sym, ap, ◌∙◌}
 use Rattle.sf_words.specs.Table.{Text}
 
 pub behind_two : (bs tail : Text) (r : Option (Bor (List ℕ))) → bs ≡ 45 ∷ tail

@@ -1,12 +1,10 @@
 -- The text of an option among others.
-use Rattle.std.proofs.Common.{◌≡◌, ◌≢◌, ℕ, ◌<◌, ◌+◌, Bool, true, false, cond, List, [], ◌∷◌, ◌++◌, length, get_or, take, map, Option, Some, None, IfNone, refl, sym, ap, ◌∙◌, arith, zero, suc, rules}
+use Rattle.std.proofs.Common.{◌≡◌, ◌≢◌, Bool, true, false, Option, Some, None, IfNone, refl, ap, arith}
 use Rattle.std.specs.Str.{bytes_eq}
 use Rattle.std.specs.Bool.{Decides}
 use Rattle.std.proofs.lemmas.Slice.Eq.{bytes_eq-Decides}
 use Rattle.sf_words.specs.declared.options.Key.{Key}
 use Rattle.sf_words.specs.Table.{Text, key_text}
-use Rattle.sf_words.specs.Words.{Token, key_of, value_of}
-use Rattle.sf_words.specs.Meaning.{value_in}
 use Rattle.sf_words.proofs.Texts.{key_text-injective}
 
 pub bytes_eq-same : {xs ys : Text} → xs ≡ ys → bytes_eq xs ys ≡ true

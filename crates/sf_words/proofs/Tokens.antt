@@ -1,5 +1,5 @@
 -- The options that words are made of are determined by the words.
-use Rattle.std.proofs.Common.{◌≡◌, ◌≢◌, ℕ, Bool, true, false, List, [], ◌∷◌, ◌++◌, Option, Some, None, Contains, refl, ◌≤◌, length, get_or, drop, take, subst, ◌<◌, zero, suc, ◌-◌, map, arith, sym, ap, ap₂, ◌∙◌}
+use Rattle.std.proofs.Common.{◌≡◌, ◌≢◌, ℕ, true, false, List, [], ◌∷◌, ◌++◌, Contains, refl, ◌≤◌, length, get_or, drop, take, subst, ◌<◌, zero, suc, ◌-◌, map, arith, sym, ap, ap₂, ◌∙◌}
 use Rattle.std.proofs.lemmas.List.{take_all}
 use Rattle.sf_words.specs.declared.options.Key.{Key}
 use Rattle.sf_words.specs.declared.options.Mode.{Mode}

@@ -1,12 +1,11 @@
 -- A list of words has at most one meaning.
-use Rattle.std.proofs.Common.{◌≡◌, ◌≢◌, ℕ, Bool, true, false, cond, List, [], ◌∷◌, Option, Some, None, Result, Ok, codes, refl, sym, ap, ap₂, subst, ◌∙◌}
+use Rattle.std.proofs.Common.{◌≡◌, ◌≢◌, ℕ, List, Option, Some, None, Result, Ok, codes, refl, sym, ap, subst, ◌∙◌}
 use Rattle.sf_words.specs.declared.options.Mode.{Mode}
-use Rattle.sf_words.specs.declared.options.Mode.TheVariants.{Plan, Check, Measure, Shape, Gen}
 use Rattle.sf_words.specs.declared.options.Key.{Key}
-use Rattle.sf_words.specs.declared.options.Key.TheVariants.{Format, Blocks, Nets, Pl, Yal, PerUnit, Fixed, Shapes, Outline, AreaWeight, WireWeight, Cert, PlOut, Workers, Nodes, Placed, Expr, Seed, Count, Kinds as KindsKey, Out}
-use Rattle.sf_words.specs.Table.{Text, mode_text}
-use Rattle.sf_words.specs.Words.{Token, HasForm, AreOptions, words_of}
-use Rattle.sf_words.specs.Numbers.{SaysNumber, SaysOptional, default_of}
+use Rattle.sf_words.specs.declared.options.Key.TheVariants.{PerUnit, Shapes, Outline, AreaWeight, WireWeight, Workers, Nodes, Seed, Count}
+use Rattle.sf_words.specs.Table.{Text}
+use Rattle.sf_words.specs.Words.{Token, HasForm}
+use Rattle.sf_words.specs.Numbers.{SaysNumber, SaysOptional}
 use Rattle.sf_words.specs.declared.command.Kinds.{Kinds}
 use Rattle.sf_words.specs.declared.command.Kinds.TheVariants.{Hard, Mixed}
 use Rattle.sf_words.specs.Outline.{OutlineSays}

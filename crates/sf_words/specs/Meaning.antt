@@ -1,5 +1,5 @@
 -- What the words mean: a command with its options and defaults.
-use Rattle.std.specs.Prelude.{◌≡◌, ◌≢◌, ℕ, ◌+◌, ◌⊎◌, ◌<◌, Bool, true, false, cond, List, [], ◌∷◌, Option, Some, None, is_some, codes}
+use Rattle.std.specs.Prelude.{◌≡◌, ℕ, ◌+◌, ◌⊎◌, ◌<◌, Bool, cond, List, [], ◌∷◌, Option, Some, None, is_some, codes}
 use Rattle.std.specs.Str.{bytes_eq}
 use Rattle.sf_words.specs.declared.options.Mode.{Mode}
 use Rattle.sf_words.specs.declared.options.Mode.TheVariants.{Plan, Check, Measure, Shape, Gen}

@@ -1,5 +1,5 @@
 -- The outline of a chip in words: `WxH`, two decimals in the unit of the file.
-use Rattle.std.specs.Prelude.{◌≡◌, ℕ, ◌^◌, ◌≤◌, ◌==◌, Bool, Option, Some, None, Ok}
+use Rattle.std.specs.Prelude.{◌≡◌, ℕ, ◌≤◌, ◌==◌, Bool, Option, Some, None, Ok}
 use Rattle.std.specs.List.{before_first, after_first}
 use Rattle.sf_lex.specs.Number.{decimal_read}
 use Rattle.sf_words.specs.Table.{Text}

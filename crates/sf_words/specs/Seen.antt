@@ -1,5 +1,5 @@
 -- What contracts see of the options that were read: each text as its bytes.
-use Rattle.std.specs.Prelude.{List, map, ℕ, Option, Some, None, option_map}
+use Rattle.std.specs.Prelude.{List, ℕ, Option, option_map}
 use Rattle.std.specs.Borrow.{Bor}
 use Rattle.sf_words.specs.Table.{Text}
 use Rattle.sf_words.specs.Meaning.{Input, gsrc, yal, DesignOptions, WeightOptions, PlanOptions, CheckOptions, MeasureOptions, ShapeOptions, GenOptions, Command, plan, check, measure, shape, gen}

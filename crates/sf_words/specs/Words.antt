@@ -1,5 +1,5 @@
 -- What a list of words asks for: a command and its options, in any order and in both spellings.
-use Rattle.std.specs.Prelude.{◌≡◌, ◌≢◌, ℕ, Bool, true, false, List, [], ◌∷◌, ◌++◌, Option, Some, None, Contains}
+use Rattle.std.specs.Prelude.{◌≡◌, ◌≢◌, true, false, List, [], ◌∷◌, ◌++◌, Contains}
 use Rattle.sf_words.specs.declared.options.Mode.{Mode}
 use Rattle.sf_words.specs.declared.options.Key.{Key}
 use Rattle.sf_words.specs.Table.{Text, modes, mode_text, key_text, is_flag, keys_of}

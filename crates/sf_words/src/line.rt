@@ -1,14 +1,12 @@
 // The command line that clap is asked to read, and what its words mean.
-ghost use Rattle.std.specs.Prelude.{◌≡◌, ◌≢◌, IfOk, IfErr, IfSome, IfNone, List, Option, Some, None, true, false, map, option_map, string_bytes};
-ghost use Rattle.clap.specs.Words.{App, app_of, with_rule, with_subcommand, new_app, kind_of, subcommand_rows_of, rows_of, found_of, shape_of};
+ghost use Rattle.std.specs.Prelude.{◌≡◌, IfOk, IfErr, IfSome, IfNone, Some, false, map, string_bytes};
+ghost use Rattle.clap.specs.Words.{app_of, with_rule, new_app, kind_of, subcommand_rows_of, rows_of, found_of};
 ghost use Rattle.clap.specs.declared.builder.command.Command.TheViews.{out-Command as fields_of};
-ghost use Rattle.sf_words.specs.declared.options.Key.{Key};
-ghost use Rattle.sf_words.specs.declared.options.Mode.{Mode};
-ghost use Rattle.sf_words.specs.Table.{mode_text, keys_of, modes};
-ghost use Rattle.sf_words.specs.Words.{Token, HasForm};
+ghost use Rattle.sf_words.specs.Table.{mode_text, keys_of};
+ghost use Rattle.sf_words.specs.Words.{HasForm};
 ghost use Rattle.sf_words.specs.Seen.{token_of, command_seen};
-ghost use Rattle.sf_words.specs.Meaning.{Command, Means, HasNoMeaning};
-ghost use Rattle.sf_words.specs.App.{rule_of_key, with_keys, with_modes, subcommand_for, bare, floorplan};
+ghost use Rattle.sf_words.specs.Meaning.{Means, HasNoMeaning};
+ghost use Rattle.sf_words.specs.App.{rule_of_key, with_keys, bare, floorplan};
 ghost use Rattle.sf_words.specs.Kept.{texts_in, rows_for};
 
 use crate::command::CommandWords;

@@ -1,8 +1,8 @@
-use Rattle.std.proofs.Common.{arith, ◌≡◌, length, ap, sym, subst, ◌∙◌, Ok}
+use Rattle.std.proofs.Common.{arith, length, ap, sym, subst, ◌∙◌, Ok}
 use Rattle.std.specs.Option.{option_map}
 use Rattle.std.proofs.lemmas.Result.{err_from_is_err_and}
-use Rattle.sf_lex.specs.Scan.{line_words, last_line_of, numbered_words}
-use Rattle.sf_polish.specs.Reading.{token_after, expr_read, shapes_with, Fails, ended}
+use Rattle.sf_lex.specs.Scan.{line_words, last_line_of}
+use Rattle.sf_polish.specs.Reading.{token_after, shapes_with, Fails}
 use Rattle.sf_polish.specs.Word.{token_of, shaped_token_in}
 use Rattle.sf_polish.proofs.ReadSteps.{reading-step, reading-fails, reading-ends, keeping-step, keeping-ends, fails-at, expr-read, expr-fails}
 use Rattle.sf_polish.proofs.TextLaws.{expr-spelled}
@@ -15,7 +15,7 @@ loop-word-preserved c =
     let before = c.loop-word.reading.tokens.items in
     let taken = c.in_ok-take.ensures.token in (
       reading-step blocks (last_line_of text) (shaped_token_in blocks) (line_words text) before _ _ _ _ taken.0 c.loop-word.invariant.0 c.in-Some.ensures.numbered
-      (ap (token_after before c.in-Some.word.line) (ap (option_map token_of) (sym c.read_piece-piece.ensures.value) ∙ sym c.token_of.ensures) ∙ taken.1) taken.2,
+          (ap (token_after before c.in-Some.word.line) (ap (option_map token_of) (sym c.read_piece-piece.ensures.value) ∙ sym c.token_of.ensures) ∙ taken.1) taken.2,
       c.in_ok-take.ensures.same_blocks ∙ c.loop-word.invariant.1,
       keeping-step blocks (line_words text) c.loop-word.shapes.items _ _ _ _ c.loop-word.invariant.2 c.in-Some.ensures.numbered (c.keep_shape.ensures ∙ ap (shapes_with c.loop-word.shapes.items) c.read_piece-piece.ensures.value),
     )
@@ -58,4 +58,4 @@ returns-clause-spelled c =
     let n = length c.loop-word.reading.named.items in
     let all = reading-ends blocks (last_line_of text) (shaped_token_in blocks) (line_words text) tokens _ n c.loop-word.invariant.0 c.in_default.ensures.numbered c.loop-word.invariant.1 in
     expr-spelled blocks (omega arith) text _
-      (expr-read blocks text _ _ (all ∙ c.in_ok-tokens.ensures.tokens ∙ ap Ok (sym c.from_vec.ensures)) (keeping-ends blocks (line_words text) c.loop-word.shapes.items _ c.loop-word.invariant.2 c.in_default.ensures.numbered ∙ sym c.from_vec-2.ensures))
+    (expr-read blocks text _ _ (all ∙ c.in_ok-tokens.ensures.tokens ∙ ap Ok (sym c.from_vec.ensures)) (keeping-ends blocks (line_words text) c.loop-word.shapes.items _ c.loop-word.invariant.2 c.in_default.ensures.numbered ∙ sym c.from_vec-2.ensures))

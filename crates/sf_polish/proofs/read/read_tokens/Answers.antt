@@ -1,6 +1,6 @@
 use Rattle.std.proofs.Common.{arith, ◌≡◌, length, ap, sym, subst, ◌∙◌, Ok}
 use Rattle.std.proofs.lemmas.Result.{err_from_is_err_and, IfOk-weaker, IfErr-weaker}
-use Rattle.sf_lex.specs.Scan.{line_words, last_line_of, numbered_words}
+use Rattle.sf_lex.specs.Scan.{line_words, last_line_of}
 use Rattle.sf_polish.specs.Reading.{token_after, tokens_read, Fails, ended}
 use Rattle.sf_polish.specs.Text.{SpellsTokens}
 use Rattle.sf_polish.specs.Word.{token_in}
@@ -15,7 +15,7 @@ loop-word-preserved c =
     let before = c.loop-word.reading.tokens.items in
     let taken = c.in_ok-take.ensures.token in (
       reading-step blocks (last_line_of text) (token_in blocks) (line_words text) before _ _ _ _ taken.0 c.loop-word.invariant.0 c.in-Some.ensures.numbered
-      (ap (token_after before c.in-Some.word.line) (sym c.read_token.ensures.value) ∙ taken.1) taken.2,
+          (ap (token_after before c.in-Some.word.line) (sym c.read_token.ensures.value) ∙ taken.1) taken.2,
       c.in_ok-take.ensures.same_blocks ∙ c.loop-word.invariant.1,
     )
 

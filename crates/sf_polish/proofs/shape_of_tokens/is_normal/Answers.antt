@@ -1,6 +1,5 @@
-use Rattle.std.proofs.Common.{◌≡◌, ℕ, ◌+◌, ◌*◌, length, arith, rules}
+use Rattle.std.proofs.Common.{arith, rules}
 use Rattle.std.specs.Prelude.{IsTrue}
-use Rattle.sf_polish.specs.Normal.{IsNormal}
 use Rattle.sf_polish.proofs.shape_of_tokens.is_normal.Goals as goal
 
 pub returns : goal.returns

@@ -1,8 +1,8 @@
-use Rattle.std.proofs.Common.{◌≡◌, ℕ, ◌<◌, ◌≤◌, ◌∷◌, [], length, arith, refl, ap, sym, subst, ◌∙◌}
+use Rattle.std.proofs.Common.{length, arith, refl, ap, sym, subst, ◌∙◌}
 use Rattle.sf_polish.specs.declared.expr.Token.TheVariants as token
 use Rattle.sf_polish.proofs.Stack.{Reads}
 use Rattle.sf_polish.proofs.Normality.{normal-reads}
-use Rattle.sf_polish.proofs.Stacked.{IsReading, reading-start, reading-two, block-step, beside-step, above-step, reading-end, reading-result, last-left}
+use Rattle.sf_polish.proofs.Stacked.{reading-start, reading-two, block-step, beside-step, above-step, reading-end, reading-result, last-left}
 use Rattle.sf_polish.proofs.spell.plan_of.Goals as goal
 use Rattle.sf_polish.proofs.spell.plan_of.Goals.{in-Block+in_ok-push-in-Block, in-Beside+in_ok-new-in-Beside+in_ok-new-in-Beside-2+in_ok-push-in-Beside, in-Above+in_ok-new-in-Above+in_ok-new-in-Above-2+in_ok-push-in-Above}
 

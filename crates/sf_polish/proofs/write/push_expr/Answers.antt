@@ -1,4 +1,4 @@
-use Rattle.std.proofs.Common.{◌≡◌, ap, ◌∙◌, ◌++◌, string_bytes, arith, lit<}
+use Rattle.std.proofs.Common.{ap, ◌∙◌, ◌++◌, string_bytes, arith, lit<}
 use Rattle.sf_polish.specs.declared.expr.Token.TheVariants.{Beside}
 use Rattle.sf_polish.proofs.Written.{text-first, text-next}
 use Rattle.sf_polish.proofs.write.push_expr.Goals as goal

@@ -1,5 +1,4 @@
-use Rattle.std.proofs.Common.{◌≡◌, ◌<◌, ◌≤◌, ◌^◌, arith}
-use Rattle.sf_words.specs.Numbers.{greatest}
+use Rattle.std.proofs.Common.{arith}
 use Rattle.sf_words.proofs.Numbers.{greatest_fits}
 use Rattle.sf_words.proofs.ranges.read_in_range.Goals as goal
 

@@ -1,5 +1,4 @@
-use Rattle.std.proofs.Common.{◌≡◌, ℕ, ◌<◌, ◌≤◌, ◌^◌, arith, sym, ◌∙◌, length, true, IsTrue}
-use Rattle.sf_words.specs.Numbers.{IsNumber, read_on}
+use Rattle.std.proofs.Common.{◌<◌, ◌^◌, arith}
 use Rattle.sf_words.proofs.Numbers.{AreDigits, parse_is}
 use Rattle.sf_words.proofs.ranges.read_number.Goals as goal
 

@@ -1,7 +1,6 @@
-use Rattle.std.proofs.Common.{◌≡◌, ◌≢◌, arith, ◌∷◌, ◌++◌, Contains, MatchOption}
+use Rattle.std.proofs.Common.{arith}
 use Rattle.std.proofs.lemmas.Str.Pattern.{split_after}
-use Rattle.sf_words.specs.declared.options.Key.{Key}
-use Rattle.sf_words.specs.Table.{Text, key_text}
+use Rattle.sf_words.specs.Table.{key_text}
 use Rattle.sf_words.proofs.Texts.{inner_at, key_text-inner}
 use Rattle.sf_words.proofs.settings.read_attached.Goals as goal
 

@@ -1,7 +1,6 @@
-use Rattle.std.proofs.Common.{◌≡◌, ◌≢◌, arith, ◌∷◌, [], sym, ap, subst, ◌∙◌, map, string_bytes, List, length, take, drop, ◌-◌}
+use Rattle.std.proofs.Common.{sym, subst, ◌∙◌, string_bytes}
 use Rattle.sf_words.specs.declared.options.Mode.{Mode}
-use Rattle.sf_words.specs.Table.{Text, mode_text}
-use Rattle.sf_words.specs.Words.{Token, HasForm, AreOptions, words_of}
+use Rattle.sf_words.specs.Words.{AreOptions}
 use Rattle.sf_words.proofs.Texts.{mode_text-injective}
 use Rattle.sf_words.proofs.Tokens.{first_of_map, heads_same, tails_same}
 use Rattle.sf_words.proofs.settings.read_form.Goals as goal

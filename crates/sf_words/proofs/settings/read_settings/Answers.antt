@@ -1,7 +1,7 @@
-use Rattle.std.proofs.Common.{◌≡◌, ◌≢◌, ◌+◌, ◌<◌, arith, ◌∷◌, [], ◌++◌, sym, ap, ◌∙◌, map, string_bytes, List, length, IsTrue, Contains, refl}
+use Rattle.std.proofs.Common.{◌≡◌, ◌<◌, arith, ◌∷◌, [], ◌++◌, sym, ap, ◌∙◌, map, string_bytes, length, IsTrue, Contains}
 use Rattle.std.proofs.lemmas.List.{map-append}
-use Rattle.sf_words.specs.Table.{Text, keys_of}
-use Rattle.sf_words.specs.Words.{Token, IsNew, key_of, words_of, before}
+use Rattle.sf_words.specs.Table.{keys_of}
+use Rattle.sf_words.specs.Words.{IsNew, key_of}
 use Rattle.sf_words.specs.Seen.{token_of}
 use Rattle.sf_words.proofs.Tokens.{ahead, no_more, not_twice, ahead-push, ahead-nil, AreOptions-push, some_of_map, empty_of_map}
 use Rattle.sf_words.proofs.settings.read_settings.Goals as goal

@@ -1,7 +1,5 @@
-use Rattle.std.proofs.Common.{◌≡◌, refl, sym, ◌∙◌, arith, ap}
+use Rattle.std.proofs.Common.{sym, ◌∙◌, ap}
 use Rattle.std.specs.List.{list_all}
-use Rattle.std.specs.Prelude.{Err}
-use Rattle.sf_polish.specs.declared.fault.ExprFault.TheVariants.{MissingBlock, NotBallot}
 use Rattle.sf_polish.proofs.Named.{ended-missing, ended-unbalanced, ended-whole}
 use Rattle.sf_polish.proofs.reading.Reading.finish.Goals as goal
 

@@ -1,4 +1,4 @@
-use Rattle.std.proofs.Common.{◌≡◌, refl, sym, ◌∙◌}
+use Rattle.std.proofs.Common.{refl, sym, ◌∙◌}
 use Rattle.sf_polish.proofs.Named.{flag-at, flags-push}
 use Rattle.sf_polish.proofs.reading.Reading.take_block.Goals as goal
 

@@ -1,0 +1,64 @@
+-- Tables of names, as names come to stand before those that are there.
+use Rattle.std.proofs.Common.{◌≡◌, IfSome, ℕ, ◌+◌, ◌-◌, ◌<◌, ◌≤◌, map, length, drop, get_or, subst, Bool, true, false, ◌&&◌, ◌||◌, cond, nat_eq, List, [], ◌∷◌, Option, Some, None, is_some, refl, ap, sym, ◌∙◌, arith}
+use Rattle.std.specs.List.{list_any, position_from}
+use Rattle.std.specs.Map.{update}
+use Rattle.std.specs.Str.{bytes_eq}
+use Rattle.std.proofs.lemmas.Bool.Decides.{nat_tests}
+use Rattle.std.proofs.Math.Seq.{drop-length}
+use Rattle.std.proofs.lemmas.List.{length-map}
+use Rattle.sf_model.specs.declared.table.NameTable.{NameTable}
+use Rattle.sf_model.specs.Admitted.{first, repeated}
+use Rattle.sf_model.specs.Table.{place_in, IsTableOf}
+use Rattle.sf_model.proofs.Walks.{drop_step}
+
+nat_eq_sym : (x y : ℕ) → nat_eq x y ≡ nat_eq y x
+nat_eq_sym x y = grind (arith, nat_tests)
+
+pub bytes_eq_sym : (xs ys : List ℕ) → bytes_eq xs ys ≡ bytes_eq ys xs
+bytes_eq_sym [] [] = refl
+bytes_eq_sym [] (y ∷ ys) = refl
+bytes_eq_sym (x ∷ xs) [] = refl
+bytes_eq_sym (x ∷ xs) (y ∷ ys) = ap (λ b. b && bytes_eq xs ys) (nat_eq_sym x y) ∙ ap (λ b. nat_eq y x && b) (bytes_eq_sym xs ys)
+
+-- a place is found just where an element passes
+pub position_any : {X : Type 0} (p : X → Bool) (i : ℕ) (xs : List X) → is_some (position_from p i xs) ≡ list_any p xs
+position_any p i [] = refl
+position_any p i (x ∷ xs) = elim (p x) as (λ b. is_some (cond b (Some i) (position_from p (i + 1) xs)) ≡ (b || list_any p xs)) [ true ↦ refl | false ↦ position_any p (i + 1) xs ]
+
+pub found_put : (old new : List ℕ → Option ℕ) (name : List ℕ) (i : ℕ) (names : List (List ℕ)) → ((n : List ℕ) → new n ≡ update bytes_eq old name (Some i) n) → ((n : List ℕ) → old n ≡ position_from (bytes_eq n) (i + 1) names) → (n : List ℕ) → new n ≡ position_from (bytes_eq n) i (name ∷ names)
+found_put old new name i names sets found n = sets n ∙ ap (λ b. cond b (Some i) (old n)) (bytes_eq_sym name n) ∙ ap (λ o. cond (bytes_eq n name) (Some i) o) (found n)
+
+pub repeats_again : (name : List ℕ) (names : List (List ℕ)) → list_any (bytes_eq name) names ≡ true → first (repeated (name ∷ names)) ≡ Some name
+repeats_again name names h = rw h refl
+
+pub repeats_once : (name : List ℕ) (names : List (List ℕ)) → list_any (bytes_eq name) names ≡ false → first (repeated (name ∷ names)) ≡ first (repeated names)
+repeats_once name names h = rw h refl
+
+-- a table of the names of a list grows by the item before those that are left
+pub table_step : {X : Type 0} (name : X → List ℕ) (xs : List X) (left : ℕ) (d : X) (t u : NameTable) → 0 < left → left ≤ length xs → IsTableOf t left (map name (drop left xs)) → ((names : List (List ℕ)) → IsTableOf t (left - 1 + 1) names → IsTableOf u (left - 1) (name (get_or xs (left - 1) d) ∷ names)) → IsTableOf u (left - 1) (map name (drop (left - 1) xs))
+table_step {X} name xs left d t u some within was put =
+    let e : left - 1 + 1 ≡ left = omega arith in
+    let item : drop (left - 1) xs ≡ get_or xs (left - 1) d ∷ drop left xs = drop_step xs (left - 1) d (omega arith) ∙ ap (λ k. get_or xs (left - 1) d ∷ drop k xs) e in
+    let P : List X → Type 0 = λ ys. IsTableOf u (left - 1) (map name ys) in
+    let Q : ℕ → Type 0 = λ k. IsTableOf t k (map name (drop left xs)) in
+    subst P (sym item) (put (map name (drop left xs)) (subst Q (sym e) was))
+
+pub table_start : {X : Type 0} (name : X → List ℕ) (xs : List X) (t : NameTable) → ((i : ℕ) → IsTableOf t i []) → IsTableOf t (length xs) (map name (drop (length xs) xs))
+table_start {X} name xs t empty =
+    let P : List X → Type 0 = λ ys. IsTableOf t (length xs) (map name ys) in
+    subst P (sym (drop-length xs)) (empty (length xs))
+
+-- what a table finds tells which names are there
+pub table_has : (t : NameTable) (names : List (List ℕ)) → IsTableOf t 0 names → (n : List ℕ) → is_some (place_in t n) ≡ list_any (bytes_eq n) names
+table_has t names is n = ap (λ (o : Option ℕ). is_some o) (is.found n) ∙ position_any (bytes_eq n) 0 names
+
+position_within : {X : Type 0} (p : X → Bool) (i : ℕ) (xs : List X) (j : ℕ) → position_from p i xs ≡ Some j → j < i + length xs
+position_within p i [] j h = cc
+position_within p i (x ∷ xs) j h =
+    let P : Bool → Type 0 = λ b. cond b (Some i) (position_from p (i + 1) xs) ≡ Some j → j < i + length (x ∷ xs) in
+    (elim (p x) as P [ true ↦ (λ e. let s : i ≡ j = cc in omega arith) | false ↦ (λ e. let s : j < i + 1 + length xs = position_within p (i + 1) xs j e in omega arith) ]) h
+
+-- a name stands within the list
+pub place_within : {X : Type 0} (name : X → List ℕ) (xs : List X) (n : List ℕ) (o : Option ℕ) → o ≡ position_from (bytes_eq n) 0 (map name xs) → IfSome o (λ i. i < length xs)
+place_within name xs n None h = tt
+place_within name xs n (Some j) h = let s : j < 0 + length (map name xs) = position_within (bytes_eq n) 0 (map name xs) j (sym h) in omega (arith, length-map xs name)

@@ -1,0 +1,10 @@
+use Rattle.std.proofs.Common.{◌≡◌, drop}
+use Rattle.std.specs.List.{flat_map}
+use Rattle.sf_model.specs.Admitted.{first, at_pin_name, at_placed_name}
+use Rattle.sf_model.specs.Rules.{broken}
+use Rattle.sf_model.specs.declared.named.NameRule.TheVariants.{NotBoth, Known}
+use Rattle.sf_model.specs.declared.raw.RawNet.{RawNet}
+use Rattle.sf_model.proofs.named.check_pins.Given as goal
+
+abbrev pub invariant-loop-pin : goal.invariant-loop-pin
+invariant-loop-pin l = first (flat_map (at_pin_name (broken l.rule l.index.parts.now)) l.pins) ≡ first (flat_map (at_pin_name (broken l.rule l.index.parts.now)) (drop l.pin-index l.pins))

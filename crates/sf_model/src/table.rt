@@ -1,0 +1,82 @@
+//! The names of blocks and of pads, found by an ordered map.
+
+ghost use Rattle.std.specs.Prelude.{◌≡◌, ◌+◌, List, ℕ, [], ◌∷◌, IfOk, OnOk, is_some};
+ghost use Rattle.sf_model.specs.Admitted.{block_names, pad_names};
+ghost use Rattle.sf_model.specs.Table.{place_in, IsTableOf};
+
+use crate::name::Name;
+use crate::raw::{RawBlock, RawPad};
+use std::alloc::{AllocError, Global};
+use std::collections::BTreeMap;
+
+/// The first index of each name, and the first name that stands again further on.
+#[derive(Drop)]
+pub struct NameTable<'a> {
+    places: BTreeMap<&'a [u8], usize>,
+    repeated: Option<&'a Name>,
+}
+
+impl<'a> NameTable<'a> {
+    fn new(alloc: Global) -> NameTable<'a>
+        ensures { (i : ℕ) → IsTableOf result i [] }
+    {
+        NameTable {
+            places: BTreeMap::new(alloc),
+            repeated: None,
+        }
+    }
+
+    /// Puts a name before those that stand there.
+    fn put(&mut self, name: &'a Name, place: usize) -> Result<(), AllocError>
+        ensures { OnOk result ((names : List (List ℕ)) → IsTableOf self.old (place + 1) names → IsTableOf self.new place (name.now ∷ names)) }
+    {
+        let old = self.places.insert(name.as_bytes(), place)?;
+        if old.is_some() {
+            self.repeated = Some(name);
+        }
+        Ok(())
+    }
+
+    pub fn of_blocks(alloc: Global, blocks: &'a [RawBlock]) -> Result<NameTable<'a>, AllocError>
+        ensures { IfOk result (λ table. IsTableOf table 0 (block_names blocks.now)) }
+    {
+        let mut table = NameTable::new(alloc);
+        let mut left = blocks.len();
+        while left > 0 {
+            left -= 1;
+            table.put(&blocks[left].name, left)?;
+        }
+        Ok(table)
+    }
+
+    pub fn of_pads(alloc: Global, pads: &'a [RawPad]) -> Result<NameTable<'a>, AllocError>
+        ensures { IfOk result (λ table. IsTableOf table 0 (pad_names pads.now)) }
+    {
+        let mut table = NameTable::new(alloc);
+        let mut left = pads.len();
+        while left > 0 {
+            left -= 1;
+            table.put(&pads[left].name, left)?;
+        }
+        Ok(table)
+    }
+
+    pub fn place_of(&self, name: &Name) -> Option<usize>
+        ensures { result ≡ place_in self.now name.now }
+    {
+        self.places.get(name.as_bytes()).copied()
+    }
+
+    pub fn has(&self, name: &Name) -> bool
+        ensures { result ≡ is_some (place_in self.now name.now) }
+    {
+        self.place_of(name).is_some()
+    }
+
+    /// The first name that stands again further on.
+    pub fn repeated(&self) -> Option<&'a Name>
+        ensures { result ≡ self.now.repeated }
+    {
+        self.repeated
+    }
+}

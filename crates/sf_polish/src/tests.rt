@@ -1,0 +1,65 @@
+use super::*;
+use sf_model::parts::Shape;
+use sf_model::plan::Plan;
+
+/// The number of a fault and its line, and zeros where there is none.
+fn fault_of<T: Drop>(outcome: Result<T, ExprFault>) -> (u8, u64) {
+    match outcome {
+        Ok(_) => (0, 0),
+        Err(ExprFault::BadToken(line)) => (1, line),
+        Err(ExprFault::NotBallot(line)) => (2, line),
+        Err(ExprFault::NotNormal(line)) => (3, line),
+        Err(ExprFault::RepeatedBlock(line)) => (4, line),
+        Err(ExprFault::MissingBlock(line)) => (5, line),
+        Err(ExprFault::NoMemory) => (6, 0),
+    }
+}
+
+fn tokens_fault(rt: &HostRuntime, text: &str, blocks: u16) -> (u8, u64) {
+    fault_of(read_tokens(rt.alloc(), text.as_bytes(), blocks))
+}
+
+fn expr_fault(rt: &HostRuntime, text: &str) -> (u8, u64) {
+    fault_of(read_expr(rt.alloc(), text.as_bytes(), 2))
+}
+
+#[test]
+fn token_texts(rt: HostRuntime) {
+    assert_eq!(rt; tokens_fault(&rt, "0 1 *", 2), (0, 0));
+    assert_eq!(rt; tokens_fault(&rt, "\t0\r\n1\n\n*  \n", 2), (0, 0));
+    assert_eq!(rt; tokens_fault(&rt, "0 1 * *", 2), (2, 1));
+    assert_eq!(rt; tokens_fault(&rt, "0 *", 2), (2, 1));
+    assert_eq!(rt; tokens_fault(&rt, "0 0 *", 2), (4, 1));
+    assert_eq!(rt; tokens_fault(&rt, "0", 2), (5, 1));
+    assert_eq!(rt; tokens_fault(&rt, " \n", 2), (5, 0));
+    assert_eq!(rt; tokens_fault(&rt, "0\n1\n \n", 2), (2, 2));
+}
+
+#[test]
+fn faults_by_word(rt: HostRuntime) {
+    assert_eq!(rt; tokens_fault(&rt, "0 1 2\n* *", 3), (3, 2));
+    assert_eq!(rt; tokens_fault(&rt, "0 1 + 2 +", 3), (0, 0));
+    assert_eq!(rt; tokens_fault(&rt, "0\n01 *", 2), (1, 2));
+    assert_eq!(rt; tokens_fault(&rt, "0 2 *", 2), (1, 1));
+    assert_eq!(rt; tokens_fault(&rt, "0 1 **", 2), (1, 1));
+    assert_eq!(rt; expr_fault(&rt, "0:2x3 1:1048576x1 *"), (0, 0));
+    assert_eq!(rt; expr_fault(&rt, "0:2x3 1:1048577x1 *"), (1, 1));
+    assert_eq!(rt; expr_fault(&rt, "0:2x0 1:3x2 *"), (1, 1));
+    assert_eq!(rt; expr_fault(&rt, "0 1 *"), (1, 1));
+    assert_eq!(rt; expr_fault(&rt, "0:2x3\n0:3x2\n*"), (4, 2));
+}
+
+#[test]
+fn plan_of_two(rt: HostRuntime) {
+    let alloc = rt.alloc();
+    let left = Box::new(alloc, Plan::Leaf(0, Shape { w: 2, h: 3 })).expect(&rt, "memory");
+    let right = Box::new(alloc, Plan::Leaf(1, Shape { w: 3, h: 2 })).expect(&rt, "memory");
+    let plan = normalise(alloc, Plan::Beside(left, right)).expect(&rt, "memory");
+    let expr = expr_of(alloc, &plan, 2).expect(&rt, "memory");
+    assert!(rt; is_normal(expr.tokens.as_slice(), 2));
+    let text = write_expr(alloc, &expr).expect(&rt, "memory");
+    assert_eq!(rt; text.as_slice(), b"0:2x3 1:3x2 *".as_slice());
+    let read = read_expr(alloc, &text, 2).expect(&rt, "a text that was written");
+    let plan = plan_of(alloc, &read).expect(&rt, "memory");
+    assert!(rt; matches!(plan, Plan::Beside(_, _)));
+}

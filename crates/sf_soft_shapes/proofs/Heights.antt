@@ -1,0 +1,39 @@
+-- A wider block of the same area is no higher.
+use Rattle.std.proofs.Common.{◌≡◌, ℕ, ◌+◌, ◌*◌, ◌/◌, ◌%◌, ◌^◌, ◌<◌, ◌≤◌, min, arith}
+use Rattle.std.proofs.Math.Nat.{mul-le-mul_left, mul-le-mul_right}
+use Rattle.std.proofs.lemmas.Grind.{div_ceil_times}
+use Rattle.sf_soft_shapes.specs.Listed.{height_at}
+use Rattle.sf_soft_shapes.specs.Ends.{IsWide, IsNarrow}
+
+-- q * b is not below x where q * a reaches x, so that d passes q by nothing
+past : (q d a b x : ℕ) → a ≤ b → x ≤ q * a → d * b < x + b → q < d → ⊥
+past q d a b x le holds tight more =
+    let up : q * a ≤ q * b = mul-le-mul_left q le in
+    let next : (q + 1) * b ≤ d * b = (let s : q + 1 ≤ d = omega arith in mul-le-mul_right b s) in
+    let e : (q + 1) * b ≡ q * b + b = omega arith in
+    omega arith
+
+least_multiple : (q d a b x : ℕ) → a ≤ b → x ≤ q * a → d * b < x + b → d ≤ q
+least_multiple q d a b x le holds tight =
+    let not_more : ¬ (q < d) = past q d a b x le holds tight in
+    omega arith
+
+pub height_le : (area a b : ℕ) → 1 ≤ a → a ≤ b → height_at area b ≤ height_at area a
+height_le area a b some le =
+    let at_a = div_ceil_times area a (omega arith) in
+    let at_b = div_ceil_times area b (omega arith) in
+    least_multiple (height_at area a) (height_at area b) a b area le at_a.0 at_b.1
+
+pub wide_up : (area most a b : ℕ) → 1 ≤ a → a ≤ b → IsWide area most a → IsWide area most b
+wide_up area most a b some le wide =
+    let low : height_at area b ≤ height_at area a = height_le area a b some le in
+    let more : a * most ≤ b * most = mul-le-mul_right most le in
+    let first = wide.height in
+    let second = wide.below in
+    record { height = omega arith; below = omega arith }
+
+pub narrow_down : (area least a b : ℕ) → 1 ≤ a → a ≤ b → IsNarrow area least b → IsNarrow area least a
+narrow_down area least a b some le narrow =
+    let low : height_at area b ≤ height_at area a = height_le area a b some le in
+    let more : a * least ≤ b * least = mul-le-mul_right least le in
+    omega arith

@@ -1,0 +1,3 @@
+pub mod Heights
+pub mod Spread
+pub mod Listing

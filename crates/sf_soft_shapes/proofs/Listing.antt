@@ -1,0 +1,53 @@
+-- The lists of the blocks, as one more comes.
+use Rattle.std.proofs.Common.{◌≡◌, ℕ, zero, suc, ◌+◌, ◌<◌, ◌≤◌, Bool, List, [], ◌∷◌, ◌++◌, length, get_or, Option, Some, None, refl, ap, sym, subst, ◌∙◌, arith, length-append}
+use Rattle.std.specs.List.{All, zip}
+use Rattle.std.specs.Option.{option_map}
+use Rattle.std.proofs.lemmas.List.Elements.{All-append, All-cons}
+use Rattle.sf_model.specs.Built.{shapeless}
+use Rattle.sf_model.specs.declared.fault.BuildFault.{BuildFault}
+use Rattle.sf_model.specs.declared.fault.BuildFault.TheVariants.{NoShape}
+use Rattle.sf_model.specs.declared.parts.Shape.{Shape}
+use Rattle.sf_model.specs.declared.raw.RawBlock.{RawBlock}
+use Rattle.sf_soft_shapes.specs.Listed.{AreListsOf, IsListOf, HasNoneFor}
+
+abbrev none_of : (Y : Type 0) → List Y
+none_of Y = []
+
+zip_none : {X : Type 0} (Y : Type 0) (xs : List X) → zip xs (none_of Y) ≡ []
+zip_none Y [] = refl
+zip_none Y (x ∷ xs) = refl
+
+zip_grow : {X Y : Type 0} (xs : List X) (ys : List Y) (y : Y) (d : X) → length ys < length xs → zip xs (ys ++ y ∷ []) ≡ zip xs ys ++ (get_or xs (length ys) d, y) ∷ []
+zip_grow [] ys y d low = absurd (omega arith)
+zip_grow {Y = Y} (x ∷ xs) [] y d low = ap (λ ps. (x, y) ∷ ps) (zip_none Y xs)
+zip_grow (x ∷ xs) (z ∷ ys) y d low = ap (λ ps. (x, z) ∷ ps) (zip_grow xs ys y d (omega arith))
+
+one : {X : Type 0} (P : X → Type 0) (x : X) (k : ℕ) (d : X) → k < length (x ∷ []) → P x → P (get_or (x ∷ []) k d)
+one P x zero d low here = here
+one P x (suc k) d low here = absurd (omega arith)
+
+pub all_one : {X : Type 0} (P : X → Type 0) (xs : List X) (x : X) → All P xs → P x → All P (xs ++ x ∷ [])
+all_one P xs x all here = All-append P xs (x ∷ []) all (λ k d low. one P x k d low here)
+
+pub lists_grow : (k : ℕ) (fixed : Bool) (blocks : List RawBlock) (lists : List (List Shape)) (l : List Shape) (d : RawBlock) → length lists < length blocks → AreListsOf k fixed blocks lists → IsListOf k fixed (get_or blocks (length lists) d).kind l → AreListsOf k fixed blocks (lists ++ l ∷ [])
+lists_grow k fixed blocks lists l d low were here =
+    let P : List (RawBlock × List Shape) → Type 0 = λ ps. All (λ b. IsListOf k fixed b.0.kind b.1) ps in
+    subst P (sym (zip_grow blocks lists l d low)) (all_one (λ (b : RawBlock × List Shape). IsListOf k fixed b.0.kind b.1) (zip blocks lists) (get_or blocks (length lists) d, l) were here)
+
+pub lists_start : (k : ℕ) (fixed : Bool) (blocks : List RawBlock) → AreListsOf k fixed blocks []
+lists_start k fixed blocks =
+    let P : List (RawBlock × List Shape) → Type 0 = λ ps. All (λ b. IsListOf k fixed b.0.kind b.1) ps in
+    subst P (sym (zip_none (List Shape) blocks)) (λ j d low. absurd (omega arith))
+
+-- lists that have a shape each
+pub all_shaped : (blocks : List RawBlock) (lists : List (List Shape)) → All (λ l. 1 ≤ length l) lists → shapeless blocks lists ≡ None
+all_shaped [] lists all = refl
+all_shaped (b ∷ bs) [] all = refl
+all_shaped (b ∷ bs) ([] ∷ ls) all = absurd (let e = all 0 [] (omega arith) in omega arith)
+all_shaped (b ∷ bs) ((s ∷ ss) ∷ ls) all = all_shaped bs ls (λ k d low. all (suc k) d (omega arith))
+
+pub none_after : (blocks : List RawBlock) (lists : List (List Shape)) (d : RawBlock) → length lists < length blocks → All (λ l. 1 ≤ length l) lists → shapeless blocks (lists ++ [] ∷ []) ≡ Some (get_or blocks (length lists) d).name
+none_after [] lists d low all = absurd (omega arith)
+none_after (b ∷ bs) [] d low all = refl
+none_after (b ∷ bs) ([] ∷ ls) d low all = absurd (let e = all 0 [] (omega arith) in omega arith)
+none_after (b ∷ bs) ((s ∷ ss) ∷ ls) d low all = none_after bs ls d (omega arith) (λ k e lw. all (suc k) e (omega arith))
