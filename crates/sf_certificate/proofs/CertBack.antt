@@ -28,16 +28,22 @@ module _ (cert : Cert) (cost : cert.cost < 2 ^ 64) (bound : cert.bound < 2 ^ 64)
   small = omega (arith, cert.form.few_blocks)
 
   header-line : AllByRecursion (λ l. has_none is_line_feed l ≡ true) (header_lines cert.blocks cert.plan cert.cost cert.bound)
-  header-line =
-      (refl,
-      (line-append (codes "blocks ") (decimal cert.blocks) refl (decimal-line cert.blocks (omega (arith, small))),
-      (line-append (codes "cost ") (cost_text cert.cost) refl (cost-line cert.cost cost),
-      (line-append (codes "bound ") (cost_text cert.bound) refl (cost-line cert.bound bound),
-      (line-append (codes "plan ") (plan_text cert.plan) refl (plan-line cert.blocks cert.plan small cert.form.planned),
-      (refl, tt))))))
-
-
-
+  header-line = (
+    refl,
+    (
+      line-append (codes "blocks ") (decimal cert.blocks) refl (decimal-line cert.blocks (omega (arith, small))),
+      (
+        line-append (codes "cost ") (cost_text cert.cost) refl (cost-line cert.cost cost),
+        (
+          line-append (codes "bound ") (cost_text cert.bound) refl (cost-line cert.bound bound),
+          (
+            line-append (codes "plan ") (plan_text cert.plan) refl (plan-line cert.blocks cert.plan small cert.form.planned),
+            (refl, tt),
+          ),
+        ),
+      ),
+    ),
+  )
 
   all-lines : lines (cert_text cert) ≡ header_lines cert.blocks cert.plan cert.cost cert.bound ++ map tag_text cert.tags
   all-lines =
@@ -64,12 +70,12 @@ module _ (cert : Cert) (cost : cert.cost < 2 ^ 64) (bound : cert.bound < 2 ^ 64)
       let l1 : List Line = numbered 2 (labelled (codes "blocks") (decimal n) ∷ labelled (codes "cost") (cost_text cert.cost) ∷ labelled (codes "bound") (cost_text cert.bound) ∷ labelled (codes "plan") (plan_text cert.plan) ∷ codes "tree" ∷ tls) in
       let l0 : List Line = numbered 1 (header_lines n cert.plan cert.cost cert.bound ++ tls) in
       let header = header-whole n last l0 l1 l2 l3 l4 l5 l6 cert.cost cert.bound cert.plan
-            (ap (line_by 1 l1) title)
-            (ap (line_by 2 l2) (number-back (codes "blocks") n refl (omega arith) refl (omega (arith, small))))
-            (ap (line_by 3 l3) (cost-back (codes "cost") cert.cost refl (omega arith) refl cost))
-            (ap (line_by 4 l4) (cost-back (codes "bound") cert.bound refl (omega arith) refl bound))
-            (ap (line_by 5 l5) (plan-back n cert.cost cert.plan small cert.form.planned cert.form.unplanned))
-            refl in
+      (ap (line_by 1 l1) title)
+      (ap (line_by 2 l2) (number-back (codes "blocks") n refl (omega arith) refl (omega (arith, small))))
+      (ap (line_by 3 l3) (cost-back (codes "cost") cert.cost refl (omega arith) refl cost))
+      (ap (line_by 4 l4) (cost-back (codes "bound") cert.bound refl (omega arith) refl bound))
+      (ap (line_by 5 l5) (plan-back n cert.cost cert.plan small cert.form.planned cert.form.unplanned))
+      refl in
       cert-whole n (cert_text cert) (record { plan = cert.plan; cost = cert.cost; bound = cert.bound; others = l6 }) cert.tags
-        (ap (λ ls. header_read n last (numbered 1 ls)) all-lines ∙ header)
-        (tags-back n last 7 cert.tags (first_place ∷ []) (recursion_from_All FitsTag cert.tags fits) cert.form.tree)
+      (ap (λ ls. header_read n last (numbered 1 ls)) all-lines ∙ header)
+      (tags-back n last 7 cert.tags (first_place ∷ []) (recursion_from_All FitsTag cert.tags fits) cert.form.tree)

@@ -130,7 +130,7 @@ module _ (blocks : ℕ) (expr : Expr) (small : blocks < 2 ^ 16) (wr : IsWritable
   joined-line (t ∷ []) h = shaped-line t h.0
   joined-line (t ∷ u ∷ ts) h =
       line-append (shaped_text expr.shapes t) (32 ∷ join_with_byte 32 (map (shaped_text expr.shapes) (u ∷ ts))) (shaped-line t h.0)
-        (line-append (32 ∷ []) (join_with_byte 32 (map (shaped_text expr.shapes) (u ∷ ts))) refl (joined-line (u ∷ ts) h.1))
+      (line-append (32 ∷ []) (join_with_byte 32 (map (shaped_text expr.shapes) (u ∷ ts))) refl (joined-line (u ∷ ts) h.1))
 
   inside : AllByRecursion (λ t. is_outside blocks t ≡ false) expr.tokens
   inside = recursion_from_All (λ t. is_outside blocks t ≡ false) expr.tokens wr.normal.no_other

@@ -81,7 +81,7 @@ deep-enough place line next e = ap (λ b. cond b next (Err (TooDeep line))) e
 split-words : (k b : ℕ) → b < 2 ^ 16 → words_of_line (record { number = k; bytes = 83 ∷ 32 ∷ decimal b }) ≡ record { line = k; text = 83 ∷ [] } ∷ record { line = k; text = decimal b } ∷ []
 split-words k b h =
     ap (map (λ w. record { line = k; text = w }))
-      (words-labelled (83 ∷ []) (decimal b) (omega arith) refl (decimal_nonempty b (omega (arith, h))) (decimal-solid b (omega (arith, h))))
+    (words-labelled (83 ∷ []) (decimal b) (omega arith) refl (decimal_nonempty b (omega (arith, h))) (decimal-solid b (omega (arith, h))))
 
 step-said : (last k : ℕ) (tag : Tag) (others : List LineWord) → FitsTag tag → tags_said last None (words_of_line (record { number = k; bytes = tag_text tag }) ++ others) ≡ record { line = k; tag = Ok tag } ∷ tags_said last None others
 unfolding tags_said

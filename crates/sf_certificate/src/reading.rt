@@ -12,11 +12,12 @@ use crate::tree::read_tree;
 use sf_lex::Scan;
 use std::alloc::Global;
 
-/// The certificate that a text spells among so many blocks.
+/// The certificate that a text spells for so many blocks, or the first fault of the text.
 pub fn read(alloc: Global, text: &[u8], blocks: u16) -> Result<Cert, CertFault>
     requires some { 1 ≤ blocks }
     requires few { blocks ≤ 320 }
     ensures ok { IfOk result (λ c. cert_read blocks text.now ≡ Ok (said_by c)) }
+    ensures blocks { IfOk result (λ c. c.blocks ≡ blocks) }
     ensures fault { IfErr result (λ e. e ≢ NoMemory → cert_read blocks text.now ≡ Err e) }
 {
     let mut scan = Scan::new(text);

@@ -7,7 +7,7 @@ use Rattle.sf_certificate.proofs.header.read_header.Goals as goal
 pub returns-in_err-read_number-clause-fault : goal.returns-in_err-read_number-clause-fault
 returns-in_err-read_number-clause-fault c =
     let p = err_from_is_err_and c.from_residual.result c.from_residual.ensures.1 in
-    rw (p.1, p.2) (λ ne. header-first c.args.blocks (last_line_of c.args.text.now) (numbered_rest c.args.scan.now) _  (c.in_err-read_number.ensures.fault))
+    rw (p.1, p.2) (λ ne. header-first c.args.blocks (last_line_of c.args.text.now) (numbered_rest c.args.scan.now) _ (c.in_err-read_number.ensures.fault))
 
 pub returns-in_err-read_number-2-clause-fault : goal.returns-in_err-read_number-2-clause-fault
 returns-in_err-read_number-2-clause-fault c =
