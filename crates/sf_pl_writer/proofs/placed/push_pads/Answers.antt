@@ -26,7 +26,7 @@ loop-index-preserved c =
         | then-index+in_ok-push_pad w ↦ written scale design i pad before c.if-index.text.items h at (sym flag ∙ w.if-index.true) (ap (λ v. v.items) w.text-is ∙ w.in_ok-push_pad.ensures)
         | else-index w ↦ left_out scale design i before c.if-index.text.items (sym flag ∙ w.if-index.false) (ap (λ v. v.items) w.text-is)
       ] in
-    let place : get_or (range_with_len 0 n) i 0 ≡ i = get_or-range_with_len 0 n i 0 h in
+    let place : get_or (range_with_len 0 n) i 0 ≡ i = omega (arith, get_or-range_with_len 0 n i 0 h) in
     lines_more (pad_lines_of scale design) (range_with_len 0 n) i 0 c.args.text.now.items before c.if-index.text.items
       (omega (arith, h, length-range_with_len 0 n)) c.loop-index.invariant (step ∙ ap (λ v. before ++ pad_lines_of scale design v) (sym place))
 
