@@ -1,5 +1,5 @@
 -- One more line, and one more pin.
-use Rattle.std.proofs.Common.{◌≡◌, ℕ, ◌+◌, ◌<◌, List, [], ◌∷◌, ◌++◌, Bool, true, false, refl, ◌||◌, length, get_or, set, take, ap, sym, subst, ◌∙◌, ◌==◌, ◌≤◌, ◌⊎◌, inl, inr, arith, append_assoc, get_or-set_same, get_or-set_other}
+use Rattle.std.proofs.Common.{◌≡◌, ℕ, ◌+◌, ◌<◌, List, ◌++◌, Bool, true, false, refl, ◌||◌, length, get_or, set, take, ap, sym, subst, ◌∙◌, ◌==◌, ◌≤◌, inl, inr, arith, append_assoc, get_or-set_same, get_or-set_other}
 use Rattle.std.proofs.lemmas.Bool.{cases_eq, eq-eqb, ne_eqb}
 use Rattle.std.specs.List.{flat_map, list_any}
 use Rattle.std.proofs.lemmas.List.{take_more, flat_map_more}
@@ -25,10 +25,11 @@ or_false a = elim a as (λ v. (v || false) ≡ v) [ true ↦ refl | false ↦ re
 
 pub raised : (flags : List Bool) (q p : ℕ) → q < length flags → get_or (set flags q true) p false ≡ (get_or flags p false || (q == p))
 raised flags q p h = elim (cases_eq q p) [
-    inl e ↦ subst (λ v. get_or (set flags q true) v false ≡ true) e (get_or-set_same flags q true false h)
+  | inl e ↦ subst (λ v. get_or (set flags q true) v false ≡ true) e (get_or-set_same flags q true false h)
       ∙ sym (ap (λ v. get_or flags p false || v) (eq-eqb q p e) ∙ or_true (get_or flags p false))
   | inr n ↦ get_or-set_other flags q p true false (λ e. n (sym e))
-      ∙ sym (ap (λ v. get_or flags p false || v) (ne_eqb q p n) ∙ or_false (get_or flags p false)) ]
+      ∙ sym (ap (λ v. get_or flags p false || v) (ne_eqb q p n) ∙ or_false (get_or flags p false))
+]
 
 pub not_raised : (flags : List Bool) (q p : ℕ) → length flags ≤ q → p < length flags → get_or flags p false ≡ (get_or flags p false || (q == p))
 not_raised flags q p h k = sym (ap (λ v. get_or flags p false || v) (ne_eqb q p (λ e. absurd (omega (arith, e, h, k)))) ∙ or_false (get_or flags p false))
@@ -37,4 +38,4 @@ not_raised flags q p h k = sym (ap (λ v. get_or flags p false || v) (ne_eqb q p
 pub line_of : (old name place rest mid line new : List ℕ) → mid ≡ old ++ name → line ≡ place ++ rest → new ≡ mid ++ line → new ≡ old ++ ((name ++ place) ++ rest)
 line_of old name place rest mid line new m l n =
     n ∙ ap (λ v. v ++ line) m ∙ ap (λ v. (old ++ name) ++ v) l
-      ∙ append_assoc old name (place ++ rest) ∙ ap (λ v. old ++ v) (sym (append_assoc name place rest))
+    ∙ append_assoc old name (place ++ rest) ∙ ap (λ v. old ++ v) (sym (append_assoc name place rest))

@@ -1,5 +1,5 @@
 -- How a length in scaled whole units is written in the unit of the file.
-use Rattle.std.specs.Prelude.{◌≡◌, ℕ, ◌*◌, ◌/◌, ◌%◌, ◌==◌, zero, suc, List, [], ◌∷◌, ◌++◌, if◌then◌else◌, ◌⊎◌, ℤ, pos, negsuc, codes}
+use Rattle.std.specs.Prelude.{◌≡◌, ℕ, ◌*◌, ◌/◌, ◌%◌, ◌==◌, zero, suc, List, [], ◌++◌, if◌then◌else◌, ◌⊎◌, ℤ, pos, negsuc, codes}
 use Rattle.std.specs.Fmt.{decimal}
 
 -- how many scaled units a unit of the file can have

@@ -25,9 +25,9 @@ value_text n = if n == MAX then codes "none" else decimal n
 abbrev pub measured_lines : Report → Expr → List ℕ
 measured_lines r expr =
     line (codes "size") (decimal r.size.0 ++ (32 ∷ decimal r.size.1))
-      ++ (line (codes "area") (decimal r.area)
-      ++ (line (codes "wire") (decimal r.wire)
-      ++ line (codes "plan") (expr_text expr)))
+    ++ (line (codes "area") (decimal r.area)
+    ++ (line (codes "wire") (decimal r.wire)
+    ++ line (codes "plan") (expr_text expr)))
 
 abbrev pub no_plan_lines : List ℕ
 no_plan_lines = codes "size none\narea none\nwire none\nplan none\n"
@@ -39,7 +39,7 @@ plan_lines r (Some expr) = measured_lines r expr
 abbrev pub report_text : Report → List ℕ
 report_text r =
     line (codes "status") (outcome_text r.word)
-      ++ (line (codes "cost") (value_text r.cost)
-      ++ (line (codes "bound") (value_text r.bound)
-      ++ (line (codes "decided") (decimal r.decided)
-      ++ plan_lines r r.plan)))
+    ++ (line (codes "cost") (value_text r.cost)
+    ++ (line (codes "bound") (value_text r.bound)
+    ++ (line (codes "decided") (decimal r.decided)
+    ++ plan_lines r r.plan)))

@@ -10,7 +10,12 @@ use std::alloc::{AllocError as NoMemory, Global};
 
 /// The GSRC pl text of a placement: a line for each block, and one for each pad that stands in a
 /// net. `scale` scaled units are a unit of the file.
-pub fn pl_text(alloc: Global, design: &Design, spots: &[Spot], scale: u64) -> Result<Vec<u8>, NoMemory>
+pub fn pl_text(
+    alloc: Global,
+    design: &Design,
+    spots: &[Spot],
+    scale: u64,
+) -> Result<Vec<u8>, NoMemory>
     requires one_each { length spots.now ≡ block_count design.now }
     requires scale { IsScale scale }
     ensures text { IfOk result (λ text. text.items ≡ pl_text design.now spots.now scale) }
@@ -21,7 +26,12 @@ pub fn pl_text(alloc: Global, design: &Design, spots: &[Spot], scale: u64) -> Re
     Ok(text)
 }
 
-fn push_blocks(text: &mut Vec<u8>, blocks: &[Block], spots: &[Spot], scale: u64) -> Result<(), NoMemory>
+fn push_blocks(
+    text: &mut Vec<u8>,
+    blocks: &[Block],
+    spots: &[Spot],
+    scale: u64,
+) -> Result<(), NoMemory>
     requires one_each { length spots.now ≡ length blocks.now }
     requires scale { IsScale scale }
     ensures { OnOk result (text.new.items ≡ text.old.items ++ block_lines scale blocks.now spots.now) }

@@ -78,7 +78,8 @@ fn writes_reports(rt: HostRuntime) -> Result<(), Fail> {
         wire: 0,
         plan: None,
     };
-    let wanted = b"status NoneFits\ncost none\nbound none\ndecided 1\nsize none\narea none\nwire none\nplan none\n";
+    let wanted =
+        b"status NoneFits\ncost none\nbound none\ndecided 1\nsize none\narea none\nwire none\nplan none\n";
     let text = report_text(alloc, &report)?;
     assert_eq!(rt; text.as_slice(), wanted.as_slice());
     let expr = Expr {
@@ -96,7 +97,8 @@ fn writes_reports(rt: HostRuntime) -> Result<(), Fail> {
         wire: 0,
         plan: Some(expr),
     };
-    let wanted = b"status Optimal\ncost 12\nbound 12\ndecided 2\nsize 3 4\narea 12\nwire 0\nplan 0:3x4\n";
+    let wanted =
+        b"status Optimal\ncost 12\nbound 12\ndecided 2\nsize 3 4\narea 12\nwire 0\nplan 0:3x4\n";
     let text = report_text(alloc, &report)?;
     assert_eq!(rt; text.as_slice(), wanted.as_slice());
     Ok(())

@@ -1,4 +1,4 @@
-use Rattle.std.proofs.Common.{◌≡◌, ℕ, ◌<◌, ◌≤◌, ◌++◌, length, get_or, ap, sym, ◌∙◌, arith}
+use Rattle.std.proofs.Common.{◌≡◌, ◌<◌, ◌≤◌, ◌++◌, length, get_or, ap, sym, ◌∙◌, arith}
 use Rattle.std.specs.Prelude.{pos}
 use Rattle.std.specs.List.{flat_map, zip}
 use Rattle.std.proofs.lemmas.List.{take_all}
@@ -24,7 +24,7 @@ loop-index-preserved c =
     let pair : line (get_or (zip blocks spots) i d) ≡ block_line c.args.scale (get_or blocks i block) (get_or spots i none) = ap line (get_or-zip blocks spots i d k h) in
     let before = c.loop-index.text.items in
     lines_more line (zip blocks spots) i d c.args.text.now.items before c.push_block.new.text.items l c.loop-index.invariant
-      (c.in_ok-push_block.ensures ∙ ap (λ v. before ++ v) (ap (λ v. block_line c.args.scale v (get_or spots i none)) c.index-blocks-index.is ∙ sym pair))
+    (c.in_ok-push_block.ensures ∙ ap (λ v. before ++ v) (ap (λ v. block_line c.args.scale v (get_or spots i none)) c.index-blocks-index.is ∙ sym pair))
 
 pub returns : goal.returns
 returns c =

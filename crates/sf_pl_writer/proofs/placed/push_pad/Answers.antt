@@ -18,9 +18,9 @@ returns c =
     let x = to_z-of_z w64 c.from.result gx ∙ c.from.ensures ∙ to_z-of_z w32 pad.x fx in
     let y = to_z-of_z w64 c.from-2.result gy ∙ c.from-2.ensures ∙ to_z-of_z w32 pad.y fy in
     let place : string_bytes c.in_ok-line.line ≡ place_text scale pad.x pad.y =
-      c.in_ok-line.ensures ∙ ap (λ v. place_text scale v (to_z w64 (of_z w64 c.from-2.result))) x ∙ ap (place_text scale pad.x) y in
+    c.in_ok-line.ensures ∙ ap (λ v. place_text scale v (to_z w64 (of_z w64 c.from-2.result))) x ∙ ap (place_text scale pad.x) y in
     line_of c.args.text.now.items pad.name (place_text scale pad.x pad.y) (codes "\n")
-      c.extend_from_slice.new.self.items c.as_bytes-2.result.now c.extend_from_slice-2.new.self.items
-      (c.in_ok-extend_from_slice.ensures.items ∙ ap (λ v. c.args.text.now.items ++ v) c.as_bytes.ensures.value)
-      (c.as_bytes-2.ensures.value ∙ c.in_ok-push_str.ensures.bytes ∙ ap (λ v. v ++ codes "\n") place)
-      c.in_ok-extend_from_slice-2.ensures.items
+    c.extend_from_slice.new.self.items c.as_bytes-2.result.now c.extend_from_slice-2.new.self.items
+    (c.in_ok-extend_from_slice.ensures.items ∙ ap (λ v. c.args.text.now.items ++ v) c.as_bytes.ensures.value)
+    (c.as_bytes-2.ensures.value ∙ c.in_ok-push_str.ensures.bytes ∙ ap (λ v. v ++ codes "\n") place)
+    c.in_ok-extend_from_slice-2.ensures.items

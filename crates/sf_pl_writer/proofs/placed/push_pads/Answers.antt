@@ -1,4 +1,4 @@
-use Rattle.std.proofs.Common.{◌≡◌, ℕ, ◌<◌, ◌≤◌, ◌++◌, false, length, get_or, ap, sym, ◌∙◌, arith}
+use Rattle.std.proofs.Common.{◌≡◌, ◌<◌, ◌≤◌, ◌++◌, false, length, get_or, ap, sym, ◌∙◌, arith}
 use Rattle.std.specs.List.{flat_map, range_with_len}
 use Rattle.std.proofs.lemmas.List.{take_all, get_or_default}
 use Rattle.std.proofs.lemmas.List.FromFn.{length-range_with_len, get_or-range_with_len}
@@ -19,16 +19,16 @@ loop-index-preserved c =
     let flags = c.in_ok-standing.standing.items in
     let low : i < length flags = omega (arith, h, c.in_ok-standing.ensures.len) in
     let flag : c.index.result.now ≡ stands_in design.nets i =
-      c.index.ensures ∙ get_or_default flags i c.index.result.now false low ∙ c.in_ok-standing.ensures.standing i h in
+    c.index.ensures ∙ get_or_default flags i c.index.result.now false low ∙ c.in_ok-standing.ensures.standing i h in
     let pad = c.pad-item.result in
     let at : pad ≡ get_or design.pads i pad = c.pad-item.is ∙ ap (λ v. get_or v i pad) c.as_slice-pad-items.ensures in
     let step : c.if-index.text.items ≡ before ++ pad_lines_of scale design i = elim c.if-index.branch [
-        | then-index+in_ok-push_pad w ↦ written scale design i pad before c.if-index.text.items h at (sym flag ∙ w.if-index.true) (ap (λ v. v.items) w.text-is ∙ w.in_ok-push_pad.ensures)
-        | else-index w ↦ left_out scale design i before c.if-index.text.items (sym flag ∙ w.if-index.false) (ap (λ v. v.items) w.text-is)
-      ] in
+      | then-index+in_ok-push_pad w ↦ written scale design i pad before c.if-index.text.items h at (sym flag ∙ w.if-index.true) (ap (λ v. v.items) w.text-is ∙ w.in_ok-push_pad.ensures)
+      | else-index w ↦ left_out scale design i before c.if-index.text.items (sym flag ∙ w.if-index.false) (ap (λ v. v.items) w.text-is)
+    ] in
     let place : get_or (range_with_len 0 n) i 0 ≡ i = omega (arith, get_or-range_with_len 0 n i 0 h) in
     lines_more (pad_lines_of scale design) (range_with_len 0 n) i 0 c.args.text.now.items before c.if-index.text.items
-      (omega (arith, h, length-range_with_len 0 n)) c.loop-index.invariant (step ∙ ap (λ v. before ++ pad_lines_of scale design v) (sym place))
+    (omega (arith, h, length-range_with_len 0 n)) c.loop-index.invariant (step ∙ ap (λ v. before ++ pad_lines_of scale design v) (sym place))
 
 pub returns : goal.returns
 returns c =
