@@ -1,18 +1,17 @@
 -- The nets that are kept signal by signal are those of the distinct signals.
-use Rattle.std.proofs.Common.{◌≡◌, ℕ, zero, suc, ◌+◌, ◌<◌, ◌≤◌, Bool, true, false, cond, List, [], ◌∷◌, ◌++◌, length, Option, Some, None, refl, sym, ap, subst, ◌∙◌, arith, append_assoc, length-append, eq-eqb}
-use Rattle.std.specs.Prelude.{map, fold, is_some, slice_get, ◌-◌, ◌==◌}
+use Rattle.std.proofs.Common.{◌≡◌, ℕ, suc, ◌+◌, ◌<◌, ◌≤◌, Bool, true, false, cond, List, [], ◌∷◌, ◌++◌, length, Option, Some, None, refl, sym, ap, ◌∙◌, arith, length-append, eq-eqb}
+use Rattle.std.specs.Prelude.{fold, is_some, slice_get, ◌-◌, ◌==◌}
 use Rattle.std.specs.Option.{option_map}
 use Rattle.std.specs.Str.{bytes_eq}
-use Rattle.std.proofs.lemmas.List.{append-nil, map-append}
+use Rattle.std.proofs.lemmas.List.{append-nil}
 use Rattle.std.proofs.lemmas.Slice.Eq.{bytes_eq-Decides}
 use Rattle.std.proofs.lemmas.Bool.Decides.{nat_tests}
-use Rattle.sf_model.specs.declared.raw.RawNet.{RawNet}
 use Rattle.sf_model.specs.declared.raw.RawPin.{RawPin}
 use Rattle.sf_model.specs.declared.raw.RawPin.TheVariants as pins
 use Rattle.sf_yal.specs.Names.{index_of, has_name}
-use Rattle.sf_yal.specs.Parts.{with_signal, with_signals, signals_of, block_pins, pad_pins, net_of, nets_of}
-use Rattle.sf_yal.specs.Using.{NetUse, Uses, nothing_used, is_block, is_some_block, ends_with, with_pin, with_net_pin, with_pin_at, net_opened, used_at, used_once, used_all, used_by, finished_net}
-use Rattle.sf_yal.proofs.Indexes.{push_new, push_other, none_under, some_not_none}
+use Rattle.sf_yal.specs.Parts.{with_signal, with_signals, block_pins}
+use Rattle.sf_yal.specs.Using.{is_block, is_some_block, ends_with, with_pin}
+use Rattle.sf_yal.proofs.Indexes.{push_other, none_under, some_not_none}
 
 abbrev pub Signals : Type 0
 Signals = List (List ℕ)

@@ -1,12 +1,10 @@
 -- A text stands for parts exactly where reading gives them.
-use Rattle.std.proofs.Common.{◌≡◌, ◌≢◌, ℕ, ◌<◌, Bool, true, false, List, [], ◌∷◌, ◌++◌, Option, Some, None, Result, Ok, Err, refl, sym, ap, subst, ◌∙◌, arith, eq-eqb, append_assoc}
-use Rattle.std.specs.Prelude.{map, ◌||◌, ◌&&◌, ◌==◌}
+use Rattle.std.proofs.Common.{◌≡◌, ◌≢◌, ℕ, ◌<◌, Bool, true, false, List, [], ◌∷◌, ◌++◌, Option, Some, None, Result, Ok, Err, refl, sym, ap, subst, ◌∙◌, arith, append_assoc}
+use Rattle.std.specs.Prelude.{◌==◌}
 use Rattle.std.specs.List.{AllZip}
 use Rattle.std.proofs.lemmas.Bool.Decides.{nat_tests}
 use Rattle.std.proofs.lemmas.List.{append-nil}
 use Rattle.sf_model.specs.declared.raw.RawBlock.{RawBlock}
-use Rattle.sf_model.specs.declared.raw.RawNet.{RawNet}
-use Rattle.sf_model.specs.declared.raw.RawPad.{RawPad}
 use Rattle.sf_model.specs.declared.raw.Kind.TheVariants as kinds
 use Rattle.sf_model.specs.declared.raw.Parts.{Parts}
 use Rattle.sf_yal.specs.declared.fault.YalFault.{YalFault}
@@ -15,11 +13,10 @@ use Rattle.sf_yal.specs.declared.found.Place.{Place}
 use Rattle.sf_yal.specs.declared.found.Place.TheVariants as places
 use Rattle.sf_yal.specs.declared.vertices.Size.{Size}
 use Rattle.sf_yal.specs.Statements.{statements_of, is_ended, last_line}
-use Rattle.sf_yal.specs.Box.{◌>>=◌}
 use Rattle.sf_yal.specs.Names.{index_of}
 use Rattle.sf_yal.specs.Instances.{Instance}
 use Rattle.sf_yal.specs.Reading.{Reading, start, after_statements}
-use Rattle.sf_yal.specs.Parts.{size_at, unknown, boxed, block_by, block_of, blocks_from, nets_of, parts_with, parts_by, is_outside, parts_read, yal_read}
+use Rattle.sf_yal.specs.Parts.{size_at, boxed, block_by, block_of, blocks_from, parts_with, parts_by, is_outside, parts_read, yal_read}
 use Rattle.sf_yal.specs.Standing.{SayAll, IsBlockOf, StandsFor}
 use Rattle.sf_yal.proofs.StandingLaws.{bind_ok, all_from, from_all}
 
@@ -52,7 +49,13 @@ module _ (r : Reading) (parent : ℕ) (i : Instance) where
   sized_by k size b true h known child at ew eh read = absurd (err_not_ok (faults.ZeroSide i.line) b (rw ew at read))
   sized_by k size b false true known child at ew eh read = absurd (err_not_ok (faults.ZeroSide i.line) b (rw (ew, eh) at read))
   sized_by k size b false false known child at ew eh read = record {
-    module_place = k; size = size; known = known; child = child; boxed = at; wide = some_side size.w ew; high = some_side size.h eh;
+    module_place = k;
+    size = size;
+    known = known;
+    child = child;
+    boxed = at;
+    wide = some_side size.w ew;
+    high = some_side size.h eh;
     block_is = ok_is (record { name = i.name; kind = kinds.Hard size.w size.h }) b (rw (ew, eh) at read);
   }
 
@@ -108,9 +111,17 @@ module _ (scale : ℕ) (text : List ℕ) where
       let all = blocks_all r parent [] r.instances k.0 k.1 in
       let is = ok_is (parts_with r k.0) out k.2 in
       record {
-        said = r; each = each; ended = ended; closed = outside_is r.place closed; parent = parent; one_parent = one;
+        said = r;
+        each = each;
+        ended = ended;
+        closed = outside_is r.place closed;
+        parent = parent;
+        one_parent = one;
         blocks = subst (λ (blocks : List RawBlock). AllZip (IsBlockOf r parent) r.instances blocks) (sym (ap (λ (p : Parts). p.blocks) is ∙ all.1)) all.2;
-        nets = ap (λ (p : Parts). p.nets) is; pads = ap (λ (p : Parts). p.pads) is; strangers = ap (λ (p : Parts). p.strangers) is; pads_in = ap (λ (p : Parts). p.pads_in) is;
+        nets = ap (λ (p : Parts). p.nets) is;
+        pads = ap (λ (p : Parts). p.pads) is;
+        strangers = ap (λ (p : Parts). p.strangers) is;
+        pads_in = ap (λ (p : Parts). p.pads_in) is;
       }
 
   ended_by : (r : Reading) (out : Parts) (a b : Bool) → SayAll scale start (statements_of text) r → is_ended text ≡ a → is_outside r.place ≡ b → parts_read (last_line text) (is_ended text) r ≡ Ok out → StandsFor scale text out

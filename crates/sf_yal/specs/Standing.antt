@@ -1,5 +1,5 @@
 -- A text and what it stands for, as a relation on its statements.
-use Rattle.std.specs.Prelude.{◌≡◌, ◌≢◌, ℕ, ◌<◌, Bool, true, false, ◌||◌, ◌&&◌, not, List, [], ◌∷◌, map, Option, Some, None, Result, Ok, ℤ}
+use Rattle.std.specs.Prelude.{◌≡◌, ◌≢◌, ℕ, ◌<◌, Bool, true, false, ◌||◌, ◌&&◌, not, List, [], ◌∷◌, map, Some, None, Result, Ok, ℤ}
 use Rattle.std.specs.List.{AllZip}
 use Rattle.sf_lex.specs.declared.number.NumberFault.{NumberFault}
 use Rattle.sf_model.specs.declared.raw.RawBlock.{RawBlock}

@@ -10,9 +10,9 @@ ghost use Rattle.sf_yal.specs.Parts.{parts_by, yal_read};
 use crate::blocks::read_instances;
 use crate::comments::hide_comments;
 use crate::fault::YalFault;
-use crate::field::{first_line, last_line_of, line_feeds, next_field, next_piece};
 use crate::found::{Found, Place};
 use crate::nets::read_nets;
+use crate::piece::{first_line, last_line_of, line_feeds, next_piece, next_word};
 use sf_model::{NameList, Parts, RawBlockList, RawPadList};
 use std::alloc::Global;
 
@@ -62,7 +62,7 @@ fn read_exactly(alloc: Global, text: &[u8], scale: u64) -> Result<Parts, YalFaul
 {
     let (hidden, open) = hide_comments(alloc, text)?;
     let (found, rest) = read_statements(alloc, &hidden, scale)?;
-    if open || next_field(rest).is_some() || found.place != Place::Outside {
+    if open || next_word(rest).is_some() || found.place != Place::Outside {
         return Err(YalFault::Truncated(last_line_of(&hidden)));
     }
     let Some(parent) = found.parent else {
