@@ -1,9 +1,9 @@
-use Rattle.std.proofs.Common.{◌<◌, ◌≤◌, length, arith, sym, ap}
+use Rattle.std.proofs.Common.{◌<◌, ◌≤◌, length, arith}
 use Rattle.std.specs.List.{position_or_len}
 use Rattle.std.proofs.lemmas.Bool.Decides.{nat_tests}
 use Rattle.sf_yal.specs.Statements.{is_semicolon}
 use Rattle.sf_yal.proofs.Cutting.{split_whole, split_first}
-use Rattle.sf_yal.proofs.field.next_piece.Goals as goal
+use Rattle.sf_yal.proofs.piece.next_piece.Goals as goal
 
 pub returns-then-is_empty-clause-pieces : goal.returns-then-is_empty-clause-pieces
 returns-then-is_empty-clause-pieces c =

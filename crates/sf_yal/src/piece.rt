@@ -1,10 +1,11 @@
-//! Words and pieces at the front of some bytes. Nothing here takes memory.
+//! Words and pieces at the front of a text, and the lines in which they stand. Nothing here takes memory.
 
 ghost use Rattle.std.specs.Prelude.{◌≡◌, ◌+◌, ◌^◌, ◌≤◌, ◌<◌, [], ◌∷◌, length, MatchOption, IfSome};
-ghost use Rattle.std.specs.List.{prefix_len, position_or_len, suffix_len, before_first};
+ghost use Rattle.std.specs.List.{prefix_len, position_or_len, suffix_len};
 ghost use Rattle.sf_lex.specs.Text.{words, is_blank_byte};
-ghost use Rattle.sf_yal.specs.Words.{first_word, after_word};
-ghost use Rattle.sf_yal.specs.Statements.{is_semicolon, pieces, feeds, statement_at, has_no_word, without_end, line_of_last, Statement, last_piece, statements};
+ghost use Rattle.sf_yal.specs.Statements.{is_semicolon, pieces, feeds, statement_at, without_end, line_of_last};
+
+use sf_lex::{Gap, count_fields, next_field};
 
 fn is_blank(byte: u8) -> bool
     ensures { result ≡ is_blank_byte byte }
@@ -30,13 +31,6 @@ fn blanks_at_end(bytes: &[u8]) -> usize
         .count()
 }
 
-fn word_len(bytes: &[u8]) -> usize
-    ensures value { result ≡ position_or_len is_blank_byte bytes.now }
-    ensures bound { result ≤ length bytes.now }
-{
-    bytes.iter().take_while(|byte| !is_blank(**byte)).count()
-}
-
 fn piece_len(bytes: &[u8]) -> usize
     ensures value { result ≡ position_or_len is_semicolon bytes.now }
     ensures bound { result ≤ length bytes.now }
@@ -52,42 +46,20 @@ pub fn line_feeds(bytes: &[u8]) -> u64
     bytes.iter().filter(|byte| **byte == b'\n').count() as u64
 }
 
-/// The first word and what follows it. The word is empty where there is none.
-fn split_word(bytes: &[u8]) -> (&[u8], &[u8])
-    ensures word { result.0.now ≡ first_word bytes.now }
-    ensures rest { result.1.now ≡ after_word bytes.now }
-    ensures bound { length result.0.now + length result.1.now ≤ length bytes.now }
-{
-    let (_, rest) = bytes.split_at(blanks_at_front(bytes));
-    rest.split_at(word_len(rest))
-}
-
 /// The next word and what follows it.
-pub fn next_field(bytes: &[u8]) -> Option<(&[u8], &[u8])>
+pub fn next_word(bytes: &[u8]) -> Option<(&[u8], &[u8])>
     ensures words { MatchOption result (words is_blank_byte bytes.now ≡ [])
         (λ r. words is_blank_byte bytes.now ≡ r.0.now ∷ words is_blank_byte r.1.now) }
     ensures not_empty { IfSome result (λ r. 0 < length r.0.now) }
-    ensures shorter { IfSome result (λ r. length r.1.now < length bytes.now) }
 {
-    let (word, rest) = split_word(bytes);
-    if word.is_empty() {
-        None
-    } else {
-        Some((word, rest))
-    }
+    next_field(bytes, Gap::Blanks)
 }
 
 /// How many words there are.
-pub fn count_fields(bytes: &[u8]) -> usize
+pub fn count_words(bytes: &[u8]) -> usize
     ensures { result ≡ length (words is_blank_byte bytes.now) }
 {
-    let mut count = 0;
-    let mut rest = bytes;
-    while let Some((_, after)) = next_field(rest) {
-        rest = after;
-        count += 1;
-    }
-    count
+    count_fields(bytes, Gap::Blanks)
 }
 
 /// The bytes up to the next semicolon, and those behind it.
