@@ -49,7 +49,11 @@ fn compare_steps(first: &[Step], second: &[Step]) -> Ordering
         left = more;
         right = rest;
     }
-    if right.is_empty() { Ordering::Equal } else { Ordering::Less }
+    if right.is_empty() {
+        Ordering::Equal
+    } else {
+        Ordering::Less
+    }
 }
 
 fn tag_of(kind: Kind) -> Tag
@@ -111,7 +115,8 @@ fn least_bound(cost: u64, left: &[Task]) -> u64
     bound
 }
 
-/// The tree of the entries and the open tasks. Its bound is the least of the cost and the open bounds.
+/// The certificate of a search: the tree of its entries and open tasks, from the root. The plan costs `cost`, or there is
+/// none and `cost` is MAX.
 pub fn merge<V: Values>(
     alloc: Global,
     design: &Design,

@@ -1,9 +1,10 @@
 //! The text of a certificate.
 
-ghost use Rattle.std.specs.Prelude.{◌≡◌, [], ◌∷◌, ◌++◌, IfOk, OnOk, string_bytes, codes, length, MatchOption, ⊤};
+ghost use Rattle.std.specs.Prelude.{◌≡◌, ◌<◌, ◌^◌, [], ◌∷◌, ◌++◌, All, IfOk, OnOk, string_bytes, codes, length, MatchOption, Ok, ⊤};
 ghost use Rattle.std.specs.Fmt.{decimal};
 ghost use Rattle.sf_polish.specs.Normal.{IsNormal};
-ghost use Rattle.sf_certificate.specs.Text.{cost_text, plan_text, header_lines, ended, tag_text, tags_text, cert_text};
+ghost use Rattle.sf_certificate.specs.Reading.{cert_read, said_by};
+ghost use Rattle.sf_certificate.specs.Text.{cost_text, plan_text, header_lines, ended, tag_text, tags_text, cert_text, FitsTag};
 
 use crate::cert::Cert;
 use crate::tag::Tag;
@@ -14,6 +15,8 @@ use std::alloc::{AllocError as NoMemory, Global};
 /// The text of a certificate: a header of six lines, then one line for each tag.
 pub fn write(alloc: Global, cert: &Cert) -> Result<Vec<u8>, NoMemory>
     ensures text { IfOk result (λ text. text.items ≡ cert_text cert.now) }
+    // What is written is read as the same certificate.
+    ensures read_back { IfOk result (λ text. cert_read cert.now.blocks text.items ≡ Ok (said_by cert.now)) }
 {
     let mut text = String::new(alloc);
     push_header(&mut text, cert)?;
@@ -22,7 +25,9 @@ pub fn write(alloc: Global, cert: &Cert) -> Result<Vec<u8>, NoMemory>
 }
 
 fn push_header(text: &mut String, cert: &Cert) -> Result<(), NoMemory>
-    ensures { OnOk result (string_bytes text.new
+    ensures cost { OnOk result (cert.now.cost < 2 ^ 64) }
+    ensures bound { OnOk result (cert.now.bound < 2 ^ 64) }
+    ensures text { OnOk result (string_bytes text.new
         ≡ string_bytes text.old ++ ended (header_lines cert.now.blocks cert.now.plan cert.now.cost cert.now.bound)) }
 {
     push_title(text, cert.blocks)?;
@@ -41,7 +46,8 @@ fn push_title(text: &mut String, blocks: u16) -> Result<(), NoMemory>
 }
 
 fn push_cost(text: &mut String, label: &str, cost: u64) -> Result<(), NoMemory>
-    ensures { OnOk result (string_bytes text.new ≡ string_bytes text.old ++ (label.now ++ 32 ∷ (cost_text cost ++ 10 ∷ []))) }
+    ensures cost { OnOk result (cost < 2 ^ 64) }
+    ensures text { OnOk result (string_bytes text.new ≡ string_bytes text.old ++ (label.now ++ 32 ∷ (cost_text cost ++ 10 ∷ []))) }
 {
     if cost == MAX {
         write!(text, "{label} none\n")
@@ -65,7 +71,8 @@ fn push_plan(text: &mut String, plan: &Option<Expr>) -> Result<(), NoMemory>
 
 /// Adds the lines of the tags.
 fn push_tags(text: &mut String, tags: &[Tag]) -> Result<(), NoMemory>
-    ensures { OnOk result (string_bytes text.new ≡ string_bytes text.old ++ tags_text tags.now) }
+    ensures fits { OnOk result (All FitsTag tags.now) }
+    ensures text { OnOk result (string_bytes text.new ≡ string_bytes text.old ++ tags_text tags.now) }
 {
     for tag in tags {
         push_tag(text, *tag)?;
@@ -75,7 +82,8 @@ fn push_tags(text: &mut String, tags: &[Tag]) -> Result<(), NoMemory>
 }
 
 fn push_tag(text: &mut String, tag: Tag) -> Result<(), NoMemory>
-    ensures { OnOk result (string_bytes text.new ≡ string_bytes text.old ++ tag_text tag) }
+    ensures fits { OnOk result (FitsTag tag) }
+    ensures text { OnOk result (string_bytes text.new ≡ string_bytes text.old ++ tag_text tag) }
 {
     match tag {
         Tag::Extend => text.push('E'),

@@ -1,8 +1,7 @@
 -- The parts that are joined.
-use Rattle.std.proofs.Common.{◌≡◌, ℕ, true, List, [], ◌∷◌, map, Option, Some, None, Result, Ok, Err, refl, sym, ap, ◌∙◌}
+use Rattle.std.proofs.Common.{◌≡◌, ℕ, true, List, [], ◌∷◌, map, Option, Some, None, Ok, refl, sym, ap, ◌∙◌}
 use Rattle.sf_model.specs.declared.raw.RawPad.{RawPad}
 use Rattle.sf_model.specs.declared.raw.RawNet.{RawNet}
-use Rattle.sf_model.specs.declared.raw.Parts.{Parts}
 use Rattle.sf_gsrc.specs.declared.fault.JoinFault.{JoinFault}
 use Rattle.sf_gsrc.specs.declared.fault.JoinFault.TheVariants as faults
 use Rattle.sf_gsrc.specs.declared.output.GsrcBlocks.{GsrcBlocks}

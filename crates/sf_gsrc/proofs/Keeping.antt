@@ -1,5 +1,5 @@
 -- One entry more.
-use Rattle.std.proofs.Common.{◌≡◌, ℕ, Bool, true, false, List, [], ◌∷◌, ◌++◌, Option, Some, None, Result, Ok, Err, refl, sym, ap, ◌∙◌, append_assoc}
+use Rattle.std.proofs.Common.{◌≡◌, ℕ, true, false, List, [], ◌∷◌, ◌++◌, Option, Some, None, Result, Ok, Err, refl, sym, ap, ◌∙◌}
 use Rattle.std.specs.Prelude.{is_some}
 use Rattle.std.specs.List.{filter_map, cons_option}
 use Rattle.std.proofs.lemmas.List.{append-nil}
@@ -13,12 +13,12 @@ use Rattle.sf_gsrc.specs.declared.fault.LineFault.TheVariants.{BadLine, BadNumbe
 use Rattle.sf_lex.specs.declared.field.Gap.TheVariants.{Colons}
 use Rattle.sf_gsrc.specs.declared.keywords.Counted.{Counted}
 use Rattle.sf_gsrc.specs.declared.keywords.Counted.TheVariants as counts
-use Rattle.sf_gsrc.specs.declared.count.Count.{Count}
 use Rattle.sf_gsrc.specs.declared.found.Found.{Found}
 use Rattle.sf_lex.specs.Gap.{is_gap}
 use Rattle.sf_gsrc.specs.Line.{BlockIs, PadIs, count_said}
-use Rattle.sf_gsrc.specs.Blocks.{Entry, CountIs, ItemIs, or_else, count_at, count_in, block_at, blocks_in, pad_at, pads_in, count_after, fault_at, entry_at, Fails}
-use Rattle.sf_gsrc.specs.Found.{IsFound, count_kept, with_count, Takes}
+use Rattle.sf_gsrc.specs.Blocks.{Entry, CountIs, ItemIs, or_else, count_at, count_in, block_at, blocks_in, pad_at, pads_in, count_after, fault_at, Fails}
+use Rattle.sf_gsrc.proofs.Results.{none_of}
+use Rattle.sf_gsrc.specs.Found.{IsFound, count_kept, with_count}
 
 or_else_assoc : {X : Type 0} (a b c : Option X) → or_else a (or_else b c) ≡ or_else (or_else a b) c
 or_else_assoc None b c = refl
@@ -44,10 +44,6 @@ pub count_is_kept : (which : Counted) (found : Found) (es : List Entry) → IsFo
 count_is_kept counts.Soft found es is = is.soft
 count_is_kept counts.Hard found es is = is.hard
 count_is_kept counts.Terminals found es is = is.terminals
-
-none_of : {X : Type 0} (o : Option X) → is_some o ≡ false → o ≡ None
-none_of None e = refl
-none_of (Some x) e = absurd cc
 
 -- a count that is new is kept
 pub keeps_count : (which : Counted) (found : Found) (es : List Entry) (n said : ℕ) → IsFound found es → is_some (count_kept found which) ≡ false

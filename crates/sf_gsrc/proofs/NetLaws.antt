@@ -1,9 +1,9 @@
 -- A nets file stands for nets exactly where reading gives them.
-use Rattle.std.proofs.Common.{◌≡◌, ℕ, zero, suc, ◌+◌, ◌≤◌, Bool, true, false, List, [], ◌∷◌, ◌++◌, length, map, Option, Some, None, Result, Ok, Err, refl, sym, ap, subst, ◌∙◌, append_assoc, arith, eq-eqb}
+use Rattle.std.proofs.Common.{◌≡◌, ℕ, ◌+◌, ◌≤◌, Bool, true, false, List, [], ◌∷◌, ◌++◌, length, map, Option, Some, None, Result, Ok, Err, refl, sym, ap, subst, ◌∙◌, append_assoc, arith, eq-eqb}
 use Rattle.std.specs.Prelude.{codes, is_some, ◌==◌}
-use Rattle.std.specs.List.{AllZip, filter_map, flat_map, cons_option}
+use Rattle.std.specs.List.{AllZip, filter_map, flat_map}
 use Rattle.std.proofs.lemmas.Bool.{eqb-true}
-use Rattle.std.proofs.lemmas.List.{length-append, append-nil, length-map}
+use Rattle.std.proofs.lemmas.List.{length-append, append-nil}
 use Rattle.sf_lex.specs.Scan.{Line}
 use Rattle.sf_lex.specs.Gap.{first_word}
 use Rattle.sf_lex.specs.declared.field.Gap.TheVariants.{Blanks}
@@ -18,11 +18,10 @@ use Rattle.sf_gsrc.specs.declared.keywords.NetWord.TheVariants as net_words
 use Rattle.sf_gsrc.specs.declared.count.Count.{Count}
 use Rattle.sf_gsrc.specs.declared.output.GsrcNets.{GsrcNets}
 use Rattle.sf_gsrc.specs.Keywords.{net_word_by}
-use Rattle.sf_gsrc.specs.Line.{◌>>=◌}
 use Rattle.sf_gsrc.specs.Blocks.{content_of, is_title, last_of, compared}
 use Rattle.sf_gsrc.specs.Nets.{NetEntry, NetSaid, NetsAre, PinsAre, DegreeIs, PinIs, nets_said, degree_said, last_pins, earlier_nets, with_last, nets_of, degree_kept, net_entry_at, number_of_line, net_entry_by, net_entry_after, net_entries_from, nets_counted, nets_finished, nets_titled, nets_read}
 use Rattle.sf_gsrc.specs.NetsStanding.{SaysNetBy, SaysNet, nets_count, net_part, net_lines, net_of, NetsStandFor}
-use Rattle.sf_gsrc.proofs.Results.{bind_ok, ok_is, err_not_ok}
+use Rattle.sf_gsrc.proofs.Results.{bind_ok, ok_is, err_not_ok, none_of}
 
 -- ---- what earlier lines leave open
 
@@ -133,10 +132,6 @@ kept_ok_by d found next x false e h = absurd (err_not_ok (faults.BadDegree d.lin
 kept_ok : {X : Type 0} (o : Option Count) (found : ℕ) (next : Result X GsrcFault) (x : X) → degree_kept o found next ≡ Ok x → IsFull o found × (next ≡ Ok x)
 kept_ok None found next x h = (tt, h)
 kept_ok (Some d) found next x h = kept_ok_by d found next x (d.said == found) refl h
-
-none_of : {X : Type 0} (o : Option X) → is_some o ≡ false → o ≡ None
-none_of None e = refl
-none_of (Some x) e = absurd cc
 
 -- a line that was read, before lines that were read
 nets_line_read : (past final : List NetEntry) (line : Line) (ls : List Line) (e : NetEntry) (b : Bool) → net_word_by line.bytes ≡ Some net_words.Nets → is_some (nets_said past) ≡ b → net_entry_by past line (Some net_words.Nets) ≡ Ok e

@@ -1,5 +1,6 @@
--- What a result says of the steps that gave it.
-use Rattle.std.proofs.Common.{◌≡◌, Result, Ok, Err, refl}
+-- What a result says of the steps that gave it, and a test of an option.
+use Rattle.std.proofs.Common.{◌≡◌, false, Option, Some, None, Result, Ok, Err, refl}
+use Rattle.std.specs.Prelude.{is_some}
 use Rattle.sf_gsrc.specs.Line.{◌>>=◌}
 
 -- one step after another gives what the second gives of the first
@@ -15,3 +16,8 @@ ok_is x y e = cc
 
 pub err_not_ok : {A E : Type 0} (f : E) (x : A) → Err f ≡ Ok x → ⊥
 err_not_ok f x e = absurd cc
+
+-- a test that fails says that there is none
+pub none_of : {X : Type 0} (o : Option X) → is_some o ≡ false → o ≡ None
+none_of None e = refl
+none_of (Some x) e = absurd cc

@@ -1,9 +1,8 @@
 -- A text stands for an output exactly where reading gives it.
-use Rattle.std.proofs.Common.{◌≡◌, ℕ, zero, suc, ◌+◌, ◌≤◌, ◌<◌, Bool, true, false, cond, List, [], ◌∷◌, ◌++◌, length, Option, Some, None, Result, Ok, Err, refl, sym, ap, subst, ◌∙◌, append_assoc, arith, eq-eqb}
+use Rattle.std.proofs.Common.{◌≡◌, ℕ, ◌+◌, ◌≤◌, Bool, true, false, List, [], ◌∷◌, ◌++◌, length, Option, Some, None, Result, Ok, Err, refl, sym, ap, subst, ◌∙◌, append_assoc, arith, eq-eqb}
 use Rattle.std.specs.Prelude.{is_some, not, codes, count_by, ◌==◌}
-use Rattle.std.specs.List.{AllZip, filter_map, cons_option}
+use Rattle.std.specs.List.{AllZip, cons_option}
 use Rattle.std.proofs.lemmas.Bool.{eqb-true}
-use Rattle.std.proofs.lemmas.Bool.Decides.{nat_tests}
 use Rattle.std.proofs.lemmas.List.{length-append, append-nil}
 use Rattle.std.proofs.lemmas.List.Elements.{filter_map-append}
 use Rattle.sf_lex.specs.Scan.{Line}
@@ -17,7 +16,7 @@ use Rattle.sf_gsrc.specs.declared.keywords.Counted.TheVariants as counts
 use Rattle.sf_gsrc.specs.declared.count.Count.{Count}
 use Rattle.sf_gsrc.specs.declared.output.GsrcBlocks.{GsrcBlocks}
 use Rattle.sf_lex.specs.Gap.{is_gap}
-use Rattle.sf_gsrc.specs.Line.{◌>>=◌, Item, counted_by, count_said, plain_said}
+use Rattle.sf_gsrc.specs.Line.{Item, counted_by, count_said, plain_said}
 use Rattle.sf_gsrc.specs.Blocks.{content_of, is_title, Entry, Said, CountIs, ItemIs, or_else, is_same, count_at, count_in, count_after, entry_at, entry_by, entry_after, entries_from, last_of, is_soft, compared, finished_by, out_of, finished, titled, blocks_read, blocks_in, pads_in}
 use Rattle.sf_gsrc.proofs.Results.{bind_ok, ok_is, err_not_ok}
 use Rattle.sf_gsrc.specs.Standing.{SaysBy, SaysEntry, counts_of, StandsOnce, StandsFor}

@@ -1,5 +1,5 @@
 -- What the code looks up by name.
-use Rattle.std.specs.Prelude.{◌≡◌, ℕ, ℤ, Bool, not, List, [], ◌∷◌, map, filter, Option, Some, None, Result, Ok, Err, if◌then◌else◌}
+use Rattle.std.specs.Prelude.{◌≡◌, ℕ, ℤ, Bool, List, [], ◌∷◌, Option, Some, None, Result, Ok, Err, if◌then◌else◌}
 use Rattle.std.specs.Option.{option_map}
 use Rattle.std.specs.Global.{Vec}
 use Rattle.std.specs.BTreeMap as tree
@@ -12,7 +12,7 @@ use Rattle.sf_gsrc.specs.declared.output.Place.{Place}
 use Rattle.sf_gsrc.specs.declared.fault.JoinFault.{JoinFault}
 use Rattle.sf_gsrc.specs.declared.fault.JoinFault.TheVariants as faults
 use Rattle.sf_gsrc.specs.declared.by_name.Spots.{Spots}
-use Rattle.sf_gsrc.specs.Join.{names_of, has_name, first_twice, place_of, pads_at}
+use Rattle.sf_gsrc.specs.Join.{names_of, has_name, first_twice, place_of}
 
 -- the first name that stands again behind its line
 abbrev pub first_again : List (List ℕ) → Option (List ℕ)

@@ -1,6 +1,5 @@
 -- What the reader keeps of the lines that it has read.
 use Rattle.std.specs.Prelude.{◌≡◌, ℕ, List, [], ◌∷◌, ◌++◌, Option, Some, Result, Ok, Err}
-use Rattle.sf_model.specs.declared.raw.RawBlock.{RawBlock}
 use Rattle.sf_gsrc.specs.declared.fault.GsrcFault.{GsrcFault}
 use Rattle.sf_gsrc.specs.declared.keywords.Counted.{Counted}
 use Rattle.sf_gsrc.specs.declared.keywords.Counted.TheVariants as counts

@@ -1,5 +1,5 @@
 -- What a line of a block file says by itself, and its fault if it says nothing.
-use Rattle.std.specs.Prelude.{◌≡◌, ℕ, zero, suc, ◌+◌, ◌*◌, Bool, true, false, ◌||◌, ◌&&◌, ◌==◌, nat_lt, List, [], ◌∷◌, length, take, map, Option, Some, None, Result, Ok, Err, if◌then◌else◌, ℤ, pos, ◌-ℤ◌, fold, unsigned_abs}
+use Rattle.std.specs.Prelude.{ℕ, zero, suc, ◌*◌, ◌||◌, ◌==◌, nat_lt, List, [], ◌∷◌, length, map, Option, Some, None, Result, Ok, Err, if◌then◌else◌, ℤ, ◌-ℤ◌, fold, unsigned_abs}
 use Rattle.std.specs.Int.{int_min, int_max}
 use Rattle.sf_lex.specs.Text.{words}
 use Rattle.sf_lex.specs.Number.{decimal_read, area_read, signed_read}
@@ -8,7 +8,7 @@ use Rattle.sf_model.specs.declared.raw.RawBlock.{RawBlock}
 use Rattle.sf_model.specs.declared.raw.Kind.TheVariants as kinds
 use Rattle.sf_gsrc.specs.declared.fault.LineFault.{LineFault}
 use Rattle.sf_gsrc.specs.declared.fault.LineFault.TheVariants.{BadLine, BadNumber, ZeroSide}
-use Rattle.sf_lex.specs.declared.field.Gap.TheVariants.{Blanks, Colons, Points}
+use Rattle.sf_lex.specs.declared.field.Gap.TheVariants.{Blanks, Points}
 use Rattle.sf_gsrc.specs.declared.keywords.Counted.{Counted}
 use Rattle.sf_gsrc.specs.declared.keywords.Form.{Form}
 use Rattle.sf_gsrc.specs.declared.keywords.Form.TheVariants as forms

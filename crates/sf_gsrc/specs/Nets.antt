@@ -1,6 +1,5 @@
 -- What a nets file stands for, and its first fault if it stands for nothing.
-use Rattle.std.specs.Prelude.{◌≡◌, ℕ, ◌==◌, List, [], ◌∷◌, ◌++◌, length, Option, Some, None, is_some, Result, Ok, Err, if◌then◌else◌, codes}
-use Rattle.std.specs.Str.{bytes_eq}
+use Rattle.std.specs.Prelude.{ℕ, ◌==◌, List, [], ◌∷◌, ◌++◌, length, Option, Some, None, is_some, Result, Ok, Err, if◌then◌else◌, codes}
 use Rattle.sf_lex.specs.Text.{words}
 use Rattle.sf_lex.specs.Scan.{Line}
 use Rattle.sf_model.specs.declared.raw.RawNet.{RawNet}

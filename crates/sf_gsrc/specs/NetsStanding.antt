@@ -1,5 +1,5 @@
 -- A nets file and what it stands for, as a relation on its lines.
-use Rattle.std.specs.Prelude.{◌≡◌, ℕ, Bool, true, List, [], ◌∷◌, ◌++◌, length, map, Option, Some, None, Ok, codes}
+use Rattle.std.specs.Prelude.{◌≡◌, ℕ, true, List, [], ◌∷◌, length, map, Option, Some, None, Ok, codes}
 use Rattle.std.specs.List.{AllZip, filter_map, flat_map}
 use Rattle.sf_lex.specs.Scan.{Line}
 use Rattle.sf_lex.specs.Gap.{first_word}

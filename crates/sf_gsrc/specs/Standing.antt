@@ -1,5 +1,5 @@
 -- A block file and what it stands for, as a relation on its lines.
-use Rattle.std.specs.Prelude.{◌≡◌, ℕ, Bool, true, not, List, [], ◌∷◌, length, Option, Some, None, Ok, codes, count_by}
+use Rattle.std.specs.Prelude.{◌≡◌, ℕ, true, not, List, [], ◌∷◌, length, Option, Some, None, Ok, codes, count_by}
 use Rattle.std.specs.List.{AllZip, filter_map}
 use Rattle.sf_lex.specs.Text.{words}
 use Rattle.sf_lex.specs.Scan.{Line}

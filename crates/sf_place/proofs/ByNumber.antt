@@ -1,5 +1,5 @@
 -- The spots of a plan by block number: the same wire, the same ends, and a legal placement.
-use Rattle.std.proofs.Common.{length-append, ◌≡◌, ℕ, suc, ◌+◌, ◌<◌, ◌≤◌, max, List, [], ◌∷◌, ◌++◌, map, length, get_or, All, AllPairs, arith, refl, sym, ap, subst, ◌∙◌, ◌==◌, cond, ◌⊎◌, inl, inr}
+use Rattle.std.proofs.Common.{length-append, ◌≡◌, ℕ, suc, ◌+◌, ◌<◌, ◌≤◌, max, List, [], ◌∷◌, map, length, get_or, All, AllPairs, arith, refl, sym, ap, subst, ◌∙◌, ◌==◌, cond, inl, inr}
 use Prim.Native.Nat.{zero}
 use Rattle.std.specs.Prelude.{count_by, Contains, slice_set, pos, ◌+ℤ◌, ◌*ℤ◌, nat_abs, sum_by}
 use Rattle.std.specs.List.{AllByRecursion, range_with_len}
@@ -18,7 +18,7 @@ use Rattle.sf_model.specs.declared.plan.Spot.{Spot}
 use Rattle.sf_model.specs.Tree.{Tree, Leaf, Beside, Above, width, height, leaves, leaf_count, spots_at, spots_of, Overlaps, IsInside}
 use Rattle.sf_model.specs.Legal.{HasEachOnce, IsLegal, Fits, block_count, shapes_of}
 use Rattle.sf_model.specs.Wire.{spot_of, pin_x, pin_y, net_wire, wire, spread}
-use Rattle.sf_model.specs.Cost.{right_end, upper_end, cost, spots_cost, weighed}
+use Rattle.sf_model.specs.Cost.{right_end, upper_end, cost, spots_cost}
 use Rattle.sf_model.proofs.Each.{each-append, each-weaker, each-left, each-right, EachPair}
 use Rattle.sf_model.proofs.Places.{spots-inside, spots-apart}
 use Rattle.sf_model.proofs.Ends.{right_end-spots_of, upper_end-spots_of}

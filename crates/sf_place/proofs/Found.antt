@@ -1,9 +1,8 @@
 -- The spot that a list has for a block.
-use Rattle.std.proofs.Common.{max, ◌≡◌, ℕ, suc, ◌+◌, ◌<◌, ◌≤◌, List, [], ◌∷◌, length, get_or, arith, refl, sym, subst, ◌∙◌, ◌==◌, cond, Bool, true, false, ◌⊎◌, inl, inr, ap}
-use Rattle.std.specs.Prelude.{count_by, pos}
+use Rattle.std.proofs.Common.{max, ◌≡◌, ℕ, suc, ◌≤◌, List, [], ◌∷◌, arith, refl, sym, subst, ◌∙◌, ◌==◌, cond, inl, inr, ap}
+use Rattle.std.specs.Prelude.{count_by}
 use Rattle.std.specs.List.{AllByRecursion}
-use Rattle.std.proofs.lemmas.Bool.{cases_eq, cond-true, cond-false, eq-eqb, ne_eqb, cond_both}
-use Rattle.std.proofs.lemmas.Bool.Decides.{eqb_tells}
+use Rattle.std.proofs.lemmas.Bool.{cases_eq, cond-true, cond-false, eq-eqb, ne_eqb}
 use Rattle.std.proofs.lemmas.List.Sums.{sum_by-cons}
 use Rattle.sf_model.specs.declared.plan.Spot.{Spot}
 use Rattle.sf_model.specs.Wire.{spot_of}

@@ -1,5 +1,5 @@
 -- A legal placement has no fault.
-use Rattle.std.proofs.Common.{◌≡◌, ℕ, ◌<◌, List, [], length, get_or, All, AllPairs, subst, sym, arith}
+use Rattle.std.proofs.Common.{ℕ, ◌<◌, List, [], length, get_or, All, AllPairs, subst, sym, arith}
 use Rattle.sf_model.specs.declared.plan.Spot.{Spot}
 use Rattle.sf_model.specs.Tree.{Overlaps}
 use Rattle.sf_model.specs.Wire.{spot_of}

@@ -1,5 +1,5 @@
 -- In a list by number, the spot at a place is the spot of the block of that number.
-use Rattle.std.proofs.Common.{All, AllPairs, ◌≡◌, ℕ, suc, ◌+◌, ◌<◌, List, [], ◌∷◌, map, length, get_or, refl, sym, ap, subst, ◌∙◌, arith, ◌==◌, cond}
+use Rattle.std.proofs.Common.{All, AllPairs, ◌≡◌, ℕ, suc, ◌+◌, ◌<◌, List, [], ◌∷◌, map, length, get_or, subst, ◌∙◌, arith, ◌==◌}
 use Prim.Native.Nat.{zero}
 use Rattle.std.specs.List.{range_with_len}
 use Rattle.std.proofs.lemmas.Bool.{cond-true, cond-false, ne_eqb, eq-eqb}
@@ -8,8 +8,6 @@ use Rattle.sf_model.specs.Wire.{spot_of}
 use Rattle.sf_model.specs.Tree.{Overlaps}
 use Rattle.sf_place.specs.Spots.{IsByNumber}
 use Rattle.sf_place.specs.Verdict.{IsOverNone}
-use Rattle.std.proofs.lemmas.List.{length-map}
-use Rattle.std.proofs.lemmas.List.FromFn.{length-range_with_len}
 
 spot_of-from : (a n : ℕ) (spots : List Spot) → map (λ s. s.block) spots ≡ range_with_len a n → (k : ℕ) (d : Spot) → k < length spots → spot_of (a + k) spots ≡ get_or spots k d
 spot_of-from a n [] e k d h = absurd (omega arith)

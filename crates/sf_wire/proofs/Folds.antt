@@ -1,6 +1,6 @@
 -- A fold over the coordinates of pins, one pin more, and what keeps it near.
-use Rattle.std.proofs.Common.{◌≡◌, ℕ, ◌+◌, ◌<◌, ◌≤◌, List, [], ◌∷◌, ◌++◌, map, length, get_or, take, ap, sym, subst, ◌∙◌, arith}
-use Rattle.std.specs.Prelude.{ℤ, fold, nat_abs, ◌-ℤ◌, ◌+ℤ◌, pos, neg_ℤ, ◌≤ℤ◌}
+use Rattle.std.proofs.Common.{◌≡◌, ℕ, ◌+◌, ◌<◌, ◌≤◌, List, [], ◌∷◌, map, length, get_or, take, ap, sym, subst, ◌∙◌, arith}
+use Rattle.std.specs.Prelude.{ℤ, fold, nat_abs, ◌-ℤ◌}
 use Rattle.std.specs.Int.{int_max, int_min}
 use Rattle.std.proofs.lemmas.Int.{ints, clamps}
 use Rattle.std.proofs.lemmas.List.{take_more, take_all, map-append}

@@ -1,5 +1,5 @@
 -- How far pins can be from (0, 0).
-use Rattle.std.specs.Prelude.{ℕ, ◌^◌, ◌<◌, length, All, ℤ, pos, neg_ℤ, ◌≤ℤ◌}
+use Rattle.std.specs.Prelude.{◌^◌, ◌<◌, length, All, ℤ, pos, neg_ℤ, ◌≤ℤ◌}
 use Rattle.sf_model.specs.declared.design.Design.{Design}
 use Rattle.sf_model.specs.declared.parts.Net.{Net}
 use Rattle.sf_model.specs.Legal.{block_count}

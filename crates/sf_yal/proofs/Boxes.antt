@@ -6,7 +6,7 @@ use Rattle.sf_yal.specs.declared.fault.YalFault.{YalFault}
 use Rattle.sf_yal.specs.declared.vertices.Corners.{Corners}
 use Rattle.sf_yal.specs.declared.vertices.Size.{Size}
 use Rattle.std.proofs.lemmas.Bool.Decides.{nat_tests}
-use Rattle.sf_yal.specs.Box.{◌>>=◌, extent, box_of, vertices_of, is_no_outline, dimensions_said}
+use Rattle.sf_yal.specs.Box.{◌>>=◌, box_of, vertices_of, is_no_outline, dimensions_said}
 use Rattle.sf_yal.specs.Corners.{corner, grow, corners_of, corners_read, size_of_corners}
 
 right_of : (c : Corners) (vs : List (ℤ × ℤ)) → (fold grow c vs).right ≡ fold int_max c.right (map (λ v. v.0) vs)
@@ -33,10 +33,6 @@ pub box_is : (read : Result (List (ℤ × ℤ)) YalFault) (c : Corners) → Ok c
 box_is (Ok vs) c e = let one : c ≡ corners_of vs = cc in ap (λ (s : Size). Ok s) (sym (size_is vs) ∙ ap size_of_corners (sym one))
 box_is (Err f) c e = absurd cc
 
-pub no_box : (read : Result (List (ℤ × ℤ)) YalFault) (f : YalFault) → Err f ≡ (read >>= λ vertices. Ok (corners_of vertices)) → (read >>= λ vertices. Ok (box_of vertices)) ≡ Err f
-no_box (Ok vs) f e = absurd cc
-no_box (Err g) f e = let one : f ≡ g = cc in rw one refl
-
 even_enough : (places : List (List ℕ)) → 4 ≤ length places → length places % 2 ≡ 0 → is_no_outline places ≡ false
 even_enough places enough even = grind (arith, nat_tests)
 
@@ -47,11 +43,3 @@ dimensions_are scale line places count c is enough even read =
     let whole : length places % 2 ≡ 0 = rw (← is) even in
     let here : Ok c ≡ corners_read scale line (length places / 2) places = rw is at read in
     rw (even_enough places (rw (← is) enough) whole) (sym (box_is (vertices_of scale line (length places / 2) places) c here))
-
-pub dimensions_fail : (scale line : ℕ) (places : List (List ℕ)) (count : ℕ) (f : YalFault) → count ≡ length places → 4 ≤ count → count % 2 ≡ 0 → Err f ≡ corners_read scale line (count / 2) places
-    → Err f ≡ dimensions_said scale line places
-unfolding dimensions_said
-dimensions_fail scale line places count f is enough even read =
-    let whole : length places % 2 ≡ 0 = rw (← is) even in
-    let here : Err f ≡ corners_read scale line (length places / 2) places = rw is at read in
-    rw (even_enough places (rw (← is) enough) whole) (sym (no_box (vertices_of scale line (length places / 2) places) f here))

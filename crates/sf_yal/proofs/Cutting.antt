@@ -1,6 +1,6 @@
 -- Pieces of a text, taken off its front.
-use Rattle.std.proofs.Common.{◌≡◌, ℕ, suc, ◌+◌, ◌<◌, ◌≤◌, Bool, true, false, List, [], ◌∷◌, length, take, drop, refl, sym, ap, ◌∙◌, arith}
-use Rattle.std.specs.List.{slice_split, onto_first, position_or_len}
+use Rattle.std.proofs.Common.{◌≡◌, ℕ, suc, ◌+◌, ◌<◌, ◌≤◌, Bool, true, false, List, [], ◌∷◌, length, take, drop, refl, arith}
+use Rattle.std.specs.List.{slice_split, position_or_len}
 
 one_more : (n : ℕ) → 1 + n ≡ suc n
 one_more n = omega arith

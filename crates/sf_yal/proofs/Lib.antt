@@ -11,3 +11,4 @@ pub mod Making
 pub mod NetsAre
 pub mod StandingLaws
 pub mod Standing
+pub mod Modules

@@ -1,15 +1,13 @@
 -- The parts, once all are made.
-use Rattle.std.proofs.Common.{◌≡◌, ℕ, List, [], ◌∷◌, Result, Ok, Err, refl, sym, ap, ◌∙◌}
-use Rattle.std.specs.Prelude.{map, Option, Some, true}
+use Rattle.std.proofs.Common.{◌≡◌, ℕ, List, [], ◌∷◌, Ok, refl, sym}
+use Rattle.std.specs.Prelude.{map, Some, true}
 use Rattle.sf_model.specs.declared.raw.RawBlock.{RawBlock}
 use Rattle.sf_model.specs.declared.raw.RawPad.{RawPad}
 use Rattle.sf_model.specs.declared.raw.RawNet.{RawNet}
-use Rattle.sf_model.specs.declared.raw.Parts.{Parts}
 use Rattle.sf_yal.specs.declared.instance.Instance as code
-use Rattle.sf_yal.specs.Box.{◌>>=◌}
 use Rattle.sf_yal.specs.Instances.{instances_in}
 use Rattle.sf_yal.specs.Reading.{Reading}
-use Rattle.sf_yal.specs.Parts.{blocks_from, nets_of, parts_by, parts_with}
+use Rattle.sf_yal.specs.Parts.{blocks_from, nets_of, parts_by}
 use Rattle.sf_yal.specs.Using.{signals_in}
 
 pub signals_are : (items : List code.Instance) → signals_in items ≡ map (λ i. i.signals) (instances_in items)

@@ -1,18 +1,17 @@
 -- The nets that are kept signal by signal are those of the distinct signals.
-use Rattle.std.proofs.Common.{◌≡◌, ℕ, zero, suc, ◌+◌, ◌<◌, ◌≤◌, Bool, true, false, cond, List, [], ◌∷◌, ◌++◌, length, Option, Some, None, refl, sym, ap, subst, ◌∙◌, arith, append_assoc, length-append, eq-eqb}
-use Rattle.std.specs.Prelude.{map, fold, is_some, slice_get, ◌-◌, ◌==◌}
+use Rattle.std.proofs.Common.{◌≡◌, ℕ, suc, ◌+◌, ◌<◌, ◌≤◌, Bool, true, false, cond, List, [], ◌∷◌, ◌++◌, length, Option, Some, None, refl, sym, ap, ◌∙◌, arith, length-append, eq-eqb}
+use Rattle.std.specs.Prelude.{fold, is_some, slice_get, ◌-◌, ◌==◌}
 use Rattle.std.specs.Option.{option_map}
 use Rattle.std.specs.Str.{bytes_eq}
-use Rattle.std.proofs.lemmas.List.{append-nil, map-append}
+use Rattle.std.proofs.lemmas.List.{append-nil}
 use Rattle.std.proofs.lemmas.Slice.Eq.{bytes_eq-Decides}
 use Rattle.std.proofs.lemmas.Bool.Decides.{nat_tests}
-use Rattle.sf_model.specs.declared.raw.RawNet.{RawNet}
 use Rattle.sf_model.specs.declared.raw.RawPin.{RawPin}
 use Rattle.sf_model.specs.declared.raw.RawPin.TheVariants as pins
-use Rattle.sf_yal.specs.Names.{index_of, has_name}
-use Rattle.sf_yal.specs.Parts.{with_signal, with_signals, signals_of, block_pins, pad_pins, net_of, nets_of}
-use Rattle.sf_yal.specs.Using.{NetUse, Uses, nothing_used, is_block, is_some_block, ends_with, with_pin, with_net_pin, with_pin_at, net_opened, used_at, used_once, used_all, used_by, finished_net}
-use Rattle.sf_yal.proofs.Indexes.{push_new, push_other, none_under, some_not_none}
+use Rattle.sf_yal.specs.Names.{index_of, has_name, Once}
+use Rattle.sf_yal.specs.Parts.{with_signal, with_signals, block_pins}
+use Rattle.sf_yal.specs.Using.{is_block, is_some_block, ends_with, with_pin}
+use Rattle.sf_yal.proofs.Indexes.{push_other, none_under, some_not_none}
 
 abbrev pub Signals : Type 0
 Signals = List (List ℕ)
@@ -122,15 +121,11 @@ with_pin_by n t taken before false e h = rw (e, append-nil before, h) refl
 
 -- ---- lists without repeats
 
-abbrev pub Once : Signals → Type 0
-Once [] = Unit {0}
-Once (s ∷ more) = (index_of s more ≡ None) × Once more
-
 pub none_cons : (t s : List ℕ) (more : Signals) (b : Bool) → bytes_eq s t ≡ b → index_of t (s ∷ more) ≡ None → (bytes_eq s t ≡ false) × (index_of t more ≡ None)
 none_cons t s more true e h = absurd (some_not_none (rw e at h))
 none_cons t s more false e h = (e, none_under (index_of t more) (rw e at h))
 
-once_push : (names : Signals) (t : List ℕ) → Once names → index_of t names ≡ None → Once (names ++ t ∷ [])
+pub once_push : (names : Signals) (t : List ℕ) → Once names → index_of t names ≡ None → Once (names ++ t ∷ [])
 once_push [] t once h = (refl, tt)
 once_push (s ∷ more) t once h =
     let k = none_cons t s more (bytes_eq s t) refl h in

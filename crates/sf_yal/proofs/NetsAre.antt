@@ -1,17 +1,16 @@
 -- The nets that are kept signal by signal are those of the distinct signals.
-use Rattle.std.proofs.Common.{◌≡◌, ℕ, zero, suc, ◌+◌, Bool, true, false, List, [], ◌∷◌, ◌++◌, length, Option, Some, None, refl, sym, ap, subst, ◌∙◌, arith, append_assoc, length-append}
-use Rattle.std.specs.Prelude.{map, fold, is_some}
+use Rattle.std.proofs.Common.{◌≡◌, ℕ, suc, ◌+◌, Bool, true, false, List, [], ◌∷◌, ◌++◌, length, Option, Some, None, refl, sym, ap, subst, ◌∙◌, arith, append_assoc, length-append}
+use Rattle.std.specs.Prelude.{map, is_some}
 use Rattle.std.specs.Option.{option_map}
 use Rattle.std.specs.Str.{bytes_eq}
 use Rattle.std.proofs.lemmas.List.{append-nil, map-append}
 use Rattle.sf_model.specs.declared.raw.RawNet.{RawNet}
 use Rattle.sf_model.specs.declared.raw.RawPin.{RawPin}
 use Rattle.sf_model.specs.declared.raw.RawPin.TheVariants as pins
-use Rattle.sf_yal.specs.Names.{index_of, has_name}
+use Rattle.sf_yal.specs.Names.{Once, index_of, has_name}
 use Rattle.sf_yal.specs.Parts.{with_signal, with_signals, signals_of, block_pins, net_of, nets_of}
 use Rattle.sf_yal.specs.Using.{NetUse, Uses, nothing_used, with_pin, with_pin_at, used_at, used_once, used_all, used_by, finished_net}
-use Rattle.sf_yal.proofs.Indexes.{some_not_none}
-use Rattle.sf_yal.proofs.NetLaws.{Signals, fold-append, apart, same_name, is_same, has_push_same, has_push_other, pin_of, pins_last, low, with_pin_by, Once, none_cons, once_uses, absent_uses}
+use Rattle.sf_yal.proofs.NetLaws.{Signals, fold-append, apart, same_name, has_push_same, has_push_other, pin_of, pins_last, low, with_pin_by, none_cons, once_uses, absent_uses}
 
 abbrev net_use : List Signals → List ℕ → NetUse
 net_use uses s = record { signal = s; pins = block_pins s 0 uses }

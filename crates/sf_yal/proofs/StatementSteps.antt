@@ -1,10 +1,10 @@
 -- Statements one after another, as the loop takes them.
-use Rattle.std.proofs.Common.{◌≡◌, ℕ, ◌+◌, List, [], ◌∷◌, Result, Ok, Err, refl, sym, ap, ◌∙◌, subst, Bool, true, false}
-use Rattle.std.specs.List.{slice_split, onto_first}
+use Rattle.std.proofs.Common.{◌≡◌, ℕ, ◌+◌, List, [], ◌∷◌, Result, Ok, refl, sym, ap, ◌∙◌, subst, Bool, true, false}
+use Rattle.std.specs.List.{onto_first}
 use Rattle.sf_lex.specs.Text.{words, is_blank_byte}
 use Rattle.sf_yal.specs.declared.fault.YalFault.{YalFault}
 use Rattle.sf_yal.specs.Box.{◌>>=◌}
-use Rattle.sf_yal.specs.Statements.{is_semicolon, pieces, feeds, statement_at, statements, last_piece, Statement}
+use Rattle.sf_yal.specs.Statements.{is_semicolon, pieces, feeds, statement_at, statements, last_piece}
 use Rattle.sf_yal.specs.Reading.{Reading, Fails, after_words, after_statement, after_statements}
 use Rattle.sf_yal.proofs.Stepping.{Fails-then}
 

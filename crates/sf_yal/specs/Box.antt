@@ -1,9 +1,8 @@
 -- Numbers of a statement, and the box of a module.
-use Rattle.std.specs.Prelude.{ℕ, zero, suc, ◌/◌, ◌%◌, Bool, true, false, not, ◌||◌, ◌==◌, nat_lt, List, [], ◌∷◌, length, map, Result, Ok, Err, if◌then◌else◌, ℤ, ◌-ℤ◌, fold, unsigned_abs}
+use Rattle.std.specs.Prelude.{ℕ, zero, suc, ◌/◌, ◌%◌, Bool, not, ◌||◌, ◌==◌, nat_lt, List, [], ◌∷◌, length, map, Result, Ok, Err, if◌then◌else◌, ℤ, ◌-ℤ◌, fold, unsigned_abs}
 use Rattle.std.specs.Int.{int_min, int_max}
 use Rattle.sf_lex.specs.Number.{signed_read}
 use Rattle.sf_lex.specs.declared.number.NumberFault.{NumberFault}
-use Rattle.sf_lex.specs.declared.number.NumberFault.TheVariants as numbers
 use Rattle.sf_yal.specs.declared.fault.YalFault.{YalFault}
 use Rattle.sf_yal.specs.declared.fault.YalFault.TheVariants as faults
 use Rattle.sf_yal.specs.declared.vertices.Size.{Size}

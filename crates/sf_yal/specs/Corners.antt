@@ -1,5 +1,5 @@
 -- The bounding box as the code keeps it.
-use Rattle.std.specs.Prelude.{ℕ, List, [], ◌∷◌, Result, Ok, Err, ℤ, ◌-ℤ◌, fold, pos, unsigned_abs}
+use Rattle.std.specs.Prelude.{ℕ, List, [], ◌∷◌, Result, Ok, ℤ, ◌-ℤ◌, fold, pos, unsigned_abs}
 use Rattle.std.specs.Int.{int_min, int_max}
 use Rattle.sf_yal.specs.declared.fault.YalFault.{YalFault}
 use Rattle.sf_yal.specs.declared.vertices.Corners.{Corners}

@@ -15,6 +15,11 @@ index_of name (other ∷ more) = if bytes_eq other name then Some 0 else option_
 abbrev pub has_name : List ℕ → List (List ℕ) → Bool
 has_name name names = is_some (index_of name names)
 
+-- no name stands twice
+abbrev pub Once : List (List ℕ) → Type 0
+Once [] = Unit {0}
+Once (name ∷ more) = (index_of name more ≡ None) × Once more
+
 -- the bytes of names that are borrowed
 abbrev pub bytes_of : List (Bor (List ℕ)) → List (List ℕ)
 bytes_of names = map (λ name. name.now) names

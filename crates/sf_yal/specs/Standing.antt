@@ -1,5 +1,5 @@
 -- A text and what it stands for, as a relation on its statements.
-use Rattle.std.specs.Prelude.{◌≡◌, ◌≢◌, ℕ, ◌<◌, Bool, true, false, ◌||◌, ◌&&◌, not, List, [], ◌∷◌, map, Option, Some, None, Result, Ok, ℤ}
+use Rattle.std.specs.Prelude.{slice_get, ◌≡◌, ◌≢◌, ℕ, ◌<◌, Bool, true, false, ◌||◌, ◌&&◌, not, List, [], ◌∷◌, map, Option, Some, None, Result, Ok, ℤ}
 use Rattle.std.specs.List.{AllZip}
 use Rattle.sf_lex.specs.declared.number.NumberFault.{NumberFault}
 use Rattle.sf_model.specs.declared.raw.RawBlock.{RawBlock}
@@ -14,10 +14,10 @@ use Rattle.sf_yal.specs.Words.{keyword_of, is_parent_word}
 use Rattle.sf_yal.specs.Statements.{Statement, statements_of, is_ended}
 use Rattle.sf_yal.specs.Box.{length_read, dimensions_said}
 use Rattle.sf_yal.specs.Numbers.{has_form}
-use Rattle.sf_yal.specs.Names.{index_of, has_name}
+use Rattle.sf_yal.specs.Names.{has_name, Once}
 use Rattle.sf_yal.specs.Instances.{Instance}
 use Rattle.sf_yal.specs.Reading.{Reading, start, module_opened, module_closed, type_taken, parent_taken, size_taken, list_opened, list_closed, pad_taken, instance_taken}
-use Rattle.sf_yal.specs.Parts.{size_at, nets_of}
+use Rattle.sf_yal.specs.Parts.{nets_of}
 
 -- ---- what a statement says, by the place where it stands and by its first word
 
@@ -99,13 +99,17 @@ SayAll scale r (s ∷ more) last = (next : Reading) × Says scale r s.line s.wor
 
 -- ---- what the text stands for
 
+-- a module of the text: its name, and its box where it has one
+pub record Module : Type 0 where
+  pub name : List ℕ
+  pub size : Option Size
+
 -- the instance's module is one of the text, isn't the parent, and has a box, which is the block's
-pub record IsBlockOf (r : Reading) (parent : ℕ) (i : Instance) (block : RawBlock) : Type 0 where
-  pub module_place : ℕ
+pub record IsBlockOf (modules : List Module) (parent : ℕ) (i : Instance) (block : RawBlock) : Type 0 where
+  pub place : ℕ
   pub size : Size
-  pub known : index_of i.module_name r.names ≡ Some module_place
-  pub child : module_place ≢ parent
-  pub boxed : size_at r.sizes module_place ≡ Some size
+  pub known : slice_get modules place ≡ Some (record { name = i.module_name; size = Some size })
+  pub child : place ≢ parent
   pub wide : 0 < size.w
   pub high : 0 < size.h
   pub block_is : block ≡ record { name = i.name; kind = kinds.Hard size.w size.h }
@@ -116,9 +120,16 @@ pub record StandsFor (scale : ℕ) (text : List ℕ) (out : Parts) : Type 0 wher
   -- no comment, statement, list or module is open at the end
   pub ended : is_ended text ≡ true
   pub closed : said.place ≡ places.Outside
+  -- the modules, of which no two have one name
+  pub modules : List Module
+  pub names : said.names ≡ map (λ m. m.name) modules
+  pub sizes : said.sizes ≡ map (λ m. m.size) modules
+  pub names_once : Once (map (λ m. m.name) modules)
+  -- the place of the parent among them
   pub parent : ℕ
   pub one_parent : said.parent ≡ Some parent
-  pub blocks : AllZip (IsBlockOf said parent) said.instances out.blocks
+  -- a block for each of its instances, a net for each distinct signal, and its pads
+  pub blocks : AllZip (IsBlockOf modules parent) said.instances out.blocks
   pub nets : out.nets ≡ nets_of (map (λ i. i.signals) said.instances) said.pad_names
   pub pads : out.pads ≡ said.pads
   pub strangers : out.strangers ≡ []

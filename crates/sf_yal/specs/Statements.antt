@@ -1,7 +1,7 @@
 -- A text is a list of statements, each ended by a semicolon.
-use Rattle.std.specs.Prelude.{◌≡◌, ℕ, ◌+◌, ◌-◌, Bool, true, false, not, ◌&&◌, ◌==◌, List, [], ◌∷◌, length, take, if◌then◌else◌}
+use Rattle.std.specs.Prelude.{ℕ, ◌+◌, ◌-◌, Bool, true, false, not, ◌&&◌, ◌==◌, List, [], ◌∷◌, length, take}
 use Rattle.std.specs.List.{slice_split, count_by, prefix_len, suffix_len}
-use Rattle.sf_lex.specs.Text.{words, is_blank_byte, is_line_feed, is_not_empty}
+use Rattle.sf_lex.specs.Text.{words, is_blank_byte, is_line_feed}
 use Rattle.sf_yal.specs.Comments.{hide, ends_inside}
 
 abbrev pub is_semicolon : ℕ → Bool

@@ -1,5 +1,5 @@
 -- The nets as the code finds them, signal by signal.
-use Rattle.std.specs.Prelude.{ℕ, zero, suc, ◌+◌, ◌-◌, Bool, true, false, ◌==◌, List, [], ◌∷◌, ◌++◌, length, map, fold, Option, Some, None, if◌then◌else◌, slice_get}
+use Rattle.std.specs.Prelude.{ℕ, zero, suc, ◌+◌, ◌-◌, Bool, false, ◌==◌, List, [], ◌∷◌, ◌++◌, length, map, fold, Option, Some, None, if◌then◌else◌, slice_get}
 use Rattle.sf_lex.specs.Text.{words, is_blank_byte}
 use Rattle.sf_model.specs.declared.raw.RawNet.{RawNet}
 use Rattle.sf_model.specs.declared.raw.RawPin.{RawPin}

@@ -1,21 +1,9 @@
--- The words of a statement, and those that have a meaning.
-use Rattle.std.specs.Prelude.{ℕ, Bool, List, drop, map, if◌then◌else◌, codes}
-use Rattle.std.specs.List.{prefix_len, position_or_len, before_first}
+-- Words that have a meaning.
+use Rattle.std.specs.Prelude.{ℕ, Bool, List, map, if◌then◌else◌, codes}
 use Rattle.std.specs.Str.{bytes_eq}
 use Rattle.std.specs.Char.{to_ascii_lowercase}
-use Rattle.sf_lex.specs.Text.{is_blank_byte}
 use Rattle.sf_yal.specs.declared.keyword.Keyword.{Keyword}
 use Rattle.sf_yal.specs.declared.keyword.Keyword.TheVariants as keys
-
--- the first word, and what stands after it
-abbrev pub without_blanks : List ℕ → List ℕ
-without_blanks bytes = drop (prefix_len is_blank_byte bytes) bytes
-
-abbrev pub first_word : List ℕ → List ℕ
-first_word bytes = before_first is_blank_byte (without_blanks bytes)
-
-abbrev pub after_word : List ℕ → List ℕ
-after_word bytes = drop (position_or_len is_blank_byte (without_blanks bytes)) (without_blanks bytes)
 
 -- the word is the key, without regard to case
 abbrev pub is_key : List ℕ → List ℕ → Bool

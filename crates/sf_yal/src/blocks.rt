@@ -32,11 +32,7 @@ fn unknown_module(alloc: Global, instance: &Instance) -> YalFault
     }
 }
 
-fn block_with(
-    alloc: Global,
-    instance: &Instance,
-    size: Option<Size>,
-) -> Result<RawBlock, YalFault>
+fn block_with(alloc: Global, instance: &Instance, size: Option<Size>) -> Result<RawBlock, YalFault>
     ensures { Gives result (boxed (instance_in instance.now) size) }
 {
     let Some(size) = size else {

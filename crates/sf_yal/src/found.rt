@@ -6,10 +6,10 @@ ghost use Rattle.sf_yal.specs.Names.{index_of};
 ghost use Rattle.sf_yal.specs.Numbers.{has_form};
 
 use crate::fault::YalFault;
-use crate::field::next_field;
 use crate::instance::{Instance, Label};
 use crate::keyword::{Keyword, is_parent, read_keyword};
 use crate::names::Names;
+use crate::piece::next_word;
 use crate::vertices::{Size, number_at, read_dimensions, read_length};
 use sf_lex::NumberFault;
 use sf_model::{Name, RawPad};
@@ -71,7 +71,7 @@ impl<'a> Found<'a> {
     fn open_module(&mut self, rest: &'a [u8], line: u64) -> Result<(), YalFault>
         ensures { Keeps result self.new (module_said (reading_in self.old) line (words is_blank_byte rest.now)) }
     {
-        let Some((name, _)) = next_field(rest) else {
+        let Some((name, _)) = next_word(rest) else {
             return Err(YalFault::BadStatement(line));
         };
         if self.names.place_of(name).is_some() {
@@ -98,7 +98,7 @@ impl<'a> Found<'a> {
     fn take_type(&mut self, rest: &[u8], line: u64) -> Result<(), YalFault>
         ensures { Keeps result self.new (type_said (reading_in self.old) line (words is_blank_byte rest.now)) }
     {
-        let Some((word, _)) = next_field(rest) else {
+        let Some((word, _)) = next_word(rest) else {
             return Err(YalFault::BadStatement(line));
         };
         if self.typed || self.listed {
@@ -174,7 +174,12 @@ impl<'a> Found<'a> {
         Ok(())
     }
 
-    fn add_pad(&mut self, alloc: Global, name: &'a [u8], place: (i64, i64)) -> Result<(), AllocError>
+    fn add_pad(
+        &mut self,
+        alloc: Global,
+        name: &'a [u8],
+        place: (i64, i64),
+    ) -> Result<(), AllocError>
         requires not_empty { 0 < length name.now }
         requires new { index_of name.now self.old.pad_names ≡ None }
         ensures { OnOk result (reading_in self.new ≡ pad_taken (reading_in self.old) name.now place) }
@@ -220,16 +225,16 @@ impl<'a> Found<'a> {
         requires scale_high { scale ≤ 1000 }
         ensures { Keeps result self.new (terminal_said scale (reading_in self.old) line (words is_blank_byte all.now)) }
     {
-        let Some((name, rest)) = next_field(all) else {
+        let Some((name, rest)) = next_word(all) else {
             return Ok(());
         };
-        let Some((_, rest)) = next_field(rest) else {
+        let Some((_, rest)) = next_word(rest) else {
             return Ok(());
         };
-        let Some((x, rest)) = next_field(rest) else {
+        let Some((x, rest)) = next_word(rest) else {
             return Ok(());
         };
-        let Some((y, _)) = next_field(rest) else {
+        let Some((y, _)) = next_word(rest) else {
             return Ok(());
         };
         let x = read_length(x, scale);
@@ -241,10 +246,10 @@ impl<'a> Found<'a> {
     fn take_instance(&mut self, all: &'a [u8], line: u64) -> Result<(), YalFault>
         ensures { Keeps result self.new (instance_said (reading_in self.old) line (words is_blank_byte all.now)) }
     {
-        let Some((name, rest)) = next_field(all) else {
+        let Some((name, rest)) = next_word(all) else {
             return Err(YalFault::BadStatement(line));
         };
-        let Some((module_name, signals)) = next_field(rest) else {
+        let Some((module_name, signals)) = next_word(rest) else {
             return Err(YalFault::BadStatement(line));
         };
         self.instances.push(Instance {
@@ -290,12 +295,18 @@ impl<'a> Found<'a> {
     }
 
     /// The next statement, which is passed over where it has no words.
-    pub fn take(&mut self, alloc: Global, all: &'a [u8], line: u64, scale: u64) -> Result<(), YalFault>
+    pub fn take(
+        &mut self,
+        alloc: Global,
+        all: &'a [u8],
+        line: u64,
+        scale: u64,
+    ) -> Result<(), YalFault>
         requires scale_low { 1 ≤ scale }
         requires scale_high { scale ≤ 1000 }
         ensures { Keeps result self.new (after_words scale (reading_in self.old) line (words is_blank_byte all.now)) }
     {
-        let Some((word, rest)) = next_field(all) else {
+        let Some((word, rest)) = next_word(all) else {
             return Ok(());
         };
         let key = read_keyword(word);

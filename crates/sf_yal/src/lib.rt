@@ -1,17 +1,28 @@
-//! Reading of YAL files.
+//! Reading of YAL files, the format of the MCNC benchmark circuits.
+//!
+//! A text is a list of statements, each ended by a semicolon, with comments that count as blanks. The statements
+//! open and close modules, and the module of the type PARENT holds the instances of the others. `read_yal` gives
+//! the design that a text stands for: a hard block for each instance, with the box of its module; a net for each
+//! distinct signal; and a pad for each terminal of the parent that has a place. The crate stands on `sf_lex` for
+//! words and numbers, and on `sf_model` for the parts of a design. The crates above use the clauses `found` and
+//! `only` of `read_yal`, which say that it reads what the text stands for and nothing else, and `exact`, which
+//! says which fault is answered; `stands_for_one` says that a text stands for at most one design.
 #![tactic(auto)]
 
 mod blocks;
 mod comments;
 mod fault;
-mod field;
 mod found;
 mod instance;
 mod keyword;
 mod names;
 mod nets;
+mod piece;
 mod read;
 mod vertices;
 
 pub use fault::YalFault;
-pub use read::read_yal;
+pub use read::{read_yal, stands_for_one};
+
+#[cfg(test)]
+mod tests;

@@ -6,9 +6,9 @@ ghost use Rattle.sf_yal.specs.Names.{index_of};
 ghost use Rattle.sf_yal.specs.Parts.{nets_of};
 ghost use Rattle.sf_yal.specs.Using.{signals_in, net_opened, used_in, used_once, used_all, used_by, with_pin, with_pin_at, nets_in, net_in, finished_net, ends_with, nothing_used};
 
-use crate::field::next_field;
 use crate::instance::Instance;
 use crate::names::Names;
+use crate::piece::next_word;
 use sf_model::{RawNet, RawNetList, RawPin, RawPins};
 use std::alloc::{AllocError, Global};
 
@@ -82,7 +82,12 @@ impl<'a> Used<'a> {
         self.signals.add(signal)
     }
 
-    fn use_signal(&mut self, alloc: Global, signal: &'a [u8], instance: u32) -> Result<(), AllocError>
+    fn use_signal(
+        &mut self,
+        alloc: Global,
+        signal: &'a [u8],
+        instance: u32,
+    ) -> Result<(), AllocError>
         ensures { OnOk result (used_in self.new ≡ used_once instance (used_in self.old) signal.now) }
     {
         match self.signals.place_of(signal) {
@@ -91,11 +96,16 @@ impl<'a> Used<'a> {
         }
     }
 
-    fn use_signals(&mut self, alloc: Global, signals: &'a [u8], instance: u32) -> Result<(), AllocError>
+    fn use_signals(
+        &mut self,
+        alloc: Global,
+        signals: &'a [u8],
+        instance: u32,
+    ) -> Result<(), AllocError>
         ensures { OnOk result (used_in self.new ≡ used_all instance (used_in self.old) (words is_blank_byte signals.now)) }
     {
         let mut rest = signals;
-        while let Some((signal, after)) = next_field(rest) {
+        while let Some((signal, after)) = next_word(rest) {
             self.use_signal(alloc, signal, instance)?;
             rest = after;
         }
@@ -140,7 +150,11 @@ fn finish_nets(alloc: Global, nets: Vec<Net>, pad_names: &Names) -> Result<Vec<R
 }
 
 /// A net for each distinct signal in the order of first use: the instances that name it, and the pad of its name.
-pub fn read_nets(alloc: Global, instances: &[Instance], pad_names: &Names) -> Result<RawNetList, AllocError>
+pub fn read_nets(
+    alloc: Global,
+    instances: &[Instance],
+    pad_names: &Names,
+) -> Result<RawNetList, AllocError>
     ensures { IfOk result (λ nets. nets ≡ nets_of (signals_in instances.now) pad_names.now) }
 {
     let used = use_instances(alloc, instances)?;

@@ -10,9 +10,9 @@ ghost use Rattle.sf_yal.specs.Parts.{parts_by, yal_read};
 use crate::blocks::read_instances;
 use crate::comments::hide_comments;
 use crate::fault::YalFault;
-use crate::field::{first_line, last_line_of, line_feeds, next_field, next_piece};
 use crate::found::{Found, Place};
 use crate::nets::read_nets;
+use crate::piece::{first_line, last_line_of, line_feeds, next_piece, next_word};
 use sf_model::{NameList, Parts, RawBlockList, RawPadList};
 use std::alloc::Global;
 
@@ -62,7 +62,7 @@ fn read_exactly(alloc: Global, text: &[u8], scale: u64) -> Result<Parts, YalFaul
 {
     let (hidden, open) = hide_comments(alloc, text)?;
     let (found, rest) = read_statements(alloc, &hidden, scale)?;
-    if open || next_field(rest).is_some() || found.place != Place::Outside {
+    if open || next_word(rest).is_some() || found.place != Place::Outside {
         return Err(YalFault::Truncated(last_line_of(&hidden)));
     }
     let Some(parent) = found.parent else {
@@ -71,7 +71,10 @@ fn read_exactly(alloc: Global, text: &[u8], scale: u64) -> Result<Parts, YalFaul
     into_parts(alloc, found, parent)
 }
 
-/// The parts for which a text stands, or its first fault. Lengths are taken times the scale.
+/// The parts for which a YAL text stands, or its first fault. Lengths are taken times the scale, so they come out in
+/// whole scaled units. All pads have a place, no name is a stranger, and the pads are in. The box of the parent is read
+/// and sets no outline. The format is that of the MCNC benchmark circuits; a terminal of the parent with two numbers
+/// behind its kind is taken for a pad.
 pub fn read_yal(alloc: Global, text: &[u8], scale: u64) -> Result<Parts, YalFault>
     requires scale_low { 1 ≤ scale }
     requires scale_high { scale ≤ 1000 }

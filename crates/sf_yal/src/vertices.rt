@@ -7,7 +7,7 @@ ghost use Rattle.sf_yal.specs.Corners.{corner, grow, corners_read, size_of_corne
 ghost use Rattle.sf_yal.specs.Seen.{seen};
 
 use crate::fault::YalFault;
-use crate::field::{count_fields, next_field};
+use crate::piece::{count_words, next_word};
 use sf_lex::{NumberFault, read_signed};
 
 /// The sides of a box.
@@ -96,10 +96,10 @@ fn next_vertex(places: &[u8], line: u64, scale: u64) -> Result<((i64, i64), &[u8
     ensures { seen (λ r. (r.0, words is_blank_byte r.1.now)) result
         ≡ vertex_of scale line (words is_blank_byte places.now) }
 {
-    let Some((x, rest)) = next_field(places) else {
+    let Some((x, rest)) = next_word(places) else {
         return Err(YalFault::BadStatement(line));
     };
-    let Some((y, rest)) = next_field(rest) else {
+    let Some((y, rest)) = next_word(rest) else {
         return Err(YalFault::BadStatement(line));
     };
     let x = read_place(x, line, scale)?;
@@ -131,7 +131,7 @@ pub fn read_dimensions(places: &[u8], line: u64, scale: u64) -> Result<Size, Yal
     requires scale_high { scale ≤ 1000 }
     ensures { result ≡ dimensions_said scale line (words is_blank_byte places.now) }
 {
-    let count = count_fields(places);
+    let count = count_words(places);
     if count < 4 || count % 2 != 0 {
         return Err(YalFault::BadStatement(line));
     }

@@ -13,8 +13,8 @@ invariant_of-result g c =
     let design = c.args.design.now in
     let value : Parts → ℕ = g.V.Values.value c.args.values.now design in
     let merged = merged-tree design value c.args.cost c.args.entries.items c.args.left.items c.in_ok-marks.marks.items c.sort_marks.new.marks.items c.from_vec-tags.result
-          c.requires.conserved c.requires.fresh c.in_ok-marks.ensures c.sort_marks.ensures.moved c.sort_marks.ensures.sorted
-          (c.from_vec-tags.ensures ∙ c.in_ok-tags_of.ensures ∙ ap (map (λ (m : Mark). m.tag)) c.deref-2.ensures.value) in
+    c.requires.conserved c.requires.fresh c.in_ok-marks.ensures c.sort_marks.ensures.moved c.sort_marks.ensures.sorted
+    (c.from_vec-tags.ensures ∙ c.in_ok-tags_of.ensures ∙ ap (map (λ (m : Mark). m.tag)) c.deref-2.ensures.value) in
     record { form = merged-formed design value c.args.cost (length c.as_slice.result.now) c.args.entries.items c.args.left.items c.from_vec-tags.result c.args.plan (ap length c.as_slice.ensures) merged c.requires.planned (subproblem-shallow design) }
 
 pub returns-clause-valid : goal.returns-clause-valid
@@ -22,8 +22,8 @@ returns-clause-valid g c =
     let design = c.args.design.now in
     let value : Parts → ℕ = g.V.Values.value c.args.values.now design in
     let merged = merged-tree design value c.args.cost c.args.entries.items c.args.left.items c.in_ok-marks.marks.items c.sort_marks.new.marks.items c.from_vec-tags.result
-          c.requires.conserved c.requires.fresh c.in_ok-marks.ensures c.sort_marks.ensures.moved c.sort_marks.ensures.sorted
-          (c.from_vec-tags.ensures ∙ c.in_ok-tags_of.ensures ∙ ap (map (λ (m : Mark). m.tag)) c.deref-2.ensures.value) in
+    c.requires.conserved c.requires.fresh c.in_ok-marks.ensures c.sort_marks.ensures.moved c.sort_marks.ensures.sorted
+    (c.from_vec-tags.ensures ∙ c.in_ok-tags_of.ensures ∙ ap (map (λ (m : Mark). m.tag)) c.deref-2.ensures.value) in
     merged-valid design value c.args.entries.items c.args.left.items _ merged c.requires.planned c.requires.valued (c.least_bound-bound.ensures ∙ ap (λ (ts : List Task). least c.args.cost (map (λ t. t.bound) ts)) c.deref.ensures.value)
 
 pub returns-clause-placed : goal.returns-clause-placed
@@ -31,8 +31,8 @@ returns-clause-placed g c =
     let design = c.args.design.now in
     let value : Parts → ℕ = g.V.Values.value c.args.values.now design in
     let merged = merged-tree design value c.args.cost c.args.entries.items c.args.left.items c.in_ok-marks.marks.items c.sort_marks.new.marks.items c.from_vec-tags.result
-          c.requires.conserved c.requires.fresh c.in_ok-marks.ensures c.sort_marks.ensures.moved c.sort_marks.ensures.sorted
-          (c.from_vec-tags.ensures ∙ c.in_ok-tags_of.ensures ∙ ap (map (λ (m : Mark). m.tag)) c.deref-2.ensures.value) in
+    c.requires.conserved c.requires.fresh c.in_ok-marks.ensures c.sort_marks.ensures.moved c.sort_marks.ensures.sorted
+    (c.from_vec-tags.ensures ∙ c.in_ok-tags_of.ensures ∙ ap (map (λ (m : Mark). m.tag)) c.deref-2.ensures.value) in
     merged.placed
 
 pub returns-clause-decided : goal.returns-clause-decided
@@ -40,6 +40,6 @@ returns-clause-decided g c =
     let design = c.args.design.now in
     let value : Parts → ℕ = g.V.Values.value c.args.values.now design in
     let merged = merged-tree design value c.args.cost c.args.entries.items c.args.left.items c.in_ok-marks.marks.items c.sort_marks.new.marks.items c.from_vec-tags.result
-          c.requires.conserved c.requires.fresh c.in_ok-marks.ensures c.sort_marks.ensures.moved c.sort_marks.ensures.sorted
-          (c.from_vec-tags.ensures ∙ c.in_ok-tags_of.ensures ∙ ap (map (λ (m : Mark). m.tag)) c.deref-2.ensures.value) in
+    c.requires.conserved c.requires.fresh c.in_ok-marks.ensures c.sort_marks.ensures.moved c.sort_marks.ensures.sorted
+    (c.from_vec-tags.ensures ∙ c.in_ok-tags_of.ensures ∙ ap (map (λ (m : Mark). m.tag)) c.deref-2.ensures.value) in
     merged.count

@@ -1,4 +1,4 @@
-use Rattle.std.proofs.Common.{◌≡◌, refl, sym, ap, ◌∙◌}
+use Rattle.std.proofs.Common.{◌∙◌}
 use Rattle.sf_gsrc.proofs.Names.{one_pad_more}
 use Rattle.sf_gsrc.proofs.by_name.at_spots.Goals as goal
 

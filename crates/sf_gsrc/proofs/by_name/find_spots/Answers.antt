@@ -1,9 +1,8 @@
-use Rattle.std.proofs.Common.{◌≡◌, ◌+◌, ◌-◌, ℕ, drop, w64, rules, arith, refl, sym, ap, subst, ◌∙◌}
+use Rattle.std.proofs.Common.{◌≡◌, ◌-◌, ℕ, drop, w64, rules, arith, refl, sym, ap, subst, ◌∙◌}
 use Rattle.sf_gsrc.specs.Join.{names_of}
 use Rattle.sf_gsrc.specs.ByName.{first_again, PlacesByName}
 use Rattle.sf_gsrc.proofs.Likes.{first_twice_is}
 use Rattle.std.proofs.lemmas.Int.{to_z-of_z}
-use Rattle.std.specs.Prelude.{is_some}
 use Rattle.sf_gsrc.proofs.Names.{placed_before, twice_here, twice_later}
 use Rattle.sf_gsrc.proofs.by_name.find_spots.Goals as goal
 

@@ -1,4 +1,4 @@
-use Rattle.std.proofs.Common.{◌≡◌, map, take}
+use Rattle.std.proofs.Common.{map, take}
 use Rattle.std.specs.Prelude.{◌||◌}
 use Rattle.sf_gsrc.specs.Join.{has_name}
 use Rattle.sf_gsrc.specs.ByName.{IsNameSet}

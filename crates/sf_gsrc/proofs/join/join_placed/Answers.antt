@@ -1,4 +1,3 @@
-use Rattle.std.proofs.Common.{◌≡◌, refl, sym, ap, ◌∙◌}
 use Rattle.sf_gsrc.proofs.Joining.{joined_once}
 use Rattle.sf_gsrc.proofs.join.join_placed.Goals as goal
 

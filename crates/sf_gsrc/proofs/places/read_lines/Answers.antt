@@ -1,4 +1,3 @@
-use Rattle.std.proofs.Common.{◌≡◌, refl, sym, ap, ◌∙◌}
 use Rattle.std.proofs.lemmas.Result.{err_from_is_err_and}
 use Rattle.sf_gsrc.proofs.PlaceSteps.{starts, goes_on, fails, is_done}
 use Rattle.sf_gsrc.proofs.places.read_lines.Goals as goal

@@ -1,4 +1,4 @@
-use Rattle.std.proofs.Common.{◌≡◌, Result, Ok, Err, sym, ap, subst, ◌∙◌}
+use Rattle.std.proofs.Common.{Result, Ok, Err, subst}
 use Rattle.std.specs.Prelude.{IfOk}
 use Rattle.sf_gsrc.specs.declared.fault.GsrcFault.{GsrcFault}
 use Rattle.sf_gsrc.specs.declared.output.GsrcPlaces.{GsrcPlaces}

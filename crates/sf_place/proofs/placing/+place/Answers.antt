@@ -1,4 +1,4 @@
-use Rattle.std.proofs.Common.{arith, ap, ◌≤◌}
+use Rattle.std.proofs.Common.{arith, ap}
 use Rattle.sf_model.specs.Tree.{leaf_count, tree_of}
 use Rattle.sf_place.proofs.placing.+place.Goals as goal
 

@@ -1,4 +1,4 @@
-use Rattle.std.proofs.Common.{◌<◌, arith, length, subst}
+use Rattle.std.proofs.Common.{arith, subst}
 use borrow.Author.Count.{below_more}
 use Rattle.sf_place.specs.Verdict.{IsListed}
 use Rattle.sf_place.proofs.Numbered.{all_by_number}

@@ -1,5 +1,5 @@
 use Rattle.std.proofs.Common.{arith, refl}
-use Rattle.sf_wire.proofs.Products.{IsSmall, small}
+use Rattle.sf_wire.proofs.Products.{small}
 use Rattle.sf_wire.proofs.costs.spots_cost.Goals as goal
 
 pub overflow_mul-area : goal.overflow_mul-area

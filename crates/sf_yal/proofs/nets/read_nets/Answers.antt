@@ -1,4 +1,4 @@
-use Rattle.std.proofs.Common.{◌≡◌, ap, ◌∙◌}
+use Rattle.std.proofs.Common.{ap, ◌∙◌}
 use Rattle.std.specs.Prelude.{map}
 use Rattle.sf_yal.specs.Using.{Uses, finished_net, signals_in}
 use Rattle.sf_yal.proofs.NetsAre.{nets_are}

@@ -1,4 +1,4 @@
-use Rattle.std.proofs.Common.{◌≡◌, Result, Ok, Err, subst, sym}
+use Rattle.std.proofs.Common.{Result, Ok, Err, subst}
 use Rattle.std.specs.Prelude.{IfOk}
 use Rattle.sf_model.specs.declared.raw.Parts.{Parts}
 use Rattle.sf_yal.specs.declared.fault.YalFault.{YalFault}

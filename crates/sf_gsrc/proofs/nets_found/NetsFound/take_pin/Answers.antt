@@ -1,7 +1,5 @@
-use Rattle.std.proofs.Common.{◌≡◌, ◌∷◌, [], ◌++◌, List, refl, sym, ap, ◌∙◌}
+use Rattle.std.proofs.Common.{refl, sym, ap, ◌∙◌}
 use Rattle.std.specs.Prelude.{is_some, not}
-use Rattle.sf_model.specs.declared.raw.RawPin.{RawPin}
-use Rattle.sf_model.specs.declared.raw.RawPin.TheVariants.{Named}
 use Rattle.sf_lex.specs.declared.field.Gap.TheVariants.{Blanks}
 use Rattle.sf_lex.specs.Gap.{first_word}
 use Rattle.sf_gsrc.specs.Nets.{PinIs}

@@ -1,4 +1,4 @@
-use Rattle.std.proofs.Common.{◌≡◌, [], ◌∷◌, ◌++◌, length, arith, sym, ap, ◌∙◌}
+use Rattle.std.proofs.Common.{◌≡◌, [], ◌∷◌, ◌++◌, length, sym, ap, ◌∙◌}
 use Rattle.std.proofs.lemmas.List.{map-append, length-map}
 use Rattle.sf_yal.specs.Names.{bytes_of}
 use Rattle.sf_yal.proofs.Indexes.{more_indexed}

@@ -1,4 +1,4 @@
-use Rattle.std.proofs.Common.{◌≡◌, ℤ, SFits, w64, to_z, of_z, rules, arith, sym, ap, ◌∙◌, refl}
+use Rattle.std.proofs.Common.{w64, rules, refl}
 use Rattle.std.proofs.lemmas.Int.{to_z-of_z}
 use Rattle.sf_yal.proofs.vertices.Corners.with.Goals as goal
 

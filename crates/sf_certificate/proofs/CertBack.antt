@@ -1,0 +1,81 @@
+-- What was written is read as the certificate that it was written from.
+use Rattle.std.proofs.Common.{◌≡◌, ℕ, ◌+◌, ◌^◌, ◌<◌, ◌≤◌, List, [], ◌∷◌, ◌++◌, map, All, arith, refl, ap, sym, ◌∙◌, true, Option, Some, None, Ok, append-nil}
+use Rattle.std.specs.Prelude.{codes}
+use Rattle.std.specs.List.{AllByRecursion}
+use Rattle.std.specs.Fmt.{decimal}
+use Rattle.std.proofs.lemmas.Fmt.{decimal_digit}
+use Rattle.std.proofs.lemmas.List.Elements.{recursion_from_All}
+use Rattle.sf_lex.specs.Text.{lines, is_line_feed, has_none}
+use Rattle.sf_lex.specs.Scan.{Line, numbered, last_line_of}
+use Rattle.sf_model.specs.declared.TheConstants.{MAX}
+use Rattle.sf_polish.specs.declared.expr.Expr.{Expr}
+use Rattle.sf_polish.specs.Text.{IsWritable}
+use Rattle.sf_certificate.specs.declared.cert.Cert.{Cert}
+use Rattle.sf_certificate.specs.declared.tag.Tag.{Tag}
+use Rattle.sf_certificate.specs.Places.{first_place}
+use Rattle.sf_certificate.specs.Text.{labelled, cost_text, plan_text, header_lines, tag_text, ended, tags_text, cert_text, FitsTag}
+use Rattle.sf_certificate.specs.Reading.{number_in, line_by, header_read, cert_read, said_by}
+use Rattle.sf_certificate.proofs.HeaderReads.{header-whole, cert-whole}
+use Rattle.sf_certificate.proofs.WrittenBack.{lines-ended, line-append, decimal-line, tags-lines, tags-back}
+use Rattle.sf_certificate.proofs.HeaderBack.{number-back, cost-back, plan-back, expr-line, cost-line}
+
+plan-line : (blocks : ℕ) (plan : Option Expr) → blocks < 2 ^ 16 → ((expr : Expr) → plan ≡ Some expr → IsWritable blocks expr) → has_none is_line_feed (plan_text plan) ≡ true
+plan-line blocks None small wr = refl
+plan-line blocks (Some expr) small wr = expr-line blocks expr small (wr expr refl)
+
+module _ (cert : Cert) (cost : cert.cost < 2 ^ 64) (bound : cert.bound < 2 ^ 64) (fits : All FitsTag cert.tags) where
+  small : cert.blocks < 2 ^ 16
+  small = omega (arith, cert.form.few_blocks)
+
+  header-line : AllByRecursion (λ l. has_none is_line_feed l ≡ true) (header_lines cert.blocks cert.plan cert.cost cert.bound)
+  header-line = (
+    refl,
+    (
+      line-append (codes "blocks ") (decimal cert.blocks) refl (decimal-line cert.blocks (omega (arith, small))),
+      (
+        line-append (codes "cost ") (cost_text cert.cost) refl (cost-line cert.cost cost),
+        (
+          line-append (codes "bound ") (cost_text cert.bound) refl (cost-line cert.bound bound),
+          (
+            line-append (codes "plan ") (plan_text cert.plan) refl (plan-line cert.blocks cert.plan small cert.form.planned),
+            (refl, tt),
+          ),
+        ),
+      ),
+    ),
+  )
+
+  all-lines : lines (cert_text cert) ≡ header_lines cert.blocks cert.plan cert.cost cert.bound ++ map tag_text cert.tags
+  all-lines =
+      let tls = map tag_text cert.tags in
+      let hs = header_lines cert.blocks cert.plan cert.cost cert.bound in
+      let one : lines (ended tls) ≡ tls = ap lines (sym (append-nil (ended tls))) ∙ lines-ended tls [] (tags-lines cert.tags (recursion_from_All FitsTag cert.tags fits)) ∙ append-nil tls in
+      lines-ended hs (ended tls) header-line ∙ ap (λ (x : List (List ℕ)). hs ++ x) one
+
+  title : number_in (codes "slicing-certificate") 1 (codes "slicing-certificate" ++ 32 ∷ codes "1") ≡ Some 1
+  title =
+      ap (λ v. number_in (codes "slicing-certificate") 1 (codes "slicing-certificate" ++ 32 ∷ v)) (sym (decimal_digit 1 (omega arith)))
+      ∙ number-back (codes "slicing-certificate") 1 refl (omega arith) refl (omega arith)
+
+  pub cert-back : cert_read cert.blocks (cert_text cert) ≡ Ok (said_by cert)
+  cert-back =
+      let tls = map tag_text cert.tags in
+      let last = last_line_of (cert_text cert) in
+      let n = cert.blocks in
+      let l5 : List Line = numbered 6 (codes "tree" ∷ tls) in
+      let l6 : List Line = numbered 7 tls in
+      let l4 : List Line = numbered 5 (labelled (codes "plan") (plan_text cert.plan) ∷ codes "tree" ∷ tls) in
+      let l3 : List Line = numbered 4 (labelled (codes "bound") (cost_text cert.bound) ∷ labelled (codes "plan") (plan_text cert.plan) ∷ codes "tree" ∷ tls) in
+      let l2 : List Line = numbered 3 (labelled (codes "cost") (cost_text cert.cost) ∷ labelled (codes "bound") (cost_text cert.bound) ∷ labelled (codes "plan") (plan_text cert.plan) ∷ codes "tree" ∷ tls) in
+      let l1 : List Line = numbered 2 (labelled (codes "blocks") (decimal n) ∷ labelled (codes "cost") (cost_text cert.cost) ∷ labelled (codes "bound") (cost_text cert.bound) ∷ labelled (codes "plan") (plan_text cert.plan) ∷ codes "tree" ∷ tls) in
+      let l0 : List Line = numbered 1 (header_lines n cert.plan cert.cost cert.bound ++ tls) in
+      let header = header-whole n last l0 l1 l2 l3 l4 l5 l6 cert.cost cert.bound cert.plan
+      (ap (line_by 1 l1) title)
+      (ap (line_by 2 l2) (number-back (codes "blocks") n refl (omega arith) refl (omega (arith, small))))
+      (ap (line_by 3 l3) (cost-back (codes "cost") cert.cost refl (omega arith) refl cost))
+      (ap (line_by 4 l4) (cost-back (codes "bound") cert.bound refl (omega arith) refl bound))
+      (ap (line_by 5 l5) (plan-back n cert.cost cert.plan small cert.form.planned cert.form.unplanned))
+      refl in
+      cert-whole n (cert_text cert) (record { plan = cert.plan; cost = cert.cost; bound = cert.bound; others = l6 }) cert.tags
+      (ap (λ ls. header_read n last (numbered 1 ls)) all-lines ∙ header)
+      (tags-back n last 7 cert.tags (first_place ∷ []) (recursion_from_All FitsTag cert.tags fits) cert.form.tree)

@@ -1,0 +1,110 @@
+-- A text that was written is read as the certificate that it was written from.
+use Rattle.std.proofs.Common.{◌≡◌, ℕ, zero, suc, ◌+◌, ◌*◌, ◌^◌, ◌<◌, ◌≤◌, List, [], ◌∷◌, ◌++◌, length, map, arith, refl, ap, sym, subst, ◌∙◌, Bool, true, false, cond, not, ◌==◌, ◌&&◌, Option, Some, None, Result, Ok, Err, append_assoc, append-nil, length-append}
+use Rattle.std.specs.Prelude.{nat_lt, codes, All}
+use Rattle.std.specs.List.{AllByRecursion, flat_map, list_all, join_with_byte}
+use Rattle.std.specs.Fmt.{decimal}
+use Rattle.std.specs.Str.{bytes_eq}
+use Rattle.std.proofs.lemmas.Bool.Decides.{nat_tests}
+use Rattle.std.proofs.lemmas.Fmt.{decimal_nonempty, decimal_digit}
+use Rattle.std.proofs.lemmas.List.Elements.{recursion_from_All}
+use Rattle.std.proofs.lemmas.List.Folds.{list_all-append}
+use Rattle.sf_lex.specs.Number.{is_digit}
+use Rattle.sf_lex.specs.Text.{lines, words, is_line_feed, is_blank_byte, has_none, is_not_empty}
+use Rattle.sf_lex.specs.Scan.{Line, LineWord, numbered, words_of_line, words_of_lines}
+use Rattle.sf_lex.specs.Whole.{whole_read, plain_read}
+use Rattle.sf_lex.proofs.Decimals.{and_true}
+use Rattle.sf_lex.proofs.Spelled.{lines-written, words-written, words-last}
+use Rattle.sf_lex.proofs.WrittenNumbers.{digits_written, whole_written, plain_written}
+use Rattle.sf_certificate.specs.declared.fault.CertFault.{CertFault}
+use Rattle.sf_certificate.specs.declared.fault.CertFault.TheVariants.{TooDeep}
+use Rattle.sf_certificate.specs.declared.place.Place.{Place}
+use Rattle.sf_certificate.specs.declared.tag.Tag.{Tag}
+use Rattle.sf_certificate.specs.declared.tag.Tag.TheVariants.{Extend, Split, Closed, Open}
+use Rattle.sf_certificate.specs.Places.{places_under, spell_trees}
+use Rattle.sf_certificate.specs.Text.{labelled, tag_text, ended, FitsTag}
+use Rattle.sf_certificate.specs.Reading.{TagSaid, tags_said, split_by, with_tag, tag_at, tree_from, value_in, value_after}
+
+-- ---- lines
+
+abbrev pub IsLine : List ℕ → Type 0
+IsLine line = has_none is_line_feed line ≡ true
+
+-- lines that LF ends are the lines of the text
+pub lines-ended : (ls : List (List ℕ)) (rest : List ℕ) → AllByRecursion (λ l. has_none is_line_feed l ≡ true) ls → lines (ended ls ++ rest) ≡ ls ++ lines rest
+lines-ended [] rest h = refl
+lines-ended (l ∷ ls) rest h =
+    ap lines (append_assoc (l ++ 10 ∷ []) (ended ls) rest ∙ append_assoc l (10 ∷ []) (ended ls ++ rest))
+    ∙ lines-written l (ended ls ++ rest) h.0
+    ∙ ap (λ (x : List (List ℕ)). l ∷ x) (lines-ended ls rest h.1)
+
+pub line-append : (xs ys : List ℕ) → has_none is_line_feed xs ≡ true → has_none is_line_feed ys ≡ true → has_none is_line_feed (xs ++ ys) ≡ true
+line-append xs ys h k = list_all-append (λ b. not (is_line_feed b)) xs ys ∙ rw (h, k) refl
+
+weaker : (p q : ℕ → Bool) → ((b : ℕ) → p b ≡ true → q b ≡ true) → (xs : List ℕ) → list_all p xs ≡ true → list_all q xs ≡ true
+weaker p q f [] h = refl
+weaker p q f (x ∷ xs) h =
+    let both = and_true (p x) (list_all p xs) h in
+    rw (f x both.0, weaker p q f xs both.1) refl
+
+digit-line : (d : ℕ) → is_digit d ≡ true → not (is_line_feed d) ≡ true
+digit-line d e = grind (arith, nat_tests)
+
+digit-solid : (d : ℕ) → is_digit d ≡ true → not (is_blank_byte d) ≡ true
+digit-solid d e = grind (arith, nat_tests)
+
+pub decimal-line : (n : ℕ) → n < 2 ^ 64 → has_none is_line_feed (decimal n) ≡ true
+decimal-line n h = weaker is_digit (λ b. not (is_line_feed b)) digit-line (decimal n) (digits_written n h)
+
+pub decimal-solid : (n : ℕ) → n < 2 ^ 64 → has_none is_blank_byte (decimal n) ≡ true
+decimal-solid n h = weaker is_digit (λ b. not (is_blank_byte b)) digit-solid (decimal n) (digits_written n h)
+
+-- ---- a label and a value
+
+pub words-labelled : (label value : List ℕ) → 0 < length label → has_none is_blank_byte label ≡ true → 0 < length value → has_none is_blank_byte value ≡ true → words is_blank_byte (label ++ 32 ∷ value) ≡ label ∷ value ∷ []
+words-labelled label value a b c d = words-written is_blank_byte label value 32 a b refl ∙ ap (λ (ws : List (List ℕ)). label ∷ ws) (words-last is_blank_byte value c d)
+
+-- ---- the tree
+
+tag-line : (tag : Tag) → FitsTag tag → has_none is_line_feed (tag_text tag) ≡ true
+tag-line Extend h = refl
+tag-line (Split b) h = line-append (83 ∷ 32 ∷ []) (decimal b) refl (decimal-line b (omega (arith, h)))
+tag-line Closed h = refl
+tag-line Open h = refl
+
+pub tags-lines : (tags : List Tag) → AllByRecursion FitsTag tags → AllByRecursion (λ l. has_none is_line_feed l ≡ true) (map tag_text tags)
+tags-lines [] h = tt
+tags-lines (tag ∷ tags) h = (tag-line tag h.0, tags-lines tags h.1)
+
+deep-enough : (place : Place) (line : ℕ) (next : Result (List Tag) CertFault) → nat_lt place.depth 3200 ≡ true → cond (nat_lt place.depth 3200) next (Err (TooDeep line)) ≡ next
+deep-enough place line next e = ap (λ b. cond b next (Err (TooDeep line))) e
+
+split-words : (k b : ℕ) → b < 2 ^ 16 → words_of_line (record { number = k; bytes = 83 ∷ 32 ∷ decimal b }) ≡ record { line = k; text = 83 ∷ [] } ∷ record { line = k; text = decimal b } ∷ []
+split-words k b h =
+    ap (map (λ w. record { line = k; text = w }))
+    (words-labelled (83 ∷ []) (decimal b) (omega arith) refl (decimal_nonempty b (omega (arith, h))) (decimal-solid b (omega (arith, h))))
+
+step-said : (last k : ℕ) (tag : Tag) (others : List LineWord) → FitsTag tag → tags_said last None (words_of_line (record { number = k; bytes = tag_text tag }) ++ others) ≡ record { line = k; tag = Ok tag } ∷ tags_said last None others
+unfolding tags_said
+step-said last k Extend others h = refl
+step-said last k (Split b) others h =
+    ap (λ ws. tags_said last None (ws ++ others)) (split-words k b h)
+    ∙ ap (λ r. record { line = k; tag = split_by k r } ∷ tags_said last None others) (whole_written b 65535 (omega (arith, h)) (omega (arith, h)))
+step-said last k Closed others h = refl
+step-said last k Open others h = refl
+
+tree-step : (n last k : ℕ) (tag : Tag) (tags : List Tag) (place : Place) (places : List Place) (others : List TagSaid) → nat_lt place.depth 3200 ≡ true → tree_from n last (places_under n tag place ++ places) others ≡ Ok tags → tree_from n last (place ∷ places) (record { line = k; tag = Ok tag } ∷ others) ≡ Ok (tag ∷ tags)
+unfolding tree_from
+tree-step n last k tag tags place places others d e =
+    deep-enough place k (with_tag tag (tree_from n last (places_under n tag place ++ places) others)) d ∙ ap (with_tag tag) e
+
+-- the lines of the tags are read as the tags
+pub tags-back : (n last k : ℕ) (tags : List Tag) (places : List Place) → AllByRecursion FitsTag tags → spell_trees n places tags ≡ true → tree_from n last places (tags_said last None (words_of_lines (numbered k (map tag_text tags)))) ≡ Ok tags
+unfolding tags_said tree_from
+tags-back n last k [] [] h s = refl
+tags-back n last k [] (place ∷ places) h s = absurd (cc)
+tags-back n last k (tag ∷ tags) [] h s = absurd (cc)
+tags-back n last k (tag ∷ tags) (place ∷ places) h s =
+    let both = and_true (nat_lt place.depth 3200) (spell_trees n (places_under n tag place ++ places) tags) s in
+    let more = tags-back n last (k + 1) tags (places_under n tag place ++ places) h.1 both.1 in
+    ap (tree_from n last (place ∷ places)) (step-said last k tag (words_of_lines (numbered (k + 1) (map tag_text tags))) h.0)
+    ∙ tree-step n last k tag tags place places (tags_said last None (words_of_lines (numbered (k + 1) (map tag_text tags)))) both.0 more

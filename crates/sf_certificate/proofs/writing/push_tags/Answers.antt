@@ -1,0 +1,12 @@
+use Rattle.std.proofs.Common.{◌≡◌, arith}
+use Rattle.std.proofs.lemmas.Grind.{common_steps}
+use Rattle.std.proofs.lemmas.List.Elements.{All-more}
+use Rattle.sf_certificate.specs.declared.tag.Tag.TheVariants.{Extend}
+use Rattle.sf_certificate.specs.Text.{FitsTag}
+use Rattle.sf_certificate.proofs.writing.push_tags.Goals as goal
+
+pub loop-tag-preserved : goal.loop-tag-preserved
+loop-tag-preserved c = record {
+  text = grind (arith, common_steps);
+  fits = All-more FitsTag c.args.tags.now c.loop-tag.tag-index Extend c.loop-tag-test.true c.loop-tag.invariant.fits c.in_ok-push_tag.ensures.fits;
+}

@@ -1,0 +1,198 @@
+-- What a text is read as: the certificate that it spells, or its first fault.
+use Rattle.std.specs.Prelude.{◌≡◌, ℕ, ◌+◌, ◌==◌, nat_lt, List, [], ◌∷◌, ◌++◌, codes, Bool, Option, Some, None, Result, Ok, Err, if◌then◌else◌}
+use Rattle.std.specs.Option.{option_and_then}
+use Rattle.std.specs.Str.{bytes_eq}
+use Rattle.sf_lex.specs.Text.{lines, words, is_blank_byte}
+use Rattle.sf_lex.specs.Scan.{Line, LineWord, numbered, words_of_lines, last_line_of}
+use Rattle.sf_lex.specs.Gap.{first_word, after_word}
+use Rattle.sf_lex.specs.declared.field.Gap.TheVariants.{Blanks}
+use Rattle.sf_lex.specs.Whole.{whole_read, plain_read}
+use Rattle.sf_model.specs.declared.TheConstants.{MAX}
+use Rattle.sf_polish.specs.declared.expr.Expr.{Expr}
+use Rattle.sf_polish.specs.declared.fault.ExprFault.{ExprFault}
+use Rattle.sf_polish.specs.Reading.{expr_read}
+use Rattle.sf_certificate.specs.declared.cert.Cert.{Cert}
+use Rattle.sf_certificate.specs.declared.fault.CertFault.{CertFault}
+use Rattle.sf_certificate.specs.declared.fault.CertFault.TheVariants.{BadHeader, BadTag, TooDeep, Truncated, Trailing}
+use Rattle.sf_certificate.specs.declared.letter.Letter.{Letter}
+use Rattle.sf_certificate.specs.declared.letter.Letter.TheVariants as letter
+use Rattle.sf_certificate.specs.declared.place.Place.{Place}
+use Rattle.sf_certificate.specs.declared.tag.Tag.{Tag}
+use Rattle.sf_certificate.specs.declared.tag.Tag.TheVariants.{Extend, Split, Closed, Open}
+use Rattle.sf_certificate.specs.Form.{no_plan}
+use Rattle.sf_certificate.specs.Places.{first_place, places_under}
+
+-- one reading after another: the first fault is the fault of both
+infixl 10 ◌>>=◌
+abbrev pub ◌>>=◌ : {A B : Type 0} → Result A CertFault → (A → Result B CertFault) → Result B CertFault
+(Ok x) >>= f = f x
+(Err e) >>= f = Err e
+
+-- ---- the header: each line by itself
+
+-- the value behind a label, where the words are these two
+abbrev pub value_after : List ℕ → List (List ℕ) → Option (List ℕ)
+value_after label [] = None
+value_after label (first ∷ []) = None
+value_after label (first ∷ value ∷ []) = if bytes_eq first label then Some value else None
+value_after label (first ∷ value ∷ other ∷ others) = None
+
+abbrev pub value_in : List ℕ → List ℕ → Option (List ℕ)
+value_in label line = value_after label (words is_blank_byte line)
+
+-- the number, where it is this one
+abbrev pub exactly : ℕ → Option ℕ → Option ℕ
+exactly n None = None
+exactly n (Some k) = if k == n then Some n else None
+
+-- a label and this number, without zeros at the front
+abbrev pub number_in : List ℕ → ℕ → List ℕ → Option ℕ
+number_in label n line = exactly n (option_and_then (plain_read n) (value_in label line))
+
+-- `none` for MAX, or a number below it, without zeros at the front
+abbrev pub cost_of_word : List ℕ → Option ℕ
+cost_of_word word = if bytes_eq word (codes "none") then Some MAX else plain_read 18_446_744_073_709_551_614 word
+
+abbrev pub cost_in : List ℕ → List ℕ → Option ℕ
+cost_in label line = option_and_then cost_of_word (value_in label line)
+
+-- the only one of the words, where it is this one
+abbrev pub only_word : List ℕ → List (List ℕ) → Option (List ℕ)
+only_word word [] = None
+only_word word (first ∷ []) = if bytes_eq first word then Some word else None
+only_word word (first ∷ other ∷ others) = None
+
+abbrev pub word_in : List ℕ → List ℕ → Option (List ℕ)
+word_in word line = only_word word (words is_blank_byte line)
+
+abbrev pub plan_read : Result Expr ExprFault → Option (Option Expr)
+plan_read (Ok expr) = Some (Some expr)
+plan_read (Err fault) = None
+
+abbrev pub plan_or : Option (List ℕ) → Option (Option Expr) → Option (Option Expr)
+plan_or None plan = plan
+plan_or (Some word) plan = Some None
+
+-- no plan exactly where there is no cost
+abbrev pub agreeing : ℕ → Option (Option Expr) → Option (Option Expr)
+agreeing cost None = None
+agreeing cost (Some None) = if cost == MAX then Some None else None
+agreeing cost (Some (Some expr)) = if cost == MAX then None else Some (Some expr)
+
+-- `none`, or an expression of these blocks
+abbrev pub plan_of_rest : ℕ → List ℕ → Option (Option Expr)
+plan_of_rest blocks rest = plan_or (word_in (codes "none") rest) (plan_read (expr_read blocks rest))
+
+abbrev pub plan_said : ℕ → List ℕ → Option (Option Expr)
+plan_said blocks line = if bytes_eq (first_word Blanks line) (codes "plan") then plan_of_rest blocks (after_word Blanks line) else None
+
+abbrev pub plan_in : ℕ → ℕ → List ℕ → Option (Option Expr)
+plan_in blocks cost line = agreeing cost (plan_said blocks line)
+
+-- ---- the header: one line after another
+
+-- a line that stands as shown gives its value, and the lines behind it are left
+abbrev pub line_by : {X : Type 0} → ℕ → List Line → Option X → Result (X × List Line) CertFault
+line_by number others None = Err (BadHeader number)
+line_by number others (Some x) = Ok (x, others)
+
+-- the next line by a rule; one that isn't there is missed at the last line of the text
+abbrev pub line_read : {X : Type 0} → ℕ → (List ℕ → Option X) → List Line → Result (X × List Line) CertFault
+line_read last rule [] = Err (BadHeader last)
+line_read last rule (line ∷ others) = line_by line.number others (rule line.bytes)
+
+pub record Header : Type 0 where
+  pub plan : Option Expr
+  pub cost : ℕ
+  pub bound : ℕ
+  pub others : List Line
+
+unfoldable pub header_read : ℕ → ℕ → List Line → Result Header CertFault
+header_read blocks last all = do
+  title ← line_read last (number_in (codes "slicing-certificate") 1) all
+  count ← line_read last (number_in (codes "blocks") blocks) title.1
+  cost ← line_read last (cost_in (codes "cost")) count.1
+  bound ← line_read last (cost_in (codes "bound")) cost.1
+  plan ← line_read last (plan_in blocks cost.0) bound.1
+  tree ← line_read last (word_in (codes "tree")) plan.1
+  Ok (record { plan = plan.0; cost = cost.0; bound = bound.0; others = tree.1 })
+
+-- ---- the tree
+
+-- a tag that words say, or their fault, and the line of the first word
+pub record TagSaid : Type 0 where
+  pub line : ℕ
+  pub tag : Result Tag CertFault
+
+abbrev pub letter_by : ℕ → Option Letter
+letter_by b =
+    if b == 69 then Some letter.Extend
+    else (if b == 83 then Some letter.Split
+    else (if b == 67 then Some letter.Closed
+    else (if b == 79 then Some letter.Open
+    else None)))
+
+-- what a word begins: `E`, `S`, `C` or `O`
+abbrev pub letter_of : List ℕ → Option Letter
+letter_of [] = None
+letter_of (b ∷ []) = letter_by b
+letter_of (b ∷ c ∷ bytes) = None
+
+-- what a word alone says, before the others; or a split that waits for its number
+abbrev pub by_letter : ℕ → Option Letter → List TagSaid → List TagSaid → List TagSaid
+by_letter line None others split = record { line = line; tag = Err (BadTag line) } ∷ others
+by_letter line (Some letter.Extend) others split = record { line = line; tag = Ok Extend } ∷ others
+by_letter line (Some letter.Split) others split = split
+by_letter line (Some letter.Closed) others split = record { line = line; tag = Ok Closed } ∷ others
+by_letter line (Some letter.Open) others split = record { line = line; tag = Ok Open } ∷ others
+
+abbrev pub split_by : ℕ → Option ℕ → Result Tag CertFault
+split_by line None = Err (BadTag line)
+split_by line (Some b) = Ok (Split b)
+
+-- the tags that words say, where an S may stand before them, in a line
+unfoldable pub tags_said : ℕ → Option ℕ → List LineWord → List TagSaid
+tags_said last None [] = []
+tags_said last (Some line) [] = record { line = line; tag = Err (Truncated last) } ∷ []
+tags_said last None (word ∷ others) = by_letter word.line (letter_of word.text) (tags_said last None others) (tags_said last (Some word.line) others)
+tags_said last (Some line) (word ∷ others) = record { line = line; tag = split_by line (whole_read 65535 word.text) } ∷ tags_said last None others
+
+-- a tag in front of those that follow
+abbrev pub with_tag : Tag → Result (List Tag) CertFault → Result (List Tag) CertFault
+with_tag tag (Ok tags) = Ok (tag ∷ tags)
+with_tag tag (Err fault) = Err fault
+
+-- a tag at its place: a fault of its words comes before one of its depth
+abbrev pub tag_at : Place → ℕ → Result Tag CertFault → (Tag → Result (List Tag) CertFault) → Result (List Tag) CertFault
+tag_at place line (Err fault) next = Err fault
+tag_at place line (Ok tag) next = if nat_lt place.depth 3200 then next tag else Err (TooDeep line)
+
+-- the tags for the places that wait
+unfoldable pub tree_from : ℕ → ℕ → List Place → List TagSaid → Result (List Tag) CertFault
+tree_from n last [] [] = Ok []
+tree_from n last [] (said ∷ others) = Err (Trailing said.line)
+tree_from n last (place ∷ places) [] = Err (Truncated last)
+tree_from n last (place ∷ places) (said ∷ others) = tag_at place said.line said.tag (λ tag. with_tag tag (tree_from n last (places_under n tag place ++ places) others))
+
+-- the tree that words spell among n blocks
+abbrev pub tree_read : ℕ → ℕ → List LineWord → Result (List Tag) CertFault
+tree_read n last words = tree_from n last (first_place ∷ []) (tags_said last None words)
+
+-- ---- the whole text
+
+-- what a certificate says
+pub record Said : Type 0 where
+  pub blocks : ℕ
+  pub plan : Option Expr
+  pub cost : ℕ
+  pub bound : ℕ
+  pub tags : List Tag
+
+abbrev pub said_by : Cert → Said
+said_by cert = record { blocks = cert.blocks; plan = cert.plan; cost = cert.cost; bound = cert.bound; tags = cert.tags }
+
+unfoldable pub cert_read : ℕ → List ℕ → Result Said CertFault
+cert_read blocks text = do
+  header ← header_read blocks (last_line_of text) (numbered 1 (lines text))
+  tags ← tree_read blocks (last_line_of text) (words_of_lines header.others)
+  Ok (record { blocks = blocks; plan = header.plan; cost = header.cost; bound = header.bound; tags = tags })

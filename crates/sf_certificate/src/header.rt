@@ -1,0 +1,203 @@
+//! The header of a certificate's text, line by line.
+
+ghost use Rattle.std.specs.Prelude.{◌≡◌, ◌≢◌, ◌==◌, [], ◌∷◌, if◌then◌else◌, IfOk, IfErr, OnOk, MatchOption, Ok, Some, None, ⊤};
+ghost use Rattle.std.specs.Option.{option_copied};
+ghost use Rattle.sf_lex.specs.Whole.{plain_read};
+ghost use Rattle.sf_lex.specs.Scan.{numbered_rest, line_of, last_line_of};
+ghost use Rattle.sf_model.specs.declared.TheConstants.{MAX};
+ghost use Rattle.sf_polish.specs.Text.{IsWritable};
+ghost use Rattle.sf_certificate.specs.declared.fault.CertFault.TheVariants.{BadHeader, NoMemory};
+ghost use Rattle.sf_certificate.specs.Form.{no_plan};
+ghost use Rattle.sf_certificate.specs.Reading.{value_in, number_in, cost_of_word, cost_in, word_in, plan_said, plan_in, line_read, header_read, exactly};
+
+use crate::fault::CertFault;
+use sf_lex::{Gap, Scan, Word, last_line, next_field, read_plain, split_word};
+use sf_model::MAX;
+use sf_polish::{Expr, ExprFault, read_expr};
+use std::alloc::Global;
+
+/// What the header says.
+#[derive(Drop)]
+pub struct Header {
+    pub plan: Option<Expr>,
+    pub cost: u64,
+    pub bound: u64,
+}
+
+/// The six lines of the header.
+pub fn read_header(
+    alloc: Global,
+    scan: &mut Scan,
+    text: &[u8],
+    blocks: u16,
+) -> Result<Header, CertFault>
+    ensures header { IfOk result (λ h. header_read blocks (last_line_of text.now) (numbered_rest scan.old)
+        ≡ Ok (record { plan = h.plan; cost = h.cost; bound = h.bound; others = numbered_rest scan.new })) }
+    ensures agrees { IfOk result (λ h. no_plan h.plan ≡ (h.cost == MAX)) }
+    ensures writable { IfOk result (λ h. MatchOption h.plan ⊤ (IsWritable blocks)) }
+    ensures fault { IfErr result (λ e. e ≢ NoMemory → header_read blocks (last_line_of text.now) (numbered_rest scan.old) ≡ Err e) }
+{
+    read_number(scan, text, b"slicing-certificate", 1)?;
+    read_number(scan, text, b"blocks", blocks)?;
+    let cost = read_cost(scan, text, b"cost")?;
+    let bound = read_cost(scan, text, b"bound")?;
+    let plan = read_plan(alloc, scan, text, blocks, cost)?;
+    read_only(scan, text, b"tree")?;
+    Ok(Header { plan, cost, bound })
+}
+
+/// A line of a label and this number.
+fn read_number(scan: &mut Scan, text: &[u8], label: &[u8], number: u16) -> Result<(), CertFault>
+    ensures line { OnOk result (line_read (last_line_of text.now) (number_in label.now number) (numbered_rest scan.old)
+        ≡ Ok (number, numbered_rest scan.new)) }
+    ensures fault { IfErr result (λ e. line_read (last_line_of text.now) (number_in label.now number) (numbered_rest scan.old) ≡ Err e) }
+{
+    let line = next_line(scan, text)?;
+    if is_number(line.text, label, number) {
+        Ok(())
+    } else {
+        Err(CertFault::BadHeader(line.line))
+    }
+}
+
+/// A line of a label and a cost.
+fn read_cost(scan: &mut Scan, text: &[u8], label: &[u8]) -> Result<u64, CertFault>
+    ensures line { IfOk result (λ cost. line_read (last_line_of text.now) (cost_in label.now) (numbered_rest scan.old)
+        ≡ Ok (cost, numbered_rest scan.new)) }
+    ensures fault { IfErr result (λ e. line_read (last_line_of text.now) (cost_in label.now) (numbered_rest scan.old) ≡ Err e) }
+{
+    let line = next_line(scan, text)?;
+    match cost_in(line.text, label) {
+        Some(cost) => Ok(cost),
+        None => Err(CertFault::BadHeader(line.line)),
+    }
+}
+
+/// A line of one word.
+fn read_only(scan: &mut Scan, text: &[u8], word: &[u8]) -> Result<(), CertFault>
+    ensures line { OnOk result (line_read (last_line_of text.now) (word_in word.now) (numbered_rest scan.old)
+        ≡ Ok (word.now, numbered_rest scan.new)) }
+    ensures fault { IfErr result (λ e. line_read (last_line_of text.now) (word_in word.now) (numbered_rest scan.old) ≡ Err e) }
+{
+    let line = next_line(scan, text)?;
+    if is_only(line.text, word) {
+        Ok(())
+    } else {
+        Err(CertFault::BadHeader(line.line))
+    }
+}
+
+/// The line of the plan: none exactly where there is no cost.
+fn read_plan(
+    alloc: Global,
+    scan: &mut Scan,
+    text: &[u8],
+    blocks: u16,
+    cost: u64,
+) -> Result<Option<Expr>, CertFault>
+    ensures line { IfOk result (λ plan. line_read (last_line_of text.now) (plan_in blocks cost) (numbered_rest scan.old)
+        ≡ Ok (plan, numbered_rest scan.new)) }
+    ensures agrees { IfOk result (λ plan. no_plan plan ≡ (cost == MAX)) }
+    ensures writable { IfOk result (λ plan. MatchOption plan ⊤ (IsWritable blocks)) }
+    ensures fault { IfErr result (λ e. e ≢ NoMemory
+        → line_read (last_line_of text.now) (plan_in blocks cost) (numbered_rest scan.old) ≡ Err e) }
+{
+    let line = next_line(scan, text)?;
+    let plan = plan_of_line(alloc, &line, blocks)?;
+    if plan.is_none() == (cost == MAX) {
+        Ok(plan)
+    } else {
+        Err(CertFault::BadHeader(line.line))
+    }
+}
+
+fn plan_of_line(alloc: Global, line: &Word, blocks: u16) -> Result<Option<Expr>, CertFault>
+    ensures plan { IfOk result (λ plan. plan_said blocks line.now.text.now ≡ Some plan) }
+    ensures writable { IfOk result (λ plan. MatchOption plan ⊤ (IsWritable blocks)) }
+    ensures fault { IfErr result (λ e. e ≢ NoMemory
+        → (e ≡ BadHeader line.now.line) × (plan_said blocks line.now.text.now ≡ None)) }
+{
+    let (label, rest) = split_word(line.text, Gap::Blanks);
+    if label != b"plan".as_slice() {
+        return Err(CertFault::BadHeader(line.line));
+    }
+    if is_only(rest, b"none") {
+        return Ok(None);
+    }
+    match read_expr(alloc, rest, blocks) {
+        Ok(expr) => Ok(Some(expr)),
+        Err(ExprFault::NoMemory) => Err(CertFault::NoMemory),
+        Err(_) => Err(CertFault::BadHeader(line.line)),
+    }
+}
+
+/// The next line; one that isn't there is missed at the last line of the text.
+fn next_line<'a>(scan: &mut Scan<'a>, text: &[u8]) -> Result<Word<'a>, CertFault>
+    ensures line { IfOk result (λ line. numbered_rest scan.old ≡ line_of line ∷ numbered_rest scan.new) }
+    ensures fault { IfErr result (λ e. (e ≡ BadHeader (last_line_of text.now)) × (numbered_rest scan.old ≡ [])) }
+{
+    match scan.next_line() {
+        Some(line) => Ok(line),
+        None => Err(CertFault::BadHeader(last_line(text))),
+    }
+}
+
+/// The word behind a label, in a line of the two.
+fn value_in<'a>(line: &'a [u8], label: &[u8]) -> Option<&'a [u8]>
+    ensures { option_copied result ≡ value_in label.now line.now }
+{
+    let (first, rest) = next_field(line, Gap::Blanks)?;
+    let (value, rest) = next_field(rest, Gap::Blanks)?;
+    if next_field(rest, Gap::Blanks).is_none() && first == label {
+        Some(value)
+    } else {
+        None
+    }
+}
+
+fn is_number(line: &[u8], label: &[u8], number: u16) -> bool
+    ensures { (if result then Some number else None) ≡ number_in label.now number line.now }
+{
+    match value_in(line, label) {
+        Some(value) => is_plain(value, number),
+        None => false,
+    }
+}
+
+fn is_plain(word: &[u8], number: u16) -> bool
+    ensures { (if result then Some number else None) ≡ exactly number (plain_read number word.now) }
+{
+    match read_plain(word, u64::from(number)) {
+        Some(value) => value == u64::from(number),
+        None => false,
+    }
+}
+
+fn cost_in(line: &[u8], label: &[u8]) -> Option<u64>
+    ensures { result ≡ cost_in label.now line.now }
+{
+    match value_in(line, label) {
+        Some(value) => cost_of_word(value),
+        None => None,
+    }
+}
+
+fn cost_of_word(word: &[u8]) -> Option<u64>
+    ensures { result ≡ cost_of_word word.now }
+{
+    if word == b"none".as_slice() {
+        Some(MAX)
+    } else {
+        read_plain(word, MAX - 1)
+    }
+}
+
+/// Whether the line is this word alone.
+fn is_only(line: &[u8], word: &[u8]) -> bool
+    ensures { (if result then Some word.now else None) ≡ word_in word.now line.now }
+{
+    match next_field(line, Gap::Blanks) {
+        Some((first, rest)) => next_field(rest, Gap::Blanks).is_none() && first == word,
+        None => false,
+    }
+}

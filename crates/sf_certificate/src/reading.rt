@@ -1,0 +1,33 @@
+//! Reading the text of a certificate.
+
+ghost use Rattle.std.specs.Prelude.{◌≡◌, ◌≢◌, ◌≤◌, IfOk, IfErr, Ok};
+ghost use Rattle.sf_certificate.specs.declared.fault.CertFault.TheVariants.{NoMemory};
+ghost use Rattle.sf_certificate.specs.Reading.{said_by, cert_read};
+
+use crate::cert::Cert;
+use crate::fault::CertFault;
+use crate::header::read_header;
+use crate::tag::TagList;
+use crate::tree::read_tree;
+use sf_lex::Scan;
+use std::alloc::Global;
+
+/// The certificate that a text spells for so many blocks, or the first fault of the text.
+pub fn read(alloc: Global, text: &[u8], blocks: u16) -> Result<Cert, CertFault>
+    requires some { 1 ≤ blocks }
+    requires few { blocks ≤ 320 }
+    ensures ok { IfOk result (λ c. cert_read blocks text.now ≡ Ok (said_by c)) }
+    ensures blocks { IfOk result (λ c. c.blocks ≡ blocks) }
+    ensures fault { IfErr result (λ e. e ≢ NoMemory → cert_read blocks text.now ≡ Err e) }
+{
+    let mut scan = Scan::new(text);
+    let header = read_header(alloc, &mut scan, text, blocks)?;
+    let tags = read_tree(alloc, &mut scan, text, blocks)?;
+    Ok(Cert {
+        blocks,
+        plan: header.plan,
+        cost: header.cost,
+        bound: header.bound,
+        tags: TagList::from_vec(tags),
+    })
+}

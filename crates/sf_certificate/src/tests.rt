@@ -1,0 +1,99 @@
+ghost use Rattle.std.specs.Prelude.{◌≡◌, ◌∷◌, [], IfOk};
+ghost use Rattle.sf_model.specs.Legal.{block_count};
+
+use crate::{CertFault, Tag, merge, read, write};
+use sf_model::{
+    Block, BlockList, Design, MAX, Name, NetList, Outline, PadList, Shape, Shapes, Weights,
+};
+use sf_node::{Node, Task, Values};
+use std::alloc::{AllocError, Global};
+use std::test::Fail;
+
+/// A bound that closes nothing.
+struct Nothing;
+
+impl Values for Nothing {
+    ghost value = { λ bounds design node. 0 };
+}
+
+/// A block 3x4.
+fn one_block(alloc: Global) -> Result<Design, AllocError>
+    ensures { IfOk result (λ design. block_count design ≡ 1) }
+{
+    let block = Block {
+        name: Name::new(alloc, b"b0")?,
+        shapes: Shapes::from_vec(vec![in alloc; Shape { w: 3, h: 4 }]?),
+    };
+    Ok(Design {
+        blocks: BlockList::from_vec(vec![in alloc; block]?),
+        pads: PadList::from_vec(Vec::new(alloc)),
+        nets: NetList::from_vec(Vec::new(alloc)),
+        outline: Outline { w: 10, h: 10 },
+        weights: Weights { area: 1, wire: 0 },
+    })
+}
+
+#[test]
+fn merges_an_open_root(rt: HostRuntime) -> Result<(), Fail> {
+    let alloc = rt.alloc();
+    let design = one_block(alloc)?;
+    let root = Task {
+        node: Node::root(alloc, &design)?,
+        bound: 0,
+    };
+    let left = vec![in alloc; root]?;
+    let cert = merge(alloc, &design, Vec::new(alloc), left, None, MAX, &Nothing)?;
+    assert_eq!(rt; cert.tags.as_slice(), [Tag::Open].as_slice());
+    assert_eq!(rt; cert.bound, 0);
+    Ok(())
+}
+
+#[test]
+fn writes_what_it_read(rt: HostRuntime) -> Result<(), Fail> {
+    let alloc = rt.alloc();
+    let text = b"slicing-certificate 1\nblocks 1\ncost 12\nbound 12\nplan 0:3x4\ntree\nE\nC\n";
+    let cert = read(alloc, text, 1)?;
+    assert_eq!(rt; (cert.cost, cert.bound), (12, 12));
+    assert_eq!(rt; cert.tags.as_slice(), [Tag::Extend, Tag::Closed].as_slice());
+    let written = write(alloc, &cert)?;
+    assert_eq!(rt; written.as_slice(), text.as_slice());
+    Ok(())
+}
+
+#[test]
+fn finds_the_first_fault(rt: HostRuntime) -> Result<(), Fail> {
+    let alloc = rt.alloc();
+    let faults = [
+        (
+            b"slicing-certificate 1\nblocks 2\ncost 12\nbound 12\nplan 0:2x3 1:2x3 *\ntree\nE\nE\n".as_slice(),
+            CertFault::Truncated(8),
+        ),
+        (
+            b"slicing-certificate 1\nblocks 2\ncost 12\nbound 12\nplan 0:2x3 1:2x3 *\ntree\nE E E C C C\nC\n".as_slice(),
+            CertFault::Trailing(8),
+        ),
+        (
+            b"slicing-certificate 1\nblocks 2\ncost 12\nbound 12\nplan 0:2x3 1:2x3 *\ntree\nX\n".as_slice(),
+            CertFault::BadTag(7),
+        ),
+        (
+            b"slicing-certificate 1\nblocks 2\ncost none\nbound 12\nplan 0:2x3 1:2x3 *\ntree\nO\n".as_slice(),
+            CertFault::BadHeader(5),
+        ),
+        (
+            b"slicing-certificate 1\nblocks 2\ncost 012\nbound 12\nplan none\ntree\nO\n".as_slice(),
+            CertFault::BadHeader(3),
+        ),
+        (
+            b"slicing-certificate 1\n blocks  2\ncost none\nbound 12\nplan none\n".as_slice(),
+            CertFault::BadHeader(5),
+        ),
+    ];
+    for (text, fault) in faults {
+        match read(alloc, text, 2) {
+            Ok(_) => assert!(rt; false),
+            Err(found) => assert_eq!(rt; found, fault),
+        }
+    }
+    Ok(())
+}

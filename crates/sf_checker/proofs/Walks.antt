@@ -1,0 +1,268 @@
+-- What the walk keeps and finds.
+use Rattle.std.proofs.Common.{◌≡◌, ℕ, suc, ◌+◌, ◌*◌, ◌<◌, ◌≤◌, min, List, [], ◌∷◌, ◌++◌, length, map, drop, get_or, arith, refl, ap, sym, subst, ◌∙◌, Bool, true, false, not, cond, append_assoc, length-append, ◌==◌, ◌&&◌, inl, inr, ◌⊎◌, Result, Ok, Err}
+use Rattle.std.proofs.Math.Seq.{drop-cons}
+use Rattle.std.proofs.Math.ListN.{drop_of_length-le}
+use Prim.Native.Nat.{zero}
+use Rattle.std.specs.Prelude.{⊤, IsTrue, IsFalse, nat_lt}
+use Rattle.std.specs.List.{AllByRecursion}
+use Rattle.std.proofs.lemmas.Bool.{cond_both, cases_lt}
+use Rattle.std.proofs.lemmas.Bool.Decides.{nat_tests}
+use Rattle.std.proofs.lemmas.List.{map-append}
+use Rattle.sf_model.specs.declared.design.Design.{Design}
+use Rattle.sf_model.specs.Legal.{block_count}
+use Rattle.sf_model.proofs.Each.{each-append}
+use Rattle.sf_node.specs.Parts.{Parts}
+use Rattle.sf_node.specs.declared.step.Step.{Step}
+use Rattle.sf_node.specs.Subproblem.{root, is_complete, is_wide, span_of}
+use Rattle.sf_node.specs.Children.{extended, split, can_split, CanSplit, IsSubproblem}
+use Rattle.sf_node.proofs.Reached.{root-subproblem}
+use Rattle.sf_certificate.specs.declared.tag.Tag.{Tag}
+use Rattle.sf_certificate.specs.declared.tag.Tag.TheVariants.{Extend, Split, Closed, Open}
+use Rattle.sf_polish.specs.declared.expr.Token.{Token}
+use Rattle.sf_polish.specs.declared.expr.Token.TheVariants as token
+use Rattle.sf_node.specs.declared.step.Step.TheVariants as step
+use Rattle.sf_node.specs.Children.{after, step_of, next_tokens}
+use Rattle.sf_node.proofs.Reached.{steps-after, subproblem-spans}
+use Rattle.sf_certificate.specs.Places.{place_of, places_under, spell_trees}
+use Rattle.sf_certificate.specs.Valid.{AreTrees, left_open, least, decided}
+use Rattle.sf_certificate.specs.Marks.{made, IsFair}
+use Rattle.sf_certificate.proofs.Places.{places-made}
+use Rattle.sf_certificate.proofs.Growth.{made-subproblems, trees-first}
+use Rattle.sf_checker.specs.declared.answer.Why.{Why}
+use Rattle.sf_checker.specs.declared.answer.Why.TheVariants.{NotClosed, BadSplit, BadChildren}
+use Rattle.sf_checker.specs.Walking.{Progress, visited, walked, and_then, start}
+
+ok-else : (b : Bool) (why : Why) (x next : Progress) → cond b (Err why) (Ok x) ≡ Ok next → (b ≡ false) × (x ≡ next)
+ok-else true why x next e = absurd (cc)
+ok-else false why x next e = (refl, cc)
+
+err-else : (b : Bool) (why other : Why) (x : Progress) → cond b (Err why) (Ok x) ≡ Err other → (b ≡ true) × (why ≡ other)
+err-else true why other x e = (refl, cc)
+err-else false why other x e = absurd (cc)
+
+and-both : (a b : Bool) → not (a && b) ≡ false → (a ≡ true) × (b ≡ true)
+and-both true true e = (refl, refl)
+and-both true false e = absurd (cc)
+and-both false b e = absurd (cc)
+
+and-not : (a b : Bool) → not (a && b) ≡ true → a ≡ true → b ≡ true → ⊥
+and-not true true e p q = cc
+and-not true false e p q = cc
+and-not false b e p q = cc
+
+less-true : (a b : ℕ) → nat_lt a b ≡ true → a < b
+less-true a b e = grind (arith, nat_tests)
+
+true-less : (a b : ℕ) → a < b → nat_lt a b ≡ true
+true-less a b h = grind (arith, nat_tests)
+
+less-false : (a b : ℕ) → nat_lt a b ≡ false → b ≤ a
+less-false a b e = grind (arith, nat_tests)
+
+-- what one tag adds to the decided
+abbrev pub one_decided : Tag → ℕ
+one_decided Extend = 1
+one_decided (Split b) = 1
+one_decided Closed = 1
+one_decided Open = 0
+
+-- what one tag does to the least
+abbrev pub lower : Tag → ℕ → ℕ → ℕ
+lower Extend n z = n
+lower (Split b) n z = n
+lower Closed n z = n
+lower Open n z = min n z
+
+-- what one tag did
+pub record IsVisit (bound : Parts → ℕ) (cost : ℕ) (walk : Progress) (node : Parts) (nodes : List Parts) (tag : Tag) (next : Progress) : Type 0 where
+  pub fair : IsFair bound cost tag node
+  pub waiting : made tag node ++ nodes ≡ next.waiting
+  pub low : lower tag walk.low (bound node) ≡ next.low
+  pub decided : walk.decided + one_decided tag ≡ next.decided
+  pub number : walk.number + 1 ≡ next.number
+
+visit-fact : (bound : Parts → ℕ) (cost : ℕ) (walk : Progress) (node : Parts) (nodes : List Parts) (tag : Tag) (next : Progress) → visited bound cost walk (node ∷ nodes) tag ≡ Ok next → IsVisit bound cost walk node nodes tag next
+visit-fact bound cost walk node nodes Extend next e =
+    let r = ok-else (is_complete node) (BadChildren walk.number) (record walk { waiting = extended node ++ nodes; decided = walk.decided + 1; number = walk.number + 1 }) next e in
+    record { fair = r.0; waiting = ap (λ w. w.waiting) r.1; low = ap (λ w. w.low) r.1; decided = ap (λ w. w.decided) r.1; number = ap (λ w. w.number) r.1 }
+visit-fact bound cost walk node nodes (Split b) next e =
+    let r = ok-else (not (can_split node b)) (BadSplit walk.number) (record walk { waiting = split node b ++ nodes; decided = walk.decided + 1; number = walk.number + 1 }) next e in
+    let both = and-both (nat_lt b (length node.spans)) (is_wide (span_of node b)) r.0 in
+    record { fair = (less-true b (length node.spans) both.0, both.1); waiting = ap (λ w. w.waiting) r.1; low = ap (λ w. w.low) r.1; decided = ap (λ w. w.decided) r.1; number = ap (λ w. w.number) r.1 }
+visit-fact bound cost walk node nodes Closed next e =
+    let r = ok-else (nat_lt (bound node) cost) (NotClosed walk.number (bound node) cost) (record walk { waiting = nodes; decided = walk.decided + 1; number = walk.number + 1 }) next e in
+    record { fair = less-false (bound node) cost r.0; waiting = ap (λ w. w.waiting) r.1; low = ap (λ w. w.low) r.1; decided = ap (λ w. w.decided) r.1; number = ap (λ w. w.number) r.1 }
+visit-fact bound cost walk node nodes Open next e =
+    let r : (record walk { waiting = nodes; low = min walk.low (bound node); number = walk.number + 1 }) ≡ next = cc in
+    record { fair = tt; waiting = ap (λ w. w.waiting) r; low = ap (λ w. w.low) r; decided = omega (arith, ap (λ (w : Progress). w.decided) r); number = ap (λ w. w.number) r }
+
+-- where a tag is refused, it may not stand there
+visit-fault : (bound : Parts → ℕ) (cost : ℕ) (walk : Progress) (node : Parts) (nodes : List Parts) (tag : Tag) (why : Why) → visited bound cost walk (node ∷ nodes) tag ≡ Err why → IsFair bound cost tag node → ⊥
+visit-fault bound cost walk node nodes Extend why e fair =
+    let r = err-else (is_complete node) (BadChildren walk.number) why (record walk { waiting = extended node ++ nodes; decided = walk.decided + 1; number = walk.number + 1 }) e in
+    cc
+visit-fault bound cost walk node nodes (Split b) why e fair =
+    let r = err-else (not (can_split node b)) (BadSplit walk.number) why (record walk { waiting = split node b ++ nodes; decided = walk.decided + 1; number = walk.number + 1 }) e in
+    and-not (nat_lt b (length node.spans)) (is_wide (span_of node b)) r.0 (true-less b (length node.spans) fair.0) fair.1
+visit-fault bound cost walk node nodes Closed why e fair =
+    let r = err-else (nat_lt (bound node) cost) (NotClosed walk.number (bound node) cost) why (record walk { waiting = nodes; decided = walk.decided + 1; number = walk.number + 1 }) e in
+    let less = less-true (bound node) cost r.0 in
+    omega (arith, fair, less)
+visit-fault bound cost walk node nodes Open why e fair = cc
+
+one-most : (tag : Tag) → one_decided tag ≤ 1
+one-most Extend = omega arith
+one-most (Split b) = omega arith
+one-most Closed = omega arith
+one-most Open = omega arith
+
+visit-subproblems : (design : Design) (bound : Parts → ℕ) (cost : ℕ) (walk : Progress) (waiting : List Parts) (tag : Tag) (next : Progress) → waiting ≡ walk.waiting → visited bound cost walk waiting tag ≡ Ok next → AllByRecursion (IsSubproblem design) waiting → AllByRecursion (IsSubproblem design) next.waiting
+visit-subproblems design bound cost walk [] tag next w e subs = let same : walk ≡ next = cc in subst (AllByRecursion (IsSubproblem design)) (w ∙ ap (λ z. z.waiting) same) subs
+visit-subproblems design bound cost walk (node ∷ nodes) tag next w e subs =
+    let v = visit-fact bound cost walk node nodes tag next e in
+    subst (AllByRecursion (IsSubproblem design)) v.waiting (each-append (IsSubproblem design) (made tag node) nodes (made-subproblems design bound cost tag node subs.0 v.fair) subs.1)
+
+visit-number : (bound : Parts → ℕ) (cost : ℕ) (walk : Progress) (waiting : List Parts) (tag : Tag) (next : Progress) → visited bound cost walk waiting tag ≡ Ok next → walk.decided ≤ walk.number → (next.number ≤ walk.number + 1) × (next.decided ≤ next.number)
+visit-number bound cost walk [] tag next e h =
+    let same : walk ≡ next = cc in
+    let n = ap (λ (z : Progress). z.number) same in
+    let d = ap (λ (z : Progress). z.decided) same in
+    (omega arith, omega arith)
+visit-number bound cost walk (node ∷ nodes) tag next e h =
+    let v = visit-fact bound cost walk node nodes tag next e in
+    (omega (arith, v.number), omega (arith, v.number, v.decided, one-most tag))
+
+-- the walk so far, after i tags
+pub record IsWalking (design : Design) (bound : Parts → ℕ) (cost : ℕ) (tags : List Tag) (walk : Progress) (i : ℕ) : Type 0 where
+  pub rest : walked bound cost (start (root design) cost) tags ≡ walked bound cost walk (drop i tags)
+  pub subproblems : AllByRecursion (IsSubproblem design) walk.waiting
+  pub few : walk.number ≤ i
+  pub counted : walk.decided ≤ walk.number
+
+pub walking-start : (design : Design) (bound : Parts → ℕ) (cost : ℕ) (tags : List Tag) (walk : Progress) → walk ≡ start (root design) cost → IsWalking design bound cost tags walk 0
+walking-start design bound cost tags walk e =
+    record {
+      rest = ap (λ w. walked bound cost w tags) (sym e);
+      subproblems = subst (λ w. AllByRecursion (IsSubproblem design) w.waiting) (sym e) (root-subproblem design, tt);
+      few = omega (arith, ap (λ (w : Progress). w.number) e);
+      counted = omega (arith, ap (λ (w : Progress). w.number) e, ap (λ (w : Progress). w.decided) e)
+    }
+
+one-more : (bound : Parts → ℕ) (cost : ℕ) (tags : List Tag) (walk : Progress) (i : ℕ) (d : Tag) → i < length tags → walked bound cost walk (drop i tags) ≡ and_then (visited bound cost walk walk.waiting (get_or tags i d)) (λ next. walked bound cost next (drop (suc i) tags))
+unfolding walked
+one-more bound cost tags walk i d h = ap (walked bound cost walk) (drop-cons tags i d h)
+
+pub walking-step : (design : Design) (bound : Parts → ℕ) (cost : ℕ) (tags : List Tag) (walk next : Progress) (i : ℕ) (d : Tag) → i < length tags → visited bound cost walk walk.waiting (get_or tags i d) ≡ Ok next → IsWalking design bound cost tags walk i → IsWalking design bound cost tags next (i + 1)
+walking-step design bound cost tags walk next i d h e w =
+    let n = visit-number bound cost walk walk.waiting (get_or tags i d) next e w.counted in
+    let j : suc i ≡ i + 1 = omega arith in
+    record {
+      rest = w.rest ∙ one-more bound cost tags walk i d h ∙ ap (λ r. and_then r (λ z. walked bound cost z (drop (suc i) tags))) e ∙ ap (λ k. walked bound cost next (drop k tags)) j;
+      subproblems = visit-subproblems design bound cost walk walk.waiting (get_or tags i d) next refl e w.subproblems;
+      few = omega (arith, n.0, w.few);
+      counted = n.1
+    }
+
+pub walking-fault : (design : Design) (bound : Parts → ℕ) (cost : ℕ) (tags : List Tag) (walk : Progress) (why : Why) (i : ℕ) (d : Tag) → i < length tags → visited bound cost walk walk.waiting (get_or tags i d) ≡ Err why → IsWalking design bound cost tags walk i → walked bound cost (start (root design) cost) tags ≡ Err why
+walking-fault design bound cost tags walk why i d h e w = w.rest ∙ one-more bound cost tags walk i d h ∙ ap (λ r. and_then r (λ z. walked bound cost z (drop (suc i) tags))) e
+
+pub walking-end : (design : Design) (bound : Parts → ℕ) (cost : ℕ) (tags : List Tag) (walk : Progress) (i : ℕ) → length tags ≤ i → IsWalking design bound cost tags walk i → walked bound cost (start (root design) cost) tags ≡ Ok walk
+unfolding walked
+walking-end design bound cost tags walk i h w = w.rest ∙ ap (walked bound cost walk) (drop_of_length-le tags h)
+
+-- ---- what the end of the walk says of the tags
+
+least-min : (n x : ℕ) (xs : List ℕ) → least (min n x) xs ≡ min x (least n xs)
+least-min n x [] = omega arith
+least-min n x (y ∷ ys) = omega (arith, least-min n x ys)
+
+-- the tags from here on are trees, and the walk has their least bound and their number
+pub record IsSeen (bound : Parts → ℕ) (cost : ℕ) (walk : Progress) (tags : List Tag) (last : Progress) : Type 0 where
+  pub trees : AreTrees bound cost walk.waiting tags
+  pub low : last.low ≡ least walk.low (map bound (left_open walk.waiting tags))
+  pub count : last.decided ≡ walk.decided + decided tags
+
+-- a tag more
+seen-more : (bound : Parts → ℕ) (cost : ℕ) (walk next last : Progress) (node : Parts) (nodes : List Parts) (tag : Tag) (tags : List Tag) → walk.waiting ≡ node ∷ nodes → IsVisit bound cost walk node nodes tag next → IsSeen bound cost next tags last → IsSeen bound cost walk (tag ∷ tags) last
+seen-more bound cost walk next last node nodes Extend tags w v s =
+    let e : next.waiting ≡ extended node ++ nodes = sym v.waiting in
+    record {
+      trees = subst (λ z. AreTrees bound cost z (Extend ∷ tags)) (sym w) (v.fair, subst (λ z. AreTrees bound cost z tags) e s.trees);
+      low = s.low ∙ ap (λ n. least n (map bound (left_open next.waiting tags))) (sym v.low) ∙ ap (λ z. least walk.low (map bound (left_open z tags))) e ∙ ap (λ z. least walk.low (map bound (left_open z (Extend ∷ tags)))) (sym w);
+      count = omega (arith, s.count, v.decided)
+    }
+seen-more bound cost walk next last node nodes (Split b) tags w v s =
+    let e : next.waiting ≡ split node b ++ nodes = sym v.waiting in
+    record {
+      trees = subst (λ z. AreTrees bound cost z (Split b ∷ tags)) (sym w) (v.fair, subst (λ z. AreTrees bound cost z tags) e s.trees);
+      low = s.low ∙ ap (λ n. least n (map bound (left_open next.waiting tags))) (sym v.low) ∙ ap (λ z. least walk.low (map bound (left_open z tags))) e ∙ ap (λ z. least walk.low (map bound (left_open z (Split b ∷ tags)))) (sym w);
+      count = omega (arith, s.count, v.decided)
+    }
+seen-more bound cost walk next last node nodes Closed tags w v s =
+    let e : next.waiting ≡ nodes = sym v.waiting in
+    record {
+      trees = subst (λ z. AreTrees bound cost z (Closed ∷ tags)) (sym w) (v.fair, subst (λ z. AreTrees bound cost z tags) e s.trees);
+      low = s.low ∙ ap (λ n. least n (map bound (left_open next.waiting tags))) (sym v.low) ∙ ap (λ z. least walk.low (map bound (left_open z tags))) e ∙ ap (λ z. least walk.low (map bound (left_open z (Closed ∷ tags)))) (sym w);
+      count = omega (arith, s.count, v.decided)
+    }
+seen-more bound cost walk next last node nodes Open tags w v s =
+    let e : next.waiting ≡ nodes = sym v.waiting in
+    record {
+      trees = subst (λ z. AreTrees bound cost z (Open ∷ tags)) (sym w) (subst (λ z. AreTrees bound cost z tags) e s.trees);
+      low = s.low ∙ ap (λ n. least n (map bound (left_open next.waiting tags))) (sym v.low) ∙ ap (λ z. least (min walk.low (bound node)) (map bound (left_open z tags))) e
+        ∙ least-min walk.low (bound node) (map bound (left_open nodes tags)) ∙ ap (λ z. least walk.low (map bound (left_open z (Open ∷ tags)))) (sym w);
+      count = omega (arith, s.count, v.decided)
+    }
+
+record IsThen (r : Result Progress Why) (f : Progress → Result Progress Why) (last : Progress) : Type 0 where
+  next : Progress
+  first : r ≡ Ok next
+  later : f next ≡ Ok last
+
+then-ok : (r : Result Progress Why) (f : Progress → Result Progress Why) (last : Progress) → and_then r f ≡ Ok last → IsThen r f last
+then-ok (Ok next) f last e = record { next = next; first = refl; later = e }
+then-ok (Err why) f last e = absurd (cc)
+
+and-second : (a b : Bool) → (a && b) ≡ true → b ≡ true
+and-second true b e = e
+and-second false b e = absurd (cc)
+
+-- where the walk comes to the end of tags that spell trees, it saw them
+pub seen : (design : Design) (bound : Parts → ℕ) (cost : ℕ) (tags : List Tag) (walk : Progress) (waiting : List Parts) (last : Progress) → walk.waiting ≡ waiting → walked bound cost walk tags ≡ Ok last → spell_trees (block_count design) (map place_of waiting) tags ≡ true → AllByRecursion (IsSubproblem design) waiting → IsSeen bound cost walk tags last
+unfolding walked
+seen design bound cost [] walk [] last w e spelled subs =
+    let same : walk ≡ last = cc in
+    record {
+      trees = subst (λ z. AreTrees bound cost z []) (sym w) tt;
+      low = ap (λ (z : Progress). z.low) (sym same) ∙ ap (λ z. least walk.low (map bound (left_open z []))) (sym w);
+      count = omega (arith, ap (λ (z : Progress). z.decided) same)
+    }
+seen design bound cost (tag ∷ tags) walk [] last w e spelled subs = absurd (cc)
+seen design bound cost [] walk (node ∷ nodes) last w e spelled subs = absurd (cc)
+seen design bound cost (tag ∷ tags) walk (node ∷ nodes) last w e spelled subs =
+    let n = block_count design in
+    let r = then-ok (visited bound cost walk walk.waiting tag) (λ next. walked bound cost next tags) last e in
+    let v = visit-fact bound cost walk node nodes tag r.next (subst (λ z. visited bound cost walk z tag ≡ Ok r.next) w r.first) in
+    let later : spell_trees n (places_under n tag (place_of node) ++ map place_of nodes) tags ≡ true = and-second (nat_lt (length node.steps) 3200) (spell_trees n (places_under n tag (place_of node) ++ map place_of nodes) tags) spelled in
+    let places : map place_of (made tag node ++ nodes) ≡ places_under n tag (place_of node) ++ map place_of nodes =
+      map-append place_of (made tag node) nodes ∙ ap (λ z. z ++ map place_of nodes) (places-made design bound cost tag node subs.0 v.fair) in
+    seen-more bound cost walk r.next last node nodes tag tags w v
+      (seen design bound cost tags r.next (made tag node ++ nodes) last (sym v.waiting) r.later
+        (subst (λ z. spell_trees n z tags ≡ true) (sym places) later)
+        (each-append (IsSubproblem design) (made tag node) nodes (made-subproblems design bound cost tag node subs.0 v.fair) subs.1))
+
+then-err : (r : Result Progress Why) (f : Progress → Result Progress Why) (why : Why) → and_then r f ≡ Err why → (r ≡ Err why) ⊎ ((next : Progress) × (r ≡ Ok next) × (f next ≡ Err why))
+then-err (Ok next) f why e = inr (next, refl, e)
+then-err (Err other) f why e = inl e
+
+-- where the walk finds a fault, the tags are no trees
+pub faulty : (bound : Parts → ℕ) (cost : ℕ) (tags : List Tag) (walk : Progress) (waiting : List Parts) (why : Why) → walk.waiting ≡ waiting → walked bound cost walk tags ≡ Err why → AreTrees bound cost waiting tags → ⊥
+unfolding walked
+faulty bound cost [] walk waiting why w e trees = cc
+faulty bound cost (tag ∷ tags) walk [] why w e trees = trees
+faulty bound cost (tag ∷ tags) walk (node ∷ nodes) why w e trees =
+    let first = trees-first bound cost node nodes tag tags trees in
+    elim (then-err (visited bound cost walk walk.waiting tag) (λ next. walked bound cost next tags) why e) [
+      inl here ↦ visit-fault bound cost walk node nodes tag why (subst (λ z. visited bound cost walk z tag ≡ Err why) w here) first.0
+    | inr there ↦ (let v = visit-fact bound cost walk node nodes tag there.0 (subst (λ z. visited bound cost walk z tag ≡ Ok there.0) w there.1) in
+        faulty bound cost tags there.0 (made tag node ++ nodes) why (sym v.waiting) there.2 first.1) ]

@@ -1,0 +1,53 @@
+ghost use Rattle.std.specs.Prelude.{◌≡◌, ◌∷◌, [], IfOk};
+ghost use Rattle.sf_model.specs.Legal.{block_count};
+
+use crate::{Answer, Why, check};
+use sf_bounds::Standard;
+use sf_certificate::read;
+use sf_model::{Block, BlockList, Design, Name, NetList, Outline, PadList, Shape, Shapes, Weights};
+use std::alloc::{AllocError, Global};
+use std::test::Fail;
+
+fn block(alloc: Global, shape: Shape) -> Result<Block, AllocError>
+    ensures { IfOk result (λ b. b.shapes ≡ shape ∷ []) }
+{
+    Ok(Block {
+        name: Name::new(alloc, b"b")?,
+        shapes: Shapes::from_vec(vec![in alloc; shape]?),
+    })
+}
+
+/// A block 2x3 and a block 3x2, area alone.
+fn two_blocks(alloc: Global) -> Result<Design, AllocError>
+    ensures { IfOk result (λ design. block_count design ≡ 2) }
+{
+    let first = block(alloc, Shape { w: 2, h: 3 })?;
+    let second = block(alloc, Shape { w: 3, h: 2 })?;
+    Ok(Design {
+        blocks: BlockList::from_vec(vec![in alloc; first, second]?),
+        pads: PadList::from_vec(Vec::new(alloc)),
+        nets: NetList::from_vec(Vec::new(alloc)),
+        outline: Outline { w: 100, h: 100 },
+        weights: Weights { area: 1, wire: 0 },
+    })
+}
+
+#[test]
+fn answers_the_first_failure(rt: HostRuntime) -> Result<(), Fail> {
+    let alloc = rt.alloc();
+    let design = two_blocks(alloc)?;
+    let rows = [
+        (b"slicing-certificate 1\nblocks 2\ncost 15\nbound 15\nplan 0:2x3 1:3x2 *\ntree\nE E E C C E E C C\n".as_slice(), Answer::Yes(15, 15, 9)),
+        (b"slicing-certificate 1\nblocks 2\ncost 15\nbound 15\nplan 0:2x4 1:3x2 *\ntree\nE E E C C E E C C\n".as_slice(), Answer::No(Why::BadPlan)),
+        (b"slicing-certificate 1\nblocks 2\ncost 14\nbound 15\nplan 0:2x3 1:3x2 *\ntree\nE E E C C E E C C\n".as_slice(), Answer::No(Why::CostDiffers(14, 15))),
+        (b"slicing-certificate 1\nblocks 2\ncost 15\nbound 15\nplan 0:2x3 1:3x2 *\ntree\nC\n".as_slice(), Answer::No(Why::NotClosed(0, 12, 15))),
+        (b"slicing-certificate 1\nblocks 2\ncost none\nbound 13\nplan none\ntree\nE O O\n".as_slice(), Answer::No(Why::BoundDiffers(13, 12))),
+        (b"slicing-certificate 1\nblocks 2\ncost 15\nbound 15\nplan 0:2x3 1:3x2 *\ntree\nE S 0 C C O\n".as_slice(), Answer::No(Why::BadSplit(1))),
+        (b"slicing-certificate 1\nblocks 2\ncost 15\nbound 15\nplan 0:2x3 1:3x2 *\ntree\nE E E E C E E C C\n".as_slice(), Answer::No(Why::BadChildren(3))),
+    ];
+    for (text, answer) in rows {
+        let cert = read(alloc, text, 2)?;
+        assert_eq!(rt; check(alloc, &design, &Standard, &cert)?, answer);
+    }
+    Ok(())
+}

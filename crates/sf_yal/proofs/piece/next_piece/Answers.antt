@@ -1,0 +1,16 @@
+use Rattle.std.proofs.Common.{◌<◌, ◌≤◌, length, arith}
+use Rattle.std.specs.List.{position_or_len}
+use Rattle.std.proofs.lemmas.Bool.Decides.{nat_tests}
+use Rattle.sf_yal.specs.Statements.{is_semicolon}
+use Rattle.sf_yal.proofs.Cutting.{split_whole, split_first}
+use Rattle.sf_yal.proofs.piece.next_piece.Goals as goal
+
+pub returns-then-is_empty-clause-pieces : goal.returns-then-is_empty-clause-pieces
+returns-then-is_empty-clause-pieces c =
+    let none : length c.args.bytes.now ≤ position_or_len is_semicolon c.args.bytes.now = grind (arith, nat_tests) in
+    split_whole is_semicolon c.args.bytes.now none
+
+pub returns-clause-pieces : goal.returns-clause-pieces
+returns-clause-pieces c =
+    let some : position_or_len is_semicolon c.args.bytes.now < length c.args.bytes.now = grind (arith, nat_tests) in
+    rw (c.split_at-2.ensures.back, c.split_at.ensures.front, c.split_at.ensures.back, c.piece_len.ensures.value) (split_first is_semicolon c.args.bytes.now some)
