@@ -2,6 +2,7 @@
 #![tactic(auto)]
 
 pub mod admit;
+pub mod build;
 mod counted;
 pub mod design;
 pub mod fault;

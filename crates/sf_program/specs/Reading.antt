@@ -9,6 +9,7 @@ use Rattle.sf_model.specs.declared.parts.Weights.{Weights}
 use Rattle.sf_model.specs.declared.raw.Parts.{Parts}
 use Rattle.sf_model.specs.Admitted.{IsAdmitted, first_refusal}
 use Rattle.sf_model.specs.Built.{IsDesignOf}
+use Rattle.sf_soft_shapes.specs.Listed.{AreListsOf, HasNoneFor}
 use Rattle.sf_gsrc.specs.declared.output.GsrcBlocks.{GsrcBlocks}
 use Rattle.sf_gsrc.specs.declared.output.GsrcNets.{GsrcNets}
 use Rattle.sf_gsrc.specs.declared.output.GsrcPlaces.{GsrcPlaces}
@@ -81,5 +82,28 @@ abbrev pub Admitted : Parts → Result Parts Refusal → Type 0
 Admitted parts (Ok same) = (same ≡ parts) × IsAdmitted parts
 Admitted parts (Err why) = (fault : BuildFault) × (first_refusal parts ≡ Some fault) × (why ≡ build_refusal fault)
 
+-- the shapes that each block may take
+abbrev pub ListsMade : DesignOptions → Parts → Result (List (List Shape)) Refusal → Type 0
+ListsMade o parts (Ok lists) = AreListsOf o.shapes o.is_fixed parts.blocks lists
+ListsMade o parts (Err why) = (fault : BuildFault) × HasNoneFor o.shapes o.is_fixed parts.blocks fault × (why ≡ build_refusal fault)
+
+abbrev pub outline_of : DesignOptions → Outline
+outline_of o = record { w = o.width; h = o.height }
+
+abbrev pub weights_of : WeightOptions → Weights
+weights_of w = record { area = w.area; wire = w.wire }
+
+-- the parts with their lists are this design
+abbrev pub Built : DesignOptions → WeightOptions → Parts → List (List Shape) → Result Design Refusal → Type 0
+Built o w parts lists (Ok design) = IsDesignOf parts lists (outline_of o) (weights_of w) design
+Built o w parts lists (Err why) = ⊥
+
 abbrev pub PartsAdmitted : Option Contents → DesignOptions → Result Parts Refusal → Type 0
 PartsAdmitted held o = Then (PartsRead held o.per_unit o.input) Admitted
+
+abbrev pub DesignMade : DesignOptions → WeightOptions → Parts → Result Design Refusal → Type 0
+DesignMade o w parts = Then (ListsMade o parts) (Built o w parts)
+
+-- the design for which the files stand
+abbrev pub DesignRead : Option Contents → DesignOptions → WeightOptions → Result Design Refusal → Type 0
+DesignRead held o w = Then (PartsAdmitted held o) (DesignMade o w)

@@ -1,6 +1,7 @@
 //! The floorplanner as one call.
 #![tactic(auto)]
 
+mod making;
 mod parsing;
 mod reading;
 mod refusals;

@@ -1,7 +1,8 @@
 //! From the named files to the parts of a design.
 
-ghost use Rattle.std.specs.Prelude.{◌≡◌, ◌≤◌, ◌^◌, length, codes, IfErr};
+ghost use Rattle.std.specs.Prelude.{◌≡◌, ◌≤◌, ◌^◌, length, codes, IfErr, IfOk};
 ghost use Rattle.sf_words.specs.Seen.{input_seen, text_of};
+ghost use Rattle.sf_model.specs.Admitted.{HasPinsInRange, HasSizes};
 ghost use Rattle.sf_program.specs.Loads.{IsRead, TellsLoads};
 ghost use Rattle.sf_program.specs.Outcome.{Ends};
 ghost use Rattle.sf_program.specs.Reading.{TextRead, BlocksRead, NetsRead, PlacesRead, YalRead, IfNamed, PlacedRead, WiredRead, GsrcRead, PartsRead};
@@ -139,6 +140,8 @@ pub fn read_parts<S: Shelf>(alloc: Global, shelf: &mut S, scale: u64, input: Inp
     requires scale_low { 1 ≤ scale }
     requires scale_high { scale ≤ 1000 }
     ensures parts { Ends (λ x. x) result (PartsRead (S.holds shelf.old) scale (input_seen input.entry)) }
+    ensures pins { IfOk result HasPinsInRange }
+    ensures sizes { IfOk result HasSizes }
     ensures read { IsRead (S.holds shelf.old) (S.holds shelf.new) (S.load_faults shelf.old) (S.load_faults shelf.new) (S.store_faults shelf.old) (S.store_faults shelf.new) }
     ensures tells { IfErr result (TellsLoads (S.load_faults shelf.old) (S.load_faults shelf.new)) }
 {

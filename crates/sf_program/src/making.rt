@@ -1,0 +1,103 @@
+//! From parts to a design.
+
+ghost use Rattle.std.specs.Prelude.{◌≡◌, ◌≢◌, ℕ, IfErr, IfOk, None};
+ghost use Rattle.sf_model.specs.Admitted.{HasPinsInRange, HasSizes, IsAdmitted};
+ghost use Rattle.sf_model.specs.Built.{HasShapeChoices, shapeless};
+ghost use Rattle.sf_words.specs.Seen.{design_seen, weights_seen};
+ghost use Rattle.sf_program.specs.Loads.{IsRead, TellsLoads};
+ghost use Rattle.sf_program.specs.Outcome.{Ends};
+ghost use Rattle.sf_program.specs.Reading.{Admitted, Built, DesignMade, DesignRead, ListsMade, PartsAdmitted};
+
+use crate::reading::read_parts;
+use crate::refusals::build_fault;
+use crate::stop::Stop;
+use sf_io::Shelf;
+use sf_model::{BuildFault, Design, Outline, Parts, Shapes, Weights};
+use sf_soft_shapes::lists;
+use sf_words::{DesignWords, WeightWords};
+use std::alloc::Global;
+
+fn admit(alloc: Global, parts: Parts) -> Result<Parts, Stop>
+    requires pins { HasPinsInRange parts }
+    ensures admitted { Ends (λ x. x) result (Admitted parts) }
+    ensures tells { (loads loads_then : ℕ) → IfErr result (TellsLoads loads loads_then) }
+{
+    match parts.admit(alloc) {
+        Ok(()) => Ok(parts),
+        Err(BuildFault::NoMemory) => Err(Stop::NoMemory),
+        Err(fault) => Err(build_fault(alloc, fault)?),
+    }
+}
+
+/// The parts of the named files, where they may become a design.
+pub fn read_admitted<S: Shelf>(alloc: Global, shelf: &mut S, words: &DesignWords<'_>) -> Result<Parts, Stop>
+    ensures parts { Ends (λ x. x) result (PartsAdmitted (S.holds shelf.old) (design_seen words.now)) }
+    ensures admitted { IfOk result IsAdmitted }
+    ensures pins { IfOk result HasPinsInRange }
+    ensures sizes { IfOk result HasSizes }
+    ensures read { IsRead (S.holds shelf.old) (S.holds shelf.new) (S.load_faults shelf.old) (S.load_faults shelf.new) (S.store_faults shelf.old) (S.store_faults shelf.new) }
+    ensures tells { IfErr result (TellsLoads (S.load_faults shelf.old) (S.load_faults shelf.new)) }
+{
+    let parts = read_parts(alloc, shelf, words.per_unit, words.input)?;
+    admit(alloc, parts)
+}
+
+fn make_lists(alloc: Global, words: &DesignWords<'_>, parts: &Parts) -> Result<Vec<Shapes>, Stop>
+    requires admitted { IsAdmitted parts.now }
+    requires sizes { HasSizes parts.now }
+    ensures lists { Ends (λ v. v.items) result (ListsMade (design_seen words.now) parts.now) }
+    ensures choices { IfOk result (λ v. HasShapeChoices parts.now.blocks v.items) }
+    ensures shaped { IfOk result (λ v. shapeless parts.now.blocks v.items ≡ None) }
+    ensures tells { (loads loads_then : ℕ) → IfErr result (TellsLoads loads loads_then) }
+{
+    match lists(alloc, parts, words.shapes, words.is_fixed) {
+        Ok(lists) => Ok(lists),
+        Err(BuildFault::NoMemory) => Err(Stop::NoMemory),
+        Err(fault) => Err(build_fault(alloc, fault)?),
+    }
+}
+
+fn build(alloc: Global, words: &DesignWords<'_>, weights: WeightWords, parts: Parts, lists: Vec<Shapes>) -> Result<Design, Stop>
+    requires admitted { IsAdmitted parts }
+    requires pins { HasPinsInRange parts }
+    requires choices { HasShapeChoices parts.blocks lists.items }
+    requires shaped { shapeless parts.blocks lists.items ≡ None }
+    ensures design { Ends (λ x. x) result (Built (design_seen words.now) (weights_seen weights) parts lists.items) }
+    ensures tells { (loads loads_then : ℕ) → IfErr result (TellsLoads loads loads_then) }
+{
+    let outline = Outline {
+        w: words.width,
+        h: words.height,
+    };
+    let weights = Weights {
+        area: weights.area,
+        wire: weights.wire,
+    };
+    match Design::build(alloc, parts, lists, outline, weights) {
+        Ok(design) => Ok(design),
+        Err(BuildFault::NoMemory) => Err(Stop::NoMemory),
+        Err(_) => unreachable!(),
+    }
+}
+
+/// The design of admitted parts.
+pub fn make_design(alloc: Global, words: &DesignWords<'_>, weights: WeightWords, parts: Parts) -> Result<Design, Stop>
+    requires admitted { IsAdmitted parts }
+    requires pins { HasPinsInRange parts }
+    requires sizes { HasSizes parts }
+    ensures design { Ends (λ x. x) result (DesignMade (design_seen words.now) (weights_seen weights) parts) }
+    ensures tells { (loads loads_then : ℕ) → IfErr result (TellsLoads loads loads_then) }
+{
+    let lists = make_lists(alloc, words, &parts)?;
+    build(alloc, words, weights, parts, lists)
+}
+
+/// The design for which the named files stand.
+pub fn read_design<S: Shelf>(alloc: Global, shelf: &mut S, words: &DesignWords<'_>, weights: WeightWords) -> Result<Design, Stop>
+    ensures design { Ends (λ x. x) result (DesignRead (S.holds shelf.old) (design_seen words.now) (weights_seen weights)) }
+    ensures read { IsRead (S.holds shelf.old) (S.holds shelf.new) (S.load_faults shelf.old) (S.load_faults shelf.new) (S.store_faults shelf.old) (S.store_faults shelf.new) }
+    ensures tells { IfErr result (TellsLoads (S.load_faults shelf.old) (S.load_faults shelf.new)) }
+{
+    let parts = read_admitted(alloc, shelf, words)?;
+    make_design(alloc, words, weights, parts)
+}
