@@ -30,7 +30,9 @@ nets_in_range blocks pads (one ∷ names) =
     All-cons (λ (n : RawNet). All (IsPinInRange blocks pads) n.pins) (net_of one) (map net_of names) (named_in_range blocks pads one) (nets_in_range blocks pads names)
 
 pub nets_named : (text : List ℕ) (out : GsrcNets) → NetsStandFor text out → HasPinsInAnyRange out.nets
-nets_named text out s blocks pads = All-same (λ (n : RawNet). All (IsPinInRange blocks pads) n.pins) out.nets (map net_of s.names) s.nets (nets_in_range blocks pads s.names)
+nets_named text out s = record {
+  in_range = λ blocks pads. All-same (λ (n : RawNet). All (IsPinInRange blocks pads) n.pins) out.nets (map net_of s.names) s.nets (nets_in_range blocks pads s.names);
+}
 
 -- ---- joined parts
 
@@ -57,10 +59,10 @@ pub joined_sizes : (blocks : GsrcBlocks) (nets : Option GsrcNets) (places : Opti
 joined_sizes blocks nets places parts e sizes = All-same (λ (b : RawBlock). IsSized b.kind) parts.blocks blocks.blocks (joined_keep blocks nets places parts e).blocks_are sizes
 
 some_nets : (nets : Option GsrcNets) → IfSome nets (λ out. HasPinsInAnyRange out.nets) → HasPinsInAnyRange (nets_in nets)
-some_nets None h = λ blocks pads. All-nil (λ (n : RawNet). All (IsPinInRange blocks pads) n.pins)
+some_nets None h = record { in_range = λ blocks pads. All-nil (λ (n : RawNet). All (IsPinInRange blocks pads) n.pins) }
 some_nets (Some out) h = h
 
 pub joined_pins : (blocks : GsrcBlocks) (nets : Option GsrcNets) (places : Option GsrcPlaces) (parts : Parts) → joined blocks nets places ≡ Ok parts
     → IfSome nets (λ out. HasPinsInAnyRange out.nets) → HasPinsInRange parts
 joined_pins blocks nets places parts e h =
-    All-same (λ (n : RawNet). All (IsPinInRange (length parts.blocks) (length parts.pads)) n.pins) parts.nets (nets_in nets) (joined_keep blocks nets places parts e).nets_are (some_nets nets h (length parts.blocks) (length parts.pads))
+    All-same (λ (n : RawNet). All (IsPinInRange (length parts.blocks) (length parts.pads)) n.pins) parts.nets (nets_in nets) (joined_keep blocks nets places parts e).nets_are ((some_nets nets h).in_range (length parts.blocks) (length parts.pads))

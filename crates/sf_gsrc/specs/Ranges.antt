@@ -5,5 +5,5 @@ use Rattle.sf_model.specs.declared.raw.RawNet.{RawNet}
 use Rattle.sf_model.specs.Admitted.{IsPinInRange}
 
 -- however many blocks and pads there are, the pins are in range
-abbrev pub HasPinsInAnyRange : List RawNet → Type 0
-HasPinsInAnyRange nets = (blocks pads : ℕ) → All (λ n. All (IsPinInRange blocks pads) n.pins) nets
+pub record HasPinsInAnyRange (nets : List RawNet) : Type 0 where
+  pub in_range : (blocks pads : ℕ) → All (λ n. All (IsPinInRange blocks pads) n.pins) nets
