@@ -11,3 +11,5 @@ pub mod NetLaws
 pub mod Names
 pub mod Joining
 pub mod Likes
+pub mod Sizes
+pub mod Ranges

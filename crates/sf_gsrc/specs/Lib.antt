@@ -14,3 +14,4 @@ pub mod Places
 pub mod NetsStanding
 pub mod Join
 pub mod ByName
+pub mod Ranges

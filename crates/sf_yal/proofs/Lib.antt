@@ -12,3 +12,5 @@ pub mod NetsAre
 pub mod StandingLaws
 pub mod Standing
 pub mod Modules
+pub mod PadNames
+pub mod Ranges

@@ -6,7 +6,8 @@
 //! distinct signal; and a pad for each terminal of the parent that has a place. The crate stands on `sf_lex` for
 //! words and numbers, and on `sf_model` for the parts of a design. The crates above use the clauses `found` and
 //! `only` of `read_yal`, which say that it reads what the text stands for and nothing else, and `exact`, which
-//! says which fault is answered; `stands_for_one` says that a text stands for at most one design.
+//! says which fault is answered; `stands_for_one` says that a text stands for at most one design, and
+//! `parts_keep_ranges` that its blocks have sizes and its pins are of blocks and pads that are there.
 #![tactic(auto)]
 
 mod blocks;
@@ -15,6 +16,7 @@ mod fault;
 mod found;
 mod instance;
 mod keyword;
+mod laws;
 mod names;
 mod nets;
 mod piece;
@@ -22,6 +24,7 @@ mod read;
 mod vertices;
 
 pub use fault::YalFault;
+pub use laws::parts_keep_ranges;
 pub use read::{read_yal, stands_for_one};
 
 #[cfg(test)]

@@ -1,0 +1,68 @@
+-- The pins of a nets file are named, and joining keeps blocks and nets.
+use Rattle.std.proofs.Common.{◌≡◌, ℕ, List, [], ◌∷◌, length, map, Option, Some, None, Ok, refl, subst}
+use Rattle.std.specs.Prelude.{IfSome}
+use Rattle.std.specs.List.{All}
+use Rattle.std.proofs.lemmas.List.Elements.{All-nil, All-cons, All-same}
+use Rattle.sf_model.specs.declared.raw.RawBlock.{RawBlock}
+use Rattle.sf_model.specs.declared.raw.RawNet.{RawNet}
+use Rattle.sf_model.specs.declared.raw.RawPin.TheVariants.{Named}
+use Rattle.sf_model.specs.declared.raw.Parts.{Parts}
+use Rattle.sf_model.specs.Admitted.{IsPinInRange, IsSized, HasSizes, HasPinsInRange}
+use Rattle.sf_gsrc.specs.declared.fault.JoinFault.{JoinFault}
+use Rattle.sf_gsrc.specs.declared.fault.JoinFault.TheVariants as faults
+use Rattle.sf_gsrc.specs.declared.output.GsrcBlocks.{GsrcBlocks}
+use Rattle.sf_gsrc.specs.declared.output.GsrcNets.{GsrcNets}
+use Rattle.sf_gsrc.specs.declared.output.GsrcPlaces.{GsrcPlaces}
+use Rattle.sf_gsrc.specs.NetsStanding.{net_of, NetsStandFor}
+use Rattle.sf_gsrc.specs.Join.{first_twice, joined, names_of, nets_in, placed_once, placed_parts, unplaced_parts}
+use Rattle.sf_gsrc.specs.Ranges.{HasPinsInAnyRange}
+use Rattle.sf_gsrc.proofs.Results.{done, ok_is, err_not_ok}
+
+-- ---- named pins
+
+named_in_range : (blocks pads : ℕ) (names : List (List ℕ)) → All (IsPinInRange blocks pads) (map Named names)
+named_in_range blocks pads [] = All-nil (IsPinInRange blocks pads)
+named_in_range blocks pads (name ∷ names) = All-cons (IsPinInRange blocks pads) (Named name) (map Named names) tt (named_in_range blocks pads names)
+
+nets_in_range : (blocks pads : ℕ) (names : List (List (List ℕ))) → All (λ n. All (IsPinInRange blocks pads) n.pins) (map net_of names)
+nets_in_range blocks pads [] = All-nil (λ (n : RawNet). All (IsPinInRange blocks pads) n.pins)
+nets_in_range blocks pads (one ∷ names) =
+    All-cons (λ (n : RawNet). All (IsPinInRange blocks pads) n.pins) (net_of one) (map net_of names) (named_in_range blocks pads one) (nets_in_range blocks pads names)
+
+pub nets_named : (text : List ℕ) (out : GsrcNets) → NetsStandFor text out → HasPinsInAnyRange out.nets
+nets_named text out s = record {
+  in_range = λ blocks pads. All-same (λ (n : RawNet). All (IsPinInRange blocks pads) n.pins) out.nets (map net_of s.names) s.nets (nets_in_range blocks pads s.names);
+}
+
+-- ---- joined parts
+
+-- the parts have the blocks and the nets of the files
+pub record Keeps (blocks : GsrcBlocks) (nets : List RawNet) (parts : Parts) : Type 0 where
+  pub blocks_are : parts.blocks ≡ blocks.blocks
+  pub nets_are : parts.nets ≡ nets
+
+kept_as : (blocks : GsrcBlocks) (nets : List RawNet) (made parts : Parts) → done {E = JoinFault} made ≡ done parts → Keeps blocks nets made → Keeps blocks nets parts
+kept_as blocks nets made parts e k = subst (λ (p : Parts). Keeps blocks nets p) (ok_is {E = JoinFault} made parts e) k
+
+placed_keep : (blocks : GsrcBlocks) (nets : List RawNet) (made parts : Parts) (twice : Option (List ℕ)) → placed_once twice made ≡ Ok parts → Keeps blocks nets made → Keeps blocks nets parts
+placed_keep blocks nets made parts None e k = kept_as blocks nets made parts e k
+placed_keep blocks nets made parts (Some name) e k = absurd (err_not_ok (faults.PlacedTwice name) parts e)
+
+pub joined_keep : (blocks : GsrcBlocks) (nets : Option GsrcNets) (places : Option GsrcPlaces) (parts : Parts) → joined blocks nets places ≡ Ok parts → Keeps blocks (nets_in nets) parts
+joined_keep blocks nets None parts e =
+    kept_as blocks (nets_in nets) (unplaced_parts blocks (nets_in nets)) parts e (record { blocks_are = refl; nets_are = refl })
+joined_keep blocks nets (Some places) parts e =
+    placed_keep blocks (nets_in nets) (placed_parts blocks (nets_in nets) places.places) parts (first_twice (names_of places.places)) e (record { blocks_are = refl; nets_are = refl })
+
+pub joined_sizes : (blocks : GsrcBlocks) (nets : Option GsrcNets) (places : Option GsrcPlaces) (parts : Parts) → joined blocks nets places ≡ Ok parts
+    → All (λ b. IsSized b.kind) blocks.blocks → HasSizes parts
+joined_sizes blocks nets places parts e sizes = All-same (λ (b : RawBlock). IsSized b.kind) parts.blocks blocks.blocks (joined_keep blocks nets places parts e).blocks_are sizes
+
+some_nets : (nets : Option GsrcNets) → IfSome nets (λ out. HasPinsInAnyRange out.nets) → HasPinsInAnyRange (nets_in nets)
+some_nets None h = record { in_range = λ blocks pads. All-nil (λ (n : RawNet). All (IsPinInRange blocks pads) n.pins) }
+some_nets (Some out) h = h
+
+pub joined_pins : (blocks : GsrcBlocks) (nets : Option GsrcNets) (places : Option GsrcPlaces) (parts : Parts) → joined blocks nets places ≡ Ok parts
+    → IfSome nets (λ out. HasPinsInAnyRange out.nets) → HasPinsInRange parts
+joined_pins blocks nets places parts e h =
+    All-same (λ (n : RawNet). All (IsPinInRange (length parts.blocks) (length parts.pads)) n.pins) parts.nets (nets_in nets) (joined_keep blocks nets places parts e).nets_are ((some_nets nets h).in_range (length parts.blocks) (length parts.pads))

@@ -1,0 +1,111 @@
+-- Each block of a blocks file has a size.
+use Rattle.std.proofs.Common.{◌≡◌, ◌<◌, ℕ, Bool, true, false, List, [], ◌∷◌, Option, Some, None, Result, Ok, Err, refl, sym, subst, arith, nat_lt, ◌*◌, ℤ}
+use Rattle.std.specs.Prelude.{map, ◌==◌, ◌||◌, if◌then◌else◌, length}
+use Rattle.std.specs.List.{All, AllZip}
+use Rattle.std.proofs.lemmas.Bool.Decides.{nat_tests}
+use Rattle.std.proofs.lemmas.List.Elements.{All-nil, All-cons, All-same}
+use Rattle.sf_lex.specs.Scan.{Line}
+use Rattle.sf_lex.specs.Text.{words}
+use Rattle.sf_lex.specs.Gap.{is_gap, first_word, after_word}
+use Rattle.sf_lex.specs.declared.field.Gap.TheVariants.{Blanks, Points}
+use Rattle.sf_model.specs.declared.raw.RawBlock.{RawBlock}
+use Rattle.sf_model.specs.declared.raw.Kind.TheVariants as kinds
+use Rattle.sf_model.specs.Admitted.{IsSized}
+use Rattle.sf_gsrc.specs.declared.fault.LineFault.{LineFault}
+use Rattle.sf_gsrc.specs.declared.fault.LineFault.TheVariants.{BadLine, ZeroSide}
+use Rattle.sf_gsrc.specs.declared.keywords.Counted.{Counted}
+use Rattle.sf_gsrc.specs.declared.keywords.Form.{Form}
+use Rattle.sf_gsrc.specs.declared.keywords.Form.TheVariants as forms
+use Rattle.sf_gsrc.specs.declared.output.GsrcBlocks.{GsrcBlocks}
+use Rattle.sf_gsrc.specs.Keywords.{form_of}
+use Rattle.sf_gsrc.specs.Line.{◌>>=◌, Item, BlockIs, PadIs, area_in_word, aspect_in_word, count_in_word, vertices_of, extent, soft_said, box_said, hard_said, form_said, plain_said, counted_by}
+use Rattle.sf_gsrc.specs.Blocks.{Entry, Said, CountIs, ItemIs, blocks_in}
+use Rattle.sf_gsrc.specs.Standing.{SaysBy, SaysEntry, StandsFor}
+use Rattle.sf_gsrc.proofs.Results.{bind_ok, done, ok_is, err_not_ok}
+
+-- a block has a size
+abbrev ItemSized : Item → Type 0
+ItemSized (BlockIs block) = IsSized block.kind
+ItemSized (PadIs name) = Unit {0}
+
+some_size : (n : ℕ) → (n == 0) ≡ false → 0 < n
+some_size n e = grind (arith, nat_tests)
+
+sized_as : (made item : Item) → done {E = LineFault} made ≡ done item → ItemSized made → ItemSized item
+sized_as made item e h = subst (λ (x : Item). ItemSized x) (ok_is {E = LineFault} made item e) h
+
+-- ---- what a line says
+
+area_sized : (name : List ℕ) (a low high : ℕ) (item : Item) (b : Bool) → (a == 0) ≡ b
+    → (if b then Err ZeroSide else Ok (BlockIs (record { name = name; kind = kinds.Soft a low high }))) ≡ Ok item → ItemSized item
+area_sized name a low high item true e h = absurd (err_not_ok ZeroSide item h)
+area_sized name a low high item false e h = sized_as (BlockIs (record { name = name; kind = kinds.Soft a low high })) item h (some_size a e)
+
+soft_sized : (scale : ℕ) (name : List ℕ) (rest : List (List ℕ)) (item : Item) → soft_said scale name rest ≡ Ok item → ItemSized item
+unfolding soft_said
+soft_sized scale name [] item h = absurd (err_not_ok BadLine item h)
+soft_sized scale name (area ∷ []) item h = absurd (err_not_ok BadLine item h)
+soft_sized scale name (area ∷ min ∷ []) item h = absurd (err_not_ok BadLine item h)
+soft_sized scale name (area ∷ min ∷ max ∷ more) item h =
+    let a = bind_ok (area_in_word scale area) _ item h in
+    let low = bind_ok (aspect_in_word min) _ item a.2 in
+    let high = bind_ok (aspect_in_word max) _ item low.2 in
+    area_sized name a.0 low.0 high.0 item (a.0 == 0) refl high.2
+
+box_by : (name : List ℕ) (w h : ℕ) (item : Item) (a b : Bool) → (w == 0) ≡ a → (h == 0) ≡ b
+    → (if a || b then Err ZeroSide else Ok (BlockIs (record { name = name; kind = kinds.Hard w h }))) ≡ Ok item → ItemSized item
+box_by name w h item true b ea eb e = absurd (err_not_ok ZeroSide item e)
+box_by name w h item false true ea eb e = absurd (err_not_ok ZeroSide item e)
+box_by name w h item false false ea eb e = sized_as (BlockIs (record { name = name; kind = kinds.Hard w h })) item e (some_size w ea, some_size h eb)
+
+box_sized : (name : List ℕ) (vertices : List (ℤ × ℤ)) (item : Item) → box_said name vertices ≡ Ok item → ItemSized item
+box_sized name vertices item h =
+    box_by name (extent (map (λ v. v.0) vertices)) (extent (map (λ v. v.1) vertices)) item
+    (extent (map (λ v. v.0) vertices) == 0) (extent (map (λ v. v.1) vertices) == 0) refl refl h
+
+outline_sized : (name : List ℕ) (read : Result (List (ℤ × ℤ)) LineFault) (item : Item) (b : Bool) → (if b then Err BadLine else (read >>= box_said name)) ≡ Ok item → ItemSized item
+outline_sized name read item true h = absurd (err_not_ok BadLine item h)
+outline_sized name read item false h = let k = bind_ok read (box_said name) item h in box_sized name k.0 item k.2
+
+hard_sized : (scale : ℕ) (name : List ℕ) (rest : List (List ℕ)) (item : Item) → hard_said scale name rest ≡ Ok item → ItemSized item
+unfolding hard_said
+hard_sized scale name [] item h = absurd (err_not_ok BadLine item h)
+hard_sized scale name (count ∷ places) item h =
+    let k = bind_ok (count_in_word count) _ item h in
+    outline_sized name (vertices_of scale k.0 places) item ((k.0 == 0) || nat_lt (length places) (2 * k.0)) k.2
+
+form_sized : (scale : ℕ) (name rest : List ℕ) (form : Option Form) (item : Item) → form_said scale name rest form ≡ Ok item → ItemSized item
+form_sized scale name rest None item h = absurd (err_not_ok BadLine item h)
+form_sized scale name rest (Some forms.Soft) item h = soft_sized scale name (words (is_gap Blanks) rest) item h
+form_sized scale name rest (Some forms.Hard) item h = hard_sized scale name (words (is_gap Points) rest) item h
+form_sized scale name rest (Some forms.Terminal) item h = sized_as (PadIs name) item h tt
+
+pub plain_sized : (scale : ℕ) (line : List ℕ) (item : Item) → plain_said scale line ≡ Ok item → ItemSized item
+unfolding plain_said
+plain_sized scale line item h = form_sized scale (first_word Blanks line) (after_word Blanks (after_word Blanks line)) (form_of (first_word Blanks (after_word Blanks line))) item h
+
+-- ---- what all lines say
+
+abbrev SaidSized : Said → Type 0
+SaidSized (CountIs k n) = Unit {0}
+SaidSized (ItemIs item) = ItemSized item
+
+said_sized : (scale : ℕ) (line : Line) (said : Said) (o : Option Counted) → SaysBy scale line said o → SaidSized said
+said_sized scale line said None s = subst (λ (x : Said). SaidSized x) (sym s.2) (plain_sized scale line.bytes s.0 s.1)
+said_sized scale line said (Some which) s = subst (λ (x : Said). SaidSized x) (sym s.2) tt
+
+one_sized : (n : ℕ) (said : Said) (more : List Entry) → SaidSized said → All (λ b. IsSized b.kind) (blocks_in more)
+    → All (λ b. IsSized b.kind) (blocks_in (record { number = n; said = said } ∷ more))
+one_sized n (CountIs k m) more s h = h
+one_sized n (ItemIs (BlockIs block)) more s h = All-cons (λ (b : RawBlock). IsSized b.kind) block (blocks_in more) s h
+one_sized n (ItemIs (PadIs name)) more s h = h
+
+all_sized : (scale : ℕ) (lines : List Line) (entries : List Entry) → AllZip (SaysEntry scale) lines entries → All (λ b. IsSized b.kind) (blocks_in entries)
+all_sized scale [] [] each = All-nil (λ (b : RawBlock). IsSized b.kind)
+all_sized scale [] (e ∷ entries) each = absurd each
+all_sized scale (line ∷ lines) [] each = absurd each
+all_sized scale (line ∷ lines) (e ∷ entries) each =
+    one_sized e.number e.said entries (said_sized scale line e.said (counted_by line.bytes) each.0.1) (all_sized scale lines entries each.1)
+
+pub blocks_sized : (scale : ℕ) (text : List ℕ) (out : GsrcBlocks) → StandsFor scale text out → All (λ b. IsSized b.kind) out.blocks
+blocks_sized scale text out s = All-same (λ (b : RawBlock). IsSized b.kind) out.blocks (blocks_in s.entries) s.blocks (all_sized scale s.others s.entries s.each)

@@ -1,0 +1,74 @@
+-- Blocks have sizes, and pins are of blocks and pads that are there.
+use Rattle.std.proofs.Common.{◌≡◌, ℕ, ◌+◌, ◌≤◌, ◌<◌, Bool, true, false, List, [], ◌∷◌, length, map, Option, Some, None, refl, ap, sym, subst, ◌∙◌, arith}
+use Rattle.std.specs.Prelude.{IfSome}
+use Rattle.std.specs.List.{All, AllZip}
+use Rattle.std.proofs.lemmas.List.{length-map}
+use Rattle.std.proofs.lemmas.List.Elements.{All-nil, All-cons, All-append}
+use Rattle.std.proofs.lemmas.Slice.Zip.{AllZip-long}
+use Rattle.sf_model.specs.Admitted.{IsPinInRange, IsSized, HasSizes, HasPinsInRange}
+use Rattle.sf_model.specs.declared.raw.RawBlock.{RawBlock}
+use Rattle.sf_model.specs.declared.raw.RawNet.{RawNet}
+use Rattle.sf_model.specs.declared.raw.RawPin.{RawPin}
+use Rattle.sf_model.specs.declared.raw.RawPin.TheVariants as pins
+use Rattle.sf_model.specs.declared.raw.Parts.{Parts}
+use Rattle.sf_yal.specs.Statements.{statements_of}
+use Rattle.sf_yal.specs.Names.{index_of, has_name}
+use Rattle.sf_yal.specs.Instances.{Instance}
+use Rattle.sf_yal.specs.Parts.{block_pins, pad_pins, net_of, nets_of, signals_of}
+use Rattle.sf_yal.specs.Standing.{IsBlockOf, Module, StandsFor}
+use Rattle.sf_yal.proofs.Indexes.{index_bound}
+use Rattle.sf_yal.proofs.PadNames.{pads_named}
+
+-- ---- sizes
+
+block_sized : (modules : List Module) (parent : ℕ) (i : Instance) (block : RawBlock) → IsBlockOf modules parent i block → IsSized block.kind
+block_sized modules parent i block is = subst (λ (b : RawBlock). IsSized b.kind) (sym is.block_is) (is.wide, is.high)
+
+blocks_sized : (modules : List Module) (parent : ℕ) (instances : List Instance) (blocks : List RawBlock) → AllZip (IsBlockOf modules parent) instances blocks → All (λ b. IsSized b.kind) blocks
+blocks_sized modules parent [] [] each = All-nil (λ (b : RawBlock). IsSized b.kind)
+blocks_sized modules parent [] (b ∷ blocks) each = absurd each
+blocks_sized modules parent (i ∷ instances) [] each = absurd each
+blocks_sized modules parent (i ∷ instances) (b ∷ blocks) each =
+    All-cons (λ (b : RawBlock). IsSized b.kind) b blocks (block_sized modules parent i b each.0) (blocks_sized modules parent instances blocks each.1)
+
+pub parts_sized : (scale : ℕ) (text : List ℕ) (out : Parts) → StandsFor scale text out → HasSizes out
+parts_sized scale text out s = blocks_sized s.modules s.parent s.said.instances out.blocks s.blocks
+
+-- ---- pins
+
+module _ (blocks pads : ℕ) (signal : List ℕ) where
+  abbrev InRange : List RawPin → Type 0
+  InRange some = All (IsPinInRange blocks pads) some
+
+  block_pins_step : (n : ℕ) (signals : List (List ℕ)) (more : List (List (List ℕ))) (b : Bool) → has_name signal signals ≡ b → n < blocks → InRange (block_pins signal (n + 1) more) → InRange (block_pins signal n (signals ∷ more))
+  block_pins_step n signals more true e below rest = rw e (All-cons (IsPinInRange blocks pads) (pins.Block n) (block_pins signal (n + 1) more) below rest)
+  block_pins_step n signals more false e below rest = rw e rest
+
+  block_pins_in_range : (n : ℕ) (uses : List (List (List ℕ))) → n + length uses ≤ blocks → InRange (block_pins signal n uses)
+  block_pins_in_range n [] few = All-nil (IsPinInRange blocks pads)
+  block_pins_in_range n (signals ∷ more) few = block_pins_step n signals more (has_name signal signals) refl (omega arith) (block_pins_in_range (n + 1) more (omega arith))
+
+  pad_pins_in_range : (o : Option ℕ) → IfSome o (λ k. k < pads) → InRange (pad_pins o)
+  pad_pins_in_range None h = All-nil (IsPinInRange blocks pads)
+  pad_pins_in_range (Some k) h = All-cons (IsPinInRange blocks pads) (pins.Pad k) [] h (All-nil (IsPinInRange blocks pads))
+
+nets_in_range : (uses : List (List (List ℕ))) (pad_names : List (List ℕ)) (signals : List (List ℕ)) → All (λ n. All (IsPinInRange (length uses) (length pad_names)) n.pins) (map (net_of uses pad_names) signals)
+nets_in_range uses pad_names [] = All-nil (λ (n : RawNet). All (IsPinInRange (length uses) (length pad_names)) n.pins)
+nets_in_range uses pad_names (signal ∷ signals) =
+    All-cons (λ (n : RawNet). All (IsPinInRange (length uses) (length pad_names)) n.pins) (net_of uses pad_names signal) (map (net_of uses pad_names) signals)
+    (All-append (IsPinInRange (length uses) (length pad_names)) (block_pins signal 0 uses) (pad_pins (index_of signal pad_names))
+    (block_pins_in_range (length uses) (length pad_names) signal 0 uses (omega arith))
+    (pad_pins_in_range (length uses) (length pad_names) signal (index_of signal pad_names) (index_bound signal pad_names)))
+    (nets_in_range uses pad_names signals)
+
+in_range_of : (blocks blocks' pads pads' : ℕ) (nets nets' : List RawNet) → blocks' ≡ blocks → pads' ≡ pads → nets' ≡ nets
+    → All (λ n. All (IsPinInRange blocks pads) n.pins) nets → All (λ n. All (IsPinInRange blocks' pads') n.pins) nets'
+in_range_of blocks blocks' pads pads' nets nets' a b c h = rw (a, b, c) h
+
+pub parts_in_range : (scale : ℕ) (text : List ℕ) (out : Parts) → StandsFor scale text out → HasPinsInRange out
+parts_in_range scale text out s =
+    let uses : List (List (List ℕ)) = map (λ i. i.signals) s.said.instances in
+    let blocks : length out.blocks ≡ length uses = AllZip-long (IsBlockOf s.modules s.parent) s.said.instances out.blocks s.blocks ∙ sym (length-map s.said.instances (λ (i : Instance). i.signals)) in
+    let pads : length out.pads ≡ length s.said.pad_names = ap length s.pads ∙ sym (pads_named scale (statements_of text) s.said s.each) in
+    in_range_of (length uses) (length out.blocks) (length s.said.pad_names) (length out.pads) (nets_of uses s.said.pad_names) out.nets blocks pads s.nets
+    (nets_in_range uses s.said.pad_names (signals_of uses))
