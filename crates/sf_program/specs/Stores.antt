@@ -1,5 +1,6 @@
 -- What is stored, one text after another.
-use Rattle.std.specs.Prelude.{◌≡◌, ◌⊎◌, ℕ, List, [], ◌∷◌, Option}
+use Rattle.std.specs.Prelude.{◌≡◌, ◌⊎◌, ℕ, List, [], ◌∷◌, map, Option, string_bytes}
+use Rattle.sf_program.specs.declared.work.Store.{Store}
 use Rattle.sf_io.specs.Outside.{Contents, Stores, StoresPart}
 
 -- a name and the bytes that are stored under it
@@ -15,3 +16,6 @@ AfterStores before (s ∷ rest) after = (next : Option Contents) × Stores befor
 abbrev pub StoppedAt : Option Contents → List Stored → Option Contents → Type 0
 StoppedAt before [] after = ⊥
 StoppedAt before (s ∷ rest) after = StoresPart before after s.0 s.1 ⊎ ((next : Option Contents) × Stores before next s.0 s.1 × StoppedAt next rest after)
+
+abbrev pub stored_in : List Store → List Stored
+stored_in stores = map (λ s. (string_bytes s.name, s.bytes.items)) stores

@@ -6,5 +6,7 @@ mod parsing;
 mod reading;
 mod refusals;
 mod stop;
+mod work;
 
 pub use stop::Stop;
+pub use work::{Store, Work};

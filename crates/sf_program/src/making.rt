@@ -88,8 +88,10 @@ pub fn make_design(alloc: Global, words: &DesignWords<'_>, weights: WeightWords,
     ensures design { Ends (λ x. x) result (DesignMade (design_seen words.now) (weights_seen weights) parts) }
     ensures tells { (loads loads_then : ℕ) → IfErr result (TellsLoads loads loads_then) }
 {
-    let lists = make_lists(alloc, words, &parts)?;
-    build(alloc, words, weights, parts, lists)
+    match make_lists(alloc, words, &parts) {
+        Ok(lists) => build(alloc, words, weights, parts, lists),
+        Err(stop) => Err(stop),
+    }
 }
 
 /// The design for which the named files stand.

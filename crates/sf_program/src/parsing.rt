@@ -1,11 +1,13 @@
 //! Texts to what they stand for, or to their refusal.
 
-ghost use Rattle.std.specs.Prelude.{◌≡◌, ◌≤◌, ◌^◌, ℕ, length, codes, IfErr};
+ghost use Rattle.std.specs.Prelude.{◌≡◌, ◌≤◌, ◌^◌, ℕ, length, codes, All, IfErr, IfOk, IfSome};
+ghost use Rattle.sf_model.specs.Admitted.{HasPinsInRange, HasSizes, IsSized};
 ghost use Rattle.sf_gsrc.specs.Blocks.{blocks_read};
 ghost use Rattle.sf_gsrc.specs.Join.{joined};
 ghost use Rattle.sf_gsrc.specs.Nets.{nets_read};
 ghost use Rattle.sf_gsrc.specs.NetsStanding.{NetsStandFor};
 ghost use Rattle.sf_gsrc.specs.Places.{places_read, PlacesStandFor};
+ghost use Rattle.sf_gsrc.specs.Ranges.{HasPinsInAnyRange};
 ghost use Rattle.sf_gsrc.specs.Standing.{StandsFor};
 ghost use Rattle.sf_yal.specs.Parts.{yal_read};
 ghost use Rattle.sf_yal.specs.Standing as yals;
@@ -16,17 +18,20 @@ ghost use Rattle.sf_program.specs.Refusals.{gsrc_refusal, yal_refusal, join_refu
 
 use crate::refusals::{gsrc_fault, named_fault, yal_fault};
 use crate::stop::Stop;
-use sf_gsrc::{GsrcBlocks, GsrcFault, GsrcNets, GsrcPlaces, JoinFault, join_parts, read_blocks, read_nets, read_pl};
+use sf_gsrc::{GsrcBlocks, GsrcFault, GsrcNets, GsrcPlaces, JoinFault, blocks_have_sizes, join_parts, joined_parts_keep_ranges, nets_name_their_pins, read_blocks, read_nets, read_pl};
 use sf_model::Parts;
-use sf_yal::{YalFault, read_yal};
+use sf_yal::{YalFault, parts_keep_ranges, read_yal};
 use std::alloc::Global;
 
+/// What a blocks file stands for.
 pub fn parse_blocks(alloc: Global, text: &[u8], scale: u64) -> Result<GsrcBlocks, Stop>
     requires scale_low { 1 ≤ scale }
     requires scale_high { scale ≤ 1000 }
     ensures tells { (loads loads_then : ℕ) → IfErr result (TellsLoads loads loads_then) }
     ensures said { Ends (λ x. x) result (Said (StandsFor scale text.now) (blocks_read scale text.now) (gsrc_refusal (codes "blocks"))) }
+    ensures sizes { IfOk result (λ out. All (λ b. IsSized b.kind) out.blocks) }
 {
+    blocks_have_sizes();
     match read_blocks(alloc, text, scale) {
         Ok(blocks) => Ok(blocks),
         Err(GsrcFault::NoMemory) => Err(Stop::NoMemory),
@@ -34,10 +39,13 @@ pub fn parse_blocks(alloc: Global, text: &[u8], scale: u64) -> Result<GsrcBlocks
     }
 }
 
+/// What a nets file stands for.
 pub fn parse_nets(alloc: Global, text: &[u8]) -> Result<GsrcNets, Stop>
     ensures tells { (loads loads_then : ℕ) → IfErr result (TellsLoads loads loads_then) }
     ensures said { Ends (λ x. x) result (Said (NetsStandFor text.now) (nets_read text.now) (gsrc_refusal (codes "nets"))) }
+    ensures pins { IfOk result (λ out. HasPinsInAnyRange out.nets) }
 {
+    nets_name_their_pins();
     match read_nets(alloc, text) {
         Ok(nets) => Ok(nets),
         Err(GsrcFault::NoMemory) => Err(Stop::NoMemory),
@@ -59,13 +67,17 @@ pub fn parse_places(alloc: Global, source: &str, text: &[u8], scale: u64) -> Res
     }
 }
 
+/// What a YAL file stands for.
 pub fn parse_yal(alloc: Global, text: &[u8], scale: u64) -> Result<Parts, Stop>
     requires scale_low { 1 ≤ scale }
     requires scale_high { scale ≤ 1000 }
     requires size { length text.now ≤ 2 ^ 26 }
     ensures tells { (loads loads_then : ℕ) → IfErr result (TellsLoads loads loads_then) }
     ensures said { Ends (λ x. x) result (Said (yals.StandsFor scale text.now) (yal_read scale text.now) yal_refusal) }
+    ensures sizes { IfOk result HasSizes }
+    ensures pins { IfOk result HasPinsInRange }
 {
+    parts_keep_ranges();
     match read_yal(alloc, text, scale) {
         Ok(parts) => Ok(parts),
         Err(YalFault::NoMemory) => Err(Stop::NoMemory),
@@ -73,10 +85,16 @@ pub fn parse_yal(alloc: Global, text: &[u8], scale: u64) -> Result<Parts, Stop>
     }
 }
 
+/// The parts that GSRC files are joined to.
 pub fn join(alloc: Global, blocks: GsrcBlocks, nets: Option<GsrcNets>, places: Option<GsrcPlaces>) -> Result<Parts, Stop>
+    requires sizes { All (λ b. IsSized b.kind) blocks.blocks }
+    requires pins { IfSome nets (λ out. HasPinsInAnyRange out.nets) }
     ensures tells { (loads loads_then : ℕ) → IfErr result (TellsLoads loads loads_then) }
     ensures said { Ends (λ x. x) result (Judged (joined blocks nets places) join_refusal) }
+    ensures sizes { IfOk result HasSizes }
+    ensures pins { IfOk result HasPinsInRange }
 {
+    joined_parts_keep_ranges();
     match join_parts(alloc, blocks, nets, places) {
         Ok(parts) => Ok(parts),
         Err(JoinFault::PlacedTwice(name)) => Err(named_fault(alloc, "DuplicateName", &name)?),

@@ -1,8 +1,9 @@
 //! From the named files to the parts of a design.
 
-ghost use Rattle.std.specs.Prelude.{◌≡◌, ◌≤◌, ◌^◌, length, codes, IfErr, IfOk};
+ghost use Rattle.std.specs.Prelude.{◌≡◌, ◌≤◌, ◌^◌, length, codes, All, IfErr, IfOk, IfSome};
 ghost use Rattle.sf_words.specs.Seen.{input_seen, text_of};
-ghost use Rattle.sf_model.specs.Admitted.{HasPinsInRange, HasSizes};
+ghost use Rattle.sf_model.specs.Admitted.{HasPinsInRange, HasSizes, IsSized};
+ghost use Rattle.sf_gsrc.specs.Ranges.{HasPinsInAnyRange};
 ghost use Rattle.sf_program.specs.Loads.{IsRead, TellsLoads};
 ghost use Rattle.sf_program.specs.Outcome.{Ends};
 ghost use Rattle.sf_program.specs.Reading.{TextRead, BlocksRead, NetsRead, PlacesRead, YalRead, IfNamed, PlacedRead, WiredRead, GsrcRead, PartsRead};
@@ -37,6 +38,7 @@ fn read_blocks_file<S: Shelf>(alloc: Global, shelf: &mut S, scale: u64, name: &s
     requires scale_low { 1 ≤ scale }
     requires scale_high { scale ≤ 1000 }
     ensures blocks { Ends (λ x. x) result (BlocksRead (S.holds shelf.old) scale name.now) }
+    ensures sizes { IfOk result (λ out. All (λ b. IsSized b.kind) out.blocks) }
     ensures read { IsRead (S.holds shelf.old) (S.holds shelf.new) (S.load_faults shelf.old) (S.load_faults shelf.new) (S.store_faults shelf.old) (S.store_faults shelf.new) }
     ensures tells { IfErr result (TellsLoads (S.load_faults shelf.old) (S.load_faults shelf.new)) }
 {
@@ -46,6 +48,7 @@ fn read_blocks_file<S: Shelf>(alloc: Global, shelf: &mut S, scale: u64, name: &s
 
 fn read_nets_file<S: Shelf>(alloc: Global, shelf: &mut S, name: &str) -> Result<GsrcNets, Stop>
     ensures nets { Ends (λ x. x) result (NetsRead (S.holds shelf.old) name.now) }
+    ensures pins { IfOk result (λ out. HasPinsInAnyRange out.nets) }
     ensures read { IsRead (S.holds shelf.old) (S.holds shelf.new) (S.load_faults shelf.old) (S.load_faults shelf.new) (S.store_faults shelf.old) (S.store_faults shelf.new) }
     ensures tells { IfErr result (TellsLoads (S.load_faults shelf.old) (S.load_faults shelf.new)) }
 {
@@ -69,6 +72,8 @@ fn read_yal_file<S: Shelf>(alloc: Global, shelf: &mut S, scale: u64, name: &str)
     requires scale_low { 1 ≤ scale }
     requires scale_high { scale ≤ 1000 }
     ensures parts { Ends (λ x. x) result (YalRead (S.holds shelf.old) scale name.now) }
+    ensures sizes { IfOk result HasSizes }
+    ensures pins { IfOk result HasPinsInRange }
     ensures read { IsRead (S.holds shelf.old) (S.holds shelf.new) (S.load_faults shelf.old) (S.load_faults shelf.new) (S.store_faults shelf.old) (S.store_faults shelf.new) }
     ensures tells { IfErr result (TellsLoads (S.load_faults shelf.old) (S.load_faults shelf.new)) }
 {
@@ -78,6 +83,7 @@ fn read_yal_file<S: Shelf>(alloc: Global, shelf: &mut S, scale: u64, name: &str)
 
 fn read_named_nets<S: Shelf>(alloc: Global, shelf: &mut S, name: Option<&str>) -> Result<Option<GsrcNets>, Stop>
     ensures nets { Ends (λ x. x) result (IfNamed (NetsRead (S.holds shelf.old)) (text_of name.entry)) }
+    ensures pins { IfOk result (λ named. IfSome named (λ out. HasPinsInAnyRange out.nets)) }
     ensures read { IsRead (S.holds shelf.old) (S.holds shelf.new) (S.load_faults shelf.old) (S.load_faults shelf.new) (S.store_faults shelf.old) (S.store_faults shelf.new) }
     ensures tells { IfErr result (TellsLoads (S.load_faults shelf.old) (S.load_faults shelf.new)) }
 {
@@ -104,7 +110,11 @@ fn read_named_places<S: Shelf>(alloc: Global, shelf: &mut S, scale: u64, name: O
 fn read_placed<S: Shelf>(alloc: Global, shelf: &mut S, scale: u64, blocks: GsrcBlocks, nets: Option<GsrcNets>, pl: Option<&str>) -> Result<Parts, Stop>
     requires scale_low { 1 ≤ scale }
     requires scale_high { scale ≤ 1000 }
+    requires sizes { All (λ b. IsSized b.kind) blocks.blocks }
+    requires pins { IfSome nets (λ out. HasPinsInAnyRange out.nets) }
     ensures parts { Ends (λ x. x) result (PlacedRead (S.holds shelf.old) scale (text_of pl.entry) blocks nets) }
+    ensures sizes { IfOk result HasSizes }
+    ensures pins { IfOk result HasPinsInRange }
     ensures read { IsRead (S.holds shelf.old) (S.holds shelf.new) (S.load_faults shelf.old) (S.load_faults shelf.new) (S.store_faults shelf.old) (S.store_faults shelf.new) }
     ensures tells { IfErr result (TellsLoads (S.load_faults shelf.old) (S.load_faults shelf.new)) }
 {
@@ -116,7 +126,10 @@ fn read_placed<S: Shelf>(alloc: Global, shelf: &mut S, scale: u64, blocks: GsrcB
 fn read_wired<S: Shelf>(alloc: Global, shelf: &mut S, scale: u64, blocks: GsrcBlocks, nets: Option<&str>, pl: Option<&str>) -> Result<Parts, Stop>
     requires scale_low { 1 ≤ scale }
     requires scale_high { scale ≤ 1000 }
+    requires sizes { All (λ b. IsSized b.kind) blocks.blocks }
     ensures parts { Ends (λ x. x) result (WiredRead (S.holds shelf.old) scale (text_of nets.entry) (text_of pl.entry) blocks) }
+    ensures sizes { IfOk result HasSizes }
+    ensures pins { IfOk result HasPinsInRange }
     ensures read { IsRead (S.holds shelf.old) (S.holds shelf.new) (S.load_faults shelf.old) (S.load_faults shelf.new) (S.store_faults shelf.old) (S.store_faults shelf.new) }
     ensures tells { IfErr result (TellsLoads (S.load_faults shelf.old) (S.load_faults shelf.new)) }
 {
@@ -128,6 +141,8 @@ fn read_gsrc_files<S: Shelf>(alloc: Global, shelf: &mut S, scale: u64, blocks: &
     requires scale_low { 1 ≤ scale }
     requires scale_high { scale ≤ 1000 }
     ensures parts { Ends (λ x. x) result (GsrcRead (S.holds shelf.old) scale blocks.now (text_of nets.entry) (text_of pl.entry)) }
+    ensures sizes { IfOk result HasSizes }
+    ensures pins { IfOk result HasPinsInRange }
     ensures read { IsRead (S.holds shelf.old) (S.holds shelf.new) (S.load_faults shelf.old) (S.load_faults shelf.new) (S.store_faults shelf.old) (S.store_faults shelf.new) }
     ensures tells { IfErr result (TellsLoads (S.load_faults shelf.old) (S.load_faults shelf.new)) }
 {
