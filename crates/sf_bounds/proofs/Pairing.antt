@@ -86,4 +86,4 @@ module _ (design : Design) (layout : Layout) (ready : IsReady design layout) whe
   pairs_before pins k net =
       let there = λ (p : Pin). pin_number p < pin_count (length design.blocks) (length design.pads) p in
       pairs-small (record { some = false; most = 0; sum = 0 }) (take k pins) record { most = omega arith; sum = omega arith }
-        (each-left there (take k pins) (drop k pins) (subst (AllByRecursion there) (sym (take-append-drop k pins)) (recursion_from_All there pins net)))
+      (each-left there (take k pins) (drop k pins) (subst (AllByRecursion there) (sym (take-append-drop k pins)) (recursion_from_All there pins net)))

@@ -32,9 +32,9 @@ range_is design layout ready pins net =
     let ys = map (range_y design extent) pins in
     let r = fold (λ r p. met r (pin_range design extent p)) anywhere pins in
     let x : to_nat (r.across.low -ℤ r.across.high) ≡ gap xs =
-      ap (λ i. to_nat (i.low -ℤ i.high)) (range-across design extent anywhere pins)
-      ∙ gap-shared xs (each-map IsNear (range_x design extent) pins (each-weaker (λ p. pin_number p < pin_count (length design.blocks) (length design.pads) p) (λ p. IsNear (range_x design extent p)) (λ p h. (near_range design layout ready p h).0) pins all)) in
+    ap (λ i. to_nat (i.low -ℤ i.high)) (range-across design extent anywhere pins)
+    ∙ gap-shared xs (each-map IsNear (range_x design extent) pins (each-weaker (λ p. pin_number p < pin_count (length design.blocks) (length design.pads) p) (λ p. IsNear (range_x design extent p)) (λ p h. (near_range design layout ready p h).0) pins all)) in
     let y : to_nat (r.upward.low -ℤ r.upward.high) ≡ gap ys =
-      ap (λ i. to_nat (i.low -ℤ i.high)) (range-upward design extent anywhere pins)
-      ∙ gap-shared ys (each-map IsNear (range_y design extent) pins (each-weaker (λ p. pin_number p < pin_count (length design.blocks) (length design.pads) p) (λ p. IsNear (range_y design extent p)) (λ p h. (near_range design layout ready p h).1) pins all)) in
+    ap (λ i. to_nat (i.low -ℤ i.high)) (range-upward design extent anywhere pins)
+    ∙ gap-shared ys (each-map IsNear (range_y design extent) pins (each-weaker (λ p. pin_number p < pin_count (length design.blocks) (length design.pads) p) (λ p. IsNear (range_y design extent p)) (λ p h. (near_range design layout ready p h).1) pins all)) in
     ap (λ n. n + to_nat (r.upward.low -ℤ r.upward.high)) x ∙ ap (λ n. gap xs + n) y

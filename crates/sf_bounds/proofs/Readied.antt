@@ -94,11 +94,11 @@ from-item extent k [] j d o lt c = absurd (omega arith)
 from-item extent k (i ∷ is) zero d o lt c =
     let e : k ≡ k + 0 = omega arith in
     subst (λ n. Contains (seats_from extent k (i ∷ is)) (seat_at n o)) e
-      (Contains-append_left (map (seat_at k) (offsets extent i)) (seats_from extent (suc k) is) (seat_at k o) (Contains-map (seat_at k) (offsets extent i) o c))
+    (Contains-append_left (map (seat_at k) (offsets extent i)) (seats_from extent (suc k) is) (seat_at k o) (Contains-map (seat_at k) (offsets extent i) o c))
 from-item extent k (i ∷ is) (suc j) d o lt c =
     let e : suc k + j ≡ k + suc j = omega arith in
     subst (λ n. Contains (seats_from extent k (i ∷ is)) (seat_at n o)) e
-      (Contains-append_right (map (seat_at k) (offsets extent i)) (seats_from extent (suc k) is) (seat_at (suc k + j) o) (from-item extent (suc k) is j d o (omega arith) c))
+    (Contains-append_right (map (seat_at k) (offsets extent i)) (seats_from extent (suc k) is) (seat_at (suc k + j) o) (from-item extent (suc k) is j d o (omega arith) c))
 
 module _ (design : Design) (node : Parts) (layout : Layout) (m : IsLayout design node layout) where
   abbrev items : List Item
@@ -118,7 +118,7 @@ module _ (design : Design) (node : Parts) (layout : Layout) (m : IsLayout design
   seat-found j d o lt c =
       let z : 0 + j ≡ j = omega arith in
       let here : Contains layout.seats.items (seat_at j o) =
-        subst (λ v. Contains v (seat_at j o)) (sym m.stack.laid.seats) (subst (λ n. Contains (seats_from (extent_in design node) 0 (reverse (items_of node))) (seat_at n o)) z (from-item (extent_in design node) 0 (reverse (items_of node)) j d o lt c)) in
+      subst (λ v. Contains v (seat_at j o)) (sym m.stack.laid.seats) (subst (λ n. Contains (seats_from (extent_in design node) 0 (reverse (items_of node))) (seat_at n o)) z (from-item (extent_in design node) 0 (reverse (items_of node)) j d o lt c)) in
       let inside : o.block < block_count design = All-contains (λ s. s.offset.block < block_count design) layout.seats.items (seat_at j o) m.stack.inside here in
       (inside, seat-is o.block inside (no_seat 0 o.block) ∙ last-once (no_seat (length layout.held.items) o.block) layout.seats.items (seat_at j o) (m.stack.once o.block) here)
 
@@ -147,7 +147,7 @@ module _ (design : Design) (node : Parts) (layout : Layout) (m : IsLayout design
       let extent = extent_in design node in
       let its = reverse (items_of node) in
       subst (λ v. AreModest v layout.seats.items) (sym m.stack.laid.held) (subst (AreModest (map (held_of extent) its)) (sym m.stack.laid.seats)
-        (are-modest extent (span-small design node) its (omega (arith, m.stack.few, ap length m.stack.laid.seats))))
+      (are-modest extent (span-small design node) its (omega (arith, m.stack.few, ap length m.stack.laid.seats))))
 
   pub readied : IsReady design layout
   readied =

@@ -9,7 +9,7 @@ pub greatest_gap-requires-clause-near : goal.greatest_gap-requires-clause-near
 greatest_gap-requires-clause-near c k d lt =
     let i = pin_item c.args.layout.now (get_or c.args.pins.now k d) in
     subst IsNearby (sym (c.gather.ensures i ∙ ap (λ r. fold (gathers c.args.design.now c.args.layout.now i) r c.args.pins.now) (c.clear_reaches.ensures k d lt)))
-      (near_gathered c.args.design.now c.args.layout.now c.requires.ready i c.args.pins.now c.requires.inside)
+    (near_gathered c.args.design.now c.args.layout.now c.requires.ready i c.args.pins.now c.requires.inside)
 
 pub returns-clause-is : goal.returns-clause-is
 returns-clause-is c =
