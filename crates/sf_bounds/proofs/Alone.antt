@@ -1,5 +1,5 @@
 -- Where each span has one place, one plan belongs to a complete subproblem.
-use Rattle.std.proofs.Common.{◌≡◌, ℕ, suc, ◌+◌, ◌*◌, ◌<◌, ◌≤◌, List, [], ◌∷◌, ◌++◌, length, length-append, take, get_or, arith, refl, ap, sym, subst, ◌∙◌, ◌⊎◌, inl, inr, All, Bool, true, false, not}
+use Rattle.std.proofs.Common.{◌≡◌, ℕ, suc, ◌+◌, ◌*◌, ◌<◌, ◌≤◌, List, [], ◌∷◌, length, length-append, get_or, arith, refl, ap, sym, subst, ◌∙◌, Bool, true, false, not}
 use Rattle.std.specs.Prelude.{Contains, slice_index_or, nat_lt}
 use Rattle.std.specs.List.{AllByRecursion, list_all}
 use Rattle.std.proofs.lemmas.Bool.{and_parts, eqb-true, ltb-false}
@@ -12,17 +12,15 @@ use Rattle.sf_model.specs.Legal.{block_count, shapes_of, IsLegal}
 use Rattle.sf_model.specs.Limits.{IsSide}
 use Rattle.sf_model.specs.Tree.{Tree, Leaf, Beside, Above, leaves, leaf_count, HasSides}
 use Rattle.sf_model.proofs.Counting.{length-leaves}
-use Rattle.sf_model.proofs.Each.{each-weaker, each-left, each-right}
+use Rattle.sf_model.proofs.Each.{each-left, each-right}
 use Rattle.sf_polish.specs.declared.expr.Expr.{Expr}
-use Rattle.sf_polish.specs.Normal.{IsNormal}
 use Rattle.sf_polish.specs.Postfix.{postfix, IsSkewed, Spells, shape_at}
 use Rattle.sf_polish.proofs.Spelling.{spells-one}
 use Rattle.sf_polish.proofs.Stack.{length-postfix}
 use Rattle.sf_node.specs.Parts.{Parts}
 use Rattle.sf_node.specs.Subproblem.{Belongs, is_complete, is_wide, span_of}
 use Rattle.sf_node.specs.Children.{IsSubproblem}
-use Rattle.sf_node.proofs.Halves.{in_span, from_in_span, InSpan}
-use Rattle.sf_node.proofs.Normalised.{complete-normal}
+use Rattle.sf_node.proofs.Halves.{in_span, from_in_span}
 use Rattle.sf_node.proofs.Reached.{subproblem-spans}
 use Rattle.sf_node.proofs.Spanned.{are-spans}
 use Rattle.sf_standard.specs.Items.{span_shapes}

@@ -1,9 +1,11 @@
 -- Children by extending: each is one token more.
-use Rattle.std.proofs.Common.{◌≡◌, ℕ, ◌+◌, ◌<◌, List, [], ◌∷◌, ◌++◌, map, take, get_or, length, arith, refl, ap, sym, subst, ◌∙◌, Bool, true, false}
-use Rattle.std.specs.Prelude.{Contains, IsFalse}
+use Rattle.std.proofs.Common.{◌≡◌, ℕ, ◌+◌, ◌<◌, List, [], ◌∷◌, ◌++◌, map, take, get_or, length, ap, sym, subst, ◌∙◌, true, false}
+use Rattle.std.specs.Prelude.{Contains, Option, Some, None, IfSome}
+use Rattle.std.specs.Option.{option_to_list}
+use Rattle.std.specs.List.{AllByRecursion}
 use Rattle.std.proofs.lemmas.Bool.{true≢false}
 use Rattle.std.proofs.lemmas.List.{map-append, take_more}
-use Rattle.std.proofs.lemmas.List.Elements.{Contains-get_or, All-from_recursion}
+use Rattle.std.proofs.lemmas.List.Elements.{Contains-get_or, Contains-append_right}
 use Rattle.sf_model.specs.declared.design.Design.{Design}
 use Rattle.sf_polish.specs.declared.expr.Token.{Token}
 use Rattle.sf_polish.specs.declared.expr.Token.TheVariants as token
@@ -11,8 +13,9 @@ use Rattle.sf_polish.specs.Normal.{is_operand, last_or}
 use Rattle.sf_polish.proofs.Last.{last_or-push}
 use Rattle.sf_node.specs.Parts.{Parts}
 use Rattle.sf_node.specs.Subproblem.{is_complete}
-use Rattle.sf_node.specs.Children.{IsSubproblem, CanStep, after, step_of, next_tokens, extended}
-use Rattle.sf_node.proofs.Reached.{next-can, extended-subproblems}
+use Rattle.sf_node.specs.Children.{IsSubproblem, CanStep, CanSplit, after, step_of, next_tokens, extended, split}
+use Rattle.sf_node.proofs.Reached.{next-can, extended-subproblems, split-subproblems}
+use Rattle.sf_curves.proofs.Members.{Contains-head}
 use Rattle.sf_standard.specs.Standard.{standard}
 use Rattle.sf_standard.proofs.Listed.{Contains-from_map, each-contains}
 use Rattle.sf_standard.proofs.Unmoved.{block_keeps}
@@ -45,3 +48,16 @@ pub values_more : {X : Type 0} (f : X → ℕ) (xs : List X) (values new : List 
 values_more f xs values new i x v lt is before at e =
     e ∙ ap (λ w. w ++ v ∷ []) before ∙ ap (λ n. map f (take i xs) ++ n ∷ []) at
     ∙ sym (ap (map f) (take_more xs i x lt ∙ ap (λ y. take i xs ++ y ∷ []) (sym is)) ∙ map-append f (take i xs) (x ∷ []))
+
+-- the last child, where there is one
+pub popped_sub : (design : Design) (parent : Parts) (others : List Parts) (child : Option Parts) → IsSubproblem design parent → extended parent ≡ others ++ option_to_list child → IfSome child (IsSubproblem design)
+popped_sub design parent others None sub e = tt
+popped_sub design parent others (Some child) sub e =
+    child_sub design parent child sub (subst (λ v. Contains v child) (sym e) (Contains-append_right others (child ∷ []) child (Contains-head child [])))
+
+-- both halves of a span
+pub halves_sub : (design : Design) (parent : Parts) (b : ℕ) (l r : Parts) → IsSubproblem design parent → CanSplit parent b → l ∷ r ∷ [] ≡ split parent b → IsSubproblem design l × IsSubproblem design r
+halves_sub design parent b l r sub can e =
+    let all = split-subproblems design parent b sub can in
+    let k = subst (AllByRecursion (IsSubproblem design)) (sym e) all in
+    (k.0, k.1.0)

@@ -1,15 +1,14 @@
 -- The stack's curves are those of the items that the passed tokens leave.
-use Rattle.std.proofs.Common.{◌≡◌, ℕ, suc, ◌+◌, ◌-◌, ◌*◌, ◌<◌, ◌≤◌, List, [], ◌∷◌, ◌++◌, length, reverse, map, take, drop, get_or, refl, sym, ap, ◌∙◌, subst, arith, length-append, ◌⊎◌, inl, inr, All, AllPairs}
-use Rattle.std.specs.Prelude.{Contains, slice_index_or, slice_range, ◌&&◌, IsFalse, not, nat_lt}
+use Rattle.std.proofs.Common.{◌≡◌, ℕ, ◌+◌, ◌-◌, ◌<◌, ◌≤◌, List, [], ◌∷◌, ◌++◌, length, reverse, map, take, drop, get_or, refl, sym, ap, ◌∙◌, subst, arith, All, AllPairs}
+use Rattle.std.specs.Prelude.{Contains, IsFalse}
 use Rattle.std.specs.List.{AllZip, AllByRecursion}
-use Rattle.std.proofs.lemmas.List.{reverse-append, length_push, drop_more, take_more, take_all, drop_all, length-reverse, nil_from_length}
+use Rattle.std.proofs.lemmas.List.{reverse-append, length_push, drop_more, take_more}
 use Rattle.std.proofs.lemmas.List.Elements.{All-contains, Contains-get_or}
 use Rattle.sf_model.specs.declared.design.Design.{Design}
-use Rattle.sf_model.specs.declared.parts.Outline.{Outline}
 use Rattle.sf_model.specs.declared.parts.Shape.{Shape}
-use Rattle.sf_model.specs.Legal.{block_count, shapes_of}
+use Rattle.sf_model.specs.Legal.{shapes_of}
 use Rattle.sf_model.specs.Limits.{IsBefore}
-use Rattle.sf_model.specs.Tree.{Tree, Leaf, Beside, Above, width, height}
+use Rattle.sf_model.specs.Tree.{Tree, Leaf, Beside, Above}
 use Rattle.sf_polish.specs.declared.expr.Token.{Token}
 use Rattle.sf_polish.specs.declared.expr.Token.TheVariants as token
 use Rattle.sf_polish.specs.Normal.{is_outside}
@@ -19,11 +18,11 @@ use Rattle.sf_node.specs.Parts.{Parts}
 use Rattle.sf_node.specs.Subproblem.{span_of}
 use Rattle.sf_node.specs.Children.{IsSubproblem}
 use Rattle.sf_node.proofs.Normalised.{subproblem-begun}
-use Rattle.sf_node.proofs.Spanned.{AreSpans, are-spans}
-use Rattle.sf_curves.specs.Points.{IsWithin, IsNoLarger, IsCovered, IsCurveOf, IsCombination, CoversJoins, beside_size, above_size}
+use Rattle.sf_node.proofs.Spanned.{are-spans}
+use Rattle.sf_curves.specs.Points.{IsWithin, IsNoLarger, IsCovered, IsCurveOf, IsCombination, beside_size, above_size}
 use Rattle.sf_standard.specs.Items as item
 use Rattle.sf_standard.specs.Items.{Item, read, items_of, span_shapes, plans, pairs, fits, fitting}
-use Rattle.sf_bounds.specs.Curves.{HasOperands, IsJoined, IsStep, size_of, IsItemCurve, AreItemCurves}
+use Rattle.sf_bounds.specs.Curves.{HasOperands, IsJoined, IsStep, size_of, IsItemCurve}
 use Rattle.sf_standard.proofs.Appended.{read-append, read-block}
 use Rattle.sf_standard.proofs.Listed.{Contains-map, Contains-from_map, Contains-filter, Contains-from_filter, Contains-pairs, Contains-from_pairs}
 use Rattle.sf_standard.proofs.Cutting.{fits-true}

@@ -1,14 +1,14 @@
 -- What a tree of curves says of the plans that are chosen from it.
-use Rattle.std.proofs.Common.{◌≡◌, ℕ, ◌+◌, ◌*◌, ◌<◌, ◌≤◌, ◌^◌, max, List, [], ◌∷◌, ◌++◌, map, length, reverse, get_or, arith, refl, ap, sym, subst, ◌∙◌, ◌⊎◌, inl, inr, Bool, true, All}
+use Rattle.std.proofs.Common.{◌≡◌, ℕ, ◌*◌, ◌≤◌, List, [], ◌∷◌, map, reverse, arith, refl, ap, sym, subst, ◌∙◌, true, All}
 use Rattle.std.specs.Prelude.{Contains, Any}
-use Rattle.std.specs.List.{AllZip, AllByRecursion}
+use Rattle.std.specs.List.{AllZip}
 use Rattle.std.proofs.Math.Nat.{mul-le-mul, mul-le-mul_left}
 use Rattle.std.proofs.lemmas.List.Elements.{All-contains}
 use Rattle.sf_model.specs.declared.design.Design.{Design}
 use Rattle.sf_model.specs.declared.parts.Shape.{Shape}
 use Rattle.sf_model.specs.declared.TheConstants.{MAX}
 use Rattle.sf_model.specs.Cost.{cost}
-use Rattle.sf_model.specs.Legal.{Fits, block_count}
+use Rattle.sf_model.specs.Legal.{Fits}
 use Rattle.sf_model.specs.Tree as model
 use Rattle.sf_model.specs.Tree.{Tree, width, height, spots_of}
 use Rattle.sf_model.specs.Wire.{wire}
@@ -17,7 +17,7 @@ use Rattle.sf_node.specs.Parts.{Parts}
 use Rattle.sf_node.specs.Subproblem.{Belongs, is_complete, is_solved}
 use Rattle.sf_node.specs.Children.{IsSubproblem}
 use Rattle.sf_node.proofs.Reached.{subproblem-spans}
-use Rattle.sf_curves.specs.Points.{IsWithin, IsNoLarger, IsCurveOf, IsLeastArea, IsNarrowest, IsLowest, IsJoinOf, area_of, beside_size, above_size}
+use Rattle.sf_curves.specs.Points.{IsWithin, IsNoLarger, IsLeastArea, IsNarrowest, IsLowest, IsJoinOf, area_of, beside_size, above_size}
 use Rattle.sf_standard.specs.Items as item
 use Rattle.sf_standard.specs.Items.{Item, items_of, span_shapes, plans, fits, fitting, item_of}
 use Rattle.sf_standard.specs.Standard.{standard}

@@ -1,7 +1,6 @@
 -- What the pins of a net share in each item tells the hull part.
-use Rattle.std.proofs.Common.{◌≡◌, ◌≢◌, ℕ, suc, ◌+◌, ◌*◌, ◌<◌, ◌≤◌, max, List, [], ◌∷◌, ◌++◌, length, reverse, map, get_or, arith, refl, ap, sym, subst, ◌∙◌, ◌⊎◌, inl, inr, All, Bool, true, false, ◌==◌, cond}
+use Rattle.std.proofs.Common.{◌≡◌, ◌≢◌, ℕ, ◌+◌, ◌*◌, ◌<◌, ◌≤◌, max, List, [], ◌∷◌, ◌++◌, length, reverse, map, get_or, arith, refl, ap, sym, subst, ◌∙◌, ◌⊎◌, inl, inr, Bool, true, false, ◌==◌, cond}
 use Rattle.std.specs.Prelude.{Contains, fold, filter, nat_lt, if◌then◌else◌, pos, ◌-ℤ◌}
-use Prim.Native.Nat.{zero}
 use Rattle.std.specs.List.{AllByRecursion}
 use Rattle.std.proofs.lemmas.Bool.{cases_eq, cases_lt, ne_eqb, eq-eqb, eqb-true, lt-ltb, le-ltb, cond-true, cond-false, cond_both, true≢false}
 use Rattle.std.proofs.lemmas.List.{reverse-append, length-reverse, get_or_default}
@@ -28,9 +27,9 @@ use Rattle.sf_standard.proofs.Exact.{whole-item}
 use Rattle.sf_standard.proofs.Listed.{Contains-map, Contains-from_map, Contains-filter, Contains-from_filter}
 use Rattle.sf_bounds.specs.declared.layout.Layout.{Layout}
 use Rattle.sf_bounds.specs.declared.reach.Reach.{Reach}
-use Rattle.sf_bounds.specs.Layout.{extent_in, seat_at, no_seat}
+use Rattle.sf_bounds.specs.Layout.{extent_in}
 use Rattle.sf_bounds.specs.Near.{IsNear, IsNearby, shared, met, anywhere, reach_gap}
-use Rattle.sf_bounds.specs.Pins.{IsNet, IsLayout, IsReady, extent_from, seat_from, pin_item, pin_reach, gathers, shared_gap}
+use Rattle.sf_bounds.specs.Pins.{IsNet, IsLayout, extent_from, seat_from, pin_item, pin_reach, gathers, shared_gap}
 use Rattle.sf_bounds.proofs.Meeting.{gap-shared, gap-same}
 use Rattle.sf_bounds.proofs.Reading.{near_reach}
 use Rattle.sf_bounds.proofs.Readied.{held-count, seat-block, seat-found, seat-stands, readied}

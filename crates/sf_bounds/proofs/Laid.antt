@@ -1,17 +1,15 @@
 -- What the code keeps of the stack is that of the items which the passed tokens leave.
-use Rattle.std.proofs.Common.{◌≡◌, ℕ, suc, ◌+◌, ◌-◌, ◌*◌, ◌<◌, ◌≤◌, List, [], ◌∷◌, ◌++◌, length, reverse, map, take, drop, get_or, refl, sym, ap, ◌∙◌, subst, arith, length-append, append_assoc, append-nil, ◌⊎◌, inl, inr, All, ◌==◌}
-use Rattle.std.specs.Prelude.{Contains, count_by, sum_by, IsFalse, cond}
+use Rattle.std.proofs.Common.{◌≡◌, ℕ, suc, ◌+◌, ◌-◌, ◌<◌, ◌≤◌, List, [], ◌∷◌, ◌++◌, length, reverse, map, take, drop, get_or, refl, sym, ap, ◌∙◌, subst, arith, length-append, append_assoc, append-nil, ◌==◌}
+use Rattle.std.specs.Prelude.{count_by, cond}
 use Rattle.std.specs.List.{AllByRecursion}
 use Rattle.std.proofs.Math.Seq.{take-append_seam, drop-append_seam}
-use Rattle.std.proofs.lemmas.List.{reverse-append, length_push, drop_more, take_more, take_all, length-map, map-append, length-reverse, take-append-drop, append_cancel_right}
-use Rattle.std.proofs.lemmas.List.Elements.{All-from_recursion, recursion_from_All}
+use Rattle.std.proofs.lemmas.List.{reverse-append, length_push, drop_more, take_more, take_all, length-map, map-append, take-append-drop}
+use Rattle.std.proofs.lemmas.List.Elements.{All-from_recursion}
 use Rattle.sf_model.specs.declared.design.Design.{Design}
 use Rattle.sf_model.specs.Legal.{block_count}
 use Rattle.sf_model.proofs.Counting.{length-at_most_once}
-use Rattle.sf_model.proofs.Each.{each-weaker}
 use Rattle.sf_polish.specs.declared.expr.Token.{Token}
 use Rattle.sf_polish.specs.declared.expr.Token.TheVariants as token
-use Rattle.sf_polish.specs.Normal.{is_outside, is_block}
 use Rattle.sf_polish.proofs.Normality.{numbers, count-numbers, numbers-below}
 use Rattle.sf_node.specs.Parts.{Parts}
 use Rattle.sf_node.specs.Children.{IsSubproblem}

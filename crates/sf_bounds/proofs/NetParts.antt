@@ -1,6 +1,6 @@
 -- The parts of a net make its bound.
-use Rattle.std.proofs.Common.{◌≡◌, ℕ, ◌+◌, ◌*◌, ◌<◌, ◌≤◌, max, List, [], ◌∷◌, map, length, get_or, arith, refl, ap, sym, subst, ◌∙◌, All}
-use Rattle.std.specs.Prelude.{fold, nat_lt, pos, ◌-ℤ◌, if◌then◌else◌}
+use Rattle.std.proofs.Common.{◌≡◌, ℕ, ◌+◌, ◌*◌, ◌<◌, ◌≤◌, max, List, [], ◌∷◌, map, length, get_or, refl, ap, sym, subst, ◌∙◌}
+use Rattle.std.specs.Prelude.{fold, nat_lt, pos, ◌-ℤ◌}
 use Rattle.std.specs.List.{AllByRecursion}
 use Rattle.std.proofs.lemmas.Bool.{cond-false, le-ltb}
 use Rattle.std.proofs.lemmas.List.Elements.{recursion_from_All}

@@ -1,5 +1,5 @@
 -- The greatest sum of two numbers, number by number.
-use Rattle.std.proofs.Common.{◌≡◌, ℕ, suc, ◌+◌, ◌<◌, ◌≤◌, max, min, List, [], ◌∷◌, ◌++◌, map, length, take, drop, append_assoc, append-nil, arith, refl, ap, sym, subst, ◌∙◌, Bool, true, false}
+use Rattle.std.proofs.Common.{◌≡◌, ℕ, ◌+◌, ◌<◌, ◌≤◌, max, List, [], ◌∷◌, ◌++◌, map, length, take, drop, append_assoc, append-nil, arith, refl, ap, sym, subst, ◌∙◌, Bool, true, false}
 use Rattle.std.specs.Prelude.{fold, cond}
 use Rattle.std.proofs.lemmas.Bool.{cond_both}
 use Rattle.std.specs.List.{AllByRecursion}

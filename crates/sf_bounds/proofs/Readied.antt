@@ -1,9 +1,9 @@
 -- A layout of a subproblem is one that pins can be read by, and its seats are the places of the blocks in the items.
-use Rattle.std.proofs.Common.{◌≡◌, ℕ, suc, ◌+◌, ◌-◌, ◌<◌, ◌≤◌, List, [], ◌∷◌, ◌++◌, length, reverse, map, get_or, arith, refl, ap, sym, subst, ◌∙◌, ◌⊎◌, inl, inr, All, Bool, true, false, ◌==◌, cond}
+use Rattle.std.proofs.Common.{◌≡◌, ℕ, suc, ◌+◌, ◌<◌, ◌≤◌, List, [], ◌∷◌, length, reverse, map, get_or, arith, refl, ap, sym, subst, ◌∙◌, ◌⊎◌, inl, inr, All, ◌==◌}
 use Rattle.std.specs.Prelude.{Contains, count_by, if◌then◌else◌}
 use Prim.Native.Nat.{zero}
-use Rattle.std.proofs.lemmas.Bool.{cases_eq, ne_eqb, eq-eqb, eqb-true, cond-true, cond-false, cond_both}
-use Rattle.std.proofs.lemmas.List.{length-map, length-reverse, get_or_default}
+use Rattle.std.proofs.lemmas.Bool.{cases_eq, ne_eqb, eq-eqb, cond-true, cond-false, cond_both}
+use Rattle.std.proofs.lemmas.List.{length-map}
 use Rattle.std.proofs.lemmas.List.Elements.{Contains-append_cases, Contains-append_left, Contains-append_right, All-contains, Contains-get_or}
 use Rattle.sf_model.specs.declared.design.Design.{Design}
 use Rattle.sf_model.specs.Legal.{block_count}
@@ -14,10 +14,10 @@ use Rattle.sf_standard.specs.declared.hull.Extent.{Extent}
 use Rattle.sf_standard.specs.declared.hull.Offset.{Offset}
 use Rattle.sf_standard.specs.Items.{Item, items_of}
 use Rattle.sf_standard.specs.Hull.{offsets}
-use Rattle.sf_standard.proofs.Listed.{Contains-map, Contains-from_map, count-cons, count-head, count-some}
+use Rattle.sf_standard.proofs.Listed.{Contains-map, Contains-from_map, count-cons, count-head}
 use Rattle.sf_bounds.specs.declared.layout.Layout.{Layout}
 use Rattle.sf_bounds.specs.declared.layout.Seat.{Seat}
-use Rattle.sf_bounds.specs.Layout.{extent_in, Tells, IsModestOffset, AreModest, AreSeated, held_of, seat_at, seats_from, last_seat, no_seat}
+use Rattle.sf_bounds.specs.Layout.{extent_in, IsModestOffset, AreModest, held_of, seat_at, seats_from, last_seat, no_seat}
 use Rattle.sf_bounds.specs.Pins.{IsLayout, IsReady, seat_from}
 use Rattle.sf_bounds.proofs.Small.{span-small, are-modest}
 

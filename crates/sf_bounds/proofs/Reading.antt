@@ -1,10 +1,10 @@
 -- What the loops over the pins of a net keep.
-use Rattle.std.proofs.Common.{◌≡◌, ◌≢◌, ℕ, suc, ◌+◌, ◌*◌, ◌<◌, ◌≤◌, max, min, List, [], ◌∷◌, ◌++◌, length, take, get_or, arith, refl, ap, sym, subst, ◌∙◌, ◌⊎◌, inl, inr, All, Bool, true, false, ◌==◌, length-set, get_or-set_same, get_or-set_other}
-use Rattle.std.specs.Prelude.{fold, nat_lt, if◌then◌else◌, ℤ, pos, neg_ℤ, ◌≤ℤ◌, ◌-ℤ◌, ◌*ℤ◌}
+use Rattle.std.proofs.Common.{◌≡◌, ℕ, ◌+◌, ◌*◌, ◌<◌, ◌≤◌, max, List, [], ◌∷◌, length, take, get_or, arith, refl, ap, ◌∙◌, All, ◌==◌}
+use Rattle.std.specs.Prelude.{fold, nat_lt, if◌then◌else◌, pos}
 use Rattle.std.specs.List.{AllByRecursion}
 use Rattle.std.proofs.lemmas.Int.{ints, clamps}
-use Rattle.std.proofs.lemmas.Bool.{cases_eq, cases_lt, ne_eqb, eq-eqb, cond-true, cond-false, cond_both}
-use Rattle.std.proofs.lemmas.List.{take_more, take_all, get_or_past, get_or_default}
+use Rattle.std.proofs.lemmas.Bool.{cond_both}
+use Rattle.std.proofs.lemmas.List.{take_more, take_all}
 use Rattle.std.proofs.lemmas.List.Sums.{fold-append}
 use Rattle.std.proofs.lemmas.List.Elements.{recursion_from_All}
 use Rattle.sf_model.specs.declared.design.Design.{Design}
@@ -18,7 +18,7 @@ use Rattle.sf_standard.specs.declared.hull.Offset.{Offset}
 use Rattle.sf_bounds.specs.declared.layout.Layout.{Layout}
 use Rattle.sf_bounds.specs.declared.reach.Reach.{Reach}
 use Rattle.sf_bounds.specs.Layout.{IsModestOffset, no_seat}
-use Rattle.sf_bounds.specs.Near.{IsNumber, IsNear, IsNearby, shared, met, anywhere, reach_gap}
+use Rattle.sf_bounds.specs.Near.{IsNear, IsNearby, shared, met, anywhere, reach_gap}
 use Rattle.sf_bounds.specs.Pins.{IsNet, InTable, IsReady, extent_from, seat_from, pin_range, pin_reach, pin_item, gathers, item_gap, shared_gap}
 
 pub fold_more : {A B : Type 0} (f : B → A → B) (b : B) (xs : List A) (k : ℕ) (d : A) → k < length xs → fold f b (take (k + 1) xs) ≡ f (fold f b (take k xs)) (get_or xs k d)

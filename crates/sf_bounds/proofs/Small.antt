@@ -1,5 +1,5 @@
 -- No extent, and no place of a block in an item, is too great.
-use Rattle.std.proofs.Common.{◌≡◌, ℕ, suc, ◌+◌, ◌*◌, ◌<◌, ◌≤◌, min, max, List, [], ◌∷◌, ◌++◌, length, reverse, map, ap, arith, length-append, ◌⊎◌, inl, inr, refl, sym, ◌∙◌, subst}
+use Rattle.std.proofs.Common.{◌≡◌, ℕ, suc, ◌+◌, ◌*◌, ◌≤◌, min, max, List, [], ◌∷◌, ◌++◌, length, map, ap, arith, length-append, inl, inr}
 use Rattle.std.specs.Prelude.{Contains, fold}
 use Rattle.std.specs.List.{AllByRecursion}
 use Rattle.std.proofs.lemmas.Bool.{cases_lt}
@@ -19,8 +19,6 @@ use Rattle.sf_standard.specs.Items as item
 use Rattle.sf_standard.specs.Items.{Item, span_shapes}
 use Rattle.sf_standard.specs.Hull.{extent_of, item_extent, offsets, moved_right, moved_up}
 use Rattle.sf_standard.proofs.Listed.{each-from}
-use Rattle.sf_bounds.specs.declared.layout.Held.{Held}
-use Rattle.sf_bounds.specs.declared.layout.Seat.{Seat}
 use Rattle.sf_bounds.specs.Layout.{extent_in, held_of, seat_at, seats_from, IsModestExtent, IsModestOffset, AreModest}
 
 pub record IsSmallExtent (m : ℕ) (e : Extent) : Type 0 where

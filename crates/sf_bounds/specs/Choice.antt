@@ -1,5 +1,5 @@
 -- Trees of curves, and the plans that are chosen from them.
-use Rattle.std.specs.Prelude.{◌≡◌, ℕ, List, All, Contains, ⊤}
+use Rattle.std.specs.Prelude.{◌≡◌, List, All, Contains, ⊤}
 use Rattle.sf_model.specs.declared.design.Design.{Design}
 use Rattle.sf_model.specs.declared.parts.Shape.{Shape}
 use Rattle.sf_model.specs.Tree as model

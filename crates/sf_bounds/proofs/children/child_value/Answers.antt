@@ -1,7 +1,6 @@
 use Rattle.std.proofs.Common.{◌≡◌, ap, sym, ◌∙◌, true, false}
 use Rattle.sf_polish.specs.Normal.{is_operand, last_or}
 use Rattle.sf_polish.specs.declared.expr.Token.TheVariants.{Beside}
-use Rattle.sf_node.specs.Subproblem.{is_complete}
 use Rattle.sf_bounds.proofs.Born.{child_sub, child_keeps}
 use Rattle.sf_bounds.proofs.children.child_value.Goals as goal
 

@@ -1,4 +1,4 @@
-use Rattle.std.proofs.Common.{◌≡◌, sym, ap, subst, ◌∙◌, length, arith, true}
+use Rattle.std.proofs.Common.{◌≡◌, sym, ap, subst, arith, true}
 use Rattle.sf_model.specs.Cost.{cost}
 use Rattle.sf_model.specs.Legal.{block_count, Fits}
 use Rattle.sf_model.specs.Tree.{tree_of}

@@ -1,6 +1,6 @@
 use Rattle.std.proofs.Common.{ap, sym, subst, ◌∙◌, get_or}
 use Rattle.std.specs.Prelude.{fold}
-use Rattle.sf_bounds.specs.Near.{IsNearby, anywhere}
+use Rattle.sf_bounds.specs.Near.{IsNearby}
 use Rattle.sf_bounds.specs.Pins.{gathers, pin_item}
 use Rattle.sf_bounds.proofs.Reading.{near_gathered, gaps_same}
 use Rattle.sf_bounds.proofs.pins.hull_part.Goals as goal

@@ -1,4 +1,4 @@
-use Rattle.std.proofs.Common.{arith, ap, sym, ◌∙◌, length, max}
+use Rattle.std.proofs.Common.{arith, ap, ◌∙◌, length, max}
 use Rattle.std.specs.Prelude.{fold}
 use Rattle.sf_standard.specs.Hull.{range_part, pair_part}
 use Rattle.sf_bounds.specs.Pins.{extent_from, shared_gap}

@@ -1,4 +1,4 @@
-use Rattle.std.proofs.Common.{arith, ap, sym, ◌∙◌, length, get_or}
+use Rattle.std.proofs.Common.{arith, ap, ◌∙◌, length, get_or}
 use Rattle.sf_bounds.proofs.NetParts.{net_inside}
 use Rattle.sf_bounds.proofs.wires.sum_nets.Goals as goal
 

@@ -1,4 +1,4 @@
-use Rattle.std.proofs.Common.{arith, ap, sym, ◌∙◌, get_or, length}
+use Rattle.std.proofs.Common.{arith}
 use Rattle.sf_bounds.proofs.Born.{child_sub, child_at}
 use Rattle.sf_bounds.proofs.bounds.Bounds.children_bounds.Goals as goal
 
