@@ -12,8 +12,7 @@ use Rattle.sf_model.proofs.Each.{each-left, each-right}
 use Rattle.sf_polish.specs.declared.expr.Token.{Token}
 use Rattle.sf_polish.specs.declared.expr.Token.TheVariants as token
 use Rattle.sf_polish.specs.Postfix.{postfix}
-use Rattle.sf_standard.specs.Items as item
-use Rattle.sf_standard.specs.Items.{Item, item_of, read}
+use Rattle.sf_standard.specs.Items.{item_of, read}
 use Rattle.sf_standard.specs.Standard.{area}
 
 -- the plans after the tokens, the last first, where each block has its shape

@@ -1,17 +1,16 @@
 -- A child by a block that leaves the subproblem incomplete has the bound of its parent.
-use Rattle.std.proofs.Common.{◌≡◌, ◌≢◌, ℕ, suc, ◌+◌, ◌*◌, ◌<◌, ◌≤◌, max, List, [], ◌∷◌, ◌++◌, length, map, append_assoc, append-nil, arith, refl, ap, sym, subst, ◌∙◌, ◌⊎◌, inl, inr, Bool, true, false, cond, ◌==◌}
+use Rattle.std.proofs.Common.{◌≡◌, ◌≢◌, ℕ, suc, ◌+◌, ◌*◌, ◌<◌, ◌≤◌, max, List, [], ◌∷◌, ◌++◌, length, map, append_assoc, arith, refl, ap, sym, ◌∙◌, inl, inr, Bool, true, false, cond, ◌==◌}
 use Prim.Native.Nat.{zero}
-use Rattle.std.specs.Prelude.{Contains, sum, sum_by, filter, count_by, nat_lt, ◌||◌, ◌&&◌, if◌then◌else◌, not, ℤ, pos, negsuc, ◌-ℤ◌, ◌≤ℤ◌, IsTrue, IsFalse}
+use Rattle.std.specs.Prelude.{sum, sum_by, filter, count_by, nat_lt, ◌||◌, ◌&&◌, if◌then◌else◌, not, ℤ, pos, negsuc, ◌-ℤ◌, ◌≤ℤ◌}
 use Rattle.std.specs.List.{list_all, list_any, range_with_len}
 use Rattle.std.proofs.lemmas.Int.{ints}
-use Rattle.std.proofs.lemmas.Bool.{cases_eq, cond-true, cond-false, cond_both, eqb-true, ne_eqb, eq-eqb, true≢false}
+use Rattle.std.proofs.lemmas.Bool.{cases_eq, cond-true, cond-false, eqb-true, ne_eqb, eq-eqb}
 use Rattle.std.proofs.lemmas.List.{map-append}
 use Rattle.std.proofs.lemmas.List.Sums.{sum_by-cons, sum_by-append, sum-map}
 use Rattle.sf_model.specs.declared.design.Design.{Design}
 use Rattle.sf_model.specs.declared.parts.Net.{Net}
 use Rattle.sf_model.specs.declared.parts.Shape.{Shape}
 use Rattle.sf_model.specs.declared.TheConstants.{MAX}
-use Rattle.sf_model.specs.Legal.{block_count}
 use Rattle.sf_model.specs.Tree.{Tree, width, height}
 use Rattle.sf_polish.specs.declared.expr.Token.{Token}
 use Rattle.sf_polish.specs.declared.expr.Token.TheVariants as token
@@ -23,11 +22,9 @@ use Rattle.sf_node.specs.Children.{IsSubproblem, CanStep, after, is_unused}
 use Rattle.sf_node.proofs.Normalised.{complete-normal}
 use Rattle.sf_node.proofs.Reached.{subproblem-spans}
 use Rattle.sf_curves.proofs.Members.{Contains-head}
-use Rattle.sf_standard.specs.declared.hull.Extent.{Extent}
-use Rattle.sf_standard.specs.declared.hull.Interval.{Interval}
 use Rattle.sf_standard.specs.Items as item
 use Rattle.sf_standard.specs.Items.{Item, read, items_of, unused, span_shapes, fitting}
-use Rattle.sf_standard.specs.Hull.{extent_of, to_nat, gap, range_part, pair_part, offset_x, offset_y, contains_pin, of_net, offsets, hull_of, hull_part}
+use Rattle.sf_standard.specs.Hull.{extent_of, to_nat, gap, range_part, pair_part, offset_x, offset_y, contains_pin, hull_of, hull_part}
 use Rattle.sf_standard.specs.Standard.{least_of, area, least_cost, has_none, greatest, needed_area, net_part, bounded, standard}
 use Rattle.sf_standard.proofs.Gaps.{least-member, most-member}
 use Rattle.sf_standard.proofs.Appended.{read-append, read-block}
