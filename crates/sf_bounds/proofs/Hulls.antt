@@ -1,7 +1,6 @@
 -- What the pins of a net share in each item tells the hull part.
-use Rattle.std.proofs.Common.{◌≡◌, ◌≢◌, ℕ, suc, ◌+◌, ◌*◌, ◌<◌, ◌≤◌, max, List, [], ◌∷◌, ◌++◌, length, reverse, map, get_or, arith, refl, ap, sym, subst, ◌∙◌, ◌⊎◌, inl, inr, All, Bool, true, false, ◌==◌, cond}
+use Rattle.std.proofs.Common.{◌≡◌, ◌≢◌, ℕ, ◌+◌, ◌*◌, ◌<◌, ◌≤◌, max, List, [], ◌∷◌, ◌++◌, length, reverse, map, get_or, arith, refl, ap, sym, subst, ◌∙◌, ◌⊎◌, inl, inr, Bool, true, false, ◌==◌, cond}
 use Rattle.std.specs.Prelude.{Contains, fold, filter, nat_lt, if◌then◌else◌, pos, ◌-ℤ◌}
-use Prim.Native.Nat.{zero}
 use Rattle.std.specs.List.{AllByRecursion}
 use Rattle.std.proofs.lemmas.Bool.{cases_eq, cases_lt, ne_eqb, eq-eqb, eqb-true, lt-ltb, le-ltb, cond-true, cond-false, cond_both, true≢false}
 use Rattle.std.proofs.lemmas.List.{reverse-append, length-reverse, get_or_default}
@@ -28,9 +27,9 @@ use Rattle.sf_standard.proofs.Exact.{whole-item}
 use Rattle.sf_standard.proofs.Listed.{Contains-map, Contains-from_map, Contains-filter, Contains-from_filter}
 use Rattle.sf_bounds.specs.declared.layout.Layout.{Layout}
 use Rattle.sf_bounds.specs.declared.reach.Reach.{Reach}
-use Rattle.sf_bounds.specs.Layout.{extent_in, seat_at, no_seat}
+use Rattle.sf_bounds.specs.Layout.{extent_in}
 use Rattle.sf_bounds.specs.Near.{IsNear, IsNearby, shared, met, anywhere, reach_gap}
-use Rattle.sf_bounds.specs.Pins.{IsNet, IsLayout, IsReady, extent_from, seat_from, pin_item, pin_reach, gathers, shared_gap}
+use Rattle.sf_bounds.specs.Pins.{IsNet, IsLayout, extent_from, seat_from, pin_item, pin_reach, gathers, shared_gap}
 use Rattle.sf_bounds.proofs.Meeting.{gap-shared, gap-same}
 use Rattle.sf_bounds.proofs.Reading.{near_reach}
 use Rattle.sf_bounds.proofs.Readied.{held-count, seat-block, seat-found, seat-stands, readied}
@@ -161,13 +160,13 @@ module _ (design : Design) (node : Parts) (layout : Layout) (sub : IsSubproblem 
             let here : Contains os (seat b) = subst (λ n. Contains (offsets (extent_in design node) (get_or these n d)) (seat b)) e (seat-stands design node layout m b d lt_b (omega (arith, e, lt))) in
             let listed : contains_pin (seat b).block pins ≡ true = ap (λ v. contains_pin v pins) (seat-block design node layout m b lt_b) ∙ pin-found b pins cp in
             Contains-append_left (map off (of_net (record { pins = pins }) os)) (cond (is_complete node) (pads pins) []) (side (pin_reach design layout (pin.Block b)))
-              (subst (Contains (map off (of_net (record { pins = pins }) os))) (sym (block_side b lt_b)) (Contains-map off (of_net (record { pins = pins }) os) (seat b) (offset-found (record { pins = pins }) os (seat b) here listed)))
+            (subst (Contains (map off (of_net (record { pins = pins }) os))) (sym (block_side b lt_b)) (Contains-map off (of_net (record { pins = pins }) os) (seat b) (offset-found (record { pins = pins }) os (seat b) here listed)))
         by-pin (pin.Pad q) cp e =
             let os = offsets (extent_in design node) (get_or these j d) in
             Contains-append_right (map off (of_net (record { pins = pins }) os)) (cond (is_complete node) (pads pins) []) (side (pin_reach design layout (pin.Pad q)))
-              (subst (Contains (cond (is_complete node) (pads pins) [])) (sym (pad_side q))
-              (cond_both (is_complete node) (pads pins) [] (λ v. Contains v (place q)) (λ _. found q cp)
-                (λ no. absurd (omega (arith, lt, e, m.pads, ap (λ (t : Bool). cond t 0 (length layout.held.items)) no, held-count design node layout m)))))
+            (subst (Contains (cond (is_complete node) (pads pins) [])) (sym (pad_side q))
+            (cond_both (is_complete node) (pads pins) [] (λ v. Contains v (place q)) (λ _. found q cp)
+            (λ no. absurd (omega (arith, lt, e, m.pads, ap (λ (t : Bool). cond t 0 (length layout.held.items)) no, held-count design node layout m)))))
 
     from-stated : (j : ℕ) (d : Item) (z : Interval) → j < length these → Contains (stated (get_or these j d)) z → Contains (own j) z
     from-stated j d z lt c =
@@ -180,7 +179,7 @@ module _ (design : Design) (node : Parts) (layout : Layout) (sub : IsSubproblem 
               own-pin (pin.Block o.0.block) cp (ap (λ v. v.item) s.1) (block_side o.0.block s.0 ∙ ap (λ v. off v.offset) s.1 ∙ o.2))
           | inr h ↦ cond_both (is_complete node) (pads pins) [] (λ v. Contains v z → Contains (own j) z)
               (λ yes k. let q = from z k in
-                own-pin (pin.Pad q.0) q.1 (omega (arith, lt, one-item yes, m.pads, ap (λ (t : Bool). cond t 0 (length layout.held.items)) yes)) (pad_side q.0 ∙ q.2))
+              own-pin (pin.Pad q.0) q.1 (omega (arith, lt, one-item yes, m.pads, ap (λ (t : Bool). cond t 0 (length layout.held.items)) yes)) (pad_side q.0 ∙ q.2))
               (λ _ k. absurd (not_in_nil z k)) h
         ]
       where
@@ -212,15 +211,15 @@ module _ (design : Design) (node : Parts) (layout : Layout) (sub : IsSubproblem 
       let there = λ (p : Pin). pin_number p < pin_count (length design.blocks) (length design.pads) p in
       let ready = readied design node layout m in
       let near : AllByRecursion (λ p. IsNearby (pin_reach design layout p)) fs =
-        each-filter (λ p. IsNearby (pin_reach design layout p)) (λ p. pin_item layout p == j) pins (each-weaker there (λ p. IsNearby (pin_reach design layout p)) (λ p h. near_reach design layout ready p h) pins (recursion_from_All there pins net)) in
+      each-filter (λ p. IsNearby (pin_reach design layout p)) (λ p. pin_item layout p == j) pins (each-weaker there (λ p. IsNearby (pin_reach design layout p)) (λ p h. near_reach design layout ready p h) pins (recursion_from_All there pins net)) in
       let xs = map (λ p. (pin_reach design layout p).across) fs in
       let ys = map (λ p. (pin_reach design layout p).upward) fs in
       let x : to_nat (r.across.low -ℤ r.across.high) ≡ gap xs =
-        ap (λ i. to_nat (i.low -ℤ i.high)) (gather-across design layout j anywhere pins)
-        ∙ gap-shared xs (each-map IsNear (λ p. (pin_reach design layout p).across) fs (each-weaker (λ p. IsNearby (pin_reach design layout p)) (λ p. IsNear (pin_reach design layout p).across) (λ p h. h.0) fs near)) in
+      ap (λ i. to_nat (i.low -ℤ i.high)) (gather-across design layout j anywhere pins)
+      ∙ gap-shared xs (each-map IsNear (λ p. (pin_reach design layout p).across) fs (each-weaker (λ p. IsNearby (pin_reach design layout p)) (λ p. IsNear (pin_reach design layout p).across) (λ p h. h.0) fs near)) in
       let y : to_nat (r.upward.low -ℤ r.upward.high) ≡ gap ys =
-        ap (λ i. to_nat (i.low -ℤ i.high)) (gather-upward design layout j anywhere pins)
-        ∙ gap-shared ys (each-map IsNear (λ p. (pin_reach design layout p).upward) fs (each-weaker (λ p. IsNearby (pin_reach design layout p)) (λ p. IsNear (pin_reach design layout p).upward) (λ p h. h.1) fs near)) in
+      ap (λ i. to_nat (i.low -ℤ i.high)) (gather-upward design layout j anywhere pins)
+      ∙ gap-shared ys (each-map IsNear (λ p. (pin_reach design layout p).upward) fs (each-weaker (λ p. IsNearby (pin_reach design layout p)) (λ p. IsNear (pin_reach design layout p).upward) (λ p h. h.1) fs near)) in
       let px : ℕ → Interval = λ q. point (pad_at design q).x in
       let py : ℕ → Interval = λ q. point (pad_at design q).y in
       let gx = gaps-agree (λ v. v.across) (offset_x (extent_in design node)) px (pads_x design) block-across (λ q. refl) (pads-found design px (pads_x design) refl (λ b ps. refl) (λ p ps. refl) pins) (pads-from design px (pads_x design) refl (λ b ps. refl) (λ p ps. refl) pins) j d lt in
@@ -299,22 +298,22 @@ hull_is design node layout sub m pins net =
     let hull = hull_part design extent complete (items_of node) (record { pins = pins }) in
     let count = held-count design node layout m in
     let yes : (p : Pin) → pin_item layout p < length its → f p ≡ hull_of design extent complete (record { pins = pins }) (get_or its (pin_item layout p) d) = λ p lt.
-      cond-true (nat_lt (pin_item layout p) (length layout.held.items)) (reach_gap (fold (gathers design layout (pin_item layout p)) anywhere pins)) 0 (lt-ltb (pin_item layout p) (length layout.held.items) (omega (arith, lt, count)))
-      ∙ item-agrees design node layout sub m pins net (pin_item layout p) d lt in
+    cond-true (nat_lt (pin_item layout p) (length layout.held.items)) (reach_gap (fold (gathers design layout (pin_item layout p)) anywhere pins)) 0 (lt-ltb (pin_item layout p) (length layout.held.items) (omega (arith, lt, count)))
+    ∙ item-agrees design node layout sub m pins net (pin_item layout p) d lt in
     let up : fold (λ n p. max n (f p)) 0 pins ≤ hull =
-      fold-most f 0 hull pins (omega arith) (λ p c. elim (cases_lt (pin_item layout p) (length its)) [
-        | inl lt ↦ omega (arith, yes p lt, hull-each design extent complete (items_of node) (record { pins = pins }) (get_or its (pin_item layout p) d) (reverse-from (items_of node) (get_or its (pin_item layout p) d) (Contains-get_or its (pin_item layout p) d lt)))
-        | inr le ↦ (let zero_gap : f p ≡ 0 = cond-false (nat_lt (pin_item layout p) (length layout.held.items)) (reach_gap (fold (gathers design layout (pin_item layout p)) anywhere pins)) 0 (le-ltb (pin_item layout p) (length layout.held.items) (omega (arith, le, count))) in omega (arith, zero_gap))
-      ]) in
+    fold-most f 0 hull pins (omega arith) (λ p c. elim (cases_lt (pin_item layout p) (length its)) [
+      | inl lt ↦ omega (arith, yes p lt, hull-each design extent complete (items_of node) (record { pins = pins }) (get_or its (pin_item layout p) d) (reverse-from (items_of node) (get_or its (pin_item layout p) d) (Contains-get_or its (pin_item layout p) d lt)))
+      | inr le ↦ (let zero_gap : f p ≡ 0 = cond-false (nat_lt (pin_item layout p) (length layout.held.items)) (reach_gap (fold (gathers design layout (pin_item layout p)) anywhere pins)) 0 (le-ltb (pin_item layout p) (length layout.held.items) (omega (arith, le, count))) in omega (arith, zero_gap))
+    ]) in
     let down : hull ≤ fold (λ n p. max n (f p)) 0 pins =
-      hull-most design extent complete (items_of node) (record { pins = pins }) (fold (λ n p. max n (f p)) 0 pins) (λ i c.
-        let at = reverse-to (items_of node) i c in
-        let same : get_or its at.0 d ≡ i = get_or_default its at.0 d i at.1 ∙ at.2 in
-        let agree = item-agrees design node layout sub m pins net at.0 d at.1 in
-        elim (pin-in layout at.0 pins) [
-          | inl k ↦ (let lt : pin_item layout k.0 < length its = omega (arith, k.2, at.1) in
-              omega (arith, fold-each f 0 pins k.0 k.1, yes k.0 lt, ap (λ n. hull_of design extent complete (record { pins = pins }) (get_or its n d)) k.2, ap (hull_of design extent complete (record { pins = pins })) same))
-          | inr none ↦ (let empty : reach_gap (fold (gathers design layout at.0) anywhere pins) ≡ 0 = ap reach_gap (gathers-none design layout at.0 anywhere pins none) in
-              omega (arith, empty, agree, ap (hull_of design extent complete (record { pins = pins })) same))
-        ]) in
+    hull-most design extent complete (items_of node) (record { pins = pins }) (fold (λ n p. max n (f p)) 0 pins) (λ i c.
+    let at = reverse-to (items_of node) i c in
+    let same : get_or its at.0 d ≡ i = get_or_default its at.0 d i at.1 ∙ at.2 in
+    let agree = item-agrees design node layout sub m pins net at.0 d at.1 in
+    elim (pin-in layout at.0 pins) [
+      | inl k ↦ (let lt : pin_item layout k.0 < length its = omega (arith, k.2, at.1) in
+          omega (arith, fold-each f 0 pins k.0 k.1, yes k.0 lt, ap (λ n. hull_of design extent complete (record { pins = pins }) (get_or its n d)) k.2, ap (hull_of design extent complete (record { pins = pins })) same))
+      | inr none ↦ (let empty : reach_gap (fold (gathers design layout at.0) anywhere pins) ≡ 0 = ap reach_gap (gathers-none design layout at.0 anywhere pins none) in
+          omega (arith, empty, agree, ap (hull_of design extent complete (record { pins = pins })) same))
+    ]) in
     omega (arith, up, down)

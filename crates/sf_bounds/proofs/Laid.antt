@@ -1,17 +1,15 @@
 -- What the code keeps of the stack is that of the items which the passed tokens leave.
-use Rattle.std.proofs.Common.{◌≡◌, ℕ, suc, ◌+◌, ◌-◌, ◌*◌, ◌<◌, ◌≤◌, List, [], ◌∷◌, ◌++◌, length, reverse, map, take, drop, get_or, refl, sym, ap, ◌∙◌, subst, arith, length-append, append_assoc, append-nil, ◌⊎◌, inl, inr, All, ◌==◌}
-use Rattle.std.specs.Prelude.{Contains, count_by, sum_by, IsFalse, cond}
+use Rattle.std.proofs.Common.{◌≡◌, ℕ, suc, ◌+◌, ◌-◌, ◌<◌, ◌≤◌, List, [], ◌∷◌, ◌++◌, length, reverse, map, take, drop, get_or, refl, sym, ap, ◌∙◌, subst, arith, length-append, append_assoc, append-nil, ◌==◌}
+use Rattle.std.specs.Prelude.{count_by, cond}
 use Rattle.std.specs.List.{AllByRecursion}
 use Rattle.std.proofs.Math.Seq.{take-append_seam, drop-append_seam}
-use Rattle.std.proofs.lemmas.List.{reverse-append, length_push, drop_more, take_more, take_all, length-map, map-append, length-reverse, take-append-drop, append_cancel_right}
-use Rattle.std.proofs.lemmas.List.Elements.{All-from_recursion, recursion_from_All}
+use Rattle.std.proofs.lemmas.List.{reverse-append, length_push, drop_more, take_more, take_all, length-map, map-append, take-append-drop}
+use Rattle.std.proofs.lemmas.List.Elements.{All-from_recursion}
 use Rattle.sf_model.specs.declared.design.Design.{Design}
 use Rattle.sf_model.specs.Legal.{block_count}
 use Rattle.sf_model.proofs.Counting.{length-at_most_once}
-use Rattle.sf_model.proofs.Each.{each-weaker}
 use Rattle.sf_polish.specs.declared.expr.Token.{Token}
 use Rattle.sf_polish.specs.declared.expr.Token.TheVariants as token
-use Rattle.sf_polish.specs.Normal.{is_outside, is_block}
 use Rattle.sf_polish.proofs.Normality.{numbers, count-numbers, numbers-below}
 use Rattle.sf_node.specs.Parts.{Parts}
 use Rattle.sf_node.specs.Children.{IsSubproblem}
@@ -26,7 +24,8 @@ use Rattle.sf_bounds.specs.declared.layout.Held.{Held}
 use Rattle.sf_bounds.specs.declared.layout.Seat.{Seat}
 use Rattle.sf_bounds.specs.Curves.{HasOperands}
 use Rattle.sf_bounds.specs.Layout.{extent_in, beside_extent, above_extent, held_of, seat_at, seats_from, IsLaid, reseated, JoinsTop, Lays, AreModest, AreSeated}
-use Rattle.sf_bounds.proofs.Building.{Runs, runs-from, read-append, read-block}
+use Rattle.sf_standard.proofs.Appended.{read-append, read-block}
+use Rattle.sf_bounds.proofs.Building.{Runs, runs-from}
 use Rattle.sf_bounds.proofs.Small.{span-small, are-modest}
 
 abbrev pub block_of : Seat → ℕ
@@ -59,7 +58,7 @@ few-numbers design node i sub =
     let k = subproblem-begun design node sub in
     let n = block_count design in
     let most : length (numbers node.tokens) ≤ n =
-      length-at_most_once (λ (m : ℕ). m) n (numbers node.tokens) (λ b. omega (arith, count-numbers b node.tokens, k.once b)) (numbers-below n node.tokens k.below) in
+    length-at_most_once (λ (m : ℕ). m) n (numbers node.tokens) (λ b. omega (arith, count-numbers b node.tokens, k.once b)) (numbers-below n node.tokens k.below) in
     omega (arith, most, design.limits.few_blocks, ap length (ap numbers (sym (take-append-drop i node.tokens)) ∙ numbers-append (take i node.tokens) (drop i node.tokens)), length-append (numbers (take i node.tokens)) (numbers (drop i node.tokens)))
 
 pub laying-modest : (design : Design) (node : Parts) (stack : List Held) (places : List Seat) (i : ℕ) (rest : List Token) → IsSubproblem design node → IsLaying design node stack places (take i node.tokens) rest → AreModest stack places
@@ -126,10 +125,10 @@ pub record IsOver (extent : ℕ → Extent) (join : Extent → Extent → Extent
 joined-held : (extent : ℕ → Extent) (join : Extent → Extent → Extent) (move : Extent → Offset → Offset) (over : Item → Item → Item) → IsOver extent join move over → (l r : Item) (left right : Held) → left ≡ held_of extent l → right ≡ held_of extent r → (let h : Held = record { extent = join left.extent right.extent; blocks = left.blocks + right.blocks } in h) ≡ held_of extent (over l r)
 joined-held extent join move over is l r left right el er =
     let n : left.blocks + right.blocks ≡ length (offsets extent (over l r)) =
-      omega (arith, ap (λ h. h.blocks) el, ap (λ h. h.blocks) er, ap length (is.places l r), length-append (offsets extent l) (map (move (item_extent extent l)) (offsets extent r)), length-map (offsets extent r) (move (item_extent extent l))) in
+    omega (arith, ap (λ h. h.blocks) el, ap (λ h. h.blocks) er, ap length (is.places l r), length-append (offsets extent l) (map (move (item_extent extent l)) (offsets extent r)), length-map (offsets extent r) (move (item_extent extent l))) in
     ap (λ k. (let h : Held = record { extent = join left.extent right.extent; blocks = k } in h)) n
     ∙ ap (λ e. (let h : Held = record { extent = e; blocks = length (offsets extent (over l r)) } in h))
-      (ap (λ (v : Held). join v.extent right.extent) el ∙ ap (λ (v : Held). join (item_extent extent l) v.extent) er ∙ sym (is.sides l r))
+    (ap (λ (v : Held). join v.extent right.extent) el ∙ ap (λ (v : Held). join (item_extent extent l) v.extent) er ∙ sym (is.sides l r))
 
 module _ (extent : ℕ → Extent) (join : Extent → Extent → Extent) (move : Extent → Offset → Offset) (over : Item → Item → Item) (is : IsOver extent join move over) where
   pub laid-joined : (items : List Item) (old new : List Held) (old_places places : List Seat) → 2 ≤ length old → IsLaid extent items old old_places → JoinsTop join move old new old_places places → (l : Item) × (r : Item) × (rest : List Item) × (items ≡ r ∷ l ∷ rest) × IsLaid extent (over l r ∷ rest) new places
@@ -141,34 +140,37 @@ module _ (extent : ℕ → Extent) (join : Extent → Extent → Extent) (move :
       let S = seats_from extent 0 its in
       let turned : reverse (r ∷ l ∷ rest) ≡ (its ++ l ∷ []) ++ r ∷ [] = reverse-cons r (l ∷ rest) ∙ ap (λ v. v ++ r ∷ []) (reverse-cons l rest) in
       let stack : (j.below ++ j.left ∷ []) ++ j.right ∷ [] ≡ (map f its ++ f l ∷ []) ++ f r ∷ [] =
-        sym j.was ∙ m.held ∙ ap (map f) turned ∙ map-append f (its ++ l ∷ []) (r ∷ []) ∙ ap (λ v. v ++ f r ∷ []) (map-append f its (l ∷ [])) in
+      sym j.was ∙ m.held ∙ ap (map f) turned ∙ map-append f (its ++ l ∷ []) (r ∷ []) ∙ ap (λ v. v ++ f r ∷ []) (map-append f its (l ∷ [])) in
       let a = push-same (j.below ++ j.left ∷ []) (map f its ++ f l ∷ []) j.right (f r) stack in
       let b = push-same j.below (map f its) j.left (f l) a.0 in
       let n = length its in
       let front = S ++ map (seat_at (0 + n)) (offsets extent l) in
       let back = map (seat_at (0 + length (its ++ l ∷ []))) (offsets extent r) in
       let all : old_places ≡ front ++ back =
-        m.seats ∙ ap (seats_from extent 0) turned ∙ seats-push extent 0 (its ++ l ∷ []) r ∙ ap (λ v. v ++ back) (seats-push extent 0 its l) in
+      m.seats ∙ ap (seats_from extent 0) turned ∙ seats-push extent 0 (its ++ l ∷ []) r ∙ ap (λ v. v ++ back) (seats-push extent 0 its l) in
       let start : length old_places - j.right.blocks ≡ length front =
-        omega (arith, ap length all, length-append front back, length-map (offsets extent r) (seat_at (0 + length (its ++ l ∷ []))), ap (λ h. h.blocks) a.1) in
+      omega (arith, ap length all, length-append front back, length-map (offsets extent r) (seat_at (0 + length (its ++ l ∷ []))), ap (λ h. h.blocks) a.1) in
       let below : length j.below ≡ n = omega (arith, ap length b.0, length-map its f) in
       let mv = move (item_extent extent l) in
       let shifted : places ≡ front ++ map (reseated (length j.below) (move j.left.extent)) back =
-        j.seats ∙ ap (λ k. take k old_places ++ map (reseated (length j.below) (move j.left.extent)) (drop k old_places)) start
-        ∙ ap (λ v. take (length front) v ++ map (reseated (length j.below) (move j.left.extent)) (drop (length front) v)) all
-        ∙ ap (λ v. v ++ map (reseated (length j.below) (move j.left.extent)) (drop (length front) (front ++ back))) (take-append_seam front back)
-        ∙ ap (λ v. front ++ map (reseated (length j.below) (move j.left.extent)) v) (drop-append_seam front back) in
+      j.seats ∙ ap (λ k. take k old_places ++ map (reseated (length j.below) (move j.left.extent)) (drop k old_places)) start
+      ∙ ap (λ v. take (length front) v ++ map (reseated (length j.below) (move j.left.extent)) (drop (length front) v)) all
+      ∙ ap (λ v. v ++ map (reseated (length j.below) (move j.left.extent)) (drop (length front) (front ++ back))) (take-append_seam front back)
+      ∙ ap (λ v. front ++ map (reseated (length j.below) (move j.left.extent)) v) (drop-append_seam front back) in
       let zero_n : 0 + n ≡ length j.below = omega (arith, below) in
       let moved : front ++ map (reseated (length j.below) (move j.left.extent)) back ≡ S ++ map (seat_at (length j.below)) (offsets extent (over l r)) =
-        ap (λ v. front ++ map (reseated (length j.below) (move v)) back) (ap (λ h. h.extent) b.1)
-        ∙ ap (λ v. front ++ v) (reseat-map (0 + length (its ++ l ∷ [])) (length j.below) mv (offsets extent r))
-        ∙ ap (λ k. (S ++ map (seat_at k) (offsets extent l)) ++ map (seat_at (length j.below)) (map mv (offsets extent r))) zero_n
-        ∙ append_assoc S (map (seat_at (length j.below)) (offsets extent l)) (map (seat_at (length j.below)) (map mv (offsets extent r)))
-        ∙ ap (λ v. S ++ v) (sym (map-append (seat_at (length j.below)) (offsets extent l) (map mv (offsets extent r))) ∙ ap (map (seat_at (length j.below))) (sym (is.places l r))) in (
-        l, r, rest, refl,
+      ap (λ v. front ++ map (reseated (length j.below) (move v)) back) (ap (λ h. h.extent) b.1)
+      ∙ ap (λ v. front ++ v) (reseat-map (0 + length (its ++ l ∷ [])) (length j.below) mv (offsets extent r))
+      ∙ ap (λ k. (S ++ map (seat_at k) (offsets extent l)) ++ map (seat_at (length j.below)) (map mv (offsets extent r))) zero_n
+      ∙ append_assoc S (map (seat_at (length j.below)) (offsets extent l)) (map (seat_at (length j.below)) (map mv (offsets extent r)))
+      ∙ ap (λ v. S ++ v) (sym (map-append (seat_at (length j.below)) (offsets extent l) (map mv (offsets extent r))) ∙ ap (map (seat_at (length j.below))) (sym (is.places l r))) in (
+        l,
+        r,
+        rest,
+        refl,
         laid-more extent rest (over l r) new places j.below S record { held = b.0; seats = refl }
-          (j.is ∙ ap (λ h. j.below ++ h ∷ []) (joined-held extent join move over is l r j.left j.right b.1 a.1))
-          (shifted ∙ moved),
+            (j.is ∙ ap (λ h. j.below ++ h ∷ []) (joined-held extent join move over is l r j.left j.right b.1 a.1))
+            (shifted ∙ moved),
       )
 
 beside-over : (extent : ℕ → Extent) → IsOver extent beside_extent moved_right (λ l r. item.Beside l r)
@@ -212,8 +214,8 @@ lays-keeps design node old new old_places places passed token.Above rest m s =
 pub token-laid : (design : Design) (node : Parts) (old new : List Held) (old_places places : List Seat) (tokens : List Token) (i : ℕ) (d : Token) → i < length tokens → IsLaying design node old old_places (take i tokens) (drop i tokens) → Lays (extent_in design node) (get_or tokens i d) old new old_places places → IsLaying design node new places (take (i + 1) tokens) (drop (i + 1) tokens)
 token-laid design node old new old_places places tokens i d lt m s =
     subst (λ v. IsLaying design node new places v (drop (i + 1) tokens)) (sym (take_more tokens i d lt))
-      (lays-keeps design node old new old_places places (take i tokens) (get_or tokens i d) (drop (i + 1) tokens)
-        (subst (IsLaying design node old old_places (take i tokens)) (drop_more tokens i d lt) m) s)
+    (lays-keeps design node old new old_places places (take i tokens) (get_or tokens i d) (drop (i + 1) tokens)
+    (subst (IsLaying design node old old_places (take i tokens)) (drop_more tokens i d lt) m) s)
 
 pub token-operands : (design : Design) (node : Parts) (stack : List Held) (places : List Seat) (tokens : List Token) (i : ℕ) (d : Token) → i < length tokens → IsLaying design node stack places (take i tokens) (drop i tokens) → HasOperands (length design.blocks) (length stack) (get_or tokens i d)
 token-operands design node stack places tokens i d lt m =

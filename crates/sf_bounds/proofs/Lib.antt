@@ -17,3 +17,7 @@ pub mod Ranges
 pub mod Readied
 pub mod Hulls
 pub mod NetParts
+pub mod Alone
+pub mod Solution
+pub mod Born
+pub mod Chosen

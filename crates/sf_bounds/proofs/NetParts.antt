@@ -1,6 +1,6 @@
 -- The parts of a net make its bound.
-use Rattle.std.proofs.Common.{◌≡◌, ℕ, ◌+◌, ◌*◌, ◌<◌, ◌≤◌, max, List, [], ◌∷◌, map, length, get_or, arith, refl, ap, sym, subst, ◌∙◌, All}
-use Rattle.std.specs.Prelude.{fold, nat_lt, pos, ◌-ℤ◌, if◌then◌else◌}
+use Rattle.std.proofs.Common.{◌≡◌, ℕ, ◌+◌, ◌*◌, ◌<◌, ◌≤◌, max, List, [], ◌∷◌, map, length, get_or, refl, ap, sym, subst, ◌∙◌}
+use Rattle.std.specs.Prelude.{fold, nat_lt, pos, ◌-ℤ◌}
 use Rattle.std.specs.List.{AllByRecursion}
 use Rattle.std.proofs.lemmas.Bool.{cond-false, le-ltb}
 use Rattle.std.proofs.lemmas.List.Elements.{recursion_from_All}
@@ -59,12 +59,12 @@ module _ (design : Design) (node : Parts) (layout : Layout) (m : IsLayout design
       let from = extent_from layout.extents.items in
       let all = recursion_from_All there net.pins inside in
       let range : a ≡ range_part design ext net =
-        ra ∙ ap (λ v. gap v + gap (map (range_y design from) net.pins)) (map-same (range_x design from) (range_x design ext) net.pins (each-same (range_x design from) (range_x design ext) same-x net.pins all))
-        ∙ ap (λ v. gap (map (range_x design ext) net.pins) + gap v) (map-same (range_y design from) (range_y design ext) net.pins (each-same (range_y design from) (range_y design ext) same-y net.pins all)) in
+      ra ∙ ap (λ v. gap v + gap (map (range_y design from) net.pins)) (map-same (range_x design from) (range_x design ext) net.pins (each-same (range_x design from) (range_x design ext) same-x net.pins all))
+      ∙ ap (λ v. gap (map (range_x design ext) net.pins) + gap v) (map-same (range_y design from) (range_y design ext) net.pins (each-same (range_y design from) (range_y design ext) same-y net.pins all)) in
       let pair : b ≡ pair_part ext net = rb ∙ ap greatest_two (sides-same net.pins all) in
       let hull : c ≡ hull_part design ext (is_complete node) (items_of node) net = rc ∙ hull_is design node layout sub m net.pins inside in
       let sum : max a (max b c) ≡ max (range_part design ext net) (max (pair_part ext net) (hull_part design ext (is_complete node) (items_of node) net)) =
-        ap (λ v. max v (max b c)) range ∙ ap (λ v. max (range_part design ext net) (max v c)) pair ∙ ap (λ v. max (range_part design ext net) (max (pair_part ext net) v)) hull in
+      ap (λ v. max v (max b c)) range ∙ ap (λ v. max (range_part design ext net) (max v c)) pair ∙ ap (λ v. max (range_part design ext net) (max (pair_part ext net) v)) hull in
       sum ∙ sym (cond-false (nat_lt (length net.pins) 2) 0 (max (range_part design ext net) (max (pair_part ext net) (hull_part design ext (is_complete node) (items_of node) net))) (le-ltb (length net.pins) 2 two))
 
 -- the pins of a design's net are there

@@ -1,5 +1,5 @@
 -- The greatest sum of two numbers, number by number.
-use Rattle.std.proofs.Common.{◌≡◌, ℕ, suc, ◌+◌, ◌<◌, ◌≤◌, max, min, List, [], ◌∷◌, ◌++◌, map, length, take, drop, append_assoc, append-nil, arith, refl, ap, sym, subst, ◌∙◌, Bool, true, false}
+use Rattle.std.proofs.Common.{◌≡◌, ℕ, ◌+◌, ◌<◌, ◌≤◌, max, List, [], ◌∷◌, ◌++◌, map, length, take, drop, append_assoc, append-nil, arith, refl, ap, sym, subst, ◌∙◌, Bool, true, false}
 use Rattle.std.specs.Prelude.{fold, cond}
 use Rattle.std.proofs.lemmas.Bool.{cond_both}
 use Rattle.std.specs.List.{AllByRecursion}
@@ -86,4 +86,4 @@ module _ (design : Design) (layout : Layout) (ready : IsReady design layout) whe
   pairs_before pins k net =
       let there = λ (p : Pin). pin_number p < pin_count (length design.blocks) (length design.pads) p in
       pairs-small (record { some = false; most = 0; sum = 0 }) (take k pins) record { most = omega arith; sum = omega arith }
-        (each-left there (take k pins) (drop k pins) (subst (AllByRecursion there) (sym (take-append-drop k pins)) (recursion_from_All there pins net)))
+      (each-left there (take k pins) (drop k pins) (subst (AllByRecursion there) (sym (take-append-drop k pins)) (recursion_from_All there pins net)))

@@ -1,7 +1,6 @@
 -- What the ranges of a net's pins share tells the range part.
-use Rattle.std.proofs.Common.{◌≡◌, ℕ, ◌+◌, ◌<◌, List, [], ◌∷◌, map, length, refl, ap, sym, subst, ◌∙◌}
+use Rattle.std.proofs.Common.{◌≡◌, ℕ, ◌+◌, ◌<◌, List, [], ◌∷◌, map, length, refl, ap, ◌∙◌}
 use Rattle.std.specs.Prelude.{fold, ◌-ℤ◌}
-use Rattle.std.specs.List.{AllByRecursion}
 use Rattle.std.proofs.lemmas.List.Elements.{recursion_from_All}
 use Rattle.sf_model.specs.declared.design.Design.{Design}
 use Rattle.sf_model.specs.declared.parts.Pin.{Pin}
@@ -11,7 +10,7 @@ use Rattle.sf_standard.specs.declared.hull.Extent.{Extent}
 use Rattle.sf_standard.specs.Hull.{to_nat, gap, range_x, range_y, range_part}
 use Rattle.sf_bounds.specs.declared.layout.Layout.{Layout}
 use Rattle.sf_bounds.specs.declared.reach.Reach.{Reach}
-use Rattle.sf_bounds.specs.Near.{IsNear, IsNearby, shared, met, endless, anywhere, reach_gap}
+use Rattle.sf_bounds.specs.Near.{IsNear, shared, met, anywhere, reach_gap}
 use Rattle.sf_bounds.specs.Pins.{IsNet, IsReady, extent_from, pin_range}
 use Rattle.sf_bounds.proofs.Meeting.{gap-shared}
 use Rattle.sf_bounds.proofs.Reading.{near_range}
@@ -32,9 +31,9 @@ range_is design layout ready pins net =
     let ys = map (range_y design extent) pins in
     let r = fold (λ r p. met r (pin_range design extent p)) anywhere pins in
     let x : to_nat (r.across.low -ℤ r.across.high) ≡ gap xs =
-      ap (λ i. to_nat (i.low -ℤ i.high)) (range-across design extent anywhere pins)
-      ∙ gap-shared xs (each-map IsNear (range_x design extent) pins (each-weaker (λ p. pin_number p < pin_count (length design.blocks) (length design.pads) p) (λ p. IsNear (range_x design extent p)) (λ p h. (near_range design layout ready p h).0) pins all)) in
+    ap (λ i. to_nat (i.low -ℤ i.high)) (range-across design extent anywhere pins)
+    ∙ gap-shared xs (each-map IsNear (range_x design extent) pins (each-weaker (λ p. pin_number p < pin_count (length design.blocks) (length design.pads) p) (λ p. IsNear (range_x design extent p)) (λ p h. (near_range design layout ready p h).0) pins all)) in
     let y : to_nat (r.upward.low -ℤ r.upward.high) ≡ gap ys =
-      ap (λ i. to_nat (i.low -ℤ i.high)) (range-upward design extent anywhere pins)
-      ∙ gap-shared ys (each-map IsNear (range_y design extent) pins (each-weaker (λ p. pin_number p < pin_count (length design.blocks) (length design.pads) p) (λ p. IsNear (range_y design extent p)) (λ p h. (near_range design layout ready p h).1) pins all)) in
+    ap (λ i. to_nat (i.low -ℤ i.high)) (range-upward design extent anywhere pins)
+    ∙ gap-shared ys (each-map IsNear (range_y design extent) pins (each-weaker (λ p. pin_number p < pin_count (length design.blocks) (length design.pads) p) (λ p. IsNear (range_y design extent p)) (λ p h. (near_range design layout ready p h).1) pins all)) in
     ap (λ n. n + to_nat (r.upward.low -ℤ r.upward.high)) x ∙ ap (λ n. gap xs + n) y

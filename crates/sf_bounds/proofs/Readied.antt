@@ -1,9 +1,9 @@
 -- A layout of a subproblem is one that pins can be read by, and its seats are the places of the blocks in the items.
-use Rattle.std.proofs.Common.{◌≡◌, ℕ, suc, ◌+◌, ◌-◌, ◌<◌, ◌≤◌, List, [], ◌∷◌, ◌++◌, length, reverse, map, get_or, arith, refl, ap, sym, subst, ◌∙◌, ◌⊎◌, inl, inr, All, Bool, true, false, ◌==◌, cond}
+use Rattle.std.proofs.Common.{◌≡◌, ℕ, suc, ◌+◌, ◌<◌, ◌≤◌, List, [], ◌∷◌, length, reverse, map, get_or, arith, refl, ap, sym, subst, ◌∙◌, ◌⊎◌, inl, inr, All, ◌==◌}
 use Rattle.std.specs.Prelude.{Contains, count_by, if◌then◌else◌}
 use Prim.Native.Nat.{zero}
-use Rattle.std.proofs.lemmas.Bool.{cases_eq, ne_eqb, eq-eqb, eqb-true, cond-true, cond-false, cond_both}
-use Rattle.std.proofs.lemmas.List.{length-map, length-reverse, get_or_default}
+use Rattle.std.proofs.lemmas.Bool.{cases_eq, ne_eqb, eq-eqb, cond-true, cond-false, cond_both}
+use Rattle.std.proofs.lemmas.List.{length-map}
 use Rattle.std.proofs.lemmas.List.Elements.{Contains-append_cases, Contains-append_left, Contains-append_right, All-contains, Contains-get_or}
 use Rattle.sf_model.specs.declared.design.Design.{Design}
 use Rattle.sf_model.specs.Legal.{block_count}
@@ -14,10 +14,10 @@ use Rattle.sf_standard.specs.declared.hull.Extent.{Extent}
 use Rattle.sf_standard.specs.declared.hull.Offset.{Offset}
 use Rattle.sf_standard.specs.Items.{Item, items_of}
 use Rattle.sf_standard.specs.Hull.{offsets}
-use Rattle.sf_standard.proofs.Listed.{Contains-map, Contains-from_map, count-cons, count-head, count-some}
+use Rattle.sf_standard.proofs.Listed.{Contains-map, Contains-from_map, count-cons, count-head}
 use Rattle.sf_bounds.specs.declared.layout.Layout.{Layout}
 use Rattle.sf_bounds.specs.declared.layout.Seat.{Seat}
-use Rattle.sf_bounds.specs.Layout.{extent_in, Tells, IsModestOffset, AreModest, AreSeated, held_of, seat_at, seats_from, last_seat, no_seat}
+use Rattle.sf_bounds.specs.Layout.{extent_in, IsModestOffset, AreModest, held_of, seat_at, seats_from, last_seat, no_seat}
 use Rattle.sf_bounds.specs.Pins.{IsLayout, IsReady, seat_from}
 use Rattle.sf_bounds.proofs.Small.{span-small, are-modest}
 
@@ -94,11 +94,11 @@ from-item extent k [] j d o lt c = absurd (omega arith)
 from-item extent k (i ∷ is) zero d o lt c =
     let e : k ≡ k + 0 = omega arith in
     subst (λ n. Contains (seats_from extent k (i ∷ is)) (seat_at n o)) e
-      (Contains-append_left (map (seat_at k) (offsets extent i)) (seats_from extent (suc k) is) (seat_at k o) (Contains-map (seat_at k) (offsets extent i) o c))
+    (Contains-append_left (map (seat_at k) (offsets extent i)) (seats_from extent (suc k) is) (seat_at k o) (Contains-map (seat_at k) (offsets extent i) o c))
 from-item extent k (i ∷ is) (suc j) d o lt c =
     let e : suc k + j ≡ k + suc j = omega arith in
     subst (λ n. Contains (seats_from extent k (i ∷ is)) (seat_at n o)) e
-      (Contains-append_right (map (seat_at k) (offsets extent i)) (seats_from extent (suc k) is) (seat_at (suc k + j) o) (from-item extent (suc k) is j d o (omega arith) c))
+    (Contains-append_right (map (seat_at k) (offsets extent i)) (seats_from extent (suc k) is) (seat_at (suc k + j) o) (from-item extent (suc k) is j d o (omega arith) c))
 
 module _ (design : Design) (node : Parts) (layout : Layout) (m : IsLayout design node layout) where
   abbrev items : List Item
@@ -118,7 +118,7 @@ module _ (design : Design) (node : Parts) (layout : Layout) (m : IsLayout design
   seat-found j d o lt c =
       let z : 0 + j ≡ j = omega arith in
       let here : Contains layout.seats.items (seat_at j o) =
-        subst (λ v. Contains v (seat_at j o)) (sym m.stack.laid.seats) (subst (λ n. Contains (seats_from (extent_in design node) 0 (reverse (items_of node))) (seat_at n o)) z (from-item (extent_in design node) 0 (reverse (items_of node)) j d o lt c)) in
+      subst (λ v. Contains v (seat_at j o)) (sym m.stack.laid.seats) (subst (λ n. Contains (seats_from (extent_in design node) 0 (reverse (items_of node))) (seat_at n o)) z (from-item (extent_in design node) 0 (reverse (items_of node)) j d o lt c)) in
       let inside : o.block < block_count design = All-contains (λ s. s.offset.block < block_count design) layout.seats.items (seat_at j o) m.stack.inside here in
       (inside, seat-is o.block inside (no_seat 0 o.block) ∙ last-once (no_seat (length layout.held.items) o.block) layout.seats.items (seat_at j o) (m.stack.once o.block) here)
 
@@ -147,7 +147,7 @@ module _ (design : Design) (node : Parts) (layout : Layout) (m : IsLayout design
       let extent = extent_in design node in
       let its = reverse (items_of node) in
       subst (λ v. AreModest v layout.seats.items) (sym m.stack.laid.held) (subst (AreModest (map (held_of extent) its)) (sym m.stack.laid.seats)
-        (are-modest extent (span-small design node) its (omega (arith, m.stack.few, ap length m.stack.laid.seats))))
+      (are-modest extent (span-small design node) its (omega (arith, m.stack.few, ap length m.stack.laid.seats))))
 
   pub readied : IsReady design layout
   readied =

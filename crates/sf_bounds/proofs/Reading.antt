@@ -1,10 +1,10 @@
 -- What the loops over the pins of a net keep.
-use Rattle.std.proofs.Common.{◌≡◌, ◌≢◌, ℕ, suc, ◌+◌, ◌*◌, ◌<◌, ◌≤◌, max, min, List, [], ◌∷◌, ◌++◌, length, take, get_or, arith, refl, ap, sym, subst, ◌∙◌, ◌⊎◌, inl, inr, All, Bool, true, false, ◌==◌, length-set, get_or-set_same, get_or-set_other}
-use Rattle.std.specs.Prelude.{fold, nat_lt, if◌then◌else◌, ℤ, pos, neg_ℤ, ◌≤ℤ◌, ◌-ℤ◌, ◌*ℤ◌}
+use Rattle.std.proofs.Common.{◌≡◌, ℕ, ◌+◌, ◌*◌, ◌<◌, ◌≤◌, max, List, [], ◌∷◌, length, take, get_or, arith, refl, ap, ◌∙◌, All, ◌==◌}
+use Rattle.std.specs.Prelude.{fold, nat_lt, if◌then◌else◌, pos}
 use Rattle.std.specs.List.{AllByRecursion}
 use Rattle.std.proofs.lemmas.Int.{ints, clamps}
-use Rattle.std.proofs.lemmas.Bool.{cases_eq, cases_lt, ne_eqb, eq-eqb, cond-true, cond-false, cond_both}
-use Rattle.std.proofs.lemmas.List.{take_more, take_all, get_or_past, get_or_default}
+use Rattle.std.proofs.lemmas.Bool.{cond_both}
+use Rattle.std.proofs.lemmas.List.{take_more, take_all}
 use Rattle.std.proofs.lemmas.List.Sums.{fold-append}
 use Rattle.std.proofs.lemmas.List.Elements.{recursion_from_All}
 use Rattle.sf_model.specs.declared.design.Design.{Design}
@@ -18,7 +18,7 @@ use Rattle.sf_standard.specs.declared.hull.Offset.{Offset}
 use Rattle.sf_bounds.specs.declared.layout.Layout.{Layout}
 use Rattle.sf_bounds.specs.declared.reach.Reach.{Reach}
 use Rattle.sf_bounds.specs.Layout.{IsModestOffset, no_seat}
-use Rattle.sf_bounds.specs.Near.{IsNumber, IsNear, IsNearby, shared, met, anywhere, reach_gap}
+use Rattle.sf_bounds.specs.Near.{IsNear, IsNearby, shared, met, anywhere, reach_gap}
 use Rattle.sf_bounds.specs.Pins.{IsNet, InTable, IsReady, extent_from, seat_from, pin_range, pin_reach, pin_item, gathers, item_gap, shared_gap}
 
 pub fold_more : {A B : Type 0} (f : B → A → B) (b : B) (xs : List A) (k : ℕ) (d : A) → k < length xs → fold f b (take (k + 1) xs) ≡ f (fold f b (take k xs)) (get_or xs k d)
@@ -73,7 +73,7 @@ module _ (design : Design) (layout : Layout) (ready : IsReady design layout) whe
       let here : b < length layout.table.items = omega (arith, h, ready.seats) in
       let o = (seat_from layout.table.items b).offset in
       near-block o (extent_from layout.extents.items o.block) (ready.offsets b (no_seat 0 b) here)
-        (ready.sides o.block (record { least_w = 0; most_w = 0; least_h = 0; most_h = 0 }) (omega (arith, ready.blocks b (no_seat 0 b) here, ready.extents)))
+      (ready.sides o.block (record { least_w = 0; most_w = 0; least_h = 0; most_h = 0 }) (omega (arith, ready.blocks b (no_seat 0 b) here, ready.extents)))
   near_reach (pin.Pad p) h =
       let k = design.limits.places p (record { name = []; x = pos 0; y = pos 0 }) h in (
         ((omega (arith, ints, k.0.0), omega (arith, ints, k.0.1)), (omega (arith, ints, k.0.0), omega (arith, ints, k.0.1))),
@@ -91,7 +91,7 @@ module _ (design : Design) (layout : Layout) (ready : IsReady design layout) whe
   near-gathered i r [] h all = h
   near-gathered i r (p ∷ pins) h all =
       near-gathered i (gathers design layout i r p) pins
-        (cond_both (pin_item layout p == i) (met r (pin_reach design layout p)) r IsNearby (λ _. near_met r (pin_reach design layout p) h (near_reach p all.0)) (λ _. h)) all.1
+      (cond_both (pin_item layout p == i) (met r (pin_reach design layout p)) r IsNearby (λ _. near_met r (pin_reach design layout p) h (near_reach p all.0)) (λ _. h)) all.1
 
   pub near_gathered : (i : ℕ) (pins : List Pin) → IsNet design pins → IsNearby (fold (gathers design layout i) anywhere pins)
   near_gathered i pins net = near-gathered i anywhere pins near_anywhere (recursion_from_All (λ p. pin_number p < pin_count (length design.blocks) (length design.pads) p) pins net)
@@ -104,6 +104,6 @@ fold-same f g n (p ∷ pins) h = fold-same f g (max n (f p)) pins h.1 ∙ ap (λ
 pub gaps_same : (design : Design) (layout : Layout) (pins : List Pin) (clear gathered : List Reach) → All (λ p. get_or clear (pin_item layout p) anywhere ≡ anywhere) pins → ((i : ℕ) → get_or gathered i anywhere ≡ fold (gathers design layout i) (get_or clear i anywhere) pins) → fold (λ n p. max n (item_gap layout gathered p)) 0 pins ≡ fold (λ n p. max n (shared_gap design layout pins p)) 0 pins
 gaps_same design layout pins clear gathered none g =
     fold-same (item_gap layout gathered) (shared_gap design layout pins) 0 pins
-      (each-weaker (λ p. get_or clear (pin_item layout p) anywhere ≡ anywhere) (λ p. item_gap layout gathered p ≡ shared_gap design layout pins p)
-        (λ p e. ap (λ r. if nat_lt (pin_item layout p) (length layout.held.items) then reach_gap r else 0) (g (pin_item layout p) ∙ ap (λ r. fold (gathers design layout (pin_item layout p)) r pins) e))
-        pins (recursion_from_All (λ p. get_or clear (pin_item layout p) anywhere ≡ anywhere) pins none))
+    (each-weaker (λ p. get_or clear (pin_item layout p) anywhere ≡ anywhere) (λ p. item_gap layout gathered p ≡ shared_gap design layout pins p)
+    (λ p e. ap (λ r. if nat_lt (pin_item layout p) (length layout.held.items) then reach_gap r else 0) (g (pin_item layout p) ∙ ap (λ r. fold (gathers design layout (pin_item layout p)) r pins) e))
+    pins (recursion_from_All (λ p. get_or clear (pin_item layout p) anywhere ≡ anywhere) pins none))

@@ -1,5 +1,5 @@
 -- No extent, and no place of a block in an item, is too great.
-use Rattle.std.proofs.Common.{◌≡◌, ℕ, suc, ◌+◌, ◌*◌, ◌<◌, ◌≤◌, min, max, List, [], ◌∷◌, ◌++◌, length, reverse, map, ap, arith, length-append, ◌⊎◌, inl, inr, refl, sym, ◌∙◌, subst}
+use Rattle.std.proofs.Common.{◌≡◌, ℕ, suc, ◌+◌, ◌*◌, ◌≤◌, min, max, List, [], ◌∷◌, ◌++◌, length, map, ap, arith, length-append, inl, inr}
 use Rattle.std.specs.Prelude.{Contains, fold}
 use Rattle.std.specs.List.{AllByRecursion}
 use Rattle.std.proofs.lemmas.Bool.{cases_lt}
@@ -19,8 +19,6 @@ use Rattle.sf_standard.specs.Items as item
 use Rattle.sf_standard.specs.Items.{Item, span_shapes}
 use Rattle.sf_standard.specs.Hull.{extent_of, item_extent, offsets, moved_right, moved_up}
 use Rattle.sf_standard.proofs.Listed.{each-from}
-use Rattle.sf_bounds.specs.declared.layout.Held.{Held}
-use Rattle.sf_bounds.specs.declared.layout.Seat.{Seat}
 use Rattle.sf_bounds.specs.Layout.{extent_in, held_of, seat_at, seats_from, IsModestExtent, IsModestOffset, AreModest}
 
 pub record IsSmallExtent (m : ℕ) (e : Extent) : Type 0 where
@@ -65,8 +63,8 @@ side-in design node b s c =
 pub span-small : (design : Design) (node : Parts) (b : ℕ) → IsSmallExtent 1048576 (extent_in design node b)
 span-small design node b =
     extent-small 1048576 (span_shapes design node b)
-      (each-from (λ s. s.w ≤ 1048576) (span_shapes design node b) (λ s c. (side-in design node b s c).0))
-      (each-from (λ s. s.h ≤ 1048576) (span_shapes design node b) (λ s c. (side-in design node b s c).1))
+    (each-from (λ s. s.w ≤ 1048576) (span_shapes design node b) (λ s c. (side-in design node b s c).0))
+    (each-from (λ s. s.h ≤ 1048576) (span_shapes design node b) (λ s c. (side-in design node b s c).1))
 
 module _ (extent : ℕ → Extent) (small : (b : ℕ) → IsSmallExtent 1048576 (extent b)) where
   pub item-small : (i : Item) → IsSmallExtent (1048576 * length (offsets extent i)) (item_extent extent i)
@@ -96,9 +94,9 @@ module _ (extent : ℕ → Extent) (small : (b : ℕ) → IsSmallExtent 1048576 
       let m = length-map (offsets extent r) (moved_right e) in
       let total = 1048576 * length (offsets extent l ++ map (moved_right e) (offsets extent r)) in
       each-append (IsSmallOffset total) (offsets extent l) (map (moved_right e) (offsets extent r))
-        (each-weaker (IsSmallOffset (1048576 * length (offsets extent l))) (IsSmallOffset total) (λ o k. wider (1048576 * length (offsets extent l)) total o (omega (arith, n)) k) (offsets extent l) (offsets-small l))
-        (each-map (IsSmallOffset total) (moved_right e) (offsets extent r)
-          (each-weaker (IsSmallOffset (1048576 * length (offsets extent r))) (λ o. IsSmallOffset total (moved_right e o)) (λ o k. record { least_x = omega (arith, n, m, k.least_x, p.least_w); most_x = omega (arith, n, m, k.most_x, p.most_w); least_y = omega (arith, n, m, k.least_y); most_y = omega (arith, n, m, k.most_y) }) (offsets extent r) (offsets-small r)))
+      (each-weaker (IsSmallOffset (1048576 * length (offsets extent l))) (IsSmallOffset total) (λ o k. wider (1048576 * length (offsets extent l)) total o (omega (arith, n)) k) (offsets extent l) (offsets-small l))
+      (each-map (IsSmallOffset total) (moved_right e) (offsets extent r)
+      (each-weaker (IsSmallOffset (1048576 * length (offsets extent r))) (λ o. IsSmallOffset total (moved_right e o)) (λ o k. record { least_x = omega (arith, n, m, k.least_x, p.least_w); most_x = omega (arith, n, m, k.most_x, p.most_w); least_y = omega (arith, n, m, k.least_y); most_y = omega (arith, n, m, k.most_y) }) (offsets extent r) (offsets-small r)))
   offsets-small (item.Above l r) =
       let e = item_extent extent l in
       let p = item-small l in
@@ -106,9 +104,9 @@ module _ (extent : ℕ → Extent) (small : (b : ℕ) → IsSmallExtent 1048576 
       let m = length-map (offsets extent r) (moved_up e) in
       let total = 1048576 * length (offsets extent l ++ map (moved_up e) (offsets extent r)) in
       each-append (IsSmallOffset total) (offsets extent l) (map (moved_up e) (offsets extent r))
-        (each-weaker (IsSmallOffset (1048576 * length (offsets extent l))) (IsSmallOffset total) (λ o k. wider (1048576 * length (offsets extent l)) total o (omega (arith, n)) k) (offsets extent l) (offsets-small l))
-        (each-map (IsSmallOffset total) (moved_up e) (offsets extent r)
-          (each-weaker (IsSmallOffset (1048576 * length (offsets extent r))) (λ o. IsSmallOffset total (moved_up e o)) (λ o k. record { least_x = omega (arith, n, m, k.least_x); most_x = omega (arith, n, m, k.most_x); least_y = omega (arith, n, m, k.least_y, p.least_h); most_y = omega (arith, n, m, k.most_y, p.most_h) }) (offsets extent r) (offsets-small r)))
+      (each-weaker (IsSmallOffset (1048576 * length (offsets extent l))) (IsSmallOffset total) (λ o k. wider (1048576 * length (offsets extent l)) total o (omega (arith, n)) k) (offsets extent l) (offsets-small l))
+      (each-map (IsSmallOffset total) (moved_up e) (offsets extent r)
+      (each-weaker (IsSmallOffset (1048576 * length (offsets extent r))) (λ o. IsSmallOffset total (moved_up e o)) (λ o k. record { least_x = omega (arith, n, m, k.least_x); most_x = omega (arith, n, m, k.most_x); least_y = omega (arith, n, m, k.least_y, p.least_h); most_y = omega (arith, n, m, k.most_y, p.most_h) }) (offsets extent r) (offsets-small r)))
 
   seats-long : (k : ℕ) (i : Item) (is : List Item) → length (seats_from extent k (i ∷ is)) ≡ length (offsets extent i) + length (seats_from extent (suc k) is)
   seats-long k i is = omega (arith, length-append (map (seat_at k) (offsets extent i)) (seats_from extent (suc k) is), length-map (offsets extent i) (seat_at k))
@@ -129,9 +127,9 @@ module _ (extent : ℕ → Extent) (small : (b : ℕ) → IsSmallExtent 1048576 
       let n = seats-long k i is in
       let le : length (offsets extent i) ≤ m = omega (arith, n, h) in
       each-append (λ s. IsModestOffset s.offset) (map (seat_at k) (offsets extent i)) (seats_from extent (suc k) is)
-        (each-map (λ s. IsModestOffset s.offset) (seat_at k) (offsets extent i)
-          (each-weaker (IsSmallOffset (1048576 * length (offsets extent i))) IsModestOffset (λ o s. record { least_x = omega (arith, s.least_x, le, few); most_x = omega (arith, s.most_x, le, few); least_y = omega (arith, s.least_y, le, few); most_y = omega (arith, s.most_y, le, few) }) (offsets extent i) (offsets-small i)))
-        (seats-modest (suc k) m is (omega (arith, n, h)) few)
+      (each-map (λ s. IsModestOffset s.offset) (seat_at k) (offsets extent i)
+      (each-weaker (IsSmallOffset (1048576 * length (offsets extent i))) IsModestOffset (λ o s. record { least_x = omega (arith, s.least_x, le, few); most_x = omega (arith, s.most_x, le, few); least_y = omega (arith, s.least_y, le, few); most_y = omega (arith, s.most_y, le, few) }) (offsets extent i) (offsets-small i)))
+      (seats-modest (suc k) m is (omega (arith, n, h)) few)
 
   -- so is all that is laid out
   pub are-modest : (is : List Item) → length (seats_from extent 0 is) ≤ 320 → AreModest (map (held_of extent) is) (seats_from extent 0 is)

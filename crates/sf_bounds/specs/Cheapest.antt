@@ -1,5 +1,5 @@
 -- The cheapest plan of a subproblem.
-use Rattle.std.specs.Prelude.{◌≡◌, ℕ, length}
+use Rattle.std.specs.Prelude.{◌≡◌, ℕ, length, Option, MatchOption}
 use Rattle.sf_model.specs.declared.design.Design.{Design}
 use Rattle.sf_model.specs.Tree.{Tree}
 use Rattle.sf_model.specs.Legal.{Fits, block_count}
@@ -27,3 +27,7 @@ pub record IsCheapest (design : Design) (node : Parts) (expr : Expr) (z : ℕ) :
 -- no plan of the subproblem fits
 abbrev pub NoneOfNode : Design → Parts → Type 0
 NoneOfNode design node = (tree : Tree) → Belongs design node tree → ¬ (Fits design.outline tree)
+
+-- a plan of least cost and its cost, or none where none fits
+abbrev pub IsSolution : Design → Parts → Option (Expr × ℕ) → Type 0
+IsSolution design node found = MatchOption found (NoneOfNode design node) (λ pair. IsCheapest design node pair.0 pair.1)

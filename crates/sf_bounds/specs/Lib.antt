@@ -5,3 +5,5 @@ pub mod Near
 pub mod Layout
 pub mod Pins
 pub mod Cheapest
+pub mod Only
+pub mod Choice

@@ -1,5 +1,5 @@
 -- How the pins of a net are read.
-use Rattle.std.specs.Prelude.{◌≡◌, ℕ, ◌+◌, ◌<◌, ◌≤◌, max, List, length, All, Bool, true, false, cond, ◌==◌, nat_lt, if◌then◌else◌, slice_index_or, fold, ⊤}
+use Rattle.std.specs.Prelude.{◌≡◌, ℕ, ◌+◌, ◌<◌, ◌≤◌, max, List, length, All, true, cond, ◌==◌, nat_lt, if◌then◌else◌, slice_index_or, fold, ⊤}
 use Rattle.sf_model.specs.declared.design.Design.{Design}
 use Rattle.sf_model.specs.declared.parts.Pin.{Pin}
 use Rattle.sf_model.specs.declared.parts.Pin.TheVariants as pin

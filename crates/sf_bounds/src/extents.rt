@@ -68,7 +68,9 @@ fn block_extent(design: &Design, node: &Node, block: u16) -> Extent
     ensures { result ≡ extent_in design.now node.now block }
 {
     let (from, to) = node.span(block);
-    let shapes = design.blocks.as_slice()[usize::from(block)].shapes.as_slice();
+    let shapes = design.blocks.as_slice()[usize::from(block)]
+        .shapes
+        .as_slice();
     part_extent(shapes, from, to)
 }
 

@@ -188,7 +188,12 @@ pub fn lay(
 }
 
 /// Fills the table with the seat of each block; one that stands in no item has the number of items for its item.
-pub fn fill_table(table: &mut Vec<Seat>, seats: &[Seat], items: usize, design: &Design) -> Result<(), NoMemory>
+pub fn fill_table(
+    table: &mut Vec<Seat>,
+    seats: &[Seat],
+    items: usize,
+    design: &Design,
+) -> Result<(), NoMemory>
     requires { All (λ s. s.offset.block < length design.now.blocks) seats.now }
     ensures { OnOk result (Tells (λ b. last_seat (no_seat items b) b seats.now) (length design.now.blocks) table.new.items) }
 {

@@ -7,7 +7,7 @@ ghost use Rattle.sf_bounds.specs.Open.{AllHavePlans, IsNeededOrNone, IsWirePart}
 use crate::area::area_part;
 use crate::groups::group_curves;
 use crate::room::Room;
-use crate::solved::{least_by_area, one_plan_cost};
+use crate::solved::{least_by_area, only_cost};
 use crate::wires::wire_part;
 use sf_model::{Design, MAX};
 use sf_node::Node;
@@ -49,5 +49,5 @@ pub fn standard_value(room: &mut Room, design: &Design, node: &Node) -> Result<u
     if design.weights.wire == 0 {
         return least_by_area(room.alloc, design, node);
     }
-    one_plan_cost(room.alloc, design, node)
+    only_cost(room.alloc, design, node)
 }

@@ -5,8 +5,8 @@ ghost use Rattle.sf_bounds.specs.Open.{IsWirePart};
 ghost use Rattle.sf_bounds.specs.Pins.{IsNet, IsLayout};
 
 use crate::extents::fill_extents;
-use crate::layout::Layout;
 use crate::laying::{fill_table, lay};
+use crate::layout::Layout;
 use crate::pins::{hull_part, pair_part, range_part};
 use crate::reach::{ANYWHERE, Reach};
 use sf_model::{Design, Net};
@@ -47,13 +47,7 @@ fn fill_reaches(reaches: &mut Vec<Reach>, items: usize) -> Result<(), NoMemory>
 }
 
 // What the wire of a net costs at least.
-fn net_part(
-    reaches: &mut [Reach],
-    design: &Design,
-    node: &Node,
-    layout: &Layout,
-    net: &Net,
-) -> u64
+fn net_part(reaches: &mut [Reach], design: &Design, node: &Node, layout: &Layout, net: &Net) -> u64
     requires subproblem { IsSubproblem design.now node.now }
     requires layout { IsLayout design.now node.now layout.now }
     requires inside { IsNet design.now net.now.pins }

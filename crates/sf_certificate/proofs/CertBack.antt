@@ -1,5 +1,5 @@
 -- What was written is read as the certificate that it was written from.
-use Rattle.std.proofs.Common.{◌≡◌, ℕ, ◌+◌, ◌^◌, ◌<◌, ◌≤◌, List, [], ◌∷◌, ◌++◌, map, All, arith, refl, ap, sym, ◌∙◌, true, Option, Some, None, Ok, append-nil}
+use Rattle.std.proofs.Common.{◌≡◌, ℕ, ◌^◌, ◌<◌, List, [], ◌∷◌, ◌++◌, map, All, arith, refl, ap, sym, ◌∙◌, true, Option, Some, None, Ok, append-nil}
 use Rattle.std.specs.Prelude.{codes}
 use Rattle.std.specs.List.{AllByRecursion}
 use Rattle.std.specs.Fmt.{decimal}
@@ -7,13 +7,11 @@ use Rattle.std.proofs.lemmas.Fmt.{decimal_digit}
 use Rattle.std.proofs.lemmas.List.Elements.{recursion_from_All}
 use Rattle.sf_lex.specs.Text.{lines, is_line_feed, has_none}
 use Rattle.sf_lex.specs.Scan.{Line, numbered, last_line_of}
-use Rattle.sf_model.specs.declared.TheConstants.{MAX}
 use Rattle.sf_polish.specs.declared.expr.Expr.{Expr}
 use Rattle.sf_polish.specs.Text.{IsWritable}
 use Rattle.sf_certificate.specs.declared.cert.Cert.{Cert}
-use Rattle.sf_certificate.specs.declared.tag.Tag.{Tag}
 use Rattle.sf_certificate.specs.Places.{first_place}
-use Rattle.sf_certificate.specs.Text.{labelled, cost_text, plan_text, header_lines, tag_text, ended, tags_text, cert_text, FitsTag}
+use Rattle.sf_certificate.specs.Text.{labelled, cost_text, plan_text, header_lines, tag_text, ended, cert_text, FitsTag}
 use Rattle.sf_certificate.specs.Reading.{number_in, line_by, header_read, cert_read, said_by}
 use Rattle.sf_certificate.proofs.HeaderReads.{header-whole, cert-whole}
 use Rattle.sf_certificate.proofs.WrittenBack.{lines-ended, line-append, decimal-line, tags-lines, tags-back}

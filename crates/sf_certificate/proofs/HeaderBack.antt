@@ -1,21 +1,17 @@
 -- A header that was written is read as it was.
-use Rattle.std.proofs.Common.{◌≡◌, ℕ, zero, suc, ◌+◌, ◌*◌, ◌^◌, ◌<◌, ◌≤◌, List, [], ◌∷◌, ◌++◌, length, map, get_or, arith, refl, ap, sym, subst, ◌∙◌, Bool, true, false, cond, not, ◌==◌, ◌&&◌, Option, Some, None, Result, Ok, Err, append_assoc, append-nil, length-append}
-use Rattle.std.specs.Prelude.{nat_lt, codes, All, filter}
+use Rattle.std.proofs.Common.{◌≡◌, ℕ, ◌^◌, ◌<◌, ◌≤◌, List, [], ◌∷◌, ◌++◌, length, map, arith, refl, ap, sym, ◌∙◌, Bool, true, false, cond, not, ◌==◌, Option, Some, None, Ok}
+use Rattle.std.specs.Prelude.{codes, filter}
 use Rattle.std.specs.List.{AllByRecursion, list_all, join_with_byte, slice_split, onto_first}
 use Rattle.std.specs.Option.{option_and_then}
 use Rattle.std.specs.Fmt.{decimal}
 use Rattle.std.specs.Str.{bytes_eq}
 use Rattle.std.proofs.lemmas.Bool.Decides.{nat_tests}
-use Rattle.std.proofs.lemmas.Fmt.{decimal_nonempty, decimal_digit}
+use Rattle.std.proofs.lemmas.Fmt.{decimal_nonempty}
 use Rattle.std.proofs.lemmas.List.Elements.{recursion_from_All}
 use Rattle.sf_model.specs.declared.TheConstants.{MAX}
-use Rattle.sf_model.specs.declared.parts.Shape.{Shape}
-use Rattle.sf_model.specs.Limits.{IsSide}
 use Rattle.sf_lex.specs.Number.{is_digit}
-use Rattle.sf_lex.specs.Text.{words, lines, is_line_feed, is_blank_byte, has_none, is_not_empty}
-use Rattle.sf_lex.specs.Scan.{Line, LineWord, numbered, words_of_lines, line_words, last_word_line}
-use Rattle.sf_lex.specs.Gap.{first_word, after_word}
-use Rattle.sf_lex.specs.declared.field.Gap.TheVariants.{Blanks}
+use Rattle.sf_lex.specs.Text.{is_line_feed, is_blank_byte, has_none, is_not_empty}
+use Rattle.sf_lex.specs.Scan.{LineWord, line_words}
 use Rattle.sf_lex.specs.Whole.{plain_read}
 use Rattle.sf_lex.proofs.Decimals.{and_true}
 use Rattle.sf_lex.proofs.Spelled.{words-blank}
@@ -26,14 +22,14 @@ use Rattle.sf_polish.specs.declared.expr.Token.{Token}
 use Rattle.sf_polish.specs.declared.expr.Token.TheVariants as token
 use Rattle.sf_polish.specs.Normal.{is_outside}
 use Rattle.sf_polish.specs.Postfix.{shape_at}
-use Rattle.sf_polish.specs.Text.{shaped_text, expr_words, expr_text, IsWritable}
+use Rattle.sf_polish.specs.Text.{shaped_text, expr_text, IsWritable}
 use Rattle.sf_polish.specs.Reading.{expr_read}
 use Rattle.sf_polish.proofs.WordTexts.{below}
 use Rattle.sf_polish.proofs.Respelled.{expr-written}
 use Rattle.sf_polish.proofs.TextLaws.{spelled-expr}
 use Rattle.sf_certificate.specs.Form.{no_plan}
-use Rattle.sf_certificate.specs.Text.{labelled, cost_text, plan_text}
-use Rattle.sf_certificate.specs.Reading.{value_after, value_in, exactly, number_in, cost_of_word, cost_in, only_word, word_in, plan_read, plan_or, agreeing, plan_of_rest, plan_said, plan_in}
+use Rattle.sf_certificate.specs.Text.{cost_text, plan_text}
+use Rattle.sf_certificate.specs.Reading.{value_after, value_in, exactly, number_in, cost_of_word, cost_in, only_word, word_in, plan_read, plan_or, agreeing, plan_of_rest, plan_in}
 use Rattle.sf_certificate.proofs.WrittenBack.{words-labelled, decimal-solid, decimal-line, line-append}
 
 -- ---- a label and a value

@@ -1,5 +1,5 @@
 -- The header of a text, read line by line.
-use Rattle.std.proofs.Common.{◌≡◌, ℕ, List, drop, refl, ap, ◌∙◌, Option, Some, None, Result, Ok, Err}
+use Rattle.std.proofs.Common.{◌≡◌, ℕ, List, drop, refl, ap, ◌∙◌, Option, Ok, Err}
 use Rattle.std.specs.Prelude.{codes}
 use Rattle.sf_lex.specs.Text.{Cursor, lines, line_at}
 use Rattle.sf_lex.specs.Scan.{Line, numbered, numbered_rest, words_of_lines, last_line_of}

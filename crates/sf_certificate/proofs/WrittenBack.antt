@@ -1,28 +1,25 @@
 -- A text that was written is read as the certificate that it was written from.
-use Rattle.std.proofs.Common.{◌≡◌, ℕ, zero, suc, ◌+◌, ◌*◌, ◌^◌, ◌<◌, ◌≤◌, List, [], ◌∷◌, ◌++◌, length, map, arith, refl, ap, sym, subst, ◌∙◌, Bool, true, false, cond, not, ◌==◌, ◌&&◌, Option, Some, None, Result, Ok, Err, append_assoc, append-nil, length-append}
-use Rattle.std.specs.Prelude.{nat_lt, codes, All}
-use Rattle.std.specs.List.{AllByRecursion, flat_map, list_all, join_with_byte}
+use Rattle.std.proofs.Common.{◌≡◌, ℕ, ◌+◌, ◌^◌, ◌<◌, List, [], ◌∷◌, ◌++◌, length, map, arith, refl, ap, ◌∙◌, Bool, true, cond, not, None, Result, Ok, Err, append_assoc}
+use Rattle.std.specs.Prelude.{nat_lt}
+use Rattle.std.specs.List.{AllByRecursion, list_all}
 use Rattle.std.specs.Fmt.{decimal}
-use Rattle.std.specs.Str.{bytes_eq}
 use Rattle.std.proofs.lemmas.Bool.Decides.{nat_tests}
-use Rattle.std.proofs.lemmas.Fmt.{decimal_nonempty, decimal_digit}
-use Rattle.std.proofs.lemmas.List.Elements.{recursion_from_All}
+use Rattle.std.proofs.lemmas.Fmt.{decimal_nonempty}
 use Rattle.std.proofs.lemmas.List.Folds.{list_all-append}
 use Rattle.sf_lex.specs.Number.{is_digit}
-use Rattle.sf_lex.specs.Text.{lines, words, is_line_feed, is_blank_byte, has_none, is_not_empty}
-use Rattle.sf_lex.specs.Scan.{Line, LineWord, numbered, words_of_line, words_of_lines}
-use Rattle.sf_lex.specs.Whole.{whole_read, plain_read}
+use Rattle.sf_lex.specs.Text.{lines, words, is_line_feed, is_blank_byte, has_none}
+use Rattle.sf_lex.specs.Scan.{LineWord, numbered, words_of_line, words_of_lines}
 use Rattle.sf_lex.proofs.Decimals.{and_true}
 use Rattle.sf_lex.proofs.Spelled.{lines-written, words-written, words-last}
-use Rattle.sf_lex.proofs.WrittenNumbers.{digits_written, whole_written, plain_written}
+use Rattle.sf_lex.proofs.WrittenNumbers.{digits_written, whole_written}
 use Rattle.sf_certificate.specs.declared.fault.CertFault.{CertFault}
 use Rattle.sf_certificate.specs.declared.fault.CertFault.TheVariants.{TooDeep}
 use Rattle.sf_certificate.specs.declared.place.Place.{Place}
 use Rattle.sf_certificate.specs.declared.tag.Tag.{Tag}
 use Rattle.sf_certificate.specs.declared.tag.Tag.TheVariants.{Extend, Split, Closed, Open}
 use Rattle.sf_certificate.specs.Places.{places_under, spell_trees}
-use Rattle.sf_certificate.specs.Text.{labelled, tag_text, ended, FitsTag}
-use Rattle.sf_certificate.specs.Reading.{TagSaid, tags_said, split_by, with_tag, tag_at, tree_from, value_in, value_after}
+use Rattle.sf_certificate.specs.Text.{tag_text, ended, FitsTag}
+use Rattle.sf_certificate.specs.Reading.{TagSaid, tags_said, split_by, with_tag, tree_from}
 
 -- ---- lines
 

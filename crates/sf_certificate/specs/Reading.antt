@@ -1,5 +1,5 @@
 -- What a text is read as: the certificate that it spells, or its first fault.
-use Rattle.std.specs.Prelude.{◌≡◌, ℕ, ◌+◌, ◌==◌, nat_lt, List, [], ◌∷◌, ◌++◌, codes, Bool, Option, Some, None, Result, Ok, Err, if◌then◌else◌}
+use Rattle.std.specs.Prelude.{ℕ, ◌==◌, nat_lt, List, [], ◌∷◌, ◌++◌, codes, Option, Some, None, Result, Ok, Err, if◌then◌else◌}
 use Rattle.std.specs.Option.{option_and_then}
 use Rattle.std.specs.Str.{bytes_eq}
 use Rattle.sf_lex.specs.Text.{lines, words, is_blank_byte}
@@ -19,7 +19,6 @@ use Rattle.sf_certificate.specs.declared.letter.Letter.TheVariants as letter
 use Rattle.sf_certificate.specs.declared.place.Place.{Place}
 use Rattle.sf_certificate.specs.declared.tag.Tag.{Tag}
 use Rattle.sf_certificate.specs.declared.tag.Tag.TheVariants.{Extend, Split, Closed, Open}
-use Rattle.sf_certificate.specs.Form.{no_plan}
 use Rattle.sf_certificate.specs.Places.{first_place, places_under}
 
 -- one reading after another: the first fault is the fault of both

@@ -1,5 +1,5 @@
 -- The answer that the walk leads to, and that it is Yes just where the certificate is valid.
-use Rattle.std.proofs.Common.{◌≡◌, ◌≢◌, ℕ, ◌+◌, List, [], ◌∷◌, map, arith, refl, ap, sym, subst, ◌∙◌, Bool, true, false, inl, inr, ◌⊎◌, Ok, Err, Option, Some, None}
+use Rattle.std.proofs.Common.{◌≡◌, ◌≢◌, ℕ, [], ◌∷◌, map, arith, refl, ap, sym, subst, ◌∙◌, true, inl, inr, Ok, Option, Some, None}
 use Rattle.std.specs.Prelude.{MatchOption, ◌↔◌, All, Contains}
 use Rattle.sf_model.specs.declared.design.Design.{Design}
 use Rattle.sf_model.specs.Tree.{leaves}
@@ -13,12 +13,12 @@ use Rattle.sf_node.specs.Subproblem.{root}
 use Rattle.sf_node.proofs.Reached.{root-subproblem}
 use Rattle.sf_certificate.specs.declared.cert.Cert.{Cert}
 use Rattle.sf_certificate.specs.Places.{place_of, spell_trees}
-use Rattle.sf_certificate.specs.Valid.{HasCost, AreTrees, left_open, least, decided, IsValid}
+use Rattle.sf_certificate.specs.Valid.{HasCost, IsValid}
 use Rattle.sf_checker.specs.declared.answer.Why.{Why}
 use Rattle.sf_checker.specs.declared.answer.Answer.{Answer}
 use Rattle.sf_checker.specs.declared.answer.Answer.TheVariants.{Yes, No}
 use Rattle.sf_checker.specs.Walking.{Progress, walked, start}
-use Rattle.sf_checker.specs.Answers.{IsPlanRight, IsUnfit, IsBadPlan, IsOtherCost, IsBadTree, IsOtherBound, IsFirst, IsRight, IsAnswer, is_yes}
+use Rattle.sf_checker.specs.Answers.{IsPlanRight, IsUnfit, IsOtherBound, IsFirst, IsRight, IsAnswer, is_yes}
 use Rattle.sf_checker.proofs.Walks.{IsSeen, seen, faulty}
 
 -- a plan has one cost
@@ -39,7 +39,7 @@ plan-of design z (Some other) expr e h = let same : other ≡ expr = cc in subst
 pub seen-cert : (design : Design) (bound : Parts → ℕ) (cert : Cert) (last : Progress) → cert.blocks ≡ block_count design → walked bound cert.cost (start (root design) cert.cost) cert.tags ≡ Ok last → IsSeen bound cert.cost (start (root design) cert.cost) cert.tags last
 seen-cert design bound cert last e w =
     seen design bound cert.cost cert.tags (start (root design) cert.cost) (root design ∷ []) last refl w
-      (subst (λ n. spell_trees n (map place_of (root design ∷ [])) cert.tags ≡ true) e cert.form.tree) (root-subproblem design, tt)
+    (subst (λ n. spell_trees n (map place_of (root design ∷ [])) cert.tags ≡ true) e cert.form.tree) (root-subproblem design, tt)
 
 pub answer-yes : (design : Design) (bound : Parts → ℕ) (cert : Cert) (last : Progress) (count : ℕ) → cert.blocks ≡ block_count design → IsPlanRight design cert → walked bound cert.cost (start (root design) cert.cost) cert.tags ≡ Ok last → last.low ≡ cert.bound → count ≡ last.decided → IsRight design bound cert cert.cost cert.bound count
 answer-yes design bound cert last count e plan w low is =
@@ -48,7 +48,7 @@ answer-yes design bound cert last count e plan w low is =
       valid = record { plan = plan; tree = s.trees; stated = sym low ∙ s.low };
       cost = refl;
       bound_is = refl;
-      count_is = omega (arith, is, s.count)
+      count_is = omega (arith, is, s.count);
     }
 
 pub answer-bound : (design : Design) (bound : Parts → ℕ) (cert : Cert) (last : Progress) (is : ℕ) → cert.blocks ≡ block_count design → IsPlanRight design cert → walked bound cert.cost (start (root design) cert.cost) cert.tags ≡ Ok last → is ≡ last.low → cert.bound ≢ is → IsOtherBound design bound cert is
@@ -60,12 +60,15 @@ answer-bound design bound cert last is e plan w same differs =
 pub first-invalid : (design : Design) (bound : Parts → ℕ) (cert : Cert) (why : Why) → IsFirst design bound cert why → IsValid design bound cert → ⊥
 first-invalid design bound cert why first valid =
     elim first [
-      inl a ↦ unfit-costless design a.1.expr cert.cost a.1.unfit (plan-of design cert.cost cert.plan a.1.expr a.1.planned valid.plan)
-    | inr more ↦ elim more [
-        inl b ↦ b.2.differs (cost-one design b.2.expr cert.cost b.0 (plan-of design cert.cost cert.plan b.2.expr b.2.planned valid.plan) b.2.costs)
+      | inl a ↦ unfit-costless design a.1.expr cert.cost a.1.unfit (plan-of design cert.cost cert.plan a.1.expr a.1.planned valid.plan)
       | inr more ↦ elim more [
-          inl c ↦ faulty bound cert.cost cert.tags (start (root design) cert.cost) (root design ∷ []) why refl c.found valid.tree
-        | inr d ↦ d.2.differs (valid.stated ∙ sym d.2.lowest) ] ] ]
+        | inl b ↦ b.2.differs (cost-one design b.2.expr cert.cost b.0 (plan-of design cert.cost cert.plan b.2.expr b.2.planned valid.plan) b.2.costs)
+        | inr more ↦ elim more [
+          | inl c ↦ faulty bound cert.cost cert.tags (start (root design) cert.cost) (root design ∷ []) why refl c.found valid.tree
+          | inr d ↦ d.2.differs (valid.stated ∙ sym d.2.lowest)
+        ]
+      ]
+    ]
 
 pub answered : (design : Design) (bound : Parts → ℕ) (cert : Cert) (a : Answer) → IsAnswer design bound cert a → (is_yes a ≡ true) ↔ IsValid design bound cert
 answered design bound cert (Yes z low count) h = ((λ e. h.valid), (λ v. refl))

@@ -1,28 +1,20 @@
 -- What the walk keeps and finds.
-use Rattle.std.proofs.Common.{◌≡◌, ℕ, suc, ◌+◌, ◌*◌, ◌<◌, ◌≤◌, min, List, [], ◌∷◌, ◌++◌, length, map, drop, get_or, arith, refl, ap, sym, subst, ◌∙◌, Bool, true, false, not, cond, append_assoc, length-append, ◌==◌, ◌&&◌, inl, inr, ◌⊎◌, Result, Ok, Err}
+use Rattle.std.proofs.Common.{◌≡◌, ℕ, suc, ◌+◌, ◌<◌, ◌≤◌, min, List, [], ◌∷◌, ◌++◌, length, map, drop, get_or, arith, refl, ap, sym, subst, ◌∙◌, Bool, true, false, not, cond, ◌&&◌, inl, inr, ◌⊎◌, Result, Ok, Err}
 use Rattle.std.proofs.Math.Seq.{drop-cons}
 use Rattle.std.proofs.Math.ListN.{drop_of_length-le}
-use Prim.Native.Nat.{zero}
-use Rattle.std.specs.Prelude.{⊤, IsTrue, IsFalse, nat_lt}
+use Rattle.std.specs.Prelude.{nat_lt}
 use Rattle.std.specs.List.{AllByRecursion}
-use Rattle.std.proofs.lemmas.Bool.{cond_both, cases_lt}
 use Rattle.std.proofs.lemmas.Bool.Decides.{nat_tests}
 use Rattle.std.proofs.lemmas.List.{map-append}
 use Rattle.sf_model.specs.declared.design.Design.{Design}
 use Rattle.sf_model.specs.Legal.{block_count}
 use Rattle.sf_model.proofs.Each.{each-append}
 use Rattle.sf_node.specs.Parts.{Parts}
-use Rattle.sf_node.specs.declared.step.Step.{Step}
 use Rattle.sf_node.specs.Subproblem.{root, is_complete, is_wide, span_of}
-use Rattle.sf_node.specs.Children.{extended, split, can_split, CanSplit, IsSubproblem}
+use Rattle.sf_node.specs.Children.{extended, split, can_split, IsSubproblem}
 use Rattle.sf_node.proofs.Reached.{root-subproblem}
 use Rattle.sf_certificate.specs.declared.tag.Tag.{Tag}
 use Rattle.sf_certificate.specs.declared.tag.Tag.TheVariants.{Extend, Split, Closed, Open}
-use Rattle.sf_polish.specs.declared.expr.Token.{Token}
-use Rattle.sf_polish.specs.declared.expr.Token.TheVariants as token
-use Rattle.sf_node.specs.declared.step.Step.TheVariants as step
-use Rattle.sf_node.specs.Children.{after, step_of, next_tokens}
-use Rattle.sf_node.proofs.Reached.{steps-after, subproblem-spans}
 use Rattle.sf_certificate.specs.Places.{place_of, places_under, spell_trees}
 use Rattle.sf_certificate.specs.Valid.{AreTrees, left_open, least, decided}
 use Rattle.sf_certificate.specs.Marks.{made, IsFair}
@@ -145,7 +137,7 @@ walking-start design bound cost tags walk e =
       rest = ap (λ w. walked bound cost w tags) (sym e);
       subproblems = subst (λ w. AllByRecursion (IsSubproblem design) w.waiting) (sym e) (root-subproblem design, tt);
       few = omega (arith, ap (λ (w : Progress). w.number) e);
-      counted = omega (arith, ap (λ (w : Progress). w.number) e, ap (λ (w : Progress). w.decided) e)
+      counted = omega (arith, ap (λ (w : Progress). w.number) e, ap (λ (w : Progress). w.decided) e);
     }
 
 one-more : (bound : Parts → ℕ) (cost : ℕ) (tags : List Tag) (walk : Progress) (i : ℕ) (d : Tag) → i < length tags → walked bound cost walk (drop i tags) ≡ and_then (visited bound cost walk walk.waiting (get_or tags i d)) (λ next. walked bound cost next (drop (suc i) tags))
@@ -160,7 +152,7 @@ walking-step design bound cost tags walk next i d h e w =
       rest = w.rest ∙ one-more bound cost tags walk i d h ∙ ap (λ r. and_then r (λ z. walked bound cost z (drop (suc i) tags))) e ∙ ap (λ k. walked bound cost next (drop k tags)) j;
       subproblems = visit-subproblems design bound cost walk walk.waiting (get_or tags i d) next refl e w.subproblems;
       few = omega (arith, n.0, w.few);
-      counted = n.1
+      counted = n.1;
     }
 
 pub walking-fault : (design : Design) (bound : Parts → ℕ) (cost : ℕ) (tags : List Tag) (walk : Progress) (why : Why) (i : ℕ) (d : Tag) → i < length tags → visited bound cost walk walk.waiting (get_or tags i d) ≡ Err why → IsWalking design bound cost tags walk i → walked bound cost (start (root design) cost) tags ≡ Err why
@@ -189,29 +181,29 @@ seen-more bound cost walk next last node nodes Extend tags w v s =
     record {
       trees = subst (λ z. AreTrees bound cost z (Extend ∷ tags)) (sym w) (v.fair, subst (λ z. AreTrees bound cost z tags) e s.trees);
       low = s.low ∙ ap (λ n. least n (map bound (left_open next.waiting tags))) (sym v.low) ∙ ap (λ z. least walk.low (map bound (left_open z tags))) e ∙ ap (λ z. least walk.low (map bound (left_open z (Extend ∷ tags)))) (sym w);
-      count = omega (arith, s.count, v.decided)
+      count = omega (arith, s.count, v.decided);
     }
 seen-more bound cost walk next last node nodes (Split b) tags w v s =
     let e : next.waiting ≡ split node b ++ nodes = sym v.waiting in
     record {
       trees = subst (λ z. AreTrees bound cost z (Split b ∷ tags)) (sym w) (v.fair, subst (λ z. AreTrees bound cost z tags) e s.trees);
       low = s.low ∙ ap (λ n. least n (map bound (left_open next.waiting tags))) (sym v.low) ∙ ap (λ z. least walk.low (map bound (left_open z tags))) e ∙ ap (λ z. least walk.low (map bound (left_open z (Split b ∷ tags)))) (sym w);
-      count = omega (arith, s.count, v.decided)
+      count = omega (arith, s.count, v.decided);
     }
 seen-more bound cost walk next last node nodes Closed tags w v s =
     let e : next.waiting ≡ nodes = sym v.waiting in
     record {
       trees = subst (λ z. AreTrees bound cost z (Closed ∷ tags)) (sym w) (v.fair, subst (λ z. AreTrees bound cost z tags) e s.trees);
       low = s.low ∙ ap (λ n. least n (map bound (left_open next.waiting tags))) (sym v.low) ∙ ap (λ z. least walk.low (map bound (left_open z tags))) e ∙ ap (λ z. least walk.low (map bound (left_open z (Closed ∷ tags)))) (sym w);
-      count = omega (arith, s.count, v.decided)
+      count = omega (arith, s.count, v.decided);
     }
 seen-more bound cost walk next last node nodes Open tags w v s =
     let e : next.waiting ≡ nodes = sym v.waiting in
     record {
       trees = subst (λ z. AreTrees bound cost z (Open ∷ tags)) (sym w) (subst (λ z. AreTrees bound cost z tags) e s.trees);
       low = s.low ∙ ap (λ n. least n (map bound (left_open next.waiting tags))) (sym v.low) ∙ ap (λ z. least (min walk.low (bound node)) (map bound (left_open z tags))) e
-        ∙ least-min walk.low (bound node) (map bound (left_open nodes tags)) ∙ ap (λ z. least walk.low (map bound (left_open z (Open ∷ tags)))) (sym w);
-      count = omega (arith, s.count, v.decided)
+          ∙ least-min walk.low (bound node) (map bound (left_open nodes tags)) ∙ ap (λ z. least walk.low (map bound (left_open z (Open ∷ tags)))) (sym w);
+      count = omega (arith, s.count, v.decided);
     }
 
 record IsThen (r : Result Progress Why) (f : Progress → Result Progress Why) (last : Progress) : Type 0 where
@@ -235,7 +227,7 @@ seen design bound cost [] walk [] last w e spelled subs =
     record {
       trees = subst (λ z. AreTrees bound cost z []) (sym w) tt;
       low = ap (λ (z : Progress). z.low) (sym same) ∙ ap (λ z. least walk.low (map bound (left_open z []))) (sym w);
-      count = omega (arith, ap (λ (z : Progress). z.decided) same)
+      count = omega (arith, ap (λ (z : Progress). z.decided) same);
     }
 seen design bound cost (tag ∷ tags) walk [] last w e spelled subs = absurd (cc)
 seen design bound cost [] walk (node ∷ nodes) last w e spelled subs = absurd (cc)
@@ -245,11 +237,11 @@ seen design bound cost (tag ∷ tags) walk (node ∷ nodes) last w e spelled sub
     let v = visit-fact bound cost walk node nodes tag r.next (subst (λ z. visited bound cost walk z tag ≡ Ok r.next) w r.first) in
     let later : spell_trees n (places_under n tag (place_of node) ++ map place_of nodes) tags ≡ true = and-second (nat_lt (length node.steps) 3200) (spell_trees n (places_under n tag (place_of node) ++ map place_of nodes) tags) spelled in
     let places : map place_of (made tag node ++ nodes) ≡ places_under n tag (place_of node) ++ map place_of nodes =
-      map-append place_of (made tag node) nodes ∙ ap (λ z. z ++ map place_of nodes) (places-made design bound cost tag node subs.0 v.fair) in
+    map-append place_of (made tag node) nodes ∙ ap (λ z. z ++ map place_of nodes) (places-made design bound cost tag node subs.0 v.fair) in
     seen-more bound cost walk r.next last node nodes tag tags w v
-      (seen design bound cost tags r.next (made tag node ++ nodes) last (sym v.waiting) r.later
-        (subst (λ z. spell_trees n z tags ≡ true) (sym places) later)
-        (each-append (IsSubproblem design) (made tag node) nodes (made-subproblems design bound cost tag node subs.0 v.fair) subs.1))
+    (seen design bound cost tags r.next (made tag node ++ nodes) last (sym v.waiting) r.later
+    (subst (λ z. spell_trees n z tags ≡ true) (sym places) later)
+    (each-append (IsSubproblem design) (made tag node) nodes (made-subproblems design bound cost tag node subs.0 v.fair) subs.1))
 
 then-err : (r : Result Progress Why) (f : Progress → Result Progress Why) (why : Why) → and_then r f ≡ Err why → (r ≡ Err why) ⊎ ((next : Progress) × (r ≡ Ok next) × (f next ≡ Err why))
 then-err (Ok next) f why e = inr (next, refl, e)
@@ -263,6 +255,7 @@ faulty bound cost (tag ∷ tags) walk [] why w e trees = trees
 faulty bound cost (tag ∷ tags) walk (node ∷ nodes) why w e trees =
     let first = trees-first bound cost node nodes tag tags trees in
     elim (then-err (visited bound cost walk walk.waiting tag) (λ next. walked bound cost next tags) why e) [
-      inl here ↦ visit-fault bound cost walk node nodes tag why (subst (λ z. visited bound cost walk z tag ≡ Err why) w here) first.0
-    | inr there ↦ (let v = visit-fact bound cost walk node nodes tag there.0 (subst (λ z. visited bound cost walk z tag ≡ Ok there.0) w there.1) in
-        faulty bound cost tags there.0 (made tag node ++ nodes) why (sym v.waiting) there.2 first.1) ]
+      | inl here ↦ visit-fault bound cost walk node nodes tag why (subst (λ z. visited bound cost walk z tag ≡ Err why) w here) first.0
+      | inr there ↦ (let v = visit-fact bound cost walk node nodes tag there.0 (subst (λ z. visited bound cost walk z tag ≡ Ok there.0) w there.1) in
+          faulty bound cost tags there.0 (made tag node ++ nodes) why (sym v.waiting) there.2 first.1)
+    ]

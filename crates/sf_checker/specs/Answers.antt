@@ -1,5 +1,5 @@
 -- What the check answers.
-use Rattle.std.specs.Prelude.{◌≡◌, ◌≢◌, ℕ, List, [], ◌∷◌, map, Bool, true, false, ◌⊎◌, MatchOption, All, Contains, Some, Err}
+use Rattle.std.specs.Prelude.{◌≡◌, ◌≢◌, ℕ, [], ◌∷◌, map, Bool, true, false, ◌⊎◌, MatchOption, All, Contains, Some, Err}
 use Rattle.sf_model.specs.declared.design.Design.{Design}
 use Rattle.sf_model.specs.declared.TheConstants.{MAX}
 use Rattle.sf_model.specs.Tree.{Tree, leaves}
@@ -55,9 +55,9 @@ pub record IsOtherBound (design : Design) (bound : Parts → ℕ) (cert : Cert) 
 abbrev pub IsFirst : Design → (Parts → ℕ) → Cert → Why → Type 0
 IsFirst design bound cert why =
     ((why ≡ BadPlan) × IsBadPlan design cert)
-      ⊎ (((is : ℕ) × (why ≡ CostDiffers cert.cost is) × IsOtherCost design cert is)
-      ⊎ (IsBadTree design bound cert why
-      ⊎ ((is : ℕ) × (why ≡ BoundDiffers cert.bound is) × IsOtherBound design bound cert is)))
+    ⊎ (((is : ℕ) × (why ≡ CostDiffers cert.cost is) × IsOtherCost design cert is)
+    ⊎ (IsBadTree design bound cert why
+    ⊎ ((is : ℕ) × (why ≡ BoundDiffers cert.bound is) × IsOtherBound design bound cert is)))
 
 -- valid, with the cost, the bound and how many subproblems are decided
 pub record IsRight (design : Design) (bound : Parts → ℕ) (cert : Cert) (z low count : ℕ) : Type 0 where

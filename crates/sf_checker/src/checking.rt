@@ -45,7 +45,14 @@ fn answer_of<B: Bounds>(
         return Ok(Answer::No(why));
     }
     let mut room = Room::new(alloc);
-    match walk_all(alloc, design, bounds, cert.cost, cert.tags.as_slice(), &mut room)? {
+    match walk_all(
+        alloc,
+        design,
+        bounds,
+        cert.cost,
+        cert.tags.as_slice(),
+        &mut room,
+    )? {
         Err(why) => Ok(Answer::No(why)),
         Ok(walk) => {
             if walk.low() == cert.bound {

@@ -37,13 +37,34 @@ fn answers_the_first_failure(rt: HostRuntime) -> Result<(), Fail> {
     let alloc = rt.alloc();
     let design = two_blocks(alloc)?;
     let rows = [
-        (b"slicing-certificate 1\nblocks 2\ncost 15\nbound 15\nplan 0:2x3 1:3x2 *\ntree\nE E E C C E E C C\n".as_slice(), Answer::Yes(15, 15, 9)),
-        (b"slicing-certificate 1\nblocks 2\ncost 15\nbound 15\nplan 0:2x4 1:3x2 *\ntree\nE E E C C E E C C\n".as_slice(), Answer::No(Why::BadPlan)),
-        (b"slicing-certificate 1\nblocks 2\ncost 14\nbound 15\nplan 0:2x3 1:3x2 *\ntree\nE E E C C E E C C\n".as_slice(), Answer::No(Why::CostDiffers(14, 15))),
-        (b"slicing-certificate 1\nblocks 2\ncost 15\nbound 15\nplan 0:2x3 1:3x2 *\ntree\nC\n".as_slice(), Answer::No(Why::NotClosed(0, 12, 15))),
-        (b"slicing-certificate 1\nblocks 2\ncost none\nbound 13\nplan none\ntree\nE O O\n".as_slice(), Answer::No(Why::BoundDiffers(13, 12))),
-        (b"slicing-certificate 1\nblocks 2\ncost 15\nbound 15\nplan 0:2x3 1:3x2 *\ntree\nE S 0 C C O\n".as_slice(), Answer::No(Why::BadSplit(1))),
-        (b"slicing-certificate 1\nblocks 2\ncost 15\nbound 15\nplan 0:2x3 1:3x2 *\ntree\nE E E E C E E C C\n".as_slice(), Answer::No(Why::BadChildren(3))),
+        (
+            b"slicing-certificate 1\nblocks 2\ncost 15\nbound 15\nplan 0:2x3 1:3x2 *\ntree\nE E E C C E E C C\n".as_slice(),
+            Answer::Yes(15, 15, 9),
+        ),
+        (
+            b"slicing-certificate 1\nblocks 2\ncost 15\nbound 15\nplan 0:2x4 1:3x2 *\ntree\nE E E C C E E C C\n".as_slice(),
+            Answer::No(Why::BadPlan),
+        ),
+        (
+            b"slicing-certificate 1\nblocks 2\ncost 14\nbound 15\nplan 0:2x3 1:3x2 *\ntree\nE E E C C E E C C\n".as_slice(),
+            Answer::No(Why::CostDiffers(14, 15)),
+        ),
+        (
+            b"slicing-certificate 1\nblocks 2\ncost 15\nbound 15\nplan 0:2x3 1:3x2 *\ntree\nC\n".as_slice(),
+            Answer::No(Why::NotClosed(0, 12, 15)),
+        ),
+        (
+            b"slicing-certificate 1\nblocks 2\ncost none\nbound 13\nplan none\ntree\nE O O\n".as_slice(),
+            Answer::No(Why::BoundDiffers(13, 12)),
+        ),
+        (
+            b"slicing-certificate 1\nblocks 2\ncost 15\nbound 15\nplan 0:2x3 1:3x2 *\ntree\nE S 0 C C O\n".as_slice(),
+            Answer::No(Why::BadSplit(1)),
+        ),
+        (
+            b"slicing-certificate 1\nblocks 2\ncost 15\nbound 15\nplan 0:2x3 1:3x2 *\ntree\nE E E E C E E C C\n".as_slice(),
+            Answer::No(Why::BadChildren(3)),
+        ),
     ];
     for (text, answer) in rows {
         let cert = read(alloc, text, 2)?;

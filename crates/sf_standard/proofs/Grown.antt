@@ -12,15 +12,8 @@ use Rattle.sf_model.proofs.Each.{each-left, each-right}
 use Rattle.sf_polish.specs.declared.expr.Token.{Token}
 use Rattle.sf_polish.specs.declared.expr.Token.TheVariants as token
 use Rattle.sf_polish.specs.Postfix.{postfix}
-use Rattle.sf_standard.specs.Items as item
-use Rattle.sf_standard.specs.Items.{Item, read}
+use Rattle.sf_standard.specs.Items.{item_of, read}
 use Rattle.sf_standard.specs.Standard.{area}
-
--- a plan without its shapes
-abbrev pub item_of : Tree → Item
-item_of (Leaf b s) = item.Block b
-item_of (Beside l r) = item.Beside (item_of l) (item_of r)
-item_of (Above l r) = item.Above (item_of l) (item_of r)
 
 -- the plans after the tokens, the last first, where each block has its shape
 abbrev pub grow : (ℕ → Shape) → List Tree → List Token → List Tree

@@ -19,12 +19,12 @@ use Rattle.sf_node.specs.Parts.{Parts}
 use Rattle.sf_node.specs.Subproblem.{Belongs, is_complete}
 use Rattle.sf_curves.proofs.Members.{Contains-head, Contains-tail}
 use Rattle.std.proofs.lemmas.List.Elements.{Contains-append_left, Contains-append_right}
-use Rattle.sf_standard.specs.Items.{Item, items_of, span_shapes}
+use Rattle.sf_standard.specs.Items.{Item, items_of, span_shapes, item_of}
 use Rattle.sf_standard.specs.declared.hull.Extent.{Extent}
 use Rattle.sf_standard.specs.declared.hull.Offset.{Offset}
 use Rattle.sf_standard.specs.Hull.{extent_of, range_x, range_y, range_part, block_pins, small_side, pair_part, item_extent, moved_right, moved_up, offsets, offset_x, offset_y, contains_pin, of_net, pads_x, pads_y, hull_of, hull_part}
 use Rattle.sf_standard.specs.Standard.{net_part}
-use Rattle.sf_standard.proofs.Grown.{item_of, IsPart, part-self}
+use Rattle.sf_standard.proofs.Grown.{IsPart, part-self}
 use Rattle.sf_standard.proofs.Listed.{each-contains, each-from, Contains-map, sum_by-le_each, EachPair-from_pairs, EachPair-of}
 use Rattle.sf_standard.proofs.Placed.{IsPlaced, placed, found-spot, spot-below, IsFirst, spots-first}
 use Rattle.sf_standard.proofs.Cutting.{cut, belongs-listed}

@@ -13,9 +13,9 @@ use Rattle.sf_node.specs.Parts.{Parts}
 use Rattle.sf_node.specs.Subproblem.{Belongs, is_complete, is_solved}
 use Rattle.sf_node.specs.Bounds.{IsSound}
 use Rattle.sf_node.proofs.Reached.{subproblem-spans}
-use Rattle.sf_standard.specs.Items.{items_of, unused, fitting}
+use Rattle.sf_standard.specs.Items.{items_of, unused, fitting, item_of}
 use Rattle.sf_standard.specs.Standard.{least_cost, has_none, needed_area, net_part, bounded, standard}
-use Rattle.sf_standard.proofs.Grown.{item_of, part-self}
+use Rattle.sf_standard.proofs.Grown.{part-self}
 use Rattle.sf_standard.proofs.Cutting.{cut, part-fitting, least_of-le, needed-area, none-empty}
 use Rattle.sf_standard.proofs.NetWires.{nets-le}
 

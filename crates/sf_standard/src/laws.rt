@@ -1,9 +1,20 @@
+ghost use Rattle.std.specs.Prelude.{◌≡◌, ℕ, IsFalse};
 ghost use Rattle.sf_model.specs.declared.design.Design.{Design};
+ghost use Rattle.sf_node.specs.declared.step.Step.TheVariants.{Block};
 ghost use Rattle.sf_node.specs.Bounds.{IsSound, IsExactAtEnd};
+ghost use Rattle.sf_node.specs.Children.{IsSubproblem, CanStep, after};
+ghost use Rattle.sf_node.specs.Parts.{Parts};
+ghost use Rattle.sf_node.specs.Subproblem.{is_complete};
 ghost use Rattle.sf_standard.specs.Standard.{standard};
 
 /// No plan that belongs to a subproblem and fits costs less than the standard bound, which is the least cost at a solved one.
 pub fn standard_is_lawful()
     ensures sound { (design : Design) → IsSound design (standard design) }
     ensures exact { (design : Design) → IsExactAtEnd design (standard design) }
+{}
+
+/// A child by a block which leaves the subproblem incomplete has its parent's value: the block is only moved from the
+/// unused ones onto the stack.
+pub fn blocks_keep_values()
+    ensures { (design : Design) (node : Parts) (b : ℕ) → IsSubproblem design node → CanStep node (Block b) → IsFalse (is_complete (after node (Block b))) → standard design (after node (Block b)) ≡ standard design node }
 {}

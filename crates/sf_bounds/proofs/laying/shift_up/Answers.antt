@@ -1,9 +1,9 @@
-use Rattle.std.proofs.Common.{arith, ap, sym, ◌∙◌, subst, ◌≡◌, ◌+◌, length}
+use Rattle.std.proofs.Common.{arith, ap, sym, ◌∙◌, length}
 use Rattle.std.specs.Prelude.{slice_set}
 use Rattle.sf_standard.specs.Hull.{moved_up}
 use Rattle.sf_bounds.specs.declared.layout.Seat.{Seat}
 use Rattle.sf_bounds.specs.Layout.{reseated, IsModestOffset}
-use Rattle.sf_bounds.proofs.Shifting.{shifted, shifted-none, shifted-length, shift-step, shift-fact, shift-end}
+use Rattle.sf_bounds.proofs.Shifting.{shifted-none, shifted-length, shift-step, shift-fact, shift-end}
 use Rattle.sf_bounds.proofs.laying.shift_up.Goals as goal
 
 pub loop-place-init : goal.loop-place-init

@@ -1,10 +1,6 @@
-use Rattle.std.proofs.Common.{arith, ap, sym, subst, ◌∙◌, take, ◌<◌, length, false, ◌≤◌}
-use Rattle.std.specs.Prelude.{fold}
-use Rattle.std.proofs.lemmas.List.Elements.{recursion_from_All}
-use Rattle.sf_model.specs.Limits.{pin_number, pin_count}
-use Rattle.sf_model.proofs.Each.{each-left}
+use Rattle.std.proofs.Common.{arith, ap, sym, subst, ◌∙◌, false, ◌≤◌}
 use Rattle.sf_bounds.specs.Pins.{pairs_pin, extent_from}
-use Rattle.sf_bounds.proofs.Pairing.{IsSmallPair, pair_sum, pairs_before}
+use Rattle.sf_bounds.proofs.Pairing.{pair_sum, pairs_before}
 use Rattle.sf_bounds.proofs.Reading.{fold_whole}
 use Rattle.sf_bounds.proofs.pins.pair_part.Goals as goal
 

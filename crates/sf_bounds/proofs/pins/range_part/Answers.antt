@@ -1,5 +1,4 @@
-use Rattle.std.proofs.Common.{arith, ap, sym, subst, ◌∙◌, take}
-use Rattle.std.specs.Prelude.{fold}
+use Rattle.std.proofs.Common.{arith, ap, sym, subst, ◌∙◌}
 use Rattle.sf_bounds.specs.Near.{IsNearby, met, anywhere, reach_gap}
 use Rattle.sf_bounds.specs.Pins.{pin_range, extent_from}
 use Rattle.sf_bounds.proofs.Ranges.{range_is}

@@ -1,4 +1,3 @@
-use Rattle.std.proofs.Common.{◌≡◌}
 use Rattle.std.proofs.lemmas.Result.{err_from_is_err_and}
 use Rattle.sf_lex.specs.Scan.{numbered_rest, last_line_of}
 use Rattle.sf_certificate.proofs.HeaderReads.{header-first, header-second, header-third, header-fourth, header-fifth, header-sixth, header-whole}

@@ -1,10 +1,9 @@
-use Rattle.std.proofs.Common.{◌≡◌, ℕ, length, ap, sym, ◌∙◌, map, List}
+use Rattle.std.proofs.Common.{ℕ, length, ap, ◌∙◌, map, List}
 use Rattle.sf_node.specs.declared.task.Task.{Task}
 use Rattle.sf_certificate.specs.declared.mark.Mark.{Mark}
 use Rattle.sf_certificate.specs.Valid.{least}
 use Rattle.sf_node.specs.Parts.{Parts}
 use Rattle.sf_node.proofs.Depth.{subproblem-shallow}
-use Rattle.sf_certificate.proofs.MergedTree.{IsMerged}
 use Rattle.sf_certificate.proofs.MergedCert.{merged-tree, merged-formed, merged-valid}
 use Rattle.sf_certificate.proofs.merging.merge.Goals as goal
 

@@ -1,6 +1,6 @@
-use Rattle.std.proofs.Common.{◌≡◌, sym, ◌∙◌, ap, Ok, Err}
+use Rattle.std.proofs.Common.{sym, ◌∙◌, ap, Ok}
 use Rattle.std.proofs.lemmas.Result.{err_from_is_err_and}
-use Rattle.sf_lex.specs.Scan.{numbered_rest, last_line_of}
+use Rattle.sf_lex.specs.Scan.{last_line_of}
 use Rattle.sf_certificate.specs.Reading.{header_read}
 use Rattle.sf_certificate.proofs.HeaderReads.{start-lines, cert-header, cert-tree, cert-whole}
 use Rattle.sf_certificate.proofs.reading.read.Goals as goal

@@ -1,10 +1,10 @@
-use Rattle.std.proofs.Common.{◌≡◌, ℕ, List, [], ◌∷◌, length, ap, sym, ◌∙◌, arith, None, Err}
+use Rattle.std.proofs.Common.{[], ◌∷◌, length, ap, sym, ◌∙◌, arith, None, Err}
 use Rattle.std.proofs.lemmas.Result.{err_from_is_err_and}
 use Rattle.sf_lex.specs.Scan.{numbered_words, last_line_of, line_word}
 use Rattle.sf_certificate.specs.declared.fault.CertFault.TheVariants.{Truncated}
 use Rattle.sf_certificate.specs.Places.{first_place}
-use Rattle.sf_certificate.specs.Reading.{tags_said, tree_read}
-use Rattle.sf_certificate.proofs.TreeReads.{reading-start, reading-trailing, reading-fault, reading-deep, reading-step, reading-done, reading-cut, read-spells}
+use Rattle.sf_certificate.specs.Reading.{tags_said}
+use Rattle.sf_certificate.proofs.TreeReads.{reading-trailing, reading-fault, reading-deep, reading-step, reading-done, reading-cut, read-spells}
 use Rattle.sf_certificate.proofs.tree.read_tree.Goals as goal
 
 pub returns-in_default-take-clause-fault : goal.returns-in_default-take-clause-fault

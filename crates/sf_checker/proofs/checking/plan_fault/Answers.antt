@@ -1,4 +1,4 @@
-use Rattle.std.proofs.Common.{◌≡◌, subst}
+use Rattle.std.proofs.Common.{subst}
 use Rattle.sf_polish.specs.Text.{IsWritable}
 use Rattle.sf_checker.proofs.checking.plan_fault.Goals as goal
 

@@ -1,6 +1,5 @@
-use Rattle.std.proofs.Common.{◌≡◌, sym, subst, true, arith}
+use Rattle.std.proofs.Common.{◌≡◌, sym, true, arith}
 use Rattle.sf_model.specs.Tree.{tree_of}
-use Rattle.sf_polish.specs.Normal.{IsNormal}
 use Rattle.sf_checker.proofs.Plans.{blocks-below, leaves-few, has-sides, listed-legal, unlisted-unfit, large-unfit}
 use Rattle.sf_checker.proofs.planning.plan_cost.Goals as goal
 

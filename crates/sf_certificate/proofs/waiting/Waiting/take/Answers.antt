@@ -1,4 +1,4 @@
-use Rattle.std.proofs.Common.{◌≡◌, ℕ, suc, ◌-◌, ◌∷◌, List, length, take, get_or, ap, sym, ◌∙◌, arith}
+use Rattle.std.proofs.Common.{◌≡◌, ◌-◌, ◌∷◌, List, length, take, get_or, ap, sym, ◌∙◌, arith}
 use Rattle.sf_certificate.specs.declared.place.Place.{Place}
 use Rattle.sf_certificate.proofs.Frames.{places-popped, places-lessened}
 use Rattle.sf_certificate.proofs.waiting.Waiting.take.Goals as goal

@@ -1,0 +1,6 @@
+use Rattle.sf_bounds.specs.Layout.{Tells}
+use Rattle.sf_bounds.specs.Only.{first_shape}
+use Rattle.sf_bounds.proofs.only_plan.first_shapes.Given as goal
+
+abbrev pub invariant-loop-block : goal.invariant-loop-block
+invariant-loop-block l = Tells (first_shape l.design l.node) l.block l.shapes.items

@@ -1,0 +1,11 @@
+-- The plan of a subproblem whose spans have one place each.
+use Rattle.std.specs.Prelude.{ℕ, slice_index_or}
+use Rattle.sf_model.specs.declared.design.Design.{Design}
+use Rattle.sf_model.specs.declared.parts.Shape.{Shape}
+use Rattle.sf_model.specs.Legal.{shapes_of}
+use Rattle.sf_node.specs.Parts.{Parts}
+use Rattle.sf_node.specs.Subproblem.{span_of}
+
+-- the first shape in the span of a block
+abbrev pub first_shape : Design → Parts → ℕ → Shape
+first_shape design node b = slice_index_or (shapes_of design b) (span_of node b).0 (record { w = 0; h = 0 })

@@ -1,0 +1,86 @@
+ghost use Rattle.std.specs.Prelude.{◌≡◌, ◌∷◌, [], IfOk, IfSome, length};
+ghost use Rattle.sf_node.specs.Children.{IsSubproblem};
+
+use crate::{Bounds, Room, Standard, solve};
+use sf_model::{
+    Block, BlockList, Design, Name, Net, NetList, Outline, Pad, PadList, Pin, Pins, Shape, Shapes,
+    Weights,
+};
+use sf_node::Node;
+use std::alloc::{AllocError, Global};
+use std::test::Fail;
+
+/// One block in three shapes, a pad and a net of both, with wire weight 10.
+fn three_shapes(alloc: Global) -> Result<Design, AllocError> {
+    let shapes = vec![in alloc;
+        Shape { w: 1, h: 4 },
+        Shape { w: 2, h: 2 },
+        Shape { w: 3, h: 2 },
+    ]?;
+    let block = Block {
+        name: Name::new(alloc, b"b")?,
+        shapes: Shapes::from_vec(shapes),
+    };
+    let pad = Pad {
+        name: Name::new(alloc, b"p")?,
+        x: 10,
+        y: 0,
+    };
+    let net = Net {
+        pins: Pins::from_vec(vec![in alloc; Pin::Block(0), Pin::Pad(0)]?),
+    };
+    Ok(Design {
+        blocks: BlockList::from_vec(vec![in alloc; block]?),
+        pads: PadList::from_vec(vec![in alloc; pad]?),
+        nets: NetList::from_vec(vec![in alloc; net]?),
+        outline: Outline {
+            w: 1_048_576,
+            h: 1_048_576,
+        },
+        weights: Weights { area: 1, wire: 10 },
+    })
+}
+
+fn root(alloc: Global, design: &Design) -> Result<Node, AllocError>
+    ensures { IfOk result (IsSubproblem design.now) }
+{
+    let node = Node::root(alloc, design)?;
+    Ok(node)
+}
+
+fn last_child(design: &Design, node: &Node) -> Result<Option<Node>, AllocError>
+    requires { IsSubproblem design.now node.now }
+    ensures { IfOk result (λ child. IfSome child (IsSubproblem design.now)) }
+{
+    let mut children = node.extend_children(design)?;
+    Ok(children.pop())
+}
+
+fn halves(design: &Design, node: &Node) -> Result<Option<(Node, Node)>, AllocError>
+    requires { IsSubproblem design.now node.now }
+    ensures { IfOk result (λ found. IfSome found (λ pair. IsSubproblem design.now pair.0 × IsSubproblem design.now pair.1)) }
+{
+    let Some(block) = node.first_wide() else {
+        return Ok(None);
+    };
+    let pair = node.split_children(design, block)?;
+    Ok(Some(pair))
+}
+
+#[test]
+fn measures(rt: HostRuntime) -> Result<(), Fail> {
+    let alloc = rt.alloc();
+    let mut room = Room::new(alloc);
+    let design = three_shapes(alloc)?;
+    let start = root(alloc, &design)?;
+    assert_eq!(rt; Standard.bound(&design, &start, &mut room)?, 24);
+    let whole = last_child(&design, &start)?.ok_or("no child")?;
+    assert_eq!(rt; Standard.bound(&design, &whole, &mut room)?, 194);
+    let (high, low) = halves(&design, &whole)?.ok_or("one shape")?;
+    assert_eq!(rt; Standard.bound(&design, &high, &mut room)?, 234);
+    assert_eq!(rt; Standard.bound(&design, &low, &mut room)?, 194);
+    let (square, wide) = halves(&design, &low)?.ok_or("one shape")?;
+    assert_eq!(rt; Standard.bound(&design, &square, &mut room)?, 204);
+    assert_eq!(rt; Standard.bound(&design, &wide, &mut room)?, 196);
+    Ok(())
+}

@@ -1,0 +1,227 @@
+-- A child by a block that leaves the subproblem incomplete has the bound of its parent.
+use Rattle.std.proofs.Common.{◌≡◌, ◌≢◌, ℕ, suc, ◌+◌, ◌*◌, ◌<◌, ◌≤◌, max, List, [], ◌∷◌, ◌++◌, length, map, append_assoc, arith, refl, ap, sym, ◌∙◌, inl, inr, Bool, true, false, cond, ◌==◌}
+use Prim.Native.Nat.{zero}
+use Rattle.std.specs.Prelude.{sum, sum_by, filter, count_by, nat_lt, ◌||◌, ◌&&◌, if◌then◌else◌, not, ℤ, pos, negsuc, ◌-ℤ◌, ◌≤ℤ◌}
+use Rattle.std.specs.List.{list_all, list_any, range_with_len}
+use Rattle.std.proofs.lemmas.Int.{ints}
+use Rattle.std.proofs.lemmas.Bool.{cases_eq, cond-true, cond-false, eqb-true, ne_eqb, eq-eqb}
+use Rattle.std.proofs.lemmas.List.{map-append}
+use Rattle.std.proofs.lemmas.List.Sums.{sum_by-cons, sum_by-append, sum-map}
+use Rattle.sf_model.specs.declared.design.Design.{Design}
+use Rattle.sf_model.specs.declared.parts.Net.{Net}
+use Rattle.sf_model.specs.declared.parts.Shape.{Shape}
+use Rattle.sf_model.specs.declared.TheConstants.{MAX}
+use Rattle.sf_model.specs.Tree.{Tree, width, height}
+use Rattle.sf_polish.specs.declared.expr.Token.{Token}
+use Rattle.sf_polish.specs.declared.expr.Token.TheVariants as token
+use Rattle.sf_polish.specs.Normal.{is_block}
+use Rattle.sf_node.specs.declared.step.Step.TheVariants as step
+use Rattle.sf_node.specs.Parts.{Parts}
+use Rattle.sf_node.specs.Subproblem.{is_complete, is_solved, is_wide}
+use Rattle.sf_node.specs.Children.{IsSubproblem, CanStep, after, is_unused}
+use Rattle.sf_node.proofs.Normalised.{complete-normal}
+use Rattle.sf_node.proofs.Reached.{subproblem-spans}
+use Rattle.sf_curves.proofs.Members.{Contains-head}
+use Rattle.sf_standard.specs.Items as item
+use Rattle.sf_standard.specs.Items.{Item, read, items_of, unused, span_shapes, fitting}
+use Rattle.sf_standard.specs.Hull.{extent_of, to_nat, gap, range_part, pair_part, offset_x, offset_y, contains_pin, hull_of, hull_part}
+use Rattle.sf_standard.specs.Standard.{least_of, area, least_cost, has_none, greatest, needed_area, net_part, bounded, standard}
+use Rattle.sf_standard.proofs.Gaps.{least-member, most-member}
+use Rattle.sf_standard.proofs.Appended.{read-append, read-block}
+
+-- an element that moves to the front
+sum_by-move : {X : Type 0} (f : X → ℕ) (ws vs : List X) (x : X) → sum_by f (ws ++ x ∷ vs) ≡ sum_by f (x ∷ (ws ++ vs))
+sum_by-move f [] vs x = refl
+sum_by-move f (w ∷ ws) vs x =
+    omega (arith, sum_by-cons f w (ws ++ x ∷ vs), sum_by-cons f x (w ∷ (ws ++ vs)), sum_by-cons f w (ws ++ vs), sum_by-cons f x (ws ++ vs), sum_by-move f ws vs x)
+
+sum-move : {X : Type 0} (f : X → ℕ) (ws vs : List X) (x : X) → sum (map f (ws ++ x ∷ vs)) ≡ sum (map f (x ∷ (ws ++ vs)))
+sum-move f ws vs x = sum-map f (ws ++ x ∷ vs) ∙ sum_by-move f ws vs x ∙ sym (sum-map f (x ∷ (ws ++ vs)))
+
+greatest-move : {X : Type 0} (f : X → ℕ) (ws vs : List X) (x : X) → greatest (map f (ws ++ x ∷ vs)) ≡ greatest (map f (x ∷ (ws ++ vs)))
+greatest-move f [] vs x = refl
+greatest-move f (w ∷ ws) vs x = omega (arith, greatest-move f ws vs x)
+
+or-swap : (a b c : Bool) → (a || (b || c)) ≡ (b || (a || c))
+or-swap true true c = refl
+or-swap true false c = refl
+or-swap false true c = refl
+or-swap false false c = refl
+
+any-move : {X : Type 0} (p : X → Bool) (ws vs : List X) (x : X) → list_any p (ws ++ x ∷ vs) ≡ list_any p (x ∷ (ws ++ vs))
+any-move p [] vs x = refl
+any-move p (w ∷ ws) vs x = ap (λ v. p w || v) (any-move p ws vs x) ∙ or-swap (p w) (p x) (list_any p (ws ++ vs))
+
+-- two tests that agree but at b
+record AgreeBut (b : ℕ) (p q : ℕ → Bool) : Type 0 where
+  here : p b ≡ true
+  gone : q b ≡ false
+  other : (k : ℕ) → k ≢ b → q k ≡ p k
+
+filter-above : (b : ℕ) (p q : ℕ → Bool) → AgreeBut b p q → (a n : ℕ) → b < a → filter q (range_with_len a n) ≡ filter p (range_with_len a n)
+filter-above b p q g a zero lt = refl
+filter-above b p q g a (suc n) lt =
+    ap (λ t. cond t (a ∷ filter q (range_with_len (a + 1) n)) (filter q (range_with_len (a + 1) n))) (g.other a (λ e. absurd (omega arith)))
+    ∙ ap (λ v. cond (p a) (a ∷ v) v) (filter-above b p q g (a + 1) n (omega arith))
+
+-- a number leaves the filtered range
+record Leaves (b : ℕ) (all less : List ℕ) : Type 0 where
+  front : List ℕ
+  back : List ℕ
+  whole : all ≡ front ++ b ∷ back
+  rest : less ≡ front ++ back
+
+filter-leaves : (b : ℕ) (p q : ℕ → Bool) → AgreeBut b p q → (a n : ℕ) → a ≤ b → b < a + n → Leaves b (filter p (range_with_len a n)) (filter q (range_with_len a n))
+filter-leaves b p q g a zero le lt = absurd (omega arith)
+filter-leaves b p q g a (suc n) le lt =
+    elim (cases_eq a b) [
+      | inl e ↦ (let above = filter-above b p q g (a + 1) n (omega (arith, e)) in
+          record {
+            front = [];
+            back = filter p (range_with_len (a + 1) n);
+            whole = cond-true (p a) (a ∷ filter p (range_with_len (a + 1) n)) (filter p (range_with_len (a + 1) n)) (ap p e ∙ g.here) ∙ ap (λ v. v ∷ filter p (range_with_len (a + 1) n)) e;
+            rest = cond-false (q a) (a ∷ filter q (range_with_len (a + 1) n)) (filter q (range_with_len (a + 1) n)) (ap q e ∙ g.gone) ∙ above;
+          })
+      | inr ne ↦ (let k = filter-leaves b p q g (a + 1) n (omega (arith, ne)) (omega arith) in
+          let same = g.other a ne in
+          elim (p a) as (λ t. q a ≡ t → Leaves b (cond t (a ∷ filter p (range_with_len (a + 1) n)) (filter p (range_with_len (a + 1) n))) (cond (q a) (a ∷ filter q (range_with_len (a + 1) n)) (filter q (range_with_len (a + 1) n)))) [
+            | true ↦ λ s. record {
+              front = a ∷ k.front;
+              back = k.back;
+              whole = ap (λ v. a ∷ v) k.whole;
+              rest = cond-true (q a) (a ∷ filter q (range_with_len (a + 1) n)) (filter q (range_with_len (a + 1) n)) s ∙ ap (λ v. a ∷ v) k.rest;
+            }
+            | false ↦ λ s. record {
+              front = k.front;
+              back = k.back;
+              whole = k.whole;
+              rest = cond-false (q a) (a ∷ filter q (range_with_len (a + 1) n)) (filter q (range_with_len (a + 1) n)) s ∙ k.rest;
+            }
+          ] same)
+    ]
+
+count-push : (k b : ℕ) (ts : List Token) → count_by (is_block k) (ts ++ token.Block b ∷ []) ≡ count_by (is_block k) ts + (if b == k then 1 else 0)
+count-push k b ts = omega (arith, sum_by-append (λ t. cond {A = ℕ} (is_block k t) 1 0) ts (token.Block b ∷ []), sum_by-cons (λ t. cond {A = ℕ} (is_block k t) 1 0) (token.Block b) [])
+
+block-agrees : (b : ℕ) (ts : List Token) → is_unused b ts ≡ true → AgreeBut b (λ k. is_unused k ts) (λ k. is_unused k (ts ++ token.Block b ∷ []))
+block-agrees b ts free = record {
+  here = free;
+  gone = (let one : ◌≡◌ {A = ℕ} (if b == b then 1 else 0) 1 = cond-true (b == b) 1 0 (eq-eqb b b refl) in
+      ne_eqb (count_by (is_block b) (ts ++ token.Block b ∷ [])) 0 (λ e. absurd (omega (arith, e, count-push b b ts, one))));
+  other = λ k ne. (let none : ◌≡◌ {A = ℕ} (if b == k then 1 else 0) 0 = cond-false (b == k) 1 0 (ne_eqb b k (λ e. ne (sym e))) in
+      let same : count_by (is_block k) (ts ++ token.Block b ∷ []) ≡ count_by (is_block k) ts = omega (arith, count-push k b ts, none) in
+      ap (λ n. n == 0) same);
+}
+
+-- the extent of a block has its least sides first
+extent-ordered : (ss : List Shape) → ((extent_of ss).least_w ≤ (extent_of ss).most_w) × ((extent_of ss).least_h ≤ (extent_of ss).most_h)
+extent-ordered [] = (omega arith, omega arith)
+extent-ordered (s ∷ ss) = (
+  omega (arith, least-member (λ t. t.w) s ss s (Contains-head s ss), most-member (λ t. t.w) s ss s (Contains-head s ss)),
+  omega (arith, least-member (λ t. t.h) s ss s (Contains-head s ss), most-member (λ t. t.h) s ss s (Contains-head s ss)),
+)
+
+no-gap : (z : ℤ) → z ≤ℤ pos 0 → to_nat z ≡ 0
+no-gap (pos n) h = omega (arith, ints, h)
+no-gap (negsuc n) h = refl
+
+-- a lone block has no hull
+lone-hull : (design : Design) (node : Parts) (b : ℕ) (net : Net) → hull_of design (λ k. extent_of (span_shapes design node k)) false net (item.Block b) ≡ 0
+lone-hull design node b net =
+    let e = extent_of (span_shapes design node b) in
+    let k = extent-ordered (span_shapes design node b) in
+    elim (contains_pin b net.pins) as (λ t. (gap (map (offset_x (λ k. extent_of (span_shapes design node k))) (if t then (record { block = b; least_x = 0; most_x = 0; least_y = 0; most_y = 0 } ∷ []) else []) ++ [])
+    + gap (map (offset_y (λ k. extent_of (span_shapes design node k))) (if t then (record { block = b; least_x = 0; most_x = 0; least_y = 0; most_y = 0 } ∷ []) else []) ++ [])) ≡ 0) [
+      | true ↦ omega (arith, no-gap (pos (2 * 0 + e.least_w) -ℤ pos (2 * 0 + e.most_w)) (omega (arith, ints, k.0)), no-gap (pos (2 * 0 + e.least_h) -ℤ pos (2 * 0 + e.most_h)) (omega (arith, ints, k.1)))
+      | false ↦ refl
+    ]
+
+sum_by-same : {X : Type 0} (f g : X → ℕ) → ((x : X) → f x ≡ g x) → (xs : List X) → sum_by f xs ≡ sum_by g xs
+sum_by-same f g h [] = refl
+sum_by-same f g h (x ∷ xs) = omega (arith, sum_by-cons f x xs, sum_by-cons g x xs, h x, sum_by-same f g h xs)
+
+module _ (design : Design) (node : Parts) (b : ℕ) (sub : IsSubproblem design node) (can : CanStep node (step.Block b)) (open_child : is_complete (after node (step.Block b)) ≡ false) where
+  abbrev child : Parts
+  child = after node (step.Block b)
+
+  items-child : items_of child ≡ item.Block b ∷ items_of node
+  items-child = read-append [] node.tokens (token.Block b ∷ []) ∙ read-block (items_of node) b
+
+  open-node : is_complete node ≡ false
+  open-node = by-cases (is_complete node) refl
+    where
+      by-cases : (t : Bool) → is_complete node ≡ t → is_complete node ≡ false
+      by-cases false e = e
+      by-cases true e =
+          let spans = subproblem-spans design node sub in
+          let once = (complete-normal design node sub spans e).each_once b (omega (arith, can.0, spans)) in
+          absurd (omega (arith, once, eqb-true (count_by (is_block b) node.tokens) 0 can.1))
+
+  -- the wires of each net
+  net-same : (net : Net) → net_part design child net ≡ net_part design node net
+  net-same net =
+      let extent = λ (k : ℕ). extent_of (span_shapes design node k) in
+      let hull : hull_part design extent (is_complete child) (items_of child) net ≡ hull_part design extent (is_complete node) (items_of node) net =
+      ap (λ t. hull_part design extent t (items_of child) net) open_child
+      ∙ ap (λ is. hull_part design extent false is net) items-child
+      ∙ (let zero_hull : max (hull_of design extent false net (item.Block b)) (hull_part design extent false (items_of node) net) ≡ hull_part design extent false (items_of node) net = omega (arith, lone-hull design node b net) in zero_hull)
+      ∙ ap (λ t. hull_part design extent t (items_of node) net) (sym open-node) in
+      ap (λ h. if nat_lt (length net.pins) 2 then 0 else max (range_part design extent net) (max (pair_part extent net) h)) hull
+
+  abbrev ways : Item → List Tree
+  ways = fitting design node
+
+  leaves-range : Leaves b (filter (λ k. is_unused k node.tokens) (range_with_len 0 (length node.spans))) (filter (λ k. is_unused k (node.tokens ++ token.Block b ∷ [])) (range_with_len 0 (length node.spans)))
+  leaves-range = filter-leaves b (λ k. is_unused k node.tokens) (λ k. is_unused k (node.tokens ++ token.Block b ∷ [])) (block-agrees b node.tokens can.1) 0 (length node.spans) (omega arith) (omega (arith, can.0))
+
+  abbrev ahead : List (List Tree)
+  ahead = map (fitting design node) (items_of node ++ map (λ k. item.Block k) leaves-range.front)
+
+  abbrev behind : List (List Tree)
+  behind = map (fitting design node) (map (λ k. item.Block k) leaves-range.back)
+
+  plans-node : map (fitting design node) (items_of node ++ unused node) ≡ ahead ++ fitting design node (item.Block b) ∷ behind
+  plans-node =
+      let k = leaves-range in
+      let U = map (λ (k : ℕ). item.Block k) k.front in
+      let V = map (λ (k : ℕ). item.Block k) k.back in
+      ap (λ v. map (fitting design node) (items_of node ++ v)) (ap (map (λ k. item.Block k)) k.whole ∙ map-append (λ k. item.Block k) k.front (b ∷ k.back))
+      ∙ ap (map (fitting design node)) (sym (append_assoc (items_of node) U (item.Block b ∷ V)))
+      ∙ map-append (fitting design node) (items_of node ++ U) (item.Block b ∷ V)
+
+  plans-child : map (fitting design child) (items_of child ++ unused child) ≡ fitting design node (item.Block b) ∷ (ahead ++ behind)
+  plans-child =
+      let k = leaves-range in
+      let U = map (λ (k : ℕ). item.Block k) k.front in
+      let V = map (λ (k : ℕ). item.Block k) k.back in
+      ap (λ v. map (fitting design node) (v ++ unused child)) items-child
+      ∙ ap (λ v. fitting design node (item.Block b) ∷ map (fitting design node) (items_of node ++ v)) (ap (map (λ k. item.Block k)) k.rest ∙ map-append (λ k. item.Block k) k.front k.back)
+      ∙ ap (λ v. fitting design node (item.Block b) ∷ v) (ap (map (fitting design node)) (sym (append_assoc (items_of node) U V)) ∙ map-append (fitting design node) (items_of node ++ U) V)
+
+  area-same : (ws vs : List (List Tree)) (x : List Tree) → needed_area (x ∷ (ws ++ vs)) ≡ needed_area (ws ++ x ∷ vs)
+  area-same ws vs x =
+      ap (λ v. max v (greatest (map (least_of width) (x ∷ (ws ++ vs))) * greatest (map (least_of height) (x ∷ (ws ++ vs))))) (sym (sum-move (least_of area) ws vs x))
+      ∙ ap (λ v. max (sum (map (least_of area) (ws ++ x ∷ vs))) (v * greatest (map (least_of height) (x ∷ (ws ++ vs))))) (sym (greatest-move (least_of width) ws vs x))
+      ∙ ap (λ v. max (sum (map (least_of area) (ws ++ x ∷ vs))) (greatest (map (least_of width) (ws ++ x ∷ vs)) * v)) (sym (greatest-move (least_of height) ws vs x))
+
+  bounded-same : bounded design child (map (fitting design child) (items_of child ++ unused child)) ≡ bounded design node (map (fitting design node) (items_of node ++ unused node))
+  bounded-same =
+      let x = fitting design node (item.Block b) in
+      let ws = ahead in
+      let vs = behind in
+      let whole = λ (none : Bool) (a w : ℕ). (if none then MAX else (if nat_lt (design.outline.w * design.outline.h) a then MAX else (design.weights.area * a + design.weights.wire * w))) in
+      let nets : sum_by (net_part design child) design.nets ≡ sum_by (net_part design node) design.nets = sum_by-same (net_part design child) (net_part design node) net-same design.nets in
+      ap (bounded design child) plans-child
+      ∙ ap (λ t. whole t (needed_area (x ∷ (ws ++ vs))) (sum_by (net_part design child) design.nets)) (sym (any-move has_none ws vs x))
+      ∙ ap (λ a. whole (list_any has_none (ws ++ x ∷ vs)) a (sum_by (net_part design child) design.nets)) (area-same ws vs x)
+      ∙ ap (λ w. whole (list_any has_none (ws ++ x ∷ vs)) (needed_area (ws ++ x ∷ vs)) w) nets
+      ∙ sym (ap (bounded design node) plans-node)
+
+  unsolved : (parts : Parts) → is_complete parts ≡ false → is_solved design parts ≡ false
+  unsolved parts e = ap (λ t. t && (design.weights.wire == 0 || list_all (λ span. not (is_wide span)) parts.spans)) e
+
+  pub block_keeps : standard design (after node (step.Block b)) ≡ standard design node
+  block_keeps =
+      cond-false (is_solved design child) (least_cost design child (items_of child)) (bounded design child (map (fitting design child) (items_of child ++ unused child))) (unsolved child open_child)
+      ∙ bounded-same
+      ∙ sym (cond-false (is_solved design node) (least_cost design node (items_of node)) (bounded design node (map (fitting design node) (items_of node ++ unused node))) (unsolved node open-node))
