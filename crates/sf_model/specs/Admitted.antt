@@ -1,5 +1,5 @@
 -- Which parts may become a design, and the first reason why others may not.
-use Rattle.std.specs.Prelude.{◌≡◌, ◌≢◌, ℕ, ◌+◌, ◌-◌, ◌^◌, min, Result, MatchResult, ◌<◌, Bool, true, false, not, ◌&&◌, ◌||◌, nat_lt, ◌==◌, List, [], ◌∷◌, ◌++◌, map, filter, length, sum_by, flat_map, filter_map, All, Option, Some, None, is_some, is_none, if◌then◌else◌, ℤ, nat_abs}
+use Rattle.std.specs.Prelude.{◌≡◌, ◌≢◌, ◌≤◌, IsTrue, ℕ, ◌+◌, ◌-◌, ◌^◌, min, Result, MatchResult, ◌<◌, Bool, true, false, not, ◌&&◌, ◌||◌, nat_lt, ◌==◌, List, [], ◌∷◌, ◌++◌, map, filter, length, sum_by, flat_map, filter_map, All, Option, Some, None, is_some, is_none, if◌then◌else◌, ℤ, nat_abs}
 use Rattle.std.specs.List.{list_any, position_from}
 use Rattle.std.specs.Str.{bytes_eq}
 use Rattle.sf_model.specs.declared.fault.BuildFault.{BuildFault}
@@ -96,6 +96,12 @@ unknowns parts = at_pin_names (if_neither parts) parts.nets ++ flat_map (if_neit
 
 -- Places.
 
+-- the index of a pin's block, if it has one
+abbrev pub block_of : List RawBlock → RawPin → Option ℕ
+block_of blocks (raw.Named n) = position_from (bytes_eq n) 0 (block_names blocks)
+block_of blocks (raw.Block b) = Some b
+block_of blocks (raw.Pad p) = None
+
 -- the index of a pin's pad, if it has one
 abbrev pub pad_of : List RawPad → RawPin → Option ℕ
 pad_of pads (raw.Named n) = position_from (bytes_eq n) 0 (pad_names pads)
@@ -146,6 +152,25 @@ IsFirstOf fs result = MatchResult result (λ _. first fs ≡ None) (λ f. f ≢ 
 
 abbrev pub IsAdmitted : Parts → Type 0
 IsAdmitted parts = first_refusal parts ≡ None
+
+-- What admitted parts keep.
+
+abbrev pub IsKindWithin : Kind → Type 0
+IsKindWithin (kind.Hard w h) = (w ≤ 2 ^ 20) × (h ≤ 2 ^ 20)
+IsKindWithin (kind.Soft area least most) = area ≤ 2 ^ 40
+
+abbrev pub IsPlaceWithin : Option (ℤ × ℤ) → Type 0
+IsPlaceWithin None = Unit {0}
+IsPlaceWithin (Some at) = (nat_abs at.0 ≤ 2 ^ 20) × (nat_abs at.1 ≤ 2 ^ 20)
+
+pub record KeepsLimits (parts : Parts) : Type 0 where
+  pub some_block : 1 ≤ length parts.blocks
+  pub few_blocks : length parts.blocks ≤ 320
+  pub few_pads : length parts.pads ≤ 16384
+  pub few_nets : length parts.nets ≤ 65536
+  pub few_pins : sum_by (λ n. length n.pins) parts.nets ≤ 1048576
+  pub kinds : All (λ b. IsKindWithin b.kind) parts.blocks
+  pub places : IsTrue parts.pads_in → All (λ p. IsPlaceWithin p.place) parts.pads
 
 -- What a reader keeps.
 

@@ -1,9 +1,7 @@
 -- The design that parts become with a list of shapes for each block.
-use Rattle.std.specs.Prelude.{◌≡◌, ℕ, ◌+◌, ◌<◌, ◌≤◌, ◌↔◌, List, [], ◌∷◌, length, take, zip, filter_map, count_by, All, AllPairs, Contains, Option, Some, None, is_some, if◌then◌else◌, ℤ}
+use Rattle.std.specs.Prelude.{◌≡◌, ℕ, ◌+◌, ◌<◌, ◌≤◌, ◌↔◌, List, [], ◌∷◌, length, take, map, zip, filter_map, count_by, All, AllPairs, Contains, Option, Some, None, is_some, if◌then◌else◌, ℤ}
 use Rattle.std.specs.Option.{option_map}
-use Rattle.std.specs.List.{position_from}
-use Rattle.std.specs.Str.{bytes_eq}
-use Rattle.sf_model.specs.Admitted.{block_names, pad_names}
+use Rattle.sf_model.specs.Admitted.{block_of, pad_of}
 use Rattle.sf_model.specs.Limits.{IsSide, IsBefore, pin_order}
 use Rattle.sf_model.specs.declared.design.Design.{Design}
 use Rattle.sf_model.specs.declared.parts.Block.{Block}
@@ -19,7 +17,6 @@ use Rattle.sf_model.specs.declared.raw.RawBlock.{RawBlock}
 use Rattle.sf_model.specs.declared.raw.RawNet.{RawNet}
 use Rattle.sf_model.specs.declared.raw.RawPad.{RawPad}
 use Rattle.sf_model.specs.declared.raw.RawPin.{RawPin}
-use Rattle.sf_model.specs.declared.raw.RawPin.TheVariants as raw
 
 -- a list of shapes for a block, which may be empty
 pub record IsShapeChoice (shapes : List Shape) : Type 0 where
@@ -47,9 +44,7 @@ IsWeighted weights = 1 ≤ weights.area + weights.wire
 
 -- each block with its list
 abbrev pub design_blocks : List RawBlock → List (List Shape) → List Block
-design_blocks [] lists = []
-design_blocks (b ∷ bs) [] = []
-design_blocks (b ∷ bs) (l ∷ ls) = record { name = b.name; shapes = l } ∷ design_blocks bs ls
+design_blocks blocks lists = map (λ b. record { name = b.0.name; shapes = b.1 }) (zip blocks lists)
 
 -- a pad at its place
 abbrev pub placed_pad : RawPad → Option Pad
@@ -71,14 +66,15 @@ pin_at parts None None = None
 
 -- what a pin as read stands for, and nothing where it is left out
 abbrev pub pin_of : Parts → RawPin → Option Pin
-pin_of parts (raw.Named n) = pin_at parts (position_from (bytes_eq n) 0 (block_names parts.blocks)) (position_from (bytes_eq n) 0 (pad_names parts.pads))
-pin_of parts (raw.Block b) = Some (pin.Block b)
-pin_of parts (raw.Pad p) = pad_pin parts p
+pin_of parts p = pin_at parts (block_of parts.blocks p) (pad_of parts.pads p)
+
+abbrev pub named_pins : Parts → List RawPin → List Pin
+named_pins parts pins = filter_map (pin_of parts) pins
 
 -- the set of the pins of a net as read
 pub record IsNetOf (parts : Parts) (read : RawNet) (net : Net) : Type 0 where
   pub ascending : AllPairs (λ p q. pin_order p < pin_order q) net.pins
-  pub same : (p : Pin) → Contains net.pins p ↔ Contains (filter_map (pin_of parts) read.pins) p
+  pub same : (p : Pin) → Contains net.pins p ↔ Contains (named_pins parts read.pins) p
 
 pub record IsDesignOf (parts : Parts) (lists : List (List Shape)) (outline : Outline) (weights : Weights) (design : Design) : Type 0 where
   pub blocks : design.blocks ≡ design_blocks parts.blocks lists

@@ -1,8 +1,9 @@
 //! Whether parts may become a design.
 
 ghost use Rattle.std.specs.Prelude.{◌≡◌, ◌≢◌, OnOk, IfErr, Some};
-ghost use Rattle.sf_model.specs.Admitted.{first_refusal, IsAdmitted, IsFirstOf, HasPinsInRange, faults, name_faults};
+ghost use Rattle.sf_model.specs.Admitted.{first_refusal, IsAdmitted, IsFirstOf, HasPinsInRange, faults, name_faults, KeepsLimits};
 ghost use Rattle.sf_model.specs.declared.fault.BuildFault.TheVariants.{NoMemory};
+ghost use Rattle.sf_model.specs.declared.raw.Parts.{Parts};
 
 use crate::counted::check_limits;
 use crate::fault::BuildFault;
@@ -52,4 +53,10 @@ fn check_index(alloc: Global, index: &Index<'_>) -> Result<(), BuildFault>
     check_duplicates(alloc, index)?;
     check_known(alloc, index)?;
     check_places(alloc, index)
+}
+
+/// Admitted parts keep the limits.
+pub fn admitted_parts_keep_limits()
+    ensures { (parts : Parts) → IsAdmitted parts → KeepsLimits parts }
+{
 }

@@ -2,6 +2,7 @@
 #![tactic(auto)]
 
 pub mod admit;
+pub mod build;
 mod counted;
 pub mod design;
 pub mod fault;
@@ -16,7 +17,9 @@ pub mod plan;
 pub mod raw;
 pub mod raw_lists;
 mod table;
+mod wired;
 
+pub use admit::admitted_parts_keep_limits;
 pub use design::Design;
 pub use fault::{BuildFault, Limit};
 pub use lists::{BlockList, NetList, PadList, Pins, Shapes};

@@ -1,7 +1,11 @@
 -- The shapes that a block may take.
-use Rattle.std.specs.Prelude.{◌≡◌, ℕ, ◌+◌, ◌-◌, ◌*◌, ◌/◌, ◌^◌, ◌≤◌, ◌↔◌, min, max, Bool, ◌||◌, ◌==◌, nat_le, List, [], ◌∷◌, map, zip, All, if◌then◌else◌}
+use Rattle.std.specs.Prelude.{◌≡◌, Some, ℕ, ◌+◌, ◌-◌, ◌*◌, ◌/◌, ◌^◌, ◌≤◌, ◌↔◌, min, max, Bool, ◌||◌, ◌==◌, nat_le, List, [], ◌∷◌, map, zip, All, if◌then◌else◌}
 use Rattle.std.specs.Int.{div_ceil}
 use Rattle.std.specs.List.{range_with_len}
+use Rattle.std.specs.Option.{option_map}
+use Rattle.sf_model.specs.Built.{shapeless}
+use Rattle.sf_model.specs.declared.fault.BuildFault.{BuildFault}
+use Rattle.sf_model.specs.declared.fault.BuildFault.TheVariants.{NoShape}
 use Rattle.sf_model.specs.declared.parts.Shape.{Shape}
 use Rattle.sf_model.specs.declared.raw.Kind.{Kind}
 use Rattle.sf_model.specs.declared.raw.Kind.TheVariants as kind
@@ -51,3 +55,7 @@ IsListOf k fixed (kind.Soft area least most) shapes = IsSoftList area least most
 -- each list is that of its block
 abbrev pub AreListsOf : ℕ → Bool → List RawBlock → List (List Shape) → Type 0
 AreListsOf k fixed blocks lists = All (λ b. IsListOf k fixed b.0.kind b.1) (zip blocks lists)
+
+-- the blocks before one have lists of shapes, this one has none, and the fault tells its name
+abbrev pub HasNoneFor : ℕ → Bool → List RawBlock → BuildFault → Type 0
+HasNoneFor k fixed blocks fault = (lists : List (List Shape)) × AreListsOf k fixed blocks lists × (option_map NoShape (shapeless blocks lists) ≡ Some fault)

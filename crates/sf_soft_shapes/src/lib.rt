@@ -6,10 +6,10 @@
 
 pub mod fault;
 pub mod hard;
-pub mod lists;
+pub mod listed;
 pub mod soft;
 
 pub use fault::ShapeFault;
 pub use hard::hard_shapes;
-pub use lists::lists;
+pub use listed::lists;
 pub use soft::soft_shapes;

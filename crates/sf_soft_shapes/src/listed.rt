@@ -1,0 +1,62 @@
+//! The lists of shapes of all blocks.
+
+ghost use Rattle.std.specs.Prelude.{◌≡◌, ◌≢◌, ◌≤◌, List, [], All, IfOk, IfErr, OnOk, Some, None, zip, length};
+ghost use Rattle.sf_model.specs.Admitted.{IsAdmitted, HasSizes, IsSized, over_kind};
+ghost use Rattle.sf_model.specs.Built.{HasShapeChoices, shapeless};
+ghost use Rattle.sf_model.specs.declared.parts.Shape.{Shape};
+ghost use Rattle.sf_model.specs.declared.fault.BuildFault.TheVariants.{NoShape, NoMemory};
+ghost use Rattle.sf_soft_shapes.specs.Listed.{IsListOf, AreListsOf, HasNoneFor};
+
+use crate::fault::ShapeFault;
+use crate::hard::hard_shapes;
+use crate::soft::soft_shapes;
+use sf_model::{BuildFault, Kind, Name, Parts, Shapes};
+use std::alloc::Global;
+
+/// The list of shapes of a block.
+fn list_of(alloc: Global, kind: Kind, k: u16, fixed: bool) -> Result<Shapes, ShapeFault>
+    requires sized { IsSized kind }
+    requires within { over_kind kind ≡ [] }
+    requires count { (2 ≤ k) × (k ≤ 256) }
+    ensures listed { IfOk result (λ list. IsListOf k fixed kind list) }
+    ensures has_shape { IfOk result (λ list. 1 ≤ length list) }
+    ensures no_shape { result ≡ Err ShapeFault.NoShape → IsListOf k fixed kind [] }
+{
+    let shapes = match kind {
+        Kind::Hard { w, h } => hard_shapes(alloc, w as u32, h as u32, fixed)?,
+        Kind::Soft { area, min, max } => soft_shapes(alloc, area, min, max, k)?,
+    };
+    Ok(Shapes::from_vec(shapes))
+}
+
+/// The list of shapes of each block, in their order; each soft block has at most `k`, and each hard block
+/// is turned too unless `fixed`.
+pub fn lists(
+    alloc: Global,
+    parts: &Parts,
+    k: u16,
+    fixed: bool,
+) -> Result<Vec<Shapes>, BuildFault>
+    requires admitted { IsAdmitted parts.now }
+    requires sized { HasSizes parts.now }
+    requires count { (2 ≤ k) × (k ≤ 256) }
+    ensures listed { IfOk result (λ lists. AreListsOf k fixed parts.now.blocks lists.items) }
+    ensures choices { IfOk result (λ lists. HasShapeChoices parts.now.blocks lists.items) }
+    ensures shaped { IfOk result (λ lists. shapeless parts.now.blocks lists.items ≡ None) }
+    ensures refused { IfErr result (λ fault. fault ≢ NoMemory → HasNoneFor k fixed parts.now.blocks fault) }
+{
+    let mut lists = Vec::new(alloc);
+    for block in parts.blocks.as_slice() {
+        match list_of(alloc, block.kind, k, fixed) {
+            Ok(list) => lists.push(list)?,
+            Err(ShapeFault::NoShape) => {
+                return Err(BuildFault::NoShape(Name::new(
+                    alloc,
+                    block.name.as_bytes(),
+                )?));
+            }
+            Err(ShapeFault::NoMemory) => return Err(BuildFault::NoMemory),
+        }
+    }
+    Ok(lists)
+}
