@@ -7,4 +7,7 @@ pub mod Bounded
 pub mod Walks
 pub mod Firsts
 pub mod Tables
+pub mod Ascending
+pub mod Shapeless
 pub mod Limited
+pub mod Moved

@@ -2,6 +2,7 @@
 #![tactic(auto)]
 
 pub mod admit;
+pub mod build;
 mod counted;
 pub mod design;
 pub mod fault;
@@ -18,6 +19,7 @@ pub mod raw_lists;
 mod table;
 #[cfg(test)]
 mod tests;
+mod wired;
 
 pub use admit::admitted_parts_keep_limits;
 pub use design::Design;

@@ -1,0 +1,78 @@
+//! The design that admitted parts become.
+
+ghost use Rattle.std.specs.Prelude.{◌≡◌, ◌≢◌, ◌≤◌, None, Some, OnOk, IfOk, IfErr, MatchOption, length, vec_len, All, filter_map, nat_abs, ◌^◌};
+ghost use Rattle.std.specs.Option.{option_map, option_copied};
+ghost use Rattle.sf_model.specs.Admitted.{HasPinsInRange, IsAdmitted, IsPlaceWithin};
+ghost use Rattle.sf_model.specs.Built.{HasShapeChoices, IsDesignOf, IsOutline, IsWeighted, shapeless, design_blocks, design_pads, placed_pad};
+ghost use Rattle.sf_model.specs.declared.fault.BuildFault.TheVariants.{NoMemory, NoShape};
+
+use crate::design::Design;
+use crate::fault::BuildFault;
+use crate::lists::{BlockList, NetList, PadList, Shapes};
+use crate::name::Name;
+use crate::parts::{Block, Outline, Pad, Weights};
+use crate::raw::{Parts, RawBlock, RawPad};
+use crate::raw_lists::{RawBlockList, RawPadList};
+
+use std::alloc::{AllocError, Global};
+
+/// The name of the first block whose list is empty.
+fn first_shapeless<'a>(blocks: &'a [RawBlock], lists: &[Shapes]) -> Option<&'a Name>
+    requires { length lists.now ≡ length blocks.now }
+    ensures { option_copied result ≡ shapeless blocks.now lists.now }
+{
+    for i in 0..blocks.len() {
+        if lists[i].as_slice().is_empty() {
+            return Some(&blocks[i].name);
+        }
+    }
+    None
+}
+
+/// Each block with its list, moved from the last on.
+fn blocks_of(
+    alloc: Global,
+    blocks: RawBlockList,
+    lists: Vec<Shapes>,
+) -> Result<BlockList, AllocError>
+    requires { vec_len lists ≡ length blocks }
+    ensures { IfOk result (λ list. list ≡ design_blocks blocks lists.items) }
+{
+    let mut read = blocks.into_vec();
+    let mut left = lists;
+    let mut blocks = Vec::with_capacity(alloc, read.len())?;
+    while let Some(block) = read.pop() {
+        if let Some(shapes) = left.pop() {
+            let name = block.name;
+            blocks.push(Block { name, shapes })?;
+        }
+    }
+    blocks.reverse();
+    Ok(BlockList::from_vec(blocks))
+}
+
+fn coordinate(z: i64) -> i32
+    requires { nat_abs z ≤ 2 ^ 20 }
+    ensures { result ≡ z }
+{
+    z as i32
+}
+
+/// The pads that have a place, moved from the last on.
+fn pads_of(alloc: Global, pads: RawPadList) -> Result<PadList, AllocError>
+    requires { All (λ p. IsPlaceWithin p.place) pads }
+    ensures { IfOk result (λ list. list ≡ filter_map placed_pad pads) }
+{
+    let mut read = pads.into_vec();
+    let mut pads = Vec::with_capacity(alloc, read.len())?;
+    while let Some(pad) = read.pop() {
+        if let Some((x, y)) = pad.place {
+            let name = pad.name;
+            let x = coordinate(x);
+            let y = coordinate(y);
+            pads.push(Pad { name, x, y })?;
+        }
+    }
+    pads.reverse();
+    Ok(PadList::from_vec(pads))
+}
