@@ -4,7 +4,8 @@ use Rattle.std.specs.List.Sorted.{IsNonDecreasingBy}
 use Rattle.sf_model.specs.Limits.{pin_order}
 use Rattle.sf_model.specs.Numbers.{same_pin}
 use Rattle.sf_model.specs.declared.parts.Pin.{Pin}
-use Rattle.std.specs.List.{list_any, All, AllPairs}
+use Rattle.std.specs.List.{list_any, All, AllPairs, Contains}
+use Rattle.std.proofs.lemmas.List.Elements.{All-push, Contains-get_or}
 use Rattle.std.proofs.lemmas.Bool.Decides.{nat_tests}
 use Rattle.std.proofs.lemmas.List.Folds.{list_any-append, list_any_more, list_any_at}
 use Rattle.std.proofs.lemmas.Grind.{common_steps}
@@ -43,6 +44,7 @@ pub record IsSetOfFirst (pins : List Pin) (k next : ℕ) (out : List Pin) : Type
   pub ascending : AllPairs (λ p q. pin_order p < pin_order q) out
   pub below : All (λ p. pin_order p < next) out
   pub same : (p : Pin) → list_any (same_pin p) out ≡ list_any (same_pin p) (take k pins)
+  pub each : All (Contains pins) out
   pub few : length out ≤ k
   pub reached : (d : Pin) → 0 < k → next ≡ pin_order (get_or pins (k - 1) d) + 1
   pub start : k ≡ 0 → next ≡ 0
@@ -54,6 +56,7 @@ set_push pins k next out out' next' d was within new put raised =
       ascending = pairs_push pin_order out (get_or pins k d) next was.ascending was.below new;
       below = all_push pin_order out (get_or pins k d) next next' was.below (omega arith) (omega arith);
       same = λ p. any_push (same_pin p) out pins k d within (was.same p);
+      each = All-push (Contains pins) out (get_or pins k d) was.each (Contains-get_or pins k d within);
       few = (let f = was.few in omega (arith, length-append out (get_or pins k d ∷ [])));
       reached = λ e some. raised ∙ ap (λ p. pin_order p + 1) (get_or-default pins k d e within) ∙ ap (λ j. pin_order (get_or pins j e) + 1) (let s : k ≡ k + 1 - 1 = omega arith in s);
       start = λ none. absurd (omega arith)
@@ -70,6 +73,7 @@ set_skip pins k next out d was up within old =
       ascending = was.ascending;
       below = was.below;
       same = λ p. any_skip pin_order p out pins k d within some equal (was.same p);
+      each = was.each;
       few = (let f = was.few in omega arith);
       reached = λ e later. r ∙ ap (λ n. n + 1) (sym equal) ∙ ap (λ p. pin_order p + 1) (get_or-default pins k d e within) ∙ ap (λ j. pin_order (get_or pins j e) + 1) (let s : k ≡ k + 1 - 1 = omega arith in s);
       start = λ none. absurd (omega arith)

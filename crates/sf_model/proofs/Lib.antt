@@ -11,3 +11,7 @@ pub mod Ascending
 pub mod Shapeless
 pub mod Limited
 pub mod Moved
+pub mod PinsThere
+pub mod NetSets
+pub mod Designs
+pub mod Paired

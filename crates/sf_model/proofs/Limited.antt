@@ -13,11 +13,11 @@ use Rattle.sf_model.specs.declared.raw.RawBlock.{RawBlock}
 use Rattle.sf_model.specs.declared.raw.RawNet.{RawNet}
 use Rattle.sf_model.specs.declared.raw.RawPad.{RawPad}
 
-left_none : {X : Type 0} (xs ys : List X) → first (xs ++ ys) ≡ None → first xs ≡ None
+pub left_none : {X : Type 0} (xs ys : List X) → first (xs ++ ys) ≡ None → first xs ≡ None
 left_none [] ys h = refl
 left_none (x ∷ xs) ys h = h
 
-right_none : {X : Type 0} (xs ys : List X) → first (xs ++ ys) ≡ None → first ys ≡ None
+pub right_none : {X : Type 0} (xs ys : List X) → first (xs ++ ys) ≡ None → first ys ≡ None
 right_none [] ys h = h
 right_none (x ∷ xs) ys h = cc
 

@@ -1,19 +1,19 @@
 //! The design that admitted parts become.
 
-ghost use Rattle.std.specs.Prelude.{◌≡◌, ◌≢◌, ◌≤◌, None, Some, OnOk, IfOk, IfErr, MatchOption, length, vec_len, All, filter_map, nat_abs, ◌^◌};
+ghost use Rattle.std.specs.Prelude.{◌≡◌, ◌≢◌, ◌≤◌, None, Some, [], IsTrue, OnOk, IfOk, IfErr, length, vec_len, All, filter_map, nat_abs, ◌^◌, if◌then◌else◌};
 ghost use Rattle.std.specs.Option.{option_map, option_copied};
 ghost use Rattle.sf_model.specs.Admitted.{HasPinsInRange, IsAdmitted, IsPlaceWithin};
-ghost use Rattle.sf_model.specs.Built.{HasShapeChoices, IsDesignOf, IsOutline, IsWeighted, shapeless, design_blocks, design_pads, placed_pad};
+ghost use Rattle.sf_model.specs.Built.{HasShapeChoices, IsDesignOf, IsOutline, IsWeighted, shapeless, design_blocks, placed_pad};
 ghost use Rattle.sf_model.specs.declared.fault.BuildFault.TheVariants.{NoMemory, NoShape};
 
 use crate::design::Design;
 use crate::fault::BuildFault;
-use crate::lists::{BlockList, NetList, PadList, Shapes};
+use crate::lists::{BlockList, PadList, Shapes};
 use crate::name::Name;
 use crate::parts::{Block, Outline, Pad, Weights};
 use crate::raw::{Parts, RawBlock, RawPad};
 use crate::raw_lists::{RawBlockList, RawPadList};
-
+use crate::wired::nets_of;
 use std::alloc::{AllocError, Global};
 
 /// The name of the first block whose list is empty.
@@ -75,4 +75,62 @@ fn pads_of(alloc: Global, pads: RawPadList) -> Result<PadList, AllocError>
     }
     pads.reverse();
     Ok(PadList::from_vec(pads))
+}
+
+/// The pads of a design: those that have a place, or none where no text places them.
+fn placed_pads(alloc: Global, pads_in: bool, pads: RawPadList) -> Result<PadList, AllocError>
+    requires { IsTrue pads_in → All (λ p. IsPlaceWithin p.place) pads }
+    ensures { IfOk result (λ list. list ≡ (if pads_in then filter_map placed_pad pads else [])) }
+{
+    if pads_in {
+        pads_of(alloc, pads)
+    } else {
+        Ok(PadList::from_vec(Vec::new(alloc)))
+    }
+}
+
+/// Refuses blocks of which one has no shape.
+fn check_shapes(alloc: Global, blocks: &[RawBlock], lists: &[Shapes]) -> Result<(), BuildFault>
+    requires { length lists.now ≡ length blocks.now }
+    ensures shaped { OnOk result (shapeless blocks.now lists.now ≡ None) }
+    ensures no_shape { IfErr result (λ fault. fault ≢ NoMemory → option_map NoShape (shapeless blocks.now lists.now) ≡ Some fault) }
+{
+    match first_shapeless(blocks, lists) {
+        Some(name) => Err(BuildFault::NoShape(Name::new(alloc, name.as_bytes())?)),
+        None => Ok(()),
+    }
+}
+
+impl Design {
+    /// The design of admitted parts, with a list of shapes for each block. Blocks and nets keep their
+    /// numbers. Pads are numbered among those that have a place; where no text places pads, the design has
+    /// none. The first block with an empty list is refused by its name.
+    pub fn build(
+        alloc: Global,
+        parts: Parts,
+        lists: Vec<Shapes>,
+        outline: Outline,
+        weights: Weights,
+    ) -> Result<Design, BuildFault>
+        requires admitted { IsAdmitted parts }
+        requires pins { HasPinsInRange parts }
+        requires choices { HasShapeChoices parts.blocks lists.items }
+        requires sides { IsOutline outline }
+        requires weighted { IsWeighted weights }
+        ensures built { IfOk result (λ design. IsDesignOf parts lists.items outline weights design) }
+        ensures shaped { OnOk result (shapeless parts.blocks lists.items ≡ None) }
+        ensures no_shape { IfErr result (λ fault. fault ≢ NoMemory → option_map NoShape (shapeless parts.blocks lists.items) ≡ Some fault) }
+    {
+        check_shapes(alloc, parts.blocks.as_slice(), &lists)?;
+        let nets = nets_of(alloc, &parts)?;
+        let pads = placed_pads(alloc, parts.pads_in, parts.pads)?;
+        let blocks = blocks_of(alloc, parts.blocks, lists)?;
+        Ok(Design {
+            blocks,
+            pads,
+            nets,
+            outline,
+            weights,
+        })
+    }
 }
