@@ -15,3 +15,4 @@ pub mod PinsThere
 pub mod NetSets
 pub mod Designs
 pub mod Paired
+pub mod Determined

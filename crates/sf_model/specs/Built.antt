@@ -83,3 +83,11 @@ pub record IsDesignOf (parts : Parts) (lists : List (List Shape)) (outline : Out
   pub nets : All (λ n. IsNetOf parts n.0 n.1) (zip parts.nets design.nets)
   pub outline_is : design.outline ≡ outline
   pub weights_are : design.weights ≡ weights
+
+-- two designs that agree in all that they hold
+pub record IsSameDesign (d e : Design) : Type 0 where
+  pub blocks : d.blocks ≡ e.blocks
+  pub pads : d.pads ≡ e.pads
+  pub nets : d.nets ≡ e.nets
+  pub outline_same : d.outline ≡ e.outline
+  pub weights_same : d.weights ≡ e.weights

@@ -66,7 +66,8 @@ fn pads_of(alloc: Global, pads: RawPadList) -> Result<PadList, AllocError>
     let mut read = pads.into_vec();
     let mut pads = Vec::with_capacity(alloc, read.len())?;
     while let Some(pad) = read.pop() {
-        if let Some((x, y)) = pad.place {
+        let place = pad.place;
+        if let Some((x, y)) = place {
             let name = pad.name;
             let x = coordinate(x);
             let y = coordinate(y);
