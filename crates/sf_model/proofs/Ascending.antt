@@ -59,7 +59,7 @@ set_push pins k next out out' next' d was within new put raised =
       each = All-push (Contains pins) out (get_or pins k d) was.each (Contains-get_or pins k d within);
       few = (let f = was.few in omega (arith, length-append out (get_or pins k d ∷ [])));
       reached = λ e some. raised ∙ ap (λ p. pin_order p + 1) (get_or-default pins k d e within) ∙ ap (λ j. pin_order (get_or pins j e) + 1) (let s : k ≡ k + 1 - 1 = omega arith in s);
-      start = λ none. absurd (omega arith)
+      start = λ none. absurd (omega arith);
     })
 
 pub set_skip : (pins : List Pin) (k next : ℕ) (out : List Pin) (d : Pin) → IsSetOfFirst pins k next out → IsNonDecreasingBy pin_order pins → k < length pins → pin_order (get_or pins k d) < next → IsSetOfFirst pins (k + 1) next out
@@ -76,5 +76,5 @@ set_skip pins k next out d was up within old =
       each = was.each;
       few = (let f = was.few in omega arith);
       reached = λ e later. r ∙ ap (λ n. n + 1) (sym equal) ∙ ap (λ p. pin_order p + 1) (get_or-default pins k d e within) ∙ ap (λ j. pin_order (get_or pins j e) + 1) (let s : k ≡ k + 1 - 1 = omega arith in s);
-      start = λ none. absurd (omega arith)
+      start = λ none. absurd (omega arith);
     }

@@ -94,15 +94,15 @@ limits_hold parts lists outline weights blocks pads nets admitted choices sides 
       height = sides.1;
       area_weight = area;
       wire_weight = wire;
-      weighted = weighted
+      weighted = weighted;
     }))
 
 pub is_design : (parts : Parts) (lists : List (List Shape)) (outline : Outline) (weights : Weights) (design : Design) → design.blocks ≡ design_blocks parts.blocks lists → design.pads ≡ design_pads parts → AllZip (IsNetMade parts) parts.nets design.nets → design.outline ≡ outline → design.weights ≡ weights → IsDesignOf parts lists outline weights design
 is_design parts lists outline weights design blocks pads made outline_is weights_are = record {
-      blocks = blocks;
-      pads = pads;
-      net_count = sym (zip_length (IsNetMade parts) parts.nets design.nets made);
-      nets = All-from_recursion (λ (n : RawNet × Net). IsNetOf parts n.0 n.1) (zip parts.nets design.nets) (nets_are parts parts.nets design.nets made);
-      outline_is = outline_is;
-      weights_are = weights_are
-    }
+  blocks = blocks;
+  pads = pads;
+  net_count = sym (zip_length (IsNetMade parts) parts.nets design.nets made);
+  nets = All-from_recursion (λ (n : RawNet × Net). IsNetOf parts n.0 n.1) (zip parts.nets design.nets) (nets_are parts parts.nets design.nets made);
+  outline_is = outline_is;
+  weights_are = weights_are;
+}

@@ -79,9 +79,9 @@ same_nets parts (r ∷ rs) (n ∷ ns) (m ∷ ms) i j a b =
 
 pub determined : (parts : Parts) (lists : List (List Shape)) (outline : Outline) (weights : Weights) (d e : Design) → IsDesignOf parts lists outline weights d → IsDesignOf parts lists outline weights e → IsSameDesign d e
 determined parts lists outline weights d e a b = record {
-      blocks = a.blocks ∙ sym b.blocks;
-      pads = a.pads ∙ sym b.pads;
-      nets = same_nets parts parts.nets d.nets e.nets a.net_count b.net_count (recursion_from_All (λ (n : RawNet × Net). IsNetOf parts n.0 n.1) (zip parts.nets d.nets) a.nets) (recursion_from_All (λ (n : RawNet × Net). IsNetOf parts n.0 n.1) (zip parts.nets e.nets) b.nets);
-      outline_same = a.outline_is ∙ sym b.outline_is;
-      weights_same = a.weights_are ∙ sym b.weights_are
-    }
+  blocks = a.blocks ∙ sym b.blocks;
+  pads = a.pads ∙ sym b.pads;
+  nets = same_nets parts parts.nets d.nets e.nets a.net_count b.net_count (recursion_from_All (λ (n : RawNet × Net). IsNetOf parts n.0 n.1) (zip parts.nets d.nets) a.nets) (recursion_from_All (λ (n : RawNet × Net). IsNetOf parts n.0 n.1) (zip parts.nets e.nets) b.nets);
+  outline_same = a.outline_is ∙ sym b.outline_is;
+  weights_same = a.weights_are ∙ sym b.weights_are;
+}

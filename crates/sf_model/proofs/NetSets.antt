@@ -67,9 +67,11 @@ net_made parts read net all sorted admitted in_nets ranges named moved up same e
     record {
       set = record {
         ascending = up;
-        same = λ p. (λ h. subst (λ (ps : List Pin). Contains ps p) named (back p (All-contains (Contains sorted) net.pins p each h)),
-                     λ h. found sorted net.pins p low each (same p) (Contains-permutation all sorted p moved (subst (λ (ps : List Pin). Contains ps p) (sym named) h)))
+        same = λ p. (
+          λ h. subst (λ (ps : List Pin). Contains ps p) named (back p (All-contains (Contains sorted) net.pins p each h)),
+          λ h. found sorted net.pins p low each (same p) (Contains-permutation all sorted p moved (subst (λ (ps : List Pin). Contains ps p) (sym named) h)),
+        );
       };
       few = (let n = ap length named in omega (arith, length_permutation all sorted moved, length_kept (pin_of parts) read.pins));
-      there = λ k d l. All-contains (IsThere (length parts.blocks) (length (design_pads parts))) sorted (get_or net.pins k d) there_sorted (each k d l)
+      there = λ k d l. All-contains (IsThere (length parts.blocks) (length (design_pads parts))) sorted (get_or net.pins k d) there_sorted (each k d l);
     }

@@ -45,7 +45,7 @@ wired_here parts net rp i in_nets in_pins at =
     let hit : test rp ≡ true = ap (is_index i) at ∙ eq-eqb i i refl in
     any_flat test (λ (n : RawNet). n.pins) parts.nets
     ∙ list_any_at (λ (n : RawNet). list_any test n.pins) parts.nets in_nets.0 net in_nets.1
-      (ap (λ (n : RawNet). list_any test n.pins) in_nets.2 ∙ list_any_at test net.pins in_pins.0 rp in_pins.1 (ap test in_pins.2 ∙ hit))
+    (ap (λ (n : RawNet). list_any test n.pins) in_nets.2 ∙ list_any_at test net.pins in_pins.0 rp in_pins.1 (ap test in_pins.2 ∙ hit))
 
 no_missing : (parts : Parts) → IsAdmitted parts → first (missing_places parts) ≡ None
 no_missing parts none = right_none (duplicates parts ++ unknowns parts) (missing_places parts) (right_none (no_blocks parts ++ over_limits parts) (name_faults parts) none)
@@ -124,4 +124,4 @@ pub pins_there : (parts : Parts) (net : RawNet) → IsAdmitted parts → Contain
 pins_there parts net admitted in_nets ranges =
     all_kept (IsThere (length parts.blocks) (length (design_pads parts))) (pin_of parts) net.pins
     (λ k d low. there_at parts (block_of parts.blocks (get_or net.pins k d)) (pad_of parts.pads (get_or net.pins k d)) (block_in_range parts (get_or net.pins k d) (ranges k d low))
-      (number_there parts net (get_or net.pins k d) (pad_of parts.pads (get_or net.pins k d)) admitted in_nets (Contains-get_or net.pins k d low) refl (pad_in_range parts (get_or net.pins k d) (ranges k d low))))
+    (number_there parts net (get_or net.pins k d) (pad_of parts.pads (get_or net.pins k d)) admitted in_nets (Contains-get_or net.pins k d low) refl (pad_in_range parts (get_or net.pins k d) (ranges k d low))))

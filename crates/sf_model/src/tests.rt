@@ -139,7 +139,11 @@ fn built(alloc: Global, parts: Parts) -> Result<u8, BuildFault>
 #[test]
 fn builds(rt: HostRuntime) -> Result<(), Fail> {
     let alloc = rt.alloc();
-    for (number, name) in [(0u8, b"q".as_slice()), (4, b"p".as_slice()), (5, b"z".as_slice())] {
+    for (number, name) in [
+        (0u8, b"q".as_slice()),
+        (4, b"p".as_slice()),
+        (5, b"z".as_slice()),
+    ] {
         let parts = one_block(alloc, name)?;
         let found = match parts.admit(alloc) {
             Ok(()) => match built(alloc, parts) {
