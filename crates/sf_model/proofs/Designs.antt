@@ -1,10 +1,10 @@
 -- What is built from admitted parts is their design, and keeps the limits.
-use Rattle.std.proofs.Common.{◌≡◌, ℕ, ◌+◌, ◌<◌, ◌≤◌, ◌^◌, ℤ, nat_abs, Bool, true, false, IsTrue, cond, List, [], ◌∷◌, length, get_or, Option, Some, None, IfSome, refl, ap, sym, subst, ◌∙◌, arith}
+use Rattle.std.proofs.Common.{◌≡◌, ℕ, ◌<◌, ◌≤◌, ◌^◌, ℤ, nat_abs, Bool, true, false, IsTrue, cond, List, [], ◌∷◌, length, get_or, Option, Some, None, IfSome, refl, sym, subst, arith}
 use Rattle.std.specs.List.{All, AllByRecursion, AllZip, filter_map, sum_by, zip}
 use Rattle.std.proofs.lemmas.Int.{ints}
 use Rattle.std.proofs.lemmas.List.Elements.{All-from_recursion, recursion_from_All}
 use Rattle.std.proofs.lemmas.List.Sums.{sum_by-cons}
-use Rattle.sf_model.specs.Admitted.{IsAdmitted, IsPlaceWithin, KeepsLimits}
+use Rattle.sf_model.specs.Admitted.{IsAdmitted, IsPlaceWithin}
 use Rattle.sf_model.specs.Built.{HasShapeChoices, IsDesignOf, IsNetOf, IsOutline, IsShapeChoice, IsWeighted, design_blocks, design_pads, placed_pad, shapeless}
 use Rattle.sf_model.specs.Limits.{IsCoordinate, IsPinSet, IsShapeList, IsWithinLimits}
 use Rattle.sf_model.specs.Numbers.{IsNetMade}

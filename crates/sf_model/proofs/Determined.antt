@@ -1,6 +1,6 @@
 -- A design is determined by what it is built from.
-use Rattle.std.proofs.Common.{◌≡◌, ℕ, zero, suc, ◌+◌, ◌<◌, ◌≤◌, List, [], ◌∷◌, length, get_or, ◌⊎◌, inl, inr, refl, ap, sym, ◌∙◌, arith}
-use Rattle.std.specs.List.{All, AllByRecursion, AllPairs, Contains, zip}
+use Rattle.std.proofs.Common.{◌≡◌, ℕ, zero, suc, ◌<◌, List, [], ◌∷◌, length, get_or, ◌⊎◌, inl, inr, refl, ap, sym, ◌∙◌, arith}
+use Rattle.std.specs.List.{AllByRecursion, AllPairs, Contains, zip}
 use Rattle.std.proofs.lemmas.List.Elements.{All-contains, recursion_from_All}
 use Rattle.sf_model.specs.Built.{IsDesignOf, IsNetOf, IsSameDesign}
 use Rattle.sf_model.specs.Limits.{pin_order}

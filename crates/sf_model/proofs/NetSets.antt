@@ -1,12 +1,12 @@
 -- The set of the pins of a net: sorted, and without repeats.
-use Rattle.std.proofs.Common.{◌≡◌, ℕ, ◌+◌, ◌<◌, ◌≤◌, ◌^◌, ◌==◌, Bool, true, false, List, [], ◌∷◌, length, get_or, Option, Some, None, refl, ap, sym, subst, ◌∙◌, arith, eq-eqb}
+use Rattle.std.proofs.Common.{◌≡◌, ℕ, ◌+◌, ◌<◌, ◌≤◌, ◌^◌, true, List, [], ◌∷◌, length, get_or, Option, Some, None, refl, ap, sym, subst, ◌∙◌, arith, eq-eqb}
 use Rattle.std.specs.List.{All, AllPairs, Contains, list_any, filter_map, cons_option}
 use Rattle.std.specs.List.Sorted.{IsPermutation}
 use Rattle.std.proofs.lemmas.Bool.Decides.{nat_tests}
-use Rattle.std.proofs.lemmas.List.Elements.{All-contains, All-weaker}
+use Rattle.std.proofs.lemmas.List.Elements.{All-contains}
 use Rattle.std.proofs.lemmas.List.Folds.{list_any_at, Any-from_list_any}
 use Rattle.std.proofs.lemmas.List.Sorted.{All-permutation, Contains-permutation, IsPermutation-sym, length_permutation}
-use Rattle.sf_model.specs.Admitted.{IsAdmitted, IsPinInRange, HasPinsInRange, KeepsLimits}
+use Rattle.sf_model.specs.Admitted.{IsAdmitted, IsPinInRange, HasPinsInRange}
 use Rattle.sf_model.specs.Built.{design_pads, named_pins, pin_of}
 use Rattle.sf_model.specs.Limits.{pin_number, pin_order}
 use Rattle.sf_model.specs.Numbers.{IsNetMade, IsThere, same_pin}

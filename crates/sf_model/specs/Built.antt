@@ -1,5 +1,5 @@
 -- The design that parts become with a list of shapes for each block.
-use Rattle.std.specs.Prelude.{◌≡◌, ℕ, ◌+◌, ◌<◌, ◌≤◌, ◌↔◌, List, [], ◌∷◌, length, take, map, zip, filter_map, count_by, All, AllPairs, Contains, Option, Some, None, is_some, if◌then◌else◌, ℤ}
+use Rattle.std.specs.Prelude.{◌≡◌, ℕ, ◌+◌, ◌<◌, ◌≤◌, ◌↔◌, List, [], ◌∷◌, length, take, map, zip, filter_map, count_by, All, AllPairs, Contains, Option, Some, None, is_some, if◌then◌else◌}
 use Rattle.std.specs.Option.{option_map}
 use Rattle.sf_model.specs.Admitted.{block_of, pad_of}
 use Rattle.sf_model.specs.Limits.{IsSide, IsBefore, pin_order}

@@ -1,4 +1,4 @@
-use Rattle.std.proofs.Common.{◌≡◌, ◌∙◌, reverse, length, arith}
+use Rattle.std.proofs.Common.{◌≡◌, length, arith}
 use Rattle.sf_model.specs.Built.{design_blocks}
 use Rattle.sf_model.proofs.Moved.{moved, blocks_cut}
 use Rattle.sf_model.proofs.build.blocks_of.Goals as goal

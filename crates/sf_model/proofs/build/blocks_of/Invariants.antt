@@ -1,5 +1,4 @@
-use Rattle.std.proofs.Common.{◌≡◌, ◌++◌, map, reverse, vec_len}
-use Rattle.std.specs.List.{zip}
+use Rattle.std.proofs.Common.{◌≡◌, ◌++◌, reverse, vec_len}
 use Rattle.sf_model.specs.Built.{design_blocks}
 use Rattle.sf_model.proofs.build.blocks_of.Given as goal
 

@@ -1,4 +1,4 @@
-use Rattle.std.proofs.Common.{◌≡◌, ◌++◌, reverse, refl, ap, sym, ◌∙◌, Some, None, rules, arith}
+use Rattle.std.proofs.Common.{◌≡◌, ◌++◌, reverse, refl, ap, sym, ◌∙◌, Some, None, rules}
 use mir.Syntax.{w32, w64}
 use mir.Val.{SFits}
 use Rattle.std.proofs.lemmas.Int.{to_z-of_z}
