@@ -1,5 +1,5 @@
 -- The first of two lists, one after the other.
-use Rattle.std.proofs.Common.{◌≡◌, ◌≢◌, Result, Ok, Err, IsErrAnd, ℕ, ◌+◌, ◌<◌, ◌≤◌, length, get_or, drop, map, List, [], ◌∷◌, ◌++◌, Option, Some, None, refl, ap, sym, ◌∙◌}
+use Rattle.std.proofs.Common.{◌≡◌, ◌≢◌, Result, Ok, Err, IsErrAnd, ℕ, ◌+◌, ◌<◌, ◌≤◌, length, get_or, drop, map, List, [], ◌∷◌, ◌++◌, Some, None, refl, ap, sym, ◌∙◌}
 use Rattle.std.specs.List.{flat_map}
 use Rattle.std.proofs.Math.ListN.{drop_of_length-le}
 use Rattle.sf_model.specs.Admitted.{first, IsFirstOf}

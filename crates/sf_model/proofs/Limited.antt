@@ -1,8 +1,8 @@
 -- Admitted parts keep the limits.
-use Rattle.std.proofs.Common.{◌≡◌, ℕ, zero, suc, ◌-◌, min, ℤ, nat_abs, IsTrue, ◌<◌, ◌≤◌, ◌^◌, ◌==◌, nat_lt, Bool, true, false, List, [], ◌∷◌, ◌++◌, length, get_or, Option, Some, None, if◌then◌else◌, refl, ap, sym, ◌∙◌, arith}
+use Rattle.std.proofs.Common.{◌≡◌, ℕ, zero, suc, ◌-◌, min, ℤ, nat_abs, IsTrue, ◌≤◌, ◌^◌, List, [], ◌∷◌, ◌++◌, length, get_or, Option, Some, None, refl, arith}
 use Rattle.std.specs.List.{All, flat_map, sum_by}
 use Rattle.std.proofs.lemmas.Bool.Decides.{nat_tests}
-use Rattle.sf_model.specs.Admitted.{first, over, over_kind, over_place, over_counts, over_limits, over_places, faults, name_faults, no_blocks, IsAdmitted, IsKindWithin, IsPlaceWithin, KeepsLimits}
+use Rattle.sf_model.specs.Admitted.{first, over, over_kind, over_place, over_counts, over_limits, over_places, name_faults, no_blocks, IsAdmitted, IsKindWithin, IsPlaceWithin, KeepsLimits}
 use Rattle.sf_model.specs.declared.fault.BuildFault.{BuildFault}
 use Rattle.sf_model.specs.declared.fault.Limit.{Limit}
 use Rattle.sf_model.specs.declared.fault.Limit.TheVariants as limit
@@ -13,11 +13,11 @@ use Rattle.sf_model.specs.declared.raw.RawBlock.{RawBlock}
 use Rattle.sf_model.specs.declared.raw.RawNet.{RawNet}
 use Rattle.sf_model.specs.declared.raw.RawPad.{RawPad}
 
-left_none : {X : Type 0} (xs ys : List X) → first (xs ++ ys) ≡ None → first xs ≡ None
+pub left_none : {X : Type 0} (xs ys : List X) → first (xs ++ ys) ≡ None → first xs ≡ None
 left_none [] ys h = refl
 left_none (x ∷ xs) ys h = h
 
-right_none : {X : Type 0} (xs ys : List X) → first (xs ++ ys) ≡ None → first ys ≡ None
+pub right_none : {X : Type 0} (xs ys : List X) → first (xs ++ ys) ≡ None → first ys ≡ None
 right_none [] ys h = h
 right_none (x ∷ xs) ys h = cc
 

@@ -1,5 +1,5 @@
 -- One step of a walk over a list, by what is left of it.
-use Rattle.std.proofs.Common.{◌≡◌, ℕ, ◌+◌, ◌<◌, suc, Bool, true, false, ◌||◌, ◌==◌, Option, Some, None, List, ◌∷◌, length, get_or, set, take, drop, ap, add-one, drop-cons, arith, get_or-set_same, get_or-set_other}
+use Rattle.std.proofs.Common.{◌≡◌, ℕ, ◌+◌, ◌<◌, Bool, true, false, ◌||◌, ◌==◌, Option, Some, None, List, ◌∷◌, length, get_or, set, take, drop, ap, add-one, drop-cons, arith, get_or-set_same, get_or-set_other}
 use Rattle.std.specs.List.{list_any}
 use Rattle.std.proofs.lemmas.Bool.Decides.{nat_tests}
 use Rattle.std.proofs.lemmas.List.Folds.{list_any_more}

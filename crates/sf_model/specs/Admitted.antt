@@ -1,5 +1,5 @@
 -- Which parts may become a design, and the first reason why others may not.
-use Rattle.std.specs.Prelude.{◌≡◌, ◌≢◌, ◌≤◌, IsTrue, ℕ, ◌+◌, ◌-◌, ◌^◌, min, Result, MatchResult, ◌<◌, Bool, true, false, not, ◌&&◌, ◌||◌, nat_lt, ◌==◌, List, [], ◌∷◌, ◌++◌, map, filter, length, sum_by, flat_map, filter_map, All, Option, Some, None, is_some, is_none, if◌then◌else◌, ℤ, nat_abs}
+use Rattle.std.specs.Prelude.{◌≡◌, ◌≢◌, ◌≤◌, IsTrue, ℕ, ◌+◌, ◌-◌, ◌^◌, min, Result, MatchResult, ◌<◌, Bool, false, ◌&&◌, ◌||◌, nat_lt, ◌==◌, List, [], ◌∷◌, ◌++◌, map, length, sum_by, flat_map, All, Option, Some, None, is_some, is_none, if◌then◌else◌, ℤ, nat_abs}
 use Rattle.std.specs.List.{list_any, position_from}
 use Rattle.std.specs.Str.{bytes_eq}
 use Rattle.sf_model.specs.declared.fault.BuildFault.{BuildFault}

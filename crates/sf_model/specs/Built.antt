@@ -1,5 +1,5 @@
 -- The design that parts become with a list of shapes for each block.
-use Rattle.std.specs.Prelude.{◌≡◌, ℕ, ◌+◌, ◌<◌, ◌≤◌, ◌↔◌, List, [], ◌∷◌, length, take, map, zip, filter_map, count_by, All, AllPairs, Contains, Option, Some, None, is_some, if◌then◌else◌, ℤ}
+use Rattle.std.specs.Prelude.{◌≡◌, ℕ, ◌+◌, ◌<◌, ◌≤◌, ◌↔◌, List, [], ◌∷◌, length, take, map, zip, filter_map, count_by, All, AllPairs, Contains, Option, Some, None, is_some, if◌then◌else◌}
 use Rattle.std.specs.Option.{option_map}
 use Rattle.sf_model.specs.Admitted.{block_of, pad_of}
 use Rattle.sf_model.specs.Limits.{IsSide, IsBefore, pin_order}
@@ -83,3 +83,11 @@ pub record IsDesignOf (parts : Parts) (lists : List (List Shape)) (outline : Out
   pub nets : All (λ n. IsNetOf parts n.0 n.1) (zip parts.nets design.nets)
   pub outline_is : design.outline ≡ outline
   pub weights_are : design.weights ≡ weights
+
+-- two designs that agree in all that they hold
+pub record IsSameDesign (d e : Design) : Type 0 where
+  pub blocks : d.blocks ≡ e.blocks
+  pub pads : d.pads ≡ e.pads
+  pub nets : d.nets ≡ e.nets
+  pub outline_same : d.outline ≡ e.outline
+  pub weights_same : d.weights ≡ e.weights

@@ -1,27 +1,137 @@
-ghost use Rattle.std.specs.Prelude.{◌≡◌, ◌≢◌, IfOk, IfErr, None, Some};
-ghost use Rattle.std.specs.Option.{option_map};
-ghost use Rattle.sf_model.specs.Admitted.{IsAdmitted, HasPinsInRange};
-ghost use Rattle.sf_model.specs.Built.{HasShapeChoices, IsOutline, IsWeighted, IsDesignOf, shapeless};
+//! The design that admitted parts become.
+
+ghost use Rattle.std.specs.Prelude.{◌≡◌, ◌≢◌, ◌≤◌, None, Some, [], IsTrue, OnOk, IfOk, IfErr, length, vec_len, All, filter_map, nat_abs, ◌^◌, if◌then◌else◌};
+ghost use Rattle.std.specs.Option.{option_map, option_copied};
+ghost use Rattle.sf_model.specs.Admitted.{HasPinsInRange, IsAdmitted, IsPlaceWithin};
+ghost use Rattle.sf_model.specs.Built.{HasShapeChoices, IsDesignOf, IsOutline, IsWeighted, shapeless, design_blocks, placed_pad};
 ghost use Rattle.sf_model.specs.declared.fault.BuildFault.TheVariants.{NoMemory, NoShape};
 
 use crate::design::Design;
 use crate::fault::BuildFault;
-use crate::lists::Shapes;
-use crate::parts::{Outline, Weights};
-use crate::raw::Parts;
-use std::alloc::Global;
+use crate::lists::{BlockList, PadList, Shapes};
+use crate::name::Name;
+use crate::parts::{Block, Outline, Pad, Weights};
+use crate::raw::{Parts, RawBlock, RawPad};
+use crate::raw_lists::{RawBlockList, RawPadList};
+use crate::wired::nets_of;
+use std::alloc::{AllocError, Global};
+
+/// The name of the first block whose list is empty.
+fn first_shapeless<'a>(blocks: &'a [RawBlock], lists: &[Shapes]) -> Option<&'a Name>
+    requires { length lists.now ≡ length blocks.now }
+    ensures { option_copied result ≡ shapeless blocks.now lists.now }
+{
+    for i in 0..blocks.len() {
+        if lists[i].as_slice().is_empty() {
+            return Some(&blocks[i].name);
+        }
+    }
+    None
+}
+
+/// Each block with its list, moved from the last on.
+fn blocks_of(
+    alloc: Global,
+    blocks: RawBlockList,
+    lists: Vec<Shapes>,
+) -> Result<BlockList, AllocError>
+    requires { vec_len lists ≡ length blocks }
+    ensures { IfOk result (λ list. list ≡ design_blocks blocks lists.items) }
+{
+    let mut read = blocks.into_vec();
+    let mut left = lists;
+    let mut blocks = Vec::with_capacity(alloc, read.len())?;
+    while let Some(block) = read.pop() {
+        if let Some(shapes) = left.pop() {
+            let name = block.name;
+            blocks.push(Block { name, shapes })?;
+        }
+    }
+    blocks.reverse();
+    Ok(BlockList::from_vec(blocks))
+}
+
+fn coordinate(z: i64) -> i32
+    requires { nat_abs z ≤ 2 ^ 20 }
+    ensures { result ≡ z }
+{
+    z as i32
+}
+
+/// The pads that have a place, moved from the last on.
+fn pads_of(alloc: Global, pads: RawPadList) -> Result<PadList, AllocError>
+    requires { All (λ p. IsPlaceWithin p.place) pads }
+    ensures { IfOk result (λ list. list ≡ filter_map placed_pad pads) }
+{
+    let mut read = pads.into_vec();
+    let mut pads = Vec::with_capacity(alloc, read.len())?;
+    while let Some(pad) = read.pop() {
+        let place = pad.place;
+        if let Some((x, y)) = place {
+            let name = pad.name;
+            let x = coordinate(x);
+            let y = coordinate(y);
+            pads.push(Pad { name, x, y })?;
+        }
+    }
+    pads.reverse();
+    Ok(PadList::from_vec(pads))
+}
+
+/// The pads of a design: those that have a place, or none where no text places them.
+fn placed_pads(alloc: Global, pads_in: bool, pads: RawPadList) -> Result<PadList, AllocError>
+    requires { IsTrue pads_in → All (λ p. IsPlaceWithin p.place) pads }
+    ensures { IfOk result (λ list. list ≡ (if pads_in then filter_map placed_pad pads else [])) }
+{
+    if pads_in {
+        pads_of(alloc, pads)
+    } else {
+        Ok(PadList::from_vec(Vec::new(alloc)))
+    }
+}
+
+/// Refuses blocks of which one has no shape.
+fn check_shapes(alloc: Global, blocks: &[RawBlock], lists: &[Shapes]) -> Result<(), BuildFault>
+    requires { length lists.now ≡ length blocks.now }
+    ensures shaped { OnOk result (shapeless blocks.now lists.now ≡ None) }
+    ensures no_shape { IfErr result (λ fault. fault ≢ NoMemory → option_map NoShape (shapeless blocks.now lists.now) ≡ Some fault) }
+{
+    match first_shapeless(blocks, lists) {
+        Some(name) => Err(BuildFault::NoShape(Name::new(alloc, name.as_bytes())?)),
+        None => Ok(()),
+    }
+}
 
 impl Design {
-    pub fn build(alloc: Global, parts: Parts, lists: Vec<Shapes>, outline: Outline, weights: Weights) -> Result<Design, BuildFault>
+    /// The design of admitted parts, with a list of shapes for each block. Blocks and nets keep their
+    /// numbers. Pads are numbered among those that have a place; where no text places pads, the design has
+    /// none. The first block with an empty list is refused by its name.
+    pub fn build(
+        alloc: Global,
+        parts: Parts,
+        lists: Vec<Shapes>,
+        outline: Outline,
+        weights: Weights,
+    ) -> Result<Design, BuildFault>
         requires admitted { IsAdmitted parts }
         requires pins { HasPinsInRange parts }
-        requires lists { HasShapeChoices parts.blocks lists.items }
-        requires outline { IsOutline outline }
-        requires weights { IsWeighted weights }
+        requires choices { HasShapeChoices parts.blocks lists.items }
+        requires sides { IsOutline outline }
+        requires weighted { IsWeighted weights }
         ensures built { IfOk result (λ design. IsDesignOf parts lists.items outline weights design) }
-        ensures shaped { IfOk result (λ design. shapeless parts.blocks lists.items ≡ None) }
-        ensures shapeless { IfErr result (λ fault. fault ≢ NoMemory → option_map NoShape (shapeless parts.blocks lists.items) ≡ Some fault) }
+        ensures shaped { OnOk result (shapeless parts.blocks lists.items ≡ None) }
+        ensures no_shape { IfErr result (λ fault. fault ≢ NoMemory → option_map NoShape (shapeless parts.blocks lists.items) ≡ Some fault) }
     {
-        Err(BuildFault::NoMemory)
+        check_shapes(alloc, parts.blocks.as_slice(), &lists)?;
+        let nets = nets_of(alloc, &parts)?;
+        let pads = placed_pads(alloc, parts.pads_in, parts.pads)?;
+        let blocks = blocks_of(alloc, parts.blocks, lists)?;
+        Ok(Design {
+            blocks,
+            pads,
+            nets,
+            outline,
+            weights,
+        })
     }
 }

@@ -2,7 +2,7 @@
 
 ghost use Rattle.std.specs.Prelude.{◌≡◌, ◌<◌, length, IfOk, IfSome};
 ghost use Rattle.std.proofs.Props.{props};
-ghost use Rattle.sf_model.specs.Admitted.{block_names, pad_names, is_block_name, is_pad_name, pad_of, IsPinInRange};
+ghost use Rattle.sf_model.specs.Admitted.{block_names, pad_names, is_block_name, is_pad_name, block_of, pad_of, IsPinInRange};
 ghost use Rattle.sf_model.specs.Table.{IsTableOf};
 
 use crate::name::Name;
@@ -41,6 +41,19 @@ impl<'a> Index<'a> {
         ensures { result ≡ is_pad_name self.now.parts.now name.now }
     {
         self.pads.has(name)
+    }
+
+    /// The index of a pin's block, if it has one.
+    pub fn block_of(&self, pin: &RawPin) -> Option<usize>
+        requires { IsPinInRange (length self.now.parts.now.blocks) (length self.now.parts.now.pads) pin.now }
+        ensures value { result ≡ block_of self.now.parts.now.blocks pin.now }
+        ensures in_range { IfSome result (λ i. i < length self.now.parts.now.blocks) }
+    {
+        match pin {
+            RawPin::Named(name) => self.blocks.place_of(name),
+            RawPin::Block(b) => Some(*b as usize),
+            RawPin::Pad(_) => None,
+        }
     }
 
     /// The index of a pin's pad, if it has one.

@@ -1,8 +1,13 @@
 //! The model: designs, plans, and what a floorplan costs.
+//!
+//! A reader hands over `Parts`. `Parts::admit` tests them and names their first fault, and `Design::build`
+//! makes the design of admitted parts, with a list of shapes for each block. The crate stands on std alone.
+//! The crates above rest on `IsAdmitted` and `IsDesignOf` of these two calls, on the limits that each
+//! `Design` carries, and on the definitions of slicing trees, wire length and cost in specs/.
 #![tactic(auto)]
 
 pub mod admit;
-pub mod build;
+mod build;
 mod counted;
 pub mod design;
 pub mod fault;
@@ -19,6 +24,7 @@ pub mod raw_lists;
 mod table;
 #[cfg(test)]
 mod tests;
+mod wired;
 
 pub use admit::admitted_parts_keep_limits;
 pub use design::Design;

@@ -8,6 +8,8 @@ pub mod fault;
 pub mod hard;
 pub mod listed;
 pub mod soft;
+#[cfg(test)]
+mod tests;
 
 pub use fault::ShapeFault;
 pub use hard::hard_shapes;

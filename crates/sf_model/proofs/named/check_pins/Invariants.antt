@@ -1,9 +1,7 @@
 use Rattle.std.proofs.Common.{◌≡◌, drop}
 use Rattle.std.specs.List.{flat_map}
-use Rattle.sf_model.specs.Admitted.{first, at_pin_name, at_placed_name}
+use Rattle.sf_model.specs.Admitted.{first, at_pin_name}
 use Rattle.sf_model.specs.Rules.{broken}
-use Rattle.sf_model.specs.declared.named.NameRule.TheVariants.{NotBoth, Known}
-use Rattle.sf_model.specs.declared.raw.RawNet.{RawNet}
 use Rattle.sf_model.proofs.named.check_pins.Given as goal
 
 abbrev pub invariant-loop-pin : goal.invariant-loop-pin

@@ -1,9 +1,8 @@
 use Rattle.std.proofs.Common.{◌≡◌, drop}
 use Rattle.std.specs.List.{flat_map}
-use Rattle.sf_model.specs.Admitted.{first, at_pin_name, at_placed_name}
+use Rattle.sf_model.specs.Admitted.{first}
 use Rattle.sf_model.specs.Rules.{broken}
-use Rattle.sf_model.specs.declared.named.NameRule.TheVariants.{NotBoth, Known}
-use Rattle.sf_model.specs.declared.raw.RawNet.{RawNet}
+use Rattle.sf_model.specs.declared.named.NameRule.TheVariants.{Known}
 use Rattle.sf_model.proofs.named.check_strangers.Given as goal
 
 abbrev pub invariant-loop-name : goal.invariant-loop-name

@@ -1,4 +1,4 @@
-use Rattle.std.proofs.Common.{◌≤◌, arith}
+use Rattle.std.proofs.Common.{arith}
 use Rattle.sf_model.specs.declared.raw.RawPad.{RawPad}
 use Rattle.sf_model.proofs.Tables.{table_start, table_step}
 use Rattle.sf_model.proofs.table.NameTable.of_pads.Goals as goal

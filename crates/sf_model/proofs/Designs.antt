@@ -1,0 +1,108 @@
+-- What is built from admitted parts is their design, and keeps the limits.
+use Rattle.std.proofs.Common.{◌≡◌, ℕ, ◌<◌, ◌≤◌, ◌^◌, ℤ, nat_abs, Bool, true, false, IsTrue, cond, List, [], ◌∷◌, length, get_or, Option, Some, None, IfSome, refl, sym, subst, arith}
+use Rattle.std.specs.List.{All, AllByRecursion, AllZip, filter_map, sum_by, zip}
+use Rattle.std.proofs.lemmas.Int.{ints}
+use Rattle.std.proofs.lemmas.List.Elements.{All-from_recursion, recursion_from_All}
+use Rattle.std.proofs.lemmas.List.Sums.{sum_by-cons}
+use Rattle.sf_model.specs.Admitted.{IsAdmitted, IsPlaceWithin}
+use Rattle.sf_model.specs.Built.{HasShapeChoices, IsDesignOf, IsNetOf, IsOutline, IsShapeChoice, IsWeighted, design_blocks, design_pads, placed_pad, shapeless}
+use Rattle.sf_model.specs.Limits.{IsCoordinate, IsPinSet, IsShapeList, IsWithinLimits}
+use Rattle.sf_model.specs.Numbers.{IsNetMade}
+use Rattle.sf_model.specs.declared.design.Design.{Design}
+use Rattle.sf_model.specs.declared.parts.Block.{Block}
+use Rattle.sf_model.specs.declared.parts.Net.{Net}
+use Rattle.sf_model.specs.declared.parts.Outline.{Outline}
+use Rattle.sf_model.specs.declared.parts.Pad.{Pad}
+use Rattle.sf_model.specs.declared.parts.Shape.{Shape}
+use Rattle.sf_model.specs.declared.parts.Weights.{Weights}
+use Rattle.sf_model.specs.declared.raw.Parts.{Parts}
+use Rattle.sf_model.specs.declared.raw.RawBlock.{RawBlock}
+use Rattle.sf_model.specs.declared.raw.RawNet.{RawNet}
+use Rattle.sf_model.specs.declared.raw.RawPad.{RawPad}
+use Rattle.sf_model.proofs.Limited.{limits_kept}
+use Rattle.sf_model.proofs.Paired.{zip_length}
+use Rattle.sf_model.proofs.PinsThere.{all_kept, few_placed}
+
+length_blocks : (blocks : List RawBlock) (lists : List (List Shape)) → length lists ≡ length blocks → length (design_blocks blocks lists) ≡ length blocks
+length_blocks [] lists same = refl
+length_blocks (b ∷ bs) [] same = absurd (omega arith)
+length_blocks (b ∷ bs) (l ∷ ls) same = omega (arith, length_blocks bs ls (omega arith))
+
+shapes_fine : (blocks : List RawBlock) (lists : List (List Shape)) → shapeless blocks lists ≡ None → AllByRecursion IsShapeChoice lists → AllByRecursion (λ b. IsShapeList b.shapes) (design_blocks blocks lists)
+shapes_fine [] lists none fine = tt
+shapes_fine (b ∷ bs) [] none fine = tt
+shapes_fine (b ∷ bs) ([] ∷ ls) none fine = cc
+shapes_fine (b ∷ bs) ((s ∷ ss) ∷ ls) none fine =
+    (record { some = omega arith; few = fine.0.few; sides = fine.0.sides; ordered = fine.0.ordered }, shapes_fine bs ls none fine.1)
+
+coordinate_fits : (z : ℤ) → nat_abs z ≤ 2 ^ 20 → IsCoordinate z
+coordinate_fits z h = (omega (arith, ints), omega (arith, ints))
+
+abbrev IsPadPlaced : Pad → Type 0
+IsPadPlaced p = IsCoordinate p.x × IsCoordinate p.y
+
+pad_fits : (name : List ℕ) (o : Option (ℤ × ℤ)) → IsPlaceWithin o → IfSome (placed_pad (record { name = name; place = o })) IsPadPlaced
+pad_fits name None h = tt
+pad_fits name (Some at) h = (coordinate_fits at.0 h.0, coordinate_fits at.1 h.1)
+
+places_fit : (on : Bool) (pads : List RawPad) → (IsTrue on → All (λ p. IsPlaceWithin p.place) pads) → All IsPadPlaced (cond on (filter_map placed_pad pads) [])
+places_fit true pads h = all_kept IsPadPlaced placed_pad pads (λ k d low. pad_fits (get_or pads k d).name (get_or pads k d).place (h refl k d low))
+places_fit false pads h = λ k d low. absurd (omega arith)
+
+pins_counted : (parts : Parts) (read : List RawNet) (nets : List Net) → AllZip (IsNetMade parts) read nets → sum_by (λ n. length n.pins) nets ≤ sum_by (λ n. length n.pins) read
+pins_counted parts [] [] made = omega arith
+pins_counted parts [] (n ∷ ns) made = absurd made
+pins_counted parts (r ∷ rs) [] made = absurd made
+pins_counted parts (r ∷ rs) (n ∷ ns) made =
+    let few = made.0.few in
+    omega (arith, pins_counted parts rs ns made.1, sum_by-cons (λ (m : Net). length m.pins) n ns, sum_by-cons (λ (m : RawNet). length m.pins) r rs)
+
+pin_sets : (parts : Parts) (read : List RawNet) (nets : List Net) → AllZip (IsNetMade parts) read nets → AllByRecursion (λ n. IsPinSet (length parts.blocks) (length (design_pads parts)) n.pins) nets
+pin_sets parts [] [] made = tt
+pin_sets parts [] (n ∷ ns) made = absurd made
+pin_sets parts (r ∷ rs) [] made = tt
+pin_sets parts (r ∷ rs) (n ∷ ns) made = (record { in_range = made.0.there; ascending = made.0.set.ascending }, pin_sets parts rs ns made.1)
+
+pub nets_are : (parts : Parts) (read : List RawNet) (nets : List Net) → AllZip (IsNetMade parts) read nets → AllByRecursion (λ n. IsNetOf parts n.0 n.1) (zip read nets)
+nets_are parts [] nets made = tt
+nets_are parts (r ∷ rs) [] made = tt
+nets_are parts (r ∷ rs) (n ∷ ns) made = (made.0.set, nets_are parts rs ns made.1)
+
+pub limits_hold : (parts : Parts) (lists : List (List Shape)) (outline : Outline) (weights : Weights) (blocks : List Block) (pads : List Pad) (nets : List Net) → IsAdmitted parts → HasShapeChoices parts.blocks lists → IsOutline outline → IsWeighted weights → shapeless parts.blocks lists ≡ None → blocks ≡ design_blocks parts.blocks lists → pads ≡ design_pads parts → AllZip (IsNetMade parts) parts.nets nets → weights.area < 2 ^ 16 → weights.wire < 2 ^ 16 → IsWithinLimits blocks pads nets outline weights
+limits_hold parts lists outline weights blocks pads nets admitted choices sides weighted none of_blocks of_pads made area wire =
+    let limits = limits_kept parts admitted in
+    let some_block = limits.some_block in
+    let few_blocks = limits.few_blocks in
+    let few_pads = limits.few_pads in
+    let few_nets = limits.few_nets in
+    let few_pins = limits.few_pins in
+    let n : length (design_blocks parts.blocks lists) ≡ length parts.blocks = length_blocks parts.blocks lists choices.one_each in
+    let m : length nets ≡ length parts.nets = sym (zip_length (IsNetMade parts) parts.nets nets made) in
+    let P : List Block → Type 0 = λ bs. IsWithinLimits bs pads nets outline weights in
+    let Q : List Pad → Type 0 = λ ps. IsWithinLimits (design_blocks parts.blocks lists) ps nets outline weights in
+    let R : ℕ → Type 0 = λ k. All (λ (net : Net). IsPinSet k (length (design_pads parts)) net.pins) nets in
+    subst P (sym of_blocks) (subst Q (sym of_pads) (record {
+      some_block = omega arith;
+      few_blocks = omega arith;
+      few_pads = omega (arith, few_placed parts);
+      few_nets = omega arith;
+      few_pins = omega (arith, pins_counted parts parts.nets nets made);
+      shapes = All-from_recursion (λ (b : Block). IsShapeList b.shapes) (design_blocks parts.blocks lists) (shapes_fine parts.blocks lists none (recursion_from_All IsShapeChoice lists choices.fine));
+      places = places_fit parts.pads_in parts.pads limits.places;
+      pins = subst R (sym n) (All-from_recursion (λ (net : Net). IsPinSet (length parts.blocks) (length (design_pads parts)) net.pins) nets (pin_sets parts parts.nets nets made));
+      width = sides.0;
+      height = sides.1;
+      area_weight = area;
+      wire_weight = wire;
+      weighted = weighted;
+    }))
+
+pub is_design : (parts : Parts) (lists : List (List Shape)) (outline : Outline) (weights : Weights) (design : Design) → design.blocks ≡ design_blocks parts.blocks lists → design.pads ≡ design_pads parts → AllZip (IsNetMade parts) parts.nets design.nets → design.outline ≡ outline → design.weights ≡ weights → IsDesignOf parts lists outline weights design
+is_design parts lists outline weights design blocks pads made outline_is weights_are = record {
+  blocks = blocks;
+  pads = pads;
+  net_count = sym (zip_length (IsNetMade parts) parts.nets design.nets made);
+  nets = All-from_recursion (λ (n : RawNet × Net). IsNetOf parts n.0 n.1) (zip parts.nets design.nets) (nets_are parts parts.nets design.nets made);
+  outline_is = outline_is;
+  weights_are = weights_are;
+}

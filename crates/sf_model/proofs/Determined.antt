@@ -1,0 +1,87 @@
+-- A design is determined by what it is built from.
+use Rattle.std.proofs.Common.{◌≡◌, ℕ, zero, suc, ◌<◌, List, [], ◌∷◌, length, get_or, ◌⊎◌, inl, inr, refl, ap, sym, ◌∙◌, arith}
+use Rattle.std.specs.List.{AllByRecursion, AllPairs, Contains, zip}
+use Rattle.std.proofs.lemmas.List.Elements.{All-contains, recursion_from_All}
+use Rattle.sf_model.specs.Built.{IsDesignOf, IsNetOf, IsSameDesign}
+use Rattle.sf_model.specs.Limits.{pin_order}
+use Rattle.sf_model.specs.declared.design.Design.{Design}
+use Rattle.sf_model.specs.declared.parts.Net.{Net}
+use Rattle.sf_model.specs.declared.parts.Outline.{Outline}
+use Rattle.sf_model.specs.declared.parts.Pin.{Pin}
+use Rattle.sf_model.specs.declared.parts.Shape.{Shape}
+use Rattle.sf_model.specs.declared.parts.Weights.{Weights}
+use Rattle.sf_model.specs.declared.raw.Parts.{Parts}
+use Rattle.sf_model.specs.declared.raw.RawNet.{RawNet}
+
+none : {X : Type 0} (y : X) → Contains [] y → ⊥
+none y h = let low = h.1 in absurd (omega arith)
+
+head_in : {X : Type 0} (x : X) (xs : List X) → Contains (x ∷ xs) x
+head_in x xs = (0, omega arith, refl)
+
+later_in : {X : Type 0} (x : X) (xs : List X) (y : X) → Contains xs y → Contains (x ∷ xs) y
+later_in x xs y h = (suc h.0, (let low = h.1 in let l : suc h.0 < length (x ∷ xs) = omega arith in l), h.2)
+
+member_cases : {X : Type 0} (x : X) (xs : List X) (y : X) (k : ℕ) → k < length (x ∷ xs) → get_or (x ∷ xs) k y ≡ y → (x ≡ y) ⊎ Contains xs y
+member_cases x xs y zero low is = inl is
+member_cases x xs y (suc k) low is = inr (k, (let l : k < length xs = omega arith in l), is)
+
+in_cases : {X : Type 0} (x : X) (xs : List X) (y : X) → Contains (x ∷ xs) y → (x ≡ y) ⊎ Contains xs y
+in_cases x xs y h = member_cases x xs y h.0 h.1 h.2
+
+abbrev IsAscending : List Pin → Type 0
+IsAscending pins = AllPairs (λ p q. pin_order p < pin_order q) pins
+
+head_below : (x : Pin) (xs : List Pin) → IsAscending (x ∷ xs) → (y : Pin) → Contains xs y → pin_order x < pin_order y
+head_below x xs up y h = All-contains (λ q. pin_order x < pin_order q) xs y (λ k d low. up 0 (suc k) d (omega arith) (omega arith)) h
+
+tail_up : (x : Pin) (xs : List Pin) → IsAscending (x ∷ xs) → IsAscending xs
+tail_up x xs up i j d less within = up (suc i) (suc j) d (omega arith) (omega arith)
+
+tail_in : (x y : Pin) (xs ys : List Pin) → IsAscending (x ∷ xs) → x ≡ y → ((p : Pin) → Contains (x ∷ xs) p → Contains (y ∷ ys) p) → (p : Pin) → Contains xs p → Contains ys p
+tail_in x y xs ys up head to p h =
+    let less : pin_order x < pin_order p = head_below x xs up p h in
+    elim (in_cases y ys p (to p (later_in x xs p h))) [
+      | inl e ↦ (let same : pin_order x ≡ pin_order p = ap pin_order (head ∙ e) in absurd (omega arith))
+      | inr q ↦ q
+    ]
+
+heads : (x y : Pin) (xs ys : List Pin) → IsAscending (x ∷ xs) → IsAscending (y ∷ ys) → Contains (y ∷ ys) x → Contains (x ∷ xs) y → x ≡ y
+heads x y xs ys up up' a b =
+    elim (in_cases y ys x a) [
+      | inl e ↦ sym e
+      | inr q ↦ elim (in_cases x xs y b) [ inl e ↦ e | inr r ↦ (let f : pin_order y < pin_order x = head_below y ys up' x q in let g : pin_order x < pin_order y = head_below x xs up y r in absurd (omega arith)) ]
+    ]
+
+-- ascending lists of the same pins are the same
+same_sets : (xs ys : List Pin) → IsAscending xs → IsAscending ys → ((p : Pin) → Contains xs p → Contains ys p) → ((p : Pin) → Contains ys p → Contains xs p) → xs ≡ ys
+same_sets [] [] up up' to from = refl
+same_sets [] (y ∷ ys) up up' to from = absurd (none y (from y (head_in y ys)))
+same_sets (x ∷ xs) [] up up' to from = absurd (none x (to x (head_in x xs)))
+same_sets (x ∷ xs) (y ∷ ys) up up' to from =
+    let head : x ≡ y = heads x y xs ys up up' (to x (head_in x xs)) (from y (head_in y ys)) in
+    let rest : xs ≡ ys = same_sets xs ys (tail_up x xs up) (tail_up y ys up') (tail_in x y xs ys up head to) (tail_in y x ys xs up' (sym head) from) in
+    ap (λ (z : Pin). z ∷ xs) head ∙ ap (λ (zs : List Pin). y ∷ zs) rest
+
+same_net : (parts : Parts) (read : RawNet) (n m : Net) → IsNetOf parts read n → IsNetOf parts read m → n ≡ m
+same_net parts read n m a b =
+    let f : List Pin → Net = λ ps. record { pins = ps } in
+    ap f (same_sets n.pins m.pins a.ascending b.ascending (λ p h. (b.same p).1 ((a.same p).0 h)) (λ p h. (a.same p).1 ((b.same p).0 h)))
+
+same_nets : (parts : Parts) (read : List RawNet) (ns ms : List Net) → length ns ≡ length read → length ms ≡ length read → AllByRecursion (λ n. IsNetOf parts n.0 n.1) (zip read ns) → AllByRecursion (λ n. IsNetOf parts n.0 n.1) (zip read ms) → ns ≡ ms
+same_nets parts [] [] [] i j a b = refl
+same_nets parts [] [] (m ∷ ms) i j a b = absurd (omega arith)
+same_nets parts [] (n ∷ ns) ms i j a b = absurd (omega arith)
+same_nets parts (r ∷ rs) [] ms i j a b = absurd (omega arith)
+same_nets parts (r ∷ rs) (n ∷ ns) [] i j a b = absurd (omega arith)
+same_nets parts (r ∷ rs) (n ∷ ns) (m ∷ ms) i j a b =
+    ap (λ (z : Net). z ∷ ns) (same_net parts r n m a.0 b.0) ∙ ap (λ (zs : List Net). m ∷ zs) (same_nets parts rs ns ms (omega arith) (omega arith) a.1 b.1)
+
+pub determined : (parts : Parts) (lists : List (List Shape)) (outline : Outline) (weights : Weights) (d e : Design) → IsDesignOf parts lists outline weights d → IsDesignOf parts lists outline weights e → IsSameDesign d e
+determined parts lists outline weights d e a b = record {
+  blocks = a.blocks ∙ sym b.blocks;
+  pads = a.pads ∙ sym b.pads;
+  nets = same_nets parts parts.nets d.nets e.nets a.net_count b.net_count (recursion_from_All (λ (n : RawNet × Net). IsNetOf parts n.0 n.1) (zip parts.nets d.nets) a.nets) (recursion_from_All (λ (n : RawNet × Net). IsNetOf parts n.0 n.1) (zip parts.nets e.nets) b.nets);
+  outline_same = a.outline_is ∙ sym b.outline_is;
+  weights_same = a.weights_are ∙ sym b.weights_are;
+}
