@@ -1,11 +1,14 @@
 //! The floorplanner as one call.
 #![tactic(auto)]
 
+mod budget;
 mod making;
 mod parsing;
+mod planning;
 mod reading;
 mod refusals;
 mod stop;
+mod telling;
 mod work;
 
 pub use stop::Stop;

@@ -1,0 +1,111 @@
+-- What the command `plan` answers.
+use Rattle.std.specs.Prelude.{◌≡◌, ◌⊎◌, ℕ, ◌+◌, ◌*◌, ◌/◌, ◌<◌, ◌≤◌, ⊤, min, nat_lt, List, [], ◌∷◌, length, codes, if◌then◌else◌, Option, Some, None, Result, Ok, Err}
+use Rattle.sf_io.specs.Outside.{Contents}
+use Rattle.sf_io.specs.declared.status.Status.{Status}
+use Rattle.sf_io.specs.declared.status.Status.TheVariants.{Done, NoneFits, Open}
+use Rattle.sf_model.specs.declared.design.Design.{Design}
+use Rattle.sf_model.specs.declared.plan.Spot.{Spot}
+use Rattle.sf_model.specs.declared.raw.Parts.{Parts}
+use Rattle.sf_model.specs.declared.TheConstants.{MAX}
+use Rattle.sf_model.specs.Tree.{Tree, width, height, spots_of}
+use Rattle.sf_model.specs.Legal.{block_count}
+use Rattle.sf_model.specs.Wire.{wire}
+use Rattle.sf_polish.specs.declared.expr.Expr.{Expr}
+use Rattle.sf_polish.specs.Postfix.{Spells}
+use Rattle.sf_place.specs.Spots.{by_number}
+use Rattle.sf_standard.specs.Standard.{standard}
+use Rattle.sf_search_core.specs.Outcome.{opening}
+use Rattle.sf_certificate.specs.declared.cert.Cert.{Cert}
+use Rattle.sf_certificate.specs.Valid.{IsValid, decided}
+use Rattle.sf_certificate.specs.Text.{cert_text}
+use Rattle.sf_rounds.specs.Turns.{turns}
+use Rattle.sf_rounds.specs.Found.{IsCertOf}
+use Rattle.sf_pl_writer.specs.declared.report.Outcome.{Outcome}
+use Rattle.sf_pl_writer.specs.declared.report.Outcome.TheVariants as word
+use Rattle.sf_pl_writer.specs.PlText.{pl_text}
+use Rattle.sf_pl_writer.specs.ReportText.{report_text}
+use Rattle.sf_words.specs.Meaning.{PlanOptions}
+use Rattle.sf_program.specs.Outcome.{Refusal, Then}
+use Rattle.sf_program.specs.Refusals.{over_limit}
+use Rattle.sf_program.specs.Reading.{PartsAdmitted, DesignMade}
+use Rattle.sf_program.specs.Stores.{Stored}
+
+-- how many subproblems of so many blocks may be decided
+abbrev pub node_limit : ℕ → ℕ
+node_limit blocks = min 4_000_000 (4_000_000_000 / ((blocks + 2) * (20 * blocks + 48)))
+
+-- the budget of a search: what was asked for, or its default
+abbrev pub budget_of : Option ℕ → ℕ → ℕ
+budget_of None blocks = min 100_000 (node_limit blocks)
+budget_of (Some nodes) blocks = nodes
+
+-- a budget past the limit is refused
+abbrev pub BudgetTested : Option ℕ → ℕ → Result ℕ Refusal → Type 0
+BudgetTested nodes blocks (Ok budget) = (budget ≡ budget_of nodes blocks) × (budget ≤ node_limit blocks)
+BudgetTested nodes blocks (Err why) = (node_limit blocks < budget_of nodes blocks) × (why ≡ over_limit (codes "nodes") (budget_of nodes blocks) (node_limit blocks))
+
+-- the design of admitted parts, where the budget is within its limit
+abbrev pub BudgetedDesign : PlanOptions → Parts → Result Design Refusal → Type 0
+BudgetedDesign o parts = Then (BudgetTested o.nodes (length parts.blocks)) (λ budget. DesignMade o.design o.weights parts)
+
+-- the files stand for this design, and the budget is within its limit
+abbrev pub PlanRead : Option Contents → PlanOptions → Result Design Refusal → Type 0
+PlanRead held o = Then (PartsAdmitted held o.design) (BudgetedDesign o)
+
+-- how a search ended: optimal, with no plan since none fits, or with its budget spent
+abbrev pub IsEnding : ℕ → ℕ → Outcome → Type 0
+IsEnding cost bound word.Optimal = (cost < MAX) × (bound ≡ cost)
+IsEnding cost bound word.NoneFits = (cost ≡ MAX) × (bound ≡ MAX)
+IsEnding cost bound word.Open = bound < cost
+
+abbrev pub status_of : Outcome → Status
+status_of word.Optimal = Done
+status_of word.NoneFits = NoneFits
+status_of word.Open = Open
+
+-- what is measured of the plan that an expression spells
+pub record IsMeasured (design : Design) (expr : Expr) (spots : List Spot) (w h length_of_wires : ℕ) : Type 0 where
+  pub tree : Tree
+  pub spells : Spells expr tree
+  pub spots_are : spots ≡ by_number (block_count design) (spots_of tree)
+  pub wide : w ≡ width tree
+  pub high : h ≡ height tree
+  pub wired : length_of_wires ≡ wire design (spots_of tree)
+
+-- the placement is stored behind the certificate where its name is given
+abbrev pub placed : Design → ℕ → Option (List ℕ) → List Spot → List Stored
+placed design scale None spots = []
+placed design scale (Some name) spots = (name, pl_text design spots scale) ∷ []
+
+-- what is stored and printed of a certificate without a plan, and of one with a plan that is measured
+abbrev pub IsTold : Design → ℕ → List ℕ → Option (List ℕ) → Outcome → Cert → Option Expr → List Stored → List ℕ → Type 0
+IsTold design scale name pl said cert None stored printed =
+    (stored ≡ (name, cert_text cert) ∷ [])
+      × (printed ≡ report_text (record { word = said; cost = cert.cost; bound = cert.bound; decided = decided cert.tags; size = (0, 0); area = 0; wire = 0; plan = None }))
+IsTold design scale name pl said cert (Some expr) stored printed =
+    (spots : List Spot) (w h wires : ℕ) × IsMeasured design expr spots w h wires
+      × (stored ≡ (name, cert_text cert) ∷ placed design scale pl spots)
+      × (printed ≡ report_text (record { word = said; cost = cert.cost; bound = cert.bound; decided = decided cert.tags; size = (w, h); area = w * h; wire = wires; plan = Some expr }))
+
+-- the certificate of a search of the design with this budget: valid by the standard bound, and found by the turns of the search core
+pub record IsSearched (design : Design) (budget : ℕ) (cert : Cert) : Type 0 where
+  pub valid : IsValid design (standard design) cert
+  pub blocks : cert.blocks ≡ block_count design
+  pub few : decided cert.tags ≤ budget
+  pub spent : cert.bound < cert.cost → decided cert.tags ≡ budget
+  pub run : IsCertOf design (turns design (standard design) budget (opening design (standard design) 1)) cert
+
+-- the answer of a search: its certificate, and what of it is stored and printed
+pub record IsAnswered (design : Design) (budget scale : ℕ) (cert_name : List ℕ) (pl_name : Option (List ℕ)) (status : Status) (stored : List Stored) (printed : List ℕ) : Type 0 where
+  pub cert : Cert
+  pub searched : IsSearched design budget cert
+  pub said : Outcome
+  pub ending : IsEnding cert.cost cert.bound said
+  pub status_is : status ≡ status_of said
+  pub told : IsTold design scale cert_name pl_name said cert cert.plan stored printed
+
+-- the files stand for a design, and this is the answer of its search
+pub record IsPlanned (o : PlanOptions) (before : Option Contents) (status : Status) (stored : List Stored) (printed : List ℕ) : Type 0 where
+  pub design : Design
+  pub reads : PlanRead before o (Ok design)
+  pub answered : IsAnswered design (budget_of o.nodes (block_count design)) o.design.per_unit o.cert o.pl_out status stored printed

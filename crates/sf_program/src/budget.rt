@@ -1,0 +1,43 @@
+//! How many subproblems a search may decide.
+
+ghost use Rattle.std.specs.Prelude.{◌≡◌, ◌≤◌, ◌<◌, ℕ, IfErr, codes};
+ghost use Rattle.sf_program.specs.Loads.{TellsLoads};
+ghost use Rattle.sf_program.specs.Outcome.{Ends};
+ghost use Rattle.sf_program.specs.Planned.{node_limit, budget_of, BudgetTested};
+
+use crate::refusals::over_limit;
+use crate::stop::Stop;
+use std::alloc::Global;
+
+/// The limit of the budget for so many blocks, which keeps the open subproblems within about 4 GB.
+fn node_limit(blocks: u64) -> u64
+    requires { blocks ≤ 320 }
+    ensures { result ≡ node_limit blocks }
+{
+    (4_000_000_000 / ((blocks + 2) * (20 * blocks + 48))).min(4_000_000)
+}
+
+/// What was asked for, or its default.
+pub fn budget_of(nodes: Option<u64>, blocks: u64) -> u64
+    requires { blocks ≤ 320 }
+    ensures { result ≡ budget_of nodes blocks }
+{
+    match nodes {
+        Some(nodes) => nodes,
+        None => node_limit(blocks).min(100_000),
+    }
+}
+
+/// The budget, where it is within its limit.
+pub fn test_budget(alloc: Global, nodes: Option<u64>, blocks: u64) -> Result<u64, Stop>
+    requires { blocks ≤ 320 }
+    ensures budget { Ends (λ x. x) result (BudgetTested nodes blocks) }
+    ensures tells { (loads loads_then : ℕ) → IfErr result (TellsLoads loads loads_then) }
+{
+    let budget = budget_of(nodes, blocks);
+    let limit = node_limit(blocks);
+    if budget > limit {
+        return Err(over_limit(alloc, "nodes", budget, limit)?);
+    }
+    Ok(budget)
+}

@@ -1,0 +1,99 @@
+//! The command `plan`.
+
+ghost use Rattle.std.specs.Prelude.{◌≡◌, ◌≤◌, ℕ, IfErr, IfOk, Err};
+ghost use Rattle.sf_model.specs.Admitted.{HasPinsInRange, HasSizes, IsAdmitted};
+ghost use Rattle.sf_model.specs.Legal.{block_count};
+ghost use Rattle.sf_certificate.specs.Valid.{decided};
+ghost use Rattle.sf_pl_writer.specs.Length.{IsScale};
+ghost use Rattle.sf_words.specs.Seen.{plan_seen, text_of};
+ghost use Rattle.sf_program.specs.Loads.{IsRead, TellsLoads};
+ghost use Rattle.sf_program.specs.Outcome.{Ends, Stops};
+ghost use Rattle.sf_program.specs.Planned.{IsAnswered, IsPlanned, IsSearched, BudgetedDesign, PlanRead, budget_of};
+ghost use Rattle.sf_program.specs.Stores.{stored_in};
+
+use crate::budget::{budget_of, test_budget};
+use crate::making::{make_design, read_admitted};
+use crate::stop::Stop;
+use crate::telling::{Names, ending_of, tell_none, tell_plan};
+use crate::work::Work;
+use sf_bounds::Standard;
+use sf_io::{Gate, Shelf};
+use sf_model::{Design, Parts, admitted_parts_keep_limits};
+use sf_rounds::{Found, SearchOptions, search};
+use sf_words::PlanWords;
+use std::alloc::{AllocError as NoMemory, Global};
+use std::thread::Threads;
+
+/// The design for which the named files stand, where the budget is within its limit.
+fn read_plan<S: Shelf>(alloc: Global, shelf: &mut S, words: &PlanWords<'_>) -> Result<Design, Stop>
+    ensures design { Ends (λ x. x) result (PlanRead (S.holds shelf.old) (plan_seen words.now)) }
+    ensures read { IsRead (S.holds shelf.old) (S.holds shelf.new) (S.load_faults shelf.old) (S.load_faults shelf.new) (S.store_faults shelf.old) (S.store_faults shelf.new) }
+    ensures tells { IfErr result (TellsLoads (S.load_faults shelf.old) (S.load_faults shelf.new)) }
+{
+    let parts = read_admitted(alloc, shelf, &words.design)?;
+    within_budget(alloc, words, parts)
+}
+
+/// The design of admitted parts, where the budget is within its limit.
+fn within_budget(alloc: Global, words: &PlanWords<'_>, parts: Parts) -> Result<Design, Stop>
+    requires admitted { IsAdmitted parts }
+    requires pins { HasPinsInRange parts }
+    requires sizes { HasSizes parts }
+    ensures design { Ends (λ x. x) result (BudgetedDesign (plan_seen words.now) parts) }
+    ensures tells { (loads loads_then : ℕ) → IfErr result (TellsLoads loads loads_then) }
+{
+    admitted_parts_keep_limits();
+    let blocks = parts.blocks.as_slice().len() as u64;
+    match test_budget(alloc, words.nodes, blocks) {
+        Ok(_) => make_design(alloc, &words.design, words.weights, parts),
+        Err(stop) => Err(stop),
+    }
+}
+
+/// What is told of the search of a design.
+fn answered(alloc: Global, design: &Design, nodes: u64, found: Found, names: Names<'_>) -> Result<Work, NoMemory>
+    requires searched { IsSearched design.now nodes found.cert }
+    requires plan { found.plan ≡ found.cert.plan }
+    requires decided { found.decided ≡ decided found.cert.tags }
+    requires scale { IsScale names.entry.scale }
+    ensures { IfOk result (λ w. IsAnswered design.now nodes names.entry.scale names.entry.cert.now (text_of names.entry.pl) w.status (stored_in w.stores.items) w.text.items) }
+{
+    let cert = found.cert;
+    let said = ending_of(cert.cost, cert.bound);
+    match found.plan {
+        None => tell_none(alloc, design, &cert, said, found.decided, names),
+        Some(expr) => tell_plan(alloc, design, &cert, expr, said, found.decided, names),
+    }
+}
+
+/// Searches the design for which the named files stand, and tells what was found.
+pub fn plan<R: Threads + Sync, S: Shelf, G: Gate>(rt: &R, alloc: Global, words: &PlanWords<'_>, shelf: &mut S, gate: &G) -> Result<Work, Stop>
+    requires scale { IsScale words.now.design.per_unit }
+    ensures answer { IfOk result (λ w. IsPlanned (plan_seen words.now) (S.holds shelf.old) w.status (stored_in w.stores.items) w.text.items) }
+    ensures refused { IfErr result (λ stop. Stops stop (λ why. PlanRead (S.holds shelf.old) (plan_seen words.now) (Err why))) }
+    ensures read { IsRead (S.holds shelf.old) (S.holds shelf.new) (S.load_faults shelf.old) (S.load_faults shelf.new) (S.store_faults shelf.old) (S.store_faults shelf.new) }
+    ensures tells { IfErr result (TellsLoads (S.load_faults shelf.old) (S.load_faults shelf.new)) }
+{
+    let design = read_plan(alloc, shelf, words)?;
+    let names = Names {
+        cert: words.cert,
+        pl: words.pl_out,
+        scale: words.design.per_unit,
+    };
+    let work = searched(rt, alloc, &design, words, names, gate)?;
+    Ok(work)
+}
+
+/// Searches a design with the budget that the words ask for.
+fn searched<R: Threads + Sync, G: Gate>(rt: &R, alloc: Global, design: &Design, words: &PlanWords<'_>, names: Names<'_>, gate: &G) -> Result<Work, NoMemory>
+    requires scale { IsScale names.entry.scale }
+    ensures { IfOk result (λ w. IsAnswered design.now (budget_of words.now.nodes (block_count design.now)) names.entry.scale names.entry.cert.now (text_of names.entry.pl) w.status (stored_in w.stores.items) w.text.items) }
+{
+    let nodes = budget_of(words.nodes, design.blocks.as_slice().len() as u64);
+    let options = SearchOptions {
+        workers: words.workers,
+        nodes,
+    };
+    let found = search(rt, alloc, design, &Standard, options, gate)?;
+    answered(alloc, design, nodes, found, names)
+}

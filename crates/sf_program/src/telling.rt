@@ -1,0 +1,166 @@
+//! What is stored and printed of a search.
+
+ghost use Rattle.std.specs.Prelude.{◌≡◌, ◌≤◌, ◌<◌, ◌++◌, ◌∷◌, [], length, ℕ, IfOk, MatchOption, None, Some, string_bytes};
+ghost use Rattle.sf_model.specs.declared.TheConstants.{MAX};
+ghost use Rattle.sf_model.specs.Legal.{block_count};
+ghost use Rattle.sf_polish.specs.Text.{IsWritable};
+ghost use Rattle.sf_certificate.specs.Text.{cert_text};
+ghost use Rattle.sf_certificate.specs.Valid.{HasCost, decided};
+ghost use Rattle.sf_pl_writer.specs.Length.{IsScale};
+ghost use Rattle.sf_pl_writer.specs.PlText.{pl_text};
+ghost use Rattle.sf_words.specs.Seen.{text_of};
+ghost use Rattle.sf_program.specs.Planned.{IsEnding, IsMeasured, IsTold, placed, status_of};
+ghost use Rattle.sf_program.specs.Stores.{stored_in};
+
+use crate::work::{Store, Work};
+use sf_certificate::{Cert, write};
+use sf_io::Status;
+use sf_model::{Design, MAX, Spot};
+use sf_pl_writer::{Outcome, Report, pl_text, report_text};
+use sf_place::{size, spots};
+use sf_polish::{Expr, plan_of};
+use sf_wire::wire;
+use std::alloc::{AllocError as NoMemory, Global};
+
+/// The names under which the certificate and the placement are stored, and the scale of the placement's lengths.
+#[derive(Clone, Copy)]
+pub struct Names<'a> {
+    pub cert: &'a str,
+    pub pl: Option<&'a str>,
+    pub scale: u64,
+}
+
+/// How a search ended, by its cost and bound.
+pub fn ending_of(cost: u64, bound: u64) -> Outcome
+    requires { bound ≤ cost }
+    ensures { IsEnding cost bound result }
+{
+    if bound < cost {
+        Outcome::Open
+    } else if cost == MAX {
+        Outcome::NoneFits
+    } else {
+        Outcome::Optimal
+    }
+}
+
+pub fn status_of(said: Outcome) -> Status
+    ensures { result ≡ status_of said }
+{
+    match said {
+        Outcome::Optimal => Status::Done,
+        Outcome::NoneFits => Status::NoneFits,
+        Outcome::Open => Status::Open,
+    }
+}
+
+/// What is measured of a plan.
+#[derive(Drop)]
+struct Measured {
+    spots: Vec<Spot>,
+    size: (u64, u64),
+    wire: u64,
+}
+
+fn measured(alloc: Global, design: &Design, expr: &Expr) -> Result<Measured, NoMemory>
+    requires writable { IsWritable (block_count design.now) expr.now }
+    requires fits { (z : ℕ) × HasCost design.now expr.now z }
+    ensures { IfOk result (λ m. IsMeasured design.now expr.now m.spots.items m.size.0 m.size.1 m.wire) }
+{
+    let plan = plan_of(alloc, expr)?;
+    let blocks = design.blocks.as_slice().len() as u16;
+    let spots = spots(alloc, &plan, blocks)?;
+    let wire = wire(design, &spots);
+    Ok(Measured {
+        spots,
+        size: size(&plan),
+        wire,
+    })
+}
+
+fn store_of(alloc: Global, name: &str, bytes: Vec<u8>) -> Result<Store, NoMemory>
+    ensures { IfOk result (λ s. (string_bytes s.name, s.bytes.items) ≡ (name.now, bytes.items)) }
+{
+    let name = String::from_str(alloc, name)?;
+    Ok(Store { name, bytes })
+}
+
+/// The certificate's store alone.
+fn stored_cert(alloc: Global, cert: &Cert, name: &str) -> Result<Vec<Store>, NoMemory>
+    ensures { IfOk result (λ all. stored_in all.items ≡ (name.now, cert_text cert.now) ∷ []) }
+{
+    let text = write(alloc, cert)?;
+    let mut stores = Vec::new(alloc);
+    stores.push(store_of(alloc, name, text)?)?;
+    Ok(stores)
+}
+
+/// The placement's store where its name is given.
+fn push_placed(alloc: Global, stores: &mut Vec<Store>, design: &Design, spots: &[Spot], names: Names<'_>) -> Result<(), NoMemory>
+    requires one_each { length spots.now ≡ block_count design.now }
+    requires scale { IsScale names.entry.scale }
+    ensures { IfOk result (λ done. stored_in stores.new.items ≡ stored_in stores.old.items ++ placed design.now names.entry.scale (text_of names.entry.pl) spots.now) }
+{
+    if let Some(name) = names.pl {
+        let text = pl_text(alloc, design, spots, names.scale)?;
+        stores.push(store_of(alloc, name, text)?)?;
+    }
+    Ok(())
+}
+
+/// What is told of a certificate without a plan.
+pub fn tell_none(alloc: Global, design: &Design, cert: &Cert, said: Outcome, decided_count: u64, names: Names<'_>) -> Result<Work, NoMemory>
+    requires none { cert.now.plan ≡ None }
+    requires decided { decided_count ≡ decided cert.now.tags }
+    ensures told { IfOk result (λ w. IsTold design.now names.entry.scale names.entry.cert.now (text_of names.entry.pl) said cert.now None (stored_in w.stores.items) w.text.items) }
+    ensures status { IfOk result (λ w. w.status ≡ status_of said) }
+{
+    let report = Report {
+        word: said,
+        cost: cert.cost,
+        bound: cert.bound,
+        decided: decided_count,
+        size: (0, 0),
+        area: 0,
+        wire: 0,
+        plan: None,
+    };
+    let text = report_text(alloc, &report)?;
+    Ok(Work {
+        status: status_of(said),
+        stores: stored_cert(alloc, cert, names.cert)?,
+        text,
+    })
+}
+
+/// What is told of a certificate with its plan.
+pub fn tell_plan(alloc: Global, design: &Design, cert: &Cert, expr: Expr, said: Outcome, decided_count: u64, names: Names<'_>) -> Result<Work, NoMemory>
+    requires plan { cert.now.plan ≡ Some expr }
+    requires fits { HasCost design.now expr cert.now.cost }
+    requires blocks { cert.now.blocks ≡ block_count design.now }
+    requires decided { decided_count ≡ decided cert.now.tags }
+    requires scale { IsScale names.entry.scale }
+    ensures told { IfOk result (λ w. IsTold design.now names.entry.scale names.entry.cert.now (text_of names.entry.pl) said cert.now (Some expr) (stored_in w.stores.items) w.text.items) }
+    ensures status { IfOk result (λ w. w.status ≡ status_of said) }
+{
+    let measured = measured(alloc, design, &expr)?;
+    let mut stores = stored_cert(alloc, cert, names.cert)?;
+    push_placed(alloc, &mut stores, design, &measured.spots, names)?;
+    let (width, height) = measured.size;
+    let report = Report {
+        word: said,
+        cost: cert.cost,
+        bound: cert.bound,
+        decided: decided_count,
+        size: (width, height),
+        area: width * height,
+        wire: measured.wire,
+        plan: Some(expr),
+    };
+    let text = report_text(alloc, &report)?;
+    Ok(Work {
+        status: status_of(said),
+        stores,
+        text,
+    })
+}
