@@ -83,7 +83,7 @@ IsTold design scale name pl said cert None stored printed =
     (stored ≡ (name, cert_text cert) ∷ [])
       × (printed ≡ report_text (record { word = said; cost = cert.cost; bound = cert.bound; decided = decided cert.tags; size = (0, 0); area = 0; wire = 0; plan = None }))
 IsTold design scale name pl said cert (Some expr) stored printed =
-    (spots : List Spot) (w h wires : ℕ) × IsMeasured design expr spots w h wires
+    (spots : List Spot) × (w h wires : ℕ) × IsMeasured design expr spots w h wires
       × (stored ≡ (name, cert_text cert) ∷ placed design scale pl spots)
       × (printed ≡ report_text (record { word = said; cost = cert.cost; bound = cert.bound; decided = decided cert.tags; size = (w, h); area = w * h; wire = wires; plan = Some expr }))
 

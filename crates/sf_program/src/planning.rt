@@ -55,14 +55,16 @@ fn answered(alloc: Global, design: &Design, nodes: u64, found: Found, names: Nam
     requires searched { IsSearched design.now nodes found.cert }
     requires plan { found.plan ≡ found.cert.plan }
     requires decided { found.decided ≡ decided found.cert.tags }
-    requires scale { IsScale names.entry.scale }
+    requires scale { IsScale names.scale }
     ensures { IfOk result (λ w. IsAnswered design.now nodes names.entry.scale names.entry.cert.now (text_of names.entry.pl) w.status (stored_in w.stores.items) w.text.items) }
 {
+    let decided = found.decided;
     let cert = found.cert;
+    let plan = found.plan;
     let said = ending_of(cert.cost, cert.bound);
-    match found.plan {
-        None => tell_none(alloc, design, &cert, said, found.decided, names),
-        Some(expr) => tell_plan(alloc, design, &cert, expr, said, found.decided, names),
+    match plan {
+        None => tell_none(alloc, design, &cert, said, decided, names),
+        Some(expr) => tell_plan(alloc, design, &cert, expr, said, decided, names),
     }
 }
 
@@ -86,7 +88,7 @@ pub fn plan<R: Threads + Sync, S: Shelf, G: Gate>(rt: &R, alloc: Global, words: 
 
 /// Searches a design with the budget that the words ask for.
 fn searched<R: Threads + Sync, G: Gate>(rt: &R, alloc: Global, design: &Design, words: &PlanWords<'_>, names: Names<'_>, gate: &G) -> Result<Work, NoMemory>
-    requires scale { IsScale names.entry.scale }
+    requires scale { IsScale names.scale }
     ensures { IfOk result (λ w. IsAnswered design.now (budget_of words.now.nodes (block_count design.now)) names.entry.scale names.entry.cert.now (text_of names.entry.pl) w.status (stored_in w.stores.items) w.text.items) }
 {
     let nodes = budget_of(words.nodes, design.blocks.as_slice().len() as u64);

@@ -1,6 +1,6 @@
 //! What is stored and printed of a search.
 
-ghost use Rattle.std.specs.Prelude.{◌≡◌, ◌≤◌, ◌<◌, ◌++◌, ◌∷◌, [], length, ℕ, IfOk, MatchOption, None, Some, string_bytes};
+ghost use Rattle.std.specs.Prelude.{◌≡◌, ◌≤◌, ◌<◌, ◌^◌, ◌++◌, ◌∷◌, [], length, ℕ, IfOk, MatchOption, None, Some, string_bytes};
 ghost use Rattle.sf_model.specs.declared.TheConstants.{MAX};
 ghost use Rattle.sf_model.specs.Legal.{block_count};
 ghost use Rattle.sf_polish.specs.Text.{IsWritable};
@@ -62,10 +62,12 @@ struct Measured {
     wire: u64,
 }
 
-fn measured(alloc: Global, design: &Design, expr: &Expr) -> Result<Measured, NoMemory>
+fn measure_plan(alloc: Global, design: &Design, expr: &Expr) -> Result<Measured, NoMemory>
     requires writable { IsWritable (block_count design.now) expr.now }
     requires fits { (z : ℕ) × HasCost design.now expr.now z }
-    ensures { IfOk result (λ m. IsMeasured design.now expr.now m.spots.items m.size.0 m.size.1 m.wire) }
+    ensures measured { IfOk result (λ m. IsMeasured design.now expr.now m.spots.items m.size.0 m.size.1 m.wire) }
+    ensures one_each { IfOk result (λ m. length m.spots.items ≡ block_count design.now) }
+    ensures small { IfOk result (λ m. (m.size.0 ≤ 2 ^ 20) × (m.size.1 ≤ 2 ^ 20)) }
 {
     let plan = plan_of(alloc, expr)?;
     let blocks = design.blocks.as_slice().len() as u16;
@@ -79,7 +81,8 @@ fn measured(alloc: Global, design: &Design, expr: &Expr) -> Result<Measured, NoM
 }
 
 fn store_of(alloc: Global, name: &str, bytes: Vec<u8>) -> Result<Store, NoMemory>
-    ensures { IfOk result (λ s. (string_bytes s.name, s.bytes.items) ≡ (name.now, bytes.items)) }
+    ensures name { IfOk result (λ s. string_bytes s.name ≡ name.now) }
+    ensures bytes { IfOk result (λ s. s.bytes.items ≡ bytes.items) }
 {
     let name = String::from_str(alloc, name)?;
     Ok(Store { name, bytes })
@@ -98,7 +101,7 @@ fn stored_cert(alloc: Global, cert: &Cert, name: &str) -> Result<Vec<Store>, NoM
 /// The placement's store where its name is given.
 fn push_placed(alloc: Global, stores: &mut Vec<Store>, design: &Design, spots: &[Spot], names: Names<'_>) -> Result<(), NoMemory>
     requires one_each { length spots.now ≡ block_count design.now }
-    requires scale { IsScale names.entry.scale }
+    requires scale { IsScale names.scale }
     ensures { IfOk result (λ done. stored_in stores.new.items ≡ stored_in stores.old.items ++ placed design.now names.entry.scale (text_of names.entry.pl) spots.now) }
 {
     if let Some(name) = names.pl {
@@ -139,11 +142,11 @@ pub fn tell_plan(alloc: Global, design: &Design, cert: &Cert, expr: Expr, said: 
     requires fits { HasCost design.now expr cert.now.cost }
     requires blocks { cert.now.blocks ≡ block_count design.now }
     requires decided { decided_count ≡ decided cert.now.tags }
-    requires scale { IsScale names.entry.scale }
+    requires scale { IsScale names.scale }
     ensures told { IfOk result (λ w. IsTold design.now names.entry.scale names.entry.cert.now (text_of names.entry.pl) said cert.now (Some expr) (stored_in w.stores.items) w.text.items) }
     ensures status { IfOk result (λ w. w.status ≡ status_of said) }
 {
-    let measured = measured(alloc, design, &expr)?;
+    let measured = measure_plan(alloc, design, &expr)?;
     let mut stores = stored_cert(alloc, cert, names.cert)?;
     push_placed(alloc, &mut stores, design, &measured.spots, names)?;
     let (width, height) = measured.size;
