@@ -3,3 +3,4 @@ pub mod Refusals
 pub mod Reading
 pub mod Loads
 pub mod Stores
+pub mod Checked

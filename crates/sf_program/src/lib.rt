@@ -1,6 +1,7 @@
 //! The floorplanner as one call.
 #![tactic(auto)]
 
+mod checking;
 mod making;
 mod parsing;
 mod reading;
