@@ -8,7 +8,7 @@ goes-on word rest = sym (append_assoc word (10 ∷ []) rest)
 
 pub yes-lines : (s t cost bound decided : List ℕ) → s ≡ cost → t ≡ bound
     → codes "status Yes\ncost " ++ (s ++ (codes "\nbound " ++ (t ++ (codes "\ndecided " ++ (decided ++ 10 ∷ [])))))
-      ≡ line_of (codes "status" ∷ codes "Yes" ∷ []) ++ (line_of (codes "cost" ∷ cost ∷ []) ++ (line_of (codes "bound" ∷ bound ∷ []) ++ line_of (codes "decided" ∷ decided ∷ [])))
+    ≡ line_of (codes "status" ∷ codes "Yes" ∷ []) ++ (line_of (codes "cost" ∷ cost ∷ []) ++ (line_of (codes "bound" ∷ bound ∷ []) ++ line_of (codes "decided" ∷ decided ∷ [])))
 yes-lines s t cost bound decided e f =
     ap (λ x. codes "status Yes\ncost " ++ (x ++ (codes "\nbound " ++ (t ++ (codes "\ndecided " ++ (decided ++ 10 ∷ [])))))) e
     ∙ ap (λ x. codes "status Yes\ncost " ++ (cost ++ (codes "\nbound " ++ (x ++ (codes "\ndecided " ++ (decided ++ 10 ∷ [])))))) f

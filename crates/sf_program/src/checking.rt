@@ -56,7 +56,12 @@ fn parse_cert(alloc: Global, text: &[u8], design: &Design) -> Result<Cert, Stop>
 }
 
 /// The certificate of a design that the named file says.
-fn read_cert<S: Shelf>(alloc: Global, shelf: &mut S, name: &str, design: &Design) -> Result<Cert, Stop>
+fn read_cert<S: Shelf>(
+    alloc: Global,
+    shelf: &mut S,
+    name: &str,
+    design: &Design,
+) -> Result<Cert, Stop>
     ensures cert { Ends said_by result (CertRead (S.holds shelf.old) name.now (block_count design.now)) }
     ensures blocks { IfOk result (λ cert. cert.blocks ≡ block_count design.now) }
     ensures read { IsRead (S.holds shelf.old) (S.holds shelf.new) (S.load_faults shelf.old) (S.load_faults shelf.new) (S.store_faults shelf.old) (S.store_faults shelf.new) }

@@ -31,5 +31,5 @@ returns-clause-answer g c =
       answer = c.in_ok-answer.answer;
       answered = c.in_ok-answer.ensures.answer;
       status_is = c.in_ok-answer_work.ensures.status;
-      prints = c.in_ok-answer_work.ensures.text
+      prints = c.in_ok-answer_work.ensures.text;
     }
