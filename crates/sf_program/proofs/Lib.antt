@@ -1,3 +1,4 @@
 pub mod Stages
 pub mod Fitting
 pub mod Told
+pub mod Printed

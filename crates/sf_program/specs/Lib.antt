@@ -4,3 +4,4 @@ pub mod Reading
 pub mod Loads
 pub mod Stores
 pub mod Planned
+pub mod Checked

@@ -2,6 +2,7 @@
 #![tactic(auto)]
 
 mod budget;
+mod checking;
 mod making;
 mod parsing;
 mod planning;
