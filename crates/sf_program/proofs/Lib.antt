@@ -1,1 +1,4 @@
 pub mod Stages
+pub mod Legal
+pub mod NearPlaces
+pub mod Placing

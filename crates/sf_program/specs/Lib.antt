@@ -3,3 +3,5 @@ pub mod Refusals
 pub mod Reading
 pub mod Loads
 pub mod Stores
+pub mod Measured
+pub mod PlacedLines

@@ -2,9 +2,11 @@
 #![tactic(auto)]
 
 mod making;
+mod measuring;
 mod parsing;
 mod reading;
 mod refusals;
+mod spotting;
 mod stop;
 mod work;
 
