@@ -1,24 +1,21 @@
 -- A coordinate that is read is near.
-use Rattle.std.proofs.Common.{◌≡◌, ◌==◌, ℕ, ◌≤◌, Bool, true, false, cond, List, [], ◌∷◌, length, Option, Some, None, Result, Ok, Err, refl, sym, ap, subst, arith, codes, inl, inr}
+use Rattle.std.proofs.Common.{◌≡◌, ◌==◌, ℕ, ◌≤◌, Bool, true, false, cond, List, [], ◌∷◌, length, Option, Some, None, Result, Ok, Err, refl, subst, arith, codes, inl, inr}
 use Rattle.std.specs.Prelude.{ℤ, pos, neg_ℤ, ◌≤ℤ◌, nat_lt, ◌%◌, ◌/◌, ◌||◌}
 use Rattle.std.specs.List.{All, AllZip}
 use Rattle.std.specs.Str.{bytes_eq}
 use Rattle.std.proofs.lemmas.Bool.Decides.{nat_tests}
 use Rattle.std.proofs.lemmas.Int.{ints}
 use Rattle.std.proofs.lemmas.List.Elements.{All-nil, All-cons}
-use Rattle.sf_lex.specs.Text.{is_not_empty, words}
 use Rattle.sf_lex.specs.Scan.{Line}
-use Rattle.sf_lex.specs.Gap.{is_gap, first_word, after_word}
-use Rattle.sf_lex.specs.declared.field.Gap.TheVariants.{Blanks, Sizes}
 use Rattle.sf_lex.specs.Number.{Decimal, decimal_of, decimal_read, signed_read, value_or_fault, exact_value, scaled, unit, within, with_value}
 use Rattle.sf_lex.specs.declared.number.NumberFault.{NumberFault}
-use Rattle.sf_lex.specs.declared.number.NumberFault.TheVariants.{NotNumber, TooManyDigits, NotWhole, TooLarge}
+use Rattle.sf_lex.specs.declared.number.NumberFault.TheVariants.{TooManyDigits, NotWhole, TooLarge}
 use Rattle.sf_gsrc.specs.declared.fault.LineFault.{LineFault}
 use Rattle.sf_gsrc.specs.declared.fault.LineFault.TheVariants.{BadLine, ZeroSide}
 use Rattle.sf_gsrc.specs.declared.output.GsrcPlaces.{GsrcPlaces}
 use Rattle.sf_gsrc.specs.declared.output.Place.{Place}
 use Rattle.sf_gsrc.specs.Line.{◌>>=◌, number_in, place_in_word}
-use Rattle.sf_gsrc.specs.PlaceLine.{size_words, size_in_words, point_said, sized_said, rest_said, coordinates_said, place_said}
+use Rattle.sf_gsrc.specs.PlaceLine.{size_words, size_in_words, point_said, sized_said, rest_said, place_said}
 use Rattle.sf_gsrc.specs.Places.{PlacesStandFor, SaysPlace}
 use Rattle.sf_io.specs.Outside.{Contents}
 use Rattle.sf_program.specs.Reading.{PlacesRead}
@@ -152,6 +149,6 @@ stands_near scale text out s = all_near scale s.others out.places s.each
 -- the places of a file that was read
 pub read_near : (held : Option Contents) (source : List ℕ) (scale : ℕ) (name : List ℕ) (out : GsrcPlaces) → PlacesRead held source scale name (Ok out) → All IsNear out.places
 read_near held source scale name out r = elim r [
-    | inl t ↦ stands_near scale t.0 out t.2
-    | inr t ↦ absurd (let e : Ok out ≡ Err t.0 = t.2 in cc)
-  ]
+  | inl t ↦ stands_near scale t.0 out t.2
+  | inr t ↦ absurd (let e : Ok out ≡ Err t.0 = t.2 in cc)
+]

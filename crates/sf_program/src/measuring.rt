@@ -25,7 +25,12 @@ use sf_words::MeasureWords;
 use std::alloc::{AllocError as NoMemory, Global};
 
 /// Where the placed file puts the blocks of a design, by number.
-fn read_spots<S: Shelf>(alloc: Global, words: &MeasureWords<'_>, shelf: &mut S, design: &Design) -> Result<Vec<Spot>, Stop>
+fn read_spots<S: Shelf>(
+    alloc: Global,
+    words: &MeasureWords<'_>,
+    shelf: &mut S,
+    design: &Design,
+) -> Result<Vec<Spot>, Stop>
     ensures spots { Ends (λ v. v.items) result (SpotsRead (S.holds shelf.old) (measure_seen words.now) design.now) }
     ensures one_each { IfOk result (λ v. length v.items ≡ block_count design.now) }
     ensures by_number { IfOk result (λ v. IsByNumber v.items) }
@@ -55,11 +60,18 @@ fn legal_text(alloc: Global, design: &Design, spots: &[Spot]) -> Result<Vec<u8>,
     let (width, height) = spots_size(spots);
     let area = width * height;
     let wires = wire(design, spots);
-    let text = format!(in alloc; "status Legal\ncost {cost}\nsize {width} {height}\narea {area}\nwire {wires}\n")?;
+    let text = format!(in alloc;
+        "status Legal\ncost {cost}\nsize {width} {height}\narea {area}\nwire {wires}\n"
+    )?;
     Ok(text.into_bytes())
 }
 
-fn verdict_text(alloc: Global, design: &Design, spots: &[Spot], verdict: Verdict) -> Result<Vec<u8>, NoMemory>
+fn verdict_text(
+    alloc: Global,
+    design: &Design,
+    spots: &[Spot],
+    verdict: Verdict,
+) -> Result<Vec<u8>, NoMemory>
     requires { IsVerdict design.now spots.now verdict }
     ensures { IfOk result (λ text. text.items ≡ verdict_text design.now spots.now verdict) }
 {
@@ -73,7 +85,11 @@ fn verdict_text(alloc: Global, design: &Design, spots: &[Spot], verdict: Verdict
 }
 
 /// Whether the blocks of the named design are legally placed by the placed file, and at what cost. Nothing is stored.
-pub fn measure<S: Shelf>(alloc: Global, words: &MeasureWords<'_>, shelf: &mut S) -> Result<Work, Stop>
+pub fn measure<S: Shelf>(
+    alloc: Global,
+    words: &MeasureWords<'_>,
+    shelf: &mut S,
+) -> Result<Work, Stop>
     ensures answer { IfOk result (λ w. IsMeasured (measure_seen words.now) (S.holds shelf.old) w.status w.text.items) }
     ensures stores { IfOk result (λ w. stored_in w.stores.items ≡ []) }
     ensures refused { IfErr result (λ stop. Stops stop (λ why. MeasureRead (S.holds shelf.old) (measure_seen words.now) (Err why))) }

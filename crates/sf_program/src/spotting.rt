@@ -68,7 +68,13 @@ fn sized_spot(alloc: Global, block: u16, name: &Name, line: &Place) -> Result<Sp
 }
 
 /// The spot of a block by the lines that have its name.
-fn spot_of(alloc: Global, block: u16, name: &Name, lines: &[Place], index: &BTreeMap<&[u8], Lines>) -> Result<Spot, Stop>
+fn spot_of(
+    alloc: Global,
+    block: u16,
+    name: &Name,
+    lines: &[Place],
+    index: &BTreeMap<&[u8], Lines>,
+) -> Result<Spot, Stop>
     requires indexed { IsIndex index.now lines.now lines.now }
     requires near { All IsNear lines.now }
     ensures spot { Ends (λ s. s) result (λ r. r ≡ spot_said block name.now (lines_named name.now lines.now)) }

@@ -1,4 +1,4 @@
-use Rattle.std.proofs.Common.{◌≡◌, List, Option, Ok, Err, ap, inl, refl, subst, ◌∙◌}
+use Rattle.std.proofs.Common.{List, Option, Ok, Err, ap, inl, refl, subst, ◌∙◌}
 use Rattle.std.proofs.lemmas.Result.{err_from_is_err_and}
 use Rattle.sf_io.specs.Outside.{Contents}
 use Rattle.sf_model.specs.declared.plan.Spot.{Spot}

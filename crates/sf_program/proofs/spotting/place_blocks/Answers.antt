@@ -1,4 +1,4 @@
-use Rattle.std.proofs.Common.{◌+◌, ◌≡◌, length, length-append, arith}
+use Rattle.std.proofs.Common.{arith}
 use Rattle.std.proofs.lemmas.Result.{err_from_is_err_and}
 use Rattle.sf_program.proofs.Placing.{one_spot_more, numbered_more, near_more}
 use Rattle.sf_program.proofs.spotting.place_blocks.Goals as goal

@@ -1,9 +1,9 @@
-use Rattle.std.proofs.Common.{◌≡◌, ◌<◌, ◌∷◌, [], List, length, Some, None, Err, Result, ap, sym, subst, ◌∙◌, rules, codes}
+use Rattle.std.proofs.Common.{◌≡◌, ◌<◌, ◌∷◌, [], List, length, Some, None, Err, ap, sym, subst, ◌∙◌, rules, codes}
 use Rattle.sf_model.specs.declared.plan.Spot.{Spot}
 use Rattle.sf_gsrc.specs.declared.output.Place.{Place}
 use Rattle.sf_program.specs.declared.spotting.Lines.TheVariants.{One, More}
 use Rattle.sf_program.specs.Measured.{lines_named, spot_said}
-use Rattle.sf_program.specs.Outcome.{Ends, Refusal}
+use Rattle.sf_program.specs.Outcome.{Ends}
 use Rattle.sf_program.specs.PlacedLines.{LinesAre, IsOnly, IsNear}
 use Rattle.sf_program.specs.Refusals.{design_fault}
 use Rattle.sf_program.proofs.Placing.{named_lines}
