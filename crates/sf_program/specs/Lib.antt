@@ -5,3 +5,5 @@ pub mod Loads
 pub mod Stores
 pub mod Planned
 pub mod Checked
+pub mod Measured
+pub mod PlacedLines

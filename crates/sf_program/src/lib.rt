@@ -4,10 +4,12 @@
 mod budget;
 mod checking;
 mod making;
+mod measuring;
 mod parsing;
 mod planning;
 mod reading;
 mod refusals;
+mod spotting;
 mod stop;
 mod telling;
 mod work;

@@ -1,0 +1,23 @@
+use Rattle.std.proofs.Common.{arith}
+use Rattle.std.proofs.lemmas.Result.{err_from_is_err_and}
+use Rattle.sf_program.proofs.Placing.{one_spot_more, numbered_more, near_more}
+use Rattle.sf_program.proofs.spotting.place_blocks.Goals as goal
+
+pub loop-number-preserved : goal.loop-number-preserved
+loop-number-preserved c =
+    let old = c.loop-number.spots.items in
+    let new = c.push.new.self.items in
+    let i = c.loop-number.number in
+    let was = c.loop-number.invariant in
+    record {
+      said = one_spot_more c.args.blocks.now c.args.lines.now i c.index-blocks-number.result old new c.in_ok-spot.spot _ c.loop-number-test.true c.index-blocks-number.is c.in_ok-spot.ensures.spot c.in_ok-push.ensures.items was.said;
+      one_each = omega (arith, c.in_ok-push.ensures.len, was.one_each);
+      by_number = numbered_more old new c.in_ok-spot.spot i was.by_number c.in_ok-spot.ensures.block c.in_ok-push.ensures.items;
+      near = near_more old new c.in_ok-spot.spot was.near c.in_ok-spot.ensures.near c.in_ok-push.ensures.items;
+    }
+
+pub returns-in_err-spot-clause-tells : goal.returns-in_err-spot-clause-tells
+returns-in_err-spot-clause-tells c = λ loads loads_then.
+    let t = c.in_err-spot.ensures.tells loads loads_then in
+    let p = err_from_is_err_and c.from_residual-in_err-spot.result c.from_residual-in_err-spot.ensures.1 in
+    rw (p.1, p.2) t

@@ -1,0 +1,15 @@
+use Rattle.std.proofs.Common.{◌≡◌, map, length, drop}
+use Rattle.std.specs.Prelude.{All}
+use Rattle.std.specs.List.{range_with_len}
+use Rattle.sf_place.specs.Spots.{HasNearCorner}
+use Rattle.sf_program.specs.Measured.{spots_said}
+use Rattle.sf_program.proofs.Placing.{after}
+use Rattle.sf_program.proofs.spotting.place_blocks.Given as goal
+
+abbrev pub invariant-loop-number : goal.invariant-loop-number
+invariant-loop-number l = record {
+  said : spots_said 0 l.blocks l.lines ≡ after l.spots.items (spots_said l.number (drop l.number l.blocks) l.lines);
+  one_each : length l.spots.items ≡ l.number;
+  by_number : map (λ s. s.block) l.spots.items ≡ range_with_len 0 l.number;
+  near : All HasNearCorner l.spots.items;
+}

@@ -1,0 +1,104 @@
+//! The command `measure`.
+
+ghost use Rattle.std.specs.Prelude.{◌≡◌, ℕ, [], codes, length, All, IfErr, IfOk, Err};
+ghost use Rattle.sf_model.specs.Cost.{right_end, upper_end, spots_cost};
+ghost use Rattle.sf_model.specs.Legal.{block_count};
+ghost use Rattle.sf_model.specs.Wire.{wire};
+ghost use Rattle.sf_place.specs.Spots.{HasNearCorner, IsByNumber};
+ghost use Rattle.sf_place.specs.Verdict.{AreLegal, IsVerdict};
+ghost use Rattle.sf_words.specs.Seen.{measure_seen};
+ghost use Rattle.sf_program.specs.Loads.{IsRead, TellsLoads};
+ghost use Rattle.sf_program.specs.Measured.{IsMeasured, MeasureRead, SpotsRead, legal_text, status_of, verdict_text};
+ghost use Rattle.sf_program.specs.Outcome.{Ends, Stops};
+ghost use Rattle.sf_program.specs.Stores.{stored_in};
+
+use crate::making::read_design;
+use crate::reading::read_places_file;
+use crate::spotting::place_blocks;
+use crate::stop::Stop;
+use crate::work::Work;
+use sf_io::{Shelf, Status};
+use sf_model::{Design, Spot};
+use sf_place::{Verdict, check_spots};
+use sf_wire::{spots_cost, spots_size, wire};
+use sf_words::MeasureWords;
+use std::alloc::{AllocError as NoMemory, Global};
+
+/// Where the placed file puts the blocks of a design, by number.
+fn read_spots<S: Shelf>(
+    alloc: Global,
+    words: &MeasureWords<'_>,
+    shelf: &mut S,
+    design: &Design,
+) -> Result<Vec<Spot>, Stop>
+    ensures spots { Ends (λ v. v.items) result (SpotsRead (S.holds shelf.old) (measure_seen words.now) design.now) }
+    ensures one_each { IfOk result (λ v. length v.items ≡ block_count design.now) }
+    ensures by_number { IfOk result (λ v. IsByNumber v.items) }
+    ensures near { IfOk result (λ v. All HasNearCorner v.items) }
+    ensures read { IsRead (S.holds shelf.old) (S.holds shelf.new) (S.load_faults shelf.old) (S.load_faults shelf.new) (S.store_faults shelf.old) (S.store_faults shelf.new) }
+    ensures tells { IfErr result (TellsLoads (S.load_faults shelf.old) (S.load_faults shelf.new)) }
+{
+    let file = read_places_file(alloc, shelf, "placed", words.design.per_unit, words.placed)?;
+    place_blocks(alloc, design.blocks.as_slice(), file.places.as_slice())
+}
+
+fn status_of(verdict: Verdict) -> Status
+    ensures { result ≡ status_of verdict }
+{
+    match verdict {
+        Verdict::Legal => Status::Done,
+        _ => Status::No,
+    }
+}
+
+/// The lines of a legal placement.
+fn legal_text(alloc: Global, design: &Design, spots: &[Spot]) -> Result<Vec<u8>, NoMemory>
+    requires { AreLegal design.now spots.now }
+    ensures { IfOk result (λ text. text.items ≡ legal_text (spots_cost design.now spots.now) (right_end spots.now) (upper_end spots.now) (wire design.now spots.now)) }
+{
+    let cost = spots_cost(design, spots);
+    let (width, height) = spots_size(spots);
+    let area = width * height;
+    let wires = wire(design, spots);
+    let text = format!(in alloc;
+        "status Legal\ncost {cost}\nsize {width} {height}\narea {area}\nwire {wires}\n"
+    )?;
+    Ok(text.into_bytes())
+}
+
+fn verdict_text(
+    alloc: Global,
+    design: &Design,
+    spots: &[Spot],
+    verdict: Verdict,
+) -> Result<Vec<u8>, NoMemory>
+    requires { IsVerdict design.now spots.now verdict }
+    ensures { IfOk result (λ text. text.items ≡ verdict_text design.now spots.now verdict) }
+{
+    let text = match verdict {
+        Verdict::Legal => return legal_text(alloc, design, spots),
+        Verdict::Unlisted(block) => format!(in alloc; "status Unlisted {block}\n")?,
+        Verdict::Outside(block) => format!(in alloc; "status Outside {block}\n")?,
+        Verdict::Overlap(lower, upper) => format!(in alloc; "status Overlap {lower} {upper}\n")?,
+    };
+    Ok(text.into_bytes())
+}
+
+/// Whether the blocks of the named design are legally placed by the placed file, and at what cost. Nothing is stored.
+pub fn measure<S: Shelf>(
+    alloc: Global,
+    words: &MeasureWords<'_>,
+    shelf: &mut S,
+) -> Result<Work, Stop>
+    ensures answer { IfOk result (λ w. IsMeasured (measure_seen words.now) (S.holds shelf.old) w.status w.text.items) }
+    ensures stores { IfOk result (λ w. stored_in w.stores.items ≡ []) }
+    ensures refused { IfErr result (λ stop. Stops stop (λ why. MeasureRead (S.holds shelf.old) (measure_seen words.now) (Err why))) }
+    ensures read { IsRead (S.holds shelf.old) (S.holds shelf.new) (S.load_faults shelf.old) (S.load_faults shelf.new) (S.store_faults shelf.old) (S.store_faults shelf.new) }
+    ensures tells { IfErr result (TellsLoads (S.load_faults shelf.old) (S.load_faults shelf.new)) }
+{
+    let design = read_design(alloc, shelf, &words.design, words.weights)?;
+    let spots = read_spots(alloc, words, shelf, &design)?;
+    let verdict = check_spots(&design, &spots);
+    let text = verdict_text(alloc, &design, &spots, verdict)?;
+    Ok(Work::printed(alloc, status_of(verdict), text))
+}

@@ -1,0 +1,110 @@
+//! From the lines of a placed file to one spot for each block.
+
+ghost use Rattle.std.specs.Prelude.{◌≡◌, ◌≤◌, ℕ, length, min, All, IfErr, IfOk};
+ghost use Rattle.sf_place.specs.Spots.{HasNearCorner, IsByNumber};
+ghost use Rattle.sf_program.specs.Loads.{TellsLoads};
+ghost use Rattle.sf_program.specs.Measured.{lines_named, side_in_spot, sized_spot, spot_said, spots_said};
+ghost use Rattle.sf_program.specs.Outcome.{Ends};
+ghost use Rattle.sf_program.specs.PlacedLines.{IsIndex, IsNear};
+
+use crate::refusals::named_fault;
+use crate::stop::Stop;
+use sf_gsrc::Place;
+use sf_model::{Block, Name, Spot};
+use std::alloc::{AllocError, Global};
+use std::collections::BTreeMap;
+
+/// One more than the greatest side.
+const PAST_SIDES: u64 = 1_048_577;
+
+/// The lines that have a name: the only one, by its number, or more.
+#[derive(Clone, Copy)]
+enum Lines {
+    One(usize),
+    More,
+}
+
+fn index_lines(alloc: Global, lines: &[Place]) -> Result<BTreeMap<&[u8], Lines>, AllocError>
+    ensures { IfOk result (λ index. IsIndex index lines.now lines.now) }
+{
+    let mut index = BTreeMap::new(alloc);
+    for i in (0..lines.len()).rev() {
+        let line = &lines[i];
+        let name = line.name.as_bytes();
+        let known = if index.contains_key(name) {
+            Lines::More
+        } else {
+            Lines::One(i)
+        };
+        index.insert(name, known)?;
+    }
+    Ok(index)
+}
+
+fn side_in_spot(side: u64) -> u32
+    ensures { result ≡ side_in_spot side }
+{
+    side.min(PAST_SIDES) as u32
+}
+
+/// The spot of a block that has this line.
+fn sized_spot(alloc: Global, block: u16, name: &Name, line: &Place) -> Result<Spot, Stop>
+    requires near { IsNear line.now }
+    ensures spot { Ends (λ s. s) result (λ r. r ≡ sized_spot block name.now line.now line.now.size) }
+    ensures near { IfOk result HasNearCorner }
+    ensures block { IfOk result (λ s. s.block ≡ block) }
+    ensures tells { (loads loads_then : ℕ) → IfErr result (TellsLoads loads loads_then) }
+{
+    match line.size {
+        None => Err(named_fault(alloc, "MissingPlace", name)?),
+        Some((w, h)) => Ok(Spot {
+            block,
+            x: line.x,
+            y: line.y,
+            w: side_in_spot(w),
+            h: side_in_spot(h),
+        }),
+    }
+}
+
+/// The spot of a block by the lines that have its name.
+fn spot_of(
+    alloc: Global,
+    block: u16,
+    name: &Name,
+    lines: &[Place],
+    index: &BTreeMap<&[u8], Lines>,
+) -> Result<Spot, Stop>
+    requires indexed { IsIndex index.now lines.now lines.now }
+    requires near { All IsNear lines.now }
+    ensures spot { Ends (λ s. s) result (λ r. r ≡ spot_said block name.now (lines_named name.now lines.now)) }
+    ensures near { IfOk result HasNearCorner }
+    ensures block { IfOk result (λ s. s.block ≡ block) }
+    ensures tells { (loads loads_then : ℕ) → IfErr result (TellsLoads loads loads_then) }
+{
+    match index.get(name.as_bytes()).copied() {
+        None => Err(named_fault(alloc, "MissingPlace", name)?),
+        Some(Lines::More) => Err(named_fault(alloc, "DuplicateName", name)?),
+        Some(Lines::One(line)) => sized_spot(alloc, block, name, &lines[line]),
+    }
+}
+
+/// The spots of the blocks, by number.
+pub fn place_blocks(alloc: Global, blocks: &[Block], lines: &[Place]) -> Result<Vec<Spot>, Stop>
+    requires few { length blocks.now ≤ 320 }
+    requires near { All IsNear lines.now }
+    ensures spots { Ends (λ v. v.items) result (λ r. r ≡ spots_said 0 blocks.now lines.now) }
+    ensures one_each { IfOk result (λ v. length v.items ≡ length blocks.now) }
+    ensures by_number { IfOk result (λ v. IsByNumber v.items) }
+    ensures near { IfOk result (λ v. All HasNearCorner v.items) }
+    ensures tells { (loads loads_then : ℕ) → IfErr result (TellsLoads loads loads_then) }
+{
+    let index = index_lines(alloc, lines)?;
+    let mut spots = Vec::new(alloc);
+    for number in 0..blocks.len() {
+        let block = &blocks[number];
+        let spot = spot_of(alloc, number as u16, &block.name, lines, &index)?;
+        spots.push(spot)?;
+    }
+    Ok(spots)
+}
