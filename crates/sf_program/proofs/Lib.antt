@@ -5,3 +5,4 @@ pub mod Printed
 pub mod Legal
 pub mod NearPlaces
 pub mod Placing
+pub mod Statuses

@@ -7,7 +7,7 @@ use Rattle.sf_yal.specs.declared.fault.YalFault.{YalFault}
 use Rattle.sf_yal.specs.declared.fault.YalFault.TheVariants as yal
 use Rattle.sf_yal.specs.Reading as yals
 use Rattle.sf_program.specs.declared.stop.Stop.{Stop}
-use Rattle.sf_program.specs.declared.stop.Stop.TheVariants.{BadInput, OverLimit, ReadFault, WriteFault, NoMemory}
+use Rattle.sf_program.specs.declared.stop.Stop.TheVariants.{BadInput, OverLimit, ReadFault, NoMemory}
 use Rattle.sf_program.specs.Outcome.{Refusal, bad, over, Then, Refuses, Stops, Ends}
 use Rattle.sf_program.specs.Reading.{Said}
 
@@ -15,14 +15,12 @@ pub stops-map : (P Q : Refusal → Type 0) → ((why : Refusal) → P why → Q 
 stops-map P Q f (BadInput line) h = f (bad line.items) h
 stops-map P Q f (OverLimit line) h = f (over line.items) h
 stops-map P Q f ReadFault h = tt
-stops-map P Q f WriteFault h = tt
 stops-map P Q f NoMemory h = tt
 
 pub refused-stops : (P : Refusal → Type 0) (why : Refusal) → P why → (stop : Stop) → Refuses stop why → Stops stop P
 refused-stops P why p (BadInput line) h = subst P (sym h) p
 refused-stops P why p (OverLimit line) h = subst P (sym h) p
 refused-stops P why p ReadFault h = absurd h
-refused-stops P why p WriteFault h = absurd h
 refused-stops P why p NoMemory h = absurd h
 
 module _ {X Y : Type 0} (P : Result X Refusal → Type 0) (Q : X → Result Y Refusal → Type 0) where

@@ -7,3 +7,4 @@ pub mod Planned
 pub mod Checked
 pub mod Measured
 pub mod PlacedLines
+pub mod Answer

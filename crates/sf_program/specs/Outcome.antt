@@ -1,7 +1,7 @@
 -- What a stage of the work gives: a value for the next stage, or the answer that ends the call.
 use Rattle.std.specs.Prelude.{◌≡◌, ◌⊎◌, ⊤, ℕ, List, Result, Ok, Err}
 use Rattle.sf_program.specs.declared.stop.Stop.{Stop}
-use Rattle.sf_program.specs.declared.stop.Stop.TheVariants.{BadInput, OverLimit, ReadFault, WriteFault, NoMemory}
+use Rattle.sf_program.specs.declared.stop.Stop.TheVariants.{BadInput, OverLimit, ReadFault, NoMemory}
 
 -- the line of a text that stands for nothing, or of a quantity past its limit
 pub data Refusal : Type 0 where
@@ -17,7 +17,6 @@ abbrev pub Refuses : Stop → Refusal → Type 0
 Refuses (BadInput line) why = bad line.items ≡ why
 Refuses (OverLimit line) why = over line.items ≡ why
 Refuses ReadFault why = ⊥
-Refuses WriteFault why = ⊥
 Refuses NoMemory why = ⊥
 
 -- a call stops for a reason of this kind, or because something failed
@@ -25,7 +24,6 @@ abbrev pub Stops : Stop → (Refusal → Type 0) → Type 0
 Stops (BadInput line) P = P (bad line.items)
 Stops (OverLimit line) P = P (over line.items)
 Stops ReadFault P = ⊤
-Stops WriteFault P = ⊤
 Stops NoMemory P = ⊤
 
 -- a call ends as the stage does, or because something failed

@@ -5,8 +5,10 @@ mod budget;
 mod checking;
 mod making;
 mod measuring;
+mod obeying;
 mod parsing;
 mod planning;
+mod program;
 mod reading;
 mod refusals;
 mod spotting;
@@ -14,5 +16,4 @@ mod stop;
 mod telling;
 mod work;
 
-pub use stop::Stop;
-pub use work::{Store, Work};
+pub use program::run;

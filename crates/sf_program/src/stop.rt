@@ -11,7 +11,6 @@ pub enum Stop {
     BadInput(Vec<u8>),
     OverLimit(Vec<u8>),
     ReadFault,
-    WriteFault,
     NoMemory,
 }
 

@@ -1,0 +1,84 @@
+-- What a run may answer, by its words and by the texts on the shelf: the status, what is stored and what is printed.
+use Rattle.std.specs.Prelude.{◌≡◌, ◌⊎◌, ⊤, ℕ, List, [], Option, Result, Ok, Err, codes}
+use Rattle.std.specs.Io.KnownBytes.{Appends}
+use Rattle.sf_io.specs.Outside.{Contents, Took}
+use Rattle.sf_io.specs.declared.status.Status.{Status}
+use Rattle.sf_io.specs.declared.status.Status.TheVariants.{Done, NoneFits, Usage, Open, No, BadInput, OverLimit, ReadFault, WriteFault, NoMemory}
+use Rattle.sf_pl_writer.specs.Length.{IsScale}
+use Rattle.sf_words.specs.Meaning.{Command, plan, check, measure, shape, gen, PlanOptions, CheckOptions, MeasureOptions, Means, HasNoMeaning}
+use Rattle.sf_program.specs.Outcome.{Refusal, bad, over}
+use Rattle.sf_program.specs.Planned.{IsPlanned, PlanRead}
+use Rattle.sf_program.specs.Checked.{IsChecked, CheckRead}
+use Rattle.sf_program.specs.Measured.{IsMeasured, MeasureRead}
+use Rattle.sf_program.specs.Stores.{Stored, AfterStores, StoppedAt}
+
+-- a stage refuses an input with this status and line, and nothing is stored
+abbrev pub IsRefused : {X : Type 0} → (Result X Refusal → Type 0) → Status → List Stored → List ℕ → Type 0
+IsRefused Read BadInput stored printed = Read (Err (bad printed)) × (stored ≡ [])
+IsRefused Read OverLimit stored printed = Read (Err (over printed)) × (stored ≡ [])
+IsRefused Read status stored printed = ⊥
+
+-- the line of words that mean nothing, or a command that isn't built
+abbrev pub usage_line : List ℕ
+usage_line = codes "error Usage\n"
+
+-- the command is one of those that aren't built
+abbrev pub IsUnbuilt : Status → List Stored → List ℕ → Type 0
+IsUnbuilt Usage stored printed = (stored ≡ []) × (printed ≡ usage_line)
+IsUnbuilt status stored printed = ⊥
+
+abbrev pub CommandAnswer : Command → Option Contents → Status → List Stored → List ℕ → Type 0
+CommandAnswer (plan o) before status stored printed = IsPlanned o before status stored printed ⊎ IsRefused (PlanRead before o) status stored printed
+CommandAnswer (check o) before status stored printed = (IsChecked o before status printed × (stored ≡ [])) ⊎ IsRefused (CheckRead before o) status stored printed
+CommandAnswer (measure o) before status stored printed = (IsMeasured o before status printed × (stored ≡ [])) ⊎ IsRefused (MeasureRead before o) status stored printed
+CommandAnswer (shape o) before status stored printed = IsUnbuilt status stored printed
+CommandAnswer (gen o) before status stored printed = IsUnbuilt status stored printed
+
+-- the answer to these words, on a shelf that holds these texts
+abbrev pub Answers : List (List ℕ) → Option Contents → Status → List Stored → List ℕ → Type 0
+Answers words before status stored printed =
+    (HasNoMeaning words × (status ≡ Usage) × (stored ≡ []) × (printed ≡ usage_line))
+      ⊎ ((command : Command) × Means words command × CommandAnswer command before status stored printed)
+
+-- a refusal is an answer that stores nothing
+abbrev pub CommandRefuses : Command → Option Contents → Refusal → Type 0
+CommandRefuses command before (bad line) = CommandAnswer command before BadInput [] line
+CommandRefuses command before (over line) = CommandAnswer command before OverLimit [] line
+
+abbrev pub RefusesWords : List (List ℕ) → Option Contents → Refusal → Type 0
+RefusesWords words before (bad line) = Answers words before BadInput [] line
+RefusesWords words before (over line) = Answers words before OverLimit [] line
+
+-- the scale of a command that writes lengths
+abbrev pub HasScale : Command → Type 0
+HasScale (plan o) = IsScale o.design.per_unit
+HasScale other = ⊤
+
+-- the statuses of the program's own answers, where nothing failed
+abbrev pub IsAnswer : Status → Type 0
+IsAnswer ReadFault = ⊥
+IsAnswer WriteFault = ⊥
+IsAnswer NoMemory = ⊥
+IsAnswer status = ⊤
+
+-- the statuses at which nothing is stored and nothing printed
+abbrev pub IsSilent : Status → Type 0
+IsSilent ReadFault = ⊤
+IsSilent NoMemory = ⊤
+IsSilent status = ⊥
+
+-- an answer, which is stored and printed whole
+pub record IsDone (words : List (List ℕ)) (before after : Option Contents) (taken taken_then : Option (List ℕ)) (status : Status) : Type 0 where
+  pub stored : List Stored
+  pub printed : List ℕ
+  pub answer : Answers words before status stored printed
+  pub stores : AfterStores before stored after
+  pub prints : Appends taken taken_then printed
+
+-- an answer of which a store failed, so that nothing is printed, or which is stored whole and printed in part
+pub record IsHalted (words : List (List ℕ)) (before after : Option Contents) (taken taken_then : Option (List ℕ)) : Type 0 where
+  pub status : Status
+  pub stored : List Stored
+  pub printed : List ℕ
+  pub answer : Answers words before status stored printed
+  pub halted : (StoppedAt before stored after × (taken_then ≡ taken)) ⊎ (AfterStores before stored after × Took taken taken_then printed)

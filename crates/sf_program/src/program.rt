@@ -1,0 +1,77 @@
+//! The top call.
+
+ghost use Rattle.std.specs.Prelude.{◌≡◌, ◌≤◌, ◌⊎◌, ℕ, List, [], map, OnOk, OnErr, string_bytes};
+ghost use Rattle.std.specs.Io.KnownBytes.{Appends};
+ghost use Rattle.sf_io.specs.Outside.{Rose, Took};
+ghost use Rattle.sf_program.specs.Answer.{Answers, IsAnswer, IsDone, IsHalted, IsSilent};
+ghost use Rattle.sf_program.specs.Stores.{AfterStores, StoppedAt, stored_in};
+
+use crate::obeying::work;
+use crate::stop::Stop;
+use crate::work::{Store, Work};
+use sf_io::{Failed, Gate, Shelf, Sink, Status, write_all};
+use std::alloc::Global;
+use std::thread::Threads;
+
+/// Stores texts one after another, up to the first store that fails.
+fn store_all<S: Shelf>(shelf: &mut S, stores: &[Store]) -> Result<(), Failed>
+    ensures stored { OnOk result (AfterStores (S.holds shelf.old) (stored_in stores.now) (S.holds shelf.new)) }
+    ensures stopped { OnErr result (StoppedAt (S.holds shelf.old) (stored_in stores.now) (S.holds shelf.new)) }
+    ensures failed { OnErr result (Rose (S.store_faults shelf.old) (S.store_faults shelf.new)) }
+    ensures later { S.store_faults shelf.old ≤ S.store_faults shelf.new }
+    ensures loads { S.load_faults shelf.new ≡ S.load_faults shelf.old }
+{
+    match stores.split_first() {
+        None => Ok(()),
+        Some((first, rest)) => {
+            shelf.store(first.name.as_str(), &first.bytes)?;
+            store_all(shelf, rest)
+        }
+    }
+}
+
+/// Stores and prints an answer.
+fn finish<S: Shelf, K: Sink>(shelf: &mut S, out: &mut K, work: &Work) -> Status
+    requires { IsAnswer work.now.status }
+    ensures done { IsAnswer result → (result ≡ work.now.status) × AfterStores (S.holds shelf.old) (stored_in work.now.stores.items) (S.holds shelf.new) × Appends (K.taken out.old) (K.taken out.new) work.now.text.items }
+    ensures only { IsAnswer result ⊎ (result ≡ Status.WriteFault) }
+    ensures write_fault { result ≡ Status.WriteFault → Rose (S.store_faults shelf.old) (S.store_faults shelf.new) ⊎ Rose (K.faults out.old) (K.faults out.new) }
+    ensures halted { result ≡ Status.WriteFault → (StoppedAt (S.holds shelf.old) (stored_in work.now.stores.items) (S.holds shelf.new) × (K.taken out.new ≡ K.taken out.old)) ⊎ (AfterStores (S.holds shelf.old) (stored_in work.now.stores.items) (S.holds shelf.new) × Took (K.taken out.old) (K.taken out.new) work.now.text.items) }
+{
+    if store_all(shelf, &work.stores).is_err() {
+        return Status::WriteFault;
+    }
+    match write_all(out, &work.text) {
+        Ok(()) => work.status,
+        Err(_) => Status::WriteFault,
+    }
+}
+
+/// Does what the words ask for, and says how it ended. The words are those after the program's name.
+pub fn run<R: Threads + Sync, S: Shelf, K: Sink, G: Gate>(
+    rt: &R,
+    alloc: Global,
+    words: &[String],
+    shelf: &mut S,
+    out: &mut K,
+    gate: &G,
+) -> Status
+    // Where nothing fails, the answer that the words and the texts on the shelf have is stored and printed whole.
+    ensures answer { IsAnswer result → IsDone (map string_bytes words.now) (S.holds shelf.old) (S.holds shelf.new) (K.taken out.old) (K.taken out.new) result }
+
+    // A fault of reading or of writing is told only where one was counted.
+    ensures read_fault { result ≡ Status.ReadFault → Rose (S.load_faults shelf.old) (S.load_faults shelf.new) }
+    ensures write_fault { result ≡ Status.WriteFault → Rose (S.store_faults shelf.old) (S.store_faults shelf.new) ⊎ Rose (K.faults out.old) (K.faults out.new) }
+
+    // What is stored and printed where something failed.
+    ensures halted { result ≡ Status.WriteFault → IsHalted (map string_bytes words.now) (S.holds shelf.old) (S.holds shelf.new) (K.taken out.old) (K.taken out.new) }
+    ensures silent { IsSilent result → (S.holds shelf.new ≡ S.holds shelf.old) × (K.taken out.new ≡ K.taken out.old) }
+{
+    match work(rt, alloc, words, shelf, gate) {
+        Ok(work) => finish(shelf, out, &work),
+        Err(Stop::BadInput(line)) => finish(shelf, out, &Work::printed(alloc, Status::BadInput, line)),
+        Err(Stop::OverLimit(line)) => finish(shelf, out, &Work::printed(alloc, Status::OverLimit, line)),
+        Err(Stop::ReadFault) => Status::ReadFault,
+        Err(Stop::NoMemory) => Status::NoMemory,
+    }
+}
