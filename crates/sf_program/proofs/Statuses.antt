@@ -11,7 +11,7 @@ use Rattle.sf_pl_writer.specs.declared.report.Outcome.{Outcome}
 use Rattle.sf_pl_writer.specs.declared.report.Outcome.TheVariants as word
 use Rattle.sf_words.specs.Meaning.{Command, plan, check, measure, shape, gen}
 use Rattle.sf_program.specs.Answer.{Answers, CommandAnswer, IsAnswer, IsRefused, IsSilent, IsUnbuilt}
-use Rattle.sf_program.specs.Checked.{answer_status}
+use Rattle.sf_program.specs.Checked.{answer_status, CheckRead}
 use Rattle.sf_program.specs.Measured as measured
 use Rattle.sf_program.specs.Outcome.{Refusal}
 use Rattle.sf_program.specs.Planned as planned
@@ -60,16 +60,16 @@ command-status : (command : Command) (before : Option Contents) (status : Status
 command-status (plan o) before status stored printed h =
     elim h [ inl p ↦ subst IsAnswer (sym p.answered.status_is) (said-status p.answered.said) | inr r ↦ refused-status (planned.PlanRead before o) status stored printed r ]
 command-status (check o) before status stored printed h =
-    elim h [ inl p ↦ subst IsAnswer (sym p.0.status_is) (checked-status p.0.answer) | inr r ↦ refused-status _ status stored printed r ]
+    elim h [ inl p ↦ subst IsAnswer (sym p.0.status_is) (checked-status p.0.answer) | inr r ↦ refused-status (CheckRead before o) status stored printed r ]
 command-status (measure o) before status stored printed h =
-    elim h [ inl p ↦ subst IsAnswer (sym p.0.status_is) (judged-status p.0.verdict) | inr r ↦ refused-status _ status stored printed r ]
+    elim h [ inl p ↦ subst IsAnswer (sym p.0.status_is) (judged-status p.0.verdict) | inr r ↦ refused-status (measured.MeasureRead before o) status stored printed r ]
 command-status (shape o) before status stored printed h = unbuilt-status status stored printed h
 command-status (gen o) before status stored printed h = unbuilt-status status stored printed h
 
 -- an answer's status is no fault
 pub answer-status : (words : List (List ℕ)) (before : Option Contents) (status : Status) (stored : List Stored) (printed : List ℕ) → Answers words before status stored printed → IsAnswer status
 answer-status words before status stored printed h =
-    elim h [ inl u ↦ subst IsAnswer (sym u.1.0) tt | inr m ↦ command-status m.0 before status stored printed m.1.1 ]
+    elim h [ inl u ↦ subst IsAnswer (sym u.1) tt | inr m ↦ command-status m.0 before status stored printed m.2 ]
 
 loud : (status : Status) → IsAnswer status → IsSilent status → ⊥
 loud Done a s = s
