@@ -17,7 +17,7 @@ use Rattle.sf_polish.specs.Postfix.{Spells, shape_at}
 use Rattle.sf_polish.proofs.Normality.{postfix-normal}
 use Rattle.sf_node.specs.Parts.{Parts}
 use Rattle.sf_bounds.specs.Cheapest.{IsPlanOf}
-use Rattle.sf_certificate.specs.Form.{IsPlanFor}
+use Rattle.sf_polish.specs.Text.{IsWritable}
 
 -- a leaf of the block, and what holds of all leaves
 pub record IsLeafOf (P : ℕ × Shape → Type 0) (b : ℕ) : Type 0 where
@@ -47,7 +47,7 @@ module _ (design : Design) (tree : Tree) (expr : Expr) (legal : IsLegal design t
       let same = found.holds.0 ∙ ap (shape_at expr.shapes) found.block in
       subst (λ s. IsSide s.w × IsSide s.h) same (All-contains (λ s. IsSide s.w × IsSide s.h) (shapes_of design b) found.leaf.1 list.sides listed)
 
-pub plan-formed : (design : Design) (node : Parts) (expr : Expr) (z : ℕ) → IsPlanOf design node expr z → IsPlanFor (block_count design) expr
+pub plan-formed : (design : Design) (node : Parts) (expr : Expr) (z : ℕ) → IsPlanOf design node expr z → IsWritable (block_count design) expr
 plan-formed design node expr z p = record {
       normal = subst (IsNormal (block_count design)) p.spells.tokens (postfix-normal (block_count design) p.tree p.belongs.legal.blocks p.belongs.skewed);
       one_each = p.one_each;

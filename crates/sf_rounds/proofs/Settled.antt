@@ -27,7 +27,7 @@ use Rattle.sf_search_core.specs.Events.{held_in, held_by, applied, take, close, 
 use Rattle.sf_search_core.specs.Outcome.{next_of, after_event, after_events}
 use Rattle.sf_search_core.proofs.Replaced.{replaced, replace-done}
 use Rattle.sf_model.specs.Legal.{block_count}
-use Rattle.sf_certificate.specs.Form.{IsPlanFor}
+use Rattle.sf_polish.specs.Text.{IsWritable}
 use Rattle.sf_certificate.specs.Valid.{HasCost}
 use Rattle.sf_rounds.proofs.Formed.{plan-formed}
 use Rattle.sf_worker.specs.declared.decision.Decision.{Decision}
@@ -95,7 +95,7 @@ pub record IsOffered (design : Design) (bound : Parts → ℕ) (state : State) (
   pub closes : IsOk (close (after_event design state (Offer 0 z)) 0 z (held_by (after_event design state (Offer 0 z)) 0))
   pub settled : after_events design state (settling design bound (held_by state 0) state.word) ≡ after_event design (after_event design state (Offer 0 z)) (Close 0 z)
   pub word : (after_event design (after_event design state (Offer 0 z)) (Close 0 z)).word ≡ z
-  pub best : HasCost design expr z × IsPlanFor (block_count design) expr
+  pub best : HasCost design expr z × IsWritable (block_count design) expr
 
 plan-cost : (design : Design) (node : Parts) (expr : Expr) (z : ℕ) → IsPlanOf design node expr z → HasCost design expr z
 plan-cost design node expr z p = record { tree = p.tree; spells = p.spells; legal = p.belongs.legal; fits = p.fits; costs = p.costs }

@@ -32,7 +32,7 @@ pub fn decide<B: Bounds>(design: &Design, bounds: &B, room: &mut Room, task: &Ta
         let right = with_bound(design, bounds, room, right)?;
         return Ok(Decision::Split(block, left, right));
     }
-    let children = extended(design, bounds, room, &task.node)?;
+    let children = extended(design, bounds, room, task)?;
     Ok(Decision::Extended(Tasks::from_vec(children)))
 }
 
@@ -45,28 +45,18 @@ fn with_bound<B: Bounds>(design: &Design, bounds: &B, room: &mut Room, node: Nod
 }
 
 /// The children by extending, with their bounds.
-fn extended<B: Bounds>(design: &Design, bounds: &B, room: &mut Room, node: &Node) -> Result<Vec<Task>, NoMemory>
-    requires { IsSubproblem design.now node.now }
-    ensures { IfOk result (λ tasks. tasks.items ≡ valued (B.Values.value bounds.now design.now) (extended node.now)) }
+fn extended<B: Bounds>(design: &Design, bounds: &B, room: &mut Room, task: &Task) -> Result<Vec<Task>, NoMemory>
+    requires subproblem { IsSubproblem design.now task.now.node }
+    requires bound { task.now.bound ≡ B.Values.value bounds.now design.now task.now.node }
+    ensures { IfOk result (λ tasks. tasks.items ≡ valued (B.Values.value bounds.now design.now) (extended task.now.node)) }
 {
-    let children = node.extend_children(design)?;
-    let costs = costs_of(design, bounds, room, &children)?;
-    paired(node.allocator(), children, costs)
+    let children = task.node.extend_children(design)?;
+    let costs = bounds.children_bounds(design, &task.node, task.bound, &children, room)?;
+    paired(task.node.allocator(), children, costs)
 }
 
 fn paired(alloc: Global, nodes: Vec<Node>, costs: Vec<u64>) -> Result<Vec<Task>, NoMemory>
     ensures { IfOk result (λ tasks. tasks.items ≡ map task_of (zip nodes.items costs.items)) }
 {
     nodes.into_iter().zip(costs).map(|(node, bound)| Task { node, bound }).collect(alloc)
-}
-
-fn costs_of<B: Bounds>(design: &Design, bounds: &B, room: &mut Room, nodes: &Vec<Node>) -> Result<Vec<u64>, NoMemory>
-    requires { All (IsSubproblem design.now) nodes.now.items }
-    ensures { IfOk result (λ costs. costs.items ≡ map (B.Values.value bounds.now design.now) nodes.now.items) }
-{
-    let mut costs = Vec::new(*nodes.allocator());
-    for node in nodes {
-        costs.push(bounds.bound(design, node, room)?)?;
-    }
-    Ok(costs)
 }

@@ -7,7 +7,7 @@ use Rattle.std.specs.Prelude.{IsOk}
 use Rattle.sf_search_core.specs.Events.{held_by, close, CanCome}
 use Rattle.sf_search_core.specs.Outcome.{after_event, after_events}
 use Rattle.sf_model.specs.Legal.{block_count}
-use Rattle.sf_certificate.specs.Form.{IsPlanFor}
+use Rattle.sf_polish.specs.Text.{IsWritable}
 use Rattle.sf_certificate.specs.Valid.{HasCost}
 use Rattle.sf_worker.specs.declared.decision.Decision.TheVariants.{Solved, Extended}
 use Rattle.sf_rounds.specs.Turns.{settling}
@@ -54,7 +54,7 @@ returns-in_ok-accept-in-Solved-clause-best g c =
     let o = offered design bound state c.in-Solved.expr c.in-Solved.cost decided in
     if-ok c.accept-in-Solved-2.result
       (λ done. c.accept-in-Solved-2.new.pool ≡ after_event design c.accept-in-Solved.new.pool (Close 0 c.in-Solved.cost))
-      (λ done. HasCost design c.in-Solved.expr c.accept-in-Solved-2.new.pool.word × IsPlanFor (block_count design) c.in-Solved.expr)
+      (λ done. HasCost design c.in-Solved.expr c.accept-in-Solved-2.new.pool.word × IsWritable (block_count design) c.in-Solved.expr)
       (λ done e. (subst (HasCost design c.in-Solved.expr)
         (sym (ap (λ (s : State). s.word) (e ∙ ap (λ (s : State). after_event design s (Close 0 c.in-Solved.cost)) c.in_ok-accept-in-Solved.ensures.made) ∙ o.word)) o.best.0, o.best.1))
       c.accept-in-Solved-2.ensures.made
