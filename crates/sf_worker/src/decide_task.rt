@@ -3,13 +3,19 @@ ghost use Rattle.sf_node.specs.Children.{IsSubproblem, extended};
 ghost use Rattle.sf_worker.specs.Decided.{IsDecision, task_of, valued};
 
 use crate::decision::{Decision, Tasks};
-use sf_bounds::{solve, Bounds, Room};
+use sf_bounds::{Bounds, Room, solve};
 use sf_model::Design;
 use sf_node::{Node, Task};
 use std::alloc::{AllocError as NoMemory, Global};
 
 /// Decides a task against a value that some plan costs, or that none does.
-pub fn decide<B: Bounds>(design: &Design, bounds: &B, room: &mut Room, task: &Task, value: u64) -> Result<Decision, NoMemory>
+pub fn decide<B: Bounds>(
+    design: &Design,
+    bounds: &B,
+    room: &mut Room,
+    task: &Task,
+    value: u64,
+) -> Result<Decision, NoMemory>
     requires subproblem { IsSubproblem design.now task.now.node }
     requires bound { task.now.bound ≡ B.Values.value bounds.now design.now task.now.node }
     ensures { IfOk result (λ decision. IsDecision design.now (B.Values.value bounds.now design.now) task.now value decision) }
@@ -36,7 +42,12 @@ pub fn decide<B: Bounds>(design: &Design, bounds: &B, room: &mut Room, task: &Ta
     Ok(Decision::Extended(Tasks::from_vec(children)))
 }
 
-fn with_bound<B: Bounds>(design: &Design, bounds: &B, room: &mut Room, node: Node) -> Result<Task, NoMemory>
+fn with_bound<B: Bounds>(
+    design: &Design,
+    bounds: &B,
+    room: &mut Room,
+    node: Node,
+) -> Result<Task, NoMemory>
     requires { IsSubproblem design.now node }
     ensures { IfOk result (λ task. task ∷ [] ≡ valued (B.Values.value bounds.now design.now) (node ∷ [])) }
 {
@@ -45,7 +56,12 @@ fn with_bound<B: Bounds>(design: &Design, bounds: &B, room: &mut Room, node: Nod
 }
 
 /// The children by extending, with their bounds.
-fn extended<B: Bounds>(design: &Design, bounds: &B, room: &mut Room, task: &Task) -> Result<Vec<Task>, NoMemory>
+fn extended<B: Bounds>(
+    design: &Design,
+    bounds: &B,
+    room: &mut Room,
+    task: &Task,
+) -> Result<Vec<Task>, NoMemory>
     requires subproblem { IsSubproblem design.now task.now.node }
     requires bound { task.now.bound ≡ B.Values.value bounds.now design.now task.now.node }
     ensures { IfOk result (λ tasks. tasks.items ≡ valued (B.Values.value bounds.now design.now) (extended task.now.node)) }
@@ -58,5 +74,9 @@ fn extended<B: Bounds>(design: &Design, bounds: &B, room: &mut Room, task: &Task
 fn paired(alloc: Global, nodes: Vec<Node>, costs: Vec<u64>) -> Result<Vec<Task>, NoMemory>
     ensures { IfOk result (λ tasks. tasks.items ≡ map task_of (zip nodes.items costs.items)) }
 {
-    nodes.into_iter().zip(costs).map(|(node, bound)| Task { node, bound }).collect(alloc)
+    nodes
+        .into_iter()
+        .zip(costs)
+        .map(|(node, bound)| Task { node, bound })
+        .collect(alloc)
 }
