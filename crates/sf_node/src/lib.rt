@@ -7,7 +7,7 @@ pub mod step;
 pub mod task;
 pub mod values;
 
-pub use node::{Node, is_unused};
+pub use node::{Node, used_blocks};
 pub use step::Step;
 pub use task::Task;
 pub use values::Values;

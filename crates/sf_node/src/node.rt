@@ -53,19 +53,8 @@ fn all_single(spans: &[(u16, u16)]) -> bool
     spans.iter().all(|span| !is_wide(*span))
 }
 
-/// Whether a block may come next.
-pub fn is_unused(block: u16, tokens: &[Token]) -> bool
-    ensures { result ≡ is_unused block tokens.now }
-{
-    let count = tokens
-        .iter()
-        .filter(|token| **token == Token::Block(block))
-        .count();
-    count == 0
-}
-
 /// For each block by number, whether it is among the tokens: one pass over them.
-fn used_blocks(alloc: Global, blocks: usize, tokens: &[Token]) -> Result<Vec<bool>, NoMemory>
+pub fn used_blocks(alloc: Global, blocks: usize, tokens: &[Token]) -> Result<Vec<bool>, NoMemory>
     ensures each { IfOk result (λ used. length used.items ≡ blocks) }
     ensures used { IfOk result (λ used. (b : ℕ) → b < blocks → slice_index_or used.items b true ≡ not (is_unused b tokens.now)) }
 {

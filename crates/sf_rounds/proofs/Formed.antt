@@ -17,7 +17,7 @@ use Rattle.sf_polish.specs.Postfix.{Spells, shape_at}
 use Rattle.sf_polish.proofs.Normality.{postfix-normal}
 use Rattle.sf_node.specs.Parts.{Parts}
 use Rattle.sf_bounds.specs.Cheapest.{IsPlanOf}
-use Rattle.sf_certificate.specs.Form.{IsPlanFor}
+use Rattle.sf_polish.specs.Text.{IsWritable}
 
 -- a leaf of the block, and what holds of all leaves
 pub record IsLeafOf (P : ℕ × Shape → Type 0) (b : ℕ) : Type 0 where
@@ -30,9 +30,10 @@ module _ (P : ℕ × Shape → Type 0) where
   leaf-of b [] h all = absurd (omega (arith, h))
   leaf-of b (l ∷ ls) h all =
       elim (eqb_tells l.0 b) [
-        inl p ↦ record { leaf = l; block = p.1; holds = all.0 }
-      | inr p ↦ (let none : ◌≡◌ {A = ℕ} (cond (l.0 == b) 1 0) 0 = ap (λ (t : Bool). cond {A = ℕ} t 1 0) p.0 in
-          leaf-of b ls (omega (arith, h, none, sum_by-cons (λ (leaf : ℕ × Shape). cond (leaf.0 == b) 1 0) l ls)) all.1) ]
+        | inl p ↦ record { leaf = l; block = p.1; holds = all.0 }
+        | inr p ↦ (let none : ◌≡◌ {A = ℕ} (cond (l.0 == b) 1 0) 0 = ap (λ (t : Bool). cond {A = ℕ} t 1 0) p.0 in
+            leaf-of b ls (omega (arith, h, none, sum_by-cons (λ (leaf : ℕ × Shape). cond (leaf.0 == b) 1 0) l ls)) all.1)
+      ]
 
 module _ (design : Design) (tree : Tree) (expr : Expr) (legal : IsLegal design tree) (spells : Spells expr tree) where
   abbrev IsListed : ℕ × Shape → Type 0
@@ -47,9 +48,9 @@ module _ (design : Design) (tree : Tree) (expr : Expr) (legal : IsLegal design t
       let same = found.holds.0 ∙ ap (shape_at expr.shapes) found.block in
       subst (λ s. IsSide s.w × IsSide s.h) same (All-contains (λ s. IsSide s.w × IsSide s.h) (shapes_of design b) found.leaf.1 list.sides listed)
 
-pub plan-formed : (design : Design) (node : Parts) (expr : Expr) (z : ℕ) → IsPlanOf design node expr z → IsPlanFor (block_count design) expr
+pub plan-formed : (design : Design) (node : Parts) (expr : Expr) (z : ℕ) → IsPlanOf design node expr z → IsWritable (block_count design) expr
 plan-formed design node expr z p = record {
-      normal = subst (IsNormal (block_count design)) p.spells.tokens (postfix-normal (block_count design) p.tree p.belongs.legal.blocks p.belongs.skewed);
-      one_each = p.one_each;
-      sides = λ k d h. subst (λ s. IsSide s.w × IsSide s.h) (get_or_default expr.shapes k (record { w = 0; h = 0 }) d h) (side-at design p.tree expr p.belongs.legal p.spells k (omega (arith, h, p.one_each)))
-    }
+  normal = subst (IsNormal (block_count design)) p.spells.tokens (postfix-normal (block_count design) p.tree p.belongs.legal.blocks p.belongs.skewed);
+  one_each = p.one_each;
+  sides = λ k d h. subst (λ s. IsSide s.w × IsSide s.h) (get_or_default expr.shapes k (record { w = 0; h = 0 }) d h) (side-at design p.tree expr p.belongs.legal p.spells k (omega (arith, h, p.one_each)));
+}

@@ -27,7 +27,7 @@ use Rattle.sf_search_core.specs.Events.{held_in, held_by, applied, take, close, 
 use Rattle.sf_search_core.specs.Outcome.{next_of, after_event, after_events}
 use Rattle.sf_search_core.proofs.Replaced.{replaced, replace-done}
 use Rattle.sf_model.specs.Legal.{block_count}
-use Rattle.sf_certificate.specs.Form.{IsPlanFor}
+use Rattle.sf_polish.specs.Text.{IsWritable}
 use Rattle.sf_certificate.specs.Valid.{HasCost}
 use Rattle.sf_rounds.proofs.Formed.{plan-formed}
 use Rattle.sf_worker.specs.declared.decision.Decision.{Decision}
@@ -95,7 +95,7 @@ pub record IsOffered (design : Design) (bound : Parts → ℕ) (state : State) (
   pub closes : IsOk (close (after_event design state (Offer 0 z)) 0 z (held_by (after_event design state (Offer 0 z)) 0))
   pub settled : after_events design state (settling design bound (held_by state 0) state.word) ≡ after_event design (after_event design state (Offer 0 z)) (Close 0 z)
   pub word : (after_event design (after_event design state (Offer 0 z)) (Close 0 z)).word ≡ z
-  pub best : HasCost design expr z × IsPlanFor (block_count design) expr
+  pub best : HasCost design expr z × IsWritable (block_count design) expr
 
 plan-cost : (design : Design) (node : Parts) (expr : Expr) (z : ℕ) → IsPlanOf design node expr z → HasCost design expr z
 plan-cost design node expr z p = record { tree = p.tree; spells = p.spells; legal = p.belongs.legal; fits = p.fits; costs = p.costs }
@@ -112,7 +112,7 @@ module _ (design : Design) (bound : Parts → ℕ) (state : State) where
         closes = subst (λ (s : State). IsOk (close s 0 t.bound (held_by s 0))) (sym first) (ap is_ok last);
         settled = ap (λ h. after_events design state (settling design bound h state.word)) e ∙ ap (after_events design state) (settling-solved design bound t state.word d.below d.solved);
         word = subst (λ (s : State). (after_event design s (Close 0 t.bound)).word ≡ t.bound) (sym first) (ap (λ r. (next_of s1 r).word) last ∙ least);
-        best = (let plan = subst (IsPlanOf design t.node expr) d.same d.plan in (plan-cost design t.node expr t.bound plan, plan-formed design t.node expr t.bound plan))
+        best = (let plan = subst (IsPlanOf design t.node expr) d.same d.plan in (plan-cost design t.node expr t.bound plan, plan-formed design t.node expr t.bound plan));
       })
 
   pub offered : (expr : Expr) (z : ℕ) → Decides design bound (held_by state 0) state.word (Solved expr z) → IsOffered design bound state expr z
@@ -125,9 +125,11 @@ module _ (design : Design) (bound : Parts → ℕ) (state : State) where
       (same, settling-extended design bound t value d.below d.incomplete ∙ ap (λ (cs : List ℕ). Replace 0 how.Extend value cs ∷ []) (sym same))
 
   pub extended-can : (made : List Task) (costs : List ℕ) → 0 < length state.held → costs ≡ map (λ task. task.bound) made → Decides design bound (held_by state 0) state.word (Extended made) → CanCome bound state (Replace 0 how.Extend state.word costs)
-  extended-can made costs h e d =
-      (h, ok-const (AreBounds bound how.Extend costs (held_by state 0)) (replace state 0 how.Extend state.word costs (held_by state 0))
-        (subst (λ cs. AreBounds bound how.Extend cs (held_by state 0)) (sym e) (extended-at (held_by state 0) made state.word d).0))
+  extended-can made costs h e d = (
+    h,
+    ok-const (AreBounds bound how.Extend costs (held_by state 0)) (replace state 0 how.Extend state.word costs (held_by state 0))
+        (subst (λ cs. AreBounds bound how.Extend cs (held_by state 0)) (sym e) (extended-at (held_by state 0) made state.word d).0),
+  )
 
   pub extended-made : (made : List Task) (costs : List ℕ) → costs ≡ map (λ task. task.bound) made → Decides design bound (held_by state 0) state.word (Extended made) → after_event design state (Replace 0 how.Extend state.word costs) ≡ after_events design state (settling design bound (held_by state 0) state.word)
   extended-made made costs e d =
@@ -140,24 +142,24 @@ if-ok (Err e) P Q f p = tt
 module _ (design : Design) (state : State) where
   entry-settled : (new : State) (e : Entry) → new.held ≡ slice_set state.held 0 None → new.entries ≡ state.entries ++ e ∷ [] → BranchesFirst design e.kind e.node → IsSettled design state new
   entry-settled new e h k first = record {
-        held = h;
-        one_more = omega (arith, ap length k, length-append state.entries (e ∷ []));
-        splits = λ a. subst (AllBranchFirst design) (sym k) (All-push (λ entry. BranchesFirst design entry.kind entry.node) state.entries e a first)
-      }
+    held = h;
+    one_more = omega (arith, ap length k, length-append state.entries (e ∷ []));
+    splits = λ a. subst (AllBranchFirst design) (sym k) (All-push (λ entry. BranchesFirst design entry.kind entry.node) state.entries e a first);
+  }
 
   module _ (bound : Parts → ℕ) where
     settled-at : (held : Option Task) (decision : Decision) → held_by state 0 ≡ held → Decides design bound held state.word decision → IsSettled design state (after_events design state (settling design bound held state.word))
     settled-at None decision e d = absurd d
     settled-at (Some t) Closed e d =
         let same : after_events design state (settling design bound (Some t) state.word) ≡ closed state t state.word =
-          ap (after_events design state) (settling-closed design bound t state.word d) ∙ ap (next_of state) (close-done design state t e state.word (omega arith) d) in
+        ap (after_events design state) (settling-closed design bound t state.word d) ∙ ap (next_of state) (close-done design state t e state.word (omega arith) d) in
         subst (IsSettled design state) (sym same) (entry-settled (closed state t state.word) (record { node = t.node; kind = kind.Closed; value = state.word }) refl refl tt)
     settled-at (Some t) (Solved expr z) e d =
         let s1 : State = record state { word = min state.word t.bound } in
         let same : after_events design state (settling design bound (Some t) state.word) ≡ closed s1 t t.bound =
-          ap (after_events design state) (settling-solved design bound t state.word d.below d.solved)
-            ∙ ap (λ r. after_event design (next_of state r) (Close 0 t.bound)) (offer-done design state t e d.solved)
-            ∙ ap (next_of s1) (close-done design s1 t e t.bound (omega arith) (omega arith)) in
+        ap (after_events design state) (settling-solved design bound t state.word d.below d.solved)
+        ∙ ap (λ r. after_event design (next_of state r) (Close 0 t.bound)) (offer-done design state t e d.solved)
+        ∙ ap (next_of s1) (close-done design s1 t e t.bound (omega arith) (omega arith)) in
         subst (IsSettled design state) (sym same) (entry-settled (closed s1 t t.bound) (record { node = t.node; kind = kind.Closed; value = t.bound }) refl refl tt)
     settled-at (Some t) (Split b left right) e d =
         let i = first_wide t.node in
@@ -165,15 +167,15 @@ module _ (design : Design) (state : State) where
         let may : may_branch (how.Split i) t.node ≡ true = ap (λ x. x && is_wide (span_of t.node i)) (lt-ltb i (length t.node.spans) wide.0) ∙ wide.1 in
         let costs = map bound (split t.node i) in
         let same : after_events design state (settling design bound (Some t) state.word) ≡ replaced state 0 (how.Split i) state.word costs t =
-          ap (after_events design state) (settling-split design bound t state.word d.below d.unsolved d.complete)
-            ∙ ap (next_of state) (replace-done state 0 (how.Split i) state.word costs (held_by state 0) t e (omega arith) d.below may) in
+        ap (after_events design state) (settling-split design bound t state.word d.below d.unsolved d.complete)
+        ∙ ap (next_of state) (replace-done state 0 (how.Split i) state.word costs (held_by state 0) t e (omega arith) d.below may) in
         subst (IsSettled design state) (sym same) (entry-settled (replaced state 0 (how.Split i) state.word costs t) (record { node = t.node; kind = kind.Split i; value = state.word }) refl refl (d.complete, d.unsolved, refl))
     settled-at (Some t) (Extended made) e d =
         let may : may_branch how.Extend t.node ≡ true = ap not d.incomplete in
         let costs = map bound (extended t.node) in
         let same : after_events design state (settling design bound (Some t) state.word) ≡ replaced state 0 how.Extend state.word costs t =
-          ap (after_events design state) (settling-extended design bound t state.word d.below d.incomplete)
-            ∙ ap (next_of state) (replace-done state 0 how.Extend state.word costs (held_by state 0) t e (omega arith) d.below may) in
+        ap (after_events design state) (settling-extended design bound t state.word d.below d.incomplete)
+        ∙ ap (next_of state) (replace-done state 0 how.Extend state.word costs (held_by state 0) t e (omega arith) d.below may) in
         subst (IsSettled design state) (sym same) (entry-settled (replaced state 0 how.Extend state.word costs t) (record { node = t.node; kind = kind.Extended; value = state.word }) refl refl tt)
 
 -- taking the last open task
@@ -194,11 +196,11 @@ module _ (design : Design) (state : State) (idle : IsIdle state) (some : 0 < len
       let place = length state.waiting - 1 in
       let free : held_by state 0 ≡ None = ap (λ h. held_in (slice_get h 0)) idle in
       let same : after_event design state (Take 0 place) ≡ record state { waiting = remove state.waiting place; held = slice_set state.held 0 (Some t) } =
-        ap (λ o. next_of state (take state 0 place o (held_by state 0))) e ∙ ap (λ h. next_of state (take state 0 place (Some t) h)) free in
+      ap (λ o. next_of state (take state 0 place o (held_by state 0))) e ∙ ap (λ h. next_of state (take state 0 place (Some t) h)) free in
       record {
         task = t;
         held = ap (λ (s : State). s.held) same ∙ ap (λ h. slice_set h 0 (Some t)) idle;
-        entries = ap (λ (s : State). s.entries) same
+        entries = ap (λ (s : State). s.entries) same;
       }
 
 pub taken-is : (design : Design) (state mid : State) → IsIdle state → 0 < length state.waiting → mid ≡ after_event design state (Take 0 (length state.waiting - 1)) → IsTaken state mid
@@ -212,7 +214,7 @@ turned-is design bound old mid new task decision taken e d made =
     record {
       idle = settled.held ∙ ap (λ h. slice_set h 0 None) taken.held;
       one_more = omega (arith, settled.one_more, ap length taken.entries);
-      splits = λ a. settled.splits (subst (AllBranchFirst design) (sym taken.entries) a)
+      splits = λ a. settled.splits (subst (AllBranchFirst design) (sym taken.entries) a);
     }
 
 turn-empty : (design : Design) (bound : Parts → ℕ) (state : State) → state.waiting ≡ [] → turn design bound state ≡ state
@@ -223,8 +225,9 @@ pub turns-still : (design : Design) (bound : Parts → ℕ) (k n : ℕ) (state :
 turns-still design bound k zero state h e = ap (λ i. turns design bound i state) (let z : 0 ≡ k = omega arith in z)
 turns-still design bound k (suc n) state h e =
     elim (cases_lt n k) [
-      inl same ↦ ap (λ i. turns design bound i state) (let z : suc n ≡ k = omega arith in z)
-    | inr less ↦ ap (turn design bound) (turns-still design bound k n state less e) ∙ turn-empty design bound (turns design bound k state) e ]
+      | inl same ↦ ap (λ i. turns design bound i state) (let z : suc n ≡ k = omega arith in z)
+      | inr less ↦ ap (turn design bound) (turns-still design bound k n state less e) ∙ turn-empty design bound (turns design bound k state) e
+    ]
 
 pub no-task : (ws : List Task) → length ws ≡ 0 → ws ≡ []
 no-task [] e = refl
@@ -236,5 +239,6 @@ all-decided design bound state nodes core first spent h =
     let few = entries-few design bound state core first in
     let tasks = state.waiting ++ held_tasks state in
     no-task state.waiting (elim (cases_lt 0 (length state.waiting)) [
-      inl some ↦ absurd (omega (arith, few, spent some, h, length-map {B = Parts} tasks (λ (task : Task). task.node), length-append state.waiting (held_tasks state)))
-    | inr none ↦ omega arith ])
+      | inl some ↦ absurd (omega (arith, few, spent some, h, length-map {B = Parts} tasks (λ (task : Task). task.node), length-append state.waiting (held_tasks state)))
+      | inr none ↦ omega arith
+    ])

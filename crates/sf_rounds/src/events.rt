@@ -10,11 +10,16 @@ use sf_model::Design;
 use sf_node::{Task, Values};
 use sf_polish::expr::Expr;
 use sf_search_core::{Costs, Event, How, Pool, Refusal};
-use sf_worker::{decide, Decision, Tasks};
+use sf_worker::{Decision, Tasks, decide};
 use std::alloc::{AllocError as NoMemory, Global};
 
 /// Makes a step that the machine doesn't refuse but for want of memory.
-fn accept<V: Values>(pool: &mut Pool, design: &Design, event: Event, values: &V) -> Result<(), NoMemory>
+fn accept<V: Values>(
+    pool: &mut Pool,
+    design: &Design,
+    event: Event,
+    values: &V,
+) -> Result<(), NoMemory>
     requires core { IsCoreState design.now (V.value values.now design.now) pool.old }
     requires can { CanCome (V.value values.now design.now) pool.old event }
     requires accepted { IsOk (applied design.now pool.old event) }
@@ -57,7 +62,14 @@ fn take_last<V: Values>(pool: &mut Pool, design: &Design, values: &V) -> Result<
 }
 
 /// Settles the held task as was decided.
-fn settle<B: Bounds>(alloc: Global, pool: &mut Pool, best: &mut Option<Expr>, design: &Design, bounds: &B, decision: Decision) -> Result<(), NoMemory>
+fn settle<B: Bounds>(
+    alloc: Global,
+    pool: &mut Pool,
+    best: &mut Option<Expr>,
+    design: &Design,
+    bounds: &B,
+    decision: Decision,
+) -> Result<(), NoMemory>
     requires core { IsCoreState design.now (B.Values.value bounds.now design.now) pool.old }
     requires worker { 0 < length pool.old.held }
     requires decided { Decides design.now (B.Values.value bounds.now design.now) (held_by pool.old 0) pool.old.word decision }
@@ -76,17 +88,34 @@ fn settle<B: Bounds>(alloc: Global, pool: &mut Pool, best: &mut Option<Expr>, de
         }
         Decision::Extended(tasks) => {
             let costs = bounds_of(alloc, tasks.as_slice())?;
-            accept(pool, design, Event::Replace(0, How::Extend, word, costs), bounds)
+            accept(
+                pool,
+                design,
+                Event::Replace(0, How::Extend, word, costs),
+                bounds,
+            )
         }
         Decision::Split(block, left, right) => {
             let costs = both(alloc, left.bound, right.bound)?;
-            accept(pool, design, Event::Replace(0, How::Split(block), word, costs), bounds)
+            accept(
+                pool,
+                design,
+                Event::Replace(0, How::Split(block), word, costs),
+                bounds,
+            )
         }
     }
 }
 
 /// Takes the last open task and settles it.
-pub fn turn<B: Bounds>(alloc: Global, pool: &mut Pool, best: &mut Option<Expr>, design: &Design, bounds: &B, room: &mut Room) -> Result<(), NoMemory>
+pub fn turn<B: Bounds>(
+    alloc: Global,
+    pool: &mut Pool,
+    best: &mut Option<Expr>,
+    design: &Design,
+    bounds: &B,
+    room: &mut Room,
+) -> Result<(), NoMemory>
     requires core { IsCoreState design.now (B.Values.value bounds.now design.now) pool.old }
     requires idle { IsIdle pool.old }
     requires some { 0 < length pool.old.waiting }

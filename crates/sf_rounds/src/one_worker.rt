@@ -23,7 +23,13 @@ pub struct Searched {
 }
 
 /// Decides the last open task, turn by turn, until none is open or `nodes` are decided.
-pub fn search_pool<B: Bounds, G: Gate>(alloc: Global, design: &Design, bounds: &B, nodes: u64, gate: &G) -> Result<Searched, NoMemory>
+pub fn search_pool<B: Bounds, G: Gate>(
+    alloc: Global,
+    design: &Design,
+    bounds: &B,
+    nodes: u64,
+    gate: &G,
+) -> Result<Searched, NoMemory>
     ensures run { IfOk result (λ done. done.pool ≡ turns design.now (B.Values.value bounds.now design.now) nodes (opening design.now (B.Values.value bounds.now design.now) 1)) }
     ensures core { IfOk result (λ done. IsCoreState design.now (B.Values.value bounds.now design.now) done.pool) }
     ensures idle { IfOk result (λ done. IsIdle done.pool) }

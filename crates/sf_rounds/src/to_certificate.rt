@@ -10,8 +10,7 @@ ghost use Rattle.sf_rounds.specs.Found.{IsCertOf, AllSplitFirst};
 
 use crate::one_worker::search_pool;
 use sf_bounds::Bounds;
-use sf_certificate::Cert;
-use sf_certificate::merging::merge;
+use sf_certificate::{Cert, merge};
 use sf_io::Gate;
 use sf_model::{Design, Shapes};
 use sf_polish::{Expr, Tokens};

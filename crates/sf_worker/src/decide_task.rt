@@ -3,13 +3,19 @@ ghost use Rattle.sf_node.specs.Children.{IsSubproblem, extended};
 ghost use Rattle.sf_worker.specs.Decided.{IsDecision, task_of, valued};
 
 use crate::decision::{Decision, Tasks};
-use sf_bounds::{solve, Bounds, Room};
+use sf_bounds::{Bounds, Room, solve};
 use sf_model::Design;
 use sf_node::{Node, Task};
 use std::alloc::{AllocError as NoMemory, Global};
 
 /// Decides a task against a value that some plan costs, or that none does.
-pub fn decide<B: Bounds>(design: &Design, bounds: &B, room: &mut Room, task: &Task, value: u64) -> Result<Decision, NoMemory>
+pub fn decide<B: Bounds>(
+    design: &Design,
+    bounds: &B,
+    room: &mut Room,
+    task: &Task,
+    value: u64,
+) -> Result<Decision, NoMemory>
     requires subproblem { IsSubproblem design.now task.now.node }
     requires bound { task.now.bound ≡ B.Values.value bounds.now design.now task.now.node }
     ensures { IfOk result (λ decision. IsDecision design.now (B.Values.value bounds.now design.now) task.now value decision) }
@@ -32,11 +38,16 @@ pub fn decide<B: Bounds>(design: &Design, bounds: &B, room: &mut Room, task: &Ta
         let right = with_bound(design, bounds, room, right)?;
         return Ok(Decision::Split(block, left, right));
     }
-    let children = extended(design, bounds, room, &task.node)?;
+    let children = extended(design, bounds, room, task)?;
     Ok(Decision::Extended(Tasks::from_vec(children)))
 }
 
-fn with_bound<B: Bounds>(design: &Design, bounds: &B, room: &mut Room, node: Node) -> Result<Task, NoMemory>
+fn with_bound<B: Bounds>(
+    design: &Design,
+    bounds: &B,
+    room: &mut Room,
+    node: Node,
+) -> Result<Task, NoMemory>
     requires { IsSubproblem design.now node }
     ensures { IfOk result (λ task. task ∷ [] ≡ valued (B.Values.value bounds.now design.now) (node ∷ [])) }
 {
@@ -45,28 +56,27 @@ fn with_bound<B: Bounds>(design: &Design, bounds: &B, room: &mut Room, node: Nod
 }
 
 /// The children by extending, with their bounds.
-fn extended<B: Bounds>(design: &Design, bounds: &B, room: &mut Room, node: &Node) -> Result<Vec<Task>, NoMemory>
-    requires { IsSubproblem design.now node.now }
-    ensures { IfOk result (λ tasks. tasks.items ≡ valued (B.Values.value bounds.now design.now) (extended node.now)) }
+fn extended<B: Bounds>(
+    design: &Design,
+    bounds: &B,
+    room: &mut Room,
+    task: &Task,
+) -> Result<Vec<Task>, NoMemory>
+    requires subproblem { IsSubproblem design.now task.now.node }
+    requires bound { task.now.bound ≡ B.Values.value bounds.now design.now task.now.node }
+    ensures { IfOk result (λ tasks. tasks.items ≡ valued (B.Values.value bounds.now design.now) (extended task.now.node)) }
 {
-    let children = node.extend_children(design)?;
-    let costs = costs_of(design, bounds, room, &children)?;
-    paired(node.allocator(), children, costs)
+    let children = task.node.extend_children(design)?;
+    let costs = bounds.children_bounds(design, &task.node, task.bound, &children, room)?;
+    paired(task.node.allocator(), children, costs)
 }
 
 fn paired(alloc: Global, nodes: Vec<Node>, costs: Vec<u64>) -> Result<Vec<Task>, NoMemory>
     ensures { IfOk result (λ tasks. tasks.items ≡ map task_of (zip nodes.items costs.items)) }
 {
-    nodes.into_iter().zip(costs).map(|(node, bound)| Task { node, bound }).collect(alloc)
-}
-
-fn costs_of<B: Bounds>(design: &Design, bounds: &B, room: &mut Room, nodes: &Vec<Node>) -> Result<Vec<u64>, NoMemory>
-    requires { All (IsSubproblem design.now) nodes.now.items }
-    ensures { IfOk result (λ costs. costs.items ≡ map (B.Values.value bounds.now design.now) nodes.now.items) }
-{
-    let mut costs = Vec::new(*nodes.allocator());
-    for node in nodes {
-        costs.push(bounds.bound(design, node, room)?)?;
-    }
-    Ok(costs)
+    nodes
+        .into_iter()
+        .zip(costs)
+        .map(|(node, bound)| Task { node, bound })
+        .collect(alloc)
 }

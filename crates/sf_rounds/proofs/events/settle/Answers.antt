@@ -7,7 +7,7 @@ use Rattle.std.specs.Prelude.{IsOk}
 use Rattle.sf_search_core.specs.Events.{held_by, close, CanCome}
 use Rattle.sf_search_core.specs.Outcome.{after_event, after_events}
 use Rattle.sf_model.specs.Legal.{block_count}
-use Rattle.sf_certificate.specs.Form.{IsPlanFor}
+use Rattle.sf_polish.specs.Text.{IsWritable}
 use Rattle.sf_certificate.specs.Valid.{HasCost}
 use Rattle.sf_worker.specs.declared.decision.Decision.TheVariants.{Solved, Extended}
 use Rattle.sf_rounds.specs.Turns.{settling}
@@ -40,10 +40,10 @@ returns-in_ok-accept-in-Solved-clause-made g c =
     let decided = subst (Decides design bound (held_by state 0) state.word) c.in-Solved.is c.requires.decided in
     let o = offered design bound state c.in-Solved.expr c.in-Solved.cost decided in
     if-ok c.accept-in-Solved-2.result
-      (λ done. c.accept-in-Solved-2.new.pool ≡ after_event design c.accept-in-Solved.new.pool (Close 0 c.in-Solved.cost))
-      (λ done. c.accept-in-Solved-2.new.pool ≡ after_events design state (settling design bound (held_by state 0) state.word))
-      (λ done e. e ∙ ap (λ (s : State). after_event design s (Close 0 c.in-Solved.cost)) c.in_ok-accept-in-Solved.ensures.made ∙ sym o.settled)
-      c.accept-in-Solved-2.ensures.made
+    (λ done. c.accept-in-Solved-2.new.pool ≡ after_event design c.accept-in-Solved.new.pool (Close 0 c.in-Solved.cost))
+    (λ done. c.accept-in-Solved-2.new.pool ≡ after_events design state (settling design bound (held_by state 0) state.word))
+    (λ done e. e ∙ ap (λ (s : State). after_event design s (Close 0 c.in-Solved.cost)) c.in_ok-accept-in-Solved.ensures.made ∙ sym o.settled)
+    c.accept-in-Solved-2.ensures.made
 
 pub returns-in_ok-accept-in-Solved-clause-best : goal.returns-in_ok-accept-in-Solved-clause-best
 returns-in_ok-accept-in-Solved-clause-best g c =
@@ -53,11 +53,14 @@ returns-in_ok-accept-in-Solved-clause-best g c =
     let decided = subst (Decides design bound (held_by state 0) state.word) c.in-Solved.is c.requires.decided in
     let o = offered design bound state c.in-Solved.expr c.in-Solved.cost decided in
     if-ok c.accept-in-Solved-2.result
-      (λ done. c.accept-in-Solved-2.new.pool ≡ after_event design c.accept-in-Solved.new.pool (Close 0 c.in-Solved.cost))
-      (λ done. HasCost design c.in-Solved.expr c.accept-in-Solved-2.new.pool.word × IsPlanFor (block_count design) c.in-Solved.expr)
-      (λ done e. (subst (HasCost design c.in-Solved.expr)
-        (sym (ap (λ (s : State). s.word) (e ∙ ap (λ (s : State). after_event design s (Close 0 c.in-Solved.cost)) c.in_ok-accept-in-Solved.ensures.made) ∙ o.word)) o.best.0, o.best.1))
-      c.accept-in-Solved-2.ensures.made
+    (λ done. c.accept-in-Solved-2.new.pool ≡ after_event design c.accept-in-Solved.new.pool (Close 0 c.in-Solved.cost))
+    (λ done. HasCost design c.in-Solved.expr c.accept-in-Solved-2.new.pool.word × IsWritable (block_count design) c.in-Solved.expr)
+    (λ done e. (
+      subst (HasCost design c.in-Solved.expr)
+          (sym (ap (λ (s : State). s.word) (e ∙ ap (λ (s : State). after_event design s (Close 0 c.in-Solved.cost)) c.in_ok-accept-in-Solved.ensures.made) ∙ o.word)) o.best.0,
+      o.best.1,
+    ))
+    c.accept-in-Solved-2.ensures.made
 
 pub returns-in_ok-costs-in-Extended-clause-made : goal.returns-in_ok-costs-in-Extended-clause-made
 returns-in_ok-costs-in-Extended-clause-made g c =
@@ -68,7 +71,7 @@ returns-in_ok-costs-in-Extended-clause-made g c =
     let costs = c.in_ok-costs-in-Extended.costs in
     let e = c.in_ok-costs-in-Extended.ensures ∙ ap (map (λ (task : Task). task.bound)) c.as_slice.ensures in
     if-ok c.accept-in-Extended.result
-      (λ done. c.accept-in-Extended.new.pool ≡ after_event design state (Replace 0 Extend c.word-word.result costs))
-      (λ done. c.accept-in-Extended.new.pool ≡ after_events design state (settling design bound (held_by state 0) state.word))
-      (λ done h. h ∙ ap (λ (v : ℕ). after_event design state (Replace 0 Extend v costs)) c.word-word.ensures ∙ extended-made design bound state c.in-Extended.tasks costs e decided)
-      c.accept-in-Extended.ensures.made
+    (λ done. c.accept-in-Extended.new.pool ≡ after_event design state (Replace 0 Extend c.word-word.result costs))
+    (λ done. c.accept-in-Extended.new.pool ≡ after_events design state (settling design bound (held_by state 0) state.word))
+    (λ done h. h ∙ ap (λ (v : ℕ). after_event design state (Replace 0 Extend v costs)) c.word-word.ensures ∙ extended-made design bound state c.in-Extended.tasks costs e decided)
+    c.accept-in-Extended.ensures.made

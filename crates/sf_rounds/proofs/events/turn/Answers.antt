@@ -19,7 +19,7 @@ returns-clause-turned g c =
     let taken = taken-is design old mid c.requires.idle c.requires.some c.in_ok-take_last.ensures.made in
     let decided = subst (λ v. IsDecision design bound task v decision) c.word-word.ensures c.in_ok-decision.ensures in
     if-ok c.settle.result
-      (λ done. new ≡ after_events design mid (settling design bound (held_by mid 0) mid.word))
-      (λ done. IsTurned design old new)
-      (λ done e. turned-is design bound old mid new task decision taken c.in-Some.ensures decided e)
-      c.settle.ensures.made
+    (λ done. new ≡ after_events design mid (settling design bound (held_by mid 0) mid.word))
+    (λ done. IsTurned design old new)
+    (λ done e. turned-is design bound old mid new task decision taken c.in-Some.ensures decided e)
+    c.settle.ensures.made

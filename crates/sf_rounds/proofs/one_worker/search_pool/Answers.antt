@@ -16,11 +16,12 @@ returns-clause-run g c =
     let first = opening design bound 1 in
     let run = c.loop-step.invariant.run in
     elim c.loop-step-test.branch [
-      else-loop-step-test w ↦ (let spent : c.loop-step.step ≡ c.args.nodes = omega arith in run ∙ ap (λ k. turns design bound k first) spent)
-    | then-loop-step-test+then-is_empty w ↦
-        (let none : length c.loop-step.pool.waiting ≡ 0 = search rules in
-        let empty = subst (λ (s : State). s.waiting ≡ []) run (no-task c.loop-step.pool.waiting none) in
-        run ∙ sym (turns-still design bound c.loop-step.step c.args.nodes first (omega arith) empty)) ]
+      | else-loop-step-test w ↦ (let spent : c.loop-step.step ≡ c.args.nodes = omega arith in run ∙ ap (λ k. turns design bound k first) spent)
+      | then-loop-step-test+then-is_empty w ↦
+          (let none : length c.loop-step.pool.waiting ≡ 0 = search rules in
+          let empty = subst (λ (s : State). s.waiting ≡ []) run (no-task c.loop-step.pool.waiting none) in
+          run ∙ sym (turns-still design bound c.loop-step.step c.args.nodes first (omega arith) empty))
+    ]
 
 pub returns-clause-full : goal.returns-clause-full
 returns-clause-full g c =
@@ -35,8 +36,9 @@ returns-clause-ended g c =
     let bound = g.B.Values.value c.args.bounds.now design in
     let pool = c.loop-step.pool in
     let spent : 0 < length pool.waiting → length pool.entries ≡ c.args.nodes = λ some. elim c.loop-step-test.branch [
-        else-loop-step-test w ↦ omega (arith, c.loop-step.invariant.count)
-      | then-loop-step-test+then-is_empty w ↦ absurd (let none : length pool.waiting ≡ 0 = search rules in omega (arith, none, some)) ] in
+      | else-loop-step-test w ↦ omega (arith, c.loop-step.invariant.count)
+      | then-loop-step-test+then-is_empty w ↦ absurd (let none : length pool.waiting ≡ 0 = search rules in omega (arith, none, some))
+    ] in
     all-decided design bound pool c.args.nodes c.loop-step.invariant.core c.loop-step.invariant.splits spent
 
 pub returns-clause-outcome : goal.returns-clause-outcome
@@ -60,5 +62,5 @@ loop-step-preserved g c =
       idle = turned.turned.idle;
       count = omega (arith, turned.turned.one_more, old.count);
       best = turned.best;
-      splits = turned.turned.splits old.splits
+      splits = turned.turned.splits old.splits;
     }

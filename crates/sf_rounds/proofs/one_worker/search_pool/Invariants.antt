@@ -8,10 +8,10 @@ use Rattle.sf_rounds.proofs.one_worker.search_pool.Given as goal
 
 abbrev pub invariant-loop-step : goal.invariant-loop-step
 invariant-loop-step g l = record {
-    run : l.pool ≡ turns l.design (g.B.Values.value l.bounds l.design) l.step (opening l.design (g.B.Values.value l.bounds l.design) 1);
-    core : IsCoreState l.design (g.B.Values.value l.bounds l.design) l.pool;
-    idle : IsIdle l.pool;
-    count : length l.pool.entries ≡ l.step;
-    best : IsBest l.design l.pool.word l.best;
-    splits : AllBranchFirst l.design l.pool.entries
-  }
+  run : l.pool ≡ turns l.design (g.B.Values.value l.bounds l.design) l.step (opening l.design (g.B.Values.value l.bounds l.design) 1);
+  core : IsCoreState l.design (g.B.Values.value l.bounds l.design) l.pool;
+  idle : IsIdle l.pool;
+  count : length l.pool.entries ≡ l.step;
+  best : IsBest l.design l.pool.word l.best;
+  splits : AllBranchFirst l.design l.pool.entries;
+}
