@@ -30,11 +30,11 @@ module _ {E : Type 0} (design : Design) (budget scale : ℕ) (name : List ℕ) (
       → IfOk r (λ w. w.status ≡ status_of said)
       → IfOk r (λ w. IsAnswered design budget scale name pl w.status (stored_in w.stores.items) w.text.items)
   told-answered (Ok w) told status = record {
-      cert = cert;
-      searched = searched;
-      said = said;
-      ending = ending;
-      status_is = status;
-      told = subst (λ p. IsTold design scale name pl said cert p (stored_in w.stores.items) w.text.items) same told
-    }
+    cert = cert;
+    searched = searched;
+    said = said;
+    ending = ending;
+    status_is = status;
+    told = subst (λ p. IsTold design scale name pl said cert p (stored_in w.stores.items) w.text.items) same told;
+  }
   told-answered (Err e) told status = tt

@@ -38,7 +38,7 @@ CommandAnswer (gen o) before status stored printed = IsUnbuilt status stored pri
 abbrev pub Answers : List (List ℕ) → Option Contents → Status → List Stored → List ℕ → Type 0
 Answers words before status stored printed =
     (HasNoMeaning words × (status ≡ Usage) × (stored ≡ []) × (printed ≡ usage_line))
-      ⊎ ((command : Command) × Means words command × CommandAnswer command before status stored printed)
+    ⊎ ((command : Command) × Means words command × CommandAnswer command before status stored printed)
 
 -- a refusal is an answer that stores nothing
 abbrev pub CommandRefuses : Command → Option Contents → Refusal → Type 0

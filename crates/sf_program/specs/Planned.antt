@@ -81,11 +81,11 @@ placed design scale (Some name) spots = (name, pl_text design spots scale) ∷ [
 abbrev pub IsTold : Design → ℕ → List ℕ → Option (List ℕ) → Outcome → Cert → Option Expr → List Stored → List ℕ → Type 0
 IsTold design scale name pl said cert None stored printed =
     (stored ≡ (name, cert_text cert) ∷ [])
-      × (printed ≡ report_text (record { word = said; cost = cert.cost; bound = cert.bound; decided = decided cert.tags; size = (0, 0); area = 0; wire = 0; plan = None }))
+    × (printed ≡ report_text (record { word = said; cost = cert.cost; bound = cert.bound; decided = decided cert.tags; size = (0, 0); area = 0; wire = 0; plan = None }))
 IsTold design scale name pl said cert (Some expr) stored printed =
     (spots : List Spot) × (w h wires : ℕ) × IsMeasured design expr spots w h wires
-      × (stored ≡ (name, cert_text cert) ∷ placed design scale pl spots)
-      × (printed ≡ report_text (record { word = said; cost = cert.cost; bound = cert.bound; decided = decided cert.tags; size = (w, h); area = w * h; wire = wires; plan = Some expr }))
+    × (stored ≡ (name, cert_text cert) ∷ placed design scale pl spots)
+    × (printed ≡ report_text (record { word = said; cost = cert.cost; bound = cert.bound; decided = decided cert.tags; size = (w, h); area = w * h; wire = wires; plan = Some expr }))
 
 -- the certificate of a search of the design with this budget: valid by the standard bound, and found by the turns of the search core
 pub record IsSearched (design : Design) (budget : ℕ) (cert : Cert) : Type 0 where

@@ -30,7 +30,11 @@ fn admit(alloc: Global, parts: Parts) -> Result<Parts, Stop>
 }
 
 /// The parts of the named files, where they may become a design.
-pub fn read_admitted<S: Shelf>(alloc: Global, shelf: &mut S, words: &DesignWords<'_>) -> Result<Parts, Stop>
+pub fn read_admitted<S: Shelf>(
+    alloc: Global,
+    shelf: &mut S,
+    words: &DesignWords<'_>,
+) -> Result<Parts, Stop>
     ensures parts { Ends (λ x. x) result (PartsAdmitted (S.holds shelf.old) (design_seen words.now)) }
     ensures admitted { IfOk result IsAdmitted }
     ensures pins { IfOk result HasPinsInRange }
@@ -57,7 +61,13 @@ fn make_lists(alloc: Global, words: &DesignWords<'_>, parts: &Parts) -> Result<V
     }
 }
 
-fn build(alloc: Global, words: &DesignWords<'_>, weights: WeightWords, parts: Parts, lists: Vec<Shapes>) -> Result<Design, Stop>
+fn build(
+    alloc: Global,
+    words: &DesignWords<'_>,
+    weights: WeightWords,
+    parts: Parts,
+    lists: Vec<Shapes>,
+) -> Result<Design, Stop>
     requires admitted { IsAdmitted parts }
     requires pins { HasPinsInRange parts }
     requires choices { HasShapeChoices parts.blocks lists.items }
@@ -81,7 +91,12 @@ fn build(alloc: Global, words: &DesignWords<'_>, weights: WeightWords, parts: Pa
 }
 
 /// The design of admitted parts.
-pub fn make_design(alloc: Global, words: &DesignWords<'_>, weights: WeightWords, parts: Parts) -> Result<Design, Stop>
+pub fn make_design(
+    alloc: Global,
+    words: &DesignWords<'_>,
+    weights: WeightWords,
+    parts: Parts,
+) -> Result<Design, Stop>
     requires admitted { IsAdmitted parts }
     requires pins { HasPinsInRange parts }
     requires sizes { HasSizes parts }
@@ -95,7 +110,12 @@ pub fn make_design(alloc: Global, words: &DesignWords<'_>, weights: WeightWords,
 }
 
 /// The design for which the named files stand.
-pub fn read_design<S: Shelf>(alloc: Global, shelf: &mut S, words: &DesignWords<'_>, weights: WeightWords) -> Result<Design, Stop>
+pub fn read_design<S: Shelf>(
+    alloc: Global,
+    shelf: &mut S,
+    words: &DesignWords<'_>,
+    weights: WeightWords,
+) -> Result<Design, Stop>
     ensures design { Ends (λ x. x) result (DesignRead (S.holds shelf.old) (design_seen words.now) (weights_seen weights)) }
     ensures read { IsRead (S.holds shelf.old) (S.holds shelf.new) (S.load_faults shelf.old) (S.load_faults shelf.new) (S.store_faults shelf.old) (S.store_faults shelf.new) }
     ensures tells { IfErr result (TellsLoads (S.load_faults shelf.old) (S.load_faults shelf.new)) }

@@ -29,7 +29,13 @@ fn usage(alloc: Global) -> Result<Work, NoMemory>
 }
 
 /// Does what a command asks for, but for stores and prints.
-fn obey<R: Threads + Sync, S: Shelf, G: Gate>(rt: &R, alloc: Global, command: CommandWords<'_>, shelf: &mut S, gate: &G) -> Result<Work, Stop>
+fn obey<R: Threads + Sync, S: Shelf, G: Gate>(
+    rt: &R,
+    alloc: Global,
+    command: CommandWords<'_>,
+    shelf: &mut S,
+    gate: &G,
+) -> Result<Work, Stop>
     requires scale { HasScale (command_seen command) }
     ensures answer { IfOk result (λ w. CommandAnswer (command_seen command.entry) (S.holds shelf.old) w.status (stored_in w.stores.items) w.text.items) }
     ensures refused { IfErr result (λ stop. Stops stop (CommandRefuses (command_seen command.entry) (S.holds shelf.old))) }
@@ -46,7 +52,13 @@ fn obey<R: Threads + Sync, S: Shelf, G: Gate>(rt: &R, alloc: Global, command: Co
 }
 
 /// Does what the words ask for, but for stores and prints.
-pub fn work<R: Threads + Sync, S: Shelf, G: Gate>(rt: &R, alloc: Global, words: &[String], shelf: &mut S, gate: &G) -> Result<Work, Stop>
+pub fn work<R: Threads + Sync, S: Shelf, G: Gate>(
+    rt: &R,
+    alloc: Global,
+    words: &[String],
+    shelf: &mut S,
+    gate: &G,
+) -> Result<Work, Stop>
     ensures answer { IfOk result (λ w. Answers (map string_bytes words.now) (S.holds shelf.old) w.status (stored_in w.stores.items) w.text.items) }
     ensures refused { IfErr result (λ stop. Stops stop (RefusesWords (map string_bytes words.now) (S.holds shelf.old))) }
     ensures read { IsRead (S.holds shelf.old) (S.holds shelf.new) (S.load_faults shelf.old) (S.load_faults shelf.new) (S.store_faults shelf.old) (S.store_faults shelf.new) }

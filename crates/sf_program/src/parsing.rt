@@ -18,7 +18,10 @@ ghost use Rattle.sf_program.specs.Refusals.{gsrc_refusal, yal_refusal, join_refu
 
 use crate::refusals::{gsrc_fault, named_fault, yal_fault};
 use crate::stop::Stop;
-use sf_gsrc::{GsrcBlocks, GsrcFault, GsrcNets, GsrcPlaces, JoinFault, blocks_have_sizes, join_parts, joined_parts_keep_ranges, nets_name_their_pins, read_blocks, read_nets, read_pl};
+use sf_gsrc::{
+    GsrcBlocks, GsrcFault, GsrcNets, GsrcPlaces, JoinFault, blocks_have_sizes, join_parts,
+    joined_parts_keep_ranges, nets_name_their_pins, read_blocks, read_nets, read_pl,
+};
 use sf_model::Parts;
 use sf_yal::{YalFault, parts_keep_ranges, read_yal};
 use std::alloc::Global;
@@ -54,7 +57,12 @@ pub fn parse_nets(alloc: Global, text: &[u8]) -> Result<GsrcNets, Stop>
 }
 
 /// A text of places: a pl file, or a placed file.
-pub fn parse_places(alloc: Global, source: &str, text: &[u8], scale: u64) -> Result<GsrcPlaces, Stop>
+pub fn parse_places(
+    alloc: Global,
+    source: &str,
+    text: &[u8],
+    scale: u64,
+) -> Result<GsrcPlaces, Stop>
     requires scale_low { 1 ≤ scale }
     requires scale_high { scale ≤ 1000 }
     ensures tells { (loads loads_then : ℕ) → IfErr result (TellsLoads loads loads_then) }
@@ -86,7 +94,12 @@ pub fn parse_yal(alloc: Global, text: &[u8], scale: u64) -> Result<Parts, Stop>
 }
 
 /// The parts that GSRC files are joined to.
-pub fn join(alloc: Global, blocks: GsrcBlocks, nets: Option<GsrcNets>, places: Option<GsrcPlaces>) -> Result<Parts, Stop>
+pub fn join(
+    alloc: Global,
+    blocks: GsrcBlocks,
+    nets: Option<GsrcNets>,
+    places: Option<GsrcPlaces>,
+) -> Result<Parts, Stop>
     requires sizes { All (λ b. IsSized b.kind) blocks.blocks }
     requires pins { IfSome nets (λ out. HasPinsInAnyRange out.nets) }
     ensures tells { (loads loads_then : ℕ) → IfErr result (TellsLoads loads loads_then) }

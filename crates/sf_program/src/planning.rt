@@ -51,7 +51,13 @@ fn within_budget(alloc: Global, words: &PlanWords<'_>, parts: Parts) -> Result<D
 }
 
 /// What is told of the search of a design.
-fn answered(alloc: Global, design: &Design, nodes: u64, found: Found, names: Names<'_>) -> Result<Work, NoMemory>
+fn answered(
+    alloc: Global,
+    design: &Design,
+    nodes: u64,
+    found: Found,
+    names: Names<'_>,
+) -> Result<Work, NoMemory>
     requires searched { IsSearched design.now nodes found.cert }
     requires plan { found.plan ≡ found.cert.plan }
     requires decided { found.decided ≡ decided found.cert.tags }
@@ -69,7 +75,13 @@ fn answered(alloc: Global, design: &Design, nodes: u64, found: Found, names: Nam
 }
 
 /// Searches the design for which the named files stand, and tells what was found.
-pub fn plan<R: Threads + Sync, S: Shelf, G: Gate>(rt: &R, alloc: Global, words: &PlanWords<'_>, shelf: &mut S, gate: &G) -> Result<Work, Stop>
+pub fn plan<R: Threads + Sync, S: Shelf, G: Gate>(
+    rt: &R,
+    alloc: Global,
+    words: &PlanWords<'_>,
+    shelf: &mut S,
+    gate: &G,
+) -> Result<Work, Stop>
     requires scale { IsScale words.now.design.per_unit }
     ensures answer { IfOk result (λ w. IsPlanned (plan_seen words.now) (S.holds shelf.old) w.status (stored_in w.stores.items) w.text.items) }
     ensures refused { IfErr result (λ stop. Stops stop (λ why. PlanRead (S.holds shelf.old) (plan_seen words.now) (Err why))) }
@@ -87,7 +99,14 @@ pub fn plan<R: Threads + Sync, S: Shelf, G: Gate>(rt: &R, alloc: Global, words: 
 }
 
 /// Searches a design with the budget that the words ask for.
-fn searched<R: Threads + Sync, G: Gate>(rt: &R, alloc: Global, design: &Design, words: &PlanWords<'_>, names: Names<'_>, gate: &G) -> Result<Work, NoMemory>
+fn searched<R: Threads + Sync, G: Gate>(
+    rt: &R,
+    alloc: Global,
+    design: &Design,
+    words: &PlanWords<'_>,
+    names: Names<'_>,
+    gate: &G,
+) -> Result<Work, NoMemory>
     requires scale { IsScale names.scale }
     ensures { IfOk result (λ w. IsAnswered design.now (budget_of words.now.nodes (block_count design.now)) names.entry.scale names.entry.cert.now (text_of names.entry.pl) w.status (stored_in w.stores.items) w.text.items) }
 {

@@ -69,8 +69,16 @@ pub fn run<R: Threads + Sync, S: Shelf, K: Sink, G: Gate>(
 {
     match work(rt, alloc, words, shelf, gate) {
         Ok(work) => finish(shelf, out, &work),
-        Err(Stop::BadInput(line)) => finish(shelf, out, &Work::printed(alloc, Status::BadInput, line)),
-        Err(Stop::OverLimit(line)) => finish(shelf, out, &Work::printed(alloc, Status::OverLimit, line)),
+        Err(Stop::BadInput(line)) => finish(
+            shelf,
+            out,
+            &Work::printed(alloc, Status::BadInput, line),
+        ),
+        Err(Stop::OverLimit(line)) => finish(
+            shelf,
+            out,
+            &Work::printed(alloc, Status::OverLimit, line),
+        ),
         Err(Stop::ReadFault) => Status::ReadFault,
         Err(Stop::NoMemory) => Status::NoMemory,
     }

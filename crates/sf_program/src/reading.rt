@@ -34,7 +34,12 @@ pub fn load_text<S: Shelf>(alloc: Global, shelf: &mut S, name: &str) -> Result<V
     }
 }
 
-fn read_blocks_file<S: Shelf>(alloc: Global, shelf: &mut S, scale: u64, name: &str) -> Result<GsrcBlocks, Stop>
+fn read_blocks_file<S: Shelf>(
+    alloc: Global,
+    shelf: &mut S,
+    scale: u64,
+    name: &str,
+) -> Result<GsrcBlocks, Stop>
     requires scale_low { 1 ≤ scale }
     requires scale_high { scale ≤ 1000 }
     ensures blocks { Ends (λ x. x) result (BlocksRead (S.holds shelf.old) scale name.now) }
@@ -57,7 +62,13 @@ fn read_nets_file<S: Shelf>(alloc: Global, shelf: &mut S, name: &str) -> Result<
 }
 
 /// A file of places: a pl file, or a placed file.
-pub fn read_places_file<S: Shelf>(alloc: Global, shelf: &mut S, source: &str, scale: u64, name: &str) -> Result<GsrcPlaces, Stop>
+pub fn read_places_file<S: Shelf>(
+    alloc: Global,
+    shelf: &mut S,
+    source: &str,
+    scale: u64,
+    name: &str,
+) -> Result<GsrcPlaces, Stop>
     requires scale_low { 1 ≤ scale }
     requires scale_high { scale ≤ 1000 }
     ensures places { Ends (λ x. x) result (PlacesRead (S.holds shelf.old) source.now scale name.now) }
@@ -68,7 +79,12 @@ pub fn read_places_file<S: Shelf>(alloc: Global, shelf: &mut S, source: &str, sc
     parse_places(alloc, source, &text, scale)
 }
 
-fn read_yal_file<S: Shelf>(alloc: Global, shelf: &mut S, scale: u64, name: &str) -> Result<Parts, Stop>
+fn read_yal_file<S: Shelf>(
+    alloc: Global,
+    shelf: &mut S,
+    scale: u64,
+    name: &str,
+) -> Result<Parts, Stop>
     requires scale_low { 1 ≤ scale }
     requires scale_high { scale ≤ 1000 }
     ensures parts { Ends (λ x. x) result (YalRead (S.holds shelf.old) scale name.now) }
@@ -81,7 +97,11 @@ fn read_yal_file<S: Shelf>(alloc: Global, shelf: &mut S, scale: u64, name: &str)
     parse_yal(alloc, &text, scale)
 }
 
-fn read_named_nets<S: Shelf>(alloc: Global, shelf: &mut S, name: Option<&str>) -> Result<Option<GsrcNets>, Stop>
+fn read_named_nets<S: Shelf>(
+    alloc: Global,
+    shelf: &mut S,
+    name: Option<&str>,
+) -> Result<Option<GsrcNets>, Stop>
     ensures nets { Ends (λ x. x) result (IfNamed (NetsRead (S.holds shelf.old)) (text_of name.entry)) }
     ensures pins { IfOk result (λ named. IfSome named (λ out. HasPinsInAnyRange out.nets)) }
     ensures read { IsRead (S.holds shelf.old) (S.holds shelf.new) (S.load_faults shelf.old) (S.load_faults shelf.new) (S.store_faults shelf.old) (S.store_faults shelf.new) }
@@ -93,7 +113,12 @@ fn read_named_nets<S: Shelf>(alloc: Global, shelf: &mut S, name: Option<&str>) -
     }
 }
 
-fn read_named_places<S: Shelf>(alloc: Global, shelf: &mut S, scale: u64, name: Option<&str>) -> Result<Option<GsrcPlaces>, Stop>
+fn read_named_places<S: Shelf>(
+    alloc: Global,
+    shelf: &mut S,
+    scale: u64,
+    name: Option<&str>,
+) -> Result<Option<GsrcPlaces>, Stop>
     requires scale_low { 1 ≤ scale }
     requires scale_high { scale ≤ 1000 }
     ensures places { Ends (λ x. x) result (IfNamed (PlacesRead (S.holds shelf.old) (codes "pl") scale) (text_of name.entry)) }
@@ -107,7 +132,14 @@ fn read_named_places<S: Shelf>(alloc: Global, shelf: &mut S, scale: u64, name: O
 }
 
 /// The rest of GSRC files behind the blocks and the nets.
-fn read_placed<S: Shelf>(alloc: Global, shelf: &mut S, scale: u64, blocks: GsrcBlocks, nets: Option<GsrcNets>, pl: Option<&str>) -> Result<Parts, Stop>
+fn read_placed<S: Shelf>(
+    alloc: Global,
+    shelf: &mut S,
+    scale: u64,
+    blocks: GsrcBlocks,
+    nets: Option<GsrcNets>,
+    pl: Option<&str>,
+) -> Result<Parts, Stop>
     requires scale_low { 1 ≤ scale }
     requires scale_high { scale ≤ 1000 }
     requires sizes { All (λ b. IsSized b.kind) blocks.blocks }
@@ -123,7 +155,14 @@ fn read_placed<S: Shelf>(alloc: Global, shelf: &mut S, scale: u64, blocks: GsrcB
 }
 
 /// The rest of GSRC files behind the blocks.
-fn read_wired<S: Shelf>(alloc: Global, shelf: &mut S, scale: u64, blocks: GsrcBlocks, nets: Option<&str>, pl: Option<&str>) -> Result<Parts, Stop>
+fn read_wired<S: Shelf>(
+    alloc: Global,
+    shelf: &mut S,
+    scale: u64,
+    blocks: GsrcBlocks,
+    nets: Option<&str>,
+    pl: Option<&str>,
+) -> Result<Parts, Stop>
     requires scale_low { 1 ≤ scale }
     requires scale_high { scale ≤ 1000 }
     requires sizes { All (λ b. IsSized b.kind) blocks.blocks }
@@ -137,7 +176,14 @@ fn read_wired<S: Shelf>(alloc: Global, shelf: &mut S, scale: u64, blocks: GsrcBl
     read_placed(alloc, shelf, scale, blocks, nets, pl)
 }
 
-fn read_gsrc_files<S: Shelf>(alloc: Global, shelf: &mut S, scale: u64, blocks: &str, nets: Option<&str>, pl: Option<&str>) -> Result<Parts, Stop>
+fn read_gsrc_files<S: Shelf>(
+    alloc: Global,
+    shelf: &mut S,
+    scale: u64,
+    blocks: &str,
+    nets: Option<&str>,
+    pl: Option<&str>,
+) -> Result<Parts, Stop>
     requires scale_low { 1 ≤ scale }
     requires scale_high { scale ≤ 1000 }
     ensures parts { Ends (λ x. x) result (GsrcRead (S.holds shelf.old) scale blocks.now (text_of nets.entry) (text_of pl.entry)) }
@@ -151,7 +197,12 @@ fn read_gsrc_files<S: Shelf>(alloc: Global, shelf: &mut S, scale: u64, blocks: &
 }
 
 /// All that the files of a design say.
-pub fn read_parts<S: Shelf>(alloc: Global, shelf: &mut S, scale: u64, input: InputFiles<'_>) -> Result<Parts, Stop>
+pub fn read_parts<S: Shelf>(
+    alloc: Global,
+    shelf: &mut S,
+    scale: u64,
+    input: InputFiles<'_>,
+) -> Result<Parts, Stop>
     requires scale_low { 1 ≤ scale }
     requires scale_high { scale ≤ 1000 }
     ensures parts { Ends (λ x. x) result (PartsRead (S.holds shelf.old) scale (input_seen input.entry)) }

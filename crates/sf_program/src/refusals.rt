@@ -21,7 +21,13 @@ pub fn bare_fault(alloc: Global, source: &str, line: u64, fault: &str) -> Result
 }
 
 /// A fault that carries a word.
-pub fn worded_fault(alloc: Global, source: &str, line: u64, fault: &str, word: &[u8]) -> Result<Stop, NoMemory>
+pub fn worded_fault(
+    alloc: Global,
+    source: &str,
+    line: u64,
+    fault: &str,
+    word: &[u8],
+) -> Result<Stop, NoMemory>
     ensures { IfOk result (λ stop. Refuses stop (bad_input source.now line (fault.now ∷ word.now ∷ []))) }
 {
     let head = format!(in alloc; "error BadInput {source} {line} {fault} ")?;
@@ -40,7 +46,14 @@ fn with_word(head: String, word: &[u8]) -> Result<Vec<u8>, NoMemory>
 }
 
 /// A count that differs: what is said, and what was found.
-pub fn counted_fault(alloc: Global, source: &str, line: u64, fault: &str, said: u64, found: u64) -> Result<Stop, NoMemory>
+pub fn counted_fault(
+    alloc: Global,
+    source: &str,
+    line: u64,
+    fault: &str,
+    said: u64,
+    found: u64,
+) -> Result<Stop, NoMemory>
     ensures { IfOk result (λ stop. Refuses stop (bad_input source.now line (fault.now ∷ decimal said ∷ decimal found ∷ []))) }
 {
     let text = format!(in alloc; "error BadInput {source} {line} {fault} {said} {found}\n")?;
@@ -66,7 +79,12 @@ pub fn number_word(fault: NumberFault) -> &'static str
     }
 }
 
-fn number_fault(alloc: Global, source: &str, line: u64, fault: NumberFault) -> Result<Stop, NoMemory>
+fn number_fault(
+    alloc: Global,
+    source: &str,
+    line: u64,
+    fault: NumberFault,
+) -> Result<Stop, NoMemory>
     ensures { IfOk result (λ stop. Refuses stop (bad_input source.now line (codes "BadNumber" ∷ number_fault fault ∷ []))) }
 {
     let word = number_word(fault);

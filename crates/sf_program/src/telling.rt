@@ -99,7 +99,13 @@ fn stored_cert(alloc: Global, cert: &Cert, name: &str) -> Result<Vec<Store>, NoM
 }
 
 /// The placement's store where its name is given.
-fn push_placed(alloc: Global, stores: &mut Vec<Store>, design: &Design, spots: &[Spot], names: Names<'_>) -> Result<(), NoMemory>
+fn push_placed(
+    alloc: Global,
+    stores: &mut Vec<Store>,
+    design: &Design,
+    spots: &[Spot],
+    names: Names<'_>,
+) -> Result<(), NoMemory>
     requires one_each { length spots.now ≡ block_count design.now }
     requires scale { IsScale names.scale }
     ensures { IfOk result (λ done. stored_in stores.new.items ≡ stored_in stores.old.items ++ placed design.now names.entry.scale (text_of names.entry.pl) spots.now) }
@@ -112,7 +118,14 @@ fn push_placed(alloc: Global, stores: &mut Vec<Store>, design: &Design, spots: &
 }
 
 /// What is told of a certificate without a plan.
-pub fn tell_none(alloc: Global, design: &Design, cert: &Cert, said: Outcome, decided_count: u64, names: Names<'_>) -> Result<Work, NoMemory>
+pub fn tell_none(
+    alloc: Global,
+    design: &Design,
+    cert: &Cert,
+    said: Outcome,
+    decided_count: u64,
+    names: Names<'_>,
+) -> Result<Work, NoMemory>
     requires none { cert.now.plan ≡ None }
     requires decided { decided_count ≡ decided cert.now.tags }
     ensures told { IfOk result (λ w. IsTold design.now names.entry.scale names.entry.cert.now (text_of names.entry.pl) said cert.now None (stored_in w.stores.items) w.text.items) }
@@ -137,7 +150,15 @@ pub fn tell_none(alloc: Global, design: &Design, cert: &Cert, said: Outcome, dec
 }
 
 /// What is told of a certificate with its plan.
-pub fn tell_plan(alloc: Global, design: &Design, cert: &Cert, expr: Expr, said: Outcome, decided_count: u64, names: Names<'_>) -> Result<Work, NoMemory>
+pub fn tell_plan(
+    alloc: Global,
+    design: &Design,
+    cert: &Cert,
+    expr: Expr,
+    said: Outcome,
+    decided_count: u64,
+    names: Names<'_>,
+) -> Result<Work, NoMemory>
     requires plan { cert.now.plan ≡ Some expr }
     requires fits { HasCost design.now expr cert.now.cost }
     requires blocks { cert.now.blocks ≡ block_count design.now }
