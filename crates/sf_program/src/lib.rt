@@ -14,6 +14,8 @@ mod refusals;
 mod spotting;
 mod stop;
 mod telling;
+#[cfg(test)]
+mod tests;
 mod work;
 
 pub use program::run;
