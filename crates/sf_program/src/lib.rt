@@ -1,4 +1,9 @@
-//! The floorplanner as one call.
+//! The floorplanner as one call: `run` takes the words, a shelf of files, a sink and a gate, does what the words ask
+//! for, and ends with a status. It stands on every crate below. A command is worked out as stages one after another,
+//! each of which gives a value or the refusal that ends the call; what is stored and printed is made before anything is
+//! stored. The program crate, which holds `main` alone, uses the clauses of `run`: the answer that the words and the
+//! texts on the shelf have is stored and printed whole, a fault is told only where one was counted, and where something
+//! failed it is said what was stored and printed.
 #![tactic(auto)]
 
 mod budget;

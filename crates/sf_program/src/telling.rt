@@ -171,9 +171,10 @@ pub fn tell_plan(
     let mut stores = stored_cert(alloc, cert, names.cert)?;
     push_placed(alloc, &mut stores, design, &measured.spots, names)?;
     let (width, height) = measured.size;
+    let cost = cert.cost;
     let report = Report {
         word: said,
-        cost: cert.cost,
+        cost,
         bound: cert.bound,
         decided: decided_count,
         size: (width, height),
