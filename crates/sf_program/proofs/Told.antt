@@ -6,7 +6,10 @@ use Rattle.sf_node.specs.declared.task.Task.{Task}
 use Rattle.sf_polish.specs.declared.expr.Expr.{Expr}
 use Rattle.sf_certificate.specs.declared.cert.Cert.{Cert}
 use Rattle.sf_certificate.specs.Valid.{least}
+use Rattle.sf_certificate.proofs.Floor.{certificate-floor}
+use Rattle.sf_checker.proofs.Answered.{answered}
 use Rattle.sf_standard.specs.Standard.{standard}
+use Rattle.sf_standard.proofs.Soundness.{standard_is_sound}
 use Rattle.sf_search_core.specs.Outcome.{opening}
 use Rattle.sf_rounds.specs.Turns.{turns}
 use Rattle.sf_pl_writer.specs.declared.report.Outcome.{Outcome}
@@ -32,6 +35,8 @@ module _ {E : Type 0} (design : Design) (budget scale : ℕ) (name : List ℕ) (
   told-answered (Ok w) told status = record {
     cert = cert;
     searched = searched;
+    floor = certificate-floor design (standard design) cert (standard_is_sound design) searched.valid;
+    accepted = λ answer answered_so. (answered design (standard design) cert answer answered_so).1 searched.valid;
     said = said;
     ending = ending;
     status_is = status;

@@ -1,5 +1,5 @@
 -- What the command `plan` answers.
-use Rattle.std.specs.Prelude.{◌≡◌, ◌⊎◌, ℕ, ◌+◌, ◌*◌, ◌/◌, ◌<◌, ◌≤◌, ⊤, min, nat_lt, List, [], ◌∷◌, length, codes, if◌then◌else◌, Option, Some, None, Result, Ok, Err}
+use Rattle.std.specs.Prelude.{◌≡◌, ◌⊎◌, ℕ, ◌+◌, ◌*◌, ◌/◌, ◌<◌, ◌≤◌, ⊤, min, nat_lt, List, [], ◌∷◌, length, codes, if◌then◌else◌, Option, Some, None, Result, Ok, Err, true}
 use Rattle.sf_io.specs.Outside.{Contents}
 use Rattle.sf_io.specs.declared.status.Status.{Status}
 use Rattle.sf_io.specs.declared.status.Status.TheVariants.{Done, NoneFits, Open}
@@ -9,6 +9,7 @@ use Rattle.sf_model.specs.declared.raw.Parts.{Parts}
 use Rattle.sf_model.specs.declared.TheConstants.{MAX}
 use Rattle.sf_model.specs.Tree.{Tree, width, height, spots_of}
 use Rattle.sf_model.specs.Legal.{block_count}
+use Rattle.sf_model.specs.Cost.{IsFloor}
 use Rattle.sf_model.specs.Wire.{wire}
 use Rattle.sf_polish.specs.declared.expr.Expr.{Expr}
 use Rattle.sf_polish.specs.Postfix.{Spells}
@@ -18,6 +19,8 @@ use Rattle.sf_search_core.specs.Outcome.{opening}
 use Rattle.sf_certificate.specs.declared.cert.Cert.{Cert}
 use Rattle.sf_certificate.specs.Valid.{IsValid, decided}
 use Rattle.sf_certificate.specs.Text.{cert_text}
+use Rattle.sf_checker.specs.declared.answer.Answer.{Answer}
+use Rattle.sf_checker.specs.Answers.{IsAnswer, is_yes}
 use Rattle.sf_rounds.specs.Turns.{turns}
 use Rattle.sf_rounds.specs.Found.{IsCertOf}
 use Rattle.sf_pl_writer.specs.declared.report.Outcome.{Outcome}
@@ -99,6 +102,9 @@ pub record IsSearched (design : Design) (budget : ℕ) (cert : Cert) : Type 0 wh
 pub record IsAnswered (design : Design) (budget scale : ℕ) (cert_name : List ℕ) (pl_name : Option (List ℕ)) (status : Status) (stored : List Stored) (printed : List ℕ) : Type 0 where
   pub cert : Cert
   pub searched : IsSearched design budget cert
+  -- no floorplan that fits costs less than the bound, and the checker says Yes to the certificate
+  pub floor : IsFloor design cert.bound
+  pub accepted : (answer : Answer) → IsAnswer design (standard design) cert answer → is_yes answer ≡ true
   pub said : Outcome
   pub ending : IsEnding cert.cost cert.bound said
   pub status_is : status ≡ status_of said
