@@ -1,0 +1,86 @@
+#!/usr/bin/env python3
+"""Measures the built program: python3 bench/run.py PATH/floorplan [FOLDER]
+
+Each case is a design that this script writes into FOLDER (a temporary one by default), and the words of one run on it.
+The designs follow from a number by a rule of their own: block i is w by h with w and h from 4 to 32, and net j joins
+two blocks, taken one after another from the generator x -> 6364136223846793005 x + 1442695040888963407 mod 2^64, of
+which the upper 31 bits are used. Printed are, per case: processor time, the decided subproblems, decisions per second,
+greatest resident memory, bytes of certificate per decided subproblem, the gap between cost and bound, and, where the
+case asks for it, the time of `check` on the certificate.
+"""
+import os
+import subprocess
+import sys
+import tempfile
+
+#        name               blocks  nets   words                                              check too
+CASES = [
+    ("area-6", 6, 0, ["--nodes", "200000"], False),
+    ("area-7", 7, 0, ["--nodes", "1800000"], True),
+    ("area-20", 20, 0, ["--nodes", "400000"], True),
+    ("area-320", 320, 0, ["--nodes", "1926"], True),
+    ("wire-6", 6, 12, ["--wire-weight", "1", "--nodes", "500000"], True),
+    ("wire-20", 20, 40, ["--wire-weight", "1", "--nodes", "100000"], True),
+    ("wire-100", 100, 200, ["--wire-weight", "1", "--nodes", "19148"], True),
+]
+
+
+def numbers(seed):
+    x = seed
+    while True:
+        x = (6364136223846793005 * x + 1442695040888963407) % 2**64
+        yield x >> 33
+
+
+def write_design(blocks, nets):
+    stream = numbers(blocks)
+    lines = ["UCSC blocks 1.0", "NumSoftRectangularBlocks : 0", "NumHardRectilinearBlocks : %d" % blocks, "NumTerminals : 0"]
+    for i in range(blocks):
+        w, h = 4 + next(stream) % 29, 4 + next(stream) % 29
+        lines.append("b%d hardrectilinear 4 (0, 0) (0, %d) (%d, %d) (%d, 0)" % (i, h, w, h, w))
+    with open("d.blocks", "w") as file:
+        file.write("\n".join(lines) + "\n")
+    lines = ["UCLA nets 1.0", "NumNets : %d" % nets, "NumPins : %d" % (2 * nets)]
+    for _ in range(nets):
+        lines += ["NetDegree : 2", "b%d B" % (next(stream) % blocks), "b%d B" % (next(stream) % blocks)]
+    with open("d.nets", "w") as file:
+        file.write("\n".join(lines) + "\n")
+
+
+def timed(words):
+    process = subprocess.Popen(words, stdout=subprocess.PIPE)
+    out = process.stdout.read().decode()
+    _, status, usage = os.wait4(process.pid, 0)
+    lines = dict(line.split(" ", 1) for line in out.splitlines() if " " in line)
+    return usage.ru_utime + usage.ru_stime, usage.ru_maxrss / 1024, os.waitstatus_to_exitcode(status), lines
+
+
+def gap(lines):
+    if lines.get("cost", "none") == "none":
+        return "no plan"
+    cost, bound = int(lines["cost"]), int(lines["bound"])
+    return "%.1f %%" % (100 * (cost - bound) / cost)
+
+
+def main():
+    program = os.path.abspath(sys.argv[1])
+    os.chdir(sys.argv[2] if len(sys.argv) > 2 else tempfile.mkdtemp())
+    print("| Case | time | decided | decisions per second | memory | certificate per node | gap | check |")
+    print("|---|---|---|---|---|---|---|---|")
+    for name, blocks, nets, words, with_check in CASES:
+        write_design(blocks, nets)
+        design = ["--format", "gsrc", "--blocks", "d.blocks"] + (["--nets", "d.nets"] if nets else [])
+        seconds, memory, status, lines = timed([program, "plan"] + design + words + ["--cert", "d.cert"])
+        if status not in (0, 3):
+            sys.exit("%s ended with status %d" % (name, status))
+        decided = int(lines["decided"])
+        checked = "-"
+        if with_check:
+            weight = words[:2] if nets else []
+            took, _, status, said = timed([program, "check"] + design + weight + ["--cert", "d.cert"])
+            checked = "%.2f s, %s" % (took, said["status"])
+        row = (name, "%.2f s" % seconds, str(decided), "%d" % (decided / seconds), "%d MB" % memory, "%.1f bytes" % (os.path.getsize("d.cert") / decided), gap(lines), checked)
+        print("| " + " | ".join(row) + " |")
+
+
+main()
