@@ -25,6 +25,53 @@ const ONE_CERT: &str =
 const TWO_CERT: &str =
     "slicing-certificate 1\nblocks 2\ncost 15\nbound 15\nplan 0:2x3 1:3x2 *\ntree\nE\nE\nE\nC\nC\nE\nE\nC\nC\n";
 
+const EQUALS: &str =
+    "UCSC blocks 1.0\nNumSoftRectangularBlocks : 0\nNumHardRectilinearBlocks : 2\nNumTerminals : 0\nb0 hardrectilinear 4 (0, 0) (0, 3) (2, 3) (2, 0)\nb1 hardrectilinear 4 (0, 0) (0, 3) (2, 3) (2, 0)\n";
+
+const FIVE: &str =
+    "UCSC blocks 1.0\nNumSoftRectangularBlocks : 0\nNumHardRectilinearBlocks : 5\nNumTerminals : 0\nb0 hardrectilinear 4 (0, 0) (0, 1) (2, 1) (2, 0)\nb1 hardrectilinear 4 (0, 0) (0, 1) (2, 1) (2, 0)\nb2 hardrectilinear 4 (0, 0) (0, 2) (1, 2) (1, 0)\nb3 hardrectilinear 4 (0, 0) (0, 2) (1, 2) (1, 0)\nb4 hardrectilinear 4 (0, 0) (0, 1) (1, 1) (1, 0)\n";
+
+const SQUARES: &str =
+    "UCSC blocks 1.0\nNumSoftRectangularBlocks : 0\nNumHardRectilinearBlocks : 2\nNumTerminals : 0\nb0 hardrectilinear 4 (0, 0) (0, 2) (2, 2) (2, 0)\nb1 hardrectilinear 4 (0, 0) (0, 2) (2, 2) (2, 0)\n";
+
+const JOINED: &str = "UCLA nets 1.0\nNumNets : 1\nNumPins : 2\nNetDegree : 2\nb0 B\nb1 B\n";
+
+const PADDED: &str =
+    "UCSC blocks 1.0\nNumSoftRectangularBlocks : 0\nNumHardRectilinearBlocks : 1\nNumTerminals : 1\nb0 hardrectilinear 4 (0, 0) (0, 2) (2, 2) (2, 0)\np0 terminal\n";
+
+const SOFT: &str =
+    "UCSC blocks 1.0\nNumSoftRectangularBlocks : 1\nNumHardRectilinearBlocks : 0\nNumTerminals : 1\nb0 softrectangular 4 0.5 4\np0 terminal\n";
+
+const TO_PAD: &str = "UCLA nets 1.0\nNumNets : 1\nNumPins : 2\nNetDegree : 2\nb0 B\np0 B\n";
+
+const FAR_PAD: &str = "UCLA pl 1.0\np0 10 0\n";
+
+/// Options of both commands, one of `plan` alone, and the files of blocks, nets and pads.
+const DESIGNS: [(&str, &str, &str, &str, &str); 10] = [
+    ("--fixed", "", ONE, "", ""),
+    ("--shapes 16", "", EQUALS, "", ""),
+    ("--fixed", "", TWO, "", ""),
+    ("--fixed --outline 3x3", "", FIVE, "", ""),
+    ("--fixed --outline 3x4", "", FIVE, "", ""),
+    ("--nets a.nets --wire-weight 1", "", SQUARES, JOINED, ""),
+    (
+        "--nets a.nets --pl a.pl --wire-weight 1",
+        "",
+        PADDED,
+        TO_PAD,
+        FAR_PAD,
+    ),
+    (
+        "--nets a.nets --pl a.pl --wire-weight 10",
+        "",
+        SOFT,
+        TO_PAD,
+        FAR_PAD,
+    ),
+    ("--shapes 16", " --nodes 3", EQUALS, "", ""),
+    ("--shapes 16", " --nodes 5", EQUALS, "", ""),
+];
+
 /// What a run is given, and what it answers, stores and prints.
 #[derive(Clone, Copy)]
 struct Case {
@@ -143,14 +190,19 @@ fn shelf_of(alloc: Global, case: &Case) -> Result<MemShelf, Fail> {
     Ok(shelf)
 }
 
+fn words_of(alloc: Global, text: &str) -> Result<Vec<String>, Fail> {
+    let mut words = Vec::new(alloc);
+    for word in text.split(' ') {
+        words.push(String::from_str(alloc, word)?)?;
+    }
+    Ok(words)
+}
+
 #[test]
 fn answers_what_it_stores_and_prints(rt: HostRuntime) -> Result<(), Fail> {
     let alloc = rt.alloc();
     for case in &CASES {
-        let mut words = Vec::new(alloc);
-        for word in case.words.split(' ') {
-            words.push(String::from_str(alloc, word)?)?;
-        }
+        let words = words_of(alloc, case.words)?;
         let mut shelf = shelf_of(alloc, case)?;
         let mut out = MemSink::new(alloc, only(alloc, case.failing_put)?);
         let status = run(&rt, alloc, &words, &mut shelf, &mut out, &OpenGate);
@@ -158,6 +210,40 @@ fn answers_what_it_stores_and_prints(rt: HostRuntime) -> Result<(), Fail> {
         assert_eq!(rt; out.bytes(), case.printed.as_bytes());
         let stored = shelf.bytes("a.cert").unwrap_or(b"");
         assert_eq!(rt; stored, case.cert.as_bytes());
+    }
+    Ok(())
+}
+
+#[test]
+fn checks_what_it_stores(rt: HostRuntime) -> Result<(), Fail> {
+    let alloc = rt.alloc();
+    for (options, budget, blocks, nets, pl) in DESIGNS {
+        let mut shelf = MemShelf::new(alloc, Vec::new(alloc));
+        shelf.add("a.blocks", blocks.as_bytes())?;
+        shelf.add("a.nets", nets.as_bytes())?;
+        shelf.add("a.pl", pl.as_bytes())?;
+        let files = "--format gsrc --blocks a.blocks --cert a.cert";
+        let plan = format!(in alloc; "plan {files} {options}{budget}")?;
+        let check = format!(in alloc; "check {files} {options}")?;
+        let mut out = MemSink::new(alloc, Vec::new(alloc));
+        run(
+            &rt,
+            alloc,
+            &words_of(alloc, plan.as_str())?,
+            &mut shelf,
+            &mut out,
+            &OpenGate,
+        );
+        assert!(rt; shelf.bytes("a.cert").is_some());
+        let answer = run(
+            &rt,
+            alloc,
+            &words_of(alloc, check.as_str())?,
+            &mut shelf,
+            &mut out,
+            &OpenGate,
+        );
+        assert_eq!(rt; answer, Status::Done);
     }
     Ok(())
 }
