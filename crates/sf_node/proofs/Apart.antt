@@ -1,12 +1,12 @@
 -- No plan belongs to two children of a subproblem by extending.
-use Rattle.std.proofs.Common.{◌≡◌, ◌≢◌, ℕ, suc, ◌+◌, ◌<◌, ◌≤◌, List, [], ◌∷◌, ◌++◌, length, map, take, length-append, arith, refl, ap, sym, subst, ◌∙◌, Bool, true, false}
+use Rattle.std.proofs.Common.{◌≡◌, ℕ, ◌+◌, ◌<◌, ◌≤◌, List, [], ◌∷◌, ◌++◌, length, map, take, length-append, arith, refl, ap, sym, subst, ◌∙◌, Bool, true, false}
 use Rattle.std.proofs.lemmas.List.{append_cancel_left}
 use Rattle.std.specs.Prelude.{filter, AllPairs}
 use Rattle.std.specs.List.{AllByRecursion, range_with_len}
 use Rattle.sf_model.specs.declared.design.Design.{Design}
 use Rattle.sf_model.specs.Tree.{Tree}
 use Rattle.sf_model.specs.Legal.{block_count}
-use Rattle.sf_model.proofs.Each.{Any-from_recursion, EachPair, EachPair-append, EachPair-map, EachPair-filter, EachPair-range, EachPair-weaker, AllPairs-from_recursion, each-append, each-map, each-filter, each-range, each-weaker}
+use Rattle.sf_model.proofs.Each.{Any-from_recursion, EachPair, EachPair-append, EachPair-map, EachPair-filter, EachPair-range, EachPair-weaker, AllPairs-from_recursion, each-append, each-map, each-filter, each-range}
 use Rattle.sf_polish.specs.declared.expr.Token.{Token}
 use Rattle.sf_polish.specs.declared.expr.Token.TheVariants as token
 use Rattle.sf_polish.specs.Postfix.{postfix}

@@ -1,5 +1,5 @@
 -- The children so far, after the operators and the blocks below k.
-use Rattle.std.proofs.Common.{◌≡◌, ℕ, suc, ◌+◌, ◌≤◌, List, [], ◌∷◌, ◌++◌, map, length, append_assoc, append-nil, arith, refl, ap, sym, subst, ◌∙◌, Bool, true, false, cond}
+use Rattle.std.proofs.Common.{◌≡◌, ℕ, suc, ◌+◌, List, [], ◌∷◌, ◌++◌, map, length, append_assoc, append-nil, arith, refl, ap, sym, ◌∙◌, Bool, true, false, cond}
 use Prim.Native.Nat.{zero}
 use Rattle.std.specs.Prelude.{filter}
 use Rattle.std.specs.List.{range_with_len}
@@ -7,7 +7,7 @@ use Rattle.std.proofs.lemmas.List.{map-append}
 use Rattle.sf_polish.specs.declared.expr.Token.{Token}
 use Rattle.sf_polish.specs.declared.expr.Token.TheVariants as token
 use Rattle.sf_node.specs.Parts.{Parts}
-use Rattle.sf_node.specs.Children.{after, step_of, when, may_join, is_unused, next_tokens, extended}
+use Rattle.sf_node.specs.Children.{after, step_of, when, may_join, is_unused, extended}
 
 abbrev pub tokens_below : Parts → ℕ → List Token
 tokens_below node k =

@@ -1,21 +1,19 @@
 -- A plan of a subproblem belongs to exactly one half of a span that is split.
-use Rattle.std.proofs.Common.{◌≡◌, ℕ, suc, ◌+◌, ◌-◌, ◌/◌, ◌*◌, ◌<◌, ◌≤◌, min, List, [], ◌∷◌, length, take, drop, get_or, All, AllPairs, cond, length-take, length-drop, get_or-take, get_or-drop, arith, refl, ap, sym, subst, ◌∙◌, ◌==◌, Bool, true, false, ◌⊎◌, inl, inr, length-set, get_or-set_same, get_or-set_other}
+use Rattle.std.proofs.Common.{◌≡◌, ℕ, ◌+◌, ◌-◌, ◌<◌, ◌≤◌, min, List, [], ◌∷◌, length, drop, get_or, All, AllPairs, cond, length-take, length-drop, get_or-take, get_or-drop, arith, refl, ap, sym, subst, ◌∙◌, ◌==◌, Bool, ◌⊎◌, inl, inr, get_or-set_same, get_or-set_other}
 use Rattle.std.specs.Prelude.{count_by, Contains, slice_range, slice_index_or, slice_set}
 use Rattle.std.specs.List.{AllByRecursion}
-use Rattle.std.proofs.lemmas.Bool.{cases_eq, cases_lt, eq-eqb, ne_eqb, ltb-true}
+use Rattle.std.proofs.lemmas.Bool.{cases_eq, cases_lt, eq-eqb, ne_eqb}
 use Rattle.std.proofs.lemmas.List.Elements.{recursion_from_All, All-from_recursion}
 use Rattle.std.proofs.lemmas.List.Sums.{sum_by-cons}
 use Rattle.sf_model.specs.declared.design.Design.{Design}
-use Rattle.sf_model.specs.declared.parts.Block.{Block}
 use Rattle.sf_model.specs.declared.parts.Shape.{Shape}
 use Rattle.sf_model.specs.Limits.{IsBefore}
 use Rattle.sf_model.specs.Tree.{Tree, leaves}
 use Rattle.sf_model.specs.Legal.{block_count, shapes_of}
-use Rattle.sf_model.proofs.Each.{Some, Any-from_recursion, EachPair, AllPairs-from_recursion, each-weaker}
-use Rattle.sf_node.specs.declared.step.Step.TheVariants.{Left, Right}
+use Rattle.sf_model.proofs.Each.{Some, Any-from_recursion, AllPairs-from_recursion, each-weaker}
 use Rattle.sf_node.specs.Parts.{Parts}
-use Rattle.sf_node.specs.Subproblem.{Belongs, span_of, is_wide}
-use Rattle.sf_node.specs.Children.{after, middle, split, CanSplit}
+use Rattle.sf_node.specs.Subproblem.{Belongs, span_of}
+use Rattle.sf_node.specs.Children.{middle, split, CanSplit}
 use Rattle.sf_node.specs.Laws.{BelongsToOne}
 
 -- x stands at a place of xs from one number on and before another
@@ -82,7 +80,7 @@ module _ {X : Type 0} (key : X → ℕ) (b : ℕ) where
       ]
 
   -- an element has the key
-  one-has : (P : X → Type 0) (xs : List X) → 1 ≤ count_by (λ y. key y == b) xs → AllByRecursion P xs → (x : X) × (key x ≡ b) × P x
+  pub one-has : (P : X → Type 0) (xs : List X) → 1 ≤ count_by (λ y. key y == b) xs → AllByRecursion P xs → (x : X) × (key x ≡ b) × P x
   one-has P [] h a = absurd (omega arith)
   one-has P (x ∷ xs) h a =
       elim (cases_eq (key x) b) [
@@ -105,7 +103,7 @@ not-both xs from m to x apart s t =
     let below = same.1 refl in
     omega arith
 
-each-both : {X : Type 0} (P Q R : X → Type 0) → ((x : X) → P x → Q x → R x) → (xs : List X) → AllByRecursion P xs → AllByRecursion Q xs → AllByRecursion R xs
+pub each-both : {X : Type 0} (P Q R : X → Type 0) → ((x : X) → P x → Q x → R x) → (xs : List X) → AllByRecursion P xs → AllByRecursion Q xs → AllByRecursion R xs
 each-both P Q R f [] p q = tt
 each-both P Q R f (x ∷ xs) p q = (f x p.0 q.0, each-both P Q R f xs p.1 q.1)
 

@@ -7,3 +7,5 @@ pub mod Grown
 pub mod Depth
 pub mod Normalised
 pub mod Spanned
+pub mod Spelled
+pub mod Begun

@@ -1,6 +1,6 @@
 -- The tokens of a complete subproblem are normal.
-use Rattle.std.proofs.Common.{◌≡◌, ℕ, suc, ◌+◌, ◌-◌, ◌*◌, ◌<◌, ◌≤◌, List, [], ◌∷◌, ◌++◌, length, length-set, length-append, arith, refl, ap, sym, subst, ◌∙◌, ◌==◌, Bool, true, false, cond, not, ◌⊎◌, inl, inr}
-use Rattle.std.specs.Prelude.{count_by, IsFalse, nat_le, nat_lt, ◌&&◌}
+use Rattle.std.proofs.Common.{◌≡◌, ℕ, ◌+◌, ◌-◌, ◌*◌, ◌<◌, ◌≤◌, List, [], ◌∷◌, ◌++◌, length, length-set, arith, refl, ap, sym, subst, ◌∙◌, ◌==◌, Bool, true, false, cond, not, inl, inr}
+use Rattle.std.specs.Prelude.{count_by, IsFalse, nat_le, nat_lt}
 use Rattle.std.specs.List.{AllByRecursion}
 use Rattle.std.proofs.lemmas.Bool.{and_parts, not_from_true, lt-ltb, leb-true, eqb-true, ne_eqb, eq-eqb, cases_eq, true≢false}
 use Rattle.std.proofs.lemmas.List.{length-map}
@@ -18,8 +18,8 @@ use Rattle.sf_polish.proofs.Normality.{Reads-first, Reads-ballot, alternates, nu
 use Rattle.sf_node.specs.declared.step.Step.{Step}
 use Rattle.sf_node.specs.declared.step.Step.TheVariants.{Beside, Above, Block, Left, Right}
 use Rattle.sf_node.specs.Parts.{Parts}
-use Rattle.sf_node.specs.Subproblem.{root, span_of, is_complete}
-use Rattle.sf_node.specs.Children.{may_join, is_unused, after, middle, CanStep, CanWalk, walk, IsSubproblem}
+use Rattle.sf_node.specs.Subproblem.{root, is_complete}
+use Rattle.sf_node.specs.Children.{may_join, is_unused, after, CanStep, CanWalk, walk, IsSubproblem}
 
 -- what holds of the tokens of each subproblem
 pub record IsBegun (blocks : ℕ) (tokens : List Token) : Type 0 where

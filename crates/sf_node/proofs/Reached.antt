@@ -1,7 +1,7 @@
 -- Each child of a subproblem of the design is one, and each skewed floorplan belongs to the root.
-use Rattle.std.proofs.Common.{◌≡◌, ℕ, suc, ◌+◌, ◌-◌, ◌<◌, ◌≤◌, List, [], ◌∷◌, ◌++◌, length, map, take, drop, get_or, All, length-set, arith, refl, ap, sym, subst, ◌∙◌, ◌==◌, Bool, true, false}
+use Rattle.std.proofs.Common.{◌≡◌, ℕ, suc, ◌+◌, ◌<◌, ◌≤◌, List, [], ◌∷◌, ◌++◌, length, map, length-set, arith, refl, ap, sym, subst, ◌∙◌, Bool, true, false}
 use Prim.Native.Nat.{zero}
-use Rattle.std.specs.Prelude.{Contains, slice_range, slice_index_or, filter, IsTrue}
+use Rattle.std.specs.Prelude.{Contains, slice_range, filter}
 use Rattle.std.specs.List.{AllByRecursion, range_with_len}
 use Rattle.std.proofs.lemmas.List.{get_or-map, length-map}
 use Rattle.std.proofs.lemmas.Bool.{cond_both}
@@ -13,7 +13,7 @@ use Rattle.sf_model.specs.Legal.{IsLegal, block_count, shapes_of}
 use Rattle.sf_model.proofs.Each.{each-append, each-map, each-weaker}
 use Rattle.sf_polish.specs.declared.expr.Token.{Token}
 use Rattle.sf_polish.specs.declared.expr.Token.TheVariants as token
-use Rattle.sf_polish.specs.Postfix.{IsSkewed, postfix}
+use Rattle.sf_polish.specs.Postfix.{IsSkewed}
 use Rattle.sf_node.specs.declared.step.Step.{Step}
 use Rattle.sf_node.specs.declared.step.Step.TheVariants.{Beside, Above, Block, Left, Right}
 use Rattle.sf_node.specs.Parts.{Parts}

@@ -1,5 +1,5 @@
 -- How subproblems branch, and which subproblems a design has.
-use Rattle.std.specs.Prelude.{◌≡◌, ℕ, zero, suc, ◌+◌, ◌-◌, ◌/◌, ◌<◌, List, [], ◌∷◌, ◌++◌, length, map, filter, count_by, Bool, true, false, ◌&&◌, not, ◌==◌, nat_le, nat_lt, IsTrue, IsFalse, slice_set, ⊤}
+use Rattle.std.specs.Prelude.{◌≡◌, ℕ, ◌+◌, ◌/◌, ◌<◌, List, [], ◌∷◌, ◌++◌, length, map, filter, count_by, Bool, true, false, ◌&&◌, not, ◌==◌, nat_le, nat_lt, IsTrue, slice_set, ⊤}
 use Rattle.std.specs.List.{range_with_len}
 use Rattle.sf_model.specs.declared.design.Design.{Design}
 use Rattle.sf_polish.specs.declared.expr.Token.{Token}
@@ -8,7 +8,7 @@ use Rattle.sf_polish.specs.Normal.{operands, operators, is_block, ends_in}
 use Rattle.sf_node.specs.declared.step.Step.{Step}
 use Rattle.sf_node.specs.declared.step.Step.TheVariants.{Beside, Above, Block, Left, Right}
 use Rattle.sf_node.specs.Parts.{Parts}
-use Rattle.sf_node.specs.Subproblem.{root, span_of, is_complete, is_wide}
+use Rattle.sf_node.specs.Subproblem.{root, span_of, is_wide}
 
 -- whether an operator may come next: the stack has two items, and the last token is another one
 abbrev pub may_join : Token → List Token → Bool

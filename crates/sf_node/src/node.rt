@@ -165,6 +165,13 @@ impl Node {
         &self.tokens
     }
 
+    /// The span of each block, by number.
+    pub fn spans(&self) -> &[(u16, u16)]
+        ensures { result.now ≡ self.now.spans }
+    {
+        &self.spans
+    }
+
     pub fn span(&self, block: u16) -> (u16, u16)
         requires { block < length self.now.spans }
         ensures { result ≡ span_of self.now block }

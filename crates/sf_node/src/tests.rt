@@ -1,0 +1,114 @@
+//! Two hard blocks, and the plan with the one beside the other.
+
+ghost use Rattle.std.specs.Prelude.{◌≡◌, ◌∷◌, [], IfOk};
+ghost use Rattle.sf_model.specs.Legal.{IsLegal};
+ghost use Rattle.sf_model.specs.Tree.{tree_of};
+ghost use Rattle.sf_polish.specs.Postfix.{IsSkewed};
+ghost use Rattle.sf_node.specs.Children.{IsSubproblem};
+
+use crate::{Node, Step, belongs};
+use sf_model::{
+    Block, BlockList, Design, Name, NetList, Outline, PadList, Plan, Shape, Shapes, Weights,
+};
+use sf_polish::Token;
+use std::alloc::{AllocError, Global};
+use std::test::Fail;
+
+fn block(alloc: Global, shape: Shape) -> Result<Block, AllocError>
+    ensures { IfOk result (λ b. b.shapes ≡ shape ∷ []) }
+{
+    Ok(Block {
+        name: Name::new(alloc, b"b")?,
+        shapes: Shapes::from_vec(vec![in alloc; shape]?),
+    })
+}
+
+/// A block 2x3 and a block 3x2 by area alone, and the plan with the first beside the second.
+fn two_blocks(alloc: Global) -> Result<(Design, Plan), AllocError>
+    ensures legal { IfOk result (λ both. IsLegal both.0 (tree_of both.1)) }
+    ensures skewed { IfOk result (λ both. IsSkewed (tree_of both.1)) }
+{
+    let narrow = Shape { w: 2, h: 3 };
+    let flat = Shape { w: 3, h: 2 };
+    let first = block(alloc, narrow)?;
+    let second = block(alloc, flat)?;
+    let left = Box::new(alloc, Plan::Leaf(0, narrow))?;
+    let right = Box::new(alloc, Plan::Leaf(1, flat))?;
+    let design = Design {
+        blocks: BlockList::from_vec(vec![in alloc; first, second]?),
+        pads: PadList::from_vec(Vec::new(alloc)),
+        nets: NetList::from_vec(Vec::new(alloc)),
+        outline: Outline {
+            w: 1_048_576,
+            h: 1_048_576,
+        },
+        weights: Weights { area: 1, wire: 0 },
+    };
+    Ok((design, Plan::Beside(left, right)))
+}
+
+/// The child with one more token at this place, or the subproblem itself where none stands there.
+fn child(node: &Node, design: &Design, place: usize) -> Result<Node, AllocError>
+    requires { IsSubproblem design.now node.now }
+    ensures { IfOk result (IsSubproblem design.now) }
+{
+    let mut children = node.extend_children(design)?;
+    if place < children.len() {
+        Ok(children.remove(place))
+    } else {
+        node.copy()
+    }
+}
+
+/// The subproblem that is reached from the root over the children at these places.
+fn node_at(alloc: Global, design: &Design, places: &[usize]) -> Result<Node, AllocError>
+    ensures { IfOk result (IsSubproblem design.now) }
+{
+    let mut node = Node::root(alloc, design)?;
+    for place in places {
+        node = child(&node, design, *place)?;
+    }
+    Ok(node)
+}
+
+/// The subproblem over these places, and whether the plan belongs to it.
+fn belongs_at(alloc: Global, places: &[usize]) -> Result<(Node, bool), AllocError> {
+    let (design, plan) = two_blocks(alloc)?;
+    let node = node_at(alloc, &design, places)?;
+    let answer = belongs(alloc, &plan, &node, &design)?;
+    Ok((node, answer))
+}
+
+#[test]
+fn belongs_along_its_path(rt: HostRuntime) -> Result<(), Fail> {
+    let path = [Token::Block(0), Token::Block(1), Token::Beside];
+    let above = [Token::Block(0), Token::Block(1), Token::Above];
+    let none = [0usize; 0];
+    let rows = [
+        (none.as_slice(), &path[0..0], true),
+        ([0].as_slice(), &path[0..1], true),
+        ([0, 0].as_slice(), &path[0..2], true),
+        ([0, 0, 0].as_slice(), path.as_slice(), true),
+        ([1].as_slice(), &path[1..2], false),
+        ([0, 0, 1].as_slice(), above.as_slice(), false),
+    ];
+    for (places, tokens, answer) in rows {
+        let (node, belongs) = belongs_at(rt.alloc(), places)?;
+        assert_eq!(rt; node.tokens(), tokens);
+        assert_eq!(rt; belongs, answer, "{tokens:?}");
+    }
+    Ok(())
+}
+
+#[test]
+fn copies_all(rt: HostRuntime) -> Result<(), Fail> {
+    let alloc = rt.alloc();
+    let (design, _) = two_blocks(alloc)?;
+    let copy = node_at(alloc, &design, [0, 0, 0].as_slice())?.copy()?;
+    let steps = [Step::Block(0), Step::Block(1), Step::Beside];
+    let tokens = [Token::Block(0), Token::Block(1), Token::Beside];
+    assert_eq!(rt; copy.steps(), steps.as_slice());
+    assert_eq!(rt; copy.tokens(), tokens.as_slice());
+    assert_eq!(rt; copy.spans(), [(0, 1), (0, 1)].as_slice());
+    Ok(())
+}
