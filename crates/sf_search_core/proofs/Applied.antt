@@ -1,15 +1,15 @@
 -- Each accepted event keeps a core state.
-use Rattle.std.proofs.Common.{◌≡◌, ℕ, suc, ◌+◌, ◌<◌, ◌≤◌, min, List, [], ◌∷◌, ◌++◌, map, reverse, length, get_or, All, arith, refl, ap, sym, subst, append-nil, ◌∙◌, Option, Some, None, Result, Ok, Err, ◌⊎◌, inl, inr, Bool, true, false, cond, not, ◌==◌, IsPermutation}
+use Rattle.std.proofs.Common.{◌≡◌, ℕ, suc, ◌<◌, ◌≤◌, List, [], ◌∷◌, ◌++◌, map, reverse, length, arith, refl, ap, sym, subst, append-nil, ◌∙◌, Option, Some, None, Result, Ok, ◌⊎◌, inl, inr, Bool, true, false, cond, not, ◌==◌}
 use Prim.Native.Nat.{zero}
-use Rattle.std.specs.Prelude.{IfOk, IsTrue, slice_get, slice_set, remove, nat_lt, ◌&&◌}
+use Rattle.std.specs.Prelude.{IfOk, slice_get, slice_set, nat_lt, ◌&&◌}
 use Rattle.std.specs.List.{AllByRecursion}
-use Rattle.std.proofs.lemmas.Bool.{cases_Bool, cond-true, cond-false, and_parts, eqb-true, ltb-true, true≢false, true_from_ne_false, cases_lt, lt-ltb}
+use Rattle.std.proofs.lemmas.Bool.{and_parts, eqb-true, ltb-true, true≢false, cases_lt, lt-ltb}
 use Rattle.std.proofs.lemmas.List.Elements.{All-from_recursion, All-nil}
 use Rattle.sf_model.specs.declared.design.Design.{Design}
 use Rattle.sf_node.specs.declared.task.Task.{Task}
 use Rattle.sf_node.specs.Parts.{Parts}
 use Rattle.sf_node.specs.Subproblem.{is_complete, is_solved, is_wide, span_of}
-use Rattle.sf_node.specs.Children.{extended, split, CanSplit, IsSubproblem}
+use Rattle.sf_node.specs.Children.{IsSubproblem}
 use Rattle.sf_node.proofs.Reached.{extended-subproblems, split-subproblems}
 use Rattle.sf_search_core.specs.declared.entry.Kind.TheVariants as kind
 use Rattle.sf_search_core.specs.declared.event.How.{How}

@@ -1,26 +1,24 @@
 -- Each event keeps a core state.
-use Rattle.std.proofs.Common.{◌≡◌, ℕ, suc, ◌+◌, ◌<◌, ◌≤◌, min, List, [], ◌∷◌, ◌++◌, map, reverse, length, get_or, All, append_assoc, append-nil, arith, refl, ap, sym, subst, ◌∙◌, Option, Some, None, ◌⊎◌, inl, inr, ⊎_elim, IsPermutation}
+use Rattle.std.proofs.Common.{◌≡◌, ℕ, suc, ◌<◌, ◌≤◌, min, List, [], ◌∷◌, ◌++◌, map, reverse, length, get_or, All, append_assoc, append-nil, arith, refl, ap, sym, subst, ◌∙◌, Option, Some, None, ◌⊎◌, inl, inr, IsPermutation}
 use Prim.Native.Nat.{zero}
-use Rattle.std.specs.Prelude.{Any, Contains, IsTrue, IsFalse, remove, slice_get, slice_set}
+use Rattle.std.specs.Prelude.{Any, IsTrue, remove, slice_get, slice_set}
 use Rattle.std.specs.List.{filter_map, flat_map}
 use Rattle.std.proofs.lemmas.Bool.{cases_lt}
 use Rattle.std.proofs.lemmas.Grind.{flat_map-append}
 use Rattle.std.proofs.lemmas.List.{map-append}
 use Rattle.std.proofs.lemmas.List.Elements.{All-append, All-head, All-push, All-tail, All-weaker}
-use Rattle.std.proofs.lemmas.List.Sorted.{IsPermutation-refl, IsPermutation-sym, IsPermutation-trans, IsPermutation-cons, IsPermutation-middle, IsPermutation-append, IsPermutation-append_left, IsPermutation-append_right, IsPermutation-append_comm, IsPermutation-map, IsPermutation-remove, IsPermutation-reverse, All-permutation, Contains-permutation}
+use Rattle.std.proofs.lemmas.List.Sorted.{IsPermutation-refl, IsPermutation-sym, IsPermutation-trans, IsPermutation-cons, IsPermutation-middle, IsPermutation-append_left, IsPermutation-append_right, IsPermutation-append_comm, IsPermutation-map, IsPermutation-remove, IsPermutation-reverse, All-permutation, Contains-permutation}
 use Rattle.sf_model.specs.declared.design.Design.{Design}
 use Rattle.sf_model.specs.declared.TheConstants.{MAX}
 use Rattle.sf_node.specs.declared.task.Task.{Task}
 use Rattle.sf_node.specs.Parts.{Parts}
-use Rattle.sf_node.specs.Subproblem.{root, is_complete, is_solved}
-use Rattle.sf_node.specs.Children.{extended, split, CanSplit, IsSubproblem}
+use Rattle.sf_node.specs.Subproblem.{root, is_solved}
+use Rattle.sf_node.specs.Children.{IsSubproblem}
 use Rattle.sf_search_core.specs.declared.entry.Entry.{Entry}
 use Rattle.sf_search_core.specs.declared.entry.Kind.{Kind}
-use Rattle.sf_search_core.specs.declared.entry.Kind.TheVariants as kind
 use Rattle.sf_search_core.specs.State.{State}
 use Rattle.sf_search_core.specs.Conserved.{IsConserved, IsDecided, branched, children}
-use Rattle.sf_search_core.specs.Core.{IsCoreState, IsFound, held_tasks, undecided}
-use Rattle.sf_search_core.specs.Events.{tasks}
+use Rattle.sf_search_core.specs.Core.{IsCoreState}
 
 abbrev tasks_in : List (Option Task) → List Task
 tasks_in held = filter_map (λ h. h) held

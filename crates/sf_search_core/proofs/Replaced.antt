@@ -1,8 +1,8 @@
 -- What a Replace answers, by the tests that it passes.
-use Rattle.std.proofs.Common.{◌≡◌, ℕ, suc, ◌+◌, ◌<◌, ◌≤◌, List, [], ◌∷◌, ◌++◌, map, reverse, length, get_or, append_assoc, arith, refl, ap, sym, subst, ◌∙◌, Option, Some, None, Result, Ok, Err, Bool, true, false, cond, not}
+use Rattle.std.proofs.Common.{◌≡◌, ℕ, suc, ◌<◌, ◌≤◌, List, [], ◌∷◌, ◌++◌, map, reverse, length, get_or, append_assoc, arith, refl, ap, sym, subst, ◌∙◌, Option, Some, None, Result, Ok, Err, true, false, cond, not, ◌⊎◌, inl, inr}
 use Prim.Native.Nat.{zero}
 use Rattle.std.specs.Prelude.{IfOk, slice_set, slice_get, nat_lt}
-use Rattle.std.proofs.lemmas.Bool.{lt-ltb, cond-true, cond-false, cases_Bool}
+use Rattle.std.proofs.lemmas.Bool.{lt-ltb, cond-true, cond-false}
 use Rattle.std.proofs.lemmas.List.{length-map, reverse-append}
 use Rattle.sf_model.specs.declared.design.Design.{Design}
 use Rattle.sf_node.specs.declared.task.Task.{Task}
@@ -17,7 +17,7 @@ use Rattle.sf_search_core.specs.declared.entry.Entry.{Entry}
 use Rattle.sf_search_core.specs.State.{State}
 use Rattle.sf_search_core.specs.Conserved.{branched}
 use Rattle.sf_search_core.specs.Core.{IsCoreState}
-use Rattle.sf_search_core.specs.Events.{held_in, held_by, kind_of, may_branch, tasks, replace, applied, AreBounds, CanCome, Answers}
+use Rattle.sf_search_core.specs.Events.{held_in, held_by, kind_of, may_branch, tasks, replace, applied, AreBounds, AreChildren, CanCome, IsBranching, Answers}
 use Rattle.sf_search_core.proofs.Kept.{held-valued}
 use Rattle.sf_search_core.proofs.Applied.{held-some, applied-kept}
 
@@ -49,48 +49,85 @@ module _ (state : State) (worker : ℕ) (way : How) (value : ℕ) (costs : List 
     pub replace-done : may_branch way task.node ≡ true → replace state worker way value costs held ≡ Ok (replaced state worker way value costs task)
     replace-done h = ap (replace state worker way value costs) e ∙ stale-passed _ _ ∙ below-passed _ _ ∙ cond-false _ _ _ (ap not h)
 
-pub costs-many : (bound : Parts → ℕ) (state : State) (worker : ℕ) (way : How) (value : ℕ) (costs : List ℕ) (task : Task) → CanCome bound state (Replace worker way value costs) → held_by state worker ≡ Some task → state.word ≤ value → task.bound < value → may_branch way task.node ≡ true → length (branched (kind_of way) task.node) ≡ length costs
-costs-many bound state worker way value costs task can e fresh below may =
-    let good = subst (λ r. IfOk r (λ (next : State). AreBounds bound way costs (held_by state worker))) (replace-done state worker way value costs (held_by state worker) task e fresh below may) can.1 in
-    let same = subst (AreBounds bound way costs) e good in
+pub replace-branching : (state : State) (worker : ℕ) (way : How) (value : ℕ) (costs : List ℕ) (task : Task) → IsBranching state worker way value task → replace state worker way value costs (held_by state worker) ≡ Ok (replaced state worker way value costs task)
+replace-branching state worker way value costs task b = replace-done state worker way value costs (held_by state worker) task b.held b.fresh b.below b.may
+
+pub costs-many : (bound : Parts → ℕ) (state : State) (worker : ℕ) (way : How) (value : ℕ) (costs : List ℕ) (task : Task) → CanCome bound state (Replace worker way value costs) → IsBranching state worker way value task → length (branched (kind_of way) task.node) ≡ length costs
+costs-many bound state worker way value costs task can b =
+    let good = subst (λ r. IfOk r (λ (next : State). AreBounds bound way costs (held_by state worker))) (replace-branching state worker way value costs task b) can.1 in
+    let same = subst (AreBounds bound way costs) b.held good in
     sym (length-map (branched (kind_of way) task.node) bound) ∙ sym (ap length same)
 
 pub held_by-subproblem : (design : Design) (bound : Parts → ℕ) (state : State) (worker : ℕ) (task : Task) → IsCoreState design bound state → held_by state worker ≡ Some task → IsSubproblem design task.node
 held_by-subproblem design bound state worker task core e = (held-valued design bound state worker task (held-some _ task e) core).0
 
-tasks-push : (ns : List Parts) (cs : List ℕ) (n : Parts) (c : ℕ) → length ns ≡ length cs → tasks (ns ++ n ∷ []) (cs ++ c ∷ []) ≡ tasks ns cs ++ record { node = n; bound = c } ∷ []
-tasks-push [] [] n c e = refl
-tasks-push [] (d ∷ cs) n c e = absurd (omega (arith, e))
-tasks-push (m ∷ ns) [] n c e = absurd (omega (arith, e))
-tasks-push (m ∷ ns) (d ∷ cs) n c e = ap (λ z. record { node = m; bound = d } ∷ z) (tasks-push ns cs n c (omega (arith, e)))
+pub nodes-of_tasks : (ns : List Parts) (cs : List ℕ) → length ns ≡ length cs → map (λ (child : Task). child.node) (tasks ns cs) ≡ ns
+nodes-of_tasks [] [] e = refl
+nodes-of_tasks [] (c ∷ cs) e = absurd (omega (arith, e))
+nodes-of_tasks (n ∷ ns) [] e = absurd (omega (arith, e))
+nodes-of_tasks (n ∷ ns) (c ∷ cs) e = ap (λ z. n ∷ z) (nodes-of_tasks ns cs (omega (arith, e)))
 
--- the last child and the last bound go to the end of the open tasks
-pub put-one : (waiting : List Task) (ns ns' : List Parts) (cs cs' : List ℕ) (n : Parts) (c : ℕ) → ns ≡ ns' ++ n ∷ [] → cs ≡ cs' ++ c ∷ [] → length ns' ≡ length cs' → waiting ++ reverse (tasks ns cs) ≡ (waiting ++ record { node = n; bound = c } ∷ []) ++ reverse (tasks ns' cs')
-put-one waiting ns ns' cs cs' n c e f same =
-    let t : Task = record { node = n; bound = c } in
-    ap (λ z. waiting ++ reverse (tasks z cs)) e ∙ ap (λ z. waiting ++ reverse (tasks (ns' ++ n ∷ []) z)) f ∙ ap (λ z. waiting ++ reverse z) (tasks-push ns' cs' n c same) ∙ ap (λ z. waiting ++ z) (reverse-append (tasks ns' cs') (t ∷ [])) ∙ sym (append_assoc waiting (t ∷ []) (reverse (tasks ns' cs')))
+pub bounds-of_tasks : (ns : List Parts) (cs : List ℕ) → length ns ≡ length cs → map (λ (child : Task). child.bound) (tasks ns cs) ≡ cs
+bounds-of_tasks [] [] e = refl
+bounds-of_tasks [] (c ∷ cs) e = absurd (omega (arith, e))
+bounds-of_tasks (n ∷ ns) [] e = absurd (omega (arith, e))
+bounds-of_tasks (n ∷ ns) (c ∷ cs) e = ap (λ z. c ∷ z) (bounds-of_tasks ns cs (omega (arith, e)))
+
+tasks-again : (ts : List Task) → tasks (map (λ child. child.node) ts) (map (λ child. child.bound) ts) ≡ ts
+tasks-again [] = refl
+tasks-again (t ∷ ts) = ap (λ z. t ∷ z) (tasks-again ts)
+
+-- the children of the held task, from their subproblems and bounds
+pub children-are : (state : State) (worker : ℕ) (way : How) (value : ℕ) (children : List Task) (task : Task) → IsBranching state worker way value task → AreChildren way children (held_by state worker) → tasks (branched (kind_of way) task.node) (map (λ child. child.bound) children) ≡ children
+children-are state worker way value children task b are =
+    let nodes = subst (AreChildren way children) b.held are b.may in
+    ap (λ ns. tasks ns (map (λ child. child.bound) children)) (sym nodes) ∙ tasks-again children
+
+-- the last child goes to the end of the open tasks
+pub put-last : (waiting children rest : List Task) (last : Task) → children ≡ rest ++ last ∷ [] → (waiting ++ last ∷ []) ++ reverse rest ≡ waiting ++ reverse children
+put-last waiting children rest last e =
+    append_assoc waiting (last ∷ []) (reverse rest) ∙ ap (λ z. waiting ++ z) (sym (reverse-append rest (last ∷ []))) ∙ ap (λ z. waiting ++ reverse z) (sym e)
+
+-- a refused event changes nothing
+pub answers-refused : (meant : Result State Refusal) (old new : State) (why : Refusal) → meant ≡ Err why → new ≡ old → Answers meant old (Err why) new
+answers-refused meant old new refusal.NoMemory m e = e
+answers-refused meant old new refusal.NoPlace m e = (m, e)
+answers-refused meant old new refusal.NotHeld m e = (m, e)
+answers-refused meant old new (refusal.Stale x y) m e = (m, e)
+answers-refused meant old new (refusal.NotBelow x y) m e = (m, e)
+answers-refused meant old new (refusal.NotAtLeast x y) m e = (m, e)
+answers-refused meant old new refusal.NoStep m e = (m, e)
+answers-refused meant old new (refusal.NotCost x y) m e = (m, e)
+
+-- what is answered is what the event means, or nothing is changed
+pub made-or-same : (meant : Result State Refusal) (old : State) (result : Result Unit Refusal) (new : State) → Answers meant old result new → (meant ≡ Ok new) ⊎ (new ≡ old)
+made-or-same meant old (Ok done) new a = inl a
+made-or-same meant old (Err refusal.NoMemory) new a = inr a
+made-or-same meant old (Err refusal.NoPlace) new a = inr a.1
+made-or-same meant old (Err refusal.NotHeld) new a = inr a.1
+made-or-same meant old (Err (refusal.Stale x y)) new a = inr a.1
+made-or-same meant old (Err (refusal.NotBelow x y)) new a = inr a.1
+made-or-same meant old (Err (refusal.NotAtLeast x y)) new a = inr a.1
+made-or-same meant old (Err refusal.NoStep) new a = inr a.1
+made-or-same meant old (Err (refusal.NotCost x y)) new a = inr a.1
 
 -- what is answered keeps a core state
 pub answers-core : (design : Design) (bound : Parts → ℕ) (old : State) (event : Event) (result : Result Unit Refusal) (new : State) → Answers (applied design old event) old result new → IsCoreState design bound old → CanCome bound old event → IsCoreState design bound new
-answers-core design bound old event (Ok done) new a core can = applied-kept design bound old new event core can a
-answers-core design bound old event (Err refusal.NoMemory) new a core can = subst (IsCoreState design bound) (sym a) core
-answers-core design bound old event (Err refusal.NoPlace) new a core can = subst (IsCoreState design bound) (sym a.1) core
-answers-core design bound old event (Err refusal.NotHeld) new a core can = subst (IsCoreState design bound) (sym a.1) core
-answers-core design bound old event (Err (refusal.Stale x y)) new a core can = subst (IsCoreState design bound) (sym a.1) core
-answers-core design bound old event (Err (refusal.NotBelow x y)) new a core can = subst (IsCoreState design bound) (sym a.1) core
-answers-core design bound old event (Err (refusal.NotAtLeast x y)) new a core can = subst (IsCoreState design bound) (sym a.1) core
-answers-core design bound old event (Err refusal.NoStep) new a core can = subst (IsCoreState design bound) (sym a.1) core
-answers-core design bound old event (Err (refusal.NotCost x y)) new a core can = subst (IsCoreState design bound) (sym a.1) core
+answers-core design bound old event result new a core can =
+    elim (made-or-same (applied design old event) old result new a) [
+      | inl made ↦ applied-kept design bound old new event core can made
+      | inr same ↦ subst (IsCoreState design bound) (sym same) core
+    ]
 
-in_list : (held : List (Option Task)) (w : ℕ) (o : Option Task) (t : Task) → w < length held → o ≡ get_or held w o → o ≡ Some t → held_in (slice_get held w) ≡ Some t
-in_list [] w o t h e f = absurd (omega arith)
-in_list (x ∷ held) zero o t h e f = sym e ∙ f
-in_list (x ∷ held) (suc w) o t h e f = in_list held w o t (omega arith) e f
+in_list : (held : List (Option Task)) (w : ℕ) (o : Option Task) → w < length held → o ≡ get_or held w o → held_in (slice_get held w) ≡ o
+in_list [] w o h e = absurd (omega arith)
+in_list (x ∷ held) zero o h e = sym e
+in_list (x ∷ held) (suc w) o h e = in_list held w o (omega arith) e
 
 -- what is read at the worker's place is what it holds
-pub held-at : (state s : State) (w v : ℕ) (o : Option Task) (t : Task) → s ≡ state → v ≡ w → w < length state.held → o ≡ get_or s.held v o → o ≡ Some t → held_by state w ≡ Some t
-held-at state s w v o t view same h e f =
-    in_list state.held w o t h (subst (λ (x : State). o ≡ get_or x.held w o) view (subst (λ i. o ≡ get_or s.held i o) same e)) f
+pub held-at : (state s : State) (w v : ℕ) (o : Option Task) → s ≡ state → v ≡ w → w < length state.held → o ≡ get_or s.held v o → held_by state w ≡ o
+held-at state s w v o view same h e =
+    in_list state.held w o h (subst (λ (x : State). o ≡ get_or x.held w o) view (subst (λ i. o ≡ get_or s.held i o) same e))
 
 pub replaced-is : (state s : State) (worker : ℕ) (way : How) (value : ℕ) (costs : List ℕ) (task : Task) (waiting : List Task) (held : List (Option Task)) (entries : List Entry) → s ≡ state → waiting ≡ s.waiting ++ reverse (tasks (branched (kind_of way) task.node) costs) → held ≡ slice_set s.held worker None → entries ≡ s.entries ++ record { node = task.node; kind = kind_of way; value = value } ∷ [] → replaced state worker way value costs task ≡ record { waiting = waiting; held = held; entries = entries; word = s.word }
 replaced-is state s worker way value costs task waiting held entries view a b d =

@@ -1,13 +1,12 @@
 -- The states of the machine and its steps.
-use Rattle.std.specs.Prelude.{◌≡◌, ℕ, zero, suc, ◌<◌, ◌≤◌, min, List, [], ◌∷◌, ◌++◌, map, reverse, All, Any, ◌⊎◌, IsTrue, IsFalse, Option, Some, None, slice_get, slice_set, remove, zip}
+use Rattle.std.specs.Prelude.{◌≡◌, ℕ, ◌≤◌, List, [], ◌∷◌, ◌++◌, map, All, Any, ◌⊎◌, IsTrue}
 use Rattle.std.specs.List.{filter_map}
 use Rattle.sf_model.specs.declared.design.Design.{Design}
 use Rattle.sf_model.specs.declared.TheConstants.{MAX}
 use Rattle.sf_node.specs.declared.task.Task.{Task}
 use Rattle.sf_node.specs.Parts.{Parts}
-use Rattle.sf_node.specs.Subproblem.{root, is_complete, is_solved}
-use Rattle.sf_node.specs.Children.{extended, split, CanSplit, IsSubproblem}
-use Rattle.sf_search_core.specs.declared.entry.Entry.{Entry}
+use Rattle.sf_node.specs.Subproblem.{root, is_solved}
+use Rattle.sf_node.specs.Children.{IsSubproblem}
 use Rattle.sf_search_core.specs.State.{State}
 use Rattle.sf_search_core.specs.Conserved.{IsConserved}
 

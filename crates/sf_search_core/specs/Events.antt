@@ -1,12 +1,10 @@
 -- What each event does to the state, or why it is refused.
-use Rattle.std.specs.Prelude.{◌≡◌, ◌<◌, ⊤, ℕ, List, [], ◌∷◌, ◌++◌, length, map, min, reverse, remove, Bool, ◌&&◌, not, ◌==◌, nat_lt, if◌then◌else◌, Option, Some, None, Result, Ok, Err, IfOk, slice_get, slice_set}
+use Rattle.std.specs.Prelude.{◌≡◌, ◌<◌, ◌≤◌, ⊤, IsTrue, ℕ, List, [], ◌∷◌, ◌++◌, length, map, min, reverse, remove, Bool, ◌&&◌, not, ◌==◌, nat_lt, if◌then◌else◌, Option, Some, None, Result, Ok, Err, IfOk, slice_get, slice_set}
 use Rattle.sf_model.specs.declared.design.Design.{Design}
 use Rattle.sf_node.specs.declared.task.Task.{Task}
 use Rattle.sf_node.specs.Parts.{Parts}
 use Rattle.sf_node.specs.Subproblem.{root, is_complete, is_solved, is_wide, span_of}
-use Rattle.sf_node.specs.Children.{extended, split}
 use Rattle.sf_model.specs.declared.TheConstants.{MAX}
-use Rattle.sf_search_core.specs.declared.entry.Entry.{Entry}
 use Rattle.sf_search_core.specs.declared.entry.Kind.{Kind}
 use Rattle.sf_search_core.specs.declared.entry.Kind.TheVariants as kind
 use Rattle.sf_search_core.specs.declared.event.How.{How}
@@ -35,6 +33,10 @@ abbrev pub may_branch : How → Parts → Bool
 may_branch how.Extend node = not (is_complete node)
 may_branch (how.Split b) node = nat_lt b (length node.spans) && is_wide (span_of node b)
 
+-- a subproblem with its bound
+abbrev pub task_of : Parts × ℕ → Task
+task_of p = record { node = p.0; bound = p.1 }
+
 -- the children with their bounds
 abbrev pub tasks : List Parts → List ℕ → List Task
 tasks [] costs = []
@@ -59,6 +61,13 @@ replace state worker way value costs (Some task) =
       held = slice_set state.held worker None;
       entries = state.entries ++ record { node = task.node; kind = kind_of way; value = value } ∷ [];
     })))
+
+-- the worker holds this task, and it may be replaced: the value read is not below the word, the bound is below the value, and it may branch so
+pub record IsBranching (state : State) (worker : ℕ) (way : How) (value : ℕ) (task : Task) : Type 0 where
+  pub held : held_by state worker ≡ Some task
+  pub fresh : state.word ≤ value
+  pub below : task.bound < value
+  pub may : IsTrue (may_branch way task.node)
 
 -- the worker's task becomes a closed entry
 abbrev pub close : State → ℕ → ℕ → Option Task → Result State Refusal
@@ -92,6 +101,11 @@ start design bound idle = record { waiting = record { node = root design; bound 
 abbrev pub AreBounds : (Parts → ℕ) → How → List ℕ → Option Task → Type 0
 AreBounds bound way costs None = ⊤
 AreBounds bound way costs (Some task) = costs ≡ map bound (branched (kind_of way) task.node)
+
+-- where a worker's task may branch so, the subproblems of these tasks are its children
+abbrev pub AreChildren : How → List Task → Option Task → Type 0
+AreChildren way children None = ⊤
+AreChildren way children (Some task) = IsTrue (may_branch way task.node) → map (λ child. child.node) children ≡ branched (kind_of way) task.node
 
 abbrev pub CanCome : (Parts → ℕ) → State → Event → Type 0
 CanCome bound state (Take worker place) = worker < length state.held

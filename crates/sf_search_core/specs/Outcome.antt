@@ -1,11 +1,10 @@
 -- The machine after a list of events, and what it then tells of a design's floorplans.
-use Rattle.std.specs.Prelude.{◌≡◌, ⊤, ℕ, ◌≤◌, min, List, [], ◌∷◌, ◌++◌, map, replicate, ◌⊎◌, Option, None, Result, Ok, Err}
+use Rattle.std.specs.Prelude.{◌≡◌, ⊤, ℕ, min, List, [], ◌∷◌, ◌++◌, map, replicate, ◌⊎◌, None, Result, Ok, Err}
 use Rattle.sf_model.specs.declared.design.Design.{Design}
 use Rattle.sf_model.specs.declared.TheConstants.{MAX}
 use Rattle.sf_model.specs.Tree.{Tree}
 use Rattle.sf_model.specs.Legal.{IsLegal, Fits}
 use Rattle.sf_model.specs.Cost.{cost, IsFloor}
-use Rattle.sf_node.specs.declared.task.Task.{Task}
 use Rattle.sf_node.specs.Parts.{Parts}
 use Rattle.sf_node.specs.Subproblem.{root}
 use Rattle.sf_search_core.specs.declared.event.Event.{Event}

@@ -1,8 +1,9 @@
-ghost use Rattle.std.specs.Prelude.{◌≡◌, ◌++◌, ◌<◌, ◌≤◌, ◌+◌, length, reverse, MatchOption, IfOk, replicate, None, Some, true, vec_len};
+ghost use Rattle.std.specs.Prelude.{◌≡◌, ◌++◌, ◌<◌, ◌≤◌, ◌+◌, ℕ, List, Err, length, reverse, map, MatchOption, MatchResult, IfOk, replicate, None, Some, true, vec_len, zip};
+ghost use Rattle.sf_node.specs.declared.task.Task.{Task};
 ghost use Rattle.std.specs.Vec.{vec_capacity};
 ghost use Rattle.sf_node.specs.Children.{IsSubproblem};
 ghost use Rattle.sf_search_core.specs.Conserved.{branched};
-ghost use Rattle.sf_search_core.specs.Events.{kind_of, may_branch, tasks};
+ghost use Rattle.sf_search_core.specs.Events.{kind_of, may_branch, task_of, tasks};
 
 use crate::entry::{Entry, Kind};
 use crate::event::{Costs, Event, How};
@@ -68,14 +69,39 @@ impl From<How> for Kind {
     }
 }
 
-/// Puts the children with their bounds at the end, the first of them last.
-fn put(waiting: &mut Vec<Task>, mut children: Vec<Node>, mut costs: Vec<u64>)
-    requires room { vec_len waiting.old + vec_len children ≤ vec_capacity waiting.old }
-    requires same { vec_len children ≡ vec_len costs }
-    ensures { waiting.new.items ≡ waiting.old.items ++ reverse (tasks children.items costs.items) }
+/// Each subproblem with its bound.
+fn paired(alloc: Global, nodes: Vec<Node>, costs: Vec<u64>) -> Result<Vec<Task>, NoMemory>
+    ensures { IfOk result (λ paired. paired.items ≡ map task_of (zip nodes.items costs.items)) }
 {
-    while let (Some(node), Some(bound)) = (children.pop(), costs.pop()) {
-        waiting.push_reserved(Task { node, bound });
+    nodes
+        .into_iter()
+        .zip(costs)
+        .map(|(node, bound)| Task { node, bound })
+        .collect(alloc)
+}
+
+/// The children that a way of branching makes, in order, with these bounds.
+fn children_with(
+    design: &Design,
+    node: &Node,
+    how: How,
+    costs: Costs,
+) -> Result<Vec<Task>, NoMemory>
+    requires subproblem { IsSubproblem design.now node.now }
+    requires may { may_branch how node.now ≡ true }
+    ensures { IfOk result (λ children. children.items ≡ tasks (branched (kind_of how) node.now) costs) }
+{
+    let nodes = children(design, node, how)?;
+    paired(node.allocator(), nodes, costs.into_vec())
+}
+
+/// Puts the children at the end, the first of them last.
+fn put(waiting: &mut Vec<Task>, mut children: Vec<Task>)
+    requires { vec_len waiting.old + vec_len children ≤ vec_capacity waiting.old }
+    ensures { waiting.new.items ≡ waiting.old.items ++ reverse children.items }
+{
+    while let Some(child) = children.pop() {
+        waiting.push_reserved(child);
     }
 }
 
@@ -83,7 +109,7 @@ impl Pool {
     ghost use Rattle.std.specs.Prelude.{slice_get};
     ghost use Rattle.sf_node.specs.Subproblem.{root};
     ghost use Rattle.sf_search_core.specs.Core.{IsCoreState};
-    ghost use Rattle.sf_search_core.specs.Events.{applied, take, replace, close, offer, held_by, AreBounds, CanCome, Answers};
+    ghost use Rattle.sf_search_core.specs.Events.{applied, take, replace, close, offer, held_by, AreChildren, CanCome, IsBranching, Answers};
     ghost use Rattle.sf_search_core.specs.Outcome.{opening};
 
     /// The machine at its start: the root is open, and no worker holds a task.
@@ -146,6 +172,26 @@ impl Pool {
         Ok(())
     }
 
+    /// Makes a Replace whose children the caller has made, or refuses it and stays as it is.
+    pub fn branch<V: Values>(
+        &mut self,
+        design: &Design,
+        worker: u16,
+        how: How,
+        value: u64,
+        children: Vec<Task>,
+        values: &V,
+    ) -> Result<(), Refusal>
+        requires core { IsCoreState design.now (V.value values.now design.now) self.old }
+        requires can { CanCome (V.value values.now design.now) self.old (Event.Replace worker how value (map (λ child. child.bound) children.items)) }
+        requires children { AreChildren how children.items (held_by self.old worker) }
+        ensures branched { Answers (applied design.now self.old (Event.Replace worker how value (map (λ child. child.bound) children.items))) self.old result self.new }
+        ensures core { IsCoreState design.now (V.value values.now design.now) self.new }
+    {
+        self.branching(worker, how, value)?;
+        self.turn_into(worker, how, value, children)
+    }
+
     fn replace<V: Values>(
         &mut self,
         design: &Design,
@@ -158,6 +204,18 @@ impl Pool {
         requires core { IsCoreState design.now (V.value values.now design.now) self.old }
         requires can { CanCome (V.value values.now design.now) self.old (Event.Replace worker how value costs) }
         ensures { Answers (replace self.old worker how value costs (held_by self.old worker)) self.old result self.new }
+    {
+        let task = self.branching(worker, how, value)?;
+        let Ok(children) = children_with(design, &task.node, how, costs) else {
+            return Err(Refusal::NoMemory);
+        };
+        self.turn_into(worker, how, value, children)
+    }
+
+    /// The task that the worker holds, where a Replace of it is not refused.
+    fn branching(&self, worker: u16, how: How, value: u64) -> Result<&Task, Refusal>
+        requires { worker < length self.now.held }
+        ensures { MatchResult result (λ task. IsBranching self.now worker how value task.now) (λ why. (costs : List ℕ) → replace self.now worker how value costs (held_by self.now worker) ≡ Err why) }
     {
         let worker = usize::from(worker);
         let Some(task) = &self.held[worker] else {
@@ -172,16 +230,30 @@ impl Pool {
         if !may_branch(how, &task.node) {
             return Err(Refusal::NoStep);
         }
-        let Ok(children) = children(design, &task.node, how) else {
-            return Err(Refusal::NoMemory);
-        };
+        Ok(task)
+    }
+
+    /// Turns the worker's task into these children and an entry.
+    fn turn_into(
+        &mut self,
+        worker: u16,
+        how: How,
+        value: u64,
+        children: Vec<Task>,
+    ) -> Result<(), Refusal>
+        requires worker { worker < length self.old.held }
+        requires branching { (task : Task) × IsBranching self.old worker how value task }
+        requires children { AreChildren how children.items (held_by self.old worker) }
+        ensures { Answers (replace self.old worker how value (map (λ child. child.bound) children.items) (held_by self.old worker)) self.old result self.new }
+    {
+        let worker = usize::from(worker);
         if self.open.reserve(children.len()).is_err() || self.entries.reserve(1).is_err() {
             return Err(Refusal::NoMemory);
         }
         let Some(task) = self.held[worker].take() else {
             unreachable!()
         };
-        put(&mut self.open, children, costs.into_vec());
+        put(&mut self.open, children);
         self.entries.push_reserved(Entry {
             node: task.node,
             kind: Kind::from(how),

@@ -1,0 +1,10 @@
+-- Subproblems and bounds, paired one by one.
+use Rattle.std.proofs.Common.{◌≡◌, ℕ, List, [], ◌∷◌, map, refl, ap}
+use Rattle.std.specs.Prelude.{zip}
+use Rattle.sf_node.specs.Parts.{Parts}
+use Rattle.sf_search_core.specs.Events.{task_of, tasks}
+
+pub zip_tasks : (ns : List Parts) (cs : List ℕ) → map task_of (zip ns cs) ≡ tasks ns cs
+zip_tasks [] cs = refl
+zip_tasks (n ∷ ns) [] = refl
+zip_tasks (n ∷ ns) (c ∷ cs) = ap (λ z. record { node = n; bound = c } ∷ z) (zip_tasks ns cs)
