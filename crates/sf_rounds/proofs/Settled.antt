@@ -23,9 +23,9 @@ use Rattle.sf_search_core.specs.declared.event.How.TheVariants as how
 use Rattle.sf_search_core.specs.declared.refusal.Refusal.{Refusal}
 use Rattle.sf_search_core.specs.State.{State}
 use Rattle.sf_search_core.specs.Conserved.{branched}
-use Rattle.sf_search_core.specs.Events.{held_in, held_by, applied, take, close, offer, replace, kind_of, may_branch, tasks, AreBounds, CanCome}
+use Rattle.sf_search_core.specs.Events.{held_in, held_by, applied, take, close, offer, replace, kind_of, may_branch, tasks, AreBounds, AreChildren, CanCome}
 use Rattle.sf_search_core.specs.Outcome.{next_of, after_event, after_events}
-use Rattle.sf_search_core.proofs.Replaced.{replaced, replace-done}
+use Rattle.sf_search_core.proofs.Replaced.{replaced, replace-done, nodes-of_tasks}
 use Rattle.sf_model.specs.Legal.{block_count}
 use Rattle.sf_polish.specs.Text.{IsWritable}
 use Rattle.sf_certificate.specs.Valid.{HasCost}
@@ -134,6 +134,20 @@ module _ (design : Design) (bound : Parts → ℕ) (state : State) where
   pub extended-made : (made : List Task) (costs : List ℕ) → costs ≡ map (λ task. task.bound) made → Decides design bound (held_by state 0) state.word (Extended made) → after_event design state (Replace 0 how.Extend state.word costs) ≡ after_events design state (settling design bound (held_by state 0) state.word)
   extended-made made costs e d =
       ap (λ cs. after_event design state (Replace 0 how.Extend state.word cs)) e ∙ sym (ap (after_events design state) (extended-at (held_by state 0) made state.word d).1)
+
+-- the tasks of the decision are the children that the event makes
+module _ (design : Design) (bound : Parts → ℕ) where
+  pub extended-children : (held : Option Task) (made : List Task) (value : ℕ) → Decides design bound held value (Extended made) → AreChildren how.Extend made held
+  extended-children None made value d = absurd d
+  extended-children (Some t) made value d = λ may.
+      let nodes = extended t.node in
+      ap (map (λ (child : Task). child.node)) d.children ∙ nodes-of_tasks nodes (map bound nodes) (sym (length-map nodes bound))
+
+  pub split-children : (held : Option Task) (b : ℕ) (left right : Task) (value : ℕ) → Decides design bound held value (Split b left right) → AreChildren (how.Split b) (left ∷ right ∷ []) held
+  split-children None b left right value d = absurd d
+  split-children (Some t) b left right value d = λ may.
+      let nodes = split t.node b in
+      ap (map (λ (child : Task). child.node)) d.halves ∙ nodes-of_tasks nodes (map bound nodes) (sym (length-map nodes bound))
 
 pub if-ok : {X E : Type 0} (r : Result X E) (P Q : X → Type 0) → ((x : X) → P x → Q x) → IfOk r P → IfOk r Q
 if-ok (Ok x) P Q f p = f x p

@@ -1,6 +1,6 @@
 ghost use Rattle.std.specs.Prelude.{◌≡◌, ◌∷◌, [], ◌<◌, ◌-◌, length, map, IfOk, IsOk, IsTrue, MatchOption, Some, None};
 ghost use Rattle.sf_search_core.specs.Core.{IsCoreState};
-ghost use Rattle.sf_search_core.specs.Events.{applied, held_by, CanCome};
+ghost use Rattle.sf_search_core.specs.Events.{applied, held_by, AreChildren, CanCome};
 ghost use Rattle.sf_search_core.specs.Outcome.{after_event, after_events};
 ghost use Rattle.sf_rounds.specs.Turns.{settling, turn};
 ghost use Rattle.sf_rounds.specs.Run.{IsIdle, IsBest, Decides, IsTurned};
@@ -9,8 +9,8 @@ use sf_bounds::{Bounds, Room};
 use sf_model::Design;
 use sf_node::{Task, Values};
 use sf_polish::expr::Expr;
-use sf_search_core::{Costs, Event, How, Pool, Refusal};
-use sf_worker::{Decision, Tasks, decide};
+use sf_search_core::{Event, How, Pool, Refusal};
+use sf_worker::{Decision, decide};
 use std::alloc::{AllocError as NoMemory, Global};
 
 /// Makes a step that the machine doesn't refuse but for want of memory.
@@ -33,20 +33,27 @@ fn accept<V: Values>(
     }
 }
 
-fn bounds_of(alloc: Global, tasks: &[Task]) -> Result<Costs, NoMemory>
-    ensures { IfOk result (λ costs. costs ≡ map (λ task. task.bound) tasks.now) }
+/// Replaces the held task by children that are made, where the machine doesn't refuse but for want of memory.
+fn branch<V: Values>(
+    pool: &mut Pool,
+    design: &Design,
+    how: How,
+    value: u64,
+    children: Vec<Task>,
+    values: &V,
+) -> Result<(), NoMemory>
+    requires core { IsCoreState design.now (V.value values.now design.now) pool.old }
+    requires can { CanCome (V.value values.now design.now) pool.old (Event.Replace 0 how value (map (λ child. child.bound) children.items)) }
+    requires children { AreChildren how children.items (held_by pool.old 0) }
+    requires accepted { IsOk (applied design.now pool.old (Event.Replace 0 how value (map (λ child. child.bound) children.items))) }
+    ensures made { IfOk result (λ done. pool.new ≡ after_event design.now pool.old (Event.Replace 0 how value (map (λ child. child.bound) children.items))) }
+    ensures core { IsCoreState design.now (V.value values.now design.now) pool.new }
 {
-    let costs = tasks.iter().map(|task| task.bound).collect(alloc)?;
-    Ok(Costs::new(costs))
-}
-
-fn both(alloc: Global, first: u64, second: u64) -> Result<Costs, NoMemory>
-    ensures { IfOk result (λ costs. costs ≡ first ∷ second ∷ []) }
-{
-    let mut costs = Vec::new(alloc);
-    costs.push(first)?;
-    costs.push(second)?;
-    Ok(Costs::new(costs))
+    match pool.branch(design, 0, how, value, children, values) {
+        Ok(()) => Ok(()),
+        Err(Refusal::NoMemory) => Err(NoMemory),
+        Err(_) => unreachable!(),
+    }
 }
 
 /// Takes the last open task.
@@ -87,22 +94,11 @@ fn settle<B: Bounds>(
             accept(pool, design, Event::Close(0, cost), bounds)
         }
         Decision::Extended(tasks) => {
-            let costs = bounds_of(alloc, tasks.as_slice())?;
-            accept(
-                pool,
-                design,
-                Event::Replace(0, How::Extend, word, costs),
-                bounds,
-            )
+            branch(pool, design, How::Extend, word, tasks.into_vec(), bounds)
         }
         Decision::Split(block, left, right) => {
-            let costs = both(alloc, left.bound, right.bound)?;
-            accept(
-                pool,
-                design,
-                Event::Replace(0, How::Split(block), word, costs),
-                bounds,
-            )
+            let halves = vec![in alloc; left, right]?;
+            branch(pool, design, How::Split(block), word, halves, bounds)
         }
     }
 }
