@@ -1,4 +1,4 @@
-ghost use Rattle.std.specs.Prelude.{◌≡◌, ◌<◌, ◌≤◌, ◌++◌, ◌∷◌, [], length, map, min, All, IfOk, MatchOption, IsPermutation, IsSortedBy};
+ghost use Rattle.std.specs.Prelude.{◌≡◌, ◌<◌, ◌≤◌, ◌++◌, ◌∷◌, [], length, map, min, reverse, All, IfOk, MatchOption, IsPermutation, IsSortedBy};
 ghost use Rattle.std.specs.Ordering.{is_lt};
 ghost use Rattle.sf_model.specs.Legal.{block_count};
 ghost use Rattle.sf_model.specs.declared.TheConstants.{MAX};
@@ -66,18 +66,19 @@ fn tag_of(kind: Kind) -> Tag
     }
 }
 
-/// The entries and the open tasks with their tags.
+/// The entries and the open tasks with their tags, the last task first: a search that always takes the last open task
+/// leaves them in preorder, so that there is nothing to sort.
 fn given_marks(alloc: Global, entries: Vec<Entry>, left: Vec<Task>) -> Result<Vec<Mark>, NoMemory>
-    ensures { IfOk result (λ marks. marks.items ≡ given_marks entries.items left.items) }
+    ensures { IfOk result (λ marks. marks.items ≡ given_marks entries.items (reverse left.items)) }
 {
-    let mut marks = Vec::new(alloc);
+    let mut marks = Vec::with_capacity(alloc, entries.len().saturating_add(left.len()))?;
     for entry in entries {
         marks.push(Mark {
             node: entry.node,
             tag: tag_of(entry.kind),
         })?;
     }
-    for task in left {
+    for task in left.into_iter().rev() {
         marks.push(Mark {
             node: task.node,
             tag: Tag::Open,
