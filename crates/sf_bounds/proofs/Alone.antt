@@ -65,7 +65,7 @@ module _ (design : Design) (node : Parts) (expr : Expr) (tree : Tree) (sub : IsS
       record { at = (span_of node b).0; low = omega arith; high = k.0; within = omega (arith, k.0, k.1); is = get_or_default (shapes_of design b) (span_of node b).0 (first_shape design node b) none (omega (arith, k.0, k.1)) }
 
   -- the plan that the first shapes of the spans spell belongs to the subproblem
-  pub first-belongs : IsSkewed tree → Belongs design node tree
+  first-belongs : IsSkewed tree → Belongs design node tree
   first-belongs skewed =
       let spelled : postfix tree ≡ node.tokens = spells.tokens ∙ tokens in
       listed-belongs design node tree sub complete spelled skewed

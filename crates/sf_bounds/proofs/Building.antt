@@ -1,5 +1,5 @@
 -- The stack's curves are those of the items that the passed tokens leave.
-use Rattle.std.proofs.Common.{◌≡◌, ℕ, ◌+◌, ◌-◌, ◌<◌, ◌≤◌, List, [], ◌∷◌, ◌++◌, length, reverse, map, take, drop, get_or, refl, sym, ap, ◌∙◌, subst, arith, All, AllPairs}
+use Rattle.std.proofs.Common.{◌≡◌, ℕ, ◌+◌, ◌-◌, ◌<◌, ◌≤◌, List, [], ◌∷◌, ◌++◌, length, reverse, map, take, drop, get_or, refl, sym, ap, ◌∙◌, subst, arith, All}
 use Rattle.std.specs.Prelude.{Contains, IsFalse}
 use Rattle.std.specs.List.{AllZip, AllByRecursion}
 use Rattle.std.proofs.lemmas.List.{reverse-append, length_push, drop_more, take_more}
@@ -7,7 +7,6 @@ use Rattle.std.proofs.lemmas.List.Elements.{All-contains, Contains-get_or}
 use Rattle.sf_model.specs.declared.design.Design.{Design}
 use Rattle.sf_model.specs.declared.parts.Shape.{Shape}
 use Rattle.sf_model.specs.Legal.{shapes_of}
-use Rattle.sf_model.specs.Limits.{IsBefore}
 use Rattle.sf_model.specs.Tree.{Tree, Leaf, Beside, Above}
 use Rattle.sf_polish.specs.declared.expr.Token.{Token}
 use Rattle.sf_polish.specs.declared.expr.Token.TheVariants as token
@@ -22,7 +21,8 @@ use Rattle.sf_node.proofs.Spanned.{are-spans}
 use Rattle.sf_curves.specs.Points.{IsWithin, IsNoLarger, IsCovered, IsCurveOf, IsCombination, beside_size, above_size}
 use Rattle.sf_standard.specs.Items as item
 use Rattle.sf_standard.specs.Items.{Item, read, items_of, span_shapes, plans, pairs, fits, fitting}
-use Rattle.sf_bounds.specs.Curves.{HasOperands, IsJoined, IsStep, size_of, IsItemCurve}
+use Rattle.sf_curves.specs.Choices.{AreSpans, size_of}
+use Rattle.sf_bounds.specs.Curves.{HasOperands, IsJoined, IsStep, IsItemCurve}
 use Rattle.sf_standard.proofs.Appended.{read-append, read-block}
 use Rattle.sf_standard.proofs.Listed.{Contains-map, Contains-from_map, Contains-filter, Contains-from_filter, Contains-pairs, Contains-from_pairs}
 use Rattle.sf_standard.proofs.Cutting.{fits-true}
@@ -38,8 +38,11 @@ span_some design node b sub lt = ((are-spans design node sub).each b lt).0
 pub span_inside : (design : Design) (node : Parts) (b : ℕ) → IsSubproblem design node → b < length design.blocks → (span_of node b).1 ≤ length (shapes_of design b)
 span_inside design node b sub lt = ((are-spans design node sub).each b lt).1
 
-pub span_sorted : (design : Design) (b : ℕ) → b < length design.blocks → AllPairs IsBefore (shapes_of design b)
-span_sorted design b lt = (design.limits.shapes b (record { name = []; shapes = [] }) lt).ordered
+-- the same as the crate of curves asks for it
+pub curve_spans : (design : Design) (node : Parts) → IsSubproblem design node → AreSpans design node.spans
+curve_spans design node sub =
+    let k = are-spans design node sub in
+    record { count = k.count; some = λ b lt. (k.each b lt).0; inside = λ b lt. (k.each b lt).1 }
 
 -- a curve of a block
 pub curve-block : (design : Design) (node : Parts) (b : ℕ) (c : List Shape) → IsCurveOf design.outline (span_shapes design node b) c → IsItemCurve design node c (item.Block b)

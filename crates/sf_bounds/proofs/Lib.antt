@@ -20,4 +20,4 @@ pub mod NetParts
 pub mod Alone
 pub mod Solution
 pub mod Born
-pub mod Chosen
+pub mod Rooted

@@ -6,4 +6,3 @@ pub mod Layout
 pub mod Pins
 pub mod Cheapest
 pub mod Only
-pub mod Choice

@@ -48,7 +48,7 @@ fn first_shapes(alloc: Global, design: &Design, node: &Node) -> Result<Vec<Shape
 }
 
 // The tokens of a subproblem, with the first shape of each span.
-pub fn first_expr(alloc: Global, design: &Design, node: &Node) -> Result<Expr, NoMemory>
+fn first_expr(alloc: Global, design: &Design, node: &Node) -> Result<Expr, NoMemory>
     requires { IsSubproblem design.now node.now }
     ensures tokens { IfOk result (λ e. e.tokens ≡ node.now.tokens) }
     ensures shapes { IfOk result (λ e. Tells (first_shape design.now node.now) (length design.now.blocks) e.shapes) }

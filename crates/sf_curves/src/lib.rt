@@ -1,6 +1,19 @@
-//! Shape curves: the undominated sizes of a slicing tree's plans (Stockmeyer 1983). A curve is seen as
-//! the list of its points, widths rising and heights falling. It stands on `sf_model` alone; the bound
-//! uses that each point is a size (`traced`) and that each size in the outline is covered (`covers`).
+//! Shape curves: the undominated sizes of a slicing tree's plans (Stockmeyer 1983).
+//!
+//! A curve is seen as the list of its points, widths rising and heights falling. The crate stands on `sf_model` and on
+//! `sf_polish` for expressions. `root_curve` gives the curve of an expression whose blocks take shapes from spans of
+//! their lists, and `trace` leads from a point of that curve to a plan of just this size. The bound uses of `Curve` that
+//! each point is a size (`traced`) and that each size in the outline is covered (`covers`).
 #![tactic(auto)]
 
 pub mod curve;
+pub mod curve_tree;
+mod root;
+#[cfg(test)]
+mod tests;
+mod tracing;
+
+pub use curve::{Curve, Point};
+pub use curve_tree::block_curve;
+pub use root::root_curve;
+pub use tracing::trace;

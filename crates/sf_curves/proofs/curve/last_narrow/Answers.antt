@@ -1,5 +1,5 @@
 use Rattle.std.proofs.Common.{arith, length, ◌-◌}
-use Rattle.sf_curves.proofs.Trace.{lowest_at}
+use Rattle.sf_curves.proofs.OnCurve.{lowest_at}
 use Rattle.sf_curves.proofs.curve.last_narrow.Goals as goal
 
 pub returns-then-point-limit : goal.returns-then-point-limit

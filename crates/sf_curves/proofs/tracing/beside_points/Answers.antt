@@ -1,5 +1,5 @@
-use Rattle.sf_bounds.proofs.Chosen.{beside_low, beside_small}
-use Rattle.sf_bounds.proofs.choosing.beside_points.Goals as goal
+use Rattle.sf_curves.proofs.Joints.{beside_low, beside_small}
+use Rattle.sf_curves.proofs.tracing.beside_points.Goals as goal
 
 pub narrowest-requires : goal.narrowest-requires
 narrowest-requires c = (beside_low c.args.left.now c.args.right.now c.args.curve.now c.args.point c.requires.joined c.requires.on_curve).0

@@ -1,51 +1,17 @@
 ghost use Rattle.std.specs.Prelude.{◌≡◌, ◌≤◌, length, All, Any, Contains, IfOk};
 ghost use Rattle.sf_model.specs.Tree.{tree_of};
 ghost use Rattle.sf_model.specs.declared.parts.Shape.{Shape};
-ghost use Rattle.sf_polish.specs.Shaping.{HasBlocksBelow};
-ghost use Rattle.sf_node.specs.Children.{IsSubproblem};
-ghost use Rattle.sf_standard.specs.Items.{item_of};
+ghost use Rattle.sf_polish.specs.Normal.{IsNormal};
+ghost use Rattle.sf_curves.specs.Choices.{AreSpans, IsOnRootCurve, IsTraceOf, size_of};
+ghost use Rattle.sf_curves.specs.Forms.{curve_of, IsTraced, IsChosen};
 ghost use Rattle.sf_curves.specs.Points.{IsNarrowest, IsLowest, IsNoLarger, IsJoinOf, beside_size, above_size};
-ghost use Rattle.sf_bounds.specs.Choice.{curve_of, item_in, IsCurveTree, IsTraced, IsChosen};
-ghost use Rattle.sf_bounds.specs.Curves.{size_of};
 
+use crate::curve::{Curve, Point};
 use crate::curve_tree::CurveTree;
-use crate::groups::block_curve;
-use sf_curves::curve::{Curve, Point};
+use crate::root::curves;
 use sf_model::{Design, Plan};
-use sf_node::Node;
+use sf_polish::{Expr, Token, expr_of};
 use std::alloc::{AllocError as NoMemory, Global};
-
-/// The curves of a plan's subtrees, of all plans with its tokens and with shapes from the spans.
-pub fn curve_tree(
-    alloc: Global,
-    design: &Design,
-    node: &Node,
-    plan: &Plan,
-) -> Result<CurveTree, NoMemory>
-    requires subproblem { IsSubproblem design.now node.now }
-    requires blocks { HasBlocksBelow (length design.now.blocks) (tree_of plan.now) }
-    ensures curves { IfOk result (IsCurveTree design.now node.now) }
-    ensures same { IfOk result (λ tree. item_in tree ≡ item_of (tree_of plan.now)) }
-{
-    match plan {
-        Plan::Leaf(block, _) => Ok(CurveTree::Leaf(
-            *block,
-            block_curve(alloc, design, node, *block)?,
-        )),
-        Plan::Beside(left, right) => {
-            let left = curve_tree(alloc, design, node, left)?;
-            let right = curve_tree(alloc, design, node, right)?;
-            let curve = left.curve().beside(alloc, right.curve(), design.outline)?;
-            Ok(CurveTree::Beside(curve, Box::new(alloc, left)?, Box::new(alloc, right)?))
-        }
-        Plan::Above(lower, upper) => {
-            let lower = curve_tree(alloc, design, node, lower)?;
-            let upper = curve_tree(alloc, design, node, upper)?;
-            let curve = lower.curve().above(alloc, upper.curve(), design.outline)?;
-            Ok(CurveTree::Above(curve, Box::new(alloc, lower)?, Box::new(alloc, upper)?))
-        }
-    }
-}
 
 fn narrowest(curve: &Curve, limit: u32) -> Point
     requires { Any (λ q. q.h ≤ limit) curve.now }
@@ -89,9 +55,8 @@ fn above_points(curve: &Curve, lower: &Curve, upper: &Curve, point: Point) -> (P
     (lowest(lower, point.w), lowest(upper, point.w))
 }
 
-/// The plan of a point on the curve of a tree (Stockmeyer 1983): of two rooms side by side each takes its narrowest point
-/// that is no higher than the point, of two rooms one above the other each its lowest that is no wider.
-pub fn sized_plan(alloc: Global, tree: &CurveTree, point: Point) -> Result<Plan, NoMemory>
+// The plan of a point on the curve of a tree.
+fn sized_plan(alloc: Global, tree: &CurveTree, point: Point) -> Result<Plan, NoMemory>
     requires traced { IsTraced tree.now }
     requires on_curve { Contains (curve_of tree.now) point }
     ensures chosen { IfOk result (λ plan. IsChosen tree.now (tree_of plan)) }
@@ -112,4 +77,25 @@ pub fn sized_plan(alloc: Global, tree: &CurveTree, point: Point) -> Result<Plan,
             Ok(Plan::Above(Box::new(alloc, lower)?, Box::new(alloc, upper)?))
         }
     }
+}
+
+/// The plan of a point on the root curve (Stockmeyer 1983): of two rooms side by side each takes its narrowest point that
+/// is no higher than the point of both, of two rooms one above the other each its lowest that is no wider.
+pub fn trace(
+    alloc: Global,
+    design: &Design,
+    tokens: &[Token],
+    spans: &[(u16, u16)],
+    point: Point,
+) -> Result<Expr, NoMemory>
+    requires normal { IsNormal (length design.now.blocks) tokens.now }
+    requires spans { AreSpans design.now spans.now }
+    requires on_curve { IsOnRootCurve design.now tokens.now spans.now point }
+    ensures traced { IfOk result (IsTraceOf design.now tokens.now spans.now point) }
+    ensures tokens { IfOk result (λ expr. expr.tokens ≡ tokens.now) }
+    ensures one_each { IfOk result (λ expr. length expr.shapes ≡ length design.now.blocks) }
+{
+    let tree = curves(alloc, design, tokens, spans)?;
+    let plan = sized_plan(alloc, &tree, point)?;
+    expr_of(alloc, &plan, design.blocks.as_slice().len() as u16)
 }

@@ -1,5 +1,5 @@
-use Rattle.sf_bounds.proofs.Chosen.{above_thin, above_small}
-use Rattle.sf_bounds.proofs.choosing.above_points.Goals as goal
+use Rattle.sf_curves.proofs.Joints.{above_thin, above_small}
+use Rattle.sf_curves.proofs.tracing.above_points.Goals as goal
 
 pub lowest-requires : goal.lowest-requires
 lowest-requires c = (above_thin c.args.lower.now c.args.upper.now c.args.curve.now c.args.point c.requires.joined c.requires.on_curve).0

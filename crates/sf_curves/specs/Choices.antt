@@ -1,0 +1,50 @@
+-- The plans with given tokens and with shapes from given spans, and the curve of their sizes.
+use Rattle.std.specs.Prelude.{◌≡◌, ℕ, ◌<◌, ◌≤◌, List, length, All, AllPairs, Contains, slice_index_or, slice_range}
+use Rattle.sf_model.specs.declared.design.Design.{Design}
+use Rattle.sf_model.specs.declared.parts.Shape.{Shape}
+use Rattle.sf_model.specs.Legal.{block_count, shapes_of}
+use Rattle.sf_model.specs.Tree.{Tree, width, height, leaves}
+use Rattle.sf_polish.specs.declared.expr.Expr.{Expr}
+use Rattle.sf_polish.specs.declared.expr.Token.{Token}
+use Rattle.sf_polish.specs.Postfix.{postfix, Spells}
+use Rattle.sf_curves.specs.Points.{IsBelow, IsWithin, IsCovered}
+
+-- the span of a block: from the first place of its list, and before the second
+abbrev pub span_in : List (ℕ × ℕ) → ℕ → ℕ × ℕ
+span_in spans b = slice_index_or spans b (0, 0)
+
+-- the shapes of a block at the places of its span
+abbrev pub shapes_in : Design → List (ℕ × ℕ) → ℕ → List Shape
+shapes_in design spans b = slice_range (shapes_of design b) (span_in spans b).0 (span_in spans b).1
+
+-- one span for each block, not empty and within the block's list
+pub record AreSpans (design : Design) (spans : List (ℕ × ℕ)) : Type 0 where
+  pub count : length spans ≡ block_count design
+  pub some : (b : ℕ) → b < block_count design → (span_in spans b).0 < (span_in spans b).1
+  pub inside : (b : ℕ) → b < block_count design → (span_in spans b).1 ≤ length (shapes_of design b)
+
+-- a plan with these tokens, and with a shape from the span of each block
+pub record IsChoice (design : Design) (given : List Token) (spans : List (ℕ × ℕ)) (tree : Tree) : Type 0 where
+  pub tokens : postfix tree ≡ given
+  pub shapes : All (λ leaf. Contains (shapes_in design spans leaf.0) leaf.1) (leaves tree)
+
+abbrev pub size_of : Tree → Shape
+size_of tree = record { w = width tree; h = height tree }
+
+-- the undominated sizes of the choices that lie in the outline
+pub record IsRootCurve (design : Design) (tokens : List Token) (spans : List (ℕ × ℕ)) (points : List Shape) : Type 0 where
+  pub falls : AllPairs IsBelow points
+  pub within : All (IsWithin design.outline) points
+  pub traced : All (λ p. (tree : Tree) × IsChoice design tokens spans tree × (size_of tree ≡ p)) points
+  pub covers : (tree : Tree) → IsChoice design tokens spans tree → IsCovered design.outline points (size_of tree)
+
+-- the point is on the root curve, of which there is only one
+abbrev pub IsOnRootCurve : Design → List Token → List (ℕ × ℕ) → Shape → Type 0
+IsOnRootCurve design tokens spans point = (points : List Shape) × IsRootCurve design tokens spans points × Contains points point
+
+-- the expression stands for a choice of just this size
+pub record IsTraceOf (design : Design) (tokens : List Token) (spans : List (ℕ × ℕ)) (point : Shape) (expr : Expr) : Type 0 where
+  pub tree : Tree
+  pub spells : Spells expr tree
+  pub choice : IsChoice design tokens spans tree
+  pub size : size_of tree ≡ point

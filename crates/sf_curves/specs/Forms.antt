@@ -1,0 +1,52 @@
+-- Trees of curves, and the plans that are chosen from them.
+use Rattle.std.specs.Prelude.{◌≡◌, ℕ, List, All, Contains, ⊤}
+use Rattle.sf_model.specs.declared.design.Design.{Design}
+use Rattle.sf_model.specs.declared.parts.Shape.{Shape}
+use Rattle.sf_model.specs.Tree.{Tree, Leaf, Beside, Above}
+use Rattle.sf_polish.specs.Shaping.{no_shape}
+use Rattle.sf_curves.specs.declared.curve_tree.CurveTree.{CurveTree}
+use Rattle.sf_curves.specs.declared.curve_tree.CurveTree.TheVariants as tree
+use Rattle.sf_curves.specs.Choices.{shapes_in}
+use Rattle.sf_curves.specs.Points.{IsCurveOf, IsCombination, IsJoinOf, beside_size, above_size}
+
+-- the plan without its shapes
+abbrev pub form : Tree → Tree
+form (Leaf b s) = Leaf b no_shape
+form (Beside l r) = Beside (form l) (form r)
+form (Above l r) = Above (form l) (form r)
+
+-- the curve of a tree
+abbrev pub curve_of : CurveTree → List Shape
+curve_of (tree.Leaf b c) = c
+curve_of (tree.Beside' c p l q r) = c
+curve_of (tree.Above' c p l q r) = c
+
+-- the tree without its curves
+abbrev pub form_of : CurveTree → Tree
+form_of (tree.Leaf b c) = Leaf b no_shape
+form_of (tree.Beside' c p l q r) = Beside (form_of l) (form_of r)
+form_of (tree.Above' c p l q r) = Above (form_of l) (form_of r)
+
+-- the curve of a leaf is that of its block, and that of a joined tree the combination of the two below
+abbrev pub IsCurveTree : Design → List (ℕ × ℕ) → CurveTree → Type 0
+IsCurveTree design spans (tree.Leaf b c) = IsCurveOf design.outline (shapes_in design spans b) c
+IsCurveTree design spans (tree.Beside' c p l q r) = IsCombination beside_size design.outline (curve_of l) (curve_of r) c × IsCurveTree design spans l × IsCurveTree design spans r
+IsCurveTree design spans (tree.Above' c p l q r) = IsCombination above_size design.outline (curve_of l) (curve_of r) c × IsCurveTree design spans l × IsCurveTree design spans r
+
+-- each point of a joined tree comes from two points below
+abbrev pub IsTraced : CurveTree → Type 0
+IsTraced (tree.Leaf b c) = ⊤
+IsTraced (tree.Beside' c p l q r) = All (IsJoinOf beside_size (curve_of l) (curve_of r)) c × IsTraced l × IsTraced r
+IsTraced (tree.Above' c p l q r) = All (IsJoinOf above_size (curve_of l) (curve_of r)) c × IsTraced l × IsTraced r
+
+-- the plan has the form of the tree, and its shapes are on the curves of the leaves
+abbrev pub IsChosen : CurveTree → Tree → Type 0
+IsChosen (tree.Leaf b c) (Leaf k s) = (k ≡ b) × Contains c s
+IsChosen (tree.Leaf b c) (Beside x y) = ⊥
+IsChosen (tree.Leaf b c) (Above x y) = ⊥
+IsChosen (tree.Beside' c p l q r) (Leaf k s) = ⊥
+IsChosen (tree.Beside' c p l q r) (Beside x y) = IsChosen l x × IsChosen r y
+IsChosen (tree.Beside' c p l q r) (Above x y) = ⊥
+IsChosen (tree.Above' c p l q r) (Leaf k s) = ⊥
+IsChosen (tree.Above' c p l q r) (Beside x y) = ⊥
+IsChosen (tree.Above' c p l q r) (Above x y) = IsChosen l x × IsChosen r y
