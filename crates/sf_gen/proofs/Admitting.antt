@@ -1,0 +1,218 @@
+-- The parts of a generated design may become a design.
+use Rattle.std.proofs.Common.{◌≡◌, ℕ, zero, suc, ◌+◌, ◌*◌, ◌-◌, ◌%◌, ◌<◌, ◌≤◌, ◌^◌, ◌==◌, Bool, true, false, cond, List, [], ◌∷◌, ◌++◌, length, refl, sym, ap, ◌∙◌, inl, inr, arith, lit<}
+use Rattle.std.specs.Prelude.{◌&&◌, ◌||◌, map, min, sum_by, nat_lt, Some, pos}
+use Rattle.std.specs.Fmt.{decimal}
+use Rattle.std.specs.List.{flat_map, list_any}
+use Rattle.std.specs.Str.{bytes_eq}
+use Rattle.std.proofs.lemmas.Bool.{cases_eq}
+use Rattle.std.proofs.lemmas.Bool.Decides.{nat_tests}
+use Rattle.std.proofs.lemmas.Fmt.{decimal_digit, decimal_injective}
+use Rattle.std.proofs.lemmas.List.{length-map}
+use Rattle.std.proofs.lemmas.List.Sums.{sum_by-cons}
+use Rattle.std.proofs.lemmas.Slice.Eq.{bytes_eq-Decides}
+use Rattle.sf_model.specs.declared.fault.BuildFault.{BuildFault}
+use Rattle.sf_model.specs.declared.fault.BuildFault.TheVariants as fault
+use Rattle.sf_model.specs.declared.fault.Limit.{Limit}
+use Rattle.sf_model.specs.declared.fault.Limit.TheVariants as limit
+use Rattle.sf_model.specs.declared.raw.Kind.TheVariants as kind
+use Rattle.sf_model.specs.declared.raw.Parts.{Parts}
+use Rattle.sf_model.specs.declared.raw.RawBlock.{RawBlock}
+use Rattle.sf_model.specs.declared.raw.RawNet.{RawNet}
+use Rattle.sf_model.specs.declared.raw.RawPin.TheVariants.{Named}
+use Rattle.sf_model.specs.Admitted.{first, no_blocks, over, over_counts, over_kind, over_place, over_places, over_limits, block_names, pad_names, is_block_name, repeated, if_both, if_neither, at_pin_name, at_pin_names, at_placed_name, duplicates, unknowns, missing_places, name_faults, IsAdmitted}
+use Rattle.sf_gen.specs.declared.design.Kinds.{Kinds}
+use Rattle.sf_gen.specs.declared.drawn.Ends.{Ends}
+use Rattle.sf_gen.specs.declared.drawn.Size.{Size}
+use Rattle.sf_gen.specs.Designs.{raw_block, raw_blocks, raw_nets, raw_pads, parts_of}
+use Rattle.sf_gen.specs.Drawn.{sizes, ends, net_count}
+use Rattle.sf_gen.specs.Texts.{indexed, is_soft, block_name, pad_name, pins_of, nets_pins, square}
+use Rattle.sf_gen.proofs.BlockLines.{IsSmall, area_high}
+use Rattle.sf_gen.proofs.Counts.{few_nets, length-indexed}
+use Rattle.sf_gen.proofs.EndsDrawn.{IsAmong, each_indexed, ends_among, few_pins, length-nets, length-sizes, sizes_small}
+use Rattle.sf_gen.proofs.TextLines.{Each}
+
+-- ---- no faults at all
+
+neither : {X : Type 0} (a b : List X) → a ≡ [] → b ≡ [] → a ++ b ≡ []
+neither a b p q = rw (p, q) refl
+
+flat_none : {X Y : Type 0} (f : X → List Y) (xs : List X) → Each (λ x. f x ≡ []) xs → flat_map f xs ≡ []
+flat_none f [] h = refl
+flat_none f (x ∷ xs) h = neither (f x) (flat_map f xs) h.0 (flat_none f xs h.1)
+
+within : (quantity : Limit) (most found : ℕ) → found ≤ most → over quantity most found ≡ []
+within quantity most found h = let low : nat_lt most found ≡ false = grind (arith, nat_tests) in rw low refl
+
+-- ---- names
+
+false_of : (b : Bool) → (b ≡ true → ⊥) → b ≡ false
+false_of true h = absurd (h refl)
+false_of false h = refl
+
+differ : (i j : ℕ) → i < j → j < 2 ^ 64 → bytes_eq (decimal i) (decimal j) ≡ false
+differ i j h low =
+    false_of (bytes_eq (decimal i) (decimal j))
+    (λ e. let same = decimal_injective i j (omega arith) low ((bytes_eq-Decides (decimal i) (decimal j)).0 e) in absurd (omega (arith, same)))
+
+module _ (kinds : Kinds) where
+  names_from : ℕ → List Size → List (List ℕ)
+  names_from i sizes = block_names (indexed (raw_block kinds) i sizes)
+
+  later_differs : (i j : ℕ) (sizes : List Size) → i < j → j + length sizes ≤ 1000 → list_any (bytes_eq (block_name i)) (names_from j sizes) ≡ false
+  unfolding names_from
+  later_differs i j [] h low = refl
+  later_differs i j (s ∷ sizes) h low = rw (differ i j h (omega arith)) (later_differs i (j + 1) sizes (omega arith) (omega arith))
+
+  no_repeats : (i : ℕ) (sizes : List Size) → i + length sizes ≤ 1000 → repeated (names_from i sizes) ≡ []
+  unfolding names_from
+  no_repeats i [] low = refl
+  no_repeats i (s ∷ sizes) low = rw (later_differs i (i + 1) sizes (omega arith) (omega arith)) (no_repeats (i + 1) sizes (omega arith))
+
+  or_true : (b : Bool) → (b || true) ≡ true
+  or_true true = refl
+  or_true false = refl
+
+  is_found : (a i : ℕ) (sizes : List Size) → i ≤ a → a < i + length sizes → list_any (bytes_eq (block_name a)) (names_from i sizes) ≡ true
+  unfolding names_from
+  is_found a i [] low high = absurd (omega arith)
+  is_found a i (s ∷ sizes) low high = elim (cases_eq a i) [
+    | inl e ↦ rw ((bytes_eq-Decides (decimal a) (decimal i)).1 (ap decimal e)) refl
+    | inr n ↦ rw (is_found a (i + 1) sizes (omega arith) (omega arith)) (or_true (bytes_eq (decimal a) (decimal i)))
+  ]
+
+  no_pad_is_block : (x : List ℕ) (i : ℕ) (sizes : List Size) → list_any (bytes_eq (112 ∷ x)) (names_from i sizes) ≡ false
+  unfolding names_from
+  no_pad_is_block x i [] = refl
+  no_pad_is_block x i (s ∷ sizes) = no_pad_is_block x (i + 1) sizes
+
+pad_known : (n p : ℕ) → p < 4 → list_any (bytes_eq (pad_name p)) (pad_names (raw_pads n)) ≡ true
+pad_known n zero h = rw (decimal_digit 0 (lit< tt)) refl
+pad_known n (suc zero) h = rw (decimal_digit 1 (lit< tt)) refl
+pad_known n (suc (suc zero)) h = rw (decimal_digit 2 (lit< tt)) refl
+pad_known n (suc (suc (suc zero))) h = rw (decimal_digit 3 (lit< tt)) refl
+pad_known n (suc (suc (suc (suc p)))) h = absurd (omega arith)
+
+-- ---- the names of pins
+
+pin_none : (f : List ℕ → List BuildFault) (pins : List (List ℕ)) → Each (λ name. f name ≡ []) pins → flat_map (at_pin_name f) (map Named pins) ≡ []
+pin_none f [] h = refl
+pin_none f (name ∷ pins) h = neither (f name) (flat_map (at_pin_name f) (map Named pins)) h.0 (pin_none f pins h.1)
+
+nets_none : (f : List ℕ → List BuildFault) (nets : List (List (List ℕ))) → Each (λ pins. Each (λ name. f name ≡ []) pins) nets
+    → at_pin_names f (map (λ pins. record { pins = map Named pins }) nets) ≡ []
+nets_none f [] h = refl
+nets_none f (pins ∷ nets) h =
+    neither (flat_map (at_pin_name f) (map Named pins)) (at_pin_names f (map (λ pins. record { pins = map Named pins }) nets)) (pin_none f pins h.0) (nets_none f nets h.1)
+
+module _ (n : ℕ) (f : List ℕ → List BuildFault) (blocks : (a : ℕ) → a < n → f (block_name a) ≡ []) (pads : (p : ℕ) → p < 4 → f (pad_name p) ≡ []) where
+  pads_none : (b : Bool) (j : ℕ) → Each (λ name. f name ≡ []) (cond b (pad_name (j % 4) ∷ []) [])
+  pads_none true j = (pads (j % 4) (omega arith), tt)
+  pads_none false j = tt
+
+  net_none : (j : ℕ) (e : Ends) → IsAmong n e → Each (λ name. f name ≡ []) (pins_of j e)
+  net_none j e among = (blocks e.a among.first, (blocks e.b among.second, pads_none (j % 3 == 0) j))
+
+  pins_none : (seed : ℕ) → 1 ≤ n → at_pin_names f (raw_nets (ends seed n)) ≡ []
+  pins_none seed low =
+      nets_none f (nets_pins (ends seed n))
+      (each_indexed (IsAmong n) (λ pins. Each (λ name. f name ≡ []) pins) pins_of net_none 0 (ends seed n) (ends_among seed n low))
+
+-- ---- the faults, one kind after another
+
+and_false : (b : Bool) → (b && false) ≡ false
+and_false true = refl
+and_false false = refl
+
+kind_within : (b : Bool) (s : Size) → IsSmall s → over_kind (cond b (kind.Soft (s.w * s.h) 500_000 2_000_000) (kind.Hard s.w s.h)) ≡ []
+kind_within true s f = within limit.Area (2 ^ 40) (s.w * s.h) (omega (arith, area_high s f))
+kind_within false s f = neither (over limit.Side (2 ^ 20) s.w) (over limit.Side (2 ^ 20) s.h) (within limit.Side (2 ^ 20) s.w (omega (arith, f.width))) (within limit.Side (2 ^ 20) s.h (omega (arith, f.height)))
+
+place_within : (x y : ℕ) → x ≤ 1_000_000 → y ≤ 1_000_000 → over_place (Some (pos x, pos y)) ≡ []
+place_within x y low high = neither (over limit.Coordinate (2 ^ 20) x) (over limit.Coordinate (2 ^ 20) y) (within limit.Coordinate (2 ^ 20) x (omega (arith, low))) (within limit.Coordinate (2 ^ 20) y (omega (arith, high)))
+
+pins_counted : (nets : List (List (List ℕ))) → sum_by (λ (n : RawNet). length n.pins) (map (λ pins. record { pins = map Named pins }) nets) ≡ sum_by length nets
+pins_counted [] = refl
+pins_counted (pins ∷ nets) =
+    sum_by-cons (λ (n : RawNet). length n.pins) (record { pins = map Named pins }) (map (λ pins. record { pins = map Named pins }) nets)
+    ∙ ap (λ k. k + sum_by (λ (n : RawNet). length n.pins) (map (λ pins. record { pins = map Named pins }) nets)) (length-map pins Named)
+    ∙ ap (λ k. length pins + k) (pins_counted nets)
+    ∙ sym (sum_by-cons length pins nets)
+
+module _ (kinds : Kinds) (seed n : ℕ) (low : 1 ≤ n) (high : n ≤ 320) where
+  parts : Parts
+  parts = parts_of kinds seed n
+
+  block_count : length (raw_blocks kinds (sizes seed n)) ≡ n
+  block_count = length-indexed (raw_block kinds) 0 (sizes seed n) ∙ length-sizes seed n
+
+  some_block : no_blocks parts ≡ []
+  unfolding parts
+  some_block = let some : (length (raw_blocks kinds (sizes seed n)) == 0) ≡ false = grind (arith, nat_tests, block_count) in rw some refl
+
+  few_counts : over_counts parts ≡ []
+  unfolding parts
+  few_counts =
+      let nets = raw_nets (ends seed n) in
+      let pins = min (sum_by (λ (m : RawNet). length m.pins) nets) (2 ^ 64 - 1) in
+      let net_length : length nets ≡ net_count n = length-map (nets_pins (ends seed n)) _ ∙ length-nets seed n in
+      let a = within limit.Blocks 320 (length (raw_blocks kinds (sizes seed n))) (omega (arith, block_count)) in
+      let b = within limit.Pads 16384 4 (omega arith) in
+      let c = within limit.Nets 65536 (length nets) (omega (arith, net_length, few_nets n high)) in
+      let d = within limit.Pins 1048576 pins (omega (arith, pins_counted (nets_pins (ends seed n)), few_pins seed n high)) in
+      neither _ (over limit.Pins 1048576 pins) (neither _ (over limit.Nets 65536 (length nets)) (neither (over limit.Blocks 320 (length (raw_blocks kinds (sizes seed n)))) (over limit.Pads 16384 4) a b) c) d
+
+  small_kinds : flat_map (λ (b : RawBlock). over_kind b.kind) (raw_blocks kinds (sizes seed n)) ≡ []
+  small_kinds =
+      flat_none (λ (b : RawBlock). over_kind b.kind) (raw_blocks kinds (sizes seed n))
+      (each_indexed IsSmall (λ (b : RawBlock). over_kind b.kind ≡ []) (raw_block kinds) (λ i s f. kind_within (is_soft kinds i) s f) 0 (sizes seed n) (sizes_small seed n))
+
+  near_places : over_places parts ≡ []
+  unfolding parts
+  near_places =
+      let q = square n in
+      let near : q ≤ 1_000_000 = omega (arith, high) in
+      let zero_near : 0 ≤ 1_000_000 = omega arith in
+      flat_none (λ p. over_place p.place) (raw_pads n)
+      (place_within 0 0 zero_near zero_near, (place_within q 0 near zero_near, (place_within 0 q zero_near near, (place_within q q near near, tt))))
+
+  short : 0 + length (sizes seed n) ≤ 1000
+  short = omega (arith, length-sizes seed n)
+
+  not_both : (name : List ℕ) → is_block_name parts name ≡ false → if_both parts name ≡ []
+  not_both name e = rw e refl
+
+  once_each : duplicates parts ≡ []
+  unfolding parts names_from
+  once_each =
+      let f = if_both parts in
+      let not_block = λ (x : List ℕ). not_both (112 ∷ x) (no_pad_is_block kinds x 0 (sizes seed n)) in
+      let of_blocks : (a : ℕ) → a < n → f (block_name a) ≡ [] = λ a h. rw (and_false (is_block_name parts (block_name a))) refl in
+      let of_pads : (p : ℕ) → p < 4 → f (pad_name p) ≡ [] = λ p h. not_block (decimal p) in
+      let names : map fault.DuplicateName (repeated (block_names parts.blocks)) ≡ [] = ap (map fault.DuplicateName) (no_repeats kinds 0 (sizes seed n) short) in
+      let pins : at_pin_names f parts.nets ≡ [] = pins_none n f of_blocks of_pads seed low in
+      let placed : flat_map (at_placed_name f) parts.pads ≡ [] =
+      flat_none (at_placed_name f) parts.pads (not_block (48 ∷ []), (not_block (49 ∷ []), (not_block (50 ∷ []), (not_block (51 ∷ []), tt)))) in
+      neither _ (flat_map (at_placed_name f) parts.pads) (neither _ (at_pin_names f parts.nets) (neither (map fault.DuplicateName (repeated (block_names parts.blocks))) [] names refl) pins) placed
+
+  all_known : unknowns parts ≡ []
+  unfolding parts names_from
+  all_known =
+      let f = if_neither parts in
+      let of_blocks : (a : ℕ) → a < n → f (block_name a) ≡ [] = λ a h. rw (is_found kinds a 0 (sizes seed n) (omega arith) (omega (arith, length-sizes seed n, h))) refl in
+      let of_pads : (p : ℕ) → p < 4 → f (pad_name p) ≡ [] = λ p h. rw (no_pad_is_block kinds (decimal p) 0 (sizes seed n), pad_known n p h) refl in
+      neither (at_pin_names f parts.nets) [] (pins_none n f of_blocks of_pads seed low) refl
+
+  all_placed : missing_places parts ≡ []
+  unfolding parts
+  all_placed = refl
+
+  no_name_faults : name_faults parts ≡ []
+  no_name_faults = neither _ (missing_places parts) (neither (duplicates parts) (unknowns parts) once_each all_known) all_placed
+
+  no_limit_passed : over_limits parts ≡ []
+  unfolding parts
+  no_limit_passed = neither _ (over_places parts) (neither (over_counts parts) (flat_map (λ (b : RawBlock). over_kind b.kind) (raw_blocks kinds (sizes seed n))) few_counts small_kinds) near_places
+
+  pub admitted : IsAdmitted (parts_of kinds seed n)
+  unfolding parts
+  admitted = ap first (neither _ (name_faults parts) (neither (no_blocks parts) (over_limits parts) some_block no_limit_passed) no_name_faults)

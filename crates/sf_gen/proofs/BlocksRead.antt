@@ -1,0 +1,269 @@
+-- The text of the blocks is read again.
+use Rattle.std.proofs.Common.{◌≡◌, ℕ, ◌+◌, ◌*◌, ◌<◌, ◌≤◌, ◌^◌, Bool, true, false, cond, List, [], ◌∷◌, ◌++◌, length, refl, sym, ap, subst, ◌∙◌, arith, append_assoc}
+use Rattle.std.specs.Prelude.{not, map, count_by, None, Ok, codes}
+use Rattle.std.specs.Fmt.{decimal}
+use Rattle.std.specs.List.{AllZip, cons_option, filter_map, flat_map, range_with_len}
+use Rattle.std.proofs.lemmas.List.{append-nil}
+use Rattle.std.proofs.lemmas.List.Elements.{filter_map-append}
+use Rattle.std.proofs.lemmas.List.Sums.{sum_by-cons}
+use Rattle.sf_lex.specs.Scan.{numbered}
+use Rattle.sf_lex.specs.Number.{decimal_read}
+use Rattle.sf_model.specs.declared.raw.Kind.TheVariants as kind
+use Rattle.sf_model.specs.declared.raw.RawBlock.{RawBlock}
+use Rattle.sf_gsrc.specs.declared.count.Count.{Count}
+use Rattle.sf_gsrc.specs.declared.keywords.Counted.{Counted}
+use Rattle.sf_gsrc.specs.declared.keywords.Counted.TheVariants.{Soft, Hard, Terminals}
+use Rattle.sf_gsrc.specs.Blocks.{content_of, is_content_word, is_title, Said, CountIs, ItemIs, Entry, count_at, block_at, pad_at, blocks_in, pads_in, is_soft_kind}
+use Rattle.sf_gsrc.specs.Blocks as blocks
+use Rattle.sf_gsrc.specs.Keywords.{counted_of, form_of}
+use Rattle.sf_gsrc.specs.Line.{BlockIs, PadIs, counted_by, count_said, plain_said}
+use Rattle.sf_gsrc.specs.Standing.{SaysBy, SaysEntry, counts_of, StandsOnce, StandsFor}
+use Rattle.sf_gen.specs.declared.design.Kinds.{Kinds}
+use Rattle.sf_gen.specs.declared.drawn.Size.{Size}
+use Rattle.sf_gen.specs.Designs.{raw_block, raw_blocks, pad_list, blocks_out}
+use Rattle.sf_gen.specs.Texts.{indexed, is_soft, block_name, hard_line, soft_line, block_line, block_lines, blocks_head, soft_count, hard_count}
+use Rattle.sf_gen.proofs.Counts.{all_blocks}
+use Rattle.sf_gen.proofs.TextLines.{Each, IsLines, Reads, none, ended, piece, reads_none, reads_line, reads_both, content_is}
+use Rattle.sf_gen.proofs.TextWords.{decimal_no_feed, number_said}
+use Rattle.sf_gen.proofs.BlockLines.{IsSmall, hard_lines, hard_plain, hard_rest, no_count, name_filled, soft_lines, soft_plain, soft_rest}
+
+-- whatever its number, the line says this
+abbrev SaysHere : List ℕ → Said → Type 0
+SaysHere bytes said = (n : ℕ) → SaysBy 1 (record { number = n; bytes = bytes }) said (counted_by bytes)
+
+-- ---- the lines of the blocks
+
+said_block : RawBlock → Said
+said_block b = ItemIs (BlockIs b)
+
+plain_says : (bytes : List ℕ) (b : RawBlock) → counted_by bytes ≡ None → plain_said 1 bytes ≡ Ok (BlockIs b) → SaysHere bytes (said_block b)
+unfolding said_block
+plain_says bytes b none says n = subst (λ o. SaysBy 1 (record { number = n; bytes = bytes }) (ItemIs (BlockIs b)) o) (sym none) (BlockIs b, says, refl)
+
+module _ (i : ℕ) (s : Size) (h : i < 2 ^ 64) (f : IsSmall s) where
+  by_kind : (b : Bool) → Reads SaysHere (cond b (soft_line i s) (hard_line i s))
+      (said_block (record { name = block_name i; kind = cond b (kind.Soft (s.w * s.h) 500_000 2_000_000) (kind.Hard s.w s.h) }) ∷ [])
+  by_kind true =
+      let bytes : List ℕ = block_name i ++ 32 ∷ soft_rest s in
+      let block : RawBlock = record { name = block_name i; kind = kind.Soft (s.w * s.h) 500_000 2_000_000 } in
+      reads_line SaysHere (soft_line i s) bytes (said_block block) (soft_lines i s h f) (name_filled i h (soft_rest s))
+      (plain_says bytes block (no_count i h (soft_rest s)) (soft_plain i s h f))
+  by_kind false =
+      let bytes : List ℕ = block_name i ++ 32 ∷ hard_rest s in
+      let block : RawBlock = record { name = block_name i; kind = kind.Hard s.w s.h } in
+      reads_line SaysHere (hard_line i s) bytes (said_block block) (hard_lines i s h f) (name_filled i h (hard_rest s))
+      (plain_says bytes block (no_count i h (hard_rest s)) (hard_plain i s h f))
+
+blocks_from : (kinds : Kinds) (i : ℕ) (sizes : List Size) → i + length sizes ≤ 1_000_000 → Each IsSmall sizes
+    → Reads SaysHere (flat_map (λ (line : List ℕ). line) (indexed (block_line kinds) i sizes)) (map said_block (indexed (raw_block kinds) i sizes))
+blocks_from kinds i [] low ok = reads_none SaysHere
+blocks_from kinds i (s ∷ sizes) low ok =
+    reads_both SaysHere (block_line kinds i s) (flat_map (λ (line : List ℕ). line) (indexed (block_line kinds) (i + 1) sizes))
+    (said_block (raw_block kinds i s) ∷ []) (map said_block (indexed (raw_block kinds) (i + 1) sizes))
+    (by_kind i s (omega arith) ok.0 (is_soft kinds i)) (blocks_from kinds (i + 1) sizes (omega arith) ok.1)
+
+-- ---- the lines of the pads
+
+said_pad : List ℕ → Said
+said_pad name = ItemIs (PadIs name)
+
+pad_lines : List ℕ
+pad_lines = codes "p0 terminal\np1 terminal\np2 terminal\np3 terminal\n"
+
+pads_read : Reads SaysHere pad_lines (map said_pad pad_list)
+unfolding pad_lines said_pad counted_of form_of plain_said
+pads_read = record {
+  bytes = codes "p0 terminal" ∷ codes "p1 terminal" ∷ codes "p2 terminal" ∷ codes "p3 terminal" ∷ [];
+  are = piece (codes "p0 terminal") refl (ended (piece (codes "p1 terminal") refl (ended (piece (codes "p2 terminal") refl (ended (piece (codes "p3 terminal") refl (ended none)))))));
+  filled = (refl, (refl, (refl, (refl, tt))));
+  each = (λ n. (PadIs (codes "p0"), refl, refl), (λ n. (PadIs (codes "p1"), refl, refl), (λ n. (PadIs (codes "p2"), refl, refl), (λ n. (PadIs (codes "p3"), refl, refl), tt))));
+}
+
+-- ---- the counts
+
+module _ (d : ℕ) (le : d ≤ 9_000_000_000_000_000) where
+  soft_count_read : Reads SaysHere (codes "NumSoftRectangularBlocks : " ++ (decimal d ++ codes "\n")) (CountIs Soft d ∷ [])
+  unfolding counted_of
+  soft_count_read =
+      reads_line SaysHere (codes "NumSoftRectangularBlocks : " ++ (decimal d ++ codes "\n")) (codes "NumSoftRectangularBlocks : " ++ (decimal d ++ [])) (CountIs Soft d)
+      (piece (codes "NumSoftRectangularBlocks : ") refl (piece (decimal d) (decimal_no_feed d (omega arith)) (ended none))) refl
+      (λ n. (d, number_said (codes "NumSoftRectangularBlocks") d le, refl))
+
+  hard_count_read : Reads SaysHere (codes "NumHardRectilinearBlocks : " ++ (decimal d ++ codes "\n")) (CountIs Hard d ∷ [])
+  unfolding counted_of
+  hard_count_read =
+      reads_line SaysHere (codes "NumHardRectilinearBlocks : " ++ (decimal d ++ codes "\n")) (codes "NumHardRectilinearBlocks : " ++ (decimal d ++ [])) (CountIs Hard d)
+      (piece (codes "NumHardRectilinearBlocks : ") refl (piece (decimal d) (decimal_no_feed d (omega arith)) (ended none))) refl
+      (λ n. (d, number_said (codes "NumHardRectilinearBlocks") d le, refl))
+
+pad_count_read : Reads SaysHere (codes "NumTerminals : 4\n") (CountIs Terminals 4 ∷ [])
+unfolding counted_of count_said decimal_read
+pad_count_read =
+    reads_line SaysHere (codes "NumTerminals : 4\n") (codes "NumTerminals : 4") (CountIs Terminals 4)
+    (piece (codes "NumTerminals : 4") refl (ended none)) refl (λ n. (4, refl, refl))
+
+-- ---- entries
+
+entries : ℕ → List Said → List Entry
+entries n [] = []
+entries n (s ∷ said) = record { number = n; said = s } ∷ entries (n + 1) said
+
+each_entry : (n : ℕ) (bs : List (List ℕ)) (said : List Said) → AllZip SaysHere bs said → AllZip (SaysEntry 1) (numbered n bs) (entries n said)
+unfolding entries
+each_entry n [] [] h = h
+each_entry n [] (s ∷ said) h = absurd h
+each_entry n (b ∷ bs) [] h = absurd h
+each_entry n (b ∷ bs) (s ∷ said) h = ((refl, h.0 n), each_entry (n + 1) bs said h.1)
+
+blocks_of : (n : ℕ) (said : List Said) → blocks_in (entries n said) ≡ filter_map block_at said
+unfolding entries
+blocks_of n [] = refl
+blocks_of n (s ∷ said) = ap (cons_option (block_at s)) (blocks_of (n + 1) said)
+
+pads_of : (n : ℕ) (said : List Said) → pads_in (entries n said) ≡ filter_map pad_at said
+unfolding entries
+pads_of n [] = refl
+pads_of n (s ∷ said) = ap (cons_option (pad_at s)) (pads_of (n + 1) said)
+
+-- what is no count
+abbrev IsItem : Said → Type 0
+IsItem (CountIs k n) = ⊥
+IsItem (ItemIs item) = Unit {0}
+
+no_counts : (which : Counted) (n : ℕ) (said : List Said) → Each IsItem said → counts_of which (entries n said) ≡ []
+unfolding entries
+no_counts which n [] ok = refl
+no_counts which n (CountIs k m ∷ said) ok = absurd ok.0
+no_counts which n (ItemIs item ∷ said) ok = no_counts which (n + 1) said ok.1
+
+all_items : {X : Type 0} (f : X → Said) → ((x : X) → IsItem (f x)) → (xs : List X) (more : List Said) → Each IsItem more → Each IsItem (map f xs ++ more)
+all_items f h [] more ok = ok
+all_items f h (x ∷ xs) more ok = (h x, all_items f h xs more ok)
+
+blocks_kept : (bs : List RawBlock) → filter_map block_at (map said_block bs) ≡ bs
+unfolding said_block
+blocks_kept [] = refl
+blocks_kept (b ∷ bs) = ap (λ l. b ∷ l) (blocks_kept bs)
+
+no_pads : (bs : List RawBlock) → filter_map pad_at (map said_block bs) ≡ []
+unfolding said_block
+no_pads [] = refl
+no_pads (b ∷ bs) = no_pads bs
+
+-- ---- how many are soft
+
+soft_kind : (b : Bool) (a l m w h : ℕ) → is_soft_kind (cond b (kind.Soft a l m) (kind.Hard w h)) ≡ b
+soft_kind true a l m w h = refl
+soft_kind false a l m w h = refl
+
+softness : (kinds : Kinds) (i : ℕ) (s : Size) → blocks.is_soft (raw_block kinds i s) ≡ is_soft kinds i
+softness kinds i s = soft_kind (is_soft kinds i) (s.w * s.h) 500_000 2_000_000 s.w s.h
+
+count_from : (p : Bool → Bool) (kinds : Kinds) (i : ℕ) (sizes : List Size)
+    → count_by (λ b. p (blocks.is_soft b)) (indexed (raw_block kinds) i sizes) ≡ count_by (λ j. p (is_soft kinds j)) (range_with_len i (length sizes))
+count_from p kinds i [] = refl
+count_from p kinds i (s ∷ sizes) =
+    sum_by-cons (λ b. cond (p (blocks.is_soft b)) 1 0) (raw_block kinds i s) (indexed (raw_block kinds) (i + 1) sizes)
+    ∙ ap (λ b. cond (p b) 1 0 + count_by (λ b. p (blocks.is_soft b)) (indexed (raw_block kinds) (i + 1) sizes)) (softness kinds i s)
+    ∙ ap (λ k. cond (p (is_soft kinds i)) 1 0 + k) (count_from p kinds (i + 1) sizes)
+    ∙ sym (sum_by-cons (λ j. cond (p (is_soft kinds j)) 1 0) i (range_with_len (i + 1) (length sizes)))
+
+-- ---- the whole text
+
+module _ (kinds : Kinds) (sizes : List Size) (few : length sizes ≤ 1000) (ok : Each IsSmall sizes) where
+  items : List Said
+  items = map said_block (raw_blocks kinds sizes) ++ map said_pad pad_list
+
+  said_of : List Said
+  said_of = CountIs Soft (soft_count kinds (length sizes)) ∷ CountIs Hard (hard_count kinds (length sizes)) ∷ CountIs Terminals 4 ∷ items
+
+  behind_title : List ℕ
+  behind_title =
+      (codes "NumSoftRectangularBlocks : " ++ (decimal (soft_count kinds (length sizes)) ++ codes "\n"))
+      ++ ((codes "NumHardRectilinearBlocks : " ++ (decimal (hard_count kinds (length sizes)) ++ codes "\n"))
+      ++ (codes "NumTerminals : 4\n" ++ (block_lines kinds sizes ++ pad_lines)))
+
+  shape : codes "UCSC blocks 1.0\n" ++ behind_title ≡ blocks_head kinds (length sizes) ++ (block_lines kinds sizes ++ pad_lines)
+  unfolding behind_title
+  shape =
+      let more : List ℕ = block_lines kinds sizes ++ pad_lines in
+      let soft : List ℕ = decimal (soft_count kinds (length sizes)) in
+      let hard : List ℕ = decimal (hard_count kinds (length sizes)) in
+      let third : List ℕ = codes "NumTerminals : 4\n" in
+      let word : List ℕ = codes "NumHardRectilinearBlocks : " in
+      let inner : (hard ++ codes "\n") ++ (third ++ more) ≡ (hard ++ (10 ∷ third)) ++ more = append_assoc hard (codes "\n") (third ++ more) ∙ sym (append_assoc hard (10 ∷ third) more) in
+      ap (λ v. codes "UCSC blocks 1.0\nNumSoftRectangularBlocks : " ++ v)
+      (append_assoc soft (codes "\n") (word ++ ((hard ++ codes "\n") ++ (third ++ more)))
+      ∙ ap (λ v. soft ++ (codes "\n" ++ (word ++ v))) inner
+      ∙ sym (append_assoc soft (codes "\n" ++ (word ++ (hard ++ (10 ∷ third)))) more))
+
+  all_read : Reads SaysHere behind_title said_of
+  unfolding behind_title said_of items
+  all_read =
+      let soft = soft_count kinds (length sizes) in
+      let hard = hard_count kinds (length sizes) in
+      let low : soft ≤ 9_000_000_000_000_000 = omega (arith, all_blocks kinds (length sizes), few) in
+      let high : hard ≤ 9_000_000_000_000_000 = omega (arith, all_blocks kinds (length sizes), few) in
+      let last = reads_both SaysHere (block_lines kinds sizes) pad_lines (map said_block (raw_blocks kinds sizes)) (map said_pad pad_list) (blocks_from kinds 0 sizes (omega (arith, few)) ok) pads_read in
+      let pads = reads_both SaysHere (codes "NumTerminals : 4\n") (block_lines kinds sizes ++ pad_lines) (CountIs Terminals 4 ∷ []) (map said_block (raw_blocks kinds sizes) ++ map said_pad pad_list) pad_count_read last in
+      let hards = reads_both SaysHere (codes "NumHardRectilinearBlocks : " ++ (decimal hard ++ codes "\n")) (codes "NumTerminals : 4\n" ++ (block_lines kinds sizes ++ pad_lines))
+      (CountIs Hard hard ∷ []) (CountIs Terminals 4 ∷ (map said_block (raw_blocks kinds sizes) ++ map said_pad pad_list)) (hard_count_read hard high) pads in
+      reads_both SaysHere (codes "NumSoftRectangularBlocks : " ++ (decimal soft ++ codes "\n"))
+      ((codes "NumHardRectilinearBlocks : " ++ (decimal hard ++ codes "\n")) ++ (codes "NumTerminals : 4\n" ++ (block_lines kinds sizes ++ pad_lines)))
+      (CountIs Soft soft ∷ []) (CountIs Hard hard ∷ CountIs Terminals 4 ∷ (map said_block (raw_blocks kinds sizes) ++ map said_pad pad_list)) (soft_count_read soft low) hards
+
+  are_items : Each IsItem items
+  unfolding items said_block said_pad
+  are_items = all_items said_block (λ b. tt) (raw_blocks kinds sizes) (map said_pad pad_list) (tt, (tt, (tt, (tt, tt))))
+
+  blocks_are : filter_map block_at items ≡ raw_blocks kinds sizes
+  unfolding items said_pad
+  blocks_are =
+      filter_map-append block_at (map said_block (raw_blocks kinds sizes)) (map said_pad pad_list)
+      ∙ append-nil (filter_map block_at (map said_block (raw_blocks kinds sizes))) ∙ blocks_kept (raw_blocks kinds sizes)
+
+  pads_are : filter_map pad_at items ≡ pad_list
+  unfolding items said_pad
+  pads_are =
+      filter_map-append pad_at (map said_block (raw_blocks kinds sizes)) (map said_pad pad_list)
+      ∙ ap (λ l. l ++ pad_list) (no_pads (raw_blocks kinds sizes))
+
+  count : ℕ → ℕ → Count
+  count line said = record { line = line; said = said }
+
+  softs : StandsOnce Soft (entries 2 said_of) (count_by blocks.is_soft (raw_blocks kinds sizes))
+  unfolding said_of entries count
+  softs = record {
+    line = 2;
+    once = ap (λ l. count 2 (soft_count kinds (length sizes)) ∷ l) (no_counts Soft 5 items are_items) ∙ ap (λ k. count 2 k ∷ []) (sym (count_from (λ b. b) kinds 0 sizes));
+  }
+
+  hards : StandsOnce Hard (entries 2 said_of) (count_by (λ b. not (blocks.is_soft b)) (raw_blocks kinds sizes))
+  unfolding said_of entries count
+  hards = record {
+    line = 3;
+    once = ap (λ l. count 3 (hard_count kinds (length sizes)) ∷ l) (no_counts Hard 5 items are_items) ∙ ap (λ k. count 3 k ∷ []) (sym (count_from not kinds 0 sizes));
+  }
+
+  pads : StandsOnce Terminals (entries 2 said_of) 4
+  unfolding said_of entries count
+  pads = record { line = 4; once = ap (λ l. count 4 4 ∷ l) (no_counts Terminals 5 items are_items) }
+
+  pub blocks_stand : StandsFor 1 (blocks_head kinds (length sizes) ++ (block_lines kinds sizes ++ codes "p0 terminal\np1 terminal\np2 terminal\np3 terminal\n")) (blocks_out kinds sizes)
+  unfolding said_of is_title pad_lines
+  blocks_stand =
+      let title : List ℕ = codes "UCSC blocks 1.0" in
+      let lines_of : IsLines (codes "UCSC blocks 1.0\n" ++ behind_title) (title ∷ all_read.bytes) = piece title refl (ended all_read.are) in
+      record {
+        title = record { number = 1; bytes = title };
+        others = numbered 2 all_read.bytes;
+        entries = entries 2 said_of;
+        lines_are = ap content_of (sym shape) ∙ content_is (codes "UCSC blocks 1.0\n" ++ behind_title) title all_read.bytes lines_of refl all_read.filled;
+        titled = refl;
+        each = each_entry 2 all_read.bytes said_of all_read.each;
+        soft = softs;
+        hard = hards;
+        terminals = pads;
+        blocks = sym (blocks_of 2 said_of ∙ blocks_are);
+        pads = sym (pads_of 2 said_of ∙ pads_are);
+      }

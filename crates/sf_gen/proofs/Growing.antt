@@ -1,0 +1,47 @@
+-- One more line, and the parts of a text put together.
+use Rattle.std.proofs.Common.{◌≡◌, ℕ, suc, ◌+◌, ◌<◌, List, [], ◌∷◌, ◌++◌, length, get_or, take, refl, sym, ap, ◌∙◌, arith, append_assoc}
+use Rattle.std.specs.Prelude.{map}
+use Rattle.std.specs.List.{flat_map, range_with_len}
+use Rattle.std.proofs.lemmas.List.{take_more, flat_map_more, length-take}
+use Rattle.std.proofs.lemmas.List.FromFn.{map-range_with_len_more}
+use Rattle.sf_gen.specs.Texts.{indexed}
+
+indexed-append : {X Y : Type 0} (f : ℕ → X → Y) (i : ℕ) (xs ys : List X) → indexed f i (xs ++ ys) ≡ indexed f i xs ++ indexed f (i + length xs) ys
+indexed-append f i [] ys = let e : i + 0 ≡ i = omega arith in rw e refl
+indexed-append f i (x ∷ xs) ys =
+    let e : i + 1 + length xs ≡ i + suc (length xs) = omega arith in
+    ap (λ l. f i x ∷ l) (indexed-append f (i + 1) xs ys ∙ ap (λ k. indexed f (i + 1) xs ++ indexed f k ys) e)
+
+indexed_more : {X Y : Type 0} (f : ℕ → X → Y) (xs : List X) (i : ℕ) (d : X) → i < length xs → indexed f 0 (take (i + 1) xs) ≡ indexed f 0 (take i xs) ++ f i (get_or xs i d) ∷ []
+indexed_more f xs i d h =
+    let e : 0 + length (take i xs) ≡ i = omega (arith, length-take i xs) in
+    ap (indexed f 0) (take_more xs i d h) ∙ indexed-append f 0 (take i xs) (get_or xs i d ∷ []) ∙ ap (λ k. indexed f 0 (take i xs) ++ indexed f k (get_or xs i d ∷ [])) e
+
+-- what was drawn so far, and one more
+pub one_drawn : {X : Type 0} (f : ℕ → X) (n : ℕ) (old new : List X) (x : X) → old ≡ map f (range_with_len 0 n) → x ≡ f n → new ≡ old ++ x ∷ [] → new ≡ map f (range_with_len 0 (n + 1))
+one_drawn f n old new x was e is =
+    let at : 0 + n ≡ n = omega arith in
+    is ∙ ap (λ v. v ++ x ∷ []) was ∙ ap (λ v. map f (range_with_len 0 n) ++ v ∷ []) e ∙ sym (map-range_with_len_more f 0 n n at)
+
+-- what was written of the first elements, and of one more
+pub lines_more : {X Y : Type 0} (g : Y → List ℕ) (f : ℕ → X → Y) (xs : List X) (i : ℕ) (d : X) (old before new : List ℕ) → i < length xs
+    → before ≡ old ++ flat_map g (indexed f 0 (take i xs)) → new ≡ before ++ g (f i (get_or xs i d))
+    → new ≡ old ++ flat_map g (indexed f 0 (take (i + 1) xs))
+lines_more g f xs i d old before new h was is =
+    is ∙ ap (λ v. v ++ g (f i (get_or xs i d))) was
+    ∙ flat_map_more g old (indexed f 0 (take i xs)) (f i (get_or xs i d))
+    ∙ ap (λ v. old ++ flat_map g v) (sym (indexed_more f xs i d h))
+
+pub two_parts : (old a b first new : List ℕ) → old ≡ [] → first ≡ old ++ a → new ≡ first ++ b → new ≡ a ++ b
+two_parts old a b first new o f n = n ∙ ap (λ v. v ++ b) (f ∙ ap (λ v. v ++ a) o)
+
+pub three_parts : (old a b c first second new : List ℕ) → old ≡ [] → first ≡ old ++ a → second ≡ first ++ b → new ≡ second ++ c → new ≡ a ++ (b ++ c)
+three_parts old a b c first second new o f s n = n ∙ ap (λ v. v ++ c) (two_parts old a b first second o f s) ∙ append_assoc a b c
+
+before_more : (x t rest u : List ℕ) → t ++ rest ≡ u → (x ++ t) ++ rest ≡ x ++ u
+before_more x t rest u h = append_assoc x t rest ∙ ap (λ v. x ++ v) h
+
+-- what follows a line goes behind its last part
+pub net_over : (old n d p a q b e rest : List ℕ) → (old ++ (n ++ (d ++ (p ++ (a ++ (q ++ (b ++ e))))))) ++ rest ≡ old ++ (n ++ (d ++ (p ++ (a ++ (q ++ (b ++ (e ++ rest)))))))
+net_over old n d p a q b e rest =
+    before_more old _ rest _ (before_more n _ rest _ (before_more d _ rest _ (before_more p _ rest _ (before_more a _ rest _ (before_more q _ rest _ (append_assoc b e rest))))))

@@ -1,0 +1,180 @@
+-- The text of the nets is read again.
+use Rattle.std.proofs.Common.{◌≡◌, ℕ, ◌<◌, ◌≤◌, ◌^◌, true, List, [], ◌∷◌, ◌++◌, length, refl, sym, ap, subst, ◌∙◌, arith, append_assoc}
+use Rattle.std.specs.Prelude.{map, sum_by, Some, None, codes}
+use Rattle.std.specs.Fmt.{decimal}
+use Rattle.std.specs.List.{flat_map, filter_map}
+use Rattle.std.proofs.lemmas.List.{length-map}
+use Rattle.std.proofs.lemmas.List.Elements.{filter_map-append}
+use Rattle.sf_lex.specs.Text.{is_line_feed, has_none}
+use Rattle.sf_lex.specs.Scan.{Line, numbered}
+use Rattle.sf_lex.specs.Gap.{first_word}
+use Rattle.sf_lex.specs.declared.field.Gap.TheVariants.{Blanks}
+use Rattle.sf_gsrc.specs.Blocks.{content_of, is_content_word, is_title}
+use Rattle.sf_gsrc.specs.Keywords.{is_colon, net_word_of, net_word_by}
+use Rattle.sf_gsrc.specs.declared.keywords.NetWord.TheVariants.{Nets, Pins, Degree}
+use Rattle.sf_gsrc.specs.Nets.{NetSaid, NetsAre, PinsAre, DegreeIs, PinIs}
+use Rattle.sf_gsrc.specs.NetsStanding.{SaysNetBy, SaysNet, nets_count, net_part, NetsStandFor}
+use Rattle.sf_gsrc.specs.NetsStanding as standing
+use Rattle.sf_gen.specs.Texts.{net_lines, nets_head, pin_lines}
+use Rattle.sf_gen.proofs.TextLines.{Each, IsLines, Reads, none, ended, piece, reads_none, reads_line, reads_both, reads_each, content_is, each_numbered}
+use Rattle.sf_gen.proofs.TextWords.{decimal_no_feed, decimal_no_gap, decimal_no_colon, number_said, before_none, first_written}
+
+-- whatever its number, the line says this
+abbrev pub SaysHere : List ℕ → NetSaid → Type 0
+SaysHere bytes said = (n : ℕ) → SaysNet (record { number = n; bytes = bytes }) said
+
+-- ---- the line of a pin
+
+-- a name of a block or of a pad
+pub data IsName : List ℕ → Type 0 where
+  of_block : (i : ℕ) → i < 2 ^ 64 → IsName (98 ∷ decimal i)
+  of_pad : (p : ℕ) → p < 2 ^ 64 → IsName (112 ∷ decimal p)
+
+pin_first : (name : List ℕ) → IsName name → first_word Blanks (name ++ 32 ∷ 66 ∷ []) ≡ name
+pin_first _ (of_block i h) = first_written Blanks 98 (decimal i) (decimal_no_gap i h Blanks) (66 ∷ []) 32 refl
+pin_first _ (of_pad p h) = first_written Blanks 112 (decimal p) (decimal_no_gap p h Blanks) (66 ∷ []) 32 refl
+
+no_keyword : (name : List ℕ) → IsName name → net_word_by (name ++ 32 ∷ 66 ∷ []) ≡ None
+unfolding net_word_of
+no_keyword _ (of_block i h) = rw (pin_first (98 ∷ decimal i) (of_block i h), before_none is_colon (98 ∷ decimal i) (decimal_no_colon i h)) refl
+no_keyword _ (of_pad p h) = rw (pin_first (112 ∷ decimal p) (of_pad p h), before_none is_colon (112 ∷ decimal p) (decimal_no_colon p h)) refl
+
+pin_filled : (name : List ℕ) → IsName name → is_content_word (first_word Blanks (name ++ 32 ∷ 66 ∷ [])) ≡ true
+pin_filled _ (of_block i h) = rw (pin_first (98 ∷ decimal i) (of_block i h)) refl
+pin_filled _ (of_pad p h) = rw (pin_first (112 ∷ decimal p) (of_pad p h)) refl
+
+pin_says : (name : List ℕ) → IsName name → SaysHere (name ++ 32 ∷ 66 ∷ []) (PinIs name)
+pin_says name h n =
+    let line : Line = record { number = n; bytes = name ++ 32 ∷ 66 ∷ [] } in
+    subst (λ o. SaysNetBy line (PinIs name) o) (sym (no_keyword name h)) (ap PinIs (sym (pin_first name h)))
+
+name_no_feed : {t l : List ℕ} {ls : List (List ℕ)} (name : List ℕ) → IsName name → IsLines t (l ∷ ls) → IsLines (name ++ t) ((name ++ l) ∷ ls)
+name_no_feed _ (of_block i h) k = piece (98 ∷ decimal i) (decimal_no_feed i h) k
+name_no_feed _ (of_pad p h) k = piece (112 ∷ decimal p) (decimal_no_feed p h) k
+
+pin_read : (name : List ℕ) → IsName name → Reads SaysHere (name ++ 32 ∷ 66 ∷ 10 ∷ []) (PinIs name ∷ [])
+pin_read name h =
+    reads_line SaysHere (name ++ 32 ∷ 66 ∷ 10 ∷ []) (name ++ 32 ∷ 66 ∷ []) (PinIs name)
+    (name_no_feed name h (piece (32 ∷ 66 ∷ []) refl (ended none))) (pin_filled name h) (pin_says name h)
+
+pins_read : (pins : List (List ℕ)) → Each IsName pins → Reads SaysHere (pin_lines pins) (map PinIs pins)
+pins_read [] ok = reads_none SaysHere
+pins_read (name ∷ more) ok =
+    let shape : (name ++ 32 ∷ 66 ∷ 10 ∷ []) ++ pin_lines more ≡ name ++ 32 ∷ 66 ∷ 10 ∷ pin_lines more = append_assoc name (32 ∷ 66 ∷ 10 ∷ []) (pin_lines more) in
+    subst (λ (t : List ℕ). Reads SaysHere t (map PinIs (name ∷ more))) shape
+    (reads_both SaysHere (name ++ 32 ∷ 66 ∷ 10 ∷ []) (pin_lines more) (PinIs name ∷ []) (map PinIs more) (pin_read name ok.0) (pins_read more ok.1))
+
+-- ---- the lines of a net
+
+module _ (d : ℕ) (le : d ≤ 9_000_000_000_000_000) where
+  count_read : (word : List ℕ) (said : NetSaid) → has_none is_line_feed word ≡ true → is_content_word (first_word Blanks (word ++ (decimal d ++ []))) ≡ true
+      → SaysHere (word ++ (decimal d ++ [])) said → Reads SaysHere (word ++ (decimal d ++ codes "\n")) (said ∷ [])
+  count_read word said clean filled says =
+      reads_line SaysHere (word ++ (decimal d ++ codes "\n")) (word ++ (decimal d ++ [])) said
+      (piece word clean (piece (decimal d) (decimal_no_feed d (omega arith)) (ended none))) filled says
+
+  degree_says : SaysHere (codes "NetDegree : " ++ (decimal d ++ [])) (DegreeIs d)
+  unfolding net_word_of
+  degree_says n =
+      let line : Line = record { number = n; bytes = codes "NetDegree : " ++ (decimal d ++ []) } in
+      let word : net_word_by line.bytes ≡ Some Degree = refl in
+      subst (λ o. SaysNetBy line (DegreeIs d) o) (sym word) (d, number_said (codes "NetDegree") d le, refl)
+
+  nets_say : SaysHere (codes "NumNets : " ++ (decimal d ++ [])) (NetsAre d)
+  unfolding net_word_of
+  nets_say n =
+      let line : Line = record { number = n; bytes = codes "NumNets : " ++ (decimal d ++ []) } in
+      let word : net_word_by line.bytes ≡ Some Nets = refl in
+      subst (λ o. SaysNetBy line (NetsAre d) o) (sym word) (d, number_said (codes "NumNets") d le, refl)
+
+  pins_say : SaysHere (codes "NumPins : " ++ (decimal d ++ [])) (PinsAre d)
+  unfolding net_word_of
+  pins_say n =
+      let line : Line = record { number = n; bytes = codes "NumPins : " ++ (decimal d ++ []) } in
+      let word : net_word_by line.bytes ≡ Some Pins = refl in
+      subst (λ o. SaysNetBy line (PinsAre d) o) (sym word) (d, number_said (codes "NumPins") d le, refl)
+
+pub record IsNet (pins : List (List ℕ)) : Type 0 where
+  pub names : Each IsName pins
+  pub few : length pins ≤ 3
+
+net_read : (pins : List (List ℕ)) → IsNet pins → Reads SaysHere (net_lines pins) (standing.net_lines pins)
+net_read pins h =
+    let d = length pins in
+    let le : d ≤ 9_000_000_000_000_000 = omega (arith, h.few) in
+    let head : List ℕ = codes "NetDegree : " ++ (decimal d ++ codes "\n") in
+    let shape : head ++ pin_lines pins ≡ net_lines pins = ap (λ v. codes "NetDegree : " ++ v) (append_assoc (decimal d) (codes "\n") (pin_lines pins)) in
+    subst (λ (t : List ℕ). Reads SaysHere t (standing.net_lines pins)) shape
+    (reads_both SaysHere head (pin_lines pins) (DegreeIs d ∷ []) (map PinIs pins)
+    (count_read d le (codes "NetDegree : ") (DegreeIs d) refl refl (degree_says d le)) (pins_read pins h.names))
+
+-- ---- the whole text
+
+parts_of_pins : (names : List (List ℕ)) → filter_map net_part (map PinIs names) ≡ map PinIs names
+parts_of_pins [] = refl
+parts_of_pins (name ∷ names) = ap (λ l. PinIs name ∷ l) (parts_of_pins names)
+
+parts_of_nets : (nets : List (List (List ℕ))) → filter_map net_part (flat_map standing.net_lines nets) ≡ flat_map standing.net_lines nets
+parts_of_nets [] = refl
+parts_of_nets (pins ∷ nets) =
+    filter_map-append net_part (standing.net_lines pins) (flat_map standing.net_lines nets)
+    ∙ ap (λ l. (DegreeIs (length pins) ∷ l) ++ filter_map net_part (flat_map standing.net_lines nets)) (parts_of_pins pins)
+    ∙ ap (λ l. standing.net_lines pins ++ l) (parts_of_nets nets)
+
+no_count_of_pins : (names : List (List ℕ)) → filter_map nets_count (map PinIs names) ≡ []
+no_count_of_pins [] = refl
+no_count_of_pins (name ∷ names) = no_count_of_pins names
+
+no_count_of_nets : (nets : List (List (List ℕ))) → filter_map nets_count (flat_map standing.net_lines nets) ≡ []
+no_count_of_nets [] = refl
+no_count_of_nets (pins ∷ nets) =
+    filter_map-append nets_count (standing.net_lines pins) (flat_map standing.net_lines nets)
+    ∙ ap (λ l. l ++ filter_map nets_count (flat_map standing.net_lines nets)) (no_count_of_pins pins)
+    ∙ no_count_of_nets nets
+
+module _ (nets : List (List (List ℕ))) (fine : Each IsNet nets) (few : length nets ≤ 1_000_000) (small : sum_by length nets ≤ 9_000_000_000_000_000) where
+  said_of : List NetSaid
+  said_of = NetsAre (length nets) ∷ PinsAre (sum_by length nets) ∷ flat_map standing.net_lines nets
+
+  behind_title : List ℕ
+  behind_title =
+      (codes "NumNets : " ++ (decimal (length nets) ++ codes "\n"))
+      ++ ((codes "NumPins : " ++ (decimal (sum_by length nets) ++ codes "\n")) ++ flat_map net_lines nets)
+
+  shape : codes "UCLA nets 1.0\n" ++ behind_title ≡ nets_head nets ++ flat_map net_lines nets
+  unfolding behind_title
+  shape =
+      let more : List ℕ = flat_map net_lines nets in
+      let pins : List ℕ = codes "NumPins : " ++ (decimal (sum_by length nets) ++ codes "\n") in
+      ap (λ v. codes "UCLA nets 1.0\nNumNets : " ++ v)
+      (append_assoc (decimal (length nets)) (codes "\n") (pins ++ more) ∙ sym (append_assoc (decimal (length nets)) (10 ∷ pins) more))
+
+  all_read : Reads SaysHere behind_title said_of
+  unfolding behind_title said_of
+  all_read =
+      let low : length nets ≤ 9_000_000_000_000_000 = omega (arith, few) in
+      let nets_line : List ℕ = codes "NumNets : " ++ (decimal (length nets) ++ codes "\n") in
+      let pins_line : List ℕ = codes "NumPins : " ++ (decimal (sum_by length nets) ++ codes "\n") in
+      let more = reads_each SaysHere IsNet net_lines standing.net_lines net_read nets fine in
+      reads_both SaysHere nets_line (pins_line ++ flat_map net_lines nets) (NetsAre (length nets) ∷ []) (PinsAre (sum_by length nets) ∷ flat_map standing.net_lines nets)
+      (count_read (length nets) low (codes "NumNets : ") (NetsAre (length nets)) refl refl (nets_say (length nets) low))
+      (reads_both SaysHere pins_line (flat_map net_lines nets) (PinsAre (sum_by length nets) ∷ []) (flat_map standing.net_lines nets)
+      (count_read (sum_by length nets) small (codes "NumPins : ") (PinsAre (sum_by length nets)) refl refl (pins_say (sum_by length nets) small)) more)
+
+  pub nets_stand : NetsStandFor (nets_head nets ++ flat_map net_lines nets) (record { nets = map standing.net_of nets })
+  unfolding said_of is_title
+  nets_stand =
+      let title : List ℕ = codes "UCLA nets 1.0" in
+      let lines_of : IsLines (codes "UCLA nets 1.0\n" ++ behind_title) (title ∷ all_read.bytes) = piece title refl (ended all_read.are) in
+      record {
+        title = record { number = 1; bytes = title };
+        others = numbered 2 all_read.bytes;
+        said = said_of;
+        names = nets;
+        lines_are = ap content_of (sym shape) ∙ content_is (codes "UCLA nets 1.0\n" ++ behind_title) title all_read.bytes lines_of refl all_read.filled;
+        titled = refl;
+        each = each_numbered SaysNet 2 all_read.bytes said_of all_read.each;
+        lines_of_nets = parts_of_nets nets;
+        nets = refl;
+        count = ap (λ l. length nets ∷ l) (no_count_of_nets nets) ∙ ap (λ k. k ∷ []) (sym (length-map nets standing.net_of));
+      }

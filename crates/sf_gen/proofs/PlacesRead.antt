@@ -1,0 +1,94 @@
+-- The text of the places is read again.
+use Rattle.std.proofs.Common.{◌≡◌, ℕ, ◌≤◌, true, List, [], ◌∷◌, ◌++◌, refl, ap, ◌∙◌, arith}
+use Rattle.std.specs.Prelude.{pos, Ok, codes}
+use Rattle.std.specs.Fmt.{decimal}
+use Rattle.sf_lex.specs.Text.{words, is_not_empty}
+use Rattle.sf_lex.specs.Scan.{numbered}
+use Rattle.sf_lex.specs.Gap.{is_gap, first_word, after_word}
+use Rattle.sf_lex.specs.Number.{decimal_read, signed_read}
+use Rattle.sf_lex.specs.declared.field.Gap.TheVariants.{Blanks, Sizes}
+use Rattle.sf_gsrc.specs.declared.output.Place.{Place}
+use Rattle.sf_gsrc.specs.Blocks.{is_title}
+use Rattle.sf_gsrc.specs.Line.{place_in_word}
+use Rattle.sf_gsrc.specs.PlaceLine.{coordinates_said, place_said, point_said, rest_said}
+use Rattle.sf_gsrc.specs.Places.{SaysPlace, PlacesStandFor}
+use Rattle.sf_gen.specs.Designs.{placed, places_out}
+use Rattle.sf_gen.specs.Texts.{square, pl_text}
+use Rattle.sf_gen.proofs.TextLines.{IsLines, none, ended, piece, content_is, each_numbered}
+use Rattle.sf_gen.proofs.TextWords.{decimal_no_feed, number_first, number_after, number_last, number_ends, number_filled, signed_written}
+
+point_is : (name x y : List ℕ) (a b : ℕ) → place_in_word 1 x ≡ Ok (pos a) → place_in_word 1 y ≡ Ok (pos b) → point_said 1 name x y ≡ Ok (placed name a b)
+unfolding point_said
+point_is name x y a b e f = rw (e, f) refl
+
+-- three words, and nothing behind them
+said_as : (line name x y one two three : List ℕ) (p : Place)
+    → first_word Blanks line ≡ name → after_word Blanks line ≡ one
+    → first_word Blanks one ≡ x → after_word Blanks one ≡ two
+    → first_word Blanks two ≡ y → after_word Blanks two ≡ three
+    → words (is_gap Sizes) three ≡ [] → is_not_empty y ≡ true → point_said 1 name x y ≡ Ok p → place_said 1 line ≡ Ok p
+unfolding place_said rest_said
+said_as line name x y one two three p e1 e2 e3 e4 e5 e6 e7 some says =
+    let f = first_word Blanks in
+    let a = after_word Blanks in
+    let w = words (is_gap Sizes) in
+    ap (λ (n : List ℕ). coordinates_said 1 n (f (a line)) (f (a (a line))) (w (a (a (a line))))) e1
+    ∙ ap (λ (l : List ℕ). coordinates_said 1 name (f l) (f (a l)) (w (a (a l)))) e2
+    ∙ ap (λ (v : List ℕ). coordinates_said 1 name v (f (a one)) (w (a (a one)))) e3
+    ∙ ap (λ (l : List ℕ). coordinates_said 1 name x (f l) (w (a l))) e4
+    ∙ ap (λ (v : List ℕ). coordinates_said 1 name x v (w (a two))) e5
+    ∙ ap (λ (l : List ℕ). coordinates_said 1 name x y (w l)) e6
+    ∙ ap (coordinates_said 1 name x y) e7
+    ∙ rw some says
+
+zero_place : place_in_word 1 (codes "0") ≡ Ok (pos 0)
+unfolding signed_read decimal_read
+zero_place = refl
+
+module _ (q : ℕ) (low : q ≤ 1_000_000) where
+  number_place : place_in_word 1 (decimal q) ≡ Ok (pos q)
+  number_place = rw (signed_written q 9_000_000_000_000_000 (omega arith) (omega arith)) refl
+
+  origin : place_said 1 (codes "p0 0 0") ≡ Ok (placed (codes "p0") 0 0)
+  origin =
+      said_as (codes "p0 0 0") (codes "p0") (codes "0") (codes "0") (codes " 0 0") (codes " 0") [] (placed (codes "p0") 0 0)
+      refl refl refl refl refl refl refl refl (point_is (codes "p0") (codes "0") (codes "0") 0 0 zero_place zero_place)
+
+  right : place_said 1 (codes "p1 " ++ (decimal q ++ codes " 0")) ≡ Ok (placed (codes "p1") q 0)
+  right =
+      said_as (codes "p1 " ++ (decimal q ++ codes " 0")) (codes "p1") (decimal q) (codes "0") (32 ∷ (decimal q ++ codes " 0")) (codes " 0") [] (placed (codes "p1") q 0)
+      refl refl (number_first q (omega arith) (codes "0")) (number_after q (omega arith) (codes "0")) refl refl refl refl
+      (point_is (codes "p1") (decimal q) (codes "0") q 0 number_place zero_place)
+
+  above : place_said 1 (codes "p2 0 " ++ (decimal q ++ [])) ≡ Ok (placed (codes "p2") 0 q)
+  above =
+      said_as (codes "p2 0 " ++ (decimal q ++ [])) (codes "p2") (codes "0") (decimal q) (codes " 0 " ++ (decimal q ++ [])) (32 ∷ (decimal q ++ [])) [] (placed (codes "p2") 0 q)
+      refl refl refl refl (number_last q (omega arith)) (number_ends q (omega arith)) refl (number_filled q (omega arith))
+      (point_is (codes "p2") (codes "0") (decimal q) 0 q zero_place number_place)
+
+  across : place_said 1 (codes "p3 " ++ (decimal q ++ (codes " " ++ (decimal q ++ [])))) ≡ Ok (placed (codes "p3") q q)
+  across =
+      let last : List ℕ = decimal q ++ [] in
+      said_as (codes "p3 " ++ (decimal q ++ (codes " " ++ last))) (codes "p3") (decimal q) (decimal q) (32 ∷ (decimal q ++ (32 ∷ last))) (32 ∷ last) [] (placed (codes "p3") q q)
+      refl refl (number_first q (omega arith) last) (number_after q (omega arith) last) (number_last q (omega arith)) (number_ends q (omega arith)) refl (number_filled q (omega arith))
+      (point_is (codes "p3") (decimal q) (decimal q) q q number_place number_place)
+
+pub places_stand : (n : ℕ) → n ≤ 320 → PlacesStandFor 1 (pl_text n) (places_out n)
+unfolding pl_text is_title
+places_stand n high =
+    let q = square n in
+    let low : q ≤ 1_000_000 = omega (arith, high) in
+    let d = decimal_no_feed q (omega (arith, high)) in
+    let title : List ℕ = codes "UCLA pl 1.0" in
+    let bytes : List (List ℕ) =
+    codes "p0 0 0" ∷ (codes "p1 " ++ (decimal q ++ codes " 0")) ∷ (codes "p2 0 " ++ (decimal q ++ [])) ∷ (codes "p3 " ++ (decimal q ++ (codes " " ++ (decimal q ++ [])))) ∷ [] in
+    let lines_of : IsLines (pl_text n) (title ∷ bytes) =
+    piece title refl (ended (piece (codes "p0 0 0") refl (ended (piece (codes "p1 ") refl (piece (decimal q) d (piece (codes " 0") refl (ended
+    (piece (codes "p2 0 ") refl (piece (decimal q) d (ended (piece (codes "p3 ") refl (piece (decimal q) d (piece (codes " ") refl (piece (decimal q) d (ended none))))))))))))))) in
+    record {
+      title = record { number = 1; bytes = title };
+      others = numbered 2 bytes;
+      lines_are = content_is (pl_text n) title bytes lines_of refl (refl, (refl, (refl, (refl, tt))));
+      titled = refl;
+      each = each_numbered (SaysPlace 1) 2 bytes (places_out n).places ((λ k. origin q low), ((λ k. right q low), ((λ k. above q low), ((λ k. across q low), tt))));
+    }
