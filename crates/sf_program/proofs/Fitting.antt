@@ -1,5 +1,5 @@
 -- The plan of an expression that costs something.
-use Rattle.std.proofs.Common.{◌≡◌, ℕ, subst}
+use Rattle.std.proofs.Common.{ℕ, subst}
 use Rattle.sf_model.specs.declared.design.Design.{Design}
 use Rattle.sf_model.specs.Tree.{Tree}
 use Rattle.sf_model.specs.Legal.{IsLegal, Fits}

@@ -6,3 +6,4 @@ pub mod Legal
 pub mod NearPlaces
 pub mod Placing
 pub mod Statuses
+pub mod Made

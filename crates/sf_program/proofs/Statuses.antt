@@ -1,5 +1,5 @@
 -- The statuses of answers.
-use Rattle.std.proofs.Common.{◌≡◌, ◌⊎◌, inl, inr, ℕ, List, [], Option, Result, sym, subst}
+use Rattle.std.proofs.Common.{◌≡◌, ◌⊎◌, inl, inr, ℕ, List, Option, Result, sym, subst}
 use Rattle.sf_io.specs.Outside.{Contents}
 use Rattle.sf_io.specs.declared.status.Status.{Status}
 use Rattle.sf_io.specs.declared.status.Status.TheVariants.{Done, NoneFits, Usage, Open, No, BadInput, OverLimit, ReadFault, WriteFault, NoMemory}
@@ -10,11 +10,13 @@ use Rattle.sf_checker.specs.declared.answer.Answer.TheVariants as checked
 use Rattle.sf_pl_writer.specs.declared.report.Outcome.{Outcome}
 use Rattle.sf_pl_writer.specs.declared.report.Outcome.TheVariants as word
 use Rattle.sf_words.specs.Meaning.{Command, plan, check, measure, shape, gen}
-use Rattle.sf_program.specs.Answer.{Answers, CommandAnswer, IsAnswer, IsRefused, IsSilent, IsUnbuilt}
+use Rattle.sf_program.specs.Answer.{Answers, CommandAnswer, IsAnswer, IsRefused, IsSilent}
 use Rattle.sf_program.specs.Checked.{answer_status, CheckRead}
 use Rattle.sf_program.specs.Measured as measured
 use Rattle.sf_program.specs.Outcome.{Refusal}
 use Rattle.sf_program.specs.Planned as planned
+use Rattle.sf_program.specs.Shaped.{ShapeRead}
+use Rattle.sf_program.specs.Generated.{GenRead}
 use Rattle.sf_program.specs.Stores.{Stored}
 
 refused-status : {X : Type 0} (Read : Result X Refusal → Type 0) (status : Status) (stored : List Stored) (printed : List ℕ) → IsRefused Read status stored printed → IsAnswer status
@@ -28,18 +30,6 @@ refused-status Read No stored printed h = absurd h
 refused-status Read ReadFault stored printed h = absurd h
 refused-status Read WriteFault stored printed h = absurd h
 refused-status Read NoMemory stored printed h = absurd h
-
-unbuilt-status : (status : Status) (stored : List Stored) (printed : List ℕ) → IsUnbuilt status stored printed → IsAnswer status
-unbuilt-status Usage stored printed h = tt
-unbuilt-status BadInput stored printed h = absurd h
-unbuilt-status OverLimit stored printed h = absurd h
-unbuilt-status Done stored printed h = absurd h
-unbuilt-status NoneFits stored printed h = absurd h
-unbuilt-status Open stored printed h = absurd h
-unbuilt-status No stored printed h = absurd h
-unbuilt-status ReadFault stored printed h = absurd h
-unbuilt-status WriteFault stored printed h = absurd h
-unbuilt-status NoMemory stored printed h = absurd h
 
 said-status : (said : Outcome) → IsAnswer (planned.status_of said)
 said-status word.Optimal = tt
@@ -63,8 +53,10 @@ command-status (check o) before status stored printed h =
     elim h [ inl p ↦ subst IsAnswer (sym p.0.status_is) (checked-status p.0.answer) | inr r ↦ refused-status (CheckRead before o) status stored printed r ]
 command-status (measure o) before status stored printed h =
     elim h [ inl p ↦ subst IsAnswer (sym p.0.status_is) (judged-status p.0.verdict) | inr r ↦ refused-status (measured.MeasureRead before o) status stored printed r ]
-command-status (shape o) before status stored printed h = unbuilt-status status stored printed h
-command-status (gen o) before status stored printed h = unbuilt-status status stored printed h
+command-status (shape o) before status stored printed h =
+    elim h [ inl p ↦ subst IsAnswer (sym p.0.status_is) tt | inr r ↦ refused-status (ShapeRead before o) status stored printed r ]
+command-status (gen o) before status stored printed h =
+    elim h [ inl p ↦ subst IsAnswer (sym p.answered.status_is) (said-status p.answered.said) | inr r ↦ refused-status (GenRead o) status stored printed r ]
 
 -- an answer's status is no fault
 pub answer-status : (words : List (List ℕ)) (before : Option Contents) (status : Status) (stored : List Stored) (printed : List ℕ) → Answers words before status stored printed → IsAnswer status

@@ -1,15 +1,17 @@
 -- What a run may answer, by its words and by the texts on the shelf: the status, what is stored and what is printed.
-use Rattle.std.specs.Prelude.{◌≡◌, ◌⊎◌, ⊤, ℕ, List, [], Option, Result, Ok, Err, codes}
+use Rattle.std.specs.Prelude.{◌≡◌, ◌⊎◌, ⊤, ℕ, List, [], Option, Result, Err, codes}
 use Rattle.std.specs.Io.KnownBytes.{Appends}
 use Rattle.sf_io.specs.Outside.{Contents, Took}
 use Rattle.sf_io.specs.declared.status.Status.{Status}
-use Rattle.sf_io.specs.declared.status.Status.TheVariants.{Done, NoneFits, Usage, Open, No, BadInput, OverLimit, ReadFault, WriteFault, NoMemory}
+use Rattle.sf_io.specs.declared.status.Status.TheVariants.{Usage, BadInput, OverLimit, ReadFault, WriteFault, NoMemory}
 use Rattle.sf_pl_writer.specs.Length.{IsScale}
-use Rattle.sf_words.specs.Meaning.{Command, plan, check, measure, shape, gen, PlanOptions, CheckOptions, MeasureOptions, Means, HasNoMeaning}
+use Rattle.sf_words.specs.Meaning.{Command, plan, check, measure, shape, gen, Means, HasNoMeaning}
 use Rattle.sf_program.specs.Outcome.{Refusal, bad, over}
 use Rattle.sf_program.specs.Planned.{IsPlanned, PlanRead}
 use Rattle.sf_program.specs.Checked.{IsChecked, CheckRead}
 use Rattle.sf_program.specs.Measured.{IsMeasured, MeasureRead}
+use Rattle.sf_program.specs.Shaped.{IsShaped, ShapeRead}
+use Rattle.sf_program.specs.Generated.{IsGenerated, GenRead}
 use Rattle.sf_program.specs.Stores.{Stored, AfterStores, StoppedAt}
 
 -- a stage refuses an input with this status and line, and nothing is stored
@@ -18,21 +20,16 @@ IsRefused Read BadInput stored printed = Read (Err (bad printed)) × (stored ≡
 IsRefused Read OverLimit stored printed = Read (Err (over printed)) × (stored ≡ [])
 IsRefused Read status stored printed = ⊥
 
--- the line of words that mean nothing, or a command that isn't built
+-- the line of words that mean nothing
 abbrev pub usage_line : List ℕ
 usage_line = codes "error Usage\n"
-
--- the command is one of those that aren't built
-abbrev pub IsUnbuilt : Status → List Stored → List ℕ → Type 0
-IsUnbuilt Usage stored printed = (stored ≡ []) × (printed ≡ usage_line)
-IsUnbuilt status stored printed = ⊥
 
 abbrev pub CommandAnswer : Command → Option Contents → Status → List Stored → List ℕ → Type 0
 CommandAnswer (plan o) before status stored printed = IsPlanned o before status stored printed ⊎ IsRefused (PlanRead before o) status stored printed
 CommandAnswer (check o) before status stored printed = (IsChecked o before status printed × (stored ≡ [])) ⊎ IsRefused (CheckRead before o) status stored printed
 CommandAnswer (measure o) before status stored printed = (IsMeasured o before status printed × (stored ≡ [])) ⊎ IsRefused (MeasureRead before o) status stored printed
-CommandAnswer (shape o) before status stored printed = IsUnbuilt status stored printed
-CommandAnswer (gen o) before status stored printed = IsUnbuilt status stored printed
+CommandAnswer (shape o) before status stored printed = (IsShaped o before status printed × (stored ≡ [])) ⊎ IsRefused (ShapeRead before o) status stored printed
+CommandAnswer (gen o) before status stored printed = IsGenerated o status stored printed ⊎ IsRefused (GenRead o) status stored printed
 
 -- the answer to these words, on a shelf that holds these texts
 abbrev pub Answers : List (List ℕ) → Option Contents → Status → List Stored → List ℕ → Type 0

@@ -6,5 +6,7 @@ pub mod Stores
 pub mod Planned
 pub mod Checked
 pub mod Measured
+pub mod Shaped
+pub mod Generated
 pub mod PlacedLines
 pub mod Answer

@@ -18,7 +18,7 @@ use Rattle.sf_place.specs.declared.verdict.Verdict.TheVariants.{Legal, Unlisted,
 use Rattle.sf_place.specs.Verdict.{IsVerdict}
 use Rattle.sf_words.specs.Meaning.{MeasureOptions}
 use Rattle.sf_program.specs.Outcome.{Refusal, Then}
-use Rattle.sf_program.specs.Reading.{PlacesRead, DesignRead}
+use Rattle.sf_program.specs.Reading.{PlacesRead, DesignRead, With}
 use Rattle.sf_program.specs.Refusals.{design_fault, line_of}
 
 -- the lines of a placed file that have this name
@@ -54,11 +54,6 @@ SpotsPlaced design places r = r ≡ spots_said 0 design.blocks places.places
 
 abbrev pub SpotsRead : Option Contents → MeasureOptions → Design → Result (List Spot) Refusal → Type 0
 SpotsRead held o design = Then (PlacesRead held (codes "placed") o.design.per_unit o.placed) (SpotsPlaced design)
-
--- a stage whose value is kept with the design that it is for
-abbrev pub With : {X : Type 0} → (Design → Result X Refusal → Type 0) → Design → Result (Design × X) Refusal → Type 0
-With P design (Ok both) = (both.0 ≡ design) × P design (Ok both.1)
-With P design (Err why) = P design (Err why)
 
 -- the design, and then the spots of its blocks
 abbrev pub MeasureRead : Option Contents → MeasureOptions → Result (Design × List Spot) Refusal → Type 0

@@ -26,6 +26,10 @@ Stops (OverLimit line) P = P (over line.items)
 Stops ReadFault P = ⊤
 Stops NoMemory P = ⊤
 
+-- a call stops only because something failed
+abbrev pub IsFault : Stop → Type 0
+IsFault stop = Stops stop (λ why. ⊥)
+
 -- a call ends as the stage does, or because something failed
 abbrev pub Ends : {A X : Type 0} → (A → X) → Result A Stop → (Result X Refusal → Type 0) → Type 0
 Ends seen (Ok a) P = P (Ok (seen a))

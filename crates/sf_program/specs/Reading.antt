@@ -1,5 +1,5 @@
 -- How the texts under the named files become a design, stage by stage, in the order of the work.
-use Rattle.std.specs.Prelude.{◌≡◌, ℕ, ◌+◌, ◌^◌, ◌≤◌, Bool, List, length, codes, Option, None, Some, Result, Ok, Err}
+use Rattle.std.specs.Prelude.{◌≡◌, ℕ, ◌+◌, ◌^◌, ◌≤◌, List, length, codes, Option, None, Some, Result, Ok, Err}
 use Rattle.sf_io.specs.Outside.{Contents, Holds, HoldsMore}
 use Rattle.sf_model.specs.declared.design.Design.{Design}
 use Rattle.sf_model.specs.declared.fault.BuildFault.{BuildFault}
@@ -13,7 +13,6 @@ use Rattle.sf_soft_shapes.specs.Listed.{AreListsOf, HasNoneFor}
 use Rattle.sf_gsrc.specs.declared.output.GsrcBlocks.{GsrcBlocks}
 use Rattle.sf_gsrc.specs.declared.output.GsrcNets.{GsrcNets}
 use Rattle.sf_gsrc.specs.declared.output.GsrcPlaces.{GsrcPlaces}
-use Rattle.sf_gsrc.specs.declared.fault.JoinFault.{JoinFault}
 use Rattle.sf_gsrc.specs.Standing.{StandsFor}
 use Rattle.sf_gsrc.specs.Blocks.{blocks_read}
 use Rattle.sf_gsrc.specs.Nets.{nets_read}
@@ -107,3 +106,8 @@ DesignMade o w parts = Then (ListsMade o parts) (Built o w parts)
 -- the design for which the files stand
 abbrev pub DesignRead : Option Contents → DesignOptions → WeightOptions → Result Design Refusal → Type 0
 DesignRead held o w = Then (PartsAdmitted held o) (DesignMade o w)
+
+-- a stage whose value is kept with the design that it is for
+abbrev pub With : {X : Type 0} → (Design → Result X Refusal → Type 0) → Design → Result (Design × X) Refusal → Type 0
+With P design (Ok both) = (both.0 ≡ design) × P design (Ok both.1)
+With P design (Err why) = P design (Err why)

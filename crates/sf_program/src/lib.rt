@@ -8,6 +8,7 @@
 
 mod budget;
 mod checking;
+mod generating;
 mod making;
 mod measuring;
 mod obeying;
@@ -16,6 +17,7 @@ mod planning;
 mod program;
 mod reading;
 mod refusals;
+mod shaping;
 mod spotting;
 mod stop;
 mod telling;

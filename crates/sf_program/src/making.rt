@@ -17,7 +17,8 @@ use sf_soft_shapes::lists;
 use sf_words::{DesignWords, WeightWords};
 use std::alloc::Global;
 
-fn admit(alloc: Global, parts: Parts) -> Result<Parts, Stop>
+/// The parts, where they may become a design.
+pub fn admit(alloc: Global, parts: Parts) -> Result<Parts, Stop>
     requires pins { HasPinsInRange parts }
     ensures admitted { Ends (λ x. x) result (Admitted parts) }
     ensures tells { (loads loads_then : ℕ) → IfErr result (TellsLoads loads loads_then) }

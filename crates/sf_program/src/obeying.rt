@@ -9,8 +9,10 @@ ghost use Rattle.sf_program.specs.Outcome.{Stops};
 ghost use Rattle.sf_program.specs.Stores.{stored_in};
 
 use crate::checking::check;
+use crate::generating::generate;
 use crate::measuring::measure;
 use crate::planning::plan;
+use crate::shaping::shape;
 use crate::stop::Stop;
 use crate::work::Work;
 use sf_io::{Gate, Shelf, Status};
@@ -18,7 +20,7 @@ use sf_words::{CommandWords, read_words};
 use std::alloc::{AllocError as NoMemory, Global};
 use std::thread::Threads;
 
-/// The answer to words that mean nothing, or a command that isn't built.
+/// The answer to words that mean nothing.
 fn usage(alloc: Global) -> Result<Work, NoMemory>
     ensures status { IfOk result (λ w. w.status ≡ Status.Usage) }
     ensures stores { IfOk result (λ w. stored_in w.stores.items ≡ []) }
@@ -46,8 +48,8 @@ fn obey<R: Threads + Sync, S: Shelf, G: Gate>(
         CommandWords::Plan(words) => plan(rt, alloc, &words, shelf, gate),
         CommandWords::Check(words) => check(alloc, &words, shelf),
         CommandWords::Measure(words) => measure(alloc, &words, shelf),
-        CommandWords::Shape(_) => Ok(usage(alloc)?),
-        CommandWords::Gen(_) => Ok(usage(alloc)?),
+        CommandWords::Shape(words) => shape(alloc, &words, shelf),
+        CommandWords::Gen(words) => generate(rt, alloc, &words, gate),
     }
 }
 

@@ -94,27 +94,25 @@ pub fn plan<R: Threads + Sync, S: Shelf, G: Gate>(
         pl: words.pl_out,
         scale: words.design.per_unit,
     };
-    let work = searched(rt, alloc, &design, words, names, gate)?;
+    let work = searched(rt, alloc, &design, words.nodes, words.workers, names, gate)?;
     Ok(work)
 }
 
-/// Searches a design with the budget that the words ask for.
-fn searched<R: Threads + Sync, G: Gate>(
+/// Searches a design with the budget that was asked for, and tells what was found.
+pub fn searched<R: Threads + Sync, G: Gate>(
     rt: &R,
     alloc: Global,
     design: &Design,
-    words: &PlanWords<'_>,
+    nodes: Option<u64>,
+    workers: u16,
     names: Names<'_>,
     gate: &G,
 ) -> Result<Work, NoMemory>
     requires scale { IsScale names.scale }
-    ensures { IfOk result (λ w. IsAnswered design.now (budget_of words.now.nodes (block_count design.now)) names.entry.scale names.entry.cert.now (text_of names.entry.pl) w.status (stored_in w.stores.items) w.text.items) }
+    ensures { IfOk result (λ w. IsAnswered design.now (budget_of nodes (block_count design.now)) names.entry.scale names.entry.cert.now (text_of names.entry.pl) w.status (stored_in w.stores.items) w.text.items) }
 {
-    let nodes = budget_of(words.nodes, design.blocks.as_slice().len() as u64);
-    let options = SearchOptions {
-        workers: words.workers,
-        nodes,
-    };
+    let nodes = budget_of(nodes, design.blocks.as_slice().len() as u64);
+    let options = SearchOptions { workers, nodes };
     let found = search(rt, alloc, design, &Standard, options, gate)?;
     answered(alloc, design, nodes, found, names)
 }

@@ -1,4 +1,4 @@
-use Rattle.std.proofs.Common.{◌≡◌, sym, ◌∙◌}
+use Rattle.std.proofs.Common.{sym, ◌∙◌}
 use Rattle.sf_words.specs.Seen.{text_of}
 use Rattle.sf_program.proofs.Told.{bound-below, told-answered}
 use Rattle.sf_program.proofs.planning.answered.Goals as goal

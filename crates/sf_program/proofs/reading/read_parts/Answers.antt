@@ -1,4 +1,3 @@
-use Rattle.std.proofs.Common.{◌≡◌}
 use Rattle.sf_program.proofs.reading.read_parts.Goals as goal
 
 pub returns-in-Gsrc-clause-parts : goal.returns-in-Gsrc-clause-parts

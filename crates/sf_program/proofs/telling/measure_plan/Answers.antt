@@ -1,4 +1,4 @@
-use Rattle.std.proofs.Common.{◌≡◌, ap, sym, subst, length, arith}
+use Rattle.std.proofs.Common.{ap, sym, subst, length, arith}
 use Rattle.sf_model.specs.Legal.{HasEachOnce}
 use Rattle.sf_model.specs.Tree.{tree_of}
 use Rattle.sf_place.specs.Verdict.{AreLegal}

@@ -1,4 +1,4 @@
-use Rattle.std.proofs.Common.{◌≡◌, ◌*◌, ◌≤◌, ◌^◌, ℕ, ap, ◌∙◌, length, arith}
+use Rattle.std.proofs.Common.{◌*◌, ◌≤◌, ◌^◌, ℕ, ap, ◌∙◌, length, arith}
 use Rattle.sf_program.proofs.telling.tell_plan.Goals as goal
 
 pub push_placed-requires-clause-one_each : goal.push_placed-requires-clause-one_each

@@ -1,0 +1,54 @@
+-- Generated texts are never refused.
+use Rattle.std.proofs.Common.{◌≡◌, inl, inr, Result, Ok, Err, sym, subst, ◌∙◌}
+use Rattle.std.specs.Prelude.{IfErr, IfOk}
+use Rattle.sf_model.specs.declared.design.Design.{Design}
+use Rattle.sf_model.specs.declared.fault.BuildFault.{BuildFault}
+use Rattle.sf_model.specs.declared.raw.Parts.{Parts}
+use Rattle.sf_soft_shapes.specs.Listed.{HasNoneFor}
+use Rattle.sf_words.specs.Meaning.{DesignOptions, WeightOptions}
+use Rattle.sf_program.specs.declared.stop.Stop.{Stop}
+use Rattle.sf_program.specs.Outcome.{Refusal, Ends, IsFault, Stops}
+use Rattle.sf_program.specs.Reading.{DesignMade, Judged, Said}
+use Rattle.sf_program.proofs.Stages.{stops-map}
+
+module _ {X F : Type 0} (first : Result X F) (refusal : F → Refusal) (out : X) (read : first ≡ Ok out) where
+  no-fault : (fault : F) → first ≡ Err fault → ⊥
+  no-fault fault e = let k : Ok out ≡ Err fault = sym read ∙ e in absurd (cc)
+
+  -- a reader of a text that is read
+  pub said-is : (Stands : X → Type 0) → ((x : X) → Stands x → x ≡ out) → (r : Result X Stop) → Ends (λ x. x) r (Said Stands first refusal) → IfOk r (λ x. x ≡ out)
+  said-is Stands once (Ok x) h = once x h
+  said-is Stands once (Err stop) h = tt
+
+  pub said-never : (Stands : X → Type 0) → (r : Result X Stop) → Ends (λ x. x) r (Said Stands first refusal) → IfErr r IsFault
+  said-never Stands (Ok x) h = tt
+  said-never Stands (Err stop) h = stops-map (λ why. Said Stands first refusal (Err why)) (λ why. ⊥) (λ why s. no-fault s.0 s.1) stop h
+
+  -- a value that is there
+  judged-same : (r : Result X Refusal) → Judged first refusal r → r ≡ Ok out
+  judged-same r h = subst (λ f. Judged f refusal r) read h
+
+  pub judged-is : (r : Result X Stop) → Ends (λ x. x) r (Judged first refusal) → IfOk r (λ x. x ≡ out)
+  judged-is (Ok x) h = let k : Ok x ≡ Ok out = judged-same (Ok x) h in cc
+  judged-is (Err stop) h = tt
+
+  pub judged-never : (r : Result X Stop) → Ends (λ x. x) r (Judged first refusal) → IfErr r IsFault
+  judged-never (Ok x) h = tt
+  judged-never (Err stop) h = stops-map (λ why. Judged first refusal (Err why)) (λ why. ⊥) (λ why s. let k : Err why ≡ Ok out = judged-same (Err why) s in absurd (cc)) stop h
+
+-- each block has a shape
+module _ (o : DesignOptions) (w : WeightOptions) (parts : Parts) (shaped : (fault : BuildFault) → HasNoneFor o.shapes o.is_fixed parts.blocks fault → ⊥) where
+  no-refusal : (why : Refusal) → DesignMade o w parts (Err why) → ⊥
+  no-refusal why d = elim d [ inl m ↦ m.2 | inr m ↦ shaped m.1.0 m.1.1 ]
+
+  pub made-never : (r : Result Design Stop) → Ends (λ x. x) r (DesignMade o w parts) → IfErr r IsFault
+  made-never (Ok x) h = tt
+  made-never (Err stop) h = stops-map (λ why. DesignMade o w parts (Err why)) (λ why. ⊥) no-refusal stop h
+
+pub made-ok : (o : DesignOptions) (w : WeightOptions) (parts : Parts) (S : Type 0) → S → (r : Result Design Stop) → Ends (λ x. x) r (DesignMade o w parts) → IfOk r (λ d. S × DesignMade o w parts (Ok d))
+made-ok o w parts S s (Ok d) h = (s, h)
+made-ok o w parts S s (Err stop) h = tt
+
+-- what is never refused stops for no refusal
+pub never-stops : (P : Refusal → Type 0) (stop : Stop) → IsFault stop → Stops stop P
+never-stops P stop h = stops-map (λ why. ⊥) P (λ why k. absurd k) stop h

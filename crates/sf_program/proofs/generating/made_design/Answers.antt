@@ -1,0 +1,41 @@
+use Rattle.std.proofs.Common.{false, sym, subst, arith}
+use Rattle.sf_gsrc.proofs.NetLaws as nets
+use Rattle.sf_gsrc.proofs.PlaceLaws as places
+use Rattle.sf_gsrc.proofs.StandingLaws as blocks
+use Rattle.sf_model.specs.declared.fault.BuildFault.{BuildFault}
+use Rattle.sf_model.specs.declared.raw.Parts.{Parts}
+use Rattle.sf_model.specs.Admitted.{IsAdmitted}
+use Rattle.sf_words.specs.Seen.{gen_seen}
+use Rattle.sf_program.specs.Generated.{TextsStand, both_weights, by_default, kinds_of, parts_made}
+use Rattle.sf_soft_shapes.specs.Listed.{HasNoneFor}
+use Rattle.sf_program.specs.Outcome.{Ends}
+use Rattle.sf_program.specs.Reading.{DesignMade}
+use Rattle.sf_program.proofs.Made.{made-never, made-ok}
+use Rattle.sf_program.proofs.generating.made_design.Goals as goal
+
+pub make_design-requires-clause-admitted : goal.make_design-requires-clause-admitted
+make_design-requires-clause-admitted c =
+    let words = c.args.words.now in
+    subst IsAdmitted (sym c.requires.is) (c.parts_are_admitted.ensures.admitted (kinds_of words.kinds) words.seed words.count words.count_low words.count_high)
+
+pub returns-clause-design : goal.returns-clause-design
+returns-clause-design c =
+    let words = c.args.words.now in
+    let o = gen_seen words in
+    let stand : TextsStand o = record {
+      blocks = blocks.stands_from_read 1 _ _ (c.blocks_are_read.ensures (kinds_of words.kinds) words.seed words.count words.count_low words.count_high);
+      nets = nets.stands_from_read _ _ (c.nets_are_read.ensures words.seed words.count words.count_low words.count_high);
+      places = places.stands_from_read 1 _ _ (c.places_are_read.ensures words.count words.count_high);
+      joins = c.parts_are_admitted.ensures.joined (kinds_of words.kinds) words.seed words.count;
+      admitted = c.parts_are_admitted.ensures.admitted (kinds_of words.kinds) words.seed words.count words.count_low words.count_high;
+    } in
+    let made : Ends (λ d. d) c.make_design.result (DesignMade by_default both_weights (parts_made o)) =
+    subst (λ (p : Parts). Ends (λ d. d) c.make_design.result (DesignMade by_default both_weights p)) c.requires.is c.make_design.ensures.design in
+    made-ok by_default both_weights (parts_made o) (TextsStand o) stand c.make_design.result made
+
+pub returns-clause-never : goal.returns-clause-never
+returns-clause-never c =
+    let words = c.args.words.now in
+    let none : (fault : BuildFault) → HasNoneFor 16 false c.args.parts.blocks fault → ⊥ =
+    subst (λ (p : Parts). (fault : BuildFault) → HasNoneFor 16 false p.blocks fault → ⊥) (sym c.requires.is) (λ fault h. c.blocks_have_shapes.ensures.never_refused (kinds_of words.kinds) words.seed words.count 16 false fault (omega arith) h) in
+    made-never by_default both_weights c.args.parts none c.make_design.result c.make_design.ensures.design

@@ -1,0 +1,225 @@
+//! The command `gen`: a design made from a number.
+
+ghost use Rattle.std.specs.Prelude.{◌≡◌, ◌++◌, ℕ, All, Ok, Err, IfErr, IfOk, string_bytes};
+ghost use Rattle.sf_gsrc.specs.Ranges.{HasPinsInAnyRange};
+ghost use Rattle.sf_model.specs.Admitted.{HasPinsInRange, HasSizes, IsSized};
+ghost use Rattle.sf_words.specs.Seen.{gen_seen};
+ghost use Rattle.sf_program.specs.Generated.{DesignGenerated, GenRead, IsGenerated, blocks_made, blocks_said, kinds_of, nets_made, nets_said, parts_made, pl_made, places_said, texts_stored};
+ghost use Rattle.sf_program.specs.Loads.{TellsLoads};
+ghost use Rattle.sf_program.specs.Outcome.{IsFault, Stops};
+ghost use Rattle.sf_program.specs.Stores.{stored_in};
+
+use crate::budget::test_budget;
+use crate::making::make_design;
+use crate::parsing::{join, parse_blocks, parse_nets, parse_places};
+use crate::planning::searched;
+use crate::stop::Stop;
+use crate::telling::Names;
+use crate::work::{Store, Work};
+use sf_gen::{
+    GenTexts, blocks_are_read, blocks_have_shapes, design_of, nets_are_read, parts_are_admitted,
+    places_are_read,
+};
+use sf_gsrc::{GsrcBlocks, GsrcNets, GsrcPlaces};
+use sf_io::Gate;
+use sf_model::{Design, Parts};
+use sf_words::{DesignWords, GenWords, InputFiles, Kinds, WeightWords};
+use std::alloc::{AllocError as NoMemory, Global};
+use std::thread::Threads;
+
+fn kinds_of(kinds: Kinds) -> sf_gen::Kinds
+    ensures { result ≡ kinds_of kinds }
+{
+    match kinds {
+        Kinds::Hard => sf_gen::Kinds::Hard,
+        Kinds::Mixed => sf_gen::Kinds::Mixed,
+    }
+}
+
+/// The texts of the design that the words ask for.
+fn made_texts(alloc: Global, words: &GenWords<'_>) -> Result<GenTexts, NoMemory>
+    ensures blocks { IfOk result (λ t. t.blocks ≡ blocks_made (gen_seen words.now)) }
+    ensures nets { IfOk result (λ t. t.nets ≡ nets_made (gen_seen words.now)) }
+    ensures pl { IfOk result (λ t. t.pl ≡ pl_made (gen_seen words.now)) }
+{
+    design_of(alloc, words.seed, words.count, kinds_of(words.kinds))
+}
+
+/// The blocks for which the text stands.
+fn made_blocks(alloc: Global, words: &GenWords<'_>, text: &[u8]) -> Result<GsrcBlocks, Stop>
+    requires { text.now ≡ blocks_made (gen_seen words.now) }
+    ensures is { IfOk result (λ out. out ≡ blocks_said (gen_seen words.now)) }
+    ensures sizes { IfOk result (λ out. All (λ b. IsSized b.kind) out.blocks) }
+    ensures never { IfErr result IsFault }
+    ensures tells { (loads loads_then : ℕ) → IfErr result (TellsLoads loads loads_then) }
+{
+    blocks_are_read();
+    parse_blocks(alloc, text, 1)
+}
+
+/// The nets for which the text stands.
+fn made_nets(alloc: Global, words: &GenWords<'_>, text: &[u8]) -> Result<GsrcNets, Stop>
+    requires { text.now ≡ nets_made (gen_seen words.now) }
+    ensures is { IfOk result (λ out. out ≡ nets_said (gen_seen words.now)) }
+    ensures pins { IfOk result (λ out. HasPinsInAnyRange out.nets) }
+    ensures never { IfErr result IsFault }
+    ensures tells { (loads loads_then : ℕ) → IfErr result (TellsLoads loads loads_then) }
+{
+    nets_are_read();
+    parse_nets(alloc, text)
+}
+
+/// The places for which the text stands.
+fn made_places(alloc: Global, words: &GenWords<'_>, text: &[u8]) -> Result<GsrcPlaces, Stop>
+    requires { text.now ≡ pl_made (gen_seen words.now) }
+    ensures is { IfOk result (λ out. out ≡ places_said (gen_seen words.now)) }
+    ensures never { IfErr result IsFault }
+    ensures tells { (loads loads_then : ℕ) → IfErr result (TellsLoads loads loads_then) }
+{
+    places_are_read();
+    parse_places(alloc, "pl", text, 1)
+}
+
+/// The parts to which the three are joined.
+fn made_parts(
+    alloc: Global,
+    words: &GenWords<'_>,
+    blocks: GsrcBlocks,
+    nets: GsrcNets,
+    places: GsrcPlaces,
+) -> Result<Parts, Stop>
+    requires blocks { blocks ≡ blocks_said (gen_seen words.now) }
+    requires nets { nets ≡ nets_said (gen_seen words.now) }
+    requires places { places ≡ places_said (gen_seen words.now) }
+    requires sizes { All (λ b. IsSized b.kind) blocks.blocks }
+    requires pins { HasPinsInAnyRange nets.nets }
+    ensures is { IfOk result (λ parts. parts ≡ parts_made (gen_seen words.now)) }
+    ensures sizes { IfOk result HasSizes }
+    ensures pins { IfOk result HasPinsInRange }
+    ensures never { IfErr result IsFault }
+    ensures tells { (loads loads_then : ℕ) → IfErr result (TellsLoads loads loads_then) }
+{
+    parts_are_admitted();
+    join(alloc, blocks, Some(nets), Some(places))
+}
+
+/// The parts of the three texts.
+fn read_back(alloc: Global, words: &GenWords<'_>, texts: &GenTexts) -> Result<Parts, Stop>
+    requires blocks { texts.now.blocks ≡ blocks_made (gen_seen words.now) }
+    requires nets { texts.now.nets ≡ nets_made (gen_seen words.now) }
+    requires pl { texts.now.pl ≡ pl_made (gen_seen words.now) }
+    ensures is { IfOk result (λ parts. parts ≡ parts_made (gen_seen words.now)) }
+    ensures sizes { IfOk result HasSizes }
+    ensures pins { IfOk result HasPinsInRange }
+    ensures never { IfErr result IsFault }
+    ensures tells { (loads loads_then : ℕ) → IfErr result (TellsLoads loads loads_then) }
+{
+    let blocks = made_blocks(alloc, words, texts.blocks.as_slice())?;
+    let nets = made_nets(alloc, words, texts.nets.as_slice())?;
+    let places = made_places(alloc, words, texts.pl.as_slice())?;
+    made_parts(alloc, words, blocks, nets, places)
+}
+
+/// The name of a file: the base, and what it ends with.
+fn named(alloc: Global, words: &GenWords<'_>, ending: &str) -> Result<String, NoMemory>
+    ensures { IfOk result (λ name. string_bytes name ≡ words.now.out.now ++ ending.now) }
+{
+    let mut name = String::from_str(alloc, words.out)?;
+    name.push_str(ending)?;
+    Ok(name)
+}
+
+/// The design of the generated parts.
+fn made_design(alloc: Global, words: &GenWords<'_>, parts: Parts) -> Result<Design, Stop>
+    requires is { parts ≡ parts_made (gen_seen words.now) }
+    requires sizes { HasSizes parts }
+    requires pins { HasPinsInRange parts }
+    ensures design { IfOk result (λ d. DesignGenerated (gen_seen words.now) (Ok d)) }
+    ensures never { IfErr result IsFault }
+    ensures tells { (loads loads_then : ℕ) → IfErr result (TellsLoads loads loads_then) }
+{
+    nets_are_read();
+    blocks_are_read();
+    places_are_read();
+    parts_are_admitted();
+    blocks_have_shapes();
+    let told = DesignWords {
+        input: InputFiles::Gsrc {
+            blocks: "",
+            nets: None,
+            pl: None,
+        },
+        per_unit: 1,
+        is_fixed: false,
+        shapes: 16,
+        width: 1_048_576,
+        height: 1_048_576,
+    };
+    make_design(alloc, &told, WeightWords { area: 1, wire: 1 }, parts)
+}
+
+/// The stores of the three texts.
+fn text_stores(alloc: Global, words: &GenWords<'_>, texts: GenTexts) -> Result<Vec<Store>, NoMemory>
+    requires blocks { texts.blocks ≡ blocks_made (gen_seen words.now) }
+    requires nets { texts.nets ≡ nets_made (gen_seen words.now) }
+    requires pl { texts.pl ≡ pl_made (gen_seen words.now) }
+    ensures { IfOk result (λ stores. stored_in stores.items ≡ texts_stored (gen_seen words.now)) }
+{
+    let mut stores = Vec::new(alloc);
+    stores.push(Store {
+        name: named(alloc, words, ".blocks")?,
+        bytes: texts.blocks.into_vec(),
+    })?;
+    stores.push(Store {
+        name: named(alloc, words, ".nets")?,
+        bytes: texts.nets.into_vec(),
+    })?;
+    stores.push(Store {
+        name: named(alloc, words, ".pl")?,
+        bytes: texts.pl.into_vec(),
+    })?;
+    Ok(stores)
+}
+
+/// The answer of a search, behind other stores.
+fn behind(mut stores: Vec<Store>, searched: Work) -> Result<Work, NoMemory>
+    ensures stores { IfOk result (λ w. stored_in w.stores.items ≡ stored_in stores.items ++ stored_in searched.stores.items) }
+    ensures status { IfOk result (λ w. w.status ≡ searched.status) }
+    ensures text { IfOk result (λ w. w.text ≡ searched.text) }
+{
+    for store in searched.stores {
+        stores.push(store)?;
+    }
+    Ok(Work {
+        status: searched.status,
+        stores,
+        text: searched.text,
+    })
+}
+
+/// Makes a design from a number, stores its texts, and searches it as `plan` does, with one worker.
+pub fn generate<R: Threads + Sync, G: Gate>(
+    rt: &R,
+    alloc: Global,
+    words: &GenWords<'_>,
+    gate: &G,
+) -> Result<Work, Stop>
+    ensures answer { IfOk result (λ w. IsGenerated (gen_seen words.now) w.status (stored_in w.stores.items) w.text.items) }
+    ensures refused { IfErr result (λ stop. Stops stop (λ why. GenRead (gen_seen words.now) (Err why))) }
+    ensures tells { (loads loads_then : ℕ) → IfErr result (TellsLoads loads loads_then) }
+{
+    test_budget(alloc, words.nodes, u64::from(words.count))?;
+    let texts = made_texts(alloc, words)?;
+    let parts = read_back(alloc, words, &texts)?;
+    let design = made_design(alloc, words, parts)?;
+    let cert = named(alloc, words, ".cert")?;
+    let names = Names {
+        cert: cert.as_str(),
+        pl: None,
+        scale: 1,
+    };
+    let searched = searched(rt, alloc, &design, words.nodes, 1, names, gate)?;
+    let stores = text_stores(alloc, words, texts)?;
+    let work = behind(stores, searched)?;
+    Ok(work)
+}

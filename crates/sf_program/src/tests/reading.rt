@@ -1,0 +1,282 @@
+//! Texts of designs: two formats of one design, loose forms that are read, and refusals with nothing stored.
+
+use super::texts::{
+    CELL_BLOCKS, CELL_CERT, CELL_LINES, CELL_NETS, CELL_PADS, CELL_PLACES, CELLS, JOINED, NOWHERE,
+    ONE_CERT, ONE_LINES, PADDED, SQUARES, TO_PAD,
+};
+use super::{GIVEN, Printed, Row, answer, assert_rows, words_of};
+use sf_io::{MemShelf, Status};
+use std::test::Fail;
+
+const PLAN: Row = Row {
+    command: "plan --format gsrc --blocks a.blocks --cert a.cert",
+    ..GIVEN
+};
+
+const WIRED: Row = Row {
+    command: "plan --format gsrc --blocks a.blocks --nets a.nets --pl a.pl --cert a.cert",
+    ..GIVEN
+};
+
+const YAL: Row = Row {
+    command: "plan --format yal --yal a.yal --cert a.cert",
+    ..GIVEN
+};
+
+const LOOSE: &[u8] = b"UCSC blocks 1.0
+NumSoftRectangularBlocks : 0
+NumHardRectilinearBlocks : 1
+NumTerminals : 0
+b0 hardrectilinear 4 (0, 0) (0, 4) 3 4 (3, 0)
+";
+
+const CUT_OFF: &[u8] = b"UCSC blocks 1.0
+NumSoftRectangularBlocks : 0
+NumHardRectilinearBlocks : 1
+";
+
+const NO_BLOCKS: &[u8] = b"UCSC blocks 1.0
+NumSoftRectangularBlocks : 0
+NumHardRectilinearBlocks : 0
+NumTerminals : 0
+";
+
+const MISCOUNTED: &[u8] = b"UCSC blocks 1.0
+NumSoftRectangularBlocks : 0
+NumHardRectilinearBlocks : 2
+NumTerminals : 0
+b0 hardrectilinear 4 (0, 0) (0, 2) (2, 2) (2, 0)
+";
+
+const NAMESAKES: &[u8] = b"UCSC blocks 1.0
+NumSoftRectangularBlocks : 0
+NumHardRectilinearBlocks : 2
+NumTerminals : 0
+b0 hardrectilinear 4 (0, 0) (0, 2) (2, 2) (2, 0)
+b0 hardrectilinear 4 (0, 0) (0, 2) (2, 2) (2, 0)
+";
+
+const SHORT_NET: &[u8] = b"UCLA nets 1.0
+NumNets : 1
+NumPins : 3
+NetDegree : 3
+b0 B
+b1 B
+";
+
+const STRANGE_NET: &[u8] = b"UCLA nets 1.0
+NumNets : 1
+NumPins : 2
+NetDegree : 2
+b0 B
+zz B
+";
+
+const PAD_TWICE: &[u8] = b"UCLA pl 1.0\np0 10 0\np0 10 0\n";
+
+const PAD_TOO_FAR: &[u8] = b"UCLA pl 1.0\np0 1048577 0\n";
+
+const PAD_AT_LIMIT: &[u8] = b"UCLA pl 1.0\np0 1048576 0\n";
+
+const COMPRESSED: &[u8] = b"\x1f\x8b\x08";
+
+const YAL_UNCLOSED: &[u8] = b"MODULE a; TYPE PARENT;";
+
+const YAL_NO_PARENT: &[u8] = b"MODULE a; ENDMODULE;";
+
+const YAL_STRANGE_CELL: &[u8] = b"MODULE t; TYPE PARENT; NETWORK; u zz n; ENDNETWORK; ENDMODULE;";
+
+/// Designs that are read.
+const READ: &[Row] = &[
+    Row {
+        options: "--wire-weight 1 --pl-out a.out",
+        files: &[("a.yal", CELLS)],
+        printed: Printed::Whole(CELL_LINES),
+        stored: &[("a.cert", CELL_CERT), ("a.out", CELL_PLACES)],
+        ..YAL
+    },
+    Row {
+        options: "--wire-weight 1 --pl-out a.out",
+        files: &[
+            ("a.blocks", CELL_BLOCKS),
+            ("a.nets", CELL_NETS),
+            ("a.pl", CELL_PADS),
+        ],
+        printed: Printed::Whole(CELL_LINES),
+        stored: &[("a.cert", CELL_CERT), ("a.out", CELL_PLACES)],
+        ..WIRED
+    },
+    Row {
+        files: &[("a.blocks", LOOSE)],
+        printed: Printed::Whole(ONE_LINES),
+        stored: &[("a.cert", ONE_CERT)],
+        ..PLAN
+    },
+    Row {
+        files: &[
+            ("a.blocks", PADDED),
+            ("a.nets", TO_PAD),
+            ("a.pl", PAD_AT_LIMIT),
+        ],
+        printed: Printed::Lines("status Optimal"),
+        ..WIRED
+    },
+];
+
+/// Designs of blocks, nets and pads that are refused, or that can't be loaded.
+const REFUSED: &[Row] = &[
+    Row {
+        files: &[("a.blocks", b"")],
+        status: Status::BadInput,
+        printed: Printed::Whole("error BadInput blocks 0 Truncated\n"),
+        ..PLAN
+    },
+    Row {
+        files: &[("a.blocks", COMPRESSED)],
+        status: Status::BadInput,
+        printed: Printed::Whole("error BadInput blocks 1 BadTitle\n"),
+        ..PLAN
+    },
+    Row {
+        files: &[("a.blocks", CUT_OFF)],
+        status: Status::BadInput,
+        printed: Printed::Whole("error BadInput blocks 3 Truncated\n"),
+        ..PLAN
+    },
+    Row {
+        files: &[("a.blocks", MISCOUNTED)],
+        status: Status::BadInput,
+        printed: Printed::Whole("error BadInput blocks 3 CountDiffers 2 1\n"),
+        ..PLAN
+    },
+    Row {
+        files: &[("a.blocks", NO_BLOCKS)],
+        status: Status::BadInput,
+        printed: Printed::Whole("error BadInput design 0 NoBlocks\n"),
+        ..PLAN
+    },
+    Row {
+        files: &[("a.blocks", NAMESAKES)],
+        status: Status::BadInput,
+        printed: Printed::Whole("error BadInput design 0 DuplicateName b0\n"),
+        ..PLAN
+    },
+    Row {
+        files: &[
+            ("a.blocks", SQUARES),
+            ("a.nets", SHORT_NET),
+            ("a.pl", NOWHERE),
+        ],
+        status: Status::BadInput,
+        printed: Printed::Whole("error BadInput nets 4 BadDegree 3 2\n"),
+        ..WIRED
+    },
+    Row {
+        files: &[
+            ("a.blocks", SQUARES),
+            ("a.nets", STRANGE_NET),
+            ("a.pl", NOWHERE),
+        ],
+        status: Status::BadInput,
+        printed: Printed::Whole("error BadInput design 0 UnknownName zz\n"),
+        ..WIRED
+    },
+    Row {
+        options: "--nets a.nets",
+        files: &[("a.blocks", SQUARES), ("a.nets", STRANGE_NET)],
+        status: Status::BadInput,
+        printed: Printed::Whole("error BadInput design 0 UnknownName zz\n"),
+        ..PLAN
+    },
+    Row {
+        files: &[
+            ("a.blocks", PADDED),
+            ("a.nets", TO_PAD),
+            ("a.pl", PAD_TWICE),
+        ],
+        status: Status::BadInput,
+        printed: Printed::Whole("error BadInput design 0 DuplicateName p0\n"),
+        ..WIRED
+    },
+    Row {
+        files: &[
+            ("a.blocks", PADDED),
+            ("a.nets", TO_PAD),
+            ("a.pl", PAD_TOO_FAR),
+        ],
+        status: Status::OverLimit,
+        printed: Printed::Whole("error OverLimit coordinate 1048577 1048576\n"),
+        ..WIRED
+    },
+    Row {
+        options: "--wire-weight 1",
+        files: &[("a.blocks", SQUARES), ("a.pl", NOWHERE)],
+        status: Status::ReadFault,
+        ..WIRED
+    },
+    Row {
+        files: &[("a.yal", YAL_UNCLOSED)],
+        status: Status::BadInput,
+        printed: Printed::Whole("error BadInput yal 1 Truncated\n"),
+        ..YAL
+    },
+    Row {
+        files: &[("a.yal", YAL_NO_PARENT)],
+        status: Status::BadInput,
+        printed: Printed::Whole("error BadInput yal 0 NoParent\n"),
+        ..YAL
+    },
+    Row {
+        files: &[("a.yal", YAL_STRANGE_CELL)],
+        status: Status::BadInput,
+        printed: Printed::Whole("error BadInput yal 1 UnknownModule zz\n"),
+        ..YAL
+    },
+];
+
+/// What stands before the one block of a text.
+const BEFORE_BLOCK: &str =
+    "UCSC blocks 1.0\nNumSoftRectangularBlocks : 0\nNumHardRectilinearBlocks : 1\nNumTerminals : 0\n";
+
+/// Lines of a block, and the faults that they show.
+const BLOCK_LINES: [(&str, &str); 5] = [
+    ("b0 hardrectilinear 4 (0, 0) (0, 4) (3, 4) (3,", "BadLine"),
+    (
+        "b0 hardrectilinear 9000000000000000 (0, 0) (0, 4) (3, 4) (3, 0)",
+        "BadLine",
+    ),
+    (
+        "b0 hardrectilinear 99999999999999999 (0, 0) (0, 4) (3, 4) (3, 0)",
+        "BadNumber TooLarge",
+    ),
+    (
+        "b0 hardrectilinear 4 (0, 0) (0, 4) (2.5, 4) (2.5, 0)",
+        "BadNumber NotWhole",
+    ),
+    ("b0 hardrectilinear 2 (0, 0) (3, 0)", "ZeroSide"),
+];
+
+#[test]
+fn designs(rt: HostRuntime) -> Result<(), Fail> {
+    for rows in [READ, REFUSED] {
+        assert_rows(&rt, rt.alloc(), rows)?;
+    }
+    Ok(())
+}
+
+#[test]
+fn lines_of_a_block(rt: HostRuntime) -> Result<(), Fail> {
+    let alloc = rt.alloc();
+    let words = words_of(alloc, &[PLAN.command])?;
+    for (line, fault) in BLOCK_LINES {
+        let text = format!(in alloc; "{BEFORE_BLOCK}{line}\n")?;
+        let said = format!(in alloc; "error BadInput blocks 5 {fault}\n")?;
+        let mut shelf = MemShelf::new(alloc, Vec::new(alloc));
+        shelf.add("a.blocks", text.as_bytes())?;
+        let (status, printed) = answer(&rt, alloc, &words, &mut shelf, 0)?;
+        assert_eq!(rt; status, Status::BadInput, "{line}");
+        assert_eq!(rt; printed.as_str(), said.as_str(), "{line}");
+        assert!(rt; shelf.bytes("a.cert").is_none(), "{line}");
+    }
+    Ok(())
+}

@@ -1,0 +1,168 @@
+//! Words of the command line: lists without a meaning, ranges of values, and all options of each command.
+
+use super::texts::{
+    BESIDE, CELL_BLOCKS, CELL_CERT, CELL_LINES, CELL_NETS, CELL_PADS, CELL_PLACES, CELLS, ONE,
+};
+use super::{GIVEN, Printed, Row, Text, answer, assert_rows, assert_words, shelf_of, words_of};
+use sf_io::Status;
+use std::alloc::{AllocError, Global};
+use std::test::Fail;
+
+/// Lists of words without a meaning, the empty list first.
+const MEANINGLESS: &str = "
+plan --format gsrc --blocks a.blocks
+plan --format gsrc --blocks a.blocks --cert a.cert --workers 17
+plan --format gsrc --blocks a.blocks --cert a.cert --area-weight 0 --wire-weight 0
+plan --format gsrc --blocks a.blocks --cert a.cert --shapes 1
+plan --format gsrc --blocks a.blocks --cert a.cert --shapes 257
+plan --format gsrc --blocks a.blocks --cert a.cert --outline 1048577x1
+gen --seed 7 --seed 7 --count 4 --out g
+gen --seed 7 --count 321 --out g
+gen --help";
+
+/// Values at the ends of a range.
+const AT_ENDS: &[Row] = &[
+    Row {
+        command: "plan --format gsrc --blocks a.blocks --cert a.cert --shapes 2",
+        files: &[("a.blocks", ONE)],
+        printed: Printed::Lines("status Optimal"),
+        ..GIVEN
+    },
+    Row {
+        command: "plan --format gsrc --blocks a.blocks --cert a.cert --shapes 256",
+        files: &[("a.blocks", ONE)],
+        printed: Printed::Lines("status Optimal"),
+        ..GIVEN
+    },
+];
+
+const GSRC: &[Text] = &[
+    ("a.blocks", CELL_BLOCKS),
+    ("a.nets", CELL_NETS),
+    ("a.pl", CELL_PADS),
+    ("a.cert", CELL_CERT),
+    ("a.out", CELL_PLACES),
+    ("a.expr", BESIDE),
+];
+
+const YAL: &[Text] = &[
+    ("a.yal", CELLS),
+    ("a.cert", CELL_CERT),
+    ("a.out", CELL_PLACES),
+    ("a.expr", BESIDE),
+];
+
+const PLAN: Row = Row {
+    options: "--per-unit 1 --fixed --shapes 16 --outline 1048576x1048576 --area-weight 1 --wire-weight 1 --cert a.cert --pl-out a.out --workers 1 --nodes 20",
+    printed: Printed::Whole(CELL_LINES),
+    stored: &[("a.cert", CELL_CERT), ("a.out", CELL_PLACES)],
+    ..GIVEN
+};
+
+const CHECK: Row = Row {
+    options: "--per-unit 1 --fixed --shapes 16 --outline 1048576x1048576 --area-weight 1 --wire-weight 1 --cert a.cert",
+    printed: Printed::Whole("status Yes\ncost 32\nbound 32\ndecided 9\n"),
+    ..GIVEN
+};
+
+const MEASURE: Row = Row {
+    options: "--per-unit 1 --fixed --shapes 16 --outline 1048576x1048576 --area-weight 1 --wire-weight 1 --placed a.out",
+    printed: Printed::Whole("status Legal\ncost 32\nsize 4 2\narea 8\nwire 24\n"),
+    ..GIVEN
+};
+
+const SHAPE: Row = Row {
+    options: "--per-unit 1 --fixed --shapes 16 --outline 1048576x1048576 --expr a.expr",
+    printed: Printed::Whole("4 2\nleast 4 2 8\n"),
+    ..GIVEN
+};
+
+/// Each command with all of its options that go with a format.
+const ALL_OPTIONS: &[Row] = &[
+    Row {
+        command: "plan --format gsrc --blocks a.blocks --nets a.nets --pl a.pl",
+        files: GSRC,
+        ..PLAN
+    },
+    Row {
+        command: "plan --format yal --yal a.yal",
+        files: YAL,
+        ..PLAN
+    },
+    Row {
+        command: "check --format gsrc --blocks a.blocks --nets a.nets --pl a.pl",
+        files: GSRC,
+        ..CHECK
+    },
+    Row {
+        command: "check --format yal --yal a.yal",
+        files: YAL,
+        ..CHECK
+    },
+    Row {
+        command: "measure --format gsrc --blocks a.blocks --nets a.nets --pl a.pl",
+        files: GSRC,
+        ..MEASURE
+    },
+    Row {
+        command: "measure --format yal --yal a.yal",
+        files: YAL,
+        ..MEASURE
+    },
+    Row {
+        command: "shape --format gsrc --blocks a.blocks --nets a.nets --pl a.pl",
+        files: GSRC,
+        ..SHAPE
+    },
+    Row {
+        command: "shape --format yal --yal a.yal",
+        files: YAL,
+        ..SHAPE
+    },
+];
+
+/// The same words with `--name=value` in place of `--name value`.
+fn joined(alloc: Global, words: &[String]) -> Result<Vec<String>, AllocError> {
+    let mut joined: Vec<String> = Vec::new(alloc);
+    for word in words {
+        match joined.last_mut() {
+            Some(last) if last.starts_with("--") && !word.starts_with("--") => {
+                last.push_str("=")?;
+                last.push_str(word.as_str())?;
+            }
+            _ => joined.push(word.clone()?)?,
+        }
+    }
+    Ok(joined)
+}
+
+#[test]
+fn without_meaning(rt: HostRuntime) -> Result<(), Fail> {
+    let alloc = rt.alloc();
+    for list in MEANINGLESS.lines() {
+        let words = words_of(alloc, &[list])?;
+        let mut shelf = shelf_of(alloc, &[("a.blocks", ONE)], 0)?;
+        let (status, printed) = answer(&rt, alloc, &words, &mut shelf, 0)?;
+        assert_eq!(rt; status, Status::Usage, "{list}");
+        assert_eq!(rt; printed.as_str(), "error Usage\n", "{list}");
+        assert!(rt; shelf.bytes("a.cert").is_none(), "{list}");
+    }
+    Ok(())
+}
+
+#[test]
+fn ends_of_ranges(rt: HostRuntime) -> Result<(), Fail> {
+    assert_rows(&rt, rt.alloc(), AT_ENDS)
+}
+
+#[test]
+fn all_options(rt: HostRuntime) -> Result<(), Fail> {
+    let alloc = rt.alloc();
+    for row in ALL_OPTIONS {
+        let words = words_of(alloc, &[row.command, row.options])?;
+        assert_words(&rt, alloc, row, &words, 0, 0)?;
+        let words = joined(alloc, &words)?;
+        assert_words(&rt, alloc, row, &words, 0, 0)?;
+    }
+    Ok(())
+}
