@@ -1,5 +1,5 @@
 -- What the code finds of a subproblem that is not solved.
-use Rattle.std.specs.Prelude.{◌≡◌, ℕ, ◌≤◌, List, ◌++◌, map, true, false, Option, MatchOption, sum_by}
+use Rattle.std.specs.Prelude.{◌≡◌, ℕ, ◌*◌, ◌≤◌, List, ◌++◌, map, true, false, Option, MatchOption, sum_by}
 use Rattle.std.specs.List.{list_any}
 use Rattle.sf_model.specs.declared.design.Design.{Design}
 use Rattle.sf_model.specs.Tree.{Tree}
@@ -27,3 +27,8 @@ IsNeededOrNone design node found = MatchOption found (list_any has_none (group_p
 pub record IsWirePart (design : Design) (node : Parts) (v : ℕ) : Type 0 where
   pub value : v ≡ sum_by (net_part design node) design.nets
   pub small : v ≤ 183500800000000
+
+-- what they cost
+pub record IsWireCost (design : Design) (node : Parts) (v : ℕ) : Type 0 where
+  pub value : v ≡ design.weights.wire * sum_by (net_part design node) design.nets
+  pub small : v ≤ 12025724928000000000

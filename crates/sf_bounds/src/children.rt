@@ -60,7 +60,7 @@ pub fn children_values(
     requires children { children.now ≡ extended parent.now }
     ensures { IfOk result (λ values. values.items ≡ map (standard design.now) children.now) }
 {
-    let mut values = Vec::new(room.alloc);
+    let mut values = Vec::with_capacity(room.alloc, children.len())?;
     for child in children {
         values.push(child_value(room, design, parent, value, child)?)?;
     }

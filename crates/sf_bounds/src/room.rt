@@ -1,11 +1,15 @@
 use crate::layout::Layout;
 use crate::reach::Reach;
+use crate::stock::Stock;
+use sf_curves::Curve;
 use std::alloc::Global;
 
 /// Scratch memory of one worker. No answer depends on what it holds.
 #[derive(Drop)]
 pub struct Room {
     pub(crate) alloc: Global,
+    pub(crate) curves: Vec<Curve>,
+    pub(crate) stock: Stock,
     pub(crate) layout: Layout,
     pub(crate) reaches: Vec<Reach>,
 }
@@ -15,6 +19,8 @@ impl Room {
     pub fn new(alloc: Global) -> Room {
         Room {
             alloc,
+            curves: Vec::new(alloc),
+            stock: Stock::new(alloc),
             layout: Layout {
                 extents: Vec::new(alloc),
                 held: Vec::new(alloc),

@@ -252,10 +252,11 @@ impl Node {
         requires { IsSubproblem design.now self.now }
         ensures { IfOk result (λ children. children.items ≡ extended self.now) }
     {
-        let mut children = Vec::new(*self.steps.allocator());
+        let blocks = design.blocks.as_slice().len();
+        let most = blocks.saturating_sub(self.tokens.len() / 2) + 2;
+        let mut children = Vec::with_capacity(self.allocator(), most)?;
         self.push_join(&mut children, Step::Beside, Token::Beside)?;
         self.push_join(&mut children, Step::Above, Token::Above)?;
-        let blocks = design.blocks.as_slice().len();
         let used = used_blocks(self.allocator(), blocks, &self.tokens)?;
         for block in 0..blocks as u16 {
             if !used[block as usize] {
