@@ -69,8 +69,8 @@ impl From<How> for Kind {
     }
 }
 
-/// Each subproblem with its bound.
-fn paired(alloc: Global, nodes: Vec<Node>, costs: Vec<u64>) -> Result<Vec<Task>, NoMemory>
+/// Each subproblem with its bound, in order.
+pub fn paired(alloc: Global, nodes: Vec<Node>, costs: Vec<u64>) -> Result<Vec<Task>, NoMemory>
     ensures { IfOk result (λ paired. paired.items ≡ map task_of (zip nodes.items costs.items)) }
 {
     nodes

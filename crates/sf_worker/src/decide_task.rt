@@ -1,12 +1,13 @@
-ghost use Rattle.std.specs.Prelude.{◌≡◌, ◌∷◌, [], map, zip, All, IfOk};
+ghost use Rattle.std.specs.Prelude.{◌≡◌, ◌∷◌, [], map, All, IfOk};
 ghost use Rattle.sf_node.specs.Children.{IsSubproblem, extended};
-ghost use Rattle.sf_worker.specs.Decided.{IsDecision, task_of, valued};
+ghost use Rattle.sf_worker.specs.Decided.{IsDecision, valued};
 
 use crate::decision::{Decision, Tasks};
 use sf_bounds::{Bounds, Room, solve};
 use sf_model::Design;
 use sf_node::{Node, Task};
-use std::alloc::{AllocError as NoMemory, Global};
+use sf_search_core::paired;
+use std::alloc::AllocError as NoMemory;
 
 /// Decides a task against a value that some plan costs, or that none does.
 pub fn decide<B: Bounds>(
@@ -69,14 +70,4 @@ fn extended<B: Bounds>(
     let children = task.node.extend_children(design)?;
     let costs = bounds.children_bounds(design, &task.node, task.bound, &children, room)?;
     paired(task.node.allocator(), children, costs)
-}
-
-fn paired(alloc: Global, nodes: Vec<Node>, costs: Vec<u64>) -> Result<Vec<Task>, NoMemory>
-    ensures { IfOk result (λ tasks. tasks.items ≡ map task_of (zip nodes.items costs.items)) }
-{
-    nodes
-        .into_iter()
-        .zip(costs)
-        .map(|(node, bound)| Task { node, bound })
-        .collect(alloc)
 }

@@ -1,7 +1,7 @@
 use Rattle.std.proofs.Common.{◌∙◌, ap}
 use Rattle.std.proofs.lemmas.Result.{IfOk-weaker}
 use Rattle.sf_search_core.specs.Events.{tasks}
-use Rattle.sf_search_core.proofs.Paired.{zip_tasks}
+use Rattle.sf_search_core.proofs.Zipped.{zip_tasks}
 use Rattle.sf_search_core.proofs.pool.children_with.Goals as goal
 
 pub returns : goal.returns
