@@ -11,6 +11,7 @@ import subprocess
 import sys
 import tempfile
 
+sys.dont_write_bytecode = True
 from run import write_design
 
 #        name       blocks  nets   budget

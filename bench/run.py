@@ -3,7 +3,8 @@
 
 Each case is a design that this script writes into FOLDER (a temporary one by default), and the words of one run on it.
 The designs follow from a number by a rule of their own: block i is w by h with w and h from 4 to 32, and net j joins
-two blocks, taken one after another from the generator x -> 6364136223846793005 x + 1442695040888963407 mod 2^64, of
+two blocks, taken one after another from the generator, begun at the number
+of blocks, x -> 6364136223846793005 x + 1442695040888963407 mod 2^64, of
 which the upper 31 bits are used. Printed are, per case: processor time, the decided subproblems, decisions per second,
 greatest resident memory, bytes of certificate per decided subproblem, the gap between cost and bound, and, where the
 case asks for it, the time of `check` on the certificate.
