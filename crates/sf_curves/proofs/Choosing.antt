@@ -13,8 +13,8 @@ use Rattle.sf_polish.specs.Postfix.{postfix}
 use Rattle.sf_polish.specs.Shaping.{no_shape}
 use Rattle.sf_curves.specs.declared.curve_tree.CurveTree.{CurveTree}
 use Rattle.sf_curves.specs.declared.curve_tree.CurveTree.TheVariants as tree
-use Rattle.sf_curves.specs.Choices.{shapes_in, IsChoice, IsRootCurve, size_of}
-use Rattle.sf_curves.specs.Forms.{form, curve_of, form_of, IsCurveTree, IsTraced, IsChosen}
+use Rattle.sf_curves.specs.Choices.{shapes_in, IsChoice, IsRootCurve, TakesFrom, size_of}
+use Rattle.sf_curves.specs.Forms.{form, curve_of, form_of, IsCurveTree, IsTraced, IsChosen, IsSized}
 use Rattle.sf_curves.specs.Points.{IsBelow, IsWithin, IsNoLarger, IsCovered, CoversJoins, IsJoinOf, beside_size, above_size}
 use Rattle.sf_curves.proofs.Forms.{same-form, form-tokens}
 use Rattle.sf_curves.proofs.OnCurve.{same_point, one_point}
@@ -79,13 +79,13 @@ module _ (design : Design) (spans : List (ℕ × ℕ)) where
       covers-joined above_size above-grows design.outline (curve_of l) (curve_of r) c (size_of x) (size_of y) h.0.covers
       (covers-tree l x h.1 el (each-left _ (leaves x) (leaves y) all)) (covers-tree r y h.2 er (each-right _ (leaves x) (leaves y) all))
 
-  record IsSized (c : CurveTree) (p : Shape) : Type 0 where
+  record HasSize (c : CurveTree) (p : Shape) : Type 0 where
     plan : Tree
     formed : form plan ≡ form_of c
     listed : IsListed design spans plan
     size : size_of plan ≡ p
 
-  traced-tree : (c : CurveTree) (p : Shape) → IsCurveTree design spans c → Contains (curve_of c) p → IsSized c p
+  traced-tree : (c : CurveTree) (p : Shape) → IsCurveTree design spans c → Contains (curve_of c) p → HasSize c p
   traced-tree (tree.Leaf b c) p h k = record { plan = Leaf b p; formed = refl; listed = (All-contains (Contains (shapes_in design spans b)) c p h.traced k, tt); size = refl }
   traced-tree (tree.Beside' c i l j r) p h k =
       let s = All-contains (IsJoinOf beside_size (curve_of l) (curve_of r)) c p h.0.traced k in
@@ -132,8 +132,38 @@ module _ (design : Design) (spans : List (ℕ × ℕ)) where
   pub tree-curve : (tokens : List Token) (c : CurveTree) → IsCurveTree design spans c → postfix (form_of c) ≡ tokens → AllPairs IsBelow (curve_of c) → IsRootCurve design tokens spans (curve_of c)
   tree-curve tokens c h is falls = record { falls = falls; within = within-tree c h; traced = curve-traced tokens c h is; covers = curve-covers tokens c h is }
 
+  -- what the curves of the tree say holds of the root curves of the parts
+  pub sized-takes : (c : CurveTree) (t : Tree) (p : Shape) → IsCurveTree design spans c → form t ≡ form_of c → IsSized c t p → TakesFrom design spans t p
+  sized-takes (tree.Leaf b c) (Leaf k s) p h e z = z
+  sized-takes (tree.Leaf b c) (Beside x y) p h e z = absurd z
+  sized-takes (tree.Leaf b c) (Above x y) p h e z = absurd z
+  sized-takes (tree.Beside' c i l j r) (Leaf k s) p h e z = absurd z
+  sized-takes (tree.Beside' c i l j r) (Beside x y) p h e z =
+      let el : form x ≡ form_of l = cc in
+      let er : form y ≡ form_of r = cc in (
+        z.0,
+        z.1,
+        record { points = curve_of l; curve = tree-curve (postfix x) l h.1 (sym (form-tokens x l el)) z.2.falls; narrowest = z.2.narrowest },
+        record { points = curve_of r; curve = tree-curve (postfix y) r h.2 (sym (form-tokens y r er)) z.3.falls; narrowest = z.3.narrowest },
+        sized-takes l x z.0 h.1 el z.4,
+        sized-takes r y z.1 h.2 er z.5,
+      )
+  sized-takes (tree.Beside' c i l j r) (Above x y) p h e z = absurd z
+  sized-takes (tree.Above' c i l j r) (Leaf k s) p h e z = absurd z
+  sized-takes (tree.Above' c i l j r) (Beside x y) p h e z = absurd z
+  sized-takes (tree.Above' c i l j r) (Above x y) p h e z =
+      let el : form x ≡ form_of l = cc in
+      let er : form y ≡ form_of r = cc in (
+        z.0,
+        z.1,
+        record { points = curve_of l; curve = tree-curve (postfix x) l h.1 (sym (form-tokens x l el)) z.2.falls; lowest = z.2.lowest },
+        record { points = curve_of r; curve = tree-curve (postfix y) r h.2 (sym (form-tokens y r er)) z.3.falls; lowest = z.3.lowest },
+        sized-takes l x z.0 h.1 el z.4,
+        sized-takes r y z.1 h.2 er z.5,
+      )
+
   -- a chosen plan is a choice
-  chosen-form : (c : CurveTree) (t : Tree) → IsCurveTree design spans c → IsChosen c t → (form t ≡ form_of c) × IsListed design spans t
+  pub chosen-form : (c : CurveTree) (t : Tree) → IsCurveTree design spans c → IsChosen c t → (form t ≡ form_of c) × IsListed design spans t
   chosen-form (tree.Leaf b c) (Leaf k s) h e =
       (ap (λ n. Leaf n no_shape) e.0, (subst (λ n. Contains (shapes_in design spans n) s) (sym e.0) (All-contains (Contains (shapes_in design spans b)) c s h.traced e.1), tt))
   chosen-form (tree.Leaf b c) (Beside x y) h e = absurd e

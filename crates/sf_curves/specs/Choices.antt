@@ -3,11 +3,11 @@ use Rattle.std.specs.Prelude.{◌≡◌, ℕ, ◌<◌, ◌≤◌, List, length, 
 use Rattle.sf_model.specs.declared.design.Design.{Design}
 use Rattle.sf_model.specs.declared.parts.Shape.{Shape}
 use Rattle.sf_model.specs.Legal.{block_count, shapes_of}
-use Rattle.sf_model.specs.Tree.{Tree, width, height, leaves}
+use Rattle.sf_model.specs.Tree.{Tree, Leaf, Beside, Above, width, height, leaves}
 use Rattle.sf_polish.specs.declared.expr.Expr.{Expr}
 use Rattle.sf_polish.specs.declared.expr.Token.{Token}
 use Rattle.sf_polish.specs.Postfix.{postfix, Spells}
-use Rattle.sf_curves.specs.Points.{IsBelow, IsWithin, IsCovered}
+use Rattle.sf_curves.specs.Points.{IsBelow, IsWithin, IsCovered, IsNarrowest, IsLowest}
 
 -- the span of a block: from the first place of its list, and before the second
 abbrev pub span_in : List (ℕ × ℕ) → ℕ → ℕ × ℕ
@@ -42,9 +42,32 @@ pub record IsRootCurve (design : Design) (tokens : List Token) (spans : List (�
 abbrev pub IsOnRootCurve : Design → List Token → List (ℕ × ℕ) → Shape → Type 0
 IsOnRootCurve design tokens spans point = (points : List Shape) × IsRootCurve design tokens spans points × Contains points point
 
--- the expression stands for a choice of just this size
+-- the narrowest point of the tokens' root curve that is no higher than the limit
+pub record IsNarrowestOf (design : Design) (tokens : List Token) (spans : List (ℕ × ℕ)) (limit : ℕ) (p : Shape) : Type 0 where
+  pub points : List Shape
+  pub curve : IsRootCurve design tokens spans points
+  pub narrowest : IsNarrowest limit points p
+
+-- the lowest point of the tokens' root curve that is no wider than the limit
+pub record IsLowestOf (design : Design) (tokens : List Token) (spans : List (ℕ × ℕ)) (limit : ℕ) (p : Shape) : Type 0 where
+  pub points : List Shape
+  pub curve : IsRootCurve design tokens spans points
+  pub lowest : IsLowest limit points p
+
+-- how a plan takes its shapes from a point: of two rooms side by side each has the narrowest point that is no higher, of two rooms one above the other each has the lowest that is no wider, and a block has the point for its shape
+abbrev pub TakesFrom : Design → List (ℕ × ℕ) → Tree → Shape → Type 0
+TakesFrom design spans (Leaf b s) p = s ≡ p
+TakesFrom design spans (Beside l r) p =
+    (x : Shape) × (y : Shape) × IsNarrowestOf design (postfix l) spans p.h x × IsNarrowestOf design (postfix r) spans p.h y
+    × TakesFrom design spans l x × TakesFrom design spans r y
+TakesFrom design spans (Above l r) p =
+    (x : Shape) × (y : Shape) × IsLowestOf design (postfix l) spans p.w x × IsLowestOf design (postfix r) spans p.w y
+    × TakesFrom design spans l x × TakesFrom design spans r y
+
+-- the expression stands for a choice of just this size, whose shapes are those that the point leads to
 pub record IsTraceOf (design : Design) (tokens : List Token) (spans : List (ℕ × ℕ)) (point : Shape) (expr : Expr) : Type 0 where
   pub tree : Tree
   pub spells : Spells expr tree
   pub choice : IsChoice design tokens spans tree
   pub size : size_of tree ≡ point
+  pub takes : TakesFrom design spans tree point

@@ -1,5 +1,5 @@
 -- Trees of curves, and the plans that are chosen from them.
-use Rattle.std.specs.Prelude.{◌≡◌, ℕ, List, All, Contains, ⊤}
+use Rattle.std.specs.Prelude.{◌≡◌, ℕ, List, All, AllPairs, Contains, ⊤}
 use Rattle.sf_model.specs.declared.design.Design.{Design}
 use Rattle.sf_model.specs.declared.parts.Shape.{Shape}
 use Rattle.sf_model.specs.Tree.{Tree, Leaf, Beside, Above}
@@ -7,7 +7,7 @@ use Rattle.sf_polish.specs.Shaping.{no_shape}
 use Rattle.sf_curves.specs.declared.curve_tree.CurveTree.{CurveTree}
 use Rattle.sf_curves.specs.declared.curve_tree.CurveTree.TheVariants as tree
 use Rattle.sf_curves.specs.Choices.{shapes_in}
-use Rattle.sf_curves.specs.Points.{IsCurveOf, IsCombination, IsJoinOf, beside_size, above_size}
+use Rattle.sf_curves.specs.Points.{IsBelow, IsCurveOf, IsCombination, IsJoinOf, IsNarrowest, IsLowest, beside_size, above_size}
 
 -- the plan without its shapes
 abbrev pub form : Tree → Tree
@@ -50,3 +50,27 @@ IsChosen (tree.Beside' c p l q r) (Above x y) = ⊥
 IsChosen (tree.Above' c p l q r) (Leaf k s) = ⊥
 IsChosen (tree.Above' c p l q r) (Beside x y) = ⊥
 IsChosen (tree.Above' c p l q r) (Above x y) = IsChosen l x × IsChosen r y
+
+-- the narrowest point of a curve that is no higher than the limit
+pub record IsNarrowestOn (curve : List Shape) (limit : ℕ) (p : Shape) : Type 0 where
+  pub falls : AllPairs IsBelow curve
+  pub narrowest : IsNarrowest limit curve p
+
+-- the lowest point of a curve that is no wider than the limit
+pub record IsLowestOn (curve : List Shape) (limit : ℕ) (p : Shape) : Type 0 where
+  pub falls : AllPairs IsBelow curve
+  pub lowest : IsLowest limit curve p
+
+-- the plan has the form of the tree, and its shapes are those that the point leads to on the curves
+abbrev pub IsSized : CurveTree → Tree → Shape → Type 0
+IsSized (tree.Leaf b c) (Leaf k s) p = s ≡ p
+IsSized (tree.Leaf b c) (Beside x y) p = ⊥
+IsSized (tree.Leaf b c) (Above x y) p = ⊥
+IsSized (tree.Beside' c i l j r) (Leaf k s) p = ⊥
+IsSized (tree.Beside' c i l j r) (Beside x y) p =
+    (q : Shape) × (t : Shape) × IsNarrowestOn (curve_of l) p.h q × IsNarrowestOn (curve_of r) p.h t × IsSized l x q × IsSized r y t
+IsSized (tree.Beside' c i l j r) (Above x y) p = ⊥
+IsSized (tree.Above' c i l j r) (Leaf k s) p = ⊥
+IsSized (tree.Above' c i l j r) (Beside x y) p = ⊥
+IsSized (tree.Above' c i l j r) (Above x y) p =
+    (q : Shape) × (t : Shape) × IsLowestOn (curve_of l) p.w q × IsLowestOn (curve_of r) p.w t × IsSized l x q × IsSized r y t

@@ -1,10 +1,10 @@
-ghost use Rattle.std.specs.Prelude.{◌≡◌, ◌≤◌, length, All, Any, Contains, IfOk};
+ghost use Rattle.std.specs.Prelude.{◌≡◌, ◌≤◌, length, All, AllPairs, Any, Contains, IfOk};
 ghost use Rattle.sf_model.specs.Tree.{tree_of};
 ghost use Rattle.sf_model.specs.declared.parts.Shape.{Shape};
 ghost use Rattle.sf_polish.specs.Normal.{IsNormal};
 ghost use Rattle.sf_curves.specs.Choices.{AreSpans, IsOnRootCurve, IsTraceOf, size_of};
-ghost use Rattle.sf_curves.specs.Forms.{curve_of, IsTraced, IsChosen};
-ghost use Rattle.sf_curves.specs.Points.{IsNarrowest, IsLowest, IsNoLarger, IsJoinOf, beside_size, above_size};
+ghost use Rattle.sf_curves.specs.Forms.{curve_of, IsTraced, IsChosen, IsSized, IsNarrowestOn, IsLowestOn};
+ghost use Rattle.sf_curves.specs.Points.{IsBelow, IsNarrowest, IsLowest, IsNoLarger, IsJoinOf, beside_size, above_size};
 
 use crate::curve::{Curve, Point};
 use crate::curve_tree::CurveTree;
@@ -15,7 +15,8 @@ use std::alloc::{AllocError as NoMemory, Global};
 
 fn narrowest(curve: &Curve, limit: u32) -> Point
     requires { Any (λ q. q.h ≤ limit) curve.now }
-    ensures { IsNarrowest limit curve.now result }
+    ensures narrowest { IsNarrowest limit curve.now result }
+    ensures falls { AllPairs IsBelow curve.now }
 {
     let Some(point) = curve.narrowest(limit) else {
         unreachable!()
@@ -25,7 +26,8 @@ fn narrowest(curve: &Curve, limit: u32) -> Point
 
 fn lowest(curve: &Curve, limit: u32) -> Point
     requires { Any (λ q. q.w ≤ limit) curve.now }
-    ensures { IsLowest limit curve.now result }
+    ensures lowest { IsLowest limit curve.now result }
+    ensures falls { AllPairs IsBelow curve.now }
 {
     let Some(point) = curve.lowest(limit) else {
         unreachable!()
@@ -37,8 +39,8 @@ fn lowest(curve: &Curve, limit: u32) -> Point
 fn beside_points(curve: &Curve, left: &Curve, right: &Curve, point: Point) -> (Point, Point)
     requires joined { All (IsJoinOf beside_size left.now right.now) curve.now }
     requires on_curve { Contains curve.now point }
-    ensures left { Contains left.now result.0 }
-    ensures right { Contains right.now result.1 }
+    ensures left { IsNarrowestOn left.now point.h result.0 }
+    ensures right { IsNarrowestOn right.now point.h result.1 }
     ensures small { (x : Shape) (y : Shape) → IsNoLarger x result.0 → IsNoLarger y result.1 → IsNoLarger (beside_size x y) point }
 {
     (narrowest(left, point.h), narrowest(right, point.h))
@@ -48,8 +50,8 @@ fn beside_points(curve: &Curve, left: &Curve, right: &Curve, point: Point) -> (P
 fn above_points(curve: &Curve, lower: &Curve, upper: &Curve, point: Point) -> (Point, Point)
     requires joined { All (IsJoinOf above_size lower.now upper.now) curve.now }
     requires on_curve { Contains curve.now point }
-    ensures lower { Contains lower.now result.0 }
-    ensures upper { Contains upper.now result.1 }
+    ensures lower { IsLowestOn lower.now point.w result.0 }
+    ensures upper { IsLowestOn upper.now point.w result.1 }
     ensures small { (x : Shape) (y : Shape) → IsNoLarger x result.0 → IsNoLarger y result.1 → IsNoLarger (above_size x y) point }
 {
     (lowest(lower, point.w), lowest(upper, point.w))
@@ -61,6 +63,7 @@ fn sized_plan(alloc: Global, tree: &CurveTree, point: Point) -> Result<Plan, NoM
     requires on_curve { Contains (curve_of tree.now) point }
     ensures chosen { IfOk result (λ plan. IsChosen tree.now (tree_of plan)) }
     ensures size { IfOk result (λ plan. IsNoLarger (size_of (tree_of plan)) point) }
+    ensures sized { IfOk result (λ plan. IsSized tree.now (tree_of plan) point) }
 {
     match tree {
         CurveTree::Leaf(block, _) => Ok(Plan::Leaf(*block, point)),

@@ -8,4 +8,4 @@ pub narrowest-requires-2 : goal.narrowest-requires-2
 narrowest-requires-2 c = (beside_low c.args.left.now c.args.right.now c.args.curve.now c.args.point c.requires.joined c.requires.on_curve).1
 
 pub returns-clause-small : goal.returns-clause-small
-returns-clause-small c x y h k = beside_small c.args.left.now c.args.right.now c.args.curve.now c.args.point c.narrowest.result c.narrowest-2.result x y c.requires.joined c.requires.on_curve c.narrowest.ensures c.narrowest-2.ensures h k
+returns-clause-small c x y h k = beside_small c.args.left.now c.args.right.now c.args.curve.now c.args.point c.narrowest.result c.narrowest-2.result x y c.requires.joined c.requires.on_curve c.narrowest.ensures.narrowest c.narrowest-2.ensures.narrowest h k

@@ -5,7 +5,7 @@ use Rattle.sf_polish.specs.Postfix.{Spells}
 use Rattle.sf_polish.proofs.Shaped.{once-of_normal}
 use Rattle.sf_curves.specs.Choices.{IsTraceOf}
 use Rattle.sf_curves.specs.Forms.{curve_of}
-use Rattle.sf_curves.proofs.Choosing.{curve-traced, curve-covers, tree-traced, chosen-choice, same-points, just-sized}
+use Rattle.sf_curves.proofs.Choosing.{curve-traced, curve-covers, tree-traced, chosen-form, chosen-choice, sized-takes, same-points, just-sized}
 use Rattle.sf_curves.proofs.Forms.{skewed-of_normal}
 use Rattle.sf_curves.proofs.Members.{IfOk-weaker}
 use Rattle.sf_curves.proofs.tracing.trace.Goals as goal
@@ -47,6 +47,7 @@ returns-clause-traced c =
       spells = spells;
       choice = choice;
       size = just-sized design tokens spans c.requires.on_curve.0 c.args.point tree c.requires.on_curve.1 c.requires.on_curve.2 choice c.in_ok-plan.ensures.size;
+      takes = sized-takes design spans c.in_ok-tree.tree tree c.args.point c.in_ok-tree.ensures.curves (chosen-form design spans c.in_ok-tree.tree tree c.in_ok-tree.ensures.curves c.in_ok-plan.ensures.chosen).0 c.in_ok-plan.ensures.sized;
     }) c.expr_of.ensures.spelled
 
 pub returns-clause-tokens : goal.returns-clause-tokens
