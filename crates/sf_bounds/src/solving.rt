@@ -1,7 +1,7 @@
-ghost use Rattle.std.specs.Prelude.{◌≡◌, IfOk, IsTrue};
+ghost use Rattle.std.specs.Prelude.{◌≡◌, IfOk, IfSome, IsTrue};
 ghost use Rattle.sf_node.specs.Subproblem.{is_complete, is_solved};
 ghost use Rattle.sf_node.specs.Children.{IsSubproblem};
-ghost use Rattle.sf_bounds.specs.Cheapest.{IsSolution};
+ghost use Rattle.sf_bounds.specs.Cheapest.{IsSolution, IsLeastTrace};
 
 use crate::only_plan::only_plan;
 use sf_curves::curve::area;
@@ -16,7 +16,8 @@ fn least_plan(alloc: Global, design: &Design, node: &Node) -> Result<Option<(Exp
     requires subproblem { IsSubproblem design.now node.now }
     requires complete { IsTrue (is_complete node.now) }
     requires no_wire { design.now.weights.wire ≡ 0 }
-    ensures { IfOk result (IsSolution design.now node.now) }
+    ensures solution { IfOk result (IsSolution design.now node.now) }
+    ensures traced { IfOk result (λ found. IfSome found (λ pair. IsLeastTrace design.now node.now pair.0)) }
 {
     let tokens = node.tokens();
     let spans = node.spans();
@@ -29,11 +30,12 @@ fn least_plan(alloc: Global, design: &Design, node: &Node) -> Result<Option<(Exp
 }
 
 /// A plan of a solved subproblem that fits and costs least, and its cost; none exactly where no plan of the subproblem
-/// fits. Where only areas count it is that of the least area on the curve of the whole, of equal areas the narrowest.
+/// fits. Where only areas count it is the trace of the least area on the root curve, of equal areas of the narrowest.
 pub fn solve(alloc: Global, design: &Design, node: &Node) -> Result<Option<(Expr, u64)>, NoMemory>
     requires subproblem { IsSubproblem design.now node.now }
     requires solved { IsTrue (is_solved design.now node.now) }
-    ensures { IfOk result (IsSolution design.now node.now) }
+    ensures solution { IfOk result (IsSolution design.now node.now) }
+    ensures traced { design.now.weights.wire ≡ 0 → IfOk result (λ found. IfSome found (λ pair. IsLeastTrace design.now node.now pair.0)) }
 {
     if design.weights.wire == 0 {
         return least_plan(alloc, design, node);

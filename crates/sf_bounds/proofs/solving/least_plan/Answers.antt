@@ -22,8 +22,8 @@ trace-requires-clause-normal c =
 pub trace-requires-clause-spans : goal.trace-requires-clause-spans
 trace-requires-clause-spans c = subst (AreSpans c.args.design.now) (sym c.spans-spans.ensures) (curve_spans c.args.design.now c.args.node.now c.requires.subproblem)
 
-pub returns-in_default : goal.returns-in_default
-returns-in_default c =
+pub returns-in_default-clause-solution : goal.returns-in_default-clause-solution
+returns-in_default-clause-solution c =
     let design = c.args.design.now in
     let curve = c.in_ok-curve.curve in
     let root = subst (λ v. IsRootCurve design c.args.node.now.tokens v curve) c.spans-spans.ensures (subst (λ v. IsRootCurve design v c.spans-spans.result.now curve) c.tokens-tokens.ensures c.in_ok-curve.ensures) in
@@ -37,8 +37,8 @@ overflow_mul-result c =
     let k = least-small design c.args.node.now c.requires.subproblem c.requires.complete curve root c.in-Some.point c.in-Some.ensures.least in
     rw (c.from.ensures, c.area.ensures) (omega (arith, k))
 
-pub returns : goal.returns
-returns c =
+pub returns-clause-solution : goal.returns-clause-solution
+returns-clause-solution c =
     let design = c.args.design.now in
     let node = c.args.node.now in
     let curve = c.in_ok-curve.curve in
@@ -50,3 +50,18 @@ returns c =
     ap (λ n. n * area_of point) (sym c.from.ensures) ∙ ap (λ n. c.from.result * n) (sym c.area.ensures) in
     subst (IsCheapest design node expr) e
     (cheapest design node c.requires.subproblem c.requires.complete curve root point expr c.requires.no_wire c.in-Some.ensures.least c.in_ok-expr.ensures.one_each traced)
+
+pub returns-clause-traced : goal.returns-clause-traced
+returns-clause-traced c =
+    let design = c.args.design.now in
+    let node = c.args.node.now in
+    let curve = c.in_ok-curve.curve in
+    let point = c.in-Some.point in
+    let expr = c.in_ok-expr.expr in
+    record {
+      points = curve;
+      point = point;
+      curve = subst (λ v. IsRootCurve design node.tokens v curve) c.spans-spans.ensures (subst (λ v. IsRootCurve design v c.spans-spans.result.now curve) c.tokens-tokens.ensures c.in_ok-curve.ensures);
+      least = c.in-Some.ensures.least;
+      trace = subst (λ v. IsTraceOf design node.tokens v point expr) c.spans-spans.ensures (subst (λ v. IsTraceOf design v c.spans-spans.result.now point expr) c.tokens-tokens.ensures c.in_ok-expr.ensures.traced);
+    }
