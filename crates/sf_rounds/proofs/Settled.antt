@@ -1,12 +1,12 @@
 -- The states that the events of a turn make.
-use Rattle.std.proofs.Common.{◌≡◌, ℕ, suc, ◌+◌, ◌-◌, ◌<◌, ◌≤◌, min, List, [], ◌∷◌, ◌++◌, map, reverse, length, All, arith, refl, ap, sym, subst, ◌∙◌, Option, Some, None, Result, Ok, Err, Bool, true, false, cond, not, length-append, eq-eqb, inl, inr}
+use Rattle.std.proofs.Common.{◌≡◌, ℕ, suc, ◌+◌, ◌-◌, ◌<◌, ◌≤◌, min, List, [], ◌∷◌, ◌++◌, map, reverse, length, All, arith, refl, ap, sym, subst, ◌∙◌, Option, Some, None, Result, Ok, Err, Bool, true, false, cond, not, length-append, append_assoc, eq-eqb, inl, inr}
 use Prim.Native.Nat.{zero}
 use Rattle.std.specs.Prelude.{IsOk, IfOk, slice_set, slice_get, nat_lt, nat_le, remove, IsTrue, IsFalse, ◌==◌, ◌&&◌, ◌||◌}
 use Rattle.std.specs.List.{list_all}
 use Rattle.std.specs.Result.{is_ok}
 use Rattle.std.proofs.lemmas.Bool.{lt-ltb, cond-true, cond-false, cases_Bool, cases_lt}
 use Rattle.std.proofs.lemmas.List.{length-map}
-use Rattle.std.proofs.lemmas.List.Elements.{All-push}
+use Rattle.std.proofs.lemmas.List.Elements.{All-push, All-weaker}
 use Rattle.sf_model.specs.declared.design.Design.{Design}
 use Rattle.sf_polish.specs.declared.expr.Expr.{Expr}
 use Rattle.sf_node.specs.declared.task.Task.{Task}
@@ -38,7 +38,8 @@ use Rattle.sf_count.proofs.Weighed.{entries-few}
 use Rattle.sf_node.specs.Full.{full}
 use Rattle.sf_search_core.specs.Core.{IsCoreState, held_tasks}
 use Rattle.sf_rounds.specs.Turns.{settling, turn_of, turn, turns}
-use Rattle.sf_rounds.specs.Run.{IsIdle, IsBest, Decides, IsTurned, IsSettled}
+use Rattle.sf_rounds.specs.Found.{IsOfFirst, IsFirst}
+use Rattle.sf_rounds.specs.Run.{IsIdle, IsBest, Decides, IsTurned, IsSettled, best_after}
 
 not-lt : (a b : ℕ) → b ≤ a → nat_lt a b ≡ false
 not-lt a b h = grind arith
@@ -153,28 +154,69 @@ pub if-ok : {X E : Type 0} (r : Result X E) (P Q : X → Type 0) → ((x : X) �
 if-ok (Ok x) P Q f p = f x p
 if-ok (Err e) P Q f p = tt
 
+pub if-both-ok : {X E : Type 0} (r : Result X E) (P Q R : X → Type 0) → ((x : X) → P x → Q x → R x) → IfOk r P → IfOk r Q → IfOk r R
+if-both-ok (Ok x) P Q R f p q = f x p q
+if-both-ok (Err e) P Q R f p q = tt
+
+-- the plan that was found first stays the first one when entries are added
+first-more : (design : Design) (entries more : List Entry) (word : ℕ) (expr : Expr) → IsOfFirst design entries word expr → IsOfFirst design (entries ++ more) word expr
+first-more design entries more word expr f = record {
+  before = f.before;
+  node = f.node;
+  after = f.after ++ more;
+  at = ap (λ v. v ++ more) f.at ∙ append_assoc f.before (record { node = f.node; kind = kind.Closed; value = word } ∷ f.after) more;
+  first = f.first;
+  solved = f.solved;
+  plan = f.plan;
+  traced = f.traced;
+}
+
+first-kept : (design : Design) (old new : State) (e : Entry) (best : Option Expr) → new.entries ≡ old.entries ++ e ∷ [] → new.word ≡ old.word → IsFirst design old best → IsFirst design new best
+first-kept design old new e None k same f = tt
+first-kept design old new e (Some expr) k same f =
+    subst (λ w. IsOfFirst design new.entries w expr) (sym same)
+    (subst (λ es. IsOfFirst design es old.word expr) (sym k) (first-more design old.entries (e ∷ []) old.word expr f))
+
+-- the plan of a solved task below the word is the first one of its cost
+first-solved : (design : Design) (state : State) (t : Task) (expr : Expr) (z : ℕ) → All (λ entry. state.word ≤ entry.value) state.entries → IsSolvedBy design t state.word expr z → IsOfFirst design (state.entries ++ record { node = t.node; kind = kind.Closed; value = t.bound } ∷ []) t.bound expr
+first-solved design state t expr z fresh d = record {
+  before = state.entries;
+  node = t.node;
+  after = [];
+  at = refl;
+  first = All-weaker (λ entry. state.word ≤ entry.value) (λ entry. t.bound < entry.value) (λ entry h. omega (arith, h, d.below)) state.entries fresh;
+  solved = d.solved;
+  plan = subst (IsPlanOf design t.node expr) d.same d.plan;
+  traced = d.traced;
+}
+
 module _ (design : Design) (state : State) where
-  entry-settled : (new : State) (e : Entry) → new.held ≡ slice_set state.held 0 None → new.entries ≡ state.entries ++ e ∷ [] → BranchesFirst design e.kind e.node → IsSettled design state new
-  entry-settled new e h k first = record {
+  entry-settled : (decision : Decision) (new : State) (e : Entry) → new.held ≡ slice_set state.held 0 None → new.entries ≡ state.entries ++ e ∷ [] → BranchesFirst design e.kind e.node → ((best : Option Expr) → IsFirst design state best → IsFirst design new (best_after decision best)) → IsSettled design decision state new
+  entry-settled decision new e h k first keeps = record {
     held = h;
     one_more = omega (arith, ap length k, length-append state.entries (e ∷ []));
     splits = λ a. subst (AllBranchFirst design) (sym k) (All-push (λ entry. BranchesFirst design entry.kind entry.node) state.entries e a first);
+    keeps = keeps;
   }
 
-  module _ (bound : Parts → ℕ) where
-    settled-at : (held : Option Task) (decision : Decision) → held_by state 0 ≡ held → Decides design bound held state.word decision → IsSettled design state (after_events design state (settling design bound held state.word))
+  module _ (bound : Parts → ℕ) (fresh : All (λ entry. state.word ≤ entry.value) state.entries) where
+    settled-at : (held : Option Task) (decision : Decision) → held_by state 0 ≡ held → Decides design bound held state.word decision → IsSettled design decision state (after_events design state (settling design bound held state.word))
     settled-at None decision e d = absurd d
     settled-at (Some t) Closed e d =
         let same : after_events design state (settling design bound (Some t) state.word) ≡ closed state t state.word =
         ap (after_events design state) (settling-closed design bound t state.word d) ∙ ap (next_of state) (close-done design state t e state.word (omega arith) d) in
-        subst (IsSettled design state) (sym same) (entry-settled (closed state t state.word) (record { node = t.node; kind = kind.Closed; value = state.word }) refl refl tt)
+        let e' : Entry = record { node = t.node; kind = kind.Closed; value = state.word } in
+        subst (IsSettled design Closed state) (sym same) (entry-settled Closed (closed state t state.word) e' refl refl tt (λ best f. first-kept design state (closed state t state.word) e' best refl refl f))
     settled-at (Some t) (Solved expr z) e d =
         let s1 : State = record state { word = min state.word t.bound } in
         let same : after_events design state (settling design bound (Some t) state.word) ≡ closed s1 t t.bound =
         ap (after_events design state) (settling-solved design bound t state.word d.below d.solved)
         ∙ ap (λ r. after_event design (next_of state r) (Close 0 t.bound)) (offer-done design state t e d.solved)
         ∙ ap (next_of s1) (close-done design s1 t e t.bound (omega arith) (omega arith)) in
-        subst (IsSettled design state) (sym same) (entry-settled (closed s1 t t.bound) (record { node = t.node; kind = kind.Closed; value = t.bound }) refl refl tt)
+        let least : min state.word t.bound ≡ t.bound = omega (arith, d.below) in
+        let e' : Entry = record { node = t.node; kind = kind.Closed; value = t.bound } in
+        let found = subst (λ w. IsOfFirst design (state.entries ++ e' ∷ []) w expr) (sym least) (first-solved design state t expr z fresh d) in
+        subst (IsSettled design (Solved expr z) state) (sym same) (entry-settled (Solved expr z) (closed s1 t t.bound) e' refl refl tt (λ best f. found))
     settled-at (Some t) (Split b left right) e d =
         let i = first_wide t.node in
         let wide : CanSplit t.node i = subst (CanSplit t.node) d.first d.wide in
@@ -183,20 +225,25 @@ module _ (design : Design) (state : State) where
         let same : after_events design state (settling design bound (Some t) state.word) ≡ replaced state 0 (how.Split i) state.word costs t =
         ap (after_events design state) (settling-split design bound t state.word d.below d.unsolved d.complete)
         ∙ ap (next_of state) (replace-done state 0 (how.Split i) state.word costs (held_by state 0) t e (omega arith) d.below may) in
-        subst (IsSettled design state) (sym same) (entry-settled (replaced state 0 (how.Split i) state.word costs t) (record { node = t.node; kind = kind.Split i; value = state.word }) refl refl (d.complete, d.unsolved, refl))
+        let new = replaced state 0 (how.Split i) state.word costs t in
+        let e' : Entry = record { node = t.node; kind = kind.Split i; value = state.word } in
+        subst (IsSettled design (Split b left right) state) (sym same) (entry-settled (Split b left right) new e' refl refl (d.complete, d.unsolved, refl) (λ best f. first-kept design state new e' best refl refl f))
     settled-at (Some t) (Extended made) e d =
         let may : may_branch how.Extend t.node ≡ true = ap not d.incomplete in
         let costs = map bound (extended t.node) in
         let same : after_events design state (settling design bound (Some t) state.word) ≡ replaced state 0 how.Extend state.word costs t =
         ap (after_events design state) (settling-extended design bound t state.word d.below d.incomplete)
         ∙ ap (next_of state) (replace-done state 0 how.Extend state.word costs (held_by state 0) t e (omega arith) d.below may) in
-        subst (IsSettled design state) (sym same) (entry-settled (replaced state 0 how.Extend state.word costs t) (record { node = t.node; kind = kind.Extended; value = state.word }) refl refl tt)
+        let new = replaced state 0 how.Extend state.word costs t in
+        let e' : Entry = record { node = t.node; kind = kind.Extended; value = state.word } in
+        subst (IsSettled design (Extended made) state) (sym same) (entry-settled (Extended made) new e' refl refl tt (λ best f. first-kept design state new e' best refl refl f))
 
 -- taking the last open task
 pub record IsTaken (old mid : State) : Type 0 where
   pub task : Task
   pub held : mid.held ≡ Some task ∷ []
   pub entries : mid.entries ≡ old.entries
+  pub word : mid.word ≡ old.word
 
 got : {X : Type 0} (xs : List X) (i : ℕ) → i < length xs → slice_get xs i ≡ None → ⊥
 got [] i h e = absurd (omega arith)
@@ -215,21 +262,32 @@ module _ (design : Design) (state : State) (idle : IsIdle state) (some : 0 < len
         task = t;
         held = ap (λ (s : State). s.held) same ∙ ap (λ h. slice_set h 0 (Some t)) idle;
         entries = ap (λ (s : State). s.entries) same;
+        word = ap (λ (s : State). s.word) same;
       }
 
 pub taken-is : (design : Design) (state mid : State) → IsIdle state → 0 < length state.waiting → mid ≡ after_event design state (Take 0 (length state.waiting - 1)) → IsTaken state mid
 taken-is design state mid idle some e = subst (IsTaken state) (sym e) (taken-at design state idle some (slice_get state.waiting (length state.waiting - 1)) refl)
 
 -- a turn: taking, then settling
-pub turned-is : (design : Design) (bound : Parts → ℕ) (old mid new : State) (task : Task) (decision : Decision) → IsTaken old mid → held_by mid 0 ≡ Some task → IsDecision design bound task mid.word decision → new ≡ after_events design mid (settling design bound (held_by mid 0) mid.word) → IsTurned design old new
-turned-is design bound old mid new task decision taken e d made =
-    let decides = subst (λ h. Decides design bound h mid.word decision) (sym e) d in
-    let settled = subst (IsSettled design mid) (sym made) (settled-at design mid bound (held_by mid 0) decision refl decides) in
-    record {
-      idle = settled.held ∙ ap (λ h. slice_set h 0 None) taken.held;
-      one_more = omega (arith, settled.one_more, ap length taken.entries);
-      splits = λ a. settled.splits (subst (AllBranchFirst design) (sym taken.entries) a);
-    }
+module _ (design : Design) (bound : Parts → ℕ) (old mid new : State) (task : Task) (decision : Decision) (taken : IsTaken old mid) (e : held_by mid 0 ≡ Some task) (fresh : All (λ entry. mid.word ≤ entry.value) mid.entries) (d : IsDecision design bound task mid.word decision) (made : new ≡ after_events design mid (settling design bound (held_by mid 0) mid.word)) where
+  settled : IsSettled design decision mid new
+  settled =
+      let decides = subst (λ h. Decides design bound h mid.word decision) (sym e) d in
+      subst (IsSettled design decision mid) (sym made) (settled-at design mid bound fresh (held_by mid 0) decision refl decides)
+
+  pub turned-is : IsTurned design old new
+  turned-is = record {
+    idle = settled.held ∙ ap (λ h. slice_set h 0 None) taken.held;
+    one_more = omega (arith, settled.one_more, ap length taken.entries);
+    splits = λ a. settled.splits (subst (AllBranchFirst design) (sym taken.entries) a);
+  }
+
+  taken-first : (best : Option Expr) → IsFirst design old best → IsFirst design mid best
+  taken-first None f = tt
+  taken-first (Some expr) f = subst (λ w. IsOfFirst design mid.entries w expr) (sym taken.word) (subst (λ es. IsOfFirst design es old.word expr) (sym taken.entries) f)
+
+  pub first-is : (best : Option Expr) → IsFirst design old best → IsFirst design new (best_after decision best)
+  first-is best f = settled.keeps best (taken-first best f)
 
 turn-empty : (design : Design) (bound : Parts → ℕ) (state : State) → state.waiting ≡ [] → turn design bound state ≡ state
 turn-empty design bound state e = ap (λ (ws : List Task). after_events design state (turn_of design bound state (slice_get ws (length ws - 1)))) e

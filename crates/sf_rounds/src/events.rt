@@ -3,7 +3,8 @@ ghost use Rattle.sf_search_core.specs.Core.{IsCoreState};
 ghost use Rattle.sf_search_core.specs.Events.{applied, held_by, AreChildren, CanCome};
 ghost use Rattle.sf_search_core.specs.Outcome.{after_event, after_events};
 ghost use Rattle.sf_rounds.specs.Turns.{settling, turn};
-ghost use Rattle.sf_rounds.specs.Run.{IsIdle, IsBest, Decides, IsTurned};
+ghost use Rattle.sf_rounds.specs.Found.{IsFirst};
+ghost use Rattle.sf_rounds.specs.Run.{IsIdle, IsBest, Decides, IsTurned, best_after};
 
 use sf_bounds::{Bounds, Room};
 use sf_model::Design;
@@ -84,6 +85,7 @@ fn settle<B: Bounds>(
     ensures made { IfOk result (λ done. pool.new ≡ after_events design.now pool.old (settling design.now (B.Values.value bounds.now design.now) (held_by pool.old 0) pool.old.word)) }
     ensures core { IsCoreState design.now (B.Values.value bounds.now design.now) pool.new }
     ensures best { IfOk result (λ done. IsBest design.now pool.new.word best.new) }
+    ensures kept { IfOk result (λ done. best.new ≡ best_after decision best.old) }
 {
     let word = pool.word();
     match decision {
@@ -116,9 +118,11 @@ pub fn turn<B: Bounds>(
     requires idle { IsIdle pool.old }
     requires some { 0 < length pool.old.waiting }
     requires best { IsBest design.now pool.old.word best.old }
+    requires first { IsFirst design.now pool.old best.old }
     ensures made { IfOk result (λ done. pool.new ≡ turn design.now (B.Values.value bounds.now design.now) pool.old) }
     ensures core { IsCoreState design.now (B.Values.value bounds.now design.now) pool.new }
     ensures best { IfOk result (λ done. IsBest design.now pool.new.word best.new) }
+    ensures first { IfOk result (λ done. IsFirst design.now pool.new best.new) }
     ensures turned { IfOk result (λ done. IsTurned design.now pool.old pool.new) }
 {
     take_last(pool, design, bounds)?;

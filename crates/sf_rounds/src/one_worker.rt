@@ -4,6 +4,7 @@ ghost use Rattle.sf_search_core.specs.Outcome.{opening, IsOutcome};
 ghost use Rattle.sf_node.specs.Full.{full};
 ghost use Rattle.sf_count.specs.Few.{AllBranchFirst};
 ghost use Rattle.sf_rounds.specs.Turns.{turns};
+ghost use Rattle.sf_rounds.specs.Found.{IsFirst};
 ghost use Rattle.sf_rounds.specs.Run.{IsIdle, IsBest};
 
 use crate::events::turn;
@@ -36,6 +37,7 @@ pub fn search_pool<B: Bounds, G: Gate>(
     ensures few { IfOk result (λ done. length done.pool.entries ≤ nodes) }
     ensures spent { IfOk result (λ done. 0 < length done.pool.waiting → length done.pool.entries ≡ nodes) }
     ensures best { IfOk result (λ done. IsBest design.now done.pool.word done.best) }
+    ensures first { IfOk result (λ done. IsFirst design.now done.pool done.best) }
     ensures full { IfOk result (λ done. length done.pool.entries ≤ full design.now) }
     ensures ended { IfOk result (λ done. full design.now ≤ nodes → done.pool.waiting ≡ []) }
     ensures outcome { IfOk result (λ done. IsOutcome design.now done.pool) }

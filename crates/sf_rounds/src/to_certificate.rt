@@ -62,7 +62,8 @@ pub fn search<R: Threads + Sync, B: Bounds, G: Gate>(
     ensures full { IfOk result (λ found. found.decided ≤ full design.now) }
     ensures ended { IfOk result (λ found. full design.now ≤ options.nodes → found.bound ≡ found.cost) }
 
-    // It is a function of the design and the budget: the state after so many turns of the core.
+    // It is a function of the design and the budget: the state after so many turns of the core, and in it the plan that
+    // was found first of those that cost the word.
     ensures run { IfOk result (λ found. IsCertOf design.now (turns design.now (B.Values.value bounds.now design.now) options.nodes (opening design.now (B.Values.value bounds.now design.now) 1)) found.cert) }
 {
     let searched = search_pool(alloc, design, bounds, options.nodes, gate)?;

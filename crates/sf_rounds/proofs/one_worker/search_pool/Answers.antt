@@ -62,5 +62,6 @@ loop-step-preserved g c =
       idle = turned.turned.idle;
       count = omega (arith, turned.turned.one_more, old.count);
       best = turned.best;
+      first = turned.first;
       splits = turned.turned.splits old.splits;
     }

@@ -3,6 +3,7 @@ use Rattle.sf_search_core.specs.Core.{IsCoreState}
 use Rattle.sf_search_core.specs.Outcome.{opening}
 use Rattle.sf_rounds.specs.Turns.{turns}
 use Rattle.sf_count.specs.Few.{AllBranchFirst}
+use Rattle.sf_rounds.specs.Found.{IsFirst}
 use Rattle.sf_rounds.specs.Run.{IsIdle, IsBest}
 use Rattle.sf_rounds.proofs.one_worker.search_pool.Given as goal
 
@@ -13,5 +14,6 @@ invariant-loop-step g l = record {
   idle : IsIdle l.pool;
   count : length l.pool.entries ≡ l.step;
   best : IsBest l.design l.pool.word l.best;
+  first : IsFirst l.design l.pool l.best;
   splits : AllBranchFirst l.design l.pool.entries;
 }
