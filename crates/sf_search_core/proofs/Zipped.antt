@@ -2,7 +2,11 @@
 use Rattle.std.proofs.Common.{◌≡◌, ℕ, List, [], ◌∷◌, map, refl, ap}
 use Rattle.std.specs.Prelude.{zip}
 use Rattle.sf_node.specs.Parts.{Parts}
-use Rattle.sf_search_core.specs.Events.{task_of, tasks}
+use Rattle.sf_node.specs.declared.task.Task.{Task}
+use Rattle.sf_search_core.specs.Events.{tasks}
+
+abbrev pub task_of : Parts × ℕ → Task
+task_of p = record { node = p.0; bound = p.1 }
 
 pub zip_tasks : (ns : List Parts) (cs : List ℕ) → map task_of (zip ns cs) ≡ tasks ns cs
 zip_tasks [] cs = refl

@@ -33,10 +33,6 @@ abbrev pub may_branch : How → Parts → Bool
 may_branch how.Extend node = not (is_complete node)
 may_branch (how.Split b) node = nat_lt b (length node.spans) && is_wide (span_of node b)
 
--- a subproblem with its bound
-abbrev pub task_of : Parts × ℕ → Task
-task_of p = record { node = p.0; bound = p.1 }
-
 -- the children with their bounds
 abbrev pub tasks : List Parts → List ℕ → List Task
 tasks [] costs = []

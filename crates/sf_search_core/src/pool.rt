@@ -1,9 +1,9 @@
-ghost use Rattle.std.specs.Prelude.{◌≡◌, ◌++◌, ◌<◌, ◌≤◌, ◌+◌, ℕ, List, Err, length, reverse, map, MatchOption, MatchResult, IfOk, replicate, None, Some, true, vec_len, zip};
+ghost use Rattle.std.specs.Prelude.{◌≡◌, ◌++◌, ◌<◌, ◌≤◌, ◌+◌, ℕ, List, Err, length, reverse, map, MatchOption, MatchResult, IfOk, replicate, None, Some, true, vec_len};
 ghost use Rattle.sf_node.specs.declared.task.Task.{Task};
 ghost use Rattle.std.specs.Vec.{vec_capacity};
 ghost use Rattle.sf_node.specs.Children.{IsSubproblem};
 ghost use Rattle.sf_search_core.specs.Conserved.{branched};
-ghost use Rattle.sf_search_core.specs.Events.{kind_of, may_branch, task_of, tasks};
+ghost use Rattle.sf_search_core.specs.Events.{kind_of, may_branch, tasks};
 
 use crate::entry::{Entry, Kind};
 use crate::event::{Costs, Event, How};
@@ -70,8 +70,8 @@ impl From<How> for Kind {
 }
 
 /// Each subproblem with its bound, in order.
-pub fn paired(alloc: Global, nodes: Vec<Node>, costs: Vec<u64>) -> Result<Vec<Task>, NoMemory>
-    ensures { IfOk result (λ paired. paired.items ≡ map task_of (zip nodes.items costs.items)) }
+pub fn with_bounds(alloc: Global, nodes: Vec<Node>, costs: Vec<u64>) -> Result<Vec<Task>, NoMemory>
+    ensures { IfOk result (λ made. made.items ≡ tasks nodes.items costs.items) }
 {
     nodes
         .into_iter()
@@ -92,7 +92,7 @@ fn children_with(
     ensures { IfOk result (λ children. children.items ≡ tasks (branched (kind_of how) node.now) costs) }
 {
     let nodes = children(design, node, how)?;
-    paired(node.allocator(), nodes, costs.into_vec())
+    with_bounds(node.allocator(), nodes, costs.into_vec())
 }
 
 /// Puts the children at the end, the first of them last.

@@ -1,4 +1,4 @@
-ghost use Rattle.std.specs.Prelude.{◌≡◌, ◌∷◌, [], map, All, IfOk};
+ghost use Rattle.std.specs.Prelude.{◌≡◌, IfOk};
 ghost use Rattle.sf_node.specs.Children.{IsSubproblem, extended};
 ghost use Rattle.sf_worker.specs.Decided.{IsDecision, valued};
 
@@ -6,7 +6,7 @@ use crate::decision::{Decision, Tasks};
 use sf_bounds::{Bounds, Room, solve};
 use sf_model::Design;
 use sf_node::{Node, Task};
-use sf_search_core::paired;
+use sf_search_core::with_bounds;
 use std::alloc::AllocError as NoMemory;
 
 /// Decides a task against a value that some plan costs, or that none does.
@@ -50,7 +50,7 @@ fn with_bound<B: Bounds>(
     node: Node,
 ) -> Result<Task, NoMemory>
     requires { IsSubproblem design.now node }
-    ensures { IfOk result (λ task. task ∷ [] ≡ valued (B.Values.value bounds.now design.now) (node ∷ [])) }
+    ensures { IfOk result (λ task. task ≡ record { node = node; bound = B.Values.value bounds.now design.now node }) }
 {
     let bound = bounds.bound(design, &node, room)?;
     Ok(Task { node, bound })
@@ -69,5 +69,5 @@ fn extended<B: Bounds>(
 {
     let children = task.node.extend_children(design)?;
     let costs = bounds.children_bounds(design, &task.node, task.bound, &children, room)?;
-    paired(task.node.allocator(), children, costs)
+    with_bounds(task.node.allocator(), children, costs)
 }
