@@ -65,7 +65,7 @@ Lays extent (token.Block b) old new old_seats new_seats =
 Lays extent token.Beside old new old_seats new_seats = JoinsTop beside_extent moved_right old new old_seats new_seats
 Lays extent token.Above old new old_seats new_seats = JoinsTop above_extent moved_up old new old_seats new_seats
 
--- numbers of sides and places are below 320 times 2^20
+-- numbers of sides and places are at most 320 times 2^20
 abbrev pub IsModest : ℕ → Type 0
 IsModest n = n ≤ 335544320
 

@@ -23,7 +23,7 @@ pub record IsNeeded (design : Design) (node : Parts) (a : ℕ) : Type 0 where
 abbrev pub IsNeededOrNone : Design → Parts → Option ℕ → Type 0
 IsNeededOrNone design node found = MatchOption found (list_any has_none (group_plans design node) ≡ true) (IsNeeded design node)
 
--- the wires of the nets at least
+-- what the wires of the nets take at least
 pub record IsWirePart (design : Design) (node : Parts) (v : ℕ) : Type 0 where
   pub value : v ≡ sum_by (net_part design node) design.nets
   pub small : v ≤ 183500800000000

@@ -28,7 +28,8 @@ fn ends_in_block(tokens: &[Token]) -> bool
     is_operand(tokens[last])
 }
 
-// The value of a child: that of its parent where only a block was moved from the unused ones onto the stack.
+// The value of a child: that of its parent where the child is not complete and only a block was moved from the unused
+// ones onto the stack.
 fn child_value(
     room: &mut Room,
     design: &Design,

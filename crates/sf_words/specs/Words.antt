@@ -37,7 +37,7 @@ abbrev pub words_of : List Token → List Text
 words_of [] = []
 words_of (token ∷ tokens) = before token (words_of tokens)
 
--- a value isn't empty and doesn't begin with a hyphen
+-- a value has a byte, and its first is no hyphen
 abbrev pub IsValue : Text → Type 0
 IsValue [] = ⊥
 IsValue (b ∷ bs) = b ≢ 45

@@ -12,8 +12,8 @@ use thiserror::Error;
 /// word.
 #[derive(Debug, Drop, Error)]
 pub enum YalFault {
-    /// The text ends in a comment, a statement, a list or a module. The line is the last one that holds a byte which is
-    /// neither a blank nor in a comment, and 0 where there is none.
+    /// The text breaks off inside a comment, a statement, a list or a module. The line is the last one with anything but
+    /// blanks and comments, or 0.
     #[error("the text ends early")]
     Truncated(u64),
     #[error("the statement has no form of such a file, or stands at a place where it may not")]
