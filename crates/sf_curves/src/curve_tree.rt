@@ -1,4 +1,4 @@
-ghost use Rattle.std.specs.Prelude.{◌≡◌, ◌<◌, [], length, AllPairs, IfOk};
+ghost use Rattle.std.specs.Prelude.{◌≡◌, ◌<◌, length, AllPairs, IfOk};
 ghost use Rattle.sf_model.specs.Tree.{tree_of};
 ghost use Rattle.sf_polish.specs.Shaping.{HasBlocksBelow};
 ghost use Rattle.sf_curves.specs.Choices.{shapes_in, AreSpans};
@@ -42,15 +42,13 @@ impl CurveTree {
     }
 }
 
-/// The curve of a block in its span, made in a list that is at hand.
-#[tactic(auto, using(crate::proofs::Spans::sorted))]
+/// The curve of a block in its span.
 pub fn block_curve(
-    empty: Vec<Point>,
+    alloc: Global,
     design: &Design,
     spans: &[(u16, u16)],
     block: u16,
 ) -> Result<Curve, NoMemory>
-    requires empty { empty.items ≡ [] }
     requires spans { AreSpans design.now spans.now }
     requires inside { block < length design.now.blocks }
     ensures { IfOk result (IsCurveOf design.now.outline (shapes_in design.now spans.now block)) }
@@ -59,7 +57,25 @@ pub fn block_curve(
     let shapes = design.blocks.as_slice()[usize::from(block)]
         .shapes
         .as_slice();
-    Curve::of_shapes_in(empty, shapes, from, to, design.outline)
+    Curve::of_shapes(alloc, shapes, from, to, design.outline)
+}
+
+/// The same in a list that is at hand.
+pub fn block_curve_in(
+    list: Vec<Point>,
+    design: &Design,
+    spans: &[(u16, u16)],
+    block: u16,
+) -> Result<Curve, NoMemory>
+    requires spans { AreSpans design.now spans.now }
+    requires inside { block < length design.now.blocks }
+    ensures { IfOk result (IsCurveOf design.now.outline (shapes_in design.now spans.now block)) }
+{
+    let (from, to) = spans[usize::from(block)];
+    let shapes = design.blocks.as_slice()[usize::from(block)]
+        .shapes
+        .as_slice();
+    Curve::of_shapes_in(list, shapes, from, to, design.outline)
 }
 
 /// The curves of all subtrees of a plan; its own shapes don't count.
@@ -77,7 +93,7 @@ pub(crate) fn curve_tree(
     match plan {
         Plan::Leaf(block, _) => Ok(CurveTree::Leaf(
             *block,
-            block_curve(Vec::new(alloc), design, spans, *block)?,
+            block_curve(alloc, design, spans, *block)?,
         )),
         Plan::Beside(left, right) => {
             let left = curve_tree(alloc, design, spans, left)?;

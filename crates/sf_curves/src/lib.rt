@@ -14,6 +14,6 @@ mod tests;
 mod tracing;
 
 pub use curve::{Curve, Point};
-pub use curve_tree::block_curve;
+pub use curve_tree::{block_curve, block_curve_in};
 pub use root::root_curve;
 pub use tracing::trace;

@@ -116,3 +116,56 @@ fn one_block(rt: HostRuntime) -> Result<(), Fail> {
     assert!(rt; expr.shapes.as_slice() == [Shape { w: 2, h: 2 }].as_slice());
     Ok(())
 }
+
+/// Shapes in no order. Of those with a width of 4 one is higher than the other, 5 by 5 is larger than 4 by 5, 2 by 7 comes
+/// twice, and 1 by 12 is higher than the outline.
+#[test]
+fn shapes_in_no_order(rt: HostRuntime) -> Result<(), Fail> {
+    let alloc = rt.alloc();
+    let shapes = [
+        Shape { w: 6, h: 2 },
+        Shape { w: 4, h: 6 },
+        Shape { w: 1, h: 12 },
+        Shape { w: 5, h: 5 },
+        Shape { w: 2, h: 7 },
+        Shape { w: 4, h: 5 },
+        Shape { w: 2, h: 7 },
+    ];
+    let outline = Outline { w: 10, h: 10 };
+    let all = Curve::of_shapes(alloc, shapes.as_slice(), 0, 7, outline)?;
+    let points = [
+        Point { w: 2, h: 7 },
+        Point { w: 4, h: 5 },
+        Point { w: 6, h: 2 },
+    ];
+    assert!(rt; all.points() == points.as_slice());
+    let some = Curve::of_shapes(alloc, shapes.as_slice(), 1, 4, WIDE)?;
+    let points = [
+        Point { w: 1, h: 12 },
+        Point { w: 4, h: 6 },
+        Point { w: 5, h: 5 },
+    ];
+    assert!(rt; some.points() == points.as_slice());
+    Ok(())
+}
+
+#[test]
+fn two_above(rt: HostRuntime) -> Result<(), Fail> {
+    let alloc = rt.alloc();
+    let shapes = [Shape { w: 2, h: 3 }, Shape { w: 3, h: 2 }];
+    let lower = Curve::of_shapes(alloc, shapes.as_slice(), 0, 2, WIDE)?;
+    let shapes = [Shape { w: 1, h: 4 }, Shape { w: 4, h: 1 }];
+    let upper = Curve::of_shapes(alloc, shapes.as_slice(), 0, 2, WIDE)?;
+    let curve = lower.above(alloc, &upper, WIDE)?;
+    let points = [
+        Point { w: 2, h: 7 },
+        Point { w: 3, h: 6 },
+        Point { w: 4, h: 3 },
+    ];
+    assert!(rt; curve.points() == points.as_slice());
+    let low = Outline { w: 100, h: 6 };
+    let curve = lower.above(alloc, &upper, low)?;
+    let points = [Point { w: 3, h: 6 }, Point { w: 4, h: 3 }];
+    assert!(rt; curve.points() == points.as_slice());
+    Ok(())
+}

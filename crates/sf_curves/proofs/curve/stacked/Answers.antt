@@ -6,7 +6,7 @@ use Rattle.sf_curves.proofs.curve.stacked.Goals as goal
 use Rattle.sf_curves.proofs.curve.stacked.Goals.{then-loop-i-test+else-j-upper, else-loop-i-test}
 
 pub loop-i-init : goal.loop-i-init
-loop-i-init c = stacking_begins c.args.lower.now c.args.upper.now c.args.outline c.args.empty.items c.requires.empty c.requires.lower_falls c.requires.upper_falls
+loop-i-init c = stacking_begins c.args.lower.now c.args.upper.now c.args.outline _ c.clear.ensures.items c.requires.lower_falls c.requires.upper_falls
 
 pub loop-i-preserved-then-l-u : goal.loop-i-preserved-then-l-u
 loop-i-preserved-then-l-u c =
