@@ -1,6 +1,6 @@
-ghost use Rattle.std.specs.Prelude.{◌≡◌, ◌≤◌, ◌≤ℤ◌, ℤ, pos, ◌-ℤ◌};
+ghost use Rattle.std.specs.Prelude.{◌≡◌, ◌≤◌, ◌-ℤ◌};
 ghost use Rattle.sf_standard.specs.Hull.{to_nat};
-ghost use Rattle.sf_bounds.specs.Near.{IsNumber, IsNear, IsNearby, shared, met, reach_gap};
+ghost use Rattle.sf_bounds.specs.Near.{IsNear, IsNearby, shared, met, reach_gap};
 
 use crate::reach::Reach;
 use sf_standard::Interval;

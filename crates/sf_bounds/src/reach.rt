@@ -1,6 +1,3 @@
-ghost use Rattle.std.specs.Prelude.{◌≡◌, ◌≤◌, ◌≤ℤ◌, ℤ, pos, ◌-ℤ◌};
-ghost use Rattle.sf_standard.specs.Hull.{to_nat};
-
 use sf_standard::Interval;
 
 /// What some intervals across and upward share: the greatest lower end and the least upper end of each. In doubled units.

