@@ -37,7 +37,7 @@ use Rattle.sf_count.specs.Few.{BranchesFirst, AllBranchFirst}
 use Rattle.sf_count.proofs.Weighed.{entries-few}
 use Rattle.sf_node.specs.Full.{full}
 use Rattle.sf_search_core.specs.Core.{IsCoreState, held_tasks}
-use Rattle.sf_rounds.specs.Turns.{settling, turn_of, turn, turns}
+use Rattle.sf_rounds.specs.Turns.{settling, turn_of, turn_events, turn, turns, AreAccepted, TurnsAreAccepted}
 use Rattle.sf_rounds.specs.Found.{IsOfFirst, IsFirst}
 use Rattle.sf_rounds.specs.Run.{IsIdle, IsBest, Decides, IsTurned, IsSettled, best_after}
 
@@ -238,12 +238,36 @@ module _ (design : Design) (state : State) where
         let e' : Entry = record { node = t.node; kind = kind.Extended; value = state.word } in
         subst (IsSettled design (Extended made) state) (sym same) (entry-settled (Extended made) new e' refl refl tt (λ best f. first-kept design state new e' best refl refl f))
 
+    -- each event that settles the task is accepted
+    accepted-at : (held : Option Task) (decision : Decision) → held_by state 0 ≡ held → Decides design bound held state.word decision → AreAccepted design state (settling design bound held state.word)
+    accepted-at None decision e d = absurd d
+    accepted-at (Some t) Closed e d =
+        subst (AreAccepted design state) (sym (settling-closed design bound t state.word d)) (ap is_ok (close-done design state t e state.word (omega arith) d), tt)
+    accepted-at (Some t) (Solved expr z) e d =
+        let s1 : State = record state { word = min state.word t.bound } in
+        let offered = offer-done design state t e d.solved in
+        let then : after_event design state (Offer 0 t.bound) ≡ s1 = ap (next_of state) offered in
+        let last = close-done design s1 t e t.bound (omega arith) (omega arith) in
+        subst (AreAccepted design state) (sym (settling-solved design bound t state.word d.below d.solved))
+        (ap is_ok offered, (subst (λ (s : State). IsOk (applied design s (Close 0 t.bound))) (sym then) (ap is_ok last), tt))
+    accepted-at (Some t) (Split b left right) e d =
+        let i = first_wide t.node in
+        let wide : CanSplit t.node i = subst (CanSplit t.node) d.first d.wide in
+        let may : may_branch (how.Split i) t.node ≡ true = ap (λ x. x && is_wide (span_of t.node i)) (lt-ltb i (length t.node.spans) wide.0) ∙ wide.1 in
+        subst (AreAccepted design state) (sym (settling-split design bound t state.word d.below d.unsolved d.complete))
+        (ap is_ok (replace-done state 0 (how.Split i) state.word (map bound (split t.node i)) (held_by state 0) t e (omega arith) d.below may), tt)
+    accepted-at (Some t) (Extended made) e d =
+        let may : may_branch how.Extend t.node ≡ true = ap not d.incomplete in
+        subst (AreAccepted design state) (sym (settling-extended design bound t state.word d.below d.incomplete))
+        (ap is_ok (replace-done state 0 how.Extend state.word (map bound (extended t.node)) (held_by state 0) t e (omega arith) d.below may), tt)
+
 -- taking the last open task
 pub record IsTaken (old mid : State) : Type 0 where
   pub task : Task
   pub held : mid.held ≡ Some task ∷ []
   pub entries : mid.entries ≡ old.entries
   pub word : mid.word ≡ old.word
+  pub got : slice_get old.waiting (length old.waiting - 1) ≡ Some task
 
 got : {X : Type 0} (xs : List X) (i : ℕ) → i < length xs → slice_get xs i ≡ None → ⊥
 got [] i h e = absurd (omega arith)
@@ -263,7 +287,15 @@ module _ (design : Design) (state : State) (idle : IsIdle state) (some : 0 < len
         held = ap (λ (s : State). s.held) same ∙ ap (λ h. slice_set h 0 (Some t)) idle;
         entries = ap (λ (s : State). s.entries) same;
         word = ap (λ (s : State). s.word) same;
+        got = e;
       }
+
+  take-accepted : (o : Option Task) → slice_get state.waiting (length state.waiting - 1) ≡ o → IsOk (applied design state (Take 0 (length state.waiting - 1)))
+  take-accepted None e = absurd (got state.waiting (length state.waiting - 1) (omega arith) e)
+  take-accepted (Some t) e =
+      let place = length state.waiting - 1 in
+      let free : held_by state 0 ≡ None = ap (λ h. held_in (slice_get h 0)) idle in
+      ap is_ok (ap (λ o. take state 0 place o (held_by state 0)) e ∙ ap (λ h. take state 0 place (Some t) h) free)
 
 pub taken-is : (design : Design) (state mid : State) → IsIdle state → 0 < length state.waiting → mid ≡ after_event design state (Take 0 (length state.waiting - 1)) → IsTaken state mid
 taken-is design state mid idle some e = subst (IsTaken state) (sym e) (taken-at design state idle some (slice_get state.waiting (length state.waiting - 1)) refl)
@@ -289,6 +321,18 @@ module _ (design : Design) (bound : Parts → ℕ) (old mid new : State) (task :
   pub first-is : (best : Option Expr) → IsFirst design old best → IsFirst design new (best_after decision best)
   first-is best f = settled.keeps best (taken-first best f)
 
+  pub accepted-is : IsIdle old → 0 < length old.waiting → mid ≡ after_event design old (Take 0 (length old.waiting - 1)) → AreAccepted design old (turn_events design bound old)
+  accepted-is idle some was =
+      let t = taken.task in
+      let here : held_by mid 0 ≡ Some t = ap (λ h. held_in (slice_get h 0)) taken.held in
+      let decides = subst (λ h. Decides design bound h mid.word decision) (sym e) d in
+      let then = accepted-at design mid bound fresh (held_by mid 0) decision refl decides in
+      let rest = subst (λ w. AreAccepted design mid (settling design bound (Some t) w)) taken.word (subst (λ h. AreAccepted design mid (settling design bound h mid.word)) here then) in
+      subst (AreAccepted design old) (sym (ap (turn_of design bound old) taken.got)) (
+        take-accepted design old idle some (slice_get old.waiting (length old.waiting - 1)) refl,
+        subst (λ (s : State). AreAccepted design s (settling design bound (Some t) old.word)) was rest,
+      )
+
 turn-empty : (design : Design) (bound : Parts → ℕ) (state : State) → state.waiting ≡ [] → turn design bound state ≡ state
 turn-empty design bound state e = ap (λ (ws : List Task). after_events design state (turn_of design bound state (slice_get ws (length ws - 1)))) e
 
@@ -300,6 +344,21 @@ turns-still design bound k (suc n) state h e =
       | inl same ↦ ap (λ i. turns design bound i state) (let z : suc n ≡ k = omega arith in z)
       | inr less ↦ ap (turn design bound) (turns-still design bound k n state less e) ∙ turn-empty design bound (turns design bound k state) e
     ]
+
+-- turns past the last open task have no events
+pub accepted-still : (design : Design) (bound : Parts → ℕ) (k n : ℕ) (state : State) → k ≤ n → (turns design bound k state).waiting ≡ [] → TurnsAreAccepted design bound k state → TurnsAreAccepted design bound n state
+accepted-still design bound k zero state h e a = subst (λ i. TurnsAreAccepted design bound i state) (let z : k ≡ 0 = omega (arith, h) in z) a
+accepted-still design bound k (suc n) state h e a =
+    elim (cases_lt n k) [
+      | inl same ↦ subst (λ i. TurnsAreAccepted design bound i state) (let z : k ≡ suc n = omega (arith, same, h) in z) a
+      | inr less ↦ (
+        accepted-still design bound k n state less e a,
+        subst (λ (s : State). AreAccepted design s (turn_events design bound s)) (sym (turns-still design bound k n state less e)) (none-accepted (turns design bound k state) e),
+      )
+    ]
+  where
+    none-accepted : (s : State) → s.waiting ≡ [] → AreAccepted design s (turn_events design bound s)
+    none-accepted s empty = subst (AreAccepted design s) (sym (ap (λ (ws : List Task). turn_of design bound s (slice_get ws (length ws - 1))) empty)) tt
 
 pub no-task : (ws : List Task) → length ws ≡ 0 → ws ≡ []
 no-task [] e = refl

@@ -2,7 +2,7 @@ ghost use Rattle.std.specs.Prelude.{◌≡◌, ◌∷◌, [], ◌<◌, ◌-◌, 
 ghost use Rattle.sf_search_core.specs.Core.{IsCoreState};
 ghost use Rattle.sf_search_core.specs.Events.{applied, held_by, AreChildren, CanCome};
 ghost use Rattle.sf_search_core.specs.Outcome.{after_event, after_events};
-ghost use Rattle.sf_rounds.specs.Turns.{settling, turn};
+ghost use Rattle.sf_rounds.specs.Turns.{settling, turn, turn_events, AreAccepted};
 ghost use Rattle.sf_rounds.specs.Found.{IsFirst};
 ghost use Rattle.sf_rounds.specs.Run.{IsIdle, IsBest, Decides, IsTurned, best_after};
 
@@ -123,6 +123,7 @@ pub fn turn<B: Bounds>(
     ensures core { IsCoreState design.now (B.Values.value bounds.now design.now) pool.new }
     ensures best { IfOk result (λ done. IsBest design.now pool.new.word best.new) }
     ensures first { IfOk result (λ done. IsFirst design.now pool.new best.new) }
+    ensures accepted { IfOk result (λ done. AreAccepted design.now pool.old (turn_events design.now (B.Values.value bounds.now design.now) pool.old)) }
     ensures turned { IfOk result (λ done. IsTurned design.now pool.old pool.new) }
 {
     take_last(pool, design, bounds)?;

@@ -3,7 +3,7 @@ ghost use Rattle.sf_search_core.specs.Core.{IsCoreState};
 ghost use Rattle.sf_search_core.specs.Outcome.{opening, IsOutcome};
 ghost use Rattle.sf_node.specs.Full.{full};
 ghost use Rattle.sf_count.specs.Few.{AllBranchFirst};
-ghost use Rattle.sf_rounds.specs.Turns.{turns};
+ghost use Rattle.sf_rounds.specs.Turns.{turns, TurnsAreAccepted};
 ghost use Rattle.sf_rounds.specs.Found.{IsFirst};
 ghost use Rattle.sf_rounds.specs.Run.{IsIdle, IsBest};
 
@@ -32,6 +32,7 @@ pub fn search_pool<B: Bounds, G: Gate>(
     gate: &G,
 ) -> Result<Searched, NoMemory>
     ensures run { IfOk result (λ done. done.pool ≡ turns design.now (B.Values.value bounds.now design.now) nodes (opening design.now (B.Values.value bounds.now design.now) 1)) }
+    ensures accepted { IfOk result (λ done. TurnsAreAccepted design.now (B.Values.value bounds.now design.now) nodes (opening design.now (B.Values.value bounds.now design.now) 1)) }
     ensures core { IfOk result (λ done. IsCoreState design.now (B.Values.value bounds.now design.now) done.pool) }
     ensures idle { IfOk result (λ done. IsIdle done.pool) }
     ensures few { IfOk result (λ done. length done.pool.entries ≤ nodes) }

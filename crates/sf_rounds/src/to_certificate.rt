@@ -5,7 +5,7 @@ ghost use Rattle.sf_model.specs.Legal.{block_count};
 ghost use Rattle.sf_node.specs.Full.{full};
 ghost use Rattle.sf_search_core.specs.Outcome.{opening};
 ghost use Rattle.sf_certificate.specs.Valid.{IsValid, decided};
-ghost use Rattle.sf_rounds.specs.Turns.{turns};
+ghost use Rattle.sf_rounds.specs.Turns.{turns, TurnsAreAccepted};
 ghost use Rattle.sf_rounds.specs.Found.{IsCertOf, AllSplitFirst};
 
 use crate::one_worker::search_pool;
@@ -65,6 +65,7 @@ pub fn search<R: Threads + Sync, B: Bounds, G: Gate>(
     // It is a function of the design and the budget: the state after so many turns of the core, and in it the plan that
     // was found first of those that cost the word.
     ensures run { IfOk result (λ found. IsCertOf design.now (turns design.now (B.Values.value bounds.now design.now) options.nodes (opening design.now (B.Values.value bounds.now design.now) 1)) found.cert) }
+    ensures accepted { IfOk result (λ found. TurnsAreAccepted design.now (B.Values.value bounds.now design.now) options.nodes (opening design.now (B.Values.value bounds.now design.now) 1)) }
 {
     let searched = search_pool(alloc, design, bounds, options.nodes, gate)?;
     let cost = searched.pool.word();

@@ -2,8 +2,8 @@ use Rattle.std.proofs.Common.{◌≡◌, ℕ, suc, ◌+◌, ◌<◌, ◌≤◌, 
 use Rattle.sf_search_core.specs.Outcome.{opening}
 use Rattle.sf_search_core.specs.State.{State}
 use Rattle.sf_node.specs.Bounds.{IsSound, IsExactAtEnd}
-use Rattle.sf_rounds.specs.Turns.{turn, turns}
-use Rattle.sf_rounds.proofs.Settled.{turns-still, no-task, all-decided}
+use Rattle.sf_rounds.specs.Turns.{turn, turns, turn_events, AreAccepted, TurnsAreAccepted}
+use Rattle.sf_rounds.proofs.Settled.{turns-still, accepted-still, no-task, all-decided}
 use Rattle.sf_count.proofs.Weighed.{entries-few}
 use Rattle.sf_search_core.proofs.Outcome.{core-found, core-floor}
 use Rattle.sf_rounds.proofs.one_worker.search_pool.Goals.{else-loop-step-test, then-loop-step-test+then-is_empty}
@@ -21,6 +21,20 @@ returns-clause-run g c =
           (let none : length c.loop-step.pool.waiting ≡ 0 = search rules in
           let empty = subst (λ (s : State). s.waiting ≡ []) run (no-task c.loop-step.pool.waiting none) in
           run ∙ sym (turns-still design bound c.loop-step.step c.args.nodes first (omega arith) empty))
+    ]
+
+pub returns-clause-accepted : goal.returns-clause-accepted
+returns-clause-accepted g c =
+    let design = c.args.design.now in
+    let bound = g.B.Values.value c.args.bounds.now design in
+    let first = opening design bound 1 in
+    let run = c.loop-step.invariant.run in
+    elim c.loop-step-test.branch [
+      | else-loop-step-test w ↦ (let spent : c.loop-step.step ≡ c.args.nodes = omega arith in subst (λ k. TurnsAreAccepted design bound k first) spent c.loop-step.invariant.accepted)
+      | then-loop-step-test+then-is_empty w ↦
+          (let none : length c.loop-step.pool.waiting ≡ 0 = search rules in
+          let empty = subst (λ (s : State). s.waiting ≡ []) run (no-task c.loop-step.pool.waiting none) in
+          accepted-still design bound c.loop-step.step c.args.nodes first (omega arith) empty c.loop-step.invariant.accepted)
     ]
 
 pub returns-clause-full : goal.returns-clause-full
@@ -58,6 +72,13 @@ loop-step-preserved g c =
     let turned = c.in_ok-turn.ensures in
     record {
       run = (let one : suc c.loop-step.step ≡ c.loop-step.step + 1 = omega arith in turned.made ∙ ap (turn design bound) old.run ∙ ap (λ (k : ℕ). turns design bound k (opening design bound 1)) one);
+      accepted =
+          let one : suc c.loop-step.step ≡ c.loop-step.step + 1 = omega arith in
+          let first = opening design bound 1 in
+          subst (λ k. TurnsAreAccepted design bound k first) one (
+            old.accepted,
+            subst (λ (s : State). AreAccepted design s (turn_events design bound s)) old.run turned.accepted,
+          );
       core = turned.core;
       idle = turned.turned.idle;
       count = omega (arith, turned.turned.one_more, old.count);
