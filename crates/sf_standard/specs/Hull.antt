@@ -22,6 +22,7 @@ extent_of (s ∷ ss) = record {
   most_h = fold (λ n t. max n t.h) s.h ss;
 }
 
+-- the number, or 0 below 0
 abbrev pub to_nat : ℤ → ℕ
 to_nat (pos n) = n
 to_nat (negsuc n) = 0
@@ -31,6 +32,7 @@ abbrev pub gap : List Interval → ℕ
 gap [] = 0
 gap (i ∷ is) = to_nat (fold (λ z j. int_max z j.low) i.low is -ℤ fold (λ z j. int_min z j.high) i.high is)
 
+-- a point, in doubled units
 abbrev pub point : ℤ → Interval
 point z = record { low = pos 2 *ℤ z; high = pos 2 *ℤ z }
 
@@ -43,14 +45,16 @@ abbrev pub range_y : Design → (ℕ → Extent) → Pin → Interval
 range_y design extent (pin.Block b) = record { low = pos (extent b).least_h; high = pos (2 * design.outline.h) -ℤ pos (extent b).least_h }
 range_y design extent (pin.Pad p) = point (pad_at design p).y
 
+-- how far the pins are apart at least, since each lies in the outline
 abbrev pub range_part : Design → (ℕ → Extent) → Net → ℕ
 range_part design extent net = gap (map (range_x design extent) net.pins) + gap (map (range_y design extent) net.pins)
 
--- the greatest sum of two of the numbers, or 0 with fewer
+-- the greatest sum of n and one of the numbers, or 0 with none
 abbrev pub greatest_with : ℕ → List ℕ → ℕ
 greatest_with n [] = 0
 greatest_with n (m ∷ ms) = max (n + m) (greatest_with n ms)
 
+-- the sum of the two greatest numbers, or 0 with fewer than two
 abbrev pub greatest_two : List ℕ → ℕ
 greatest_two [] = 0
 greatest_two (n ∷ ns) = max (greatest_with n ns) (greatest_two ns)
@@ -61,12 +65,15 @@ block_pins [] = []
 block_pins (pin.Block b ∷ pins) = b ∷ block_pins pins
 block_pins (pin.Pad p ∷ pins) = block_pins pins
 
+-- the lesser of the least width and the least height
 abbrev pub small_side : Extent → ℕ
 small_side e = min e.least_w e.least_h
 
+-- the sum of the two greatest small sides among the net's blocks: two blocks are apart by one side of each at least
 abbrev pub pair_part : (ℕ → Extent) → Net → ℕ
 pair_part extent net = greatest_two (map (λ b. small_side (extent b)) (block_pins net.pins))
 
+-- the least and greatest sides of an item, from those of its blocks
 abbrev pub item_extent : (ℕ → Extent) → Item → Extent
 item_extent extent (Block b) = extent b
 item_extent extent (Beside l r) =
@@ -85,6 +92,7 @@ moved_right e o = record o { least_x = e.least_w + o.least_x; most_x = e.most_w 
 abbrev pub moved_up : Extent → Offset → Offset
 moved_up e o = record o { least_y = e.least_h + o.least_y; most_y = e.most_h + o.most_y }
 
+-- the offset of each block of an item from the item's corner, by its least and its greatest value
 abbrev pub offsets : (ℕ → Extent) → Item → List Offset
 offsets extent (Block b) = record { block = b; least_x = 0; most_x = 0; least_y = 0; most_y = 0 } ∷ []
 offsets extent (Beside l r) =
@@ -92,12 +100,14 @@ offsets extent (Beside l r) =
 offsets extent (Above l r) =
     offsets extent l ++ map (moved_up (item_extent extent l)) (offsets extent r)
 
+-- where the centre of a block lies from the item's corner, across and upward, in doubled units
 abbrev pub offset_x : (ℕ → Extent) → Offset → Interval
 offset_x extent o = record { low = pos (2 * o.least_x + (extent o.block).least_w); high = pos (2 * o.most_x + (extent o.block).most_w) }
 
 abbrev pub offset_y : (ℕ → Extent) → Offset → Interval
 offset_y extent o = record { low = pos (2 * o.least_y + (extent o.block).least_h); high = pos (2 * o.most_y + (extent o.block).most_h) }
 
+-- whether the block is among the pins
 abbrev pub contains_pin : ℕ → List Pin → Bool
 contains_pin b [] = false
 contains_pin b (pin.Block c ∷ pins) = if c == b then true else contains_pin b pins
@@ -126,6 +136,7 @@ hull_of design extent complete net item =
     gap (map (offset_x extent) os ++ cond complete (pads_x design net.pins) [])
     + gap (map (offset_y extent) os ++ cond complete (pads_y design net.pins) [])
 
+-- the greatest over all items
 abbrev pub hull_part : Design → (ℕ → Extent) → Bool → List Item → Net → ℕ
 hull_part design extent complete [] net = 0
 hull_part design extent complete (item ∷ items) net = max (hull_of design extent complete net item) (hull_part design extent complete items net)

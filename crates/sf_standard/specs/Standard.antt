@@ -24,9 +24,11 @@ abbrev pub least_cost : Design → Parts → List Item → ℕ
 least_cost design node [] = MAX
 least_cost design node (item ∷ items) = least_of (cost design) (fitting design node item)
 
+-- there is no plan
 abbrev pub has_none : List Tree → Bool
 has_none ts = length ts == 0
 
+-- the greatest number, or 0
 abbrev pub greatest : List ℕ → ℕ
 greatest [] = 0
 greatest (n ∷ ns) = max n (greatest ns)
@@ -37,12 +39,14 @@ needed_area plans =
     max (sum (map (least_of area) plans))
     (greatest (map (least_of width) plans) * greatest (map (least_of height) plans))
 
+-- what the wire of a net takes at least: the greatest of range, pair and hull, and nothing with fewer than two pins
 abbrev pub net_part : Design → Parts → Net → ℕ
 net_part design node net =
     let extent = λ (b : ℕ). extent_of (span_shapes design node b) in
     if nat_lt (length net.pins) 2 then 0
     else max (range_part design extent net) (max (pair_part extent net) (hull_part design extent (is_complete node) (items_of node) net))
 
+-- the value of a subproblem that is not solved, from the plans of its parts
 abbrev pub bounded : Design → Parts → List (List Tree) → ℕ
 bounded design node plans =
     if list_any has_none plans then MAX
