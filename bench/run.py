@@ -66,7 +66,7 @@ def gap(lines):
 def main():
     program = os.path.abspath(sys.argv[1])
     os.chdir(sys.argv[2] if len(sys.argv) > 2 else tempfile.mkdtemp())
-    print("| Case | time | decided | decisions per second | memory | certificate per node | gap | check |")
+    print("| Case | time | decided | decisions per second | memory | bytes per decision | gap | check |")
     print("|---|---|---|---|---|---|---|---|")
     for name, blocks, nets, words, with_check in CASES:
         write_design(blocks, nets)
@@ -80,7 +80,7 @@ def main():
             weight = words[:2] if nets else []
             took, _, status, said = timed([program, "check"] + design + weight + ["--cert", "d.cert"])
             checked = "%.2f s, %s" % (took, said["status"])
-        row = (name, "%.2f s" % seconds, str(decided), "%d" % (decided / seconds), "%d MB" % memory, "%.1f bytes" % (os.path.getsize("d.cert") / decided), gap(lines), checked)
+        row = (name, "%.2f s" % seconds, str(decided), "%d" % (decided / seconds), "%d MB" % memory, "%.1f" % (os.path.getsize("d.cert") / decided), gap(lines), checked)
         print("| " + " | ".join(row) + " |")
 
 
