@@ -13,7 +13,7 @@ use Rattle.sf_model.specs.declared.fault.BuildFault.TheVariants.{NoShape}
 use Rattle.sf_model.specs.declared.parts.Shape.{Shape}
 use Rattle.sf_model.specs.declared.raw.Kind.TheVariants as kind
 use Rattle.sf_model.specs.declared.raw.RawBlock.{RawBlock}
-use Rattle.sf_soft_shapes.specs.Listed.{shape, height_at, IsAllowed, width_count, widths, IsSoftList, IsListOf, AreListsOf, HasNoneFor}
+use Rattle.sf_soft_shapes.specs.Listed.{shape, height_at, IsAllowed, width_count, widths, IsSoftList, IsListOf, AreFirstLists, AreListsOf, HasNoneFor}
 use Rattle.sf_gen.specs.declared.design.Kinds.{Kinds}
 use Rattle.sf_gen.specs.declared.drawn.Size.{Size}
 use Rattle.sf_gen.specs.Designs.{raw_block, raw_blocks}
@@ -118,20 +118,23 @@ kind_filled false k fixed s f h l = hard_filled (fixed || (s.w == s.h)) s.w s.h 
 HasShape : ℕ → Bool → RawBlock → Type 0
 HasShape k fixed b = IsListOf k fixed b.kind [] → ⊥
 
-all_shaped : (k : ℕ) (fixed : Bool) (bs : List RawBlock) (lists : List (List Shape)) → Each (HasShape k fixed) bs → AreListsOf k fixed bs lists → shapeless bs lists ≡ None
+all_shaped : (k : ℕ) (fixed : Bool) (bs : List RawBlock) (lists : List (List Shape)) → Each (HasShape k fixed) bs → AreFirstLists k fixed bs lists → shapeless bs lists ≡ None
 unfolding HasShape
 all_shaped k fixed [] lists h are = refl
 all_shaped k fixed (b ∷ bs) [] h are = refl
 all_shaped k fixed (b ∷ bs) ([] ∷ ls) h are = absurd (h.0 (All-head (λ (p : RawBlock × List Shape). IsListOf k fixed p.0.kind p.1) (b, []) (zip bs ls) are))
 all_shaped k fixed (b ∷ bs) ((s ∷ ss) ∷ ls) h are = all_shaped k fixed bs ls h.1 (All-tail (λ (p : RawBlock × List Shape). IsListOf k fixed p.0.kind p.1) (b, s ∷ ss) (zip bs ls) are)
 
-pub shaped : (kinds : Kinds) (seed n k : ℕ) (fixed : Bool) (lists : List (List Shape)) → 2 ≤ k → AreListsOf k fixed (raw_blocks kinds (sizes seed n)) lists → shapeless (raw_blocks kinds (sizes seed n)) lists ≡ None
+first_shaped : (kinds : Kinds) (seed n k : ℕ) (fixed : Bool) (lists : List (List Shape)) → 2 ≤ k → AreFirstLists k fixed (raw_blocks kinds (sizes seed n)) lists → shapeless (raw_blocks kinds (sizes seed n)) lists ≡ None
 unfolding HasShape
-shaped kinds seed n k fixed lists h are =
+first_shaped kinds seed n k fixed lists h are =
     all_shaped k fixed (raw_blocks kinds (sizes seed n)) lists
     (each_indexed IsSmall (HasShape k fixed) (raw_block kinds) (λ i s f l. kind_filled (is_soft kinds i) k fixed s f (omega (arith, h)) l) 0 (sizes seed n) (sizes_small seed n)) are
 
+pub shaped : (kinds : Kinds) (seed n k : ℕ) (fixed : Bool) (lists : List (List Shape)) → 2 ≤ k → AreListsOf k fixed (raw_blocks kinds (sizes seed n)) lists → shapeless (raw_blocks kinds (sizes seed n)) lists ≡ None
+shaped kinds seed n k fixed lists h are = first_shaped kinds seed n k fixed lists h are.each
+
 pub never_refused : (kinds : Kinds) (seed n k : ℕ) (fixed : Bool) (fault : BuildFault) → 2 ≤ k → HasNoneFor k fixed (raw_blocks kinds (sizes seed n)) fault → ⊥
 never_refused kinds seed n k fixed fault h none =
-    let e : None ≡ Some fault = sym (ap (option_map NoShape) (shaped kinds seed n k fixed none.0 h none.1)) ∙ none.2 in
+    let e : None ≡ Some fault = sym (ap (option_map NoShape) (first_shaped kinds seed n k fixed none.0 h none.1)) ∙ none.2 in
     absurd cc

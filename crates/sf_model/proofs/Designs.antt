@@ -1,5 +1,5 @@
 -- What is built from admitted parts is their design, and keeps the limits.
-use Rattle.std.proofs.Common.{◌≡◌, ℕ, ◌<◌, ◌≤◌, ◌^◌, ℤ, nat_abs, Bool, true, false, IsTrue, cond, List, [], ◌∷◌, length, get_or, Option, Some, None, IfSome, refl, sym, subst, arith}
+use Rattle.std.proofs.Common.{◌≡◌, ℕ, ◌<◌, ◌≤◌, ◌^◌, ℤ, nat_abs, Bool, true, false, IsTrue, cond, List, [], ◌∷◌, length, get_or, Option, Some, None, IfSome, refl, sym, ap, ◌∙◌, subst, arith}
 use Rattle.std.specs.List.{All, AllByRecursion, AllZip, filter_map, sum_by, zip}
 use Rattle.std.proofs.lemmas.Int.{ints}
 use Rattle.std.proofs.lemmas.List.Elements.{All-from_recursion, recursion_from_All}
@@ -97,8 +97,9 @@ limits_hold parts lists outline weights blocks pads nets admitted choices sides 
       weighted = weighted;
     }))
 
-pub is_design : (parts : Parts) (lists : List (List Shape)) (outline : Outline) (weights : Weights) (design : Design) → design.blocks ≡ design_blocks parts.blocks lists → design.pads ≡ design_pads parts → AllZip (IsNetMade parts) parts.nets design.nets → design.outline ≡ outline → design.weights ≡ weights → IsDesignOf parts lists outline weights design
-is_design parts lists outline weights design blocks pads made outline_is weights_are = record {
+pub is_design : (parts : Parts) (lists : List (List Shape)) (outline : Outline) (weights : Weights) (design : Design) → HasShapeChoices parts.blocks lists → design.blocks ≡ design_blocks parts.blocks lists → design.pads ≡ design_pads parts → AllZip (IsNetMade parts) parts.nets design.nets → design.outline ≡ outline → design.weights ≡ weights → IsDesignOf parts lists outline weights design
+is_design parts lists outline weights design choices blocks pads made outline_is weights_are = record {
+  block_count = ap (λ bs. length bs) blocks ∙ length_blocks parts.blocks lists choices.one_each;
   blocks = blocks;
   pads = pads;
   net_count = sym (zip_length (IsNetMade parts) parts.nets design.nets made);

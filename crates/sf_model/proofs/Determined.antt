@@ -1,10 +1,13 @@
 -- A design is determined by what it is built from.
 use Rattle.std.proofs.Common.{◌≡◌, ℕ, zero, suc, ◌<◌, List, [], ◌∷◌, length, get_or, ◌⊎◌, inl, inr, refl, ap, sym, ◌∙◌, arith}
+use Rattle.std.proofs.Props.{props}
 use Rattle.std.specs.List.{AllByRecursion, AllPairs, Contains, zip}
 use Rattle.std.proofs.lemmas.List.Elements.{All-contains, recursion_from_All}
-use Rattle.sf_model.specs.Built.{IsDesignOf, IsNetOf, IsSameDesign}
-use Rattle.sf_model.specs.Limits.{pin_order}
+use Rattle.sf_model.specs.Built.{IsDesignOf, IsNetOf}
+use Rattle.sf_model.specs.Limits.{IsWithinLimits, pin_order}
 use Rattle.sf_model.specs.declared.design.Design.{Design}
+use Rattle.sf_model.specs.declared.parts.Block.{Block}
+use Rattle.sf_model.specs.declared.parts.Pad.{Pad}
 use Rattle.sf_model.specs.declared.parts.Net.{Net}
 use Rattle.sf_model.specs.declared.parts.Outline.{Outline}
 use Rattle.sf_model.specs.declared.parts.Pin.{Pin}
@@ -77,11 +80,29 @@ same_nets parts (r ∷ rs) (n ∷ ns) [] i j a b = absurd (omega arith)
 same_nets parts (r ∷ rs) (n ∷ ns) (m ∷ ms) i j a b =
     ap (λ (z : Net). z ∷ ns) (same_net parts r n m a.0 b.0) ∙ ap (λ (zs : List Net). m ∷ zs) (same_nets parts rs ns ms (omega arith) (omega arith) a.1 b.1)
 
-pub determined : (parts : Parts) (lists : List (List Shape)) (outline : Outline) (weights : Weights) (d e : Design) → IsDesignOf parts lists outline weights d → IsDesignOf parts lists outline weights e → IsSameDesign d e
-determined parts lists outline weights d e a b = record {
-  blocks = a.blocks ∙ sym b.blocks;
-  pads = a.pads ∙ sym b.pads;
-  nets = same_nets parts parts.nets d.nets e.nets a.net_count b.net_count (recursion_from_All (λ (n : RawNet × Net). IsNetOf parts n.0 n.1) (zip parts.nets d.nets) a.nets) (recursion_from_All (λ (n : RawNet × Net). IsNetOf parts n.0 n.1) (zip parts.nets e.nets) b.nets);
-  outline_same = a.outline_is ∙ sym b.outline_is;
-  weights_same = a.weights_are ∙ sym b.weights_are;
-}
+one_proof : (blocks : List Block) (pads : List Pad) (nets : List Net) (outline : Outline) (weights : Weights) → IsProp (IsWithinLimits blocks pads nets outline weights)
+one_proof blocks pads nets outline weights = hlevel props
+
+design_of : (blocks : List Block) (pads : List Pad) (nets : List Net) (outline : Outline) (weights : Weights) → IsWithinLimits blocks pads nets outline weights → Design
+design_of blocks pads nets outline weights kept = record { blocks = blocks; pads = pads; nets = nets; outline = outline; weights = weights; limits = kept }
+
+-- a design is the one of its fields, whatever shows that they keep the limits
+IsOf : Design → List Block → List Pad → List Net → Outline → Weights → Type 0
+IsOf d blocks pads nets outline weights = (kept : IsWithinLimits blocks pads nets outline weights) → d ≡ design_of blocks pads nets outline weights kept
+
+own : (d : Design) → IsOf d d.blocks d.pads d.nets d.outline d.weights
+unfolding IsOf design_of
+own d kept = ap (design_of d.blocks d.pads d.nets d.outline d.weights) (one_proof d.blocks d.pads d.nets d.outline d.weights d.limits kept)
+
+same_design : (d e : Design) → d.blocks ≡ e.blocks → d.pads ≡ e.pads → d.nets ≡ e.nets → d.outline ≡ e.outline → d.weights ≡ e.weights → d ≡ e
+unfolding IsOf design_of
+same_design d e b p n o w =
+    let k : IsOf d e.blocks e.pads e.nets e.outline e.weights = rw (← b, ← p, ← n, ← o, ← w) (own d) in k e.limits
+
+pub determined : (parts : Parts) (lists : List (List Shape)) (outline : Outline) (weights : Weights) (d e : Design) → IsDesignOf parts lists outline weights d → IsDesignOf parts lists outline weights e → d ≡ e
+determined parts lists outline weights d e a b = same_design d e
+    (a.blocks ∙ sym b.blocks)
+    (a.pads ∙ sym b.pads)
+    (same_nets parts parts.nets d.nets e.nets a.net_count b.net_count (recursion_from_All (λ (n : RawNet × Net). IsNetOf parts n.0 n.1) (zip parts.nets d.nets) a.nets) (recursion_from_All (λ (n : RawNet × Net). IsNetOf parts n.0 n.1) (zip parts.nets e.nets) b.nets))
+    (a.outline_is ∙ sym b.outline_is)
+    (a.weights_are ∙ sym b.weights_are)

@@ -76,18 +76,12 @@ pub record IsNetOf (parts : Parts) (read : RawNet) (net : Net) : Type 0 where
   pub ascending : AllPairs (λ p q. pin_order p < pin_order q) net.pins
   pub same : (p : Pin) → Contains net.pins p ↔ Contains (named_pins parts read.pins) p
 
+-- the design of these parts with these lists: a block, and a net, for each one read, in their order
 pub record IsDesignOf (parts : Parts) (lists : List (List Shape)) (outline : Outline) (weights : Weights) (design : Design) : Type 0 where
+  pub block_count : length design.blocks ≡ length parts.blocks
   pub blocks : design.blocks ≡ design_blocks parts.blocks lists
   pub pads : design.pads ≡ design_pads parts
   pub net_count : length design.nets ≡ length parts.nets
   pub nets : All (λ n. IsNetOf parts n.0 n.1) (zip parts.nets design.nets)
   pub outline_is : design.outline ≡ outline
   pub weights_are : design.weights ≡ weights
-
--- two designs that agree in all that they hold
-pub record IsSameDesign (d e : Design) : Type 0 where
-  pub blocks : d.blocks ≡ e.blocks
-  pub pads : d.pads ≡ e.pads
-  pub nets : d.nets ≡ e.nets
-  pub outline_same : d.outline ≡ e.outline
-  pub weights_same : d.weights ≡ e.weights

@@ -1,3 +1,4 @@
 pub mod Heights
 pub mod Spread
 pub mod Listing
+pub mod Determined

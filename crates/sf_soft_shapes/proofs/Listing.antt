@@ -1,14 +1,11 @@
 -- The lists of the blocks, as one more comes.
-use Rattle.std.proofs.Common.{◌≡◌, ℕ, zero, suc, ◌+◌, ◌<◌, ◌≤◌, Bool, List, [], ◌∷◌, ◌++◌, length, get_or, Option, Some, None, refl, ap, sym, subst, ◌∙◌, arith, length-append}
+use Rattle.std.proofs.Common.{◌≡◌, ℕ, zero, suc, ◌<◌, ◌≤◌, Bool, List, [], ◌∷◌, ◌++◌, length, get_or, Some, None, refl, ap, sym, subst, arith}
 use Rattle.std.specs.List.{All, zip}
-use Rattle.std.specs.Option.{option_map}
-use Rattle.std.proofs.lemmas.List.Elements.{All-append, All-cons}
+use Rattle.std.proofs.lemmas.List.Elements.{All-append}
 use Rattle.sf_model.specs.Built.{shapeless}
-use Rattle.sf_model.specs.declared.fault.BuildFault.{BuildFault}
-use Rattle.sf_model.specs.declared.fault.BuildFault.TheVariants.{NoShape}
 use Rattle.sf_model.specs.declared.parts.Shape.{Shape}
 use Rattle.sf_model.specs.declared.raw.RawBlock.{RawBlock}
-use Rattle.sf_soft_shapes.specs.Listed.{AreListsOf, IsListOf, HasNoneFor}
+use Rattle.sf_soft_shapes.specs.Listed.{AreFirstLists, IsListOf}
 
 abbrev none_of : (Y : Type 0) → List Y
 none_of Y = []
@@ -29,12 +26,12 @@ one P x (suc k) d low here = absurd (omega arith)
 pub all_one : {X : Type 0} (P : X → Type 0) (xs : List X) (x : X) → All P xs → P x → All P (xs ++ x ∷ [])
 all_one P xs x all here = All-append P xs (x ∷ []) all (λ k d low. one P x k d low here)
 
-pub lists_grow : (k : ℕ) (fixed : Bool) (blocks : List RawBlock) (lists : List (List Shape)) (l : List Shape) (d : RawBlock) → length lists < length blocks → AreListsOf k fixed blocks lists → IsListOf k fixed (get_or blocks (length lists) d).kind l → AreListsOf k fixed blocks (lists ++ l ∷ [])
+pub lists_grow : (k : ℕ) (fixed : Bool) (blocks : List RawBlock) (lists : List (List Shape)) (l : List Shape) (d : RawBlock) → length lists < length blocks → AreFirstLists k fixed blocks lists → IsListOf k fixed (get_or blocks (length lists) d).kind l → AreFirstLists k fixed blocks (lists ++ l ∷ [])
 lists_grow k fixed blocks lists l d low were here =
     let P : List (RawBlock × List Shape) → Type 0 = λ ps. All (λ b. IsListOf k fixed b.0.kind b.1) ps in
     subst P (sym (zip_grow blocks lists l d low)) (all_one (λ (b : RawBlock × List Shape). IsListOf k fixed b.0.kind b.1) (zip blocks lists) (get_or blocks (length lists) d, l) were here)
 
-pub lists_start : (k : ℕ) (fixed : Bool) (blocks : List RawBlock) → AreListsOf k fixed blocks []
+pub lists_start : (k : ℕ) (fixed : Bool) (blocks : List RawBlock) → AreFirstLists k fixed blocks []
 lists_start k fixed blocks =
     let P : List (RawBlock × List Shape) → Type 0 = λ ps. All (λ b. IsListOf k fixed b.0.kind b.1) ps in
     subst P (sym (zip_none (List Shape) blocks)) (λ j d low. absurd (omega arith))

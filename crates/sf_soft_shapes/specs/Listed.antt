@@ -1,5 +1,5 @@
 -- The shapes that a block may take.
-use Rattle.std.specs.Prelude.{◌≡◌, Some, ℕ, ◌+◌, ◌-◌, ◌*◌, ◌/◌, ◌^◌, ◌≤◌, ◌↔◌, min, max, Bool, ◌||◌, ◌==◌, nat_le, List, [], ◌∷◌, map, zip, All, if◌then◌else◌}
+use Rattle.std.specs.Prelude.{◌≡◌, Some, ℕ, ◌+◌, ◌-◌, ◌*◌, ◌/◌, ◌^◌, ◌≤◌, ◌↔◌, min, max, Bool, ◌||◌, ◌==◌, nat_le, List, [], ◌∷◌, length, map, zip, All, if◌then◌else◌}
 use Rattle.std.specs.Int.{div_ceil}
 use Rattle.std.specs.List.{range_with_len}
 use Rattle.std.specs.Option.{option_map}
@@ -52,10 +52,15 @@ abbrev pub IsListOf : ℕ → Bool → Kind → List Shape → Type 0
 IsListOf k fixed (kind.Hard w h) shapes = shapes ≡ hard_list w h fixed
 IsListOf k fixed (kind.Soft area least most) shapes = IsSoftList area least most k shapes
 
--- each list is that of its block
-abbrev pub AreListsOf : ℕ → Bool → List RawBlock → List (List Shape) → Type 0
-AreListsOf k fixed blocks lists = All (λ b. IsListOf k fixed b.0.kind b.1) (zip blocks lists)
+-- each of these lists is that of the block at its place; there may be fewer lists than blocks
+abbrev pub AreFirstLists : ℕ → Bool → List RawBlock → List (List Shape) → Type 0
+AreFirstLists k fixed blocks lists = All (λ b. IsListOf k fixed b.0.kind b.1) (zip blocks lists)
+
+-- one list for each block, each that of its block
+pub record AreListsOf (k : ℕ) (fixed : Bool) (blocks : List RawBlock) (lists : List (List Shape)) : Type 0 where
+  pub one_each : length lists ≡ length blocks
+  pub each : AreFirstLists k fixed blocks lists
 
 -- the blocks before one have lists of shapes, this one has none, and the fault tells its name
 abbrev pub HasNoneFor : ℕ → Bool → List RawBlock → BuildFault → Type 0
-HasNoneFor k fixed blocks fault = (lists : List (List Shape)) × AreListsOf k fixed blocks lists × (option_map NoShape (shapeless blocks lists) ≡ Some fault)
+HasNoneFor k fixed blocks fault = (lists : List (List Shape)) × AreFirstLists k fixed blocks lists × (option_map NoShape (shapeless blocks lists) ≡ Some fault)

@@ -6,6 +6,7 @@
 
 pub mod fault;
 pub mod hard;
+mod laws;
 pub mod listed;
 pub mod soft;
 #[cfg(test)]
@@ -13,5 +14,6 @@ mod tests;
 
 pub use fault::ShapeFault;
 pub use hard::hard_shapes;
+pub use laws::lists_are_determined;
 pub use listed::lists;
 pub use soft::soft_shapes;

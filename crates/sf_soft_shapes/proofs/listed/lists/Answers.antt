@@ -1,10 +1,10 @@
-use Rattle.std.proofs.Common.{◌≡◌, ◌≤◌, List, [], ◌∷◌, ◌++◌, length, get_or, subst, ap, sym, ◌∙◌, ◌<◌, Some, Err, arith, length-append}
-use Rattle.sf_model.specs.Built.{IsShapeChoice, shapeless}
+use Rattle.std.proofs.Common.{◌≡◌, ◌≤◌, List, [], ◌∷◌, ◌++◌, length, get_or, subst, ap, sym, ◌∙◌, ◌<◌, Some, Err, arith}
+use Rattle.sf_model.specs.Built.{IsShapeChoice}
 use Rattle.std.specs.Option.{option_map}
 use Rattle.sf_model.specs.declared.fault.BuildFault.TheVariants.{NoShape}
 use Rattle.sf_model.specs.declared.parts.Shape.{Shape}
 use Rattle.sf_model.specs.declared.raw.RawBlock.{RawBlock}
-use Rattle.sf_soft_shapes.specs.Listed.{AreListsOf, IsListOf}
+use Rattle.sf_soft_shapes.specs.Listed.{IsListOf}
 use Rattle.sf_soft_shapes.proofs.Listing.{lists_start, lists_grow, all_one, all_shaped, none_after}
 use Rattle.sf_soft_shapes.proofs.listed.lists.Goals as goal
 
@@ -54,3 +54,9 @@ returns-in-Err-NoShape-clause-refused c = λ other.
       lists_grow c.args.k c.args.fixed blocks lists [] item low c.loop-block.invariant.listed (subst P at none),
       ap (option_map NoShape) (none_after blocks lists item low c.loop-block.invariant.shaped) ∙ ap (λ m. Some (NoShape m)) (sym name),
     )
+
+pub returns-clause-listed : goal.returns-clause-listed
+returns-clause-listed c =
+    let in_blocks : c.as_slice-block-items.result.now ≡ c.args.parts.now.blocks = c.as_slice-block-items.ensures in
+    let within : length c.as_slice-block-items.result.now ≡ length c.args.parts.now.blocks = ap (λ xs. length xs) in_blocks in
+    record { one_each = omega (arith, c.loop-block.invariant.count); each = c.loop-block.invariant.listed }

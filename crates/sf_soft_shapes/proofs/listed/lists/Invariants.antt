@@ -3,13 +3,13 @@ use Rattle.std.specs.List.{All}
 use Rattle.sf_model.specs.Built.{IsShapeChoice}
 use Rattle.sf_model.specs.declared.parts.Shape.{Shape}
 use Rattle.std.proofs.Common.{List}
-use Rattle.sf_soft_shapes.specs.Listed.{AreListsOf}
+use Rattle.sf_soft_shapes.specs.Listed.{AreFirstLists}
 use Rattle.sf_soft_shapes.proofs.listed.lists.Given as goal
 
 abbrev pub invariant-loop-block : goal.invariant-loop-block
 invariant-loop-block l = record {
   count : vec_len l.lists ≡ l.block-index;
-  listed : AreListsOf l.k l.fixed l.parts.blocks l.lists.items;
+  listed : AreFirstLists l.k l.fixed l.parts.blocks l.lists.items;
   choices : All IsShapeChoice l.lists.items;
   shaped : All (λ (s : List Shape). 1 ≤ length s) l.lists.items;
 }

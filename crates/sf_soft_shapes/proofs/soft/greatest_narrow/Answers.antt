@@ -1,4 +1,4 @@
-use Rattle.std.proofs.Common.{◌+◌, ◌/◌, ◌≤◌, rules, arith}
+use Rattle.std.proofs.Common.{◌+◌, ◌/◌, rules, arith}
 use Rattle.sf_soft_shapes.specs.Ends.{IsNarrow}
 use Rattle.sf_soft_shapes.proofs.Heights.{narrow_down}
 use Rattle.sf_soft_shapes.proofs.soft.greatest_narrow.Goals as goal

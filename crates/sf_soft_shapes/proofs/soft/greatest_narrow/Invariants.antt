@@ -1,4 +1,4 @@
-use Rattle.std.proofs.Common.{◌≡◌, ℕ, ◌+◌, ◌-◌, ◌^◌, ◌<◌, ◌≤◌}
+use Rattle.std.proofs.Common.{ℕ, ◌-◌, ◌^◌, ◌<◌, ◌≤◌}
 use Rattle.sf_soft_shapes.specs.Ends.{IsNarrow}
 use Rattle.sf_soft_shapes.proofs.soft.greatest_narrow.Given as goal
 

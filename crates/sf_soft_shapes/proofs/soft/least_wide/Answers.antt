@@ -1,4 +1,4 @@
-use Rattle.std.proofs.Common.{◌+◌, ◌/◌, ◌≤◌, rules, arith}
+use Rattle.std.proofs.Common.{◌+◌, ◌/◌, rules, arith}
 use Rattle.sf_soft_shapes.specs.Ends.{IsWide}
 use Rattle.sf_soft_shapes.proofs.Heights.{wide_up}
 use Rattle.sf_soft_shapes.proofs.soft.least_wide.Goals as goal

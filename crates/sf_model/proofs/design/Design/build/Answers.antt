@@ -18,4 +18,4 @@ invariant_of-result c = record {
 }
 
 pub returns-clause-built : goal.returns-clause-built
-returns-clause-built c = is_design c.args.parts c.args.lists.items c.args.outline c.args.weights _ c.in_ok-blocks.ensures c.in_ok-pads.ensures c.in_ok-nets.ensures refl refl
+returns-clause-built c = is_design c.args.parts c.args.lists.items c.args.outline c.args.weights _ c.requires.choices c.in_ok-blocks.ensures c.in_ok-pads.ensures c.in_ok-nets.ensures refl refl
