@@ -4,3 +4,4 @@ pub mod Numbered
 pub mod Found
 pub mod ByNumber
 pub mod Legality
+pub mod OneVerdict

@@ -6,12 +6,14 @@
 //! that they are legal where the plan is legal and fits.
 #![tactic(auto)]
 
+mod laws;
 pub mod measure;
 pub mod placing;
 #[cfg(test)]
 mod tests;
 pub mod verdict;
 
+pub use laws::verdicts_are_one;
 pub use measure::size;
 pub use placing::{spot_at, spots};
 pub use verdict::{Verdict, check_spots};
