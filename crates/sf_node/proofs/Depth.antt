@@ -78,7 +78,7 @@ cond-same b = grind (arith, nat_tests)
 zero-is : (n : ℕ) → (n == 0) ≡ true → n ≡ 0
 zero-is n e = grind (arith, nat_tests)
 
-count-more : (p : Token → Bool) (tokens : List Token) (t : Token) → count_by p (tokens ++ t ∷ []) ≡ count_by p tokens + cond (p t) 1 0
+pub count-more : (p : Token → Bool) (tokens : List Token) (t : Token) → count_by p (tokens ++ t ∷ []) ≡ count_by p tokens + cond (p t) 1 0
 count-more p tokens t = omega (arith, sum_by-append (λ (x : Token). cond (p x) 1 0) tokens (t ∷ []), sum_by-cons (λ (x : Token). cond (p x) 1 0) t [])
 
 unused-less : (tokens : List Token) (t : Token) (b : ℕ) → unused (tokens ++ t ∷ []) b ≤ unused tokens b

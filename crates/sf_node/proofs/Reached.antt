@@ -21,11 +21,11 @@ use Rattle.sf_node.specs.Subproblem.{Belongs, root, span_of}
 use Rattle.sf_node.specs.Children.{may_join, is_unused, when, next_tokens, step_of, after, extended, split, CanSplit, CanStep, CanWalk, walk, IsSubproblem}
 use Rattle.sf_node.proofs.Halves.{InSpan, from_in_span}
 
-walk-append : (node : Parts) (ss : List Step) (s : Step) → walk node (ss ++ s ∷ []) ≡ after (walk node ss) s
+pub walk-append : (node : Parts) (ss : List Step) (s : Step) → walk node (ss ++ s ∷ []) ≡ after (walk node ss) s
 walk-append node [] s = refl
 walk-append node (x ∷ ss) s = walk-append (after node x) ss s
 
-CanWalk-append : (node : Parts) (ss : List Step) (s : Step) → CanWalk node ss → CanStep (walk node ss) s → CanWalk node (ss ++ s ∷ [])
+pub CanWalk-append : (node : Parts) (ss : List Step) (s : Step) → CanWalk node ss → CanStep (walk node ss) s → CanWalk node (ss ++ s ∷ [])
 CanWalk-append node [] s w c = (c, tt)
 CanWalk-append node (x ∷ ss) s w c = (w.0, CanWalk-append (after node x) ss s w.1 c)
 
@@ -42,7 +42,7 @@ after-subproblem design node s sub can = record {
   is = ap (λ n. after n s) sub.is ∙ sym (walk-append (root design) node.steps s) ∙ ap (walk (root design)) (sym (steps-after node s));
 }
 
-spans-after : (node : Parts) (s : Step) → length (after node s).spans ≡ length node.spans
+pub spans-after : (node : Parts) (s : Step) → length (after node s).spans ≡ length node.spans
 spans-after node Beside = refl
 spans-after node Above = refl
 spans-after node (Block b) = refl
@@ -62,11 +62,11 @@ each-when : (P : Token → Type 0) (b : Bool) (t : Token) → (b ≡ true → P 
 each-when P true t f = (f refl, tt)
 each-when P false t f = tt
 
-each-passing : (P : ℕ → Type 0) (test : ℕ → Bool) (xs : List ℕ) → AllByRecursion (λ x. test x ≡ true → P x) xs → AllByRecursion P (filter test xs)
+pub each-passing : (P : ℕ → Type 0) (test : ℕ → Bool) (xs : List ℕ) → AllByRecursion (λ x. test x ≡ true → P x) xs → AllByRecursion P (filter test xs)
 each-passing P test [] h = tt
 each-passing P test (x ∷ xs) h = cond_both (test x) (x ∷ filter test xs) (filter test xs) (AllByRecursion P) (λ e. (h.0 e, each-passing P test xs h.1)) (λ e. each-passing P test xs h.1)
 
-each-below : (P : ℕ → Type 0) (a n : ℕ) → ((i : ℕ) → a ≤ i → i < a + n → P i) → AllByRecursion P (range_with_len a n)
+pub each-below : (P : ℕ → Type 0) (a n : ℕ) → ((i : ℕ) → a ≤ i → i < a + n → P i) → AllByRecursion P (range_with_len a n)
 each-below P a zero f = tt
 each-below P a (suc n) f = (f a (omega arith) (omega arith), each-below P (a + 1) n (λ i h k. f i (omega arith) (omega arith)))
 

@@ -1,3 +1,5 @@
+//! The law of branching.
+
 ghost use Rattle.std.specs.Prelude.{ℕ, IsFalse};
 ghost use Rattle.sf_model.specs.declared.design.Design.{Design};
 ghost use Rattle.sf_model.specs.Tree.{Tree};

@@ -8,17 +8,18 @@
 //! solved subproblem.
 #![tactic(auto)]
 
-pub mod belonging;
-pub mod laws;
-pub mod node;
-pub mod step;
-pub mod task;
+mod belonging;
+mod laws;
+mod node;
+mod step;
+mod task;
 #[cfg(test)]
 mod tests;
-pub mod values;
+mod values;
 
 pub use belonging::belongs;
-pub use node::{Node, used_blocks};
+pub use laws::children_share_plans;
+pub use node::{Node, ends_in, used_blocks};
 pub use step::Step;
-pub use task::Task;
+pub use task::{Task, Tasks};
 pub use values::Values;

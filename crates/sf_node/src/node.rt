@@ -1,3 +1,5 @@
+//! A subproblem, and how it branches.
+
 ghost use Rattle.std.specs.Prelude.{◌≡◌, ◌<◌, ◌≤◌, ℕ, not, true, length, IfOk, MatchOption, slice_index_or};
 ghost use Rattle.sf_node.specs.Full.{first_wide_from};
 ghost use Rattle.std.specs.List.{list_all};
@@ -7,7 +9,7 @@ ghost use Rattle.sf_node.specs.Children.{is_unused, may_join};
 
 use crate::step::Step;
 use sf_model::Design;
-use sf_polish::expr::Token;
+use sf_polish::Token;
 use std::alloc::{AllocError as NoMemory, Global};
 use std::marker::Model;
 
@@ -93,8 +95,9 @@ fn may_join(operator: Token, tokens: &[Token]) -> bool
     operators + 2 <= operands && !ends_in(operator, tokens)
 }
 
-#[tactic(auto, using(crate::proofs::Last::last_or_place))]
-fn ends_in(operator: Token, tokens: &[Token]) -> bool
+/// Whether the last token is this operator.
+#[tactic(auto, using(sf_polish::proofs::Last::last_or_place))]
+pub fn ends_in(operator: Token, tokens: &[Token]) -> bool
     ensures { result ≡ ends_in operator tokens.now }
 {
     if tokens.is_empty() {
@@ -115,9 +118,11 @@ fn same_operator(first: Token, second: Token) -> bool
 }
 
 impl Node {
-    ghost use Rattle.std.specs.Prelude.{◌+◌, ◌^◌, map, ◌++◌, ◌∷◌, []};
+    ghost use Rattle.std.specs.Prelude.{◌+◌, ◌^◌, map, ◌++◌, ◌∷◌, [], OnOk};
+    ghost use Rattle.sf_node.specs.Parts.{Parts};
+    ghost use Rattle.sf_node.specs.Later.{halved, HalvesOne};
     ghost use Rattle.sf_node.specs.Subproblem.{root, span_of, is_complete, is_solved};
-    ghost use Rattle.sf_node.specs.Children.{split, extended, after, step_of, when, may_join, can_split, CanSplit, with_token, with_span, IsSubproblem};
+    ghost use Rattle.sf_node.specs.Children.{split, extended, after, step_of, when, may_join, can_split, CanSplit, CanStep, with_token, with_span, IsSubproblem};
 
     /// The subproblem of all plans.
     pub fn root(alloc: Global, design: &Design) -> Result<Node, NoMemory>
@@ -264,6 +269,43 @@ impl Node {
             }
         }
         Ok(children)
+    }
+
+    /// Goes one step on.
+    pub fn enter(&mut self, step: Step) -> Result<(), NoMemory>
+        requires { CanStep self.old step }
+        ensures { OnOk result (self.new ≡ after self.old step) }
+    {
+        self.steps.push(step)?;
+        match step {
+            Step::Beside => self.tokens.push(Token::Beside)?,
+            Step::Above => self.tokens.push(Token::Above)?,
+            Step::Block(block) => self.tokens.push(Token::Block(block))?,
+            Step::Left(block) => {
+                let (from, to) = self.span(block);
+                self.spans[block as usize] = (from, from.midpoint(to));
+            }
+            Step::Right(block) => {
+                let (from, to) = self.span(block);
+                self.spans[block as usize] = (from.midpoint(to), to);
+            }
+        }
+        Ok(())
+    }
+
+    /// Goes back over the last step, where it halved this span.
+    pub fn leave(&mut self, step: Step, span: (u16, u16))
+        requires { HalvesOne self.old step }
+        ensures { (before : Parts) → self.old ≡ after before step → span ≡ halved before step → self.new ≡ before }
+    {
+        self.steps.pop();
+        match step {
+            Step::Beside | Step::Above | Step::Block(_) => {
+                self.tokens.pop();
+            }
+            Step::Left(block) => self.spans[block as usize] = span,
+            Step::Right(block) => self.spans[block as usize] = span,
+        }
     }
 
     fn push_join(
