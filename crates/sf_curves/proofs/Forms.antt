@@ -41,6 +41,13 @@ same-form t c e =
     spells-one (record { tokens = postfix (form_of c); shapes = [] }) (form t) (form (form_of c)) (spelled-form t (postfix (form_of c)) e) (spelled-form (form_of c) (postfix (form_of c)) refl)
     ∙ form-form_of c
 
+-- two plans with the same tokens have the same form, and the other way round
+pub one-form : (t u : Tree) → postfix t ≡ postfix u → form t ≡ form u
+one-form t u e = spells-one (record { tokens = postfix u; shapes = [] }) (form t) (form u) (spelled-form t (postfix u) e) (spelled-form u (postfix u) refl)
+
+pub form-postfix : (t u : Tree) → form t ≡ form u → postfix t ≡ postfix u
+form-postfix t u e = sym (postfix-form t) ∙ ap postfix e ∙ postfix-form u
+
 pub form-tokens : (t : Tree) (c : CurveTree) → form t ≡ form_of c → postfix t ≡ postfix (form_of c)
 form-tokens t c e = sym (postfix-form t) ∙ ap postfix e
 

@@ -3,11 +3,13 @@
 //! A curve is seen as the list of its points, widths rising and heights falling. The crate stands on `sf_model` and on
 //! `sf_polish` for expressions. `root_curve` gives the curve of an expression whose blocks take shapes from spans of
 //! their lists, and `trace` leads from a point of that curve to a plan of just this size. The bound uses of `Curve` that
-//! each point is a size (`traced`) and that each size in the outline is covered (`covers`).
+//! each point is a size (`traced`) and that each size in the outline is covered (`covers`), and that of tokens and
+//! spans there is one curve, one least area and one trace of it (`laws`).
 #![tactic(auto)]
 
 pub mod curve;
 pub mod curve_tree;
+pub mod laws;
 mod root;
 #[cfg(test)]
 mod tests;
