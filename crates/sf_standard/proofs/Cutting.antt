@@ -120,7 +120,7 @@ part-fitting design node tree belongs fit p part =
 abbrev pub unused_blocks : Parts → List ℕ
 unused_blocks node = filter (λ b. is_unused b node.tokens) (range_with_len 0 (length node.spans))
 
-each-below : (a n : ℕ) → AllByRecursion (λ i. i < a + n) (range_with_len a n)
+pub each-below : (a n : ℕ) → AllByRecursion (λ i. i < a + n) (range_with_len a n)
 each-below a zero = tt
 each-below a (suc n) = (omega arith, each-weaker (λ i. i < (a + 1) + n) (λ i. i < a + suc n) (λ i h. omega (arith, h)) (range_with_len (a + 1) n) (each-below (a + 1) n))
 

@@ -6,7 +6,7 @@ use Rattle.std.specs.Int.{int_max, int_min}
 use Rattle.std.proofs.lemmas.Int.{ints, clamps}
 use Rattle.sf_model.specs.declared.parts.Shape.{Shape}
 use Rattle.sf_model.specs.Wire.{spread}
-use Rattle.sf_model.proofs.Each.{EachPair}
+use Rattle.sf_model.proofs.Each.{EachPair, each-weaker}
 use Rattle.sf_curves.proofs.Members.{not_in_nil}
 use Rattle.sf_standard.specs.declared.hull.Extent.{Extent}
 use Rattle.sf_standard.specs.declared.hull.Interval.{Interval}
@@ -52,11 +52,34 @@ spanned (z ∷ zs) =
       },
     )
 
-low-most : (a b : ℤ) (is : List Interval) → a ≤ℤ b → AllByRecursion (λ i. i.low ≤ℤ b) is → fold (λ z j. int_max z j.low) a is ≤ℤ b
+-- the greatest lower end lies above each, and the least upper end below each
+low-start : (a : ℤ) (is : List Interval) → a ≤ℤ fold (λ z j. int_max z j.low) a is
+low-start a [] = omega (arith, ints)
+low-start a (i ∷ is) = omega (arith, ints, clamps, low-start (int_max a i.low) is)
+
+low-each : (a : ℤ) (is : List Interval) → AllByRecursion (λ i. i.low ≤ℤ fold (λ z j. int_max z j.low) a is) is
+low-each a [] = tt
+low-each a (i ∷ is) = (omega (arith, ints, clamps, low-start (int_max a i.low) is), low-each (int_max a i.low) is)
+
+high-start : (a : ℤ) (is : List Interval) → fold (λ z j. int_min z j.high) a is ≤ℤ a
+high-start a [] = omega (arith, ints)
+high-start a (i ∷ is) = omega (arith, ints, clamps, high-start (int_min a i.high) is)
+
+high-each : (a : ℤ) (is : List Interval) → AllByRecursion (λ i. fold (λ z j. int_min z j.high) a is ≤ℤ i.high) is
+high-each a [] = tt
+high-each a (i ∷ is) = (omega (arith, ints, clamps, high-start (int_min a i.high) is), high-each (int_min a i.high) is)
+
+pub low-member : (i : Interval) (is : List Interval) → AllByRecursion (λ k. k.low ≤ℤ fold (λ z j. int_max z j.low) i.low is) (i ∷ is)
+low-member i is = (low-start i.low is, low-each i.low is)
+
+pub high-member : (i : Interval) (is : List Interval) → AllByRecursion (λ k. fold (λ z j. int_min z j.high) i.high is ≤ℤ k.high) (i ∷ is)
+high-member i is = (high-start i.high is, high-each i.high is)
+
+pub low-most : (a b : ℤ) (is : List Interval) → a ≤ℤ b → AllByRecursion (λ i. i.low ≤ℤ b) is → fold (λ z j. int_max z j.low) a is ≤ℤ b
 low-most a b [] h e = h
 low-most a b (i ∷ is) h e = low-most (int_max a i.low) b is (omega (arith, ints, clamps, h, e.0)) e.1
 
-high-least : (a b : ℤ) (is : List Interval) → b ≤ℤ a → AllByRecursion (λ i. b ≤ℤ i.high) is → b ≤ℤ fold (λ z j. int_min z j.high) a is
+pub high-least : (a b : ℤ) (is : List Interval) → b ≤ℤ a → AllByRecursion (λ i. b ≤ℤ i.high) is → b ≤ℤ fold (λ z j. int_min z j.high) a is
 high-least a b [] h e = h
 high-least a b (i ∷ is) h e = high-least (int_min a i.high) b is (omega (arith, ints, clamps, h, e.0)) e.1
 
@@ -94,6 +117,42 @@ gap-le-spread d zs (i ∷ is) h =
     uppers : {high : ℤ} (low : ℤ) → IsSpanned zs low high → (is : List Interval) → AllByRecursion (Holds d zs) is → AllByRecursion (λ i. (low -ℤ d) ≤ℤ i.high) is
     uppers low s [] k = tt
     uppers low s (j ∷ js) k = (upper low s j k.0, uppers low s js k.1)
+
+-- an interval of which the number is both ends or lies outside
+pub record Pins (is : List Interval) (z : ℤ) : Type 0 where
+  pub at : Interval
+  pub found : Contains is at
+  pub low : z ≤ℤ at.low
+  pub high : at.high ≤ℤ z
+
+max-most : (a b : ℤ) (zs : List ℤ) → a ≤ℤ b → AllByRecursion (λ z. z ≤ℤ b) zs → fold int_max a zs ≤ℤ b
+max-most a b [] h e = h
+max-most a b (z ∷ zs) h e = max-most (int_max a z) b zs (omega (arith, ints, clamps, h, e.0)) e.1
+
+min-least : (a b : ℤ) (zs : List ℤ) → b ≤ℤ a → AllByRecursion (λ z. b ≤ℤ z) zs → b ≤ℤ fold int_min a zs
+min-least a b [] h e = h
+min-least a b (z ∷ zs) h e = min-least (int_min a z) b zs (omega (arith, ints, clamps, h, e.0)) e.1
+
+apart-le : (a b c d : ℤ) → b ≤ℤ a → a ≤ℤ c → d ≤ℤ b → nat_abs (a -ℤ b) ≤ to_nat (c -ℤ d)
+apart-le a b c d le up down = abs-le (a -ℤ b) (c -ℤ d) (omega (arith, ints, le)) (omega (arith, ints, up, down))
+  where
+    abs-le : (x y : ℤ) → pos 0 ≤ℤ x → x ≤ℤ y → nat_abs x ≤ to_nat y
+    abs-le x (pos n) h k = omega (arith, ints, h, k)
+    abs-le x (negsuc n) h k = absurd (omega (arith, ints, h, k))
+
+-- numbers that intervals pin down are spread no further than the gap between these
+pub spread-le-gap : (zs : List ℤ) (is : List Interval) → AllByRecursion (Pins is) zs → spread zs ≤ gap is
+spread-le-gap [] is h = omega arith
+spread-le-gap (z ∷ zs) [] h = absurd (not_in_nil (h.0).at (h.0).found)
+spread-le-gap (z ∷ zs) (i ∷ is) h =
+    let low = fold (λ z j. int_max z j.low) i.low is in
+    let high = fold (λ z j. int_min z j.high) i.high is in
+    let under : (x : ℤ) → Pins (i ∷ is) x → x ≤ℤ low = λ x k. omega (arith, ints, k.low, each-contains (λ k. k.low ≤ℤ low) (i ∷ is) k.at (low-member i is) k.found) in
+    let over : (x : ℤ) → Pins (i ∷ is) x → high ≤ℤ x = λ x k. omega (arith, ints, k.high, each-contains (λ k. high ≤ℤ k.high) (i ∷ is) k.at (high-member i is) k.found) in
+    apart-le (fold int_max z zs) (fold int_min z zs) low high
+    (omega (arith, ints, fold-min-below z zs, fold-max-above z zs))
+    (max-most z low zs (under z h.0) (each-weaker (Pins (i ∷ is)) (λ x. x ≤ℤ low) under zs h.1))
+    (min-least z high zs (over z h.0) (each-weaker (Pins (i ∷ is)) (λ x. high ≤ℤ x) over zs h.1))
 
 -- two of the numbers are no further apart than the spread
 pub apart-le-spread : (zs : List ℤ) (a b : ℤ) → Contains zs a → Contains zs b → (a -ℤ b) ≤ℤ pos (spread zs)

@@ -1,9 +1,9 @@
 -- The range, pair and hull parts are no more than a net's wire in any plan of the subproblem that fits.
-use Rattle.std.proofs.Common.{◌≡◌, ℕ, ◌+◌, ◌*◌, ◌<◌, ◌≤◌, max, List, [], ◌∷◌, ◌++◌, map, length, arith, refl, ap, sym, subst, ◌∙◌, inl, inr, ◌==◌, Bool, true, false, cond}
-use Rattle.std.specs.Prelude.{Contains, sum_by, nat_lt, ℤ, pos, ◌≤ℤ◌, if◌then◌else◌}
+use Rattle.std.proofs.Common.{◌≡◌, ℕ, ◌+◌, ◌*◌, ◌<◌, ◌≤◌, max, List, [], ◌∷◌, ◌++◌, map, length, arith, refl, ap, sym, subst, ◌∙◌, inl, inr, Bool, true, false, cond}
+use Rattle.std.specs.Prelude.{Contains, sum_by, nat_lt, ℤ, pos, ◌≤ℤ◌}
 use Rattle.std.specs.List.{AllByRecursion}
 use Rattle.std.proofs.lemmas.Int.{ints}
-use Rattle.std.proofs.lemmas.Bool.{cond_both, eqb-true, true≢false}
+use Rattle.std.proofs.lemmas.Bool.{cond_both, true≢false}
 use Rattle.std.proofs.lemmas.List.Elements.{recursion_from_All}
 use Rattle.sf_model.specs.declared.design.Design.{Design}
 use Rattle.sf_model.specs.declared.parts.Net.{Net}
@@ -22,10 +22,11 @@ use Rattle.std.proofs.lemmas.List.Elements.{Contains-append_left, Contains-appen
 use Rattle.sf_standard.specs.Items.{Item, items_of, span_shapes, item_of}
 use Rattle.sf_standard.specs.declared.hull.Extent.{Extent}
 use Rattle.sf_standard.specs.declared.hull.Offset.{Offset}
-use Rattle.sf_standard.specs.Hull.{extent_of, range_x, range_y, range_part, block_pins, small_side, pair_part, item_extent, moved_right, moved_up, offsets, offset_x, offset_y, contains_pin, of_net, pads_x, pads_y, hull_of, hull_part}
+use Rattle.sf_standard.specs.Hull.{extent_of, range_x, range_y, range_part, block_pins, small_side, pair_part, item_extent, moved_right, moved_up, offsets, offset_x, offset_y, contains_pin, of_pins, pads_x, pads_y, hull_of, hull_part}
 use Rattle.sf_standard.specs.Standard.{net_part}
 use Rattle.sf_standard.proofs.Grown.{IsPart, part-self}
 use Rattle.sf_standard.proofs.Listed.{each-contains, each-from, Contains-map, sum_by-le_each, EachPair-from_pairs, EachPair-of}
+use Rattle.sf_standard.proofs.Members.{pin-from}
 use Rattle.sf_standard.proofs.Placed.{IsPlaced, placed, found-spot, spot-below, IsFirst, spots-first}
 use Rattle.sf_standard.proofs.Cutting.{cut, belongs-listed}
 use Rattle.sf_standard.proofs.Gaps.{Holds, gap-le-spread, apart-le-spread, greatest_two-le, IsOfExtent, of-extent}
@@ -82,21 +83,11 @@ offsets-at extent x y (Above l r) h =
     (λ o k. (k.0, Contains-append_right (spots_at x y l) (spots_at x (y + height l) r) k.0 k.1, record { block = k.2.block; left = k.2.left; right = k.2.right; below = omega (arith, ints, k.2.below, i.high); above = omega (arith, ints, k.2.above, i.low) }))
     (offsets extent (item_of r)) (offsets-at extent x (y + height l) r (each-right _ (leaves l) (leaves r) h))))
 
--- a block that is found among the pins is one of them
-contains-pin : (b : ℕ) (pins : List Pin) → contains_pin b pins ≡ true → Contains pins (pin.Block b)
-contains-pin b [] e = absurd (true≢false (sym e))
-contains-pin b (pin.Block c ∷ pins) e =
-    elim (c == b) as (λ t. (c == b) ≡ t → (if t then true else contains_pin b pins) ≡ true → Contains (pin.Block c ∷ pins) (pin.Block b)) [
-      | true ↦ λ is _. subst (λ v. Contains (pin.Block c ∷ pins) (pin.Block v)) (eqb-true c b is) (Contains-head (pin.Block c) pins)
-      | false ↦ λ _ g. Contains-tail (pin.Block c) pins (pin.Block b) (contains-pin b pins g)
-    ] refl e
-contains-pin b (pin.Pad p ∷ pins) e = Contains-tail (pin.Pad p) pins (pin.Block b) (contains-pin b pins e)
-
-each-of_net : (P : Offset → Type 0) (net : Net) (os : List Offset) → AllByRecursion P os → AllByRecursion (λ o. (contains_pin o.block net.pins ≡ true) × P o) (of_net net os)
-each-of_net P net [] h = tt
-each-of_net P net (o ∷ os) h =
-    cond_both (contains_pin o.block net.pins) (o ∷ of_net net os) (of_net net os) (AllByRecursion (λ o. (contains_pin o.block net.pins ≡ true) × P o))
-    (λ is. ((is, h.0), each-of_net P net os h.1)) (λ _. each-of_net P net os h.1)
+each-of_pins : (P : Offset → Type 0) (pins : List Pin) (os : List Offset) → AllByRecursion P os → AllByRecursion (λ o. (contains_pin o.block pins ≡ true) × P o) (of_pins pins os)
+each-of_pins P pins [] h = tt
+each-of_pins P pins (o ∷ os) h =
+    cond_both (contains_pin o.block pins) (o ∷ of_pins pins os) (of_pins pins os) (AllByRecursion (λ o. (contains_pin o.block pins ≡ true) × P o))
+    (λ is. ((is, h.0), each-of_pins P pins os h.1)) (λ _. each-of_pins P pins os h.1)
 
 block_pins-each : (P : ℕ → Type 0) (pins : List Pin) → ((b : ℕ) → Contains pins (pin.Block b) → P b) → AllByRecursion P (block_pins pins)
 block_pins-each P [] f = tt
@@ -120,7 +111,7 @@ module _ (design : Design) (node : Parts) (tree : Tree) (spans : length node.spa
   place : (b : ℕ) → b < block_count design → IsPlaced tree b (spot_of b (spots_of tree))
   place b h = placed design tree belongs.legal b h
 
-  extent-of : (b : ℕ) → b < block_count design → IsOfExtent (extent_in design node b) (spot_of b (spots_of tree)).w (spot_of b (spots_of tree)).h
+  pub extent-of : (b : ℕ) → b < block_count design → IsOfExtent (extent_in design node b) (spot_of b (spots_of tree)).w (spot_of b (spots_of tree)).h
   extent-of b h =
       let s = spot_of b (spots_of tree) in
       of-extent (span_shapes design node b) (record { w = s.w; h = s.h })
@@ -160,7 +151,7 @@ module _ (design : Design) (node : Parts) (tree : Tree) (spans : length node.spa
         record { at = pin_y design (spots_of tree) (pin.Block b); found = on-y (pin.Block b) c; low = omega (arith, ints, i.below, e.high); high = omega (arith, ints, i.above, e.high, fit.1) }
     range-y (pin.Pad p) c = record { at = pin_y design (spots_of tree) (pin.Pad p); found = on-y (pin.Pad p) c; low = omega (arith, ints); high = omega (arith, ints) }
 
-    pub range-le : range_part design (extent_in design node) net ≤ net_wire design (spots_of tree) net
+    pub range-le : range_part design (extent_in design node) net.pins ≤ net_wire design (spots_of tree) net
     range-le =
         omega (
           arith,
@@ -184,7 +175,7 @@ module _ (design : Design) (node : Parts) (tree : Tree) (spans : length node.spa
           | inr f ↦ elim f [ inl g ↦ omega (arith, ints, g, across, d.wide, e.wide) | inr g ↦ omega (arith, ints, g, upward, d.high, e.high) ]
         ]
 
-    pub pair-le : pair_part (extent_in design node) net ≤ net_wire design (spots_of tree) net
+    pub pair-le : pair_part (extent_in design node) net.pins ≤ net_wire design (spots_of tree) net
     pair-le =
         greatest_two-le (net_wire design (spots_of tree) net) (map (λ b. small_side (extent_in design node b)) (block_pins net.pins))
         (EachPair-map (λ m n. m + n ≤ net_wire design (spots_of tree) net) (λ b. small_side (extent_in design node b)) (block_pins net.pins)
@@ -221,7 +212,7 @@ module _ (design : Design) (node : Parts) (tree : Tree) (spans : length node.spa
       -- a block of the net at its offset
       offset-x : (o : Offset) → (contains_pin o.block net.pins ≡ true) × HasOffset (0 + is.x) (0 + is.y) (spots_at (0 + is.x) (0 + is.y) part) o → Holds (pos (2 * is.x)) xs (offset_x (extent_in design node) o)
       offset-x o k =
-          let c = contains-pin o.block net.pins k.0 in
+          let c = pin-from o.block net.pins k.0 in
           let s = k.1.0 in
           let found : Contains (spots_of tree) s = is.placed 0 0 s k.1.1 in
           let same : spot_of o.block (spots_of tree) ≡ s = subst (λ b. spot_of b (spots_of tree) ≡ s) k.1.2.block (found-spot design tree belongs.legal s found (spot-below design tree belongs.legal s found)) in
@@ -231,7 +222,7 @@ module _ (design : Design) (node : Parts) (tree : Tree) (spans : length node.spa
 
       offset-y : (o : Offset) → (contains_pin o.block net.pins ≡ true) × HasOffset (0 + is.x) (0 + is.y) (spots_at (0 + is.x) (0 + is.y) part) o → Holds (pos (2 * is.y)) ys (offset_y (extent_in design node) o)
       offset-y o k =
-          let c = contains-pin o.block net.pins k.0 in
+          let c = pin-from o.block net.pins k.0 in
           let s = k.1.0 in
           let found : Contains (spots_of tree) s = is.placed 0 0 s k.1.1 in
           let same : spot_of o.block (spots_of tree) ≡ s = subst (λ b. spot_of b (spots_of tree) ≡ s) k.1.2.block (found-spot design tree belongs.legal s found (spot-below design tree belongs.legal s found)) in
@@ -239,12 +230,12 @@ module _ (design : Design) (node : Parts) (tree : Tree) (spans : length node.spa
           let upward : (spot_of o.block (spots_of tree)).y ≡ s.y = ap (λ v. v.y) same in
           record { at = pin_y design (spots_of tree) (pin.Block o.block); found = on-y (pin.Block o.block) c; low = omega (arith, ints, upward, k.1.2.below, e.high); high = omega (arith, ints, upward, k.1.2.above, e.low) }
 
-      pub hull-le : (complete : Bool) → (complete ≡ true → (is.x ≡ 0) × (is.y ≡ 0)) → hull_of design (extent_in design node) complete net (item_of part) ≤ net_wire design (spots_of tree) net
+      pub hull-le : (complete : Bool) → (complete ≡ true → (is.x ≡ 0) × (is.y ≡ 0)) → hull_of design (extent_in design node) complete net.pins (item_of part) ≤ net_wire design (spots_of tree) net
       hull-le complete corner =
           let extent = extent_in design node in
-          let os = of_net net (offsets extent (item_of part)) in
+          let os = of_pins net.pins (offsets extent (item_of part)) in
           let leaves-fit : FitsExtents extent part = each-from (λ leaf. IsOfExtent (extent leaf.0) leaf.1.w leaf.1.h) (leaves part) (λ leaf c. each-contains (λ v. IsOfExtent (extent v.0) v.1.w v.1.h) (leaves tree) leaf fits-extents (is.listed leaf c)) in
-          let here = each-of_net (HasOffset (0 + is.x) (0 + is.y) (spots_at (0 + is.x) (0 + is.y) part)) net (offsets extent (item_of part)) (offsets-at extent (0 + is.x) (0 + is.y) part leaves-fit) in
+          let here = each-of_pins (HasOffset (0 + is.x) (0 + is.y) (spots_at (0 + is.x) (0 + is.y) part)) net.pins (offsets extent (item_of part)) (offsets-at extent (0 + is.x) (0 + is.y) part leaves-fit) in
           let across = each-append (Holds (pos (2 * is.x)) xs) (map (offset_x extent) os) (cond complete (pads_x design net.pins) [])
           (each-map (Holds (pos (2 * is.x)) xs) (offset_x extent) os (each-weaker _ (λ o. Holds (pos (2 * is.x)) xs (offset_x extent o)) offset-x os here))
           (pads-if-x complete (pos (2 * is.x)) (λ e. ap (λ n. pos (2 * n)) (corner e).0)) in
@@ -253,24 +244,24 @@ module _ (design : Design) (node : Parts) (tree : Tree) (spans : length node.spa
           (pads-if-y complete (pos (2 * is.y)) (λ e. ap (λ n. pos (2 * n)) (corner e).1)) in
           omega (arith, gap-le-spread (pos (2 * is.x)) xs (map (offset_x extent) os ++ cond complete (pads_x design net.pins) []) across, gap-le-spread (pos (2 * is.y)) ys (map (offset_y extent) os ++ cond complete (pads_y design net.pins) []) upward)
 
-    hull-all : (complete : Bool) (items : List Item) → AllByRecursion (λ i. hull_of design (extent_in design node) complete net i ≤ net_wire design (spots_of tree) net) items → hull_part design (extent_in design node) complete items net ≤ net_wire design (spots_of tree) net
+    hull-all : (complete : Bool) (items : List Item) → AllByRecursion (λ i. hull_of design (extent_in design node) complete net.pins i ≤ net_wire design (spots_of tree) net) items → hull_part design (extent_in design node) complete items net.pins ≤ net_wire design (spots_of tree) net
     hull-all complete [] h = omega arith
     hull-all complete (i ∷ items) h = omega (arith, h.0, hull-all complete items h.1)
 
-    hull-by : (complete : Bool) → is_complete node ≡ complete → hull_part design (extent_in design node) complete (items_of node) net ≤ net_wire design (spots_of tree) net
+    hull-by : (complete : Bool) → is_complete node ≡ complete → hull_part design (extent_in design node) complete (items_of node) net.pins ≤ net_wire design (spots_of tree) net
     hull-by true e =
         let k = cut design node tree spans belongs in
-        subst (λ v. hull_part design (extent_in design node) true v net ≤ net_wire design (spots_of tree) net) (sym (k.items ∙ ap (map item_of) (k.whole e)))
+        subst (λ v. hull_part design (extent_in design node) true v net.pins ≤ net_wire design (spots_of tree) net) (sym (k.items ∙ ap (map item_of) (k.whole e)))
         (hull-all true (item_of tree ∷ []) (hull-le tree (part-self tree) true (λ _. (refl, refl)), tt))
     hull-by false e =
         let k = cut design node tree spans belongs in
-        subst (λ v. hull_part design (extent_in design node) false v net ≤ net_wire design (spots_of tree) net) (sym k.items)
-        (hull-all false (map item_of k.stack) (each-map (λ i. hull_of design (extent_in design node) false net i ≤ net_wire design (spots_of tree) net) item_of k.stack
-        (each-weaker (λ p. IsPart p tree) (λ p. hull_of design (extent_in design node) false net (item_of p) ≤ net_wire design (spots_of tree) net) (λ p part. hull-le p part false (λ wrong. absurd (true≢false (sym wrong)))) k.stack k.parts)))
+        subst (λ v. hull_part design (extent_in design node) false v net.pins ≤ net_wire design (spots_of tree) net) (sym k.items)
+        (hull-all false (map item_of k.stack) (each-map (λ i. hull_of design (extent_in design node) false net.pins i ≤ net_wire design (spots_of tree) net) item_of k.stack
+        (each-weaker (λ p. IsPart p tree) (λ p. hull_of design (extent_in design node) false net.pins (item_of p) ≤ net_wire design (spots_of tree) net) (λ p part. hull-le p part false (λ wrong. absurd (true≢false (sym wrong)))) k.stack k.parts)))
 
     pub net_part-le : net_part design node net ≤ net_wire design (spots_of tree) net
     net_part-le =
-        cond_both (nat_lt (length net.pins) 2) 0 (max (range_part design (extent_in design node) net) (max (pair_part (extent_in design node) net) (hull_part design (extent_in design node) (is_complete node) (items_of node) net)))
+        cond_both (nat_lt (length net.pins) 2) 0 (max (range_part design (extent_in design node) net.pins) (max (pair_part (extent_in design node) net.pins) (hull_part design (extent_in design node) (is_complete node) (items_of node) net.pins)))
         (λ v. v ≤ net_wire design (spots_of tree) net) (λ _. omega arith) (λ _. omega (arith, range-le, pair-le, hull-by (is_complete node) refl))
 
   pub nets-le : sum_by (net_part design node) design.nets ≤ wire design (spots_of tree)

@@ -22,7 +22,8 @@ use Rattle.sf_standard.proofs.NetWires.{nets-le}
 pub solved-complete : (design : Design) (node : Parts) → is_solved design node ≡ true → is_complete node ≡ true
 solved-complete design node h = (and_parts _ _ h).0
 
-bounded-le : (design : Design) (node : Parts) (tree : Tree) → length node.spans ≡ block_count design → Belongs design node tree → Fits design.outline tree → bounded design node (map (fitting design node) (items_of node ++ unused node)) ≤ cost design tree
+-- the value from area and wires is no more than what a plan of the subproblem costs
+pub bounded-le : (design : Design) (node : Parts) (tree : Tree) → length node.spans ≡ block_count design → Belongs design node tree → Fits design.outline tree → bounded design node (map (fitting design node) (items_of node ++ unused node)) ≤ cost design tree
 bounded-le design node tree spans belongs fit =
     let plans = map (fitting design node) (items_of node ++ unused node) in
     let part = needed-area design node tree spans belongs fit in

@@ -9,6 +9,7 @@ use Rattle.std.proofs.lemmas.List.{map-append}
 use Rattle.std.proofs.lemmas.List.Sums.{sum_by-cons, sum_by-append, sum-map}
 use Rattle.sf_model.specs.declared.design.Design.{Design}
 use Rattle.sf_model.specs.declared.parts.Net.{Net}
+use Rattle.sf_model.specs.declared.parts.Pin.{Pin}
 use Rattle.sf_model.specs.declared.parts.Shape.{Shape}
 use Rattle.sf_model.specs.declared.TheConstants.{MAX}
 use Rattle.sf_model.specs.Tree.{Tree, width, height}
@@ -35,10 +36,10 @@ sum_by-move f [] vs x = refl
 sum_by-move f (w ∷ ws) vs x =
     omega (arith, sum_by-cons f w (ws ++ x ∷ vs), sum_by-cons f x (w ∷ (ws ++ vs)), sum_by-cons f w (ws ++ vs), sum_by-cons f x (ws ++ vs), sum_by-move f ws vs x)
 
-sum-move : {X : Type 0} (f : X → ℕ) (ws vs : List X) (x : X) → sum (map f (ws ++ x ∷ vs)) ≡ sum (map f (x ∷ (ws ++ vs)))
+pub sum-move : {X : Type 0} (f : X → ℕ) (ws vs : List X) (x : X) → sum (map f (ws ++ x ∷ vs)) ≡ sum (map f (x ∷ (ws ++ vs)))
 sum-move f ws vs x = sum-map f (ws ++ x ∷ vs) ∙ sum_by-move f ws vs x ∙ sym (sum-map f (x ∷ (ws ++ vs)))
 
-greatest-move : {X : Type 0} (f : X → ℕ) (ws vs : List X) (x : X) → greatest (map f (ws ++ x ∷ vs)) ≡ greatest (map f (x ∷ (ws ++ vs)))
+pub greatest-move : {X : Type 0} (f : X → ℕ) (ws vs : List X) (x : X) → greatest (map f (ws ++ x ∷ vs)) ≡ greatest (map f (x ∷ (ws ++ vs)))
 greatest-move f [] vs x = refl
 greatest-move f (w ∷ ws) vs x = omega (arith, greatest-move f ws vs x)
 
@@ -48,7 +49,7 @@ or-swap true false c = refl
 or-swap false true c = refl
 or-swap false false c = refl
 
-any-move : {X : Type 0} (p : X → Bool) (ws vs : List X) (x : X) → list_any p (ws ++ x ∷ vs) ≡ list_any p (x ∷ (ws ++ vs))
+pub any-move : {X : Type 0} (p : X → Bool) (ws vs : List X) (x : X) → list_any p (ws ++ x ∷ vs) ≡ list_any p (x ∷ (ws ++ vs))
 any-move p [] vs x = refl
 any-move p (w ∷ ws) vs x = ap (λ v. p w || v) (any-move p ws vs x) ∙ or-swap (p w) (p x) (list_any p (ws ++ vs))
 
@@ -126,11 +127,11 @@ no-gap (pos n) h = omega (arith, ints, h)
 no-gap (negsuc n) h = refl
 
 -- a lone block has no hull
-lone-hull : (design : Design) (node : Parts) (b : ℕ) (net : Net) → hull_of design (λ k. extent_of (span_shapes design node k)) false net (item.Block b) ≡ 0
-lone-hull design node b net =
+lone-hull : (design : Design) (node : Parts) (b : ℕ) (pins : List Pin) → hull_of design (λ k. extent_of (span_shapes design node k)) false pins (item.Block b) ≡ 0
+lone-hull design node b pins =
     let e = extent_of (span_shapes design node b) in
     let k = extent-ordered (span_shapes design node b) in
-    elim (contains_pin b net.pins) as (λ t. (gap (map (offset_x (λ k. extent_of (span_shapes design node k))) (if t then (record { block = b; least_x = 0; most_x = 0; least_y = 0; most_y = 0 } ∷ []) else []) ++ [])
+    elim (contains_pin b pins) as (λ t. (gap (map (offset_x (λ k. extent_of (span_shapes design node k))) (if t then (record { block = b; least_x = 0; most_x = 0; least_y = 0; most_y = 0 } ∷ []) else []) ++ [])
     + gap (map (offset_y (λ k. extent_of (span_shapes design node k))) (if t then (record { block = b; least_x = 0; most_x = 0; least_y = 0; most_y = 0 } ∷ []) else []) ++ [])) ≡ 0) [
       | true ↦ omega (arith, no-gap (pos (2 * 0 + e.least_w) -ℤ pos (2 * 0 + e.most_w)) (omega (arith, ints, k.0)), no-gap (pos (2 * 0 + e.least_h) -ℤ pos (2 * 0 + e.most_h)) (omega (arith, ints, k.1)))
       | false ↦ refl
@@ -140,36 +141,20 @@ sum_by-same : {X : Type 0} (f g : X → ℕ) → ((x : X) → f x ≡ g x) → (
 sum_by-same f g h [] = refl
 sum_by-same f g h (x ∷ xs) = omega (arith, sum_by-cons f x xs, sum_by-cons g x xs, h x, sum_by-same f g h xs)
 
-module _ (design : Design) (node : Parts) (b : ℕ) (sub : IsSubproblem design node) (can : CanStep node (step.Block b)) (open_child : is_complete (after node (step.Block b)) ≡ false) where
+-- a group that moves to the front
+pub record Moves (x : List Tree) (old new : List (List Tree)) : Type 0 where
+  pub front : List (List Tree)
+  pub back : List (List Tree)
+  pub was : old ≡ front ++ x ∷ back
+  pub is : new ≡ x ∷ (front ++ back)
+
+-- a block that is moved from the unused ones onto the stack
+module _ (design : Design) (node : Parts) (b : ℕ) (can : CanStep node (step.Block b)) where
   abbrev child : Parts
   child = after node (step.Block b)
 
   items-child : items_of child ≡ item.Block b ∷ items_of node
   items-child = read-append [] node.tokens (token.Block b ∷ []) ∙ read-block (items_of node) b
-
-  open-node : is_complete node ≡ false
-  open-node = by-cases (is_complete node) refl
-    where
-      by-cases : (t : Bool) → is_complete node ≡ t → is_complete node ≡ false
-      by-cases false e = e
-      by-cases true e =
-          let spans = subproblem-spans design node sub in
-          let once = (complete-normal design node sub spans e).each_once b (omega (arith, can.0, spans)) in
-          absurd (omega (arith, once, eqb-true (count_by (is_block b) node.tokens) 0 can.1))
-
-  -- the wires of each net
-  net-same : (net : Net) → net_part design child net ≡ net_part design node net
-  net-same net =
-      let extent = λ (k : ℕ). extent_of (span_shapes design node k) in
-      let hull : hull_part design extent (is_complete child) (items_of child) net ≡ hull_part design extent (is_complete node) (items_of node) net =
-      ap (λ t. hull_part design extent t (items_of child) net) open_child
-      ∙ ap (λ is. hull_part design extent false is net) items-child
-      ∙ (let zero_hull : max (hull_of design extent false net (item.Block b)) (hull_part design extent false (items_of node) net) ≡ hull_part design extent false (items_of node) net = omega (arith, lone-hull design node b net) in zero_hull)
-      ∙ ap (λ t. hull_part design extent t (items_of node) net) (sym open-node) in
-      ap (λ h. if nat_lt (length net.pins) 2 then 0 else max (range_part design extent net) (max (pair_part extent net) h)) hull
-
-  abbrev ways : Item → List Tree
-  ways = fitting design node
 
   leaves-range : Leaves b (filter (λ k. is_unused k node.tokens) (range_with_len 0 (length node.spans))) (filter (λ k. is_unused k (node.tokens ++ token.Block b ∷ [])) (range_with_len 0 (length node.spans)))
   leaves-range = filter-leaves b (λ k. is_unused k node.tokens) (λ k. is_unused k (node.tokens ++ token.Block b ∷ [])) (block-agrees b node.tokens can.1) 0 (length node.spans) (omega arith) (omega (arith, can.0))
@@ -198,30 +183,59 @@ module _ (design : Design) (node : Parts) (b : ℕ) (sub : IsSubproblem design n
       ∙ ap (λ v. fitting design node (item.Block b) ∷ map (fitting design node) (items_of node ++ v)) (ap (map (λ k. item.Block k)) k.rest ∙ map-append (λ k. item.Block k) k.front k.back)
       ∙ ap (λ v. fitting design node (item.Block b) ∷ v) (ap (map (fitting design node)) (sym (append_assoc (items_of node) U V)) ∙ map-append (fitting design node) (items_of node ++ U) V)
 
+  pub block-moves : Moves (fitting design node (item.Block b)) (map (fitting design node) (items_of node ++ unused node)) (map (fitting design child) (items_of child ++ unused child))
+  block-moves = record { front = ahead; back = behind; was = plans-node; is = plans-child }
+
+module _ (design : Design) (node : Parts) (b : ℕ) (sub : IsSubproblem design node) (can : CanStep node (step.Block b)) (open_child : is_complete (after node (step.Block b)) ≡ false) where
+  abbrev grown : Parts
+  grown = after node (step.Block b)
+
+  open-node : is_complete node ≡ false
+  open-node = by-cases (is_complete node) refl
+    where
+      by-cases : (t : Bool) → is_complete node ≡ t → is_complete node ≡ false
+      by-cases false e = e
+      by-cases true e =
+          let spans = subproblem-spans design node sub in
+          let once = (complete-normal design node sub spans e).each_once b (omega (arith, can.0, spans)) in
+          absurd (omega (arith, once, eqb-true (count_by (is_block b) node.tokens) 0 can.1))
+
+  -- the wires of each net
+  net-same : (net : Net) → net_part design grown net ≡ net_part design node net
+  net-same net =
+      let extent = λ (k : ℕ). extent_of (span_shapes design node k) in
+      let hull : hull_part design extent (is_complete grown) (items_of grown) net.pins ≡ hull_part design extent (is_complete node) (items_of node) net.pins =
+      ap (λ t. hull_part design extent t (items_of grown) net.pins) open_child
+      ∙ ap (λ is. hull_part design extent false is net.pins) (items-child design node b can)
+      ∙ (let zero_hull : max (hull_of design extent false net.pins (item.Block b)) (hull_part design extent false (items_of node) net.pins) ≡ hull_part design extent false (items_of node) net.pins = omega (arith, lone-hull design node b net.pins) in zero_hull)
+      ∙ ap (λ t. hull_part design extent t (items_of node) net.pins) (sym open-node) in
+      ap (λ h. if nat_lt (length net.pins) 2 then 0 else max (range_part design extent net.pins) (max (pair_part extent net.pins) h)) hull
+
   area-same : (ws vs : List (List Tree)) (x : List Tree) → needed_area (x ∷ (ws ++ vs)) ≡ needed_area (ws ++ x ∷ vs)
   area-same ws vs x =
       ap (λ v. max v (greatest (map (least_of width) (x ∷ (ws ++ vs))) * greatest (map (least_of height) (x ∷ (ws ++ vs))))) (sym (sum-move (least_of area) ws vs x))
       ∙ ap (λ v. max (sum (map (least_of area) (ws ++ x ∷ vs))) (v * greatest (map (least_of height) (x ∷ (ws ++ vs))))) (sym (greatest-move (least_of width) ws vs x))
       ∙ ap (λ v. max (sum (map (least_of area) (ws ++ x ∷ vs))) (greatest (map (least_of width) (ws ++ x ∷ vs)) * v)) (sym (greatest-move (least_of height) ws vs x))
 
-  bounded-same : bounded design child (map (fitting design child) (items_of child ++ unused child)) ≡ bounded design node (map (fitting design node) (items_of node ++ unused node))
+  bounded-same : bounded design grown (map (fitting design grown) (items_of grown ++ unused grown)) ≡ bounded design node (map (fitting design node) (items_of node ++ unused node))
   bounded-same =
       let x = fitting design node (item.Block b) in
-      let ws = ahead in
-      let vs = behind in
+      let moves = block-moves design node b can in
+      let ws = moves.front in
+      let vs = moves.back in
       let whole = λ (none : Bool) (a w : ℕ). (if none then MAX else (if nat_lt (design.outline.w * design.outline.h) a then MAX else (design.weights.area * a + design.weights.wire * w))) in
-      let nets : sum_by (net_part design child) design.nets ≡ sum_by (net_part design node) design.nets = sum_by-same (net_part design child) (net_part design node) net-same design.nets in
-      ap (bounded design child) plans-child
-      ∙ ap (λ t. whole t (needed_area (x ∷ (ws ++ vs))) (sum_by (net_part design child) design.nets)) (sym (any-move has_none ws vs x))
-      ∙ ap (λ a. whole (list_any has_none (ws ++ x ∷ vs)) a (sum_by (net_part design child) design.nets)) (area-same ws vs x)
+      let nets : sum_by (net_part design grown) design.nets ≡ sum_by (net_part design node) design.nets = sum_by-same (net_part design grown) (net_part design node) net-same design.nets in
+      ap (bounded design grown) moves.is
+      ∙ ap (λ t. whole t (needed_area (x ∷ (ws ++ vs))) (sum_by (net_part design grown) design.nets)) (sym (any-move has_none ws vs x))
+      ∙ ap (λ a. whole (list_any has_none (ws ++ x ∷ vs)) a (sum_by (net_part design grown) design.nets)) (area-same ws vs x)
       ∙ ap (λ w. whole (list_any has_none (ws ++ x ∷ vs)) (needed_area (ws ++ x ∷ vs)) w) nets
-      ∙ sym (ap (bounded design node) plans-node)
+      ∙ sym (ap (bounded design node) moves.was)
 
   unsolved : (parts : Parts) → is_complete parts ≡ false → is_solved design parts ≡ false
   unsolved parts e = ap (λ t. t && (design.weights.wire == 0 || list_all (λ span. not (is_wide span)) parts.spans)) e
 
   pub block_keeps : standard design (after node (step.Block b)) ≡ standard design node
   block_keeps =
-      cond-false (is_solved design child) (least_cost design child (items_of child)) (bounded design child (map (fitting design child) (items_of child ++ unused child))) (unsolved child open_child)
+      cond-false (is_solved design grown) (least_cost design grown (items_of grown)) (bounded design grown (map (fitting design grown) (items_of grown ++ unused grown))) (unsolved grown open_child)
       ∙ bounded-same
       ∙ sym (cond-false (is_solved design node) (least_cost design node (items_of node)) (bounded design node (map (fitting design node) (items_of node ++ unused node))) (unsolved node open-node))

@@ -1,8 +1,7 @@
--- What the wires of a net cost at least.
+-- What the wire of a net is at least: range, pair and hull, each defined over the list of the net's pins.
 use Rattle.std.specs.Prelude.{ℕ, ◌+◌, ◌*◌, max, min, List, [], ◌∷◌, ◌++◌, map, fold, Bool, true, false, cond, ◌==◌, if◌then◌else◌, ℤ, pos, negsuc, ◌-ℤ◌, ◌*ℤ◌}
 use Rattle.std.specs.Int.{int_max, int_min}
 use Rattle.sf_model.specs.declared.design.Design.{Design}
-use Rattle.sf_model.specs.declared.parts.Net.{Net}
 use Rattle.sf_model.specs.declared.parts.Pin.{Pin}
 use Rattle.sf_model.specs.declared.parts.Pin.TheVariants as pin
 use Rattle.sf_model.specs.declared.parts.Shape.{Shape}
@@ -46,8 +45,8 @@ range_y design extent (pin.Block b) = record { low = pos (extent b).least_h; hig
 range_y design extent (pin.Pad p) = point (pad_at design p).y
 
 -- how far the pins are apart at least, since each lies in the outline
-abbrev pub range_part : Design → (ℕ → Extent) → Net → ℕ
-range_part design extent net = gap (map (range_x design extent) net.pins) + gap (map (range_y design extent) net.pins)
+abbrev pub range_part : Design → (ℕ → Extent) → List Pin → ℕ
+range_part design extent pins = gap (map (range_x design extent) pins) + gap (map (range_y design extent) pins)
 
 -- the greatest sum of n and one of the numbers, or 0 with none
 abbrev pub greatest_with : ℕ → List ℕ → ℕ
@@ -69,9 +68,9 @@ block_pins (pin.Pad p ∷ pins) = block_pins pins
 abbrev pub small_side : Extent → ℕ
 small_side e = min e.least_w e.least_h
 
--- the sum of the two greatest small sides among the net's blocks: two blocks are apart by one side of each at least
-abbrev pub pair_part : (ℕ → Extent) → Net → ℕ
-pair_part extent net = greatest_two (map (λ b. small_side (extent b)) (block_pins net.pins))
+-- the sum of the two greatest small sides among the blocks: two blocks are apart by one side of each at least
+abbrev pub pair_part : (ℕ → Extent) → List Pin → ℕ
+pair_part extent pins = greatest_two (map (λ b. small_side (extent b)) (block_pins pins))
 
 -- the least and greatest sides of an item, from those of its blocks
 abbrev pub item_extent : (ℕ → Extent) → Item → Extent
@@ -113,12 +112,12 @@ contains_pin b [] = false
 contains_pin b (pin.Block c ∷ pins) = if c == b then true else contains_pin b pins
 contains_pin b (pin.Pad p ∷ pins) = contains_pin b pins
 
--- the offsets of the net's blocks
-abbrev pub of_net : Net → List Offset → List Offset
-of_net net [] = []
-of_net net (o ∷ os) = if contains_pin o.block net.pins then (o ∷ of_net net os) else of_net net os
+-- the offsets of the blocks that are among the pins
+abbrev pub of_pins : List Pin → List Offset → List Offset
+of_pins pins [] = []
+of_pins pins (o ∷ os) = if contains_pin o.block pins then (o ∷ of_pins pins os) else of_pins pins os
 
--- the points of the net's pads
+-- the points of the pads among the pins
 abbrev pub pads_x : Design → List Pin → List Interval
 pads_x design [] = []
 pads_x design (pin.Block b ∷ pins) = pads_x design pins
@@ -130,13 +129,13 @@ pads_y design (pin.Block b ∷ pins) = pads_y design pins
 pads_y design (pin.Pad p ∷ pins) = point (pad_at design p).y ∷ pads_y design pins
 
 -- one item: its blocks, and where the subproblem is complete the pads
-abbrev pub hull_of : Design → (ℕ → Extent) → Bool → Net → Item → ℕ
-hull_of design extent complete net item =
-    let os = of_net net (offsets extent item) in
-    gap (map (offset_x extent) os ++ cond complete (pads_x design net.pins) [])
-    + gap (map (offset_y extent) os ++ cond complete (pads_y design net.pins) [])
+abbrev pub hull_of : Design → (ℕ → Extent) → Bool → List Pin → Item → ℕ
+hull_of design extent complete pins item =
+    let os = of_pins pins (offsets extent item) in
+    gap (map (offset_x extent) os ++ cond complete (pads_x design pins) [])
+    + gap (map (offset_y extent) os ++ cond complete (pads_y design pins) [])
 
 -- the greatest over all items
-abbrev pub hull_part : Design → (ℕ → Extent) → Bool → List Item → Net → ℕ
-hull_part design extent complete [] net = 0
-hull_part design extent complete (item ∷ items) net = max (hull_of design extent complete net item) (hull_part design extent complete items net)
+abbrev pub hull_part : Design → (ℕ → Extent) → Bool → List Item → List Pin → ℕ
+hull_part design extent complete [] pins = 0
+hull_part design extent complete (item ∷ items) pins = max (hull_of design extent complete pins item) (hull_part design extent complete items pins)

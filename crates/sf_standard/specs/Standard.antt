@@ -1,13 +1,15 @@
 -- The standard bound of a subproblem.
-use Rattle.std.specs.Prelude.{ℕ, ◌+◌, ◌*◌, max, min, List, [], ◌∷◌, ◌++◌, length, map, sum, sum_by, Bool, nat_lt, ◌==◌, if◌then◌else◌}
-use Rattle.std.specs.List.{list_any}
+use Rattle.std.specs.Prelude.{◌≡◌, ℕ, ◌+◌, ◌*◌, max, min, List, [], ◌∷◌, ◌++◌, length, map, sum, sum_by, Bool, not, nat_lt, ◌==◌, if◌then◌else◌, IsTrue}
+use Rattle.std.specs.List.{list_all, list_any}
 use Rattle.sf_model.specs.declared.design.Design.{Design}
 use Rattle.sf_model.specs.declared.parts.Net.{Net}
+use Rattle.sf_model.specs.declared.parts.Pin.{Pin}
 use Rattle.sf_model.specs.declared.TheConstants.{MAX}
 use Rattle.sf_model.specs.Cost.{cost}
 use Rattle.sf_model.specs.Tree.{Tree, width, height}
 use Rattle.sf_node.specs.Parts.{Parts}
-use Rattle.sf_node.specs.Subproblem.{is_complete, is_solved}
+use Rattle.sf_node.specs.Subproblem.{is_complete, is_wide, is_solved}
+use Rattle.sf_node.specs.Children.{IsSubproblem}
 use Rattle.sf_standard.specs.Items.{Item, items_of, unused, span_shapes, fitting}
 use Rattle.sf_standard.specs.Hull.{extent_of, range_part, pair_part, hull_part}
 
@@ -39,12 +41,16 @@ needed_area plans =
     max (sum (map (least_of area) plans))
     (greatest (map (least_of width) plans) * greatest (map (least_of height) plans))
 
--- what the wire of a net takes at least: the greatest of range, pair and hull, and nothing with fewer than two pins
-abbrev pub net_part : Design → Parts → Net → ℕ
-net_part design node net =
+-- what a wire that joins these pins is at least: the greatest of range, pair and hull, and nothing with fewer than two pins
+abbrev pub pins_part : Design → Parts → List Pin → ℕ
+pins_part design node pins =
     let extent = λ (b : ℕ). extent_of (span_shapes design node b) in
-    if nat_lt (length net.pins) 2 then 0
-    else max (range_part design extent net) (max (pair_part extent net) (hull_part design extent (is_complete node) (items_of node) net))
+    if nat_lt (length pins) 2 then 0
+    else max (range_part design extent pins) (max (pair_part extent pins) (hull_part design extent (is_complete node) (items_of node) pins))
+
+-- what the wire of a net is at least
+abbrev pub net_part : Design → Parts → Net → ℕ
+net_part design node net = pins_part design node net.pins
 
 -- the value of a subproblem that is not solved, from the plans of its parts
 abbrev pub bounded : Design → Parts → List (List Tree) → ℕ
@@ -53,8 +59,18 @@ bounded design node plans =
     else (if nat_lt (design.outline.w * design.outline.h) (needed_area plans) then MAX
     else (design.weights.area * needed_area plans + design.weights.wire * sum_by (net_part design node) design.nets))
 
--- the value that the standard bound gives a subproblem
+-- the value from the area that the items and the unused blocks need and from the wires of the nets
+abbrev pub open_value : Design → Parts → ℕ
+open_value design node = bounded design node (map (fitting design node) (items_of node ++ unused node))
+
+-- the value that the standard bound gives a subproblem: the least cost where it is solved
 abbrev pub standard : Design → Parts → ℕ
-standard design node =
-    if is_solved design node then least_cost design node (items_of node)
-    else bounded design node (map (fitting design node) (items_of node ++ unused node))
+standard design node = if is_solved design node then least_cost design node (items_of node) else open_value design node
+
+-- each block's span has one place
+abbrev pub has_single_spans : Parts → Bool
+has_single_spans node = list_all (λ span. not (is_wide span)) node.spans
+
+-- a complete subproblem whose spans have one place each has one plan, and its value from area and wires is what that plan costs
+abbrev pub SinglesAreOpen : Design → Type 0
+SinglesAreOpen design = (node : Parts) → IsSubproblem design node → IsTrue (is_complete node) → IsTrue (has_single_spans node) → standard design node ≡ open_value design node

@@ -5,7 +5,7 @@ ghost use Rattle.sf_node.specs.Bounds.{IsSound, IsExactAtEnd};
 ghost use Rattle.sf_node.specs.Children.{IsSubproblem, CanStep, after};
 ghost use Rattle.sf_node.specs.Parts.{Parts};
 ghost use Rattle.sf_node.specs.Subproblem.{is_complete};
-ghost use Rattle.sf_standard.specs.Standard.{standard};
+ghost use Rattle.sf_standard.specs.Standard.{standard, SinglesAreOpen};
 
 /// No plan that belongs to a subproblem and fits costs less than the standard bound, which is the least cost at a solved one.
 pub fn standard_is_lawful()
@@ -17,4 +17,10 @@ pub fn standard_is_lawful()
 /// unused ones onto the stack.
 pub fn blocks_keep_values()
     ensures { (design : Design) (node : Parts) (b : ℕ) → IsSubproblem design node → CanStep node (Block b) → IsFalse (is_complete (after node (Block b))) → standard design (after node (Block b)) ≡ standard design node }
+{}
+
+/// At a complete subproblem whose spans have one place each the standard bound is its value from area and wires: the one plan
+/// that is left has that area, and the hull of its one item with the pads is the wire of each net.
+pub fn single_spans_are_open()
+    ensures { (design : Design) → SinglesAreOpen design }
 {}
