@@ -1,0 +1,159 @@
+-- Frames through changes of the list of points.
+use Rattle.std.proofs.Common.{◌≡◌, ℕ, ◌+◌, ◌-◌, ◌<◌, ◌≤◌, List, [], ◌∷◌, ◌++◌, length, take, drop, map, get_or, refl, sym, ap, ◌∙◌, subst, inl, inr, arith, length-append, length-drop}
+use Rattle.std.specs.Prelude.{AllPairs, slice_range}
+use Rattle.std.proofs.lemmas.List.{take-take, take-append-le, drop-append-le, drop-take, get_or-take, get_or_push, get_or_append_left, length_push, length-take-le, take_all, map-append, take-map}
+use Rattle.std.proofs.lemmas.List.Quantifiers.{all_pairs_push}
+use Rattle.std.proofs.lemmas.Bool.{cases_lt, cases_eq}
+use Rattle.sf_model.specs.declared.design.Design.{Design}
+use Rattle.sf_model.specs.declared.parts.Shape.{Shape}
+use Rattle.sf_polish.specs.declared.expr.Token.{Token}
+use Rattle.sf_node.specs.Subproblem.{root}
+use Rattle.sf_curves.specs.Points.{IsBelow}
+use Rattle.sf_standard.specs.Items.{Item, Block}
+use Rattle.sf_frames.specs.declared.frame.Frame.{Frame}
+use Rattle.sf_frames.specs.declared.frame.Kept.{Kept}
+use Rattle.sf_frames.specs.Curves.{IsItemCurve}
+use Rattle.sf_frames.specs.Kept.{IsKept, AreWhole, IsFrame, AreFrames, IsStored, IsEndOf, IsNext, IsLonger, token_of, no_token}
+use Rattle.sf_frames.proofs.Topping.{take-next}
+
+range-append : (xs ys : List Shape) (i j : ℕ) → i ≤ j → j ≤ length xs → slice_range (xs ++ ys) i j ≡ slice_range xs i j
+range-append xs ys i j le lt =
+    ap (take (j - i)) (drop-append-le i xs ys (omega arith))
+    ∙ take-append-le (j - i) (drop i xs) ys (omega (arith, length-drop i xs))
+
+range-take : (xs : List Shape) (e i j : ℕ) → i ≤ j → j ≤ e → slice_range (take e xs) i j ≡ slice_range xs i j
+range-take xs e i j le lt =
+    let split : e ≡ i + (e - i) = omega arith in
+    ap (λ v. take (j - i) (drop i (take v xs))) split
+    ∙ ap (take (j - i)) (drop-take i (e - i) xs)
+    ∙ take-take (j - i) (e - i) (drop i xs) (omega arith)
+
+kept-moves : (design : Design) (points others : List Shape) (i : Item) (k : Kept) → IsKept design points i k → slice_range others k.from k.to ≡ slice_range points k.from k.to → k.to ≤ length others → IsKept design others i k
+kept-moves design points others i k m same inside = record {
+  order = m.order;
+  inside = inside;
+  curve = subst (λ v. IsItemCurve design (root design) v i) (sym same) m.curve;
+  falls = subst (AllPairs IsBelow) (sym same) m.falls;
+  least = m.least;
+}
+
+pub kept-appended : (design : Design) (points more : List Shape) (i : Item) (k : Kept) → IsKept design points i k → IsKept design (points ++ more) i k
+kept-appended design points more i k m =
+    kept-moves design points (points ++ more) i k m (range-append points more k.from k.to m.order m.inside) (omega (arith, m.inside, length-append points more))
+
+kept-cut : (design : Design) (points : List Shape) (e : ℕ) (i : Item) (k : Kept) → IsKept design points i k → e ≤ length points → k.to ≤ e → IsKept design (take e points) i k
+kept-cut design points e i k m le within =
+    kept-moves design points (take e points) i k m (range-take points e k.from k.to m.order within) (omega (arith, within, length-take-le e points le))
+
+frame-appended : (design : Design) (tokens : List Token) (points more : List Shape) (whole k : ℕ) (f : Frame) → IsFrame design tokens points whole k f → IsFrame design tokens (points ++ more) whole k f
+frame-appended design tokens points more whole k f m = record {
+  item = m.item;
+  top = m.top;
+  fewer = m.fewer;
+  kept = kept-appended design points more m.item f.curve m.kept;
+  inside = m.inside;
+  after = m.after;
+  end = omega (arith, m.end, length-append points more);
+  sums = m.sums;
+}
+
+frame-cut : (design : Design) (tokens : List Token) (points : List Shape) (e whole k : ℕ) (f : Frame) → IsFrame design tokens points whole k f → e ≤ length points → f.end ≤ e → IsFrame design tokens (take e points) whole k f
+frame-cut design tokens points e whole k f m le within = record {
+  item = m.item;
+  top = m.top;
+  fewer = m.fewer;
+  kept = kept-cut design points e m.item f.curve m.kept le (omega (arith, m.inside, within));
+  inside = m.inside;
+  after = m.after;
+  end = omega (arith, within, length-take-le e points le);
+  sums = m.sums;
+}
+
+wholes-appended : (design : Design) (points more : List Shape) (blocks : List Kept) (whole : ℕ) → AreWhole design points blocks whole → AreWhole design (points ++ more) blocks whole
+wholes-appended design points more blocks whole m = record {
+  few = m.few;
+  room = omega (arith, m.room, length-append points more);
+  each = λ b d lt. (kept-appended design points more (Block b) (get_or blocks b d) (m.each b d lt).0, (m.each b d lt).1);
+}
+
+pub stored-appended : (design : Design) (tokens : List Token) (points more : List Shape) (blocks : List Kept) (whole : ℕ) (frames : List Frame) → IsStored design tokens points blocks whole frames → IsStored design tokens (points ++ more) blocks whole frames
+stored-appended design tokens points more blocks whole frames m = record {
+  wholes = wholes-appended design points more blocks whole m.wholes;
+  frames_are = record {
+    few = m.frames_are.few;
+    are = m.frames_are.are;
+    each = λ k d lt. frame-appended design tokens points more whole (k + 1) (get_or frames k d) (m.frames_are.each k d lt);
+    ends = m.frames_are.ends;
+  };
+}
+
+pub stored-longer : (design : Design) (tokens : List Token) (points all : List Shape) (blocks : List Kept) (whole : ℕ) (frames : List Frame) → IsStored design tokens points blocks whole frames → IsLonger points all → IsStored design tokens all blocks whole frames
+stored-longer design tokens points all blocks whole frames m longer =
+    subst (λ v. IsStored design tokens v blocks whole frames) (sym longer.1) (stored-appended design tokens points longer.0 blocks whole frames m)
+
+module _ (design : Design) (tokens : List Token) (points : List Shape) (blocks : List Kept) (whole : ℕ) (frames : List Frame) (count e : ℕ) (m : IsStored design tokens points blocks whole frames) (le : count ≤ length frames) (at_end : IsEndOf frames whole count e) where
+  last-end : (d : Frame) → 0 < count → e ≡ (get_or frames (count - 1) d).end
+  last-end d lt = sym (at_end.last d lt)
+
+  -- the end lies among the points, and after the whole curves
+  end-there : (d : Frame) → (whole ≤ e) × (e ≤ length points)
+  end-there d = elim (cases_lt 0 count) [
+    | inl some ↦ (let f = m.frames_are.each (count - 1) d (omega (arith, le)) in
+        (omega (arith, last-end d some, f.after), omega (arith, last-end d some, f.end)))
+    | inr none ↦ (let same : e ≡ whole = at_end.none (omega arith) in (omega (arith, same), omega (arith, same, m.wholes.room)))
+  ]
+
+  within-end : (k : ℕ) (d : Frame) → k < count → (get_or frames k d).end ≤ e
+  within-end k d lt =
+      elim (cases_eq (k + 1) count) [
+        | inl same ↦ (let here : count - 1 ≡ k = omega (arith, same) in
+            omega (arith, ap (λ (v : ℕ). (get_or frames v d).end) here, last-end d (omega arith)))
+        | inr other ↦ omega (arith, other, m.frames_are.ends k (count - 1) d (omega (arith, other)) (omega arith), last-end d (omega arith))
+      ]
+
+  -- the first frames with the points that they need
+  pub stored-cut : (d : Frame) → IsStored design tokens (take e points) blocks whole (take count frames)
+  stored-cut a =
+      let n : length (take count frames) ≡ count = length-take-le count frames le in
+      let t = end-there a in
+      record {
+        wholes = record {
+          few = m.wholes.few;
+          room = omega (arith, t.0, length-take-le e points t.1);
+          each = λ b d lt. (kept-cut design points e (Block b) (get_or blocks b d) (m.wholes.each b d lt).0 t.1 (omega (arith, (m.wholes.each b d lt).1, t.0)), (m.wholes.each b d lt).1);
+        };
+        frames_are = record {
+          few = omega (arith, m.frames_are.few, n);
+          are = sym (take-map token_of count frames) ∙ ap (take count) m.frames_are.are ∙ take-take count (length frames) tokens le ∙ ap (λ (v : ℕ). take v tokens) (sym n);
+          each = λ k d lt.
+              let lt' : k < count = omega (arith, n) in
+              let same : get_or (take count frames) k d ≡ get_or frames k d = get_or-take count frames k d lt' in
+              subst (IsFrame design tokens (take e points) whole (k + 1)) (sym same)
+              (frame-cut design tokens points e whole (k + 1) (get_or frames k d) (m.frames_are.each k d (omega arith)) t.1 (within-end k d lt'));
+          ends = λ i j d lt lj.
+              let lj' : j < count = omega (arith, n) in
+              let li' : i < count = omega arith in
+              let a : get_or (take count frames) i d ≡ get_or frames i d = get_or-take count frames i d li' in
+              let b : get_or (take count frames) j d ≡ get_or frames j d = get_or-take count frames j d lj' in
+              omega (arith, ap (λ v. v.end) a, ap (λ v. v.end) b, m.frames_are.ends i j d lt (omega arith));
+        };
+      }
+
+-- one frame more, whose points end the list
+pub stored-pushed : (design : Design) (tokens : List Token) (points : List Shape) (blocks : List Kept) (whole : ℕ) (frames : List Frame) (f : Frame) → IsStored design tokens points blocks whole frames → IsNext tokens (length frames) f.token → IsFrame design tokens points whole (length frames + 1) f → f.end ≡ length points → IsStored design tokens points blocks whole (frames ++ f ∷ [])
+stored-pushed design tokens points blocks whole frames f m next here last =
+    let n : length (frames ++ f ∷ []) ≡ length frames + 1 = length_push frames f in
+    record {
+      wholes = m.wholes;
+      frames_are = record {
+        few = omega (arith, n, next.more);
+        are = map-append token_of frames (f ∷ []) ∙ ap (λ v. v ++ f.token ∷ []) m.frames_are.are ∙ sym (take-next tokens (length frames) f.token next) ∙ ap (λ (v : ℕ). take v tokens) (sym n);
+        each = λ k d lk. elim (cases_lt k (length frames)) [
+          | inl before ↦ subst (IsFrame design tokens points whole (k + 1)) (sym (get_or_append_left frames (f ∷ []) d k before)) (m.frames_are.each k d before)
+          | inr at_last ↦ (let same : length frames ≡ k = omega (arith, n) in
+              subst (IsFrame design tokens points whole (k + 1)) (sym (get_or_push frames f d k same))
+              (subst (λ v. IsFrame design tokens points whole (v + 1) f) same here))
+        ];
+        ends = all_pairs_push (λ a b. a.end ≤ b.end) frames f m.frames_are.ends (λ k d lk. omega (arith, (m.frames_are.each k d lk).end, last));
+      };
+    }

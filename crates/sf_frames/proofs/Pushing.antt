@@ -1,0 +1,85 @@
+-- One frame more.
+use Rattle.std.proofs.Common.{◌≡◌, ℕ, ◌+◌, ◌-◌, ◌<◌, ◌≤◌, List, [], ◌∷◌, ◌++◌, length, get_or, refl, sym, ap, ◌∙◌, subst, arith, length-append}
+use Rattle.std.specs.Prelude.{AllPairs, MatchOption, Option, slice_range}
+use Rattle.sf_model.specs.declared.design.Design.{Design}
+use Rattle.sf_model.specs.declared.parts.Shape.{Shape}
+use Rattle.sf_model.specs.Legal.{block_count}
+use Rattle.sf_polish.specs.declared.expr.Token.TheVariants as token
+use Rattle.sf_node.specs.Parts.{Parts}
+use Rattle.sf_node.specs.Subproblem.{root}
+use Rattle.sf_node.specs.Children.{IsSubproblem}
+use Rattle.sf_curves.specs.Points.{IsBelow, IsCombination}
+use Rattle.sf_standard.specs.Items as item
+use Rattle.sf_frames.specs.declared.direction.Direction.{Direction}
+use Rattle.sf_frames.specs.declared.frame.Frame.{Frame}
+use Rattle.sf_frames.specs.declared.frame.Kept.{Kept}
+use Rattle.sf_frames.specs.declared.least.Least.{Least}
+use Rattle.sf_frames.specs.declared.sums.Sums.{Sums}
+use Rattle.sf_frames.specs.Curves.{IsItemCurve}
+use Rattle.sf_frames.specs.Direction.{token_in, item_in, plan_in, size_in}
+use Rattle.sf_frames.specs.Least.{IsLeastOf, AllSmall}
+use Rattle.sf_frames.specs.Sums.{AreSumsOrNone, IsLeastOrNone, AreWithin, joined}
+use Rattle.sf_frames.specs.Kept.{items_at, ways, groups_at, IsKept, IsFrame, IsStored, IsNext, ArePair, at_end}
+use Rattle.sf_frames.proofs.Joining.{curve-joined}
+use Rattle.sf_frames.proofs.Keeping.{stored-appended, stored-pushed}
+use Rattle.sf_frames.proofs.Moving.{sums-block}
+use Rattle.sf_frames.proofs.Smallness.{can-join}
+use Rattle.sf_frames.proofs.Summing.{sums-after}
+use Rattle.sf_frames.proofs.Topping.{items-block, items-joined, pair-top, block-inside}
+use Rattle.sf_frames.proofs.Ways.{way_in}
+use Rattle.sf_frames.proofs.WholeSpans.{curve-small, least-kept, kept-end}
+
+pub block-pushed : (design : Design) (node : Parts) (points : List Shape) (blocks : List Kept) (whole : ℕ) (frames new : List Frame) (b i below end : ℕ) (d : Kept) (s : Option Sums) → IsSubproblem design node → length blocks ≡ block_count design → IsStored design node.tokens points blocks whole frames → IsNext node.tokens (length frames) (token.Block b) → i ≡ b → below ≡ length frames → end ≡ length points → AreSumsOrNone (groups_at design node.tokens (length frames)) s
+    → new ≡ frames ++ record { token = token.Block b; curve = get_or blocks i d; below = below; end = end; sums = s } ∷ [] → IsStored design node.tokens points blocks whole new
+block-pushed design node points blocks whole frames new b i below end d s sub all m next same is_below is_end sums is =
+    let there : i < length blocks = omega (arith, block-inside design node (length frames) b sub next, all, same) in
+    let w = subst (λ v. IsKept design points (item.Block v) (get_or blocks i d)) same (m.wholes.each i d there).0 in
+    subst (IsStored design node.tokens points blocks whole) (sym is)
+    (stored-pushed design node.tokens points blocks whole frames (record { token = token.Block b; curve = get_or blocks i d; below = below; end = end; sums = s }) m next (record {
+      item = item.Block b;
+      top = items-block node.tokens (length frames) b next ∙ ap (λ v. item.Block b ∷ items_at node.tokens v) (sym is_below);
+      fewer = omega (arith, is_below);
+      kept = w;
+      inside = omega (arith, w.inside, is_end);
+      after = omega (arith, m.wholes.room, is_end);
+      end = omega (arith, is_end);
+      sums = sums-block design node (length frames) b s sub next sums;
+    }) is_end)
+
+-- the curve of the two on top
+module _ (design : Design) (node : Parts) (points made : List Shape) (whole : ℕ) (frames : List Frame) (d : Direction) (l r : Frame) (pair : ArePair design node.tokens points whole frames l r)
+    (combines : IsCombination (size_in d) design.outline (slice_range points l.curve.from l.curve.to) (slice_range points r.curve.from r.curve.to) made) where
+  joined-curve : IsItemCurve design (root design) made (item_in d pair.left.item pair.right.item)
+  joined-curve =
+      curve-joined (item_in d) (plan_in d) (size_in d) (way_in d) design (root design) pair.left.item pair.right.item
+      (slice_range points l.curve.from l.curve.to) (slice_range points r.curve.from r.curve.to) made pair.left.kept.curve pair.right.kept.curve combines
+
+  pub joined-small : AllSmall made
+  joined-small = curve-small design made (item_in d pair.left.item pair.right.item) joined-curve
+
+  pub joined-within : (s : Option Sums) (o : Option Least) → IsSubproblem design node → AreSumsOrNone (groups_at design node.tokens (length frames)) s → MatchOption o (made ≡ []) (IsLeastOf made) → AreWithin s l.curve.least r.curve.least o
+  joined-within s o sub sums least =
+      can-join design node (length frames) pair.left.item pair.right.item (item_in d pair.left.item pair.right.item) (items_at node.tokens l.below) s l.curve.least r.curve.least o sub
+      (pair-top design node.tokens points whole frames l r pair) sums pair.left.kept.least pair.right.kept.least
+      (least-kept design made (item_in d pair.left.item pair.right.item) o joined-curve least)
+
+  pub joined-pushed : (blocks : List Kept) (all : List Shape) (new : List Frame) (s sums : Option Sums) (o : Option Least) (k : Kept) → IsStored design node.tokens points blocks whole frames → IsNext node.tokens (length frames) (token_in d) → AllPairs IsBelow made → MatchOption o (made ≡ []) (IsLeastOf made)
+      → AreSumsOrNone (groups_at design node.tokens (length frames)) s → sums ≡ joined s l.curve.least r.curve.least o → all ≡ points ++ made → k ≡ at_end points made o
+      → new ≡ frames ++ record { token = token_in d; curve = k; below = l.below; end = k.to; sums = sums } ∷ [] → IsStored design node.tokens all blocks whole new
+  joined-pushed blocks all new s sums o k m next falls least before is_sums is_all is_kept is_new =
+      let i = item_in d pair.left.item pair.right.item in
+      let n = length-append points made in
+      let f : Frame = record { token = token_in d; curve = at_end points made o; below = l.below; end = length points + length made; sums = joined s l.curve.least r.curve.least o } in
+      let same : new ≡ frames ++ f ∷ [] = is_new ∙ ap (λ (v : Kept). frames ++ record { token = token_in d; curve = v; below = l.below; end = v.to; sums = sums } ∷ []) is_kept ∙ ap (λ (v : Option Sums). frames ++ record { token = token_in d; curve = at_end points made o; below = l.below; end = length points + length made; sums = v } ∷ []) is_sums in
+      subst (λ v. IsStored design node.tokens v blocks whole new) (sym is_all)
+      (subst (IsStored design node.tokens (points ++ made) blocks whole) (sym same)
+      (stored-pushed design node.tokens (points ++ made) blocks whole frames f (stored-appended design node.tokens points made blocks whole frames m) next (record {
+        item = i;
+        top = items-joined node.tokens (length frames) d pair.left.item pair.right.item (items_at node.tokens l.below) next (pair-top design node.tokens points whole frames l r pair);
+        fewer = omega (arith, pair.left.fewer, pair.right.fewer);
+        kept = kept-end design points made i o joined-curve falls least;
+        inside = omega arith;
+        after = omega (arith, m.wholes.room);
+        end = omega (arith, n);
+        sums = sums-after design node.tokens (length frames) d pair.left.item pair.right.item (items_at node.tokens l.below) s l.curve.least r.curve.least o next (pair-top design node.tokens points whole frames l r pair) before pair.left.kept.least pair.right.kept.least (least-kept design made i o joined-curve least);
+      }) (omega (arith, n))))

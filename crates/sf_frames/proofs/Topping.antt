@@ -1,0 +1,113 @@
+-- The items that one token more leaves.
+use Rattle.std.proofs.Common.{◌≡◌, ℕ, zero, suc, ◌+◌, ◌-◌, ◌<◌, ◌≤◌, List, [], ◌∷◌, ◌++◌, length, take, drop, get_or, refl, sym, ap, ◌∙◌, subst, arith}
+use Rattle.std.proofs.lemmas.List.{take_more, drop_more, take-append-drop}
+use Rattle.sf_model.specs.declared.design.Design.{Design}
+use Rattle.sf_model.specs.declared.parts.Shape.{Shape}
+use Rattle.sf_polish.specs.declared.expr.Token.{Token}
+use Rattle.sf_polish.specs.declared.expr.Token.TheVariants as token
+use Rattle.sf_node.specs.Parts.{Parts}
+use Rattle.sf_node.specs.Children.{IsSubproblem}
+use Rattle.sf_node.proofs.Normalised.{subproblem-begun}
+use Rattle.sf_standard.specs.Items as item
+use Rattle.sf_standard.specs.Items.{Item, read}
+use Rattle.sf_standard.proofs.Appended.{read-append, read-block}
+use Rattle.sf_frames.specs.declared.direction.Direction.{Direction}
+use Rattle.sf_frames.specs.declared.direction.Direction.TheVariants.{Beside, Above}
+use Rattle.sf_frames.specs.declared.frame.Frame.{Frame}
+use Rattle.sf_frames.specs.Direction.{token_in, item_in}
+use Rattle.sf_frames.specs.Kept.{items_at, no_token, IsFrame, AreFrames, IsNext, ArePair}
+use Rattle.sf_frames.proofs.Joining.{Runs, runs-from}
+use Rattle.sf_frames.proofs.Ways.{read-joined}
+
+runs-later : (n : ℕ) (items : List Item) (xs ys : List Token) → Runs n (length items) (xs ++ ys) → Runs n (length (read items xs)) ys
+runs-later n items [] ys r = r
+runs-later n [] (token.Block b ∷ xs) ys r = runs-later n (item.Block b ∷ []) xs ys r.1
+runs-later n (i ∷ items) (token.Block b ∷ xs) ys r =
+    runs-later n (item.Block b ∷ i ∷ items) xs ys (subst (λ v. Runs n v (xs ++ ys)) (omega arith) r.1)
+runs-later n [] (token.Beside ∷ xs) ys r = absurd (omega (arith, r.0))
+runs-later n (i ∷ []) (token.Beside ∷ xs) ys r = absurd (omega (arith, r.0))
+runs-later n (i ∷ j ∷ items) (token.Beside ∷ xs) ys r = runs-later n (item.Beside j i ∷ items) xs ys (subst (λ v. Runs n v (xs ++ ys)) (omega arith) r.1)
+runs-later n [] (token.Above ∷ xs) ys r = absurd (omega (arith, r.0))
+runs-later n (i ∷ []) (token.Above ∷ xs) ys r = absurd (omega (arith, r.0))
+runs-later n (i ∷ j ∷ items) (token.Above ∷ xs) ys r = runs-later n (item.Above j i ∷ items) xs ys (subst (λ v. Runs n v (xs ++ ys)) (omega arith) r.1)
+
+runs-at : (design : Design) (node : Parts) (k : ℕ) → IsSubproblem design node → k < length node.tokens → Runs (length design.blocks) (length (items_at node.tokens k)) (get_or node.tokens k no_token ∷ drop (k + 1) node.tokens)
+runs-at design node k sub lt =
+    let i = subproblem-begun design node sub in
+    let n = length design.blocks in
+    let all : Runs n 0 node.tokens = runs-from n 0 i.count node.tokens i.reads i.below in
+    subst (Runs n (length (items_at node.tokens k))) (drop_more node.tokens k no_token lt)
+    (runs-later n [] (take k node.tokens) (drop k node.tokens) (subst (Runs n 0) (sym (take-append-drop k node.tokens)) all))
+
+-- a block that comes next is one of the design
+pub block-inside : (design : Design) (node : Parts) (k b : ℕ) → IsSubproblem design node → IsNext node.tokens k (token.Block b) → b < length design.blocks
+block-inside design node k b sub next =
+    (subst (λ t. Runs (length design.blocks) (length (items_at node.tokens k)) (t ∷ drop (k + 1) node.tokens)) next.token_is (runs-at design node k sub next.more)).0
+
+-- the tokens up to the next one
+pub take-next : (tokens : List Token) (k : ℕ) (t : Token) → IsNext tokens k t → take (k + 1) tokens ≡ take k tokens ++ t ∷ []
+take-next tokens k t next = take_more tokens k no_token next.more ∙ ap (λ v. take k tokens ++ v ∷ []) next.token_is
+
+pub items-next : (tokens : List Token) (k : ℕ) (t : Token) → IsNext tokens k t → items_at tokens (k + 1) ≡ read (items_at tokens k) (t ∷ [])
+items-next tokens k t next = ap (read []) (take-next tokens k t next) ∙ read-append [] (take k tokens) (t ∷ [])
+
+pub items-block : (tokens : List Token) (k b : ℕ) → IsNext tokens k (token.Block b) → items_at tokens (k + 1) ≡ item.Block b ∷ items_at tokens k
+items-block tokens k b next = items-next tokens k (token.Block b) next ∙ read-block (items_at tokens k) b
+
+pub items-joined : (tokens : List Token) (k : ℕ) (d : Direction) (l r : Item) (rest : List Item) → IsNext tokens k (token_in d) → items_at tokens k ≡ r ∷ l ∷ rest → items_at tokens (k + 1) ≡ item_in d l r ∷ rest
+items-joined tokens k d l r rest next top =
+    items-next tokens k (token_in d) next ∙ ap (λ v. read v (token_in d ∷ [])) top ∙ read-joined d l r rest
+
+two-for : (n : ℕ) (d : Direction) (depth : ℕ) (rest : List Token) → Runs n depth (token_in d ∷ rest) → 2 ≤ depth
+two-for n Beside depth rest r = r.0
+two-for n Above depth rest r = r.0
+
+two-at : (design : Design) (node : Parts) (k : ℕ) (d : Direction) → IsSubproblem design node → IsNext node.tokens k (token_in d) → 2 ≤ length (items_at node.tokens k)
+two-at design node k d sub next =
+    two-for (length design.blocks) d (length (items_at node.tokens k)) (drop (k + 1) node.tokens)
+    (subst (λ t. Runs (length design.blocks) (length (items_at node.tokens k)) (t ∷ drop (k + 1) node.tokens)) next.token_is (runs-at design node k sub next.more))
+
+none-first : (tokens : List Token) (k : ℕ) → 1 ≤ length (items_at tokens k) → 1 ≤ k
+none-first tokens zero h = absurd (omega (arith, h))
+none-first tokens (suc k) h = omega arith
+
+-- the frames of both are there
+pub record AreThere (frames : List Frame) (d : Frame) : Type 0 where
+  pub some : 1 ≤ length frames
+  pub under : 1 ≤ (get_or frames (length frames - 1) d).below
+  pub fewer : (get_or frames (length frames - 1) d).below ≤ length frames
+
+module _ (design : Design) (node : Parts) (points : List Shape) (whole : ℕ) (frames : List Frame) (way : Direction) (sub : IsSubproblem design node) (m : AreFrames design node.tokens points whole frames) (next : IsNext node.tokens (length frames) (token_in way)) where
+  some-frame : 1 ≤ length frames
+  some-frame = none-first node.tokens (length frames) (omega (arith, two-at design node (length frames) way sub next))
+
+  right-at : (d : Frame) → IsFrame design node.tokens points whole (length frames) (get_or frames (length frames - 1) d)
+  right-at d =
+      let r = get_or frames (length frames - 1) d in
+      let k : length frames - 1 + 1 ≡ length frames = omega (arith, some-frame) in
+      subst (λ v. IsFrame design node.tokens points whole v r) k (m.each (length frames - 1) d (omega (arith, some-frame)))
+
+  pub there : (d : Frame) → AreThere frames d
+  there d =
+      let r = right-at d in
+      let two = two-at design node (length frames) way sub next in
+      record {
+        some = some-frame;
+        under = none-first node.tokens (get_or frames (length frames - 1) d).below (omega (arith, two, ap length r.top));
+        fewer = omega (arith, r.fewer);
+      }
+
+  pub pair-at : (d e : Frame) → ArePair design node.tokens points whole frames (get_or frames ((get_or frames (length frames - 1) d).below - 1) e) (get_or frames (length frames - 1) d)
+  pair-at d e =
+      let r = get_or frames (length frames - 1) d in
+      let l = get_or frames (r.below - 1) e in
+      let t = there d in
+      let k : r.below - 1 + 1 ≡ r.below = omega (arith, t.under) in
+      record {
+        right = right-at d;
+        left = subst (λ v. IsFrame design node.tokens points whole v l) k (m.each (r.below - 1) e (omega (arith, t.under, t.fewer)));
+      }
+
+-- the items of both on top
+pub pair-top : (design : Design) (tokens : List Token) (points : List Shape) (whole : ℕ) (frames : List Frame) (l r : Frame) → (p : ArePair design tokens points whole frames l r) → items_at tokens (length frames) ≡ p.right.item ∷ p.left.item ∷ items_at tokens l.below
+pair-top design tokens points whole frames l r p = p.right.top ∙ ap (λ v. p.right.item ∷ v) p.left.top

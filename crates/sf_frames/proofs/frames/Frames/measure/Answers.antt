@@ -1,0 +1,18 @@
+use Rattle.std.proofs.Common.{◌≡◌, length, sym, ap, ◌∙◌, subst}
+use Rattle.sf_node.specs.Children.{IsSubproblem}
+use Rattle.sf_frames.specs.Kept.{groups_at}
+use Rattle.sf_frames.specs.Measured.{IsMeasured}
+use Rattle.sf_frames.specs.Sums.{AreSumsOrNone}
+use Rattle.sf_frames.proofs.WholeSpans.{measured-groups}
+use Rattle.sf_frames.proofs.frames.Frames.measure.Goals as goal
+
+pub returns-clause-measured : goal.returns-clause-measured
+returns-clause-measured c =
+    let N = c.args.node.now in
+    let D = c.self.inside.design.now in
+    let n = length c.extend.new.frames.items in
+    let all : n ≡ length N.tokens = c.in_ok-kept.ensures.count (c.if-not-kept.false) in
+    let sub = subst (λ v. IsSubproblem v N) (sym c.self.view_is) c.requires.subproblem in
+    let sums = subst (λ v. AreSumsOrNone (groups_at D N.tokens (length v)) c.sums_now-sums.result) c.deref-4.ensures.value c.sums_now-sums.ensures in
+    subst (λ v. IsMeasured v N c.answer_of.result) c.self.view_is
+    (c.answer_of.ensures D N (subst (λ v. AreSumsOrNone v c.sums_now-sums.result) (measured-groups D N n sub c.requires.whole all) sums))

@@ -1,0 +1,9 @@
+use Rattle.std.proofs.Common.{◌-◌, length}
+use Rattle.sf_frames.specs.Kept.{IsStored}
+use Rattle.sf_frames.proofs.push.extend.Given as goal
+
+abbrev pub invariant-loop-tokens : goal.invariant-loop-tokens
+invariant-loop-tokens l = IsStored l.design l.node.tokens l.points.items l.blocks l.whole l.frames.items
+
+abbrev pub decreases-loop-tokens : goal.decreases-loop-tokens
+decreases-loop-tokens l = length l.node.tokens - length l.frames.items

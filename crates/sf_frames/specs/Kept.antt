@@ -1,0 +1,100 @@
+-- What the frames of a path of tokens tell.
+use Rattle.std.specs.Prelude.{◌≡◌, ℕ, ◌+◌, ◌-◌, ◌<◌, ◌≤◌, List, [], ◌∷◌, ◌++◌, length, take, map, AllPairs, Option, slice_index_or, slice_range}
+use Rattle.sf_model.specs.declared.design.Design.{Design}
+use Rattle.sf_model.specs.declared.parts.Shape.{Shape}
+use Rattle.sf_model.specs.Legal.{block_count}
+use Rattle.sf_model.specs.Tree.{Tree}
+use Rattle.sf_polish.specs.declared.expr.Token.{Token}
+use Rattle.sf_polish.specs.declared.expr.Token.TheVariants as token
+use Rattle.sf_node.specs.Parts.{Parts}
+use Rattle.sf_node.specs.Subproblem.{root}
+use Rattle.sf_curves.specs.Points.{IsBelow}
+use Rattle.sf_standard.specs.Items.{Item, Block, read, fitting}
+use Rattle.sf_frames.specs.declared.frame.Frame.{Frame}
+use Rattle.sf_frames.specs.declared.frame.Kept.{Kept}
+use Rattle.sf_frames.specs.declared.least.Least.{Least}
+use Rattle.sf_frames.specs.Curves.{IsItemCurve}
+use Rattle.sf_frames.specs.Groups.{group_plans}
+use Rattle.sf_frames.specs.Sums.{IsLeastOrNone, AreSumsOrNone}
+
+-- the subproblem of these tokens in which each block has its whole span
+abbrev pub path : Design → List Token → Parts
+path design tokens = record (root design) { tokens = tokens }
+
+-- the items after the first k tokens, the last first
+abbrev pub items_at : List Token → ℕ → List Item
+items_at tokens k = read [] (take k tokens)
+
+-- the fitting plans of an item with any of the blocks' shapes
+abbrev pub ways : Design → Item → List Tree
+ways design i = fitting design (root design) i
+
+-- the plans of each item and unused block after the first k tokens
+abbrev pub groups_at : Design → List Token → ℕ → List (List Tree)
+groups_at design tokens k = group_plans design (path design (take k tokens))
+
+-- the points at these places are the curve of the item, and its least values are told
+pub record IsKept (design : Design) (points : List Shape) (i : Item) (k : Kept) : Type 0 where
+  pub order : k.from ≤ k.to
+  pub inside : k.to ≤ length points
+  pub curve : IsItemCurve design (root design) (slice_range points k.from k.to) i
+  pub falls : AllPairs IsBelow (slice_range points k.from k.to)
+  pub least : IsLeastOrNone (ways design i) k.least
+
+-- each block's whole curve is kept among the first points
+pub record AreWhole (design : Design) (points : List Shape) (blocks : List Kept) (whole : ℕ) : Type 0 where
+  pub few : length blocks ≤ block_count design
+  pub room : whole ≤ length points
+  pub each : (b : ℕ) (d : Kept) → b < length blocks → IsKept design points (Block b) (slice_index_or blocks b d) × ((slice_index_or blocks b d).to ≤ whole)
+
+-- the frame of the k-th token tells the item on top after k tokens; what lies under it are the items after fewer tokens
+pub record IsFrame (design : Design) (tokens : List Token) (points : List Shape) (whole k : ℕ) (f : Frame) : Type 0 where
+  pub item : Item
+  pub top : items_at tokens k ≡ item ∷ items_at tokens f.below
+  pub fewer : f.below < k
+  pub kept : IsKept design points item f.curve
+  pub inside : f.curve.to ≤ f.end
+  pub after : whole ≤ f.end
+  pub end : f.end ≤ length points
+  pub sums : AreSumsOrNone (groups_at design tokens k) f.sums
+
+abbrev pub token_of : Frame → Token
+token_of f = f.token
+
+-- the frames of the first tokens, in their order
+pub record AreFrames (design : Design) (tokens : List Token) (points : List Shape) (whole : ℕ) (frames : List Frame) : Type 0 where
+  pub few : length frames ≤ length tokens
+  pub are : map token_of frames ≡ take (length frames) tokens
+  pub each : (k : ℕ) (d : Frame) → k < length frames → IsFrame design tokens points whole (k + 1) (slice_index_or frames k d)
+  pub ends : AllPairs (λ f g. f.end ≤ g.end) frames
+
+-- the whole curves and the frames
+pub record IsStored (design : Design) (tokens : List Token) (points : List Shape) (blocks : List Kept) (whole : ℕ) (frames : List Frame) : Type 0 where
+  pub wholes : AreWhole design points blocks whole
+  pub frames_are : AreFrames design tokens points whole frames
+
+-- the token that comes next
+abbrev pub no_token : Token
+no_token = token.Beside
+
+pub record IsNext (tokens : List Token) (k : ℕ) (t : Token) : Type 0 where
+  pub more : k < length tokens
+  pub token_is : slice_index_or tokens k no_token ≡ t
+
+-- the two frames on top: what lies under the left one lies under both
+pub record ArePair (design : Design) (tokens : List Token) (points : List Shape) (whole : ℕ) (frames : List Frame) (l r : Frame) : Type 0 where
+  pub right : IsFrame design tokens points whole (length frames) r
+  pub left : IsFrame design tokens points whole r.below l
+
+-- points that are put at the end
+abbrev pub at_end : List Shape → List Shape → Option Least → Kept
+at_end points made least = record { from = length points; to = length points + length made; least = least }
+
+-- the list goes on from another
+abbrev pub IsLonger : List Shape → List Shape → Type 0
+IsLonger old new = (more : List Shape) × (new ≡ old ++ more)
+
+-- how many points the first frames need, beside the whole curves
+pub record IsEndOf (frames : List Frame) (whole count e : ℕ) : Type 0 where
+  pub none : count ≡ 0 → e ≡ whole
+  pub last : (d : Frame) → 0 < count → (slice_index_or frames (count - 1) d).end ≡ e

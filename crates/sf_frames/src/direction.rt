@@ -1,0 +1,6 @@
+/// How two items are joined.
+#[derive(Clone, Copy, Debug, PartialEq, Eq)]
+pub enum Direction {
+    Beside,
+    Above,
+}

@@ -1,0 +1,105 @@
+ghost use Rattle.std.specs.Prelude.{◌≡◌, length, IfOk};
+ghost use Rattle.sf_node.specs.Children.{IsSubproblem};
+
+use crate::cut::back_to;
+use crate::frame::{Frame, Kept};
+use crate::measured::{Measured, answer_of};
+use crate::push::extend;
+use crate::top::sums_now;
+use crate::wholes::fill;
+use sf_curves::Point;
+use sf_model::Design;
+use sf_node::Node;
+use std::alloc::{AllocError as NoMemory, Global};
+use std::marker::Model;
+
+/// The frames of the path that was measured last, for one design. A contract sees that design.
+#[derive(Drop)]
+pub struct Frames<'a> {
+    design: &'a Design,
+    alloc: Global,
+    points: Vec<Point>,
+    blocks: Vec<Kept>,
+    whole: usize,
+    frames: Vec<Frame>,
+    list: Vec<Point>,
+}
+
+impl<'a> Model for Frames<'a> {
+    ghost use Rattle.sf_model.specs.declared.design.Design.{Design};
+
+    ghost Value = { Design };
+
+    ghost use Rattle.std.specs.Prelude.{map};
+    ghost use Rattle.sf_frames.specs.Kept.{IsStored, token_of};
+
+    ghost view = { λ s. s.design.now };
+
+    ghost invariant = { λ s. IsStored s.design.now (map token_of s.frames.items) s.points.items s.blocks.items s.whole s.frames.items };
+}
+
+impl<'a> Frames<'a> {
+    ghost use Rattle.sf_frames.specs.Measured.{IsMeasured};
+
+    /// No frame yet.
+    pub fn new(alloc: Global, design: &'a Design) -> Frames<'a>
+        ensures { result ≡ design.now }
+    {
+        Frames {
+            design,
+            alloc,
+            points: Vec::new(alloc),
+            blocks: Vec::new(alloc),
+            whole: 0,
+            frames: Vec::new(alloc),
+            list: Vec::new(alloc),
+        }
+    }
+
+    /// What the items and the unused blocks of a subproblem take, whose spans are whole.
+    pub fn measure(&mut self, node: &Node) -> Result<Measured, NoMemory>
+        requires subproblem { IsSubproblem self.old node.now }
+        requires whole { length node.now.steps ≡ length node.now.tokens }
+        ensures measured { IfOk result (IsMeasured self.old node.now) }
+        ensures same { self.new ≡ self.old }
+    {
+        let design = self.design;
+        self.whole = fill(
+            &mut self.points,
+            &mut self.frames,
+            &mut self.blocks,
+            self.whole,
+            self.alloc,
+            design,
+        )?;
+        back_to(
+            &mut self.points,
+            &mut self.frames,
+            &self.blocks,
+            self.whole,
+            design,
+            node.tokens(),
+        );
+        let kept = extend(
+            &mut self.points,
+            &mut self.frames,
+            &mut self.list,
+            &self.blocks,
+            self.whole,
+            design,
+            node,
+        )?;
+        if !kept {
+            return Ok(Measured::TooLarge);
+        }
+        let sums = sums_now(
+            &self.points,
+            &self.frames,
+            &self.blocks,
+            self.whole,
+            design,
+            node,
+        );
+        Ok(answer_of(sums))
+    }
+}

@@ -1,0 +1,29 @@
+ghost use Rattle.std.specs.Prelude.{◌≡◌, [], MatchOption, AllPairs};
+ghost use Rattle.sf_curves.specs.Points.{IsBelow};
+ghost use Rattle.sf_frames.specs.Least.{IsLeastOf, AllSmall};
+
+use sf_curves::curve::{Point, area, smallest};
+
+/// The least area, width and height of a curve's points.
+#[derive(Clone, Copy, Debug, PartialEq, Eq)]
+pub struct Least {
+    pub area: u64,
+    pub w: u32,
+    pub h: u32,
+}
+
+/// What a room of the curve takes at least.
+pub fn least_of(points: &[Point]) -> Option<Least>
+    requires falls { AllPairs IsBelow points.now }
+    requires small { AllSmall points.now }
+    ensures { MatchOption result (points.now ≡ []) (IsLeastOf points.now) }
+{
+    let smallest = smallest(points)?;
+    let w = points[0].w;
+    let h = points[points.len() - 1].h;
+    Some(Least {
+        area: area(smallest),
+        w,
+        h,
+    })
+}

@@ -1,0 +1,67 @@
+ghost use Rattle.std.specs.Prelude.{◌≡◌, ◌++◌, length, IfOk, OnOk, OnErr, AllPairs};
+ghost use Rattle.sf_model.specs.Legal.{block_count};
+ghost use Rattle.std.specs.Prelude.{map};
+ghost use Rattle.sf_frames.specs.Kept.{AreWhole, IsStored, at_end, token_of, IsLonger};
+
+use crate::frame::{Frame, Kept};
+use crate::least::{Least, least_of};
+use sf_curves::{Curve, Point};
+use sf_model::Design;
+use std::alloc::{AllocError as NoMemory, Global};
+
+/// Puts the points of a curve at the end.
+pub fn append(
+    points: &mut Vec<Point>,
+    made: &[Point],
+    least: Option<Least>,
+) -> Result<Kept, NoMemory>
+    ensures points { IfOk result (λ _. points.new.items ≡ points.old.items ++ made.now) }
+    ensures kept { IfOk result (λ k. k ≡ at_end points.old.items made.now least) }
+    ensures longer { IsLonger points.old.items points.new.items }
+{
+    let from = points.len();
+    points.extend_from_slice(made)?;
+    let to = points.len();
+    Ok(Kept { from, to, least })
+}
+
+/// The whole curves of all blocks, and the points in which they lie.
+pub fn wholes(alloc: Global, design: &Design) -> Result<(Vec<Point>, Vec<Kept>), NoMemory>
+    ensures whole { IfOk result (λ r. AreWhole design.now r.0.items r.1.items (length r.0.items)) }
+    ensures all { IfOk result (λ r. length r.1.items ≡ block_count design.now) }
+{
+    let mut points = Vec::new(alloc);
+    let mut blocks = Vec::new(alloc);
+    for block in design.blocks.as_slice() {
+        let shapes = block.shapes.as_slice();
+        let curve = Curve::of_shapes(alloc, shapes, 0, shapes.len() as u16, design.outline)?;
+        let least = least_of(curve.points());
+        let kept = append(&mut points, curve.points(), least)?;
+        blocks.push(kept)?;
+    }
+    Ok((points, blocks))
+}
+
+/// Makes the whole curves of all blocks, where they are not there yet. The answer is how many points they have.
+pub fn fill(
+    points: &mut Vec<Point>,
+    frames: &mut Vec<Frame>,
+    blocks: &mut Vec<Kept>,
+    whole: usize,
+    alloc: Global,
+    design: &Design,
+) -> Result<usize, NoMemory>
+    requires stored { IsStored design.now (map token_of frames.old.items) points.old.items blocks.old.items whole frames.old.items }
+    ensures filled { IfOk result (λ filled. IsStored design.now (map token_of frames.new.items) points.new.items blocks.new.items filled frames.new.items) }
+    ensures all { IfOk result (λ filled. length blocks.new.items ≡ block_count design.now) }
+    ensures kept { OnErr result (IsStored design.now (map token_of frames.new.items) points.new.items blocks.new.items whole frames.new.items) }
+{
+    if blocks.len() >= design.blocks.as_slice().len() {
+        return Ok(whole);
+    }
+    let (made, kept) = wholes(alloc, design)?;
+    frames.clear();
+    *points = made;
+    *blocks = kept;
+    Ok(points.len())
+}
