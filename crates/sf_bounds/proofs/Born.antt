@@ -1,6 +1,6 @@
 -- Children by extending: each is one token more.
-use Rattle.std.proofs.Common.{◌≡◌, ℕ, ◌+◌, ◌<◌, List, [], ◌∷◌, ◌++◌, map, take, get_or, length, ap, sym, subst, ◌∙◌, true, false}
-use Rattle.std.specs.Prelude.{Contains, Option, Some, None, IfSome}
+use Rattle.std.proofs.Common.{◌≡◌, ℕ, ◌+◌, ◌<◌, List, [], ◌∷◌, ◌++◌, map, take, get_or, length, ap, sym, subst, ◌∙◌, true, false, ◌-◌, refl, arith, length-append}
+use Rattle.std.specs.Prelude.{slice_get, Contains, Option, Some, None, IfSome}
 use Rattle.std.specs.Option.{option_to_list}
 use Rattle.std.specs.List.{AllByRecursion}
 use Rattle.std.proofs.lemmas.Bool.{true≢false}
@@ -11,10 +11,13 @@ use Rattle.sf_polish.specs.declared.expr.Token.{Token}
 use Rattle.sf_polish.specs.declared.expr.Token.TheVariants as token
 use Rattle.sf_polish.specs.Normal.{is_operand, last_or}
 use Rattle.sf_polish.proofs.Last.{last_or-push}
+use Rattle.sf_node.specs.declared.step.Step.{Step}
+use Rattle.sf_node.specs.declared.step.Step.TheVariants.{Block}
+use Rattle.sf_node.specs.Later.{IsChildOf}
 use Rattle.sf_node.specs.Parts.{Parts}
 use Rattle.sf_node.specs.Subproblem.{is_complete}
 use Rattle.sf_node.specs.Children.{IsSubproblem, CanStep, CanSplit, after, step_of, next_tokens, extended, split}
-use Rattle.sf_node.proofs.Reached.{next-can, extended-subproblems, split-subproblems}
+use Rattle.sf_node.proofs.Reached.{next-can, extended-subproblems, split-subproblems, after-subproblem, steps-after}
 use Rattle.sf_curves.proofs.Members.{Contains-head}
 use Rattle.sf_standard.specs.Standard.{standard}
 use Rattle.sf_standard.proofs.Listed.{Contains-from_map, each-contains}
@@ -29,25 +32,34 @@ pub child_at : (parent child : Parts) (children : List Parts) (i : ℕ) → chil
 child_at parent child children i e lt is =
     subst (λ v. Contains v child) e (subst (Contains children) (sym is) (Contains-get_or children i child lt))
 
-kept : (design : Design) (parent child : Parts) (t : Token) → IsSubproblem design parent → CanStep parent (step_of t) → child ≡ after parent (step_of t) → is_operand (last_or token.Beside child.tokens) ≡ true → is_complete child ≡ false → standard design parent ≡ standard design child
-kept design parent child token.Beside sub can e ends incomplete =
-    absurd (true≢false (sym ends ∙ ap (λ v. is_operand (last_or token.Beside v.tokens)) e ∙ ap is_operand (last_or-push token.Beside token.Beside parent.tokens)))
-kept design parent child token.Above sub can e ends incomplete =
-    absurd (true≢false (sym ends ∙ ap (λ v. is_operand (last_or token.Beside v.tokens)) e ∙ ap is_operand (last_or-push token.Beside token.Above parent.tokens)))
-kept design parent child (token.Block b) sub can e ends incomplete =
-    sym (ap (standard design) e ∙ block_keeps design parent b sub can (ap is_complete (sym e) ∙ incomplete))
-
--- a child that ends in a block and is incomplete keeps the value
-pub child_keeps : (design : Design) (parent child : Parts) → IsSubproblem design parent → Contains (extended parent) child → is_operand (last_or token.Beside child.tokens) ≡ true → is_complete child ≡ false → standard design parent ≡ standard design child
-child_keeps design parent child sub c ends incomplete =
+-- a child by extending, with its parent's value
+pub child_born : (design : Design) (bound : Parts → ℕ) (value : ℕ) (parent child : Parts) → IsSubproblem design parent → value ≡ bound parent → Contains (extended parent) child → IsChildOf design bound value child
+child_born design bound value parent child sub worth c =
     let k = Contains-from_map (λ t. after parent (step_of t)) (next_tokens parent) child c in
-    kept design parent child k.0 sub (each-contains (λ t. CanStep parent (step_of t)) (next_tokens parent) k.0 (next-can parent) k.1) (sym k.2) ends incomplete
+    record { parent = parent; step = step_of k.0; sub = sub; can = each-contains (λ t. CanStep parent (step_of t)) (next_tokens parent) k.0 (next-can parent) k.1; is = sym k.2; worth = worth }
 
--- one value more
-pub values_more : {X : Type 0} (f : X → ℕ) (xs : List X) (values new : List ℕ) (i : ℕ) (x : X) (v : ℕ) → i < length xs → x ≡ get_or xs i x → values ≡ map f (take i xs) → v ≡ f x → new ≡ values ++ v ∷ [] → new ≡ map f (take (i + 1) xs)
-values_more f xs values new i x v lt is before at e =
-    e ∙ ap (λ w. w ++ v ∷ []) before ∙ ap (λ n. map f (take i xs) ++ n ∷ []) at
-    ∙ sym (ap (map f) (take_more xs i x lt ∙ ap (λ y. take i xs ++ y ∷ []) (sym is)) ∙ map-append f (take i xs) (x ∷ []))
+get-last : {X : Type 0} (xs : List X) (x : X) (i : ℕ) → i ≡ length xs → slice_get (xs ++ x ∷ []) i ≡ Some x
+get-last [] x i e = ap (slice_get (x ∷ [])) e
+get-last (y ∷ xs) x i e = ap (slice_get (y ∷ (xs ++ x ∷ []))) e ∙ get-last xs x (length xs) refl
+
+module _ (design : Design) (bound : Parts → ℕ) (value : ℕ) (child : Parts) (c : IsChildOf design bound value child) where
+  pub child_of : IsSubproblem design child
+  child_of = subst (IsSubproblem design) (sym c.is) (after-subproblem design c.parent c.step c.sub c.can)
+
+  last_step : (steps : List Step) (s : Step) → steps ≡ child.steps → Some s ≡ slice_get steps (length steps - 1) → c.step ≡ s
+  last_step steps s e k =
+      let all : steps ≡ c.parent.steps ++ c.step ∷ [] = e ∙ ap (λ n. n.steps) c.is ∙ steps-after c.parent c.step in
+      let place : length steps - 1 ≡ length c.parent.steps = omega (arith, ap length all, length-append c.parent.steps (c.step ∷ [])) in
+      let got : Some s ≡ Some c.step = k ∙ ap (λ xs. slice_get xs (length steps - 1)) all ∙ get-last c.parent.steps c.step (length steps - 1) place in
+      cc
+
+-- a child by a block that is not complete has the value of its parent
+pub block_child : (design : Design) (value b : ℕ) (child : Parts) (steps : List Step) (s : Step) → IsChildOf design (standard design) value child → steps ≡ child.steps → Some s ≡ slice_get steps (length steps - 1) → s ≡ Block b → is_complete child ≡ false → value ≡ standard design child
+block_child design value b child steps s c e k is incomplete =
+    let step : c.step ≡ Block b = last_step design (standard design) value child c steps s e k ∙ is in
+    let after_block : child ≡ after c.parent (Block b) = c.is ∙ ap (after c.parent) step in
+    let can : CanStep c.parent (Block b) = subst (CanStep c.parent) step c.can in
+    c.worth ∙ sym (ap (standard design) after_block ∙ block_keeps design c.parent b c.sub can (ap is_complete (sym after_block) ∙ incomplete))
 
 -- the last child, where there is one
 pub popped_sub : (design : Design) (parent : Parts) (others : List Parts) (child : Option Parts) → IsSubproblem design parent → extended parent ≡ others ++ option_to_list child → IfSome child (IsSubproblem design)

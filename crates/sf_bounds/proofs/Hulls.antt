@@ -1,18 +1,17 @@
 -- What the pins of a net share in each item tells the hull part.
 use Rattle.std.proofs.Common.{◌≡◌, ◌≢◌, ℕ, ◌+◌, ◌*◌, ◌<◌, ◌≤◌, max, List, [], ◌∷◌, ◌++◌, length, reverse, map, get_or, arith, refl, ap, sym, subst, ◌∙◌, ◌⊎◌, inl, inr, Bool, true, false, ◌==◌, cond}
-use Rattle.std.specs.Prelude.{Contains, fold, filter, nat_lt, if◌then◌else◌, pos, ◌-ℤ◌}
+use Rattle.std.specs.Prelude.{Contains, fold, if◌then◌else◌, Option, Some, None, IfSome, pos, ◌-ℤ◌}
 use Rattle.std.specs.List.{AllByRecursion}
-use Rattle.std.proofs.lemmas.Bool.{cases_eq, cases_lt, ne_eqb, eq-eqb, eqb-true, lt-ltb, le-ltb, cond-true, cond-false, cond_both, true≢false}
+use Rattle.std.proofs.lemmas.Bool.{cases_eq, ne_eqb, eq-eqb, eqb-true, cond-true, cond-false, cond_both}
 use Rattle.std.proofs.lemmas.List.{reverse-append, length-reverse, get_or_default}
 use Rattle.std.proofs.lemmas.List.Elements.{recursion_from_All, All-contains, Contains-append_cases, Contains-append_left, Contains-append_right, Contains-get_or}
 use Rattle.sf_model.specs.declared.design.Design.{Design}
-use Rattle.sf_model.specs.declared.parts.Net.{Net}
 use Rattle.sf_model.specs.declared.parts.Pin.{Pin}
 use Rattle.sf_model.specs.declared.parts.Pin.TheVariants as pin
 use Rattle.sf_model.specs.Legal.{block_count}
 use Rattle.sf_model.specs.Limits.{pin_number, pin_count}
 use Rattle.sf_model.specs.Wire.{pad_at}
-use Rattle.sf_model.proofs.Each.{each-map, each-filter, each-weaker}
+use Rattle.sf_model.proofs.Each.{each-weaker}
 use Rattle.sf_node.specs.Parts.{Parts}
 use Rattle.sf_node.specs.Subproblem.{is_complete}
 use Rattle.sf_node.specs.Children.{IsSubproblem}
@@ -22,209 +21,183 @@ use Rattle.sf_standard.specs.declared.hull.Interval.{Interval}
 use Rattle.sf_standard.specs.declared.hull.Offset.{Offset}
 use Rattle.sf_standard.specs.Items as item
 use Rattle.sf_standard.specs.Items.{Item, items_of}
-use Rattle.sf_standard.specs.Hull.{to_nat, gap, point, offsets, offset_x, offset_y, contains_pin, of_net, pads_x, pads_y, hull_of, hull_part}
+use Rattle.sf_standard.specs.Hull.{to_nat, gap, point, offsets, offset_x, offset_y, contains_pin, of_pins, pads_x, pads_y, hull_of, hull_part}
 use Rattle.sf_standard.proofs.Exact.{whole-item}
-use Rattle.sf_standard.proofs.Listed.{Contains-map, Contains-from_map, Contains-filter, Contains-from_filter}
+use Rattle.sf_standard.proofs.Listed.{Contains-map, Contains-from_map}
+use Rattle.sf_standard.proofs.Members.{pin-found, pin-from, offset-found, offset-from, pads-found, pads-from}
+use Rattle.sf_bounds.specs.declared.layout.Home.{Home}
 use Rattle.sf_bounds.specs.declared.layout.Layout.{Layout}
 use Rattle.sf_bounds.specs.declared.reach.Reach.{Reach}
-use Rattle.sf_bounds.specs.Layout.{extent_in}
+use Rattle.sf_bounds.specs.Layout.{extent_in, seat_at}
 use Rattle.sf_bounds.specs.Near.{IsNear, IsNearby, shared, met, anywhere, reach_gap}
-use Rattle.sf_bounds.specs.Pins.{IsNet, IsLayout, extent_from, seat_from, pin_item, pin_reach, gathers, shared_gap}
+use Rattle.sf_bounds.specs.Pins.{IsNet, IsLayout, extent_from, home_in, standing_at, pad_reach, pin_home, narrowed, narrowed_in, shared_in, shared_homes, home_gap, greatest_gap}
 use Rattle.sf_bounds.proofs.Meeting.{gap-shared, gap-same}
-use Rattle.sf_bounds.proofs.Reading.{near_reach}
-use Rattle.sf_bounds.proofs.Readied.{held-count, seat-block, seat-found, seat-stands, readied}
+use Rattle.sf_bounds.proofs.Reading.{if-some, near_home, standing_ready}
+use Rattle.sf_bounds.proofs.Readied.{held-count, extent-same, home-found, home-stands, readied}
 
--- pins and blocks of a net
-pin-found : (b : ℕ) (pins : List Pin) → Contains pins (pin.Block b) → contains_pin b pins ≡ true
-pin-found b [] c = absurd (not_in_nil (pin.Block b) c)
-pin-found b (pin.Block k ∷ pins) c =
-    elim (Contains-cons_cases (pin.Block k) pins (pin.Block b) c) [
-      | inl e ↦ (let same : k ≡ b = cc in cond-true (k == b) true (contains_pin b pins) (eq-eqb k b same))
-      | inr d ↦ (let rest = pin-found b pins d in cond_both (k == b) true (contains_pin b pins) (λ v. v ≡ true) (λ _. refl) (λ _. rest))
-    ]
-pin-found b (pin.Pad k ∷ pins) c =
-    elim (Contains-cons_cases (pin.Pad k) pins (pin.Block b) c) [
-      | inl e ↦ cc
-      | inr d ↦ pin-found b pins d
-    ]
+-- what the pins with a home in the item i are measured by, one way
+module _ (side : Reach → Interval) (i : ℕ) where
+  abbrev pub pick : Option Home → List Interval → List Interval
+  pick None rest = rest
+  pick (Some h) rest = if h.item == i then (side h.reach ∷ rest) else rest
 
-pin-from : (b : ℕ) (pins : List Pin) → contains_pin b pins ≡ true → Contains pins (pin.Block b)
-pin-from b [] e = absurd (true≢false (sym e))
-pin-from b (pin.Block k ∷ pins) e =
-    elim (cases_eq k b) [
-      | inl same ↦ subst (λ v. Contains (pin.Block k ∷ pins) (pin.Block v)) same (Contains-head (pin.Block k) pins)
-      | inr ne ↦ Contains-tail (pin.Block k) pins (pin.Block b) (pin-from b pins (sym (cond-false (k == b) true (contains_pin b pins) (ne_eqb k b ne)) ∙ e))
-    ]
-pin-from b (pin.Pad k ∷ pins) e = Contains-tail (pin.Pad k) pins (pin.Block b) (pin-from b pins e)
+  abbrev pub picked : (Pin → Option Home) → List Pin → List Interval
+  picked home [] = []
+  picked home (p ∷ pins) = pick (home p) (picked home pins)
 
-offset-found : (net : Net) (os : List Offset) (o : Offset) → Contains os o → contains_pin o.block net.pins ≡ true → Contains (of_net net os) o
-offset-found net [] o c e = absurd (not_in_nil o c)
-offset-found net (x ∷ os) o c e =
-    elim (Contains-cons_cases x os o c) [
-      | inl same ↦ subst (λ v. Contains v o) (sym (cond-true (contains_pin x.block net.pins) (x ∷ of_net net os) (of_net net os) (ap (λ v. contains_pin v.block net.pins) same ∙ e))) (subst (Contains (x ∷ of_net net os)) same (Contains-head x (of_net net os)))
-      | inr d ↦ (let k = offset-found net os o d e in
-          cond_both (contains_pin x.block net.pins) (x ∷ of_net net os) (of_net net os) (λ v. Contains v o) (λ _. Contains-tail x (of_net net os) o k) (λ _. k))
-    ]
+  -- a pin that is measured there
+  pub record IsPicked (home : Pin → Option Home) (pins : List Pin) (z : Interval) : Type 0 where
+    pub pin : Pin
+    pub found : Contains pins pin
+    pub at : Home
+    pub has : home pin ≡ Some at
+    pub item : at.item ≡ i
+    pub is : side at.reach ≡ z
 
-offset-from : (net : Net) (os : List Offset) (o : Offset) → Contains (of_net net os) o → Contains os o × (contains_pin o.block net.pins ≡ true)
-offset-from net [] o c = absurd (not_in_nil o c)
-offset-from net (x ∷ os) o c =
-    cond_both (contains_pin x.block net.pins) (x ∷ of_net net os) (of_net net os) (λ v. Contains v o → Contains (x ∷ os) o × (contains_pin o.block net.pins ≡ true))
-    (λ is d. elim (Contains-cons_cases x (of_net net os) o d) [
-      | inl e ↦ (subst (Contains (x ∷ os)) e (Contains-head x os), ap (λ v. contains_pin v.block net.pins) (sym e) ∙ is)
-      | inr k ↦ (let r = offset-from net os o k in (Contains-tail x os o r.0, r.1))
-    ])
-    (λ is d. let r = offset-from net os o d in (Contains-tail x os o r.0, r.1)) c
+  pick-rest : (o : Option Home) (xs : List Interval) (z : Interval) → Contains xs z → Contains (pick o xs) z
+  pick-rest None xs z k = k
+  pick-rest (Some v) xs z k = cond_both (v.item == i) (side v.reach ∷ xs) xs (λ ys. Contains ys z) (λ _. Contains-tail (side v.reach) xs z k) (λ _. k)
 
--- the points of the pads of a net
-module _ (design : Design) (place : ℕ → Interval) (pads : List Pin → List Interval)
-    (none : pads [] ≡ []) (skips : (b : ℕ) (pins : List Pin) → pads (pin.Block b ∷ pins) ≡ pads pins) (takes : (p : ℕ) (pins : List Pin) → pads (pin.Pad p ∷ pins) ≡ place p ∷ pads pins) where
-  pads-found : (pins : List Pin) (q : ℕ) → Contains pins (pin.Pad q) → Contains (pads pins) (place q)
-  pads-found [] q c = absurd (not_in_nil (pin.Pad q) c)
-  pads-found (pin.Block b ∷ pins) q c =
-      elim (Contains-cons_cases (pin.Block b) pins (pin.Pad q) c) [
-        | inl e ↦ absurd (cc)
-        | inr d ↦ subst (λ v. Contains v (place q)) (sym (skips b pins)) (pads-found pins q d)
+  pub picked-to : (home : Pin → Option Home) (pins : List Pin) (p : Pin) (h : Home) → Contains pins p → home p ≡ Some h → h.item ≡ i → Contains (picked home pins) (side h.reach)
+  picked-to home [] p h c e g = absurd (not_in_nil p c)
+  picked-to home (q ∷ pins) p h c e g =
+      elim (Contains-cons_cases q pins p c) [
+        | inl same ↦ subst (λ o. Contains (pick o (picked home pins)) (side h.reach)) (sym (ap home same ∙ e))
+            (subst (λ v. Contains v (side h.reach)) (sym (cond-true (h.item == i) (side h.reach ∷ picked home pins) (picked home pins) (eq-eqb h.item i g))) (Contains-head (side h.reach) (picked home pins)))
+        | inr d ↦ pick-rest (home q) (picked home pins) (side h.reach) (picked-to home pins p h d e g)
       ]
-  pads-found (pin.Pad p ∷ pins) q c =
-      subst (λ v. Contains v (place q)) (sym (takes p pins)) (elim (Contains-cons_cases (pin.Pad p) pins (pin.Pad q) c) [
-        | inl e ↦ (let same : p ≡ q = cc in subst (λ v. Contains (place p ∷ pads pins) (place v)) same (Contains-head (place p) (pads pins)))
-        | inr d ↦ Contains-tail (place p) (pads pins) (place q) (pads-found pins q d)
+
+  picked-later : (home : Pin → Option Home) (p : Pin) (pins : List Pin) (z : Interval) → IsPicked home pins z → IsPicked home (p ∷ pins) z
+  picked-later home p pins z k = record { pin = k.pin; found = Contains-tail p pins k.pin k.found; at = k.at; has = k.has; item = k.item; is = k.is }
+
+  pick-from : (home : Pin → Option Home) (p : Pin) (pins : List Pin) (z : Interval) (o : Option Home) → home p ≡ o → (Contains (picked home pins) z → IsPicked home pins z) → Contains (pick o (picked home pins)) z → IsPicked home (p ∷ pins) z
+  pick-from home p pins z None e rest d = picked-later home p pins z (rest d)
+  pick-from home p pins z (Some h) e rest d =
+      cond_both (h.item == i) (side h.reach ∷ picked home pins) (picked home pins) (λ v. Contains v z → IsPicked home (p ∷ pins) z)
+      (λ yes k. elim (Contains-cons_cases (side h.reach) (picked home pins) z k) [
+        | inl same ↦ record { pin = p; found = Contains-head p pins; at = h; has = e; item = eqb-true h.item i yes; is = same }
+        | inr l ↦ picked-later home p pins z (rest l)
       ])
+      (λ _ k. picked-later home p pins z (rest k)) d
 
-  pads-from : (pins : List Pin) (z : Interval) → Contains (pads pins) z → (q : ℕ) × Contains pins (pin.Pad q) × (place q ≡ z)
-  pads-from [] z c = absurd (not_in_nil z (subst (λ v. Contains v z) none c))
-  pads-from (pin.Block b ∷ pins) z c =
-      let k = pads-from pins z (subst (λ v. Contains v z) (skips b pins) c) in
-      (k.0, Contains-tail (pin.Block b) pins (pin.Pad k.0) k.1, k.2)
-  pads-from (pin.Pad p ∷ pins) z c =
-      elim (Contains-cons_cases (place p) (pads pins) z (subst (λ v. Contains v z) (takes p pins) c)) [
-        | inl e ↦ (p, Contains-head (pin.Pad p) pins, e)
-        | inr d ↦ (let k = pads-from pins z d in (k.0, Contains-tail (pin.Pad p) pins (pin.Pad k.0) k.1, k.2))
+  pub picked-from : (home : Pin → Option Home) (pins : List Pin) (z : Interval) → Contains (picked home pins) z → IsPicked home pins z
+  picked-from home [] z c = absurd (not_in_nil z c)
+  picked-from home (p ∷ pins) z c = pick-from home p pins z (home p) refl (λ d. picked-from home pins z d) c
+
+  pick-each : (P : Interval → Type 0) (o : Option Home) (xs : List Interval) → IfSome o (λ h. P (side h.reach)) → AllByRecursion P xs → AllByRecursion P (pick o xs)
+  pick-each P None xs k r = r
+  pick-each P (Some v) xs k r = cond_both (v.item == i) (side v.reach ∷ xs) xs (AllByRecursion P) (λ _. (k, r)) (λ _. r)
+
+  pub picked-near : (P : Interval → Type 0) (home : Pin → Option Home) (pins : List Pin) → AllByRecursion (λ p. IfSome (home p) (λ h. P (side h.reach))) pins → AllByRecursion P (picked home pins)
+  picked-near P home [] h = tt
+  picked-near P home (p ∷ pins) h = pick-each P (home p) (picked home pins) h.0 (picked-near P home pins h.1)
+
+  narrow-side : ((r s : Reach) → side (met r s) ≡ shared (side r) (side s)) → (r : Reach) (o : Option Home) (xs : List Interval) → fold shared (side (narrowed_in i r o)) xs ≡ fold shared (side r) (pick o xs)
+  narrow-side meets r None xs = refl
+  narrow-side meets r (Some h) xs =
+      elim (h.item == i) as (λ t. fold shared (side (if t then met r h.reach else r)) xs ≡ fold shared (side r) (if t then (side h.reach ∷ xs) else xs)) [
+        | true ↦ ap (λ v. fold shared v xs) (meets r h.reach)
+        | false ↦ refl
       ]
 
-module _ (design : Design) (layout : Layout) (j : ℕ) where
-  abbrev in_item : Pin → Bool
-  in_item p = pin_item layout p == j
-
-  gather-across : (r : Reach) (pins : List Pin) → (fold (gathers design layout j) r pins).across ≡ fold shared r.across (map (λ p. (pin_reach design layout p).across) (filter (λ p. pin_item layout p == j) pins))
-  gather-across r [] = refl
-  gather-across r (p ∷ pins) =
-      elim (pin_item layout p == j) as (λ t. (fold (gathers design layout j) (if t then met r (pin_reach design layout p) else r) pins).across ≡ fold shared r.across (map (λ p. (pin_reach design layout p).across) (cond t (p ∷ filter (λ p. pin_item layout p == j) pins) (filter (λ p. pin_item layout p == j) pins)))) [
-        | true ↦ gather-across (met r (pin_reach design layout p)) pins
-        | false ↦ gather-across r pins
-      ]
-
-  gather-upward : (r : Reach) (pins : List Pin) → (fold (gathers design layout j) r pins).upward ≡ fold shared r.upward (map (λ p. (pin_reach design layout p).upward) (filter (λ p. pin_item layout p == j) pins))
-  gather-upward r [] = refl
-  gather-upward r (p ∷ pins) =
-      elim (pin_item layout p == j) as (λ t. (fold (gathers design layout j) (if t then met r (pin_reach design layout p) else r) pins).upward ≡ fold shared r.upward (map (λ p. (pin_reach design layout p).upward) (cond t (p ∷ filter (λ p. pin_item layout p == j) pins) (filter (λ p. pin_item layout p == j) pins)))) [
-        | true ↦ gather-upward (met r (pin_reach design layout p)) pins
-        | false ↦ gather-upward r pins
-      ]
+  pub gather-side : ((r s : Reach) → side (met r s) ≡ shared (side r) (side s)) → (home : Pin → Option Home) (r : Reach) (pins : List Pin) → side (fold (λ r p. narrowed_in i r (home p)) r pins) ≡ fold shared (side r) (picked home pins)
+  gather-side meets home r [] = refl
+  gather-side meets home r (p ∷ pins) = gather-side meets home (narrowed_in i r (home p)) pins ∙ narrow-side meets r (home p) (picked home pins)
 
 module _ (design : Design) (node : Parts) (layout : Layout) (sub : IsSubproblem design node) (m : IsLayout design node layout) (pins : List Pin) (net : IsNet design pins) where
   abbrev these : List Item
   these = reverse (items_of node)
 
-  abbrev seat : ℕ → Offset
-  seat b = (seat_from layout.table.items b).offset
+  abbrev home : Pin → Option Home
+  home = pin_home design layout.table.items (is_complete node)
 
   block-inside : (b : ℕ) → Contains pins (pin.Block b) → b < block_count design
   block-inside b c = All-contains (λ p. pin_number p < pin_count (length design.blocks) (length design.pads) p) pins (pin.Block b) net c
 
   -- one way to measure: across or upward
   module _ (side : Reach → Interval) (off : Offset → Interval) (place : ℕ → Interval) (pads : List Pin → List Interval)
-      (block_side : (b : ℕ) → b < block_count design → side (pin_reach design layout (pin.Block b)) ≡ off (seat b)) (pad_side : (q : ℕ) → side (pin_reach design layout (pin.Pad q)) ≡ place q)
+      (block_side : (o : Offset) (j : ℕ) → o.block < block_count design → side (home_in (extent_from layout.extents.items o.block) (seat_at j o)).reach ≡ off o) (pad_side : (q : ℕ) → side (pad_reach design q) ≡ place q)
       (found : (q : ℕ) → Contains pins (pin.Pad q) → Contains (pads pins) (place q)) (from : (z : Interval) → Contains (pads pins) z → (q : ℕ) × Contains pins (pin.Pad q) × (place q ≡ z)) where
     abbrev own : ℕ → List Interval
-    own j = map (λ p. side (pin_reach design layout p)) (filter (λ p. pin_item layout p == j) pins)
+    own j = picked side j (pin_home design layout.table.items (is_complete node)) pins
 
     abbrev stated : Item → List Interval
-    stated i = map off (of_net (record { pins = pins }) (offsets (extent_in design node) i)) ++ cond (is_complete node) (pads pins) []
+    stated i = map off (of_pins pins (offsets (extent_in design node) i)) ++ cond (is_complete node) (pads pins) []
 
     one-item : is_complete node ≡ true → length these ≡ 1
     one-item complete = omega (arith, length-reverse (items_of node), ap length (whole-item design node sub complete).1.items)
 
     to-stated : (j : ℕ) (d : Item) (z : Interval) → j < length these → Contains (own j) z → Contains (stated (get_or these j d)) z
     to-stated j d z lt c =
-        let os = offsets (extent_in design node) (get_or these j d) in
-        let k = Contains-from_map (λ p. side (pin_reach design layout p)) (filter (λ p. pin_item layout p == j) pins) z c in
-        let f = Contains-from_filter (λ p. pin_item layout p == j) pins k.0 k.1 in
-        subst (Contains (stated (get_or these j d))) k.2 (by-pin k.0 f.0 (eqb-true (pin_item layout k.0) j f.1))
+        let k = picked-from side j (pin_home design layout.table.items (is_complete node)) pins z c in
+        subst (Contains (stated (get_or these j d))) k.is (by-pin k.pin k.found k.at k.has k.item)
       where
-        by-pin : (p : Pin) → Contains pins p → pin_item layout p ≡ j → Contains (stated (get_or these j d)) (side (pin_reach design layout p))
-        by-pin (pin.Block b) cp e =
-            let lt_b = block-inside b cp in
-            let os = offsets (extent_in design node) (get_or these j d) in
-            let here : Contains os (seat b) = subst (λ n. Contains (offsets (extent_in design node) (get_or these n d)) (seat b)) e (seat-stands design node layout m b d lt_b (omega (arith, e, lt))) in
-            let listed : contains_pin (seat b).block pins ≡ true = ap (λ v. contains_pin v pins) (seat-block design node layout m b lt_b) ∙ pin-found b pins cp in
-            Contains-append_left (map off (of_net (record { pins = pins }) os)) (cond (is_complete node) (pads pins) []) (side (pin_reach design layout (pin.Block b)))
-            (subst (Contains (map off (of_net (record { pins = pins }) os))) (sym (block_side b lt_b)) (Contains-map off (of_net (record { pins = pins }) os) (seat b) (offset-found (record { pins = pins }) os (seat b) here listed)))
-        by-pin (pin.Pad q) cp e =
-            let os = offsets (extent_in design node) (get_or these j d) in
-            Contains-append_right (map off (of_net (record { pins = pins }) os)) (cond (is_complete node) (pads pins) []) (side (pin_reach design layout (pin.Pad q)))
-            (subst (Contains (cond (is_complete node) (pads pins) [])) (sym (pad_side q))
-            (cond_both (is_complete node) (pads pins) [] (λ v. Contains v (place q)) (λ _. found q cp)
-            (λ no. absurd (omega (arith, lt, e, m.pads, ap (λ (t : Bool). cond t 0 (length layout.held.items)) no, held-count design node layout m)))))
+        os : List Offset
+        os = offsets (extent_in design node) (get_or these j d)
+
+        by-pin : (p : Pin) → Contains pins p → (h : Home) → pin_home design layout.table.items (is_complete node) p ≡ Some h → h.item ≡ j → Contains (stated (get_or these j d)) (side h.reach)
+        by-pin (pin.Block b) cp h has e =
+            let st = home-stands design node layout m b h (block-inside b cp) has in
+            let ls = offsets (extent_in design node) (get_or these j d) in
+            let here : Contains ls st.offset = subst (λ n. Contains (offsets (extent_in design node) (get_or these n d)) st.offset) e (st.stands d) in
+            let listed : contains_pin st.offset.block pins ≡ true = ap (λ v. contains_pin v pins) st.block ∙ pin-found b pins cp in
+            Contains-append_left (map off (of_pins pins ls)) (cond (is_complete node) (pads pins) []) (side h.reach)
+            (subst (Contains (map off (of_pins pins ls))) (sym (ap (λ v. side v.reach) st.is ∙ block_side st.offset h.item (omega (arith, st.block, block-inside b cp))))
+            (Contains-map off (of_pins pins ls) st.offset (offset-found pins ls st.offset here listed)))
+        by-pin (pin.Pad q) cp h has e = by-complete (is_complete node) has
+          where
+            by-complete : (t : Bool) → cond t (Some (let v : Home = record { item = 0; reach = pad_reach design q } in v)) None ≡ Some h → Contains (map off (of_pins pins (offsets (extent_in design node) (get_or these j d))) ++ cond t (pads pins) []) (side h.reach)
+            by-complete true g =
+                let same : (let v : Home = record { item = 0; reach = pad_reach design q } in v) ≡ h = cc in
+                Contains-append_right (map off (of_pins pins (offsets (extent_in design node) (get_or these j d)))) (pads pins) (side h.reach) (subst (Contains (pads pins)) (sym (pad_side q) ∙ ap (λ v. side v.reach) same) (found q cp))
+            by-complete false g = absurd (cc)
 
     from-stated : (j : ℕ) (d : Item) (z : Interval) → j < length these → Contains (stated (get_or these j d)) z → Contains (own j) z
     from-stated j d z lt c =
-        let os = offsets (extent_in design node) (get_or these j d) in
-        elim (Contains-append_cases (map off (of_net (record { pins = pins }) os)) (cond (is_complete node) (pads pins) []) z c) [
-          | inl h ↦ (let o = Contains-from_map off (of_net (record { pins = pins }) os) z h in
-              let f = offset-from (record { pins = pins }) os o.0 o.1 in
+        let ls = offsets (extent_in design node) (get_or these j d) in
+        elim (Contains-append_cases (map off (of_pins pins ls)) (cond (is_complete node) (pads pins) []) z c) [
+          | inl h ↦ (let o = Contains-from_map off (of_pins pins ls) z h in
+              let f = offset-from pins ls o.0 o.1 in
               let cp = pin-from o.0.block pins f.1 in
-              let s = seat-found design node layout m j d o.0 lt f.0 in
-              own-pin (pin.Block o.0.block) cp (ap (λ v. v.item) s.1) (block_side o.0.block s.0 ∙ ap (λ v. off v.offset) s.1 ∙ o.2))
+              let s = home-found design node layout m j d o.0 lt f.0 in
+              subst (Contains (own j)) (block_side o.0 j s.0 ∙ o.2) (picked-to side j (pin_home design layout.table.items (is_complete node)) pins (pin.Block o.0.block) (home_in (extent_from layout.extents.items o.0.block) (seat_at j o.0)) cp s.1 refl))
           | inr h ↦ cond_both (is_complete node) (pads pins) [] (λ v. Contains v z → Contains (own j) z)
               (λ yes k. let q = from z k in
-              own-pin (pin.Pad q.0) q.1 (omega (arith, lt, one-item yes, m.pads, ap (λ (t : Bool). cond t 0 (length layout.held.items)) yes)) (pad_side q.0 ∙ q.2))
+              subst (Contains (own j)) (pad_side q.0 ∙ q.2) (picked-to side j (pin_home design layout.table.items (is_complete node)) pins (pin.Pad q.0) (record { item = 0; reach = pad_reach design q.0 }) q.1
+              (ap (λ t. cond t (Some (let v : Home = record { item = 0; reach = pad_reach design q.0 } in v)) None) yes) (omega (arith, lt, one-item yes))))
               (λ _ k. absurd (not_in_nil z k)) h
         ]
-      where
-        own-pin : (p : Pin) → Contains pins p → pin_item layout p ≡ j → side (pin_reach design layout p) ≡ z → Contains (own j) z
-        own-pin p cp e is =
-            subst (Contains (own j)) is (Contains-map (λ p. side (pin_reach design layout p)) (filter (λ p. pin_item layout p == j) pins) p (Contains-filter (λ p. pin_item layout p == j) pins p cp (eq-eqb (pin_item layout p) j e)))
 
-    gaps-agree : (j : ℕ) (d : Item) → j < length these → gap (own j) ≡ gap (stated (get_or these j d))
+    pub gaps-agree : (j : ℕ) (d : Item) → j < length these → gap (own j) ≡ gap (stated (get_or these j d))
     gaps-agree j d lt = gap-same (own j) (stated (get_or these j d)) (λ z c. to-stated j d z lt c) (λ z c. from-stated j d z lt c)
 
-  extent-same : (b : ℕ) → b < block_count design → extent_from layout.extents.items b ≡ extent_in design node b
-  extent-same b lt = m.extents.each b (record { least_w = 0; most_w = 0; least_h = 0; most_h = 0 }) lt
+  block-across : (o : Offset) (j : ℕ) → o.block < block_count design → (home_in (extent_from layout.extents.items o.block) (seat_at j o)).reach.across ≡ offset_x (extent_in design node) o
+  block-across o j lt = ap (λ (v : Extent). (let i : Interval = record { low = pos (2 * o.least_x + v.least_w); high = pos (2 * o.most_x + v.most_w) } in i)) (extent-same design node layout m o.block lt)
 
-  block-across : (b : ℕ) → b < block_count design → (pin_reach design layout (pin.Block b)).across ≡ offset_x (extent_in design node) (seat b)
-  block-across b lt =
-      let e = extent-same (seat b).block (omega (arith, lt, seat-block design node layout m b lt)) in
-      ap (λ (v : Extent). (let i : Interval = record { low = pos (2 * (seat b).least_x + v.least_w); high = pos (2 * (seat b).most_x + v.most_w) } in i)) e
-
-  block-upward : (b : ℕ) → b < block_count design → (pin_reach design layout (pin.Block b)).upward ≡ offset_y (extent_in design node) (seat b)
-  block-upward b lt =
-      let e = extent-same (seat b).block (omega (arith, lt, seat-block design node layout m b lt)) in
-      ap (λ (v : Extent). (let i : Interval = record { low = pos (2 * (seat b).least_y + v.least_h); high = pos (2 * (seat b).most_y + v.most_h) } in i)) e
+  block-upward : (o : Offset) (j : ℕ) → o.block < block_count design → (home_in (extent_from layout.extents.items o.block) (seat_at j o)).reach.upward ≡ offset_y (extent_in design node) o
+  block-upward o j lt = ap (λ (v : Extent). (let i : Interval = record { low = pos (2 * o.least_y + v.least_h); high = pos (2 * o.most_y + v.most_h) } in i)) (extent-same design node layout m o.block lt)
 
   -- the gap of an item's pins
-  item-agrees : (j : ℕ) (d : Item) → j < length these → reach_gap (fold (gathers design layout j) anywhere pins) ≡ hull_of design (extent_in design node) (is_complete node) (record { pins = pins }) (get_or these j d)
+  item-agrees : (j : ℕ) (d : Item) → j < length these → reach_gap (shared_in design layout.table.items (is_complete node) pins j) ≡ hull_of design (extent_in design node) (is_complete node) pins (get_or these j d)
   item-agrees j d lt =
-      let r = fold (gathers design layout j) anywhere pins in
-      let fs = filter (λ p. pin_item layout p == j) pins in
+      let h = pin_home design layout.table.items (is_complete node) in
+      let r = shared_in design layout.table.items (is_complete node) pins j in
       let there = λ (p : Pin). pin_number p < pin_count (length design.blocks) (length design.pads) p in
-      let ready = readied design node layout m in
-      let near : AllByRecursion (λ p. IsNearby (pin_reach design layout p)) fs =
-      each-filter (λ p. IsNearby (pin_reach design layout p)) (λ p. pin_item layout p == j) pins (each-weaker there (λ p. IsNearby (pin_reach design layout p)) (λ p h. near_reach design layout ready p h) pins (recursion_from_All there pins net)) in
-      let xs = map (λ p. (pin_reach design layout p).across) fs in
-      let ys = map (λ p. (pin_reach design layout p).upward) fs in
+      let near : AllByRecursion (λ p. IfSome (h p) (λ v. IsNearby v.reach)) pins =
+      each-weaker there (λ p. IfSome (h p) (λ v. IsNearby v.reach)) (λ p k. near_home design (length layout.held.items) layout.table.items (readied design node layout m) (is_complete node) p k) pins (recursion_from_All there pins net) in
+      let xs = picked (λ v. v.across) j h pins in
+      let ys = picked (λ v. v.upward) j h pins in
       let x : to_nat (r.across.low -ℤ r.across.high) ≡ gap xs =
-      ap (λ i. to_nat (i.low -ℤ i.high)) (gather-across design layout j anywhere pins)
-      ∙ gap-shared xs (each-map IsNear (λ p. (pin_reach design layout p).across) fs (each-weaker (λ p. IsNearby (pin_reach design layout p)) (λ p. IsNear (pin_reach design layout p).across) (λ p h. h.0) fs near)) in
+      ap (λ i. to_nat (i.low -ℤ i.high)) (gather-side (λ v. v.across) j (λ r s. refl) h anywhere pins)
+      ∙ gap-shared xs (picked-near (λ v. v.across) j IsNear h pins (each-weaker (λ p. IfSome (h p) (λ v. IsNearby v.reach)) (λ p. IfSome (h p) (λ v. IsNear v.reach.across)) (λ p. if-some (λ v. IsNearby v.reach) (λ v. IsNear v.reach.across) (h p) (λ v k. k.0)) pins near)) in
       let y : to_nat (r.upward.low -ℤ r.upward.high) ≡ gap ys =
-      ap (λ i. to_nat (i.low -ℤ i.high)) (gather-upward design layout j anywhere pins)
-      ∙ gap-shared ys (each-map IsNear (λ p. (pin_reach design layout p).upward) fs (each-weaker (λ p. IsNearby (pin_reach design layout p)) (λ p. IsNear (pin_reach design layout p).upward) (λ p h. h.1) fs near)) in
+      ap (λ i. to_nat (i.low -ℤ i.high)) (gather-side (λ v. v.upward) j (λ r s. refl) h anywhere pins)
+      ∙ gap-shared ys (picked-near (λ v. v.upward) j IsNear h pins (each-weaker (λ p. IfSome (h p) (λ v. IsNearby v.reach)) (λ p. IfSome (h p) (λ v. IsNear v.reach.upward)) (λ p. if-some (λ v. IsNearby v.reach) (λ v. IsNear v.reach.upward) (h p) (λ v k. k.1)) pins near)) in
       let px : ℕ → Interval = λ q. point (pad_at design q).x in
       let py : ℕ → Interval = λ q. point (pad_at design q).y in
-      let gx = gaps-agree (λ v. v.across) (offset_x (extent_in design node)) px (pads_x design) block-across (λ q. refl) (pads-found design px (pads_x design) refl (λ b ps. refl) (λ p ps. refl) pins) (pads-from design px (pads_x design) refl (λ b ps. refl) (λ p ps. refl) pins) j d lt in
-      let gy = gaps-agree (λ v. v.upward) (offset_y (extent_in design node)) py (pads_y design) block-upward (λ q. refl) (pads-found design py (pads_y design) refl (λ b ps. refl) (λ p ps. refl) pins) (pads-from design py (pads_y design) refl (λ b ps. refl) (λ p ps. refl) pins) j d lt in
-      ap (λ n. n + to_nat (r.upward.low -ℤ r.upward.high)) (x ∙ gx) ∙ ap (λ n. gap (map (offset_x (extent_in design node)) (of_net (record { pins = pins }) (offsets (extent_in design node) (get_or these j d))) ++ cond (is_complete node) (pads_x design pins) []) + n) (y ∙ gy)
+      let gx = gaps-agree (λ v. v.across) (offset_x (extent_in design node)) px (pads_x design) block-across (λ q. refl) (pads-found px (pads_x design) refl (λ b ps. refl) (λ p ps. refl) pins) (pads-from px (pads_x design) refl (λ b ps. refl) (λ p ps. refl) pins) j d lt in
+      let gy = gaps-agree (λ v. v.upward) (offset_y (extent_in design node)) py (pads_y design) block-upward (λ q. refl) (pads-found py (pads_y design) refl (λ b ps. refl) (λ p ps. refl) pins) (pads-from py (pads_y design) refl (λ b ps. refl) (λ p ps. refl) pins) j d lt in
+      ap (λ n. n + to_nat (r.upward.low -ℤ r.upward.high)) (x ∙ gx) ∙ ap (λ n. gap (map (offset_x (extent_in design node)) (of_pins pins (offsets (extent_in design node) (get_or these j d))) ++ cond (is_complete node) (pads_x design pins) []) + n) (y ∙ gy)
 
 -- the greatest over the pins, and over the items
 fold-start : (f : Pin → ℕ) (n : ℕ) (pins : List Pin) → n ≤ fold (λ n p. max n (f p)) n pins
@@ -243,17 +216,17 @@ fold-most : (f : Pin → ℕ) (n m : ℕ) (pins : List Pin) → n ≤ m → ((p 
 fold-most f n m [] h g = h
 fold-most f n m (p ∷ pins) h g = fold-most f (max n (f p)) m pins (omega (arith, h, g p (Contains-head p pins))) (λ q c. g q (Contains-tail p pins q c))
 
-hull-each : (design : Design) (extent : ℕ → Extent) (complete : Bool) (is : List Item) (net : Net) (i : Item) → Contains is i → hull_of design extent complete net i ≤ hull_part design extent complete is net
-hull-each design extent complete [] net i c = absurd (not_in_nil i c)
-hull-each design extent complete (x ∷ is) net i c =
+hull-each : (design : Design) (extent : ℕ → Extent) (complete : Bool) (is : List Item) (pins : List Pin) (i : Item) → Contains is i → hull_of design extent complete pins i ≤ hull_part design extent complete is pins
+hull-each design extent complete [] pins i c = absurd (not_in_nil i c)
+hull-each design extent complete (x ∷ is) pins i c =
     elim (Contains-cons_cases x is i c) [
-      | inl e ↦ omega (arith, ap (hull_of design extent complete net) e)
-      | inr d ↦ omega (arith, hull-each design extent complete is net i d)
+      | inl e ↦ omega (arith, ap (hull_of design extent complete pins) e)
+      | inr d ↦ omega (arith, hull-each design extent complete is pins i d)
     ]
 
-hull-most : (design : Design) (extent : ℕ → Extent) (complete : Bool) (is : List Item) (net : Net) (m : ℕ) → ((i : Item) → Contains is i → hull_of design extent complete net i ≤ m) → hull_part design extent complete is net ≤ m
-hull-most design extent complete [] net m g = omega arith
-hull-most design extent complete (x ∷ is) net m g = omega (arith, g x (Contains-head x is), hull-most design extent complete is net m (λ i c. g i (Contains-tail x is i c)))
+hull-most : (design : Design) (extent : ℕ → Extent) (complete : Bool) (is : List Item) (pins : List Pin) (m : ℕ) → ((i : Item) → Contains is i → hull_of design extent complete pins i ≤ m) → hull_part design extent complete is pins ≤ m
+hull-most design extent complete [] pins m g = omega arith
+hull-most design extent complete (x ∷ is) pins m g = omega (arith, g x (Contains-head x is), hull-most design extent complete is pins m (λ i c. g i (Contains-tail x is i c)))
 
 reverse-from : {X : Type 0} (xs : List X) (x : X) → Contains (reverse xs) x → Contains xs x
 reverse-from [] x c = c
@@ -271,49 +244,105 @@ reverse-to (y ∷ xs) x c =
       | inr d ↦ Contains-append_left (reverse xs) (y ∷ []) x (reverse-to xs x d)
     ])
 
--- some pin lies in the item, or none does
-pin-in : (layout : Layout) (j : ℕ) (pins : List Pin) → ((p : Pin) × Contains pins p × (pin_item layout p ≡ j)) ⊎ AllByRecursion (λ p. pin_item layout p ≢ j) pins
-pin-in layout j [] = inr tt
-pin-in layout j (p ∷ pins) =
-    elim (cases_eq (pin_item layout p) j) [
-      | inl e ↦ inl (p, Contains-head p pins, e)
-      | inr ne ↦ elim (pin-in layout j pins) [
-        | inl k ↦ inl (k.0, Contains-tail p pins k.0 k.1, k.2)
-        | inr all ↦ inr (ne, all)
+-- some pin has a home in the item, or none does
+abbrev IsElsewhere : ℕ → Option Home → Type 0
+IsElsewhere j o = IfSome o (λ h. h.item ≢ j)
+
+abbrev HasIn : (Pin → Option Home) → ℕ → List Pin → Type 0
+HasIn at j pins = (p : Pin) × (h : Home) × Contains pins p × (at p ≡ Some h) × (h.item ≡ j)
+
+pin-first : (at : Pin → Option Home) (j : ℕ) (p : Pin) (pins : List Pin) (o : Option Home) → at p ≡ o → HasIn at j (p ∷ pins) ⊎ IsElsewhere j (at p)
+pin-first at j p pins None e = inr (subst (IsElsewhere j) (sym e) tt)
+pin-first at j p pins (Some h) e =
+    elim (cases_eq h.item j) [
+      | inl same ↦ inl (p, h, Contains-head p pins, e, same)
+      | inr ne ↦ inr (subst (IsElsewhere j) (sym e) ne)
+    ]
+
+pin-in : (at : Pin → Option Home) (j : ℕ) (pins : List Pin) → HasIn at j pins ⊎ AllByRecursion (λ p. IsElsewhere j (at p)) pins
+pin-in at j [] = inr tt
+pin-in at j (p ∷ pins) =
+    elim (pin-first at j p pins (at p) refl) [
+      | inl k ↦ inl k
+      | inr here ↦ elim (pin-in at j pins) [
+        | inl k ↦ inl (k.0, k.1, Contains-tail p pins k.0 k.2, k.3, k.4)
+        | inr all ↦ inr (here, all)
       ]
     ]
 
-gathers-none : (design : Design) (layout : Layout) (j : ℕ) (r : Reach) (pins : List Pin) → AllByRecursion (λ p. pin_item layout p ≢ j) pins → fold (gathers design layout j) r pins ≡ r
-gathers-none design layout j r [] h = refl
-gathers-none design layout j r (p ∷ pins) h =
-    ap (λ v. fold (gathers design layout j) v pins) (cond-false (pin_item layout p == j) (met r (pin_reach design layout p)) r (ne_eqb (pin_item layout p) j h.0)) ∙ gathers-none design layout j r pins h.1
+gathers-none : (home : Pin → Option Home) (j : ℕ) (r : Reach) (pins : List Pin) → AllByRecursion (λ p. IsElsewhere j (home p)) pins → fold (λ r p. narrowed_in j r (home p)) r pins ≡ r
+gathers-none home j r [] h = refl
+gathers-none home j r (p ∷ pins) h = ap (λ v. fold (λ r p. narrowed_in j r (home p)) v pins) (stays (home p) h.0) ∙ gathers-none home j r pins h.1
+  where
+    stays : (o : Option Home) → IsElsewhere j o → narrowed_in j r o ≡ r
+    stays None k = refl
+    stays (Some v) k = cond-false (v.item == j) (met r v.reach) r (ne_eqb v.item j k)
 
-pub hull_is : (design : Design) (node : Parts) (layout : Layout) → IsSubproblem design node → IsLayout design node layout → (pins : List Pin) → IsNet design pins → fold (λ n p. max n (shared_gap design layout pins p)) 0 pins ≡ hull_part design (extent_in design node) (is_complete node) (items_of node) (record { pins = pins })
-hull_is design node layout sub m pins net =
-    let extent = extent_in design node in
-    let complete = is_complete node in
-    let its = reverse (items_of node) in
-    let d : Item = item.Block 0 in
-    let f = shared_gap design layout pins in
-    let hull = hull_part design extent complete (items_of node) (record { pins = pins }) in
-    let count = held-count design node layout m in
-    let yes : (p : Pin) → pin_item layout p < length its → f p ≡ hull_of design extent complete (record { pins = pins }) (get_or its (pin_item layout p) d) = λ p lt.
-    cond-true (nat_lt (pin_item layout p) (length layout.held.items)) (reach_gap (fold (gathers design layout (pin_item layout p)) anywhere pins)) 0 (lt-ltb (pin_item layout p) (length layout.held.items) (omega (arith, lt, count)))
-    ∙ item-agrees design node layout sub m pins net (pin_item layout p) d lt in
-    let up : fold (λ n p. max n (f p)) 0 pins ≤ hull =
-    fold-most f 0 hull pins (omega arith) (λ p c. elim (cases_lt (pin_item layout p) (length its)) [
-      | inl lt ↦ omega (arith, yes p lt, hull-each design extent complete (items_of node) (record { pins = pins }) (get_or its (pin_item layout p) d) (reverse-from (items_of node) (get_or its (pin_item layout p) d) (Contains-get_or its (pin_item layout p) d lt)))
-      | inr le ↦ (let zero_gap : f p ≡ 0 = cond-false (nat_lt (pin_item layout p) (length layout.held.items)) (reach_gap (fold (gathers design layout (pin_item layout p)) anywhere pins)) 0 (le-ltb (pin_item layout p) (length layout.held.items) (omega (arith, le, count))) in omega (arith, zero_gap))
-    ]) in
-    let down : hull ≤ fold (λ n p. max n (f p)) 0 pins =
-    hull-most design extent complete (items_of node) (record { pins = pins }) (fold (λ n p. max n (f p)) 0 pins) (λ i c.
-    let at = reverse-to (items_of node) i c in
-    let same : get_or its at.0 d ≡ i = get_or_default its at.0 d i at.1 ∙ at.2 in
-    let agree = item-agrees design node layout sub m pins net at.0 d at.1 in
-    elim (pin-in layout at.0 pins) [
-      | inl k ↦ (let lt : pin_item layout k.0 < length its = omega (arith, k.2, at.1) in
-          omega (arith, fold-each f 0 pins k.0 k.1, yes k.0 lt, ap (λ n. hull_of design extent complete (record { pins = pins }) (get_or its n d)) k.2, ap (hull_of design extent complete (record { pins = pins })) same))
-      | inr none ↦ (let empty : reach_gap (fold (gathers design layout at.0) anywhere pins) ≡ 0 = ap reach_gap (gathers-none design layout at.0 anywhere pins none) in
-          omega (arith, empty, agree, ap (hull_of design extent complete (record { pins = pins })) same))
-    ]) in
-    omega (arith, up, down)
+module _ (design : Design) (node : Parts) (layout : Layout) (sub : IsSubproblem design node) (m : IsLayout design node layout) (pins : List Pin) (net : IsNet design pins) where
+  -- in an incomplete subproblem: the greatest of the items' gaps
+  pub open_hull : is_complete node ≡ false → greatest_gap design layout.table.items false (shared_in design layout.table.items false pins) pins ≡ hull_part design (extent_in design node) (is_complete node) (items_of node) pins
+  open_hull incomplete =
+      let extent = extent_in design node in
+      let its = reverse (items_of node) in
+      let d : Item = item.Block 0 in
+      let home = pin_home design layout.table.items false in
+      let at = shared_in design layout.table.items false pins in
+      let f : Pin → ℕ = λ p. home_gap at (home p) in
+      let hull = hull_part design extent false (items_of node) pins in
+      let agree : (j : ℕ) → j < length its → reach_gap (at j) ≡ hull_of design extent false pins (get_or its j d) = λ j lt.
+      subst (λ t. reach_gap (shared_in design layout.table.items t pins j) ≡ hull_of design extent t pins (get_or its j d)) incomplete (item-agrees design node layout sub m pins net j d lt) in
+      let up : fold (λ n p. max n (f p)) 0 pins ≤ hull = fold-most f 0 hull pins (omega arith) (λ p c. home-le p c (home p) refl) in
+      let down : hull ≤ fold (λ n p. max n (f p)) 0 pins =
+      hull-most design extent false (items_of node) pins (fold (λ n p. max n (f p)) 0 pins) (λ i c.
+      let k = reverse-to (items_of node) i c in
+      let same : get_or its k.0 d ≡ i = get_or_default its k.0 d i k.1 ∙ k.2 in
+      let e = agree k.0 k.1 in
+      elim (pin-in home k.0 pins) [
+        | inl q ↦ omega (arith, fold-each f 0 pins q.0 q.2, ap (home_gap at) q.3, ap (λ n. reach_gap (at n)) q.4, e, ap (hull_of design extent false pins) same)
+        | inr none ↦ (let empty : reach_gap (at k.0) ≡ 0 = ap reach_gap (gathers-none home k.0 anywhere pins none) in omega (arith, empty, e, ap (hull_of design extent false pins) same))
+      ]) in
+      let equal : fold (λ n p. max n (f p)) 0 pins ≡ hull = omega (arith, up, down) in
+      equal ∙ ap (λ t. hull_part design extent t (items_of node) pins) (sym incomplete)
+    where
+      home-le : (p : Pin) → Contains pins p → (o : Option Home) → pin_home design layout.table.items false p ≡ o → home_gap (shared_in design layout.table.items false pins) (pin_home design layout.table.items false p) ≤ hull_part design (extent_in design node) false (items_of node) pins
+      home-le p c None e = subst (λ o. home_gap (shared_in design layout.table.items false pins) o ≤ hull_part design (extent_in design node) false (items_of node) pins) (sym e) (omega arith)
+      home-le p c (Some h) e =
+          let extent = extent_in design node in
+          let its = reverse (items_of node) in
+          let d : Item = item.Block 0 in
+          let lt : h.item < length its = inside p c h e in
+          let agree : reach_gap (shared_in design layout.table.items false pins h.item) ≡ hull_of design extent false pins (get_or its h.item d) =
+          subst (λ t. reach_gap (shared_in design layout.table.items t pins h.item) ≡ hull_of design extent t pins (get_or its h.item d)) incomplete (item-agrees design node layout sub m pins net h.item d lt) in
+          omega (arith, ap (home_gap (shared_in design layout.table.items false pins)) e, agree, hull-each design extent false (items_of node) pins (get_or its h.item d) (reverse-from (items_of node) (get_or its h.item d) (Contains-get_or its h.item d lt)))
+        where
+          inside : (p : Pin) → Contains pins p → (h : Home) → pin_home design layout.table.items false p ≡ Some h → h.item < length (reverse (items_of node))
+          inside (pin.Block b) c h e = (home-stands design node layout m b h (All-contains (λ p. pin_number p < pin_count (length design.blocks) (length design.pads) p) pins (pin.Block b) net c) e).inside
+          inside (pin.Pad q) c h e = absurd (cc)
+
+  -- in a complete one: the gap of its one item
+  pub whole_hull : is_complete node ≡ true → reach_gap (shared_homes design layout.table.items pins) ≡ hull_part design (extent_in design node) (is_complete node) (items_of node) pins
+  whole_hull complete =
+      let extent = extent_in design node in
+      let d : Item = item.Block 0 in
+      let its = reverse (items_of node) in
+      let whole = whole-item design node sub complete in
+      let one : length its ≡ 1 = omega (arith, length-reverse (items_of node), ap length whole.1.items) in
+      let first : get_or its 0 d ≡ whole.0 = ap (λ v. get_or (reverse v) 0 d) whole.1.items in
+      let same : shared_homes design layout.table.items pins ≡ shared_in design layout.table.items true pins 0 = all-in-one one anywhere pins (recursion_from_All (λ p. pin_number p < pin_count (length design.blocks) (length design.pads) p) pins net) in
+      let agree : reach_gap (shared_in design layout.table.items true pins 0) ≡ hull_of design extent true pins (get_or its 0 d) =
+      subst (λ t. reach_gap (shared_in design layout.table.items t pins 0) ≡ hull_of design extent t pins (get_or its 0 d)) complete (item-agrees design node layout sub m pins net 0 d (omega (arith, one))) in
+      let hull : reach_gap (shared_homes design layout.table.items pins) ≡ max (hull_of design extent true pins whole.0) 0 = omega (arith, ap reach_gap same, agree, ap (hull_of design extent true pins) first) in
+      hull ∙ ap (λ is. hull_part design extent true is pins) (sym whole.1.items) ∙ ap (λ t. hull_part design extent t (items_of node) pins) (sym complete)
+    where
+      all-in-one : length (reverse (items_of node)) ≡ 1 → (r : Reach) (ps : List Pin) → AllByRecursion (λ p. pin_number p < pin_count (length design.blocks) (length design.pads) p) ps → fold (λ r p. narrowed r (pin_home design layout.table.items true p)) r ps ≡ fold (λ r p. narrowed_in 0 r (pin_home design layout.table.items true p)) r ps
+      all-in-one one r [] h = refl
+      all-in-one one r (p ∷ ps) h = all-in-one one (narrowed r (pin_home design layout.table.items true p)) ps h.1 ∙ ap (λ v. fold (λ r p. narrowed_in 0 r (pin_home design layout.table.items true p)) v ps) (by-pin p h.0)
+        where
+          by-home : (o : Option Home) → IfSome o (λ h. h.item ≡ 0) → narrowed r o ≡ narrowed_in 0 r o
+          by-home None k = refl
+          by-home (Some h) k = sym (cond-true (h.item == 0) (met r h.reach) r (eq-eqb h.item 0 k))
+
+          by-pin : (p : Pin) → pin_number p < pin_count (length design.blocks) (length design.pads) p → narrowed r (pin_home design layout.table.items true p) ≡ narrowed_in 0 r (pin_home design layout.table.items true p)
+          by-pin (pin.Block b) lt = by-home (standing_at layout.table.items b).home (if-some (λ h. (h.item < length layout.held.items) × IsNearby h.reach) (λ h. h.item ≡ 0) (standing_at layout.table.items b).home
+              (λ h k. omega (arith, k.0, held-count design node layout m, one)) (standing_ready design (length layout.held.items) layout.table.items (readied design node layout m) b lt).home)
+          by-pin (pin.Pad q) lt = refl

@@ -1,9 +1,11 @@
 pub mod Building
+pub mod Folded
 pub mod Adding
 pub mod Leasts
 pub mod AreaLink
 pub mod Opened
 pub mod ByArea
+pub mod ByFrames
 pub mod Nearby
 pub mod Shifting
 pub mod Telling
@@ -21,3 +23,4 @@ pub mod Alone
 pub mod Solution
 pub mod Born
 pub mod Rooted
+pub mod OnePlan

@@ -7,6 +7,7 @@ use Rattle.std.proofs.lemmas.Int.{ints, clamps}
 use Rattle.sf_curves.proofs.Members.{not_in_nil, Contains-head, Contains-tail}
 use Rattle.sf_standard.specs.declared.hull.Interval.{Interval}
 use Rattle.sf_standard.specs.Hull.{to_nat, gap}
+use Rattle.sf_standard.proofs.Gaps.{low-member, high-member, low-most, high-least}
 use Rattle.sf_standard.proofs.Listed.{each-contains, each-from}
 use Rattle.sf_bounds.specs.Near.{IsNumber, IsNear, shared, endless}
 
@@ -36,42 +37,18 @@ gap-shared (i ∷ is) h =
     ∙ ap (λ z. to_nat (z -ℤ (fold shared i is).high)) (fold-low i is)
     ∙ ap (λ z. to_nat (fold (λ z j. int_max z j.low) i.low is -ℤ z)) (fold-high i is)
 
-low-start : (a : ℤ) (is : List Interval) → a ≤ℤ fold (λ z j. int_max z j.low) a is
-low-start a [] = omega (arith, ints)
-low-start a (i ∷ is) = omega (arith, ints, clamps, low-start (int_max a i.low) is)
-
-low-each : (a : ℤ) (is : List Interval) → AllByRecursion (λ i. i.low ≤ℤ fold (λ z j. int_max z j.low) a is) is
-low-each a [] = tt
-low-each a (i ∷ is) = (omega (arith, ints, clamps, low-start (int_max a i.low) is), low-each (int_max a i.low) is)
-
-high-start : (a : ℤ) (is : List Interval) → fold (λ z j. int_min z j.high) a is ≤ℤ a
-high-start a [] = omega (arith, ints)
-high-start a (i ∷ is) = omega (arith, ints, clamps, high-start (int_min a i.high) is)
-
-high-each : (a : ℤ) (is : List Interval) → AllByRecursion (λ i. fold (λ z j. int_min z j.high) a is ≤ℤ i.high) is
-high-each a [] = tt
-high-each a (i ∷ is) = (omega (arith, ints, clamps, high-start (int_min a i.high) is), high-each (int_min a i.high) is)
-
-low-most : (a b : ℤ) (is : List Interval) → a ≤ℤ b → AllByRecursion (λ i. i.low ≤ℤ b) is → fold (λ z j. int_max z j.low) a is ≤ℤ b
-low-most a b [] h e = h
-low-most a b (i ∷ is) h e = low-most (int_max a i.low) b is (omega (arith, ints, clamps, h, e.0)) e.1
-
-high-least : (a b : ℤ) (is : List Interval) → b ≤ℤ a → AllByRecursion (λ i. b ≤ℤ i.high) is → b ≤ℤ fold (λ z j. int_min z j.high) a is
-high-least a b [] h e = h
-high-least a b (i ∷ is) h e = high-least (int_min a i.high) b is (omega (arith, ints, clamps, h, e.0)) e.1
-
 -- the greatest lower end of some of the intervals
 lows-le : (i j : Interval) (is js : List Interval) → ((z : Interval) → Contains (i ∷ is) z → Contains (j ∷ js) z) → fold (λ z j. int_max z j.low) i.low is ≤ℤ fold (λ z j. int_max z j.low) j.low js
 lows-le i j is js sub =
     let b = fold (λ z j. int_max z j.low) j.low js in
-    let each : AllByRecursion (λ k. k.low ≤ℤ b) (j ∷ js) = (low-start j.low js, low-each j.low js) in
+    let each : AllByRecursion (λ k. k.low ≤ℤ b) (j ∷ js) = low-member j js in
     let under : (z : Interval) → Contains (i ∷ is) z → z.low ≤ℤ b = λ z c. each-contains (λ k. k.low ≤ℤ b) (j ∷ js) z each (sub z c) in
     low-most i.low b is (under i (Contains-head i is)) (each-from (λ k. k.low ≤ℤ b) is (λ z c. under z (Contains-tail i is z c)))
 
 highs-le : (i j : Interval) (is js : List Interval) → ((z : Interval) → Contains (i ∷ is) z → Contains (j ∷ js) z) → fold (λ z j. int_min z j.high) j.high js ≤ℤ fold (λ z j. int_min z j.high) i.high is
 highs-le i j is js sub =
     let b = fold (λ z j. int_min z j.high) j.high js in
-    let each : AllByRecursion (λ k. b ≤ℤ k.high) (j ∷ js) = (high-start j.high js, high-each j.high js) in
+    let each : AllByRecursion (λ k. b ≤ℤ k.high) (j ∷ js) = high-member j js in
     let over : (z : Interval) → Contains (i ∷ is) z → b ≤ℤ z.high = λ z c. each-contains (λ k. b ≤ℤ k.high) (j ∷ js) z each (sub z c) in
     high-least i.high b is (over i (Contains-head i is)) (each-from (λ k. b ≤ℤ k.high) is (λ z c. over z (Contains-tail i is z c)))
 

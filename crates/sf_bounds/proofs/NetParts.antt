@@ -1,8 +1,9 @@
 -- The parts of a net make its bound.
-use Rattle.std.proofs.Common.{◌≡◌, ℕ, ◌+◌, ◌*◌, ◌<◌, ◌≤◌, max, List, [], ◌∷◌, map, length, get_or, refl, ap, sym, subst, ◌∙◌}
-use Rattle.std.specs.Prelude.{fold, nat_lt, pos, ◌-ℤ◌}
+use Rattle.std.proofs.Common.{◌≡◌, ℕ, ◌+◌, ◌<◌, ◌≤◌, max, List, [], ◌∷◌, map, length, get_or, refl, ap, sym, subst, ◌∙◌, arith, true, false}
+use Rattle.std.specs.Prelude.{nat_lt, None}
 use Rattle.std.specs.List.{AllByRecursion}
 use Rattle.std.proofs.lemmas.Bool.{cond-false, le-ltb}
+use Rattle.std.proofs.lemmas.List.{length-reverse}
 use Rattle.std.proofs.lemmas.List.Elements.{recursion_from_All}
 use Rattle.sf_model.specs.declared.design.Design.{Design}
 use Rattle.sf_model.specs.declared.parts.Net.{Net}
@@ -13,15 +14,19 @@ use Rattle.sf_model.specs.Limits.{pin_number, pin_count}
 use Rattle.sf_node.specs.Parts.{Parts}
 use Rattle.sf_node.specs.Subproblem.{is_complete}
 use Rattle.sf_node.specs.Children.{IsSubproblem}
-use Rattle.sf_standard.specs.declared.hull.Extent.{Extent}
-use Rattle.sf_standard.specs.declared.hull.Interval.{Interval}
 use Rattle.sf_standard.specs.Items.{items_of}
 use Rattle.sf_standard.specs.Hull.{gap, range_x, range_y, range_part, pair_part, small_side, block_pins, greatest_two, hull_part}
-use Rattle.sf_standard.specs.Standard.{net_part}
+use Rattle.sf_standard.specs.Standard.{pins_part}
+use Rattle.sf_standard.proofs.Exact.{whole-item}
 use Rattle.sf_bounds.specs.declared.layout.Layout.{Layout}
 use Rattle.sf_bounds.specs.Layout.{extent_in}
-use Rattle.sf_bounds.specs.Pins.{IsNet, IsLayout, extent_from, shared_gap}
-use Rattle.sf_bounds.proofs.Hulls.{hull_is}
+use Rattle.sf_bounds.specs.Near.{anywhere, reach_gap}
+use Rattle.sf_bounds.specs.Pins.{IsNet, IsLayout, IsReady, block_range, standing_at, pin_range, shared_ranges, paired_sides, shared_homes, shared_in, greatest_gap}
+use Rattle.sf_bounds.proofs.Hulls.{open_hull, whole_hull}
+use Rattle.sf_bounds.proofs.Pairing.{pair_sum}
+use Rattle.sf_bounds.proofs.Ranges.{range_is}
+use Rattle.sf_bounds.proofs.Reading.{ready_more}
+use Rattle.sf_bounds.proofs.Readied.{held-count, extent-same, standing-is, readied}
 
 map-same : {X Y : Type 0} (f g : X → Y) (xs : List X) → AllByRecursion (λ x. f x ≡ g x) xs → map f xs ≡ map g xs
 map-same f g [] h = refl
@@ -31,41 +36,64 @@ module _ (design : Design) (node : Parts) (layout : Layout) (m : IsLayout design
   abbrev there : Pin → Type 0
   there p = pin_number p < pin_count (length design.blocks) (length design.pads) p
 
-  extent-same : (b : ℕ) → b < block_count design → extent_from layout.extents.items b ≡ extent_in design node b
-  extent-same b lt = m.extents.each b (record { least_w = 0; most_w = 0; least_h = 0; most_h = 0 }) lt
+  range-same : (p : Pin) → there p → pin_range design layout.table.items p ≡ (record { across = range_x design (extent_in design node) p; upward = range_y design (extent_in design node) p })
+  range-same (pin.Block b) h =
+      ap (λ v. v.range) (standing-is design node layout m b h (record { side = 0; range = anywhere; home = None })) ∙ ap (block_range design) (extent-same design node layout m b h)
+  range-same (pin.Pad p) h = refl
 
-  same-x : (p : Pin) → there p → range_x design (extent_from layout.extents.items) p ≡ range_x design (extent_in design node) p
-  same-x (pin.Block b) h = ap (λ (e : Extent). (let i : Interval = record { low = pos e.least_w; high = pos (2 * design.outline.w) -ℤ pos e.least_w } in i)) (extent-same b h)
-  same-x (pin.Pad p) h = refl
-
-  same-y : (p : Pin) → there p → range_y design (extent_from layout.extents.items) p ≡ range_y design (extent_in design node) p
-  same-y (pin.Block b) h = ap (λ (e : Extent). (let i : Interval = record { low = pos e.least_h; high = pos (2 * design.outline.h) -ℤ pos e.least_h } in i)) (extent-same b h)
-  same-y (pin.Pad p) h = refl
+  side-same : (b : ℕ) → b < block_count design → (standing_at layout.table.items b).side ≡ small_side (extent_in design node b)
+  side-same b h =
+      ap (λ v. v.side) (standing-is design node layout m b h (record { side = 0; range = anywhere; home = None })) ∙ ap small_side (extent-same design node layout m b h)
 
   each-same : {Y : Type 0} (f g : Pin → Y) → ((p : Pin) → there p → f p ≡ g p) → (pins : List Pin) → AllByRecursion there pins → AllByRecursion (λ p. f p ≡ g p) pins
   each-same f g h [] all = tt
   each-same f g h (p ∷ pins) all = (h p all.0, each-same f g h pins all.1)
 
-  sides-same : (pins : List Pin) → AllByRecursion there pins → map (λ b. small_side (extent_from layout.extents.items b)) (block_pins pins) ≡ map (λ b. small_side (extent_in design node b)) (block_pins pins)
+  sides-same : (pins : List Pin) → AllByRecursion there pins → map (λ b. (standing_at layout.table.items b).side) (block_pins pins) ≡ map (λ b. small_side (extent_in design node b)) (block_pins pins)
   sides-same [] h = refl
   sides-same (pin.Block b ∷ pins) h =
-      ap (λ v. small_side v ∷ map (λ b. small_side (extent_from layout.extents.items b)) (block_pins pins)) (extent-same b h.0)
+      ap (λ v. v ∷ map (λ b. (standing_at layout.table.items b).side) (block_pins pins)) (side-same b h.0)
       ∙ ap (λ v. small_side (extent_in design node b) ∷ v) (sides-same pins h.1)
   sides-same (pin.Pad p ∷ pins) h = sides-same pins h.1
 
-  pub net_is : IsSubproblem design node → (net : Net) → IsNet design net.pins → 2 ≤ length net.pins → (a b c : ℕ) → a ≡ range_part design (extent_from layout.extents.items) net → b ≡ pair_part (extent_from layout.extents.items) net → c ≡ fold (λ n p. max n (shared_gap design layout net.pins p)) 0 net.pins → max a (max b c) ≡ net_part design node net
-  net_is sub net inside two a b c ra rb rc =
-      let ext = extent_in design node in
-      let from = extent_from layout.extents.items in
-      let all = recursion_from_All there net.pins inside in
-      let range : a ≡ range_part design ext net =
-      ra ∙ ap (λ v. gap v + gap (map (range_y design from) net.pins)) (map-same (range_x design from) (range_x design ext) net.pins (each-same (range_x design from) (range_x design ext) same-x net.pins all))
-      ∙ ap (λ v. gap (map (range_x design ext) net.pins) + gap v) (map-same (range_y design from) (range_y design ext) net.pins (each-same (range_y design from) (range_y design ext) same-y net.pins all)) in
-      let pair : b ≡ pair_part ext net = rb ∙ ap greatest_two (sides-same net.pins all) in
-      let hull : c ≡ hull_part design ext (is_complete node) (items_of node) net = rc ∙ hull_is design node layout sub m net.pins inside in
-      let sum : max a (max b c) ≡ max (range_part design ext net) (max (pair_part ext net) (hull_part design ext (is_complete node) (items_of node) net)) =
-      ap (λ v. max v (max b c)) range ∙ ap (λ v. max (range_part design ext net) (max v c)) pair ∙ ap (λ v. max (range_part design ext net) (max (pair_part ext net) v)) hull in
-      sum ∙ sym (cond-false (nat_lt (length net.pins) 2) 0 (max (range_part design ext net) (max (pair_part ext net) (hull_part design ext (is_complete node) (items_of node) net))) (le-ltb (length net.pins) 2 two))
+  module _ (sub : IsSubproblem design node) (pins : List Pin) (inside : IsNet design pins) where
+    range-part : reach_gap (shared_ranges design layout.table.items pins) ≡ range_part design (extent_in design node) pins
+    range-part =
+        let ext = extent_in design node in
+        let table = layout.table.items in
+        let all = recursion_from_All there pins inside in
+        let x : map (λ p. (pin_range design table p).across) pins ≡ map (range_x design ext) pins =
+        map-same (λ p. (pin_range design table p).across) (range_x design ext) pins (each-same (λ p. (pin_range design table p).across) (range_x design ext) (λ p h. ap (λ v. v.across) (range-same p h)) pins all) in
+        let y : map (λ p. (pin_range design table p).upward) pins ≡ map (range_y design ext) pins =
+        map-same (λ p. (pin_range design table p).upward) (range_y design ext) pins (each-same (λ p. (pin_range design table p).upward) (range_y design ext) (λ p h. ap (λ v. v.upward) (range-same p h)) pins all) in
+        range_is design table (length layout.held.items) (readied design node layout m) pins inside
+        ∙ ap (λ v. gap v + gap (map (λ p. (pin_range design table p).upward) pins)) x ∙ ap (λ v. gap (map (range_x design ext) pins) + gap v) y
+
+    pair-part : (paired_sides layout.table.items pins).sum ≡ pair_part (extent_in design node) pins
+    pair-part = pair_sum layout.table.items pins ∙ ap greatest_two (sides-same pins (recursion_from_All there pins inside))
+
+    -- with the hull the parts make what the pins take
+    parts : (hull : ℕ) → 2 ≤ length pins → hull ≡ hull_part design (extent_in design node) (is_complete node) (items_of node) pins → max (reach_gap (shared_ranges design layout.table.items pins)) (max (paired_sides layout.table.items pins).sum hull) ≡ pins_part design node pins
+    parts hull two h =
+        let ext = extent_in design node in
+        let sum : max (reach_gap (shared_ranges design layout.table.items pins)) (max (paired_sides layout.table.items pins).sum hull) ≡ max (range_part design ext pins) (max (pair_part ext pins) (hull_part design ext (is_complete node) (items_of node) pins)) =
+        ap (λ v. max v (max (paired_sides layout.table.items pins).sum hull)) range-part ∙ ap (λ v. max (range_part design ext pins) (max v hull)) pair-part ∙ ap (λ v. max (range_part design ext pins) (max (pair_part ext pins) v)) h in
+        sum ∙ sym (cond-false (nat_lt (length pins) 2) 0 (max (range_part design ext pins) (max (pair_part ext pins) (hull_part design ext (is_complete node) (items_of node) pins))) (le-ltb (length pins) 2 two))
+
+    pub whole_is : is_complete node ≡ true → 2 ≤ length pins → max (reach_gap (shared_ranges design layout.table.items pins)) (max (paired_sides layout.table.items pins).sum (reach_gap (shared_homes design layout.table.items pins))) ≡ pins_part design node pins
+    whole_is complete two = parts (reach_gap (shared_homes design layout.table.items pins)) two (whole_hull design node layout sub m pins inside complete)
+
+    pub open_is : is_complete node ≡ false → 2 ≤ length pins → max (reach_gap (shared_ranges design layout.table.items pins)) (max (paired_sides layout.table.items pins).sum (greatest_gap design layout.table.items false (shared_in design layout.table.items false pins) pins)) ≡ pins_part design node pins
+    open_is incomplete two = parts (greatest_gap design layout.table.items false (shared_in design layout.table.items false pins) pins) two (open_hull design node layout sub m pins inside incomplete)
+
+-- the one item of a complete subproblem
+pub ready_whole : (design : Design) (node : Parts) (layout : Layout) → IsSubproblem design node → IsLayout design node layout → is_complete node ≡ true → IsReady design 1 layout.table.items
+ready_whole design node layout sub m complete =
+    ready_more design (length layout.held.items) 1 layout.table.items
+    (omega (arith, held-count design node layout m, length-reverse (items_of node), ap length (whole-item design node sub complete).1.items)) (readied design node layout m)
+
+pub ready_open : (design : Design) (node : Parts) (layout : Layout) (n : ℕ) → IsLayout design node layout → length layout.held.items ≤ n → IsReady design n layout.table.items
+ready_open design node layout n m le = ready_more design (length layout.held.items) n layout.table.items le (readied design node layout m)
 
 -- the pins of a design's net are there
 pub net_inside : (design : Design) (i : ℕ) (net d : Net) → i < length design.nets → net ≡ get_or design.nets i d → IsNet design net.pins

@@ -1,75 +1,77 @@
--- A layout of a subproblem is one that pins can be read by, and its seats are the places of the blocks in the items.
+-- A layout of a subproblem is one that pins can be read by, and its homes are the places of the blocks in the items.
 use Rattle.std.proofs.Common.{◌≡◌, ℕ, suc, ◌+◌, ◌<◌, ◌≤◌, List, [], ◌∷◌, length, reverse, map, get_or, arith, refl, ap, sym, subst, ◌∙◌, ◌⊎◌, inl, inr, All, ◌==◌}
-use Rattle.std.specs.Prelude.{Contains, count_by, if◌then◌else◌}
+use Rattle.std.specs.Prelude.{Contains, count_by, if◌then◌else◌, Option, Some, None, IfSome}
 use Prim.Native.Nat.{zero}
-use Rattle.std.proofs.lemmas.Bool.{cases_eq, ne_eqb, eq-eqb, cond-true, cond-false, cond_both}
+use Rattle.std.proofs.lemmas.Int.{ints}
+use Rattle.std.proofs.lemmas.Bool.{cases_eq, ne_eqb, eq-eqb, cond-true, cond-false}
 use Rattle.std.proofs.lemmas.List.{length-map}
-use Rattle.std.proofs.lemmas.List.Elements.{Contains-append_cases, Contains-append_left, Contains-append_right, All-contains, Contains-get_or}
+use Rattle.std.proofs.lemmas.List.Elements.{Contains-append_cases, Contains-append_left, Contains-append_right, All-contains}
 use Rattle.sf_model.specs.declared.design.Design.{Design}
 use Rattle.sf_model.specs.Legal.{block_count}
 use Rattle.sf_node.specs.Parts.{Parts}
-use Rattle.sf_node.specs.Subproblem.{is_complete}
 use Rattle.sf_curves.proofs.Members.{Contains-cons_cases, Contains-head, Contains-tail, not_in_nil}
 use Rattle.sf_standard.specs.declared.hull.Extent.{Extent}
 use Rattle.sf_standard.specs.declared.hull.Offset.{Offset}
 use Rattle.sf_standard.specs.Items.{Item, items_of}
 use Rattle.sf_standard.specs.Hull.{offsets}
 use Rattle.sf_standard.proofs.Listed.{Contains-map, Contains-from_map, count-cons, count-head}
+use Rattle.sf_bounds.specs.declared.layout.Home.{Home}
 use Rattle.sf_bounds.specs.declared.layout.Layout.{Layout}
 use Rattle.sf_bounds.specs.declared.layout.Seat.{Seat}
-use Rattle.sf_bounds.specs.Layout.{extent_in, IsModestOffset, AreModest, held_of, seat_at, seats_from, last_seat, no_seat}
-use Rattle.sf_bounds.specs.Pins.{IsLayout, IsReady, seat_from}
-use Rattle.sf_bounds.proofs.Small.{span-small, are-modest}
+use Rattle.sf_bounds.specs.declared.layout.Standing.{Standing}
+use Rattle.sf_bounds.specs.Layout.{extent_in, Tells, IsModestOffset, AreModest, held_of, seat_at, seats_from}
+use Rattle.sf_bounds.specs.Near.{IsNearby, anywhere}
+use Rattle.sf_bounds.specs.Pins.{IsLayout, IsReadyAt, IsReady, extent_from, home_in, last_home, block_range, standing_at, standing_by}
+use Rattle.sf_bounds.proofs.Small.{IsSmallExtent, span-small, are-modest}
 
--- the last seat of a block is the one given, or one of the list
-pub record IsLastSeat (d : Seat) (b : ℕ) (ss : List Seat) : Type 0 where
-  pub found : (last_seat d b ss ≡ d) ⊎ Contains ss (last_seat d b ss)
-  pub block : d.offset.block ≡ b → (last_seat d b ss).offset.block ≡ b
+-- the last home of a block is the one given, or by one of the seats
+pub record IsSeated (extent : ℕ → Extent) (b : ℕ) (ss : List Seat) (h : Home) : Type 0 where
+  pub seat : Seat
+  pub found : Contains ss seat
+  pub block : seat.offset.block ≡ b
+  pub is : h ≡ home_in (extent seat.offset.block) seat
 
-pub last-is : (d : Seat) (b : ℕ) (ss : List Seat) → IsLastSeat d b ss
-last-is d b [] = record { found = inl refl; block = λ e. e }
-last-is d b (s ∷ ss) =
+abbrev pub IsLastHome : (ℕ → Extent) → Option Home → ℕ → List Seat → Type 0
+IsLastHome extent d b ss = (last_home extent d b ss ≡ d) ⊎ ((h : Home) × (last_home extent d b ss ≡ Some h) × IsSeated extent b ss h)
+
+further : (extent : ℕ → Extent) (b : ℕ) (s : Seat) (ss : List Seat) (h : Home) → IsSeated extent b ss h → IsSeated extent b (s ∷ ss) h
+further extent b s ss h k = record { seat = k.seat; found = Contains-tail s ss k.seat k.found; block = k.block; is = k.is }
+
+pub last-is : (extent : ℕ → Extent) (d : Option Home) (b : ℕ) (ss : List Seat) → IsLastHome extent d b ss
+last-is extent d b [] = inl refl
+last-is extent d b (s ∷ ss) =
+    let own = home_in (extent s.offset.block) s in
     elim (cases_eq s.offset.block b) [
-      | inl e ↦ (let here : (if s.offset.block == b then s else d) ≡ s = cond-true (s.offset.block == b) s d (eq-eqb s.offset.block b e) in
-          let i = last-is s b ss in
-          let same : last_seat d b (s ∷ ss) ≡ last_seat s b ss = ap (λ v. last_seat v b ss) here in
-          record {
-            found = inr (elim i.found [
-              | inl f ↦ subst (Contains (s ∷ ss)) (sym (same ∙ f)) (Contains-head s ss)
-              | inr f ↦ subst (Contains (s ∷ ss)) (sym same) (Contains-tail s ss (last_seat s b ss) f)
-            ]);
-            block = λ _. ap (λ v. v.offset.block) same ∙ i.block e;
-          })
-      | inr ne ↦ (let here : (if s.offset.block == b then s else d) ≡ d = cond-false (s.offset.block == b) s d (ne_eqb s.offset.block b ne) in
-          let i = last-is d b ss in
-          let same : last_seat d b (s ∷ ss) ≡ last_seat d b ss = ap (λ v. last_seat v b ss) here in
-          record {
-            found = elim i.found [
-              | inl f ↦ inl (same ∙ f)
-              | inr f ↦ inr (subst (Contains (s ∷ ss)) (sym same) (Contains-tail s ss (last_seat d b ss) f))
-            ];
-            block = λ e. ap (λ v. v.offset.block) same ∙ i.block e;
-          })
+      | inl e ↦ (let same : last_home extent d b (s ∷ ss) ≡ last_home extent (Some own) b ss = ap (λ v. last_home extent v b ss) (cond-true (s.offset.block == b) (Some own) d (eq-eqb s.offset.block b e)) in
+          elim (last-is extent (Some own) b ss) [
+            | inl f ↦ inr (own, same ∙ f, record { seat = s; found = Contains-head s ss; block = e; is = refl })
+            | inr f ↦ inr (f.0, same ∙ f.1, further extent b s ss f.0 f.2)
+          ])
+      | inr ne ↦ (let same : last_home extent d b (s ∷ ss) ≡ last_home extent d b ss = ap (λ v. last_home extent v b ss) (cond-false (s.offset.block == b) (Some own) d (ne_eqb s.offset.block b ne)) in
+          elim (last-is extent d b ss) [
+            | inl f ↦ inl (same ∙ f)
+            | inr f ↦ inr (f.0, same ∙ f.1, further extent b s ss f.0 f.2)
+          ])
     ]
 
-last-none : (d : Seat) (b : ℕ) (ss : List Seat) → count_by (λ s. s.offset.block == b) ss ≡ 0 → last_seat d b ss ≡ d
-last-none d b [] h = refl
-last-none d b (s ∷ ss) h =
+last-none : (extent : ℕ → Extent) (d : Option Home) (b : ℕ) (ss : List Seat) → count_by (λ s. s.offset.block == b) ss ≡ 0 → last_home extent d b ss ≡ d
+last-none extent d b [] h = refl
+last-none extent d b (s ∷ ss) h =
     elim (cases_eq s.offset.block b) [
       | inl e ↦ absurd (omega (arith, h, count-head (λ s. s.offset.block == b) s ss (eq-eqb s.offset.block b e)))
-      | inr ne ↦ ap (λ v. last_seat v b ss) (cond-false (s.offset.block == b) s d (ne_eqb s.offset.block b ne)) ∙ last-none d b ss (omega (arith, h, count-cons (λ s. s.offset.block == b) s ss))
+      | inr ne ↦ ap (λ v. last_home extent v b ss) (cond-false (s.offset.block == b) (Some (home_in (extent s.offset.block) s)) d (ne_eqb s.offset.block b ne)) ∙ last-none extent d b ss (omega (arith, h, count-cons (λ s. s.offset.block == b) s ss))
     ]
 
--- the one seat of a block is its last
-pub last-once : (d : Seat) (ss : List Seat) (s : Seat) → count_by (λ t. t.offset.block == s.offset.block) ss ≤ 1 → Contains ss s → last_seat d s.offset.block ss ≡ s
-last-once d [] s h c = absurd (not_in_nil s c)
-last-once d (t ∷ ss) s h c =
+-- the one seat of a block gives its home
+pub last-once : (extent : ℕ → Extent) (d : Option Home) (ss : List Seat) (s : Seat) → count_by (λ t. t.offset.block == s.offset.block) ss ≤ 1 → Contains ss s → last_home extent d s.offset.block ss ≡ Some (home_in (extent s.offset.block) s)
+last-once extent d [] s h c = absurd (not_in_nil s c)
+last-once extent d (t ∷ ss) s h c =
     let b = s.offset.block in
     elim (Contains-cons_cases t ss s c) [
       | inl e ↦ (let same : t.offset.block ≡ b = ap (λ v. v.offset.block) e in
-          ap (λ v. last_seat v b ss) (cond-true (t.offset.block == b) t d (eq-eqb t.offset.block b same) ∙ e)
-          ∙ last-none s b ss (omega (arith, h, count-head (λ v. v.offset.block == b) t ss (eq-eqb t.offset.block b same))))
-      | inr k ↦ last-once (if t.offset.block == b then t else d) ss s (omega (arith, h, count-cons (λ v. v.offset.block == b) t ss)) k
+          ap (λ v. last_home extent v b ss) (cond-true (t.offset.block == b) (Some (home_in (extent t.offset.block) t)) d (eq-eqb t.offset.block b same) ∙ ap (λ v. Some (home_in (extent v.offset.block) v)) e)
+          ∙ last-none extent (Some (home_in (extent b) s)) b ss (omega (arith, h, count-head (λ v. v.offset.block == b) t ss (eq-eqb t.offset.block b same))))
+      | inr k ↦ last-once extent (if t.offset.block == b then Some (home_in (extent t.offset.block) t) else d) ss s (omega (arith, h, count-cons (λ v. v.offset.block == b) t ss)) k
     ]
 
 -- a seat of the items from the k-th on
@@ -100,47 +102,66 @@ from-item extent k (i ∷ is) (suc j) d o lt c =
     subst (λ n. Contains (seats_from extent k (i ∷ is)) (seat_at n o)) e
     (Contains-append_right (map (seat_at k) (offsets extent i)) (seats_from extent (suc k) is) (seat_at (suc k + j) o) (from-item extent (suc k) is j d o (omega arith) c))
 
-module _ (design : Design) (node : Parts) (layout : Layout) (m : IsLayout design node layout) where
-  abbrev items : List Item
-  items = reverse (items_of node)
+-- a block's home is where its seat in an item says
+pub record StandsIn (design : Design) (node : Parts) (layout : Layout) (b : ℕ) (h : Home) : Type 0 where
+  pub offset : Offset
+  pub block : offset.block ≡ b
+  pub is : h ≡ home_in (extent_from layout.extents.items offset.block) (seat_at h.item offset)
+  pub inside : h.item < length (reverse (items_of node))
+  pub stands : (d : Item) → Contains (offsets (extent_in design node) (get_or (reverse (items_of node)) h.item d)) offset
 
+module _ (design : Design) (node : Parts) (layout : Layout) (m : IsLayout design node layout) where
   pub held-count : length layout.held.items ≡ length (reverse (items_of node))
   held-count = ap length m.stack.laid.held ∙ length-map (reverse (items_of node)) (held_of (extent_in design node))
 
-  pub seat-is : (b : ℕ) → b < block_count design → (d : Seat) → get_or layout.table.items b d ≡ last_seat (no_seat (length layout.held.items) b) b layout.seats.items
-  seat-is b lt d = m.seats.each b d lt
+  pub extent-same : (b : ℕ) → b < block_count design → extent_from layout.extents.items b ≡ extent_in design node b
+  extent-same b lt = m.extents.each b (record { least_w = 0; most_w = 0; least_h = 0; most_h = 0 }) lt
 
-  pub seat-block : (b : ℕ) → b < block_count design → (seat_from layout.table.items b).offset.block ≡ b
-  seat-block b lt = ap (λ s. s.offset.block) (seat-is b lt (no_seat 0 b)) ∙ (last-is (no_seat (length layout.held.items) b) b layout.seats.items).block refl
+  pub standing-is : (b : ℕ) → b < block_count design → (d : Standing) → get_or layout.table.items b d ≡ standing_by design layout.extents.items layout.seats.items b
+  standing-is b lt d = m.table.each b d lt
 
-  -- the seat of a block in an item
-  pub seat-found : (j : ℕ) (d : Item) (o : Offset) → j < length (reverse (items_of node)) → Contains (offsets (extent_in design node) (get_or (reverse (items_of node)) j d)) o → (o.block < block_count design) × (seat_from layout.table.items o.block ≡ seat_at j o)
-  seat-found j d o lt c =
+  abbrev pub home_of : ℕ → Option Home
+  home_of b = (standing_at layout.table.items b).home
+
+  home-is : (b : ℕ) → b < block_count design → (standing_at layout.table.items b).home ≡ last_home (extent_from layout.extents.items) None b layout.seats.items
+  home-is b lt = ap (λ v. v.home) (standing-is b lt (record { side = 0; range = anywhere; home = None }))
+
+  -- the home of a block in an item
+  pub home-found : (j : ℕ) (d : Item) (o : Offset) → j < length (reverse (items_of node)) → Contains (offsets (extent_in design node) (get_or (reverse (items_of node)) j d)) o →
+      (o.block < block_count design) × ((standing_at layout.table.items o.block).home ≡ Some (home_in (extent_from layout.extents.items o.block) (seat_at j o)))
+  home-found j d o lt c =
       let z : 0 + j ≡ j = omega arith in
       let here : Contains layout.seats.items (seat_at j o) =
       subst (λ v. Contains v (seat_at j o)) (sym m.stack.laid.seats) (subst (λ n. Contains (seats_from (extent_in design node) 0 (reverse (items_of node))) (seat_at n o)) z (from-item (extent_in design node) 0 (reverse (items_of node)) j d o lt c)) in
       let inside : o.block < block_count design = All-contains (λ s. s.offset.block < block_count design) layout.seats.items (seat_at j o) m.stack.inside here in
-      (inside, seat-is o.block inside (no_seat 0 o.block) ∙ last-once (no_seat (length layout.held.items) o.block) layout.seats.items (seat_at j o) (m.stack.once o.block) here)
+      (inside, home-is o.block inside ∙ last-once (extent_from layout.extents.items) None layout.seats.items (seat_at j o) (m.stack.once o.block) here)
 
-  -- a block with a seat stands in that item
-  pub seat-stands : (b : ℕ) (d : Item) → b < block_count design → (seat_from layout.table.items b).item < length (reverse (items_of node)) → Contains (offsets (extent_in design node) (get_or (reverse (items_of node)) (seat_from layout.table.items b).item d)) (seat_from layout.table.items b).offset
-  seat-stands b d lt inside =
-      let s = seat_from layout.table.items b in
-      let is = seat-is b lt (no_seat 0 b) in
+  -- a block with a home stands in that item
+  pub home-stands : (b : ℕ) (h : Home) → b < block_count design → (standing_at layout.table.items b).home ≡ Some h → StandsIn design node layout b h
+  home-stands b h lt e =
       let extent = extent_in design node in
-      elim (last-is (no_seat (length layout.held.items) b) b layout.seats.items).found [
-        | inl e ↦ absurd (omega (arith, inside, held-count, ap (λ v. v.item) (is ∙ e)))
-        | inr c ↦ (let k = seat-from extent 0 (reverse (items_of node)) s (subst (λ v. Contains v s) m.stack.laid.seats (subst (Contains layout.seats.items) (sym is) c)) in
-            let z : k.at ≡ s.item = omega (arith, k.item) in
-            subst (λ n. Contains (offsets extent (get_or (reverse (items_of node)) n d)) s.offset) z (k.stands d))
+      elim (last-is (extent_from layout.extents.items) None b layout.seats.items) [
+        | inl none ↦ absurd (differ h (sym e ∙ home-is b lt ∙ none))
+        | inr k ↦ (let same : h ≡ k.0 = only h k.0 (sym e ∙ home-is b lt ∙ k.1) in
+            let s = k.2.seat in
+            let f = seat-from extent 0 (reverse (items_of node)) s (subst (λ v. Contains v s) m.stack.laid.seats k.2.found) in
+            let is : h ≡ home_in (extent_from layout.extents.items s.offset.block) s = same ∙ k.2.is in
+            let at : s.item ≡ h.item = ap (λ v. v.item) (sym is) in
+            let z : f.at ≡ h.item = omega (arith, f.item, at) in
+            record {
+              offset = s.offset;
+              block = k.2.block;
+              is = is ∙ ap (λ n. home_in (extent_from layout.extents.items s.offset.block) (seat_at n s.offset)) at;
+              inside = omega (arith, f.inside, z);
+              stands = λ d. subst (λ n. Contains (offsets extent (get_or (reverse (items_of node)) n d)) s.offset) z (f.stands d);
+            })
       ]
+    where
+      differ : (h : Home) → ◌≡◌ {A = Option Home} (Some h) None → ⊥
+      differ h e = cc
 
-  seat-any : (P : Seat → Type 0) → ((b : ℕ) → P (no_seat (length layout.held.items) b)) → All P layout.seats.items → (b : ℕ) → b < block_count design → (d : Seat) → P (get_or layout.table.items b d)
-  seat-any P none all b lt d =
-      subst P (sym (seat-is b lt d)) (elim (last-is (no_seat (length layout.held.items) b) b layout.seats.items).found [
-        | inl e ↦ subst P (sym e) (none b)
-        | inr c ↦ All-contains P layout.seats.items (last_seat (no_seat (length layout.held.items) b) b layout.seats.items) all c
-      ])
+      only : (h k : Home) → ◌≡◌ {A = Option Home} (Some h) (Some k) → h ≡ k
+      only h k e = cc
 
   modest : AreModest layout.held.items layout.seats.items
   modest =
@@ -149,22 +170,47 @@ module _ (design : Design) (node : Parts) (layout : Layout) (m : IsLayout design
       subst (λ v. AreModest v layout.seats.items) (sym m.stack.laid.held) (subst (AreModest (map (held_of extent) its)) (sym m.stack.laid.seats)
       (are-modest extent (span-small design node) its (omega (arith, m.stack.few, ap length m.stack.laid.seats))))
 
-  pub readied : IsReady design layout
-  readied =
-      let n = length layout.held.items in
-      record {
-        extents = m.extents.count;
-        sides = λ i d lt. subst (λ (e : Extent). (e.least_w ≤ 1048576) × (e.most_w ≤ 1048576) × (e.least_h ≤ 1048576) × (e.most_h ≤ 1048576)) (sym (m.extents.each i d (omega (arith, lt, m.extents.count))))
-            (let s = span-small design node i in (s.least_w, s.most_w, s.least_h, s.most_h));
-        seats = m.seats.count;
-        blocks = λ i d lt. (let h : i < block_count design = omega (arith, lt, m.seats.count) in omega (arith, h, ap (λ s. s.offset.block) (seat-is i h d), (last-is (no_seat n i) i layout.seats.items).block refl));
-        offsets = λ i d lt. seat-any (λ s. IsModestOffset s.offset) (λ b. record { least_x = omega arith; most_x = omega arith; least_y = omega arith; most_y = omega arith }) modest.offsets i (omega (arith, lt, m.seats.count)) d;
-        items = λ i d lt. seat-any (λ s. s.item ≤ n) (λ b. omega arith) few i (omega (arith, lt, m.seats.count)) d;
-        pads = subst (λ v. v ≤ n) (sym m.pads) (cond_both (is_complete node) 0 n (λ v. v ≤ n) (λ _. omega arith) (λ _. omega arith));
-      }
-    where
-      few : All (λ s. s.item ≤ length layout.held.items) layout.seats.items
-      few i d lt =
-          let s = get_or layout.seats.items i d in
-          let k = seat-from (extent_in design node) 0 (reverse (items_of node)) s (subst (λ v. Contains v s) m.stack.laid.seats (Contains-get_or layout.seats.items i d lt)) in
-          omega (arith, k.inside, k.item, held-count)
+  near-range : (e : Extent) → IsSmallExtent 1048576 e → IsNearby (block_range design e)
+  near-range e s = (
+    ((omega (arith, ints, s.least_w), omega (arith, ints, s.least_w)), (omega (arith, ints, s.least_w, design.limits.width.1), omega (arith, ints, s.least_w, design.limits.width.1))),
+    ((omega (arith, ints, s.least_h), omega (arith, ints, s.least_h)), (omega (arith, ints, s.least_h, design.limits.height.1), omega (arith, ints, s.least_h, design.limits.height.1))),
+  )
+
+  near-home : (e : Extent) (s : Seat) → IsSmallExtent 1048576 e → IsModestOffset s.offset → IsNearby (home_in e s).reach
+  near-home e s k o = (
+    ((omega (arith, ints), omega (arith, ints, o.least_x, k.least_w)), (omega (arith, ints), omega (arith, ints, o.most_x, k.most_w))),
+    ((omega (arith, ints), omega (arith, ints, o.least_y, k.least_h)), (omega (arith, ints), omega (arith, ints, o.most_y, k.most_h))),
+  )
+
+  small : (b : ℕ) → b < block_count design → IsSmallExtent 1048576 (extent_from layout.extents.items b)
+  small b lt = subst (IsSmallExtent 1048576) (sym (extent-same b lt)) (span-small design node b)
+
+  ready-home : (b : ℕ) → b < block_count design → IfSome (last_home (extent_from layout.extents.items) None b layout.seats.items) (λ h. (h.item < length layout.held.items) × IsNearby h.reach)
+  ready-home b lt =
+      let ready : Option Home → Type 0 = λ o. IfSome o (λ h. (h.item < length layout.held.items) × IsNearby h.reach) in
+      elim (last-is (extent_from layout.extents.items) None b layout.seats.items) [
+        | inl none ↦ subst ready (sym none) tt
+        | inr k ↦ (let st = home-stands b k.0 lt (home-is b lt ∙ k.1) in
+            subst ready (sym k.1) (
+              omega (arith, st.inside, held-count),
+              subst (λ v. IsNearby v.reach) (sym k.2.is) (near-home (extent_from layout.extents.items k.2.seat.offset.block) k.2.seat (small k.2.seat.offset.block (omega (arith, k.2.block, lt))) (All-contains (λ s. IsModestOffset s.offset) layout.seats.items k.2.seat modest.offsets k.2.found)),
+            ))
+      ]
+
+  pub readied : IsReady design (length layout.held.items) layout.table.items
+  readied = record {
+    count = m.table.count;
+    each = λ i d lt. (let h : i < block_count design = omega (arith, lt, m.table.count) in
+        let s = small i h in
+        subst (IsReadyAt (length layout.held.items)) (sym (standing-is i h d)) record {
+          side = omega (arith, s.least_w);
+          range = near-range (extent_from layout.extents.items i) s;
+          home = ready-home i h;
+        });
+  }
+
+-- no extent that is told has a great side
+pub small_extents : (design : Design) (node : Parts) (extents : List Extent) → Tells (extent_in design node) (block_count design) extents → All (λ e. (e.least_w ≤ 1048576) × (e.least_h ≤ 1048576)) extents
+small_extents design node extents t i d lt =
+    let s = span-small design node i in
+    subst (λ e. (e.least_w ≤ 1048576) × (e.least_h ≤ 1048576)) (sym (t.each i d (omega (arith, lt, t.count)))) (s.least_w, s.least_h)

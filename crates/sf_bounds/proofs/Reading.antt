@@ -1,25 +1,24 @@
 -- What the loops over the pins of a net keep.
-use Rattle.std.proofs.Common.{◌≡◌, ℕ, ◌+◌, ◌*◌, ◌<◌, ◌≤◌, max, List, [], ◌∷◌, length, take, get_or, arith, refl, ap, ◌∙◌, All, ◌==◌}
-use Rattle.std.specs.Prelude.{fold, nat_lt, if◌then◌else◌, pos}
+use Rattle.std.proofs.Common.{◌≡◌, ℕ, ◌+◌, ◌<◌, ◌≤◌, max, List, [], ◌∷◌, length, take, get_or, arith, refl, ap, ◌∙◌, subst, sym, All, ◌==◌, Bool, true, false}
+use Rattle.std.specs.Prelude.{fold, Option, Some, None, IfSome, pos}
 use Rattle.std.specs.List.{AllByRecursion}
 use Rattle.std.proofs.lemmas.Int.{ints, clamps}
 use Rattle.std.proofs.lemmas.Bool.{cond_both}
 use Rattle.std.proofs.lemmas.List.{take_more, take_all}
 use Rattle.std.proofs.lemmas.List.Sums.{fold-append}
-use Rattle.std.proofs.lemmas.List.Elements.{recursion_from_All}
+use Rattle.std.proofs.lemmas.List.Elements.{recursion_from_All, All-from_recursion}
 use Rattle.sf_model.specs.declared.design.Design.{Design}
 use Rattle.sf_model.specs.declared.parts.Pin.{Pin}
 use Rattle.sf_model.specs.declared.parts.Pin.TheVariants as pin
+use Rattle.sf_model.specs.Legal.{block_count}
 use Rattle.sf_model.specs.Limits.{pin_number, pin_count}
 use Rattle.sf_model.proofs.Each.{each-weaker}
-use Rattle.sf_standard.specs.declared.hull.Extent.{Extent}
 use Rattle.sf_standard.specs.declared.hull.Interval.{Interval}
-use Rattle.sf_standard.specs.declared.hull.Offset.{Offset}
-use Rattle.sf_bounds.specs.declared.layout.Layout.{Layout}
+use Rattle.sf_bounds.specs.declared.layout.Home.{Home}
+use Rattle.sf_bounds.specs.declared.layout.Standing.{Standing}
 use Rattle.sf_bounds.specs.declared.reach.Reach.{Reach}
-use Rattle.sf_bounds.specs.Layout.{IsModestOffset, no_seat}
 use Rattle.sf_bounds.specs.Near.{IsNear, IsNearby, shared, met, anywhere, reach_gap}
-use Rattle.sf_bounds.specs.Pins.{IsNet, InTable, IsReady, extent_from, seat_from, pin_range, pin_reach, pin_item, gathers, item_gap, shared_gap}
+use Rattle.sf_bounds.specs.Pins.{IsNet, IsReadyAt, IsReady, standing_at, pad_reach, pin_range, pin_home, narrowed, narrowed_in, shared_in, home_gap, greatest_gap, shared_ranges, shared_homes}
 
 pub fold_more : {A B : Type 0} (f : B → A → B) (b : B) (xs : List A) (k : ℕ) (d : A) → k < length xs → fold f b (take (k + 1) xs) ≡ f (fold f b (take k xs)) (get_or xs k d)
 fold_more f b xs k d lt = ap (fold f b) (take_more xs k d lt) ∙ fold-append f b (take k xs) (get_or xs k d ∷ [])
@@ -39,71 +38,94 @@ near_met r s h k = (near-shared r.across s.across h.0 k.0, near-shared r.upward 
 pub near_anywhere : IsNearby anywhere
 near_anywhere = (((omega (arith, ints), omega (arith, ints)), (omega (arith, ints), omega (arith, ints))), ((omega (arith, ints), omega (arith, ints)), (omega (arith, ints), omega (arith, ints))))
 
--- a place in the table, or none
-pub in_table : (design : Design) (layout : Layout) (p : Pin) → IsReady design layout → pin_number p < pin_count (length design.blocks) (length design.pads) p → InTable (length layout.table.items) p
-in_table design layout (pin.Block b) ready h = omega (arith, h, ready.seats)
-in_table design layout (pin.Pad p) ready h = tt
+-- what holds of what is there
+pub if-some : {X : Type 0} (P Q : X → Type 0) (o : Option X) → ((x : X) → P x → Q x) → IfSome o P → IfSome o Q
+if-some P Q None f h = tt
+if-some P Q (Some x) f h = f x h
 
--- an item's number
-pub item_few : (design : Design) (layout : Layout) (p : Pin) → IsReady design layout → InTable (length layout.table.items) p → pin_item layout p ≤ length layout.held.items
-item_few design layout (pin.Block b) ready h = ready.items b _ h
-item_few design layout (pin.Pad p) ready h = ready.pads
+near-narrowed : (r : Reach) (o : Option Home) → IsNearby r → IfSome o (λ h. IsNearby h.reach) → IsNearby (narrowed r o)
+near-narrowed r None h k = h
+near-narrowed r (Some x) h k = near_met r x.reach h k
 
-module _ (design : Design) (layout : Layout) (ready : IsReady design layout) where
-  pub near_range : (p : Pin) → pin_number p < pin_count (length design.blocks) (length design.pads) p → IsNearby (pin_range design (extent_from layout.extents.items) p)
-  near_range (pin.Block b) h =
-      let s = ready.sides b (record { least_w = 0; most_w = 0; least_h = 0; most_h = 0 }) (omega (arith, h, ready.extents)) in (
-        ((omega (arith, ints, s.0), omega (arith, ints, s.0)), (omega (arith, ints, s.0, design.limits.width.1), omega (arith, ints, s.0, design.limits.width.1))),
-        ((omega (arith, ints, s.2), omega (arith, ints, s.2)), (omega (arith, ints, s.2, design.limits.height.1), omega (arith, ints, s.2, design.limits.height.1))),
-      )
-  near_range (pin.Pad p) h =
+near-narrowed_in : (i : ℕ) (r : Reach) (o : Option Home) → IsNearby r → IfSome o (λ h. IsNearby h.reach) → IsNearby (narrowed_in i r o)
+near-narrowed_in i r None h k = h
+near-narrowed_in i r (Some x) h k = cond_both (x.item == i) (met r x.reach) r IsNearby (λ _. near_met r x.reach h k) (λ _. h)
+
+-- a fold over the pins stays near
+near-fold : (P : Pin → Type 0) (f : Reach → Pin → Reach) → ((r : Reach) (p : Pin) → P p → IsNearby r → IsNearby (f r p)) → (r : Reach) (pins : List Pin) → IsNearby r → AllByRecursion P pins → IsNearby (fold f r pins)
+near-fold P f step r [] h all = h
+near-fold P f step r (p ∷ pins) h all = near-fold P f step (f r p) pins (step r p all.0 h) all.1
+
+module _ (design : Design) (items : ℕ) (table : List Standing) (ready : IsReady design items table) where
+  abbrev pub IsThere : Pin → Type 0
+  IsThere p = pin_number p < pin_count (length design.blocks) (length design.pads) p
+
+  pub standing_ready : (b : ℕ) → b < block_count design → IsReadyAt items (standing_at table b)
+  standing_ready b h = ready.each b (record { side = 0; range = anywhere; home = None }) (omega (arith, h, ready.count))
+
+  near-pad : (p : ℕ) → p < length design.pads → IsNearby (pad_reach design p)
+  near-pad p h =
       let k = design.limits.places p (record { name = []; x = pos 0; y = pos 0 }) h in (
         ((omega (arith, ints, k.0.0), omega (arith, ints, k.0.1)), (omega (arith, ints, k.0.0), omega (arith, ints, k.0.1))),
         ((omega (arith, ints, k.1.0), omega (arith, ints, k.1.1)), (omega (arith, ints, k.1.0), omega (arith, ints, k.1.1))),
       )
 
-  near-block : (o : Offset) (e : Extent) → IsModestOffset o → (e.least_w ≤ 1048576) × (e.most_w ≤ 1048576) × (e.least_h ≤ 1048576) × (e.most_h ≤ 1048576) → IsNearby (record { across = record { low = pos (2 * o.least_x + e.least_w); high = pos (2 * o.most_x + e.most_w) }; upward = record { low = pos (2 * o.least_y + e.least_h); high = pos (2 * o.most_y + e.most_h) } })
-  near-block o e m s = (
-    ((omega (arith, ints), omega (arith, ints, m.least_x, s.0)), (omega (arith, ints), omega (arith, ints, m.most_x, s.1))),
-    ((omega (arith, ints), omega (arith, ints, m.least_y, s.2)), (omega (arith, ints), omega (arith, ints, m.most_y, s.3))),
-  )
+  pub near_range : (p : Pin) → pin_number p < pin_count (length design.blocks) (length design.pads) p → IsNearby (pin_range design table p)
+  near_range (pin.Block b) h = (standing_ready b h).range
+  near_range (pin.Pad p) h = near-pad p h
 
-  pub near_reach : (p : Pin) → pin_number p < pin_count (length design.blocks) (length design.pads) p → IsNearby (pin_reach design layout p)
-  near_reach (pin.Block b) h =
-      let here : b < length layout.table.items = omega (arith, h, ready.seats) in
-      let o = (seat_from layout.table.items b).offset in
-      near-block o (extent_from layout.extents.items o.block) (ready.offsets b (no_seat 0 b) here)
-      (ready.sides o.block (record { least_w = 0; most_w = 0; least_h = 0; most_h = 0 }) (omega (arith, ready.blocks b (no_seat 0 b) here, ready.extents)))
-  near_reach (pin.Pad p) h =
-      let k = design.limits.places p (record { name = []; x = pos 0; y = pos 0 }) h in (
-        ((omega (arith, ints, k.0.0), omega (arith, ints, k.0.1)), (omega (arith, ints, k.0.0), omega (arith, ints, k.0.1))),
-        ((omega (arith, ints, k.1.0), omega (arith, ints, k.1.1)), (omega (arith, ints, k.1.0), omega (arith, ints, k.1.1))),
-      )
+  pub near_home : (complete : Bool) (p : Pin) → pin_number p < pin_count (length design.blocks) (length design.pads) p → IfSome (pin_home design table complete p) (λ h. IsNearby h.reach)
+  near_home complete (pin.Block b) h = if-some (λ v. (v.item < items) × IsNearby v.reach) (λ v. IsNearby v.reach) (standing_at table b).home (λ v k. k.1) (standing_ready b h).home
+  near_home true (pin.Pad p) h = near-pad p h
+  near_home false (pin.Pad p) h = tt
 
-  near-from : (r : Reach) (pins : List Pin) → IsNearby r → AllByRecursion (λ p. pin_number p < pin_count (length design.blocks) (length design.pads) p) pins → IsNearby (fold (λ r p. met r (pin_range design (extent_from layout.extents.items) p)) r pins)
-  near-from r [] h all = h
-  near-from r (p ∷ pins) h all = near-from (met r (pin_range design (extent_from layout.extents.items) p)) pins (near_met r (pin_range design (extent_from layout.extents.items) p) h (near_range p all.0)) all.1
+  -- a block's item is one of the items
+  pub home_inside : (p : Pin) → pin_number p < pin_count (length design.blocks) (length design.pads) p → IfSome (pin_home design table false p) (λ h. h.item < items)
+  home_inside (pin.Block b) h = if-some (λ v. (v.item < items) × IsNearby v.reach) (λ v. v.item < items) (standing_at table b).home (λ v k. k.0) (standing_ready b h).home
+  home_inside (pin.Pad p) h = tt
 
-  pub near_ranges : (pins : List Pin) → IsNet design pins → IsNearby (fold (λ r p. met r (pin_range design (extent_from layout.extents.items) p)) anywhere pins)
-  near_ranges pins net = near-from anywhere pins near_anywhere (recursion_from_All (λ p. pin_number p < pin_count (length design.blocks) (length design.pads) p) pins net)
+  pub near_ranges : (pins : List Pin) → IsNet design pins → IsNearby (shared_ranges design table pins)
+  near_ranges pins net = near-fold IsThere (λ r p. met r (pin_range design table p)) (λ r p there h. near_met r (pin_range design table p) h (near_range p there)) anywhere pins near_anywhere (recursion_from_All IsThere pins net)
 
-  near-gathered : (i : ℕ) (r : Reach) (pins : List Pin) → IsNearby r → AllByRecursion (λ p. pin_number p < pin_count (length design.blocks) (length design.pads) p) pins → IsNearby (fold (gathers design layout i) r pins)
-  near-gathered i r [] h all = h
-  near-gathered i r (p ∷ pins) h all =
-      near-gathered i (gathers design layout i r p) pins
-      (cond_both (pin_item layout p == i) (met r (pin_reach design layout p)) r IsNearby (λ _. near_met r (pin_reach design layout p) h (near_reach p all.0)) (λ _. h)) all.1
+  pub near_homes : (pins : List Pin) → IsNet design pins → IsNearby (shared_homes design table pins)
+  near_homes pins net = near-fold IsThere (λ r p. narrowed r (pin_home design table true p)) (λ r p there h. near-narrowed r (pin_home design table true p) h (near_home true p there)) anywhere pins near_anywhere (recursion_from_All IsThere pins net)
 
-  pub near_gathered : (i : ℕ) (pins : List Pin) → IsNet design pins → IsNearby (fold (gathers design layout i) anywhere pins)
-  near_gathered i pins net = near-gathered i anywhere pins near_anywhere (recursion_from_All (λ p. pin_number p < pin_count (length design.blocks) (length design.pads) p) pins net)
+  pub near_shared : (complete : Bool) (i : ℕ) (pins : List Pin) → IsNet design pins → IsNearby (shared_in design table complete pins i)
+  near_shared complete i pins net = near-fold IsThere (λ r p. narrowed_in i r (pin_home design table complete p)) (λ r p there h. near-narrowed_in i r (pin_home design table complete p) h (near_home complete p there)) anywhere pins near_anywhere (recursion_from_All IsThere pins net)
 
-fold-same : (f g : Pin → ℕ) (n : ℕ) (pins : List Pin) → AllByRecursion (λ p. f p ≡ g p) pins → fold (λ n p. max n (f p)) n pins ≡ fold (λ n p. max n (g p)) n pins
-fold-same f g n [] h = refl
-fold-same f g n (p ∷ pins) h = fold-same f g (max n (f p)) pins h.1 ∙ ap (λ m. fold (λ n p. max n (g p)) (max n m) pins) h.0
+-- the reaches that were cleared and gathered tell what the pins share
+module _ (design : Design) (table : List Standing) (pins : List Pin) (clear gathered : List Reach) where
+  abbrev IsClear : Pin → Type 0
+  IsClear p = IfSome (pin_home design table false p) (λ h. get_or clear h.item anywhere ≡ anywhere)
 
--- the gaps of the reaches that were cleared and gathered
-pub gaps_same : (design : Design) (layout : Layout) (pins : List Pin) (clear gathered : List Reach) → All (λ p. get_or clear (pin_item layout p) anywhere ≡ anywhere) pins → ((i : ℕ) → get_or gathered i anywhere ≡ fold (gathers design layout i) (get_or clear i anywhere) pins) → fold (λ n p. max n (item_gap layout gathered p)) 0 pins ≡ fold (λ n p. max n (shared_gap design layout pins p)) 0 pins
-gaps_same design layout pins clear gathered none g =
-    fold-same (item_gap layout gathered) (shared_gap design layout pins) 0 pins
-    (each-weaker (λ p. get_or clear (pin_item layout p) anywhere ≡ anywhere) (λ p. item_gap layout gathered p ≡ shared_gap design layout pins p)
-    (λ p e. ap (λ r. if nat_lt (pin_item layout p) (length layout.held.items) then reach_gap r else 0) (g (pin_item layout p) ∙ ap (λ r. fold (gathers design layout (pin_item layout p)) r pins) e))
-    pins (recursion_from_All (λ p. get_or clear (pin_item layout p) anywhere ≡ anywhere) pins none))
+  gathered-at : ((i : ℕ) → get_or gathered i anywhere ≡ fold (λ r p. narrowed_in i r (pin_home design table false p)) (get_or clear i anywhere) pins) → (i : ℕ) → get_or clear i anywhere ≡ anywhere → get_or gathered i anywhere ≡ shared_in design table false pins i
+  gathered-at g i e = g i ∙ ap (λ r. fold (λ r p. narrowed_in i r (pin_home design table false p)) r pins) e
+
+  pub gathered_near : (items : ℕ) → IsReady design items table → IsNet design pins → All IsClear pins → ((i : ℕ) → get_or gathered i anywhere ≡ fold (λ r p. narrowed_in i r (pin_home design table false p)) (get_or clear i anywhere) pins) → All (λ p. IfSome (pin_home design table false p) (λ h. IsNearby (get_or gathered h.item anywhere))) pins
+  gathered_near items ready net none g =
+      All-from_recursion (λ p. IfSome (pin_home design table false p) (λ h. IsNearby (get_or gathered h.item anywhere))) pins
+      (each-weaker IsClear (λ p. IfSome (pin_home design table false p) (λ h. IsNearby (get_or gathered h.item anywhere)))
+      (λ p k. if-some (λ h. get_or clear h.item anywhere ≡ anywhere) (λ h. IsNearby (get_or gathered h.item anywhere)) (pin_home design table false p)
+      (λ h e. subst IsNearby (sym (gathered-at g h.item e)) (near_shared design items table ready false h.item pins net)) k)
+      pins (recursion_from_All IsClear pins none))
+
+  home-gap-same : ((i : ℕ) → get_or gathered i anywhere ≡ fold (λ r p. narrowed_in i r (pin_home design table false p)) (get_or clear i anywhere) pins) → (o : Option Home) → IfSome o (λ h. get_or clear h.item anywhere ≡ anywhere) → home_gap (λ i. get_or gathered i anywhere) o ≡ home_gap (shared_in design table false pins) o
+  home-gap-same g None k = refl
+  home-gap-same g (Some h) k = ap reach_gap (gathered-at g h.item k)
+
+  gaps-same : (n : ℕ) (ps : List Pin) → ((i : ℕ) → get_or gathered i anywhere ≡ fold (λ r p. narrowed_in i r (pin_home design table false p)) (get_or clear i anywhere) pins) → AllByRecursion IsClear ps → fold (λ n p. max n (home_gap (λ i. get_or gathered i anywhere) (pin_home design table false p))) n ps ≡ fold (λ n p. max n (home_gap (shared_in design table false pins) (pin_home design table false p))) n ps
+  gaps-same n [] g h = refl
+  gaps-same n (p ∷ ps) g h =
+      gaps-same (max n (home_gap (λ i. get_or gathered i anywhere) (pin_home design table false p))) ps g h.1
+      ∙ ap (λ m. fold (λ n p. max n (home_gap (shared_in design table false pins) (pin_home design table false p))) (max n m) ps) (home-gap-same g (pin_home design table false p) h.0)
+
+  pub gaps_same : All IsClear pins → ((i : ℕ) → get_or gathered i anywhere ≡ fold (λ r p. narrowed_in i r (pin_home design table false p)) (get_or clear i anywhere) pins) → greatest_gap design table false (λ i. get_or gathered i anywhere) pins ≡ greatest_gap design table false (shared_in design table false pins) pins
+  gaps_same none g = gaps-same 0 pins g (recursion_from_All IsClear pins none)
+
+-- the same table where more items are allowed
+pub ready_more : (design : Design) (items more : ℕ) (table : List Standing) → items ≤ more → IsReady design items table → IsReady design more table
+ready_more design items more table le ready = record {
+  count = ready.count;
+  each = λ i d lt. (let k = ready.each i d lt in
+      record { side = k.side; range = k.range; home = if-some (λ h. (h.item < items) × IsNearby h.reach) (λ h. (h.item < more) × IsNearby h.reach) (get_or table i d).home (λ h v. (omega (arith, v.0, le), v.1)) k.home });
+}

@@ -1,34 +1,15 @@
--- A solution of a solved subproblem tells its value.
-use Rattle.std.proofs.Common.{◌≡◌, ℕ, ◌<◌, ◌≤◌, arith, ap, sym, ◌∙◌, inl, inr, true, false}
-use Rattle.std.specs.Prelude.{not, ◌==◌, ◌||◌}
+-- Where wires count, the value of each subproblem is that of an open one.
+use Rattle.std.proofs.Common.{◌≡◌, ℕ, ◌<◌, arith, refl, ap, sym, ◌∙◌, true, false}
+use Rattle.std.specs.Prelude.{not, ◌==◌, ◌||◌, Result, Ok, Err, IfOk}
 use Rattle.std.specs.List.{list_all}
-use Rattle.std.proofs.lemmas.Bool.{and_parts, ne_eqb}
+use Rattle.std.proofs.lemmas.Bool.{and_parts, ne_eqb, cond-true, cond_both}
 use Rattle.sf_model.specs.declared.design.Design.{Design}
-use Rattle.sf_model.specs.declared.TheConstants.{MAX}
-use Rattle.sf_model.proofs.Bounded.{cost-below}
-use Rattle.sf_polish.specs.declared.expr.Expr.{Expr}
 use Rattle.sf_node.specs.Parts.{Parts}
 use Rattle.sf_node.specs.Subproblem.{is_complete, is_solved, is_wide}
 use Rattle.sf_node.specs.Children.{IsSubproblem}
-use Rattle.sf_standard.specs.Standard.{standard}
-use Rattle.sf_standard.proofs.Exact.{standard_is_exact}
-use Rattle.sf_bounds.specs.Cheapest.{IsCheapest, NoneOfNode}
-
-pub cheapest_value : (design : Design) (node : Parts) (expr : Expr) (z : ℕ) → IsSubproblem design node → is_solved design node ≡ true → IsCheapest design node expr z → z ≡ standard design node
-cheapest_value design node expr z sub solved k =
-    let exact = standard_is_exact design node sub solved in
-    let up : standard design node ≤ z = omega (arith, exact.below k.plan.tree k.plan.belongs k.plan.fits, k.plan.costs) in
-    elim exact.reached [
-      | inl none ↦ absurd (omega (arith, up, none, k.plan.costs, cost-below design k.plan.tree k.plan.fits))
-      | inr r ↦ (let down : z ≤ standard design node = omega (arith, k.below r.tree r.belongs r.fits, r.costs) in omega (arith, up, down))
-    ]
-
-pub none_value : (design : Design) (node : Parts) → IsSubproblem design node → is_solved design node ≡ true → NoneOfNode design node → MAX ≡ standard design node
-none_value design node sub solved none =
-    elim (standard_is_exact design node sub solved).reached [
-      | inl is ↦ sym is
-      | inr r ↦ absurd (none r.tree r.belongs r.fits)
-    ]
+use Rattle.sf_standard.specs.Items.{items_of}
+use Rattle.sf_standard.specs.Standard.{least_cost, open_value, standard, SinglesAreOpen}
+use Rattle.sf_standard.proofs.Soundness.{solved-complete}
 
 -- where wires count, the spans of a solved subproblem are single
 pub solved_single : (design : Design) (node : Parts) → is_solved design node ≡ true → 0 < design.weights.wire → list_all (λ span. not (is_wide span)) node.spans ≡ true
@@ -36,3 +17,16 @@ solved_single design node solved wires =
     let zero_wire : (design.weights.wire == 0) ≡ false = ne_eqb design.weights.wire 0 (λ e. absurd (omega (arith, e, wires))) in
     ap (λ b. b || list_all (λ span. not (is_wide span)) node.spans) (sym zero_wire)
     ∙ (and_parts (is_complete node) (design.weights.wire == 0 || list_all (λ span. not (is_wide span)) node.spans) solved).1
+
+-- where wires count, so is the value of a solved one
+pub open_standard : (design : Design) (node : Parts) → SinglesAreOpen design → IsSubproblem design node → (is_complete node ≡ true → 0 < design.weights.wire) → standard design node ≡ open_value design node
+open_standard design node law sub wires =
+    cond_both (is_solved design node) (least_cost design node (items_of node)) (open_value design node) (λ v. v ≡ open_value design node)
+    (λ solved. let complete = solved-complete design node solved in
+    sym (cond-true (is_solved design node) (least_cost design node (items_of node)) (open_value design node) solved)
+    ∙ law node sub complete (solved_single design node solved (wires complete)))
+    (λ _. refl)
+
+pub if_ok_open : {E : Type 0} (design : Design) (node : Parts) (r : Result ℕ E) → SinglesAreOpen design → IsSubproblem design node → (is_complete node ≡ true → 0 < design.weights.wire) → IfOk r (λ v. v ≡ open_value design node) → IfOk r (λ v. v ≡ standard design node)
+if_ok_open design node (Ok v) law sub wires e = e ∙ sym (open_standard design node law sub wires)
+if_ok_open design node (Err x) law sub wires e = tt

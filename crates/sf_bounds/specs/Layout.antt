@@ -1,6 +1,7 @@
 -- Where the blocks of a subproblem stand: the extent of each, and its seat in an item.
-use Rattle.std.specs.Prelude.{◌≡◌, ℕ, suc, ◌+◌, ◌-◌, ◌<◌, ◌≤◌, max, List, [], ◌∷◌, ◌++◌, length, map, reverse, take, drop, All, count_by, ◌==◌, if◌then◌else◌, slice_index_or}
+use Rattle.std.specs.Prelude.{◌≡◌, ℕ, suc, ◌+◌, ◌-◌, ◌<◌, ◌≤◌, min, max, List, [], ◌∷◌, ◌++◌, length, map, reverse, take, drop, All, count_by, ◌==◌, slice_index_or}
 use Rattle.sf_model.specs.declared.design.Design.{Design}
+use Rattle.sf_model.specs.declared.parts.Shape.{Shape}
 use Rattle.sf_model.specs.Legal.{block_count}
 use Rattle.sf_polish.specs.declared.expr.Token.{Token}
 use Rattle.sf_polish.specs.declared.expr.Token.TheVariants as token
@@ -9,12 +10,21 @@ use Rattle.sf_standard.specs.declared.hull.Extent.{Extent}
 use Rattle.sf_standard.specs.declared.hull.Offset.{Offset}
 use Rattle.sf_standard.specs.Items.{Item, items_of, span_shapes}
 use Rattle.sf_standard.specs.Hull.{extent_of, item_extent, offsets, moved_right, moved_up}
+use Rattle.sf_bounds.specs.declared.laying.Way.{Way}
+use Rattle.sf_bounds.specs.declared.laying.Way.TheVariants as way
 use Rattle.sf_bounds.specs.declared.layout.Held.{Held}
 use Rattle.sf_bounds.specs.declared.layout.Seat.{Seat}
 
 -- the extent of each block in its span
 abbrev pub extent_in : Design → Parts → ℕ → Extent
 extent_in design node b = extent_of (span_shapes design node b)
+
+-- of one shape, and of some with one more
+abbrev pub single_extent : Shape → Extent
+single_extent s = record { least_w = s.w; most_w = s.w; least_h = s.h; most_h = s.h }
+
+abbrev pub with_shape : Extent → Shape → Extent
+with_shape e s = record { least_w = min e.least_w s.w; most_w = max e.most_w s.w; least_h = min e.least_h s.h; most_h = max e.most_h s.h }
 
 -- the list tells a function of the numbers below n
 pub record Tells {X : Type 0} (f : ℕ → X) (n : ℕ) (xs : List X) : Type 0 where
@@ -27,6 +37,15 @@ beside_extent p q = record { least_w = p.least_w + q.least_w; most_w = p.most_w 
 
 abbrev pub above_extent : Extent → Extent → Extent
 above_extent p q = record { least_w = max p.least_w q.least_w; most_w = max p.most_w q.most_w; least_h = p.least_h + q.least_h; most_h = p.most_h + q.most_h }
+
+-- what an operator does to the sides of two items, and to the places of the second one's blocks
+abbrev pub joined_extent : Way → Extent → Extent → Extent
+joined_extent way.Beside = beside_extent
+joined_extent way.Above = above_extent
+
+abbrev pub moved : Way → Extent → Offset → Offset
+moved way.Beside = moved_right
+moved way.Above = moved_up
 
 abbrev pub held_of : (ℕ → Extent) → Item → Held
 held_of extent i = record { extent = item_extent extent i; blocks = length (offsets extent i) }
@@ -58,12 +77,16 @@ pub record JoinsTop (join : Extent → Extent → Extent) (move : Extent → Off
   pub seats : let start = length old_seats - right.blocks in
       new_seats ≡ take start old_seats ++ map (reseated (length below) (move left.extent)) (drop start old_seats)
 
+-- the seat of a block that is an item by itself
+abbrev pub own_seat : ℕ → ℕ → Seat
+own_seat item b = seat_at item (record { block = b; least_x = 0; most_x = 0; least_y = 0; most_y = 0 })
+
 abbrev pub Lays : (ℕ → Extent) → Token → List Held → List Held → List Seat → List Seat → Type 0
 Lays extent (token.Block b) old new old_seats new_seats =
     (new ≡ old ++ (record { extent = extent b; blocks = 1 }) ∷ [])
-    × (new_seats ≡ old_seats ++ seat_at (length old) (record { block = b; least_x = 0; most_x = 0; least_y = 0; most_y = 0 }) ∷ [])
-Lays extent token.Beside old new old_seats new_seats = JoinsTop beside_extent moved_right old new old_seats new_seats
-Lays extent token.Above old new old_seats new_seats = JoinsTop above_extent moved_up old new old_seats new_seats
+    × (new_seats ≡ old_seats ++ own_seat (length old) b ∷ [])
+Lays extent token.Beside old new old_seats new_seats = JoinsTop (joined_extent way.Beside) (moved way.Beside) old new old_seats new_seats
+Lays extent token.Above old new old_seats new_seats = JoinsTop (joined_extent way.Above) (moved way.Above) old new old_seats new_seats
 
 -- numbers of sides and places are at most 320 times 2^20
 abbrev pub IsModest : ℕ → Type 0
@@ -86,15 +109,6 @@ pub record AreModest (held : List Held) (seats : List Seat) : Type 0 where
   pub blocks : All (λ h. h.blocks ≤ length seats) held
   pub offsets : All (λ s. IsModestOffset s.offset) seats
   pub few : length seats ≤ 320
-
--- the last seat of a block in the list, or d where there is none
-abbrev pub last_seat : Seat → ℕ → List Seat → Seat
-last_seat d b [] = d
-last_seat d b (s ∷ ss) = last_seat (if s.offset.block == b then s else d) b ss
-
--- the seat of a block that stands in no item
-abbrev pub no_seat : ℕ → ℕ → Seat
-no_seat items b = seat_at items (record { block = b; least_x = 0; most_x = 0; least_y = 0; most_y = 0 })
 
 -- the items of a subproblem are laid out, and no block has two seats
 pub record AreSeated (design : Design) (node : Parts) (stack : List Held) (places : List Seat) : Type 0 where

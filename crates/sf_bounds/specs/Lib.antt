@@ -1,3 +1,4 @@
+pub mod Serving
 pub mod Curves
 pub mod Least
 pub mod Open

@@ -1,10 +1,12 @@
-ghost use Rattle.std.specs.Prelude.{◌≡◌, ℕ, map, IfOk};
+ghost use Rattle.std.specs.Prelude.{◌≡◌, ℕ, map, Some, IfOk};
 ghost use Rattle.sf_model.specs.declared.design.Design.{Design as DesignValue};
 ghost use Rattle.sf_node.specs.Parts.{Parts};
 ghost use Rattle.sf_node.specs.Bounds.{IsSound, IsExactAtEnd};
 ghost use Rattle.sf_node.specs.Children.{IsSubproblem, extended};
+ghost use Rattle.sf_node.specs.Later.{IsChildOf};
+ghost use Rattle.sf_bounds.specs.Serving.{MayServe};
 
-use crate::children::children_values;
+use crate::children::value_from;
 use crate::room::Room;
 use crate::value::standard_value;
 use sf_model::Design;
@@ -14,28 +16,55 @@ use std::alloc::AllocError as NoMemory;
 /// A function from subproblems to numbers that no fitting plan of the subproblem undercuts.
 pub trait Bounds: Values + Sync {
     /// The value of a subproblem.
-    fn bound(&self, design: &Design, node: &Node, room: &mut Room) -> Result<u64, NoMemory>
-        requires { IsSubproblem design.now node.now }
-        ensures { IfOk result (λ v. v ≡ Self.Values.value self.now design.now node.now) };
+    fn bound<'a>(
+        &self,
+        design: &'a Design,
+        node: &Node,
+        room: &mut Room<'a>,
+    ) -> Result<u64, NoMemory>
+        requires subproblem { IsSubproblem design.now node.now }
+        requires serves { MayServe room.old design.now }
+        ensures value { IfOk result (λ v. v ≡ Self.Values.value self.now design.now node.now) }
+        ensures serves { room.new ≡ Some design.now };
+
+    /// The value of a child of a subproblem whose value is given. A bound that keeps its value at some children may answer
+    /// it from that.
+    fn child_bound<'a>(
+        &self,
+        design: &'a Design,
+        child: &Node,
+        value: u64,
+        room: &mut Room<'a>,
+    ) -> Result<u64, NoMemory>
+        requires child { IsChildOf design.now (Self.Values.value self.now design.now) value child.now }
+        requires serves { MayServe room.old design.now }
+        ensures value { IfOk result (λ v. v ≡ Self.Values.value self.now design.now child.now) }
+        ensures serves { room.new ≡ Some design.now }
+    {
+        self.bound(design, child, room)
+    }
 
     /// The values of the children by extending, in order. A bound that keeps its value at some children may answer them
     /// from the parent's.
-    fn children_bounds(
+    fn children_bounds<'a>(
         &self,
-        design: &Design,
+        design: &'a Design,
         parent: &Node,
         value: u64,
         children: &[Node],
-        room: &mut Room,
+        room: &mut Room<'a>,
     ) -> Result<Vec<u64>, NoMemory>
         requires parent { IsSubproblem design.now parent.now }
         requires value { value ≡ Self.Values.value self.now design.now parent.now }
         requires children { children.now ≡ extended parent.now }
-        ensures { IfOk result (λ values. values.items ≡ map (Self.Values.value self.now design.now) children.now) }
+        requires serves { MayServe room.old design.now }
+        ensures values { IfOk result (λ values. values.items ≡ map (Self.Values.value self.now design.now) children.now) }
+        ensures serves { room.new ≡ Some design.now }
     {
-        let mut values = Vec::new(room.alloc);
+        room.serve(design);
+        let mut values = Vec::new(room.allocator());
         for child in children {
-            values.push(self.bound(design, child, room)?)?;
+            values.push(self.child_bound(design, child, value, room)?)?;
         }
         Ok(values)
     }
@@ -64,18 +93,30 @@ impl Bounds for Standard {
 
     ghost exact = { λ bounds design. standard_is_exact design };
 
-    fn bound(&self, design: &Design, node: &Node, room: &mut Room) -> Result<u64, NoMemory> {
-        standard_value(room, design, node)
+    fn bound<'a>(
+        &self,
+        design: &'a Design,
+        node: &Node,
+        room: &mut Room<'a>,
+    ) -> Result<u64, NoMemory> {
+        room.serve(design);
+        let Some(frames) = &mut room.frames else {
+            unreachable!()
+        };
+        standard_value(frames, &mut room.scratch, design, node)
     }
 
-    fn children_bounds(
+    fn child_bound<'a>(
         &self,
-        design: &Design,
-        parent: &Node,
+        design: &'a Design,
+        child: &Node,
         value: u64,
-        children: &[Node],
-        room: &mut Room,
-    ) -> Result<Vec<u64>, NoMemory> {
-        children_values(room, design, parent, value, children)
+        room: &mut Room<'a>,
+    ) -> Result<u64, NoMemory> {
+        room.serve(design);
+        let Some(frames) = &mut room.frames else {
+            unreachable!()
+        };
+        value_from(frames, &mut room.scratch, design, child, value)
     }
 }

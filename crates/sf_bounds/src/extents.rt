@@ -1,7 +1,7 @@
-ghost use Rattle.std.specs.Prelude.{◌≡◌, ◌<◌, ◌≤◌, length, slice_range, OnOk, fold, min, max};
+ghost use Rattle.std.specs.Prelude.{◌≡◌, ◌<◌, ◌≤◌, length, slice_range, OnOk};
 ghost use Rattle.sf_node.specs.Children.{IsSubproblem};
 ghost use Rattle.sf_standard.specs.Hull.{extent_of};
-ghost use Rattle.sf_bounds.specs.Layout.{extent_in, Tells};
+ghost use Rattle.sf_bounds.specs.Layout.{extent_in, single_extent, with_shape, Tells};
 
 use sf_model::{Design, Shape};
 use sf_node::Node;
@@ -20,36 +20,33 @@ pub fn extent_of(shapes: &[Shape]) -> Extent
             most_h: 0,
         };
     };
+    let mut extent = single(*first);
+    for shape in rest {
+        extent = with_shape(extent, *shape);
+    }
+    extent
+}
+
+fn single(shape: Shape) -> Extent
+    ensures { result ≡ single_extent shape }
+{
     Extent {
-        least_w: least_width(first.w, rest),
-        most_w: most_width(first.w, rest),
-        least_h: least_height(first.h, rest),
-        most_h: most_height(first.h, rest),
+        least_w: shape.w,
+        most_w: shape.w,
+        least_h: shape.h,
+        most_h: shape.h,
     }
 }
 
-fn least_width(first: u32, rest: &[Shape]) -> u32
-    ensures { result ≡ fold (λ n t. min n t.w) first rest.now }
+fn with_shape(extent: Extent, shape: Shape) -> Extent
+    ensures { result ≡ with_shape extent shape }
 {
-    rest.iter().fold(first, |least, shape| least.min(shape.w))
-}
-
-fn most_width(first: u32, rest: &[Shape]) -> u32
-    ensures { result ≡ fold (λ n t. max n t.w) first rest.now }
-{
-    rest.iter().fold(first, |most, shape| most.max(shape.w))
-}
-
-fn least_height(first: u32, rest: &[Shape]) -> u32
-    ensures { result ≡ fold (λ n t. min n t.h) first rest.now }
-{
-    rest.iter().fold(first, |least, shape| least.min(shape.h))
-}
-
-fn most_height(first: u32, rest: &[Shape]) -> u32
-    ensures { result ≡ fold (λ n t. max n t.h) first rest.now }
-{
-    rest.iter().fold(first, |most, shape| most.max(shape.h))
+    Extent {
+        least_w: extent.least_w.min(shape.w),
+        most_w: extent.most_w.max(shape.w),
+        least_h: extent.least_h.min(shape.h),
+        most_h: extent.most_h.max(shape.h),
+    }
 }
 
 fn part_extent(shapes: &[Shape], from: u16, to: u16) -> Extent

@@ -1,3 +1,4 @@
+use crate::reach::Reach;
 use sf_standard::{Extent, Offset};
 
 /// An item on the stack: its least and greatest sides, and how many blocks it has.
@@ -14,13 +15,28 @@ pub struct Seat {
     pub offset: Offset,
 }
 
-/// Where the blocks of one subproblem stand: the extent of each, the items and the seats on the stack, the seat of each
-/// block by number, and the item of the pads.
+/// The item in which a pin counts, by its place on the stack, and where the pin lies from the item's corner.
+#[derive(Clone, Copy, Debug)]
+pub struct Home {
+    pub item: usize,
+    pub reach: Reach,
+}
+
+/// What the pins of a block are measured by: its lesser side, where it lies anywhere in the outline, and its home if it
+/// stands in an item.
+#[derive(Clone, Copy, Debug)]
+pub struct Standing {
+    pub side: u64,
+    pub range: Reach,
+    pub home: Option<Home>,
+}
+
+/// Where the blocks of one subproblem stand: the extent of each, the items and the seats on the stack, and the standing of
+/// each block by number.
 #[derive(Drop)]
 pub struct Layout {
     pub extents: Vec<Extent>,
     pub held: Vec<Held>,
     pub seats: Vec<Seat>,
-    pub table: Vec<Seat>,
-    pub pads_item: usize,
+    pub table: Vec<Standing>,
 }

@@ -1,34 +1,24 @@
-ghost use Rattle.std.specs.Prelude.{◌≡◌, ◌<◌, ◌≤◌, ◌*◌, ◌+◌, ◌-ℤ◌, pos, length, All, slice_index_or, fold, max, ℕ};
+ghost use Rattle.std.specs.Prelude.{◌≡◌, ◌<◌, ◌≤◌, length, All, IfSome, max, true, false};
 ghost use Rattle.sf_model.specs.Limits.{pin_number, pin_count};
-ghost use Rattle.sf_standard.specs.Hull.{range_part, pair_part, small_side};
-ghost use Rattle.sf_bounds.specs.Pins.{InTable, IsNet, IsReady, extent_from, pad_reach, pin_range, pin_item, pin_reach, gathers, paired, pairs_pin, item_gap, shared_gap};
-ghost use Rattle.sf_bounds.specs.Near.{anywhere, IsNearby};
+ghost use Rattle.sf_bounds.specs.Near.{reach_gap};
+ghost use Rattle.sf_bounds.specs.Pins.{IsNet, IsReady, pad_reach, pin_range, pin_home, narrowed, paired, pairs_pin, shared_ranges, paired_sides, shared_homes, shared_in, greatest_gap};
 
-use crate::layout::Layout;
+use crate::homes::hull_part;
+use crate::layout::{Home, Standing};
 use crate::meet::{met, reach_gap};
 use crate::reach::{ANYWHERE, Reach};
 use sf_model::{Design, Pin};
-use sf_standard::{Extent, Interval};
+use sf_standard::Interval;
 
-/// The greatest sum of two sides so far.
-#[derive(Clone, Copy, Debug, PartialEq, Eq)]
+/// The greatest side and the greatest sum of two sides so far.
+#[derive(Clone, Copy, Debug)]
 pub struct Pair {
-    pub some: bool,
-    pub most: u64,
+    pub most: Option<u64>,
     pub sum: u64,
 }
 
-fn block_range(least: u32, side: u32) -> Interval
-    requires least { least ≤ 1048576 }
-    requires side { side ≤ 1048576 }
-    ensures { result ≡ record { low = pos least; high = pos (2 * side) -ℤ pos least } }
-{
-    let least = i64::from(least);
-    Interval {
-        low: least,
-        high: 2 * i64::from(side) - least,
-    }
-}
+// The pair of no sides.
+const NO_PAIR: Pair = Pair { most: None, sum: 0 };
 
 fn pad_reach(design: &Design, pad: u16) -> Reach
     requires { pad < length design.now.pads }
@@ -44,197 +34,100 @@ fn pad_reach(design: &Design, pad: u16) -> Reach
 }
 
 // Where a pin lies, anywhere in the outline.
-fn pin_range(design: &Design, layout: &Layout, pin: Pin) -> Reach
-    requires ready { IsReady design.now layout.now }
+fn pin_range(design: &Design, table: &[Standing], pin: Pin) -> Reach
+    requires table { length table.now ≡ length design.now.blocks }
     requires inside { pin_number pin < pin_count (length design.now.blocks) (length design.now.pads) pin }
-    ensures { result ≡ pin_range design.now (extent_from layout.now.extents.items) pin }
+    ensures { result ≡ pin_range design.now table.now pin }
 {
     match pin {
-        Pin::Block(block) => {
-            let extent = layout.extents[usize::from(block)];
-            Reach {
-                across: block_range(extent.least_w, design.outline.w),
-                upward: block_range(extent.least_h, design.outline.h),
-            }
-        }
+        Pin::Block(block) => table[usize::from(block)].range,
         Pin::Pad(pad) => pad_reach(design, pad),
     }
 }
 
-/// What the wire of a net is at least, since its pins lie in the outline.
-pub fn range_part(design: &Design, layout: &Layout, pins: &[Pin]) -> u64
-    requires ready { IsReady design.now layout.now }
-    requires inside { IsNet design.now pins.now }
-    ensures is { result ≡ range_part design.now (extent_from layout.now.extents.items) (record { pins = pins.now }) }
-    ensures small { result ≤ 2800000000 }
-{
-    let mut reach = ANYWHERE;
-    for pin in pins {
-        reach = met(reach, pin_range(design, layout, *pin));
-    }
-    reach_gap(reach)
-}
-
-fn small_side(extent: Extent) -> u64
-    ensures { result ≡ small_side extent }
-{
-    u64::from(extent.least_w.min(extent.least_h))
-}
-
 fn with_side(pair: Pair, side: u64) -> Pair
-    requires most { pair.most ≤ 1048576 }
+    requires most { IfSome pair.most (λ most. most ≤ 1048576) }
     requires side { side ≤ 1048576 }
-    ensures { result ≡ paired pair side }
+    ensures { result ≡ paired pair.most pair.sum side }
 {
-    let sum = if pair.some {
-        pair.sum.max(pair.most + side)
-    } else {
-        pair.sum
-    };
-    Pair {
-        some: true,
-        most: pair.most.max(side),
-        sum,
+    match pair.most {
+        None => Pair {
+            most: Some(side),
+            sum: pair.sum,
+        },
+        Some(most) => Pair {
+            most: Some(most.max(side)),
+            sum: pair.sum.max(most + side),
+        },
     }
 }
 
-/// The sum of the two greatest small sides among the blocks of a net.
-pub fn pair_part(design: &Design, layout: &Layout, pins: &[Pin]) -> u64
-    requires ready { IsReady design.now layout.now }
-    requires inside { IsNet design.now pins.now }
-    ensures is { result ≡ pair_part (extent_from layout.now.extents.items) (record { pins = pins.now }) }
-    ensures small { result ≤ 2097152 }
-{
-    let mut pair = Pair {
-        some: false,
-        most: 0,
-        sum: 0,
-    };
-    for pin in pins {
-        pair = pair_pin(design, layout, pair, *pin);
-    }
-    pair.sum
-}
-
-fn pair_pin(design: &Design, layout: &Layout, pair: Pair, pin: Pin) -> Pair
-    requires ready { IsReady design.now layout.now }
+// The pair with the lesser side of a pin's block.
+fn pair_pin(pair: Pair, design: &Design, table: &[Standing], pin: Pin) -> Pair
+    requires table { length table.now ≡ length design.now.blocks }
     requires inside { pin_number pin < pin_count (length design.now.blocks) (length design.now.pads) pin }
-    requires most { pair.most ≤ 1048576 }
-    ensures { result ≡ pairs_pin (extent_from layout.now.extents.items) pair pin }
+    requires sides { All (λ s. s.side ≤ 1048576) table.now }
+    requires most { IfSome pair.most (λ most. most ≤ 1048576) }
+    ensures { result ≡ pairs_pin table.now pair pin }
 {
     match pin {
-        Pin::Block(block) => with_side(pair, small_side(layout.extents[usize::from(block)])),
+        Pin::Block(block) => with_side(pair, table[usize::from(block)].side),
         Pin::Pad(_) => pair,
     }
 }
 
-fn pin_item(layout: &Layout, pin: Pin) -> usize
-    requires { InTable (length layout.now.table.items) pin }
-    ensures { result ≡ pin_item layout.now pin }
-{
-    match pin {
-        Pin::Block(block) => layout.table[usize::from(block)].item,
-        Pin::Pad(_) => layout.pads_item,
-    }
-}
-
-fn block_reach(design: &Design, layout: &Layout, block: u16) -> Reach
-    requires ready { IsReady design.now layout.now }
-    requires inside { block < length design.now.blocks }
-    ensures { result ≡ pin_reach design.now layout.now (Pin.Block block) }
-{
-    let offset = layout.table[usize::from(block)].offset;
-    let extent = layout.extents[usize::from(offset.block)];
-    Reach {
-        across: ends(offset.least_x, extent.least_w, offset.most_x, extent.most_w),
-        upward: ends(offset.least_y, extent.least_h, offset.most_y, extent.most_h),
-    }
-}
-
-fn ends(least: u32, least_side: u32, most: u32, most_side: u32) -> Interval
-    ensures { result ≡ record { low = pos (2 * least + least_side); high = pos (2 * most + most_side) } }
-{
-    Interval {
-        low: 2 * i64::from(least) + i64::from(least_side),
-        high: 2 * i64::from(most) + i64::from(most_side),
-    }
-}
-
-// Where a pin lies from the corner of its item.
-fn pin_reach(design: &Design, layout: &Layout, pin: Pin) -> Reach
-    requires ready { IsReady design.now layout.now }
+// What the one item of a complete subproblem leaves of a reach at one more pin.
+fn hull_pin(reach: Reach, design: &Design, table: &[Standing], pin: Pin) -> Reach
+    requires table { length table.now ≡ length design.now.blocks }
     requires inside { pin_number pin < pin_count (length design.now.blocks) (length design.now.pads) pin }
-    ensures { result ≡ pin_reach design.now layout.now pin }
+    ensures { result ≡ narrowed reach (pin_home design.now table.now true pin) }
 {
     match pin {
-        Pin::Block(block) => block_reach(design, layout, block),
-        Pin::Pad(pad) => pad_reach(design, pad),
+        Pin::Block(block) => narrowed(reach, table[usize::from(block)].home),
+        Pin::Pad(pad) => met(reach, pad_reach(design, pad)),
     }
 }
 
-// Forgets what the items of some pins shared.
-fn clear_reaches(reaches: &mut [Reach], design: &Design, layout: &Layout, pins: &[Pin])
-    requires ready { IsReady design.now layout.now }
-    requires inside { IsNet design.now pins.now }
-    requires sized { length layout.now.held.items < length reaches.old }
-    ensures { All (λ p. slice_index_or reaches.new (pin_item layout.now p) anywhere ≡ anywhere) pins.now }
+fn narrowed(reach: Reach, home: Option<Home>) -> Reach
+    ensures { result ≡ narrowed reach home }
 {
-    for pin in pins {
-        reaches[pin_item(layout, *pin)] = ANYWHERE;
+    match home {
+        Some(home) => met(reach, home.reach),
+        None => reach,
     }
 }
 
-// Narrows the reach of each item by the net's pins in it.
-fn gather(reaches: &mut [Reach], design: &Design, layout: &Layout, pins: &[Pin])
-    requires ready { IsReady design.now layout.now }
+/// What the wire of a net is at least in a complete subproblem: range, pair and hull in one pass over its pins.
+pub fn whole_part(design: &Design, table: &[Standing], pins: &[Pin]) -> u64
+    requires ready { IsReady design.now 1 table.now }
     requires inside { IsNet design.now pins.now }
-    requires sized { length layout.now.held.items < length reaches.old }
-    ensures { (i : ℕ) → slice_index_or reaches.new i anywhere ≡ fold (gathers design.now layout.now i) (slice_index_or reaches.old i anywhere) pins.now }
-{
-    for pin in pins {
-        let item = pin_item(layout, *pin);
-        reaches[item] = met(reaches[item], pin_reach(design, layout, *pin));
-    }
-}
-
-fn gap_at(reaches: &[Reach], layout: &Layout, pin: Pin) -> u64
-    requires inside { InTable (length layout.now.table.items) pin }
-    requires sized { length layout.now.held.items < length reaches.now }
-    requires near { IsNearby (slice_index_or reaches.now (pin_item layout.now pin) anywhere) }
-    ensures is { result ≡ item_gap layout.now reaches.now pin }
+    ensures is { result ≡ max (reach_gap (shared_ranges design.now table.now pins.now)) (max (paired_sides table.now pins.now).sum (reach_gap (shared_homes design.now table.now pins.now))) }
     ensures small { result ≤ 2800000000 }
 {
-    let item = pin_item(layout, pin);
-    if item < layout.held.len() {
-        return reach_gap(reaches[item]);
-    }
-    0
-}
-
-fn greatest_gap(reaches: &[Reach], design: &Design, layout: &Layout, pins: &[Pin]) -> u64
-    requires ready { IsReady design.now layout.now }
-    requires inside { IsNet design.now pins.now }
-    requires sized { length layout.now.held.items < length reaches.now }
-    requires near { All (λ p. IsNearby (slice_index_or reaches.now (pin_item layout.now p) anywhere)) pins.now }
-    ensures is { result ≡ fold (λ n p. max n (item_gap layout.now reaches.now p)) 0 pins.now }
-    ensures small { result ≤ 2800000000 }
-{
-    let mut most = 0u64;
+    let mut range = ANYWHERE;
+    let mut pair = NO_PAIR;
+    let mut hull = ANYWHERE;
     for pin in pins {
-        most = most.max(gap_at(reaches, layout, *pin));
+        range = met(range, pin_range(design, table, *pin));
+        pair = pair_pin(pair, design, table, *pin);
+        hull = hull_pin(hull, design, table, *pin);
     }
-    most
+    reach_gap(range).max(pair.sum.max(reach_gap(hull)))
 }
 
-/// The greatest gap between the pins of a net in one item.
-pub fn hull_part(reaches: &mut [Reach], design: &Design, layout: &Layout, pins: &[Pin]) -> u64
-    requires ready { IsReady design.now layout.now }
+/// What the wire of a net is at least in an incomplete subproblem.
+pub fn open_part(reaches: &mut [Reach], design: &Design, table: &[Standing], pins: &[Pin]) -> u64
+    requires ready { IsReady design.now (length reaches.old) table.now }
     requires inside { IsNet design.now pins.now }
-    requires sized { length layout.now.held.items < length reaches.old }
-    ensures is { result ≡ fold (λ n p. max n (shared_gap design.now layout.now pins.now p)) 0 pins.now }
+    ensures is { result ≡ max (reach_gap (shared_ranges design.now table.now pins.now)) (max (paired_sides table.now pins.now).sum (greatest_gap design.now table.now false (shared_in design.now table.now false pins.now) pins.now)) }
     ensures small { result ≤ 2800000000 }
 {
-    clear_reaches(reaches, design, layout, pins);
-    gather(reaches, design, layout, pins);
-    greatest_gap(reaches, design, layout, pins)
+    let mut range = ANYWHERE;
+    let mut pair = NO_PAIR;
+    for pin in pins {
+        range = met(range, pin_range(design, table, *pin));
+        pair = pair_pin(pair, design, table, *pin);
+    }
+    let hull = hull_part(reaches, design, table, pins);
+    reach_gap(range).max(pair.sum.max(hull))
 }

@@ -1,34 +1,51 @@
-use crate::layout::Layout;
-use crate::reach::Reach;
-use crate::stock::Stock;
-use sf_curves::Curve;
-use std::alloc::Global;
+ghost use Rattle.std.specs.Prelude.{◌≡◌, Some, None};
+ghost use Rattle.sf_bounds.specs.Serving.{MayServe};
 
-/// Scratch memory of one worker. No answer depends on what it holds.
+use crate::scratch::Scratch;
+use sf_frames::Frames;
+use sf_model::Design;
+use std::alloc::Global;
+use std::marker::Model;
+
+/// Memory of one worker, for the subproblems of one design. A contract sees it as the design that it serves, or none.
 #[derive(Drop)]
-pub struct Room {
-    pub(crate) alloc: Global,
-    pub(crate) curves: Vec<Curve>,
-    pub(crate) stock: Stock,
-    pub(crate) layout: Layout,
-    pub(crate) reaches: Vec<Reach>,
+pub struct Room<'a> {
+    pub(crate) frames: Option<Frames<'a>>,
+    pub(crate) scratch: Scratch,
 }
 
-impl Room {
-    /// An empty room, which takes memory as the calls need it.
-    pub fn new(alloc: Global) -> Room {
+impl<'a> Model for Room<'a> {
+    ghost use Rattle.std.specs.Prelude.{Option};
+    ghost use Rattle.sf_model.specs.declared.design.Design.{Design};
+
+    ghost Value = { Option Design };
+
+    ghost view = { λ r. r.frames };
+}
+
+impl<'a> Room<'a> {
+    /// A room that serves no design yet, and takes memory as the calls need it.
+    pub fn new(alloc: Global) -> Room<'a>
+        ensures { result ≡ None }
+    {
         Room {
-            alloc,
-            curves: Vec::new(alloc),
-            stock: Stock::new(alloc),
-            layout: Layout {
-                extents: Vec::new(alloc),
-                held: Vec::new(alloc),
-                seats: Vec::new(alloc),
-                table: Vec::new(alloc),
-                pads_item: 0,
-            },
-            reaches: Vec::new(alloc),
+            frames: None,
+            scratch: Scratch::new(alloc),
         }
+    }
+
+    /// From now on it serves this design.
+    pub fn serve(&mut self, design: &'a Design)
+        requires { MayServe self.old design.now }
+        ensures { self.new ≡ Some design.now }
+    {
+        if self.frames.is_none() {
+            self.frames = Some(Frames::new(self.scratch.alloc, design));
+        }
+    }
+
+    /// Where its memory comes from.
+    pub fn allocator(&self) -> Global {
+        self.scratch.alloc
     }
 }

@@ -1,5 +1,6 @@
 ghost use Rattle.std.specs.Prelude.{◌≡◌, ◌∷◌, [], IfOk, IfSome, length};
 ghost use Rattle.sf_node.specs.Children.{IsSubproblem};
+ghost use Rattle.sf_bounds.specs.Serving.{MayServe};
 
 use crate::{Bounds, Room, Standard, solve};
 use sf_model::{
@@ -67,20 +68,41 @@ fn halves(design: &Design, node: &Node) -> Result<Option<(Node, Node)>, AllocErr
     Ok(Some(pair))
 }
 
+/// The values of the two halves of a subproblem, and of the halves of the second one.
+fn values_of_halves<'a>(
+    design: &'a Design,
+    room: &mut Room<'a>,
+    whole: &Node,
+) -> Result<Option<[u64; 4]>, AllocError>
+    requires whole { IsSubproblem design.now whole.now }
+    requires serves { MayServe room.old design.now }
+    ensures serves { MayServe room.new design.now }
+{
+    let Some((high, low)) = halves(design, whole)? else {
+        return Ok(None);
+    };
+    let first = Standard.bound(design, &high, room)?;
+    let second = Standard.bound(design, &low, room)?;
+    let Some((square, wide)) = halves(design, &low)? else {
+        return Ok(None);
+    };
+    let third = Standard.bound(design, &square, room)?;
+    let fourth = Standard.bound(design, &wide, room)?;
+    Ok(Some([first, second, third, fourth]))
+}
+
 #[test]
 fn measures(rt: HostRuntime) -> Result<(), Fail> {
     let alloc = rt.alloc();
-    let mut room = Room::new(alloc);
     let design = three_shapes(alloc)?;
+    let mut room = Room::new(alloc);
     let start = root(alloc, &design)?;
     assert_eq!(rt; Standard.bound(&design, &start, &mut room)?, 24);
     let whole = last_child(&design, &start)?.ok_or("no child")?;
     assert_eq!(rt; Standard.bound(&design, &whole, &mut room)?, 194);
-    let (high, low) = halves(&design, &whole)?.ok_or("one shape")?;
-    assert_eq!(rt; Standard.bound(&design, &high, &mut room)?, 234);
-    assert_eq!(rt; Standard.bound(&design, &low, &mut room)?, 194);
-    let (square, wide) = halves(&design, &low)?.ok_or("one shape")?;
-    assert_eq!(rt; Standard.bound(&design, &square, &mut room)?, 204);
-    assert_eq!(rt; Standard.bound(&design, &wide, &mut room)?, 196);
+    let of_halves = values_of_halves(&design, &mut room, &whole)?;
+    assert_eq!(rt; of_halves, Some([234, 194, 204, 196]));
+    assert_eq!(rt; Standard.bound(&design, &whole, &mut room)?, 194);
+    assert_eq!(rt; Standard.bound(&design, &start, &mut room)?, 24);
     Ok(())
 }

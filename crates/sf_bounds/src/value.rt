@@ -1,65 +1,132 @@
-ghost use Rattle.std.specs.Prelude.{◌≡◌, IfOk, IsFalse};
+ghost use Rattle.std.specs.Prelude.{◌≡◌, ◌*◌, max, length, IfOk};
 ghost use Rattle.sf_node.specs.Children.{IsSubproblem};
-ghost use Rattle.sf_node.specs.Subproblem.{is_solved};
-ghost use Rattle.sf_standard.specs.Standard.{standard};
-ghost use Rattle.sf_bounds.specs.Open.{IsNeededOrNone, IsWireCost};
+ghost use Rattle.sf_standard.specs.Standard.{open_value, standard};
+ghost use Rattle.sf_frames.specs.Groups.{IsNeededOrNone};
+ghost use Rattle.sf_frames.specs.Measured.{IsMeasured};
+ghost use Rattle.sf_bounds.specs.Open.{IsWireCost};
 
 use crate::area::area_part;
 use crate::groups::group_curves;
-use crate::room::Room;
-use crate::solved::{least_by_area, only_cost};
+use crate::scratch::Scratch;
+use crate::solved::least_by_area;
 use crate::wires::wire_part;
+use sf_frames::{Frames, Measured, Sums};
 use sf_model::{Design, MAX};
 use sf_node::Node;
+use sf_standard::laws::single_spans_are_open;
 use std::alloc::AllocError as NoMemory;
 
-// The area that the items and the unused blocks need, or none where one of them fits in no way.
-fn needed_area(room: &mut Room, design: &Design, node: &Node) -> Result<Option<u64>, NoMemory>
+/// What the frames of a path tell, where each span is whole.
+pub fn measure(frames: &mut Frames, design: &Design, node: &Node) -> Result<Measured, NoMemory>
+    requires subproblem { IsSubproblem design.now node.now }
+    requires serves { frames.old ≡ design.now }
+    ensures measured { IfOk result (IsMeasured design.now node.now) }
+    ensures serves { frames.new ≡ design.now }
+{
+    if node.steps().len() != node.tokens().len() {
+        return Ok(Measured::TooLarge);
+    }
+    let measured = frames.measure(node)?;
+    Ok(measured)
+}
+
+// The area that groups need, by their sum, and by the widest and the highest one.
+fn needed(sums: Sums) -> u64
+    ensures { result ≡ max sums.area (sums.w * sums.h) }
+{
+    let box_area = u64::from(sums.w) * u64::from(sums.h);
+    sums.area.max(box_area)
+}
+
+// The same from curves that are made anew.
+fn area_of_curves(
+    scratch: &mut Scratch,
+    design: &Design,
+    node: &Node,
+) -> Result<Option<u64>, NoMemory>
     requires { IsSubproblem design.now node.now }
     ensures { IfOk result (IsNeededOrNone design.now node.now) }
 {
-    group_curves(&mut room.curves, &mut room.stock, room.alloc, design, node)?;
-    Ok(area_part(&room.curves))
+    group_curves(
+        &mut scratch.curves,
+        &mut scratch.stock,
+        scratch.alloc,
+        design,
+        node,
+    )?;
+    Ok(area_part(&scratch.curves))
+}
+
+// The area that the items and the unused blocks need, or none where one of them fits in no way.
+fn needed_area(
+    frames: &mut Frames,
+    scratch: &mut Scratch,
+    design: &Design,
+    node: &Node,
+) -> Result<Option<u64>, NoMemory>
+    requires subproblem { IsSubproblem design.now node.now }
+    requires serves { frames.old ≡ design.now }
+    ensures needed { IfOk result (IsNeededOrNone design.now node.now) }
+    ensures serves { frames.new ≡ design.now }
+{
+    let measured = measure(frames, design, node)?;
+    match measured {
+        Measured::Takes(sums) => Ok(Some(needed(sums))),
+        Measured::FitsInNoWay => Ok(None),
+        Measured::TooLarge => area_of_curves(scratch, design, node),
+    }
 }
 
 // What the wires cost at least. They are not looked at where they have no weight.
-fn wire_cost(room: &mut Room, design: &Design, node: &Node) -> Result<u64, NoMemory>
+fn wire_cost(scratch: &mut Scratch, design: &Design, node: &Node) -> Result<u64, NoMemory>
     requires { IsSubproblem design.now node.now }
     ensures { IfOk result (IsWireCost design.now node.now) }
 {
     if design.weights.wire == 0 {
         return Ok(0);
     }
-    let wires = wire_part(&mut room.layout, &mut room.reaches, design, node)?;
+    let wires = wire_part(&mut scratch.layout, &mut scratch.reaches, design, node)?;
     Ok(u64::from(design.weights.wire) * wires)
 }
 
-// The value of a subproblem that is not solved.
-fn open_value(room: &mut Room, design: &Design, node: &Node) -> Result<u64, NoMemory>
+// The value from the area that is needed and the wires.
+fn open_value(
+    frames: &mut Frames,
+    scratch: &mut Scratch,
+    design: &Design,
+    node: &Node,
+) -> Result<u64, NoMemory>
     requires subproblem { IsSubproblem design.now node.now }
-    requires unsolved { IsFalse (is_solved design.now node.now) }
-    ensures { IfOk result (λ v. v ≡ standard design.now node.now) }
+    requires serves { frames.old ≡ design.now }
+    ensures value { IfOk result (λ v. v ≡ open_value design.now node.now) }
+    ensures serves { frames.new ≡ design.now }
 {
-    let Some(needed) = needed_area(room, design, node)? else {
+    let Some(needed) = needed_area(frames, scratch, design, node)? else {
         return Ok(MAX);
     };
     if needed > u64::from(design.outline.w) * u64::from(design.outline.h) {
         return Ok(MAX);
     }
-    let wires = wire_cost(room, design, node)?;
+    let wires = wire_cost(scratch, design, node)?;
     Ok(u64::from(design.weights.area) * needed + wires)
 }
 
-/// The value of the standard bound.
-pub fn standard_value(room: &mut Room, design: &Design, node: &Node) -> Result<u64, NoMemory>
-    requires { IsSubproblem design.now node.now }
-    ensures { IfOk result (λ v. v ≡ standard design.now node.now) }
+/// The value of the standard bound. Only where areas alone count is a solved subproblem measured in another way than an open
+/// one: with single spans both have one value.
+pub fn standard_value(
+    frames: &mut Frames,
+    scratch: &mut Scratch,
+    design: &Design,
+    node: &Node,
+) -> Result<u64, NoMemory>
+    requires subproblem { IsSubproblem design.now node.now }
+    requires serves { frames.old ≡ design.now }
+    ensures value { IfOk result (λ v. v ≡ standard design.now node.now) }
+    ensures serves { frames.new ≡ design.now }
 {
-    if !node.is_solved(design) {
-        return open_value(room, design, node);
+    if design.weights.wire == 0 && node.is_complete() {
+        return least_by_area(frames, scratch, design, node);
     }
-    if design.weights.wire == 0 {
-        return least_by_area(room, design, node);
-    }
-    only_cost(room.alloc, design, node)
+    single_spans_are_open();
+    open_value(frames, scratch, design, node)
 }

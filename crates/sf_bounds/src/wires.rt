@@ -1,14 +1,15 @@
-ghost use Rattle.std.specs.Prelude.{◌≡◌, ◌<◌, ◌≤◌, ◌+◌, ◌^◌, length, All, OnOk, IfOk};
+ghost use Rattle.std.specs.Prelude.{◌≡◌, ◌<◌, ◌≤◌, ◌^◌, length, OnOk, IfOk};
 ghost use Rattle.sf_node.specs.Children.{IsSubproblem};
 ghost use Rattle.sf_standard.specs.Standard.{net_part};
 ghost use Rattle.sf_bounds.specs.Open.{IsWirePart};
 ghost use Rattle.sf_bounds.specs.Pins.{IsNet, IsLayout};
 
 use crate::extents::fill_extents;
-use crate::laying::{fill_table, lay};
+use crate::laying::lay;
 use crate::layout::Layout;
-use crate::pins::{hull_part, pair_part, range_part};
+use crate::pins::{open_part, whole_part};
 use crate::reach::{ANYWHERE, Reach};
+use crate::table::fill_table;
 use sf_model::{Design, Net};
 use sf_node::Node;
 use std::alloc::AllocError as NoMemory;
@@ -26,32 +27,26 @@ fn fill_layout(layout: &mut Layout, design: &Design, node: &Node) -> Result<(), 
         design,
         node,
     )?;
-    fill_table(&mut layout.table, &layout.seats, layout.held.len(), design)?;
-    layout.pads_item = if node.is_complete() {
-        0
-    } else {
-        layout.held.len()
-    };
-    Ok(())
+    fill_table(&mut layout.table, &layout.extents, &layout.seats, design)
 }
 
-// Makes the list long enough for the items and for what is in none.
+// Makes the list long enough for the items.
 fn fill_reaches(reaches: &mut Vec<Reach>, items: usize) -> Result<(), NoMemory>
     requires { items < 2 ^ 63 }
-    ensures { OnOk result (items < length reaches.new.items) }
+    ensures { OnOk result (items ≤ length reaches.new.items) }
 {
-    for _ in reaches.len()..items + 1 {
+    for _ in reaches.len()..items {
         reaches.push(ANYWHERE)?;
     }
     Ok(())
 }
 
-// What the wire of a net costs at least.
+// What the wire of a net is at least. In a complete subproblem all pins lie in the one item.
 fn net_part(reaches: &mut [Reach], design: &Design, node: &Node, layout: &Layout, net: &Net) -> u64
     requires subproblem { IsSubproblem design.now node.now }
     requires layout { IsLayout design.now node.now layout.now }
     requires inside { IsNet design.now net.now.pins }
-    requires sized { length layout.now.held.items < length reaches.old }
+    requires sized { length layout.now.held.items ≤ length reaches.old }
     ensures is { result ≡ net_part design.now node.now net.now }
     ensures small { result ≤ 2800000000 }
 {
@@ -59,16 +54,16 @@ fn net_part(reaches: &mut [Reach], design: &Design, node: &Node, layout: &Layout
     if pins.len() < 2 {
         return 0;
     }
-    let range = range_part(design, layout, pins);
-    let pair = pair_part(design, layout, pins);
-    let hull = hull_part(reaches, design, layout, pins);
-    range.max(pair.max(hull))
+    if node.is_complete() {
+        return whole_part(design, &layout.table, pins);
+    }
+    open_part(reaches, design, &layout.table, pins)
 }
 
 fn sum_nets(reaches: &mut [Reach], design: &Design, node: &Node, layout: &Layout) -> u64
     requires subproblem { IsSubproblem design.now node.now }
     requires layout { IsLayout design.now node.now layout.now }
-    requires sized { length layout.now.held.items < length reaches.old }
+    requires sized { length layout.now.held.items ≤ length reaches.old }
     ensures { IsWirePart design.now node.now result }
 {
     let mut total = 0;
@@ -78,7 +73,7 @@ fn sum_nets(reaches: &mut [Reach], design: &Design, node: &Node, layout: &Layout
     total
 }
 
-/// What the wires of the nets cost at least.
+/// What the wires of the nets are at least.
 pub fn wire_part(
     layout: &mut Layout,
     reaches: &mut Vec<Reach>,

@@ -1,0 +1,20 @@
+-- The extent of some shapes, shape by shape.
+use Rattle.std.proofs.Common.{◌≡◌, List, [], ◌∷◌, refl}
+use Rattle.std.specs.Prelude.{fold}
+use Rattle.sf_model.specs.declared.parts.Shape.{Shape}
+use Rattle.sf_standard.specs.declared.hull.Extent.{Extent}
+use Rattle.sf_standard.specs.Hull.{extent_of}
+use Rattle.sf_bounds.specs.Layout.{single_extent, with_shape}
+use Rattle.std.specs.Prelude.{min, max}
+
+extent-from : (e : Extent) (ss : List Shape) → fold with_shape e ss ≡ (record {
+  least_w = fold (λ n t. min n t.w) e.least_w ss;
+  most_w = fold (λ n t. max n t.w) e.most_w ss;
+  least_h = fold (λ n t. min n t.h) e.least_h ss;
+  most_h = fold (λ n t. max n t.h) e.most_h ss;
+})
+extent-from e [] = refl
+extent-from e (s ∷ ss) = extent-from (with_shape e s) ss
+
+pub extent_folded : (s : Shape) (ss : List Shape) → fold with_shape (single_extent s) ss ≡ extent_of (s ∷ ss)
+extent_folded s ss = extent-from (single_extent s) ss

@@ -1,0 +1,39 @@
+-- One plan belongs to a complete subproblem whose spans are single, and one expression tells it.
+use Rattle.std.proofs.Common.{◌≡◌, ℕ, map, arith, sym, subst, ◌∙◌, refl, true, not}
+use Rattle.std.specs.List.{list_all, range_with_len}
+use Rattle.std.proofs.lemmas.List.FromFn.{length-map-range_with_len, get_or-map-range_with_len}
+use Rattle.sf_model.specs.declared.design.Design.{Design}
+use Rattle.sf_model.specs.Legal.{block_count}
+use Rattle.sf_model.specs.Tree.{Tree}
+use Rattle.sf_polish.specs.declared.expr.Expr.{Expr}
+use Rattle.sf_polish.specs.Postfix.{Spells}
+use Rattle.sf_polish.proofs.Normality.{normal-spelled}
+use Rattle.sf_polish.proofs.Shaped.{one-expression}
+use Rattle.sf_node.specs.Parts.{Parts}
+use Rattle.sf_node.specs.Subproblem.{Belongs, is_complete, is_wide}
+use Rattle.sf_node.specs.Children.{IsSubproblem}
+use Rattle.sf_node.proofs.Normalised.{complete-normal}
+use Rattle.sf_node.proofs.Reached.{subproblem-spans}
+use Rattle.sf_bounds.specs.Cheapest.{IsPlanOf}
+use Rattle.sf_bounds.specs.Layout.{Tells}
+use Rattle.sf_bounds.specs.Only.{first_shape}
+use Rattle.sf_bounds.proofs.Alone.{alone}
+
+first-shapes : (design : Design) (node : Parts) (n : ℕ) → Tells (first_shape design node) n (map (first_shape design node) (range_with_len 0 n))
+first-shapes design node n = record {
+  count = length-map-range_with_len (first_shape design node) 0 n;
+  each = λ b d lt. get_or-map-range_with_len (first_shape design node) 0 n b b d lt (omega arith);
+}
+
+one-belongs : (design : Design) (node : Parts) (t u : Tree) → IsSubproblem design node → is_complete node ≡ true → list_all (λ span. not (is_wide span)) node.spans ≡ true → Belongs design node t → Belongs design node u → t ≡ u
+one-belongs design node t u sub complete single a b =
+    let n = block_count design in
+    let expr : Expr = record { tokens = node.tokens; shapes = map (first_shape design node) (range_with_len 0 n) } in
+    let spelled = normal-spelled n expr (complete-normal design node sub (subproblem-spans design node sub) complete) in
+    let only = (alone design node expr spelled.0 sub complete refl (first-shapes design node n) spelled.1.spells single spelled.1.skewed).only in
+    only t a ∙ sym (only u b)
+
+pub one-plan : (design : Design) (node : Parts) (e f : Expr) (y z : ℕ) → IsSubproblem design node → is_complete node ≡ true → list_all (λ span. not (is_wide span)) node.spans ≡ true → IsPlanOf design node e y → IsPlanOf design node f z → e ≡ f
+one-plan design node e f y z sub complete single a b =
+    let same = one-belongs design node b.tree a.tree sub complete single b.belongs a.belongs in
+    one-expression (block_count design) e f a.tree a.belongs.legal.blocks a.one_each b.one_each a.spells (subst (Spells f) same b.spells)

@@ -1,0 +1,12 @@
+use Rattle.std.proofs.Common.{ap, sym, ◌∙◌}
+use Rattle.std.specs.Prelude.{fold}
+use Rattle.sf_standard.specs.Hull.{extent_of}
+use Rattle.sf_bounds.specs.Layout.{with_shape}
+use Rattle.sf_bounds.proofs.Folded.{extent_folded}
+use Rattle.sf_bounds.proofs.Reading.{fold_whole}
+use Rattle.sf_bounds.proofs.extents.extent_of.Goals as goal
+
+pub returns : goal.returns
+returns c =
+    let whole = fold_whole with_shape c.single-extent.result c.in-Some.rest.now c.loop-shape.shape-index c.loop-shape-test.false in
+    c.loop-shape.invariant ∙ whole ∙ ap (λ e. fold with_shape e c.in-Some.rest.now) c.single-extent.ensures ∙ extent_folded c.in-Some.first.now c.in-Some.rest.now ∙ ap extent_of (sym c.in-Some.ensures.cases.0)

@@ -1,0 +1,8 @@
+use Rattle.std.proofs.Common.{◌≡◌, ℕ, get_or, take, false}
+use Rattle.std.specs.Prelude.{fold}
+use Rattle.sf_bounds.specs.Near.{anywhere}
+use Rattle.sf_bounds.specs.Pins.{pin_home, narrowed_in}
+use Rattle.sf_bounds.proofs.homes.gather.Given as goal
+
+abbrev pub invariant-loop-pin : goal.invariant-loop-pin
+invariant-loop-pin l = (i : ℕ) → get_or l.reaches i anywhere ≡ fold (λ r p. narrowed_in i r (pin_home l.design l.table false p)) (get_or l.initial.reaches i anywhere) (take l.pin-index l.pins)

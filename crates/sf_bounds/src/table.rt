@@ -1,0 +1,95 @@
+ghost use Rattle.std.specs.Prelude.{◌≡◌, ◌<◌, ◌≤◌, ◌*◌, ◌+◌, ◌-ℤ◌, pos, length, slice_index_or, slice_set, Some, None, All, OnOk};
+ghost use Rattle.sf_bounds.specs.Layout.{Tells};
+ghost use Rattle.sf_bounds.specs.Near.{anywhere};
+ghost use Rattle.sf_bounds.specs.Pins.{extent_from, block_range, home_in, standing_of, standing_at, standing_by};
+
+use crate::layout::{Home, Seat, Standing};
+use crate::reach::Reach;
+use sf_model::Design;
+use sf_standard::{Extent, Interval};
+use std::alloc::AllocError as NoMemory;
+
+fn side_range(least: u32, side: u32) -> Interval
+    requires least { least ≤ 1048576 }
+    requires side { side ≤ 1048576 }
+    ensures { result ≡ record { low = pos least; high = pos (2 * side) -ℤ pos least } }
+{
+    let least = i64::from(least);
+    Interval {
+        low: least,
+        high: 2 * i64::from(side) - least,
+    }
+}
+
+// What the pins of a block are measured by, before its seat is known.
+fn unseated(design: &Design, extent: Extent) -> Standing
+    requires w { extent.least_w ≤ 1048576 }
+    requires h { extent.least_h ≤ 1048576 }
+    ensures { result ≡ standing_of design.now extent None }
+{
+    Standing {
+        side: u64::from(extent.least_w.min(extent.least_h)),
+        range: Reach {
+            across: side_range(extent.least_w, design.outline.w),
+            upward: side_range(extent.least_h, design.outline.h),
+        },
+        home: None,
+    }
+}
+
+fn ends(least: u32, least_side: u32, most: u32, most_side: u32) -> Interval
+    ensures { result ≡ record { low = pos (2 * least + least_side); high = pos (2 * most + most_side) } }
+{
+    Interval {
+        low: 2 * i64::from(least) + i64::from(least_side),
+        high: 2 * i64::from(most) + i64::from(most_side),
+    }
+}
+
+fn home_in(extent: Extent, seat: Seat) -> Home
+    ensures { result ≡ home_in extent seat }
+{
+    let offset = seat.offset;
+    Home {
+        item: seat.item,
+        reach: Reach {
+            across: ends(offset.least_x, extent.least_w, offset.most_x, extent.most_w),
+            upward: ends(offset.least_y, extent.least_h, offset.most_y, extent.most_h),
+        },
+    }
+}
+
+// Writes where a block stands.
+fn put_home(table: &mut Vec<Standing>, extents: &[Extent], seat: Seat)
+    requires table { seat.offset.block < length table.old.items }
+    requires extents { seat.offset.block < length extents.now }
+    ensures { table.new.items ≡ slice_set table.old.items seat.offset.block (record (standing_at table.old.items seat.offset.block) { home = Some (home_in (extent_from extents.now seat.offset.block) seat) }) }
+{
+    let block = usize::from(seat.offset.block);
+    table[block] = Standing {
+        home: Some(home_in(extents[block], seat)),
+        ..table[block]
+    };
+}
+
+/// Fills the table with the standing of each block: those that have a seat get a home.
+pub fn fill_table(
+    table: &mut Vec<Standing>,
+    extents: &[Extent],
+    seats: &[Seat],
+    design: &Design,
+) -> Result<(), NoMemory>
+    requires count { length extents.now ≡ length design.now.blocks }
+    requires small { All (λ e. (e.least_w ≤ 1048576) × (e.least_h ≤ 1048576)) extents.now }
+    requires seats { All (λ s. s.offset.block < length design.now.blocks) seats.now }
+    ensures { OnOk result (Tells (standing_by design.now extents.now seats.now) (length design.now.blocks) table.new.items) }
+{
+    table.clear();
+    for extent in extents {
+        table.push(unseated(design, *extent))?;
+    }
+    for seat in seats {
+        put_home(table, extents, *seat);
+    }
+    Ok(())
+}
