@@ -1,73 +1,63 @@
 -- The tree of a text, read tag by tag.
 use Rattle.std.proofs.Common.{◌≡◌, ℕ, ◌<◌, ◌≤◌, List, [], ◌∷◌, ◌++◌, arith, refl, ap, sym, subst, ◌∙◌, Bool, true, false, cond, append_assoc, append-nil, ◌&&◌, Option, Some, None, Result, Ok, Err}
-use Rattle.std.specs.Prelude.{nat_lt}
+use Rattle.std.specs.Prelude.{◌≢◌, IfOk, IfErr, nat_lt}
+use Rattle.std.proofs.lemmas.Result.{IfOk-weaker, IfErr-weaker}
 use Rattle.std.proofs.lemmas.Bool.Decides.{nat_tests}
 use Rattle.sf_lex.specs.Scan.{LineWord}
+use Rattle.sf_lex.specs.Whole.{whole_read}
 use Rattle.sf_certificate.specs.declared.fault.CertFault.{CertFault}
-use Rattle.sf_certificate.specs.declared.fault.CertFault.TheVariants.{TooDeep, Truncated, Trailing}
+use Rattle.sf_certificate.specs.declared.fault.CertFault.TheVariants.{TooDeep, Truncated, Trailing, NoMemory}
 use Rattle.sf_certificate.specs.declared.letter.Letter.{Letter}
 use Rattle.sf_certificate.specs.declared.letter.Letter.TheVariants as letter
 use Rattle.sf_certificate.specs.declared.place.Place.{Place}
 use Rattle.sf_certificate.specs.declared.tag.Tag.{Tag}
 use Rattle.sf_certificate.specs.Places.{places_under, spell_trees}
-use Rattle.sf_certificate.specs.Reading.{TagSaid, letter_of, by_letter, tags_said, with_tag, tag_at, tree_from}
+use Rattle.sf_certificate.specs.Reading.{TagSaid, letter_of, by_letter, split_by, tags_said, Reader, first_reader, read_on, with_tags, with_some, tree_read, with_tag, tag_at, tree_from}
 
--- tags in front of those that follow
-abbrev pub with_tags : List Tag → Result (List Tag) CertFault → Result (List Tag) CertFault
-with_tags tags (Ok more) = Ok (tags ++ more)
-with_tags tags (Err fault) = Err fault
-
-with_tags-more : (tags : List Tag) (tag : Tag) (r : Result (List Tag) CertFault) → with_tags tags (with_tag tag r) ≡ with_tags (tags ++ tag ∷ []) r
+pub with_tags-more : (tags : List Tag) (tag : Tag) (r : Result (List Tag) CertFault) → with_tags tags (with_tag tag r) ≡ with_tags (tags ++ tag ∷ []) r
 with_tags-more tags tag (Ok more) = ap Ok (sym (append_assoc tags (tag ∷ []) more))
 with_tags-more tags tag (Err fault) = refl
 
-with_tags-none : (r : Result (List Tag) CertFault) → with_tags [] r ≡ r
+pub with_tags-none : (r : Result (List Tag) CertFault) → with_tags [] r ≡ r
 with_tags-none (Ok more) = refl
 with_tags-none (Err fault) = refl
 
--- where the tree was begun with these places and words, the tags so far and what the rest is read as
-abbrev pub IsReading : ℕ → ℕ → Result (List Tag) CertFault → List Tag → List Place → List LineWord → Type 0
-IsReading n last whole tags places words = whole ≡ with_tags tags (tree_from n last places (tags_said last None words))
+-- what the whole words are read as is known from the tags so far and the words that are left
+abbrev pub IsReading : ℕ → ℕ → Result (List Tag) CertFault → List Tag → Reader → List LineWord → Type 0
+IsReading n last whole tags reader words = whole ≡ with_tags tags (read_on n last reader words)
 
-pub reading-start : (n last : ℕ) (whole : Result (List Tag) CertFault) (tags : List Tag) (places start : List Place) (words : List LineWord) → whole ≡ tree_from n last start (tags_said last None words) → tags ≡ [] → places ≡ start → whole ≡ with_tags tags (tree_from n last places (tags_said last None words))
-reading-start n last whole tags places start words e none same =
-    e ∙ sym (with_tags-none (tree_from n last start (tags_said last None words)))
-    ∙ ap (λ ts. with_tags ts (tree_from n last start (tags_said last None words))) (sym none)
-    ∙ ap (λ ps. with_tags tags (tree_from n last ps (tags_said last None words))) (sym same)
+pub reading-start : (n last : ℕ) (tags : List Tag) (reader : Reader) (words : List LineWord) → tags ≡ [] → reader ≡ first_reader → tree_read n last words ≡ with_tags tags (read_on n last reader words)
+reading-start n last tags reader words none same =
+    sym (with_tags-none (tree_read n last words)) ∙ ap (λ ts. with_tags ts (tree_read n last words)) (sym none) ∙ ap (λ r. with_tags tags (read_on n last r words)) (sym same)
 
-trailing-by : (n last line : ℕ) (l : Option Letter) (a b : List TagSaid) → (rest : List TagSaid) → (said : TagSaid) → b ≡ said ∷ rest → said.line ≡ line → tree_from n last [] (by_letter line l a b) ≡ Err (Trailing line)
-unfolding tree_from
-trailing-by n last line None a b rest said e same = refl
-trailing-by n last line (Some letter.Extend) a b rest said e same = refl
-trailing-by n last line (Some letter.Split) a b rest said e same = ap (tree_from n last []) e ∙ ap (λ k. Err (Trailing k)) same
-trailing-by n last line (Some letter.Closed) a b rest said e same = refl
-trailing-by n last line (Some letter.Open) a b rest said e same = refl
+with-none : (tags : List Tag) (tag : Option Tag) (r : Result (List Tag) CertFault) → tag ≡ None → with_tags tags (with_some tag r) ≡ with_tags tags r
+with-none tags tag r e = ap (λ o. with_tags tags (with_some o r)) e
 
-trailing-split : (n last line : ℕ) (l : Option Letter) (a : List TagSaid) (ws : List LineWord) → tree_from n last [] (by_letter line l a (tags_said last (Some line) ws)) ≡ Err (Trailing line)
-unfolding tags_said
-trailing-split n last line l a [] = trailing-by n last line l a _ _ _ refl refl
-trailing-split n last line l a (w ∷ ws) = trailing-by n last line l a _ _ _ refl refl
+with-one : (tags : List Tag) (said : Option Tag) (tag : Tag) (r : Result (List Tag) CertFault) → said ≡ Some tag → with_tags tags (with_some said r) ≡ with_tags (tags ++ tag ∷ []) r
+with-one tags said tag r e = ap (λ o. with_tags tags (with_some o r)) e ∙ with_tags-more tags tag r
 
--- a word behind the tree
-pub reading-trailing : (n last : ℕ) (whole : Result (List Tag) CertFault) (tags : List Tag) (places : List Place) (words others : List LineWord) (w : LineWord) → whole ≡ with_tags tags (tree_from n last places (tags_said last None words)) → places ≡ [] → words ≡ w ∷ others → whole ≡ Err (Trailing w.line)
-unfolding tags_said
-reading-trailing n last whole tags places words others w e none is =
-    e ∙ ap (λ ps. with_tags tags (tree_from n last ps (tags_said last None words))) none
-    ∙ ap (λ ws. with_tags tags (tree_from n last [] (tags_said last None ws))) is
-    ∙ ap (with_tags tags) (trailing-split n last w.line (letter_of w.text) (tags_said last None others) others)
+-- a word that ends no tag
+pub reading-word : (n last : ℕ) (whole : Result (List Tag) CertFault) (tags : List Tag) (old new : Reader) (words others : List LineWord) (w : LineWord) (said : Option Tag) → IsReading n last whole tags old words → words ≡ w ∷ others → read_on n last old (w ∷ others) ≡ with_some said (read_on n last new others) → said ≡ None → IsReading n last whole tags new others
+reading-word n last whole tags old new words others w said e is step none =
+    e ∙ ap (λ ws. with_tags tags (read_on n last old ws)) is ∙ ap (with_tags tags) step ∙ with-none tags said (read_on n last new others) none
 
--- the next tag at its place
-reading-at : (n last : ℕ) (whole : Result (List Tag) CertFault) (tags : List Tag) (places more : List Place) (words others : List LineWord) (place : Place) (said : TagSaid) → whole ≡ with_tags tags (tree_from n last places (tags_said last None words)) → places ≡ place ∷ more → tags_said last None words ≡ said ∷ tags_said last None others
-    → whole ≡ with_tags tags (tag_at place said.line said.tag (λ tag. with_tag tag (tree_from n last (places_under n tag place ++ more) (tags_said last None others))))
-unfolding tree_from
-reading-at n last whole tags places more words others place said e is says =
-    e ∙ ap (λ ps. with_tags tags (tree_from n last ps (tags_said last None words))) is
-    ∙ ap (λ ss. with_tags tags (tree_from n last (place ∷ more) ss)) says
+-- a word that ends a tag
+pub reading-tag : (n last : ℕ) (whole : Result (List Tag) CertFault) (tags grown : List Tag) (old new : Reader) (words others : List LineWord) (w : LineWord) (said : Option Tag) (tag : Tag) → IsReading n last whole tags old words → words ≡ w ∷ others → read_on n last old (w ∷ others) ≡ with_some said (read_on n last new others) → said ≡ Some tag → grown ≡ tags ++ tag ∷ [] → IsReading n last whole grown new others
+reading-tag n last whole tags grown old new words others w said tag e is step some more =
+    e ∙ ap (λ ws. with_tags tags (read_on n last old ws)) is ∙ ap (with_tags tags) step ∙ with-one tags said tag (read_on n last new others) some ∙ ap (λ ts. with_tags ts (read_on n last new others)) (sym more)
 
--- its words are at fault
-pub reading-fault : (n last : ℕ) (whole : Result (List Tag) CertFault) (tags : List Tag) (places more : List Place) (words middle others : List LineWord) (w : LineWord) (place : Place) (line : ℕ) (fault : CertFault) → whole ≡ with_tags tags (tree_from n last places (tags_said last None words)) → places ≡ place ∷ more → words ≡ w ∷ middle → tags_said last None (w ∷ middle) ≡ record { line = line; tag = Err fault } ∷ tags_said last None others → whole ≡ Err fault
-reading-fault n last whole tags places more words middle others w place line fault e is first says =
-    reading-at n last whole tags places more words others place (record { line = line; tag = Err fault }) e is (ap (tags_said last None) first ∙ says)
+-- a word at fault
+pub reading-fault : (n last : ℕ) (whole : Result (List Tag) CertFault) (tags : List Tag) (old : Reader) (words others : List LineWord) (w : LineWord) (fault : CertFault) → IsReading n last whole tags old words → words ≡ w ∷ others → read_on n last old (w ∷ others) ≡ Err fault → whole ≡ Err fault
+reading-fault n last whole tags old words others w fault e is step = e ∙ ap (λ ws. with_tags tags (read_on n last old ws)) is ∙ ap (with_tags tags) step
+
+-- no further word
+pub reading-done : (n last : ℕ) (whole : Result (List Tag) CertFault) (tags : List Tag) (reader : Reader) (words : List LineWord) → IsReading n last whole tags reader words → words ≡ [] → read_on n last reader [] ≡ Ok [] → whole ≡ Ok tags
+reading-done n last whole tags reader words e none end = e ∙ ap (λ ws. with_tags tags (read_on n last reader ws)) none ∙ ap (with_tags tags) end ∙ ap Ok (append-nil tags)
+
+pub reading-cut : (n last : ℕ) (whole : Result (List Tag) CertFault) (tags : List Tag) (reader : Reader) (words : List LineWord) (fault : CertFault) → IsReading n last whole tags reader words → words ≡ [] → read_on n last reader [] ≡ Err fault → whole ≡ Err fault
+reading-cut n last whole tags reader words fault e none end = e ∙ ap (λ ws. with_tags tags (read_on n last reader ws)) none ∙ ap (with_tags tags) end
+
+-- ---- one word
 
 deep-true : (d : ℕ) → 3200 ≤ d → nat_lt d 3200 ≡ false
 deep-true d h = grind (arith, nat_tests)
@@ -75,37 +65,99 @@ deep-true d h = grind (arith, nat_tests)
 shallow-true : (d : ℕ) → d < 3200 → nat_lt d 3200 ≡ true
 shallow-true d h = grind (arith, nat_tests)
 
--- it stands too deep
-pub reading-deep : (n last : ℕ) (whole : Result (List Tag) CertFault) (tags : List Tag) (places more : List Place) (words middle others : List LineWord) (w : LineWord) (place : Place) (line : ℕ) (tag : Tag) → whole ≡ with_tags tags (tree_from n last places (tags_said last None words)) → places ≡ place ∷ more → words ≡ w ∷ middle → tags_said last None (w ∷ middle) ≡ record { line = line; tag = Ok tag } ∷ tags_said last None others → 3200 ≤ place.depth → whole ≡ Err (TooDeep line)
-reading-deep n last whole tags places more words middle others w place line tag e is first says deep =
-    reading-at n last whole tags places more words others place (record { line = line; tag = Ok tag }) e is (ap (tags_said last None) first ∙ says)
-    ∙ ap (λ b. with_tags tags (cond b (with_tag tag (tree_from n last (places_under n tag place ++ more) (tags_said last None others))) (Err (TooDeep line)))) (deep-true place.depth deep)
+-- a tag at the first place, or its fault
+module _ (n : ℕ) (places : List Place) (line : ℕ) (said : Result Tag CertFault) where
+  pub put-trailing : places ≡ [] → (last : ℕ) (others : List TagSaid) → tree_from n last places (record { line = line; tag = said } ∷ others) ≡ Err (Trailing line)
+  unfolding tree_from
+  put-trailing none last others = ap (λ ps. tree_from n last ps (record { line = line; tag = said } ∷ others)) none
 
--- it stands well, and its children wait
-pub reading-step : (n last : ℕ) (whole : Result (List Tag) CertFault) (tags new_tags : List Tag) (places more new_places : List Place) (words middle others : List LineWord) (w : LineWord) (place : Place) (line : ℕ) (tag : Tag) → whole ≡ with_tags tags (tree_from n last places (tags_said last None words)) → places ≡ place ∷ more → words ≡ w ∷ middle → tags_said last None (w ∷ middle) ≡ record { line = line; tag = Ok tag } ∷ tags_said last None others → place.depth < 3200
-    → new_tags ≡ tags ++ tag ∷ [] → new_places ≡ places_under n tag place ++ more → whole ≡ with_tags new_tags (tree_from n last new_places (tags_said last None others))
-reading-step n last whole tags new_tags places more new_places words middle others w place line tag e is first says shallow grown below =
-    let next = tree_from n last (places_under n tag place ++ more) (tags_said last None others) in
-    reading-at n last whole tags places more words others place (record { line = line; tag = Ok tag }) e is (ap (tags_said last None) first ∙ says)
-    ∙ ap (λ b. with_tags tags (cond b (with_tag tag next) (Err (TooDeep line)))) (shallow-true place.depth shallow)
-    ∙ with_tags-more tags tag next
-    ∙ ap (λ ts. with_tags ts next) (sym grown)
-    ∙ ap (λ ps. with_tags new_tags (tree_from n last ps (tags_said last None others))) (sym below)
+  module _ (place : Place) (more : List Place) (is : places ≡ place ∷ more) where
+    put-at : (last : ℕ) (others : List TagSaid) → tree_from n last places (record { line = line; tag = said } ∷ others) ≡ tag_at place line said (λ tag. with_tag tag (tree_from n last (places_under n tag place ++ more) others))
+    unfolding tree_from
+    put-at last others = ap (λ ps. tree_from n last ps (record { line = line; tag = said } ∷ others)) is
 
--- the words end with the tree
-pub reading-done : (n last : ℕ) (whole : Result (List Tag) CertFault) (tags : List Tag) (places : List Place) (words : List LineWord) → whole ≡ with_tags tags (tree_from n last places (tags_said last None words)) → words ≡ [] → places ≡ [] → whole ≡ Ok tags
-unfolding tree_from tags_said
-reading-done n last whole tags places words e none all =
-    e ∙ ap (λ ws. with_tags tags (tree_from n last places (tags_said last None ws))) none
-    ∙ ap (λ ps. with_tags tags (tree_from n last ps [])) all
-    ∙ ap Ok (append-nil tags)
+    pub put-fault : (fault : CertFault) → said ≡ Err fault → (last : ℕ) (others : List TagSaid) → tree_from n last places (record { line = line; tag = said } ∷ others) ≡ Err fault
+    put-fault fault e last others = put-at last others ∙ ap (λ r. tag_at place line r (λ tag. with_tag tag (tree_from n last (places_under n tag place ++ more) others))) e
 
--- the words end inside the tree
-pub reading-cut : (n last : ℕ) (whole : Result (List Tag) CertFault) (tags : List Tag) (places more : List Place) (words : List LineWord) (place : Place) → whole ≡ with_tags tags (tree_from n last places (tags_said last None words)) → words ≡ [] → places ≡ place ∷ more → whole ≡ Err (Truncated last)
-unfolding tree_from tags_said
-reading-cut n last whole tags places more words place e none is =
-    e ∙ ap (λ ws. with_tags tags (tree_from n last places (tags_said last None ws))) none
-    ∙ ap (λ ps. with_tags tags (tree_from n last ps [])) is
+    pub put-deep : (tag : Tag) → said ≡ Ok tag → 3200 ≤ place.depth → (last : ℕ) (others : List TagSaid) → tree_from n last places (record { line = line; tag = said } ∷ others) ≡ Err (TooDeep line)
+    put-deep tag e deep last others =
+        let next = with_tag tag (tree_from n last (places_under n tag place ++ more) others) in
+        put-at last others ∙ ap (λ r. tag_at place line r (λ tag. with_tag tag (tree_from n last (places_under n tag place ++ more) others))) e
+        ∙ ap (λ b. cond b next (Err (TooDeep line))) (deep-true place.depth deep)
+
+    pub put-tag : (tag : Tag) (new : List Place) → said ≡ Ok tag → place.depth < 3200 → new ≡ places_under n tag place ++ more → (last : ℕ) (others : List TagSaid) → tree_from n last places (record { line = line; tag = said } ∷ others) ≡ with_tag tag (tree_from n last new others)
+    put-tag tag new e shallow below last others =
+        let next = with_tag tag (tree_from n last (places_under n tag place ++ more) others) in
+        put-at last others ∙ ap (λ r. tag_at place line r (λ tag. with_tag tag (tree_from n last (places_under n tag place ++ more) others))) e
+        ∙ ap (λ b. cond b next (Err (TooDeep line))) (shallow-true place.depth shallow)
+        ∙ ap (λ ps. with_tag tag (tree_from n last ps others)) (sym below)
+
+pub then-none : {X : Type 0} (r : Result X CertFault) (new old : Option ℕ) → old ≡ None → IfOk r (λ (x : X). new ≡ old) → IfOk r (λ (x : X). new ≡ None)
+then-none r new old none f = IfOk-weaker r (λ x. new ≡ old) _ (λ x e. e ∙ none) f
+
+-- a word that says a tag, or a fault of one
+module _ (n : ℕ) (old : Reader) (word : LineWord) (places : List Place) (said : TagSaid) (r : Result (Option Tag) CertFault) (step : (last : ℕ) (others : List LineWord) → read_on n last old (word ∷ others) ≡ tree_from n last places (said ∷ tags_said last None others)) where
+  pub said-tag : (new : Reader)
+      → IfOk r (λ tag. (last : ℕ) (others : List TagSaid) → tree_from n last places (said ∷ others) ≡ with_some tag (tree_from n last new.places others))
+      → IfOk r (λ tag. new.split ≡ None)
+      → IfOk r (λ tag. (last : ℕ) (others : List LineWord) → read_on n last old (word ∷ others) ≡ with_some tag (read_on n last new others))
+  said-tag new f none =
+      elim r as (λ r. IfOk r (λ tag. (last : ℕ) (others : List TagSaid) → tree_from n last places (said ∷ others) ≡ with_some tag (tree_from n last new.places others))
+      → IfOk r (λ tag. new.split ≡ None)
+      → IfOk r (λ tag. (last : ℕ) (others : List LineWord) → read_on n last old (word ∷ others) ≡ with_some tag (read_on n last new others))) [
+        | Ok tag ↦ (λ f none last others. step last others ∙ f last (tags_said last None others) ∙ ap (λ s. with_some tag (tree_from n last new.places (tags_said last s others))) (sym none))
+        | Err fault ↦ (λ f none. tt)
+      ] f none
+
+  pub said-fault : IfErr r (λ e. e ≢ NoMemory → (last : ℕ) (others : List TagSaid) → tree_from n last places (said ∷ others) ≡ Err e)
+      → IfErr r (λ e. e ≢ NoMemory → (last : ℕ) (others : List LineWord) → read_on n last old (word ∷ others) ≡ Err e)
+  said-fault f = IfErr-weaker r (λ e. e ≢ NoMemory → (last : ℕ) (others : List TagSaid) → tree_from n last places (said ∷ others) ≡ Err e) _ (λ e g ne last others. step last others ∙ g ne last (tags_said last None others)) f
+
+-- the number of an S
+pub number-step : (n : ℕ) (old : Reader) (word : LineWord) (at : ℕ) (said : Result Tag CertFault) (places : List Place) → old.split ≡ Some at → said ≡ split_by at (whole_read 65535 word.text) → old.places ≡ places
+    → (last : ℕ) (others : List LineWord) → read_on n last old (word ∷ others) ≡ tree_from n last places (record { line = at; tag = said } ∷ tags_said last None others)
+unfolding tags_said
+number-step n old word at said places split is same last others =
+    ap (λ s. tree_from n last old.places (tags_said last s (word ∷ others))) split
+    ∙ ap (λ t. tree_from n last old.places (record { line = at; tag = t } ∷ tags_said last None others)) (sym is)
+    ∙ ap (λ ps. tree_from n last ps (record { line = at; tag = said } ∷ tags_said last None others)) same
+
+-- a letter
+module _ (n : ℕ) (old : Reader) (word : LineWord) (l : Option Letter) (none : old.split ≡ None) (is : letter_of word.text ≡ l) where
+  letter-reads : (last : ℕ) (others : List LineWord) → read_on n last old (word ∷ others) ≡ tree_from n last old.places (by_letter word.line l (tags_said last None others) (tags_said last (Some word.line) others))
+  unfolding tags_said
+  letter-reads last others =
+      ap (λ s. tree_from n last old.places (tags_said last s (word ∷ others))) none
+      ∙ ap (λ k. tree_from n last old.places (by_letter word.line k (tags_said last None others) (tags_said last (Some word.line) others))) is
+
+  pub letter-step : (said : Result Tag CertFault) → ((a b : List TagSaid) → by_letter word.line l a b ≡ record { line = word.line; tag = said } ∷ a)
+      → (last : ℕ) (others : List LineWord) → read_on n last old (word ∷ others) ≡ tree_from n last old.places (record { line = word.line; tag = said } ∷ tags_said last None others)
+  letter-step said says last others = letter-reads last others ∙ ap (tree_from n last old.places) (says (tags_said last None others) (tags_said last (Some word.line) others))
+
+  -- an S waits for its number
+  pub letter-split : l ≡ Some letter.Split → (places : List Place) → old.places ≡ places → (last : ℕ) (others : List LineWord) → read_on n last old (word ∷ others) ≡ tree_from n last places (tags_said last (Some word.line) others)
+  letter-split e places same last others =
+      letter-reads last others ∙ ap (λ k. tree_from n last old.places (by_letter word.line k (tags_said last None others) (tags_said last (Some word.line) others))) e
+      ∙ ap (λ ps. tree_from n last ps (tags_said last (Some word.line) others)) same
+
+-- ---- after the last word
+
+module _ (n last : ℕ) (reader : Reader) where
+  pub read-done : reader.places ≡ [] → reader.split ≡ None → read_on n last reader [] ≡ Ok []
+  unfolding tree_from tags_said
+  read-done none unsplit = ap (λ s. tree_from n last reader.places (tags_said last s [])) unsplit ∙ ap (λ ps. tree_from n last ps []) none
+
+  pub read-trailing : (line : ℕ) → reader.places ≡ [] → reader.split ≡ Some line → read_on n last reader [] ≡ Err (Trailing line)
+  unfolding tree_from tags_said
+  read-trailing line none at = ap (λ s. tree_from n last reader.places (tags_said last s [])) at ∙ ap (λ ps. tree_from n last ps (tags_said last (Some line) [])) none
+
+  cut-by : (place : Place) (more : List Place) (split : Option ℕ) → tree_from n last (place ∷ more) (tags_said last split []) ≡ Err (Truncated last)
+  unfolding tree_from tags_said
+  cut-by place more None = refl
+  cut-by place more (Some line) = refl
+
+  pub read-cut : (place : Place) (more : List Place) → reader.places ≡ place ∷ more → read_on n last reader [] ≡ Err (Truncated last)
+  read-cut place more is = ap (λ ps. tree_from n last ps (tags_said last reader.split [])) is ∙ cut-by place more reader.split
 
 -- ---- what is read spells a tree
 

@@ -173,9 +173,31 @@ tree_from n last [] (said ∷ others) = Err (Trailing said.line)
 tree_from n last (place ∷ places) [] = Err (Truncated last)
 tree_from n last (place ∷ places) (said ∷ others) = tag_at place said.line said.tag (λ tag. with_tag tag (tree_from n last (places_under n tag place ++ places) others))
 
+-- a reader between two words: the places that wait for a tag, and the line of an S whose number comes next
+pub record Reader : Type 0 where
+  pub places : List Place
+  pub split : Option ℕ
+
+abbrev pub first_reader : Reader
+first_reader = record { places = first_place ∷ []; split = None }
+
+-- the tags that the words from here on spell
+abbrev pub read_on : ℕ → ℕ → Reader → List LineWord → Result (List Tag) CertFault
+read_on n last reader words = tree_from n last reader.places (tags_said last reader.split words)
+
+-- tags in front of those that follow
+abbrev pub with_tags : List Tag → Result (List Tag) CertFault → Result (List Tag) CertFault
+with_tags tags (Ok more) = Ok (tags ++ more)
+with_tags tags (Err fault) = Err fault
+
+-- a tag, where there is one, in front of those that follow
+abbrev pub with_some : Option Tag → Result (List Tag) CertFault → Result (List Tag) CertFault
+with_some None tags = tags
+with_some (Some tag) tags = with_tag tag tags
+
 -- the tree that words spell among n blocks
 abbrev pub tree_read : ℕ → ℕ → List LineWord → Result (List Tag) CertFault
-tree_read n last words = tree_from n last (first_place ∷ []) (tags_said last None words)
+tree_read n last words = read_on n last first_reader words
 
 -- ---- the whole text
 

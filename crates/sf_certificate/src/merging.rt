@@ -1,3 +1,5 @@
+//! One tree of entries and open tasks.
+
 ghost use Rattle.std.specs.Prelude.{◌≡◌, ◌<◌, ◌≤◌, ◌++◌, ◌∷◌, [], length, map, min, reverse, All, IfOk, MatchOption, IsPermutation, IsSortedBy};
 ghost use Rattle.std.specs.Ordering.{is_lt};
 ghost use Rattle.sf_model.specs.Legal.{block_count};
@@ -128,10 +130,10 @@ pub fn merge<V: Values>(
     values: &V,
 ) -> Result<Cert, NoMemory>
     requires conserved { IsConserved (V.value values.now design.now) (root design.now ∷ []) entries.items (map (λ t. t.node) left.items) }
-    requires fresh { All (λ e. cost ≤ e.value) entries.items }
     requires valued { All (λ t. t.bound ≡ V.value values.now design.now t.node) left.items }
     requires planned { MatchOption plan (cost ≡ MAX) (λ expr. HasCost design.now expr cost × IsWritable (block_count design.now) expr) }
-    ensures valid { IfOk result (λ c. IsValid design.now (V.value values.now design.now) c) }
+    // It is valid where no entry names a lower value than the cost.
+    ensures valid { IfOk result (λ c. All (λ e. cost ≤ e.value) entries.items → IsValid design.now (V.value values.now design.now) c) }
     // The tree's subproblems with their tags are the entries and the open tasks.
     ensures placed { IfOk result (λ c. IsPermutation (given_marks entries.items left.items) (marks (root design.now ∷ []) c.tags)) }
     ensures decided { IfOk result (λ c. decided c.tags ≡ length entries.items) }

@@ -1,3 +1,5 @@
+//! What a certificate says of each subproblem.
+
 use std::marker::Model;
 
 /// What a certificate says of one subproblem.

@@ -1,3 +1,5 @@
+//! Texts that are read, and the first fault of texts that are not.
+
 ghost use Rattle.std.specs.Prelude.{◌≡◌, ◌∷◌, [], IfOk};
 ghost use Rattle.sf_model.specs.Legal.{block_count};
 

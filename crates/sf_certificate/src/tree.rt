@@ -1,21 +1,115 @@
-//! The tree of a certificate's text.
+//! The tree of a certificate's text, word by word.
 
-ghost use Rattle.std.specs.Prelude.{◌≡◌, ◌≢◌, ◌≤◌, ◌∷◌, length, IfOk, IfErr, IsTrue, None, Some, Ok};
-ghost use Rattle.sf_lex.specs.Scan.{numbered_words, line_word, last_line_of};
+ghost use Rattle.std.specs.Prelude.{◌≡◌, ◌≢◌, ℕ, ◌≤◌, List, [], ◌∷◌, IfOk, IfErr, OnOk, IsTrue, Ok, Some, Err};
+ghost use Rattle.sf_lex.specs.Scan.{LineWord, numbered_words, last_line_of};
+ghost use Rattle.sf_lex.specs.Whole.{whole_read};
 ghost use Rattle.sf_certificate.specs.declared.fault.CertFault.TheVariants.{NoMemory};
 ghost use Rattle.sf_certificate.specs.Places.{spell_tree};
-ghost use Rattle.sf_certificate.specs.Reading.{TagSaid, split_by, tags_said, tree_read};
-ghost use Rattle.sf_lex.specs.Whole.{whole_read};
+ghost use Rattle.sf_certificate.specs.Reading.{TagSaid, split_by, tree_from, tree_read, first_reader, read_on, with_some};
 
 use crate::fault::CertFault;
 use crate::letter::{Letter, letter_of};
 use crate::tag::Tag;
 use crate::waiting::Waiting;
-use sf_lex::{Scan, Word, last_line, read_whole};
-use std::alloc::Global;
+use sf_lex::{Scan, last_line, read_whole};
+use std::alloc::{AllocError, Global};
+use std::marker::Model;
 
 /// No node stands so deep.
 const TOO_DEEP: u16 = 3200;
+
+/// A reader of a tree between two words: the places that wait for a tag, and the line of an S whose number comes next.
+#[derive(Drop)]
+pub struct TreeReader {
+    waiting: Waiting,
+    split: Option<u64>,
+}
+
+impl Model for TreeReader {
+    ghost use Rattle.sf_certificate.specs.Reading.{Reader};
+
+    ghost Value = { Reader };
+
+    ghost view = { λ r. record { places = r.waiting; split = r.split } };
+}
+
+impl TreeReader {
+    /// Before the first word.
+    pub fn new(alloc: Global) -> Result<TreeReader, AllocError>
+        ensures { IfOk result (λ reader. reader ≡ first_reader) }
+    {
+        Ok(TreeReader {
+            waiting: Waiting::new(alloc)?,
+            split: None,
+        })
+    }
+
+    /// One word more, of this line. The answer is the tag that it ends, if it ends one.
+    pub fn take(&mut self, word: &[u8], line: u64, blocks: u16) -> Result<Option<Tag>, CertFault>
+        requires { blocks ≤ 320 }
+        ensures tag { IfOk result (λ tag. (last : ℕ) (others : List LineWord) → read_on blocks last self.old (record { line = line; text = word.now } ∷ others) ≡ with_some tag (read_on blocks last self.new others)) }
+        ensures fault { IfErr result (λ e. e ≢ NoMemory → (last : ℕ) (others : List LineWord) → read_on blocks last self.old (record { line = line; text = word.now } ∷ others) ≡ Err e) }
+    {
+        if let Some(line) = self.split {
+            self.split = None;
+            return self.put(split_of(line, word), line, blocks);
+        }
+        match letter_of(word) {
+            Some(Letter::Extend) => self.put(Ok(Tag::Extend), line, blocks),
+            Some(Letter::Split) => {
+                self.split = Some(line);
+                Ok(None)
+            }
+            Some(Letter::Closed) => self.put(Ok(Tag::Closed), line, blocks),
+            Some(Letter::Open) => self.put(Ok(Tag::Open), line, blocks),
+            None => self.put(Err(CertFault::BadTag(line)), line, blocks),
+        }
+    }
+
+    /// A tag that was said in this line, or its fault, at the next place.
+    fn put(
+        &mut self,
+        said: Result<Tag, CertFault>,
+        line: u64,
+        blocks: u16,
+    ) -> Result<Option<Tag>, CertFault>
+        requires { blocks ≤ 320 }
+        ensures tag { IfOk result (λ tag. (last : ℕ) (others : List TagSaid) → tree_from blocks last self.old.places (record { line = line; tag = said } ∷ others) ≡ with_some tag (tree_from blocks last self.new.places others)) }
+        ensures split { IfOk result (λ tag. self.new.split ≡ self.old.split) }
+        ensures fault { IfErr result (λ e. e ≢ NoMemory → (last : ℕ) (others : List TagSaid) → tree_from blocks last self.old.places (record { line = line; tag = said } ∷ others) ≡ Err e) }
+    {
+        let Some(place) = self.waiting.take() else {
+            return Err(CertFault::Trailing(line));
+        };
+        let tag = said?;
+        if place.depth >= TOO_DEEP {
+            return Err(CertFault::TooDeep(line));
+        }
+        self.waiting.put(tag, place, blocks)?;
+        Ok(Some(tag))
+    }
+
+    /// After the last word, where the last line that holds one is this.
+    pub fn finish(mut self, last: u64) -> Result<(), CertFault>
+        ensures ok { (blocks : ℕ) → OnOk result (read_on blocks last self [] ≡ Ok []) }
+        ensures fault { (blocks : ℕ) → IfErr result (λ e. read_on blocks last self [] ≡ Err e) }
+    {
+        match (self.waiting.take(), self.split) {
+            (None, None) => Ok(()),
+            (None, Some(line)) => Err(CertFault::Trailing(line)),
+            (Some(_), _) => Err(CertFault::Truncated(last)),
+        }
+    }
+}
+
+fn split_of(line: u64, word: &[u8]) -> Result<Tag, CertFault>
+    ensures { result ≡ split_by line (whole_read 65535 word.now) }
+{
+    match read_whole(word, 65535) {
+        None => Err(CertFault::BadTag(line)),
+        Some(block) => Ok(Tag::Split(block as u16)),
+    }
+}
 
 /// The tags that the words from the scan on spell: one tree, and nothing behind it.
 pub fn read_tree(
@@ -29,59 +123,13 @@ pub fn read_tree(
     ensures tree { IfOk result (λ tags. IsTrue (spell_tree blocks tags.items)) }
     ensures fault { IfErr result (λ e. e ≢ NoMemory → tree_read blocks (last_line_of text.now) (numbered_words scan.old) ≡ Err e) }
 {
-    let mut waiting = Waiting::new(alloc)?;
+    let mut reader = TreeReader::new(alloc)?;
     let mut tags = Vec::new(alloc);
     while let Some(word) = scan.next_word() {
-        let Some(place) = waiting.take() else {
-            return Err(CertFault::Trailing(word.line));
-        };
-        let tag = read_tag(&word, scan, text)?;
-        if place.depth >= TOO_DEEP {
-            return Err(CertFault::TooDeep(word.line));
+        if let Some(tag) = reader.take(word.text, word.line, blocks)? {
+            tags.push(tag)?;
         }
-        tags.push(tag)?;
-        waiting.put(tag, place, blocks)?;
     }
-    match waiting.take() {
-        None => Ok(tags),
-        Some(_) => Err(CertFault::Truncated(last_line(text))),
-    }
-}
-
-/// The tag that a word begins.
-#[tactic(auto, unfolding(crate::specs::Reading::tags_said))]
-fn read_tag(word: &Word, scan: &mut Scan, text: &[u8]) -> Result<Tag, CertFault>
-    ensures said { tags_said (last_line_of text.now) None (line_word word.now ∷ numbered_words scan.old)
-        ≡ record { line = word.now.line; tag = result } ∷ tags_said (last_line_of text.now) None (numbered_words scan.new) }
-    ensures fewer { length (numbered_words scan.new) ≤ length (numbered_words scan.old) }
-{
-    match letter_of(word.text) {
-        Some(Letter::Extend) => Ok(Tag::Extend),
-        Some(Letter::Split) => read_split(word.line, scan, text),
-        Some(Letter::Closed) => Ok(Tag::Closed),
-        Some(Letter::Open) => Ok(Tag::Open),
-        None => Err(CertFault::BadTag(word.line)),
-    }
-}
-
-/// The split whose S stands in the line.
-#[tactic(auto, unfolding(crate::specs::Reading::tags_said))]
-fn read_split(line: u64, scan: &mut Scan, text: &[u8]) -> Result<Tag, CertFault>
-    ensures said { tags_said (last_line_of text.now) (Some line) (numbered_words scan.old)
-        ≡ record { line = line; tag = result } ∷ tags_said (last_line_of text.now) None (numbered_words scan.new) }
-    ensures fewer { length (numbered_words scan.new) ≤ length (numbered_words scan.old) }
-{
-    match scan.next_word() {
-        None => Err(CertFault::Truncated(last_line(text))),
-        Some(word) => split_of(line, word.text),
-    }
-}
-
-fn split_of(line: u64, word: &[u8]) -> Result<Tag, CertFault>
-    ensures { result ≡ split_by line (whole_read 65535 word.now) }
-{
-    match read_whole(word, 65535) {
-        None => Err(CertFault::BadTag(line)),
-        Some(block) => Ok(Tag::Split(block as u16)),
-    }
+    reader.finish(last_line(text))?;
+    Ok(tags)
 }

@@ -1,0 +1,37 @@
+-- A certificate is known by what it says: the proof of its form adds nothing.
+use Rattle.std.proofs.Common.{◌≡◌, ℕ, List, Option, ap, subst}
+use Rattle.std.proofs.Props.{props}
+use Rattle.sf_polish.specs.declared.expr.Expr.{Expr}
+use Rattle.sf_certificate.specs.declared.cert.Cert.{Cert}
+use Rattle.sf_certificate.specs.declared.tag.Tag.{Tag}
+use Rattle.sf_certificate.specs.Form.{IsFormed}
+
+record Said : Type 0 where
+  blocks : ℕ
+  plan : Option Expr
+  cost : ℕ
+  bound : ℕ
+  tags : List Tag
+
+abbrev Formed : Said → Type 0
+Formed s = IsFormed s.blocks s.plan s.cost s.tags
+
+abbrev cert-of : (s : Said) → Formed s → Cert
+cert-of s form = record { blocks = s.blocks; plan = s.plan; cost = s.cost; bound = s.bound; tags = s.tags; form = form }
+
+one-form : (s : Said) (f g : Formed s) → f ≡ g
+one-form s = let one : IsProp (Formed s) = hlevel props in one
+
+same-said : (s t : Said) → s ≡ t → (f : Formed s) (g : Formed t) → cert-of s f ≡ cert-of t g
+same-said s t e f = subst (λ v. (g : Formed v) → cert-of s f ≡ cert-of v g) e (λ g. ap (cert-of s) (one-form s f g))
+
+same-parts : (b c : ℕ) (p q : Option Expr) (y z : ℕ) (k l : ℕ) (ts us : List Tag) → b ≡ c → p ≡ q → y ≡ z → k ≡ l → ts ≡ us
+    → ◌≡◌ {A = Said} (record { blocks = b; plan = p; cost = y; bound = k; tags = ts }) (record { blocks = c; plan = q; cost = z; bound = l; tags = us })
+same-parts b c p q y z k l ts us e1 e2 e3 e4 e5 = cc
+
+pub same-cert : (c d : Cert) → c.blocks ≡ d.blocks → c.plan ≡ d.plan → c.cost ≡ d.cost → c.bound ≡ d.bound → c.tags ≡ d.tags → c ≡ d
+same-cert c d blocks plan cost bound tags =
+    same-said
+    (record { blocks = c.blocks; plan = c.plan; cost = c.cost; bound = c.bound; tags = c.tags })
+    (record { blocks = d.blocks; plan = d.plan; cost = d.cost; bound = d.bound; tags = d.tags })
+    (same-parts c.blocks d.blocks c.plan d.plan c.cost d.cost c.bound d.bound c.tags d.tags blocks plan cost bound tags) c.form d.form
