@@ -1,0 +1,173 @@
+-- The levels of a way, one step on and one step back.
+use Rattle.std.proofs.Common.{◌≡◌, ℕ, suc, ◌+◌, ◌-◌, ◌<◌, ◌≤◌, List, [], ◌∷◌, ◌++◌, map, take, length, get_or, Bool, arith, refl, ap, sym, subst, ◌∙◌, true, false, Some}
+use Prim.Native.Nat.{zero}
+use Rattle.std.specs.Prelude.{slice_get, replicate}
+use Rattle.std.specs.List.{AllByRecursion}
+use Rattle.std.proofs.lemmas.List.{same_from_push, nil_from_length, length_push, length-replicate, length-map, get_or-replicate}
+use Rattle.sf_model.specs.declared.design.Design.{Design}
+use Rattle.sf_model.specs.Legal.{block_count}
+use Rattle.sf_polish.specs.Normal.{operands}
+use Rattle.sf_node.specs.declared.step.Step.{Step}
+use Rattle.sf_node.specs.declared.step.Step.TheVariants.{Beside, Above, Block, Left, Right}
+use Rattle.sf_node.specs.Parts.{Parts}
+use Rattle.sf_node.specs.Subproblem.{root}
+use Rattle.sf_node.specs.Children.{after, walk, extended, split, CanStep, IsSubproblem}
+use Rattle.sf_node.specs.Later.{later, extending, behind, pending, halved, HalvesOne, IsChildOf}
+use Rattle.sf_node.proofs.Reached.{steps-after, after-subproblem, subproblem-spans, spans-after}
+use Rattle.sf_node.proofs.Later.{IsStep, came-from, entered, behind-after, later-can, extending-can, extending-is}
+use Rattle.sf_cursor.specs.declared.level.Level.{Level}
+use Rattle.sf_cursor.specs.Path.{Path, level_at, levels_of, AreUsed, marked, named, NamesOne, IsPath, IsBack}
+use Rattle.sf_cursor.proofs.Flags.{used-on, used-back, operands-after, names-one}
+
+levels-append : (bound : Parts → ℕ) (node : Parts) (ss : List Step) (s : Step) → levels_of bound node (ss ++ s ∷ []) ≡ levels_of bound node ss ++ level_at bound (walk node ss) s ∷ []
+levels-append bound node [] s = refl
+levels-append bound node (x ∷ ss) s = ap (λ z. level_at bound node x ∷ z) (levels-append bound (after node x) ss s)
+
+pub levels-many : (bound : Parts → ℕ) (node : Parts) (ss : List Step) → length (levels_of bound node ss) ≡ length ss
+levels-many bound node [] = refl
+levels-many bound node (s ∷ ss) = omega (arith, levels-many bound (after node s) ss)
+
+levels-after : (design : Design) (bound : Parts → ℕ) (node : Parts) (s : Step) → IsSubproblem design node → levels_of bound (root design) (after node s).steps ≡ levels_of bound (root design) node.steps ++ level_at bound node s ∷ []
+levels-after design bound node s sub =
+    ap (levels_of bound (root design)) (steps-after node s) ∙ levels-append bound (root design) node.steps s
+    ∙ ap (λ n. levels_of bound (root design) node.steps ++ level_at bound n s ∷ []) (sym sub.is)
+
+pub path-on : (design : Design) (bound : Parts → ℕ) (old new : Path) (s : Step) (level : Level) → IsPath design bound old → CanStep old.node s → level ≡ level_at bound old.node s → new.node ≡ after old.node s → new.levels ≡ old.levels ++ level ∷ []
+    → new.used ≡ marked old.used s true → new.operands ≡ old.operands + named s → IsPath design bound new
+path-on design bound old new s level at can l n ls u o = record {
+  sub = subst (IsSubproblem design) (sym n) (after-subproblem design old.node s at.sub can);
+  levels = ls ∙ ap (λ z. z ++ level ∷ []) at.levels ∙ ap (λ z. levels_of bound (root design) old.node.steps ++ z ∷ []) l
+      ∙ sym (levels-after design bound old.node s at.sub) ∙ ap (λ z. levels_of bound (root design) z.steps) (sym n);
+  used = subst (λ m. AreUsed m new.used) (sym n) (subst (AreUsed (after old.node s)) (sym u) (used-on old.node s old.used can at.used));
+  operands = omega (arith, o, at.operands, operands-after old.node s, ap (λ (m : Parts). operands m.tokens) n);
+}
+
+-- the level that is taken off is that of the last step
+pub path-back : (design : Design) (bound : Parts → ℕ) (old new : Path) (front : List Step) (s : Step) (level : Level) → IsPath design bound old → old.node.steps ≡ front ++ s ∷ [] → old.levels ≡ new.levels ++ level ∷ []
+    → ((before : Parts) → old.node ≡ after before s → level.span ≡ halved before s → new.node ≡ before)
+    → new.used ≡ marked old.used s false → new.operands ≡ old.operands - named s → IsBack design bound old.node s level.value new
+path-back design bound old new front s level at e ls leaves u o =
+    let from = came-from design old.node front s at.sub e in
+    let before = walk (root design) front in
+    let same : new.levels ++ level ∷ [] ≡ levels_of bound (root design) front ++ level_at bound before s ∷ [] =
+    sym ls ∙ at.levels ∙ ap (levels_of bound (root design)) e ∙ levels-append bound (root design) front s in
+    let parts = same_from_push new.levels (levels_of bound (root design) front) level (level_at bound before s) same in
+    let here : new.node ≡ before = leaves before from.is (ap (λ (l : Level). l.span) parts.1) in
+    let steps : before.steps ≡ front = (same_from_push before.steps front s s (sym (steps-after before s) ∙ ap (λ (n : Parts). n.steps) (sym from.is) ∙ e)).0 in
+    record {
+      at = record {
+        sub = subst (IsSubproblem design) (sym here) from.sub;
+        levels = parts.0 ∙ ap (levels_of bound (root design)) (sym steps) ∙ ap (λ (n : Parts). levels_of bound (root design) n.steps) (sym here);
+        used = subst (λ m. AreUsed m new.used) (sym here) (subst (AreUsed before) (sym u) (used-back before s old.used from.can (subst (λ m. AreUsed m old.used) from.is at.used)));
+        operands = omega (arith, o, at.operands, ap (λ (m : Parts). operands m.tokens) from.is, operands-after before s, ap (λ (m : Parts). operands m.tokens) here);
+      };
+      can = subst (λ n. CanStep n s) (sym here) from.can;
+      is = from.is ∙ ap (λ n. after n s) (sym here);
+      worth = ap (λ (l : Level). l.value) parts.1 ∙ ap bound (sym here);
+    }
+
+-- past a subproblem whose last step has no later one
+pub passed : (design : Design) (bound : Parts → ℕ) (old : Parts) (s : Step) (value : ℕ) (new : Path) → IsBack design bound old s value new → later new.node s ≡ [] → behind (root design) old.steps ≡ behind (root design) new.node.steps
+passed design bound old s value new back none =
+    ap (λ (n : Parts). behind (root design) n.steps) back.is ∙ behind-after design new.node s back.at.sub ∙ ap (λ z. map (after new.node) z ++ behind (root design) new.node.steps) none
+
+-- past a subproblem, over to the step that comes next
+pub turned : (design : Design) (bound : Parts → ℕ) (old : Parts) (s next : Step) (value : ℕ) (new : Path) (child : Parts) → IsBack design bound old s value new → later new.node s ≡ next ∷ later new.node next → child ≡ after new.node next → pending design true child ≡ behind (root design) old.steps
+turned design bound old s next value new child back e is =
+    ap (pending design true) is ∙ sym (entered design new.node next (later new.node s) back.at.sub e) ∙ sym (behind-after design new.node s back.at.sub) ∙ ap (λ (n : Parts). behind (root design) n.steps) (sym back.is)
+
+pub next-can : (node : Parts) (s next : Step) → CanStep node s → later node s ≡ next ∷ later node next → CanStep node next
+next-can node s next can e = let all = subst (AllByRecursion (CanStep node)) e (later-can node s can) in all.0
+
+pub first-can : (node : Parts) (next : Step) → extending node ≡ next ∷ later node next → CanStep node next
+first-can node next e = let all = subst (AllByRecursion (CanStep node)) e (extending-can node) in all.0
+
+pub extended-first : (design : Design) (node child : Parts) (next : Step) → IsSubproblem design node → extending node ≡ next ∷ later node next → child ≡ after node next → pending design true child ≡ extended node ++ behind (root design) node.steps
+extended-first design node child next sub e is =
+    ap (pending design true) is ∙ sym (entered design node next (extending node) sub e) ∙ ap (λ z. z ++ behind (root design) node.steps) (extending-is node)
+
+pub extended-none : (design : Design) (node : Parts) → extending node ≡ [] → behind (root design) node.steps ≡ extended node ++ behind (root design) node.steps
+extended-none design node e = ap (λ z. z ++ behind (root design) node.steps) (sym (ap (map (after node)) e) ∙ extending-is node)
+
+pub split-first : (design : Design) (node child : Parts) (b : ℕ) → IsSubproblem design node → child ≡ after node (Left b) → pending design true child ≡ split node b ++ behind (root design) node.steps
+split-first design node child b sub is = ap (pending design true) is ∙ sym (entered design node (Left b) (Left b ∷ later node (Left b)) sub refl)
+
+pub few-spans : (design : Design) (bound : Parts → ℕ) (path : Path) → IsPath design bound path → length path.node.spans ≤ 320
+few-spans design bound path at = omega (arith, subproblem-spans design path.node at.sub, design.limits.few_blocks)
+
+pub same-level : (v w : ℕ) (s t : ℕ × ℕ) → v ≡ w → s ≡ t → ◌≡◌ {A = Level} (record { value = v; span = s }) (record { value = w; span = t })
+same-level v w s t e k = cc
+
+-- a list that has a last item
+last-at : {X : Type 0} (xs : List X) (i : ℕ) (x : X) → i + 1 ≡ length xs → Some x ≡ slice_get xs i → xs ≡ take i xs ++ x ∷ []
+last-at [] i x h e = absurd (omega (arith, h))
+last-at (y ∷ xs) zero x h e =
+    let none : xs ≡ [] = nil_from_length xs (omega (arith, h)) in
+    let same : y ≡ x = cc in
+    ap (λ z. y ∷ z) none ∙ ap (λ z. z ∷ []) same
+last-at (y ∷ xs) (suc i) x h e = ap (λ z. y ∷ z) (last-at xs i x (omega (arith, h)) e)
+
+last-of : {X : Type 0} (xs : List X) (x : X) → Some x ≡ slice_get xs (length xs - 1) → xs ≡ take (length xs - 1) xs ++ x ∷ []
+last-of [] x e = absurd (cc)
+last-of (y ∷ xs) x e = last-at (y ∷ xs) (length (y ∷ xs) - 1) x (omega arith) e
+
+pub last-as : {X : Type 0} (xs ys : List X) (x : X) → xs ≡ ys → Some x ≡ slice_get xs (length xs - 1) → ys ≡ take (length ys - 1) ys ++ x ∷ []
+last-as xs ys x same e = subst (λ zs. zs ≡ take (length zs - 1) zs ++ x ∷ []) same (last-of xs x e)
+
+halves-after : (before : Parts) (s : Step) → CanStep before s → HalvesOne (after before s) s
+halves-after before Beside can = tt
+halves-after before Above can = tt
+halves-after before (Block b) can = tt
+halves-after before (Left b) can = subst (λ n. b < n) (sym (spans-after before (Left b))) can.0
+halves-after before (Right b) can = subst (λ n. b < n) (sym (spans-after before (Right b))) can.0
+
+pub halves-one : (design : Design) (bound : Parts → ℕ) (path : Path) (front : List Step) (s : Step) → IsPath design bound path → path.node.steps ≡ front ++ s ∷ [] → HalvesOne path.node s
+halves-one design bound path front s at e =
+    let from = came-from design path.node front s at.sub e in
+    subst (λ n. HalvesOne n s) (sym from.is) (halves-after (walk (root design) front) s from.can)
+
+record HasLast (xs : List Step) : Type 0 where
+  front : List Step
+  last : Step
+  is : xs ≡ front ++ last ∷ []
+
+has-last : (xs : List Step) → 0 < length xs → HasLast xs
+has-last [] h = absurd (omega arith)
+has-last (x ∷ []) h = record { front = []; last = x; is = refl }
+has-last (x ∷ y ∷ ys) h =
+    let more = has-last (y ∷ ys) (omega arith) in
+    record { front = x ∷ more.front; last = more.last; is = ap (λ z. x ∷ z) more.is }
+
+-- the last level has the value of the subproblem one step before
+pub level-above : (design : Design) (bound : Parts → ℕ) (path : Path) (levels : List Level) (level : Level) → IsPath design bound path → levels ≡ path.levels → Some level ≡ slice_get levels (length levels - 1) → IsChildOf design bound level.value path.node
+level-above design bound path levels level at same e =
+    let all = last-of levels level e in
+    let many : length path.node.steps ≡ length levels = sym (levels-many bound (root design) path.node.steps) ∙ sym (ap length at.levels) ∙ sym (ap length same) in
+    let here : length levels ≡ length (take (length levels - 1) levels) + 1 = ap length all ∙ length_push (take (length levels - 1) levels) level in
+    let h = has-last path.node.steps (omega (arith, many, here)) in
+    let from = came-from design path.node h.front h.last at.sub h.is in
+    let before = walk (root design) h.front in
+    let both : take (length levels - 1) levels ++ level ∷ [] ≡ levels_of bound (root design) h.front ++ level_at bound before h.last ∷ [] =
+    sym all ∙ same ∙ at.levels ∙ ap (levels_of bound (root design)) h.is ∙ levels-append bound (root design) h.front h.last in
+    let parts = same_from_push (take (length levels - 1) levels) (levels_of bound (root design) h.front) level (level_at bound before h.last) both in
+    record { parent = before; step = h.last; sub = from.sub; can = from.can; is = from.is; worth = ap (λ (l : Level). l.value) parts.1 }
+
+pub root-used : (design : Design) (used : List Bool) → used ≡ replicate (block_count design) false → AreUsed (root design) used
+root-used design used e = record {
+  each = ap length e ∙ length-replicate (block_count design) false ∙ sym (length-map design.blocks (λ block. (0, length block.shapes)));
+  flags = λ b h. ap (λ v. get_or v b true) e ∙ get_or-replicate (block_count design) b false true (omega (arith, h, ap length e, length-replicate (block_count design) false));
+}
+
+-- a block that the last step names has a flag
+pub names-back : (design : Design) (bound : Parts → ℕ) (path : Path) (front : List Step) (s : Step) → IsPath design bound path → path.node.steps ≡ front ++ s ∷ [] → NamesOne s path.used
+names-back design bound path front s at e =
+    let from = came-from design path.node front s at.sub e in
+    let before = walk (root design) front in
+    names-one before s path.used from.can (at.used.each ∙ ap (λ (n : Parts). length n.spans) from.is ∙ spans-after before s)
+
+-- the last step names no more blocks than are there
+pub names-few : (design : Design) (bound : Parts → ℕ) (path : Path) (front : List Step) (s : Step) → IsPath design bound path → path.node.steps ≡ front ++ s ∷ [] → named s ≤ path.operands
+names-few design bound path front s at e =
+    let from = came-from design path.node front s at.sub e in
+    let before = walk (root design) front in
+    omega (arith, at.operands, ap (λ (n : Parts). operands n.tokens) from.is, operands-after before s)

@@ -1,0 +1,24 @@
+use Rattle.std.proofs.Common.{◌≡◌, ap, ◌∙◌, ◌++◌, ◌∷◌, [], arith, true}
+use Rattle.sf_node.specs.Children.{after}
+use Rattle.sf_node.specs.Later.{halved}
+use Rattle.sf_cursor.specs.declared.level.Level.{Level}
+use Rattle.sf_cursor.specs.Path.{marked}
+use Rattle.sf_cursor.proofs.Flags.{few-operands, named-most}
+use Rattle.sf_cursor.proofs.Ways.{path-on, same-level}
+use Rattle.sf_cursor.proofs.cursor.Cursor.enter.Goals as goal
+
+pub returns-clause-at : goal.returns-clause-at
+returns-clause-at g c =
+    let bound = g.V.Values.value c.args.values.now c.args.design.now in
+    let level : Level = record { value = c.args.value; span = c.halved-span.result } in
+    path-on c.args.design.now bound c.args.self.now _ c.args.step level c.requires.at c.requires.can
+    (same-level c.args.value (bound c.args.self.now.node) c.halved-span.result (halved c.args.self.now.node c.args.step) c.requires.value (c.halved-span.ensures ∙ ap (λ p. halved p.node c.args.step) c.self.view_is))
+    (c.in_ok-enter.ensures ∙ ap (λ p. after p.node c.args.step) c.self.view_is)
+    (c.in_ok-push.ensures.items ∙ ap (λ p. p.levels ++ level ∷ []) c.self.view_is)
+    (c.mark.ensures ∙ ap (λ p. marked p.used c.args.step true) c.self.view_is)
+    (omega (arith, c.named.ensures, ap (λ p. p.operands) c.self.view_is))
+
+pub overflow_add-self : goal.overflow_add-self
+overflow_add-self g c =
+    let now = c.args.self.now in
+    omega (arith, few-operands c.args.design.now now.node c.requires.at.sub, c.requires.at.operands, ap (λ p. p.operands) c.self.view_is, c.named.ensures, named-most c.args.step)

@@ -1,0 +1,16 @@
+//! Where a search in preorder stands: the subproblem that is next, and for each step of the way to it the value of the
+//! subproblem before the step and the span that the step halved.
+//!
+//! The crate stands on `sf_node` for subproblems and on `sf_certificate` for tags. One node is changed in place: a step forward
+//! adds a level, a step back takes it off. Whoever puts tags down in preorder, as a search that makes a certificate and a
+//! checker that reads one, uses that `follow` moves to the first of the subproblems that are not visited yet (`pending`), and
+//! that no other is lost or comes twice.
+#![tactic(auto)]
+
+mod cursor;
+mod level;
+#[cfg(test)]
+mod tests;
+
+pub use cursor::Cursor;
+pub use level::Level;
