@@ -22,16 +22,16 @@ use Rattle.sf_checker.specs.Answers.{IsPlanRight, IsUnfit, IsOtherBound, IsFirst
 use Rattle.sf_checker.proofs.Walks.{IsSeen, seen, faulty}
 
 -- a plan has one cost
-cost-one : (design : Design) (expr : Expr) (y z : ℕ) → HasCost design expr y → HasCost design expr z → y ≡ z
+pub cost-one : (design : Design) (expr : Expr) (y z : ℕ) → HasCost design expr y → HasCost design expr z → y ≡ z
 cost-one design expr y z a b = sym a.costs ∙ ap (cost design) (spells-one expr a.tree b.tree a.spells b.spells) ∙ b.costs
 
 -- a plan that has an unlisted shape or does not fit has none
-unfit-costless : (design : Design) (expr : Expr) (z : ℕ) → IsUnfit design expr → HasCost design expr z → ⊥
+pub unfit-costless : (design : Design) (expr : Expr) (z : ℕ) → IsUnfit design expr → HasCost design expr z → ⊥
 unfit-costless design expr z u h =
     let same = spells-one expr h.tree u.tree h.spells u.spells in
     u.unfit (subst (λ t. All (λ leaf. Contains (shapes_of design leaf.0) leaf.1) (leaves t)) same h.legal.listed) (subst (Fits design.outline) same h.fits)
 
-plan-of : (design : Design) (z : ℕ) (plan : Option Expr) (expr : Expr) → plan ≡ Some expr → MatchOption plan (z ≡ MAX) (λ e. HasCost design e z) → HasCost design expr z
+pub plan-of : (design : Design) (z : ℕ) (plan : Option Expr) (expr : Expr) → plan ≡ Some expr → MatchOption plan (z ≡ MAX) (λ e. HasCost design e z) → HasCost design expr z
 plan-of design z None expr e h = absurd (cc)
 plan-of design z (Some other) expr e h = let same : other ≡ expr = cc in subst (λ x. HasCost design x z) same h
 

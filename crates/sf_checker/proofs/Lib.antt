@@ -1,3 +1,4 @@
 pub mod Walks
 pub mod Answered
 pub mod Plans
+pub mod OneAnswer

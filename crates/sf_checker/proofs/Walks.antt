@@ -1,5 +1,5 @@
 -- What the walk keeps and finds.
-use Rattle.std.proofs.Common.{◌≡◌, ℕ, suc, ◌+◌, ◌<◌, ◌≤◌, min, List, [], ◌∷◌, ◌++◌, length, map, drop, get_or, arith, refl, ap, sym, subst, ◌∙◌, Bool, true, false, not, cond, ◌&&◌, inl, inr, ◌⊎◌, Result, Ok, Err}
+use Rattle.std.proofs.Common.{◌≡◌, ℕ, suc, ◌+◌, ◌<◌, ◌≤◌, min, List, [], ◌∷◌, ◌++◌, length, map, drop, get_or, arith, refl, ap, sym, subst, ◌∙◌, Bool, true, false, cond, ◌&&◌, inl, inr, ◌⊎◌, Option, Some, None, Result, Ok, Err}
 use Rattle.std.proofs.Math.Seq.{drop-cons}
 use Rattle.std.proofs.Math.ListN.{drop_of_length-le}
 use Rattle.std.specs.Prelude.{nat_lt}
@@ -18,26 +18,35 @@ use Rattle.sf_certificate.specs.declared.tag.Tag.TheVariants.{Extend, Split, Clo
 use Rattle.sf_certificate.specs.Places.{place_of, places_under, spell_trees}
 use Rattle.sf_certificate.specs.Valid.{AreTrees, left_open, least, decided}
 use Rattle.sf_certificate.specs.Marks.{made, IsFair}
+use Rattle.sf_certificate.proofs.AfterTags.{least-min}
 use Rattle.sf_certificate.proofs.Places.{places-made}
 use Rattle.sf_certificate.proofs.Growth.{made-subproblems, trees-first}
 use Rattle.sf_checker.specs.declared.answer.Why.{Why}
 use Rattle.sf_checker.specs.declared.answer.Why.TheVariants.{NotClosed, BadSplit, BadChildren}
-use Rattle.sf_checker.specs.Walking.{Progress, visited, walked, and_then, start}
+use Rattle.sf_checker.specs.Walking.{Progress, fault_at, one_decided, lowered, past, unless, visited, walked, and_then, start}
 
-ok-else : (b : Bool) (why : Why) (x next : Progress) → cond b (Err why) (Ok x) ≡ Ok next → (b ≡ false) × (x ≡ next)
-ok-else true why x next e = absurd (cc)
-ok-else false why x next e = (refl, cc)
+some-else : (b : Bool) (why : Why) → cond b (Some why) None ≡ None → b ≡ false
+some-else true why e = absurd (cc)
+some-else false why e = refl
 
-err-else : (b : Bool) (why other : Why) (x : Progress) → cond b (Err why) (Ok x) ≡ Err other → (b ≡ true) × (why ≡ other)
-err-else true why other x e = (refl, cc)
-err-else false why other x e = absurd (cc)
+none-else : (b : Bool) (why : Why) → cond b None (Some why) ≡ None → b ≡ true
+none-else true why e = refl
+none-else false why e = absurd (cc)
 
-and-both : (a b : Bool) → not (a && b) ≡ false → (a ≡ true) × (b ≡ true)
+is-some : (b : Bool) (why other : Why) → cond b (Some why) None ≡ Some other → b ≡ true
+is-some true why other e = refl
+is-some false why other e = absurd (cc)
+
+is-none : (b : Bool) (why other : Why) → cond b None (Some why) ≡ Some other → b ≡ false
+is-none true why other e = absurd (cc)
+is-none false why other e = refl
+
+and-both : (a b : Bool) → (a && b) ≡ true → (a ≡ true) × (b ≡ true)
 and-both true true e = (refl, refl)
 and-both true false e = absurd (cc)
 and-both false b e = absurd (cc)
 
-and-not : (a b : Bool) → not (a && b) ≡ true → a ≡ true → b ≡ true → ⊥
+and-not : (a b : Bool) → (a && b) ≡ false → a ≡ true → b ≡ true → ⊥
 and-not true true e p q = cc
 and-not true false e p q = cc
 and-not false b e p q = cc
@@ -51,56 +60,55 @@ true-less a b h = grind (arith, nat_tests)
 less-false : (a b : ℕ) → nat_lt a b ≡ false → b ≤ a
 less-false a b e = grind (arith, nat_tests)
 
--- what one tag adds to the decided
-abbrev pub one_decided : Tag → ℕ
-one_decided Extend = 1
-one_decided (Split b) = 1
-one_decided Closed = 1
-one_decided Open = 0
-
--- what one tag does to the least
-abbrev pub lower : Tag → ℕ → ℕ → ℕ
-lower Extend n z = n
-lower (Split b) n z = n
-lower Closed n z = n
-lower Open n z = min n z
-
 -- what one tag did
 pub record IsVisit (bound : Parts → ℕ) (cost : ℕ) (walk : Progress) (node : Parts) (nodes : List Parts) (tag : Tag) (next : Progress) : Type 0 where
   pub fair : IsFair bound cost tag node
   pub waiting : made tag node ++ nodes ≡ next.waiting
-  pub low : lower tag walk.low (bound node) ≡ next.low
+  pub low : lowered tag walk.low (bound node) ≡ next.low
   pub decided : walk.decided + one_decided tag ≡ next.decided
   pub number : walk.number + 1 ≡ next.number
 
+-- a tag that may not stand is no fair one, and the other way round
+no-fault : (bound : Parts → ℕ) (cost number : ℕ) (node : Parts) (tag : Tag) → fault_at (bound node) cost number node tag ≡ None → IsFair bound cost tag node
+no-fault bound cost number node Extend e = some-else (is_complete node) (BadChildren number) e
+no-fault bound cost number node (Split b) e =
+    let both = and-both (nat_lt b (length node.spans)) (is_wide (span_of node b)) (none-else (can_split node b) (BadSplit number) e) in
+    (less-true b (length node.spans) both.0, both.1)
+no-fault bound cost number node Closed e = less-false (bound node) cost (some-else (nat_lt (bound node) cost) (NotClosed number (bound node) cost) e)
+no-fault bound cost number node Open e = tt
+
+a-fault : (bound : Parts → ℕ) (cost number : ℕ) (node : Parts) (tag : Tag) (why : Why) → fault_at (bound node) cost number node tag ≡ Some why → IsFair bound cost tag node → ⊥
+a-fault bound cost number node Extend why e fair = let no : false ≡ true = sym fair ∙ is-some (is_complete node) (BadChildren number) why e in cc
+a-fault bound cost number node (Split b) why e fair =
+    and-not (nat_lt b (length node.spans)) (is_wide (span_of node b)) (is-none (can_split node b) (BadSplit number) why e) (true-less b (length node.spans) fair.0) fair.1
+a-fault bound cost number node Closed why e fair =
+    let less = less-true (bound node) cost (is-some (nat_lt (bound node) cost) (NotClosed number (bound node) cost) why e) in
+    omega (arith, fair, less)
+a-fault bound cost number node Open why e fair = cc
+
+unless-ok : (o : Option Why) (walk next : Progress) → unless o walk ≡ Ok next → (o ≡ None) × (walk ≡ next)
+unless-ok None walk next e = (refl, cc)
+unless-ok (Some why) walk next e = absurd (cc)
+
+unless-err : (o : Option Why) (walk : Progress) (why : Why) → unless o walk ≡ Err why → o ≡ Some why
+unless-err None walk why e = absurd (cc)
+unless-err (Some other) walk why e = let same : other ≡ why = cc in ap Some same
+
 visit-fact : (bound : Parts → ℕ) (cost : ℕ) (walk : Progress) (node : Parts) (nodes : List Parts) (tag : Tag) (next : Progress) → visited bound cost walk (node ∷ nodes) tag ≡ Ok next → IsVisit bound cost walk node nodes tag next
-visit-fact bound cost walk node nodes Extend next e =
-    let r = ok-else (is_complete node) (BadChildren walk.number) (record walk { waiting = extended node ++ nodes; decided = walk.decided + 1; number = walk.number + 1 }) next e in
-    record { fair = r.0; waiting = ap (λ w. w.waiting) r.1; low = ap (λ w. w.low) r.1; decided = ap (λ w. w.decided) r.1; number = ap (λ w. w.number) r.1 }
-visit-fact bound cost walk node nodes (Split b) next e =
-    let r = ok-else (not (can_split node b)) (BadSplit walk.number) (record walk { waiting = split node b ++ nodes; decided = walk.decided + 1; number = walk.number + 1 }) next e in
-    let both = and-both (nat_lt b (length node.spans)) (is_wide (span_of node b)) r.0 in
-    record { fair = (less-true b (length node.spans) both.0, both.1); waiting = ap (λ w. w.waiting) r.1; low = ap (λ w. w.low) r.1; decided = ap (λ w. w.decided) r.1; number = ap (λ w. w.number) r.1 }
-visit-fact bound cost walk node nodes Closed next e =
-    let r = ok-else (nat_lt (bound node) cost) (NotClosed walk.number (bound node) cost) (record walk { waiting = nodes; decided = walk.decided + 1; number = walk.number + 1 }) next e in
-    record { fair = less-false (bound node) cost r.0; waiting = ap (λ w. w.waiting) r.1; low = ap (λ w. w.low) r.1; decided = ap (λ w. w.decided) r.1; number = ap (λ w. w.number) r.1 }
-visit-fact bound cost walk node nodes Open next e =
-    let r : (record walk { waiting = nodes; low = min walk.low (bound node); number = walk.number + 1 }) ≡ next = cc in
-    record { fair = tt; waiting = ap (λ w. w.waiting) r; low = ap (λ w. w.low) r; decided = omega (arith, ap (λ (w : Progress). w.decided) r); number = ap (λ w. w.number) r }
+visit-fact bound cost walk node nodes tag next e =
+    let r = unless-ok (fault_at (bound node) cost walk.number node tag) (past bound walk (node ∷ nodes) node tag) next e in
+    record {
+      fair = no-fault bound cost walk.number node tag r.0;
+      waiting = ap (λ (w : Progress). w.waiting) r.1;
+      low = ap (λ (w : Progress). w.low) r.1;
+      decided = ap (λ (w : Progress). w.decided) r.1;
+      number = ap (λ (w : Progress). w.number) r.1;
+    }
 
 -- where a tag is refused, it may not stand there
 visit-fault : (bound : Parts → ℕ) (cost : ℕ) (walk : Progress) (node : Parts) (nodes : List Parts) (tag : Tag) (why : Why) → visited bound cost walk (node ∷ nodes) tag ≡ Err why → IsFair bound cost tag node → ⊥
-visit-fault bound cost walk node nodes Extend why e fair =
-    let r = err-else (is_complete node) (BadChildren walk.number) why (record walk { waiting = extended node ++ nodes; decided = walk.decided + 1; number = walk.number + 1 }) e in
-    cc
-visit-fault bound cost walk node nodes (Split b) why e fair =
-    let r = err-else (not (can_split node b)) (BadSplit walk.number) why (record walk { waiting = split node b ++ nodes; decided = walk.decided + 1; number = walk.number + 1 }) e in
-    and-not (nat_lt b (length node.spans)) (is_wide (span_of node b)) r.0 (true-less b (length node.spans) fair.0) fair.1
-visit-fault bound cost walk node nodes Closed why e fair =
-    let r = err-else (nat_lt (bound node) cost) (NotClosed walk.number (bound node) cost) why (record walk { waiting = nodes; decided = walk.decided + 1; number = walk.number + 1 }) e in
-    let less = less-true (bound node) cost r.0 in
-    omega (arith, fair, less)
-visit-fault bound cost walk node nodes Open why e fair = cc
+visit-fault bound cost walk node nodes tag why e fair =
+    a-fault bound cost walk.number node tag why (unless-err (fault_at (bound node) cost walk.number node tag) (past bound walk (node ∷ nodes) node tag) why e) fair
 
 one-most : (tag : Tag) → one_decided tag ≤ 1
 one-most Extend = omega arith
@@ -163,10 +171,6 @@ unfolding walked
 walking-end design bound cost tags walk i h w = w.rest ∙ ap (walked bound cost walk) (drop_of_length-le tags h)
 
 -- ---- what the end of the walk says of the tags
-
-least-min : (n x : ℕ) (xs : List ℕ) → least (min n x) xs ≡ min x (least n xs)
-least-min n x [] = omega arith
-least-min n x (y ∷ ys) = omega (arith, least-min n x ys)
 
 -- the tags from here on are trees, and the walk has their least bound and their number
 pub record IsSeen (bound : Parts → ℕ) (cost : ℕ) (walk : Progress) (tags : List Tag) (last : Progress) : Type 0 where

@@ -1,3 +1,5 @@
+//! Certificates of two hard blocks, and the first failure of each.
+
 ghost use Rattle.std.specs.Prelude.{◌≡◌, ◌∷◌, [], IfOk};
 ghost use Rattle.sf_model.specs.Legal.{block_count};
 
