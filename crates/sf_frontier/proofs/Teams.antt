@@ -1,0 +1,309 @@
+-- Rings of deques, opened at one worker, and what is left of a team, one deque at a time.
+use Rattle.std.proofs.Common.{◌≡◌, ℕ, ◌<◌, List, [], ◌∷◌, ◌++◌, length, take, drop, map, All, sym, ap, ◌∙◌, subst, refl, arith, length-append, append-nil, append_assoc, inl, inr}
+use Rattle.std.specs.Prelude.{sum_by}
+use Rattle.std.specs.List.{flat_map}
+use Rattle.std.proofs.lemmas.List.Sums.{sum_by-append, sum_by-cons}
+use Rattle.std.proofs.lemmas.List.Elements.{All-take, All-drop, All-push, All-head, All-nil, All-cons}
+use Rattle.std.proofs.lemmas.List.{map-append}
+use lib.Seq.{take-append_seam, drop-append_seam}
+use Rattle.sf_node.specs.declared.task.Task.{Task}
+use Rattle.sf_frontier.specs.Ends.{Deque, OwnerView, ThiefView}
+use Rattle.sf_frontier.specs.Fair.{SameTasks}
+use Rattle.sf_frontier.specs.Team.{thief_deques_of, turned, owners_of, deques_of, preys_of, stolen_by, AreSettled, IsTeam, IsFinished, IsNewOwner, IsNewThief, IsNewPlace}
+use Rattle.sf_frontier.specs.declared.place.Place.{Place}
+
+module _ {A : Type 0} where
+  pub all_front : (P : A → Type 0) (xs ys : List A) → All P (xs ++ ys) → All P xs
+  all_front P xs ys h = subst (All P) (take-append_seam xs ys) (All-take P (length xs) (xs ++ ys) h)
+
+  pub all_last : (P : A → Type 0) (xs : List A) (x : A) → All P (xs ++ x ∷ []) → P x
+  all_last P xs x h = All-head P x [] (subst (All P) (drop-append_seam xs (x ∷ [])) (All-drop P (length xs) (xs ++ x ∷ []) h))
+
+  snoc_length : (xs ys : List A) (x y : A) → xs ++ x ∷ [] ≡ ys ++ y ∷ [] → length xs ≡ length ys
+  snoc_length xs ys x y e = omega (arith, ap length e, length-append xs (x ∷ []), length-append ys (y ∷ []))
+
+  snoc_same : (xs ys : List A) (x y : A) → xs ++ x ∷ [] ≡ ys ++ y ∷ [] → xs ≡ ys
+  snoc_same xs ys x y e =
+      let len = snoc_length xs ys x y e in
+      sym (take-append_seam xs (x ∷ [])) ∙ (ap (λ (l : List A). take (length xs) l) e ∙ (ap (λ (n : ℕ). take n (ys ++ y ∷ [])) len ∙ take-append_seam ys (y ∷ [])))
+
+  one_same : (x y : A) → x ∷ [] ≡ y ∷ [] → x ≡ y
+  one_same x y e = cc
+
+  snoc_last : (xs ys : List A) (x y : A) → xs ++ x ∷ [] ≡ ys ++ y ∷ [] → x ≡ y
+  snoc_last xs ys x y e =
+      let len = snoc_length xs ys x y e in
+      one_same x y (sym (drop-append_seam xs (x ∷ [])) ∙ (ap (λ (l : List A). drop (length xs) l) e ∙ (ap (λ (n : ℕ). drop n (ys ++ y ∷ [])) len ∙ drop-append_seam ys (y ∷ []))))
+
+  -- the first of a list, or d where there is none
+  abbrev pub first_or : A → List A → A
+  first_or d [] = d
+  first_or d (x ∷ xs) = x
+
+  drop_snoc : (xs : List A) (x y : A) → drop 1 ((xs ++ x ∷ []) ++ y ∷ []) ≡ drop 1 (xs ++ x ∷ []) ++ y ∷ []
+  drop_snoc [] x y = refl
+  drop_snoc (z ∷ xs) x y = refl
+
+  first_snoc : (xs : List A) (x y : A) → first_or y (xs ++ x ∷ []) ≡ first_or x xs
+  first_snoc [] x y = refl
+  first_snoc (z ∷ xs) x y = refl
+
+  turned_snoc : (xs : List A) (x : A) → turned (xs ++ x ∷ []) ≡ drop 1 (xs ++ x ∷ []) ++ first_or x xs ∷ []
+  turned_snoc [] x = refl
+  turned_snoc (z ∷ xs) x = refl
+
+  abbrev one : A → List A
+  one x = x ∷ []
+
+-- one thief, on this deque
+pub one_thief : (rest ts : List ThiefView) (t : ThiefView) (d : Deque) → ts ≡ rest ++ t ∷ [] → thief_deques_of ts ≡ d ∷ [] → (ts ≡ t ∷ []) × (t.deque ≡ d)
+one_thief [] ts t d e h = (e, one_same t.deque d (ap thief_deques_of (sym e) ∙ h))
+one_thief (r ∷ rest) ts t d e h =
+    let n = ap length (ap thief_deques_of (sym e) ∙ h) in
+    absurd (omega (arith, n, ap length (map-append (λ (x : ThiefView). x.deque) rest (t ∷ [])), length-append (map (λ (x : ThiefView). x.deque) rest) (t.deque ∷ [])))
+
+-- a new deque, with its owner and its thief
+pub record IsNewPair (o : OwnerView) (t : ThiefView) : Type 0 where
+  pub deque : t.deque ≡ o.deque
+  pub parts : o.deque.parts ≡ 2
+  pub owner : IsNewOwner o
+  pub thief : IsNewThief t
+
+pub new-pair : (lone o : OwnerView) (t : ThiefView) → IsNewOwner lone → o ≡ record lone { deque = record lone.deque { parts = 2 } } → t ≡ record { deque = record lone.deque { parts = 2 }; taken = []; empty_takes = 0 } → IsNewPair o t
+new-pair lone o t new eo et = record {
+  deque = ap (λ (x : ThiefView). x.deque) et ∙ sym (ap (λ (x : OwnerView). x.deque) eo);
+  parts = ap (λ (x : OwnerView). x.deque.parts) eo;
+  owner = (ap (λ (x : OwnerView). x.put) eo ∙ new.0, ap (λ (x : OwnerView). x.taken) eo ∙ new.1, ap (λ (x : OwnerView). x.empty_takes) eo ∙ new.2, ap (λ (x : OwnerView). x.refused_puts) eo ∙ new.3);
+  thief = (ap (λ (x : ThiefView). x.taken) et, ap (λ (x : ThiefView). x.empty_takes) et);
+}
+
+module _ {T : Type 0} where
+  -- of a ring the workers before one with the deque d: each has a thief on the next deque, and the first deque is this
+  pub record IsOpenRing (ps : List (Place T)) (d first : Deque) : Type 0 where
+    pub preys : preys_of ps ≡ map (λ x. x ∷ []) (drop 1 (deques_of ps ++ d ∷ []))
+    pub first_is : first ≡ first_or d (deques_of ps)
+
+  abbrev prey : Place T → List Deque
+  prey p = thief_deques_of p.thieves.items
+
+  abbrev deque : Place T → Deque
+  deque p = p.owner.deque
+
+  pub ring-start : (d : Deque) → IsOpenRing [] d d
+  ring-start d = record { preys = refl; first_is = refl }
+
+  pub ring-more : (ps : List (Place T)) (p : Place T) (d first next : Deque) → IsOpenRing ps d first → p.owner.deque ≡ d → prey p ≡ next ∷ [] → IsOpenRing (ps ++ p ∷ []) next first
+  ring-more ps p d first next r here there =
+      let ds : deques_of (ps ++ p ∷ []) ≡ deques_of ps ++ d ∷ [] = map-append deque ps (p ∷ []) ∙ ap (λ x. deques_of ps ++ x ∷ []) here in
+      record {
+        preys =
+            map-append prey ps (p ∷ [])
+            ∙ ((λ i. r.preys i ++ there i ∷ [])
+            ∙ (sym (map-append (λ (x : Deque). x ∷ []) (drop 1 (deques_of ps ++ d ∷ [])) (next ∷ []))
+            ∙ (ap (map (λ (x : Deque). x ∷ [])) (sym (drop_snoc (deques_of ps) d next))
+            ∙ ap (λ zs. map (λ (x : Deque). x ∷ []) (drop 1 (zs ++ next ∷ []))) (sym ds))));
+        first_is = r.first_is ∙ (sym (first_snoc (deques_of ps) d next) ∙ ap (first_or next) (sym ds));
+      }
+
+  pub ring-closed : (ps : List (Place T)) (p : Place T) (d first : Deque) → IsOpenRing ps d first → p.owner.deque ≡ d → prey p ≡ first ∷ [] → preys_of (ps ++ p ∷ []) ≡ map (λ x. x ∷ []) (turned (deques_of (ps ++ p ∷ [])))
+  ring-closed ps p d first r here there =
+      let ds : deques_of (ps ++ p ∷ []) ≡ deques_of ps ++ d ∷ [] = map-append deque ps (p ∷ []) ∙ ap (λ x. deques_of ps ++ x ∷ []) here in
+      map-append prey ps (p ∷ [])
+      ∙ ((λ i. r.preys i ++ (there ∙ ap (λ x. x ∷ []) r.first_is) i ∷ [])
+      ∙ (sym (map-append (λ (x : Deque). x ∷ []) (drop 1 (deques_of ps ++ d ∷ [])) (first_or d (deques_of ps) ∷ []))
+      ∙ (ap (map (λ (x : Deque). x ∷ [])) (sym (turned_snoc (deques_of ps) d))
+      ∙ ap (λ zs. map (λ (x : Deque). x ∷ []) (turned zs)) (sym ds))))
+
+  pub ring-opened : (ps : List (Place T)) (p : Place T) → preys_of (ps ++ p ∷ []) ≡ map (λ x. x ∷ []) (turned (deques_of (ps ++ p ∷ [])))
+      → (prey p ≡ first_or p.owner.deque (deques_of ps) ∷ []) × IsOpenRing ps p.owner.deque (first_or p.owner.deque (deques_of ps))
+  ring-opened ps p e =
+      let d = p.owner.deque in
+      let first = first_or d (deques_of ps) in
+      let both : preys_of ps ++ prey p ∷ [] ≡ map (λ x. x ∷ []) (drop 1 (deques_of ps ++ d ∷ [])) ++ (first ∷ []) ∷ [] =
+      sym (map-append prey ps (p ∷ [])) ∙ (e ∙ (ap (λ zs. map (λ (x : Deque). x ∷ []) (turned zs)) (map-append deque ps (p ∷ []))
+      ∙ (ap (map (λ (x : Deque). x ∷ [])) (turned_snoc (deques_of ps) d) ∙ map-append (λ (x : Deque). x ∷ []) (drop 1 (deques_of ps ++ d ∷ [])) (first ∷ [])))) in
+      (snoc_last _ _ (prey p) (first ∷ []) both, record { preys = snoc_same _ _ (prey p) (first ∷ []) both; first_is = refl })
+
+  pub ring-less : (ps : List (Place T)) (p : Place T) (d first : Deque) → IsOpenRing (ps ++ p ∷ []) d first → (prey p ≡ d ∷ []) × IsOpenRing ps p.owner.deque first
+  ring-less ps p d first r =
+      let here = p.owner.deque in
+      let ds : deques_of (ps ++ p ∷ []) ≡ deques_of ps ++ here ∷ [] = map-append deque ps (p ∷ []) in
+      let both : preys_of ps ++ prey p ∷ [] ≡ map (λ x. x ∷ []) (drop 1 (deques_of ps ++ here ∷ [])) ++ (d ∷ []) ∷ [] =
+      sym (map-append prey ps (p ∷ [])) ∙ (r.preys ∙ (ap (λ zs. map (λ (x : Deque). x ∷ []) (drop 1 (zs ++ d ∷ []))) ds
+      ∙ (ap (map (λ (x : Deque). x ∷ [])) (drop_snoc (deques_of ps) here d) ∙ map-append (λ (x : Deque). x ∷ []) (drop 1 (deques_of ps ++ here ∷ [])) (d ∷ [])))) in
+      (snoc_last _ _ (prey p) (d ∷ []) both, record { preys = snoc_same _ _ (prey p) (d ∷ []) both; first_is = r.first_is ∙ (ap (first_or d) ds ∙ first_snoc (deques_of ps) here d) })
+
+  -- some last deques of a ring are settled. The next one is that of the owner o, and the first one's thief is still to be joined
+  pub record IsSettling (places ps : List (Place T)) (o : OwnerView) (first : ThiefView) (left : List Task) : Type 0 where
+    pub done : List OwnerView
+    pub stolen : List (List Task)
+    pub rests : List (List Task)
+    pub owners_are : owners_of places ≡ owners_of ps ++ o ∷ done
+    pub stolen_are : map stolen_by places ≡ map stolen_by ps ++ (stolen ++ first.taken ∷ [])
+    pub settled : AreSettled done stolen rests
+    pub left_are : (w : Task → ℕ) → sum_by w left ≡ sum_by (λ rest. sum_by w rest) rests
+    pub ring : IsOpenRing ps o.deque first.deque
+    pub parts : All (λ place. place.owner.deque.parts ≡ 2) ps
+    pub part : o.deque.parts ≡ 2
+
+  stolen_one : (p : Place T) (t : ThiefView) → p.thieves.items ≡ t ∷ [] → stolen_by p ≡ t.taken
+  stolen_one p t e = ap (flat_map (λ (u : ThiefView). u.taken)) e ∙ append-nil t.taken
+
+  pub settling-start : (places ps : List (Place T)) (last : Place T) (rest : List ThiefView) (first : ThiefView) → places ≡ ps ++ last ∷ [] → last.thieves.items ≡ rest ++ first ∷ [] → IsTeam places
+      → IsSettling places ps last.owner first [] × (first.deque.parts ≡ 2)
+  settling-start places ps last rest first e thieves team =
+      elim team.1 [
+        | inl alone ↦ (let none = ap length ((all_last (λ place. (place.owner.deque.parts ≡ 1) × (place.thieves.items ≡ [])) ps last (subst (All (λ (place : Place T). (place.owner.deque.parts ≡ 1) × (place.thieves.items ≡ []))) e alone.1)).1) in
+            absurd (omega (arith, none, ap length thieves, length-append rest (first ∷ []))))
+        | inr all ↦ (
+            let P : Place T → Type 0 = λ place. place.owner.deque.parts ≡ 2 in
+            let parts = subst (All P) e all.0 in
+            let open' = ring-opened ps last (subst (λ zs. preys_of zs ≡ map (λ x. x ∷ []) (turned (deques_of zs))) e all.1) in
+            let d = first_or last.owner.deque (deques_of ps) in
+            let lone = one_thief rest last.thieves.items first d thieves open'.0 in (
+              record {
+                done = [];
+                stolen = [];
+                rests = [];
+                owners_are = ap owners_of e ∙ map-append (λ (p : Place T). p.owner) ps (last ∷ []);
+                stolen_are = ap (map stolen_by) e ∙ (map-append stolen_by ps (last ∷ []) ∙ ap (λ z. map stolen_by ps ++ z ∷ []) (stolen_one last first lone.0));
+                settled = tt;
+                left_are = λ w. refl;
+                ring = subst (IsOpenRing ps last.owner.deque) (sym lone.1) open'.1;
+                parts = all_front P ps (last ∷ []) parts;
+                part = all_last P ps last parts;
+              },
+              first_parts ps last lone.1 parts,
+            ))
+      ]
+    where
+      first_parts : (qs : List (Place T)) (p : Place T) → first.deque ≡ first_or p.owner.deque (deques_of qs) → All (λ (place : Place T). place.owner.deque.parts ≡ 2) (qs ++ p ∷ []) → first.deque.parts ≡ 2
+      first_parts [] p e h = ap (λ (x : Deque). x.parts) e ∙ All-head (λ (place : Place T). place.owner.deque.parts ≡ 2) p [] h
+      first_parts (q ∷ qs) p e h = ap (λ (x : Deque). x.parts) e ∙ All-head (λ (place : Place T). place.owner.deque.parts ≡ 2) q (qs ++ p ∷ []) h
+
+  -- the owner's deque is settled, and the place before it is the next
+  pub settling-more : (places ps qs : List (Place T)) (p : Place T) (o : OwnerView) (first t : ThiefView) (rest : List ThiefView) (put taken before more after : List Task)
+      → qs ≡ ps ++ p ∷ [] → IsSettling places qs o first before → p.thieves.items ≡ rest ++ t ∷ [] → put ≡ o.put → taken ≡ o.taken ++ t.taken → SameTasks put (taken ++ more) → after ≡ before ++ more
+      → IsSettling places ps p.owner first after
+  settling-more places ps qs p o first t rest put taken before more after e s thieves ep et same ea =
+      let P : Place T → Type 0 = λ place. place.owner.deque.parts ≡ 2 in
+      let parts = subst (All P) e s.parts in
+      let less = ring-less ps p o.deque first.deque (subst (λ zs. IsOpenRing zs o.deque first.deque) e s.ring) in
+      let lone = one_thief rest p.thieves.items t o.deque thieves less.0 in
+      record {
+        done = o ∷ s.done;
+        stolen = t.taken ∷ s.stolen;
+        rests = more ∷ s.rests;
+        owners_are = s.owners_are ∙ (ap (λ zs. owners_of zs ++ o ∷ s.done) e ∙ (ap (λ zs. zs ++ o ∷ s.done) (map-append (λ (x : Place T). x.owner) ps (p ∷ [])) ∙ append_assoc (owners_of ps) (p.owner ∷ []) (o ∷ s.done)));
+        stolen_are = s.stolen_are ∙ (ap (λ zs. map stolen_by zs ++ (s.stolen ++ first.taken ∷ [])) e
+            ∙ (ap (λ zs. zs ++ (s.stolen ++ first.taken ∷ [])) (map-append stolen_by ps (p ∷ []) ∙ ap (λ z. map stolen_by ps ++ z ∷ []) (stolen_one p t lone.0))
+            ∙ append_assoc (map stolen_by ps) (t.taken ∷ []) (s.stolen ++ first.taken ∷ [])));
+        settled = (subst (λ zs. SameTasks zs ((o.taken ++ t.taken) ++ more)) ep (subst (λ zs. SameTasks put (zs ++ more)) et same), s.settled);
+        left_are = λ w. omega (arith, s.left_are w, ap (sum_by w) ea, sum_by-append w before more, sum_by-cons (λ (r : List Task). sum_by w r) more s.rests);
+        ring = less.1;
+        parts = all_front P ps (p ∷ []) parts;
+        part = all_last P ps p parts;
+      }
+
+  pub settling-thief : (places ps qs : List (Place T)) (p : Place T) (o : OwnerView) (first t : ThiefView) (rest : List ThiefView) (before : List Task)
+      → qs ≡ ps ++ p ∷ [] → IsSettling places qs o first before → p.thieves.items ≡ rest ++ t ∷ [] → (o.deque.parts ≡ 2) × (t.deque ≡ o.deque)
+  settling-thief places ps qs p o first t rest before e s thieves =
+      let less = ring-less ps p o.deque first.deque (subst (λ zs. IsOpenRing zs o.deque first.deque) e s.ring) in
+      (s.part, (one_thief rest p.thieves.items t o.deque thieves less.0).1)
+
+  -- each worker of an opened ring has a thief
+  pub settling-some : (places ps qs : List (Place T)) (p : Place T) (o : OwnerView) (first : ThiefView) (before : List Task)
+      → qs ≡ ps ++ p ∷ [] → IsSettling places qs o first before → 0 < length p.thieves.items
+  settling-some places ps qs p o first before e s =
+      let less = ring-less ps p o.deque first.deque (subst (λ zs. IsOpenRing zs o.deque first.deque) e s.ring) in
+      omega (arith, ap length less.0, length-map' p.thieves.items)
+    where
+      length-map' : (ts : List ThiefView) → length (thief_deques_of ts) ≡ length ts
+      length-map' [] = refl
+      length-map' (t ∷ ts) = omega (arith, length-map' ts)
+
+  pub settling-done : (places ps : List (Place T)) (o : OwnerView) (first : ThiefView) (put taken before more after : List Task)
+      → ps ≡ [] → IsSettling places ps o first before → put ≡ o.put → taken ≡ o.taken ++ first.taken → SameTasks put (taken ++ more) → after ≡ before ++ more → IsFinished places after
+  settling-done places ps o first put taken before more after none s ep et same ea =
+      record {
+        stolen = first.taken ∷ s.stolen;
+        rests = more ∷ s.rests;
+        thieves = s.stolen_are ∙ ap (λ zs. map stolen_by zs ++ (s.stolen ++ first.taken ∷ [])) none;
+        settled = subst (λ zs. AreSettled zs (first.taken ∷ s.stolen) (more ∷ s.rests)) (sym (s.owners_are ∙ ap (λ zs. owners_of zs ++ o ∷ s.done) none))
+            (subst (λ zs. SameTasks zs ((o.taken ++ first.taken) ++ more)) ep (subst (λ zs. SameTasks put (zs ++ more)) et same), s.settled);
+        left_are = λ w. omega (arith, s.left_are w, ap (sum_by w) ea, sum_by-append w before more, sum_by-cons (λ (r : List Task). sum_by w r) more s.rests);
+      }
+
+  -- a worker alone
+  pub lone-part : (places ps : List (Place T)) (last : Place T) → places ≡ ps ++ last ∷ [] → length last.thieves.items ≡ 0 → IsTeam places → last.owner.deque.parts ≡ 1
+  lone-part places ps last e none team =
+      elim team.1 [
+        | inl alone ↦ (all_last (λ place. (place.owner.deque.parts ≡ 1) × (place.thieves.items ≡ [])) ps last (subst (All (λ (place : Place T). (place.owner.deque.parts ≡ 1) × (place.thieves.items ≡ []))) e alone.1)).0
+        | inr all ↦ (let open' = ring-opened ps last (subst (λ zs. preys_of zs ≡ map (λ x. x ∷ []) (turned (deques_of zs))) e all.1) in absurd (no_thief last.thieves.items none open'.0))
+      ]
+    where
+      no_thief : {d : Deque} (ts : List ThiefView) → length ts ≡ 0 → thief_deques_of ts ≡ d ∷ [] → ⊥
+      no_thief [] n e = omega (arith, ap length e)
+      no_thief (t ∷ ts) n e = omega (arith, n)
+
+  pub lone-done : (places ps : List (Place T)) (last : Place T) (more left : List Task) → places ≡ ps ++ last ∷ [] → length last.thieves.items ≡ 0 → IsTeam places
+      → SameTasks last.owner.put (last.owner.taken ++ more) → left ≡ more → IsFinished places left
+  lone-done places ps last more left e none team same is =
+      elim team.1 [
+        | inl alone ↦ (
+            let no : ps ≡ [] = no_items ps (let n = ap length e in omega (arith, alone.0, n, length-append ps (last ∷ []))) in
+            let one : places ≡ last ∷ [] = e ∙ ap (λ zs. zs ++ last ∷ []) no in
+            let empty : stolen_by last ≡ [] = ap (flat_map (λ (u : ThiefView). u.taken)) (no_items last.thieves.items none) in
+            record {
+              stolen = [] ∷ [];
+              rests = more ∷ [];
+              thieves = ap (map stolen_by) one ∙ ap (λ z. z ∷ []) empty;
+              settled = subst (λ zs. AreSettled zs ([] ∷ []) (more ∷ [])) (sym (ap owners_of one)) (subst (λ zs. SameTasks last.owner.put (zs ++ more)) (sym (append-nil last.owner.taken)) same, tt);
+              left_are = λ w. omega (arith, ap (sum_by w) is, sum_by-cons (λ (r : List Task). sum_by w r) more []);
+            })
+        | inr all ↦ absurd (let p = lone-part places ps last e none team in let q = all_last (λ place. place.owner.deque.parts ≡ 2) ps last (subst (All (λ (place : Place T). place.owner.deque.parts ≡ 2)) e all.0) in omega (arith, p, q))
+      ]
+    where
+      no_items : {X : Type 0} (xs : List X) → length xs ≡ 0 → xs ≡ []
+      no_items [] n = refl
+      no_items (x ∷ xs) n = absurd (omega (arith, n))
+
+  -- the workers before the owner o, whose places are made
+  pub record IsGrowing (ps : List (Place T)) (o : OwnerView) (first : Deque) : Type 0 where
+    pub ring : IsOpenRing ps o.deque first
+    pub part : o.deque.parts ≡ 2
+    pub owner : IsNewOwner o
+    pub parts : All (λ place. place.owner.deque.parts ≡ 2) ps
+    pub new : All IsNewPlace ps
+
+  pub growing-start : (o : OwnerView) (first : Deque) → o.deque ≡ first → o.deque.parts ≡ 2 → IsNewOwner o → IsGrowing [] o first
+  growing-start o first e part new = record { ring = subst (IsOpenRing [] o.deque) e (ring-start o.deque); part = part; owner = new; parts = All-nil (λ (place : Place T). place.owner.deque.parts ≡ 2); new = All-nil IsNewPlace }
+
+  pub growing-more : (ps qs : List (Place T)) (p : Place T) (o next : OwnerView) (t : ThiefView) (first : Deque) → qs ≡ ps ++ p ∷ [] → IsGrowing ps o first → p.owner ≡ o → p.thieves.items ≡ t ∷ [] → IsNewPair next t → IsGrowing qs next first
+  growing-more ps qs p o next t first e h eo et pair =
+      let P : Place T → Type 0 = λ place. place.owner.deque.parts ≡ 2 in
+      subst (λ zs. IsGrowing zs next first) (sym e) (record {
+        ring = ring-more ps p o.deque first next.deque h.ring (ap (λ (x : OwnerView). x.deque) eo) (ap thief_deques_of et ∙ ap (λ d. d ∷ []) pair.deque);
+        part = pair.parts;
+        owner = pair.owner;
+        parts = All-push P ps p h.parts (ap (λ (x : OwnerView). x.deque.parts) eo ∙ h.part);
+        new = All-push IsNewPlace ps p h.new (new-place p o t eo et h.owner pair.thief);
+      })
+    where
+      new-place : (p : Place T) (o : OwnerView) (t : ThiefView) → p.owner ≡ o → p.thieves.items ≡ t ∷ [] → IsNewOwner o → IsNewThief t → IsNewPlace p
+      new-place p o t eo et new thief = (subst IsNewOwner (sym eo) new, subst (All IsNewThief) (sym et) (All-cons IsNewThief t [] thief (All-nil IsNewThief)))
+
+  -- the ring is closed by the last worker's place, which has the first deque's thief
+  pub growing-closed : (ps qs : List (Place T)) (p : Place T) (o : OwnerView) (t : ThiefView) → qs ≡ ps ++ p ∷ [] → IsGrowing ps o t.deque → p.owner ≡ o → p.thieves.items ≡ t ∷ [] → IsNewThief t → IsTeam qs × All IsNewPlace qs
+  growing-closed ps qs p o t e h eo et new =
+      let P : Place T → Type 0 = λ place. place.owner.deque.parts ≡ 2 in
+      subst (λ zs. IsTeam zs × All IsNewPlace zs) (sym e) (
+        (
+          omega (arith, length-append ps (p ∷ [])),
+          inr (
+            All-push P ps p h.parts (ap (λ (x : OwnerView). x.deque.parts) eo ∙ h.part),
+            ring-closed ps p o.deque t.deque h.ring (ap (λ (x : OwnerView). x.deque) eo) (ap thief_deques_of et),
+          ),
+        ),
+        All-push IsNewPlace ps p h.new (subst IsNewOwner (sym eo) h.owner, subst (All IsNewThief) (sym et) (All-cons IsNewThief t [] new (All-nil IsNewThief))),
+      )

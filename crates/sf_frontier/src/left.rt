@@ -1,0 +1,7 @@
+use sf_node::Tasks;
+
+/// What is left of a team.
+#[derive(Drop)]
+pub struct Finish {
+    pub left: Tasks,
+}
