@@ -1,25 +1,28 @@
 ghost use Rattle.std.specs.Prelude.{◌≡◌, IfOk};
 ghost use Rattle.sf_node.specs.Children.{IsSubproblem, extended};
+ghost use Rattle.sf_bounds.specs.Serving.{MayServe};
 ghost use Rattle.sf_worker.specs.Decided.{IsDecision, valued};
 
-use crate::decision::{Decision, Tasks};
+use crate::decision::Decision;
 use sf_bounds::{Bounds, Room, solve};
 use sf_model::Design;
-use sf_node::{Node, Task};
+use sf_node::{Node, Task, Tasks};
 use sf_search_core::with_bounds;
 use std::alloc::AllocError as NoMemory;
 
 /// Decides a task against a value that some plan costs, or that none does.
-pub fn decide<B: Bounds>(
-    design: &Design,
+pub fn decide<'a, B: Bounds>(
+    design: &'a Design,
     bounds: &B,
-    room: &mut Room,
+    room: &mut Room<'a>,
     task: &Task,
     value: u64,
 ) -> Result<Decision, NoMemory>
     requires subproblem { IsSubproblem design.now task.now.node }
     requires bound { task.now.bound ≡ B.Values.value bounds.now design.now task.now.node }
-    ensures { IfOk result (λ decision. IsDecision design.now (B.Values.value bounds.now design.now) task.now value decision) }
+    requires serves { MayServe room.old design.now }
+    ensures decision { IfOk result (λ decision. IsDecision design.now (B.Values.value bounds.now design.now) task.now value decision) }
+    ensures serves { MayServe room.new design.now }
 {
     if task.bound >= value {
         return Ok(Decision::Closed);
@@ -43,29 +46,33 @@ pub fn decide<B: Bounds>(
     Ok(Decision::Extended(Tasks::from_vec(children)))
 }
 
-fn with_bound<B: Bounds>(
-    design: &Design,
+fn with_bound<'a, B: Bounds>(
+    design: &'a Design,
     bounds: &B,
-    room: &mut Room,
+    room: &mut Room<'a>,
     node: Node,
 ) -> Result<Task, NoMemory>
-    requires { IsSubproblem design.now node }
-    ensures { IfOk result (λ task. task ≡ record { node = node; bound = B.Values.value bounds.now design.now node }) }
+    requires subproblem { IsSubproblem design.now node }
+    requires serves { MayServe room.old design.now }
+    ensures task { IfOk result (λ task. task ≡ record { node = node; bound = B.Values.value bounds.now design.now node }) }
+    ensures serves { MayServe room.new design.now }
 {
     let bound = bounds.bound(design, &node, room)?;
     Ok(Task { node, bound })
 }
 
 /// The children by extending, with their bounds.
-fn extended<B: Bounds>(
-    design: &Design,
+fn extended<'a, B: Bounds>(
+    design: &'a Design,
     bounds: &B,
-    room: &mut Room,
+    room: &mut Room<'a>,
     task: &Task,
 ) -> Result<Vec<Task>, NoMemory>
     requires subproblem { IsSubproblem design.now task.now.node }
     requires bound { task.now.bound ≡ B.Values.value bounds.now design.now task.now.node }
-    ensures { IfOk result (λ tasks. tasks.items ≡ valued (B.Values.value bounds.now design.now) (extended task.now.node)) }
+    requires serves { MayServe room.old design.now }
+    ensures tasks { IfOk result (λ tasks. tasks.items ≡ valued (B.Values.value bounds.now design.now) (extended task.now.node)) }
+    ensures serves { MayServe room.new design.now }
 {
     let children = task.node.extend_children(design)?;
     let costs = bounds.children_bounds(design, &task.node, task.bound, &children, room)?;

@@ -1,0 +1,66 @@
+-- What is put or kept, one task after another.
+use Rattle.std.proofs.Common.{◌≡◌, ℕ, ◌+◌, ◌<◌, ◌≤◌, min, List, [], ◌∷◌, ◌++◌, length, refl, sym, ap, ◌∙◌, arith, subst, All, append-nil, append_assoc, length-append}
+use Rattle.std.specs.Prelude.{sum_by}
+use Rattle.std.proofs.lemmas.List.Sums.{sum_by-append, sum_by-cons}
+use Rattle.std.proofs.lemmas.List.Elements.{All-append, All-cons, All-nil}
+use Rattle.sf_model.specs.declared.TheConstants.{MAX}
+use Rattle.sf_node.specs.declared.task.Task.{Task}
+use Rattle.sf_frontier.specs.Ends.{OwnerView, one_more}
+use Rattle.sf_worker.specs.Takes.{PutsAll}
+
+module _ (S : Task → Type 0) where
+  pub puts-none : (old : OwnerView) (kept : List Task) → PutsAll S old old kept kept []
+  puts-none old kept = record {
+    refused = [];
+    kept_are = sym (append-nil kept);
+    served = All-nil S;
+    deque = refl;
+    taken = refl;
+    empty_takes = refl;
+    put = λ w. refl;
+    refusals = (omega arith, λ h. omega arith);
+  }
+
+  pub puts-one : (old new : OwnerView) (kept : List Task) (x : Task) → new ≡ record old { put = old.put ++ x ∷ [] } → PutsAll S old new kept kept (x ∷ [])
+  puts-one old new kept x e =
+      let r : new.refused_puts ≡ old.refused_puts = ap (λ (o : OwnerView). o.refused_puts) e in record {
+        refused = [];
+        kept_are = sym (append-nil kept);
+        served = All-nil S;
+        deque = ap (λ (o : OwnerView). o.deque) e;
+        taken = ap (λ (o : OwnerView). o.taken) e;
+        empty_takes = ap (λ (o : OwnerView). o.empty_takes) e;
+        put = λ w. (let k : sum_by w new.put ≡ sum_by w (old.put ++ x ∷ []) = ap (λ (o : OwnerView). sum_by w o.put) e in omega (arith, k, sum_by-append w old.put (x ∷ [])));
+        refusals = (omega (arith, r), λ h. omega (arith, r));
+      }
+
+  pub puts-back : (old new : OwnerView) (kept kept' : List Task) (x y : Task) → y ≡ x → S x → new ≡ record old { refused_puts = one_more old.refused_puts } → kept' ≡ kept ++ y ∷ [] → PutsAll S old new kept kept' (x ∷ [])
+  puts-back old new kept kept' x y is s e k =
+      let r : new.refused_puts ≡ one_more old.refused_puts = ap (λ (o : OwnerView). o.refused_puts) e in record {
+        refused = x ∷ [];
+        kept_are = k ∙ ap (λ z. kept ++ z ∷ []) is;
+        served = All-cons S x [] s (All-nil S);
+        deque = ap (λ (o : OwnerView). o.deque) e;
+        taken = ap (λ (o : OwnerView). o.taken) e;
+        empty_takes = ap (λ (o : OwnerView). o.empty_takes) e;
+        put = λ w. (let p : sum_by w new.put ≡ sum_by w old.put = ap (λ (o : OwnerView). sum_by w o.put) e in omega (arith, p));
+        refusals = (omega (arith, r), λ h. omega (arith, r, h));
+      }
+
+  pub puts-more : (a b c : OwnerView) (kept kept' kept'' done : List Task) (x : Task) → PutsAll S a b kept kept' done → PutsAll S b c kept' kept'' (x ∷ []) → PutsAll S a c kept kept'' (x ∷ done)
+  puts-more a b c kept kept' kept'' done x p q = record {
+    refused = p.refused ++ q.refused;
+    kept_are = q.kept_are ∙ (ap (λ z. z ++ q.refused) p.kept_are ∙ append_assoc kept p.refused q.refused);
+    served = All-append S p.refused q.refused p.served q.served;
+    deque = q.deque ∙ p.deque;
+    taken = q.taken ∙ p.taken;
+    empty_takes = q.empty_takes ∙ p.empty_takes;
+    put = λ w. omega (arith, p.put w, q.put w, sum_by-append w p.refused q.refused, sum_by-cons w x done, sum_by-cons w x []);
+    refusals = (
+      omega (arith, p.refusals.0, q.refusals.0),
+      λ h.
+          let n = q.refusals.1 h in
+          let m = p.refusals.1 (omega (arith, h, q.refusals.0)) in
+          omega (arith, n, m, length-append p.refused q.refused),
+    );
+  }

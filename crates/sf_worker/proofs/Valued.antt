@@ -1,0 +1,35 @@
+-- Children with their bounds are tasks of the design.
+use Rattle.std.proofs.Common.{◌≡◌, ℕ, ◌<◌, List, [], ◌∷◌, map, length, All, refl, sym, ap, ◌∙◌, subst, arith}
+use Rattle.std.specs.Prelude.{IsTrue, IsFalse}
+use Rattle.std.specs.List.{AllByRecursion}
+use Rattle.std.proofs.lemmas.List.Elements.{All-nil, All-cons}
+use Rattle.sf_model.specs.declared.design.Design.{Design}
+use Rattle.sf_node.specs.declared.task.Task.{Task}
+use Rattle.sf_node.specs.Parts.{Parts}
+use Rattle.sf_node.specs.Subproblem.{is_complete, is_solved}
+use Rattle.sf_node.specs.Children.{IsSubproblem, CanSplit, extended, split}
+use Rattle.sf_node.proofs.Reached.{extended-subproblems, split-subproblems}
+use Rattle.sf_worker.specs.Decided.{first_wide, valued, IsExtendedTo, IsSplitInto}
+use Rattle.sf_worker.specs.Tasks.{IsTask}
+
+module _ (design : Design) (bound : Parts → ℕ) where
+  valued-nodes : (ns : List Parts) → map (λ (t : Task). t.node) (valued bound ns) ≡ ns
+  valued-nodes [] = refl
+  valued-nodes (n ∷ ns) = ap (λ z. n ∷ z) (valued-nodes ns)
+
+  valued-tasks : (ns : List Parts) → AllByRecursion (IsSubproblem design) ns → All (IsTask design bound) (valued bound ns)
+  valued-tasks [] h = All-nil (IsTask design bound)
+  valued-tasks (n ∷ ns) h = All-cons (IsTask design bound) (record { node = n; bound = bound n }) (valued bound ns) (h.0, refl) (valued-tasks ns h.1)
+
+  -- the children of a task, and that they are tasks
+  abbrev pub AreMade : List Parts → List Task → Type 0
+  AreMade ns made = (map (λ (t : Task). t.node) made ≡ ns) × All (IsTask design bound) made
+
+  made-of : (ns : List Parts) (made : List Task) → made ≡ valued bound ns → AllByRecursion (IsSubproblem design) ns → AreMade ns made
+  made-of ns made e h = subst (AreMade ns) (sym e) (valued-nodes ns, valued-tasks ns h)
+
+  pub extended-made : (task : Task) (value : ℕ) (made : List Task) → IsSubproblem design task.node → IsExtendedTo bound task value made → AreMade (extended task.node) made
+  extended-made task value made sub d = made-of (extended task.node) made d.children (extended-subproblems design task.node sub)
+
+  pub split-made : (task : Task) (value b : ℕ) (made : List Task) → IsSubproblem design task.node → IsSplitInto design bound task value b made → AreMade (split task.node b) made
+  split-made task value b made sub d = made-of (split task.node b) made d.halves (split-subproblems design task.node b sub d.wide)
