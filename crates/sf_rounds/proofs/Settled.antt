@@ -1,10 +1,10 @@
 -- The states that the events of a turn make.
-use Rattle.std.proofs.Common.{◌≡◌, ℕ, suc, ◌+◌, ◌-◌, ◌<◌, ◌≤◌, min, List, [], ◌∷◌, ◌++◌, map, reverse, length, All, arith, refl, ap, sym, subst, ◌∙◌, Option, Some, None, Result, Ok, Err, Bool, true, false, cond, not, length-append, append_assoc, eq-eqb, inl, inr}
+use Rattle.std.proofs.Common.{◌≡◌, ℕ, suc, ◌+◌, ◌-◌, ◌<◌, ◌≤◌, min, List, [], ◌∷◌, ◌++◌, map, length, All, arith, refl, ap, sym, subst, ◌∙◌, Option, Some, None, Result, Ok, Err, Bool, true, false, not, length-append, append_assoc, eq-eqb, inl, inr}
 use Prim.Native.Nat.{zero}
-use Rattle.std.specs.Prelude.{IsOk, IfOk, slice_set, slice_get, nat_lt, nat_le, remove, IsTrue, IsFalse, ◌==◌, ◌&&◌, ◌||◌}
+use Rattle.std.specs.Prelude.{IsOk, IfOk, slice_set, slice_get, nat_lt, nat_le, remove, ◌==◌, ◌&&◌, ◌||◌}
 use Rattle.std.specs.List.{list_all}
 use Rattle.std.specs.Result.{is_ok}
-use Rattle.std.proofs.lemmas.Bool.{lt-ltb, cond-true, cond-false, cases_Bool, cases_lt}
+use Rattle.std.proofs.lemmas.Bool.{lt-ltb, cond-true, cond-false, cases_lt}
 use Rattle.std.proofs.lemmas.List.{length-map}
 use Rattle.std.proofs.lemmas.List.Elements.{All-push, All-weaker}
 use Rattle.sf_model.specs.declared.design.Design.{Design}
@@ -15,31 +15,24 @@ use Rattle.sf_node.specs.Subproblem.{is_complete, is_solved, is_wide, span_of}
 use Rattle.sf_node.specs.Children.{extended, split, CanSplit}
 use Rattle.sf_bounds.specs.Cheapest.{IsPlanOf}
 use Rattle.sf_search_core.specs.declared.entry.Entry.{Entry}
-use Rattle.sf_search_core.specs.declared.entry.Kind.{Kind}
 use Rattle.sf_search_core.specs.declared.entry.Kind.TheVariants as kind
-use Rattle.sf_search_core.specs.declared.event.Event.{Event}
 use Rattle.sf_search_core.specs.declared.event.Event.TheVariants.{Take, Replace, Close, Offer}
 use Rattle.sf_search_core.specs.declared.event.How.TheVariants as how
-use Rattle.sf_search_core.specs.declared.refusal.Refusal.{Refusal}
 use Rattle.sf_search_core.specs.State.{State}
-use Rattle.sf_search_core.specs.Conserved.{branched}
-use Rattle.sf_search_core.specs.Events.{held_in, held_by, applied, take, close, offer, replace, kind_of, may_branch, tasks, AreBounds, AreChildren, CanCome}
+use Rattle.sf_search_core.specs.Events.{held_in, held_by, applied, take, close, offer, may_branch, tasks}
 use Rattle.sf_search_core.specs.Outcome.{next_of, after_event, after_events}
-use Rattle.sf_search_core.proofs.Replaced.{replaced, replace-done, nodes-of_tasks}
-use Rattle.sf_model.specs.Legal.{block_count}
-use Rattle.sf_polish.specs.Text.{IsWritable}
+use Rattle.sf_search_core.proofs.Replaced.{replaced, replace-done}
 use Rattle.sf_certificate.specs.Valid.{HasCost}
-use Rattle.sf_rounds.proofs.Formed.{plan-formed}
 use Rattle.sf_worker.specs.declared.decision.Decision.{Decision}
 use Rattle.sf_worker.specs.declared.decision.Decision.TheVariants.{Closed, Solved, Extended, Split}
-use Rattle.sf_worker.specs.Decided.{first_wide, valued, IsSolvedBy, IsSplitInto, IsExtendedTo, IsDecision}
+use Rattle.sf_worker.specs.Decided.{first_wide, IsSolvedBy, IsDecision}
 use Rattle.sf_count.specs.Few.{BranchesFirst, AllBranchFirst}
 use Rattle.sf_count.proofs.Weighed.{entries-few}
 use Rattle.sf_node.specs.Full.{full}
 use Rattle.sf_search_core.specs.Core.{IsCoreState, held_tasks}
 use Rattle.sf_rounds.specs.Turns.{settling, turn_of, turn_events, turn, turns, AreAccepted, TurnsAreAccepted}
 use Rattle.sf_rounds.specs.Found.{IsOfFirst, IsFirst}
-use Rattle.sf_rounds.specs.Run.{IsIdle, IsBest, Decides, IsTurned, IsSettled, best_after}
+use Rattle.sf_rounds.specs.Run.{IsIdle, Decides, IsTurned, IsSettled, best_after}
 
 not-lt : (a b : ℕ) → b ≤ a → nat_lt a b ≡ false
 not-lt a b h = grind arith
@@ -54,13 +47,13 @@ abbrev pub closed : State → Task → ℕ → State
 closed state t v = record state { held = slice_set state.held 0 None; entries = state.entries ++ record { node = t.node; kind = kind.Closed; value = v } ∷ [] }
 
 module _ (design : Design) (state : State) (t : Task) (held : held_by state 0 ≡ Some t) where
-  close-done : (v : ℕ) → state.word ≤ v → v ≤ t.bound → applied design state (Close 0 v) ≡ Ok (closed state t v)
+  pub close-done : (v : ℕ) → state.word ≤ v → v ≤ t.bound → applied design state (Close 0 v) ≡ Ok (closed state t v)
   close-done v h k = ap (close state 0 v) held ∙ cond-false _ _ _ (not-lt v state.word h) ∙ cond-false _ _ _ (not-lt t.bound v k)
 
   both-true : is_solved design t.node ≡ true → (is_solved design t.node && t.bound == t.bound) ≡ true
   both-true solved = ap (λ b. b && t.bound == t.bound) solved ∙ eq-eqb t.bound t.bound refl
 
-  offer-done : is_solved design t.node ≡ true → applied design state (Offer 0 t.bound) ≡ Ok (record state { word = min state.word t.bound })
+  pub offer-done : is_solved design t.node ≡ true → applied design state (Offer 0 t.bound) ≡ Ok (record state { word = min state.word t.bound })
   offer-done solved = ap (offer design state t.bound) held ∙ cond-true _ _ _ (both-true solved)
 
 abbrev rest_of : Design → Parts → Bool
@@ -68,95 +61,27 @@ rest_of design node = design.weights.wire == 0 || list_all (λ span. not (is_wid
 
 -- the events that settle a task, by its case
 module _ (design : Design) (bound : Parts → ℕ) (t : Task) (value : ℕ) where
-  settling-closed : value ≤ t.bound → settling design bound (Some t) value ≡ Close 0 value ∷ []
+  pub settling-closed : value ≤ t.bound → settling design bound (Some t) value ≡ Close 0 value ∷ []
   settling-closed h = cond-true _ _ _ (is-le value t.bound h)
 
-  settling-solved : t.bound < value → is_solved design t.node ≡ true → settling design bound (Some t) value ≡ Offer 0 t.bound ∷ Close 0 t.bound ∷ []
+  pub settling-solved : t.bound < value → is_solved design t.node ≡ true → settling design bound (Some t) value ≡ Offer 0 t.bound ∷ Close 0 t.bound ∷ []
   settling-solved h solved = cond-false _ _ _ (not-le value t.bound h) ∙ cond-true _ _ _ solved
 
-  settling-split : t.bound < value → is_solved design t.node ≡ false → is_complete t.node ≡ true → settling design bound (Some t) value ≡ Replace 0 (how.Split (first_wide t.node)) value (map bound (split t.node (first_wide t.node))) ∷ []
+  pub settling-split : t.bound < value → is_solved design t.node ≡ false → is_complete t.node ≡ true → settling design bound (Some t) value ≡ Replace 0 (how.Split (first_wide t.node)) value (map bound (split t.node (first_wide t.node))) ∷ []
   settling-split h solved complete = cond-false _ _ _ (not-le value t.bound h) ∙ cond-false _ _ _ solved ∙ cond-true _ _ _ complete
 
   incomplete-unsolved : is_complete t.node ≡ false → is_solved design t.node ≡ false
   incomplete-unsolved e = ap (λ b. b && rest_of design t.node) e
 
-  settling-extended : t.bound < value → is_complete t.node ≡ false → settling design bound (Some t) value ≡ Replace 0 how.Extend value (map bound (extended t.node)) ∷ []
+  pub settling-extended : t.bound < value → is_complete t.node ≡ false → settling design bound (Some t) value ≡ Replace 0 how.Extend value (map bound (extended t.node)) ∷ []
   settling-extended h incomplete = cond-false _ _ _ (not-le value t.bound h) ∙ cond-false _ _ _ (incomplete-unsolved incomplete) ∙ cond-false _ _ _ incomplete
 
-tasks-bounds : (bound : Parts → ℕ) (ns : List Parts) → map (λ (task : Task). task.bound) (tasks ns (map bound ns)) ≡ map bound ns
-tasks-bounds bound [] = refl
-tasks-bounds bound (n ∷ ns) = ap (λ z. bound n ∷ z) (tasks-bounds bound ns)
-
-ok-const : {X E : Type 0} (P : Type 0) (r : Result X E) → P → IfOk r (λ (x : X). P)
+pub ok-const : {X E : Type 0} (P : Type 0) (r : Result X E) → P → IfOk r (λ (x : X). P)
 ok-const P (Ok x) p = p
 ok-const P (Err e) p = tt
 
--- a solved task: the offer and the close are accepted, and the word is then its bound
-pub record IsOffered (design : Design) (bound : Parts → ℕ) (state : State) (expr : Expr) (z : ℕ) : Type 0 where
-  pub closes : IsOk (close (after_event design state (Offer 0 z)) 0 z (held_by (after_event design state (Offer 0 z)) 0))
-  pub settled : after_events design state (settling design bound (held_by state 0) state.word) ≡ after_event design (after_event design state (Offer 0 z)) (Close 0 z)
-  pub word : (after_event design (after_event design state (Offer 0 z)) (Close 0 z)).word ≡ z
-  pub best : HasCost design expr z × IsWritable (block_count design) expr
-
-plan-cost : (design : Design) (node : Parts) (expr : Expr) (z : ℕ) → IsPlanOf design node expr z → HasCost design expr z
+pub plan-cost : (design : Design) (node : Parts) (expr : Expr) (z : ℕ) → IsPlanOf design node expr z → HasCost design expr z
 plan-cost design node expr z p = record { tree = p.tree; spells = p.spells; legal = p.belongs.legal; fits = p.fits; costs = p.costs }
-
-module _ (design : Design) (bound : Parts → ℕ) (state : State) where
-  offered-at : (held : Option Task) (expr : Expr) (z : ℕ) → held_by state 0 ≡ held → Decides design bound held state.word (Solved expr z) → IsOffered design bound state expr z
-  offered-at None expr z e d = absurd d
-  offered-at (Some t) expr z e d =
-      let s1 : State = record state { word = min state.word t.bound } in
-      let first : after_event design state (Offer 0 t.bound) ≡ s1 = ap (next_of state) (offer-done design state t e d.solved) in
-      let least : min state.word t.bound ≡ t.bound = omega (arith, d.below) in
-      let last : applied design s1 (Close 0 t.bound) ≡ Ok (closed s1 t t.bound) = close-done design s1 t e t.bound (omega arith) (omega arith) in
-      subst (IsOffered design bound state expr) (sym d.same) (record {
-        closes = subst (λ (s : State). IsOk (close s 0 t.bound (held_by s 0))) (sym first) (ap is_ok last);
-        settled = ap (λ h. after_events design state (settling design bound h state.word)) e ∙ ap (after_events design state) (settling-solved design bound t state.word d.below d.solved);
-        word = subst (λ (s : State). (after_event design s (Close 0 t.bound)).word ≡ t.bound) (sym first) (ap (λ r. (next_of s1 r).word) last ∙ least);
-        best = (let plan = subst (IsPlanOf design t.node expr) d.same d.plan in (plan-cost design t.node expr t.bound plan, plan-formed design t.node expr t.bound plan));
-      })
-
-  pub offered : (expr : Expr) (z : ℕ) → Decides design bound (held_by state 0) state.word (Solved expr z) → IsOffered design bound state expr z
-  offered expr z d = offered-at (held_by state 0) expr z refl d
-
-  extended-at : (held : Option Task) (made : List Task) (value : ℕ) → Decides design bound held value (Extended made) → (AreBounds bound how.Extend (map (λ task. task.bound) made) held) × (settling design bound held value ≡ Replace 0 how.Extend value (map (λ task. task.bound) made) ∷ [])
-  extended-at None made value d = absurd d
-  extended-at (Some t) made value d =
-      let same : map (λ (task : Task). task.bound) made ≡ map bound (extended t.node) = ap (map (λ (task : Task). task.bound)) d.children ∙ tasks-bounds bound (extended t.node) in
-      (same, settling-extended design bound t value d.below d.incomplete ∙ ap (λ (cs : List ℕ). Replace 0 how.Extend value cs ∷ []) (sym same))
-
-  pub extended-can : (made : List Task) (costs : List ℕ) → 0 < length state.held → costs ≡ map (λ task. task.bound) made → Decides design bound (held_by state 0) state.word (Extended made) → CanCome bound state (Replace 0 how.Extend state.word costs)
-  extended-can made costs h e d = (
-    h,
-    ok-const (AreBounds bound how.Extend costs (held_by state 0)) (replace state 0 how.Extend state.word costs (held_by state 0))
-        (subst (λ cs. AreBounds bound how.Extend cs (held_by state 0)) (sym e) (extended-at (held_by state 0) made state.word d).0),
-  )
-
-  pub extended-made : (made : List Task) (costs : List ℕ) → costs ≡ map (λ task. task.bound) made → Decides design bound (held_by state 0) state.word (Extended made) → after_event design state (Replace 0 how.Extend state.word costs) ≡ after_events design state (settling design bound (held_by state 0) state.word)
-  extended-made made costs e d =
-      ap (λ cs. after_event design state (Replace 0 how.Extend state.word cs)) e ∙ sym (ap (after_events design state) (extended-at (held_by state 0) made state.word d).1)
-
--- the tasks of the decision are the children that the event makes
-module _ (design : Design) (bound : Parts → ℕ) where
-  pub extended-children : (held : Option Task) (made : List Task) (value : ℕ) → Decides design bound held value (Extended made) → AreChildren how.Extend made held
-  extended-children None made value d = absurd d
-  extended-children (Some t) made value d = λ may.
-      let nodes = extended t.node in
-      ap (map (λ (child : Task). child.node)) d.children ∙ nodes-of_tasks nodes (map bound nodes) (sym (length-map nodes bound))
-
-  pub split-children : (held : Option Task) (b : ℕ) (left right : Task) (value : ℕ) → Decides design bound held value (Split b left right) → AreChildren (how.Split b) (left ∷ right ∷ []) held
-  split-children None b left right value d = absurd d
-  split-children (Some t) b left right value d = λ may.
-      let nodes = split t.node b in
-      ap (map (λ (child : Task). child.node)) d.halves ∙ nodes-of_tasks nodes (map bound nodes) (sym (length-map nodes bound))
-
-pub if-ok : {X E : Type 0} (r : Result X E) (P Q : X → Type 0) → ((x : X) → P x → Q x) → IfOk r P → IfOk r Q
-if-ok (Ok x) P Q f p = f x p
-if-ok (Err e) P Q f p = tt
-
-pub if-both-ok : {X E : Type 0} (r : Result X E) (P Q R : X → Type 0) → ((x : X) → P x → Q x → R x) → IfOk r P → IfOk r Q → IfOk r R
-if-both-ok (Ok x) P Q R f p q = f x p q
-if-both-ok (Err e) P Q R f p q = tt
 
 -- the plan that was found first stays the first one when entries are added
 first-more : (design : Design) (entries more : List Entry) (word : ℕ) (expr : Expr) → IsOfFirst design entries word expr → IsOfFirst design (entries ++ more) word expr
@@ -200,7 +125,7 @@ module _ (design : Design) (state : State) where
   }
 
   module _ (bound : Parts → ℕ) (fresh : All (λ entry. state.word ≤ entry.value) state.entries) where
-    settled-at : (held : Option Task) (decision : Decision) → held_by state 0 ≡ held → Decides design bound held state.word decision → IsSettled design decision state (after_events design state (settling design bound held state.word))
+    pub settled-at : (held : Option Task) (decision : Decision) → held_by state 0 ≡ held → Decides design bound held state.word decision → IsSettled design decision state (after_events design state (settling design bound held state.word))
     settled-at None decision e d = absurd d
     settled-at (Some t) Closed e d =
         let same : after_events design state (settling design bound (Some t) state.word) ≡ closed state t state.word =
@@ -239,7 +164,7 @@ module _ (design : Design) (state : State) where
         subst (IsSettled design (Extended made) state) (sym same) (entry-settled (Extended made) new e' refl refl tt (λ best f. first-kept design state new e' best refl refl f))
 
     -- each event that settles the task is accepted
-    accepted-at : (held : Option Task) (decision : Decision) → held_by state 0 ≡ held → Decides design bound held state.word decision → AreAccepted design state (settling design bound held state.word)
+    pub accepted-at : (held : Option Task) (decision : Decision) → held_by state 0 ≡ held → Decides design bound held state.word decision → AreAccepted design state (settling design bound held state.word)
     accepted-at None decision e d = absurd d
     accepted-at (Some t) Closed e d =
         subst (AreAccepted design state) (sym (settling-closed design bound t state.word d)) (ap is_ok (close-done design state t e state.word (omega arith) d), tt)
@@ -275,7 +200,7 @@ got (x ∷ xs) zero h e = absurd (cc)
 got (x ∷ xs) (suc i) h e = got xs i (omega arith) e
 
 module _ (design : Design) (state : State) (idle : IsIdle state) (some : 0 < length state.waiting) where
-  taken-at : (o : Option Task) → slice_get state.waiting (length state.waiting - 1) ≡ o → IsTaken state (after_event design state (Take 0 (length state.waiting - 1)))
+  pub taken-at : (o : Option Task) → slice_get state.waiting (length state.waiting - 1) ≡ o → IsTaken state (after_event design state (Take 0 (length state.waiting - 1)))
   taken-at None e = absurd (got state.waiting (length state.waiting - 1) (omega arith) e)
   taken-at (Some t) e =
       let place = length state.waiting - 1 in
@@ -290,7 +215,7 @@ module _ (design : Design) (state : State) (idle : IsIdle state) (some : 0 < len
         got = e;
       }
 
-  take-accepted : (o : Option Task) → slice_get state.waiting (length state.waiting - 1) ≡ o → IsOk (applied design state (Take 0 (length state.waiting - 1)))
+  pub take-accepted : (o : Option Task) → slice_get state.waiting (length state.waiting - 1) ≡ o → IsOk (applied design state (Take 0 (length state.waiting - 1)))
   take-accepted None e = absurd (got state.waiting (length state.waiting - 1) (omega arith) e)
   take-accepted (Some t) e =
       let place = length state.waiting - 1 in
@@ -333,7 +258,7 @@ module _ (design : Design) (bound : Parts → ℕ) (old mid new : State) (task :
         subst (λ (s : State). AreAccepted design s (settling design bound (Some t) old.word)) was rest,
       )
 
-turn-empty : (design : Design) (bound : Parts → ℕ) (state : State) → state.waiting ≡ [] → turn design bound state ≡ state
+pub turn-empty : (design : Design) (bound : Parts → ℕ) (state : State) → state.waiting ≡ [] → turn design bound state ≡ state
 turn-empty design bound state e = ap (λ (ws : List Task). after_events design state (turn_of design bound state (slice_get ws (length ws - 1)))) e
 
 -- turns past the last open task change nothing

@@ -1,12 +1,15 @@
+//! Two hard blocks, searched with several budgets.
+
 ghost use Rattle.std.specs.Prelude.{◌≡◌, ◌∷◌, [], IfOk};
 
 use crate::{SearchOptions, search};
 use sf_bounds::Standard;
-use sf_io::OpenGate;
+use sf_io::{Gate, OpenGate};
 use sf_model::{
     Block, BlockList, Design, MAX, Name, NetList, Outline, PadList, Shape, Shapes, Weights,
 };
 use std::alloc::{AllocError, Global};
+use std::sync::atomic::{AtomicU64, Ordering};
 use std::test::Fail;
 
 fn block(alloc: Global, shape: Shape) -> Result<Block, AllocError>
@@ -49,6 +52,77 @@ fn searches_two_hard_blocks(rt: HostRuntime) -> Result<(), Fail> {
             (found.cost, found.bound, found.decided),
             answer,
             "budget {nodes}"
+        );
+    }
+    Ok(())
+}
+
+#[test]
+fn several_workers_search_two_hard_blocks(rt: HostRuntime) -> Result<(), Fail> {
+    let alloc = rt.alloc();
+    let design = two_blocks(alloc)?;
+    for workers in 2..=16 {
+        let options = SearchOptions {
+            workers,
+            nodes: 100,
+        };
+        let found = search(&rt, alloc, &design, &Standard, options, &OpenGate)?;
+        assert_eq!(rt; (found.cost, found.bound), (15, 15), "{workers} workers");
+        let few = SearchOptions { workers, nodes: 5 };
+        let found = search(&rt, alloc, &design, &Standard, few, &OpenGate)?;
+        assert_eq!(rt; found.decided, 5, "{workers} workers");
+    }
+    Ok(())
+}
+
+/// Counts the decisions of two workers, and those whose step is not the count of the same worker's decisions before.
+#[derive(Drop)]
+struct Counting {
+    first: AtomicU64,
+    second: AtomicU64,
+    miscounted: AtomicU64,
+}
+
+impl Gate for Counting {
+    fn at(&self, worker: usize, step: u64) {
+        let made = if worker == 0 {
+            &self.first
+        } else {
+            &self.second
+        };
+        if made.fetch_add(1, Ordering::SeqCst) != step {
+            self.miscounted.fetch_add(1, Ordering::SeqCst);
+        }
+    }
+}
+
+/// Two workers decide all but the root in one round, before which the caller decides the root.
+#[test]
+fn the_gate_is_told_the_count_of_decisions_before(rt: HostRuntime) -> Result<(), Fail> {
+    let alloc = rt.alloc();
+    let design = two_blocks(alloc)?;
+    for (workers, without_gate) in [(1, 0), (2, 1)] {
+        let gate = Counting {
+            first: AtomicU64::new(0),
+            second: AtomicU64::new(0),
+            miscounted: AtomicU64::new(0),
+        };
+        let options = SearchOptions {
+            workers,
+            nodes: 100,
+        };
+        let found = search(&rt, alloc, &design, &Standard, options, &gate)?;
+        let first = gate.first.load(Ordering::SeqCst);
+        let second = gate.second.load(Ordering::SeqCst);
+        assert_eq!(rt;
+            gate.miscounted.load(Ordering::SeqCst),
+            0,
+            "{workers} workers"
+        );
+        assert_eq!(rt;
+            first.wrapping_add(second).wrapping_add(without_gate),
+            found.decided,
+            "{workers} workers"
         );
     }
     Ok(())

@@ -8,9 +8,10 @@ ghost use Rattle.sf_certificate.specs.Valid.{IsValid, decided};
 ghost use Rattle.sf_rounds.specs.Turns.{turns, TurnsAreAccepted};
 ghost use Rattle.sf_rounds.specs.Found.{IsCertOf, AllSplitFirst};
 
-use crate::one_worker::search_pool;
-use sf_bounds::Bounds;
-use sf_certificate::{Cert, merge};
+use crate::many_workers::{Progress, search_rounds};
+use crate::one_walk::search_walk;
+use sf_bounds::{Bounds, Room};
+use sf_certificate::{Cert, TagList, merge};
 use sf_io::Gate;
 use sf_model::{Design, Shapes};
 use sf_polish::{Expr, Tokens};
@@ -35,8 +36,9 @@ pub struct Found {
     pub cert: Cert,
 }
 
-/// Decides the last open subproblem, turn by turn, until none is open or `nodes` are decided; of plans that cost the
-/// same the first is kept. All turns are made by the caller, however many workers are asked for.
+/// Decides subproblems until none is open or `nodes` are decided. One worker takes the last open one, turn by turn, and of
+/// plans that cost the same keeps the first. Two to sixteen take turns: the caller decides the first open one by its bound,
+/// and then all of them work in a round.
 pub fn search<R: Threads + Sync, B: Bounds, G: Gate>(
     rt: &R,
     alloc: Global,
@@ -62,17 +64,107 @@ pub fn search<R: Threads + Sync, B: Bounds, G: Gate>(
     ensures full { IfOk result (λ found. found.decided ≤ full design.now) }
     ensures ended { IfOk result (λ found. full design.now ≤ options.nodes → found.bound ≡ found.cost) }
 
-    // It is a function of the design and the budget: the state after so many turns of the core, and in it the plan that
-    // was found first of those that cost the word.
-    ensures run { IfOk result (λ found. IsCertOf design.now (turns design.now (B.Values.value bounds.now design.now) options.nodes (opening design.now (B.Values.value bounds.now design.now) 1)) found.cert) }
-    ensures accepted { IfOk result (λ found. TurnsAreAccepted design.now (B.Values.value bounds.now design.now) options.nodes (opening design.now (B.Values.value bounds.now design.now) 1)) }
+    // With one worker it is a function of the design and the budget: the state after so many turns of the core, and in it
+    // the plan that was found first of those that cost the word.
+    ensures run { IfOk result (λ found. options.workers ≡ 1 → IsCertOf design.now (turns design.now (B.Values.value bounds.now design.now) options.nodes (opening design.now (B.Values.value bounds.now design.now) 1)) found.cert) }
+    ensures accepted { IfOk result (λ found. options.workers ≡ 1 → TurnsAreAccepted design.now (B.Values.value bounds.now design.now) options.nodes (opening design.now (B.Values.value bounds.now design.now) 1)) }
 {
-    let searched = search_pool(alloc, design, bounds, options.nodes, gate)?;
-    let cost = searched.pool.word();
-    let plan = copy_plan(alloc, &searched.best)?;
-    let (left, entries) = searched.pool.into_parts();
+    if options.workers >= 2 && options.workers <= 16 {
+        together(
+            rt,
+            alloc,
+            design,
+            bounds,
+            options.workers,
+            options.nodes,
+            gate,
+        )
+    } else {
+        alone(alloc, design, bounds, options.nodes, gate)
+    }
+}
+
+/// The search by the caller alone.
+fn alone<B: Bounds, G: Gate>(
+    alloc: Global,
+    design: &Design,
+    bounds: &B,
+    nodes: u64,
+    gate: &G,
+) -> Result<Found, NoMemory>
+    ensures valid { IfOk result (λ found. IsValid design.now (B.Values.value bounds.now design.now) found.cert) }
+    ensures blocks { IfOk result (λ found. found.cert.blocks ≡ block_count design.now) }
+    ensures plan { IfOk result (λ found. found.plan ≡ found.cert.plan) }
+    ensures cost { IfOk result (λ found. found.cost ≡ found.cert.cost) }
+    ensures bound { IfOk result (λ found. found.bound ≡ found.cert.bound) }
+    ensures decided { IfOk result (λ found. found.decided ≡ decided found.cert.tags) }
+    ensures few { IfOk result (λ found. found.decided ≤ nodes) }
+    ensures spent { IfOk result (λ found. found.bound < found.cost → found.decided ≡ nodes) }
+    ensures splits { IfOk result (λ found. AllSplitFirst design.now found.cert.tags) }
+    ensures full { IfOk result (λ found. found.decided ≤ full design.now) }
+    ensures ended { IfOk result (λ found. full design.now ≤ nodes → found.bound ≡ found.cost) }
+    ensures run { IfOk result (λ found. IsCertOf design.now (turns design.now (B.Values.value bounds.now design.now) nodes (opening design.now (B.Values.value bounds.now design.now) 1)) found.cert) }
+    ensures accepted { IfOk result (λ found. TurnsAreAccepted design.now (B.Values.value bounds.now design.now) nodes (opening design.now (B.Values.value bounds.now design.now) 1)) }
+{
+    let mut room = Room::new(alloc);
+    let mut walk = search_walk(alloc, design, bounds, nodes, gate, &mut room)?;
+    let cost = walk.word();
+    let decided = walk.count() as u64;
+    let plan = copy_plan(alloc, walk.best())?;
+    let bound = walk.leave_open(design, bounds, &mut room)?;
+    let (tags, best) = walk.into_parts();
+    let blocks = design.blocks.as_slice().len() as u16;
+    let tags = TagList::from_vec(tags);
+    let cert = Cert {
+        blocks,
+        plan: best,
+        cost,
+        bound,
+        tags,
+    };
+    Ok(Found {
+        plan,
+        cost,
+        bound,
+        decided,
+        cert,
+    })
+}
+
+/// The search in rounds of several workers.
+fn together<R: Threads + Sync, B: Bounds, G: Gate>(
+    rt: &R,
+    alloc: Global,
+    design: &Design,
+    bounds: &B,
+    workers: u16,
+    nodes: u64,
+    gate: &G,
+) -> Result<Found, NoMemory>
+    requires { (1 ≤ workers) × (workers ≤ 16) }
+    ensures valid { IfOk result (λ found. IsValid design.now (B.Values.value bounds.now design.now) found.cert) }
+    ensures blocks { IfOk result (λ found. found.cert.blocks ≡ block_count design.now) }
+    ensures plan { IfOk result (λ found. found.plan ≡ found.cert.plan) }
+    ensures cost { IfOk result (λ found. found.cost ≡ found.cert.cost) }
+    ensures bound { IfOk result (λ found. found.bound ≡ found.cert.bound) }
+    ensures decided { IfOk result (λ found. found.decided ≡ decided found.cert.tags) }
+    ensures few { IfOk result (λ found. found.decided ≤ nodes) }
+    ensures spent { IfOk result (λ found. found.bound < found.cost → found.decided ≡ nodes) }
+    ensures splits { IfOk result (λ found. AllSplitFirst design.now found.cert.tags) }
+    ensures full { IfOk result (λ found. found.decided ≤ full design.now) }
+    ensures ended { IfOk result (λ found. full design.now ≤ nodes → found.bound ≡ found.cost) }
+{
+    let searched = search_rounds(rt, alloc, design, bounds, workers, nodes, gate)?;
+    let Progress {
+        open_tasks,
+        entries,
+        value: cost,
+        best,
+    } = searched;
+    let plan = copy_plan(alloc, &best)?;
     let decided = entries.len() as u64;
-    let cert = merge(alloc, design, entries, left, searched.best, cost, bounds)?;
+    let left = open_tasks.into_vec(alloc)?;
+    let cert = merge(alloc, design, entries, left, best, cost, bounds)?;
     let bound = cert.bound;
     Ok(Found {
         plan,

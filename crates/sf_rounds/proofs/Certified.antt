@@ -1,0 +1,153 @@
+-- The certificate of a search beside the machine: its tags, and all that is not visited yet is open.
+use Rattle.std.proofs.Common.{◌≡◌, ℕ, suc, ◌+◌, ◌<◌, ◌≤◌, min, List, [], ◌∷◌, ◌++◌, map, reverse, length, All, arith, refl, ap, sym, subst, ◌∙◌, Option, Some, None, Bool, true, false, length-append, append_assoc, append-nil, IsPermutation}
+use Rattle.std.specs.List.{AllByRecursion}
+use Rattle.std.proofs.lemmas.List.{length-map, reverse-reverse}
+use Rattle.std.proofs.lemmas.List.Sorted.{IsPermutation-reverse, IsPermutation-trans}
+use Rattle.sf_model.specs.declared.design.Design.{Design}
+use Rattle.sf_node.specs.declared.task.Task.{Task}
+use Rattle.sf_node.specs.Parts.{Parts}
+use Rattle.sf_node.specs.Subproblem.{root}
+use Rattle.sf_node.specs.Later.{behind, pending}
+use Rattle.sf_search_core.specs.declared.entry.Entry.{Entry}
+use Rattle.sf_search_core.specs.declared.entry.Kind.{Kind}
+use Rattle.sf_search_core.specs.declared.entry.Kind.TheVariants as kind
+use Rattle.sf_search_core.specs.State.{State}
+use Rattle.sf_search_core.specs.Core.{IsCoreState, held_tasks}
+use Rattle.sf_certificate.specs.declared.mark.Mark.{Mark}
+use Rattle.sf_certificate.specs.declared.tag.Tag.{Tag}
+use Rattle.sf_certificate.specs.declared.tag.Tag.TheVariants.{Extend, Split, Closed, Open}
+use Rattle.sf_certificate.specs.Marks.{made, marks, tag_of, given_marks, waiting_after, IsFair}
+use Rattle.sf_certificate.specs.Valid.{AreTrees, left_open, least, decided}
+use Rattle.sf_certificate.proofs.AfterTags.{opens, marks-then, open-all, least-min}
+use Rattle.sf_certificate.proofs.Totals.{total, total-permutation}
+use Rattle.sf_certificate.proofs.Merged.{least-same}
+use Rattle.sf_certificate.proofs.Growth.{trees-step}
+use Rattle.sf_certificate.proofs.MergedTree.{IsMerged, all-fair}
+use Rattle.sf_certificate.proofs.MergedCert.{turned}
+use Rattle.sf_rounds.specs.Stage.{task_at, mark_of, IsStage, Progress, left_of, IsFollowed, IsBeside}
+
+-- fair tags are trees as far as they go
+trees-then : (bound : Parts → ℕ) (cost : ℕ) (nodes : List Parts) (tags more : List Tag) → length (marks nodes tags) ≡ length tags → AllByRecursion (λ m. IsFair bound cost m.tag m.node) (marks nodes tags) → AreTrees bound cost (waiting_after nodes tags) more → AreTrees bound cost nodes (tags ++ more)
+trees-then bound cost nodes [] more e fair trees = trees
+trees-then bound cost [] (tag ∷ tags) more e fair trees = absurd (omega (arith, e))
+trees-then bound cost (node ∷ nodes) (tag ∷ tags) more e fair trees =
+    trees-step bound cost tag node nodes (tags ++ more) fair.0 (trees-then bound cost (made tag node ++ nodes) tags more (omega (arith, e)) fair.1 trees)
+
+trees-open : (bound : Parts → ℕ) (cost : ℕ) (nodes : List Parts) → AreTrees bound cost nodes (opens nodes)
+trees-open bound cost [] = tt
+trees-open bound cost (node ∷ nodes) = trees-open bound cost nodes
+
+marks-open : (bound : Parts → ℕ) (nodes : List Parts) → marks nodes (opens nodes) ≡ map (λ task. record { node = task.node; tag = Open }) (map (task_at bound) nodes)
+marks-open bound [] = refl
+marks-open bound (node ∷ nodes) = ap (λ ms. record { node = node; tag = Open } ∷ ms) (marks-open bound nodes)
+
+open-one : (k : Kind) (node : Parts) (nodes : List Parts) (tags more : List Tag) → ((ns : List Parts) → left_open ns (tags ++ more) ≡ left_open (waiting_after ns tags) more) → left_open (node ∷ nodes) (tag_of k ∷ (tags ++ more)) ≡ left_open (waiting_after (made (tag_of k) node ++ nodes) tags) more
+open-one kind.Extended node nodes tags more then = then (made Extend node ++ nodes)
+open-one (kind.Split b) node nodes tags more then = then (made (Split b) node ++ nodes)
+open-one kind.Closed node nodes tags more then = then nodes
+
+open-then : (entries : List Entry) (nodes : List Parts) (more : List Tag) → left_open nodes (map (λ (e : Entry). tag_of e.kind) entries ++ more) ≡ left_open (waiting_after nodes (map (λ e. tag_of e.kind) entries)) more
+open-then [] nodes more = refl
+open-then (e ∷ entries) [] more = refl
+open-then (e ∷ entries) (node ∷ nodes) more = open-one e.kind node nodes (map (λ (e : Entry). tag_of e.kind) entries) more (λ ns. open-then entries ns more)
+
+decided-open : (nodes : List Parts) → decided (opens nodes) ≡ 0
+decided-open [] = refl
+decided-open (node ∷ nodes) = decided-open nodes
+
+decided-one : (k : Kind) (tags : List Tag) (n : ℕ) → decided tags ≡ n → decided (tag_of k ∷ tags) ≡ suc n
+decided-one kind.Extended tags n e = ap suc e
+decided-one (kind.Split b) tags n e = ap suc e
+decided-one kind.Closed tags n e = ap suc e
+
+decided-all : (entries : List Entry) (nodes : List Parts) → decided (map (λ (e : Entry). tag_of e.kind) entries ++ opens nodes) ≡ length entries
+decided-all [] nodes = decided-open nodes
+decided-all (e ∷ entries) nodes = decided-one e.kind (map (λ (e : Entry). tag_of e.kind) entries ++ opens nodes) (length entries) (decided-all entries nodes)
+
+nodes-of : (bound : Parts → ℕ) (nodes : List Parts) → map (λ (t : Task). t.node) (map (task_at bound) nodes) ≡ nodes
+nodes-of bound [] = refl
+nodes-of bound (node ∷ nodes) = ap (λ ns. node ∷ ns) (nodes-of bound nodes)
+
+bounds-of : (bound : Parts → ℕ) (nodes : List Parts) → map (λ (t : Task). t.bound) (map (task_at bound) nodes) ≡ map bound nodes
+bounds-of bound [] = refl
+bounds-of bound (node ∷ nodes) = ap (λ ns. bound node ∷ ns) (bounds-of bound nodes)
+
+map-total : {X : Type 0} (f : Parts → ℕ) (g : X → Parts) (xs : List X) → total f (map g xs) ≡ total (λ x. f (g x)) xs
+map-total f g [] = refl
+map-total f g (x ∷ xs) = omega (arith, map-total f g xs)
+
+-- the machine's open tasks are those subproblems, in another order
+turned-total : (bound : Parts → ℕ) (nodes : List Parts) (f : Parts → ℕ) → total f nodes ≡ total f (map (λ (t : Task). t.node) (reverse (map (task_at bound) nodes)))
+turned-total bound nodes f =
+    let ts = map (task_at bound) nodes in
+    let g : Task → Parts = λ t. t.node in
+    let a : total f (map g ts) ≡ total (λ t. f (g t)) ts = map-total f g ts in
+    let b : total f (map g (reverse ts)) ≡ total (λ t. f (g t)) (reverse ts) = map-total f g (reverse ts) in
+    let c : total (λ t. f (g t)) ts ≡ total (λ t. f (g t)) (reverse ts) = total-permutation (λ t. f (g t)) ts (reverse ts) (IsPermutation-reverse ts) in
+    sym (ap (total f) (nodes-of bound nodes)) ∙ a ∙ c ∙ sym b
+
+module _ (design : Design) (bound : Parts → ℕ) (state : State) (tags : List Tag) (left : List Parts) (stage : IsStage design bound state tags left) (core : IsCoreState design bound state) where
+  abbrev one : List Parts
+  one = root design ∷ []
+
+  abbrev all : List Tag
+  all = tags ++ opens left
+
+  fair : AllByRecursion (λ m. IsFair bound state.word m.tag m.node) (marks one tags)
+  fair =
+      subst (AllByRecursion (λ m. IsFair bound state.word m.tag m.node)) (append-nil (map mark_of state.entries) ∙ stage.marked)
+      (all-fair bound state.word state.entries [] core.conserved.decided core.not_stale)
+
+  many : length (marks one tags) ≡ length tags
+  many = sym (ap length stage.marked) ∙ length-map state.entries mark_of ∙ sym (length-map state.entries (λ (e : Entry). tag_of e.kind)) ∙ sym (ap length stage.kinds)
+
+  tree : AreTrees bound state.word one all
+  tree = trees-then bound state.word one tags (opens left) many fair (subst (λ ns. AreTrees bound state.word ns (opens left)) (sym stage.then) (trees-open bound state.word left))
+
+  open-left : left_open one all ≡ left
+  open-left =
+      let es = map (λ (e : Entry). tag_of e.kind) state.entries in
+      ap (λ ts. left_open one (ts ++ opens left)) stage.kinds ∙ open-then state.entries one (opens left)
+      ∙ ap (λ ts. left_open (waiting_after one ts) (opens left)) (sym stage.kinds) ∙ ap (λ ns. left_open ns (opens left)) stage.then ∙ open-all left
+
+  pub lowest-is : (n : ℕ) → least n (map bound left) ≡ least n (map bound (map (λ (t : Task). t.node) state.waiting))
+  lowest-is n =
+      least-same n bound left (map (λ (t : Task). t.node) (reverse (map (task_at bound) left))) (turned-total bound left)
+      ∙ ap (λ (ts : List Task). least n (map bound (map (λ (t : Task). t.node) ts))) (sym stage.waiting)
+
+  placed : IsPermutation (given_marks state.entries state.waiting) (marks one all)
+  placed =
+      let open_marks : List Task → List Mark = λ ts. map (λ (task : Task). record { node = task.node; tag = Open }) ts in
+      let ts = map (task_at bound) left in
+      let back : reverse state.waiting ≡ ts = ap reverse stage.waiting ∙ reverse-reverse ts in
+      let same : marks one all ≡ given_marks state.entries (reverse state.waiting) =
+      marks-then one tags (opens left) ∙ ap (λ ms. ms ++ marks (waiting_after one tags) (opens left)) (sym stage.marked)
+      ∙ ap (λ ns. map mark_of state.entries ++ marks ns (opens left)) stage.then ∙ ap (λ ms. map mark_of state.entries ++ ms) (marks-open bound left)
+      ∙ ap (λ us. map mark_of state.entries ++ open_marks us) (sym back) in
+      subst (IsPermutation (given_marks state.entries state.waiting)) (sym same) (turned state.entries state.waiting)
+
+  pub certified : IsMerged design bound state.word state.entries state.waiting (tags ++ opens left)
+  certified = record {
+    tree = tree;
+    lowest = ap (λ ns. least state.word (map bound ns)) open-left ∙ lowest-is state.word;
+    placed = placed;
+    count = ap (λ ts. decided (ts ++ opens left)) stage.kinds ∙ decided-all state.entries left;
+  }
+
+-- one subproblem more is left open
+module _ (design : Design) (bound : Parts → ℕ) (old new : Progress) (more : old.more ≡ true) (f : IsFollowed design bound old Open new) where
+  pub tags-opened : new.tags ++ opens (left_of design new) ≡ old.tags ++ opens (left_of design old)
+  tags-opened =
+      ap (λ ts. ts ++ opens (left_of design new)) f.tags ∙ append_assoc old.tags (Open ∷ []) (opens (left_of design new))
+      ∙ ap (λ ns. old.tags ++ (Open ∷ opens ns)) f.left ∙ ap (λ b. old.tags ++ opens (pending design b old.path.node)) (sym more)
+
+  pub low-opened : (low value next : ℕ) → value ≡ bound old.path.node → next ≡ min low value → least next (map bound (left_of design new)) ≡ least low (map bound (left_of design old))
+  low-opened low value next e k =
+      let rest = behind (root design) old.path.node.steps in
+      ap (λ n. least n (map bound (left_of design new))) k ∙ ap (λ ns. least (min low value) (map bound ns)) f.left ∙ least-min low value (map bound rest)
+      ∙ ap (λ x. min x (least low (map bound rest))) e ∙ ap (λ b. least low (map bound (pending design b old.path.node))) (sym more)
+
+  pub fewer-opened : length (left_of design new) < length (left_of design old)
+  fewer-opened =
+      let one : length (left_of design old) ≡ suc (length (behind (root design) old.path.node.steps)) = ap (λ b. length (pending design b old.path.node)) more in
+      omega (arith, ap length f.left, one)

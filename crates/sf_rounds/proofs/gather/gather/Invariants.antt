@@ -1,0 +1,10 @@
+use Rattle.std.proofs.Common.{◌≡◌, ℕ, All}
+use Rattle.sf_worker.specs.Took.{IsBest}
+use Rattle.sf_rounds.specs.Jobs.{IsDone, Gathers}
+use Rattle.sf_rounds.proofs.gather.gather.Given as goal
+
+abbrev pub invariant-loop-job : goal.invariant-loop-job
+invariant-loop-job g l =
+    All (IsDone l.fn.design l.fn.word) l.job-iterator.rest.items
+    × (l.seat.word ≡ l.fn.word.id)
+    × Gathers l.fn.design l.yielded l.fn.seat l.seat l.all.places.items l.all.entries.items l.all.left.items l.all.best

@@ -1,0 +1,20 @@
+use Rattle.std.proofs.Common.{◌≡◌, List, [], ◌∷◌, ap, sym, ◌∙◌, subst, IsPermutation}
+use Rattle.std.specs.Prelude.{None}
+use Rattle.sf_model.specs.declared.TheConstants.{MAX}
+use Rattle.sf_node.specs.declared.task.Task.{Task}
+use Rattle.sf_node.specs.Children.{IsSubproblem}
+use Rattle.sf_node.proofs.Reached.{root-subproblem}
+use Rattle.sf_search_core.specs.declared.entry.Entry.{Entry}
+use Rattle.sf_rounds.specs.Searching.{IsSearch}
+use Rattle.sf_rounds.proofs.Composed.{opens, search-permuted}
+use Rattle.sf_rounds.proofs.many_workers.begin.Goals as goal
+
+pub returns-clause-search : goal.returns-clause-search
+returns-clause-search g c =
+    let design = c.args.design.now in
+    let bound = g.B.Values.value c.args.bounds.now design in
+    let task : Task = record { node = c.in_ok-root.root; bound = c.in_ok-bound.bound } in
+    let is : IsSubproblem design task.node = subst (IsSubproblem design) (sym c.in_ok-root.ensures) (root-subproblem design) in
+    let pushed = subst (λ (ts : List Task). IsPermutation (task ∷ ts) c.push.new.self) c.new-open_tasks.ensures c.in_ok-push.ensures in
+    subst (λ (es : List Entry). IsSearch design bound c.push.new.self es MAX None) (sym c.new.ensures.items)
+    (search-permuted design bound (task ∷ []) c.push.new.self [] MAX None pushed (opens design bound task c.in_ok-root.ensures (is, c.in_ok-bound.ensures.value)))

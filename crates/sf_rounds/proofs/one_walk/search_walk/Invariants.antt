@@ -1,0 +1,11 @@
+use Rattle.std.proofs.Common.{◌≡◌, length}
+use Rattle.sf_bounds.specs.Serving.{MayServe}
+use Rattle.sf_rounds.specs.Stage.{IsRun}
+use Rattle.sf_rounds.proofs.one_walk.search_walk.Given as goal
+
+abbrev pub invariant-loop-step : goal.invariant-loop-step
+invariant-loop-step g l = record {
+  run : IsRun l.design (g.B.Values.value l.bounds l.design) l.step l.walk;
+  count : length l.walk.tags ≡ l.step;
+  serves : MayServe l.room l.design;
+}

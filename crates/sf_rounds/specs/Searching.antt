@@ -1,0 +1,42 @@
+-- What holds of a search with several workers between its steps.
+use Rattle.std.specs.Prelude.{◌≡◌, ℕ, List, [], ◌∷◌, ◌++◌, Option, Some, None, IsPermutation}
+use Rattle.sf_model.specs.declared.design.Design.{Design}
+use Rattle.sf_polish.specs.declared.expr.Expr.{Expr}
+use Rattle.sf_node.specs.declared.task.Task.{Task}
+use Rattle.sf_node.specs.Parts.{Parts}
+use Rattle.sf_search_core.specs.declared.entry.Entry.{Entry}
+use Rattle.sf_search_core.specs.State.{State}
+use Rattle.sf_search_core.specs.Core.{IsCoreState}
+use Rattle.sf_count.specs.Few.{AllBranchFirst}
+use Rattle.sf_rounds.specs.declared.job.RoundOut.{RoundOut}
+use Rattle.sf_rounds.specs.declared.many_workers.Progress.{Progress}
+use Rattle.sf_rounds.specs.Run.{IsBest}
+
+-- the state of the core with these open tasks, in which no worker holds one
+abbrev pub between : List Task → List Entry → ℕ → State
+between open' entries value = record { waiting = open'; held = []; entries = entries; word = value }
+
+-- a core state, the best plan costs its word, and each split is of the first wide block
+pub record IsSearch (design : Design) (bound : Parts → ℕ) (tasks : List Task) (entries : List Entry) (value : ℕ) (best : Option Expr) : Type 0 where
+  pub core : IsCoreState design bound (between tasks entries value)
+  pub best_is : IsBest design value best
+  pub splits : AllBranchFirst design entries
+
+-- the newer plan, where there is one
+abbrev pub newer : Option Expr → Option Expr → Option Expr
+newer (Some expr) old = Some expr
+newer None old = old
+
+-- one entry, and what it leaves
+pub record IsOne (entry : Entry) (left : List Task) (best : Option Expr) (r : RoundOut) : Type 0 where
+  pub entries : r.entries ≡ entry ∷ []
+  pub left_are : r.left ≡ left
+  pub value : r.value ≡ entry.value
+  pub best_is : r.best ≡ best
+
+-- what a round leaves is added
+pub record IsAbsorbed (out : RoundOut) (old new : Progress) : Type 0 where
+  pub tasks : IsPermutation (old.open_tasks ++ out.left) new.open_tasks
+  pub entries : new.entries.items ≡ old.entries.items ++ out.entries
+  pub value : new.value ≡ out.value
+  pub best : new.best ≡ newer out.best old.best

@@ -1,0 +1,113 @@
+ghost use Rattle.std.specs.Prelude.{◌≡◌, ℕ, ◌+◌, ◌-◌, ◌<◌, ◌≤◌, [], All, IfOk, length, map, reverse, drop};
+ghost use Rattle.sf_worker.specs.Tasks.{IsTask};
+ghost use Rattle.sf_worker.specs.Took.{Serves, tasks_weigh};
+ghost use Rattle.sf_frontier.specs.Team.{IsTeam, IsNewPlace};
+ghost use Rattle.sf_rounds.specs.Jobs.{Dealt, IsSeated, with_put, Handed};
+
+use crate::job::Job;
+use sf_bounds::{Bounds, Room};
+use sf_frontier::{Place, Served};
+use sf_incumbent::{Incumbent, Seat};
+use sf_model::Design;
+use sf_node::Task;
+use sf_worker::{PassEnd, WorkerState};
+use std::alloc::{AllocError as NoMemory, Global};
+
+/// Task i goes to worker i modulo their number: the first of each stands apart, and the others are put into its deque.
+pub fn deal<'a, T: Served, B: Bounds>(
+    alloc: Global,
+    design: &Design,
+    bounds: &B,
+    word: &Incumbent,
+    seat: &mut Seat,
+    places: Vec<Place<T>>,
+    mut tasks: Vec<Task>,
+    quotas: &[u64],
+) -> Result<Vec<Job<'a, T>>, NoMemory>
+    requires team { Serves T.serves design.now (B.Values.value bounds.now design.now) }
+    requires deques { IsTeam places.items × (length places.items ≡ length quotas.now) }
+    requires new { All IsNewPlace places.items }
+    requires seat { (seat.old.word ≡ word.now.id) × (seat.old.parts ≡ length quotas.now + 1) }
+    requires tasks { All (IsTask design.now (B.Values.value bounds.now design.now)) tasks.items }
+    ensures dealt { IfOk result (λ jobs. Dealt design.now (B.Values.value bounds.now design.now) seat.old.seen word.now tasks.items quotas.now jobs.items) }
+    ensures seat { IfOk result (λ _. seat.new ≡ record seat.old { parts = 1 }) }
+{
+    tasks.reverse();
+    let mut jobs = seated(alloc, word, seat, places, &mut tasks, quotas)?;
+    tasks.reverse();
+    hand_out(design, bounds, &mut jobs, tasks)?;
+    Ok(jobs)
+}
+
+/// The workers in their places, each with its first task and a seat of the word. The tasks stand in reverse.
+fn seated<'a, T: Served>(
+    alloc: Global,
+    word: &Incumbent,
+    seat: &mut Seat,
+    places: Vec<Place<T>>,
+    tasks: &mut Vec<Task>,
+    quotas: &[u64],
+) -> Result<Vec<Job<'a, T>>, NoMemory>
+    requires quotas { length places.items ≡ length quotas.now }
+    requires seat { (seat.old.word ≡ word.now.id) × (seat.old.parts ≡ length quotas.now + 1) }
+    ensures seated { IfOk result (λ jobs. IsSeated seat.old.seen word.now (reverse tasks.old.items) quotas.now places.items jobs.items) }
+    ensures left { IfOk result (λ _. reverse tasks.new.items ≡ drop (length quotas.now) (reverse tasks.old.items)) }
+    ensures seat { IfOk result (λ _. seat.new ≡ record seat.old { parts = 1 }) }
+{
+    let mut jobs = Vec::new(alloc);
+    let mut number = 0;
+    for place in places {
+        let state = WorkerState {
+            number,
+            first: tasks.pop(),
+            place,
+            seat: word.split(seat),
+            log: Vec::new(alloc),
+            best: None,
+            room: Room::new(alloc),
+            quota: quotas[number],
+            kept: Vec::new(alloc),
+        };
+        let end = PassEnd::FoundNothing;
+        jobs.push(Job { state, end })?;
+        number += 1;
+    }
+    Ok(jobs)
+}
+
+/// Puts the tasks into the deques of the workers, task i into that of worker i modulo their number. The last task is put
+/// first, so that an owner takes the first of its tasks first.
+fn hand_out<'a, T: Served, B: Bounds>(
+    design: &Design,
+    bounds: &B,
+    jobs: &mut Vec<Job<'a, T>>,
+    mut tasks: Vec<Task>,
+) -> Result<(), NoMemory>
+    requires team { Serves T.serves design.now (B.Values.value bounds.now design.now) }
+    requires some { 0 < length jobs.old.items }
+    requires tasks { All (IsTask design.now (B.Values.value bounds.now design.now)) tasks.items }
+    ensures { IfOk result (λ _. Handed jobs.old.items jobs.new.items tasks.items) }
+{
+    while let Some(task) = tasks.pop() {
+        let place = tasks.len() % jobs.len();
+        put(design, bounds, &mut jobs[place], task)?;
+    }
+    Ok(())
+}
+
+/// Puts a task into the worker's deque.
+fn put<'a, T: Served, B: Bounds>(
+    design: &Design,
+    bounds: &B,
+    job: &mut Job<'a, T>,
+    task: Task,
+) -> Result<(), NoMemory>
+    requires team { Serves T.serves design.now (B.Values.value bounds.now design.now) }
+    requires task { IsTask design.now (B.Values.value bounds.now design.now) task }
+    ensures { IfOk result (λ _. job.new ≡ with_put job.old task) }
+{
+    match job.state.place.owner.put(task) {
+        Ok(()) => Ok(()),
+        Err(_) => Err(NoMemory),
+    }
+}

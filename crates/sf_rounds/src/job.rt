@@ -1,0 +1,30 @@
+use sf_frontier::{Place, Served};
+use sf_node::{Task, Tasks};
+use sf_polish::Expr;
+use sf_search_core::{Entry, EntryList};
+use sf_worker::{PassEnd, WorkerState};
+
+/// One worker, and how its pass ended.
+#[derive(Drop)]
+pub struct Job<'a, T: Served> {
+    pub state: WorkerState<'a, T>,
+    pub end: PassEnd,
+}
+
+/// What the workers leave. The tasks that stand in deques are still there.
+#[derive(Drop)]
+pub struct Gathering<T: Served> {
+    pub places: Vec<Place<T>>,
+    pub entries: Vec<Entry>,
+    pub left: Vec<Task>,
+    pub best: Option<(Expr, u64)>,
+}
+
+/// What a round leaves. The tasks left are the open tasks.
+#[derive(Drop)]
+pub struct RoundOut {
+    pub left: Tasks,
+    pub entries: EntryList,
+    pub value: u64,
+    pub best: Option<Expr>,
+}

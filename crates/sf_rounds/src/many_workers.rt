@@ -1,0 +1,265 @@
+ghost use Rattle.std.specs.Prelude.{◌≡◌, ◌<◌, ◌≤◌, ◌+◌, ◌++◌, ◌∷◌, [], length, sum, IfOk, MatchOption, IsPermutation, All};
+ghost use Rattle.sf_worker.specs.Tasks.{IsTask};
+ghost use Rattle.sf_bounds.specs.Serving.{MayServe};
+ghost use Rattle.sf_rounds.specs.Rounds.{IsRound};
+ghost use Rattle.sf_rounds.specs.Searching.{IsSearch, IsOne, IsAbsorbed};
+
+use crate::job::RoundOut;
+use crate::open_tasks::{Handed, OpenTasks};
+use crate::rounds::round;
+use sf_bounds::{Bounds, Room};
+use sf_io::Gate;
+use sf_model::{Design, MAX};
+use sf_node::{Node, Task, Tasks};
+use sf_polish::expr::Expr;
+use sf_search_core::{Entry, EntryList, Kind};
+use sf_worker::{Decision, decide};
+use std::alloc::{AllocError as NoMemory, Global};
+use std::thread::Threads;
+
+/// How many subproblems each worker may decide in a round at most.
+const MOST: u64 = 1024;
+
+/// How many open tasks a round is handed for each worker, where some can be extended.
+const FEW: usize = 64;
+
+/// How many open tasks a round is handed for each worker, where all are to be closed.
+const MANY: usize = 1024;
+
+/// How many chains, of a decision for each token of a plan, are decided while the deepest tasks come first.
+const CHAINS: u64 = 16;
+
+/// The open tasks and the entries, the least cost found, and a plan that costs it.
+#[derive(Drop)]
+pub struct Progress {
+    pub open_tasks: OpenTasks,
+    pub entries: Vec<Entry>,
+    pub value: u64,
+    pub best: Option<Expr>,
+}
+
+/// Adds what a round leaves.
+pub fn absorb(progress: &mut Progress, out: RoundOut) -> Result<(), NoMemory>
+    ensures { IfOk result (λ _. IsAbsorbed out progress.old progress.new) }
+{
+    let RoundOut {
+        left,
+        entries,
+        value,
+        best,
+    } = out;
+    progress.open_tasks.append(left.into_vec())?;
+    let mut entries = entries.into_vec();
+    progress.entries.append(&mut entries)?;
+    progress.value = value;
+    if best.is_some() {
+        progress.best = best;
+    }
+    Ok(())
+}
+
+/// The decisions that are left, shared out evenly, and at most `MOST` for each worker.
+fn shares(alloc: Global, left: u64, workers: u16) -> Result<Vec<u64>, NoMemory>
+    ensures count { IfOk result (λ quotas. length quotas.items ≡ workers) }
+    ensures few { IfOk result (λ quotas. sum quotas.items ≤ left) }
+{
+    let mut quotas = Vec::new(alloc);
+    let mut left = left;
+    for worker in 0..workers {
+        let quota = left.div_ceil(u64::from(workers - worker)).min(MOST);
+        quotas.push(quota)?;
+        left -= quota;
+    }
+    Ok(quotas)
+}
+
+/// What one decision leaves.
+fn one(
+    alloc: Global,
+    task: Task,
+    kind: Kind,
+    value: u64,
+    best: Option<Expr>,
+    left: Vec<Task>,
+) -> Result<RoundOut, NoMemory>
+    ensures { IfOk result (λ r. IsOne (record { node = task.node; kind = kind; value = value }) left.items best r) }
+{
+    let mut entries = Vec::new(alloc);
+    entries.push(Entry {
+        node: task.node,
+        kind,
+        value,
+    })?;
+    Ok(RoundOut {
+        left: Tasks::from_vec(left),
+        entries: EntryList::from_vec(entries),
+        value,
+        best,
+    })
+}
+
+/// Decides a task, as a round of one decision does.
+fn decide_one<'a, B: Bounds>(
+    alloc: Global,
+    design: &'a Design,
+    bounds: &B,
+    room: &mut Room<'a>,
+    task: Task,
+    value: u64,
+) -> Result<RoundOut, NoMemory>
+    requires task { IsTask design.now (B.Values.value bounds.now design.now) task }
+    requires serves { MayServe room.old design.now }
+    ensures round { IfOk result (λ r. IsRound design.now (B.Values.value bounds.now design.now) (task ∷ []) (1 ∷ []) value r) }
+    ensures serves { MayServe room.new design.now }
+{
+    match decide(design, bounds, room, &task, value)? {
+        Decision::Closed => one(alloc, task, Kind::Closed, value, None, Vec::new(alloc)),
+        Decision::Solved(expr, cost) => {
+            one(alloc, task, Kind::Closed, cost, Some(expr), Vec::new(alloc))
+        }
+        Decision::Extended(tasks) => {
+            one(alloc, task, Kind::Extended, value, None, tasks.into_vec())
+        }
+        Decision::Split(block, left, right) => {
+            let halves = vec![in alloc; left, right]?;
+            one(alloc, task, Kind::Split(block), value, None, halves)
+        }
+    }
+}
+
+/// The state at the start of a search: the root is open.
+fn begin<'a, B: Bounds>(
+    alloc: Global,
+    design: &'a Design,
+    bounds: &B,
+    room: &mut Room<'a>,
+) -> Result<Progress, NoMemory>
+    requires serves { MayServe room.old design.now }
+    ensures search { IfOk result (λ p. IsSearch design.now (B.Values.value bounds.now design.now) p.open_tasks p.entries.items p.value p.best) }
+    ensures none { IfOk result (λ p. p.entries.items ≡ []) }
+    ensures serves { MayServe room.new design.now }
+{
+    let root = Node::root(alloc, design)?;
+    let bound = bounds.bound(design, &root, room)?;
+    let mut open_tasks = OpenTasks::new(alloc);
+    open_tasks.push(Task { node: root, bound })?;
+    Ok(Progress {
+        open_tasks,
+        entries: Vec::new(alloc),
+        value: MAX,
+        best: None,
+    })
+}
+
+/// Decides the first open task.
+fn decide_first<'a, B: Bounds>(
+    alloc: Global,
+    progress: &mut Progress,
+    design: &'a Design,
+    bounds: &B,
+    room: &mut Room<'a>,
+) -> Result<(), NoMemory>
+    requires search { IsSearch design.now (B.Values.value bounds.now design.now) progress.old.open_tasks progress.old.entries.items progress.old.value progress.old.best }
+    requires some { 0 < length progress.old.open_tasks }
+    requires serves { MayServe room.old design.now }
+    ensures search { IfOk result (λ _. IsSearch design.now (B.Values.value bounds.now design.now) progress.new.open_tasks progress.new.entries.items progress.new.value progress.new.best) }
+    ensures one_more { IfOk result (λ _. length progress.new.entries.items ≡ length progress.old.entries.items + 1) }
+    ensures serves { MayServe room.new design.now }
+{
+    let Some(task) = progress.open_tasks.take_first() else {
+        unreachable!()
+    };
+    let out = decide_one(alloc, design, bounds, room, task, progress.value)?;
+    absorb(progress, out)?;
+    Ok(())
+}
+
+/// Which open tasks a round is handed. The first of them; where these are to be closed, as many as the round may decide.
+/// While no plan is known they are the deepest ones, so that some chain of decisions comes to a plan; and one alone where
+/// no worker's share of the budget is a whole chain.
+fn handed(progress: &Progress, design: &Design, workers: u16, left: u64) -> Handed {
+    let workers = u64::from(workers).max(1);
+    let chain = (design.blocks.as_slice().len() as u64).saturating_mul(2);
+    let decided = progress.entries.len() as u64;
+    if progress.best.is_none() && decided < chain.saturating_mul(CHAINS) {
+        let alone = left / workers < chain;
+        return Handed::Deepest(if alone { 1 } else { FEW * workers as usize });
+    }
+    let least = progress.open_tasks.least_bound().unwrap_or(MAX);
+    let each = if least < progress.value { FEW } else { MANY };
+    Handed::First(each * workers as usize)
+}
+
+/// Runs one round of so many workers on some of the open tasks.
+fn run_round<R: Threads + Sync, B: Bounds, G: Gate>(
+    rt: &R,
+    alloc: Global,
+    progress: &mut Progress,
+    design: &Design,
+    bounds: &B,
+    workers: u16,
+    left: u64,
+    gate: &G,
+) -> Result<(), NoMemory>
+    requires search { IsSearch design.now (B.Values.value bounds.now design.now) progress.old.open_tasks progress.old.entries.items progress.old.value progress.old.best }
+    requires workers { (1 ≤ workers) × (workers ≤ 16) }
+    ensures search { IfOk result (λ _. IsSearch design.now (B.Values.value bounds.now design.now) progress.new.open_tasks progress.new.entries.items progress.new.value progress.new.best) }
+    ensures few { IfOk result (λ _. length progress.new.entries.items ≤ length progress.old.entries.items + left) }
+    ensures more { IfOk result (λ _. length progress.old.entries.items ≤ length progress.new.entries.items) }
+{
+    if left == 0 || progress.open_tasks.is_empty() {
+        return Ok(());
+    }
+    let quotas = shares(alloc, left, workers)?;
+    let share = handed(progress, design, workers, left);
+    let tasks = progress.open_tasks.take(alloc, share)?;
+    let out = round(
+        rt,
+        alloc,
+        design,
+        bounds,
+        tasks,
+        &quotas,
+        progress.value,
+        gate,
+    )?;
+    absorb(progress, out)?;
+    Ok(())
+}
+
+/// Decides the first open task and runs a round, in turn, until none is open or `nodes` are decided.
+pub fn search_rounds<R: Threads + Sync, B: Bounds, G: Gate>(
+    rt: &R,
+    alloc: Global,
+    design: &Design,
+    bounds: &B,
+    workers: u16,
+    nodes: u64,
+    gate: &G,
+) -> Result<Progress, NoMemory>
+    requires { (1 ≤ workers) × (workers ≤ 16) }
+    ensures search { IfOk result (λ p. IsSearch design.now (B.Values.value bounds.now design.now) p.open_tasks p.entries.items p.value p.best) }
+    ensures few { IfOk result (λ p. length p.entries.items ≤ nodes) }
+    ensures spent { IfOk result (λ p. 0 < length p.open_tasks → length p.entries.items ≡ nodes) }
+{
+    let mut room = Room::new(alloc);
+    let mut progress = begin(alloc, design, bounds, &mut room)?;
+    while (progress.entries.len() as u64) < nodes {
+        if progress.open_tasks.is_empty() {
+            break;
+        }
+        decide_first(alloc, &mut progress, design, bounds, &mut room)?;
+        let left = nodes - progress.entries.len() as u64;
+        run_round(
+            rt,
+            alloc,
+            &mut progress,
+            design,
+            bounds,
+            workers,
+            left,
+            gate,
+        )?;
+    }
+    Ok(progress)
+}

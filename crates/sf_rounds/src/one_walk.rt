@@ -1,0 +1,38 @@
+//! The whole walk of one worker.
+
+ghost use Rattle.std.specs.Prelude.{◌≡◌, ◌≤◌, length, true, IfOk};
+ghost use Rattle.sf_bounds.specs.Serving.{MayServe};
+ghost use Rattle.sf_rounds.specs.Stage.{IsRun};
+
+use crate::walk::Walk;
+use sf_bounds::{Bounds, Room};
+use sf_io::Gate;
+use sf_model::Design;
+use sf_node::Values;
+use std::alloc::{AllocError as NoMemory, Global};
+
+/// Visits the subproblem that is next, one after another, until all are visited or `nodes` are.
+pub fn search_walk<'a, B: Bounds, G: Gate>(
+    alloc: Global,
+    design: &'a Design,
+    bounds: &B,
+    nodes: u64,
+    gate: &G,
+    room: &mut Room<'a>,
+) -> Result<Walk, NoMemory>
+    requires serves { MayServe room.old design.now }
+    ensures run { IfOk result (λ walk. IsRun design.now (B.Values.value bounds.now design.now) nodes walk) }
+    ensures few { IfOk result (λ walk. length walk.tags ≤ nodes) }
+    ensures spent { IfOk result (λ walk. walk.more ≡ true → length walk.tags ≡ nodes) }
+    ensures serves { MayServe room.new design.now }
+{
+    let mut walk = Walk::new(alloc, design, bounds)?;
+    for step in 0..nodes {
+        if !walk.more() {
+            break;
+        }
+        gate.at(0, step);
+        walk.step(design, bounds, room)?;
+    }
+    Ok(walk)
+}

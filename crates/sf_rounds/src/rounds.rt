@@ -1,0 +1,89 @@
+ghost use Rattle.std.specs.Prelude.{◌≡◌, ◌≤◌, All, IfOk, MatchOption, Some, None, length};
+ghost use Rattle.sf_worker.specs.Tasks.{IsTask};
+ghost use Rattle.sf_worker.specs.Took.{Serves};
+ghost use Rattle.sf_rounds.specs.Rounds.{IsRound};
+
+use crate::deal::deal;
+use crate::gather::gather;
+use crate::job::{Gathering, RoundOut};
+use crate::run::run_all;
+use sf_bounds::Bounds;
+use sf_frontier::{Finish, Served, finish, team};
+use sf_incumbent::Incumbent;
+use sf_io::Gate;
+use sf_model::Design;
+use sf_node::{Task, Tasks};
+use sf_polish::Expr;
+use sf_search_core::EntryList;
+use std::alloc::{AllocError as NoMemory, Global};
+use std::marker::Brand;
+use std::thread::Threads;
+
+/// One worker for each quota decides what the tasks lead to, each in a thread of its own, or one after another where none
+/// can be made. The open tasks come back.
+pub fn round<R: Threads + Sync, B: Bounds, G: Gate>(
+    rt: &R,
+    alloc: Global,
+    design: &Design,
+    bounds: &B,
+    tasks: Vec<Task>,
+    quotas: &[u64],
+    value: u64,
+    gate: &G,
+) -> Result<RoundOut, NoMemory>
+    requires workers { (1 ≤ length quotas.now) × (length quotas.now ≤ 16) }
+    requires tasks { All (IsTask design.now (B.Values.value bounds.now design.now)) tasks.items }
+    ensures { IfOk result (λ r. IsRound design.now (B.Values.value bounds.now design.now) tasks.items quotas.now value r) }
+{
+    round_as::<R, Brand, B, G>(rt, alloc, design, bounds, tasks, quotas, value, gate)
+}
+
+/// The same for one kind of team.
+fn round_as<R: Threads + Sync, T: Served + Sync, B: Bounds, G: Gate>(
+    rt: &R,
+    alloc: Global,
+    design: &Design,
+    bounds: &B,
+    tasks: Vec<Task>,
+    quotas: &[u64],
+    value: u64,
+    gate: &G,
+) -> Result<RoundOut, NoMemory>
+    requires team { Serves T.serves design.now (B.Values.value bounds.now design.now) }
+    requires workers { (1 ≤ length quotas.now) × (length quotas.now ≤ 16) }
+    requires tasks { All (IsTask design.now (B.Values.value bounds.now design.now)) tasks.items }
+    ensures { IfOk result (λ r. IsRound design.now (B.Values.value bounds.now design.now) tasks.items quotas.now value r) }
+{
+    let workers = quotas.len() as u16;
+    let places = team::<T>(alloc, workers)?;
+    let (word, mut seat) = Incumbent::new(alloc, value, workers + 1)?;
+    let mut jobs = deal(
+        alloc, design, bounds, &word, &mut seat, places, tasks, quotas,
+    )?;
+    run_all(rt, jobs.as_mut_slice(), design, bounds, &word, gate);
+    let Gathering {
+        places,
+        entries,
+        left: mut kept,
+        best,
+    } = gather(alloc, design, &word, &mut seat, jobs)?;
+    let Finish { left } = finish(alloc, places)?;
+    let mut left = left.into_vec();
+    left.append(&mut kept)?;
+    Ok(RoundOut {
+        left: Tasks::from_vec(left),
+        entries: EntryList::from_vec(entries),
+        value: word.finish(seat),
+        best: plan_of(best),
+    })
+}
+
+/// The plan without its cost.
+fn plan_of(best: Option<(Expr, u64)>) -> Option<Expr>
+    ensures { MatchOption best (result ≡ None) (λ plan. result ≡ Some plan.0) }
+{
+    match best {
+        Some((expr, _)) => Some(expr),
+        None => None,
+    }
+}

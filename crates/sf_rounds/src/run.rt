@@ -1,0 +1,43 @@
+ghost use Rattle.std.specs.Prelude.{◌≡◌, ℕ, All};
+ghost use Rattle.sf_worker.specs.Took.{IsReady, Serves};
+ghost use Rattle.sf_rounds.specs.Jobs.{Ran, EachTwo};
+
+use crate::job::Job;
+use sf_bounds::Bounds;
+use sf_frontier::Served;
+use sf_incumbent::Incumbent;
+use sf_io::Gate;
+use sf_model::Design;
+use sf_worker::pass;
+use std::thread;
+use std::thread::Threads;
+
+/// Runs all workers at once.
+pub fn run_all<'a, R: Threads + Sync, T: Served + Sync, B: Bounds, G: Gate>(
+    rt: &R,
+    jobs: &mut [Job<'a, T>],
+    design: &'a Design,
+    bounds: &B,
+    word: &Incumbent,
+    gate: &G,
+)
+    requires team { Serves T.serves design.now (B.Values.value bounds.now design.now) }
+    requires ready { All (λ j. IsReady design.now (B.Values.value bounds.now design.now) j.state × (j.state.seat.word ≡ word.now.id)) jobs.old }
+    ensures { EachTwo (Ran design.now (B.Values.value bounds.now design.now)) jobs.old jobs.new }
+{
+    let threads = jobs.len();
+    if threads == 0 {
+        return;
+    }
+    thread::for_each_mut(
+        rt,
+        jobs,
+        threads,
+        &|_, job: &mut Job<T>|
+            requires { Serves T.serves design.now (B.Values.value bounds.now design.now) × IsReady design.now (B.Values.value bounds.now design.now) job.now.state × (job.now.state.seat.word ≡ word.now.id) }
+            ensures { Ran design.entry.now (B.Values.value bounds.entry.now design.entry.now) job.entry.now job.exit.now }
+        {
+            job.end = pass(&mut job.state, design, bounds, word, gate);
+        },
+    );
+}
