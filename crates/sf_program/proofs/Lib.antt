@@ -7,3 +7,8 @@ pub mod NearPlaces
 pub mod Placing
 pub mod Statuses
 pub mod Made
+pub mod Once
+pub mod OneDesign
+pub mod OneChecked
+pub mod OneSearched
+pub mod OneAnswer

@@ -2,16 +2,14 @@
 use Rattle.std.proofs.Common.{◌≡◌, ◌≤◌, ℕ, List, [], ◌∷◌, map, Option, Result, Ok, Err, arith, subst}
 use Rattle.std.specs.Prelude.{IfOk}
 use Rattle.sf_model.specs.declared.design.Design.{Design}
-use Rattle.sf_node.specs.declared.task.Task.{Task}
+use Rattle.sf_node.specs.Subproblem.{root}
 use Rattle.sf_polish.specs.declared.expr.Expr.{Expr}
 use Rattle.sf_certificate.specs.declared.cert.Cert.{Cert}
-use Rattle.sf_certificate.specs.Valid.{least}
+use Rattle.sf_certificate.specs.Valid.{least, left_open}
 use Rattle.sf_certificate.proofs.Floor.{certificate-floor}
 use Rattle.sf_checker.proofs.Answered.{answered}
 use Rattle.sf_standard.specs.Standard.{standard}
 use Rattle.sf_standard.proofs.Soundness.{standard_is_sound}
-use Rattle.sf_search_core.specs.Outcome.{opening}
-use Rattle.sf_rounds.specs.Turns.{turns}
 use Rattle.sf_pl_writer.specs.declared.report.Outcome.{Outcome}
 use Rattle.sf_program.specs.declared.work.Work.{Work}
 use Rattle.sf_program.specs.Planned.{IsAnswered, IsEnding, IsSearched, IsTold, status_of}
@@ -22,16 +20,15 @@ least-below n [] = omega arith
 least-below n (x ∷ xs) = omega (arith, least-below n xs)
 
 -- the bound is at most the cost
-pub bound-below : (design : Design) (budget : ℕ) (cert : Cert) → IsSearched design budget cert → cert.bound ≤ cert.cost
-bound-below design budget cert s =
-    let state = turns design (standard design) budget (opening design (standard design) 1) in
-    omega (arith, s.run.bound, s.run.cost, least-below state.word (map (λ (task : Task). task.bound) state.waiting))
+pub bound-below : (design : Design) (workers budget : ℕ) (cert : Cert) → IsSearched design workers budget cert → cert.bound ≤ cert.cost
+bound-below design workers budget cert s =
+    omega (arith, s.valid.stated, least-below cert.cost (map (standard design) (left_open (root design ∷ []) cert.tags)))
 
-module _ {E : Type 0} (design : Design) (budget scale : ℕ) (name : List ℕ) (pl : Option (List ℕ)) (said : Outcome) (cert : Cert) (plan : Option Expr) (searched : IsSearched design budget cert) (same : plan ≡ cert.plan) (ending : IsEnding cert.cost cert.bound said) where
+module _ {E : Type 0} (design : Design) (workers budget scale : ℕ) (name : List ℕ) (pl : Option (List ℕ)) (said : Outcome) (cert : Cert) (plan : Option Expr) (searched : IsSearched design workers budget cert) (same : plan ≡ cert.plan) (ending : IsEnding cert.cost cert.bound said) where
   pub told-answered : (r : Result Work E)
       → IfOk r (λ w. IsTold design scale name pl said cert plan (stored_in w.stores.items) w.text.items)
       → IfOk r (λ w. w.status ≡ status_of said)
-      → IfOk r (λ w. IsAnswered design budget scale name pl w.status (stored_in w.stores.items) w.text.items)
+      → IfOk r (λ w. IsAnswered design workers budget scale name pl w.status (stored_in w.stores.items) w.text.items)
   told-answered (Ok w) told status = record {
     cert = cert;
     searched = searched;

@@ -10,3 +10,4 @@ pub mod Shaped
 pub mod Generated
 pub mod PlacedLines
 pub mod Answer
+pub mod OneAnswer

@@ -90,18 +90,18 @@ IsTold design scale name pl said cert (Some expr) stored printed =
     × (stored ≡ (name, cert_text cert) ∷ placed design scale pl spots)
     × (printed ≡ report_text (record { word = said; cost = cert.cost; bound = cert.bound; decided = decided cert.tags; size = (w, h); area = w * h; wire = wires; plan = Some expr }))
 
--- the certificate of a search of the design with this budget: valid by the standard bound, and found by the turns of the search core
-pub record IsSearched (design : Design) (budget : ℕ) (cert : Cert) : Type 0 where
+-- the certificate of a search of the design by so many workers with this budget: valid by the standard bound, and with one worker found by the turns of the search core
+pub record IsSearched (design : Design) (workers budget : ℕ) (cert : Cert) : Type 0 where
   pub valid : IsValid design (standard design) cert
   pub blocks : cert.blocks ≡ block_count design
   pub few : decided cert.tags ≤ budget
   pub spent : cert.bound < cert.cost → decided cert.tags ≡ budget
-  pub run : IsCertOf design (turns design (standard design) budget (opening design (standard design) 1)) cert
+  pub run : workers ≡ 1 → IsCertOf design (turns design (standard design) budget (opening design (standard design) 1)) cert
 
 -- the answer of a search: its certificate, and what of it is stored and printed
-pub record IsAnswered (design : Design) (budget scale : ℕ) (cert_name : List ℕ) (pl_name : Option (List ℕ)) (status : Status) (stored : List Stored) (printed : List ℕ) : Type 0 where
+pub record IsAnswered (design : Design) (workers budget scale : ℕ) (cert_name : List ℕ) (pl_name : Option (List ℕ)) (status : Status) (stored : List Stored) (printed : List ℕ) : Type 0 where
   pub cert : Cert
-  pub searched : IsSearched design budget cert
+  pub searched : IsSearched design workers budget cert
   -- no floorplan that fits costs less than the bound, and the checker says Yes to the certificate
   pub floor : IsFloor design cert.bound
   pub accepted : (answer : Answer) → IsAnswer design (standard design) cert answer → is_yes answer ≡ true
@@ -114,4 +114,4 @@ pub record IsAnswered (design : Design) (budget scale : ℕ) (cert_name : List �
 pub record IsPlanned (o : PlanOptions) (before : Option Contents) (status : Status) (stored : List Stored) (printed : List ℕ) : Type 0 where
   pub design : Design
   pub reads : PlanRead before o (Ok design)
-  pub answered : IsAnswered design (budget_of o.nodes (block_count design)) o.design.per_unit o.cert o.pl_out status stored printed
+  pub answered : IsAnswered design o.workers (budget_of o.nodes (block_count design)) o.design.per_unit o.cert o.pl_out status stored printed

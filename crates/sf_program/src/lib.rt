@@ -9,6 +9,7 @@
 mod budget;
 mod checking;
 mod generating;
+mod laws;
 mod making;
 mod measuring;
 mod obeying;

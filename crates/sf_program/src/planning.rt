@@ -54,15 +54,15 @@ fn within_budget(alloc: Global, words: &PlanWords<'_>, parts: Parts) -> Result<D
 fn answered(
     alloc: Global,
     design: &Design,
-    nodes: u64,
+    options: SearchOptions,
     found: Found,
     names: Names<'_>,
 ) -> Result<Work, NoMemory>
-    requires searched { IsSearched design.now nodes found.cert }
+    requires searched { IsSearched design.now options.workers options.nodes found.cert }
     requires plan { found.plan ≡ found.cert.plan }
     requires decided { found.decided ≡ decided found.cert.tags }
     requires scale { IsScale names.scale }
-    ensures { IfOk result (λ w. IsAnswered design.now nodes names.entry.scale names.entry.cert.now (text_of names.entry.pl) w.status (stored_in w.stores.items) w.text.items) }
+    ensures { IfOk result (λ w. IsAnswered design.now options.workers options.nodes names.entry.scale names.entry.cert.now (text_of names.entry.pl) w.status (stored_in w.stores.items) w.text.items) }
 {
     let decided = found.decided;
     let cert = found.cert;
@@ -109,10 +109,10 @@ pub fn searched<R: Threads + Sync, G: Gate>(
     gate: &G,
 ) -> Result<Work, NoMemory>
     requires scale { IsScale names.scale }
-    ensures { IfOk result (λ w. IsAnswered design.now (budget_of nodes (block_count design.now)) names.entry.scale names.entry.cert.now (text_of names.entry.pl) w.status (stored_in w.stores.items) w.text.items) }
+    ensures { IfOk result (λ w. IsAnswered design.now workers (budget_of nodes (block_count design.now)) names.entry.scale names.entry.cert.now (text_of names.entry.pl) w.status (stored_in w.stores.items) w.text.items) }
 {
     let nodes = budget_of(nodes, design.blocks.as_slice().len() as u64);
     let options = SearchOptions { workers, nodes };
     let found = search(rt, alloc, design, &Standard, options, gate)?;
-    answered(alloc, design, nodes, found, names)
+    answered(alloc, design, options, found, names)
 }

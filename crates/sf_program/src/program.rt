@@ -6,6 +6,7 @@ ghost use Rattle.sf_io.specs.Outside.{Rose, Took};
 ghost use Rattle.sf_program.specs.Answer.{Answers, IsAnswer, IsDone, IsHalted, IsSilent};
 ghost use Rattle.sf_program.specs.Stores.{AfterStores, StoppedAt, stored_in};
 
+use crate::laws::answers_are_one;
 use crate::obeying::work;
 use crate::stop::Stop;
 use crate::work::{Store, Work};
@@ -67,6 +68,8 @@ pub fn run<R: Threads + Sync, S: Shelf, K: Sink, G: Gate>(
     ensures halted { result ≡ Status.WriteFault → IsHalted (map string_bytes words.now) (S.holds shelf.old) (S.holds shelf.new) (K.taken out.old) (K.taken out.new) }
     ensures silent { IsSilent result → (S.holds shelf.new ≡ S.holds shelf.old) × (K.taken out.new ≡ K.taken out.old) }
 {
+    // By this law the answer is no other than any that the words and the texts have.
+    answers_are_one();
     match work(rt, alloc, words, shelf, gate) {
         Ok(work) => finish(shelf, out, &work),
         Err(Stop::BadInput(line)) => finish(

@@ -10,9 +10,10 @@ mod reading;
 mod shaping;
 mod texts;
 mod words;
+mod workers;
 
 use crate::run;
-use sf_io::{MemShelf, MemSink, OpenGate, Status};
+use sf_io::{Gate, MemShelf, MemSink, OpenGate, Status};
 use std::alloc::{AllocError, Global};
 use std::process::Abort;
 use std::test::Fail;
@@ -88,8 +89,20 @@ fn answer(
     shelf: &mut MemShelf,
     failing_put: u64,
 ) -> Result<(Status, String), Fail> {
+    answer_at(rt, alloc, words, shelf, failing_put, &OpenGate)
+}
+
+/// The same, with a gate that is called before each decision of a worker.
+fn answer_at(
+    rt: &(impl Threads + Sync),
+    alloc: Global,
+    words: &[String],
+    shelf: &mut MemShelf,
+    failing_put: u64,
+    gate: &impl Gate,
+) -> Result<(Status, String), Fail> {
     let mut out = MemSink::new(alloc, only(alloc, failing_put)?);
-    let status = run(rt, alloc, words, shelf, &mut out, &OpenGate);
+    let status = run(rt, alloc, words, shelf, &mut out, gate);
     let printed = str::from_utf8(out.bytes())?;
     Ok((status, String::from_str(alloc, printed)?))
 }

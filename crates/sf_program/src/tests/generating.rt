@@ -50,11 +50,11 @@ fn four_blocks(rt: HostRuntime) -> Result<(), Fail> {
             assert_eq!(rt; status, Status::Done, "{workers}");
             assert!(rt; has_line(again.as_str(), "cost 1505"), "{workers}");
             assert!(rt; has_line(again.as_str(), "bound 1505"), "{workers}");
+            let (status, _) = answer_to(&rt, alloc, &mut shelf, &[CHECK, "h.cert"])?;
+            assert_eq!(rt; status, Status::Done, "{workers}");
         }
-        for cert in ["g.cert", "h.cert"] {
-            let (status, _) = answer_to(&rt, alloc, &mut shelf, &[CHECK, cert])?;
-            assert_eq!(rt; status, Status::Done, "{cert}");
-        }
+        let (status, _) = answer_to(&rt, alloc, &mut shelf, &[CHECK, "g.cert"])?;
+        assert_eq!(rt; status, Status::Done, "g.cert");
     }
     Ok(())
 }

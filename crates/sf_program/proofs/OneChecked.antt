@@ -1,0 +1,180 @@
+-- The commands that search nothing have one answer each.
+use Rattle.std.proofs.Common.{◌≡◌, inl, inr, ℕ, ◌+◌, suc, List, [], ◌∷◌, ◌++◌, map, length, Option, Some, None, Result, Ok, Err, refl, sym, ap, subst, ◌∙◌, arith}
+use Rattle.std.specs.Prelude.{codes}
+use Rattle.std.specs.List.{flat_map, range_with_len}
+use Rattle.sf_io.specs.Outside.{Contents}
+use Rattle.sf_model.specs.declared.design.Design.{Design}
+use Rattle.sf_model.specs.declared.parts.Block.{Block}
+use Rattle.sf_model.specs.declared.parts.Shape.{Shape}
+use Rattle.sf_model.specs.declared.plan.Spot.{Spot}
+use Rattle.sf_model.specs.Legal.{block_count}
+use Rattle.sf_polish.specs.declared.expr.Token.{Token}
+use Rattle.sf_polish.specs.Reading.{tokens_read}
+use Rattle.sf_polish.specs.Text.{SpellsTokens}
+use Rattle.sf_polish.proofs.TextLaws.{spelled-tokens}
+use Rattle.sf_node.specs.Subproblem.{root}
+use Rattle.sf_curves.specs.Choices.{IsRootCurve}
+use Rattle.sf_curves.proofs.OneTrace.{one-curve, one-least}
+use Rattle.sf_gsrc.specs.Line.{◌>>=◌}
+use Rattle.sf_gsrc.specs.declared.output.Place.{Place}
+use Rattle.sf_place.specs.Spots.{IsByNumber}
+use Rattle.sf_place.specs.Verdict.{IsVerdict}
+use Rattle.sf_place.proofs.OneVerdict.{one-verdict}
+use Rattle.sf_standard.specs.Standard.{standard}
+use Rattle.sf_certificate.specs.declared.cert.Cert.{Cert}
+use Rattle.sf_certificate.specs.Reading.{Said as CertSaid, cert_read, said_by}
+use Rattle.sf_certificate.proofs.OneCert.{same-cert}
+use Rattle.sf_checker.specs.declared.answer.Answer.{Answer as Checked}
+use Rattle.sf_checker.specs.Answers.{IsAnswer}
+use Rattle.sf_checker.proofs.OneAnswer.{one-answer}
+use Rattle.sf_words.specs.Meaning.{CheckOptions, MeasureOptions, ShapeOptions}
+use Rattle.sf_program.specs.Checked.{CertRead, CheckRead, IsChecked, answer_status, answer_text, cert_refusal}
+use Rattle.sf_program.specs.Measured.{IsMeasured, MeasureRead, SpotsPlaced, SpotsRead, lines_named, sized_spot, spot_said, spots_said, status_of, verdict_text}
+use Rattle.sf_program.specs.OneAnswer.{Answer, AtMostOne}
+use Rattle.sf_program.specs.Outcome.{Refusal}
+use Rattle.sf_program.specs.Reading.{DesignRead, Judged, PlacesRead, Said, TextRead, With}
+use Rattle.sf_program.specs.Shaped.{IsCurveText, IsLeast, IsShaped, ShapeRead, TokensRead, areas_alone, expr_refusal, least_line, point_line}
+use Rattle.sf_program.proofs.Once.{then-one, said-one, judged-one, text-one, with-one, same-value}
+use Rattle.sf_program.proofs.OneDesign.{design-one, places-one}
+
+-- ---- check
+
+cert-one : (contents : Contents) (name : List ℕ) (blocks : ℕ) → AtMostOne (CertRead (Some contents) name blocks)
+cert-one contents name blocks =
+    then-one (TextRead (Some contents) name) (λ text. Judged (cert_read blocks text) cert_refusal) (text-one contents name) (λ text. judged-one (cert_read blocks text) cert_refusal)
+
+pub check-read-one : (contents : Contents) (o : CheckOptions) → AtMostOne (CheckRead (Some contents) o)
+check-read-one contents o =
+    then-one (DesignRead (Some contents) o.design o.weights) (λ design. CertRead (Some contents) o.cert (block_count design)) (design-one contents o.design o.weights) (λ design. cert-one contents o.cert (block_count design))
+
+said-cert : (c d : Cert) → said_by c ≡ said_by d → c ≡ d
+said-cert c d e = same-cert c d (ap (λ (s : CertSaid). s.blocks) e) (ap (λ (s : CertSaid). s.plan) e) (ap (λ (s : CertSaid). s.cost) e) (ap (λ (s : CertSaid). s.bound) e) (ap (λ (s : CertSaid). s.tags) e)
+
+module _ (contents : Contents) (o : CheckOptions) where
+  same-checked : (design : Design) (c d : Cert) (a b : Checked) → CertRead (Some contents) o.cert (block_count design) (Ok (said_by c)) → CertRead (Some contents) o.cert (block_count design) (Ok (said_by d))
+      → IsAnswer design (standard design) c a → IsAnswer design (standard design) d b → a ≡ b
+  same-checked design c d a b p q f g =
+      let same = said-cert c d (same-value (CertRead (Some contents) o.cert (block_count design)) (cert-one contents o.cert (block_count design)) (said_by c) (said_by d) p q) in
+      one-answer design (standard design) d a b (subst (λ (x : Cert). IsAnswer design (standard design) x a) same f) g
+
+  pub checked-one : (a b : Answer) → IsChecked o (Some contents) a.0 a.2 → IsChecked o (Some contents) b.0 b.2 → (a.0 ≡ b.0) × (a.2 ≡ b.2)
+  checked-one a b p q =
+      let design = same-value (DesignRead (Some contents) o.design o.weights) (design-one contents o.design o.weights) p.design q.design p.design_reads q.design_reads in
+      let answer = same-checked q.design p.cert q.cert p.answer q.answer
+      (subst (λ (d : Design). CertRead (Some contents) o.cert (block_count d) (Ok (said_by p.cert))) design p.cert_reads) q.cert_reads
+      (subst (λ (d : Design). IsAnswer d (standard d) p.cert p.answer) design p.answered) q.answered in
+      (p.status_is ∙ ap answer_status answer ∙ sym q.status_is, p.prints ∙ ap answer_text answer ∙ sym q.prints)
+
+  pub checked-reads : (a : Answer) → IsChecked o (Some contents) a.0 a.2 → (said : CertSaid) × CheckRead (Some contents) o (Ok said)
+  checked-reads a p = (said_by p.cert, inl (p.design, p.design_reads, p.cert_reads))
+
+-- ---- measure
+
+spots-one : (contents : Contents) (o : MeasureOptions) (design : Design) → AtMostOne (SpotsRead (Some contents) o design)
+spots-one contents o design =
+    then-one (PlacesRead (Some contents) (codes "placed") o.design.per_unit o.placed) (SpotsPlaced design) (places-one contents (codes "placed") o.design.per_unit o.placed) (λ places r s a b. a ∙ sym b)
+
+pub measure-read-one : (contents : Contents) (o : MeasureOptions) → AtMostOne (MeasureRead (Some contents) o)
+measure-read-one contents o =
+    then-one (DesignRead (Some contents) o.design o.weights) (With (SpotsRead (Some contents) o)) (design-one contents o.design o.weights) (λ design. with-one (SpotsRead (Some contents) o) design (spots-one contents o design))
+
+-- the spots of blocks stand by number
+sized-number : (b : ℕ) (name : List ℕ) (line : Place) (size : Option (ℕ × ℕ)) (spot : Spot) → sized_spot b name line size ≡ Ok spot → spot.block ≡ b
+sized-number b name line None spot e = absurd (cc)
+sized-number b name line (Some size) spot e = cc
+
+spot-number : (b : ℕ) (name : List ℕ) (lines : List Place) (spot : Spot) → spot_said b name lines ≡ Ok spot → spot.block ≡ b
+spot-number b name [] spot e = absurd (cc)
+spot-number b name (line ∷ []) spot e = sized-number b name line line.size spot e
+spot-number b name (line ∷ other ∷ more) spot e = absurd (cc)
+
+-- spots by number from b on, as many as there are
+abbrev StandFrom : ℕ → ℕ → List Spot → Type 0
+StandFrom b n spots = (map (λ (s : Spot). s.block) spots ≡ range_with_len b n) × (length spots ≡ n)
+
+one-more : (b n : ℕ) (first : Result Spot Refusal) (others : Result (List Spot) Refusal) (spots : List Spot) → ((s : Spot) → first ≡ Ok s → s.block ≡ b) → ((ss : List Spot) → others ≡ Ok ss → StandFrom (b + 1) n ss)
+    → (first >>= λ s. others >>= λ ss. Ok (s ∷ ss)) ≡ Ok spots → StandFrom b (suc n) spots
+one-more b n (Ok s) (Ok ss) spots one more e =
+    let same : s ∷ ss ≡ spots = cc in
+    let k = more ss refl in
+    subst (StandFrom b (suc n)) same (ap (λ x. x ∷ map (λ (t : Spot). t.block) ss) (one s refl) ∙ ap (λ xs. b ∷ xs) k.0, omega (arith, k.1))
+one-more b n (Ok s) (Err why) spots one more e = absurd (cc)
+one-more b n (Err why) others spots one more e = absurd (cc)
+
+spots-number : (b : ℕ) (blocks : List Block) (lines : List Place) (spots : List Spot) → spots_said b blocks lines ≡ Ok spots → StandFrom b (length blocks) spots
+spots-number b [] lines spots e = let same : [] ≡ spots = cc in subst (StandFrom b 0) same (refl, refl)
+spots-number b (block ∷ blocks) lines spots e =
+    one-more b (length blocks) (spot_said b block.name (lines_named block.name lines)) (spots_said (b + 1) blocks lines) spots
+    (λ s. spot-number b block.name (lines_named block.name lines) s) (λ ss. spots-number (b + 1) blocks lines ss) e
+
+module _ (contents : Contents) (o : MeasureOptions) where
+  numbered : (design : Design) (spots : List Spot) → SpotsRead (Some contents) o design (Ok spots) → IsByNumber spots
+  numbered design spots read =
+      elim read [
+        | inl m ↦ (let k = spots-number 0 design.blocks m.0.places spots (sym m.2) in subst (λ n. map (λ (s : Spot). s.block) spots ≡ range_with_len 0 n) (sym k.1) k.0)
+        | inr m ↦ (let e = m.2 in absurd (cc))
+      ]
+
+  spots-read : (design : Design) (spots : List Spot) → MeasureRead (Some contents) o (Ok (design, spots)) → SpotsRead (Some contents) o design (Ok spots)
+  spots-read design spots read =
+      elim read [
+        | inl m ↦ subst (λ (d : Design). SpotsRead (Some contents) o d (Ok spots)) (sym m.2.0) m.2.1
+        | inr m ↦ (let e = m.2 in absurd (cc))
+      ]
+
+  pub measured-one : (a b : Answer) → IsMeasured o (Some contents) a.0 a.2 → IsMeasured o (Some contents) b.0 b.2 → (a.0 ≡ b.0) × (a.2 ≡ b.2)
+  measured-one a b p q =
+      let both = same-value (MeasureRead (Some contents) o) (measure-read-one contents o) (p.design, p.spots) (q.design, q.spots) p.reads q.reads in
+      let design : p.design ≡ q.design = ap (λ (x : Design × List Spot). x.0) both in
+      let spots : p.spots ≡ q.spots = ap (λ (x : Design × List Spot). x.1) both in
+      let judged = subst (λ (ss : List Spot). IsVerdict q.design ss p.verdict) spots (subst (λ (d : Design). IsVerdict d p.spots p.verdict) design p.judged) in
+      let verdict = one-verdict q.design q.spots (numbered q.design q.spots (spots-read q.design q.spots q.reads)) p.verdict q.verdict judged q.judged in (
+        p.status_is ∙ ap status_of verdict ∙ sym q.status_is,
+        p.text_is ∙ ap (λ (d : Design). verdict_text d p.spots p.verdict) design ∙ ap (λ (ss : List Spot). verdict_text q.design ss p.verdict) spots ∙ ap (verdict_text q.design q.spots) verdict ∙ sym q.text_is,
+      )
+
+  pub measured-reads : (a : Answer) → IsMeasured o (Some contents) a.0 a.2 → (read : Design × List Spot) × MeasureRead (Some contents) o (Ok read)
+  measured-reads a p = ((p.design, p.spots), p.reads)
+
+-- ---- shape
+
+tokens-one : (contents : Contents) (name : List ℕ) (design : Design) → AtMostOne (TokensRead (Some contents) name (block_count design))
+tokens-one contents name design =
+    let blocks = block_count design in
+    then-one (TextRead (Some contents) name) (λ text. Said (SpellsTokens blocks text) (tokens_read blocks text) expr_refusal) (text-one contents name)
+    (λ text. said-one (SpellsTokens blocks text) (tokens_read blocks text) expr_refusal (λ tokens s. spelled-tokens blocks (omega (arith, design.limits.few_blocks)) text tokens s))
+
+pub shape-read-one : (contents : Contents) (o : ShapeOptions) → AtMostOne (ShapeRead (Some contents) o)
+shape-read-one contents o =
+    let Tokens : Design → Result (List Token) Refusal → Type 0 = λ design. TokensRead (Some contents) o.expr (block_count design) in
+    then-one (DesignRead (Some contents) o.design areas_alone) (With Tokens) (design-one contents o.design areas_alone) (λ design. with-one Tokens design (tokens-one contents o.expr design))
+
+module _ (design : Design) (tokens : List Token) (points : List Shape) (curve : IsRootCurve design tokens (root design).spans points) where
+  no-least : (y : Shape) → points ≡ [] → IsLeast points (Some y) → ⊥
+  no-least y e least = let low = least.found.1 in let n : length points ≡ 0 = ap length e in omega arith
+
+  least-one : (a b : Option Shape) → IsLeast points a → IsLeast points b → a ≡ b
+  least-one None None p q = refl
+  least-one None (Some y) p q = absurd (no-least y p q)
+  least-one (Some x) None p q = absurd (no-least x q p)
+  least-one (Some x) (Some y) p q = ap Some (one-least design tokens (root design).spans points x y curve p q)
+
+  text-is-one : (s t : List ℕ) → IsCurveText points s → IsCurveText points t → s ≡ t
+  text-is-one s t a b = a.2 ∙ ap (λ (l : Option Shape). flat_map point_line points ++ least_line l) (least-one a.0 b.0 a.1 b.1) ∙ sym b.2
+
+module _ (contents : Contents) (o : ShapeOptions) where
+  same-shaped : (design : Design) (tokens : List Token) (ps qs : List Shape) (s t : List ℕ) → IsRootCurve design tokens (root design).spans ps → IsRootCurve design tokens (root design).spans qs → IsCurveText ps s → IsCurveText qs t → s ≡ t
+  same-shaped design tokens ps qs s t c d a b =
+      let same = one-curve design tokens (root design).spans ps qs c d in
+      text-is-one design tokens qs d s t (subst (λ (xs : List Shape). IsCurveText xs s) same a) b
+
+  pub shaped-one : (a b : Answer) → IsShaped o (Some contents) a.0 a.2 → IsShaped o (Some contents) b.0 b.2 → (a.0 ≡ b.0) × (a.2 ≡ b.2)
+  shaped-one a b p q =
+      let both = same-value (ShapeRead (Some contents) o) (shape-read-one contents o) (p.design, p.tokens) (q.design, q.tokens) p.reads q.reads in
+      let design : p.design ≡ q.design = ap (λ (x : Design × List Token). x.0) both in
+      let tokens : p.tokens ≡ q.tokens = ap (λ (x : Design × List Token). x.1) both in
+      let curve = subst (λ (ts : List Token). IsRootCurve q.design ts (root q.design).spans p.points) tokens (subst (λ (d : Design). IsRootCurve d p.tokens (root d).spans p.points) design p.curve) in
+      (p.status_is ∙ sym q.status_is, same-shaped q.design q.tokens p.points q.points a.2 b.2 curve q.curve p.text_is q.text_is)
+
+  pub shaped-reads : (a : Answer) → IsShaped o (Some contents) a.0 a.2 → (read : Design × List Token) × ShapeRead (Some contents) o (Ok read)
+  shaped-reads a p = ((p.design, p.tokens), p.reads)

@@ -1,0 +1,100 @@
+-- A search by one worker has one answer, where its certificate is the only one.
+use Rattle.std.proofs.Common.{◌≡◌, ℕ, ◌*◌, List, ◌∷◌, ◌++◌, Option, Some, None, Ok, Err, refl, sym, ap, subst, ◌∙◌, arith}
+use Rattle.sf_io.specs.Outside.{Contents}
+use Rattle.sf_model.specs.declared.design.Design.{Design}
+use Rattle.sf_model.specs.declared.plan.Spot.{Spot}
+use Rattle.sf_model.specs.Legal.{block_count}
+use Rattle.sf_model.specs.Tree.{Tree, width, height, spots_of}
+use Rattle.sf_model.specs.Wire.{wire}
+use Rattle.sf_polish.specs.declared.expr.Expr.{Expr}
+use Rattle.sf_polish.proofs.Spelling.{spells-one}
+use Rattle.sf_place.specs.Spots.{by_number}
+use Rattle.sf_certificate.specs.declared.cert.Cert.{Cert}
+use Rattle.sf_certificate.specs.Valid.{decided}
+use Rattle.sf_certificate.specs.Text.{cert_text}
+use Rattle.sf_pl_writer.specs.declared.report.Outcome.{Outcome}
+use Rattle.sf_pl_writer.specs.declared.report.Outcome.TheVariants as word
+use Rattle.sf_pl_writer.specs.ReportText.{report_text}
+use Rattle.sf_words.specs.Meaning.{GenOptions, PlanOptions}
+use Rattle.sf_program.specs.Generated.{DesignGenerated, GenRead, IsGenerated, by_default, both_weights, cert_name, parts_made, texts_stored}
+use Rattle.sf_program.specs.OneAnswer.{Answer, AtMostOne}
+use Rattle.sf_program.specs.Planned.{BudgetTested, IsAnswered, IsEnding, IsMeasured, IsPlanned, IsSearched, IsTold, PlanRead, budget_of, placed, status_of}
+use Rattle.sf_program.specs.Stores.{Stored}
+use Rattle.sf_program.proofs.Once.{then-one, same-value}
+use Rattle.sf_program.proofs.OneDesign.{budget-one, made-one, plan-one}
+
+-- a cost and a bound have one ending
+ending-one : (cost bound : ℕ) (s t : Outcome) → IsEnding cost bound s → IsEnding cost bound t → s ≡ t
+ending-one cost bound word.Optimal word.Optimal p q = refl
+ending-one cost bound word.Optimal word.NoneFits p q = let low = p.0 in let most = q.0 in absurd (omega arith)
+ending-one cost bound word.Optimal word.Open p q = let closed = p.1 in absurd (omega arith)
+ending-one cost bound word.NoneFits word.Optimal p q = let low = q.0 in let most = p.0 in absurd (omega arith)
+ending-one cost bound word.NoneFits word.NoneFits p q = refl
+ending-one cost bound word.NoneFits word.Open p q = let most = p.0 in let high = p.1 in absurd (omega arith)
+ending-one cost bound word.Open word.Optimal p q = let closed = q.1 in absurd (omega arith)
+ending-one cost bound word.Open word.NoneFits p q = let most = q.0 in let high = q.1 in absurd (omega arith)
+ending-one cost bound word.Open word.Open p q = refl
+
+-- what is measured of a tree
+abbrev Measures : Type 0
+Measures = List Spot × ℕ × ℕ × ℕ
+
+abbrev measures_of : Design → Tree → Measures
+measures_of design tree = (by_number (block_count design) (spots_of tree), width tree, height tree, wire design (spots_of tree))
+
+measures-are : (design : Design) (expr : Expr) (spots : List Spot) (w h wires : ℕ) (m : IsMeasured design expr spots w h wires) → (let found : Measures = (spots, w, h, wires) in found) ≡ measures_of design m.tree
+measures-are design expr spots w h wires m = λ i. (m.spots_are i, m.wide i, m.high i, m.wired i)
+
+module _ (design : Design) (scale : ℕ) (name : List ℕ) (pl : Option (List ℕ)) (said : Outcome) (cert : Cert) where
+  stored_of : Measures → List Stored
+  stored_of m = (name, cert_text cert) ∷ placed design scale pl m.0
+
+  printed_of : Expr → Measures → List ℕ
+  printed_of expr m = report_text (record { word = said; cost = cert.cost; bound = cert.bound; decided = decided cert.tags; size = (m.1, m.2); area = m.1 * m.2; wire = m.3; plan = Some expr })
+
+  told-one : (plan : Option Expr) (ss ts : List Stored) (xs ys : List ℕ) → IsTold design scale name pl said cert plan ss xs → IsTold design scale name pl said cert plan ts ys → (ss ≡ ts) × (xs ≡ ys)
+  unfolding stored_of printed_of
+  told-one None ss ts xs ys p q = (p.0 ∙ sym q.0, p.1 ∙ sym q.1)
+  told-one (Some expr) ss ts xs ys p q =
+      let a = p.4 in
+      let b = q.4 in
+      let tree = spells-one expr a.tree b.tree a.spells b.spells in
+      let same = measures-are design expr p.0 p.1 p.2 p.3 a ∙ ap (measures_of design) tree ∙ sym (measures-are design expr q.0 q.1 q.2 q.3 b) in
+      (p.5 ∙ ap stored_of same ∙ sym q.5, p.6 ∙ ap (printed_of expr) same ∙ sym q.6)
+
+-- the design of generated texts
+generated-design : (o : GenOptions) → AtMostOne (DesignGenerated o)
+generated-design o (Ok d) (Ok e) p q = made-one by_default both_weights (parts_made o) (Ok d) (Ok e) p.1 q.1
+generated-design o (Ok d) (Err w) p q = absurd q
+generated-design o (Err v) s p q = absurd p
+
+pub gen-one : (o : GenOptions) → AtMostOne (GenRead o)
+gen-one o = then-one (BudgetTested o.nodes o.count) (λ budget. DesignGenerated o) (budget-one o.nodes o.count) (λ budget. generated-design o)
+
+-- only one certificate is that of a search by one worker
+abbrev pub HasOneCert : Type 0
+HasOneCert = (design : Design) (budget : ℕ) → AtMostOne (IsSearched design 1 budget)
+
+module _ (certs : HasOneCert) where
+  pub answered-one : (design : Design) (budget scale : ℕ) (name : List ℕ) (pl : Option (List ℕ)) (a b : Answer)
+      → IsAnswered design 1 budget scale name pl a.0 a.1 a.2 → IsAnswered design 1 budget scale name pl b.0 b.1 b.2 → (a.0 ≡ b.0) × (a.1 ≡ b.1) × (a.2 ≡ b.2)
+  answered-one design budget scale name pl a b p q =
+      let cert = certs design budget p.cert q.cert p.searched q.searched in
+      let said = ending-one q.cert.cost q.cert.bound p.said q.said (subst (λ (c : Cert). IsEnding c.cost c.bound p.said) cert p.ending) q.ending in
+      let told = subst (λ (s : Outcome). IsTold design scale name pl s q.cert q.cert.plan a.1 a.2) said (subst (λ (c : Cert). IsTold design scale name pl p.said c c.plan a.1 a.2) cert p.told) in
+      let both = told-one design scale name pl q.said q.cert q.cert.plan a.1 b.1 a.2 b.2 told q.told in
+      (p.status_is ∙ ap status_of said ∙ sym q.status_is, both.0, both.1)
+
+  pub planned-one : (contents : Contents) (o : PlanOptions) → o.workers ≡ 1 → (a b : Answer) → IsPlanned o (Some contents) a.0 a.1 a.2 → IsPlanned o (Some contents) b.0 b.1 b.2 → (a.0 ≡ b.0) × (a.1 ≡ b.1) × (a.2 ≡ b.2)
+  planned-one contents o single a b p q =
+      let design = same-value (PlanRead (Some contents) o) (plan-one contents o) p.design q.design p.reads q.reads in
+      let By : ℕ → Design → Answer → Type 0 = λ n d x. IsAnswered d n (budget_of o.nodes (block_count d)) o.design.per_unit o.cert o.pl_out x.0 x.1 x.2 in
+      answered-one q.design (budget_of o.nodes (block_count q.design)) o.design.per_unit o.cert o.pl_out a b
+      (subst (λ n. By n q.design a) single (subst (λ (d : Design). By o.workers d a) design p.answered)) (subst (λ n. By n q.design b) single q.answered)
+
+  pub generated-one : (o : GenOptions) (a b : Answer) → IsGenerated o a.0 a.1 a.2 → IsGenerated o b.0 b.1 b.2 → (a.0 ≡ b.0) × (a.1 ≡ b.1) × (a.2 ≡ b.2)
+  generated-one o a b p q =
+      let design = same-value (GenRead o) (gen-one o) p.design q.design p.made q.made in
+      let answered = subst (λ (d : Design). IsAnswered d 1 (budget_of o.nodes (block_count d)) 1 (cert_name o) None a.0 p.searched a.2) design p.answered in
+      let same = answered-one q.design (budget_of o.nodes (block_count q.design)) 1 (cert_name o) None (a.0, p.searched, a.2) (b.0, q.searched, b.2) answered q.answered in
+      (same.0, p.stored_is ∙ ap (λ (ss : List Stored). texts_stored o ++ ss) same.1 ∙ sym q.stored_is, same.2)

@@ -1,0 +1,5 @@
+use Rattle.sf_program.proofs.OneDesign.{design-one, plan-one, design-blocks, plan-blocks, joined-blocks}
+use Rattle.sf_program.proofs.laws.designs_are_one.Goals as goal
+
+pub returns : goal.returns
+returns c = record { design = design-one; plan = plan-one; blocks = design-blocks; planned = plan-blocks; gsrc = joined-blocks }

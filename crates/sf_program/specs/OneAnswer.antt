@@ -1,0 +1,51 @@
+-- That words and texts have one answer: what it is said of, and what is left open.
+use Rattle.std.specs.Prelude.{◌≡◌, ⊤, ℕ, List, [], map, length, Option, Some}
+use Rattle.std.specs.Io.KnownBytes.{Appends}
+use Rattle.sf_io.specs.Outside.{Contents}
+use Rattle.sf_io.specs.declared.status.Status.{Status}
+use Rattle.sf_io.specs.declared.status.Status.TheVariants.{BadInput, OverLimit}
+use Rattle.sf_model.specs.declared.design.Design.{Design}
+use Rattle.sf_model.specs.declared.raw.RawBlock.{RawBlock}
+use Rattle.sf_model.specs.Admitted.{block_names}
+use Rattle.sf_model.specs.Legal.{block_count}
+use Rattle.sf_words.specs.Meaning.{Command, plan, Means}
+use Rattle.sf_program.specs.Answer.{Answers}
+use Rattle.sf_program.specs.Outcome.{Refusal, bad, over}
+use Rattle.sf_program.specs.Stores.{AfterStores, Stored}
+
+-- this is so of one thing at most
+abbrev pub AtMostOne : {X : Type 0} → (X → Type 0) → Type 0
+AtMostOne {X} P = (x y : X) → P x → P y → x ≡ y
+
+-- a block for each of these, under its name and in their order
+pub record HasBlocksOf (blocks : List RawBlock) (design : Design) : Type 0 where
+  pub count : block_count design ≡ length blocks
+  pub names : map (λ b. b.name) design.blocks ≡ block_names blocks
+
+-- an answer: its status, what is stored, and what is printed
+abbrev pub Answer : Type 0
+Answer = Status × List Stored × List ℕ
+
+-- the answer to these words, where the shelf tells that it holds these texts
+abbrev pub IsAnswerTo : List (List ℕ) → Contents → Answer → Type 0
+IsAnswerTo words contents a = Answers words (Some contents) a.0 a.1 a.2
+
+-- this status was given, and the answer's texts are stored and printed
+pub record IsDoneBy (a : Answer) (before after : Option Contents) (taken taken_then : Option (List ℕ)) (status : Status) : Type 0 where
+  pub status_is : status ≡ a.0
+  pub stores : AfterStores before a.1 after
+  pub prints : Appends taken taken_then a.2
+
+-- the answer of a refusal
+abbrev pub refused : Refusal → Answer
+refused (bad line) = (BadInput, [], line)
+refused (over line) = (OverLimit, [], line)
+
+-- several workers settle subproblems in an order that is not told: only a search by one is a function of its design
+abbrev pub HasOneWorker : Command → Type 0
+HasOneWorker (plan o) = o.workers ≡ 1
+HasOneWorker other = ⊤
+
+-- the words ask for no search by several workers
+abbrev pub AskForOneWorker : List (List ℕ) → Type 0
+AskForOneWorker words = (command : Command) → Means words command → HasOneWorker command

@@ -1,0 +1,52 @@
+//! The texts stand for one design, and words and texts have one answer.
+
+ghost use Rattle.std.specs.Prelude.{◌≡◌, ℕ, List, Option, Some, Ok};
+ghost use Rattle.sf_io.specs.Outside.{Contents};
+ghost use Rattle.sf_io.specs.declared.status.Status.{Status};
+ghost use Rattle.sf_model.specs.declared.design.Design.{Design};
+ghost use Rattle.sf_model.specs.declared.raw.Parts.{Parts};
+ghost use Rattle.sf_gsrc.specs.declared.output.GsrcBlocks.{GsrcBlocks};
+ghost use Rattle.sf_words.specs.Meaning.{DesignOptions, PlanOptions, WeightOptions};
+ghost use Rattle.sf_program.specs.Answer.{IsDone};
+ghost use Rattle.sf_program.specs.OneAnswer.{Answer, AskForOneWorker, AtMostOne, HasBlocksOf, IsAnswerTo, IsDoneBy, refused};
+ghost use Rattle.sf_program.specs.Outcome.{Refusal};
+ghost use Rattle.sf_program.specs.Planned.{PlanRead};
+ghost use Rattle.sf_program.specs.Reading.{BlocksRead, DesignRead, GsrcRead, PartsRead};
+
+use sf_curves::laws::traces_are_one;
+use sf_model::laws::designs_are_determined;
+use sf_place::verdicts_are_one;
+use sf_rounds::laws::certificates_are_one;
+use sf_soft_shapes::lists_are_determined;
+
+/// On a shelf that tells what it holds, the named files stand for at most one design, or are refused for at most one
+/// reason, and never both. The design has a block for each block that the files name, under its name and in their order.
+pub fn designs_are_one()
+    ensures design { (contents : Contents) (o : DesignOptions) (w : WeightOptions) → AtMostOne (DesignRead (Some contents) o w) }
+    ensures plan { (contents : Contents) (o : PlanOptions) → AtMostOne (PlanRead (Some contents) o) }
+    ensures blocks { (contents : Contents) (o : DesignOptions) (w : WeightOptions) (parts : Parts) (design : Design)
+        → PartsRead (Some contents) o.per_unit o.input (Ok parts) → DesignRead (Some contents) o w (Ok design) → HasBlocksOf parts.blocks design }
+    ensures planned { (contents : Contents) (o : PlanOptions) (parts : Parts) (design : Design)
+        → PartsRead (Some contents) o.design.per_unit o.design.input (Ok parts) → PlanRead (Some contents) o (Ok design) → HasBlocksOf parts.blocks design }
+    ensures gsrc { (contents : Contents) (scale : ℕ) (name : List ℕ) (nets pl : Option (List ℕ)) (out : GsrcBlocks) (parts : Parts)
+        → BlocksRead (Some contents) scale name (Ok out) → GsrcRead (Some contents) scale name nets pl (Ok parts) → parts.blocks ≡ out.blocks }
+{
+    lists_are_determined();
+    designs_are_determined();
+}
+
+/// On a shelf that tells what it holds, words have at most one answer, unless they ask for a search by several workers:
+/// its status, what is stored and what is printed follow from the words and the texts. A refusal is the only answer,
+/// however many workers the words ask for. So what a run does where nothing fails is what any answer to its words says.
+pub fn answers_are_one()
+    ensures answer { (words : List (List ℕ)) (contents : Contents) → AskForOneWorker words → AtMostOne (IsAnswerTo words contents) }
+    ensures refusal { (words : List (List ℕ)) (contents : Contents) (why : Refusal) (a : Answer) → IsAnswerTo words contents (refused why) → IsAnswerTo words contents a → a ≡ refused why }
+    ensures done { (words : List (List ℕ)) (contents : Contents) (after : Option Contents) (taken taken_then : Option (List ℕ)) (status : Status) (a : Answer)
+        → AskForOneWorker words → IsAnswerTo words contents a → IsDone words (Some contents) after taken taken_then status
+        → IsDoneBy a (Some contents) after taken taken_then status }
+{
+    designs_are_one();
+    verdicts_are_one();
+    traces_are_one();
+    certificates_are_one();
+}
