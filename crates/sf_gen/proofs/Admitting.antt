@@ -23,7 +23,8 @@ use Rattle.sf_model.specs.Admitted.{first, no_blocks, over, over_counts, over_ki
 use Rattle.sf_gen.specs.declared.design.Kinds.{Kinds}
 use Rattle.sf_gen.specs.declared.drawn.Ends.{Ends}
 use Rattle.sf_gen.specs.declared.drawn.Size.{Size}
-use Rattle.sf_gen.specs.Designs.{raw_block, raw_blocks, raw_nets, raw_pads, parts_of}
+use Rattle.sf_gen.specs.Designs.{named_parts, raw_block, raw_blocks, raw_nets, raw_pads, parts_of}
+use Rattle.sf_gsrc.proofs.Numbered.{refusal_same}
 use Rattle.sf_gen.specs.Drawn.{sizes, ends, net_count}
 use Rattle.sf_gen.specs.Texts.{indexed, is_soft, block_name, pad_name, pins_of, nets_pins, square}
 use Rattle.sf_gen.proofs.BlockLines.{IsSmall, area_high}
@@ -140,7 +141,7 @@ pins_counted (pins ∷ nets) =
 
 module _ (kinds : Kinds) (seed n : ℕ) (low : 1 ≤ n) (high : n ≤ 320) where
   parts : Parts
-  parts = parts_of kinds seed n
+  parts = named_parts kinds seed n
 
   block_count : length (raw_blocks kinds (sizes seed n)) ≡ n
   block_count = length-indexed (raw_block kinds) 0 (sizes seed n) ∙ length-sizes seed n
@@ -215,4 +216,4 @@ module _ (kinds : Kinds) (seed n : ℕ) (low : 1 ≤ n) (high : n ≤ 320) where
 
   pub admitted : IsAdmitted (parts_of kinds seed n)
   unfolding parts
-  admitted = ap first (neither _ (name_faults parts) (neither (no_blocks parts) (over_limits parts) some_block no_limit_passed) no_name_faults)
+  admitted = refusal_same (named_parts kinds seed n) ∙ ap first (neither _ (name_faults parts) (neither (no_blocks parts) (over_limits parts) some_block no_limit_passed) no_name_faults)

@@ -2,9 +2,9 @@
 use Rattle.std.proofs.Common.{◌≡◌, ℕ, Bool, true, false, List, [], refl, ap}
 use Rattle.std.specs.Prelude.{not, ◌||◌, map, Some, Ok, codes}
 use Rattle.sf_model.specs.declared.raw.RawBlock.{RawBlock}
-use Rattle.sf_gsrc.specs.Join.{has_name, strangers_of, joined}
+use Rattle.sf_gsrc.specs.Join.{has_name, strangers_of, joined, numbered}
 use Rattle.sf_gen.specs.declared.design.Kinds.{Kinds}
-use Rattle.sf_gen.specs.Designs.{blocks_out, nets_out, places_out, pad_list, parts_of, raw_blocks}
+use Rattle.sf_gen.specs.Designs.{blocks_out, nets_out, places_out, named_parts, pad_list, parts_of, raw_blocks}
 use Rattle.sf_gen.specs.Drawn.{sizes, ends}
 
 known : (b : Bool) → not (b || true) ≡ false
@@ -17,4 +17,4 @@ no_strangers bs n =
     rw (known (block_has (codes "p0")), known (block_has (codes "p1")), known (block_has (codes "p2")), known (block_has (codes "p3"))) refl
 
 pub joined_are : (kinds : Kinds) (seed n : ℕ) → joined (blocks_out kinds (sizes seed n)) (Some (nets_out (ends seed n))) (Some (places_out n)) ≡ Ok (parts_of kinds seed n)
-joined_are kinds seed n = ap (λ (s : List (List ℕ)). Ok (record (parts_of kinds seed n) { strangers = s })) (no_strangers (raw_blocks kinds (sizes seed n)) n)
+joined_are kinds seed n = ap (λ (s : List (List ℕ)). Ok (numbered (record (named_parts kinds seed n) { strangers = s }))) (no_strangers (raw_blocks kinds (sizes seed n)) n)

@@ -10,6 +10,7 @@ use Rattle.sf_gsrc.specs.declared.output.GsrcBlocks.{GsrcBlocks}
 use Rattle.sf_gsrc.specs.declared.output.GsrcNets.{GsrcNets}
 use Rattle.sf_gsrc.specs.declared.output.GsrcPlaces.{GsrcPlaces}
 use Rattle.sf_gsrc.specs.declared.output.Place.{Place}
+use Rattle.sf_gsrc.specs.Join.{numbered}
 use Rattle.sf_gen.specs.declared.design.Kinds.{Kinds}
 use Rattle.sf_gen.specs.declared.drawn.Ends.{Ends}
 use Rattle.sf_gen.specs.declared.drawn.Size.{Size}
@@ -59,11 +60,15 @@ raw_pads n =
     raw_pad (codes "p0") 0 0 ∷ raw_pad (codes "p1") (square n) 0
     ∷ raw_pad (codes "p2") 0 (square n) ∷ raw_pad (codes "p3") (square n) (square n) ∷ []
 
-abbrev pub parts_of : Kinds → ℕ → ℕ → Parts
-parts_of kinds seed n = record {
+abbrev pub named_parts : Kinds → ℕ → ℕ → Parts
+named_parts kinds seed n = record {
   blocks = raw_blocks kinds (sizes seed n);
   pads = raw_pads n;
   nets = raw_nets (ends seed n);
   strangers = [];
   pads_in = true;
 }
+
+-- with numbered pins
+abbrev pub parts_of : Kinds → ℕ → ℕ → Parts
+parts_of kinds seed n = numbered (named_parts kinds seed n)

@@ -13,3 +13,5 @@ pub mod Joining
 pub mod Likes
 pub mod Sizes
 pub mod Ranges
+pub mod OwnerSteps
+pub mod Numbered

@@ -14,8 +14,9 @@ use Rattle.sf_gsrc.specs.declared.output.GsrcBlocks.{GsrcBlocks}
 use Rattle.sf_gsrc.specs.declared.output.GsrcNets.{GsrcNets}
 use Rattle.sf_gsrc.specs.declared.output.GsrcPlaces.{GsrcPlaces}
 use Rattle.sf_gsrc.specs.NetsStanding.{net_of, NetsStandFor}
-use Rattle.sf_gsrc.specs.Join.{first_twice, joined, names_of, nets_in, placed_once, placed_parts, unplaced_parts}
+use Rattle.sf_gsrc.specs.Join.{first_twice, joined, names_of, nets_in, numbered, numbered_nets, placed_once, placed_parts, unplaced_parts}
 use Rattle.sf_gsrc.specs.Ranges.{HasPinsInAnyRange}
+use Rattle.sf_gsrc.proofs.Numbered.{nets_in_range_still}
 use Rattle.sf_gsrc.proofs.Results.{done, ok_is, err_not_ok}
 
 -- ---- named pins
@@ -36,10 +37,10 @@ nets_named text out s = record {
 
 -- ---- joined parts
 
--- the parts have the blocks and the nets of the files
+-- the parts have the blocks and the nets of the files, with numbered pins
 pub record Keeps (blocks : GsrcBlocks) (nets : List RawNet) (parts : Parts) : Type 0 where
   pub blocks_are : parts.blocks ≡ blocks.blocks
-  pub nets_are : parts.nets ≡ nets
+  pub nets_are : parts.nets ≡ numbered_nets parts.blocks parts.pads nets
 
 kept_as : (blocks : GsrcBlocks) (nets : List RawNet) (made parts : Parts) → done {E = JoinFault} made ≡ done parts → Keeps blocks nets made → Keeps blocks nets parts
 kept_as blocks nets made parts e k = subst (λ (p : Parts). Keeps blocks nets p) (ok_is {E = JoinFault} made parts e) k
@@ -50,9 +51,9 @@ placed_keep blocks nets made parts (Some name) e k = absurd (err_not_ok (faults.
 
 pub joined_keep : (blocks : GsrcBlocks) (nets : Option GsrcNets) (places : Option GsrcPlaces) (parts : Parts) → joined blocks nets places ≡ Ok parts → Keeps blocks (nets_in nets) parts
 joined_keep blocks nets None parts e =
-    kept_as blocks (nets_in nets) (unplaced_parts blocks (nets_in nets)) parts e (record { blocks_are = refl; nets_are = refl })
+    kept_as blocks (nets_in nets) (numbered (unplaced_parts blocks (nets_in nets))) parts e (record { blocks_are = refl; nets_are = refl })
 joined_keep blocks nets (Some places) parts e =
-    placed_keep blocks (nets_in nets) (placed_parts blocks (nets_in nets) places.places) parts (first_twice (names_of places.places)) e (record { blocks_are = refl; nets_are = refl })
+    placed_keep blocks (nets_in nets) (numbered (placed_parts blocks (nets_in nets) places.places)) parts (first_twice (names_of places.places)) e (record { blocks_are = refl; nets_are = refl })
 
 pub joined_sizes : (blocks : GsrcBlocks) (nets : Option GsrcNets) (places : Option GsrcPlaces) (parts : Parts) → joined blocks nets places ≡ Ok parts
     → All (λ b. IsSized b.kind) blocks.blocks → HasSizes parts
@@ -65,4 +66,5 @@ some_nets (Some out) h = h
 pub joined_pins : (blocks : GsrcBlocks) (nets : Option GsrcNets) (places : Option GsrcPlaces) (parts : Parts) → joined blocks nets places ≡ Ok parts
     → IfSome nets (λ out. HasPinsInAnyRange out.nets) → HasPinsInRange parts
 joined_pins blocks nets places parts e h =
-    All-same (λ (n : RawNet). All (IsPinInRange (length parts.blocks) (length parts.pads)) n.pins) parts.nets (nets_in nets) (joined_keep blocks nets places parts e).nets_are ((some_nets nets h).in_range (length parts.blocks) (length parts.pads))
+    All-same (λ (n : RawNet). All (IsPinInRange (length parts.blocks) (length parts.pads)) n.pins) parts.nets (numbered_nets parts.blocks parts.pads (nets_in nets)) (joined_keep blocks nets places parts e).nets_are
+    (nets_in_range_still parts.blocks parts.pads (nets_in nets) ((some_nets nets h).in_range (length parts.blocks) (length parts.pads)))

@@ -1,11 +1,14 @@
 -- Blocks, nets and places joined to the parts of a design.
-use Rattle.std.specs.Prelude.{◌≡◌, ℕ, ℤ, Bool, true, false, not, ◌||◌, nat_lt, List, [], ◌∷◌, map, filter, find, count_by, Option, Some, None, Result, Ok, Err, if◌then◌else◌}
+use Rattle.std.specs.Prelude.{◌≡◌, ℕ, ℤ, Bool, true, false, not, ◌&&◌, ◌||◌, ◌^◌, nat_lt, List, [], ◌∷◌, length, map, filter, find, count_by, Option, Some, None, Result, Ok, Err, if◌then◌else◌}
 use Rattle.std.specs.List.{list_any}
 use Rattle.std.specs.Str.{bytes_eq}
 use Rattle.sf_model.specs.declared.raw.RawBlock.{RawBlock}
 use Rattle.sf_model.specs.declared.raw.RawPad.{RawPad}
 use Rattle.sf_model.specs.declared.raw.RawNet.{RawNet}
+use Rattle.sf_model.specs.declared.raw.RawPin.{RawPin}
+use Rattle.sf_model.specs.declared.raw.RawPin.TheVariants as raw
 use Rattle.sf_model.specs.declared.raw.Parts.{Parts}
+use Rattle.sf_model.specs.Admitted.{block_of, pad_of}
 use Rattle.sf_gsrc.specs.declared.output.GsrcBlocks.{GsrcBlocks}
 use Rattle.sf_gsrc.specs.declared.output.GsrcNets.{GsrcNets}
 use Rattle.sf_gsrc.specs.declared.output.GsrcPlaces.{GsrcPlaces}
@@ -70,14 +73,38 @@ unplaced_parts out nets = record {
   pads_in = false;
 }
 
+-- a pin by the number of its block or of its pad, where it is of one of them and not of both
+abbrev pub by_number : Option ℕ → Option ℕ → RawPin → RawPin
+by_number (Some b) None pin = raw.Block b
+by_number None (Some p) pin = raw.Pad p
+by_number (Some b) (Some p) pin = pin
+by_number None None pin = pin
+
+abbrev pub numbered_pin : List RawBlock → List RawPad → RawPin → RawPin
+numbered_pin blocks pads pin = by_number (block_of blocks pin) (pad_of pads pin) pin
+
+abbrev pub numbered_net : List RawBlock → List RawPad → RawNet → RawNet
+numbered_net blocks pads net = record { pins = map (numbered_pin blocks pads) net.pins }
+
+-- the numbers of pins tell as many blocks and as many pads apart
+abbrev pub has_numbers : List RawBlock → List RawPad → Bool
+has_numbers blocks pads = nat_lt (length blocks) (2 ^ 32) && nat_lt (length pads) (2 ^ 32)
+
+abbrev pub numbered_nets : List RawBlock → List RawPad → List RawNet → List RawNet
+numbered_nets blocks pads nets = if has_numbers blocks pads then map (numbered_net blocks pads) nets else nets
+
+-- the parts with numbered pins
+abbrev pub numbered : Parts → Parts
+numbered parts = record parts { nets = numbered_nets parts.blocks parts.pads parts.nets }
+
 abbrev pub placed_once : Option (List ℕ) → Parts → Result Parts JoinFault
 placed_once None parts = Ok parts
 placed_once (Some name) parts = Err (faults.PlacedTwice name)
 
 -- what the files are joined to
 abbrev pub joined : GsrcBlocks → Option GsrcNets → Option GsrcPlaces → Result Parts JoinFault
-joined out nets None = Ok (unplaced_parts out (nets_in nets))
-joined out nets (Some places) = placed_once (first_twice (names_of places.places)) (placed_parts out (nets_in nets) places.places)
+joined out nets None = Ok (numbered (unplaced_parts out (nets_in nets)))
+joined out nets (Some places) = placed_once (first_twice (names_of places.places)) (numbered (placed_parts out (nets_in nets) places.places))
 
 -- what a function returned is this, unless memory ran out
 abbrev pub Joins : {X : Type 0} → Result X JoinFault → Result X JoinFault → Type 0

@@ -14,4 +14,5 @@ pub mod Places
 pub mod NetsStanding
 pub mod Join
 pub mod ByName
+pub mod Owners
 pub mod Ranges

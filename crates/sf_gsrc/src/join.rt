@@ -5,6 +5,7 @@ ghost use Rattle.sf_gsrc.specs.Join.{joined, Joins, nets_in, placed_once, placed
 
 use crate::by_name::{find_strangers, place_pads};
 use crate::fault::JoinFault;
+use crate::numbering::number;
 use crate::output::{GsrcBlocks, GsrcNets, GsrcPlaces, Place};
 use sf_model::{Name, NameList, Parts, RawNetList, RawPad, RawPadList};
 use std::alloc::{AllocError, Global};
@@ -66,8 +67,9 @@ pub fn join_parts(
         Some(nets) => nets.nets,
         None => RawNetList::from_vec(Vec::new(alloc)),
     };
-    match places {
-        Some(places) => join_placed(alloc, blocks, nets, places.places.into_vec()),
-        None => Ok(join_unplaced(alloc, blocks, nets)?),
-    }
+    let parts = match places {
+        Some(places) => join_placed(alloc, blocks, nets, places.places.into_vec())?,
+        None => join_unplaced(alloc, blocks, nets)?,
+    };
+    Ok(number(alloc, parts)?)
 }

@@ -1,12 +1,12 @@
 //! What the parts of a design keep of the files that they are joined from.
 
 ghost use Rattle.std.specs.Prelude.{◌≡◌, ℕ, List, Option, Ok, IfSome, All};
-ghost use Rattle.sf_model.specs.Admitted.{IsSized, HasSizes, HasPinsInRange};
+ghost use Rattle.sf_model.specs.Admitted.{IsSized, HasSizes, HasPinsInRange, first_refusal};
 ghost use Rattle.sf_model.specs.declared.raw.Parts.{Parts};
 ghost use Rattle.sf_gsrc.specs.declared.output.GsrcBlocks.{GsrcBlocks};
 ghost use Rattle.sf_gsrc.specs.declared.output.GsrcNets.{GsrcNets};
 ghost use Rattle.sf_gsrc.specs.declared.output.GsrcPlaces.{GsrcPlaces};
-ghost use Rattle.sf_gsrc.specs.Join.{joined};
+ghost use Rattle.sf_gsrc.specs.Join.{joined, numbered};
 ghost use Rattle.sf_gsrc.specs.NetsStanding.{NetsStandFor};
 ghost use Rattle.sf_gsrc.specs.Ranges.{HasPinsInAnyRange};
 ghost use Rattle.sf_gsrc.specs.Standing.{StandsFor};
@@ -27,4 +27,9 @@ pub fn joined_parts_keep_ranges()
         → All (λ b. IsSized b.kind) blocks.blocks → HasSizes parts }
     ensures pins { (blocks : GsrcBlocks) (nets : Option GsrcNets) (places : Option GsrcPlaces) (parts : Parts) → joined blocks nets places ≡ Ok parts
         → IfSome nets (λ out. HasPinsInAnyRange out.nets) → HasPinsInRange parts }
+{}
+
+/// Numbers in the place of names change no fault: the parts are admitted, or refused for the same reason.
+pub fn numbers_change_no_fault()
+    ensures { (parts : Parts) → first_refusal (numbered parts) ≡ first_refusal parts }
 {}

@@ -21,7 +21,9 @@ mod laws;
 mod line;
 mod nets;
 mod nets_found;
+mod numbering;
 mod output;
+mod owners;
 mod place_line;
 mod places;
 mod vertices;
@@ -29,7 +31,9 @@ mod vertices;
 pub use blocks::{blocks_stand_for_one, read_blocks};
 pub use fault::{GsrcFault, JoinFault};
 pub use join::join_parts;
-pub use laws::{blocks_have_sizes, joined_parts_keep_ranges, nets_name_their_pins};
+pub use laws::{
+    blocks_have_sizes, joined_parts_keep_ranges, nets_name_their_pins, numbers_change_no_fault,
+};
 pub use nets::{nets_stand_for_one, read_nets};
 pub use output::{GsrcBlocks, GsrcNets, GsrcPlaces, Place, PlaceList};
 pub use places::{places_stand_for_one, read_pl};

@@ -1,0 +1,81 @@
+-- The owners of names, as names come to stand before those that are there.
+use Rattle.std.proofs.Common.{◌≡◌, ℕ, ◌+◌, ◌<◌, Bool, true, false, cond, map, length, drop, get_or, subst, List, [], ◌∷◌, Option, Some, None, refl, ap, sym, ◌∙◌}
+use Rattle.std.specs.List.{position_from}
+use Rattle.std.specs.Map.{update}
+use Rattle.std.specs.Str.{bytes_eq}
+use Rattle.std.proofs.lemmas.Slice.Eq.{bytes_eq-Decides}
+use Rattle.sf_model.specs.declared.raw.RawPin.{RawPin}
+use Rattle.sf_model.specs.declared.raw.RawPin.TheVariants as raw
+use Rattle.std.proofs.Math.Seq.{drop-length}
+use Rattle.sf_model.proofs.Tables.{bytes_eq_sym}
+use Rattle.sf_model.proofs.Walks.{drop_step}
+use Rattle.sf_gsrc.specs.declared.owners.Owner.{Owner}
+use Rattle.sf_gsrc.specs.declared.owners.Owner.TheVariants.{Block, Pad, Both}
+use Rattle.sf_gsrc.specs.Join.{by_number}
+use Rattle.sf_gsrc.specs.Owners.{owner_of}
+
+-- ---- one name more
+
+-- a block stands before the others, while no pad is there
+pub block_put : (old new : List ℕ → Option Owner) (key : List ℕ) (i : ℕ) (blocks : List (List ℕ)) → ((n : List ℕ) → new n ≡ update bytes_eq old key (Some (Block i)) n)
+    → ((n : List ℕ) → old n ≡ owner_of (position_from (bytes_eq n) (i + 1) blocks) None) → (n : List ℕ) → new n ≡ owner_of (position_from (bytes_eq n) i (key ∷ blocks)) None
+block_put old new key i blocks sets found n =
+    sets n ∙ ap (λ b. cond b (Some (Block i)) (old n)) (bytes_eq_sym key n)
+    ∙ elim (bytes_eq n key) as (λ b. cond b (Some (Block i)) (old n) ≡ owner_of (cond b (Some i) (position_from (bytes_eq n) (i + 1) blocks)) None) [ true ↦ refl | false ↦ found n ]
+
+-- a pad stands before the others
+pub pad_put : (old new : List ℕ → Option Owner) (key : List ℕ) (w : Owner) (i : ℕ) (blocks pads : List (List ℕ)) → ((n : List ℕ) → new n ≡ update bytes_eq old key (Some w) n)
+    → ((n : List ℕ) → old n ≡ owner_of (position_from (bytes_eq n) 0 blocks) (position_from (bytes_eq n) (i + 1) pads))
+    → ((block other : Option ℕ) → old key ≡ owner_of block other → Some w ≡ owner_of block (Some i))
+    → (n : List ℕ) → new n ≡ owner_of (position_from (bytes_eq n) 0 blocks) (position_from (bytes_eq n) i (key ∷ pads))
+pad_put old new key w i blocks pads sets found beside n =
+    let here : Some w ≡ owner_of (position_from (bytes_eq key) 0 blocks) (Some i) = beside (position_from (bytes_eq key) 0 blocks) (position_from (bytes_eq key) (i + 1) pads) (found key) in
+    let P : Bool → Type 0 = λ b. bytes_eq n key ≡ b → cond b (Some w) (old n) ≡ owner_of (position_from (bytes_eq n) 0 blocks) (cond b (Some i) (position_from (bytes_eq n) (i + 1) pads)) in
+    sets n ∙ ap (λ b. cond b (Some w) (old n)) (bytes_eq_sym key n)
+    ∙ (elim (bytes_eq n key) as P [
+      | true ↦ (λ e. subst (λ (m : List ℕ). Some w ≡ owner_of (position_from (bytes_eq m) 0 blocks) (Some i)) (sym ((bytes_eq-Decides n key).0 e)) here)
+      | false ↦ (λ e. found n)
+    ]) refl
+
+-- ---- pins by their owners
+
+pub of_block : (b p : Option ℕ) (x : ℕ) (pin : RawPin) → Some (Block x) ≡ owner_of b p → raw.Block x ≡ by_number b p pin
+of_block (Some b) None x pin e = cc
+of_block (Some b) (Some p) x pin e = cc
+of_block None (Some p) x pin e = cc
+of_block None None x pin e = cc
+
+pub of_pad : (b p : Option ℕ) (x : ℕ) (pin : RawPin) → Some (Pad x) ≡ owner_of b p → raw.Pad x ≡ by_number b p pin
+of_pad (Some b) None x pin e = cc
+of_pad (Some b) (Some p) x pin e = cc
+of_pad None (Some p) x pin e = cc
+of_pad None None x pin e = cc
+
+pub of_both : (b p : Option ℕ) (pin : RawPin) → Some Both ≡ owner_of b p → pin ≡ by_number b p pin
+of_both (Some b) None pin e = cc
+of_both (Some b) (Some p) pin e = refl
+of_both None (Some p) pin e = cc
+of_both None None pin e = cc
+
+pub of_none : (b p : Option ℕ) (pin : RawPin) → None ≡ owner_of b p → pin ≡ by_number b p pin
+of_none (Some b) None pin e = cc
+of_none (Some b) (Some p) pin e = cc
+of_none None (Some p) pin e = cc
+of_none None None pin e = refl
+
+-- ---- from the last name to the first
+
+-- the walk begins behind the last
+pub owners_start : {X : Type 0} (name : X → List ℕ) (xs : List X) (P : ℕ → List (List ℕ) → Type 0) → P (length xs) [] → P (length xs) (map name (drop (length xs) xs))
+owners_start {X} name xs P h =
+    let Q : List X → Type 0 = λ ys. P (length xs) (map name ys) in
+    subst Q (sym (drop-length xs)) h
+
+-- one item more, before those that are left
+pub owners_step : {X : Type 0} (name : X → List ℕ) (xs : List X) (i j : ℕ) (x : X) (P Q : ℕ → List (List ℕ) → Type 0) → i < length xs → j ≡ i + 1 → x ≡ get_or xs i x
+    → ((names : List (List ℕ)) → P (i + 1) names → Q i (name x ∷ names)) → P j (map name (drop j xs)) → Q i (map name (drop i xs))
+owners_step {X} name xs i j x P Q lt next is put was =
+    let item : drop i xs ≡ x ∷ drop j xs = drop_step xs i x lt ∙ ap (λ (y : X). y ∷ drop (i + 1) xs) (sym is) ∙ ap (λ (k : ℕ). x ∷ drop k xs) (sym next) in
+    let R : List X → Type 0 = λ ys. Q i (map name ys) in
+    let S : ℕ → Type 0 = λ k. P k (map name (drop j xs)) in
+    subst R (sym item) (put (map name (drop j xs)) (subst S next was))
