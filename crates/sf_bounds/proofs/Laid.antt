@@ -53,7 +53,7 @@ numbers-append (token.Above ∷ xs) ys = numbers-append xs ys
 numbers-append (token.Block b ∷ xs) ys = ap (λ v. b ∷ v) (numbers-append xs ys)
 
 -- no more blocks than the design has
-few-numbers : (design : Design) (node : Parts) (i : ℕ) → IsSubproblem design node → length (numbers (take i node.tokens)) ≤ 320
+pub few-numbers : (design : Design) (node : Parts) (i : ℕ) → IsSubproblem design node → length (numbers (take i node.tokens)) ≤ 320
 few-numbers design node i sub =
     let k = subproblem-begun design node sub in
     let n = block_count design in

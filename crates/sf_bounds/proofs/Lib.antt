@@ -8,7 +8,6 @@ pub mod ByArea
 pub mod ByFrames
 pub mod Nearby
 pub mod Shifting
-pub mod Telling
 pub mod Small
 pub mod Laid
 pub mod Seated
@@ -24,3 +23,10 @@ pub mod Solution
 pub mod Born
 pub mod Rooted
 pub mod OnePlan
+pub mod Shares
+pub mod RowLaws
+pub mod NetKept
+pub mod NetPushed
+pub mod NetRows
+pub mod NetStarted
+pub mod NetTotal

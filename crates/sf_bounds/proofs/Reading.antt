@@ -56,6 +56,13 @@ near-fold : (P : Pin → Type 0) (f : Reach → Pin → Reach) → ((r : Reach) 
 near-fold P f step r [] h all = h
 near-fold P f step r (p ∷ pins) h all = near-fold P f step (f r p) pins (step r p all.0 h) all.1
 
+pub near_pad : (design : Design) (p : ℕ) → p < length design.pads → IsNearby (pad_reach design p)
+near_pad design p h =
+    let k = design.limits.places p (record { name = []; x = pos 0; y = pos 0 }) h in (
+      ((omega (arith, ints, k.0.0), omega (arith, ints, k.0.1)), (omega (arith, ints, k.0.0), omega (arith, ints, k.0.1))),
+      ((omega (arith, ints, k.1.0), omega (arith, ints, k.1.1)), (omega (arith, ints, k.1.0), omega (arith, ints, k.1.1))),
+    )
+
 module _ (design : Design) (items : ℕ) (table : List Standing) (ready : IsReady design items table) where
   abbrev pub IsThere : Pin → Type 0
   IsThere p = pin_number p < pin_count (length design.blocks) (length design.pads) p
@@ -63,20 +70,13 @@ module _ (design : Design) (items : ℕ) (table : List Standing) (ready : IsRead
   pub standing_ready : (b : ℕ) → b < block_count design → IsReadyAt items (standing_at table b)
   standing_ready b h = ready.each b (record { side = 0; range = anywhere; home = None }) (omega (arith, h, ready.count))
 
-  near-pad : (p : ℕ) → p < length design.pads → IsNearby (pad_reach design p)
-  near-pad p h =
-      let k = design.limits.places p (record { name = []; x = pos 0; y = pos 0 }) h in (
-        ((omega (arith, ints, k.0.0), omega (arith, ints, k.0.1)), (omega (arith, ints, k.0.0), omega (arith, ints, k.0.1))),
-        ((omega (arith, ints, k.1.0), omega (arith, ints, k.1.1)), (omega (arith, ints, k.1.0), omega (arith, ints, k.1.1))),
-      )
-
   pub near_range : (p : Pin) → pin_number p < pin_count (length design.blocks) (length design.pads) p → IsNearby (pin_range design table p)
   near_range (pin.Block b) h = (standing_ready b h).range
-  near_range (pin.Pad p) h = near-pad p h
+  near_range (pin.Pad p) h = near_pad design p h
 
   pub near_home : (complete : Bool) (p : Pin) → pin_number p < pin_count (length design.blocks) (length design.pads) p → IfSome (pin_home design table complete p) (λ h. IsNearby h.reach)
   near_home complete (pin.Block b) h = if-some (λ v. (v.item < items) × IsNearby v.reach) (λ v. IsNearby v.reach) (standing_at table b).home (λ v k. k.1) (standing_ready b h).home
-  near_home true (pin.Pad p) h = near-pad p h
+  near_home true (pin.Pad p) h = near_pad design p h
   near_home false (pin.Pad p) h = tt
 
   -- a block's item is one of the items

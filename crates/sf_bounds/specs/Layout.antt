@@ -10,8 +10,8 @@ use Rattle.sf_standard.specs.declared.hull.Extent.{Extent}
 use Rattle.sf_standard.specs.declared.hull.Offset.{Offset}
 use Rattle.sf_standard.specs.Items.{Item, items_of, span_shapes}
 use Rattle.sf_standard.specs.Hull.{extent_of, item_extent, offsets, moved_right, moved_up}
-use Rattle.sf_bounds.specs.declared.laying.Way.{Way}
-use Rattle.sf_bounds.specs.declared.laying.Way.TheVariants as way
+use Rattle.sf_frames.specs.declared.direction.Direction.{Direction}
+use Rattle.sf_frames.specs.declared.direction.Direction.TheVariants as way
 use Rattle.sf_bounds.specs.declared.layout.Held.{Held}
 use Rattle.sf_bounds.specs.declared.layout.Seat.{Seat}
 
@@ -39,11 +39,11 @@ abbrev pub above_extent : Extent → Extent → Extent
 above_extent p q = record { least_w = max p.least_w q.least_w; most_w = max p.most_w q.most_w; least_h = p.least_h + q.least_h; most_h = p.most_h + q.most_h }
 
 -- what an operator does to the sides of two items, and to the places of the second one's blocks
-abbrev pub joined_extent : Way → Extent → Extent → Extent
+abbrev pub joined_extent : Direction → Extent → Extent → Extent
 joined_extent way.Beside = beside_extent
 joined_extent way.Above = above_extent
 
-abbrev pub moved : Way → Extent → Offset → Offset
+abbrev pub moved : Direction → Extent → Offset → Offset
 moved way.Beside = moved_right
 moved way.Above = moved_up
 

@@ -5,5 +5,6 @@ pub mod Open
 pub mod Near
 pub mod Layout
 pub mod Pins
+pub mod Rows
 pub mod Cheapest
 pub mod Only

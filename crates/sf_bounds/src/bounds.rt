@@ -100,10 +100,16 @@ impl Bounds for Standard {
         room: &mut Room<'a>,
     ) -> Result<u64, NoMemory> {
         room.serve(design);
-        let Some(frames) = &mut room.frames else {
+        let Some(kept) = &mut room.kept else {
             unreachable!()
         };
-        standard_value(frames, &mut room.scratch, design, node)
+        standard_value(
+            &mut kept.frames,
+            &mut kept.nets,
+            &mut room.scratch,
+            design,
+            node,
+        )
     }
 
     fn child_bound<'a>(
@@ -114,9 +120,16 @@ impl Bounds for Standard {
         room: &mut Room<'a>,
     ) -> Result<u64, NoMemory> {
         room.serve(design);
-        let Some(frames) = &mut room.frames else {
+        let Some(kept) = &mut room.kept else {
             unreachable!()
         };
-        value_from(frames, &mut room.scratch, design, child, value)
+        value_from(
+            &mut kept.frames,
+            &mut kept.nets,
+            &mut room.scratch,
+            design,
+            child,
+            value,
+        )
     }
 }

@@ -2,6 +2,7 @@ ghost use Rattle.std.specs.Prelude.{◌≡◌, IfOk};
 ghost use Rattle.sf_node.specs.Later.{IsChildOf};
 ghost use Rattle.sf_standard.specs.Standard.{standard};
 
+use crate::net_frames::NetFrames;
 use crate::scratch::Scratch;
 use crate::value::standard_value;
 use sf_frames::Frames;
@@ -13,6 +14,7 @@ use std::alloc::AllocError as NoMemory;
 /// moved from the unused ones onto the stack.
 pub fn value_from(
     frames: &mut Frames,
+    nets: &mut NetFrames,
     scratch: &mut Scratch,
     design: &Design,
     child: &Node,
@@ -20,13 +22,15 @@ pub fn value_from(
 ) -> Result<u64, NoMemory>
     requires child { IsChildOf design.now (standard design.now) value child.now }
     requires serves { frames.old ≡ design.now }
+    requires serves_nets { nets.old ≡ design.now }
     ensures value { IfOk result (λ v. v ≡ standard design.now child.now) }
     ensures serves { frames.new ≡ design.now }
+    ensures serves_nets { nets.new ≡ design.now }
 {
     if let Some(Step::Block(_)) = child.steps().last() {
         if !child.is_complete() {
             return Ok(value);
         }
     }
-    standard_value(frames, scratch, design, child)
+    standard_value(frames, nets, scratch, design, child)
 }

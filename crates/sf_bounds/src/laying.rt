@@ -4,32 +4,27 @@ ghost use Rattle.sf_bounds.specs.Curves.{HasOperands};
 ghost use Rattle.sf_bounds.specs.Layout.{extent_in, Tells, joined_extent, moved, reseated, JoinsTop, Lays, AreModest, IsModestExtent, IsModestOffset, AreSeated, own_seat};
 
 use crate::layout::{Held, Seat};
+use sf_frames::direction::Direction;
 use sf_model::Design;
 use sf_node::Node;
 use sf_polish::expr::Token;
 use sf_standard::{Extent, Offset};
 use std::alloc::AllocError as NoMemory;
 
-/// The way in which an operator joins two items.
-#[derive(Clone, Copy, Debug)]
-pub enum Way {
-    Beside,
-    Above,
-}
-
-fn joined_extent(way: Way, first: Extent, second: Extent) -> Extent
+/// The sides of two joined items.
+pub fn joined_extent(way: Direction, first: Extent, second: Extent) -> Extent
     requires first { IsModestExtent first }
     requires second { IsModestExtent second }
     ensures { result ≡ joined_extent way first second }
 {
     match way {
-        Way::Beside => Extent {
+        Direction::Beside => Extent {
             least_w: first.least_w + second.least_w,
             most_w: first.most_w + second.most_w,
             least_h: first.least_h.max(second.least_h),
             most_h: first.most_h.max(second.most_h),
         },
-        Way::Above => Extent {
+        Direction::Above => Extent {
             least_w: first.least_w.max(second.least_w),
             most_w: first.most_w.max(second.most_w),
             least_h: first.least_h + second.least_h,
@@ -38,18 +33,18 @@ fn joined_extent(way: Way, first: Extent, second: Extent) -> Extent
     }
 }
 
-fn moved(way: Way, by: Extent, offset: Offset) -> Offset
+fn moved(way: Direction, by: Extent, offset: Offset) -> Offset
     requires by { IsModestExtent by }
     requires offset { IsModestOffset offset }
     ensures { result ≡ moved way by offset }
 {
     match way {
-        Way::Beside => Offset {
+        Direction::Beside => Offset {
             least_x: by.least_w + offset.least_x,
             most_x: by.most_w + offset.most_x,
             ..offset
         },
-        Way::Above => Offset {
+        Direction::Above => Offset {
             least_y: by.least_h + offset.least_y,
             most_y: by.most_h + offset.most_y,
             ..offset
@@ -58,7 +53,7 @@ fn moved(way: Way, by: Extent, offset: Offset) -> Offset
 }
 
 // Moves the seats from a place on into the item before theirs.
-fn shift(way: Way, seats: &mut Vec<Seat>, start: usize, item: usize, by: Extent)
+fn shift(way: Direction, seats: &mut Vec<Seat>, start: usize, item: usize, by: Extent)
     requires start { start ≤ length seats.old.items }
     requires by { IsModestExtent by }
     requires offsets { All (λ s. IsModestOffset s.offset) seats.old.items }
@@ -73,7 +68,7 @@ fn shift(way: Way, seats: &mut Vec<Seat>, start: usize, item: usize, by: Extent)
 }
 
 // Joins the top two items.
-fn join(way: Way, held: &mut Vec<Held>, seats: &mut Vec<Seat>) -> Result<(), NoMemory>
+fn join(way: Direction, held: &mut Vec<Held>, seats: &mut Vec<Seat>) -> Result<(), NoMemory>
     requires two { 2 ≤ length held.old.items }
     requires modest { AreModest held.old.items seats.old.items }
     ensures { OnOk result (JoinsTop (joined_extent way) (moved way) held.old.items held.new.items seats.old.items seats.new.items) }
@@ -111,8 +106,8 @@ fn lay_token(
             held.push(Held { extent, blocks: 1 })?;
             Ok(())
         }
-        Token::Beside => join(Way::Beside, held, seats),
-        Token::Above => join(Way::Above, held, seats),
+        Token::Beside => join(Direction::Beside, held, seats),
+        Token::Above => join(Direction::Above, held, seats),
     }
 }
 

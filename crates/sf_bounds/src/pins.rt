@@ -20,7 +20,8 @@ pub struct Pair {
 // The pair of no sides.
 const NO_PAIR: Pair = Pair { most: None, sum: 0 };
 
-fn pad_reach(design: &Design, pad: u16) -> Reach
+/// Where a pad lies.
+pub fn pad_reach(design: &Design, pad: u16) -> Reach
     requires { pad < length design.now.pads }
     ensures { result ≡ pad_reach design.now pad }
 {

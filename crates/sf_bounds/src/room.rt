@@ -1,8 +1,8 @@
 ghost use Rattle.std.specs.Prelude.{◌≡◌, Some, None};
 ghost use Rattle.sf_bounds.specs.Serving.{MayServe};
 
+use crate::kept::Kept;
 use crate::scratch::Scratch;
-use sf_frames::Frames;
 use sf_model::Design;
 use std::alloc::Global;
 use std::marker::Model;
@@ -10,7 +10,7 @@ use std::marker::Model;
 /// Memory of one worker, for the subproblems of one design. A contract sees it as the design that it serves, or none.
 #[derive(Drop)]
 pub struct Room<'a> {
-    pub(crate) frames: Option<Frames<'a>>,
+    pub(crate) kept: Option<Kept<'a>>,
     pub(crate) scratch: Scratch,
 }
 
@@ -20,7 +20,7 @@ impl<'a> Model for Room<'a> {
 
     ghost Value = { Option Design };
 
-    ghost view = { λ r. r.frames };
+    ghost view = { λ r. r.kept };
 }
 
 impl<'a> Room<'a> {
@@ -29,7 +29,7 @@ impl<'a> Room<'a> {
         ensures { result ≡ None }
     {
         Room {
-            frames: None,
+            kept: None,
             scratch: Scratch::new(alloc),
         }
     }
@@ -39,8 +39,8 @@ impl<'a> Room<'a> {
         requires { MayServe self.old design.now }
         ensures { self.new ≡ Some design.now }
     {
-        if self.frames.is_none() {
-            self.frames = Some(Frames::new(self.scratch.alloc, design));
+        if self.kept.is_none() {
+            self.kept = Some(Kept::new(self.scratch.alloc, design));
         }
     }
 

@@ -1,4 +1,4 @@
-ghost use Rattle.std.specs.Prelude.{◌≡◌, ◌∷◌, [], IfOk, IfSome, length};
+ghost use Rattle.std.specs.Prelude.{◌≡◌, ◌≢◌, ◌∷◌, [], IfOk, IfSome, length};
 ghost use Rattle.sf_node.specs.Children.{IsSubproblem};
 ghost use Rattle.sf_bounds.specs.Serving.{MayServe};
 
@@ -49,12 +49,15 @@ fn root(alloc: Global, design: &Design) -> Result<Node, AllocError>
     Ok(node)
 }
 
-fn last_child(design: &Design, node: &Node) -> Result<Option<Node>, AllocError>
+fn child(design: &Design, node: &Node, place: usize) -> Result<Option<Node>, AllocError>
     requires { IsSubproblem design.now node.now }
     ensures { IfOk result (λ child. IfSome child (IsSubproblem design.now)) }
 {
     let mut children = node.extend_children(design)?;
-    Ok(children.pop())
+    if place >= children.len() {
+        return Ok(None);
+    }
+    Ok(Some(children.swap_remove(place)))
 }
 
 fn halves(design: &Design, node: &Node) -> Result<Option<(Node, Node)>, AllocError>
@@ -98,11 +101,108 @@ fn measures(rt: HostRuntime) -> Result<(), Fail> {
     let mut room = Room::new(alloc);
     let start = root(alloc, &design)?;
     assert_eq!(rt; Standard.bound(&design, &start, &mut room)?, 24);
-    let whole = last_child(&design, &start)?.ok_or("no child")?;
+    let whole = child(&design, &start, 0)?.ok_or("no child")?;
     assert_eq!(rt; Standard.bound(&design, &whole, &mut room)?, 194);
     let of_halves = values_of_halves(&design, &mut room, &whole)?;
     assert_eq!(rt; of_halves, Some([234, 194, 204, 196]));
     assert_eq!(rt; Standard.bound(&design, &whole, &mut room)?, 194);
     assert_eq!(rt; Standard.bound(&design, &start, &mut room)?, 24);
+    Ok(())
+}
+
+/// A block of 2 by 2.
+fn square(alloc: Global, name: &[u8]) -> Result<Block, AllocError>
+    requires { name.now ≢ [] }
+    ensures { IfOk result (λ block. block.shapes ≡ record { w = 2; h = 2 } ∷ []) }
+{
+    Ok(Block {
+        name: Name::new(alloc, name)?,
+        shapes: Shapes::from_vec(vec![in alloc; Shape { w: 2, h: 2 }]?),
+    })
+}
+
+/// Four blocks of 2 by 2, a net of the first and the third, one of the second and the third, and one of the fourth and a
+/// pad, with wire weight 1.
+fn four_squares(alloc: Global) -> Result<Design, AllocError> {
+    let blocks = vec![in alloc;
+        square(alloc, b"a")?,
+        square(alloc, b"b")?,
+        square(alloc, b"c")?,
+        square(alloc, b"d")?,
+    ]?;
+    let pad = Pad {
+        name: Name::new(alloc, b"p")?,
+        x: 10,
+        y: 0,
+    };
+    let first = Pins::from_vec(vec![in alloc; Pin::Block(0), Pin::Block(2)]?);
+    let second = Pins::from_vec(vec![in alloc; Pin::Block(1), Pin::Block(2)]?);
+    let third = Pins::from_vec(vec![in alloc; Pin::Block(3), Pin::Pad(0)]?);
+    let nets = vec![in alloc;
+        Net { pins: first },
+        Net { pins: second },
+        Net { pins: third },
+    ]?;
+    Ok(Design {
+        blocks: BlockList::from_vec(blocks),
+        pads: PadList::from_vec(vec![in alloc; pad]?),
+        nets: NetList::from_vec(nets),
+        outline: Outline {
+            w: 1_048_576,
+            h: 1_048_576,
+        },
+        weights: Weights { area: 1, wire: 1 },
+    })
+}
+
+/// The value of the subproblem to which these places of children lead.
+fn value_at<'a>(
+    alloc: Global,
+    design: &'a Design,
+    room: &mut Room<'a>,
+    places: &[usize],
+) -> Result<Option<u64>, AllocError>
+    requires serves { MayServe room.old design.now }
+    ensures serves { MayServe room.new design.now }
+{
+    let mut node = root(alloc, design)?;
+    for place in places {
+        let Some(next) = child(design, &node, *place)? else {
+            return Ok(None);
+        };
+        node = next;
+    }
+    let value = Standard.bound(design, &node, room)?;
+    Ok(Some(value))
+}
+
+#[test]
+fn measures_items(rt: HostRuntime) -> Result<(), Fail> {
+    let alloc = rt.alloc();
+    let design = four_squares(alloc)?;
+    let mut room = Room::new(alloc);
+    // no token; 0 1 *; 0 1 * 2 *; 0 1 * 2 +; 0 1 + 2 +; 0 1 * 2 * 3 *; 0 1 * 2
+    assert_eq!(rt; value_at(alloc, &design, &mut room, &[])?, Some(26));
+    assert_eq!(rt; value_at(alloc, &design, &mut room, &[0, 0, 0])?, Some(26));
+    assert_eq!(rt;
+        value_at(alloc, &design, &mut room, &[0, 0, 0, 0, 0])?,
+        Some(30)
+    );
+    assert_eq!(rt;
+        value_at(alloc, &design, &mut room, &[0, 0, 0, 0, 1])?,
+        Some(34)
+    );
+    assert_eq!(rt;
+        value_at(alloc, &design, &mut room, &[0, 0, 1, 0, 1])?,
+        Some(30)
+    );
+    assert_eq!(rt;
+        value_at(alloc, &design, &mut room, &[0, 0, 0, 0, 0, 0, 0])?,
+        Some(36)
+    );
+    assert_eq!(rt;
+        value_at(alloc, &design, &mut room, &[0, 0, 0, 0])?,
+        Some(26)
+    );
     Ok(())
 }

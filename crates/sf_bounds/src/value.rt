@@ -3,10 +3,11 @@ ghost use Rattle.sf_node.specs.Children.{IsSubproblem};
 ghost use Rattle.sf_standard.specs.Standard.{open_value, standard};
 ghost use Rattle.sf_frames.specs.Groups.{IsNeededOrNone};
 ghost use Rattle.sf_frames.specs.Measured.{IsMeasured};
-ghost use Rattle.sf_bounds.specs.Open.{IsWireCost};
+ghost use Rattle.sf_bounds.specs.Open.{IsWireCost, IsWirePart};
 
 use crate::area::area_part;
 use crate::groups::group_curves;
+use crate::net_frames::NetFrames;
 use crate::scratch::Scratch;
 use crate::solved::least_by_area;
 use crate::wires::wire_part;
@@ -77,29 +78,61 @@ fn needed_area(
     }
 }
 
+// What the wires take at least: by the rows of the path where each span is whole, else anew.
+fn wires_of(
+    nets: &mut NetFrames,
+    scratch: &mut Scratch,
+    design: &Design,
+    node: &Node,
+) -> Result<u64, NoMemory>
+    requires subproblem { IsSubproblem design.now node.now }
+    requires serves { nets.old ≡ design.now }
+    ensures wires { IfOk result (IsWirePart design.now node.now) }
+    ensures serves { nets.new ≡ design.now }
+{
+    if node.steps().len() == node.tokens().len() {
+        let measured = nets.measure(&mut scratch.layout, &mut scratch.reaches, node)?;
+        if let Some(wires) = measured {
+            return Ok(wires);
+        }
+    }
+    let wires = wire_part(&mut scratch.layout, &mut scratch.reaches, design, node)?;
+    Ok(wires)
+}
+
 // What the wires cost at least. They are not looked at where they have no weight.
-fn wire_cost(scratch: &mut Scratch, design: &Design, node: &Node) -> Result<u64, NoMemory>
-    requires { IsSubproblem design.now node.now }
-    ensures { IfOk result (IsWireCost design.now node.now) }
+fn wire_cost(
+    nets: &mut NetFrames,
+    scratch: &mut Scratch,
+    design: &Design,
+    node: &Node,
+) -> Result<u64, NoMemory>
+    requires subproblem { IsSubproblem design.now node.now }
+    requires serves { nets.old ≡ design.now }
+    ensures cost { IfOk result (IsWireCost design.now node.now) }
+    ensures serves { nets.new ≡ design.now }
 {
     if design.weights.wire == 0 {
         return Ok(0);
     }
-    let wires = wire_part(&mut scratch.layout, &mut scratch.reaches, design, node)?;
+    let wires = wires_of(nets, scratch, design, node)?;
     Ok(u64::from(design.weights.wire) * wires)
 }
 
 // The value from the area that is needed and the wires.
 fn open_value(
     frames: &mut Frames,
+    nets: &mut NetFrames,
     scratch: &mut Scratch,
     design: &Design,
     node: &Node,
 ) -> Result<u64, NoMemory>
     requires subproblem { IsSubproblem design.now node.now }
     requires serves { frames.old ≡ design.now }
+    requires serves_nets { nets.old ≡ design.now }
     ensures value { IfOk result (λ v. v ≡ open_value design.now node.now) }
     ensures serves { frames.new ≡ design.now }
+    ensures serves_nets { nets.new ≡ design.now }
 {
     let Some(needed) = needed_area(frames, scratch, design, node)? else {
         return Ok(MAX);
@@ -107,7 +140,7 @@ fn open_value(
     if needed > u64::from(design.outline.w) * u64::from(design.outline.h) {
         return Ok(MAX);
     }
-    let wires = wire_cost(scratch, design, node)?;
+    let wires = wire_cost(nets, scratch, design, node)?;
     Ok(u64::from(design.weights.area) * needed + wires)
 }
 
@@ -115,18 +148,21 @@ fn open_value(
 /// one: with single spans both have one value.
 pub fn standard_value(
     frames: &mut Frames,
+    nets: &mut NetFrames,
     scratch: &mut Scratch,
     design: &Design,
     node: &Node,
 ) -> Result<u64, NoMemory>
     requires subproblem { IsSubproblem design.now node.now }
     requires serves { frames.old ≡ design.now }
+    requires serves_nets { nets.old ≡ design.now }
     ensures value { IfOk result (λ v. v ≡ standard design.now node.now) }
     ensures serves { frames.new ≡ design.now }
+    ensures serves_nets { nets.new ≡ design.now }
 {
     if design.weights.wire == 0 && node.is_complete() {
         return least_by_area(frames, scratch, design, node);
     }
     single_spans_are_open();
-    open_value(frames, scratch, design, node)
+    open_value(frames, nets, scratch, design, node)
 }

@@ -14,8 +14,8 @@ use sf_model::{Design, Net};
 use sf_node::Node;
 use std::alloc::AllocError as NoMemory;
 
-// Lays a subproblem out.
-fn fill_layout(layout: &mut Layout, design: &Design, node: &Node) -> Result<(), NoMemory>
+/// Lays a subproblem out.
+pub fn fill_layout(layout: &mut Layout, design: &Design, node: &Node) -> Result<(), NoMemory>
     requires { IsSubproblem design.now node.now }
     ensures { OnOk result (IsLayout design.now node.now layout.new) }
 {
@@ -30,8 +30,8 @@ fn fill_layout(layout: &mut Layout, design: &Design, node: &Node) -> Result<(), 
     fill_table(&mut layout.table, &layout.extents, &layout.seats, design)
 }
 
-// Makes the list long enough for the items.
-fn fill_reaches(reaches: &mut Vec<Reach>, items: usize) -> Result<(), NoMemory>
+/// Makes the list long enough for the items.
+pub fn fill_reaches(reaches: &mut Vec<Reach>, items: usize) -> Result<(), NoMemory>
     requires { items < 2 ^ 63 }
     ensures { OnOk result (items ≤ length reaches.new.items) }
 {
@@ -41,8 +41,14 @@ fn fill_reaches(reaches: &mut Vec<Reach>, items: usize) -> Result<(), NoMemory>
     Ok(())
 }
 
-// What the wire of a net is at least. In a complete subproblem all pins lie in the one item.
-fn net_part(reaches: &mut [Reach], design: &Design, node: &Node, layout: &Layout, net: &Net) -> u64
+/// What the wire of a net is at least. In a complete subproblem all pins lie in the one item.
+pub fn net_part(
+    reaches: &mut [Reach],
+    design: &Design,
+    node: &Node,
+    layout: &Layout,
+    net: &Net,
+) -> u64
     requires subproblem { IsSubproblem design.now node.now }
     requires layout { IsLayout design.now node.now layout.now }
     requires inside { IsNet design.now net.now.pins }

@@ -62,12 +62,12 @@ two-for : (n : ℕ) (d : Direction) (depth : ℕ) (rest : List Token) → Runs n
 two-for n Beside depth rest r = r.0
 two-for n Above depth rest r = r.0
 
-two-at : (design : Design) (node : Parts) (k : ℕ) (d : Direction) → IsSubproblem design node → IsNext node.tokens k (token_in d) → 2 ≤ length (items_at node.tokens k)
+pub two-at : (design : Design) (node : Parts) (k : ℕ) (d : Direction) → IsSubproblem design node → IsNext node.tokens k (token_in d) → 2 ≤ length (items_at node.tokens k)
 two-at design node k d sub next =
     two-for (length design.blocks) d (length (items_at node.tokens k)) (drop (k + 1) node.tokens)
     (subst (λ t. Runs (length design.blocks) (length (items_at node.tokens k)) (t ∷ drop (k + 1) node.tokens)) next.token_is (runs-at design node k sub next.more))
 
-none-first : (tokens : List Token) (k : ℕ) → 1 ≤ length (items_at tokens k) → 1 ≤ k
+pub none-first : (tokens : List Token) (k : ℕ) → 1 ≤ length (items_at tokens k) → 1 ≤ k
 none-first tokens zero h = absurd (omega (arith, h))
 none-first tokens (suc k) h = omega arith
 

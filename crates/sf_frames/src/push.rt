@@ -7,7 +7,7 @@ ghost use Rattle.sf_frames.specs.Direction.{token_in, size_in};
 ghost use Rattle.sf_frames.specs.Kept.{IsStored, IsNext};
 ghost use Rattle.std.specs.Prelude.{slice_range};
 
-use crate::direction::Direction;
+use crate::direction::{Direction, operator};
 use crate::frame::{Frame, Kept};
 use crate::least::least_of;
 use crate::sums::joined;
@@ -120,15 +120,6 @@ fn push_joined(
         sums,
     })?;
     Ok(true)
-}
-
-fn operator(direction: Direction) -> Token
-    ensures { result ≡ token_in direction }
-{
-    match direction {
-        Direction::Beside => Token::Beside,
-        Direction::Above => Token::Above,
-    }
 }
 
 /// The frame of the next token. Or none, where there would be too many points.

@@ -127,7 +127,7 @@ no-gap (pos n) h = omega (arith, ints, h)
 no-gap (negsuc n) h = refl
 
 -- a lone block has no hull
-lone-hull : (design : Design) (node : Parts) (b : ℕ) (pins : List Pin) → hull_of design (λ k. extent_of (span_shapes design node k)) false pins (item.Block b) ≡ 0
+pub lone-hull : (design : Design) (node : Parts) (b : ℕ) (pins : List Pin) → hull_of design (λ k. extent_of (span_shapes design node k)) false pins (item.Block b) ≡ 0
 lone-hull design node b pins =
     let e = extent_of (span_shapes design node b) in
     let k = extent-ordered (span_shapes design node b) in
@@ -137,7 +137,7 @@ lone-hull design node b pins =
       | false ↦ refl
     ]
 
-sum_by-same : {X : Type 0} (f g : X → ℕ) → ((x : X) → f x ≡ g x) → (xs : List X) → sum_by f xs ≡ sum_by g xs
+pub sum_by-same : {X : Type 0} (f g : X → ℕ) → ((x : X) → f x ≡ g x) → (xs : List X) → sum_by f xs ≡ sum_by g xs
 sum_by-same f g h [] = refl
 sum_by-same f g h (x ∷ xs) = omega (arith, sum_by-cons f x xs, sum_by-cons g x xs, h x, sum_by-same f g h xs)
 

@@ -1,0 +1,285 @@
+-- The frame of one token more.
+use Rattle.std.proofs.Common.{◌≡◌, ℕ, zero, suc, ◌+◌, ◌-◌, ◌*◌, ◌<◌, ◌≤◌, max, List, [], ◌∷◌, ◌++◌, length, take, drop, map, get_or, refl, sym, ap, ◌∙◌, subst, inl, inr, arith, length-append, All, true, false}
+use Rattle.std.specs.Prelude.{sum_by, cond}
+use Rattle.std.specs.List.{range_with_len}
+use Rattle.std.proofs.lemmas.List.{get_or-append_right, get_or-take, length-take-le, length-map}
+use Rattle.std.proofs.lemmas.List.FromFn.{length-map-range_with_len, get_or-map-range_with_len}
+use Rattle.std.proofs.lemmas.List.Sums.{sum_by-cons}
+use Rattle.sf_model.specs.declared.design.Design.{Design}
+use Rattle.sf_model.specs.declared.parts.Net.{Net}
+use Rattle.sf_model.specs.declared.parts.Pin.{Pin}
+use Rattle.sf_polish.specs.declared.expr.Token.{Token}
+use Rattle.sf_polish.specs.declared.expr.Token.TheVariants as token
+use Rattle.sf_polish.proofs.Normality.{numbers}
+use Rattle.sf_node.specs.Parts.{Parts}
+use Rattle.sf_node.specs.Subproblem.{root}
+use Rattle.sf_node.specs.Children.{IsSubproblem}
+use Rattle.sf_standard.specs.declared.hull.Extent.{Extent}
+use Rattle.sf_standard.specs.Items as item
+use Rattle.sf_standard.specs.Items.{Item, read}
+use Rattle.sf_standard.specs.Hull.{item_extent, offsets, moved_right, moved_up, hull_of, hull_part, range_part, pair_part}
+use Rattle.sf_standard.proofs.Unmoved.{lone-hull, sum_by-same}
+use Rattle.sf_frames.specs.Direction.{token_in, item_in}
+use Rattle.sf_frames.specs.declared.direction.Direction.{Direction}
+use Rattle.sf_frames.specs.declared.direction.Direction.TheVariants.{Beside, Above}
+use Rattle.sf_frames.specs.Kept.{items_at, IsNext}
+use Rattle.sf_frames.proofs.Topping.{items-block, items-joined, two-at, none-first, block-inside}
+use Rattle.sf_bounds.specs.declared.net_frame.BlockRow.{BlockRow}
+use Rattle.sf_bounds.specs.declared.net_frame.Cell.{Cell}
+use Rattle.sf_bounds.specs.declared.net_frame.NetFrame.{NetFrame}
+use Rattle.sf_bounds.specs.declared.net_frame.Wires.{Wires}
+use Rattle.sf_bounds.specs.declared.reach.Reach.{Reach}
+use Rattle.sf_bounds.specs.Near.{IsNearby, anywhere, reach_gap}
+use Rattle.sf_bounds.specs.Layout.{joined_extent, IsModestExtent}
+use Rattle.sf_bounds.specs.Rows.{counted, pins_at, whole_extent, row, part, pushed_reach, joined_reach, cell_at, joined_cell, part_of, IsFitCell, IsRow, AreWires, AreBlockRows, first_end, IsStart, IsNetFrame, AreNetFrames, AreStored, AreTop}
+use Rattle.sf_bounds.proofs.Laid.{few-numbers}
+use Rattle.sf_bounds.proofs.NetKept.{stored-appended, frame-pushed}
+use Rattle.sf_bounds.proofs.RowLaws.{row-near, row-hull, row-joined, pushed-near}
+use Rattle.sf_bounds.proofs.Small.{IsSmallExtent, span-small, item-small}
+
+pub whole-small : (design : Design) (b : ℕ) → IsSmallExtent 1048576 (whole_extent design b)
+whole-small design b = span-small design (root design) b
+
+-- how many blocks stand in the items
+abbrev blocks_in : (ℕ → Extent) → List Item → ℕ
+blocks_in extent [] = 0
+blocks_in extent (i ∷ is) = length (offsets extent i) + blocks_in extent is
+
+module _ (extent : ℕ → Extent) where
+  joined-length : (d : Direction) (l r : Item) → length (offsets extent (item_in d l r)) ≡ length (offsets extent l) + length (offsets extent r)
+  joined-length Beside l r = length-append (offsets extent l) (map (moved_right (item_extent extent l)) (offsets extent r)) ∙ ap (λ n. length (offsets extent l) + n) (length-map (offsets extent r) (moved_right (item_extent extent l)))
+  joined-length Above l r = length-append (offsets extent l) (map (moved_up (item_extent extent l)) (offsets extent r)) ∙ ap (λ n. length (offsets extent l) + n) (length-map (offsets extent r) (moved_up (item_extent extent l)))
+
+  read-few : (items : List Item) (xs : List Token) → blocks_in extent (read items xs) ≤ blocks_in extent items + length (numbers xs)
+  read-few items [] = omega arith
+  read-few [] (token.Block b ∷ xs) = omega (arith, read-few (item.Block b ∷ []) xs)
+  read-few (i ∷ items) (token.Block b ∷ xs) = omega (arith, read-few (item.Block b ∷ i ∷ items) xs)
+  read-few [] (token.Beside ∷ xs) = read-few [] xs
+  read-few (i ∷ []) (token.Beside ∷ xs) = read-few (i ∷ []) xs
+  read-few (r ∷ l ∷ items) (token.Beside ∷ xs) = omega (arith, read-few (item.Beside l r ∷ items) xs, joined-length Beside l r)
+  read-few [] (token.Above ∷ xs) = read-few [] xs
+  read-few (i ∷ []) (token.Above ∷ xs) = read-few (i ∷ []) xs
+  read-few (r ∷ l ∷ items) (token.Above ∷ xs) = omega (arith, read-few (item.Above l r ∷ items) xs, joined-length Above l r)
+
+-- no item of a subproblem has more blocks than a design
+pub item-few : (design : Design) (node : Parts) (k : ℕ) (i : Item) (rest : List Item) → IsSubproblem design node → items_at node.tokens k ≡ i ∷ rest → length (offsets (whole_extent design) i) ≤ 320
+item-few design node k i rest sub e =
+    omega (arith, ap (blocks_in (whole_extent design)) e, read-few (whole_extent design) [] (take k node.tokens), few-numbers design node k sub)
+
+-- no gap comes with a block
+pub part-block : (design : Design) (b : ℕ) (items : List Item) (pins : List Pin) → part design (whole_extent design) (item.Block b ∷ items) pins ≡ part design (whole_extent design) items pins
+part-block design b items pins = omega (arith, lone-hull design (root design) b pins)
+
+pub part-more : (design : Design) (i : Item) (items : List Item) (pins : List Pin) → length (offsets (whole_extent design) i) ≤ 320 → part design (whole_extent design) (i ∷ items) pins ≡ max (part design (whole_extent design) items pins) (reach_gap (row (whole_extent design) i pins))
+part-more design i items pins few = omega (arith, row-hull (whole_extent design) (whole-small design) design i pins few)
+
+-- sums of what is told cell by cell
+sums-agree : (f : ℕ → Cell) (g : Net → ℕ) (nets : List Net) (a : ℕ) → ((j : ℕ) → j < length nets → (f (a + j)).part ≡ g (get_or nets j (record { pins = [] }))) → sum_by part_of (map f (range_with_len a (length nets))) ≡ sum_by g nets
+sums-agree f g [] a h = refl
+sums-agree f g (n ∷ nets) a h =
+    let zero_a : a + 0 ≡ a = omega arith in
+    let here : (f a).part ≡ g n = ap (λ (v : ℕ). (f v).part) (sym zero_a) ∙ h 0 (omega arith) in
+    let later : sum_by part_of (map f (range_with_len (a + 1) (length nets))) ≡ sum_by g nets =
+    sums-agree f g nets (a + 1) (λ j lt. (let e : a + 1 + j ≡ a + suc j = omega arith in ap (λ (v : ℕ). (f v).part) e ∙ h (suc j) (omega arith))) in
+    omega (arith, here, later, sum_by-cons part_of (f a) (map f (range_with_len (a + 1) (length nets))), sum_by-cons g n nets)
+
+-- the wires after a token that adds no gap
+wires-same : (design : Design) (cells : List Cell) (items others : List Item) (w : Wires) → ((pins : List Pin) → part design (whole_extent design) others pins ≡ part design (whole_extent design) items pins) → AreWires design cells items w → AreWires design cells others w
+wires-same design cells items others w same m = record {
+  inside = m.inside;
+  each = λ j lt. m.each j lt ∙ sym (same (pins_at design j));
+  total = m.total ∙ sym (sum_by-same (λ net. part design (whole_extent design) others (counted net.pins)) (λ net. part design (whole_extent design) items (counted net.pins)) (λ net. same (counted net.pins)) design.nets);
+  small = m.small;
+}
+
+-- the row of a block is there
+block-row : (design : Design) (cells : List Cell) (blocks : List BlockRow) (start : Wires) (b : ℕ) (d : BlockRow) → IsStart design cells blocks start → b < length design.blocks → IsRow design cells (item.Block b) (get_or blocks b d).row
+block-row design cells blocks start b d m lt =
+    let r = m.rows.rows b d lt in
+    let n = length-take-le start.at cells (omega (arith, m.wires.inside)) in
+    record {
+      inside = omega (arith, r.inside, n, m.wires.inside);
+      each = λ j lj. ap (λ c. c.reach) (sym (get_or-take start.at cells ((get_or blocks b d).row + j) (record { reach = anywhere; part = 0 }) (omega (arith, lj, r.inside, n)))) ∙ r.each j lj;
+    }
+
+abbrev pub block_frame : ℕ → ℕ → BlockRow → Wires → ℕ → NetFrame
+block_frame b below x w end = record { token = token.Block b; extent = x.extent; below = below; row = x.row; wires = w; end = end }
+
+-- the frame of a block
+pub block-pushed : (design : Design) (node : Parts) (cells : List Cell) (blocks : List BlockRow) (start : Wires) (frames new : List NetFrame) (b : ℕ) (x d : BlockRow) (w : Wires) (below end : ℕ) → IsSubproblem design node → AreStored design node.tokens cells blocks start frames → IsNext node.tokens (length frames) (token.Block b)
+    → x ≡ get_or blocks b d → AreWires design cells (items_at node.tokens (length frames)) w → below ≡ length frames → end ≡ length cells → new ≡ frames ++ block_frame b below x w end ∷ [] → AreStored design node.tokens cells blocks start new
+block-pushed design node cells blocks start frames new b x d w below end sub m next is_x wires is_below is_end is_new =
+    let lt = block-inside design node (length frames) b sub next in
+    let f = block_frame b below x w end in
+    let row : IsRow design cells (item.Block b) x.row = subst (λ v. IsRow design cells (item.Block b) v.row) (sym is_x) (block-row design cells blocks start b d m.start_is lt) in
+    let is : IsNetFrame design node.tokens cells (first_end design start) (length frames + 1) f = record {
+      item = item.Block b;
+      top = items-block node.tokens (length frames) b next ∙ ap (λ (v : ℕ). item.Block b ∷ items_at node.tokens v) (sym is_below);
+      fewer = omega (arith, is_below);
+      extent = ap (λ v. v.extent) is_x ∙ m.start_is.rows.extents b d lt;
+      row = row;
+      wires = wires-same design cells (items_at node.tokens (length frames)) (items_at node.tokens (length frames + 1)) w
+          (λ pins. ap (λ v. part design (whole_extent design) v pins) (items-block node.tokens (length frames) b next) ∙ part-block design b (items_at node.tokens (length frames)) pins) wires;
+      row_end = omega (arith, row.inside, is_end);
+      wires_end = omega (arith, wires.inside, is_end);
+      after = omega (arith, m.start_is.wires.inside, is_end);
+      end = omega (arith, is_end);
+    } in
+    subst (AreStored design node.tokens cells blocks start) (sym is_new) (frame-pushed design node.tokens cells blocks start frames f m next is is_end)
+
+-- the frames of both items on top are there
+pub record AreThere (frames : List NetFrame) (d : NetFrame) : Type 0 where
+  pub some : 1 ≤ length frames
+  pub under : 1 ≤ (get_or frames (length frames - 1) d).below
+  pub fewer : (get_or frames (length frames - 1) d).below ≤ length frames
+
+module _ (design : Design) (node : Parts) (cells : List Cell) (blocks : List BlockRow) (start : Wires) (frames : List NetFrame) (way : Direction) (sub : IsSubproblem design node) (m : AreStored design node.tokens cells blocks start frames) (next : IsNext node.tokens (length frames) (token_in way)) where
+  pub some-frame : 1 ≤ length frames
+  some-frame = none-first node.tokens (length frames) (omega (arith, two-at design node (length frames) way sub next))
+
+  right-at : (d : NetFrame) → IsNetFrame design node.tokens cells (first_end design start) (length frames) (get_or frames (length frames - 1) d)
+  right-at d =
+      let r = get_or frames (length frames - 1) d in
+      let k : length frames - 1 + 1 ≡ length frames = omega (arith, some-frame) in
+      subst (λ v. IsNetFrame design node.tokens cells (first_end design start) v r) k (m.frames_are.each (length frames - 1) d (omega (arith, some-frame)))
+
+  pub there : (d : NetFrame) → AreThere frames d
+  there d =
+      let r = right-at d in
+      let two = two-at design node (length frames) way sub next in
+      record {
+        some = some-frame;
+        under = none-first node.tokens (get_or frames (length frames - 1) d).below (omega (arith, two, ap length r.top));
+        fewer = omega (arith, r.fewer);
+      }
+
+  pub top-at : (d e : NetFrame) → AreTop design node.tokens cells start frames (get_or frames ((get_or frames (length frames - 1) d).below - 1) e) (get_or frames (length frames - 1) d)
+  top-at d e =
+      let r = get_or frames (length frames - 1) d in
+      let l = get_or frames (r.below - 1) e in
+      let t = there d in
+      let k : r.below - 1 + 1 ≡ r.below = omega (arith, t.under) in
+      record {
+        right = right-at d;
+        left = subst (λ v. IsNetFrame design node.tokens cells (first_end design start) v l) k (m.frames_are.each (r.below - 1) e (omega (arith, t.under, t.fewer)));
+      }
+
+  right-same : (i : ℕ) (r : NetFrame) → i ≡ length frames - 1 → r ≡ get_or frames i r → get_or frames (length frames - 1) r ≡ r
+  right-same i r e is = sym (is ∙ ap (λ (v : ℕ). get_or frames v r) e)
+
+  pub top-right : (i : ℕ) (r : NetFrame) → i ≡ length frames - 1 → r ≡ get_or frames i r → (1 ≤ r.below) × (r.below ≤ length frames)
+  top-right i r e is =
+      let t = there r in
+      let b = ap (λ v. v.below) (right-same i r e is) in
+      (omega (arith, b, t.under), omega (arith, b, t.fewer))
+
+  pub top-both : (i : ℕ) (r : NetFrame) → i ≡ length frames - 1 → r ≡ get_or frames i r → (l : NetFrame) → l ≡ get_or frames (r.below - 1) l → AreTop design node.tokens cells start frames l r
+  top-both i r e is l is_l =
+      subst (λ v. AreTop design node.tokens cells start frames v r) (sym is_l)
+      (subst (λ v. AreTop design node.tokens cells start frames (get_or frames (v.below - 1) l) v) (right-same i r e is) (top-at r l))
+
+  -- the wires after the tokens under both
+  pub wires-at : (count : ℕ) (d : NetFrame) → count ≤ length frames → 0 < count → AreWires design cells (items_at node.tokens count) (get_or frames (count - 1) d).wires
+  wires-at count d le some =
+      let k : count - 1 + 1 ≡ count = omega (arith, some) in
+      subst (λ v. AreWires design cells (items_at node.tokens v) (get_or frames (count - 1) d).wires) k (m.frames_are.each (count - 1) d (omega (arith, le, some))).wires
+
+-- what is joined
+module _ (design : Design) (node : Parts) (cells : List Cell) (blocks : List BlockRow) (start : Wires) (frames : List NetFrame) (d : Direction) (l r : NetFrame) (sub : IsSubproblem design node) (m : AreStored design node.tokens cells blocks start frames) (next : IsNext node.tokens (length frames) (token_in d)) (t : AreTop design node.tokens cells start frames l r) where
+  abbrev L : Item
+  L = t.left.item
+
+  abbrev R : Item
+  R = t.right.item
+
+  abbrev rest : List Item
+  rest = items_at node.tokens l.below
+
+  now : items_at node.tokens (length frames + 1) ≡ item_in d L R ∷ rest
+  now = items-joined node.tokens (length frames) d L R rest next (t.right.top ∙ ap (λ v. R ∷ v) t.left.top)
+
+  few : length (offsets (whole_extent design) (item_in d L R)) ≤ 320
+  few = item-few design node (length frames + 1) (item_in d L R) rest sub now
+
+  few-left : length (offsets (whole_extent design) L) ≤ 320
+  few-left = omega (arith, few, joined-length (whole_extent design) d L R)
+
+  few-right : length (offsets (whole_extent design) R) ≤ 320
+  few-right = omega (arith, few, joined-length (whole_extent design) d L R)
+
+  modest : (i : Item) (e : Extent) → e ≡ item_extent (whole_extent design) i → length (offsets (whole_extent design) i) ≤ 320 → IsModestExtent e
+  modest i e is n =
+      let s = item-small (whole_extent design) (whole-small design) i in
+      subst IsModestExtent (sym is) record { least_w = omega (arith, s.least_w, n); most_w = omega (arith, s.most_w, n); least_h = omega (arith, s.least_h, n); most_h = omega (arith, s.most_h, n) }
+
+  pub modest-left : IsModestExtent l.extent
+  modest-left = modest L l.extent t.left.extent few-left
+
+  pub modest-right : IsModestExtent r.extent
+  modest-right = modest R r.extent t.right.extent few-right
+
+  pub pushed-fits : (j : ℕ) → j < length design.nets → IsNearby (pushed_reach d l.extent (cell_at cells (r.row + j)).reach)
+  pushed-fits j lt =
+      subst (λ v. IsNearby (pushed_reach d v (cell_at cells (r.row + j)).reach)) (sym t.left.extent)
+      (subst (λ v. IsNearby (pushed_reach d (item_extent (whole_extent design) L) v)) (sym (t.right.row.each j lt))
+      (pushed-near (whole_extent design) (whole-small design) L R (pins_at design j) d few))
+
+  joined-sides : (d : Direction) → joined_extent d (item_extent (whole_extent design) L) (item_extent (whole_extent design) R) ≡ item_extent (whole_extent design) (item_in d L R)
+  joined-sides Beside = refl
+  joined-sides Above = refl
+
+  module _ (under : Wires) (wires : AreWires design cells rest under) where
+    abbrev cell : ℕ → Cell
+    cell = joined_cell cells d l.extent l.row r.row under.at
+
+    reach-is : (j : ℕ) → j < length design.nets → (cell j).reach ≡ row (whole_extent design) (item_in d L R) (pins_at design j)
+    reach-is j lt =
+        ap (λ v. joined_reach d v (cell_at cells (l.row + j)).reach (cell_at cells (r.row + j)).reach) t.left.extent
+        ∙ ap (λ v. joined_reach d (item_extent (whole_extent design) L) v (cell_at cells (r.row + j)).reach) (t.left.row.each j lt)
+        ∙ ap (joined_reach d (item_extent (whole_extent design) L) (row (whole_extent design) L (pins_at design j))) (t.right.row.each j lt)
+        ∙ sym (row-joined (whole_extent design) (whole-small design) L R (pins_at design j) d few)
+
+    part-is : (j : ℕ) → j < length design.nets → (cell j).part ≡ part design (whole_extent design) (item_in d L R ∷ rest) (pins_at design j)
+    part-is j lt =
+        ap (λ v. max v (reach_gap (cell j).reach)) (wires.each j lt)
+        ∙ ap (λ v. max (part design (whole_extent design) rest (pins_at design j)) (reach_gap v)) (reach-is j lt)
+        ∙ sym (part-more design (item_in d L R) rest (pins_at design j) few)
+
+    abbrev made : List Cell
+    made = map cell (range_with_len 0 (length design.nets))
+
+    cell-is : (j : ℕ) → j < length design.nets → cell_at (cells ++ made) (length cells + j) ≡ cell j
+    cell-is j lt =
+        get_or-append_right cells made (length cells) (length cells + j) (record { reach = anywhere; part = 0 }) refl (omega arith)
+        ∙ (let e : length cells + j - length cells ≡ j = omega arith in ap (cell_at made) e)
+        ∙ get_or-map-range_with_len cell 0 (length design.nets) j j (record { reach = anywhere; part = 0 }) lt (omega arith)
+
+    -- the frame of the operator
+    pub joined-pushed : (all : List Cell) (new : List NetFrame) (f : NetFrame) → All IsFitCell all → all ≡ cells ++ made → f.token ≡ token_in d → f.extent ≡ joined_extent d l.extent r.extent → f.below ≡ l.below → f.row ≡ length cells → f.wires.at ≡ length cells → f.wires.sum ≡ sum_by part_of made → f.wires.sum ≤ 2800000000 * length design.nets → f.end ≡ length all → new ≡ frames ++ f ∷ [] → AreStored design node.tokens all blocks start new
+    joined-pushed all new f fit is_all is_token is_extent is_below is_row is_at is_sum small is_end is_new =
+        let count : length (cells ++ made) ≡ length cells + length design.nets = omega (arith, length-append cells made, length-map-range_with_len cell 0 (length design.nets)) in
+        let whole = cells ++ made in
+        let old : AreStored design node.tokens whole blocks start frames = stored-appended design node.tokens cells made blocks start frames m (subst (All IsFitCell) is_all fit) in
+        let end : f.end ≡ length whole = is_end ∙ ap length is_all in
+        let at_row : (j : ℕ) → j < length design.nets → cell_at whole (f.row + j) ≡ cell j = λ j lt. ap (λ (v : ℕ). cell_at whole (v + j)) is_row ∙ cell-is j lt in
+        let at_part : (j : ℕ) → j < length design.nets → cell_at whole (f.wires.at + j) ≡ cell j = λ j lt. ap (λ (v : ℕ). cell_at whole (v + j)) is_at ∙ cell-is j lt in
+        let is : IsNetFrame design node.tokens whole (first_end design start) (length frames + 1) f = record {
+          item = item_in d L R;
+          top = now ∙ ap (λ (v : ℕ). item_in d L R ∷ items_at node.tokens v) (sym is_below);
+          fewer = omega (arith, is_below, t.left.fewer, t.right.fewer);
+          extent = is_extent ∙ ap (λ v. joined_extent d v r.extent) t.left.extent ∙ ap (joined_extent d (item_extent (whole_extent design) L)) t.right.extent ∙ joined-sides d;
+          row = record { inside = omega (arith, is_row, count); each = λ j lt. ap (λ c. c.reach) (at_row j lt) ∙ reach-is j lt };
+          wires = subst (λ v. AreWires design whole v f.wires) (sym now) record {
+            inside = omega (arith, is_at, count);
+            each = λ j lt. ap (λ c. c.part) (at_part j lt) ∙ part-is j lt;
+            total = is_sum ∙ sums-agree cell (λ net. part design (whole_extent design) (item_in d L R ∷ rest) (counted net.pins)) design.nets 0 (λ j lt. (let e : 0 + j ≡ j = omega arith in ap (λ (v : ℕ). (cell v).part) e ∙ part-is j lt));
+            small = small;
+          };
+          row_end = omega (arith, is_row, count, end);
+          wires_end = omega (arith, is_at, count, end);
+          after = omega (arith, old.start_is.wires.inside, end);
+          end = omega (arith, end);
+        } in
+        subst (λ v. AreStored design node.tokens v blocks start new) (sym is_all)
+        (subst (AreStored design node.tokens whole blocks start) (sym is_new)
+        (frame-pushed design node.tokens whole blocks start frames f old (subst (IsNext node.tokens (length frames)) (sym is_token) next) is end))

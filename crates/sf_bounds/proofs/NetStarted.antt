@@ -1,0 +1,195 @@
+-- The rows of blocks, and what holds before any token.
+use Rattle.std.proofs.Common.{◌≡◌, ℕ, suc, ◌+◌, ◌-◌, ◌*◌, ◌<◌, ◌≤◌, max, List, [], ◌∷◌, ◌++◌, length, take, drop, map, get_or, refl, sym, ap, ◌∙◌, subst, inl, inr, arith, length-append, append_assoc, All, Bool, true, false}
+use Rattle.std.specs.Prelude.{fold, pos, ◌≤ℤ◌, nat_lt, sum_by, cond, if◌then◌else◌}
+use Rattle.std.specs.List.{AllByRecursion}
+use Rattle.std.proofs.lemmas.Int.{ints, clamps}
+use Rattle.std.proofs.lemmas.Bool.{cases_lt, cond_both}
+use Rattle.std.proofs.lemmas.List.{get_or-append_right, get_or_append_left, get_or_push, get_or-map, length_push, length-map, take_all, take-append-le, take_more, map-append}
+use Rattle.std.proofs.lemmas.List.Elements.{All-append, All-from_recursion, recursion_from_All}
+use Rattle.sf_model.specs.declared.design.Design.{Design}
+use Rattle.sf_model.specs.declared.parts.Net.{Net}
+use Rattle.sf_model.specs.declared.parts.Pin.{Pin}
+use Rattle.sf_model.specs.declared.parts.Pin.TheVariants as pin
+use Rattle.sf_model.specs.Legal.{block_count}
+use Rattle.sf_model.specs.Limits.{pin_number, pin_count}
+use Rattle.sf_model.proofs.Each.{each-map}
+use Rattle.sf_node.specs.Subproblem.{root}
+use Rattle.sf_node.specs.Parts.{Parts}
+use Rattle.sf_standard.specs.declared.hull.Extent.{Extent}
+use Rattle.sf_standard.specs.declared.hull.Interval.{Interval}
+use Rattle.sf_standard.specs.declared.hull.Offset.{Offset}
+use Rattle.sf_standard.specs.Items as item
+use Rattle.sf_standard.specs.Items.{Item, items_of}
+use Rattle.sf_standard.specs.Hull.{gap, hull_of, offsets, offset_x, offset_y, contains_pin, of_pins, range_part, pair_part, hull_part, pads_x, pads_y}
+use Rattle.sf_standard.specs.Standard.{net_part, pins_part}
+use Rattle.sf_standard.proofs.Unmoved.{sum_by-same}
+use Rattle.sf_bounds.specs.declared.net_frame.BlockRow.{BlockRow}
+use Rattle.sf_bounds.specs.declared.net_frame.Cell.{Cell}
+use Rattle.sf_bounds.specs.declared.net_frame.Wires.{Wires}
+use Rattle.sf_bounds.specs.declared.reach.Reach.{Reach}
+use Rattle.sf_bounds.specs.Near.{IsNear, IsNearby, shared, met, endless, anywhere}
+use Rattle.sf_bounds.specs.Layout.{extent_in}
+use Rattle.sf_bounds.specs.Pins.{IsNet, pad_reach}
+use Rattle.sf_bounds.specs.Rows.{counted, pins_at, whole_extent, row, with_pad, pads_share, part, own_reach, cell_at, block_cell, start_cell, IsFitCell, IsRow, AreWires, AreBlockRows, IsStart, AreNetFrames, AreStored}
+use Rattle.sf_bounds.proofs.NetKept.{row-moves}
+use Rattle.sf_bounds.proofs.NetPushed.{whole-small}
+use Rattle.sf_bounds.proofs.Reading.{near_pad, near_met, near_anywhere}
+use Rattle.sf_bounds.proofs.RowLaws.{row-near, homes-x, homes-y}
+use Rattle.sf_bounds.proofs.Shares.{interval, IsHome, home-near, first-home}
+
+-- what the own pins of a block share
+own-is : (design : Design) (b : ℕ) (pins : List Pin) → own_reach pins b (whole_extent design b) ≡ row (whole_extent design) (item.Block b) pins
+own-is design b pins =
+    let ext = whole_extent design in
+    let e = whole_extent design b in
+    let o : Offset = record { block = b; least_x = 0; most_x = 0; least_y = 0; most_y = 0 } in
+    let few : length (offsets ext (item.Block b)) ≤ 320 = omega arith in
+    let x = (homes-x ext (whole-small design) (item.Block b) few).0 in
+    let y = (homes-y ext (whole-small design) (item.Block b) few).0 in
+    let ax : ◌≡◌ {A = Interval} (record { low = pos e.least_w; high = pos e.most_w }) (shared endless (offset_x ext o)) = interval _ _ _ _ (omega (arith, ints, clamps, x.low)) (omega (arith, ints, clamps, x.high_small)) in
+    let ay : ◌≡◌ {A = Interval} (record { low = pos e.least_h; high = pos e.most_h }) (shared endless (offset_y ext o)) = interval _ _ _ _ (omega (arith, ints, clamps, y.low)) (omega (arith, ints, clamps, y.high_small)) in
+    elim (contains_pin b pins) as (λ t. (if t then (let v : Reach = record { across = record { low = pos e.least_w; high = pos e.most_w }; upward = record { low = pos e.least_h; high = pos e.most_h } } in v) else anywhere)
+    ≡ (let os = if t then (o ∷ []) else [] in let v : Reach = record { across = fold shared endless (map (offset_x ext) os); upward = fold shared endless (map (offset_y ext) os) } in v)) [
+      | true ↦ ap (λ i. (let v : Reach = record { across = i; upward = record { low = pos e.least_h; high = pos e.most_h } } in v)) ax ∙ ap (λ i. (let v : Reach = record { across = shared endless (offset_x ext o); upward = i } in v)) ay
+      | false ↦ refl
+    ]
+
+no-net : Net
+no-net = record { pins = [] }
+
+-- the cells of a block's row
+block-cells : (design : Design) (cells : List Cell) (b : ℕ) → IsRow design (cells ++ map (block_cell b (whole_extent design b)) design.nets) (item.Block b) (length cells)
+block-cells design cells b =
+    let made = map (block_cell b (whole_extent design b)) design.nets in
+    let n = length-map design.nets (block_cell b (whole_extent design b)) in
+    record {
+      inside = omega (arith, length-append cells made, n);
+      each = λ j lt.
+          ap (λ c. c.reach) (get_or-append_right cells made (length cells) (length cells + j) (record { reach = anywhere; part = 0 }) refl (omega arith)
+          ∙ (let e : length cells + j - length cells ≡ j = omega arith in ap (cell_at made) e)
+          ∙ get_or-map (block_cell b (whole_extent design b)) design.nets j (record { pins = [] }) (record { reach = anywhere; part = 0 }) lt)
+          ∙ own-is design b (pins_at design j);
+    }
+
+block-fit : (design : Design) (b : ℕ) → All IsFitCell (map (block_cell b (whole_extent design b)) design.nets)
+block-fit design b = All-from_recursion IsFitCell (map (block_cell b (whole_extent design b)) design.nets) (each design.nets)
+  where
+    each : (nets : List Net) → AllByRecursion IsFitCell (map (block_cell b (whole_extent design b)) nets)
+    each [] = tt
+    each (n ∷ nets) = (record { near = subst IsNearby (sym (own-is design b (counted n.pins))) (row-near (whole_extent design) (whole-small design) (item.Block b) (counted n.pins) (omega arith)); small = omega arith }, each nets)
+
+-- one block more
+pub block-more : (design : Design) (b : ℕ) (cells all : List Cell) (blocks new : List BlockRow) (x : BlockRow) → AreBlockRows design b cells blocks → b < block_count design → x.extent ≡ whole_extent design b → x.row ≡ length cells → all ≡ cells ++ map (block_cell b x.extent) design.nets → new ≡ blocks ++ x ∷ [] → AreBlockRows design (b + 1) all new
+block-more design b cells all blocks new x m lt is_extent is_row is_all is_new =
+    let made = map (block_cell b (whole_extent design b)) design.nets in
+    let whole = cells ++ made in
+    let n = length_push blocks x in
+    let same : all ≡ whole = is_all ∙ ap (λ e. cells ++ map (block_cell b e) design.nets) is_extent in
+    subst (λ v. AreBlockRows design (b + 1) v new) (sym same) (subst (AreBlockRows design (b + 1) whole) (sym is_new) record {
+      count = omega (arith, n, m.count);
+      extents = λ i d li. elim (cases_lt i b) [
+        | inl before ↦ ap (λ v. v.extent) (get_or_append_left blocks (x ∷ []) d i (omega (arith, before, m.count))) ∙ m.extents i d before
+        | inr here ↦ (let e : b ≡ i = omega (arith, li, here) in
+            ap (λ v. v.extent) (get_or_push blocks x d i (omega (arith, m.count, e))) ∙ is_extent ∙ ap (whole_extent design) e)
+      ];
+      rows = λ i d li. elim (cases_lt i b) [
+        | inl before ↦ (let r = m.rows i d before in
+            subst (λ v. IsRow design whole (item.Block i) v.row) (sym (get_or_append_left blocks (x ∷ []) d i (omega (arith, before, m.count))))
+            (row-moves design cells whole (item.Block i) (get_or blocks i d).row (length cells) r r.inside (omega (arith, length-append cells made)) (λ k lk. get_or_append_left cells made (record { reach = anywhere; part = 0 }) k lk)))
+        | inr here ↦ (let e : b ≡ i = omega (arith, li, here) in
+            subst (λ v. IsRow design whole (item.Block i) v.row) (sym (get_or_push blocks x d i (omega (arith, m.count, e))))
+            (subst (λ (v : ℕ). IsRow design whole (item.Block v) x.row) e (subst (IsRow design whole (item.Block b)) (sym is_row) (block-cells design cells b))))
+      ];
+      fit = All-append IsFitCell cells made m.fit (block-fit design b);
+    })
+
+pub block-none : (design : Design) → AreBlockRows design 0 [] []
+block-none design = record { count = refl; extents = λ b d lt. absurd (omega (arith, lt)); rows = λ b d lt. absurd (omega (arith, lt)); fit = λ i d lt. absurd (omega (arith, lt)) }
+
+-- nothing comes from no pins
+none-of-none : (os : List Offset) → of_pins [] os ≡ []
+none-of-none [] = refl
+none-of-none (o ∷ os) = none-of-none os
+
+pub no-hull : (design : Design) (extent : ℕ → Extent) (complete : Bool) (i : Item) → hull_of design extent complete [] i ≡ 0
+no-hull design extent complete i =
+    ap (λ os. gap (map (offset_x extent) os ++ cond complete [] []) + gap (map (offset_y extent) os ++ cond complete [] [])) (none-of-none (offsets extent i))
+    ∙ (elim complete as (λ t. gap (cond t [] []) + gap (cond t [] []) ≡ 0) [ true ↦ refl | false ↦ refl ])
+
+pub no-hulls : (design : Design) (extent : ℕ → Extent) (complete : Bool) (items : List Item) → hull_part design extent complete items [] ≡ 0
+no-hulls design extent complete [] = refl
+no-hulls design extent complete (i ∷ items) = omega (arith, no-hull design extent complete i, no-hulls design extent complete items)
+
+-- the part of a net before any token is its part at the root
+pub start-part : (design : Design) (net : Net) → net_part design (root design) net ≡ part design (whole_extent design) [] (counted net.pins)
+start-part design net =
+    elim (nat_lt (length net.pins) 2) as (λ t. (if t then 0 else max (range_part design (whole_extent design) net.pins) (max (pair_part (whole_extent design) net.pins) 0)) ≡ part design (whole_extent design) [] (if t then [] else net.pins)) [
+      | true ↦ refl
+      | false ↦ refl
+    ]
+
+-- all that holds before any token
+pub started : (design : Design) (cells all : List Cell) (blocks : List BlockRow) (at sum : ℕ) → AreBlockRows design (block_count design) cells blocks → All IsFitCell all → at ≡ length cells → all ≡ cells ++ map (start_cell design) design.nets → sum ≡ sum_by (net_part design (root design)) design.nets → sum ≤ 2800000000 * length design.nets
+    → AreStored design [] all blocks (record { at = at; sum = sum }) []
+started design cells all blocks at sum m fit is_at is_all is_sum small =
+    let made = map (start_cell design) design.nets in
+    let n = length-map design.nets (start_cell design) in
+    let count = ap length is_all ∙ length-append cells made in
+    let cell : (j : ℕ) → j < length design.nets → cell_at all (at + j) ≡ start_cell design (get_or design.nets j (record { pins = [] })) = λ j lt.
+    ap (λ v. cell_at v (at + j)) is_all
+    ∙ get_or-append_right cells made at (at + j) (record { reach = anywhere; part = 0 }) (sym is_at) (omega arith)
+    ∙ (let e : at + j - at ≡ j = omega arith in ap (cell_at made) e)
+    ∙ get_or-map (start_cell design) design.nets j (record { pins = [] }) (record { reach = anywhere; part = 0 }) lt in
+    let firsts : take at all ≡ cells = ap (take at) is_all ∙ take-append-le at cells made (omega (arith, is_at)) ∙ take_all at cells (omega (arith, is_at)) in
+    record {
+      fit = fit;
+      start_is = record {
+        rows = subst (λ v. AreBlockRows design (block_count design) v blocks) (sym firsts) m;
+        pads = λ j lt. ap (λ c. c.reach) (cell j lt);
+        wires = record {
+          inside = omega (arith, is_at, count, n);
+          each = λ j lt. ap (λ c. c.part) (cell j lt) ∙ start-part design (get_or design.nets j (record { pins = [] }));
+          total = is_sum ∙ sum_by-same (net_part design (root design)) (λ net. part design (whole_extent design) [] (counted net.pins)) (start-part design) design.nets;
+          small = small;
+        };
+      };
+      frames_are = record { few = omega arith; are = refl; each = λ k d lt. absurd (omega (arith, lt)); ends = λ i j d lt lj. absurd (omega (arith, lj)) };
+    }
+
+-- pads are near
+abbrev pub IsThere : Design → Pin → Type 0
+IsThere design p = pin_number p < pin_count (length design.blocks) (length design.pads) p
+
+pub near-pads : (design : Design) (pins : List Pin) → AllByRecursion (IsThere design) pins → AllByRecursion IsNear (pads_x design pins) × AllByRecursion IsNear (pads_y design pins)
+near-pads design [] h = (tt, tt)
+near-pads design (pin.Block b ∷ pins) h = near-pads design pins h.1
+near-pads design (pin.Pad q ∷ pins) h =
+    let k = near-pads design pins h.1 in
+    let n = near_pad design q h.0 in
+    ((n.0, k.0), (n.1, k.1))
+
+with-pads : (design : Design) (r : Reach) (pins : List Pin) → IsNearby r → AllByRecursion (IsThere design) pins → IsNearby (fold (with_pad design) r pins)
+with-pads design r [] h k = h
+with-pads design r (pin.Block b ∷ pins) h k = with-pads design r pins h k.1
+with-pads design r (pin.Pad q ∷ pins) h k = with-pads design (met r (pad_reach design q)) pins (near_met r (pad_reach design q) h (near_pad design q k.0)) k.1
+
+pub near-pads_share : (design : Design) (pins : List Pin) → IsNet design pins → IsNearby (pads_share design pins)
+near-pads_share design pins net = with-pads design anywhere pins near_anywhere (recursion_from_All (IsThere design) pins net)
+
+-- the counted pins are there
+pub counted-net : (design : Design) (pins : List Pin) → IsNet design pins → IsNet design (counted pins)
+counted-net design pins net = cond_both (nat_lt (length pins) 2) [] pins (IsNet design) (λ _. λ i d lt. absurd (omega (arith, lt))) (λ _. net)
+
+-- the cell of a net before any token fits
+pub start-fits : (design : Design) (net : Net) (part : ℕ) (reach : Reach) → IsNet design net.pins → part ≤ 2800000000 → reach ≡ pads_share design (counted net.pins) → IsFitCell (record { reach = reach; part = part })
+start-fits design net part reach inside small is = record { near = subst IsNearby (sym is) (near-pads_share design (counted net.pins) (counted-net design net.pins inside)); small = small }
+
+pub start-cell : (design : Design) (net : Net) (part : ℕ) (reach : Reach) → reach ≡ pads_share design (counted net.pins) → part ≡ net_part design (root design) net → (let c : Cell = record { reach = reach; part = part } in c) ≡ start_cell design net
+start-cell design net part reach is_reach is_part =
+    ap (λ v. (let c : Cell = record { reach = v; part = part } in c)) is_reach ∙ ap (λ n. (let c : Cell = record { reach = pads_share design (counted net.pins); part = n } in c)) is_part
+
+-- one cell more
+pub row-step : (f : Net → Cell) (old cur new : List Cell) (nets : List Net) (i : ℕ) (net : Net) (c : Cell) → cur ≡ old ++ map f (take i nets) → new ≡ cur ++ c ∷ [] → c ≡ f net → net ≡ get_or nets i net → i < length nets → new ≡ old ++ map f (take (i + 1) nets)
+row-step f old cur new nets i net c is_cur is_new is_c at lt =
+    is_new ∙ ap (λ v. cur ++ v ∷ []) is_c ∙ ap (λ v. v ++ f net ∷ []) is_cur ∙ append_assoc old (map f (take i nets)) (f net ∷ [])
+    ∙ ap (λ v. old ++ v) (sym (ap (map f) (take_more nets i net lt ∙ ap (λ v. take i nets ++ v ∷ []) (sym at)) ∙ map-append f (take i nets) (net ∷ [])))

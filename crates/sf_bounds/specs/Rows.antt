@@ -1,0 +1,177 @@
+-- What is kept of the nets along a path of tokens whose spans are whole.
+use Rattle.std.specs.Prelude.{◌≡◌, ℕ, ◌+◌, ◌*◌, ◌-◌, ◌<◌, ◌≤◌, max, List, [], ◌∷◌, ◌++◌, length, map, take, fold, sum_by, All, AllPairs, false, nat_lt, if◌then◌else◌, ℤ, pos, ◌+ℤ◌, int_lt, Option, IfSome, slice_index_or}
+use Rattle.sf_model.specs.declared.design.Design.{Design}
+use Rattle.sf_model.specs.declared.parts.Net.{Net}
+use Rattle.sf_model.specs.declared.parts.Pin.{Pin}
+use Rattle.sf_model.specs.declared.parts.Pin.TheVariants as pin
+use Rattle.sf_model.specs.Legal.{block_count}
+use Rattle.sf_polish.specs.declared.expr.Token.{Token}
+use Rattle.sf_node.specs.Subproblem.{root}
+use Rattle.sf_standard.specs.declared.hull.Extent.{Extent}
+use Rattle.sf_standard.specs.declared.hull.Interval.{Interval}
+use Rattle.sf_standard.specs.Items.{Item, Block}
+use Rattle.sf_standard.specs.Standard.{net_part}
+use Rattle.sf_standard.specs.Hull.{item_extent, offsets, offset_x, offset_y, of_pins, contains_pin, range_part, pair_part, hull_part}
+use Rattle.sf_frames.specs.declared.direction.Direction.{Direction}
+use Rattle.sf_frames.specs.declared.direction.Direction.TheVariants as way
+use Rattle.sf_frames.specs.Kept.{items_at}
+use Rattle.sf_bounds.specs.declared.net_frame.BlockRow.{BlockRow}
+use Rattle.sf_bounds.specs.declared.net_frame.Cell.{Cell}
+use Rattle.sf_bounds.specs.declared.net_frame.NetFrame.{NetFrame}
+use Rattle.sf_bounds.specs.declared.net_frame.Nets.{Nets}
+use Rattle.sf_bounds.specs.declared.net_frame.Wires.{Wires}
+use Rattle.sf_bounds.specs.declared.reach.Reach.{Reach}
+use Rattle.sf_bounds.specs.Layout.{extent_in}
+use Rattle.sf_bounds.specs.Pins.{pad_reach}
+use Rattle.sf_bounds.specs.Near.{IsNearby, shared, met, endless, anywhere, reach_gap}
+
+-- the pins that count: none where they are fewer than two
+abbrev pub counted : List Pin → List Pin
+counted pins = if nat_lt (length pins) 2 then [] else pins
+
+-- the counted pins of a net by number
+abbrev pub pins_at : Design → ℕ → List Pin
+pins_at design j = counted (slice_index_or design.nets j (record { pins = [] })).pins
+
+-- the extent of a block in its whole span
+abbrev pub whole_extent : Design → ℕ → Extent
+whole_extent design b = extent_in design (root design) b
+
+-- what the pins' blocks in an item share, across and upward from the item's corner
+abbrev pub row : (ℕ → Extent) → Item → List Pin → Reach
+row extent item pins =
+    let os = of_pins pins (offsets extent item) in
+    record { across = fold shared endless (map (offset_x extent) os); upward = fold shared endless (map (offset_y extent) os) }
+
+-- what the pads share
+abbrev pub with_pad : Design → Reach → Pin → Reach
+with_pad design r (pin.Block b) = r
+with_pad design r (pin.Pad p) = met r (pad_reach design p)
+
+abbrev pub pads_share : Design → List Pin → Reach
+pads_share design pins = fold (with_pad design) anywhere pins
+
+-- the greatest of range, pair and the gaps in these items
+abbrev pub part : Design → (ℕ → Extent) → List Item → List Pin → ℕ
+part design extent items pins = max (range_part design extent pins) (max (pair_part extent pins) (hull_part design extent false items pins))
+
+-- what a block's own pins share, where it is an item by itself
+abbrev pub own_reach : List Pin → ℕ → Extent → Reach
+own_reach pins b e = if contains_pin b pins then (record { across = record { low = pos e.least_w; high = pos e.most_w }; upward = record { low = pos e.least_h; high = pos e.most_h } }) else anywhere
+
+-- an interval that an item to the left moves; what no block narrowed stays
+abbrev pub pushed : ℕ → ℕ → Interval → Interval
+pushed least most i = if int_lt i.low (pos 0) then i else (record { low = i.low +ℤ pos (2 * least); high = i.high +ℤ pos (2 * most) })
+
+abbrev pub pushed_reach : Direction → Extent → Reach → Reach
+pushed_reach way.Beside e r = record r { across = pushed e.least_w e.most_w r.across }
+pushed_reach way.Above e r = record r { upward = pushed e.least_h e.most_h r.upward }
+
+-- what two joined items share
+abbrev pub joined_reach : Direction → Extent → Reach → Reach → Reach
+joined_reach d e p q = met p (pushed_reach d e q)
+
+abbrev pub cell_at : List Cell → ℕ → Cell
+cell_at cells i = slice_index_or cells i (record { reach = anywhere; part = 0 })
+
+-- the cell of a net after two items are joined
+abbrev pub joined_cell : List Cell → Direction → Extent → ℕ → ℕ → ℕ → ℕ → Cell
+joined_cell cells d e left right under j =
+    let reach = joined_reach d e (cell_at cells (left + j)).reach (cell_at cells (right + j)).reach in
+    record { reach = reach; part = max (cell_at cells (under + j)).part (reach_gap reach) }
+
+abbrev pub block_cell : ℕ → Extent → Net → Cell
+block_cell b e net = record { reach = own_reach (counted net.pins) b e; part = 0 }
+
+-- the cell of a net before any token
+abbrev pub start_cell : Design → Net → Cell
+start_cell design net = record { reach = pads_share design (counted net.pins); part = net_part design (root design) net }
+
+abbrev pub part_of : Cell → ℕ
+part_of c = c.part
+
+-- numbers that fit
+pub record IsFitCell (c : Cell) : Type 0 where
+  pub near : IsNearby c.reach
+  pub small : c.part ≤ 2800000000
+
+-- the list goes on from another
+abbrev pub IsLonger : List Cell → List Cell → Type 0
+IsLonger old new = (more : List Cell) × (new ≡ old ++ more)
+
+-- the cells from a place on tell for each net what its blocks in the item share
+pub record IsRow (design : Design) (cells : List Cell) (item : Item) (at : ℕ) : Type 0 where
+  pub inside : at + length design.nets ≤ length cells
+  pub each : (j : ℕ) → j < length design.nets → (cell_at cells (at + j)).reach ≡ row (whole_extent design) item (pins_at design j)
+
+-- the cells from a place on tell the part of each net, and these make the sum
+pub record AreWires (design : Design) (cells : List Cell) (items : List Item) (w : Wires) : Type 0 where
+  pub inside : w.at + length design.nets ≤ length cells
+  pub each : (j : ℕ) → j < length design.nets → (cell_at cells (w.at + j)).part ≡ part design (whole_extent design) items (pins_at design j)
+  pub total : w.sum ≡ sum_by (λ net. part design (whole_extent design) items (counted net.pins)) design.nets
+  pub small : w.sum ≤ 2800000000 * length design.nets
+
+-- the rows of the first n blocks
+pub record AreBlockRows (design : Design) (n : ℕ) (cells : List Cell) (blocks : List BlockRow) : Type 0 where
+  pub count : length blocks ≡ n
+  pub extents : (b : ℕ) (d : BlockRow) → b < n → (slice_index_or blocks b d).extent ≡ whole_extent design b
+  pub rows : (b : ℕ) (d : BlockRow) → b < n → IsRow design cells (Block b) (slice_index_or blocks b d).row
+  pub fit : All IsFitCell cells
+
+-- how many cells there are before the first frame
+abbrev pub first_end : Design → Wires → ℕ
+first_end design start = start.at + length design.nets
+
+-- the rows of all blocks, and the wires and pads before any token
+pub record IsStart (design : Design) (cells : List Cell) (blocks : List BlockRow) (start : Wires) : Type 0 where
+  pub rows : AreBlockRows design (block_count design) (take start.at cells) blocks
+  pub pads : (j : ℕ) → j < length design.nets → (cell_at cells (start.at + j)).reach ≡ pads_share design (pins_at design j)
+  pub wires : AreWires design cells [] start
+
+-- the frame of the k-th token tells the item on top after k tokens, and the wires after it
+pub record IsNetFrame (design : Design) (tokens : List Token) (cells : List Cell) (first k : ℕ) (f : NetFrame) : Type 0 where
+  pub item : Item
+  pub top : items_at tokens k ≡ item ∷ items_at tokens f.below
+  pub fewer : f.below < k
+  pub extent : f.extent ≡ item_extent (whole_extent design) item
+  pub row : IsRow design cells item f.row
+  pub wires : AreWires design cells (items_at tokens k) f.wires
+  pub row_end : f.row + length design.nets ≤ f.end
+  pub wires_end : f.wires.at + length design.nets ≤ f.end
+  pub after : first ≤ f.end
+  pub end : f.end ≤ length cells
+
+abbrev pub token_of : NetFrame → Token
+token_of f = f.token
+
+-- the frames of the first tokens, in their order
+pub record AreNetFrames (design : Design) (tokens : List Token) (cells : List Cell) (first : ℕ) (frames : List NetFrame) : Type 0 where
+  pub few : length frames ≤ length tokens
+  pub are : map token_of frames ≡ take (length frames) tokens
+  pub each : (k : ℕ) (d : NetFrame) → k < length frames → IsNetFrame design tokens cells first (k + 1) (slice_index_or frames k d)
+  pub ends : AllPairs (λ f g. f.end ≤ g.end) frames
+
+-- all that is kept of a path
+pub record AreStored (design : Design) (tokens : List Token) (cells : List Cell) (blocks : List BlockRow) (start : Wires) (frames : List NetFrame) : Type 0 where
+  pub fit : All IsFitCell cells
+  pub start_is : IsStart design cells blocks start
+  pub frames_are : AreNetFrames design tokens cells (first_end design start) frames
+
+abbrev pub AreKept : Design → List Token → Nets → Type 0
+AreKept design tokens nets = AreStored design tokens nets.cells.items nets.blocks.items nets.start nets.frames.items
+
+abbrev pub tokens_of : Nets → List Token
+tokens_of nets = map token_of nets.frames.items
+
+abbrev pub AreKeptOrNone : Design → Option Nets → Type 0
+AreKeptOrNone design kept = IfSome kept (λ nets. AreKept design (tokens_of nets) nets)
+
+-- the frames of the two items on top
+pub record AreTop (design : Design) (tokens : List Token) (cells : List Cell) (start : Wires) (frames : List NetFrame) (l r : NetFrame) : Type 0 where
+  pub right : IsNetFrame design tokens cells (first_end design start) (length frames) r
+  pub left : IsNetFrame design tokens cells (first_end design start) r.below l
+
+-- how many cells the first frames need
+pub record IsNetEnd (design : Design) (start : Wires) (frames : List NetFrame) (count e : ℕ) : Type 0 where
+  pub none : count ≡ 0 → e ≡ first_end design start
+  pub last : (d : NetFrame) → 0 < count → (slice_index_or frames (count - 1) d).end ≡ e

@@ -1,0 +1,47 @@
+use crate::reach::Reach;
+use sf_polish::Token;
+use sf_standard::Extent;
+
+/// What is kept of one net: what its blocks in an item share, and the greatest of its range, its pair and its gaps in the
+/// items so far.
+#[derive(Clone, Copy, Debug, PartialEq, Eq)]
+pub struct Cell {
+    pub reach: Reach,
+    pub part: u64,
+}
+
+/// A block as an item by itself: its sides, and where its row begins, a cell for each net.
+#[derive(Clone, Copy, Debug, PartialEq, Eq)]
+pub struct BlockRow {
+    pub extent: Extent,
+    pub row: usize,
+}
+
+/// What the wires of the nets take at least: where the parts of the nets begin, and their sum.
+#[derive(Clone, Copy, Debug, PartialEq, Eq)]
+pub struct Wires {
+    pub at: usize,
+    pub sum: u64,
+}
+
+/// What one token makes: the sides of its item, where the item's row begins, how many tokens made the items under it, the
+/// wires after it, and how many cells there were after it.
+#[derive(Clone, Copy, Debug, PartialEq, Eq)]
+pub struct NetFrame {
+    pub token: Token,
+    pub extent: Extent,
+    pub below: usize,
+    pub row: usize,
+    pub wires: Wires,
+    pub end: usize,
+}
+
+/// What is kept of a path: in one list the cells of all rows, the row of each block, the wires before any token with what
+/// the pads share, and the frames.
+#[derive(Drop)]
+pub struct Nets {
+    pub cells: Vec<Cell>,
+    pub blocks: Vec<BlockRow>,
+    pub start: Wires,
+    pub frames: Vec<NetFrame>,
+}

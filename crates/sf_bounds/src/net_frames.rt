@@ -1,0 +1,97 @@
+ghost use Rattle.std.specs.Prelude.{◌≡◌, length, is_some, true, IfOk, IfSome, OnOk};
+ghost use Rattle.sf_node.specs.Children.{IsSubproblem};
+ghost use Rattle.sf_bounds.specs.Open.{IsWirePart};
+ghost use Rattle.sf_bounds.specs.Rows.{AreKeptOrNone};
+
+use crate::layout::Layout;
+use crate::net_back::back_to;
+use crate::net_frame::Nets;
+use crate::net_push::extend;
+use crate::net_start::start;
+use crate::net_total::total;
+use crate::reach::Reach;
+use sf_model::Design;
+use sf_node::Node;
+use std::alloc::{AllocError as NoMemory, Global};
+use std::marker::Model;
+
+/// How many cells are kept at most.
+const MOST_CELLS: usize = 1_000_000;
+
+/// What the nets take along the path that was measured last, for one design. A contract sees that design.
+#[derive(Drop)]
+pub struct NetFrames<'a> {
+    design: &'a Design,
+    alloc: Global,
+    kept: Option<Nets>,
+}
+
+impl<'a> Model for NetFrames<'a> {
+    ghost use Rattle.sf_model.specs.declared.design.Design.{Design};
+
+    ghost Value = { Design };
+
+    ghost use Rattle.sf_bounds.specs.Rows.{AreKeptOrNone};
+
+    ghost view = { λ s. s.design.now };
+
+    ghost invariant = { λ s. AreKeptOrNone s.design.now s.kept };
+}
+
+// Makes what holds before any token, where it is not there yet.
+fn fill(
+    kept: &mut Option<Nets>,
+    alloc: Global,
+    layout: &mut Layout,
+    reaches: &mut Vec<Reach>,
+    design: &Design,
+) -> Result<(), NoMemory>
+    requires kept { AreKeptOrNone design.now kept.old }
+    ensures kept { AreKeptOrNone design.now kept.new }
+    ensures some { OnOk result (is_some kept.new ≡ true) }
+{
+    if kept.is_none() {
+        let nets = start(alloc, layout, reaches, design)?;
+        *kept = Some(nets);
+    }
+    Ok(())
+}
+
+impl<'a> NetFrames<'a> {
+    /// No frame yet.
+    pub fn new(alloc: Global, design: &'a Design) -> NetFrames<'a>
+        ensures { result ≡ design.now }
+    {
+        NetFrames {
+            design,
+            alloc,
+            kept: None,
+        }
+    }
+
+    /// What the wires of a subproblem take at least, whose spans are whole. Or none, where the rows of a path may need too
+    /// many cells: a row for each block, one for each operator, and one before any token.
+    pub fn measure(
+        &mut self,
+        layout: &mut Layout,
+        reaches: &mut Vec<Reach>,
+        node: &Node,
+    ) -> Result<Option<u64>, NoMemory>
+        requires subproblem { IsSubproblem self.old node.now }
+        requires whole { length node.now.steps ≡ length node.now.tokens }
+        ensures measured { IfOk result (λ wires. IfSome wires (IsWirePart self.old node.now)) }
+        ensures same { self.new ≡ self.old }
+    {
+        let design = self.design;
+        if design.nets.as_slice().len() * (2 * design.blocks.as_slice().len()) > MOST_CELLS {
+            return Ok(None);
+        }
+        fill(&mut self.kept, self.alloc, layout, reaches, design)?;
+        let Some(nets) = &mut self.kept else {
+            unreachable!()
+        };
+        back_to(nets, design, node.tokens());
+        extend(nets, design, node)?;
+        Ok(Some(total(nets, design, node)))
+    }
+}

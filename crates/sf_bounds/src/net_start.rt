@@ -1,0 +1,171 @@
+ghost use Rattle.std.specs.Prelude.{◌≡◌, ◌<◌, ◌≤◌, ◌+◌, ◌*◌, ◌++◌, ◌∷◌, [], length, map, sum_by, All, IfOk};
+ghost use Rattle.sf_model.specs.Legal.{block_count};
+ghost use Rattle.sf_model.specs.Limits.{pin_number, pin_count};
+ghost use Rattle.sf_node.specs.Subproblem.{root};
+ghost use Rattle.sf_standard.specs.Hull.{contains_pin};
+ghost use Rattle.sf_standard.specs.Standard.{net_part};
+ghost use Rattle.sf_bounds.specs.Layout.{Tells};
+ghost use Rattle.sf_bounds.specs.Pins.{IsNet, IsLayout};
+ghost use Rattle.sf_bounds.specs.Rows.{counted, whole_extent, own_reach, block_cell, with_pad, pads_share, start_cell, IsFitCell, AreBlockRows, AreKept};
+
+use crate::layout::Layout;
+use crate::meet::met;
+use crate::net_frame::{BlockRow, Cell, Nets, Wires};
+use crate::pins::pad_reach;
+use crate::reach::{ANYWHERE, Reach};
+use crate::wires::{fill_layout, fill_reaches, net_part};
+use sf_model::{Design, Net, Pin};
+use sf_node::Node;
+use sf_standard::{Extent, Interval};
+use std::alloc::{AllocError as NoMemory, Global};
+
+// The pins that count: none where they are fewer than two.
+fn counted(net: &Net) -> &[Pin]
+    ensures { result.now ≡ counted net.now.pins }
+{
+    let pins = net.pins.as_slice();
+    if pins.len() < 2 {
+        return &pins[..0];
+    }
+    pins
+}
+
+fn contains(pins: &[Pin], block: u16) -> bool
+    ensures { result ≡ contains_pin block pins.now }
+{
+    for pin in pins {
+        if *pin == Pin::Block(block) {
+            return true;
+        }
+    }
+    false
+}
+
+// What a block's own pins share, where it is an item by itself.
+fn own_reach(pins: &[Pin], block: u16, extent: Extent) -> Reach
+    ensures { result ≡ own_reach pins.now block extent }
+{
+    if !contains(pins, block) {
+        return ANYWHERE;
+    }
+    Reach {
+        across: Interval {
+            low: i64::from(extent.least_w),
+            high: i64::from(extent.most_w),
+        },
+        upward: Interval {
+            low: i64::from(extent.least_h),
+            high: i64::from(extent.most_h),
+        },
+    }
+}
+
+// Puts the row of a block at the end.
+fn push_block_row(
+    cells: &mut Vec<Cell>,
+    design: &Design,
+    block: u16,
+    extent: Extent,
+) -> Result<(), NoMemory>
+    ensures { IfOk result (λ _. cells.new.items ≡ cells.old.items ++ map (block_cell block extent) design.now.nets) }
+{
+    for net in design.nets.as_slice() {
+        let reach = own_reach(counted(net), block, extent);
+        cells.push(Cell { reach, part: 0 })?;
+    }
+    Ok(())
+}
+
+// Puts the rows of all blocks at the end.
+fn push_block_rows(
+    cells: &mut Vec<Cell>,
+    alloc: Global,
+    design: &Design,
+    extents: &[Extent],
+) -> Result<Vec<BlockRow>, NoMemory>
+    requires none { cells.old.items ≡ [] }
+    requires extents { Tells (whole_extent design.now) (block_count design.now) extents.now }
+    ensures { IfOk result (λ blocks. AreBlockRows design.now (block_count design.now) cells.new.items blocks.items) }
+{
+    let mut blocks = Vec::new(alloc);
+    for block in 0..design.blocks.as_slice().len() as u16 {
+        let extent = extents[usize::from(block)];
+        let row = cells.len();
+        push_block_row(cells, design, block, extent)?;
+        blocks.push(BlockRow { extent, row })?;
+    }
+    Ok(blocks)
+}
+
+fn with_pad(reach: Reach, design: &Design, pin: Pin) -> Reach
+    requires { pin_number pin < pin_count (length design.now.blocks) (length design.now.pads) pin }
+    ensures { result ≡ with_pad design.now reach pin }
+{
+    match pin {
+        Pin::Block(_) => reach,
+        Pin::Pad(pad) => met(reach, pad_reach(design, pad)),
+    }
+}
+
+// What the pads share.
+fn pads_share(design: &Design, pins: &[Pin]) -> Reach
+    requires { IsNet design.now pins.now }
+    ensures { result ≡ pads_share design.now pins.now }
+{
+    let mut reach = ANYWHERE;
+    for pin in pins {
+        reach = with_pad(reach, design, *pin);
+    }
+    reach
+}
+
+// Puts what holds before any token at the end. The answer is the sum of the parts.
+fn push_start(
+    cells: &mut Vec<Cell>,
+    reaches: &mut [Reach],
+    design: &Design,
+    node: &Node,
+    layout: &Layout,
+) -> Result<u64, NoMemory>
+    requires root { node.now ≡ root design.now }
+    requires layout { IsLayout design.now node.now layout.now }
+    requires sized { length layout.now.held.items ≤ length reaches.old }
+    requires fit { All IsFitCell cells.old.items }
+    ensures fit { IfOk result (λ _. All IsFitCell cells.new.items) }
+    ensures row { IfOk result (λ _. cells.new.items ≡ cells.old.items ++ map (start_cell design.now) design.now.nets) }
+    ensures sum { IfOk result (λ sum. sum ≡ sum_by (net_part design.now (root design.now)) design.now.nets) }
+    ensures small { IfOk result (λ sum. sum ≤ 2800000000 * length design.now.nets) }
+{
+    let mut sum = 0;
+    for net in design.nets.as_slice() {
+        let part = net_part(reaches, design, node, layout, net);
+        let reach = pads_share(design, counted(net));
+        cells.push(Cell { reach, part })?;
+        sum += part;
+    }
+    Ok(sum)
+}
+
+/// The rows of all blocks, and the wires before any token.
+pub fn start(
+    alloc: Global,
+    layout: &mut Layout,
+    reaches: &mut Vec<Reach>,
+    design: &Design,
+) -> Result<Nets, NoMemory>
+    ensures { IfOk result (AreKept design.now []) }
+{
+    let node = Node::root(alloc, design)?;
+    fill_layout(layout, design, &node)?;
+    fill_reaches(reaches, layout.held.len())?;
+    let mut cells = Vec::new(alloc);
+    let blocks = push_block_rows(&mut cells, alloc, design, &layout.extents)?;
+    let at = cells.len();
+    let sum = push_start(&mut cells, reaches, design, &node, layout)?;
+    Ok(Nets {
+        cells,
+        blocks,
+        start: Wires { at, sum },
+        frames: Vec::new(alloc),
+    })
+}
