@@ -1,16 +1,11 @@
 -- Children by extending: each is one token more.
-use Rattle.std.proofs.Common.{◌≡◌, ℕ, ◌+◌, ◌<◌, List, [], ◌∷◌, ◌++◌, map, take, get_or, length, ap, sym, subst, ◌∙◌, true, false, ◌-◌, refl, arith, length-append}
+use Rattle.std.proofs.Common.{◌≡◌, ℕ, ◌+◌, List, [], ◌∷◌, ◌++◌, length, ap, sym, subst, ◌∙◌, false, ◌-◌, refl, arith, length-append}
 use Rattle.std.specs.Prelude.{slice_get, Contains, Option, Some, None, IfSome}
 use Rattle.std.specs.Option.{option_to_list}
 use Rattle.std.specs.List.{AllByRecursion}
-use Rattle.std.proofs.lemmas.Bool.{true≢false}
-use Rattle.std.proofs.lemmas.List.{map-append, take_more}
-use Rattle.std.proofs.lemmas.List.Elements.{Contains-get_or, Contains-append_right}
+use Rattle.std.proofs.lemmas.List.Elements.{Contains-append_right}
 use Rattle.sf_model.specs.declared.design.Design.{Design}
-use Rattle.sf_polish.specs.declared.expr.Token.{Token}
 use Rattle.sf_polish.specs.declared.expr.Token.TheVariants as token
-use Rattle.sf_polish.specs.Normal.{is_operand, last_or}
-use Rattle.sf_polish.proofs.Last.{last_or-push}
 use Rattle.sf_node.specs.declared.step.Step.{Step}
 use Rattle.sf_node.specs.declared.step.Step.TheVariants.{Block}
 use Rattle.sf_node.specs.Later.{IsChildOf}
@@ -27,14 +22,10 @@ use Rattle.sf_standard.proofs.Unmoved.{block_keeps}
 pub child_sub : (design : Design) (parent child : Parts) → IsSubproblem design parent → Contains (extended parent) child → IsSubproblem design child
 child_sub design parent child sub c = each-contains (IsSubproblem design) (extended parent) child (extended-subproblems design parent sub) c
 
--- the child at a place
-pub child_at : (parent child : Parts) (children : List Parts) (i : ℕ) → children ≡ extended parent → i < length children → child ≡ get_or children i child → Contains (extended parent) child
-child_at parent child children i e lt is =
-    subst (λ v. Contains v child) e (subst (Contains children) (sym is) (Contains-get_or children i child lt))
-
--- a child by extending, with its parent's value
-pub child_born : (design : Design) (bound : Parts → ℕ) (value : ℕ) (parent child : Parts) → IsSubproblem design parent → value ≡ bound parent → Contains (extended parent) child → IsChildOf design bound value child
-child_born design bound value parent child sub worth c =
+-- a child by extending, between others, with its parent's value
+pub child_born : (design : Design) (bound : Parts → ℕ) (value : ℕ) (parent : Parts) (before : List Parts) (child : Parts) (behind : List Parts) → IsSubproblem design parent → value ≡ bound parent → before ++ child ∷ behind ≡ extended parent → IsChildOf design bound value child
+child_born design bound value parent before child behind sub worth e =
+    let c : Contains (extended parent) child = subst (λ v. Contains v child) e (Contains-append_right before (child ∷ behind) child (Contains-head child behind)) in
     let k = Contains-from_map (λ t. after parent (step_of t)) (next_tokens parent) child c in
     record { parent = parent; step = step_of k.0; sub = sub; can = each-contains (λ t. CanStep parent (step_of t)) (next_tokens parent) k.0 (next-can parent) k.1; is = sym k.2; worth = worth }
 

@@ -1,8 +1,8 @@
-ghost use Rattle.std.specs.Prelude.{◌≡◌, ℕ, map, Some, IfOk};
+ghost use Rattle.std.specs.Prelude.{◌≡◌, ℕ, Some, IfOk};
 ghost use Rattle.sf_model.specs.declared.design.Design.{Design as DesignValue};
 ghost use Rattle.sf_node.specs.Parts.{Parts};
 ghost use Rattle.sf_node.specs.Bounds.{IsSound, IsExactAtEnd};
-ghost use Rattle.sf_node.specs.Children.{IsSubproblem, extended};
+ghost use Rattle.sf_node.specs.Children.{IsSubproblem};
 ghost use Rattle.sf_node.specs.Later.{IsChildOf};
 ghost use Rattle.sf_bounds.specs.Serving.{MayServe};
 
@@ -42,31 +42,6 @@ pub trait Bounds: Values + Sync {
         ensures serves { room.new ≡ Some design.now }
     {
         self.bound(design, child, room)
-    }
-
-    /// The values of the children by extending, in order. A bound that keeps its value at some children may answer them
-    /// from the parent's.
-    fn children_bounds<'a>(
-        &self,
-        design: &'a Design,
-        parent: &Node,
-        value: u64,
-        children: &[Node],
-        room: &mut Room<'a>,
-    ) -> Result<Vec<u64>, NoMemory>
-        requires parent { IsSubproblem design.now parent.now }
-        requires value { value ≡ Self.Values.value self.now design.now parent.now }
-        requires children { children.now ≡ extended parent.now }
-        requires serves { MayServe room.old design.now }
-        ensures values { IfOk result (λ values. values.items ≡ map (Self.Values.value self.now design.now) children.now) }
-        ensures serves { room.new ≡ Some design.now }
-    {
-        room.serve(design);
-        let mut values = Vec::new(room.allocator());
-        for child in children {
-            values.push(self.child_bound(design, child, value, room)?)?;
-        }
-        Ok(values)
     }
 
     /// No plan that belongs to a subproblem and fits costs less than the value.

@@ -43,9 +43,4 @@ impl<'a> Room<'a> {
             self.kept = Some(Kept::new(self.scratch.alloc, design));
         }
     }
-
-    /// Where its memory comes from.
-    pub fn allocator(&self) -> Global {
-        self.scratch.alloc
-    }
 }

@@ -1,21 +1,19 @@
 -- What several turns did, one after another.
-use Rattle.std.proofs.Common.{◌≡◌, ℕ, zero, suc, ◌+◌, ◌<◌, ◌≤◌, ◌⊎◌, inl, inr, List, [], ◌∷◌, ◌++◌, length, get_or, All, ap, sym, ◌∙◌, subst, refl, arith, append-nil, append_assoc, length-append}
+use Rattle.std.proofs.Common.{◌≡◌, ℕ, zero, suc, ◌<◌, ◌⊎◌, inl, inr, List, [], ◌∷◌, ◌++◌, length, ap, sym, ◌∙◌, subst, refl, arith, append-nil, append_assoc, length-append}
 use Rattle.std.specs.Prelude.{sum_by, Any, Option, Some, None, IfSome}
 use Rattle.std.proofs.lemmas.Bool.{cases_lt}
 use Rattle.std.proofs.lemmas.List.Sums.{sum_by-append}
-use Rattle.std.proofs.lemmas.List.Elements.{All-nil, All-append}
+use Rattle.std.proofs.lemmas.List.Elements.{All-append}
 use Rattle.sf_model.specs.declared.design.Design.{Design}
-use Rattle.sf_node.specs.declared.task.Task.{Task}
 use Rattle.sf_node.specs.Parts.{Parts}
 use Rattle.sf_search_core.specs.declared.entry.Entry.{Entry}
 use Rattle.sf_search_core.specs.Conserved.{children}
-use Rattle.sf_incumbent.specs.Seen.{Knows}
 use Rattle.sf_worker.specs.declared.state.WorkerState.{WorkerState}
 use Rattle.sf_worker.specs.declared.state.PassEnd.{PassEnd}
 use Rattle.sf_worker.specs.declared.state.PassEnd.TheVariants.{QuotaSpent, FoundNothing, NoMemory}
 use Rattle.sf_worker.specs.Tasks.{IsTask, IsEntry, Solves}
-use Rattle.sf_worker.specs.Took.{Passed, on_task, IsDecidedFirst, SameDeques}
-use Rattle.sf_worker.specs.Turns.{TurnEnds, PassEnds, IsKeptFirst, NothingFound}
+use Rattle.sf_worker.specs.Took.{Passed, on_task, IsDecidedFirst}
+use Rattle.sf_worker.specs.Turns.{TurnEnds, PassEnds, IsKeptFirst}
 use Rattle.sf_worker.proofs.Thieves.{fell-trans, thieves_fell-trans, thieves_fell-rose, thieves_never_fell, never_fell}
 use Rattle.sf_worker.proofs.Turned.{nothing-passed}
 

@@ -1,9 +1,8 @@
 -- What is put or kept, one task after another.
-use Rattle.std.proofs.Common.{◌≡◌, ℕ, ◌+◌, ◌<◌, ◌≤◌, min, List, [], ◌∷◌, ◌++◌, length, refl, sym, ap, ◌∙◌, arith, subst, All, append-nil, append_assoc, length-append}
+use Rattle.std.proofs.Common.{◌≡◌, List, [], ◌∷◌, ◌++◌, refl, sym, ap, ◌∙◌, arith, append-nil, append_assoc, length-append}
 use Rattle.std.specs.Prelude.{sum_by}
 use Rattle.std.proofs.lemmas.List.Sums.{sum_by-append, sum_by-cons}
 use Rattle.std.proofs.lemmas.List.Elements.{All-append, All-cons, All-nil}
-use Rattle.sf_model.specs.declared.TheConstants.{MAX}
 use Rattle.sf_node.specs.declared.task.Task.{Task}
 use Rattle.sf_frontier.specs.Ends.{OwnerView, one_more}
 use Rattle.sf_worker.specs.Takes.{PutsAll}

@@ -1,23 +1,19 @@
 -- What one turn did, from what was found and how it was judged.
-use Rattle.std.proofs.Common.{◌≡◌, ℕ, ◌+◌, ◌<◌, ◌≤◌, ◌⊎◌, inl, inr, List, [], ◌∷◌, ◌++◌, length, All, ap, sym, ◌∙◌, subst, refl, arith, append-nil}
+use Rattle.std.proofs.Common.{◌≡◌, ℕ, ◌+◌, ◌≤◌, inr, [], ◌∷◌, ◌++◌, length, All, ap, sym, ◌∙◌, subst, refl, arith, append-nil}
 use Rattle.std.specs.Prelude.{sum_by, Any, Option, Some, None, IfSome}
-use Rattle.std.proofs.lemmas.List.Sums.{sum_by-cons}
 use Rattle.std.proofs.lemmas.List.Elements.{All-nil, All-cons, All-push, All-weaker}
 use Rattle.sf_model.specs.declared.design.Design.{Design}
 use Rattle.sf_node.specs.declared.task.Task.{Task}
 use Rattle.sf_node.specs.Parts.{Parts}
 use Rattle.sf_search_core.specs.declared.entry.Entry.{Entry}
-use Rattle.sf_search_core.specs.Conserved.{children}
 use Rattle.sf_incumbent.specs.Seen.{Knows}
 use Rattle.sf_frontier.specs.Team.{thief_deques_of}
-use Rattle.sf_frontier.specs.declared.place.Place.{Place}
 use Rattle.sf_worker.specs.declared.state.WorkerState.{WorkerState}
 use Rattle.sf_worker.specs.declared.state.PassEnd.{PassEnd}
-use Rattle.sf_worker.specs.Tasks.{IsTask, IsEntry, Solves}
-use Rattle.sf_worker.specs.Took.{IsReady, Serves, Passed, thieves_weigh, on_task, maybe_weighs, IsDecidedFirst, NeverFell, ThievesNeverFell, taken_of, first_of, put_of, SameDeques, IsBest}
+use Rattle.sf_worker.specs.Tasks.{IsTask, IsEntry}
+use Rattle.sf_worker.specs.Took.{IsReady, Serves, Passed, thieves_weigh, on_task, maybe_weighs, NeverFell, ThievesNeverFell, taken_of, first_of, put_of, SameDeques, IsBest}
 use Rattle.sf_worker.specs.Takes.{IsFirst, IsFound, SamePuts}
 use Rattle.sf_worker.specs.Turns.{Became, Stayed, IsJudged, TurnEnds, IsKeptFirst}
-use Rattle.sf_worker.proofs.Thieves.{thieves_never_fell}
 
 pub first-gone : (first first' : Option Task) (x : Task) → IsFirst first first' (Some x) → first' ≡ None
 first-gone None first' x h = h

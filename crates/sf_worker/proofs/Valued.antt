@@ -1,21 +1,27 @@
 -- Children with their bounds are tasks of the design.
-use Rattle.std.proofs.Common.{◌≡◌, ℕ, ◌<◌, List, [], ◌∷◌, map, length, All, refl, sym, ap, ◌∙◌, subst, arith}
-use Rattle.std.specs.Prelude.{IsTrue, IsFalse}
+use Rattle.std.proofs.Common.{◌≡◌, ℕ, List, [], ◌∷◌, ◌++◌, map, All, refl, sym, ap, subst}
 use Rattle.std.specs.List.{AllByRecursion}
 use Rattle.std.proofs.lemmas.List.Elements.{All-nil, All-cons}
 use Rattle.sf_model.specs.declared.design.Design.{Design}
 use Rattle.sf_node.specs.declared.task.Task.{Task}
 use Rattle.sf_node.specs.Parts.{Parts}
-use Rattle.sf_node.specs.Subproblem.{is_complete, is_solved}
-use Rattle.sf_node.specs.Children.{IsSubproblem, CanSplit, extended, split}
+use Rattle.sf_node.specs.Children.{IsSubproblem, extended, split}
 use Rattle.sf_node.proofs.Reached.{extended-subproblems, split-subproblems}
-use Rattle.sf_worker.specs.Decided.{first_wide, valued, IsExtendedTo, IsSplitInto}
+use Rattle.sf_worker.specs.Decided.{valued, IsExtendedTo, IsSplitInto}
 use Rattle.sf_worker.specs.Tasks.{IsTask}
 
 module _ (design : Design) (bound : Parts → ℕ) where
   valued-nodes : (ns : List Parts) → map (λ (t : Task). t.node) (valued bound ns) ≡ ns
   valued-nodes [] = refl
   valued-nodes (n ∷ ns) = ap (λ z. n ∷ z) (valued-nodes ns)
+
+  valued-append : (ns : List Parts) (n : Parts) → valued bound (ns ++ n ∷ []) ≡ valued bound ns ++ record { node = n; bound = bound n } ∷ []
+  valued-append [] n = refl
+  valued-append (m ∷ ns) n = ap (λ ts. record { node = m; bound = bound m } ∷ ts) (valued-append ns n)
+
+  -- one subproblem more, with its bound
+  pub valued-more : (ns : List Parts) (n : Parts) (b : ℕ) (made next : List Task) → made ≡ valued bound ns → b ≡ bound n → next ≡ made ++ record { node = n; bound = b } ∷ [] → next ≡ valued bound (ns ++ n ∷ [])
+  valued-more ns n b made next are is more = let e = valued-append ns n in cc
 
   valued-tasks : (ns : List Parts) → AllByRecursion (IsSubproblem design) ns → All (IsTask design bound) (valued bound ns)
   valued-tasks [] h = All-nil (IsTask design bound)

@@ -1,5 +1,5 @@
 -- What a worker takes, and what it puts or keeps.
-use Rattle.std.specs.Prelude.{◌≡◌, ℕ, ◌+◌, ◌<◌, ◌≤◌, ⊤, List, [], ◌∷◌, ◌++◌, length, sum_by, All, Option, Some, None, IfSome}
+use Rattle.std.specs.Prelude.{◌≡◌, ℕ, ◌+◌, ◌<◌, ◌≤◌, List, ◌++◌, length, sum_by, All, Option, Some, None, IfSome}
 use Rattle.sf_model.specs.declared.TheConstants.{MAX}
 use Rattle.sf_node.specs.declared.task.Task.{Task}
 use Rattle.sf_frontier.specs.Ends.{OwnerView, ThiefView}

@@ -1,6 +1,5 @@
 -- What a worker took, put and decided.
-use Rattle.std.specs.Prelude.{◌≡◌, ℕ, ◌+◌, ◌<◌, ◌≤◌, ⊤, min, List, [], ◌∷◌, ◌++◌, length, map, sum_by, All, Any, Option, Some, None, IfSome}
-use Rattle.std.specs.List.{flat_map}
+use Rattle.std.specs.Prelude.{◌≡◌, ℕ, ◌+◌, ◌<◌, ◌≤◌, ⊤, min, List, [], ◌∷◌, ◌++◌, length, sum_by, All, Any, Option, Some, None, IfSome}
 use Rattle.sf_model.specs.declared.design.Design.{Design}
 use Rattle.sf_model.specs.declared.TheConstants.{MAX}
 use Rattle.sf_polish.specs.declared.expr.Expr.{Expr}
@@ -8,8 +7,7 @@ use Rattle.sf_node.specs.declared.task.Task.{Task}
 use Rattle.sf_node.specs.Parts.{Parts}
 use Rattle.sf_search_core.specs.declared.entry.Entry.{Entry}
 use Rattle.sf_search_core.specs.Conserved.{children}
-use Rattle.sf_incumbent.specs.Seen.{Knows}
-use Rattle.sf_frontier.specs.Ends.{Deque, OwnerView, ThiefView, one_more}
+use Rattle.sf_frontier.specs.Ends.{ThiefView, one_more}
 use Rattle.sf_frontier.specs.Team.{thief_deques_of}
 use Rattle.sf_worker.specs.declared.state.WorkerState.{WorkerState}
 use Rattle.sf_bounds.specs.Serving.{MayServe}

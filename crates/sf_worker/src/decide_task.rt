@@ -7,7 +7,6 @@ use crate::decision::Decision;
 use sf_bounds::{Bounds, Room, solve};
 use sf_model::Design;
 use sf_node::{Node, Task, Tasks};
-use sf_search_core::with_bounds;
 use std::alloc::AllocError as NoMemory;
 
 /// Decides a task against a value that some plan costs, or that none does.
@@ -75,6 +74,10 @@ fn extended<'a, B: Bounds>(
     ensures serves { MayServe room.new design.now }
 {
     let children = task.node.extend_children(design)?;
-    let costs = bounds.children_bounds(design, &task.node, task.bound, &children, room)?;
-    with_bounds(task.node.allocator(), children, costs)
+    let mut tasks = Vec::with_capacity(task.node.allocator(), children.len())?;
+    for node in children {
+        let bound = bounds.child_bound(design, &node, task.bound, room)?;
+        tasks.push(Task { node, bound })?;
+    }
+    Ok(tasks)
 }

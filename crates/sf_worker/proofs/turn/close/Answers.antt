@@ -1,4 +1,4 @@
-use Rattle.std.proofs.Common.{◌≡◌, ℕ, ◌≤◌, [], sym, subst, refl, arith, append-nil}
+use Rattle.std.proofs.Common.{◌≤◌, [], sym, subst, refl, arith, append-nil}
 use Rattle.std.proofs.lemmas.List.Elements.{All-nil}
 use Rattle.sf_search_core.specs.declared.entry.Kind.TheVariants as kind
 use Rattle.sf_worker.specs.Tasks.{IsTask}

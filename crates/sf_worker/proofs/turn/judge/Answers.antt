@@ -1,6 +1,5 @@
-use Rattle.std.proofs.Common.{◌≡◌, All, map, sym, subst, [], ◌∷◌}
+use Rattle.std.proofs.Common.{sym, subst, [], ◌∷◌}
 use Rattle.std.proofs.lemmas.List.Elements.{All-head, All-tail}
-use Rattle.sf_node.specs.declared.task.Task.{Task}
 use Rattle.sf_node.specs.Children.{extended}
 use Rattle.sf_worker.specs.Decided.{IsDecision}
 use Rattle.sf_worker.specs.Tasks.{IsTask}

@@ -1,4 +1,4 @@
-use Rattle.std.proofs.Common.{◌≡◌, ℕ, ◌+◌, ◌≤◌, inl, [], ap, sym, ◌∙◌, subst, refl, arith}
+use Rattle.std.proofs.Common.{◌≡◌, inl, ap, refl, arith}
 use Rattle.std.specs.Prelude.{sum_by, length}
 use Rattle.sf_worker.specs.Took.{on_task, maybe_weighs}
 use Rattle.sf_worker.proofs.Thieves.{never_fell, thieves_never_fell}
