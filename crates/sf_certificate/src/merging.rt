@@ -1,6 +1,6 @@
 //! One tree of entries and open tasks.
 
-ghost use Rattle.std.specs.Prelude.{◌≡◌, ◌<◌, ◌≤◌, ◌++◌, ◌∷◌, [], length, map, min, reverse, All, IfOk, MatchOption, IsPermutation, IsSortedBy};
+ghost use Rattle.std.specs.Prelude.{◌≡◌, ◌<◌, ◌≤◌, ◌++◌, ◌∷◌, [], length, map, min, reverse, All, IfOk, OnOk, MatchOption, IsPermutation, IsSortedBy};
 ghost use Rattle.std.specs.Ordering.{is_lt};
 ghost use Rattle.sf_model.specs.Legal.{block_count};
 ghost use Rattle.sf_model.specs.declared.TheConstants.{MAX};
@@ -89,12 +89,13 @@ fn given_marks(alloc: Global, entries: Vec<Entry>, left: Vec<Task>) -> Result<Ve
     Ok(marks)
 }
 
-/// Puts the marks into preorder.
-fn sort_marks(marks: &mut Vec<Mark>)
+/// Puts the marks into preorder. What each worker logs in a round is mostly in preorder, and a stable sort merges such runs.
+fn sort_marks(marks: &mut Vec<Mark>) -> Result<(), NoMemory>
     ensures moved { IsPermutation marks.old.items marks.new.items }
-    ensures sorted { IsSortedBy (λ a b. is_lt (steps_cmp a.node.steps b.node.steps)) marks.new.items }
+    ensures sorted { OnOk result (IsSortedBy (λ a b. is_lt (steps_cmp a.node.steps b.node.steps)) marks.new.items) }
 {
-    marks.sort_unstable_by(|a, b| compare_steps(a.node.steps(), b.node.steps()));
+    marks.sort_by(|a, b| compare_steps(a.node.steps(), b.node.steps()))?;
+    Ok(())
 }
 
 fn tags_of(alloc: Global, marks: &[Mark]) -> Result<Vec<Tag>, NoMemory>
@@ -144,7 +145,7 @@ pub fn merge<V: Values>(
 {
     let bound = least_bound(cost, &left);
     let mut marks = given_marks(alloc, entries, left)?;
-    sort_marks(&mut marks);
+    sort_marks(&mut marks)?;
     let tags = TagList::from_vec(tags_of(alloc, &marks)?);
     let blocks = design.blocks.as_slice().len() as u16;
     Ok(Cert {
