@@ -40,6 +40,11 @@ some-left : (design : Design) (more : Bool) (node : Parts) → 0 < length (pendi
 some-left design true node h = refl
 some-left design false node h = absurd (omega arith)
 
+-- where a bound lies below the word, something is next
+more-below : (design : Design) (bound : Parts → ℕ) (more : Bool) (node : Parts) (word : ℕ) → least word (map bound (pending design more node)) < word → more ≡ true
+more-below design bound true node word h = refl
+more-below design bound false node word h = let same : word < word = h in absurd (omega arith)
+
 module _ (design : Design) (bound : Parts → ℕ) (state : State) (walk : Progress) (b : IsBeside design bound state walk) where
   pub valued : All (λ (t : Task). t.bound ≡ bound t.node) state.waiting
   valued =
@@ -86,6 +91,10 @@ module _ (design : Design) (bound : Parts → ℕ) (state : State) (walk : Progr
 
     pub decided-as : decided tags ≡ length walk.tags
     decided-as = merged-as.count ∙ sym counted
+
+    -- where the bound lies below the cost the budget is spent
+    pub spent-as : (nodes : ℕ) → (walk.more ≡ true → length walk.tags ≡ nodes) → low < cost → length walk.tags ≡ nodes
+    spent-as nodes spent h = spent (more-below design bound walk.more walk.path.node walk.word (subst (λ n. n < walk.word) l (subst (λ m. low < m) c h)))
 
     pub ended-as : (nodes : ℕ) → (walk.more ≡ true → length walk.tags ≡ nodes) → full design ≤ nodes → low ≡ cost
     ended-as nodes spent h = stated-as ∙ ap (λ (ts : List Task). least cost (map (λ t. t.bound) ts)) (all-visited nodes spent h)

@@ -5,7 +5,7 @@ ghost use Rattle.sf_rounds.specs.Rounds.{IsRound};
 ghost use Rattle.sf_rounds.specs.Searching.{IsSearch, IsOne, IsAbsorbed};
 
 use crate::job::RoundOut;
-use crate::open_tasks::{Handed, OpenTasks};
+use crate::open_tasks::OpenTasks;
 use crate::rounds::round;
 use sf_bounds::{Bounds, Room};
 use sf_io::Gate;
@@ -17,17 +17,11 @@ use sf_worker::{Decision, decide};
 use std::alloc::{AllocError as NoMemory, Global};
 use std::thread::Threads;
 
-/// How many subproblems each worker may decide in a round at most.
+/// How many subproblems a worker may decide in a round at most.
 const MOST: u64 = 1024;
 
-/// How many open tasks a round is handed for each worker, where some can be extended.
+/// How many open tasks that may be extended a round is handed for each worker.
 const FEW: usize = 64;
-
-/// How many open tasks a round is handed for each worker, where all are to be closed.
-const MANY: usize = 1024;
-
-/// How many chains, of a decision for each token of a plan, are decided while the deepest tasks come first.
-const CHAINS: u64 = 16;
 
 /// The open tasks and the entries, the least cost found, and a plan that costs it.
 #[derive(Drop)]
@@ -58,15 +52,15 @@ pub fn absorb(progress: &mut Progress, out: RoundOut) -> Result<(), NoMemory>
     Ok(())
 }
 
-/// The decisions that are left, shared out evenly, and at most `MOST` for each worker.
-fn shares(alloc: Global, left: u64, workers: u16) -> Result<Vec<u64>, NoMemory>
+/// The decisions that are left, shared out evenly, and at most so many for each worker.
+fn shares(alloc: Global, left: u64, most: u64, workers: u16) -> Result<Vec<u64>, NoMemory>
     ensures count { IfOk result (λ quotas. length quotas.items ≡ workers) }
     ensures few { IfOk result (λ quotas. sum quotas.items ≤ left) }
 {
     let mut quotas = Vec::new(alloc);
     let mut left = left;
     for worker in 0..workers {
-        let quota = left.div_ceil(u64::from(workers - worker)).min(MOST);
+        let quota = left.div_ceil(u64::from(workers - worker)).min(most);
         quotas.push(quota)?;
         left -= quota;
     }
@@ -142,7 +136,8 @@ fn begin<'a, B: Bounds>(
     let root = Node::root(alloc, design)?;
     let bound = bounds.bound(design, &root, room)?;
     let mut open_tasks = OpenTasks::new(alloc);
-    open_tasks.push(Task { node: root, bound })?;
+    let first = vec![in alloc; Task { node: root, bound }]?;
+    open_tasks.append(first)?;
     Ok(Progress {
         open_tasks,
         entries: Vec::new(alloc),
@@ -151,8 +146,8 @@ fn begin<'a, B: Bounds>(
     })
 }
 
-/// Decides the first open task.
-fn decide_first<'a, B: Bounds>(
+/// Decides an open task of the least bound.
+fn decide_least<'a, B: Bounds>(
     alloc: Global,
     progress: &mut Progress,
     design: &'a Design,
@@ -166,7 +161,7 @@ fn decide_first<'a, B: Bounds>(
     ensures one_more { IfOk result (λ _. length progress.new.entries.items ≡ length progress.old.entries.items + 1) }
     ensures serves { MayServe room.new design.now }
 {
-    let Some(task) = progress.open_tasks.take_first() else {
+    let Some(task) = progress.open_tasks.take_least() else {
         unreachable!()
     };
     let out = decide_one(alloc, design, bounds, room, task, progress.value)?;
@@ -174,23 +169,29 @@ fn decide_first<'a, B: Bounds>(
     Ok(())
 }
 
-/// Which open tasks a round is handed. The first of them; where these are to be closed, as many as the round may decide.
-/// While no plan is known they are the deepest ones, so that some chain of decisions comes to a plan; and one alone where
-/// no worker's share of the budget is a whole chain.
-fn handed(progress: &Progress, design: &Design, workers: u16, left: u64) -> Handed {
-    let workers = u64::from(workers).max(1);
-    let chain = (design.blocks.as_slice().len() as u64).saturating_mul(2);
-    let decided = progress.entries.len() as u64;
-    if progress.best.is_none() && decided < chain.saturating_mul(CHAINS) {
-        let alone = left / workers < chain;
-        return Handed::Deepest(if alone { 1 } else { FEW * workers as usize });
-    }
-    let least = progress.open_tasks.least_bound().unwrap_or(MAX);
-    let each = if least < progress.value { FEW } else { MANY };
-    Handed::First(each * workers as usize)
+/// How many decisions a chain has that comes to a plan: one for each token.
+fn chain(design: &Design) -> u64 {
+    (design.blocks.as_slice().len() as u64).saturating_mul(2)
 }
 
-/// Runs one round of so many workers on some of the open tasks.
+/// How many subproblems a worker may decide in the next round. The first rounds are short, so that the workers stay near
+/// where one alone would be.
+fn longest(progress: &Progress, design: &Design) -> u64 {
+    let decided = progress.entries.len() as u64;
+    decided.max(chain(design)).min(MOST)
+}
+
+/// How many tasks that may be extended a round is handed: one alone while no plan is known and no worker's share of the
+/// budget is a whole chain.
+fn handed(progress: &Progress, design: &Design, workers: u16, left: u64) -> usize {
+    let workers = workers.max(1);
+    if progress.best.is_none() && left / u64::from(workers) < chain(design) {
+        return 1;
+    }
+    FEW * usize::from(workers)
+}
+
+/// Runs one round of so many workers on the open tasks to which a worker alone would come first.
 fn run_round<R: Threads + Sync, B: Bounds, G: Gate>(
     rt: &R,
     alloc: Global,
@@ -210,9 +211,10 @@ fn run_round<R: Threads + Sync, B: Bounds, G: Gate>(
     if left == 0 || progress.open_tasks.is_empty() {
         return Ok(());
     }
-    let quotas = shares(alloc, left, workers)?;
-    let share = handed(progress, design, workers, left);
-    let tasks = progress.open_tasks.take(alloc, share)?;
+    let quotas = shares(alloc, left, longest(progress, design), workers)?;
+    let few = handed(progress, design, workers, left);
+    let most = MOST as usize * usize::from(workers);
+    let tasks = progress.open_tasks.take(alloc, few, most, progress.value)?;
     let out = round(
         rt,
         alloc,
@@ -227,7 +229,7 @@ fn run_round<R: Threads + Sync, B: Bounds, G: Gate>(
     Ok(())
 }
 
-/// Decides the first open task and runs a round, in turn, until none is open or `nodes` are decided.
+/// Decides an open task of the least bound and runs a round, in turn, until none is open or `nodes` are decided.
 pub fn search_rounds<R: Threads + Sync, B: Bounds, G: Gate>(
     rt: &R,
     alloc: Global,
@@ -248,7 +250,7 @@ pub fn search_rounds<R: Threads + Sync, B: Bounds, G: Gate>(
         if progress.open_tasks.is_empty() {
             break;
         }
-        decide_first(alloc, &mut progress, design, bounds, &mut room)?;
+        decide_least(alloc, &mut progress, design, bounds, &mut room)?;
         let left = nodes - progress.entries.len() as u64;
         run_round(
             rt,

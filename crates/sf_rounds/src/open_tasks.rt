@@ -1,37 +1,23 @@
-ghost use Rattle.std.specs.Prelude.{◌≡◌, ◌==◌, ◌≤◌, ◌∷◌, ◌++◌, [], length, All, IfOk, IfSome, OnOk, MatchOption, IsPermutation};
+ghost use Rattle.std.specs.Prelude.{◌≡◌, ◌==◌, ◌<◌, ◌≤◌, ◌∷◌, ◌++◌, [], length, map, slice_index, All, IfOk, IfSome, OnOk, MatchOption, IsPermutation};
 
-use crate::open_task::OpenTask;
 use sf_node::Task;
 use std::alloc::{AllocError as NoMemory, Global};
-use std::cmp::Reverse;
-use std::collections::BinaryHeap;
 use std::marker::Model;
-use std::mem;
 
-/// Which open tasks are taken: so many of the first, or of those with the longest paths.
-#[derive(Clone, Copy, Debug, PartialEq, Eq)]
-pub enum Handed {
-    First(usize),
-    Deepest(usize),
-}
-
-/// The open tasks between rounds. Contracts see them as a list.
+/// The open tasks between rounds, in the order in which a worker alone comes to them, the first one last. Contracts see
+/// them as a list.
 #[derive(Drop)]
 pub struct OpenTasks {
-    heap: BinaryHeap<OpenTask>,
+    tasks: Vec<Task>,
 }
 
 impl Model for OpenTasks {
     ghost use Rattle.std.specs.Prelude.{List};
-    ghost use Rattle.std.specs.BinaryHeap.{heap_items, IsHeap};
     ghost use Rattle.sf_node.specs.declared.task.Task.{Task};
-    ghost use Rattle.sf_rounds.specs.OpenOrder.{urgency_cmp};
 
     ghost Value = { List Task };
 
-    ghost view = { λ o. heap_items o.heap };
-
-    ghost invariant = { λ o. IsHeap urgency_cmp (heap_items o.heap) };
+    ghost view = { λ o. o.tasks.items };
 }
 
 impl OpenTasks {
@@ -39,99 +25,85 @@ impl OpenTasks {
         ensures { result ≡ [] }
     {
         OpenTasks {
-            heap: BinaryHeap::new(alloc),
+            tasks: Vec::new(alloc),
         }
     }
 
     pub fn is_empty(&self) -> bool
         ensures { result ≡ (length self.now == 0) }
     {
-        self.heap.is_empty()
+        self.tasks.is_empty()
     }
 
-    /// The least bound.
-    pub fn least_bound(&self) -> Option<u64> {
-        let first = self.heap.peek()?;
-        Some(first.task.bound)
-    }
-
-    pub fn push(&mut self, task: Task) -> Result<(), NoMemory>
-        ensures { OnOk result (IsPermutation (task ∷ self.old) self.new) }
-    {
-        self.heap.push(OpenTask { task })?;
-        Ok(())
-    }
-
-    pub fn append(&mut self, tasks: Vec<Task>) -> Result<(), NoMemory>
+    pub fn append(&mut self, mut tasks: Vec<Task>) -> Result<(), NoMemory>
         ensures { OnOk result (IsPermutation (self.old ++ tasks.items) self.new) }
     {
-        for task in tasks {
-            self.push(task)?;
-        }
+        self.tasks.append(&mut tasks)?;
+        self.tasks
+            .sort_by(|one, other| other.node.steps().cmp(one.node.steps()))?;
         Ok(())
     }
 
-    /// Takes the first task: the one of the least bound, and of equal bounds the one of the earliest path.
-    pub fn take_first(&mut self) -> Option<Task>
+    /// Takes a task of the least bound, of several the one that comes first.
+    pub fn take_least(&mut self) -> Option<Task>
         ensures taken { MatchOption result ((self.old ≡ []) × (self.new ≡ [])) (λ t. IsPermutation self.old (t ∷ self.new)) }
         ensures least { IfSome result (λ t. All (λ u. t.bound ≤ u.bound) self.old) }
     {
-        let first = self.heap.pop()?;
-        Some(first.task)
-    }
-
-    /// Takes these tasks, or all.
-    pub fn take(&mut self, alloc: Global, which: Handed) -> Result<Vec<Task>, NoMemory>
-        ensures { IfOk result (λ taken. IsPermutation self.old (taken.items ++ self.new)) }
-    {
-        match which {
-            Handed::First(most) => self.take_some(alloc, most),
-            Handed::Deepest(most) => self.take_deepest(alloc, most),
+        if self.tasks.is_empty() {
+            return None;
         }
+        let place = least_place(&self.tasks);
+        Some(self.tasks.remove(place))
     }
 
-    /// Takes so many tasks, or all, the first one first.
-    fn take_some(&mut self, alloc: Global, most: usize) -> Result<Vec<Task>, NoMemory>
+    /// Takes the tasks that come first: so many whose bounds are below the value, with the others among them, and `most` in
+    /// all.
+    pub fn take(
+        &mut self,
+        alloc: Global,
+        few: usize,
+        most: usize,
+        value: u64,
+    ) -> Result<Vec<Task>, NoMemory>
         ensures { IfOk result (λ taken. IsPermutation self.old (taken.items ++ self.new)) }
     {
         let mut taken = Vec::new(alloc);
+        let mut below = 0;
         for _ in 0..most {
-            match self.take_first() {
-                None => return Ok(taken),
-                Some(task) => taken.push(task)?,
+            if below >= few {
+                return Ok(taken);
             }
+            let Some(task) = self.tasks.pop() else {
+                return Ok(taken);
+            };
+            if task.bound < value {
+                below += 1;
+            }
+            taken.push(task)?;
         }
         Ok(taken)
     }
 
-    /// Takes so many tasks, or all, of the longest paths, the longest first.
-    fn take_deepest(&mut self, alloc: Global, most: usize) -> Result<Vec<Task>, NoMemory>
-        ensures { IfOk result (λ taken. IsPermutation self.old (taken.items ++ self.new)) }
+    /// All tasks.
+    pub fn into_vec(self) -> Vec<Task>
+        ensures { result.items ≡ self }
     {
-        let mut all = mem::replace(&mut self.heap, BinaryHeap::new(alloc)).into_vec();
-        all.sort_unstable_by_key(|open_task| Reverse(open_task.task.node.steps().len()));
-        let rest = all.split_off(most.min(all.len()))?;
-        self.heap = BinaryHeap::from(rest);
-        let taken = tasks_of(alloc, all)?;
-        Ok(taken)
-    }
-
-    /// All tasks, in no order.
-    pub fn into_vec(self, alloc: Global) -> Result<Vec<Task>, NoMemory>
-        ensures { IfOk result (λ tasks. tasks.items ≡ self) }
-    {
-        let OpenTasks { heap } = self;
-        tasks_of(alloc, heap.into_vec())
+        let OpenTasks { tasks } = self;
+        tasks
     }
 }
 
-/// The tasks, in the same order.
-fn tasks_of(alloc: Global, open_tasks: Vec<OpenTask>) -> Result<Vec<Task>, NoMemory>
-    ensures { IfOk result (λ tasks. tasks.items ≡ open_tasks.items) }
+/// The last place of a task of the least bound.
+fn least_place(tasks: &[Task]) -> usize
+    requires some { 0 < length tasks.now }
+    ensures within { result < length tasks.now }
+    ensures least { All (λ t. slice_index (map (λ u. u.bound) tasks.now) result ≤ t.bound) tasks.now }
 {
-    let mut tasks = Vec::with_capacity(alloc, open_tasks.len())?;
-    for open_task in open_tasks {
-        tasks.push(open_task.task)?;
+    let mut place = 0;
+    for i in 0..tasks.len() {
+        if tasks[i].bound <= tasks[place].bound {
+            place = i;
+        }
     }
-    Ok(tasks)
+    place
 }

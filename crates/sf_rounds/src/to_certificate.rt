@@ -37,8 +37,8 @@ pub struct Found {
 }
 
 /// Decides subproblems until none is open or `nodes` are decided. One worker takes the last open one, turn by turn, and of
-/// plans that cost the same keeps the first. Two to sixteen take turns: the caller decides the first open one by its bound,
-/// and then all of them work in a round.
+/// plans that cost the same keeps the first. Two to sixteen take turns: the caller decides one of the least bound, and then
+/// all of them work in a round.
 pub fn search<R: Threads + Sync, B: Bounds, G: Gate>(
     rt: &R,
     alloc: Global,
@@ -163,7 +163,7 @@ fn together<R: Threads + Sync, B: Bounds, G: Gate>(
     } = searched;
     let plan = copy_plan(alloc, &best)?;
     let decided = entries.len() as u64;
-    let left = open_tasks.into_vec(alloc)?;
+    let left = open_tasks.into_vec();
     let cert = merge(alloc, design, entries, left, best, cost, bounds)?;
     let bound = cert.bound;
     Ok(Found {

@@ -3,20 +3,20 @@ use Rattle.std.proofs.lemmas.List.Elements.{All-head}
 use Rattle.sf_search_core.specs.declared.entry.Entry.{Entry}
 use Rattle.sf_worker.specs.Tasks.{IsTask}
 use Rattle.sf_rounds.proofs.Composed.{search-permuted, search-tasks, absorbed, one-entry}
-use Rattle.sf_rounds.proofs.many_workers.decide_first.Goals as goal
+use Rattle.sf_rounds.proofs.many_workers.decide_least.Goals as goal
 
 pub decide_one-requires-clause-task : goal.decide_one-requires-clause-task
 decide_one-requires-clause-task g c κs within =
     let design = c.args.design.now in
     let bound = g.B.Values.value c.args.bounds.now design in
-    let rest = c.take_first.new.self in
+    let rest = c.take_least.new.self in
     All-head (IsTask design bound) c.in-Some.task rest (search-tasks design bound (c.in-Some.task ∷ rest) _ _ _ (search-permuted design bound c.args.progress.now.open_tasks (c.in-Some.task ∷ rest) _ _ _ c.in-Some.ensures.taken c.requires.search))
 
 pub returns-clause-search : goal.returns-clause-search
 returns-clause-search g c =
     let design = c.args.design.now in
     let bound = g.B.Values.value c.args.bounds.now design in
-    let rest = c.take_first.new.self in
+    let rest = c.take_least.new.self in
     absorbed design bound (c.in-Some.task ∷ []) (1 ∷ []) c.in_ok-out.out _ c.absorb.new.progress c.in_ok-absorb.ensures
     (search-permuted design bound c.args.progress.now.open_tasks (c.in-Some.task ∷ rest) _ _ _ c.in-Some.ensures.taken c.requires.search) c.in_ok-out.ensures.round
 

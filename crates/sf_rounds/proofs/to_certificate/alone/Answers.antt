@@ -5,7 +5,7 @@ use Rattle.sf_search_core.specs.Outcome.{opening}
 use Rattle.sf_certificate.proofs.MergedCert.{merged-formed, merged-valid}
 use Rattle.sf_rounds.specs.Turns.{turns}
 use Rattle.sf_rounds.proofs.SplitMarks.{marks-first}
-use Rattle.sf_rounds.proofs.Ended.{valued, few, merged-as, planned-as, stated-as, stated-by-word, first-as, decided-as, ended-as}
+use Rattle.sf_rounds.proofs.Ended.{valued, few, merged-as, planned-as, stated-as, stated-by-word, first-as, decided-as, ended-as, spent-as}
 use Rattle.sf_rounds.proofs.to_certificate.alone.Goals as goal
 
 pub invariant_of-cert : goal.invariant_of-cert
@@ -50,6 +50,17 @@ returns-clause-decided g c =
     let p = c.into_parts-tags.ensures.best ∙ c.in_ok-bound.ensures.best in
     c.count-decided.ensures
     ∙ sym (decided-as design bound state c.in_ok-walk.walk c.in_ok-walk.ensures.run.beside c.word-cost.result c.in_ok-bound.bound c.from_vec-tags.result c.into_parts-tags.result.1 c.word-cost.ensures c.in_ok-bound.ensures.bound t p)
+
+pub returns-clause-spent : goal.returns-clause-spent
+returns-clause-spent g c = λ below.
+    let design = c.args.design.now in
+    let bound = g.B.Values.value c.args.bounds.now design in
+    let state = turns design bound c.args.nodes (opening design bound 1) in
+    let t = c.from_vec-tags.ensures ∙ c.into_parts-tags.ensures.tags ∙ c.in_ok-bound.ensures.tags in
+    let p = c.into_parts-tags.ensures.best ∙ c.in_ok-bound.ensures.best in
+    c.count-decided.ensures
+    ∙ spent-as design bound state c.in_ok-walk.walk c.in_ok-walk.ensures.run.beside c.word-cost.result c.in_ok-bound.bound c.from_vec-tags.result c.into_parts-tags.result.1 c.word-cost.ensures c.in_ok-bound.ensures.bound t p
+    c.args.nodes c.in_ok-walk.ensures.spent below
 
 pub returns-clause-splits : goal.returns-clause-splits
 returns-clause-splits g c =

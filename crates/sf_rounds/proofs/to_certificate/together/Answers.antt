@@ -24,7 +24,7 @@ returns-clause-ended g c = λ large.
     let bound = g.B.Values.value c.args.bounds.now design in
     let p = c.in_ok-searched.searched in
     let none = all-decided design bound (between p.open_tasks p.entries.items p.value) c.args.nodes c.in_ok-searched.ensures.search.core c.in_ok-searched.ensures.search.splits c.in_ok-searched.ensures.spent large in
-    c.in_ok-cert.ensures.bound ∙ ap (λ (ts : List Task). least p.value (map (λ (t : Task). t.bound) ts)) (c.in_ok-left.ensures ∙ none)
+    c.in_ok-cert.ensures.bound ∙ ap (λ (ts : List Task). least p.value (map (λ (t : Task). t.bound) ts)) (c.into_vec-left.ensures ∙ none)
 
 pub returns-clause-valid : goal.returns-clause-valid
 returns-clause-valid g c = c.in_ok-cert.ensures.valid c.in_ok-searched.ensures.search.core.not_stale
