@@ -1,7 +1,6 @@
 -- Tags, the subproblems that they are read against, and those that wait after them.
 use Rattle.std.proofs.Common.{◌≡◌, ℕ, min, List, [], ◌∷◌, ◌++◌, map, arith, refl, ap, ◌∙◌}
 use Rattle.sf_node.specs.Parts.{Parts}
-use Rattle.sf_certificate.specs.declared.mark.Mark.{Mark}
 use Rattle.sf_certificate.specs.declared.tag.Tag.{Tag}
 use Rattle.sf_certificate.specs.declared.tag.Tag.TheVariants.{Open}
 use Rattle.sf_certificate.specs.Marks.{made, marks, waiting_after}

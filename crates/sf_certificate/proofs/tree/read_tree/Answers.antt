@@ -1,5 +1,5 @@
-use Rattle.std.proofs.Common.{◌≡◌, ap, sym, ◌∙◌}
-use Rattle.std.specs.Prelude.{None, ◌∷◌, [], Ok}
+use Rattle.std.proofs.Common.{ap, sym, ◌∙◌}
+use Rattle.std.specs.Prelude.{None, ◌∷◌, []}
 use Rattle.sf_lex.specs.Scan.{numbered_words, last_line_of}
 use Rattle.sf_certificate.specs.Places.{first_place}
 use Rattle.sf_certificate.specs.Reading.{tags_said, read_on, tree_read}

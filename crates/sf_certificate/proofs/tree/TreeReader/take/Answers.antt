@@ -1,4 +1,4 @@
-use Rattle.std.proofs.Common.{◌≡◌, ap, sym, refl, ◌∙◌, Option, Some, None, Ok, Err}
+use Rattle.std.proofs.Common.{ap, sym, refl, ◌∙◌, Some, None, Ok, Err}
 use Rattle.sf_lex.specs.Scan.{LineWord}
 use Rattle.sf_certificate.specs.declared.tag.Tag.TheVariants.{Extend, Closed, Open}
 use Rattle.sf_certificate.specs.declared.fault.CertFault.TheVariants.{BadTag}

@@ -1,0 +1,195 @@
+-- The tree of a text, read byte by byte.
+use Rattle.std.proofs.Common.{◌≡◌, ◌⊎◌, inl, inr, ℕ, ◌+◌, ◌≤◌, List, [], ◌∷◌, ◌++◌, length, arith, refl, ap, sym, ◌∙◌, Bool, true, false, not, append_assoc, length-append, ◌&&◌, Option, Some, None, Result, Ok, Err}
+use Rattle.std.specs.Prelude.{◌≢◌, IfOk, IfErr, nat_le}
+use Rattle.std.specs.List.{count_by, list_all}
+use Rattle.std.proofs.lemmas.Bool.Decides.{nat_tests}
+use Rattle.std.proofs.lemmas.List.Folds.{list_all-append}
+use Rattle.std.proofs.lemmas.Result.{IfErr-weaker}
+use Rattle.sf_lex.specs.Text.{is_blank_byte, is_line_feed, is_not_empty, has_none}
+use Rattle.sf_lex.specs.Scan.{LineWord, last_word_line}
+use Rattle.sf_lex.specs.Number.{is_digit}
+use Rattle.sf_lex.specs.Whole.{whole_read}
+use Rattle.sf_lex.proofs.Decimals.{and_true}
+use Rattle.sf_lex.proofs.WordLines.{words_from, IsRun, words_from-run, words_from-gap}
+use Rattle.sf_certificate.specs.declared.fault.CertFault.{CertFault}
+use Rattle.sf_certificate.specs.declared.fault.CertFault.TheVariants.{NoMemory}
+use Rattle.sf_certificate.specs.declared.tag.Tag.{Tag}
+use Rattle.sf_certificate.specs.Reading.{Reader, letter_of, by_letter, split_by, tags_said, tree_from, read_on, with_some}
+use Rattle.sf_certificate.specs.Bytes.{Bytewise, begun, bytes_on, words_on}
+
+not-true : (b : Bool) → not b ≡ true → b ≡ false
+not-true true e = absurd (cc)
+not-true false e = refl
+
+pub run-of : (w : List ℕ) → has_none is_blank_byte w ≡ true → IsRun w
+run-of [] h = tt
+run-of (b ∷ w) h =
+    let both = and_true (not (is_blank_byte b)) (has_none is_blank_byte w) h in
+    (not-true (is_blank_byte b) both.0, run-of w both.1)
+
+pub run-more : (w : List ℕ) (b : ℕ) → IsRun w → is_blank_byte b ≡ false → IsRun (w ++ b ∷ [])
+run-more [] b h e = (e, tt)
+run-more (c ∷ w) b h e = (h.0, run-more w b h.1 e)
+
+-- a word goes on without a blank
+pub none-more : (w : List ℕ) (b : ℕ) → has_none is_blank_byte w ≡ true → is_blank_byte b ≡ false → has_none is_blank_byte (w ++ b ∷ []) ≡ true
+none-more w b h e = list_all-append (λ c. not (is_blank_byte c)) w (b ∷ []) ∙ rw (h, e) refl
+
+-- ---- the end of a word
+
+-- a blank ends the word that was begun
+pub begun-blank : (n k b : ℕ) (w rest : List ℕ) → IsRun w → is_blank_byte b ≡ true → n + count_by is_line_feed (b ∷ []) ≡ k → words_from n (w ++ b ∷ rest) ≡ begun n w ++ words_from k rest
+begun-blank n k b [] rest run blank next = words_from-gap n (b ∷ []) rest (blank, tt) ∙ ap (λ l. words_from l rest) next
+begun-blank n k b (c ∷ w) rest run blank next =
+    words_from-run n (c ∷ w) (b ∷ rest) (omega arith) run blank
+    ∙ ap (λ ws. record { line = n; text = c ∷ w } ∷ ws) (words_from-gap n (b ∷ []) rest (blank, tt) ∙ ap (λ l. words_from l rest) next)
+
+-- and so does the end of the text
+pub begun-end : (n : ℕ) (w : List ℕ) → IsRun w → words_from n (w ++ []) ≡ begun n w ++ []
+begun-end n [] run = refl
+begun-end n (c ∷ w) run = words_from-run n (c ∷ w) [] (omega arith) run tt
+
+pub last-append : (n : ℕ) (first second : List LineWord) → last_word_line n (first ++ second) ≡ last_word_line (last_word_line n first) second
+last-append n [] second = refl
+last-append n (w ∷ first) second = last-append w.line first second
+
+-- ---- words that are too long
+
+long-letter : (w : List ℕ) → 21 ≤ length w → letter_of w ≡ None
+long-letter [] h = absurd (omega arith)
+long-letter (b ∷ []) h = absurd (omega arith)
+long-letter (b ∷ c ∷ w) h = refl
+
+too-long : (n : ℕ) → 21 ≤ n → nat_le n 20 ≡ false
+too-long n h = grind (arith, nat_tests)
+
+and-none : (a b c : Bool) → c ≡ false → (a && (b && c)) ≡ false
+and-none true true c e = e
+and-none true false c e = refl
+and-none false b c e = refl
+
+long-number : (w : List ℕ) → 21 ≤ length w → whole_read 65535 w ≡ None
+unfolding whole_read
+long-number w h = rw (and-none (list_all is_digit w) (is_not_empty w) (nat_le (length w) 20) (too-long (length w) h)) refl
+
+-- all such words say the same
+long-said : (last line : ℕ) (split : Option ℕ) (w v : List ℕ) (others : List LineWord) → 21 ≤ length w → 21 ≤ length v → tags_said last split (record { line = line; text = w } ∷ others) ≡ tags_said last split (record { line = line; text = v } ∷ others)
+unfolding tags_said
+long-said last line None w v others h k = ap (λ l. by_letter line l (tags_said last None others) (tags_said last (Some line) others)) (long-letter w h ∙ sym (long-letter v k))
+long-said last line (Some at) w v others h k = ap (λ o. record { line = at; tag = split_by at o } ∷ tags_said last None others) (long-number w h ∙ sym (long-number v k))
+
+module _ (n line last : ℕ) (tree : Reader) where
+  at-word : List ℕ → Bytewise
+  at-word w = record { tree = tree; word = w; line = line; last = last }
+
+  -- what the words are read as, where they are these
+  by-words : (w bytes : List ℕ) (ws : List LineWord) → words_from line (w ++ bytes) ≡ ws → bytes_on n (record { tree = tree; word = w; line = line; last = last }) bytes ≡ read_on n (last_word_line last ws) tree ws
+  by-words w bytes ws e = ap (λ (z : List LineWord). read_on n (last_word_line last z) tree z) e
+
+  long-first : (w v : List ℕ) (others : List LineWord) → 21 ≤ length w → 21 ≤ length v → read_on n (last_word_line last (begun line w ++ others)) tree (begun line w ++ others) ≡ read_on n (last_word_line last (begun line v ++ others)) tree (begun line v ++ others)
+  long-first [] v others h k = absurd (omega arith)
+  long-first (b ∷ w) [] others h k = absurd (omega arith)
+  long-first (b ∷ w) (c ∷ v) others h k = ap (tree_from n (last_word_line line others) tree.places) (long-said (last_word_line line others) line tree.split (b ∷ w) (c ∷ v) others h k)
+
+  grown-length : (w : List ℕ) (b : ℕ) → 21 ≤ length w → 21 ≤ length (w ++ b ∷ [])
+  grown-length w b h = omega (arith, length-append w (b ∷ []))
+
+  long-blank : (b : ℕ) (w v rest : List ℕ) → IsRun w → IsRun v → 21 ≤ length w → 21 ≤ length v → is_blank_byte b ≡ true
+      → bytes_on n (record { tree = tree; word = w; line = line; last = last }) (b ∷ rest) ≡ bytes_on n (record { tree = tree; word = v; line = line; last = last }) (b ∷ rest)
+  long-blank b w v rest run too h k blank =
+      let others = words_from (line + count_by is_line_feed (b ∷ [])) rest in
+      by-words w (b ∷ rest) (begun line w ++ others) (begun-blank line _ b w rest run blank refl)
+      ∙ long-first w v others h k
+      ∙ sym (by-words v (b ∷ rest) (begun line v ++ others) (begun-blank line _ b v rest too blank refl))
+
+  pub more-word : (w rest : List ℕ) (b : ℕ) → bytes_on n (record { tree = tree; word = w; line = line; last = last }) (b ∷ rest) ≡ bytes_on n (record { tree = tree; word = w ++ b ∷ []; line = line; last = last }) rest
+  more-word w rest b = ap (λ (z : List ℕ). read_on n (last_word_line last (words_from line z)) tree (words_from line z)) (sym (append_assoc w (b ∷ []) rest))
+
+  long-byte : (rest w v : List ℕ) (b : ℕ) (t : Bool) → is_blank_byte b ≡ t → IsRun w → IsRun v → 21 ≤ length w → 21 ≤ length v
+      → ((x y : List ℕ) → IsRun x → IsRun y → 21 ≤ length x → 21 ≤ length y → bytes_on n (record { tree = tree; word = x; line = line; last = last }) rest ≡ bytes_on n (record { tree = tree; word = y; line = line; last = last }) rest)
+      → bytes_on n (record { tree = tree; word = w; line = line; last = last }) (b ∷ rest) ≡ bytes_on n (record { tree = tree; word = v; line = line; last = last }) (b ∷ rest)
+  long-byte rest w v b true e run too h k more = long-blank b w v rest run too h k e
+  long-byte rest w v b false e run too h k more =
+      more-word w rest b ∙ more (w ++ b ∷ []) (v ++ b ∷ []) (run-more w b run e) (run-more v b too e) (grown-length w b h) (grown-length v b k) ∙ sym (more-word v rest b)
+
+  -- so of a word that is too long no more bytes need be kept
+  long-same : (rest w v : List ℕ) → IsRun w → IsRun v → 21 ≤ length w → 21 ≤ length v
+      → bytes_on n (record { tree = tree; word = w; line = line; last = last }) rest ≡ bytes_on n (record { tree = tree; word = v; line = line; last = last }) rest
+  long-same [] w v run too h k =
+      by-words w [] (begun line w ++ []) (begun-end line w run) ∙ long-first w v [] h k ∙ sym (by-words v [] (begun line v ++ []) (begun-end line v too))
+  long-same (b ∷ rest) w v run too h k = long-byte rest w v b (is_blank_byte b) refl run too h k (λ x y p q i j. long-same rest x y p q i j)
+
+  pub long-kept : (w rest : List ℕ) (b : ℕ) → IsRun w → is_blank_byte b ≡ false → 21 ≤ length w → bytes_on n (record { tree = tree; word = w; line = line; last = last }) (b ∷ rest) ≡ bytes_on n (record { tree = tree; word = w; line = line; last = last }) rest
+  long-kept w rest b run e h = more-word w rest b ∙ long-same rest (w ++ b ∷ []) w (run-more w b run e) run (grown-length w b h) h
+
+-- ---- one byte
+
+-- how a reader stands after the end of a word
+abbrev pub IsEndOf : Bytewise → Bytewise → Type 0
+IsEndOf old new = new ≡ record { tree = new.tree; word = []; line = old.line; last = last_word_line old.last (begun old.line old.word) }
+
+module _ (n : ℕ) (old : Bytewise) where
+  -- the words that are left, where the first of them was begun
+  by-begun : (bytes : List ℕ) (others : List LineWord) → words_on old bytes ≡ begun old.line old.word ++ others
+      → bytes_on n old bytes ≡ read_on n (last_word_line (last_word_line old.last (begun old.line old.word)) others) old.tree (begun old.line old.word ++ others)
+  by-begun bytes others e =
+      ap (λ (z : List LineWord). read_on n (last_word_line old.last z) old.tree z) e
+      ∙ ap (λ l. read_on n l old.tree (begun old.line old.word ++ others)) (last-append old.last (begun old.line old.word) others)
+
+  -- a blank behind the word
+  module _ (b k : ℕ) (rest : List ℕ) (run : has_none is_blank_byte old.word ≡ true) (blank : is_blank_byte b ≡ true) (next : old.line + count_by is_line_feed (b ∷ []) ≡ k) where
+    left : words_on old (b ∷ rest) ≡ begun old.line old.word ++ words_from k rest
+    left = begun-blank old.line k b old.word rest (run-of old.word run) blank next
+
+    pub blank-tag : (new : Bytewise) (tag : Option Tag) → ((last : ℕ) (others : List LineWord) → read_on n last old.tree (begun old.line old.word ++ others) ≡ with_some tag (read_on n last new.tree others)) → IsEndOf old new
+        → bytes_on n old (b ∷ rest) ≡ with_some tag (bytes_on n (record { tree = new.tree; word = new.word; line = k; last = new.last }) rest)
+    blank-tag new tag f end =
+        let others = words_from k rest in
+        by-begun (b ∷ rest) others left
+        ∙ f (last_word_line (last_word_line old.last (begun old.line old.word)) others) others
+        ∙ ap (λ l. with_some tag (read_on n (last_word_line l others) new.tree others)) (sym (ap (λ (at : Bytewise). at.last) end))
+        ∙ ap (λ w. with_some tag (bytes_on n (record { tree = new.tree; word = w; line = k; last = new.last }) rest)) (sym (ap (λ (at : Bytewise). at.word) end))
+
+    pub blank-fault : (e : CertFault) → ((last : ℕ) (others : List LineWord) → read_on n last old.tree (begun old.line old.word ++ others) ≡ Err e) → bytes_on n old (b ∷ rest) ≡ Err e
+    blank-fault e f = by-begun (b ∷ rest) (words_from k rest) left ∙ f (last_word_line (last_word_line old.last (begun old.line old.word)) (words_from k rest)) (words_from k rest)
+
+  -- the end of the text behind the word
+  module _ (run : has_none is_blank_byte old.word ≡ true) where
+    pub end-tag : (new : Bytewise) (tag : Option Tag) (r : Result (List Tag) CertFault) → ((last : ℕ) (others : List LineWord) → read_on n last old.tree (begun old.line old.word ++ others) ≡ with_some tag (read_on n last new.tree others)) → IsEndOf old new
+        → read_on n new.last new.tree [] ≡ r → bytes_on n old [] ≡ with_some tag r
+    end-tag new tag r f end e =
+        let last = last_word_line old.last (begun old.line old.word) in
+        by-begun [] [] (begun-end old.line old.word (run-of old.word run)) ∙ f last []
+        ∙ ap (λ l. with_some tag (read_on n l new.tree [])) (sym (ap (λ (at : Bytewise). at.last) end)) ∙ ap (with_some tag) e
+
+    pub end-fault : (e : CertFault) → ((last : ℕ) (others : List LineWord) → read_on n last old.tree (begun old.line old.word ++ others) ≡ Err e) → bytes_on n old [] ≡ Err e
+    end-fault e f = by-begun [] [] (begun-end old.line old.word (run-of old.word run)) ∙ f (last_word_line old.last (begun old.line old.word)) []
+
+pub some-fault : (tag : Option Tag) (e : CertFault) → with_some tag (Err e) ≡ Err e
+some-fault None e = refl
+some-fault (Some tag) e = refl
+
+-- a blank that ends no line
+module _ (n b : ℕ) (old new : Bytewise) (r : Result (Option Tag) CertFault) (run : has_none is_blank_byte old.word ≡ true) (blank : is_blank_byte b ≡ true) (same : is_line_feed b ≡ false) where
+  stays : old.line + count_by is_line_feed (b ∷ []) ≡ old.line
+  stays = rw same (omega arith)
+
+  pub gap-tag : IfOk r (λ tag. (last : ℕ) (others : List LineWord) → read_on n last old.tree (begun old.line old.word ++ others) ≡ with_some tag (read_on n last new.tree others)) → IfOk r (λ tag. IsEndOf old new)
+      → IfOk r (λ tag. (rest : List ℕ) → bytes_on n old (b ∷ rest) ≡ with_some tag (bytes_on n new rest))
+  gap-tag f end =
+      elim r as (λ r. IfOk r (λ tag. (last : ℕ) (others : List LineWord) → read_on n last old.tree (begun old.line old.word ++ others) ≡ with_some tag (read_on n last new.tree others)) → IfOk r (λ tag. IsEndOf old new)
+      → IfOk r (λ tag. (rest : List ℕ) → bytes_on n old (b ∷ rest) ≡ with_some tag (bytes_on n new rest))) [
+        | Ok tag ↦ (λ f end rest. blank-tag n old b old.line rest run blank stays new tag f end
+            ∙ ap (λ l. with_some tag (bytes_on n (record { tree = new.tree; word = new.word; line = l; last = new.last }) rest)) (sym (ap (λ (at : Bytewise). at.line) end)))
+        | Err e ↦ (λ f end. tt)
+      ] f end
+
+  pub gap-fault : IfErr r (λ e. e ≢ NoMemory → (last : ℕ) (others : List LineWord) → read_on n last old.tree (begun old.line old.word ++ others) ≡ Err e)
+      → IfErr r (λ e. e ≢ NoMemory → (rest : List ℕ) → bytes_on n old (b ∷ rest) ≡ Err e)
+  gap-fault f = IfErr-weaker r (λ e. e ≢ NoMemory → (last : ℕ) (others : List LineWord) → read_on n last old.tree (begun old.line old.word ++ others) ≡ Err e) _ (λ e g ne rest. blank-fault n old b old.line rest run blank stays e (g ne)) f
+
+-- a blank that is no LF
+pub gap-byte : (b : ℕ) → (b ≡ 9) ⊎ ((b ≡ 13) ⊎ (b ≡ 32)) → (is_blank_byte b ≡ true) × (is_line_feed b ≡ false)
+gap-byte b (inl e) = rw e (refl, refl)
+gap-byte b (inr (inl e)) = rw e (refl, refl)
+gap-byte b (inr (inr e)) = rw e (refl, refl)

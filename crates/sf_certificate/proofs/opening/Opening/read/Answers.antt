@@ -1,0 +1,30 @@
+use Rattle.std.proofs.Common.{◌≡◌, ap, sym, subst, ◌∙◌, ◌++◌, List, ℕ, Err}
+use Rattle.std.proofs.lemmas.Result.{err_from_is_err_and}
+use Rattle.sf_lex.specs.Scan.{last_line_of}
+use Rattle.sf_certificate.specs.Bytes.{IsHeader, first_byte, bytes_on, said_with}
+use Rattle.sf_certificate.specs.Reading.{header_read, cert_read}
+use Rattle.sf_certificate.proofs.HeaderReads.{start-lines}
+use Rattle.sf_certificate.proofs.OpeningReads.{opened, opened-fault}
+use Rattle.sf_certificate.proofs.opening.Opening.read.Goals as goal
+
+pub returns-in_err-header-clause-fault : goal.returns-in_err-header-clause-fault
+returns-in_err-header-clause-fault c =
+    let p = err_from_is_err_and c.from_residual.result c.from_residual.ensures.1 in
+    let text = c.self.inside.text.items in
+    let n = c.args.blocks in
+    let other = last_line_of c.deref-2.result.now in
+    let at = start-lines c.new-scan.result text (c.new-scan.ensures.source ∙ c.deref.ensures.value) c.new-scan.ensures.from in
+    let e = c.in_err-header.field-0.0 in
+    rw (p.1, p.2) (λ ne rest. subst (λ (t : List ℕ). cert_read n (t ++ rest) ≡ Err e) c.self.view_is
+    (opened-fault n other text (subst IsHeader (sym c.self.view_is) c.requires) rest e (ap (header_read n other) (sym at) ∙ c.in_err-header.ensures.fault ne)))
+
+pub returns-clause-reads : goal.returns-clause-reads
+returns-clause-reads c rest =
+    let text = c.self.inside.text.items in
+    let n = c.args.blocks in
+    let other = last_line_of c.deref-2.result.now in
+    let at = start-lines c.new-scan.result text (c.new-scan.ensures.source ∙ c.deref.ensures.value) c.new-scan.ensures.from in
+    let header = c.in_ok-header.header in
+    let reads = opened n other text (subst IsHeader (sym c.self.view_is) c.requires) rest _ (ap (header_read n other) (sym at) ∙ c.in_ok-header.ensures.header) in
+    let reader = c.in_ok-reader.ensures ∙ ap (first_byte 7) (c.last_line.ensures ∙ ap last_line_of c.deref-3.ensures.value) in
+    ap (λ (t : List ℕ). cert_read n (t ++ rest)) (sym c.self.view_is) ∙ reads ∙ ap (λ at. said_with n header (bytes_on n at rest)) (sym reader)

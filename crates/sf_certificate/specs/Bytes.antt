@@ -1,0 +1,48 @@
+-- Reading a text byte by byte.
+use Rattle.std.specs.Prelude.{◌≡◌, ℕ, ◌<◌, List, [], ◌∷◌, ◌++◌, length, Result, Ok, Err}
+use Rattle.std.specs.List.{count_by}
+use Rattle.sf_lex.specs.Text.{is_line_feed, lines}
+use Rattle.sf_lex.specs.Scan.{LineWord, numbered, words_of_lines, last_word_line}
+use Rattle.sf_certificate.specs.declared.fault.CertFault.{CertFault}
+use Rattle.sf_certificate.specs.declared.header.Header.{Header}
+use Rattle.sf_certificate.specs.declared.tag.Tag.{Tag}
+use Rattle.sf_certificate.specs.Reading.{Reader, Said, first_reader, read_on}
+
+-- a reader of a tree between two bytes: what it was between two words, the word that isn't ended yet, the line in which the
+-- next byte stands, and the last line that holds a word
+pub record Bytewise : Type 0 where
+  pub tree : Reader
+  pub word : List ℕ
+  pub line : ℕ
+  pub last : ℕ
+
+-- before the first byte of a tree, which stands in this line, where the last line that holds a word is that
+abbrev pub first_byte : ℕ → ℕ → Bytewise
+first_byte line last = record { tree = first_reader; word = []; line = line; last = last }
+
+-- the words from here on: the first of them may have begun
+abbrev pub words_on : Bytewise → List ℕ → List LineWord
+words_on at bytes = words_of_lines (numbered at.line (lines (at.word ++ bytes)))
+
+-- the word that was begun, if one was
+abbrev pub begun : ℕ → List ℕ → List LineWord
+begun line [] = []
+begun line (b ∷ bytes) = record { line = line; text = b ∷ bytes } ∷ []
+
+-- the tags that the bytes from here on spell
+abbrev pub bytes_on : ℕ → Bytewise → List ℕ → Result (List Tag) CertFault
+bytes_on n at bytes = read_on n (last_word_line at.last (words_on at bytes)) at.tree (words_on at bytes)
+
+-- the header has not ended yet: it ends with the sixth line
+abbrev pub IsPart : List ℕ → Type 0
+IsPart text = count_by is_line_feed text < 6
+
+-- six lines, and what follows stands in further ones
+pub record IsHeader (text : List ℕ) : Type 0 where
+  pub six : length (lines text) ≡ 6
+  pub apart : (rest : List ℕ) → lines (text ++ rest) ≡ lines text ++ lines rest
+
+-- the certificate of a header and of a tree that is read
+abbrev pub said_with : ℕ → Header → Result (List Tag) CertFault → Result Said CertFault
+said_with n header (Ok tags) = Ok (record { blocks = n; plan = header.plan; cost = header.cost; bound = header.bound; tags = tags })
+said_with n header (Err fault) = Err fault
