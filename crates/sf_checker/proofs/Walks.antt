@@ -1,7 +1,5 @@
 -- What the walk keeps and finds.
-use Rattle.std.proofs.Common.{◌≡◌, ℕ, suc, ◌+◌, ◌<◌, ◌≤◌, min, List, [], ◌∷◌, ◌++◌, length, map, drop, get_or, arith, refl, ap, sym, subst, ◌∙◌, Bool, true, false, cond, ◌&&◌, inl, inr, ◌⊎◌, Option, Some, None, Result, Ok, Err}
-use Rattle.std.proofs.Math.Seq.{drop-cons}
-use Rattle.std.proofs.Math.ListN.{drop_of_length-le}
+use Rattle.std.proofs.Common.{◌≡◌, ℕ, ◌+◌, ◌<◌, ◌≤◌, min, List, [], ◌∷◌, ◌++◌, length, map, arith, refl, ap, sym, subst, ◌∙◌, Bool, true, false, cond, ◌&&◌, inl, inr, ◌⊎◌, Option, Some, None, Result, Ok, Err}
 use Rattle.std.specs.Prelude.{nat_lt}
 use Rattle.std.specs.List.{AllByRecursion}
 use Rattle.std.proofs.lemmas.Bool.Decides.{nat_tests}
@@ -10,9 +8,8 @@ use Rattle.sf_model.specs.declared.design.Design.{Design}
 use Rattle.sf_model.specs.Legal.{block_count}
 use Rattle.sf_model.proofs.Each.{each-append}
 use Rattle.sf_node.specs.Parts.{Parts}
-use Rattle.sf_node.specs.Subproblem.{root, is_complete, is_wide, span_of}
+use Rattle.sf_node.specs.Subproblem.{is_complete, is_wide, span_of}
 use Rattle.sf_node.specs.Children.{extended, split, can_split, IsSubproblem}
-use Rattle.sf_node.proofs.Reached.{root-subproblem}
 use Rattle.sf_certificate.specs.declared.tag.Tag.{Tag}
 use Rattle.sf_certificate.specs.declared.tag.Tag.TheVariants.{Extend, Split, Closed, Open}
 use Rattle.sf_certificate.specs.Places.{place_of, places_under, spell_trees}
@@ -23,7 +20,7 @@ use Rattle.sf_certificate.proofs.Places.{places-made}
 use Rattle.sf_certificate.proofs.Growth.{made-subproblems, trees-first}
 use Rattle.sf_checker.specs.declared.answer.Why.{Why}
 use Rattle.sf_checker.specs.declared.answer.Why.TheVariants.{NotClosed, BadSplit, BadChildren}
-use Rattle.sf_checker.specs.Walking.{Progress, fault_at, one_decided, lowered, past, unless, visited, walked, and_then, start}
+use Rattle.sf_checker.specs.Walking.{Progress, fault_at, one_decided, lowered, past, unless, visited, walked, and_then}
 
 some-else : (b : Bool) (why : Why) → cond b (Some why) None ≡ None → b ≡ false
 some-else true why e = absurd (cc)
@@ -116,59 +113,24 @@ one-most (Split b) = omega arith
 one-most Closed = omega arith
 one-most Open = omega arith
 
-visit-subproblems : (design : Design) (bound : Parts → ℕ) (cost : ℕ) (walk : Progress) (waiting : List Parts) (tag : Tag) (next : Progress) → waiting ≡ walk.waiting → visited bound cost walk waiting tag ≡ Ok next → AllByRecursion (IsSubproblem design) waiting → AllByRecursion (IsSubproblem design) next.waiting
-visit-subproblems design bound cost walk [] tag next w e subs = let same : walk ≡ next = cc in subst (AllByRecursion (IsSubproblem design)) (w ∙ ap (λ z. z.waiting) same) subs
-visit-subproblems design bound cost walk (node ∷ nodes) tag next w e subs =
-    let v = visit-fact bound cost walk node nodes tag next e in
-    subst (AllByRecursion (IsSubproblem design)) v.waiting (each-append (IsSubproblem design) (made tag node) nodes (made-subproblems design bound cost tag node subs.0 v.fair) subs.1)
+-- ---- tags one after another
 
-visit-number : (bound : Parts → ℕ) (cost : ℕ) (walk : Progress) (waiting : List Parts) (tag : Tag) (next : Progress) → visited bound cost walk waiting tag ≡ Ok next → walk.decided ≤ walk.number → (next.number ≤ walk.number + 1) × (next.decided ≤ next.number)
-visit-number bound cost walk [] tag next e h =
-    let same : walk ≡ next = cc in
-    let n = ap (λ (z : Progress). z.number) same in
-    let d = ap (λ (z : Progress). z.decided) same in
-    (omega arith, omega arith)
-visit-number bound cost walk (node ∷ nodes) tag next e h =
-    let v = visit-fact bound cost walk node nodes tag next e in
-    (omega (arith, v.number), omega (arith, v.number, v.decided, one-most tag))
+step-append : (r : Result Progress Why) (f g h : Progress → Result Progress Why) → ((walk : Progress) → f walk ≡ and_then (g walk) h) → and_then r f ≡ and_then (and_then r g) h
+step-append (Ok walk) f g h e = e walk
+step-append (Err why) f g h e = refl
 
--- the walk so far, after i tags
-pub record IsWalking (design : Design) (bound : Parts → ℕ) (cost : ℕ) (tags : List Tag) (walk : Progress) (i : ℕ) : Type 0 where
-  pub rest : walked bound cost (start (root design) cost) tags ≡ walked bound cost walk (drop i tags)
-  pub subproblems : AllByRecursion (IsSubproblem design) walk.waiting
-  pub few : walk.number ≤ i
-  pub counted : walk.decided ≤ walk.number
-
-pub walking-start : (design : Design) (bound : Parts → ℕ) (cost : ℕ) (tags : List Tag) (walk : Progress) → walk ≡ start (root design) cost → IsWalking design bound cost tags walk 0
-walking-start design bound cost tags walk e =
-    record {
-      rest = ap (λ w. walked bound cost w tags) (sym e);
-      subproblems = subst (λ w. AllByRecursion (IsSubproblem design) w.waiting) (sym e) (root-subproblem design, tt);
-      few = omega (arith, ap (λ (w : Progress). w.number) e);
-      counted = omega (arith, ap (λ (w : Progress). w.number) e, ap (λ (w : Progress). w.decided) e);
-    }
-
-one-more : (bound : Parts → ℕ) (cost : ℕ) (tags : List Tag) (walk : Progress) (i : ℕ) (d : Tag) → i < length tags → walked bound cost walk (drop i tags) ≡ and_then (visited bound cost walk walk.waiting (get_or tags i d)) (λ next. walked bound cost next (drop (suc i) tags))
+-- the walk goes on from where it came to
+pub walked-append : (bound : Parts → ℕ) (cost : ℕ) (first more : List Tag) (walk : Progress) → walked bound cost walk (first ++ more) ≡ and_then (walked bound cost walk first) (λ next. walked bound cost next more)
 unfolding walked
-one-more bound cost tags walk i d h = ap (walked bound cost walk) (drop-cons tags i d h)
+walked-append bound cost [] more walk = refl
+walked-append bound cost (tag ∷ first) more walk =
+    step-append (visited bound cost walk walk.waiting tag) (λ next. walked bound cost next (first ++ more)) (λ next. walked bound cost next first) (λ next. walked bound cost next more) (λ next. walked-append bound cost first more next)
 
-pub walking-step : (design : Design) (bound : Parts → ℕ) (cost : ℕ) (tags : List Tag) (walk next : Progress) (i : ℕ) (d : Tag) → i < length tags → visited bound cost walk walk.waiting (get_or tags i d) ≡ Ok next → IsWalking design bound cost tags walk i → IsWalking design bound cost tags next (i + 1)
-walking-step design bound cost tags walk next i d h e w =
-    let n = visit-number bound cost walk walk.waiting (get_or tags i d) next e w.counted in
-    let j : suc i ≡ i + 1 = omega arith in
-    record {
-      rest = w.rest ∙ one-more bound cost tags walk i d h ∙ ap (λ r. and_then r (λ z. walked bound cost z (drop (suc i) tags))) e ∙ ap (λ k. walked bound cost next (drop k tags)) j;
-      subproblems = visit-subproblems design bound cost walk walk.waiting (get_or tags i d) next refl e w.subproblems;
-      few = omega (arith, n.0, w.few);
-      counted = n.1;
-    }
-
-pub walking-fault : (design : Design) (bound : Parts → ℕ) (cost : ℕ) (tags : List Tag) (walk : Progress) (why : Why) (i : ℕ) (d : Tag) → i < length tags → visited bound cost walk walk.waiting (get_or tags i d) ≡ Err why → IsWalking design bound cost tags walk i → walked bound cost (start (root design) cost) tags ≡ Err why
-walking-fault design bound cost tags walk why i d h e w = w.rest ∙ one-more bound cost tags walk i d h ∙ ap (λ r. and_then r (λ z. walked bound cost z (drop (suc i) tags))) e
-
-pub walking-end : (design : Design) (bound : Parts → ℕ) (cost : ℕ) (tags : List Tag) (walk : Progress) (i : ℕ) → length tags ≤ i → IsWalking design bound cost tags walk i → walked bound cost (start (root design) cost) tags ≡ Ok walk
+-- one tag
+pub walked-one : (bound : Parts → ℕ) (cost : ℕ) (walk : Progress) (tag : Tag) (r : Result Progress Why) → visited bound cost walk walk.waiting tag ≡ r → walked bound cost walk (tag ∷ []) ≡ r
 unfolding walked
-walking-end design bound cost tags walk i h w = w.rest ∙ ap (walked bound cost walk) (drop_of_length-le tags h)
+walked-one bound cost walk tag (Ok next) e = ap (λ r. and_then r (λ next. walked bound cost next [])) e
+walked-one bound cost walk tag (Err why) e = ap (λ r. and_then r (λ next. walked bound cost next [])) e
 
 -- ---- what the end of the walk says of the tags
 

@@ -9,10 +9,14 @@
 
 mod answer;
 mod checking;
+mod judge;
+mod pieces;
 mod planning;
+mod stage;
 #[cfg(test)]
 mod tests;
 mod walk;
 
 pub use answer::{Answer, Why};
 pub use checking::check;
+pub use pieces::{Checking, FinishFault};

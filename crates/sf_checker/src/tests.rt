@@ -3,9 +3,9 @@
 ghost use Rattle.std.specs.Prelude.{◌≡◌, ◌∷◌, [], IfOk};
 ghost use Rattle.sf_model.specs.Legal.{block_count};
 
-use crate::{Answer, Why, check};
+use crate::{Answer, Checking, FinishFault, Why, check};
 use sf_bounds::Standard;
-use sf_certificate::read;
+use sf_certificate::{CertFault, read};
 use sf_model::{Block, BlockList, Design, Name, NetList, Outline, PadList, Shape, Shapes, Weights};
 use std::alloc::{AllocError, Global};
 use std::test::Fail;
@@ -32,6 +32,15 @@ fn two_blocks(alloc: Global) -> Result<Design, AllocError>
         outline: Outline { w: 100, h: 100 },
         weights: Weights { area: 1, wire: 0 },
     })
+}
+
+/// The answer to a text that comes byte by byte.
+fn byte_by_byte(alloc: Global, design: &Design, text: &[u8]) -> Result<Answer, FinishFault> {
+    let mut checking = Checking::new(alloc, design, &Standard)?;
+    for byte in text {
+        checking.feed(&[*byte])?;
+    }
+    checking.finish()
 }
 
 #[test]
@@ -71,6 +80,42 @@ fn answers_the_first_failure(rt: HostRuntime) -> Result<(), Fail> {
     for (text, answer) in rows {
         let cert = read(alloc, text, 2)?;
         assert_eq!(rt; check(alloc, &design, &Standard, &cert)?, answer);
+        assert_eq!(rt; byte_by_byte(alloc, &design, text), Ok(answer));
+    }
+    Ok(())
+}
+
+#[test]
+fn tells_the_first_fault_of_a_text(rt: HostRuntime) -> Result<(), Fail> {
+    let alloc = rt.alloc();
+    let design = two_blocks(alloc)?;
+    let rows = [
+        (
+            b"slicing-certificate 1\nblocks 2\ncost none\nbound 0\nplan none\ntree\nE\nE\n".as_slice(),
+            CertFault::Truncated(8),
+        ),
+        (
+            b"slicing-certificate 1\nblocks 2\ncost none\nbound 0\nplan none\ntree\nE\nE\nE\nC\nC\nO\nC\n".as_slice(),
+            CertFault::Trailing(13),
+        ),
+        (
+            b"slicing-certificate 1\nblocks 2\ncost none\nbound 0\nplan none\ntree\nX\nE\n".as_slice(),
+            CertFault::BadTag(7),
+        ),
+        (
+            b"slicing-certificate 1\nblocks 2\ncost none\nbound 0\nplan none\ntree\nX".as_slice(),
+            CertFault::BadTag(7),
+        ),
+        (
+            b"slicing-certificate 1\nblocks 2\ncost none".as_slice(),
+            CertFault::BadHeader(3),
+        ),
+    ];
+    for (text, fault) in rows {
+        assert_eq!(rt;
+            byte_by_byte(alloc, &design, text),
+            Err(FinishFault::Text(fault))
+        );
     }
     Ok(())
 }

@@ -1,0 +1,122 @@
+-- What is found, tag by tag.
+use Rattle.std.proofs.Common.{◌≡◌, ◌⊎◌, inl, inr, ℕ, suc, ◌+◌, ◌<◌, length, false, List, [], ◌∷◌, ◌++◌, take, drop, get_or, arith, refl, ap, sym, true, ◌==◌, subst, ◌∙◌, append_assoc, Option, Some, None, Result, Ok, Err}
+use Rattle.std.proofs.Math.Seq.{drop-cons, take-suc}
+use Rattle.std.proofs.lemmas.List.{take-append-drop}
+use Rattle.std.specs.Prelude.{◌≢◌, MatchOption, is_some}
+use Rattle.std.proofs.lemmas.Bool.Decides.{nat_tests}
+use Rattle.sf_model.specs.declared.design.Design.{Design}
+use Rattle.sf_model.specs.Legal.{block_count}
+use Rattle.sf_model.specs.declared.TheConstants.{MAX}
+use Rattle.sf_polish.specs.declared.expr.Expr.{Expr}
+use Rattle.sf_node.specs.Parts.{Parts}
+use Rattle.sf_node.specs.Subproblem.{root}
+use Rattle.sf_certificate.specs.declared.cert.Cert.{Cert}
+use Rattle.sf_certificate.specs.declared.tag.Tag.{Tag}
+use Rattle.sf_certificate.specs.Form.{no_plan}
+use Rattle.sf_certificate.specs.Valid.{HasCost}
+use Rattle.sf_checker.specs.declared.answer.Why.{Why}
+use Rattle.sf_checker.specs.declared.answer.Why.TheVariants.{BadPlan, CostDiffers, BoundDiffers}
+use Rattle.sf_checker.specs.Answers.{IsPlanRight, IsBadPlan, IsOtherCost, IsFirst, IsRight}
+use Rattle.sf_checker.specs.Walking.{Progress, Stand, visited, walked, and_then, start, progress_of}
+use Rattle.sf_checker.specs.Judging.{Judged, IsFound}
+use Rattle.sf_checker.proofs.Answered.{answer-yes, answer-bound}
+use Rattle.sf_checker.proofs.Walks.{walked-append, walked-one}
+
+-- where nothing failed, the plan is right and the walk went over the tags
+pub found-none : (design : Design) (bound : Parts → ℕ) (cert : Cert) (tags : List Tag) (judge : Judged) → judge.found ≡ None → IsFound design bound cert tags judge
+    → IsPlanRight design cert × (walked bound cert.cost (start (root design) cert.cost) tags ≡ Ok (progress_of design judge.walk))
+found-none design bound cert tags judge none found =
+    subst (λ o. MatchOption o (IsPlanRight design cert × (walked bound cert.cost (start (root design) cert.cost) tags ≡ Ok (progress_of design judge.walk))) (IsFirst design bound cert)) none found
+
+module _ (design : Design) (bound : Parts → ℕ) (cert : Cert) (tags more : List Tag) (tag : Tag) (old : Judged) (found : IsFound design bound cert tags old) where
+  -- after a failure nothing more is sought
+  pub found-stays : (new : Judged) (why : Why) → old.found ≡ Some why → new.found ≡ Some why → IsFound design bound cert (tags ++ tag ∷ []) new
+  found-stays new why e f =
+      subst (λ o. MatchOption o (IsPlanRight design cert × (walked bound cert.cost (start (root design) cert.cost) (tags ++ tag ∷ []) ≡ Ok (progress_of design new.walk))) (IsFirst design bound cert)) (sym f)
+      (subst (λ o. MatchOption o (IsPlanRight design cert × (walked bound cert.cost (start (root design) cert.cost) tags ≡ Ok (progress_of design old.walk))) (IsFirst design bound cert)) e found)
+
+  module _ (cost : ℕ) (none : old.found ≡ None) (same : cert.cost ≡ cost) (is : cert.tags ≡ tags ++ tag ∷ more) where
+    so-far : IsPlanRight design cert × (walked bound cert.cost (start (root design) cert.cost) tags ≡ Ok (progress_of design old.walk))
+    so-far = found-none design bound cert tags old none found
+
+    one-more : (r : Result Progress Why) → visited bound cost (progress_of design old.walk) (progress_of design old.walk).waiting tag ≡ r → walked bound cert.cost (start (root design) cert.cost) (tags ++ tag ∷ []) ≡ r
+    one-more r e =
+        walked-append bound cert.cost tags (tag ∷ []) (start (root design) cert.cost)
+        ∙ ap (λ w. and_then w (λ next. walked bound cert.cost next (tag ∷ []))) so-far.1
+        ∙ walked-one bound cert.cost (progress_of design old.walk) tag r (subst (λ z. visited bound z (progress_of design old.walk) (progress_of design old.walk).waiting tag ≡ r) (sym same) e)
+
+    -- the tag may stand where it stands
+    pub found-next : (new : Judged) → new.found ≡ None → visited bound cost (progress_of design old.walk) (progress_of design old.walk).waiting tag ≡ Ok (progress_of design new.walk) → IsFound design bound cert (tags ++ tag ∷ []) new
+    found-next new f e =
+        subst (λ o. MatchOption o (IsPlanRight design cert × (walked bound cert.cost (start (root design) cert.cost) (tags ++ tag ∷ []) ≡ Ok (progress_of design new.walk))) (IsFirst design bound cert)) (sym f)
+        (so-far.0, one-more (Ok (progress_of design new.walk)) e)
+
+    -- the tag is the first failure
+    pub found-fault : (why : Why) → visited bound cost (progress_of design old.walk) (progress_of design old.walk).waiting tag ≡ Err why → IsFirst design bound cert why
+    found-fault why e =
+        let all : cert.tags ≡ (tags ++ tag ∷ []) ++ more = is ∙ sym (append_assoc tags (tag ∷ []) more) in
+        inr (inr (inl (record {
+          plan = so-far.0;
+          found = ap (walked bound cert.cost (start (root design) cert.cost)) all
+              ∙ walked-append bound cert.cost (tags ++ tag ∷ []) more (start (root design) cert.cost)
+              ∙ ap (λ w. and_then w (λ next. walked bound cert.cost next more)) (one-more (Err why) e);
+        })))
+
+-- ---- the plan
+
+max-eq : (z : ℕ) → true ≡ (z == MAX) → z ≡ MAX
+max-eq z e = grind (arith, nat_tests)
+
+no-cost : (cert : Cert) → cert.plan ≡ None → cert.cost ≡ MAX
+no-cost cert e = max-eq cert.cost (sym (ap no_plan e) ∙ cert.form.unplanned)
+
+-- no plan comes without a cost
+pub plan-none : (design : Design) (cert : Cert) → cert.plan ≡ None → IsPlanRight design cert
+plan-none design cert e =
+    subst (λ p. MatchOption p (cert.cost ≡ MAX) (λ expr. HasCost design expr cert.cost)) (sym e) (no-cost cert e)
+
+pub plan-right : (design : Design) (cert : Cert) (expr : Expr) (cost : ℕ) → cert.plan ≡ Some expr → cert.cost ≡ cost → HasCost design expr cost → IsPlanRight design cert
+plan-right design cert expr cost e same h =
+    subst (λ p. MatchOption p (cert.cost ≡ MAX) (λ expr. HasCost design expr cert.cost)) (sym e) (subst (HasCost design expr) (sym same) h)
+
+-- ---- the answer
+
+module _ (design : Design) (bound : Parts → ℕ) (cert : Cert) (judge : Judged) (blocks : cert.blocks ≡ block_count design) (none : judge.found ≡ None) (found : IsFound design bound cert cert.tags judge)
+    (cost stated : ℕ) (cost_is : cert.cost ≡ cost) (stated_is : cert.bound ≡ stated) where
+  pub judged-yes : (count : ℕ) → judge.walk.low ≡ stated → count ≡ judge.walk.decided → IsRight design bound cert cost stated count
+  judged-yes count low is =
+      let f = found-none design bound cert cert.tags judge none found in
+      let right = answer-yes design bound cert (progress_of design judge.walk) count blocks f.0 f.1 (low ∙ sym stated_is) is in
+      record { valid = right.valid; cost = sym cost_is; bound_is = sym stated_is; count_is = right.count_is }
+
+  pub judged-bound : (is : ℕ) → is ≡ judge.walk.low → stated ≢ is → IsFirst design bound cert (BoundDiffers stated is)
+  judged-bound is low differs =
+      let f = found-none design bound cert cert.tags judge none found in
+      inr (inr (inr (is, ap (λ b. BoundDiffers b is) (sym stated_is), answer-bound design bound cert (progress_of design judge.walk) is blocks f.0 f.1 low (λ e. differs (sym stated_is ∙ e)))))
+
+-- ---- before the first tag and after the next
+
+walked-none : (bound : Parts → ℕ) (cost : ℕ) (walk : Progress) → walked bound cost walk [] ≡ Ok walk
+unfolding walked
+walked-none bound cost walk = refl
+
+pub found-start : (design : Design) (bound : Parts → ℕ) (cert : Cert) (walk : Stand) (cost : ℕ) (fault : Option Why)
+    → MatchOption fault (IsPlanRight design cert) (λ why. ((why ≡ BadPlan) × IsBadPlan design cert) ⊎ ((is : ℕ) × (why ≡ CostDiffers cert.cost is) × IsOtherCost design cert is))
+    → progress_of design walk ≡ start (root design) cost → cert.cost ≡ cost
+    → MatchOption fault (IsPlanRight design cert × (walked bound cert.cost (start (root design) cert.cost) [] ≡ Ok (progress_of design walk))) (IsFirst design bound cert)
+found-start design bound cert walk cost None right e same =
+    (right, walked-none bound cert.cost (start (root design) cert.cost) ∙ ap Ok (ap (start (root design)) same ∙ sym e))
+found-start design bound cert walk cost (Some why) (inl bad) e same = inl bad
+found-start design bound cert walk cost (Some why) (inr other) e same = inr (inl other)
+
+pub none-of : (o : Option Why) → is_some o ≡ false → o ≡ None
+none-of None e = refl
+none-of (Some why) e = absurd (cc)
+
+pub at-tag : (tags : List Tag) (i : ℕ) (d : Tag) → i < length tags → tags ≡ take i tags ++ get_or tags i d ∷ drop (suc i) tags
+at-tag tags i d h = sym (take-append-drop i tags) ∙ ap (λ ts. take i tags ++ ts) (drop-cons tags i d h)
+
+pub past-tag : (tags : List Tag) (i : ℕ) (d : Tag) → i < length tags → take i tags ++ get_or tags i d ∷ [] ≡ take (i + 1) tags
+past-tag tags i d h =
+    let more : suc i ≡ i + 1 = omega arith in
+    sym (take-suc tags i d h) ∙ ap (λ k. take k tags) more

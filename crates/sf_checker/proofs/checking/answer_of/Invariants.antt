@@ -1,0 +1,9 @@
+use Rattle.std.proofs.Common.{take}
+use Rattle.sf_checker.specs.Judging.{IsSteady, IsFound}
+use Rattle.sf_checker.proofs.checking.answer_of.Given as goal
+
+abbrev pub invariant-loop-tag : goal.invariant-loop-tag
+invariant-loop-tag g l = record {
+  steady : IsSteady l.design (g.B.Values.value l.bounds l.design) l.judge;
+  found : IsFound l.design (g.B.Values.value l.bounds l.design) l.cert (take l.tag-index l.tag-items) l.judge;
+}

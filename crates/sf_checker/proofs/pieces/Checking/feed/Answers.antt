@@ -1,0 +1,10 @@
+use Rattle.std.proofs.Common.{sym, subst}
+use Rattle.sf_checker.specs.Feeding.{IsFed}
+use Rattle.sf_checker.proofs.Fed.{fed-more}
+use Rattle.sf_checker.proofs.pieces.Checking.feed.Goals as goal
+
+pub returns-clause-fed : goal.returns-clause-fed
+returns-clause-fed g c design bound text fed =
+    let inside = c.self.inside in
+    fed-more g.B.Values.value design bound inside.design.now inside.bounds.now text c.args.piece.now inside.stage c.feed.new.self c.feed.result
+    (subst (IsFed g.B.Values.value design bound text) (sym c.self.view_is) fed) c.feed.ensures.fed

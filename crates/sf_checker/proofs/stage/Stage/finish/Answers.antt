@@ -1,0 +1,12 @@
+use Rattle.std.proofs.Common.{ap, sym, subst, ◌∙◌, [], append-nil}
+use Rattle.sf_model.specs.Legal.{block_count}
+use Rattle.sf_certificate.specs.Reading.{cert_read}
+use Rattle.sf_checker.specs.declared.stage.Stage.TheVariants.{Fault}
+use Rattle.sf_checker.specs.Feeding.{IsStage}
+use Rattle.sf_checker.proofs.stage.Stage.finish.Goals as goal
+
+pub returns-in-Fault-clause-fault : goal.returns-in-Fault-clause-fault
+returns-in-Fault-clause-fault g c text at ne =
+    let stage : IsStage c.args.design.now (g.B.Values.value c.args.bounds.now c.args.design.now) text (Fault c.in-Fault.fault) =
+    subst (IsStage c.args.design.now (g.B.Values.value c.args.bounds.now c.args.design.now) text) c.in-Fault.is at in
+    ap (cert_read (block_count c.args.design.now)) (sym (append-nil text)) ∙ stage.1 []

@@ -1,0 +1,212 @@
+//! How far a text has come that is fed in pieces.
+
+ghost use Rattle.std.specs.Prelude.{◌≡◌, ◌≢◌, ℕ, ◌≤◌, List, [], ◌∷◌, ◌++◌, IfOk, IfErr, OnOk, OnErr, IsErr, IsTrue, ◌↔◌, Err};
+ghost use Rattle.sf_model.specs.Legal.{block_count};
+ghost use Rattle.sf_certificate.specs.declared.fault.CertFault.TheVariants.{NoMemory};
+ghost use Rattle.sf_certificate.specs.Bytes.{IsHeader};
+ghost use Rattle.sf_certificate.specs.Reading.{cert_read};
+ghost use Rattle.sf_checker.specs.Feeding.{IsAnswerTo};
+
+use crate::answer::Answer;
+use crate::checking::check;
+use crate::judge::Judge;
+use sf_bounds::Bounds;
+use sf_certificate::{ByteReader, CertFault, Header, Opening, read};
+use sf_model::Design;
+use std::alloc::{AllocError, Global};
+
+/// A text whose header was read: what it says, the reader of the tree, and what is found of the tags so far.
+#[derive(Drop)]
+pub struct Body<'a> {
+    header: Header,
+    reader: ByteReader,
+    judge: Judge<'a>,
+}
+
+/// A text up to the end of its header, one whose header was read, or one that has a fault, whatever follows. Where memory was
+/// wanting, that is the fault.
+#[derive(Drop)]
+pub enum Stage<'a> {
+    Opening(Opening),
+    Tree(Body<'a>),
+    Fault(CertFault),
+}
+
+fn block_count(design: &Design) -> u16
+    ensures value { result ≡ block_count design.now }
+    ensures some { 1 ≤ result }
+    ensures few { result ≤ 320 }
+{
+    design.blocks.as_slice().len() as u16
+}
+
+/// The answer to a text that is read at once.
+fn answer_whole<B: Bounds>(
+    alloc: Global,
+    design: &Design,
+    bounds: &B,
+    text: &[u8],
+) -> Result<Answer, CertFault>
+    ensures answer { IfOk result (λ a. IsAnswerTo design.now (B.Values.value bounds.now design.now) text.now a) }
+    ensures fault { IfErr result (λ e. e ≢ NoMemory → cert_read (block_count design.now) text.now ≡ Err e) }
+{
+    let cert = read(alloc, text, block_count(design))?;
+    let answer = check(alloc, design, bounds, &cert)?;
+    Ok(answer)
+}
+
+impl<'a> Body<'a> {
+    ghost use Rattle.sf_checker.specs.Feeding.{IsAnswerTo, IsBody, IsFaulty};
+    ghost use Rattle.sf_checker.specs.Judging.{IsSteady};
+
+    /// At the first byte behind the header.
+    fn new<B: Bounds>(
+        alloc: Global,
+        design: &'a Design,
+        bounds: &B,
+        opening: &Opening,
+    ) -> Result<Body<'a>, CertFault>
+        requires { IsHeader opening.now }
+        ensures steady { IfOk result (λ body. IsSteady design.now (B.Values.value bounds.now design.now) body.judge) }
+        ensures reads { IfOk result (λ body. IsBody design.now (B.Values.value bounds.now design.now) opening.now body) }
+        ensures fault { IfErr result (λ e. e ≢ NoMemory → IsFaulty design.now opening.now e) }
+    {
+        let (header, reader) = opening.read(alloc, block_count(design))?;
+        let judge = Judge::new(alloc, design, bounds, &header.plan, header.cost)?;
+        Ok(Body {
+            header,
+            reader,
+            judge,
+        })
+    }
+
+    /// One byte more.
+    fn take<B: Bounds>(&mut self, design: &'a Design, bounds: &B, byte: u8) -> Result<(), CertFault>
+        requires steady { IsSteady design.now (B.Values.value bounds.now design.now) self.old.judge }
+        ensures steady { OnOk result (IsSteady design.now (B.Values.value bounds.now design.now) self.new.judge) }
+        ensures reads { (text : List ℕ) → IsBody design.now (B.Values.value bounds.now design.now) text self.old → OnOk result (IsBody design.now (B.Values.value bounds.now design.now) (text ++ byte ∷ []) self.new) }
+        ensures fault { (text : List ℕ) → IsBody design.now (B.Values.value bounds.now design.now) text self.old → IfErr result (λ e. e ≢ NoMemory → IsFaulty design.now (text ++ byte ∷ []) e) }
+    {
+        if let Some(tag) = self.reader.take(byte, block_count(design))? {
+            self.judge.take(design, bounds, self.header.cost, tag)?;
+        }
+        Ok(())
+    }
+
+    /// The answer, after the last byte.
+    fn finish<B: Bounds>(self, design: &'a Design, bounds: &B) -> Result<Answer, CertFault>
+        requires steady { IsSteady design.now (B.Values.value bounds.now design.now) self.judge }
+        ensures answer { (text : List ℕ) → IsBody design.now (B.Values.value bounds.now design.now) text self.entry → IfOk result (λ a. IsAnswerTo design.now (B.Values.value bounds.now design.now) text a) }
+        ensures fault { (text : List ℕ) → IsBody design.now (B.Values.value bounds.now design.now) text self.entry → IfErr result (λ e. e ≢ NoMemory → cert_read (block_count design.now) text ≡ Err e) }
+    {
+        let Body {
+            header,
+            reader,
+            mut judge,
+        } = self;
+        if let Some(tag) = reader.finish(block_count(design))? {
+            judge.take(design, bounds, header.cost, tag)?;
+        }
+        Ok(judge.answer(header.cost, header.bound))
+    }
+}
+
+impl<'a> Stage<'a> {
+    ghost use Rattle.sf_checker.specs.Feeding.{IsAnswerTo, IsFaulty, IsReady, IsStage, IsWanting};
+
+    fn is_wanting(&self) -> bool
+        ensures { IsTrue result ↔ IsWanting self.now }
+    {
+        matches!(self, Stage::Fault(CertFault::NoMemory))
+    }
+
+    /// One byte after another.
+    pub fn feed<B: Bounds>(
+        &mut self,
+        alloc: Global,
+        design: &'a Design,
+        bounds: &B,
+        piece: &[u8],
+    ) -> Result<(), AllocError>
+        requires ready { IsReady design.now (B.Values.value bounds.now design.now) self.old }
+        ensures ready { IsReady design.now (B.Values.value bounds.now design.now) self.new }
+        ensures fed { (text : List ℕ) → IsStage design.now (B.Values.value bounds.now design.now) text self.old → OnOk result (IsStage design.now (B.Values.value bounds.now design.now) (text ++ piece.now) self.new) }
+        ensures spent { OnErr result (IsWanting self.new) }
+        ensures stays { IsWanting self.old → IsErr result }
+    {
+        if self.is_wanting() {
+            return Err(AllocError);
+        }
+        for byte in piece {
+            self.take(alloc, design, bounds, *byte)?;
+        }
+        Ok(())
+    }
+
+    /// One byte more. A text at fault stays so.
+    fn take<B: Bounds>(
+        &mut self,
+        alloc: Global,
+        design: &'a Design,
+        bounds: &B,
+        byte: u8,
+    ) -> Result<(), AllocError>
+        requires ready { IsReady design.now (B.Values.value bounds.now design.now) self.old }
+        ensures ready { IsReady design.now (B.Values.value bounds.now design.now) self.new }
+        ensures fed { (text : List ℕ) → IsStage design.now (B.Values.value bounds.now design.now) text self.old → OnOk result (IsStage design.now (B.Values.value bounds.now design.now) (text ++ byte ∷ []) self.new) }
+        ensures spent { OnErr result (IsWanting self.new) }
+    {
+        let Err(fault) = self.advance(alloc, design, bounds, byte) else {
+            return Ok(());
+        };
+        *self = Stage::Fault(fault);
+        match fault {
+            CertFault::NoMemory => Err(AllocError),
+            _ => Ok(()),
+        }
+    }
+
+    /// One byte more, or the fault that the text has, whatever follows.
+    fn advance<B: Bounds>(
+        &mut self,
+        alloc: Global,
+        design: &'a Design,
+        bounds: &B,
+        byte: u8,
+    ) -> Result<(), CertFault>
+        requires ready { IsReady design.now (B.Values.value bounds.now design.now) self.old }
+        ensures ready { OnOk result (IsReady design.now (B.Values.value bounds.now design.now) self.new) }
+        ensures fed { (text : List ℕ) → IsStage design.now (B.Values.value bounds.now design.now) text self.old → OnOk result (IsStage design.now (B.Values.value bounds.now design.now) (text ++ byte ∷ []) self.new) }
+        ensures fault { (text : List ℕ) → IsStage design.now (B.Values.value bounds.now design.now) text self.old → IfErr result (λ e. e ≢ NoMemory → IsFaulty design.now (text ++ byte ∷ []) e) }
+    {
+        match self {
+            Stage::Opening(opening) => {
+                if opening.take(byte)? {
+                    *self = Stage::Tree(Body::new(alloc, design, bounds, opening)?);
+                }
+                Ok(())
+            }
+            Stage::Tree(body) => body.take(design, bounds, byte),
+            Stage::Fault(fault) => Err(*fault),
+        }
+    }
+
+    /// The answer, after the last byte.
+    pub fn finish<B: Bounds>(
+        self,
+        alloc: Global,
+        design: &'a Design,
+        bounds: &B,
+    ) -> Result<Answer, CertFault>
+        requires ready { IsReady design.now (B.Values.value bounds.now design.now) self }
+        ensures answer { (text : List ℕ) → IsStage design.now (B.Values.value bounds.now design.now) text self.entry → IfOk result (λ a. IsAnswerTo design.now (B.Values.value bounds.now design.now) text a) }
+        ensures fault { (text : List ℕ) → IsStage design.now (B.Values.value bounds.now design.now) text self.entry → IfErr result (λ e. e ≢ NoMemory → cert_read (block_count design.now) text ≡ Err e) }
+        ensures stays { IsWanting self.entry → result ≡ Err NoMemory }
+    {
+        match self {
+            Stage::Opening(opening) => answer_whole(alloc, design, bounds, opening.text()),
+            Stage::Tree(body) => body.finish(design, bounds),
+            Stage::Fault(fault) => Err(fault),
+        }
+    }
+}
