@@ -1,11 +1,12 @@
 // Files and the standard output. Nothing is told of what they hold or take.
-ghost use Rattle.std.specs.Prelude.{◌≡◌, ◌+◌, ◌≤◌, ◌<◌, length, take, None, IfOk};
+ghost use Rattle.std.specs.Prelude.{◌≡◌, ◌+◌, ◌≤◌, ◌<◌, length, take, None, IfOk, OnOk, OnErr, IsErrOf};
+ghost use Rattle.sf_io.specs.Outside.{one_more};
 
+use crate::again::{read_some, write_some};
 use crate::{Failed, Gate, LoadFault, Shelf, Sink};
 use std::alloc::Global;
-use std::fs;
-use std::io::{Read, Write};
 use std::rt::Files;
+use std::{fs, io};
 
 const PIECE: usize = 16384;
 
@@ -36,13 +37,23 @@ impl<R: Files + Drop> HostShelf<R> {
 }
 
 impl<R: Files + Drop> Shelf for HostShelf<R> {
+    ghost use Rattle.sf_io.specs.Host.{host_load_faults, host_store_faults};
+
     ghost holds = { λ _. None };
 
     ghost load_faults = { λ s. s.load_faults };
 
     ghost store_faults = { λ s. s.store_faults };
 
-    fn load(&mut self, name: &str, limit: u64) -> Result<Vec<u8>, LoadFault> {
+    fn load(&mut self, name: &str, limit: u64) -> Result<Vec<u8>, LoadFault>
+        ensures limit { IfOk result (λ bytes. length bytes.items ≤ limit) }
+
+        // A load that failed is counted, and no other call.
+        ensures failed { IsErrOf result LoadFault.Failed → host_load_faults self.new ≡ one_more (host_load_faults self.old) }
+        ensures passed { ¬ IsErrOf result LoadFault.Failed → host_load_faults self.new ≡ host_load_faults self.old }
+        ensures later { host_load_faults self.old ≤ host_load_faults self.new }
+        ensures stores { host_store_faults self.new ≡ host_store_faults self.old }
+    {
         let result = read_file(&self.rt, self.alloc, name, limit);
         if let Err(LoadFault::Failed) = result {
             self.load_faults = self.load_faults.saturating_add(1);
@@ -50,7 +61,13 @@ impl<R: Files + Drop> Shelf for HostShelf<R> {
         result
     }
 
-    fn store(&mut self, name: &str, bytes: &[u8]) -> Result<(), Failed> {
+    fn store(&mut self, name: &str, bytes: &[u8]) -> Result<(), Failed>
+        // A store that failed is counted, and no other call.
+        ensures failed { OnErr result (host_store_faults self.new ≡ one_more (host_store_faults self.old)) }
+        ensures passed { OnOk result (host_store_faults self.new ≡ host_store_faults self.old) }
+        ensures later { host_store_faults self.old ≤ host_store_faults self.new }
+        ensures loads { host_load_faults self.new ≡ host_load_faults self.old }
+    {
         match write_file(&self.rt, name, bytes) {
             Ok(()) => Ok(()),
             Err(Failed) => {
@@ -72,30 +89,27 @@ fn read_file<R: Files>(rt: &R, alloc: Global, name: &str, limit: u64) -> Result<
     let mut piece = [0; PIECE];
     while bytes.len() as u64 <= limit {
         let room = (limit - bytes.len() as u64).min(PIECE as u64 - 1) as usize + 1;
-        match file.read(&mut piece[..room]) {
+        match read_some(&mut file, &mut piece[..room]) {
             Ok(0) => return Ok(bytes),
             Ok(count) => {
                 if bytes.extend_from_slice(&piece[..count]).is_err() {
                     return Err(LoadFault::NoMemory);
                 }
             }
-            Err(_) => return Err(LoadFault::Failed),
+            Err(Failed) => return Err(LoadFault::Failed),
         }
     }
     Err(LoadFault::TooLong)
 }
 
-// Writes a file from its start. A write that takes nothing is a fault.
+// Writes a file from its start.
 fn write_file<R: Files>(rt: &R, name: &str, bytes: &[u8]) -> Result<(), Failed> {
     let Ok(mut file) = fs::create(rt, name) else {
         return Err(Failed);
     };
     let mut at = 0;
     while at < bytes.len() {
-        match file.write(&bytes[at..]) {
-            Ok(0) | Err(_) => return Err(Failed),
-            Ok(count) => at += count,
-        }
+        at += write_some(&mut file, &bytes[at..])?;
     }
     Ok(())
 }
@@ -119,14 +133,24 @@ impl<P: Print + Drop> HostSink<P> {
 }
 
 impl<P: Print + Drop> Sink for HostSink<P> {
+    ghost use Rattle.sf_io.specs.Host.{host_faults};
+
     ghost taken = { λ _. None };
 
     ghost faults = { λ s. s.faults };
 
-    fn put(&mut self, piece: &[u8]) -> Result<usize, Failed> {
-        match self.to.write_some(piece) {
-            Ok(count) if count > 0 || piece.is_empty() => Ok(count),
-            _ => {
+    fn put(&mut self, piece: &[u8]) -> Result<usize, Failed>
+        ensures bound { IfOk result (λ n. n ≤ length piece.now) }
+        ensures moves { IfOk result (λ n. 0 < length piece.now → 0 < n) }
+
+        // A put that failed is counted, and no other.
+        ensures failed { OnErr result (host_faults self.new ≡ one_more (host_faults self.old)) }
+        ensures passed { OnOk result (host_faults self.new ≡ host_faults self.old) }
+        ensures later { host_faults self.old ≤ host_faults self.new }
+    {
+        match write_some(&mut io::writer(&self.to), piece) {
+            Ok(count) => Ok(count),
+            Err(Failed) => {
                 self.faults = self.faults.saturating_add(1);
                 Err(Failed)
             }

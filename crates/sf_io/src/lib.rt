@@ -6,6 +6,7 @@
 //! The crates above use the clauses of `Shelf`, `Sink` and `write_all`: bytes, and counts of faults.
 #![tactic(auto)]
 
+mod again;
 mod host;
 mod memory;
 mod never;

@@ -83,9 +83,9 @@ impl Shelf for MemShelf {
         // It fails where its number is listed or the name isn't there, and nowhere else.
         ensures listed { IsErrOf result LoadFault.Failed ↔ (Contains (mem_failing self.old) (one_more (mem_calls self.old)) ⊎ (mem_texts self.old name.now ≡ None)) }
 
-        // A load that failed is counted, and no other.
+        // A load that failed is counted, and no other: not one of a text that is too long, or for which there is no memory.
         ensures failed { IsErrOf result LoadFault.Failed → mem_load_faults self.new ≡ one_more (mem_load_faults self.old) }
-        ensures passed { OnOk result (mem_load_faults self.new ≡ mem_load_faults self.old) }
+        ensures passed { ¬ IsErrOf result LoadFault.Failed → mem_load_faults self.new ≡ mem_load_faults self.old }
         ensures later { mem_load_faults self.old ≤ mem_load_faults self.new }
 
         ensures calls { mem_calls self.new ≡ one_more (mem_calls self.old) }

@@ -1,9 +1,13 @@
 // Each call once, with memory enough; and the shelf and the sink of the host against files and the standard output.
 
+ghost use Rattle.std.specs.Prelude.{◌≤◌, IfOk};
+
+use crate::again::{read_some, write_some};
 use crate::{
     Failed, Gate, HostShelf, HostSink, LoadFault, MemShelf, MemSink, NeverShelf, NeverSink,
     OpenGate, Shelf, Sink, Status, write_all,
 };
+use std::io::{self, ErrorKind, Read, Write};
 use std::test::Fail;
 use std::{env, fs, process};
 
@@ -113,4 +117,57 @@ fn host_sink(rt: HostRuntime) -> Result<(), Fail> {
     assert_eq!(rt; sink.put(b""), Ok(0));
     assert_eq!(rt; write_all(&mut sink, b"a line of the sink\n"), Ok(()));
     Ok(())
+}
+
+/// A file whose first calls fail, each by this kind, and which then gives and takes one byte a call.
+#[derive(Drop)]
+struct Slow {
+    failing: u8,
+    kind: ErrorKind,
+}
+
+impl Slow {
+    fn one(&mut self, bytes: usize) -> io::Result<usize>
+        ensures { IfOk result (λ n. n ≤ bytes) }
+    {
+        if self.failing > 0 {
+            self.failing -= 1;
+            return Err(io::Error::from(self.kind));
+        }
+        Ok(bytes.min(1))
+    }
+}
+
+impl Read for Slow {
+    fn read(&mut self, piece: &mut [u8]) -> io::Result<usize> {
+        self.one(piece.len())
+    }
+}
+
+impl Write for Slow {
+    fn write(&mut self, bytes: &[u8]) -> io::Result<usize> {
+        self.one(bytes.len())
+    }
+
+    fn flush(&mut self) -> io::Result<()> {
+        Ok(())
+    }
+}
+
+// An interrupted call is tried again, and any other fault is told.
+#[test]
+fn interrupted_calls(rt: HostRuntime) {
+    for (kind, answer) in [
+        (ErrorKind::Interrupted, Ok(1)),
+        (ErrorKind::TimedOut, Err(Failed)),
+    ] {
+        assert_eq!(rt;
+            read_some(&mut Slow { failing: 3, kind }, &mut [0; 4]),
+            answer
+        );
+        assert_eq!(rt; write_some(&mut Slow { failing: 3, kind }, b"text"), answer);
+    }
+    let kind = ErrorKind::Interrupted;
+    assert_eq!(rt; read_some(&mut Slow { failing: 0, kind }, &mut []), Ok(0));
+    assert_eq!(rt; write_some(&mut Slow { failing: 0, kind }, b""), Ok(0));
 }

@@ -1,0 +1,35 @@
+//! Reads and writes of the host. One that a signal interrupts is tried again.
+
+ghost use Rattle.std.specs.Prelude.{◌≤◌, ◌<◌, length, IfOk};
+
+use crate::Failed;
+use std::io::{ErrorKind, Read, Write};
+
+/// Reads some bytes, none only at the end.
+pub fn read_some<F: Read>(file: &mut F, piece: &mut [u8]) -> Result<usize, Failed>
+    ensures { IfOk result (λ n. n ≤ length piece.old) }
+{
+    for _ in 0..u64::MAX {
+        match file.read(piece) {
+            Ok(count) => return Ok(count),
+            Err(fault) if fault.kind() == ErrorKind::Interrupted => {}
+            Err(_) => return Err(Failed),
+        }
+    }
+    Err(Failed)
+}
+
+/// Writes some of the bytes. A write that takes nothing of some bytes is a fault.
+pub fn write_some<F: Write>(file: &mut F, bytes: &[u8]) -> Result<usize, Failed>
+    ensures bound { IfOk result (λ n. n ≤ length bytes.now) }
+    ensures moves { IfOk result (λ n. 0 < length bytes.now → 0 < n) }
+{
+    for _ in 0..u64::MAX {
+        match file.write(bytes) {
+            Ok(count) if count > 0 || bytes.is_empty() => return Ok(count),
+            Err(fault) if fault.kind() == ErrorKind::Interrupted => {}
+            _ => return Err(Failed),
+        }
+    }
+    Err(Failed)
+}
