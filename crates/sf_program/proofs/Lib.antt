@@ -12,3 +12,4 @@ pub mod OneDesign
 pub mod OneChecked
 pub mod OneSearched
 pub mod OneAnswer
+pub mod Complete

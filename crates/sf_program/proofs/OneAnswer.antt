@@ -55,7 +55,7 @@ not-own (bad line) h = h
 not-own (over line) h = h
 
 -- a refusal is the answer of its reason
-refusal-of : {X : Type 0} (Read : Result X Refusal → Type 0) (status : Status) (stored : List Stored) (printed : List ℕ) → IsRefused Read status stored printed
+pub refusal-of : {X : Type 0} (Read : Result X Refusal → Type 0) (status : Status) (stored : List Stored) (printed : List ℕ) → IsRefused Read status stored printed
     → (why : Refusal) × Read (Err why) × ((let a : Answer = (status, stored, printed) in a) ≡ refused why)
 refusal-of Read BadInput stored printed h = (bad printed, h.0, triple (BadInput, stored, printed) (refused (bad printed)) refl h.1 refl)
 refusal-of Read OverLimit stored printed h = (over printed, h.0, triple (OverLimit, stored, printed) (refused (over printed)) refl h.1 refl)

@@ -22,7 +22,7 @@ use Rattle.sf_gsrc.specs.Blocks.{blocks_read}
 use Rattle.sf_gsrc.specs.Nets.{nets_read}
 use Rattle.sf_gsrc.specs.NetsStanding.{NetsStandFor}
 use Rattle.sf_gsrc.specs.Places.{places_read, PlacesStandFor}
-use Rattle.sf_gsrc.specs.Join.{first_twice, joined, names_of, nets_in, placed_once, placed_parts, unplaced_parts}
+use Rattle.sf_gsrc.specs.Join.{first_twice, joined, names_of, nets_in, numbered, placed_once, placed_parts, unplaced_parts}
 use Rattle.sf_gsrc.proofs.StandingLaws as block_laws
 use Rattle.sf_gsrc.proofs.NetLaws as net_laws
 use Rattle.sf_gsrc.proofs.PlaceLaws as place_laws
@@ -189,9 +189,9 @@ placed-by None made parts e = cc
 placed-by (Some name) made parts e = absurd (cc)
 
 kept-by : (out : GsrcBlocks) (nets : Option GsrcNets) (places : Option GsrcPlaces) (parts : Parts) → joined out nets places ≡ Ok parts → parts.blocks ≡ out.blocks
-kept-by out nets None parts e = let same = placed-by None (unplaced_parts out (nets_in nets)) parts e in ap (λ (p : Parts). p.blocks) same
+kept-by out nets None parts e = let same = placed-by None (numbered (unplaced_parts out (nets_in nets))) parts e in ap (λ (p : Parts). p.blocks) same
 kept-by out nets (Some places) parts e =
-    ap (λ (p : Parts). p.blocks) (placed-by (first_twice (names_of places.places)) (placed_parts out (nets_in nets) places.places) parts e)
+    ap (λ (p : Parts). p.blocks) (placed-by (first_twice (names_of places.places)) (numbered (placed_parts out (nets_in nets) places.places)) parts e)
 
 judged-ok : {X F : Type 0} (first : Result X F) (refusal : F → Refusal) (x : X) → Judged first refusal (Ok x) → first ≡ Ok x
 judged-ok (Ok y) refusal x h = ap Ok (let e : Ok x ≡ Ok y = h in cc)

@@ -1,7 +1,7 @@
 -- What a run may answer, by its words and by the texts on the shelf: the status, what is stored and what is printed.
 use Rattle.std.specs.Prelude.{◌≡◌, ◌⊎◌, ⊤, ℕ, List, [], Option, Result, Err, codes}
 use Rattle.std.specs.Io.KnownBytes.{Appends}
-use Rattle.sf_io.specs.Outside.{Contents, Took}
+use Rattle.sf_io.specs.Outside.{Contents, Rose, Took}
 use Rattle.sf_io.specs.declared.status.Status.{Status}
 use Rattle.sf_io.specs.declared.status.Status.TheVariants.{Usage, BadInput, OverLimit, ReadFault, WriteFault, NoMemory}
 use Rattle.sf_pl_writer.specs.Length.{IsScale}
@@ -72,10 +72,27 @@ pub record IsDone (words : List (List ℕ)) (before after : Option Contents) (ta
   pub stores : AfterStores before stored after
   pub prints : Appends taken taken_then printed
 
--- an answer of which a store failed, so that nothing is printed, or which is stored whole and printed in part
-pub record IsHalted (words : List (List ℕ)) (before after : Option Contents) (taken taken_then : Option (List ℕ)) : Type 0 where
+-- a store of these failed, which the shelf counted, and nothing is printed
+pub record StoreFailed (stored : List Stored) (before after : Option Contents) (faults faults_then : ℕ) (taken taken_then : Option (List ℕ)) : Type 0 where
+  pub counted : Rose faults faults_then
+  pub stopped : StoppedAt before stored after
+  pub unprinted : taken_then ≡ taken
+
+-- all of these are stored, and a print failed, which the sink counted, so that a first part of the text is taken
+pub record PrintFailed (stored : List Stored) (printed : List ℕ) (before after : Option Contents) (faults faults_then : ℕ) (taken taken_then : Option (List ℕ)) : Type 0 where
+  pub counted : Rose faults faults_then
+  pub stores : AfterStores before stored after
+  pub part : Took taken taken_then printed
+
+-- a store failed, or else a print
+abbrev pub StoreOrPrintFailed : List Stored → List ℕ → Option Contents → Option Contents → ℕ → ℕ → Option (List ℕ) → Option (List ℕ) → ℕ → ℕ → Type 0
+StoreOrPrintFailed stored printed before after stores stores_then taken taken_then puts puts_then =
+    StoreFailed stored before after stores stores_then taken taken_then ⊎ PrintFailed stored printed before after puts puts_then taken taken_then
+
+-- an answer of which a store or the print failed
+pub record IsHalted (words : List (List ℕ)) (before after : Option Contents) (stores stores_then : ℕ) (taken taken_then : Option (List ℕ)) (puts puts_then : ℕ) : Type 0 where
   pub status : Status
   pub stored : List Stored
   pub printed : List ℕ
   pub answer : Answers words before status stored printed
-  pub halted : (StoppedAt before stored after × (taken_then ≡ taken)) ⊎ (AfterStores before stored after × Took taken taken_then printed)
+  pub halted : StoreOrPrintFailed stored printed before after stores stores_then taken taken_then puts puts_then

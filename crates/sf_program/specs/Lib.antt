@@ -11,3 +11,4 @@ pub mod Generated
 pub mod PlacedLines
 pub mod Answer
 pub mod OneAnswer
+pub mod Complete

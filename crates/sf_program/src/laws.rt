@@ -6,8 +6,9 @@ ghost use Rattle.sf_io.specs.declared.status.Status.{Status};
 ghost use Rattle.sf_model.specs.declared.design.Design.{Design};
 ghost use Rattle.sf_model.specs.declared.raw.Parts.{Parts};
 ghost use Rattle.sf_gsrc.specs.declared.output.GsrcBlocks.{GsrcBlocks};
-ghost use Rattle.sf_words.specs.Meaning.{DesignOptions, PlanOptions, WeightOptions};
+ghost use Rattle.sf_words.specs.Meaning.{Command, DesignOptions, Means, PlanOptions, WeightOptions};
 ghost use Rattle.sf_program.specs.Answer.{IsDone};
+ghost use Rattle.sf_program.specs.Complete.{IsOwnEnd, IsTaken};
 ghost use Rattle.sf_program.specs.OneAnswer.{Answer, AskForOneWorker, AtMostOne, HasBlocksOf, IsAnswerTo, IsDoneBy, refused};
 ghost use Rattle.sf_program.specs.Outcome.{Refusal};
 ghost use Rattle.sf_program.specs.Planned.{PlanRead};
@@ -50,3 +51,9 @@ pub fn answers_are_one()
     traces_are_one();
     certificates_are_one();
 }
+
+/// On a shelf that tells what it holds, words whose texts every stage takes are answered by the command's own statuses,
+/// and never refused: a plan that is the best, that none fits or that is open, a verdict, or a curve.
+pub fn taken_texts_are_answered()
+    ensures { (words : List (List ℕ)) (contents : Contents) (command : Command) (a : Answer) → Means words command → IsTaken command contents → IsAnswerTo words contents a → IsOwnEnd command a.0 }
+{}

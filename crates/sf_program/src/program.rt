@@ -1,16 +1,16 @@
 //! The top call.
 
-ghost use Rattle.std.specs.Prelude.{◌≡◌, ◌≤◌, ◌⊎◌, ℕ, List, [], map, OnOk, OnErr, string_bytes};
+ghost use Rattle.std.specs.Prelude.{◌≡◌, ◌≢◌, ◌≤◌, ◌⊎◌, ℕ, List, [], map, OnOk, OnErr, string_bytes};
 ghost use Rattle.std.specs.Io.KnownBytes.{Appends};
-ghost use Rattle.sf_io.specs.Outside.{Rose, Took};
-ghost use Rattle.sf_program.specs.Answer.{Answers, IsAnswer, IsDone, IsHalted, IsSilent};
+ghost use Rattle.sf_io.specs.Outside.{Rose};
+ghost use Rattle.sf_program.specs.Answer.{Answers, IsAnswer, IsDone, IsHalted, IsSilent, StoreOrPrintFailed};
 ghost use Rattle.sf_program.specs.Stores.{AfterStores, StoppedAt, stored_in};
 
 use crate::laws::answers_are_one;
 use crate::obeying::work;
 use crate::stop::Stop;
 use crate::work::{Store, Work};
-use sf_io::{Failed, Gate, Shelf, Sink, Status, write_all};
+use sf_io::{Failed, Gate, NeverShelf, NeverSink, Shelf, Sink, Status, write_all};
 use std::alloc::Global;
 use std::thread::Threads;
 
@@ -37,7 +37,7 @@ fn finish<S: Shelf, K: Sink>(shelf: &mut S, out: &mut K, work: &Work) -> Status
     ensures done { IsAnswer result → (result ≡ work.now.status) × AfterStores (S.holds shelf.old) (stored_in work.now.stores.items) (S.holds shelf.new) × Appends (K.taken out.old) (K.taken out.new) work.now.text.items }
     ensures only { IsAnswer result ⊎ (result ≡ Status.WriteFault) }
     ensures write_fault { result ≡ Status.WriteFault → Rose (S.store_faults shelf.old) (S.store_faults shelf.new) ⊎ Rose (K.faults out.old) (K.faults out.new) }
-    ensures halted { result ≡ Status.WriteFault → (StoppedAt (S.holds shelf.old) (stored_in work.now.stores.items) (S.holds shelf.new) × (K.taken out.new ≡ K.taken out.old)) ⊎ (AfterStores (S.holds shelf.old) (stored_in work.now.stores.items) (S.holds shelf.new) × Took (K.taken out.old) (K.taken out.new) work.now.text.items) }
+    ensures halted { result ≡ Status.WriteFault → StoreOrPrintFailed (stored_in work.now.stores.items) work.now.text.items (S.holds shelf.old) (S.holds shelf.new) (S.store_faults shelf.old) (S.store_faults shelf.new) (K.taken out.old) (K.taken out.new) (K.faults out.old) (K.faults out.new) }
 {
     if store_all(shelf, &work.stores).is_err() {
         return Status::WriteFault;
@@ -64,8 +64,8 @@ pub fn run<R: Threads + Sync, S: Shelf, K: Sink, G: Gate>(
     ensures read_fault { result ≡ Status.ReadFault → Rose (S.load_faults shelf.old) (S.load_faults shelf.new) }
     ensures write_fault { result ≡ Status.WriteFault → Rose (S.store_faults shelf.old) (S.store_faults shelf.new) ⊎ Rose (K.faults out.old) (K.faults out.new) }
 
-    // What is stored and printed where something failed.
-    ensures halted { result ≡ Status.WriteFault → IsHalted (map string_bytes words.now) (S.holds shelf.old) (S.holds shelf.new) (K.taken out.old) (K.taken out.new) }
+    // What is stored and printed where something failed, and which count rose.
+    ensures halted { result ≡ Status.WriteFault → IsHalted (map string_bytes words.now) (S.holds shelf.old) (S.holds shelf.new) (S.store_faults shelf.old) (S.store_faults shelf.new) (K.taken out.old) (K.taken out.new) (K.faults out.old) (K.faults out.new) }
     ensures silent { IsSilent result → (S.holds shelf.new ≡ S.holds shelf.old) × (K.taken out.new ≡ K.taken out.old) }
 {
     // By this law the answer is no other than any that the words and the texts have.
@@ -85,4 +85,19 @@ pub fn run<R: Threads + Sync, S: Shelf, K: Sink, G: Gate>(
         Err(Stop::ReadFault) => Status::ReadFault,
         Err(Stop::NoMemory) => Status::NoMemory,
     }
+}
+
+/// The same over an outside that never fails: no fault of reading or of writing is answered.
+pub fn run_unfailing<R: Threads + Sync, G: Gate>(
+    rt: &R,
+    alloc: Global,
+    words: &[String],
+    shelf: &mut NeverShelf,
+    out: &mut NeverSink,
+    gate: &G,
+) -> Status
+    ensures read { result ≢ Status.ReadFault }
+    ensures written { result ≢ Status.WriteFault }
+{
+    run(rt, alloc, words, shelf, out, gate)
 }
