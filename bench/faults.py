@@ -1,0 +1,188 @@
+#!/usr/bin/env python3
+"""Lets the outside of the built program fail: python3 bench/faults.py PATH/floorplan [FOLDER]
+
+Each case is run once undisturbed, and then once for each allocation that it makes, with this one refused. A run with a
+refused allocation has to answer NoMemory with nothing stored and nothing printed, or what the undisturbed run answers, or
+a fault of reading or of writing where the memory was wanted to open or to write a file. No run may be ended by a signal.
+
+Then the files and the output of a run are real ones that fail: a full device, a closed stream, a folder that isn't there, a
+folder in the place of a file, and a file of more than 64 MiB.
+
+Wanted are `cc`, with which an object is built that counts allocations and refuses one, and a system with /dev/full.
+"""
+import os
+import subprocess
+import sys
+import tempfile
+
+REFUSE = r"""
+#define _GNU_SOURCE
+#include <dlfcn.h>
+#include <errno.h>
+#include <fcntl.h>
+#include <stdatomic.h>
+#include <stdlib.h>
+#include <sys/mman.h>
+#include <unistd.h>
+
+static atomic_long unseen;
+static atomic_long *seen = &unseen;
+static long at = -1;
+static void *(*real_malloc)(size_t);
+static void *(*real_realloc)(void *, size_t);
+
+/* The count lies in a file that is mapped, since a program may end without a last call here. */
+__attribute__((constructor)) static void start(void) {
+    int file = open(getenv("REFUSE_COUNT"), O_RDWR);
+    void *place = mmap(0, sizeof *seen, PROT_READ | PROT_WRITE, MAP_SHARED, file, 0);
+    if (file < 0 || place == MAP_FAILED) _exit(99);
+    close(file);
+    seen = place;
+    at = atol(getenv("REFUSE_AT"));
+}
+
+static int refused(void) {
+    return at >= 0 && atomic_fetch_add(seen, 1) + 1 == at;
+}
+
+void *malloc(size_t size) {
+    if (!real_malloc) real_malloc = dlsym(RTLD_NEXT, "malloc");
+    if (refused()) { errno = ENOMEM; return 0; }
+    return real_malloc(size);
+}
+
+void *realloc(void *old, size_t size) {
+    if (!real_realloc) real_realloc = dlsym(RTLD_NEXT, "realloc");
+    if (refused()) { errno = ENOMEM; return 0; }
+    return real_realloc(old, size);
+}
+"""
+
+HEAD = "UCSC blocks 1.0\nNumSoftRectangularBlocks : 0\nNumHardRectilinearBlocks : %d\nNumTerminals : 0\n"
+
+
+def blocks(*sides):
+    lines = ["b%d hardrectilinear 4 (0, 0) (0, %d) (%d, %d) (%d, 0)\n" % (i, h, w, h, w) for i, (w, h) in enumerate(sides)]
+    return HEAD % len(sides) + "".join(lines)
+
+
+PLAN = "plan --format gsrc --blocks a.blocks --cert a.cert"
+CERT = "slicing-certificate 1\nblocks 2\ncost 15\nbound 15\nplan 0:2x3 1:3x2 *\ntree\nE\nE\nE\nC\nC\nE\nE\nC\nC\n"
+
+# a name, the words, and the files that stand in the folder before the run
+CASES = [
+    ("plan", PLAN + " --fixed --pl-out a.out", {"a.blocks": blocks((2, 3), (3, 2))}),
+    ("check", "check --format gsrc --blocks a.blocks --fixed --cert a.cert", {"a.blocks": blocks((2, 3), (3, 2)), "a.cert": CERT}),
+    ("workers", PLAN + " --workers 2", {"a.blocks": blocks((2, 3), (2, 3))}),
+    ("gen", "gen --seed 7 --count 4 --kinds mixed --out g --nodes 300", {}),
+]
+
+
+class Folder:
+    """A folder that holds just these files before each run."""
+
+    def __init__(self, program, top):
+        self.program, self.top, self.folder = program, top, os.path.join(top, "case")
+        os.makedirs(self.folder, exist_ok=True)
+        source = os.path.join(top, "refuse.c")
+        with open(source, "w") as file:
+            file.write(REFUSE)
+        self.object = os.path.join(top, "refuse.so")
+        subprocess.run(["cc", "-O1", "-shared", "-fPIC", "-o", self.object, source, "-ldl"], check=True)
+
+    def fill(self, files):
+        for name in os.listdir(self.folder):
+            os.remove(os.path.join(self.folder, name))
+        for name, text in files.items():
+            with open(os.path.join(self.folder, name), "w") as file:
+                file.write(text)
+
+    def held(self):
+        held = {}
+        for name in os.listdir(self.folder):
+            with open(os.path.join(self.folder, name)) as file:
+                held[name] = file.read()
+        return held
+
+    def run(self, words, files, refuse_at):
+        """The status, the output and what the folder then holds, and how many allocations there were."""
+        self.fill(files)
+        count = os.path.join(self.top, "count")
+        with open(count, "wb") as file:
+            file.write(bytes(8))
+        env = dict(os.environ, LD_PRELOAD=self.object, REFUSE_AT=str(refuse_at), REFUSE_COUNT=count)
+        run = subprocess.run([self.program] + words.split(), cwd=self.folder, env=env, stdout=subprocess.PIPE, timeout=60)
+        with open(count, "rb") as file:
+            return (run.returncode, run.stdout.decode(), self.held()), int.from_bytes(file.read(), sys.byteorder)
+
+
+def starts(part, whole):
+    """Each file holds what it should, or a first part of it."""
+    return all(name in whole and whole[name].startswith(text) for name, text in part.items())
+
+
+def refused_memory(folder):
+    bad = 0
+    for name, words, files in CASES:
+        whole, count = folder.run(words, files, 0)
+        told = {}
+        for number in range(1, count + 1):
+            (status, printed, held), _ = folder.run(words, files, number)
+            told[status] = told.get(status, 0) + 1
+            same = status == whole[0] and held.keys() == whole[2].keys() and (name == "workers" or (printed, held) == whole[1:])
+            silent = status in (7, 9) and printed == "" and held == files
+            halted = status == 8 and whole[1].startswith(printed) and starts(held, whole[2])
+            if not (same or silent or halted):
+                bad += 1
+                print("%s: refused allocation %d: status %d, printed %r, stored %s" % (name, number, status, printed, sorted(held)))
+        answers = ", ".join("%d runs status %d" % (told[status], status) for status in sorted(told))
+        print("%-8s undisturbed status %d, %d allocations: %s" % (name, whole[0], count, answers), flush=True)
+    return bad
+
+
+def outside(folder):
+    """Files and streams that fail: the status, and what is printed where the output can be seen."""
+    one = {"a.blocks": blocks((3, 4))}
+    large = os.path.join(folder.top, "large")
+    with open(large, "wb") as file:
+        file.truncate(67108865)
+    os.makedirs(os.path.join(folder.top, "taken"), exist_ok=True)
+    command = "plan --format gsrc --blocks %s --cert %s"
+    pipe, closed = subprocess.PIPE, ">&-"
+    cases = [
+        ("no such file", command % ("none", "a.cert"), pipe, 7, ""),
+        ("no such folder", command % ("none/a.blocks", "a.cert"), pipe, 7, ""),
+        ("a folder as input", command % ("../taken", "a.cert"), pipe, 7, ""),
+        ("a large file", command % ("../large", "a.cert"), pipe, 6, "error OverLimit file 67108865 67108864\n"),
+        ("store without a folder", command % ("a.blocks", "none/a.cert"), pipe, 8, ""),
+        ("store over a folder", command % ("a.blocks", "../taken"), pipe, 8, ""),
+        ("store on a full device", command % ("a.blocks", "/dev/full"), pipe, 8, ""),
+        ("print on a full device", command % ("a.blocks", "a.cert"), "/dev/full", 8, None),
+        ("print on a closed stream", command % ("a.blocks", "a.cert"), closed, 8, None),
+    ]
+    bad = 0
+    for name, words, to, wanted, text in cases:
+        folder.fill(one)
+        if to == pipe:
+            run = subprocess.run([folder.program] + words.split(), cwd=folder.folder, stdout=pipe, timeout=60)
+        else:
+            shell = '"$0" "$@" %s' % (to if to == closed else "> " + to)
+            run = subprocess.run(["sh", "-c", shell, folder.program] + words.split(), cwd=folder.folder, timeout=60)
+        printed = run.stdout.decode() if run.stdout is not None else None
+        stored = "a.cert" in os.listdir(folder.folder)
+        fine = run.returncode == wanted and printed == text and stored == (text is None)
+        bad += not fine
+        print("%-26s status %d%s" % (name, run.returncode, "" if fine else ", WANTED %d, printed %r" % (wanted, printed)), flush=True)
+    return bad
+
+
+def main():
+    program = os.path.abspath(sys.argv[1])
+    top = os.path.abspath(sys.argv[2]) if len(sys.argv) > 2 else tempfile.mkdtemp()
+    folder = Folder(program, top)
+    bad = refused_memory(folder) + outside(folder)
+    print("%d runs against what is wanted" % bad)
+    sys.exit(1 if bad else 0)
+
+
+main()
