@@ -13,3 +13,4 @@ pub mod OneChecked
 pub mod OneSearched
 pub mod OneAnswer
 pub mod Complete
+pub mod Headline

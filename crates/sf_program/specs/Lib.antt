@@ -10,5 +10,6 @@ pub mod Shaped
 pub mod Generated
 pub mod PlacedLines
 pub mod Answer
+pub mod Headline
 pub mod OneAnswer
 pub mod Complete

@@ -3,7 +3,11 @@
 ghost use Rattle.std.specs.Prelude.{◌≡◌, ◌≢◌, ◌≤◌, ◌⊎◌, ℕ, List, [], map, OnOk, OnErr, string_bytes};
 ghost use Rattle.std.specs.Io.KnownBytes.{Appends};
 ghost use Rattle.sf_io.specs.Outside.{Rose};
+ghost use Rattle.sf_words.specs.Meaning.{GenOptions, PlanOptions, gen, plan, Means};
 ghost use Rattle.sf_program.specs.Answer.{Answers, IsAnswer, IsDone, IsHalted, IsSilent, StoreOrPrintFailed};
+ghost use Rattle.sf_program.specs.Headline.{HasSearched, IsHeadline};
+ghost use Rattle.sf_program.specs.Generated.{GenRead};
+ghost use Rattle.sf_program.specs.Planned.{PlanRead};
 ghost use Rattle.sf_program.specs.Stores.{AfterStores, StoppedAt, stored_in};
 
 use crate::laws::answers_are_one;
@@ -57,6 +61,10 @@ pub fn run<R: Threads + Sync, S: Shelf, K: Sink, G: Gate>(
     out: &mut K,
     gate: &G,
 ) -> Status
+    // The headline: what is printed of a search is a floorplan of the blocks read, its cost, and a bound that none undercuts.
+    ensures headline { HasSearched result → (o : PlanOptions) → Means (map string_bytes words.now) (plan o) → IsHeadline (PlanRead (S.holds shelf.old) o) o.nodes (K.taken out.old) (K.taken out.new) result }
+    ensures generated { HasSearched result → (o : GenOptions) → Means (map string_bytes words.now) (gen o) → IsHeadline (GenRead o) o.nodes (K.taken out.old) (K.taken out.new) result }
+
     // Where nothing fails, the answer that the words and the texts on the shelf have is stored and printed whole.
     ensures answer { IsAnswer result → IsDone (map string_bytes words.now) (S.holds shelf.old) (S.holds shelf.new) (K.taken out.old) (K.taken out.new) result }
 

@@ -1,0 +1,148 @@
+-- An answer of `plan` says what the headline says.
+use Rattle.std.proofs.Common.{◌≡◌, ◌⊎◌, inl, inr, ℕ, ◌*◌, ◌<◌, ◌≤◌, MatchOption, List, Option, Some, None, Result, Ok, Err, refl, sym, ap, subst, ◌∙◌, arith}
+use Rattle.std.specs.Io.KnownBytes.{Appends}
+use Rattle.sf_io.specs.Outside.{Contents}
+use Rattle.sf_io.specs.declared.status.Status.{Status}
+use Rattle.sf_io.specs.declared.status.Status.TheVariants.{Done, NoneFits, Usage, Open, No, BadInput, OverLimit, ReadFault, WriteFault, NoMemory}
+use Rattle.sf_model.specs.declared.design.Design.{Design}
+use Rattle.sf_model.specs.declared.plan.Spot.{Spot}
+use Rattle.sf_model.specs.declared.TheConstants.{MAX}
+use Rattle.sf_model.specs.Legal.{block_count}
+use Rattle.sf_model.specs.Cost.{cost, IsFloor}
+use Rattle.sf_model.specs.Tree.{width, height, spots_of}
+use Rattle.sf_model.specs.Wire.{wire}
+use Rattle.sf_model.proofs.Bounded.{floor-none}
+use Rattle.sf_polish.specs.declared.expr.Expr.{Expr}
+use Rattle.sf_polish.proofs.Spelling.{spells-one}
+use Rattle.sf_certificate.specs.declared.cert.Cert.{Cert}
+use Rattle.sf_certificate.specs.Valid.{HasCost, decided}
+use Rattle.sf_pl_writer.specs.declared.report.Outcome.{Outcome}
+use Rattle.sf_pl_writer.specs.declared.report.Outcome.TheVariants as word
+use Rattle.sf_pl_writer.specs.declared.report.Report.{Report}
+use Rattle.sf_pl_writer.specs.ReportText.{report_text}
+use Rattle.sf_words.specs.Meaning.{Command, GenOptions, Means, PlanOptions, gen, plan}
+use Rattle.sf_words.proofs.Unique.{meaning_unique}
+use Rattle.sf_program.specs.Answer.{Answers, CommandAnswer, IsAnswer, IsDone, IsRefused}
+use Rattle.sf_program.specs.Generated.{GenRead, cert_name}
+use Rattle.sf_program.specs.Headline.{HasSearched, IsEnd, IsFinding, IsHeadline, IsPlanOf}
+use Rattle.sf_program.specs.Outcome.{Refusal}
+use Rattle.sf_program.specs.Planned.{IsAnswered, IsEnding, IsMeasured, IsSearched, IsTold, PlanRead, budget_of, status_of}
+use Rattle.sf_program.specs.Stores.{AfterStores, Stored}
+
+-- the report of a certificate, with what is measured of its plan
+abbrev report_of : Outcome → Cert → ℕ × ℕ → ℕ → ℕ → Option Expr → Report
+report_of said cert size area wires expr = record { word = said; cost = cert.cost; bound = cert.bound; decided = decided cert.tags; size = size; area = area; wire = wires; plan = expr }
+
+-- how a search ended, as its status says it
+ends-as : (design : Design) (budget : ℕ) (report : Report) (said : Outcome) → IsFloor design report.bound → (report.bound < report.cost → report.decided ≡ budget)
+    → IsEnding report.cost report.bound said → IsEnd design budget report (status_of said)
+ends-as design budget report word.Optimal floor spent e = (e.0, e.1, λ tree legal fits. subst (λ n. n ≤ cost design tree) e.1 (floor tree legal fits))
+ends-as design budget report word.NoneFits floor spent e = (e.1, (floor-none design).0 (subst (IsFloor design) e.1 floor))
+ends-as design budget report word.Open floor spent e = (e, spent e)
+
+-- a plan whose cost is stated, and of which these are measured
+measured-plan : (design : Design) (cert : Cert) (said : Outcome) (expr : Expr) (spots : List Spot) (w h wires : ℕ) → IsMeasured design expr spots w h wires → HasCost design expr cert.cost
+    → IsPlanOf design (report_of said cert (w, h) (w * h) wires (Some expr)) expr
+measured-plan design cert said expr spots w h wires m v =
+    let same = spells-one expr m.tree v.tree m.spells v.spells in
+    let wide = m.wide ∙ ap width same in
+    let high = m.high ∙ ap height same in
+    record {
+      tree = v.tree;
+      spells = v.spells;
+      legal = v.legal;
+      fits = v.fits;
+      costs = v.costs;
+      size = λ i. (wide i, high i);
+      area = λ i. wide i * high i;
+      wires = m.wired ∙ ap (λ t. wire design (spots_of t)) same;
+    }
+
+-- a report of what was found
+abbrev Finds : Design → ℕ → Status → List ℕ → Type 0
+Finds design budget status printed = (report : Report) × IsFinding design budget status report × (printed ≡ report_text report)
+
+module _ (design : Design) (workers budget scale : ℕ) (name : List ℕ) (pl : Option (List ℕ)) (said : Outcome) (cert : Cert) (searched : IsSearched design workers budget cert) (floor : IsFloor design cert.bound) (ending : IsEnding cert.cost cert.bound said) where
+  told-finds : (plan : Option Expr) (stored : List Stored) (printed : List ℕ) → MatchOption plan (cert.cost ≡ MAX) (λ expr. HasCost design expr cert.cost) → IsTold design scale name pl said cert plan stored printed
+      → Finds design budget (status_of said) printed
+  told-finds None stored printed v t =
+      let report = report_of said cert (0, 0) 0 0 None in
+      (report, record { plan = v; floor = floor; few = searched.few; end = ends-as design budget report said floor searched.spent ending }, t.1)
+  told-finds (Some expr) stored printed v t =
+      let report = report_of said cert (t.1, t.2) (t.1 * t.2) t.3 (Some expr) in
+      (report, record { plan = measured-plan design cert said expr t.0 t.1 t.2 t.3 t.4 v; floor = floor; few = searched.few; end = ends-as design budget report said floor searched.spent ending }, t.6)
+
+answered-finds : (design : Design) (workers budget scale : ℕ) (name : List ℕ) (pl : Option (List ℕ)) (status : Status) (stored : List Stored) (printed : List ℕ) → IsAnswered design workers budget scale name pl status stored printed
+    → Finds design budget status printed
+answered-finds design workers budget scale name pl status stored printed a =
+    subst (λ s. Finds design budget s printed) (sym a.status_is)
+    (told-finds design workers budget scale name pl a.said a.cert a.searched a.floor a.ending a.cert.plan stored printed a.searched.valid.plan a.told)
+
+no-search : {X : Type 0} (Read : Result X Refusal → Type 0) (status : Status) (stored : List Stored) (printed : List ℕ) → IsRefused Read status stored printed → HasSearched status → ⊥
+no-search Read BadInput stored printed r h = h
+no-search Read OverLimit stored printed r h = h
+no-search Read Done stored printed r h = r
+no-search Read NoneFits stored printed r h = r
+no-search Read Usage stored printed r h = r
+no-search Read Open stored printed r h = r
+no-search Read No stored printed r h = r
+no-search Read ReadFault stored printed r h = r
+no-search Read WriteFault stored printed r h = r
+no-search Read NoMemory stored printed r h = r
+
+-- an answered search, with the design that was read or generated
+answered-headline : (Stands : Result Design Refusal → Type 0) (nodes : Option ℕ) (taken taken_then : Option (List ℕ)) (status : Status) (design : Design) (workers scale : ℕ) (name : List ℕ) (pl : Option (List ℕ)) (stored : List Stored) (printed : List ℕ)
+    → Stands (Ok design) → IsAnswered design workers (budget_of nodes (block_count design)) scale name pl status stored printed → Appends taken taken_then printed → IsHeadline Stands nodes taken taken_then status
+answered-headline Stands nodes taken taken_then status design workers scale name pl stored printed stands answered prints =
+    let found = answered-finds design workers (budget_of nodes (block_count design)) scale name pl status stored printed answered in
+    record { design = design; stands = stands; report = found.0; finding = found.1; prints = subst (Appends taken taken_then) found.2 prints }
+
+module _ (before : Option Contents) (taken taken_then : Option (List ℕ)) (status : Status) (searched : HasSearched status) where
+  plan-headline : (o : PlanOptions) (stored : List Stored) (printed : List ℕ) → CommandAnswer (plan o) before status stored printed → Appends taken taken_then printed → IsHeadline (PlanRead before o) o.nodes taken taken_then status
+  plan-headline o stored printed (inl p) prints =
+      answered-headline (PlanRead before o) o.nodes taken taken_then status p.design o.workers o.design.per_unit o.cert o.pl_out stored printed p.reads p.answered prints
+  plan-headline o stored printed (inr r) prints = absurd (no-search (PlanRead before o) status stored printed r searched)
+
+  gen-headline : (o : GenOptions) (stored : List Stored) (printed : List ℕ) → CommandAnswer (gen o) before status stored printed → Appends taken taken_then printed → IsHeadline (GenRead o) o.nodes taken taken_then status
+  gen-headline o stored printed (inl p) prints =
+      answered-headline (GenRead o) o.nodes taken taken_then status p.design 1 1 (cert_name o) None p.searched printed p.made p.answered prints
+  gen-headline o stored printed (inr r) prints = absurd (no-search (GenRead o) status stored printed r searched)
+
+-- the answer of a run that is done, where its words mean this command
+module _ (words : List (List ℕ)) (before after taken taken_then : _) (status : Status) (done : IsDone words before after taken taken_then status) (searched : HasSearched status) where
+  answer-to : (command : Command) → Means words command → CommandAnswer command before status done.stored done.printed
+  answer-to command means =
+      elim done.answer [
+        | inl u ↦ absurd (subst HasSearched u.1 searched)
+        | inr m ↦ subst (λ c. CommandAnswer c before status done.stored done.printed) (meaning_unique words m.0 command m.1 means) m.2
+      ]
+
+  pub planned-headline : (o : PlanOptions) → Means words (plan o) → IsHeadline (PlanRead before o) o.nodes taken taken_then status
+  planned-headline o means = plan-headline before taken taken_then status searched o done.stored done.printed (answer-to (plan o) means) done.prints
+
+  pub generated-headline : (o : GenOptions) → Means words (gen o) → IsHeadline (GenRead o) o.nodes taken taken_then status
+  generated-headline o means = gen-headline before taken taken_then status searched o done.stored done.printed (answer-to (gen o) means) done.prints
+
+-- what was stored and printed of an answer is done, where reading has left the shelf as it was
+pub done-of : (words : List (List ℕ)) (before held after taken taken_then : _) (status result : Status) (stored : List Stored) (printed : List ℕ)
+    → held ≡ before → Answers words before status stored printed → (result ≡ status) × AfterStores held stored after × Appends taken taken_then printed → IsDone words before after taken taken_then result
+done-of words before held after taken taken_then status result stored printed same answer done = record {
+  stored = stored;
+  printed = printed;
+  answer = subst (λ s. Answers words before s stored printed) (sym done.0) answer;
+  stores = subst (λ h. AfterStores h stored after) same done.1;
+  prints = done.2;
+}
+
+-- the statuses of a search are answers
+pub searched-answer : (status : Status) → HasSearched status → IsAnswer status
+searched-answer Done h = tt
+searched-answer NoneFits h = tt
+searched-answer Open h = tt
+searched-answer Usage h = absurd h
+searched-answer No h = absurd h
+searched-answer BadInput h = absurd h
+searched-answer OverLimit h = absurd h
+searched-answer ReadFault h = absurd h
+searched-answer WriteFault h = absurd h
+searched-answer NoMemory h = absurd h
