@@ -1,12 +1,21 @@
 //! The program: the words, files and standard output of the host, handed to the floorplanner's one call.
 #![tactic(auto)]
 
+mod progress;
+
+use progress::{AfterProgress, Progress};
 use sf_io::{HostShelf, HostSink, OpenGate, Status};
 use sf_program::run;
-use std::alloc::AllocError as NoMemory;
+use sf_words::{CommandWords, read_words};
+use std::alloc::{AllocError as NoMemory, Global};
 use std::env;
 use std::io::ErrorKind;
 use std::process::ExitCode;
+use std::thread::Threads;
+
+/// Set and not empty where the standard error is a terminal on which the progress of a search is to be told. The program
+/// can't ask the system for it; its start script does.
+const TOLD_WHERE: &str = "FLOORPLAN_PROGRESS";
 
 /// The words after the program's name. Words that are no text are taken as no words, which mean nothing.
 fn given(rt: HostRuntime) -> Result<Vec<String>, NoMemory> {
@@ -18,13 +27,42 @@ fn given(rt: HostRuntime) -> Result<Vec<String>, NoMemory> {
     }
 }
 
-fn main(rt: HostRuntime) -> ExitCode {
+/// The budget that the words name, where they name one.
+fn named_budget(alloc: Global, words: &[String]) -> Option<u64> {
+    match read_words(alloc, words) {
+        Ok(Some(CommandWords::Plan(options))) => options.nodes,
+        Ok(Some(CommandWords::Gen(options))) => options.nodes,
+        _ => None,
+    }
+}
+
+/// The gate that tells the progress of a search, where it is to be told.
+fn told(rt: HostRuntime, words: &[String]) -> Option<Progress<HostRuntime>> {
+    match env::var(&rt, TOLD_WHERE) {
+        Ok(text) if !text.is_empty() => Some(Progress::new(rt, named_budget(rt.alloc(), words))),
+        _ => None,
+    }
+}
+
+/// Does what the words ask for. Where progress is told, its line is gone before anything is printed.
+fn answer<T: Threads + Sync>(rt: HostRuntime, threads: &T, words: &[String]) -> Status {
     let alloc = rt.alloc();
-    let Ok(words) = given(rt) else {
-        return ExitCode::from(Status::NoMemory as u8);
-    };
     let mut shelf = HostShelf::new(rt, alloc);
     let mut sink = HostSink::new(rt);
-    let status = run(&rt, alloc, &words, &mut shelf, &mut sink, &OpenGate);
-    ExitCode::from(status as u8)
+    match told(rt, words) {
+        None => run(threads, alloc, words, &mut shelf, &mut sink, &OpenGate),
+        Some(progress) => {
+            let mut sink = AfterProgress::new(sink, &progress);
+            let status = run(threads, alloc, words, &mut shelf, &mut sink, &progress);
+            progress.clear();
+            status
+        }
+    }
+}
+
+fn main(rt: HostRuntime) -> ExitCode {
+    match given(rt) {
+        Ok(words) => ExitCode::from(answer(rt, &rt, &words) as u8),
+        Err(NoMemory) => ExitCode::from(Status::NoMemory as u8),
+    }
 }
