@@ -1,0 +1,300 @@
+#!/usr/bin/env python3
+"""A second checker of certificates: python3 bench/second_checker.py OPTIONS
+
+Written from docs/DEFINITIONS.md and docs/FORMATS.md, it keeps to their words and order and shares nothing else with the
+program. OPTIONS are those of `floorplan check` on a GSRC design, each as `--name value`, and it prints and ends as that
+does, for certificates that are valid, that are not, and whose text is refused. The design's own texts must be without a
+fault. It works slowly and plainly, and isn't for large designs.
+"""
+import itertools
+import math
+import re
+import sys
+from fractions import Fraction
+
+MAX = 2**64 - 1
+MOST_SIDE = 1_048_576
+NUMBER = "(0|[1-9][0-9]{0,19})"
+COUNT = r"(NumSoftRectangularBlocks|NumHardRectilinearBlocks|NumTerminals|NumNets|NumPins|NetDegree)([ \t\r:]|$)"
+
+
+class Ended(Exception):
+    """The check ends with this status, and prints this line."""
+
+
+def refuse(fault, line):
+    raise Ended(5, "error BadInput cert %d %s" % (line, fault))
+
+
+def say_no(*why):
+    raise Ended(4, " ".join(("status No", *map(str, why))))
+
+
+def read_file(name):
+    with open(name, "rb") as file:
+        return file.read().decode("latin-1")
+
+
+def plain_lines(name):
+    """The lines of a GSRC file behind its title, without comments and blank ones."""
+    lines = (line.strip(" \t\r") for line in read_file(name).split("\n"))
+    return [line for line in lines if line and not line.startswith("#")][1:]
+
+
+def scaled(word, scale):
+    return int(Fraction(word) * scale)
+
+
+class Design:
+    """The shapes of each block, the pins of each net (blocks, and doubled points of pads), the outline and the weights."""
+
+    def __init__(self, options):
+        self.unit, self.fixed, self.most = int(options.get("per-unit", 1)), "fixed" in options, int(options.get("shapes", 16))
+        self.area_weight, self.wire_weight = int(options.get("area-weight", 1)), int(options.get("wire-weight", 0))
+        sides = options["outline"].split("x") if "outline" in options else []
+        self.sides = [scaled(side, self.unit) for side in sides] or [MOST_SIDE] * 2
+        self.names, self.shapes, terminals, points = [], [], [], {}
+        for words in (line.split() for line in plain_lines(options["blocks"]) if not re.match(COUNT, line)):
+            if words[1] == "terminal":
+                terminals.append(words[0])
+            else:
+                self.names.append(words[0])
+                self.shapes.append(self.soft(words) if words[1] == "softrectangular" else self.hard(words))
+        for words in (line.split() for line in (plain_lines(options["pl"]) if "pl" in options else [])):
+            if words[0] in terminals:
+                points[words[0]] = tuple(2 * scaled(word, self.unit) for word in words[1:3])
+        self.nets = self.pin_sets(options["nets"], points) if "nets" in options else []
+
+    def hard(self, words):
+        numbers = re.sub(r"[(),]", " ", " ".join(words[2:])).split()
+        numbers = [scaled(word, self.unit) for word in numbers[1 : 1 + 2 * int(numbers[0])]]
+        w, h = (max(way) - min(way) for way in (numbers[0::2], numbers[1::2]))
+        return [(w, h)] if self.fixed or w == h else sorted([(w, h), (h, w)])
+
+    def soft(self, words):
+        area, (least, most) = math.ceil(Fraction(words[2]) * self.unit**2), (scaled(word, 10**6) for word in words[3:5])
+        shapes = ((w, -(-area // w)) for w in range(1, MOST_SIDE + 1))
+        high_enough = itertools.takewhile(lambda s: s[0] * least <= s[1] * 10**6, shapes)
+        allowed = [(w, h) for w, h in high_enough if h <= MOST_SIDE and h * 10**6 <= w * most]
+        step = (len(allowed) - 1, self.most - 1)
+        return allowed if step[0] <= step[1] else [allowed[j * step[0] // step[1]] for j in range(self.most)]
+
+    def pin_sets(self, name, points):
+        nets = []
+        for line in plain_lines(name):
+            pin = line.split()[0]
+            if re.match(COUNT, line):
+                nets += [(set(), set())] if line.startswith("NetDegree") else []
+            elif pin in self.names:
+                nets[-1][0].add(self.names.index(pin))
+            elif pin in points:
+                nets[-1][1].add(pin)
+        return [(blocks, [points[pad] for pad in pads]) for blocks, pads in nets if len(blocks) + len(pads) > 1]
+
+
+def cost_of(design, tokens, shape):
+    """What the plan of these tokens and shapes costs, or MAX where it doesn't lie in the outline."""
+    stack = []
+    for token in tokens:
+        if token not in ("*", "+"):
+            stack.append((*shape[token], {token: (0, 0)}))
+            continue
+        (lw, lh, left), (rw, rh, right) = stack[-2:]
+        dx, dy = (lw, 0) if token == "*" else (0, lh)
+        size = (lw + rw, max(lh, rh)) if token == "*" else (max(lw, rw), lh + rh)
+        stack[-2:] = [(*size, {**left, **{b: (x + dx, y + dy) for b, (x, y) in right.items()}})]
+    w, h, corners = stack.pop()
+    wire = 0
+    for blocks, pads in design.nets:
+        pins = [tuple(2 * corner + side for corner, side in zip(corners[b], shape[b])) for b in blocks] + pads
+        wire += sum(max(way) - min(way) for way in zip(*pins))
+    return design.area_weight * w * h + design.wire_weight * wire if w <= design.sides[0] and h <= design.sides[1] else MAX
+
+
+def gaps(boxes):
+    """The gap across and the gap upward, added; each box is an interval across and one upward."""
+    return sum(max(0, max(low for low, _ in way) - min(high for _, high in way)) for way in zip(*boxes))
+
+
+def item(design, sizes, extents, offsets):
+    """The undominated sizes of an item's plans in the outline; its extents, the least and the greatest number across and
+    upward; and the offset of each of its blocks, likewise."""
+    sizes = sorted({size for size in sizes if size[0] <= design.sides[0] and size[1] <= design.sides[1]})
+    return [size for i, size in enumerate(sizes) if all(size[1] < other[1] for other in sizes[:i])], extents, offsets
+
+
+def joined(design, token, left, right):
+    """One item beside or above another: along one way the sides are added, the other way the greater one is taken."""
+    way, add = "*+".index(token), lambda m, n: m + n
+    join = (add, max) if way == 0 else (max, add)
+    sizes = [tuple(join[i](l[i], r[i]) for i in (0, 1)) for l in left[0] for r in right[0]]
+    extents = [tuple(map(join[i], left[1][i], right[1][i])) for i in (0, 1)]
+    moves = [left[1][i] if i == way else (0, 0) for i in (0, 1)]
+    moved = {b: [tuple(map(add, move, ends)) for move, ends in zip(moves, at)] for b, at in right[2].items()}
+    return item(design, sizes, extents, {**left[2], **moved})
+
+
+def net_part(design, extents, items, complete, blocks, pads):
+    """The greatest of range, pair and hull."""
+    points = [[(x, x), (y, y)] for x, y in pads]
+    anywhere = [[(low, 2 * side - low) for (low, _), side in zip(extents[b], design.sides)] for b in blocks]
+    small = sorted(min(low for low, _ in extents[b]) for b in blocks)
+    parts = [gaps(anywhere + points), sum(small[-2:]) if len(small) > 1 else 0]
+    for _, _, offsets in items:
+        here = [zip(offsets[b], extents[b]) for b in blocks if b in offsets]
+        centres = [[(2 * first + low, 2 * last + high) for (first, last), (low, high) in ways] for ways in here]
+        parts.append(gaps(centres + points if complete else centres))
+    return max(parts)
+
+
+def value(design, tokens, spans):
+    """The standard bound of a subproblem."""
+    shapes = [listed[first:end] for listed, (first, end) in zip(design.shapes, spans)]
+    complete = len(tokens) == 2 * len(spans) - 1
+    if complete and design.wire_weight and all(len(left) == 1 for left in shapes):
+        return cost_of(design, tokens, [left[0] for left in shapes])
+    extents = [[(min(sides), max(sides)) for sides in zip(*left)] for left in shapes]
+    lone = [item(design, left, extents[b], {b: [(0, 0), (0, 0)]}) for b, left in enumerate(shapes)]
+    items = []
+    for token in tokens:
+        if token in ("*", "+"):
+            items[-2:] = [joined(design, token, *items[-2:])]
+        else:
+            items.append(lone[token])
+    parts = [sizes for sizes, _, _ in items + [it for b, it in enumerate(lone) if b not in tokens]]
+    if not all(parts):
+        return MAX
+    areas = sum(min(w * h for w, h in sizes) for sizes in parts)
+    if complete and not design.wire_weight:
+        return design.area_weight * areas
+    widest, highest = (max(min(size[i] for size in sizes) for sizes in parts) for i in (0, 1))
+    area = max(areas, widest * highest)
+    if area > design.sides[0] * design.sides[1]:
+        return MAX
+    wires = sum(net_part(design, extents, items, complete, *net) for net in design.nets) if design.wire_weight else 0
+    return design.area_weight * area + design.wire_weight * wires
+
+
+def next_tokens(tokens, count):
+    used = {token for token in tokens if token not in ("*", "+")}
+    may_join = 2 * len(used) - len(tokens) >= 2
+    return [sign for sign in "*+" if may_join and tokens[-1] != sign] + [b for b in range(count) if b not in used]
+
+
+def read_plan(words, count, line):
+    """The tokens of an expression, and the shape of each block."""
+    tokens, shapes = [], {}
+    for word in words:
+        form = re.fullmatch("%s:%sx%s" % (NUMBER, NUMBER, NUMBER), word)
+        token, *sides = map(int, form.groups()) if form else [word]
+        if token not in next_tokens(tokens, count) or not all(1 <= side <= MOST_SIDE for side in sides):
+            refuse("BadHeader", line)
+        tokens.append(token)
+        if form:
+            shapes[token] = tuple(sides)
+    if len(tokens) != 2 * count - 1:
+        refuse("BadHeader", line)
+    return tokens, shapes
+
+
+def read_header(lines, count, last):
+    """The stated cost and bound, and the plan or None."""
+    values = {}
+    for number, label in enumerate(("slicing-certificate", "blocks", "cost", "bound", "plan", "tree"), 1):
+        if number > len(lines):
+            refuse("BadHeader", last)
+        word, *rest = re.findall(r"[^ \t\r]+", lines[number - 1]) or [""]
+        if word != label or (len(rest) != (label != "tree") if label != "plan" else not rest):
+            refuse("BadHeader", number)
+        if label == "plan":
+            values[label] = None if rest == ["none"] else read_plan(rest, count, number)
+        elif rest == ["none"] or rest and re.fullmatch(NUMBER, rest[0]) and int(rest[0]) < MAX:
+            values[label] = MAX if rest == ["none"] else int(rest[0])
+        wanted = {"slicing-certificate": 1, "blocks": count}.get(label, values.get(label))
+        if rest and label not in values or values.get(label) != wanted:
+            refuse("BadHeader", number)
+        if label == "plan" and (values["plan"] is None) != (values["cost"] == MAX):
+            refuse("BadHeader", number)
+    return values["cost"], values["bound"], values["plan"]
+
+
+def read_tree(words, count, last):
+    """The tags in preorder, a split with its block."""
+    tags, waiting, words = [], [((), 0)], iter(words)
+    for word, line in words:
+        if not waiting:
+            refuse("Trailing", line)
+        block = next(words, (None,))[0] if word == "S" else "0"
+        if block is None:
+            break
+        if word not in ("E", "S", "C", "O") or not re.fullmatch("[0-9]{1,20}", block) or int(block) > 65_535:
+            refuse("BadTag", line)
+        tokens, depth = waiting.pop()
+        if depth >= 3_200:
+            refuse("TooDeep", line)
+        tags.append((word, int(block)))
+        children = {"E": [tokens + (token,) for token in next_tokens(tokens, count)], "S": [tokens] * 2}.get(word, [])
+        waiting += [(child, depth + 1) for child in reversed(children)]
+    if waiting:
+        refuse("Truncated", last)
+    return tags
+
+
+def said(number):
+    return "none" if number == MAX else str(number)
+
+
+def least_open(design, tags, cost):
+    """The least of the cost and the bounds of what is left open, where each tag may stand."""
+    least, waiting = cost, [((), tuple((0, len(listed)) for listed in design.shapes))]
+    for node, (tag, block) in enumerate(tags):
+        tokens, spans = waiting.pop()
+        if tag == "E":
+            if len(tokens) == 2 * len(spans) - 1:
+                say_no("BadChildren", node)
+            waiting += [(tokens + (token,), spans) for token in reversed(next_tokens(tokens, len(spans)))]
+        elif tag == "S":
+            first, end = spans[block] if block < len(spans) else (0, 0)
+            if end - first < 2:
+                say_no("BadSplit", node)
+            middle = (first + end) // 2
+            waiting += [(tokens, spans[:block] + (half,) + spans[block + 1 :]) for half in ((middle, end), (first, middle))]
+        else:
+            bound = value(design, tokens, spans)
+            if tag == "C" and bound < cost:
+                say_no("NotClosed", node, said(bound), said(cost))
+            least = min(least, bound) if tag == "O" else least
+    return least
+
+
+def check(design, text):
+    words = [(word, number) for number, line in enumerate(text.split("\n"), 1) for word in re.findall(r"[^ \t\r]+", line)]
+    last = words[-1][1] if words else 0
+    lines = text.removesuffix("\n").split("\n") if text else []
+    cost, bound, plan = read_header(lines, len(design.shapes), last)
+    tags = read_tree([(word, line) for word, line in words if line > 6], len(design.shapes), last)
+    if plan:
+        costs = cost_of(design, *plan)
+        if costs == MAX or any(plan[1][b] not in listed for b, listed in enumerate(design.shapes)):
+            say_no("BadPlan")
+        if costs != cost:
+            say_no("CostDiffers", said(cost), said(costs))
+    least = least_open(design, tags, cost)
+    if least != bound:
+        say_no("BoundDiffers", said(bound), said(least))
+    decided = sum(tag != "O" for tag, _ in tags)
+    raise Ended(0, "status Yes\ncost %s\nbound %s\ndecided %d" % (said(cost), said(bound), decided))
+
+
+def main():
+    words = iter(sys.argv[1:])
+    options = {name[2:]: name == "--fixed" or next(words) for name in words}
+    try:
+        check(Design(options), read_file(options["cert"]))
+    except Ended as answer:
+        print(answer.args[1])
+        sys.exit(answer.args[0])
+
+
+if __name__ == "__main__":
+    main()
