@@ -98,7 +98,7 @@ def tree_by_chance(blocks, dice):
     tags, waiting = [], [()]
     while waiting:
         tokens = waiting.pop()
-        kind = dice.choice("EEEEEEESO" if len(tokens) < 2 * blocks - 1 else "SO") if len(tags) < 60 else "O"
+        kind = dice.choice("EEEEEEEEEESO" if len(tokens) < 2 * blocks - 1 else "SOOO") if len(tags) < 60 else "O"
         tags.append("S %d" % dice.randrange(blocks) if kind == "S" else kind)
         waiting += {"E": [tokens + (token,) for token in reversed(next_tokens(tokens, blocks))], "S": [tokens] * 2}.get(kind, [])
     places = [place for place, tag in enumerate(tags) if tag == "O"]
