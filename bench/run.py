@@ -16,7 +16,7 @@ import tempfile
 
 #        name               blocks  nets   words                                              check too
 CASES = [
-    ("area-6", 6, 0, ["--nodes", "200000"], False),
+    ("area-6", 6, 0, ["--nodes", "200000"], True),
     ("area-7", 7, 0, ["--nodes", "1800000"], True),
     ("area-20", 20, 0, ["--nodes", "400000"], True),
     ("area-320", 320, 0, ["--nodes", "1926"], True),
