@@ -21,7 +21,7 @@ RT = """#!/bin/sh
 if [ "$1" = version ]; then cat %(folder)s/kit; exit; fi
 echo "$1" >>%(folder)s/calls
 if [ -e %(folder)s/broken ]; then echo "error: a goal is open"; exit 1; fi
-if [ "$1" = all ]; then echo "== low"; sleep "$(cat %(folder)s/pause)"; echo "== floorplan"; exit; fi
+if [ "$1" = lib ]; then sleep "$(cat %(folder)s/pause)"; exit; fi
 mkdir -p out && cp %(folder)s/program out/floorplan && echo "error Usage" && exit 2
 """
 PROGRAM = """#!/bin/sh
@@ -35,12 +35,12 @@ class Trial:
     def __init__(self, folder):
         self.folder, self.top = folder, os.path.join(folder, "a repository")
         self.script = os.path.join(self.top, "floorplan")
-        for name in ("low", "floorplan"):
+        for name in ("low", "other", "floorplan"):
             os.makedirs(os.path.join(self.top, "crates", name, "src"))
         os.makedirs(self.path("caller"))
         os.makedirs(self.path("bin"))
         shutil.copy(SCRIPT, self.script)
-        for name, text in (("crates.txt", "low:\n"), ("HANDLES", "none\n"), ("crates/low/src/lib.rt", "a\n"), ("crates/low/src/tests.rt", "b\n")):
+        for name, text in (("crates.txt", "floorplan: low kit\nother:\nlow: kit\n"), ("HANDLES", "none\n"), ("crates/low/src/lib.rt", "a\n"), ("crates/low/src/tests.rt", "b\n")):
             self.write(os.path.join(self.top, name), text)
         for name, text in (("kit", "kit 1\n"), ("pause", "0\n"), ("bin/rt", RT % {"folder": folder}), ("program", PROGRAM)):
             self.write(self.path(name), text)
@@ -92,6 +92,8 @@ def changes(trial):
     low = os.path.join(trial.top, "crates/low/src")
     trial.write(os.path.join(low, "tests.rt"), "c\n")
     trial.call("a test changed", [trial.script])
+    trial.write(os.path.join(trial.top, "crates/other/src/lib.rt"), "c\n")
+    trial.call("a crate changed that the program doesn't stand on", [trial.script])
     trial.write(os.path.join(low, "lib.rt"), "c\n")
     trial.call("a source changed", [trial.script], told="proved and built", builds=1)
     trial.write(trial.path("kit"), "kit 2\n")
@@ -113,7 +115,7 @@ def changes(trial):
     time.sleep(0.7)
     trial.call("twice at once: the second one waits", [trial.script, "y"], told="another call is building", builds=1)
     said = first.communicate()
-    if first.returncode != 0 or said[0] != "words x\n" or "crate 1 of 2" not in said[1]:
+    if first.returncode != 0 or said[0] != "words x\n" or "crate 1 of 2: low" not in said[1]:
         sys.exit("twice at once: the first one told %r" % (said,))
 
 
