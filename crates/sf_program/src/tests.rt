@@ -1,6 +1,7 @@
 //! Whole runs over a shelf and a sink in memory, as tables of what is given and what is answered.
 
 mod checking;
+mod expressions;
 mod failing;
 mod generating;
 mod many;
