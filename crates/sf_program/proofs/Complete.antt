@@ -12,8 +12,9 @@ use Rattle.sf_words.specs.Meaning.{Command, plan, check, measure, shape, gen, Me
 use Rattle.sf_words.proofs.Unique.{meaning_unique}
 use Rattle.sf_program.specs.Answer.{CommandAnswer, IsRefused}
 use Rattle.sf_program.specs.Checked.{CheckRead, IsChecked, answer_status}
-use Rattle.sf_program.specs.Complete.{EndsJudging, EndsSearch, HasValue, IsOwnEnd, IsTaken}
+use Rattle.sf_program.specs.Complete.{EndsJudging, HasValue, IsOwnEnd, IsTaken}
 use Rattle.sf_program.specs.Generated.{GenRead, IsGenerated}
+use Rattle.sf_program.specs.Headline.{HasSearched}
 use Rattle.sf_program.specs.Measured as measured
 use Rattle.sf_program.specs.OneAnswer.{Answer, AtMostOne, IsAnswerTo}
 use Rattle.sf_program.specs.Outcome.{Refusal}
@@ -25,7 +26,7 @@ use Rattle.sf_program.proofs.OneChecked.{check-read-one, measure-read-one, shape
 use Rattle.sf_program.proofs.OneDesign.{plan-one}
 use Rattle.sf_program.proofs.OneSearched.{gen-one}
 
-said-ends : (said : Outcome) → EndsSearch (planned.status_of said)
+said-ends : (said : Outcome) → HasSearched (planned.status_of said)
 said-ends word.Optimal = tt
 said-ends word.NoneFits = tt
 said-ends word.Open = tt
@@ -49,7 +50,7 @@ never-refused Read once taken a r =
 module _ (contents : Contents) where
   command-ends : (command : Command) (a : Answer) → IsTaken command contents → CommandAnswer command (Some contents) a.0 a.1 a.2 → IsOwnEnd command a.0
   command-ends (plan o) a taken h =
-      elim h [ inl p ↦ subst EndsSearch (sym p.answered.status_is) (said-ends p.answered.said) | inr r ↦ absurd (never-refused (planned.PlanRead (Some contents) o) (plan-one contents o) taken a r) ]
+      elim h [ inl p ↦ subst HasSearched (sym p.answered.status_is) (said-ends p.answered.said) | inr r ↦ absurd (never-refused (planned.PlanRead (Some contents) o) (plan-one contents o) taken a r) ]
   command-ends (check o) a taken h =
       elim h [ inl p ↦ subst EndsJudging (sym p.0.status_is) (checked-ends p.0.answer) | inr r ↦ absurd (never-refused (CheckRead (Some contents) o) (check-read-one contents o) taken a r) ]
   command-ends (measure o) a taken h =
@@ -57,7 +58,7 @@ module _ (contents : Contents) where
   command-ends (shape o) a taken h =
       elim h [ inl p ↦ subst (IsOwnEnd (shape o)) (sym p.0.status_is) tt | inr r ↦ absurd (never-refused (ShapeRead (Some contents) o) (shape-read-one contents o) taken a r) ]
   command-ends (gen o) a taken h =
-      elim h [ inl p ↦ subst EndsSearch (sym p.answered.status_is) (said-ends p.answered.said) | inr r ↦ absurd (never-refused (GenRead o) (gen-one o) taken a r) ]
+      elim h [ inl p ↦ subst HasSearched (sym p.answered.status_is) (said-ends p.answered.said) | inr r ↦ absurd (never-refused (GenRead o) (gen-one o) taken a r) ]
 
   pub words-end : (words : List (List ℕ)) (command : Command) (a : Answer) → Means words command → IsTaken command contents → IsAnswerTo words contents a → IsOwnEnd command a.0
   words-end words command a means taken h =

@@ -2,7 +2,7 @@
 use Rattle.std.specs.Prelude.{⊤, Option, Some, Result, Ok}
 use Rattle.sf_io.specs.Outside.{Contents}
 use Rattle.sf_io.specs.declared.status.Status.{Status}
-use Rattle.sf_io.specs.declared.status.Status.TheVariants.{Done, NoneFits, Open, No}
+use Rattle.sf_io.specs.declared.status.Status.TheVariants.{Done, No}
 use Rattle.sf_words.specs.Meaning.{Command, plan, check, measure, shape, gen}
 use Rattle.sf_program.specs.Outcome.{Refusal}
 use Rattle.sf_program.specs.Planned.{PlanRead}
@@ -10,6 +10,7 @@ use Rattle.sf_program.specs.Checked.{CheckRead}
 use Rattle.sf_program.specs.Measured.{MeasureRead}
 use Rattle.sf_program.specs.Shaped.{ShapeRead}
 use Rattle.sf_program.specs.Generated.{GenRead}
+use Rattle.sf_program.specs.Headline.{HasSearched}
 
 -- the stage gives a value
 abbrev pub HasValue : {X : Type 0} → (Result X Refusal → Type 0) → Type 0
@@ -23,12 +24,6 @@ IsTaken (measure o) contents = HasValue (MeasureRead (Some contents) o)
 IsTaken (shape o) contents = HasValue (ShapeRead (Some contents) o)
 IsTaken (gen o) contents = HasValue (GenRead o)
 
-abbrev pub EndsSearch : Status → Type 0
-EndsSearch Done = ⊤
-EndsSearch NoneFits = ⊤
-EndsSearch Open = ⊤
-EndsSearch status = ⊥
-
 abbrev pub EndsJudging : Status → Type 0
 EndsJudging Done = ⊤
 EndsJudging No = ⊤
@@ -40,8 +35,8 @@ EndsPrinting status = ⊥
 
 -- the statuses of the command's own answers
 abbrev pub IsOwnEnd : Command → Status → Type 0
-IsOwnEnd (plan o) status = EndsSearch status
+IsOwnEnd (plan o) status = HasSearched status
 IsOwnEnd (check o) status = EndsJudging status
 IsOwnEnd (measure o) status = EndsJudging status
 IsOwnEnd (shape o) status = EndsPrinting status
-IsOwnEnd (gen o) status = EndsSearch status
+IsOwnEnd (gen o) status = HasSearched status

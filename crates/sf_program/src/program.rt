@@ -10,7 +10,7 @@ ghost use Rattle.sf_program.specs.Generated.{GenRead};
 ghost use Rattle.sf_program.specs.Planned.{PlanRead};
 ghost use Rattle.sf_program.specs.Stores.{AfterStores, StoppedAt, stored_in};
 
-use crate::laws::answers_are_one;
+use crate::laws::{answers_are_one, taken_texts_are_answered};
 use crate::obeying::work;
 use crate::stop::Stop;
 use crate::work::{Store, Work};
@@ -76,8 +76,9 @@ pub fn run<R: Threads + Sync, S: Shelf, K: Sink, G: Gate>(
     ensures halted { result ≡ Status.WriteFault → IsHalted (map string_bytes words.now) (S.holds shelf.old) (S.holds shelf.new) (S.store_faults shelf.old) (S.store_faults shelf.new) (K.taken out.old) (K.taken out.new) (K.faults out.old) (K.faults out.new) }
     ensures silent { IsSilent result → (S.holds shelf.new ≡ S.holds shelf.old) × (K.taken out.new ≡ K.taken out.old) }
 {
-    // By this law the answer is no other than any that the words and the texts have.
+    // By these laws the answer is no other than any that the words and the texts have, and no refusal of what is taken.
     answers_are_one();
+    taken_texts_are_answered();
     match work(rt, alloc, words, shelf, gate) {
         Ok(work) => finish(shelf, out, &work),
         Err(Stop::BadInput(line)) => finish(
