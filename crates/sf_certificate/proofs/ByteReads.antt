@@ -79,9 +79,6 @@ long-said last line None w v others h k = ap (λ l. by_letter line l (tags_said 
 long-said last line (Some at) w v others h k = ap (λ o. record { line = at; tag = split_by at o } ∷ tags_said last None others) (long-number w h ∙ sym (long-number v k))
 
 module _ (n line last : ℕ) (tree : Reader) where
-  at-word : List ℕ → Bytewise
-  at-word w = record { tree = tree; word = w; line = line; last = last }
-
   -- what the words are read as, where they are these
   by-words : (w bytes : List ℕ) (ws : List LineWord) → words_from line (w ++ bytes) ≡ ws → bytes_on n (record { tree = tree; word = w; line = line; last = last }) bytes ≡ read_on n (last_word_line last ws) tree ws
   by-words w bytes ws e = ap (λ (z : List LineWord). read_on n (last_word_line last z) tree z) e

@@ -107,12 +107,6 @@ visit-fault : (bound : Parts → ℕ) (cost : ℕ) (walk : Progress) (node : Par
 visit-fault bound cost walk node nodes tag why e fair =
     a-fault bound cost walk.number node tag why (unless-err (fault_at (bound node) cost walk.number node tag) (past bound walk (node ∷ nodes) node tag) why e) fair
 
-one-most : (tag : Tag) → one_decided tag ≤ 1
-one-most Extend = omega arith
-one-most (Split b) = omega arith
-one-most Closed = omega arith
-one-most Open = omega arith
-
 -- ---- tags one after another
 
 step-append : (r : Result Progress Why) (f g h : Progress → Result Progress Why) → ((walk : Progress) → f walk ≡ and_then (g walk) h) → and_then r f ≡ and_then (and_then r g) h

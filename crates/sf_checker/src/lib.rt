@@ -1,10 +1,12 @@
 //! The checker of certificates. It trusts nothing of the search that made one, and names none of its crates.
 //!
-//! `check` measures the plan anew, walks over the tree once by a cursor and takes the bound of each closed and each open
-//! leaf from a bound function. The crate stands on `sf_certificate` for the certificate, on `sf_node` for subproblems, on
-//! `sf_cursor` for the way over them, on `sf_bounds` for the trait of bound functions, and on `sf_place` and `sf_wire` for
-//! what a plan costs. The crates above use that it answers Yes exactly where the certificate is valid, and otherwise the
-//! first failure.
+//! `check` measures the plan anew, walks over the tree once by a cursor and takes the bound of each closed and each
+//! open leaf from a bound function. `Checking` does the same for a text that comes in pieces: it keeps the header,
+//! the first part of a word that is cut in two, and one path. The crate stands on `sf_certificate` for the
+//! certificate, on `sf_node` for subproblems, on `sf_cursor` for the way over them, on `sf_bounds` for the trait of
+//! bound functions, and on `sf_place` and `sf_wire` for what a plan costs. The crates above use that it answers Yes
+//! exactly where the certificate is valid, and otherwise the first failure; and that wherever a text is cut, the
+//! answer is that to the certificate which the whole text says.
 #![tactic(auto)]
 
 mod answer;

@@ -14,3 +14,4 @@ pub mod OneSearched
 pub mod OneAnswer
 pub mod Complete
 pub mod Headline
+pub mod Pieces

@@ -39,6 +39,13 @@ CertRead held name blocks = Then (TextRead held name) (λ text. Judged (cert_rea
 abbrev pub CheckRead : Option Contents → CheckOptions → Result Said Refusal → Type 0
 CheckRead held o = Then (DesignRead held o.design o.weights) (λ design. CertRead held o.cert (block_count design))
 
+-- the text under the name says a certificate for the blocks of the design, and this is the checker's answer to it by the
+-- standard bound
+pub record AnsweredFile (held : Option Contents) (name : List ℕ) (design : Design) (answer : Answer) : Type 0 where
+  pub cert : Cert
+  pub reads : CertRead held name (block_count design) (Ok (said_by cert))
+  pub answered : IsAnswer design (standard design) cert answer
+
 -- the words for a failure, with `none` for MAX
 abbrev pub why_words : Why → List (List ℕ)
 why_words BadPlan = codes "BadPlan" ∷ []

@@ -1,15 +1,18 @@
 //! The command `check`: a certificate is judged.
 
-ghost use Rattle.std.specs.Prelude.{◌≡◌, ◌∷◌, [], ℕ, Err, IfErr, IfOk, codes, string_bytes};
+ghost use Rattle.std.specs.Prelude.{◌≡◌, ◌∷◌, ◌++◌, [], ℕ, List, Err, IfErr, IfOk, OnOk, codes, string_bytes};
 ghost use Rattle.std.specs.Fmt.{decimal};
-ghost use Rattle.sf_certificate.specs.Reading.{cert_read, said_by};
+ghost use Rattle.sf_certificate.specs.Reading.{cert_read};
 ghost use Rattle.sf_certificate.specs.Text.{cost_text};
 ghost use Rattle.sf_checker.specs.declared.answer.Answer.TheVariants as answers;
+ghost use Rattle.sf_checker.specs.Feeding.{IsAnswerTo, IsFed};
+ghost use Rattle.sf_model.specs.declared.design.Design.{Design as DesignValue};
 ghost use Rattle.sf_model.specs.Legal.{block_count};
+ghost use Rattle.sf_standard.specs.Standard.{standard};
 ghost use Rattle.sf_words.specs.Seen.{check_seen};
-ghost use Rattle.sf_program.specs.Checked.{CertRead, CheckRead, IsChecked, answer_status, answer_text, cert_refusal, why_words};
+ghost use Rattle.sf_program.specs.Checked.{AnsweredFile, CertRead, CheckRead, IsChecked, answer_status, answer_text, cert_refusal, why_words};
 ghost use Rattle.sf_program.specs.Loads.{IsRead, TellsLoads};
-ghost use Rattle.sf_program.specs.Outcome.{Ends, Refuses, Stops};
+ghost use Rattle.sf_program.specs.Outcome.{Refuses, Stops};
 ghost use Rattle.sf_program.specs.Reading.{Judged};
 ghost use Rattle.sf_program.specs.Refusals.{line_of};
 ghost use Rattle.sf_program.specs.Stores.{stored_in};
@@ -20,12 +23,15 @@ use crate::refusals::bare_fault;
 use crate::stop::Stop;
 use crate::work::Work;
 use sf_bounds::Standard;
-use sf_certificate::{Cert, CertFault, read};
-use sf_checker::{Answer, Why};
+use sf_certificate::CertFault;
+use sf_checker::{Answer, Checking, FinishFault, Why};
 use sf_io::{Shelf, Status};
 use sf_model::{Design, MAX};
 use sf_words::CheckWords;
 use std::alloc::{AllocError as NoMemory, Global};
+
+/// How many bytes of a text are checked at once.
+const PIECE: usize = 65_536;
 
 /// The first fault of the text of a certificate.
 fn cert_fault(alloc: Global, fault: CertFault) -> Result<Stop, NoMemory>
@@ -41,34 +47,48 @@ fn cert_fault(alloc: Global, fault: CertFault) -> Result<Stop, NoMemory>
     }
 }
 
-/// The certificate of a design that a text says.
-fn parse_cert(alloc: Global, text: &[u8], design: &Design) -> Result<Cert, Stop>
-    ensures said { Ends said_by result (Judged (cert_read (block_count design.now) text.now) cert_refusal) }
-    ensures blocks { IfOk result (λ cert. cert.blocks ≡ block_count design.now) }
+/// Feeds a text in pieces.
+fn feed_text(checking: &mut Checking<'_, Standard>, text: &[u8]) -> Result<(), NoMemory>
+    ensures { (design : DesignValue) (fed : List ℕ) → IsFed (λ bounds d. standard d) design (standard design) fed checking.old → OnOk result (IsFed (λ bounds d. standard d) design (standard design) (fed ++ text.now) checking.new) }
+{
+    let mut rest = text;
+    while !rest.is_empty() {
+        let (piece, after) = rest.split_at(rest.len().min(PIECE));
+        checking.feed(piece)?;
+        rest = after;
+    }
+    Ok(())
+}
+
+/// What the checker answers to the certificate that a text says.
+fn check_text(alloc: Global, text: &[u8], design: &Design) -> Result<Answer, Stop>
+    ensures answer { IfOk result (λ a. IsAnswerTo design.now (standard design.now) text.now a) }
+    ensures refused { IfErr result (λ stop. Stops stop (λ why. Judged (cert_read (block_count design.now) text.now) cert_refusal (Err why))) }
     ensures tells { (loads loads_then : ℕ) → IfErr result (TellsLoads loads loads_then) }
 {
-    let blocks = design.blocks.as_slice().len() as u16;
-    match read(alloc, text, blocks) {
-        Ok(cert) => Ok(cert),
-        Err(CertFault::NoMemory) => Err(Stop::NoMemory),
-        Err(fault) => Err(cert_fault(alloc, fault)?),
+    let mut checking = Checking::new(alloc, design, &Standard)?;
+    feed_text(&mut checking, text)?;
+    match checking.finish() {
+        Ok(answer) => Ok(answer),
+        Err(FinishFault::Text(fault)) => Err(cert_fault(alloc, fault)?),
+        Err(FinishFault::NoMemory) => Err(Stop::NoMemory),
     }
 }
 
-/// The certificate of a design that the named file says.
-fn read_cert<S: Shelf>(
+/// What the checker answers to the certificate of the named file.
+fn check_file<S: Shelf>(
     alloc: Global,
     shelf: &mut S,
     name: &str,
     design: &Design,
-) -> Result<Cert, Stop>
-    ensures cert { Ends said_by result (CertRead (S.holds shelf.old) name.now (block_count design.now)) }
-    ensures blocks { IfOk result (λ cert. cert.blocks ≡ block_count design.now) }
+) -> Result<Answer, Stop>
+    ensures answer { IfOk result (λ a. AnsweredFile (S.holds shelf.old) name.now design.now a) }
+    ensures refused { IfErr result (λ stop. Stops stop (λ why. CertRead (S.holds shelf.old) name.now (block_count design.now) (Err why))) }
     ensures read { IsRead (S.holds shelf.old) (S.holds shelf.new) (S.load_faults shelf.old) (S.load_faults shelf.new) (S.store_faults shelf.old) (S.store_faults shelf.new) }
     ensures tells { IfErr result (TellsLoads (S.load_faults shelf.old) (S.load_faults shelf.new)) }
 {
     let text = load_text(alloc, shelf, name)?;
-    parse_cert(alloc, &text, design)
+    check_text(alloc, &text, design)
 }
 
 /// A cost or a bound in digits, or `none` for MAX.
@@ -148,7 +168,6 @@ pub fn check<S: Shelf>(alloc: Global, words: &CheckWords<'_>, shelf: &mut S) -> 
     ensures tells { IfErr result (TellsLoads (S.load_faults shelf.old) (S.load_faults shelf.new)) }
 {
     let design = read_design(alloc, shelf, &words.design, words.weights)?;
-    let cert = read_cert(alloc, shelf, words.cert, &design)?;
-    let answer = sf_checker::check(alloc, &design, &Standard, &cert)?;
+    let answer = check_file(alloc, shelf, words.cert, &design)?;
     Ok(answer_work(alloc, answer)?)
 }
