@@ -1,5 +1,5 @@
 -- What is built from admitted parts is their design, and keeps the limits.
-use Rattle.std.proofs.Common.{◌≡◌, ℕ, ◌<◌, ◌≤◌, ◌^◌, ℤ, nat_abs, Bool, true, false, IsTrue, cond, List, [], ◌∷◌, length, get_or, Option, Some, None, IfSome, refl, sym, ap, ◌∙◌, subst, arith}
+use Rattle.std.proofs.Common.{◌≡◌, ℕ, ◌<◌, ◌≤◌, ◌^◌, ℤ, nat_abs, Bool, true, false, IsTrue, cond, List, [], ◌∷◌, map, length, get_or, Option, Some, None, IfSome, refl, sym, ap, ◌∙◌, subst, arith}
 use Rattle.std.specs.List.{All, AllByRecursion, AllZip, filter_map, sum_by, zip}
 use Rattle.std.proofs.lemmas.Int.{ints}
 use Rattle.std.proofs.lemmas.List.Elements.{All-from_recursion, recursion_from_All}
@@ -63,6 +63,12 @@ pin_sets parts [] (n ∷ ns) made = absurd made
 pin_sets parts (r ∷ rs) [] made = tt
 pin_sets parts (r ∷ rs) (n ∷ ns) made = (record { in_range = made.0.there; ascending = made.0.set.ascending }, pin_sets parts rs ns made.1)
 
+nets_light : (parts : Parts) (read : List RawNet) (nets : List Net) → AllZip (IsNetMade parts) read nets → AllByRecursion (λ n. n.weight < 2 ^ 8) nets
+nets_light parts [] [] made = tt
+nets_light parts [] (n ∷ ns) made = absurd made
+nets_light parts (r ∷ rs) [] made = tt
+nets_light parts (r ∷ rs) (n ∷ ns) made = (made.0.light, nets_light parts rs ns made.1)
+
 pub nets_are : (parts : Parts) (read : List RawNet) (nets : List Net) → AllZip (IsNetMade parts) read nets → AllByRecursion (λ n. IsNetOf parts n.0 n.1) (zip read nets)
 nets_are parts [] nets made = tt
 nets_are parts (r ∷ rs) [] made = tt
@@ -90,6 +96,7 @@ limits_hold parts lists outline weights blocks pads nets admitted choices sides 
       shapes = All-from_recursion (λ (b : Block). IsShapeList b.shapes) (design_blocks parts.blocks lists) (shapes_fine parts.blocks lists none (recursion_from_All IsShapeChoice lists choices.fine));
       places = places_fit parts.pads_in parts.pads limits.places;
       pins = subst R (sym n) (All-from_recursion (λ (net : Net). IsPinSet (length parts.blocks) (length (design_pads parts)) net.pins) nets (pin_sets parts parts.nets nets made));
+      net_weights = All-from_recursion (λ (net : Net). net.weight < 2 ^ 8) nets (nets_light parts parts.nets nets made);
       width = sides.0;
       height = sides.1;
       area_weight = area;
@@ -97,8 +104,8 @@ limits_hold parts lists outline weights blocks pads nets admitted choices sides 
       weighted = weighted;
     }))
 
-pub is_design : (parts : Parts) (lists : List (List Shape)) (outline : Outline) (weights : Weights) (design : Design) → HasShapeChoices parts.blocks lists → design.blocks ≡ design_blocks parts.blocks lists → design.pads ≡ design_pads parts → AllZip (IsNetMade parts) parts.nets design.nets → design.outline ≡ outline → design.weights ≡ weights → IsDesignOf parts lists outline weights design
-is_design parts lists outline weights design choices blocks pads made outline_is weights_are = record {
+pub is_design : (parts : Parts) (lists : List (List Shape)) (outline : Outline) (weights : Weights) (net_weights : List ℕ) (design : Design) → HasShapeChoices parts.blocks lists → design.blocks ≡ design_blocks parts.blocks lists → design.pads ≡ design_pads parts → AllZip (IsNetMade parts) parts.nets design.nets → design.outline ≡ outline → design.weights ≡ weights → map (λ n. n.weight) design.nets ≡ net_weights → IsDesignOf parts lists outline weights net_weights design
+is_design parts lists outline weights net_weights design choices blocks pads made outline_is weights_are net_weights_are = record {
   block_count = ap (λ bs. length bs) blocks ∙ length_blocks parts.blocks lists choices.one_each;
   blocks = blocks;
   pads = pads;
@@ -106,4 +113,5 @@ is_design parts lists outline weights design choices blocks pads made outline_is
   nets = All-from_recursion (λ (n : RawNet × Net). IsNetOf parts n.0 n.1) (zip parts.nets design.nets) (nets_are parts parts.nets design.nets made);
   outline_is = outline_is;
   weights_are = weights_are;
+  net_weights_are = net_weights_are;
 }

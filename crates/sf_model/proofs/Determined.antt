@@ -1,5 +1,5 @@
 -- A design is determined by what it is built from.
-use Rattle.std.proofs.Common.{◌≡◌, ℕ, zero, suc, ◌<◌, List, [], ◌∷◌, length, get_or, ◌⊎◌, inl, inr, refl, ap, sym, ◌∙◌, arith}
+use Rattle.std.proofs.Common.{◌≡◌, ℕ, zero, suc, ◌<◌, List, [], ◌∷◌, map, drop, length, get_or, ◌⊎◌, inl, inr, refl, ap, sym, ◌∙◌, arith}
 use Rattle.std.proofs.Props.{props}
 use Rattle.std.specs.List.{AllByRecursion, AllPairs, Contains, zip}
 use Rattle.std.proofs.lemmas.List.Elements.{All-contains, recursion_from_All}
@@ -66,19 +66,29 @@ same_sets (x ∷ xs) (y ∷ ys) up up' to from =
     let rest : xs ≡ ys = same_sets xs ys (tail_up x xs up) (tail_up y ys up') (tail_in x y xs ys up head to) (tail_in y x ys xs up' (sym head) from) in
     ap (λ (z : Pin). z ∷ xs) head ∙ ap (λ (zs : List Pin). y ∷ zs) rest
 
-same_net : (parts : Parts) (read : RawNet) (n m : Net) → IsNetOf parts read n → IsNetOf parts read m → n ≡ m
-same_net parts read n m a b =
-    let f : List Pin → Net = λ ps. record { pins = ps } in
-    ap f (same_sets n.pins m.pins a.ascending b.ascending (λ p h. (b.same p).1 ((a.same p).0 h)) (λ p h. (a.same p).1 ((b.same p).0 h)))
+same_net : (parts : Parts) (read : RawNet) (n m : Net) → IsNetOf parts read n → IsNetOf parts read m → n.weight ≡ m.weight → n ≡ m
+same_net parts read n m a b w =
+    let f : List Pin → Net = λ ps. record { pins = ps; weight = n.weight } in
+    let g : ℕ → Net = λ k. record { pins = m.pins; weight = k } in
+    ap f (same_sets n.pins m.pins a.ascending b.ascending (λ p h. (b.same p).1 ((a.same p).0 h)) (λ p h. (a.same p).1 ((b.same p).0 h))) ∙ ap g w
 
-same_nets : (parts : Parts) (read : List RawNet) (ns ms : List Net) → length ns ≡ length read → length ms ≡ length read → AllByRecursion (λ n. IsNetOf parts n.0 n.1) (zip read ns) → AllByRecursion (λ n. IsNetOf parts n.0 n.1) (zip read ms) → ns ≡ ms
-same_nets parts [] [] [] i j a b = refl
-same_nets parts [] [] (m ∷ ms) i j a b = absurd (omega arith)
-same_nets parts [] (n ∷ ns) ms i j a b = absurd (omega arith)
-same_nets parts (r ∷ rs) [] ms i j a b = absurd (omega arith)
-same_nets parts (r ∷ rs) (n ∷ ns) [] i j a b = absurd (omega arith)
-same_nets parts (r ∷ rs) (n ∷ ns) (m ∷ ms) i j a b =
-    ap (λ (z : Net). z ∷ ns) (same_net parts r n m a.0 b.0) ∙ ap (λ (zs : List Net). m ∷ zs) (same_nets parts rs ns ms (omega arith) (omega arith) a.1 b.1)
+abbrev weights_of : List Net → List ℕ
+weights_of nets = map (λ n. n.weight) nets
+
+head_weight : (n m : Net) (ns ms : List Net) → weights_of (n ∷ ns) ≡ weights_of (m ∷ ms) → n.weight ≡ m.weight
+head_weight n m ns ms e = ap (λ ws. get_or ws 0 0) e
+
+tail_weights : (n m : Net) (ns ms : List Net) → weights_of (n ∷ ns) ≡ weights_of (m ∷ ms) → weights_of ns ≡ weights_of ms
+tail_weights n m ns ms e = ap (λ ws. drop 1 ws) e
+
+same_nets : (parts : Parts) (read : List RawNet) (ns ms : List Net) → length ns ≡ length read → length ms ≡ length read → AllByRecursion (λ n. IsNetOf parts n.0 n.1) (zip read ns) → AllByRecursion (λ n. IsNetOf parts n.0 n.1) (zip read ms) → weights_of ns ≡ weights_of ms → ns ≡ ms
+same_nets parts [] [] [] i j a b w = refl
+same_nets parts [] [] (m ∷ ms) i j a b w = absurd (omega arith)
+same_nets parts [] (n ∷ ns) ms i j a b w = absurd (omega arith)
+same_nets parts (r ∷ rs) [] ms i j a b w = absurd (omega arith)
+same_nets parts (r ∷ rs) (n ∷ ns) [] i j a b w = absurd (omega arith)
+same_nets parts (r ∷ rs) (n ∷ ns) (m ∷ ms) i j a b w =
+    ap (λ (z : Net). z ∷ ns) (same_net parts r n m a.0 b.0 (head_weight n m ns ms w)) ∙ ap (λ (zs : List Net). m ∷ zs) (same_nets parts rs ns ms (omega arith) (omega arith) a.1 b.1 (tail_weights n m ns ms w))
 
 one_proof : (blocks : List Block) (pads : List Pad) (nets : List Net) (outline : Outline) (weights : Weights) → IsProp (IsWithinLimits blocks pads nets outline weights)
 one_proof blocks pads nets outline weights = hlevel props
@@ -99,10 +109,10 @@ unfolding IsOf design_of
 same_design d e b p n o w =
     let k : IsOf d e.blocks e.pads e.nets e.outline e.weights = rw (← b, ← p, ← n, ← o, ← w) (own d) in k e.limits
 
-pub determined : (parts : Parts) (lists : List (List Shape)) (outline : Outline) (weights : Weights) (d e : Design) → IsDesignOf parts lists outline weights d → IsDesignOf parts lists outline weights e → d ≡ e
-determined parts lists outline weights d e a b = same_design d e
+pub determined : (parts : Parts) (lists : List (List Shape)) (outline : Outline) (weights : Weights) (net_weights : List ℕ) (d e : Design) → IsDesignOf parts lists outline weights net_weights d → IsDesignOf parts lists outline weights net_weights e → d ≡ e
+determined parts lists outline weights net_weights d e a b = same_design d e
     (a.blocks ∙ sym b.blocks)
     (a.pads ∙ sym b.pads)
-    (same_nets parts parts.nets d.nets e.nets a.net_count b.net_count (recursion_from_All (λ (n : RawNet × Net). IsNetOf parts n.0 n.1) (zip parts.nets d.nets) a.nets) (recursion_from_All (λ (n : RawNet × Net). IsNetOf parts n.0 n.1) (zip parts.nets e.nets) b.nets))
+    (same_nets parts parts.nets d.nets e.nets a.net_count b.net_count (recursion_from_All (λ (n : RawNet × Net). IsNetOf parts n.0 n.1) (zip parts.nets d.nets) a.nets) (recursion_from_All (λ (n : RawNet × Net). IsNetOf parts n.0 n.1) (zip parts.nets e.nets) b.nets) (a.net_weights_are ∙ sym b.net_weights_are))
     (a.outline_is ∙ sym b.outline_is)
     (a.weights_are ∙ sym b.weights_are)

@@ -51,8 +51,8 @@ length_kept : {X Y : Type 0} (h : X → Option Y) (xs : List X) → length (filt
 length_kept h [] = omega arith
 length_kept h (x ∷ xs) = omega (arith, kept_length (h x) (filter_map h xs), length_kept h xs)
 
-pub net_made : (parts : Parts) (read : RawNet) (net : Net) (all sorted : List Pin) → IsAdmitted parts → Contains parts.nets read → HasPinsInRange parts → all ≡ named_pins parts read.pins → IsPermutation all sorted → AllPairs (λ p q. pin_order p < pin_order q) net.pins → ((p : Pin) → list_any (same_pin p) net.pins ≡ list_any (same_pin p) sorted) → All (Contains sorted) net.pins → length net.pins ≤ length sorted → IsNetMade parts read net
-net_made parts read net all sorted admitted in_nets ranges named moved up same each few =
+pub net_made : (parts : Parts) (read : RawNet) (net : Net) (all sorted : List Pin) → IsAdmitted parts → Contains parts.nets read → HasPinsInRange parts → all ≡ named_pins parts read.pins → IsPermutation all sorted → AllPairs (λ p q. pin_order p < pin_order q) net.pins → ((p : Pin) → list_any (same_pin p) net.pins ≡ list_any (same_pin p) sorted) → All (Contains sorted) net.pins → length net.pins ≤ length sorted → net.weight < 2 ^ 8 → IsNetMade parts read net
+net_made parts read net all sorted admitted in_nets ranges named moved up same each few light =
     let limits = limits_kept parts admitted in
     let blocks = limits.few_blocks in
     let pads = limits.few_pads in
@@ -74,4 +74,5 @@ net_made parts read net all sorted admitted in_nets ranges named moved up same e
       };
       few = (let n = ap length named in omega (arith, length_permutation all sorted moved, length_kept (pin_of parts) read.pins));
       there = λ k d l. All-contains (IsThere (length parts.blocks) (length (design_pads parts))) sorted (get_or net.pins k d) there_sorted (each k d l);
+      light = light;
     }

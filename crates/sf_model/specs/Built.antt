@@ -76,8 +76,12 @@ pub record IsNetOf (parts : Parts) (read : RawNet) (net : Net) : Type 0 where
   pub ascending : AllPairs (λ p q. pin_order p < pin_order q) net.pins
   pub same : (p : Pin) → Contains net.pins p ↔ Contains (named_pins parts read.pins) p
 
--- the design of these parts with these lists: a block, and a net, for each one read, in their order
-pub record IsDesignOf (parts : Parts) (lists : List (List Shape)) (outline : Outline) (weights : Weights) (design : Design) : Type 0 where
+-- one weight for each net
+abbrev pub HasNetWeights : Parts → List ℕ → Type 0
+HasNetWeights parts net_weights = length net_weights ≡ length parts.nets
+
+-- the design of these parts with these lists: a block, and a net with its weight, for each one read, in their order
+pub record IsDesignOf (parts : Parts) (lists : List (List Shape)) (outline : Outline) (weights : Weights) (net_weights : List ℕ) (design : Design) : Type 0 where
   pub block_count : length design.blocks ≡ length parts.blocks
   pub blocks : design.blocks ≡ design_blocks parts.blocks lists
   pub pads : design.pads ≡ design_pads parts
@@ -85,3 +89,4 @@ pub record IsDesignOf (parts : Parts) (lists : List (List Shape)) (outline : Out
   pub nets : All (λ n. IsNetOf parts n.0 n.1) (zip parts.nets design.nets)
   pub outline_is : design.outline ≡ outline
   pub weights_are : design.weights ≡ weights
+  pub net_weights_are : map (λ n. n.weight) design.nets ≡ net_weights

@@ -1,5 +1,5 @@
 -- Pads by their number among those that have a place, pins by their order, and nets as they are made.
-use Rattle.std.specs.Prelude.{◌≡◌, ℕ, ◌<◌, ◌≤◌, Bool, ◌==◌, List, length, take, count_by, is_some, slice_index, All}
+use Rattle.std.specs.Prelude.{◌≡◌, ℕ, ◌<◌, ◌≤◌, ◌^◌, Bool, ◌==◌, List, length, take, count_by, is_some, slice_index, All}
 use Rattle.sf_model.specs.Built.{IsNetOf, design_pads}
 use Rattle.sf_model.specs.Limits.{pin_order, pin_number, pin_count}
 use Rattle.sf_model.specs.declared.parts.Net.{Net}
@@ -20,8 +20,9 @@ same_pin p q = pin_order p == pin_order q
 abbrev pub IsThere : ℕ → ℕ → Pin → Type 0
 IsThere blocks pads p = pin_number p < pin_count blocks pads p
 
--- the set of the pins of a net as read, of no more pins than were read
+-- the set of the pins of a net as read, of no more pins than were read, with a weight of one byte
 pub record IsNetMade (parts : Parts) (read : RawNet) (net : Net) : Type 0 where
   pub set : IsNetOf parts read net
   pub few : length net.pins ≤ length read.pins
   pub there : All (IsThere (length parts.blocks) (length (design_pads parts))) net.pins
+  pub light : net.weight < 2 ^ 8

@@ -3,7 +3,7 @@
 ghost use Rattle.std.specs.Prelude.{◌≡◌, ◌≢◌, ◌≤◌, None, Some, [], IsTrue, OnOk, IfOk, IfErr, length, vec_len, All, filter_map, nat_abs, ◌^◌, if◌then◌else◌};
 ghost use Rattle.std.specs.Option.{option_map, option_copied};
 ghost use Rattle.sf_model.specs.Admitted.{HasPinsInRange, IsAdmitted, IsPlaceWithin};
-ghost use Rattle.sf_model.specs.Built.{HasShapeChoices, IsDesignOf, IsOutline, IsWeighted, shapeless, design_blocks, placed_pad};
+ghost use Rattle.sf_model.specs.Built.{HasNetWeights, HasShapeChoices, IsDesignOf, IsOutline, IsWeighted, shapeless, design_blocks, placed_pad};
 ghost use Rattle.sf_model.specs.declared.fault.BuildFault.TheVariants.{NoMemory, NoShape};
 
 use crate::design::Design;
@@ -103,8 +103,8 @@ fn check_shapes(alloc: Global, blocks: &[RawBlock], lists: &[Shapes]) -> Result<
 }
 
 impl Design {
-    /// The design of admitted parts, with a list of shapes for each block. Blocks and nets keep their
-    /// numbers. Pads are numbered among those that have a place; where no text places pads, the design has
+    /// The design of admitted parts, with a list of shapes for each block and a weight for each net. Blocks and
+    /// nets keep their numbers. Pads are numbered among those that have a place; where no text places pads, the design has
     /// none. The first block with an empty list is refused by its name.
     pub fn build(
         alloc: Global,
@@ -112,18 +112,20 @@ impl Design {
         lists: Vec<Shapes>,
         outline: Outline,
         weights: Weights,
+        net_weights: &[u8],
     ) -> Result<Design, BuildFault>
         requires admitted { IsAdmitted parts }
         requires pins { HasPinsInRange parts }
         requires choices { HasShapeChoices parts.blocks lists.items }
         requires sides { IsOutline outline }
         requires weighted { IsWeighted weights }
-        ensures built { IfOk result (λ design. IsDesignOf parts lists.items outline weights design) }
+        requires net_weights { HasNetWeights parts net_weights.now }
+        ensures built { IfOk result (λ design. IsDesignOf parts lists.items outline weights net_weights.now design) }
         ensures shaped { OnOk result (shapeless parts.blocks lists.items ≡ None) }
         ensures no_shape { IfErr result (λ fault. fault ≢ NoMemory → option_map NoShape (shapeless parts.blocks lists.items) ≡ Some fault) }
     {
         check_shapes(alloc, parts.blocks.as_slice(), &lists)?;
-        let nets = nets_of(alloc, &parts)?;
+        let nets = nets_of(alloc, &parts, net_weights)?;
         let pads = placed_pads(alloc, parts.pads_in, parts.pads)?;
         let blocks = blocks_of(alloc, parts.blocks, lists)?;
         Ok(Design {

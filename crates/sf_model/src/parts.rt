@@ -29,10 +29,11 @@ pub enum Pin {
     Pad(u16),
 }
 
-/// A set of pins, in ascending order.
+/// A set of pins, in ascending order, and how often its wire counts.
 #[derive(Debug, Drop)]
 pub struct Net {
     pub pins: Pins,
+    pub weight: u8,
 }
 
 #[derive(Clone, Copy, Debug, PartialEq, Eq)]
@@ -41,6 +42,7 @@ pub struct Outline {
     pub h: u32,
 }
 
+/// What the area counts, and what the wires of all nets count.
 #[derive(Clone, Copy, Debug, PartialEq, Eq)]
 pub struct Weights {
     pub area: u16,

@@ -75,6 +75,7 @@ fn one_block(alloc: Global, name: &[u8]) -> Result<Parts, AllocError>
     requires { 0 < length name.now }
     ensures pins { IfOk result (λ parts. HasPinsInRange parts) }
     ensures one { IfOk result (λ parts. length parts.blocks ≡ 1) }
+    ensures one_net { IfOk result (λ parts. length parts.nets ≡ 1) }
 {
     let block = RawBlock {
         name: Name::new(alloc, b"a")?,
@@ -119,16 +120,27 @@ fn built(alloc: Global, parts: Parts) -> Result<u8, BuildFault>
     requires admitted { IsAdmitted parts }
     requires pins { HasPinsInRange parts }
     requires one { length parts.blocks ≡ 1 }
+    requires one_net { length parts.nets ≡ 1 }
 {
     let lists = one_list(alloc)?;
     let outline = Outline { w: 10, h: 10 };
-    let design = Design::build(alloc, parts, lists, outline, Weights { area: 1, wire: 0 })?;
+    let design = Design::build(
+        alloc,
+        parts,
+        lists,
+        outline,
+        Weights { area: 1, wire: 0 },
+        &[200],
+    )?;
     let pads = design.pads.as_slice();
     let nets = design.nets.as_slice();
     if design.blocks.as_slice().len() != 1 || pads.len() != 1 || nets.len() != 1 {
         return Ok(6);
     }
     let pins = nets[0].pins.as_slice();
+    if nets[0].weight != 200 {
+        return Ok(5);
+    }
     if pads[0].x == 5 && pads[0].y == -2 && pins == [Pin::Block(0), Pin::Pad(0)].as_slice() {
         Ok(0)
     } else {

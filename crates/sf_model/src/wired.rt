@@ -1,10 +1,10 @@
 //! The nets of a design.
 
-ghost use Rattle.std.specs.Prelude.{◌≡◌, ℕ, ◌^◌, ◌<◌, ◌≤◌, length, All, AllPairs, Contains, IfOk, vec_len, filter_map};
+ghost use Rattle.std.specs.Prelude.{◌≡◌, ℕ, ◌^◌, ◌<◌, ◌≤◌, length, All, AllPairs, Contains, IfOk, vec_len, map, filter_map};
 ghost use Rattle.std.specs.List.{list_any, AllZip};
 ghost use Rattle.std.specs.List.Sorted.{IsNonDecreasingBy, IsPermutation};
 ghost use Rattle.sf_model.specs.Admitted.{IsAdmitted, HasPinsInRange, IsPinInRange};
-ghost use Rattle.sf_model.specs.Built.{named_pins, pin_of};
+ghost use Rattle.sf_model.specs.Built.{HasNetWeights, named_pins, pin_of};
 ghost use Rattle.sf_model.specs.Limits.{pin_order};
 ghost use Rattle.sf_model.specs.Numbers.{AreNumbersOf, IsNetMade, same_pin};
 
@@ -102,45 +102,56 @@ fn distinct(alloc: Global, pins: &[Pin]) -> Result<Vec<Pin>, AllocError>
     Ok(set)
 }
 
-/// The set of the pins of a net.
+/// The set of the pins of a net, with this weight.
 fn net_of(
     alloc: Global,
     index: &Index<'_>,
     numbers: &[u16],
     net: &RawNet,
+    weight: u8,
 ) -> Result<Net, AllocError>
     requires admitted { IsAdmitted index.now.parts.now }
     requires in_range { HasPinsInRange index.now.parts.now }
     requires numbered { AreNumbersOf numbers.now index.now.parts.now.pads }
     requires listed { Contains index.now.parts.now.nets net.now }
-    ensures { IfOk result (λ made. IsNetMade index.now.parts.now net.now made) }
+    ensures made { IfOk result (λ made. IsNetMade index.now.parts.now net.now made) }
+    ensures weight { IfOk result (λ made. made.weight ≡ weight) }
 {
     let mut pins = resolve_all(alloc, index, numbers, net.pins.as_slice())?;
     sort(&mut pins);
     let pins = Pins::from_vec(distinct(alloc, &pins)?);
-    Ok(Net { pins })
+    Ok(Net { pins, weight })
 }
 
-fn nets_in(alloc: Global, index: &Index<'_>, numbers: &[u16]) -> Result<NetList, AllocError>
+fn nets_in(
+    alloc: Global,
+    index: &Index<'_>,
+    numbers: &[u16],
+    weights: &[u8],
+) -> Result<NetList, AllocError>
     requires admitted { IsAdmitted index.now.parts.now }
     requires in_range { HasPinsInRange index.now.parts.now }
     requires numbered { AreNumbersOf numbers.now index.now.parts.now.pads }
-    ensures { IfOk result (λ nets. AllZip (IsNetMade index.now.parts.now) index.now.parts.now.nets nets) }
+    requires one_each { HasNetWeights index.now.parts.now weights.now }
+    ensures made { IfOk result (λ nets. AllZip (IsNetMade index.now.parts.now) index.now.parts.now.nets nets) }
+    ensures weights { IfOk result (λ nets. map (λ n. n.weight) nets ≡ weights.now) }
 {
-    let mut nets = Vec::with_capacity(alloc, index.parts.nets.as_slice().len())?;
-    for net in index.parts.nets.as_slice() {
-        nets.push(net_of(alloc, index, numbers, net)?)?;
+    let mut nets = Vec::with_capacity(alloc, weights.len())?;
+    for (number, net) in index.parts.nets.as_slice().iter().enumerate() {
+        nets.push(net_of(alloc, index, numbers, net, weights[number])?)?;
     }
     Ok(NetList::from_vec(nets))
 }
 
-/// The nets of admitted parts, in their order.
-pub fn nets_of(alloc: Global, parts: &Parts) -> Result<NetList, AllocError>
+/// The nets of admitted parts, in their order, each with its weight.
+pub fn nets_of(alloc: Global, parts: &Parts, weights: &[u8]) -> Result<NetList, AllocError>
     requires admitted { IsAdmitted parts.now }
     requires in_range { HasPinsInRange parts.now }
-    ensures { IfOk result (λ nets. AllZip (IsNetMade parts.now) parts.now.nets nets) }
+    requires one_each { HasNetWeights parts.now weights.now }
+    ensures made { IfOk result (λ nets. AllZip (IsNetMade parts.now) parts.now.nets nets) }
+    ensures weights { IfOk result (λ nets. map (λ n. n.weight) nets ≡ weights.now) }
 {
     let index = Index::new(alloc, parts)?;
     let numbers = pad_numbers(alloc, parts.pads.as_slice())?;
-    nets_in(alloc, &index, &numbers)
+    nets_in(alloc, &index, &numbers, weights)
 }

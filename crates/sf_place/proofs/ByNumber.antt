@@ -1,5 +1,5 @@
 -- The spots of a plan by block number: the same wire, the same ends, and a legal placement.
-use Rattle.std.proofs.Common.{length-append, ◌≡◌, ℕ, suc, ◌+◌, ◌<◌, ◌≤◌, max, List, [], ◌∷◌, map, length, get_or, All, AllPairs, arith, refl, sym, ap, subst, ◌∙◌, ◌==◌, cond, inl, inr}
+use Rattle.std.proofs.Common.{length-append, ◌≡◌, ℕ, suc, ◌+◌, ◌*◌, ◌<◌, ◌≤◌, max, List, [], ◌∷◌, map, length, get_or, All, AllPairs, arith, refl, sym, ap, subst, ◌∙◌, ◌==◌, cond, inl, inr}
 use Prim.Native.Nat.{zero}
 use Rattle.std.specs.Prelude.{count_by, Contains, slice_set, pos, ◌+ℤ◌, ◌*ℤ◌, nat_abs, sum_by}
 use Rattle.std.specs.List.{AllByRecursion, range_with_len}
@@ -17,7 +17,7 @@ use Rattle.sf_model.specs.declared.parts.Shape.{Shape}
 use Rattle.sf_model.specs.declared.plan.Spot.{Spot}
 use Rattle.sf_model.specs.Tree.{Tree, Leaf, Beside, Above, width, height, leaves, leaf_count, spots_at, spots_of, Overlaps, IsInside}
 use Rattle.sf_model.specs.Legal.{HasEachOnce, IsLegal, Fits, block_count, shapes_of}
-use Rattle.sf_model.specs.Wire.{spot_of, pin_x, pin_y, net_wire, wire, spread}
+use Rattle.sf_model.specs.Wire.{spot_of, pin_x, pin_y, net_wire, weighed_wire, wire, spread}
 use Rattle.sf_model.specs.Cost.{right_end, upper_end, cost, spots_cost}
 use Rattle.sf_model.proofs.Each.{each-append, each-weaker, each-left, each-right, EachPair}
 use Rattle.sf_model.proofs.Places.{spots-inside, spots-apart}
@@ -93,15 +93,17 @@ module _ (design : Design) (xs ys : List Spot) (same : (b : ℕ) → spot_of b x
   pins_y-same (pin.Block b ∷ ps) = let h = ap (λ s. pos 2 *ℤ s.y +ℤ pos s.h) (same b) in let t = pins_y-same ps in cc
   pins_y-same (pin.Pad p ∷ ps) = let t = pins_y-same ps in cc
 
-  nets-same : (nets : List Net) → sum_by (net_wire design xs) nets ≡ sum_by (net_wire design ys) nets
+  net-same : (net : Net) → net_wire design xs net ≡ net_wire design ys net
+  net-same net = omega (arith, ap spread (pins_x-same net.pins), ap spread (pins_y-same net.pins))
+
+  nets-same : (nets : List Net) → sum_by (weighed_wire design xs) nets ≡ sum_by (weighed_wire design ys) nets
   nets-same [] = refl
   nets-same (net ∷ nets) =
       omega (
         arith,
-        sum_by-cons (net_wire design xs) net nets,
-        sum_by-cons (net_wire design ys) net nets,
-        ap spread (pins_x-same net.pins),
-        ap spread (pins_y-same net.pins),
+        sum_by-cons (weighed_wire design xs) net nets,
+        sum_by-cons (weighed_wire design ys) net nets,
+        ap (λ v. net.weight * v) (net-same net),
         nets-same nets,
       )
 

@@ -1,5 +1,5 @@
 -- Bounds of a weighed cost.
-use Rattle.std.proofs.Common.{◌≡◌, ℕ, ◌*◌, ◌^◌, ◌≤◌, List, All, arith}
+use Rattle.std.proofs.Common.{◌≡◌, ℕ, ◌*◌, ◌^◌, ◌<◌, ◌≤◌, List, All, arith}
 use Rattle.std.proofs.Math.Nat.{mul-le-mul_left, mul_comm}
 use Rattle.std.proofs.lemmas.List.Elements.{recursion_from_All}
 use Rattle.sf_model.specs.declared.design.Design.{Design}
@@ -18,9 +18,9 @@ product a b m n h k =
 pub record IsSmall (area w h wire length : ℕ) : Type 0 where
   pub size : w * h ≤ 2 ^ 40
   pub areas : area * (w * h) ≤ 65535 * 2 ^ 40
-  pub wires : wire * length ≤ 65535 * 2 ^ 39
+  pub wires : wire * length ≤ 65535 * 2 ^ 47
 
-pub small : (design : Design) (spots : List Spot) (area w h wire length : ℕ) → All (LiesIn design.outline) spots → area ≡ design.weights.area → w ≡ right_end spots → h ≡ upper_end spots → wire ≡ design.weights.wire → length ≤ 2 ^ 39 → IsSmall area w h wire length
+pub small : (design : Design) (spots : List Spot) (area w h wire length : ℕ) → All (LiesIn design.outline) spots → area ≡ design.weights.area → w ≡ right_end spots → h ≡ upper_end spots → wire ≡ design.weights.wire → length < 2 ^ 47 → IsSmall area w h wire length
 small design spots area w h wire length inside a r u b e =
     let each = recursion_from_All (LiesIn design.outline) spots inside in
     let c : w ≤ 2 ^ 20 = omega (arith, r, right_end_most design.outline spots each, design.limits.width.1) in
@@ -29,5 +29,5 @@ small design spots area w h wire length inside a r u b e =
     record {
       size = omega (arith, s);
       areas = product area (w * h) 65535 (2 ^ 40) (omega (arith, a, design.limits.area_weight)) (omega (arith, s));
-      wires = product wire length 65535 (2 ^ 39) (omega (arith, b, design.limits.wire_weight)) e;
+      wires = product wire length 65535 (2 ^ 47) (omega (arith, b, design.limits.wire_weight)) (omega (arith, e));
     }

@@ -4,4 +4,4 @@ use Rattle.sf_model.specs.declared.design.Design.{Design}
 use Rattle.sf_model.specs.declared.parts.Net.{Net}
 
 abbrev pub net_at : Design → ℕ → Net
-net_at design n = slice_index_or design.nets n (record { pins = [] })
+net_at design n = slice_index_or design.nets n (record { pins = []; weight = 0 })

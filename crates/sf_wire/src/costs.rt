@@ -1,4 +1,4 @@
-ghost use Rattle.std.specs.Prelude.{◌≡◌, ◌<◌, ◌≤◌, ◌^◌, IfOk, All};
+ghost use Rattle.std.specs.Prelude.{◌≡◌, ◌+◌, ◌<◌, ◌≤◌, ◌^◌, IfOk, All};
 ghost use Rattle.sf_model.specs.Tree.{tree_of};
 ghost use Rattle.sf_model.specs.Legal.{IsLegal, Fits};
 ghost use Rattle.sf_model.specs.Cost.{right_end, upper_end, cost, spots_cost};
@@ -14,7 +14,7 @@ pub fn cost(alloc: Global, design: &Design, plan: &Plan) -> Result<u64, NoMemory
     requires legal { IsLegal design.now (tree_of plan.now) }
     requires fits { Fits design.now.outline (tree_of plan.now) }
     ensures cost { IfOk result (λ c. c ≡ cost design.now (tree_of plan.now)) }
-    ensures bounded { IfOk result (λ c. c < 2 ^ 57) }
+    ensures bounded { IfOk result (λ c. c < 2 ^ 63 + 2 ^ 56) }
 {
     let blocks = design.blocks.as_slice().len() as u16;
     let spots = sf_place::spots(alloc, plan, blocks)?;
@@ -25,7 +25,7 @@ pub fn cost(alloc: Global, design: &Design, plan: &Plan) -> Result<u64, NoMemory
 pub fn spots_cost(design: &Design, spots: &[Spot]) -> u64
     requires { AreLegal design.now spots.now }
     ensures cost { result ≡ spots_cost design.now spots.now }
-    ensures bounded { result < 2 ^ 57 }
+    ensures bounded { result < 2 ^ 63 + 2 ^ 56 }
 {
     let (width, height) = spots_size(spots);
     let area = u64::from(design.weights.area) * (width * height);

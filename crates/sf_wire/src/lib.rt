@@ -2,7 +2,7 @@
 //!
 //! Wire length goes between the doubled centres of blocks and the doubled points of pads. The
 //! crate stands on `sf_place`, whose legal placements are its condition. The crates above use
-//! that `wire` and `cost` are those of the definitions, and that every cost is below 2^57.
+//! that `wire` and `cost` are those of the definitions, and that every cost is below 2^63 + 2^56.
 #![tactic(auto)]
 
 pub mod costs;

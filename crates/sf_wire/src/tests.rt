@@ -34,16 +34,18 @@ fn pad(alloc: Global, x: i32) -> Result<Pad, AllocError>
     })
 }
 
-fn net(alloc: Global, first: Pin, second: Pin) -> Result<Net, AllocError>
-    ensures { IfOk result (λ n. n.pins ≡ first ∷ second ∷ []) }
+fn net(alloc: Global, first: Pin, second: Pin, weight: u8) -> Result<Net, AllocError>
+    ensures pins { IfOk result (λ n. n.pins ≡ first ∷ second ∷ []) }
+    ensures weight { IfOk result (λ n. n.weight ≡ weight) }
 {
     Ok(Net {
         pins: Pins::from_vec(vec![in alloc; first, second]?),
+        weight,
     })
 }
 
-/// Two blocks 2x2 with a net of both, and a net of each with a pad of its own.
-fn row(alloc: Global) -> Result<Design, AllocError>
+/// Two blocks 2x2 with a net of both, and a net of each with a pad of its own, of these weights.
+fn row(alloc: Global, both: u8, own: u8) -> Result<Design, AllocError>
     ensures blocks { IfOk result (λ design. block_count design ≡ 2) }
     ensures nets { IfOk result (λ design. length design.nets ≡ 3) }
     ensures first { IfOk result (λ design. shapes_of design 0 ≡ SQUARE ∷ []) }
@@ -54,9 +56,9 @@ fn row(alloc: Global) -> Result<Design, AllocError>
     let blocks = vec![in alloc; square(alloc)?, square(alloc)?]?;
     let pads = vec![in alloc; pad(alloc, 0)?, pad(alloc, 10)?]?;
     let nets = vec![in alloc;
-        net(alloc, Pin::Block(0), Pin::Pad(0))?,
-        net(alloc, Pin::Block(0), Pin::Block(1))?,
-        net(alloc, Pin::Block(1), Pin::Pad(1))?,
+        net(alloc, Pin::Block(0), Pin::Pad(0), own)?,
+        net(alloc, Pin::Block(0), Pin::Block(1), both)?,
+        net(alloc, Pin::Block(1), Pin::Pad(1), own)?,
     ]?;
     Ok(Design {
         blocks: BlockList::from_vec(blocks),
@@ -70,7 +72,6 @@ fn row(alloc: Global) -> Result<Design, AllocError>
 #[test]
 fn wires_of_a_row(rt: HostRuntime) -> Result<(), Fail> {
     let alloc = rt.alloc();
-    let design = row(alloc)?;
     let first = Spot {
         block: 0,
         x: 0,
@@ -87,21 +88,26 @@ fn wires_of_a_row(rt: HostRuntime) -> Result<(), Fail> {
     };
     let placed = [first, second];
     assert_eq!(rt; spots_size(&placed), (4, 2));
-    assert!(rt; check_spots(&design, &placed) == Verdict::Legal);
-    assert_eq!(rt; net_wire(&design, 1, &placed), 4);
-    assert_eq!(rt; net_wire(&design, 2, &placed), 16);
-    assert_eq!(rt; wire(&design, &placed), 24);
-    assert_eq!(rt; spots_cost(&design, &placed), 32);
+    for (both, own, wires, costs) in [(1u8, 1u8, 24u64, 32u64), (3, 0, 12, 20), (0, 0, 0, 8)] {
+        let design = row(alloc, both, own)?;
+        assert!(rt; check_spots(&design, &placed) == Verdict::Legal);
+        assert_eq!(rt; net_wire(&design, 1, &placed), 4);
+        assert_eq!(rt; net_wire(&design, 2, &placed), 16);
+        assert_eq!(rt; wire(&design, &placed), wires);
+        assert_eq!(rt; spots_cost(&design, &placed), costs);
+    }
     Ok(())
 }
 
 #[test]
 fn cost_of_a_row(rt: HostRuntime) -> Result<(), Fail> {
     let alloc = rt.alloc();
-    let design = row(alloc)?;
-    let left = Box::new(alloc, Plan::Leaf(0, SQUARE))?;
-    let right = Box::new(alloc, Plan::Leaf(1, SQUARE))?;
-    let plan = Plan::Beside(left, right);
-    assert_eq!(rt; cost(alloc, &design, &plan)?, 32);
+    for (both, costs) in [(1u8, 32u64), (3, 40), (0, 28)] {
+        let design = row(alloc, both, 1)?;
+        let left = Box::new(alloc, Plan::Leaf(0, SQUARE))?;
+        let right = Box::new(alloc, Plan::Leaf(1, SQUARE))?;
+        let plan = Plan::Beside(left, right);
+        assert_eq!(rt; cost(alloc, &design, &plan)?, costs);
+    }
     Ok(())
 }

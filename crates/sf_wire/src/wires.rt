@@ -1,7 +1,7 @@
-ghost use Rattle.std.specs.Prelude.{◌≡◌, ◌<◌, ◌≤◌, ◌^◌, length};
+ghost use Rattle.std.specs.Prelude.{◌≡◌, ◌<◌, ◌≤◌, ◌^◌, ◌*◌, length};
 ghost use Rattle.sf_model.specs.Limits.{pin_number, pin_count};
 ghost use Rattle.sf_model.specs.Legal.{block_count};
-ghost use Rattle.sf_model.specs.Wire.{pin_x, pin_y, net_wire, wire};
+ghost use Rattle.sf_model.specs.Wire.{pin_x, pin_y, net_wire, weighed_wire, wire};
 ghost use Rattle.sf_place.specs.Verdict.{AreLegal};
 ghost use Rattle.sf_wire.specs.Near.{IsNear, HasPins};
 ghost use Rattle.sf_wire.specs.Nets.{net_at};
@@ -20,17 +20,30 @@ pub fn net_wire(design: &Design, net: usize, spots: &[Spot]) -> u64
     half_perimeter(design, &design.nets.as_slice()[net], spots)
 }
 
-/// The sum over all nets, in doubled units.
+/// The sum over all nets of weight times `net_wire`, in doubled units.
 pub fn wire(design: &Design, spots: &[Spot]) -> u64
     requires { AreLegal design.now spots.now }
     ensures wire { result ≡ wire design.now spots.now }
-    ensures bounded { result ≤ 2 ^ 39 }
+    ensures bounded { result < 2 ^ 47 }
 {
     let mut total = 0;
     for net in design.nets.as_slice() {
-        total += half_perimeter(design, net, spots);
+        total += weighed_wire(design, net, spots);
     }
     total
+}
+
+/// The half perimeter of a net's pins, as often as its weight says. One of weight 0 is not looked at.
+fn weighed_wire(design: &Design, net: &Net, spots: &[Spot]) -> u64
+    requires legal { AreLegal design.now spots.now }
+    requires pins { HasPins design.now net.now }
+    ensures wire { result ≡ weighed_wire design.now spots.now net.now }
+    ensures bounded { result ≤ 255 * 2 ^ 23 }
+{
+    if net.weight == 0 {
+        return 0;
+    }
+    u64::from(net.weight) * half_perimeter(design, net, spots)
 }
 
 fn half_perimeter(design: &Design, net: &Net, spots: &[Spot]) -> u64

@@ -14,8 +14,8 @@ invariant_of-result c = record {
   limits = limits_hold c.args.parts c.args.lists.items c.args.outline c.args.weights c.in_ok-blocks.blocks c.in_ok-pads.pads c.in_ok-nets.nets
       c.requires.admitted c.requires.choices c.requires.sides c.requires.weighted
       (ap (λ (bs : List RawBlock). shapeless bs c.args.lists.items) (sym c.as_slice.ensures) ∙ ap (λ (ls : List (List Shape)). shapeless c.as_slice.result.now ls) (sym c.deref.ensures.value) ∙ c.in_ok-check_shapes.ensures.shaped)
-      c.in_ok-blocks.ensures c.in_ok-pads.ensures c.in_ok-nets.ensures (omega arith) (omega arith);
+      c.in_ok-blocks.ensures c.in_ok-pads.ensures c.in_ok-nets.ensures.made (omega arith) (omega arith);
 }
 
 pub returns-clause-built : goal.returns-clause-built
-returns-clause-built c = is_design c.args.parts c.args.lists.items c.args.outline c.args.weights _ c.requires.choices c.in_ok-blocks.ensures c.in_ok-pads.ensures c.in_ok-nets.ensures refl refl
+returns-clause-built c = is_design c.args.parts c.args.lists.items c.args.outline c.args.weights c.args.net_weights.now _ c.requires.choices c.in_ok-blocks.ensures c.in_ok-pads.ensures c.in_ok-nets.ensures.made refl refl c.in_ok-nets.ensures.weights
