@@ -83,7 +83,7 @@ pub high-least : (a b : ℤ) (is : List Interval) → b ≤ℤ a → AllByRecurs
 high-least a b [] h e = h
 high-least a b (i ∷ is) h e = high-least (int_min a i.high) b is (omega (arith, ints, clamps, h, e.0)) e.1
 
-to_nat-le : (z : ℤ) (n : ℕ) → z ≤ℤ pos n → to_nat z ≤ n
+pub to_nat-le : (z : ℤ) (n : ℕ) → z ≤ℤ pos n → to_nat z ≤ n
 to_nat-le (pos m) n h = omega (arith, ints, h)
 to_nat-le (negsuc m) n h = omega arith
 

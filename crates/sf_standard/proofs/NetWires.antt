@@ -1,6 +1,7 @@
 -- The range, pair and hull parts are no more than a net's wire in any plan of the subproblem that fits.
 use Rattle.std.proofs.Common.{◌≡◌, ℕ, ◌+◌, ◌*◌, ◌<◌, ◌≤◌, max, List, [], ◌∷◌, ◌++◌, map, length, arith, refl, ap, sym, subst, ◌∙◌, inl, inr, Bool, true, false, cond}
-use Rattle.std.specs.Prelude.{Contains, sum_by, nat_lt, ℤ, pos, ◌≤ℤ◌}
+use Rattle.std.specs.Prelude.{Contains, nat_lt, ℤ, pos, ◌≤ℤ◌}
+use Rattle.std.proofs.Math.Nat.{mul-le-mul_left}
 use Rattle.std.specs.List.{AllByRecursion}
 use Rattle.std.proofs.lemmas.Int.{ints}
 use Rattle.std.proofs.lemmas.Bool.{cond_both, true≢false}
@@ -13,7 +14,7 @@ use Rattle.sf_model.specs.declared.plan.Spot.{Spot}
 use Rattle.sf_model.specs.Legal.{Fits, block_count}
 use Rattle.sf_model.specs.Limits.{IsPinSet, pin_order, pin_number, pin_count}
 use Rattle.sf_model.specs.Tree.{Tree, Leaf, Beside, Above, width, height, leaves, spots_at, spots_of}
-use Rattle.sf_model.specs.Wire.{spot_of, pin_x, pin_y, net_wire, wire}
+use Rattle.sf_model.specs.Wire.{spot_of, pin_x, pin_y, net_wire, weighed_wire, wire}
 use Rattle.sf_model.proofs.Each.{each-append, each-weaker, each-map, each-left, each-right, EachPair, EachPair-map}
 use Rattle.sf_node.specs.Parts.{Parts}
 use Rattle.sf_node.specs.Subproblem.{Belongs, is_complete}
@@ -23,7 +24,7 @@ use Rattle.sf_standard.specs.Items.{Item, items_of, span_shapes, item_of}
 use Rattle.sf_standard.specs.declared.hull.Extent.{Extent}
 use Rattle.sf_standard.specs.declared.hull.Offset.{Offset}
 use Rattle.sf_standard.specs.Hull.{extent_of, range_x, range_y, range_part, block_pins, small_side, pair_part, item_extent, moved_right, moved_up, offsets, offset_x, offset_y, contains_pin, of_pins, pads_x, pads_y, hull_of, hull_part}
-use Rattle.sf_standard.specs.Standard.{net_part}
+use Rattle.sf_standard.specs.Standard.{net_part, weighed_part, wire_part}
 use Rattle.sf_standard.proofs.Grown.{IsPart, part-self}
 use Rattle.sf_standard.proofs.Listed.{each-contains, each-from, Contains-map, sum_by-le_each, EachPair-from_pairs, EachPair-of}
 use Rattle.sf_standard.proofs.Members.{pin-from}
@@ -83,7 +84,7 @@ offsets-at extent x y (Above l r) h =
     (λ o k. (k.0, Contains-append_right (spots_at x y l) (spots_at x (y + height l) r) k.0 k.1, record { block = k.2.block; left = k.2.left; right = k.2.right; below = omega (arith, ints, k.2.below, i.high); above = omega (arith, ints, k.2.above, i.low) }))
     (offsets extent (item_of r)) (offsets-at extent x (y + height l) r (each-right _ (leaves l) (leaves r) h))))
 
-each-of_pins : (P : Offset → Type 0) (pins : List Pin) (os : List Offset) → AllByRecursion P os → AllByRecursion (λ o. (contains_pin o.block pins ≡ true) × P o) (of_pins pins os)
+pub each-of_pins : (P : Offset → Type 0) (pins : List Pin) (os : List Offset) → AllByRecursion P os → AllByRecursion (λ o. (contains_pin o.block pins ≡ true) × P o) (of_pins pins os)
 each-of_pins P pins [] h = tt
 each-of_pins P pins (o ∷ os) h =
     cond_both (contains_pin o.block pins) (o ∷ of_pins pins os) (of_pins pins os) (AllByRecursion (λ o. (contains_pin o.block pins ≡ true) × P o))
@@ -264,7 +265,10 @@ module _ (design : Design) (node : Parts) (tree : Tree) (spans : length node.spa
         cond_both (nat_lt (length net.pins) 2) 0 (max (range_part design (extent_in design node) net.pins) (max (pair_part (extent_in design node) net.pins) (hull_part design (extent_in design node) (is_complete node) (items_of node) net.pins)))
         (λ v. v ≤ net_wire design (spots_of tree) net) (λ _. omega arith) (λ _. omega (arith, range-le, pair-le, hull-by (is_complete node) refl))
 
-  pub nets-le : sum_by (net_part design node) design.nets ≤ wire design (spots_of tree)
-  nets-le = sum_by-le_each (net_part design node) (net_wire design (spots_of tree)) design.nets
-      (each-weaker (λ net. IsPinSet (block_count design) (length design.pads) net.pins) (λ net. net_part design node net ≤ net_wire design (spots_of tree) net) net_part-le design.nets
+  weighed-le : (net : Net) → IsPinSet (block_count design) (length design.pads) net.pins → weighed_part design node net ≤ weighed_wire design (spots_of tree) net
+  weighed-le net set = mul-le-mul_left net.weight (net_part-le net set)
+
+  pub nets-le : wire_part design node ≤ wire design (spots_of tree)
+  nets-le = sum_by-le_each (weighed_part design node) (weighed_wire design (spots_of tree)) design.nets
+      (each-weaker (λ net. IsPinSet (block_count design) (length design.pads) net.pins) (λ net. weighed_part design node net ≤ weighed_wire design (spots_of tree) net) weighed-le design.nets
       (recursion_from_All (λ net. IsPinSet (block_count design) (length design.pads) net.pins) design.nets design.limits.pins))

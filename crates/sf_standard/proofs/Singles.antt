@@ -19,7 +19,7 @@ use Rattle.sf_model.specs.Cost.{cost}
 use Rattle.sf_model.specs.Legal.{Fits, block_count, shapes_of}
 use Rattle.sf_model.specs.Limits.{IsPinSet, pin_number, pin_count}
 use Rattle.sf_model.specs.Tree.{Tree, Leaf, Beside, Above, width, height, leaves, spots_at, spots_of}
-use Rattle.sf_model.specs.Wire.{spot_of, pad_at, pin_x, pin_y, spread, net_wire, wire}
+use Rattle.sf_model.specs.Wire.{spot_of, pad_at, pin_x, pin_y, spread, net_wire, weighed_wire, wire}
 use Rattle.sf_model.proofs.Bounded.{cost-below}
 use Rattle.sf_model.proofs.Each.{each-append, each-left, each-right, each-weaker, each-map}
 use Rattle.sf_node.specs.Parts.{Parts}
@@ -31,7 +31,7 @@ use Rattle.sf_standard.specs.declared.hull.Offset.{Offset}
 use Rattle.sf_standard.specs.Items as item
 use Rattle.sf_standard.specs.Items.{Item, items_of, unused, span_shapes, plans, fits, fitting, item_of}
 use Rattle.sf_standard.specs.Hull.{extent_of, point, range_part, pair_part, item_extent, offsets, moved_right, moved_up, offset_x, offset_y, contains_pin, of_pins, pads_x, pads_y, hull_of, hull_part}
-use Rattle.sf_standard.specs.Standard.{area, least_of, least_cost, has_none, needed_area, net_part, open_value, has_single_spans, SinglesAreOpen}
+use Rattle.sf_standard.specs.Standard.{area, least_of, least_cost, has_none, needed_area, net_part, weighed_part, wire_part, open_value, has_single_spans, SinglesAreOpen}
 use Rattle.sf_standard.proofs.Cutting.{AreListed, cut, belongs-listed, least_of-le}
 use Rattle.sf_standard.proofs.Exact.{IsWholeItem, whole-item, fitting-belongs, plans-are, least_of-reached}
 use Rattle.sf_standard.proofs.Gaps.{IsOfExtent, of-extent, Pins, spread-le-gap}
@@ -262,9 +262,12 @@ module _ (design : Design) (node : Parts) (tree : Tree) (spans : length node.spa
         (λ few. omega (arith, few-wire (pin_x design (spots_of tree)) (pin_y design (spots_of tree)) net.pins (ltb-true (length net.pins) 2 few)))
         (λ _. omega (arith, wire-le-hull, hull-whole))
 
-  wires-le : wire design (spots_of tree) ≤ sum_by (net_part design node) design.nets
-  wires-le = sum_by-le_each (net_wire design (spots_of tree)) (net_part design node) design.nets
-      (each-weaker (λ net. IsPinSet (block_count design) (length design.pads) net.pins) (λ net. net_wire design (spots_of tree) net ≤ net_part design node net) wire-le design.nets
+  weighed-le : (net : Net) → IsPinSet (block_count design) (length design.pads) net.pins → weighed_wire design (spots_of tree) net ≤ weighed_part design node net
+  weighed-le net set = mul-le-mul_left net.weight (wire-le net set)
+
+  wires-le : wire design (spots_of tree) ≤ wire_part design node
+  wires-le = sum_by-le_each (weighed_wire design (spots_of tree)) (weighed_part design node) design.nets
+      (each-weaker (λ net. IsPinSet (block_count design) (length design.pads) net.pins) (λ net. weighed_wire design (spots_of tree) net ≤ weighed_part design node net) weighed-le design.nets
       (recursion_from_All (λ net. IsPinSet (block_count design) (length design.pads) net.pins) design.nets design.limits.pins))
 
   -- each plan of the item has this area
@@ -291,11 +294,11 @@ module _ (design : Design) (node : Parts) (tree : Tree) (spans : length node.spa
   cost-le : cost design tree ≤ open_value design node
   cost-le =
       let none = cost-below design tree fit in
-      let total : cost design tree ≤ design.weights.area * needed_area groups + design.weights.wire * sum_by (net_part design node) design.nets =
+      let total : cost design tree ≤ design.weights.area * needed_area groups + design.weights.wire * wire_part design node =
       omega (arith, mul-le-mul_left design.weights.area area-le, mul-le-mul_left design.weights.wire wires-le) in
-      cond_both (list_any has_none groups) MAX (if nat_lt (design.outline.w * design.outline.h) (needed_area groups) then MAX else (design.weights.area * needed_area groups + design.weights.wire * sum_by (net_part design node) design.nets)) (λ v. cost design tree ≤ v)
+      cond_both (list_any has_none groups) MAX (if nat_lt (design.outline.w * design.outline.h) (needed_area groups) then MAX else (design.weights.area * needed_area groups + design.weights.wire * wire_part design node)) (λ v. cost design tree ≤ v)
       (λ _. omega (arith, none))
-      (λ _. cond_both (nat_lt (design.outline.w * design.outline.h) (needed_area groups)) MAX (design.weights.area * needed_area groups + design.weights.wire * sum_by (net_part design node) design.nets) (λ v. cost design tree ≤ v)
+      (λ _. cond_both (nat_lt (design.outline.w * design.outline.h) (needed_area groups)) MAX (design.weights.area * needed_area groups + design.weights.wire * wire_part design node) (λ v. cost design tree ≤ v)
       (λ _. omega (arith, none))
       (λ _. total))
 
@@ -317,7 +320,7 @@ single_spans_are_open design node sub complete single =
         ap (λ is. list_any has_none (map (fitting design node) (is ++ unused node))) whole.1.items
         ∙ ap (λ ts. has_none ts || list_any has_none (map (fitting design node) (unused node))) e in
         ap (least_of (cost design)) e
-        ∙ sym (cond-true (list_any has_none (map (fitting design node) (items_of node ++ unused node))) MAX (if nat_lt (design.outline.w * design.outline.h) (needed_area (map (fitting design node) (items_of node ++ unused node))) then MAX else (design.weights.area * needed_area (map (fitting design node) (items_of node ++ unused node)) + design.weights.wire * sum_by (net_part design node) design.nets)) none)
+        ∙ sym (cond-true (list_any has_none (map (fitting design node) (items_of node ++ unused node))) MAX (if nat_lt (design.outline.w * design.outline.h) (needed_area (map (fitting design node) (items_of node ++ unused node))) then MAX else (design.weights.area * needed_area (map (fitting design node) (items_of node ++ unused node)) + design.weights.wire * wire_part design node)) none)
     by-plans (t ∷ ts) e =
         let here : Contains (fitting design node whole.0) t = subst (λ v. Contains v t) (sym e) (Contains-head t ts) in
         let b = fitting-belongs design node whole.0 t sub complete whole.1 here in

@@ -1,6 +1,6 @@
 -- The standard bound is sound, and exact at the end.
 use Rattle.std.proofs.Common.{◌≡◌, ◌+◌, ◌*◌, ◌≤◌, [], ◌∷◌, ◌++◌, map, length, arith, ap, sym, subst, ◌∙◌, true}
-use Rattle.std.specs.Prelude.{sum_by, nat_lt, if◌then◌else◌}
+use Rattle.std.specs.Prelude.{nat_lt, if◌then◌else◌}
 use Rattle.std.specs.List.{list_any}
 use Rattle.std.proofs.Math.Nat.{mul-le-mul, mul-le-mul_left}
 use Rattle.std.proofs.lemmas.Bool.{cond_both, and_parts, ltb-true, true≢false}
@@ -14,7 +14,7 @@ use Rattle.sf_node.specs.Subproblem.{Belongs, is_complete, is_solved}
 use Rattle.sf_node.specs.Bounds.{IsSound}
 use Rattle.sf_node.proofs.Reached.{subproblem-spans}
 use Rattle.sf_standard.specs.Items.{items_of, unused, fitting, item_of}
-use Rattle.sf_standard.specs.Standard.{least_cost, has_none, needed_area, net_part, bounded, standard}
+use Rattle.sf_standard.specs.Standard.{least_cost, has_none, needed_area, wire_part, bounded, standard}
 use Rattle.sf_standard.proofs.Grown.{part-self}
 use Rattle.sf_standard.proofs.Cutting.{cut, part-fitting, least_of-le, needed-area, none-empty}
 use Rattle.sf_standard.proofs.NetWires.{nets-le}
@@ -27,11 +27,11 @@ pub bounded-le : (design : Design) (node : Parts) (tree : Tree) → length node.
 bounded-le design node tree spans belongs fit =
     let plans = map (fitting design node) (items_of node ++ unused node) in
     let part = needed-area design node tree spans belongs fit in
-    let total : design.weights.area * needed_area plans + design.weights.wire * sum_by (net_part design node) design.nets ≤ cost design tree =
+    let total : design.weights.area * needed_area plans + design.weights.wire * wire_part design node ≤ cost design tree =
     omega (arith, mul-le-mul_left design.weights.area part, mul-le-mul_left design.weights.wire (nets-le design node tree spans belongs fit)) in
-    cond_both (list_any has_none plans) MAX (if nat_lt (design.outline.w * design.outline.h) (needed_area plans) then MAX else (design.weights.area * needed_area plans + design.weights.wire * sum_by (net_part design node) design.nets)) (λ v. v ≤ cost design tree)
+    cond_both (list_any has_none plans) MAX (if nat_lt (design.outline.w * design.outline.h) (needed_area plans) then MAX else (design.weights.area * needed_area plans + design.weights.wire * wire_part design node)) (λ v. v ≤ cost design tree)
     (λ e. absurd (true≢false (sym e ∙ none-empty design node tree spans belongs fit)))
-    (λ _. cond_both (nat_lt (design.outline.w * design.outline.h) (needed_area plans)) MAX (design.weights.area * needed_area plans + design.weights.wire * sum_by (net_part design node) design.nets) (λ v. v ≤ cost design tree)
+    (λ _. cond_both (nat_lt (design.outline.w * design.outline.h) (needed_area plans)) MAX (design.weights.area * needed_area plans + design.weights.wire * wire_part design node) (λ v. v ≤ cost design tree)
     (λ e. absurd (omega (arith, ltb-true (design.outline.w * design.outline.h) (needed_area plans) e, part, mul-le-mul fit.0 fit.1)))
     (λ _. total))
 

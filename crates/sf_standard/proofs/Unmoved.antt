@@ -26,7 +26,7 @@ use Rattle.sf_curves.proofs.Members.{Contains-head}
 use Rattle.sf_standard.specs.Items as item
 use Rattle.sf_standard.specs.Items.{Item, read, items_of, unused, span_shapes, fitting}
 use Rattle.sf_standard.specs.Hull.{extent_of, to_nat, gap, range_part, pair_part, offset_x, offset_y, contains_pin, hull_of, hull_part}
-use Rattle.sf_standard.specs.Standard.{least_of, area, least_cost, has_none, greatest, needed_area, net_part, bounded, standard}
+use Rattle.sf_standard.specs.Standard.{least_of, area, least_cost, has_none, greatest, needed_area, net_part, weighed_part, wire_part, bounded, standard}
 use Rattle.sf_standard.proofs.Gaps.{least-member, most-member}
 use Rattle.sf_standard.proofs.Appended.{read-append, read-block}
 
@@ -211,6 +211,9 @@ module _ (design : Design) (node : Parts) (b : ℕ) (sub : IsSubproblem design n
       ∙ ap (λ t. hull_part design extent t (items_of node) net.pins) (sym open-node) in
       ap (λ h. if nat_lt (length net.pins) 2 then 0 else max (range_part design extent net.pins) (max (pair_part extent net.pins) h)) hull
 
+  weighed-same : (net : Net) → weighed_part design grown net ≡ weighed_part design node net
+  weighed-same net = ap (λ v. net.weight * v) (net-same net)
+
   area-same : (ws vs : List (List Tree)) (x : List Tree) → needed_area (x ∷ (ws ++ vs)) ≡ needed_area (ws ++ x ∷ vs)
   area-same ws vs x =
       ap (λ v. max v (greatest (map (least_of width) (x ∷ (ws ++ vs))) * greatest (map (least_of height) (x ∷ (ws ++ vs))))) (sym (sum-move (least_of area) ws vs x))
@@ -224,10 +227,10 @@ module _ (design : Design) (node : Parts) (b : ℕ) (sub : IsSubproblem design n
       let ws = moves.front in
       let vs = moves.back in
       let whole = λ (none : Bool) (a w : ℕ). (if none then MAX else (if nat_lt (design.outline.w * design.outline.h) a then MAX else (design.weights.area * a + design.weights.wire * w))) in
-      let nets : sum_by (net_part design grown) design.nets ≡ sum_by (net_part design node) design.nets = sum_by-same (net_part design grown) (net_part design node) net-same design.nets in
+      let nets : wire_part design grown ≡ wire_part design node = sum_by-same (weighed_part design grown) (weighed_part design node) weighed-same design.nets in
       ap (bounded design grown) moves.is
-      ∙ ap (λ t. whole t (needed_area (x ∷ (ws ++ vs))) (sum_by (net_part design grown) design.nets)) (sym (any-move has_none ws vs x))
-      ∙ ap (λ a. whole (list_any has_none (ws ++ x ∷ vs)) a (sum_by (net_part design grown) design.nets)) (area-same ws vs x)
+      ∙ ap (λ t. whole t (needed_area (x ∷ (ws ++ vs))) (wire_part design grown)) (sym (any-move has_none ws vs x))
+      ∙ ap (λ a. whole (list_any has_none (ws ++ x ∷ vs)) a (wire_part design grown)) (area-same ws vs x)
       ∙ ap (λ w. whole (list_any has_none (ws ++ x ∷ vs)) (needed_area (ws ++ x ∷ vs)) w) nets
       ∙ sym (ap (bounded design node) moves.was)
 

@@ -1,5 +1,5 @@
 -- The standard bound of a subproblem.
-use Rattle.std.specs.Prelude.{◌≡◌, ℕ, ◌+◌, ◌*◌, max, min, List, [], ◌∷◌, ◌++◌, length, map, sum, sum_by, Bool, not, nat_lt, ◌==◌, if◌then◌else◌, IsTrue}
+use Rattle.std.specs.Prelude.{◌≡◌, ℕ, ◌+◌, ◌*◌, max, min, List, [], ◌∷◌, ◌++◌, length, map, sum, sum_by, Bool, false, not, nat_lt, ◌==◌, if◌then◌else◌, IsTrue}
 use Rattle.std.specs.List.{list_all, list_any}
 use Rattle.sf_model.specs.declared.design.Design.{Design}
 use Rattle.sf_model.specs.declared.parts.Net.{Net}
@@ -52,12 +52,24 @@ pins_part design node pins =
 abbrev pub net_part : Design → Parts → Net → ℕ
 net_part design node net = pins_part design node net.pins
 
+-- the same as often as the net's weight says
+abbrev pub weighed_part : Design → Parts → Net → ℕ
+weighed_part design node net = net.weight * net_part design node net
+
+-- what the wires of all nets are at least
+abbrev pub wire_part : Design → Parts → ℕ
+wire_part design node = sum_by (weighed_part design node) design.nets
+
+-- each item and each unused block has a plan in the outline
+abbrev pub AllHavePlans : Design → Parts → Type 0
+AllHavePlans design node = list_any has_none (map (fitting design node) (items_of node ++ unused node)) ≡ false
+
 -- the value of a subproblem that is not solved, from the plans of its parts
 abbrev pub bounded : Design → Parts → List (List Tree) → ℕ
 bounded design node plans =
     if list_any has_none plans then MAX
     else (if nat_lt (design.outline.w * design.outline.h) (needed_area plans) then MAX
-    else (design.weights.area * needed_area plans + design.weights.wire * sum_by (net_part design node) design.nets))
+    else (design.weights.area * needed_area plans + design.weights.wire * wire_part design node))
 
 -- the value from the area that the items and the unused blocks need and from the wires of the nets
 abbrev pub open_value : Design → Parts → ℕ

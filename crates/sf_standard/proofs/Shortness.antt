@@ -1,0 +1,215 @@
+-- Where each part of a subproblem has a plan in the outline, its wires are short.
+use Rattle.std.proofs.Common.{◌≡◌, ℕ, ◌+◌, ◌*◌, ◌^◌, ◌<◌, ◌≤◌, max, List, [], ◌∷◌, ◌++◌, map, length, arith, refl, sym, subst, inl, inr, Bool, true, false, cond}
+use Rattle.std.specs.Prelude.{Contains, sum_by, nat_lt, ℤ, pos, neg_ℤ, ◌≤ℤ◌, ◌-ℤ◌, fold, ◌||◌}
+use Rattle.std.specs.Int.{int_max, int_min}
+use Rattle.std.specs.List.{AllByRecursion, list_any}
+use Rattle.std.proofs.Math.Nat.{mul-le-mul}
+use Rattle.std.proofs.lemmas.Int.{ints}
+use Rattle.std.proofs.lemmas.Bool.{cases_lt, cond_both, true≢false}
+use Rattle.std.proofs.lemmas.List.{get_or_past}
+use Rattle.std.proofs.lemmas.List.Elements.{recursion_from_All}
+use Rattle.std.proofs.lemmas.List.Sums.{sum_by-cons}
+use Rattle.sf_model.specs.declared.design.Design.{Design}
+use Rattle.sf_model.specs.declared.parts.Net.{Net}
+use Rattle.sf_model.specs.declared.parts.Pad.{Pad}
+use Rattle.sf_model.specs.declared.parts.Pin.{Pin}
+use Rattle.sf_model.specs.declared.parts.Pin.TheVariants as pin
+use Rattle.sf_model.specs.declared.parts.Shape.{Shape}
+use Rattle.sf_model.specs.Limits.{IsCoordinate}
+use Rattle.sf_model.specs.Tree.{Tree, width, height, leaves}
+use Rattle.sf_model.specs.Wire.{pad_at}
+use Rattle.sf_model.proofs.Each.{each-append, each-weaker, each-map, each-left}
+use Rattle.sf_node.specs.Parts.{Parts}
+use Rattle.sf_node.specs.Subproblem.{is_complete}
+use Rattle.sf_curves.proofs.Members.{Contains-head}
+use Rattle.sf_standard.specs.Items as item
+use Rattle.sf_standard.specs.Items.{Item, items_of, unused, span_shapes, plans, fits, fitting, item_of}
+use Rattle.sf_standard.specs.declared.hull.Extent.{Extent}
+use Rattle.sf_standard.specs.declared.hull.Interval.{Interval}
+use Rattle.sf_standard.specs.declared.hull.Offset.{Offset}
+use Rattle.sf_standard.specs.Hull.{extent_of, gap, point, range_x, range_y, range_part, greatest_with, greatest_two, block_pins, small_side, pair_part, item_extent, moved_right, moved_up, offsets, offset_x, offset_y, of_pins, pads_x, pads_y, hull_of, hull_part}
+use Rattle.sf_standard.specs.Standard.{has_none, net_part, weighed_part, wire_part, AllHavePlans}
+use Rattle.sf_standard.proofs.Exact.{plans-are, fits-from}
+use Rattle.sf_standard.proofs.Gaps.{low-most, high-least, to_nat-le, of-extent, IsOfExtent}
+use Rattle.sf_standard.proofs.Listed.{Contains-from_filter}
+use Rattle.sf_standard.proofs.NetWires.{of-item-extent, each-of_pins}
+use Rattle.sf_standard.proofs.Sides.{span-small}
+
+-- the lower end lies not far above 0, and the upper end not far below
+record IsShort (i : Interval) : Type 0 where
+  low : i.low ≤ℤ pos (2 ^ 21)
+  high : neg_ℤ (pos (2 ^ 21)) ≤ℤ i.high
+
+gap-short : (is : List Interval) → AllByRecursion IsShort is → gap is ≤ 2 ^ 22
+gap-short [] h = omega arith
+gap-short (i ∷ is) h =
+    let low = low-most i.low (pos (2 ^ 21)) is h.0.low (each-weaker IsShort (λ j. j.low ≤ℤ pos (2 ^ 21)) (λ j k. k.low) is h.1) in
+    let high = high-least i.high (neg_ℤ (pos (2 ^ 21))) is h.0.high (each-weaker IsShort (λ j. neg_ℤ (pos (2 ^ 21)) ≤ℤ j.high) (λ j k. k.high) is h.1) in
+    to_nat-le (fold (λ z j. int_max z j.low) i.low is -ℤ fold (λ z j. int_min z j.high) i.high is) (2 ^ 22) (omega (arith, ints, low, high))
+
+point-short : (z : ℤ) → IsCoordinate z → IsShort (point z)
+point-short z h = record { low = omega (arith, ints, h.1); high = omega (arith, ints, h.0) }
+
+with-small : (n : ℕ) (ns : List ℕ) → n ≤ 2 ^ 20 → AllByRecursion (λ m. m ≤ 2 ^ 20) ns → greatest_with n ns ≤ 2 ^ 21
+with-small n [] h k = omega arith
+with-small n (m ∷ ms) h k = omega (arith, h, k.0, with-small n ms h k.1)
+
+two-small : (ns : List ℕ) → AllByRecursion (λ m. m ≤ 2 ^ 20) ns → greatest_two ns ≤ 2 ^ 21
+two-small [] h = omega arith
+two-small (n ∷ ns) h = omega (arith, with-small n ns h.0 h.1, two-small ns h.1)
+
+-- the block lies inside the least sides of its item
+record IsWithin (extent : ℕ → Extent) (e : Extent) (o : Offset) : Type 0 where
+  across : o.least_x + (extent o.block).least_w ≤ e.least_w
+  upward : o.least_y + (extent o.block).least_h ≤ e.least_h
+
+offsets-within : (extent : ℕ → Extent) (i : Item) → AllByRecursion (IsWithin extent (item_extent extent i)) (offsets extent i)
+offsets-within extent (item.Block b) = (record { across = omega arith; upward = omega arith }, tt)
+offsets-within extent (item.Beside l r) =
+    let e = item_extent extent l in
+    let g = item_extent extent r in
+    let whole = item_extent extent (item.Beside l r) in
+    each-append (IsWithin extent whole) (offsets extent l) (map (moved_right e) (offsets extent r))
+    (each-weaker (IsWithin extent e) (IsWithin extent whole) (λ o k. record { across = omega (arith, k.across); upward = omega (arith, k.upward) }) (offsets extent l) (offsets-within extent l))
+    (each-map (IsWithin extent whole) (moved_right e) (offsets extent r)
+    (each-weaker (IsWithin extent g) (λ o. IsWithin extent whole (moved_right e o)) (λ o k. record { across = omega (arith, k.across); upward = omega (arith, k.upward) }) (offsets extent r) (offsets-within extent r)))
+offsets-within extent (item.Above l r) =
+    let e = item_extent extent l in
+    let g = item_extent extent r in
+    let whole = item_extent extent (item.Above l r) in
+    each-append (IsWithin extent whole) (offsets extent l) (map (moved_up e) (offsets extent r))
+    (each-weaker (IsWithin extent e) (IsWithin extent whole) (λ o k. record { across = omega (arith, k.across); upward = omega (arith, k.upward) }) (offsets extent l) (offsets-within extent l))
+    (each-map (IsWithin extent whole) (moved_up e) (offsets extent r)
+    (each-weaker (IsWithin extent g) (λ o. IsWithin extent whole (moved_up e o)) (λ o k. record { across = omega (arith, k.across); upward = omega (arith, k.upward) }) (offsets extent r) (offsets-within extent r)))
+
+or-false : (a b : Bool) → (a || b) ≡ false → (a ≡ false) × (b ≡ false)
+or-false true b h = absurd (true≢false h)
+or-false false b h = (refl, h)
+
+first-of : (ts : List Tree) → has_none ts ≡ false → (t : Tree) × Contains ts t
+first-of [] h = absurd (true≢false h)
+first-of (t ∷ ts) h = (t, Contains-head t ts)
+
+module _ (design : Design) (node : Parts) where
+  abbrev extent : ℕ → Extent
+  extent b = extent_of (span_shapes design node b)
+
+  no-pad : Pad
+  no-pad = record { name = []; x = pos 0; y = pos 0 }
+
+  pad-near : (p : ℕ) → IsCoordinate (pad_at design p).x × IsCoordinate (pad_at design p).y
+  unfolding no-pad
+  pad-near p =
+      elim (cases_lt p (length design.pads)) [
+        | inl lt ↦ design.limits.places p no-pad lt
+        | inr le ↦ subst (λ q. IsCoordinate q.x × IsCoordinate q.y) (sym (get_or_past design.pads p no-pad le)) ((omega (arith, ints), omega (arith, ints)), (omega (arith, ints), omega (arith, ints)))
+      ]
+
+  pads-short-x : (pins : List Pin) → AllByRecursion IsShort (pads_x design pins)
+  pads-short-x [] = tt
+  pads-short-x (pin.Block b ∷ pins) = pads-short-x pins
+  pads-short-x (pin.Pad p ∷ pins) = (point-short (pad_at design p).x (pad-near p).0, pads-short-x pins)
+
+  pads-short-y : (pins : List Pin) → AllByRecursion IsShort (pads_y design pins)
+  pads-short-y [] = tt
+  pads-short-y (pin.Block b ∷ pins) = pads-short-y pins
+  pads-short-y (pin.Pad p ∷ pins) = (point-short (pad_at design p).y (pad-near p).1, pads-short-y pins)
+
+  if-short : (complete : Bool) (is : List Interval) → AllByRecursion IsShort is → AllByRecursion IsShort (cond complete is [])
+  if-short true is h = h
+  if-short false is h = tt
+
+  map-short : (f : Pin → Interval) → ((p : Pin) → IsShort (f p)) → (pins : List Pin) → AllByRecursion IsShort (map f pins)
+  map-short f h [] = tt
+  map-short f h (p ∷ pins) = (h p, map-short f h pins)
+
+  range-x : (p : Pin) → IsShort (range_x design extent p)
+  range-x (pin.Block b) = let s = (span-small design node b).least_w in record { low = omega (arith, ints, s); high = omega (arith, ints, s) }
+  range-x (pin.Pad p) = point-short (pad_at design p).x (pad-near p).0
+
+  range-y : (p : Pin) → IsShort (range_y design extent p)
+  range-y (pin.Block b) = let s = (span-small design node b).least_h in record { low = omega (arith, ints, s); high = omega (arith, ints, s) }
+  range-y (pin.Pad p) = point-short (pad_at design p).y (pad-near p).1
+
+  range-short : (pins : List Pin) → range_part design extent pins ≤ 2 ^ 23
+  range-short pins =
+      omega (
+        arith,
+        gap-short (map (range_x design extent) pins) (map-short (range_x design extent) range-x pins),
+        gap-short (map (range_y design extent) pins) (map-short (range_y design extent) range-y pins),
+      )
+
+  sides-small : (bs : List ℕ) → AllByRecursion (λ m. m ≤ 2 ^ 20) (map (λ b. small_side (extent b)) bs)
+  sides-small [] = tt
+  sides-small (b ∷ bs) = (omega (arith, (span-small design node b).least_w), sides-small bs)
+
+  pair-short : (pins : List Pin) → pair_part extent pins ≤ 2 ^ 21
+  pair-short pins = two-small (map (λ b. small_side (extent b)) (block_pins pins)) (sides-small (block_pins pins))
+
+  -- the least sides of the item are in the outline
+  record IsNarrow (i : Item) : Type 0 where
+    wide : (item_extent extent i).least_w ≤ design.outline.w
+    high : (item_extent extent i).least_h ≤ design.outline.h
+
+  narrow : (i : Item) → has_none (fitting design node i) ≡ false → IsNarrow i
+  narrow i some =
+      let t = first-of (fitting design node i) some in
+      let k = Contains-from_filter (fits design.outline) (plans (span_shapes design node) i) t.0 t.1 in
+      let p = plans-are (span_shapes design node) i t.0 k.0 in
+      let size = fits-from design.outline t.0 k.1 in
+      let leaf = λ (l : ℕ × Shape). of-extent (span_shapes design node l.0) l.1 in
+      let of : IsOfExtent (item_extent extent (item_of t.0)) (width t.0) (height t.0) =
+      of-item-extent extent t.0 (each-weaker (λ l. Contains (span_shapes design node l.0) l.1) (λ l. IsOfExtent (extent l.0) l.1.w l.1.h) leaf (leaves t.0) p.listed) in
+      let e = subst (λ j. IsOfExtent (item_extent extent j) (width t.0) (height t.0)) p.same of in
+      record { wide = omega (arith, e.wide, size.0); high = omega (arith, e.high, size.1) }
+
+  offset-short-x : (i : Item) → IsNarrow i → (o : Offset) → IsWithin extent (item_extent extent i) o → IsShort (offset_x extent o)
+  offset-short-x i n o k = record { low = omega (arith, ints, n.wide, k.across, design.limits.width.1); high = omega (arith, ints) }
+
+  offset-short-y : (i : Item) → IsNarrow i → (o : Offset) → IsWithin extent (item_extent extent i) o → IsShort (offset_y extent o)
+  offset-short-y i n o k = record { low = omega (arith, ints, n.high, k.upward, design.limits.height.1); high = omega (arith, ints) }
+
+  hull-short : (complete : Bool) (pins : List Pin) (i : Item) → IsNarrow i → hull_of design extent complete pins i ≤ 2 ^ 23
+  hull-short complete pins i n =
+      let os = of_pins pins (offsets extent i) in
+      let inside = each-of_pins (IsWithin extent (item_extent extent i)) pins (offsets extent i) (offsets-within extent i) in
+      let across = each-append IsShort (map (offset_x extent) os) (cond complete (pads_x design pins) [])
+      (each-map IsShort (offset_x extent) os (each-weaker _ (λ o. IsShort (offset_x extent o)) (λ o k. offset-short-x i n o k.1) os inside))
+      (if-short complete (pads_x design pins) (pads-short-x pins)) in
+      let upward = each-append IsShort (map (offset_y extent) os) (cond complete (pads_y design pins) [])
+      (each-map IsShort (offset_y extent) os (each-weaker _ (λ o. IsShort (offset_y extent o)) (λ o k. offset-short-y i n o k.1) os inside))
+      (if-short complete (pads_y design pins) (pads-short-y pins)) in
+      omega (
+        arith,
+        gap-short (map (offset_x extent) os ++ cond complete (pads_x design pins) []) across,
+        gap-short (map (offset_y extent) os ++ cond complete (pads_y design pins) []) upward,
+      )
+
+  hulls-short : (complete : Bool) (pins : List Pin) (is : List Item) → AllByRecursion IsNarrow is → hull_part design extent complete is pins ≤ 2 ^ 23
+  hulls-short complete pins [] h = omega arith
+  hulls-short complete pins (i ∷ is) h = omega (arith, hull-short complete pins i h.0, hulls-short complete pins is h.1)
+
+  all-narrow : (is : List Item) → list_any has_none (map (fitting design node) is) ≡ false → AllByRecursion IsNarrow is
+  all-narrow [] h = tt
+  all-narrow (i ∷ is) h =
+      let k = or-false (has_none (fitting design node i)) (list_any has_none (map (fitting design node) is)) h in
+      (narrow i k.0, all-narrow is k.1)
+
+  module _ (have : AllHavePlans design node) where
+    net-short : (net : Net) → net_part design node net ≤ 2 ^ 23
+    net-short net =
+        let hull = hulls-short (is_complete node) net.pins (items_of node) (each-left IsNarrow (items_of node) (unused node) (all-narrow (items_of node ++ unused node) have)) in
+        cond_both (nat_lt (length net.pins) 2) 0 (max (range_part design extent net.pins) (max (pair_part extent net.pins) (hull_part design extent (is_complete node) (items_of node) net.pins))) (λ v. v ≤ 2 ^ 23)
+        (λ _. omega arith) (λ _. omega (arith, range-short net.pins, pair-short net.pins, hull))
+
+    weighed-short : (net : Net) → net.weight < 2 ^ 8 → weighed_part design node net ≤ 255 * 2 ^ 23
+    weighed-short net light =
+        let w : net.weight ≤ 255 = omega (arith, light) in
+        mul-le-mul w (net-short net)
+
+    sum-short : (nets : List Net) → AllByRecursion (λ net. net.weight < 2 ^ 8) nets → sum_by (weighed_part design node) nets ≤ 255 * 2 ^ 23 * length nets
+    sum-short [] light = omega arith
+    sum-short (net ∷ nets) light = omega (arith, sum_by-cons (weighed_part design node) net nets, weighed-short net light.0, sum-short nets light.1)
+
+    pub wires-short : wire_part design node < 2 ^ 47
+    wires-short = omega (arith, sum-short design.nets (recursion_from_All (λ net. net.weight < 2 ^ 8) design.nets design.limits.net_weights), design.limits.few_nets)
