@@ -1,16 +1,14 @@
 -- What the sums over the groups of a subproblem say of its value.
-use Rattle.std.proofs.Common.{◌≡◌, ℕ, suc, ◌+◌, ◌*◌, ◌<◌, ◌≤◌, max, min, List, [], ◌∷◌, ◌++◌, length, map, refl, ap, sym, ◌∙◌, subst, arith, inl, inr, Bool, true, false, cond, ◌==◌}
+use Rattle.std.proofs.Common.{◌≡◌, ℕ, suc, ◌+◌, ◌*◌, ◌<◌, ◌≤◌, max, List, [], ◌∷◌, ◌++◌, length, map, refl, ap, sym, ◌∙◌, subst, arith, inl, inr, Bool, true, false}
 use Prim.Native.Nat.{zero}
-use Rattle.std.specs.Prelude.{Contains, filter, count_by, sum, ◌||◌, Option, Some, None}
+use Rattle.std.specs.Prelude.{Contains, filter, count_by, sum, ◌||◌}
 use Rattle.std.specs.List.{list_any, range_with_len}
-use Rattle.std.proofs.Math.Nat.{mul-le-mul, mul-le-mul_left}
+use Rattle.std.proofs.Math.Nat.{mul-le-mul_left}
 use Rattle.std.proofs.lemmas.Bool.{cond-true, cond-false, cases_lt, ne_eqb, eqb-true}
-use Rattle.std.proofs.lemmas.List.{length-map, append-nil}
 use Rattle.std.proofs.lemmas.List.Sums.{sum_by-cons, sum-map}
 use Rattle.sf_model.specs.declared.design.Design.{Design}
 use Rattle.sf_model.specs.declared.TheConstants.{MAX}
 use Rattle.sf_model.specs.Cost.{cost}
-use Rattle.sf_model.specs.Legal.{block_count}
 use Rattle.sf_model.specs.Tree.{Tree, width, height, spots_of}
 use Rattle.sf_model.specs.Wire.{wire}
 use Rattle.sf_polish.specs.Normal.{is_block}
@@ -22,7 +20,7 @@ use Rattle.sf_node.proofs.Reached.{subproblem-spans}
 use Rattle.sf_curves.proofs.Members.{Contains-head, Contains-tail}
 use Rattle.sf_standard.specs.Items as item
 use Rattle.sf_standard.specs.Items.{Item, items_of, unused, fitting}
-use Rattle.sf_standard.specs.Standard.{area, least_of, least_cost, has_none, greatest, needed_area, bounded, standard}
+use Rattle.sf_standard.specs.Standard.{area, least_of, least_cost, has_none, greatest, bounded, standard}
 use Rattle.sf_standard.proofs.Exact.{whole-item}
 use Rattle.sf_standard.proofs.Soundness.{solved-complete}
 use Rattle.sf_frames.specs.declared.sums.Sums.{Sums}

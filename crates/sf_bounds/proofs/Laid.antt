@@ -26,7 +26,8 @@ use Rattle.sf_bounds.specs.Curves.{HasOperands}
 use Rattle.sf_bounds.specs.Layout.{extent_in, beside_extent, above_extent, held_of, seat_at, seats_from, IsLaid, reseated, JoinsTop, Lays, AreModest, AreSeated}
 use Rattle.sf_standard.proofs.Appended.{read-append, read-block}
 use Rattle.sf_frames.proofs.Joining.{Runs, runs-from}
-use Rattle.sf_bounds.proofs.Small.{span-small, are-modest}
+use Rattle.sf_standard.proofs.Sides.{span-small}
+use Rattle.sf_bounds.proofs.Small.{are-modest}
 
 abbrev pub block_of : Seat → ℕ
 block_of s = s.offset.block

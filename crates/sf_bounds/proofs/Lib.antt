@@ -25,6 +25,7 @@ pub mod Rooted
 pub mod OnePlan
 pub mod Shares
 pub mod RowLaws
+pub mod Weights
 pub mod NetKept
 pub mod NetPushed
 pub mod NetRows

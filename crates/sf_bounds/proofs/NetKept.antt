@@ -1,6 +1,5 @@
 -- Rows and frames through changes of the list of cells.
-use Rattle.std.proofs.Common.{◌≡◌, ℕ, ◌+◌, ◌-◌, ◌<◌, ◌≤◌, List, [], ◌∷◌, ◌++◌, length, take, map, get_or, refl, sym, ap, ◌∙◌, subst, inl, inr, arith, length-append, All}
-use Rattle.std.specs.Prelude.{AllPairs}
+use Rattle.std.proofs.Common.{◌≡◌, ℕ, ◌+◌, ◌-◌, ◌<◌, ◌≤◌, List, [], ◌∷◌, ◌++◌, length, take, map, get_or, sym, ap, ◌∙◌, subst, inl, inr, arith, length-append, All}
 use Rattle.std.proofs.lemmas.List.{take-take, take-append-le, get_or-take, get_or_push, get_or_append_left, length_push, length-take-le, take_all, map-append, take-map, length-map}
 use Rattle.std.proofs.lemmas.List.Quantifiers.{all_pairs_push}
 use Rattle.std.proofs.lemmas.Bool.{cases_lt, cases_eq}
@@ -8,14 +7,14 @@ use Rattle.sf_model.specs.declared.design.Design.{Design}
 use Rattle.sf_polish.specs.declared.expr.Token.{Token}
 use Rattle.sf_polish.specs.declared.expr.Token.TheVariants as token
 use Rattle.sf_standard.specs.Items.{Item, read}
-use Rattle.sf_frames.specs.Kept.{items_at, IsNext, no_token}
+use Rattle.sf_frames.specs.Kept.{items_at, IsNext}
 use Rattle.sf_frames.proofs.Topping.{take-next}
 use Rattle.sf_bounds.specs.declared.net_frame.BlockRow.{BlockRow}
 use Rattle.sf_bounds.specs.declared.net_frame.Cell.{Cell}
 use Rattle.sf_bounds.specs.declared.net_frame.NetFrame.{NetFrame}
 use Rattle.sf_bounds.specs.declared.net_frame.Wires.{Wires}
 use Rattle.sf_bounds.specs.Near.{anywhere}
-use Rattle.sf_bounds.specs.Rows.{cell_at, IsFitCell, IsLonger, IsRow, AreWires, AreBlockRows, first_end, IsStart, IsNetFrame, AreNetFrames, AreStored, IsNetEnd, token_of}
+use Rattle.sf_bounds.specs.Rows.{weighed_nets, cell_at, IsFitCell, IsLonger, IsRow, AreWires, AreBlockRows, first_end, IsStart, IsNetFrame, AreStored, IsNetEnd, token_of}
 
 abbrev pub no_frame : NetFrame
 no_frame = record { token = token.Beside; extent = record { least_w = 0; most_w = 0; least_h = 0; most_h = 0 }; below = 0; row = 0; wires = record { at = 0; sum = 0 }; end = 0 }
@@ -24,13 +23,13 @@ no_frame = record { token = token.Beside; extent = record { least_w = 0; most_w 
 abbrev AreSame : List Cell → List Cell → ℕ → Type 0
 AreSame cells others e = (i : ℕ) → i < e → cell_at others i ≡ cell_at cells i
 
-pub row-moves : (design : Design) (cells others : List Cell) (item : Item) (at e : ℕ) → IsRow design cells item at → at + length design.nets ≤ e → e ≤ length others → AreSame cells others e → IsRow design others item at
+pub row-moves : (design : Design) (cells others : List Cell) (item : Item) (at e : ℕ) → IsRow design cells item at → at + length (weighed_nets design) ≤ e → e ≤ length others → AreSame cells others e → IsRow design others item at
 row-moves design cells others item at e m within inside same = record {
   inside = omega (arith, within, inside);
   each = λ j lt. ap (λ c. c.reach) (same (at + j) (omega (arith, lt, within))) ∙ m.each j lt;
 }
 
-wires-move : (design : Design) (cells others : List Cell) (items : List Item) (w : Wires) (e : ℕ) → AreWires design cells items w → w.at + length design.nets ≤ e → e ≤ length others → AreSame cells others e → AreWires design others items w
+wires-move : (design : Design) (cells others : List Cell) (items : List Item) (w : Wires) (e : ℕ) → AreWires design cells items w → w.at + length (weighed_nets design) ≤ e → e ≤ length others → AreSame cells others e → AreWires design others items w
 wires-move design cells others items w e m within inside same = record {
   inside = omega (arith, within, inside);
   each = λ j lt. ap (λ c. c.part) (same (w.at + j) (omega (arith, lt, within))) ∙ m.each j lt;

@@ -1,6 +1,6 @@
 -- The frame of one token more.
-use Rattle.std.proofs.Common.{◌≡◌, ℕ, zero, suc, ◌+◌, ◌-◌, ◌*◌, ◌<◌, ◌≤◌, max, List, [], ◌∷◌, ◌++◌, length, take, drop, map, get_or, refl, sym, ap, ◌∙◌, subst, inl, inr, arith, length-append, All, true, false}
-use Rattle.std.specs.Prelude.{sum_by, cond}
+use Rattle.std.proofs.Common.{◌≡◌, ℕ, suc, ◌+◌, ◌-◌, ◌*◌, ◌<◌, ◌≤◌, max, List, [], ◌∷◌, ◌++◌, length, take, map, get_or, refl, sym, ap, ◌∙◌, subst, arith, length-append, All}
+use Rattle.std.specs.Prelude.{sum_by}
 use Rattle.std.specs.List.{range_with_len}
 use Rattle.std.proofs.lemmas.List.{get_or-append_right, get_or-take, length-take-le, length-map}
 use Rattle.std.proofs.lemmas.List.FromFn.{length-map-range_with_len, get_or-map-range_with_len}
@@ -17,7 +17,7 @@ use Rattle.sf_node.specs.Children.{IsSubproblem}
 use Rattle.sf_standard.specs.declared.hull.Extent.{Extent}
 use Rattle.sf_standard.specs.Items as item
 use Rattle.sf_standard.specs.Items.{Item, read}
-use Rattle.sf_standard.specs.Hull.{item_extent, offsets, moved_right, moved_up, hull_of, hull_part, range_part, pair_part}
+use Rattle.sf_standard.specs.Hull.{item_extent, offsets, moved_right, moved_up}
 use Rattle.sf_standard.proofs.Unmoved.{lone-hull, sum_by-same}
 use Rattle.sf_frames.specs.Direction.{token_in, item_in}
 use Rattle.sf_frames.specs.declared.direction.Direction.{Direction}
@@ -28,14 +28,15 @@ use Rattle.sf_bounds.specs.declared.net_frame.BlockRow.{BlockRow}
 use Rattle.sf_bounds.specs.declared.net_frame.Cell.{Cell}
 use Rattle.sf_bounds.specs.declared.net_frame.NetFrame.{NetFrame}
 use Rattle.sf_bounds.specs.declared.net_frame.Wires.{Wires}
-use Rattle.sf_bounds.specs.declared.reach.Reach.{Reach}
 use Rattle.sf_bounds.specs.Near.{IsNearby, anywhere, reach_gap}
 use Rattle.sf_bounds.specs.Layout.{joined_extent, IsModestExtent}
-use Rattle.sf_bounds.specs.Rows.{counted, pins_at, whole_extent, row, part, pushed_reach, joined_reach, cell_at, joined_cell, part_of, IsFitCell, IsRow, AreWires, AreBlockRows, first_end, IsStart, IsNetFrame, AreNetFrames, AreStored, AreTop}
+use Rattle.sf_bounds.specs.Rows.{counted, weighed_nets, weights_of, pins_at, whole_extent, row, part, pushed_reach, joined_reach, cell_at, joined_cell, weighed_cell, IsFitCell, IsRow, AreWires, first_end, IsStart, IsNetFrame, AreStored, AreTop}
 use Rattle.sf_bounds.proofs.Laid.{few-numbers}
 use Rattle.sf_bounds.proofs.NetKept.{stored-appended, frame-pushed}
-use Rattle.sf_bounds.proofs.RowLaws.{row-near, row-hull, row-joined, pushed-near}
-use Rattle.sf_bounds.proofs.Small.{IsSmallExtent, span-small, item-small}
+use Rattle.sf_bounds.proofs.RowLaws.{row-hull, row-joined, pushed-near}
+use Rattle.sf_standard.proofs.Sides.{IsSmallExtent, span-small}
+use Rattle.sf_bounds.proofs.Small.{item-small}
+use Rattle.sf_bounds.proofs.Weights.{weight-at}
 
 pub whole-small : (design : Design) (b : ℕ) → IsSmallExtent 1048576 (whole_extent design b)
 whole-small design b = span-small design (root design) b
@@ -74,21 +75,21 @@ pub part-more : (design : Design) (i : Item) (items : List Item) (pins : List Pi
 part-more design i items pins few = omega (arith, row-hull (whole_extent design) (whole-small design) design i pins few)
 
 -- sums of what is told cell by cell
-sums-agree : (f : ℕ → Cell) (g : Net → ℕ) (nets : List Net) (a : ℕ) → ((j : ℕ) → j < length nets → (f (a + j)).part ≡ g (get_or nets j (record { pins = [] }))) → sum_by part_of (map f (range_with_len a (length nets))) ≡ sum_by g nets
+sums-agree : (f : ℕ → ℕ) (g : Net → ℕ) (nets : List Net) (a : ℕ) → ((j : ℕ) → j < length nets → f (a + j) ≡ g (get_or nets j (record { pins = []; weight = 0 }))) → sum_by f (range_with_len a (length nets)) ≡ sum_by g nets
 sums-agree f g [] a h = refl
 sums-agree f g (n ∷ nets) a h =
     let zero_a : a + 0 ≡ a = omega arith in
-    let here : (f a).part ≡ g n = ap (λ (v : ℕ). (f v).part) (sym zero_a) ∙ h 0 (omega arith) in
-    let later : sum_by part_of (map f (range_with_len (a + 1) (length nets))) ≡ sum_by g nets =
-    sums-agree f g nets (a + 1) (λ j lt. (let e : a + 1 + j ≡ a + suc j = omega arith in ap (λ (v : ℕ). (f v).part) e ∙ h (suc j) (omega arith))) in
-    omega (arith, here, later, sum_by-cons part_of (f a) (map f (range_with_len (a + 1) (length nets))), sum_by-cons g n nets)
+    let here : f a ≡ g n = ap f (sym zero_a) ∙ h 0 (omega arith) in
+    let later : sum_by f (range_with_len (a + 1) (length nets)) ≡ sum_by g nets =
+    sums-agree f g nets (a + 1) (λ j lt. (let e : a + 1 + j ≡ a + suc j = omega arith in ap f e ∙ h (suc j) (omega arith))) in
+    omega (arith, here, later, sum_by-cons f a (range_with_len (a + 1) (length nets)), sum_by-cons g n nets)
 
 -- the wires after a token that adds no gap
 wires-same : (design : Design) (cells : List Cell) (items others : List Item) (w : Wires) → ((pins : List Pin) → part design (whole_extent design) others pins ≡ part design (whole_extent design) items pins) → AreWires design cells items w → AreWires design cells others w
 wires-same design cells items others w same m = record {
   inside = m.inside;
   each = λ j lt. m.each j lt ∙ sym (same (pins_at design j));
-  total = m.total ∙ sym (sum_by-same (λ net. part design (whole_extent design) others (counted net.pins)) (λ net. part design (whole_extent design) items (counted net.pins)) (λ net. same (counted net.pins)) design.nets);
+  total = m.total ∙ sym (sum_by-same (λ net. net.weight * part design (whole_extent design) others (counted net.pins)) (λ net. net.weight * part design (whole_extent design) items (counted net.pins)) (λ net. ap (λ v. net.weight * v) (same (counted net.pins))) (weighed_nets design));
   small = m.small;
 }
 
@@ -218,7 +219,7 @@ module _ (design : Design) (node : Parts) (cells : List Cell) (blocks : List Blo
   pub modest-right : IsModestExtent r.extent
   modest-right = modest R r.extent t.right.extent few-right
 
-  pub pushed-fits : (j : ℕ) → j < length design.nets → IsNearby (pushed_reach d l.extent (cell_at cells (r.row + j)).reach)
+  pub pushed-fits : (j : ℕ) → j < length (weighed_nets design) → IsNearby (pushed_reach d l.extent (cell_at cells (r.row + j)).reach)
   pushed-fits j lt =
       subst (λ v. IsNearby (pushed_reach d v (cell_at cells (r.row + j)).reach)) (sym t.left.extent)
       (subst (λ v. IsNearby (pushed_reach d (item_extent (whole_extent design) L) v)) (sym (t.right.row.each j lt))
@@ -232,37 +233,44 @@ module _ (design : Design) (node : Parts) (cells : List Cell) (blocks : List Blo
     abbrev cell : ℕ → Cell
     cell = joined_cell cells d l.extent l.row r.row under.at
 
-    reach-is : (j : ℕ) → j < length design.nets → (cell j).reach ≡ row (whole_extent design) (item_in d L R) (pins_at design j)
+    reach-is : (j : ℕ) → j < length (weighed_nets design) → (cell j).reach ≡ row (whole_extent design) (item_in d L R) (pins_at design j)
     reach-is j lt =
         ap (λ v. joined_reach d v (cell_at cells (l.row + j)).reach (cell_at cells (r.row + j)).reach) t.left.extent
         ∙ ap (λ v. joined_reach d (item_extent (whole_extent design) L) v (cell_at cells (r.row + j)).reach) (t.left.row.each j lt)
         ∙ ap (joined_reach d (item_extent (whole_extent design) L) (row (whole_extent design) L (pins_at design j))) (t.right.row.each j lt)
         ∙ sym (row-joined (whole_extent design) (whole-small design) L R (pins_at design j) d few)
 
-    part-is : (j : ℕ) → j < length design.nets → (cell j).part ≡ part design (whole_extent design) (item_in d L R ∷ rest) (pins_at design j)
+    part-is : (j : ℕ) → j < length (weighed_nets design) → (cell j).part ≡ part design (whole_extent design) (item_in d L R ∷ rest) (pins_at design j)
     part-is j lt =
         ap (λ v. max v (reach_gap (cell j).reach)) (wires.each j lt)
         ∙ ap (λ v. max (part design (whole_extent design) rest (pins_at design j)) (reach_gap v)) (reach-is j lt)
         ∙ sym (part-more design (item_in d L R) rest (pins_at design j) few)
 
     abbrev made : List Cell
-    made = map cell (range_with_len 0 (length design.nets))
+    made = map cell (range_with_len 0 (length (weighed_nets design)))
 
-    cell-is : (j : ℕ) → j < length design.nets → cell_at (cells ++ made) (length cells + j) ≡ cell j
+    cell-is : (j : ℕ) → j < length (weighed_nets design) → cell_at (cells ++ made) (length cells + j) ≡ cell j
     cell-is j lt =
         get_or-append_right cells made (length cells) (length cells + j) (record { reach = anywhere; part = 0 }) refl (omega arith)
         ∙ (let e : length cells + j - length cells ≡ j = omega arith in ap (cell_at made) e)
-        ∙ get_or-map-range_with_len cell 0 (length design.nets) j j (record { reach = anywhere; part = 0 }) lt (omega arith)
+        ∙ get_or-map-range_with_len cell 0 (length (weighed_nets design)) j j (record { reach = anywhere; part = 0 }) lt (omega arith)
+
+    weighed-is : (j : ℕ) → j < length (weighed_nets design) → weighed_cell (weights_of design.nets) cell (0 + j) ≡ (get_or (weighed_nets design) j (record { pins = []; weight = 0 })).weight * part design (whole_extent design) (item_in d L R ∷ rest) (pins_at design j)
+    weighed-is j lt =
+        let e : 0 + j ≡ j = omega arith in
+        ap (weighed_cell (weights_of design.nets) cell) e
+        ∙ ap (λ w. w * (cell j).part) (weight-at design.nets j (record { pins = []; weight = 0 }) lt)
+        ∙ ap (λ v. (get_or (weighed_nets design) j (record { pins = []; weight = 0 })).weight * v) (part-is j lt)
 
     -- the frame of the operator
-    pub joined-pushed : (all : List Cell) (new : List NetFrame) (f : NetFrame) → All IsFitCell all → all ≡ cells ++ made → f.token ≡ token_in d → f.extent ≡ joined_extent d l.extent r.extent → f.below ≡ l.below → f.row ≡ length cells → f.wires.at ≡ length cells → f.wires.sum ≡ sum_by part_of made → f.wires.sum ≤ 2800000000 * length design.nets → f.end ≡ length all → new ≡ frames ++ f ∷ [] → AreStored design node.tokens all blocks start new
+    pub joined-pushed : (all : List Cell) (new : List NetFrame) (f : NetFrame) → All IsFitCell all → all ≡ cells ++ made → f.token ≡ token_in d → f.extent ≡ joined_extent d l.extent r.extent → f.below ≡ l.below → f.row ≡ length cells → f.wires.at ≡ length cells → f.wires.sum ≡ sum_by (weighed_cell (weights_of design.nets) cell) (range_with_len 0 (length (weighed_nets design))) → f.wires.sum ≤ 714000000000 * length (weighed_nets design) → f.end ≡ length all → new ≡ frames ++ f ∷ [] → AreStored design node.tokens all blocks start new
     joined-pushed all new f fit is_all is_token is_extent is_below is_row is_at is_sum small is_end is_new =
-        let count : length (cells ++ made) ≡ length cells + length design.nets = omega (arith, length-append cells made, length-map-range_with_len cell 0 (length design.nets)) in
+        let count : length (cells ++ made) ≡ length cells + length (weighed_nets design) = omega (arith, length-append cells made, length-map-range_with_len cell 0 (length (weighed_nets design))) in
         let whole = cells ++ made in
         let old : AreStored design node.tokens whole blocks start frames = stored-appended design node.tokens cells made blocks start frames m (subst (All IsFitCell) is_all fit) in
         let end : f.end ≡ length whole = is_end ∙ ap length is_all in
-        let at_row : (j : ℕ) → j < length design.nets → cell_at whole (f.row + j) ≡ cell j = λ j lt. ap (λ (v : ℕ). cell_at whole (v + j)) is_row ∙ cell-is j lt in
-        let at_part : (j : ℕ) → j < length design.nets → cell_at whole (f.wires.at + j) ≡ cell j = λ j lt. ap (λ (v : ℕ). cell_at whole (v + j)) is_at ∙ cell-is j lt in
+        let at_row : (j : ℕ) → j < length (weighed_nets design) → cell_at whole (f.row + j) ≡ cell j = λ j lt. ap (λ (v : ℕ). cell_at whole (v + j)) is_row ∙ cell-is j lt in
+        let at_part : (j : ℕ) → j < length (weighed_nets design) → cell_at whole (f.wires.at + j) ≡ cell j = λ j lt. ap (λ (v : ℕ). cell_at whole (v + j)) is_at ∙ cell-is j lt in
         let is : IsNetFrame design node.tokens whole (first_end design start) (length frames + 1) f = record {
           item = item_in d L R;
           top = now ∙ ap (λ (v : ℕ). item_in d L R ∷ items_at node.tokens v) (sym is_below);
@@ -272,7 +280,7 @@ module _ (design : Design) (node : Parts) (cells : List Cell) (blocks : List Blo
           wires = subst (λ v. AreWires design whole v f.wires) (sym now) record {
             inside = omega (arith, is_at, count);
             each = λ j lt. ap (λ c. c.part) (at_part j lt) ∙ part-is j lt;
-            total = is_sum ∙ sums-agree cell (λ net. part design (whole_extent design) (item_in d L R ∷ rest) (counted net.pins)) design.nets 0 (λ j lt. (let e : 0 + j ≡ j = omega arith in ap (λ (v : ℕ). (cell v).part) e ∙ part-is j lt));
+            total = is_sum ∙ sums-agree (weighed_cell (weights_of design.nets) cell) (λ net. net.weight * part design (whole_extent design) (item_in d L R ∷ rest) (counted net.pins)) (weighed_nets design) 0 weighed-is;
             small = small;
           };
           row_end = omega (arith, is_row, count, end);

@@ -1,10 +1,10 @@
 -- The rows of blocks, and what holds before any token.
-use Rattle.std.proofs.Common.{◌≡◌, ℕ, suc, ◌+◌, ◌-◌, ◌*◌, ◌<◌, ◌≤◌, max, List, [], ◌∷◌, ◌++◌, length, take, drop, map, get_or, refl, sym, ap, ◌∙◌, subst, inl, inr, arith, length-append, append_assoc, All, Bool, true, false}
-use Rattle.std.specs.Prelude.{fold, pos, ◌≤ℤ◌, nat_lt, sum_by, cond, if◌then◌else◌}
+use Rattle.std.proofs.Common.{◌≡◌, ℕ, ◌+◌, ◌-◌, ◌*◌, ◌<◌, ◌≤◌, max, List, [], ◌∷◌, ◌++◌, length, take, map, get_or, refl, sym, ap, ◌∙◌, subst, inl, inr, arith, length-append, append-nil, All, Bool, true, false}
+use Rattle.std.specs.Prelude.{fold, pos, nat_lt, cond, if◌then◌else◌}
 use Rattle.std.specs.List.{AllByRecursion}
 use Rattle.std.proofs.lemmas.Int.{ints, clamps}
 use Rattle.std.proofs.lemmas.Bool.{cases_lt, cond_both}
-use Rattle.std.proofs.lemmas.List.{get_or-append_right, get_or_append_left, get_or_push, get_or-map, length_push, length-map, take_all, take-append-le, take_more, map-append}
+use Rattle.std.proofs.lemmas.List.{get_or-append_right, get_or_append_left, get_or_push, get_or-map, length_push, length-map, take_all, take-append-le}
 use Rattle.std.proofs.lemmas.List.Elements.{All-append, All-from_recursion, recursion_from_All}
 use Rattle.sf_model.specs.declared.design.Design.{Design}
 use Rattle.sf_model.specs.declared.parts.Net.{Net}
@@ -12,30 +12,27 @@ use Rattle.sf_model.specs.declared.parts.Pin.{Pin}
 use Rattle.sf_model.specs.declared.parts.Pin.TheVariants as pin
 use Rattle.sf_model.specs.Legal.{block_count}
 use Rattle.sf_model.specs.Limits.{pin_number, pin_count}
-use Rattle.sf_model.proofs.Each.{each-map}
 use Rattle.sf_node.specs.Subproblem.{root}
-use Rattle.sf_node.specs.Parts.{Parts}
 use Rattle.sf_standard.specs.declared.hull.Extent.{Extent}
 use Rattle.sf_standard.specs.declared.hull.Interval.{Interval}
 use Rattle.sf_standard.specs.declared.hull.Offset.{Offset}
 use Rattle.sf_standard.specs.Items as item
 use Rattle.sf_standard.specs.Items.{Item, items_of}
 use Rattle.sf_standard.specs.Hull.{gap, hull_of, offsets, offset_x, offset_y, contains_pin, of_pins, range_part, pair_part, hull_part, pads_x, pads_y}
-use Rattle.sf_standard.specs.Standard.{net_part, pins_part}
+use Rattle.sf_standard.specs.Standard.{net_part, weighed_part, wire_part}
 use Rattle.sf_standard.proofs.Unmoved.{sum_by-same}
 use Rattle.sf_bounds.specs.declared.net_frame.BlockRow.{BlockRow}
 use Rattle.sf_bounds.specs.declared.net_frame.Cell.{Cell}
-use Rattle.sf_bounds.specs.declared.net_frame.Wires.{Wires}
 use Rattle.sf_bounds.specs.declared.reach.Reach.{Reach}
 use Rattle.sf_bounds.specs.Near.{IsNear, IsNearby, shared, met, endless, anywhere}
-use Rattle.sf_bounds.specs.Layout.{extent_in}
 use Rattle.sf_bounds.specs.Pins.{IsNet, pad_reach}
-use Rattle.sf_bounds.specs.Rows.{counted, pins_at, whole_extent, row, with_pad, pads_share, part, own_reach, cell_at, block_cell, start_cell, IsFitCell, IsRow, AreWires, AreBlockRows, IsStart, AreNetFrames, AreStored}
+use Rattle.sf_bounds.specs.Rows.{counted, of_weight, weighed_nets, pins_at, whole_extent, row, with_pad, pads_share, part, own_reach, cell_at, block_cell, start_cell, IsFitCell, IsRow, AreBlockRows, AreStored}
 use Rattle.sf_bounds.proofs.NetKept.{row-moves}
 use Rattle.sf_bounds.proofs.NetPushed.{whole-small}
 use Rattle.sf_bounds.proofs.Reading.{near_pad, near_met, near_anywhere}
 use Rattle.sf_bounds.proofs.RowLaws.{row-near, homes-x, homes-y}
-use Rattle.sf_bounds.proofs.Shares.{interval, IsHome, home-near, first-home}
+use Rattle.sf_bounds.proofs.Weights.{one-counts, one-free, sum-of_weight}
+use Rattle.sf_bounds.proofs.Shares.{interval}
 
 -- what the own pins of a block share
 own-is : (design : Design) (b : ℕ) (pins : List Pin) → own_reach pins b (whole_extent design b) ≡ row (whole_extent design) (item.Block b) pins
@@ -55,36 +52,36 @@ own-is design b pins =
     ]
 
 no-net : Net
-no-net = record { pins = [] }
+no-net = record { pins = []; weight = 0 }
 
 -- the cells of a block's row
-block-cells : (design : Design) (cells : List Cell) (b : ℕ) → IsRow design (cells ++ map (block_cell b (whole_extent design b)) design.nets) (item.Block b) (length cells)
+block-cells : (design : Design) (cells : List Cell) (b : ℕ) → IsRow design (cells ++ map (block_cell b (whole_extent design b)) (weighed_nets design)) (item.Block b) (length cells)
 block-cells design cells b =
-    let made = map (block_cell b (whole_extent design b)) design.nets in
-    let n = length-map design.nets (block_cell b (whole_extent design b)) in
+    let made = map (block_cell b (whole_extent design b)) (weighed_nets design) in
+    let n = length-map (weighed_nets design) (block_cell b (whole_extent design b)) in
     record {
       inside = omega (arith, length-append cells made, n);
       each = λ j lt.
           ap (λ c. c.reach) (get_or-append_right cells made (length cells) (length cells + j) (record { reach = anywhere; part = 0 }) refl (omega arith)
           ∙ (let e : length cells + j - length cells ≡ j = omega arith in ap (cell_at made) e)
-          ∙ get_or-map (block_cell b (whole_extent design b)) design.nets j (record { pins = [] }) (record { reach = anywhere; part = 0 }) lt)
+          ∙ get_or-map (block_cell b (whole_extent design b)) (weighed_nets design) j (record { pins = []; weight = 0 }) (record { reach = anywhere; part = 0 }) lt)
           ∙ own-is design b (pins_at design j);
     }
 
-block-fit : (design : Design) (b : ℕ) → All IsFitCell (map (block_cell b (whole_extent design b)) design.nets)
-block-fit design b = All-from_recursion IsFitCell (map (block_cell b (whole_extent design b)) design.nets) (each design.nets)
+block-fit : (design : Design) (b : ℕ) → All IsFitCell (map (block_cell b (whole_extent design b)) (weighed_nets design))
+block-fit design b = All-from_recursion IsFitCell (map (block_cell b (whole_extent design b)) (weighed_nets design)) (each (weighed_nets design))
   where
     each : (nets : List Net) → AllByRecursion IsFitCell (map (block_cell b (whole_extent design b)) nets)
     each [] = tt
     each (n ∷ nets) = (record { near = subst IsNearby (sym (own-is design b (counted n.pins))) (row-near (whole_extent design) (whole-small design) (item.Block b) (counted n.pins) (omega arith)); small = omega arith }, each nets)
 
 -- one block more
-pub block-more : (design : Design) (b : ℕ) (cells all : List Cell) (blocks new : List BlockRow) (x : BlockRow) → AreBlockRows design b cells blocks → b < block_count design → x.extent ≡ whole_extent design b → x.row ≡ length cells → all ≡ cells ++ map (block_cell b x.extent) design.nets → new ≡ blocks ++ x ∷ [] → AreBlockRows design (b + 1) all new
+pub block-more : (design : Design) (b : ℕ) (cells all : List Cell) (blocks new : List BlockRow) (x : BlockRow) → AreBlockRows design b cells blocks → b < block_count design → x.extent ≡ whole_extent design b → x.row ≡ length cells → all ≡ cells ++ map (block_cell b x.extent) (weighed_nets design) → new ≡ blocks ++ x ∷ [] → AreBlockRows design (b + 1) all new
 block-more design b cells all blocks new x m lt is_extent is_row is_all is_new =
-    let made = map (block_cell b (whole_extent design b)) design.nets in
+    let made = map (block_cell b (whole_extent design b)) (weighed_nets design) in
     let whole = cells ++ made in
     let n = length_push blocks x in
-    let same : all ≡ whole = is_all ∙ ap (λ e. cells ++ map (block_cell b e) design.nets) is_extent in
+    let same : all ≡ whole = is_all ∙ ap (λ e. cells ++ map (block_cell b e) (weighed_nets design)) is_extent in
     subst (λ v. AreBlockRows design (b + 1) v new) (sym same) (subst (AreBlockRows design (b + 1) whole) (sym is_new) record {
       count = omega (arith, n, m.count);
       extents = λ i d li. elim (cases_lt i b) [
@@ -129,17 +126,17 @@ start-part design net =
     ]
 
 -- all that holds before any token
-pub started : (design : Design) (cells all : List Cell) (blocks : List BlockRow) (at sum : ℕ) → AreBlockRows design (block_count design) cells blocks → All IsFitCell all → at ≡ length cells → all ≡ cells ++ map (start_cell design) design.nets → sum ≡ sum_by (net_part design (root design)) design.nets → sum ≤ 2800000000 * length design.nets
+pub started : (design : Design) (cells all : List Cell) (blocks : List BlockRow) (at sum : ℕ) → AreBlockRows design (block_count design) cells blocks → All IsFitCell all → at ≡ length cells → all ≡ cells ++ map (start_cell design) (weighed_nets design) → sum ≡ wire_part design (root design) → sum ≤ 714000000000 * length (weighed_nets design)
     → AreStored design [] all blocks (record { at = at; sum = sum }) []
 started design cells all blocks at sum m fit is_at is_all is_sum small =
-    let made = map (start_cell design) design.nets in
-    let n = length-map design.nets (start_cell design) in
+    let made = map (start_cell design) (weighed_nets design) in
+    let n = length-map (weighed_nets design) (start_cell design) in
     let count = ap length is_all ∙ length-append cells made in
-    let cell : (j : ℕ) → j < length design.nets → cell_at all (at + j) ≡ start_cell design (get_or design.nets j (record { pins = [] })) = λ j lt.
+    let cell : (j : ℕ) → j < length (weighed_nets design) → cell_at all (at + j) ≡ start_cell design (get_or (weighed_nets design) j (record { pins = []; weight = 0 })) = λ j lt.
     ap (λ v. cell_at v (at + j)) is_all
     ∙ get_or-append_right cells made at (at + j) (record { reach = anywhere; part = 0 }) (sym is_at) (omega arith)
     ∙ (let e : at + j - at ≡ j = omega arith in ap (cell_at made) e)
-    ∙ get_or-map (start_cell design) design.nets j (record { pins = [] }) (record { reach = anywhere; part = 0 }) lt in
+    ∙ get_or-map (start_cell design) (weighed_nets design) j (record { pins = []; weight = 0 }) (record { reach = anywhere; part = 0 }) lt in
     let firsts : take at all ≡ cells = ap (take at) is_all ∙ take-append-le at cells made (omega (arith, is_at)) ∙ take_all at cells (omega (arith, is_at)) in
     record {
       fit = fit;
@@ -148,8 +145,9 @@ started design cells all blocks at sum m fit is_at is_all is_sum small =
         pads = λ j lt. ap (λ c. c.reach) (cell j lt);
         wires = record {
           inside = omega (arith, is_at, count, n);
-          each = λ j lt. ap (λ c. c.part) (cell j lt) ∙ start-part design (get_or design.nets j (record { pins = [] }));
-          total = is_sum ∙ sum_by-same (net_part design (root design)) (λ net. part design (whole_extent design) [] (counted net.pins)) (start-part design) design.nets;
+          each = λ j lt. ap (λ c. c.part) (cell j lt) ∙ start-part design (get_or (weighed_nets design) j (record { pins = []; weight = 0 }));
+          total = is_sum ∙ sym (sum-of_weight (net_part design (root design)) design.nets)
+              ∙ sum_by-same (weighed_part design (root design)) (λ net. net.weight * part design (whole_extent design) [] (counted net.pins)) (λ net. ap (λ v. net.weight * v) (start-part design net)) (weighed_nets design);
           small = small;
         };
       };
@@ -188,8 +186,9 @@ pub start-cell : (design : Design) (net : Net) (part : ℕ) (reach : Reach) → 
 start-cell design net part reach is_reach is_part =
     ap (λ v. (let c : Cell = record { reach = v; part = part } in c)) is_reach ∙ ap (λ n. (let c : Cell = record { reach = pads_share design (counted net.pins); part = n } in c)) is_part
 
--- one cell more
-pub row-step : (f : Net → Cell) (old cur new : List Cell) (nets : List Net) (i : ℕ) (net : Net) (c : Cell) → cur ≡ old ++ map f (take i nets) → new ≡ cur ++ c ∷ [] → c ≡ f net → net ≡ get_or nets i net → i < length nets → new ≡ old ++ map f (take (i + 1) nets)
-row-step f old cur new nets i net c is_cur is_new is_c at lt =
-    is_new ∙ ap (λ v. cur ++ v ∷ []) is_c ∙ ap (λ v. v ++ f net ∷ []) is_cur ∙ append_assoc old (map f (take i nets)) (f net ∷ [])
-    ∙ ap (λ v. old ++ v) (sym (ap (map f) (take_more nets i net lt ∙ ap (λ v. take i nets ++ v ∷ []) (sym at)) ∙ map-append f (take i nets) (net ∷ [])))
+-- what one net brings
+pub put-cell : (f : Net → Cell) (old new : List Cell) (net : Net) (c : Cell) → 0 < net.weight → c ≡ f net → new ≡ old ++ c ∷ [] → new ≡ old ++ map f (of_weight (net ∷ []))
+put-cell f old new net c h is_c is_new = is_new ∙ ap (λ v. old ++ v ∷ []) is_c ∙ ap (λ v. old ++ map f v) (sym (one-counts net h))
+
+pub no-cell : (f : Net → Cell) (old : List Cell) (net : Net) → net.weight ≤ 0 → old ≡ old ++ map f (of_weight (net ∷ []))
+no-cell f old net h = sym (append-nil old) ∙ ap (λ v. old ++ map f v) (sym (one-free net h))

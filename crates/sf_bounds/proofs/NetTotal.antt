@@ -1,17 +1,17 @@
 -- What the wires take after all tokens.
-use Rattle.std.proofs.Common.{◌≡◌, ℕ, ◌+◌, ◌-◌, ◌*◌, ◌<◌, ◌≤◌, max, List, [], ◌∷◌, ◌++◌, length, take, map, get_or, refl, sym, ap, ◌∙◌, subst, arith, Bool, true, false}
-use Rattle.std.specs.Prelude.{nat_lt, sum_by, cond, if◌then◌else◌}
+use Rattle.std.proofs.Common.{◌≡◌, ℕ, ◌+◌, ◌-◌, ◌*◌, ◌<◌, ◌≤◌, max, List, [], ◌∷◌, length, take, get_or, refl, sym, ap, ◌∙◌, subst, arith, true, false}
+use Rattle.std.specs.Prelude.{nat_lt, sum_by, if◌then◌else◌}
 use Rattle.std.proofs.lemmas.List.{take_all, get_or_default}
 use Rattle.std.proofs.lemmas.List.Elements.{recursion_from_All}
 use Rattle.std.proofs.lemmas.List.Sums.{sum_by_more}
 use Rattle.sf_model.specs.declared.design.Design.{Design}
 use Rattle.sf_model.specs.declared.parts.Net.{Net}
 use Rattle.sf_node.specs.Parts.{Parts}
-use Rattle.sf_node.specs.Subproblem.{root, is_complete}
+use Rattle.sf_node.specs.Subproblem.{is_complete}
 use Rattle.sf_node.specs.Children.{IsSubproblem}
 use Rattle.sf_standard.specs.Items.{Item, read, items_of, span_shapes}
 use Rattle.sf_standard.specs.Hull.{extent_of, offsets, hull_of, hull_part, range_part, pair_part}
-use Rattle.sf_standard.specs.Standard.{net_part}
+use Rattle.sf_standard.specs.Standard.{net_part, weighed_part, wire_part}
 use Rattle.sf_standard.proofs.Exact.{whole-item}
 use Rattle.sf_standard.proofs.Unmoved.{sum_by-same}
 use Rattle.sf_frames.specs.Kept.{items_at}
@@ -23,13 +23,12 @@ use Rattle.sf_bounds.specs.declared.net_frame.NetFrame.{NetFrame}
 use Rattle.sf_bounds.specs.declared.net_frame.Wires.{Wires}
 use Rattle.sf_bounds.specs.declared.reach.Reach.{Reach}
 use Rattle.sf_bounds.specs.Near.{anywhere, met, reach_gap}
-use Rattle.sf_bounds.specs.Open.{IsWirePart}
 use Rattle.sf_bounds.specs.Pins.{IsNet}
-use Rattle.sf_bounds.specs.Rows.{counted, pins_at, whole_extent, row, part, pads_share, cell_at, first_end, IsNetFrame, AreWires, AreStored}
-use Rattle.sf_bounds.proofs.NetParts.{net_inside}
+use Rattle.sf_bounds.specs.Rows.{counted, weighed_nets, weights_of, pins_at, whole_extent, row, part, pads_share, cell_at, first_end, IsNetFrame, AreWires, AreStored}
 use Rattle.sf_bounds.proofs.NetPushed.{whole-small, item-few}
 use Rattle.sf_bounds.proofs.NetStarted.{no-hull, no-hulls, near-pads, IsThere}
 use Rattle.sf_bounds.proofs.RowLaws.{row-pads}
+use Rattle.sf_bounds.proofs.Weights.{sum-of_weight, weight-at, weighed-inside}
 
 -- a net's part with the whole span of each block
 net-whole : (design : Design) (node : Parts) (net : Net) → IsSubproblem design node → length node.steps ≡ length node.tokens → net_part design node net ≡ (if nat_lt (length net.pins) 2 then 0 else max (range_part design (whole_extent design) net.pins) (max (pair_part (whole_extent design) net.pins) (hull_part design (whole_extent design) (is_complete node) (items_of node) net.pins)))
@@ -48,13 +47,13 @@ open-part design node net sub whole incomplete =
     ])
 
 -- the wires after all tokens
-pub open-total : (design : Design) (node : Parts) (cells : List Cell) (w : Wires) (n : ℕ) → IsSubproblem design node → length node.steps ≡ length node.tokens → n ≡ length node.tokens → is_complete node ≡ false → AreWires design cells (items_at node.tokens n) w → IsWirePart design node w.sum
+pub open-total : (design : Design) (node : Parts) (cells : List Cell) (w : Wires) (n : ℕ) → IsSubproblem design node → length node.steps ≡ length node.tokens → n ≡ length node.tokens → is_complete node ≡ false → AreWires design cells (items_at node.tokens n) w → w.sum ≡ wire_part design node
 open-total design node cells w n sub whole all incomplete m =
     let items : items_at node.tokens n ≡ items_of node = ap (read []) (take_all n node.tokens (omega (arith, all))) in
-    record {
-      value = m.total ∙ ap (λ v. sum_by (λ net. part design (whole_extent design) v (counted net.pins)) design.nets) items ∙ sym (sum_by-same (net_part design node) (λ net. part design (whole_extent design) (items_of node) (counted net.pins)) (λ net. open-part design node net sub whole incomplete) design.nets);
-      small = omega (arith, m.small, design.limits.few_nets);
-    }
+    let now = λ (net : Net). part design (whole_extent design) (items_of node) (counted net.pins) in
+    m.total ∙ ap (λ v. sum_by (λ net. net.weight * part design (whole_extent design) v (counted net.pins)) (weighed_nets design)) items
+    ∙ sum-of_weight now design.nets
+    ∙ sym (sum_by-same (weighed_part design node) (λ net. net.weight * now net) (λ net. ap (λ v. net.weight * v) (open-part design node net sub whole incomplete)) design.nets)
 
 -- in a complete one with the pads
 closed-part : (design : Design) (node : Parts) (net : Net) (i : Item) → IsSubproblem design node → length node.steps ≡ length node.tokens → is_complete node ≡ true → items_of node ≡ i ∷ [] → length (offsets (whole_extent design) i) ≤ 320 → IsNet design net.pins →
@@ -84,7 +83,7 @@ module _ (design : Design) (node : Parts) (cells : List Cell) (blocks : List Blo
       let k : length frames - 1 + 1 ≡ length frames = omega (arith, some-frame) in
       subst (λ v. IsNetFrame design node.tokens cells (first_end design start) v (get_or frames (length frames - 1) d)) k (m.frames_are.each (length frames - 1) d (omega (arith, some-frame)))
 
-  pub row-inside : (d : NetFrame) → (get_or frames (length frames - 1) d).row + length design.nets ≤ length cells
+  pub row-inside : (d : NetFrame) → (get_or frames (length frames - 1) d).row + length (weighed_nets design) ≤ length cells
   row-inside d = (last d).row.inside
 
   alone : (d : NetFrame) → items_of node ≡ (last d).item ∷ []
@@ -98,7 +97,7 @@ module _ (design : Design) (node : Parts) (cells : List Cell) (blocks : List Blo
       none (i ∷ is) h = absurd (omega (arith, h))
 
   -- one net more
-  pub closed-at : (d : NetFrame) (j : ℕ) → j < length design.nets → max (cell_at cells (start.at + j)).part (reach_gap (met (cell_at cells ((get_or frames (length frames - 1) d).row + j)).reach (cell_at cells (start.at + j)).reach)) ≡ net_part design node (get_or design.nets j (record { pins = [] }))
+  pub closed-at : (d : NetFrame) (j : ℕ) → j < length (weighed_nets design) → max (cell_at cells (start.at + j)).part (reach_gap (met (cell_at cells ((get_or frames (length frames - 1) d).row + j)).reach (cell_at cells (start.at + j)).reach)) ≡ net_part design node (get_or (weighed_nets design) j (record { pins = []; weight = 0 }))
   closed-at d j lt =
       let f = get_or frames (length frames - 1) d in
       let s = cell_at cells (start.at + j) in
@@ -108,21 +107,23 @@ module _ (design : Design) (node : Parts) (cells : List Cell) (blocks : List Blo
       ap (λ v. max v (reach_gap (met (cell_at cells (f.row + j)).reach s.reach))) (m.start_is.wires.each j lt)
       ∙ ap (λ v. max (part design e [] (pins_at design j)) (reach_gap (met v s.reach))) ((last d).row.each j lt)
       ∙ ap (λ v. max (part design e [] (pins_at design j)) (reach_gap (met (row e i (pins_at design j)) v))) (m.start_is.pads j lt)
-      ∙ sym (closed-part design node (get_or design.nets j (record { pins = [] })) i sub whole complete (alone d) few (net_inside design j (get_or design.nets j (record { pins = [] })) (record { pins = [] }) lt refl))
+      ∙ sym (closed-part design node (get_or (weighed_nets design) j (record { pins = []; weight = 0 })) i sub whole complete (alone d) few (weighed-inside design j (record { pins = []; weight = 0 }) lt))
 
   -- the sum with one net more, as the loop has it
-  pub total-more : (i j total value gap : ℕ) (r : NetFrame) (s x : Cell) (reach : Reach) → j < length design.nets → total ≡ sum_by (net_part design node) (take j design.nets) → i ≡ length frames - 1 → r ≡ get_or frames i r → s ≡ get_or cells (start.at + j) s → x ≡ get_or cells (r.row + j) x
-      → reach ≡ met x.reach s.reach → gap ≡ reach_gap reach → value ≡ max s.part gap → total + value ≡ sum_by (net_part design node) (take (j + 1) design.nets)
-  total-more i j total value gap r s x reach lt is_total is_i is_r is_s is_x is_reach is_gap is_value =
+  pub total-more : (i j total weight value gap : ℕ) (r : NetFrame) (s x : Cell) (reach : Reach) → j < length (weighed_nets design) → weight ≡ get_or (weights_of design.nets) j 0 → total ≡ sum_by (weighed_part design node) (take j (weighed_nets design)) → i ≡ length frames - 1 → r ≡ get_or frames i r → s ≡ get_or cells (start.at + j) s → x ≡ get_or cells (r.row + j) x
+      → reach ≡ met x.reach s.reach → gap ≡ reach_gap reach → value ≡ max s.part gap → total + weight * value ≡ sum_by (weighed_part design node) (take (j + 1) (weighed_nets design))
+  total-more i j total weight value gap r s x reach lt is_weight is_total is_i is_r is_s is_x is_reach is_gap is_value =
       let none : Cell = record { reach = anywhere; part = 0 } in
       let f = get_or frames (length frames - 1) r in
       let same : f ≡ r = sym (is_r ∙ ap (λ (v : ℕ). get_or frames v r) is_i) in
-      let there : r.row + length design.nets ≤ length cells = omega (arith, ap (λ v. v.row) same, row-inside r) in
+      let there : r.row + length (weighed_nets design) ≤ length cells = omega (arith, ap (λ v. v.row) same, row-inside r) in
       let at_s : s ≡ cell_at cells (start.at + j) = is_s ∙ get_or_default cells (start.at + j) s none (omega (arith, lt, m.start_is.wires.inside)) in
       let at_x : x ≡ cell_at cells (f.row + j) = is_x ∙ get_or_default cells (r.row + j) x none (omega (arith, lt, there)) ∙ ap (λ (v : NetFrame). cell_at cells (v.row + j)) (sym same) in
-      let is : value ≡ net_part design node (get_or design.nets j (record { pins = [] })) =
+      let is : value ≡ net_part design node (get_or (weighed_nets design) j (record { pins = []; weight = 0 })) =
       is_value ∙ ap (λ n. max s.part n) (is_gap ∙ ap reach_gap is_reach) ∙ ap (λ v. max v.part (reach_gap (met x.reach v.reach))) at_s ∙ ap (λ v. max (cell_at cells (start.at + j)).part (reach_gap (met v.reach (cell_at cells (start.at + j)).reach))) at_x ∙ closed-at r j lt in
-      omega (arith, is_total, is, sum_by_more (net_part design node) design.nets j (record { pins = [] }) lt)
+      let net = get_or (weighed_nets design) j (record { pins = []; weight = 0 }) in
+      let more : weight * value ≡ weighed_part design node net = ap (λ w. w * value) (is_weight ∙ weight-at design.nets j (record { pins = []; weight = 0 }) lt) ∙ ap (λ v. net.weight * v) is in
+      omega (arith, is_total, more, sum_by_more (weighed_part design node) (weighed_nets design) j (record { pins = []; weight = 0 }) lt)
 
-  pub start-small : (j : ℕ) (s : Cell) → j < length design.nets → s ≡ get_or cells (start.at + j) s → s.part ≤ 2800000000
+  pub start-small : (j : ℕ) (s : Cell) → j < length (weighed_nets design) → s ≡ get_or cells (start.at + j) s → s.part ≤ 2800000000
   start-small j s lt is = omega (arith, ap (λ v. v.part) is, (m.fit (start.at + j) s (omega (arith, lt, m.start_is.wires.inside))).small)

@@ -22,7 +22,8 @@ use Rattle.sf_bounds.specs.declared.layout.Standing.{Standing}
 use Rattle.sf_bounds.specs.Layout.{extent_in, Tells, IsModestOffset, AreModest, held_of, seat_at, seats_from}
 use Rattle.sf_bounds.specs.Near.{IsNearby, anywhere}
 use Rattle.sf_bounds.specs.Pins.{IsLayout, IsReadyAt, IsReady, extent_from, home_in, last_home, block_range, standing_at, standing_by}
-use Rattle.sf_bounds.proofs.Small.{IsSmallExtent, span-small, are-modest}
+use Rattle.sf_standard.proofs.Sides.{IsSmallExtent, span-small}
+use Rattle.sf_bounds.proofs.Small.{are-modest}
 
 -- the last home of a block is the one given, or by one of the seats
 pub record IsSeated (extent : ℕ → Extent) (b : ℕ) (ss : List Seat) (h : Home) : Type 0 where

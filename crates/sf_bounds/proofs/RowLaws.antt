@@ -1,8 +1,8 @@
 -- The row of an item, from those of its parts, and what it tells of the hull.
-use Rattle.std.proofs.Common.{◌≡◌, ℕ, suc, ◌+◌, ◌*◌, ◌<◌, ◌≤◌, max, List, [], ◌∷◌, ◌++◌, length, map, refl, ap, sym, ◌∙◌, subst, arith, length-append, true, false, cond}
-use Rattle.std.specs.Prelude.{fold, pos, ◌≤ℤ◌, ◌+ℤ◌, if◌then◌else◌, ◌-ℤ◌}
+use Rattle.std.proofs.Common.{◌≡◌, ℕ, ◌+◌, ◌*◌, ◌≤◌, List, [], ◌∷◌, ◌++◌, length, map, refl, ap, sym, ◌∙◌, subst, arith, length-append, true, false}
+use Rattle.std.specs.Prelude.{fold, if◌then◌else◌, ◌-ℤ◌}
 use Rattle.std.specs.List.{AllByRecursion}
-use Rattle.std.proofs.lemmas.Int.{ints, clamps}
+use Rattle.std.proofs.lemmas.Int.{ints}
 use Rattle.std.proofs.lemmas.List.{map-append, append-nil, length-map}
 use Rattle.sf_model.specs.declared.design.Design.{Design}
 use Rattle.sf_model.specs.declared.parts.Pin.{Pin}
@@ -23,7 +23,8 @@ use Rattle.sf_bounds.specs.Pins.{pad_reach}
 use Rattle.sf_bounds.specs.Rows.{row, with_pad, pads_share, pushed, pushed_reach, joined_reach}
 use Rattle.sf_bounds.proofs.Meeting.{gap-shared}
 use Rattle.sf_bounds.proofs.Shares.{interval, moved, IsHome, home-near, share-append, share-moved, near-share}
-use Rattle.sf_bounds.proofs.Small.{IsSmallExtent, IsSmallOffset, item-small, offsets-small}
+use Rattle.sf_standard.proofs.Sides.{IsSmallExtent}
+use Rattle.sf_bounds.proofs.Small.{IsSmallOffset, offsets-small}
 
 pins-append : (pins : List Pin) (xs ys : List Offset) → of_pins pins (xs ++ ys) ≡ of_pins pins xs ++ of_pins pins ys
 pins-append pins [] ys = refl

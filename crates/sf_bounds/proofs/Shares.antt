@@ -1,9 +1,9 @@
 -- What intervals share, where they are appended and where all are pushed.
-use Rattle.std.proofs.Common.{◌≡◌, ℕ, ◌+◌, ◌*◌, List, [], ◌∷◌, ◌++◌, map, refl, ap, sym, ◌∙◌, arith, true, false}
-use Rattle.std.specs.Prelude.{fold, pos, neg_ℤ, ◌≤ℤ◌, ◌+ℤ◌, int_lt, if◌then◌else◌, ℤ}
+use Rattle.std.proofs.Common.{◌≡◌, ℕ, ◌*◌, List, [], ◌∷◌, ◌++◌, map, refl, ap, sym, ◌∙◌, arith, false}
+use Rattle.std.specs.Prelude.{fold, pos, neg_ℤ, ◌≤ℤ◌, ◌+ℤ◌, int_lt, ℤ}
 use Rattle.std.specs.List.{AllByRecursion}
 use Rattle.std.proofs.lemmas.Int.{ints, clamps}
-use Rattle.std.proofs.lemmas.Bool.{cond-true, cond-false}
+use Rattle.std.proofs.lemmas.Bool.{cond-false}
 use Rattle.sf_standard.specs.declared.hull.Interval.{Interval}
 use Rattle.sf_bounds.specs.Near.{IsNear, shared, endless}
 use Rattle.sf_bounds.specs.Rows.{pushed}

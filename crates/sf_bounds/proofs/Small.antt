@@ -1,70 +1,22 @@
 -- No extent, and no place of a block in an item, is too great.
-use Rattle.std.proofs.Common.{◌≡◌, ℕ, suc, ◌+◌, ◌*◌, ◌≤◌, min, max, List, [], ◌∷◌, ◌++◌, length, map, ap, arith, length-append, inl, inr}
-use Rattle.std.specs.Prelude.{Contains, fold}
+use Rattle.std.proofs.Common.{◌≡◌, ℕ, suc, ◌+◌, ◌*◌, ◌≤◌, List, [], ◌∷◌, ◌++◌, length, map, arith, length-append}
 use Rattle.std.specs.List.{AllByRecursion}
-use Rattle.std.proofs.lemmas.Bool.{cases_lt}
-use Rattle.std.proofs.lemmas.List.{get_or_past, length-map}
-use Rattle.std.proofs.lemmas.List.Elements.{All-from_recursion, All-contains}
-use Rattle.sf_model.specs.declared.design.Design.{Design}
-use Rattle.sf_model.specs.declared.parts.Shape.{Shape}
-use Rattle.sf_model.specs.Legal.{shapes_of}
-use Rattle.sf_model.specs.Limits.{IsSide}
+use Rattle.std.proofs.lemmas.List.{length-map}
+use Rattle.std.proofs.lemmas.List.Elements.{All-from_recursion}
 use Rattle.sf_model.proofs.Each.{each-append, each-map, each-weaker}
-use Rattle.sf_node.specs.Parts.{Parts}
-use Rattle.sf_node.specs.Subproblem.{span_of}
-use Rattle.sf_node.proofs.Halves.{in_span}
 use Rattle.sf_standard.specs.declared.hull.Extent.{Extent}
 use Rattle.sf_standard.specs.declared.hull.Offset.{Offset}
 use Rattle.sf_standard.specs.Items as item
-use Rattle.sf_standard.specs.Items.{Item, span_shapes}
-use Rattle.sf_standard.specs.Hull.{extent_of, item_extent, offsets, moved_right, moved_up}
-use Rattle.sf_standard.proofs.Listed.{each-from}
-use Rattle.sf_bounds.specs.Layout.{extent_in, held_of, seat_at, seats_from, IsModestExtent, IsModestOffset, AreModest}
-
-pub record IsSmallExtent (m : ℕ) (e : Extent) : Type 0 where
-  pub least_w : e.least_w ≤ m
-  pub most_w : e.most_w ≤ m
-  pub least_h : e.least_h ≤ m
-  pub most_h : e.most_h ≤ m
+use Rattle.sf_standard.specs.Items.{Item}
+use Rattle.sf_standard.specs.Hull.{item_extent, offsets, moved_right, moved_up}
+use Rattle.sf_standard.proofs.Sides.{IsSmallExtent}
+use Rattle.sf_bounds.specs.Layout.{held_of, seat_at, seats_from, IsModestExtent, IsModestOffset, AreModest}
 
 pub record IsSmallOffset (m : ℕ) (o : Offset) : Type 0 where
   pub least_x : o.least_x ≤ m
   pub most_x : o.most_x ≤ m
   pub least_y : o.least_y ≤ m
   pub most_y : o.most_y ≤ m
-
-least-in : (key : Shape → ℕ) (a m : ℕ) (ss : List Shape) → a ≤ m → fold (λ n t. min n (key t)) a ss ≤ m
-least-in key a m [] h = h
-least-in key a m (s ∷ ss) h = least-in key (min a (key s)) m ss (omega (arith, h))
-
-most-in : (key : Shape → ℕ) (a m : ℕ) (ss : List Shape) → a ≤ m → AllByRecursion (λ s. key s ≤ m) ss → fold (λ n t. max n (key t)) a ss ≤ m
-most-in key a m [] h e = h
-most-in key a m (s ∷ ss) h e = most-in key (max a (key s)) m ss (omega (arith, h, e.0)) e.1
-
-extent-small : (m : ℕ) (ss : List Shape) → AllByRecursion (λ s. s.w ≤ m) ss → AllByRecursion (λ s. s.h ≤ m) ss → IsSmallExtent m (extent_of ss)
-extent-small m [] w h = record { least_w = omega arith; most_w = omega arith; least_h = omega arith; most_h = omega arith }
-extent-small m (s ∷ ss) w h = record {
-  least_w = least-in (λ t. t.w) s.w m ss w.0;
-  most_w = most-in (λ t. t.w) s.w m ss w.0 w.1;
-  least_h = least-in (λ t. t.h) s.h m ss h.0;
-  most_h = most-in (λ t. t.h) s.h m ss h.0 h.1;
-}
-
-side-in : (design : Design) (node : Parts) (b : ℕ) (s : Shape) → Contains (span_shapes design node b) s → (s.w ≤ 1048576) × (s.h ≤ 1048576)
-side-in design node b s c =
-    let i = in_span (shapes_of design b) (span_of node b).0 (span_of node b).1 s c in
-    elim (cases_lt b (length design.blocks)) [
-      | inl lt ↦ (let k = All-contains (λ s. IsSide s.w × IsSide s.h) (shapes_of design b) s (design.limits.shapes b (record { name = []; shapes = [] }) lt).sides (i.at, i.within, i.is) in
-          (omega (arith, k.0.1), omega (arith, k.1.1)))
-      | inr le ↦ absurd (omega (arith, i.within, ap (λ v. length v.shapes) (get_or_past design.blocks b (record { name = []; shapes = [] }) le)))
-    ]
-
--- no side of a span's shapes is above 2^20
-pub span-small : (design : Design) (node : Parts) (b : ℕ) → IsSmallExtent 1048576 (extent_in design node b)
-span-small design node b =
-    extent-small 1048576 (span_shapes design node b)
-    (each-from (λ s. s.w ≤ 1048576) (span_shapes design node b) (λ s c. (side-in design node b s c).0))
-    (each-from (λ s. s.h ≤ 1048576) (span_shapes design node b) (λ s c. (side-in design node b s c).1))
 
 module _ (extent : ℕ → Extent) (small : (b : ℕ) → IsSmallExtent 1048576 (extent b)) where
   pub item-small : (i : Item) → IsSmallExtent (1048576 * length (offsets extent i)) (item_extent extent i)

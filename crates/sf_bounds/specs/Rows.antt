@@ -1,5 +1,5 @@
--- What is kept of the nets along a path of tokens whose spans are whole.
-use Rattle.std.specs.Prelude.{◌≡◌, ℕ, ◌+◌, ◌*◌, ◌-◌, ◌<◌, ◌≤◌, max, List, [], ◌∷◌, ◌++◌, length, map, take, fold, sum_by, All, AllPairs, false, nat_lt, if◌then◌else◌, ℤ, pos, ◌+ℤ◌, int_lt, Option, IfSome, slice_index_or}
+-- What is kept of the nets that count along a path of tokens whose spans are whole.
+use Rattle.std.specs.Prelude.{◌≡◌, ℕ, ◌+◌, ◌*◌, ◌-◌, ◌<◌, ◌≤◌, max, List, [], ◌∷◌, ◌++◌, length, map, take, filter, fold, sum_by, All, AllPairs, false, nat_lt, if◌then◌else◌, pos, ◌+ℤ◌, int_lt, Option, IfSome, slice_index_or}
 use Rattle.sf_model.specs.declared.design.Design.{Design}
 use Rattle.sf_model.specs.declared.parts.Net.{Net}
 use Rattle.sf_model.specs.declared.parts.Pin.{Pin}
@@ -29,9 +29,20 @@ use Rattle.sf_bounds.specs.Near.{IsNearby, shared, met, endless, anywhere, reach
 abbrev pub counted : List Pin → List Pin
 counted pins = if nat_lt (length pins) 2 then [] else pins
 
--- the counted pins of a net by number
+-- the nets that count: of one of weight 0 nothing is kept
+abbrev pub of_weight : List Net → List Net
+of_weight nets = filter (λ n. nat_lt 0 n.weight) nets
+
+abbrev pub weighed_nets : Design → List Net
+weighed_nets design = of_weight design.nets
+
+-- their weights
+abbrev pub weights_of : List Net → List ℕ
+weights_of nets = map (λ n. n.weight) (of_weight nets)
+
+-- the counted pins of one of them by number
 abbrev pub pins_at : Design → ℕ → List Pin
-pins_at design j = counted (slice_index_or design.nets j (record { pins = [] })).pins
+pins_at design j = counted (slice_index_or (weighed_nets design) j (record { pins = []; weight = 0 })).pins
 
 -- the extent of a block in its whole span
 abbrev pub whole_extent : Design → ℕ → Extent
@@ -87,8 +98,9 @@ block_cell b e net = record { reach = own_reach (counted net.pins) b e; part = 0
 abbrev pub start_cell : Design → Net → Cell
 start_cell design net = record { reach = pads_share design (counted net.pins); part = net_part design (root design) net }
 
-abbrev pub part_of : Cell → ℕ
-part_of c = c.part
+-- the part of the cell of a net, as often as the net's weight says
+abbrev pub weighed_cell : List ℕ → (ℕ → Cell) → ℕ → ℕ
+weighed_cell weights cell j = slice_index_or weights j 0 * (cell j).part
 
 -- numbers that fit
 pub record IsFitCell (c : Cell) : Type 0 where
@@ -99,17 +111,17 @@ pub record IsFitCell (c : Cell) : Type 0 where
 abbrev pub IsLonger : List Cell → List Cell → Type 0
 IsLonger old new = (more : List Cell) × (new ≡ old ++ more)
 
--- the cells from a place on tell for each net what its blocks in the item share
+-- the cells from a place on tell for each net that counts what its blocks in the item share
 pub record IsRow (design : Design) (cells : List Cell) (item : Item) (at : ℕ) : Type 0 where
-  pub inside : at + length design.nets ≤ length cells
-  pub each : (j : ℕ) → j < length design.nets → (cell_at cells (at + j)).reach ≡ row (whole_extent design) item (pins_at design j)
+  pub inside : at + length (weighed_nets design) ≤ length cells
+  pub each : (j : ℕ) → j < length (weighed_nets design) → (cell_at cells (at + j)).reach ≡ row (whole_extent design) item (pins_at design j)
 
--- the cells from a place on tell the part of each net, and these make the sum
+-- the cells from a place on tell the part of each net that counts, and these make the sum
 pub record AreWires (design : Design) (cells : List Cell) (items : List Item) (w : Wires) : Type 0 where
-  pub inside : w.at + length design.nets ≤ length cells
-  pub each : (j : ℕ) → j < length design.nets → (cell_at cells (w.at + j)).part ≡ part design (whole_extent design) items (pins_at design j)
-  pub total : w.sum ≡ sum_by (λ net. part design (whole_extent design) items (counted net.pins)) design.nets
-  pub small : w.sum ≤ 2800000000 * length design.nets
+  pub inside : w.at + length (weighed_nets design) ≤ length cells
+  pub each : (j : ℕ) → j < length (weighed_nets design) → (cell_at cells (w.at + j)).part ≡ part design (whole_extent design) items (pins_at design j)
+  pub total : w.sum ≡ sum_by (λ net. net.weight * part design (whole_extent design) items (counted net.pins)) (weighed_nets design)
+  pub small : w.sum ≤ 714000000000 * length (weighed_nets design)
 
 -- the rows of the first n blocks
 pub record AreBlockRows (design : Design) (n : ℕ) (cells : List Cell) (blocks : List BlockRow) : Type 0 where
@@ -120,12 +132,12 @@ pub record AreBlockRows (design : Design) (n : ℕ) (cells : List Cell) (blocks 
 
 -- how many cells there are before the first frame
 abbrev pub first_end : Design → Wires → ℕ
-first_end design start = start.at + length design.nets
+first_end design start = start.at + length (weighed_nets design)
 
 -- the rows of all blocks, and the wires and pads before any token
 pub record IsStart (design : Design) (cells : List Cell) (blocks : List BlockRow) (start : Wires) : Type 0 where
   pub rows : AreBlockRows design (block_count design) (take start.at cells) blocks
-  pub pads : (j : ℕ) → j < length design.nets → (cell_at cells (start.at + j)).reach ≡ pads_share design (pins_at design j)
+  pub pads : (j : ℕ) → j < length (weighed_nets design) → (cell_at cells (start.at + j)).reach ≡ pads_share design (pins_at design j)
   pub wires : AreWires design cells [] start
 
 -- the frame of the k-th token tells the item on top after k tokens, and the wires after it
@@ -136,8 +148,8 @@ pub record IsNetFrame (design : Design) (tokens : List Token) (cells : List Cell
   pub extent : f.extent ≡ item_extent (whole_extent design) item
   pub row : IsRow design cells item f.row
   pub wires : AreWires design cells (items_at tokens k) f.wires
-  pub row_end : f.row + length design.nets ≤ f.end
-  pub wires_end : f.wires.at + length design.nets ≤ f.end
+  pub row_end : f.row + length (weighed_nets design) ≤ f.end
+  pub wires_end : f.wires.at + length (weighed_nets design) ≤ f.end
   pub after : first ≤ f.end
   pub end : f.end ≤ length cells
 
@@ -157,8 +169,10 @@ pub record AreStored (design : Design) (tokens : List Token) (cells : List Cell)
   pub start_is : IsStart design cells blocks start
   pub frames_are : AreNetFrames design tokens cells (first_end design start) frames
 
-abbrev pub AreKept : Design → List Token → Nets → Type 0
-AreKept design tokens nets = AreStored design tokens nets.cells.items nets.blocks.items nets.start nets.frames.items
+-- with the weights of the nets that count
+pub record AreKept (design : Design) (tokens : List Token) (nets : Nets) : Type 0 where
+  pub weights : nets.weights.items ≡ weights_of design.nets
+  pub stored : AreStored design tokens nets.cells.items nets.blocks.items nets.start nets.frames.items
 
 abbrev pub tokens_of : Nets → List Token
 tokens_of nets = map token_of nets.frames.items

@@ -28,7 +28,7 @@ fn end_of(nets: &Nets, design: &Design, count: usize) -> usize
     ensures { IsNetEnd design.now nets.now.start nets.now.frames.items count result }
 {
     if count == 0 {
-        return nets.start.at + design.nets.as_slice().len();
+        return nets.start.at + nets.weights.len();
     }
     nets.frames[count - 1].end
 }

@@ -2,22 +2,23 @@ use crate::reach::Reach;
 use sf_polish::Token;
 use sf_standard::Extent;
 
-/// What is kept of one net: what its blocks in an item share, and the greatest of its range, its pair and its gaps in the
-/// items so far.
+/// What is kept of one net that counts: what its blocks in an item share, and the greatest of its range, its
+/// pair and its gaps in the items so far.
 #[derive(Clone, Copy, Debug, PartialEq, Eq)]
 pub struct Cell {
     pub reach: Reach,
     pub part: u64,
 }
 
-/// A block as an item by itself: its sides, and where its row begins, a cell for each net.
+/// A block as an item by itself: its sides, and where its row begins, a cell for each net that counts.
 #[derive(Clone, Copy, Debug, PartialEq, Eq)]
 pub struct BlockRow {
     pub extent: Extent,
     pub row: usize,
 }
 
-/// What the wires of the nets take at least: where the parts of the nets begin, and their sum.
+/// What the wires of the nets take at least: where the parts of the nets begin, and their sum, each as often as
+/// its net's weight says.
 #[derive(Clone, Copy, Debug, PartialEq, Eq)]
 pub struct Wires {
     pub at: usize,
@@ -36,12 +37,13 @@ pub struct NetFrame {
     pub end: usize,
 }
 
-/// What is kept of a path: in one list the cells of all rows, the row of each block, the wires before any token with what
-/// the pads share, and the frames.
+/// What is kept of a path: in one list the cells of all rows, the row of each block, the wires before any token
+/// with what the pads share, the frames, and the weights of the nets that count, of which a row has a cell each.
 #[derive(Drop)]
 pub struct Nets {
     pub cells: Vec<Cell>,
     pub blocks: Vec<BlockRow>,
     pub start: Wires,
     pub frames: Vec<NetFrame>,
+    pub weights: Vec<u8>,
 }

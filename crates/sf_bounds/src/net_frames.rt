@@ -1,6 +1,6 @@
 ghost use Rattle.std.specs.Prelude.{◌≡◌, length, is_some, true, IfOk, IfSome, OnOk};
 ghost use Rattle.sf_node.specs.Children.{IsSubproblem};
-ghost use Rattle.sf_bounds.specs.Open.{IsWirePart};
+ghost use Rattle.sf_standard.specs.Standard.{wire_part};
 ghost use Rattle.sf_bounds.specs.Rows.{AreKeptOrNone};
 
 use crate::layout::Layout;
@@ -79,7 +79,7 @@ impl<'a> NetFrames<'a> {
     ) -> Result<Option<u64>, NoMemory>
         requires subproblem { IsSubproblem self.old node.now }
         requires whole { length node.now.steps ≡ length node.now.tokens }
-        ensures measured { IfOk result (λ wires. IfSome wires (IsWirePart self.old node.now)) }
+        ensures measured { IfOk result (λ wires. IfSome wires (λ sum. sum ≡ wire_part self.old node.now)) }
         ensures same { self.new ≡ self.old }
     {
         let design = self.design;

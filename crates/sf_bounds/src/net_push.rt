@@ -76,14 +76,13 @@ fn push_joined(
 {
     let (left, right) = top_pair(nets, design, node, direction);
     let under = wires_after(nets, design, node, left.below);
-    let count = design.nets.as_slice().len();
     let at = nets.cells.len();
     let sum = join_rows(
         &mut nets.cells,
         left.row,
         right.row,
         under.at,
-        count,
+        &nets.weights,
         direction,
         left.extent,
     )?;

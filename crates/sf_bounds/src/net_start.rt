@@ -3,17 +3,17 @@ ghost use Rattle.sf_model.specs.Legal.{block_count};
 ghost use Rattle.sf_model.specs.Limits.{pin_number, pin_count};
 ghost use Rattle.sf_node.specs.Subproblem.{root};
 ghost use Rattle.sf_standard.specs.Hull.{contains_pin};
-ghost use Rattle.sf_standard.specs.Standard.{net_part};
+ghost use Rattle.sf_standard.specs.Standard.{net_part, weighed_part, wire_part};
 ghost use Rattle.sf_bounds.specs.Layout.{Tells};
 ghost use Rattle.sf_bounds.specs.Pins.{IsNet, IsLayout};
-ghost use Rattle.sf_bounds.specs.Rows.{counted, whole_extent, own_reach, block_cell, with_pad, pads_share, start_cell, IsFitCell, AreBlockRows, AreKept};
+ghost use Rattle.sf_bounds.specs.Rows.{counted, of_weight, weighed_nets, weights_of, whole_extent, own_reach, block_cell, with_pad, pads_share, start_cell, IsFitCell, AreBlockRows, AreKept};
 
 use crate::layout::Layout;
 use crate::meet::met;
 use crate::net_frame::{BlockRow, Cell, Nets, Wires};
 use crate::pins::pad_reach;
 use crate::reach::{ANYWHERE, Reach};
-use crate::wires::{fill_layout, fill_reaches, net_part};
+use crate::wires::{fill_layout, fill_reaches, net_part, weighed};
 use sf_model::{Design, Net, Pin};
 use sf_node::Node;
 use sf_standard::{Extent, Interval};
@@ -60,6 +60,30 @@ fn own_reach(pins: &[Pin], block: u16, extent: Extent) -> Reach
     }
 }
 
+// The weights of the nets that count.
+fn weights_of(alloc: Global, nets: &[Net]) -> Result<Vec<u8>, NoMemory>
+    ensures { IfOk result (λ weights. weights.items ≡ weights_of nets.now) }
+{
+    let mut weights = Vec::new(alloc);
+    for net in nets {
+        if net.weight > 0 {
+            weights.push(net.weight)?;
+        }
+    }
+    Ok(weights)
+}
+
+// Puts the cell of a net at the end, where the net counts.
+fn push_own(cells: &mut Vec<Cell>, net: &Net, block: u16, extent: Extent) -> Result<(), NoMemory>
+    ensures { IfOk result (λ _. cells.new.items ≡ cells.old.items ++ map (block_cell block extent) (of_weight (net.now ∷ []))) }
+{
+    if net.weight > 0 {
+        let reach = own_reach(counted(net), block, extent);
+        cells.push(Cell { reach, part: 0 })?;
+    }
+    Ok(())
+}
+
 // Puts the row of a block at the end.
 fn push_block_row(
     cells: &mut Vec<Cell>,
@@ -67,11 +91,10 @@ fn push_block_row(
     block: u16,
     extent: Extent,
 ) -> Result<(), NoMemory>
-    ensures { IfOk result (λ _. cells.new.items ≡ cells.old.items ++ map (block_cell block extent) design.now.nets) }
+    ensures { IfOk result (λ _. cells.new.items ≡ cells.old.items ++ map (block_cell block extent) (weighed_nets design.now)) }
 {
     for net in design.nets.as_slice() {
-        let reach = own_reach(counted(net), block, extent);
-        cells.push(Cell { reach, part: 0 })?;
+        push_own(cells, net, block, extent)?;
     }
     Ok(())
 }
@@ -119,7 +142,37 @@ fn pads_share(design: &Design, pins: &[Pin]) -> Reach
     reach
 }
 
-// Puts what holds before any token at the end. The answer is the sum of the parts.
+// Puts what holds of a net before any token at the end, where the net counts. The answer is its part as often
+// as its weight says.
+fn push_net(
+    cells: &mut Vec<Cell>,
+    reaches: &mut [Reach],
+    design: &Design,
+    node: &Node,
+    layout: &Layout,
+    net: &Net,
+) -> Result<u64, NoMemory>
+    requires root { node.now ≡ root design.now }
+    requires layout { IsLayout design.now node.now layout.now }
+    requires inside { IsNet design.now net.now.pins }
+    requires sized { length layout.now.held.items ≤ length reaches.old }
+    requires fit { All IsFitCell cells.old.items }
+    ensures fit { IfOk result (λ _. All IsFitCell cells.new.items) }
+    ensures row { IfOk result (λ _. cells.new.items ≡ cells.old.items ++ map (start_cell design.now) (of_weight (net.now ∷ []))) }
+    ensures part { IfOk result (λ part. part ≡ weighed_part design.now (root design.now) net.now) }
+    ensures small { IfOk result (λ part. part ≤ 714000000000 * length (of_weight (net.now ∷ []))) }
+{
+    if net.weight == 0 {
+        return Ok(0);
+    }
+    let part = net_part(reaches, design, node, layout, net);
+    let reach = pads_share(design, counted(net));
+    cells.push(Cell { reach, part })?;
+    Ok(weighed(net.weight, part))
+}
+
+// Puts what holds before any token at the end. The answer is the sum of the parts, each as often as its net's
+// weight says.
 fn push_start(
     cells: &mut Vec<Cell>,
     reaches: &mut [Reach],
@@ -132,16 +185,13 @@ fn push_start(
     requires sized { length layout.now.held.items ≤ length reaches.old }
     requires fit { All IsFitCell cells.old.items }
     ensures fit { IfOk result (λ _. All IsFitCell cells.new.items) }
-    ensures row { IfOk result (λ _. cells.new.items ≡ cells.old.items ++ map (start_cell design.now) design.now.nets) }
-    ensures sum { IfOk result (λ sum. sum ≡ sum_by (net_part design.now (root design.now)) design.now.nets) }
-    ensures small { IfOk result (λ sum. sum ≤ 2800000000 * length design.now.nets) }
+    ensures row { IfOk result (λ _. cells.new.items ≡ cells.old.items ++ map (start_cell design.now) (weighed_nets design.now)) }
+    ensures sum { IfOk result (λ sum. sum ≡ wire_part design.now (root design.now)) }
+    ensures small { IfOk result (λ sum. sum ≤ 714000000000 * length (weighed_nets design.now)) }
 {
     let mut sum = 0;
     for net in design.nets.as_slice() {
-        let part = net_part(reaches, design, node, layout, net);
-        let reach = pads_share(design, counted(net));
-        cells.push(Cell { reach, part })?;
-        sum += part;
+        sum += push_net(cells, reaches, design, node, layout, net)?;
     }
     Ok(sum)
 }
@@ -158,6 +208,7 @@ pub fn start(
     let node = Node::root(alloc, design)?;
     fill_layout(layout, design, &node)?;
     fill_reaches(reaches, layout.held.len())?;
+    let weights = weights_of(alloc, design.nets.as_slice())?;
     let mut cells = Vec::new(alloc);
     let blocks = push_block_rows(&mut cells, alloc, design, &layout.extents)?;
     let at = cells.len();
@@ -167,5 +218,6 @@ pub fn start(
         blocks,
         start: Wires { at, sum },
         frames: Vec::new(alloc),
+        weights,
     })
 }

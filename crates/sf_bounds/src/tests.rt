@@ -29,6 +29,7 @@ fn three_shapes(alloc: Global) -> Result<Design, AllocError> {
     };
     let net = Net {
         pins: Pins::from_vec(vec![in alloc; Pin::Block(0), Pin::Pad(0)]?),
+        weight: 1,
     };
     Ok(Design {
         blocks: BlockList::from_vec(vec![in alloc; block]?),
@@ -121,6 +122,19 @@ fn square(alloc: Global, name: &[u8]) -> Result<Block, AllocError>
     })
 }
 
+/// Two blocks of 2 by 2 and a net of both of this weight, with wire weight 1.
+fn two_squares(alloc: Global, weight: u8) -> Result<Design, AllocError> {
+    let blocks = vec![in alloc; square(alloc, b"a")?, square(alloc, b"b")?]?;
+    let pins = Pins::from_vec(vec![in alloc; Pin::Block(0), Pin::Block(1)]?);
+    Ok(Design {
+        blocks: BlockList::from_vec(blocks),
+        pads: PadList::from_vec(Vec::new(alloc)),
+        nets: NetList::from_vec(vec![in alloc; Net { pins, weight }]?),
+        outline: Outline { w: 9, h: 9 },
+        weights: Weights { area: 1, wire: 1 },
+    })
+}
+
 /// Four blocks of 2 by 2, a net of the first and the third, one of the second and the third, and one of the fourth and a
 /// pad, with wire weight 1.
 fn four_squares(alloc: Global) -> Result<Design, AllocError> {
@@ -139,9 +153,18 @@ fn four_squares(alloc: Global) -> Result<Design, AllocError> {
     let second = Pins::from_vec(vec![in alloc; Pin::Block(1), Pin::Block(2)]?);
     let third = Pins::from_vec(vec![in alloc; Pin::Block(3), Pin::Pad(0)]?);
     let nets = vec![in alloc;
-        Net { pins: first },
-        Net { pins: second },
-        Net { pins: third },
+        Net {
+            pins: first,
+            weight: 1,
+        },
+        Net {
+            pins: second,
+            weight: 1,
+        },
+        Net {
+            pins: third,
+            weight: 1,
+        },
     ]?;
     Ok(Design {
         blocks: BlockList::from_vec(blocks),
@@ -204,5 +227,18 @@ fn measures_items(rt: HostRuntime) -> Result<(), Fail> {
         value_at(alloc, &design, &mut room, &[0, 0, 0, 0])?,
         Some(26)
     );
+    Ok(())
+}
+
+#[test]
+fn measures_one_weight(rt: HostRuntime) -> Result<(), Fail> {
+    let alloc = rt.alloc();
+    for (weight, value) in [(1u8, 12u64), (3, 20), (0, 8)] {
+        let design = two_squares(alloc, weight)?;
+        let mut room = Room::new(alloc);
+        // 0 1 *
+        let of_row = value_at(alloc, &design, &mut room, &[0, 0, 0])?;
+        assert_eq!(rt; of_row, Some(value));
+    }
     Ok(())
 }

@@ -1,9 +1,9 @@
 ghost use Rattle.std.specs.Prelude.{◌≡◌, ◌*◌, max, length, IfOk};
 ghost use Rattle.sf_node.specs.Children.{IsSubproblem};
-ghost use Rattle.sf_standard.specs.Standard.{open_value, standard};
+ghost use Rattle.sf_standard.specs.Standard.{open_value, standard, wire_part, AllHavePlans};
 ghost use Rattle.sf_frames.specs.Groups.{IsNeededOrNone};
 ghost use Rattle.sf_frames.specs.Measured.{IsMeasured};
-ghost use Rattle.sf_bounds.specs.Open.{IsWireCost, IsWirePart};
+ghost use Rattle.sf_bounds.specs.Open.{IsWireCost};
 
 use crate::area::area_part;
 use crate::groups::group_curves;
@@ -14,7 +14,7 @@ use crate::wires::wire_part;
 use sf_frames::{Frames, Measured, Sums};
 use sf_model::{Design, MAX};
 use sf_node::Node;
-use sf_standard::laws::single_spans_are_open;
+use sf_standard::laws::{single_spans_are_open, wires_are_bounded};
 use std::alloc::AllocError as NoMemory;
 
 /// What the frames of a path tell, where each span is whole.
@@ -87,7 +87,7 @@ fn wires_of(
 ) -> Result<u64, NoMemory>
     requires subproblem { IsSubproblem design.now node.now }
     requires serves { nets.old ≡ design.now }
-    ensures wires { IfOk result (IsWirePart design.now node.now) }
+    ensures wires { IfOk result (λ wires. wires ≡ wire_part design.now node.now) }
     ensures serves { nets.new ≡ design.now }
 {
     if node.steps().len() == node.tokens().len() {
@@ -100,7 +100,8 @@ fn wires_of(
     Ok(wires)
 }
 
-// What the wires cost at least. They are not looked at where they have no weight.
+// What the wires cost at least, where each item and each unused block has a plan in the outline. They are not
+// looked at where they have no weight.
 fn wire_cost(
     nets: &mut NetFrames,
     scratch: &mut Scratch,
@@ -108,6 +109,7 @@ fn wire_cost(
     node: &Node,
 ) -> Result<u64, NoMemory>
     requires subproblem { IsSubproblem design.now node.now }
+    requires plans { AllHavePlans design.now node.now }
     requires serves { nets.old ≡ design.now }
     ensures cost { IfOk result (IsWireCost design.now node.now) }
     ensures serves { nets.new ≡ design.now }
@@ -116,6 +118,7 @@ fn wire_cost(
         return Ok(0);
     }
     let wires = wires_of(nets, scratch, design, node)?;
+    wires_are_bounded();
     Ok(u64::from(design.weights.wire) * wires)
 }
 

@@ -1,7 +1,6 @@
-ghost use Rattle.std.specs.Prelude.{◌≡◌, ◌<◌, ◌≤◌, ◌^◌, length, OnOk, IfOk};
+ghost use Rattle.std.specs.Prelude.{◌≡◌, ◌<◌, ◌≤◌, ◌*◌, ◌^◌, length, OnOk, IfOk};
 ghost use Rattle.sf_node.specs.Children.{IsSubproblem};
-ghost use Rattle.sf_standard.specs.Standard.{net_part};
-ghost use Rattle.sf_bounds.specs.Open.{IsWirePart};
+ghost use Rattle.sf_standard.specs.Standard.{net_part, weighed_part, wire_part};
 ghost use Rattle.sf_bounds.specs.Pins.{IsNet, IsLayout};
 
 use crate::extents::fill_extents;
@@ -66,15 +65,46 @@ pub fn net_part(
     open_part(reaches, design, &layout.table, pins)
 }
 
+/// What the wire of a net is at least, as often as its weight says.
+#[tactic(auto, using(crate::proofs::Weights::weighed_small))]
+pub fn weighed(weight: u8, part: u64) -> u64
+    requires { part ≤ 2800000000 }
+    ensures is { result ≡ weight * part }
+    ensures small { result ≤ 714000000000 }
+{
+    u64::from(weight) * part
+}
+
+// The same from the pins. Those of a net of weight 0 are not looked at.
+fn weighed_part(
+    reaches: &mut [Reach],
+    design: &Design,
+    node: &Node,
+    layout: &Layout,
+    net: &Net,
+) -> u64
+    requires subproblem { IsSubproblem design.now node.now }
+    requires layout { IsLayout design.now node.now layout.now }
+    requires inside { IsNet design.now net.now.pins }
+    requires sized { length layout.now.held.items ≤ length reaches.old }
+    ensures is { result ≡ weighed_part design.now node.now net.now }
+    ensures small { result ≤ 714000000000 }
+{
+    if net.weight == 0 {
+        return 0;
+    }
+    weighed(net.weight, net_part(reaches, design, node, layout, net))
+}
+
 fn sum_nets(reaches: &mut [Reach], design: &Design, node: &Node, layout: &Layout) -> u64
     requires subproblem { IsSubproblem design.now node.now }
     requires layout { IsLayout design.now node.now layout.now }
     requires sized { length layout.now.held.items ≤ length reaches.old }
-    ensures { IsWirePart design.now node.now result }
+    ensures { result ≡ wire_part design.now node.now }
 {
     let mut total = 0;
     for net in design.nets.as_slice() {
-        total += net_part(reaches, design, node, layout, net);
+        total += weighed_part(reaches, design, node, layout, net);
     }
     total
 }
@@ -87,7 +117,7 @@ pub fn wire_part(
     node: &Node,
 ) -> Result<u64, NoMemory>
     requires { IsSubproblem design.now node.now }
-    ensures { IfOk result (IsWirePart design.now node.now) }
+    ensures { IfOk result (λ wires. wires ≡ wire_part design.now node.now) }
 {
     fill_layout(layout, design, node)?;
     fill_reaches(reaches, layout.held.len())?;

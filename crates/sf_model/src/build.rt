@@ -104,8 +104,8 @@ fn check_shapes(alloc: Global, blocks: &[RawBlock], lists: &[Shapes]) -> Result<
 
 impl Design {
     /// The design of admitted parts, with a list of shapes for each block and a weight for each net. Blocks and
-    /// nets keep their numbers. Pads are numbered among those that have a place; where no text places pads, the design has
-    /// none. The first block with an empty list is refused by its name.
+    /// nets keep their numbers. Pads are numbered among those that have a place; where no text places pads, the
+    /// design has none. The first block with an empty list is refused by its name.
     pub fn build(
         alloc: Global,
         parts: Parts,

@@ -19,7 +19,8 @@ pub fn blocks_keep_values()
     ensures { (design : Design) (node : Parts) (b : ℕ) → IsSubproblem design node → CanStep node (Block b) → IsFalse (is_complete (after node (Block b))) → standard design (after node (Block b)) ≡ standard design node }
 {}
 
-/// Where each item and each unused block of a subproblem has a plan in the outline, its wires are bounded by less than 2^47.
+/// Where each item and each unused block of a subproblem has a plan in the outline, its wires are bounded by less
+/// than 2^47.
 pub fn wires_are_bounded()
     ensures { (design : Design) (node : Parts) → AllHavePlans design node → wire_part design node < 2 ^ 47 }
 {}

@@ -1,7 +1,5 @@
-use Rattle.std.proofs.Common.{◌≡◌, ◌<◌, map, length, get_or, arith, rules, ◌∙◌}
+use Rattle.std.proofs.Common.{◌≡◌, map, get_or, arith, rules, ◌∙◌}
 use Rattle.std.proofs.lemmas.List.{take_more_same, get_or-map, length-map}
-use Rattle.sf_polish.specs.declared.expr.Token.TheVariants as token
-use Rattle.sf_bounds.specs.declared.net_frame.NetFrame.{NetFrame}
 use Rattle.sf_frames.specs.Kept.{no_token}
 use Rattle.sf_bounds.specs.Rows.{token_of}
 use Rattle.sf_bounds.proofs.NetKept.{no_frame}

@@ -1,36 +1,48 @@
-use Rattle.std.proofs.Common.{◌≡◌, ◌+◌, ◌<◌, ◌++◌, length, map, refl, sym, ap, ◌∙◌, subst, arith}
+use Rattle.std.proofs.Common.{◌++◌, length, map, refl, sym, ap, ◌∙◌, subst, arith}
 use Rattle.std.specs.Prelude.{sum_by}
 use Rattle.std.specs.List.{range_with_len}
-use Rattle.sf_bounds.specs.Rows.{AreStored, joined_cell, part_of}
+use Rattle.sf_bounds.specs.Rows.{AreStored, weights_of, joined_cell, weighed_cell}
 use Rattle.sf_bounds.proofs.NetKept.{stored-longer}
 use Rattle.sf_bounds.proofs.NetPushed.{modest-left, modest-right, pushed-fits, joined-pushed}
+use Rattle.sf_bounds.proofs.Weights.{length-weights, few-weighed}
 use Rattle.sf_bounds.proofs.net_push.push_joined.Goals as goal
+
+pub join_rows-requires-clause-few : goal.join_rows-requires-clause-few
+join_rows-requires-clause-few c =
+    omega (arith, ap length c.deref.ensures.value, ap length c.requires.kept.weights, length-weights c.args.design.now.nets, few-weighed c.args.design.now)
 
 pub join_rows-requires-clause-near : goal.join_rows-requires-clause-near
 join_rows-requires-clause-near c =
     let N = c.args.nets.now in
-    λ j lt. pushed-fits c.args.design.now c.args.node.now N.cells.items N.blocks.items N.start N.frames.items c.args.direction c.top_pair.result.0 c.top_pair.result.1 c.requires.subproblem c.requires.kept c.requires.next c.top_pair.ensures j (omega (arith, lt, ap length c.as_slice-count.ensures))
+    let n = ap length c.deref.ensures.value ∙ ap length c.requires.kept.weights ∙ length-weights c.args.design.now.nets in
+    λ j lt. pushed-fits c.args.design.now c.args.node.now N.cells.items N.blocks.items N.start N.frames.items c.args.direction c.top_pair.result.0 c.top_pair.result.1 c.requires.subproblem c.requires.kept.stored c.requires.next c.top_pair.ensures j (omega (arith, lt, n))
 
 pub returns-in_err-sum-clause-kept : goal.returns-in_err-sum-clause-kept
 returns-in_err-sum-clause-kept c =
     let N = c.args.nets.now in
-    stored-longer c.args.design.now c.args.node.now.tokens N.cells.items c.join_rows.new.cells.items N.blocks.items N.start N.frames.items c.requires.kept c.in_err-sum.ensures.fit c.in_err-sum.ensures.longer
+    record {
+      weights = c.requires.kept.weights;
+      stored = stored-longer c.args.design.now c.args.node.now.tokens N.cells.items c.join_rows.new.cells.items N.blocks.items N.start N.frames.items c.requires.kept.stored c.in_err-sum.ensures.fit c.in_err-sum.ensures.longer;
+    }
 
 pub joined_extent-requires-clause-first : goal.joined_extent-requires-clause-first
 joined_extent-requires-clause-first c =
     let N = c.args.nets.now in
-    modest-left c.args.design.now c.args.node.now N.cells.items N.blocks.items N.start N.frames.items c.args.direction c.top_pair.result.0 c.top_pair.result.1 c.requires.subproblem c.requires.kept c.requires.next c.top_pair.ensures
+    modest-left c.args.design.now c.args.node.now N.cells.items N.blocks.items N.start N.frames.items c.args.direction c.top_pair.result.0 c.top_pair.result.1 c.requires.subproblem c.requires.kept.stored c.requires.next c.top_pair.ensures
 
 pub joined_extent-requires-clause-second : goal.joined_extent-requires-clause-second
 joined_extent-requires-clause-second c =
     let N = c.args.nets.now in
-    modest-right c.args.design.now c.args.node.now N.cells.items N.blocks.items N.start N.frames.items c.args.direction c.top_pair.result.0 c.top_pair.result.1 c.requires.subproblem c.requires.kept c.requires.next c.top_pair.ensures
+    modest-right c.args.design.now c.args.node.now N.cells.items N.blocks.items N.start N.frames.items c.args.direction c.top_pair.result.0 c.top_pair.result.1 c.requires.subproblem c.requires.kept.stored c.requires.next c.top_pair.ensures
 
 pub returns-in_err-push-clause-kept : goal.returns-in_err-push-clause-kept
 returns-in_err-push-clause-kept c =
     let N = c.args.nets.now in
-    subst (AreStored c.args.design.now c.args.node.now.tokens c.join_rows.new.cells.items N.blocks.items N.start) (sym c.in_err-push.ensures.items)
-    (stored-longer c.args.design.now c.args.node.now.tokens N.cells.items c.join_rows.new.cells.items N.blocks.items N.start N.frames.items c.requires.kept c.in_ok-sum.ensures.fit c.in_ok-sum.ensures.longer)
+    record {
+      weights = c.requires.kept.weights;
+      stored = subst (AreStored c.args.design.now c.args.node.now.tokens c.join_rows.new.cells.items N.blocks.items N.start) (sym c.in_err-push.ensures.items)
+          (stored-longer c.args.design.now c.args.node.now.tokens N.cells.items c.join_rows.new.cells.items N.blocks.items N.start N.frames.items c.requires.kept.stored c.in_ok-sum.ensures.fit c.in_ok-sum.ensures.longer);
+    }
 
 pub returns-clause-kept : goal.returns-clause-kept
 returns-clause-kept c =
@@ -39,11 +51,15 @@ returns-clause-kept c =
     let l = c.top_pair.result.0 in
     let r = c.top_pair.result.1 in
     let u = c.wires_after-under.result in
-    let count = ap length c.as_slice-count.ensures in
+    let weights = c.deref.ensures.value ∙ c.requires.kept.weights in
+    let count = ap length weights ∙ length-weights D.nets in
     let f = joined_cell N.cells.items c.args.direction l.extent l.row r.row u.at in
-    joined-pushed D c.args.node.now N.cells.items N.blocks.items N.start N.frames.items c.args.direction l r c.requires.subproblem c.requires.kept c.requires.next c.top_pair.ensures u c.wires_after-under.ensures
-    c.join_rows.new.cells.items c.push.new.self.items _ c.in_ok-sum.ensures.fit
-    (c.in_ok-sum.ensures.row ∙ ap (λ n. N.cells.items ++ map f (range_with_len 0 n)) count)
-    c.operator.ensures c.joined_extent.ensures refl (omega (arith, c.len-at.ensures)) (omega (arith, c.len-at.ensures))
-    (c.in_ok-sum.ensures.sum ∙ ap (λ n. sum_by part_of (map f (range_with_len 0 n))) count)
-    (omega (arith, c.in_ok-sum.ensures.small, count)) (omega (arith, c.len-end.ensures)) c.in_ok-push.ensures.items
+    record {
+      weights = c.requires.kept.weights;
+      stored = joined-pushed D c.args.node.now N.cells.items N.blocks.items N.start N.frames.items c.args.direction l r c.requires.subproblem c.requires.kept.stored c.requires.next c.top_pair.ensures u c.wires_after-under.ensures
+          c.join_rows.new.cells.items c.push.new.self.items _ c.in_ok-sum.ensures.fit
+          (c.in_ok-sum.ensures.row ∙ ap (λ n. N.cells.items ++ map f (range_with_len 0 n)) count)
+          c.operator.ensures c.joined_extent.ensures refl (omega (arith, c.len-at.ensures)) (omega (arith, c.len-at.ensures))
+          (c.in_ok-sum.ensures.sum ∙ ap (λ ws. sum_by (weighed_cell ws f) (range_with_len 0 (length ws))) weights ∙ ap (λ n. sum_by (weighed_cell (weights_of D.nets) f) (range_with_len 0 n)) (length-weights D.nets))
+          (omega (arith, c.in_ok-sum.ensures.small, count)) (omega (arith, c.len-end.ensures)) c.in_ok-push.ensures.items;
+    }

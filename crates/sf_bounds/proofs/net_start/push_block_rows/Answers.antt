@@ -1,4 +1,4 @@
-use Rattle.std.proofs.Common.{◌≡◌, ◌<◌, length, get_or, ap, ◌∙◌, arith}
+use Rattle.std.proofs.Common.{◌<◌, length, get_or, ap, ◌∙◌, arith}
 use Rattle.sf_model.specs.Legal.{block_count}
 use Rattle.sf_standard.specs.declared.hull.Extent.{Extent}
 use Rattle.sf_bounds.proofs.NetStarted.{block-more}

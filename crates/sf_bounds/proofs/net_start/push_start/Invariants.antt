@@ -1,14 +1,14 @@
-use Rattle.std.proofs.Common.{◌≡◌, ◌++◌, ◌*◌, ◌≤◌, map, take, All}
+use Rattle.std.proofs.Common.{◌≡◌, ◌++◌, ◌*◌, ◌≤◌, map, take, length, All}
 use Rattle.std.specs.Prelude.{sum_by}
 use Rattle.sf_node.specs.Subproblem.{root}
-use Rattle.sf_standard.specs.Standard.{net_part}
-use Rattle.sf_bounds.specs.Rows.{start_cell, IsFitCell}
+use Rattle.sf_standard.specs.Standard.{weighed_part}
+use Rattle.sf_bounds.specs.Rows.{of_weight, start_cell, IsFitCell}
 use Rattle.sf_bounds.proofs.net_start.push_start.Given as goal
 
 abbrev pub invariant-loop-net : goal.invariant-loop-net
 invariant-loop-net l = record {
-  row : l.cells.items ≡ l.initial.cells.items ++ map (start_cell l.design) (take l.net-index l.design.nets);
-  sum : l.sum ≡ sum_by (net_part l.design (root l.design)) (take l.net-index l.design.nets);
-  small : l.sum ≤ 2800000000 * l.net-index;
+  row : l.cells.items ≡ l.initial.cells.items ++ map (start_cell l.design) (of_weight (take l.net-index l.design.nets));
+  sum : l.sum ≡ sum_by (weighed_part l.design (root l.design)) (take l.net-index l.design.nets);
+  small : l.sum ≤ 714000000000 * length (of_weight (take l.net-index l.design.nets));
   fit : All IsFitCell l.cells.items;
 }
