@@ -1,5 +1,5 @@
 -- Which blocks are there, one step on and one step back.
-use Rattle.std.proofs.Common.{◌≡◌, ℕ, suc, ◌+◌, ◌-◌, ◌*◌, ◌<◌, ◌≤◌, List, [], ◌∷◌, ◌++◌, length, get_or, set, length-set, length-append, arith, refl, ap, sym, subst, ◌∙◌, Bool, true, false, not, cond, inl, inr, ◌==◌}
+use Rattle.std.proofs.Common.{◌≡◌, ℕ, ◌+◌, ◌*◌, ◌<◌, ◌≤◌, List, [], ◌∷◌, ◌++◌, length, get_or, set, length-set, length-append, arith, refl, ap, sym, subst, ◌∙◌, Bool, true, false, not, cond, inl, inr, ◌==◌}
 use Rattle.std.specs.Prelude.{count_by, nat_le, ◌&&◌}
 use Rattle.std.proofs.lemmas.Bool.{cases_eq}
 use Rattle.std.proofs.lemmas.Bool.Decides.{nat_tests}

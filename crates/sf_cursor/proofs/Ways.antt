@@ -1,9 +1,10 @@
 -- The levels of a way, one step on and one step back.
-use Rattle.std.proofs.Common.{◌≡◌, ℕ, suc, ◌+◌, ◌-◌, ◌<◌, ◌≤◌, List, [], ◌∷◌, ◌++◌, map, take, length, get_or, Bool, arith, refl, ap, sym, subst, ◌∙◌, true, false, Some}
+use Rattle.std.proofs.Common.{◌≡◌, ℕ, suc, ◌+◌, ◌-◌, ◌<◌, ◌≤◌, List, [], ◌∷◌, ◌++◌, map, take, length, get_or, Bool, arith, refl, ap, sym, subst, ◌∙◌, true, false, Option, Some}
 use Prim.Native.Nat.{zero}
-use Rattle.std.specs.Prelude.{slice_get, replicate}
+use Rattle.std.specs.Prelude.{slice_get, replicate, IfSome}
 use Rattle.std.specs.List.{AllByRecursion}
 use Rattle.std.proofs.lemmas.List.{same_from_push, nil_from_length, length_push, length-replicate, length-map, get_or-replicate}
+use Rattle.std.proofs.lemmas.Option.{IfSome_then}
 use Rattle.sf_model.specs.declared.design.Design.{Design}
 use Rattle.sf_model.specs.Legal.{block_count}
 use Rattle.sf_polish.specs.Normal.{operands}
@@ -14,33 +15,57 @@ use Rattle.sf_node.specs.Subproblem.{root}
 use Rattle.sf_node.specs.Children.{after, walk, extended, split, CanStep, IsSubproblem}
 use Rattle.sf_node.specs.Later.{later, extending, behind, pending, halved, HalvesOne, IsChildOf}
 use Rattle.sf_node.proofs.Reached.{steps-after, after-subproblem, subproblem-spans, spans-after}
-use Rattle.sf_node.proofs.Later.{IsStep, came-from, entered, behind-after, later-can, extending-can, extending-is}
+use Rattle.sf_node.proofs.Later.{came-from, entered, behind-after, later-can, extending-can, extending-is}
 use Rattle.sf_cursor.specs.declared.level.Level.{Level}
-use Rattle.sf_cursor.specs.Path.{Path, level_at, levels_of, AreUsed, marked, named, NamesOne, IsPath, IsBack}
+use Rattle.sf_cursor.specs.Path.{Path, IsLevel, AreLevels, AreUsed, marked, named, NamesOne, IsPath, IsBack}
 use Rattle.sf_cursor.proofs.Flags.{used-on, used-back, operands-after, names-one}
 
-levels-append : (bound : Parts → ℕ) (node : Parts) (ss : List Step) (s : Step) → levels_of bound node (ss ++ s ∷ []) ≡ levels_of bound node ss ++ level_at bound (walk node ss) s ∷ []
-levels-append bound node [] s = refl
-levels-append bound node (x ∷ ss) s = ap (λ z. level_at bound node x ∷ z) (levels-append bound (after node x) ss s)
+-- one step more
+levels-on : (bound : Parts → ℕ) (node : Parts) (ss : List Step) (ls : List Level) (s : Step) (level : Level) → AreLevels bound node ss ls → IsLevel bound (walk node ss) s level → AreLevels bound node (ss ++ s ∷ []) (ls ++ level ∷ [])
+levels-on bound node [] [] s level all here = (here, tt)
+levels-on bound node [] (l ∷ ls) s level all here = absurd all
+levels-on bound node (x ∷ ss) [] s level all here = absurd all
+levels-on bound node (x ∷ ss) (l ∷ ls) s level all here = (all.0, levels-on bound (after node x) ss ls s level all.1 here)
 
-pub levels-many : (bound : Parts → ℕ) (node : Parts) (ss : List Step) → length (levels_of bound node ss) ≡ length ss
-levels-many bound node [] = refl
-levels-many bound node (s ∷ ss) = omega (arith, levels-many bound (after node s) ss)
+-- one step fewer
+record AreBefore (bound : Parts → ℕ) (node : Parts) (ss : List Step) (ls : List Level) (s : Step) (level : Level) : Type 0 where
+  levels : AreLevels bound node ss ls
+  last : IsLevel bound (walk node ss) s level
 
-levels-after : (design : Design) (bound : Parts → ℕ) (node : Parts) (s : Step) → IsSubproblem design node → levels_of bound (root design) (after node s).steps ≡ levels_of bound (root design) node.steps ++ level_at bound node s ∷ []
-levels-after design bound node s sub =
-    ap (levels_of bound (root design)) (steps-after node s) ∙ levels-append bound (root design) node.steps s
-    ∙ ap (λ n. levels_of bound (root design) node.steps ++ level_at bound n s ∷ []) (sym sub.is)
+none-left : (bound : Parts → ℕ) (node : Parts) (ls : List Level) (level : Level) → AreLevels bound node [] (ls ++ level ∷ []) → ⊥
+none-left bound node [] level all = all
+none-left bound node (l ∷ ls) level all = all
 
-pub path-on : (design : Design) (bound : Parts → ℕ) (old new : Path) (s : Step) (level : Level) → IsPath design bound old → CanStep old.node s → level ≡ level_at bound old.node s → new.node ≡ after old.node s → new.levels ≡ old.levels ++ level ∷ []
+some-left : (bound : Parts → ℕ) (node : Parts) (ss : List Step) (s : Step) → AreLevels bound node (ss ++ s ∷ []) [] → ⊥
+some-left bound node [] s all = all
+some-left bound node (x ∷ ss) s all = all
+
+levels-back : (bound : Parts → ℕ) (node : Parts) (ss : List Step) (ls : List Level) (s : Step) (level : Level) → AreLevels bound node (ss ++ s ∷ []) (ls ++ level ∷ []) → AreBefore bound node ss ls s level
+levels-back bound node [] [] s level all = record { levels = tt; last = all.0 }
+levels-back bound node [] (l ∷ ls) s level all = absurd (none-left bound (after node s) ls level all.1)
+levels-back bound node (x ∷ ss) [] s level all = absurd (some-left bound (after node x) ss s all.1)
+levels-back bound node (x ∷ ss) (l ∷ ls) s level all =
+    let before = levels-back bound (after node x) ss ls s level all.1 in
+    record { levels = (all.0, before.levels); last = before.last }
+
+pub levels-many : (bound : Parts → ℕ) (node : Parts) (ss : List Step) (ls : List Level) → AreLevels bound node ss ls → length ls ≡ length ss
+levels-many bound node [] [] all = refl
+levels-many bound node [] (l ∷ ls) all = absurd all
+levels-many bound node (s ∷ ss) [] all = absurd all
+levels-many bound node (s ∷ ss) (l ∷ ls) all = omega (arith, levels-many bound (after node s) ss ls all.1)
+
+pub path-on : (design : Design) (bound : Parts → ℕ) (old new : Path) (s : Step) (level : Level) → IsPath design bound old → CanStep old.node s → IsLevel bound old.node s level → new.node ≡ after old.node s → new.levels ≡ old.levels ++ level ∷ []
     → new.used ≡ marked old.used s true → new.operands ≡ old.operands + named s → IsPath design bound new
-path-on design bound old new s level at can l n ls u o = record {
-  sub = subst (IsSubproblem design) (sym n) (after-subproblem design old.node s at.sub can);
-  levels = ls ∙ ap (λ z. z ++ level ∷ []) at.levels ∙ ap (λ z. levels_of bound (root design) old.node.steps ++ z ∷ []) l
-      ∙ sym (levels-after design bound old.node s at.sub) ∙ ap (λ z. levels_of bound (root design) z.steps) (sym n);
-  used = subst (λ m. AreUsed m new.used) (sym n) (subst (AreUsed (after old.node s)) (sym u) (used-on old.node s old.used can at.used));
-  operands = omega (arith, o, at.operands, operands-after old.node s, ap (λ (m : Parts). operands m.tokens) n);
-}
+path-on design bound old new s level at can l n ls u o =
+    let steps : new.node.steps ≡ old.node.steps ++ s ∷ [] = ap (λ (m : Parts). m.steps) n ∙ steps-after old.node s in
+    record {
+      sub = subst (IsSubproblem design) (sym n) (after-subproblem design old.node s at.sub can);
+      levels = subst (AreLevels bound (root design) new.node.steps) (sym ls)
+          (subst (λ ss. AreLevels bound (root design) ss (old.levels ++ level ∷ [])) (sym steps)
+          (levels-on bound (root design) old.node.steps old.levels s level at.levels (subst (λ m. IsLevel bound m s level) at.sub.is l)));
+      used = subst (λ m. AreUsed m new.used) (sym n) (subst (AreUsed (after old.node s)) (sym u) (used-on old.node s old.used can at.used));
+      operands = omega (arith, o, at.operands, operands-after old.node s, ap (λ (m : Parts). operands m.tokens) n);
+    }
 
 -- the level that is taken off is that of the last step
 pub path-back : (design : Design) (bound : Parts → ℕ) (old new : Path) (front : List Step) (s : Step) (level : Level) → IsPath design bound old → old.node.steps ≡ front ++ s ∷ [] → old.levels ≡ new.levels ++ level ∷ []
@@ -49,30 +74,30 @@ pub path-back : (design : Design) (bound : Parts → ℕ) (old new : Path) (fron
 path-back design bound old new front s level at e ls leaves u o =
     let from = came-from design old.node front s at.sub e in
     let before = walk (root design) front in
-    let same : new.levels ++ level ∷ [] ≡ levels_of bound (root design) front ++ level_at bound before s ∷ [] =
-    sym ls ∙ at.levels ∙ ap (levels_of bound (root design)) e ∙ levels-append bound (root design) front s in
-    let parts = same_from_push new.levels (levels_of bound (root design) front) level (level_at bound before s) same in
-    let here : new.node ≡ before = leaves before from.is (ap (λ (l : Level). l.span) parts.1) in
+    let both : AreLevels bound (root design) (front ++ s ∷ []) (new.levels ++ level ∷ []) =
+    subst (AreLevels bound (root design) (front ++ s ∷ [])) ls (subst (λ ss. AreLevels bound (root design) ss old.levels) e at.levels) in
+    let parts = levels-back bound (root design) front new.levels s level both in
+    let here : new.node ≡ before = leaves before from.is parts.last.span in
     let steps : before.steps ≡ front = (same_from_push before.steps front s s (sym (steps-after before s) ∙ ap (λ (n : Parts). n.steps) (sym from.is) ∙ e)).0 in
     record {
       at = record {
         sub = subst (IsSubproblem design) (sym here) from.sub;
-        levels = parts.0 ∙ ap (levels_of bound (root design)) (sym steps) ∙ ap (λ (n : Parts). levels_of bound (root design) n.steps) (sym here);
+        levels = subst (λ ss. AreLevels bound (root design) ss new.levels) (sym (ap (λ (n : Parts). n.steps) here ∙ steps)) parts.levels;
         used = subst (λ m. AreUsed m new.used) (sym here) (subst (AreUsed before) (sym u) (used-back before s old.used from.can (subst (λ m. AreUsed m old.used) from.is at.used)));
         operands = omega (arith, o, at.operands, ap (λ (m : Parts). operands m.tokens) from.is, operands-after before s, ap (λ (m : Parts). operands m.tokens) here);
       };
       can = subst (λ n. CanStep n s) (sym here) from.can;
       is = from.is ∙ ap (λ n. after n s) (sym here);
-      worth = ap (λ (l : Level). l.value) parts.1 ∙ ap bound (sym here);
+      worth = subst (λ n. IfSome level.value (λ v. v ≡ bound n)) (sym here) parts.last.worth;
     }
 
 -- past a subproblem whose last step has no later one
-pub passed : (design : Design) (bound : Parts → ℕ) (old : Parts) (s : Step) (value : ℕ) (new : Path) → IsBack design bound old s value new → later new.node s ≡ [] → behind (root design) old.steps ≡ behind (root design) new.node.steps
+pub passed : (design : Design) (bound : Parts → ℕ) (old : Parts) (s : Step) (value : Option ℕ) (new : Path) → IsBack design bound old s value new → later new.node s ≡ [] → behind (root design) old.steps ≡ behind (root design) new.node.steps
 passed design bound old s value new back none =
     ap (λ (n : Parts). behind (root design) n.steps) back.is ∙ behind-after design new.node s back.at.sub ∙ ap (λ z. map (after new.node) z ++ behind (root design) new.node.steps) none
 
 -- past a subproblem, over to the step that comes next
-pub turned : (design : Design) (bound : Parts → ℕ) (old : Parts) (s next : Step) (value : ℕ) (new : Path) (child : Parts) → IsBack design bound old s value new → later new.node s ≡ next ∷ later new.node next → child ≡ after new.node next → pending design true child ≡ behind (root design) old.steps
+pub turned : (design : Design) (bound : Parts → ℕ) (old : Parts) (s next : Step) (value : Option ℕ) (new : Path) (child : Parts) → IsBack design bound old s value new → later new.node s ≡ next ∷ later new.node next → child ≡ after new.node next → pending design true child ≡ behind (root design) old.steps
 turned design bound old s next value new child back e is =
     ap (pending design true) is ∙ sym (entered design new.node next (later new.node s) back.at.sub e) ∙ sym (behind-after design new.node s back.at.sub) ∙ ap (λ (n : Parts). behind (root design) n.steps) (sym back.is)
 
@@ -94,9 +119,6 @@ split-first design node child b sub is = ap (pending design true) is ∙ sym (en
 
 pub few-spans : (design : Design) (bound : Parts → ℕ) (path : Path) → IsPath design bound path → length path.node.spans ≤ 320
 few-spans design bound path at = omega (arith, subproblem-spans design path.node at.sub, design.limits.few_blocks)
-
-pub same-level : (v w : ℕ) (s t : ℕ × ℕ) → v ≡ w → s ≡ t → ◌≡◌ {A = Level} (record { value = v; span = s }) (record { value = w; span = t })
-same-level v w s t e k = cc
 
 -- a list that has a last item
 last-at : {X : Type 0} (xs : List X) (i : ℕ) (x : X) → i + 1 ≡ length xs → Some x ≡ slice_get xs i → xs ≡ take i xs ++ x ∷ []
@@ -138,19 +160,19 @@ has-last (x ∷ y ∷ ys) h =
     let more = has-last (y ∷ ys) (omega arith) in
     record { front = x ∷ more.front; last = more.last; is = ap (λ z. x ∷ z) more.is }
 
--- the last level has the value of the subproblem one step before
-pub level-above : (design : Design) (bound : Parts → ℕ) (path : Path) (levels : List Level) (level : Level) → IsPath design bound path → levels ≡ path.levels → Some level ≡ slice_get levels (length levels - 1) → IsChildOf design bound level.value path.node
+-- the last level has the value of the subproblem one step before, where it has one
+pub level-above : (design : Design) (bound : Parts → ℕ) (path : Path) (levels : List Level) (level : Level) → IsPath design bound path → levels ≡ path.levels → Some level ≡ slice_get levels (length levels - 1) → IfSome level.value (λ value. IsChildOf design bound value path.node)
 level-above design bound path levels level at same e =
     let all = last-of levels level e in
-    let many : length path.node.steps ≡ length levels = sym (levels-many bound (root design) path.node.steps) ∙ sym (ap length at.levels) ∙ sym (ap length same) in
+    let many : length path.node.steps ≡ length levels = sym (levels-many bound (root design) path.node.steps path.levels at.levels) ∙ sym (ap length same) in
     let here : length levels ≡ length (take (length levels - 1) levels) + 1 = ap length all ∙ length_push (take (length levels - 1) levels) level in
     let h = has-last path.node.steps (omega (arith, many, here)) in
     let from = came-from design path.node h.front h.last at.sub h.is in
     let before = walk (root design) h.front in
-    let both : take (length levels - 1) levels ++ level ∷ [] ≡ levels_of bound (root design) h.front ++ level_at bound before h.last ∷ [] =
-    sym all ∙ same ∙ at.levels ∙ ap (levels_of bound (root design)) h.is ∙ levels-append bound (root design) h.front h.last in
-    let parts = same_from_push (take (length levels - 1) levels) (levels_of bound (root design) h.front) level (level_at bound before h.last) both in
-    record { parent = before; step = h.last; sub = from.sub; can = from.can; is = from.is; worth = ap (λ (l : Level). l.value) parts.1 }
+    let both : AreLevels bound (root design) (h.front ++ h.last ∷ []) (take (length levels - 1) levels ++ level ∷ []) =
+    subst (AreLevels bound (root design) (h.front ++ h.last ∷ [])) (sym same ∙ all) (subst (λ ss. AreLevels bound (root design) ss path.levels) h.is at.levels) in
+    let parts = levels-back bound (root design) h.front (take (length levels - 1) levels) h.last level both in
+    IfSome_then level.value parts.last.worth (λ value worth. record { parent = before; step = h.last; sub = from.sub; can = from.can; is = from.is; worth = worth })
 
 pub root-used : (design : Design) (used : List Bool) → used ≡ replicate (block_count design) false → AreUsed (root design) used
 root-used design used e = record {

@@ -1,5 +1,5 @@
 -- Where a search in preorder stands.
-use Rattle.std.specs.Prelude.{◌≡◌, ℕ, ◌<◌, List, [], ◌∷◌, length, Bool, true, not, slice_index_or, slice_set, ⊤}
+use Rattle.std.specs.Prelude.{◌≡◌, ℕ, ◌<◌, List, [], ◌∷◌, length, Bool, true, not, slice_index_or, slice_set, Option, IfSome, ⊤}
 use Rattle.sf_model.specs.declared.design.Design.{Design}
 use Rattle.sf_polish.specs.Normal.{operands}
 use Rattle.sf_node.specs.declared.step.Step.{Step}
@@ -17,13 +17,17 @@ pub record Path : Type 0 where
   pub used : List Bool
   pub operands : ℕ
 
-abbrev pub level_at : (Parts → ℕ) → Parts → Step → Level
-level_at bound node s = record { value = bound node; span = halved node s }
+-- the level of a step: the span that it halves, and the value of the subproblem before it, where one was told
+pub record IsLevel (bound : Parts → ℕ) (node : Parts) (s : Step) (level : Level) : Type 0 where
+  pub span : level.span ≡ halved node s
+  pub worth : IfSome level.value (λ value. value ≡ bound node)
 
 -- the levels of the way over these steps
-abbrev pub levels_of : (Parts → ℕ) → Parts → List Step → List Level
-levels_of bound node [] = []
-levels_of bound node (s ∷ ss) = level_at bound node s ∷ levels_of bound (after node s) ss
+abbrev pub AreLevels : (Parts → ℕ) → Parts → List Step → List Level → Type 0
+AreLevels bound node [] [] = ⊤
+AreLevels bound node [] (level ∷ levels) = ⊥
+AreLevels bound node (s ∷ ss) [] = ⊥
+AreLevels bound node (s ∷ ss) (level ∷ levels) = IsLevel bound node s level × AreLevels bound (after node s) ss levels
 
 -- for each block by number, whether it is there
 pub record AreUsed (node : Parts) (used : List Bool) : Type 0 where
@@ -57,13 +61,13 @@ NamesOne (Right b) used = ⊤
 -- the way leads from the root
 pub record IsPath (design : Design) (bound : Parts → ℕ) (path : Path) : Type 0 where
   pub sub : IsSubproblem design path.node
-  pub levels : path.levels ≡ levels_of bound (root design) path.node.steps
+  pub levels : AreLevels bound (root design) path.node.steps path.levels
   pub used : AreUsed path.node path.used
   pub operands : path.operands ≡ operands path.node.tokens
 
--- the last step was taken back: it led from here to the subproblem, and this is the value here
-pub record IsBack (design : Design) (bound : Parts → ℕ) (old : Parts) (s : Step) (value : ℕ) (path : Path) : Type 0 where
+-- the last step was taken back: it led from here to the subproblem, and this is the value here, where one was told
+pub record IsBack (design : Design) (bound : Parts → ℕ) (old : Parts) (s : Step) (value : Option ℕ) (path : Path) : Type 0 where
   pub at : IsPath design bound path
   pub can : CanStep path.node s
   pub is : old ≡ after path.node s
-  pub worth : value ≡ bound path.node
+  pub worth : IfSome value (λ v. v ≡ bound path.node)

@@ -62,7 +62,7 @@ fn named(step: Step) -> usize
 }
 
 impl Cursor {
-    ghost use Rattle.std.specs.Prelude.{[], ◌∷◌, ◌++◌, ◌≤◌, true, length, map, IfOk, IfSome, OnOk, MatchOption};
+    ghost use Rattle.std.specs.Prelude.{[], ◌∷◌, ◌++◌, ◌≤◌, ◌==◌, true, length, map, IfOk, IfSome, OnOk, MatchOption};
     ghost use Rattle.sf_node.specs.Subproblem.{root};
     ghost use Rattle.sf_node.specs.Children.{after, extended, split, CanSplit, may_join};
     ghost use Rattle.sf_node.specs.Later.{behind, pending, later, extending, blocks_from, IsChildOf};
@@ -89,27 +89,35 @@ impl Cursor {
         &self.node
     }
 
-    /// The value of the subproblem one step before, if there is one.
+    /// Whether each block is there.
+    pub fn has_each_block(&self) -> bool
+        ensures { result ≡ (self.now.operands == length self.now.used) }
+    {
+        self.operands == self.used.len()
+    }
+
+    /// The value of the subproblem one step before, if there is one and its value was told.
     pub fn parent_value<V: Values>(&self, design: &Design, values: &V) -> Option<u64>
         requires { IsPath design.now (V.value values.now design.now) self.now }
         ensures { IfSome result (λ value. IsChildOf design.now (V.value values.now design.now) value self.now.node) }
     {
         let level = *self.levels.last()?;
-        Some(level.value)
+        level.value
     }
 
     /// Puts a tag down at the subproblem that is next: goes on to the first that the tag makes, or past the subproblem where
-    /// it makes none. No subproblem is next where none is left.
+    /// it makes none. No subproblem is next where none is left. Whoever knows the subproblem's value may tell it, for those
+    /// that the tag makes.
     pub fn follow<V: Values>(
         &mut self,
         design: &Design,
         values: &V,
         tag: Tag,
-        value: u64,
+        value: Option<u64>,
     ) -> Result<bool, NoMemory>
         requires at { IsPath design.now (V.value values.now design.now) self.old }
         requires may { MaySplit tag self.old.node }
-        requires value { value ≡ V.value values.now design.now self.old.node }
+        requires value { IfSome value (λ value. value ≡ V.value values.now design.now self.old.node) }
         ensures at { IfOk result (λ more. IsPath design.now (V.value values.now design.now) self.new) }
         ensures next { IfOk result (λ more. pending design.now more self.new.node ≡ made tag self.old.node ++ behind (root design.now) self.old.node.steps) }
     {
@@ -129,11 +137,11 @@ impl Cursor {
         design: &Design,
         values: &V,
         step: Step,
-        value: u64,
+        value: Option<u64>,
     ) -> Result<(), NoMemory>
         requires at { IsPath design.now (V.value values.now design.now) self.old }
         requires can { CanStep self.old.node step }
-        requires value { value ≡ V.value values.now design.now self.old.node }
+        requires value { IfSome value (λ value. value ≡ V.value values.now design.now self.old.node) }
         ensures at { OnOk result (IsPath design.now (V.value values.now design.now) self.new) }
         ensures node { OnOk result (self.new.node ≡ after self.old.node step) }
     {
@@ -145,8 +153,9 @@ impl Cursor {
         Ok(())
     }
 
-    /// Goes back over the last step, if there is one. The answer is that step, and the value of the subproblem before it.
-    fn leave<V: Values>(&mut self, design: &Design, values: &V) -> Option<(Step, u64)>
+    /// Goes back over the last step, if there is one. The answer is that step, and the value of the subproblem before it, if
+    /// it was told.
+    fn leave<V: Values>(&mut self, design: &Design, values: &V) -> Option<(Step, Option<u64>)>
         requires at { IsPath design.now (V.value values.now design.now) self.old }
         ensures at { IsPath design.now (V.value values.now design.now) self.new }
         ensures back { MatchOption result (self.old.node.steps ≡ []) (λ last. IsBack design.now (V.value values.now design.now) self.old.node last.0 last.1 self.new) }
@@ -241,10 +250,10 @@ impl Cursor {
         &mut self,
         design: &Design,
         values: &V,
-        value: u64,
+        value: Option<u64>,
     ) -> Result<bool, NoMemory>
         requires at { IsPath design.now (V.value values.now design.now) self.old }
-        requires value { value ≡ V.value values.now design.now self.old.node }
+        requires value { IfSome value (λ value. value ≡ V.value values.now design.now self.old.node) }
         ensures at { IfOk result (λ more. IsPath design.now (V.value values.now design.now) self.new) }
         ensures next { IfOk result (λ more. pending design.now more self.new.node ≡ extended self.old.node ++ behind (root design.now) self.old.node.steps) }
     {
@@ -261,11 +270,11 @@ impl Cursor {
         design: &Design,
         values: &V,
         block: u16,
-        value: u64,
+        value: Option<u64>,
     ) -> Result<(), NoMemory>
         requires at { IsPath design.now (V.value values.now design.now) self.old }
         requires wide { CanSplit self.old.node block }
-        requires value { value ≡ V.value values.now design.now self.old.node }
+        requires value { IfSome value (λ value. value ≡ V.value values.now design.now self.old.node) }
         ensures at { OnOk result (IsPath design.now (V.value values.now design.now) self.new) }
         ensures next { OnOk result (pending design.now true self.new.node ≡ split self.old.node block ++ behind (root design.now) self.old.node.steps) }
     {

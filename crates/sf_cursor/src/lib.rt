@@ -1,5 +1,5 @@
 //! Where a search in preorder stands: the subproblem that is next, and for each step of the way to it the value of the
-//! subproblem before the step and the span that the step halved.
+//! subproblem before the step, where one was told, and the span that the step halved.
 //!
 //! The crate stands on `sf_node` for subproblems and on `sf_certificate` for tags. One node is changed in place: a step forward
 //! adds a level, a step back takes it off. Whoever puts tags down in preorder, as a search that makes a certificate and a

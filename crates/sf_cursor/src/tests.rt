@@ -92,7 +92,7 @@ fn walks_in_preorder(rt: HostRuntime) -> Result<(), Fail> {
             "{steps:?}"
         );
         let tag = tag_of(cursor.node());
-        more = cursor.follow(&design, &Seven, tag, 7)?;
+        more = cursor.follow(&design, &Seven, tag, Some(7))?;
     }
     assert!(rt; !more);
     Ok(())

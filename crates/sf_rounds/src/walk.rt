@@ -105,7 +105,7 @@ impl Walk {
         ensures { OnOk result (IsFollowed design.now (V.value values.now design.now) self.old tag self.new) }
     {
         self.tags.push(tag)?;
-        self.more = self.cursor.follow(design, values, tag, value)?;
+        self.more = self.cursor.follow(design, values, tag, Some(value))?;
         Ok(())
     }
 

@@ -1,4 +1,4 @@
-use Rattle.std.proofs.Common.{◌≡◌, ℕ, length}
+use Rattle.std.proofs.Common.{◌≡◌, length}
 use Rattle.sf_node.specs.Subproblem.{root}
 use Rattle.sf_node.specs.Later.{behind}
 use Rattle.sf_cursor.specs.Path.{IsPath}

@@ -1,4 +1,4 @@
-use Rattle.std.proofs.Common.{◌≡◌, ◌<◌, length, arith, ap, ◌∙◌, true, false}
+use Rattle.std.proofs.Common.{◌<◌, length, arith, ap, ◌∙◌, true, false}
 use Rattle.sf_node.proofs.Later.{blocks-used, blocks-unused}
 use Rattle.sf_cursor.proofs.Flags.{flag-of}
 use Rattle.sf_cursor.proofs.Ways.{few-spans}

@@ -1,10 +1,10 @@
-use Rattle.std.proofs.Common.{◌≡◌, ap, ◌∙◌, ◌++◌, ◌∷◌, [], arith, true}
+use Rattle.std.proofs.Common.{ap, ◌∙◌, ◌++◌, ◌∷◌, [], arith, true}
 use Rattle.sf_node.specs.Children.{after}
 use Rattle.sf_node.specs.Later.{halved}
 use Rattle.sf_cursor.specs.declared.level.Level.{Level}
 use Rattle.sf_cursor.specs.Path.{marked}
 use Rattle.sf_cursor.proofs.Flags.{few-operands, named-most}
-use Rattle.sf_cursor.proofs.Ways.{path-on, same-level}
+use Rattle.sf_cursor.proofs.Ways.{path-on}
 use Rattle.sf_cursor.proofs.cursor.Cursor.enter.Goals as goal
 
 pub returns-clause-at : goal.returns-clause-at
@@ -12,7 +12,7 @@ returns-clause-at g c =
     let bound = g.V.Values.value c.args.values.now c.args.design.now in
     let level : Level = record { value = c.args.value; span = c.halved-span.result } in
     path-on c.args.design.now bound c.args.self.now _ c.args.step level c.requires.at c.requires.can
-    (same-level c.args.value (bound c.args.self.now.node) c.halved-span.result (halved c.args.self.now.node c.args.step) c.requires.value (c.halved-span.ensures ∙ ap (λ p. halved p.node c.args.step) c.self.view_is))
+    (record { span = c.halved-span.ensures ∙ ap (λ p. halved p.node c.args.step) c.self.view_is; worth = c.requires.value })
     (c.in_ok-enter.ensures ∙ ap (λ p. after p.node c.args.step) c.self.view_is)
     (c.in_ok-push.ensures.items ∙ ap (λ p. p.levels ++ level ∷ []) c.self.view_is)
     (c.mark.ensures ∙ ap (λ p. marked p.used c.args.step true) c.self.view_is)

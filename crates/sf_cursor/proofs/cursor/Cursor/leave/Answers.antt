@@ -1,4 +1,4 @@
-use Rattle.std.proofs.Common.{◌≡◌, ◌-◌, length, take, ap, subst, sym, ◌∙◌, ◌++◌, ◌∷◌, [], arith, false}
+use Rattle.std.proofs.Common.{◌-◌, length, take, ap, subst, sym, ◌∙◌, arith, false}
 use Rattle.sf_node.specs.Later.{HalvesOne}
 use Rattle.sf_cursor.specs.Path.{marked, NamesOne}
 use Rattle.sf_cursor.proofs.Ways.{last-as, halves-one, path-back, names-back, names-few}
