@@ -50,6 +50,12 @@ IsReady design bound (Opening bytes) = IsPart bytes
 IsReady design bound (Tree body) = IsSteady design bound body.judge
 IsReady design bound (Fault fault) = ⊤
 
+-- the tree is not read
+abbrev pub IsOutside : Stage → Type 0
+IsOutside (Opening bytes) = ⊤
+IsOutside (Tree body) = ⊥
+IsOutside (Fault fault) = ⊤
+
 -- memory was wanting
 abbrev pub IsWanting : Stage → Type 0
 IsWanting stage = stage ≡ Fault NoMemory

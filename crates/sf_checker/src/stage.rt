@@ -5,6 +5,7 @@ ghost use Rattle.sf_model.specs.Legal.{block_count};
 ghost use Rattle.sf_certificate.specs.declared.fault.CertFault.TheVariants.{NoMemory};
 ghost use Rattle.sf_certificate.specs.Bytes.{IsHeader};
 ghost use Rattle.sf_certificate.specs.Reading.{cert_read};
+ghost use Rattle.sf_checker.specs.declared.stage.Stage.TheVariants as stages;
 ghost use Rattle.sf_checker.specs.Feeding.{IsAnswerTo};
 
 use crate::answer::Answer;
@@ -112,7 +113,7 @@ impl<'a> Body<'a> {
 }
 
 impl<'a> Stage<'a> {
-    ghost use Rattle.sf_checker.specs.Feeding.{IsAnswerTo, IsFaulty, IsReady, IsStage, IsWanting};
+    ghost use Rattle.sf_checker.specs.Feeding.{IsAnswerTo, IsFaulty, IsOutside, IsReady, IsStage, IsWanting};
 
     fn is_wanting(&self) -> bool
         ensures { IsTrue result ↔ IsWanting self.now }
@@ -156,9 +157,21 @@ impl<'a> Stage<'a> {
         ensures fed { (text : List ℕ) → IsStage design.now (B.Values.value bounds.now design.now) text self.old → OnOk result (IsStage design.now (B.Values.value bounds.now design.now) (text ++ byte ∷ []) self.new) }
         ensures spent { OnErr result (IsWanting self.new) }
     {
-        let Err(fault) = self.advance(alloc, design, bounds, byte) else {
-            return Ok(());
-        };
+        match self.advance(alloc, design, bounds, byte) {
+            Ok(()) => Ok(()),
+            Err(fault) => self.stop(fault),
+        }
+    }
+
+    /// The text is at fault from now on. Apart, as `begin` is, so that no call for a byte of the tree has a whole stage among
+    /// its locals.
+    #[cold]
+    #[inline(never)]
+    fn stop(&mut self, fault: CertFault) -> Result<(), AllocError>
+        ensures stage { self.new ≡ stages.Fault fault }
+        ensures found { OnOk result (fault ≢ NoMemory) }
+        ensures wanting { OnErr result (fault ≡ NoMemory) }
+    {
         *self = Stage::Fault(fault);
         match fault {
             CertFault::NoMemory => Err(AllocError),
@@ -180,13 +193,35 @@ impl<'a> Stage<'a> {
         ensures fault { (text : List ℕ) → IsStage design.now (B.Values.value bounds.now design.now) text self.old → IfErr result (λ e. e ≢ NoMemory → IsFaulty design.now (text ++ byte ∷ []) e) }
     {
         match self {
+            Stage::Tree(body) => body.take(design, bounds, byte),
+            Stage::Opening(_) | Stage::Fault(_) => self.begin(alloc, design, bounds, byte),
+        }
+    }
+
+    /// The same outside of the tree.
+    #[cold]
+    #[inline(never)]
+    fn begin<B: Bounds>(
+        &mut self,
+        alloc: Global,
+        design: &'a Design,
+        bounds: &B,
+        byte: u8,
+    ) -> Result<(), CertFault>
+        requires ready { IsReady design.now (B.Values.value bounds.now design.now) self.old }
+        requires outside { IsOutside self.old }
+        ensures ready { OnOk result (IsReady design.now (B.Values.value bounds.now design.now) self.new) }
+        ensures fed { (text : List ℕ) → IsStage design.now (B.Values.value bounds.now design.now) text self.old → OnOk result (IsStage design.now (B.Values.value bounds.now design.now) (text ++ byte ∷ []) self.new) }
+        ensures fault { (text : List ℕ) → IsStage design.now (B.Values.value bounds.now design.now) text self.old → IfErr result (λ e. e ≢ NoMemory → IsFaulty design.now (text ++ byte ∷ []) e) }
+    {
+        match self {
             Stage::Opening(opening) => {
                 if opening.take(byte)? {
                     *self = Stage::Tree(Body::new(alloc, design, bounds, opening)?);
                 }
                 Ok(())
             }
-            Stage::Tree(body) => body.take(design, bounds, byte),
+            Stage::Tree(_) => unreachable!(),
             Stage::Fault(fault) => Err(*fault),
         }
     }
