@@ -1,17 +1,26 @@
 -- What a shelf in memory shows of itself.
-use Rattle.std.specs.Prelude.{ℕ, List}
+use Rattle.std.specs.Prelude.{ℕ, List, [], ◌∷◌, Bool, true, false}
 use Rattle.std.specs.Option.{option_map}
 use Rattle.std.specs.BTreeMap.{get_by_text}
 use Rattle.sf_io.specs.declared.memory.MemShelf.{MemShelf}
-use Rattle.sf_io.specs.Outside.{Contents}
+use Rattle.sf_io.specs.Outside.{Contents, Held}
 
 -- the bytes under each name
-abbrev pub mem_texts : MemShelf → Contents
+abbrev pub mem_texts : MemShelf → Held
 mem_texts s name = option_map (λ v. v.items) (get_by_text s.texts name)
 
 -- the numbers of the calls that are to fail
 abbrev pub mem_failing : MemShelf → List ℕ
 mem_failing s = s.failing.items
+
+-- some call is to fail
+abbrev pub is_any : List ℕ → Bool
+is_any [] = false
+is_any (call ∷ calls) = true
+
+-- the texts, and whether a load may fail although its name has one
+abbrev pub mem_contents : MemShelf → Contents
+mem_contents s = record { held = mem_texts s; may_fail = is_any (mem_failing s) }
 
 -- how many loads and stores were made, up to the end of u64
 abbrev pub mem_calls : MemShelf → ℕ

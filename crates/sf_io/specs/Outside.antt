@@ -1,9 +1,14 @@
 -- What a shelf holds, what a sink took, and when a fault was counted.
-use Rattle.std.specs.Prelude.{◌≡◌, ◌≢◌, ◌⊎◌, ℕ, ◌+◌, ◌-◌, ◌^◌, ◌<◌, ◌≤◌, min, List, length, Option, None, Some, ⊤, ◌++◌}
+use Rattle.std.specs.Prelude.{◌≡◌, ◌≢◌, ◌⊎◌, ℕ, ◌+◌, ◌-◌, ◌^◌, ◌<◌, ◌≤◌, min, List, length, Option, None, Some, ⊤, Bool, IsTrue, ◌++◌}
 
 -- the bytes under each name, and None where no text has that name
-abbrev pub Contents : Type 0
-Contents = List ℕ → Option (List ℕ)
+abbrev pub Held : Type 0
+Held = List ℕ → Option (List ℕ)
+
+-- what a shelf tells: the bytes under each name, and whether a load may fail although its name has a text
+pub record Contents : Type 0 where
+  pub held : Held
+  pub may_fail : Bool
 
 -- one more, up to the greatest number of u64
 abbrev pub one_more : ℕ → ℕ
@@ -16,23 +21,28 @@ Rose before now = one_more before ≤ now
 -- where the contents are told, the name holds these bytes
 abbrev pub Holds : Option Contents → List ℕ → List ℕ → Type 0
 Holds None name bytes = ⊤
-Holds (Some contents) name bytes = contents name ≡ Some bytes
+Holds (Some contents) name bytes = contents.held name ≡ Some bytes
 
 -- where the contents are told, the name holds more bytes than the limit
 abbrev pub HoldsMore : Option Contents → List ℕ → ℕ → Type 0
 HoldsMore None name limit = ⊤
 HoldsMore (Some contents) name limit =
-    (bytes : List ℕ) × (contents name ≡ Some bytes) × (limit < length bytes)
+    (bytes : List ℕ) × (contents.held name ≡ Some bytes) × (limit < length bytes)
+
+-- where the contents are told, a load of the name may fail: no text has the name, or any load may fail
+abbrev pub MayFail : Option Contents → List ℕ → Type 0
+MayFail None name = ⊤
+MayFail (Some contents) name = IsTrue contents.may_fail ⊎ (contents.held name ≡ None)
 
 -- each other name holds what it held
-abbrev pub KeepsOthers : Contents → Contents → List ℕ → Type 0
+abbrev pub KeepsOthers : Held → Held → List ℕ → Type 0
 KeepsOthers old new name = (other : List ℕ) → other ≢ name → new other ≡ old other
 
 -- where the contents are told, the name now holds these bytes, and each other name what it held
 abbrev pub Stores : Option Contents → Option Contents → List ℕ → List ℕ → Type 0
 Stores None new name bytes = ⊤
 Stores (Some old) None name bytes = ⊥
-Stores (Some old) (Some new) name bytes = (new name ≡ Some bytes) × KeepsOthers old new name
+Stores (Some old) (Some new) name bytes = (new.held name ≡ Some bytes) × KeepsOthers old.held new.held name
 
 -- the old text, or a prefix of these bytes
 abbrev pub HoldsPart : Option (List ℕ) → Option (List ℕ) → List ℕ → Type 0
@@ -43,7 +53,7 @@ HoldsPart old new bytes =
 abbrev pub StoresPart : Option Contents → Option Contents → List ℕ → List ℕ → Type 0
 StoresPart None new name bytes = ⊤
 StoresPart (Some old) None name bytes = ⊥
-StoresPart (Some old) (Some new) name bytes = HoldsPart (old name) (new name) bytes × KeepsOthers old new name
+StoresPart (Some old) (Some new) name bytes = HoldsPart (old.held name) (new.held name) bytes × KeepsOthers old.held new.held name
 
 -- what was taken, where it is told, grew by a prefix of the text
 abbrev pub Took : Option (List ℕ) → Option (List ℕ) → List ℕ → Type 0

@@ -1,7 +1,7 @@
 // A shelf and a sink in memory, whose calls fail where a list says so.
 ghost use Rattle.std.specs.Prelude.{◌≡◌, ◌↔◌, ℕ, ◌≤◌, ◌<◌, ◌⊎◌, List, [], ◌++◌, length, Some, None, IfOk, OnOk, OnErr, IsErr, IsErrOf, Contains};
 ghost use Rattle.std.specs.Option.{option_map};
-ghost use Rattle.sf_io.specs.Outside.{one_more, HoldsMore, Stores, StoresPart, KeepsOthers};
+ghost use Rattle.sf_io.specs.Outside.{one_more, HoldsMore, MayFail, Stores, StoresPart, KeepsOthers};
 
 use crate::{Failed, LoadFault, Shelf, Sink};
 use std::alloc::{AllocError as NoMemory, Global};
@@ -67,9 +67,9 @@ impl MemShelf {
 }
 
 impl Shelf for MemShelf {
-    ghost use Rattle.sf_io.specs.MemShelf.{mem_texts, mem_failing, mem_calls, mem_load_faults, mem_store_faults};
+    ghost use Rattle.sf_io.specs.MemShelf.{mem_contents, mem_texts, mem_failing, mem_calls, mem_load_faults, mem_store_faults};
 
-    ghost holds = { λ s. Some (mem_texts s) };
+    ghost holds = { λ s. Some (mem_contents s) };
 
     ghost load_faults = { mem_load_faults };
 
@@ -78,10 +78,11 @@ impl Shelf for MemShelf {
     fn load(&mut self, name: &str, limit: u64) -> Result<Vec<u8>, LoadFault>
         ensures bytes { IfOk result (λ bytes. mem_texts self.old name.now ≡ Some bytes.items) }
         ensures limit { IfOk result (λ bytes. length bytes.items ≤ limit) }
-        ensures too_long { IsErrOf result LoadFault.TooLong → HoldsMore (Some (mem_texts self.old)) name.now limit }
+        ensures too_long { IsErrOf result LoadFault.TooLong → HoldsMore (Some (mem_contents self.old)) name.now limit }
 
         // It fails where its number is listed or the name isn't there, and nowhere else.
         ensures listed { IsErrOf result LoadFault.Failed ↔ (Contains (mem_failing self.old) (one_more (mem_calls self.old)) ⊎ (mem_texts self.old name.now ≡ None)) }
+        ensures lost { IsErrOf result LoadFault.Failed → MayFail (Some (mem_contents self.old)) name.now }
 
         // A load that failed is counted, and no other: not one of a text that is too long, or for which there is no memory.
         ensures failed { IsErrOf result LoadFault.Failed → mem_load_faults self.new ≡ one_more (mem_load_faults self.old) }
@@ -90,7 +91,7 @@ impl Shelf for MemShelf {
 
         ensures calls { mem_calls self.new ≡ one_more (mem_calls self.old) }
         ensures failing { mem_failing self.new ≡ mem_failing self.old }
-        ensures held { mem_texts self.new ≡ mem_texts self.old }
+        ensures held { mem_contents self.new ≡ mem_contents self.old }
         ensures stores { mem_store_faults self.new ≡ mem_store_faults self.old }
     {
         self.calls = self.calls.saturating_add(1);
@@ -112,8 +113,8 @@ impl Shelf for MemShelf {
     }
 
     fn store(&mut self, name: &str, bytes: &[u8]) -> Result<(), Failed>
-        ensures stored { OnOk result (Stores (Some (mem_texts self.old)) (Some (mem_texts self.new)) name.now bytes.now) }
-        ensures part { OnErr result (StoresPart (Some (mem_texts self.old)) (Some (mem_texts self.new)) name.now bytes.now) }
+        ensures stored { OnOk result (Stores (Some (mem_contents self.old)) (Some (mem_contents self.new)) name.now bytes.now) }
+        ensures part { OnErr result (StoresPart (Some (mem_contents self.old)) (Some (mem_contents self.new)) name.now bytes.now) }
         ensures kept { OnErr result (mem_texts self.new ≡ mem_texts self.old) }
 
         // It fails where its number is listed. Elsewhere only want of memory is a fault.
