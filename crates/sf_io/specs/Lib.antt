@@ -3,3 +3,4 @@ pub mod MemShelf
 pub mod MemSink
 pub mod NeverShelf
 pub mod Host
+pub mod Partial

@@ -11,12 +11,14 @@ mod host;
 mod memory;
 mod never;
 mod outside;
+mod partial;
 mod status;
 
 pub use host::{HostShelf, HostSink, OpenGate};
 pub use memory::{MemShelf, MemSink};
 pub use never::{NeverShelf, NeverSink};
 pub use outside::{Failed, Gate, LoadFault, Shelf, Sink, write_all};
+pub use partial::{PartShelf, PartSink};
 pub use status::Status;
 
 #[cfg(test)]

@@ -5,7 +5,7 @@ ghost use Rattle.std.specs.Prelude.{◌≤◌, IfOk};
 use crate::again::{read_some, write_some};
 use crate::{
     Failed, Gate, HostShelf, HostSink, LoadFault, MemShelf, MemSink, NeverShelf, NeverSink,
-    OpenGate, Shelf, Sink, Status, write_all,
+    OpenGate, PartShelf, PartSink, Shelf, Sink, Status, write_all,
 };
 use std::io::{self, ErrorKind, Read, Write};
 use std::test::Fail;
@@ -45,6 +45,25 @@ fn memory(rt: HostRuntime) -> Result<(), Fail> {
     assert_eq!(rt; write_all(&mut sink, b"two"), Err(Failed));
     assert_eq!(rt; write_all(&mut sink, b"three"), Ok(()));
     assert!(rt; sink.bytes() == b"onethree".as_slice());
+    Ok(())
+}
+
+// Only the first store is whole, and only five bytes are taken.
+#[test]
+fn parts(rt: HostRuntime) -> Result<(), Fail> {
+    let alloc = rt.alloc();
+    let mut shelf = PartShelf::new(MemShelf::new(alloc, Vec::new(alloc)), 1);
+    assert_eq!(rt; shelf.store("a", b"whole"), Ok(()));
+    assert_eq!(rt; shelf.store("b", b"halves"), Err(Failed));
+    assert!(rt; shelf.bytes("a") == Some(b"whole".as_slice()));
+    assert!(rt; shelf.bytes("b") == Some(b"hal".as_slice()));
+    assert!(rt; is_text(&shelf.load("b", 3), b"hal"));
+
+    let mut sink = PartSink::new(alloc, 5);
+    assert_eq!(rt; sink.put(b"abcd"), Ok(3));
+    assert_eq!(rt; write_all(&mut sink, b"d"), Ok(()));
+    assert_eq!(rt; write_all(&mut sink, b"efgh"), Err(Failed));
+    assert!(rt; sink.bytes() == b"abcde".as_slice());
     Ok(())
 }
 

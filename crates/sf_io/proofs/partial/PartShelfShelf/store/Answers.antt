@@ -1,0 +1,8 @@
+use Rattle.std.proofs.Common.{ap, inl}
+use Rattle.sf_io.specs.Outside.{Held}
+use Rattle.sf_io.proofs.partial.PartShelfShelf.store.Goals as goal
+
+pub returns-in-Err-clause-part : goal.returns-in-Err-clause-part
+returns-in-Err-clause-part c =
+    let same = c.in-Err.ensures.err in
+    (inl (ap (λ (held : Held). held c.args.name.now) same), λ other differs. ap (λ (held : Held). held other) same)
