@@ -4,6 +4,7 @@ mod checking;
 mod expressions;
 mod failing;
 mod generating;
+mod limits;
 mod many;
 mod measuring;
 mod planning;

@@ -1,9 +1,16 @@
-//! Runs in which a load, a store or a put fails.
+//! Runs in which a load, a store or a put fails, or a store and a put do a part of what they are asked for.
 
+use super::reading::REFUSED;
 use super::texts::{FAR_PAD, ONE, ONE_CERT, PADDED, TO_PAD};
-use super::{GIVEN, Row, assert_words, words_of};
-use sf_io::Status;
+use super::{
+    GIVEN, NAMES, Printed, Row, assert_printed, assert_words, shelf_of, text_of, words_of,
+};
+use crate::run;
+use sf_io::{OpenGate, PartShelf, PartSink, Status};
+use std::alloc::Global;
+use std::process::Abort;
 use std::test::Fail;
+use std::thread::Threads;
 
 /// A run with the numbers of the call of the shelf and of the put that fail; none fails where the number is 0.
 struct Case {
@@ -116,6 +123,126 @@ fn failing_calls(rt: HostRuntime) -> Result<(), Fail> {
     for case in CASES {
         let words = words_of(alloc, &[case.row.command, case.row.options])?;
         assert_words(&rt, alloc, &case.row, &words, case.call, case.put)?;
+    }
+    Ok(())
+}
+
+/// A run over a shelf of which the first stores are whole and each later one keeps half of its bytes, and over a sink
+/// that takes three bytes a put, as far as there is room.
+struct Part {
+    whole: u64,
+    room: usize,
+    row: Row,
+}
+
+const PADDED_LINES: &str =
+    "status Optimal\ncost 24\nbound 24\ndecided 2\nsize 2 2\narea 4\nwire 20\nplan 0:2x2\n";
+
+const PARTS: &[Part] = &[
+    Part {
+        whole: 0,
+        room: 1000,
+        row: Row {
+            status: Status::WriteFault,
+            stored: &[("a.cert", b"slicing-certificate 1\nblocks 1\ncos")],
+            ..ALL_FILES
+        },
+    },
+    Part {
+        whole: 1,
+        room: 1000,
+        row: Row {
+            status: Status::WriteFault,
+            stored: &[
+                ("a.cert", PADDED_CERT),
+                ("a.out", b"UCLA pl 1.0\nb0 0 0 DIM"),
+            ],
+            ..ALL_FILES
+        },
+    },
+    Part {
+        whole: 2,
+        room: 5,
+        row: Row {
+            status: Status::WriteFault,
+            printed: Printed::Whole("statu"),
+            stored: &[("a.cert", PADDED_CERT), ("a.out", PADDED_PLACES)],
+            ..ALL_FILES
+        },
+    },
+    Part {
+        whole: 2,
+        room: 1000,
+        row: Row {
+            printed: Printed::Whole(PADDED_LINES),
+            stored: &[("a.cert", PADDED_CERT), ("a.out", PADDED_PLACES)],
+            ..ALL_FILES
+        },
+    },
+    Part {
+        whole: 2,
+        room: 7,
+        row: Row {
+            command: "check --format gsrc --blocks a.blocks --cert a.cert",
+            files: &[("a.blocks", ONE), ("a.cert", ONE_CERT)],
+            status: Status::WriteFault,
+            printed: Printed::Whole("status "),
+            ..GIVEN
+        },
+    },
+    Part {
+        whole: 2,
+        room: 4,
+        row: Row {
+            files: &[("a.blocks", b"")],
+            status: Status::WriteFault,
+            printed: Printed::Whole("erro"),
+            ..ONE_BLOCK
+        },
+    },
+    Part {
+        whole: 2,
+        room: 11,
+        row: Row {
+            command: "plan --help",
+            status: Status::WriteFault,
+            printed: Printed::Whole("error Usage"),
+            ..GIVEN
+        },
+    },
+];
+
+fn assert_part(
+    rt: &(impl Abort + Threads + Sync),
+    alloc: Global,
+    row: &Row,
+    whole: u64,
+    room: usize,
+) -> Result<(), Fail> {
+    let (command, options) = (row.command, row.options);
+    let words = words_of(alloc, &[command, options])?;
+    let mut shelf = PartShelf::new(shelf_of(alloc, row.files, 0)?, whole);
+    let mut out = PartSink::new(alloc, room);
+    let status = run(rt, alloc, &words, &mut shelf, &mut out, &OpenGate);
+    assert_eq!(rt; status, row.status, "{command} {options}");
+    assert_printed(rt, row, str::from_utf8(out.bytes())?);
+    for name in NAMES {
+        let held = text_of(row.stored, name).or(text_of(row.files, name));
+        assert!(rt;
+            shelf.bytes(name) == held,
+            "{name} after {command} {options}"
+        );
+    }
+    Ok(())
+}
+
+#[test]
+fn parts_of_calls(rt: HostRuntime) -> Result<(), Fail> {
+    for part in PARTS {
+        assert_part(&rt, rt.alloc(), &part.row, part.whole, part.room)?;
+    }
+    for row in REFUSED {
+        assert_part(&rt, rt.alloc(), row, 0, 1000)?;
     }
     Ok(())
 }

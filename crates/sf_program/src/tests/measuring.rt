@@ -32,6 +32,8 @@ const MISSING: &[u8] = b"UCLA pl 1.0\nb0 0 0 DIMS = (2, 3) : N\n";
 
 const WITHOUT_SIZE: &[u8] = b"UCLA pl 1.0\nb0 0 0 DIMS = (2, 3) : N\nb1 2 0\n";
 
+const CUT_OFF: &[u8] = b"UCLA pl 1.0\nb0 0\n";
+
 const TWICE: &[u8] =
     b"UCLA pl 1.0\nb0 0 0 DIMS = (2, 3) : N\nb1 2 0 DIMS = (3, 2) : N\nb1 2 0 DIMS = (3, 2) : N\n";
 
@@ -90,6 +92,12 @@ const ROWS: &[Row] = &[
         files: &[("a.blocks", TWO), ("a.out", TWICE)],
         status: Status::BadInput,
         printed: Printed::Whole("error BadInput design 0 DuplicateName b1\n"),
+        ..FIXED
+    },
+    Row {
+        files: &[("a.blocks", TWO), ("a.out", CUT_OFF)],
+        status: Status::BadInput,
+        printed: Printed::Whole("error BadInput placed 2 BadLine\n"),
         ..FIXED
     },
 ];

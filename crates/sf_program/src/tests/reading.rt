@@ -56,6 +56,13 @@ b0 hardrectilinear 4 (0, 0) (0, 2) (2, 2) (2, 0)
 b0 hardrectilinear 4 (0, 0) (0, 2) (2, 2) (2, 0)
 ";
 
+const TOO_LARGE: &[u8] = b"UCSC blocks 1.0
+NumSoftRectangularBlocks : 1
+NumHardRectilinearBlocks : 0
+NumTerminals : 0
+b0 softrectangular 1099511627777 0.5 2
+";
+
 const SHORT_NET: &[u8] = b"UCLA nets 1.0
 NumNets : 1
 NumPins : 3
@@ -73,6 +80,8 @@ zz B
 ";
 
 const PAD_TWICE: &[u8] = b"UCLA pl 1.0\np0 10 0\np0 10 0\n";
+
+const PAD_CUT: &[u8] = b"UCLA pl 1.0\np0 10\n";
 
 const PAD_TOO_FAR: &[u8] = b"UCLA pl 1.0\np0 1048577 0\n";
 
@@ -124,7 +133,7 @@ const READ: &[Row] = &[
 ];
 
 /// Designs of blocks, nets and pads that are refused, or that can't be loaded.
-const REFUSED: &[Row] = &[
+pub const REFUSED: &[Row] = &[
     Row {
         files: &[("a.blocks", b"")],
         status: Status::BadInput,
@@ -197,6 +206,24 @@ const REFUSED: &[Row] = &[
         status: Status::BadInput,
         printed: Printed::Whole("error BadInput design 0 DuplicateName p0\n"),
         ..WIRED
+    },
+    Row {
+        files: &[("a.blocks", PADDED), ("a.nets", TO_PAD), ("a.pl", PAD_CUT)],
+        status: Status::BadInput,
+        printed: Printed::Whole("error BadInput pl 2 BadLine\n"),
+        ..WIRED
+    },
+    Row {
+        files: &[("a.blocks", PADDED), ("a.nets", TO_PAD), ("a.pl", NOWHERE)],
+        status: Status::BadInput,
+        printed: Printed::Whole("error BadInput design 0 MissingPlace p0\n"),
+        ..WIRED
+    },
+    Row {
+        files: &[("a.blocks", TOO_LARGE)],
+        status: Status::OverLimit,
+        printed: Printed::Whole("error OverLimit area 1099511627777 1099511627776\n"),
+        ..PLAN
     },
     Row {
         files: &[

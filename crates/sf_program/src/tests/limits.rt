@@ -1,0 +1,91 @@
+//! Texts past the limits of nets, pins, pads and files, which lines by the thousand make.
+
+use super::{answer, words_of};
+use sf_io::{MemShelf, Status};
+use std::alloc::{AllocError, Global};
+use std::test::Fail;
+
+/// A text of these first lines and of one line that stands so often, and what is printed where it is read.
+struct Past {
+    options: &'static str,
+    file: &'static str,
+    head: &'static str,
+    line: &'static str,
+    count: u64,
+    printed: &'static str,
+}
+
+const BLOCK: &[u8] = b"UCSC blocks 1.0
+NumSoftRectangularBlocks : 0
+NumHardRectilinearBlocks : 1
+NumTerminals : 0
+b0 hardrectilinear 4 (0, 0) (0, 2) (2, 2) (2, 0)
+";
+
+const PAST: &[Past] = &[
+    Past {
+        options: "",
+        file: "a.blocks",
+        head: "UCSC blocks 1.0\nNumSoftRectangularBlocks : 0\nNumHardRectilinearBlocks : 1\nNumTerminals : 16385\nb0 hardrectilinear 2 (0, 0) (2, 2)\n",
+        line: "p terminal\n",
+        count: 16_385,
+        printed: "error OverLimit pads 16385 16384\n",
+    },
+    Past {
+        options: "--nets a.nets",
+        file: "a.nets",
+        head: "UCLA nets 1.0\nNumNets : 65537\n",
+        line: "NetDegree : 0\n",
+        count: 65_537,
+        printed: "error OverLimit nets 65537 65536\n",
+    },
+    Past {
+        options: "--nets a.nets",
+        file: "a.nets",
+        head: "UCLA nets 1.0\nNumNets : 1\nNetDegree : 1048577\n",
+        line: "b0 B\n",
+        count: 1_048_577,
+        printed: "error OverLimit pins 1048577 1048576\n",
+    },
+];
+
+fn text_of(alloc: Global, past: &Past) -> Result<String, AllocError> {
+    let mut text = String::from_str(alloc, past.head)?;
+    for _ in 0..past.count {
+        text.push_str(past.line)?;
+    }
+    Ok(text)
+}
+
+#[test]
+fn past_each_limit(rt: HostRuntime) -> Result<(), Fail> {
+    let alloc = rt.alloc();
+    for past in PAST {
+        let command = "plan --format gsrc --blocks a.blocks --cert a.cert";
+        let words = words_of(alloc, &[command, past.options])?;
+        let mut shelf = MemShelf::new(alloc, Vec::new(alloc));
+        shelf.add("a.blocks", BLOCK)?;
+        shelf.add(past.file, text_of(alloc, past)?.as_bytes())?;
+        let (status, printed) = answer(&rt, alloc, &words, &mut shelf, 0)?;
+        assert_eq!(rt; status, Status::OverLimit, "{}", past.printed);
+        assert_eq!(rt; printed.as_str(), past.printed);
+    }
+    Ok(())
+}
+
+/// A file of 64 MiB is read, and one of a byte more is not.
+#[test]
+fn past_the_limit_of_files(rt: HostRuntime) -> Result<(), Fail> {
+    let alloc = rt.alloc();
+    let words = words_of(alloc, &["plan --format yal --yal a.yal --cert a.cert"])?;
+    for (bytes, wanted) in [
+        (67_108_864, "error BadInput yal 0 NoParent\n"),
+        (67_108_865, "error OverLimit file 67108865 67108864\n"),
+    ] {
+        let mut shelf = MemShelf::new(alloc, Vec::new(alloc));
+        shelf.add("a.yal", &vec![in alloc; b' '; bytes]?)?;
+        let (_, printed) = answer(&rt, alloc, &words, &mut shelf, 0)?;
+        assert_eq!(rt; printed.as_str(), wanted);
+    }
+    Ok(())
+}
