@@ -1,7 +1,9 @@
 -- What every stage takes is answered, and not refused.
-use Rattle.std.proofs.Common.{◌≡◌, ◌⊎◌, inl, inr, ℕ, List, Option, Some, Result, Ok, sym, subst}
+use Rattle.std.proofs.Common.{◌≡◌, ◌⊎◌, inl, inr, ℕ, Bool, true, false, List, Option, Some, Result, Ok, Err, refl, sym, ◌∙◌, subst}
+use Rattle.std.specs.Prelude.{IsFalse}
 use Rattle.sf_io.specs.Outside.{Contents}
 use Rattle.sf_io.specs.declared.status.Status.{Status}
+use Rattle.sf_io.specs.declared.status.Status.TheVariants.{Done, NoneFits, Usage, Open, No, BadInput, OverLimit, ReadFault, WriteFault, NoMemory}
 use Rattle.sf_place.specs.declared.verdict.Verdict.{Verdict}
 use Rattle.sf_place.specs.declared.verdict.Verdict.TheVariants as verdict
 use Rattle.sf_checker.specs.declared.answer.Answer.{Answer as Checked}
@@ -10,16 +12,17 @@ use Rattle.sf_pl_writer.specs.declared.report.Outcome.{Outcome}
 use Rattle.sf_pl_writer.specs.declared.report.Outcome.TheVariants as word
 use Rattle.sf_words.specs.Meaning.{Command, plan, check, measure, shape, gen, Means}
 use Rattle.sf_words.proofs.Unique.{meaning_unique}
-use Rattle.sf_program.specs.Answer.{CommandAnswer, IsRefused}
+use Rattle.sf_program.specs.Answer.{Answers, CommandAnswer, CommandLoses, IsAnswer, IsRefused, RefusesWords}
 use Rattle.sf_program.specs.Checked.{CheckRead, IsChecked, answer_status}
-use Rattle.sf_program.specs.Complete.{EndsJudging, HasValue, IsOwnEnd, IsTaken}
+use Rattle.sf_program.specs.Complete.{EndsJudging, HasValue, IsOwnEnd, IsTaken, MayEnd}
 use Rattle.sf_program.specs.Generated.{GenRead, IsGenerated}
 use Rattle.sf_program.specs.Headline.{HasSearched}
 use Rattle.sf_program.specs.Measured as measured
-use Rattle.sf_program.specs.OneAnswer.{Answer, AtMostOne, IsAnswerTo}
-use Rattle.sf_program.specs.Outcome.{Refusal}
+use Rattle.sf_program.specs.OneAnswer.{Answer, GivesOne, IsAnswerTo}
+use Rattle.sf_program.specs.Outcome.{Refusal, lost}
 use Rattle.sf_program.specs.Planned as planned
 use Rattle.sf_program.specs.Shaped.{ShapeRead}
+use Rattle.sf_program.specs.Stores.{Stored}
 use Rattle.sf_program.proofs.Once.{no-refusal}
 use Rattle.sf_program.proofs.OneAnswer.{refusal-of}
 use Rattle.sf_program.proofs.OneChecked.{check-read-one, measure-read-one, shape-read-one}
@@ -42,10 +45,10 @@ checked-ends (checked.Yes cost bound decided) = tt
 checked-ends (checked.No why) = tt
 
 -- a stage that gives a value refuses nothing
-never-refused : {X : Type 0} (Read : Result X Refusal → Type 0) → AtMostOne Read → HasValue Read → (a : Answer) → IsRefused Read a.0 a.1 a.2 → ⊥
+never-refused : {any : Bool} {X : Type 0} (Read : Result X Refusal → Type 0) → GivesOne any Read → HasValue Read → (a : Answer) → IsRefused Read a.0 a.1 a.2 → ⊥
 never-refused Read once taken a r =
     let m = refusal-of Read a.0 a.1 a.2 r in
-    no-refusal Read once taken.0 m.0 taken.1 m.1
+    no-refusal Read once taken.0 m.0 (λ t. m.3) taken.1 m.1
 
 module _ (contents : Contents) where
   command-ends : (command : Command) (a : Answer) → IsTaken command contents → CommandAnswer command (Some contents) a.0 a.1 a.2 → IsOwnEnd command a.0
@@ -58,7 +61,7 @@ module _ (contents : Contents) where
   command-ends (shape o) a taken h =
       elim h [ inl p ↦ subst (IsOwnEnd (shape o)) (sym p.0.status_is) tt | inr r ↦ absurd (never-refused (ShapeRead (Some contents) o) (shape-read-one contents o) taken a r) ]
   command-ends (gen o) a taken h =
-      elim h [ inl p ↦ subst HasSearched (sym p.answered.status_is) (said-ends p.answered.said) | inr r ↦ absurd (never-refused (GenRead o) (gen-one o) taken a r) ]
+      elim h [ inl p ↦ subst HasSearched (sym p.answered.status_is) (said-ends p.answered.said) | inr r ↦ absurd (never-refused (GenRead o) (gen-one contents.may_fail o) taken a r) ]
 
   pub words-end : (words : List (List ℕ)) (command : Command) (a : Answer) → Means words command → IsTaken command contents → IsAnswerTo words contents a → IsOwnEnd command a.0
   words-end words command a means taken h =
@@ -66,3 +69,52 @@ module _ (contents : Contents) where
         | inl x ↦ absurd (x.0 command means)
         | inr x ↦ command-ends command a taken (subst (λ (c : Command). CommandAnswer c (Some contents) a.0 a.1 a.2) (meaning_unique words x.0 command x.1 means) x.2)
       ]
+
+-- ---- files that are lost
+
+-- a stage that gives a value loses no file
+never-lost : {X : Type 0} (contents : Contents) (Read : Result X Refusal → Type 0) → GivesOne contents.may_fail Read → IsFalse contents.may_fail → HasValue Read → Read (Err lost) → ⊥
+never-lost contents Read once sure taken gone =
+    no-refusal Read once taken.0 lost (λ t. absurd (let e : true ≡ false = sym t ∙ sure in cc)) taken.1 gone
+
+module _ (contents : Contents) where
+  command-keeps : (command : Command) → IsFalse contents.may_fail → IsTaken command contents → CommandLoses command (Some contents) → ⊥
+  command-keeps (plan o) sure taken h = never-lost contents (planned.PlanRead (Some contents) o) (plan-one contents o) sure taken h
+  command-keeps (check o) sure taken h = never-lost contents (CheckRead (Some contents) o) (check-read-one contents o) sure taken h
+  command-keeps (measure o) sure taken h = never-lost contents (measured.MeasureRead (Some contents) o) (measure-read-one contents o) sure taken h
+  command-keeps (shape o) sure taken h = never-lost contents (ShapeRead (Some contents) o) (shape-read-one contents o) sure taken h
+  command-keeps (gen o) sure taken h = never-lost contents (GenRead o) (gen-one contents.may_fail o) sure taken h
+
+  pub words-keep : (words : List (List ℕ)) (command : Command) → Means words command → IsFalse contents.may_fail → IsTaken command contents → RefusesWords words (Some contents) lost → ⊥
+  words-keep words command means sure taken h =
+      command-keeps command sure taken (subst (λ (c : Command). CommandLoses c (Some contents)) (meaning_unique words h.0 command h.1 means) h.2)
+
+-- ---- a run
+
+-- an answer has this status
+abbrev pub IsAnswered : List (List ℕ) → Option Contents → Status → Type 0
+IsAnswered words before status = (stored : List Stored) × (printed : List ℕ) × Answers words before status stored printed
+
+module _ (words : List (List ℕ)) (command : Command) (contents : Contents) (means : Means words command) (sure : IsFalse contents.may_fail) (taken : IsTaken command contents) where
+  own-end : (status : Status) → IsAnswered words (Some contents) status → IsOwnEnd command status
+  own-end status a = words-end contents words command (status, a.0, a.1) means taken a.2
+
+  -- a run that answers, loses a file or is halted, and nothing else
+  may-end : (status : Status) → (IsAnswer status → IsAnswered words (Some contents) status) → (status ≡ ReadFault → RefusesWords words (Some contents) lost) → MayEnd command status
+  may-end Done a l = own-end Done (a tt)
+  may-end NoneFits a l = own-end NoneFits (a tt)
+  may-end Usage a l = own-end Usage (a tt)
+  may-end Open a l = own-end Open (a tt)
+  may-end No a l = own-end No (a tt)
+  may-end BadInput a l = own-end BadInput (a tt)
+  may-end OverLimit a l = own-end OverLimit (a tt)
+  may-end ReadFault a l = absurd (words-keep contents words command means sure taken (l refl))
+  may-end WriteFault a l = tt
+  may-end NoMemory a l = tt
+
+pub run-ends : (words : List (List ℕ)) (before : Option Contents) (status : Status) → (IsAnswer status → IsAnswered words before status) → (status ≡ ReadFault → RefusesWords words before lost)
+    → (command : Command) (contents : Contents) → Means words command → before ≡ Some contents → IsFalse contents.may_fail → IsTaken command contents → MayEnd command status
+run-ends words before status a l command contents means told sure taken =
+    may-end words command contents means sure taken status
+    (λ h. subst (λ (b : Option Contents). IsAnswered words b status) told (a h))
+    (λ e. subst (λ (b : Option Contents). RefusesWords words b lost) told (l e))

@@ -1,6 +1,8 @@
 -- An answer of `plan` says what the headline says.
-use Rattle.std.proofs.Common.{◌≡◌, ◌⊎◌, inl, inr, ℕ, ◌*◌, ◌<◌, ◌≤◌, MatchOption, List, Option, Some, None, Result, Ok, Err, refl, sym, ap, subst, ◌∙◌, arith}
+use Rattle.std.proofs.Common.{◌≡◌, ◌⊎◌, inl, inr, Bool, true, false, ℕ, ◌*◌, ◌<◌, ◌≤◌, MatchOption, List, Option, Some, None, Result, Ok, Err, refl, sym, ap, subst, ◌∙◌, arith}
+use Rattle.std.specs.Prelude.{nat_lt}
 use Rattle.std.specs.Io.KnownBytes.{Appends}
+use Rattle.std.proofs.lemmas.Bool.Decides.{nat_tests}
 use Rattle.sf_io.specs.Outside.{Contents}
 use Rattle.sf_io.specs.declared.status.Status.{Status}
 use Rattle.sf_io.specs.declared.status.Status.TheVariants.{Done, NoneFits, Usage, Open, No, BadInput, OverLimit, ReadFault, WriteFault, NoMemory}
@@ -12,6 +14,7 @@ use Rattle.sf_model.specs.Cost.{cost, IsFloor}
 use Rattle.sf_model.specs.Tree.{width, height, spots_of}
 use Rattle.sf_model.specs.Wire.{wire}
 use Rattle.sf_model.proofs.Bounded.{floor-none}
+use Rattle.sf_node.specs.Full.{full}
 use Rattle.sf_polish.specs.declared.expr.Expr.{Expr}
 use Rattle.sf_polish.proofs.Spelling.{spells-one}
 use Rattle.sf_certificate.specs.declared.cert.Cert.{Cert}
@@ -33,12 +36,21 @@ use Rattle.sf_program.specs.Stores.{AfterStores, Stored}
 abbrev report_of : Outcome → Cert → ℕ × ℕ → ℕ → ℕ → Option Expr → Report
 report_of said cert size area wires expr = record { word = said; cost = cert.cost; bound = cert.bound; decided = decided cert.tags; size = size; area = area; wire = wires; plan = expr }
 
+-- what is not at most another number is greater
+smaller : (m n : ℕ) (b : Bool) → nat_lt m n ≡ b → (n ≤ m → ⊥) → m < n
+smaller m n true t never = grind (arith, nat_tests)
+smaller m n false t never = absurd (never (grind (arith, nat_tests)))
+
+-- a bound below the cost shows a budget below the count of all subproblems
+unfinished : (design : Design) (budget : ℕ) (report : Report) → (full design ≤ budget → report.bound ≡ report.cost) → report.bound < report.cost → budget < full design
+unfinished design budget report ended below = smaller budget (full design) (nat_lt budget (full design)) refl (λ large. let e = ended large in omega (arith, below, e))
+
 -- how a search ended, as its status says it
-ends-as : (design : Design) (budget : ℕ) (report : Report) (said : Outcome) → IsFloor design report.bound → (report.bound < report.cost → report.decided ≡ budget)
+ends-as : (design : Design) (budget : ℕ) (report : Report) (said : Outcome) → IsFloor design report.bound → (report.bound < report.cost → report.decided ≡ budget) → (full design ≤ budget → report.bound ≡ report.cost)
     → IsEnding report.cost report.bound said → IsEnd design budget report (status_of said)
-ends-as design budget report word.Optimal floor spent e = (e.0, e.1, λ tree legal fits. subst (λ n. n ≤ cost design tree) e.1 (floor tree legal fits))
-ends-as design budget report word.NoneFits floor spent e = (e.1, (floor-none design).0 (subst (IsFloor design) e.1 floor))
-ends-as design budget report word.Open floor spent e = (e, spent e)
+ends-as design budget report word.Optimal floor spent ended e = (e.0, e.1, λ tree legal fits. subst (λ n. n ≤ cost design tree) e.1 (floor tree legal fits))
+ends-as design budget report word.NoneFits floor spent ended e = (e.1, (floor-none design).0 (subst (IsFloor design) e.1 floor))
+ends-as design budget report word.Open floor spent ended e = (e, spent e, unfinished design budget report ended e)
 
 -- a plan whose cost is stated, and of which these are measured
 measured-plan : (design : Design) (cert : Cert) (said : Outcome) (expr : Expr) (spots : List Spot) (w h wires : ℕ) → IsMeasured design expr spots w h wires → HasCost design expr cert.cost
@@ -67,10 +79,10 @@ module _ (design : Design) (workers budget scale : ℕ) (name : List ℕ) (pl : 
       → Finds design budget (status_of said) printed
   told-finds None stored printed v t =
       let report = report_of said cert (0, 0) 0 0 None in
-      (report, record { plan = v; floor = floor; few = searched.few; end = ends-as design budget report said floor searched.spent ending }, t.1)
+      (report, record { plan = v; floor = floor; few = searched.few; end = ends-as design budget report said floor searched.spent searched.ended ending }, t.1)
   told-finds (Some expr) stored printed v t =
       let report = report_of said cert (t.1, t.2) (t.1 * t.2) t.3 (Some expr) in
-      (report, record { plan = measured-plan design cert said expr t.0 t.1 t.2 t.3 t.4 v; floor = floor; few = searched.few; end = ends-as design budget report said floor searched.spent ending }, t.6)
+      (report, record { plan = measured-plan design cert said expr t.0 t.1 t.2 t.3 t.4 v; floor = floor; few = searched.few; end = ends-as design budget report said floor searched.spent searched.ended ending }, t.6)
 
 answered-finds : (design : Design) (workers budget scale : ℕ) (name : List ℕ) (pl : Option (List ℕ)) (status : Status) (stored : List Stored) (printed : List ℕ) → IsAnswered design workers budget scale name pl status stored printed
     → Finds design budget status printed

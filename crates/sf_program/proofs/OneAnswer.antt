@@ -1,5 +1,5 @@
 -- Words and texts have one answer.
-use Rattle.std.proofs.Common.{◌≡◌, ◌⊎◌, inl, inr, ℕ, List, [], Option, Some, Result, Ok, Err, refl, sym, ap, subst, ◌∙◌}
+use Rattle.std.proofs.Common.{◌≡◌, ◌⊎◌, inl, inr, Bool, ℕ, List, [], Option, Some, Result, Ok, Err, refl, sym, ap, subst, ◌∙◌}
 use Rattle.sf_io.specs.Outside.{Contents}
 use Rattle.sf_io.specs.declared.status.Status.{Status}
 use Rattle.sf_io.specs.declared.status.Status.TheVariants.{Done, NoneFits, Usage, Open, No, BadInput, OverLimit, ReadFault, WriteFault, NoMemory}
@@ -16,8 +16,8 @@ use Rattle.sf_program.specs.Answer.{CommandAnswer, IsDone, IsRefused}
 use Rattle.sf_program.specs.Checked.{CheckRead, IsChecked, answer_status}
 use Rattle.sf_program.specs.Generated.{GenRead, IsGenerated}
 use Rattle.sf_program.specs.Measured as measured
-use Rattle.sf_program.specs.OneAnswer.{Answer, AskForOneWorker, AtMostOne, HasOneWorker, IsAnswerTo, IsDoneBy, refused}
-use Rattle.sf_program.specs.Outcome.{Refusal, bad, over}
+use Rattle.sf_program.specs.OneAnswer.{Answer, AskForOneWorker, AtMostOne, GivesOne, HasOneWorker, IsAnswerTo, IsDoneBy, IsSaid, refused}
+use Rattle.sf_program.specs.Outcome.{Refusal, bad, over, lost}
 use Rattle.sf_program.specs.Planned as planned
 use Rattle.sf_program.specs.Shaped.{IsShaped, ShapeRead}
 use Rattle.sf_program.specs.Stores.{Stored}
@@ -33,6 +33,7 @@ triple a b p q r = λ i. (p i, q i, r i)
 abbrev IsOwn : Status → Type 0
 IsOwn BadInput = ⊥
 IsOwn OverLimit = ⊥
+IsOwn ReadFault = ⊥
 IsOwn status = Unit {0}
 
 said-own : (said : Outcome) → IsOwn (planned.status_of said)
@@ -53,12 +54,13 @@ checked-own (checked.No why) = tt
 not-own : (why : Refusal) → IsOwn (refused why).0 → ⊥
 not-own (bad line) h = h
 not-own (over line) h = h
+not-own lost h = h
 
 -- a refusal is the answer of its reason
 pub refusal-of : {X : Type 0} (Read : Result X Refusal → Type 0) (status : Status) (stored : List Stored) (printed : List ℕ) → IsRefused Read status stored printed
-    → (why : Refusal) × Read (Err why) × ((let a : Answer = (status, stored, printed) in a) ≡ refused why)
-refusal-of Read BadInput stored printed h = (bad printed, h.0, triple (BadInput, stored, printed) (refused (bad printed)) refl h.1 refl)
-refusal-of Read OverLimit stored printed h = (over printed, h.0, triple (OverLimit, stored, printed) (refused (over printed)) refl h.1 refl)
+    → (why : Refusal) × Read (Err why) × ((let a : Answer = (status, stored, printed) in a) ≡ refused why) × IsSaid why
+refusal-of Read BadInput stored printed h = (bad printed, h.0, triple (BadInput, stored, printed) (refused (bad printed)) refl h.1 refl, tt)
+refusal-of Read OverLimit stored printed h = (over printed, h.0, triple (OverLimit, stored, printed) (refused (over printed)) refl h.1 refl, tt)
 refusal-of Read Done stored printed h = absurd h
 refusal-of Read NoneFits stored printed h = absurd h
 refusal-of Read Usage stored printed h = absurd h
@@ -69,7 +71,7 @@ refusal-of Read WriteFault stored printed h = absurd h
 refusal-of Read NoMemory stored printed h = absurd h
 
 -- a command that reads, and then answers or is refused
-module _ {X : Type 0} (Read : Result X Refusal → Type 0) (once : AtMostOne Read) (Is : Answer → Type 0) (reads : (a : Answer) → Is a → (x : X) × Read (Ok x)) where
+module _ {X : Type 0} (any : Bool) (Read : Result X Refusal → Type 0) (once : GivesOne any Read) (Is : Answer → Type 0) (reads : (a : Answer) → Is a → (x : X) × Read (Ok x)) where
   abbrev EndsAs : Answer → Type 0
   EndsAs a = Is a ⊎ IsRefused Read a.0 a.1 a.2
 
@@ -77,13 +79,13 @@ module _ {X : Type 0} (Read : Result X Refusal → Type 0) (once : AtMostOne Rea
   refused-both a b p q =
       let m = refusal-of Read a.0 a.1 a.2 p in
       let n = refusal-of Read b.0 b.1 b.2 q in
-      m.2 ∙ ap refused (same-refusal Read once m.0 n.0 m.1 n.1) ∙ sym n.2
+      m.2 ∙ ap refused (same-refusal Read once m.0 n.0 (λ t. (m.3, n.3)) m.1 n.1) ∙ sym n.2
 
   answered-refused : (a b : Answer) → Is a → IsRefused Read b.0 b.1 b.2 → ⊥
   answered-refused a b p q =
       let m = reads a p in
       let n = refusal-of Read b.0 b.1 b.2 q in
-      no-refusal Read once m.0 n.0 m.1 n.1
+      no-refusal Read once m.0 n.0 (λ t. n.3) m.1 n.1
 
   one-of : AtMostOne Is → AtMostOne EndsAs
   one-of one a b p q =
@@ -115,36 +117,36 @@ module _ (contents : Contents) where
 
   command-one : HasOneCert → (command : Command) → HasOneWorker command → AtMostOne (IsOf command contents)
   command-one certs (plan o) single =
-      one-of (planned.PlanRead (Some contents) o) (plan-one contents o) (λ a. planned.IsPlanned o (Some contents) a.0 a.1 a.2) (planned-reads o)
+      one-of contents.may_fail (planned.PlanRead (Some contents) o) (plan-one contents o) (λ a. planned.IsPlanned o (Some contents) a.0 a.1 a.2) (planned-reads o)
       (λ a b p q. let same = planned-one certs contents o single a b p q in triple a b same.0 same.1 same.2)
   command-one certs (check o) single =
-      one-of (CheckRead (Some contents) o) (check-read-one contents o) (λ a. IsChecked o (Some contents) a.0 a.2 × (a.1 ≡ [])) (λ a p. checked-reads contents o a p.0)
+      one-of contents.may_fail (CheckRead (Some contents) o) (check-read-one contents o) (λ a. IsChecked o (Some contents) a.0 a.2 × (a.1 ≡ [])) (λ a p. checked-reads contents o a p.0)
       (silent-one (λ a. IsChecked o (Some contents) a.0 a.2) (checked-one contents o))
   command-one certs (measure o) single =
-      one-of (measured.MeasureRead (Some contents) o) (measure-read-one contents o) (λ a. measured.IsMeasured o (Some contents) a.0 a.2 × (a.1 ≡ [])) (λ a p. measured-reads contents o a p.0)
+      one-of contents.may_fail (measured.MeasureRead (Some contents) o) (measure-read-one contents o) (λ a. measured.IsMeasured o (Some contents) a.0 a.2 × (a.1 ≡ [])) (λ a p. measured-reads contents o a p.0)
       (silent-one (λ a. measured.IsMeasured o (Some contents) a.0 a.2) (measured-one contents o))
   command-one certs (shape o) single =
-      one-of (ShapeRead (Some contents) o) (shape-read-one contents o) (λ a. IsShaped o (Some contents) a.0 a.2 × (a.1 ≡ [])) (λ a p. shaped-reads contents o a p.0)
+      one-of contents.may_fail (ShapeRead (Some contents) o) (shape-read-one contents o) (λ a. IsShaped o (Some contents) a.0 a.2 × (a.1 ≡ [])) (λ a p. shaped-reads contents o a p.0)
       (silent-one (λ a. IsShaped o (Some contents) a.0 a.2) (shaped-one contents o))
   command-one certs (gen o) single =
-      one-of (GenRead o) (gen-one o) (λ a. IsGenerated o a.0 a.1 a.2) (generated-reads o)
+      one-of contents.may_fail (GenRead o) (gen-one contents.may_fail o) (λ a. IsGenerated o a.0 a.1 a.2) (generated-reads o)
       (λ a b p q. let same = generated-one certs o a b p q in triple a b same.0 same.1 same.2)
 
   command-refused : (command : Command) (why : Refusal) (b : Answer) → IsOf command contents (refused why) → IsOf command contents b → b ≡ refused why
   command-refused (plan o) why b p q =
-      refused-of (planned.PlanRead (Some contents) o) (plan-one contents o) (λ a. planned.IsPlanned o (Some contents) a.0 a.1 a.2) (planned-reads o)
+      refused-of contents.may_fail (planned.PlanRead (Some contents) o) (plan-one contents o) (λ a. planned.IsPlanned o (Some contents) a.0 a.1 a.2) (planned-reads o)
       (λ a h. subst IsOwn (sym h.answered.status_is) (said-own h.answered.said)) why b p q
   command-refused (check o) why b p q =
-      refused-of (CheckRead (Some contents) o) (check-read-one contents o) (λ a. IsChecked o (Some contents) a.0 a.2 × (a.1 ≡ [])) (λ a p. checked-reads contents o a p.0)
+      refused-of contents.may_fail (CheckRead (Some contents) o) (check-read-one contents o) (λ a. IsChecked o (Some contents) a.0 a.2 × (a.1 ≡ [])) (λ a p. checked-reads contents o a p.0)
       (λ a h. subst IsOwn (sym h.0.status_is) (checked-own h.0.answer)) why b p q
   command-refused (measure o) why b p q =
-      refused-of (measured.MeasureRead (Some contents) o) (measure-read-one contents o) (λ a. measured.IsMeasured o (Some contents) a.0 a.2 × (a.1 ≡ [])) (λ a p. measured-reads contents o a p.0)
+      refused-of contents.may_fail (measured.MeasureRead (Some contents) o) (measure-read-one contents o) (λ a. measured.IsMeasured o (Some contents) a.0 a.2 × (a.1 ≡ [])) (λ a p. measured-reads contents o a p.0)
       (λ a h. subst IsOwn (sym h.0.status_is) (judged-own h.0.verdict)) why b p q
   command-refused (shape o) why b p q =
-      refused-of (ShapeRead (Some contents) o) (shape-read-one contents o) (λ a. IsShaped o (Some contents) a.0 a.2 × (a.1 ≡ [])) (λ a p. shaped-reads contents o a p.0)
+      refused-of contents.may_fail (ShapeRead (Some contents) o) (shape-read-one contents o) (λ a. IsShaped o (Some contents) a.0 a.2 × (a.1 ≡ [])) (λ a p. shaped-reads contents o a p.0)
       (λ a h. subst IsOwn (sym h.0.status_is) tt) why b p q
   command-refused (gen o) why b p q =
-      refused-of (GenRead o) (gen-one o) (λ a. IsGenerated o a.0 a.1 a.2) (generated-reads o)
+      refused-of contents.may_fail (GenRead o) (gen-one contents.may_fail o) (λ a. IsGenerated o a.0 a.1 a.2) (generated-reads o)
       (λ a h. subst IsOwn (sym h.answered.status_is) (said-own h.answered.said)) why b p q
 
   -- ---- by the words
@@ -162,6 +164,7 @@ module _ (contents : Contents) where
   usage-refused : (why : Refusal) → (refused why).0 ≡ Usage → ⊥
   usage-refused (bad line) e = absurd (cc)
   usage-refused (over line) e = absurd (cc)
+  usage-refused lost e = absurd (cc)
 
   pub words-refused : (words : List (List ℕ)) (why : Refusal) (b : Answer) → IsAnswerTo words contents (refused why) → IsAnswerTo words contents b → b ≡ refused why
   words-refused words why b p q =

@@ -30,20 +30,20 @@ use Rattle.sf_checker.proofs.OneAnswer.{one-answer}
 use Rattle.sf_words.specs.Meaning.{CheckOptions, MeasureOptions, ShapeOptions}
 use Rattle.sf_program.specs.Checked.{CertRead, CheckRead, IsChecked, answer_status, answer_text, cert_refusal}
 use Rattle.sf_program.specs.Measured.{IsMeasured, MeasureRead, SpotsPlaced, SpotsRead, lines_named, sized_spot, spot_said, spots_said, status_of, verdict_text}
-use Rattle.sf_program.specs.OneAnswer.{Answer, AtMostOne}
+use Rattle.sf_program.specs.OneAnswer.{Answer, GivesOne}
 use Rattle.sf_program.specs.Outcome.{Refusal}
 use Rattle.sf_program.specs.Reading.{DesignRead, Judged, PlacesRead, Said, TextRead, With}
 use Rattle.sf_program.specs.Shaped.{IsCurveText, IsLeast, IsShaped, ShapeRead, TokensRead, areas_alone, expr_refusal, least_line, point_line}
-use Rattle.sf_program.proofs.Once.{then-one, said-one, judged-one, text-one, with-one, same-value}
+use Rattle.sf_program.proofs.Once.{once, then-one, said-one, judged-one, text-one, with-one, same-value}
 use Rattle.sf_program.proofs.OneDesign.{design-one, places-one}
 
 -- ---- check
 
-cert-one : (contents : Contents) (name : List ℕ) (blocks : ℕ) → AtMostOne (CertRead (Some contents) name blocks)
+cert-one : (contents : Contents) (name : List ℕ) (blocks : ℕ) → GivesOne contents.may_fail (CertRead (Some contents) name blocks)
 cert-one contents name blocks =
-    then-one (TextRead (Some contents) name) (λ text. Judged (cert_read blocks text) cert_refusal) (text-one contents name) (λ text. judged-one (cert_read blocks text) cert_refusal)
+    then-one (TextRead (Some contents) name) (λ text. Judged (cert_read blocks text) cert_refusal) (text-one contents name) (λ text. once (Judged (cert_read blocks text) cert_refusal) (judged-one (cert_read blocks text) cert_refusal))
 
-pub check-read-one : (contents : Contents) (o : CheckOptions) → AtMostOne (CheckRead (Some contents) o)
+pub check-read-one : (contents : Contents) (o : CheckOptions) → GivesOne contents.may_fail (CheckRead (Some contents) o)
 check-read-one contents o =
     then-one (DesignRead (Some contents) o.design o.weights) (λ design. CertRead (Some contents) o.cert (block_count design)) (design-one contents o.design o.weights) (λ design. cert-one contents o.cert (block_count design))
 
@@ -70,11 +70,11 @@ module _ (contents : Contents) (o : CheckOptions) where
 
 -- ---- measure
 
-spots-one : (contents : Contents) (o : MeasureOptions) (design : Design) → AtMostOne (SpotsRead (Some contents) o design)
+spots-one : (contents : Contents) (o : MeasureOptions) (design : Design) → GivesOne contents.may_fail (SpotsRead (Some contents) o design)
 spots-one contents o design =
-    then-one (PlacesRead (Some contents) (codes "placed") o.design.per_unit o.placed) (SpotsPlaced design) (places-one contents (codes "placed") o.design.per_unit o.placed) (λ places r s a b. a ∙ sym b)
+    then-one (PlacesRead (Some contents) (codes "placed") o.design.per_unit o.placed) (SpotsPlaced design) (places-one contents (codes "placed") o.design.per_unit o.placed) (λ places. once (SpotsPlaced design places) (λ r s a b. a ∙ sym b))
 
-pub measure-read-one : (contents : Contents) (o : MeasureOptions) → AtMostOne (MeasureRead (Some contents) o)
+pub measure-read-one : (contents : Contents) (o : MeasureOptions) → GivesOne contents.may_fail (MeasureRead (Some contents) o)
 measure-read-one contents o =
     then-one (DesignRead (Some contents) o.design o.weights) (With (SpotsRead (Some contents) o)) (design-one contents o.design o.weights) (λ design. with-one (SpotsRead (Some contents) o) design (spots-one contents o design))
 
@@ -138,13 +138,13 @@ module _ (contents : Contents) (o : MeasureOptions) where
 
 -- ---- shape
 
-tokens-one : (contents : Contents) (name : List ℕ) (design : Design) → AtMostOne (TokensRead (Some contents) name (block_count design))
+tokens-one : (contents : Contents) (name : List ℕ) (design : Design) → GivesOne contents.may_fail (TokensRead (Some contents) name (block_count design))
 tokens-one contents name design =
     let blocks = block_count design in
     then-one (TextRead (Some contents) name) (λ text. Said (SpellsTokens blocks text) (tokens_read blocks text) expr_refusal) (text-one contents name)
-    (λ text. said-one (SpellsTokens blocks text) (tokens_read blocks text) expr_refusal (λ tokens s. spelled-tokens blocks (omega (arith, design.limits.few_blocks)) text tokens s))
+    (λ text. once (Said (SpellsTokens blocks text) (tokens_read blocks text) expr_refusal) (said-one (SpellsTokens blocks text) (tokens_read blocks text) expr_refusal (λ tokens s. spelled-tokens blocks (omega (arith, design.limits.few_blocks)) text tokens s)))
 
-pub shape-read-one : (contents : Contents) (o : ShapeOptions) → AtMostOne (ShapeRead (Some contents) o)
+pub shape-read-one : (contents : Contents) (o : ShapeOptions) → GivesOne contents.may_fail (ShapeRead (Some contents) o)
 shape-read-one contents o =
     let Tokens : Design → Result (List Token) Refusal → Type 0 = λ design. TokensRead (Some contents) o.expr (block_count design) in
     then-one (DesignRead (Some contents) o.design areas_alone) (With Tokens) (design-one contents o.design areas_alone) (λ design. with-one Tokens design (tokens-one contents o.expr design))

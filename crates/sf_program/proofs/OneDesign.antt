@@ -30,46 +30,46 @@ use Rattle.sf_yal.specs.Standing as yals
 use Rattle.sf_yal.specs.Parts.{yal_read}
 use Rattle.sf_yal.proofs.Standing as yal_laws
 use Rattle.sf_words.specs.Meaning.{Input, gsrc, yal, DesignOptions, PlanOptions, WeightOptions}
-use Rattle.sf_program.specs.OneAnswer.{AtMostOne, HasBlocksOf}
+use Rattle.sf_program.specs.OneAnswer.{AtMostOne, GivesOne, HasBlocksOf}
 use Rattle.sf_program.specs.Outcome.{Refusal}
 use Rattle.sf_program.specs.Planned.{BudgetTested, BudgetedDesign, PlanRead}
 use Rattle.sf_program.specs.Reading.{Admitted, BlocksRead, Built, DesignMade, DesignRead, GsrcRead, IfNamed, Judged, ListsMade, NetsRead, PartsAdmitted, PartsRead, PlacedRead, PlacesRead, Said, TextRead, WiredRead, YalRead, outline_of, weights_of}
 use Rattle.sf_program.specs.Refusals.{build_refusal, gsrc_refusal, join_refusal, yal_refusal}
-use Rattle.sf_program.proofs.Once.{then-one, said-one, judged-one, text-one, named-one, same-value}
+use Rattle.sf_program.proofs.Once.{once, then-one, said-one, judged-one, text-one, named-one, same-value}
 
 -- ---- the parts
 
 module _ (contents : Contents) where
-  blocks-one : (scale : ℕ) (name : List ℕ) → AtMostOne (BlocksRead (Some contents) scale name)
+  blocks-one : (scale : ℕ) (name : List ℕ) → GivesOne contents.may_fail (BlocksRead (Some contents) scale name)
   blocks-one scale name =
       then-one (TextRead (Some contents) name) (λ text. Said (StandsFor scale text) (blocks_read scale text) (gsrc_refusal (codes "blocks"))) (text-one contents name)
-      (λ text. said-one (StandsFor scale text) (blocks_read scale text) (gsrc_refusal (codes "blocks")) (block_laws.read_from_stands scale text))
+      (λ text. once (Said (StandsFor scale text) (blocks_read scale text) (gsrc_refusal (codes "blocks"))) (said-one (StandsFor scale text) (blocks_read scale text) (gsrc_refusal (codes "blocks")) (block_laws.read_from_stands scale text)))
 
-  nets-one : (name : List ℕ) → AtMostOne (NetsRead (Some contents) name)
+  nets-one : (name : List ℕ) → GivesOne contents.may_fail (NetsRead (Some contents) name)
   nets-one name =
       then-one (TextRead (Some contents) name) (λ text. Said (NetsStandFor text) (nets_read text) (gsrc_refusal (codes "nets"))) (text-one contents name)
-      (λ text. said-one (NetsStandFor text) (nets_read text) (gsrc_refusal (codes "nets")) (net_laws.read_from_stands text))
+      (λ text. once (Said (NetsStandFor text) (nets_read text) (gsrc_refusal (codes "nets"))) (said-one (NetsStandFor text) (nets_read text) (gsrc_refusal (codes "nets")) (net_laws.read_from_stands text)))
 
-  pub places-one : (source : List ℕ) (scale : ℕ) (name : List ℕ) → AtMostOne (PlacesRead (Some contents) source scale name)
+  pub places-one : (source : List ℕ) (scale : ℕ) (name : List ℕ) → GivesOne contents.may_fail (PlacesRead (Some contents) source scale name)
   places-one source scale name =
       then-one (TextRead (Some contents) name) (λ text. Said (PlacesStandFor scale text) (places_read scale text) (gsrc_refusal source)) (text-one contents name)
-      (λ text. said-one (PlacesStandFor scale text) (places_read scale text) (gsrc_refusal source) (place_laws.read_from_stands scale text))
+      (λ text. once (Said (PlacesStandFor scale text) (places_read scale text) (gsrc_refusal source)) (said-one (PlacesStandFor scale text) (places_read scale text) (gsrc_refusal source) (place_laws.read_from_stands scale text)))
 
-  yal-one : (scale : ℕ) (name : List ℕ) → AtMostOne (YalRead (Some contents) scale name)
+  yal-one : (scale : ℕ) (name : List ℕ) → GivesOne contents.may_fail (YalRead (Some contents) scale name)
   yal-one scale name =
       then-one (TextRead (Some contents) name) (λ text. Said (yals.StandsFor scale text) (yal_read scale text) yal_refusal) (text-one contents name)
-      (λ text. said-one (yals.StandsFor scale text) (yal_read scale text) yal_refusal (yal_laws.read_from_stands scale text))
+      (λ text. once (Said (yals.StandsFor scale text) (yal_read scale text) yal_refusal) (said-one (yals.StandsFor scale text) (yal_read scale text) yal_refusal (yal_laws.read_from_stands scale text)))
 
-  placed-one : (scale : ℕ) (pl : Option (List ℕ)) (blocks : GsrcBlocks) (nets : Option GsrcNets) → AtMostOne (PlacedRead (Some contents) scale pl blocks nets)
+  placed-one : (scale : ℕ) (pl : Option (List ℕ)) (blocks : GsrcBlocks) (nets : Option GsrcNets) → GivesOne contents.may_fail (PlacedRead (Some contents) scale pl blocks nets)
   placed-one scale pl blocks nets =
       then-one (IfNamed (PlacesRead (Some contents) (codes "pl") scale) pl) (λ places. Judged (joined blocks nets places) join_refusal)
-      (named-one (PlacesRead (Some contents) (codes "pl") scale) (places-one (codes "pl") scale) pl) (λ places. judged-one (joined blocks nets places) join_refusal)
+      (named-one (PlacesRead (Some contents) (codes "pl") scale) (places-one (codes "pl") scale) pl) (λ places. once (Judged (joined blocks nets places) join_refusal) (judged-one (joined blocks nets places) join_refusal))
 
-  wired-one : (scale : ℕ) (nets pl : Option (List ℕ)) (blocks : GsrcBlocks) → AtMostOne (WiredRead (Some contents) scale nets pl blocks)
+  wired-one : (scale : ℕ) (nets pl : Option (List ℕ)) (blocks : GsrcBlocks) → GivesOne contents.may_fail (WiredRead (Some contents) scale nets pl blocks)
   wired-one scale nets pl blocks =
       then-one (IfNamed (NetsRead (Some contents)) nets) (PlacedRead (Some contents) scale pl blocks) (named-one (NetsRead (Some contents)) nets-one nets) (placed-one scale pl blocks)
 
-  parts-one : (scale : ℕ) (input : Input) → AtMostOne (PartsRead (Some contents) scale input)
+  parts-one : (scale : ℕ) (input : Input) → GivesOne contents.may_fail (PartsRead (Some contents) scale input)
   parts-one scale (gsrc blocks nets pl) = then-one (BlocksRead (Some contents) scale blocks) (WiredRead (Some contents) scale nets pl) (blocks-one scale blocks) (wired-one scale nets pl)
   parts-one scale (yal file) = yal-one scale file
 
@@ -81,8 +81,8 @@ module _ (contents : Contents) where
       let same : a.0 ≡ b.0 = (let e : Some a.0 ≡ Some b.0 = sym a.1 ∙ b.1 in cc) in
       ap Err (a.2 ∙ ap build_refusal same ∙ sym b.2)
 
-  pub parts-admitted-one : (o : DesignOptions) → AtMostOne (PartsAdmitted (Some contents) o)
-  parts-admitted-one o = then-one (PartsRead (Some contents) o.per_unit o.input) Admitted (parts-one o.per_unit o.input) admitted-one
+  pub parts-admitted-one : (o : DesignOptions) → GivesOne contents.may_fail (PartsAdmitted (Some contents) o)
+  parts-admitted-one o = then-one (PartsRead (Some contents) o.per_unit o.input) Admitted (parts-one o.per_unit o.input) (λ parts. once (Admitted parts) (admitted-one parts))
 
 -- ---- the design
 
@@ -142,8 +142,8 @@ module _ (o : DesignOptions) (w : WeightOptions) (parts : Parts) where
         | inr m ↦ (let e = m.2 in absurd (cc))
       ]
 
-pub design-one : (contents : Contents) (o : DesignOptions) (w : WeightOptions) → AtMostOne (DesignRead (Some contents) o w)
-design-one contents o w = then-one (PartsAdmitted (Some contents) o) (DesignMade o w) (parts-admitted-one contents o) (made-one o w)
+pub design-one : (contents : Contents) (o : DesignOptions) (w : WeightOptions) → GivesOne contents.may_fail (DesignRead (Some contents) o w)
+design-one contents o w = then-one (PartsAdmitted (Some contents) o) (DesignMade o w) (parts-admitted-one contents o) (λ parts. once (DesignMade o w parts) (made-one o w parts))
 
 pub budget-one : (nodes : Option ℕ) (blocks : ℕ) → AtMostOne (BudgetTested nodes blocks)
 budget-one nodes blocks (Ok x) (Ok y) a b = ap Ok (a.0 ∙ sym b.0)
@@ -151,10 +151,10 @@ budget-one nodes blocks (Ok x) (Err w) a b = let within = a.1 in let over = b.0 
 budget-one nodes blocks (Err v) (Ok y) a b = let within = b.1 in let over = a.0 in let e = b.0 in absurd (omega arith)
 budget-one nodes blocks (Err v) (Err w) a b = ap Err (a.1 ∙ sym b.1)
 
-pub plan-one : (contents : Contents) (o : PlanOptions) → AtMostOne (PlanRead (Some contents) o)
+pub plan-one : (contents : Contents) (o : PlanOptions) → GivesOne contents.may_fail (PlanRead (Some contents) o)
 plan-one contents o =
     then-one (PartsAdmitted (Some contents) o.design) (BudgetedDesign o) (parts-admitted-one contents o.design)
-    (λ parts. then-one (BudgetTested o.nodes (length parts.blocks)) (λ budget. DesignMade o.design o.weights parts) (budget-one o.nodes (length parts.blocks)) (λ budget. made-one o.design o.weights parts))
+    (λ parts. then-one (BudgetTested o.nodes (length parts.blocks)) (λ budget. DesignMade o.design o.weights parts) (once (BudgetTested o.nodes (length parts.blocks)) (budget-one o.nodes (length parts.blocks))) (λ budget. once (DesignMade o.design o.weights parts) (made-one o.design o.weights parts)))
 
 -- ---- the blocks
 

@@ -1,5 +1,5 @@
 -- A search by one worker has one answer, where its certificate is the only one.
-use Rattle.std.proofs.Common.{◌≡◌, ℕ, ◌*◌, List, ◌∷◌, ◌++◌, Option, Some, None, Ok, Err, refl, sym, ap, subst, ◌∙◌, arith}
+use Rattle.std.proofs.Common.{◌≡◌, ℕ, ◌*◌, Bool, false, List, ◌∷◌, ◌++◌, Option, Some, None, Ok, Err, refl, sym, ap, subst, ◌∙◌, arith}
 use Rattle.sf_io.specs.Outside.{Contents}
 use Rattle.sf_model.specs.declared.design.Design.{Design}
 use Rattle.sf_model.specs.declared.plan.Spot.{Spot}
@@ -17,10 +17,10 @@ use Rattle.sf_pl_writer.specs.declared.report.Outcome.TheVariants as word
 use Rattle.sf_pl_writer.specs.ReportText.{report_text}
 use Rattle.sf_words.specs.Meaning.{GenOptions, PlanOptions}
 use Rattle.sf_program.specs.Generated.{DesignGenerated, GenRead, IsGenerated, by_default, both_weights, cert_name, parts_made, texts_stored}
-use Rattle.sf_program.specs.OneAnswer.{Answer, AtMostOne}
+use Rattle.sf_program.specs.OneAnswer.{Answer, AtMostOne, GivesOne}
 use Rattle.sf_program.specs.Planned.{BudgetTested, IsAnswered, IsEnding, IsMeasured, IsPlanned, IsSearched, IsTold, PlanRead, budget_of, placed, status_of}
 use Rattle.sf_program.specs.Stores.{Stored}
-use Rattle.sf_program.proofs.Once.{then-one, same-value}
+use Rattle.sf_program.proofs.Once.{once, then-one, same-value}
 use Rattle.sf_program.proofs.OneDesign.{budget-one, made-one, plan-one}
 
 -- a cost and a bound have one ending
@@ -68,8 +68,9 @@ generated-design o (Ok d) (Ok e) p q = made-one by_default both_weights (parts_m
 generated-design o (Ok d) (Err w) p q = absurd q
 generated-design o (Err v) s p q = absurd p
 
-pub gen-one : (o : GenOptions) → AtMostOne (GenRead o)
-gen-one o = then-one (BudgetTested o.nodes o.count) (λ budget. DesignGenerated o) (budget-one o.nodes o.count) (λ budget. generated-design o)
+pub gen-one : (any : Bool) (o : GenOptions) → GivesOne any (GenRead o)
+gen-one any o =
+    then-one (BudgetTested o.nodes o.count) (λ budget. DesignGenerated o) (once (BudgetTested o.nodes o.count) (budget-one o.nodes o.count)) (λ budget. once (DesignGenerated o) (generated-design o))
 
 -- only one certificate is that of a search by one worker
 abbrev pub HasOneCert : Type 0
@@ -94,7 +95,7 @@ module _ (certs : HasOneCert) where
 
   pub generated-one : (o : GenOptions) (a b : Answer) → IsGenerated o a.0 a.1 a.2 → IsGenerated o b.0 b.1 b.2 → (a.0 ≡ b.0) × (a.1 ≡ b.1) × (a.2 ≡ b.2)
   generated-one o a b p q =
-      let design = same-value (GenRead o) (gen-one o) p.design q.design p.made q.made in
+      let design = same-value (GenRead o) (gen-one false o) p.design q.design p.made q.made in
       let answered = subst (λ (d : Design). IsAnswered d 1 (budget_of o.nodes (block_count d)) 1 (cert_name o) None a.0 p.searched a.2) design p.answered in
       let same = answered-one q.design (budget_of o.nodes (block_count q.design)) 1 (cert_name o) None (a.0, p.searched, a.2) (b.0, q.searched, b.2) answered q.answered in
       (same.0, p.stored_is ∙ ap (λ (ss : List Stored). texts_stored o ++ ss) same.1 ∙ sym q.stored_is, same.2)

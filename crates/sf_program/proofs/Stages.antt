@@ -8,13 +8,13 @@ use Rattle.sf_yal.specs.declared.fault.YalFault.TheVariants as yal
 use Rattle.sf_yal.specs.Reading as yals
 use Rattle.sf_program.specs.declared.stop.Stop.{Stop}
 use Rattle.sf_program.specs.declared.stop.Stop.TheVariants.{BadInput, OverLimit, ReadFault, NoMemory}
-use Rattle.sf_program.specs.Outcome.{Refusal, bad, over, Then, Refuses, Stops, Ends}
+use Rattle.sf_program.specs.Outcome.{Refusal, bad, over, lost, Then, Refuses, Stops, Ends}
 use Rattle.sf_program.specs.Reading.{Said}
 
 pub stops-map : (P Q : Refusal → Type 0) → ((why : Refusal) → P why → Q why) → (stop : Stop) → Stops stop P → Stops stop Q
 stops-map P Q f (BadInput line) h = f (bad line.items) h
 stops-map P Q f (OverLimit line) h = f (over line.items) h
-stops-map P Q f ReadFault h = tt
+stops-map P Q f ReadFault h = f lost h
 stops-map P Q f NoMemory h = tt
 
 pub refused-stops : (P : Refusal → Type 0) (why : Refusal) → P why → (stop : Stop) → Refuses stop why → Stops stop P

@@ -1,5 +1,5 @@
 -- The statuses of answers.
-use Rattle.std.proofs.Common.{◌≡◌, ◌⊎◌, inl, inr, ℕ, List, Option, Result, sym, subst}
+use Rattle.std.proofs.Common.{◌≡◌, ◌⊎◌, ◌∙◌, inl, inr, ℕ, List, Option, Result, sym, subst}
 use Rattle.sf_io.specs.Outside.{Contents}
 use Rattle.sf_io.specs.declared.status.Status.{Status}
 use Rattle.sf_io.specs.declared.status.Status.TheVariants.{Done, NoneFits, Usage, Open, No, BadInput, OverLimit, ReadFault, WriteFault, NoMemory}
@@ -78,3 +78,7 @@ loud NoMemory a s = a
 -- an answer, or a fault of writing, is not silent
 pub not-silent : (status : Status) → IsAnswer status ⊎ (status ≡ WriteFault) → IsSilent status → ⊥
 not-silent status h s = elim h [ inl a ↦ loud status a s | inr e ↦ subst IsSilent e s ]
+
+-- nor is it a fault of reading
+pub not-lost : (status : Status) → IsAnswer status ⊎ (status ≡ WriteFault) → status ≡ ReadFault → ⊥
+not-lost status h e = elim h [ inl a ↦ subst IsAnswer e a | inr w ↦ (let c : ReadFault ≡ WriteFault = sym e ∙ w in absurd (cc)) ]

@@ -6,7 +6,7 @@ use Rattle.sf_io.specs.declared.status.Status.{Status}
 use Rattle.sf_io.specs.declared.status.Status.TheVariants.{Usage, BadInput, OverLimit, ReadFault, WriteFault, NoMemory}
 use Rattle.sf_pl_writer.specs.Length.{IsScale}
 use Rattle.sf_words.specs.Meaning.{Command, plan, check, measure, shape, gen, Means, HasNoMeaning}
-use Rattle.sf_program.specs.Outcome.{Refusal, bad, over}
+use Rattle.sf_program.specs.Outcome.{Refusal, bad, over, lost}
 use Rattle.sf_program.specs.Planned.{IsPlanned, PlanRead}
 use Rattle.sf_program.specs.Checked.{IsChecked, CheckRead}
 use Rattle.sf_program.specs.Measured.{IsMeasured, MeasureRead}
@@ -37,14 +37,24 @@ Answers words before status stored printed =
     (HasNoMeaning words × (status ≡ Usage) × (stored ≡ []) × (printed ≡ usage_line))
     ⊎ ((command : Command) × Means words command × CommandAnswer command before status stored printed)
 
--- a refusal is an answer that stores nothing
+-- a file that the command reads, and whose turn it is, can't be loaded
+abbrev pub CommandLoses : Command → Option Contents → Type 0
+CommandLoses (plan o) before = PlanRead before o (Err lost)
+CommandLoses (check o) before = CheckRead before o (Err lost)
+CommandLoses (measure o) before = MeasureRead before o (Err lost)
+CommandLoses (shape o) before = ShapeRead before o (Err lost)
+CommandLoses (gen o) before = GenRead o (Err lost)
+
+-- a refusal is an answer that stores nothing; for a file that can't be loaded there is none
 abbrev pub CommandRefuses : Command → Option Contents → Refusal → Type 0
 CommandRefuses command before (bad line) = CommandAnswer command before BadInput [] line
 CommandRefuses command before (over line) = CommandAnswer command before OverLimit [] line
+CommandRefuses command before lost = CommandLoses command before
 
 abbrev pub RefusesWords : List (List ℕ) → Option Contents → Refusal → Type 0
 RefusesWords words before (bad line) = Answers words before BadInput [] line
 RefusesWords words before (over line) = Answers words before OverLimit [] line
+RefusesWords words before lost = (command : Command) × Means words command × CommandLoses command before
 
 -- the scale of a command that writes lengths
 abbrev pub HasScale : Command → Type 0

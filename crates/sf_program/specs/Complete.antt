@@ -2,7 +2,7 @@
 use Rattle.std.specs.Prelude.{⊤, Option, Some, Result, Ok}
 use Rattle.sf_io.specs.Outside.{Contents}
 use Rattle.sf_io.specs.declared.status.Status.{Status}
-use Rattle.sf_io.specs.declared.status.Status.TheVariants.{Done, No}
+use Rattle.sf_io.specs.declared.status.Status.TheVariants.{Done, No, WriteFault, NoMemory}
 use Rattle.sf_words.specs.Meaning.{Command, plan, check, measure, shape, gen}
 use Rattle.sf_program.specs.Outcome.{Refusal}
 use Rattle.sf_program.specs.Planned.{PlanRead}
@@ -33,10 +33,16 @@ abbrev pub EndsPrinting : Status → Type 0
 EndsPrinting Done = ⊤
 EndsPrinting status = ⊥
 
--- the statuses of the command's own answers
+-- the statuses of the command's own answers: no refusal, and no fault
 abbrev pub IsOwnEnd : Command → Status → Type 0
 IsOwnEnd (plan o) status = HasSearched status
 IsOwnEnd (check o) status = EndsJudging status
 IsOwnEnd (measure o) status = EndsJudging status
 IsOwnEnd (shape o) status = EndsPrinting status
 IsOwnEnd (gen o) status = HasSearched status
+
+-- such a status, or that a store or a print failed, or that the memory didn't suffice
+abbrev pub MayEnd : Command → Status → Type 0
+MayEnd command WriteFault = ⊤
+MayEnd command NoMemory = ⊤
+MayEnd command status = IsOwnEnd command status

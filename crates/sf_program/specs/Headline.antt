@@ -9,6 +9,7 @@ use Rattle.sf_model.specs.Tree.{Tree, width, height, spots_of}
 use Rattle.sf_model.specs.Legal.{Fits, IsLegal, block_count}
 use Rattle.sf_model.specs.Cost.{IsFloor, NoneFits, cost}
 use Rattle.sf_model.specs.Wire.{wire}
+use Rattle.sf_node.specs.Full.{full}
 use Rattle.sf_polish.specs.declared.expr.Expr.{Expr}
 use Rattle.sf_polish.specs.Postfix.{Spells}
 use Rattle.sf_pl_writer.specs.declared.report.Report.{Report}
@@ -31,11 +32,11 @@ pub record IsPlanOf (design : Design) (report : Report) (expr : Expr) : Type 0 w
 abbrev pub IsBest : Design → Report → Type 0
 IsBest design report = (tree : Tree) → IsLegal design tree → Fits design.outline tree → report.cost ≤ cost design tree
 
--- what the status says: the plan is the best one; no floorplan fits; or the budget is spent, and the bound is below the cost
+-- what the status says: the plan is the best one; no floorplan fits; or the budget is spent, which was below the count of all subproblems that could be decided, and the bound is below the cost
 abbrev pub IsEnd : Design → ℕ → Report → Status → Type 0
 IsEnd design budget report status.Done = (report.cost < MAX) × (report.bound ≡ report.cost) × IsBest design report
 IsEnd design budget report status.NoneFits = (report.bound ≡ MAX) × NoneFits design
-IsEnd design budget report status.Open = (report.bound < report.cost) × (report.decided ≡ budget)
+IsEnd design budget report status.Open = (report.bound < report.cost) × (report.decided ≡ budget) × (budget < full design)
 IsEnd design budget report other = ⊥
 
 -- the plan is one of the design, or there is none; no floorplan that fits costs less than the bound; and the status says which of three ends the search came to

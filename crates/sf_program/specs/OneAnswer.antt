@@ -1,21 +1,36 @@
 -- That words and texts have one answer: what it is said of, and what is left open.
-use Rattle.std.specs.Prelude.{◌≡◌, ⊤, ℕ, List, [], map, length, Option, Some}
+use Rattle.std.specs.Prelude.{◌≡◌, ⊤, ℕ, List, [], map, length, Option, Some, Bool, IsTrue, Result, Ok, Err}
 use Rattle.std.specs.Io.KnownBytes.{Appends}
 use Rattle.sf_io.specs.Outside.{Contents}
 use Rattle.sf_io.specs.declared.status.Status.{Status}
-use Rattle.sf_io.specs.declared.status.Status.TheVariants.{BadInput, OverLimit}
+use Rattle.sf_io.specs.declared.status.Status.TheVariants.{BadInput, OverLimit, ReadFault}
 use Rattle.sf_model.specs.declared.design.Design.{Design}
 use Rattle.sf_model.specs.declared.raw.RawBlock.{RawBlock}
 use Rattle.sf_model.specs.Admitted.{block_names}
 use Rattle.sf_model.specs.Legal.{block_count}
 use Rattle.sf_words.specs.Meaning.{Command, plan, Means}
 use Rattle.sf_program.specs.Answer.{Answers}
-use Rattle.sf_program.specs.Outcome.{Refusal, bad, over}
+use Rattle.sf_program.specs.Outcome.{Refusal, bad, over, lost}
 use Rattle.sf_program.specs.Stores.{AfterStores, Stored}
 
 -- this is so of one thing at most
 abbrev pub AtMostOne : {X : Type 0} → (X → Type 0) → Type 0
 AtMostOne {X} P = (x y : X) → P x → P y → x ≡ y
+
+-- a text refuses it
+abbrev pub IsSaid : Refusal → Type 0
+IsSaid (bad line) = ⊤
+IsSaid (over line) = ⊤
+IsSaid lost = ⊥
+
+-- the texts say it
+abbrev pub IsTold : {X : Type 0} → Result X Refusal → Type 0
+IsTold (Ok x) = ⊤
+IsTold (Err why) = IsSaid why
+
+-- a stage gives one thing at most; where any load may fail, one beside the loss of a file
+abbrev pub GivesOne : Bool → {X : Type 0} → (Result X Refusal → Type 0) → Type 0
+GivesOne may_fail {X} P = (r s : Result X Refusal) → P r → P s → (IsTrue may_fail → IsTold r × IsTold s) → r ≡ s
 
 -- a block for each of these, under its name and in their order
 pub record HasBlocksOf (blocks : List RawBlock) (design : Design) : Type 0 where
@@ -40,6 +55,7 @@ pub record IsDoneBy (a : Answer) (before after : Option Contents) (taken taken_t
 abbrev pub refused : Refusal → Answer
 refused (bad line) = (BadInput, [], line)
 refused (over line) = (OverLimit, [], line)
+refused lost = (ReadFault, [], [])
 
 -- several workers settle subproblems in an order that is not told: only a search by one is a function of its design
 abbrev pub HasOneWorker : Command → Type 0

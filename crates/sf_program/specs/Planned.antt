@@ -14,6 +14,7 @@ use Rattle.sf_model.specs.Wire.{wire}
 use Rattle.sf_polish.specs.declared.expr.Expr.{Expr}
 use Rattle.sf_polish.specs.Postfix.{Spells}
 use Rattle.sf_place.specs.Spots.{by_number}
+use Rattle.sf_node.specs.Full.{full}
 use Rattle.sf_standard.specs.Standard.{standard}
 use Rattle.sf_search_core.specs.Outcome.{opening}
 use Rattle.sf_certificate.specs.declared.cert.Cert.{Cert}
@@ -96,6 +97,7 @@ pub record IsSearched (design : Design) (workers budget : ℕ) (cert : Cert) : T
   pub blocks : cert.blocks ≡ block_count design
   pub few : decided cert.tags ≤ budget
   pub spent : cert.bound < cert.cost → decided cert.tags ≡ budget
+  pub ended : full design ≤ budget → cert.bound ≡ cert.cost
   pub run : workers ≡ 1 → IsCertOf design (turns design (standard design) budget (opening design (standard design) 1)) cert
 
 -- the answer of a search: its certificate, and what of it is stored and printed

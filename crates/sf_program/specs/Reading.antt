@@ -1,6 +1,6 @@
 -- How the texts under the named files become a design, stage by stage, in the order of the work.
 use Rattle.std.specs.Prelude.{◌≡◌, ℕ, ◌+◌, ◌^◌, ◌≤◌, List, length, codes, Option, None, Some, Result, Ok, Err}
-use Rattle.sf_io.specs.Outside.{Contents, Holds, HoldsMore}
+use Rattle.sf_io.specs.Outside.{Contents, Holds, HoldsMore, MayFail}
 use Rattle.sf_model.specs.declared.design.Design.{Design}
 use Rattle.sf_model.specs.declared.fault.BuildFault.{BuildFault}
 use Rattle.sf_model.specs.declared.parts.Outline.{Outline}
@@ -22,13 +22,15 @@ use Rattle.sf_gsrc.specs.Join.{joined}
 use Rattle.sf_yal.specs.Standing as yals
 use Rattle.sf_yal.specs.Parts.{yal_read}
 use Rattle.sf_words.specs.Meaning.{Input, gsrc, yal, DesignOptions, WeightOptions}
-use Rattle.sf_program.specs.Outcome.{Refusal, Then}
+use Rattle.sf_program.specs.Outcome.{Refusal, bad, over, lost, Then}
 use Rattle.sf_program.specs.Refusals.{over_limit, gsrc_refusal, yal_refusal, join_refusal, build_refusal}
 
--- the text under a name, of at most 64 MiB
+-- the text under a name, of at most 64 MiB; or no text, where a load of the name may fail
 abbrev pub TextRead : Option Contents → List ℕ → Result (List ℕ) Refusal → Type 0
 TextRead held name (Ok text) = Holds held name text × (length text ≤ 2 ^ 26)
-TextRead held name (Err why) = HoldsMore held name (2 ^ 26) × (why ≡ over_limit (codes "file") (2 ^ 26 + 1) (2 ^ 26))
+TextRead held name (Err (bad line)) = ⊥
+TextRead held name (Err (over line)) = HoldsMore held name (2 ^ 26) × (over line ≡ over_limit (codes "file") (2 ^ 26 + 1) (2 ^ 26))
+TextRead held name (Err lost) = MayFail held name
 
 -- what a reader makes of a text: what the text stands for, or else its first fault
 abbrev pub Said : {X F : Type 0} → (X → Type 0) → Result X F → (F → Refusal) → Result X Refusal → Type 0

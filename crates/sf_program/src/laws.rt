@@ -1,16 +1,16 @@
 //! The texts stand for one design, and words and texts have one answer.
 
-ghost use Rattle.std.specs.Prelude.{◌≡◌, ℕ, List, Option, Some, Ok};
+ghost use Rattle.std.specs.Prelude.{◌≡◌, ℕ, List, Option, Some, Ok, IsFalse};
 ghost use Rattle.sf_io.specs.Outside.{Contents};
 ghost use Rattle.sf_io.specs.declared.status.Status.{Status};
 ghost use Rattle.sf_model.specs.declared.design.Design.{Design};
 ghost use Rattle.sf_model.specs.declared.raw.Parts.{Parts};
 ghost use Rattle.sf_gsrc.specs.declared.output.GsrcBlocks.{GsrcBlocks};
 ghost use Rattle.sf_words.specs.Meaning.{Command, DesignOptions, Means, PlanOptions, WeightOptions};
-ghost use Rattle.sf_program.specs.Answer.{IsDone};
+ghost use Rattle.sf_program.specs.Answer.{IsDone, RefusesWords};
 ghost use Rattle.sf_program.specs.Complete.{IsOwnEnd, IsTaken};
-ghost use Rattle.sf_program.specs.OneAnswer.{Answer, AskForOneWorker, AtMostOne, HasBlocksOf, IsAnswerTo, IsDoneBy, refused};
-ghost use Rattle.sf_program.specs.Outcome.{Refusal};
+ghost use Rattle.sf_program.specs.OneAnswer.{Answer, AskForOneWorker, AtMostOne, GivesOne, HasBlocksOf, IsAnswerTo, IsDoneBy, refused};
+ghost use Rattle.sf_program.specs.Outcome.{Refusal, lost};
 ghost use Rattle.sf_program.specs.Planned.{PlanRead};
 ghost use Rattle.sf_program.specs.Reading.{BlocksRead, DesignRead, GsrcRead, PartsRead};
 
@@ -21,10 +21,10 @@ use sf_rounds::laws::certificates_are_one;
 use sf_soft_shapes::lists_are_determined;
 
 /// On a shelf that tells what it holds, the named files stand for at most one design, or are refused for at most one
-/// reason, and never both. The design has a block for each block that the files name, under its name and in their order.
+/// reason, and never both; a file is lost beside that only where any load may fail. The design has a block for each block that the files name, under its name and in their order.
 pub fn designs_are_one()
-    ensures design { (contents : Contents) (o : DesignOptions) (w : WeightOptions) → AtMostOne (DesignRead (Some contents) o w) }
-    ensures plan { (contents : Contents) (o : PlanOptions) → AtMostOne (PlanRead (Some contents) o) }
+    ensures design { (contents : Contents) (o : DesignOptions) (w : WeightOptions) → GivesOne contents.may_fail (DesignRead (Some contents) o w) }
+    ensures plan { (contents : Contents) (o : PlanOptions) → GivesOne contents.may_fail (PlanRead (Some contents) o) }
     ensures blocks { (contents : Contents) (o : DesignOptions) (w : WeightOptions) (parts : Parts) (design : Design)
         → PartsRead (Some contents) o.per_unit o.input (Ok parts) → DesignRead (Some contents) o w (Ok design) → HasBlocksOf parts.blocks design }
     ensures planned { (contents : Contents) (o : PlanOptions) (parts : Parts) (design : Design)
@@ -53,7 +53,9 @@ pub fn answers_are_one()
 }
 
 /// On a shelf that tells what it holds, words whose texts every stage takes are answered by the command's own statuses,
-/// and never refused: a plan that is the best, that none fits or that is open, a verdict, or a curve.
+/// and never refused: a plan that is the best, that none fits or that is open, a verdict, or a curve. Where loads fail only
+/// at names without a text, none of their files is lost.
 pub fn taken_texts_are_answered()
-    ensures { (words : List (List ℕ)) (contents : Contents) (command : Command) (a : Answer) → Means words command → IsTaken command contents → IsAnswerTo words contents a → IsOwnEnd command a.0 }
+    ensures loaded { (words : List (List ℕ)) (contents : Contents) (command : Command) → Means words command → IsFalse contents.may_fail → IsTaken command contents → RefusesWords words (Some contents) lost → ⊥ }
+    ensures answered { (words : List (List ℕ)) (contents : Contents) (command : Command) (a : Answer) → Means words command → IsTaken command contents → IsAnswerTo words contents a → IsOwnEnd command a.0 }
 {}

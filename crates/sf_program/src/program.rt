@@ -1,12 +1,14 @@
 //! The top call.
 
-ghost use Rattle.std.specs.Prelude.{◌≡◌, ◌≢◌, ◌≤◌, ◌⊎◌, ℕ, List, [], map, OnOk, OnErr, string_bytes};
+ghost use Rattle.std.specs.Prelude.{◌≡◌, ◌≢◌, ◌≤◌, ◌⊎◌, ℕ, List, [], map, Some, OnOk, OnErr, IsFalse, string_bytes};
 ghost use Rattle.std.specs.Io.KnownBytes.{Appends};
-ghost use Rattle.sf_io.specs.Outside.{Rose};
-ghost use Rattle.sf_words.specs.Meaning.{GenOptions, PlanOptions, gen, plan, Means};
-ghost use Rattle.sf_program.specs.Answer.{Answers, IsAnswer, IsDone, IsHalted, IsSilent, StoreOrPrintFailed};
+ghost use Rattle.sf_io.specs.Outside.{Contents, Rose};
+ghost use Rattle.sf_words.specs.Meaning.{Command, GenOptions, PlanOptions, gen, plan, Means};
+ghost use Rattle.sf_program.specs.Answer.{Answers, IsAnswer, IsDone, IsHalted, IsSilent, RefusesWords, StoreOrPrintFailed};
+ghost use Rattle.sf_program.specs.Complete.{IsTaken, MayEnd};
 ghost use Rattle.sf_program.specs.Headline.{HasSearched, IsHeadline};
 ghost use Rattle.sf_program.specs.Generated.{GenRead};
+ghost use Rattle.sf_program.specs.Outcome.{lost};
 ghost use Rattle.sf_program.specs.Planned.{PlanRead};
 ghost use Rattle.sf_program.specs.Stores.{AfterStores, StoppedAt, stored_in};
 
@@ -71,6 +73,11 @@ pub fn run<R: Threads + Sync, S: Shelf, K: Sink, G: Gate>(
     // A fault of reading or of writing is told only where one was counted.
     ensures read_fault { result ≡ Status.ReadFault → Rose (S.load_faults shelf.old) (S.load_faults shelf.new) }
     ensures write_fault { result ≡ Status.WriteFault → Rose (S.store_faults shelf.old) (S.store_faults shelf.new) ⊎ Rose (K.faults out.old) (K.faults out.new) }
+
+    // That a load failed is told only of a file that the words name, at its turn, and only where its load may fail. Where the
+    // shelf holds the files and no load is to fail, and every stage takes what they say, nothing is refused.
+    ensures lost { result ≡ Status.ReadFault → RefusesWords (map string_bytes words.now) (S.holds shelf.old) lost }
+    ensures complete { (command : Command) (contents : Contents) → Means (map string_bytes words.now) command → S.holds shelf.old ≡ Some contents → IsFalse contents.may_fail → IsTaken command contents → MayEnd command result }
 
     // What is stored and printed where something failed, and which count rose.
     ensures halted { result ≡ Status.WriteFault → IsHalted (map string_bytes words.now) (S.holds shelf.old) (S.holds shelf.new) (S.store_faults shelf.old) (S.store_faults shelf.new) (K.taken out.old) (K.taken out.new) (K.faults out.old) (K.faults out.new) }

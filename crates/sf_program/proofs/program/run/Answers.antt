@@ -1,9 +1,14 @@
-use Rattle.std.proofs.Common.{◌⊎◌, map, string_bytes, subst, ◌∙◌}
+use Rattle.std.proofs.Common.{◌⊎◌, [], map, string_bytes, sym, subst, ◌∙◌}
 use Rattle.sf_io.specs.Outside.{Rose}
+use Rattle.sf_io.specs.declared.status.Status.TheVariants.{ReadFault}
+use Rattle.sf_program.specs.declared.stop.Stop.{Stop}
+use Rattle.sf_program.specs.Answer.{Answers, RefusesWords}
 use Rattle.sf_program.specs.Headline.{HasSearched}
+use Rattle.sf_program.specs.Outcome.{Stops}
 use Rattle.sf_program.specs.Stores.{stored_in}
+use Rattle.sf_program.proofs.Complete.{run-ends}
 use Rattle.sf_program.proofs.Headline.{done-of, generated-headline, planned-headline, searched-answer}
-use Rattle.sf_program.proofs.Statuses.{answer-status, not-silent}
+use Rattle.sf_program.proofs.Statuses.{answer-status, not-lost, not-silent}
 use Rattle.sf_program.proofs.program.run.Goals as goal
 
 pub finish-requires : goal.finish-requires
@@ -62,3 +67,50 @@ returns-in-Err-BadInput-clause-generated g c = λ searched.
 pub returns-in-Err-OverLimit-clause-generated : goal.returns-in-Err-OverLimit-clause-generated
 returns-in-Err-OverLimit-clause-generated g c = λ searched.
     absurd (subst HasSearched ((c.finish-in-Err-OverLimit.ensures.done (searched-answer c.finish-in-Err-OverLimit.result searched)).0 ∙ c.printed-in-Err-OverLimit.ensures.status) searched)
+
+-- what ends a run otherwise is no loss of a file
+pub returns-in-Ok-clause-lost : goal.returns-in-Ok-clause-lost
+returns-in-Ok-clause-lost g c = λ e. absurd (not-lost c.finish.result c.finish.ensures.only e)
+
+pub returns-in-Err-BadInput-clause-lost : goal.returns-in-Err-BadInput-clause-lost
+returns-in-Err-BadInput-clause-lost g c = λ e. absurd (not-lost c.finish-in-Err-BadInput.result c.finish-in-Err-BadInput.ensures.only e)
+
+pub returns-in-Err-OverLimit-clause-lost : goal.returns-in-Err-OverLimit-clause-lost
+returns-in-Err-OverLimit-clause-lost g c = λ e. absurd (not-lost c.finish-in-Err-OverLimit.result c.finish-in-Err-OverLimit.ensures.only e)
+
+pub returns-in-Ok-clause-complete : goal.returns-in-Ok-clause-complete
+returns-in-Ok-clause-complete g c =
+    let words = map string_bytes c.args.words.now in
+    let before = g.S.Shelf.holds c.args.shelf.now in
+    let status = c.finish.result in
+    let stored = stored_in c.in-Ok.work.stores.items in
+    let printed = c.in-Ok.work.text.items in
+    run-ends words before status
+    (λ h. (stored, printed, subst (λ s. Answers words before s stored printed) (sym (c.finish.ensures.done h).0) c.in-Ok.ensures.answer))
+    (λ e. absurd (not-lost status c.finish.ensures.only e))
+
+pub returns-in-Err-BadInput-clause-complete : goal.returns-in-Err-BadInput-clause-complete
+returns-in-Err-BadInput-clause-complete g c =
+    let words = map string_bytes c.args.words.now in
+    let before = g.S.Shelf.holds c.args.shelf.now in
+    let status = c.finish-in-Err-BadInput.result in
+    let line = c.in-Err-BadInput.line.items in
+    run-ends words before status
+    (λ h. ([], line, subst (λ s. Answers words before s [] line) (sym ((c.finish-in-Err-BadInput.ensures.done h).0 ∙ c.printed.ensures.status)) (subst (λ (s : Stop). Stops s (RefusesWords words before)) c.in-Err-BadInput.field-0-is c.in-Err-BadInput.ensures.refused)))
+    (λ e. absurd (not-lost status c.finish-in-Err-BadInput.ensures.only e))
+
+pub returns-in-Err-OverLimit-clause-complete : goal.returns-in-Err-OverLimit-clause-complete
+returns-in-Err-OverLimit-clause-complete g c =
+    let words = map string_bytes c.args.words.now in
+    let before = g.S.Shelf.holds c.args.shelf.now in
+    let status = c.finish-in-Err-OverLimit.result in
+    let line = c.in-Err-OverLimit.line.items in
+    run-ends words before status
+    (λ h. ([], line, subst (λ s. Answers words before s [] line) (sym ((c.finish-in-Err-OverLimit.ensures.done h).0 ∙ c.printed-in-Err-OverLimit.ensures.status)) (subst (λ (s : Stop). Stops s (RefusesWords words before)) c.in-Err-OverLimit.field-0-is c.in-Err-OverLimit.ensures.refused)))
+    (λ e. absurd (not-lost status c.finish-in-Err-OverLimit.ensures.only e))
+
+pub returns-in-Err-ReadFault-clause-complete : goal.returns-in-Err-ReadFault-clause-complete
+returns-in-Err-ReadFault-clause-complete g c =
+    let words = map string_bytes c.args.words.now in
+    let before = g.S.Shelf.holds c.args.shelf.now in
+    run-ends words before ReadFault (λ h. absurd h) (λ e. subst (λ (s : Stop). Stops s (RefusesWords words before)) c.in-Err-ReadFault.field-0-is c.in-Err-ReadFault.ensures.refused)
