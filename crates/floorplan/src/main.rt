@@ -1,6 +1,11 @@
 //! The program: the words, files and standard output of the host, handed to the floorplanner's one call.
 #![tactic(auto)]
 
+ghost use Rattle.std.specs.Prelude.{◌≡◌, drop, IfOk};
+ghost use Rattle.std.specs.Process.{exit_status};
+ghost use Rattle.std.specs.Vec.Iter.{into_iter_items};
+ghost use Rattle.floorplan.specs.Number.{number};
+
 mod progress;
 
 use progress::{AfterProgress, Progress};
@@ -17,11 +22,18 @@ use std::thread::Threads;
 /// can't ask the system for it; its start script does.
 const TOLD_WHERE: &str = "FLOORPLAN_PROGRESS";
 
+/// All words but the first, which is the program's name.
+fn behind_the_name(alloc: Global, all: env::Args) -> Result<Vec<String>, NoMemory>
+    ensures { IfOk result (λ words. words.items ≡ drop 1 (into_iter_items all)) }
+{
+    all.skip(1).collect(alloc)
+}
+
 /// The words after the program's name. Words that are no text are taken as no words, which mean nothing.
 fn given(rt: HostRuntime) -> Result<Vec<String>, NoMemory> {
     let alloc = rt.alloc();
     match env::args(&rt) {
-        Ok(all) => all.skip(1).collect(alloc),
+        Ok(all) => behind_the_name(alloc, all),
         Err(fault) if fault.kind() == ErrorKind::OutOfMemory => Err(NoMemory),
         Err(_) => Ok(Vec::new(alloc)),
     }
@@ -60,9 +72,16 @@ fn answer<T: Threads + Sync>(rt: HostRuntime, threads: &T, words: &[String]) -> 
     }
 }
 
+/// What the process ends with.
+fn code_of(status: Status) -> ExitCode
+    ensures { exit_status result ≡ number status }
+{
+    ExitCode::from(status as u8)
+}
+
 fn main(rt: HostRuntime) -> ExitCode {
     match given(rt) {
-        Ok(words) => ExitCode::from(answer(rt, &rt, &words) as u8),
-        Err(NoMemory) => ExitCode::from(Status::NoMemory as u8),
+        Ok(words) => code_of(answer(rt, &rt, &words)),
+        Err(NoMemory) => code_of(Status::NoMemory),
     }
 }
