@@ -1,6 +1,6 @@
 -- The modules of a text, by their names and their boxes.
-use Rattle.std.proofs.Common.{◌≡◌, ℕ, zero, suc, Bool, true, false, List, [], ◌∷◌, ◌++◌, length, Option, Some, None, refl, sym, ap, subst, ◌∙◌, arith, length-append}
-use Rattle.std.specs.Prelude.{map, slice_get, is_some}
+use Rattle.std.proofs.Common.{◌≡◌, ℕ, zero, suc, Bool, true, false, List, [], ◌∷◌, length, Option, Some, None, refl, sym, ap, subst, ◌∙◌, arith, length-append}
+use Rattle.std.specs.Prelude.{map, slice_get}
 use Rattle.std.specs.Option.{option_map}
 use Rattle.std.specs.Str.{bytes_eq}
 use Rattle.sf_yal.specs.declared.keyword.Keyword.{Keyword}
@@ -11,13 +11,12 @@ use Rattle.sf_yal.specs.declared.vertices.Size.{Size}
 use Rattle.sf_yal.specs.Words.{keyword_of, is_parent_word}
 use Rattle.sf_yal.specs.Statements.{Statement}
 use Rattle.sf_yal.specs.Box.{length_read}
-use Rattle.sf_yal.specs.Numbers.{has_form}
 use Rattle.sf_yal.specs.Names.{index_of, has_name, Once}
-use Rattle.sf_yal.specs.Reading.{Reading, start, module_opened, module_closed, type_taken, parent_taken, size_taken, list_opened, list_closed, pad_taken, instance_taken}
+use Rattle.sf_yal.specs.Reading.{Reading, start, module_opened, module_closed, type_taken, parent_taken, size_taken, list_opened, list_closed, pad_taken}
 use Rattle.sf_yal.specs.Parts.{size_at}
 use Rattle.sf_yal.specs.Standing.{SaysOutside, TypeIs, SaysType, SaysInside, SaysPad, SaysTerminal, SaysInstance, OfParent, SaysInTerminals, SaysInInstances, SaysAt, Says, SayAll, Module}
-use Rattle.sf_yal.proofs.Indexes.{none_under, some_not_none}
-use Rattle.sf_yal.proofs.NetLaws.{none_of, once_push, same_name, is_same, true_not_false}
+use Rattle.sf_yal.proofs.Indexes.{some_not_none}
+use Rattle.sf_yal.proofs.NetLaws.{none_of, once_push, same_name, is_same}
 
 -- a module that is open has a name and no box yet
 abbrev Balanced : Place → List (List ℕ) → List (Option Size) → Type 0

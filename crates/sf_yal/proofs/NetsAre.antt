@@ -9,13 +9,13 @@ use Rattle.sf_model.specs.declared.raw.RawPin.{RawPin}
 use Rattle.sf_model.specs.declared.raw.RawPin.TheVariants as pins
 use Rattle.sf_yal.specs.Names.{Once, index_of, has_name}
 use Rattle.sf_yal.specs.Parts.{with_signal, with_signals, signals_of, block_pins, net_of, nets_of}
-use Rattle.sf_yal.specs.Using.{NetUse, Uses, nothing_used, with_pin, with_pin_at, used_at, used_once, used_all, used_by, finished_net}
+use Rattle.sf_yal.specs.Using.{Uses, nothing_used, with_pin, with_pin_at, used_at, used_once, used_all, used_by, with_pads}
 use Rattle.sf_yal.proofs.NetLaws.{Signals, fold-append, apart, same_name, has_push_same, has_push_other, pin_of, pins_last, low, with_pin_by, none_cons, once_uses, absent_uses}
 
-abbrev net_use : List Signals → List ℕ → NetUse
-net_use uses s = record { signal = s; pins = block_pins s 0 uses }
+abbrev net_use : List Signals → List ℕ → RawNet
+net_use uses s = record { pins = block_pins s 0 uses }
 
-abbrev nets_for : List Signals → Signals → List NetUse
+abbrev nets_for : List Signals → Signals → List RawNet
 nets_for uses signals = map (net_use uses) signals
 
 -- what is kept once these instances were used
@@ -63,21 +63,21 @@ module _ (earlier : List Signals) (taken : Signals) (t : List ℕ) where
   others (s ∷ more) h =
       let k = none_cons t s more (bytes_eq s t) refl h in
       let rest = others more k.1 in
-      let here : net_use old s ≡ net_use new s = ap (λ (ps : List RawPin). record { signal = s; pins = ps }) (sym (same_pins s (apart s t k.0))) in
-      ap (λ (x : NetUse). x ∷ nets_for old more) here ∙ ap (λ (xs : List NetUse). net_use new s ∷ xs) rest
+      let here : net_use old s ≡ net_use new s = ap (λ (ps : List RawPin). record { pins = ps }) (sym (same_pins s (apart s t k.0))) in
+      ap (λ (x : RawNet). x ∷ nets_for old more) here ∙ ap (λ (xs : List RawNet). net_use new s ∷ xs) rest
 
   found_here : (s : List ℕ) (more : Signals) (k : ℕ) → s ≡ t → k ≡ 0 → index_of t more ≡ None → with_pin_at number k (nets_for old (s ∷ more)) ≡ nets_for new (s ∷ more)
   found_here s more k same zero_is none =
-      let here : record { signal = t; pins = with_pin number (block_pins t 0 old) } ≡ net_use new t = ap (λ (ps : List RawPin). record { signal = t; pins = ps }) pinned in
-      let at_t : with_pin_at number 0 (nets_for old (t ∷ more)) ≡ nets_for new (t ∷ more) = ap (λ (x : NetUse). x ∷ nets_for old more) here ∙ ap (λ (xs : List NetUse). net_use new t ∷ xs) (others more none) in
+      let here : record { pins = with_pin number (block_pins t 0 old) } ≡ net_use new t = ap (λ (ps : List RawPin). record { pins = ps }) pinned in
+      let at_t : with_pin_at number 0 (nets_for old (t ∷ more)) ≡ nets_for new (t ∷ more) = ap (λ (x : RawNet). x ∷ nets_for old more) here ∙ ap (λ (xs : List RawNet). net_use new t ∷ xs) (others more none) in
       subst (λ (i : ℕ). with_pin_at number i (nets_for old (s ∷ more)) ≡ nets_for new (s ∷ more)) (sym zero_is)
       (subst (λ (x : List ℕ). with_pin_at number 0 (nets_for old (x ∷ more)) ≡ nets_for new (x ∷ more)) (sym same) at_t)
 
   found_there : (s : List ℕ) (more : Signals) (k j : ℕ) → bytes_eq s t ≡ false → k ≡ suc j → with_pin_at number j (nets_for old more) ≡ nets_for new more → with_pin_at number k (nets_for old (s ∷ more)) ≡ nets_for new (s ∷ more)
   found_there s more k j e next rest =
-      let here : net_use old s ≡ net_use new s = ap (λ (ps : List RawPin). record { signal = s; pins = ps }) (sym (same_pins s (apart s t e))) in
+      let here : net_use old s ≡ net_use new s = ap (λ (ps : List RawPin). record { pins = ps }) (sym (same_pins s (apart s t e))) in
       subst (λ (i : ℕ). with_pin_at number i (nets_for old (s ∷ more)) ≡ nets_for new (s ∷ more)) (sym next)
-      (ap (λ (x : NetUse). x ∷ with_pin_at number j (nets_for old more)) here ∙ ap (λ (xs : List NetUse). net_use new s ∷ xs) rest)
+      (ap (λ (x : RawNet). x ∷ with_pin_at number j (nets_for old more)) here ∙ ap (λ (xs : List RawNet). net_use new s ∷ xs) rest)
 
   found_by : (s : List ℕ) (more : Signals) (k : ℕ) (b : Bool) → bytes_eq s t ≡ b → ((j : ℕ) → index_of t more ≡ Some j → with_pin_at number j (nets_for old more) ≡ nets_for new more)
       → index_of s more ≡ None → index_of t (s ∷ more) ≡ Some k → with_pin_at number k (nets_for old (s ∷ more)) ≡ nets_for new (s ∷ more)
@@ -105,9 +105,9 @@ module _ (earlier : List Signals) (taken : Signals) (t : List ℕ) where
       let none = absent_uses t 0 [] old e in
       let nothing : block_pins t 0 earlier ++ pin_of number t taken ≡ [] = sym (pins_last t 0 earlier taken) ∙ none.1 in
       let alone : block_pins t 0 new ≡ pins.Block number ∷ [] = new_pins ∙ ap (λ (ps : List RawPin). ps ++ pins.Block number ∷ []) (front_empty (block_pins t 0 earlier) (pin_of number t taken) nothing) in
-      let nets : nets_for old (signals_of old) ++ record { signal = t; pins = pins.Block number ∷ [] } ∷ [] ≡ nets_for new (signals_of new) =
-      ap (λ (xs : List NetUse). xs ++ record { signal = t; pins = pins.Block number ∷ [] } ∷ []) (others (signals_of old) e)
-      ∙ ap (λ (ps : List RawPin). nets_for new (signals_of old) ++ record { signal = t; pins = ps } ∷ []) (sym alone)
+      let nets : nets_for old (signals_of old) ++ record { pins = pins.Block number ∷ [] } ∷ [] ≡ nets_for new (signals_of new) =
+      ap (λ (xs : List RawNet). xs ++ record { pins = pins.Block number ∷ [] } ∷ []) (others (signals_of old) e)
+      ∙ ap (λ (ps : List RawPin). nets_for new (signals_of old) ++ record { pins = ps } ∷ []) (sym alone)
       ∙ sym (map-append (net_use new) (signals_of old) (t ∷ []))
       ∙ ap (nets_for new) (sym same) in
       λ i. record { signals = sym same i; nets = nets i }
@@ -133,7 +133,7 @@ same_nets : (earlier : List Signals) (signals : Signals) → nets_for earlier si
 same_nets earlier [] = refl
 same_nets earlier (s ∷ more) =
     let here : block_pins s 0 earlier ≡ block_pins s 0 (earlier ++ [] ∷ []) = sym (pins_last s 0 earlier [] ∙ append-nil (block_pins s 0 earlier)) in
-    ap (λ (ps : List RawPin). record { signal = s; pins = ps } ∷ nets_for earlier more) here ∙ ap (λ (xs : List NetUse). net_use (earlier ++ [] ∷ []) s ∷ xs) (same_nets earlier more)
+    ap (λ (ps : List RawPin). record { pins = ps } ∷ nets_for earlier more) here ∙ ap (λ (xs : List RawNet). net_use (earlier ++ [] ∷ []) s ∷ xs) (same_nets earlier more)
 
 idle : (earlier : List Signals) → kept earlier ≡ kept (earlier ++ [] ∷ [])
 idle earlier =
@@ -148,11 +148,11 @@ by_all n earlier (signals ∷ more) at =
     let next : n + 1 ≡ 0 + length (earlier ++ signals ∷ []) = omega (arith, length-append earlier (signals ∷ [])) in
     ap (λ (u : Uses). used_by (n + 1) u more) one ∙ by_all (n + 1) (earlier ++ signals ∷ []) more next ∙ ap kept (append_assoc earlier (signals ∷ []) more)
 
-finished_all : (uses : List Signals) (pad_names signals : Signals) → map (finished_net pad_names) (nets_for uses signals) ≡ map (net_of uses pad_names) signals
-finished_all uses pad_names [] = refl
-finished_all uses pad_names (s ∷ more) = ap (λ (xs : List RawNet). net_of uses pad_names s ∷ xs) (finished_all uses pad_names more)
+with_all : (uses : List Signals) (pad_names signals : Signals) → with_pads pad_names signals (nets_for uses signals) ≡ map (net_of uses pad_names) signals
+with_all uses pad_names [] = refl
+with_all uses pad_names (s ∷ more) = ap (λ (xs : List RawNet). net_of uses pad_names s ∷ xs) (with_all uses pad_names more)
 
-pub nets_are : (uses : List Signals) (pad_names : Signals) → map (finished_net pad_names) (used_by 0 nothing_used uses).nets ≡ nets_of uses pad_names
-nets_are uses pad_names =
-    let all : used_by 0 nothing_used uses ≡ kept uses = by_all 0 [] uses (omega arith) in
-    ap (λ (u : Uses). map (finished_net pad_names) u.nets) all ∙ finished_all uses pad_names (signals_of uses)
+pub nets_are : (uses : List Signals) (pad_names : Signals) (u : Uses) → u ≡ used_by 0 nothing_used uses → with_pads pad_names u.signals u.nets ≡ nets_of uses pad_names
+nets_are uses pad_names u is =
+    let all : u ≡ kept uses = is ∙ by_all 0 [] uses (omega arith) in
+    ap (λ (v : Uses). with_pads pad_names v.signals v.nets) all ∙ with_all uses pad_names (signals_of uses)

@@ -5,19 +5,14 @@ use Rattle.sf_model.specs.declared.raw.RawNet.{RawNet}
 use Rattle.sf_model.specs.declared.raw.RawPin.{RawPin}
 use Rattle.sf_model.specs.declared.raw.RawPin.TheVariants as pins
 use Rattle.sf_yal.specs.declared.instance.Instance as code
-use Rattle.sf_yal.specs.declared.nets.Net as found
 use Rattle.sf_yal.specs.declared.nets.Used as kept
 use Rattle.sf_yal.specs.Names.{index_of}
 use Rattle.sf_yal.specs.Parts.{pad_pins}
 
--- a signal, and its pins so far
-pub record NetUse : Type 0 where
-  pub signal : List ℕ
-  pub pins : List RawPin
-
+-- the signals so far, and the net of each
 pub record Uses : Type 0 where
   pub signals : List (List ℕ)
-  pub nets : List NetUse
+  pub nets : List RawNet
 
 abbrev pub nothing_used : Uses
 nothing_used = record { signals = []; nets = [] }
@@ -39,16 +34,16 @@ ends_with n some = is_some_block n (slice_get some (length some - 1))
 abbrev pub with_pin : ℕ → List RawPin → List RawPin
 with_pin n some = if ends_with n some then some else some ++ pins.Block n ∷ []
 
-abbrev pub with_net_pin : ℕ → NetUse → NetUse
-with_net_pin n net = record { signal = net.signal; pins = with_pin n net.pins }
+abbrev pub with_net_pin : ℕ → RawNet → RawNet
+with_net_pin n net = record { pins = with_pin n net.pins }
 
-abbrev pub with_pin_at : ℕ → ℕ → List NetUse → List NetUse
+abbrev pub with_pin_at : ℕ → ℕ → List RawNet → List RawNet
 with_pin_at n k [] = []
 with_pin_at n zero (net ∷ more) = with_net_pin n net ∷ more
 with_pin_at n (suc k) (net ∷ more) = net ∷ with_pin_at n k more
 
 abbrev pub net_opened : ℕ → List ℕ → Uses → Uses
-net_opened n signal u = record { signals = u.signals ++ signal ∷ []; nets = u.nets ++ record { signal = signal; pins = pins.Block n ∷ [] } ∷ [] }
+net_opened n signal u = record { signals = u.signals ++ signal ∷ []; nets = u.nets ++ record { pins = pins.Block n ∷ [] } ∷ [] }
 
 abbrev pub used_at : ℕ → Uses → List ℕ → Option ℕ → Uses
 used_at n u signal None = net_opened n signal u
@@ -66,19 +61,25 @@ abbrev pub used_by : ℕ → Uses → List (List (List ℕ)) → Uses
 used_by n u [] = u
 used_by n u (signals ∷ more) = used_by (n + 1) (used_all n u signals) more
 
-abbrev pub finished_net : List (List ℕ) → NetUse → RawNet
-finished_net pad_names net = record { pins = net.pins ++ pad_pins (index_of net.signal pad_names) }
+-- a net with the pad of its signal's name
+abbrev pub with_pad : List (List ℕ) → List ℕ → RawNet → RawNet
+with_pad pad_names signal net = record { pins = net.pins ++ pad_pins (index_of signal pad_names) }
+
+-- the same, where there is such a signal
+abbrev pub with_pad_of : List (List ℕ) → Option (List ℕ) → RawNet → RawNet
+with_pad_of pad_names None net = net
+with_pad_of pad_names (Some signal) net = with_pad pad_names signal net
+
+-- the nets of these signals with their pads; further nets stay
+abbrev pub with_pads : List (List ℕ) → List (List ℕ) → List RawNet → List RawNet
+with_pads pad_names [] nets = nets
+with_pads pad_names (signal ∷ more) [] = []
+with_pads pad_names (signal ∷ more) (net ∷ nets) = with_pad pad_names signal net ∷ with_pads pad_names more nets
 
 -- ---- what the code keeps
 
-abbrev pub net_in : found.Net → NetUse
-net_in net = record { signal = net.signal.now; pins = net.pins.items }
-
-abbrev pub nets_in : List found.Net → List NetUse
-nets_in nets = map net_in nets
-
 abbrev pub used_in : kept.Used → Uses
-used_in used = record { signals = used.signals; nets = nets_in used.nets.items }
+used_in used = record { signals = used.signals; nets = used.nets.items }
 
 abbrev pub signals_in : List code.Instance → List (List (List ℕ))
 signals_in items = map (λ (i : code.Instance). words is_blank_byte i.signals.now) items

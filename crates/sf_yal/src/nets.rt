@@ -1,29 +1,24 @@
 //! The nets: one for each distinct signal.
 
-ghost use Rattle.std.specs.Prelude.{◌≡◌, map, None, IfOk, OnOk};
+ghost use Rattle.std.specs.Prelude.{◌≡◌, ◌∷◌, ◌++◌, [], None, IfOk, OnOk, slice_get};
 ghost use Rattle.sf_lex.specs.Text.{words, is_blank_byte};
-ghost use Rattle.sf_yal.specs.Names.{index_of};
+ghost use Rattle.sf_yal.specs.Names.{index_of, bytes_of};
 ghost use Rattle.sf_yal.specs.Parts.{nets_of};
-ghost use Rattle.sf_yal.specs.Using.{signals_in, net_opened, used_in, used_once, used_all, used_by, with_pin, with_pin_at, nets_in, net_in, finished_net, ends_with, nothing_used};
+ghost use Rattle.sf_model.specs.declared.raw.RawPin.TheVariants.{Block};
+ghost use Rattle.sf_yal.specs.Using.{signals_in, net_opened, used_in, used_once, used_all, used_by, with_pin, with_pin_at, with_pad_of, with_pads, ends_with, nothing_used};
 
 use crate::instance::Instance;
-use crate::names::Names;
+use crate::names::{Names, number_at};
 use crate::piece::next_word;
 use sf_model::{RawNet, RawNetList, RawPin, RawPins};
 use std::alloc::{AllocError, Global};
+use std::mem;
 
-/// A signal, and its pins so far.
-#[derive(Drop)]
-struct Net<'a> {
-    signal: &'a [u8],
-    pins: Vec<RawPin>,
-}
-
-/// The signals so far, and their nets.
+/// The signals so far, and the net of each.
 #[derive(Drop)]
 struct Used<'a> {
     signals: Names<'a>,
-    nets: Vec<Net<'a>>,
+    nets: Vec<RawNet>,
 }
 
 fn is_last(pins: &[RawPin], instance: u32) -> bool
@@ -35,37 +30,48 @@ fn is_last(pins: &[RawPin], instance: u32) -> bool
     }
 }
 
-impl<'a> Net<'a> {
-    /// An instance is one pin, however often it names the signal.
-    fn add_pin(&mut self, instance: u32) -> Result<(), AllocError>
-        ensures pins { OnOk result (self.new.pins.items ≡ with_pin instance self.old.pins.items) }
-        ensures signal { self.new.signal ≡ self.old.signal }
-    {
-        if !is_last(&self.pins, instance) {
-            self.pins.push(RawPin::Block(instance))?;
-        }
-        Ok(())
+/// A pin more. A text may have millions of nets of one or two pins, so room is made for so many and not for more.
+fn push_pin(alloc: Global, net: &mut RawNet, pin: RawPin) -> Result<(), AllocError>
+    ensures { OnOk result (net.new.pins ≡ net.old.pins ++ pin ∷ []) }
+{
+    let mut pins = mem::replace(&mut net.pins, RawPins::from_vec(Vec::new(alloc))).into_vec();
+    if pins.len() == pins.capacity() {
+        pins.reserve_exact(pins.len().max(1))?;
     }
+    pins.push(pin)?;
+    net.pins = RawPins::from_vec(pins);
+    Ok(())
 }
 
-/// The number of an item of a list. No list has room for more items than there are numbers.
-fn number_at(place: usize) -> Result<u32, AllocError>
-    ensures { IfOk result (λ n. n ≡ place) }
+/// An instance is one pin, however often it names the signal.
+fn use_net(alloc: Global, net: &mut RawNet, instance: u32) -> Result<(), AllocError>
+    ensures { OnOk result (net.new.pins ≡ with_pin instance net.old.pins) }
 {
-    match u32::try_from(place) {
-        Ok(number) => Ok(number),
-        Err(_) => Err(AllocError),
+    if !is_last(net.pins.as_slice(), instance) {
+        push_pin(alloc, net, RawPin::Block(instance))?;
     }
+    Ok(())
+}
+
+/// The net of the first instance that names its signal.
+fn open_net(alloc: Global, instance: u32) -> Result<RawNet, AllocError>
+    ensures { IfOk result (λ net. net.pins ≡ Block instance ∷ []) }
+{
+    let mut pins = Vec::with_capacity(alloc, 1)?;
+    pins.push(RawPin::Block(instance))?;
+    Ok(RawNet {
+        pins: RawPins::from_vec(pins),
+    })
 }
 
 impl<'a> Used<'a> {
-    fn add_pin(&mut self, place: usize, instance: u32) -> Result<(), AllocError>
-        ensures nets { OnOk result (nets_in self.new.nets.items ≡ with_pin_at instance place (nets_in self.old.nets.items)) }
+    fn add_pin(&mut self, alloc: Global, place: usize, instance: u32) -> Result<(), AllocError>
+        ensures nets { OnOk result (self.new.nets.items ≡ with_pin_at instance place self.old.nets.items) }
         ensures signals { self.new.signals ≡ self.old.signals }
     {
         match self.nets.get_mut(place) {
             Some(net) => {
-                net.add_pin(instance)?;
+                use_net(alloc, net, instance)?;
                 Ok(())
             }
             None => Ok(()),
@@ -76,9 +82,7 @@ impl<'a> Used<'a> {
         requires { index_of signal.now self.old.signals ≡ None }
         ensures { OnOk result (used_in self.new ≡ net_opened instance signal.now (used_in self.old)) }
     {
-        let mut pins = Vec::new(alloc);
-        pins.push(RawPin::Block(instance))?;
-        self.nets.push(Net { signal, pins })?;
+        self.nets.push(open_net(alloc, instance)?)?;
         self.signals.add(signal)
     }
 
@@ -91,7 +95,7 @@ impl<'a> Used<'a> {
         ensures { OnOk result (used_in self.new ≡ used_once instance (used_in self.old) signal.now) }
     {
         match self.signals.place_of(signal) {
-            Some(place) => self.add_pin(place, instance),
+            Some(place) => self.add_pin(alloc, place, instance),
             None => self.add_net(alloc, signal, instance),
         }
     }
@@ -126,27 +130,40 @@ fn use_instances<'a>(alloc: Global, instances: &[Instance<'a>]) -> Result<Used<'
     Ok(used)
 }
 
-/// The net with the pad of its signal's name.
-fn finish_net(net: Net, pad_names: &Names) -> Result<RawNet, AllocError>
-    ensures { IfOk result (λ raw. raw ≡ finished_net pad_names.now (net_in net.entry)) }
+/// The pad that has the name of the signal at this place is the last pin of its net.
+fn add_pad(
+    alloc: Global,
+    net: &mut RawNet,
+    signals: &[&[u8]],
+    place: usize,
+    pad_names: &Names,
+) -> Result<(), AllocError>
+    ensures { OnOk result (net.new ≡ with_pad_of pad_names.now (slice_get (bytes_of signals.now) place) net.old) }
 {
-    let mut pins = net.pins;
-    if let Some(pad) = pad_names.place_of(net.signal) {
-        pins.push(RawPin::Pad(number_at(pad)?))?;
+    let Some(signal) = signals.get(place) else {
+        return Ok(());
+    };
+    match pad_names.place_of(signal) {
+        Some(pad) => push_pin(alloc, net, RawPin::Pad(number_at(pad)?)),
+        None => Ok(()),
     }
-    Ok(RawNet {
-        pins: RawPins::from_vec(pins),
-    })
 }
 
-fn finish_nets(alloc: Global, nets: Vec<Net>, pad_names: &Names) -> Result<Vec<RawNet>, AllocError>
-    ensures { IfOk result (λ raw. raw.items ≡ map (finished_net pad_names.now) (nets_in nets.entry.items)) }
+/// The nets with the pads of their signals' names.
+fn add_pads(
+    alloc: Global,
+    nets: &mut Vec<RawNet>,
+    signals: &[&[u8]],
+    pad_names: &Names,
+) -> Result<(), AllocError>
+    ensures { OnOk result (nets.new.items ≡ with_pads pad_names.now (bytes_of signals.now) nets.old.items) }
 {
-    let mut out = Vec::new(alloc);
-    for net in nets {
-        out.push(finish_net(net, pad_names)?)?;
+    let mut place = 0;
+    for net in nets.iter_mut() {
+        add_pad(alloc, net, signals, place, pad_names)?;
+        place += 1;
     }
-    Ok(out)
+    Ok(())
 }
 
 /// A net for each distinct signal in the order of first use: the instances that name it, and the pad of its name.
@@ -158,5 +175,7 @@ pub fn read_nets(
     ensures { IfOk result (λ nets. nets ≡ nets_of (signals_in instances.now) pad_names.now) }
 {
     let used = use_instances(alloc, instances)?;
-    Ok(RawNetList::from_vec(finish_nets(alloc, used.nets, pad_names)?))
+    let mut nets = used.nets;
+    add_pads(alloc, &mut nets, used.signals.as_slice(), pad_names)?;
+    Ok(RawNetList::from_vec(nets))
 }
