@@ -82,13 +82,14 @@ impl NetsFound {
         }
     }
 
-    /// Closes the last net, if there is one.
+    /// Closes the last net, if there is one. It keeps no room for further pins: a text may have millions of nets.
     fn close(&mut self, alloc: Global) -> Result<(), AllocError>
         ensures nets { OnOk result (self.new.nets.items ≡ with_last self.old.nets.items self.old.degree self.old.pins.items) }
         ensures pins { OnOk result (self.new.pins.items ≡ []) }
         ensures count { self.new.count ≡ self.old.count }
     {
-        let pins = mem::replace(&mut self.pins, Vec::new(alloc));
+        let mut pins = mem::replace(&mut self.pins, Vec::new(alloc));
+        pins.shrink_to_fit();
         if self.degree.is_some() {
             self.nets.push(RawNet {
                 pins: RawPins::from_vec(pins),
