@@ -7,56 +7,23 @@ ghost use Rattle.sf_model.specs.declared.TheConstants.{MAX};
 ghost use Rattle.sf_node.specs.Subproblem.{root};
 ghost use Rattle.sf_search_core.specs.Conserved.{IsConserved};
 ghost use Rattle.sf_polish.specs.Text.{IsWritable};
-ghost use Rattle.sf_node.specs.Order.{rank, step_cmp, steps_cmp};
+ghost use Rattle.sf_node.specs.Order.{steps_cmp};
 ghost use Rattle.sf_certificate.specs.Marks.{tag_of, given_marks, marks};
 ghost use Rattle.sf_certificate.specs.Valid.{HasCost, IsValid, least, decided};
 
+use crate::arranging::arrange;
 use crate::cert::Cert;
+use crate::comparing::compare_steps;
 use crate::mark::Mark;
 use crate::tag::{Tag, TagList};
 use sf_model::Design;
-use sf_node::{Step, Task, Values};
+use sf_node::{Task, Values};
 use sf_polish::expr::Expr;
 use sf_search_core::{Entry, Kind};
 use std::alloc::{AllocError as NoMemory, Global};
-use std::cmp::Ordering;
 
-/// A number for each step, no two alike.
-fn rank(step: Step) -> u32
-    ensures { result ≡ rank step }
-{
-    match step {
-        Step::Beside => 0,
-        Step::Above => 1,
-        Step::Block(block) => 3 * u32::from(block) + 2,
-        Step::Left(block) => 3 * u32::from(block) + 3,
-        Step::Right(block) => 3 * u32::from(block) + 4,
-    }
-}
-
-/// The order of two lists of steps: by the first step in which they differ, and a list right before those that go on from it.
-fn compare_steps(first: &[Step], second: &[Step]) -> Ordering
-    ensures { result ≡ steps_cmp first.now second.now }
-{
-    let mut left = first;
-    let mut right = second;
-    while let Some((x, more)) = left.split_first() {
-        let Some((y, rest)) = right.split_first() else {
-            return Ordering::Greater;
-        };
-        let order = rank(*x).cmp(&rank(*y));
-        if order != Ordering::Equal {
-            return order;
-        }
-        left = more;
-        right = rest;
-    }
-    if right.is_empty() {
-        Ordering::Equal
-    } else {
-        Ordering::Less
-    }
-}
+/// After how many entries their list gives room back.
+const PIECE: usize = 65536;
 
 fn tag_of(kind: Kind) -> Tag
     ensures { result ≡ tag_of kind }
@@ -68,32 +35,40 @@ fn tag_of(kind: Kind) -> Tag
     }
 }
 
-/// The entries and the open tasks with their tags, the last task first: a search that always takes the last open task
-/// leaves them in preorder, so that there is nothing to sort.
-fn given_marks(alloc: Global, entries: Vec<Entry>, left: Vec<Task>) -> Result<Vec<Mark>, NoMemory>
-    ensures { IfOk result (λ marks. marks.items ≡ given_marks entries.items (reverse left.items)) }
+/// The entries and the open tasks with their tags, in reverse. The entries' list gives its room back as it goes, so that
+/// the two lists are never there whole at once.
+fn given_marks(
+    alloc: Global,
+    mut entries: Vec<Entry>,
+    left: Vec<Task>,
+) -> Result<Vec<Mark>, NoMemory>
+    ensures { IfOk result (λ marks. marks.items ≡ given_marks [] left.items ++ given_marks (reverse entries.items) []) }
 {
     let mut marks = Vec::with_capacity(alloc, entries.len().saturating_add(left.len()))?;
-    for entry in entries {
-        marks.push(Mark {
-            node: entry.node,
-            tag: tag_of(entry.kind),
-        })?;
-    }
-    for task in left.into_iter().rev() {
+    for task in left {
         marks.push(Mark {
             node: task.node,
             tag: Tag::Open,
         })?;
     }
+    while let Some(entry) = entries.pop() {
+        if entries.len() % PIECE == 0 {
+            entries.shrink_to_fit();
+        }
+        marks.push(Mark {
+            node: entry.node,
+            tag: tag_of(entry.kind),
+        })?;
+    }
     Ok(marks)
 }
 
-/// Puts the marks into preorder. What each worker logs in a round is mostly in preorder, and a stable sort merges such runs.
-fn sort_marks(marks: &mut Vec<Mark>) -> Result<(), NoMemory>
+/// Puts the marks into preorder. Once they are arranged, one comparison for each mostly shows that they are.
+fn sort_marks(alloc: Global, marks: &mut Vec<Mark>) -> Result<(), NoMemory>
     ensures moved { IsPermutation marks.old.items marks.new.items }
     ensures sorted { OnOk result (IsSortedBy (λ a b. is_lt (steps_cmp a.node.steps b.node.steps)) marks.new.items) }
 {
+    arrange(alloc, marks)?;
     marks.sort_by(|a, b| compare_steps(a.node.steps(), b.node.steps()))?;
     Ok(())
 }
@@ -145,7 +120,7 @@ pub fn merge<V: Values>(
 {
     let bound = least_bound(cost, &left);
     let mut marks = given_marks(alloc, entries, left)?;
-    sort_marks(&mut marks)?;
+    sort_marks(alloc, &mut marks)?;
     let tags = TagList::from_vec(tags_of(alloc, &marks)?);
     let blocks = design.blocks.as_slice().len() as u16;
     Ok(Cert {
