@@ -3,7 +3,7 @@ use Rattle.std.proofs.Common.{◌≡◌, ℕ, ◌+◌, ◌<◌, ◌≤◌, List,
 use Rattle.std.specs.Prelude.{All}
 use Rattle.std.proofs.lemmas.List.{get_or-map}
 use Rattle.std.proofs.lemmas.List.Elements.{All-more, All-weaker}
-use Rattle.std.proofs.lemmas.List.Sorted.{IsPermutation-trans, IsPermutation-append_right, IsPermutation-to_front}
+use Rattle.std.proofs.lemmas.List.Sorted.{IsPermutation-trans, IsPermutation-append, IsPermutation-append_comm, IsPermutation-append_right, IsPermutation-refl, IsPermutation-to_front}
 use Rattle.sf_node.specs.declared.task.Task.{Task}
 
 pub bound-at : (ts : List Task) (i : ℕ) (t : Task) → i < length ts → t ≡ get_or ts i t → get_or (map (λ (u : Task). u.bound) ts) i 0 ≡ t.bound
@@ -45,3 +45,11 @@ popped-more given done left rest next x p popped pushed =
     let before : IsPermutation given (done ++ (rest ++ x ∷ [])) = subst (λ (ys : List Task). IsPermutation given (done ++ ys)) popped p in
     let moved : IsPermutation given (done ++ x ∷ rest) = IsPermutation-trans given (done ++ (rest ++ x ∷ [])) (done ++ x ∷ rest) before front in
     subst (λ (ys : List Task). IsPermutation given (ys ++ rest)) (sym pushed) (subst (IsPermutation given) (sym (append_assoc done (x ∷ []) rest)) moved)
+
+-- tasks in another order, put between the others
+pub put-between : (old front back ts sorted mid new : List Task) → front ++ back ≡ old → IsPermutation ts sorted → mid ≡ front ++ sorted → new ≡ mid ++ back → IsPermutation (old ++ ts) new
+put-between old front back ts sorted mid new parts p e f =
+    let others : IsPermutation (back ++ ts) (sorted ++ back) = IsPermutation-trans (back ++ ts) (ts ++ back) (sorted ++ back) (IsPermutation-append_comm back ts) (IsPermutation-append ts sorted back back p (IsPermutation-refl back)) in
+    let before : old ++ ts ≡ front ++ (back ++ ts) = ap (λ (us : List Task). us ++ ts) (sym parts) ∙ append_assoc front back ts in
+    let after : new ≡ front ++ (sorted ++ back) = f ∙ ap (λ (us : List Task). us ++ back) e ∙ append_assoc front sorted back in
+    subst (λ us. IsPermutation us new) (sym before) (subst (IsPermutation (front ++ (back ++ ts))) (sym after) (IsPermutation-append_right front (back ++ ts) (sorted ++ back) others))

@@ -35,12 +35,16 @@ impl OpenTasks {
         self.tasks.is_empty()
     }
 
+    /// Puts tasks where the first of them belongs: between two of the others there is no room for some of them alone, since
+    /// they come from subproblems that were among these.
     pub fn append(&mut self, mut tasks: Vec<Task>) -> Result<(), NoMemory>
         ensures { OnOk result (IsPermutation (self.old ++ tasks.items) self.new) }
     {
+        tasks.sort_by(|one, other| other.node.steps().cmp(one.node.steps()))?;
+        let at = place_before(&self.tasks, &tasks);
+        let mut after = self.tasks.split_off(at)?;
         self.tasks.append(&mut tasks)?;
-        self.tasks
-            .sort_by(|one, other| other.node.steps().cmp(one.node.steps()))?;
+        self.tasks.append(&mut after)?;
         Ok(())
     }
 
@@ -90,6 +94,16 @@ impl OpenTasks {
     {
         let OpenTasks { tasks } = self;
         tasks
+    }
+}
+
+/// How many of the tasks come after the first of the others.
+fn place_before(tasks: &[Task], others: &[Task]) -> usize
+    ensures { result ≤ length tasks.now }
+{
+    match others.first() {
+        Some(first) => tasks.partition_point(|task| task.node.steps() > first.node.steps()),
+        None => tasks.len(),
     }
 }
 

@@ -1,4 +1,4 @@
-use Rattle.std.proofs.Common.{◌≤◌, List, length, map, get_or, take, ap, ◌∙◌, subst, arith, ◌≡◌}
+use Rattle.std.proofs.Common.{◌≤◌, length, map, get_or, take, ap, ◌∙◌, subst, arith, ◌≡◌}
 use Rattle.std.proofs.Math.Seq.{take-length}
 use Rattle.std.specs.Prelude.{All}
 use Rattle.sf_node.specs.declared.task.Task.{Task}
