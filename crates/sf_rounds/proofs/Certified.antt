@@ -1,8 +1,8 @@
 -- The certificate of a search beside the machine: its tags, and all that is not visited yet is open.
-use Rattle.std.proofs.Common.{◌≡◌, ℕ, suc, ◌+◌, ◌<◌, ◌≤◌, min, List, [], ◌∷◌, ◌++◌, map, reverse, length, All, arith, refl, ap, sym, subst, ◌∙◌, Option, Some, None, Bool, true, false, length-append, append_assoc, append-nil, IsPermutation}
+use Rattle.std.proofs.Common.{◌≡◌, ℕ, suc, ◌<◌, min, List, [], ◌∷◌, ◌++◌, map, reverse, length, arith, refl, ap, sym, subst, ◌∙◌, true, append_assoc, append-nil, IsPermutation}
 use Rattle.std.specs.List.{AllByRecursion}
 use Rattle.std.proofs.lemmas.List.{length-map, reverse-reverse}
-use Rattle.std.proofs.lemmas.List.Sorted.{IsPermutation-reverse, IsPermutation-trans}
+use Rattle.std.proofs.lemmas.List.Sorted.{IsPermutation-reverse}
 use Rattle.sf_model.specs.declared.design.Design.{Design}
 use Rattle.sf_node.specs.declared.task.Task.{Task}
 use Rattle.sf_node.specs.Parts.{Parts}
@@ -12,10 +12,10 @@ use Rattle.sf_search_core.specs.declared.entry.Entry.{Entry}
 use Rattle.sf_search_core.specs.declared.entry.Kind.{Kind}
 use Rattle.sf_search_core.specs.declared.entry.Kind.TheVariants as kind
 use Rattle.sf_search_core.specs.State.{State}
-use Rattle.sf_search_core.specs.Core.{IsCoreState, held_tasks}
+use Rattle.sf_search_core.specs.Core.{IsCoreState}
 use Rattle.sf_certificate.specs.declared.mark.Mark.{Mark}
 use Rattle.sf_certificate.specs.declared.tag.Tag.{Tag}
-use Rattle.sf_certificate.specs.declared.tag.Tag.TheVariants.{Extend, Split, Closed, Open}
+use Rattle.sf_certificate.specs.declared.tag.Tag.TheVariants.{Extend, Split, Open}
 use Rattle.sf_certificate.specs.Marks.{made, marks, tag_of, given_marks, waiting_after, IsFair}
 use Rattle.sf_certificate.specs.Valid.{AreTrees, left_open, least, decided}
 use Rattle.sf_certificate.proofs.AfterTags.{opens, marks-then, open-all, least-min}
@@ -24,7 +24,7 @@ use Rattle.sf_certificate.proofs.Merged.{least-same}
 use Rattle.sf_certificate.proofs.Growth.{trees-step}
 use Rattle.sf_certificate.proofs.MergedTree.{IsMerged, all-fair}
 use Rattle.sf_certificate.proofs.MergedCert.{turned}
-use Rattle.sf_rounds.specs.Stage.{task_at, mark_of, IsStage, Progress, left_of, IsFollowed, IsBeside}
+use Rattle.sf_rounds.specs.Stage.{task_at, mark_of, IsStage, Progress, left_of, IsFollowed}
 
 -- fair tags are trees as far as they go
 trees-then : (bound : Parts → ℕ) (cost : ℕ) (nodes : List Parts) (tags more : List Tag) → length (marks nodes tags) ≡ length tags → AllByRecursion (λ m. IsFair bound cost m.tag m.node) (marks nodes tags) → AreTrees bound cost (waiting_after nodes tags) more → AreTrees bound cost nodes (tags ++ more)

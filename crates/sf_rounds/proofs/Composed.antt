@@ -1,5 +1,5 @@
 -- A round, or one decision, goes on from a state of the search.
-use Rattle.std.proofs.Common.{◌≡◌, ℕ, zero, suc, ◌+◌, ◌<◌, ◌≤◌, ◌⊎◌, inl, inr, List, [], ◌∷◌, ◌++◌, map, length, All, ap, sym, ◌∙◌, subst, refl, arith, append-nil}
+use Rattle.std.proofs.Common.{◌≡◌, ℕ, zero, suc, ◌<◌, ◌≤◌, ◌⊎◌, inl, inr, List, [], ◌∷◌, ◌++◌, map, length, All, ap, sym, ◌∙◌, subst, refl, arith, append-nil}
 use Rattle.std.specs.Prelude.{sum_by, Any, Option, Some, None, MatchOption, IsPermutation, IsTrue}
 use Rattle.std.specs.List.{flat_map}
 use Rattle.std.proofs.lemmas.List.{map-append}
@@ -15,19 +15,17 @@ use Rattle.sf_polish.specs.Text.{IsWritable}
 use Rattle.sf_node.specs.declared.task.Task.{Task}
 use Rattle.sf_node.specs.Parts.{Parts}
 use Rattle.sf_node.specs.Subproblem.{root, is_solved}
-use Rattle.sf_node.specs.Children.{IsSubproblem}
 use Rattle.sf_search_core.specs.declared.entry.Entry.{Entry}
-use Rattle.sf_search_core.specs.Conserved.{IsConserved, IsDecided, children}
-use Rattle.sf_search_core.specs.Core.{IsCoreState, IsFound}
+use Rattle.sf_search_core.specs.Conserved.{IsDecided, children}
 use Rattle.sf_certificate.specs.Valid.{HasCost}
-use Rattle.sf_count.specs.Few.{BranchesFirst, AllBranchFirst}
+use Rattle.sf_count.specs.Few.{BranchesFirst}
 use Rattle.sf_worker.specs.Tasks.{IsTask, IsPlan, IsEntry, Solves}
 use Rattle.sf_worker.proofs.Passes.{any-left, any-right}
 use Rattle.sf_rounds.specs.declared.job.RoundOut.{RoundOut}
-use Rattle.sf_rounds.specs.Rounds.{IsLeast, IsRound, nodes}
+use Rattle.sf_rounds.specs.Rounds.{IsRound, nodes}
 use Rattle.sf_rounds.specs.Run.{IsBest}
 use Rattle.sf_rounds.specs.declared.many_workers.Progress.{Progress}
-use Rattle.sf_rounds.specs.Searching.{between, IsSearch, IsAbsorbed, newer}
+use Rattle.sf_rounds.specs.Searching.{IsSearch, IsAbsorbed, newer}
 use Rattle.sf_rounds.proofs.Formed.{plan-formed}
 use Rattle.sf_rounds.proofs.Weights.{nodes-permute}
 use Rattle.sf_rounds.proofs.Whole.{weigh_map, weigh_flat}

@@ -1,5 +1,5 @@
 -- How tasks are dealt to the workers of a round.
-use Rattle.std.proofs.Common.{◌≡◌, ℕ, zero, suc, ◌+◌, ◌-◌, ◌<◌, ◌≤◌, List, [], ◌∷◌, ◌++◌, length, map, take, drop, set, get_or, reverse, All, ap, sym, ◌∙◌, subst, refl, arith, length-append, append-nil}
+use Rattle.std.proofs.Common.{◌≡◌, ℕ, zero, suc, ◌+◌, ◌-◌, ◌<◌, List, [], ◌∷◌, ◌++◌, length, map, take, drop, set, get_or, reverse, All, ap, sym, ◌∙◌, subst, refl, arith, length-append}
 use Rattle.std.specs.Prelude.{sum_by, Option, Some, None, IfSome, MatchOption, slice_get}
 use Rattle.std.specs.Option.{option_to_list}
 use Rattle.std.proofs.lemmas.List.{map-append, reverse-append, reverse-reverse, take_more, take_all, drop_all}
@@ -12,7 +12,7 @@ use Rattle.sf_model.specs.declared.design.Design.{Design}
 use Rattle.sf_node.specs.declared.task.Task.{Task}
 use Rattle.sf_node.specs.Parts.{Parts}
 use Rattle.sf_incumbent.specs.Seen.{Word, Knows}
-use Rattle.sf_frontier.specs.Ends.{Deque, OwnerView, ThiefView}
+use Rattle.sf_frontier.specs.Ends.{ThiefView}
 use Rattle.sf_frontier.specs.declared.place.Place.{Place}
 use Rattle.sf_frontier.specs.Team.{IsTeam, IsNewPlace, IsNewThief, deques_of, preys_of, thief_deques_of}
 use Rattle.sf_worker.specs.Tasks.{IsTask}

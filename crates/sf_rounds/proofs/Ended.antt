@@ -1,7 +1,6 @@
 -- What a search hands over, from the state of the machine beside it.
-use Rattle.std.proofs.Common.{◌≡◌, ℕ, suc, ◌+◌, ◌<◌, ◌≤◌, List, [], ◌∷◌, ◌++◌, map, reverse, length, All, arith, refl, ap, sym, subst, ◌∙◌, Option, Some, None, Bool, true, false}
+use Rattle.std.proofs.Common.{◌≡◌, ℕ, ◌<◌, ◌≤◌, List, [], ◌++◌, map, length, All, arith, refl, ap, sym, subst, ◌∙◌, Option, Some, None, Bool, true, false}
 use Rattle.std.specs.Prelude.{MatchOption}
-use Rattle.std.specs.List.{AllByRecursion}
 use Rattle.std.proofs.lemmas.List.{length-map, length-reverse}
 use Rattle.std.proofs.lemmas.List.Elements.{recursion_from_All, All-from_recursion}
 use Rattle.sf_model.specs.declared.design.Design.{Design}
@@ -17,7 +16,7 @@ use Rattle.sf_node.specs.Children.{IsSubproblem}
 use Rattle.sf_node.specs.Later.{pending}
 use Rattle.sf_search_core.specs.declared.entry.Entry.{Entry}
 use Rattle.sf_search_core.specs.State.{State}
-use Rattle.sf_search_core.specs.Core.{IsCoreState, held_tasks}
+use Rattle.sf_search_core.specs.Core.{held_tasks}
 use Rattle.sf_certificate.specs.declared.tag.Tag.{Tag}
 use Rattle.sf_certificate.specs.Marks.{tag_of}
 use Rattle.sf_certificate.specs.Valid.{HasCost, least, decided}
@@ -27,7 +26,7 @@ use Rattle.sf_certificate.proofs.MergedCert.{task-bounds}
 use Rattle.sf_count.proofs.Weighed.{entries-few}
 use Rattle.sf_rounds.specs.Found.{IsFirst}
 use Rattle.sf_rounds.specs.Run.{IsBest}
-use Rattle.sf_rounds.specs.Stage.{task_at, IsStage, Progress, left_of, IsBeside}
+use Rattle.sf_rounds.specs.Stage.{task_at, Progress, left_of, IsBeside}
 use Rattle.sf_rounds.proofs.Settled.{all-decided}
 use Rattle.sf_rounds.proofs.Certified.{certified, lowest-is}
 

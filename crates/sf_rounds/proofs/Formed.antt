@@ -1,5 +1,5 @@
 -- A plan that belongs to a subproblem has the form of a certificate's plan.
-use Rattle.std.proofs.Common.{◌≡◌, ℕ, ◌+◌, ◌<◌, ◌≤◌, ◌==◌, List, [], ◌∷◌, length, All, cond, arith, ap, sym, subst, ◌∙◌, inl, inr, Bool, true, false, get_or}
+use Rattle.std.proofs.Common.{◌≡◌, ℕ, ◌<◌, ◌≤◌, ◌==◌, List, [], ◌∷◌, All, cond, arith, ap, subst, ◌∙◌, inl, inr, Bool}
 use Rattle.std.specs.Prelude.{count_by, Contains}
 use Rattle.std.specs.List.{AllByRecursion}
 use Rattle.std.proofs.lemmas.Bool.Decides.{eqb_tells}

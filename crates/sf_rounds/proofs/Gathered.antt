@@ -1,7 +1,6 @@
 -- What is gathered, one worker after another.
-use Rattle.std.proofs.Common.{◌≡◌, ◌≢◌, ℕ, ◌+◌, ◌<◌, ◌≤◌, ◌⊎◌, inl, inr, min, List, [], ◌∷◌, ◌++◌, map, length, All, ap, sym, ◌∙◌, subst, refl, arith}
-use Rattle.std.specs.Prelude.{sum_by, Any}
-use Rattle.std.specs.List.{flat_map}
+use Rattle.std.proofs.Common.{◌≡◌, ◌≢◌, ◌+◌, ◌≤◌, inl, inr, min, List, [], ◌∷◌, ◌++◌, ap, sym, ◌∙◌, subst, refl, arith}
+use Rattle.std.specs.Prelude.{Any}
 use Rattle.std.proofs.lemmas.Bool.{cases_lt}
 use Rattle.std.proofs.lemmas.List.{map-append, flat_map_more}
 use Rattle.std.proofs.lemmas.List.Sums.{sum_by_push}

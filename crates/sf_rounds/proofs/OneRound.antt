@@ -1,10 +1,9 @@
 -- A decision is a round of one.
-use Rattle.std.proofs.Common.{◌≡◌, ℕ, zero, suc, ◌+◌, ◌<◌, ◌≤◌, ◌⊎◌, inl, inr, List, [], ◌∷◌, ◌++◌, map, length, All, ap, sym, ◌∙◌, subst, refl, arith, append-nil}
-use Rattle.std.specs.Prelude.{sum, Any, Option, Some, None, MatchOption, IsPermutation, IsTrue, slice_get}
-use Rattle.std.specs.Option.{option_to_list}
+use Rattle.std.proofs.Common.{◌≡◌, ℕ, zero, suc, ◌<◌, ◌≤◌, inl, inr, List, [], ◌∷◌, ◌++◌, map, length, All, ap, sym, ◌∙◌, subst, refl, arith, append-nil}
+use Rattle.std.specs.Prelude.{Any, Option, Some, None, MatchOption, IsPermutation, IsTrue, slice_get}
 use Rattle.std.specs.List.{flat_map}
 use Rattle.std.proofs.lemmas.List.Sums.{sum_by-cons}
-use Rattle.std.proofs.lemmas.List.Sorted.{IsPermutation-refl, IsPermutation-trans, IsPermutation-to_front}
+use Rattle.std.proofs.lemmas.List.Sorted.{IsPermutation-refl}
 use Rattle.std.proofs.lemmas.List.Elements.{All-nil, All-cons}
 use Rattle.sf_model.specs.declared.design.Design.{Design}
 use Rattle.sf_polish.specs.declared.expr.Expr.{Expr}
@@ -12,12 +11,11 @@ use Rattle.sf_node.specs.declared.task.Task.{Task}
 use Rattle.sf_node.specs.Parts.{Parts}
 use Rattle.sf_node.specs.Subproblem.{is_solved}
 use Rattle.sf_search_core.specs.declared.entry.Entry.{Entry}
-use Rattle.sf_search_core.specs.declared.entry.Kind.{Kind}
 use Rattle.sf_search_core.specs.declared.entry.Kind.TheVariants as kind
 use Rattle.sf_search_core.specs.Conserved.{IsDecided, children}
 use Rattle.sf_bounds.specs.Cheapest.{IsPlanOf}
 use Rattle.sf_worker.specs.Decided.{IsSolvedBy, IsExtendedTo, IsSplitInto}
-use Rattle.sf_worker.specs.Tasks.{IsTask, IsPlan, IsEntry, Solves}
+use Rattle.sf_worker.specs.Tasks.{IsTask, IsPlan, IsEntry}
 use Rattle.sf_worker.proofs.Valued.{extended-made, split-made}
 use Rattle.sf_rounds.specs.declared.job.RoundOut.{RoundOut}
 use Rattle.sf_rounds.specs.Rounds.{IsLeast, IsRound, nodes}

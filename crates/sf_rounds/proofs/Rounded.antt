@@ -1,5 +1,5 @@
 -- What a round leaves, from what its workers did.
-use Rattle.std.proofs.Common.{◌≡◌, ◌≢◌, ℕ, zero, suc, ◌+◌, ◌<◌, ◌≤◌, ◌⊎◌, inl, inr, min, List, [], ◌∷◌, ◌++◌, map, length, All, ap, sym, ◌∙◌, subst, refl, arith}
+use Rattle.std.proofs.Common.{◌≡◌, ℕ, zero, suc, ◌<◌, ◌≤◌, ◌⊎◌, inl, inr, min, List, [], ◌∷◌, ◌++◌, length, All, ap, sym, ◌∙◌, subst, arith}
 use Rattle.std.specs.Prelude.{sum, Any, Option, Some, None, IfSome, MatchOption, IsTrue}
 use Rattle.std.specs.List.{flat_map}
 use Rattle.std.proofs.lemmas.Bool.{cases_lt}
@@ -21,8 +21,8 @@ use Rattle.sf_worker.specs.Tasks.{IsTask, IsPlan, IsEntry, Solves}
 use Rattle.sf_worker.specs.Took.{IsReady, IsBest}
 use Rattle.sf_rounds.specs.declared.job.Job.{Job}
 use Rattle.sf_rounds.specs.declared.job.RoundOut.{RoundOut}
-use Rattle.sf_rounds.specs.Jobs.{EachTwo, Ran, IsFresh, Dealt, Gathers, log_of, open_of}
-use Rattle.sf_rounds.specs.Rounds.{IsLeast, IsRound}
+use Rattle.sf_rounds.specs.Jobs.{EachTwo, Ran, IsFresh, Dealt, Gathers, log_of}
+use Rattle.sf_rounds.specs.Rounds.{IsRound}
 use Rattle.sf_rounds.proofs.Whole.{conserved, fresh-ready, all_entries, all_open, all_named, all_few}
 use Rattle.sf_rounds.proofs.Team.{all_solved, all_firsts}
 

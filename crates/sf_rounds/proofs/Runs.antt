@@ -1,28 +1,21 @@
 -- A search beside the machine, from its start on and over one visit.
-use Rattle.std.proofs.Common.{◌≡◌, ℕ, suc, ◌+◌, ◌<◌, ◌≤◌, List, [], ◌∷◌, ◌++◌, map, reverse, length, All, arith, refl, ap, sym, subst, ◌∙◌, Option, Some, None, Bool, true, false, length-append}
+use Rattle.std.proofs.Common.{◌≡◌, ℕ, suc, ◌+◌, ◌≤◌, List, [], ◌∷◌, ◌++◌, map, reverse, length, arith, refl, ap, sym, subst, ◌∙◌, Option, None, true, false, length-append}
 use Rattle.sf_model.specs.declared.design.Design.{Design}
 use Rattle.sf_model.specs.declared.TheConstants.{MAX}
-use Rattle.sf_model.specs.Legal.{block_count}
 use Rattle.sf_polish.specs.declared.expr.Expr.{Expr}
-use Rattle.sf_node.specs.declared.task.Task.{Task}
 use Rattle.sf_node.specs.Parts.{Parts}
 use Rattle.sf_node.specs.Subproblem.{root}
 use Rattle.sf_node.specs.Later.{behind, pending}
 use Rattle.sf_bounds.specs.Cheapest.{IsPlanOf}
-use Rattle.sf_search_core.specs.declared.entry.Entry.{Entry}
 use Rattle.sf_search_core.specs.State.{State}
-use Rattle.sf_search_core.specs.Core.{IsCoreState}
-use Rattle.sf_search_core.specs.Outcome.{opening, after_events}
+use Rattle.sf_search_core.specs.Outcome.{opening}
 use Rattle.sf_search_core.proofs.Outcome.{opening-core}
-use Rattle.sf_certificate.specs.declared.tag.Tag.{Tag}
-use Rattle.sf_certificate.specs.Marks.{made, tag_of}
 use Rattle.sf_cursor.specs.Path.{IsPath}
-use Rattle.sf_count.specs.Few.{AllBranchFirst}
 use Rattle.sf_rounds.specs.declared.visit.Visit.{Visit}
 use Rattle.sf_rounds.specs.declared.visit.Visit.TheVariants.{Closed, Solved, Extended, Split}
-use Rattle.sf_rounds.specs.Turns.{turn, turns, turn_events, settling, AreAccepted, TurnsAreAccepted}
+use Rattle.sf_rounds.specs.Turns.{turn, turns, turn_events, AreAccepted, TurnsAreAccepted}
 use Rattle.sf_rounds.specs.Found.{IsFirst}
-use Rattle.sf_rounds.specs.Run.{IsIdle, IsBest, best_after}
+use Rattle.sf_rounds.specs.Run.{IsBest, best_after}
 use Rattle.sf_rounds.specs.Stage.{task_at, IsStage, decision_of, IsVisit, tag_at, word_after, Progress, left_of, IsMove, IsBeside, IsRun}
 use Rattle.sf_rounds.proofs.Settled.{taken-is, turned-is, first-is, accepted-is, plan-cost, turns-still, accepted-still}
 use Rattle.sf_rounds.proofs.Formed.{plan-formed}

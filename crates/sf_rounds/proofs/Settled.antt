@@ -1,5 +1,5 @@
 -- The states that the events of a turn make.
-use Rattle.std.proofs.Common.{◌≡◌, ℕ, suc, ◌+◌, ◌-◌, ◌<◌, ◌≤◌, min, List, [], ◌∷◌, ◌++◌, map, length, All, arith, refl, ap, sym, subst, ◌∙◌, Option, Some, None, Result, Ok, Err, Bool, true, false, not, length-append, append_assoc, eq-eqb, inl, inr}
+use Rattle.std.proofs.Common.{◌≡◌, ℕ, suc, ◌-◌, ◌<◌, ◌≤◌, min, List, [], ◌∷◌, ◌++◌, map, length, All, arith, refl, ap, sym, subst, ◌∙◌, Option, Some, None, Result, Ok, Err, Bool, true, false, not, length-append, append_assoc, eq-eqb, inl, inr}
 use Prim.Native.Nat.{zero}
 use Rattle.std.specs.Prelude.{IsOk, IfOk, slice_set, slice_get, nat_lt, nat_le, remove, ◌==◌, ◌&&◌, ◌||◌}
 use Rattle.std.specs.List.{list_all}
@@ -19,7 +19,7 @@ use Rattle.sf_search_core.specs.declared.entry.Kind.TheVariants as kind
 use Rattle.sf_search_core.specs.declared.event.Event.TheVariants.{Take, Replace, Close, Offer}
 use Rattle.sf_search_core.specs.declared.event.How.TheVariants as how
 use Rattle.sf_search_core.specs.State.{State}
-use Rattle.sf_search_core.specs.Events.{held_in, held_by, applied, take, close, offer, may_branch, tasks}
+use Rattle.sf_search_core.specs.Events.{held_in, held_by, applied, take, close, offer, may_branch}
 use Rattle.sf_search_core.specs.Outcome.{next_of, after_event, after_events}
 use Rattle.sf_search_core.proofs.Replaced.{replaced, replace-done}
 use Rattle.sf_certificate.specs.Valid.{HasCost}

@@ -1,11 +1,11 @@
 -- The splits of the entries are those of the tree.
-use Rattle.std.proofs.Common.{◌≡◌, List, [], ◌∷◌, ◌++◌, map, All}
+use Rattle.std.proofs.Common.{List, [], ◌∷◌, map, All}
 use Rattle.std.specs.Prelude.{IsPermutation}
 use Rattle.std.specs.List.{AllByRecursion}
 use Rattle.std.proofs.lemmas.List.Elements.{recursion_from_All, All-from_recursion}
 use Rattle.std.proofs.lemmas.List.Sorted.{All-permutation}
 use Rattle.sf_model.specs.declared.design.Design.{Design}
-use Rattle.sf_model.proofs.Each.{each-append, each-map, each-weaker}
+use Rattle.sf_model.proofs.Each.{each-append}
 use Rattle.sf_node.specs.declared.task.Task.{Task}
 use Rattle.sf_node.specs.Parts.{Parts}
 use Rattle.sf_search_core.specs.declared.entry.Entry.{Entry}

@@ -1,41 +1,36 @@
 -- One turn of the machine is one visit of the search in preorder.
-use Rattle.std.proofs.Common.{◌≡◌, ℕ, suc, ◌+◌, ◌-◌, ◌<◌, ◌≤◌, min, List, [], ◌∷◌, ◌++◌, map, reverse, length, take, drop, get_or, All, arith, refl, ap, sym, subst, ◌∙◌, Option, Some, None, Result, Ok, Bool, true, false, not, length-append, append_assoc, append-nil}
-use Prim.Native.Nat.{zero}
-use Rattle.std.specs.Prelude.{IsOk, IfOk, slice_set, slice_get, remove, IsTrue, IsFalse, ◌&&◌}
+use Rattle.std.proofs.Common.{◌≡◌, ℕ, suc, ◌-◌, ◌<◌, min, List, [], ◌∷◌, ◌++◌, map, reverse, length, drop, get_or, arith, refl, ap, sym, subst, ◌∙◌, Option, Some, None, Ok, true, not, length-append, append-nil}
+use Rattle.std.specs.Prelude.{slice_set, slice_get, remove, ◌&&◌}
 use Rattle.std.proofs.lemmas.Bool.{lt-ltb}
 use Rattle.std.proofs.Math.Seq.{get_or-append_seam}
 use Rattle.std.proofs.lemmas.Option.{slice_get-get_or}
 use Rattle.std.proofs.lemmas.List.{map-append, reverse-append, take_at, drop_all}
 use Rattle.sf_model.specs.declared.design.Design.{Design}
-use Rattle.sf_polish.specs.declared.expr.Expr.{Expr}
 use Rattle.sf_node.specs.declared.task.Task.{Task}
 use Rattle.sf_node.specs.Parts.{Parts}
-use Rattle.sf_node.specs.Subproblem.{root, is_complete, is_solved, is_wide, span_of}
+use Rattle.sf_node.specs.Subproblem.{root, is_wide, span_of}
 use Rattle.sf_node.specs.Children.{extended, split, CanSplit}
 use Rattle.sf_search_core.specs.declared.entry.Entry.{Entry}
 use Rattle.sf_search_core.specs.declared.entry.Kind.{Kind}
 use Rattle.sf_search_core.specs.declared.entry.Kind.TheVariants as kind
-use Rattle.sf_search_core.specs.declared.event.Event.{Event}
 use Rattle.sf_search_core.specs.declared.event.Event.TheVariants.{Take, Replace, Close, Offer}
 use Rattle.sf_search_core.specs.declared.event.How.{How}
 use Rattle.sf_search_core.specs.declared.event.How.TheVariants as how
 use Rattle.sf_search_core.specs.State.{State}
 use Rattle.sf_search_core.specs.Conserved.{branched}
 use Rattle.sf_search_core.specs.Core.{IsCoreState}
-use Rattle.sf_search_core.specs.Events.{held_in, held_by, applied, take as taking, replace, kind_of, may_branch, tasks, AreBounds, CanCome}
+use Rattle.sf_search_core.specs.Events.{held_in, held_by, applied, take as taking, replace, kind_of, may_branch, tasks, AreBounds}
 use Rattle.sf_search_core.specs.Outcome.{next_of, after_event, after_events}
 use Rattle.sf_search_core.proofs.Replaced.{replaced, replace-done}
 use Rattle.sf_search_core.proofs.Applied.{applied-kept}
-use Rattle.sf_worker.specs.Decided.{first_wide, IsDecision}
-use Rattle.sf_certificate.specs.declared.mark.Mark.{Mark}
+use Rattle.sf_worker.specs.Decided.{first_wide}
 use Rattle.sf_certificate.specs.declared.tag.Tag.{Tag}
 use Rattle.sf_certificate.specs.Marks.{made, marks, tag_of}
 use Rattle.sf_certificate.proofs.AfterTags.{marks-more, waiting-more}
 use Rattle.sf_rounds.specs.declared.visit.Visit.{Visit}
 use Rattle.sf_rounds.specs.declared.visit.Visit.TheVariants.{Closed, Solved, Extended, Split}
 use Rattle.sf_rounds.specs.Turns.{settling, turn_of, turn}
-use Rattle.sf_rounds.specs.Run.{IsIdle}
-use Rattle.sf_rounds.specs.Stage.{task_at, mark_of, IsStage, decision_of, IsVisit, tag_at, word_after}
+use Rattle.sf_rounds.specs.Stage.{task_at, mark_of, IsStage, IsVisit, tag_at, word_after}
 use Rattle.sf_rounds.proofs.Settled.{closed, close-done, offer-done, settling-closed, settling-solved, settling-split, settling-extended, ok-const}
 
 remove-last : {X : Type 0} (xs : List X) (x : X) (i : ℕ) → i ≡ length xs → remove (xs ++ x ∷ []) i ≡ xs

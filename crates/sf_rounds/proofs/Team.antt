@@ -1,10 +1,9 @@
 -- The team of a round stays the same, and what all workers did.
-use Rattle.std.proofs.Common.{◌≡◌, ◌≢◌, ℕ, zero, suc, ◌+◌, ◌<◌, ◌≤◌, ◌⊎◌, inl, inr, min, List, [], ◌∷◌, ◌++◌, map, length, take, drop, All, ap, sym, ◌∙◌, subst, refl, arith}
-use Rattle.std.specs.Prelude.{sum_by, Any, Option, Some, None, IfSome, slice_get, slice_index_or}
+use Rattle.std.proofs.Common.{◌≡◌, ◌≢◌, ℕ, zero, suc, ◌<◌, ◌≤◌, inl, inr, List, [], ◌∷◌, ◌++◌, map, length, take, drop, All, ap, sym, ◌∙◌, subst, refl, arith}
+use Rattle.std.specs.Prelude.{sum_by, Any, Some, IfSome, slice_get, slice_index_or}
 use Rattle.std.specs.List.{flat_map}
-use Rattle.std.proofs.lemmas.List.{map-append}
 use Rattle.std.proofs.lemmas.List.Sums.{sum_by-cons}
-use Rattle.std.proofs.lemmas.List.Elements.{All-nil, All-cons, All-head, All-tail}
+use Rattle.std.proofs.lemmas.List.Elements.{All-cons, All-head, All-tail}
 use lib.Seq.{take-append_seam}
 use Rattle.sf_model.specs.declared.design.Design.{Design}
 use Rattle.sf_model.specs.declared.TheConstants.{MAX}
@@ -12,7 +11,7 @@ use Rattle.sf_node.specs.declared.task.Task.{Task}
 use Rattle.sf_node.specs.Parts.{Parts}
 use Rattle.sf_search_core.specs.declared.entry.Entry.{Entry}
 use Rattle.sf_incumbent.specs.Seen.{Word, Knows}
-use Rattle.sf_frontier.specs.Ends.{Deque, OwnerView, ThiefView}
+use Rattle.sf_frontier.specs.Ends.{Deque, ThiefView}
 use Rattle.sf_frontier.specs.declared.place.Place.{Place}
 use Rattle.sf_frontier.specs.Team.{IsTeam, turned, deques_of, preys_of, thief_deques_of}
 use Rattle.sf_worker.specs.declared.state.PassEnd.{PassEnd}
@@ -22,7 +21,7 @@ use Rattle.sf_worker.specs.Took.{IsDecidedFirst, Passed}
 use Rattle.sf_worker.specs.Turns.{PassEnds}
 use Rattle.sf_worker.proofs.Passes.{any-left, any-right}
 use Rattle.sf_rounds.specs.declared.job.Job.{Job}
-use Rattle.sf_rounds.specs.Jobs.{EachTwo, Ran, IsFresh, IsSameBut, FirstsAre, place_of, log_of}
+use Rattle.sf_rounds.specs.Jobs.{EachTwo, Ran, IsFresh, FirstsAre, place_of, log_of}
 use Rattle.sf_rounds.proofs.Whole.{log_is}
 
 pub each_two-length : {X : Type 0} (R : X → X → Type 0) (xs ys : List X) → EachTwo R xs ys → length ys ≡ length xs

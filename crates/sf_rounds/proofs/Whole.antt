@@ -1,28 +1,25 @@
 -- What all workers of a round did.
-use Rattle.std.proofs.Common.{◌≡◌, ◌≢◌, ℕ, zero, suc, ◌+◌, ◌<◌, ◌≤◌, ◌⊎◌, inl, inr, min, List, [], ◌∷◌, ◌++◌, map, length, All, ap, sym, ◌∙◌, subst, refl, arith, append-nil, length-append}
-use Rattle.std.specs.Prelude.{sum_by, sum, Any, Option, Some, None, IfSome, IsPermutation, slice_get, slice_index_or}
+use Rattle.std.proofs.Common.{◌≡◌, ℕ, ◌+◌, ◌≤◌, List, [], ◌∷◌, ◌++◌, map, length, All, ap, sym, ◌∙◌, subst, refl, arith, length-append}
+use Rattle.std.specs.Prelude.{sum_by, sum, Option, Some, None, IfSome, IsPermutation}
 use Rattle.std.specs.List.{flat_map}
 use Rattle.std.proofs.lemmas.List.Sums.{sum_by-cons, sum_by-append}
 use Rattle.std.proofs.lemmas.List.Elements.{All-nil, All-cons, All-head, All-tail, All-append, All-weaker}
 use Rattle.sf_model.specs.declared.design.Design.{Design}
-use Rattle.sf_model.specs.declared.TheConstants.{MAX}
 use Rattle.sf_node.specs.declared.task.Task.{Task}
 use Rattle.sf_node.specs.Parts.{Parts}
 use Rattle.sf_rounds.proofs.Weights.{nodes-permute}
 use Rattle.sf_search_core.specs.declared.entry.Entry.{Entry}
-use Rattle.sf_search_core.specs.Conserved.{IsConserved, children}
+use Rattle.sf_search_core.specs.Conserved.{children}
 use Rattle.sf_incumbent.specs.Seen.{Word, Knows}
-use Rattle.sf_frontier.specs.Ends.{Deque, OwnerView, ThiefView}
+use Rattle.sf_frontier.specs.Ends.{ThiefView}
 use Rattle.sf_frontier.specs.declared.place.Place.{Place}
 use Rattle.sf_frontier.specs.Team.{IsFinished, stolen_by}
 use Rattle.sf_frontier.proofs.Totals.{finished-total}
-use Rattle.sf_worker.specs.declared.state.PassEnd.TheVariants.{NoMemory}
 use Rattle.sf_bounds.specs.Serving.{MayServe}
-use Rattle.sf_worker.specs.Tasks.{IsTask, IsEntry, Solves}
-use Rattle.sf_worker.specs.Took.{IsReady, IsBest, first_of, put_of, taken_of, thieves_weigh, on_task, maybe_weighs, tasks_weigh, nodes_weigh, children_weigh}
-use Rattle.sf_worker.proofs.Passes.{any-left, any-right}
+use Rattle.sf_worker.specs.Tasks.{IsTask, IsEntry}
+use Rattle.sf_worker.specs.Took.{IsReady, IsBest, put_of, taken_of, thieves_weigh, on_task, maybe_weighs, tasks_weigh, nodes_weigh, children_weigh}
 use Rattle.sf_rounds.specs.declared.job.Job.{Job}
-use Rattle.sf_rounds.specs.Jobs.{EachTwo, Ran, IsFresh, IsDone, FirstsAre, Dealt, Gathers, place_of, log_of, open_of, as_list, has_weight}
+use Rattle.sf_rounds.specs.Jobs.{EachTwo, Ran, IsFresh, IsDone, FirstsAre, Dealt, place_of, log_of, open_of, as_list, has_weight}
 use Rattle.sf_rounds.specs.Rounds.{nodes}
 
 pub weigh_map : {X : Type 0} (w : Parts → ℕ) (f : X → Parts) (xs : List X) → sum_by w (map f xs) ≡ sum_by (λ x. w (f x)) xs

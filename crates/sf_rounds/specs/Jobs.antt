@@ -1,5 +1,5 @@
 -- The workers of a round, before and after.
-use Rattle.std.specs.Prelude.{◌≡◌, ◌≢◌, ℕ, zero, suc, ◌+◌, ◌-◌, min, ◌<◌, ◌≤◌, ◌⊎◌, ⊤, List, [], ◌∷◌, ◌++◌, length, map, sum_by, All, Any, Option, Some, None, IfSome, slice_get}
+use Rattle.std.specs.Prelude.{◌≡◌, ◌≢◌, ℕ, ◌+◌, min, ◌≤◌, ◌⊎◌, ⊤, List, [], ◌∷◌, ◌++◌, map, sum_by, All, Any, Option, Some, None, IfSome}
 use Rattle.std.specs.List.{flat_map}
 use Rattle.sf_model.specs.declared.design.Design.{Design}
 use Rattle.sf_model.specs.declared.TheConstants.{MAX}
@@ -9,12 +9,10 @@ use Rattle.sf_node.specs.Parts.{Parts}
 use Rattle.sf_search_core.specs.declared.entry.Entry.{Entry}
 use Rattle.sf_incumbent.specs.Seen.{Word, Knows}
 use Rattle.sf_frontier.specs.declared.place.Place.{Place}
-use Rattle.sf_frontier.specs.Team.{IsTeam, IsNewPlace, deques_of, preys_of}
-use Rattle.sf_worker.specs.declared.state.WorkerState.{WorkerState}
-use Rattle.sf_worker.specs.declared.state.PassEnd.{PassEnd}
-use Rattle.sf_worker.specs.declared.state.PassEnd.TheVariants.{QuotaSpent, FoundNothing, NoMemory}
+use Rattle.sf_frontier.specs.Team.{IsTeam, IsNewPlace}
+use Rattle.sf_worker.specs.declared.state.PassEnd.TheVariants.{NoMemory}
 use Rattle.sf_worker.specs.Tasks.{IsTask}
-use Rattle.sf_worker.specs.Took.{IsReady, Passed, IsBest, first_of, put_of, tasks_weigh, on_task, thieves_weigh}
+use Rattle.sf_worker.specs.Took.{IsReady, Passed, IsBest, first_of, put_of, tasks_weigh, thieves_weigh}
 use Rattle.sf_worker.specs.Turns.{PassEnds}
 use Rattle.sf_rounds.specs.declared.job.Job.{Job}
 use Rattle.sf_rounds.specs.declared.job.Gathering.{Gathering}

@@ -14,7 +14,7 @@ use Rattle.sf_worker.specs.declared.decision.Decision.TheVariants as decision
 use Rattle.sf_worker.specs.Decided.{IsDecision, valued}
 use Rattle.sf_certificate.specs.declared.mark.Mark.{Mark}
 use Rattle.sf_certificate.specs.declared.tag.Tag.{Tag}
-use Rattle.sf_certificate.specs.declared.tag.Tag.TheVariants.{Extend, Split, Closed, Open}
+use Rattle.sf_certificate.specs.declared.tag.Tag.TheVariants.{Extend, Split, Closed}
 use Rattle.sf_certificate.specs.Marks.{made, marks, tag_of, waiting_after}
 use Rattle.sf_rounds.specs.declared.visit.Visit.{Visit}
 use Rattle.sf_rounds.specs.declared.visit.Visit.TheVariants as visit

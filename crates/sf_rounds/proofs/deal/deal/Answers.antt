@@ -1,4 +1,4 @@
-use Rattle.std.proofs.Common.{◌≡◌, All, length}
+use Rattle.std.proofs.Common.{length}
 use Rattle.sf_worker.specs.Tasks.{IsTask}
 use Rattle.sf_rounds.proofs.Dealing.{dealt, left-tasks, turned-tasks, handed-turned}
 use Rattle.sf_rounds.proofs.deal.deal.Goals as goal

@@ -1,7 +1,7 @@
-use Rattle.std.proofs.Common.{◌≡◌, ◌<◌, ℕ, ◌+◌, ◌%◌, List, [], ◌∷◌, ◌++◌, length, All, ap, sym, subst, arith, length-set}
+use Rattle.std.proofs.Common.{◌%◌, [], ◌∷◌, All, subst, arith, length-set}
 use Rattle.sf_worker.specs.Tasks.{IsTask}
 use Rattle.sf_frontier.proofs.Teams.{all_front, all_last}
-use Rattle.sf_rounds.proofs.Dealing.{handing-start, handing-more, handing-done}
+use Rattle.sf_rounds.proofs.Dealing.{handing-start, handing-more}
 use Rattle.sf_rounds.proofs.deal.hand_out.Goals as goal
 
 pub loop-task-init : goal.loop-task-init

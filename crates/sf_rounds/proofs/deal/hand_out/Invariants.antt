@@ -1,4 +1,4 @@
-use Rattle.std.proofs.Common.{◌≡◌, ◌<◌, ℕ, length, All}
+use Rattle.std.proofs.Common.{◌<◌, length, All}
 use Rattle.sf_worker.specs.Tasks.{IsTask}
 use Rattle.sf_rounds.proofs.Dealing.{IsHanding}
 use Rattle.sf_rounds.proofs.deal.hand_out.Given as goal

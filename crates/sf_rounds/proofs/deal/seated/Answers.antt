@@ -1,8 +1,8 @@
-use Rattle.std.proofs.Common.{◌≡◌, ◌<◌, ℕ, ◌+◌, ◌-◌, List, [], ◌∷◌, ◌++◌, length, All, ap, sym, subst, arith, rules, refl, ◌∙◌, append-nil, append_assoc}
+use Rattle.std.proofs.Common.{◌≡◌, ◌<◌, [], ◌∷◌, ◌++◌, length, ap, sym, subst, arith, rules, refl, ◌∙◌, append-nil, append_assoc}
 use Rattle.sf_model.specs.declared.TheConstants.{MAX}
 use Rattle.sf_incumbent.specs.Seen.{Knows}
 use Rattle.sf_rounds.specs.Jobs.{IsSeated}
-use Rattle.sf_rounds.proofs.Dealing.{no-items, IsSeating, next-task, seating-more, seating-done}
+use Rattle.sf_rounds.proofs.Dealing.{no-items, next-task, seating-more, seating-done}
 use Rattle.std.specs.Prelude.{reverse, slice_index}
 use Rattle.sf_rounds.proofs.deal.seated.Goals as goal
 

@@ -1,8 +1,6 @@
-use Rattle.std.proofs.Common.{◌≡◌, ◌≢◌, List, ◌++◌, ap, sym, ◌∙◌, subst, append_assoc}
+use Rattle.std.proofs.Common.{List, ◌++◌, ap, sym, ◌∙◌, subst, append_assoc}
 use Rattle.sf_node.specs.declared.task.Task.{Task}
 use Rattle.sf_incumbent.specs.Seen.{Knows}
-use Rattle.sf_worker.specs.declared.state.PassEnd.{PassEnd}
-use Rattle.sf_worker.specs.declared.state.PassEnd.TheVariants.{NoMemory}
 use Rattle.sf_worker.specs.Took.{IsBest}
 use Rattle.sf_rounds.specs.Jobs.{as_list}
 use Rattle.sf_rounds.proofs.gather.add.Goals as goal

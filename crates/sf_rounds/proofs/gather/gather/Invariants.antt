@@ -1,5 +1,4 @@
-use Rattle.std.proofs.Common.{◌≡◌, ℕ, All}
-use Rattle.sf_worker.specs.Took.{IsBest}
+use Rattle.std.proofs.Common.{◌≡◌, All}
 use Rattle.sf_rounds.specs.Jobs.{IsDone, Gathers}
 use Rattle.sf_rounds.proofs.gather.gather.Given as goal
 

@@ -1,4 +1,4 @@
-use Rattle.std.proofs.Common.{◌≡◌, List, [], ◌∷◌, ◌++◌, ap, sym, ◌∙◌, subst, IsPermutation}
+use Rattle.std.proofs.Common.{List, [], ◌∷◌, ◌++◌, sym, subst, IsPermutation}
 use Rattle.std.specs.Prelude.{None}
 use Rattle.sf_model.specs.declared.TheConstants.{MAX}
 use Rattle.sf_node.specs.declared.task.Task.{Task}

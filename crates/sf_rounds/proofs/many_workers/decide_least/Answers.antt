@@ -1,6 +1,5 @@
-use Rattle.std.proofs.Common.{◌≡◌, ◌+◌, List, [], ◌∷◌, ◌++◌, length, All, ap, sym, subst, ◌∙◌, arith, length-append}
+use Rattle.std.proofs.Common.{[], ◌∷◌, length, ap, arith, length-append}
 use Rattle.std.proofs.lemmas.List.Elements.{All-head}
-use Rattle.sf_search_core.specs.declared.entry.Entry.{Entry}
 use Rattle.sf_worker.specs.Tasks.{IsTask}
 use Rattle.sf_rounds.proofs.Composed.{search-permuted, search-tasks, absorbed, one-entry}
 use Rattle.sf_rounds.proofs.many_workers.decide_least.Goals as goal

@@ -1,4 +1,4 @@
-use Rattle.std.proofs.Common.{◌≡◌, subst, sym, ap, ◌∙◌, [], ◌∷◌}
+use Rattle.std.proofs.Common.{subst, sym, [], ◌∷◌}
 use Rattle.std.specs.Prelude.{None, Some}
 use Rattle.std.proofs.lemmas.Result.{IfOk-weaker}
 use Rattle.sf_search_core.specs.declared.entry.Kind.TheVariants as kind

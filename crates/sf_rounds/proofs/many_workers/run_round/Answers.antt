@@ -1,4 +1,4 @@
-use Rattle.std.proofs.Common.{◌≡◌, ◌+◌, List, [], ◌∷◌, ◌++◌, length, All, ap, sym, subst, ◌∙◌, arith}
+use Rattle.std.proofs.Common.{◌++◌}
 use Rattle.sf_worker.specs.Tasks.{IsTask}
 use Rattle.sf_frontier.proofs.Teams.{all_front}
 use Rattle.sf_rounds.proofs.Composed.{search-permuted, search-tasks, absorbed}

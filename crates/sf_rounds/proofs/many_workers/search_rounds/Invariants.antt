@@ -1,4 +1,4 @@
-use Rattle.std.proofs.Common.{◌≡◌, ◌≤◌, ◌-◌, length}
+use Rattle.std.proofs.Common.{◌≤◌, ◌-◌, length}
 use Rattle.sf_bounds.specs.Serving.{MayServe}
 use Rattle.sf_rounds.specs.Searching.{IsSearch}
 use Rattle.sf_rounds.proofs.many_workers.search_rounds.Given as goal

@@ -1,4 +1,4 @@
-use Rattle.std.proofs.Common.{◌≡◌, ℕ, ap, sym, subst, ◌∙◌, arith, length, true, false}
+use Rattle.std.proofs.Common.{◌≡◌, ap, sym, subst, ◌∙◌, arith, length, true}
 use Rattle.sf_rounds.specs.Stage.{IsRun}
 use Rattle.sf_rounds.proofs.Runs.{run-start, run-next, run-still, count-next}
 use Rattle.sf_rounds.proofs.one_walk.search_walk.Goals.{else-loop-step-test, then-loop-step-test+then-not-more}

@@ -1,14 +1,11 @@
-use Rattle.std.proofs.Common.{◌≡◌, ℕ, ◌+◌, ◌++◌, List, All, ◌≤◌, length, map, min, ap, sym, ◌∙◌, subst, refl, arith}
+use Rattle.std.proofs.Common.{◌≡◌, ℕ, ◌++◌, List, All, ◌≤◌, length, map, min, ap, sym, ◌∙◌, subst, arith}
 use Rattle.std.specs.Prelude.{sum_by}
 use Rattle.std.proofs.lemmas.List.Elements.{All-weaker}
 use Rattle.sf_model.specs.declared.TheConstants.{MAX}
 use Rattle.sf_node.specs.declared.task.Task.{Task}
-use Rattle.sf_node.specs.Parts.{Parts}
-use Rattle.sf_frontier.specs.declared.place.Place.{Place}
 use Rattle.sf_frontier.specs.Team.{IsTeam}
-use Rattle.sf_incumbent.specs.Seen.{Word, Knows}
+use Rattle.sf_incumbent.specs.Seen.{Knows}
 use Rattle.sf_worker.specs.Tasks.{IsTask}
-use Rattle.sf_rounds.specs.declared.job.Job.{Job}
 use Rattle.sf_rounds.specs.Jobs.{IsDone, Ran, EachTwo, Dealt, Gathers, place_of}
 use Rattle.sf_rounds.proofs.Team.{after_slice, each_two-length, team_same, all_deques, all_parts}
 use Rattle.sf_rounds.proofs.Whole.{all_done}

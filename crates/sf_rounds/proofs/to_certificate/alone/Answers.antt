@@ -1,5 +1,4 @@
-use Rattle.std.proofs.Common.{◌≡◌, ℕ, ap, sym, subst, ◌∙◌, arith, length, map, ◌++◌}
-use Rattle.sf_node.specs.Parts.{Parts}
+use Rattle.std.proofs.Common.{ap, sym, ◌∙◌, arith, length}
 use Rattle.sf_node.proofs.Depth.{subproblem-shallow}
 use Rattle.sf_search_core.specs.Outcome.{opening}
 use Rattle.sf_certificate.proofs.MergedCert.{merged-formed, merged-valid}

@@ -1,4 +1,4 @@
-use Rattle.std.proofs.Common.{◌≡◌, ◌≤◌, ℕ, List, [], map, subst, sym, ap, ◌∙◌, arith}
+use Rattle.std.proofs.Common.{List, map, ap, ◌∙◌, arith}
 use Rattle.sf_node.specs.declared.task.Task.{Task}
 use Rattle.sf_certificate.specs.Valid.{least}
 use Rattle.sf_count.proofs.Weighed.{entries-few}

@@ -1,4 +1,4 @@
-use Rattle.std.proofs.Common.{◌≡◌, ℕ, ◌++◌, map, length}
+use Rattle.std.proofs.Common.{◌≡◌, ◌++◌, map, length}
 use Rattle.sf_certificate.specs.declared.tag.Tag.TheVariants.{Open}
 use Rattle.sf_bounds.specs.Serving.{MayServe}
 use Rattle.sf_certificate.specs.Valid.{least}
