@@ -32,6 +32,7 @@ fn one_block(alloc: Global) -> Result<Design, AllocError>
     };
     let net = Net {
         pins: Pins::from_vec(vec![in alloc; Pin::Block(0), Pin::Pad(1)]?),
+        weight: 1,
     };
     Ok(Design {
         blocks: BlockList::from_vec(vec![in alloc; block]?),
