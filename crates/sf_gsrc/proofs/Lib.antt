@@ -15,3 +15,5 @@ pub mod Sizes
 pub mod Ranges
 pub mod OwnerSteps
 pub mod Numbered
+pub mod WeightSteps
+pub mod WeightLaws

@@ -1,10 +1,12 @@
 -- The pins of a nets file are named, and joining keeps blocks and nets.
-use Rattle.std.proofs.Common.{◌≡◌, ℕ, List, [], ◌∷◌, length, map, Option, Some, None, Ok, refl, subst}
+use Rattle.std.proofs.Common.{◌≡◌, ℕ, Bool, true, false, List, [], ◌∷◌, length, map, Option, Some, None, Ok, refl, ap, subst, ◌∙◌, if◌then◌else◌}
 use Rattle.std.specs.Prelude.{IfSome}
 use Rattle.std.specs.List.{All}
+use Rattle.std.proofs.lemmas.List.{length-map}
 use Rattle.std.proofs.lemmas.List.Elements.{All-nil, All-cons, All-same}
 use Rattle.sf_model.specs.declared.raw.RawBlock.{RawBlock}
 use Rattle.sf_model.specs.declared.raw.RawNet.{RawNet}
+use Rattle.sf_model.specs.declared.raw.RawPad.{RawPad}
 use Rattle.sf_model.specs.declared.raw.RawPin.TheVariants.{Named}
 use Rattle.sf_model.specs.declared.raw.Parts.{Parts}
 use Rattle.sf_model.specs.Admitted.{IsPinInRange, IsSized, HasSizes, HasPinsInRange}
@@ -14,7 +16,7 @@ use Rattle.sf_gsrc.specs.declared.output.GsrcBlocks.{GsrcBlocks}
 use Rattle.sf_gsrc.specs.declared.output.GsrcNets.{GsrcNets}
 use Rattle.sf_gsrc.specs.declared.output.GsrcPlaces.{GsrcPlaces}
 use Rattle.sf_gsrc.specs.NetsStanding.{net_of, NetsStandFor}
-use Rattle.sf_gsrc.specs.Join.{first_twice, joined, names_of, nets_in, numbered, numbered_nets, placed_once, placed_parts, unplaced_parts}
+use Rattle.sf_gsrc.specs.Join.{first_twice, has_numbers, joined, names_of, nets_in, numbered, numbered_net, numbered_nets, placed_once, placed_parts, unplaced_parts}
 use Rattle.sf_gsrc.specs.Ranges.{HasPinsInAnyRange}
 use Rattle.sf_gsrc.proofs.Numbered.{nets_in_range_still}
 use Rattle.sf_gsrc.proofs.Results.{done, ok_is, err_not_ok}
@@ -68,3 +70,13 @@ pub joined_pins : (blocks : GsrcBlocks) (nets : Option GsrcNets) (places : Optio
 joined_pins blocks nets places parts e h =
     All-same (λ (n : RawNet). All (IsPinInRange (length parts.blocks) (length parts.pads)) n.pins) parts.nets (numbered_nets parts.blocks parts.pads (nets_in nets)) (joined_keep blocks nets places parts e).nets_are
     (nets_in_range_still parts.blocks parts.pads (nets_in nets) ((some_nets nets h).in_range (length parts.blocks) (length parts.pads)))
+
+numbered_count : (blocks : List RawBlock) (pads : List RawPad) (nets : List RawNet) → length (numbered_nets blocks pads nets) ≡ length nets
+numbered_count blocks pads nets = by_test (has_numbers blocks pads)
+  where
+    by_test : (b : Bool) → length (if b then map (numbered_net blocks pads) nets else nets) ≡ length nets
+    by_test true = length-map nets (numbered_net blocks pads)
+    by_test false = refl
+
+pub joined_nets : (blocks : GsrcBlocks) (nets : Option GsrcNets) (places : Option GsrcPlaces) (parts : Parts) → joined blocks nets places ≡ Ok parts → length parts.nets ≡ length (nets_in nets)
+joined_nets blocks nets places parts e = ap length (joined_keep blocks nets places parts e).nets_are ∙ numbered_count parts.blocks parts.pads (nets_in nets)

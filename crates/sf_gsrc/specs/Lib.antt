@@ -16,3 +16,5 @@ pub mod Join
 pub mod ByName
 pub mod Owners
 pub mod Ranges
+pub mod Weights
+pub mod WeightsKept

@@ -1,12 +1,12 @@
 //! What the parts of a design keep of the files that they are joined from.
 
-ghost use Rattle.std.specs.Prelude.{◌≡◌, ℕ, List, Option, Ok, IfSome, All};
+ghost use Rattle.std.specs.Prelude.{◌≡◌, ℕ, List, Option, Ok, IfSome, All, length};
 ghost use Rattle.sf_model.specs.Admitted.{IsSized, HasSizes, HasPinsInRange, first_refusal};
 ghost use Rattle.sf_model.specs.declared.raw.Parts.{Parts};
 ghost use Rattle.sf_gsrc.specs.declared.output.GsrcBlocks.{GsrcBlocks};
 ghost use Rattle.sf_gsrc.specs.declared.output.GsrcNets.{GsrcNets};
 ghost use Rattle.sf_gsrc.specs.declared.output.GsrcPlaces.{GsrcPlaces};
-ghost use Rattle.sf_gsrc.specs.Join.{joined, numbered};
+ghost use Rattle.sf_gsrc.specs.Join.{joined, nets_in, numbered};
 ghost use Rattle.sf_gsrc.specs.NetsStanding.{NetsStandFor};
 ghost use Rattle.sf_gsrc.specs.Ranges.{HasPinsInAnyRange};
 ghost use Rattle.sf_gsrc.specs.Standing.{StandsFor};
@@ -21,12 +21,15 @@ pub fn nets_name_their_pins()
     ensures { (text : List ℕ) (out : GsrcNets) → NetsStandFor text out → HasPinsInAnyRange out.nets }
 {}
 
-/// Joining keeps the blocks and the nets, so the parts have sizes and pins in range where the files have them.
+/// Joining keeps the blocks and the nets, so the parts have as many nets as the files, and sizes and pins in range where
+/// the files have them.
 pub fn joined_parts_keep_ranges()
     ensures sizes { (blocks : GsrcBlocks) (nets : Option GsrcNets) (places : Option GsrcPlaces) (parts : Parts) → joined blocks nets places ≡ Ok parts
         → All (λ b. IsSized b.kind) blocks.blocks → HasSizes parts }
     ensures pins { (blocks : GsrcBlocks) (nets : Option GsrcNets) (places : Option GsrcPlaces) (parts : Parts) → joined blocks nets places ≡ Ok parts
         → IfSome nets (λ out. HasPinsInAnyRange out.nets) → HasPinsInRange parts }
+    ensures nets { (blocks : GsrcBlocks) (nets : Option GsrcNets) (places : Option GsrcPlaces) (parts : Parts) → joined blocks nets places ≡ Ok parts
+        → length parts.nets ≡ length (nets_in nets) }
 {}
 
 /// Numbers in the place of names change no fault: the parts are admitted, or refused for the same reason.

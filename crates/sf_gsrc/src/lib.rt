@@ -1,4 +1,4 @@
-//! Readers of GSRC floorplan benchmark files: blocks, nets and pl.
+//! Readers of GSRC floorplan benchmark files: blocks, nets and pl; and of the weights of nets, which those files lack.
 //!
 //! Each reader goes over the lines of its text once, by `sf_lex`, and makes the raw parts of `sf_model`. The
 //! crates above use three clauses of a reader: `stands` (what is read is what the text stands for, by a relation
@@ -27,9 +27,10 @@ mod owners;
 mod place_line;
 mod places;
 mod vertices;
+mod weights;
 
 pub use blocks::{blocks_stand_for_one, read_blocks};
-pub use fault::{GsrcFault, JoinFault};
+pub use fault::{GsrcFault, JoinFault, WeightFault};
 pub use join::join_parts;
 pub use laws::{
     blocks_have_sizes, joined_parts_keep_ranges, nets_name_their_pins, numbers_change_no_fault,
@@ -37,6 +38,7 @@ pub use laws::{
 pub use nets::{nets_stand_for_one, read_nets};
 pub use output::{GsrcBlocks, GsrcNets, GsrcPlaces, Place, PlaceList};
 pub use places::{places_stand_for_one, read_pl};
+pub use weights::{read_weights, weights_stand_for_one};
 
 #[cfg(test)]
 mod tests;

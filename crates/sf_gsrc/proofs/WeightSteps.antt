@@ -1,0 +1,162 @@
+-- Lines of a weights file one after another, as the loop takes them.
+use Rattle.std.proofs.Common.{◌≡◌, ◌≢◌, ℕ, ◌<◌, ◌==◌, Bool, true, false, List, [], ◌∷◌, ◌++◌, length, map, replicate, get_or, set, take, drop, is_some, if◌then◌else◌, Option, Some, None, Result, Ok, Err, refl, sym, ap, subst, ◌∙◌, inl, inr, arith, lt-ltb, eq-eqb, ne_eqb}
+use Rattle.std.specs.List.{range_with_len}
+use Rattle.std.specs.Option.{unwrap_or}
+use Rattle.std.proofs.lemmas.Bool.Decides.{eqb_tells}
+use Rattle.std.proofs.lemmas.Grind.{common_steps}
+use Rattle.std.proofs.lemmas.List.{ext_get_or, length-set, length-replicate, get_or-replicate, get_or-set_same, get_or-set_other}
+use Rattle.std.proofs.lemmas.List.FromFn.{length-map-range_with_len, get_or-map-range_with_len}
+use Rattle.sf_lex.specs.Gap.{is_gap}
+use Rattle.sf_lex.specs.Scan.{Line}
+use Rattle.sf_lex.specs.Text.{words}
+use Rattle.sf_lex.specs.declared.field.Gap.TheVariants.{Blanks}
+use Rattle.sf_gsrc.specs.declared.fault.WeightFault.{WeightFault}
+use Rattle.sf_gsrc.specs.declared.fault.WeightFault.TheVariants.{BadLine, BadNumber, UnknownNet, RepeatedNet, NoMemory}
+use Rattle.sf_gsrc.specs.Blocks.{content_of, or_else}
+use Rattle.sf_gsrc.specs.Weights.{GivesWeights, NetWeight, net_in_word, number_on, two_words, weight_after, weight_in_word, weight_of, weight_said, weights_from, weights_of, weights_read}
+use Rattle.sf_gsrc.specs.WeightsKept.{KeepsWeights}
+use Rattle.sf_gsrc.proofs.Results.{none_of}
+
+-- ---- what is kept
+
+or_else-None : {X : Type 0} (o : Option X) → or_else o None ≡ o
+or_else-None None = refl
+or_else-None (Some x) = refl
+
+-- one line more says the weight of its own net alone
+pub weight_said-push : (earlier : List NetWeight) (s : NetWeight) (net : ℕ) → weight_said (earlier ++ s ∷ []) net ≡ or_else (weight_said earlier net) (if s.net == net then Some s.weight else None)
+weight_said-push [] s net = refl
+weight_said-push (e ∷ earlier) s net = by_test (e.net == net) (weight_said-push earlier s net)
+  where
+    by_test : (b : Bool) → weight_said (earlier ++ s ∷ []) net ≡ or_else (weight_said earlier net) (if s.net == net then Some s.weight else None)
+        → (if b then Some e.weight else weight_said (earlier ++ s ∷ []) net) ≡ or_else (if b then Some e.weight else weight_said earlier net) (if s.net == net then Some s.weight else None)
+    by_test true ih = refl
+    by_test false ih = ih
+
+said_here : (earlier : List NetWeight) (net weight : ℕ) → weight_said earlier net ≡ None → weight_said (earlier ++ record { net = net; weight = weight } ∷ []) net ≡ Some weight
+said_here earlier net weight none = weight_said-push earlier (record { net = net; weight = weight }) net ∙ rw (none, eq-eqb net net refl) refl
+
+said_elsewhere : (earlier : List NetWeight) (s : NetWeight) (net : ℕ) → s.net ≢ net → weight_said (earlier ++ s ∷ []) net ≡ weight_said earlier net
+said_elsewhere earlier s net ne = weight_said-push earlier s net ∙ rw (ne_eqb s.net net ne) (or_else-None (weight_said earlier net))
+
+-- what is kept of a net is what the lines say of it
+pub kept_is : (nets : ℕ) (kept : List (Option ℕ)) (earlier : List NetWeight) (net : ℕ) (d : Option ℕ) → KeepsWeights nets kept earlier → net < nets → get_or kept net d ≡ weight_said earlier net
+kept_is nets kept earlier net d keeps low = rw keeps (get_or-map-range_with_len (weight_said earlier) 0 nets net net d low (omega arith))
+
+kept_length : (nets : ℕ) (kept : List (Option ℕ)) (earlier : List NetWeight) → KeepsWeights nets kept earlier → length kept ≡ nets
+kept_length nets kept earlier keeps = ap length keeps ∙ length-map-range_with_len (weight_said earlier) 0 nets
+
+-- before the first line
+pub none_kept : (nets : ℕ) → KeepsWeights nets (replicate nets None) []
+none_kept nets = ext_get_or None _ _ (length-replicate nets None ∙ sym (length-map-range_with_len (weight_said []) 0 nets))
+    (λ i low. let below : i < nets = omega (arith, length-replicate {A = Option ℕ}) in
+    get_or-replicate nets i None None below ∙ sym (get_or-map-range_with_len (weight_said []) 0 nets i i None below (omega arith)))
+
+-- and with one line more
+keeps_more : (nets : ℕ) (kept : List (Option ℕ)) (earlier : List NetWeight) (net weight : ℕ) → KeepsWeights nets kept earlier → net < nets → weight_said earlier net ≡ None
+    → KeepsWeights nets (set kept net (Some weight)) (earlier ++ record { net = net; weight = weight } ∷ [])
+keeps_more nets kept earlier net weight keeps low none =
+    let s : NetWeight = record { net = net; weight = weight } in
+    let long : length kept ≡ nets = kept_length nets kept earlier keeps in
+    ext_get_or None _ _ (length-set {A = Option ℕ} kept net (Some weight) ∙ long ∙ sym (length-map-range_with_len (weight_said (earlier ++ s ∷ [])) 0 nets))
+    (λ i below. at i (omega (arith, long, length-set {A = Option ℕ} kept net (Some weight))))
+  where
+    at : (i : ℕ) → i < nets → get_or (set kept net (Some weight)) i None ≡ get_or (map (weight_said (earlier ++ record { net = net; weight = weight } ∷ [])) (range_with_len 0 nets)) i None
+    at i below =
+        let long : length kept ≡ nets = kept_length nets kept earlier keeps in
+        let s : NetWeight = record { net = net; weight = weight } in
+        let there = get_or-map-range_with_len (weight_said (earlier ++ s ∷ [])) 0 nets i i None below (omega arith) in
+        elim (eqb_tells net i) [
+          | inl e ↦ subst (λ (j : ℕ). get_or (set kept net (Some weight)) j None ≡ weight_said (earlier ++ s ∷ []) j) e.1
+              (get_or-set_same kept net (Some weight) None (omega (arith, long)) ∙ sym (said_here earlier net weight none)) ∙ sym there
+          | inr e ↦ let other : i ≢ net = (λ same. e.1 (sym same)) in
+              get_or-set_other kept net i (Some weight) None other ∙ kept_is nets kept earlier i None keeps below ∙ sym (said_elsewhere earlier s i e.1) ∙ sym there
+        ]
+
+-- ---- one line
+
+-- a net that an earlier line names
+pub repeats : (nets : ℕ) (kept : List (Option ℕ)) (earlier : List NetWeight) (line : Line) (number weight : List ℕ) (net : ℕ) (d : Option ℕ) → KeepsWeights nets kept earlier
+    → two_words (words (is_gap Blanks) line.bytes) ≡ Some (number, weight) → number_on line.number (net_in_word number) ≡ Ok net → net < nets → is_some (get_or kept net d) ≡ true
+    → weight_after nets earlier line ≡ Err (RepeatedNet line.number net)
+repeats nets kept earlier line number weight net d keeps two number_is low there =
+    rw (two, number_is, lt-ltb net nets low, ← kept_is nets kept earlier net d keeps low, there) refl
+
+-- a weight that is none
+pub fails_weight : (nets : ℕ) (kept : List (Option ℕ)) (earlier : List NetWeight) (line : Line) (number weight : List ℕ) (net : ℕ) (d : Option ℕ) (fault : WeightFault) → KeepsWeights nets kept earlier
+    → two_words (words (is_gap Blanks) line.bytes) ≡ Some (number, weight) → number_on line.number (net_in_word number) ≡ Ok net → net < nets → is_some (get_or kept net d) ≡ false
+    → number_on line.number (weight_in_word weight) ≡ Err fault → weight_after nets earlier line ≡ Err fault
+fails_weight nets kept earlier line number weight net d fault keeps two number_is low new failed =
+    rw (two, number_is, lt-ltb net nets low, ← kept_is nets kept earlier net d keeps low, new, failed) refl
+
+-- a line that gives a weight to a new net
+pub takes : (nets : ℕ) (kept : List (Option ℕ)) (earlier : List NetWeight) (line : Line) (number weight : List ℕ) (net value : ℕ) (d : Option ℕ) → KeepsWeights nets kept earlier
+    → two_words (words (is_gap Blanks) line.bytes) ≡ Some (number, weight) → number_on line.number (net_in_word number) ≡ Ok net → net < nets → is_some (get_or kept net d) ≡ false
+    → number_on line.number (weight_in_word weight) ≡ Ok value
+    → (said : NetWeight) × (weight_after nets earlier line ≡ Ok said) × KeepsWeights nets (set kept net (Some value)) (earlier ++ said ∷ [])
+takes nets kept earlier line number weight net value d keeps two number_is low new weight_is =
+    let none : weight_said earlier net ≡ None = none_of (weight_said earlier net) (ap is_some (sym (kept_is nets kept earlier net d keeps low)) ∙ new) in
+    (record { net = net; weight = value }, rw (two, number_is, lt-ltb net nets low, none, weight_is) refl, keeps_more nets kept earlier net value keeps low none)
+
+-- ---- all lines
+
+-- what was read so far, and that the lines that are left go on from there
+pub record IsWeighing (nets : ℕ) (kept : List (Option ℕ)) (left : List Line) (all : Result (List NetWeight) WeightFault) : Type 0 where
+  pub said : List NetWeight
+  pub keeps : KeepsWeights nets kept said
+  pub same : weights_from nets said left ≡ all
+
+pub goes_on : (nets : ℕ) (kept new : List (Option ℕ)) (left more : List Line) (line : Line) (all : Result (List NetWeight) WeightFault) (w : IsWeighing nets kept left all) → left ≡ line ∷ more
+    → ((said : NetWeight) × (weight_after nets w.said line ≡ Ok said) × KeepsWeights nets new (w.said ++ said ∷ [])) → IsWeighing nets new more all
+unfolding weights_from
+goes_on nets kept new left more line all w cut taken =
+    let one : weights_from nets w.said left ≡ weights_from nets (w.said ++ taken.0 ∷ []) more = rw (cut, taken.1) refl in
+    record { said = w.said ++ taken.0 ∷ []; keeps = taken.2; same = sym one ∙ w.same }
+
+pub fails : (nets : ℕ) (kept : List (Option ℕ)) (left more : List Line) (line : Line) (fault : WeightFault) (all : Result (List NetWeight) WeightFault) (w : IsWeighing nets kept left all) → left ≡ line ∷ more
+    → weight_after nets w.said line ≡ Err fault → all ≡ Err fault
+unfolding weights_from
+fails nets kept left more line fault all w cut failed = sym w.same ∙ rw (cut, failed) refl
+
+pub is_done : (nets : ℕ) (kept : List (Option ℕ)) (left : List Line) (all : Result (List NetWeight) WeightFault) (w : IsWeighing nets kept left all) → left ≡ []
+    → (said : List NetWeight) × (all ≡ Ok said) × KeepsWeights nets kept said
+unfolding weights_from
+is_done nets kept left all w none = (w.said, sym w.same ∙ rw none refl, w.keeps)
+
+-- ---- the whole text
+
+-- the weights at the end
+weights_kept : (nets : ℕ) (kept : List (Option ℕ)) (said : List NetWeight) → KeepsWeights nets kept said → map (λ o. unwrap_or o 1) kept ≡ weights_of nets said
+weights_kept nets kept said keeps = rw keeps (map_twice (range_with_len 0 nets))
+  where
+    map_twice : (ns : List ℕ) → map (λ o. unwrap_or o 1) (map (weight_said said) ns) ≡ map (weight_of said) ns
+    map_twice [] = refl
+    map_twice (n ∷ ns) = ap (λ (ws : List ℕ). weight_of said n ∷ ws) (map_twice ns)
+
+pub gives : (nets : ℕ) (text : List ℕ) (lines : List Line) (first kept : List (Option ℕ)) (weights : List ℕ) → lines ≡ content_of text → first ≡ replicate nets None
+    → ((earlier : List NetWeight) → KeepsWeights (length first) first earlier → (said : List NetWeight) × (weights_from (length first) earlier lines ≡ Ok said) × KeepsWeights (length first) kept said)
+    → weights ≡ map (λ o. unwrap_or o 1) kept → weights_read nets text ≡ Ok weights
+unfolding weights_read
+gives nets text lines first kept weights all none takes are =
+    let long : length first ≡ nets = ap length none ∙ length-replicate nets None in
+    let read = (rw long at takes) [] (none ∙ none_kept nets) in
+    rw (← all, read.1) (ap (λ (ws : List ℕ). Ok ws) (sym (weights_kept nets kept read.0 read.2) ∙ sym are))
+
+given_fault : (fault : WeightFault) (read : Result (List ℕ) WeightFault) → read ≡ Err fault → GivesWeights (Err fault) read
+given_fault NoMemory read e = tt
+given_fault (BadLine n) read e = e
+given_fault (BadNumber n f) read e = e
+given_fault (UnknownNet n k) read e = e
+given_fault (RepeatedNet n k) read e = e
+
+pub refuses : (nets : ℕ) (text : List ℕ) (lines : List Line) (first : List (Option ℕ)) (fault : WeightFault) → lines ≡ content_of text → first ≡ replicate nets None
+    → ((earlier : List NetWeight) → KeepsWeights (length first) first earlier → weights_from (length first) earlier lines ≡ Err fault)
+    → GivesWeights (Err fault) (weights_read nets text)
+unfolding weights_read
+refuses nets text lines first fault all none fails =
+    let long : length first ≡ nets = ap length none ∙ length-replicate nets None in
+    given_fault fault _ (rw (← all, (rw long at fails) [] (none ∙ none_kept nets)) refl)
+
+-- a slice that is written back whole
+pub written_back : (len : ℕ) (old new : List (Option ℕ)) → length old ≡ len → length new ≡ length old → take len (new ++ drop (length new) old) ≡ new
+written_back len old new long same = grind (arith, common_steps)
