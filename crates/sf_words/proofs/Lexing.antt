@@ -4,7 +4,7 @@ use Rattle.std.specs.Str.{bytes_eq}
 use Rattle.clap.specs.Lexer.{long_of}
 use Rattle.clap.proofs.OnLiterals.{clap_on_literals}
 use Rattle.sf_words.specs.declared.options.Key.{Key}
-use Rattle.sf_words.specs.declared.options.Key.TheVariants.{Format, Blocks, Nets, Pl, Yal, PerUnit, Fixed, Shapes, Outline, AreaWeight, WireWeight, Cert, PlOut, Workers, Nodes, Placed, Expr, Seed, Count, Kinds, Out}
+use Rattle.sf_words.specs.declared.options.Key.TheVariants.{Format, Blocks, Nets, Pl, Yal, PerUnit, Fixed, Shapes, Outline, AreaWeight, WireWeight, NetWeights, Cert, PlOut, Workers, Nodes, Placed, Expr, Seed, Count, Kinds, Out}
 use Rattle.sf_words.specs.Table.{Text, key_text}
 
 pub long_attached : (key : Key) (v : Text) → long_of (45 ∷ 45 ∷ (key_text key ++ 61 ∷ v)) ≡ Some (key_text key, Some v)
@@ -20,6 +20,7 @@ long_attached Shapes v = refl
 long_attached Outline v = refl
 long_attached AreaWeight v = refl
 long_attached WireWeight v = refl
+long_attached NetWeights v = refl
 long_attached Cert v = refl
 long_attached PlOut v = refl
 long_attached Workers v = refl
@@ -44,6 +45,7 @@ attached_some Shapes v = refl
 attached_some Outline v = refl
 attached_some AreaWeight v = refl
 attached_some WireWeight v = refl
+attached_some NetWeights v = refl
 attached_some Cert v = refl
 attached_some PlOut v = refl
 attached_some Workers v = refl
@@ -68,6 +70,7 @@ long_alone Shapes = refl
 long_alone Outline = refl
 long_alone AreaWeight = refl
 long_alone WireWeight = refl
+long_alone NetWeights = refl
 long_alone Cert = refl
 long_alone PlOut = refl
 long_alone Workers = refl
@@ -92,6 +95,7 @@ alone_some Shapes = refl
 alone_some Outline = refl
 alone_some AreaWeight = refl
 alone_some WireWeight = refl
+alone_some NetWeights = refl
 alone_some Cert = refl
 alone_some PlOut = refl
 alone_some Workers = refl

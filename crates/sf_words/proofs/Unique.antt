@@ -62,7 +62,8 @@ weights_unique : (v : Values) (a b : WeightOptions) → WeightsSay v a → Weigh
 weights_unique v a b g h =
     let area = number_unique AreaWeight _ _ _ g.area h.area in
     let wire = number_unique WireWeight _ _ _ g.wire h.wire in
-    λ i. record { area = area i; wire = wire i }
+    let net_weights = sym g.net_weights ∙ h.net_weights in
+    λ i. record { area = area i; wire = wire i; net_weights = net_weights i }
 
 plan_unique : (v : Values) (a b : PlanOptions) → PlanSays v a → PlanSays v b → a ≡ b
 plan_unique v a b g h =

@@ -4,7 +4,7 @@ use Rattle.std.specs.Str.{bytes_eq}
 use Rattle.sf_words.specs.declared.options.Mode.{Mode}
 use Rattle.sf_words.specs.declared.options.Mode.TheVariants.{Plan, Check, Measure, Shape, Gen}
 use Rattle.sf_words.specs.declared.options.Key.{Key}
-use Rattle.sf_words.specs.declared.options.Key.TheVariants.{Format, Blocks, Nets, Pl, Yal, PerUnit, Fixed, Shapes, Outline, AreaWeight, WireWeight, Cert, PlOut, Workers, Nodes, Placed, Expr, Seed, Count, Kinds as KindsKey, Out}
+use Rattle.sf_words.specs.declared.options.Key.TheVariants.{Format, Blocks, Nets, Pl, Yal, PerUnit, Fixed, Shapes, Outline, AreaWeight, WireWeight, NetWeights, Cert, PlOut, Workers, Nodes, Placed, Expr, Seed, Count, Kinds as KindsKey, Out}
 use Rattle.sf_words.specs.Table.{Text, key_text}
 use Rattle.sf_words.specs.Words.{Token, key_of, value_of, HasForm}
 use Rattle.sf_words.specs.Numbers.{SaysNumber, SaysOptional}
@@ -49,15 +49,17 @@ pub record DesignSays (v : Values) (o : DesignOptions) : Type 0 where
   pub shapes : SaysNumber Shapes (v Shapes) o.shapes
   pub outline : OutlineSays o.per_unit (v Outline) o.width o.height
 
--- what counts in a cost, and how much; not both are 0
+-- what counts in a cost, and how much: not both are 0; and the file that tells what each net counts, if one does
 pub record WeightOptions : Type 0 where
   pub area : ℕ
   pub wire : ℕ
+  pub net_weights : Option Text
 
 pub record WeightsSay (v : Values) (o : WeightOptions) : Type 0 where
   pub area : SaysNumber AreaWeight (v AreaWeight) o.area
   pub wire : SaysNumber WireWeight (v WireWeight) o.wire
   pub some : 0 < o.area + o.wire
+  pub net_weights : v NetWeights ≡ o.net_weights
 
 -- the options of `plan`
 pub record PlanOptions : Type 0 where

@@ -34,7 +34,7 @@ abbrev pub design_seen : DesignWords → DesignOptions
 design_seen o = record { input = input_seen o.input; per_unit = o.per_unit; is_fixed = o.is_fixed; shapes = o.shapes; width = o.width; height = o.height }
 
 abbrev pub weights_seen : WeightWords → WeightOptions
-weights_seen o = record { area = o.area; wire = o.wire }
+weights_seen o = record { area = o.area; wire = o.wire; net_weights = text_of o.net_weights }
 
 abbrev pub plan_seen : PlanWords → PlanOptions
 plan_seen o = record { design = design_seen o.design; weights = weights_seen o.weights; cert = o.cert.now; pl_out = text_of o.pl_out; workers = o.workers; nodes = o.nodes }

@@ -43,9 +43,11 @@ pub struct DesignWords<'a> {
 
 /// What counts in a cost.
 #[derive(Clone, Copy, Debug)]
-pub struct WeightWords {
+pub struct WeightWords<'a> {
     pub area: u16,
     pub wire: u16,
+    /// The file that tells the weights of the nets. Without one each net has the weight 1.
+    pub net_weights: Option<&'a str>,
     ghost some: { 0 < area + wire },
 }
 
@@ -53,7 +55,7 @@ pub struct WeightWords {
 #[derive(Clone, Copy, Debug)]
 pub struct PlanWords<'a> {
     pub design: DesignWords<'a>,
-    pub weights: WeightWords,
+    pub weights: WeightWords<'a>,
     /// The file that the certificate is stored in.
     pub cert: &'a str,
     /// The file that the plan is stored in.
@@ -71,7 +73,7 @@ pub struct PlanWords<'a> {
 #[derive(Clone, Copy, Debug)]
 pub struct CheckWords<'a> {
     pub design: DesignWords<'a>,
-    pub weights: WeightWords,
+    pub weights: WeightWords<'a>,
     /// The file of the certificate that is checked.
     pub cert: &'a str,
 }
@@ -80,7 +82,7 @@ pub struct CheckWords<'a> {
 #[derive(Clone, Copy, Debug)]
 pub struct MeasureWords<'a> {
     pub design: DesignWords<'a>,
-    pub weights: WeightWords,
+    pub weights: WeightWords<'a>,
     /// The file that places each block.
     pub placed: &'a str,
 }

@@ -104,7 +104,7 @@ fn read_design<'a, T: OptionTexts<'a>>(texts: &T) -> Option<DesignWords<'a>>
 }
 
 #[tactic(auto, unfolding(crate::specs::Numbers::least, crate::specs::Numbers::greatest))]
-fn read_weights<'a, T: OptionTexts<'a>>(texts: &T) -> Option<WeightWords>
+fn read_weights<'a, T: OptionTexts<'a>>(texts: &T) -> Option<WeightWords<'a>>
     ensures options { IfSome result (λ o. WeightsSay (T.texts texts.now) (weights_seen o)) }
     ensures none { IfNone result ((o : WeightOptions) → WeightsSay (T.texts texts.now) o → ⊥) }
 {
@@ -113,7 +113,11 @@ fn read_weights<'a, T: OptionTexts<'a>>(texts: &T) -> Option<WeightWords>
     if area == 0 && wire == 0 {
         return None;
     }
-    Some(WeightWords { area, wire })
+    Some(WeightWords {
+        area,
+        wire,
+        net_weights: texts.text(Key::NetWeights),
+    })
 }
 
 #[tactic(auto, unfolding(crate::specs::Numbers::least, crate::specs::Numbers::greatest))]

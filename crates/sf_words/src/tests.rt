@@ -10,7 +10,7 @@ const YAL: &str = "--format yal --yal a";
 
 const DESIGN: &str = "--per-unit 10 --fixed --shapes 16 --outline 10.5x7";
 
-const WEIGHTS: &str = "--area-weight 2 --wire-weight 3";
+const WEIGHTS: &str = "--area-weight 2 --wire-weight 3 --net-weights w";
 
 // More words behind those of a plan, with which they have a meaning.
 const TAKEN: &str = "--outline 1048576x1
@@ -18,6 +18,7 @@ const TAKEN: &str = "--outline 1048576x1
 --shapes 2
 --shapes 256
 --area-weight 0 --wire-weight 65535
+--net-weights w=w
 --workers 00000000000000000016
 --nodes 1";
 
@@ -54,6 +55,10 @@ const REFUSED: &str = "--outline 1048577x1
 --pl-out=
 --cert d
 --placed p
+--net-weights
+--net-weights=
+--net-weights -w
+--net-weights w --net-weights w
 --
 help
 --help
@@ -76,6 +81,8 @@ plan --cert d --blocks a
 plan --cert d --format gsrc
 plan --cert d --format yal --blocks a
 plan --cert d --format GSRC --blocks a
+shape --format gsrc --blocks a --expr e --net-weights w
+gen --seed 7 --count 4 --out g --net-weights w
 gen --seed 7 --seed 7 --count 4 --out g
 gen --seed 7 --count 321 --out g
 gen --seed 18446744073709551616 --count 4 --out g
@@ -165,6 +172,7 @@ fn values(rt: HostRuntime) -> Result<(), Fail> {
         (read.weights.area, read.weights.wire, read.workers),
         (1, 0, 1)
     );
+    assert!(rt; read.weights.net_weights.is_none());
     assert_eq!(rt; (read.design.per_unit, read.design.shapes), (1, 16));
     assert_eq!(rt;
         (read.design.width, read.design.height),
@@ -179,6 +187,12 @@ fn values(rt: HostRuntime) -> Result<(), Fail> {
         return Err("shape".into());
     };
     assert_eq!(rt; (read.design.width, read.design.height), (50, 725));
+
+    let words = spaced(alloc, &["measure --placed p --net-weights w", YAL])?;
+    let Some(CommandWords::Measure(read)) = read_words(alloc, &words)? else {
+        return Err("measure".into());
+    };
+    assert!(rt; read.weights.net_weights == Some("w"));
     Ok(())
 }
 
