@@ -3,12 +3,12 @@ use Rattle.std.proofs.Common.{◌≡◌, inl, inr, Result, Ok, Err, sym, subst, 
 use Rattle.std.specs.Prelude.{IfErr, IfOk}
 use Rattle.sf_model.specs.declared.design.Design.{Design}
 use Rattle.sf_model.specs.declared.fault.BuildFault.{BuildFault}
-use Rattle.sf_model.specs.declared.raw.Parts.{Parts}
 use Rattle.sf_soft_shapes.specs.Listed.{HasNoneFor}
 use Rattle.sf_words.specs.Meaning.{DesignOptions, WeightOptions}
 use Rattle.sf_program.specs.declared.stop.Stop.{Stop}
 use Rattle.sf_program.specs.Outcome.{Refusal, Ends, IsFault, Stops}
 use Rattle.sf_program.specs.Reading.{DesignMade, Judged, Said}
+use Rattle.sf_program.specs.Weighed.{WeighedParts}
 use Rattle.sf_program.proofs.Stages.{stops-map}
 
 module _ {X F : Type 0} (first : Result X F) (refusal : F → Refusal) (out : X) (read : first ≡ Ok out) where
@@ -37,17 +37,17 @@ module _ {X F : Type 0} (first : Result X F) (refusal : F → Refusal) (out : X)
   judged-never (Err stop) h = stops-map (λ why. Judged first refusal (Err why)) (λ why. ⊥) (λ why s. let k : Err why ≡ Ok out = judged-same (Err why) s in absurd (cc)) stop h
 
 -- each block has a shape
-module _ (o : DesignOptions) (w : WeightOptions) (parts : Parts) (shaped : (fault : BuildFault) → HasNoneFor o.shapes o.is_fixed parts.blocks fault → ⊥) where
-  no-refusal : (why : Refusal) → DesignMade o w parts (Err why) → ⊥
+module _ (o : DesignOptions) (w : WeightOptions) (read : WeighedParts) (shaped : (fault : BuildFault) → HasNoneFor o.shapes o.is_fixed read.parts.blocks fault → ⊥) where
+  no-refusal : (why : Refusal) → DesignMade o w read (Err why) → ⊥
   no-refusal why d = elim d [ inl m ↦ m.2 | inr m ↦ shaped m.1.0 m.1.1 ]
 
-  pub made-never : (r : Result Design Stop) → Ends (λ x. x) r (DesignMade o w parts) → IfErr r IsFault
+  pub made-never : (r : Result Design Stop) → Ends (λ x. x) r (DesignMade o w read) → IfErr r IsFault
   made-never (Ok x) h = tt
-  made-never (Err stop) h = stops-map (λ why. DesignMade o w parts (Err why)) (λ why. ⊥) no-refusal stop h
+  made-never (Err stop) h = stops-map (λ why. DesignMade o w read (Err why)) (λ why. ⊥) no-refusal stop h
 
-pub made-ok : (o : DesignOptions) (w : WeightOptions) (parts : Parts) (S : Type 0) → S → (r : Result Design Stop) → Ends (λ x. x) r (DesignMade o w parts) → IfOk r (λ d. S × DesignMade o w parts (Ok d))
-made-ok o w parts S s (Ok d) h = (s, h)
-made-ok o w parts S s (Err stop) h = tt
+pub made-ok : (o : DesignOptions) (w : WeightOptions) (read : WeighedParts) (S : Type 0) → S → (r : Result Design Stop) → Ends (λ x. x) r (DesignMade o w read) → IfOk r (λ d. S × DesignMade o w read (Ok d))
+made-ok o w read S s (Ok d) h = (s, h)
+made-ok o w read S s (Err stop) h = tt
 
 -- what is never refused stops for no refusal
 pub never-stops : (P : Refusal → Type 0) (stop : Stop) → IsFault stop → Stops stop P

@@ -22,19 +22,22 @@ use Rattle.sf_gsrc.specs.Blocks.{blocks_read}
 use Rattle.sf_gsrc.specs.Nets.{nets_read}
 use Rattle.sf_gsrc.specs.NetsStanding.{NetsStandFor}
 use Rattle.sf_gsrc.specs.Places.{places_read, PlacesStandFor}
+use Rattle.sf_gsrc.specs.Weights.{weights_read, WeightsStandFor}
 use Rattle.sf_gsrc.specs.Join.{first_twice, joined, names_of, nets_in, numbered, placed_once, placed_parts, unplaced_parts}
 use Rattle.sf_gsrc.proofs.StandingLaws as block_laws
 use Rattle.sf_gsrc.proofs.NetLaws as net_laws
 use Rattle.sf_gsrc.proofs.PlaceLaws as place_laws
+use Rattle.sf_gsrc.proofs.WeightLaws as weight_laws
 use Rattle.sf_yal.specs.Standing as yals
 use Rattle.sf_yal.specs.Parts.{yal_read}
 use Rattle.sf_yal.proofs.Standing as yal_laws
 use Rattle.sf_words.specs.Meaning.{Input, gsrc, yal, DesignOptions, PlanOptions, WeightOptions}
 use Rattle.sf_program.specs.OneAnswer.{AtMostOne, GivesOne, HasBlocksOf}
-use Rattle.sf_program.specs.Outcome.{Refusal}
+use Rattle.sf_program.specs.Outcome.{Refusal, Then}
 use Rattle.sf_program.specs.Planned.{BudgetTested, BudgetedDesign, PlanRead}
-use Rattle.sf_program.specs.Reading.{Admitted, BlocksRead, Built, DesignMade, DesignRead, GsrcRead, IfNamed, Judged, ListsMade, NetsRead, PartsAdmitted, PartsRead, PlacedRead, PlacesRead, Said, TextRead, WiredRead, YalRead, outline_of, weights_of}
-use Rattle.sf_program.specs.Refusals.{build_refusal, gsrc_refusal, join_refusal, yal_refusal}
+use Rattle.sf_program.specs.Reading.{Admitted, BlocksRead, Built, DesignMade, DesignRead, GsrcRead, IfNamed, JoinedRead, Judged, ListsMade, NetsRead, PartsAdmitted, PartsRead, PlacedRead, PlacesRead, Said, TextRead, Weighed, WeighedRead, WeightsRead, WiredRead, YalRead, YalWeighed, outline_of, weights_of}
+use Rattle.sf_program.specs.Refusals.{build_refusal, gsrc_refusal, join_refusal, weight_refusal, yal_refusal}
+use Rattle.sf_program.specs.Weighed.{WeighedParts}
 use Rattle.sf_program.proofs.Once.{once, then-one, said-one, judged-one, text-one, named-one, same-value}
 
 -- ---- the parts
@@ -60,29 +63,53 @@ module _ (contents : Contents) where
       then-one (TextRead (Some contents) name) (λ text. Said (yals.StandsFor scale text) (yal_read scale text) yal_refusal) (text-one contents name)
       (λ text. once (Said (yals.StandsFor scale text) (yal_read scale text) yal_refusal) (said-one (yals.StandsFor scale text) (yal_read scale text) yal_refusal (yal_laws.read_from_stands scale text)))
 
-  placed-one : (scale : ℕ) (pl : Option (List ℕ)) (blocks : GsrcBlocks) (nets : Option GsrcNets) → GivesOne contents.may_fail (PlacedRead (Some contents) scale pl blocks nets)
-  placed-one scale pl blocks nets =
-      then-one (IfNamed (PlacesRead (Some contents) (codes "pl") scale) pl) (λ places. Judged (joined blocks nets places) join_refusal)
-      (named-one (PlacesRead (Some contents) (codes "pl") scale) (places-one (codes "pl") scale) pl) (λ places. once (Judged (joined blocks nets places) join_refusal) (judged-one (joined blocks nets places) join_refusal))
+  weights-one : (weights : Option (List ℕ)) (nets : ℕ) → GivesOne contents.may_fail (WeightsRead (Some contents) weights nets)
+  weights-one None nets r s a b told = a ∙ sym b
+  weights-one (Some name) nets r s a b told =
+      then-one (TextRead (Some contents) name) (λ text. Said (WeightsStandFor text nets) (weights_read nets text) weight_refusal) (text-one contents name)
+      (λ text. once (Said (WeightsStandFor text nets) (weights_read nets text) weight_refusal) (said-one (WeightsStandFor text nets) (weights_read nets text) weight_refusal (weight_laws.read_from_stands text nets))) r s a b told
 
-  wired-one : (scale : ℕ) (nets pl : Option (List ℕ)) (blocks : GsrcBlocks) → GivesOne contents.may_fail (WiredRead (Some contents) scale nets pl blocks)
-  wired-one scale nets pl blocks =
-      then-one (IfNamed (NetsRead (Some contents)) nets) (PlacedRead (Some contents) scale pl blocks) (named-one (NetsRead (Some contents)) nets-one nets) (placed-one scale pl blocks)
+  weighed-one : (net_weights : List ℕ) (parts : Parts) → GivesOne contents.may_fail (Weighed net_weights parts)
+  weighed-one net_weights parts r s a b told = a ∙ sym b
 
-  parts-one : (scale : ℕ) (input : Input) → GivesOne contents.may_fail (PartsRead (Some contents) scale input)
-  parts-one scale (gsrc blocks nets pl) = then-one (BlocksRead (Some contents) scale blocks) (WiredRead (Some contents) scale nets pl) (blocks-one scale blocks) (wired-one scale nets pl)
-  parts-one scale (yal file) = yal-one scale file
+  joined-one : (blocks : GsrcBlocks) (nets : Option GsrcNets) (places : Option GsrcPlaces) (net_weights : List ℕ) → GivesOne contents.may_fail (JoinedRead blocks nets places net_weights)
+  joined-one blocks nets places net_weights =
+      then-one (Judged (joined blocks nets places) join_refusal) (Weighed net_weights) (once (Judged (joined blocks nets places) join_refusal) (judged-one (joined blocks nets places) join_refusal)) (weighed-one net_weights)
 
-  admitted-one : (parts : Parts) → AtMostOne (Admitted parts)
-  admitted-one parts (Ok x) (Ok y) a b = ap Ok (a.0 ∙ sym b.0)
-  admitted-one parts (Ok x) (Err w) a b = let e : None ≡ Some b.0 = sym a.1 ∙ b.1 in absurd (cc)
-  admitted-one parts (Err v) (Ok y) a b = let e : None ≡ Some a.0 = sym b.1 ∙ a.1 in absurd (cc)
-  admitted-one parts (Err v) (Err w) a b =
+  weighed-read-one : (weights : Option (List ℕ)) (blocks : GsrcBlocks) (nets : Option GsrcNets) (places : Option GsrcPlaces) → GivesOne contents.may_fail (WeighedRead (Some contents) weights blocks nets places)
+  weighed-read-one weights blocks nets places =
+      then-one (WeightsRead (Some contents) weights (length (nets_in nets))) (JoinedRead blocks nets places) (weights-one weights (length (nets_in nets))) (joined-one blocks nets places)
+
+  placed-one : (scale : ℕ) (pl weights : Option (List ℕ)) (blocks : GsrcBlocks) (nets : Option GsrcNets) → GivesOne contents.may_fail (PlacedRead (Some contents) scale pl weights blocks nets)
+  placed-one scale pl weights blocks nets =
+      then-one (IfNamed (PlacesRead (Some contents) (codes "pl") scale) pl) (WeighedRead (Some contents) weights blocks nets)
+      (named-one (PlacesRead (Some contents) (codes "pl") scale) (places-one (codes "pl") scale) pl) (weighed-read-one weights blocks nets)
+
+  wired-one : (scale : ℕ) (nets pl weights : Option (List ℕ)) (blocks : GsrcBlocks) → GivesOne contents.may_fail (WiredRead (Some contents) scale nets pl weights blocks)
+  wired-one scale nets pl weights blocks =
+      then-one (IfNamed (NetsRead (Some contents)) nets) (PlacedRead (Some contents) scale pl weights blocks) (named-one (NetsRead (Some contents)) nets-one nets) (placed-one scale pl weights blocks)
+
+  yal-weighed-one : (scale : ℕ) (file : List ℕ) (weights : Option (List ℕ)) → GivesOne contents.may_fail (YalWeighed (Some contents) scale file weights)
+  yal-weighed-one scale file weights =
+      then-one (YalRead (Some contents) scale file) (λ parts. Then (WeightsRead (Some contents) weights (length parts.nets)) (λ net_weights. Weighed net_weights parts)) (yal-one scale file)
+      (λ parts. then-one (WeightsRead (Some contents) weights (length parts.nets)) (λ net_weights. Weighed net_weights parts) (weights-one weights (length parts.nets)) (λ net_weights. weighed-one net_weights parts))
+
+  parts-one : (scale : ℕ) (input : Input) (weights : Option (List ℕ)) → GivesOne contents.may_fail (PartsRead (Some contents) scale input weights)
+  parts-one scale (gsrc blocks nets pl) weights =
+      then-one (BlocksRead (Some contents) scale blocks) (WiredRead (Some contents) scale nets pl weights) (blocks-one scale blocks) (wired-one scale nets pl weights)
+  parts-one scale (yal file) weights = yal-weighed-one scale file weights
+
+  admitted-one : (read : WeighedParts) → AtMostOne (Admitted read)
+  admitted-one read (Ok x) (Ok y) a b = ap Ok (a.0 ∙ sym b.0)
+  admitted-one read (Ok x) (Err w) a b = let e : None ≡ Some b.0 = sym a.1 ∙ b.1 in absurd (cc)
+  admitted-one read (Err v) (Ok y) a b = let e : None ≡ Some a.0 = sym b.1 ∙ a.1 in absurd (cc)
+  admitted-one read (Err v) (Err w) a b =
       let same : a.0 ≡ b.0 = (let e : Some a.0 ≡ Some b.0 = sym a.1 ∙ b.1 in cc) in
       ap Err (a.2 ∙ ap build_refusal same ∙ sym b.2)
 
-  pub parts-admitted-one : (o : DesignOptions) → GivesOne contents.may_fail (PartsAdmitted (Some contents) o)
-  parts-admitted-one o = then-one (PartsRead (Some contents) o.per_unit o.input) Admitted (parts-one o.per_unit o.input) (λ parts. once (Admitted parts) (admitted-one parts))
+  pub parts-admitted-one : (o : DesignOptions) (w : WeightOptions) → GivesOne contents.may_fail (PartsAdmitted (Some contents) o w)
+  parts-admitted-one o w =
+      then-one (PartsRead (Some contents) o.per_unit o.input w.net_weights) Admitted (parts-one o.per_unit o.input w.net_weights) (λ read. once (Admitted read) (admitted-one read))
 
 -- ---- the design
 
@@ -93,38 +120,38 @@ no-empty (b ∷ bs) [] all = refl
 no-empty (b ∷ bs) ([] ∷ ls) all = let some = all 0 (record { name = []; shapes = [] }) (omega arith) in absurd (omega arith)
 no-empty (b ∷ bs) ((s ∷ ss) ∷ ls) all = no-empty bs ls (λ i d low. all (suc i) d (omega arith))
 
-module _ (o : DesignOptions) (w : WeightOptions) (parts : Parts) where
-  shaped : (lists : List (List Shape)) (design : Design) → Built o w parts lists (Ok design) → shapeless parts.blocks lists ≡ None
+module _ (o : DesignOptions) (w : WeightOptions) (read : WeighedParts) where
+  shaped : (lists : List (List Shape)) (design : Design) → Built o w read lists (Ok design) → shapeless read.parts.blocks lists ≡ None
   shaped lists design built =
       let each : All (λ (b : Block). 1 ≤ length b.shapes) design.blocks = λ i d low. (design.limits.shapes i d low).some in
-      no-empty parts.blocks lists (subst (λ (bs : List Block). All (λ (b : Block). 1 ≤ length b.shapes) bs) built.blocks each)
+      no-empty read.parts.blocks lists (subst (λ (bs : List Block). All (λ (b : Block). 1 ≤ length b.shapes) bs) built.blocks each)
 
-  not-both : (lists : List (List Shape)) (design : Design) (why : Refusal) → AreListsOf o.shapes o.is_fixed parts.blocks lists → Built o w parts lists (Ok design) → ListsMade o parts (Err why) → ⊥
+  not-both : (lists : List (List Shape)) (design : Design) (why : Refusal) → AreListsOf o.shapes o.is_fixed read.parts.blocks lists → Built o w read lists (Ok design) → ListsMade o read.parts (Err why) → ⊥
   not-both lists design why all built none =
-      let empty = fault-empty o.shapes o.is_fixed parts.blocks lists none.0 all none.1 in
-      let full : option_map NoShape (shapeless parts.blocks lists) ≡ None = ap (option_map NoShape) (shaped lists design built) in
+      let empty = fault-empty o.shapes o.is_fixed read.parts.blocks lists none.0 all none.1 in
+      let full : option_map NoShape (shapeless read.parts.blocks lists) ≡ None = ap (option_map NoShape) (shaped lists design built) in
       let e : None ≡ Some none.0 = sym full ∙ empty in absurd (cc)
 
   -- the same lists give the same design
-  built-one : (r s : Result Design Refusal) (xs ys : List (List Shape)) → xs ≡ ys → Built o w parts xs r → Built o w parts ys s → r ≡ s
-  built-one (Ok d) (Ok e) xs ys same p q = ap Ok (determined parts ys (outline_of o) (weights_of w) d e (subst (λ (ls : List (List Shape)). Built o w parts ls (Ok d)) same p) q)
+  built-one : (r s : Result Design Refusal) (xs ys : List (List Shape)) → xs ≡ ys → Built o w read xs r → Built o w read ys s → r ≡ s
+  built-one (Ok d) (Ok e) xs ys same p q = ap Ok (determined read.parts ys (outline_of o) (weights_of w) read.net_weights d e (subst (λ (ls : List (List Shape)). Built o w read ls (Ok d)) same p) q)
   built-one (Ok d) (Err why) xs ys same p q = absurd q
   built-one (Err why) s xs ys same p q = absurd p
 
-  clash : (r : Result Design Refusal) (lists : List (List Shape)) (why : Refusal) → AreListsOf o.shapes o.is_fixed parts.blocks lists → Built o w parts lists r → ListsMade o parts (Err why) → ⊥
+  clash : (r : Result Design Refusal) (lists : List (List Shape)) (why : Refusal) → AreListsOf o.shapes o.is_fixed read.parts.blocks lists → Built o w read lists r → ListsMade o read.parts (Err why) → ⊥
   clash (Ok d) lists why all built none = not-both lists d why all built none
   clash (Err v) lists why all built none = built
 
-  pub made-one : AtMostOne (DesignMade o w parts)
+  pub made-one : AtMostOne (DesignMade o w read)
   made-one r s a b =
       elim a [
         | inl m ↦ elim b [
-          | inl n ↦ built-one r s m.0 n.0 (all-lists o.shapes o.is_fixed parts.blocks m.0 n.0 m.1 n.1) m.2 n.2
+          | inl n ↦ built-one r s m.0 n.0 (all-lists o.shapes o.is_fixed read.parts.blocks m.0 n.0 m.1 n.1) m.2 n.2
           | inr n ↦ absurd (clash r m.0 n.0 m.1 m.2 n.1)
         ]
         | inr m ↦ elim b [
           | inl n ↦ absurd (clash s n.0 m.0 n.1 n.2 m.1)
-          | inr n ↦ (let same = one-fault o.shapes o.is_fixed parts.blocks m.1.0 n.1.0 m.1.1 n.1.1 in
+          | inr n ↦ (let same = one-fault o.shapes o.is_fixed read.parts.blocks m.1.0 n.1.0 m.1.1 n.1.1 in
               m.2 ∙ ap Err (m.1.2 ∙ ap build_refusal same ∙ sym n.1.2) ∙ sym n.2)
         ]
       ]
@@ -135,15 +162,15 @@ module _ (o : DesignOptions) (w : WeightOptions) (parts : Parts) where
   names-kept (b ∷ bs) [] e = absurd (omega arith)
   names-kept (b ∷ bs) (l ∷ ls) e = ap (λ ns. b.name ∷ ns) (names-kept bs ls (omega arith))
 
-  made-blocks : (design : Design) → DesignMade o w parts (Ok design) → HasBlocksOf parts.blocks design
+  made-blocks : (design : Design) → DesignMade o w read (Ok design) → HasBlocksOf read.parts.blocks design
   made-blocks design made =
       elim made [
-        | inl m ↦ record { count = m.2.block_count; names = ap (map (λ (b : Block). b.name)) m.2.blocks ∙ names-kept parts.blocks m.0 m.1.one_each }
+        | inl m ↦ record { count = m.2.block_count; names = ap (map (λ (b : Block). b.name)) m.2.blocks ∙ names-kept read.parts.blocks m.0 m.1.one_each }
         | inr m ↦ (let e = m.2 in absurd (cc))
       ]
 
 pub design-one : (contents : Contents) (o : DesignOptions) (w : WeightOptions) → GivesOne contents.may_fail (DesignRead (Some contents) o w)
-design-one contents o w = then-one (PartsAdmitted (Some contents) o) (DesignMade o w) (parts-admitted-one contents o) (λ parts. once (DesignMade o w parts) (made-one o w parts))
+design-one contents o w = then-one (PartsAdmitted (Some contents) o w) (DesignMade o w) (parts-admitted-one contents o w) (λ read. once (DesignMade o w read) (made-one o w read))
 
 pub budget-one : (nodes : Option ℕ) (blocks : ℕ) → AtMostOne (BudgetTested nodes blocks)
 budget-one nodes blocks (Ok x) (Ok y) a b = ap Ok (a.0 ∙ sym b.0)
@@ -153,33 +180,35 @@ budget-one nodes blocks (Err v) (Err w) a b = ap Err (a.1 ∙ sym b.1)
 
 pub plan-one : (contents : Contents) (o : PlanOptions) → GivesOne contents.may_fail (PlanRead (Some contents) o)
 plan-one contents o =
-    then-one (PartsAdmitted (Some contents) o.design) (BudgetedDesign o) (parts-admitted-one contents o.design)
-    (λ parts. then-one (BudgetTested o.nodes (length parts.blocks)) (λ budget. DesignMade o.design o.weights parts) (once (BudgetTested o.nodes (length parts.blocks)) (budget-one o.nodes (length parts.blocks))) (λ budget. once (DesignMade o.design o.weights parts) (made-one o.design o.weights parts)))
+    then-one (PartsAdmitted (Some contents) o.design o.weights) (BudgetedDesign o) (parts-admitted-one contents o.design o.weights)
+    (λ read. then-one (BudgetTested o.nodes (length read.parts.blocks)) (λ budget. DesignMade o.design o.weights read) (once (BudgetTested o.nodes (length read.parts.blocks)) (budget-one o.nodes (length read.parts.blocks))) (λ budget. once (DesignMade o.design o.weights read) (made-one o.design o.weights read)))
 
 -- ---- the blocks
 
 -- parts that are admitted are those that were read
-admitted-parts : (contents : Contents) (o : DesignOptions) (parts other : Parts) → PartsRead (Some contents) o.per_unit o.input (Ok parts) → PartsAdmitted (Some contents) o (Ok other) → other ≡ parts
-admitted-parts contents o parts other read admitted =
+admitted-parts : (contents : Contents) (o : DesignOptions) (w : WeightOptions) (read other : WeighedParts) → PartsRead (Some contents) o.per_unit o.input w.net_weights (Ok read) → PartsAdmitted (Some contents) o w (Ok other) → other ≡ read
+admitted-parts contents o w read other said admitted =
     elim admitted [
-      | inl m ↦ m.2.0 ∙ same-value (PartsRead (Some contents) o.per_unit o.input) (parts-one contents o.per_unit o.input) m.0 parts m.1 read
+      | inl m ↦ m.2.0 ∙ same-value (PartsRead (Some contents) o.per_unit o.input w.net_weights) (parts-one contents o.per_unit o.input w.net_weights) m.0 read m.1 said
       | inr m ↦ (let e = m.2 in absurd (cc))
     ]
 
-pub design-blocks : (contents : Contents) (o : DesignOptions) (w : WeightOptions) (parts : Parts) (design : Design) → PartsRead (Some contents) o.per_unit o.input (Ok parts) → DesignRead (Some contents) o w (Ok design) → HasBlocksOf parts.blocks design
-design-blocks contents o w parts design read stands =
+pub design-blocks : (contents : Contents) (o : DesignOptions) (w : WeightOptions) (read : WeighedParts) (design : Design) → PartsRead (Some contents) o.per_unit o.input w.net_weights (Ok read) → DesignRead (Some contents) o w (Ok design)
+    → HasBlocksOf read.parts.blocks design
+design-blocks contents o w read design said stands =
     elim stands [
-      | inl m ↦ subst (λ (p : Parts). HasBlocksOf p.blocks design) (admitted-parts contents o parts m.0 read m.1) (made-blocks o w m.0 design m.2)
+      | inl m ↦ subst (λ (p : WeighedParts). HasBlocksOf p.parts.blocks design) (admitted-parts contents o w read m.0 said m.1) (made-blocks o w m.0 design m.2)
       | inr m ↦ (let e = m.2 in absurd (cc))
     ]
 
-budgeted-made : (o : PlanOptions) (parts : Parts) (design : Design) → BudgetedDesign o parts (Ok design) → DesignMade o.design o.weights parts (Ok design)
-budgeted-made o parts design h = elim h [ inl m ↦ m.2 | inr m ↦ (let e = m.2 in absurd (cc)) ]
+budgeted-made : (o : PlanOptions) (read : WeighedParts) (design : Design) → BudgetedDesign o read (Ok design) → DesignMade o.design o.weights read (Ok design)
+budgeted-made o read design h = elim h [ inl m ↦ m.2 | inr m ↦ (let e = m.2 in absurd (cc)) ]
 
-pub plan-blocks : (contents : Contents) (o : PlanOptions) (parts : Parts) (design : Design) → PartsRead (Some contents) o.design.per_unit o.design.input (Ok parts) → PlanRead (Some contents) o (Ok design) → HasBlocksOf parts.blocks design
-plan-blocks contents o parts design read stands =
+pub plan-blocks : (contents : Contents) (o : PlanOptions) (read : WeighedParts) (design : Design) → PartsRead (Some contents) o.design.per_unit o.design.input o.weights.net_weights (Ok read) → PlanRead (Some contents) o (Ok design)
+    → HasBlocksOf read.parts.blocks design
+plan-blocks contents o read design said stands =
     elim stands [
-      | inl m ↦ subst (λ (p : Parts). HasBlocksOf p.blocks design) (admitted-parts contents o.design parts m.0 read m.1) (made-blocks o.design o.weights m.0 design (budgeted-made o m.0 design m.2))
+      | inl m ↦ subst (λ (p : WeighedParts). HasBlocksOf p.parts.blocks design) (admitted-parts contents o.design o.weights read m.0 said m.1) (made-blocks o.design o.weights m.0 design (budgeted-made o m.0 design m.2))
       | inr m ↦ (let e = m.2 in absurd (cc))
     ]
 
@@ -197,13 +226,26 @@ judged-ok : {X F : Type 0} (first : Result X F) (refusal : F → Refusal) (x : X
 judged-ok (Ok y) refusal x h = ap Ok (let e : Ok x ≡ Ok y = h in cc)
 judged-ok (Err fault) refusal x h = absurd (cc)
 
-pub joined-blocks : (contents : Contents) (scale : ℕ) (name : List ℕ) (nets pl : Option (List ℕ)) (out : GsrcBlocks) (parts : Parts) → BlocksRead (Some contents) scale name (Ok out) → GsrcRead (Some contents) scale name nets pl (Ok parts) → parts.blocks ≡ out.blocks
-joined-blocks contents scale name nets pl out parts read stands =
+-- so does weighing
+joined-kept : (out : GsrcBlocks) (nets : Option GsrcNets) (places : Option GsrcPlaces) (net_weights : List ℕ) (read : WeighedParts) → JoinedRead out nets places net_weights (Ok read) → read.parts.blocks ≡ out.blocks
+joined-kept out nets places net_weights read stands =
+    elim stands [
+      | inl m ↦ (let same : read ≡ record { parts = m.0; net_weights = net_weights } = (let e = m.2 in cc) in
+          ap (λ (p : WeighedParts). p.parts.blocks) same ∙ kept-by out nets places m.0 (judged-ok (joined out nets places) join_refusal m.0 m.1))
+      | inr m ↦ (let e = m.2 in absurd (cc))
+    ]
+
+pub joined-blocks : (contents : Contents) (scale : ℕ) (name : List ℕ) (nets pl weights : Option (List ℕ)) (out : GsrcBlocks) (read : WeighedParts)
+    → BlocksRead (Some contents) scale name (Ok out) → GsrcRead (Some contents) scale name nets pl weights (Ok read) → read.parts.blocks ≡ out.blocks
+joined-blocks contents scale name nets pl weights out read said stands =
     elim stands [
       | inl m ↦ elim m.2 [
         | inl n ↦ elim n.2 [
-          | inl k ↦ kept-by m.0 n.0 k.0 parts (judged-ok (joined m.0 n.0 k.0) join_refusal parts k.2)
-              ∙ ap (λ (b : GsrcBlocks). b.blocks) (same-value (BlocksRead (Some contents) scale name) (blocks-one contents scale name) m.0 out m.1 read)
+          | inl k ↦ elim k.2 [
+            | inl j ↦ joined-kept m.0 n.0 k.0 j.0 read j.2
+                ∙ ap (λ (b : GsrcBlocks). b.blocks) (same-value (BlocksRead (Some contents) scale name) (blocks-one contents scale name) m.0 out m.1 said)
+            | inr j ↦ (let e = j.2 in absurd (cc))
+          ]
           | inr k ↦ (let e = k.2 in absurd (cc))
         ]
         | inr n ↦ (let e = n.2 in absurd (cc))

@@ -20,6 +20,7 @@ use Rattle.sf_program.specs.Generated.{DesignGenerated, GenRead, IsGenerated, by
 use Rattle.sf_program.specs.OneAnswer.{Answer, AtMostOne, GivesOne}
 use Rattle.sf_program.specs.Planned.{BudgetTested, IsAnswered, IsEnding, IsMeasured, IsPlanned, IsSearched, IsTold, PlanRead, budget_of, placed, status_of}
 use Rattle.sf_program.specs.Stores.{Stored}
+use Rattle.sf_program.specs.Weighed.{alike}
 use Rattle.sf_program.proofs.Once.{once, then-one, same-value}
 use Rattle.sf_program.proofs.OneDesign.{budget-one, made-one, plan-one}
 
@@ -64,7 +65,7 @@ module _ (design : Design) (scale : ℕ) (name : List ℕ) (pl : Option (List �
 
 -- the design of generated texts
 generated-design : (o : GenOptions) → AtMostOne (DesignGenerated o)
-generated-design o (Ok d) (Ok e) p q = made-one by_default both_weights (parts_made o) (Ok d) (Ok e) p.1 q.1
+generated-design o (Ok d) (Ok e) p q = made-one by_default both_weights (alike (parts_made o)) (Ok d) (Ok e) p.1 q.1
 generated-design o (Ok d) (Err w) p q = absurd q
 generated-design o (Err v) s p q = absurd p
 

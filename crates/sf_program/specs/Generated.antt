@@ -24,6 +24,7 @@ use Rattle.sf_program.specs.Outcome.{Refusal, Then}
 use Rattle.sf_program.specs.Planned.{BudgetTested, IsAnswered, budget_of}
 use Rattle.sf_program.specs.Reading.{DesignMade}
 use Rattle.sf_program.specs.Stores.{Stored}
+use Rattle.sf_program.specs.Weighed.{alike}
 
 abbrev pub kinds_of : Kinds → GenKinds
 kinds_of Hard = made.Hard
@@ -70,7 +71,7 @@ abbrev pub by_default : DesignOptions
 by_default = record { input = gsrc [] None None; per_unit = 1; is_fixed = false; shapes = 16; width = 1_048_576; height = 1_048_576 }
 
 abbrev pub both_weights : WeightOptions
-both_weights = record { area = 1; wire = 1 }
+both_weights = record { area = 1; wire = 1; net_weights = None }
 
 -- the three texts stand for the parts, which may become a design
 pub record TextsStand (o : GenOptions) : Type 0 where
@@ -82,7 +83,7 @@ pub record TextsStand (o : GenOptions) : Type 0 where
 
 -- the design of the generated texts, which are never refused
 abbrev pub DesignGenerated : GenOptions → Result Design Refusal → Type 0
-DesignGenerated o (Ok design) = TextsStand o × DesignMade by_default both_weights (parts_made o) (Ok design)
+DesignGenerated o (Ok design) = TextsStand o × DesignMade by_default both_weights (alike (parts_made o)) (Ok design)
 DesignGenerated o (Err why) = ⊥
 
 -- the budget is tested first

@@ -1,5 +1,6 @@
 pub mod Outcome
 pub mod Refusals
+pub mod Weighed
 pub mod Reading
 pub mod Loads
 pub mod Stores

@@ -5,7 +5,6 @@ use Rattle.sf_io.specs.declared.status.Status.{Status}
 use Rattle.sf_io.specs.declared.status.Status.TheVariants.{Done, NoneFits, Open}
 use Rattle.sf_model.specs.declared.design.Design.{Design}
 use Rattle.sf_model.specs.declared.plan.Spot.{Spot}
-use Rattle.sf_model.specs.declared.raw.Parts.{Parts}
 use Rattle.sf_model.specs.declared.TheConstants.{MAX}
 use Rattle.sf_model.specs.Tree.{Tree, width, height, spots_of}
 use Rattle.sf_model.specs.Legal.{block_count}
@@ -33,6 +32,7 @@ use Rattle.sf_program.specs.Outcome.{Refusal, Then}
 use Rattle.sf_program.specs.Refusals.{over_limit}
 use Rattle.sf_program.specs.Reading.{PartsAdmitted, DesignMade}
 use Rattle.sf_program.specs.Stores.{Stored}
+use Rattle.sf_program.specs.Weighed.{WeighedParts}
 
 -- how many subproblems of so many blocks may be decided
 abbrev pub node_limit : ℕ → ℕ
@@ -49,12 +49,12 @@ BudgetTested nodes blocks (Ok budget) = (budget ≡ budget_of nodes blocks) × (
 BudgetTested nodes blocks (Err why) = (node_limit blocks < budget_of nodes blocks) × (why ≡ over_limit (codes "nodes") (budget_of nodes blocks) (node_limit blocks))
 
 -- the design of admitted parts, where the budget is within its limit
-abbrev pub BudgetedDesign : PlanOptions → Parts → Result Design Refusal → Type 0
-BudgetedDesign o parts = Then (BudgetTested o.nodes (length parts.blocks)) (λ budget. DesignMade o.design o.weights parts)
+abbrev pub BudgetedDesign : PlanOptions → WeighedParts → Result Design Refusal → Type 0
+BudgetedDesign o read = Then (BudgetTested o.nodes (length read.parts.blocks)) (λ budget. DesignMade o.design o.weights read)
 
 -- the files stand for this design, and the budget is within its limit
 abbrev pub PlanRead : Option Contents → PlanOptions → Result Design Refusal → Type 0
-PlanRead held o = Then (PartsAdmitted held o.design) (BudgetedDesign o)
+PlanRead held o = Then (PartsAdmitted held o.design o.weights) (BudgetedDesign o)
 
 -- how a search ended: optimal, with no plan since none fits, or with its budget spent
 abbrev pub IsEnding : ℕ → ℕ → Outcome → Type 0

@@ -1,5 +1,5 @@
 -- How the texts under the named files become a design, stage by stage, in the order of the work.
-use Rattle.std.specs.Prelude.{◌≡◌, ℕ, ◌+◌, ◌^◌, ◌≤◌, List, length, codes, Option, None, Some, Result, Ok, Err}
+use Rattle.std.specs.Prelude.{◌≡◌, ℕ, ◌+◌, ◌^◌, ◌≤◌, List, length, replicate, codes, Option, None, Some, Result, Ok, Err}
 use Rattle.sf_io.specs.Outside.{Contents, Holds, HoldsMore, MayFail}
 use Rattle.sf_model.specs.declared.design.Design.{Design}
 use Rattle.sf_model.specs.declared.fault.BuildFault.{BuildFault}
@@ -18,12 +18,14 @@ use Rattle.sf_gsrc.specs.Blocks.{blocks_read}
 use Rattle.sf_gsrc.specs.Nets.{nets_read}
 use Rattle.sf_gsrc.specs.NetsStanding.{NetsStandFor}
 use Rattle.sf_gsrc.specs.Places.{places_read, PlacesStandFor}
-use Rattle.sf_gsrc.specs.Join.{joined}
+use Rattle.sf_gsrc.specs.Weights.{weights_read, WeightsStandFor}
+use Rattle.sf_gsrc.specs.Join.{joined, nets_in}
 use Rattle.sf_yal.specs.Standing as yals
 use Rattle.sf_yal.specs.Parts.{yal_read}
 use Rattle.sf_words.specs.Meaning.{Input, gsrc, yal, DesignOptions, WeightOptions}
 use Rattle.sf_program.specs.Outcome.{Refusal, bad, over, lost, Then}
-use Rattle.sf_program.specs.Refusals.{over_limit, gsrc_refusal, yal_refusal, join_refusal, build_refusal}
+use Rattle.sf_program.specs.Refusals.{over_limit, gsrc_refusal, weight_refusal, yal_refusal, join_refusal, build_refusal}
+use Rattle.sf_program.specs.Weighed.{WeighedParts}
 
 -- the text under a name, of at most 64 MiB; or no text, where a load of the name may fail
 abbrev pub TextRead : Option Contents → List ℕ → Result (List ℕ) Refusal → Type 0
@@ -61,27 +63,48 @@ Judged (Err fault) refusal r = r ≡ Err (refusal fault)
 abbrev pub YalRead : Option Contents → ℕ → List ℕ → Result Parts Refusal → Type 0
 YalRead held scale name = Then (TextRead held name) (λ text. Said (yals.StandsFor scale text) (yal_read scale text) yal_refusal)
 
--- the places, and all of it joined
-abbrev pub PlacedRead : Option Contents → ℕ → Option (List ℕ) → GsrcBlocks → Option GsrcNets → Result Parts Refusal → Type 0
-PlacedRead held scale pl blocks nets = Then (IfNamed (PlacesRead held (codes "pl") scale) pl) (λ places. Judged (joined blocks nets places) join_refusal)
+-- a weight for each of so many nets: 1, or what the text under the name gives it
+abbrev pub WeightsRead : Option Contents → Option (List ℕ) → ℕ → Result (List ℕ) Refusal → Type 0
+WeightsRead held None nets r = r ≡ Ok (replicate nets 1)
+WeightsRead held (Some name) nets r = Then (TextRead held name) (λ text. Said (WeightsStandFor text nets) (weights_read nets text) weight_refusal) r
+
+-- the parts, with these weights of their nets
+abbrev pub Weighed : List ℕ → Parts → Result WeighedParts Refusal → Type 0
+Weighed net_weights parts r = r ≡ Ok (record { parts = parts; net_weights = net_weights })
+
+-- all of it joined, with these weights
+abbrev pub JoinedRead : GsrcBlocks → Option GsrcNets → Option GsrcPlaces → List ℕ → Result WeighedParts Refusal → Type 0
+JoinedRead blocks nets places net_weights = Then (Judged (joined blocks nets places) join_refusal) (Weighed net_weights)
+
+-- the weights of the nets, and what follows
+abbrev pub WeighedRead : Option Contents → Option (List ℕ) → GsrcBlocks → Option GsrcNets → Option GsrcPlaces → Result WeighedParts Refusal → Type 0
+WeighedRead held weights blocks nets places = Then (WeightsRead held weights (length (nets_in nets))) (JoinedRead blocks nets places)
+
+-- the places, and what follows
+abbrev pub PlacedRead : Option Contents → ℕ → Option (List ℕ) → Option (List ℕ) → GsrcBlocks → Option GsrcNets → Result WeighedParts Refusal → Type 0
+PlacedRead held scale pl weights blocks nets = Then (IfNamed (PlacesRead held (codes "pl") scale) pl) (WeighedRead held weights blocks nets)
 
 -- the nets, and what follows
-abbrev pub WiredRead : Option Contents → ℕ → Option (List ℕ) → Option (List ℕ) → GsrcBlocks → Result Parts Refusal → Type 0
-WiredRead held scale nets pl blocks = Then (IfNamed (NetsRead held) nets) (PlacedRead held scale pl blocks)
+abbrev pub WiredRead : Option Contents → ℕ → Option (List ℕ) → Option (List ℕ) → Option (List ℕ) → GsrcBlocks → Result WeighedParts Refusal → Type 0
+WiredRead held scale nets pl weights blocks = Then (IfNamed (NetsRead held) nets) (PlacedRead held scale pl weights blocks)
 
 -- the blocks, and what follows
-abbrev pub GsrcRead : Option Contents → ℕ → List ℕ → Option (List ℕ) → Option (List ℕ) → Result Parts Refusal → Type 0
-GsrcRead held scale blocks nets pl = Then (BlocksRead held scale blocks) (WiredRead held scale nets pl)
+abbrev pub GsrcRead : Option Contents → ℕ → List ℕ → Option (List ℕ) → Option (List ℕ) → Option (List ℕ) → Result WeighedParts Refusal → Type 0
+GsrcRead held scale blocks nets pl weights = Then (BlocksRead held scale blocks) (WiredRead held scale nets pl weights)
+
+-- what a YAL text says, and then the weights of its nets
+abbrev pub YalWeighed : Option Contents → ℕ → List ℕ → Option (List ℕ) → Result WeighedParts Refusal → Type 0
+YalWeighed held scale file weights = Then (YalRead held scale file) (λ parts. Then (WeightsRead held weights (length parts.nets)) (λ net_weights. Weighed net_weights parts))
 
 -- all that the texts say
-abbrev pub PartsRead : Option Contents → ℕ → Input → Result Parts Refusal → Type 0
-PartsRead held scale (gsrc blocks nets pl) = GsrcRead held scale blocks nets pl
-PartsRead held scale (yal file) = YalRead held scale file
+abbrev pub PartsRead : Option Contents → ℕ → Input → Option (List ℕ) → Result WeighedParts Refusal → Type 0
+PartsRead held scale (gsrc blocks nets pl) weights = GsrcRead held scale blocks nets pl weights
+PartsRead held scale (yal file) weights = YalWeighed held scale file weights
 
 -- which parts may become a design
-abbrev pub Admitted : Parts → Result Parts Refusal → Type 0
-Admitted parts (Ok same) = (same ≡ parts) × IsAdmitted parts
-Admitted parts (Err why) = (fault : BuildFault) × (first_refusal parts ≡ Some fault) × (why ≡ build_refusal fault)
+abbrev pub Admitted : WeighedParts → Result WeighedParts Refusal → Type 0
+Admitted read (Ok same) = (same ≡ read) × IsAdmitted read.parts
+Admitted read (Err why) = (fault : BuildFault) × (first_refusal read.parts ≡ Some fault) × (why ≡ build_refusal fault)
 
 -- the shapes that each block may take
 abbrev pub ListsMade : DesignOptions → Parts → Result (List (List Shape)) Refusal → Type 0
@@ -95,19 +118,19 @@ abbrev pub weights_of : WeightOptions → Weights
 weights_of w = record { area = w.area; wire = w.wire }
 
 -- the parts with their lists are this design
-abbrev pub Built : DesignOptions → WeightOptions → Parts → List (List Shape) → Result Design Refusal → Type 0
-Built o w parts lists (Ok design) = IsDesignOf parts lists (outline_of o) (weights_of w) design
-Built o w parts lists (Err why) = ⊥
+abbrev pub Built : DesignOptions → WeightOptions → WeighedParts → List (List Shape) → Result Design Refusal → Type 0
+Built o w read lists (Ok design) = IsDesignOf read.parts lists (outline_of o) (weights_of w) read.net_weights design
+Built o w read lists (Err why) = ⊥
 
-abbrev pub PartsAdmitted : Option Contents → DesignOptions → Result Parts Refusal → Type 0
-PartsAdmitted held o = Then (PartsRead held o.per_unit o.input) Admitted
+abbrev pub PartsAdmitted : Option Contents → DesignOptions → WeightOptions → Result WeighedParts Refusal → Type 0
+PartsAdmitted held o w = Then (PartsRead held o.per_unit o.input w.net_weights) Admitted
 
-abbrev pub DesignMade : DesignOptions → WeightOptions → Parts → Result Design Refusal → Type 0
-DesignMade o w parts = Then (ListsMade o parts) (Built o w parts)
+abbrev pub DesignMade : DesignOptions → WeightOptions → WeighedParts → Result Design Refusal → Type 0
+DesignMade o w read = Then (ListsMade o read.parts) (Built o w read)
 
 -- the design for which the files stand
 abbrev pub DesignRead : Option Contents → DesignOptions → WeightOptions → Result Design Refusal → Type 0
-DesignRead held o w = Then (PartsAdmitted held o) (DesignMade o w)
+DesignRead held o w = Then (PartsAdmitted held o w) (DesignMade o w)
 
 -- a stage whose value is kept with the design that it is for
 abbrev pub With : {X : Type 0} → (Design → Result X Refusal → Type 0) → Design → Result (Design × X) Refusal → Type 0

@@ -11,6 +11,8 @@ use Rattle.sf_gsrc.specs.declared.fault.GsrcFault.{GsrcFault}
 use Rattle.sf_gsrc.specs.declared.fault.GsrcFault.TheVariants as gsrc
 use Rattle.sf_gsrc.specs.declared.fault.JoinFault.{JoinFault}
 use Rattle.sf_gsrc.specs.declared.fault.JoinFault.TheVariants as join
+use Rattle.sf_gsrc.specs.declared.fault.WeightFault.{WeightFault}
+use Rattle.sf_gsrc.specs.declared.fault.WeightFault.TheVariants as weight
 use Rattle.sf_yal.specs.declared.fault.YalFault.{YalFault}
 use Rattle.sf_yal.specs.declared.fault.YalFault.TheVariants as yal
 use Rattle.sf_program.specs.Outcome.{Refusal, bad, over}
@@ -45,6 +47,13 @@ gsrc_refusal source (gsrc.BadDegree line said found) = bad_input source line (co
 gsrc_refusal source (gsrc.ZeroSide line) = bad_input source line (codes "ZeroSide" ∷ [])
 gsrc_refusal source (gsrc.Truncated line) = bad_input source line (codes "Truncated" ∷ [])
 gsrc_refusal source gsrc.NoMemory = bad []
+
+abbrev pub weight_refusal : WeightFault → Refusal
+weight_refusal (weight.BadLine line) = bad_input (codes "weights") line (codes "BadLine" ∷ [])
+weight_refusal (weight.BadNumber line fault) = bad_input (codes "weights") line (codes "BadNumber" ∷ number_fault fault ∷ [])
+weight_refusal (weight.UnknownNet line net) = bad_input (codes "weights") line (codes "UnknownNet" ∷ decimal net ∷ [])
+weight_refusal (weight.RepeatedNet line net) = bad_input (codes "weights") line (codes "RepeatedNet" ∷ decimal net ∷ [])
+weight_refusal weight.NoMemory = bad []
 
 abbrev pub yal_refusal : YalFault → Refusal
 yal_refusal (yal.Truncated line) = bad_input (codes "yal") line (codes "Truncated" ∷ [])

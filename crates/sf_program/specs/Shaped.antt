@@ -36,7 +36,7 @@ TokensRead held name blocks = Then (TextRead held name) (λ text. Said (SpellsTo
 
 -- `shape` has no weights: its design is that of areas alone
 abbrev pub areas_alone : WeightOptions
-areas_alone = record { area = 1; wire = 0 }
+areas_alone = record { area = 1; wire = 0; net_weights = None }
 
 -- the design first, and then an expression of its blocks
 abbrev pub ShapeRead : Option Contents → ShapeOptions → Result (Design × List Token) Refusal → Type 0

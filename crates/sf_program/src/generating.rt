@@ -15,6 +15,7 @@ use crate::parsing::{join, parse_blocks, parse_nets, parse_places};
 use crate::planning::searched;
 use crate::stop::Stop;
 use crate::telling::Names;
+use crate::weighed::Weighed;
 use crate::work::{Store, Work};
 use sf_gen::{
     GenTexts, blocks_are_read, blocks_have_shapes, design_of, nets_are_read, parts_are_admitted,
@@ -155,7 +156,13 @@ fn made_design(alloc: Global, words: &GenWords<'_>, parts: Parts) -> Result<Desi
         width: 1_048_576,
         height: 1_048_576,
     };
-    make_design(alloc, &told, WeightWords { area: 1, wire: 1 }, parts)
+    let both_weights = WeightWords {
+        area: 1,
+        wire: 1,
+        net_weights: None,
+    };
+    let read = Weighed::alike(alloc, parts)?;
+    make_design(alloc, &told, both_weights, read)
 }
 
 /// The stores of the three texts.

@@ -4,7 +4,6 @@ ghost use Rattle.std.specs.Prelude.{◌≡◌, ℕ, List, Option, Some, Ok, IsFa
 ghost use Rattle.sf_io.specs.Outside.{Contents};
 ghost use Rattle.sf_io.specs.declared.status.Status.{Status};
 ghost use Rattle.sf_model.specs.declared.design.Design.{Design};
-ghost use Rattle.sf_model.specs.declared.raw.Parts.{Parts};
 ghost use Rattle.sf_gsrc.specs.declared.output.GsrcBlocks.{GsrcBlocks};
 ghost use Rattle.sf_words.specs.Meaning.{Command, DesignOptions, Means, PlanOptions, WeightOptions};
 ghost use Rattle.sf_program.specs.Answer.{IsDone, RefusesWords};
@@ -13,6 +12,7 @@ ghost use Rattle.sf_program.specs.OneAnswer.{Answer, AskForOneWorker, AtMostOne,
 ghost use Rattle.sf_program.specs.Outcome.{Refusal, lost};
 ghost use Rattle.sf_program.specs.Planned.{PlanRead};
 ghost use Rattle.sf_program.specs.Reading.{BlocksRead, DesignRead, GsrcRead, PartsRead};
+ghost use Rattle.sf_program.specs.Weighed.{WeighedParts};
 
 use sf_curves::laws::traces_are_one;
 use sf_model::laws::designs_are_determined;
@@ -25,12 +25,12 @@ use sf_soft_shapes::lists_are_determined;
 pub fn designs_are_one()
     ensures design { (contents : Contents) (o : DesignOptions) (w : WeightOptions) → GivesOne contents.may_fail (DesignRead (Some contents) o w) }
     ensures plan { (contents : Contents) (o : PlanOptions) → GivesOne contents.may_fail (PlanRead (Some contents) o) }
-    ensures blocks { (contents : Contents) (o : DesignOptions) (w : WeightOptions) (parts : Parts) (design : Design)
-        → PartsRead (Some contents) o.per_unit o.input (Ok parts) → DesignRead (Some contents) o w (Ok design) → HasBlocksOf parts.blocks design }
-    ensures planned { (contents : Contents) (o : PlanOptions) (parts : Parts) (design : Design)
-        → PartsRead (Some contents) o.design.per_unit o.design.input (Ok parts) → PlanRead (Some contents) o (Ok design) → HasBlocksOf parts.blocks design }
-    ensures gsrc { (contents : Contents) (scale : ℕ) (name : List ℕ) (nets pl : Option (List ℕ)) (out : GsrcBlocks) (parts : Parts)
-        → BlocksRead (Some contents) scale name (Ok out) → GsrcRead (Some contents) scale name nets pl (Ok parts) → parts.blocks ≡ out.blocks }
+    ensures blocks { (contents : Contents) (o : DesignOptions) (w : WeightOptions) (read : WeighedParts) (design : Design)
+        → PartsRead (Some contents) o.per_unit o.input w.net_weights (Ok read) → DesignRead (Some contents) o w (Ok design) → HasBlocksOf read.parts.blocks design }
+    ensures planned { (contents : Contents) (o : PlanOptions) (read : WeighedParts) (design : Design)
+        → PartsRead (Some contents) o.design.per_unit o.design.input o.weights.net_weights (Ok read) → PlanRead (Some contents) o (Ok design) → HasBlocksOf read.parts.blocks design }
+    ensures gsrc { (contents : Contents) (scale : ℕ) (name : List ℕ) (nets pl weights : Option (List ℕ)) (out : GsrcBlocks) (read : WeighedParts)
+        → BlocksRead (Some contents) scale name (Ok out) → GsrcRead (Some contents) scale name nets pl weights (Ok read) → read.parts.blocks ≡ out.blocks }
 {
     lists_are_determined();
     designs_are_determined();

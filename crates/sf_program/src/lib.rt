@@ -24,6 +24,8 @@ mod stop;
 mod telling;
 #[cfg(test)]
 mod tests;
+mod weighed;
+mod weighing;
 mod work;
 
 pub use laws::taken_texts_are_answered;

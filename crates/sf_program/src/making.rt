@@ -7,10 +7,12 @@ ghost use Rattle.sf_words.specs.Seen.{design_seen, weights_seen};
 ghost use Rattle.sf_program.specs.Loads.{IsRead, TellsLoads};
 ghost use Rattle.sf_program.specs.Outcome.{Ends};
 ghost use Rattle.sf_program.specs.Reading.{Admitted, Built, DesignMade, DesignRead, ListsMade, PartsAdmitted};
+ghost use Rattle.sf_program.specs.Weighed.{weighed_in};
 
 use crate::reading::read_parts;
 use crate::refusals::build_fault;
 use crate::stop::Stop;
+use crate::weighed::Weighed;
 use sf_io::Shelf;
 use sf_model::{BuildFault, Design, Outline, Parts, Shapes, Weights};
 use sf_soft_shapes::lists;
@@ -18,13 +20,13 @@ use sf_words::{DesignWords, WeightWords};
 use std::alloc::Global;
 
 /// The parts, where they may become a design.
-pub fn admit(alloc: Global, parts: Parts) -> Result<Parts, Stop>
-    requires pins { HasPinsInRange parts }
-    ensures admitted { Ends (λ x. x) result (Admitted parts) }
+pub fn admit(alloc: Global, read: Weighed) -> Result<Weighed, Stop>
+    requires pins { HasPinsInRange read.parts }
+    ensures admitted { Ends weighed_in result (Admitted (weighed_in read)) }
     ensures tells { (loads loads_then : ℕ) → IfErr result (TellsLoads loads loads_then) }
 {
-    match parts.admit(alloc) {
-        Ok(()) => Ok(parts),
+    match read.parts.admit(alloc) {
+        Ok(()) => Ok(read),
         Err(BuildFault::NoMemory) => Err(Stop::NoMemory),
         Err(fault) => Err(build_fault(alloc, fault)?),
     }
@@ -35,16 +37,23 @@ pub fn read_admitted<S: Shelf>(
     alloc: Global,
     shelf: &mut S,
     words: &DesignWords<'_>,
-) -> Result<Parts, Stop>
-    ensures parts { Ends (λ x. x) result (PartsAdmitted (S.holds shelf.old) (design_seen words.now)) }
-    ensures admitted { IfOk result IsAdmitted }
-    ensures pins { IfOk result HasPinsInRange }
-    ensures sizes { IfOk result HasSizes }
+    weights: WeightWords<'_>,
+) -> Result<Weighed, Stop>
+    ensures parts { Ends weighed_in result (PartsAdmitted (S.holds shelf.old) (design_seen words.now) (weights_seen weights.entry)) }
+    ensures admitted { IfOk result (λ read. IsAdmitted read.parts) }
+    ensures pins { IfOk result (λ read. HasPinsInRange read.parts) }
+    ensures sizes { IfOk result (λ read. HasSizes read.parts) }
     ensures read { IsRead (S.holds shelf.old) (S.holds shelf.new) (S.load_faults shelf.old) (S.load_faults shelf.new) (S.store_faults shelf.old) (S.store_faults shelf.new) }
     ensures tells { IfErr result (TellsLoads (S.load_faults shelf.old) (S.load_faults shelf.new)) }
 {
-    let parts = read_parts(alloc, shelf, words.per_unit, words.input)?;
-    admit(alloc, parts)
+    let read = read_parts(
+        alloc,
+        shelf,
+        words.per_unit,
+        words.input,
+        weights.net_weights,
+    )?;
+    admit(alloc, read)
 }
 
 fn make_lists(alloc: Global, words: &DesignWords<'_>, parts: &Parts) -> Result<Vec<Shapes>, Stop>
@@ -65,15 +74,15 @@ fn make_lists(alloc: Global, words: &DesignWords<'_>, parts: &Parts) -> Result<V
 fn build(
     alloc: Global,
     words: &DesignWords<'_>,
-    weights: WeightWords,
-    parts: Parts,
+    weights: WeightWords<'_>,
+    read: Weighed,
     lists: Vec<Shapes>,
 ) -> Result<Design, Stop>
-    requires admitted { IsAdmitted parts }
-    requires pins { HasPinsInRange parts }
-    requires choices { HasShapeChoices parts.blocks lists.items }
-    requires shaped { shapeless parts.blocks lists.items ≡ None }
-    ensures design { Ends (λ x. x) result (Built (design_seen words.now) (weights_seen weights) parts lists.items) }
+    requires admitted { IsAdmitted read.parts }
+    requires pins { HasPinsInRange read.parts }
+    requires choices { HasShapeChoices read.parts.blocks lists.items }
+    requires shaped { shapeless read.parts.blocks lists.items ≡ None }
+    ensures design { Ends (λ x. x) result (Built (design_seen words.now) (weights_seen weights.entry) (weighed_in read) lists.items) }
     ensures tells { (loads loads_then : ℕ) → IfErr result (TellsLoads loads loads_then) }
 {
     let outline = Outline {
@@ -84,7 +93,8 @@ fn build(
         area: weights.area,
         wire: weights.wire,
     };
-    match Design::build(alloc, parts, lists, outline, weights) {
+    let Weighed { parts, net_weights } = read;
+    match Design::build(alloc, parts, lists, outline, weights, &net_weights) {
         Ok(design) => Ok(design),
         Err(BuildFault::NoMemory) => Err(Stop::NoMemory),
         Err(_) => unreachable!(),
@@ -95,17 +105,17 @@ fn build(
 pub fn make_design(
     alloc: Global,
     words: &DesignWords<'_>,
-    weights: WeightWords,
-    parts: Parts,
+    weights: WeightWords<'_>,
+    read: Weighed,
 ) -> Result<Design, Stop>
-    requires admitted { IsAdmitted parts }
-    requires pins { HasPinsInRange parts }
-    requires sizes { HasSizes parts }
-    ensures design { Ends (λ x. x) result (DesignMade (design_seen words.now) (weights_seen weights) parts) }
+    requires admitted { IsAdmitted read.parts }
+    requires pins { HasPinsInRange read.parts }
+    requires sizes { HasSizes read.parts }
+    ensures design { Ends (λ x. x) result (DesignMade (design_seen words.now) (weights_seen weights.entry) (weighed_in read)) }
     ensures tells { (loads loads_then : ℕ) → IfErr result (TellsLoads loads loads_then) }
 {
-    match make_lists(alloc, words, &parts) {
-        Ok(lists) => build(alloc, words, weights, parts, lists),
+    match make_lists(alloc, words, &read.parts) {
+        Ok(lists) => build(alloc, words, weights, read, lists),
         Err(stop) => Err(stop),
     }
 }
@@ -115,12 +125,12 @@ pub fn read_design<S: Shelf>(
     alloc: Global,
     shelf: &mut S,
     words: &DesignWords<'_>,
-    weights: WeightWords,
+    weights: WeightWords<'_>,
 ) -> Result<Design, Stop>
-    ensures design { Ends (λ x. x) result (DesignRead (S.holds shelf.old) (design_seen words.now) (weights_seen weights)) }
+    ensures design { Ends (λ x. x) result (DesignRead (S.holds shelf.old) (design_seen words.now) (weights_seen weights.entry)) }
     ensures read { IsRead (S.holds shelf.old) (S.holds shelf.new) (S.load_faults shelf.old) (S.load_faults shelf.new) (S.store_faults shelf.old) (S.store_faults shelf.new) }
     ensures tells { IfErr result (TellsLoads (S.load_faults shelf.old) (S.load_faults shelf.new)) }
 {
-    let parts = read_admitted(alloc, shelf, words)?;
-    make_design(alloc, words, weights, parts)
+    let read = read_admitted(alloc, shelf, words, weights)?;
+    make_design(alloc, words, weights, read)
 }

@@ -3,24 +3,26 @@
 ghost use Rattle.std.specs.Prelude.{◌≡◌, ◌≤◌, ◌^◌, ℕ, length, codes, All, IfErr, IfOk, IfSome};
 ghost use Rattle.sf_model.specs.Admitted.{HasPinsInRange, HasSizes, IsSized};
 ghost use Rattle.sf_gsrc.specs.Blocks.{blocks_read};
-ghost use Rattle.sf_gsrc.specs.Join.{joined};
+ghost use Rattle.sf_gsrc.specs.Join.{joined, nets_in};
 ghost use Rattle.sf_gsrc.specs.Nets.{nets_read};
 ghost use Rattle.sf_gsrc.specs.NetsStanding.{NetsStandFor};
 ghost use Rattle.sf_gsrc.specs.Places.{places_read, PlacesStandFor};
 ghost use Rattle.sf_gsrc.specs.Ranges.{HasPinsInAnyRange};
 ghost use Rattle.sf_gsrc.specs.Standing.{StandsFor};
+ghost use Rattle.sf_gsrc.specs.Weights.{weights_read, WeightsStandFor};
 ghost use Rattle.sf_yal.specs.Parts.{yal_read};
 ghost use Rattle.sf_yal.specs.Standing as yals;
 ghost use Rattle.sf_program.specs.Loads.{TellsLoads};
 ghost use Rattle.sf_program.specs.Outcome.{Ends};
 ghost use Rattle.sf_program.specs.Reading.{Said, Judged};
-ghost use Rattle.sf_program.specs.Refusals.{gsrc_refusal, yal_refusal, join_refusal};
+ghost use Rattle.sf_program.specs.Refusals.{gsrc_refusal, weight_refusal, yal_refusal, join_refusal};
 
-use crate::refusals::{gsrc_fault, named_fault, yal_fault};
+use crate::refusals::{gsrc_fault, named_fault, weight_fault, yal_fault};
 use crate::stop::Stop;
 use sf_gsrc::{
-    GsrcBlocks, GsrcFault, GsrcNets, GsrcPlaces, JoinFault, blocks_have_sizes, join_parts,
-    joined_parts_keep_ranges, nets_name_their_pins, read_blocks, read_nets, read_pl,
+    GsrcBlocks, GsrcFault, GsrcNets, GsrcPlaces, JoinFault, WeightFault, blocks_have_sizes,
+    join_parts, joined_parts_keep_ranges, nets_name_their_pins, read_blocks, read_nets, read_pl,
+    read_weights,
 };
 use sf_model::Parts;
 use sf_yal::{YalFault, parts_keep_ranges, read_yal};
@@ -75,6 +77,19 @@ pub fn parse_places(
     }
 }
 
+/// The weights of so many nets for which a weights file stands.
+pub fn parse_weights(alloc: Global, text: &[u8], nets: u64) -> Result<Vec<u8>, Stop>
+    ensures tells { (loads loads_then : ℕ) → IfErr result (TellsLoads loads loads_then) }
+    ensures said { Ends (λ v. v.items) result (Said (WeightsStandFor text.now nets) (weights_read nets text.now) weight_refusal) }
+    ensures one_each { IfOk result (λ v. length v.items ≡ nets) }
+{
+    match read_weights(alloc, text, nets) {
+        Ok(weights) => Ok(weights),
+        Err(WeightFault::NoMemory) => Err(Stop::NoMemory),
+        Err(fault) => Err(weight_fault(alloc, fault)?),
+    }
+}
+
 /// What a YAL file stands for.
 pub fn parse_yal(alloc: Global, text: &[u8], scale: u64) -> Result<Parts, Stop>
     requires scale_low { 1 ≤ scale }
@@ -104,6 +119,7 @@ pub fn join(
     requires pins { IfSome nets (λ out. HasPinsInAnyRange out.nets) }
     ensures tells { (loads loads_then : ℕ) → IfErr result (TellsLoads loads loads_then) }
     ensures said { Ends (λ x. x) result (Judged (joined blocks nets places) join_refusal) }
+    ensures nets { IfOk result (λ parts. length parts.nets ≡ length (nets_in nets)) }
     ensures sizes { IfOk result HasSizes }
     ensures pins { IfOk result HasPinsInRange }
 {

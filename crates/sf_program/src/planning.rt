@@ -10,15 +10,17 @@ ghost use Rattle.sf_program.specs.Loads.{IsRead, TellsLoads};
 ghost use Rattle.sf_program.specs.Outcome.{Ends, Stops};
 ghost use Rattle.sf_program.specs.Planned.{IsAnswered, IsPlanned, IsSearched, BudgetedDesign, PlanRead, budget_of};
 ghost use Rattle.sf_program.specs.Stores.{stored_in};
+ghost use Rattle.sf_program.specs.Weighed.{weighed_in};
 
 use crate::budget::{budget_of, test_budget};
 use crate::making::{make_design, read_admitted};
 use crate::stop::Stop;
 use crate::telling::{Names, ending_of, tell_none, tell_plan};
+use crate::weighed::Weighed;
 use crate::work::Work;
 use sf_bounds::Standard;
 use sf_io::{Gate, Shelf};
-use sf_model::{Design, Parts, admitted_parts_keep_limits};
+use sf_model::{Design, admitted_parts_keep_limits};
 use sf_rounds::{Found, SearchOptions, search};
 use sf_words::PlanWords;
 use std::alloc::{AllocError as NoMemory, Global};
@@ -30,22 +32,22 @@ fn read_plan<S: Shelf>(alloc: Global, shelf: &mut S, words: &PlanWords<'_>) -> R
     ensures read { IsRead (S.holds shelf.old) (S.holds shelf.new) (S.load_faults shelf.old) (S.load_faults shelf.new) (S.store_faults shelf.old) (S.store_faults shelf.new) }
     ensures tells { IfErr result (TellsLoads (S.load_faults shelf.old) (S.load_faults shelf.new)) }
 {
-    let parts = read_admitted(alloc, shelf, &words.design)?;
-    within_budget(alloc, words, parts)
+    let read = read_admitted(alloc, shelf, &words.design, words.weights)?;
+    within_budget(alloc, words, read)
 }
 
 /// The design of admitted parts, where the budget is within its limit.
-fn within_budget(alloc: Global, words: &PlanWords<'_>, parts: Parts) -> Result<Design, Stop>
-    requires admitted { IsAdmitted parts }
-    requires pins { HasPinsInRange parts }
-    requires sizes { HasSizes parts }
-    ensures design { Ends (λ x. x) result (BudgetedDesign (plan_seen words.now) parts) }
+fn within_budget(alloc: Global, words: &PlanWords<'_>, read: Weighed) -> Result<Design, Stop>
+    requires admitted { IsAdmitted read.parts }
+    requires pins { HasPinsInRange read.parts }
+    requires sizes { HasSizes read.parts }
+    ensures design { Ends (λ x. x) result (BudgetedDesign (plan_seen words.now) (weighed_in read)) }
     ensures tells { (loads loads_then : ℕ) → IfErr result (TellsLoads loads loads_then) }
 {
     admitted_parts_keep_limits();
-    let blocks = parts.blocks.as_slice().len() as u64;
+    let blocks = read.parts.blocks.as_slice().len() as u64;
     match test_budget(alloc, words.nodes, blocks) {
-        Ok(_) => make_design(alloc, &words.design, words.weights, parts),
+        Ok(_) => make_design(alloc, &words.design, words.weights, read),
         Err(stop) => Err(stop),
     }
 }

@@ -1,16 +1,20 @@
 //! From the named files to the parts of a design.
 
-ghost use Rattle.std.specs.Prelude.{◌≡◌, ◌≤◌, ◌^◌, length, codes, All, IfErr, IfOk, IfSome};
+ghost use Rattle.std.specs.Prelude.{◌≡◌, ◌≤◌, ◌^◌, ℕ, length, codes, All, IfErr, IfOk, IfSome};
 ghost use Rattle.sf_words.specs.Seen.{input_seen, text_of};
 ghost use Rattle.sf_model.specs.Admitted.{HasPinsInRange, HasSizes, IsSized};
+ghost use Rattle.sf_gsrc.specs.Join.{nets_in};
 ghost use Rattle.sf_gsrc.specs.Ranges.{HasPinsInAnyRange};
 ghost use Rattle.sf_program.specs.Loads.{IsRead, TellsLoads};
 ghost use Rattle.sf_program.specs.Outcome.{Ends};
-ghost use Rattle.sf_program.specs.Reading.{TextRead, BlocksRead, NetsRead, PlacesRead, YalRead, IfNamed, PlacedRead, WiredRead, GsrcRead, PartsRead};
+ghost use Rattle.sf_program.specs.Reading.{TextRead, BlocksRead, NetsRead, PlacesRead, YalRead, YalWeighed, IfNamed, JoinedRead, WeighedRead, PlacedRead, WiredRead, GsrcRead, PartsRead};
+ghost use Rattle.sf_program.specs.Weighed.{weighed_in};
 
 use crate::parsing::{join, parse_blocks, parse_nets, parse_places, parse_yal};
 use crate::refusals::over_limit;
 use crate::stop::Stop;
+use crate::weighed::Weighed;
+use crate::weighing::read_net_weights;
 use sf_gsrc::{GsrcBlocks, GsrcNets, GsrcPlaces};
 use sf_io::{LoadFault, Shelf};
 use sf_model::Parts;
@@ -131,6 +135,56 @@ fn read_named_places<S: Shelf>(
     }
 }
 
+/// All of GSRC files joined, with a weight for each net.
+fn join_weighed(
+    alloc: Global,
+    blocks: GsrcBlocks,
+    nets: Option<GsrcNets>,
+    places: Option<GsrcPlaces>,
+    net_weights: Vec<u8>,
+) -> Result<Weighed, Stop>
+    requires sizes { All (λ b. IsSized b.kind) blocks.blocks }
+    requires pins { IfSome nets (λ out. HasPinsInAnyRange out.nets) }
+    requires one_each { length net_weights.items ≡ length (nets_in nets) }
+    ensures parts { Ends weighed_in result (JoinedRead blocks nets places net_weights.items) }
+    ensures sizes { IfOk result (λ read. HasSizes read.parts) }
+    ensures pins { IfOk result (λ read. HasPinsInRange read.parts) }
+    ensures tells { (loads loads_then : ℕ) → IfErr result (TellsLoads loads loads_then) }
+{
+    let parts = join(alloc, blocks, nets, places)?;
+    Ok(Weighed { parts, net_weights })
+}
+
+fn net_count(nets: &Option<GsrcNets>) -> usize
+    ensures { result ≡ length (nets_in nets.now) }
+{
+    match nets {
+        None => 0,
+        Some(out) => out.nets.as_slice().len(),
+    }
+}
+
+/// The rest of GSRC files behind the blocks, the nets and the places.
+fn read_weighed<S: Shelf>(
+    alloc: Global,
+    shelf: &mut S,
+    blocks: GsrcBlocks,
+    nets: Option<GsrcNets>,
+    places: Option<GsrcPlaces>,
+    weights: Option<&str>,
+) -> Result<Weighed, Stop>
+    requires sizes { All (λ b. IsSized b.kind) blocks.blocks }
+    requires pins { IfSome nets (λ out. HasPinsInAnyRange out.nets) }
+    ensures parts { Ends weighed_in result (WeighedRead (S.holds shelf.old) (text_of weights.entry) blocks nets places) }
+    ensures sizes { IfOk result (λ read. HasSizes read.parts) }
+    ensures pins { IfOk result (λ read. HasPinsInRange read.parts) }
+    ensures read { IsRead (S.holds shelf.old) (S.holds shelf.new) (S.load_faults shelf.old) (S.load_faults shelf.new) (S.store_faults shelf.old) (S.store_faults shelf.new) }
+    ensures tells { IfErr result (TellsLoads (S.load_faults shelf.old) (S.load_faults shelf.new)) }
+{
+    let net_weights = read_net_weights(alloc, shelf, net_count(&nets), weights)?;
+    join_weighed(alloc, blocks, nets, places, net_weights)
+}
+
 /// The rest of GSRC files behind the blocks and the nets.
 fn read_placed<S: Shelf>(
     alloc: Global,
@@ -139,19 +193,20 @@ fn read_placed<S: Shelf>(
     blocks: GsrcBlocks,
     nets: Option<GsrcNets>,
     pl: Option<&str>,
-) -> Result<Parts, Stop>
+    weights: Option<&str>,
+) -> Result<Weighed, Stop>
     requires scale_low { 1 ≤ scale }
     requires scale_high { scale ≤ 1000 }
     requires sizes { All (λ b. IsSized b.kind) blocks.blocks }
     requires pins { IfSome nets (λ out. HasPinsInAnyRange out.nets) }
-    ensures parts { Ends (λ x. x) result (PlacedRead (S.holds shelf.old) scale (text_of pl.entry) blocks nets) }
-    ensures sizes { IfOk result HasSizes }
-    ensures pins { IfOk result HasPinsInRange }
+    ensures parts { Ends weighed_in result (PlacedRead (S.holds shelf.old) scale (text_of pl.entry) (text_of weights.entry) blocks nets) }
+    ensures sizes { IfOk result (λ read. HasSizes read.parts) }
+    ensures pins { IfOk result (λ read. HasPinsInRange read.parts) }
     ensures read { IsRead (S.holds shelf.old) (S.holds shelf.new) (S.load_faults shelf.old) (S.load_faults shelf.new) (S.store_faults shelf.old) (S.store_faults shelf.new) }
     ensures tells { IfErr result (TellsLoads (S.load_faults shelf.old) (S.load_faults shelf.new)) }
 {
     let places = read_named_places(alloc, shelf, scale, pl)?;
-    join(alloc, blocks, nets, places)
+    read_weighed(alloc, shelf, blocks, nets, places, weights)
 }
 
 /// The rest of GSRC files behind the blocks.
@@ -162,18 +217,19 @@ fn read_wired<S: Shelf>(
     blocks: GsrcBlocks,
     nets: Option<&str>,
     pl: Option<&str>,
-) -> Result<Parts, Stop>
+    weights: Option<&str>,
+) -> Result<Weighed, Stop>
     requires scale_low { 1 ≤ scale }
     requires scale_high { scale ≤ 1000 }
     requires sizes { All (λ b. IsSized b.kind) blocks.blocks }
-    ensures parts { Ends (λ x. x) result (WiredRead (S.holds shelf.old) scale (text_of nets.entry) (text_of pl.entry) blocks) }
-    ensures sizes { IfOk result HasSizes }
-    ensures pins { IfOk result HasPinsInRange }
+    ensures parts { Ends weighed_in result (WiredRead (S.holds shelf.old) scale (text_of nets.entry) (text_of pl.entry) (text_of weights.entry) blocks) }
+    ensures sizes { IfOk result (λ read. HasSizes read.parts) }
+    ensures pins { IfOk result (λ read. HasPinsInRange read.parts) }
     ensures read { IsRead (S.holds shelf.old) (S.holds shelf.new) (S.load_faults shelf.old) (S.load_faults shelf.new) (S.store_faults shelf.old) (S.store_faults shelf.new) }
     ensures tells { IfErr result (TellsLoads (S.load_faults shelf.old) (S.load_faults shelf.new)) }
 {
     let nets = read_named_nets(alloc, shelf, nets)?;
-    read_placed(alloc, shelf, scale, blocks, nets, pl)
+    read_placed(alloc, shelf, scale, blocks, nets, pl, weights)
 }
 
 fn read_gsrc_files<S: Shelf>(
@@ -183,38 +239,62 @@ fn read_gsrc_files<S: Shelf>(
     blocks: &str,
     nets: Option<&str>,
     pl: Option<&str>,
-) -> Result<Parts, Stop>
+    weights: Option<&str>,
+) -> Result<Weighed, Stop>
     requires scale_low { 1 ≤ scale }
     requires scale_high { scale ≤ 1000 }
-    ensures parts { Ends (λ x. x) result (GsrcRead (S.holds shelf.old) scale blocks.now (text_of nets.entry) (text_of pl.entry)) }
-    ensures sizes { IfOk result HasSizes }
-    ensures pins { IfOk result HasPinsInRange }
+    ensures parts { Ends weighed_in result (GsrcRead (S.holds shelf.old) scale blocks.now (text_of nets.entry) (text_of pl.entry) (text_of weights.entry)) }
+    ensures sizes { IfOk result (λ read. HasSizes read.parts) }
+    ensures pins { IfOk result (λ read. HasPinsInRange read.parts) }
     ensures read { IsRead (S.holds shelf.old) (S.holds shelf.new) (S.load_faults shelf.old) (S.load_faults shelf.new) (S.store_faults shelf.old) (S.store_faults shelf.new) }
     ensures tells { IfErr result (TellsLoads (S.load_faults shelf.old) (S.load_faults shelf.new)) }
 {
     let blocks = read_blocks_file(alloc, shelf, scale, blocks)?;
-    read_wired(alloc, shelf, scale, blocks, nets, pl)
+    read_wired(alloc, shelf, scale, blocks, nets, pl, weights)
 }
 
-/// All that the files of a design say.
+/// What a YAL file says, with a weight for each net.
+fn read_weighed_yal<S: Shelf>(
+    alloc: Global,
+    shelf: &mut S,
+    scale: u64,
+    file: &str,
+    weights: Option<&str>,
+) -> Result<Weighed, Stop>
+    requires scale_low { 1 ≤ scale }
+    requires scale_high { scale ≤ 1000 }
+    ensures parts { Ends weighed_in result (YalWeighed (S.holds shelf.old) scale file.now (text_of weights.entry)) }
+    ensures sizes { IfOk result (λ read. HasSizes read.parts) }
+    ensures pins { IfOk result (λ read. HasPinsInRange read.parts) }
+    ensures read { IsRead (S.holds shelf.old) (S.holds shelf.new) (S.load_faults shelf.old) (S.load_faults shelf.new) (S.store_faults shelf.old) (S.store_faults shelf.new) }
+    ensures tells { IfErr result (TellsLoads (S.load_faults shelf.old) (S.load_faults shelf.new)) }
+{
+    let parts = read_yal_file(alloc, shelf, scale, file)?;
+    let nets = parts.nets.as_slice().len();
+    let net_weights = read_net_weights(alloc, shelf, nets, weights)?;
+    Ok(Weighed { parts, net_weights })
+}
+
+/// All that the files of a design say, with the weights of its nets.
 pub fn read_parts<S: Shelf>(
     alloc: Global,
     shelf: &mut S,
     scale: u64,
     input: InputFiles<'_>,
-) -> Result<Parts, Stop>
+    weights: Option<&str>,
+) -> Result<Weighed, Stop>
     requires scale_low { 1 ≤ scale }
     requires scale_high { scale ≤ 1000 }
-    ensures parts { Ends (λ x. x) result (PartsRead (S.holds shelf.old) scale (input_seen input.entry)) }
-    ensures pins { IfOk result HasPinsInRange }
-    ensures sizes { IfOk result HasSizes }
+    ensures parts { Ends weighed_in result (PartsRead (S.holds shelf.old) scale (input_seen input.entry) (text_of weights.entry)) }
+    ensures pins { IfOk result (λ read. HasPinsInRange read.parts) }
+    ensures sizes { IfOk result (λ read. HasSizes read.parts) }
     ensures read { IsRead (S.holds shelf.old) (S.holds shelf.new) (S.load_faults shelf.old) (S.load_faults shelf.new) (S.store_faults shelf.old) (S.store_faults shelf.new) }
     ensures tells { IfErr result (TellsLoads (S.load_faults shelf.old) (S.load_faults shelf.new)) }
 {
     match input {
         InputFiles::Gsrc { blocks, nets, pl } => {
-            read_gsrc_files(alloc, shelf, scale, blocks, nets, pl)
+            read_gsrc_files(alloc, shelf, scale, blocks, nets, pl, weights)
         }
-        InputFiles::Yal { file } => read_yal_file(alloc, shelf, scale, file),
+        InputFiles::Yal { file } => read_weighed_yal(alloc, shelf, scale, file, weights),
     }
 }

@@ -3,10 +3,10 @@
 ghost use Rattle.std.specs.Prelude.{◌≡◌, ◌++◌, ◌∷◌, [], IfOk, codes, string_bytes};
 ghost use Rattle.std.specs.Fmt.{decimal};
 ghost use Rattle.sf_program.specs.Outcome.{Refuses};
-ghost use Rattle.sf_program.specs.Refusals.{bad_input, over_limit, number_fault, gsrc_refusal, yal_refusal, limit_word, build_refusal, design_fault};
+ghost use Rattle.sf_program.specs.Refusals.{bad_input, over_limit, number_fault, gsrc_refusal, weight_refusal, yal_refusal, limit_word, build_refusal, design_fault};
 
 use crate::stop::Stop;
-use sf_gsrc::GsrcFault;
+use sf_gsrc::{GsrcFault, WeightFault};
 use sf_lex::NumberFault;
 use sf_model::{BuildFault, Limit, Name};
 use sf_yal::YalFault;
@@ -108,6 +108,37 @@ pub fn gsrc_fault(alloc: Global, source: &str, fault: GsrcFault) -> Result<Stop,
         GsrcFault::ZeroSide(line) => bare_fault(alloc, source, line, "ZeroSide"),
         GsrcFault::Truncated(line) => bare_fault(alloc, source, line, "Truncated"),
         GsrcFault::NoMemory => Err(NoMemory),
+    }
+}
+
+/// A fault that carries a number.
+fn numbered_fault(
+    alloc: Global,
+    source: &str,
+    line: u64,
+    fault: &str,
+    number: u64,
+) -> Result<Stop, NoMemory>
+    ensures { IfOk result (λ stop. Refuses stop (bad_input source.now line (fault.now ∷ decimal number ∷ []))) }
+{
+    let text = format!(in alloc; "error BadInput {source} {line} {fault} {number}\n")?;
+    Ok(Stop::BadInput(text.into_bytes()))
+}
+
+/// The first fault of a weights file.
+pub fn weight_fault(alloc: Global, fault: WeightFault) -> Result<Stop, NoMemory>
+    ensures { IfOk result (λ stop. Refuses stop (weight_refusal fault)) }
+{
+    match fault {
+        WeightFault::BadLine(line) => bare_fault(alloc, "weights", line, "BadLine"),
+        WeightFault::BadNumber(line, number) => number_fault(alloc, "weights", line, number),
+        WeightFault::UnknownNet(line, net) => {
+            numbered_fault(alloc, "weights", line, "UnknownNet", net)
+        }
+        WeightFault::RepeatedNet(line, net) => {
+            numbered_fault(alloc, "weights", line, "RepeatedNet", net)
+        }
+        WeightFault::NoMemory => Err(NoMemory),
     }
 }
 

@@ -128,7 +128,11 @@ pub fn shape<S: Shelf>(alloc: Global, words: &ShapeWords<'_>, shelf: &mut S) -> 
     ensures read { IsRead (S.holds shelf.old) (S.holds shelf.new) (S.load_faults shelf.old) (S.load_faults shelf.new) (S.store_faults shelf.old) (S.store_faults shelf.new) }
     ensures tells { IfErr result (TellsLoads (S.load_faults shelf.old) (S.load_faults shelf.new)) }
 {
-    let areas_alone = WeightWords { area: 1, wire: 0 };
+    let areas_alone = WeightWords {
+        area: 1,
+        wire: 0,
+        net_weights: None,
+    };
     let design = read_design(alloc, shelf, &words.design, areas_alone)?;
     let tokens = read_tokens_file(alloc, shelf, words.expr, &design)?;
     let curve = whole_curve(alloc, &design, &tokens)?;

@@ -11,6 +11,7 @@ mod planning;
 mod reading;
 mod shaping;
 mod texts;
+mod weights;
 mod words;
 mod workers;
 
@@ -25,8 +26,15 @@ use std::thread::Threads;
 type Text = (&'static str, &'static [u8]);
 
 /// All names that the rows of the tables use.
-const NAMES: [&str; 7] = [
-    "a.blocks", "a.nets", "a.pl", "a.yal", "a.cert", "a.out", "a.expr",
+const NAMES: [&str; 8] = [
+    "a.blocks",
+    "a.nets",
+    "a.pl",
+    "a.yal",
+    "a.weights",
+    "a.cert",
+    "a.out",
+    "a.expr",
 ];
 
 /// What a run prints. Where the whole of it is given, nothing is stored but what the row names; where only some lines

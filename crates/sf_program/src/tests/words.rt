@@ -16,6 +16,8 @@ plan --format gsrc --blocks a.blocks --cert a.cert --area-weight 0 --wire-weight
 plan --format gsrc --blocks a.blocks --cert a.cert --shapes 1
 plan --format gsrc --blocks a.blocks --cert a.cert --shapes 257
 plan --format gsrc --blocks a.blocks --cert a.cert --outline 1048577x1
+shape --format gsrc --blocks a.blocks --expr a.expr --net-weights a.weights
+gen --seed 7 --count 4 --out g --net-weights a.weights
 gen --seed 7 --seed 7 --count 4 --out g
 gen --seed 7 --count 321 --out g
 gen --help";
@@ -40,6 +42,7 @@ const GSRC: &[Text] = &[
     ("a.blocks", CELL_BLOCKS),
     ("a.nets", CELL_NETS),
     ("a.pl", CELL_PADS),
+    ("a.weights", b"2 1\n"),
     ("a.cert", CELL_CERT),
     ("a.out", CELL_PLACES),
     ("a.expr", BESIDE),
@@ -47,26 +50,27 @@ const GSRC: &[Text] = &[
 
 const YAL: &[Text] = &[
     ("a.yal", CELLS),
+    ("a.weights", b"2 1\n"),
     ("a.cert", CELL_CERT),
     ("a.out", CELL_PLACES),
     ("a.expr", BESIDE),
 ];
 
 const PLAN: Row = Row {
-    options: "--per-unit 1 --fixed --shapes 16 --outline 1048576x1048576 --area-weight 1 --wire-weight 1 --cert a.cert --pl-out a.out --workers 1 --nodes 20",
+    options: "--per-unit 1 --fixed --shapes 16 --outline 1048576x1048576 --area-weight 1 --wire-weight 1 --net-weights a.weights --cert a.cert --pl-out a.out --workers 1 --nodes 20",
     printed: Printed::Whole(CELL_LINES),
     stored: &[("a.cert", CELL_CERT), ("a.out", CELL_PLACES)],
     ..GIVEN
 };
 
 const CHECK: Row = Row {
-    options: "--per-unit 1 --fixed --shapes 16 --outline 1048576x1048576 --area-weight 1 --wire-weight 1 --cert a.cert",
+    options: "--per-unit 1 --fixed --shapes 16 --outline 1048576x1048576 --area-weight 1 --wire-weight 1 --net-weights a.weights --cert a.cert",
     printed: Printed::Whole("status Yes\ncost 32\nbound 32\ndecided 9\n"),
     ..GIVEN
 };
 
 const MEASURE: Row = Row {
-    options: "--per-unit 1 --fixed --shapes 16 --outline 1048576x1048576 --area-weight 1 --wire-weight 1 --placed a.out",
+    options: "--per-unit 1 --fixed --shapes 16 --outline 1048576x1048576 --area-weight 1 --wire-weight 1 --net-weights a.weights --placed a.out",
     printed: Printed::Whole("status Legal\ncost 32\nsize 4 2\narea 8\nwire 24\n"),
     ..GIVEN
 };

@@ -1,22 +1,29 @@
-use Rattle.std.proofs.Common.{false, sym, subst, arith}
+use Rattle.std.proofs.Common.{false, sym, subst, arith, ap, ◌∙◌}
 use Rattle.sf_gsrc.proofs.NetLaws as nets
 use Rattle.sf_gsrc.proofs.PlaceLaws as places
 use Rattle.sf_gsrc.proofs.StandingLaws as blocks
 use Rattle.sf_model.specs.declared.fault.BuildFault.{BuildFault}
 use Rattle.sf_model.specs.declared.raw.Parts.{Parts}
-use Rattle.sf_model.specs.Admitted.{IsAdmitted}
+use Rattle.sf_model.specs.Admitted.{HasPinsInRange, HasSizes, IsAdmitted}
 use Rattle.sf_words.specs.Seen.{gen_seen}
 use Rattle.sf_program.specs.Generated.{TextsStand, both_weights, by_default, kinds_of, parts_made}
 use Rattle.sf_soft_shapes.specs.Listed.{HasNoneFor}
 use Rattle.sf_program.specs.Outcome.{Ends}
 use Rattle.sf_program.specs.Reading.{DesignMade}
+use Rattle.sf_program.specs.Weighed.{WeighedParts, alike, weighed_in}
 use Rattle.sf_program.proofs.Made.{made-never, made-ok}
 use Rattle.sf_program.proofs.generating.made_design.Goals as goal
 
 pub make_design-requires-clause-admitted : goal.make_design-requires-clause-admitted
 make_design-requires-clause-admitted c =
     let words = c.args.words.now in
-    subst IsAdmitted (sym c.requires.is) (c.parts_are_admitted.ensures.admitted (kinds_of words.kinds) words.seed words.count words.count_low words.count_high)
+    subst IsAdmitted (sym (c.in_ok-read.ensures.parts ∙ c.requires.is)) (c.parts_are_admitted.ensures.admitted (kinds_of words.kinds) words.seed words.count words.count_low words.count_high)
+
+pub make_design-requires-clause-pins : goal.make_design-requires-clause-pins
+make_design-requires-clause-pins c = subst HasPinsInRange (sym c.in_ok-read.ensures.parts) c.requires.pins
+
+pub make_design-requires-clause-sizes : goal.make_design-requires-clause-sizes
+make_design-requires-clause-sizes c = subst HasSizes (sym c.in_ok-read.ensures.parts) c.requires.sizes
 
 pub returns-clause-design : goal.returns-clause-design
 returns-clause-design c =
@@ -29,13 +36,14 @@ returns-clause-design c =
       joins = c.parts_are_admitted.ensures.joined (kinds_of words.kinds) words.seed words.count;
       admitted = c.parts_are_admitted.ensures.admitted (kinds_of words.kinds) words.seed words.count words.count_low words.count_high;
     } in
-    let made : Ends (λ d. d) c.make_design.result (DesignMade by_default both_weights (parts_made o)) =
-    subst (λ (p : Parts). Ends (λ d. d) c.make_design.result (DesignMade by_default both_weights p)) c.requires.is c.make_design.ensures.design in
-    made-ok by_default both_weights (parts_made o) (TextsStand o) stand c.make_design.result made
+    let made : Ends (λ d. d) c.make_design.result (DesignMade by_default both_weights (alike (parts_made o))) =
+    subst (λ (p : WeighedParts). Ends (λ d. d) c.make_design.result (DesignMade by_default both_weights p)) (c.in_ok-read.ensures.alike ∙ ap alike c.requires.is) c.make_design.ensures.design in
+    made-ok by_default both_weights (alike (parts_made o)) (TextsStand o) stand c.make_design.result made
 
 pub returns-clause-never : goal.returns-clause-never
 returns-clause-never c =
     let words = c.args.words.now in
-    let none : (fault : BuildFault) → HasNoneFor 16 false c.args.parts.blocks fault → ⊥ =
-    subst (λ (p : Parts). (fault : BuildFault) → HasNoneFor 16 false p.blocks fault → ⊥) (sym c.requires.is) (λ fault h. c.blocks_have_shapes.ensures.never_refused (kinds_of words.kinds) words.seed words.count 16 false fault (omega arith) h) in
-    made-never by_default both_weights c.args.parts none c.make_design.result c.make_design.ensures.design
+    let none : (fault : BuildFault) → HasNoneFor 16 false c.in_ok-read.read.parts.blocks fault → ⊥ =
+    subst (λ (p : Parts). (fault : BuildFault) → HasNoneFor 16 false p.blocks fault → ⊥) (sym (c.in_ok-read.ensures.parts ∙ c.requires.is))
+    (λ fault h. c.blocks_have_shapes.ensures.never_refused (kinds_of words.kinds) words.seed words.count 16 false fault (omega arith) h) in
+    made-never by_default both_weights (weighed_in c.in_ok-read.read) none c.make_design.result c.make_design.ensures.design

@@ -1,0 +1,47 @@
+//! The weights of nets: those of the named file, or 1 for each.
+
+ghost use Rattle.std.specs.Prelude.{◌≡◌, Some, IfErr, IfOk, length};
+ghost use Rattle.sf_words.specs.Seen.{text_of};
+ghost use Rattle.sf_program.specs.Loads.{IsRead, TellsLoads};
+ghost use Rattle.sf_program.specs.Outcome.{Ends};
+ghost use Rattle.sf_program.specs.Reading.{WeightsRead};
+
+use crate::parsing::parse_weights;
+use crate::reading::load_text;
+use crate::stop::Stop;
+use crate::weighed::same_weights;
+use sf_io::Shelf;
+use std::alloc::Global;
+
+/// A weight for each of so many nets.
+pub fn read_net_weights<S: Shelf>(
+    alloc: Global,
+    shelf: &mut S,
+    nets: usize,
+    name: Option<&str>,
+) -> Result<Vec<u8>, Stop>
+    ensures weights { Ends (λ v. v.items) result (WeightsRead (S.holds shelf.old) (text_of name.entry) nets) }
+    ensures one_each { IfOk result (λ v. length v.items ≡ nets) }
+    ensures read { IsRead (S.holds shelf.old) (S.holds shelf.new) (S.load_faults shelf.old) (S.load_faults shelf.new) (S.store_faults shelf.old) (S.store_faults shelf.new) }
+    ensures tells { IfErr result (TellsLoads (S.load_faults shelf.old) (S.load_faults shelf.new)) }
+{
+    match name {
+        None => Ok(same_weights(alloc, nets)?),
+        Some(name) => read_weights_file(alloc, shelf, nets, name),
+    }
+}
+
+fn read_weights_file<S: Shelf>(
+    alloc: Global,
+    shelf: &mut S,
+    nets: usize,
+    name: &str,
+) -> Result<Vec<u8>, Stop>
+    ensures weights { Ends (λ v. v.items) result (WeightsRead (S.holds shelf.old) (Some name.now) nets) }
+    ensures one_each { IfOk result (λ v. length v.items ≡ nets) }
+    ensures read { IsRead (S.holds shelf.old) (S.holds shelf.new) (S.load_faults shelf.old) (S.load_faults shelf.new) (S.store_faults shelf.old) (S.store_faults shelf.new) }
+    ensures tells { IfErr result (TellsLoads (S.load_faults shelf.old) (S.load_faults shelf.new)) }
+{
+    let text = load_text(alloc, shelf, name)?;
+    parse_weights(alloc, &text, nets as u64)
+}
