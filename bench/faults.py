@@ -67,11 +67,17 @@ def blocks(*sides):
 
 
 PLAN = "plan --format gsrc --blocks a.blocks --cert a.cert"
+NETS = "UCLA nets 1.0\nNumNets : 1\nNumPins : 2\nNetDegree : 2\nb0 B\nb1 B\n"
 CERT = "slicing-certificate 1\nblocks 2\ncost 15\nbound 15\nplan 0:2x3 1:3x2 *\ntree\nE\nE\nE\nC\nC\nE\nE\nC\nC\n"
 
 # a name, the words, and the files that stand in the folder before the run
 CASES = [
     ("plan", PLAN + " --fixed --pl-out a.out", {"a.blocks": blocks((2, 3), (3, 2))}),
+    (
+        "weights",
+        PLAN + " --nets a.nets --wire-weight 1 --net-weights a.weights",
+        {"a.blocks": blocks((2, 3), (3, 2)), "a.nets": NETS, "a.weights": "0 3\n"},
+    ),
     ("check", "check --format gsrc --blocks a.blocks --fixed --cert a.cert", {"a.blocks": blocks((2, 3), (3, 2)), "a.cert": CERT}),
     ("workers", PLAN + " --workers 2", {"a.blocks": blocks((2, 3), (2, 3))}),
     ("gen", "gen --seed 7 --count 4 --kinds mixed --out g --nodes 300", {}),

@@ -2,7 +2,7 @@
 """Asks two checkers: python3 bench/second_agrees.py PATH/floorplan [FOLDER]
 
 Designs of hard and soft blocks, with and without nets and pads, are written or generated into FOLDER (a temporary one by
-default) and planned with several weights, outlines and budgets. Each certificate, many damaged copies of it, and some trees
+default) and planned with several weights (those of nets among them, made by chance), outlines and budgets. Each certificate, many damaged copies of it, and some trees
 made by chance, which show the bound of one subproblem, are given to `floorplan check` and to second_checker.py, which must
 print the same and end with the same status. Printed is a line for each design with the answers that came; the first
 difference ends the run with status 1, and leaves the certificate.
@@ -30,10 +30,12 @@ CASES = [
     ("two", "--wire-weight 3 --area-weight 0 --fixed", None),
     ("five", "--wire-weight 1", 300),
     ("five", "--wire-weight 2 --outline 24x24 --shapes 5", 200),
+    ("five", "--wire-weight 1 --net-weights CHANCE", 300),
     ("five", "--outline 20x24", None),
     ("five", "--outline 2.2x2.8 --per-unit 10 --area-weight 7", 20),
     ("gen --seed 7 --count 3 --kinds hard", "--wire-weight 1", None),
     ("gen --seed 8 --count 4 --kinds mixed", "--wire-weight 5 --area-weight 2 --shapes 7", 250),
+    ("gen --seed 8 --count 4 --kinds mixed", "--wire-weight 5 --area-weight 2 --shapes 7 --net-weights CHANCE", 250),
     ("gen --seed 9 --count 6 --kinds mixed", "--shapes 2 --fixed", 300),
     ("gen --seed 3 --count 12 --kinds hard", "--outline 90x60 --wire-weight 1", 60),
     ("gen --seed 5 --count 9 --kinds mixed", "--outline 70.5x60 --per-unit 100 --wire-weight 1", 80),
@@ -54,6 +56,17 @@ def files_of(program, design, folder):
         base = os.path.join(EXAMPLES, design, design if design != "one" else "a")
     named = {"--blocks": base + ".blocks", "--nets": base + ".nets", "--pl": base + ".pl"}
     return [word for pair in named.items() if os.path.exists(pair[1]) for word in pair]
+
+
+def weights_by_chance(files, folder, dice):
+    """The name of a file that gives some of a design's nets weights, in any order."""
+    with open(files[files.index("--nets") + 1]) as file:
+        nets = file.read().count("NetDegree")
+    name = os.path.join(folder, "s.weights")
+    with open(name, "w") as file:
+        for net in dice.sample(range(nets), nets * 2 // 3):
+            file.write("%d %d\n" % (net, dice.choice((0, 1, 2, 17, 255))))
+    return name
 
 
 def changed_number(label, step):
@@ -113,7 +126,10 @@ def main():
     folder = sys.argv[2] if len(sys.argv) > 2 else tempfile.mkdtemp()
     dice, cert, count = random.Random(1), os.path.join(folder, "s.cert"), 0
     for design, options, budget in CASES:
-        words = ["--format", "gsrc", *files_of(program, design, folder), *options.split(), "--cert", cert]
+        files = files_of(program, design, folder)
+        if "CHANCE" in options:
+            options = options.replace("CHANCE", weights_by_chance(files, folder, dice))
+        words = ["--format", "gsrc", *files, *options.split(), "--cert", cert]
         status, _ = answer([program, "plan", *words, *(["--nodes", str(budget)] if budget else [])])
         if status not in (0, 1, 3):
             sys.exit("%s %s: plan ended with status %d" % (design, options, status))

@@ -35,10 +35,15 @@ def read_file(name):
         return file.read().decode("latin-1")
 
 
-def plain_lines(name):
-    """The lines of a GSRC file behind its title, without comments and blank ones."""
+def content_lines(name):
+    """The lines of a file without comments and blank ones."""
     lines = (line.strip(" \t\r") for line in read_file(name).split("\n"))
-    return [line for line in lines if line and not line.startswith("#")][1:]
+    return [line for line in lines if line and not line.startswith("#")]
+
+
+def plain_lines(name):
+    """The lines of a GSRC file behind its title."""
+    return content_lines(name)[1:]
 
 
 def scaled(word, scale):
@@ -46,7 +51,8 @@ def scaled(word, scale):
 
 
 class Design:
-    """The shapes of each block, the pins of each net (blocks, and doubled points of pads), the outline and the weights."""
+    """The shapes of each block, the weight and the pins of each net (blocks, and doubled points of pads), the outline and
+    the weights of area and wire."""
 
     def __init__(self, options):
         self.unit, self.fixed, self.most = int(options.get("per-unit", 1)), "fixed" in options, int(options.get("shapes", 16))
@@ -63,7 +69,7 @@ class Design:
         for words in (line.split() for line in (plain_lines(options["pl"]) if "pl" in options else [])):
             if words[0] in terminals:
                 points[words[0]] = tuple(2 * scaled(word, self.unit) for word in words[1:3])
-        self.nets = self.pin_sets(options["nets"], points) if "nets" in options else []
+        self.nets = self.pin_sets(options, points) if "nets" in options else []
 
     def hard(self, words):
         numbers = re.sub(r"[(),]", " ", " ".join(words[2:])).split()
@@ -79,9 +85,9 @@ class Design:
         step = (len(allowed) - 1, self.most - 1)
         return allowed if step[0] <= step[1] else [allowed[j * step[0] // step[1]] for j in range(self.most)]
 
-    def pin_sets(self, name, points):
+    def pin_sets(self, options, points):
         nets = []
-        for line in plain_lines(name):
+        for line in plain_lines(options["nets"]):
             pin = line.split()[0]
             if re.match(COUNT, line):
                 nets += [(set(), set())] if line.startswith("NetDegree") else []
@@ -89,7 +95,11 @@ class Design:
                 nets[-1][0].add(self.names.index(pin))
             elif pin in points:
                 nets[-1][1].add(pin)
-        return [(blocks, [points[pad] for pad in pads]) for blocks, pads in nets if len(blocks) + len(pads) > 1]
+        weights = [1] * len(nets)
+        for words in (line.split() for line in (content_lines(options["net-weights"]) if "net-weights" in options else [])):
+            weights[scaled(words[0], 1)] = scaled(words[1], 1)
+        nets = ((weight, blocks, [points[pad] for pad in pads]) for weight, (blocks, pads) in zip(weights, nets))
+        return [net for net in nets if len(net[1]) + len(net[2]) > 1]
 
 
 def cost_of(design, tokens, shape):
@@ -105,9 +115,9 @@ def cost_of(design, tokens, shape):
         stack[-2:] = [(*size, {**left, **{b: (x + dx, y + dy) for b, (x, y) in right.items()}})]
     w, h, corners = stack.pop()
     wire = 0
-    for blocks, pads in design.nets:
+    for weight, blocks, pads in design.nets:
         pins = [tuple(2 * corner + side for corner, side in zip(corners[b], shape[b])) for b in blocks] + pads
-        wire += sum(max(way) - min(way) for way in zip(*pins))
+        wire += weight * sum(max(way) - min(way) for way in zip(*pins))
     return design.area_weight * w * h + design.wire_weight * wire if w <= design.sides[0] and h <= design.sides[1] else MAX
 
 
@@ -171,8 +181,8 @@ def value(design, tokens, spans):
     area = max(areas, widest * highest)
     if area > design.sides[0] * design.sides[1]:
         return MAX
-    wires = sum(net_part(design, extents, items, complete, *net) for net in design.nets) if design.wire_weight else 0
-    return design.area_weight * area + design.wire_weight * wires
+    wires = (weight * net_part(design, extents, items, complete, *pins) for weight, *pins in design.nets)
+    return design.area_weight * area + design.wire_weight * (sum(wires) if design.wire_weight else 0)
 
 
 def next_tokens(tokens, count):
