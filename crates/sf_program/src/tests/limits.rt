@@ -74,6 +74,9 @@ fn past_the_limit_of_files(rt: HostRuntime) -> Result<(), Fail> {
     shelf.add("a.yal", &vec![in alloc; b' '; 67_108_865]?)?;
     let (status, printed) = answer(&rt, alloc, &words, &mut shelf, 0)?;
     assert_eq!(rt; status, Status::OverLimit);
-    assert_eq!(rt; printed.as_str(), "error OverLimit file 67108865 67108864\n");
+    assert_eq!(rt;
+        printed.as_str(),
+        "error OverLimit file 67108865 67108864\n"
+    );
     Ok(())
 }
