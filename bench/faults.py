@@ -5,7 +5,9 @@ Each case is run once undisturbed, and then once for each allocation that it mak
 refused allocation has to answer NoMemory with nothing stored and nothing printed, or what the undisturbed run answers, or
 a fault of reading or of writing where the memory was wanted to open or to write a file. No run may be ended by a signal.
 
-Then the files and the output of a run are real ones that fail: a full device, a closed stream, a folder that isn't there, a
+Then the program's own statuses: words and files for each of 0 to 8, with what is printed.
+
+Last the files and the output of a run are real ones that fail: a full device, a closed stream, a folder that isn't there, a
 folder in the place of a file, and a file of more than 64 MiB.
 
 Wanted are `cc`, with which an object is built that counts allocations and refuses one, and a system with /dev/full.
@@ -146,6 +148,37 @@ def refused_memory(folder):
     return bad
 
 
+def statuses(folder):
+    """Words and files for each status, with the first line that is printed and the names that are then stored."""
+    one, two = {"a.blocks": blocks((3, 4))}, {"a.blocks": blocks((2, 3), (3, 2)), "a.cert": CERT}
+    check = "check --format gsrc --blocks a.blocks --fixed --cert a.cert"
+    measure = "measure --format gsrc --blocks a.blocks --placed=a.pl"
+    cases = [
+        (0, PLAN + " --workers=1 --nodes 2", one, "status Optimal", ["a.cert"]),
+        (0, check, two, "status Yes", []),
+        (1, PLAN + " --outline=2x2", one, "status NoneFits", ["a.cert"]),
+        (2, PLAN + " --workers 17", one, "error Usage", []),
+        (2, PLAN + " more words", one, "error Usage", []),
+        (2, check + " --cert=b.cert", two, "error Usage", []),
+        (3, PLAN + " --nodes=1", {"a.blocks": blocks((2, 3), (2, 3))}, "status Open", ["a.cert"]),
+        (4, check, dict(two, **{"a.cert": CERT.replace("cost 15", "cost 14")}), "status No CostDiffers 14 15", []),
+        (4, measure, dict(one, **{"a.pl": "UCLA pl 1.0\nb0 -1 0 DIMS = (3, 4) : N\n"}), "status Outside 0", []),
+        (5, PLAN + " --pl-out a.out", {"a.blocks": ""}, "error BadInput blocks 0 Truncated", []),
+        (6, PLAN + " --pl-out=a.out", {"a.blocks": blocks((1048577, 1))}, "error OverLimit side 1048577 1048576", []),
+        (7, PLAN + " --nets a.nets", one, "", []),
+        (8, PLAN + " --pl-out none/a.out", one, "", ["a.cert"]),
+    ]
+    bad = 0
+    for wanted, words, files, line, stored in cases:
+        folder.fill(files)
+        run = subprocess.run([folder.program] + words.split(), cwd=folder.folder, stdout=subprocess.PIPE, text=True, timeout=60)
+        new = sorted(set(os.listdir(folder.folder)) - set(files))
+        fine = (run.returncode, run.stdout.split("\n")[0], new) == (wanted, line, stored)
+        bad += not fine
+        print("status %d: %s%s" % (run.returncode, words, "" if fine else ", WANTED %d %r %s, printed %r" % (wanted, line, stored, run.stdout)), flush=True)
+    return bad
+
+
 def outside(folder):
     """Files and streams that fail: the status, and what is printed where the output can be seen."""
     one = {"a.blocks": blocks((3, 4))}
@@ -186,7 +219,7 @@ def main():
     program = os.path.abspath(sys.argv[1])
     top = os.path.abspath(sys.argv[2]) if len(sys.argv) > 2 else tempfile.mkdtemp()
     folder = Folder(program, top)
-    bad = refused_memory(folder) + outside(folder)
+    bad = refused_memory(folder) + statuses(folder) + outside(folder)
     print("%d runs against what is wanted" % bad)
     sys.exit(1 if bad else 0)
 
