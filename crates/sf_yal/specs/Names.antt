@@ -1,12 +1,9 @@
 -- Lists of names, and the places of names in them.
-use Rattle.std.specs.Prelude.{◌≡◌, ℕ, suc, ◌+◌, ◌*◌, ◌%◌, ◌^◌, ◌<◌, Bool, false, List, [], ◌∷◌, length, map, fold, slice_get, Option, Some, None, is_some, IfSome, if◌then◌else◌}
+use Rattle.std.specs.Prelude.{◌≡◌, ℕ, suc, Bool, List, [], ◌∷◌, map, Option, Some, None, is_some, if◌then◌else◌}
 use Rattle.std.specs.Option.{option_map}
 use Rattle.std.specs.Str.{bytes_eq}
-use Rattle.std.specs.Ordering.{nat_cmp}
-use Rattle.std.specs.Cmp.Lexicographic.{slice_cmp}
-use Rattle.std.specs.BTreeMap.{get_by}
+use Rattle.std.specs.HashMap.{HashMap, get_by}
 use denote.Ref.{Bor}
-use Rattle.sf_yal.specs.declared.names.Places.{Places}
 
 -- the place of the first name of the list that is this one
 abbrev pub index_of : List ℕ → List (List ℕ) → Option ℕ
@@ -25,37 +22,6 @@ Once (name ∷ more) = (index_of name more ≡ None) × Once more
 abbrev pub bytes_of : List (Bor (List ℕ)) → List (List ℕ)
 bytes_of names = map (λ name. name.now) names
 
--- ---- how the code finds a name
-
--- the last eight bytes of a name as a number
-abbrev pub mark_with : ℕ → ℕ → ℕ
-mark_with mark byte = (mark * 256 % 2 ^ 64 + byte) % 2 ^ 64
-
-abbrev pub mark_of : List ℕ → ℕ
-mark_of name = fold mark_with 0 name
-
-abbrev pub is_name : List ℕ → Option (List ℕ) → Bool
-is_name name None = false
-is_name name (Some other) = bytes_eq other name
-
--- the name stands at this place of the list
-abbrev pub is_name_at : List (List ℕ) → ℕ → List ℕ → Bool
-is_name_at names k name = is_name name (slice_get names k)
-
--- the place that is kept at the name's number, if the name stands there, or else the one that is kept at the name
-abbrev pub found_at : List (List ℕ) → List ℕ → Option ℕ → Option ℕ → Option ℕ
-found_at names name None by_name = by_name
-found_at names name (Some k) by_name = if is_name_at names k name then Some k else by_name
-
-abbrev pub at_mark : Places → ℕ → Option ℕ
-at_mark places mark = get_by (nat_cmp mark) places.by_mark
-
-abbrev pub at_name : Places → List ℕ → Option ℕ
-at_name places name = get_by (λ k. slice_cmp nat_cmp name k.now) places.by_name
-
-abbrev pub found_in : Places → List (List ℕ) → List ℕ → Option ℕ
-found_in places names name = found_at names name (at_mark places (mark_of name)) (at_name places name)
-
--- each name is found at its place, and each number leads into the list
-abbrev pub IsIndex : Places → List (List ℕ) → Type 0
-IsIndex places names = ((q : List ℕ) → found_in places names q ≡ index_of q names) × ((mark : ℕ) → IfSome (at_mark places mark) (λ k. k < length names))
+-- the map finds the place of each name
+abbrev pub IsIndex : {S : Type 0} → HashMap (Bor (List ℕ)) ℕ S → List (List ℕ) → Type 0
+IsIndex places names = (q : List ℕ) → get_by (λ k. bytes_eq q k.now) places ≡ index_of q names

@@ -8,7 +8,7 @@ ghost use Rattle.sf_yal.specs.Numbers.{has_form};
 use crate::fault::YalFault;
 use crate::instance::{Instance, Label};
 use crate::keyword::{Keyword, is_parent, read_keyword};
-use crate::names::Names;
+use crate::names::{Names, TextHash};
 use crate::piece::next_word;
 use crate::vertices::{Size, number_at, read_dimensions, read_length};
 use sf_lex::NumberFault;
@@ -49,7 +49,7 @@ fn is_number(read: Result<i64, NumberFault>) -> bool
 impl<'a> Found<'a> {
     ghost use Rattle.sf_yal.specs.Reading.{reading_in, Keeps, start, module_said, type_said, box_said, list_opened, list_closed, outside_said, inside_said, terminal_said, placed_said, instance_said, in_terminals_said, in_instances_said, after_words, module_closed, pad_taken};
 
-    pub fn new(alloc: Global) -> Found<'a>
+    pub fn new(alloc: Global, hash: TextHash) -> Found<'a>
         ensures { reading_in result ≡ start }
     {
         Found {
@@ -58,10 +58,10 @@ impl<'a> Found<'a> {
             in_parent: false,
             listed: false,
             size: None,
-            names: Names::new(alloc),
+            names: Names::new(alloc, hash),
             sizes: Vec::new(alloc),
             parent: None,
-            pad_names: Names::new(alloc),
+            pad_names: Names::new(alloc, hash),
             pads: Vec::new(alloc),
             instances: Vec::new(alloc),
         }

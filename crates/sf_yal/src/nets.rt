@@ -8,7 +8,7 @@ ghost use Rattle.sf_model.specs.declared.raw.RawPin.TheVariants.{Block};
 ghost use Rattle.sf_yal.specs.Using.{signals_in, net_opened, used_in, used_once, used_all, used_by, with_pin, with_pin_at, with_pad_of, with_pads, ends_with, nothing_used};
 
 use crate::instance::Instance;
-use crate::names::{Names, number_at};
+use crate::names::{Names, TextHash, number_at};
 use crate::piece::next_word;
 use sf_model::{RawNet, RawNetList, RawPin, RawPins};
 use std::alloc::{AllocError, Global};
@@ -117,11 +117,15 @@ impl<'a> Used<'a> {
     }
 }
 
-fn use_instances<'a>(alloc: Global, instances: &[Instance<'a>]) -> Result<Used<'a>, AllocError>
+fn use_instances<'a>(
+    alloc: Global,
+    instances: &[Instance<'a>],
+    hash: TextHash,
+) -> Result<Used<'a>, AllocError>
     ensures { IfOk result (λ used. used_in used ≡ used_by 0 nothing_used (signals_in instances.now)) }
 {
     let mut used = Used {
-        signals: Names::new(alloc),
+        signals: Names::new(alloc, hash),
         nets: Vec::new(alloc),
     };
     for (place, instance) in instances.iter().enumerate() {
@@ -174,7 +178,7 @@ pub fn read_nets(
 ) -> Result<RawNetList, AllocError>
     ensures { IfOk result (λ nets. nets ≡ nets_of (signals_in instances.now) pad_names.now) }
 {
-    let used = use_instances(alloc, instances)?;
+    let used = use_instances(alloc, instances, pad_names.hash())?;
     let mut nets = used.nets;
     add_pads(alloc, &mut nets, used.signals.as_slice(), pad_names)?;
     Ok(RawNetList::from_vec(nets))
