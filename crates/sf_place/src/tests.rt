@@ -74,3 +74,29 @@ fn places_and_judges(rt: HostRuntime) -> Result<(), Fail> {
     }
     Ok(())
 }
+
+#[test]
+fn places_above(rt: HostRuntime) -> Result<(), Fail> {
+    let alloc = rt.alloc();
+    let lower = Box::new(alloc, Plan::Leaf(1, Shape { w: 2, h: 3 }))?;
+    let upper = Box::new(alloc, Plan::Leaf(0, Shape { w: 3, h: 2 }))?;
+    let plan = Plan::Above(lower, upper);
+    assert_eq!(rt; size(&plan), (3, 5));
+    let placed = spots(alloc, &plan, 2)?;
+    let first = Spot {
+        block: 0,
+        x: 0,
+        y: 3,
+        w: 3,
+        h: 2,
+    };
+    let second = Spot {
+        block: 1,
+        x: 0,
+        y: 0,
+        w: 2,
+        h: 3,
+    };
+    assert_eq!(rt; placed.as_slice(), [first, second].as_slice());
+    Ok(())
+}
