@@ -105,6 +105,19 @@ fn two_beside(rt: HostRuntime) -> Result<(), Fail> {
 }
 
 #[test]
+fn one_above_the_other(rt: HostRuntime) -> Result<(), Fail> {
+    let alloc = rt.alloc();
+    let design = two_turned(alloc)?;
+    let tokens = [Token::Block(0), Token::Block(1), Token::Above];
+    let curve = whole_curve(alloc, &design, &tokens)?.ok_or("not normal")?;
+    assert!(rt; curve.points() == [Point { w: 2, h: 6 }, Point { w: 3, h: 4 }].as_slice());
+    let expr = traced(alloc, &design, &tokens, 4)?.ok_or("no point")?;
+    assert!(rt; expr.tokens.as_slice() == tokens.as_slice());
+    assert!(rt; expr.shapes.as_slice() == [Shape { w: 3, h: 2 }, Shape { w: 3, h: 2 }].as_slice());
+    Ok(())
+}
+
+#[test]
 fn one_block(rt: HostRuntime) -> Result<(), Fail> {
     let alloc = rt.alloc();
     let design = three_shapes(alloc)?;

@@ -1,6 +1,7 @@
 use super::*;
 use sf_model::parts::Shape;
 use sf_model::plan::Plan;
+use std::test::Fail;
 
 /// The number of a fault and its line, and zeros where there is none.
 fn fault_of<T: Drop>(outcome: Result<T, ExprFault>) -> (u8, u64) {
@@ -62,4 +63,58 @@ fn plan_of_two(rt: HostRuntime) {
     let read = read_expr(alloc, &text, 2).expect(&rt, "a text that was written");
     let plan = plan_of(alloc, &read).expect(&rt, "memory");
     assert!(rt; matches!(plan, Plan::Beside(_, _)));
+}
+
+/// Expressions of three blocks, of which the first two are joined first, or the last two.
+const THREES: [&str; 6] = [
+    "0:2x3 1:3x2 * 2:1x1 *",
+    "0:2x3 1:3x2 + 2:1x1 +",
+    "0:2x3 1:3x2 * 2:1x1 +",
+    "0:2x3 1:3x2 + 2:1x1 *",
+    "0:2x3 1:3x2 2:1x1 * +",
+    "0:2x3 1:3x2 2:1x1 + *",
+];
+
+#[test]
+fn written_as_read(rt: HostRuntime) -> Result<(), Fail> {
+    let alloc = rt.alloc();
+    for text in THREES {
+        let expr = read_expr(alloc, text.as_bytes(), 3).expect(&rt, "a normal expression");
+        let written = write_expr(alloc, &expr)?;
+        assert_eq!(rt; str::from_utf8(&written)?, text);
+    }
+    Ok(())
+}
+
+#[test]
+fn plans_of_three(rt: HostRuntime) -> Result<(), Fail> {
+    let alloc = rt.alloc();
+    let [first, second, third] = [
+        Shape { w: 2, h: 3 },
+        Shape { w: 3, h: 2 },
+        Shape { w: 1, h: 1 },
+    ];
+    let upper = Plan::Above(
+        Box::new(alloc, Plan::Leaf(1, second))?,
+        Box::new(alloc, Plan::Leaf(2, third))?,
+    );
+    let plan = Plan::Beside(
+        Box::new(alloc, Plan::Leaf(0, first))?,
+        Box::new(alloc, upper)?,
+    );
+    let expr = expr_of(alloc, &plan, 3)?;
+    let text = write_expr(alloc, &expr)?;
+    assert_eq!(rt; str::from_utf8(&text)?, "0:2x3 1:3x2 2:1x1 + *");
+    let lower = Plan::Beside(
+        Box::new(alloc, Plan::Leaf(0, first))?,
+        Box::new(alloc, Plan::Leaf(1, second))?,
+    );
+    let plan = Plan::Above(
+        Box::new(alloc, lower)?,
+        Box::new(alloc, Plan::Leaf(2, third))?,
+    );
+    let expr = expr_of(alloc, &plan, 3)?;
+    let text = write_expr(alloc, &expr)?;
+    assert_eq!(rt; str::from_utf8(&text)?, "0:2x3 1:3x2 * 2:1x1 +");
+    Ok(())
 }
