@@ -122,22 +122,33 @@ fn square(alloc: Global, name: &[u8]) -> Result<Block, AllocError>
     })
 }
 
+/// A net of two pins.
+fn net(alloc: Global, first: Pin, second: Pin, weight: u8) -> Result<Net, AllocError>
+    ensures pins { IfOk result (λ n. n.pins ≡ first ∷ second ∷ []) }
+    ensures weight { IfOk result (λ n. n.weight ≡ weight) }
+{
+    Ok(Net {
+        pins: Pins::from_vec(vec![in alloc; first, second]?),
+        weight,
+    })
+}
+
 /// Two blocks of 2 by 2 and a net of both of this weight, with wire weight 1.
 fn two_squares(alloc: Global, weight: u8) -> Result<Design, AllocError> {
     let blocks = vec![in alloc; square(alloc, b"a")?, square(alloc, b"b")?]?;
-    let pins = Pins::from_vec(vec![in alloc; Pin::Block(0), Pin::Block(1)]?);
+    let both = net(alloc, Pin::Block(0), Pin::Block(1), weight)?;
     Ok(Design {
         blocks: BlockList::from_vec(blocks),
         pads: PadList::from_vec(Vec::new(alloc)),
-        nets: NetList::from_vec(vec![in alloc; Net { pins, weight }]?),
+        nets: NetList::from_vec(vec![in alloc; both]?),
         outline: Outline { w: 9, h: 9 },
         weights: Weights { area: 1, wire: 1 },
     })
 }
 
-/// Four blocks of 2 by 2, a net of the first and the third, one of the second and the third, and one of the fourth and a
-/// pad, with wire weight 1.
-fn four_squares(alloc: Global) -> Result<Design, AllocError> {
+/// Four blocks of 2 by 2, with wire weight 1: an outer net of the first and the third, an inner one of the second
+/// and the third, and one of the fourth and a pad, of these weights.
+fn four_squares(alloc: Global, outer: u8, inner: u8, padded: u8) -> Result<Design, AllocError> {
     let blocks = vec![in alloc;
         square(alloc, b"a")?,
         square(alloc, b"b")?,
@@ -149,22 +160,10 @@ fn four_squares(alloc: Global) -> Result<Design, AllocError> {
         x: 10,
         y: 0,
     };
-    let first = Pins::from_vec(vec![in alloc; Pin::Block(0), Pin::Block(2)]?);
-    let second = Pins::from_vec(vec![in alloc; Pin::Block(1), Pin::Block(2)]?);
-    let third = Pins::from_vec(vec![in alloc; Pin::Block(3), Pin::Pad(0)]?);
     let nets = vec![in alloc;
-        Net {
-            pins: first,
-            weight: 1,
-        },
-        Net {
-            pins: second,
-            weight: 1,
-        },
-        Net {
-            pins: third,
-            weight: 1,
-        },
+        net(alloc, Pin::Block(0), Pin::Block(2), outer)?,
+        net(alloc, Pin::Block(1), Pin::Block(2), inner)?,
+        net(alloc, Pin::Block(3), Pin::Pad(0), padded)?,
     ]?;
     Ok(Design {
         blocks: BlockList::from_vec(blocks),
@@ -202,7 +201,7 @@ fn value_at<'a>(
 #[test]
 fn measures_items(rt: HostRuntime) -> Result<(), Fail> {
     let alloc = rt.alloc();
-    let design = four_squares(alloc)?;
+    let design = four_squares(alloc, 1, 1, 1)?;
     let mut room = Room::new(alloc);
     // no token; 0 1 *; 0 1 * 2 *; 0 1 * 2 +; 0 1 + 2 +; 0 1 * 2 * 3 *; 0 1 * 2
     assert_eq!(rt; value_at(alloc, &design, &mut room, &[])?, Some(26));
@@ -240,5 +239,22 @@ fn measures_one_weight(rt: HostRuntime) -> Result<(), Fail> {
         let of_row = value_at(alloc, &design, &mut room, &[0, 0, 0])?;
         assert_eq!(rt; of_row, Some(value));
     }
+    Ok(())
+}
+
+#[test]
+fn measures_weights(rt: HostRuntime) -> Result<(), Fail> {
+    let alloc = rt.alloc();
+    let design = four_squares(alloc, 0, 2, 3)?;
+    let mut room = Room::new(alloc);
+    // 0 1 * 2 +; 0 1 * 2 * 3 *
+    assert_eq!(rt;
+        value_at(alloc, &design, &mut room, &[0, 0, 0, 0, 1])?,
+        Some(42)
+    );
+    assert_eq!(rt;
+        value_at(alloc, &design, &mut room, &[0, 0, 0, 0, 0, 0, 0])?,
+        Some(48)
+    );
     Ok(())
 }
