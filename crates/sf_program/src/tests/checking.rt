@@ -104,7 +104,7 @@ const JUDGED: &[Row] = &[
 ];
 
 /// Certificates that can't be read.
-pub const UNREADABLE: &[Row] = &[
+const UNREADABLE: &[Row] = &[
     Row {
         files: &[("a.blocks", EQUALS), ("a.cert", CUT_OFF)],
         status: Status::BadInput,
