@@ -1,14 +1,14 @@
 -- Places of names in a list, and one name more.
-use Rattle.std.proofs.Common.{◌≡◌, ℕ, suc, ◌<◌, Bool, true, false, cond, List, [], ◌∷◌, ◌++◌, length, Option, Some, None, refl, sym, ap, ◌∙◌, arith, subst}
-use Rattle.std.specs.Prelude.{IfSome}
+use Rattle.std.proofs.Common.{◌≡◌, ℕ, suc, ◌+◌, ◌<◌, Bool, true, false, cond, nat_lt, List, [], ◌∷◌, ◌++◌, length, Option, Some, None, is_some, if◌then◌else◌, refl, sym, ap, ◌∙◌, arith}
+use Rattle.std.specs.Prelude.{IfSome, not}
 use Rattle.std.specs.Option.{option_map}
+use Rattle.std.specs.List.{list_any, position, position_or_len}
 use Rattle.std.specs.Str.{bytes_eq}
-use Rattle.std.specs.HashMap.{HashMap, UpdatesBy, IsUnchanged, get_by}
-use Rattle.std.specs.Map.{lookup}
-use Rattle.std.proofs.lemmas.Map.Text.{hash_map_updates_str}
-use Rattle.std.proofs.lemmas.Slice.Eq.{bytes_eq-Decides}
+use Rattle.std.proofs.lemmas.List.{map-append}
+use Rattle.std.proofs.lemmas.Bool.Decides.{Decides-ltb}
 use denote.Ref.{Bor}
-use Rattle.sf_yal.specs.Names.{index_of, IsIndex}
+use Rattle.sf_model.proofs.Tables.{bytes_eq_sym}
+use Rattle.sf_yal.specs.Names.{index_of, bytes_of, noted}
 
 pub none_under : (o : Option ℕ) → option_map suc o ≡ None → o ≡ None
 none_under None e = refl
@@ -29,15 +29,6 @@ index_bound name (other ∷ more) = bound_step name other more (bytes_eq other n
 pub some_not_none : {n : ℕ} → Some n ≡ None → ⊥
 some_not_none e = absurd cc
 
-new_step : (q name other : List ℕ) (more : List (List ℕ)) (b : Bool) → bytes_eq other q ≡ b → (index_of q more ≡ None → index_of q (more ++ name ∷ []) ≡ Some (length more)) → index_of q (other ∷ more) ≡ None
-    → index_of q (other ∷ (more ++ name ∷ [])) ≡ Some (suc (length more))
-new_step q name other more true e h none = absurd (some_not_none (rw e at none))
-new_step q name other more false e h none = rw (e, h (none_under (index_of q more) (rw e at none))) refl
-
-pub push_new : (q name : List ℕ) (names : List (List ℕ)) → bytes_eq name q ≡ true → index_of q names ≡ None → index_of q (names ++ name ∷ []) ≡ Some (length names)
-push_new q name [] e none = rw e refl
-push_new q name (other ∷ more) e none = new_step q name other more (bytes_eq other q) refl (push_new q name more e) none
-
 other_step : (q name other : List ℕ) (more : List (List ℕ)) (b : Bool) → bytes_eq other q ≡ b → index_of q (more ++ name ∷ []) ≡ index_of q more
     → index_of q (other ∷ (more ++ name ∷ [])) ≡ index_of q (other ∷ more)
 other_step q name other more true e h = rw e refl
@@ -47,31 +38,76 @@ pub push_other : (q name : List ℕ) (names : List (List ℕ)) → bytes_eq name
 push_other q name [] e = rw e refl
 push_other q name (other ∷ more) e = other_step q name other more (bytes_eq other q) refl (push_other q name more e)
 
-abbrev update_at : Bool → ℕ → Option ℕ → Option ℕ
-update_at true n before = Some n
-update_at false n before = before
+-- ---- what a set of names finds
 
-new_value : (b : Bool) (n : ℕ) (before : Option ℕ) → cond b (Some n) before ≡ update_at b n before
-new_value true n before = refl
-new_value false n before = refl
+abbrev is_name : List ℕ → Bor (List ℕ) → Bool
+is_name name k = bytes_eq name k.now
 
-same_none : (name q : List ℕ) (names : List (List ℕ)) → index_of name names ≡ None → bytes_eq name q ≡ true → index_of q names ≡ None
-same_none name q names none e = subst (λ (x : List ℕ). index_of x names ≡ None) ((bytes_eq-Decides name q).0 e) none
+abbrev place_in : List ℕ → List (Bor (List ℕ)) → ℕ
+place_in name keys = position_or_len (is_name name) keys
 
-found_more : (name q : List ℕ) (before after : Option ℕ) (names : List (List ℕ)) (b : Bool) → bytes_eq name q ≡ b → before ≡ index_of q names → (bytes_eq name q ≡ true → index_of q names ≡ None)
-    → after ≡ update_at b (length names) before → after ≡ index_of q (names ++ name ∷ [])
-found_more name q before after names true e old none new = new ∙ sym (push_new q name names e (none e))
-found_more name q before after names false e old none new = new ∙ old ∙ sym (push_other q name names e)
+suc_under : (b : Bool) (n : ℕ) → option_map suc (cond b (Some n) None) ≡ cond b (Some (1 + n)) None
+suc_under true n = ap Some (omega arith)
+suc_under false n = refl
 
--- the map finds the new name as well
-pub more_indexed : {S : Type 0} (name : List ℕ) (m n : HashMap (Bor (List ℕ)) ℕ S) (names after : List (List ℕ)) (place : ℕ) → UpdatesBy (λ x y. bytes_eq x.now y.now) (λ k. bytes_eq name k.now) m n (Some place)
-    → place ≡ length names → IsIndex m names → index_of name names ≡ None → after ≡ names ++ name ∷ [] → IsIndex n after
-more_indexed name m n names after place updated at old none is = λ q.
-    found_more name q (get_by (λ k. bytes_eq q k.now) m) (get_by (λ k. bytes_eq q k.now) n) names (bytes_eq name q) refl (old q) (same_none name q names none)
-    (hash_map_updates_str name m n (Some place) updated q ∙ rw at (new_value (bytes_eq name q) (length names) (get_by (λ k. bytes_eq q k.now) m)))
-    ∙ ap (index_of q) (sym is)
+any_step : (name : List ℕ) (k : Bor (List ℕ)) (keys : List (Bor (List ℕ))) (b : Bool) → bytes_eq k.now name ≡ b → is_name name k ≡ b
+    → index_of name (bytes_of keys) ≡ cond (list_any (is_name name) keys) (Some (place_in name keys)) None
+    → index_of name (bytes_of (k ∷ keys)) ≡ cond (list_any (is_name name) (k ∷ keys)) (Some (place_in name (k ∷ keys))) None
+any_step name k keys true e f h = rw (e, f) refl
+any_step name k keys false e f h = rw (e, f, h) (suc_under (list_any (is_name name) keys) (place_in name keys))
 
--- a map with the same entries finds the same
-pub same_indexed : {S : Type 0} (m n : HashMap (Bor (List ℕ)) ℕ S) (names after : List (List ℕ)) → IsUnchanged m n → after ≡ names → IsIndex m names → IsIndex n after
-same_indexed m n names after same is old = λ q.
-    ap (λ (es : List (Bor (List ℕ) × ℕ)). lookup (λ k. bytes_eq q k.now) es) same ∙ old q ∙ ap (index_of q) (sym is)
+-- a name that is there has its place, and another one has none
+pub any_index : (name : List ℕ) (keys : List (Bor (List ℕ))) → index_of name (bytes_of keys) ≡ cond (list_any (is_name name) keys) (Some (place_in name keys)) None
+any_index name [] = refl
+any_index name (k ∷ keys) = any_step name k keys (bytes_eq k.now name) refl (bytes_eq_sym name k.now) (any_index name keys)
+
+lt_by : (m n : ℕ) (a b : Bool) → nat_lt m n ≡ a → nat_lt (1 + m) (suc n) ≡ b → b ≡ a
+lt_by m n true true e f = refl
+lt_by m n false false e f = refl
+lt_by m n true false e f = let lt : m < n = (Decides-ltb m n).0 e in sym f ∙ (Decides-ltb (1 + m) (suc n)).1 (omega arith)
+lt_by m n false true e f = let lt : 1 + m < suc n = (Decides-ltb (1 + m) (suc n)).0 f in sym ((Decides-ltb m n).1 (omega arith)) ∙ e
+
+lt_suc : (m n : ℕ) → nat_lt (1 + m) (suc n) ≡ nat_lt m n
+lt_suc m n = lt_by m n (nat_lt m n) (nat_lt (1 + m) (suc n)) refl refl
+
+below_step : (name : List ℕ) (k : Bor (List ℕ)) (keys : List (Bor (List ℕ))) (b : Bool) → is_name name k ≡ b → nat_lt (place_in name keys) (length keys) ≡ list_any (is_name name) keys
+    → nat_lt (place_in name (k ∷ keys)) (length (k ∷ keys)) ≡ list_any (is_name name) (k ∷ keys)
+below_step name k keys true f h = rw f ((Decides-ltb 0 (suc (length keys))).1 (omega arith))
+below_step name k keys false f h = rw f (lt_suc (place_in name keys) (length keys) ∙ h)
+
+below : (name : List ℕ) (keys : List (Bor (List ℕ))) → nat_lt (place_in name keys) (length keys) ≡ list_any (is_name name) keys
+below name [] = refl
+below name (k ∷ keys) = below_step name k keys (is_name name k) refl (below name keys)
+
+-- the place of a key is that of its name
+pub position_index : (name : List ℕ) (keys : List (Bor (List ℕ))) → position (is_name name) keys ≡ index_of name (bytes_of keys)
+position_index name keys = ap (λ b. cond b (Some (place_in name keys)) None) (below name keys) ∙ sym (any_index name keys)
+
+module _ (name : Bor (List ℕ)) (keys : List (Bor (List ℕ))) (added : Bool) (place : ℕ) (says : added ≡ not (list_any (is_name name.now) keys)) where
+  pub new_index : added ≡ true → index_of name.now (bytes_of keys) ≡ None
+  new_index e = any_index name.now keys ∙ by (list_any (is_name name.now) keys) (sym e ∙ says)
+    where
+      by : (b : Bool) → true ≡ not b → cond b (Some (place_in name.now keys)) None ≡ None
+      by true f = absurd cc
+      by false f = refl
+
+  pub old_index : added ≡ false → place ≡ place_in name.now keys → index_of name.now (bytes_of keys) ≡ Some place
+  old_index e at = any_index name.now keys ∙ by (list_any (is_name name.now) keys) (sym e ∙ says) ∙ ap Some (sym at)
+    where
+      by : (b : Bool) → false ≡ not b → cond b (Some (place_in name.now keys)) None ≡ Some (place_in name.now keys)
+      by true f = refl
+      by false f = absurd cc
+
+some_under : (b : Bool) (n : ℕ) → is_some (cond b (Some n) None) ≡ b
+some_under true n = refl
+some_under false n = refl
+
+noted_by : (name : Bor (List ℕ)) (keys : List (Bor (List ℕ))) (b : Bool) → bytes_of (if b then keys else keys ++ name ∷ []) ≡ (if b then bytes_of keys else bytes_of keys ++ name.now ∷ [])
+noted_by name keys true = refl
+noted_by name keys false = map-append (λ n. n.now) keys (name ∷ [])
+
+-- the keys with one more, as lists of names
+pub keys_noted : (name : Bor (List ℕ)) (keys after : List (Bor (List ℕ))) → after ≡ (if list_any (is_name name.now) keys then keys else keys ++ name ∷ []) → bytes_of after ≡ noted name.now (bytes_of keys)
+keys_noted name keys after is =
+    let has : is_some (index_of name.now (bytes_of keys)) ≡ list_any (is_name name.now) keys = ap is_some (any_index name.now keys) ∙ some_under _ (place_in name.now keys) in
+    ap bytes_of is ∙ noted_by name keys (list_any (is_name name.now) keys) ∙ ap (λ b. if b then bytes_of keys else bytes_of keys ++ name.now ∷ []) (sym has)

@@ -1,8 +1,7 @@
 -- Lists of names, and the places of names in them.
-use Rattle.std.specs.Prelude.{◌≡◌, ℕ, suc, Bool, List, [], ◌∷◌, map, Option, Some, None, is_some, if◌then◌else◌}
+use Rattle.std.specs.Prelude.{◌≡◌, ℕ, suc, Bool, List, [], ◌∷◌, ◌++◌, map, Option, Some, None, is_some, if◌then◌else◌}
 use Rattle.std.specs.Option.{option_map}
 use Rattle.std.specs.Str.{bytes_eq}
-use Rattle.std.specs.HashMap.{HashMap, get_by}
 use denote.Ref.{Bor}
 
 -- the place of the first name of the list that is this one
@@ -13,6 +12,10 @@ index_of name (other ∷ more) = if bytes_eq other name then Some 0 else option_
 abbrev pub has_name : List ℕ → List (List ℕ) → Bool
 has_name name names = is_some (index_of name names)
 
+-- the list with a name that it has, or with it behind the others
+abbrev pub noted : List ℕ → List (List ℕ) → List (List ℕ)
+noted name names = if has_name name names then names else names ++ name ∷ []
+
 -- no name stands twice
 abbrev pub Once : List (List ℕ) → Type 0
 Once [] = Unit {0}
@@ -21,7 +24,3 @@ Once (name ∷ more) = (index_of name more ≡ None) × Once more
 -- the bytes of names that are borrowed
 abbrev pub bytes_of : List (Bor (List ℕ)) → List (List ℕ)
 bytes_of names = map (λ name. name.now) names
-
--- the map finds the place of each name
-abbrev pub IsIndex : {S : Type 0} → HashMap (Bor (List ℕ)) ℕ S → List (List ℕ) → Type 0
-IsIndex places names = (q : List ℕ) → get_by (λ k. bytes_eq q k.now) places ≡ index_of q names

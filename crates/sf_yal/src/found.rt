@@ -74,10 +74,9 @@ impl<'a> Found<'a> {
         let Some((name, _)) = next_word(rest) else {
             return Err(YalFault::BadStatement(line));
         };
-        if self.names.place_of(name).is_some() {
+        if self.names.note(name)?.is_some() {
             return Err(YalFault::BadStatement(line));
         }
-        self.names.add(name)?;
         self.place = Place::Module;
         self.typed = false;
         self.in_parent = false;

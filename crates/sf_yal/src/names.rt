@@ -1,10 +1,10 @@
 //! Distinct names, found by a hash of their own for each text.
 
 ghost use Rattle.std.specs.Prelude.{◌≡◌, ◌<◌, [], ◌∷◌, ◌++◌, length, None, OnOk, IfOk, IfSome};
-ghost use Rattle.sf_yal.specs.Names.{bytes_of, index_of};
+ghost use Rattle.sf_yal.specs.Names.{bytes_of, index_of, noted};
 
+use indexmap::IndexSet;
 use std::alloc::{AllocError, Global};
-use std::collections::HashMap;
 use std::hash::{BuildHasher, DefaultHasher, Hasher};
 use std::marker::Model;
 
@@ -23,13 +23,18 @@ pub fn number_at(place: usize) -> Result<u32, AllocError>
 #[derive(Clone, Copy, Drop)]
 pub struct TextHash {
     state: DefaultHasher,
+    /// About how many names the text may have: short ones, with what stands before them, take five bytes.
+    names: usize,
 }
 
 impl TextHash {
     pub fn new(text: &[u8]) -> TextHash {
         let mut state = DefaultHasher::new();
         state.write(text);
-        TextHash { state }
+        TextHash {
+            state,
+            names: text.len() / 5,
+        }
     }
 }
 
@@ -46,19 +51,16 @@ impl BuildHasher for TextHash {
 /// Names in the order in which they came.
 #[derive(Drop)]
 pub struct Names<'a> {
-    list: Vec<&'a [u8]>,
-    places: HashMap<&'a [u8], u32, TextHash>,
+    set: IndexSet<&'a [u8], TextHash>,
 }
 
 impl<'a> Model for Names<'a> {
     ghost use Rattle.std.specs.Prelude.{List, ℕ};
-    ghost use Rattle.sf_yal.specs.Names.{bytes_of, IsIndex};
+    ghost use Rattle.sf_yal.specs.Names.{bytes_of};
 
     ghost Value = { List (List ℕ) };
 
-    ghost view = { λ n. bytes_of n.list.items };
-
-    ghost invariant = { λ n. IsIndex n.places (bytes_of n.list.items) };
+    ghost view = { λ n. bytes_of n.set.keys };
 }
 
 impl<'a> Names<'a> {
@@ -66,19 +68,18 @@ impl<'a> Names<'a> {
         ensures { result ≡ [] }
     {
         Names {
-            list: Vec::new(alloc),
-            places: HashMap::with_hasher(alloc, hash),
+            set: IndexSet::with_hasher(alloc, hash),
         }
     }
 
     pub fn hash(&self) -> TextHash {
-        *self.places.hasher()
+        *self.set.hasher()
     }
 
     pub fn as_slice(&self) -> &[&'a [u8]]
         ensures { bytes_of result.now ≡ self.now }
     {
-        &self.list
+        self.set.as_slice()
     }
 
     /// The place of a name in the list.
@@ -86,10 +87,32 @@ impl<'a> Names<'a> {
         ensures value { result ≡ index_of name.now self.now }
         ensures bound { IfSome result (λ k. k < length self.now) }
     {
-        match self.places.get(name) {
-            Some(place) => Some(*place as usize),
-            None => None,
+        self.set.get_index_of(name)
+    }
+
+    /// Moving the table is dear when there are many names, so it grows by eight, but to no more than the text may have.
+    fn make_room(&mut self) -> Result<(), AllocError>
+        ensures { self.new ≡ self.old }
+    {
+        let count = self.set.len();
+        if count < self.set.capacity() {
+            return Ok(());
         }
+        let most = self.set.hasher().names.saturating_sub(count);
+        self.set.reserve(count.saturating_mul(7).min(most))
+    }
+
+    /// The place of a name in the list, or none where it is new and now the last.
+    pub fn note(&mut self, name: &'a [u8]) -> Result<Option<usize>, AllocError>
+        ensures place { IfOk result (λ place. place ≡ index_of name.now self.old) }
+        ensures names { OnOk result (self.new ≡ noted name.now self.old) }
+    {
+        self.make_room()?;
+        let (place, added) = self.set.insert_full(name)?;
+        if added {
+            return Ok(None);
+        }
+        Ok(Some(place))
     }
 
     /// A name more, which isn't in the list.
@@ -97,10 +120,7 @@ impl<'a> Names<'a> {
         requires { index_of name.now self.old ≡ None }
         ensures { OnOk result (self.new ≡ self.old ++ name.now ∷ []) }
     {
-        let place = number_at(self.list.len())?;
-        self.list.reserve(1)?;
-        self.places.insert(name, place)?;
-        self.list.push_reserved(name);
+        self.note(name)?;
         Ok(())
     }
 }

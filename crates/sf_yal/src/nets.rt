@@ -78,14 +78,6 @@ impl<'a> Used<'a> {
         }
     }
 
-    fn add_net(&mut self, alloc: Global, signal: &'a [u8], instance: u32) -> Result<(), AllocError>
-        requires { index_of signal.now self.old.signals ≡ None }
-        ensures { OnOk result (used_in self.new ≡ net_opened instance signal.now (used_in self.old)) }
-    {
-        self.nets.push(open_net(alloc, instance)?)?;
-        self.signals.add(signal)
-    }
-
     fn use_signal(
         &mut self,
         alloc: Global,
@@ -94,9 +86,9 @@ impl<'a> Used<'a> {
     ) -> Result<(), AllocError>
         ensures { OnOk result (used_in self.new ≡ used_once instance (used_in self.old) signal.now) }
     {
-        match self.signals.place_of(signal) {
+        match self.signals.note(signal)? {
             Some(place) => self.add_pin(alloc, place, instance),
-            None => self.add_net(alloc, signal, instance),
+            None => Ok(self.nets.push(open_net(alloc, instance)?)?),
         }
     }
 
