@@ -33,3 +33,12 @@ pub fn write_some<F: Write>(file: &mut F, bytes: &[u8]) -> Result<usize, Failed>
     }
     Err(Failed)
 }
+
+/// Writes all of the bytes, as many at a time as the file takes.
+pub fn write_whole<F: Write>(file: &mut F, bytes: &[u8]) -> Result<(), Failed> {
+    let mut at = 0;
+    while at < bytes.len() {
+        at += write_some(file, &bytes[at..])?;
+    }
+    Ok(())
+}

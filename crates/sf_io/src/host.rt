@@ -2,7 +2,7 @@
 ghost use Rattle.std.specs.Prelude.{◌≡◌, ◌+◌, ◌≤◌, ◌<◌, length, take, None, IfOk, OnOk, OnErr, IsErrOf};
 ghost use Rattle.sf_io.specs.Outside.{one_more};
 
-use crate::again::{read_some, write_some};
+use crate::again::{read_some, write_some, write_whole};
 use crate::{Failed, Gate, LoadFault, Shelf, Sink};
 use std::alloc::Global;
 use std::rt::Files;
@@ -107,11 +107,7 @@ fn write_file<R: Files>(rt: &R, name: &str, bytes: &[u8]) -> Result<(), Failed> 
     let Ok(mut file) = fs::create(rt, name) else {
         return Err(Failed);
     };
-    let mut at = 0;
-    while at < bytes.len() {
-        at += write_some(&mut file, &bytes[at..])?;
-    }
-    Ok(())
+    write_whole(&mut file, bytes)
 }
 
 /// The standard output.

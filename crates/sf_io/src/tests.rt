@@ -2,7 +2,7 @@
 
 ghost use Rattle.std.specs.Prelude.{◌≤◌, IfOk};
 
-use crate::again::{read_some, write_some};
+use crate::again::{read_some, write_some, write_whole};
 use crate::{
     Failed, Gate, HostShelf, HostSink, LoadFault, MemShelf, MemSink, NeverShelf, NeverSink,
     OpenGate, PartShelf, PartSink, Shelf, Sink, Status, write_all,
@@ -189,4 +189,36 @@ fn interrupted_calls(rt: HostRuntime) {
     let kind = ErrorKind::Interrupted;
     assert_eq!(rt; read_some(&mut Slow { failing: 0, kind }, &mut []), Ok(0));
     assert_eq!(rt; write_some(&mut Slow { failing: 0, kind }, b""), Ok(0));
+}
+
+/// A file that takes one byte a call, and keeps it.
+#[derive(Drop)]
+struct Kept {
+    bytes: Vec<u8>,
+}
+
+impl Write for Kept {
+    fn write(&mut self, bytes: &[u8]) -> io::Result<usize> {
+        let Some(first) = bytes.first() else {
+            return Ok(0);
+        };
+        match self.bytes.push(*first) {
+            Ok(()) => Ok(1),
+            Err(_) => Err(io::Error::from(ErrorKind::OutOfMemory)),
+        }
+    }
+
+    fn flush(&mut self) -> io::Result<()> {
+        Ok(())
+    }
+}
+
+// A write that took a part is followed by the rest.
+#[test]
+fn writes_in_parts(rt: HostRuntime) {
+    let mut file = Kept {
+        bytes: Vec::new(rt.alloc()),
+    };
+    assert_eq!(rt; write_whole(&mut file, b"text"), Ok(()));
+    assert!(rt; file.bytes.as_slice() == b"text".as_slice());
 }
