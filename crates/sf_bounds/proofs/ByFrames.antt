@@ -20,7 +20,7 @@ use Rattle.sf_node.proofs.Reached.{subproblem-spans}
 use Rattle.sf_curves.proofs.Members.{Contains-head, Contains-tail}
 use Rattle.sf_standard.specs.Items as item
 use Rattle.sf_standard.specs.Items.{Item, items_of, unused, fitting}
-use Rattle.sf_standard.specs.Standard.{area, least_of, least_cost, has_none, greatest, bounded, standard}
+use Rattle.sf_standard.specs.Standard.{area, least_of, least_cost, has_none, greatest, open_value, standard}
 use Rattle.sf_standard.proofs.Exact.{whole-item}
 use Rattle.sf_standard.proofs.Soundness.{solved-complete}
 use Rattle.sf_frames.specs.declared.sums.Sums.{Sums}
@@ -67,7 +67,7 @@ module _ (design : Design) (node : Parts) (sub : IsSubproblem design node) (solv
 
   value-of-one : standard design node ≡ least_of (cost design) (fitting design node only)
   value-of-one =
-      cond-true (is_solved design node) (least_cost design node (items_of node)) (bounded design node (map (fitting design node) (items_of node ++ unused node))) solved
+      cond-true (is_solved design node) (least_cost design node (items_of node)) (open_value design node) solved
       ∙ ap (least_cost design node) (whole-item design node sub complete).1.items
 
   -- no plan fits

@@ -31,3 +31,5 @@ pub mod NetPushed
 pub mod NetRows
 pub mod NetStarted
 pub mod NetTotal
+pub mod PartCosts
+pub mod PartSums

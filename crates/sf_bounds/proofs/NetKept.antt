@@ -17,7 +17,7 @@ use Rattle.sf_bounds.specs.Near.{anywhere}
 use Rattle.sf_bounds.specs.Rows.{weighed_nets, cell_at, IsFitCell, IsLonger, IsRow, AreWires, AreBlockRows, first_end, IsStart, IsNetFrame, AreStored, IsNetEnd, token_of}
 
 abbrev pub no_frame : NetFrame
-no_frame = record { token = token.Beside; extent = record { least_w = 0; most_w = 0; least_h = 0; most_h = 0 }; below = 0; row = 0; wires = record { at = 0; sum = 0 }; end = 0 }
+no_frame = record { token = token.Beside; extent = record { least_w = 0; most_w = 0; least_h = 0; most_h = 0 }; below = 0; row = 0; wires = record { at = 0; sum = 0; hull = 0 }; end = 0 }
 
 -- the cells before e are the same
 abbrev AreSame : List Cell → List Cell → ℕ → Type 0
@@ -33,8 +33,9 @@ wires-move : (design : Design) (cells others : List Cell) (items : List Item) (w
 wires-move design cells others items w e m within inside same = record {
   inside = omega (arith, within, inside);
   each = λ j lt. ap (λ c. c.part) (same (w.at + j) (omega (arith, lt, within))) ∙ m.each j lt;
+  hulls = λ j lt. ap (λ c. c.hull) (same (w.at + j) (omega (arith, lt, within))) ∙ m.hulls j lt;
   total = m.total;
-  small = m.small;
+  hull_total = m.hull_total;
 }
 
 frame-moves : (design : Design) (tokens : List Token) (cells others : List Cell) (first k e : ℕ) (f : NetFrame) → IsNetFrame design tokens cells first k f → f.end ≤ e → e ≤ length others → AreSame cells others e → IsNetFrame design tokens others first k f
@@ -63,7 +64,7 @@ pub stored-appended : (design : Design) (tokens : List Token) (cells more : List
 stored-appended design tokens cells more blocks start frames m fit =
     let n = length cells in
     let inside : n ≤ length (cells ++ more) = omega (arith, length-append cells more) in
-    let same : AreSame cells (cells ++ more) n = λ i lt. get_or_append_left cells more (record { reach = anywhere; part = 0 }) i lt in
+    let same : AreSame cells (cells ++ more) n = λ i lt. get_or_append_left cells more (record { reach = anywhere; part = 0; hull = 0 }) i lt in
     record {
       fit = fit;
       start_is = start-moves design cells (cells ++ more) blocks start n m.start_is m.start_is.wires.inside inside same (take-append-le start.at cells more (omega (arith, m.start_is.wires.inside)));
@@ -110,7 +111,7 @@ module _ (design : Design) (tokens : List Token) (cells : List Cell) (blocks : L
       let n : length (take count frames) ≡ count = length-take-le count frames le in
       let t = end-there a in
       let inside : e ≤ length (take e cells) = omega (arith, length-take-le e cells t.1) in
-      let same : AreSame cells (take e cells) e = λ i lt. get_or-take e cells i (record { reach = anywhere; part = 0 }) lt in
+      let same : AreSame cells (take e cells) e = λ i lt. get_or-take e cells i (record { reach = anywhere; part = 0; hull = 0 }) lt in
       record {
         fit = all-take e cells t.1 m.fit;
         start_is = start-moves design cells (take e cells) blocks start e m.start_is t.0 inside same (take-take start.at e cells (omega (arith, t.0)));

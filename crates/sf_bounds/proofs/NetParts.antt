@@ -1,6 +1,6 @@
 -- The parts of a net make its bound.
 use Rattle.std.proofs.Common.{◌≡◌, ℕ, ◌+◌, ◌<◌, ◌≤◌, max, List, [], ◌∷◌, map, length, get_or, refl, ap, sym, subst, ◌∙◌, arith, true, false}
-use Rattle.std.specs.Prelude.{nat_lt, None}
+use Rattle.std.specs.Prelude.{nat_lt, if◌then◌else◌, None}
 use Rattle.std.specs.List.{AllByRecursion}
 use Rattle.std.proofs.lemmas.Bool.{cond-false, le-ltb}
 use Rattle.std.proofs.lemmas.List.{length-reverse}
@@ -16,11 +16,13 @@ use Rattle.sf_node.specs.Subproblem.{is_complete}
 use Rattle.sf_node.specs.Children.{IsSubproblem}
 use Rattle.sf_standard.specs.Items.{items_of}
 use Rattle.sf_standard.specs.Hull.{gap, range_x, range_y, range_part, pair_part, small_side, block_pins, greatest_two, hull_part}
-use Rattle.sf_standard.specs.Standard.{pins_part}
+use Rattle.sf_standard.specs.Standard.{pins_by}
 use Rattle.sf_standard.proofs.Exact.{whole-item}
 use Rattle.sf_bounds.specs.declared.layout.Layout.{Layout}
+use Rattle.sf_bounds.specs.declared.wire_parts.WireParts.{WireParts}
 use Rattle.sf_bounds.specs.Layout.{extent_in}
 use Rattle.sf_bounds.specs.Near.{anywhere, reach_gap}
+use Rattle.sf_bounds.specs.Open.{AreByPart}
 use Rattle.sf_bounds.specs.Pins.{IsNet, IsLayout, IsReady, block_range, standing_at, pin_range, shared_ranges, paired_sides, shared_homes, shared_in, greatest_gap}
 use Rattle.sf_bounds.proofs.Hulls.{open_hull, whole_hull}
 use Rattle.sf_bounds.proofs.Pairing.{pair_sum}
@@ -72,19 +74,26 @@ module _ (design : Design) (node : Parts) (layout : Layout) (m : IsLayout design
     pair-part : (paired_sides layout.table.items pins).sum ≡ pair_part (extent_in design node) pins
     pair-part = pair_sum layout.table.items pins ∙ ap greatest_two (sides-same pins (recursion_from_All there pins inside))
 
-    -- with the hull the parts make what the pins take
-    parts : (hull : ℕ) → 2 ≤ length pins → hull ≡ hull_part design (extent_in design node) (is_complete node) (items_of node) pins → max (reach_gap (shared_ranges design layout.table.items pins)) (max (paired_sides layout.table.items pins).sum hull) ≡ pins_part design node pins
-    parts hull two h =
+    -- a part of two pins or more
+    counts : (x y : ℕ) → 2 ≤ length pins → x ≡ y → x ≡ (if nat_lt (length pins) 2 then 0 else y)
+    counts x y two e = e ∙ sym (cond-false (nat_lt (length pins) 2) 0 y (le-ltb (length pins) 2 two))
+
+    -- with the hull they are what the pins take by each part
+    parts : (w : WireParts) → 2 ≤ length pins → w.range ≡ reach_gap (shared_ranges design layout.table.items pins) → w.pair ≡ (paired_sides layout.table.items pins).sum → w.hull ≡ hull_part design (extent_in design node) (is_complete node) (items_of node) pins → w.full ≡ max w.range (max w.pair w.hull) → AreByPart (pins_by design node pins) w
+    parts w two range pair hull full =
         let ext = extent_in design node in
-        let sum : max (reach_gap (shared_ranges design layout.table.items pins)) (max (paired_sides layout.table.items pins).sum hull) ≡ max (range_part design ext pins) (max (pair_part ext pins) (hull_part design ext (is_complete node) (items_of node) pins)) =
-        ap (λ v. max v (max (paired_sides layout.table.items pins).sum hull)) range-part ∙ ap (λ v. max (range_part design ext pins) (max v hull)) pair-part ∙ ap (λ v. max (range_part design ext pins) (max (pair_part ext pins) v)) h in
-        sum ∙ sym (cond-false (nat_lt (length pins) 2) 0 (max (range_part design ext pins) (max (pair_part ext pins) (hull_part design ext (is_complete node) (items_of node) pins))) (le-ltb (length pins) 2 two))
+        record {
+          range = counts w.range (range_part design ext pins) two (range ∙ range-part);
+          pair = counts w.pair (pair_part ext pins) two (pair ∙ pair-part);
+          hull = counts w.hull (hull_part design ext (is_complete node) (items_of node) pins) two hull;
+          full = counts w.full (max (range_part design ext pins) (max (pair_part ext pins) (hull_part design ext (is_complete node) (items_of node) pins))) two (omega (arith, full, range ∙ range-part, pair ∙ pair-part, hull));
+        }
 
-    pub whole_is : is_complete node ≡ true → 2 ≤ length pins → max (reach_gap (shared_ranges design layout.table.items pins)) (max (paired_sides layout.table.items pins).sum (reach_gap (shared_homes design layout.table.items pins))) ≡ pins_part design node pins
-    whole_is complete two = parts (reach_gap (shared_homes design layout.table.items pins)) two (whole_hull design node layout sub m pins inside complete)
+    pub whole_are : (w : WireParts) → is_complete node ≡ true → 2 ≤ length pins → w.range ≡ reach_gap (shared_ranges design layout.table.items pins) → w.pair ≡ (paired_sides layout.table.items pins).sum → w.hull ≡ reach_gap (shared_homes design layout.table.items pins) → w.full ≡ max w.range (max w.pair w.hull) → AreByPart (pins_by design node pins) w
+    whole_are w complete two range pair hull = parts w two range pair (hull ∙ whole_hull design node layout sub m pins inside complete)
 
-    pub open_is : is_complete node ≡ false → 2 ≤ length pins → max (reach_gap (shared_ranges design layout.table.items pins)) (max (paired_sides layout.table.items pins).sum (greatest_gap design layout.table.items false (shared_in design layout.table.items false pins) pins)) ≡ pins_part design node pins
-    open_is incomplete two = parts (greatest_gap design layout.table.items false (shared_in design layout.table.items false pins) pins) two (open_hull design node layout sub m pins inside incomplete)
+    pub open_are : (w : WireParts) → is_complete node ≡ false → 2 ≤ length pins → w.range ≡ reach_gap (shared_ranges design layout.table.items pins) → w.pair ≡ (paired_sides layout.table.items pins).sum → w.hull ≡ greatest_gap design layout.table.items false (shared_in design layout.table.items false pins) pins → w.full ≡ max w.range (max w.pair w.hull) → AreByPart (pins_by design node pins) w
+    open_are w incomplete two range pair hull = parts w two range pair (hull ∙ open_hull design node layout sub m pins inside incomplete)
 
 -- the one item of a complete subproblem
 pub ready_whole : (design : Design) (node : Parts) (layout : Layout) → IsSubproblem design node → IsLayout design node layout → is_complete node ≡ true → IsReady design 1 layout.table.items

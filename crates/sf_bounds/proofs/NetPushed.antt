@@ -1,5 +1,5 @@
 -- The frame of one token more.
-use Rattle.std.proofs.Common.{◌≡◌, ℕ, suc, ◌+◌, ◌-◌, ◌*◌, ◌<◌, ◌≤◌, max, List, [], ◌∷◌, ◌++◌, length, take, map, get_or, refl, sym, ap, ◌∙◌, subst, arith, length-append, All}
+use Rattle.std.proofs.Common.{◌≡◌, ℕ, suc, ◌+◌, ◌-◌, ◌*◌, ◌<◌, ◌≤◌, max, List, [], ◌∷◌, ◌++◌, length, take, map, get_or, refl, sym, ap, ◌∙◌, subst, arith, length-append, All, false}
 use Rattle.std.specs.Prelude.{sum_by}
 use Rattle.std.specs.List.{range_with_len}
 use Rattle.std.proofs.lemmas.List.{get_or-append_right, get_or-take, length-take-le, length-map}
@@ -17,7 +17,7 @@ use Rattle.sf_node.specs.Children.{IsSubproblem}
 use Rattle.sf_standard.specs.declared.hull.Extent.{Extent}
 use Rattle.sf_standard.specs.Items as item
 use Rattle.sf_standard.specs.Items.{Item, read}
-use Rattle.sf_standard.specs.Hull.{item_extent, offsets, moved_right, moved_up}
+use Rattle.sf_standard.specs.Hull.{item_extent, offsets, moved_right, moved_up, hull_part}
 use Rattle.sf_standard.proofs.Unmoved.{lone-hull, sum_by-same}
 use Rattle.sf_frames.specs.Direction.{token_in, item_in}
 use Rattle.sf_frames.specs.declared.direction.Direction.{Direction}
@@ -30,7 +30,7 @@ use Rattle.sf_bounds.specs.declared.net_frame.NetFrame.{NetFrame}
 use Rattle.sf_bounds.specs.declared.net_frame.Wires.{Wires}
 use Rattle.sf_bounds.specs.Near.{IsNearby, anywhere, reach_gap}
 use Rattle.sf_bounds.specs.Layout.{joined_extent, IsModestExtent}
-use Rattle.sf_bounds.specs.Rows.{counted, weighed_nets, weights_of, pins_at, whole_extent, row, part, pushed_reach, joined_reach, cell_at, joined_cell, weighed_cell, IsFitCell, IsRow, AreWires, first_end, IsStart, IsNetFrame, AreStored, AreTop}
+use Rattle.sf_bounds.specs.Rows.{counted, weighed_nets, weights_of, pins_at, whole_extent, row, part, pushed_reach, joined_reach, cell_at, joined_cell, weighed_cell, weighed_hull, AreSums, IsFitCell, IsRow, AreWires, first_end, IsStart, IsNetFrame, AreStored, AreTop}
 use Rattle.sf_bounds.proofs.Laid.{few-numbers}
 use Rattle.sf_bounds.proofs.NetKept.{stored-appended, frame-pushed}
 use Rattle.sf_bounds.proofs.RowLaws.{row-hull, row-joined, pushed-near}
@@ -74,6 +74,13 @@ part-block design b items pins = omega (arith, lone-hull design (root design) b 
 pub part-more : (design : Design) (i : Item) (items : List Item) (pins : List Pin) → length (offsets (whole_extent design) i) ≤ 320 → part design (whole_extent design) (i ∷ items) pins ≡ max (part design (whole_extent design) items pins) (reach_gap (row (whole_extent design) i pins))
 part-more design i items pins few = omega (arith, row-hull (whole_extent design) (whole-small design) design i pins few)
 
+-- the same of the gaps alone
+pub hull-block : (design : Design) (b : ℕ) (items : List Item) (pins : List Pin) → hull_part design (whole_extent design) false (item.Block b ∷ items) pins ≡ hull_part design (whole_extent design) false items pins
+hull-block design b items pins = omega (arith, lone-hull design (root design) b pins)
+
+pub hull-more : (design : Design) (i : Item) (items : List Item) (pins : List Pin) → length (offsets (whole_extent design) i) ≤ 320 → hull_part design (whole_extent design) false (i ∷ items) pins ≡ max (hull_part design (whole_extent design) false items pins) (reach_gap (row (whole_extent design) i pins))
+hull-more design i items pins few = omega (arith, row-hull (whole_extent design) (whole-small design) design i pins few)
+
 -- sums of what is told cell by cell
 sums-agree : (f : ℕ → ℕ) (g : Net → ℕ) (nets : List Net) (a : ℕ) → ((j : ℕ) → j < length nets → f (a + j) ≡ g (get_or nets j (record { pins = []; weight = 0 }))) → sum_by f (range_with_len a (length nets)) ≡ sum_by g nets
 sums-agree f g [] a h = refl
@@ -85,12 +92,13 @@ sums-agree f g (n ∷ nets) a h =
     omega (arith, here, later, sum_by-cons f a (range_with_len (a + 1) (length nets)), sum_by-cons g n nets)
 
 -- the wires after a token that adds no gap
-wires-same : (design : Design) (cells : List Cell) (items others : List Item) (w : Wires) → ((pins : List Pin) → part design (whole_extent design) others pins ≡ part design (whole_extent design) items pins) → AreWires design cells items w → AreWires design cells others w
-wires-same design cells items others w same m = record {
+wires-same : (design : Design) (cells : List Cell) (items others : List Item) (w : Wires) → ((pins : List Pin) → part design (whole_extent design) others pins ≡ part design (whole_extent design) items pins) → ((pins : List Pin) → hull_part design (whole_extent design) false others pins ≡ hull_part design (whole_extent design) false items pins) → AreWires design cells items w → AreWires design cells others w
+wires-same design cells items others w same same_hull m = record {
   inside = m.inside;
   each = λ j lt. m.each j lt ∙ sym (same (pins_at design j));
+  hulls = λ j lt. m.hulls j lt ∙ sym (same_hull (pins_at design j));
   total = m.total ∙ sym (sum_by-same (λ net. net.weight * part design (whole_extent design) others (counted net.pins)) (λ net. net.weight * part design (whole_extent design) items (counted net.pins)) (λ net. ap (λ v. net.weight * v) (same (counted net.pins))) (weighed_nets design));
-  small = m.small;
+  hull_total = m.hull_total ∙ sym (sum_by-same (λ net. net.weight * hull_part design (whole_extent design) false others (counted net.pins)) (λ net. net.weight * hull_part design (whole_extent design) false items (counted net.pins)) (λ net. ap (λ v. net.weight * v) (same_hull (counted net.pins))) (weighed_nets design));
 }
 
 -- the row of a block is there
@@ -100,7 +108,7 @@ block-row design cells blocks start b d m lt =
     let n = length-take-le start.at cells (omega (arith, m.wires.inside)) in
     record {
       inside = omega (arith, r.inside, n, m.wires.inside);
-      each = λ j lj. ap (λ c. c.reach) (sym (get_or-take start.at cells ((get_or blocks b d).row + j) (record { reach = anywhere; part = 0 }) (omega (arith, lj, r.inside, n)))) ∙ r.each j lj;
+      each = λ j lj. ap (λ c. c.reach) (sym (get_or-take start.at cells ((get_or blocks b d).row + j) (record { reach = anywhere; part = 0; hull = 0 }) (omega (arith, lj, r.inside, n)))) ∙ r.each j lj;
     }
 
 abbrev pub block_frame : ℕ → ℕ → BlockRow → Wires → ℕ → NetFrame
@@ -120,7 +128,8 @@ block-pushed design node cells blocks start frames new b x d w below end sub m n
       extent = ap (λ v. v.extent) is_x ∙ m.start_is.rows.extents b d lt;
       row = row;
       wires = wires-same design cells (items_at node.tokens (length frames)) (items_at node.tokens (length frames + 1)) w
-          (λ pins. ap (λ v. part design (whole_extent design) v pins) (items-block node.tokens (length frames) b next) ∙ part-block design b (items_at node.tokens (length frames)) pins) wires;
+          (λ pins. ap (λ v. part design (whole_extent design) v pins) (items-block node.tokens (length frames) b next) ∙ part-block design b (items_at node.tokens (length frames)) pins)
+          (λ pins. ap (λ v. hull_part design (whole_extent design) false v pins) (items-block node.tokens (length frames) b next) ∙ hull-block design b (items_at node.tokens (length frames)) pins) wires;
       row_end = omega (arith, row.inside, is_end);
       wires_end = omega (arith, wires.inside, is_end);
       after = omega (arith, m.start_is.wires.inside, is_end);
@@ -246,14 +255,20 @@ module _ (design : Design) (node : Parts) (cells : List Cell) (blocks : List Blo
         ∙ ap (λ v. max (part design (whole_extent design) rest (pins_at design j)) (reach_gap v)) (reach-is j lt)
         ∙ sym (part-more design (item_in d L R) rest (pins_at design j) few)
 
+    hull-is : (j : ℕ) → j < length (weighed_nets design) → (cell j).hull ≡ hull_part design (whole_extent design) false (item_in d L R ∷ rest) (pins_at design j)
+    hull-is j lt =
+        ap (λ v. max v (reach_gap (cell j).reach)) (wires.hulls j lt)
+        ∙ ap (λ v. max (hull_part design (whole_extent design) false rest (pins_at design j)) (reach_gap v)) (reach-is j lt)
+        ∙ sym (hull-more design (item_in d L R) rest (pins_at design j) few)
+
     abbrev made : List Cell
     made = map cell (range_with_len 0 (length (weighed_nets design)))
 
     cell-is : (j : ℕ) → j < length (weighed_nets design) → cell_at (cells ++ made) (length cells + j) ≡ cell j
     cell-is j lt =
-        get_or-append_right cells made (length cells) (length cells + j) (record { reach = anywhere; part = 0 }) refl (omega arith)
+        get_or-append_right cells made (length cells) (length cells + j) (record { reach = anywhere; part = 0; hull = 0 }) refl (omega arith)
         ∙ (let e : length cells + j - length cells ≡ j = omega arith in ap (cell_at made) e)
-        ∙ get_or-map-range_with_len cell 0 (length (weighed_nets design)) j j (record { reach = anywhere; part = 0 }) lt (omega arith)
+        ∙ get_or-map-range_with_len cell 0 (length (weighed_nets design)) j j (record { reach = anywhere; part = 0; hull = 0 }) lt (omega arith)
 
     weighed-is : (j : ℕ) → j < length (weighed_nets design) → weighed_cell (weights_of design.nets) cell (0 + j) ≡ (get_or (weighed_nets design) j (record { pins = []; weight = 0 })).weight * part design (whole_extent design) (item_in d L R ∷ rest) (pins_at design j)
     weighed-is j lt =
@@ -262,9 +277,16 @@ module _ (design : Design) (node : Parts) (cells : List Cell) (blocks : List Blo
         ∙ ap (λ w. w * (cell j).part) (weight-at design.nets j (record { pins = []; weight = 0 }) lt)
         ∙ ap (λ v. (get_or (weighed_nets design) j (record { pins = []; weight = 0 })).weight * v) (part-is j lt)
 
+    weighed-hull-is : (j : ℕ) → j < length (weighed_nets design) → weighed_hull (weights_of design.nets) cell (0 + j) ≡ (get_or (weighed_nets design) j (record { pins = []; weight = 0 })).weight * hull_part design (whole_extent design) false (item_in d L R ∷ rest) (pins_at design j)
+    weighed-hull-is j lt =
+        let e : 0 + j ≡ j = omega arith in
+        ap (weighed_hull (weights_of design.nets) cell) e
+        ∙ ap (λ w. w * (cell j).hull) (weight-at design.nets j (record { pins = []; weight = 0 }) lt)
+        ∙ ap (λ v. (get_or (weighed_nets design) j (record { pins = []; weight = 0 })).weight * v) (hull-is j lt)
+
     -- the frame of the operator
-    pub joined-pushed : (all : List Cell) (new : List NetFrame) (f : NetFrame) → All IsFitCell all → all ≡ cells ++ made → f.token ≡ token_in d → f.extent ≡ joined_extent d l.extent r.extent → f.below ≡ l.below → f.row ≡ length cells → f.wires.at ≡ length cells → f.wires.sum ≡ sum_by (weighed_cell (weights_of design.nets) cell) (range_with_len 0 (length (weighed_nets design))) → f.wires.sum ≤ 714000000000 * length (weighed_nets design) → f.end ≡ length all → new ≡ frames ++ f ∷ [] → AreStored design node.tokens all blocks start new
-    joined-pushed all new f fit is_all is_token is_extent is_below is_row is_at is_sum small is_end is_new =
+    pub joined-pushed : (all : List Cell) (new : List NetFrame) (f : NetFrame) → All IsFitCell all → all ≡ cells ++ made → f.token ≡ token_in d → f.extent ≡ joined_extent d l.extent r.extent → f.below ≡ l.below → f.row ≡ length cells → f.wires.at ≡ length cells → AreSums (weights_of design.nets) cell (length (weighed_nets design)) f.wires → f.end ≡ length all → new ≡ frames ++ f ∷ [] → AreStored design node.tokens all blocks start new
+    joined-pushed all new f fit is_all is_token is_extent is_below is_row is_at sums is_end is_new =
         let count : length (cells ++ made) ≡ length cells + length (weighed_nets design) = omega (arith, length-append cells made, length-map-range_with_len cell 0 (length (weighed_nets design))) in
         let whole = cells ++ made in
         let old : AreStored design node.tokens whole blocks start frames = stored-appended design node.tokens cells made blocks start frames m (subst (All IsFitCell) is_all fit) in
@@ -280,8 +302,9 @@ module _ (design : Design) (node : Parts) (cells : List Cell) (blocks : List Blo
           wires = subst (λ v. AreWires design whole v f.wires) (sym now) record {
             inside = omega (arith, is_at, count);
             each = λ j lt. ap (λ c. c.part) (at_part j lt) ∙ part-is j lt;
-            total = is_sum ∙ sums-agree (weighed_cell (weights_of design.nets) cell) (λ net. net.weight * part design (whole_extent design) (item_in d L R ∷ rest) (counted net.pins)) (weighed_nets design) 0 weighed-is;
-            small = small;
+            hulls = λ j lt. ap (λ c. c.hull) (at_part j lt) ∙ hull-is j lt;
+            total = sums.part ∙ sums-agree (weighed_cell (weights_of design.nets) cell) (λ net. net.weight * part design (whole_extent design) (item_in d L R ∷ rest) (counted net.pins)) (weighed_nets design) 0 weighed-is;
+            hull_total = sums.hull ∙ sums-agree (weighed_hull (weights_of design.nets) cell) (λ net. net.weight * hull_part design (whole_extent design) false (item_in d L R ∷ rest) (counted net.pins)) (weighed_nets design) 0 weighed-hull-is;
           };
           row_end = omega (arith, is_row, count, end);
           wires_end = omega (arith, is_at, count, end);

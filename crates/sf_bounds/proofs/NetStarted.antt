@@ -1,11 +1,12 @@
 -- The rows of blocks, and what holds before any token.
 use Rattle.std.proofs.Common.{◌≡◌, ℕ, ◌+◌, ◌-◌, ◌*◌, ◌<◌, ◌≤◌, max, List, [], ◌∷◌, ◌++◌, length, take, map, get_or, refl, sym, ap, ◌∙◌, subst, inl, inr, arith, length-append, append-nil, All, Bool, true, false}
-use Rattle.std.specs.Prelude.{fold, pos, nat_lt, cond, if◌then◌else◌}
+use Rattle.std.specs.Prelude.{fold, pos, nat_lt, cond, if◌then◌else◌, sum_by}
 use Rattle.std.specs.List.{AllByRecursion}
 use Rattle.std.proofs.lemmas.Int.{ints, clamps}
 use Rattle.std.proofs.lemmas.Bool.{cases_lt, cond_both}
 use Rattle.std.proofs.lemmas.List.{get_or-append_right, get_or_append_left, get_or_push, get_or-map, length_push, length-map, take_all, take-append-le}
 use Rattle.std.proofs.lemmas.List.Elements.{All-append, All-from_recursion, recursion_from_All}
+use Rattle.std.proofs.lemmas.List.Sums.{sum_by-cons}
 use Rattle.sf_model.specs.declared.design.Design.{Design}
 use Rattle.sf_model.specs.declared.parts.Net.{Net}
 use Rattle.sf_model.specs.declared.parts.Pin.{Pin}
@@ -62,9 +63,9 @@ block-cells design cells b =
     record {
       inside = omega (arith, length-append cells made, n);
       each = λ j lt.
-          ap (λ c. c.reach) (get_or-append_right cells made (length cells) (length cells + j) (record { reach = anywhere; part = 0 }) refl (omega arith)
+          ap (λ c. c.reach) (get_or-append_right cells made (length cells) (length cells + j) (record { reach = anywhere; part = 0; hull = 0 }) refl (omega arith)
           ∙ (let e : length cells + j - length cells ≡ j = omega arith in ap (cell_at made) e)
-          ∙ get_or-map (block_cell b (whole_extent design b)) (weighed_nets design) j (record { pins = []; weight = 0 }) (record { reach = anywhere; part = 0 }) lt)
+          ∙ get_or-map (block_cell b (whole_extent design b)) (weighed_nets design) j (record { pins = []; weight = 0 }) (record { reach = anywhere; part = 0; hull = 0 }) lt)
           ∙ own-is design b (pins_at design j);
     }
 
@@ -73,7 +74,7 @@ block-fit design b = All-from_recursion IsFitCell (map (block_cell b (whole_exte
   where
     each : (nets : List Net) → AllByRecursion IsFitCell (map (block_cell b (whole_extent design b)) nets)
     each [] = tt
-    each (n ∷ nets) = (record { near = subst IsNearby (sym (own-is design b (counted n.pins))) (row-near (whole_extent design) (whole-small design) (item.Block b) (counted n.pins) (omega arith)); small = omega arith }, each nets)
+    each (n ∷ nets) = (record { near = subst IsNearby (sym (own-is design b (counted n.pins))) (row-near (whole_extent design) (whole-small design) (item.Block b) (counted n.pins) (omega arith)); small = omega arith; hull = omega arith }, each nets)
 
 -- one block more
 pub block-more : (design : Design) (b : ℕ) (cells all : List Cell) (blocks new : List BlockRow) (x : BlockRow) → AreBlockRows design b cells blocks → b < block_count design → x.extent ≡ whole_extent design b → x.row ≡ length cells → all ≡ cells ++ map (block_cell b x.extent) (weighed_nets design) → new ≡ blocks ++ x ∷ [] → AreBlockRows design (b + 1) all new
@@ -92,7 +93,7 @@ block-more design b cells all blocks new x m lt is_extent is_row is_all is_new =
       rows = λ i d li. elim (cases_lt i b) [
         | inl before ↦ (let r = m.rows i d before in
             subst (λ v. IsRow design whole (item.Block i) v.row) (sym (get_or_append_left blocks (x ∷ []) d i (omega (arith, before, m.count))))
-            (row-moves design cells whole (item.Block i) (get_or blocks i d).row (length cells) r r.inside (omega (arith, length-append cells made)) (λ k lk. get_or_append_left cells made (record { reach = anywhere; part = 0 }) k lk)))
+            (row-moves design cells whole (item.Block i) (get_or blocks i d).row (length cells) r r.inside (omega (arith, length-append cells made)) (λ k lk. get_or_append_left cells made (record { reach = anywhere; part = 0; hull = 0 }) k lk)))
         | inr here ↦ (let e : b ≡ i = omega (arith, li, here) in
             subst (λ v. IsRow design whole (item.Block i) v.row) (sym (get_or_push blocks x d i (omega (arith, m.count, e))))
             (subst (λ (v : ℕ). IsRow design whole (item.Block v) x.row) e (subst (IsRow design whole (item.Block b)) (sym is_row) (block-cells design cells b))))
@@ -125,18 +126,22 @@ start-part design net =
       | false ↦ refl
     ]
 
+no-sum : (nets : List Net) → 0 ≡ sum_by (λ n. n.weight * 0) nets
+no-sum [] = refl
+no-sum (n ∷ nets) = omega (arith, sum_by-cons (λ n. n.weight * 0) n nets, no-sum nets)
+
 -- all that holds before any token
-pub started : (design : Design) (cells all : List Cell) (blocks : List BlockRow) (at sum : ℕ) → AreBlockRows design (block_count design) cells blocks → All IsFitCell all → at ≡ length cells → all ≡ cells ++ map (start_cell design) (weighed_nets design) → sum ≡ wire_part design (root design) → sum ≤ 714000000000 * length (weighed_nets design)
-    → AreStored design [] all blocks (record { at = at; sum = sum }) []
-started design cells all blocks at sum m fit is_at is_all is_sum small =
+pub started : (design : Design) (cells all : List Cell) (blocks : List BlockRow) (at sum : ℕ) → AreBlockRows design (block_count design) cells blocks → All IsFitCell all → at ≡ length cells → all ≡ cells ++ map (start_cell design) (weighed_nets design) → sum ≡ wire_part design (root design)
+    → AreStored design [] all blocks (record { at = at; sum = sum; hull = 0 }) []
+started design cells all blocks at sum m fit is_at is_all is_sum =
     let made = map (start_cell design) (weighed_nets design) in
     let n = length-map (weighed_nets design) (start_cell design) in
     let count = ap length is_all ∙ length-append cells made in
     let cell : (j : ℕ) → j < length (weighed_nets design) → cell_at all (at + j) ≡ start_cell design (get_or (weighed_nets design) j (record { pins = []; weight = 0 })) = λ j lt.
     ap (λ v. cell_at v (at + j)) is_all
-    ∙ get_or-append_right cells made at (at + j) (record { reach = anywhere; part = 0 }) (sym is_at) (omega arith)
+    ∙ get_or-append_right cells made at (at + j) (record { reach = anywhere; part = 0; hull = 0 }) (sym is_at) (omega arith)
     ∙ (let e : at + j - at ≡ j = omega arith in ap (cell_at made) e)
-    ∙ get_or-map (start_cell design) (weighed_nets design) j (record { pins = []; weight = 0 }) (record { reach = anywhere; part = 0 }) lt in
+    ∙ get_or-map (start_cell design) (weighed_nets design) j (record { pins = []; weight = 0 }) (record { reach = anywhere; part = 0; hull = 0 }) lt in
     let firsts : take at all ≡ cells = ap (take at) is_all ∙ take-append-le at cells made (omega (arith, is_at)) ∙ take_all at cells (omega (arith, is_at)) in
     record {
       fit = fit;
@@ -146,9 +151,10 @@ started design cells all blocks at sum m fit is_at is_all is_sum small =
         wires = record {
           inside = omega (arith, is_at, count, n);
           each = λ j lt. ap (λ c. c.part) (cell j lt) ∙ start-part design (get_or (weighed_nets design) j (record { pins = []; weight = 0 }));
+          hulls = λ j lt. ap (λ c. c.hull) (cell j lt);
           total = is_sum ∙ sym (sum-of_weight (net_part design (root design)) design.nets)
               ∙ sum_by-same (weighed_part design (root design)) (λ net. net.weight * part design (whole_extent design) [] (counted net.pins)) (λ net. ap (λ v. net.weight * v) (start-part design net)) (weighed_nets design);
-          small = small;
+          hull_total = no-sum (weighed_nets design);
         };
       };
       frames_are = record { few = omega arith; are = refl; each = λ k d lt. absurd (omega (arith, lt)); ends = λ i j d lt lj. absurd (omega (arith, lj)) };
@@ -179,12 +185,12 @@ pub counted-net : (design : Design) (pins : List Pin) → IsNet design pins → 
 counted-net design pins net = cond_both (nat_lt (length pins) 2) [] pins (IsNet design) (λ _. λ i d lt. absurd (omega (arith, lt))) (λ _. net)
 
 -- the cell of a net before any token fits
-pub start-fits : (design : Design) (net : Net) (part : ℕ) (reach : Reach) → IsNet design net.pins → part ≤ 2800000000 → reach ≡ pads_share design (counted net.pins) → IsFitCell (record { reach = reach; part = part })
-start-fits design net part reach inside small is = record { near = subst IsNearby (sym is) (near-pads_share design (counted net.pins) (counted-net design net.pins inside)); small = small }
+pub start-fits : (design : Design) (net : Net) (part : ℕ) (reach : Reach) → IsNet design net.pins → part ≤ 2800000000 → reach ≡ pads_share design (counted net.pins) → IsFitCell (record { reach = reach; part = part; hull = 0 })
+start-fits design net part reach inside small is = record { near = subst IsNearby (sym is) (near-pads_share design (counted net.pins) (counted-net design net.pins inside)); small = small; hull = omega arith }
 
-pub start-cell : (design : Design) (net : Net) (part : ℕ) (reach : Reach) → reach ≡ pads_share design (counted net.pins) → part ≡ net_part design (root design) net → (let c : Cell = record { reach = reach; part = part } in c) ≡ start_cell design net
+pub start-cell : (design : Design) (net : Net) (part : ℕ) (reach : Reach) → reach ≡ pads_share design (counted net.pins) → part ≡ net_part design (root design) net → (let c : Cell = record { reach = reach; part = part; hull = 0 } in c) ≡ start_cell design net
 start-cell design net part reach is_reach is_part =
-    ap (λ v. (let c : Cell = record { reach = v; part = part } in c)) is_reach ∙ ap (λ n. (let c : Cell = record { reach = pads_share design (counted net.pins); part = n } in c)) is_part
+    ap (λ v. (let c : Cell = record { reach = v; part = part; hull = 0 } in c)) is_reach ∙ ap (λ n. (let c : Cell = record { reach = pads_share design (counted net.pins); part = n; hull = 0 } in c)) is_part
 
 -- what one net brings
 pub put-cell : (f : Net → Cell) (old new : List Cell) (net : Net) (c : Cell) → 0 < net.weight → c ≡ f net → new ≡ old ++ c ∷ [] → new ≡ old ++ map f (of_weight (net ∷ []))

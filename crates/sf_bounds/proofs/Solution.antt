@@ -1,6 +1,6 @@
 -- Where wires count, the value of each subproblem is that of an open one.
-use Rattle.std.proofs.Common.{◌≡◌, ℕ, ◌<◌, arith, refl, ap, sym, ◌∙◌, true, false}
-use Rattle.std.specs.Prelude.{not, ◌==◌, ◌||◌, Result, Ok, Err, IfOk}
+use Rattle.std.proofs.Common.{◌≡◌, ◌<◌, arith, refl, ap, sym, ◌∙◌, true, false}
+use Rattle.std.specs.Prelude.{not, ◌==◌, ◌||◌}
 use Rattle.std.specs.List.{list_all}
 use Rattle.std.proofs.lemmas.Bool.{and_parts, ne_eqb, cond-true, cond_both}
 use Rattle.sf_model.specs.declared.design.Design.{Design}
@@ -26,7 +26,3 @@ open_standard design node law sub wires =
     sym (cond-true (is_solved design node) (least_cost design node (items_of node)) (open_value design node) solved)
     ∙ law node sub complete (solved_single design node solved (wires complete)))
     (λ _. refl)
-
-pub if_ok_open : {E : Type 0} (design : Design) (node : Parts) (r : Result ℕ E) → SinglesAreOpen design → IsSubproblem design node → (is_complete node ≡ true → 0 < design.weights.wire) → IfOk r (λ v. v ≡ open_value design node) → IfOk r (λ v. v ≡ standard design node)
-if_ok_open design node (Ok v) law sub wires e = e ∙ sym (open_standard design node law sub wires)
-if_ok_open design node (Err x) law sub wires e = tt

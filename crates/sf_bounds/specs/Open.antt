@@ -1,10 +1,42 @@
--- What the wires of a subproblem that is not solved cost.
-use Rattle.std.specs.Prelude.{◌≡◌, ℕ, ◌*◌, ◌^◌, ◌<◌}
+-- What the area and the wires of a subproblem cost that is not solved.
+use Rattle.std.specs.Prelude.{◌≡◌, ℕ, ◌+◌, ◌*◌, ◌^◌, ◌<◌, ◌≤◌, Option, MatchOption}
 use Rattle.sf_model.specs.declared.design.Design.{Design}
+use Rattle.sf_model.specs.declared.TheConstants.{MAX}
+use Rattle.sf_node.specs.declared.part.Part.{Part}
+use Rattle.sf_node.specs.declared.part.Part.TheVariants.{Range, Pair, Hull, Full}
 use Rattle.sf_node.specs.Parts.{Parts}
-use Rattle.sf_standard.specs.Standard.{wire_part}
+use Rattle.sf_standard.specs.Standard.{wires_by, plans_of, bounded, AllHavePlans}
+use Rattle.sf_bounds.specs.declared.wire_parts.WireParts.{WireParts}
 
--- what the wires of the nets cost at least
-pub record IsWireCost (design : Design) (node : Parts) (v : ℕ) : Type 0 where
-  pub value : v ≡ design.weights.wire * wire_part design node
-  pub small : v < 2 ^ 63
+-- what the area costs at least where each item and each unused block has a plan and they have room: the value is that with what the wires cost
+pub record IsAreaCost (design : Design) (node : Parts) (v : ℕ) : Type 0 where
+  pub some : AllHavePlans design node
+  pub value : (wires : ℕ) → bounded design wires (plans_of design node) ≡ v + design.weights.wire * wires
+  pub small : v < 2 ^ 57
+
+-- or none where the value is the mark of no cost, whatever the wires are
+abbrev pub IsAreaCostOrNone : Design → Parts → Option ℕ → Type 0
+IsAreaCostOrNone design node found = MatchOption found ((wires : ℕ) → bounded design wires (plans_of design node) ≡ MAX) (IsAreaCost design node)
+
+-- the numbers that belong to the parts with wires
+pub record AreByPart (f : Part → ℕ) (w : WireParts) : Type 0 where
+  pub range : w.range ≡ f Range
+  pub pair : w.pair ≡ f Pair
+  pub hull : w.hull ≡ f Hull
+  pub full : w.full ≡ f Full
+
+-- what the wires take at least by each part of the bound
+abbrev pub AreWireParts : Design → Parts → WireParts → Type 0
+AreWireParts design node w = AreByPart (wires_by design node) w
+
+-- none of them is greater
+pub record AreAtMost (most : ℕ) (w : WireParts) : Type 0 where
+  pub range : w.range ≤ most
+  pub pair : w.pair ≤ most
+  pub hull : w.hull ≤ most
+  pub full : w.full ≤ most
+
+-- what they cost
+pub record AreWireCosts (design : Design) (node : Parts) (w : WireParts) : Type 0 where
+  pub values : AreByPart (λ part. design.weights.wire * wires_by design node part) w
+  pub small : AreAtMost (2 ^ 63) w

@@ -1,16 +1,18 @@
 -- What is kept of the nets that count along a path of tokens whose spans are whole.
-use Rattle.std.specs.Prelude.{◌≡◌, ℕ, ◌+◌, ◌*◌, ◌-◌, ◌<◌, ◌≤◌, max, List, [], ◌∷◌, ◌++◌, length, map, take, filter, fold, sum_by, All, AllPairs, false, nat_lt, if◌then◌else◌, pos, ◌+ℤ◌, int_lt, Option, IfSome, slice_index_or}
+use Rattle.std.specs.Prelude.{◌≡◌, ℕ, ◌+◌, ◌*◌, ◌-◌, ◌<◌, ◌≤◌, max, List, [], ◌∷◌, ◌++◌, length, map, take, filter, fold, sum_by, All, AllPairs, false, nat_lt, if◌then◌else◌, pos, ◌+ℤ◌, int_lt, Option, Some, IfSome, slice_index_or}
+use Rattle.std.specs.List.{range_with_len}
 use Rattle.sf_model.specs.declared.design.Design.{Design}
 use Rattle.sf_model.specs.declared.parts.Net.{Net}
 use Rattle.sf_model.specs.declared.parts.Pin.{Pin}
 use Rattle.sf_model.specs.declared.parts.Pin.TheVariants as pin
 use Rattle.sf_model.specs.Legal.{block_count}
 use Rattle.sf_polish.specs.declared.expr.Token.{Token}
+use Rattle.sf_node.specs.declared.part.Part.TheVariants.{Range, Pair}
 use Rattle.sf_node.specs.Subproblem.{root}
 use Rattle.sf_standard.specs.declared.hull.Extent.{Extent}
 use Rattle.sf_standard.specs.declared.hull.Interval.{Interval}
 use Rattle.sf_standard.specs.Items.{Item, Block}
-use Rattle.sf_standard.specs.Standard.{net_part}
+use Rattle.sf_standard.specs.Standard.{net_part, wires_by}
 use Rattle.sf_standard.specs.Hull.{item_extent, offsets, offset_x, offset_y, of_pins, contains_pin, range_part, pair_part, hull_part}
 use Rattle.sf_frames.specs.declared.direction.Direction.{Direction}
 use Rattle.sf_frames.specs.declared.direction.Direction.TheVariants as way
@@ -82,30 +84,50 @@ pushed_reach way.Above e r = record r { upward = pushed e.least_h e.most_h r.upw
 abbrev pub joined_reach : Direction → Extent → Reach → Reach → Reach
 joined_reach d e p q = met p (pushed_reach d e q)
 
-abbrev pub cell_at : List Cell → ℕ → Cell
-cell_at cells i = slice_index_or cells i (record { reach = anywhere; part = 0 })
+-- the cell of a net after two items are joined, from those of both and the one that tells its part in the items under them
+abbrev pub cell_of : Direction → Extent → Cell → Cell → Cell → Cell
+cell_of d e left right under =
+    let reach = joined_reach d e left.reach right.reach in
+    record { reach = reach; part = max under.part (reach_gap reach); hull = max under.hull (reach_gap reach) }
 
--- the cell of a net after two items are joined
+abbrev pub cell_at : List Cell → ℕ → Cell
+cell_at cells i = slice_index_or cells i (record { reach = anywhere; part = 0; hull = 0 })
+
+-- that of the j-th net, where its cells stand in three rows
 abbrev pub joined_cell : List Cell → Direction → Extent → ℕ → ℕ → ℕ → ℕ → Cell
-joined_cell cells d e left right under j =
-    let reach = joined_reach d e (cell_at cells (left + j)).reach (cell_at cells (right + j)).reach in
-    record { reach = reach; part = max (cell_at cells (under + j)).part (reach_gap reach) }
+joined_cell cells d e left right under j = cell_of d e (cell_at cells (left + j)) (cell_at cells (right + j)) (cell_at cells (under + j))
 
 abbrev pub block_cell : ℕ → Extent → Net → Cell
-block_cell b e net = record { reach = own_reach (counted net.pins) b e; part = 0 }
+block_cell b e net = record { reach = own_reach (counted net.pins) b e; part = 0; hull = 0 }
 
 -- the cell of a net before any token
 abbrev pub start_cell : Design → Net → Cell
-start_cell design net = record { reach = pads_share design (counted net.pins); part = net_part design (root design) net }
+start_cell design net = record { reach = pads_share design (counted net.pins); part = net_part design (root design) net; hull = 0 }
 
 -- the part of the cell of a net, as often as the net's weight says
 abbrev pub weighed_cell : List ℕ → (ℕ → Cell) → ℕ → ℕ
 weighed_cell weights cell j = slice_index_or weights j 0 * (cell j).part
 
+-- the same of its gaps alone
+abbrev pub weighed_hull : List ℕ → (ℕ → Cell) → ℕ → ℕ
+weighed_hull weights cell j = slice_index_or weights j 0 * (cell j).hull
+
+-- sums of so many nets
+pub record AreSmall (n : ℕ) (w : Wires) : Type 0 where
+  pub part : w.sum ≤ 714000000000 * n
+  pub hull : w.hull ≤ 714000000000 * n
+
+-- the sums over the cells of the first n nets
+pub record AreSums (weights : List ℕ) (cell : ℕ → Cell) (n : ℕ) (w : Wires) : Type 0 where
+  pub part : w.sum ≡ sum_by (weighed_cell weights cell) (range_with_len 0 n)
+  pub hull : w.hull ≡ sum_by (weighed_hull weights cell) (range_with_len 0 n)
+  pub small : AreSmall n w
+
 -- numbers that fit
 pub record IsFitCell (c : Cell) : Type 0 where
   pub near : IsNearby c.reach
   pub small : c.part ≤ 2800000000
+  pub hull : c.hull ≤ 2800000000
 
 -- the list goes on from another
 abbrev pub IsLonger : List Cell → List Cell → Type 0
@@ -116,12 +138,13 @@ pub record IsRow (design : Design) (cells : List Cell) (item : Item) (at : ℕ) 
   pub inside : at + length (weighed_nets design) ≤ length cells
   pub each : (j : ℕ) → j < length (weighed_nets design) → (cell_at cells (at + j)).reach ≡ row (whole_extent design) item (pins_at design j)
 
--- the cells from a place on tell the part of each net that counts, and these make the sum
+-- the cells from a place on tell the part of each net that counts, and its gaps alone, and these make the sums
 pub record AreWires (design : Design) (cells : List Cell) (items : List Item) (w : Wires) : Type 0 where
   pub inside : w.at + length (weighed_nets design) ≤ length cells
   pub each : (j : ℕ) → j < length (weighed_nets design) → (cell_at cells (w.at + j)).part ≡ part design (whole_extent design) items (pins_at design j)
+  pub hulls : (j : ℕ) → j < length (weighed_nets design) → (cell_at cells (w.at + j)).hull ≡ hull_part design (whole_extent design) false items (pins_at design j)
   pub total : w.sum ≡ sum_by (λ net. net.weight * part design (whole_extent design) items (counted net.pins)) (weighed_nets design)
-  pub small : w.sum ≤ 714000000000 * length (weighed_nets design)
+  pub hull_total : w.hull ≡ sum_by (λ net. net.weight * hull_part design (whole_extent design) false items (counted net.pins)) (weighed_nets design)
 
 -- the rows of the first n blocks
 pub record AreBlockRows (design : Design) (n : ℕ) (cells : List Cell) (blocks : List BlockRow) : Type 0 where
@@ -169,9 +192,11 @@ pub record AreStored (design : Design) (tokens : List Token) (cells : List Cell)
   pub start_is : IsStart design cells blocks start
   pub frames_are : AreNetFrames design tokens cells (first_end design start) frames
 
--- with the weights of the nets that count
+-- with the weights of the nets that count, and the sums of the ranges and of the pairs, which no token changes
 pub record AreKept (design : Design) (tokens : List Token) (nets : Nets) : Type 0 where
   pub weights : nets.weights.items ≡ weights_of design.nets
+  pub ranges : nets.ranges ≡ wires_by design (root design) Range
+  pub pairs : nets.pairs ≡ wires_by design (root design) Pair
   pub stored : AreStored design tokens nets.cells.items nets.blocks.items nets.start nets.frames.items
 
 abbrev pub tokens_of : Nets → List Token
@@ -179,6 +204,13 @@ tokens_of nets = map token_of nets.frames.items
 
 abbrev pub AreKeptOrNone : Design → Option Nets → Type 0
 AreKeptOrNone design kept = IfSome kept (λ nets. AreKept design (tokens_of nets) nets)
+
+-- what is kept is of all these tokens
+pub record AreAll (design : Design) (tokens : List Token) (kept : Option Nets) : Type 0 where
+  pub nets : Nets
+  pub some : kept ≡ Some nets
+  pub are : AreKept design tokens nets
+  pub all : length nets.frames.items ≡ length tokens
 
 -- the frames of the two items on top
 pub record AreTop (design : Design) (tokens : List Token) (cells : List Cell) (start : Wires) (frames : List NetFrame) (l r : NetFrame) : Type 0 where

@@ -1,20 +1,26 @@
-ghost use Rattle.std.specs.Prelude.{◌≡◌, ℕ, Some, IfOk};
+ghost use Rattle.std.specs.Prelude.{◌≡◌, ℕ, Some, IfOk, IfSome};
 ghost use Rattle.sf_model.specs.declared.design.Design.{Design as DesignValue};
+ghost use Rattle.sf_node.specs.declared.part.Part.{Part as PartName};
 ghost use Rattle.sf_node.specs.Parts.{Parts};
+ghost use Rattle.sf_node.specs.ByPart.{ArePartsOf, AreValues};
 ghost use Rattle.sf_node.specs.Bounds.{IsSound, IsExactAtEnd};
 ghost use Rattle.sf_node.specs.Children.{IsSubproblem};
 ghost use Rattle.sf_node.specs.Later.{IsChildOf};
 ghost use Rattle.sf_bounds.specs.Serving.{MayServe};
 
-use crate::children::value_from;
+use crate::children::{Valued, value_from};
+use crate::parts::{open_values, part_value};
 use crate::room::Room;
 use crate::value::standard_value;
 use sf_model::Design;
-use sf_node::{Node, Values};
+use sf_node::{Node, Part, PartValues, Values};
 use std::alloc::AllocError as NoMemory;
 
 /// A function from subproblems to numbers that no fitting plan of the subproblem undercuts.
 pub trait Bounds: Values + Sync {
+    /// The value of each part of the bound at a subproblem of a design.
+    ghost part_value: { Self → DesignValue → Parts → PartName → ℕ };
+
     /// The value of a subproblem.
     fn bound<'a>(
         &self,
@@ -44,11 +50,65 @@ pub trait Bounds: Values + Sync {
         self.bound(design, child, room)
     }
 
+    /// The same, with the values of the parts of the bound where they were measured together with it.
+    fn child_valued<'a>(
+        &self,
+        design: &'a Design,
+        child: &Node,
+        value: u64,
+        room: &mut Room<'a>,
+    ) -> Result<Valued, NoMemory>
+        requires child { IsChildOf design.now (Self.Values.value self.now design.now) value child.now }
+        requires serves { MayServe room.old design.now }
+        ensures value { IfOk result (λ v. v.value ≡ Self.Values.value self.now design.now child.now) }
+        ensures parts { IfOk result (λ v. IfSome v.parts (AreValues (Self.part_value self.now design.now child.now))) }
+        ensures serves { room.new ≡ Some design.now }
+    {
+        let value = self.child_bound(design, child, value, room)?;
+        Ok(Valued { value, parts: None })
+    }
+
+    /// The value of one part of the bound at a subproblem.
+    fn part<'a>(
+        &self,
+        design: &'a Design,
+        node: &Node,
+        part: Part,
+        room: &mut Room<'a>,
+    ) -> Result<u64, NoMemory>
+        requires subproblem { IsSubproblem design.now node.now }
+        requires serves { MayServe room.old design.now }
+        ensures value { IfOk result (λ v. v ≡ Self.part_value self.now design.now node.now part) }
+        ensures serves { room.new ≡ Some design.now };
+
+    /// The values of the parts below the full one.
+    fn parts<'a>(
+        &self,
+        design: &'a Design,
+        node: &Node,
+        room: &mut Room<'a>,
+    ) -> Result<PartValues, NoMemory>
+        requires subproblem { IsSubproblem design.now node.now }
+        requires serves { MayServe room.old design.now }
+        ensures values { IfOk result (AreValues (Self.part_value self.now design.now node.now)) }
+        ensures serves { room.new ≡ Some design.now }
+    {
+        Ok(PartValues {
+            area: self.part(design, node, Part::Area, room)?,
+            range: self.part(design, node, Part::Range, room)?,
+            pair: self.part(design, node, Part::Pair, room)?,
+            hull: self.part(design, node, Part::Hull, room)?,
+        })
+    }
+
     /// No plan that belongs to a subproblem and fits costs less than the value.
     ghost sound: { (bounds : Self) (design : DesignValue) → IsSound design (Self.Values.value bounds design) };
 
     /// At a solved subproblem the value is the least cost, or MAX.
     ghost exact: { (bounds : Self) (design : DesignValue) → IsExactAtEnd design (Self.Values.value bounds design) };
+
+    /// No part of the bound is above the value, and the full one is the value.
+    ghost parts_below: { (bounds : Self) (design : DesignValue) → ArePartsOf design (Self.Values.value bounds design) (Self.part_value bounds design) };
 }
 
 /// The standard bound.
@@ -63,10 +123,16 @@ impl Values for Standard {
 impl Bounds for Standard {
     ghost use Rattle.sf_standard.proofs.Soundness.{standard_is_sound};
     ghost use Rattle.sf_standard.proofs.Exact.{standard_is_exact};
+    ghost use Rattle.sf_standard.specs.Standard.{part_value};
+    ghost use Rattle.sf_standard.proofs.ByPart.{parts_are_below};
 
     ghost sound = { λ bounds design. standard_is_sound design };
 
     ghost exact = { λ bounds design. standard_is_exact design };
+
+    ghost part_value = { λ bounds design node part. part_value design node part };
+
+    ghost parts_below = { λ bounds design. parts_are_below design };
 
     fn bound<'a>(
         &self,
@@ -94,6 +160,16 @@ impl Bounds for Standard {
         value: u64,
         room: &mut Room<'a>,
     ) -> Result<u64, NoMemory> {
+        Ok(self.child_valued(design, child, value, room)?.value)
+    }
+
+    fn child_valued<'a>(
+        &self,
+        design: &'a Design,
+        child: &Node,
+        value: u64,
+        room: &mut Room<'a>,
+    ) -> Result<Valued, NoMemory> {
         room.serve(design);
         let Some(kept) = &mut room.kept else {
             unreachable!()
@@ -106,5 +182,46 @@ impl Bounds for Standard {
             child,
             value,
         )
+    }
+
+    fn part<'a>(
+        &self,
+        design: &'a Design,
+        node: &Node,
+        part: Part,
+        room: &mut Room<'a>,
+    ) -> Result<u64, NoMemory> {
+        room.serve(design);
+        let Some(kept) = &mut room.kept else {
+            unreachable!()
+        };
+        part_value(
+            &mut kept.frames,
+            &mut kept.nets,
+            &mut room.scratch,
+            design,
+            node,
+            part,
+        )
+    }
+
+    fn parts<'a>(
+        &self,
+        design: &'a Design,
+        node: &Node,
+        room: &mut Room<'a>,
+    ) -> Result<PartValues, NoMemory> {
+        room.serve(design);
+        let Some(kept) = &mut room.kept else {
+            unreachable!()
+        };
+        let values = open_values(
+            &mut kept.frames,
+            &mut kept.nets,
+            &mut room.scratch,
+            design,
+            node,
+        )?;
+        Ok(values.parts)
     }
 }

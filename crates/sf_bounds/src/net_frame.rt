@@ -2,12 +2,13 @@ use crate::reach::Reach;
 use sf_polish::Token;
 use sf_standard::Extent;
 
-/// What is kept of one net that counts: what its blocks in an item share, and the greatest of its range, its
-/// pair and its gaps in the items so far.
+/// What is kept of one net that counts: what its blocks in an item share, the greatest of its range, its pair and
+/// its gaps in the items so far, and the greatest of the gaps alone.
 #[derive(Clone, Copy, Debug, PartialEq, Eq)]
 pub struct Cell {
     pub reach: Reach,
-    pub part: u64,
+    pub part: u32,
+    pub hull: u32,
 }
 
 /// A block as an item by itself: its sides, and where its row begins, a cell for each net that counts.
@@ -17,12 +18,13 @@ pub struct BlockRow {
     pub row: usize,
 }
 
-/// What the wires of the nets take at least: where the parts of the nets begin, and their sum, each as often as
-/// its net's weight says.
+/// What the wires of the nets take at least: where the parts of the nets begin, their sum, each as often as its
+/// net's weight says, and the same sum of the gaps alone.
 #[derive(Clone, Copy, Debug, PartialEq, Eq)]
 pub struct Wires {
     pub at: usize,
     pub sum: u64,
+    pub hull: u64,
 }
 
 /// What one token makes: the sides of its item, where the item's row begins, how many tokens made the items under it, the
@@ -38,7 +40,8 @@ pub struct NetFrame {
 }
 
 /// What is kept of a path: in one list the cells of all rows, the row of each block, the wires before any token
-/// with what the pads share, the frames, and the weights of the nets that count, of which a row has a cell each.
+/// with what the pads share, the frames, and the weights of the nets that count, of which a row has a cell each. The
+/// sums of the ranges and of the pairs are the same along all paths.
 #[derive(Drop)]
 pub struct Nets {
     pub cells: Vec<Cell>,
@@ -46,4 +49,6 @@ pub struct Nets {
     pub start: Wires,
     pub frames: Vec<NetFrame>,
     pub weights: Vec<u8>,
+    pub ranges: u64,
+    pub pairs: u64,
 }

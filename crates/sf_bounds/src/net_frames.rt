@@ -1,15 +1,16 @@
 ghost use Rattle.std.specs.Prelude.{◌≡◌, length, is_some, true, IfOk, IfSome, OnOk};
 ghost use Rattle.sf_node.specs.Children.{IsSubproblem};
-ghost use Rattle.sf_standard.specs.Standard.{wire_part};
-ghost use Rattle.sf_bounds.specs.Rows.{AreKeptOrNone};
+ghost use Rattle.sf_bounds.specs.Open.{AreWireParts};
+ghost use Rattle.sf_bounds.specs.Rows.{AreKeptOrNone, AreAll};
 
 use crate::layout::Layout;
 use crate::net_back::back_to;
 use crate::net_frame::Nets;
 use crate::net_push::extend;
 use crate::net_start::start;
-use crate::net_total::total;
+use crate::net_total::total_parts;
 use crate::reach::Reach;
+use crate::wire_parts::WireParts;
 use sf_model::Design;
 use sf_node::Node;
 use std::alloc::{AllocError as NoMemory, Global};
@@ -57,6 +58,31 @@ fn fill(
     Ok(())
 }
 
+// Makes the frames of all tokens. The answer is no where the rows of a path may need too many cells: a row for each
+// block, one for each operator, and one before any token.
+fn follow(
+    kept: &mut Option<Nets>,
+    alloc: Global,
+    layout: &mut Layout,
+    reaches: &mut Vec<Reach>,
+    design: &Design,
+    node: &Node,
+) -> Result<bool, NoMemory>
+    requires subproblem { IsSubproblem design.now node.now }
+    requires kept { AreKeptOrNone design.now kept.old }
+    ensures kept { AreKeptOrNone design.now kept.new }
+    ensures all { IfOk result (λ fits. fits ≡ true → AreAll design.now node.now.tokens kept.new) }
+{
+    if design.nets.as_slice().len() * (2 * design.blocks.as_slice().len()) > MOST_CELLS {
+        return Ok(false);
+    }
+    fill(kept, alloc, layout, reaches, design)?;
+    let Some(nets) = kept else { unreachable!() };
+    back_to(nets, design, node.tokens());
+    extend(nets, design, node)?;
+    Ok(true)
+}
+
 impl<'a> NetFrames<'a> {
     /// No frame yet.
     pub fn new(alloc: Global, design: &'a Design) -> NetFrames<'a>
@@ -69,29 +95,26 @@ impl<'a> NetFrames<'a> {
         }
     }
 
-    /// What the wires of a subproblem take at least, whose spans are whole. Or none, where the rows of a path may need too
-    /// many cells: a row for each block, one for each operator, and one before any token.
+    /// What the wires of a subproblem take at least by each part of the bound, whose spans are whole. Or none, where the rows
+    /// of a path may need too many cells.
     pub fn measure(
         &mut self,
         layout: &mut Layout,
         reaches: &mut Vec<Reach>,
         node: &Node,
-    ) -> Result<Option<u64>, NoMemory>
+    ) -> Result<Option<WireParts>, NoMemory>
         requires subproblem { IsSubproblem self.old node.now }
         requires whole { length node.now.steps ≡ length node.now.tokens }
-        ensures measured { IfOk result (λ wires. IfSome wires (λ sum. sum ≡ wire_part self.old node.now)) }
+        ensures measured { IfOk result (λ found. IfSome found (AreWireParts self.old node.now)) }
         ensures same { self.new ≡ self.old }
     {
         let design = self.design;
-        if design.nets.as_slice().len() * (2 * design.blocks.as_slice().len()) > MOST_CELLS {
+        if !follow(&mut self.kept, self.alloc, layout, reaches, design, node)? {
             return Ok(None);
         }
-        fill(&mut self.kept, self.alloc, layout, reaches, design)?;
-        let Some(nets) = &mut self.kept else {
+        let Some(nets) = &self.kept else {
             unreachable!()
         };
-        back_to(nets, design, node.tokens());
-        extend(nets, design, node)?;
-        Ok(Some(total(nets, design, node)))
+        Ok(Some(total_parts(nets, design, node)))
     }
 }

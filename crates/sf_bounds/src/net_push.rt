@@ -62,6 +62,7 @@ fn push_block(nets: &mut Nets, design: &Design, node: &Node, block: u16) -> Resu
 }
 
 // The frame of an operator, made from the two on top.
+#[inline(always)]
 fn push_joined(
     nets: &mut Nets,
     design: &Design,
@@ -76,8 +77,7 @@ fn push_joined(
 {
     let (left, right) = top_pair(nets, design, node, direction);
     let under = wires_after(nets, design, node, left.below);
-    let at = nets.cells.len();
-    let sum = join_rows(
+    let wires = join_rows(
         &mut nets.cells,
         left.row,
         right.row,
@@ -91,13 +91,15 @@ fn push_joined(
         token: operator(direction),
         extent: joined_extent(direction, left.extent, right.extent),
         below: left.below,
-        row: at,
-        wires: Wires { at, sum },
+        row: wires.at,
+        wires,
         end,
     })?;
     Ok(())
 }
 
+// The frame of a token. It stands apart, so that the loops over the nets have the registers to themselves.
+#[inline(never)]
 fn push(nets: &mut Nets, design: &Design, node: &Node, token: Token) -> Result<(), NoMemory>
     requires subproblem { IsSubproblem design.now node.now }
     requires kept { AreKept design.now node.now.tokens nets.old }

@@ -1,10 +1,10 @@
-ghost use Rattle.std.specs.Prelude.{◌≡◌, ◌<◌, ◌≤◌, ◌+◌, ◌*◌, ◌++◌, ℕ, length, map, sum_by, All, IfOk};
+ghost use Rattle.std.specs.Prelude.{◌≡◌, ◌<◌, ◌≤◌, ◌+◌, ◌*◌, ◌++◌, ℕ, length, map, All, IfOk};
 ghost use Rattle.std.specs.List.{range_with_len};
 ghost use Rattle.sf_bounds.specs.Near.{IsNearby};
-ghost use Rattle.sf_bounds.specs.Rows.{pushed, pushed_reach, joined_reach, joined_cell, cell_at, weighed_cell, IsFitCell, IsLonger};
+ghost use Rattle.sf_bounds.specs.Rows.{pushed, pushed_reach, cell_of, joined_cell, cell_at, AreSums, AreSmall, IsFitCell, IsLonger};
 
 use crate::meet::{met, reach_gap};
-use crate::net_frame::Cell;
+use crate::net_frame::{Cell, Wires};
 use crate::reach::Reach;
 use crate::wires::weighed;
 use sf_frames::direction::Direction;
@@ -41,8 +41,45 @@ fn pushed_reach(direction: Direction, by: Extent, reach: Reach) -> Reach
     }
 }
 
-/// Puts the row of two joined items at the end, with the part of each net. The answer is the sum of the parts,
-/// each as often as its net's weight says.
+// The cell of a net after two items are joined, where another tells its part in the items under them.
+fn joined_cell(direction: Direction, by: Extent, left: Cell, right: Cell, under: Cell) -> Cell
+    requires left { IsFitCell left }
+    requires right { IsFitCell right }
+    requires under { IsFitCell under }
+    requires moved { IsNearby (pushed_reach direction by right.reach) }
+    ensures is { result ≡ cell_of direction by left right under }
+    ensures fit { IsFitCell result }
+{
+    let moved = pushed_reach(direction, by, right.reach);
+    let reach = met(left.reach, moved);
+    let gap = reach_gap(reach) as u32;
+    Cell {
+        reach,
+        part: under.part.max(gap),
+        hull: under.hull.max(gap),
+    }
+}
+
+// The sums with one cell more.
+fn with_cell(wires: Wires, weight: u8, cell: Cell) -> Wires
+    requires cell { IsFitCell cell }
+    requires sums { AreSmall 65536 wires }
+    ensures at { result.at ≡ wires.at }
+    ensures sum { result.sum ≡ wires.sum + weight * cell.part }
+    ensures hull { result.hull ≡ wires.hull + weight * cell.hull }
+    ensures small { result.sum ≤ wires.sum + 714000000000 }
+    ensures hull_small { result.hull ≤ wires.hull + 714000000000 }
+{
+    Wires {
+        at: wires.at,
+        sum: wires.sum + weighed(weight, u64::from(cell.part)),
+        hull: wires.hull + weighed(weight, u64::from(cell.hull)),
+    }
+}
+
+/// Puts the row of two joined items at the end, with the part of each net. The answer is where it begins, and the sums
+/// of its parts. Inlined up to `push`, where the direction is known, so each direction has a loop of its own.
+#[inline(always)]
 pub fn join_rows(
     cells: &mut Vec<Cell>,
     left: usize,
@@ -51,7 +88,7 @@ pub fn join_rows(
     weights: &[u8],
     direction: Direction,
     by: Extent,
-) -> Result<u64, NoMemory>
+) -> Result<Wires, NoMemory>
     requires left { left + length weights.now ≤ length cells.old.items }
     requires right { right + length weights.now ≤ length cells.old.items }
     requires under { under + length weights.now ≤ length cells.old.items }
@@ -59,18 +96,24 @@ pub fn join_rows(
     requires fit { All IsFitCell cells.old.items }
     requires near { (j : ℕ) → j < length weights.now → IsNearby (pushed_reach direction by (cell_at cells.old.items (right + j)).reach) }
     ensures row { IfOk result (λ _. cells.new.items ≡ cells.old.items ++ map (joined_cell cells.old.items direction by left right under) (range_with_len 0 (length weights.now))) }
-    ensures sum { IfOk result (λ sum. sum ≡ sum_by (weighed_cell weights.now (joined_cell cells.old.items direction by left right under)) (range_with_len 0 (length weights.now))) }
-    ensures small { IfOk result (λ sum. sum ≤ 714000000000 * length weights.now) }
+    ensures at { IfOk result (λ wires. wires.at ≡ length cells.old.items) }
+    ensures sums { IfOk result (AreSums weights.now (joined_cell cells.old.items direction by left right under) (length weights.now)) }
     ensures fit { All IsFitCell cells.new.items }
     ensures longer { IsLonger cells.old.items cells.new.items }
 {
-    let mut sum = 0;
+    cells.reserve(weights.len())?;
+    let mut wires = Wires {
+        at: cells.len(),
+        sum: 0,
+        hull: 0,
+    };
     for net in 0..weights.len() {
-        let moved = pushed_reach(direction, by, cells[right + net].reach);
-        let reach = met(cells[left + net].reach, moved);
-        let part = cells[under + net].part.max(reach_gap(reach));
-        cells.push(Cell { reach, part })?;
-        sum += weighed(weights[net], part);
+        let of_left = cells[left + net];
+        let of_right = cells[right + net];
+        let below = cells[under + net];
+        let cell = joined_cell(direction, by, of_left, of_right, below);
+        cells.push_reserved(cell);
+        wires = with_cell(wires, weights[net], cell);
     }
-    Ok(sum)
+    Ok(wires)
 }

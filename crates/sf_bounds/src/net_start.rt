@@ -14,6 +14,7 @@ use crate::net_frame::{BlockRow, Cell, Nets, Wires};
 use crate::pins::pad_reach;
 use crate::reach::{ANYWHERE, Reach};
 use crate::wires::{fill_layout, fill_reaches, net_part, weighed};
+use crate::wires_by::wires_by;
 use sf_model::{Design, Net, Pin};
 use sf_node::Node;
 use sf_standard::{Extent, Interval};
@@ -79,7 +80,11 @@ fn push_own(cells: &mut Vec<Cell>, net: &Net, block: u16, extent: Extent) -> Res
 {
     if net.weight > 0 {
         let reach = own_reach(counted(net), block, extent);
-        cells.push(Cell { reach, part: 0 })?;
+        cells.push(Cell {
+            reach,
+            part: 0,
+            hull: 0,
+        })?;
     }
     Ok(())
 }
@@ -167,7 +172,11 @@ fn push_net(
     }
     let part = net_part(reaches, design, node, layout, net);
     let reach = pads_share(design, counted(net));
-    cells.push(Cell { reach, part })?;
+    cells.push(Cell {
+        reach,
+        part: part as u32,
+        hull: 0,
+    })?;
     Ok(weighed(net.weight, part))
 }
 
@@ -206,6 +215,7 @@ pub fn start(
     ensures { IfOk result (AreKept design.now []) }
 {
     let node = Node::root(alloc, design)?;
+    let parts = wires_by(layout, reaches, design, &node)?;
     fill_layout(layout, design, &node)?;
     fill_reaches(reaches, layout.held.len())?;
     let weights = weights_of(alloc, design.nets.as_slice())?;
@@ -216,8 +226,10 @@ pub fn start(
     Ok(Nets {
         cells,
         blocks,
-        start: Wires { at, sum },
+        start: Wires { at, sum, hull: 0 },
         frames: Vec::new(alloc),
         weights,
+        ranges: parts.range,
+        pairs: parts.pair,
     })
 }

@@ -1,12 +1,14 @@
 ghost use Rattle.std.specs.Prelude.{◌≡◌, ◌<◌, ◌≤◌, length, All, IfSome, max, true, false};
 ghost use Rattle.sf_model.specs.Limits.{pin_number, pin_count};
 ghost use Rattle.sf_bounds.specs.Near.{reach_gap};
+ghost use Rattle.sf_bounds.specs.Open.{AreAtMost};
 ghost use Rattle.sf_bounds.specs.Pins.{IsNet, IsReady, pad_reach, pin_range, pin_home, narrowed, paired, pairs_pin, shared_ranges, paired_sides, shared_homes, shared_in, greatest_gap};
 
 use crate::homes::hull_part;
 use crate::layout::{Home, Standing};
 use crate::meet::{met, reach_gap};
 use crate::reach::{ANYWHERE, Reach};
+use crate::wire_parts::WireParts;
 use sf_model::{Design, Pin};
 use sf_standard::Interval;
 
@@ -99,11 +101,14 @@ fn narrowed(reach: Reach, home: Option<Home>) -> Reach
 }
 
 /// What the wire of a net is at least in a complete subproblem: range, pair and hull in one pass over its pins.
-pub fn whole_part(design: &Design, table: &[Standing], pins: &[Pin]) -> u64
+pub fn whole_parts(design: &Design, table: &[Standing], pins: &[Pin]) -> WireParts
     requires ready { IsReady design.now 1 table.now }
     requires inside { IsNet design.now pins.now }
-    ensures is { result ≡ max (reach_gap (shared_ranges design.now table.now pins.now)) (max (paired_sides table.now pins.now).sum (reach_gap (shared_homes design.now table.now pins.now))) }
-    ensures small { result ≤ 2800000000 }
+    ensures range { result.range ≡ reach_gap (shared_ranges design.now table.now pins.now) }
+    ensures pair { result.pair ≡ (paired_sides table.now pins.now).sum }
+    ensures hull { result.hull ≡ reach_gap (shared_homes design.now table.now pins.now) }
+    ensures full { result.full ≡ max result.range (max result.pair result.hull) }
+    ensures small { AreAtMost 2800000000 result }
 {
     let mut range = ANYWHERE;
     let mut pair = NO_PAIR;
@@ -113,15 +118,23 @@ pub fn whole_part(design: &Design, table: &[Standing], pins: &[Pin]) -> u64
         pair = pair_pin(pair, design, table, *pin);
         hull = hull_pin(hull, design, table, *pin);
     }
-    reach_gap(range).max(pair.sum.max(reach_gap(hull)))
+    WireParts::of_net(reach_gap(range), pair.sum, reach_gap(hull))
 }
 
 /// What the wire of a net is at least in an incomplete subproblem.
-pub fn open_part(reaches: &mut [Reach], design: &Design, table: &[Standing], pins: &[Pin]) -> u64
+pub fn open_parts(
+    reaches: &mut [Reach],
+    design: &Design,
+    table: &[Standing],
+    pins: &[Pin],
+) -> WireParts
     requires ready { IsReady design.now (length reaches.old) table.now }
     requires inside { IsNet design.now pins.now }
-    ensures is { result ≡ max (reach_gap (shared_ranges design.now table.now pins.now)) (max (paired_sides table.now pins.now).sum (greatest_gap design.now table.now false (shared_in design.now table.now false pins.now) pins.now)) }
-    ensures small { result ≤ 2800000000 }
+    ensures range { result.range ≡ reach_gap (shared_ranges design.now table.now pins.now) }
+    ensures pair { result.pair ≡ (paired_sides table.now pins.now).sum }
+    ensures hull { result.hull ≡ greatest_gap design.now table.now false (shared_in design.now table.now false pins.now) pins.now }
+    ensures full { result.full ≡ max result.range (max result.pair result.hull) }
+    ensures small { AreAtMost 2800000000 result }
 {
     let mut range = ANYWHERE;
     let mut pair = NO_PAIR;
@@ -130,5 +143,5 @@ pub fn open_part(reaches: &mut [Reach], design: &Design, table: &[Standing], pin
         pair = pair_pin(pair, design, table, *pin);
     }
     let hull = hull_part(reaches, design, table, pins);
-    reach_gap(range).max(pair.sum.max(hull))
+    WireParts::of_net(reach_gap(range), pair.sum, hull)
 }

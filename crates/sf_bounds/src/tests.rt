@@ -7,7 +7,7 @@ use sf_model::{
     Block, BlockList, Design, Name, Net, NetList, Outline, Pad, PadList, Pin, Pins, Shape, Shapes,
     Weights,
 };
-use sf_node::Node;
+use sf_node::{Node, Part};
 use std::alloc::{AllocError, Global};
 use std::test::Fail;
 
@@ -256,5 +256,45 @@ fn measures_weights(rt: HostRuntime) -> Result<(), Fail> {
         value_at(alloc, &design, &mut room, &[0, 0, 0, 0, 0, 0, 0])?,
         Some(48)
     );
+    Ok(())
+}
+
+/// The values of the five parts asked for one by one, and of the four below the full one asked for together.
+fn values_by_part<'a>(
+    design: &'a Design,
+    node: &Node,
+    room: &mut Room<'a>,
+) -> Result<([u64; 5], [u64; 4]), AllocError>
+    requires node { IsSubproblem design.now node.now }
+    requires serves { MayServe room.old design.now }
+    ensures serves { MayServe room.new design.now }
+{
+    let area = Standard.part(design, node, Part::Area, room)?;
+    let range = Standard.part(design, node, Part::Range, room)?;
+    let pair = Standard.part(design, node, Part::Pair, room)?;
+    let hull = Standard.part(design, node, Part::Hull, room)?;
+    let full = Standard.part(design, node, Part::Full, room)?;
+    let parts = Standard.parts(design, node, room)?;
+    Ok((
+        [area, range, pair, hull, full],
+        [parts.area, parts.range, parts.pair, parts.hull],
+    ))
+}
+
+#[test]
+fn measures_parts(rt: HostRuntime) -> Result<(), Fail> {
+    let alloc = rt.alloc();
+    let design = three_shapes(alloc)?;
+    let mut room = Room::new(alloc);
+    let start = root(alloc, &design)?;
+    let of_root = values_by_part(&design, &start, &mut room)?;
+    assert_eq!(rt; of_root, ([4, 24, 4, 4, 24], [4, 24, 4, 4]));
+    let whole = child(&design, &start, 0)?.ok_or("no child")?;
+    let of_whole = values_by_part(&design, &whole, &mut room)?;
+    assert_eq!(rt; of_whole, ([4, 24, 4, 194, 194], [4, 24, 4, 194]));
+    // the shape 1 by 4 alone
+    let (high, _low) = halves(&design, &whole)?.ok_or("no halves")?;
+    let of_high = values_by_part(&design, &high, &mut room)?;
+    assert_eq!(rt; of_high, ([4, 44, 4, 234, 234], [4, 44, 4, 234]));
     Ok(())
 }

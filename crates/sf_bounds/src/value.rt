@@ -1,20 +1,20 @@
 ghost use Rattle.std.specs.Prelude.{◌≡◌, ◌*◌, max, length, IfOk};
 ghost use Rattle.sf_node.specs.Children.{IsSubproblem};
-ghost use Rattle.sf_standard.specs.Standard.{open_value, standard, wire_part, AllHavePlans};
+ghost use Rattle.sf_standard.specs.Standard.{standard};
 ghost use Rattle.sf_frames.specs.Groups.{IsNeededOrNone};
 ghost use Rattle.sf_frames.specs.Measured.{IsMeasured};
-ghost use Rattle.sf_bounds.specs.Open.{IsWireCost};
+ghost use Rattle.sf_bounds.specs.Open.{IsAreaCostOrNone};
 
 use crate::area::area_part;
 use crate::groups::group_curves;
 use crate::net_frames::NetFrames;
+use crate::parts::open_values;
 use crate::scratch::Scratch;
 use crate::solved::least_by_area;
-use crate::wires::wire_part;
 use sf_frames::{Frames, Measured, Sums};
-use sf_model::{Design, MAX};
+use sf_model::Design;
 use sf_node::Node;
-use sf_standard::laws::{single_spans_are_open, wires_are_bounded};
+use sf_standard::laws::single_spans_are_open;
 use std::alloc::AllocError as NoMemory;
 
 /// What the frames of a path tell, where each span is whole.
@@ -78,73 +78,26 @@ fn needed_area(
     }
 }
 
-// What the wires take at least: by the rows of the path where each span is whole, else anew.
-fn wires_of(
-    nets: &mut NetFrames,
-    scratch: &mut Scratch,
-    design: &Design,
-    node: &Node,
-) -> Result<u64, NoMemory>
-    requires subproblem { IsSubproblem design.now node.now }
-    requires serves { nets.old ≡ design.now }
-    ensures wires { IfOk result (λ wires. wires ≡ wire_part design.now node.now) }
-    ensures serves { nets.new ≡ design.now }
-{
-    if node.steps().len() == node.tokens().len() {
-        let measured = nets.measure(&mut scratch.layout, &mut scratch.reaches, node)?;
-        if let Some(wires) = measured {
-            return Ok(wires);
-        }
-    }
-    let wires = wire_part(&mut scratch.layout, &mut scratch.reaches, design, node)?;
-    Ok(wires)
-}
-
-// What the wires cost at least, where each item and each unused block has a plan in the outline. They are not
-// looked at where they have no weight.
-fn wire_cost(
-    nets: &mut NetFrames,
-    scratch: &mut Scratch,
-    design: &Design,
-    node: &Node,
-) -> Result<u64, NoMemory>
-    requires subproblem { IsSubproblem design.now node.now }
-    requires plans { AllHavePlans design.now node.now }
-    requires serves { nets.old ≡ design.now }
-    ensures cost { IfOk result (IsWireCost design.now node.now) }
-    ensures serves { nets.new ≡ design.now }
-{
-    if design.weights.wire == 0 {
-        return Ok(0);
-    }
-    let wires = wires_of(nets, scratch, design, node)?;
-    wires_are_bounded();
-    Ok(u64::from(design.weights.wire) * wires)
-}
-
-// The value from the area that is needed and the wires.
-fn open_value(
+/// What the area costs at least that the items and the unused blocks need; none where one of them fits in no way, or they
+/// have no room.
+pub fn area_cost(
     frames: &mut Frames,
-    nets: &mut NetFrames,
     scratch: &mut Scratch,
     design: &Design,
     node: &Node,
-) -> Result<u64, NoMemory>
+) -> Result<Option<u64>, NoMemory>
     requires subproblem { IsSubproblem design.now node.now }
     requires serves { frames.old ≡ design.now }
-    requires serves_nets { nets.old ≡ design.now }
-    ensures value { IfOk result (λ v. v ≡ open_value design.now node.now) }
+    ensures cost { IfOk result (IsAreaCostOrNone design.now node.now) }
     ensures serves { frames.new ≡ design.now }
-    ensures serves_nets { nets.new ≡ design.now }
 {
     let Some(needed) = needed_area(frames, scratch, design, node)? else {
-        return Ok(MAX);
+        return Ok(None);
     };
     if needed > u64::from(design.outline.w) * u64::from(design.outline.h) {
-        return Ok(MAX);
+        return Ok(None);
     }
-    let wires = wire_cost(nets, scratch, design, node)?;
-    Ok(u64::from(design.weights.area) * needed + wires)
+    Ok(Some(u64::from(design.weights.area) * needed))
 }
 
 /// The value of the standard bound. Only where areas alone count is a solved subproblem measured in another way than an open
@@ -167,5 +120,6 @@ pub fn standard_value(
         return least_by_area(frames, scratch, design, node);
     }
     single_spans_are_open();
-    open_value(frames, nets, scratch, design, node)
+    let values = open_values(frames, nets, scratch, design, node)?;
+    Ok(values.full)
 }

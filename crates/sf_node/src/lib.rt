@@ -11,6 +11,7 @@
 mod belonging;
 mod laws;
 mod node;
+mod part;
 mod step;
 mod task;
 #[cfg(test)]
@@ -20,6 +21,7 @@ mod values;
 pub use belonging::belongs;
 pub use laws::children_share_plans;
 pub use node::{Node, ends_in, used_blocks};
+pub use part::{Part, PartValues};
 pub use step::Step;
 pub use task::{Task, Tasks};
 pub use values::Values;

@@ -1,8 +1,8 @@
-//! Two hard blocks, and the plan with the one beside the other.
+//! Two hard blocks, and the plan with the one beside the other; and three, with each operator above the other.
 
 ghost use Rattle.std.specs.Prelude.{◌≡◌, ◌∷◌, [], IfOk};
 ghost use Rattle.sf_model.specs.Legal.{IsLegal};
-ghost use Rattle.sf_model.specs.Tree.{tree_of};
+ghost use Rattle.sf_model.specs.Tree.{tree_of, leaves};
 ghost use Rattle.sf_polish.specs.Postfix.{IsSkewed};
 ghost use Rattle.sf_node.specs.Children.{IsSubproblem};
 
@@ -45,6 +45,46 @@ fn two_blocks(alloc: Global) -> Result<(Design, Plan), AllocError>
         weights: Weights { area: 1, wire: 0 },
     };
     Ok((design, Plan::Beside(left, right)))
+}
+
+/// Three leaves of one shape: the first beside the second and the third above both, or where `turned` the first above
+/// the second and the third beside both.
+fn three_leaves(alloc: Global, shape: Shape, turned: bool) -> Result<Plan, AllocError>
+    ensures leaves { IfOk result (λ plan. leaves (tree_of plan) ≡ (0, shape) ∷ (1, shape) ∷ (2, shape) ∷ []) }
+    ensures skewed { IfOk result (λ plan. IsSkewed (tree_of plan)) }
+{
+    let left = Box::new(alloc, Plan::Leaf(0, shape))?;
+    let right = Box::new(alloc, Plan::Leaf(1, shape))?;
+    let last = Box::new(alloc, Plan::Leaf(2, shape))?;
+    if turned {
+        let both = Box::new(alloc, Plan::Above(left, right))?;
+        return Ok(Plan::Beside(both, last));
+    }
+    let both = Box::new(alloc, Plan::Beside(left, right))?;
+    Ok(Plan::Above(both, last))
+}
+
+/// Three blocks 2x3 by area alone, and the plan of them.
+fn three_blocks(alloc: Global, turned: bool) -> Result<(Design, Plan), AllocError>
+    ensures legal { IfOk result (λ both. IsLegal both.0 (tree_of both.1)) }
+    ensures skewed { IfOk result (λ both. IsSkewed (tree_of both.1)) }
+{
+    let shape = Shape { w: 2, h: 3 };
+    let first = block(alloc, shape)?;
+    let second = block(alloc, shape)?;
+    let third = block(alloc, shape)?;
+    let plan = three_leaves(alloc, shape, turned)?;
+    let design = Design {
+        blocks: BlockList::from_vec(vec![in alloc; first, second, third]?),
+        pads: PadList::from_vec(Vec::new(alloc)),
+        nets: NetList::from_vec(Vec::new(alloc)),
+        outline: Outline {
+            w: 1_048_576,
+            h: 1_048_576,
+        },
+        weights: Weights { area: 1, wire: 0 },
+    };
+    Ok((design, plan))
 }
 
 /// The child with one more token at this place, or the subproblem itself where none stands there.
@@ -96,6 +136,43 @@ fn belongs_along_its_path(rt: HostRuntime) -> Result<(), Fail> {
         let (node, belongs) = belongs_at(rt.alloc(), places)?;
         assert_eq!(rt; node.tokens(), tokens);
         assert_eq!(rt; belongs, answer, "{tokens:?}");
+    }
+    Ok(())
+}
+
+/// The subproblem over these places, and whether the plan of three blocks belongs to it.
+fn three_belong_at(
+    alloc: Global,
+    turned: bool,
+    places: &[usize],
+) -> Result<(Node, bool), AllocError> {
+    let (design, plan) = three_blocks(alloc, turned)?;
+    let node = node_at(alloc, &design, places)?;
+    let answer = belongs(alloc, &plan, &node, &design)?;
+    Ok((node, answer))
+}
+
+#[test]
+fn three_belong_each_way(rt: HostRuntime) -> Result<(), Fail> {
+    let (a, b, c) = (Token::Block(0), Token::Block(1), Token::Block(2));
+    let apart = [a, b, c];
+    let straight = [a, b, Token::Beside, c, Token::Above];
+    let turned = [a, b, Token::Above, c, Token::Beside];
+    let chain = [a, b, Token::Beside, c, Token::Beside];
+    let rows = [
+        ([0, 0, 2].as_slice(), apart.as_slice(), false, false),
+        ([0, 0, 0].as_slice(), &straight[0..3], true, false),
+        ([0, 0, 1].as_slice(), &turned[0..3], false, true),
+        ([0, 0, 0, 0, 1].as_slice(), straight.as_slice(), true, false),
+        ([0, 0, 1, 0, 0].as_slice(), turned.as_slice(), false, true),
+        ([0, 0, 0, 0, 0].as_slice(), chain.as_slice(), false, false),
+    ];
+    for (places, tokens, above, beside) in rows {
+        for (turned, answer) in [(false, above), (true, beside)] {
+            let (node, belongs) = three_belong_at(rt.alloc(), turned, places)?;
+            assert_eq!(rt; node.tokens(), tokens);
+            assert_eq!(rt; belongs, answer, "{tokens:?}");
+        }
     }
     Ok(())
 }

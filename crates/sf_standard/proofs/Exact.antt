@@ -1,5 +1,5 @@
 -- At a solved subproblem the standard bound is the least cost of a plan that belongs to it and fits.
-use Rattle.std.proofs.Common.{◌≡◌, ℕ, ◌<◌, ◌≤◌, List, [], ◌∷◌, ◌++◌, map, length, take, append_assoc, append-nil, arith, refl, ap, sym, subst, ◌∙◌, ◌⊎◌, inl, inr, Bool, true, false}
+use Rattle.std.proofs.Common.{◌≡◌, ℕ, ◌<◌, ◌≤◌, List, [], ◌∷◌, ◌++◌, length, take, append_assoc, append-nil, arith, refl, ap, sym, subst, ◌∙◌, ◌⊎◌, inl, inr, Bool, true, false}
 use Rattle.std.specs.Prelude.{Contains, count_by, IsFalse, nat_le, ⊤}
 use Rattle.std.specs.List.{AllByRecursion}
 use Rattle.std.proofs.lemmas.Bool.{and_parts, leb-true, cases_lt, cond-true}
@@ -29,8 +29,8 @@ use Rattle.sf_node.proofs.Normalised.{complete-normal}
 use Rattle.sf_node.proofs.Reached.{subproblem-spans}
 use Rattle.sf_curves.proofs.Members.{Contains-head, Contains-tail}
 use Rattle.sf_standard.specs.Items as item
-use Rattle.sf_standard.specs.Items.{Item, read, items_of, unused, span_shapes, plans, fits, fitting, item_of}
-use Rattle.sf_standard.specs.Standard.{least_of, least_cost, bounded, standard}
+use Rattle.sf_standard.specs.Items.{Item, read, items_of, span_shapes, plans, fits, fitting, item_of}
+use Rattle.sf_standard.specs.Standard.{least_of, least_cost, open_value, standard}
 use Rattle.sf_standard.proofs.Listed.{Contains-from_map, Contains-from_filter, Contains-from_pairs}
 use Rattle.sf_standard.proofs.Cutting.{AreListed}
 use Rattle.sf_standard.proofs.Soundness.{solved-complete, standard_is_sound}
@@ -211,7 +211,7 @@ standard_is_exact design node sub solved =
     let complete = solved-complete design node solved in
     let i = whole-item design node sub complete in
     let is : standard design node ≡ least_of (cost design) (fitting design node i.0) =
-    cond-true (is_solved design node) (least_cost design node (items_of node)) (bounded design node (map (fitting design node) (items_of node ++ unused node))) solved
+    cond-true (is_solved design node) (least_cost design node (items_of node)) (open_value design node) solved
     ∙ ap (least_cost design node) i.1.items in
     record {
       below = standard_is_sound design node sub;

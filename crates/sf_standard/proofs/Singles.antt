@@ -31,7 +31,7 @@ use Rattle.sf_standard.specs.declared.hull.Offset.{Offset}
 use Rattle.sf_standard.specs.Items as item
 use Rattle.sf_standard.specs.Items.{Item, items_of, unused, span_shapes, plans, fits, fitting, item_of}
 use Rattle.sf_standard.specs.Hull.{extent_of, point, range_part, pair_part, item_extent, offsets, moved_right, moved_up, offset_x, offset_y, contains_pin, of_pins, pads_x, pads_y, hull_of, hull_part}
-use Rattle.sf_standard.specs.Standard.{area, least_of, least_cost, has_none, needed_area, net_part, weighed_part, wire_part, open_value, has_single_spans, SinglesAreOpen}
+use Rattle.sf_standard.specs.Standard.{area, least_of, least_cost, has_none, needed_area, net_part, weighed_part, wire_part, plans_of, open_value, has_single_spans, SinglesAreOpen}
 use Rattle.sf_standard.proofs.Cutting.{AreListed, cut, belongs-listed, least_of-le}
 use Rattle.sf_standard.proofs.Exact.{IsWholeItem, whole-item, fitting-belongs, plans-are, least_of-reached}
 use Rattle.sf_standard.proofs.Gaps.{IsOfExtent, of-extent, Pins, spread-le-gap}
@@ -139,6 +139,20 @@ few-wire : (f g : Pin → ℤ) (pins : List Pin) → length pins < 2 → spread 
 few-wire f g [] h = omega arith
 few-wire f g (p ∷ []) h = omega (arith, ints)
 few-wire f g (p ∷ q ∷ pins) h = absurd (omega (arith, h))
+
+-- the least area of the plans of the one item is part of the area that is needed
+pub first-needed : (design : Design) (node : Parts) (i : Item) → items_of node ≡ i ∷ [] → least_of area (fitting design node i) ≤ needed_area (plans_of design node)
+first-needed design node i one =
+    let first : plans_of design node ≡ fitting design node i ∷ map (fitting design node) (unused node) = ap (λ is. map (fitting design node) (is ++ unused node)) one in
+    omega (arith, sum-map (least_of area) (plans_of design node), ap (sum_by (least_of area)) first, sum_by-cons (least_of area) (fitting design node i) (map (fitting design node) (unused node)))
+
+-- where the one item has no plan, the value from area and wires is the mark of no cost
+pub no-plan : (design : Design) (node : Parts) (i : Item) → items_of node ≡ i ∷ [] → fitting design node i ≡ [] → open_value design node ≡ MAX
+no-plan design node i one e =
+    let none : list_any has_none (plans_of design node) ≡ true =
+    ap (λ is. list_any has_none (map (fitting design node) (is ++ unused node))) one
+    ∙ ap (λ ts. has_none ts || list_any has_none (map (fitting design node) (unused node))) e in
+    cond-true (list_any has_none (plans_of design node)) MAX (if nat_lt (design.outline.w * design.outline.h) (needed_area (plans_of design node)) then MAX else (design.weights.area * needed_area (plans_of design node) + design.weights.wire * wire_part design node)) none
 
 module _ (design : Design) (node : Parts) (tree : Tree) (spans : length node.spans ≡ block_count design) (belongs : Belongs design node tree) (fit : Fits design.outline tree) (complete : is_complete node ≡ true) (single : has_single_spans node ≡ true) where
   abbrev own : ℕ → Extent
@@ -280,7 +294,7 @@ module _ (design : Design) (node : Parts) (tree : Tree) (spans : length node.spa
       mul-le-mul (omega (arith, a.0, b.0, ap (λ i. (item_extent (extent_in design node) i).least_w) p.same)) (omega (arith, a.1, b.1, ap (λ i. (item_extent (extent_in design node) i).least_h) p.same))
 
   abbrev groups : List (List Tree)
-  groups = map (fitting design node) (items_of node ++ unused node)
+  groups = plans_of design node
 
   area-le : area tree ≤ needed_area groups
   area-le =
@@ -288,8 +302,7 @@ module _ (design : Design) (node : Parts) (tree : Tree) (spans : length node.spa
       let h : height tree ≤ 1048576 = omega (arith, fit.1, design.limits.height.1) in
       let room : area tree ≤ 1048576 * 1048576 = mul-le-mul w h in
       let least : area tree ≤ least_of area (fitting design node (item_of tree)) = least-above area (area tree) (fitting design node (item_of tree)) (omega (arith, room)) (each-from (λ t. area tree ≤ area t) (fitting design node (item_of tree)) area-each) in
-      let first : groups ≡ fitting design node (item_of tree) ∷ map (fitting design node) (unused node) = ap (λ is. map (fitting design node) (is ++ unused node)) the-item in
-      omega (arith, least, sum-map (least_of area) groups, ap (sum_by (least_of area)) first, sum_by-cons (least_of area) (fitting design node (item_of tree)) (map (fitting design node) (unused node)))
+      omega (arith, least, first-needed design node (item_of tree) the-item)
 
   cost-le : cost design tree ≤ open_value design node
   cost-le =
@@ -315,12 +328,7 @@ single_spans_are_open design node sub complete single =
     whole = whole-item design node sub complete
 
     by-plans : (ts : List Tree) → fitting design node whole.0 ≡ ts → least_of (cost design) (fitting design node whole.0) ≡ open_value design node
-    by-plans [] e =
-        let none : list_any has_none (map (fitting design node) (items_of node ++ unused node)) ≡ true =
-        ap (λ is. list_any has_none (map (fitting design node) (is ++ unused node))) whole.1.items
-        ∙ ap (λ ts. has_none ts || list_any has_none (map (fitting design node) (unused node))) e in
-        ap (least_of (cost design)) e
-        ∙ sym (cond-true (list_any has_none (map (fitting design node) (items_of node ++ unused node))) MAX (if nat_lt (design.outline.w * design.outline.h) (needed_area (map (fitting design node) (items_of node ++ unused node))) then MAX else (design.weights.area * needed_area (map (fitting design node) (items_of node ++ unused node)) + design.weights.wire * wire_part design node)) none)
+    by-plans [] e = ap (least_of (cost design)) e ∙ sym (no-plan design node whole.0 whole.1.items e)
     by-plans (t ∷ ts) e =
         let here : Contains (fitting design node whole.0) t = subst (λ v. Contains v t) (sym e) (Contains-head t ts) in
         let b = fitting-belongs design node whole.0 t sub complete whole.1 here in

@@ -1,5 +1,5 @@
 -- The standard bound is sound, and exact at the end.
-use Rattle.std.proofs.Common.{◌≡◌, ◌+◌, ◌*◌, ◌≤◌, [], ◌∷◌, ◌++◌, map, length, arith, ap, sym, subst, ◌∙◌, true}
+use Rattle.std.proofs.Common.{◌≡◌, ◌+◌, ◌*◌, ◌≤◌, [], ◌∷◌, map, length, arith, ap, sym, subst, ◌∙◌, true}
 use Rattle.std.specs.Prelude.{nat_lt, if◌then◌else◌}
 use Rattle.std.specs.List.{list_any}
 use Rattle.std.proofs.Math.Nat.{mul-le-mul, mul-le-mul_left}
@@ -13,8 +13,8 @@ use Rattle.sf_node.specs.Parts.{Parts}
 use Rattle.sf_node.specs.Subproblem.{Belongs, is_complete, is_solved}
 use Rattle.sf_node.specs.Bounds.{IsSound}
 use Rattle.sf_node.proofs.Reached.{subproblem-spans}
-use Rattle.sf_standard.specs.Items.{items_of, unused, fitting, item_of}
-use Rattle.sf_standard.specs.Standard.{least_cost, has_none, needed_area, wire_part, bounded, standard}
+use Rattle.sf_standard.specs.Items.{items_of, fitting, item_of}
+use Rattle.sf_standard.specs.Standard.{least_cost, has_none, needed_area, wire_part, plans_of, open_value, standard}
 use Rattle.sf_standard.proofs.Grown.{part-self}
 use Rattle.sf_standard.proofs.Cutting.{cut, part-fitting, least_of-le, needed-area, none-empty}
 use Rattle.sf_standard.proofs.NetWires.{nets-le}
@@ -23,9 +23,9 @@ pub solved-complete : (design : Design) (node : Parts) → is_solved design node
 solved-complete design node h = (and_parts _ _ h).0
 
 -- the value from area and wires is no more than what a plan of the subproblem costs
-pub bounded-le : (design : Design) (node : Parts) (tree : Tree) → length node.spans ≡ block_count design → Belongs design node tree → Fits design.outline tree → bounded design node (map (fitting design node) (items_of node ++ unused node)) ≤ cost design tree
+pub bounded-le : (design : Design) (node : Parts) (tree : Tree) → length node.spans ≡ block_count design → Belongs design node tree → Fits design.outline tree → open_value design node ≤ cost design tree
 bounded-le design node tree spans belongs fit =
-    let plans = map (fitting design node) (items_of node ++ unused node) in
+    let plans = plans_of design node in
     let part = needed-area design node tree spans belongs fit in
     let total : design.weights.area * needed_area plans + design.weights.wire * wire_part design node ≤ cost design tree =
     omega (arith, mul-le-mul_left design.weights.area part, mul-le-mul_left design.weights.wire (nets-le design node tree spans belongs fit)) in
@@ -49,6 +49,6 @@ least_cost-le design node tree spans belongs fit solved =
 pub standard_is_sound : (design : Design) → IsSound design (standard design)
 standard_is_sound design node sub tree belongs fit =
     let spans = subproblem-spans design node sub in
-    cond_both (is_solved design node) (least_cost design node (items_of node)) (bounded design node (map (fitting design node) (items_of node ++ unused node))) (λ v. v ≤ cost design tree)
+    cond_both (is_solved design node) (least_cost design node (items_of node)) (open_value design node) (λ v. v ≤ cost design tree)
     (λ solved. least_cost-le design node tree spans belongs fit solved)
     (λ _. bounded-le design node tree spans belongs fit)

@@ -26,7 +26,7 @@ use Rattle.sf_curves.proofs.Members.{Contains-head}
 use Rattle.sf_standard.specs.Items as item
 use Rattle.sf_standard.specs.Items.{Item, read, items_of, unused, span_shapes, fitting}
 use Rattle.sf_standard.specs.Hull.{extent_of, to_nat, gap, range_part, pair_part, offset_x, offset_y, contains_pin, hull_of, hull_part}
-use Rattle.sf_standard.specs.Standard.{least_of, area, least_cost, has_none, greatest, needed_area, net_part, weighed_part, wire_part, bounded, standard}
+use Rattle.sf_standard.specs.Standard.{least_of, area, least_cost, has_none, greatest, needed_area, net_part, weighed_part, wire_part, plans_of, bounded, open_value, standard}
 use Rattle.sf_standard.proofs.Gaps.{least-member, most-member}
 use Rattle.sf_standard.proofs.Appended.{read-append, read-block}
 
@@ -165,7 +165,7 @@ module _ (design : Design) (node : Parts) (b : ℕ) (can : CanStep node (step.Bl
   abbrev behind : List (List Tree)
   behind = map (fitting design node) (map (λ k. item.Block k) leaves-range.back)
 
-  plans-node : map (fitting design node) (items_of node ++ unused node) ≡ ahead ++ fitting design node (item.Block b) ∷ behind
+  plans-node : plans_of design node ≡ ahead ++ fitting design node (item.Block b) ∷ behind
   plans-node =
       let k = leaves-range in
       let U = map (λ (k : ℕ). item.Block k) k.front in
@@ -174,7 +174,7 @@ module _ (design : Design) (node : Parts) (b : ℕ) (can : CanStep node (step.Bl
       ∙ ap (map (fitting design node)) (sym (append_assoc (items_of node) U (item.Block b ∷ V)))
       ∙ map-append (fitting design node) (items_of node ++ U) (item.Block b ∷ V)
 
-  plans-child : map (fitting design child) (items_of child ++ unused child) ≡ fitting design node (item.Block b) ∷ (ahead ++ behind)
+  plans-child : plans_of design child ≡ fitting design node (item.Block b) ∷ (ahead ++ behind)
   plans-child =
       let k = leaves-range in
       let U = map (λ (k : ℕ). item.Block k) k.front in
@@ -183,7 +183,7 @@ module _ (design : Design) (node : Parts) (b : ℕ) (can : CanStep node (step.Bl
       ∙ ap (λ v. fitting design node (item.Block b) ∷ map (fitting design node) (items_of node ++ v)) (ap (map (λ k. item.Block k)) k.rest ∙ map-append (λ k. item.Block k) k.front k.back)
       ∙ ap (λ v. fitting design node (item.Block b) ∷ v) (ap (map (fitting design node)) (sym (append_assoc (items_of node) U V)) ∙ map-append (fitting design node) (items_of node ++ U) V)
 
-  pub block-moves : Moves (fitting design node (item.Block b)) (map (fitting design node) (items_of node ++ unused node)) (map (fitting design child) (items_of child ++ unused child))
+  pub block-moves : Moves (fitting design node (item.Block b)) (plans_of design node) (plans_of design child)
   block-moves = record { front = ahead; back = behind; was = plans-node; is = plans-child }
 
 module _ (design : Design) (node : Parts) (b : ℕ) (sub : IsSubproblem design node) (can : CanStep node (step.Block b)) (open_child : is_complete (after node (step.Block b)) ≡ false) where
@@ -220,7 +220,7 @@ module _ (design : Design) (node : Parts) (b : ℕ) (sub : IsSubproblem design n
       ∙ ap (λ v. max (sum (map (least_of area) (ws ++ x ∷ vs))) (v * greatest (map (least_of height) (x ∷ (ws ++ vs))))) (sym (greatest-move (least_of width) ws vs x))
       ∙ ap (λ v. max (sum (map (least_of area) (ws ++ x ∷ vs))) (greatest (map (least_of width) (ws ++ x ∷ vs)) * v)) (sym (greatest-move (least_of height) ws vs x))
 
-  bounded-same : bounded design grown (map (fitting design grown) (items_of grown ++ unused grown)) ≡ bounded design node (map (fitting design node) (items_of node ++ unused node))
+  bounded-same : open_value design grown ≡ open_value design node
   bounded-same =
       let x = fitting design node (item.Block b) in
       let moves = block-moves design node b can in
@@ -228,17 +228,17 @@ module _ (design : Design) (node : Parts) (b : ℕ) (sub : IsSubproblem design n
       let vs = moves.back in
       let whole = λ (none : Bool) (a w : ℕ). (if none then MAX else (if nat_lt (design.outline.w * design.outline.h) a then MAX else (design.weights.area * a + design.weights.wire * w))) in
       let nets : wire_part design grown ≡ wire_part design node = sum_by-same (weighed_part design grown) (weighed_part design node) weighed-same design.nets in
-      ap (bounded design grown) moves.is
+      ap (bounded design (wire_part design grown)) moves.is
       ∙ ap (λ t. whole t (needed_area (x ∷ (ws ++ vs))) (wire_part design grown)) (sym (any-move has_none ws vs x))
       ∙ ap (λ a. whole (list_any has_none (ws ++ x ∷ vs)) a (wire_part design grown)) (area-same ws vs x)
       ∙ ap (λ w. whole (list_any has_none (ws ++ x ∷ vs)) (needed_area (ws ++ x ∷ vs)) w) nets
-      ∙ sym (ap (bounded design node) moves.was)
+      ∙ sym (ap (bounded design (wire_part design node)) moves.was)
 
   unsolved : (parts : Parts) → is_complete parts ≡ false → is_solved design parts ≡ false
   unsolved parts e = ap (λ t. t && (design.weights.wire == 0 || list_all (λ span. not (is_wide span)) parts.spans)) e
 
   pub block_keeps : standard design (after node (step.Block b)) ≡ standard design node
   block_keeps =
-      cond-false (is_solved design grown) (least_cost design grown (items_of grown)) (bounded design grown (map (fitting design grown) (items_of grown ++ unused grown))) (unsolved grown open_child)
+      cond-false (is_solved design grown) (least_cost design grown (items_of grown)) (open_value design grown) (unsolved grown open_child)
       ∙ bounded-same
-      ∙ sym (cond-false (is_solved design node) (least_cost design node (items_of node)) (bounded design node (map (fitting design node) (items_of node ++ unused node))) (unsolved node open-node))
+      ∙ sym (cond-false (is_solved design node) (least_cost design node (items_of node)) (open_value design node) (unsolved node open-node))

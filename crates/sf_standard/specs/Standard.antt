@@ -7,6 +7,8 @@ use Rattle.sf_model.specs.declared.parts.Pin.{Pin}
 use Rattle.sf_model.specs.declared.TheConstants.{MAX}
 use Rattle.sf_model.specs.Cost.{cost}
 use Rattle.sf_model.specs.Tree.{Tree, width, height}
+use Rattle.sf_node.specs.declared.part.Part.{Part}
+use Rattle.sf_node.specs.declared.part.Part.TheVariants as by
 use Rattle.sf_node.specs.Parts.{Parts}
 use Rattle.sf_node.specs.Subproblem.{is_complete, is_wide, is_solved}
 use Rattle.sf_node.specs.Children.{IsSubproblem}
@@ -60,24 +62,45 @@ weighed_part design node net = net.weight * net_part design node net
 abbrev pub wire_part : Design → Parts → ℕ
 wire_part design node = sum_by (weighed_part design node) design.nets
 
+-- what one part of the bound takes the wire that joins these pins to be at least, nothing with fewer than two pins; areas know no wires
+abbrev pub pins_by : Design → Parts → List Pin → Part → ℕ
+pins_by design node pins by.Area = 0
+pins_by design node pins by.Range = if nat_lt (length pins) 2 then 0 else range_part design (λ b. extent_of (span_shapes design node b)) pins
+pins_by design node pins by.Pair = if nat_lt (length pins) 2 then 0 else pair_part (λ b. extent_of (span_shapes design node b)) pins
+pins_by design node pins by.Hull = if nat_lt (length pins) 2 then 0 else hull_part design (λ b. extent_of (span_shapes design node b)) (is_complete node) (items_of node) pins
+pins_by design node pins by.Full = pins_part design node pins
+
+-- the sum over all nets, each as often as its weight says
+abbrev pub wires_by : Design → Parts → Part → ℕ
+wires_by design node part = sum_by (λ net. net.weight * pins_by design node net.pins part) design.nets
+
+-- the plans of each item and of each unused block
+abbrev pub plans_of : Design → Parts → List (List Tree)
+plans_of design node = map (fitting design node) (items_of node ++ unused node)
+
 -- each item and each unused block has a plan in the outline
 abbrev pub AllHavePlans : Design → Parts → Type 0
-AllHavePlans design node = list_any has_none (map (fitting design node) (items_of node ++ unused node)) ≡ false
+AllHavePlans design node = list_any has_none (plans_of design node) ≡ false
 
--- the value of a subproblem that is not solved, from the plans of its parts
-abbrev pub bounded : Design → Parts → List (List Tree) → ℕ
-bounded design node plans =
+-- what these wires and the area cost that the plans of some parts need, or MAX where a part has no plan or they have no room
+abbrev pub bounded : Design → ℕ → List (List Tree) → ℕ
+bounded design wires plans =
     if list_any has_none plans then MAX
     else (if nat_lt (design.outline.w * design.outline.h) (needed_area plans) then MAX
-    else (design.weights.area * needed_area plans + design.weights.wire * wire_part design node))
+    else (design.weights.area * needed_area plans + design.weights.wire * wires))
 
 -- the value from the area that the items and the unused blocks need and from the wires of the nets
 abbrev pub open_value : Design → Parts → ℕ
-open_value design node = bounded design node (map (fitting design node) (items_of node ++ unused node))
+open_value design node = bounded design (wire_part design node) (plans_of design node)
 
 -- the value that the standard bound gives a subproblem: the least cost where it is solved
 abbrev pub standard : Design → Parts → ℕ
 standard design node = if is_solved design node then least_cost design node (items_of node) else open_value design node
+
+-- the value of each part of the bound at a subproblem, solved or not: the full one is the standard bound
+abbrev pub part_value : Design → Parts → Part → ℕ
+part_value design node by.Full = standard design node
+part_value design node part = bounded design (wires_by design node part) (plans_of design node)
 
 -- each block's span has one place
 abbrev pub has_single_spans : Parts → Bool

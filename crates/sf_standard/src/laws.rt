@@ -1,16 +1,28 @@
 ghost use Rattle.std.specs.Prelude.{◌≡◌, ℕ, ◌<◌, ◌^◌, IsFalse};
 ghost use Rattle.sf_model.specs.declared.design.Design.{Design};
 ghost use Rattle.sf_node.specs.declared.step.Step.TheVariants.{Block};
+ghost use Rattle.sf_node.specs.declared.part.Part.{Part};
 ghost use Rattle.sf_node.specs.Bounds.{IsSound, IsExactAtEnd};
+ghost use Rattle.sf_node.specs.ByPart.{ArePartsOf};
 ghost use Rattle.sf_node.specs.Children.{IsSubproblem, CanStep, after};
 ghost use Rattle.sf_node.specs.Parts.{Parts};
 ghost use Rattle.sf_node.specs.Subproblem.{is_complete};
-ghost use Rattle.sf_standard.specs.Standard.{standard, wire_part, AllHavePlans, SinglesAreOpen};
+ghost use Rattle.sf_standard.specs.Standard.{standard, part_value, wires_by, AllHavePlans, SinglesAreOpen};
 
 /// No plan that belongs to a subproblem and fits costs less than the standard bound, which is the least cost at a solved one.
 pub fn standard_is_lawful()
     ensures sound { (design : Design) → IsSound design (standard design) }
     ensures exact { (design : Design) → IsExactAtEnd design (standard design) }
+{}
+
+/// No part of the bound is above the standard bound, at solved subproblems neither.
+pub fn parts_are_below()
+    ensures { (design : Design) → ArePartsOf design (standard design) (part_value design) }
+{}
+
+/// Where wires cost nothing, each part of the bound is the standard bound.
+pub fn areas_are_all()
+    ensures { (design : Design) (node : Parts) (part : Part) → design.weights.wire ≡ 0 → IsSubproblem design node → part_value design node part ≡ standard design node }
 {}
 
 /// A child by a block which leaves the subproblem incomplete has its parent's value: the block is only moved from the
@@ -20,9 +32,9 @@ pub fn blocks_keep_values()
 {}
 
 /// Where each item and each unused block of a subproblem has a plan in the outline, its wires are bounded by less
-/// than 2^47.
+/// than 2^47, by each part of the bound.
 pub fn wires_are_bounded()
-    ensures { (design : Design) (node : Parts) → AllHavePlans design node → wire_part design node < 2 ^ 47 }
+    ensures { (design : Design) (node : Parts) (part : Part) → AllHavePlans design node → wires_by design node part < 2 ^ 47 }
 {}
 
 /// At a complete subproblem whose spans have one place each the standard bound is its value from area and wires: the one plan

@@ -8,5 +8,5 @@ returns-then-not-is_complete-clause-value c =
     block_child c.args.design.now c.args.value c.in-Some-Block.field-0-0 c.args.child.now c.steps.result.now c.in-Some-Block.field-0.now c.requires.child
     c.steps.ensures c.in-Some-Block.ensures.value c.in-Some-Block.field-0-is (sym c.is_complete.ensures ∙ c.if-not-is_complete.true)
 
-pub standard_value-requires-clause-subproblem : goal.standard_value-requires-clause-subproblem
-standard_value-requires-clause-subproblem c = child_of c.args.design.now (standard c.args.design.now) c.args.value c.args.child.now c.requires.child
+pub standard_valued-requires-clause-subproblem : goal.standard_valued-requires-clause-subproblem
+standard_valued-requires-clause-subproblem c = child_of c.args.design.now (standard c.args.design.now) c.args.value c.args.child.now c.requires.child

@@ -20,6 +20,8 @@ returns-clause-kept c =
     let count : c.len-below.result ≡ length N.frames.items = omega (arith, c.len-below.ensures) in
     record {
       weights = c.requires.kept.weights;
+      ranges = c.requires.kept.ranges;
+      pairs = c.requires.kept.pairs;
       stored = block-pushed D c.args.node.now N.cells.items N.blocks.items N.start N.frames.items c.push.new.self.items c.args.block x x w c.len-below.result c.len-end.result c.requires.subproblem c.requires.kept.stored c.requires.next
           (c.index.ensures ∙ ap (λ i. get_or N.blocks.items i x) c.from.ensures)
           (subst (λ n. AreWires D N.cells.items (items_at T n) w) count c.wires_after-wires.ensures)

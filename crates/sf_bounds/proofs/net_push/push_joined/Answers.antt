@@ -1,7 +1,6 @@
 use Rattle.std.proofs.Common.{◌++◌, length, map, refl, sym, ap, ◌∙◌, subst, arith}
-use Rattle.std.specs.Prelude.{sum_by}
 use Rattle.std.specs.List.{range_with_len}
-use Rattle.sf_bounds.specs.Rows.{AreStored, weights_of, joined_cell, weighed_cell}
+use Rattle.sf_bounds.specs.Rows.{AreStored, weights_of, joined_cell, AreSums}
 use Rattle.sf_bounds.proofs.NetKept.{stored-longer}
 use Rattle.sf_bounds.proofs.NetPushed.{modest-left, modest-right, pushed-fits, joined-pushed}
 use Rattle.sf_bounds.proofs.Weights.{length-weights, few-weighed}
@@ -17,12 +16,14 @@ join_rows-requires-clause-near c =
     let n = ap length c.deref.ensures.value ∙ ap length c.requires.kept.weights ∙ length-weights c.args.design.now.nets in
     λ j lt. pushed-fits c.args.design.now c.args.node.now N.cells.items N.blocks.items N.start N.frames.items c.args.direction c.top_pair.result.0 c.top_pair.result.1 c.requires.subproblem c.requires.kept.stored c.requires.next c.top_pair.ensures j (omega (arith, lt, n))
 
-pub returns-in_err-sum-clause-kept : goal.returns-in_err-sum-clause-kept
-returns-in_err-sum-clause-kept c =
+pub returns-in_err-wires-clause-kept : goal.returns-in_err-wires-clause-kept
+returns-in_err-wires-clause-kept c =
     let N = c.args.nets.now in
     record {
       weights = c.requires.kept.weights;
-      stored = stored-longer c.args.design.now c.args.node.now.tokens N.cells.items c.join_rows.new.cells.items N.blocks.items N.start N.frames.items c.requires.kept.stored c.in_err-sum.ensures.fit c.in_err-sum.ensures.longer;
+      ranges = c.requires.kept.ranges;
+      pairs = c.requires.kept.pairs;
+      stored = stored-longer c.args.design.now c.args.node.now.tokens N.cells.items c.join_rows.new.cells.items N.blocks.items N.start N.frames.items c.requires.kept.stored c.in_err-wires.ensures.fit c.in_err-wires.ensures.longer;
     }
 
 pub joined_extent-requires-clause-first : goal.joined_extent-requires-clause-first
@@ -40,8 +41,10 @@ returns-in_err-push-clause-kept c =
     let N = c.args.nets.now in
     record {
       weights = c.requires.kept.weights;
+      ranges = c.requires.kept.ranges;
+      pairs = c.requires.kept.pairs;
       stored = subst (AreStored c.args.design.now c.args.node.now.tokens c.join_rows.new.cells.items N.blocks.items N.start) (sym c.in_err-push.ensures.items)
-          (stored-longer c.args.design.now c.args.node.now.tokens N.cells.items c.join_rows.new.cells.items N.blocks.items N.start N.frames.items c.requires.kept.stored c.in_ok-sum.ensures.fit c.in_ok-sum.ensures.longer);
+          (stored-longer c.args.design.now c.args.node.now.tokens N.cells.items c.join_rows.new.cells.items N.blocks.items N.start N.frames.items c.requires.kept.stored c.in_ok-wires.ensures.fit c.in_ok-wires.ensures.longer);
     }
 
 pub returns-clause-kept : goal.returns-clause-kept
@@ -56,10 +59,11 @@ returns-clause-kept c =
     let f = joined_cell N.cells.items c.args.direction l.extent l.row r.row u.at in
     record {
       weights = c.requires.kept.weights;
+      ranges = c.requires.kept.ranges;
+      pairs = c.requires.kept.pairs;
       stored = joined-pushed D c.args.node.now N.cells.items N.blocks.items N.start N.frames.items c.args.direction l r c.requires.subproblem c.requires.kept.stored c.requires.next c.top_pair.ensures u c.wires_after-under.ensures
-          c.join_rows.new.cells.items c.push.new.self.items _ c.in_ok-sum.ensures.fit
-          (c.in_ok-sum.ensures.row ∙ ap (λ n. N.cells.items ++ map f (range_with_len 0 n)) count)
-          c.operator.ensures c.joined_extent.ensures refl (omega (arith, c.len-at.ensures)) (omega (arith, c.len-at.ensures))
-          (c.in_ok-sum.ensures.sum ∙ ap (λ ws. sum_by (weighed_cell ws f) (range_with_len 0 (length ws))) weights ∙ ap (λ n. sum_by (weighed_cell (weights_of D.nets) f) (range_with_len 0 n)) (length-weights D.nets))
-          (omega (arith, c.in_ok-sum.ensures.small, count)) (omega (arith, c.len-end.ensures)) c.in_ok-push.ensures.items;
+          c.join_rows.new.cells.items c.push.new.self.items _ c.in_ok-wires.ensures.fit
+          (c.in_ok-wires.ensures.row ∙ ap (λ n. N.cells.items ++ map f (range_with_len 0 n)) count)
+          c.operator.ensures c.joined_extent.ensures refl c.in_ok-wires.ensures.at c.in_ok-wires.ensures.at
+          (subst (λ n. AreSums (weights_of D.nets) f n c.in_ok-wires.wires) (length-weights D.nets) (subst (λ ws. AreSums ws f (length ws) c.in_ok-wires.wires) weights c.in_ok-wires.ensures.sums)) (omega (arith, c.len-end.ensures)) c.in_ok-push.ensures.items;
     }

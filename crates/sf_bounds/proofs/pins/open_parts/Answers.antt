@@ -4,7 +4,8 @@ use Rattle.sf_bounds.specs.Near.{IsNearby, met, anywhere}
 use Rattle.sf_bounds.specs.Pins.{pin_range}
 use Rattle.sf_bounds.proofs.Pairing.{pairs_before}
 use Rattle.sf_bounds.proofs.Reading.{fold_whole, near_ranges}
-use Rattle.sf_bounds.proofs.pins.open_part.Goals as goal
+use Rattle.sf_bounds.proofs.PartSums.{parts-small}
+use Rattle.sf_bounds.proofs.pins.open_parts.Goals as goal
 
 pub pair_pin-pair-requires-clause-most : goal.pair_pin-pair-requires-clause-most
 pair_pin-pair-requires-clause-most c =
@@ -18,4 +19,5 @@ reach_gap-requires c =
 pub returns-clause-small : goal.returns-clause-small
 returns-clause-small c =
     let small = (pairs_before c.args.design.now (length c.args.reaches.now) c.args.table.now c.requires.ready c.args.pins.now c.loop-pin.pin-index c.requires.inside).sum in
-    omega (arith, c.max.ensures, c.max-2.ensures, c.reach_gap.ensures.small, c.hull_part-hull.ensures.small, ap (λ q. q.sum) c.loop-pin.invariant.1, small)
+    let least : c.loop-pin.pair.sum ≤ 2800000000 = omega (arith, ap (λ q. q.sum) c.loop-pin.invariant.1, small) in
+    parts-small c.of_net.result c.reach_gap.result c.loop-pin.pair.sum c.hull_part-hull.result c.reach_gap.ensures.small least c.hull_part-hull.ensures.small c.of_net.ensures.range c.of_net.ensures.pair c.of_net.ensures.hull c.of_net.ensures.full

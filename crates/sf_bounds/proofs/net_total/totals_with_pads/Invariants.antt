@@ -1,0 +1,14 @@
+use Rattle.std.proofs.Common.{◌≡◌, ◌≤◌, ◌*◌, take}
+use Rattle.std.specs.Prelude.{sum_by}
+use Rattle.sf_node.specs.declared.part.Part.TheVariants.{Hull}
+use Rattle.sf_standard.specs.Standard.{weighed_part, pins_by}
+use Rattle.sf_bounds.specs.Rows.{weighed_nets}
+use Rattle.sf_bounds.proofs.net_total.totals_with_pads.Given as goal
+
+abbrev pub invariant-loop-net : goal.invariant-loop-net
+invariant-loop-net l = record {
+  full : l.full ≡ sum_by (weighed_part l.design l.node) (take l.net (weighed_nets l.design));
+  small : l.full ≤ 714000000000 * l.net;
+  hull : l.hull ≡ sum_by (λ n. n.weight * pins_by l.design l.node n.pins Hull) (take l.net (weighed_nets l.design));
+  small_hull : l.hull ≤ 714000000000 * l.net;
+}

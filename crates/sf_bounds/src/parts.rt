@@ -1,0 +1,171 @@
+//! The values of the parts of the standard bound.
+
+ghost use Rattle.std.specs.Prelude.{◌≡◌, IfOk};
+ghost use Rattle.sf_node.specs.Children.{IsSubproblem};
+ghost use Rattle.sf_node.specs.declared.part.Part.TheVariants.{Area};
+ghost use Rattle.sf_node.specs.ByPart.{AreValues};
+ghost use Rattle.sf_standard.specs.Standard.{open_value, part_value, AllHavePlans};
+ghost use Rattle.sf_bounds.specs.Open.{AreWireParts, AreWireCosts};
+
+use crate::net_frames::NetFrames;
+use crate::scratch::Scratch;
+use crate::value::{area_cost, standard_value};
+use crate::wire_parts::{self, WireParts};
+use crate::wires_by::wires_by;
+use sf_frames::Frames;
+use sf_model::{Design, MAX};
+use sf_node::{Node, Part, PartValues};
+use sf_standard::laws::wires_are_bounded;
+use std::alloc::AllocError as NoMemory;
+
+// What the wires take at least by each part of the bound: by the rows of the path where each span is whole, else anew.
+fn wires_of(
+    nets: &mut NetFrames,
+    scratch: &mut Scratch,
+    design: &Design,
+    node: &Node,
+) -> Result<WireParts, NoMemory>
+    requires subproblem { IsSubproblem design.now node.now }
+    requires serves { nets.old ≡ design.now }
+    ensures wires { IfOk result (AreWireParts design.now node.now) }
+    ensures serves { nets.new ≡ design.now }
+{
+    if node.steps().len() == node.tokens().len() {
+        let measured = nets.measure(&mut scratch.layout, &mut scratch.reaches, node)?;
+        if let Some(wires) = measured {
+            return Ok(wires);
+        }
+    }
+    let wires = wires_by(&mut scratch.layout, &mut scratch.reaches, design, node)?;
+    Ok(wires)
+}
+
+// What they cost, where each item and each unused block has a plan in the outline. They are not looked at where they
+// have no weight.
+fn wire_costs(
+    nets: &mut NetFrames,
+    scratch: &mut Scratch,
+    design: &Design,
+    node: &Node,
+) -> Result<WireParts, NoMemory>
+    requires subproblem { IsSubproblem design.now node.now }
+    requires plans { AllHavePlans design.now node.now }
+    requires serves { nets.old ≡ design.now }
+    ensures costs { IfOk result (AreWireCosts design.now node.now) }
+    ensures serves { nets.new ≡ design.now }
+{
+    if design.weights.wire == 0 {
+        return Ok(wire_parts::NONE);
+    }
+    let wires = wires_of(nets, scratch, design, node)?;
+    wires_are_bounded();
+    let weight = u64::from(design.weights.wire);
+    Ok(WireParts {
+        range: weight * wires.range,
+        pair: weight * wires.pair,
+        hull: weight * wires.hull,
+        full: weight * wires.full,
+    })
+}
+
+/// The value from the area and the wires, and the values of the parts below it.
+#[derive(Clone, Copy)]
+pub struct OpenValues {
+    pub full: u64,
+    pub parts: PartValues,
+}
+
+/// The value from the area that is needed and the wires, with those of the parts below it, all measured at once.
+pub fn open_values(
+    frames: &mut Frames,
+    nets: &mut NetFrames,
+    scratch: &mut Scratch,
+    design: &Design,
+    node: &Node,
+) -> Result<OpenValues, NoMemory>
+    requires subproblem { IsSubproblem design.now node.now }
+    requires serves { frames.old ≡ design.now }
+    requires serves_nets { nets.old ≡ design.now }
+    ensures full { IfOk result (λ values. values.full ≡ open_value design.now node.now) }
+    ensures values { IfOk result (λ values. AreValues (part_value design.now node.now) values.parts) }
+    ensures serves { frames.new ≡ design.now }
+    ensures serves_nets { nets.new ≡ design.now }
+{
+    let Some(area) = area_cost(frames, scratch, design, node)? else {
+        return Ok(OpenValues {
+            full: MAX,
+            parts: all_alike(MAX),
+        });
+    };
+    let wires = wire_costs(nets, scratch, design, node)?;
+    let parts = PartValues {
+        area,
+        range: area + wires.range,
+        pair: area + wires.pair,
+        hull: area + wires.hull,
+    };
+    Ok(OpenValues {
+        full: area + wires.full,
+        parts,
+    })
+}
+
+/// One value for each part.
+pub fn all_alike(value: u64) -> PartValues
+    ensures { AreValues (λ part. value) result }
+{
+    PartValues {
+        area: value,
+        range: value,
+        pair: value,
+        hull: value,
+    }
+}
+
+// What the area alone costs, or the mark of no cost.
+fn area_value(
+    frames: &mut Frames,
+    scratch: &mut Scratch,
+    design: &Design,
+    node: &Node,
+) -> Result<u64, NoMemory>
+    requires subproblem { IsSubproblem design.now node.now }
+    requires serves { frames.old ≡ design.now }
+    ensures value { IfOk result (λ v. v ≡ part_value design.now node.now Area) }
+    ensures serves { frames.new ≡ design.now }
+{
+    let cost = area_cost(frames, scratch, design, node)?;
+    match cost {
+        Some(area) => Ok(area),
+        None => Ok(MAX),
+    }
+}
+
+/// The value of one part. That of the area looks at no net.
+pub fn part_value(
+    frames: &mut Frames,
+    nets: &mut NetFrames,
+    scratch: &mut Scratch,
+    design: &Design,
+    node: &Node,
+    part: Part,
+) -> Result<u64, NoMemory>
+    requires subproblem { IsSubproblem design.now node.now }
+    requires serves { frames.old ≡ design.now }
+    requires serves_nets { nets.old ≡ design.now }
+    ensures value { IfOk result (λ v. v ≡ part_value design.now node.now part) }
+    ensures serves { frames.new ≡ design.now }
+    ensures serves_nets { nets.new ≡ design.now }
+{
+    match part {
+        Part::Area => area_value(frames, scratch, design, node),
+        Part::Range => Ok(
+            open_values(frames, nets, scratch, design, node)?
+                .parts
+                .range,
+        ),
+        Part::Pair => Ok(open_values(frames, nets, scratch, design, node)?.parts.pair),
+        Part::Hull => Ok(open_values(frames, nets, scratch, design, node)?.parts.hull),
+        Part::Full => standard_value(frames, nets, scratch, design, node),
+    }
+}

@@ -1,0 +1,43 @@
+ghost use Rattle.std.specs.Prelude.{◌≤◌, length, IfOk};
+ghost use Rattle.sf_node.specs.Children.{IsSubproblem};
+ghost use Rattle.sf_bounds.specs.Open.{AreWireParts};
+ghost use Rattle.sf_bounds.specs.Pins.{IsLayout};
+
+use crate::layout::Layout;
+use crate::reach::Reach;
+use crate::wire_parts::{self, WireParts};
+use crate::wires::{net_parts, prepare};
+use sf_model::Design;
+use sf_node::Node;
+use std::alloc::AllocError as NoMemory;
+
+// All three sums in one pass. The pins of a net of weight 0 are not looked at.
+fn sum_parts(reaches: &mut [Reach], design: &Design, node: &Node, layout: &Layout) -> WireParts
+    requires subproblem { IsSubproblem design.now node.now }
+    requires layout { IsLayout design.now node.now layout.now }
+    requires sized { length layout.now.held.items ≤ length reaches.old }
+    ensures { AreWireParts design.now node.now result }
+{
+    let mut sums = wire_parts::NONE;
+    for net in design.nets.as_slice() {
+        if net.weight > 0 {
+            let parts = net_parts(reaches, design, node, layout, net);
+            sums = sums.with_net(net.weight, parts);
+        }
+    }
+    sums
+}
+
+/// What the wires of the nets are at least by each part of the bound.
+pub fn wires_by(
+    layout: &mut Layout,
+    reaches: &mut Vec<Reach>,
+    design: &Design,
+    node: &Node,
+) -> Result<WireParts, NoMemory>
+    requires { IsSubproblem design.now node.now }
+    ensures { IfOk result (AreWireParts design.now node.now) }
+{
+    prepare(layout, reaches, design, node)?;
+    Ok(sum_parts(reaches, design, node, layout))
+}
