@@ -13,8 +13,12 @@ use Rattle.sf_lex.proofs.Decimals.{and_true}
 use Rattle.sf_lex.proofs.WordLines.{words_from, IsRun, words_from-run, words_from-gap}
 use Rattle.sf_certificate.specs.declared.fault.CertFault.{CertFault}
 use Rattle.sf_certificate.specs.declared.fault.CertFault.TheVariants.{NoMemory}
+use Rattle.sf_certificate.specs.declared.letter.HalfTag.{HalfTag}
+use Rattle.sf_certificate.specs.declared.letter.Second.{Second}
+use Rattle.sf_certificate.specs.declared.letter.Second.TheVariants as second
 use Rattle.sf_certificate.specs.declared.tag.Tag.{Tag}
-use Rattle.sf_certificate.specs.Reading.{Reader, letter_of, by_letter, split_by, tags_said, tree_from, read_on, with_some}
+use Rattle.sf_certificate.specs.declared.version.Version.{Version}
+use Rattle.sf_certificate.specs.Reading.{Reader, letter_of, part_of, by_letter, split_by, closed_by, second_by, tags_said, tree_from, read_on, with_some}
 use Rattle.sf_certificate.specs.Bytes.{Bytewise, begun, bytes_on, words_on}
 
 not-true : (b : Bool) → not b ≡ true → b ≡ false
@@ -55,10 +59,15 @@ last-append n (w ∷ first) second = last-append w.line first second
 
 -- ---- words that are too long
 
-long-letter : (w : List ℕ) → 21 ≤ length w → letter_of w ≡ None
-long-letter [] h = absurd (omega arith)
-long-letter (b ∷ []) h = absurd (omega arith)
-long-letter (b ∷ c ∷ w) h = refl
+long-letter : (version : Version) (w : List ℕ) → 21 ≤ length w → letter_of version w ≡ None
+long-letter version [] h = absurd (omega arith)
+long-letter version (b ∷ []) h = absurd (omega arith)
+long-letter version (b ∷ c ∷ w) h = refl
+
+long-part : (w : List ℕ) → 21 ≤ length w → part_of w ≡ None
+long-part [] h = absurd (omega arith)
+long-part (b ∷ []) h = absurd (omega arith)
+long-part (b ∷ c ∷ w) h = refl
 
 too-long : (n : ℕ) → 21 ≤ n → nat_le n 20 ≡ false
 too-long n h = grind (arith, nat_tests)
@@ -72,11 +81,17 @@ long-number : (w : List ℕ) → 21 ≤ length w → whole_read 65535 w ≡ None
 unfolding whole_read
 long-number w h = rw (and-none (list_all is_digit w) (is_not_empty w) (nat_le (length w) 20) (too-long (length w) h)) refl
 
+long-second : (second : Second) (line : ℕ) (w v : List ℕ) → 21 ≤ length w → 21 ≤ length v → second_by second line w ≡ second_by second line v
+long-second second.Block line w v h k = ap (split_by line) (long-number w h ∙ sym (long-number v k))
+long-second second.Part line w v h k = ap (closed_by line) (long-part w h ∙ sym (long-part v k))
+
 -- all such words say the same
-long-said : (last line : ℕ) (split : Option ℕ) (w v : List ℕ) (others : List LineWord) → 21 ≤ length w → 21 ≤ length v → tags_said last split (record { line = line; text = w } ∷ others) ≡ tags_said last split (record { line = line; text = v } ∷ others)
+long-said : (version : Version) (last line : ℕ) (half : Option HalfTag) (w v : List ℕ) (others : List LineWord) → 21 ≤ length w → 21 ≤ length v
+    → tags_said version last half (record { line = line; text = w } ∷ others) ≡ tags_said version last half (record { line = line; text = v } ∷ others)
 unfolding tags_said
-long-said last line None w v others h k = ap (λ l. by_letter line l (tags_said last None others) (tags_said last (Some line) others)) (long-letter w h ∙ sym (long-letter v k))
-long-said last line (Some at) w v others h k = ap (λ o. record { line = at; tag = split_by at o } ∷ tags_said last None others) (long-number w h ∙ sym (long-number v k))
+long-said version last line None w v others h k =
+    ap (λ l. by_letter line l (tags_said version last None others) (λ second. tags_said version last (Some (record { second = second; line = line })) others)) (long-letter version w h ∙ sym (long-letter version v k))
+long-said version last line (Some at) w v others h k = ap (λ t. record { line = at.line; tag = t } ∷ tags_said version last None others) (long-second at.second at.line w v h k)
 
 module _ (n line last : ℕ) (tree : Reader) where
   -- what the words are read as, where they are these
@@ -86,7 +101,7 @@ module _ (n line last : ℕ) (tree : Reader) where
   long-first : (w v : List ℕ) (others : List LineWord) → 21 ≤ length w → 21 ≤ length v → read_on n (last_word_line last (begun line w ++ others)) tree (begun line w ++ others) ≡ read_on n (last_word_line last (begun line v ++ others)) tree (begun line v ++ others)
   long-first [] v others h k = absurd (omega arith)
   long-first (b ∷ w) [] others h k = absurd (omega arith)
-  long-first (b ∷ w) (c ∷ v) others h k = ap (tree_from n (last_word_line line others) tree.places) (long-said (last_word_line line others) line tree.split (b ∷ w) (c ∷ v) others h k)
+  long-first (b ∷ w) (c ∷ v) others h k = ap (tree_from n (last_word_line line others) tree.places) (long-said tree.version (last_word_line line others) line tree.half (b ∷ w) (c ∷ v) others h k)
 
   grown-length : (w : List ℕ) (b : ℕ) → 21 ≤ length w → 21 ≤ length (w ++ b ∷ [])
   grown-length w b h = omega (arith, length-append w (b ∷ []))

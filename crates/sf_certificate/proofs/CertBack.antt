@@ -10,12 +10,13 @@ use Rattle.sf_lex.specs.Scan.{Line, numbered, last_line_of}
 use Rattle.sf_polish.specs.declared.expr.Expr.{Expr}
 use Rattle.sf_polish.specs.Text.{IsWritable}
 use Rattle.sf_certificate.specs.declared.cert.Cert.{Cert}
+use Rattle.sf_certificate.specs.declared.version.Version.TheVariants.{Two}
 use Rattle.sf_certificate.specs.Places.{first_place}
 use Rattle.sf_certificate.specs.Text.{labelled, cost_text, plan_text, header_lines, tag_text, ended, cert_text, FitsTag}
-use Rattle.sf_certificate.specs.Reading.{number_in, line_by, header_read, cert_read, said_by}
+use Rattle.sf_certificate.specs.Reading.{version_in, line_by, header_read, cert_read, said_by}
 use Rattle.sf_certificate.proofs.HeaderReads.{header-whole, cert-whole}
 use Rattle.sf_certificate.proofs.WrittenBack.{lines-ended, line-append, decimal-line, tags-lines, tags-back}
-use Rattle.sf_certificate.proofs.HeaderBack.{number-back, cost-back, plan-back, expr-line, cost-line}
+use Rattle.sf_certificate.proofs.HeaderBack.{version-back, number-back, cost-back, plan-back, expr-line, cost-line}
 
 plan-line : (blocks : ℕ) (plan : Option Expr) → blocks < 2 ^ 16 → ((expr : Expr) → plan ≡ Some expr → IsWritable blocks expr) → has_none is_line_feed (plan_text plan) ≡ true
 plan-line blocks None small wr = refl
@@ -50,10 +51,10 @@ module _ (cert : Cert) (cost : cert.cost < 2 ^ 64) (bound : cert.bound < 2 ^ 64)
       let one : lines (ended tls) ≡ tls = ap lines (sym (append-nil (ended tls))) ∙ lines-ended tls [] (tags-lines cert.tags (recursion_from_All FitsTag cert.tags fits)) ∙ append-nil tls in
       lines-ended hs (ended tls) header-line ∙ ap (λ (x : List (List ℕ)). hs ++ x) one
 
-  title : number_in (codes "slicing-certificate") 1 (codes "slicing-certificate" ++ 32 ∷ codes "1") ≡ Some 1
+  title : version_in (codes "slicing-certificate") (codes "slicing-certificate" ++ 32 ∷ codes "2") ≡ Some Two
   title =
-      ap (λ v. number_in (codes "slicing-certificate") 1 (codes "slicing-certificate" ++ 32 ∷ v)) (sym (decimal_digit 1 (omega arith)))
-      ∙ number-back (codes "slicing-certificate") 1 refl (omega arith) refl (omega arith)
+      ap (λ v. version_in (codes "slicing-certificate") (codes "slicing-certificate" ++ 32 ∷ v)) (sym (decimal_digit 2 (omega arith)))
+      ∙ version-back (codes "slicing-certificate") refl (omega arith) refl
 
   pub cert-back : cert_read cert.blocks (cert_text cert) ≡ Ok (said_by cert)
   cert-back =
@@ -67,13 +68,13 @@ module _ (cert : Cert) (cost : cert.cost < 2 ^ 64) (bound : cert.bound < 2 ^ 64)
       let l2 : List Line = numbered 3 (labelled (codes "cost") (cost_text cert.cost) ∷ labelled (codes "bound") (cost_text cert.bound) ∷ labelled (codes "plan") (plan_text cert.plan) ∷ codes "tree" ∷ tls) in
       let l1 : List Line = numbered 2 (labelled (codes "blocks") (decimal n) ∷ labelled (codes "cost") (cost_text cert.cost) ∷ labelled (codes "bound") (cost_text cert.bound) ∷ labelled (codes "plan") (plan_text cert.plan) ∷ codes "tree" ∷ tls) in
       let l0 : List Line = numbered 1 (header_lines n cert.plan cert.cost cert.bound ++ tls) in
-      let header = header-whole n last l0 l1 l2 l3 l4 l5 l6 cert.cost cert.bound cert.plan
+      let header = header-whole n last Two l0 l1 l2 l3 l4 l5 l6 cert.cost cert.bound cert.plan
       (ap (line_by 1 l1) title)
       (ap (line_by 2 l2) (number-back (codes "blocks") n refl (omega arith) refl (omega (arith, small))))
       (ap (line_by 3 l3) (cost-back (codes "cost") cert.cost refl (omega arith) refl cost))
       (ap (line_by 4 l4) (cost-back (codes "bound") cert.bound refl (omega arith) refl bound))
       (ap (line_by 5 l5) (plan-back n cert.cost cert.plan small cert.form.planned cert.form.unplanned))
       refl in
-      cert-whole n (cert_text cert) (record { plan = cert.plan; cost = cert.cost; bound = cert.bound; others = l6 }) cert.tags
+      cert-whole n (cert_text cert) (record { version = Two; plan = cert.plan; cost = cert.cost; bound = cert.bound; others = l6 }) cert.tags
       (ap (λ ls. header_read n last (numbered 1 ls)) all-lines ∙ header)
       (tags-back n last 7 cert.tags (first_place ∷ []) (recursion_from_All FitsTag cert.tags fits) cert.form.tree)

@@ -27,9 +27,10 @@ use Rattle.sf_polish.specs.Reading.{expr_read}
 use Rattle.sf_polish.proofs.WordTexts.{below}
 use Rattle.sf_polish.proofs.Respelled.{expr-written}
 use Rattle.sf_polish.proofs.TextLaws.{spelled-expr}
+use Rattle.sf_certificate.specs.declared.version.Version.TheVariants.{Two}
 use Rattle.sf_certificate.specs.Form.{no_plan}
 use Rattle.sf_certificate.specs.Text.{cost_text, plan_text}
-use Rattle.sf_certificate.specs.Reading.{value_after, value_in, exactly, number_in, cost_of_word, cost_in, only_word, word_in, plan_read, plan_or, agreeing, plan_of_rest, plan_in}
+use Rattle.sf_certificate.specs.Reading.{value_after, value_in, version_of, version_of_word, version_in, exactly, number_in, cost_of_word, cost_in, only_word, word_in, plan_read, plan_or, agreeing, plan_of_rest, plan_in}
 use Rattle.sf_certificate.proofs.WrittenBack.{words-labelled, decimal-solid, decimal-line, line-append}
 
 -- ---- a label and a value
@@ -45,6 +46,12 @@ number-back label n e a b h =
     ap (λ o. exactly n (option_and_then (plain_read n) o)) (value-back label (decimal n) e a b (decimal_nonempty n h) (decimal-solid n h))
     ∙ ap (exactly n) (plain_written n n h (omega arith))
     ∙ ap (λ t. cond t (Some n) None) (same-number n)
+
+-- what is written is of the second version
+pub version-back : (label : List ℕ) → bytes_eq label label ≡ true → 0 < length label → has_none is_blank_byte label ≡ true → version_in label (label ++ 32 ∷ decimal 2) ≡ Some Two
+version-back label e a b =
+    ap (option_and_then version_of_word) (value-back label (decimal 2) e a b (decimal_nonempty 2 (omega arith)) (decimal-solid 2 (omega arith)))
+    ∙ ap (option_and_then version_of) (plain_written 2 2 (omega arith) (omega arith))
 
 not-none : (d : ℕ) → is_digit d ≡ true → (d == 110) ≡ false
 not-none d e = grind (arith, nat_tests)

@@ -9,7 +9,8 @@ use Rattle.sf_lex.specs.Scan.{Line, numbered, words_of_line, words_of_lines, las
 use Rattle.sf_polish.specs.declared.expr.Expr.{Expr}
 use Rattle.sf_certificate.specs.declared.fault.CertFault.{CertFault}
 use Rattle.sf_certificate.specs.declared.tag.Tag.{Tag}
-use Rattle.sf_certificate.specs.Reading.{◌>>=◌, Header, number_in, cost_in, plan_in, word_in, line_by, line_read, header_read, tree_read, cert_read}
+use Rattle.sf_certificate.specs.declared.version.Version.{Version}
+use Rattle.sf_certificate.specs.Reading.{◌>>=◌, Header, version_in, number_in, cost_in, plan_in, word_in, line_by, line_read, header_read, tree_read, cert_read}
 use Rattle.sf_certificate.specs.Bytes.{IsHeader, first_byte, bytes_on, said_with}
 use Rattle.sf_certificate.proofs.ByteReads.{last-append}
 use Rattle.sf_certificate.proofs.HeaderReads.{cert-header, cert-tree, cert-whole}
@@ -55,7 +56,7 @@ header-ended text five =
 
 -- the header, with these lines behind it
 abbrev with_lines : List Line → Result Header CertFault → Result Header CertFault
-with_lines more (Ok h) = Ok (record { plan = h.plan; cost = h.cost; bound = h.bound; others = more })
+with_lines more (Ok h) = Ok (record { version = h.version; plan = h.plan; cost = h.cost; bound = h.bound; others = more })
 with_lines more (Err e) = Err e
 
 -- one line is read, whatever stands behind the six
@@ -66,33 +67,33 @@ line-step number long short more (Some x) f g next = next x
 
 -- what is read after each line
 module _ (blocks last : ℕ) where
-  abbrev on-tree : ℕ → ℕ → Option Expr × List Line → Result Header CertFault
-  on-tree cost bound plan = do
+  abbrev on-tree : Version → ℕ → ℕ → Option Expr × List Line → Result Header CertFault
+  on-tree version cost bound plan = do
     tree ← line_read last (word_in (codes "tree")) plan.1
-    Ok (record { plan = plan.0; cost = cost; bound = bound; others = tree.1 })
+    Ok (record { version = version; plan = plan.0; cost = cost; bound = bound; others = tree.1 })
 
-  abbrev on-plan : ℕ → ℕ × List Line → Result Header CertFault
-  on-plan cost bound = line_read last (plan_in blocks cost) bound.1 >>= on-tree cost bound.0
+  abbrev on-plan : Version → ℕ → ℕ × List Line → Result Header CertFault
+  on-plan version cost bound = line_read last (plan_in blocks cost) bound.1 >>= on-tree version cost bound.0
 
-  abbrev on-bound : ℕ × List Line → Result Header CertFault
-  on-bound cost = line_read last (cost_in (codes "bound")) cost.1 >>= on-plan cost.0
+  abbrev on-bound : Version → ℕ × List Line → Result Header CertFault
+  on-bound version cost = line_read last (cost_in (codes "bound")) cost.1 >>= on-plan version cost.0
 
-  abbrev on-cost : ℕ × List Line → Result Header CertFault
-  on-cost count = line_read last (cost_in (codes "cost")) count.1 >>= on-bound
+  abbrev on-cost : Version → ℕ × List Line → Result Header CertFault
+  on-cost version count = line_read last (cost_in (codes "cost")) count.1 >>= on-bound version
 
-  abbrev on-count : ℕ × List Line → Result Header CertFault
-  on-count title = line_read last (number_in (codes "blocks") blocks) title.1 >>= on-cost
+  abbrev on-count : Version × List Line → Result Header CertFault
+  on-count title = line_read last (number_in (codes "blocks") blocks) title.1 >>= on-cost title.0
 
 six-lines : (blocks last other : ℕ) (a b c d e f : Line) (more : List Line) → header_read blocks last (a ∷ b ∷ c ∷ d ∷ e ∷ f ∷ more) ≡ with_lines more (header_read blocks other (a ∷ b ∷ c ∷ d ∷ e ∷ f ∷ []))
 unfolding header_read
 six-lines blocks last other a b c d e f more =
-    line-step {X = ℕ} a.number (b ∷ c ∷ d ∷ e ∷ f ∷ more) (b ∷ c ∷ d ∷ e ∷ f ∷ []) more (number_in (codes "slicing-certificate") 1 a.bytes) (on-count blocks last) (on-count blocks other) (λ title.
-    line-step {X = ℕ} b.number (c ∷ d ∷ e ∷ f ∷ more) (c ∷ d ∷ e ∷ f ∷ []) more (number_in (codes "blocks") blocks b.bytes) (on-cost blocks last) (on-cost blocks other) (λ count.
-    line-step {X = ℕ} c.number (d ∷ e ∷ f ∷ more) (d ∷ e ∷ f ∷ []) more (cost_in (codes "cost") c.bytes) (on-bound blocks last) (on-bound blocks other) (λ cost.
-    line-step {X = ℕ} d.number (e ∷ f ∷ more) (e ∷ f ∷ []) more (cost_in (codes "bound") d.bytes) (on-plan blocks last cost) (on-plan blocks other cost) (λ bound.
-    line-step {X = Option Expr} e.number (f ∷ more) (f ∷ []) more (plan_in blocks cost e.bytes) (on-tree blocks last cost bound) (on-tree blocks other cost bound) (λ plan.
+    line-step {X = Version} a.number (b ∷ c ∷ d ∷ e ∷ f ∷ more) (b ∷ c ∷ d ∷ e ∷ f ∷ []) more (version_in (codes "slicing-certificate") a.bytes) (on-count blocks last) (on-count blocks other) (λ version.
+    line-step {X = ℕ} b.number (c ∷ d ∷ e ∷ f ∷ more) (c ∷ d ∷ e ∷ f ∷ []) more (number_in (codes "blocks") blocks b.bytes) (on-cost blocks last version) (on-cost blocks other version) (λ count.
+    line-step {X = ℕ} c.number (d ∷ e ∷ f ∷ more) (d ∷ e ∷ f ∷ []) more (cost_in (codes "cost") c.bytes) (on-bound blocks last version) (on-bound blocks other version) (λ cost.
+    line-step {X = ℕ} d.number (e ∷ f ∷ more) (e ∷ f ∷ []) more (cost_in (codes "bound") d.bytes) (on-plan blocks last version cost) (on-plan blocks other version cost) (λ bound.
+    line-step {X = Option Expr} e.number (f ∷ more) (f ∷ []) more (plan_in blocks cost e.bytes) (on-tree blocks last version cost bound) (on-tree blocks other version cost bound) (λ plan.
     line-step {X = List ℕ} f.number more [] more (word_in (codes "tree") f.bytes)
-    (λ (x : List ℕ × List Line). Ok (record { plan = plan; cost = cost; bound = bound; others = x.1 })) (λ (x : List ℕ × List Line). Ok (record { plan = plan; cost = cost; bound = bound; others = x.1 })) (λ tree. refl))))))
+    (λ (x : List ℕ × List Line). Ok (record { version = version; plan = plan; cost = cost; bound = bound; others = x.1 })) (λ (x : List ℕ × List Line). Ok (record { version = version; plan = plan; cost = cost; bound = bound; others = x.1 })) (λ tree. refl))))))
 
 header-more : (blocks last other : ℕ) (all more : List Line) → length all ≡ 6 → header_read blocks last (all ++ more) ≡ with_lines more (header_read blocks other all)
 header-more blocks last other [] more h = absurd (omega (arith, h))
@@ -116,8 +117,8 @@ length-numbered : (n : ℕ) (all : List (List ℕ)) → length (numbered n all) 
 length-numbered n [] = refl
 length-numbered n (l ∷ all) = ap suc (length-numbered (n + 1) all)
 
-said-read : (blocks : ℕ) (text : List ℕ) (header : Header) (r : Result (List Tag) CertFault) → header_read blocks (last_line_of text) (numbered 1 (lines text)) ≡ Ok header → tree_read blocks (last_line_of text) (words_of_lines header.others) ≡ r
-    → cert_read blocks text ≡ said_with blocks (record { plan = header.plan; cost = header.cost; bound = header.bound }) r
+said-read : (blocks : ℕ) (text : List ℕ) (header : Header) (r : Result (List Tag) CertFault) → header_read blocks (last_line_of text) (numbered 1 (lines text)) ≡ Ok header → tree_read header.version blocks (last_line_of text) (words_of_lines header.others) ≡ r
+    → cert_read blocks text ≡ said_with blocks (record { version = header.version; plan = header.plan; cost = header.cost; bound = header.bound }) r
 said-read blocks text header (Ok tags) h t = cert-whole blocks text header tags h t
 said-read blocks text header (Err e) h t = cert-tree blocks text header e h t
 
@@ -138,11 +139,11 @@ module _ (blocks other : ℕ) (text : List ℕ) (whole : IsHeader text) (rest : 
   header-both = ap (header_read blocks (last_line_of (text ++ rest))) both ∙ header-more blocks (last_line_of (text ++ rest)) other (numbered 1 (lines text)) (numbered 7 (lines rest)) (length-numbered 1 (lines text) ∙ whole.six)
 
   pub opened : (header : Header) → header_read blocks other (numbered 1 (lines text)) ≡ Ok header
-      → cert_read blocks (text ++ rest) ≡ said_with blocks (record { plan = header.plan; cost = header.cost; bound = header.bound }) (bytes_on blocks (first_byte 7 (last_line_of text)) rest)
+      → cert_read blocks (text ++ rest) ≡ said_with blocks (record { version = header.version; plan = header.plan; cost = header.cost; bound = header.bound }) (bytes_on blocks (first_byte header.version 7 (last_line_of text)) rest)
   opened header e =
-      said-read blocks (text ++ rest) (record { plan = header.plan; cost = header.cost; bound = header.bound; others = numbered 7 (lines rest) }) (bytes_on blocks (first_byte 7 (last_line_of text)) rest)
+      said-read blocks (text ++ rest) (record { version = header.version; plan = header.plan; cost = header.cost; bound = header.bound; others = numbered 7 (lines rest) }) (bytes_on blocks (first_byte header.version 7 (last_line_of text)) rest)
       (header-both ∙ ap (with_lines (numbered 7 (lines rest))) e)
-      (ap (λ l. tree_read blocks l (words_of_lines (numbered 7 (lines rest)))) last-both)
+      (ap (λ l. tree_read header.version blocks l (words_of_lines (numbered 7 (lines rest)))) last-both)
 
   pub opened-fault : (e : CertFault) → header_read blocks other (numbered 1 (lines text)) ≡ Err e → cert_read blocks (text ++ rest) ≡ Err e
   opened-fault e h = cert-header blocks (text ++ rest) e (header-both ∙ ap (with_lines (numbered 7 (lines rest))) h)

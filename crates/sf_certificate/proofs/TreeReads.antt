@@ -4,15 +4,17 @@ use Rattle.std.specs.Prelude.{◌≢◌, IfOk, IfErr, nat_lt}
 use Rattle.std.proofs.lemmas.Result.{IfOk-weaker, IfErr-weaker}
 use Rattle.std.proofs.lemmas.Bool.Decides.{nat_tests}
 use Rattle.sf_lex.specs.Scan.{LineWord}
-use Rattle.sf_lex.specs.Whole.{whole_read}
 use Rattle.sf_certificate.specs.declared.fault.CertFault.{CertFault}
 use Rattle.sf_certificate.specs.declared.fault.CertFault.TheVariants.{TooDeep, Truncated, Trailing, NoMemory}
+use Rattle.sf_certificate.specs.declared.letter.HalfTag.{HalfTag}
 use Rattle.sf_certificate.specs.declared.letter.Letter.{Letter}
-use Rattle.sf_certificate.specs.declared.letter.Letter.TheVariants as letter
+use Rattle.sf_certificate.specs.declared.letter.Letter.TheVariants.{First}
+use Rattle.sf_certificate.specs.declared.letter.Second.{Second}
 use Rattle.sf_certificate.specs.declared.place.Place.{Place}
 use Rattle.sf_certificate.specs.declared.tag.Tag.{Tag}
+use Rattle.sf_certificate.specs.declared.version.Version.{Version}
 use Rattle.sf_certificate.specs.Places.{places_under, spell_trees}
-use Rattle.sf_certificate.specs.Reading.{TagSaid, letter_of, by_letter, split_by, tags_said, Reader, first_reader, read_on, with_tags, with_some, tree_read, with_tag, tag_at, tree_from}
+use Rattle.sf_certificate.specs.Reading.{TagSaid, letter_of, by_letter, tag_by, tags_said, Reader, first_reader, read_on, with_tags, with_some, tree_read, with_tag, tag_at, tree_from}
 
 pub with_tags-more : (tags : List Tag) (tag : Tag) (r : Result (List Tag) CertFault) → with_tags tags (with_tag tag r) ≡ with_tags (tags ++ tag ∷ []) r
 with_tags-more tags tag (Ok more) = ap Ok (sym (append_assoc tags (tag ∷ []) more))
@@ -26,9 +28,9 @@ with_tags-none (Err fault) = refl
 abbrev pub IsReading : ℕ → ℕ → Result (List Tag) CertFault → List Tag → Reader → List LineWord → Type 0
 IsReading n last whole tags reader words = whole ≡ with_tags tags (read_on n last reader words)
 
-pub reading-start : (n last : ℕ) (tags : List Tag) (reader : Reader) (words : List LineWord) → tags ≡ [] → reader ≡ first_reader → tree_read n last words ≡ with_tags tags (read_on n last reader words)
-reading-start n last tags reader words none same =
-    sym (with_tags-none (tree_read n last words)) ∙ ap (λ ts. with_tags ts (tree_read n last words)) (sym none) ∙ ap (λ r. with_tags tags (read_on n last r words)) (sym same)
+pub reading-start : (version : Version) (n last : ℕ) (tags : List Tag) (reader : Reader) (words : List LineWord) → tags ≡ [] → reader ≡ first_reader version → tree_read version n last words ≡ with_tags tags (read_on n last reader words)
+reading-start version n last tags reader words none same =
+    sym (with_tags-none (tree_read version n last words)) ∙ ap (λ ts. with_tags ts (tree_read version n last words)) (sym none) ∙ ap (λ r. with_tags tags (read_on n last r words)) (sym same)
 
 with-none : (tags : List Tag) (tag : Option Tag) (r : Result (List Tag) CertFault) → tag ≡ None → with_tags tags (with_some tag r) ≡ with_tags tags r
 with-none tags tag r e = ap (λ o. with_tags tags (with_some o r)) e
@@ -92,72 +94,81 @@ module _ (n : ℕ) (places : List Place) (line : ℕ) (said : Result Tag CertFau
         ∙ ap (λ b. cond b next (Err (TooDeep line))) (shallow-true place.depth shallow)
         ∙ ap (λ ps. with_tag tag (tree_from n last ps others)) (sym below)
 
-pub then-none : {X : Type 0} (r : Result X CertFault) (new old : Option ℕ) → old ≡ None → IfOk r (λ (x : X). new ≡ old) → IfOk r (λ (x : X). new ≡ None)
+pub then-none : {X : Type 0} (r : Result X CertFault) (new old : Option HalfTag) → old ≡ None → IfOk r (λ (x : X). new ≡ old) → IfOk r (λ (x : X). new ≡ None)
 then-none r new old none f = IfOk-weaker r (λ x. new ≡ old) _ (λ x e. e ∙ none) f
 
 -- a word that says a tag, or a fault of one
-module _ (n : ℕ) (old : Reader) (word : LineWord) (places : List Place) (said : TagSaid) (r : Result (Option Tag) CertFault) (step : (last : ℕ) (others : List LineWord) → read_on n last old (word ∷ others) ≡ tree_from n last places (said ∷ tags_said last None others)) where
+module _ (n : ℕ) (old : Reader) (word : LineWord) (places : List Place) (said : TagSaid) (r : Result (Option Tag) CertFault) (step : (last : ℕ) (others : List LineWord) → read_on n last old (word ∷ others) ≡ tree_from n last places (said ∷ tags_said old.version last None others)) where
   pub said-tag : (new : Reader)
       → IfOk r (λ tag. (last : ℕ) (others : List TagSaid) → tree_from n last places (said ∷ others) ≡ with_some tag (tree_from n last new.places others))
-      → IfOk r (λ tag. new.split ≡ None)
+      → IfOk r (λ tag. new.half ≡ None) → new.version ≡ old.version
       → IfOk r (λ tag. (last : ℕ) (others : List LineWord) → read_on n last old (word ∷ others) ≡ with_some tag (read_on n last new others))
-  said-tag new f none =
+  said-tag new f none same =
       elim r as (λ r. IfOk r (λ tag. (last : ℕ) (others : List TagSaid) → tree_from n last places (said ∷ others) ≡ with_some tag (tree_from n last new.places others))
-      → IfOk r (λ tag. new.split ≡ None)
+      → IfOk r (λ tag. new.half ≡ None)
       → IfOk r (λ tag. (last : ℕ) (others : List LineWord) → read_on n last old (word ∷ others) ≡ with_some tag (read_on n last new others))) [
-        | Ok tag ↦ (λ f none last others. step last others ∙ f last (tags_said last None others) ∙ ap (λ s. with_some tag (tree_from n last new.places (tags_said last s others))) (sym none))
+        | Ok tag ↦ (λ f none last others. step last others ∙ f last (tags_said old.version last None others)
+            ∙ ap (λ v. with_some tag (tree_from n last new.places (tags_said v last None others))) (sym same)
+            ∙ ap (λ s. with_some tag (tree_from n last new.places (tags_said new.version last s others))) (sym none))
         | Err fault ↦ (λ f none. tt)
       ] f none
 
   pub said-fault : IfErr r (λ e. e ≢ NoMemory → (last : ℕ) (others : List TagSaid) → tree_from n last places (said ∷ others) ≡ Err e)
       → IfErr r (λ e. e ≢ NoMemory → (last : ℕ) (others : List LineWord) → read_on n last old (word ∷ others) ≡ Err e)
-  said-fault f = IfErr-weaker r (λ e. e ≢ NoMemory → (last : ℕ) (others : List TagSaid) → tree_from n last places (said ∷ others) ≡ Err e) _ (λ e g ne last others. step last others ∙ g ne last (tags_said last None others)) f
+  said-fault f = IfErr-weaker r (λ e. e ≢ NoMemory → (last : ℕ) (others : List TagSaid) → tree_from n last places (said ∷ others) ≡ Err e) _ (λ e g ne last others. step last others ∙ g ne last (tags_said old.version last None others)) f
 
--- the number of an S
-pub number-step : (n : ℕ) (old : Reader) (word : LineWord) (at : ℕ) (said : Result Tag CertFault) (places : List Place) → old.split ≡ Some at → said ≡ split_by at (whole_read 65535 word.text) → old.places ≡ places
-    → (last : ℕ) (others : List LineWord) → read_on n last old (word ∷ others) ≡ tree_from n last places (record { line = at; tag = said } ∷ tags_said last None others)
+-- the second word of a tag
+pub second-step : (n : ℕ) (old : Reader) (word : LineWord) (at : HalfTag) (said : Result Tag CertFault) (places : List Place) → old.half ≡ Some at → said ≡ tag_by at word.text → old.places ≡ places
+    → (last : ℕ) (others : List LineWord) → read_on n last old (word ∷ others) ≡ tree_from n last places (record { line = at.line; tag = said } ∷ tags_said old.version last None others)
 unfolding tags_said
-number-step n old word at said places split is same last others =
-    ap (λ s. tree_from n last old.places (tags_said last s (word ∷ others))) split
-    ∙ ap (λ t. tree_from n last old.places (record { line = at; tag = t } ∷ tags_said last None others)) (sym is)
-    ∙ ap (λ ps. tree_from n last ps (record { line = at; tag = said } ∷ tags_said last None others)) same
+second-step n old word at said places half is same last others =
+    ap (λ s. tree_from n last old.places (tags_said old.version last s (word ∷ others))) half
+    ∙ ap (λ t. tree_from n last old.places (record { line = at.line; tag = t } ∷ tags_said old.version last None others)) (sym is)
+    ∙ ap (λ ps. tree_from n last ps (record { line = at.line; tag = said } ∷ tags_said old.version last None others)) same
 
--- a letter
-module _ (n : ℕ) (old : Reader) (word : LineWord) (l : Option Letter) (none : old.split ≡ None) (is : letter_of word.text ≡ l) where
-  letter-reads : (last : ℕ) (others : List LineWord) → read_on n last old (word ∷ others) ≡ tree_from n last old.places (by_letter word.line l (tags_said last None others) (tags_said last (Some word.line) others))
+-- the first word of a tag
+module _ (n : ℕ) (old : Reader) (word : LineWord) (l : Option Letter) (none : old.half ≡ None) (is : letter_of old.version word.text ≡ l) where
+  -- what is said where a second word comes next
+  abbrev said-after : ℕ → List LineWord → Second → List TagSaid
+  said-after last others second = tags_said old.version last (Some (record { second = second; line = word.line })) others
+
+  letter-reads : (last : ℕ) (others : List LineWord) → read_on n last old (word ∷ others) ≡ tree_from n last old.places (by_letter word.line l (tags_said old.version last None others) (said-after last others))
   unfolding tags_said
   letter-reads last others =
-      ap (λ s. tree_from n last old.places (tags_said last s (word ∷ others))) none
-      ∙ ap (λ k. tree_from n last old.places (by_letter word.line k (tags_said last None others) (tags_said last (Some word.line) others))) is
+      ap (λ s. tree_from n last old.places (tags_said old.version last s (word ∷ others))) none
+      ∙ ap (λ k. tree_from n last old.places (by_letter word.line k (tags_said old.version last None others) (said-after last others))) is
 
-  pub letter-step : (said : Result Tag CertFault) → ((a b : List TagSaid) → by_letter word.line l a b ≡ record { line = word.line; tag = said } ∷ a)
-      → (last : ℕ) (others : List LineWord) → read_on n last old (word ∷ others) ≡ tree_from n last old.places (record { line = word.line; tag = said } ∷ tags_said last None others)
-  letter-step said says last others = letter-reads last others ∙ ap (tree_from n last old.places) (says (tags_said last None others) (tags_said last (Some word.line) others))
+  pub letter-step : (said : Result Tag CertFault) → ((a : List TagSaid) (b : Second → List TagSaid) → by_letter word.line l a b ≡ record { line = word.line; tag = said } ∷ a)
+      → (last : ℕ) (others : List LineWord) → read_on n last old (word ∷ others) ≡ tree_from n last old.places (record { line = word.line; tag = said } ∷ tags_said old.version last None others)
+  letter-step said says last others = letter-reads last others ∙ ap (tree_from n last old.places) (says (tags_said old.version last None others) (said-after last others))
 
-  -- an S waits for its number
-  pub letter-split : l ≡ Some letter.Split → (places : List Place) → old.places ≡ places → (last : ℕ) (others : List LineWord) → read_on n last old (word ∷ others) ≡ tree_from n last places (tags_said last (Some word.line) others)
-  letter-split e places same last others =
-      letter-reads last others ∙ ap (λ k. tree_from n last old.places (by_letter word.line k (tags_said last None others) (tags_said last (Some word.line) others))) e
-      ∙ ap (λ ps. tree_from n last ps (tags_said last (Some word.line) others)) same
+  -- a tag of two words waits for the second
+  pub letter-first : (second : Second) → l ≡ Some (First second) → (new : Reader) → new.places ≡ old.places → new.version ≡ old.version → new.half ≡ Some (record { second = second; line = word.line })
+      → (last : ℕ) (others : List LineWord) → read_on n last old (word ∷ others) ≡ read_on n last new others
+  letter-first second e new places version half last others =
+      letter-reads last others ∙ ap (λ k. tree_from n last old.places (by_letter word.line k (tags_said old.version last None others) (said-after last others))) e
+      ∙ ap (λ h. tree_from n last old.places (tags_said old.version last h others)) (sym half)
+      ∙ ap (λ v. tree_from n last old.places (tags_said v last new.half others)) (sym version)
+      ∙ ap (λ ps. tree_from n last ps (tags_said new.version last new.half others)) (sym places)
 
 -- ---- after the last word
 
 module _ (n last : ℕ) (reader : Reader) where
-  pub read-done : reader.places ≡ [] → reader.split ≡ None → read_on n last reader [] ≡ Ok []
+  pub read-done : reader.places ≡ [] → reader.half ≡ None → read_on n last reader [] ≡ Ok []
   unfolding tree_from tags_said
-  read-done none unsplit = ap (λ s. tree_from n last reader.places (tags_said last s [])) unsplit ∙ ap (λ ps. tree_from n last ps []) none
+  read-done none whole = ap (λ s. tree_from n last reader.places (tags_said reader.version last s [])) whole ∙ ap (λ ps. tree_from n last ps []) none
 
-  pub read-trailing : (line : ℕ) → reader.places ≡ [] → reader.split ≡ Some line → read_on n last reader [] ≡ Err (Trailing line)
+  pub read-trailing : (at : HalfTag) → reader.places ≡ [] → reader.half ≡ Some at → read_on n last reader [] ≡ Err (Trailing at.line)
   unfolding tree_from tags_said
-  read-trailing line none at = ap (λ s. tree_from n last reader.places (tags_said last s [])) at ∙ ap (λ ps. tree_from n last ps (tags_said last (Some line) [])) none
+  read-trailing at none half = ap (λ s. tree_from n last reader.places (tags_said reader.version last s [])) half ∙ ap (λ ps. tree_from n last ps (tags_said reader.version last (Some at) [])) none
 
-  cut-by : (place : Place) (more : List Place) (split : Option ℕ) → tree_from n last (place ∷ more) (tags_said last split []) ≡ Err (Truncated last)
+  cut-by : (place : Place) (more : List Place) (half : Option HalfTag) → tree_from n last (place ∷ more) (tags_said reader.version last half []) ≡ Err (Truncated last)
   unfolding tree_from tags_said
   cut-by place more None = refl
-  cut-by place more (Some line) = refl
+  cut-by place more (Some at) = refl
 
   pub read-cut : (place : Place) (more : List Place) → reader.places ≡ place ∷ more → read_on n last reader [] ≡ Err (Truncated last)
-  read-cut place more is = ap (λ ps. tree_from n last ps (tags_said last reader.split [])) is ∙ cut-by place more reader.split
+  read-cut place more is = ap (λ ps. tree_from n last ps (tags_said reader.version last reader.half [])) is ∙ cut-by place more reader.half
 
 -- ---- what is read spells a tree
 

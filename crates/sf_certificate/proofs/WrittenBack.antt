@@ -15,8 +15,10 @@ use Rattle.sf_lex.proofs.WrittenNumbers.{digits_written, whole_written}
 use Rattle.sf_certificate.specs.declared.fault.CertFault.{CertFault}
 use Rattle.sf_certificate.specs.declared.fault.CertFault.TheVariants.{TooDeep}
 use Rattle.sf_certificate.specs.declared.place.Place.{Place}
+use Rattle.sf_node.specs.declared.part.Part.TheVariants.{Area, Range, Pair, Hull, Full}
 use Rattle.sf_certificate.specs.declared.tag.Tag.{Tag}
 use Rattle.sf_certificate.specs.declared.tag.Tag.TheVariants.{Extend, Split, Closed, Open}
+use Rattle.sf_certificate.specs.declared.version.Version.TheVariants.{Two}
 use Rattle.sf_certificate.specs.Places.{places_under, spell_trees}
 use Rattle.sf_certificate.specs.Text.{tag_text, ended, FitsTag}
 use Rattle.sf_certificate.specs.Reading.{TagSaid, tags_said, split_by, with_tag, tree_from}
@@ -65,7 +67,11 @@ words-labelled label value a b c d = words-written is_blank_byte label value 32 
 tag-line : (tag : Tag) → FitsTag tag → has_none is_line_feed (tag_text tag) ≡ true
 tag-line Extend h = refl
 tag-line (Split b) h = line-append (83 ∷ 32 ∷ []) (decimal b) refl (decimal-line b (omega (arith, h)))
-tag-line Closed h = refl
+tag-line (Closed Area) h = refl
+tag-line (Closed Range) h = refl
+tag-line (Closed Pair) h = refl
+tag-line (Closed Hull) h = refl
+tag-line (Closed Full) h = refl
 tag-line Open h = refl
 
 pub tags-lines : (tags : List Tag) → AllByRecursion FitsTag tags → AllByRecursion (λ l. has_none is_line_feed l ≡ true) (map tag_text tags)
@@ -80,13 +86,17 @@ split-words k b h =
     ap (map (λ w. record { line = k; text = w }))
     (words-labelled (83 ∷ []) (decimal b) (omega arith) refl (decimal_nonempty b (omega (arith, h))) (decimal-solid b (omega (arith, h))))
 
-step-said : (last k : ℕ) (tag : Tag) (others : List LineWord) → FitsTag tag → tags_said last None (words_of_line (record { number = k; bytes = tag_text tag }) ++ others) ≡ record { line = k; tag = Ok tag } ∷ tags_said last None others
+step-said : (last k : ℕ) (tag : Tag) (others : List LineWord) → FitsTag tag → tags_said Two last None (words_of_line (record { number = k; bytes = tag_text tag }) ++ others) ≡ record { line = k; tag = Ok tag } ∷ tags_said Two last None others
 unfolding tags_said
 step-said last k Extend others h = refl
 step-said last k (Split b) others h =
-    ap (λ ws. tags_said last None (ws ++ others)) (split-words k b h)
-    ∙ ap (λ r. record { line = k; tag = split_by k r } ∷ tags_said last None others) (whole_written b 65535 (omega (arith, h)) (omega (arith, h)))
-step-said last k Closed others h = refl
+    ap (λ ws. tags_said Two last None (ws ++ others)) (split-words k b h)
+    ∙ ap (λ r. record { line = k; tag = split_by k r } ∷ tags_said Two last None others) (whole_written b 65535 (omega (arith, h)) (omega (arith, h)))
+step-said last k (Closed Area) others h = refl
+step-said last k (Closed Range) others h = refl
+step-said last k (Closed Pair) others h = refl
+step-said last k (Closed Hull) others h = refl
+step-said last k (Closed Full) others h = refl
 step-said last k Open others h = refl
 
 tree-step : (n last k : ℕ) (tag : Tag) (tags : List Tag) (place : Place) (places : List Place) (others : List TagSaid) → nat_lt place.depth 3200 ≡ true → tree_from n last (places_under n tag place ++ places) others ≡ Ok tags → tree_from n last (place ∷ places) (record { line = k; tag = Ok tag } ∷ others) ≡ Ok (tag ∷ tags)
@@ -95,7 +105,7 @@ tree-step n last k tag tags place places others d e =
     deep-enough place k (with_tag tag (tree_from n last (places_under n tag place ++ places) others)) d ∙ ap (with_tag tag) e
 
 -- the lines of the tags are read as the tags
-pub tags-back : (n last k : ℕ) (tags : List Tag) (places : List Place) → AllByRecursion FitsTag tags → spell_trees n places tags ≡ true → tree_from n last places (tags_said last None (words_of_lines (numbered k (map tag_text tags)))) ≡ Ok tags
+pub tags-back : (n last k : ℕ) (tags : List Tag) (places : List Place) → AllByRecursion FitsTag tags → spell_trees n places tags ≡ true → tree_from n last places (tags_said Two last None (words_of_lines (numbered k (map tag_text tags)))) ≡ Ok tags
 unfolding tags_said tree_from
 tags-back n last k [] [] h s = refl
 tags-back n last k [] (place ∷ places) h s = absurd (cc)
@@ -104,4 +114,4 @@ tags-back n last k (tag ∷ tags) (place ∷ places) h s =
     let both = and_true (nat_lt place.depth 3200) (spell_trees n (places_under n tag place ++ places) tags) s in
     let more = tags-back n last (k + 1) tags (places_under n tag place ++ places) h.1 both.1 in
     ap (tree_from n last (place ∷ places)) (step-said last k tag (words_of_lines (numbered (k + 1) (map tag_text tags))) h.0)
-    ∙ tree-step n last k tag tags place places (tags_said last None (words_of_lines (numbered (k + 1) (map tag_text tags)))) both.0 more
+    ∙ tree-step n last k tag tags place places (tags_said Two last None (words_of_lines (numbered (k + 1) (map tag_text tags)))) both.0 more

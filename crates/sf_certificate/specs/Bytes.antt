@@ -6,6 +6,7 @@ use Rattle.sf_lex.specs.Scan.{LineWord, numbered, words_of_lines, last_word_line
 use Rattle.sf_certificate.specs.declared.fault.CertFault.{CertFault}
 use Rattle.sf_certificate.specs.declared.header.Header.{Header}
 use Rattle.sf_certificate.specs.declared.tag.Tag.{Tag}
+use Rattle.sf_certificate.specs.declared.version.Version.{Version}
 use Rattle.sf_certificate.specs.Reading.{Reader, Said, first_reader, read_on}
 
 -- a reader of a tree between two bytes: what it was between two words, the word that isn't ended yet, the line in which the
@@ -17,8 +18,8 @@ pub record Bytewise : Type 0 where
   pub last : ℕ
 
 -- before the first byte of a tree, which stands in this line, where the last line that holds a word is that
-abbrev pub first_byte : ℕ → ℕ → Bytewise
-first_byte line last = record { tree = first_reader; word = []; line = line; last = last }
+abbrev pub first_byte : Version → ℕ → ℕ → Bytewise
+first_byte version line last = record { tree = first_reader version; word = []; line = line; last = last }
 
 -- the words from here on: the first of them may have begun
 abbrev pub words_on : Bytewise → List ℕ → List LineWord

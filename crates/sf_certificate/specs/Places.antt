@@ -74,7 +74,7 @@ extended_places n place = when_so (may_beside place) (joined Beside place) ++ wh
 abbrev pub places_under : ℕ → Tag → Place → List Place
 places_under n Extend place = if is_full n place then [] else extended_places n place
 places_under n (Split b) place = below place ∷ below place ∷ []
-places_under n Closed place = []
+places_under n (Closed p) place = []
 places_under n Open place = []
 
 -- the tags spell, in preorder, one tree for each of the places, and none stands at depth 3,200 or deeper

@@ -1,4 +1,4 @@
--- What a text is read as: the certificate that it spells, or its first fault.
+-- What a text of either version is read as: the certificate that it spells, or its first fault.
 use Rattle.std.specs.Prelude.{ℕ, ◌==◌, nat_lt, List, [], ◌∷◌, ◌++◌, codes, Option, Some, None, Result, Ok, Err, if◌then◌else◌}
 use Rattle.std.specs.Option.{option_and_then}
 use Rattle.std.specs.Str.{bytes_eq}
@@ -14,11 +14,18 @@ use Rattle.sf_polish.specs.Reading.{expr_read}
 use Rattle.sf_certificate.specs.declared.cert.Cert.{Cert}
 use Rattle.sf_certificate.specs.declared.fault.CertFault.{CertFault}
 use Rattle.sf_certificate.specs.declared.fault.CertFault.TheVariants.{BadHeader, BadTag, TooDeep, Truncated, Trailing}
+use Rattle.sf_node.specs.declared.part.Part.{Part}
+use Rattle.sf_node.specs.declared.part.Part.TheVariants.{Area, Range, Pair, Hull, Full}
+use Rattle.sf_certificate.specs.declared.letter.HalfTag.{HalfTag}
 use Rattle.sf_certificate.specs.declared.letter.Letter.{Letter}
-use Rattle.sf_certificate.specs.declared.letter.Letter.TheVariants as letter
+use Rattle.sf_certificate.specs.declared.letter.Letter.TheVariants.{Whole, First}
+use Rattle.sf_certificate.specs.declared.letter.Second.{Second}
+use Rattle.sf_certificate.specs.declared.letter.Second.TheVariants as second
 use Rattle.sf_certificate.specs.declared.place.Place.{Place}
 use Rattle.sf_certificate.specs.declared.tag.Tag.{Tag}
 use Rattle.sf_certificate.specs.declared.tag.Tag.TheVariants.{Extend, Split, Closed, Open}
+use Rattle.sf_certificate.specs.declared.version.Version.{Version}
+use Rattle.sf_certificate.specs.declared.version.Version.TheVariants.{One, Two}
 use Rattle.sf_certificate.specs.Places.{first_place, places_under}
 
 -- one reading after another: the first fault is the fault of both
@@ -38,6 +45,18 @@ value_after label (first ∷ value ∷ other ∷ others) = None
 
 abbrev pub value_in : List ℕ → List ℕ → Option (List ℕ)
 value_in label line = value_after label (words is_blank_byte line)
+
+-- the version that is named by a number
+abbrev pub version_of : ℕ → Option Version
+version_of n = if n == 1 then Some One else (if n == 2 then Some Two else None)
+
+-- 1 or 2, without zeros at the front
+abbrev pub version_of_word : List ℕ → Option Version
+version_of_word word = option_and_then version_of (plain_read 2 word)
+
+-- a label and a version
+abbrev pub version_in : List ℕ → List ℕ → Option Version
+version_in label line = option_and_then version_of_word (value_in label line)
 
 -- the number, where it is this one
 abbrev pub exactly : ℕ → Option ℕ → Option ℕ
@@ -101,6 +120,7 @@ line_read last rule [] = Err (BadHeader last)
 line_read last rule (line ∷ others) = line_by line.number others (rule line.bytes)
 
 pub record Header : Type 0 where
+  pub version : Version
   pub plan : Option Expr
   pub cost : ℕ
   pub bound : ℕ
@@ -108,13 +128,13 @@ pub record Header : Type 0 where
 
 unfoldable pub header_read : ℕ → ℕ → List Line → Result Header CertFault
 header_read blocks last all = do
-  title ← line_read last (number_in (codes "slicing-certificate") 1) all
+  title ← line_read last (version_in (codes "slicing-certificate")) all
   count ← line_read last (number_in (codes "blocks") blocks) title.1
   cost ← line_read last (cost_in (codes "cost")) count.1
   bound ← line_read last (cost_in (codes "bound")) cost.1
   plan ← line_read last (plan_in blocks cost.0) bound.1
   tree ← line_read last (word_in (codes "tree")) plan.1
-  Ok (record { plan = plan.0; cost = cost.0; bound = bound.0; others = tree.1 })
+  Ok (record { version = title.0; plan = plan.0; cost = cost.0; bound = bound.0; others = tree.1 })
 
 -- ---- the tree
 
@@ -123,38 +143,68 @@ pub record TagSaid : Type 0 where
   pub line : ℕ
   pub tag : Result Tag CertFault
 
-abbrev pub letter_by : ℕ → Option Letter
-letter_by b =
-    if b == 69 then Some letter.Extend
-    else (if b == 83 then Some letter.Split
-    else (if b == 67 then Some letter.Closed
-    else (if b == 79 then Some letter.Open
+-- what a `C` says: in the first version all of a tag, and in the second a part is to be named
+abbrev pub closed_word : Version → Letter
+closed_word One = Whole (Closed Full)
+closed_word Two = First second.Part
+
+abbrev pub letter_by : Version → ℕ → Option Letter
+letter_by version b =
+    if b == 69 then Some (Whole Extend)
+    else (if b == 83 then Some (First second.Block)
+    else (if b == 67 then Some (closed_word version)
+    else (if b == 79 then Some (Whole Open)
     else None)))
 
--- what a word begins: `E`, `S`, `C` or `O`
-abbrev pub letter_of : List ℕ → Option Letter
-letter_of [] = None
-letter_of (b ∷ []) = letter_by b
-letter_of (b ∷ c ∷ bytes) = None
+-- what the first word of a tag says: `E`, `S`, `C` or `O`
+abbrev pub letter_of : Version → List ℕ → Option Letter
+letter_of version [] = None
+letter_of version (b ∷ []) = letter_by version b
+letter_of version (b ∷ c ∷ bytes) = None
 
--- what a word alone says, before the others; or a split that waits for its number
-abbrev pub by_letter : ℕ → Option Letter → List TagSaid → List TagSaid → List TagSaid
-by_letter line None others split = record { line = line; tag = Err (BadTag line) } ∷ others
-by_letter line (Some letter.Extend) others split = record { line = line; tag = Ok Extend } ∷ others
-by_letter line (Some letter.Split) others split = split
-by_letter line (Some letter.Closed) others split = record { line = line; tag = Ok Closed } ∷ others
-by_letter line (Some letter.Open) others split = record { line = line; tag = Ok Open } ∷ others
+abbrev pub part_by : ℕ → Option Part
+part_by b =
+    if b == 97 then Some Area
+    else (if b == 114 then Some Range
+    else (if b == 112 then Some Pair
+    else (if b == 104 then Some Hull
+    else (if b == 102 then Some Full
+    else None))))
+
+-- the part that a word names: `a`, `r`, `p`, `h` or `f`
+abbrev pub part_of : List ℕ → Option Part
+part_of [] = None
+part_of (b ∷ []) = part_by b
+part_of (b ∷ c ∷ bytes) = None
+
+-- what the first word of a tag says, before the others; or those that follow a tag of two words
+abbrev pub by_letter : ℕ → Option Letter → List TagSaid → (Second → List TagSaid) → List TagSaid
+by_letter line None others more = record { line = line; tag = Err (BadTag line) } ∷ others
+by_letter line (Some (Whole tag)) others more = record { line = line; tag = Ok tag } ∷ others
+by_letter line (Some (First second)) others more = more second
 
 abbrev pub split_by : ℕ → Option ℕ → Result Tag CertFault
 split_by line None = Err (BadTag line)
 split_by line (Some b) = Ok (Split b)
 
--- the tags that words say, where an S may stand before them, in a line
-unfoldable pub tags_said : ℕ → Option ℕ → List LineWord → List TagSaid
-tags_said last None [] = []
-tags_said last (Some line) [] = record { line = line; tag = Err (Truncated last) } ∷ []
-tags_said last None (word ∷ others) = by_letter word.line (letter_of word.text) (tags_said last None others) (tags_said last (Some word.line) others)
-tags_said last (Some line) (word ∷ others) = record { line = line; tag = split_by line (whole_read 65535 word.text) } ∷ tags_said last None others
+abbrev pub closed_by : ℕ → Option Part → Result Tag CertFault
+closed_by line None = Err (BadTag line)
+closed_by line (Some p) = Ok (Closed p)
+
+-- what a second word that is to say this says, where the first stands in this line
+abbrev pub second_by : Second → ℕ → List ℕ → Result Tag CertFault
+second_by second.Block line word = split_by line (whole_read 65535 word)
+second_by second.Part line word = closed_by line (part_of word)
+
+abbrev pub tag_by : HalfTag → List ℕ → Result Tag CertFault
+tag_by half word = second_by half.second half.line word
+
+-- the tags that words say, where the first word of a tag may stand before them
+unfoldable pub tags_said : Version → ℕ → Option HalfTag → List LineWord → List TagSaid
+tags_said version last None [] = []
+tags_said version last (Some half) [] = record { line = half.line; tag = Err (Truncated last) } ∷ []
+tags_said version last None (word ∷ others) = by_letter word.line (letter_of version word.text) (tags_said version last None others) (λ second. tags_said version last (Some (record { second = second; line = word.line })) others)
+tags_said version last (Some half) (word ∷ others) = record { line = half.line; tag = tag_by half word.text } ∷ tags_said version last None others
 
 -- a tag in front of those that follow
 abbrev pub with_tag : Tag → Result (List Tag) CertFault → Result (List Tag) CertFault
@@ -173,17 +223,18 @@ tree_from n last [] (said ∷ others) = Err (Trailing said.line)
 tree_from n last (place ∷ places) [] = Err (Truncated last)
 tree_from n last (place ∷ places) (said ∷ others) = tag_at place said.line said.tag (λ tag. with_tag tag (tree_from n last (places_under n tag place ++ places) others))
 
--- a reader between two words: the places that wait for a tag, and the line of an S whose number comes next
+-- a reader between two words: the places that wait for a tag, the version of the text, and a tag whose second word comes next
 pub record Reader : Type 0 where
   pub places : List Place
-  pub split : Option ℕ
+  pub version : Version
+  pub half : Option HalfTag
 
-abbrev pub first_reader : Reader
-first_reader = record { places = first_place ∷ []; split = None }
+abbrev pub first_reader : Version → Reader
+first_reader version = record { places = first_place ∷ []; version = version; half = None }
 
 -- the tags that the words from here on spell
 abbrev pub read_on : ℕ → ℕ → Reader → List LineWord → Result (List Tag) CertFault
-read_on n last reader words = tree_from n last reader.places (tags_said last reader.split words)
+read_on n last reader words = tree_from n last reader.places (tags_said reader.version last reader.half words)
 
 -- tags in front of those that follow
 abbrev pub with_tags : List Tag → Result (List Tag) CertFault → Result (List Tag) CertFault
@@ -196,8 +247,8 @@ with_some None tags = tags
 with_some (Some tag) tags = with_tag tag tags
 
 -- the tree that words spell among n blocks
-abbrev pub tree_read : ℕ → ℕ → List LineWord → Result (List Tag) CertFault
-tree_read n last words = read_on n last first_reader words
+abbrev pub tree_read : Version → ℕ → ℕ → List LineWord → Result (List Tag) CertFault
+tree_read version n last words = read_on n last (first_reader version) words
 
 -- ---- the whole text
 
@@ -215,5 +266,5 @@ said_by cert = record { blocks = cert.blocks; plan = cert.plan; cost = cert.cost
 unfoldable pub cert_read : ℕ → List ℕ → Result Said CertFault
 cert_read blocks text = do
   header ← header_read blocks (last_line_of text) (numbered 1 (lines text))
-  tags ← tree_read blocks (last_line_of text) (words_of_lines header.others)
+  tags ← tree_read header.version blocks (last_line_of text) (words_of_lines header.others)
   Ok (record { blocks = blocks; plan = header.plan; cost = header.cost; bound = header.bound; tags = tags })

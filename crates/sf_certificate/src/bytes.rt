@@ -10,6 +10,7 @@ ghost use Rattle.sf_certificate.specs.Reading.{read_on, with_some};
 use crate::fault::CertFault;
 use crate::tag::Tag;
 use crate::tree::TreeReader;
+use crate::version::Version;
 use std::alloc::{AllocError, Global};
 use std::marker::Model;
 
@@ -47,11 +48,16 @@ fn next_line(line: u64) -> Result<u64, CertFault>
 
 impl ByteReader {
     /// Before the first byte of a tree, which stands in this line, where the last line that holds a word is that.
-    pub fn new(alloc: Global, line: u64, last: u64) -> Result<ByteReader, AllocError>
-        ensures { IfOk result (λ reader. reader ≡ first_byte line last) }
+    pub fn new(
+        alloc: Global,
+        version: Version,
+        line: u64,
+        last: u64,
+    ) -> Result<ByteReader, AllocError>
+        ensures { IfOk result (λ reader. reader ≡ first_byte version line last) }
     {
         Ok(ByteReader {
-            tree: TreeReader::new(alloc)?,
+            tree: TreeReader::new(alloc, version)?,
             word: Vec::new(alloc),
             line,
             last,

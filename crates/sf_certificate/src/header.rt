@@ -8,9 +8,10 @@ ghost use Rattle.sf_model.specs.declared.TheConstants.{MAX};
 ghost use Rattle.sf_polish.specs.Text.{IsWritable};
 ghost use Rattle.sf_certificate.specs.declared.fault.CertFault.TheVariants.{BadHeader, NoMemory};
 ghost use Rattle.sf_certificate.specs.Form.{no_plan};
-ghost use Rattle.sf_certificate.specs.Reading.{value_in, number_in, cost_of_word, cost_in, word_in, plan_said, plan_in, line_read, header_read, exactly};
+ghost use Rattle.sf_certificate.specs.Reading.{value_in, version_of, version_of_word, version_in, number_in, cost_of_word, cost_in, word_in, plan_said, plan_in, line_read, header_read, exactly};
 
 use crate::fault::CertFault;
+use crate::version::Version;
 use sf_lex::{Gap, Scan, Word, last_line, next_field, read_plain, split_word};
 use sf_model::MAX;
 use sf_polish::{Expr, ExprFault, read_expr};
@@ -19,6 +20,7 @@ use std::alloc::Global;
 /// What the header says.
 #[derive(Drop)]
 pub struct Header {
+    pub version: Version,
     pub plan: Option<Expr>,
     pub cost: u64,
     pub bound: u64,
@@ -32,18 +34,36 @@ pub fn read_header(
     blocks: u16,
 ) -> Result<Header, CertFault>
     ensures header { IfOk result (λ h. header_read blocks (last_line_of text.now) (numbered_rest scan.old)
-        ≡ Ok (record { plan = h.plan; cost = h.cost; bound = h.bound; others = numbered_rest scan.new })) }
+        ≡ Ok (record { version = h.version; plan = h.plan; cost = h.cost; bound = h.bound; others = numbered_rest scan.new })) }
     ensures agrees { IfOk result (λ h. no_plan h.plan ≡ (h.cost == MAX)) }
     ensures writable { IfOk result (λ h. MatchOption h.plan ⊤ (IsWritable blocks)) }
     ensures fault { IfErr result (λ e. e ≢ NoMemory → header_read blocks (last_line_of text.now) (numbered_rest scan.old) ≡ Err e) }
 {
-    read_number(scan, text, b"slicing-certificate", 1)?;
+    let version = read_version(scan, text, b"slicing-certificate")?;
     read_number(scan, text, b"blocks", blocks)?;
     let cost = read_cost(scan, text, b"cost")?;
     let bound = read_cost(scan, text, b"bound")?;
     let plan = read_plan(alloc, scan, text, blocks, cost)?;
     read_only(scan, text, b"tree")?;
-    Ok(Header { plan, cost, bound })
+    Ok(Header {
+        version,
+        plan,
+        cost,
+        bound,
+    })
+}
+
+/// A line of a label and a version.
+fn read_version(scan: &mut Scan, text: &[u8], label: &[u8]) -> Result<Version, CertFault>
+    ensures line { IfOk result (λ version. line_read (last_line_of text.now) (version_in label.now) (numbered_rest scan.old)
+        ≡ Ok (version, numbered_rest scan.new)) }
+    ensures fault { IfErr result (λ e. line_read (last_line_of text.now) (version_in label.now) (numbered_rest scan.old) ≡ Err e) }
+{
+    let line = next_line(scan, text)?;
+    match version_in(line.text, label) {
+        Some(version) => Ok(version),
+        None => Err(CertFault::BadHeader(line.line)),
+    }
 }
 
 /// A line of a label and this number.
@@ -152,6 +172,34 @@ fn value_in<'a>(line: &'a [u8], label: &[u8]) -> Option<&'a [u8]>
         Some(value)
     } else {
         None
+    }
+}
+
+fn version_in(line: &[u8], label: &[u8]) -> Option<Version>
+    ensures { result ≡ version_in label.now line.now }
+{
+    match value_in(line, label) {
+        Some(value) => version_of_word(value),
+        None => None,
+    }
+}
+
+fn version_of_word(word: &[u8]) -> Option<Version>
+    ensures { result ≡ version_of_word word.now }
+{
+    match read_plain(word, 2) {
+        Some(number) => version_of(number),
+        None => None,
+    }
+}
+
+fn version_of(number: u64) -> Option<Version>
+    ensures { result ≡ version_of number }
+{
+    match number {
+        1 => Some(Version::One),
+        2 => Some(Version::Two),
+        _ => None,
     }
 }
 

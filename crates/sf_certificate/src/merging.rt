@@ -1,9 +1,12 @@
 //! One tree of entries and open tasks.
 
-ghost use Rattle.std.specs.Prelude.{◌≡◌, ◌<◌, ◌≤◌, ◌++◌, ◌∷◌, [], length, map, min, reverse, All, IfOk, OnOk, MatchOption, IsPermutation, IsSortedBy};
+ghost use Rattle.std.specs.Prelude.{◌≡◌, ℕ, ◌<◌, ◌≤◌, ◌++◌, ◌∷◌, [], length, map, min, reverse, All, IfOk, OnOk, MatchOption, IsPermutation, IsSortedBy};
 ghost use Rattle.std.specs.Ordering.{is_lt};
 ghost use Rattle.sf_model.specs.Legal.{block_count};
 ghost use Rattle.sf_model.specs.declared.TheConstants.{MAX};
+ghost use Rattle.sf_node.specs.declared.part.Part.{Part};
+ghost use Rattle.sf_node.specs.declared.part.Part.TheVariants.{Full};
+ghost use Rattle.sf_node.specs.Parts.{Parts};
 ghost use Rattle.sf_node.specs.Subproblem.{root};
 ghost use Rattle.sf_search_core.specs.Conserved.{IsConserved};
 ghost use Rattle.sf_polish.specs.Text.{IsWritable};
@@ -17,7 +20,7 @@ use crate::comparing::compare_steps;
 use crate::mark::Mark;
 use crate::tag::{Tag, TagList};
 use sf_model::Design;
-use sf_node::{Task, Values};
+use sf_node::{Part, Task, Values};
 use sf_polish::expr::Expr;
 use sf_search_core::{Entry, Kind};
 use std::alloc::{AllocError as NoMemory, Global};
@@ -31,7 +34,7 @@ fn tag_of(kind: Kind) -> Tag
     match kind {
         Kind::Extended => Tag::Extend,
         Kind::Split(block) => Tag::Split(block),
-        Kind::Closed => Tag::Closed,
+        Kind::Closed => Tag::Closed(Part::Full),
     }
 }
 
@@ -108,8 +111,9 @@ pub fn merge<V: Values>(
     requires conserved { IsConserved (V.value values.now design.now) (root design.now ∷ []) entries.items (map (λ t. t.node) left.items) }
     requires valued { All (λ t. t.bound ≡ V.value values.now design.now t.node) left.items }
     requires planned { MatchOption plan (cost ≡ MAX) (λ expr. HasCost design.now expr cost × IsWritable (block_count design.now) expr) }
-    // It is valid where no entry names a lower value than the cost.
-    ensures valid { IfOk result (λ c. All (λ e. cost ≤ e.value) entries.items → IsValid design.now (V.value values.now design.now) c) }
+    // It is valid where no entry names a lower value than the cost, whatever the parts of the bound: each closed
+    // subproblem names the full one.
+    ensures valid { IfOk result (λ c. All (λ e. cost ≤ e.value) entries.items → (part : Parts → Part → ℕ) → ((node : Parts) → part node Full ≡ V.value values.now design.now node) → IsValid design.now (V.value values.now design.now) part c) }
     // The tree's subproblems with their tags are the entries and the open tasks.
     ensures placed { IfOk result (λ c. IsPermutation (given_marks entries.items left.items) (marks (root design.now ∷ []) c.tags)) }
     ensures decided { IfOk result (λ c. decided c.tags ≡ length entries.items) }

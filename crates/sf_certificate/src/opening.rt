@@ -79,7 +79,12 @@ impl Opening {
     {
         let mut scan = Scan::new(&self.text);
         let header = read_header(alloc, &mut scan, &self.text, blocks)?;
-        let reader = ByteReader::new(alloc, HEADER_LINES + 1, last_line(&self.text))?;
+        let reader = ByteReader::new(
+            alloc,
+            header.version,
+            HEADER_LINES + 1,
+            last_line(&self.text),
+        )?;
         Ok((header, reader))
     }
 }

@@ -12,7 +12,7 @@ use crate::tree::read_tree;
 use sf_lex::Scan;
 use std::alloc::Global;
 
-/// The certificate that a text spells for so many blocks, or the first fault of the text.
+/// The certificate that a text of either version spells for so many blocks, or the first fault of the text.
 pub fn read(alloc: Global, text: &[u8], blocks: u16) -> Result<Cert, CertFault>
     requires some { 1 ≤ blocks }
     requires few { blocks ≤ 320 }
@@ -22,7 +22,7 @@ pub fn read(alloc: Global, text: &[u8], blocks: u16) -> Result<Cert, CertFault>
 {
     let mut scan = Scan::new(text);
     let header = read_header(alloc, &mut scan, text, blocks)?;
-    let tags = read_tree(alloc, &mut scan, text, blocks)?;
+    let tags = read_tree(alloc, &mut scan, text, header.version, blocks)?;
     Ok(Cert {
         blocks,
         plan: header.plan,

@@ -1,13 +1,14 @@
 //! What a certificate says of each subproblem.
 
+use sf_node::Part;
 use std::marker::Model;
 
-/// What a certificate says of one subproblem.
+/// What a certificate says of one subproblem. A closed one names the part of the bound that closes it.
 #[derive(Clone, Copy, Debug, PartialEq, Eq)]
 pub enum Tag {
     Extend,
     Split(u16),
-    Closed,
+    Closed(Part),
     Open,
 }
 
@@ -33,6 +34,12 @@ impl TagList {
         ensures { result ≡ items.items }
     {
         TagList { items }
+    }
+
+    pub fn into_vec(self) -> Vec<Tag>
+        ensures { result.items ≡ self }
+    {
+        self.items
     }
 
     pub fn as_slice(&self) -> &[Tag]

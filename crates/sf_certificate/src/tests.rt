@@ -7,7 +7,7 @@ use crate::{CertFault, Tag, merge, read, write};
 use sf_model::{
     Block, BlockList, Design, MAX, Name, NetList, Outline, PadList, Shape, Shapes, Weights,
 };
-use sf_node::{Node, Task, Values};
+use sf_node::{Node, Part, Task, Values};
 use std::alloc::{AllocError, Global};
 use std::test::Fail;
 
@@ -51,12 +51,42 @@ fn merges_an_open_root(rt: HostRuntime) -> Result<(), Fail> {
 }
 
 #[test]
-fn writes_what_it_read(rt: HostRuntime) -> Result<(), Fail> {
+fn reads_the_first_version(rt: HostRuntime) -> Result<(), Fail> {
     let alloc = rt.alloc();
     let text = b"slicing-certificate 1\nblocks 1\ncost 12\nbound 12\nplan 0:3x4\ntree\nE\nC\n";
     let cert = read(alloc, text, 1)?;
     assert_eq!(rt; (cert.cost, cert.bound), (12, 12));
-    assert_eq!(rt; cert.tags.as_slice(), [Tag::Extend, Tag::Closed].as_slice());
+    assert_eq!(rt;
+        cert.tags.as_slice(),
+        [Tag::Extend, Tag::Closed(Part::Full)].as_slice()
+    );
+    // It is written in the second one.
+    let same = b"slicing-certificate 2\nblocks 1\ncost 12\nbound 12\nplan 0:3x4\ntree\nE\nC f\n";
+    let written = write(alloc, &cert)?;
+    assert_eq!(rt; written.as_slice(), same.as_slice());
+    Ok(())
+}
+
+#[test]
+fn writes_the_parts_that_it_read(rt: HostRuntime) -> Result<(), Fail> {
+    let alloc = rt.alloc();
+    let text =
+        b"slicing-certificate 2\nblocks 2\ncost none\nbound 0\nplan none\ntree\nE\nS 0\nC a\nC r\nS 1\nC p\nS 0\nC h\nS 0\nC f\nO\n";
+    let tags = [
+        Tag::Extend,
+        Tag::Split(0),
+        Tag::Closed(Part::Area),
+        Tag::Closed(Part::Range),
+        Tag::Split(1),
+        Tag::Closed(Part::Pair),
+        Tag::Split(0),
+        Tag::Closed(Part::Hull),
+        Tag::Split(0),
+        Tag::Closed(Part::Full),
+        Tag::Open,
+    ];
+    let cert = read(alloc, text, 2)?;
+    assert_eq!(rt; cert.tags.as_slice(), tags.as_slice());
     let written = write(alloc, &cert)?;
     assert_eq!(rt; written.as_slice(), text.as_slice());
     Ok(())
@@ -89,6 +119,41 @@ fn finds_the_first_fault(rt: HostRuntime) -> Result<(), Fail> {
         (
             b"slicing-certificate 1\n blocks  2\ncost none\nbound 12\nplan none\n".as_slice(),
             CertFault::BadHeader(5),
+        ),
+        // No third version, and no zeros in front of the second.
+        (
+            b"slicing-certificate 3\nblocks 2\ncost none\nbound 12\nplan none\ntree\nO\n".as_slice(),
+            CertFault::BadHeader(1),
+        ),
+        (
+            b"slicing-certificate 02\nblocks 2\ncost none\nbound 12\nplan none\ntree\nO\n".as_slice(),
+            CertFault::BadHeader(1),
+        ),
+        // A letter is a word like any other in the first version.
+        (
+            b"slicing-certificate 1\nblocks 2\ncost none\nbound 12\nplan none\ntree\nE\nC\na O\n".as_slice(),
+            CertFault::BadTag(9),
+        ),
+        (
+            b"slicing-certificate 1\nblocks 2\ncost none\nbound 12\nplan none\ntree\nC\na\n".as_slice(),
+            CertFault::Trailing(8),
+        ),
+        // In the second one it belongs to the C, whose line is named.
+        (
+            b"slicing-certificate 2\nblocks 2\ncost none\nbound 12\nplan none\ntree\nE\nC\nx O\n".as_slice(),
+            CertFault::BadTag(8),
+        ),
+        (
+            b"slicing-certificate 2\nblocks 2\ncost none\nbound 12\nplan none\ntree\nE\nC\nC a\n".as_slice(),
+            CertFault::BadTag(8),
+        ),
+        (
+            b"slicing-certificate 2\nblocks 2\ncost none\nbound 12\nplan none\ntree\nE C\na\nC\n".as_slice(),
+            CertFault::Truncated(9),
+        ),
+        (
+            b"slicing-certificate 2\nblocks 2\ncost none\nbound 12\nplan none\ntree\nC a\nC\n".as_slice(),
+            CertFault::Trailing(8),
         ),
     ];
     for (text, fault) in faults {

@@ -2,27 +2,29 @@
 
 ghost use Rattle.std.specs.Prelude.{◌≡◌, ◌≢◌, ℕ, ◌≤◌, List, [], ◌∷◌, IfOk, IfErr, OnOk, IsTrue, Ok, Some, Err};
 ghost use Rattle.sf_lex.specs.Scan.{LineWord, numbered_words, last_line_of};
-ghost use Rattle.sf_lex.specs.Whole.{whole_read};
 ghost use Rattle.sf_certificate.specs.declared.fault.CertFault.TheVariants.{NoMemory};
 ghost use Rattle.sf_certificate.specs.Places.{spell_tree};
-ghost use Rattle.sf_certificate.specs.Reading.{TagSaid, split_by, tree_from, tree_read, first_reader, read_on, with_some};
+ghost use Rattle.sf_certificate.specs.Reading.{TagSaid, tree_from, tree_read, first_reader, read_on, with_some};
 
 use crate::fault::CertFault;
-use crate::letter::{Letter, letter_of};
+use crate::letter::{HalfTag, Letter, letter_of, tag_by};
 use crate::tag::Tag;
+use crate::version::Version;
 use crate::waiting::Waiting;
-use sf_lex::{Scan, last_line, read_whole};
+use sf_lex::{Scan, last_line};
 use std::alloc::{AllocError, Global};
 use std::marker::Model;
 
 /// No node stands so deep.
 const TOO_DEEP: u16 = 3200;
 
-/// A reader of a tree between two words: the places that wait for a tag, and the line of an S whose number comes next.
+/// A reader of a tree between two words: the places that wait for a tag, the version of the text, and a tag whose second
+/// word comes next.
 #[derive(Drop)]
 pub struct TreeReader {
     waiting: Waiting,
-    split: Option<u64>,
+    version: Version,
+    half: Option<HalfTag>,
 }
 
 impl Model for TreeReader {
@@ -30,17 +32,18 @@ impl Model for TreeReader {
 
     ghost Value = { Reader };
 
-    ghost view = { λ r. record { places = r.waiting; split = r.split } };
+    ghost view = { λ r. record { places = r.waiting; version = r.version; half = r.half } };
 }
 
 impl TreeReader {
     /// Before the first word.
-    pub fn new(alloc: Global) -> Result<TreeReader, AllocError>
-        ensures { IfOk result (λ reader. reader ≡ first_reader) }
+    pub fn new(alloc: Global, version: Version) -> Result<TreeReader, AllocError>
+        ensures { IfOk result (λ reader. reader ≡ first_reader version) }
     {
         Ok(TreeReader {
             waiting: Waiting::new(alloc)?,
-            split: None,
+            version,
+            half: None,
         })
     }
 
@@ -50,18 +53,16 @@ impl TreeReader {
         ensures tag { IfOk result (λ tag. (last : ℕ) (others : List LineWord) → read_on blocks last self.old (record { line = line; text = word.now } ∷ others) ≡ with_some tag (read_on blocks last self.new others)) }
         ensures fault { IfErr result (λ e. e ≢ NoMemory → (last : ℕ) (others : List LineWord) → read_on blocks last self.old (record { line = line; text = word.now } ∷ others) ≡ Err e) }
     {
-        if let Some(line) = self.split {
-            self.split = None;
-            return self.put(split_of(line, word), line, blocks);
+        if let Some(half) = self.half {
+            self.half = None;
+            return self.put(tag_by(half, word), half.line, blocks);
         }
-        match letter_of(word) {
-            Some(Letter::Extend) => self.put(Ok(Tag::Extend), line, blocks),
-            Some(Letter::Split) => {
-                self.split = Some(line);
+        match letter_of(self.version, word) {
+            Some(Letter::Whole(tag)) => self.put(Ok(tag), line, blocks),
+            Some(Letter::First(second)) => {
+                self.half = Some(HalfTag { second, line });
                 Ok(None)
             }
-            Some(Letter::Closed) => self.put(Ok(Tag::Closed), line, blocks),
-            Some(Letter::Open) => self.put(Ok(Tag::Open), line, blocks),
             None => self.put(Err(CertFault::BadTag(line)), line, blocks),
         }
     }
@@ -75,7 +76,8 @@ impl TreeReader {
     ) -> Result<Option<Tag>, CertFault>
         requires { blocks ≤ 320 }
         ensures tag { IfOk result (λ tag. (last : ℕ) (others : List TagSaid) → tree_from blocks last self.old.places (record { line = line; tag = said } ∷ others) ≡ with_some tag (tree_from blocks last self.new.places others)) }
-        ensures split { IfOk result (λ tag. self.new.split ≡ self.old.split) }
+        ensures half { IfOk result (λ tag. self.new.half ≡ self.old.half) }
+        ensures version { self.new.version ≡ self.old.version }
         ensures fault { IfErr result (λ e. e ≢ NoMemory → (last : ℕ) (others : List TagSaid) → tree_from blocks last self.old.places (record { line = line; tag = said } ∷ others) ≡ Err e) }
     {
         let Some(place) = self.waiting.take() else {
@@ -94,20 +96,11 @@ impl TreeReader {
         ensures ok { (blocks : ℕ) → OnOk result (read_on blocks last self [] ≡ Ok []) }
         ensures fault { (blocks : ℕ) → IfErr result (λ e. read_on blocks last self [] ≡ Err e) }
     {
-        match (self.waiting.take(), self.split) {
+        match (self.waiting.take(), self.half) {
             (None, None) => Ok(()),
-            (None, Some(line)) => Err(CertFault::Trailing(line)),
+            (None, Some(half)) => Err(CertFault::Trailing(half.line)),
             (Some(_), _) => Err(CertFault::Truncated(last)),
         }
-    }
-}
-
-fn split_of(line: u64, word: &[u8]) -> Result<Tag, CertFault>
-    ensures { result ≡ split_by line (whole_read 65535 word.now) }
-{
-    match read_whole(word, 65535) {
-        None => Err(CertFault::BadTag(line)),
-        Some(block) => Ok(Tag::Split(block as u16)),
     }
 }
 
@@ -116,14 +109,15 @@ pub fn read_tree(
     alloc: Global,
     scan: &mut Scan,
     text: &[u8],
+    version: Version,
     blocks: u16,
 ) -> Result<Vec<Tag>, CertFault>
     requires { blocks ≤ 320 }
-    ensures tags { IfOk result (λ tags. tree_read blocks (last_line_of text.now) (numbered_words scan.old) ≡ Ok tags.items) }
+    ensures tags { IfOk result (λ tags. tree_read version blocks (last_line_of text.now) (numbered_words scan.old) ≡ Ok tags.items) }
     ensures tree { IfOk result (λ tags. IsTrue (spell_tree blocks tags.items)) }
-    ensures fault { IfErr result (λ e. e ≢ NoMemory → tree_read blocks (last_line_of text.now) (numbered_words scan.old) ≡ Err e) }
+    ensures fault { IfErr result (λ e. e ≢ NoMemory → tree_read version blocks (last_line_of text.now) (numbered_words scan.old) ≡ Err e) }
 {
-    let mut reader = TreeReader::new(alloc)?;
+    let mut reader = TreeReader::new(alloc, version)?;
     let mut tags = Vec::new(alloc);
     while let Some(word) = scan.next_word() {
         if let Some(tag) = reader.take(word.text, word.line, blocks)? {

@@ -140,7 +140,7 @@ impl Waiting {
                 },
                 2,
             ),
-            Tag::Closed | Tag::Open => Ok(()),
+            Tag::Closed(_) | Tag::Open => Ok(()),
         }
     }
 

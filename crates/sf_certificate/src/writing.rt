@@ -3,16 +3,18 @@
 ghost use Rattle.std.specs.Prelude.{◌≡◌, ◌<◌, ◌^◌, [], ◌∷◌, ◌++◌, All, IfOk, OnOk, string_bytes, codes, length, MatchOption, Ok, ⊤};
 ghost use Rattle.std.specs.Fmt.{decimal};
 ghost use Rattle.sf_polish.specs.Normal.{IsNormal};
+ghost use Rattle.sf_certificate.specs.declared.tag.Tag.TheVariants.{Closed};
 ghost use Rattle.sf_certificate.specs.Reading.{cert_read, said_by};
 ghost use Rattle.sf_certificate.specs.Text.{cost_text, plan_text, header_lines, ended, tag_text, tags_text, cert_text, FitsTag};
 
 use crate::cert::Cert;
 use crate::tag::Tag;
 use sf_model::MAX;
+use sf_node::Part;
 use sf_polish::{Expr, push_expr};
 use std::alloc::{AllocError as NoMemory, Global};
 
-/// The text of a certificate: a header of six lines, then one line for each tag.
+/// The text of a certificate, of the second version: a header of six lines, then one line for each tag.
 pub fn write(alloc: Global, cert: &Cert) -> Result<Vec<u8>, NoMemory>
     ensures text { IfOk result (λ text. text.items ≡ cert_text cert.now) }
     // What is written is read as the same certificate.
@@ -40,9 +42,9 @@ fn push_header(text: &mut String, cert: &Cert) -> Result<(), NoMemory>
 
 /// The first two lines.
 fn push_title(text: &mut String, blocks: u16) -> Result<(), NoMemory>
-    ensures { OnOk result (string_bytes text.new ≡ string_bytes text.old ++ (codes "slicing-certificate 1\nblocks " ++ (decimal blocks ++ 10 ∷ []))) }
+    ensures { OnOk result (string_bytes text.new ≡ string_bytes text.old ++ (codes "slicing-certificate 2\nblocks " ++ (decimal blocks ++ 10 ∷ []))) }
 {
-    write!(text, "slicing-certificate 1\nblocks {blocks}\n")
+    write!(text, "slicing-certificate 2\nblocks {blocks}\n")
 }
 
 fn push_cost(text: &mut String, label: &str, cost: u64) -> Result<(), NoMemory>
@@ -88,7 +90,20 @@ fn push_tag(text: &mut String, tag: Tag) -> Result<(), NoMemory>
     match tag {
         Tag::Extend => text.push('E'),
         Tag::Split(block) => write!(text, "S {block}"),
-        Tag::Closed => text.push('C'),
+        Tag::Closed(part) => text.push_str(closed_line(part)),
         Tag::Open => text.push('O'),
+    }
+}
+
+/// The line of a closed subproblem that names this part.
+fn closed_line(part: Part) -> &'static str
+    ensures { result.now ≡ tag_text (Closed part) }
+{
+    match part {
+        Part::Area => "C a",
+        Part::Range => "C r",
+        Part::Pair => "C p",
+        Part::Hull => "C h",
+        Part::Full => "C f",
     }
 }

@@ -62,7 +62,7 @@ fn named(step: Step) -> usize
 }
 
 impl Cursor {
-    ghost use Rattle.std.specs.Prelude.{[], ◌∷◌, ◌++◌, ◌≤◌, ◌==◌, true, length, map, IfOk, IfSome, OnOk, MatchOption};
+    ghost use Rattle.std.specs.Prelude.{[], ◌∷◌, ◌++◌, ◌≤◌, true, map, IfOk, IfSome, OnOk, MatchOption};
     ghost use Rattle.sf_node.specs.Subproblem.{root};
     ghost use Rattle.sf_node.specs.Children.{after, extended, split, CanSplit, may_join};
     ghost use Rattle.sf_node.specs.Later.{behind, pending, later, extending, blocks_from, IsChildOf};
@@ -87,13 +87,6 @@ impl Cursor {
         ensures { result.now ≡ self.now.node }
     {
         &self.node
-    }
-
-    /// Whether each block is there.
-    pub fn has_each_block(&self) -> bool
-        ensures { result ≡ (self.now.operands == length self.now.used) }
-    {
-        self.operands == self.used.len()
     }
 
     /// The value of the subproblem one step before, if there is one and its value was told.
@@ -127,12 +120,12 @@ impl Cursor {
                 self.split(design, values, block, value)?;
                 Ok(true)
             }
-            Tag::Closed | Tag::Open => self.advance(design, values),
+            Tag::Closed(_) | Tag::Open => self.advance(design, values),
         }
     }
 
-    /// Goes one step on.
-    fn enter<V: Values>(
+    /// Goes one step on. Whoever knows the value of the subproblem before it may tell it.
+    pub fn enter<V: Values>(
         &mut self,
         design: &Design,
         values: &V,
@@ -155,7 +148,7 @@ impl Cursor {
 
     /// Goes back over the last step, if there is one. The answer is that step, and the value of the subproblem before it, if
     /// it was told.
-    fn leave<V: Values>(&mut self, design: &Design, values: &V) -> Option<(Step, Option<u64>)>
+    pub fn leave<V: Values>(&mut self, design: &Design, values: &V) -> Option<(Step, Option<u64>)>
         requires at { IsPath design.now (V.value values.now design.now) self.old }
         ensures at { IsPath design.now (V.value values.now design.now) self.new }
         ensures back { MatchOption result (self.old.node.steps ≡ []) (λ last. IsBack design.now (V.value values.now design.now) self.old.node last.0 last.1 self.new) }

@@ -8,7 +8,7 @@ use crate::Cursor;
 use sf_certificate::Tag;
 use sf_model::{Block, BlockList, Design, Name, NetList, Outline, PadList, Shape, Shapes, Weights};
 use sf_node::Step::{Above, Beside, Block as Named, Left, Right};
-use sf_node::{Node, Values};
+use sf_node::{Node, Part, Values};
 use std::alloc::{AllocError, Global};
 use std::test::Fail;
 
@@ -53,7 +53,7 @@ fn tag_of(node: &Node) -> Tag
     } else if node.can_split(0) {
         Tag::Split(0)
     } else {
-        Tag::Closed
+        Tag::Closed(Part::Full)
     }
 }
 

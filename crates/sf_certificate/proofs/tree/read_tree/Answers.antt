@@ -10,6 +10,6 @@ pub returns-clause-tree : goal.returns-clause-tree
 returns-clause-tree c =
     let last = last_line_of c.args.text.now in
     let whole = numbered_words c.args.scan.now in
-    read-spells c.args.blocks last (tags_said last None whole) (first_place ∷ []) c.loop-word.tags.items
-    (reading-done c.args.blocks last (tree_read c.args.blocks last whole) c.loop-word.tags.items c.loop-word.reader (numbered_words c.loop-word.scan)
+    read-spells c.args.blocks last (tags_said c.args.version last None whole) (first_place ∷ []) c.loop-word.tags.items
+    (reading-done c.args.blocks last (tree_read c.args.version c.args.blocks last whole) c.loop-word.tags.items c.loop-word.reader (numbered_words c.loop-word.scan)
     c.loop-word.invariant c.in_default.ensures.numbered (ap (λ n. read_on c.args.blocks n c.loop-word.reader []) (sym c.last_line.ensures) ∙ c.in_ok-finish.ensures.ok c.args.blocks))

@@ -26,5 +26,5 @@ returns-clause-reads c rest =
     let at = start-lines c.new-scan.result text (c.new-scan.ensures.source ∙ c.deref.ensures.value) c.new-scan.ensures.from in
     let header = c.in_ok-header.header in
     let reads = opened n other text (subst IsHeader (sym c.self.view_is) c.requires) rest _ (ap (header_read n other) (sym at) ∙ c.in_ok-header.ensures.header) in
-    let reader = c.in_ok-reader.ensures ∙ ap (first_byte 7) (c.last_line.ensures ∙ ap last_line_of c.deref-3.ensures.value) in
+    let reader = c.in_ok-reader.ensures ∙ ap (first_byte header.version 7) (c.last_line.ensures ∙ ap last_line_of c.deref-3.ensures.value) in
     ap (λ (t : List ℕ). cert_read n (t ++ rest)) (sym c.self.view_is) ∙ reads ∙ ap (λ at. said_with n header (bytes_on n at rest)) (sym reader)

@@ -1,0 +1,175 @@
+-- Trees whose closed subproblems name other parts.
+use Rattle.std.proofs.Common.{◌≡◌, ℕ, ◌≤◌, suc, List, [], ◌∷◌, ◌++◌, map, arith, refl, ap, sym, subst, ◌∙◌, Bool, true, false, ◌&&◌}
+use Rattle.std.specs.Prelude.{nat_le, nat_lt, if◌then◌else◌}
+use Rattle.std.specs.List.{AllByRecursion}
+use Rattle.std.proofs.lemmas.Bool.Decides.{nat_tests}
+use Rattle.std.proofs.lemmas.List.Elements.{recursion_from_All}
+use Rattle.sf_model.specs.declared.design.Design.{Design}
+use Rattle.sf_model.proofs.Each.{each-append}
+use Rattle.sf_node.specs.declared.part.Part.{Part}
+use Rattle.sf_node.specs.declared.part.Part.TheVariants.{Area, Range, Pair, Hull, Full}
+use Rattle.sf_node.specs.Parts.{Parts}
+use Rattle.sf_node.specs.ByPart.{ArePartsOf, first_part}
+use Rattle.sf_node.specs.Subproblem.{root}
+use Rattle.sf_node.specs.Children.{extended, split, IsSubproblem}
+use Rattle.sf_node.proofs.Reached.{extended-subproblems, split-subproblems, root-subproblem}
+use Rattle.sf_certificate.specs.declared.mark.Mark.{Mark}
+use Rattle.sf_certificate.specs.declared.place.Place.{Place}
+use Rattle.sf_certificate.specs.declared.tag.Tag.{Tag}
+use Rattle.sf_certificate.specs.declared.tag.Tag.TheVariants.{Extend, Split, Closed, Open}
+use Rattle.sf_certificate.specs.Marks.{made, marks, waiting_after}
+use Rattle.sf_certificate.specs.Named.{NamesFirst, AllNameFirst, unnamed, unnamed_mark}
+use Rattle.sf_certificate.specs.Places.{first_place, places_under, spell_trees, spell_tree}
+use Rattle.sf_certificate.specs.Valid.{AreTrees, left_open, decided}
+
+-- ---- what names change nothing of
+
+pub unnamed-made : (tag : Tag) (node : Parts) → made (unnamed tag) node ≡ made tag node
+unnamed-made Extend node = refl
+unnamed-made (Split b) node = refl
+unnamed-made (Closed p) node = refl
+unnamed-made Open node = refl
+
+unnamed-places : (n : ℕ) (tag : Tag) (place : Place) → places_under n (unnamed tag) place ≡ places_under n tag place
+unnamed-places n Extend place = refl
+unnamed-places n (Split b) place = refl
+unnamed-places n (Closed p) place = refl
+unnamed-places n Open place = refl
+
+pub unnamed-open : (nodes : List Parts) (tags : List Tag) → left_open nodes (map unnamed tags) ≡ left_open nodes tags
+unnamed-open [] tags = refl
+unnamed-open (node ∷ nodes) [] = refl
+unnamed-open (node ∷ nodes) (Extend ∷ tags) = unnamed-open (extended node ++ nodes) tags
+unnamed-open (node ∷ nodes) (Split b ∷ tags) = unnamed-open (split node b ++ nodes) tags
+unnamed-open (node ∷ nodes) (Closed p ∷ tags) = unnamed-open nodes tags
+unnamed-open (node ∷ nodes) (Open ∷ tags) = ap (λ ns. node ∷ ns) (unnamed-open nodes tags)
+
+pub unnamed-waiting : (nodes : List Parts) (tags : List Tag) → waiting_after nodes (map unnamed tags) ≡ waiting_after nodes tags
+unnamed-waiting [] [] = refl
+unnamed-waiting (node ∷ nodes) [] = refl
+unnamed-waiting [] (tag ∷ tags) = refl
+unnamed-waiting (node ∷ nodes) (tag ∷ tags) = ap (λ ns. waiting_after (ns ++ nodes) (map unnamed tags)) (unnamed-made tag node) ∙ unnamed-waiting (made tag node ++ nodes) tags
+
+pub unnamed-marks : (nodes : List Parts) (tags : List Tag) → marks nodes (map unnamed tags) ≡ map unnamed_mark (marks nodes tags)
+unnamed-marks [] tags = refl
+unnamed-marks (node ∷ nodes) [] = refl
+unnamed-marks (node ∷ nodes) (tag ∷ tags) =
+    let first : Mark = record { node = node; tag = unnamed tag } in
+    ap (λ ns. first ∷ marks (ns ++ nodes) (map unnamed tags)) (unnamed-made tag node) ∙ ap (λ (ms : List Mark). first ∷ ms) (unnamed-marks (made tag node ++ nodes) tags)
+
+pub unnamed-decided : (tags : List Tag) → decided (map unnamed tags) ≡ decided tags
+unnamed-decided [] = refl
+unnamed-decided (Extend ∷ tags) = ap suc (unnamed-decided tags)
+unnamed-decided (Split b ∷ tags) = ap suc (unnamed-decided tags)
+unnamed-decided (Closed p ∷ tags) = ap suc (unnamed-decided tags)
+unnamed-decided (Open ∷ tags) = unnamed-decided tags
+
+unnamed-spell : (n : ℕ) (places : List Place) (tags : List Tag) → spell_trees n places (map unnamed tags) ≡ spell_trees n places tags
+unnamed-spell n [] [] = refl
+unnamed-spell n (place ∷ places) [] = refl
+unnamed-spell n [] (tag ∷ tags) = refl
+unnamed-spell n (place ∷ places) (tag ∷ tags) =
+    ap (λ ps. nat_lt place.depth 3200 && spell_trees n (ps ++ places) (map unnamed tags)) (unnamed-places n tag place)
+    ∙ ap (λ b. nat_lt place.depth 3200 && b) (unnamed-spell n (places_under n tag place ++ places) tags)
+
+pub unnamed-tree : (n : ℕ) (tags : List Tag) → spell_tree n (map unnamed tags) ≡ spell_tree n tags
+unnamed-tree n tags = unnamed-spell n (first_place ∷ []) tags
+
+-- ---- full parts
+
+module _ (design : Design) (value : Parts → ℕ) (part : Parts → Part → ℕ) (cost : ℕ) (parts : ArePartsOf design value part) where
+  full-trees : (tags : List Tag) (nodes : List Parts) → AllByRecursion (IsSubproblem design) nodes → AreTrees part cost nodes tags → AreTrees part cost nodes (map unnamed tags)
+  full-trees [] [] subs trees = tt
+  full-trees [] (node ∷ nodes) subs trees = trees
+  full-trees (tag ∷ tags) [] subs trees = trees
+  full-trees (Extend ∷ tags) (node ∷ nodes) subs trees =
+      (trees.0, full-trees tags (extended node ++ nodes) (each-append (IsSubproblem design) (extended node) nodes (extended-subproblems design node subs.0) subs.1) trees.1)
+  full-trees (Split b ∷ tags) (node ∷ nodes) subs trees =
+      (trees.0, full-trees tags (split node b ++ nodes) (each-append (IsSubproblem design) (split node b) nodes (split-subproblems design node b subs.0 trees.0) subs.1) trees.1)
+  full-trees (Closed p ∷ tags) (node ∷ nodes) subs trees = (omega (arith, trees.0, parts.below node p subs.0, parts.full node), full-trees tags nodes subs.1 trees.1)
+  full-trees (Open ∷ tags) (node ∷ nodes) subs trees = full-trees tags nodes subs.1 trees
+
+pub full-close : (design : Design) (value : Parts → ℕ) (part : Parts → Part → ℕ) (cost : ℕ) (tags : List Tag)
+    → ArePartsOf design value part → AreTrees part cost (root design ∷ []) tags → AreTrees part cost (root design ∷ []) (map unnamed tags)
+full-close design value part cost tags parts trees = full-trees design value part cost parts tags (root design ∷ []) (root-subproblem design, tt) trees
+
+-- ---- first parts
+
+at-least : (cost n : ℕ) → nat_le cost n ≡ true → cost ≤ n
+at-least cost n e = grind (arith, nat_tests)
+
+chosen : (f : Part → ℕ) (cost : ℕ) (p q : Part) (b : Bool) → nat_le cost (f p) ≡ b → cost ≤ f q → cost ≤ f (if b then p else q)
+chosen f cost p q true e h = at-least cost (f p) e
+chosen f cost p q false e h = h
+
+-- where the full part is at least the cost, so is the first one
+first-closes : (f : Part → ℕ) (cost : ℕ) → cost ≤ f Full → cost ≤ f (first_part f cost)
+first-closes f cost h =
+    chosen f cost Area _ (nat_le cost (f Area)) refl (chosen f cost Range _ (nat_le cost (f Range)) refl (chosen f cost Pair _ (nat_le cost (f Pair)) refl (chosen f cost Hull Full (nat_le cost (f Hull)) refl h)))
+
+module _ (part : Parts → Part → ℕ) (cost : ℕ) where
+  abbrev First : Mark → Type 0
+  First mark = NamesFirst part cost mark.tag mark.node
+
+  first-trees : (tags : List Tag) (nodes : List Parts) → AreTrees part cost nodes (map unnamed tags) → AllByRecursion First (marks nodes tags) → AreTrees part cost nodes tags
+  first-trees [] [] trees named = tt
+  first-trees [] (node ∷ nodes) trees named = trees
+  first-trees (tag ∷ tags) [] trees named = trees
+  first-trees (Extend ∷ tags) (node ∷ nodes) trees named = (trees.0, first-trees tags (extended node ++ nodes) trees.1 named.1)
+  first-trees (Split b ∷ tags) (node ∷ nodes) trees named = (trees.0, first-trees tags (split node b ++ nodes) trees.1 named.1)
+  first-trees (Closed p ∷ tags) (node ∷ nodes) trees named =
+      (subst (λ q. cost ≤ part node q) (sym named.0) (first-closes (part node) cost trees.0), first-trees tags nodes trees.1 named.1)
+  first-trees (Open ∷ tags) (node ∷ nodes) trees named = first-trees tags nodes trees named.1
+
+  -- two tags that are alike but for names and name the first parts are the same
+  one-tag : (x y : Tag) (node : Parts) → unnamed x ≡ unnamed y → NamesFirst part cost x node → NamesFirst part cost y node → x ≡ y
+  one-tag Extend Extend node e f g = refl
+  one-tag Extend (Split c) node e f g = absurd (cc)
+  one-tag Extend (Closed q) node e f g = absurd (cc)
+  one-tag Extend Open node e f g = absurd (cc)
+  one-tag (Split b) Extend node e f g = absurd (cc)
+  one-tag (Split b) (Split c) node e f g = e
+  one-tag (Split b) (Closed q) node e f g = absurd (cc)
+  one-tag (Split b) Open node e f g = absurd (cc)
+  one-tag (Closed p) Extend node e f g = absurd (cc)
+  one-tag (Closed p) (Split c) node e f g = absurd (cc)
+  one-tag (Closed p) (Closed q) node e f g = ap (λ n. Closed n) (f ∙ sym g)
+  one-tag (Closed p) Open node e f g = absurd (cc)
+  one-tag Open Extend node e f g = absurd (cc)
+  one-tag Open (Split c) node e f g = absurd (cc)
+  one-tag Open (Closed q) node e f g = absurd (cc)
+  one-tag Open Open node e f g = refl
+
+  -- a first tag and what it makes
+  tree-rest : (tag : Tag) (tags : List Tag) (node : Parts) (nodes : List Parts) → AreTrees part cost (node ∷ nodes) (map unnamed (tag ∷ tags)) → AreTrees part cost (made tag node ++ nodes) (map unnamed tags)
+  tree-rest Extend tags node nodes trees = trees.1
+  tree-rest (Split b) tags node nodes trees = trees.1
+  tree-rest (Closed p) tags node nodes trees = trees.1
+  tree-rest Open tags node nodes trees = trees
+
+  one-naming : (first second : List Tag) (nodes : List Parts) → AreTrees part cost nodes (map unnamed first) → map unnamed first ≡ map unnamed second
+      → AllByRecursion First (marks nodes first) → AllByRecursion First (marks nodes second) → first ≡ second
+  one-naming [] [] nodes trees same f g = refl
+  one-naming [] (y ∷ ys) nodes trees same f g = absurd (cc)
+  one-naming (x ∷ xs) [] nodes trees same f g = absurd (cc)
+  one-naming (x ∷ xs) (y ∷ ys) [] trees same f g = absurd trees
+  one-naming (x ∷ xs) (y ∷ ys) (node ∷ nodes) trees same f g =
+      let head : unnamed x ≡ unnamed y = cc in
+      let rest : map unnamed xs ≡ map unnamed ys = cc in
+      let tag : x ≡ y = one-tag x y node head f.0 g.0 in
+      let more = one-naming xs ys (made x node ++ nodes) (tree-rest x xs node nodes trees) rest f.1 (subst (λ (t : Tag). AllByRecursion First (marks (made t node ++ nodes) ys)) (sym tag) g.1) in
+      ap (λ (t : Tag). t ∷ xs) tag ∙ ap (λ (ts : List Tag). y ∷ ts) more
+
+pub first-close : (design : Design) (part : Parts → Part → ℕ) (cost : ℕ) (tags : List Tag)
+    → AreTrees part cost (root design ∷ []) (map unnamed tags) → AllNameFirst design part cost tags → AreTrees part cost (root design ∷ []) tags
+first-close design part cost tags trees named =
+    first-trees part cost tags (root design ∷ []) trees (recursion_from_All (λ (mark : Mark). NamesFirst part cost mark.tag mark.node) (marks (root design ∷ []) tags) named)
+
+pub first-one : (design : Design) (part : Parts → Part → ℕ) (cost : ℕ) (first second : List Tag)
+    → AreTrees part cost (root design ∷ []) (map unnamed first) → map unnamed first ≡ map unnamed second
+    → AllNameFirst design part cost first → AllNameFirst design part cost second → first ≡ second
+first-one design part cost first second trees same f g =
+    let nodes = root design ∷ [] in
+    one-naming part cost first second nodes trees same
+    (recursion_from_All (λ (mark : Mark). NamesFirst part cost mark.tag mark.node) (marks nodes first) f)
+    (recursion_from_All (λ (mark : Mark). NamesFirst part cost mark.tag mark.node) (marks nodes second) g)
