@@ -5,6 +5,8 @@ use Rattle.std.proofs.lemmas.List.{length-map, reverse-reverse}
 use Rattle.std.proofs.lemmas.List.Sorted.{IsPermutation-reverse}
 use Rattle.sf_model.specs.declared.design.Design.{Design}
 use Rattle.sf_node.specs.declared.task.Task.{Task}
+use Rattle.sf_node.specs.declared.part.Part.{Part}
+use Rattle.sf_node.specs.declared.part.Part.TheVariants.{Full}
 use Rattle.sf_node.specs.Parts.{Parts}
 use Rattle.sf_node.specs.Subproblem.{root}
 use Rattle.sf_node.specs.Later.{behind, pending}
@@ -27,15 +29,15 @@ use Rattle.sf_certificate.proofs.MergedCert.{turned}
 use Rattle.sf_rounds.specs.Stage.{task_at, mark_of, IsStage, Progress, left_of, IsFollowed}
 
 -- fair tags are trees as far as they go
-trees-then : (bound : Parts → ℕ) (cost : ℕ) (nodes : List Parts) (tags more : List Tag) → length (marks nodes tags) ≡ length tags → AllByRecursion (λ m. IsFair bound cost m.tag m.node) (marks nodes tags) → AreTrees bound cost (waiting_after nodes tags) more → AreTrees bound cost nodes (tags ++ more)
-trees-then bound cost nodes [] more e fair trees = trees
-trees-then bound cost [] (tag ∷ tags) more e fair trees = absurd (omega (arith, e))
-trees-then bound cost (node ∷ nodes) (tag ∷ tags) more e fair trees =
-    trees-step bound cost tag node nodes (tags ++ more) fair.0 (trees-then bound cost (made tag node ++ nodes) tags more (omega (arith, e)) fair.1 trees)
+trees-then : (part : Parts → Part → ℕ) (cost : ℕ) (nodes : List Parts) (tags more : List Tag) → length (marks nodes tags) ≡ length tags → AllByRecursion (λ m. IsFair part cost m.tag m.node) (marks nodes tags) → AreTrees part cost (waiting_after nodes tags) more → AreTrees part cost nodes (tags ++ more)
+trees-then part cost nodes [] more e fair trees = trees
+trees-then part cost [] (tag ∷ tags) more e fair trees = absurd (omega (arith, e))
+trees-then part cost (node ∷ nodes) (tag ∷ tags) more e fair trees =
+    trees-step part cost tag node nodes (tags ++ more) fair.0 (trees-then part cost (made tag node ++ nodes) tags more (omega (arith, e)) fair.1 trees)
 
-trees-open : (bound : Parts → ℕ) (cost : ℕ) (nodes : List Parts) → AreTrees bound cost nodes (opens nodes)
-trees-open bound cost [] = tt
-trees-open bound cost (node ∷ nodes) = trees-open bound cost nodes
+trees-open : (part : Parts → Part → ℕ) (cost : ℕ) (nodes : List Parts) → AreTrees part cost nodes (opens nodes)
+trees-open part cost [] = tt
+trees-open part cost (node ∷ nodes) = trees-open part cost nodes
 
 marks-open : (bound : Parts → ℕ) (nodes : List Parts) → marks nodes (opens nodes) ≡ map (λ task. record { node = task.node; tag = Open }) (map (task_at bound) nodes)
 marks-open bound [] = refl
@@ -93,16 +95,8 @@ module _ (design : Design) (bound : Parts → ℕ) (state : State) (tags : List 
   abbrev all : List Tag
   all = tags ++ opens left
 
-  fair : AllByRecursion (λ m. IsFair bound state.word m.tag m.node) (marks one tags)
-  fair =
-      subst (AllByRecursion (λ m. IsFair bound state.word m.tag m.node)) (append-nil (map mark_of state.entries) ∙ stage.marked)
-      (all-fair bound state.word state.entries [] core.conserved.decided core.not_stale)
-
   many : length (marks one tags) ≡ length tags
   many = sym (ap length stage.marked) ∙ length-map state.entries mark_of ∙ sym (length-map state.entries (λ (e : Entry). tag_of e.kind)) ∙ sym (ap length stage.kinds)
-
-  tree : AreTrees bound state.word one all
-  tree = trees-then bound state.word one tags (opens left) many fair (subst (λ ns. AreTrees bound state.word ns (opens left)) (sym stage.then) (trees-open bound state.word left))
 
   open-left : left_open one all ≡ left
   open-left =
@@ -126,13 +120,23 @@ module _ (design : Design) (bound : Parts → ℕ) (state : State) (tags : List 
       ∙ ap (λ us. map mark_of state.entries ++ open_marks us) (sym back) in
       subst (IsPermutation (given_marks state.entries state.waiting)) (sym same) (turned state.entries state.waiting)
 
-  pub certified : IsMerged design bound state.word state.entries state.waiting (tags ++ opens left)
-  certified = record {
-    tree = tree;
-    lowest = ap (λ ns. least state.word (map bound ns)) open-left ∙ lowest-is state.word;
-    placed = placed;
-    count = ap (λ ts. decided (ts ++ opens left)) stage.kinds ∙ decided-all state.entries left;
-  }
+  -- whatever the parts of the bound: each closed subproblem names the full one
+  module _ (part : Parts → Part → ℕ) (full : (node : Parts) → part node Full ≡ bound node) where
+    fair : AllByRecursion (λ m. IsFair part state.word m.tag m.node) (marks one tags)
+    fair =
+        subst (AllByRecursion (λ m. IsFair part state.word m.tag m.node)) (append-nil (map mark_of state.entries) ∙ stage.marked)
+        (all-fair bound part full state.word state.entries [] core.conserved.decided core.not_stale)
+
+    tree : AreTrees part state.word one all
+    tree = trees-then part state.word one tags (opens left) many fair (subst (λ ns. AreTrees part state.word ns (opens left)) (sym stage.then) (trees-open part state.word left))
+
+    pub certified : IsMerged design bound part state.word state.entries state.waiting (tags ++ opens left)
+    certified = record {
+      tree = tree;
+      lowest = ap (λ ns. least state.word (map bound ns)) open-left ∙ lowest-is state.word;
+      placed = placed;
+      count = ap (λ ts. decided (ts ++ opens left)) stage.kinds ∙ decided-all state.entries left;
+    }
 
 -- one subproblem more is left open
 module _ (design : Design) (bound : Parts → ℕ) (old new : Progress) (more : old.more ≡ true) (f : IsFollowed design bound old Open new) where

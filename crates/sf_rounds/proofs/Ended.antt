@@ -10,6 +10,8 @@ use Rattle.sf_model.proofs.Each.{each-left, each-weaker}
 use Rattle.sf_polish.specs.declared.expr.Expr.{Expr}
 use Rattle.sf_polish.specs.Text.{IsWritable}
 use Rattle.sf_node.specs.declared.task.Task.{Task}
+use Rattle.sf_node.specs.declared.part.Part.{Part}
+use Rattle.sf_node.specs.declared.part.Part.TheVariants.{Full}
 use Rattle.sf_node.specs.Parts.{Parts}
 use Rattle.sf_node.specs.Full.{full}
 use Rattle.sf_node.specs.Children.{IsSubproblem}
@@ -19,6 +21,7 @@ use Rattle.sf_search_core.specs.State.{State}
 use Rattle.sf_search_core.specs.Core.{held_tasks}
 use Rattle.sf_certificate.specs.declared.tag.Tag.{Tag}
 use Rattle.sf_certificate.specs.Marks.{tag_of}
+use Rattle.sf_certificate.specs.Named.{unnamed}
 use Rattle.sf_certificate.specs.Valid.{HasCost, least, decided}
 use Rattle.sf_certificate.proofs.AfterTags.{opens}
 use Rattle.sf_certificate.proofs.MergedTree.{IsMerged}
@@ -52,7 +55,7 @@ module _ (design : Design) (bound : Parts → ℕ) (state : State) (walk : Progr
       All-from_recursion Q state.waiting (each-weaker P Q (λ t h. h.1) state.waiting (each-left P state.waiting (held_tasks state) (recursion_from_All P (state.waiting ++ held_tasks state) b.core.valued)))
 
   pub counted : length walk.tags ≡ length state.entries
-  counted = ap length b.stage.kinds ∙ length-map state.entries (λ (e : Entry). tag_of e.kind)
+  counted = sym (length-map walk.tags unnamed) ∙ ap length b.stage.kinds ∙ length-map state.entries (λ (e : Entry). tag_of e.kind)
 
   many-left : length state.waiting ≡ length (left_of design walk)
   many-left = ap length b.stage.waiting ∙ length-reverse (map (task_at bound) (left_of design walk)) ∙ length-map (left_of design walk) (task_at bound)
@@ -64,22 +67,22 @@ module _ (design : Design) (bound : Parts → ℕ) (state : State) (walk : Progr
   pub all-visited : (nodes : ℕ) → (walk.more ≡ true → length walk.tags ≡ nodes) → full design ≤ nodes → state.waiting ≡ []
   all-visited nodes spent h = all-decided design bound state nodes b.core b.splits (λ some. omega (arith, counted, spent (some-left design walk.more walk.path.node (omega (arith, many-left, some))))) h
 
-  module _ (cost low : ℕ) (tags : List Tag) (plan : Option Expr) (c : cost ≡ walk.word) (l : low ≡ least walk.word (map bound (left_of design walk))) (t : tags ≡ walk.tags ++ opens (left_of design walk)) (p : plan ≡ walk.best) where
+  module _ (part : Parts → Part → ℕ) (whole : (node : Parts) → part node Full ≡ bound node) (cost low : ℕ) (tags : List Tag) (plan : Option Expr) (c : cost ≡ walk.word) (l : low ≡ least walk.word (map bound (left_of design walk))) (t : tags ≡ map unnamed walk.tags ++ opens (left_of design walk)) (p : plan ≡ walk.best) where
     same-word : state.word ≡ cost
     same-word = b.word ∙ sym c
 
-    pub merged-as : IsMerged design bound cost state.entries state.waiting tags
+    pub merged-as : IsMerged design bound part cost state.entries state.waiting tags
     merged-as =
-        subst (λ ts. IsMerged design bound cost state.entries state.waiting ts) (sym t)
-        (subst (λ n. IsMerged design bound n state.entries state.waiting (walk.tags ++ opens (left_of design walk))) same-word
-        (certified design bound state walk.tags (left_of design walk) b.stage b.core))
+        subst (λ ts. IsMerged design bound part cost state.entries state.waiting ts) (sym t)
+        (subst (λ n. IsMerged design bound part n state.entries state.waiting (map unnamed walk.tags ++ opens (left_of design walk))) same-word
+        (certified design bound state (map unnamed walk.tags) (left_of design walk) b.stage b.core part whole))
 
     pub planned-as : MatchOption plan (cost ≡ MAX) (λ expr. HasCost design expr cost × IsWritable (block_count design) expr)
     planned-as = planned design cost plan (subst (λ n. IsBest design n plan) (sym c) (subst (IsBest design walk.word) (sym p) b.best))
 
     pub stated-as : low ≡ least cost (map (λ (t : Task). t.bound) state.waiting)
     stated-as =
-        l ∙ lowest-is design bound state walk.tags (left_of design walk) b.stage b.core walk.word
+        l ∙ lowest-is design bound state (map unnamed walk.tags) (left_of design walk) b.stage b.core walk.word
         ∙ ap (λ ns. least walk.word ns) (sym (task-bounds bound state.waiting valued)) ∙ ap (λ n. least n (map (λ (t : Task). t.bound) state.waiting)) (sym c)
 
     pub stated-by-word : low ≡ least state.word (map (λ (t : Task). t.bound) state.waiting)

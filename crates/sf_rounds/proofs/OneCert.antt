@@ -7,6 +7,7 @@ use Rattle.sf_model.specs.declared.design.Design.{Design}
 use Rattle.sf_model.proofs.Each.{each-left, each-right}
 use Rattle.sf_polish.specs.declared.expr.Expr.{Expr}
 use Rattle.sf_node.specs.declared.task.Task.{Task}
+use Rattle.sf_node.specs.declared.part.Part.{Part}
 use Rattle.sf_node.specs.Parts.{Parts}
 use Rattle.sf_node.specs.Subproblem.{root, is_solved}
 use Rattle.sf_node.specs.Children.{IsSubproblem}
@@ -20,6 +21,7 @@ use Rattle.sf_certificate.specs.declared.mark.Mark.{Mark}
 use Rattle.sf_certificate.specs.declared.tag.Tag.TheVariants.{Open}
 use Rattle.sf_certificate.specs.Form.{no_plan}
 use Rattle.sf_certificate.specs.Marks.{given_marks, marks, tag_of}
+use Rattle.sf_certificate.specs.Named.{unnamed}
 use Rattle.sf_certificate.specs.Valid.{AreTrees}
 use Rattle.sf_certificate.proofs.Merged.{marks-good}
 use Rattle.sf_certificate.proofs.MergedTree.{each-unmap}
@@ -51,14 +53,14 @@ same-first design entries word e f a b =
     (recursion_from_All (λ (entry : Entry). word < entry.value) a.before a.first) (recursion_from_All (λ (entry : Entry). word < entry.value) b.before b.first)
 
 -- the entries stand at subproblems
-pub entries-good : (design : Design) (bound : Parts → ℕ) (state : State) (cert : Cert) → AreTrees bound cert.cost (root design ∷ []) cert.tags → IsCertOf design state cert → AllByRecursion (λ entry. IsSubproblem design entry.node) state.entries
-entries-good design bound state cert trees of =
+pub entries-good : (design : Design) (part : Parts → Part → ℕ) (state : State) (cert : Cert) → AreTrees part cert.cost (root design ∷ []) (map unnamed cert.tags) → IsCertOf design state cert → AllByRecursion (λ entry. IsSubproblem design entry.node) state.entries
+entries-good design part state cert trees of =
     let Good : Mark → Type 0 = λ m. IsSubproblem design m.node in
     let one = root design ∷ [] in
     let given = given_marks state.entries state.waiting in
     let all : AllByRecursion Good given =
-    recursion_from_All Good given (All-permutation Good (marks one cert.tags) given (IsPermutation-sym given (marks one cert.tags) of.placed)
-    (All-from_recursion Good (marks one cert.tags) (marks-good design bound cert.cost one cert.tags trees (root-subproblem design, tt)))) in
+    recursion_from_All Good given (All-permutation Good (marks one (map unnamed cert.tags)) given (IsPermutation-sym given (marks one (map unnamed cert.tags)) of.placed)
+    (All-from_recursion Good (marks one (map unnamed cert.tags)) (marks-good design part cert.cost one (map unnamed cert.tags) trees (root-subproblem design, tt)))) in
     each-unmap Good (λ (entry : Entry). record { node = entry.node; tag = tag_of entry.kind }) state.entries
     (each-left Good (map (λ (entry : Entry). record { node = entry.node; tag = tag_of entry.kind }) state.entries) (map (λ (task : Task). record { node = task.node; tag = Open }) state.waiting) all)
 

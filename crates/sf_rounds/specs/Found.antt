@@ -13,6 +13,7 @@ use Rattle.sf_certificate.specs.declared.cert.Cert.{Cert}
 use Rattle.sf_certificate.specs.declared.tag.Tag.{Tag}
 use Rattle.sf_certificate.specs.declared.tag.Tag.TheVariants.{Extend, Split, Closed, Open}
 use Rattle.sf_certificate.specs.Marks.{given_marks, marks}
+use Rattle.sf_certificate.specs.Named.{unnamed}
 use Rattle.sf_certificate.specs.Valid.{least}
 
 -- the plan of the subproblem that brought the word: the first entry whose value is the word is of this subproblem, which is solved. Where only areas count the plan is the trace of the least area; else the subproblem has no other plan
@@ -31,9 +32,9 @@ abbrev pub IsFirst : Design → State → Option Expr → Type 0
 IsFirst design state None = ⊤
 IsFirst design state (Some expr) = IsOfFirst design state.entries state.word expr
 
--- the certificate of a state in which no worker holds a task: the tree's subproblems with their tags are the entries and the open tasks
+-- the certificate of a state in which no worker holds a task: the tree's subproblems with their tags are the entries and the open tasks, but for the parts that are named
 pub record IsCertOf (design : Design) (state : State) (cert : Cert) : Type 0 where
-  pub placed : IsPermutation (given_marks state.entries state.waiting) (marks (root design ∷ []) cert.tags)
+  pub placed : IsPermutation (given_marks state.entries state.waiting) (marks (root design ∷ []) (map unnamed cert.tags))
   pub cost : cert.cost ≡ state.word
   pub bound : cert.bound ≡ least state.word (map (λ task. task.bound) state.waiting)
   pub plan : IsFirst design state cert.plan
@@ -42,7 +43,7 @@ pub record IsCertOf (design : Design) (state : State) (cert : Cert) : Type 0 whe
 abbrev pub SplitsFirst : Design → Tag → Parts → Type 0
 SplitsFirst design Extend node = ⊤
 SplitsFirst design (Split b) node = IsTrue (is_complete node) × IsFalse (is_solved design node) × (b ≡ first_wide_from 0 node.spans)
-SplitsFirst design Closed node = ⊤
+SplitsFirst design (Closed p) node = ⊤
 SplitsFirst design Open node = ⊤
 
 abbrev pub AllSplitFirst : Design → List Tag → Type 0

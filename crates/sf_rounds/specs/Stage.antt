@@ -3,6 +3,9 @@ use Rattle.std.specs.Prelude.{◌≡◌, ℕ, List, [], ◌∷◌, ◌++◌, map
 use Rattle.sf_model.specs.declared.design.Design.{Design}
 use Rattle.sf_polish.specs.declared.expr.Expr.{Expr}
 use Rattle.sf_node.specs.declared.task.Task.{Task}
+use Rattle.sf_node.specs.declared.part.Part.{Part}
+use Rattle.sf_node.specs.declared.part.Part.TheVariants.{Full}
+use Rattle.sf_node.specs.declared.part.PartValues.{PartValues}
 use Rattle.sf_node.specs.Parts.{Parts}
 use Rattle.sf_node.specs.Subproblem.{root}
 use Rattle.sf_node.specs.Children.{extended, after}
@@ -16,11 +19,13 @@ use Rattle.sf_certificate.specs.declared.mark.Mark.{Mark}
 use Rattle.sf_certificate.specs.declared.tag.Tag.{Tag}
 use Rattle.sf_certificate.specs.declared.tag.Tag.TheVariants.{Extend, Split, Closed}
 use Rattle.sf_certificate.specs.Marks.{made, marks, tag_of, waiting_after}
+use Rattle.sf_certificate.specs.Named.{unnamed}
 use Rattle.sf_rounds.specs.declared.visit.Visit.{Visit}
 use Rattle.sf_rounds.specs.declared.visit.Visit.TheVariants as visit
 use Rattle.sf_cursor.specs.Path.{Path, IsPath}
 use Rattle.sf_rounds.specs.Run.{IsIdle, IsBest, best_after}
 use Rattle.sf_rounds.specs.Found.{IsFirst}
+use Rattle.sf_rounds.specs.Naming.{named, kept_for}
 use Rattle.sf_rounds.specs.Turns.{turns, TurnsAreAccepted}
 use Rattle.sf_search_core.specs.Core.{IsCoreState}
 use Rattle.sf_search_core.specs.Outcome.{opening}
@@ -54,9 +59,10 @@ decision_of bound node (visit.Split b) = decision.Split b (task_at bound (after 
 abbrev pub IsVisit : Design → (Parts → ℕ) → Parts → ℕ → Visit → Type 0
 IsVisit design bound node value seen = IsDecision design bound (task_at bound node) value (decision_of bound node seen)
 
+-- the tag of a visit, but for the part that it names
 abbrev pub tag_at : Visit → Tag
-tag_at visit.Closed = Closed
-tag_at (visit.Solved expr) = Closed
+tag_at visit.Closed = Closed Full
+tag_at (visit.Solved expr) = Closed Full
 tag_at visit.Extended = Extend
 tag_at (visit.Split b) = Split b
 
@@ -67,11 +73,12 @@ word_after bound node (visit.Solved expr) word = bound node
 word_after bound node visit.Extended word = word
 word_after bound node (visit.Split b) word = word
 
--- what the search holds: where it stands, whether anything is not visited yet, the tags so far, the least cost found and its plan
+-- what the search holds: where it stands, whether anything is not visited yet, the tags so far, what is kept to name their parts by, the least cost found and its plan
 pub record Progress : Type 0 where
   pub path : Path
   pub more : Bool
   pub tags : List Tag
+  pub kept : List PartValues
   pub word : ℕ
   pub best : Option Expr
 
@@ -83,23 +90,29 @@ left_of design walk = pending design walk.more walk.path.node
 pub record IsFollowed (design : Design) (bound : Parts → ℕ) (old : Progress) (tag : Tag) (new : Progress) : Type 0 where
   pub at : IsPath design bound new.path
   pub tags : new.tags ≡ old.tags ++ tag ∷ []
+  pub kept : new.kept ≡ old.kept
   pub left : left_of design new ≡ made tag old.path.node ++ behind (root design) old.path.node.steps
   pub word : new.word ≡ old.word
   pub best : new.best ≡ old.best
 
+-- the tag of a visit, with the part that it names against the word after the visit
+abbrev pub tag_after : (Parts → ℕ) → (Parts → Part → ℕ) → Parts → Visit → ℕ → Tag
+tag_after bound part node seen word = named (part node) (word_after bound node seen word) (tag_at seen)
+
 -- the subproblem that was next was visited
-pub record IsMove (design : Design) (bound : Parts → ℕ) (old : Progress) (seen : Visit) (new : Progress) : Type 0 where
+pub record IsMove (design : Design) (bound : Parts → ℕ) (part : Parts → Part → ℕ) (old : Progress) (seen : Visit) (new : Progress) : Type 0 where
   pub visit : IsVisit design bound old.path.node old.word seen
   pub at : IsPath design bound new.path
-  pub tags : new.tags ≡ old.tags ++ tag_at seen ∷ []
+  pub tags : new.tags ≡ old.tags ++ tag_after bound part old.path.node seen old.word ∷ []
+  pub kept : new.kept ≡ old.kept ++ kept_for (part old.path.node) (tag_after bound part old.path.node seen old.word)
   pub left : left_of design new ≡ made (tag_at seen) old.path.node ++ behind (root design) old.path.node.steps
   pub word : new.word ≡ word_after bound old.path.node seen old.word
   pub best : new.best ≡ best_after (decision_of bound old.path.node seen) old.best
 
--- the search beside the machine in this state
+-- the search beside the machine in this state, which names no part
 pub record IsBeside (design : Design) (bound : Parts → ℕ) (state : State) (walk : Progress) : Type 0 where
   pub at : IsPath design bound walk.path
-  pub stage : IsStage design bound state walk.tags (left_of design walk)
+  pub stage : IsStage design bound state (map unnamed walk.tags) (left_of design walk)
   pub core : IsCoreState design bound state
   pub word : state.word ≡ walk.word
   pub best : IsBest design walk.word walk.best

@@ -1,7 +1,10 @@
 //! The whole walk of one worker.
 
-ghost use Rattle.std.specs.Prelude.{◌≡◌, ◌≤◌, length, true, IfOk};
+ghost use Rattle.std.specs.Prelude.{◌≡◌, ◌≤◌, ◌∷◌, [], length, true, IfOk};
+ghost use Rattle.sf_node.specs.Subproblem.{root};
 ghost use Rattle.sf_bounds.specs.Serving.{MayServe};
+ghost use Rattle.sf_certificate.specs.Marks.{marks};
+ghost use Rattle.sf_rounds.specs.Naming.{AreKept};
 ghost use Rattle.sf_rounds.specs.Stage.{IsRun};
 
 use crate::walk::Walk;
@@ -22,6 +25,7 @@ pub fn search_walk<'a, B: Bounds, G: Gate>(
 ) -> Result<Walk, NoMemory>
     requires serves { MayServe room.old design.now }
     ensures run { IfOk result (λ walk. IsRun design.now (B.Values.value bounds.now design.now) nodes walk) }
+    ensures kept { IfOk result (λ walk. AreKept (B.part_value bounds.now design.now) walk.word (marks (root design.now ∷ []) walk.tags) walk.kept) }
     ensures few { IfOk result (λ walk. length walk.tags ≤ nodes) }
     ensures spent { IfOk result (λ walk. walk.more ≡ true → length walk.tags ≡ nodes) }
     ensures serves { MayServe room.new design.now }

@@ -1,13 +1,16 @@
-//! Two hard blocks, searched with several budgets.
+//! Two hard blocks, searched with several budgets, and two squares with a net.
 
 ghost use Rattle.std.specs.Prelude.{◌≡◌, ◌∷◌, [], IfOk};
 
 use crate::{SearchOptions, search};
 use sf_bounds::Standard;
+use sf_certificate::Tag;
 use sf_io::{Gate, OpenGate};
 use sf_model::{
-    Block, BlockList, Design, MAX, Name, NetList, Outline, PadList, Shape, Shapes, Weights,
+    Block, BlockList, Design, MAX, Name, Net, NetList, Outline, Pad, PadList, Pin, Pins, Shape,
+    Shapes, Weights,
 };
+use sf_node::Part;
 use std::alloc::{AllocError, Global};
 use std::sync::atomic::{AtomicU64, Ordering};
 use std::test::Fail;
@@ -72,6 +75,55 @@ fn several_workers_search_two_hard_blocks(rt: HostRuntime) -> Result<(), Fail> {
         let found = search(&rt, alloc, &design, &Standard, few, &OpenGate)?;
         assert_eq!(rt; found.decided, 5, "{workers} workers");
     }
+    Ok(())
+}
+
+/// Two squares, a pad where the middle of the first one lies when it stands on the right, and a net of both.
+fn squares_and_pad(alloc: Global) -> Result<Design, AllocError> {
+    let first = block(alloc, Shape { w: 2, h: 2 })?;
+    let second = block(alloc, Shape { w: 2, h: 2 })?;
+    let pad = Pad {
+        name: Name::new(alloc, b"p")?,
+        x: 3,
+        y: 1,
+    };
+    let net = Net {
+        pins: Pins::from_vec(vec![in alloc; Pin::Block(0), Pin::Pad(0)]?),
+        weight: 1,
+    };
+    Ok(Design {
+        blocks: BlockList::from_vec(vec![in alloc; first, second]?),
+        pads: PadList::from_vec(vec![in alloc; pad]?),
+        nets: NetList::from_vec(vec![in alloc; net]?),
+        outline: Outline { w: 100, h: 100 },
+        weights: Weights { area: 1, wire: 1 },
+    })
+}
+
+/// The first plan costs 8 for its area and 4 for the net, so no area closes its subproblem yet. A later plan costs 8.
+#[test]
+fn names_are_those_of_the_last_cost(rt: HostRuntime) -> Result<(), Fail> {
+    let alloc = rt.alloc();
+    let design = squares_and_pad(alloc)?;
+    let options = SearchOptions {
+        workers: 1,
+        nodes: 100,
+    };
+    let found = search(&rt, alloc, &design, &Standard, options, &OpenGate)?;
+    assert_eq!(rt; (found.cost, found.bound, found.decided), (8, 8, 9));
+    let area = Tag::Closed(Part::Area);
+    let tags = [
+        Tag::Extend,
+        Tag::Extend,
+        Tag::Extend,
+        area,
+        area,
+        Tag::Extend,
+        Tag::Extend,
+        area,
+        area,
+    ];
+    assert_eq!(rt; found.cert.tags.as_slice(), tags.as_slice());
     Ok(())
 }
 

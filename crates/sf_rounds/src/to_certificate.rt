@@ -4,6 +4,7 @@ ghost use Rattle.std.specs.Prelude.{◌≡◌, ◌<◌, ◌≤◌, IfOk};
 ghost use Rattle.sf_model.specs.Legal.{block_count};
 ghost use Rattle.sf_node.specs.Full.{full};
 ghost use Rattle.sf_search_core.specs.Outcome.{opening};
+ghost use Rattle.sf_certificate.specs.Named.{AllNameFirst};
 ghost use Rattle.sf_certificate.specs.Valid.{IsValid, decided};
 ghost use Rattle.sf_rounds.specs.Turns.{turns, TurnsAreAccepted};
 ghost use Rattle.sf_rounds.specs.Found.{IsCertOf, AllSplitFirst};
@@ -48,7 +49,7 @@ pub fn search<R: Threads + Sync, B: Bounds, G: Gate>(
     gate: &G,
 ) -> Result<Found, NoMemory>
     // The certificate is valid, and what is handed over beside it is its own.
-    ensures valid { IfOk result (λ found. IsValid design.now (B.Values.value bounds.now design.now) found.cert) }
+    ensures valid { IfOk result (λ found. IsValid design.now (B.Values.value bounds.now design.now) (B.part_value bounds.now design.now) found.cert) }
     ensures blocks { IfOk result (λ found. found.cert.blocks ≡ block_count design.now) }
     ensures plan { IfOk result (λ found. found.plan ≡ found.cert.plan) }
     ensures cost { IfOk result (λ found. found.cost ≡ found.cert.cost) }
@@ -63,6 +64,9 @@ pub fn search<R: Threads + Sync, B: Bounds, G: Gate>(
     ensures splits { IfOk result (λ found. AllSplitFirst design.now found.cert.tags) }
     ensures full { IfOk result (λ found. found.decided ≤ full design.now) }
     ensures ended { IfOk result (λ found. full design.now ≤ options.nodes → found.bound ≡ found.cost) }
+
+    // With one worker each closed subproblem names the first part of the bound that is at least the cost.
+    ensures named { IfOk result (λ found. options.workers ≡ 1 → AllNameFirst design.now (B.part_value bounds.now design.now) found.cert.cost found.cert.tags) }
 
     // With one worker it is a function of the design and the budget: the state after so many turns of the core, and in it
     // the plan that was found first of those that cost the word.
@@ -92,7 +96,7 @@ fn alone<B: Bounds, G: Gate>(
     nodes: u64,
     gate: &G,
 ) -> Result<Found, NoMemory>
-    ensures valid { IfOk result (λ found. IsValid design.now (B.Values.value bounds.now design.now) found.cert) }
+    ensures valid { IfOk result (λ found. IsValid design.now (B.Values.value bounds.now design.now) (B.part_value bounds.now design.now) found.cert) }
     ensures blocks { IfOk result (λ found. found.cert.blocks ≡ block_count design.now) }
     ensures plan { IfOk result (λ found. found.plan ≡ found.cert.plan) }
     ensures cost { IfOk result (λ found. found.cost ≡ found.cert.cost) }
@@ -103,6 +107,7 @@ fn alone<B: Bounds, G: Gate>(
     ensures splits { IfOk result (λ found. AllSplitFirst design.now found.cert.tags) }
     ensures full { IfOk result (λ found. found.decided ≤ full design.now) }
     ensures ended { IfOk result (λ found. full design.now ≤ nodes → found.bound ≡ found.cost) }
+    ensures named { IfOk result (λ found. AllNameFirst design.now (B.part_value bounds.now design.now) found.cert.cost found.cert.tags) }
     ensures run { IfOk result (λ found. IsCertOf design.now (turns design.now (B.Values.value bounds.now design.now) nodes (opening design.now (B.Values.value bounds.now design.now) 1)) found.cert) }
     ensures accepted { IfOk result (λ found. TurnsAreAccepted design.now (B.Values.value bounds.now design.now) nodes (opening design.now (B.Values.value bounds.now design.now) 1)) }
 {
@@ -112,7 +117,7 @@ fn alone<B: Bounds, G: Gate>(
     let decided = walk.count() as u64;
     let plan = copy_plan(alloc, walk.best())?;
     let bound = walk.leave_open(design, bounds, &mut room)?;
-    let (tags, best) = walk.into_parts();
+    let (tags, best) = walk.into_named();
     let blocks = design.blocks.as_slice().len() as u16;
     let tags = TagList::from_vec(tags);
     let cert = Cert {
@@ -142,7 +147,7 @@ fn together<R: Threads + Sync, B: Bounds, G: Gate>(
     gate: &G,
 ) -> Result<Found, NoMemory>
     requires { (1 ≤ workers) × (workers ≤ 16) }
-    ensures valid { IfOk result (λ found. IsValid design.now (B.Values.value bounds.now design.now) found.cert) }
+    ensures valid { IfOk result (λ found. IsValid design.now (B.Values.value bounds.now design.now) (B.part_value bounds.now design.now) found.cert) }
     ensures blocks { IfOk result (λ found. found.cert.blocks ≡ block_count design.now) }
     ensures plan { IfOk result (λ found. found.plan ≡ found.cert.plan) }
     ensures cost { IfOk result (λ found. found.cost ≡ found.cert.cost) }

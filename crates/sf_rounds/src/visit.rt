@@ -2,10 +2,9 @@
 
 ghost use Rattle.std.specs.Prelude.{◌≡◌, IfOk};
 ghost use Rattle.sf_node.specs.Children.{IsSubproblem};
-ghost use Rattle.sf_rounds.specs.Stage.{IsVisit, tag_at};
+ghost use Rattle.sf_rounds.specs.Stage.{IsVisit};
 
 use sf_bounds::{Bounds, solve};
-use sf_certificate::Tag;
 use sf_model::Design;
 use sf_node::{Node, Values};
 use sf_polish::Expr;
@@ -48,14 +47,4 @@ pub fn decide<B: Bounds>(
         return Ok(Visit::Split(block));
     }
     Ok(Visit::Extended)
-}
-
-pub fn tag_at(seen: &Visit) -> Tag
-    ensures { result ≡ tag_at seen.now }
-{
-    match seen {
-        Visit::Closed | Visit::Solved(_) => Tag::Closed,
-        Visit::Extended => Tag::Extend,
-        Visit::Split(block) => Tag::Split(*block),
-    }
 }

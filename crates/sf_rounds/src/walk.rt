@@ -1,24 +1,26 @@
-//! The search by one worker: it keeps where it stands, and the tags so far.
+//! The search by one worker: it keeps where it stands, the tags so far, and what names their parts.
 
 ghost use Rattle.std.specs.Prelude.{◌≡◌};
 
-use crate::visit::{Visit, decide, tag_at};
-use sf_bounds::{Bounds, Room};
+use crate::naming::name_all;
+use crate::visit::{Visit, decide};
+use sf_bounds::{Bounds, Room, Valued};
 use sf_certificate::Tag;
 use sf_cursor::Cursor;
 use sf_model::{Design, MAX};
-use sf_node::Values;
+use sf_node::{Part, PartValues, Values};
 use sf_polish::Expr;
 use std::alloc::{AllocError as NoMemory, Global};
 use std::marker::Model;
 
-/// A search in preorder: where it stands, whether anything is not visited yet, the tags so far, the least cost found and
-/// its plan.
+/// A search in preorder: where it stands, whether anything is not visited yet, the tags so far, what is kept to name their
+/// parts by, the least cost found and its plan.
 #[derive(Drop)]
 pub struct Walk {
     cursor: Cursor,
     more: bool,
     tags: Vec<Tag>,
+    kept: Vec<PartValues>,
     word: u64,
     best: Option<Expr>,
 }
@@ -28,11 +30,12 @@ impl Model for Walk {
 
     ghost Value = { Progress };
 
-    ghost view = { λ w. record { path = w.cursor; more = w.more; tags = w.tags.items; word = w.word; best = w.best } };
+    ghost view = { λ w. record { path = w.cursor; more = w.more; tags = w.tags.items; kept = w.kept.items; word = w.word; best = w.best } };
 }
 
 impl Walk {
-    ghost use Rattle.std.specs.Prelude.{[], ◌∷◌, ◌++◌, map, length, true, None, IfOk, OnOk};
+    ghost use Rattle.std.specs.Prelude.{[], ◌∷◌, ◌++◌, map, length, true, None, IfOk, IfSome, OnOk};
+    ghost use Rattle.sf_node.specs.ByPart.{AreValues, first_part};
     ghost use Rattle.sf_node.specs.Subproblem.{root};
     ghost use Rattle.sf_bounds.specs.Serving.{MayServe};
     ghost use Rattle.sf_certificate.specs.Marks.{MaySplit};
@@ -40,13 +43,15 @@ impl Walk {
     ghost use Rattle.sf_cursor.specs.Path.{IsPath};
     ghost use Rattle.sf_rounds.specs.declared.visit.Visit.{Visit};
     ghost use Rattle.sf_rounds.specs.Run.{best_after};
-    ghost use Rattle.sf_rounds.specs.Stage.{IsFollowed, IsMove, left_of, word_after, decision_of};
+    ghost use Rattle.sf_rounds.specs.Naming.{kept_for, renamed};
+    ghost use Rattle.sf_rounds.specs.Stage.{IsFollowed, IsMove, left_of, tag_after};
 
     /// Before the first visit.
     pub fn new<V: Values>(alloc: Global, design: &Design, values: &V) -> Result<Walk, NoMemory>
         ensures at { IfOk result (λ w. IsPath design.now (V.value values.now design.now) w.path) }
         ensures left { IfOk result (λ w. left_of design.now w ≡ root design.now ∷ []) }
         ensures tags { IfOk result (λ w. w.tags ≡ []) }
+        ensures kept { IfOk result (λ w. w.kept ≡ []) }
         ensures word { IfOk result (λ w. w.word ≡ MAX) }
         ensures best { IfOk result (λ w. w.best ≡ None) }
     {
@@ -54,6 +59,7 @@ impl Walk {
             cursor: Cursor::new(alloc, design, values)?,
             more: true,
             tags: Vec::new(alloc),
+            kept: Vec::new(alloc),
             word: MAX,
             best: None,
         })
@@ -83,12 +89,21 @@ impl Walk {
         self.tags.len()
     }
 
-    /// The tags and the plan, at the end of a search.
-    pub fn into_parts(self) -> (Vec<Tag>, Option<Expr>)
-        ensures tags { result.0.items ≡ self.tags }
+    /// The tags and the plan, at the end of a search: what the tags name is named against the cost of the plan.
+    pub fn into_named(self) -> (Vec<Tag>, Option<Expr>)
+        ensures tags { result.0.items ≡ renamed self.word self.tags self.kept }
         ensures best { result.1 ≡ self.best }
     {
-        (self.tags, self.best)
+        let Walk {
+            cursor: _,
+            more: _,
+            mut tags,
+            kept,
+            word,
+            best,
+        } = self;
+        name_all(&mut tags, &kept, word);
+        (tags, best)
     }
 
     /// Puts a tag down, and goes on to what it makes or past it.
@@ -109,21 +124,97 @@ impl Walk {
         Ok(())
     }
 
-    /// The value of the subproblem that is next.
+    /// The value of the subproblem that is next, and those of the parts where they came with it.
     fn value<'a, B: Bounds>(
         &self,
         design: &'a Design,
         bounds: &B,
         room: &mut Room<'a>,
-    ) -> Result<u64, NoMemory>
+    ) -> Result<Valued, NoMemory>
         requires at { IsPath design.now (B.Values.value bounds.now design.now) self.now.path }
         requires serves { MayServe room.old design.now }
-        ensures value { IfOk result (λ value. value ≡ B.Values.value bounds.now design.now self.now.path.node) }
+        ensures value { IfOk result (λ v. v.value ≡ B.Values.value bounds.now design.now self.now.path.node) }
+        ensures parts { IfOk result (λ v. IfSome v.parts (AreValues (B.part_value bounds.now design.now self.now.path.node))) }
         ensures serves { MayServe room.new design.now }
     {
         match self.cursor.parent_value(design, bounds) {
-            None => bounds.bound(design, self.cursor.node(), room),
-            Some(value) => bounds.child_bound(design, self.cursor.node(), value, room),
+            None => {
+                let value = bounds.bound(design, self.cursor.node(), room)?;
+                Ok(Valued { value, parts: None })
+            }
+            Some(value) => bounds.child_valued(design, self.cursor.node(), value, room),
+        }
+    }
+
+    /// The values of the parts at the subproblem that is next.
+    fn parts<'a, B: Bounds>(
+        &self,
+        design: &'a Design,
+        bounds: &B,
+        valued: Valued,
+        room: &mut Room<'a>,
+    ) -> Result<PartValues, NoMemory>
+        requires at { IsPath design.now (B.Values.value bounds.now design.now) self.now.path }
+        requires value { valued.value ≡ B.Values.value bounds.now design.now self.now.path.node }
+        requires parts { IfSome valued.parts (AreValues (B.part_value bounds.now design.now self.now.path.node)) }
+        requires serves { MayServe room.old design.now }
+        ensures values { IfOk result (AreValues (B.part_value bounds.now design.now self.now.path.node)) }
+        ensures serves { MayServe room.new design.now }
+    {
+        match valued.parts {
+            Some(values) => Ok(values),
+            None => bounds.parts(design, self.cursor.node(), room),
+        }
+    }
+
+    /// Closes the subproblem that is next: the tag names the first part that is at least the cost. The values of the parts
+    /// are kept where that is not the area, since the cost may fall.
+    fn close<'a, B: Bounds>(
+        &mut self,
+        design: &'a Design,
+        bounds: &B,
+        valued: Valued,
+        cost: u64,
+        room: &mut Room<'a>,
+    ) -> Result<Tag, NoMemory>
+        requires at { IsPath design.now (B.Values.value bounds.now design.now) self.old.path }
+        requires value { valued.value ≡ B.Values.value bounds.now design.now self.old.path.node }
+        requires parts { IfSome valued.parts (AreValues (B.part_value bounds.now design.now self.old.path.node)) }
+        requires serves { MayServe room.old design.now }
+        ensures tag { IfOk result (λ tag. tag ≡ Tag.Closed (first_part (B.part_value bounds.now design.now self.old.path.node) cost)) }
+        ensures kept { IfOk result (λ tag. self.new ≡ record self.old { kept = self.old.kept ++ kept_for (B.part_value bounds.now design.now self.old.path.node) tag }) }
+        ensures serves { MayServe room.new design.now }
+    {
+        let values = self.parts(design, bounds, valued, room)?;
+        let part = values.first(cost);
+        if part != Part::Area {
+            self.kept.push(values)?;
+        }
+        Ok(Tag::Closed(part))
+    }
+
+    /// The tag of a visit.
+    fn tag<'a, B: Bounds>(
+        &mut self,
+        design: &'a Design,
+        bounds: &B,
+        seen: &Visit,
+        valued: Valued,
+        room: &mut Room<'a>,
+    ) -> Result<Tag, NoMemory>
+        requires at { IsPath design.now (B.Values.value bounds.now design.now) self.old.path }
+        requires value { valued.value ≡ B.Values.value bounds.now design.now self.old.path.node }
+        requires parts { IfSome valued.parts (AreValues (B.part_value bounds.now design.now self.old.path.node)) }
+        requires serves { MayServe room.old design.now }
+        ensures tag { IfOk result (λ tag. tag ≡ tag_after (B.Values.value bounds.now design.now) (B.part_value bounds.now design.now) self.old.path.node seen.now self.old.word) }
+        ensures kept { IfOk result (λ tag. self.new ≡ record self.old { kept = self.old.kept ++ kept_for (B.part_value bounds.now design.now self.old.path.node) tag }) }
+        ensures serves { MayServe room.new design.now }
+    {
+        match seen {
+            Visit::Closed => self.close(design, bounds, valued, self.word, room),
+            Visit::Solved(_) => self.close(design, bounds, valued, valued.value, room),
+            Visit::Extended => Ok(Tag::Extend),
+            Visit::Split(block) => Ok(Tag::Split(*block)),
         }
     }
 
@@ -136,15 +227,15 @@ impl Walk {
     ) -> Result<(), NoMemory>
         requires at { IsPath design.now (B.Values.value bounds.now design.now) self.old.path }
         requires serves { MayServe room.old design.now }
-        ensures moved { IfOk result (λ done. (seen : Visit) × IsMove design.now (B.Values.value bounds.now design.now) self.old seen self.new) }
+        ensures moved { IfOk result (λ done. (seen : Visit) × IsMove design.now (B.Values.value bounds.now design.now) (B.part_value bounds.now design.now) self.old seen self.new) }
         ensures serves { MayServe room.new design.now }
     {
-        let value = self.value(design, bounds, room)?;
-        let seen = decide(design, bounds, self.cursor.node(), value, self.word)?;
-        let tag = tag_at(&seen);
-        self.follow(design, bounds, tag, value)?;
+        let valued = self.value(design, bounds, room)?;
+        let seen = decide(design, bounds, self.cursor.node(), valued.value, self.word)?;
+        let tag = self.tag(design, bounds, &seen, valued, room)?;
+        self.follow(design, bounds, tag, valued.value)?;
         if let Visit::Solved(expr) = seen {
-            self.word = value;
+            self.word = valued.value;
             self.best = Some(expr);
         }
         Ok(())
@@ -161,14 +252,16 @@ impl Walk {
         requires serves { MayServe room.old design.now }
         ensures tags { IfOk result (λ bound. self.new.tags ≡ self.old.tags ++ map (λ node. Tag.Open) (left_of design.now self.old)) }
         ensures bound { IfOk result (λ bound. bound ≡ least self.old.word (map (B.Values.value bounds.now design.now) (left_of design.now self.old))) }
+        ensures kept { IfOk result (λ bound. self.new.kept ≡ self.old.kept) }
+        ensures word { IfOk result (λ bound. self.new.word ≡ self.old.word) }
         ensures best { IfOk result (λ bound. self.new.best ≡ self.old.best) }
         ensures serves { MayServe room.new design.now }
     {
         let mut low = self.word;
         while self.more {
-            let value = self.value(design, bounds, room)?;
-            low = low.min(value);
-            self.follow(design, bounds, Tag::Open, value)?;
+            let valued = self.value(design, bounds, room)?;
+            low = low.min(valued.value);
+            self.follow(design, bounds, Tag::Open, valued.value)?;
         }
         Ok(low)
     }

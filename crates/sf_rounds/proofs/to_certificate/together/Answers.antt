@@ -27,4 +27,6 @@ returns-clause-ended g c = λ large.
     c.in_ok-cert.ensures.bound ∙ ap (λ (ts : List Task). least p.value (map (λ (t : Task). t.bound) ts)) (c.into_vec-left.ensures ∙ none)
 
 pub returns-clause-valid : goal.returns-clause-valid
-returns-clause-valid g c = c.in_ok-cert.ensures.valid c.in_ok-searched.ensures.search.core.not_stale
+returns-clause-valid g c =
+    let design = c.args.design.now in
+    c.in_ok-cert.ensures.valid c.in_ok-searched.ensures.search.core.not_stale (g.B.Bounds.part_value c.args.bounds.now design) ((g.met.B.Bounds g.world.𝓛 g.world.𝓜 g.world.𝓡 ((λ s x. x), (λ x. x), (λ x. x), λ x. x)).parts_below c.args.bounds.now design).full

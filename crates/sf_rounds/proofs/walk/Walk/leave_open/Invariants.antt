@@ -11,6 +11,8 @@ invariant-loop-self g l = record {
   at : IsPath l.design (g.B.Values.value l.bounds l.design) l.self.path;
   tags : l.self.tags ++ map (λ node. Open) (left_of l.design l.self) ≡ l.initial.self.tags ++ map (λ node. Open) (left_of l.design l.initial.self);
   low : least l.low (map (g.B.Values.value l.bounds l.design) (left_of l.design l.self)) ≡ least l.initial.self.word (map (g.B.Values.value l.bounds l.design) (left_of l.design l.initial.self));
+  kept : l.self.kept ≡ l.initial.self.kept;
+  word : l.self.word ≡ l.initial.self.word;
   best : l.self.best ≡ l.initial.self.best;
   serves : MayServe l.room l.design;
 }

@@ -1,0 +1,116 @@
+-- The certificate of a search with one worker: as that without names, and each closed subproblem names the first part that is at least the cost.
+use Rattle.std.proofs.Common.{◌≡◌, ℕ, List, [], ◌∷◌, ◌++◌, map, length, refl, ap, sym, subst, ◌∙◌, Option, Some, None}
+use Rattle.std.specs.Prelude.{MatchOption, IsTrue}
+use Rattle.std.specs.List.{AllByRecursion}
+use Rattle.std.proofs.lemmas.List.{map-append}
+use Rattle.std.proofs.lemmas.List.Elements.{recursion_from_All, All-from_recursion}
+use Rattle.sf_model.specs.declared.design.Design.{Design}
+use Rattle.sf_model.specs.declared.TheConstants.{MAX}
+use Rattle.sf_model.specs.Legal.{block_count}
+use Rattle.sf_polish.specs.declared.expr.Expr.{Expr}
+use Rattle.sf_polish.specs.Text.{IsWritable}
+use Rattle.sf_node.specs.declared.part.Part.{Part}
+use Rattle.sf_node.specs.declared.part.PartValues.{PartValues}
+use Rattle.sf_node.specs.Parts.{Parts}
+use Rattle.sf_node.specs.ByPart.{ArePartsOf}
+use Rattle.sf_node.specs.Subproblem.{root}
+use Rattle.sf_node.proofs.Depth.{subproblem-shallow}
+use Rattle.sf_search_core.specs.State.{State}
+use Rattle.sf_certificate.specs.declared.mark.Mark.{Mark}
+use Rattle.sf_certificate.specs.declared.tag.Tag.{Tag}
+use Rattle.sf_certificate.specs.declared.tag.Tag.TheVariants.{Extend, Split, Closed, Open}
+use Rattle.sf_certificate.specs.Form.{IsFormed}
+use Rattle.sf_certificate.specs.Marks.{made, marks, waiting_after}
+use Rattle.sf_certificate.specs.Named.{AllNameFirst, unnamed}
+use Rattle.sf_certificate.specs.Valid.{AreTrees, HasCost, left_open, least, decided}
+use Rattle.sf_certificate.proofs.AfterTags.{opens, marks-then}
+use Rattle.sf_certificate.proofs.MergedCert.{merged-formed, task-bounds}
+use Rattle.sf_certificate.proofs.MergedTree.{IsMerged}
+use Rattle.sf_certificate.proofs.Named.{first-close, unnamed-open, unnamed-decided, unnamed-tree, unnamed-waiting}
+use Rattle.sf_rounds.specs.Found.{SplitsFirst, AllSplitFirst}
+use Rattle.sf_rounds.specs.Naming.{AreKept, renamed}
+use Rattle.sf_rounds.specs.Stage.{Progress, left_of, IsBeside}
+use Rattle.sf_rounds.proofs.Ended.{valued, merged-as, planned-as, stated-as, decided-as}
+use Rattle.sf_rounds.proofs.Names.{renamed-alike, kept-open, name-first}
+use Rattle.sf_rounds.proofs.SplitMarks.{marks-first}
+
+pub same-renamed : {y z : ℕ} {xs ys : List Tag} {ks ls : List PartValues} → y ≡ z → xs ≡ ys → ks ≡ ls → renamed y xs ks ≡ renamed z ys ls
+same-renamed e f g = λ i. renamed (e i) (f i) (g i)
+
+opens-unnamed : (nodes : List Parts) → map unnamed (opens nodes) ≡ opens nodes
+opens-unnamed [] = refl
+opens-unnamed (node ∷ nodes) = ap (λ ts. Open ∷ ts) (opens-unnamed nodes)
+
+open-marks : (nodes : List Parts) → marks nodes (opens nodes) ≡ map (λ node. record { node = node; tag = Open }) nodes
+open-marks [] = refl
+open-marks (node ∷ nodes) = ap (λ ms. record { node = node; tag = Open } ∷ ms) (open-marks nodes)
+
+-- names tell nothing of splits
+splits-named : (design : Design) (nodes : List Parts) (tags : List Tag) → AllByRecursion (λ mark. SplitsFirst design mark.tag mark.node) (marks nodes (map unnamed tags)) → AllByRecursion (λ mark. SplitsFirst design mark.tag mark.node) (marks nodes tags)
+splits-named design [] tags all = tt
+splits-named design (node ∷ nodes) [] all = tt
+splits-named design (node ∷ nodes) (Extend ∷ tags) all = (all.0, splits-named design (made Extend node ++ nodes) tags all.1)
+splits-named design (node ∷ nodes) (Split b ∷ tags) all = (all.0, splits-named design (made (Split b) node ++ nodes) tags all.1)
+splits-named design (node ∷ nodes) (Closed p ∷ tags) all = (tt, splits-named design nodes tags all.1)
+splits-named design (node ∷ nodes) (Open ∷ tags) all = (tt, splits-named design nodes tags all.1)
+
+priced : (design : Design) (z : ℕ) (plan : Option Expr) → MatchOption plan (z ≡ MAX) (λ expr. HasCost design expr z × IsWritable (block_count design) expr) → MatchOption plan (z ≡ MAX) (λ expr. HasCost design expr z)
+priced design z None h = h
+priced design z (Some expr) h = h.0
+
+module _ (design : Design) (bound : Parts → ℕ) (part : Parts → Part → ℕ) (parts : ArePartsOf design bound part) (state : State) (walk : Progress) (b : IsBeside design bound state walk) (cost low : ℕ) (tags : List Tag) (plan : Option Expr) (c : cost ≡ walk.word) (l : low ≡ least walk.word (map bound (left_of design walk)))
+    (t : tags ≡ renamed walk.word (walk.tags ++ opens (left_of design walk)) walk.kept) (p : plan ≡ walk.best) where
+  abbrev one : List Parts
+  one = root design ∷ []
+
+  abbrev left : List Parts
+  left = left_of design walk
+
+  -- the tags without names
+  abbrev plain : List Tag
+  plain = map unnamed tags
+
+  pub plain-is : map unnamed tags ≡ map unnamed walk.tags ++ opens (left_of design walk)
+  plain-is =
+      ap (map unnamed) t ∙ renamed-alike walk.word (walk.tags ++ opens left) walk.kept ∙ map-append unnamed walk.tags (opens left)
+      ∙ ap (λ ts. map unnamed walk.tags ++ ts) (opens-unnamed left)
+
+  merged : IsMerged design bound part cost state.entries state.waiting plain
+  merged = merged-as design bound state walk b part parts.full cost low plain plan c l plain-is p
+
+  pub form-is : (n : ℕ) → n ≡ block_count design → IsFormed n plan cost tags
+  form-is n e =
+      let f = merged-formed design bound part cost cost n state.entries state.waiting plain plan e merged
+      (planned-as design bound state walk b part parts.full cost low plain plan c l plain-is p) (subproblem-shallow design) in
+      record { some_block = f.some_block; few_blocks = f.few_blocks; planned = f.planned; unplanned = f.unplanned; tree = subst IsTrue (unnamed-tree n tags) f.tree }
+
+  pub plan-is : MatchOption plan (cost ≡ MAX) (λ expr. HasCost design expr cost)
+  plan-is = priced design cost plan (planned-as design bound state walk b part parts.full cost low plain plan c l plain-is p)
+
+  pub low-is : low ≡ least cost (map bound (left_open (root design ∷ []) tags))
+  low-is =
+      stated-as design bound state walk b part parts.full cost low plain plan c l plain-is p
+      ∙ ap (least cost) (task-bounds bound state.waiting (valued design bound state walk b)) ∙ sym merged.lowest
+      ∙ ap (λ ns. least cost (map bound ns)) (unnamed-open one tags)
+
+  pub splits-are : AllSplitFirst design tags
+  splits-are =
+      let P : Mark → Type 0 = λ mark. SplitsFirst design mark.tag mark.node in
+      All-from_recursion P (marks one tags) (splits-named design one tags (recursion_from_All P (marks one plain) (marks-first design state.entries state.waiting (marks one plain) b.splits merged.placed)))
+
+  pub decided-are : decided tags ≡ length walk.tags
+  decided-are = sym (unnamed-decided tags) ∙ decided-as design bound state walk b part parts.full cost low plain plan c l plain-is p
+
+  module _ (k : AreKept part walk.word (marks (root design ∷ []) walk.tags) walk.kept) where
+    pub names-are : AllNameFirst design part cost tags
+    names-are =
+        let raw = walk.tags ++ opens left in
+        let then : waiting_after one walk.tags ≡ left = sym (unnamed-waiting one walk.tags) ∙ b.stage.then in
+        let same : marks one raw ≡ marks one walk.tags ++ map (λ node. record { node = node; tag = Open }) left =
+        marks-then one walk.tags (opens left) ∙ ap (λ ns. marks one walk.tags ++ marks ns (opens left)) then ∙ ap (λ ms. marks one walk.tags ++ ms) (open-marks left) in
+        let all : AreKept part walk.word (marks one raw) walk.kept = subst (λ ms. AreKept part walk.word ms walk.kept) (sym same) (kept-open part walk.word (marks one walk.tags) walk.kept left k) in
+        subst (λ z. AllNameFirst design part z tags) (sym c)
+        (subst (AllNameFirst design part walk.word) (sym t) (name-first part walk.word one raw walk.kept all))
+
+    pub tree-is : AreTrees part cost (root design ∷ []) tags
+    tree-is = first-close design part cost tags merged.tree names-are
