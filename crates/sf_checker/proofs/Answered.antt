@@ -8,6 +8,7 @@ use Rattle.sf_model.specs.Cost.{cost}
 use Rattle.sf_model.specs.declared.TheConstants.{MAX}
 use Rattle.sf_polish.specs.declared.expr.Expr.{Expr}
 use Rattle.sf_polish.proofs.Spelling.{spells-one}
+use Rattle.sf_node.specs.declared.part.Part.{Part}
 use Rattle.sf_node.specs.Parts.{Parts}
 use Rattle.sf_node.specs.Subproblem.{root}
 use Rattle.sf_node.proofs.Reached.{root-subproblem}
@@ -36,14 +37,14 @@ plan-of design z None expr e h = absurd (cc)
 plan-of design z (Some other) expr e h = let same : other ≡ expr = cc in subst (λ x. HasCost design x z) same h
 
 -- what the walk saw of a certificate's tags
-pub seen-cert : (design : Design) (bound : Parts → ℕ) (cert : Cert) (last : Progress) → cert.blocks ≡ block_count design → walked bound cert.cost (start (root design) cert.cost) cert.tags ≡ Ok last → IsSeen bound cert.cost (start (root design) cert.cost) cert.tags last
-seen-cert design bound cert last e w =
-    seen design bound cert.cost cert.tags (start (root design) cert.cost) (root design ∷ []) last refl w
+pub seen-cert : (design : Design) (bound : Parts → ℕ) (part : Parts → Part → ℕ) (cert : Cert) (last : Progress) → cert.blocks ≡ block_count design → walked bound part cert.cost (start (root design) cert.cost) cert.tags ≡ Ok last → IsSeen bound part cert.cost (start (root design) cert.cost) cert.tags last
+seen-cert design bound part cert last e w =
+    seen design bound part cert.cost cert.tags (start (root design) cert.cost) (root design ∷ []) last refl w
     (subst (λ n. spell_trees n (map place_of (root design ∷ [])) cert.tags ≡ true) e cert.form.tree) (root-subproblem design, tt)
 
-pub answer-yes : (design : Design) (bound : Parts → ℕ) (cert : Cert) (last : Progress) (count : ℕ) → cert.blocks ≡ block_count design → IsPlanRight design cert → walked bound cert.cost (start (root design) cert.cost) cert.tags ≡ Ok last → last.low ≡ cert.bound → count ≡ last.decided → IsRight design bound cert cert.cost cert.bound count
-answer-yes design bound cert last count e plan w low is =
-    let s = seen-cert design bound cert last e w in
+pub answer-yes : (design : Design) (bound : Parts → ℕ) (part : Parts → Part → ℕ) (cert : Cert) (last : Progress) (count : ℕ) → cert.blocks ≡ block_count design → IsPlanRight design cert → walked bound part cert.cost (start (root design) cert.cost) cert.tags ≡ Ok last → last.low ≡ cert.bound → count ≡ last.decided → IsRight design bound part cert cert.cost cert.bound count
+answer-yes design bound part cert last count e plan w low is =
+    let s = seen-cert design bound part cert last e w in
     record {
       valid = record { plan = plan; tree = s.trees; stated = sym low ∙ s.low };
       cost = refl;
@@ -51,25 +52,25 @@ answer-yes design bound cert last count e plan w low is =
       count_is = omega (arith, is, s.count);
     }
 
-pub answer-bound : (design : Design) (bound : Parts → ℕ) (cert : Cert) (last : Progress) (is : ℕ) → cert.blocks ≡ block_count design → IsPlanRight design cert → walked bound cert.cost (start (root design) cert.cost) cert.tags ≡ Ok last → is ≡ last.low → cert.bound ≢ is → IsOtherBound design bound cert is
-answer-bound design bound cert last is e plan w same differs =
-    let s = seen-cert design bound cert last e w in
+pub answer-bound : (design : Design) (bound : Parts → ℕ) (part : Parts → Part → ℕ) (cert : Cert) (last : Progress) (is : ℕ) → cert.blocks ≡ block_count design → IsPlanRight design cert → walked bound part cert.cost (start (root design) cert.cost) cert.tags ≡ Ok last → is ≡ last.low → cert.bound ≢ is → IsOtherBound design bound part cert is
+answer-bound design bound part cert last is e plan w same differs =
+    let s = seen-cert design bound part cert last e w in
     record { plan = plan; tree = s.trees; lowest = same ∙ s.low; differs = differs }
 
 -- where something fails, the certificate is not valid
-pub first-invalid : (design : Design) (bound : Parts → ℕ) (cert : Cert) (why : Why) → IsFirst design bound cert why → IsValid design bound cert → ⊥
-first-invalid design bound cert why first valid =
+pub first-invalid : (design : Design) (bound : Parts → ℕ) (part : Parts → Part → ℕ) (cert : Cert) (why : Why) → IsFirst design bound part cert why → IsValid design bound part cert → ⊥
+first-invalid design bound part cert why first valid =
     elim first [
       | inl a ↦ unfit-costless design a.1.expr cert.cost a.1.unfit (plan-of design cert.cost cert.plan a.1.expr a.1.planned valid.plan)
       | inr more ↦ elim more [
         | inl b ↦ b.2.differs (cost-one design b.2.expr cert.cost b.0 (plan-of design cert.cost cert.plan b.2.expr b.2.planned valid.plan) b.2.costs)
         | inr more ↦ elim more [
-          | inl c ↦ faulty bound cert.cost cert.tags (start (root design) cert.cost) (root design ∷ []) why refl c.found valid.tree
+          | inl c ↦ faulty bound part cert.cost cert.tags (start (root design) cert.cost) (root design ∷ []) why refl c.found valid.tree
           | inr d ↦ d.2.differs (valid.stated ∙ sym d.2.lowest)
         ]
       ]
     ]
 
-pub answered : (design : Design) (bound : Parts → ℕ) (cert : Cert) (a : Answer) → IsAnswer design bound cert a → (is_yes a ≡ true) ↔ IsValid design bound cert
-answered design bound cert (Yes z low count) h = ((λ e. h.valid), (λ v. refl))
-answered design bound cert (No why) h = ((λ e. absurd (cc)), (λ v. absurd (first-invalid design bound cert why h v)))
+pub answered : (design : Design) (bound : Parts → ℕ) (part : Parts → Part → ℕ) (cert : Cert) (a : Answer) → IsAnswer design bound part cert a → (is_yes a ≡ true) ↔ IsValid design bound part cert
+answered design bound part cert (Yes z low count) h = ((λ e. h.valid), (λ v. refl))
+answered design bound part cert (No why) h = ((λ e. absurd (cc)), (λ v. absurd (first-invalid design bound part cert why h v)))

@@ -6,6 +6,7 @@ use Rattle.sf_model.specs.declared.design.Design.{Design}
 use Rattle.sf_model.specs.declared.TheConstants.{MAX}
 use Rattle.sf_model.specs.Legal.{block_count}
 use Rattle.sf_polish.specs.Text.{IsWritable}
+use Rattle.sf_node.specs.declared.part.Part.{Part}
 use Rattle.sf_node.specs.Parts.{Parts}
 use Rattle.sf_certificate.specs.declared.cert.Cert.{Cert}
 use Rattle.sf_certificate.specs.declared.fault.CertFault.{CertFault}
@@ -23,12 +24,12 @@ use Rattle.sf_checker.specs.Answers.{IsAnswer}
 use Rattle.sf_checker.specs.Judging.{Judged, IsFound}
 use Rattle.sf_checker.specs.Feeding.{IsAnswerTo, IsBody, IsStage, IsFed}
 
-module _ (design : Design) (bound : Parts → ℕ) (text : List ℕ) where
+module _ (design : Design) (bound : Parts → ℕ) (part : Parts → Part → ℕ) (text : List ℕ) where
   -- the header was read
   pub body-start : (n : ℕ) (header : Header) (reader : Bytewise) (judge : Judged) → n ≡ block_count design → no_plan header.plan ≡ (header.cost == MAX) → MatchOption header.plan ⊤ (IsWritable n)
       → ((rest : List ℕ) → cert_read n (text ++ rest) ≡ said_with n header (bytes_on n reader rest))
-      → ((cert : Cert) → cert.plan ≡ header.plan → cert.cost ≡ header.cost → IsFound design bound cert [] judge)
-      → IsBody design bound text (record { header = header; reader = reader; judge = judge })
+      → ((cert : Cert) → cert.plan ≡ header.plan → cert.cost ≡ header.cost → IsFound design bound part cert [] judge)
+      → IsBody design bound part text (record { header = header; reader = reader; judge = judge })
   body-start n header reader judge is agrees writable reads found =
       record {
         agrees = agrees;
@@ -39,12 +40,12 @@ module _ (design : Design) (bound : Parts → ℕ) (text : List ℕ) where
         judged = λ cert more plan cost tags. found cert plan cost;
       }
 
-  module _ (n : ℕ) (body : Body) (is : n ≡ block_count design) (b : IsBody design bound text body) where
+  module _ (n : ℕ) (body : Body) (is : n ≡ block_count design) (b : IsBody design bound part text body) where
     -- a byte that ends a tag
     pub body-tag : (byte : ℕ) (reader : Bytewise) (judge : Judged) (tag : Tag)
         → ((rest : List ℕ) → bytes_on n body.reader (byte ∷ rest) ≡ with_tag tag (bytes_on n reader rest))
-        → ((cert : Cert) (tags more : List Tag) → cert.cost ≡ body.header.cost → cert.tags ≡ tags ++ tag ∷ more → IsFound design bound cert tags body.judge → IsFound design bound cert (tags ++ tag ∷ []) judge)
-        → IsBody design bound (text ++ byte ∷ []) (record { header = body.header; reader = reader; judge = judge })
+        → ((cert : Cert) (tags more : List Tag) → cert.cost ≡ body.header.cost → cert.tags ≡ tags ++ tag ∷ more → IsFound design bound part cert tags body.judge → IsFound design bound part cert (tags ++ tag ∷ []) judge)
+        → IsBody design bound part (text ++ byte ∷ []) (record { header = body.header; reader = reader; judge = judge })
     body-tag byte reader judge tag reads found =
         let k = block_count design in
         record {
@@ -61,8 +62,8 @@ module _ (design : Design) (bound : Parts → ℕ) (text : List ℕ) where
 
     -- the text is a certificate of these tags
     ended : (all : List Tag) (answer : Answer) → cert_read (block_count design) text ≡ said_with (block_count design) body.header (Ok all)
-        → ((cert : Cert) → cert.blocks ≡ block_count design → cert.plan ≡ body.header.plan → cert.cost ≡ body.header.cost → cert.bound ≡ body.header.bound → cert.tags ≡ all → IsAnswer design bound cert answer)
-        → IsAnswerTo design bound text answer
+        → ((cert : Cert) → cert.blocks ≡ block_count design → cert.plan ≡ body.header.plan → cert.cost ≡ body.header.cost → cert.bound ≡ body.header.bound → cert.tags ≡ all → IsAnswer design bound part cert answer)
+        → IsAnswerTo design bound part text answer
     ended all answer reads answered =
         let k = block_count design in
         let cert : Cert = record {
@@ -86,26 +87,26 @@ module _ (design : Design) (bound : Parts → ℕ) (text : List ℕ) where
 
     -- the text ends behind its last tag
     pub body-done : (answer : Answer) → bytes_on n body.reader [] ≡ Ok []
-        → ((cert : Cert) → cert.blocks ≡ block_count design → cert.cost ≡ body.header.cost → cert.bound ≡ body.header.bound → IsFound design bound cert cert.tags body.judge → IsAnswer design bound cert answer)
-        → IsAnswerTo design bound text answer
+        → ((cert : Cert) → cert.blocks ≡ block_count design → cert.cost ≡ body.header.cost → cert.bound ≡ body.header.bound → IsFound design bound part cert cert.tags body.judge → IsAnswer design bound part cert answer)
+        → IsAnswerTo design bound part text answer
     body-done answer reads answered =
         let k = block_count design in
         ended b.tags answer
         (at-end ∙ ap (λ r. said_with k body.header (with_tags b.tags r)) (subst (λ k. bytes_on k body.reader [] ≡ Ok []) is reads) ∙ ap (λ ts. said_with k body.header (Ok ts)) (append-nil b.tags))
         (λ cert blocks plan cost stated tags. answered cert blocks cost stated
-        (subst (λ ts. IsFound design bound cert ts body.judge) (sym tags) (b.judged cert [] plan cost (tags ∙ sym (append-nil b.tags)))))
+        (subst (λ ts. IsFound design bound part cert ts body.judge) (sym tags) (b.judged cert [] plan cost (tags ∙ sym (append-nil b.tags)))))
 
     -- the end of the text ends a tag
     pub body-last : (answer : Answer) (judge : Judged) (tag : Tag) → bytes_on n body.reader [] ≡ Ok (tag ∷ [])
-        → ((cert : Cert) (tags more : List Tag) → cert.cost ≡ body.header.cost → cert.tags ≡ tags ++ tag ∷ more → IsFound design bound cert tags body.judge → IsFound design bound cert (tags ++ tag ∷ []) judge)
-        → ((cert : Cert) → cert.blocks ≡ block_count design → cert.cost ≡ body.header.cost → cert.bound ≡ body.header.bound → IsFound design bound cert cert.tags judge → IsAnswer design bound cert answer)
-        → IsAnswerTo design bound text answer
+        → ((cert : Cert) (tags more : List Tag) → cert.cost ≡ body.header.cost → cert.tags ≡ tags ++ tag ∷ more → IsFound design bound part cert tags body.judge → IsFound design bound part cert (tags ++ tag ∷ []) judge)
+        → ((cert : Cert) → cert.blocks ≡ block_count design → cert.cost ≡ body.header.cost → cert.bound ≡ body.header.bound → IsFound design bound part cert cert.tags judge → IsAnswer design bound part cert answer)
+        → IsAnswerTo design bound part text answer
     body-last answer judge tag reads found answered =
         let k = block_count design in
         ended (b.tags ++ tag ∷ []) answer
         (at-end ∙ ap (λ r. said_with k body.header (with_tags b.tags r)) (subst (λ k. bytes_on k body.reader [] ≡ Ok (tag ∷ [])) is reads))
         (λ cert blocks plan cost stated tags. answered cert blocks cost stated
-        (subst (λ ts. IsFound design bound cert ts judge) (sym tags) (found cert b.tags [] cost tags (b.judged cert (tag ∷ []) plan cost tags))))
+        (subst (λ ts. IsFound design bound part cert ts judge) (sym tags) (found cert b.tags [] cost tags (b.judged cert (tag ∷ []) plan cost tags))))
 
 -- one byte more of a piece
 pub past-byte : (piece : List ℕ) (i : ℕ) → i < length piece → take i piece ++ get_or piece i 0 ∷ [] ≡ take (i + 1) piece
@@ -115,29 +116,35 @@ past-byte piece i h =
 
 -- ---- the design and the bounds of a checking
 
-module _ {B : Type 0} (value : B → Design → Parts → ℕ) (design : Design) (bound : Parts → ℕ) (own : Design) (bounds : B) where
-  same-bound : (text : List ℕ) (stage : Stage) → IsFed value design bound text (own, bounds, stage) → value bounds own ≡ bound
-  same-bound text stage fed = ap (value bounds) fed.serves ∙ fed.worth
+module _ {B : Type 0} (value : B → Design → Parts → ℕ) (part_value : B → Design → Parts → Part → ℕ) (design : Design) (bound : Parts → ℕ) (part : Parts → Part → ℕ) (own : Design) (bounds : B) where
+  module _ (text : List ℕ) (stage : Stage) (fed : IsFed value part_value design bound part text (own, bounds, stage)) where
+    same-bound : value bounds own ≡ bound
+    same-bound = ap (value bounds) fed.serves ∙ fed.worth
 
-  -- the stage is that of the checking's own design and bounds
-  pub fed-stage : (text : List ℕ) (stage : Stage) → IsFed value design bound text (own, bounds, stage) → IsStage own (value bounds own) text stage
-  fed-stage text stage fed =
-      subst (λ d. IsStage d (value bounds own) text stage) (sym fed.serves) (subst (λ v. IsStage design v text stage) (sym (same-bound text stage fed)) fed.stage)
+    same-part : part_value bounds own ≡ part
+    same-part = ap (part_value bounds) fed.serves ∙ fed.part_worth
 
-  pub fed-more : {X E : Type 0} (text piece : List ℕ) (old new : Stage) (r : Result X E) → IsFed value design bound text (own, bounds, old) → ((text : List ℕ) → IsStage own (value bounds own) text old → OnOk r (IsStage own (value bounds own) (text ++ piece) new))
-      → OnOk r (IsFed value design bound (text ++ piece) (own, bounds, new))
+    -- the stage is that of the checking's own design and bounds
+    pub fed-stage : IsStage own (value bounds own) (part_value bounds own) text stage
+    fed-stage =
+        subst (λ d. IsStage d (value bounds own) (part_value bounds own) text stage) (sym fed.serves)
+        (subst (λ v. IsStage design v (part_value bounds own) text stage) (sym same-bound) (subst (λ v. IsStage design bound v text stage) (sym same-part) fed.stage))
+
+  pub fed-more : {X E : Type 0} (text piece : List ℕ) (old new : Stage) (r : Result X E) → IsFed value part_value design bound part text (own, bounds, old)
+      → ((text : List ℕ) → IsStage own (value bounds own) (part_value bounds own) text old → OnOk r (IsStage own (value bounds own) (part_value bounds own) (text ++ piece) new))
+      → OnOk r (IsFed value part_value design bound part (text ++ piece) (own, bounds, new))
   fed-more text piece old new (Ok x) fed more =
       record {
         serves = fed.serves;
         worth = fed.worth;
-        stage = subst (λ v. IsStage design v (text ++ piece) new) (same-bound text old fed) (subst (λ d. IsStage d (value bounds own) (text ++ piece) new) fed.serves (more text (fed-stage text old fed)));
+        part_worth = fed.part_worth;
+        stage = subst (λ v. IsStage design bound v (text ++ piece) new) (same-part text old fed) (subst (λ v. IsStage design v (part_value bounds own) (text ++ piece) new) (same-bound text old fed)
+            (subst (λ d. IsStage d (value bounds own) (part_value bounds own) (text ++ piece) new) fed.serves (more text (fed-stage text old fed))));
       }
   fed-more text piece old new (Err e) fed more = tt
 
   -- the answer is one by the design and the bound
-  pub fed-answer : (text : List ℕ) (stage : Stage) (answer : Answer) → IsFed value design bound text (own, bounds, stage) → IsAnswerTo own (value bounds own) text answer → IsAnswerTo design bound text answer
+  pub fed-answer : (text : List ℕ) (stage : Stage) (answer : Answer) → IsFed value part_value design bound part text (own, bounds, stage) → IsAnswerTo own (value bounds own) (part_value bounds own) text answer → IsAnswerTo design bound part text answer
   fed-answer text stage answer fed a =
-      subst (λ v. IsAnswerTo design v text answer) (same-bound text stage fed) (subst (λ d. IsAnswerTo d (value bounds own) text answer) fed.serves a)
-
-  pub fed-fault : (text : List ℕ) (stage : Stage) (e : CertFault) → IsFed value design bound text (own, bounds, stage) → cert_read (block_count own) text ≡ Err e → cert_read (block_count design) text ≡ Err e
-  fed-fault text stage e fed f = subst (λ (d : Design). cert_read (block_count d) text ≡ Err e) fed.serves f
+      subst (λ v. IsAnswerTo design bound v text answer) (same-part text stage fed) (subst (λ v. IsAnswerTo design v (part_value bounds own) text answer) (same-bound text stage fed)
+      (subst (λ d. IsAnswerTo d (value bounds own) (part_value bounds own) text answer) fed.serves a))

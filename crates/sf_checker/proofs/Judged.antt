@@ -8,6 +8,7 @@ use Rattle.sf_model.specs.declared.design.Design.{Design}
 use Rattle.sf_model.specs.Legal.{block_count}
 use Rattle.sf_model.specs.declared.TheConstants.{MAX}
 use Rattle.sf_polish.specs.declared.expr.Expr.{Expr}
+use Rattle.sf_node.specs.declared.part.Part.{Part}
 use Rattle.sf_node.specs.Parts.{Parts}
 use Rattle.sf_node.specs.Subproblem.{root}
 use Rattle.sf_certificate.specs.declared.cert.Cert.{Cert}
@@ -23,43 +24,43 @@ use Rattle.sf_checker.proofs.Answered.{answer-yes, answer-bound}
 use Rattle.sf_checker.proofs.Walks.{walked-append, walked-one}
 
 -- where nothing failed, the plan is right and the walk went over the tags
-pub found-none : (design : Design) (bound : Parts → ℕ) (cert : Cert) (tags : List Tag) (judge : Judged) → judge.found ≡ None → IsFound design bound cert tags judge
-    → IsPlanRight design cert × (walked bound cert.cost (start (root design) cert.cost) tags ≡ Ok (progress_of design judge.walk))
-found-none design bound cert tags judge none found =
-    subst (λ o. MatchOption o (IsPlanRight design cert × (walked bound cert.cost (start (root design) cert.cost) tags ≡ Ok (progress_of design judge.walk))) (IsFirst design bound cert)) none found
+pub found-none : (design : Design) (bound : Parts → ℕ) (part : Parts → Part → ℕ) (cert : Cert) (tags : List Tag) (judge : Judged) → judge.found ≡ None → IsFound design bound part cert tags judge
+    → IsPlanRight design cert × (walked bound part cert.cost (start (root design) cert.cost) tags ≡ Ok (progress_of design judge.walk))
+found-none design bound part cert tags judge none found =
+    subst (λ o. MatchOption o (IsPlanRight design cert × (walked bound part cert.cost (start (root design) cert.cost) tags ≡ Ok (progress_of design judge.walk))) (IsFirst design bound part cert)) none found
 
-module _ (design : Design) (bound : Parts → ℕ) (cert : Cert) (tags more : List Tag) (tag : Tag) (old : Judged) (found : IsFound design bound cert tags old) where
+module _ (design : Design) (bound : Parts → ℕ) (part : Parts → Part → ℕ) (cert : Cert) (tags more : List Tag) (tag : Tag) (old : Judged) (found : IsFound design bound part cert tags old) where
   -- after a failure nothing more is sought
-  pub found-stays : (new : Judged) (why : Why) → old.found ≡ Some why → new.found ≡ Some why → IsFound design bound cert (tags ++ tag ∷ []) new
+  pub found-stays : (new : Judged) (why : Why) → old.found ≡ Some why → new.found ≡ Some why → IsFound design bound part cert (tags ++ tag ∷ []) new
   found-stays new why e f =
-      subst (λ o. MatchOption o (IsPlanRight design cert × (walked bound cert.cost (start (root design) cert.cost) (tags ++ tag ∷ []) ≡ Ok (progress_of design new.walk))) (IsFirst design bound cert)) (sym f)
-      (subst (λ o. MatchOption o (IsPlanRight design cert × (walked bound cert.cost (start (root design) cert.cost) tags ≡ Ok (progress_of design old.walk))) (IsFirst design bound cert)) e found)
+      subst (λ o. MatchOption o (IsPlanRight design cert × (walked bound part cert.cost (start (root design) cert.cost) (tags ++ tag ∷ []) ≡ Ok (progress_of design new.walk))) (IsFirst design bound part cert)) (sym f)
+      (subst (λ o. MatchOption o (IsPlanRight design cert × (walked bound part cert.cost (start (root design) cert.cost) tags ≡ Ok (progress_of design old.walk))) (IsFirst design bound part cert)) e found)
 
   module _ (cost : ℕ) (none : old.found ≡ None) (same : cert.cost ≡ cost) (is : cert.tags ≡ tags ++ tag ∷ more) where
-    so-far : IsPlanRight design cert × (walked bound cert.cost (start (root design) cert.cost) tags ≡ Ok (progress_of design old.walk))
-    so-far = found-none design bound cert tags old none found
+    so-far : IsPlanRight design cert × (walked bound part cert.cost (start (root design) cert.cost) tags ≡ Ok (progress_of design old.walk))
+    so-far = found-none design bound part cert tags old none found
 
-    one-more : (r : Result Progress Why) → visited bound cost (progress_of design old.walk) (progress_of design old.walk).waiting tag ≡ r → walked bound cert.cost (start (root design) cert.cost) (tags ++ tag ∷ []) ≡ r
+    one-more : (r : Result Progress Why) → visited bound part cost (progress_of design old.walk) (progress_of design old.walk).waiting tag ≡ r → walked bound part cert.cost (start (root design) cert.cost) (tags ++ tag ∷ []) ≡ r
     one-more r e =
-        walked-append bound cert.cost tags (tag ∷ []) (start (root design) cert.cost)
-        ∙ ap (λ w. and_then w (λ next. walked bound cert.cost next (tag ∷ []))) so-far.1
-        ∙ walked-one bound cert.cost (progress_of design old.walk) tag r (subst (λ z. visited bound z (progress_of design old.walk) (progress_of design old.walk).waiting tag ≡ r) (sym same) e)
+        walked-append bound part cert.cost tags (tag ∷ []) (start (root design) cert.cost)
+        ∙ ap (λ w. and_then w (λ next. walked bound part cert.cost next (tag ∷ []))) so-far.1
+        ∙ walked-one bound part cert.cost (progress_of design old.walk) tag r (subst (λ z. visited bound part z (progress_of design old.walk) (progress_of design old.walk).waiting tag ≡ r) (sym same) e)
 
     -- the tag may stand where it stands
-    pub found-next : (new : Judged) → new.found ≡ None → visited bound cost (progress_of design old.walk) (progress_of design old.walk).waiting tag ≡ Ok (progress_of design new.walk) → IsFound design bound cert (tags ++ tag ∷ []) new
+    pub found-next : (new : Judged) → new.found ≡ None → visited bound part cost (progress_of design old.walk) (progress_of design old.walk).waiting tag ≡ Ok (progress_of design new.walk) → IsFound design bound part cert (tags ++ tag ∷ []) new
     found-next new f e =
-        subst (λ o. MatchOption o (IsPlanRight design cert × (walked bound cert.cost (start (root design) cert.cost) (tags ++ tag ∷ []) ≡ Ok (progress_of design new.walk))) (IsFirst design bound cert)) (sym f)
+        subst (λ o. MatchOption o (IsPlanRight design cert × (walked bound part cert.cost (start (root design) cert.cost) (tags ++ tag ∷ []) ≡ Ok (progress_of design new.walk))) (IsFirst design bound part cert)) (sym f)
         (so-far.0, one-more (Ok (progress_of design new.walk)) e)
 
     -- the tag is the first failure
-    pub found-fault : (why : Why) → visited bound cost (progress_of design old.walk) (progress_of design old.walk).waiting tag ≡ Err why → IsFirst design bound cert why
+    pub found-fault : (why : Why) → visited bound part cost (progress_of design old.walk) (progress_of design old.walk).waiting tag ≡ Err why → IsFirst design bound part cert why
     found-fault why e =
         let all : cert.tags ≡ (tags ++ tag ∷ []) ++ more = is ∙ sym (append_assoc tags (tag ∷ []) more) in
         inr (inr (inl (record {
           plan = so-far.0;
-          found = ap (walked bound cert.cost (start (root design) cert.cost)) all
-              ∙ walked-append bound cert.cost (tags ++ tag ∷ []) more (start (root design) cert.cost)
-              ∙ ap (λ w. and_then w (λ next. walked bound cert.cost next more)) (one-more (Err why) e);
+          found = ap (walked bound part cert.cost (start (root design) cert.cost)) all
+              ∙ walked-append bound part cert.cost (tags ++ tag ∷ []) more (start (root design) cert.cost)
+              ∙ ap (λ w. and_then w (λ next. walked bound part cert.cost next more)) (one-more (Err why) e);
         })))
 
 -- ---- the plan
@@ -81,33 +82,33 @@ plan-right design cert expr cost e same h =
 
 -- ---- the answer
 
-module _ (design : Design) (bound : Parts → ℕ) (cert : Cert) (judge : Judged) (blocks : cert.blocks ≡ block_count design) (none : judge.found ≡ None) (found : IsFound design bound cert cert.tags judge)
+module _ (design : Design) (bound : Parts → ℕ) (part : Parts → Part → ℕ) (cert : Cert) (judge : Judged) (blocks : cert.blocks ≡ block_count design) (none : judge.found ≡ None) (found : IsFound design bound part cert cert.tags judge)
     (cost stated : ℕ) (cost_is : cert.cost ≡ cost) (stated_is : cert.bound ≡ stated) where
-  pub judged-yes : (count : ℕ) → judge.walk.low ≡ stated → count ≡ judge.walk.decided → IsRight design bound cert cost stated count
+  pub judged-yes : (count : ℕ) → judge.walk.low ≡ stated → count ≡ judge.walk.decided → IsRight design bound part cert cost stated count
   judged-yes count low is =
-      let f = found-none design bound cert cert.tags judge none found in
-      let right = answer-yes design bound cert (progress_of design judge.walk) count blocks f.0 f.1 (low ∙ sym stated_is) is in
+      let f = found-none design bound part cert cert.tags judge none found in
+      let right = answer-yes design bound part cert (progress_of design judge.walk) count blocks f.0 f.1 (low ∙ sym stated_is) is in
       record { valid = right.valid; cost = sym cost_is; bound_is = sym stated_is; count_is = right.count_is }
 
-  pub judged-bound : (is : ℕ) → is ≡ judge.walk.low → stated ≢ is → IsFirst design bound cert (BoundDiffers stated is)
+  pub judged-bound : (is : ℕ) → is ≡ judge.walk.low → stated ≢ is → IsFirst design bound part cert (BoundDiffers stated is)
   judged-bound is low differs =
-      let f = found-none design bound cert cert.tags judge none found in
-      inr (inr (inr (is, ap (λ b. BoundDiffers b is) (sym stated_is), answer-bound design bound cert (progress_of design judge.walk) is blocks f.0 f.1 low (λ e. differs (sym stated_is ∙ e)))))
+      let f = found-none design bound part cert cert.tags judge none found in
+      inr (inr (inr (is, ap (λ b. BoundDiffers b is) (sym stated_is), answer-bound design bound part cert (progress_of design judge.walk) is blocks f.0 f.1 low (λ e. differs (sym stated_is ∙ e)))))
 
 -- ---- before the first tag and after the next
 
-walked-none : (bound : Parts → ℕ) (cost : ℕ) (walk : Progress) → walked bound cost walk [] ≡ Ok walk
+walked-none : (bound : Parts → ℕ) (part : Parts → Part → ℕ) (cost : ℕ) (walk : Progress) → walked bound part cost walk [] ≡ Ok walk
 unfolding walked
-walked-none bound cost walk = refl
+walked-none bound part cost walk = refl
 
-pub found-start : (design : Design) (bound : Parts → ℕ) (cert : Cert) (walk : Stand) (cost : ℕ) (fault : Option Why)
+pub found-start : (design : Design) (bound : Parts → ℕ) (part : Parts → Part → ℕ) (cert : Cert) (walk : Stand) (cost : ℕ) (fault : Option Why)
     → MatchOption fault (IsPlanRight design cert) (λ why. ((why ≡ BadPlan) × IsBadPlan design cert) ⊎ ((is : ℕ) × (why ≡ CostDiffers cert.cost is) × IsOtherCost design cert is))
     → progress_of design walk ≡ start (root design) cost → cert.cost ≡ cost
-    → MatchOption fault (IsPlanRight design cert × (walked bound cert.cost (start (root design) cert.cost) [] ≡ Ok (progress_of design walk))) (IsFirst design bound cert)
-found-start design bound cert walk cost None right e same =
-    (right, walked-none bound cert.cost (start (root design) cert.cost) ∙ ap Ok (ap (start (root design)) same ∙ sym e))
-found-start design bound cert walk cost (Some why) (inl bad) e same = inl bad
-found-start design bound cert walk cost (Some why) (inr other) e same = inr (inl other)
+    → MatchOption fault (IsPlanRight design cert × (walked bound part cert.cost (start (root design) cert.cost) [] ≡ Ok (progress_of design walk))) (IsFirst design bound part cert)
+found-start design bound part cert walk cost None right e same =
+    (right, walked-none bound part cert.cost (start (root design) cert.cost) ∙ ap Ok (ap (start (root design)) same ∙ sym e))
+found-start design bound part cert walk cost (Some why) (inl bad) e same = inl bad
+found-start design bound part cert walk cost (Some why) (inr other) e same = inr (inl other)
 
 pub none-of : (o : Option Why) → is_some o ≡ false → o ≡ None
 none-of None e = refl

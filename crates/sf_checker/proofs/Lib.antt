@@ -4,3 +4,4 @@ pub mod Plans
 pub mod OneAnswer
 pub mod Judged
 pub mod Fed
+pub mod Names

@@ -2,6 +2,7 @@
 use Rattle.std.proofs.Common.{◌≡◌, ℕ, [], ◌∷◌, inl, inr, refl, ap, sym, subst, ◌∙◌, Option, Some, Result, Err}
 use Rattle.sf_model.specs.declared.design.Design.{Design}
 use Rattle.sf_polish.specs.declared.expr.Expr.{Expr}
+use Rattle.sf_node.specs.declared.part.Part.{Part}
 use Rattle.sf_node.specs.Parts.{Parts}
 use Rattle.sf_node.specs.Subproblem.{root}
 use Rattle.sf_certificate.specs.declared.cert.Cert.{Cert}
@@ -21,7 +22,7 @@ some-same e f plan p q = let k : Some e ≡ Some f = sym p ∙ q in cc
 err-same : (r : Result Progress Why) (v w : Why) → r ≡ Err v → r ≡ Err w → v ≡ w
 err-same r v w p q = let k : Err v ≡ Err w = sym p ∙ q in cc
 
-module _ (design : Design) (bound : Parts → ℕ) (cert : Cert) where
+module _ (design : Design) (bound : Parts → ℕ) (part : Parts → Part → ℕ) (cert : Cert) where
   -- a right plan costs what is said
   right-cost : (expr : Expr) → cert.plan ≡ Some expr → IsPlanRight design cert → HasCost design expr cert.cost
   right-cost expr e right = plan-of design cert.cost cert.plan expr e right
@@ -42,11 +43,11 @@ module _ (design : Design) (bound : Parts → ℕ) (cert : Cert) where
       let same : p.expr ≡ q.expr = some-same p.expr q.expr cert.plan p.planned q.planned in
       cost-one design q.expr y z (subst (λ e. HasCost design e y) same p.costs) q.costs
 
-  tree-bound : (why : Why) (is : ℕ) → IsBadTree design bound cert why → IsOtherBound design bound cert is → ⊥
-  tree-bound why is bad other = faulty bound cert.cost cert.tags (start (root design) cert.cost) (root design ∷ []) why refl bad.found other.tree
+  tree-bound : (why : Why) (is : ℕ) → IsBadTree design bound part cert why → IsOtherBound design bound part cert is → ⊥
+  tree-bound why is bad other = faulty bound part cert.cost cert.tags (start (root design) cert.cost) (root design ∷ []) why refl bad.found other.tree
 
   -- the four kinds of failure exclude each other, and each tells one
-  one-first : (v w : Why) → IsFirst design bound cert v → IsFirst design bound cert w → v ≡ w
+  one-first : (v w : Why) → IsFirst design bound part cert v → IsFirst design bound part cert w → v ≡ w
   one-first v w f g =
       elim f [
         | inl a ↦ elim g [
@@ -70,7 +71,7 @@ module _ (design : Design) (bound : Parts → ℕ) (cert : Cert) where
               | inr g ↦ elim g [
                 | inl b ↦ absurd (other-right b.0 b.2 a.plan)
                 | inr g ↦ elim g [
-                  | inl b ↦ err-same (walked bound cert.cost (start (root design) cert.cost) cert.tags) v w a.found b.found
+                  | inl b ↦ err-same (walked bound part cert.cost (start (root design) cert.cost) cert.tags) v w a.found b.found
                   | inr b ↦ absurd (tree-bound v b.0 a b.2)
                 ]
               ]
@@ -89,9 +90,9 @@ module _ (design : Design) (bound : Parts → ℕ) (cert : Cert) where
         ]
       ]
 
-  pub one-answer : (a b : Answer) → IsAnswer design bound cert a → IsAnswer design bound cert b → a ≡ b
+  pub one-answer : (a b : Answer) → IsAnswer design bound part cert a → IsAnswer design bound part cert b → a ≡ b
   one-answer (Yes z low count) (Yes y least few) p q =
       ap (λ x. Yes x low count) (p.cost ∙ sym q.cost) ∙ ap (λ x. Yes y x count) (p.bound_is ∙ sym q.bound_is) ∙ ap (Yes y least) (p.count_is ∙ sym q.count_is)
-  one-answer (Yes z low count) (No why) p q = absurd (first-invalid design bound cert why q p.valid)
-  one-answer (No why) (Yes z low count) p q = absurd (first-invalid design bound cert why p q.valid)
+  one-answer (Yes z low count) (No why) p q = absurd (first-invalid design bound part cert why q p.valid)
+  one-answer (No why) (Yes z low count) p q = absurd (first-invalid design bound part cert why p q.valid)
   one-answer (No v) (No w) p q = ap No (one-first v w p q)

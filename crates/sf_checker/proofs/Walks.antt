@@ -7,6 +7,7 @@ use Rattle.std.proofs.lemmas.List.{map-append}
 use Rattle.sf_model.specs.declared.design.Design.{Design}
 use Rattle.sf_model.specs.Legal.{block_count}
 use Rattle.sf_model.proofs.Each.{each-append}
+use Rattle.sf_node.specs.declared.part.Part.{Part}
 use Rattle.sf_node.specs.Parts.{Parts}
 use Rattle.sf_node.specs.Subproblem.{is_complete, is_wide, span_of}
 use Rattle.sf_node.specs.Children.{extended, split, can_split, IsSubproblem}
@@ -58,30 +59,30 @@ less-false : (a b : ℕ) → nat_lt a b ≡ false → b ≤ a
 less-false a b e = grind (arith, nat_tests)
 
 -- what one tag did
-pub record IsVisit (bound : Parts → ℕ) (cost : ℕ) (walk : Progress) (node : Parts) (nodes : List Parts) (tag : Tag) (next : Progress) : Type 0 where
-  pub fair : IsFair bound cost tag node
+pub record IsVisit (bound : Parts → ℕ) (part : Parts → Part → ℕ) (cost : ℕ) (walk : Progress) (node : Parts) (nodes : List Parts) (tag : Tag) (next : Progress) : Type 0 where
+  pub fair : IsFair part cost tag node
   pub waiting : made tag node ++ nodes ≡ next.waiting
   pub low : lowered tag walk.low (bound node) ≡ next.low
   pub decided : walk.decided + one_decided tag ≡ next.decided
   pub number : walk.number + 1 ≡ next.number
 
 -- a tag that may not stand is no fair one, and the other way round
-no-fault : (bound : Parts → ℕ) (cost number : ℕ) (node : Parts) (tag : Tag) → fault_at (bound node) cost number node tag ≡ None → IsFair bound cost tag node
-no-fault bound cost number node Extend e = some-else (is_complete node) (BadChildren number) e
-no-fault bound cost number node (Split b) e =
+no-fault : (part : Parts → Part → ℕ) (cost number : ℕ) (node : Parts) (tag : Tag) → fault_at (part node) cost number node tag ≡ None → IsFair part cost tag node
+no-fault part cost number node Extend e = some-else (is_complete node) (BadChildren number) e
+no-fault part cost number node (Split b) e =
     let both = and-both (nat_lt b (length node.spans)) (is_wide (span_of node b)) (none-else (can_split node b) (BadSplit number) e) in
     (less-true b (length node.spans) both.0, both.1)
-no-fault bound cost number node Closed e = less-false (bound node) cost (some-else (nat_lt (bound node) cost) (NotClosed number (bound node) cost) e)
-no-fault bound cost number node Open e = tt
+no-fault part cost number node (Closed p) e = less-false (part node p) cost (some-else (nat_lt (part node p) cost) (NotClosed number (part node p) cost) e)
+no-fault part cost number node Open e = tt
 
-a-fault : (bound : Parts → ℕ) (cost number : ℕ) (node : Parts) (tag : Tag) (why : Why) → fault_at (bound node) cost number node tag ≡ Some why → IsFair bound cost tag node → ⊥
-a-fault bound cost number node Extend why e fair = let no : false ≡ true = sym fair ∙ is-some (is_complete node) (BadChildren number) why e in cc
-a-fault bound cost number node (Split b) why e fair =
+a-fault : (part : Parts → Part → ℕ) (cost number : ℕ) (node : Parts) (tag : Tag) (why : Why) → fault_at (part node) cost number node tag ≡ Some why → IsFair part cost tag node → ⊥
+a-fault part cost number node Extend why e fair = let no : false ≡ true = sym fair ∙ is-some (is_complete node) (BadChildren number) why e in cc
+a-fault part cost number node (Split b) why e fair =
     and-not (nat_lt b (length node.spans)) (is_wide (span_of node b)) (is-none (can_split node b) (BadSplit number) why e) (true-less b (length node.spans) fair.0) fair.1
-a-fault bound cost number node Closed why e fair =
-    let less = less-true (bound node) cost (is-some (nat_lt (bound node) cost) (NotClosed number (bound node) cost) why e) in
+a-fault part cost number node (Closed p) why e fair =
+    let less = less-true (part node p) cost (is-some (nat_lt (part node p) cost) (NotClosed number (part node p) cost) why e) in
     omega (arith, fair, less)
-a-fault bound cost number node Open why e fair = cc
+a-fault part cost number node Open why e fair = cc
 
 unless-ok : (o : Option Why) (walk next : Progress) → unless o walk ≡ Ok next → (o ≡ None) × (walk ≡ next)
 unless-ok None walk next e = (refl, cc)
@@ -91,11 +92,11 @@ unless-err : (o : Option Why) (walk : Progress) (why : Why) → unless o walk �
 unless-err None walk why e = absurd (cc)
 unless-err (Some other) walk why e = let same : other ≡ why = cc in ap Some same
 
-visit-fact : (bound : Parts → ℕ) (cost : ℕ) (walk : Progress) (node : Parts) (nodes : List Parts) (tag : Tag) (next : Progress) → visited bound cost walk (node ∷ nodes) tag ≡ Ok next → IsVisit bound cost walk node nodes tag next
-visit-fact bound cost walk node nodes tag next e =
-    let r = unless-ok (fault_at (bound node) cost walk.number node tag) (past bound walk (node ∷ nodes) node tag) next e in
+visit-fact : (bound : Parts → ℕ) (part : Parts → Part → ℕ) (cost : ℕ) (walk : Progress) (node : Parts) (nodes : List Parts) (tag : Tag) (next : Progress) → visited bound part cost walk (node ∷ nodes) tag ≡ Ok next → IsVisit bound part cost walk node nodes tag next
+visit-fact bound part cost walk node nodes tag next e =
+    let r = unless-ok (fault_at (part node) cost walk.number node tag) (past bound walk (node ∷ nodes) node tag) next e in
     record {
-      fair = no-fault bound cost walk.number node tag r.0;
+      fair = no-fault part cost walk.number node tag r.0;
       waiting = ap (λ (w : Progress). w.waiting) r.1;
       low = ap (λ (w : Progress). w.low) r.1;
       decided = ap (λ (w : Progress). w.decided) r.1;
@@ -103,9 +104,9 @@ visit-fact bound cost walk node nodes tag next e =
     }
 
 -- where a tag is refused, it may not stand there
-visit-fault : (bound : Parts → ℕ) (cost : ℕ) (walk : Progress) (node : Parts) (nodes : List Parts) (tag : Tag) (why : Why) → visited bound cost walk (node ∷ nodes) tag ≡ Err why → IsFair bound cost tag node → ⊥
-visit-fault bound cost walk node nodes tag why e fair =
-    a-fault bound cost walk.number node tag why (unless-err (fault_at (bound node) cost walk.number node tag) (past bound walk (node ∷ nodes) node tag) why e) fair
+visit-fault : (bound : Parts → ℕ) (part : Parts → Part → ℕ) (cost : ℕ) (walk : Progress) (node : Parts) (nodes : List Parts) (tag : Tag) (why : Why) → visited bound part cost walk (node ∷ nodes) tag ≡ Err why → IsFair part cost tag node → ⊥
+visit-fault bound part cost walk node nodes tag why e fair =
+    a-fault part cost walk.number node tag why (unless-err (fault_at (part node) cost walk.number node tag) (past bound walk (node ∷ nodes) node tag) why e) fair
 
 -- ---- tags one after another
 
@@ -114,53 +115,53 @@ step-append (Ok walk) f g h e = e walk
 step-append (Err why) f g h e = refl
 
 -- the walk goes on from where it came to
-pub walked-append : (bound : Parts → ℕ) (cost : ℕ) (first more : List Tag) (walk : Progress) → walked bound cost walk (first ++ more) ≡ and_then (walked bound cost walk first) (λ next. walked bound cost next more)
+pub walked-append : (bound : Parts → ℕ) (part : Parts → Part → ℕ) (cost : ℕ) (first more : List Tag) (walk : Progress) → walked bound part cost walk (first ++ more) ≡ and_then (walked bound part cost walk first) (λ next. walked bound part cost next more)
 unfolding walked
-walked-append bound cost [] more walk = refl
-walked-append bound cost (tag ∷ first) more walk =
-    step-append (visited bound cost walk walk.waiting tag) (λ next. walked bound cost next (first ++ more)) (λ next. walked bound cost next first) (λ next. walked bound cost next more) (λ next. walked-append bound cost first more next)
+walked-append bound part cost [] more walk = refl
+walked-append bound part cost (tag ∷ first) more walk =
+    step-append (visited bound part cost walk walk.waiting tag) (λ next. walked bound part cost next (first ++ more)) (λ next. walked bound part cost next first) (λ next. walked bound part cost next more) (λ next. walked-append bound part cost first more next)
 
 -- one tag
-pub walked-one : (bound : Parts → ℕ) (cost : ℕ) (walk : Progress) (tag : Tag) (r : Result Progress Why) → visited bound cost walk walk.waiting tag ≡ r → walked bound cost walk (tag ∷ []) ≡ r
+pub walked-one : (bound : Parts → ℕ) (part : Parts → Part → ℕ) (cost : ℕ) (walk : Progress) (tag : Tag) (r : Result Progress Why) → visited bound part cost walk walk.waiting tag ≡ r → walked bound part cost walk (tag ∷ []) ≡ r
 unfolding walked
-walked-one bound cost walk tag (Ok next) e = ap (λ r. and_then r (λ next. walked bound cost next [])) e
-walked-one bound cost walk tag (Err why) e = ap (λ r. and_then r (λ next. walked bound cost next [])) e
+walked-one bound part cost walk tag (Ok next) e = ap (λ r. and_then r (λ next. walked bound part cost next [])) e
+walked-one bound part cost walk tag (Err why) e = ap (λ r. and_then r (λ next. walked bound part cost next [])) e
 
 -- ---- what the end of the walk says of the tags
 
 -- the tags from here on are trees, and the walk has their least bound and their number
-pub record IsSeen (bound : Parts → ℕ) (cost : ℕ) (walk : Progress) (tags : List Tag) (last : Progress) : Type 0 where
-  pub trees : AreTrees bound cost walk.waiting tags
+pub record IsSeen (bound : Parts → ℕ) (part : Parts → Part → ℕ) (cost : ℕ) (walk : Progress) (tags : List Tag) (last : Progress) : Type 0 where
+  pub trees : AreTrees part cost walk.waiting tags
   pub low : last.low ≡ least walk.low (map bound (left_open walk.waiting tags))
   pub count : last.decided ≡ walk.decided + decided tags
 
 -- a tag more
-seen-more : (bound : Parts → ℕ) (cost : ℕ) (walk next last : Progress) (node : Parts) (nodes : List Parts) (tag : Tag) (tags : List Tag) → walk.waiting ≡ node ∷ nodes → IsVisit bound cost walk node nodes tag next → IsSeen bound cost next tags last → IsSeen bound cost walk (tag ∷ tags) last
-seen-more bound cost walk next last node nodes Extend tags w v s =
+seen-more : (bound : Parts → ℕ) (part : Parts → Part → ℕ) (cost : ℕ) (walk next last : Progress) (node : Parts) (nodes : List Parts) (tag : Tag) (tags : List Tag) → walk.waiting ≡ node ∷ nodes → IsVisit bound part cost walk node nodes tag next → IsSeen bound part cost next tags last → IsSeen bound part cost walk (tag ∷ tags) last
+seen-more bound part cost walk next last node nodes Extend tags w v s =
     let e : next.waiting ≡ extended node ++ nodes = sym v.waiting in
     record {
-      trees = subst (λ z. AreTrees bound cost z (Extend ∷ tags)) (sym w) (v.fair, subst (λ z. AreTrees bound cost z tags) e s.trees);
+      trees = subst (λ z. AreTrees part cost z (Extend ∷ tags)) (sym w) (v.fair, subst (λ z. AreTrees part cost z tags) e s.trees);
       low = s.low ∙ ap (λ n. least n (map bound (left_open next.waiting tags))) (sym v.low) ∙ ap (λ z. least walk.low (map bound (left_open z tags))) e ∙ ap (λ z. least walk.low (map bound (left_open z (Extend ∷ tags)))) (sym w);
       count = omega (arith, s.count, v.decided);
     }
-seen-more bound cost walk next last node nodes (Split b) tags w v s =
+seen-more bound part cost walk next last node nodes (Split b) tags w v s =
     let e : next.waiting ≡ split node b ++ nodes = sym v.waiting in
     record {
-      trees = subst (λ z. AreTrees bound cost z (Split b ∷ tags)) (sym w) (v.fair, subst (λ z. AreTrees bound cost z tags) e s.trees);
+      trees = subst (λ z. AreTrees part cost z (Split b ∷ tags)) (sym w) (v.fair, subst (λ z. AreTrees part cost z tags) e s.trees);
       low = s.low ∙ ap (λ n. least n (map bound (left_open next.waiting tags))) (sym v.low) ∙ ap (λ z. least walk.low (map bound (left_open z tags))) e ∙ ap (λ z. least walk.low (map bound (left_open z (Split b ∷ tags)))) (sym w);
       count = omega (arith, s.count, v.decided);
     }
-seen-more bound cost walk next last node nodes Closed tags w v s =
+seen-more bound part cost walk next last node nodes (Closed p) tags w v s =
     let e : next.waiting ≡ nodes = sym v.waiting in
     record {
-      trees = subst (λ z. AreTrees bound cost z (Closed ∷ tags)) (sym w) (v.fair, subst (λ z. AreTrees bound cost z tags) e s.trees);
-      low = s.low ∙ ap (λ n. least n (map bound (left_open next.waiting tags))) (sym v.low) ∙ ap (λ z. least walk.low (map bound (left_open z tags))) e ∙ ap (λ z. least walk.low (map bound (left_open z (Closed ∷ tags)))) (sym w);
+      trees = subst (λ z. AreTrees part cost z (Closed p ∷ tags)) (sym w) (v.fair, subst (λ z. AreTrees part cost z tags) e s.trees);
+      low = s.low ∙ ap (λ n. least n (map bound (left_open next.waiting tags))) (sym v.low) ∙ ap (λ z. least walk.low (map bound (left_open z tags))) e ∙ ap (λ z. least walk.low (map bound (left_open z (Closed p ∷ tags)))) (sym w);
       count = omega (arith, s.count, v.decided);
     }
-seen-more bound cost walk next last node nodes Open tags w v s =
+seen-more bound part cost walk next last node nodes Open tags w v s =
     let e : next.waiting ≡ nodes = sym v.waiting in
     record {
-      trees = subst (λ z. AreTrees bound cost z (Open ∷ tags)) (sym w) (subst (λ z. AreTrees bound cost z tags) e s.trees);
+      trees = subst (λ z. AreTrees part cost z (Open ∷ tags)) (sym w) (subst (λ z. AreTrees part cost z tags) e s.trees);
       low = s.low ∙ ap (λ n. least n (map bound (left_open next.waiting tags))) (sym v.low) ∙ ap (λ z. least (min walk.low (bound node)) (map bound (left_open z tags))) e
           ∙ least-min walk.low (bound node) (map bound (left_open nodes tags)) ∙ ap (λ z. least walk.low (map bound (left_open z (Open ∷ tags)))) (sym w);
       count = omega (arith, s.count, v.decided);
@@ -180,42 +181,42 @@ and-second true b e = e
 and-second false b e = absurd (cc)
 
 -- where the walk comes to the end of tags that spell trees, it saw them
-pub seen : (design : Design) (bound : Parts → ℕ) (cost : ℕ) (tags : List Tag) (walk : Progress) (waiting : List Parts) (last : Progress) → walk.waiting ≡ waiting → walked bound cost walk tags ≡ Ok last → spell_trees (block_count design) (map place_of waiting) tags ≡ true → AllByRecursion (IsSubproblem design) waiting → IsSeen bound cost walk tags last
+pub seen : (design : Design) (bound : Parts → ℕ) (part : Parts → Part → ℕ) (cost : ℕ) (tags : List Tag) (walk : Progress) (waiting : List Parts) (last : Progress) → walk.waiting ≡ waiting → walked bound part cost walk tags ≡ Ok last → spell_trees (block_count design) (map place_of waiting) tags ≡ true → AllByRecursion (IsSubproblem design) waiting → IsSeen bound part cost walk tags last
 unfolding walked
-seen design bound cost [] walk [] last w e spelled subs =
+seen design bound part cost [] walk [] last w e spelled subs =
     let same : walk ≡ last = cc in
     record {
-      trees = subst (λ z. AreTrees bound cost z []) (sym w) tt;
+      trees = subst (λ z. AreTrees part cost z []) (sym w) tt;
       low = ap (λ (z : Progress). z.low) (sym same) ∙ ap (λ z. least walk.low (map bound (left_open z []))) (sym w);
       count = omega (arith, ap (λ (z : Progress). z.decided) same);
     }
-seen design bound cost (tag ∷ tags) walk [] last w e spelled subs = absurd (cc)
-seen design bound cost [] walk (node ∷ nodes) last w e spelled subs = absurd (cc)
-seen design bound cost (tag ∷ tags) walk (node ∷ nodes) last w e spelled subs =
+seen design bound part cost (tag ∷ tags) walk [] last w e spelled subs = absurd (cc)
+seen design bound part cost [] walk (node ∷ nodes) last w e spelled subs = absurd (cc)
+seen design bound part cost (tag ∷ tags) walk (node ∷ nodes) last w e spelled subs =
     let n = block_count design in
-    let r = then-ok (visited bound cost walk walk.waiting tag) (λ next. walked bound cost next tags) last e in
-    let v = visit-fact bound cost walk node nodes tag r.next (subst (λ z. visited bound cost walk z tag ≡ Ok r.next) w r.first) in
+    let r = then-ok (visited bound part cost walk walk.waiting tag) (λ next. walked bound part cost next tags) last e in
+    let v = visit-fact bound part cost walk node nodes tag r.next (subst (λ z. visited bound part cost walk z tag ≡ Ok r.next) w r.first) in
     let later : spell_trees n (places_under n tag (place_of node) ++ map place_of nodes) tags ≡ true = and-second (nat_lt (length node.steps) 3200) (spell_trees n (places_under n tag (place_of node) ++ map place_of nodes) tags) spelled in
     let places : map place_of (made tag node ++ nodes) ≡ places_under n tag (place_of node) ++ map place_of nodes =
-    map-append place_of (made tag node) nodes ∙ ap (λ z. z ++ map place_of nodes) (places-made design bound cost tag node subs.0 v.fair) in
-    seen-more bound cost walk r.next last node nodes tag tags w v
-    (seen design bound cost tags r.next (made tag node ++ nodes) last (sym v.waiting) r.later
+    map-append place_of (made tag node) nodes ∙ ap (λ z. z ++ map place_of nodes) (places-made design part cost tag node subs.0 v.fair) in
+    seen-more bound part cost walk r.next last node nodes tag tags w v
+    (seen design bound part cost tags r.next (made tag node ++ nodes) last (sym v.waiting) r.later
     (subst (λ z. spell_trees n z tags ≡ true) (sym places) later)
-    (each-append (IsSubproblem design) (made tag node) nodes (made-subproblems design bound cost tag node subs.0 v.fair) subs.1))
+    (each-append (IsSubproblem design) (made tag node) nodes (made-subproblems design part cost tag node subs.0 v.fair) subs.1))
 
 then-err : (r : Result Progress Why) (f : Progress → Result Progress Why) (why : Why) → and_then r f ≡ Err why → (r ≡ Err why) ⊎ ((next : Progress) × (r ≡ Ok next) × (f next ≡ Err why))
 then-err (Ok next) f why e = inr (next, refl, e)
 then-err (Err other) f why e = inl e
 
 -- where the walk finds a fault, the tags are no trees
-pub faulty : (bound : Parts → ℕ) (cost : ℕ) (tags : List Tag) (walk : Progress) (waiting : List Parts) (why : Why) → walk.waiting ≡ waiting → walked bound cost walk tags ≡ Err why → AreTrees bound cost waiting tags → ⊥
+pub faulty : (bound : Parts → ℕ) (part : Parts → Part → ℕ) (cost : ℕ) (tags : List Tag) (walk : Progress) (waiting : List Parts) (why : Why) → walk.waiting ≡ waiting → walked bound part cost walk tags ≡ Err why → AreTrees part cost waiting tags → ⊥
 unfolding walked
-faulty bound cost [] walk waiting why w e trees = cc
-faulty bound cost (tag ∷ tags) walk [] why w e trees = trees
-faulty bound cost (tag ∷ tags) walk (node ∷ nodes) why w e trees =
-    let first = trees-first bound cost node nodes tag tags trees in
-    elim (then-err (visited bound cost walk walk.waiting tag) (λ next. walked bound cost next tags) why e) [
-      | inl here ↦ visit-fault bound cost walk node nodes tag why (subst (λ z. visited bound cost walk z tag ≡ Err why) w here) first.0
-      | inr there ↦ (let v = visit-fact bound cost walk node nodes tag there.0 (subst (λ z. visited bound cost walk z tag ≡ Ok there.0) w there.1) in
-          faulty bound cost tags there.0 (made tag node ++ nodes) why (sym v.waiting) there.2 first.1)
+faulty bound part cost [] walk waiting why w e trees = cc
+faulty bound part cost (tag ∷ tags) walk [] why w e trees = trees
+faulty bound part cost (tag ∷ tags) walk (node ∷ nodes) why w e trees =
+    let first = trees-first part cost node nodes tag tags trees in
+    elim (then-err (visited bound part cost walk walk.waiting tag) (λ next. walked bound part cost next tags) why e) [
+      | inl here ↦ visit-fault bound part cost walk node nodes tag why (subst (λ z. visited bound part cost walk z tag ≡ Err why) w here) first.0
+      | inr there ↦ (let v = visit-fact bound part cost walk node nodes tag there.0 (subst (λ z. visited bound part cost walk z tag ≡ Ok there.0) w there.1) in
+          faulty bound part cost tags there.0 (made tag node ++ nodes) why (sym v.waiting) there.2 first.1)
     ]

@@ -6,6 +6,7 @@ use Rattle.sf_model.specs.Tree.{Tree, leaves}
 use Rattle.sf_model.specs.Legal.{shapes_of, Fits}
 use Rattle.sf_polish.specs.declared.expr.Expr.{Expr}
 use Rattle.sf_polish.specs.Postfix.{Spells}
+use Rattle.sf_node.specs.declared.part.Part.{Part}
 use Rattle.sf_node.specs.Parts.{Parts}
 use Rattle.sf_node.specs.Subproblem.{root}
 use Rattle.sf_certificate.specs.declared.cert.Cert.{Cert}
@@ -39,36 +40,36 @@ pub record IsOtherCost (design : Design) (cert : Cert) (is : ℕ) : Type 0 where
   pub costs : HasCost design expr is
   pub differs : cert.cost ≢ is
 
--- the plan is right, and this is what the walk over the tags finds first
-pub record IsBadTree (design : Design) (bound : Parts → ℕ) (cert : Cert) (why : Why) : Type 0 where
+-- the plan is right, and this is what the walk over the tags finds first, by the parts that the closed subproblems name
+pub record IsBadTree (design : Design) (bound : Parts → ℕ) (part : Parts → Part → ℕ) (cert : Cert) (why : Why) : Type 0 where
   pub plan : IsPlanRight design cert
-  pub found : walked bound cert.cost (start (root design) cert.cost) cert.tags ≡ Err why
+  pub found : walked bound part cert.cost (start (root design) cert.cost) cert.tags ≡ Err why
 
 -- plan and tree are right, and this is the least of the cost and the open bounds
-pub record IsOtherBound (design : Design) (bound : Parts → ℕ) (cert : Cert) (is : ℕ) : Type 0 where
+pub record IsOtherBound (design : Design) (bound : Parts → ℕ) (part : Parts → Part → ℕ) (cert : Cert) (is : ℕ) : Type 0 where
   pub plan : IsPlanRight design cert
-  pub tree : AreTrees bound cert.cost (root design ∷ []) cert.tags
+  pub tree : AreTrees part cert.cost (root design ∷ []) cert.tags
   pub lowest : is ≡ least cert.cost (map bound (left_open (root design ∷ []) cert.tags))
   pub differs : cert.bound ≢ is
 
 -- the first failure
-abbrev pub IsFirst : Design → (Parts → ℕ) → Cert → Why → Type 0
-IsFirst design bound cert why =
+abbrev pub IsFirst : Design → (Parts → ℕ) → (Parts → Part → ℕ) → Cert → Why → Type 0
+IsFirst design bound part cert why =
     ((why ≡ BadPlan) × IsBadPlan design cert)
     ⊎ (((is : ℕ) × (why ≡ CostDiffers cert.cost is) × IsOtherCost design cert is)
-    ⊎ (IsBadTree design bound cert why
-    ⊎ ((is : ℕ) × (why ≡ BoundDiffers cert.bound is) × IsOtherBound design bound cert is)))
+    ⊎ (IsBadTree design bound part cert why
+    ⊎ ((is : ℕ) × (why ≡ BoundDiffers cert.bound is) × IsOtherBound design bound part cert is)))
 
 -- valid, with the cost, the bound and how many subproblems are decided
-pub record IsRight (design : Design) (bound : Parts → ℕ) (cert : Cert) (z low count : ℕ) : Type 0 where
-  pub valid : IsValid design bound cert
+pub record IsRight (design : Design) (bound : Parts → ℕ) (part : Parts → Part → ℕ) (cert : Cert) (z low count : ℕ) : Type 0 where
+  pub valid : IsValid design bound part cert
   pub cost : z ≡ cert.cost
   pub bound_is : low ≡ cert.bound
   pub count_is : count ≡ decided cert.tags
 
-abbrev pub IsAnswer : Design → (Parts → ℕ) → Cert → Answer → Type 0
-IsAnswer design bound cert (Yes z low count) = IsRight design bound cert z low count
-IsAnswer design bound cert (No why) = IsFirst design bound cert why
+abbrev pub IsAnswer : Design → (Parts → ℕ) → (Parts → Part → ℕ) → Cert → Answer → Type 0
+IsAnswer design bound part cert (Yes z low count) = IsRight design bound part cert z low count
+IsAnswer design bound part cert (No why) = IsFirst design bound part cert why
 
 abbrev pub is_yes : Answer → Bool
 is_yes (Yes z low count) = true

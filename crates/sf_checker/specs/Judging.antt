@@ -1,6 +1,7 @@
 -- What is found of a certificate while its tags come.
 use Rattle.std.specs.Prelude.{◌≡◌, ℕ, List, Option, MatchOption, Ok}
 use Rattle.sf_model.specs.declared.design.Design.{Design}
+use Rattle.sf_node.specs.declared.part.Part.{Part}
 use Rattle.sf_node.specs.Parts.{Parts}
 use Rattle.sf_node.specs.Subproblem.{root}
 use Rattle.sf_bounds.specs.Serving.{MayServe}
@@ -23,7 +24,7 @@ pub record IsSteady (design : Design) (bound : Parts → ℕ) (judge : Judged) :
   pub serves : MayServe judge.room design
 
 -- the plan is right and the walk went over these tags, the first of the certificate; or this is what fails first
-abbrev pub IsFound : Design → (Parts → ℕ) → Cert → List Tag → Judged → Type 0
-IsFound design bound cert tags judge = MatchOption judge.found
-    (IsPlanRight design cert × (walked bound cert.cost (start (root design) cert.cost) tags ≡ Ok (progress_of design judge.walk)))
-    (IsFirst design bound cert)
+abbrev pub IsFound : Design → (Parts → ℕ) → (Parts → Part → ℕ) → Cert → List Tag → Judged → Type 0
+IsFound design bound part cert tags judge = MatchOption judge.found
+    (IsPlanRight design cert × (walked bound part cert.cost (start (root design) cert.cost) tags ≡ Ok (progress_of design judge.walk)))
+    (IsFirst design bound part cert)

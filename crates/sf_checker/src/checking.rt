@@ -20,7 +20,7 @@ fn answer_of<B: Bounds>(
     cert: &Cert,
 ) -> Result<Answer, NoMemory>
     requires { cert.now.blocks ≡ block_count design.now }
-    ensures { IfOk result (λ a. IsAnswer design.now (B.Values.value bounds.now design.now) cert.now a) }
+    ensures { IfOk result (λ a. IsAnswer design.now (B.Values.value bounds.now design.now) (B.part_value bounds.now design.now) cert.now a) }
 {
     let mut judge = Judge::new(alloc, design, bounds, &cert.plan, cert.cost)?;
     for tag in cert.tags.as_slice() {
@@ -29,7 +29,8 @@ fn answer_of<B: Bounds>(
     Ok(judge.answer(cert.cost, cert.bound))
 }
 
-/// Whether a certificate is valid for a design and a bound function, or the first failure.
+/// Whether a certificate is valid for a design and a bound function, or the first failure. Of a closed subproblem the part
+/// that it names is measured, and nothing else.
 pub fn check<B: Bounds>(
     alloc: Global,
     design: &Design,
@@ -37,8 +38,8 @@ pub fn check<B: Bounds>(
     cert: &Cert,
 ) -> Result<Answer, NoMemory>
     requires { cert.now.blocks ≡ block_count design.now }
-    ensures answer { IfOk result (λ a. IsAnswer design.now (B.Values.value bounds.now design.now) cert.now a) }
-    ensures yes { IfOk result (λ a. (is_yes a ≡ true) ↔ IsValid design.now (B.Values.value bounds.now design.now) cert.now) }
+    ensures answer { IfOk result (λ a. IsAnswer design.now (B.Values.value bounds.now design.now) (B.part_value bounds.now design.now) cert.now a) }
+    ensures yes { IfOk result (λ a. (is_yes a ≡ true) ↔ IsValid design.now (B.Values.value bounds.now design.now) (B.part_value bounds.now design.now) cert.now) }
 {
     let answer = answer_of(alloc, design, bounds, cert)?;
     Ok(answer)

@@ -59,6 +59,7 @@ fn plan_fault(
 impl<'a> Judge<'a> {
     ghost use Rattle.std.specs.Prelude.{List, [], ◌∷◌, ◌++◌, OnOk};
     ghost use Rattle.sf_model.specs.declared.design.Design.{Design as DesignValue};
+    ghost use Rattle.sf_node.specs.declared.part.Part.{Part};
     ghost use Rattle.sf_node.specs.Parts.{Parts};
     ghost use Rattle.sf_certificate.specs.declared.tag.Tag.{Tag as TagValue};
     ghost use Rattle.sf_checker.specs.Answers.{IsAnswer};
@@ -74,7 +75,7 @@ impl<'a> Judge<'a> {
     ) -> Result<Judge<'a>, NoMemory>
         requires { MatchOption plan.now ⊤ (IsWritable (block_count design.now)) }
         ensures steady { IfOk result (λ judge. IsSteady design.now (B.Values.value bounds.now design.now) judge) }
-        ensures found { (cert : CertValue) → cert.plan ≡ plan.now → cert.cost ≡ cost → IfOk result (λ judge. IsFound design.now (B.Values.value bounds.now design.now) cert [] judge) }
+        ensures found { (cert : CertValue) → cert.plan ≡ plan.now → cert.cost ≡ cost → IfOk result (λ judge. IsFound design.now (B.Values.value bounds.now design.now) (B.part_value bounds.now design.now) cert [] judge) }
     {
         let found = plan_fault(alloc, design, plan, cost)?;
         let walk = Walk::new(alloc, design, bounds, cost)?;
@@ -92,7 +93,7 @@ impl<'a> Judge<'a> {
     ) -> Result<(), NoMemory>
         requires steady { IsSteady design.now (B.Values.value bounds.now design.now) self.old }
         ensures steady { OnOk result (IsSteady design.now (B.Values.value bounds.now design.now) self.new) }
-        ensures found { (cert : CertValue) (tags more : List TagValue) → cert.cost ≡ cost → cert.tags ≡ tags ++ tag ∷ more → IsFound design.now (B.Values.value bounds.now design.now) cert tags self.old → OnOk result (IsFound design.now (B.Values.value bounds.now design.now) cert (tags ++ tag ∷ []) self.new) }
+        ensures found { (cert : CertValue) (tags more : List TagValue) → cert.cost ≡ cost → cert.tags ≡ tags ++ tag ∷ more → IsFound design.now (B.Values.value bounds.now design.now) (B.part_value bounds.now design.now) cert tags self.old → OnOk result (IsFound design.now (B.Values.value bounds.now design.now) (B.part_value bounds.now design.now) cert (tags ++ tag ∷ []) self.new) }
     {
         if self.found.is_some() {
             return Ok(());
@@ -105,7 +106,7 @@ impl<'a> Judge<'a> {
 
     /// What the certificate is found to be, after its last tag.
     pub fn answer(&self, cost: u64, bound: u64) -> Answer
-        ensures { (design : DesignValue) (value : Parts → ℕ) (cert : CertValue) → cert.blocks ≡ block_count design → cert.cost ≡ cost → cert.bound ≡ bound → IsFound design value cert cert.tags self.now → IsAnswer design value cert result }
+        ensures { (design : DesignValue) (value : Parts → ℕ) (part : Parts → Part → ℕ) (cert : CertValue) → cert.blocks ≡ block_count design → cert.cost ≡ cost → cert.bound ≡ bound → IsFound design value part cert cert.tags self.now → IsAnswer design value part cert result }
     {
         match self.found {
             Some(why) => Answer::No(why),

@@ -54,6 +54,7 @@ impl<'a, B: Bounds> Checking<'a, B> {
     ghost use Rattle.std.specs.Prelude.{ℕ, List, [], ◌++◌, IfOk, OnOk, OnErr, IsErr, Err};
     ghost use Rattle.sf_model.specs.declared.design.Design.{Design as DesignValue};
     ghost use Rattle.sf_model.specs.Legal.{block_count};
+    ghost use Rattle.sf_node.specs.declared.part.Part.{Part};
     ghost use Rattle.sf_node.specs.Parts.{Parts};
     ghost use Rattle.sf_certificate.specs.declared.fault.CertFault.{CertFault as FaultValue};
     ghost use Rattle.sf_certificate.specs.Reading.{cert_read};
@@ -65,7 +66,7 @@ impl<'a, B: Bounds> Checking<'a, B> {
         design: &'a Design,
         bounds: &'a B,
     ) -> Result<Checking<'a, B>, AllocError>
-        ensures { IfOk result (λ c. IsFed B.Values.value design.now (B.Values.value bounds.now design.now) [] c) }
+        ensures { IfOk result (λ c. IsFed B.Values.value B.part_value design.now (B.Values.value bounds.now design.now) (B.part_value bounds.now design.now) [] c) }
     {
         Ok(Checking {
             design,
@@ -77,7 +78,7 @@ impl<'a, B: Bounds> Checking<'a, B> {
 
     /// The text that is fed is longer by this piece. After want of memory each later call answers it again.
     pub fn feed(&mut self, piece: &[u8]) -> Result<(), AllocError>
-        ensures fed { (design : DesignValue) (bound : Parts → ℕ) (text : List ℕ) → IsFed B.Values.value design bound text self.old → OnOk result (IsFed B.Values.value design bound (text ++ piece.now) self.new) }
+        ensures fed { (design : DesignValue) (bound : Parts → ℕ) (part : Parts → Part → ℕ) (text : List ℕ) → IsFed B.Values.value B.part_value design bound part text self.old → OnOk result (IsFed B.Values.value B.part_value design bound part (text ++ piece.now) self.new) }
         ensures spent { OnErr result (IsSpent self.new) }
         ensures stays { IsSpent self.old → IsErr result }
     {
@@ -86,8 +87,8 @@ impl<'a, B: Bounds> Checking<'a, B> {
 
     /// The answer to the certificate that the fed text spells, or the first fault of the text, however it was cut.
     pub fn finish(self) -> Result<Answer, FinishFault>
-        ensures answer { (design : DesignValue) (bound : Parts → ℕ) (text : List ℕ) → IsFed B.Values.value design bound text self.entry → IfOk result (λ a. IsAnswerTo design bound text a) }
-        ensures fault { (design : DesignValue) (bound : Parts → ℕ) (text : List ℕ) (e : FaultValue) → IsFed B.Values.value design bound text self.entry → result ≡ Err (fault.Text e) → cert_read (block_count design) text ≡ Err e }
+        ensures answer { (design : DesignValue) (bound : Parts → ℕ) (part : Parts → Part → ℕ) (text : List ℕ) → IsFed B.Values.value B.part_value design bound part text self.entry → IfOk result (λ a. IsAnswerTo design bound part text a) }
+        ensures fault { (design : DesignValue) (bound : Parts → ℕ) (part : Parts → Part → ℕ) (text : List ℕ) (e : FaultValue) → IsFed B.Values.value B.part_value design bound part text self.entry → result ≡ Err (fault.Text e) → cert_read (block_count design) text ≡ Err e }
         ensures stays { IsSpent self.entry → result ≡ Err fault.NoMemory }
     {
         match self.stage.finish(self.alloc, self.design, self.bounds) {

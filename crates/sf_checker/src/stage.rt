@@ -48,7 +48,7 @@ fn answer_whole<B: Bounds>(
     bounds: &B,
     text: &[u8],
 ) -> Result<Answer, CertFault>
-    ensures answer { IfOk result (λ a. IsAnswerTo design.now (B.Values.value bounds.now design.now) text.now a) }
+    ensures answer { IfOk result (λ a. IsAnswerTo design.now (B.Values.value bounds.now design.now) (B.part_value bounds.now design.now) text.now a) }
     ensures fault { IfErr result (λ e. e ≢ NoMemory → cert_read (block_count design.now) text.now ≡ Err e) }
 {
     let cert = read(alloc, text, block_count(design))?;
@@ -69,7 +69,7 @@ impl<'a> Body<'a> {
     ) -> Result<Body<'a>, CertFault>
         requires { IsHeader opening.now }
         ensures steady { IfOk result (λ body. IsSteady design.now (B.Values.value bounds.now design.now) body.judge) }
-        ensures reads { IfOk result (λ body. IsBody design.now (B.Values.value bounds.now design.now) opening.now body) }
+        ensures reads { IfOk result (λ body. IsBody design.now (B.Values.value bounds.now design.now) (B.part_value bounds.now design.now) opening.now body) }
         ensures fault { IfErr result (λ e. e ≢ NoMemory → IsFaulty design.now opening.now e) }
     {
         let (header, reader) = opening.read(alloc, block_count(design))?;
@@ -85,8 +85,8 @@ impl<'a> Body<'a> {
     fn take<B: Bounds>(&mut self, design: &'a Design, bounds: &B, byte: u8) -> Result<(), CertFault>
         requires steady { IsSteady design.now (B.Values.value bounds.now design.now) self.old.judge }
         ensures steady { OnOk result (IsSteady design.now (B.Values.value bounds.now design.now) self.new.judge) }
-        ensures reads { (text : List ℕ) → IsBody design.now (B.Values.value bounds.now design.now) text self.old → OnOk result (IsBody design.now (B.Values.value bounds.now design.now) (text ++ byte ∷ []) self.new) }
-        ensures fault { (text : List ℕ) → IsBody design.now (B.Values.value bounds.now design.now) text self.old → IfErr result (λ e. e ≢ NoMemory → IsFaulty design.now (text ++ byte ∷ []) e) }
+        ensures reads { (text : List ℕ) → IsBody design.now (B.Values.value bounds.now design.now) (B.part_value bounds.now design.now) text self.old → OnOk result (IsBody design.now (B.Values.value bounds.now design.now) (B.part_value bounds.now design.now) (text ++ byte ∷ []) self.new) }
+        ensures fault { (text : List ℕ) → IsBody design.now (B.Values.value bounds.now design.now) (B.part_value bounds.now design.now) text self.old → IfErr result (λ e. e ≢ NoMemory → IsFaulty design.now (text ++ byte ∷ []) e) }
     {
         if let Some(tag) = self.reader.take(byte, block_count(design))? {
             self.judge.take(design, bounds, self.header.cost, tag)?;
@@ -97,8 +97,8 @@ impl<'a> Body<'a> {
     /// The answer, after the last byte.
     fn finish<B: Bounds>(self, design: &'a Design, bounds: &B) -> Result<Answer, CertFault>
         requires steady { IsSteady design.now (B.Values.value bounds.now design.now) self.judge }
-        ensures answer { (text : List ℕ) → IsBody design.now (B.Values.value bounds.now design.now) text self.entry → IfOk result (λ a. IsAnswerTo design.now (B.Values.value bounds.now design.now) text a) }
-        ensures fault { (text : List ℕ) → IsBody design.now (B.Values.value bounds.now design.now) text self.entry → IfErr result (λ e. e ≢ NoMemory → cert_read (block_count design.now) text ≡ Err e) }
+        ensures answer { (text : List ℕ) → IsBody design.now (B.Values.value bounds.now design.now) (B.part_value bounds.now design.now) text self.entry → IfOk result (λ a. IsAnswerTo design.now (B.Values.value bounds.now design.now) (B.part_value bounds.now design.now) text a) }
+        ensures fault { (text : List ℕ) → IsBody design.now (B.Values.value bounds.now design.now) (B.part_value bounds.now design.now) text self.entry → IfErr result (λ e. e ≢ NoMemory → cert_read (block_count design.now) text ≡ Err e) }
     {
         let Body {
             header,
@@ -131,7 +131,7 @@ impl<'a> Stage<'a> {
     ) -> Result<(), AllocError>
         requires ready { IsReady design.now (B.Values.value bounds.now design.now) self.old }
         ensures ready { IsReady design.now (B.Values.value bounds.now design.now) self.new }
-        ensures fed { (text : List ℕ) → IsStage design.now (B.Values.value bounds.now design.now) text self.old → OnOk result (IsStage design.now (B.Values.value bounds.now design.now) (text ++ piece.now) self.new) }
+        ensures fed { (text : List ℕ) → IsStage design.now (B.Values.value bounds.now design.now) (B.part_value bounds.now design.now) text self.old → OnOk result (IsStage design.now (B.Values.value bounds.now design.now) (B.part_value bounds.now design.now) (text ++ piece.now) self.new) }
         ensures spent { OnErr result (IsWanting self.new) }
         ensures stays { IsWanting self.old → IsErr result }
     {
@@ -154,7 +154,7 @@ impl<'a> Stage<'a> {
     ) -> Result<(), AllocError>
         requires ready { IsReady design.now (B.Values.value bounds.now design.now) self.old }
         ensures ready { IsReady design.now (B.Values.value bounds.now design.now) self.new }
-        ensures fed { (text : List ℕ) → IsStage design.now (B.Values.value bounds.now design.now) text self.old → OnOk result (IsStage design.now (B.Values.value bounds.now design.now) (text ++ byte ∷ []) self.new) }
+        ensures fed { (text : List ℕ) → IsStage design.now (B.Values.value bounds.now design.now) (B.part_value bounds.now design.now) text self.old → OnOk result (IsStage design.now (B.Values.value bounds.now design.now) (B.part_value bounds.now design.now) (text ++ byte ∷ []) self.new) }
         ensures spent { OnErr result (IsWanting self.new) }
     {
         match self.advance(alloc, design, bounds, byte) {
@@ -189,8 +189,8 @@ impl<'a> Stage<'a> {
     ) -> Result<(), CertFault>
         requires ready { IsReady design.now (B.Values.value bounds.now design.now) self.old }
         ensures ready { OnOk result (IsReady design.now (B.Values.value bounds.now design.now) self.new) }
-        ensures fed { (text : List ℕ) → IsStage design.now (B.Values.value bounds.now design.now) text self.old → OnOk result (IsStage design.now (B.Values.value bounds.now design.now) (text ++ byte ∷ []) self.new) }
-        ensures fault { (text : List ℕ) → IsStage design.now (B.Values.value bounds.now design.now) text self.old → IfErr result (λ e. e ≢ NoMemory → IsFaulty design.now (text ++ byte ∷ []) e) }
+        ensures fed { (text : List ℕ) → IsStage design.now (B.Values.value bounds.now design.now) (B.part_value bounds.now design.now) text self.old → OnOk result (IsStage design.now (B.Values.value bounds.now design.now) (B.part_value bounds.now design.now) (text ++ byte ∷ []) self.new) }
+        ensures fault { (text : List ℕ) → IsStage design.now (B.Values.value bounds.now design.now) (B.part_value bounds.now design.now) text self.old → IfErr result (λ e. e ≢ NoMemory → IsFaulty design.now (text ++ byte ∷ []) e) }
     {
         match self {
             Stage::Tree(body) => body.take(design, bounds, byte),
@@ -211,8 +211,8 @@ impl<'a> Stage<'a> {
         requires ready { IsReady design.now (B.Values.value bounds.now design.now) self.old }
         requires outside { IsOutside self.old }
         ensures ready { OnOk result (IsReady design.now (B.Values.value bounds.now design.now) self.new) }
-        ensures fed { (text : List ℕ) → IsStage design.now (B.Values.value bounds.now design.now) text self.old → OnOk result (IsStage design.now (B.Values.value bounds.now design.now) (text ++ byte ∷ []) self.new) }
-        ensures fault { (text : List ℕ) → IsStage design.now (B.Values.value bounds.now design.now) text self.old → IfErr result (λ e. e ≢ NoMemory → IsFaulty design.now (text ++ byte ∷ []) e) }
+        ensures fed { (text : List ℕ) → IsStage design.now (B.Values.value bounds.now design.now) (B.part_value bounds.now design.now) text self.old → OnOk result (IsStage design.now (B.Values.value bounds.now design.now) (B.part_value bounds.now design.now) (text ++ byte ∷ []) self.new) }
+        ensures fault { (text : List ℕ) → IsStage design.now (B.Values.value bounds.now design.now) (B.part_value bounds.now design.now) text self.old → IfErr result (λ e. e ≢ NoMemory → IsFaulty design.now (text ++ byte ∷ []) e) }
     {
         match self {
             Stage::Opening(opening) => {
@@ -234,8 +234,8 @@ impl<'a> Stage<'a> {
         bounds: &B,
     ) -> Result<Answer, CertFault>
         requires ready { IsReady design.now (B.Values.value bounds.now design.now) self }
-        ensures answer { (text : List ℕ) → IsStage design.now (B.Values.value bounds.now design.now) text self.entry → IfOk result (λ a. IsAnswerTo design.now (B.Values.value bounds.now design.now) text a) }
-        ensures fault { (text : List ℕ) → IsStage design.now (B.Values.value bounds.now design.now) text self.entry → IfErr result (λ e. e ≢ NoMemory → cert_read (block_count design.now) text ≡ Err e) }
+        ensures answer { (text : List ℕ) → IsStage design.now (B.Values.value bounds.now design.now) (B.part_value bounds.now design.now) text self.entry → IfOk result (λ a. IsAnswerTo design.now (B.Values.value bounds.now design.now) (B.part_value bounds.now design.now) text a) }
+        ensures fault { (text : List ℕ) → IsStage design.now (B.Values.value bounds.now design.now) (B.part_value bounds.now design.now) text self.entry → IfErr result (λ e. e ≢ NoMemory → cert_read (block_count design.now) text ≡ Err e) }
         ensures stays { IsWanting self.entry → result ≡ Err NoMemory }
     {
         match self {

@@ -4,7 +4,7 @@ use Rattle.sf_checker.proofs.Fed.{fed-more}
 use Rattle.sf_checker.proofs.pieces.Checking.feed.Goals as goal
 
 pub returns-clause-fed : goal.returns-clause-fed
-returns-clause-fed g c design bound text fed =
+returns-clause-fed g c design bound part text fed =
     let inside = c.self.inside in
-    fed-more g.B.Values.value design bound inside.design.now inside.bounds.now text c.args.piece.now inside.stage c.feed.new.self c.feed.result
-    (subst (IsFed g.B.Values.value design bound text) (sym c.self.view_is) fed) c.feed.ensures.fed
+    fed-more g.B.Values.value g.B.Bounds.part_value design bound part inside.design.now inside.bounds.now text c.args.piece.now inside.stage c.feed.new.self c.feed.result
+    (subst (IsFed g.B.Values.value g.B.Bounds.part_value design bound part text) (sym c.self.view_is) fed) c.feed.ensures.fed

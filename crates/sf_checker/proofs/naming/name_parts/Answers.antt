@@ -1,0 +1,16 @@
+use Rattle.std.proofs.Common.{◌≡◌, map, refl, ap, sym, subst, ◌∙◌}
+use Rattle.sf_certificate.specs.Named.{AllNameFirst, unnamed}
+use Rattle.sf_checker.proofs.Names.{formed-named, valid-named}
+use Rattle.sf_checker.proofs.naming.name_parts.Goals as goal
+
+pub invariant_of-result : goal.invariant_of-result
+invariant_of-result g c =
+    let alike : map unnamed c.from_vec.result ≡ map unnamed c.args.cert.tags = ap (map unnamed) c.from_vec.ensures ∙ c.in_ok-name_tags.ensures.alike ∙ ap (map unnamed) c.into_vec-tags.ensures in
+    record { form = formed-named c.args.cert c.from_vec.result alike }
+
+pub returns-clause-valid : goal.returns-clause-valid
+returns-clause-valid g c =
+    let alike : map unnamed c.from_vec.result ≡ map unnamed c.args.cert.tags = ap (map unnamed) c.from_vec.ensures ∙ c.in_ok-name_tags.ensures.alike ∙ ap (map unnamed) c.into_vec-tags.ensures in
+    valid-named c.args.cert c.from_vec.result alike c.args.design.now (g.B.Values.value c.args.bounds.now c.args.design.now) (g.B.Bounds.part_value c.args.bounds.now c.args.design.now)
+    c.parts_are_below.ensures c.requires.valid
+    (subst (AllNameFirst c.args.design.now (g.B.Bounds.part_value c.args.bounds.now c.args.design.now) c.args.cert.cost) (sym c.from_vec.ensures) c.in_ok-name_tags.ensures.named) _ refl refl refl refl

@@ -1,0 +1,106 @@
+//! The names of the parts that close a certificate's subproblems.
+
+ghost use Rattle.std.specs.Prelude.{◌≡◌, [], ◌∷◌, map, IfOk, OnOk};
+ghost use Rattle.sf_model.specs.Legal.{block_count};
+ghost use Rattle.sf_node.specs.ByPart.{ArePartsOf};
+ghost use Rattle.sf_node.specs.Children.{IsSubproblem};
+ghost use Rattle.sf_node.specs.Subproblem.{root};
+ghost use Rattle.sf_bounds.specs.Serving.{MayServe};
+ghost use Rattle.sf_certificate.specs.Marks.{IsFair};
+ghost use Rattle.sf_certificate.specs.Named.{AllNameFirst, AreAlikeButNames, NamesFirst, unnamed};
+ghost use Rattle.sf_certificate.specs.Valid.{AreTrees, IsValid};
+
+use sf_bounds::{Bounds, Room};
+use sf_certificate::{Cert, Tag, TagList};
+use sf_cursor::Cursor;
+use sf_model::Design;
+use sf_node::{Node, Part};
+use std::alloc::{AllocError as NoMemory, Global};
+
+/// The tag with the first part that closes the subproblem, where it closes it. The area, which is the first part of all, stays
+/// and is not measured.
+fn named<'a, B: Bounds>(
+    design: &'a Design,
+    bounds: &B,
+    node: &Node,
+    cost: u64,
+    tag: Tag,
+    room: &mut Room<'a>,
+) -> Result<Tag, NoMemory>
+    requires subproblem { IsSubproblem design.now node.now }
+    requires fair { IsFair (B.part_value bounds.now design.now) cost tag node.now }
+    requires serves { MayServe room.old design.now }
+    ensures named { IfOk result (λ t. NamesFirst (B.part_value bounds.now design.now) cost t node.now) }
+    ensures alike { IfOk result (λ t. unnamed t ≡ unnamed tag) }
+    ensures serves { MayServe room.new design.now }
+{
+    match tag {
+        Tag::Closed(Part::Range | Part::Pair | Part::Hull | Part::Full) => {
+            let values = bounds.parts(design, node, room)?;
+            Ok(Tag::Closed(values.first(cost)))
+        }
+        Tag::Closed(Part::Area) | Tag::Extend | Tag::Split(_) | Tag::Open => Ok(tag),
+    }
+}
+
+/// Names the first parts in all tags of a tree.
+fn name_tags<B: Bounds>(
+    alloc: Global,
+    design: &Design,
+    bounds: &B,
+    cost: u64,
+    tags: &mut Vec<Tag>,
+) -> Result<(), NoMemory>
+    requires tree { AreTrees (B.part_value bounds.now design.now) cost (root design.now ∷ []) tags.old.items }
+    ensures named { OnOk result (AllNameFirst design.now (B.part_value bounds.now design.now) cost tags.new.items) }
+    ensures alike { OnOk result (map unnamed tags.new.items ≡ map unnamed tags.old.items) }
+{
+    let mut room = Room::new(alloc);
+    let mut cursor = Cursor::new(alloc, design, bounds)?;
+    let mut at = 0;
+    let mut more = true;
+    while more {
+        let tag = named(design, bounds, cursor.node(), cost, tags[at], &mut room)?;
+        tags[at] = tag;
+        at += 1;
+        more = cursor.follow(design, bounds, tag, None)?;
+    }
+    Ok(())
+}
+
+/// What a bound's law says of its parts at each subproblem of a design.
+fn parts_are_below<B: Bounds>(design: &Design, bounds: &B)
+    ensures { ArePartsOf design.now (B.Values.value bounds.now design.now) (B.part_value bounds.now design.now) }
+{}
+
+/// A valid certificate in which each closed subproblem names the first part of the bound that closes it. All else stays.
+pub fn name_parts<B: Bounds>(
+    alloc: Global,
+    design: &Design,
+    bounds: &B,
+    cert: Cert,
+) -> Result<Cert, NoMemory>
+    requires blocks { cert.blocks ≡ block_count design.now }
+    requires valid { IsValid design.now (B.Values.value bounds.now design.now) (B.part_value bounds.now design.now) cert }
+    ensures named { IfOk result (λ c. AllNameFirst design.now (B.part_value bounds.now design.now) c.cost c.tags) }
+    ensures alike { IfOk result (AreAlikeButNames cert) }
+    ensures valid { IfOk result (IsValid design.now (B.Values.value bounds.now design.now) (B.part_value bounds.now design.now)) }
+{
+    let Cert {
+        blocks,
+        plan,
+        cost,
+        bound,
+        tags,
+    } = cert;
+    let mut tags = tags.into_vec();
+    parts_are_below(design, bounds);
+    name_tags(alloc, design, bounds, cost, &mut tags)?;
+    Ok(Cert {
+        blocks,
+        plan,
+        cost,
+        bound,
+        tags: TagList::from_vec(tags),
+    })
+}
