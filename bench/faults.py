@@ -68,9 +68,15 @@ def blocks(*sides):
     return HEAD % len(sides) + "".join(lines)
 
 
+def pins(count):
+    """A net that names the first block so often; pins are counted as they are listed."""
+    return "UCLA nets 1.0\nNumNets : 1\nNumPins : %d\nNetDegree : %d\n" % (count, count) + "b0 B\n" * count
+
+
 PLAN = "plan --format gsrc --blocks a.blocks --cert a.cert"
 NETS = "UCLA nets 1.0\nNumNets : 1\nNumPins : 2\nNetDegree : 2\nb0 B\nb1 B\n"
-CERT = "slicing-certificate 1\nblocks 2\ncost 15\nbound 15\nplan 0:2x3 1:3x2 *\ntree\nE\nE\nE\nC\nC\nE\nE\nC\nC\n"
+CERT = "slicing-certificate 2\nblocks 2\ncost 15\nbound 15\nplan 0:2x3 1:3x2 *\ntree\nE\nE\nE\nC a\nC a\nE\nE\nC a\nC a\n"
+UNNAMED = CERT.replace("certificate 2", "certificate 1").replace("C a", "C")
 
 # a name, the words, and the files that stand in the folder before the run
 CASES = [
@@ -81,6 +87,11 @@ CASES = [
         {"a.blocks": blocks((2, 3), (3, 2)), "a.nets": NETS, "a.weights": "0 3\n"},
     ),
     ("check", "check --format gsrc --blocks a.blocks --fixed --cert a.cert", {"a.blocks": blocks((2, 3), (3, 2)), "a.cert": CERT}),
+    (
+        "rewrite",
+        "check --format gsrc --blocks a.blocks --fixed --cert a.cert --rewrite b.cert",
+        {"a.blocks": blocks((2, 3), (3, 2)), "a.cert": UNNAMED},
+    ),
     ("workers", PLAN + " --workers 2", {"a.blocks": blocks((2, 3), (2, 3))}),
     ("gen", "gen --seed 7 --count 4 --kinds mixed --out g --nodes 300", {}),
 ]
@@ -156,17 +167,22 @@ def statuses(folder):
     cases = [
         (0, PLAN + " --workers=1 --nodes 2", one, "status Optimal", ["a.cert"]),
         (0, check, two, "status Yes", []),
+        (0, check + " --rewrite b.cert", dict(two, **{"a.cert": UNNAMED}), "status Yes", ["b.cert"]),
+        (0, PLAN + " --nets a.nets", dict(one, **{"a.nets": pins(1048576)}), "status Optimal", ["a.cert"]),
         (1, PLAN + " --outline=2x2", one, "status NoneFits", ["a.cert"]),
         (2, PLAN + " --workers 17", one, "error Usage", []),
         (2, PLAN + " more words", one, "error Usage", []),
         (2, check + " --cert=b.cert", two, "error Usage", []),
         (3, PLAN + " --nodes=1", {"a.blocks": blocks((2, 3), (2, 3))}, "status Open", ["a.cert"]),
         (4, check, dict(two, **{"a.cert": CERT.replace("cost 15", "cost 14")}), "status No CostDiffers 14 15", []),
+        (4, check + " --rewrite=b.cert", dict(two, **{"a.cert": CERT.replace("cost 15", "cost 14")}), "status No CostDiffers 14 15", []),
         (4, measure, dict(one, **{"a.pl": "UCLA pl 1.0\nb0 -1 0 DIMS = (3, 4) : N\n"}), "status Outside 0", []),
         (5, PLAN + " --pl-out a.out", {"a.blocks": ""}, "error BadInput blocks 0 Truncated", []),
         (6, PLAN + " --pl-out=a.out", {"a.blocks": blocks((1048577, 1))}, "error OverLimit side 1048577 1048576", []),
+        (6, PLAN + " --nets a.nets", dict(one, **{"a.nets": pins(1048577)}), "error OverLimit pins 1048577 1048576", []),
         (7, PLAN + " --nets a.nets", one, "", []),
         (8, PLAN + " --pl-out none/a.out", one, "", ["a.cert"]),
+        (8, check + " --rewrite none/b.cert", two, "", []),
     ]
     bad = 0
     for wanted, words, files, line, stored in cases:

@@ -3,9 +3,10 @@
 
 Designs of hard and soft blocks, with and without nets and pads, are written or generated into FOLDER (a temporary one by
 default) and planned with several weights (those of nets among them, made by chance), outlines and budgets. Each certificate, many damaged copies of it, and some trees
-made by chance, which show the bound of one subproblem, are given to `floorplan check` and to second_checker.py, which must
-print the same and end with the same status. Printed is a line for each design with the answers that came; the first
-difference ends the run with status 1, and leaves the certificate.
+made by chance, which show what one part of the bound is worth at one subproblem, are given to `floorplan check`, with
+`--rewrite` and without, and to second_checker.py, which must print the same, end with the same status and store the same
+certificate anew; and what `plan` stores is stored anew as it is. Printed is a line for each design with the answers that
+came; the first difference ends the run with status 1, and leaves the certificate.
 """
 import collections
 import os
@@ -16,7 +17,7 @@ import sys
 import tempfile
 
 sys.dont_write_bytecode = True
-from second_checker import next_tokens
+from second_checker import LETTERS, next_tokens
 
 SECOND = os.path.join(os.path.dirname(os.path.abspath(__file__)), "second_checker.py")
 EXAMPLES = os.path.join(os.path.dirname(os.path.dirname(SECOND)), "examples")
@@ -75,6 +76,11 @@ def changed_number(label, step):
     return change
 
 
+def unnamed(text):
+    """The same certificate as a text of version 1, which names no parts."""
+    return re.sub(r"(?m)^C .$", "C", text.replace("slicing-certificate 2", "slicing-certificate 1"))
+
+
 def one_tag(old, new):
     """One tag, of those that are `old`, is another one."""
     def change(text, dice):
@@ -92,10 +98,13 @@ DAMAGE = [
     lambda text, _: text.replace("\n", "\r\n"),
     lambda text, _: text.split("tree\n")[0] + "tree\n" + " ".join(text.split("tree\n")[1].split()),
     changed_number("cost", -1), changed_number("cost", 1), changed_number("bound", -1), changed_number("bound", 1),
-    changed_number("blocks", 1), changed_number("slicing-certificate", 1),
-    one_tag("C", "O"), one_tag("O", "C"), one_tag("E", "C"), one_tag("C", "E"), one_tag("C", "S 0"), one_tag("C|O", "S 00001"),
-    one_tag("E", "S 0"), one_tag("S .*", "C"), one_tag("S .*", "S 400"), one_tag("[ECO]", "S 65536"), one_tag("[ECO]", "e"),
-    lambda text, _: text[: text.rindex("\n", 0, -1) + 1], lambda text, _: text + "C\n", lambda text, _: text[:-1] + "\n\n S",
+    changed_number("blocks", 1), changed_number("slicing-certificate", 1), changed_number("slicing-certificate", -1),
+    one_tag("C .", "O"), one_tag("O", "C f"), one_tag("E", "C f"), one_tag("C .", "E"), one_tag("C .", "S 0"), one_tag("C .|O", "S 00001"),
+    one_tag("E", "S 0"), one_tag("S .*", "C f"), one_tag("S .*", "S 400"), one_tag("E|C .|O", "S 65536"), one_tag("E|C .|O", "e"),
+    *(one_tag("C [^%s]" % letter, "C " + letter) for letter in LETTERS), one_tag("C .", "C x"), one_tag("C .", "C"), one_tag("O", "C ff"),
+    lambda text, _: unnamed(text), lambda text, dice: one_tag("O", "C")(unnamed(text), dice), lambda text, dice: one_tag("C", "C a")(unnamed(text), dice),
+    lambda text, _: text[: text.rindex("\n", 0, -1) + 1], lambda text, _: text + "C a\n", lambda text, _: text[:-1] + "\n\n S",
+    lambda text, _: text[: text.rindex("\n", 0, -1) + 1] + "C", lambda text, _: re.sub(r"(?m)^C (.)$", r"C\n\n \1", text),
     lambda text, _: text.split("tree\n")[0] + "tree\n" + "S 0\n" * 3_300, lambda text, _: text.split("tree\n")[0],
     lambda text, _: text.replace("cost ", "cost 0"), lambda text, _: text.replace("bound", "\nbound"),
     lambda text, _: re.sub(r"plan .*", "plan none", text), lambda text, _: re.sub(r"cost .*", "cost none", text),
@@ -107,7 +116,7 @@ DAMAGE = [
 
 
 def tree_by_chance(blocks, dice):
-    """A certificate without a plan: of its tree one leaf is closed, and all others are open."""
+    """A certificate without a plan: of its tree one leaf is closed by some part, and all others are open."""
     tags, waiting = [], [()]
     while waiting:
         tokens = waiting.pop()
@@ -116,15 +125,26 @@ def tree_by_chance(blocks, dice):
         waiting += {"E": [tokens + (token,) for token in reversed(next_tokens(tokens, blocks))], "S": [tokens] * 2}.get(kind, [])
     places = [place for place, tag in enumerate(tags) if tag == "O"]
     if places:
-        tags[dice.choice(places)] = "C"
-    lines = ["slicing-certificate 1", "blocks %d" % blocks, "cost none", "bound none", "plan none", "tree", *tags]
+        tags[dice.choice(places)] = "C " + dice.choice(LETTERS)
+    lines = ["slicing-certificate 2", "blocks %d" % blocks, "cost none", "bound none", "plan none", "tree", *tags]
     return "".join(line + "\n" for line in lines)
+
+
+def rewritten(words, name):
+    """The answer to these words with `--rewrite`, and what is then stored."""
+    if os.path.exists(name):
+        os.remove(name)
+    said = answer([*words, "--rewrite", name])
+    if not os.path.exists(name):
+        return said, None
+    with open(name) as file:
+        return said, file.read()
 
 
 def main():
     program = os.path.abspath(sys.argv[1])
     folder = sys.argv[2] if len(sys.argv) > 2 else tempfile.mkdtemp()
-    dice, cert, count = random.Random(1), os.path.join(folder, "s.cert"), 0
+    dice, cert, anew, count = random.Random(1), os.path.join(folder, "s.cert"), os.path.join(folder, "t.cert"), 0
     for design, options, budget in CASES:
         files = files_of(program, design, folder)
         if "CHANCE" in options:
@@ -141,11 +161,11 @@ def main():
         for text in dict.fromkeys(texts):
             with open(cert, "w", newline="") as file:
                 file.write(text)
-            one = answer([program, "check", *words])
-            two = answer([sys.executable, SECOND, *words[2:]])
-            if one != two:
-                sys.exit("%s %s: %s and %s to %s" % (design, options, one, two, cert))
-            kind = one[1].split()
+            said = answer([program, "check", *words])
+            one, two = rewritten([program, "check", *words], anew), rewritten([sys.executable, SECOND, *words[2:]], anew)
+            if one != two or one[0] != said or text == whole and one[1] != whole:
+                sys.exit("%s %s: %s, %s and %s to %s" % (design, options, said, one, two, cert))
+            kind = said[1].split()
             seen[kind[2] if kind[1] == "No" else kind[4] if kind[1] == "BadInput" else kind[1]] += 1
         count += sum(seen.values())
         print(design, options, ":", ", ".join("%s %d" % pair for pair in sorted(seen.items())), flush=True)

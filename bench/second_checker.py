@@ -2,9 +2,9 @@
 """A second checker of certificates: python3 bench/second_checker.py OPTIONS
 
 Written from docs/DEFINITIONS.md and docs/FORMATS.md, it keeps to their words and order and shares nothing else with the
-program. OPTIONS are those of `floorplan check` on a GSRC design, each as `--name value`, and it prints and ends as that
-does, for certificates that are valid, that are not, and whose text is refused. The design's own texts must be without a
-fault. It works slowly and plainly, and isn't for large designs.
+program. OPTIONS are those of `floorplan check` on a GSRC design, each as `--name value`, and it prints, stores and ends as
+that does, for certificates of both versions that are valid, that are not, and whose text is refused. The design's own texts
+must be without a fault. It works slowly and plainly, and isn't for large designs.
 """
 import itertools
 import math
@@ -14,6 +14,7 @@ from fractions import Fraction
 
 MAX = 2**64 - 1
 MOST_SIDE = 1_048_576
+LETTERS = "arphf"
 NUMBER = "(0|[1-9][0-9]{0,19})"
 COUNT = r"(NumSoftRectangularBlocks|NumHardRectilinearBlocks|NumTerminals|NumNets|NumPins|NetDegree)([ \t\r:]|$)"
 
@@ -144,25 +145,24 @@ def joined(design, token, left, right):
     return item(design, sizes, extents, {**left[2], **moved})
 
 
-def net_part(design, extents, items, complete, blocks, pads):
-    """The greatest of range, pair and hull."""
+def net_parts(design, extents, items, complete, blocks, pads):
+    """Range, pair and hull."""
     points = [[(x, x), (y, y)] for x, y in pads]
     anywhere = [[(low, 2 * side - low) for (low, _), side in zip(extents[b], design.sides)] for b in blocks]
     small = sorted(min(low for low, _ in extents[b]) for b in blocks)
-    parts = [gaps(anywhere + points), sum(small[-2:]) if len(small) > 1 else 0]
+    hull = 0
     for _, _, offsets in items:
         here = [zip(offsets[b], extents[b]) for b in blocks if b in offsets]
         centres = [[(2 * first + low, 2 * last + high) for (first, last), (low, high) in ways] for ways in here]
-        parts.append(gaps(centres + points if complete else centres))
-    return max(parts)
+        hull = max(hull, gaps(centres + points if complete else centres))
+    return gaps(anywhere + points), sum(small[-2:]) if len(small) > 1 else 0, hull
 
 
-def value(design, tokens, spans):
-    """The standard bound of a subproblem."""
+def values(design, tokens, spans):
+    """What each part of the bound is worth at a subproblem: areas alone, with ranges, with pairs and with hulls, and all of
+    it, which is the standard bound."""
     shapes = [listed[first:end] for listed, (first, end) in zip(design.shapes, spans)]
     complete = len(tokens) == 2 * len(spans) - 1
-    if complete and design.wire_weight and all(len(left) == 1 for left in shapes):
-        return cost_of(design, tokens, [left[0] for left in shapes])
     extents = [[(min(sides), max(sides)) for sides in zip(*left)] for left in shapes]
     lone = [item(design, left, extents[b], {b: [(0, 0), (0, 0)]}) for b, left in enumerate(shapes)]
     items = []
@@ -172,17 +172,20 @@ def value(design, tokens, spans):
         else:
             items.append(lone[token])
     parts = [sizes for sizes, _, _ in items + [it for b, it in enumerate(lone) if b not in tokens]]
-    if not all(parts):
-        return MAX
-    areas = sum(min(w * h for w, h in sizes) for sizes in parts)
+    areas, area = None, MAX
+    if all(parts):
+        areas = sum(min(w * h for w, h in sizes) for sizes in parts)
+        widest, highest = (max(min(size[i] for size in sizes) for sizes in parts) for i in (0, 1))
+        area = max(areas, widest * highest)
+    fits = area <= design.sides[0] * design.sides[1]
+    nets = [(weight, net_parts(design, extents, items, complete, *pins)) for weight, *pins in design.nets if design.wire_weight]
+    wires = [0] + [sum(weight * by[way] for weight, by in nets) for way in range(3)] + [sum(weight * max(by) for weight, by in nets)]
+    worth = [design.area_weight * area + design.wire_weight * wire if fits else MAX for wire in wires]
+    if complete and design.wire_weight and all(len(left) == 1 for left in shapes):
+        worth[4] = cost_of(design, tokens, [left[0] for left in shapes])
     if complete and not design.wire_weight:
-        return design.area_weight * areas
-    widest, highest = (max(min(size[i] for size in sizes) for sizes in parts) for i in (0, 1))
-    area = max(areas, widest * highest)
-    if area > design.sides[0] * design.sides[1]:
-        return MAX
-    wires = (weight * net_part(design, extents, items, complete, *pins) for weight, *pins in design.nets)
-    return design.area_weight * area + design.wire_weight * (sum(wires) if design.wire_weight else 0)
+        worth[4] = MAX if areas is None else design.area_weight * areas
+    return dict(zip(LETTERS, worth))
 
 
 def next_tokens(tokens, count):
@@ -208,7 +211,7 @@ def read_plan(words, count, line):
 
 
 def read_header(lines, count, last):
-    """The stated cost and bound, and the plan or None."""
+    """The version, the stated cost and bound, and the plan or None."""
     values = {}
     for number, label in enumerate(("slicing-certificate", "blocks", "cost", "bound", "plan", "tree"), 1):
         if number > len(lines):
@@ -220,29 +223,30 @@ def read_header(lines, count, last):
             values[label] = None if rest == ["none"] else read_plan(rest, count, number)
         elif rest == ["none"] or rest and re.fullmatch(NUMBER, rest[0]) and int(rest[0]) < MAX:
             values[label] = MAX if rest == ["none"] else int(rest[0])
-        wanted = {"slicing-certificate": 1, "blocks": count}.get(label, values.get(label))
-        if rest and label not in values or values.get(label) != wanted:
+        wanted = {"slicing-certificate": (1, 2), "blocks": (count,)}.get(label, (values.get(label),))
+        if rest and label not in values or values.get(label) not in wanted:
             refuse("BadHeader", number)
         if label == "plan" and (values["plan"] is None) != (values["cost"] == MAX):
             refuse("BadHeader", number)
-    return values["cost"], values["bound"], values["plan"]
+    return values["slicing-certificate"], values["cost"], values["bound"], values["plan"]
 
 
-def read_tree(words, count, last):
-    """The tags in preorder, a split with its block."""
+def read_tree(words, count, version, last):
+    """The tags in preorder, a split with its block and a closed one with the letter of its part."""
     tags, waiting, words = [], [((), 0)], iter(words)
     for word, line in words:
         if not waiting:
             refuse("Trailing", line)
-        block = next(words, (None,))[0] if word == "S" else "0"
-        if block is None:
+        second = {"S": "[0-9]{1,20}", "C": "[%s]" % LETTERS if version == 2 else ""}.get(word, "")
+        named = next(words, (None,))[0] if second else ""
+        if named is None:
             break
-        if word not in ("E", "S", "C", "O") or not re.fullmatch("[0-9]{1,20}", block) or int(block) > 65_535:
+        if word not in ("E", "S", "C", "O") or not re.fullmatch(second, named) or word == "S" and int(named) > 65_535:
             refuse("BadTag", line)
         tokens, depth = waiting.pop()
         if depth >= 3_200:
             refuse("TooDeep", line)
-        tags.append((word, int(block)))
+        tags.append((word, int(named) if word == "S" else named or "f"))
         children = {"E": [tokens + (token,) for token in next_tokens(tokens, count)], "S": [tokens] * 2}.get(word, [])
         waiting += [(child, depth + 1) for child in reversed(children)]
     if waiting:
@@ -254,45 +258,59 @@ def said(number):
     return "none" if number == MAX else str(number)
 
 
-def least_open(design, tags, cost):
-    """The least of the cost and the bounds of what is left open, where each tag may stand."""
-    least, waiting = cost, [((), tuple((0, len(listed)) for listed in design.shapes))]
-    for node, (tag, block) in enumerate(tags):
+def walk(design, tags, cost):
+    """The least of the cost and the bounds of what is left open, where each tag may stand; and the tags, in which each closed
+    one names the first part that is the cost or more."""
+    least, named, waiting = cost, [], [((), tuple((0, len(listed)) for listed in design.shapes))]
+    for node, (tag, said_by) in enumerate(tags):
         tokens, spans = waiting.pop()
         if tag == "E":
             if len(tokens) == 2 * len(spans) - 1:
                 say_no("BadChildren", node)
             waiting += [(tokens + (token,), spans) for token in reversed(next_tokens(tokens, len(spans)))]
         elif tag == "S":
-            first, end = spans[block] if block < len(spans) else (0, 0)
+            first, end = spans[said_by] if said_by < len(spans) else (0, 0)
             if end - first < 2:
                 say_no("BadSplit", node)
             middle = (first + end) // 2
-            waiting += [(tokens, spans[:block] + (half,) + spans[block + 1 :]) for half in ((middle, end), (first, middle))]
+            waiting += [(tokens, spans[:said_by] + (half,) + spans[said_by + 1 :]) for half in ((middle, end), (first, middle))]
         else:
-            bound = value(design, tokens, spans)
-            if tag == "C" and bound < cost:
-                say_no("NotClosed", node, said(bound), said(cost))
-            least = min(least, bound) if tag == "O" else least
-    return least
+            worth = values(design, tokens, spans)
+            if tag == "C" and worth[said_by] < cost:
+                say_no("NotClosed", node, said(worth[said_by]), said(cost))
+            least = min(least, worth["f"]) if tag == "O" else least
+            said_by = next((letter for letter in LETTERS if worth[letter] >= cost), said_by)
+        named.append((tag, said_by))
+    return least, named
 
 
-def check(design, text):
+def written(count, cost, bound, plan, tags):
+    """The text of a certificate, of version 2."""
+    header = ["slicing-certificate 2", "blocks %d" % count, "cost " + said(cost), "bound " + said(bound)]
+    words = [str(token) if token in ("*", "+") else "%d:%dx%d" % (token, *plan[1][token]) for token in plan[0]] if plan else ["none"]
+    lines = header + [" ".join(["plan"] + words), "tree"] + [tag if tag in "EO" else "%s %s" % (tag, named) for tag, named in tags]
+    return "".join(line + "\n" for line in lines)
+
+
+def check(design, text, rewrite):
     words = [(word, number) for number, line in enumerate(text.split("\n"), 1) for word in re.findall(r"[^ \t\r]+", line)]
     last = words[-1][1] if words else 0
     lines = text.removesuffix("\n").split("\n") if text else []
-    cost, bound, plan = read_header(lines, len(design.shapes), last)
-    tags = read_tree([(word, line) for word, line in words if line > 6], len(design.shapes), last)
+    version, cost, bound, plan = read_header(lines, len(design.shapes), last)
+    tags = read_tree([(word, line) for word, line in words if line > 6], len(design.shapes), version, last)
     if plan:
         costs = cost_of(design, *plan)
         if costs == MAX or any(plan[1][b] not in listed for b, listed in enumerate(design.shapes)):
             say_no("BadPlan")
         if costs != cost:
             say_no("CostDiffers", said(cost), said(costs))
-    least = least_open(design, tags, cost)
+    least, named = walk(design, tags, cost)
     if least != bound:
         say_no("BoundDiffers", said(bound), said(least))
     decided = sum(tag != "O" for tag, _ in tags)
+    if rewrite:
+        with open(rewrite, "w") as file:
+            file.write(written(len(design.shapes), cost, bound, plan, named))
     raise Ended(0, "status Yes\ncost %s\nbound %s\ndecided %d" % (said(cost), said(bound), decided))
 
 
@@ -300,7 +318,7 @@ def main():
     words = iter(sys.argv[1:])
     options = {name[2:]: name == "--fixed" or next(words) for name in words}
     try:
-        check(Design(options), read_file(options["cert"]))
+        check(Design(options), read_file(options["cert"]), options.get("rewrite"))
     except Ended as answer:
         print(answer.args[1])
         sys.exit(answer.args[0])

@@ -126,6 +126,8 @@ def statuses(trial):
         trial.call("status 2: " + " ".join(words), [trial.script, *words], 2, told + ".*Commands and options", env={"STATUS": "2"})
     trial.call("status 7", [trial.script, "check", "--blocks", "/dev/null", "--cert=none here"], 7, "could not be read: none here;", env={"STATUS": "7"})
     trial.call("status 8", [trial.script, "plan", "--cert", "no/a"], 8, "could not be written: no;", env={"STATUS": "8"})
+    rewrite = [trial.script, "check", "--cert", "none", "--rewrite=no/b"]
+    trial.call("status 8 of check", rewrite, 8, "could not be written: no;", env={"STATUS": "8"})
     process = subprocess.Popen([trial.script, "sleep"], env=trial.env)
     time.sleep(1)
     process.send_signal(signal.SIGTERM)

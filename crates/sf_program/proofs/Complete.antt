@@ -55,7 +55,7 @@ module _ (contents : Contents) where
   command-ends (plan o) a taken h =
       elim h [ inl p ↦ subst HasSearched (sym p.answered.status_is) (said-ends p.answered.said) | inr r ↦ absurd (never-refused (planned.PlanRead (Some contents) o) (plan-one contents o) taken a r) ]
   command-ends (check o) a taken h =
-      elim h [ inl p ↦ subst EndsJudging (sym p.0.status_is) (checked-ends p.0.answer) | inr r ↦ absurd (never-refused (CheckRead (Some contents) o) (check-read-one contents o) taken a r) ]
+      elim h [ inl p ↦ subst EndsJudging (sym p.file.judged.status_is) (checked-ends p.file.judged.answer) | inr r ↦ absurd (never-refused (CheckRead (Some contents) o) (check-read-one contents o) taken a r) ]
   command-ends (measure o) a taken h =
       elim h [ inl p ↦ subst EndsJudging (sym p.0.status_is) (judged-ends p.0.verdict) | inr r ↦ absurd (never-refused (measured.MeasureRead (Some contents) o) (measure-read-one contents o) taken a r) ]
   command-ends (shape o) a taken h =

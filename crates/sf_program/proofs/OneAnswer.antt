@@ -22,7 +22,7 @@ use Rattle.sf_program.specs.Planned as planned
 use Rattle.sf_program.specs.Shaped.{IsShaped, ShapeRead}
 use Rattle.sf_program.specs.Stores.{Stored}
 use Rattle.sf_program.proofs.Once.{no-refusal, same-refusal}
-use Rattle.sf_program.proofs.OneChecked.{check-read-one, checked-one, checked-reads, measure-read-one, measured-one, measured-reads, shape-read-one, shaped-one, shaped-reads}
+use Rattle.sf_program.proofs.OneChecked.{HasOneName, check-read-one, checked-one, checked-reads, measure-read-one, measured-one, measured-reads, shape-read-one, shaped-one, shaped-reads}
 use Rattle.sf_program.proofs.OneDesign.{plan-one}
 use Rattle.sf_program.proofs.OneSearched.{HasOneCert, gen-one, generated-one, planned-one}
 
@@ -115,20 +115,20 @@ module _ (contents : Contents) where
   generated-reads : (o : GenOptions) (a : Answer) → IsGenerated o a.0 a.1 a.2 → (design : Design) × GenRead o (Ok design)
   generated-reads o a p = (p.design, p.made)
 
-  command-one : HasOneCert → (command : Command) → HasOneWorker command → AtMostOne (IsOf command contents)
-  command-one certs (plan o) single =
+  command-one : HasOneCert → HasOneName → (command : Command) → HasOneWorker command → AtMostOne (IsOf command contents)
+  command-one certs names (plan o) single =
       one-of contents.may_fail (planned.PlanRead (Some contents) o) (plan-one contents o) (λ a. planned.IsPlanned o (Some contents) a.0 a.1 a.2) (planned-reads o)
       (λ a b p q. let same = planned-one certs contents o single a b p q in triple a b same.0 same.1 same.2)
-  command-one certs (check o) single =
-      one-of contents.may_fail (CheckRead (Some contents) o) (check-read-one contents o) (λ a. IsChecked o (Some contents) a.0 a.2 × (a.1 ≡ [])) (λ a p. checked-reads contents o a p.0)
-      (silent-one (λ a. IsChecked o (Some contents) a.0 a.2) (checked-one contents o))
-  command-one certs (measure o) single =
+  command-one certs names (check o) single =
+      one-of contents.may_fail (CheckRead (Some contents) o) (check-read-one contents o) (λ a. IsChecked o (Some contents) a.0 a.1 a.2) (checked-reads contents o)
+      (λ a b p q. let same = checked-one contents o names a b p q in triple a b same.0 same.1 same.2)
+  command-one certs names (measure o) single =
       one-of contents.may_fail (measured.MeasureRead (Some contents) o) (measure-read-one contents o) (λ a. measured.IsMeasured o (Some contents) a.0 a.2 × (a.1 ≡ [])) (λ a p. measured-reads contents o a p.0)
       (silent-one (λ a. measured.IsMeasured o (Some contents) a.0 a.2) (measured-one contents o))
-  command-one certs (shape o) single =
+  command-one certs names (shape o) single =
       one-of contents.may_fail (ShapeRead (Some contents) o) (shape-read-one contents o) (λ a. IsShaped o (Some contents) a.0 a.2 × (a.1 ≡ [])) (λ a p. shaped-reads contents o a p.0)
       (silent-one (λ a. IsShaped o (Some contents) a.0 a.2) (shaped-one contents o))
-  command-one certs (gen o) single =
+  command-one certs names (gen o) single =
       one-of contents.may_fail (GenRead o) (gen-one contents.may_fail o) (λ a. IsGenerated o a.0 a.1 a.2) (generated-reads o)
       (λ a b p q. let same = generated-one certs o a b p q in triple a b same.0 same.1 same.2)
 
@@ -137,8 +137,8 @@ module _ (contents : Contents) where
       refused-of contents.may_fail (planned.PlanRead (Some contents) o) (plan-one contents o) (λ a. planned.IsPlanned o (Some contents) a.0 a.1 a.2) (planned-reads o)
       (λ a h. subst IsOwn (sym h.answered.status_is) (said-own h.answered.said)) why b p q
   command-refused (check o) why b p q =
-      refused-of contents.may_fail (CheckRead (Some contents) o) (check-read-one contents o) (λ a. IsChecked o (Some contents) a.0 a.2 × (a.1 ≡ [])) (λ a p. checked-reads contents o a p.0)
-      (λ a h. subst IsOwn (sym h.0.status_is) (checked-own h.0.answer)) why b p q
+      refused-of contents.may_fail (CheckRead (Some contents) o) (check-read-one contents o) (λ a. IsChecked o (Some contents) a.0 a.1 a.2) (checked-reads contents o)
+      (λ a h. subst IsOwn (sym h.file.judged.status_is) (checked-own h.file.judged.answer)) why b p q
   command-refused (measure o) why b p q =
       refused-of contents.may_fail (measured.MeasureRead (Some contents) o) (measure-read-one contents o) (λ a. measured.IsMeasured o (Some contents) a.0 a.2 × (a.1 ≡ [])) (λ a p. measured-reads contents o a p.0)
       (λ a h. subst IsOwn (sym h.0.status_is) (judged-own h.0.verdict)) why b p q
@@ -151,13 +151,13 @@ module _ (contents : Contents) where
 
   -- ---- by the words
 
-  pub words-one : HasOneCert → (words : List (List ℕ)) → AskForOneWorker words → AtMostOne (IsAnswerTo words contents)
-  words-one certs words single a b p q =
+  pub words-one : HasOneCert → HasOneName → (words : List (List ℕ)) → AskForOneWorker words → AtMostOne (IsAnswerTo words contents)
+  words-one certs names words single a b p q =
       elim p [
         | inl x ↦ elim q [ inl y ↦ triple a b (x.1 ∙ sym y.1) (x.2 ∙ sym y.2) (x.3 ∙ sym y.3) | inr y ↦ absurd (x.0 y.0 y.1) ]
         | inr x ↦ elim q [
           | inl y ↦ absurd (y.0 x.0 x.1)
-          | inr y ↦ command-one certs y.0 (single y.0 y.1) a b (subst (λ (c : Command). IsOf c contents a) (meaning_unique words x.0 y.0 x.1 y.1) x.2) y.2
+          | inr y ↦ command-one certs names y.0 (single y.0 y.1) a b (subst (λ (c : Command). IsOf c contents a) (meaning_unique words x.0 y.0 x.1 y.1) x.2) y.2
         ]
       ]
 
@@ -177,8 +177,8 @@ module _ (contents : Contents) where
       ]
 
   -- what was done is what any answer says
-  pub words-done : HasOneCert → (words : List (List ℕ)) (after : Option Contents) (taken taken_then : Option (List ℕ)) (status : Status) (a : Answer)
+  pub words-done : HasOneCert → HasOneName → (words : List (List ℕ)) (after : Option Contents) (taken taken_then : Option (List ℕ)) (status : Status) (a : Answer)
       → AskForOneWorker words → IsAnswerTo words contents a → IsDone words (Some contents) after taken taken_then status → IsDoneBy a (Some contents) after taken taken_then status
-  words-done certs words after taken taken_then status a single is done =
-      let same = words-one certs words single (status, done.stored, done.printed) a done.answer is in
+  words-done certs names words after taken taken_then status a single is done =
+      let same = words-one certs names words single (status, done.stored, done.printed) a done.answer is in
       subst (λ (x : Answer). IsDoneBy x (Some contents) after taken taken_then status) same (record { status_is = refl; stores = done.stores; prints = done.prints })

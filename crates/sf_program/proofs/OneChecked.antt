@@ -20,19 +20,25 @@ use Rattle.sf_gsrc.specs.declared.output.Place.{Place}
 use Rattle.sf_place.specs.Spots.{IsByNumber}
 use Rattle.sf_place.specs.Verdict.{IsVerdict}
 use Rattle.sf_place.proofs.OneVerdict.{one-verdict}
-use Rattle.sf_standard.specs.Standard.{standard}
+use Rattle.sf_standard.specs.Standard.{standard, part_value}
 use Rattle.sf_certificate.specs.declared.cert.Cert.{Cert}
+use Rattle.sf_certificate.specs.declared.tag.Tag.{Tag}
+use Rattle.sf_certificate.specs.Named.{AllNameFirst, AreAlikeButNames, unnamed}
 use Rattle.sf_certificate.specs.Reading.{Said as CertSaid, cert_read, said_by}
+use Rattle.sf_certificate.specs.Text.{cert_text}
+use Rattle.sf_certificate.specs.Valid.{AreTrees, IsValid}
 use Rattle.sf_certificate.proofs.OneCert.{same-cert}
 use Rattle.sf_checker.specs.declared.answer.Answer.{Answer as Checked}
+use Rattle.sf_checker.specs.declared.answer.Answer.TheVariants.{Yes, No}
 use Rattle.sf_checker.specs.Answers.{IsAnswer}
 use Rattle.sf_checker.proofs.OneAnswer.{one-answer}
 use Rattle.sf_words.specs.Meaning.{CheckOptions, MeasureOptions, ShapeOptions}
-use Rattle.sf_program.specs.Checked.{CertRead, CheckRead, IsChecked, answer_status, answer_text, cert_refusal}
+use Rattle.sf_program.specs.Checked.{CertRead, CheckRead, IsChecked, IsJudged, IsRenamed, IsRewritten, JudgedFile, answer_status, answer_text, cert_refusal}
 use Rattle.sf_program.specs.Measured.{IsMeasured, MeasureRead, SpotsPlaced, SpotsRead, lines_named, sized_spot, spot_said, spots_said, status_of, verdict_text}
-use Rattle.sf_program.specs.OneAnswer.{Answer, GivesOne}
+use Rattle.sf_program.specs.OneAnswer.{Answer, AtMostOne, GivesOne}
 use Rattle.sf_program.specs.Outcome.{Refusal}
 use Rattle.sf_program.specs.Reading.{DesignRead, Judged, PlacesRead, Said, TextRead, With}
+use Rattle.sf_program.specs.Stores.{Stored}
 use Rattle.sf_program.specs.Shaped.{IsCurveText, IsLeast, IsShaped, ShapeRead, TokensRead, areas_alone, expr_refusal, least_line, point_line}
 use Rattle.sf_program.proofs.Once.{once, then-one, said-one, judged-one, text-one, with-one, same-value}
 use Rattle.sf_program.proofs.OneDesign.{design-one, places-one}
@@ -50,23 +56,54 @@ check-read-one contents o =
 said-cert : (c d : Cert) → said_by c ≡ said_by d → c ≡ d
 said-cert c d e = same-cert c d (ap (λ (s : CertSaid). s.blocks) e) (ap (λ (s : CertSaid). s.plan) e) (ap (λ (s : CertSaid). s.cost) e) (ap (λ (s : CertSaid). s.bound) e) (ap (λ (s : CertSaid). s.tags) e)
 
+-- a valid certificate is renamed in one way
+abbrev pub HasOneName : Type 0
+HasOneName = (design : Design) (old : Cert) → IsValid design (standard design) (part_value design) old → AtMostOne (IsRenamed design old)
+
+-- the laws of trees by which it is so: the full values close what any part closes, and the first parts follow from the tree
+abbrev pub FullClose : Type 0
+FullClose = (design : Design) (tags : List Tag) (cost : ℕ) → AreTrees (part_value design) cost (root design ∷ []) tags → AreTrees (part_value design) cost (root design ∷ []) (map unnamed tags)
+
+abbrev pub FirstAreOne : Type 0
+FirstAreOne = (design : Design) (cost : ℕ) (first second : List Tag) → AreTrees (part_value design) cost (root design ∷ []) (map unnamed first) → map unnamed first ≡ map unnamed second
+    → AllNameFirst design (part_value design) cost first → AllNameFirst design (part_value design) cost second → first ≡ second
+
+pub one-name : FullClose → FirstAreOne → HasOneName
+one-name close ones design old valid c d p q =
+    let named : (x : Cert) → IsRenamed design old x → AllNameFirst design (part_value design) old.cost x.tags = λ x h. subst (λ z. AllNameFirst design (part_value design) z x.tags) h.alike.cost h.named in
+    let trees = subst (AreTrees (part_value design) old.cost (root design ∷ [])) (sym p.alike.tags) (close design old.tags old.cost valid.tree) in
+    let tags = ones design old.cost c.tags d.tags trees (p.alike.tags ∙ sym q.alike.tags) (named c p) (named d q) in
+    same-cert c d (p.alike.blocks ∙ sym q.alike.blocks) (p.alike.plan ∙ sym q.alike.plan) (p.alike.cost ∙ sym q.alike.cost) (p.alike.bound ∙ sym q.alike.bound) tags
+
+module _ (names : HasOneName) (design : Design) (cert : Cert) where
+  rewritten-one : (rewrite : Option (List ℕ)) (answer : Checked) (ss ts : List Stored) → IsAnswer design (standard design) (part_value design) cert answer
+      → IsRewritten design cert rewrite answer ss → IsRewritten design cert rewrite answer ts → ss ≡ ts
+  rewritten-one None answer ss ts right p q = p ∙ sym q
+  rewritten-one (Some name) (No why) ss ts right p q = p ∙ sym q
+  rewritten-one (Some name) (Yes cost bound decided) ss ts right p q =
+      let same = names design cert right.valid p.0 q.0 p.1 q.1 in
+      p.2 ∙ ap (λ (c : Cert). let all : List Stored = (name, cert_text c) ∷ [] in all) same ∙ sym q.2
+
+  judged-one-way : (rewrite : Option (List ℕ)) (a b : Answer) → IsJudged design cert rewrite a.0 a.1 a.2 → IsJudged design cert rewrite b.0 b.1 b.2 → (a.0 ≡ b.0) × (a.1 ≡ b.1) × (a.2 ≡ b.2)
+  judged-one-way rewrite a b p q =
+      let answer = one-answer design (standard design) (part_value design) cert p.answer q.answer p.answered q.answered in
+      let stored = subst (λ (x : Checked). IsRewritten design cert rewrite x a.1) answer p.rewritten in
+      (p.status_is ∙ ap answer_status answer ∙ sym q.status_is, rewritten-one rewrite q.answer a.1 b.1 q.answered stored q.rewritten, p.prints ∙ ap answer_text answer ∙ sym q.prints)
+
 module _ (contents : Contents) (o : CheckOptions) where
-  same-checked : (design : Design) (c d : Cert) (a b : Checked) → CertRead (Some contents) o.cert (block_count design) (Ok (said_by c)) → CertRead (Some contents) o.cert (block_count design) (Ok (said_by d))
-      → IsAnswer design (standard design) c a → IsAnswer design (standard design) d b → a ≡ b
-  same-checked design c d a b p q f g =
-      let same = said-cert c d (same-value (CertRead (Some contents) o.cert (block_count design)) (cert-one contents o.cert (block_count design)) (said_by c) (said_by d) p q) in
-      one-answer design (standard design) d a b (subst (λ (x : Cert). IsAnswer design (standard design) x a) same f) g
+  file-one : HasOneName → (design : Design) (a b : Answer) → JudgedFile (Some contents) o.cert design o.rewrite a.0 a.1 a.2 → JudgedFile (Some contents) o.cert design o.rewrite b.0 b.1 b.2
+      → (a.0 ≡ b.0) × (a.1 ≡ b.1) × (a.2 ≡ b.2)
+  file-one names design a b p q =
+      let same = said-cert p.cert q.cert (same-value (CertRead (Some contents) o.cert (block_count design)) (cert-one contents o.cert (block_count design)) (said_by p.cert) (said_by q.cert) p.reads q.reads) in
+      judged-one-way names design q.cert o.rewrite a b (subst (λ (c : Cert). IsJudged design c o.rewrite a.0 a.1 a.2) same p.judged) q.judged
 
-  pub checked-one : (a b : Answer) → IsChecked o (Some contents) a.0 a.2 → IsChecked o (Some contents) b.0 b.2 → (a.0 ≡ b.0) × (a.2 ≡ b.2)
-  checked-one a b p q =
-      let design = same-value (DesignRead (Some contents) o.design o.weights) (design-one contents o.design o.weights) p.design q.design p.design_reads q.design_reads in
-      let answer = same-checked q.design p.cert q.cert p.answer q.answer
-      (subst (λ (d : Design). CertRead (Some contents) o.cert (block_count d) (Ok (said_by p.cert))) design p.cert_reads) q.cert_reads
-      (subst (λ (d : Design). IsAnswer d (standard d) p.cert p.answer) design p.answered) q.answered in
-      (p.status_is ∙ ap answer_status answer ∙ sym q.status_is, p.prints ∙ ap answer_text answer ∙ sym q.prints)
+  pub checked-one : HasOneName → (a b : Answer) → IsChecked o (Some contents) a.0 a.1 a.2 → IsChecked o (Some contents) b.0 b.1 b.2 → (a.0 ≡ b.0) × (a.1 ≡ b.1) × (a.2 ≡ b.2)
+  checked-one names a b p q =
+      let design = same-value (DesignRead (Some contents) o.design o.weights) (design-one contents o.design o.weights) p.design q.design p.reads q.reads in
+      file-one names q.design a b (subst (λ (d : Design). JudgedFile (Some contents) o.cert d o.rewrite a.0 a.1 a.2) design p.file) q.file
 
-  pub checked-reads : (a : Answer) → IsChecked o (Some contents) a.0 a.2 → (said : CertSaid) × CheckRead (Some contents) o (Ok said)
-  checked-reads a p = (said_by p.cert, inl (p.design, p.design_reads, p.cert_reads))
+  pub checked-reads : (a : Answer) → IsChecked o (Some contents) a.0 a.1 a.2 → (said : CertSaid) × CheckRead (Some contents) o (Ok said)
+  checked-reads a p = (said_by p.file.cert, inl (p.design, p.reads, p.file.reads))
 
 -- ---- measure
 

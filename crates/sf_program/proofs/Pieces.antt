@@ -1,17 +1,28 @@
 -- A text that is fed in pieces: its answer, and what its fault says.
-use Rattle.std.proofs.Common.{◌≡◌, inl, ℕ, List, [], ◌∷◌, length, arith, refl, ap, subst, sym, Option, Result, Ok, Err, IfOk}
+use Rattle.std.proofs.Common.{◌≡◌, inl, ℕ, List, [], ◌∷◌, length, arith, refl, ap, subst, sym, Option, Some, None, Result, Ok, Err, IfOk}
+use Rattle.std.specs.Prelude.{IfErr}
 use Rattle.sf_io.specs.Outside.{Contents}
 use Rattle.sf_model.specs.declared.design.Design.{Design}
-use Rattle.sf_standard.specs.Standard.{standard}
+use Rattle.sf_model.specs.Legal.{block_count}
+use Rattle.sf_standard.specs.Standard.{standard, part_value}
 use Rattle.sf_certificate.specs.declared.fault.CertFault.{CertFault}
-use Rattle.sf_certificate.specs.Reading.{Said, said_by}
+use Rattle.sf_certificate.specs.Reading.{Said, cert_read, said_by}
 use Rattle.sf_checker.specs.declared.answer.Answer.{Answer}
 use Rattle.sf_checker.specs.Feeding.{IsAnswerTo}
+use Rattle.sf_words.specs.Meaning.{CheckOptions}
 use Rattle.sf_program.specs.declared.stop.Stop.{Stop}
 use Rattle.sf_program.specs.Outcome.{Refusal, Refuses, Stops}
-use Rattle.sf_program.specs.Reading.{Judged, TextRead}
-use Rattle.sf_program.specs.Checked.{AnsweredFile, cert_refusal}
-use Rattle.sf_program.proofs.Stages.{refused-stops}
+use Rattle.sf_program.specs.declared.work.Work.{Work}
+use Rattle.sf_program.specs.Reading.{DesignRead, Judged, TextRead}
+use Rattle.sf_certificate.specs.declared.cert.Cert.{Cert}
+use Rattle.sf_certificate.specs.Named.{AllNameFirst, AreAlikeButNames}
+use Rattle.sf_certificate.specs.Text.{cert_text}
+use Rattle.sf_certificate.specs.Valid.{IsValid}
+use Rattle.sf_checker.specs.Answers.{IsAnswer}
+use Rattle.sf_checker.proofs.Answered.{answered}
+use Rattle.sf_program.specs.Checked.{CertRead, CheckRead, IsChecked, IsJudged, IsRewritten, IsStoredAnew, JudgedFile, JudgedText, answer_status, answer_text, cert_refusal}
+use Rattle.sf_program.specs.Stores.{Stored, stored_in}
+use Rattle.sf_program.proofs.Stages.{refused-stops, stops-map}
 
 pub no-bytes : (bytes : List ℕ) → length bytes ≡ 0 → bytes ≡ []
 no-bytes [] e = refl
@@ -22,13 +33,57 @@ pub cert-stops : (read : Result Said CertFault) (fault : CertFault) (stop : Stop
 cert-stops read fault stop e r =
     refused-stops (λ why. Judged read cert_refusal (Err why)) (cert_refusal fault) (subst (λ x. Judged x cert_refusal (Err (cert_refusal fault))) (sym e) refl) stop r
 
--- the answer to the text that is read under a name
-pub answered-file : (held : Option Contents) (name text : List ℕ) (design : Design) (answer : Answer) → TextRead held name (Ok text) → IsAnswerTo design (standard design) text answer → AnsweredFile held name design answer
-answered-file held name text design answer read a = record {
+-- an answer that stores nothing
+pub told-text : (design : Design) (text : List ℕ) (answer : Answer) (work : Work) → IsAnswerTo design (standard design) (part_value design) text answer
+    → work.status ≡ answer_status answer → stored_in work.stores.items ≡ [] → work.text.items ≡ answer_text answer
+    → JudgedText design text None work.status (stored_in work.stores.items) work.text.items
+told-text design text answer work a status stores printed = record {
   cert = a.cert;
-  reads = inl (text, read, subst (λ r. Judged r cert_refusal (Ok (said_by a.cert))) (sym a.reads) refl);
-  answered = a.answered;
+  reads = a.reads;
+  judged = record { answer = answer; answered = a.answered; status_is = status; rewritten = stores; prints = printed };
 }
+
+-- a certificate that is valid, and names the first parts, is stored in place of one that it is like
+pub stored-anew : {A E : Type 0} (design : Design) (old new : Cert) (name : List ℕ) → AreAlikeButNames old new → AllNameFirst design (part_value design) new.cost new.tags → IsValid design (standard design) (part_value design) new
+    → (stores : A → List Stored) (r : Result A E) → IfOk r (λ a. stores a ≡ (name, cert_text new) ∷ []) → IfOk r (λ a. IsStoredAnew design old name (stores a))
+stored-anew design old new name alike first valid stores (Ok a) h =
+    (new, record { alike = alike; named = first; accepted = λ answer so. (answered design (standard design) (part_value design) new answer so).1 valid }, h)
+stored-anew design old new name alike first valid stores (Err e) h = tt
+
+-- an answer with what is stored of its certificate
+pub told-cert : {E : Type 0} (design : Design) (cert : Cert) (rewrite : Option (List ℕ)) (answer : Answer) (all : List Stored) → IsAnswer design (standard design) (part_value design) cert answer → IsRewritten design cert rewrite answer all
+    → (r : Result Work E) → IfOk r (λ w. w.status ≡ answer_status answer) → IfOk r (λ w. stored_in w.stores.items ≡ all) → IfOk r (λ w. w.text.items ≡ answer_text answer)
+    → IfOk r (λ w. IsJudged design cert rewrite w.status (stored_in w.stores.items) w.text.items)
+told-cert design cert rewrite answer all so kept (Ok w) status stores printed = record {
+  answer = answer;
+  answered = so;
+  status_is = status;
+  rewritten = subst (IsRewritten design cert rewrite answer) (sym stores) kept;
+  prints = printed;
+}
+told-cert design cert rewrite answer all so kept (Err e) status stores printed = tt
+
+-- what is told of the text that is read under a name
+pub told-file : (held : Option Contents) (name text said : List ℕ) (design : Design) (rewrite named : Option (List ℕ)) → TextRead held name (Ok text) → said ≡ text → named ≡ rewrite → (r : Result Work Stop)
+    → IfOk r (λ w. JudgedText design said rewrite w.status (stored_in w.stores.items) w.text.items) → IfOk r (λ w. JudgedFile held name design named w.status (stored_in w.stores.items) w.text.items)
+told-file held name text said design rewrite named read same given (Ok w) h = record {
+  cert = h.cert;
+  reads = inl (text, read, subst (λ r. Judged r cert_refusal (Ok (said_by h.cert))) (sym (subst (λ t. cert_read (block_count design) t ≡ Ok (said_by h.cert)) same h.reads)) refl);
+  judged = subst (λ n. IsJudged design h.cert n w.status (stored_in w.stores.items) w.text.items) (sym given) h.judged;
+}
+told-file held name text said design rewrite named read same given (Err stop) h = tt
+
+-- the design comes before the certificate
+module _ (held : Option Contents) (o : CheckOptions) (design : Design) (read : DesignRead held o.design o.weights (Ok design)) where
+  pub check-told : (r : Result Work Stop) → IfOk r (λ w. JudgedFile held o.cert design o.rewrite w.status (stored_in w.stores.items) w.text.items)
+      → IfOk r (λ w. IsChecked o held w.status (stored_in w.stores.items) w.text.items)
+  check-told (Ok w) h = record { design = design; reads = read; file = h }
+  check-told (Err stop) h = tt
+
+  pub check-stops : (r : Result Work Stop) → IfErr r (λ stop. Stops stop (λ why. CertRead held o.cert (block_count design) (Err why)))
+      → IfErr r (λ stop. Stops stop (λ why. CheckRead held o (Err why)))
+  check-stops (Ok w) h = tt
+  check-stops (Err stop) h = stops-map (λ why. CertRead held o.cert (block_count design) (Err why)) (λ why. CheckRead held o (Err why)) (λ why p. inl (design, read, p)) stop h
 
 -- what is so of each value that is given is so of what was given
 pub given : {X E : Type 0} (P Q : X → Type 0) (r : Result X E) → ((x : X) → P x → Q x) → IfOk r P → IfOk r Q

@@ -50,7 +50,7 @@ command-status : (command : Command) (before : Option Contents) (status : Status
 command-status (plan o) before status stored printed h =
     elim h [ inl p ↦ subst IsAnswer (sym p.answered.status_is) (said-status p.answered.said) | inr r ↦ refused-status (planned.PlanRead before o) status stored printed r ]
 command-status (check o) before status stored printed h =
-    elim h [ inl p ↦ subst IsAnswer (sym p.0.status_is) (checked-status p.0.answer) | inr r ↦ refused-status (CheckRead before o) status stored printed r ]
+    elim h [ inl p ↦ subst IsAnswer (sym p.file.judged.status_is) (checked-status p.file.judged.answer) | inr r ↦ refused-status (CheckRead before o) status stored printed r ]
 command-status (measure o) before status stored printed h =
     elim h [ inl p ↦ subst IsAnswer (sym p.0.status_is) (judged-status p.0.verdict) | inr r ↦ refused-status (measured.MeasureRead before o) status stored printed r ]
 command-status (shape o) before status stored printed h =

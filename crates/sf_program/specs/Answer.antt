@@ -24,9 +24,10 @@ IsRefused Read status stored printed = ⊥
 abbrev pub usage_line : List ℕ
 usage_line = codes "error Usage\n"
 
+-- no command but `plan`, `gen` and `check` with `--rewrite` stores anything
 abbrev pub CommandAnswer : Command → Option Contents → Status → List Stored → List ℕ → Type 0
 CommandAnswer (plan o) before status stored printed = IsPlanned o before status stored printed ⊎ IsRefused (PlanRead before o) status stored printed
-CommandAnswer (check o) before status stored printed = (IsChecked o before status printed × (stored ≡ [])) ⊎ IsRefused (CheckRead before o) status stored printed
+CommandAnswer (check o) before status stored printed = IsChecked o before status stored printed ⊎ IsRefused (CheckRead before o) status stored printed
 CommandAnswer (measure o) before status stored printed = (IsMeasured o before status printed × (stored ≡ [])) ⊎ IsRefused (MeasureRead before o) status stored printed
 CommandAnswer (shape o) before status stored printed = (IsShaped o before status printed × (stored ≡ [])) ⊎ IsRefused (ShapeRead before o) status stored printed
 CommandAnswer (gen o) before status stored printed = IsGenerated o status stored printed ⊎ IsRefused (GenRead o) status stored printed

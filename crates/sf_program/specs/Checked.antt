@@ -1,26 +1,28 @@
 -- What the command `check` answers.
-use Rattle.std.specs.Prelude.{◌≡◌, ℕ, List, [], ◌∷◌, ◌++◌, codes, Option, Result, Ok}
+use Rattle.std.specs.Prelude.{◌≡◌, ℕ, List, [], ◌∷◌, ◌++◌, codes, Option, Some, None, Result, Ok, true}
 use Rattle.std.specs.Fmt.{decimal}
 use Rattle.sf_io.specs.Outside.{Contents}
 use Rattle.sf_io.specs.declared.status.Status.{Status}
 use Rattle.sf_io.specs.declared.status.Status.TheVariants as status
 use Rattle.sf_model.specs.declared.design.Design.{Design}
 use Rattle.sf_model.specs.Legal.{block_count}
-use Rattle.sf_standard.specs.Standard.{standard}
+use Rattle.sf_standard.specs.Standard.{standard, part_value}
 use Rattle.sf_certificate.specs.declared.cert.Cert.{Cert}
 use Rattle.sf_certificate.specs.declared.fault.CertFault.{CertFault}
 use Rattle.sf_certificate.specs.declared.fault.CertFault.TheVariants as fault
+use Rattle.sf_certificate.specs.Named.{AllNameFirst, AreAlikeButNames}
 use Rattle.sf_certificate.specs.Reading.{Said, said_by, cert_read}
-use Rattle.sf_certificate.specs.Text.{cost_text}
+use Rattle.sf_certificate.specs.Text.{cert_text, cost_text}
 use Rattle.sf_checker.specs.declared.answer.Why.{Why}
 use Rattle.sf_checker.specs.declared.answer.Why.TheVariants.{BadPlan, CostDiffers, NotClosed, BoundDiffers, BadSplit, BadChildren}
 use Rattle.sf_checker.specs.declared.answer.Answer.{Answer}
 use Rattle.sf_checker.specs.declared.answer.Answer.TheVariants.{Yes, No}
-use Rattle.sf_checker.specs.Answers.{IsAnswer}
+use Rattle.sf_checker.specs.Answers.{IsAnswer, is_yes}
 use Rattle.sf_words.specs.Meaning.{CheckOptions}
 use Rattle.sf_program.specs.Outcome.{Refusal, bad, Then}
 use Rattle.sf_program.specs.Refusals.{line_of, bad_input}
 use Rattle.sf_program.specs.Reading.{TextRead, Judged, DesignRead}
+use Rattle.sf_program.specs.Stores.{Stored}
 
 -- a text that is no certificate; want of memory has no line, and is not met
 abbrev pub cert_refusal : CertFault → Refusal
@@ -38,13 +40,6 @@ CertRead held name blocks = Then (TextRead held name) (λ text. Judged (cert_rea
 -- the design first, and then the certificate for its blocks
 abbrev pub CheckRead : Option Contents → CheckOptions → Result Said Refusal → Type 0
 CheckRead held o = Then (DesignRead held o.design o.weights) (λ design. CertRead held o.cert (block_count design))
-
--- the text under the name says a certificate for the blocks of the design, and this is the checker's answer to it by the
--- standard bound
-pub record AnsweredFile (held : Option Contents) (name : List ℕ) (design : Design) (answer : Answer) : Type 0 where
-  pub cert : Cert
-  pub reads : CertRead held name (block_count design) (Ok (said_by cert))
-  pub answered : IsAnswer design (standard design) cert answer
 
 -- the words for a failure, with `none` for MAX
 abbrev pub why_words : Why → List (List ℕ)
@@ -69,13 +64,44 @@ abbrev pub answer_status : Answer → Status
 answer_status (Yes cost bound decided) = status.Done
 answer_status (No why) = status.No
 
--- the files stand for a design and a certificate, and this is the checker's answer by the standard bound
-pub record IsChecked (o : CheckOptions) (before : Option Contents) (status : Status) (printed : List ℕ) : Type 0 where
-  pub design : Design
-  pub cert : Cert
-  pub design_reads : DesignRead before o.design o.weights (Ok design)
-  pub cert_reads : CertRead before o.cert (block_count design) (Ok (said_by cert))
+-- the same certificate, each closed subproblem naming the first part of the bound that is at least the cost; the checker says Yes to it
+pub record IsRenamed (design : Design) (old new : Cert) : Type 0 where
+  pub alike : AreAlikeButNames old new
+  pub named : AllNameFirst design (part_value design) new.cost new.tags
+  pub accepted : (answer : Answer) → IsAnswer design (standard design) (part_value design) new answer → is_yes answer ≡ true
+
+-- the certificate is stored under the name with its parts named so
+abbrev pub IsStoredAnew : Design → Cert → List ℕ → List Stored → Type 0
+IsStoredAnew design cert name stored = (new : Cert) × IsRenamed design cert new × (stored ≡ (name, cert_text new) ∷ [])
+
+-- what is stored of a certificate with this answer: nothing at No, nor where no name is given
+abbrev pub IsRewritten : Design → Cert → Option (List ℕ) → Answer → List Stored → Type 0
+IsRewritten design cert None answer stored = stored ≡ []
+IsRewritten design cert (Some name) (No why) stored = stored ≡ []
+IsRewritten design cert (Some name) (Yes cost bound decided) stored = IsStoredAnew design cert name stored
+
+-- the checker's answer to a certificate by the standard bound and its parts, and what is stored and printed of it
+pub record IsJudged (design : Design) (cert : Cert) (rewrite : Option (List ℕ)) (status : Status) (stored : List Stored) (printed : List ℕ) : Type 0 where
   pub answer : Answer
-  pub answered : IsAnswer design (standard design) cert answer
+  pub answered : IsAnswer design (standard design) (part_value design) cert answer
   pub status_is : status ≡ answer_status answer
+  pub rewritten : IsRewritten design cert rewrite answer stored
   pub prints : printed ≡ answer_text answer
+
+-- the text says a certificate for the blocks of the design, which is judged
+pub record JudgedText (design : Design) (text : List ℕ) (rewrite : Option (List ℕ)) (status : Status) (stored : List Stored) (printed : List ℕ) : Type 0 where
+  pub cert : Cert
+  pub reads : cert_read (block_count design) text ≡ Ok (said_by cert)
+  pub judged : IsJudged design cert rewrite status stored printed
+
+-- the text under the name does
+pub record JudgedFile (held : Option Contents) (name : List ℕ) (design : Design) (rewrite : Option (List ℕ)) (status : Status) (stored : List Stored) (printed : List ℕ) : Type 0 where
+  pub cert : Cert
+  pub reads : CertRead held name (block_count design) (Ok (said_by cert))
+  pub judged : IsJudged design cert rewrite status stored printed
+
+-- the files stand for a design and a certificate, which is judged
+pub record IsChecked (o : CheckOptions) (before : Option Contents) (status : Status) (stored : List Stored) (printed : List ℕ) : Type 0 where
+  pub design : Design
+  pub reads : DesignRead before o.design o.weights (Ok design)
+  pub file : JudgedFile before o.cert design o.rewrite status stored printed

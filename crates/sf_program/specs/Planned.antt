@@ -14,9 +14,10 @@ use Rattle.sf_polish.specs.declared.expr.Expr.{Expr}
 use Rattle.sf_polish.specs.Postfix.{Spells}
 use Rattle.sf_place.specs.Spots.{by_number}
 use Rattle.sf_node.specs.Full.{full}
-use Rattle.sf_standard.specs.Standard.{standard}
+use Rattle.sf_standard.specs.Standard.{standard, part_value}
 use Rattle.sf_search_core.specs.Outcome.{opening}
 use Rattle.sf_certificate.specs.declared.cert.Cert.{Cert}
+use Rattle.sf_certificate.specs.Named.{AllNameFirst}
 use Rattle.sf_certificate.specs.Valid.{IsValid, decided}
 use Rattle.sf_certificate.specs.Text.{cert_text}
 use Rattle.sf_checker.specs.declared.answer.Answer.{Answer}
@@ -91,9 +92,10 @@ IsTold design scale name pl said cert (Some expr) stored printed =
     × (stored ≡ (name, cert_text cert) ∷ placed design scale pl spots)
     × (printed ≡ report_text (record { word = said; cost = cert.cost; bound = cert.bound; decided = decided cert.tags; size = (w, h); area = w * h; wire = wires; plan = Some expr }))
 
--- the certificate of a search of the design by so many workers with this budget: valid by the standard bound, and with one worker found by the turns of the search core
+-- the certificate of a search of the design by so many workers with this budget: valid by the standard bound and its parts, each closed subproblem naming the first part that is at least the cost, and with one worker found by the turns of the search core
 pub record IsSearched (design : Design) (workers budget : ℕ) (cert : Cert) : Type 0 where
-  pub valid : IsValid design (standard design) cert
+  pub valid : IsValid design (standard design) (part_value design) cert
+  pub named : AllNameFirst design (part_value design) cert.cost cert.tags
   pub blocks : cert.blocks ≡ block_count design
   pub few : decided cert.tags ≤ budget
   pub spent : cert.bound < cert.cost → decided cert.tags ≡ budget
@@ -106,7 +108,7 @@ pub record IsAnswered (design : Design) (workers budget scale : ℕ) (cert_name 
   pub searched : IsSearched design workers budget cert
   -- no floorplan that fits costs less than the bound, and the checker says Yes to the certificate
   pub floor : IsFloor design cert.bound
-  pub accepted : (answer : Answer) → IsAnswer design (standard design) cert answer → is_yes answer ≡ true
+  pub accepted : (answer : Answer) → IsAnswer design (standard design) (part_value design) cert answer → is_yes answer ≡ true
   pub said : Outcome
   pub ending : IsEnding cert.cost cert.bound said
   pub status_is : status ≡ status_of said

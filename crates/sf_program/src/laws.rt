@@ -14,11 +14,13 @@ ghost use Rattle.sf_program.specs.Planned.{PlanRead};
 ghost use Rattle.sf_program.specs.Reading.{BlocksRead, DesignRead, GsrcRead, PartsRead};
 ghost use Rattle.sf_program.specs.Weighed.{WeighedParts};
 
+use sf_certificate::{first_parts_are_one, full_parts_close};
 use sf_curves::laws::traces_are_one;
 use sf_model::laws::designs_are_determined;
 use sf_place::verdicts_are_one;
 use sf_rounds::laws::certificates_are_one;
 use sf_soft_shapes::lists_are_determined;
+use sf_standard::laws::parts_are_below;
 
 /// On a shelf that tells what it holds, the named files stand for at most one design, or are refused for at most one
 /// reason, and never both; a file is lost beside that only where any load may fail. The design has a block for each block that the files name, under its name and in their order.
@@ -50,6 +52,9 @@ pub fn answers_are_one()
     verdicts_are_one();
     traces_are_one();
     certificates_are_one();
+    parts_are_below();
+    full_parts_close();
+    first_parts_are_one();
 }
 
 /// On a shelf that tells what it holds, words whose texts every stage takes are answered by the command's own statuses,

@@ -6,6 +6,7 @@
 //! failed it is said what was stored and printed.
 #![tactic(auto)]
 
+mod answering;
 mod budget;
 mod checking;
 mod generating;
@@ -18,6 +19,7 @@ mod planning;
 mod program;
 mod reading;
 mod refusals;
+mod rewriting;
 mod shaping;
 mod spotting;
 mod stop;

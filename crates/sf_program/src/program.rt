@@ -67,7 +67,9 @@ pub fn run<R: Threads + Sync, S: Shelf, K: Sink, G: Gate>(
     ensures headline { HasSearched result → (o : PlanOptions) → Means (map string_bytes words.now) (plan o) → IsHeadline (PlanRead (S.holds shelf.old) o) o.nodes (K.taken out.old) (K.taken out.new) result }
     ensures generated { HasSearched result → (o : GenOptions) → Means (map string_bytes words.now) (gen o) → IsHeadline (GenRead o) o.nodes (K.taken out.old) (K.taken out.new) result }
 
-    // Where nothing fails, the answer that the words and the texts on the shelf have is stored and printed whole.
+    // Where nothing fails, the answer that the words and the texts on the shelf have is stored and printed whole. The checker
+    // says Yes to each certificate that is stored, and each closed subproblem of it names the first part of the bound that is
+    // at least the cost.
     ensures answer { IsAnswer result → IsDone (map string_bytes words.now) (S.holds shelf.old) (S.holds shelf.new) (K.taken out.old) (K.taken out.new) result }
 
     // A fault of reading or of writing is told only where one was counted.

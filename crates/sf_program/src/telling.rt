@@ -89,7 +89,7 @@ fn store_of(alloc: Global, name: &str, bytes: Vec<u8>) -> Result<Store, NoMemory
 }
 
 /// The certificate's store alone.
-fn stored_cert(alloc: Global, cert: &Cert, name: &str) -> Result<Vec<Store>, NoMemory>
+pub fn stored_cert(alloc: Global, cert: &Cert, name: &str) -> Result<Vec<Store>, NoMemory>
     ensures { IfOk result (λ all. stored_in all.items ≡ (name.now, cert_text cert.now) ∷ []) }
 {
     let text = write(alloc, cert)?;

@@ -9,6 +9,7 @@ mod many;
 mod measuring;
 mod planning;
 mod reading;
+mod rewriting;
 mod shaping;
 mod texts;
 mod weights;
@@ -26,13 +27,14 @@ use std::thread::Threads;
 type Text = (&'static str, &'static [u8]);
 
 /// All names that the rows of the tables use.
-const NAMES: [&str; 8] = [
+const NAMES: [&str; 9] = [
     "a.blocks",
     "a.nets",
     "a.pl",
     "a.yal",
     "a.weights",
     "a.cert",
+    "b.cert",
     "a.out",
     "a.expr",
 ];

@@ -13,6 +13,13 @@ pub struct Store {
     pub bytes: Vec<u8>,
 }
 
+/// Nothing to store.
+pub fn no_stores(alloc: Global) -> Vec<Store>
+    ensures { stored_in result.items ≡ [] }
+{
+    Vec::new(alloc)
+}
+
 /// The answer of a command, before anything of it is stored or printed.
 #[derive(Drop)]
 pub struct Work {
@@ -30,7 +37,7 @@ impl Work {
     {
         Work {
             status,
-            stores: Vec::new(alloc),
+            stores: no_stores(alloc),
             text,
         }
     }

@@ -4,7 +4,7 @@ use Rattle.std.specs.Str.{bytes_eq}
 use Rattle.clap.specs.Lexer.{long_of}
 use Rattle.clap.proofs.OnLiterals.{clap_on_literals}
 use Rattle.sf_words.specs.declared.options.Key.{Key}
-use Rattle.sf_words.specs.declared.options.Key.TheVariants.{Format, Blocks, Nets, Pl, Yal, PerUnit, Fixed, Shapes, Outline, AreaWeight, WireWeight, NetWeights, Cert, PlOut, Workers, Nodes, Placed, Expr, Seed, Count, Kinds, Out}
+use Rattle.sf_words.specs.declared.options.Key.TheVariants.{Format, Blocks, Nets, Pl, Yal, PerUnit, Fixed, Shapes, Outline, AreaWeight, WireWeight, NetWeights, Cert, PlOut, Rewrite, Workers, Nodes, Placed, Expr, Seed, Count, Kinds, Out}
 use Rattle.sf_words.specs.Table.{Text, key_text}
 
 pub long_attached : (key : Key) (v : Text) → long_of (45 ∷ 45 ∷ (key_text key ++ 61 ∷ v)) ≡ Some (key_text key, Some v)
@@ -23,6 +23,7 @@ long_attached WireWeight v = refl
 long_attached NetWeights v = refl
 long_attached Cert v = refl
 long_attached PlOut v = refl
+long_attached Rewrite v = refl
 long_attached Workers v = refl
 long_attached Nodes v = refl
 long_attached Placed v = refl
@@ -48,6 +49,7 @@ attached_some WireWeight v = refl
 attached_some NetWeights v = refl
 attached_some Cert v = refl
 attached_some PlOut v = refl
+attached_some Rewrite v = refl
 attached_some Workers v = refl
 attached_some Nodes v = refl
 attached_some Placed v = refl
@@ -73,6 +75,7 @@ long_alone WireWeight = refl
 long_alone NetWeights = refl
 long_alone Cert = refl
 long_alone PlOut = refl
+long_alone Rewrite = refl
 long_alone Workers = refl
 long_alone Nodes = refl
 long_alone Placed = refl
@@ -98,6 +101,7 @@ alone_some WireWeight = refl
 alone_some NetWeights = refl
 alone_some Cert = refl
 alone_some PlOut = refl
+alone_some Rewrite = refl
 alone_some Workers = refl
 alone_some Nodes = refl
 alone_some Placed = refl

@@ -4,13 +4,13 @@ use Rattle.std.specs.List.{list_all}
 use Rattle.std.specs.Str.{bytes_eq}
 use Rattle.std.proofs.lemmas.List.{append-nil}
 use Rattle.sf_words.specs.declared.options.Key.{Key}
-use Rattle.sf_words.specs.declared.options.Key.TheVariants.{Format, Blocks, Nets, Pl, Yal, PerUnit, Fixed, Shapes, Outline, AreaWeight, WireWeight, NetWeights, Cert, PlOut, Workers, Nodes, Placed, Expr, Seed, Count, Kinds, Out}
+use Rattle.sf_words.specs.declared.options.Key.TheVariants.{Format, Blocks, Nets, Pl, Yal, PerUnit, Fixed, Shapes, Outline, AreaWeight, WireWeight, NetWeights, Cert, PlOut, Rewrite, Workers, Nodes, Placed, Expr, Seed, Count, Kinds, Out}
 use Rattle.sf_words.specs.declared.options.Mode.{Mode}
 use Rattle.sf_words.specs.declared.options.Mode.TheVariants.{Plan, Check, Measure, Shape, Gen}
 use Rattle.sf_words.specs.Table.{Text, key_text, mode_text}
 
 abbrev pub all_keys : List Key
-all_keys = Format ∷ Blocks ∷ Nets ∷ Pl ∷ Yal ∷ PerUnit ∷ Fixed ∷ Shapes ∷ Outline ∷ AreaWeight ∷ WireWeight ∷ NetWeights ∷ Cert ∷ PlOut ∷ Workers ∷ Nodes ∷ Placed ∷ Expr ∷ Seed ∷ Count ∷ Kinds ∷ Out ∷ []
+all_keys = Format ∷ Blocks ∷ Nets ∷ Pl ∷ Yal ∷ PerUnit ∷ Fixed ∷ Shapes ∷ Outline ∷ AreaWeight ∷ WireWeight ∷ NetWeights ∷ Cert ∷ PlOut ∷ Rewrite ∷ Workers ∷ Nodes ∷ Placed ∷ Expr ∷ Seed ∷ Count ∷ Kinds ∷ Out ∷ []
 
 abbrev pub first_named : List Key → Text → Option Key
 first_named [] text = None
@@ -32,6 +32,7 @@ named WireWeight = refl
 named NetWeights = refl
 named Cert = refl
 named PlOut = refl
+named Rewrite = refl
 named Workers = refl
 named Nodes = refl
 named Placed = refl
@@ -84,6 +85,7 @@ key_text-inner WireWeight = refl
 key_text-inner NetWeights = refl
 key_text-inner Cert = refl
 key_text-inner PlOut = refl
+key_text-inner Rewrite = refl
 key_text-inner Workers = refl
 key_text-inner Nodes = refl
 key_text-inner Placed = refl

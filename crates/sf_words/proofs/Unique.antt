@@ -80,7 +80,8 @@ check_unique v a b g h =
     let design = design_unique v _ _ g.design h.design in
     let weights = weights_unique v _ _ g.weights h.weights in
     let cert = texts_same _ _ _ g.cert h.cert in
-    λ i. record { design = design i; weights = weights i; cert = cert i }
+    let rewrite = sym g.rewrite ∙ h.rewrite in
+    λ i. record { design = design i; weights = weights i; cert = cert i; rewrite = rewrite i }
 
 measure_unique : (v : Values) (a b : MeasureOptions) → MeasureSays v a → MeasureSays v b → a ≡ b
 measure_unique v a b g h =

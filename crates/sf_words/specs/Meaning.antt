@@ -4,7 +4,7 @@ use Rattle.std.specs.Str.{bytes_eq}
 use Rattle.sf_words.specs.declared.options.Mode.{Mode}
 use Rattle.sf_words.specs.declared.options.Mode.TheVariants.{Plan, Check, Measure, Shape, Gen}
 use Rattle.sf_words.specs.declared.options.Key.{Key}
-use Rattle.sf_words.specs.declared.options.Key.TheVariants.{Format, Blocks, Nets, Pl, Yal, PerUnit, Fixed, Shapes, Outline, AreaWeight, WireWeight, NetWeights, Cert, PlOut, Workers, Nodes, Placed, Expr, Seed, Count, Kinds as KindsKey, Out}
+use Rattle.sf_words.specs.declared.options.Key.TheVariants.{Format, Blocks, Nets, Pl, Yal, PerUnit, Fixed, Shapes, Outline, AreaWeight, WireWeight, NetWeights, Cert, PlOut, Rewrite, Workers, Nodes, Placed, Expr, Seed, Count, Kinds as KindsKey, Out}
 use Rattle.sf_words.specs.Table.{Text, key_text}
 use Rattle.sf_words.specs.Words.{Token, key_of, value_of, HasForm}
 use Rattle.sf_words.specs.Numbers.{SaysNumber, SaysOptional}
@@ -83,11 +83,13 @@ pub record CheckOptions : Type 0 where
   pub design : DesignOptions
   pub weights : WeightOptions
   pub cert : Text
+  pub rewrite : Option Text
 
 pub record CheckSays (v : Values) (o : CheckOptions) : Type 0 where
   pub design : DesignSays v o.design
   pub weights : WeightsSay v o.weights
   pub cert : v Cert ≡ Some o.cert
+  pub rewrite : v Rewrite ≡ o.rewrite
 
 -- the options of `measure`
 pub record MeasureOptions : Type 0 where

@@ -40,7 +40,7 @@ abbrev pub plan_seen : PlanWords → PlanOptions
 plan_seen o = record { design = design_seen o.design; weights = weights_seen o.weights; cert = o.cert.now; pl_out = text_of o.pl_out; workers = o.workers; nodes = o.nodes }
 
 abbrev pub check_seen : CheckWords → CheckOptions
-check_seen o = record { design = design_seen o.design; weights = weights_seen o.weights; cert = o.cert.now }
+check_seen o = record { design = design_seen o.design; weights = weights_seen o.weights; cert = o.cert.now; rewrite = text_of o.rewrite }
 
 abbrev pub measure_seen : MeasureWords → MeasureOptions
 measure_seen o = record { design = design_seen o.design; weights = weights_seen o.weights; placed = o.placed.now }

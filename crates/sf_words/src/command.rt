@@ -76,6 +76,8 @@ pub struct CheckWords<'a> {
     pub weights: WeightWords<'a>,
     /// The file of the certificate that is checked.
     pub cert: &'a str,
+    /// The file that the certificate is stored in anew where it is valid.
+    pub rewrite: Option<&'a str>,
 }
 
 /// The options of `measure`.

@@ -143,6 +143,7 @@ fn read_check<'a, T: OptionTexts<'a>>(texts: &T) -> Option<CheckWords<'a>>
         design: read_design(texts)?,
         weights: read_weights(texts)?,
         cert: texts.text(Key::Cert)?,
+        rewrite: texts.text(Key::Rewrite),
     })
 }
 

@@ -31,6 +31,7 @@ pub enum Key {
     NetWeights,
     Cert,
     PlOut,
+    Rewrite,
     Workers,
     Nodes,
     Placed,
@@ -108,6 +109,7 @@ impl Mode {
                 Key::WireWeight,
                 Key::NetWeights,
                 Key::Cert,
+                Key::Rewrite,
             ],
             Mode::Measure => &[
                 Key::Format,
@@ -162,6 +164,7 @@ impl Key {
             Key::NetWeights => "net-weights",
             Key::Cert => "cert",
             Key::PlOut => "pl-out",
+            Key::Rewrite => "rewrite",
             Key::Workers => "workers",
             Key::Nodes => "nodes",
             Key::Placed => "placed",

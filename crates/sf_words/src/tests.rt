@@ -55,6 +55,7 @@ const REFUSED: &str = "--outline 1048577x1
 --pl-out=
 --cert d
 --placed p
+--rewrite r
 --net-weights
 --net-weights=
 --net-weights -w
@@ -81,8 +82,16 @@ plan --cert d --blocks a
 plan --cert d --format gsrc
 plan --cert d --format yal --blocks a
 plan --cert d --format GSRC --blocks a
+check --rewrite r --format gsrc --blocks a
+check --cert d --format gsrc --blocks a --rewrite
+check --cert d --format gsrc --blocks a --rewrite=
+check --cert d --format gsrc --blocks a --rewrite -r
+check --cert d --format gsrc --blocks a --rewrite r --rewrite r
+measure --placed p --format gsrc --blocks a --rewrite r
+shape --format gsrc --blocks a --expr e --rewrite r
 shape --format gsrc --blocks a --expr e --net-weights w
 gen --seed 7 --count 4 --out g --net-weights w
+gen --seed 7 --count 4 --out g --rewrite r
 gen --seed 7 --seed 7 --count 4 --out g
 gen --seed 7 --count 321 --out g
 gen --seed 18446744073709551616 --count 4 --out g
@@ -128,8 +137,8 @@ fn all_options(rt: HostRuntime) -> Result<(), Fail> {
     let rows = [
         ["plan", GSRC, DESIGN, WEIGHTS, search],
         ["plan", YAL, DESIGN, WEIGHTS, search],
-        ["check", GSRC, DESIGN, WEIGHTS, "--cert d"],
-        ["check", YAL, DESIGN, WEIGHTS, "--cert d"],
+        ["check", GSRC, DESIGN, WEIGHTS, "--cert d --rewrite e"],
+        ["check", YAL, DESIGN, WEIGHTS, "--cert d --rewrite e"],
         ["measure", GSRC, DESIGN, WEIGHTS, "--placed d"],
         ["measure", YAL, DESIGN, WEIGHTS, "--placed d"],
         ["shape", GSRC, DESIGN, "", "--expr d"],
@@ -193,6 +202,14 @@ fn values(rt: HostRuntime) -> Result<(), Fail> {
         return Err("measure".into());
     };
     assert!(rt; read.weights.net_weights == Some("w"));
+
+    for (more, rewrite) in [("", None), ("--rewrite=x=y", Some("x=y"))] {
+        let words = spaced(alloc, &["check --cert c", more, YAL])?;
+        let Some(CommandWords::Check(read)) = read_words(alloc, &words)? else {
+            return Err("check".into());
+        };
+        assert!(rt; read.cert == "c" && read.rewrite == rewrite, "{more}");
+    }
     Ok(())
 }
 

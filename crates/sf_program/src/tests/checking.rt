@@ -1,8 +1,8 @@
 //! Certificates and what is said of them.
 
 use super::texts::{
-    CELL_BLOCKS, CELL_NETS, CELL_PADS, CELLS, EQUALS, FAR_PAD, FIVE, JOINED, NOWHERE, ONE, PADDED,
-    SOFT, SQUARES, TO_PAD, TWO, TWO_CERT,
+    CELL_BLOCKS, CELL_NETS, CELL_PADS, CELLS, EQUALS, FAR_PAD, FIVE, JOINED, JOINED_CERT, NOWHERE,
+    ONE, PADDED, SOFT, SQUARES, TO_PAD, TWO, TWO_CERT, TWO_UNNAMED,
 };
 use super::{GIVEN, Printed, Row, Text, answer, assert_rows, has_line, shelf_of, words_of};
 use sf_io::Status;
@@ -51,6 +51,13 @@ const LONGER: &[u8] =
 const STRANGE_TAG: &[u8] =
     b"slicing-certificate 1\nblocks 2\ncost 12\nbound 12\nplan 0:2x3 1:2x3 *\ntree\nX\nE\nE\nC\nC\nC\n";
 
+/// The area of two squares of side 2 is 8, and not the cost.
+const BY_AREA: &[u8] =
+    b"slicing-certificate 2\nblocks 2\ncost 12\nbound 12\nplan 0:2x2 1:2x2 *\ntree\nE\nE\nE\nC a\nC p\nC p\n";
+
+const STRANGE_PART: &[u8] =
+    b"slicing-certificate 2\nblocks 1\ncost 12\nbound 12\nplan 0:3x4\ntree\nE\nC x\n";
+
 const NO_COST: &[u8] =
     b"slicing-certificate 1\nblocks 1\ncost 18446744073709551615\nbound 12\nplan 0:3x4\ntree\nE\nC\n";
 
@@ -58,8 +65,35 @@ const NO_COST: &[u8] =
 const JUDGED: &[Row] = &[
     Row {
         options: "--fixed",
+        files: &[("a.blocks", TWO), ("a.cert", TWO_UNNAMED)],
+        printed: Printed::Whole("status Yes\ncost 15\nbound 15\ndecided 9\n"),
+        ..CHECK
+    },
+    Row {
+        options: "--fixed",
         files: &[("a.blocks", TWO), ("a.cert", TWO_CERT)],
         printed: Printed::Whole("status Yes\ncost 15\nbound 15\ndecided 9\n"),
+        ..CHECK
+    },
+    Row {
+        options: "--nets a.nets --wire-weight 1",
+        files: &[
+            ("a.blocks", SQUARES),
+            ("a.nets", JOINED),
+            ("a.cert", JOINED_CERT),
+        ],
+        printed: Printed::Whole("status Yes\ncost 12\nbound 12\ndecided 6\n"),
+        ..CHECK
+    },
+    Row {
+        options: "--nets a.nets --wire-weight 1",
+        files: &[
+            ("a.blocks", SQUARES),
+            ("a.nets", JOINED),
+            ("a.cert", BY_AREA),
+        ],
+        status: Status::No,
+        printed: Printed::Whole("status No NotClosed 3 8 12\n"),
         ..CHECK
     },
     Row {
@@ -121,6 +155,12 @@ const UNREADABLE: &[Row] = &[
         files: &[("a.blocks", EQUALS), ("a.cert", STRANGE_TAG)],
         status: Status::BadInput,
         printed: Printed::Whole("error BadInput cert 7 BadTag\n"),
+        ..CHECK
+    },
+    Row {
+        files: &[("a.blocks", ONE), ("a.cert", STRANGE_PART)],
+        status: Status::BadInput,
+        printed: Printed::Whole("error BadInput cert 8 BadTag\n"),
         ..CHECK
     },
     Row {

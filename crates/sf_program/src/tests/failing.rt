@@ -33,8 +33,16 @@ const ALL_FILES: Row = Row {
     ..GIVEN
 };
 
+/// Two loads, for the blocks and the certificate, then a store.
+const REWRITE: Row = Row {
+    command: "check --format gsrc --blocks a.blocks --cert a.cert",
+    options: "--rewrite b.cert",
+    files: &[("a.blocks", ONE), ("a.cert", ONE_CERT)],
+    ..GIVEN
+};
+
 const PADDED_CERT: &[u8] =
-    b"slicing-certificate 1\nblocks 1\ncost 24\nbound 24\nplan 0:2x2\ntree\nE\nC\n";
+    b"slicing-certificate 2\nblocks 1\ncost 24\nbound 24\nplan 0:2x2\ntree\nE\nC h\n";
 
 const PADDED_PLACES: &[u8] = b"UCLA pl 1.0\nb0 0 0 DIMS = (2, 2) : N\np0 10 0\n";
 
@@ -115,6 +123,31 @@ const CASES: &[Case] = &[
             ..ALL_FILES
         },
     },
+    Case {
+        call: 2,
+        put: 0,
+        row: Row {
+            status: Status::ReadFault,
+            ..REWRITE
+        },
+    },
+    Case {
+        call: 3,
+        put: 0,
+        row: Row {
+            status: Status::WriteFault,
+            ..REWRITE
+        },
+    },
+    Case {
+        call: 0,
+        put: 1,
+        row: Row {
+            status: Status::WriteFault,
+            stored: &[("b.cert", ONE_CERT)],
+            ..REWRITE
+        },
+    },
 ];
 
 #[test]
@@ -144,7 +177,7 @@ const PARTS: &[Part] = &[
         room: 1000,
         row: Row {
             status: Status::WriteFault,
-            stored: &[("a.cert", b"slicing-certificate 1\nblocks 1\ncos")],
+            stored: &[("a.cert", b"slicing-certificate 2\nblocks 1\ncost")],
             ..ALL_FILES
         },
     },
@@ -188,6 +221,25 @@ const PARTS: &[Part] = &[
             status: Status::WriteFault,
             printed: Printed::Whole("status "),
             ..GIVEN
+        },
+    },
+    Part {
+        whole: 0,
+        room: 1000,
+        row: Row {
+            status: Status::WriteFault,
+            stored: &[("b.cert", b"slicing-certificate 2\nblocks 1\ncost")],
+            ..REWRITE
+        },
+    },
+    Part {
+        whole: 1,
+        room: 7,
+        row: Row {
+            status: Status::WriteFault,
+            printed: Printed::Whole("status "),
+            stored: &[("b.cert", ONE_CERT)],
+            ..REWRITE
         },
     },
     Part {

@@ -74,11 +74,11 @@ fn a_chain(rt: HostRuntime) -> Result<(), Fail> {
     assert_eq!(rt; printed.as_str(), wanted.as_str());
     let cert = str::from_utf8(shelf.bytes("a.cert").unwrap_or(b""))?;
     let head = format!(in alloc;
-        "slicing-certificate 1\nblocks 320\ncost 32000\nbound 32000\nplan {chain}\ntree\n"
+        "slicing-certificate 2\nblocks 320\ncost 32000\nbound 32000\nplan {chain}\ntree\n"
     )?;
     assert!(rt; cert.starts_with(head.as_str()));
     assert_eq!(rt; count_lines(cert, "E"), 639);
-    assert_eq!(rt; count_lines(cert, "C"), 1287);
+    assert_eq!(rt; count_lines(cert, "C a"), 1287);
     assert_eq!(rt; count_lines(cert, "O"), 100_794);
     assert_eq!(rt; cert.lines().count(), 6 + 639 + 1287 + 100_794);
     Ok(())

@@ -1,8 +1,8 @@
 //! Plans: what is found, at what cost, and which certificate and which placement are stored.
 
 use super::texts::{
-    EQUALS, FAR_PAD, FIVE, JOINED, NOWHERE, ONE, ONE_CERT, ONE_LINES, PADDED, SOFT, SQUARES,
-    TO_PAD, TWO, TWO_CERT, TWO_PLACES,
+    EQUALS, FAR_PAD, FIVE, JOINED, JOINED_CERT, NOWHERE, ONE, ONE_CERT, ONE_LINES, PADDED, SOFT,
+    SQUARES, TO_PAD, TWO, TWO_CERT, TWO_PLACES,
 };
 use super::{GIVEN, Printed, Row, assert_rows};
 use sf_io::Status;
@@ -55,34 +55,31 @@ b0 hardrectilinear 4 (0, 0) (0, 4) (2.5, 4) (2.5, 0)
 ";
 
 const HUGE_CERT: &[u8] =
-    b"slicing-certificate 1\nblocks 1\ncost 1099511627776\nbound 1099511627776\nplan 0:1048576x1048576\ntree\nE\nC\n";
+    b"slicing-certificate 2\nblocks 1\ncost 1099511627776\nbound 1099511627776\nplan 0:1048576x1048576\ntree\nE\nC a\n";
 
 const ONE_NONE_CERT: &[u8] =
-    b"slicing-certificate 1\nblocks 1\ncost none\nbound none\nplan none\ntree\nC\n";
+    b"slicing-certificate 2\nblocks 1\ncost none\nbound none\nplan none\ntree\nC a\n";
 
 const PAIR_NONE_CERT: &[u8] =
-    b"slicing-certificate 1\nblocks 2\ncost none\nbound none\nplan none\ntree\nC\n";
+    b"slicing-certificate 2\nblocks 2\ncost none\nbound none\nplan none\ntree\nC a\n";
 
 const EQUALS_CERT: &[u8] =
-    b"slicing-certificate 1\nblocks 2\ncost 12\nbound 12\nplan 0:2x3 1:2x3 *\ntree\nE\nE\nE\nC\nC\nC\n";
+    b"slicing-certificate 2\nblocks 2\ncost 12\nbound 12\nplan 0:2x3 1:2x3 *\ntree\nE\nE\nE\nC a\nC a\nC a\n";
 
 const LAST_OPEN_CERT: &[u8] =
-    b"slicing-certificate 1\nblocks 2\ncost 12\nbound 12\nplan 0:2x3 1:2x3 *\ntree\nE\nE\nE\nC\nC\nO\n";
+    b"slicing-certificate 2\nblocks 2\ncost 12\nbound 12\nplan 0:2x3 1:2x3 *\ntree\nE\nE\nE\nC a\nC a\nO\n";
 
 const FIRST_CERT: &[u8] =
-    b"slicing-certificate 1\nblocks 2\ncost none\nbound 12\nplan none\ntree\nE\nO\nO\n";
+    b"slicing-certificate 2\nblocks 2\ncost none\nbound 12\nplan none\ntree\nE\nO\nO\n";
 
 const THIRD_CERT: &[u8] =
-    b"slicing-certificate 1\nblocks 2\ncost none\nbound 12\nplan none\ntree\nE\nE\nE\nO\nO\nO\n";
-
-const JOINED_CERT: &[u8] =
-    b"slicing-certificate 1\nblocks 2\ncost 12\nbound 12\nplan 0:2x2 1:2x2 *\ntree\nE\nE\nE\nC\nC\nC\n";
+    b"slicing-certificate 2\nblocks 2\ncost none\nbound 12\nplan none\ntree\nE\nE\nE\nO\nO\nO\n";
 
 const PADDED_CERT: &[u8] =
-    b"slicing-certificate 1\nblocks 1\ncost 24\nbound 24\nplan 0:2x2\ntree\nE\nC\n";
+    b"slicing-certificate 2\nblocks 1\ncost 24\nbound 24\nplan 0:2x2\ntree\nE\nC h\n";
 
 const SOFT_CERT: &[u8] =
-    b"slicing-certificate 1\nblocks 1\ncost 196\nbound 196\nplan 0:3x2\ntree\nE\nS 0\nC\nS 0\nC\nC\n";
+    b"slicing-certificate 2\nblocks 1\ncost 196\nbound 196\nplan 0:3x2\ntree\nE\nS 0\nC h\nS 0\nC h\nC h\n";
 
 const EQUALS_LINES: &str =
     "status Optimal\ncost 12\nbound 12\ndecided 6\nsize 4 3\narea 12\nwire 0\nplan 0:2x3 1:2x3 *\n";

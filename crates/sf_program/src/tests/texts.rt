@@ -134,7 +134,7 @@ pub const CELL_LINES: &str =
 
 /// The certificate of this plan.
 pub const CELL_CERT: &[u8] =
-    b"slicing-certificate 1\nblocks 2\ncost 32\nbound 32\nplan 0:2x2 1:2x2 *\ntree\nE\nE\nE\nC\nC\nE\nE\nC\nC\n";
+    b"slicing-certificate 2\nblocks 2\ncost 32\nbound 32\nplan 0:2x2 1:2x2 *\ntree\nE\nE\nE\nC h\nC h\nE\nE\nC h\nC h\n";
 
 /// The placement of this plan.
 pub const CELL_PLACES: &[u8] =
@@ -146,11 +146,19 @@ pub const ONE_LINES: &str =
 
 /// Its certificate.
 pub const ONE_CERT: &[u8] =
-    b"slicing-certificate 1\nblocks 1\ncost 12\nbound 12\nplan 0:3x4\ntree\nE\nC\n";
+    b"slicing-certificate 2\nblocks 1\ncost 12\nbound 12\nplan 0:3x4\ntree\nE\nC a\n";
 
 /// The certificate of the blocks 2x3 and 3x2.
 pub const TWO_CERT: &[u8] =
+    b"slicing-certificate 2\nblocks 2\ncost 15\nbound 15\nplan 0:2x3 1:3x2 *\ntree\nE\nE\nE\nC a\nC a\nE\nE\nC a\nC a\n";
+
+/// The same as a text of the first version, which names no parts.
+pub const TWO_UNNAMED: &[u8] =
     b"slicing-certificate 1\nblocks 2\ncost 15\nbound 15\nplan 0:2x3 1:3x2 *\ntree\nE\nE\nE\nC\nC\nE\nE\nC\nC\n";
+
+/// The certificate of two squares of side 2 and a net of both, with wire weight 1.
+pub const JOINED_CERT: &[u8] =
+    b"slicing-certificate 2\nblocks 2\ncost 12\nbound 12\nplan 0:2x2 1:2x2 *\ntree\nE\nE\nE\nC p\nC p\nC p\n";
 
 /// Their placement.
 pub const TWO_PLACES: &[u8] = b"UCLA pl 1.0\nb0 0 0 DIMS = (2, 3) : N\nb1 2 0 DIMS = (3, 2) : N\n";

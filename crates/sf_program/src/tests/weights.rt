@@ -1,6 +1,6 @@
 //! Weights of nets: what a weighted design costs, and texts of weights that are refused.
 
-use super::texts::{CELL_PLACES, CELLS, JOINED, NOWHERE, SQUARES};
+use super::texts::{CELL_PLACES, CELLS, JOINED, JOINED_CERT, NOWHERE, SQUARES};
 use super::{GIVEN, Printed, Row, Text, assert_rows};
 use sf_io::Status;
 use std::test::Fail;
@@ -20,13 +20,10 @@ const MEASURE: Row = Row {
 const TRIPLE: &[u8] = b"0 3\n";
 
 const TRIPLE_CERT: &[u8] =
-    b"slicing-certificate 1\nblocks 2\ncost 20\nbound 20\nplan 0:2x2 1:2x2 *\ntree\nE\nE\nE\nC\nC\nC\n";
+    b"slicing-certificate 2\nblocks 2\ncost 20\nbound 20\nplan 0:2x2 1:2x2 *\ntree\nE\nE\nE\nC p\nC p\nC p\n";
 
 const ZERO_CERT: &[u8] =
-    b"slicing-certificate 1\nblocks 2\ncost 8\nbound 8\nplan 0:2x2 1:2x2 *\ntree\nE\nE\nE\nC\nC\nC\n";
-
-const ONE_CERT: &[u8] =
-    b"slicing-certificate 1\nblocks 2\ncost 12\nbound 12\nplan 0:2x2 1:2x2 *\ntree\nE\nE\nE\nC\nC\nC\n";
+    b"slicing-certificate 2\nblocks 2\ncost 8\nbound 8\nplan 0:2x2 1:2x2 *\ntree\nE\nE\nE\nC a\nC a\nC a\n";
 
 const TRIPLE_FILES: &[Text] = &[
     ("a.blocks", SQUARES),
@@ -79,7 +76,7 @@ const WEIGHTED: &[Row] = &[
         printed: Printed::Whole(
             "status Optimal\ncost 12\nbound 12\ndecided 6\nsize 4 2\narea 8\nwire 4\nplan 0:2x2 1:2x2 *\n",
         ),
-        stored: &[("a.cert", ONE_CERT)],
+        stored: &[("a.cert", JOINED_CERT)],
         ..PLAN
     },
     Row {

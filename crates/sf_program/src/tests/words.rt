@@ -18,6 +18,8 @@ plan --format gsrc --blocks a.blocks --cert a.cert --shapes 257
 plan --format gsrc --blocks a.blocks --cert a.cert --outline 1048577x1
 shape --format gsrc --blocks a.blocks --expr a.expr --net-weights a.weights
 gen --seed 7 --count 4 --out g --net-weights a.weights
+plan --format gsrc --blocks a.blocks --cert a.cert --rewrite b.cert
+check --format gsrc --blocks a.blocks --cert a.cert --rewrite
 gen --seed 7 --seed 7 --count 4 --out g
 gen --seed 7 --count 321 --out g
 gen --help";
@@ -64,8 +66,9 @@ const PLAN: Row = Row {
 };
 
 const CHECK: Row = Row {
-    options: "--per-unit 1 --fixed --shapes 16 --outline 1048576x1048576 --area-weight 1 --wire-weight 1 --net-weights a.weights --cert a.cert",
+    options: "--per-unit 1 --fixed --shapes 16 --outline 1048576x1048576 --area-weight 1 --wire-weight 1 --net-weights a.weights --cert a.cert --rewrite b.cert",
     printed: Printed::Whole("status Yes\ncost 32\nbound 32\ndecided 9\n"),
+    stored: &[("b.cert", CELL_CERT)],
     ..GIVEN
 };
 

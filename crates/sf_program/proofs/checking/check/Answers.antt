@@ -1,34 +1,24 @@
-use Rattle.std.proofs.Common.{inl, Ok, Err, subst}
-use Rattle.std.proofs.lemmas.Result.{err_from_is_err_and}
+use Rattle.std.proofs.Common.{◌≡◌, Option, Err, IfOk, subst}
+use Rattle.std.specs.Prelude.{IfErr}
+use Rattle.sf_io.specs.Outside.{Contents}
 use Rattle.sf_model.specs.Legal.{block_count}
-use Rattle.sf_certificate.specs.Reading.{said_by}
 use Rattle.sf_words.specs.Seen.{check_seen}
-use Rattle.sf_program.specs.Checked.{CertRead, CheckRead}
+use Rattle.sf_program.specs.Checked.{CertRead, JudgedFile}
 use Rattle.sf_program.specs.Outcome.{Stops}
-use Rattle.sf_program.proofs.Stages.{stops-map}
+use Rattle.sf_program.specs.Stores.{stored_in}
+use Rattle.sf_program.proofs.Pieces.{check-stops, check-told}
 use Rattle.sf_program.proofs.checking.check.Goals as goal
-
-pub returns-in_err-answer-clause-refused : goal.returns-in_err-answer-clause-refused
-returns-in_err-answer-clause-refused g c =
-    let held = g.S.Shelf.holds c.args.shelf.now in
-    let o = check_seen c.args.words.now in
-    let design = c.in_ok-design.design in
-    let stop = c.in_err-answer.field-0.0 in
-    let refused = subst (λ h. Stops stop (λ why. CertRead h o.cert (block_count design) (Err why))) c.in_ok-design.ensures.read.unchanged c.in_err-answer.ensures.refused in
-    let p = err_from_is_err_and c.from_residual-in_err-answer.result c.from_residual-in_err-answer.ensures.1 in
-    rw (p.1, p.2) (stops-map (λ why. CertRead held o.cert (block_count design) (Err why)) (λ why. CheckRead held o (Err why)) (λ why p. inl (design, c.in_ok-design.ensures.design, p)) stop refused)
 
 pub returns-clause-answer : goal.returns-clause-answer
 returns-clause-answer g c =
     let o = check_seen c.args.words.now in
     let design = c.in_ok-design.design in
-    record {
-      design = design;
-      cert = c.in_ok-answer.ensures.answer.cert;
-      design_reads = c.in_ok-design.ensures.design;
-      cert_reads = subst (λ h. CertRead h o.cert (block_count design) (Ok (said_by c.in_ok-answer.ensures.answer.cert))) c.in_ok-design.ensures.read.unchanged c.in_ok-answer.ensures.answer.reads;
-      answer = c.in_ok-answer.answer;
-      answered = c.in_ok-answer.ensures.answer.answered;
-      status_is = c.in_ok-answer_work.ensures.status;
-      prints = c.in_ok-answer_work.ensures.text;
-    }
+    check-told (g.S.Shelf.holds c.args.shelf.now) o design c.in_ok-design.ensures.design c.check_file.result
+    (subst (λ (h : Option Contents). IfOk c.check_file.result (λ w. JudgedFile h o.cert design o.rewrite w.status (stored_in w.stores.items) w.text.items)) c.in_ok-design.ensures.read.unchanged c.check_file.ensures.answer)
+
+pub returns-clause-refused : goal.returns-clause-refused
+returns-clause-refused g c =
+    let o = check_seen c.args.words.now in
+    let design = c.in_ok-design.design in
+    check-stops (g.S.Shelf.holds c.args.shelf.now) o design c.in_ok-design.ensures.design c.check_file.result
+    (subst (λ (h : Option Contents). IfErr c.check_file.result (λ stop. Stops stop (λ why. CertRead h o.cert (block_count design) (Err why)))) c.in_ok-design.ensures.read.unchanged c.check_file.ensures.refused)

@@ -1,19 +1,14 @@
-use Rattle.std.proofs.Common.{subst}
-use Rattle.sf_standard.specs.Standard.{standard}
-use Rattle.sf_checker.specs.Feeding.{IsAnswerTo}
-use Rattle.sf_program.specs.Checked.{AnsweredFile}
-use Rattle.sf_program.proofs.Pieces.{answered-file, given}
+use Rattle.std.proofs.Common.{None, ap}
+use Rattle.sf_words.specs.Seen.{text_of}
+use Rattle.sf_program.proofs.Pieces.{told-file}
 use Rattle.sf_program.proofs.checking.check_file.Goals as goal
+
+pub returns-in-None-clause-answer : goal.returns-in-None-clause-answer
+returns-in-None-clause-answer g c =
+    told-file (g.S.Shelf.holds c.args.shelf.now) c.args.name.now c.in_ok-text.text.items c.deref.result.now c.args.design.now None (text_of c.args.rewrite) c.in_ok-text.ensures.text c.deref.ensures.value (ap text_of c.in-None.is)
+    c.judge_text.result c.judge_text.ensures.answer
 
 pub returns-clause-answer : goal.returns-clause-answer
 returns-clause-answer g c =
-    let held = g.S.Shelf.holds c.args.shelf.now in
-    let name = c.args.name.now in
-    let design = c.args.design.now in
-    let text = c.in_ok-text.text.items in
-    given (IsAnswerTo design (standard design) c.deref.result.now) (AnsweredFile held name design) c.check_text.result
-    (λ a h. answered-file held name text design a c.in_ok-text.ensures.text (subst (λ ts. IsAnswerTo design (standard design) ts a) c.deref.ensures.value h))
-    c.check_text.ensures.answer
-
-pub returns-clause-tells : goal.returns-clause-tells
-returns-clause-tells g c = c.check_text.ensures.tells (g.S.Shelf.load_faults c.args.shelf.now) (g.S.Shelf.load_faults c.load_text.new.shelf)
+    told-file (g.S.Shelf.holds c.args.shelf.now) c.args.name.now c.in_ok-text.text.items c.deref-in-Some.result.now c.args.design.now _ (text_of c.args.rewrite) c.in_ok-text.ensures.text c.deref-in-Some.ensures.value (ap text_of c.in-Some.is)
+    c.rewrite_text.result c.rewrite_text.ensures.answer

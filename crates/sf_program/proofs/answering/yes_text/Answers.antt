@@ -2,7 +2,7 @@ use Rattle.std.proofs.Common.{◌∙◌, string_bytes}
 use Rattle.std.specs.Fmt.{decimal}
 use Rattle.sf_certificate.specs.Text.{cost_text}
 use Rattle.sf_program.proofs.Printed.{yes-lines}
-use Rattle.sf_program.proofs.checking.yes_text.Goals as goal
+use Rattle.sf_program.proofs.answering.yes_text.Goals as goal
 
 pub returns : goal.returns
 returns c = c.in_ok-text.ensures.ok ∙ yes-lines (string_bytes c.in_ok-cost.cost) (string_bytes c.in_ok-bound.bound) (cost_text c.args.cost) (cost_text c.args.bound) (decimal c.args.decided) c.in_ok-cost.ensures c.in_ok-bound.ensures

@@ -1,0 +1,100 @@
+//! A certificate that is stored anew: where it is valid, each closed subproblem names the first part of the bound that is
+//! at least the cost.
+
+ghost use Rattle.std.specs.Prelude.{◌≡◌, ◌≤◌, ℕ, Some, Ok, Err, IfErr, IfOk};
+ghost use Rattle.sf_certificate.specs.Reading.{cert_read, said_by};
+ghost use Rattle.sf_certificate.specs.Valid.{IsValid};
+ghost use Rattle.sf_checker.specs.Answers.{IsAnswer};
+ghost use Rattle.sf_model.specs.Legal.{block_count};
+ghost use Rattle.sf_standard.specs.Standard.{standard, part_value};
+ghost use Rattle.sf_program.specs.Checked.{IsJudged, IsRewritten, IsStoredAnew, JudgedText, cert_refusal};
+ghost use Rattle.sf_program.specs.Loads.{TellsLoads};
+ghost use Rattle.sf_program.specs.Outcome.{Stops};
+ghost use Rattle.sf_program.specs.Reading.{Judged};
+ghost use Rattle.sf_program.specs.Stores.{stored_in};
+
+use crate::answering::{answer_work, cert_fault};
+use crate::stop::Stop;
+use crate::telling::stored_cert;
+use crate::work::{Store, Work, no_stores};
+use sf_bounds::Standard;
+use sf_certificate::{Cert, CertFault, read};
+use sf_checker::{Answer, check, name_parts};
+use sf_model::Design;
+use std::alloc::{AllocError as NoMemory, Global};
+
+fn block_count(design: &Design) -> u16
+    ensures value { result ≡ block_count design.now }
+    ensures some { 1 ≤ result }
+    ensures few { result ≤ 320 }
+{
+    design.blocks.as_slice().len() as u16
+}
+
+/// The certificate that a text says.
+fn read_cert(alloc: Global, text: &[u8], design: &Design) -> Result<Cert, Stop>
+    ensures cert { IfOk result (λ c. cert_read (block_count design.now) text.now ≡ Ok (said_by c)) }
+    ensures blocks { IfOk result (λ c. c.blocks ≡ block_count design.now) }
+    ensures refused { IfErr result (λ stop. Stops stop (λ why. Judged (cert_read (block_count design.now) text.now) cert_refusal (Err why))) }
+    ensures tells { (loads loads_then : ℕ) → IfErr result (TellsLoads loads loads_then) }
+{
+    match read(alloc, text, block_count(design)) {
+        Ok(cert) => Ok(cert),
+        Err(CertFault::NoMemory) => Err(Stop::NoMemory),
+        Err(fault) => Err(cert_fault(alloc, fault)?),
+    }
+}
+
+/// The store of a valid certificate with its parts named anew.
+fn stored_anew(
+    alloc: Global,
+    design: &Design,
+    cert: Cert,
+    name: &str,
+) -> Result<Vec<Store>, NoMemory>
+    requires blocks { cert.blocks ≡ block_count design.now }
+    requires valid { IsValid design.now (standard design.now) (part_value design.now) cert }
+    ensures { IfOk result (λ all. IsStoredAnew design.now cert name.now (stored_in all.items)) }
+{
+    let cert = name_parts(alloc, design, &Standard, cert)?;
+    stored_cert(alloc, &cert, name)
+}
+
+/// What is stored of a certificate with this answer.
+fn rewritten(
+    alloc: Global,
+    design: &Design,
+    cert: Cert,
+    answer: Answer,
+    name: &str,
+) -> Result<Vec<Store>, NoMemory>
+    requires blocks { cert.blocks ≡ block_count design.now }
+    requires answered { IsAnswer design.now (standard design.now) (part_value design.now) cert answer }
+    ensures { IfOk result (λ all. IsRewritten design.now cert (Some name.now) answer (stored_in all.items)) }
+{
+    match answer {
+        Answer::Yes(_, _, _) => stored_anew(alloc, design, cert, name),
+        Answer::No(_) => Ok(no_stores(alloc)),
+    }
+}
+
+/// What is told of a certificate, and stored of it under this name.
+fn rewrite_cert(alloc: Global, design: &Design, cert: Cert, name: &str) -> Result<Work, NoMemory>
+    requires { cert.blocks ≡ block_count design.now }
+    ensures { IfOk result (λ w. IsJudged design.now cert (Some name.now) w.status (stored_in w.stores.items) w.text.items) }
+{
+    let answer = check(alloc, design, &Standard, &cert)?;
+    let stores = rewritten(alloc, design, cert, answer, name)?;
+    answer_work(alloc, answer, stores)
+}
+
+/// What is told of the certificate that a text says, and stored of it under this name.
+pub fn rewrite_text(alloc: Global, text: &[u8], design: &Design, name: &str) -> Result<Work, Stop>
+    ensures answer { IfOk result (λ w. JudgedText design.now text.now (Some name.now) w.status (stored_in w.stores.items) w.text.items) }
+    ensures refused { IfErr result (λ stop. Stops stop (λ why. Judged (cert_read (block_count design.now) text.now) cert_refusal (Err why))) }
+    ensures tells { (loads loads_then : ℕ) → IfErr result (TellsLoads loads loads_then) }
+{
+    let cert = read_cert(alloc, text, design)?;
+    let work = rewrite_cert(alloc, design, cert, name)?;
+    Ok(work)
+}
