@@ -138,7 +138,7 @@ const JUDGED: &[Row] = &[
 ];
 
 /// Certificates that can't be read.
-const UNREADABLE: &[Row] = &[
+pub const UNREADABLE: &[Row] = &[
     Row {
         files: &[("a.blocks", EQUALS), ("a.cert", CUT_OFF)],
         status: Status::BadInput,

@@ -1,7 +1,9 @@
 //! Runs in which a load, a store or a put fails, or a store and a put do a part of what they are asked for.
 
+use super::checking::UNREADABLE;
 use super::reading::REFUSED;
 use super::texts::{FAR_PAD, ONE, ONE_CERT, PADDED, TO_PAD};
+use super::words::{AT_ENDS, MEANINGLESS};
 use super::{
     GIVEN, NAMES, Printed, Row, assert_printed, assert_words, shelf_of, text_of, words_of,
 };
@@ -160,30 +162,89 @@ fn failing_calls(rt: HostRuntime) -> Result<(), Fail> {
     Ok(())
 }
 
-/// A run over a shelf of which the first stores are whole and each later one keeps half of its bytes, and over a sink
-/// that takes three bytes a put, as far as there is room.
+/// A run over a shelf of which the load of this number fails, the first stores are whole and each later one keeps half of
+/// its bytes, and over a sink that takes three bytes a put, as far as there is room. No load fails where the number is 0.
+#[derive(Clone, Copy)]
 struct Part {
+    load: u64,
     whole: u64,
     room: usize,
     row: Row,
 }
 
+/// Both files are stored, and there is room for each report.
+const ALL_DONE: Part = Part {
+    load: 0,
+    whole: 2,
+    room: 1000,
+    row: GIVEN,
+};
+
 const PADDED_LINES: &str =
     "status Optimal\ncost 24\nbound 24\ndecided 2\nsize 2 2\narea 4\nwire 20\nplan 0:2x2\n";
 
+const HALF_CERT: &[u8] = b"slicing-certificate 2\nblocks 1\ncost";
+
+const LOST: Row = Row {
+    status: Status::ReadFault,
+    ..ALL_FILES
+};
+
+/// The same calls fail, with a part of each store and print done.
 const PARTS: &[Part] = &[
     Part {
+        row: Row {
+            files: &[],
+            status: Status::ReadFault,
+            ..ONE_BLOCK
+        },
+        ..ALL_DONE
+    },
+    Part {
         whole: 0,
-        room: 1000,
         row: Row {
             status: Status::WriteFault,
-            stored: &[("a.cert", b"slicing-certificate 2\nblocks 1\ncost")],
+            stored: &[("a.cert", HALF_CERT)],
+            ..ONE_BLOCK
+        },
+        ..ALL_DONE
+    },
+    Part {
+        room: 10,
+        row: Row {
+            status: Status::WriteFault,
+            printed: Printed::Whole("status Opt"),
+            stored: &[("a.cert", ONE_CERT)],
+            ..ONE_BLOCK
+        },
+        ..ALL_DONE
+    },
+    Part {
+        load: 1,
+        row: LOST,
+        ..ALL_DONE
+    },
+    Part {
+        load: 2,
+        row: LOST,
+        ..ALL_DONE
+    },
+    Part {
+        load: 3,
+        row: LOST,
+        ..ALL_DONE
+    },
+    Part {
+        whole: 0,
+        row: Row {
+            status: Status::WriteFault,
+            stored: &[("a.cert", HALF_CERT)],
             ..ALL_FILES
         },
+        ..ALL_DONE
     },
     Part {
         whole: 1,
-        room: 1000,
         row: Row {
             status: Status::WriteFault,
             stored: &[
@@ -192,9 +253,9 @@ const PARTS: &[Part] = &[
             ],
             ..ALL_FILES
         },
+        ..ALL_DONE
     },
     Part {
-        whole: 2,
         room: 5,
         row: Row {
             status: Status::WriteFault,
@@ -202,18 +263,17 @@ const PARTS: &[Part] = &[
             stored: &[("a.cert", PADDED_CERT), ("a.out", PADDED_PLACES)],
             ..ALL_FILES
         },
+        ..ALL_DONE
     },
     Part {
-        whole: 2,
-        room: 1000,
         row: Row {
             printed: Printed::Whole(PADDED_LINES),
             stored: &[("a.cert", PADDED_CERT), ("a.out", PADDED_PLACES)],
             ..ALL_FILES
         },
+        ..ALL_DONE
     },
     Part {
-        whole: 2,
         room: 7,
         row: Row {
             command: "check --format gsrc --blocks a.blocks --cert a.cert",
@@ -222,15 +282,16 @@ const PARTS: &[Part] = &[
             printed: Printed::Whole("status "),
             ..GIVEN
         },
+        ..ALL_DONE
     },
     Part {
         whole: 0,
-        room: 1000,
         row: Row {
             status: Status::WriteFault,
-            stored: &[("b.cert", b"slicing-certificate 2\nblocks 1\ncost")],
+            stored: &[("b.cert", HALF_CERT)],
             ..REWRITE
         },
+        ..ALL_DONE
     },
     Part {
         whole: 1,
@@ -241,9 +302,9 @@ const PARTS: &[Part] = &[
             stored: &[("b.cert", ONE_CERT)],
             ..REWRITE
         },
+        ..ALL_DONE
     },
     Part {
-        whole: 2,
         room: 4,
         row: Row {
             files: &[("a.blocks", b"")],
@@ -251,9 +312,9 @@ const PARTS: &[Part] = &[
             printed: Printed::Whole("erro"),
             ..ONE_BLOCK
         },
+        ..ALL_DONE
     },
     Part {
-        whole: 2,
         room: 11,
         row: Row {
             command: "plan --help",
@@ -261,20 +322,16 @@ const PARTS: &[Part] = &[
             printed: Printed::Whole("error Usage"),
             ..GIVEN
         },
+        ..ALL_DONE
     },
 ];
 
-fn assert_part(
-    rt: &(impl Abort + Threads + Sync),
-    alloc: Global,
-    row: &Row,
-    whole: u64,
-    room: usize,
-) -> Result<(), Fail> {
+fn assert_part(rt: &(impl Abort + Threads + Sync), alloc: Global, part: &Part) -> Result<(), Fail> {
+    let row = &part.row;
     let (command, options) = (row.command, row.options);
     let words = words_of(alloc, &[command, options])?;
-    let mut shelf = PartShelf::new(shelf_of(alloc, row.files, 0)?, whole);
-    let mut out = PartSink::new(alloc, room);
+    let mut shelf = PartShelf::new(shelf_of(alloc, row.files, part.load)?, part.whole);
+    let mut out = PartSink::new(alloc, part.room);
     let status = run(rt, alloc, &words, &mut shelf, &mut out, &OpenGate);
     assert_eq!(rt; status, row.status, "{command} {options}");
     assert_printed(rt, row, str::from_utf8(out.bytes())?);
@@ -291,10 +348,16 @@ fn assert_part(
 #[test]
 fn parts_of_calls(rt: HostRuntime) -> Result<(), Fail> {
     for part in PARTS {
-        assert_part(&rt, rt.alloc(), &part.row, part.whole, part.room)?;
+        assert_part(&rt, rt.alloc(), part)?;
     }
-    for row in REFUSED {
-        assert_part(&rt, rt.alloc(), row, 0, 1000)?;
+    for rows in [REFUSED, UNREADABLE, MEANINGLESS, AT_ENDS] {
+        for row in rows {
+            let part = Part {
+                row: *row,
+                ..ALL_DONE
+            };
+            assert_part(&rt, rt.alloc(), &part)?;
+        }
     }
     Ok(())
 }

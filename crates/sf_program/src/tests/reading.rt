@@ -93,6 +93,16 @@ const YAL_UNCLOSED: &[u8] = b"MODULE a; TYPE PARENT;";
 
 const YAL_NO_PARENT: &[u8] = b"MODULE a; ENDMODULE;";
 
+const YAL_CLOSED_TWICE: &[u8] = b"MODULE a; ENDMODULE;\nENDMODULE;";
+
+const YAL_TWO_PARENTS: &[u8] =
+    b"MODULE a; TYPE PARENT; ENDMODULE;\nMODULE b; TYPE PARENT; ENDMODULE;";
+
+const YAL_STRANGE_NUMBER: &[u8] = b"MODULE a;\nDIMENSIONS 0 0 2 x; ENDMODULE;";
+
+const YAL_FLAT: &[u8] =
+    b"MODULE a; DIMENSIONS 0 0 2 0; ENDMODULE;\nMODULE t; TYPE PARENT; NETWORK; u a n; ENDNETWORK; ENDMODULE;";
+
 const YAL_STRANGE_CELL: &[u8] = b"MODULE t; TYPE PARENT; NETWORK; u zz n; ENDNETWORK; ENDMODULE;";
 
 /// Designs that are read.
@@ -259,6 +269,30 @@ pub const REFUSED: &[Row] = &[
         printed: Printed::Whole("error BadInput yal 1 UnknownModule zz\n"),
         ..YAL
     },
+    Row {
+        files: &[("a.yal", YAL_CLOSED_TWICE)],
+        status: Status::BadInput,
+        printed: Printed::Whole("error BadInput yal 2 BadStatement\n"),
+        ..YAL
+    },
+    Row {
+        files: &[("a.yal", YAL_TWO_PARENTS)],
+        status: Status::BadInput,
+        printed: Printed::Whole("error BadInput yal 2 TwoParents\n"),
+        ..YAL
+    },
+    Row {
+        files: &[("a.yal", YAL_STRANGE_NUMBER)],
+        status: Status::BadInput,
+        printed: Printed::Whole("error BadInput yal 2 BadNumber NotNumber\n"),
+        ..YAL
+    },
+    Row {
+        files: &[("a.yal", YAL_FLAT)],
+        status: Status::BadInput,
+        printed: Printed::Whole("error BadInput yal 2 ZeroSide\n"),
+        ..YAL
+    },
 ];
 
 /// What stands before the one block of a text.
@@ -266,7 +300,7 @@ const BEFORE_BLOCK: &str =
     "UCSC blocks 1.0\nNumSoftRectangularBlocks : 0\nNumHardRectilinearBlocks : 1\nNumTerminals : 0\n";
 
 /// Lines of a block, and the faults that they show.
-const BLOCK_LINES: [(&str, &str); 5] = [
+const BLOCK_LINES: [(&str, &str); 7] = [
     ("b0 hardrectilinear 4 (0, 0) (0, 4) (3, 4) (3,", "BadLine"),
     (
         "b0 hardrectilinear 9000000000000000 (0, 0) (0, 4) (3, 4) (3, 0)",
@@ -279,6 +313,14 @@ const BLOCK_LINES: [(&str, &str); 5] = [
     (
         "b0 hardrectilinear 4 (0, 0) (0, 4) (2.5, 4) (2.5, 0)",
         "BadNumber NotWhole",
+    ),
+    (
+        "b0 hardrectilinear 4 (0, 0) (0, 4) (x, 4) (3, 0)",
+        "BadNumber NotNumber",
+    ),
+    (
+        "b0 hardrectilinear 4 (0, 0) (0, 4) (2.1234567, 4) (3, 0)",
+        "BadNumber TooManyDigits",
     ),
     ("b0 hardrectilinear 2 (0, 0) (3, 0)", "ZeroSide"),
 ];

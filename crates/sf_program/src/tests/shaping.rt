@@ -1,6 +1,6 @@
 //! Expressions and the curves that they spell.
 
-use super::texts::{BESIDE, EQUALS, SOFT};
+use super::texts::{BESIDE, EQUALS, FIVE, SOFT};
 use super::{GIVEN, Printed, Row, assert_rows};
 use sf_io::Status;
 use std::test::Fail;
@@ -18,7 +18,11 @@ const OPERATOR_TOO_EARLY: &[u8] = b"0 *";
 
 const OPERATOR_TOO_MANY: &[u8] = b"0 1 * *";
 
-/// Expressions over two blocks 2x3, and over the soft block.
+const NO_SUCH_BLOCK: &[u8] = b"0\n2 *";
+
+const LIKE_BEHIND_LIKE: &[u8] = b"0 1 2\n* *";
+
+/// Expressions over two blocks 2x3 and over the soft block, and one over five blocks.
 const ROWS: &[Row] = &[
     Row {
         files: &[("a.blocks", EQUALS), ("a.expr", BESIDE)],
@@ -47,6 +51,18 @@ const ROWS: &[Row] = &[
         files: &[("a.blocks", EQUALS), ("a.expr", ONE_BLOCK)],
         status: Status::BadInput,
         printed: Printed::Whole("error BadInput expr 1 MissingBlock\n"),
+        ..SHAPE
+    },
+    Row {
+        files: &[("a.blocks", EQUALS), ("a.expr", NO_SUCH_BLOCK)],
+        status: Status::BadInput,
+        printed: Printed::Whole("error BadInput expr 2 BadToken\n"),
+        ..SHAPE
+    },
+    Row {
+        files: &[("a.blocks", FIVE), ("a.expr", LIKE_BEHIND_LIKE)],
+        status: Status::BadInput,
+        printed: Printed::Whole("error BadInput expr 2 NotNormal\n"),
         ..SHAPE
     },
     Row {

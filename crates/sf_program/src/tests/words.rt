@@ -2,41 +2,101 @@
 
 use super::texts::{
     BESIDE, CELL_BLOCKS, CELL_CERT, CELL_LINES, CELL_NETS, CELL_PADS, CELL_PLACES, CELLS, ONE,
+    ONE_CERT, ONE_LINES,
 };
-use super::{GIVEN, Printed, Row, Text, answer, assert_rows, assert_words, shelf_of, words_of};
+use super::{GIVEN, Printed, Row, Text, assert_rows, assert_words, words_of};
 use sf_io::Status;
 use std::alloc::{AllocError, Global};
 use std::test::Fail;
 
-/// Lists of words without a meaning, the empty list first.
-const MEANINGLESS: &str = "
-plan --format gsrc --blocks a.blocks
-plan --format gsrc --blocks a.blocks --cert a.cert --workers 17
-plan --format gsrc --blocks a.blocks --cert a.cert --area-weight 0 --wire-weight 0
-plan --format gsrc --blocks a.blocks --cert a.cert --shapes 1
-plan --format gsrc --blocks a.blocks --cert a.cert --shapes 257
-plan --format gsrc --blocks a.blocks --cert a.cert --outline 1048577x1
-shape --format gsrc --blocks a.blocks --expr a.expr --net-weights a.weights
-gen --seed 7 --count 4 --out g --net-weights a.weights
-plan --format gsrc --blocks a.blocks --cert a.cert --rewrite b.cert
-check --format gsrc --blocks a.blocks --cert a.cert --rewrite
-gen --seed 7 --seed 7 --count 4 --out g
-gen --seed 7 --count 321 --out g
-gen --help";
+const USAGE: Row = Row {
+    files: &[("a.blocks", ONE)],
+    status: Status::Usage,
+    printed: Printed::Whole("error Usage\n"),
+    ..GIVEN
+};
 
-/// Values at the ends of a range.
-const AT_ENDS: &[Row] = &[
+const PLAN_WORDS: &str = "plan --format gsrc --blocks a.blocks --cert a.cert";
+
+const PLAN_ONE: Row = Row {
+    command: PLAN_WORDS,
+    files: &[("a.blocks", ONE)],
+    printed: Printed::Whole(ONE_LINES),
+    stored: &[("a.cert", ONE_CERT)],
+    ..GIVEN
+};
+
+const UNPLANNED: Row = Row {
+    command: PLAN_WORDS,
+    ..USAGE
+};
+
+/// Lists of words without a meaning, the empty list first.
+pub const MEANINGLESS: &[Row] = &[
+    USAGE,
     Row {
-        command: "plan --format gsrc --blocks a.blocks --cert a.cert --shapes 2",
-        files: &[("a.blocks", ONE)],
-        printed: Printed::Lines("status Optimal"),
-        ..GIVEN
+        command: "plan --format gsrc --blocks a.blocks",
+        ..USAGE
     },
     Row {
-        command: "plan --format gsrc --blocks a.blocks --cert a.cert --shapes 256",
-        files: &[("a.blocks", ONE)],
-        printed: Printed::Lines("status Optimal"),
-        ..GIVEN
+        options: "--workers 17",
+        ..UNPLANNED
+    },
+    Row {
+        options: "--area-weight 0 --wire-weight 0",
+        ..UNPLANNED
+    },
+    Row {
+        options: "--shapes 1",
+        ..UNPLANNED
+    },
+    Row {
+        options: "--shapes 257",
+        ..UNPLANNED
+    },
+    Row {
+        options: "--outline 1048577x1",
+        ..UNPLANNED
+    },
+    Row {
+        command: "shape --format gsrc --blocks a.blocks --expr a.expr --net-weights a.weights",
+        ..USAGE
+    },
+    Row {
+        command: "gen --seed 7 --count 4 --out g --net-weights a.weights",
+        ..USAGE
+    },
+    Row {
+        options: "--rewrite b.cert",
+        ..UNPLANNED
+    },
+    Row {
+        command: "check --format gsrc --blocks a.blocks --cert a.cert --rewrite",
+        ..USAGE
+    },
+    Row {
+        command: "gen --seed 7 --seed 7 --count 4 --out g",
+        ..USAGE
+    },
+    Row {
+        command: "gen --seed 7 --count 321 --out g",
+        ..USAGE
+    },
+    Row {
+        command: "gen --help",
+        ..USAGE
+    },
+];
+
+/// Values at the ends of a range.
+pub const AT_ENDS: &[Row] = &[
+    Row {
+        options: "--shapes 2",
+        ..PLAN_ONE
+    },
+    Row {
+        options: "--shapes 256",
+        ..PLAN_ONE
     },
 ];
 
@@ -144,22 +204,11 @@ fn joined(alloc: Global, words: &[String]) -> Result<Vec<String>, AllocError> {
 }
 
 #[test]
-fn without_meaning(rt: HostRuntime) -> Result<(), Fail> {
-    let alloc = rt.alloc();
-    for list in MEANINGLESS.lines() {
-        let words = words_of(alloc, &[list])?;
-        let mut shelf = shelf_of(alloc, &[("a.blocks", ONE)], 0)?;
-        let (status, printed) = answer(&rt, alloc, &words, &mut shelf, 0)?;
-        assert_eq!(rt; status, Status::Usage, "{list}");
-        assert_eq!(rt; printed.as_str(), "error Usage\n", "{list}");
-        assert!(rt; shelf.bytes("a.cert").is_none(), "{list}");
+fn meanings(rt: HostRuntime) -> Result<(), Fail> {
+    for rows in [MEANINGLESS, AT_ENDS] {
+        assert_rows(&rt, rt.alloc(), rows)?;
     }
     Ok(())
-}
-
-#[test]
-fn ends_of_ranges(rt: HostRuntime) -> Result<(), Fail> {
-    assert_rows(&rt, rt.alloc(), AT_ENDS)
 }
 
 #[test]
