@@ -12,13 +12,16 @@ const MOST_PADS: u64 = 16_384;
 
 const MOST_NETS: u64 = 65_536;
 
-const MOST_PINS: u64 = 1_048_576;
+/// The most pins of all nets together.
+pub const MOST_PINS: u64 = 1_048_576;
 
-const MOST_SIDE: u64 = 1_048_576;
+/// The greatest side of a block or of the outline, in scaled whole units.
+pub const MOST_SIDE: u64 = 1_048_576;
 
 const MOST_AREA: u64 = 1_099_511_627_776;
 
-const MOST_COORDINATE: u64 = 1_048_576;
+/// The greatest distance of a pad from (0, 0), across and upward, in scaled whole units.
+pub const MOST_COORDINATE: u64 = 1_048_576;
 
 fn within(quantity: Limit, most: u64, found: u64) -> Result<(), BuildFault>
     ensures { IsFirstOf (over quantity most found) result }

@@ -27,6 +27,7 @@ mod tests;
 mod wired;
 
 pub use admit::admitted_parts_keep_limits;
+pub use counted::{MOST_COORDINATE, MOST_PINS, MOST_SIDE};
 pub use design::Design;
 pub use fault::{BuildFault, Limit};
 pub use lists::{BlockList, NetList, PadList, Pins, Shapes};
