@@ -8,6 +8,7 @@
 
 pub mod admit;
 mod build;
+mod cost_text;
 mod counted;
 pub mod design;
 pub mod fault;
@@ -27,6 +28,7 @@ mod tests;
 mod wired;
 
 pub use admit::admitted_parts_keep_limits;
+pub use cost_text::push_cost;
 pub use counted::{MOST_COORDINATE, MOST_PINS, MOST_SIDE};
 pub use design::Design;
 pub use fault::{BuildFault, Limit};
