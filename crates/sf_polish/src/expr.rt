@@ -11,6 +11,28 @@ pub enum Token {
     Block(u16),
 }
 
+impl Token {
+    ghost use Rattle.sf_polish.specs.Normal.{is_operand, same_operator};
+
+    /// Whether the token is a block.
+    pub fn is_operand(self) -> bool
+        ensures { result ≡ is_operand self }
+    {
+        matches!(self, Token::Block(_))
+    }
+
+    /// Whether both tokens are one operator.
+    pub fn is_same_operator(self, other: Token) -> bool
+        ensures { result ≡ same_operator self other }
+    {
+        match (self, other) {
+            (Token::Beside, Token::Beside) => true,
+            (Token::Above, Token::Above) => true,
+            _ => false,
+        }
+    }
+}
+
 /// A list of tokens.
 #[derive(Debug, Drop)]
 pub struct Tokens {

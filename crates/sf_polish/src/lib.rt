@@ -24,7 +24,7 @@ pub use expr::{Expr, Token, Tokens};
 pub use fault::ExprFault;
 pub use postfix::expr_of;
 pub use read::{read_expr, read_tokens};
-pub use shape_of_tokens::is_normal;
+pub use shape_of_tokens::{ends_in, is_normal};
 pub use skew::normalise;
 pub use spell::plan_of;
 pub use write::{push_expr, write_expr};

@@ -8,7 +8,7 @@ ghost use Rattle.sf_polish.specs.Word.{token_of, is_byte, block_in, side_in, sha
 
 use crate::expr::Token;
 use sf_lex::read_plain;
-use sf_model::parts::Shape;
+use sf_model::{MOST_SIDE, Shape};
 
 /// An operator, or a block in a shape.
 #[derive(Clone, Copy, Debug, PartialEq, Eq)]
@@ -17,9 +17,6 @@ pub enum Piece {
     Above,
     Block(u16, Shape),
 }
-
-/// The greatest side of a shape.
-const MAX_SIDE: u64 = 1_048_576;
 
 /// The token of a piece, without the shape.
 pub fn token_of(piece: Option<Piece>) -> Option<Token>
@@ -55,7 +52,7 @@ fn read_block(word: &[u8], blocks: u16) -> Option<u16>
 fn read_side(word: &[u8]) -> Option<u32>
     ensures { result ≡ side_in word.now }
 {
-    match read_plain(word, MAX_SIDE) {
+    match read_plain(word, MOST_SIDE) {
         Some(side) if side >= 1 => Some(side as u32),
         _ => None,
     }

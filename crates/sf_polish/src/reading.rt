@@ -5,12 +5,12 @@ ghost use Rattle.std.specs.List.{range_with_len, list_all};
 ghost use Rattle.sf_lex.specs.Scan.{last_line_of};
 ghost use Rattle.sf_polish.specs.declared.expr.Token.{Token};
 ghost use Rattle.sf_polish.specs.declared.expr.Token.TheVariants.{Block};
-ghost use Rattle.sf_polish.specs.Normal.{is_operand, operands, operators, ends_in, is_outside};
+ghost use Rattle.sf_polish.specs.Normal.{is_operand, operands, operators, is_outside};
 ghost use Rattle.sf_polish.specs.Reading.{is_named, operator_after, token_after, ended, Fails};
 
 use crate::expr::Token;
 use crate::fault::ExprFault;
-use crate::shape_of_tokens::same_operator;
+use crate::shape_of_tokens::ends_in;
 use sf_lex::last_line;
 use std::alloc::{AllocError as NoMemory, Global};
 
@@ -24,16 +24,6 @@ pub struct Reading {
     depth: usize,
     ghost flags: { named.items ≡ map (λ b. is_named b tokens.items) (range_with_len 0 (length named.items)) },
     ghost balance: { operands tokens.items ≡ operators tokens.items + depth },
-}
-
-#[tactic(auto, using(crate::proofs::Last::last_or_place))]
-fn ends_in(operator: Token, tokens: &[Token]) -> bool
-    ensures { result ≡ ends_in operator tokens.now }
-{
-    match tokens {
-        [.., last] => same_operator(*last, operator),
-        [] => false,
-    }
 }
 
 fn are_all_set(flags: &[bool]) -> bool

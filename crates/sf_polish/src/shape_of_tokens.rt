@@ -1,5 +1,5 @@
 ghost use Rattle.std.specs.Prelude.{◌≡◌, ◌<◌, ◌↔◌, ◌≤◌, ℕ, length, take, IsTrue, IsFalse, All, count_by};
-ghost use Rattle.sf_polish.specs.Normal.{is_block, is_outside, is_operand, same_operator, operands, operators, IsBallot, Alternates, IsNormal};
+ghost use Rattle.sf_polish.specs.Normal.{is_block, is_outside, ends_in, operands, operators, IsBallot, Alternates, IsNormal};
 
 use crate::expr::Token;
 
@@ -48,19 +48,14 @@ fn has_no_other(blocks: u16, tokens: &[Token]) -> bool
     tokens.iter().all(|token| !is_outside(blocks, *token))
 }
 
-fn is_operand(token: Token) -> bool
-    ensures { result ≡ is_operand token }
+/// Whether the last token is this operator.
+#[tactic(auto, using(crate::proofs::Last::last_or_place))]
+pub fn ends_in(operator: Token, tokens: &[Token]) -> bool
+    ensures { result ≡ ends_in operator tokens.now }
 {
-    matches!(token, Token::Block(_))
-}
-
-pub(crate) fn same_operator(first: Token, second: Token) -> bool
-    ensures { result ≡ same_operator first second }
-{
-    match (first, second) {
-        (Token::Beside, Token::Beside) => true,
-        (Token::Above, Token::Above) => true,
-        _ => false,
+    match tokens {
+        [.., last] => last.is_same_operator(operator),
+        [] => false,
     }
 }
 
@@ -76,13 +71,13 @@ fn leads_at(tokens: &[Token], end: usize) -> bool
 fn operands_of(tokens: &[Token]) -> usize
     ensures { result ≡ operands tokens.now }
 {
-    tokens.iter().filter(|token| is_operand(**token)).count()
+    tokens.iter().filter(|token| token.is_operand()).count()
 }
 
 fn operators_of(tokens: &[Token]) -> usize
     ensures { result ≡ operators tokens.now }
 {
-    tokens.iter().filter(|token| !is_operand(**token)).count()
+    tokens.iter().filter(|token| !token.is_operand()).count()
 }
 
 fn is_ballot(tokens: &[Token]) -> bool
@@ -103,7 +98,7 @@ fn alternates(tokens: &[Token]) -> bool
         return true;
     }
     for place in 0..tokens.len() - 1 {
-        if same_operator(tokens[place], tokens[place + 1]) {
+        if tokens[place].is_same_operator(tokens[place + 1]) {
             return false;
         }
     }
