@@ -14,6 +14,6 @@ mod tests;
 pub mod verdict;
 
 pub use laws::verdicts_are_one;
-pub use measure::size;
+pub use measure::{fits, size};
 pub use placing::{spot_at, spots};
-pub use verdict::{Verdict, check_spots};
+pub use verdict::{Verdict, check_spots, is_listed};

@@ -1,7 +1,10 @@
-ghost use Rattle.std.specs.Prelude.{◌≡◌, ◌≤◌};
+//! How large a plan is.
+
+ghost use Rattle.std.specs.Prelude.{◌≡◌, ◌↔◌, ◌≤◌, IsTrue};
+ghost use Rattle.sf_model.specs.Legal.{Fits};
 ghost use Rattle.sf_model.specs.Tree.{tree_of, width, height, leaf_count, HasSides};
 
-use sf_model::Plan;
+use sf_model::{Outline, Plan};
 
 /// The width and the height of a plan, in scaled whole units.
 #[tactic(auto, using(crate::proofs::Measured::width_most, crate::proofs::Measured::height_most))]
@@ -24,4 +27,14 @@ pub fn size(plan: &Plan) -> (u64, u64)
             (lower_width.max(upper_width), lower_height + upper_height)
         }
     }
+}
+
+/// Whether a plan is no larger than the outline.
+pub fn fits(outline: Outline, plan: &Plan) -> bool
+    requires few { leaf_count (tree_of plan.now) ≤ 320 }
+    requires sides { HasSides (tree_of plan.now) }
+    ensures { IsTrue result ↔ Fits outline (tree_of plan.now) }
+{
+    let (width, height) = size(plan);
+    width <= u64::from(outline.w) && height <= u64::from(outline.h)
 }

@@ -1,6 +1,6 @@
-ghost use Rattle.std.specs.Prelude.{◌≡◌, ◌<◌, ◌↔◌, length, All, AllPairs, IsTrue, MatchOption, pos, neg_ℤ, ◌+ℤ◌, ◌≤ℤ◌, ◌<ℤ◌};
+ghost use Rattle.std.specs.Prelude.{◌≡◌, ◌<◌, ◌↔◌, length, All, AllPairs, IsTrue, MatchOption, Contains, pos, neg_ℤ, ◌+ℤ◌, ◌≤ℤ◌, ◌<ℤ◌};
 ghost use Rattle.sf_model.specs.Tree.{Overlaps};
-ghost use Rattle.sf_model.specs.Legal.{block_count};
+ghost use Rattle.sf_model.specs.Legal.{block_count, shapes_of};
 ghost use Rattle.sf_place.specs.Spots.{IsByNumber, HasNearCorner};
 ghost use Rattle.sf_place.specs.Verdict.{AreLegal, IsVerdict, IsListed, LiesIn, IsFirstWithout, IsOverNone, IsFirstOver, IsLeastPair};
 
@@ -45,22 +45,24 @@ fn first_unlisted(design: &Design, spots: &[Spot]) -> Option<u16>
 {
     for block in 0..spots.len() {
         let spot = spot_at(spots, block);
-        if !is_listed(design, spot) {
+        let Spot { block, w, h, .. } = spot;
+        let shape = Shape {
+            w: spot.w,
+            h: spot.h,
+        };
+        if !is_listed(design, spot.block, shape) {
             return Some(spot.block);
         }
     }
     None
 }
 
-fn is_listed(design: &Design, spot: Spot) -> bool
-    requires { spot.block < block_count design.now }
-    ensures { IsTrue result ↔ IsListed design.now spot }
+/// Whether a shape is in the list of a block.
+pub fn is_listed(design: &Design, block: u16, shape: Shape) -> bool
+    requires { block < block_count design.now }
+    ensures { IsTrue result ↔ Contains (shapes_of design.now block) shape }
 {
-    let shapes = &design.blocks.as_slice()[usize::from(spot.block)].shapes;
-    shapes.as_slice().contains(&Shape {
-        w: spot.w,
-        h: spot.h,
-    })
+    design.shapes_of(block).contains(&shape)
 }
 
 /// The first block that isn't in the outline.
