@@ -20,8 +20,9 @@ mod values;
 
 pub use belonging::belongs;
 pub use laws::children_share_plans;
-pub use node::{Node, ends_in, used_blocks};
+pub use node::{Node, used_blocks};
 pub use part::{Part, PartValues};
+pub use sf_polish::ends_in;
 pub use step::Step;
 pub use task::{Task, Tasks};
 pub use values::Values;

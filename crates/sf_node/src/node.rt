@@ -3,13 +3,12 @@
 ghost use Rattle.std.specs.Prelude.{◌≡◌, ◌<◌, ◌≤◌, ℕ, not, true, length, IfOk, MatchOption, slice_index_or};
 ghost use Rattle.sf_node.specs.Full.{first_wide_from};
 ghost use Rattle.std.specs.List.{list_all};
-ghost use Rattle.sf_polish.specs.Normal.{ends_in, is_operand, same_operator};
 ghost use Rattle.sf_node.specs.Subproblem.{is_wide};
 ghost use Rattle.sf_node.specs.Children.{is_unused, may_join};
 
 use crate::step::Step;
 use sf_model::Design;
-use sf_polish::Token;
+use sf_polish::{Token, ends_in};
 use std::alloc::{AllocError as NoMemory, Global};
 use std::marker::Model;
 
@@ -80,41 +79,13 @@ fn copy_with_room<T: Copy>(alloc: Global, items: &[T], more: usize) -> Result<Ve
     Ok(copy)
 }
 
-fn is_operand(token: Token) -> bool
-    ensures { result ≡ is_operand token }
-{
-    matches!(token, Token::Block(_))
-}
-
 /// Whether an operator may come next.
 fn may_join(operator: Token, tokens: &[Token]) -> bool
     ensures { result ≡ may_join operator tokens.now }
 {
-    let operands = tokens.iter().filter(|token| is_operand(**token)).count();
-    let operators = tokens.iter().filter(|token| !is_operand(**token)).count();
+    let operands = tokens.iter().filter(|token| token.is_operand()).count();
+    let operators = tokens.iter().filter(|token| !token.is_operand()).count();
     operators + 2 <= operands && !ends_in(operator, tokens)
-}
-
-/// Whether the last token is this operator.
-#[tactic(auto, using(sf_polish::proofs::Last::last_or_place))]
-pub fn ends_in(operator: Token, tokens: &[Token]) -> bool
-    ensures { result ≡ ends_in operator tokens.now }
-{
-    if tokens.is_empty() {
-        return false;
-    }
-    let last = tokens.len() - 1;
-    same_operator(tokens[last], operator)
-}
-
-fn same_operator(first: Token, second: Token) -> bool
-    ensures { result ≡ same_operator first second }
-{
-    match (first, second) {
-        (Token::Beside, Token::Beside) => true,
-        (Token::Above, Token::Above) => true,
-        _ => false,
-    }
 }
 
 impl Node {
