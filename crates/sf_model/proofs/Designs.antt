@@ -5,8 +5,8 @@ use Rattle.std.proofs.lemmas.Int.{ints}
 use Rattle.std.proofs.lemmas.List.Elements.{All-from_recursion, recursion_from_All}
 use Rattle.std.proofs.lemmas.List.Sums.{sum_by-cons}
 use Rattle.sf_model.specs.Admitted.{IsAdmitted, IsPlaceWithin}
-use Rattle.sf_model.specs.Built.{HasShapeChoices, IsDesignOf, IsNetOf, IsOutline, IsShapeChoice, IsWeighted, design_blocks, design_pads, placed_pad, shapeless}
-use Rattle.sf_model.specs.Limits.{IsCoordinate, IsPinSet, IsShapeList, IsWithinLimits}
+use Rattle.sf_model.specs.Built.{HasShapeChoices, IsDesignOf, IsNetOf, IsOutline, IsWeighted, design_blocks, design_pads, placed_pad, shapeless}
+use Rattle.sf_model.specs.Limits.{IsCoordinate, IsPinSet, IsShapeList, IsWithinLimits, IsShapeChoice}
 use Rattle.sf_model.specs.Numbers.{IsNetMade}
 use Rattle.sf_model.specs.declared.design.Design.{Design}
 use Rattle.sf_model.specs.declared.parts.Block.{Block}
@@ -33,7 +33,7 @@ shapes_fine [] lists none fine = tt
 shapes_fine (b ∷ bs) [] none fine = tt
 shapes_fine (b ∷ bs) ([] ∷ ls) none fine = cc
 shapes_fine (b ∷ bs) ((s ∷ ss) ∷ ls) none fine =
-    (record { some = omega arith; few = fine.0.few; sides = fine.0.sides; ordered = fine.0.ordered }, shapes_fine bs ls none fine.1)
+    (record { some = omega arith; choice = fine.0 }, shapes_fine bs ls none fine.1)
 
 coordinate_fits : (z : ℤ) → nat_abs z ≤ 2 ^ 20 → IsCoordinate z
 coordinate_fits z h = (omega (arith, ints), omega (arith, ints))

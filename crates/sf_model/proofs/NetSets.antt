@@ -8,8 +8,8 @@ use Rattle.std.proofs.lemmas.List.Folds.{list_any_at, Any-from_list_any}
 use Rattle.std.proofs.lemmas.List.Sorted.{All-permutation, Contains-permutation, IsPermutation-sym, length_permutation}
 use Rattle.sf_model.specs.Admitted.{IsAdmitted, IsPinInRange, HasPinsInRange}
 use Rattle.sf_model.specs.Built.{design_pads, named_pins, pin_of}
-use Rattle.sf_model.specs.Limits.{pin_number, pin_order}
-use Rattle.sf_model.specs.Numbers.{IsNetMade, IsThere, same_pin}
+use Rattle.sf_model.specs.Limits.{pin_number, pin_order, IsThere}
+use Rattle.sf_model.specs.Numbers.{IsNetMade, same_pin}
 use Rattle.sf_model.specs.declared.parts.Net.{Net}
 use Rattle.sf_model.specs.declared.parts.Pin.{Pin}
 use Rattle.sf_model.specs.declared.parts.Pin.TheVariants as pin

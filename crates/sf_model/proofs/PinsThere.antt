@@ -7,7 +7,7 @@ use Rattle.std.proofs.lemmas.List.Folds.{list_any-append, list_any_at}
 use Rattle.std.proofs.lemmas.List.Sums.{sum_by-cons, sum_by-take-le, count_by_more_yes, count_by-le-length}
 use Rattle.sf_model.specs.Admitted.{first, unplaced, missing_places, is_wired, is_index, block_of, pad_of, IsPinInRange, IsAdmitted, no_blocks, over_limits, name_faults, duplicates, unknowns}
 use Rattle.sf_model.specs.Built.{placed_pad, design_pads, pin_at, pin_of, named_pins}
-use Rattle.sf_model.specs.Numbers.{IsThere}
+use Rattle.sf_model.specs.Limits.{IsThere}
 use Rattle.sf_model.specs.declared.fault.BuildFault.{BuildFault}
 use Rattle.sf_model.specs.declared.fault.BuildFault.TheVariants.{MissingPlace}
 use Rattle.sf_model.specs.declared.parts.Pad.{Pad}

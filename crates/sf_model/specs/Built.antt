@@ -2,7 +2,7 @@
 use Rattle.std.specs.Prelude.{◌≡◌, ℕ, ◌+◌, ◌<◌, ◌≤◌, ◌↔◌, List, [], ◌∷◌, length, take, map, zip, filter_map, count_by, All, AllPairs, Contains, Option, Some, None, is_some, if◌then◌else◌}
 use Rattle.std.specs.Option.{option_map}
 use Rattle.sf_model.specs.Admitted.{block_of, pad_of}
-use Rattle.sf_model.specs.Limits.{IsSide, IsBefore, pin_order}
+use Rattle.sf_model.specs.Limits.{IsSide, IsShapeChoice, pin_order}
 use Rattle.sf_model.specs.declared.design.Design.{Design}
 use Rattle.sf_model.specs.declared.parts.Block.{Block}
 use Rattle.sf_model.specs.declared.parts.Net.{Net}
@@ -17,12 +17,6 @@ use Rattle.sf_model.specs.declared.raw.RawBlock.{RawBlock}
 use Rattle.sf_model.specs.declared.raw.RawNet.{RawNet}
 use Rattle.sf_model.specs.declared.raw.RawPad.{RawPad}
 use Rattle.sf_model.specs.declared.raw.RawPin.{RawPin}
-
--- a list of shapes for a block, which may be empty
-pub record IsShapeChoice (shapes : List Shape) : Type 0 where
-  pub few : length shapes ≤ 256
-  pub sides : All (λ s. IsSide s.w × IsSide s.h) shapes
-  pub ordered : AllPairs IsBefore shapes
 
 -- one list for each block
 pub record HasShapeChoices (blocks : List RawBlock) (lists : List (List Shape)) : Type 0 where

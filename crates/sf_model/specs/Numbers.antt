@@ -1,7 +1,7 @@
 -- Pads by their number among those that have a place, pins by their order, and nets as they are made.
 use Rattle.std.specs.Prelude.{◌≡◌, ℕ, ◌<◌, ◌≤◌, ◌^◌, Bool, ◌==◌, List, length, take, count_by, is_some, slice_index, All}
 use Rattle.sf_model.specs.Built.{IsNetOf, design_pads}
-use Rattle.sf_model.specs.Limits.{pin_order, pin_number, pin_count}
+use Rattle.sf_model.specs.Limits.{pin_order, IsThere}
 use Rattle.sf_model.specs.declared.parts.Net.{Net}
 use Rattle.sf_model.specs.declared.parts.Pin.{Pin}
 use Rattle.sf_model.specs.declared.raw.Parts.{Parts}
@@ -15,10 +15,6 @@ pub record AreNumbersOf (numbers : List ℕ) (pads : List RawPad) : Type 0 where
 
 abbrev pub same_pin : Pin → Pin → Bool
 same_pin p q = pin_order p == pin_order q
-
--- a pin of one of so many blocks or pads
-abbrev pub IsThere : ℕ → ℕ → Pin → Type 0
-IsThere blocks pads p = pin_number p < pin_count blocks pads p
 
 -- the set of the pins of a net as read, of no more pins than were read, with a weight of one byte
 pub record IsNetMade (parts : Parts) (read : RawNet) (net : Net) : Type 0 where

@@ -2,10 +2,10 @@
 use Rattle.std.specs.Prelude.{ℕ, List}
 use Rattle.sf_model.specs.Admitted.{if_both, if_neither}
 use Rattle.sf_model.specs.declared.fault.BuildFault.{BuildFault}
-use Rattle.sf_model.specs.declared.named.NameRule.{NameRule}
-use Rattle.sf_model.specs.declared.named.NameRule.TheVariants.{NotBoth, Known}
+use Rattle.sf_model.specs.declared.names.NameRule.{NameRule}
+use Rattle.sf_model.specs.declared.names.NameRule.TheVariants.{NotBoth, Known}
 use Rattle.sf_model.specs.declared.raw.Parts.{Parts}
 
-abbrev pub broken : NameRule → Parts → List ℕ → List BuildFault
-broken NotBoth parts n = if_both parts n
-broken Known parts n = if_neither parts n
+abbrev pub rule_faults : NameRule → Parts → List ℕ → List BuildFault
+rule_faults NotBoth parts n = if_both parts n
+rule_faults Known parts n = if_neither parts n

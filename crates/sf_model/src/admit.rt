@@ -5,11 +5,11 @@ ghost use Rattle.sf_model.specs.Admitted.{first_refusal, IsAdmitted, IsFirstOf, 
 ghost use Rattle.sf_model.specs.declared.fault.BuildFault.TheVariants.{NoMemory};
 ghost use Rattle.sf_model.specs.declared.raw.Parts.{Parts};
 
-use crate::counted::check_limits;
 use crate::fault::BuildFault;
 use crate::index::Index;
-use crate::named::{check_duplicates, check_known};
-use crate::placed::check_places;
+use crate::limits::check_limits;
+use crate::names::{check_duplicates, check_known};
+use crate::pad_places::check_places;
 use crate::raw::Parts;
 use std::alloc::Global;
 
@@ -27,6 +27,7 @@ impl Parts {
     }
 }
 
+/// The first fault of parts.
 fn check_parts(alloc: Global, parts: &Parts) -> Result<(), BuildFault>
     requires { HasPinsInRange parts.now }
     ensures { IsFirstOf (faults parts.now) result }
@@ -38,6 +39,7 @@ fn check_parts(alloc: Global, parts: &Parts) -> Result<(), BuildFault>
     check_names(alloc, parts)
 }
 
+/// The first fault of the names and places of parts.
 fn check_names(alloc: Global, parts: &Parts) -> Result<(), BuildFault>
     requires { HasPinsInRange parts.now }
     ensures { IsFirstOf (name_faults parts.now) result }
@@ -46,6 +48,7 @@ fn check_names(alloc: Global, parts: &Parts) -> Result<(), BuildFault>
     check_index(alloc, &index)
 }
 
+/// The same of parts with the tables of their names.
 fn check_index(alloc: Global, index: &Index<'_>) -> Result<(), BuildFault>
     requires { HasPinsInRange index.now.parts.now }
     ensures { IsFirstOf (name_faults index.now.parts.now) result }

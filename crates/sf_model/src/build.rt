@@ -10,10 +10,10 @@ use crate::design::Design;
 use crate::fault::BuildFault;
 use crate::lists::{BlockList, PadList, Shapes};
 use crate::name::Name;
+use crate::nets::nets_of;
 use crate::parts::{Block, Outline, Pad, Weights};
 use crate::raw::{Parts, RawBlock, RawPad};
 use crate::raw_lists::{RawBlockList, RawPadList};
-use crate::wired::nets_of;
 use std::alloc::{AllocError, Global};
 
 /// The name of the first block whose list is empty.
@@ -51,6 +51,7 @@ fn blocks_of(
     Ok(BlockList::from_vec(blocks))
 }
 
+/// A coordinate that keeps its limit.
 fn coordinate(z: i64) -> i32
     requires { nat_abs z ≤ 2 ^ 20 }
     ensures { result ≡ z }
@@ -94,7 +95,8 @@ fn placed_pads(alloc: Global, pads_in: bool, pads: RawPadList) -> Result<PadList
 fn check_shapes(alloc: Global, blocks: &[RawBlock], lists: &[Shapes]) -> Result<(), BuildFault>
     requires { length lists.now ≡ length blocks.now }
     ensures shaped { OnOk result (shapeless blocks.now lists.now ≡ None) }
-    ensures no_shape { IfErr result (λ fault. fault ≢ NoMemory → option_map NoShape (shapeless blocks.now lists.now) ≡ Some fault) }
+    ensures no_shape { IfErr result (λ fault. fault ≢ NoMemory
+        → option_map NoShape (shapeless blocks.now lists.now) ≡ Some fault) }
 {
     match first_shapeless(blocks, lists) {
         Some(name) => Err(BuildFault::NoShape(Name::new(alloc, name.as_bytes())?)),
@@ -103,9 +105,9 @@ fn check_shapes(alloc: Global, blocks: &[RawBlock], lists: &[Shapes]) -> Result<
 }
 
 impl Design {
-    /// The design of admitted parts, with a list of shapes for each block and a weight for each net. Blocks and
-    /// nets keep their numbers. Pads are numbered among those that have a place; where no text places pads, the
-    /// design has none. The first block with an empty list is refused by its name.
+    /// The design of admitted parts, with a list of shapes for each block and a weight for each net. Blocks
+    /// and nets keep their numbers. Pads are numbered among those that have a place; where no text places
+    /// pads, the design has none. The first block with an empty list is refused by its name.
     pub fn build(
         alloc: Global,
         parts: Parts,
@@ -120,9 +122,11 @@ impl Design {
         requires sides { IsOutline outline }
         requires weighted { IsWeighted weights }
         requires net_weights { HasNetWeights parts net_weights.now }
-        ensures built { IfOk result (λ design. IsDesignOf parts lists.items outline weights net_weights.now design) }
+        ensures built { IfOk result
+            (λ design. IsDesignOf parts lists.items outline weights net_weights.now design) }
         ensures shaped { OnOk result (shapeless parts.blocks lists.items ≡ None) }
-        ensures no_shape { IfErr result (λ fault. fault ≢ NoMemory → option_map NoShape (shapeless parts.blocks lists.items) ≡ Some fault) }
+        ensures no_shape { IfErr result (λ fault. fault ≢ NoMemory
+            → option_map NoShape (shapeless parts.blocks lists.items) ≡ Some fault) }
     {
         check_shapes(alloc, parts.blocks.as_slice(), &lists)?;
         let nets = nets_of(alloc, &parts, net_weights)?;

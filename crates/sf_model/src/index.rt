@@ -21,6 +21,7 @@ pub struct Index<'a> {
 }
 
 impl<'a> Index<'a> {
+    /// The parts with the tables of their names.
     pub fn new(alloc: Global, parts: &'a Parts) -> Result<Index<'a>, AllocError>
         ensures { IfOk result (λ index. index.parts.now ≡ parts.now) }
     {
@@ -31,12 +32,14 @@ impl<'a> Index<'a> {
         })
     }
 
+    /// Whether a block has the name.
     pub fn is_block(&self, name: &Name) -> bool
         ensures { result ≡ is_block_name self.now.parts.now name.now }
     {
         self.blocks.has(name)
     }
 
+    /// Whether a pad has the name.
     pub fn is_pad(&self, name: &Name) -> bool
         ensures { result ≡ is_pad_name self.now.parts.now name.now }
     {

@@ -6,32 +6,33 @@
 //! `Design` carries, and on the definitions of slicing trees, wire length and cost in specs/.
 #![tactic(auto)]
 
-pub mod admit;
+mod admit;
 mod build;
 mod cost_text;
-mod counted;
-pub mod design;
-pub mod fault;
+mod design;
+mod fault;
 mod index;
-pub mod laws;
-pub mod lists;
-pub mod name;
-mod named;
-pub mod parts;
-mod placed;
-pub mod plan;
-pub mod raw;
-pub mod raw_lists;
+mod laws;
+mod limits;
+mod lists;
+mod name;
+mod names;
+mod nets;
+mod pad_places;
+mod parts;
+mod plan;
+mod raw;
+mod raw_lists;
 mod table;
 #[cfg(test)]
 mod tests;
-mod wired;
 
 pub use admit::admitted_parts_keep_limits;
 pub use cost_text::push_cost;
-pub use counted::{MOST_COORDINATE, MOST_PINS, MOST_SIDE};
 pub use design::Design;
 pub use fault::{BuildFault, Limit};
+pub use laws::{costs_are_bounded, designs_are_determined, spots_fill_plans};
+pub use limits::{MOST_COORDINATE, MOST_PINS, MOST_SIDE};
 pub use lists::{BlockList, NetList, PadList, Pins, Shapes};
 pub use name::Name;
 pub use parts::{Block, Net, Outline, Pad, Pin, Shape, Weights};

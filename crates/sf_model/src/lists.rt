@@ -21,18 +21,21 @@ impl Model for Shapes {
 }
 
 impl Shapes {
+    /// The list of these items.
     pub fn from_vec(items: Vec<Shape>) -> Shapes
         ensures { result ≡ items.items }
     {
         Shapes { items }
     }
 
+    /// Its items.
     pub fn into_vec(self) -> Vec<Shape>
         ensures { result.items ≡ self }
     {
         self.items
     }
 
+    /// Its items, lent.
     pub fn as_slice(&self) -> &[Shape]
         ensures { result.now ≡ self.now }
     {
@@ -56,18 +59,21 @@ impl Model for BlockList {
 }
 
 impl BlockList {
+    /// The list of these items.
     pub fn from_vec(items: Vec<Block>) -> BlockList
         ensures { result ≡ items.items }
     {
         BlockList { items }
     }
 
+    /// Its items.
     pub fn into_vec(self) -> Vec<Block>
         ensures { result.items ≡ self }
     {
         self.items
     }
 
+    /// Its items, lent.
     pub fn as_slice(&self) -> &[Block]
         ensures { result.now ≡ self.now }
     {
@@ -91,18 +97,21 @@ impl Model for PadList {
 }
 
 impl PadList {
+    /// The list of these items.
     pub fn from_vec(items: Vec<Pad>) -> PadList
         ensures { result ≡ items.items }
     {
         PadList { items }
     }
 
+    /// Its items.
     pub fn into_vec(self) -> Vec<Pad>
         ensures { result.items ≡ self }
     {
         self.items
     }
 
+    /// Its items, lent.
     pub fn as_slice(&self) -> &[Pad]
         ensures { result.now ≡ self.now }
     {
@@ -126,18 +135,21 @@ impl Model for Pins {
 }
 
 impl Pins {
+    /// The list of these items.
     pub fn from_vec(items: Vec<Pin>) -> Pins
         ensures { result ≡ items.items }
     {
         Pins { items }
     }
 
+    /// Its items.
     pub fn into_vec(self) -> Vec<Pin>
         ensures { result.items ≡ self }
     {
         self.items
     }
 
+    /// Its items, lent.
     pub fn as_slice(&self) -> &[Pin]
         ensures { result.now ≡ self.now }
     {
@@ -161,18 +173,21 @@ impl Model for NetList {
 }
 
 impl NetList {
+    /// The list of these items.
     pub fn from_vec(items: Vec<Net>) -> NetList
         ensures { result ≡ items.items }
     {
         NetList { items }
     }
 
+    /// Its items.
     pub fn into_vec(self) -> Vec<Net>
         ensures { result.items ≡ self }
     {
         self.items
     }
 
+    /// Its items, lent.
     pub fn as_slice(&self) -> &[Net]
         ensures { result.now ≡ self.now }
     {

@@ -1,7 +1,9 @@
+//! What a design consists of: blocks, pads, nets, outline and weights.
+
 use crate::lists::{Pins, Shapes};
 use crate::name::Name;
 
-/// The sides of a block, as width and height.
+/// The sides of a block, or of a room for blocks, in scaled whole units.
 #[derive(Clone, Copy, Debug, PartialEq, Eq)]
 pub struct Shape {
     pub w: u32,
@@ -15,6 +17,7 @@ pub struct Block {
     pub shapes: Shapes,
 }
 
+/// A point at which wires end, in scaled whole units. It takes no room.
 #[derive(Debug, Drop)]
 pub struct Pad {
     pub name: Name,
@@ -29,20 +32,22 @@ pub enum Pin {
     Pad(u16),
 }
 
-/// A set of pins, in ascending order, and how often its wire counts.
+/// A set of pins, blocks before pads and each by number, and how often its wire counts.
 #[derive(Debug, Drop)]
 pub struct Net {
     pub pins: Pins,
     pub weight: u8,
 }
 
+/// The rectangle that floorplans are to fit, with its lower left corner at (0, 0), in scaled whole units.
 #[derive(Clone, Copy, Debug, PartialEq, Eq)]
 pub struct Outline {
     pub w: u32,
     pub h: u32,
 }
 
-/// What the area counts, and what the wires of all nets count.
+/// How often the area counts, in squares of scaled whole units, and how often the wires of all nets count,
+/// in doubled scaled whole units.
 #[derive(Clone, Copy, Debug, PartialEq, Eq)]
 pub struct Weights {
     pub area: u16,

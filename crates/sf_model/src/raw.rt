@@ -11,13 +11,14 @@ pub enum Kind {
     Soft { area: u64, min: u64, max: u64 },
 }
 
+/// A block, with its sides or its area in scaled whole units.
 #[derive(Debug, Drop)]
 pub struct RawBlock {
     pub name: Name,
     pub kind: Kind,
 }
 
-/// A pad and its place, where the text tells one.
+/// A pad and its place in scaled whole units, where the text tells one.
 #[derive(Debug, Drop)]
 pub struct RawPad {
     pub name: Name,
@@ -32,6 +33,7 @@ pub enum RawPin {
     Pad(u32),
 }
 
+/// The pins of a net as they are listed, with their repeats.
 #[derive(Debug, Drop)]
 pub struct RawNet {
     pub pins: RawPins,

@@ -22,18 +22,21 @@ impl Model for RawBlockList {
 }
 
 impl RawBlockList {
+    /// The list of these items.
     pub fn from_vec(items: Vec<RawBlock>) -> RawBlockList
         ensures { result ≡ items.items }
     {
         RawBlockList { items }
     }
 
+    /// Its items.
     pub fn into_vec(self) -> Vec<RawBlock>
         ensures { result.items ≡ self }
     {
         self.items
     }
 
+    /// Its items, lent.
     pub fn as_slice(&self) -> &[RawBlock]
         ensures { result.now ≡ self.now }
     {
@@ -57,18 +60,21 @@ impl Model for RawPadList {
 }
 
 impl RawPadList {
+    /// The list of these items.
     pub fn from_vec(items: Vec<RawPad>) -> RawPadList
         ensures { result ≡ items.items }
     {
         RawPadList { items }
     }
 
+    /// Its items.
     pub fn into_vec(self) -> Vec<RawPad>
         ensures { result.items ≡ self }
     {
         self.items
     }
 
+    /// Its items, lent.
     pub fn as_slice(&self) -> &[RawPad]
         ensures { result.now ≡ self.now }
     {
@@ -92,18 +98,21 @@ impl Model for RawPins {
 }
 
 impl RawPins {
+    /// The list of these items.
     pub fn from_vec(items: Vec<RawPin>) -> RawPins
         ensures { result ≡ items.items }
     {
         RawPins { items }
     }
 
+    /// Its items.
     pub fn into_vec(self) -> Vec<RawPin>
         ensures { result.items ≡ self }
     {
         self.items
     }
 
+    /// Its items, lent.
     pub fn as_slice(&self) -> &[RawPin]
         ensures { result.now ≡ self.now }
     {
@@ -127,18 +136,21 @@ impl Model for RawNetList {
 }
 
 impl RawNetList {
+    /// The list of these items.
     pub fn from_vec(items: Vec<RawNet>) -> RawNetList
         ensures { result ≡ items.items }
     {
         RawNetList { items }
     }
 
+    /// Its items.
     pub fn into_vec(self) -> Vec<RawNet>
         ensures { result.items ≡ self }
     {
         self.items
     }
 
+    /// Its items, lent.
     pub fn as_slice(&self) -> &[RawNet]
         ensures { result.now ≡ self.now }
     {
@@ -161,18 +173,21 @@ impl Model for NameList {
 }
 
 impl NameList {
+    /// The list of these items.
     pub fn from_vec(items: Vec<Name>) -> NameList
         ensures { result ≡ items.items }
     {
         NameList { items }
     }
 
+    /// Its items.
     pub fn into_vec(self) -> Vec<Name>
         ensures { result.items ≡ self }
     {
         self.items
     }
 
+    /// Its items, lent.
     pub fn as_slice(&self) -> &[Name]
         ensures { result.now ≡ self.now }
     {

@@ -17,6 +17,7 @@ pub struct NameTable<'a> {
 }
 
 impl<'a> NameTable<'a> {
+    /// The table of no names.
     fn new(alloc: Global) -> NameTable<'a>
         ensures { (i : ℕ) → IsTableOf result i [] }
     {
@@ -28,7 +29,8 @@ impl<'a> NameTable<'a> {
 
     /// Puts a name before those that stand there.
     fn put(&mut self, name: &'a Name, place: usize) -> Result<(), AllocError>
-        ensures { OnOk result ((names : List (List ℕ)) → IsTableOf self.old (place + 1) names → IsTableOf self.new place (name.now ∷ names)) }
+        ensures { OnOk result ((names : List (List ℕ)) → IsTableOf self.old (place + 1) names
+            → IsTableOf self.new place (name.now ∷ names)) }
     {
         let old = self.places.insert(name.as_bytes(), place)?;
         if old.is_some() {
@@ -37,6 +39,7 @@ impl<'a> NameTable<'a> {
         Ok(())
     }
 
+    /// The table of the names of blocks.
     pub fn of_blocks(alloc: Global, blocks: &'a [RawBlock]) -> Result<NameTable<'a>, AllocError>
         ensures { IfOk result (λ table. IsTableOf table 0 (block_names blocks.now)) }
     {
@@ -49,6 +52,7 @@ impl<'a> NameTable<'a> {
         Ok(table)
     }
 
+    /// The table of the names of pads.
     pub fn of_pads(alloc: Global, pads: &'a [RawPad]) -> Result<NameTable<'a>, AllocError>
         ensures { IfOk result (λ table. IsTableOf table 0 (pad_names pads.now)) }
     {
@@ -61,12 +65,14 @@ impl<'a> NameTable<'a> {
         Ok(table)
     }
 
+    /// The first index of a name, if it is there.
     pub fn place_of(&self, name: &Name) -> Option<usize>
         ensures { result ≡ place_in self.now name.now }
     {
         self.places.get(name.as_bytes()).copied()
     }
 
+    /// Whether a name is there.
     pub fn has(&self, name: &Name) -> bool
         ensures { result ≡ is_some (place_in self.now name.now) }
     {

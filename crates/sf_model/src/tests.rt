@@ -2,7 +2,7 @@
 
 ghost use Rattle.std.specs.Prelude.{◌≡◌, ◌<◌, length, vec_len, All, IfOk};
 ghost use Rattle.sf_model.specs.Admitted.{IsAdmitted, HasPinsInRange};
-ghost use Rattle.sf_model.specs.Built.{IsShapeChoice};
+ghost use Rattle.sf_model.specs.Limits.{IsShapeChoice};
 
 use crate::design::Design;
 use crate::fault::{BuildFault, Limit};

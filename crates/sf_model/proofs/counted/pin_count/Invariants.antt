@@ -1,7 +1,0 @@
-use Rattle.std.proofs.Common.{◌≡◌, ◌-◌, ◌^◌, min, length, take}
-use Rattle.std.specs.List.{sum_by}
-use Rattle.sf_model.specs.declared.raw.RawNet.{RawNet}
-use Rattle.sf_model.proofs.counted.pin_count.Given as goal
-
-abbrev pub invariant-loop-net : goal.invariant-loop-net
-invariant-loop-net l = l.count ≡ min (sum_by (λ (n : RawNet). length n.pins) (take l.net-index l.nets)) (2 ^ 64 - 1)

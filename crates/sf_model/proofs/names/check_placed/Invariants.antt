@@ -1,0 +1,9 @@
+use Rattle.std.proofs.Common.{◌≡◌, drop}
+use Rattle.std.specs.List.{flat_map}
+use Rattle.sf_model.specs.Admitted.{first, at_placed_name}
+use Rattle.sf_model.specs.Rules.{rule_faults}
+use Rattle.sf_model.specs.declared.names.NameRule.TheVariants.{NotBoth}
+use Rattle.sf_model.proofs.names.check_placed.Given as goal
+
+abbrev pub invariant-loop-pad : goal.invariant-loop-pad
+invariant-loop-pad l = first (flat_map (at_placed_name (rule_faults NotBoth l.index.parts.now)) l.pads) ≡ first (flat_map (at_placed_name (rule_faults NotBoth l.index.parts.now)) (drop l.pad-index l.pads))

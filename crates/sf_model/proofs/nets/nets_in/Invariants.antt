@@ -1,0 +1,10 @@
+use Rattle.std.proofs.Common.{◌≡◌, map, take}
+use Rattle.std.specs.List.{AllZip}
+use Rattle.sf_model.specs.Numbers.{IsNetMade}
+use Rattle.sf_model.proofs.nets.nets_in.Given as goal
+
+abbrev pub invariant-loop-number : goal.invariant-loop-number
+invariant-loop-number l = record {
+  made : AllZip (IsNetMade l.index.parts.now) (take l.number l.index.parts.now.nets) l.nets.items;
+  weights : map (λ n. n.weight) l.nets.items ≡ take l.number l.weights;
+}
