@@ -3,7 +3,7 @@ use Rattle.std.proofs.Common.{◌≡◌, ℕ, ◌+◌, ◌*◌, ◌<◌, ◌≤�
 use Rattle.std.proofs.Math.Nat.{mul-le-mul_left, mul-le-mul_right}
 use Rattle.std.proofs.lemmas.Grind.{div_ceil_times}
 use Rattle.sf_soft_shapes.specs.Listed.{height_at}
-use Rattle.sf_soft_shapes.specs.Ends.{IsWide, IsNarrow}
+use Rattle.sf_soft_shapes.specs.Ends.{IsLowEnough, IsHighEnough}
 
 -- q * b is not below x where q * a reaches x, so that d passes q by nothing
 past : (q d a b x : ℕ) → a ≤ b → x ≤ q * a → d * b < x + b → q < d → ⊥
@@ -24,7 +24,7 @@ height_le area a b some le =
     let at_b = div_ceil_times area b (omega arith) in
     least_multiple (height_at area a) (height_at area b) a b area le at_a.0 at_b.1
 
-pub wide_up : (area most a b : ℕ) → 1 ≤ a → a ≤ b → IsWide area most a → IsWide area most b
+pub wide_up : (area most a b : ℕ) → 1 ≤ a → a ≤ b → IsLowEnough area most a → IsLowEnough area most b
 wide_up area most a b some le wide =
     let low : height_at area b ≤ height_at area a = height_le area a b some le in
     let more : a * most ≤ b * most = mul-le-mul_right most le in
@@ -32,7 +32,7 @@ wide_up area most a b some le wide =
     let second = wide.below in
     record { height = omega arith; below = omega arith }
 
-pub narrow_down : (area least a b : ℕ) → 1 ≤ a → a ≤ b → IsNarrow area least b → IsNarrow area least a
+pub narrow_down : (area least a b : ℕ) → 1 ≤ a → a ≤ b → IsHighEnough area least b → IsHighEnough area least a
 narrow_down area least a b some le narrow =
     let low : height_at area b ≤ height_at area a = height_le area a b some le in
     let more : a * least ≤ b * least = mul-le-mul_right least le in

@@ -8,8 +8,7 @@ use Rattle.std.proofs.lemmas.Grind.{div_ceil_times}
 use Rattle.std.proofs.lemmas.List.FromFn.{map-range_with_len_more, get_or-map-range_with_len, length-map-range_with_len}
 use Rattle.std.proofs.lemmas.List.{map-append, length-map}
 use Rattle.std.proofs.lemmas.Simd.{map-map}
-use Rattle.sf_model.specs.Built.{IsShapeChoice}
-use Rattle.sf_model.specs.Limits.{IsSide}
+use Rattle.sf_model.specs.Limits.{IsSide, IsShapeChoice}
 use Rattle.sf_model.specs.declared.parts.Shape.{Shape}
 use Rattle.sf_soft_shapes.specs.Listed.{shape, height_at, width_count, widths, IsAllowed, IsSoftList}
 

@@ -1,8 +1,7 @@
 //! Shapes of a hard block.
 
 ghost use Rattle.std.specs.Prelude.{◌≡◌, IfOk, ◌≢◌, ◌≤◌, vec_len};
-ghost use Rattle.sf_model.specs.Built.{IsShapeChoice};
-ghost use Rattle.sf_model.specs.Limits.{IsSide};
+ghost use Rattle.sf_model.specs.Limits.{IsShapeChoice, IsSide};
 ghost use Rattle.sf_soft_shapes.specs.Listed.{hard_list};
 
 use crate::fault::ShapeFault;

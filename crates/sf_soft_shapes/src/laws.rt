@@ -10,11 +10,16 @@ ghost use Rattle.sf_model.specs.declared.raw.Kind.{Kind};
 ghost use Rattle.sf_model.specs.declared.raw.RawBlock.{RawBlock};
 ghost use Rattle.sf_soft_shapes.specs.Listed.{IsListOf, AreListsOf, HasNoneFor};
 
-/// A block has at most one list, and blocks have at most one list each. At most one block is the first without a
-/// shape, and it is the first whose list is empty.
+/// A block has at most one list, and blocks have at most one list each. At most one block is the first
+/// without a shape, and it is the first whose list is empty.
 pub fn lists_are_determined()
-    ensures list { (k : ℕ) (fixed : Bool) (kind : Kind) (a b : List Shape) → IsListOf k fixed kind a → IsListOf k fixed kind b → a ≡ b }
-    ensures lists { (k : ℕ) (fixed : Bool) (blocks : List RawBlock) (a b : List (List Shape)) → AreListsOf k fixed blocks a → AreListsOf k fixed blocks b → a ≡ b }
-    ensures fault { (k : ℕ) (fixed : Bool) (blocks : List RawBlock) (f g : BuildFault) → HasNoneFor k fixed blocks f → HasNoneFor k fixed blocks g → f ≡ g }
-    ensures empty { (k : ℕ) (fixed : Bool) (blocks : List RawBlock) (lists : List (List Shape)) (f : BuildFault) → AreListsOf k fixed blocks lists → HasNoneFor k fixed blocks f → option_map NoShape (shapeless blocks lists) ≡ Some f }
+    ensures list { (k : ℕ) (fixed : Bool) (kind : Kind) (a b : List Shape) → IsListOf k fixed kind a
+        → IsListOf k fixed kind b → a ≡ b }
+    ensures lists { (k : ℕ) (fixed : Bool) (blocks : List RawBlock) (a b : List (List Shape))
+        → AreListsOf k fixed blocks a → AreListsOf k fixed blocks b → a ≡ b }
+    ensures fault { (k : ℕ) (fixed : Bool) (blocks : List RawBlock) (f g : BuildFault)
+        → HasNoneFor k fixed blocks f → HasNoneFor k fixed blocks g → f ≡ g }
+    ensures empty { (k : ℕ) (fixed : Bool) (blocks : List RawBlock) (lists : List (List Shape))
+        (f : BuildFault) → AreListsOf k fixed blocks lists → HasNoneFor k fixed blocks f
+        → option_map NoShape (shapeless blocks lists) ≡ Some f }
 {}

@@ -4,11 +4,11 @@
 //! what `Design::build` asks for.
 #![tactic(auto)]
 
-pub mod fault;
-pub mod hard;
+mod fault;
+mod hard;
 mod laws;
-pub mod listed;
-pub mod soft;
+mod listed;
+mod soft;
 #[cfg(test)]
 mod tests;
 

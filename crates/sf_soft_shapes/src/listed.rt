@@ -2,7 +2,8 @@
 
 ghost use Rattle.std.specs.Prelude.{◌≡◌, ◌≢◌, ◌≤◌, List, [], All, IfOk, IfErr, OnOk, Some, None, zip, length};
 ghost use Rattle.sf_model.specs.Admitted.{IsAdmitted, HasSizes, IsSized, IsKindWithin, KeepsLimits};
-ghost use Rattle.sf_model.specs.Built.{HasShapeChoices, IsShapeChoice, shapeless};
+ghost use Rattle.sf_model.specs.Built.{HasShapeChoices, shapeless};
+ghost use Rattle.sf_model.specs.Limits.{IsShapeChoice};
 ghost use Rattle.sf_model.specs.declared.parts.Shape.{Shape};
 ghost use Rattle.sf_model.specs.declared.fault.BuildFault.TheVariants.{NoShape, NoMemory};
 ghost use Rattle.sf_soft_shapes.specs.Listed.{IsListOf, AreListsOf, HasNoneFor};

@@ -1,49 +1,48 @@
 //! Shapes of a soft block.
 
 ghost use Rattle.std.specs.Prelude.{◌≡◌, ℕ, ◌+◌, ◌*◌, ◌^◌, ◌<◌, ◌≤◌, ◌↔◌, IsTrue, IfOk, vec_len, map};
-ghost use Rattle.sf_model.specs.Built.{IsShapeChoice};
+ghost use Rattle.sf_model.specs.Limits.{IsShapeChoice};
 ghost use Rattle.sf_soft_shapes.specs.Listed.{IsAllowed, IsSoftList, height_at, shape, widths};
-ghost use Rattle.sf_soft_shapes.specs.Ends.{IsWide, IsNarrow};
+ghost use Rattle.sf_soft_shapes.specs.Ends.{IsLowEnough, IsHighEnough};
 
 use crate::fault::ShapeFault;
-use sf_model::Shape;
+use sf_model::{MOST_SIDE, Shape};
 use std::alloc::{AllocError, Global};
 
-const MOST_SIDE: u64 = 1_048_576;
-
+/// Height over width is told in millionths.
 const MILLION: u64 = 1_000_000;
 
 /// Whether a block of this width is low enough.
-fn is_wide(area: u64, most: u64, w: u64) -> bool
+fn is_low_enough(area: u64, most: u64, w: u64) -> bool
     requires area { area ≤ 2 ^ 40 }
     requires some { 1 ≤ w }
-    ensures { IsTrue result ↔ IsWide area most w }
+    ensures { IsTrue result ↔ IsLowEnough area most w }
 {
     let h = area.div_ceil(w);
     h <= MOST_SIDE && h * MILLION <= w.saturating_mul(most)
 }
 
 /// Whether a block of this width is high enough.
-fn is_narrow(area: u64, least: u64, w: u64) -> bool
+fn is_high_enough(area: u64, least: u64, w: u64) -> bool
     requires area { area ≤ 2 ^ 40 }
     requires some { 1 ≤ w }
-    ensures { IsTrue result ↔ IsNarrow area least w }
+    ensures { IsTrue result ↔ IsHighEnough area least w }
 {
     w.saturating_mul(least) <= area.div_ceil(w) * MILLION
 }
 
-/// The least width up to the limit that is wide, or one more than the limit.
-fn least_wide(area: u64, most: u64) -> u64
+/// The least width up to the limit at which a block is low enough, or one more than the limit.
+fn least_width(area: u64, most: u64) -> u64
     requires { area ≤ 2 ^ 40 }
     ensures some { 1 ≤ result }
     ensures within { result ≤ 2 ^ 20 + 1 }
-    ensures ends { (w : ℕ) → 1 ≤ w → w ≤ 2 ^ 20 → IsWide area most w ↔ (result ≤ w) }
+    ensures ends { (w : ℕ) → 1 ≤ w → w ≤ 2 ^ 20 → IsLowEnough area most w ↔ (result ≤ w) }
 {
     let mut low = 1;
     let mut high = MOST_SIDE + 1;
     while low < high {
         let mid = (low + high) / 2;
-        if is_wide(area, most, mid) {
+        if is_low_enough(area, most, mid) {
             high = mid;
         } else {
             low = mid + 1;
@@ -52,17 +51,17 @@ fn least_wide(area: u64, most: u64) -> u64
     low
 }
 
-/// The greatest width up to the limit that is narrow, or 0.
-fn greatest_narrow(area: u64, least: u64) -> u64
+/// The greatest width up to the limit at which a block is high enough, or 0.
+fn greatest_width(area: u64, least: u64) -> u64
     requires { area ≤ 2 ^ 40 }
     ensures within { result ≤ 2 ^ 20 }
-    ensures ends { (w : ℕ) → 1 ≤ w → w ≤ 2 ^ 20 → IsNarrow area least w ↔ (w ≤ result) }
+    ensures ends { (w : ℕ) → 1 ≤ w → w ≤ 2 ^ 20 → IsHighEnough area least w ↔ (w ≤ result) }
 {
     let mut low = 0;
     let mut high = MOST_SIDE;
     while low < high {
         let mid = (low + high + 1) / 2;
-        if is_narrow(area, least, mid) {
+        if is_high_enough(area, least, mid) {
             low = mid;
         } else {
             high = mid - 1;
@@ -103,8 +102,9 @@ fn shapes_between(
     Ok(shapes)
 }
 
-/// The shapes of a soft block: at each allowed width, or at `k` of them at equal steps, the height that the
-/// area needs, rounded up. `least` and `most` bound height over width, in millionths.
+/// The shapes of a soft block, in scaled whole units: at each allowed width, or at `k` of them at equal
+/// steps, the height that the area needs, rounded up. `least` and `most` bound height over width, in
+/// millionths.
 pub fn soft_shapes(
     alloc: Global,
     area: u64,
@@ -119,8 +119,8 @@ pub fn soft_shapes(
     ensures has_shape { IfOk result (λ shapes. 1 ≤ vec_len shapes) }
     ensures no_shape { result ≡ Err ShapeFault.NoShape → (w : ℕ) → ¬ (IsAllowed area least most w) }
 {
-    let lo = least_wide(area, most);
-    let hi = greatest_narrow(area, least);
+    let lo = least_width(area, most);
+    let hi = greatest_width(area, least);
     if hi < lo {
         return Err(ShapeFault::NoShape);
     }

@@ -1,5 +1,5 @@
 use Rattle.std.proofs.Common.{◌≡◌, ◌≤◌, List, [], ◌∷◌, ◌++◌, length, get_or, subst, ap, sym, ◌∙◌, ◌<◌, Some, Err, arith}
-use Rattle.sf_model.specs.Built.{IsShapeChoice}
+use Rattle.sf_model.specs.Limits.{IsShapeChoice}
 use Rattle.std.specs.Option.{option_map}
 use Rattle.sf_model.specs.declared.fault.BuildFault.TheVariants.{NoShape}
 use Rattle.sf_model.specs.declared.parts.Shape.{Shape}

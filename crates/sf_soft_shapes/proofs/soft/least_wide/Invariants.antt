@@ -1,9 +1,0 @@
-use Rattle.std.proofs.Common.{ℕ, ◌+◌, ◌-◌, ◌^◌, ◌<◌, ◌≤◌}
-use Rattle.sf_soft_shapes.specs.Ends.{IsWide}
-use Rattle.sf_soft_shapes.proofs.soft.least_wide.Given as goal
-
-abbrev pub invariant-loop-low : goal.invariant-loop-low
-invariant-loop-low l = (1 ≤ l.low) × (l.low ≤ l.high) × (l.high ≤ 2 ^ 20 + 1) × ((w : ℕ) → 1 ≤ w → w < l.low → ¬ (IsWide l.area l.most w)) × ((w : ℕ) → l.high ≤ w → w ≤ 2 ^ 20 → IsWide l.area l.most w)
-
-abbrev pub decreases-loop-low : goal.decreases-loop-low
-decreases-loop-low l = l.high - l.low
