@@ -15,7 +15,7 @@ use Rattle.sf_model.specs.declared.parts.Pin.{Pin}
 use Rattle.sf_model.specs.declared.parts.Pin.TheVariants as pin
 use Rattle.sf_model.specs.declared.parts.Shape.{Shape}
 use Rattle.sf_model.specs.declared.plan.Spot.{Spot}
-use Rattle.sf_model.specs.Tree.{Tree, Leaf, Beside, Above, width, height, leaves, leaf_count, spots_at, spots_of, Overlaps, IsInside}
+use Rattle.sf_model.specs.Tree.{Tree, Leaf, Beside, Above, width, height, leaves, leaf_count, spots_at, spots_of, Overlaps, IsInside, HasBlocksBelow}
 use Rattle.sf_model.specs.Legal.{HasEachOnce, IsLegal, Fits, block_count, shapes_of}
 use Rattle.sf_model.specs.Wire.{spot_of, pin_x, pin_y, net_wire, weighed_wire, wire, spread}
 use Rattle.sf_model.specs.Cost.{right_end, upper_end, cost, spots_cost}
@@ -23,7 +23,7 @@ use Rattle.sf_model.proofs.Each.{each-append, each-weaker, each-left, each-right
 use Rattle.sf_model.proofs.Places.{spots-inside, spots-apart}
 use Rattle.sf_model.proofs.Ends.{right_end-spots_of, upper_end-spots_of}
 use Rattle.sf_model.proofs.Counting.{length-leaves_once}
-use Rattle.sf_place.specs.Spots.{IsByNumber, by_number, placed, HasBlocksBelow}
+use Rattle.sf_place.specs.Spots.{IsByNumber, by_number, with_spots}
 use Rattle.sf_place.specs.Verdict.{AreLegal, IsListed, LiesIn}
 use Rattle.sf_place.proofs.Found.{count, count-same, count-other, spot_of-same, spot_of-other, block-spot_of, spot_of-all, spot_of-none, spot_of-pair, greatest, greatest-same}
 use Rattle.sf_place.proofs.Numbered.{spot_of_numbered}
@@ -232,18 +232,18 @@ leaf_count-leaves (Above l r) = omega (arith, leaf_count-leaves l, leaf_count-le
 pub plan-leaves : (n : ℕ) (tree : Tree) → HasEachOnce n tree → leaf_count tree ≡ n
 plan-leaves n tree once = leaf_count-leaves tree ∙ length-leaves_once n tree once
 
-length-placed : (old ss : List Spot) → length (placed old ss) ≡ length old
+length-placed : (old ss : List Spot) → length (with_spots old ss) ≡ length old
 length-placed old [] = refl
 length-placed old (s ∷ ss) = length-placed (slice_set old s.block s) ss ∙ length-set old s.block s
 
-untouched : (b : ℕ) (old ss : List Spot) (d : Spot) → count b ss ≡ 0 → get_or (placed old ss) b d ≡ get_or old b d
+untouched : (b : ℕ) (old ss : List Spot) (d : Spot) → count b ss ≡ 0 → get_or (with_spots old ss) b d ≡ get_or old b d
 untouched b old [] d h = refl
 untouched b old (s ∷ ss) d h = elim (cases_eq s.block b) [
   | inl e ↦ absurd (omega (arith, h, count-same b s ss e))
   | inr n ↦ untouched b (slice_set old s.block s) ss d (omega (arith, h, count-other b s ss n)) ∙ get_or-set_other old s.block b s d (λ q. n (sym q))
 ]
 
-written : (b : ℕ) (old ss : List Spot) (d : Spot) → b < length old → count b ss ≡ 1 → get_or (placed old ss) b d ≡ spot_of b ss
+written : (b : ℕ) (old ss : List Spot) (d : Spot) → b < length old → count b ss ≡ 1 → get_or (with_spots old ss) b d ≡ spot_of b ss
 written b old [] d l h = absurd (omega (arith, h))
 written b old (s ∷ ss) d l h = elim (cases_eq s.block b) [
   | inl e ↦ untouched b (slice_set old s.block s) ss d (omega (arith, h, count-same b s ss e))
@@ -252,8 +252,8 @@ written b old (s ∷ ss) d l h = elim (cases_eq s.block b) [
 ]
 
 -- spots written at their blocks' numbers stand by number
-pub plan-placed : (n : ℕ) (tree : Tree) → HasEachOnce n tree → (old : List Spot) → length old ≡ n → placed old (spots_of tree) ≡ by_number n (spots_of tree)
+pub plan-placed : (n : ℕ) (tree : Tree) → HasEachOnce n tree → (old : List Spot) → length old ≡ n → with_spots old (spots_of tree) ≡ by_number n (spots_of tree)
 plan-placed n tree once old e =
-    fill_by_all (λ b. spot_of b (spots_of tree)) (placed old (spots_of tree)) n (spot_of 0 [])
+    fill_by_all (λ b. spot_of b (spots_of tree)) (with_spots old (spots_of tree)) n (spot_of 0 [])
     (length-placed old (spots_of tree) ∙ e)
     (λ b h. written b old (spots_of tree) (spot_of 0 []) (omega (arith, e, h)) (one n tree once b h))

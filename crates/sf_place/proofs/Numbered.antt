@@ -7,7 +7,7 @@ use Rattle.sf_model.specs.declared.plan.Spot.{Spot}
 use Rattle.sf_model.specs.Wire.{spot_of}
 use Rattle.sf_model.specs.Tree.{Overlaps}
 use Rattle.sf_place.specs.Spots.{IsByNumber}
-use Rattle.sf_place.specs.Verdict.{IsOverNone}
+use Rattle.sf_place.specs.Verdict.{OverlapsNoLater}
 
 spot_of-from : (a n : ℕ) (spots : List Spot) → map (λ s. s.block) spots ≡ range_with_len a n → (k : ℕ) (d : Spot) → k < length spots → spot_of (a + k) spots ≡ get_or spots k d
 spot_of-from a n [] e k d h = absurd (omega arith)
@@ -40,7 +40,7 @@ block_numbered spots k d e h = omega (arith, block-from 0 (length spots) spots e
 pub all_by_number : (P : Spot → Type 0) (spots : List Spot) → IsByNumber spots → ((a : ℕ) → a < length spots → P (spot_of a spots)) → All P spots
 all_by_number P spots e f k d h = subst P (spot_of_numbered spots k d e h) (f k h)
 
-pub apart_by_number : (spots : List Spot) → IsByNumber spots → ((a : ℕ) → a < length spots → IsOverNone spots a) → AllPairs (λ s t. ¬ (Overlaps s t)) spots
+pub apart_by_number : (spots : List Spot) → IsByNumber spots → ((a : ℕ) → a < length spots → OverlapsNoLater spots a) → AllPairs (λ s t. ¬ (Overlaps s t)) spots
 apart_by_number spots e f i j d h k =
     let R : Spot → Spot → Type 0 = λ s t. ¬ (Overlaps s t) in
     let i_low : i < length spots = omega (arith, h, k) in

@@ -7,7 +7,7 @@ use Rattle.sf_model.specs.Wire.{spot_of}
 use Rattle.sf_place.specs.declared.verdict.Verdict.{Verdict}
 use Rattle.sf_place.specs.declared.verdict.Verdict.TheVariants as verdict
 use Rattle.sf_place.specs.Spots.{IsByNumber}
-use Rattle.sf_place.specs.Verdict.{IsFirstOver, IsFirstWithout, IsLeastPair, IsListed, IsVerdict, LiesIn}
+use Rattle.sf_place.specs.Verdict.{IsFirstOverlapping, IsFirstWithout, IsLeastPair, IsListed, IsVerdict, LiesIn}
 use Rattle.sf_place.proofs.Legality.{none_without, none_over}
 
 one-without : (P : Spot → Type 0) (spots : List Spot) (a b : ℕ) → IsFirstWithout P spots a → IsFirstWithout P spots b → a ≡ b
@@ -17,7 +17,7 @@ one-without P spots a b f g =
       | inr other ↦ elim other [ inl less ↦ absurd (f.without (g.before a less)) | inr less ↦ absurd (g.without (f.before b less)) ]
     ]
 
-one-over : (spots : List Spot) (a b d : ℕ) → IsFirstOver spots a b → IsFirstOver spots a d → b ≡ d
+one-over : (spots : List Spot) (a b d : ℕ) → IsFirstOverlapping spots a b → IsFirstOverlapping spots a d → b ≡ d
 one-over spots a b d f g =
     elim (cases_order b d) [
       | inl e ↦ e
@@ -38,7 +38,7 @@ one-first spots a b c d f g =
 one-pair : (spots : List Spot) (a b c d : ℕ) → IsLeastPair spots a b → IsLeastPair spots c d → verdict.Overlap a b ≡ verdict.Overlap c d
 one-pair spots a b c d f g =
     let first = one-first spots a b c d f g in
-    let second = one-over spots c b d (subst (λ n. IsFirstOver spots n b) first f.pair) g.pair in
+    let second = one-over spots c b d (subst (λ n. IsFirstOverlapping spots n b) first f.pair) g.pair in
     ap (λ n. verdict.Overlap n b) first ∙ ap (verdict.Overlap c) second
 
 module _ (design : Design) (spots : List Spot) (numbered : IsByNumber spots) where

@@ -2,8 +2,8 @@
 use Rattle.std.proofs.Common.{◌≡◌, List, [], ◌∷◌, ◌++◌, refl}
 use Rattle.std.specs.Prelude.{slice_set}
 use Rattle.sf_model.specs.declared.plan.Spot.{Spot}
-use Rattle.sf_place.specs.Spots.{placed}
+use Rattle.sf_place.specs.Spots.{with_spots}
 
-pub placed_append : (old xs ys : List Spot) → placed old (xs ++ ys) ≡ placed (placed old xs) ys
+pub placed_append : (old xs ys : List Spot) → with_spots old (xs ++ ys) ≡ with_spots (with_spots old xs) ys
 placed_append old [] ys = refl
 placed_append old (s ∷ ss) ys = placed_append (slice_set old s.block s) ss ys

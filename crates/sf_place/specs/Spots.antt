@@ -1,8 +1,7 @@
 -- The spots of blocks, listed by block number.
-use Rattle.std.specs.Prelude.{◌≡◌, ℕ, ◌<◌, List, [], ◌∷◌, length, map, slice_set, pos, neg_ℤ, ◌≤ℤ◌}
+use Rattle.std.specs.Prelude.{◌≡◌, ℕ, List, [], ◌∷◌, length, map, slice_set, pos, neg_ℤ, ◌≤ℤ◌}
 use Rattle.std.specs.List.{range_with_len}
 use Rattle.sf_model.specs.declared.plan.Spot.{Spot}
-use Rattle.sf_model.specs.Tree.{Tree, Leaf, Beside, Above}
 use Rattle.sf_model.specs.Wire.{spot_of}
 
 -- the spots are those of blocks 0, 1 and so on, in this order
@@ -21,12 +20,6 @@ pub record HasNearCorner (s : Spot) : Type 0 where
   pub upper : s.y ≤ℤ pos 9000000000000000
 
 -- a list by number once these spots are written into it
-abbrev pub placed : List Spot → List Spot → List Spot
-placed old [] = old
-placed old (s ∷ ss) = placed (slice_set old s.block s) ss
-
--- each block of the plan has a lower number
-abbrev pub HasBlocksBelow : ℕ → Tree → Type 0
-HasBlocksBelow n (Leaf b s) = b < n
-HasBlocksBelow n (Beside l r) = HasBlocksBelow n l × HasBlocksBelow n r
-HasBlocksBelow n (Above l r) = HasBlocksBelow n l × HasBlocksBelow n r
+abbrev pub with_spots : List Spot → List Spot → List Spot
+with_spots old [] = old
+with_spots old (s ∷ ss) = with_spots (slice_set old s.block s) ss

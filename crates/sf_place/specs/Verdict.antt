@@ -32,11 +32,11 @@ pub record IsFirstWithout (P : Spot → Type 0) (spots : List Spot) (b : ℕ) : 
   pub before : (a : ℕ) → a < b → P (spot_of a spots)
 
 -- no later block's spot overlaps that of block a
-abbrev pub IsOverNone : List Spot → ℕ → Type 0
-IsOverNone spots a = (j : ℕ) → a < j → j < length spots → ¬ (Overlaps (spot_of a spots) (spot_of j spots))
+abbrev pub OverlapsNoLater : List Spot → ℕ → Type 0
+OverlapsNoLater spots a = (j : ℕ) → a < j → j < length spots → ¬ (Overlaps (spot_of a spots) (spot_of j spots))
 
 -- block b is the first after a whose spot overlaps that of a
-pub record IsFirstOver (spots : List Spot) (a b : ℕ) : Type 0 where
+pub record IsFirstOverlapping (spots : List Spot) (a b : ℕ) : Type 0 where
   pub in_order : a < b
   pub in_range : b < length spots
   pub overlap : Overlaps (spot_of a spots) (spot_of b spots)
@@ -44,8 +44,8 @@ pub record IsFirstOver (spots : List Spot) (a b : ℕ) : Type 0 where
 
 -- of all pairs of blocks whose spots overlap, a and b are the first: a is least, then b
 pub record IsLeastPair (spots : List Spot) (a b : ℕ) : Type 0 where
-  pub pair : IsFirstOver spots a b
-  pub earlier : (i : ℕ) → i < a → IsOverNone spots i
+  pub pair : IsFirstOverlapping spots a b
+  pub earlier : (i : ℕ) → i < a → OverlapsNoLater spots i
 
 -- the verdict names the first fault: a size that isn't listed, else a spot that isn't in the outline, else an overlap
 abbrev pub IsVerdict : Design → List Spot → Verdict → Type 0

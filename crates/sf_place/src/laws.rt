@@ -9,5 +9,6 @@ ghost use Rattle.sf_place.specs.Verdict.{IsVerdict};
 
 /// Spots by number have one verdict.
 pub fn verdicts_are_one()
-    ensures { (design : Design) (spots : List Spot) (v w : Verdict) → IsByNumber spots → IsVerdict design spots v → IsVerdict design spots w → v ≡ w }
+    ensures { (design : Design) (spots : List Spot) (v w : Verdict) → IsByNumber spots
+        → IsVerdict design spots v → IsVerdict design spots w → v ≡ w }
 {}

@@ -7,11 +7,11 @@
 #![tactic(auto)]
 
 mod laws;
-pub mod measure;
-pub mod placing;
+mod measure;
+mod placing;
 #[cfg(test)]
 mod tests;
-pub mod verdict;
+mod verdict;
 
 pub use laws::verdicts_are_one;
 pub use measure::{fits, size};

@@ -1,10 +1,12 @@
+//! Where the blocks of a plan stand.
+
 ghost use Rattle.std.specs.Prelude.{◌≡◌, ℕ, ◌+◌, ◌*◌, ◌<◌, ◌≤◌, ◌^◌, length, Contains, IfOk};
 ghost use Rattle.sf_model.specs.declared.design.Design.{Design as DesignValue};
-ghost use Rattle.sf_model.specs.Tree.{tree_of, width, height, leaf_count, spots_at, spots_of};
+ghost use Rattle.sf_model.specs.Tree.{tree_of, width, height, leaf_count, spots_at, spots_of, HasBlocksBelow};
 ghost use Rattle.sf_model.specs.Legal.{HasEachOnce, IsLegal, Fits};
 ghost use Rattle.sf_model.specs.Wire.{spot_of, wire};
 ghost use Rattle.sf_model.specs.Cost.{cost, spots_cost};
-ghost use Rattle.sf_place.specs.Spots.{IsByNumber, by_number, placed, HasBlocksBelow};
+ghost use Rattle.sf_place.specs.Spots.{IsByNumber, by_number, with_spots};
 ghost use Rattle.sf_place.specs.Verdict.{AreLegal};
 
 use sf_model::{Plan, Shape, Spot};
@@ -23,10 +25,14 @@ const NOWHERE: Spot = Spot {
 pub fn spots(alloc: Global, plan: &Plan, blocks: u16) -> Result<Vec<Spot>, NoMemory>
     requires { HasEachOnce blocks (tree_of plan.now) }
     ensures placed { IfOk result (λ v. v.items ≡ by_number blocks (spots_of (tree_of plan.now))) }
-    ensures same_spots { (b : ℕ) → IfOk result (λ v. spot_of b v.items ≡ spot_of b (spots_of (tree_of plan.now))) }
-    ensures same_wire { (design : DesignValue) → IfOk result (λ v. wire design v.items ≡ wire design (spots_of (tree_of plan.now))) }
-    ensures same_cost { (design : DesignValue) → IfOk result (λ v. spots_cost design v.items ≡ cost design (tree_of plan.now)) }
-    ensures legal { (design : DesignValue) → IsLegal design (tree_of plan.now) → Fits design.outline (tree_of plan.now) → IfOk result (λ v. AreLegal design v.items) }
+    ensures same_spots { (b : ℕ) → IfOk result (λ v. spot_of b v.items
+        ≡ spot_of b (spots_of (tree_of plan.now))) }
+    ensures same_wire { (design : DesignValue)
+        → IfOk result (λ v. wire design v.items ≡ wire design (spots_of (tree_of plan.now))) }
+    ensures same_cost { (design : DesignValue)
+        → IfOk result (λ v. spots_cost design v.items ≡ cost design (tree_of plan.now)) }
+    ensures legal { (design : DesignValue) → IsLegal design (tree_of plan.now)
+        → Fits design.outline (tree_of plan.now) → IfOk result (λ v. AreLegal design v.items) }
 {
     let mut spots = vec![in alloc; NOWHERE; usize::from(blocks)]?;
     place(plan, 0, 0, &mut spots);
@@ -54,7 +60,7 @@ fn place(plan: &Plan, x: u64, y: u64, spots: &mut [Spot]) -> (u64, u64)
     ensures height { result.1 ≡ height (tree_of plan.now) }
     ensures narrow { result.0 ≤ 2 ^ 32 * leaf_count (tree_of plan.now) }
     ensures low { result.1 ≤ 2 ^ 32 * leaf_count (tree_of plan.now) }
-    ensures placed { spots.new ≡ placed spots.old (spots_at x y (tree_of plan.now)) }
+    ensures placed { spots.new ≡ with_spots spots.old (spots_at x y (tree_of plan.now)) }
 {
     match plan {
         Plan::Leaf(block, shape) => {

@@ -1,13 +1,17 @@
+//! Whether rectangles are a floorplan of a design.
+
 ghost use Rattle.std.specs.Prelude.{◌≡◌, ◌<◌, ◌↔◌, length, All, AllPairs, IsTrue, MatchOption, Contains, pos, neg_ℤ, ◌+ℤ◌, ◌≤ℤ◌, ◌<ℤ◌};
 ghost use Rattle.sf_model.specs.Tree.{Overlaps};
 ghost use Rattle.sf_model.specs.Legal.{block_count, shapes_of};
 ghost use Rattle.sf_place.specs.Spots.{IsByNumber, HasNearCorner};
-ghost use Rattle.sf_place.specs.Verdict.{AreLegal, IsVerdict, IsListed, LiesIn, IsFirstWithout, IsOverNone, IsFirstOver, IsLeastPair};
+ghost use Rattle.sf_place.specs.Verdict.{AreLegal, IsVerdict, IsListed, LiesIn, IsFirstWithout, OverlapsNoLater, IsFirstOverlapping, IsLeastPair};
 
 use crate::placing::spot_at;
 use sf_model::{Design, Outline, Shape, Spot};
 
-/// What a placement is, or the first fault that it has.
+/// What a placement is, or the first fault that it has, with the numbers of the blocks that show it: a
+/// block whose size isn't in its list, else one that isn't in the outline, else two that overlap, the lower
+/// number first. Listed sizes have no side of 0, so a legal placement has none.
 #[derive(Clone, Copy, Debug, PartialEq, Eq)]
 pub enum Verdict {
     Legal,
@@ -16,7 +20,8 @@ pub enum Verdict {
     Overlap(u16, u16),
 }
 
-/// Judges a placement. Rectangles that share no more than edges don't overlap.
+/// Judges a placement in scaled whole units, of one rectangle for each block, by number. Rectangles that
+/// share no more than edges don't overlap.
 pub fn check_spots(design: &Design, spots: &[Spot]) -> Verdict
     requires one_each { length spots.now ≡ block_count design.now }
     requires by_number { IsByNumber spots.now }
@@ -31,7 +36,7 @@ pub fn check_spots(design: &Design, spots: &[Spot]) -> Verdict
         return Verdict::Outside(block);
     }
     match first_overlap(spots) {
-        Some((lower, upper)) => Verdict::Overlap(lower, upper),
+        Some((first, second)) => Verdict::Overlap(first, second),
         None => Verdict::Legal,
     }
 }
@@ -41,7 +46,8 @@ pub fn check_spots(design: &Design, spots: &[Spot]) -> Verdict
 fn first_unlisted(design: &Design, spots: &[Spot]) -> Option<u16>
     requires one_each { length spots.now ≡ block_count design.now }
     requires by_number { IsByNumber spots.now }
-    ensures { MatchOption result (All (IsListed design.now) spots.now) (IsFirstWithout (IsListed design.now) spots.now) }
+    ensures { MatchOption result (All (IsListed design.now) spots.now)
+        (IsFirstWithout (IsListed design.now) spots.now) }
 {
     for block in 0..spots.len() {
         let spot = spot_at(spots, block);
@@ -70,7 +76,8 @@ pub fn is_listed(design: &Design, block: u16, shape: Shape) -> bool
 fn first_outside(outline: Outline, spots: &[Spot]) -> Option<u16>
     requires by_number { IsByNumber spots.now }
     requires near { All HasNearCorner spots.now }
-    ensures { MatchOption result (All (LiesIn outline) spots.now) (IsFirstWithout (LiesIn outline) spots.now) }
+    ensures { MatchOption result (All (LiesIn outline) spots.now)
+        (IsFirstWithout (LiesIn outline) spots.now) }
 {
     for block in 0..spots.len() {
         let spot = spot_at(spots, block);
@@ -81,6 +88,7 @@ fn first_outside(outline: Outline, spots: &[Spot]) -> Option<u16>
     None
 }
 
+/// Whether a rectangle lies in the outline.
 fn lies_in(outline: Outline, spot: Spot) -> bool
     requires { HasNearCorner spot }
     ensures { IsTrue result ↔ LiesIn outline spot }
@@ -102,10 +110,11 @@ fn lies_between(from: i64, side: u32, end: u32) -> bool
 fn first_overlap(spots: &[Spot]) -> Option<(u16, u16)>
     requires by_number { IsByNumber spots.now }
     requires near { All HasNearCorner spots.now }
-    ensures { MatchOption result (AllPairs (λ s t. ¬ (Overlaps s t)) spots.now) (λ p. IsLeastPair spots.now p.0 p.1) }
+    ensures { MatchOption result (AllPairs (λ s t. ¬ (Overlaps s t)) spots.now)
+        (λ p. IsLeastPair spots.now p.0 p.1) }
 {
     for block in 0..spots.len() {
-        if let Some(other) = first_over(spots, block) {
+        if let Some(other) = first_overlapping(spots, block) {
             return Some((spot_at(spots, block).block, other));
         }
     }
@@ -113,11 +122,11 @@ fn first_overlap(spots: &[Spot]) -> Option<(u16, u16)>
 }
 
 /// The first block after this one whose spot overlaps its spot.
-fn first_over(spots: &[Spot], block: usize) -> Option<u16>
+fn first_overlapping(spots: &[Spot], block: usize) -> Option<u16>
     requires by_number { IsByNumber spots.now }
     requires near { All HasNearCorner spots.now }
     requires in_range { block < length spots.now }
-    ensures { MatchOption result (IsOverNone spots.now block) (IsFirstOver spots.now block) }
+    ensures { MatchOption result (OverlapsNoLater spots.now block) (IsFirstOverlapping spots.now block) }
 {
     let spot = spot_at(spots, block);
     for later in block + 1..spots.len() {
@@ -129,6 +138,7 @@ fn first_over(spots: &[Spot], block: usize) -> Option<u16>
     None
 }
 
+/// Whether two rectangles share a point inside both.
 fn overlaps(one: Spot, other: Spot) -> bool
     requires near { HasNearCorner one }
     requires other_near { HasNearCorner other }

@@ -7,22 +7,17 @@ use Rattle.std.proofs.lemmas.List.{take_more}
 use Rattle.sf_model.specs.declared.parts.Outline.{Outline}
 use Rattle.sf_model.specs.declared.plan.Spot.{Spot}
 use Rattle.sf_model.specs.Cost.{right_end, upper_end}
+use Rattle.sf_model.proofs.Ends.{right_end-append, upper_end-append}
 use Rattle.sf_place.specs.Verdict.{LiesIn}
 
-right_end-append : (xs ys : List Spot) → right_end (xs ++ ys) ≡ max (right_end xs) (right_end ys)
-right_end-append [] ys = omega arith
-right_end-append (s ∷ ss) ys = omega (arith, right_end-append ss ys)
-
-upper_end-append : (xs ys : List Spot) → upper_end (xs ++ ys) ≡ max (upper_end xs) (upper_end ys)
-upper_end-append [] ys = omega arith
-upper_end-append (s ∷ ss) ys = omega (arith, upper_end-append ss ys)
-
+-- with one spot more
 pub right_end_more : (ss : List Spot) (i : ℕ) (d : Spot) → i < length ss → right_end (take (i + 1) ss) ≡ max (right_end (take i ss)) (nat_abs ((get_or ss i d).x +ℤ pos (get_or ss i d).w))
 right_end_more ss i d h = omega (arith, ap right_end (take_more ss i d h), right_end-append (take i ss) (get_or ss i d ∷ []))
 
 pub upper_end_more : (ss : List Spot) (i : ℕ) (d : Spot) → i < length ss → upper_end (take (i + 1) ss) ≡ max (upper_end (take i ss)) (nat_abs ((get_or ss i d).y +ℤ pos (get_or ss i d).h))
 upper_end_more ss i d h = omega (arith, ap upper_end (take_more ss i d h), upper_end-append (take i ss) (get_or ss i d ∷ []))
 
+-- spots in an outline end in it
 pub right_end_most : (outline : Outline) (ss : List Spot) → AllByRecursion (LiesIn outline) ss → right_end ss ≤ outline.w
 right_end_most outline [] a = omega arith
 right_end_most outline (s ∷ ss) a = let l = a.0.left in let r = a.0.right in omega (arith, ints, l, r, right_end_most outline ss a.1)

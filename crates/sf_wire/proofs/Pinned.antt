@@ -4,13 +4,13 @@ use Rattle.sf_model.specs.declared.design.Design.{Design}
 use Rattle.sf_model.specs.declared.parts.Net.{Net}
 use Rattle.sf_model.specs.declared.parts.Pin.{Pin}
 use Rattle.sf_model.specs.Legal.{block_count}
-use Rattle.sf_model.specs.Limits.{pin_number, pin_count}
+use Rattle.sf_model.specs.Limits.{IsThere}
 use Rattle.sf_wire.specs.Near.{HasPins}
 
 pub net_pins : (design : Design) (n : ℕ) (net : Net) → n < length design.nets → net ≡ get_or design.nets n net → HasPins design net
 net_pins design n net h e = subst (HasPins design) (sym e) (design.limits.pins n net h).in_range
 
-pub later_pin : (design : Design) (net : Net) (first : Pin) (others : List Pin) → HasPins design net → net.pins ≡ first ∷ others → (k : ℕ) (d : Pin) → k < length others → pin_number (get_or others k d) < pin_count (block_count design) (length design.pads) (get_or others k d)
+pub later_pin : (design : Design) (net : Net) (first : Pin) (others : List Pin) → HasPins design net → net.pins ≡ first ∷ others → (k : ℕ) (d : Pin) → k < length others → IsThere (block_count design) (length design.pads) (get_or others k d)
 later_pin design net first others a e k d h =
-    let P : List Pin → Type 0 = λ pins. pin_number (get_or pins (suc k) d) < pin_count (block_count design) (length design.pads) (get_or pins (suc k) d) in
+    let P : List Pin → Type 0 = λ pins. IsThere (block_count design) (length design.pads) (get_or pins (suc k) d) in
     subst P e (a (suc k) d (omega (arith, h, ap length e)))

@@ -1,3 +1,5 @@
+//! The range of a net's pins along one axis.
+
 ghost use Rattle.std.specs.Prelude.{◌≡◌, ◌≤◌, ◌^◌, ◌-ℤ◌, nat_abs};
 ghost use Rattle.std.specs.Int.{int_max, int_min};
 ghost use Rattle.sf_wire.specs.Near.{IsNear};

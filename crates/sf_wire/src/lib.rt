@@ -5,11 +5,11 @@
 //! that `wire` and `cost` are those of the definitions, and that every cost is below 2^63 + 2^56.
 #![tactic(auto)]
 
-pub mod costs;
+mod costs;
 mod extent;
 #[cfg(test)]
 mod tests;
-pub mod wires;
+mod wires;
 
 pub use costs::{cost, spots_cost, spots_size};
 pub use wires::{net_wire, wire};

@@ -1,5 +1,7 @@
+//! The length of wires in a placement.
+
 ghost use Rattle.std.specs.Prelude.{◌≡◌, ◌<◌, ◌≤◌, ◌^◌, ◌*◌, length};
-ghost use Rattle.sf_model.specs.Limits.{pin_number, pin_count};
+ghost use Rattle.sf_model.specs.Limits.{IsThere};
 ghost use Rattle.sf_model.specs.Legal.{block_count};
 ghost use Rattle.sf_model.specs.Wire.{pin_x, pin_y, net_wire, weighed_wire, wire};
 ghost use Rattle.sf_place.specs.Verdict.{AreLegal};
@@ -10,7 +12,8 @@ use crate::extent::Extent;
 use sf_model::{Design, Net, Pin, Spot};
 use sf_place::spot_at;
 
-/// The half perimeter of the hull of a net's pins, in doubled units.
+/// The wire of a net: the half perimeter of the bounding box of its pins (HPWL), in doubled scaled whole
+/// units, so that centres are whole. Its weight doesn't count.
 pub fn net_wire(design: &Design, net: usize, spots: &[Spot]) -> u64
     requires in_range { net < length design.now.nets }
     requires legal { AreLegal design.now spots.now }
@@ -20,7 +23,7 @@ pub fn net_wire(design: &Design, net: usize, spots: &[Spot]) -> u64
     half_perimeter(design, &design.nets.as_slice()[net], spots)
 }
 
-/// The sum over all nets of weight times `net_wire`, in doubled units.
+/// The sum over all nets of weight times `net_wire`, in doubled scaled whole units.
 pub fn wire(design: &Design, spots: &[Spot]) -> u64
     requires { AreLegal design.now spots.now }
     ensures wire { result ≡ wire design.now spots.now }
@@ -46,6 +49,7 @@ fn weighed_wire(design: &Design, net: &Net, spots: &[Spot]) -> u64
     u64::from(net.weight) * half_perimeter(design, net, spots)
 }
 
+/// The half perimeter of the bounding box of a net's pins, in doubled units.
 fn half_perimeter(design: &Design, net: &Net, spots: &[Spot]) -> u64
     requires legal { AreLegal design.now spots.now }
     requires pins { HasPins design.now net.now }
@@ -69,7 +73,7 @@ fn half_perimeter(design: &Design, net: &Net, spots: &[Spot]) -> u64
 /// The doubled point of a pin: the centre of a block, or where a pad stands.
 fn point_of(design: &Design, pin: Pin, spots: &[Spot]) -> (i64, i64)
     requires legal { AreLegal design.now spots.now }
-    requires in_range { pin_number pin < pin_count (block_count design.now) (length design.now.pads) pin }
+    requires in_range { IsThere (block_count design.now) (length design.now.pads) pin }
     ensures x { result.0 ≡ pin_x design.now spots.now pin }
     ensures y { result.1 ≡ pin_y design.now spots.now pin }
     ensures near_x { IsNear result.0 }

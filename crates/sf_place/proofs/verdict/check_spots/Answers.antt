@@ -12,4 +12,4 @@ returns-in-Some-first_outside-clause-legal c legal =
 
 pub returns-in-Some-first_overlap-clause-legal : goal.returns-in-Some-first_overlap-clause-legal
 returns-in-Some-first_overlap-clause-legal c legal =
-    absurd (none_over c.args.spots.now c.in-Some-first_overlap.lower c.in-Some-first_overlap.upper legal.by_number legal.apart c.in-Some-first_overlap.ensures)
+    absurd (none_over c.args.spots.now c.in-Some-first_overlap.first c.in-Some-first_overlap.second legal.by_number legal.apart c.in-Some-first_overlap.ensures)
