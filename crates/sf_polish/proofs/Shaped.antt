@@ -9,14 +9,14 @@ use Rattle.std.proofs.lemmas.List.Elements.{All-from_recursion, recursion_from_A
 use Rattle.std.proofs.lemmas.List.Sums.{sum_by-cons, sum_by-append}
 use Rattle.sf_model.specs.declared.parts.Shape.{Shape}
 use Rattle.sf_model.specs.Legal.{HasEachOnce}
-use Rattle.sf_model.specs.Tree.{Tree, Leaf, Beside, Above, leaves}
+use Rattle.sf_model.specs.Tree.{Tree, Leaf, Beside, Above, leaves, HasBlocksBelow}
 use Rattle.sf_model.proofs.Each.{each-append, each-left, each-right}
 use Rattle.sf_polish.specs.declared.expr.Expr.{Expr}
 use Rattle.sf_polish.specs.declared.expr.Token.{Token}
 use Rattle.sf_polish.specs.declared.expr.Token.TheVariants as tokens
 use Rattle.sf_polish.specs.Normal.{is_outside, IsNormal}
 use Rattle.sf_polish.specs.Postfix.{postfix, shape_at, Spells}
-use Rattle.sf_polish.specs.Shaping.{no_shape, with_leaves, HasBlocksBelow}
+use Rattle.sf_polish.specs.Shaping.{no_shape, with_leaves}
 use Rattle.sf_polish.proofs.Normality.{inside-number}
 use Rattle.sf_polish.proofs.Spelling.{HasShapes}
 use Rattle.sf_polish.proofs.Stack.{count_by-postfix}

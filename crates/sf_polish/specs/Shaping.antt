@@ -1,5 +1,5 @@
 -- The shapes of a plan's leaves, as a list by block.
-use Rattle.std.specs.Prelude.{ℕ, ◌<◌, List, slice_set}
+use Rattle.std.specs.Prelude.{List, slice_set}
 use Rattle.sf_model.specs.declared.parts.Shape.{Shape}
 use Rattle.sf_model.specs.Tree.{Tree, Leaf, Beside, Above}
 
@@ -12,9 +12,3 @@ abbrev pub with_leaves : List Shape → Tree → List Shape
 with_leaves shapes (Leaf b s) = slice_set shapes b s
 with_leaves shapes (Beside l r) = with_leaves (with_leaves shapes l) r
 with_leaves shapes (Above l r) = with_leaves (with_leaves shapes l) r
-
--- the blocks of all leaves are below n
-abbrev pub HasBlocksBelow : ℕ → Tree → Type 0
-HasBlocksBelow n (Leaf b s) = b < n
-HasBlocksBelow n (Beside l r) = HasBlocksBelow n l × HasBlocksBelow n r
-HasBlocksBelow n (Above l r) = HasBlocksBelow n l × HasBlocksBelow n r

@@ -1,9 +1,12 @@
+//! Tokens, and plans in postfix.
+
 ghost use Rattle.std.specs.Prelude.{◌≡◌};
 
-use sf_model::lists::Shapes;
+use sf_model::Shapes;
 use std::marker::Model;
 
-/// An operand or an operator of a plan in postfix.
+/// An operand or an operator of a plan in postfix. An operator joins the last two items: the last one
+/// stands to the right of the other (`Beside`), or on top of it (`Above`).
 #[derive(Clone, Copy, Debug, PartialEq, Eq)]
 pub enum Token {
     Beside,
@@ -49,18 +52,21 @@ impl Model for Tokens {
 }
 
 impl Tokens {
+    /// The list of these tokens.
     pub fn from_vec(items: Vec<Token>) -> Tokens
         ensures { result ≡ items.items }
     {
         Tokens { items }
     }
 
+    /// Its tokens.
     pub fn into_vec(self) -> Vec<Token>
         ensures { result.items ≡ self }
     {
         self.items
     }
 
+    /// Its tokens, lent.
     pub fn as_slice(&self) -> &[Token]
         ensures { result.now ≡ self.now }
     {
@@ -68,7 +74,7 @@ impl Tokens {
     }
 }
 
-/// A plan in postfix, and the shape of each block by number.
+/// A plan in postfix, and the shape of each block by number, in scaled whole units.
 #[derive(Debug, Drop)]
 pub struct Expr {
     pub tokens: Tokens,

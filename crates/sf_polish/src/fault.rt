@@ -12,7 +12,7 @@ use thiserror::Error;
 pub enum ExprFault {
     #[error("the word is no token of these blocks")]
     BadToken(u64),
-    #[error("the operators outweigh the operands, or are too few at the end")]
+    #[error("the operands are not more than the operators, or too many at the end")]
     NotBallot(u64),
     #[error("the operator repeats the word before it")]
     NotNormal(u64),

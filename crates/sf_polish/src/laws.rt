@@ -16,7 +16,8 @@ pub fn expressions_spell_skewed_plans()
     ensures some_plan { (blocks : ℕ) (expr : Expr) → IsNormal blocks expr.tokens
         → (tree : Tree) × Spells expr tree × IsSkewed tree }
     ensures one_plan { (expr : Expr) (s t : Tree) → Spells expr s → Spells expr t → s ≡ t }
-    ensures each_once { (blocks : ℕ) (expr : Expr) (tree : Tree) → IsNormal blocks expr.tokens → Spells expr tree
+    ensures each_once { (blocks : ℕ) (expr : Expr) (tree : Tree) → IsNormal blocks expr.tokens
+        → Spells expr tree
         → HasEachOnce blocks tree }
     ensures normal { (blocks : ℕ) (expr : Expr) (tree : Tree) → HasEachOnce blocks tree → IsSkewed tree
         → Spells expr tree → IsNormal blocks expr.tokens }

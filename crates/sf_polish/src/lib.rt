@@ -1,33 +1,34 @@
 //! Slicing plans as normalised Polish expressions (Wong and Liu, 1986), and the texts of these.
 //!
-//! An `Expr` is a plan in postfix: a list of tokens, and the shape of each block by number. The crate stands on
-//! `sf_model` for plans and on `sf_lex` for the words and numbers of texts. Normal expressions and skewed plans
-//! correspond: `plan_of` and `expr_of` lead from the ones to the others, each other's inverse by the law
-//! `expressions_spell_skewed_plans`, and `normalise` makes any plan skewed and keeps its leaves and its spots.
-//! `write_expr` writes the one text of an expression, and `read_expr` reads a text just where its words spell a
-//! normal expression, by the law `texts_spell_expressions`; any other text is refused with its first fault.
+//! An `Expr` is a plan in postfix: a list of tokens, and the shape of each block by number. The crate
+//! stands on `sf_model` for plans and on `sf_lex` for the words and numbers of texts. Normal expressions
+//! and skewed plans correspond: `plan_of` and `expr_of` lead from the ones to the others, each other's
+//! inverse by the law `expressions_spell_skewed_plans`, and `normalise` makes any plan skewed and keeps its
+//! leaves and its spots. `write_expr` writes the one text of an expression, and `read_expr` reads a text
+//! just where its words spell a normal expression, by the law `texts_spell_expressions`; any other text is
+//! refused with its first fault.
 #![tactic(auto)]
 
-pub mod expr;
-pub mod fault;
-pub mod laws;
+mod expr;
+mod fault;
+mod laws;
+mod normal;
 mod piece;
 mod postfix;
-pub mod read;
+mod read;
 mod reading;
-pub mod shape_of_tokens;
-pub mod skew;
-pub mod spell;
-pub mod write;
+mod skew;
+mod spell;
+#[cfg(test)]
+mod tests;
+mod write;
 
 pub use expr::{Expr, Token, Tokens};
 pub use fault::ExprFault;
-pub use postfix::expr_of;
+pub use laws::{expressions_spell_skewed_plans, texts_spell_expressions, texts_spell_tokens};
+pub use normal::{ends_in, is_normal};
+pub use postfix::{expr_of, without_shapes};
 pub use read::{read_expr, read_tokens};
-pub use shape_of_tokens::{ends_in, is_normal};
 pub use skew::normalise;
 pub use spell::plan_of;
 pub use write::{push_expr, write_expr};
-
-#[cfg(test)]
-mod tests;

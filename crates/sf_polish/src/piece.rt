@@ -30,6 +30,7 @@ pub fn token_of(piece: Option<Piece>) -> Option<Token>
     }
 }
 
+/// Whether the word is this one byte.
 fn is_byte(word: &[u8], byte: u8) -> bool
     ensures { result ≡ is_byte byte word.now }
 {
@@ -39,6 +40,7 @@ fn is_byte(word: &[u8], byte: u8) -> bool
     }
 }
 
+/// A number below the number of blocks.
 fn read_block(word: &[u8], blocks: u16) -> Option<u16>
     ensures value { result ≡ block_in blocks word.now }
     ensures below { IfSome result (λ b. b < blocks) }
@@ -49,6 +51,7 @@ fn read_block(word: &[u8], blocks: u16) -> Option<u16>
     }
 }
 
+/// A side from 1 to the greatest one.
 fn read_side(word: &[u8]) -> Option<u32>
     ensures { result ≡ side_in word.now }
 {
@@ -58,6 +61,7 @@ fn read_side(word: &[u8]) -> Option<u32>
     }
 }
 
+/// How many bytes stand before the first such byte.
 fn bytes_before(word: &[u8], byte: u8) -> usize
     ensures value { result ≡ position_or_len (λ b. b == byte) word.now }
     ensures bound { result ≤ length word.now }
@@ -77,6 +81,7 @@ fn split_at_byte(word: &[u8], byte: u8) -> (&[u8], &[u8])
     }
 }
 
+/// Two sides with an `x` between them.
 #[tactic(auto, unfolding(crate::specs::Word::shape_in))]
 fn read_shape(word: &[u8]) -> Option<Shape>
     ensures { result ≡ shape_in word.now }

@@ -1,16 +1,14 @@
 //! Plans turned into expressions.
 
 ghost use Rattle.std.specs.Prelude.{◌≡◌, ◌++◌, length, replicate, IfOk, OnOk};
-ghost use Rattle.sf_model.specs.Tree.{tree_of};
+ghost use Rattle.sf_model.specs.Tree.{tree_of, HasBlocksBelow};
 ghost use Rattle.sf_model.specs.Legal.{HasEachOnce};
 ghost use Rattle.sf_polish.specs.Normal.{IsNormal};
 ghost use Rattle.sf_polish.specs.Postfix.{postfix, IsSkewed, Spells};
-ghost use Rattle.sf_polish.specs.Shaping.{no_shape, with_leaves, HasBlocksBelow};
+ghost use Rattle.sf_polish.specs.Shaping.{no_shape, with_leaves};
 
 use crate::expr::{Expr, Token, Tokens};
-use sf_model::lists::Shapes;
-use sf_model::parts::Shape;
-use sf_model::plan::Plan;
+use sf_model::{Plan, Shape, Shapes};
 use std::alloc::{AllocError as NoMemory, Global};
 
 /// The expression that spells a skewed plan. By `expressions_spell_skewed_plans` it is the only one, and

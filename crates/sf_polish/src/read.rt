@@ -12,8 +12,7 @@ use crate::piece::{Piece, read_piece, read_token, token_of};
 use crate::postfix::without_shapes;
 use crate::reading::Reading;
 use sf_lex::Scan;
-use sf_model::lists::Shapes;
-use sf_model::parts::Shape;
+use sf_model::{Shape, Shapes};
 use std::alloc::Global;
 
 /// The tokens of a text of block numbers, `*` and `+`, between blanks. Block numbers are below `blocks`.

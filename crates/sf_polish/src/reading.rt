@@ -10,7 +10,7 @@ ghost use Rattle.sf_polish.specs.Reading.{is_named, operator_after, token_after,
 
 use crate::expr::Token;
 use crate::fault::ExprFault;
-use crate::shape_of_tokens::ends_in;
+use crate::normal::ends_in;
 use sf_lex::last_line;
 use std::alloc::{AllocError as NoMemory, Global};
 
@@ -18,14 +18,15 @@ use std::alloc::{AllocError as NoMemory, Global};
 #[derive(Drop)]
 pub struct Reading {
     tokens: Vec<Token>,
-    // for each block whether it is among the tokens
+    /// For each block whether it is among the tokens.
     named: Vec<bool>,
-    // how many more operands than operators there are
+    /// How many more operands than operators there are.
     depth: usize,
     ghost flags: { named.items ≡ map (λ b. is_named b tokens.items) (range_with_len 0 (length named.items)) },
     ghost balance: { operands tokens.items ≡ operators tokens.items + depth },
 }
 
+/// Whether all flags are set.
 fn are_all_set(flags: &[bool]) -> bool
     ensures { result ≡ list_all (λ b. b) flags.now }
 {
@@ -33,6 +34,7 @@ fn are_all_set(flags: &[bool]) -> bool
 }
 
 impl Reading {
+    /// No tokens yet.
     pub fn new(alloc: Global, blocks: u16) -> Result<Reading, NoMemory>
         ensures tokens { IfOk result (λ r. r.tokens.items ≡ []) }
         ensures blocks { IfOk result (λ r. length r.named.items ≡ blocks) }
@@ -60,11 +62,14 @@ impl Reading {
         }
     }
 
+    /// Takes a block, where it was not named before.
     fn take_block(&mut self, block: u16, line: u64) -> Result<(), ExprFault>
         requires { block < length self.old.named.items }
-        ensures token { OnOk result ((token_after self.old.tokens.items line (Some (Block block)) ≡ Ok (Block block))
+        ensures token { OnOk result ((token_after self.old.tokens.items line (Some (Block block))
+            ≡ Ok (Block block))
             × (self.new.tokens.items ≡ self.old.tokens.items ++ Block block ∷ [])) }
-        ensures fault { IfErr result (λ e. Fails e (token_after self.old.tokens.items line (Some (Block block)))) }
+        ensures fault { IfErr result (λ e. Fails e
+            (token_after self.old.tokens.items line (Some (Block block)))) }
         ensures same_blocks { length self.new.named.items ≡ length self.old.named.items }
     {
         if self.named[block as usize] {
@@ -76,6 +81,7 @@ impl Reading {
         Ok(())
     }
 
+    /// Takes an operator, where two items wait for one and the last token is another.
     fn take_operator(&mut self, operator: Token, line: u64) -> Result<(), ExprFault>
         requires { IsFalse (is_operand operator) }
         ensures token { OnOk result ((operator_after self.old.tokens.items line operator ≡ Ok operator)
@@ -96,8 +102,10 @@ impl Reading {
 
     /// All tokens of the text, where none is missing.
     pub fn finish(self, text: &[u8]) -> Result<Vec<Token>, ExprFault>
-        ensures tokens { IfOk result (λ tokens. ended (length self.named.items) (last_line_of text.now) self.tokens.items ≡ Ok tokens.items) }
-        ensures fault { IfErr result (λ e. Fails e (ended (length self.named.items) (last_line_of text.now) self.tokens.items)) }
+        ensures tokens { IfOk result (λ tokens. ended (length self.named.items)
+            (last_line_of text.now) self.tokens.items ≡ Ok tokens.items) }
+        ensures fault { IfErr result (λ e. Fails e
+            (ended (length self.named.items) (last_line_of text.now) self.tokens.items)) }
     {
         if !are_all_set(&self.named) {
             return Err(ExprFault::MissingBlock(last_line(text)));

@@ -1,6 +1,5 @@
 use super::*;
-use sf_model::parts::Shape;
-use sf_model::plan::Plan;
+use sf_model::{Plan, Shape};
 use std::test::Fail;
 
 /// The number of a fault and its line, and zeros where there is none.

@@ -6,7 +6,7 @@ ghost use Rattle.std.specs.Fmt.{decimal};
 ghost use Rattle.sf_polish.specs.Text.{shape_text, shaped_text, expr_text};
 
 use crate::expr::{Expr, Token};
-use sf_model::parts::Shape;
+use sf_model::Shape;
 use std::alloc::{AllocError as NoMemory, Global};
 
 /// The text of a normal expression: `*` and `+` for the operators, `i:wxh` for a block and its
@@ -35,6 +35,7 @@ pub fn push_expr(text: &mut String, expr: &Expr) -> Result<(), NoMemory>
     Ok(())
 }
 
+/// Adds the word of a token.
 fn push_token(text: &mut String, token: Token, shapes: &[Shape]) -> Result<(), NoMemory>
     requires { IsFalse (is_outside (length shapes.now) token) }
     ensures { OnOk result (string_bytes text.new ≡ string_bytes text.old ++ shaped_text shapes.now token) }
@@ -46,8 +47,10 @@ fn push_token(text: &mut String, token: Token, shapes: &[Shape]) -> Result<(), N
     }
 }
 
+/// Adds a block and its shape.
 fn push_block(text: &mut String, block: u16, shape: Shape) -> Result<(), NoMemory>
-    ensures { OnOk result (string_bytes text.new ≡ string_bytes text.old ++ (decimal block ++ (58 ∷ shape_text shape))) }
+    ensures { OnOk result (string_bytes text.new
+        ≡ string_bytes text.old ++ (decimal block ++ (58 ∷ shape_text shape))) }
 {
     let w = shape.w;
     let h = shape.h;

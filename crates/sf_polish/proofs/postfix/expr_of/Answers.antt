@@ -1,9 +1,9 @@
 use Rattle.std.proofs.Common.{◌++◌, length, ap, sym, subst, ◌∙◌}
 use Rattle.std.proofs.lemmas.List.{length-replicate}
-use Rattle.sf_model.specs.Tree.{tree_of}
+use Rattle.sf_model.specs.Tree.{tree_of, HasBlocksBelow}
 use Rattle.sf_polish.specs.Normal.{IsNormal}
 use Rattle.sf_polish.specs.Postfix.{postfix}
-use Rattle.sf_polish.specs.Shaping.{no_shape, HasBlocksBelow}
+use Rattle.sf_polish.specs.Shaping.{no_shape}
 use Rattle.sf_polish.proofs.Shaped.{once-below, spelled-by}
 use Rattle.sf_polish.proofs.Normality.{postfix-normal}
 use Rattle.sf_polish.proofs.postfix.expr_of.Goals as goal

@@ -1,8 +1,11 @@
+//! Whether tokens are a normalised Polish expression.
+
 ghost use Rattle.std.specs.Prelude.{◌≡◌, ◌<◌, ◌↔◌, ◌≤◌, ℕ, length, take, IsTrue, IsFalse, All, count_by};
 ghost use Rattle.sf_polish.specs.Normal.{is_block, is_outside, ends_in, operands, operators, IsBallot, Alternates, IsNormal};
 
 use crate::expr::Token;
 
+/// Whether the token is this block.
 fn is_block(block: u16, token: Token) -> bool
     ensures { result ≡ is_block block token }
 {
@@ -12,6 +15,7 @@ fn is_block(block: u16, token: Token) -> bool
     }
 }
 
+/// Whether the token is a block that is not among the first ones of this number.
 fn is_outside(blocks: u16, token: Token) -> bool
     ensures { result ≡ is_outside blocks token }
 {
@@ -21,6 +25,7 @@ fn is_outside(blocks: u16, token: Token) -> bool
     }
 }
 
+/// Whether the block stands there exactly once.
 fn is_once(block: u16, tokens: &[Token]) -> bool
     ensures { IsTrue result ↔ (count_by (is_block block) tokens.now ≡ 1) }
 {
@@ -31,6 +36,7 @@ fn is_once(block: u16, tokens: &[Token]) -> bool
     count == 1
 }
 
+/// Whether each block stands there exactly once.
 fn has_each_once(blocks: u16, tokens: &[Token]) -> bool
     ensures { IsTrue result ↔ ((b : ℕ) → b < blocks → count_by (is_block b) tokens.now ≡ 1) }
 {
@@ -42,6 +48,7 @@ fn has_each_once(blocks: u16, tokens: &[Token]) -> bool
     true
 }
 
+/// Whether no other block stands there.
 fn has_no_other(blocks: u16, tokens: &[Token]) -> bool
     ensures { IsTrue result ↔ All (λ t. IsFalse (is_outside blocks t)) tokens.now }
 {
@@ -68,18 +75,21 @@ fn leads_at(tokens: &[Token], end: usize) -> bool
     operators_of(front) < operands_of(front)
 }
 
+/// How many operands there are.
 fn operands_of(tokens: &[Token]) -> usize
     ensures { result ≡ operands tokens.now }
 {
     tokens.iter().filter(|token| token.is_operand()).count()
 }
 
+/// How many operators there are.
 fn operators_of(tokens: &[Token]) -> usize
     ensures { result ≡ operators tokens.now }
 {
     tokens.iter().filter(|token| !token.is_operand()).count()
 }
 
+/// Whether each prefix has more operands than operators.
 fn is_ballot(tokens: &[Token]) -> bool
     ensures { IsTrue result ↔ IsBallot tokens.now }
 {
@@ -91,6 +101,7 @@ fn is_ballot(tokens: &[Token]) -> bool
     true
 }
 
+/// Whether no operator stands right after its like.
 fn alternates(tokens: &[Token]) -> bool
     ensures { IsTrue result ↔ Alternates tokens.now }
 {

@@ -1,6 +1,6 @@
 use Rattle.std.proofs.Common.{arith, rules}
 use Rattle.std.specs.Prelude.{IsTrue}
-use Rattle.sf_polish.proofs.shape_of_tokens.is_normal.Goals as goal
+use Rattle.sf_polish.proofs.normal.is_normal.Goals as goal
 
 pub returns : goal.returns
 returns c =
