@@ -15,7 +15,7 @@ use Rattle.sf_curves.specs.declared.curve_tree.CurveTree.{CurveTree}
 use Rattle.sf_curves.specs.declared.curve_tree.CurveTree.TheVariants as tree
 use Rattle.sf_curves.specs.Choices.{shapes_in, IsChoice, IsRootCurve, TakesFrom, size_of}
 use Rattle.sf_curves.specs.Forms.{form, curve_of, form_of, IsCurveTree, IsTraced, IsChosen, IsSized}
-use Rattle.sf_curves.specs.Points.{IsBelow, IsWithin, IsNoLarger, IsCovered, CoversJoins, IsJoinOf, beside_size, above_size}
+use Rattle.sf_curves.specs.Points.{IsSlimmer, IsWithin, IsNoLarger, IsCovered, CoversJoins, IsJoinOf, beside_size, above_size}
 use Rattle.sf_curves.proofs.Forms.{same-form, form-tokens}
 use Rattle.sf_curves.proofs.OnCurve.{same_point, one_point}
 
@@ -129,7 +129,7 @@ module _ (design : Design) (spans : List (ℕ × ℕ)) where
   pub curve-covers : (tokens : List Token) (c : CurveTree) → IsCurveTree design spans c → postfix (form_of c) ≡ tokens → (t : Tree) → IsChoice design tokens spans t → IsCovered design.outline (curve_of c) (size_of t)
   curve-covers tokens c h is t choice = covers-tree c t h (same-form t c (choice.tokens ∙ sym is)) (recursion_from_All _ (leaves t) choice.shapes)
 
-  pub tree-curve : (tokens : List Token) (c : CurveTree) → IsCurveTree design spans c → postfix (form_of c) ≡ tokens → AllPairs IsBelow (curve_of c) → IsRootCurve design tokens spans (curve_of c)
+  pub tree-curve : (tokens : List Token) (c : CurveTree) → IsCurveTree design spans c → postfix (form_of c) ≡ tokens → AllPairs IsSlimmer (curve_of c) → IsRootCurve design tokens spans (curve_of c)
   tree-curve tokens c h is falls = record { falls = falls; within = within-tree c h; traced = curve-traced tokens c h is; covers = curve-covers tokens c h is }
 
   -- what the curves of the tree say holds of the root curves of the parts

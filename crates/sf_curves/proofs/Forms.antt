@@ -3,13 +3,13 @@ use Rattle.std.proofs.Common.{◌≡◌, ℕ, List, [], refl, ap, sym, subst, �
 use Rattle.std.specs.Prelude.{replicate}
 use Rattle.std.proofs.lemmas.List.{length-replicate}
 use Rattle.std.proofs.lemmas.List.Elements.{All-from_recursion}
-use Rattle.sf_model.specs.Tree.{Tree, Leaf, Beside, Above, leaves}
+use Rattle.sf_model.specs.Tree.{Tree, Leaf, Beside, Above, leaves, HasBlocksBelow}
 use Rattle.sf_model.proofs.Each.{each-append}
 use Rattle.sf_polish.specs.declared.expr.Expr.{Expr}
 use Rattle.sf_polish.specs.declared.expr.Token.{Token}
 use Rattle.sf_polish.specs.Normal.{IsNormal}
 use Rattle.sf_polish.specs.Postfix.{postfix, IsSkewed, shape_at, Spells}
-use Rattle.sf_polish.specs.Shaping.{no_shape, with_leaves, HasBlocksBelow}
+use Rattle.sf_polish.specs.Shaping.{no_shape, with_leaves}
 use Rattle.sf_polish.proofs.Normality.{normal-spelled}
 use Rattle.sf_polish.proofs.Shaped.{once-below, once-of_normal, spelled-by}
 use Rattle.sf_polish.proofs.Spelling.{HasShapes, spells-one}

@@ -13,7 +13,7 @@ use Rattle.sf_polish.specs.Normal.{IsNormal}
 use Rattle.sf_polish.specs.Postfix.{postfix, Spells}
 use Rattle.sf_polish.specs.Shaping.{no_shape}
 use Rattle.sf_polish.proofs.Shaped.{once-of_normal, one-expression}
-use Rattle.sf_curves.specs.Points.{IsBelow, IsWithin, IsNoLarger, IsCovered, IsLeastArea, IsNarrowest, IsLowest, area_of}
+use Rattle.sf_curves.specs.Points.{IsSlimmer, IsWithin, IsNoLarger, IsCovered, IsLeastArea, IsNarrowest, IsLowest, area_of}
 use Rattle.sf_curves.specs.Choices.{IsChoice, IsRootCurve, IsNarrowestOf, IsLowestOf, IsTraceOf, TakesFrom, size_of}
 use Rattle.sf_curves.specs.Forms.{form}
 use Rattle.sf_curves.proofs.Forms.{one-form, form-postfix}
@@ -22,60 +22,60 @@ use Rattle.sf_curves.proofs.OnCurve.{one_point, same_point}
 
 -- ---- lists of points that fall
 
-first-point : (x y : Shape) (xs ys : List Shape) → AllPairs IsBelow (x ∷ xs) → AllPairs IsBelow (y ∷ ys) → Contains (y ∷ ys) x → Contains (x ∷ xs) y → x ≡ y
+first-point : (x y : Shape) (xs ys : List Shape) → AllPairs IsSlimmer (x ∷ xs) → AllPairs IsSlimmer (y ∷ ys) → Contains (y ∷ ys) x → Contains (x ∷ xs) y → x ≡ y
 first-point x y xs ys falls others cx cy =
     elim (Contains-cons_cases y ys x cx) [
       | inl e ↦ sym e
       | inr later ↦ elim (Contains-cons_cases x xs y cy) [
         | inl e ↦ e
-        | inr after ↦ (let a : IsBelow y x = AllPairs-head IsBelow y ys x others later in
-            let b : IsBelow x y = AllPairs-head IsBelow x xs y falls after in
+        | inr after ↦ (let a : IsSlimmer y x = AllPairs-head IsSlimmer y ys x others later in
+            let b : IsSlimmer x y = AllPairs-head IsSlimmer x xs y falls after in
             absurd (omega (arith, a.0, b.0)))
       ]
     ]
 
-in-rest : (x y p : Shape) (xs ys : List Shape) → x ≡ y → AllPairs IsBelow (x ∷ xs) → Contains xs p → Contains (y ∷ ys) p → Contains ys p
+in-rest : (x y p : Shape) (xs ys : List Shape) → x ≡ y → AllPairs IsSlimmer (x ∷ xs) → Contains xs p → Contains (y ∷ ys) p → Contains ys p
 in-rest x y p xs ys e falls here there =
     elim (Contains-cons_cases y ys p there) [
-      | inl same ↦ (let a : IsBelow x p = AllPairs-head IsBelow x xs p falls here in
+      | inl same ↦ (let a : IsSlimmer x p = AllPairs-head IsSlimmer x xs p falls here in
           let w : x.w ≡ p.w = ap (λ (s : Shape). s.w) (e ∙ same) in
           absurd (omega (arith, a.0, w)))
       | inr later ↦ later
     ]
 
 -- two falling lists of the same points are one
-same-points : (xs ys : List Shape) → AllPairs IsBelow xs → AllPairs IsBelow ys → ((p : Shape) → Contains xs p → Contains ys p) → ((p : Shape) → Contains ys p → Contains xs p) → xs ≡ ys
+same-points : (xs ys : List Shape) → AllPairs IsSlimmer xs → AllPairs IsSlimmer ys → ((p : Shape) → Contains xs p → Contains ys p) → ((p : Shape) → Contains ys p → Contains xs p) → xs ≡ ys
 same-points [] [] falls others to from = refl
 same-points [] (y ∷ ys) falls others to from = absurd (not_in_nil y (from y (Contains-head y ys)))
 same-points (x ∷ xs) [] falls others to from = absurd (not_in_nil x (to x (Contains-head x xs)))
 same-points (x ∷ xs) (y ∷ ys) falls others to from =
     let first = first-point x y xs ys falls others (to x (Contains-head x xs)) (from y (Contains-head y ys)) in
-    let more = same-points xs ys (AllPairs-tail IsBelow x xs falls) (AllPairs-tail IsBelow y ys others)
+    let more = same-points xs ys (AllPairs-tail IsSlimmer x xs falls) (AllPairs-tail IsSlimmer y ys others)
     (λ p c. in-rest x y p xs ys first falls c (to p (Contains-tail x xs p c)))
     (λ p c. in-rest y x p ys xs (sym first) others c (from p (Contains-tail y ys p c))) in
     ap (λ z. z ∷ xs) first ∙ ap (λ zs. y ∷ zs) more
 
-same-width : (points : List Shape) (p q : Shape) → AllPairs IsBelow points → Contains points p → Contains points q → p.w ≡ q.w → p ≡ q
+same-width : (points : List Shape) (p q : Shape) → AllPairs IsSlimmer points → Contains points p → Contains points q → p.w ≡ q.w → p ≡ q
 same-width points p q falls cp cq e =
     elim (cases_lt q.h p.h) [
       | inl higher ↦ sym (one_point points q p falls cq cp (omega arith, omega arith))
       | inr low ↦ one_point points p q falls cp cq (omega arith, omega arith)
     ]
 
-same-height : (points : List Shape) (p q : Shape) → AllPairs IsBelow points → Contains points p → Contains points q → p.h ≡ q.h → p ≡ q
+same-height : (points : List Shape) (p q : Shape) → AllPairs IsSlimmer points → Contains points p → Contains points q → p.h ≡ q.h → p ≡ q
 same-height points p q falls cp cq e =
     elim (cases_lt q.w p.w) [
       | inl wider ↦ sym (one_point points q p falls cq cp (omega arith, omega arith))
       | inr thin ↦ one_point points p q falls cp cq (omega arith, omega arith)
     ]
 
-one-narrowest : (limit : ℕ) (points : List Shape) (p q : Shape) → AllPairs IsBelow points → IsNarrowest limit points p → IsNarrowest limit points q → p ≡ q
+one-narrowest : (limit : ℕ) (points : List Shape) (p q : Shape) → AllPairs IsSlimmer points → IsNarrowest limit points p → IsNarrowest limit points q → p ≡ q
 one-narrowest limit points p q falls a b =
     let up : p.w ≤ q.w = All-contains (λ r. r.h ≤ limit → p.w ≤ r.w) points q a.least b.found b.low in
     let down : q.w ≤ p.w = All-contains (λ r. r.h ≤ limit → q.w ≤ r.w) points p b.least a.found a.low in
     same-width points p q falls a.found b.found (omega arith)
 
-one-lowest : (limit : ℕ) (points : List Shape) (p q : Shape) → AllPairs IsBelow points → IsLowest limit points p → IsLowest limit points q → p ≡ q
+one-lowest : (limit : ℕ) (points : List Shape) (p q : Shape) → AllPairs IsSlimmer points → IsLowest limit points p → IsLowest limit points q → p ≡ q
 one-lowest limit points p q falls a b =
     let up : p.h ≤ q.h = All-contains (λ r. r.w ≤ limit → p.h ≤ r.h) points q a.least b.found b.narrow in
     let down : q.h ≤ p.h = All-contains (λ r. r.w ≤ limit → q.h ≤ r.h) points p b.least a.found a.narrow in

@@ -4,7 +4,7 @@ use Rattle.std.proofs.lemmas.List.{map-append, reverse-append, drop_all}
 use Rattle.std.specs.Prelude.{AllPairs}
 use Rattle.sf_model.specs.declared.parts.Shape.{Shape}
 use Rattle.sf_model.specs.declared.parts.Outline.{Outline}
-use Rattle.sf_curves.specs.Points.{IsBelow, IsCombination, AddsWithin, beside_size, above_size}
+use Rattle.sf_curves.specs.Points.{IsSlimmer, IsCombination, AddsWithin, beside_size, above_size}
 use Rattle.sf_curves.proofs.Merge.{IsMerging, IsCombined, front, combined, all_covered, advance_left, advance_right, advance_both, at_front, back_left, back_right}
 use Rattle.sf_curves.proofs.Transpose.{flip, transposed, length-transposed, get_or-transposed, falls-transposed, combination_above}
 
@@ -21,7 +21,7 @@ abbrev from_end : List Shape → ℕ → Shape
 from_end xs i = get_or xs (length xs - 1 - i) record { w = 0; h = 0 }
 
 -- nothing is passed yet
-pub stacking_begins : (lower upper : List Shape) (o : Outline) (points : List Shape) → points ≡ [] → AllPairs IsBelow lower → AllPairs IsBelow upper → IsStacking lower upper o points 0 0
+pub stacking_begins : (lower upper : List Shape) (o : Outline) (points : List Shape) → points ≡ [] → AllPairs IsSlimmer lower → AllPairs IsSlimmer upper → IsStacking lower upper o points 0 0
 stacking_begins lower upper o points empty lower_falls upper_falls =
     subst (λ v. IsMerging (transposed lower) (transposed upper) (turned o) (map flip v) (transposed lower) (transposed upper)) (sym empty) record {
       falls = λ i j d lt in_range. absurd (omega (arith, in_range));
@@ -102,5 +102,5 @@ stacked_all lower upper o points i j m done =
           ]);
     })
 
-pub stacked_falls : (lower upper : List Shape) (o : Outline) (points : List Shape) (i j : ℕ) → IsStacking lower upper o points i j → AllPairs IsBelow (reverse points)
-stacked_falls lower upper o points i j m = subst (AllPairs IsBelow) (turned_back points) (falls-transposed (map flip points) m.falls)
+pub stacked_falls : (lower upper : List Shape) (o : Outline) (points : List Shape) (i j : ℕ) → IsStacking lower upper o points i j → AllPairs IsSlimmer (reverse points)
+stacked_falls lower upper o points i j m = subst (AllPairs IsSlimmer) (turned_back points) (falls-transposed (map flip points) m.falls)

@@ -7,7 +7,7 @@ use Rattle.sf_model.specs.Tree.{Tree, Leaf, Beside, Above, width, height, leaves
 use Rattle.sf_polish.specs.declared.expr.Expr.{Expr}
 use Rattle.sf_polish.specs.declared.expr.Token.{Token}
 use Rattle.sf_polish.specs.Postfix.{postfix, Spells}
-use Rattle.sf_curves.specs.Points.{IsBelow, IsWithin, IsCovered, IsNarrowest, IsLowest}
+use Rattle.sf_curves.specs.Points.{IsSlimmer, IsWithin, IsCovered, IsNarrowest, IsLowest}
 
 -- the span of a block: from the first place of its list, and before the second
 abbrev pub span_in : List (ℕ × ℕ) → ℕ → ℕ × ℕ
@@ -33,7 +33,7 @@ size_of tree = record { w = width tree; h = height tree }
 
 -- the undominated sizes of the choices that lie in the outline
 pub record IsRootCurve (design : Design) (tokens : List Token) (spans : List (ℕ × ℕ)) (points : List Shape) : Type 0 where
-  pub falls : AllPairs IsBelow points
+  pub falls : AllPairs IsSlimmer points
   pub within : All (IsWithin design.outline) points
   pub traced : All (λ p. (tree : Tree) × IsChoice design tokens spans tree × (size_of tree ≡ p)) points
   pub covers : (tree : Tree) → IsChoice design tokens spans tree → IsCovered design.outline points (size_of tree)

@@ -7,7 +7,7 @@ use Rattle.sf_polish.specs.Shaping.{no_shape}
 use Rattle.sf_curves.specs.declared.curve_tree.CurveTree.{CurveTree}
 use Rattle.sf_curves.specs.declared.curve_tree.CurveTree.TheVariants as tree
 use Rattle.sf_curves.specs.Choices.{shapes_in}
-use Rattle.sf_curves.specs.Points.{IsBelow, IsCurveOf, IsCombination, IsJoinOf, IsNarrowest, IsLowest, beside_size, above_size}
+use Rattle.sf_curves.specs.Points.{IsSlimmer, IsCurveOf, IsCombination, IsJoinOf, IsNarrowest, IsLowest, beside_size, above_size}
 
 -- the plan without its shapes
 abbrev pub form : Tree → Tree
@@ -53,12 +53,12 @@ IsChosen (tree.Above' c p l q r) (Above x y) = IsChosen l x × IsChosen r y
 
 -- the narrowest point of a curve that is no higher than the limit
 pub record IsNarrowestOn (curve : List Shape) (limit : ℕ) (p : Shape) : Type 0 where
-  pub falls : AllPairs IsBelow curve
+  pub falls : AllPairs IsSlimmer curve
   pub narrowest : IsNarrowest limit curve p
 
 -- the lowest point of a curve that is no wider than the limit
 pub record IsLowestOn (curve : List Shape) (limit : ℕ) (p : Shape) : Type 0 where
-  pub falls : AllPairs IsBelow curve
+  pub falls : AllPairs IsSlimmer curve
   pub lowest : IsLowest limit curve p
 
 -- the plan has the form of the tree, and its shapes are those that the point leads to on the curves

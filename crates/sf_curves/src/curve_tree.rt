@@ -1,11 +1,13 @@
+//! Slicing trees with the curve of each subtree.
+
 ghost use Rattle.std.specs.Prelude.{◌≡◌, ◌<◌, length, AllPairs, IfOk};
-ghost use Rattle.sf_model.specs.Tree.{tree_of};
-ghost use Rattle.sf_polish.specs.Shaping.{HasBlocksBelow};
+ghost use Rattle.sf_model.specs.Tree.{tree_of, HasBlocksBelow};
 ghost use Rattle.sf_curves.specs.Choices.{shapes_in, AreSpans};
 ghost use Rattle.sf_curves.specs.Forms.{form, curve_of, form_of, IsCurveTree};
-ghost use Rattle.sf_curves.specs.Points.{IsBelow, IsCurveOf};
+ghost use Rattle.sf_curves.specs.Points.{IsSlimmer, IsCurveOf};
 
-use crate::curve::{Curve, Point};
+use crate::curve::Curve;
+use crate::point::Point;
 use sf_model::{Design, Plan};
 use std::alloc::{AllocError as NoMemory, Global};
 
@@ -32,7 +34,7 @@ impl CurveTree {
     /// The same, without the tree.
     pub(crate) fn into_curve(self) -> Curve
         ensures is { result ≡ curve_of self }
-        ensures falls { AllPairs IsBelow result }
+        ensures falls { AllPairs IsSlimmer result }
     {
         match self {
             CurveTree::Leaf(_, curve) => curve,
@@ -53,11 +55,7 @@ pub fn block_curve(
     requires inside { block < length design.now.blocks }
     ensures { IfOk result (IsCurveOf design.now.outline (shapes_in design.now spans.now block)) }
 {
-    let (from, to) = spans[usize::from(block)];
-    let shapes = design.blocks.as_slice()[usize::from(block)]
-        .shapes
-        .as_slice();
-    Curve::of_shapes(alloc, shapes, from, to, design.outline)
+    block_curve_in(Vec::new(alloc), design, spans, block)
 }
 
 /// The same in a list that is at hand.
@@ -72,10 +70,7 @@ pub fn block_curve_in(
     ensures { IfOk result (IsCurveOf design.now.outline (shapes_in design.now spans.now block)) }
 {
     let (from, to) = spans[usize::from(block)];
-    let shapes = design.blocks.as_slice()[usize::from(block)]
-        .shapes
-        .as_slice();
-    Curve::of_shapes_in(list, shapes, from, to, design.outline)
+    Curve::of_shapes_in(list, design.shapes_of(block), from, to, design.outline)
 }
 
 /// The curves of all subtrees of a plan; its own shapes don't count.

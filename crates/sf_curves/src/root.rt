@@ -1,3 +1,5 @@
+//! The curve of a whole expression.
+
 ghost use Rattle.std.specs.Prelude.{◌≡◌, length, IfOk};
 ghost use Rattle.sf_model.specs.Tree.{tree_of};
 ghost use Rattle.sf_polish.specs.Normal.{IsNormal};
@@ -7,17 +9,17 @@ ghost use Rattle.sf_curves.specs.Forms.{form_of, IsCurveTree};
 
 use crate::curve::Curve;
 use crate::curve_tree::{CurveTree, curve_tree};
-use sf_model::{Design, Plan, Shape, Shapes};
-use sf_polish::{Expr, Token, Tokens, plan_of};
+use sf_model::{Design, Plan, Shapes};
+use sf_polish::{Expr, Token, Tokens, plan_of, without_shapes};
 use std::alloc::{AllocError as NoMemory, Global};
 
-// A plan with these tokens, in no shapes.
-fn form(alloc: Global, blocks: usize, tokens: &[Token]) -> Result<Plan, NoMemory>
+/// A plan with these tokens, in no shapes.
+fn plan_without_shapes(alloc: Global, blocks: u16, tokens: &[Token]) -> Result<Plan, NoMemory>
     requires { IsNormal blocks tokens.now }
     ensures { IfOk result (λ plan. postfix (tree_of plan) ≡ tokens.now) }
 {
     let tokens = Vec::from_slice(alloc, tokens)?;
-    let shapes = vec![in alloc; Shape { w: 0, h: 0 }; blocks]?;
+    let shapes = without_shapes(alloc, blocks)?;
     let expr = Expr {
         tokens: Tokens::from_vec(tokens),
         shapes: Shapes::from_vec(shapes),
@@ -26,7 +28,7 @@ fn form(alloc: Global, blocks: usize, tokens: &[Token]) -> Result<Plan, NoMemory
 }
 
 /// The curves of all parts of an expression.
-pub(crate) fn curves(
+pub(crate) fn curve_tree_of(
     alloc: Global,
     design: &Design,
     tokens: &[Token],
@@ -37,12 +39,12 @@ pub(crate) fn curves(
     ensures curves { IfOk result (IsCurveTree design.now spans.now) }
     ensures form { IfOk result (λ tree. postfix (form_of tree) ≡ tokens.now) }
 {
-    let plan = form(alloc, design.blocks.as_slice().len(), tokens)?;
+    let plan = plan_without_shapes(alloc, design.block_count(), tokens)?;
     curve_tree(alloc, design, spans, &plan)
 }
 
-/// The curve of a whole expression, whose blocks take any shape from their spans. A point stands for a size, not for a
-/// plan: `trace` gives a plan of it.
+/// The curve of a whole expression, whose blocks take any shape from their spans. A point stands for a
+/// size, not for a plan: `trace` gives a plan of it.
 pub fn root_curve(
     alloc: Global,
     design: &Design,
@@ -53,6 +55,6 @@ pub fn root_curve(
     requires spans { AreSpans design.now spans.now }
     ensures { IfOk result (IsRootCurve design.now tokens.now spans.now) }
 {
-    let tree = curves(alloc, design, tokens, spans)?;
+    let tree = curve_tree_of(alloc, design, tokens, spans)?;
     Ok(tree.into_curve())
 }

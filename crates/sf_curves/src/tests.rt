@@ -130,8 +130,8 @@ fn one_block(rt: HostRuntime) -> Result<(), Fail> {
     Ok(())
 }
 
-/// Shapes in no order. Of those with a width of 4 one is higher than the other, 5 by 5 is larger than 4 by 5, 2 by 7 comes
-/// twice, and 1 by 12 is higher than the outline.
+/// Shapes in no order. Of those with a width of 4 one is higher than the other, 5 by 5 is larger than 4 by
+/// 5, 2 by 7 comes twice, and 1 by 12 is higher than the outline.
 #[test]
 fn shapes_in_no_order(rt: HostRuntime) -> Result<(), Fail> {
     let alloc = rt.alloc();

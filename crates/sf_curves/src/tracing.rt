@@ -1,22 +1,26 @@
+//! A plan of a size on the curve of an expression.
+
 ghost use Rattle.std.specs.Prelude.{◌≡◌, ◌≤◌, length, All, AllPairs, Any, Contains, IfOk};
 ghost use Rattle.sf_model.specs.Tree.{tree_of};
 ghost use Rattle.sf_model.specs.declared.parts.Shape.{Shape};
 ghost use Rattle.sf_polish.specs.Normal.{IsNormal};
 ghost use Rattle.sf_curves.specs.Choices.{AreSpans, IsOnRootCurve, IsTraceOf, size_of};
 ghost use Rattle.sf_curves.specs.Forms.{curve_of, IsTraced, IsChosen, IsSized, IsNarrowestOn, IsLowestOn};
-ghost use Rattle.sf_curves.specs.Points.{IsBelow, IsNarrowest, IsLowest, IsNoLarger, IsJoinOf, beside_size, above_size};
+ghost use Rattle.sf_curves.specs.Points.{IsSlimmer, IsNarrowest, IsLowest, IsNoLarger, IsJoinOf, beside_size, above_size};
 
-use crate::curve::{Curve, Point};
+use crate::curve::Curve;
 use crate::curve_tree::CurveTree;
-use crate::root::curves;
+use crate::point::Point;
+use crate::root::curve_tree_of;
 use sf_model::{Design, Plan};
 use sf_polish::{Expr, Token, expr_of};
 use std::alloc::{AllocError as NoMemory, Global};
 
-fn narrowest(curve: &Curve, limit: u32) -> Point
+/// The narrowest point that is no higher than the limit, where there is one.
+fn narrowest_point(curve: &Curve, limit: u32) -> Point
     requires { Any (λ q. q.h ≤ limit) curve.now }
     ensures narrowest { IsNarrowest limit curve.now result }
-    ensures falls { AllPairs IsBelow curve.now }
+    ensures falls { AllPairs IsSlimmer curve.now }
 {
     let Some(point) = curve.narrowest(limit) else {
         unreachable!()
@@ -24,10 +28,11 @@ fn narrowest(curve: &Curve, limit: u32) -> Point
     point
 }
 
-fn lowest(curve: &Curve, limit: u32) -> Point
+/// The lowest point that is no wider than the limit, where there is one.
+fn lowest_point(curve: &Curve, limit: u32) -> Point
     requires { Any (λ q. q.w ≤ limit) curve.now }
     ensures lowest { IsLowest limit curve.now result }
-    ensures falls { AllPairs IsBelow curve.now }
+    ensures falls { AllPairs IsSlimmer curve.now }
 {
     let Some(point) = curve.lowest(limit) else {
         unreachable!()
@@ -35,29 +40,35 @@ fn lowest(curve: &Curve, limit: u32) -> Point
     point
 }
 
-// The points of two rooms side by side for a point of their curve: of each its narrowest that is no higher.
+/// The points of two rooms side by side for a point of their curve: of each its narrowest that is no higher.
 fn beside_points(curve: &Curve, left: &Curve, right: &Curve, point: Point) -> (Point, Point)
     requires joined { All (IsJoinOf beside_size left.now right.now) curve.now }
     requires on_curve { Contains curve.now point }
     ensures left { IsNarrowestOn left.now point.h result.0 }
     ensures right { IsNarrowestOn right.now point.h result.1 }
-    ensures small { (x : Shape) (y : Shape) → IsNoLarger x result.0 → IsNoLarger y result.1 → IsNoLarger (beside_size x y) point }
+    ensures small { (x : Shape) (y : Shape) → IsNoLarger x result.0 → IsNoLarger y result.1
+        → IsNoLarger (beside_size x y) point }
 {
-    (narrowest(left, point.h), narrowest(right, point.h))
+    (
+        narrowest_point(left, point.h),
+        narrowest_point(right, point.h),
+    )
 }
 
-// The points of two rooms one above the other for a point of their curve: of each its lowest that is no wider.
+/// The points of two rooms one above the other for a point of their curve: of each its lowest that is no
+/// wider.
 fn above_points(curve: &Curve, lower: &Curve, upper: &Curve, point: Point) -> (Point, Point)
     requires joined { All (IsJoinOf above_size lower.now upper.now) curve.now }
     requires on_curve { Contains curve.now point }
     ensures lower { IsLowestOn lower.now point.w result.0 }
     ensures upper { IsLowestOn upper.now point.w result.1 }
-    ensures small { (x : Shape) (y : Shape) → IsNoLarger x result.0 → IsNoLarger y result.1 → IsNoLarger (above_size x y) point }
+    ensures small { (x : Shape) (y : Shape) → IsNoLarger x result.0 → IsNoLarger y result.1
+        → IsNoLarger (above_size x y) point }
 {
-    (lowest(lower, point.w), lowest(upper, point.w))
+    (lowest_point(lower, point.w), lowest_point(upper, point.w))
 }
 
-// The plan of a point on the curve of a tree.
+/// The plan of a point on the curve of a tree.
 fn sized_plan(alloc: Global, tree: &CurveTree, point: Point) -> Result<Plan, NoMemory>
     requires traced { IsTraced tree.now }
     requires on_curve { Contains (curve_of tree.now) point }
@@ -82,8 +93,9 @@ fn sized_plan(alloc: Global, tree: &CurveTree, point: Point) -> Result<Plan, NoM
     }
 }
 
-/// The plan of a point on the root curve (Stockmeyer 1983): of two rooms side by side each takes its narrowest point that
-/// is no higher than the point of both, of two rooms one above the other each its lowest that is no wider.
+/// The plan of a point on the root curve (Stockmeyer 1983): of two rooms side by side each takes its
+/// narrowest point that is no higher than the point of both, of two rooms one above the other each its
+/// lowest that is no wider.
 pub fn trace(
     alloc: Global,
     design: &Design,
@@ -98,7 +110,7 @@ pub fn trace(
     ensures tokens { IfOk result (λ expr. expr.tokens ≡ tokens.now) }
     ensures one_each { IfOk result (λ expr. length expr.shapes ≡ length design.now.blocks) }
 {
-    let tree = curves(alloc, design, tokens, spans)?;
+    let tree = curve_tree_of(alloc, design, tokens, spans)?;
     let plan = sized_plan(alloc, &tree, point)?;
-    expr_of(alloc, &plan, design.blocks.as_slice().len() as u16)
+    expr_of(alloc, &plan, design.block_count())
 }

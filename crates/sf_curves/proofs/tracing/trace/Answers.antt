@@ -31,7 +31,7 @@ expr_of-requires-clause-skewed c =
 pub expr_of-requires-clause-each_once : goal.expr_of-requires-clause-each_once
 expr_of-requires-clause-each_once c =
     let choice = chosen-choice c.args.design.now c.args.spans.now c.args.tokens.now c.in_ok-tree.tree (tree_of c.in_ok-plan.plan) c.in_ok-tree.ensures.curves c.in_ok-tree.ensures.form c.in_ok-plan.ensures.chosen in
-    subst (λ v. HasEachOnce (length v) (tree_of c.in_ok-plan.plan)) (sym c.as_slice.ensures)
+    subst (λ n. HasEachOnce n (tree_of c.in_ok-plan.plan)) (sym c.block_count.ensures)
     (once-of_normal (length c.args.design.now.blocks) c.args.tokens.now (tree_of c.in_ok-plan.plan) c.requires.normal choice.tokens)
 
 pub returns-clause-traced : goal.returns-clause-traced

@@ -4,7 +4,7 @@ use Rattle.sf_polish.specs.Postfix.{postfix}
 use Rattle.sf_curves.specs.Forms.{form, form_of}
 use Rattle.sf_curves.proofs.Forms.{postfix-form, below-of_normal}
 use Rattle.sf_curves.proofs.Members.{IfOk-weaker}
-use Rattle.sf_curves.proofs.root.curves.Goals as goal
+use Rattle.sf_curves.proofs.root.curve_tree_of.Goals as goal
 
 pub curve_tree-requires-clause-blocks : goal.curve_tree-requires-clause-blocks
 curve_tree-requires-clause-blocks c =

@@ -1,6 +1,6 @@
 use Rattle.std.proofs.Common.{arith, length, ◌-◌}
 use Rattle.sf_curves.proofs.OnCurve.{lowest_at}
-use Rattle.sf_curves.proofs.curve.last_narrow.Goals as goal
+use Rattle.sf_curves.proofs.picking.last_narrow_point.Goals as goal
 
 pub returns-then-point-limit : goal.returns-then-point-limit
 returns-then-point-limit c =

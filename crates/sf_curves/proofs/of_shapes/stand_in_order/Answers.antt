@@ -3,7 +3,7 @@ use Rattle.std.proofs.lemmas.List.{take_all}
 use Rattle.std.specs.Prelude.{AllPairs}
 use Rattle.sf_curves.specs.Points.{IsNoLater}
 use Rattle.sf_curves.proofs.Sorting.{in_order_more}
-use Rattle.sf_curves.proofs.curve.stand_in_order.Goals as goal
+use Rattle.sf_curves.proofs.of_shapes.stand_in_order.Goals as goal
 
 pub loop-shape-preserved : goal.loop-shape-preserved
 loop-shape-preserved c =
