@@ -172,7 +172,7 @@ tame-walk n (s ∷ ss) node can h = tame-walk n ss (after node s) can.1 (tame-af
 
 few-halvings : (blocks : List BlockValue) → AllByRecursion (λ b. IsShapeList b.shapes) blocks → sum halvings (map (λ block. (0, length block.shapes)) blocks) ≤ 8 * length blocks
 few-halvings [] h = omega arith
-few-halvings (b ∷ blocks) h = let few = h.0.few in omega (arith, levels-few (length b.shapes - 0) (omega arith), few-halvings blocks h.1)
+few-halvings (b ∷ blocks) h = let few = h.0.choice.few in omega (arith, levels-few (length b.shapes - 0) (omega arith), few-halvings blocks h.1)
 
 tame-root : (design : Design) → IsTame (block_count design) (root design)
 tame-root design =

@@ -56,10 +56,3 @@ grown-no node children more k u g m = record {
 
 pub grown-all : (node : Parts) (children : List Parts) (k : ℕ) → k ≡ length node.spans → IsGrown node children k → children ≡ extended node
 grown-all node children k e g = g.is ∙ ap (λ n. map (λ t. after node (step_of t)) (tokens_below node n)) e
-
-pub grown-start : (node : Parts) (none first children : List Parts) → none ≡ [] → first ≡ none ++ map (λ t. after node (step_of t)) (when (may_join token.Beside node.tokens) token.Beside) → children ≡ first ++ map (λ t. after node (step_of t)) (when (may_join token.Above node.tokens) token.Above) → IsGrown node children 0
-grown-start node none first children n f c =
-    let g : Token → Parts = λ t. after node (step_of t) in
-    let a = when (may_join token.Beside node.tokens) token.Beside in
-    let b = when (may_join token.Above node.tokens) token.Above in
-    record { is = c ∙ ap (λ z. z ++ map g b) (f ∙ ap (λ z. z ++ map g a) n) ∙ sym (map-append g a b) ∙ ap (map g) (sym (append-nil (a ++ b))) }

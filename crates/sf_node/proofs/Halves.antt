@@ -170,7 +170,7 @@ split-one design node b tree spans can belongs =
               let leaf = found.0 in
               let here = found.2 found.1 in
               let block_in : leaf.0 < length design.blocks = omega (arith, found.1, can.0, spans) in
-              not-both (shapes_of design leaf.0) span.0 (middle span) span.1 leaf.1 (design.limits.shapes leaf.0 (record { name = []; shapes = [] }) block_in).ordered here.0 here.1,
+              not-both (shapes_of design leaf.0) span.0 (middle span) span.1 leaf.1 (design.limits.shapes leaf.0 (record { name = []; shapes = [] }) block_in).choice.ordered here.0 here.1,
           tt,
         ),
         (tt, tt),

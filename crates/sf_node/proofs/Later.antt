@@ -34,11 +34,6 @@ module _ (node : Parts) (b : ℕ) where
   pub blocks-unused : b < length node.spans → is_unused b node.tokens ≡ true → blocks_from node b ≡ Block b ∷ blocks_from node (b + 1)
   blocks-unused h u = blocks-first h ∙ ap (map (λ (c : ℕ). Block c)) (cond-true (is_unused b node.tokens) (b ∷ rest) rest u)
 
-  pub blocks-none : length node.spans ≤ b → blocks_from node b ≡ []
-  blocks-none h =
-      let e : length node.spans - b ≡ 0 = omega arith in
-      ap (λ k. map (λ (c : ℕ). Block c) (filter (λ c. is_unused c node.tokens) (range_with_len b k))) e
-
 -- ---- the children by extending, by these steps
 
 when-reached : (node : Parts) (b : Bool) (t : Token) → map (after node) (when_step b (step_of t)) ≡ map (λ t. after node (step_of t)) (when b t)

@@ -9,11 +9,8 @@ ghost use Rattle.sf_node.specs.Spans.{IsInSpan, AreInSpans};
 ghost use Rattle.sf_node.specs.Subproblem.{Belongs, BeginsWith};
 
 use crate::node::Node;
-use sf_model::Design;
-use sf_model::parts::Shape;
-use sf_model::plan::Plan;
-use sf_polish::expr::Token;
-use sf_polish::expr_of;
+use sf_model::{Design, Plan, Shape};
+use sf_polish::{Token, expr_of};
 use std::alloc::{AllocError as NoMemory, Global};
 
 /// Whether the plan belongs to the subproblem. The time is linear in the tokens and the shapes.
@@ -23,14 +20,14 @@ pub fn belongs(alloc: Global, plan: &Plan, node: &Node, design: &Design) -> Resu
     requires skewed { IsSkewed (tree_of plan.now) }
     ensures belongs { IfOk result (λ b. IsTrue b ↔ Belongs design.now node.now (tree_of plan.now)) }
 {
-    let blocks = design.blocks.as_slice().len() as u16;
-    let expr = expr_of(alloc, plan, blocks)?;
+    let expr = expr_of(alloc, plan, design.block_count())?;
     if !begins_with(expr.tokens.as_slice(), node.tokens()) {
         return Ok(false);
     }
     Ok(are_in_spans(design, node, expr.shapes.as_slice()))
 }
 
+/// Whether the tokens begin with these.
 fn begins_with(tokens: &[Token], begin: &[Token]) -> bool
     ensures { IsTrue result ↔ BeginsWith tokens.now begin.now }
 {
@@ -51,16 +48,14 @@ fn are_in_spans(design: &Design, node: &Node, shapes: &[Shape]) -> bool
     true
 }
 
+/// Whether the shape is among those in the span of a block.
 fn is_in_span(design: &Design, node: &Node, block: u16, shape: Shape) -> bool
     requires subproblem { IsSubproblem design.now node.now }
     requires inside { block < block_count design.now }
     ensures { IsTrue result ↔ IsInSpan design.now node.now block shape }
 {
     let (from, to) = node.span(block);
-    let shapes = design.blocks.as_slice()[usize::from(block)]
-        .shapes
-        .as_slice();
-    is_among(shapes, from, to, shape)
+    is_among(design.shapes_of(block), from, to, shape)
 }
 
 /// Whether the shape stands at a place from the one on and before the other.

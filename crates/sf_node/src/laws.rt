@@ -10,6 +10,8 @@ ghost use Rattle.sf_node.specs.Laws.{BelongsToOne};
 
 /// Each plan of a subproblem belongs to exactly one of its children.
 pub fn children_share_plans()
-    ensures extended { (design : Design) (node : Parts) (tree : Tree) → IsSubproblem design node → IsFalse (is_complete node) → Belongs design node tree → BelongsToOne design (extended node) tree }
-    ensures split { (design : Design) (node : Parts) (b : ℕ) (tree : Tree) → IsSubproblem design node → CanSplit node b → Belongs design node tree → BelongsToOne design (split node b) tree }
+    ensures extended { (design : Design) (node : Parts) (tree : Tree) → IsSubproblem design node
+        → IsFalse (is_complete node) → Belongs design node tree → BelongsToOne design (extended node) tree }
+    ensures split { (design : Design) (node : Parts) (b : ℕ) (tree : Tree) → IsSubproblem design node
+        → CanSplit node b → Belongs design node tree → BelongsToOne design (split node b) tree }
 {}

@@ -38,7 +38,9 @@ fn is_wide(span: (u16, u16)) -> bool
 /// The place of the first span with more than one place.
 fn first_wide(spans: &[(u16, u16)]) -> Option<u16>
     requires { length spans.now ≤ 320 }
-    ensures { MatchOption result (first_wide_from 0 spans.now ≡ length spans.now) (λ block. (block ≡ first_wide_from 0 spans.now) × (block < length spans.now) × (is_wide (slice_index_or spans.now block (0, 0)) ≡ true)) }
+    ensures { MatchOption result (first_wide_from 0 spans.now ≡ length spans.now)
+        (λ block. (block ≡ first_wide_from 0 spans.now) × (block < length spans.now)
+        × (is_wide (slice_index_or spans.now block (0, 0)) ≡ true)) }
 {
     for (block, span) in spans.iter().enumerate() {
         if is_wide(*span) {
@@ -48,6 +50,7 @@ fn first_wide(spans: &[(u16, u16)]) -> Option<u16>
     None
 }
 
+/// Whether each span has one place.
 fn all_single(spans: &[(u16, u16)]) -> bool
     ensures { result ≡ list_all (λ span. not (is_wide span)) spans.now }
 {
@@ -57,7 +60,8 @@ fn all_single(spans: &[(u16, u16)]) -> bool
 /// For each block by number, whether it is among the tokens: one pass over them.
 pub fn used_blocks(alloc: Global, blocks: usize, tokens: &[Token]) -> Result<Vec<bool>, NoMemory>
     ensures each { IfOk result (λ used. length used.items ≡ blocks) }
-    ensures used { IfOk result (λ used. (b : ℕ) → b < blocks → slice_index_or used.items b true ≡ not (is_unused b tokens.now)) }
+    ensures used { IfOk result (λ used. (b : ℕ) → b < blocks
+        → slice_index_or used.items b true ≡ not (is_unused b tokens.now)) }
 {
     let mut used = Vec::from_elem(alloc, false, blocks)?;
     for token in tokens {
@@ -113,7 +117,8 @@ impl Node {
     /// The first block whose span has more than one place.
     pub fn first_wide(&self) -> Option<u16>
         requires { length self.now.spans ≤ 320 }
-        ensures { MatchOption result (first_wide_from 0 self.now.spans ≡ length self.now.spans) (λ block. (block ≡ first_wide_from 0 self.now.spans) × CanSplit self.now block) }
+        ensures { MatchOption result (first_wide_from 0 self.now.spans ≡ length self.now.spans)
+            (λ block. (block ≡ first_wide_from 0 self.now.spans) × CanSplit self.now block) }
     {
         first_wide(&self.spans)
     }
@@ -125,16 +130,19 @@ impl Node {
         usize::from(block) < self.spans.len() && is_wide(self.spans[usize::from(block)])
     }
 
+    /// The steps from the root.
     pub fn steps(&self) -> &[Step]
         ensures { result.now ≡ self.now.steps }
     {
         &self.steps
     }
 
+    /// Where the lists of the subproblem are.
     pub fn allocator(&self) -> Global {
         *self.steps.allocator()
     }
 
+    /// The tokens with which the expressions of its plans begin.
     pub fn tokens(&self) -> &[Token]
         ensures { result.now ≡ self.now.tokens }
     {
@@ -148,6 +156,7 @@ impl Node {
         &self.spans
     }
 
+    /// The span of a block: the first place of its shapes, and the one behind the last.
     pub fn span(&self, block: u16) -> (u16, u16)
         requires { block < length self.now.spans }
         ensures { result ≡ span_of self.now block }
@@ -155,6 +164,7 @@ impl Node {
         self.spans[block as usize]
     }
 
+    /// Whether all tokens are there: one fewer than twice the blocks.
     pub fn is_complete(&self) -> bool
         ensures { result ≡ is_complete self.now }
     {
@@ -168,6 +178,7 @@ impl Node {
         self.is_complete() && (design.weights.wire == 0 || all_single(&self.spans))
     }
 
+    /// The same subproblem again.
     pub fn copy(&self) -> Result<Node, NoMemory>
         ensures { IfOk result (λ n. n ≡ self.now) }
     {
@@ -267,7 +278,8 @@ impl Node {
     /// Goes back over the last step, where it halved this span.
     pub fn leave(&mut self, step: Step, span: (u16, u16))
         requires { HalvesOne self.old step }
-        ensures { (before : Parts) → self.old ≡ after before step → span ≡ halved before step → self.new ≡ before }
+        ensures { (before : Parts) → self.old ≡ after before step → span ≡ halved before step
+            → self.new ≡ before }
     {
         self.steps.pop();
         match step {
@@ -279,6 +291,7 @@ impl Node {
         }
     }
 
+    /// Adds the child by an operator, where it may come next.
     fn push_join(
         &self,
         children: &mut Vec<Node>,
@@ -286,7 +299,9 @@ impl Node {
         operator: Token,
     ) -> Result<(), NoMemory>
         requires { with_token self.now step operator ≡ after self.now (step_of operator) }
-        ensures { IfOk result (λ _. children.new.items ≡ children.old.items ++ map (λ t. after self.now (step_of t)) (when (may_join operator self.now.tokens) operator)) }
+        ensures { IfOk result (λ _. children.new.items
+            ≡ children.old.items
+            ++ map (λ t. after self.now (step_of t)) (when (may_join operator self.now.tokens) operator)) }
     {
         if may_join(operator, &self.tokens) {
             children.push(self.with_token(step, operator)?)?;

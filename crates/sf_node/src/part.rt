@@ -4,8 +4,8 @@ ghost use Rattle.std.specs.Prelude.{◌≡◌, ℕ};
 ghost use Rattle.sf_node.specs.declared.part.Part.{Part as PartName};
 ghost use Rattle.sf_node.specs.ByPart.{AreValues, first_part};
 
-/// A part of the bound of a subproblem: what its areas cost at least, the same with the range, the pair or the hull of each
-/// net, and all of it.
+/// A part of the bound of a subproblem: what its areas cost at least, the same with the range, the pair or
+/// the hull of each net, and all of it.
 #[derive(Clone, Copy, Debug, PartialEq, Eq)]
 pub enum Part {
     Area,
@@ -15,7 +15,7 @@ pub enum Part {
     Full,
 }
 
-/// The values of all parts but the full one, at one subproblem.
+/// The values of all parts but the full one, at one subproblem, in the units of costs.
 #[derive(Clone, Copy, Debug, PartialEq, Eq)]
 pub struct PartValues {
     pub area: u64,

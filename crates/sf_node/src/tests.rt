@@ -1,4 +1,5 @@
-//! Two hard blocks, and the plan with the one beside the other; and three, with each operator above the other.
+//! Two hard blocks, and the plan with the one beside the other; and three, with each operator above the
+//! other.
 
 ghost use Rattle.std.specs.Prelude.{◌≡◌, ◌∷◌, [], IfOk};
 ghost use Rattle.sf_model.specs.Legal.{IsLegal};
@@ -47,8 +48,8 @@ fn two_blocks(alloc: Global) -> Result<(Design, Plan), AllocError>
     Ok((design, Plan::Beside(left, right)))
 }
 
-/// Three leaves of one shape: the first beside the second and the third above both, or where `turned` the first above
-/// the second and the third beside both.
+/// Three leaves of one shape: the first beside the second and the third above both, or where `turned` the
+/// first above the second and the third beside both.
 fn three_leaves(alloc: Global, shape: Shape, turned: bool) -> Result<Plan, AllocError>
     ensures leaves { IfOk result (λ plan. leaves (tree_of plan) ≡ (0, shape) ∷ (1, shape) ∷ (2, shape) ∷ []) }
     ensures skewed { IfOk result (λ plan. IsSkewed (tree_of plan)) }

@@ -88,17 +88,6 @@ pub put-last : (waiting children rest : List Task) (last : Task) → children �
 put-last waiting children rest last e =
     append_assoc waiting (last ∷ []) (reverse rest) ∙ ap (λ z. waiting ++ z) (sym (reverse-append rest (last ∷ []))) ∙ ap (λ z. waiting ++ reverse z) (sym e)
 
--- a refused event changes nothing
-pub answers-refused : (meant : Result State Refusal) (old new : State) (why : Refusal) → meant ≡ Err why → new ≡ old → Answers meant old (Err why) new
-answers-refused meant old new refusal.NoMemory m e = e
-answers-refused meant old new refusal.NoPlace m e = (m, e)
-answers-refused meant old new refusal.NotHeld m e = (m, e)
-answers-refused meant old new (refusal.Stale x y) m e = (m, e)
-answers-refused meant old new (refusal.NotBelow x y) m e = (m, e)
-answers-refused meant old new (refusal.NotAtLeast x y) m e = (m, e)
-answers-refused meant old new refusal.NoStep m e = (m, e)
-answers-refused meant old new (refusal.NotCost x y) m e = (m, e)
-
 -- what is answered is what the event means, or nothing is changed
 pub made-or-same : (meant : Result State Refusal) (old : State) (result : Result Unit Refusal) (new : State) → Answers meant old result new → (meant ≡ Ok new) ⊎ (new ≡ old)
 made-or-same meant old (Ok done) new a = inl a

@@ -1,3 +1,5 @@
+//! The machine: open and held tasks, entries, and the incumbent cost.
+
 ghost use Rattle.std.specs.Prelude.{◌≡◌, ◌++◌, ◌<◌, ◌≤◌, ◌+◌, ℕ, List, Err, length, reverse, map, MatchOption, MatchResult, IfOk, replicate, None, Some, true, vec_len};
 ghost use Rattle.sf_node.specs.declared.task.Task.{Task};
 ghost use Rattle.std.specs.Vec.{vec_capacity};
@@ -13,7 +15,7 @@ use sf_node::{Node, Task, Values};
 use std::alloc::{AllocError as NoMemory, Global};
 use std::marker::Model;
 
-/// The open and held tasks, the entries and the word.
+/// The open and held tasks, the entries, and the word: the least cost found so far, or `MAX` for none.
 #[derive(Drop)]
 pub struct Pool {
     open: Vec<Task>,
@@ -27,7 +29,12 @@ impl Model for Pool {
 
     ghost Value = { State };
 
-    ghost view = { λ p. record { waiting = p.open.items; held = p.held.items; entries = p.entries.items; word = p.word } };
+    ghost view = { λ p. record {
+      waiting = p.open.items;
+      held = p.held.items;
+      entries = p.entries.items;
+      word = p.word;
+    } };
 }
 
 /// The children that a way of branching makes, in order.
@@ -121,7 +128,8 @@ impl Pool {
         values: &V,
     ) -> Result<Pool, NoMemory>
         requires { root_bound ≡ V.value values.now design.now (root design.now) }
-        ensures opening { IfOk result (λ pool. pool ≡ opening design.now (V.value values.now design.now) workers) }
+        ensures opening { IfOk result
+            (λ pool. pool ≡ opening design.now (V.value values.now design.now) workers) }
         ensures core { IfOk result (λ pool. IsCoreState design.now (V.value values.now design.now) pool) }
     {
         let mut open = Vec::new(alloc);
@@ -159,9 +167,11 @@ impl Pool {
         }
     }
 
+    /// The open task at a place goes to the worker.
     fn take(&mut self, worker: u16, place: usize) -> Result<(), Refusal>
         requires { worker < length self.old.held }
-        ensures { Answers (take self.old worker place (slice_get self.old.waiting place) (held_by self.old worker)) self.old result self.new }
+        ensures { Answers (take self.old worker place (slice_get self.old.waiting place)
+            (held_by self.old worker)) self.old result self.new }
     {
         let worker = usize::from(worker);
         if place >= self.open.len() || self.held[worker].is_some() {
@@ -183,15 +193,20 @@ impl Pool {
         values: &V,
     ) -> Result<(), Refusal>
         requires core { IsCoreState design.now (V.value values.now design.now) self.old }
-        requires can { CanCome (V.value values.now design.now) self.old (Event.Replace worker how value (map (λ child. child.bound) children.items)) }
+        requires can { CanCome (V.value values.now design.now) self.old
+            (Event.Replace worker how value (map (λ child. child.bound) children.items)) }
         requires children { AreChildren how children.items (held_by self.old worker) }
-        ensures branched { Answers (applied design.now self.old (Event.Replace worker how value (map (λ child. child.bound) children.items))) self.old result self.new }
+        ensures branched { Answers
+            (applied design.now self.old
+            (Event.Replace worker how value (map (λ child. child.bound) children.items)))
+            self.old result self.new }
         ensures core { IsCoreState design.now (V.value values.now design.now) self.new }
     {
         self.branching(worker, how, value)?;
         self.turn_into(worker, how, value, children)
     }
 
+    /// The worker's task becomes its children, with these bounds, and an entry.
     fn replace<V: Values>(
         &mut self,
         design: &Design,
@@ -202,8 +217,10 @@ impl Pool {
         values: &V,
     ) -> Result<(), Refusal>
         requires core { IsCoreState design.now (V.value values.now design.now) self.old }
-        requires can { CanCome (V.value values.now design.now) self.old (Event.Replace worker how value costs) }
-        ensures { Answers (replace self.old worker how value costs (held_by self.old worker)) self.old result self.new }
+        requires can { CanCome (V.value values.now design.now) self.old
+            (Event.Replace worker how value costs) }
+        ensures { Answers (replace self.old worker how value costs
+            (held_by self.old worker)) self.old result self.new }
     {
         let task = self.branching(worker, how, value)?;
         let Ok(children) = children_with(design, &task.node, how, costs) else {
@@ -215,7 +232,9 @@ impl Pool {
     /// The task that the worker holds, where a Replace of it is not refused.
     fn branching(&self, worker: u16, how: How, value: u64) -> Result<&Task, Refusal>
         requires { worker < length self.now.held }
-        ensures { MatchResult result (λ task. IsBranching self.now worker how value task.now) (λ why. (costs : List ℕ) → replace self.now worker how value costs (held_by self.now worker) ≡ Err why) }
+        ensures { MatchResult result (λ task. IsBranching self.now worker how value task.now)
+            (λ why. (costs : List ℕ)
+            → replace self.now worker how value costs (held_by self.now worker) ≡ Err why) }
     {
         let worker = usize::from(worker);
         let Some(task) = &self.held[worker] else {
@@ -244,7 +263,8 @@ impl Pool {
         requires worker { worker < length self.old.held }
         requires branching { (task : Task) × IsBranching self.old worker how value task }
         requires children { AreChildren how children.items (held_by self.old worker) }
-        ensures { Answers (replace self.old worker how value (map (λ child. child.bound) children.items) (held_by self.old worker)) self.old result self.new }
+        ensures { Answers (replace self.old worker how value (map (λ child. child.bound) children.items)
+            (held_by self.old worker)) self.old result self.new }
     {
         let worker = usize::from(worker);
         if self.open.reserve(children.len()).is_err() || self.entries.reserve(1).is_err() {
@@ -262,6 +282,7 @@ impl Pool {
         Ok(())
     }
 
+    /// The worker's task becomes a closed entry.
     fn close(&mut self, worker: u16, value: u64) -> Result<(), Refusal>
         requires { worker < length self.old.held }
         ensures { Answers (close self.old worker value (held_by self.old worker)) self.old result self.new }
@@ -290,9 +311,11 @@ impl Pool {
         Ok(())
     }
 
+    /// The word becomes the cost of the worker's solved task, where that is less.
     fn offer(&mut self, design: &Design, worker: u16, cost: u64) -> Result<(), Refusal>
         requires { worker < length self.old.held }
-        ensures { Answers (offer design.now self.old cost (held_by self.old worker)) self.old result self.new }
+        ensures { Answers (offer design.now self.old cost
+            (held_by self.old worker)) self.old result self.new }
     {
         let worker = usize::from(worker);
         let Some(task) = &self.held[worker] else {
@@ -315,17 +338,20 @@ impl Pool {
     /// The task that a worker holds.
     pub fn held(&self, worker: u16) -> Option<&Task>
         requires { worker < length self.now.held }
-        ensures { MatchOption result (held_by self.now worker ≡ None) (λ task. held_by self.now worker ≡ Some task.now) }
+        ensures { MatchOption result (held_by self.now worker ≡ None)
+            (λ task. held_by self.now worker ≡ Some task.now) }
     {
         self.held[usize::from(worker)].as_ref()
     }
 
+    /// What was decided, in order.
     pub fn entries(&self) -> &[Entry]
         ensures { result.now ≡ self.now.entries }
     {
         &self.entries
     }
 
+    /// The least cost found so far, or `MAX` for none.
     pub fn word(&self) -> u64
         ensures { result ≡ self.now.word }
     {
