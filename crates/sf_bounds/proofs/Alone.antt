@@ -104,7 +104,7 @@ few-leaves design tree legal = omega (arith, counted tree, length-leaves design 
 
 pub has-sides : (design : Design) (tree : Tree) → IsLegal design tree → HasSides tree
 has-sides design tree legal = sided tree (each-both (λ leaf. leaf.0 < block_count design) (λ leaf. Contains (shapes_of design leaf.0) leaf.1) (λ leaf. IsSide leaf.1.w × IsSide leaf.1.h)
-    (λ leaf lt c. All-contains (λ s. IsSide s.w × IsSide s.h) (shapes_of design leaf.0) leaf.1 (design.limits.shapes leaf.0 (record { name = []; shapes = [] }) lt).sides c)
+    (λ leaf lt c. All-contains (λ s. IsSide s.w × IsSide s.h) (shapes_of design leaf.0) leaf.1 (design.limits.shapes leaf.0 (record { name = []; shapes = [] }) lt).choice.sides c)
     (leaves tree) (recursion_from_All (λ leaf. leaf.0 < block_count design) (leaves tree) legal.blocks.no_other) (recursion_from_All (λ leaf. Contains (shapes_of design leaf.0) leaf.1) (leaves tree) legal.listed))
   where
     sided : (t : Tree) → AllByRecursion (λ leaf. IsSide leaf.1.w × IsSide leaf.1.h) (leaves t) → HasSides t

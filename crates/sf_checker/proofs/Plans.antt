@@ -7,9 +7,8 @@ use Rattle.sf_model.specs.declared.design.Design.{Design}
 use Rattle.sf_model.specs.declared.parts.Shape.{Shape}
 use Rattle.sf_model.specs.Limits.{IsSide}
 use Rattle.sf_model.specs.Legal.{HasEachOnce, IsLegal, Fits, block_count, shapes_of}
-use Rattle.sf_model.specs.Tree.{Tree, Leaf, Beside, Above, leaves, leaf_count, HasSides}
+use Rattle.sf_model.specs.Tree.{Tree, Leaf, Beside, Above, leaves, leaf_count, HasSides, HasBlocksBelow}
 use Rattle.sf_model.proofs.Each.{each-append, each-left, each-right}
-use Rattle.sf_place.specs.Spots.{HasBlocksBelow}
 use Rattle.sf_place.proofs.ByNumber.{plan-below, plan-leaves}
 use Rattle.sf_polish.specs.declared.expr.Expr.{Expr}
 use Rattle.sf_polish.specs.Postfix.{Spells, shape_at}

@@ -46,7 +46,7 @@ module _ (design : Design) (tree : Tree) (expr : Expr) (legal : IsLegal design t
       let list = design.limits.shapes b (record { name = []; shapes = [] }) lt in
       let listed = subst (λ n. Contains (shapes_of design n) found.leaf.1) found.block found.holds.1 in
       let same = found.holds.0 ∙ ap (shape_at expr.shapes) found.block in
-      subst (λ s. IsSide s.w × IsSide s.h) same (All-contains (λ s. IsSide s.w × IsSide s.h) (shapes_of design b) found.leaf.1 list.sides listed)
+      subst (λ s. IsSide s.w × IsSide s.h) same (All-contains (λ s. IsSide s.w × IsSide s.h) (shapes_of design b) found.leaf.1 list.choice.sides listed)
 
 pub plan-formed : (design : Design) (node : Parts) (expr : Expr) (z : ℕ) → IsPlanOf design node expr z → IsWritable (block_count design) expr
 plan-formed design node expr z p = record {

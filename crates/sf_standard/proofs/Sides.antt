@@ -44,7 +44,7 @@ side-in : (design : Design) (node : Parts) (b : ℕ) (s : Shape) → Contains (s
 side-in design node b s c =
     let i = in_span (shapes_of design b) (span_of node b).0 (span_of node b).1 s c in
     elim (cases_lt b (length design.blocks)) [
-      | inl lt ↦ (let k = All-contains (λ s. IsSide s.w × IsSide s.h) (shapes_of design b) s (design.limits.shapes b (record { name = []; shapes = [] }) lt).sides (i.at, i.within, i.is) in
+      | inl lt ↦ (let k = All-contains (λ s. IsSide s.w × IsSide s.h) (shapes_of design b) s (design.limits.shapes b (record { name = []; shapes = [] }) lt).choice.sides (i.at, i.within, i.is) in
           (omega (arith, k.0.1), omega (arith, k.1.1)))
       | inr le ↦ absurd (omega (arith, i.within, ap (λ v. length v.shapes) (get_or_past design.blocks b (record { name = []; shapes = [] }) le)))
     ]
