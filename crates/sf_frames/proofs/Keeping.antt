@@ -8,7 +8,7 @@ use Rattle.sf_model.specs.declared.design.Design.{Design}
 use Rattle.sf_model.specs.declared.parts.Shape.{Shape}
 use Rattle.sf_polish.specs.declared.expr.Token.{Token}
 use Rattle.sf_node.specs.Subproblem.{root}
-use Rattle.sf_curves.specs.Points.{IsBelow}
+use Rattle.sf_curves.specs.Points.{IsSlimmer}
 use Rattle.sf_standard.specs.Items.{Item, Block}
 use Rattle.sf_frames.specs.declared.frame.Frame.{Frame}
 use Rattle.sf_frames.specs.declared.frame.Kept.{Kept}
@@ -33,7 +33,7 @@ kept-moves design points others i k m same inside = record {
   order = m.order;
   inside = inside;
   curve = subst (λ v. IsItemCurve design (root design) v i) (sym same) m.curve;
-  falls = subst (AllPairs IsBelow) (sym same) m.falls;
+  falls = subst (AllPairs IsSlimmer) (sym same) m.falls;
   least = m.least;
 }
 

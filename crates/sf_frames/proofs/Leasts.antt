@@ -8,7 +8,7 @@ use Rattle.std.proofs.lemmas.List.Sums.{sum_by-append}
 use Rattle.std.proofs.lemmas.List.Elements.{All-more, Contains-get_or}
 use Rattle.std.proofs.lemmas.List.{take_more}
 use Rattle.sf_model.specs.declared.parts.Shape.{Shape}
-use Rattle.sf_curves.specs.Points.{IsBelow, IsLeastArea, IsWithin, IsNoLarger, IsCurveOf, area_of}
+use Rattle.sf_curves.specs.Points.{IsSlimmer, IsLeastArea, IsWithin, IsNoLarger, IsCurveOf, area_of}
 use Rattle.sf_curves.proofs.Members.{not_in_nil, Contains-cons_cases}
 use Rattle.std.proofs.lemmas.List.Elements.{All-head, All-tail}
 use Rattle.sf_model.specs.declared.TheConstants.{MAX}
@@ -54,7 +54,7 @@ least_area_is points p h small =
     sym (least_by-is area_of points p h.found small (λ k d lt. elim (h.least k d lt) [ inl e ↦ omega (arith, e) | inr e ↦ omega (arith, e.0) ]))
 
 -- the first point is the narrowest
-pub first_narrowest : (points : List Shape) (d : Shape) → 0 < length points → AllPairs IsBelow points → (get_or points 0 d).w ≤ MAX → (get_or points 0 d).w ≡ least_by width_of points
+pub first_narrowest : (points : List Shape) (d : Shape) → 0 < length points → AllPairs IsSlimmer points → (get_or points 0 d).w ≤ MAX → (get_or points 0 d).w ≡ least_by width_of points
 first_narrowest points d some falls small =
     sym (least_by-is width_of points (get_or points 0 d) (Contains-get_or points 0 d some) small (λ k e lt. at_place k e lt))
   where
@@ -63,7 +63,7 @@ first_narrowest points d some falls small =
     at_place (suc k) e lt = omega (arith, (falls 0 (suc k) e (omega arith) lt).0, ap (λ v. v.w) (get_or_default points 0 d e some))
 
 -- the last point is the lowest
-pub last_lowest : (points : List Shape) (d : Shape) → 0 < length points → AllPairs IsBelow points → (get_or points (length points - 1) d).h ≤ MAX → (get_or points (length points - 1) d).h ≡ least_by height_of points
+pub last_lowest : (points : List Shape) (d : Shape) → 0 < length points → AllPairs IsSlimmer points → (get_or points (length points - 1) d).h ≤ MAX → (get_or points (length points - 1) d).h ≡ least_by height_of points
 last_lowest points d some falls small =
     sym (least_by-is height_of points (get_or points (length points - 1) d) (Contains-get_or points (length points - 1) d (omega arith)) small (λ k e lt.
     elim (cases_lt k (length points - 1)) [
@@ -85,7 +85,7 @@ pub least_height_small : (points : List Shape) → AllSmall points → points �
 least_height_small [] small some = absurd (some refl)
 least_height_small (p ∷ ps) small some = omega (arith, least_by-le height_of (p ∷ ps) p (0, omega arith, refl), (small 0 p (omega arith)).1)
 
-pub least_of_is : (points read : List Shape) (p : Shape) (a : ℕ) → read ≡ points → AllPairs IsBelow points → AllSmall points → IsLeastArea points p → a ≡ area_of p → a ≤ MAX → IsLeastOf points record { area = a; w = (get_or {A = Shape} read 0 record { w = 0; h = 0 }).w; h = (get_or {A = Shape} read (length read - 1) record { w = 0; h = 0 }).h }
+pub least_of_is : (points read : List Shape) (p : Shape) (a : ℕ) → read ≡ points → AllPairs IsSlimmer points → AllSmall points → IsLeastArea points p → a ≡ area_of p → a ≤ MAX → IsLeastOf points record { area = a; w = (get_or {A = Shape} read 0 record { w = 0; h = 0 }).w; h = (get_or {A = Shape} read (length read - 1) record { w = 0; h = 0 }).h }
 least_of_is points read p a same falls small least is small_a =
     let some : points ≢ [] = λ e. not_in_nil p (subst (λ v. Contains v p) e least.found) in
     let first = small 0 (record { w = 0; h = 0 }) (not_nil points some) in

@@ -8,7 +8,7 @@ use Rattle.sf_polish.specs.declared.expr.Token.TheVariants as token
 use Rattle.sf_node.specs.Parts.{Parts}
 use Rattle.sf_node.specs.Subproblem.{root}
 use Rattle.sf_node.specs.Children.{IsSubproblem}
-use Rattle.sf_curves.specs.Points.{IsBelow, IsCombination}
+use Rattle.sf_curves.specs.Points.{IsSlimmer, IsCombination}
 use Rattle.sf_standard.specs.Items as item
 use Rattle.sf_frames.specs.declared.direction.Direction.{Direction}
 use Rattle.sf_frames.specs.declared.frame.Frame.{Frame}
@@ -63,7 +63,7 @@ module _ (design : Design) (node : Parts) (points made : List Shape) (whole : �
       (pair-top design node.tokens points whole frames l r pair) sums pair.left.kept.least pair.right.kept.least
       (least-kept design made (item_in d pair.left.item pair.right.item) o joined-curve least)
 
-  pub joined-pushed : (blocks : List Kept) (all : List Shape) (new : List Frame) (s sums : Option Sums) (o : Option Least) (k : Kept) → IsStored design node.tokens points blocks whole frames → IsNext node.tokens (length frames) (token_in d) → AllPairs IsBelow made → MatchOption o (made ≡ []) (IsLeastOf made)
+  pub joined-pushed : (blocks : List Kept) (all : List Shape) (new : List Frame) (s sums : Option Sums) (o : Option Least) (k : Kept) → IsStored design node.tokens points blocks whole frames → IsNext node.tokens (length frames) (token_in d) → AllPairs IsSlimmer made → MatchOption o (made ≡ []) (IsLeastOf made)
       → AreSumsOrNone (groups_at design node.tokens (length frames)) s → sums ≡ joined s l.curve.least r.curve.least o → all ≡ points ++ made → k ≡ at_end points made o
       → new ≡ frames ++ record { token = token_in d; curve = k; below = l.below; end = k.to; sums = sums } ∷ [] → IsStored design node.tokens all blocks whole new
   joined-pushed blocks all new s sums o k m next falls least before is_sums is_all is_kept is_new =

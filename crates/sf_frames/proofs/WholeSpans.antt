@@ -14,7 +14,7 @@ use Rattle.sf_node.specs.declared.step.Step.TheVariants.{Beside, Above, Block, L
 use Rattle.sf_node.specs.Parts.{Parts}
 use Rattle.sf_node.specs.Subproblem.{root, span_of}
 use Rattle.sf_node.specs.Children.{after, walk, IsSubproblem}
-use Rattle.sf_curves.specs.Points.{IsBelow, IsCurveOf, area_of}
+use Rattle.sf_curves.specs.Points.{IsSlimmer, IsCurveOf, area_of}
 use Rattle.sf_standard.specs.Items as item
 use Rattle.sf_standard.specs.Items.{Item, span_shapes}
 use Rattle.sf_standard.specs.Standard.{has_none}
@@ -51,14 +51,14 @@ range-end xs ys =
     ∙ take_all (length xs + length ys - length xs) ys (omega arith)
 
 -- a curve that is put at the end
-pub kept-end : (design : Design) (points made : List Shape) (i : Item) (o : Option Least) → IsItemCurve design (root design) made i → AllPairs IsBelow made → MatchOption o (made ≡ []) (IsLeastOf made) → IsKept design (points ++ made) i (at_end points made o)
+pub kept-end : (design : Design) (points made : List Shape) (i : Item) (o : Option Least) → IsItemCurve design (root design) made i → AllPairs IsSlimmer made → MatchOption o (made ≡ []) (IsLeastOf made) → IsKept design (points ++ made) i (at_end points made o)
 kept-end design points made i o curve falls least =
     let same = range-end points made in
     record {
       order = omega arith;
       inside = omega (arith, length-append points made);
       curve = subst (λ v. IsItemCurve design (root design) v i) (sym same) curve;
-      falls = subst (AllPairs IsBelow) (sym same) falls;
+      falls = subst (AllPairs IsSlimmer) (sym same) falls;
       least = least-kept design made i o curve least;
     }
 
@@ -74,7 +74,7 @@ whole-curve design b c lt k =
     (subst (λ v. IsCurveOf design.outline v c) (take_all (length (shapes_of design b) - 0) (shapes_of design b) (omega arith) ∙ sym (whole-shapes design b lt)) k)
 
 -- one block more
-pub wholes-more : (design : Design) (points made : List Shape) (blocks : List Kept) (o : Option Least) → AreWhole design points blocks (length points) → length blocks < block_count design → IsItemCurve design (root design) made (item.Block (length blocks)) → AllPairs IsBelow made → MatchOption o (made ≡ []) (IsLeastOf made)
+pub wholes-more : (design : Design) (points made : List Shape) (blocks : List Kept) (o : Option Least) → AreWhole design points blocks (length points) → length blocks < block_count design → IsItemCurve design (root design) made (item.Block (length blocks)) → AllPairs IsSlimmer made → MatchOption o (made ≡ []) (IsLeastOf made)
     → AreWhole design (points ++ made) (blocks ++ at_end points made o ∷ []) (length (points ++ made))
 wholes-more design points made blocks o m lt curve falls least =
     let n = length_push blocks (at_end points made o) in
@@ -101,7 +101,7 @@ block-curve design items b i x shapes c is_items is_x is_shapes same lt k =
     whole-curve design b c here (subst (λ v. IsCurveOf design.outline (slice_range v 0 (length v)) c) listed k)
 
 -- the same as the loop has it
-pub wholes-added : (design : Design) (points made all : List Shape) (blocks new : List Kept) (o : Option Least) (k : Kept) → AreWhole design points blocks (length points) → length blocks < block_count design → IsItemCurve design (root design) made (item.Block (length blocks)) → AllPairs IsBelow made → MatchOption o (made ≡ []) (IsLeastOf made)
+pub wholes-added : (design : Design) (points made all : List Shape) (blocks new : List Kept) (o : Option Least) (k : Kept) → AreWhole design points blocks (length points) → length blocks < block_count design → IsItemCurve design (root design) made (item.Block (length blocks)) → AllPairs IsSlimmer made → MatchOption o (made ≡ []) (IsLeastOf made)
     → all ≡ points ++ made → k ≡ at_end points made o → new ≡ blocks ++ k ∷ [] → AreWhole design all new (length all)
 wholes-added design points made all blocks new o k m lt curve falls least is_all is_kept is_new =
     subst (λ v. AreWhole design v new (length v)) (sym is_all)

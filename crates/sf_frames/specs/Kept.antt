@@ -8,7 +8,7 @@ use Rattle.sf_polish.specs.declared.expr.Token.{Token}
 use Rattle.sf_polish.specs.declared.expr.Token.TheVariants as token
 use Rattle.sf_node.specs.Parts.{Parts}
 use Rattle.sf_node.specs.Subproblem.{root}
-use Rattle.sf_curves.specs.Points.{IsBelow}
+use Rattle.sf_curves.specs.Points.{IsSlimmer}
 use Rattle.sf_standard.specs.Items.{Item, Block, read, fitting}
 use Rattle.sf_frames.specs.declared.frame.Frame.{Frame}
 use Rattle.sf_frames.specs.declared.frame.Kept.{Kept}
@@ -38,7 +38,7 @@ pub record IsKept (design : Design) (points : List Shape) (i : Item) (k : Kept) 
   pub order : k.from ≤ k.to
   pub inside : k.to ≤ length points
   pub curve : IsItemCurve design (root design) (slice_range points k.from k.to) i
-  pub falls : AllPairs IsBelow (slice_range points k.from k.to)
+  pub falls : AllPairs IsSlimmer (slice_range points k.from k.to)
   pub least : IsLeastOrNone (ways design i) k.least
 
 -- each block's whole curve is kept among the first points

@@ -1,8 +1,8 @@
 ghost use Rattle.std.specs.Prelude.{◌≡◌, [], MatchOption, AllPairs};
-ghost use Rattle.sf_curves.specs.Points.{IsBelow};
+ghost use Rattle.sf_curves.specs.Points.{IsSlimmer};
 ghost use Rattle.sf_frames.specs.Least.{IsLeastOf, AllSmall};
 
-use sf_curves::curve::{Point, area, smallest};
+use sf_curves::{Point, area, least_area_point};
 
 /// The least area, width and height of a curve's points.
 #[derive(Clone, Copy, Debug, PartialEq, Eq)]
@@ -14,11 +14,11 @@ pub struct Least {
 
 /// What a room of the curve takes at least.
 pub fn least_of(points: &[Point]) -> Option<Least>
-    requires falls { AllPairs IsBelow points.now }
+    requires falls { AllPairs IsSlimmer points.now }
     requires small { AllSmall points.now }
     ensures { MatchOption result (points.now ≡ []) (IsLeastOf points.now) }
 {
-    let smallest = smallest(points)?;
+    let smallest = least_area_point(points)?;
     let w = points[0].w;
     let h = points[points.len() - 1].h;
     Some(Least {

@@ -2,7 +2,7 @@ ghost use Rattle.std.specs.Prelude.{◌≡◌, ◌≤◌, ◌+◌, ◌<◌, leng
 ghost use Rattle.sf_model.specs.Legal.{block_count};
 ghost use Rattle.sf_polish.specs.declared.expr.Token.TheVariants as token;
 ghost use Rattle.sf_node.specs.Children.{IsSubproblem};
-ghost use Rattle.sf_curves.specs.Points.{IsBelow, IsCombination};
+ghost use Rattle.sf_curves.specs.Points.{IsSlimmer, IsCombination};
 ghost use Rattle.sf_frames.specs.Direction.{token_in, size_in};
 ghost use Rattle.sf_frames.specs.Kept.{IsStored, IsNext};
 ghost use Rattle.std.specs.Prelude.{slice_range};
@@ -14,7 +14,7 @@ use crate::sums::joined;
 use crate::top::{sums_now, top_pair};
 use crate::wholes::append;
 use sf_curves::Point;
-use sf_curves::curve::{merged, stacked};
+use sf_curves::{combine_above, combine_beside};
 use sf_model::{Design, Outline};
 use sf_node::Node;
 use sf_polish::Token;
@@ -34,18 +34,18 @@ fn join(
 ) -> Result<(), NoMemory>
     requires left_order { left.from ≤ left.to }
     requires left_inside { left.to ≤ length points.now }
-    requires left_falls { AllPairs IsBelow (slice_range points.now left.from left.to) }
+    requires left_falls { AllPairs IsSlimmer (slice_range points.now left.from left.to) }
     requires right_order { right.from ≤ right.to }
     requires right_inside { right.to ≤ length points.now }
-    requires right_falls { AllPairs IsBelow (slice_range points.now right.from right.to) }
-    ensures falls { OnOk result (AllPairs IsBelow list.new.items) }
+    requires right_falls { AllPairs IsSlimmer (slice_range points.now right.from right.to) }
+    ensures falls { OnOk result (AllPairs IsSlimmer list.new.items) }
     ensures combines { OnOk result (IsCombination (size_in direction) outline (slice_range points.now left.from left.to) (slice_range points.now right.from right.to) list.new.items) }
 {
     let left = &points[left.from..left.to];
     let right = &points[right.from..right.to];
     match direction {
-        Direction::Beside => merged(list, left, right, outline),
-        Direction::Above => stacked(list, left, right, outline),
+        Direction::Beside => combine_beside(list, left, right, outline),
+        Direction::Above => combine_above(list, left, right, outline),
     }
 }
 

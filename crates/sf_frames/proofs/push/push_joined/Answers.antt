@@ -1,7 +1,7 @@
 use Rattle.std.proofs.Common.{◌≡◌, [], ◌++◌, ◌∷◌, length, sym, ap, ◌∙◌, subst, arith}
 use Rattle.std.specs.Prelude.{AllPairs, MatchOption, slice_range}
 use Rattle.sf_polish.specs.declared.expr.Token.{Token}
-use Rattle.sf_curves.specs.Points.{IsBelow, IsCombination}
+use Rattle.sf_curves.specs.Points.{IsSlimmer, IsCombination}
 use Rattle.sf_frames.specs.declared.frame.Frame.{Frame}
 use Rattle.sf_frames.specs.Direction.{size_in}
 use Rattle.sf_frames.specs.Kept.{ArePair, IsStored, groups_at, at_end}
