@@ -8,7 +8,7 @@ ghost use Rattle.sf_node.specs.Subproblem.{is_solved};
 ghost use Rattle.sf_node.specs.Children.{IsSubproblem};
 ghost use Rattle.sf_bounds.specs.Cheapest.{IsPlanOf, IsLeastTrace};
 
-use sf_curves::laws::traces_are_one;
+use sf_curves::traces_are_one;
 
 /// A solved subproblem leaves one expression to answer: where only areas count the trace of the least area, else the one
 /// plan that is left.

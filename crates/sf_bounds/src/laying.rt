@@ -7,7 +7,7 @@ use crate::layout::{Held, Seat};
 use sf_frames::direction::Direction;
 use sf_model::Design;
 use sf_node::Node;
-use sf_polish::expr::Token;
+use sf_polish::Token;
 use sf_standard::{Extent, Offset};
 use std::alloc::AllocError as NoMemory;
 

@@ -4,8 +4,7 @@ ghost use Rattle.sf_node.specs.Children.{IsSubproblem};
 ghost use Rattle.sf_bounds.specs.Cheapest.{IsSolution, IsLeastTrace};
 
 use crate::only_plan::only_plan;
-use sf_curves::curve::area;
-use sf_curves::{root_curve, trace};
+use sf_curves::{area, root_curve, trace};
 use sf_model::Design;
 use sf_node::Node;
 use sf_polish::Expr;

@@ -21,7 +21,7 @@ use crate::mark::Mark;
 use crate::tag::{Tag, TagList};
 use sf_model::Design;
 use sf_node::{Part, Task, Values};
-use sf_polish::expr::Expr;
+use sf_polish::Expr;
 use sf_search_core::{Entry, Kind};
 use std::alloc::{AllocError as NoMemory, Global};
 

@@ -8,9 +8,7 @@ ghost use Rattle.sf_certificate.specs.Valid.{HasCost};
 ghost use Rattle.sf_checker.specs.Answers.{IsUnfit};
 ghost use Rattle.sf_checker.specs.Listed.{HasListedShapes};
 
-use sf_model::Design;
-use sf_model::parts::Shape;
-use sf_model::plan::Plan;
+use sf_model::{Design, Plan, Shape};
 use sf_place::size;
 use sf_polish::{Expr, plan_of};
 use sf_wire::cost;

@@ -8,8 +8,8 @@ ghost use Rattle.sf_cursor.specs.Path.{NamesOne, marked, named};
 use crate::level::Level;
 use sf_certificate::Tag;
 use sf_model::Design;
-use sf_node::{Node, Step, Values, ends_in};
-use sf_polish::Token;
+use sf_node::{Node, Step, Values};
+use sf_polish::{Token, ends_in};
 use std::alloc::{AllocError as NoMemory, Global};
 use std::marker::Model;
 

@@ -15,8 +15,8 @@ ghost use Rattle.sf_program.specs.Reading.{BlocksRead, DesignRead, GsrcRead, Par
 ghost use Rattle.sf_program.specs.Weighed.{WeighedParts};
 
 use sf_certificate::{first_parts_are_one, full_parts_close};
-use sf_curves::laws::traces_are_one;
-use sf_model::laws::designs_are_determined;
+use sf_curves::traces_are_one;
+use sf_model::designs_are_determined;
 use sf_place::verdicts_are_one;
 use sf_rounds::laws::certificates_are_one;
 use sf_soft_shapes::lists_are_determined;

@@ -20,13 +20,11 @@ use crate::reading::load_text;
 use crate::refusals::bare_fault;
 use crate::stop::Stop;
 use crate::work::Work;
-use sf_curves::curve::{Curve, Point, area};
-use sf_curves::root_curve;
+use sf_curves::{Curve, Point, area, root_curve};
 use sf_io::{Shelf, Status};
 use sf_model::Design;
 use sf_node::Node;
-use sf_polish::expr::Token;
-use sf_polish::{ExprFault, read_tokens};
+use sf_polish::{ExprFault, Token, read_tokens};
 use sf_words::{ShapeWords, WeightWords};
 use std::alloc::{AllocError as NoMemory, Global};
 

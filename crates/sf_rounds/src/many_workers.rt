@@ -11,7 +11,7 @@ use sf_bounds::{Bounds, Room};
 use sf_io::Gate;
 use sf_model::{Design, MAX};
 use sf_node::{Node, Task, Tasks};
-use sf_polish::expr::Expr;
+use sf_polish::Expr;
 use sf_search_core::{Entry, EntryList, Kind};
 use sf_worker::{Decision, decide};
 use std::alloc::{AllocError as NoMemory, Global};

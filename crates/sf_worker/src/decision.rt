@@ -1,5 +1,5 @@
 use sf_node::{Task, Tasks};
-use sf_polish::expr::Expr;
+use sf_polish::Expr;
 
 /// What becomes of a task.
 #[derive(Drop)]

@@ -1,7 +1,6 @@
 //! Plans that lean to the right, made skewed.
 
-use sf_model::parts::Shape;
-use sf_model::plan::Plan;
+use sf_model::{Plan, Shape};
 use sf_polish::normalise;
 use std::alloc::{AllocError, Global};
 use std::test::Fail;
