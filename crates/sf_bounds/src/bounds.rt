@@ -8,7 +8,7 @@ ghost use Rattle.sf_node.specs.Children.{IsSubproblem};
 ghost use Rattle.sf_node.specs.Later.{IsChildOf};
 ghost use Rattle.sf_bounds.specs.Serving.{MayServe};
 
-use crate::children::{Valued, value_from};
+use crate::children::{Valued, keeps_value, value_from};
 use crate::parts::{open_values, part_value};
 use crate::room::Room;
 use crate::value::standard_value;
@@ -160,7 +160,11 @@ impl Bounds for Standard {
         value: u64,
         room: &mut Room<'a>,
     ) -> Result<u64, NoMemory> {
-        Ok(self.child_valued(design, child, value, room)?.value)
+        if keeps_value(child) {
+            room.serve(design);
+            return Ok(value);
+        }
+        self.bound(design, child, room)
     }
 
     fn child_valued<'a>(

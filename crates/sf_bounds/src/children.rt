@@ -1,4 +1,5 @@
-ghost use Rattle.std.specs.Prelude.{◌≡◌, IfOk, IfSome};
+ghost use Rattle.std.specs.Prelude.{◌≡◌, ℕ, true, IfOk, IfSome};
+ghost use Rattle.sf_model.specs.declared.design.Design.{Design as DesignValue};
 ghost use Rattle.sf_node.specs.Children.{IsSubproblem};
 ghost use Rattle.sf_node.specs.Later.{IsChildOf};
 ghost use Rattle.sf_node.specs.ByPart.{AreValues};
@@ -71,10 +72,19 @@ pub fn value_from(
     ensures serves { frames.new ≡ design.now }
     ensures serves_nets { nets.new ≡ design.now }
 {
-    if let Some(Step::Block(_)) = child.steps().last() {
-        if !child.is_complete() {
-            return Ok(Valued { value, parts: None });
-        }
+    if keeps_value(child) {
+        return Ok(Valued { value, parts: None });
     }
     standard_valued(frames, nets, scratch, design, child)
+}
+
+/// Whether a child is sure to have its parent's value: it is not complete, and only a block was moved from the unused ones
+/// onto the stack.
+pub fn keeps_value(child: &Node) -> bool
+    ensures { result ≡ true → (design : DesignValue) (value : ℕ) → IsChildOf design (standard design) value child.now → value ≡ standard design child.now }
+{
+    match child.steps().last() {
+        Some(Step::Block(_)) => !child.is_complete(),
+        _ => false,
+    }
 }

@@ -146,6 +146,24 @@ impl Walk {
         }
     }
 
+    /// The value of the subproblem that is next, without its parts.
+    fn bound<'a, B: Bounds>(
+        &self,
+        design: &'a Design,
+        bounds: &B,
+        room: &mut Room<'a>,
+    ) -> Result<u64, NoMemory>
+        requires at { IsPath design.now (B.Values.value bounds.now design.now) self.now.path }
+        requires serves { MayServe room.old design.now }
+        ensures value { IfOk result (λ v. v ≡ B.Values.value bounds.now design.now self.now.path.node) }
+        ensures serves { MayServe room.new design.now }
+    {
+        match self.cursor.parent_value(design, bounds) {
+            None => bounds.bound(design, self.cursor.node(), room),
+            Some(value) => bounds.child_bound(design, self.cursor.node(), value, room),
+        }
+    }
+
     /// The values of the parts at the subproblem that is next.
     fn parts<'a, B: Bounds>(
         &self,
@@ -259,9 +277,9 @@ impl Walk {
     {
         let mut low = self.word;
         while self.more {
-            let valued = self.value(design, bounds, room)?;
-            low = low.min(valued.value);
-            self.follow(design, bounds, Tag::Open, valued.value)?;
+            let value = self.bound(design, bounds, room)?;
+            low = low.min(value);
+            self.follow(design, bounds, Tag::Open, value)?;
         }
         Ok(low)
     }

@@ -14,9 +14,9 @@ loop-self-preserved g c =
     record {
       at = f.at;
       tags = tags-opened design bound old new more f ∙ i.tags;
-      low = low-opened design bound old new more f c.loop-self.low c.in_ok-valued.valued.value c.min-low.result c.in_ok-valued.ensures.value c.min-low.ensures ∙ i.low;
+      low = low-opened design bound old new more f c.loop-self.low c.in_ok-value.value c.min-low.result c.in_ok-value.ensures.value c.min-low.ensures ∙ i.low;
       kept = f.kept ∙ i.kept;
       word = f.word ∙ i.word;
       best = f.best ∙ i.best;
-      serves = c.value.ensures.serves;
+      serves = c.bound.ensures.serves;
     }
