@@ -148,7 +148,7 @@ frame-pushed design tokens cells blocks start frames f m next is last =
 
 -- tokens that begin in the same way
 module _ (design : Design) (a b : List Token) (n : ℕ) (same : take n a ≡ take n b) where
-  begins-same : (k : ℕ) → k ≤ n → take k a ≡ take k b
+  pub begins-same : (k : ℕ) → k ≤ n → take k a ≡ take k b
   begins-same k le = sym (take-take k n a le) ∙ ap (take k) same ∙ take-take k n b le
 
   items-same : (k : ℕ) → k ≤ n → items_at a k ≡ items_at b k

@@ -205,11 +205,11 @@ module _ (design : Design) (node : Parts) (cells : List Cell) (blocks : List Blo
   abbrev rest : List Item
   rest = items_at node.tokens l.below
 
-  now : items_at node.tokens (length frames + 1) ≡ item_in d L R ∷ rest
-  now = items-joined node.tokens (length frames) d L R rest next (t.right.top ∙ ap (λ v. R ∷ v) t.left.top)
+  pub top-items : items_at node.tokens (length frames + 1) ≡ item_in d L R ∷ rest
+  top-items = items-joined node.tokens (length frames) d L R rest next (t.right.top ∙ ap (λ v. R ∷ v) t.left.top)
 
   few : length (offsets (whole_extent design) (item_in d L R)) ≤ 320
-  few = item-few design node (length frames + 1) (item_in d L R) rest sub now
+  few = item-few design node (length frames + 1) (item_in d L R) rest sub top-items
 
   few-left : length (offsets (whole_extent design) L) ≤ 320
   few-left = omega (arith, few, joined-length (whole_extent design) d L R)
@@ -234,6 +234,14 @@ module _ (design : Design) (node : Parts) (cells : List Cell) (blocks : List Blo
       (subst (λ v. IsNearby (pushed_reach d (item_extent (whole_extent design) L) v)) (sym (t.right.row.each j lt))
       (pushed-near (whole_extent design) (whole-small design) L R (pins_at design j) d few))
 
+  -- what the joined item's blocks share
+  pub row-is : (j : ℕ) → j < length (weighed_nets design) → joined_reach d l.extent (cell_at cells (l.row + j)).reach (cell_at cells (r.row + j)).reach ≡ row (whole_extent design) (item_in d L R) (pins_at design j)
+  row-is j lt =
+      ap (λ v. joined_reach d v (cell_at cells (l.row + j)).reach (cell_at cells (r.row + j)).reach) t.left.extent
+      ∙ ap (λ v. joined_reach d (item_extent (whole_extent design) L) v (cell_at cells (r.row + j)).reach) (t.left.row.each j lt)
+      ∙ ap (joined_reach d (item_extent (whole_extent design) L) (row (whole_extent design) L (pins_at design j))) (t.right.row.each j lt)
+      ∙ sym (row-joined (whole_extent design) (whole-small design) L R (pins_at design j) d few)
+
   joined-sides : (d : Direction) → joined_extent d (item_extent (whole_extent design) L) (item_extent (whole_extent design) R) ≡ item_extent (whole_extent design) (item_in d L R)
   joined-sides Beside = refl
   joined-sides Above = refl
@@ -242,23 +250,16 @@ module _ (design : Design) (node : Parts) (cells : List Cell) (blocks : List Blo
     abbrev cell : ℕ → Cell
     cell = joined_cell cells d l.extent l.row r.row under.at
 
-    reach-is : (j : ℕ) → j < length (weighed_nets design) → (cell j).reach ≡ row (whole_extent design) (item_in d L R) (pins_at design j)
-    reach-is j lt =
-        ap (λ v. joined_reach d v (cell_at cells (l.row + j)).reach (cell_at cells (r.row + j)).reach) t.left.extent
-        ∙ ap (λ v. joined_reach d (item_extent (whole_extent design) L) v (cell_at cells (r.row + j)).reach) (t.left.row.each j lt)
-        ∙ ap (joined_reach d (item_extent (whole_extent design) L) (row (whole_extent design) L (pins_at design j))) (t.right.row.each j lt)
-        ∙ sym (row-joined (whole_extent design) (whole-small design) L R (pins_at design j) d few)
-
     part-is : (j : ℕ) → j < length (weighed_nets design) → (cell j).part ≡ part design (whole_extent design) (item_in d L R ∷ rest) (pins_at design j)
     part-is j lt =
         ap (λ v. max v (reach_gap (cell j).reach)) (wires.each j lt)
-        ∙ ap (λ v. max (part design (whole_extent design) rest (pins_at design j)) (reach_gap v)) (reach-is j lt)
+        ∙ ap (λ v. max (part design (whole_extent design) rest (pins_at design j)) (reach_gap v)) (row-is j lt)
         ∙ sym (part-more design (item_in d L R) rest (pins_at design j) few)
 
     hull-is : (j : ℕ) → j < length (weighed_nets design) → (cell j).hull ≡ hull_part design (whole_extent design) false (item_in d L R ∷ rest) (pins_at design j)
     hull-is j lt =
         ap (λ v. max v (reach_gap (cell j).reach)) (wires.hulls j lt)
-        ∙ ap (λ v. max (hull_part design (whole_extent design) false rest (pins_at design j)) (reach_gap v)) (reach-is j lt)
+        ∙ ap (λ v. max (hull_part design (whole_extent design) false rest (pins_at design j)) (reach_gap v)) (row-is j lt)
         ∙ sym (hull-more design (item_in d L R) rest (pins_at design j) few)
 
     abbrev made : List Cell
@@ -295,11 +296,11 @@ module _ (design : Design) (node : Parts) (cells : List Cell) (blocks : List Blo
         let at_part : (j : ℕ) → j < length (weighed_nets design) → cell_at whole (f.wires.at + j) ≡ cell j = λ j lt. ap (λ (v : ℕ). cell_at whole (v + j)) is_at ∙ cell-is j lt in
         let is : IsNetFrame design node.tokens whole (first_end design start) (length frames + 1) f = record {
           item = item_in d L R;
-          top = now ∙ ap (λ (v : ℕ). item_in d L R ∷ items_at node.tokens v) (sym is_below);
+          top = top-items ∙ ap (λ (v : ℕ). item_in d L R ∷ items_at node.tokens v) (sym is_below);
           fewer = omega (arith, is_below, t.left.fewer, t.right.fewer);
           extent = is_extent ∙ ap (λ v. joined_extent d v r.extent) t.left.extent ∙ ap (joined_extent d (item_extent (whole_extent design) L)) t.right.extent ∙ joined-sides d;
-          row = record { inside = omega (arith, is_row, count); each = λ j lt. ap (λ c. c.reach) (at_row j lt) ∙ reach-is j lt };
-          wires = subst (λ v. AreWires design whole v f.wires) (sym now) record {
+          row = record { inside = omega (arith, is_row, count); each = λ j lt. ap (λ c. c.reach) (at_row j lt) ∙ row-is j lt };
+          wires = subst (λ v. AreWires design whole v f.wires) (sym top-items) record {
             inside = omega (arith, is_at, count);
             each = λ j lt. ap (λ c. c.part) (at_part j lt) ∙ part-is j lt;
             hulls = λ j lt. ap (λ c. c.hull) (at_part j lt) ∙ hull-is j lt;

@@ -16,17 +16,19 @@ use Rattle.sf_standard.specs.Hull.{extent_of, offsets, hull_of, hull_part, range
 use Rattle.sf_standard.specs.Standard.{net_part, weighed_part, wire_part, pins_by, wires_by}
 use Rattle.sf_standard.proofs.Exact.{whole-item}
 use Rattle.sf_standard.proofs.Unmoved.{sum_by-same}
-use Rattle.sf_frames.specs.Kept.{items_at}
-use Rattle.sf_frames.proofs.Topping.{none-first}
+use Rattle.sf_frames.specs.Direction.{token_in, item_in}
+use Rattle.sf_frames.specs.declared.direction.Direction.{Direction}
+use Rattle.sf_frames.specs.Kept.{items_at, IsNext}
 use Rattle.sf_frames.proofs.WholeSpans.{whole-spans}
 use Rattle.sf_bounds.specs.declared.net_frame.BlockRow.{BlockRow}
 use Rattle.sf_bounds.specs.declared.net_frame.Cell.{Cell}
 use Rattle.sf_bounds.specs.declared.net_frame.NetFrame.{NetFrame}
 use Rattle.sf_bounds.specs.declared.net_frame.Wires.{Wires}
+use Rattle.sf_bounds.specs.declared.reach.Reach.{Reach}
 use Rattle.sf_bounds.specs.Near.{anywhere, met, reach_gap}
 use Rattle.sf_bounds.specs.Pins.{IsNet}
-use Rattle.sf_bounds.specs.Rows.{counted, weighed_nets, weights_of, pins_at, whole_extent, row, part, pads_share, cell_at, first_end, IsNetFrame, AreWires, AreStored}
-use Rattle.sf_bounds.proofs.NetPushed.{whole-small, item-few}
+use Rattle.sf_bounds.specs.Rows.{counted, weighed_nets, weights_of, pins_at, whole_extent, row, part, pads_share, joined_reach, cell_at, AreWires, AreStored, AreTop}
+use Rattle.sf_bounds.proofs.NetPushed.{whole-small, item-few, top-items, row-is}
 use Rattle.sf_bounds.proofs.NetStarted.{no-hull, no-hulls, near-pads, IsThere}
 use Rattle.sf_bounds.proofs.RowLaws.{row-pads}
 use Rattle.sf_bounds.proofs.Weights.{sum-of_weight, weight-at, weighed-inside}
@@ -116,86 +118,65 @@ closed-part design node net i sub whole complete one few inside =
       | false ↦ omega (arith, row-pads e (whole-small design) design i net.pins few near.0 near.1)
     ])
 
--- the one item of a complete subproblem is that of the last frame
-module _ (design : Design) (node : Parts) (cells : List Cell) (blocks : List BlockRow) (start : Wires) (frames : List NetFrame) (sub : IsSubproblem design node) (whole : length node.steps ≡ length node.tokens) (m : AreStored design node.tokens cells blocks start frames) (all : length frames ≡ length node.tokens) (complete : is_complete node ≡ true) where
-  abbrev one : items_at node.tokens (length frames) ≡ items_of node
-  one = ap (read []) (take_all (length frames) node.tokens (omega (arith, all)))
+pub read-cell : (cells : List Cell) (i : ℕ) (x : Cell) → x ≡ get_or cells i x → i < length cells → x ≡ cell_at cells i
+read-cell cells i x is lt = is ∙ get_or_default cells i x (record { reach = anywhere; part = 0; hull = 0 }) lt
 
-  pub some-frame : 1 ≤ length frames
-  some-frame = none-first node.tokens (length frames) (omega (arith, ap length one, ap length (whole-item design node sub complete).1.items))
+-- the last operator makes the one item of a complete subproblem
+module _ (design : Design) (node : Parts) (cells : List Cell) (blocks : List BlockRow) (start : Wires) (frames : List NetFrame) (d : Direction) (l r : NetFrame) (sub : IsSubproblem design node) (m : AreStored design node.tokens cells blocks start frames) (next : IsNext node.tokens (length frames) (token_in d)) (t : AreTop design node.tokens cells start frames l r) (whole : length node.steps ≡ length node.tokens) (all : length frames ≡ length node.tokens - 1) (complete : is_complete node ≡ true) where
+  abbrev one : Item
+  one = item_in d t.left.item t.right.item
 
-  last : (d : NetFrame) → IsNetFrame design node.tokens cells (first_end design start) (length frames) (get_or frames (length frames - 1) d)
-  last d =
-      let k : length frames - 1 + 1 ≡ length frames = omega (arith, some-frame) in
-      subst (λ v. IsNetFrame design node.tokens cells (first_end design start) v (get_or frames (length frames - 1) d)) k (m.frames_are.each (length frames - 1) d (omega (arith, some-frame)))
-
-  pub row-inside : (d : NetFrame) → (get_or frames (length frames - 1) d).row + length (weighed_nets design) ≤ length cells
-  row-inside d = (last d).row.inside
-
-  alone : (d : NetFrame) → items_of node ≡ (last d).item ∷ []
-  alone d =
-      let e : items_of node ≡ (last d).item ∷ items_at node.tokens (get_or frames (length frames - 1) d).below = sym one ∙ (last d).top in
-      let n : length (items_at node.tokens (get_or frames (length frames - 1) d).below) ≡ 0 = omega (arith, ap length e, ap length (whole-item design node sub complete).1.items) in
-      e ∙ ap (λ v. (last d).item ∷ v) (none (items_at node.tokens (get_or frames (length frames - 1) d).below) n)
+  alone : items_of node ≡ one ∷ []
+  alone =
+      let n : length frames + 1 ≡ length node.tokens = omega (arith, all, next.more) in
+      let e : items_of node ≡ one ∷ items_at node.tokens l.below = sym (ap (read []) (take_all (length frames + 1) node.tokens (omega (arith, n)))) ∙ top-items design node cells blocks start frames d l r sub m next t in
+      let none : length (items_at node.tokens l.below) ≡ 0 = omega (arith, ap length e, ap length (whole-item design node sub complete).1.items) in
+      e ∙ ap (λ v. one ∷ v) (empty (items_at node.tokens l.below) none)
     where
-      none : (is : List Item) → length is ≡ 0 → is ≡ []
-      none [] h = refl
-      none (i ∷ is) h = absurd (omega (arith, h))
+      empty : (is : List Item) → length is ≡ 0 → is ≡ []
+      empty [] h = refl
+      empty (i ∷ is) h = absurd (omega (arith, h))
 
-  -- one net more
-  pub closed-at : (d : NetFrame) (j : ℕ) → j < length (weighed_nets design) → max (cell_at cells (start.at + j)).part (reach_gap (met (cell_at cells ((get_or frames (length frames - 1) d).row + j)).reach (cell_at cells (start.at + j)).reach)) ≡ net_part design node (get_or (weighed_nets design) j (record { pins = []; weight = 0 }))
-  closed-at d j lt =
-      let f = get_or frames (length frames - 1) d in
-      let s = cell_at cells (start.at + j) in
-      let e = whole_extent design in
-      let i = (last d).item in
-      let few = item-few design node (length frames) i (items_at node.tokens f.below) sub (last d).top in
-      ap (λ v. max v (reach_gap (met (cell_at cells (f.row + j)).reach s.reach))) (m.start_is.wires.each j lt)
-      ∙ ap (λ v. max (part design e [] (pins_at design j)) (reach_gap (met v s.reach))) ((last d).row.each j lt)
-      ∙ ap (λ v. max (part design e [] (pins_at design j)) (reach_gap (met (row e i (pins_at design j)) v))) (m.start_is.pads j lt)
-      ∙ sym (closed-part design node (get_or (weighed_nets design) j (record { pins = []; weight = 0 })) i sub whole complete (alone d) few (weighed-inside design j (record { pins = []; weight = 0 }) lt))
+  -- the row of a net, its pads and the net
+  abbrev shared_at : ℕ → Reach
+  shared_at j = joined_reach d l.extent (cell_at cells (l.row + j)).reach (cell_at cells (r.row + j)).reach
 
-  -- its gap with the pads
-  pub hull-at : (d : NetFrame) (j : ℕ) → j < length (weighed_nets design) → reach_gap (met (cell_at cells ((get_or frames (length frames - 1) d).row + j)).reach (cell_at cells (start.at + j)).reach) ≡ pins_by design node (get_or (weighed_nets design) j (record { pins = []; weight = 0 })).pins Hull
-  hull-at d j lt =
-      let f = get_or frames (length frames - 1) d in
-      let s = cell_at cells (start.at + j) in
-      let e = whole_extent design in
-      let i = (last d).item in
-      let few = item-few design node (length frames) i (items_at node.tokens f.below) sub (last d).top in
-      ap (λ v. reach_gap (met v s.reach)) ((last d).row.each j lt)
-      ∙ ap (λ v. reach_gap (met (row e i (pins_at design j)) v)) (m.start_is.pads j lt)
-      ∙ sym (closed-hull design node (get_or (weighed_nets design) j (record { pins = []; weight = 0 })) i sub whole complete (alone d) few (weighed-inside design j (record { pins = []; weight = 0 }) lt))
+  abbrev pads_at : ℕ → Reach
+  pads_at j = (cell_at cells (start.at + j)).reach
 
-  -- the last frame, as the code finds it
-  row-same : (i : ℕ) (r : NetFrame) → i ≡ length frames - 1 → r ≡ get_or frames i r → get_or frames (length frames - 1) r ≡ r
-  row-same i r is_i is_r = sym (is_r ∙ ap (λ (v : ℕ). get_or frames v r) is_i)
+  abbrev net_at : ℕ → Net
+  net_at j = get_or (weighed_nets design) j (record { pins = []; weight = 0 })
 
-  pub row-there : (i : ℕ) (r : NetFrame) → i ≡ length frames - 1 → r ≡ get_or frames i r → r.row + length (weighed_nets design) ≤ length cells
-  row-there i r is_i is_r = omega (arith, ap (λ v. v.row) (row-same i r is_i is_r), row-inside r)
+  few : length (offsets (whole_extent design) one) ≤ 320
+  few = item-few design node (length frames + 1) one (items_at node.tokens l.below) sub (top-items design node cells blocks start frames d l r sub m next t)
 
-  -- the sums with one net more, as the loops have them
-  module _ (i j total weight gap : ℕ) (r : NetFrame) (lt : j < length (weighed_nets design)) (is_weight : weight ≡ get_or (weights_of design.nets) j 0) (is_i : i ≡ length frames - 1) (is_r : r ≡ get_or frames i r) (is_gap : gap ≡ reach_gap (met (cell_at cells (r.row + j)).reach (cell_at cells (start.at + j)).reach)) where
-    abbrev net : Net
-    net = get_or (weighed_nets design) j (record { pins = []; weight = 0 })
+  gap-is : (j : ℕ) → j < length (weighed_nets design) → reach_gap (met (shared_at j) (pads_at j)) ≡ reach_gap (met (row (whole_extent design) one (pins_at design j)) (pads_share design (pins_at design j)))
+  gap-is j lt =
+      ap (λ v. reach_gap (met v (pads_at j))) (row-is design node cells blocks start frames d l r sub m next t j lt)
+      ∙ ap (λ v. reach_gap (met (row (whole_extent design) one (pins_at design j)) v)) (m.start_is.pads j lt)
 
-    gap-is : gap ≡ reach_gap (met (cell_at cells ((get_or frames (length frames - 1) r).row + j)).reach (cell_at cells (start.at + j)).reach)
-    gap-is = is_gap ∙ ap (λ (v : NetFrame). reach_gap (met (cell_at cells (v.row + j)).reach (cell_at cells (start.at + j)).reach)) (sym (row-same i r is_i is_r))
+  -- its part, and its gap with the pads
+  part-at : (j : ℕ) → j < length (weighed_nets design) → max (cell_at cells (start.at + j)).part (reach_gap (met (shared_at j) (pads_at j))) ≡ net_part design node (net_at j)
+  part-at j lt =
+      ap (λ v. max v (reach_gap (met (shared_at j) (pads_at j)))) (m.start_is.wires.each j lt)
+      ∙ ap (max (part design (whole_extent design) [] (pins_at design j))) (gap-is j lt)
+      ∙ sym (closed-part design node (net_at j) one sub whole complete alone few (weighed-inside design j (record { pins = []; weight = 0 }) lt))
 
-    weight-is : weight ≡ net.weight
+  hull-at : (j : ℕ) → j < length (weighed_nets design) → reach_gap (met (shared_at j) (pads_at j)) ≡ pins_by design node (net_at j).pins Hull
+  hull-at j lt = gap-is j lt ∙ sym (closed-hull design node (net_at j) one sub whole complete alone few (weighed-inside design j (record { pins = []; weight = 0 }) lt))
+
+  -- the sums with one net more, as the loop has them
+  module _ (j total weight gap : ℕ) (lt : j < length (weighed_nets design)) (is_weight : weight ≡ get_or (weights_of design.nets) j 0) (is_gap : gap ≡ reach_gap (met (shared_at j) (pads_at j))) where
+    weight-is : weight ≡ (net_at j).weight
     weight-is = is_weight ∙ weight-at design.nets j (record { pins = []; weight = 0 }) lt
 
-    pub total-more : (value : ℕ) (s : Cell) → total ≡ sum_by (weighed_part design node) (take j (weighed_nets design)) → s ≡ get_or cells (start.at + j) s → value ≡ max s.part gap → total + weight * value ≡ sum_by (weighed_part design node) (take (j + 1) (weighed_nets design))
-    total-more value s is_total is_s is_value =
-        let at_s : s ≡ cell_at cells (start.at + j) = is_s ∙ get_or_default cells (start.at + j) s (record { reach = anywhere; part = 0; hull = 0 }) (omega (arith, lt, m.start_is.wires.inside)) in
-        let is : value ≡ net_part design node net = is_value ∙ ap (max s.part) gap-is ∙ ap (λ (v : Cell). max v.part (reach_gap (met (cell_at cells ((get_or frames (length frames - 1) r).row + j)).reach (cell_at cells (start.at + j)).reach))) at_s ∙ closed-at r j lt in
-        let more : weight * value ≡ weighed_part design node net = ap (λ w. w * value) weight-is ∙ ap (λ v. net.weight * v) is in
+    pub total-more : (value : ℕ) → value ≡ max (cell_at cells (start.at + j)).part gap → total ≡ sum_by (weighed_part design node) (take j (weighed_nets design)) → total + weight * value ≡ sum_by (weighed_part design node) (take (j + 1) (weighed_nets design))
+    total-more value is_value is_total =
+        let is : value ≡ net_part design node (net_at j) = is_value ∙ ap (max (cell_at cells (start.at + j)).part) is_gap ∙ part-at j lt in
+        let more : weight * value ≡ weighed_part design node (net_at j) = ap (λ w. w * value) weight-is ∙ ap (λ v. (net_at j).weight * v) is in
         omega (arith, is_total, more, sum_by_more (weighed_part design node) (weighed_nets design) j (record { pins = []; weight = 0 }) lt)
 
     pub hull-total-more : total ≡ sum_by (λ n. n.weight * pins_by design node n.pins Hull) (take j (weighed_nets design)) → total + weight * gap ≡ sum_by (λ n. n.weight * pins_by design node n.pins Hull) (take (j + 1) (weighed_nets design))
     hull-total-more is_total =
-        let more : weight * gap ≡ net.weight * pins_by design node net.pins Hull = ap (λ w. w * gap) weight-is ∙ ap (λ v. net.weight * v) (gap-is ∙ hull-at r j lt) in
+        let more : weight * gap ≡ (net_at j).weight * pins_by design node (net_at j).pins Hull = ap (λ w. w * gap) weight-is ∙ ap (λ v. (net_at j).weight * v) (is_gap ∙ hull-at j lt) in
         omega (arith, is_total, more, sum_by_more (λ (n : Net). n.weight * pins_by design node n.pins Hull) (weighed_nets design) j (record { pins = []; weight = 0 }) lt)
-
-  pub start-small : (j : ℕ) (s : Cell) → j < length (weighed_nets design) → s ≡ get_or cells (start.at + j) s → s.part ≤ 2800000000
-  start-small j s lt is = omega (arith, ap (λ v. v.part) is, (m.fit (start.at + j) s (omega (arith, lt, m.start_is.wires.inside))).small)

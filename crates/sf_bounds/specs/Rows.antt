@@ -1,5 +1,5 @@
 -- What is kept of the nets that count along a path of tokens whose spans are whole.
-use Rattle.std.specs.Prelude.{◌≡◌, ℕ, ◌+◌, ◌*◌, ◌-◌, ◌<◌, ◌≤◌, max, List, [], ◌∷◌, ◌++◌, length, map, take, filter, fold, sum_by, All, AllPairs, false, nat_lt, if◌then◌else◌, pos, ◌+ℤ◌, int_lt, Option, Some, IfSome, slice_index_or}
+use Rattle.std.specs.Prelude.{◌≡◌, ℕ, ◌+◌, ◌*◌, ◌-◌, ◌<◌, ◌≤◌, max, List, [], ◌∷◌, ◌++◌, length, map, take, filter, fold, sum_by, All, AllPairs, true, false, nat_lt, if◌then◌else◌, pos, ◌+ℤ◌, int_lt, Option, Some, IfSome, slice_index_or}
 use Rattle.std.specs.List.{range_with_len}
 use Rattle.sf_model.specs.declared.design.Design.{Design}
 use Rattle.sf_model.specs.declared.parts.Net.{Net}
@@ -8,7 +8,8 @@ use Rattle.sf_model.specs.declared.parts.Pin.TheVariants as pin
 use Rattle.sf_model.specs.Legal.{block_count}
 use Rattle.sf_polish.specs.declared.expr.Token.{Token}
 use Rattle.sf_node.specs.declared.part.Part.TheVariants.{Range, Pair}
-use Rattle.sf_node.specs.Subproblem.{root}
+use Rattle.sf_node.specs.Parts.{Parts}
+use Rattle.sf_node.specs.Subproblem.{root, is_complete}
 use Rattle.sf_standard.specs.declared.hull.Extent.{Extent}
 use Rattle.sf_standard.specs.declared.hull.Interval.{Interval}
 use Rattle.sf_standard.specs.Items.{Item, Block}
@@ -16,8 +17,11 @@ use Rattle.sf_standard.specs.Standard.{net_part, wires_by}
 use Rattle.sf_standard.specs.Hull.{item_extent, offsets, offset_x, offset_y, of_pins, contains_pin, range_part, pair_part, hull_part}
 use Rattle.sf_frames.specs.declared.direction.Direction.{Direction}
 use Rattle.sf_frames.specs.declared.direction.Direction.TheVariants as way
-use Rattle.sf_frames.specs.Kept.{items_at}
+use Rattle.sf_frames.specs.Direction.{token_in}
+use Rattle.sf_frames.specs.Kept.{items_at, IsNext}
 use Rattle.sf_bounds.specs.declared.net_frame.BlockRow.{BlockRow}
+use Rattle.sf_bounds.specs.declared.net_frame.Ending.{Ending}
+use Rattle.sf_bounds.specs.declared.net_frame.Ending.TheVariants.{Open, Joined}
 use Rattle.sf_bounds.specs.declared.net_frame.Cell.{Cell}
 use Rattle.sf_bounds.specs.declared.net_frame.NetFrame.{NetFrame}
 use Rattle.sf_bounds.specs.declared.net_frame.Nets.{Nets}
@@ -205,12 +209,21 @@ tokens_of nets = map token_of nets.frames.items
 abbrev pub AreKeptOrNone : Design → Option Nets → Type 0
 AreKeptOrNone design kept = IfSome kept (λ nets. AreKept design (tokens_of nets) nets)
 
--- what is kept is of all these tokens
-pub record AreAll (design : Design) (tokens : List Token) (kept : Option Nets) : Type 0 where
+-- what is kept is of so many of these tokens
+pub record AreFirst (design : Design) (tokens : List Token) (count : ℕ) (kept : Option Nets) : Type 0 where
   pub nets : Nets
   pub some : kept ≡ Some nets
   pub are : AreKept design tokens nets
-  pub all : length nets.frames.items ≡ length tokens
+  pub all : length nets.frames.items ≡ count
+
+-- how the tokens end: those of an incomplete subproblem all have frames, the last operator of a complete one needs none
+abbrev pub IsEnding : Parts → Ending → Type 0
+IsEnding node Open = is_complete node ≡ false
+IsEnding node (Joined d) = (is_complete node ≡ true) × IsNext node.tokens (length node.tokens - 1) (token_in d)
+
+abbrev pub framed : Ending → List Token → ℕ
+framed Open tokens = length tokens
+framed (Joined d) tokens = length tokens - 1
 
 -- the frames of the two items on top
 pub record AreTop (design : Design) (tokens : List Token) (cells : List Cell) (start : Wires) (frames : List NetFrame) (l r : NetFrame) : Type 0 where

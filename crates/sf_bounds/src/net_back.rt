@@ -33,12 +33,13 @@ fn end_of(nets: &Nets, design: &Design, count: usize) -> usize
     nets.frames[count - 1].end
 }
 
-/// Keeps the frames of the tokens with which both paths begin.
-pub fn back_to(nets: &mut Nets, design: &Design, tokens: &[Token])
+/// Keeps the frames of the tokens with which both paths begin, up to so many.
+pub fn back_to(nets: &mut Nets, design: &Design, tokens: &[Token], most: usize)
     requires { AreKept design.now (tokens_of nets.old) nets.old }
-    ensures { AreKept design.now tokens.now nets.new }
+    ensures kept { AreKept design.now tokens.now nets.new }
+    ensures few { length nets.new.frames.items ≤ most }
 {
-    let count = common(&nets.frames, tokens);
+    let count = common(&nets.frames, tokens).min(most);
     let end = end_of(nets, design, count);
     nets.frames.truncate(count);
     nets.cells.truncate(end);

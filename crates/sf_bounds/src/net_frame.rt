@@ -1,4 +1,5 @@
 use crate::reach::Reach;
+use sf_frames::direction::Direction;
 use sf_polish::Token;
 use sf_standard::Extent;
 
@@ -51,4 +52,11 @@ pub struct Nets {
     pub weights: Vec<u8>,
     pub ranges: u64,
     pub pairs: u64,
+}
+
+/// How the tokens of a subproblem end: items are left open, or an operator joins two into the one that is left.
+#[derive(Clone, Copy, Debug, PartialEq, Eq)]
+pub enum Ending {
+    Open,
+    Joined(Direction),
 }

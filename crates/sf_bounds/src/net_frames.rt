@@ -1,14 +1,14 @@
-ghost use Rattle.std.specs.Prelude.{◌≡◌, length, is_some, true, IfOk, IfSome, OnOk};
+ghost use Rattle.std.specs.Prelude.{◌≡◌, ◌≤◌, length, is_some, true, IfOk, IfSome, OnOk};
 ghost use Rattle.sf_node.specs.Children.{IsSubproblem};
 ghost use Rattle.sf_bounds.specs.Open.{AreWireParts};
-ghost use Rattle.sf_bounds.specs.Rows.{AreKeptOrNone, AreAll};
+ghost use Rattle.sf_bounds.specs.Rows.{AreKeptOrNone, AreFirst};
 
 use crate::layout::Layout;
 use crate::net_back::back_to;
 use crate::net_frame::Nets;
 use crate::net_push::extend;
 use crate::net_start::start;
-use crate::net_total::total_parts;
+use crate::net_total::{ending_of, framed, total_parts};
 use crate::reach::Reach;
 use crate::wire_parts::WireParts;
 use sf_model::Design;
@@ -58,7 +58,7 @@ fn fill(
     Ok(())
 }
 
-// Makes the frames of all tokens. The answer is no where the rows of a path may need too many cells: a row for each
+// Makes the frames of so many tokens. The answer is no where the rows of a path may need too many cells: a row for each
 // block, one for each operator, and one before any token.
 fn follow(
     kept: &mut Option<Nets>,
@@ -67,19 +67,21 @@ fn follow(
     reaches: &mut Vec<Reach>,
     design: &Design,
     node: &Node,
+    count: usize,
 ) -> Result<bool, NoMemory>
     requires subproblem { IsSubproblem design.now node.now }
     requires kept { AreKeptOrNone design.now kept.old }
+    requires inside { count ≤ length node.now.tokens }
     ensures kept { AreKeptOrNone design.now kept.new }
-    ensures all { IfOk result (λ fits. fits ≡ true → AreAll design.now node.now.tokens kept.new) }
+    ensures all { IfOk result (λ fits. fits ≡ true → AreFirst design.now node.now.tokens count kept.new) }
 {
     if design.nets.as_slice().len() * (2 * design.blocks.as_slice().len()) > MOST_CELLS {
         return Ok(false);
     }
     fill(kept, alloc, layout, reaches, design)?;
     let Some(nets) = kept else { unreachable!() };
-    back_to(nets, design, node.tokens());
-    extend(nets, design, node)?;
+    back_to(nets, design, node.tokens(), count);
+    extend(nets, design, node, count)?;
     Ok(true)
 }
 
@@ -96,7 +98,7 @@ impl<'a> NetFrames<'a> {
     }
 
     /// What the wires of a subproblem take at least by each part of the bound, whose spans are whole. Or none, where the rows
-    /// of a path may need too many cells.
+    /// of a path may need too many cells, or one block is all there is.
     pub fn measure(
         &mut self,
         layout: &mut Layout,
@@ -109,12 +111,24 @@ impl<'a> NetFrames<'a> {
         ensures same { self.new ≡ self.old }
     {
         let design = self.design;
-        if !follow(&mut self.kept, self.alloc, layout, reaches, design, node)? {
+        let Some(ending) = ending_of(node) else {
+            return Ok(None);
+        };
+        let count = framed(ending, node);
+        if !follow(
+            &mut self.kept,
+            self.alloc,
+            layout,
+            reaches,
+            design,
+            node,
+            count,
+        )? {
             return Ok(None);
         }
         let Some(nets) = &self.kept else {
             unreachable!()
         };
-        Ok(Some(total_parts(nets, design, node)))
+        Ok(Some(total_parts(nets, design, node, ending)))
     }
 }

@@ -14,8 +14,13 @@ use sf_node::Node;
 use sf_polish::Token;
 use std::alloc::AllocError as NoMemory;
 
-// The frames of the two items on top, the left or lower one first.
-fn top_pair(nets: &Nets, design: &Design, node: &Node, direction: Direction) -> (NetFrame, NetFrame)
+/// The frames of the two items on top, the left or lower one first.
+pub fn top_pair(
+    nets: &Nets,
+    design: &Design,
+    node: &Node,
+    direction: Direction,
+) -> (NetFrame, NetFrame)
     requires subproblem { IsSubproblem design.now node.now }
     requires kept { AreKept design.now node.now.tokens nets.now }
     requires next { IsNext node.now.tokens (length nets.now.frames.items) (token_in direction) }
@@ -114,15 +119,17 @@ fn push(nets: &mut Nets, design: &Design, node: &Node, token: Token) -> Result<(
     }
 }
 
-/// The frames of all tokens that have none yet.
-pub fn extend(nets: &mut Nets, design: &Design, node: &Node) -> Result<(), NoMemory>
+/// The frames of so many tokens.
+pub fn extend(nets: &mut Nets, design: &Design, node: &Node, count: usize) -> Result<(), NoMemory>
     requires subproblem { IsSubproblem design.now node.now }
     requires kept { AreKept design.now node.now.tokens nets.old }
+    requires few { length nets.old.frames.items ≤ count }
+    requires inside { count ≤ length node.now.tokens }
     ensures kept { AreKept design.now node.now.tokens nets.new }
-    ensures count { OnOk result (length nets.new.frames.items ≡ length node.now.tokens) }
+    ensures count { OnOk result (length nets.new.frames.items ≡ count) }
 {
     let tokens = node.tokens();
-    while nets.frames.len() < tokens.len() {
+    while nets.frames.len() < count {
         let token = tokens[nets.frames.len()];
         push(nets, design, node, token)?;
     }

@@ -1,7 +1,7 @@
 ghost use Rattle.std.specs.Prelude.{◌≡◌, ◌<◌, ◌≤◌, ◌+◌, ◌*◌, ◌++◌, ℕ, length, map, All, IfOk};
 ghost use Rattle.std.specs.List.{range_with_len};
 ghost use Rattle.sf_bounds.specs.Near.{IsNearby};
-ghost use Rattle.sf_bounds.specs.Rows.{pushed, pushed_reach, cell_of, joined_cell, cell_at, AreSums, AreSmall, IsFitCell, IsLonger};
+ghost use Rattle.sf_bounds.specs.Rows.{pushed, pushed_reach, joined_reach, cell_of, joined_cell, cell_at, AreSums, AreSmall, IsFitCell, IsLonger};
 
 use crate::meet::{met, reach_gap};
 use crate::net_frame::{Cell, Wires};
@@ -41,6 +41,18 @@ fn pushed_reach(direction: Direction, by: Extent, reach: Reach) -> Reach
     }
 }
 
+/// What two joined items share.
+pub fn joined_reach(direction: Direction, by: Extent, left: Reach, right: Reach) -> Reach
+    requires left { IsNearby left }
+    requires right { IsNearby right }
+    requires moved { IsNearby (pushed_reach direction by right) }
+    ensures is { result ≡ joined_reach direction by left right }
+    ensures near { IsNearby result }
+{
+    let moved = pushed_reach(direction, by, right);
+    met(left, moved)
+}
+
 // The cell of a net after two items are joined, where another tells its part in the items under them.
 fn joined_cell(direction: Direction, by: Extent, left: Cell, right: Cell, under: Cell) -> Cell
     requires left { IsFitCell left }
@@ -50,8 +62,7 @@ fn joined_cell(direction: Direction, by: Extent, left: Cell, right: Cell, under:
     ensures is { result ≡ cell_of direction by left right under }
     ensures fit { IsFitCell result }
 {
-    let moved = pushed_reach(direction, by, right.reach);
-    let reach = met(left.reach, moved);
+    let reach = joined_reach(direction, by, left.reach, right.reach);
     let gap = reach_gap(reach) as u32;
     Cell {
         reach,

@@ -3,7 +3,7 @@ use Rattle.std.specs.Prelude.{sum_by}
 use Rattle.sf_node.specs.declared.part.Part.TheVariants.{Hull}
 use Rattle.sf_standard.specs.Standard.{weighed_part, pins_by}
 use Rattle.sf_bounds.specs.Rows.{weighed_nets}
-use Rattle.sf_bounds.proofs.net_total.totals_with_pads.Given as goal
+use Rattle.sf_bounds.proofs.net_total.joined_totals.Given as goal
 
 abbrev pub invariant-loop-net : goal.invariant-loop-net
 invariant-loop-net l = record {
