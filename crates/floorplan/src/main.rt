@@ -18,8 +18,8 @@ use std::io::ErrorKind;
 use std::process::ExitCode;
 use std::thread::Threads;
 
-/// Set and not empty where the standard error is a terminal on which the progress of a search is to be told. The program
-/// can't ask the system for it; its start script does.
+/// Set and not empty where the standard error is a terminal on which the progress of a search is to be
+/// told. The program can't ask the system for it; its start script does.
 const TOLD_WHERE: &str = "FLOORPLAN_PROGRESS";
 
 /// All words but the first, which is the program's name.

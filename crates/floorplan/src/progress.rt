@@ -1,5 +1,5 @@
-//! How far a search is, told in one line on the standard error that is written again and again, and taken away before
-//! anything is printed.
+//! How far a search is, told in one line on the standard error that is written again and again, and taken
+//! away before anything is printed.
 
 use sf_io::{Failed, Gate, Sink};
 use std::sync::atomic::{AtomicBool, AtomicU64, Ordering};
@@ -13,8 +13,9 @@ const STRIDE: u64 = 65_536;
 /// Takes away what stands in the terminal's line.
 const CLEAR: &str = "\r\u{1b}[K";
 
-/// A gate that counts the decisions of all workers together and tells their number. Of a worker whole groups are counted,
-/// in each round anew where there are rounds; a rest that fills no group is not, nor is a decision between two rounds.
+/// A gate that counts the decisions of all workers together and tells their number. Of a worker whole
+/// groups are counted, in each round anew where there are rounds; a rest that fills no group is not, nor is
+/// a decision between two rounds.
 #[derive(Drop)]
 pub struct Progress<R: Eprint + Drop> {
     rt: R,
@@ -79,9 +80,7 @@ impl<'a, K: Sink + Drop, R: Eprint + Drop> AfterProgress<'a, K, R> {
 }
 
 impl<'a, K: Sink + Drop, R: Eprint + Drop> Sink for AfterProgress<'a, K, R> {
-    ghost taken = { λ s. K.taken s.sink };
-
-    ghost faults = { λ s. K.faults s.sink };
+    ghost seen = { λ s. K.seen s.sink };
 
     fn put(&mut self, piece: &[u8]) -> Result<usize, Failed> {
         self.progress.clear();

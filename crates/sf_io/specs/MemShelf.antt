@@ -1,9 +1,9 @@
 -- What a shelf in memory shows of itself.
-use Rattle.std.specs.Prelude.{ℕ, List, [], ◌∷◌, Bool, true, false}
+use Rattle.std.specs.Prelude.{ℕ, List, [], ◌∷◌, Bool, true, false, Some}
 use Rattle.std.specs.Option.{option_map}
 use Rattle.std.specs.BTreeMap.{get_by_text}
 use Rattle.sf_io.specs.declared.memory.MemShelf.{MemShelf}
-use Rattle.sf_io.specs.Outside.{Contents, Held}
+use Rattle.sf_io.specs.Outside.{Contents, Held, ShelfSeen}
 
 -- the bytes under each name
 abbrev pub mem_texts : MemShelf → Held
@@ -33,3 +33,6 @@ mem_load_faults s = s.load_faults
 -- how many stores have failed, up to the end of u64
 abbrev pub mem_store_faults : MemShelf → ℕ
 mem_store_faults s = s.store_faults
+
+abbrev pub mem_seen : MemShelf → ShelfSeen
+mem_seen s = record { holds = Some (mem_contents s); load_faults = mem_load_faults s; store_faults = mem_store_faults s }

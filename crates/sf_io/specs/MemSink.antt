@@ -1,5 +1,6 @@
 -- What a sink in memory shows of itself.
-use Rattle.std.specs.Prelude.{ℕ, List}
+use Rattle.std.specs.Prelude.{ℕ, List, Some}
+use Rattle.sf_io.specs.Outside.{SinkSeen}
 use Rattle.sf_io.specs.declared.memory.MemSink.{MemSink}
 
 -- the bytes taken so far
@@ -17,3 +18,6 @@ sink_calls s = s.calls
 -- how many puts have failed, up to the end of u64
 abbrev pub sink_faults : MemSink → ℕ
 sink_faults s = s.faults
+
+abbrev pub sink_seen : MemSink → SinkSeen
+sink_seen s = record { taken = Some (mem_taken s); faults = sink_faults s }

@@ -10,6 +10,17 @@ pub record Contents : Type 0 where
   pub held : Held
   pub may_fail : Bool
 
+-- what is seen of a shelf: what it holds, where it tells that, and how many loads and stores have failed, up to the end of u64
+pub record ShelfSeen : Type 0 where
+  pub holds : Option Contents
+  pub load_faults : ℕ
+  pub store_faults : ℕ
+
+-- what is seen of a sink: the bytes taken so far, where it tells them, and how many puts have failed, up to the end of u64
+pub record SinkSeen : Type 0 where
+  pub taken : Option (List ℕ)
+  pub faults : ℕ
+
 -- one more, up to the greatest number of u64
 abbrev pub one_more : ℕ → ℕ
 one_more n = min (n + 1) (2 ^ 64 - 1)

@@ -34,7 +34,8 @@ pub fn write_some<F: Write>(file: &mut F, bytes: &[u8]) -> Result<usize, Failed>
     Err(Failed)
 }
 
-/// Writes all of the bytes, as many at a time as the file takes.
+/// Writes all of the bytes, as many at a time as the file takes. What a file took before is nowhere told,
+/// so no clause says that all of them are in it.
 pub fn write_whole<F: Write>(file: &mut F, bytes: &[u8]) -> Result<(), Failed> {
     let mut at = 0;
     while at < bytes.len() {

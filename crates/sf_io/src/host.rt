@@ -1,5 +1,6 @@
-// Files and the standard output. Nothing is told of what they hold or take.
-ghost use Rattle.std.specs.Prelude.{◌≡◌, ◌+◌, ◌≤◌, ◌<◌, length, take, None, IfOk, OnOk, OnErr, IsErrOf};
+//! Files and the standard output. Nothing is told of what they hold or take.
+
+ghost use Rattle.std.specs.Prelude.{◌≡◌, ◌+◌, ◌≤◌, ◌<◌, length, take, IfOk, OnOk, OnErr, IsErrOf};
 ghost use Rattle.sf_io.specs.Outside.{one_more};
 
 use crate::again::{read_some, write_some, write_whole};
@@ -8,6 +9,7 @@ use std::alloc::Global;
 use std::rt::Files;
 use std::{fs, io};
 
+/// The most bytes that are read at once.
 const PIECE: usize = 16384;
 
 /// Files, by their paths. The counts begin at 0 and stay at the greatest number of `u64`.
@@ -37,20 +39,18 @@ impl<R: Files + Drop> HostShelf<R> {
 }
 
 impl<R: Files + Drop> Shelf for HostShelf<R> {
-    ghost use Rattle.sf_io.specs.Host.{host_load_faults, host_store_faults};
+    ghost use Rattle.sf_io.specs.Host.{host_load_faults, host_shelf_seen, host_store_faults};
 
-    ghost holds = { λ _. None };
-
-    ghost load_faults = { λ s. s.load_faults };
-
-    ghost store_faults = { λ s. s.store_faults };
+    ghost seen = { host_shelf_seen };
 
     fn load(&mut self, name: &str, limit: u64) -> Result<Vec<u8>, LoadFault>
         ensures limit { IfOk result (λ bytes. length bytes.items ≤ limit) }
 
         // A load that failed is counted, and no other call.
-        ensures failed { IsErrOf result LoadFault.Failed → host_load_faults self.new ≡ one_more (host_load_faults self.old) }
-        ensures passed { ¬ IsErrOf result LoadFault.Failed → host_load_faults self.new ≡ host_load_faults self.old }
+        ensures failed { IsErrOf result LoadFault.Failed →
+            host_load_faults self.new ≡ one_more (host_load_faults self.old) }
+        ensures passed { ¬ IsErrOf result LoadFault.Failed →
+            host_load_faults self.new ≡ host_load_faults self.old }
         ensures later { host_load_faults self.old ≤ host_load_faults self.new }
         ensures stores { host_store_faults self.new ≡ host_store_faults self.old }
     {
@@ -78,7 +78,17 @@ impl<R: Files + Drop> Shelf for HostShelf<R> {
     }
 }
 
-// Reads a file to its end, or one byte past the limit.
+/// How many bytes to ask for behind so many: a whole piece, but no more than one byte past the limit.
+fn asked(read: usize, limit: u64) -> usize
+    requires { read ≤ limit }
+    ensures some { 1 ≤ result }
+    ensures piece { result ≤ 16384 }
+    ensures past { read + result ≤ limit + 1 }
+{
+    (limit - read as u64).min(PIECE as u64 - 1) as usize + 1
+}
+
+/// Reads a file to its end, or one byte past the limit.
 fn read_file<R: Files>(rt: &R, alloc: Global, name: &str, limit: u64) -> Result<Vec<u8>, LoadFault>
     ensures { IfOk result (λ bytes. length bytes.items ≤ limit) }
 {
@@ -88,7 +98,7 @@ fn read_file<R: Files>(rt: &R, alloc: Global, name: &str, limit: u64) -> Result<
     let mut bytes = Vec::new(alloc);
     let mut piece = [0; PIECE];
     while bytes.len() as u64 <= limit {
-        let room = (limit - bytes.len() as u64).min(PIECE as u64 - 1) as usize + 1;
+        let room = asked(bytes.len(), limit);
         match read_some(&mut file, &mut piece[..room]) {
             Ok(0) => return Ok(bytes),
             Ok(count) => {
@@ -102,7 +112,7 @@ fn read_file<R: Files>(rt: &R, alloc: Global, name: &str, limit: u64) -> Result<
     Err(LoadFault::TooLong)
 }
 
-// Writes a file from its start.
+/// Writes a file from its start. Its bytes are nowhere told, so no clause can say that they are these.
 fn write_file<R: Files>(rt: &R, name: &str, bytes: &[u8]) -> Result<(), Failed> {
     let Ok(mut file) = fs::create(rt, name) else {
         return Err(Failed);
@@ -129,11 +139,9 @@ impl<P: Print + Drop> HostSink<P> {
 }
 
 impl<P: Print + Drop> Sink for HostSink<P> {
-    ghost use Rattle.sf_io.specs.Host.{host_faults};
+    ghost use Rattle.sf_io.specs.Host.{host_faults, host_sink_seen};
 
-    ghost taken = { λ _. None };
-
-    ghost faults = { λ s. s.faults };
+    ghost seen = { host_sink_seen };
 
     fn put(&mut self, piece: &[u8]) -> Result<usize, Failed>
         ensures bound { IfOk result (λ n. n ≤ length piece.now) }

@@ -1,8 +1,11 @@
-// A shelf and a sink in memory, whose calls fail where a list says so.
-ghost use Rattle.std.specs.Prelude.{◌≡◌, ◌↔◌, ℕ, ◌≤◌, ◌<◌, ◌⊎◌, List, [], ◌++◌, length, Some, None, IfOk, OnOk, OnErr, IsErr, IsErrOf, Contains};
+//! A shelf and a sink in memory, whose calls fail where a list says so.
+
+ghost use Rattle.std.specs.Prelude.{◌≡◌, ◌↔◌, ℕ, ◌≤◌, ◌<◌, ◌⊎◌, List, [], ◌++◌, length, Some, None, IfOk};
+ghost use Rattle.std.specs.Prelude.{OnOk, OnErr, IsErr, IsErrOf, Contains};
 ghost use Rattle.std.specs.Option.{option_map};
 ghost use Rattle.sf_io.specs.Outside.{one_more, HoldsMore, MayFail, Stores, StoresPart, KeepsOthers};
 
+use crate::outside::copy_within;
 use crate::{Failed, LoadFault, Shelf, Sink};
 use std::alloc::{AllocError as NoMemory, Global};
 use std::collections::BTreeMap;
@@ -19,7 +22,8 @@ pub struct MemShelf {
 }
 
 impl MemShelf {
-    ghost use Rattle.sf_io.specs.MemShelf.{mem_texts, mem_failing, mem_calls, mem_load_faults, mem_store_faults};
+    ghost use Rattle.sf_io.specs.MemShelf.{mem_texts, mem_failing, mem_calls, mem_load_faults};
+    ghost use Rattle.sf_io.specs.MemShelf.{mem_store_faults};
 
     /// A shelf without names. Loads and stores are numbered together from 1, and those of these numbers fail.
     pub fn new(alloc: Global, failing: Vec<u64>) -> Self
@@ -67,26 +71,28 @@ impl MemShelf {
 }
 
 impl Shelf for MemShelf {
-    ghost use Rattle.sf_io.specs.MemShelf.{mem_contents, mem_texts, mem_failing, mem_calls, mem_load_faults, mem_store_faults};
+    ghost use Rattle.sf_io.specs.MemShelf.{mem_contents, mem_seen, mem_texts, mem_failing, mem_calls};
+    ghost use Rattle.sf_io.specs.MemShelf.{mem_load_faults, mem_store_faults};
 
-    ghost holds = { λ s. Some (mem_contents s) };
-
-    ghost load_faults = { mem_load_faults };
-
-    ghost store_faults = { mem_store_faults };
+    ghost seen = { mem_seen };
 
     fn load(&mut self, name: &str, limit: u64) -> Result<Vec<u8>, LoadFault>
         ensures bytes { IfOk result (λ bytes. mem_texts self.old name.now ≡ Some bytes.items) }
         ensures limit { IfOk result (λ bytes. length bytes.items ≤ limit) }
-        ensures too_long { IsErrOf result LoadFault.TooLong → HoldsMore (Some (mem_contents self.old)) name.now limit }
+        ensures too_long { IsErrOf result LoadFault.TooLong →
+            HoldsMore (Some (mem_contents self.old)) name.now limit }
 
         // It fails where its number is listed or the name isn't there, and nowhere else.
-        ensures listed { IsErrOf result LoadFault.Failed ↔ (Contains (mem_failing self.old) (one_more (mem_calls self.old)) ⊎ (mem_texts self.old name.now ≡ None)) }
+        ensures listed { IsErrOf result LoadFault.Failed ↔
+            (Contains (mem_failing self.old) (one_more (mem_calls self.old)) ⊎ (mem_texts self.old name.now ≡ None)) }
         ensures lost { IsErrOf result LoadFault.Failed → MayFail (Some (mem_contents self.old)) name.now }
 
-        // A load that failed is counted, and no other: not one of a text that is too long, or for which there is no memory.
-        ensures failed { IsErrOf result LoadFault.Failed → mem_load_faults self.new ≡ one_more (mem_load_faults self.old) }
-        ensures passed { ¬ IsErrOf result LoadFault.Failed → mem_load_faults self.new ≡ mem_load_faults self.old }
+        // A load that failed is counted, and no other: not one of a text that is too long, or for which
+        // there is no memory.
+        ensures failed { IsErrOf result LoadFault.Failed →
+            mem_load_faults self.new ≡ one_more (mem_load_faults self.old) }
+        ensures passed { ¬ IsErrOf result LoadFault.Failed →
+            mem_load_faults self.new ≡ mem_load_faults self.old }
         ensures later { mem_load_faults self.old ≤ mem_load_faults self.new }
 
         ensures calls { mem_calls self.new ≡ one_more (mem_calls self.old) }
@@ -95,26 +101,21 @@ impl Shelf for MemShelf {
         ensures stores { mem_store_faults self.new ≡ mem_store_faults self.old }
     {
         self.calls = self.calls.saturating_add(1);
-        if self.failing.contains(&self.calls) {
-            self.load_faults = self.load_faults.saturating_add(1);
-            return Err(LoadFault::Failed);
-        }
-        let Some(text) = self.texts.get(name) else {
-            self.load_faults = self.load_faults.saturating_add(1);
-            return Err(LoadFault::Failed);
-        };
-        if text.len() as u64 > limit {
-            return Err(LoadFault::TooLong);
-        }
-        match text.to_vec(self.alloc) {
-            Ok(bytes) => Ok(bytes),
-            Err(_) => Err(LoadFault::NoMemory),
+        let is_listed = self.failing.contains(&self.calls);
+        match self.texts.get(name) {
+            Some(text) if !is_listed => copy_within(self.alloc, text.as_slice(), limit),
+            _ => {
+                self.load_faults = self.load_faults.saturating_add(1);
+                Err(LoadFault::Failed)
+            }
         }
     }
 
     fn store(&mut self, name: &str, bytes: &[u8]) -> Result<(), Failed>
-        ensures stored { OnOk result (Stores (Some (mem_contents self.old)) (Some (mem_contents self.new)) name.now bytes.now) }
-        ensures part { OnErr result (StoresPart (Some (mem_contents self.old)) (Some (mem_contents self.new)) name.now bytes.now) }
+        ensures stored { OnOk result
+            (Stores (Some (mem_contents self.old)) (Some (mem_contents self.new)) name.now bytes.now) }
+        ensures part { OnErr result
+            (StoresPart (Some (mem_contents self.old)) (Some (mem_contents self.new)) name.now bytes.now) }
         ensures kept { OnErr result (mem_texts self.new ≡ mem_texts self.old) }
 
         // It fails where its number is listed. Elsewhere only want of memory is a fault.
@@ -180,11 +181,9 @@ impl MemSink {
 }
 
 impl Sink for MemSink {
-    ghost use Rattle.sf_io.specs.MemSink.{mem_taken, sink_failing, sink_calls, sink_faults};
+    ghost use Rattle.sf_io.specs.MemSink.{mem_taken, sink_failing, sink_calls, sink_faults, sink_seen};
 
-    ghost taken = { λ s. Some (mem_taken s) };
-
-    ghost faults = { sink_faults };
+    ghost seen = { sink_seen };
 
     /// Takes the piece whole.
     fn put(&mut self, piece: &[u8]) -> Result<usize, Failed>

@@ -1,13 +1,15 @@
-// A shelf and a sink that never fail.
+//! A shelf and a sink that never fail.
+
 ghost use Rattle.std.specs.Prelude.{◌≡◌, ◌↔◌, ◌<◌, ◌≤◌, length, None, IsOk, IfOk, IsErrOf};
 ghost use Rattle.sf_io.specs.NeverShelf.{text_under, texts_seen};
 
+use crate::outside::copy_within;
 use crate::{Failed, LoadFault, Shelf, Sink};
 use std::alloc::Global;
 use std::marker::Model;
 
-/// Texts by name, given when the shelf is made. A store answers `Ok` and is let go, so the shelf tells nothing of what it
-/// holds.
+/// Texts by name, given when the shelf is made. A store answers `Ok` and is let go, so the shelf tells
+/// nothing of what it holds.
 #[derive(Drop)]
 pub struct NeverShelf {
     alloc: Global,
@@ -31,7 +33,7 @@ impl NeverShelf {
     }
 }
 
-// The text under a name: the first of that name, or the empty one.
+/// The text under a name: the first of that name, or the empty one.
 fn text_of<'a>(texts: &'a [(String, Vec<u8>)], name: &str) -> &'a [u8]
     ensures { result.now ≡ text_under (texts_seen texts.now) name.now }
 {
@@ -44,11 +46,7 @@ fn text_of<'a>(texts: &'a [(String, Vec<u8>)], name: &str) -> &'a [u8]
 }
 
 impl Shelf for NeverShelf {
-    ghost holds = { λ _. None };
-
-    ghost load_faults = { λ _. 0 };
-
-    ghost store_faults = { λ _. 0 };
+    ghost seen = { λ _. record { holds = None; load_faults = 0; store_faults = 0 } };
 
     fn load(&mut self, name: &str, limit: u64) -> Result<Vec<u8>, LoadFault>
         ensures bytes { IfOk result (λ bytes. bytes.items ≡ text_under self.old name.now) }
@@ -57,14 +55,7 @@ impl Shelf for NeverShelf {
         ensures failed { ¬ IsErrOf result LoadFault.Failed }
         ensures texts { self.new ≡ self.old }
     {
-        let text = text_of(&self.texts, name);
-        if text.len() as u64 > limit {
-            return Err(LoadFault::TooLong);
-        }
-        match text.to_vec(self.alloc) {
-            Ok(bytes) => Ok(bytes),
-            Err(_) => Err(LoadFault::NoMemory),
-        }
+        copy_within(self.alloc, text_of(&self.texts, name), limit)
     }
 
     fn store(&mut self, _name: &str, _bytes: &[u8]) -> Result<(), Failed>
@@ -80,9 +71,7 @@ impl Shelf for NeverShelf {
 pub struct NeverSink;
 
 impl Sink for NeverSink {
-    ghost taken = { λ _. None };
-
-    ghost faults = { λ _. 0 };
+    ghost seen = { λ _. record { taken = None; faults = 0 } };
 
     fn put(&mut self, piece: &[u8]) -> Result<usize, Failed>
         ensures whole { result ≡ Ok (length piece.now) }

@@ -1,9 +1,11 @@
-// A shelf and a sink in memory whose calls do a part of what they are asked for.
+//! A shelf and a sink in memory whose calls do a part of what they are asked for.
+
 ghost use Rattle.std.specs.Prelude.{◌≡◌, [], Some};
 ghost use Rattle.std.specs.Option.{option_map};
 ghost use Rattle.sf_io.specs.MemShelf.{mem_contents, mem_load_faults, mem_texts};
 ghost use Rattle.sf_io.specs.Outside.{StoresPart};
-ghost use Rattle.sf_io.specs.Partial.{part_shelf_faults, part_shelf_texts, part_sink_faults, part_sink_taken};
+ghost use Rattle.sf_io.specs.Partial.{part_shelf_faults, part_shelf_seen, part_shelf_texts, part_sink_faults};
+ghost use Rattle.sf_io.specs.Partial.{part_sink_seen, part_sink_taken};
 
 use crate::{Failed, LoadFault, MemShelf, Shelf, Sink};
 use std::alloc::{AllocError as NoMemory, Global};
@@ -11,8 +13,8 @@ use std::alloc::{AllocError as NoMemory, Global};
 /// The most bytes that a put takes.
 const PIECE: usize = 3;
 
-/// Texts by name, of which only the first stores are done whole: each later one keeps the first half of its bytes, and
-/// fails. Loads are those of a shelf in memory.
+/// Texts by name, of which only the first stores are done whole: each later one keeps the first half of its
+/// bytes, and fails. Loads are those of a shelf in memory.
 #[derive(Drop)]
 pub struct PartShelf {
     texts: MemShelf,
@@ -41,9 +43,10 @@ impl PartShelf {
     }
 }
 
-// The first half of the bytes under a name, where there is memory for it.
+/// The first half of the bytes under a name, where there is memory for it.
 fn keep_half(texts: &mut MemShelf, name: &str, bytes: &[u8])
-    ensures part { StoresPart (Some (mem_contents texts.old)) (Some (mem_contents texts.new)) name.now bytes.now }
+    ensures part { let old = Some (mem_contents texts.old) in let new = Some (mem_contents texts.new) in
+        StoresPart old new name.now bytes.now }
     ensures loads { mem_load_faults texts.new ≡ mem_load_faults texts.old }
 {
     match texts.add(name, &bytes[..bytes.len() / 2]) {
@@ -53,11 +56,7 @@ fn keep_half(texts: &mut MemShelf, name: &str, bytes: &[u8])
 }
 
 impl Shelf for PartShelf {
-    ghost holds = { λ s. Some (mem_contents s.texts) };
-
-    ghost load_faults = { λ s. mem_load_faults s.texts };
-
-    ghost store_faults = { λ s. s.faults };
+    ghost seen = { part_shelf_seen };
 
     fn load(&mut self, name: &str, limit: u64) -> Result<Vec<u8>, LoadFault> {
         self.texts.load(name, limit)
@@ -80,7 +79,8 @@ impl Shelf for PartShelf {
     }
 }
 
-/// Bytes in memory, of which a put takes three at most, up to so many in all: where there is room for none, it fails.
+/// Bytes in memory, of which a put takes three at most, up to so many in all: where there is room for none,
+/// it fails.
 #[derive(Drop)]
 pub struct PartSink {
     taken: Vec<u8>,
@@ -110,9 +110,7 @@ impl PartSink {
 }
 
 impl Sink for PartSink {
-    ghost taken = { λ s. Some (s.taken.items) };
-
-    ghost faults = { λ s. s.faults };
+    ghost seen = { part_sink_seen };
 
     fn put(&mut self, piece: &[u8]) -> Result<usize, Failed> {
         let count = piece.len().min(PIECE).min(self.room);

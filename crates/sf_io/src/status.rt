@@ -1,10 +1,10 @@
-// How a run of the program ended.
+//! How a run of the program ended.
 
 /// How a run of the program ended. The number is the exit status of the process.
 #[derive(Clone, Copy, Debug, PartialEq, Eq)]
 pub enum Status {
-    /// What was asked for is done: the plan is proved to be the best, the certificate is accepted, the placement is legal,
-    /// or the curve is printed.
+    /// What was asked for is done: the plan is proved to be the best, the certificate is accepted, the
+    /// placement is legal, or the curve is printed.
     Done = 0,
     /// No slicing floorplan fits the outline.
     NoneFits = 1,

@@ -1,4 +1,5 @@
-// Each call once, with memory enough; and the shelf and the sink of the host against files and the standard output.
+//! Each call once, with memory enough; and the shelf and the sink of the host against files and the
+//! standard output.
 
 ghost use Rattle.std.specs.Prelude.{◌≤◌, IfOk};
 

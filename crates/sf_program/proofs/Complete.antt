@@ -12,19 +12,18 @@ use Rattle.sf_pl_writer.specs.declared.report.Outcome.{Outcome}
 use Rattle.sf_pl_writer.specs.declared.report.Outcome.TheVariants as word
 use Rattle.sf_words.specs.Meaning.{Command, plan, check, measure, shape, gen, Means}
 use Rattle.sf_words.proofs.Unique.{meaning_unique}
-use Rattle.sf_program.specs.Answer.{Answers, CommandAnswer, CommandLoses, IsAnswer, IsRefused, RefusesWords}
+use Rattle.sf_program.specs.Answer.{Answers, CommandAnswer, CommandRefuses, IsAnswer, IsRefused, RefusesWords}
 use Rattle.sf_program.specs.Checked.{CheckRead, IsChecked, answer_status}
 use Rattle.sf_program.specs.Complete.{EndsJudging, HasValue, IsOwnEnd, IsTaken, MayEnd}
 use Rattle.sf_program.specs.Generated.{GenRead, IsGenerated}
 use Rattle.sf_program.specs.Headline.{HasSearched}
 use Rattle.sf_program.specs.Measured as measured
 use Rattle.sf_program.specs.OneAnswer.{Answer, GivesOne, IsAnswerTo}
-use Rattle.sf_program.specs.Outcome.{Refusal, lost}
+use Rattle.sf_program.specs.Outcome.{Refusal, refused, lost}
 use Rattle.sf_program.specs.Planned as planned
 use Rattle.sf_program.specs.Shaped.{ShapeRead}
 use Rattle.sf_program.specs.Stores.{Stored}
 use Rattle.sf_program.proofs.Once.{no-refusal}
-use Rattle.sf_program.proofs.OneAnswer.{refusal-of}
 use Rattle.sf_program.proofs.OneChecked.{check-read-one, measure-read-one, shape-read-one}
 use Rattle.sf_program.proofs.OneDesign.{plan-one}
 use Rattle.sf_program.proofs.OneSearched.{gen-one}
@@ -45,10 +44,8 @@ checked-ends (checked.Yes cost bound decided) = tt
 checked-ends (checked.No why) = tt
 
 -- a stage that gives a value refuses nothing
-never-refused : {any : Bool} {X : Type 0} (Read : Result X Refusal → Type 0) → GivesOne any Read → HasValue Read → (a : Answer) → IsRefused Read a.0 a.1 a.2 → ⊥
-never-refused Read once taken a r =
-    let m = refusal-of Read a.0 a.1 a.2 r in
-    no-refusal Read once taken.0 m.0 (λ t. m.3) taken.1 m.1
+never-refused : {any : Bool} {X : Type 0} (Read : Result X Refusal → Type 0) → GivesOne any Read → HasValue Read → (a : Answer) → IsRefused (λ why. Read (Err why)) a.0 a.1 a.2 → ⊥
+never-refused Read once taken a r = no-refusal Read once taken.0 (refused a.0 a.2) (λ t. tt) taken.1 r.1
 
 module _ (contents : Contents) where
   command-ends : (command : Command) (a : Answer) → IsTaken command contents → CommandAnswer command (Some contents) a.0 a.1 a.2 → IsOwnEnd command a.0
@@ -78,7 +75,7 @@ never-lost contents Read once sure taken gone =
     no-refusal Read once taken.0 lost (λ t. absurd (let e : true ≡ false = sym t ∙ sure in cc)) taken.1 gone
 
 module _ (contents : Contents) where
-  command-keeps : (command : Command) → IsFalse contents.may_fail → IsTaken command contents → CommandLoses command (Some contents) → ⊥
+  command-keeps : (command : Command) → IsFalse contents.may_fail → IsTaken command contents → CommandRefuses command (Some contents) lost → ⊥
   command-keeps (plan o) sure taken h = never-lost contents (planned.PlanRead (Some contents) o) (plan-one contents o) sure taken h
   command-keeps (check o) sure taken h = never-lost contents (CheckRead (Some contents) o) (check-read-one contents o) sure taken h
   command-keeps (measure o) sure taken h = never-lost contents (measured.MeasureRead (Some contents) o) (measure-read-one contents o) sure taken h
@@ -87,7 +84,7 @@ module _ (contents : Contents) where
 
   pub words-keep : (words : List (List ℕ)) (command : Command) → Means words command → IsFalse contents.may_fail → IsTaken command contents → RefusesWords words (Some contents) lost → ⊥
   words-keep words command means sure taken h =
-      command-keeps command sure taken (subst (λ (c : Command). CommandLoses c (Some contents)) (meaning_unique words h.0 command h.1 means) h.2)
+      command-keeps command sure taken (subst (λ (c : Command). CommandRefuses c (Some contents) lost) (meaning_unique words h.0 command h.1 means) h.2)
 
 -- ---- a run
 

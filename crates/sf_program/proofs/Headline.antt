@@ -25,10 +25,10 @@ use Rattle.sf_pl_writer.specs.declared.report.Report.{Report}
 use Rattle.sf_pl_writer.specs.ReportText.{report_text}
 use Rattle.sf_words.specs.Meaning.{Command, GenOptions, Means, PlanOptions, gen, plan}
 use Rattle.sf_words.proofs.Unique.{meaning_unique}
-use Rattle.sf_program.specs.Answer.{Answers, CommandAnswer, IsAnswer, IsDone, IsRefused}
+use Rattle.sf_program.specs.Answer.{Answers, CommandAnswer, IsAnswer, IsDone}
 use Rattle.sf_program.specs.Generated.{GenRead, cert_name}
 use Rattle.sf_program.specs.Headline.{HasSearched, IsEnd, IsFinding, IsHeadline, IsPlanOf}
-use Rattle.sf_program.specs.Outcome.{Refusal}
+use Rattle.sf_program.specs.Outcome.{Refusal, IsRefusal}
 use Rattle.sf_program.specs.Planned.{IsAnswered, IsEnding, IsMeasured, IsSearched, IsTold, PlanRead, budget_of, status_of}
 use Rattle.sf_program.specs.Stores.{AfterStores, Stored}
 
@@ -90,17 +90,9 @@ answered-finds design workers budget scale name pl status stored printed a =
     subst (λ s. Finds design budget s printed) (sym a.status_is)
     (told-finds design workers budget scale name pl a.said a.cert a.searched a.floor a.ending a.cert.plan stored printed a.searched.valid.plan a.told)
 
-no-search : {X : Type 0} (Read : Result X Refusal → Type 0) (status : Status) (stored : List Stored) (printed : List ℕ) → IsRefused Read status stored printed → HasSearched status → ⊥
-no-search Read BadInput stored printed r h = h
-no-search Read OverLimit stored printed r h = h
-no-search Read Done stored printed r h = r
-no-search Read NoneFits stored printed r h = r
-no-search Read Usage stored printed r h = r
-no-search Read Open stored printed r h = r
-no-search Read No stored printed r h = r
-no-search Read ReadFault stored printed r h = r
-no-search Read WriteFault stored printed r h = r
-no-search Read NoMemory stored printed r h = r
+-- what is refused has searched nothing
+no-search : (status : Status) → IsRefusal status → HasSearched status → ⊥
+no-search status is h = elim is [ inl e ↦ subst HasSearched e h | inr e ↦ subst HasSearched e h ]
 
 -- an answered search, with the design that was read or generated
 answered-headline : (Stands : Result Design Refusal → Type 0) (nodes : Option ℕ) (taken taken_then : Option (List ℕ)) (status : Status) (design : Design) (workers scale : ℕ) (name : List ℕ) (pl : Option (List ℕ)) (stored : List Stored) (printed : List ℕ)
@@ -113,12 +105,12 @@ module _ (before : Option Contents) (taken taken_then : Option (List ℕ)) (stat
   plan-headline : (o : PlanOptions) (stored : List Stored) (printed : List ℕ) → CommandAnswer (plan o) before status stored printed → Appends taken taken_then printed → IsHeadline (PlanRead before o) o.nodes taken taken_then status
   plan-headline o stored printed (inl p) prints =
       answered-headline (PlanRead before o) o.nodes taken taken_then status p.design o.workers o.design.per_unit o.cert o.pl_out stored printed p.reads p.answered prints
-  plan-headline o stored printed (inr r) prints = absurd (no-search (PlanRead before o) status stored printed r searched)
+  plan-headline o stored printed (inr r) prints = absurd (no-search status r.0 searched)
 
   gen-headline : (o : GenOptions) (stored : List Stored) (printed : List ℕ) → CommandAnswer (gen o) before status stored printed → Appends taken taken_then printed → IsHeadline (GenRead o) o.nodes taken taken_then status
   gen-headline o stored printed (inl p) prints =
       answered-headline (GenRead o) o.nodes taken taken_then status p.design 1 1 (cert_name o) None p.searched printed p.made p.answered prints
-  gen-headline o stored printed (inr r) prints = absurd (no-search (GenRead o) status stored printed r searched)
+  gen-headline o stored printed (inr r) prints = absurd (no-search status r.0 searched)
 
 -- the answer of a run that is done, where its words mean this command
 module _ (words : List (List ℕ)) (before after taken taken_then : _) (status : Status) (done : IsDone words before after taken taken_then status) (searched : HasSearched status) where

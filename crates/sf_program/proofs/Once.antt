@@ -1,9 +1,9 @@
 -- Stages that give one value or one refusal, one after another.
 use Rattle.std.proofs.Common.{◌≡◌, inl, inr, ℕ, List, length, Option, Some, None, Result, Ok, Err, refl, sym, ap, subst, ◌∙◌, arith}
-use Rattle.std.specs.Prelude.{Bool, IsTrue}
-use Rattle.sf_io.specs.Outside.{Contents}
+use Rattle.std.specs.Prelude.{Bool, IsTrue, ◌^◌}
+use Rattle.sf_io.specs.Outside.{Contents, HoldsMore}
 use Rattle.sf_model.specs.declared.design.Design.{Design}
-use Rattle.sf_program.specs.Outcome.{Refusal, bad, over, lost, Then}
+use Rattle.sf_program.specs.Outcome.{Refusal, refused, lost, Then}
 use Rattle.sf_program.specs.OneAnswer.{AtMostOne, GivesOne, IsSaid, IsTold}
 use Rattle.sf_program.specs.Reading.{IfNamed, Judged, Said, TextRead, With}
 
@@ -54,26 +54,26 @@ pub judged-one : {X F : Type 0} (first : Result X F) (refusal : F → Refusal) �
 judged-one (Ok x) refusal r s a b = a ∙ sym b
 judged-one (Err fault) refusal r s a b = a ∙ sym b
 
+-- a text that is loaded is not too long
+not-long : (contents : Contents) (name x : List ℕ) → TextRead (Some contents) name (Ok x) → HoldsMore (Some contents) name (2 ^ 26) → ⊥
+not-long contents name x a m =
+    let e : Some x ≡ Some m.0 = sym a.0 ∙ m.1 in
+    let same : x ≡ m.0 = cc in
+    let n : length x ≡ length m.0 = ap length same in
+    let long = m.2 in
+    let short = a.1 in
+    omega arith
+
 -- a text that is held is not too long, and not lost where loads fail only at names without a text
 pub text-one : (contents : Contents) (name : List ℕ) → GivesOne contents.may_fail (TextRead (Some contents) name)
 text-one contents name (Ok x) (Ok y) a b told = ap Ok (let e : Some x ≡ Some y = sym a.0 ∙ b.0 in cc)
-text-one contents name (Ok x) (Err (bad line)) a b told = absurd b
-text-one contents name (Ok x) (Err (over line)) a b told =
-    let e : Some x ≡ Some b.0.0 = sym a.0 ∙ b.0.1 in
-    let same : x ≡ b.0.0 = cc in
-    absurd (let long = b.0.2 in let short = a.1 in let n : length x ≡ length b.0.0 = ap length same in omega arith)
+text-one contents name (Ok x) (Err (refused status line)) a b told = absurd (not-long contents name x a b.0)
 text-one contents name (Ok x) (Err lost) a b told = elim b [ inl f ↦ absurd ((told f).1) | inr none ↦ (let e : Some x ≡ None = sym a.0 ∙ none in absurd (cc)) ]
-text-one contents name (Err (bad line)) s a b told = absurd a
-text-one contents name (Err (over line)) (Ok y) a b told =
-    let e : Some y ≡ Some a.0.0 = sym b.0 ∙ a.0.1 in
-    let same : y ≡ a.0.0 = cc in
-    absurd (let long = a.0.2 in let short = b.1 in let n : length y ≡ length a.0.0 = ap length same in omega arith)
-text-one contents name (Err (over line)) (Err (bad other)) a b told = absurd b
-text-one contents name (Err (over line)) (Err (over other)) a b told = ap Err (a.1 ∙ sym b.1)
-text-one contents name (Err (over line)) (Err lost) a b told = elim b [ inl f ↦ absurd ((told f).1) | inr none ↦ (let e : Some a.0.0 ≡ None = sym a.0.1 ∙ none in absurd (cc)) ]
+text-one contents name (Err (refused status line)) (Ok y) a b told = absurd (not-long contents name y b a.0)
+text-one contents name (Err (refused status line)) (Err (refused other words)) a b told = ap Err (a.1 ∙ sym b.1)
+text-one contents name (Err (refused status line)) (Err lost) a b told = elim b [ inl f ↦ absurd ((told f).1) | inr none ↦ (let e : Some a.0.0 ≡ None = sym a.0.1 ∙ none in absurd (cc)) ]
 text-one contents name (Err lost) (Ok y) a b told = elim a [ inl f ↦ absurd ((told f).0) | inr none ↦ (let e : Some y ≡ None = sym b.0 ∙ none in absurd (cc)) ]
-text-one contents name (Err lost) (Err (bad line)) a b told = absurd b
-text-one contents name (Err lost) (Err (over line)) a b told = elim a [ inl f ↦ absurd ((told f).0) | inr none ↦ (let e : Some b.0.0 ≡ None = sym b.0.1 ∙ none in absurd (cc)) ]
+text-one contents name (Err lost) (Err (refused status line)) a b told = elim a [ inl f ↦ absurd ((told f).0) | inr none ↦ (let e : Some b.0.0 ≡ None = sym b.0.1 ∙ none in absurd (cc)) ]
 text-one contents name (Err lost) (Err lost) a b told = refl
 
 -- a file that may be left out

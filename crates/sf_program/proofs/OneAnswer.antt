@@ -2,7 +2,7 @@
 use Rattle.std.proofs.Common.{◌≡◌, ◌⊎◌, inl, inr, Bool, ℕ, List, [], Option, Some, Result, Ok, Err, refl, sym, ap, subst, ◌∙◌}
 use Rattle.sf_io.specs.Outside.{Contents}
 use Rattle.sf_io.specs.declared.status.Status.{Status}
-use Rattle.sf_io.specs.declared.status.Status.TheVariants.{Done, NoneFits, Usage, Open, No, BadInput, OverLimit, ReadFault, WriteFault, NoMemory}
+use Rattle.sf_io.specs.declared.status.Status.TheVariants.{Usage, BadInput, OverLimit}
 use Rattle.sf_model.specs.declared.design.Design.{Design}
 use Rattle.sf_place.specs.declared.verdict.Verdict.{Verdict}
 use Rattle.sf_place.specs.declared.verdict.Verdict.TheVariants as verdict
@@ -16,8 +16,8 @@ use Rattle.sf_program.specs.Answer.{CommandAnswer, IsDone, IsRefused}
 use Rattle.sf_program.specs.Checked.{CheckRead, IsChecked, answer_status}
 use Rattle.sf_program.specs.Generated.{GenRead, IsGenerated}
 use Rattle.sf_program.specs.Measured as measured
-use Rattle.sf_program.specs.OneAnswer.{Answer, AskForOneWorker, AtMostOne, GivesOne, HasOneWorker, IsAnswerTo, IsDoneBy, IsSaid, refused}
-use Rattle.sf_program.specs.Outcome.{Refusal, bad, over, lost}
+use Rattle.sf_program.specs.OneAnswer.{Answer, AskForOneWorker, AtMostOne, GivesOne, HasOneWorker, IsAnswerTo, IsDoneBy, refusal}
+use Rattle.sf_program.specs.Outcome.{Refusal, IsRefusal, refused}
 use Rattle.sf_program.specs.Planned as planned
 use Rattle.sf_program.specs.Shaped.{IsShaped, ShapeRead}
 use Rattle.sf_program.specs.Stores.{Stored}
@@ -33,7 +33,6 @@ triple a b p q r = λ i. (p i, q i, r i)
 abbrev IsOwn : Status → Type 0
 IsOwn BadInput = ⊥
 IsOwn OverLimit = ⊥
-IsOwn ReadFault = ⊥
 IsOwn status = Unit {0}
 
 said-own : (said : Outcome) → IsOwn (planned.status_of said)
@@ -51,41 +50,26 @@ checked-own : (a : Checked) → IsOwn (answer_status a)
 checked-own (checked.Yes cost bound decided) = tt
 checked-own (checked.No why) = tt
 
-not-own : (why : Refusal) → IsOwn (refused why).0 → ⊥
-not-own (bad line) h = h
-not-own (over line) h = h
-not-own lost h = h
-
--- a refusal is the answer of its reason
-pub refusal-of : {X : Type 0} (Read : Result X Refusal → Type 0) (status : Status) (stored : List Stored) (printed : List ℕ) → IsRefused Read status stored printed
-    → (why : Refusal) × Read (Err why) × ((let a : Answer = (status, stored, printed) in a) ≡ refused why) × IsSaid why
-refusal-of Read BadInput stored printed h = (bad printed, h.0, triple (BadInput, stored, printed) (refused (bad printed)) refl h.1 refl, tt)
-refusal-of Read OverLimit stored printed h = (over printed, h.0, triple (OverLimit, stored, printed) (refused (over printed)) refl h.1 refl, tt)
-refusal-of Read Done stored printed h = absurd h
-refusal-of Read NoneFits stored printed h = absurd h
-refusal-of Read Usage stored printed h = absurd h
-refusal-of Read Open stored printed h = absurd h
-refusal-of Read No stored printed h = absurd h
-refusal-of Read ReadFault stored printed h = absurd h
-refusal-of Read WriteFault stored printed h = absurd h
-refusal-of Read NoMemory stored printed h = absurd h
+not-own : (status : Status) → IsRefusal status → IsOwn status → ⊥
+not-own status r h = elim r [ inl e ↦ subst IsOwn e h | inr e ↦ subst IsOwn e h ]
 
 -- a command that reads, and then answers or is refused
 module _ {X : Type 0} (any : Bool) (Read : Result X Refusal → Type 0) (once : GivesOne any Read) (Is : Answer → Type 0) (reads : (a : Answer) → Is a → (x : X) × Read (Ok x)) where
+  abbrev Refused : Answer → Type 0
+  Refused a = IsRefused (λ why. Read (Err why)) a.0 a.1 a.2
+
   abbrev EndsAs : Answer → Type 0
-  EndsAs a = Is a ⊎ IsRefused Read a.0 a.1 a.2
+  EndsAs a = Is a ⊎ Refused a
 
-  refused-both : (a b : Answer) → IsRefused Read a.0 a.1 a.2 → IsRefused Read b.0 b.1 b.2 → a ≡ b
+  refused-both : (a b : Answer) → Refused a → Refused b → a ≡ b
   refused-both a b p q =
-      let m = refusal-of Read a.0 a.1 a.2 p in
-      let n = refusal-of Read b.0 b.1 b.2 q in
-      m.2 ∙ ap refused (same-refusal Read once m.0 n.0 (λ t. (m.3, n.3)) m.1 n.1) ∙ sym n.2
+      let why : refused a.0 a.2 ≡ refused b.0 b.2 = same-refusal Read once (refused a.0 a.2) (refused b.0 b.2) (λ t. (tt, tt)) p.1 q.1 in
+      let status : a.0 ≡ b.0 = cc in
+      let line : a.2 ≡ b.2 = cc in
+      triple a b status (p.2 ∙ sym q.2) line
 
-  answered-refused : (a b : Answer) → Is a → IsRefused Read b.0 b.1 b.2 → ⊥
-  answered-refused a b p q =
-      let m = reads a p in
-      let n = refusal-of Read b.0 b.1 b.2 q in
-      no-refusal Read once m.0 n.0 (λ t. n.3) m.1 n.1
+  answered-refused : (a b : Answer) → Is a → Refused b → ⊥
+  answered-refused a b p q = let m = reads a p in no-refusal Read once m.0 (refused b.0 b.2) (λ t. tt) m.1 q.1
 
   one-of : AtMostOne Is → AtMostOne EndsAs
   one-of one a b p q =
@@ -95,11 +79,11 @@ module _ {X : Type 0} (any : Bool) (Read : Result X Refusal → Type 0) (once : 
       ]
 
   -- where the command is refused, that is its answer
-  refused-of : ((a : Answer) → Is a → IsOwn a.0) → (why : Refusal) (b : Answer) → EndsAs (refused why) → EndsAs b → b ≡ refused why
-  refused-of own why b p q =
+  refused-of : ((a : Answer) → Is a → IsOwn a.0) → (status : Status) (line : List ℕ) (b : Answer) → IsRefusal status → EndsAs (refusal status line) → EndsAs b → b ≡ refusal status line
+  refused-of own status line b is p q =
       elim p [
-        | inl x ↦ absurd (not-own why (own (refused why) x))
-        | inr x ↦ elim q [ inl y ↦ absurd (answered-refused b (refused why) y x) | inr y ↦ refused-both b (refused why) y x ]
+        | inl x ↦ absurd (not-own status is (own (refusal status line) x))
+        | inr x ↦ elim q [ inl y ↦ absurd (answered-refused b (refusal status line) y x) | inr y ↦ refused-both b (refusal status line) y x ]
       ]
 
 abbrev IsOf : Command → Contents → Answer → Type 0
@@ -132,22 +116,22 @@ module _ (contents : Contents) where
       one-of contents.may_fail (GenRead o) (gen-one contents.may_fail o) (λ a. IsGenerated o a.0 a.1 a.2) (generated-reads o)
       (λ a b p q. let same = generated-one certs o a b p q in triple a b same.0 same.1 same.2)
 
-  command-refused : (command : Command) (why : Refusal) (b : Answer) → IsOf command contents (refused why) → IsOf command contents b → b ≡ refused why
-  command-refused (plan o) why b p q =
+  command-refused : (command : Command) (status : Status) (line : List ℕ) (b : Answer) → IsRefusal status → IsOf command contents (refusal status line) → IsOf command contents b → b ≡ refusal status line
+  command-refused (plan o) status line b is p q =
       refused-of contents.may_fail (planned.PlanRead (Some contents) o) (plan-one contents o) (λ a. planned.IsPlanned o (Some contents) a.0 a.1 a.2) (planned-reads o)
-      (λ a h. subst IsOwn (sym h.answered.status_is) (said-own h.answered.said)) why b p q
-  command-refused (check o) why b p q =
+      (λ a h. subst IsOwn (sym h.answered.status_is) (said-own h.answered.said)) status line b is p q
+  command-refused (check o) status line b is p q =
       refused-of contents.may_fail (CheckRead (Some contents) o) (check-read-one contents o) (λ a. IsChecked o (Some contents) a.0 a.1 a.2) (checked-reads contents o)
-      (λ a h. subst IsOwn (sym h.file.judged.status_is) (checked-own h.file.judged.answer)) why b p q
-  command-refused (measure o) why b p q =
+      (λ a h. subst IsOwn (sym h.file.judged.status_is) (checked-own h.file.judged.answer)) status line b is p q
+  command-refused (measure o) status line b is p q =
       refused-of contents.may_fail (measured.MeasureRead (Some contents) o) (measure-read-one contents o) (λ a. measured.IsMeasured o (Some contents) a.0 a.2 × (a.1 ≡ [])) (λ a p. measured-reads contents o a p.0)
-      (λ a h. subst IsOwn (sym h.0.status_is) (judged-own h.0.verdict)) why b p q
-  command-refused (shape o) why b p q =
+      (λ a h. subst IsOwn (sym h.0.status_is) (judged-own h.0.verdict)) status line b is p q
+  command-refused (shape o) status line b is p q =
       refused-of contents.may_fail (ShapeRead (Some contents) o) (shape-read-one contents o) (λ a. IsShaped o (Some contents) a.0 a.2 × (a.1 ≡ [])) (λ a p. shaped-reads contents o a p.0)
-      (λ a h. subst IsOwn (sym h.0.status_is) tt) why b p q
-  command-refused (gen o) why b p q =
+      (λ a h. subst IsOwn (sym h.0.status_is) tt) status line b is p q
+  command-refused (gen o) status line b is p q =
       refused-of contents.may_fail (GenRead o) (gen-one contents.may_fail o) (λ a. IsGenerated o a.0 a.1 a.2) (generated-reads o)
-      (λ a h. subst IsOwn (sym h.answered.status_is) (said-own h.answered.said)) why b p q
+      (λ a h. subst IsOwn (sym h.answered.status_is) (said-own h.answered.said)) status line b is p q
 
   -- ---- by the words
 
@@ -161,18 +145,16 @@ module _ (contents : Contents) where
         ]
       ]
 
-  usage-refused : (why : Refusal) → (refused why).0 ≡ Usage → ⊥
-  usage-refused (bad line) e = absurd (cc)
-  usage-refused (over line) e = absurd (cc)
-  usage-refused lost e = absurd (cc)
+  usage-refused : (status : Status) → IsRefusal status → status ≡ Usage → ⊥
+  usage-refused status is u = elim is [ inl e ↦ (let c : BadInput ≡ Usage = sym e ∙ u in absurd (cc)) | inr e ↦ (let c : OverLimit ≡ Usage = sym e ∙ u in absurd (cc)) ]
 
-  pub words-refused : (words : List (List ℕ)) (why : Refusal) (b : Answer) → IsAnswerTo words contents (refused why) → IsAnswerTo words contents b → b ≡ refused why
-  words-refused words why b p q =
+  pub words-refused : (words : List (List ℕ)) (status : Status) (line : List ℕ) (b : Answer) → IsRefusal status → IsAnswerTo words contents (refusal status line) → IsAnswerTo words contents b → b ≡ refusal status line
+  words-refused words status line b is p q =
       elim p [
-        | inl x ↦ absurd (usage-refused why x.1)
+        | inl x ↦ absurd (usage-refused status is x.1)
         | inr x ↦ elim q [
           | inl y ↦ absurd (y.0 x.0 x.1)
-          | inr y ↦ command-refused y.0 why b (subst (λ (c : Command). IsOf c contents (refused why)) (meaning_unique words x.0 y.0 x.1 y.1) x.2) y.2
+          | inr y ↦ command-refused y.0 status line b is (subst (λ (c : Command). IsOf c contents (refusal status line)) (meaning_unique words x.0 y.0 x.1 y.1) x.2) y.2
         ]
       ]
 

@@ -35,9 +35,10 @@ use Rattle.sf_words.specs.Meaning.{Input, gsrc, yal, DesignOptions, PlanOptions,
 use Rattle.sf_program.specs.OneAnswer.{AtMostOne, GivesOne, HasBlocksOf}
 use Rattle.sf_program.specs.Outcome.{Refusal, Then}
 use Rattle.sf_program.specs.Planned.{BudgetTested, BudgetedDesign, PlanRead}
-use Rattle.sf_program.specs.Reading.{Admitted, BlocksRead, Built, DesignMade, DesignRead, GsrcRead, IfNamed, JoinedRead, Judged, ListsMade, NetsRead, PartsAdmitted, PartsRead, PlacedRead, PlacesRead, Said, TextRead, Weighed, WeighedRead, WeightsRead, WiredRead, YalRead, YalWeighed, outline_of, weights_of}
+use Rattle.sf_program.specs.Reading.{Admitted, BlocksRead, Built, DesignMade, DesignRead, GsrcRead, IfNamed, JoinedRead, Judged, ListsMade, NetsRead, PartsAdmitted, PartsRead, PlacesRead, Said, TextRead, Weighed, WeightsRead, YalRead, YalWeighed, outline_of, weights_of}
 use Rattle.sf_program.specs.Refusals.{build_refusal, gsrc_refusal, join_refusal, weight_refusal, yal_refusal}
 use Rattle.sf_program.specs.Weighed.{WeighedParts}
+use Rattle.sf_program.proofs.Stages.{PlacedRead, WeighedRead, WiredRead}
 use Rattle.sf_program.proofs.Once.{once, then-one, said-one, judged-one, text-one, named-one, same-value}
 
 -- ---- the parts

@@ -19,8 +19,8 @@ use Rattle.sf_model.specs.declared.parts.Block.{Block}
 use Rattle.sf_model.specs.declared.plan.Spot.{Spot}
 use Rattle.sf_gsrc.specs.declared.output.Place.{Place}
 use Rattle.sf_gsrc.specs.Line.{◌>>=◌}
-use Rattle.sf_program.specs.declared.spotting.Lines.{Lines}
-use Rattle.sf_program.specs.declared.spotting.Lines.TheVariants.{One, More}
+use Rattle.sf_program.specs.declared.placed_lines.Lines.{Lines}
+use Rattle.sf_program.specs.declared.placed_lines.Lines.TheVariants.{One, More}
 use Rattle.sf_program.specs.Measured.{lines_named, spot_said, spots_said}
 use Rattle.sf_program.specs.Outcome.{Refusal}
 use Rattle.sf_program.specs.PlacedLines.{IsOnly, LinesAre, IsIndex}

@@ -1,25 +1,26 @@
 -- Stages one after another.
-use Rattle.std.proofs.Common.{◌≡◌, inl, inr, Result, Ok, Err, refl, sym, subst}
-use Rattle.sf_gsrc.specs.declared.fault.GsrcFault.{GsrcFault}
-use Rattle.sf_gsrc.specs.declared.fault.GsrcFault.TheVariants as gsrc
-use Rattle.sf_gsrc.specs.Blocks as gives
-use Rattle.sf_yal.specs.declared.fault.YalFault.{YalFault}
-use Rattle.sf_yal.specs.declared.fault.YalFault.TheVariants as yal
-use Rattle.sf_yal.specs.Reading as yals
+use Rattle.std.proofs.Common.{◌≡◌, inl, inr, ℕ, List, length, Option, Result, Ok, Err, refl, sym, subst, codes}
+use Rattle.sf_io.specs.Outside.{Contents}
+use Rattle.sf_gsrc.specs.declared.output.GsrcBlocks.{GsrcBlocks}
+use Rattle.sf_gsrc.specs.declared.output.GsrcNets.{GsrcNets}
+use Rattle.sf_gsrc.specs.declared.output.GsrcPlaces.{GsrcPlaces}
+use Rattle.sf_gsrc.specs.Join.{nets_in}
 use Rattle.sf_program.specs.declared.stop.Stop.{Stop}
-use Rattle.sf_program.specs.declared.stop.Stop.TheVariants.{BadInput, OverLimit, ReadFault, NoMemory}
-use Rattle.sf_program.specs.Outcome.{Refusal, bad, over, lost, Then, Refuses, Stops, Ends}
-use Rattle.sf_program.specs.Reading.{Said}
+use Rattle.sf_program.specs.declared.stop.Stop.TheVariants.{Refused, ReadFault, NoMemory}
+use Rattle.sf_program.specs.declared.weighed.Weighed.{Weighed}
+use Rattle.sf_program.specs.Outcome.{Refusal, refused, lost, Then, Refuses, Stops, Ends}
+use Rattle.sf_program.specs.Reading.{BlocksRead, GsrcRead, IfNamed, JoinedRead, NetsRead, PlacesRead, WeightsRead}
+use Rattle.sf_program.specs.Weighed.{WeighedParts, weighed_in}
 
+-- what ends a call for one reason ends it for each reason that follows
 pub stops-map : (P Q : Refusal → Type 0) → ((why : Refusal) → P why → Q why) → (stop : Stop) → Stops stop P → Stops stop Q
-stops-map P Q f (BadInput line) h = f (bad line.items) h
-stops-map P Q f (OverLimit line) h = f (over line.items) h
+stops-map P Q f (Refused status line) h = (h.0, f (refused status line.items) h.1)
 stops-map P Q f ReadFault h = f lost h
 stops-map P Q f NoMemory h = tt
 
+-- a call that stops for just this reason
 pub refused-stops : (P : Refusal → Type 0) (why : Refusal) → P why → (stop : Stop) → Refuses stop why → Stops stop P
-refused-stops P why p (BadInput line) h = subst P (sym h) p
-refused-stops P why p (OverLimit line) h = subst P (sym h) p
+refused-stops P why p (Refused status line) h = (h.0, subst P (sym h.1) p)
 refused-stops P why p ReadFault h = absurd h
 refused-stops P why p NoMemory h = absurd h
 
@@ -33,27 +34,31 @@ module _ {X Y : Type 0} (P : Result X Refusal → Type 0) (Q : X → Result Y Re
   then-ends seen x p (Ok a) h = inl (x, p, h)
   then-ends seen x p (Err stop) h = stops-map (λ why. Q x (Err why)) (λ why. Then P Q (Err why)) (λ why q. inl (x, p, q)) stop h
 
--- what was returned is a fault other than want of memory
-pub gsrc-fault : {X : Type 0} (fault : GsrcFault) (first : Result X GsrcFault) → ¬ (fault ≡ gsrc.NoMemory) → gives.Gives (Err fault) first → first ≡ Err fault
-gsrc-fault (gsrc.BadTitle line) first other h = h
-gsrc-fault (gsrc.BadLine line) first other h = h
-gsrc-fault (gsrc.BadNumber line number) first other h = h
-gsrc-fault (gsrc.CountDiffers line said found) first other h = h
-gsrc-fault (gsrc.BadDegree line said found) first other h = h
-gsrc-fault (gsrc.ZeroSide line) first other h = h
-gsrc-fault (gsrc.Truncated line) first other h = h
-gsrc-fault gsrc.NoMemory first other h = absurd (other refl)
+-- ---- GSRC files behind the blocks
 
-pub yal-fault : {X : Type 0} (fault : YalFault) (first : Result X YalFault) → ¬ (fault ≡ yal.NoMemory) → yals.Gives (Err fault) first → first ≡ Err fault
-yal-fault (yal.Truncated line) first other h = h
-yal-fault (yal.BadStatement line) first other h = h
-yal-fault (yal.BadNumber line number) first other h = h
-yal-fault (yal.ZeroSide line) first other h = h
-yal-fault yal.NoParent first other h = h
-yal-fault (yal.TwoParents line) first other h = h
-yal-fault (yal.UnknownModule line name) first other h = h
-yal-fault yal.NoMemory first other h = absurd (other refl)
+-- the weights of the nets, and what follows
+abbrev pub WeighedRead : Option Contents → Option (List ℕ) → GsrcBlocks → Option GsrcNets → Option GsrcPlaces → Result WeighedParts Refusal → Type 0
+WeighedRead held weights blocks nets places = Then (WeightsRead held weights (length (nets_in nets))) (JoinedRead blocks nets places)
 
--- a reader's refusal
-pub said-stops : {X F : Type 0} (Stands : X → Type 0) (first : Result X F) (refusal : F → Refusal) (fault : F) → first ≡ Err fault → (stop : Stop) → Refuses stop (refusal fault) → Stops stop (λ why. Said Stands first refusal (Err why))
-said-stops Stands first refusal fault e = refused-stops (λ why. Said Stands first refusal (Err why)) (refusal fault) (fault, e, refl)
+-- the places, and what follows
+abbrev pub PlacedRead : Option Contents → ℕ → Option (List ℕ) → Option (List ℕ) → GsrcBlocks → Option GsrcNets → Result WeighedParts Refusal → Type 0
+PlacedRead held scale pl weights blocks nets = Then (IfNamed (PlacesRead held (codes "pl") scale) pl) (WeighedRead held weights blocks nets)
+
+-- the nets, and what follows
+abbrev pub WiredRead : Option Contents → ℕ → Option (List ℕ) → Option (List ℕ) → Option (List ℕ) → GsrcBlocks → Result WeighedParts Refusal → Type 0
+WiredRead held scale nets pl weights blocks = Then (IfNamed (NetsRead held) nets) (PlacedRead held scale pl weights blocks)
+
+module _ (held : Option Contents) (scale : ℕ) (name : List ℕ) (nets_name pl weights : Option (List ℕ)) (r : Result Weighed Stop) (blocks : GsrcBlocks) (said : BlocksRead held scale name (Ok blocks)) where
+  -- what ends a call behind the blocks ends the whole of it
+  pub behind-blocks : Ends weighed_in r (WiredRead held scale nets_name pl weights blocks) → Ends weighed_in r (GsrcRead held scale name nets_name pl weights)
+  behind-blocks = then-ends (BlocksRead held scale name) (WiredRead held scale nets_name pl weights) weighed_in blocks said r
+
+  -- and behind the nets
+  pub behind-nets : (nets : Option GsrcNets) → IfNamed (NetsRead held) nets_name (Ok nets) → Ends weighed_in r (PlacedRead held scale pl weights blocks nets) → Ends weighed_in r (GsrcRead held scale name nets_name pl weights)
+  behind-nets nets wired h = behind-blocks (then-ends (IfNamed (NetsRead held) nets_name) (PlacedRead held scale pl weights blocks) weighed_in nets wired r h)
+
+  -- and behind the places
+  pub behind-places : (nets : Option GsrcNets) → IfNamed (NetsRead held) nets_name (Ok nets) → (places : Option GsrcPlaces) → IfNamed (PlacesRead held (codes "pl") scale) pl (Ok places)
+      → Ends weighed_in r (WeighedRead held weights blocks nets places) → Ends weighed_in r (GsrcRead held scale name nets_name pl weights)
+  behind-places nets wired places placed h =
+      behind-nets nets wired (then-ends (IfNamed (PlacesRead held (codes "pl") scale) pl) (WeighedRead held weights blocks nets) weighed_in places placed r h)

@@ -1,12 +1,12 @@
 -- What a run may answer, by its words and by the texts on the shelf: the status, what is stored and what is printed.
-use Rattle.std.specs.Prelude.{◌≡◌, ◌⊎◌, ⊤, ℕ, List, [], Option, Result, Err, codes}
+use Rattle.std.specs.Prelude.{◌≡◌, ◌⊎◌, ⊤, ℕ, List, [], Option, Err, codes}
 use Rattle.std.specs.Io.KnownBytes.{Appends}
-use Rattle.sf_io.specs.Outside.{Contents, Rose, Took}
+use Rattle.sf_io.specs.Outside.{Contents, Rose, ShelfSeen, SinkSeen, Took}
 use Rattle.sf_io.specs.declared.status.Status.{Status}
-use Rattle.sf_io.specs.declared.status.Status.TheVariants.{Usage, BadInput, OverLimit, ReadFault, WriteFault, NoMemory}
+use Rattle.sf_io.specs.declared.status.Status.TheVariants.{Usage, ReadFault, WriteFault, NoMemory}
 use Rattle.sf_pl_writer.specs.Length.{IsScale}
 use Rattle.sf_words.specs.Meaning.{Command, plan, check, measure, shape, gen, Means, HasNoMeaning}
-use Rattle.sf_program.specs.Outcome.{Refusal, bad, over, lost}
+use Rattle.sf_program.specs.Outcome.{Refusal, IsRefusal, refused}
 use Rattle.sf_program.specs.Planned.{IsPlanned, PlanRead}
 use Rattle.sf_program.specs.Checked.{IsChecked, CheckRead}
 use Rattle.sf_program.specs.Measured.{IsMeasured, MeasureRead}
@@ -14,23 +14,33 @@ use Rattle.sf_program.specs.Shaped.{IsShaped, ShapeRead}
 use Rattle.sf_program.specs.Generated.{IsGenerated, GenRead}
 use Rattle.sf_program.specs.Stores.{Stored, AfterStores, StoppedAt}
 
--- a stage refuses an input with this status and line, and nothing is stored
-abbrev pub IsRefused : {X : Type 0} → (Result X Refusal → Type 0) → Status → List Stored → List ℕ → Type 0
-IsRefused Read BadInput stored printed = Read (Err (bad printed)) × (stored ≡ [])
-IsRefused Read OverLimit stored printed = Read (Err (over printed)) × (stored ≡ [])
-IsRefused Read status stored printed = ⊥
+-- what the command answers where no stage refuses; none but `plan`, `gen` and `check` with `--rewrite` stores anything
+abbrev pub IsOwnAnswer : Command → Option Contents → Status → List Stored → List ℕ → Type 0
+IsOwnAnswer (plan o) before status stored printed = IsPlanned o before status stored printed
+IsOwnAnswer (check o) before status stored printed = IsChecked o before status stored printed
+IsOwnAnswer (measure o) before status stored printed = IsMeasured o before status printed × (stored ≡ [])
+IsOwnAnswer (shape o) before status stored printed = IsShaped o before status printed × (stored ≡ [])
+IsOwnAnswer (gen o) before status stored printed = IsGenerated o status stored printed
+
+-- the first stage of the command that gives no value refuses so
+abbrev pub CommandRefuses : Command → Option Contents → Refusal → Type 0
+CommandRefuses (plan o) before why = PlanRead before o (Err why)
+CommandRefuses (check o) before why = CheckRead before o (Err why)
+CommandRefuses (measure o) before why = MeasureRead before o (Err why)
+CommandRefuses (shape o) before why = ShapeRead before o (Err why)
+CommandRefuses (gen o) before why = GenRead o (Err why)
+
+-- such a refusal as an answer: its line is printed, and nothing is stored; where a file can't be loaded there is none
+abbrev pub IsRefused : (Refusal → Type 0) → Status → List Stored → List ℕ → Type 0
+IsRefused Refuses status stored printed = IsRefusal status × Refuses (refused status printed) × (stored ≡ [])
+
+abbrev pub CommandAnswer : Command → Option Contents → Status → List Stored → List ℕ → Type 0
+CommandAnswer command before status stored printed =
+    IsOwnAnswer command before status stored printed ⊎ IsRefused (CommandRefuses command before) status stored printed
 
 -- the line of words that mean nothing
 abbrev pub usage_line : List ℕ
 usage_line = codes "error Usage\n"
-
--- no command but `plan`, `gen` and `check` with `--rewrite` stores anything
-abbrev pub CommandAnswer : Command → Option Contents → Status → List Stored → List ℕ → Type 0
-CommandAnswer (plan o) before status stored printed = IsPlanned o before status stored printed ⊎ IsRefused (PlanRead before o) status stored printed
-CommandAnswer (check o) before status stored printed = IsChecked o before status stored printed ⊎ IsRefused (CheckRead before o) status stored printed
-CommandAnswer (measure o) before status stored printed = (IsMeasured o before status printed × (stored ≡ [])) ⊎ IsRefused (MeasureRead before o) status stored printed
-CommandAnswer (shape o) before status stored printed = (IsShaped o before status printed × (stored ≡ [])) ⊎ IsRefused (ShapeRead before o) status stored printed
-CommandAnswer (gen o) before status stored printed = IsGenerated o status stored printed ⊎ IsRefused (GenRead o) status stored printed
 
 -- the answer to these words, on a shelf that holds these texts
 abbrev pub Answers : List (List ℕ) → Option Contents → Status → List Stored → List ℕ → Type 0
@@ -38,24 +48,9 @@ Answers words before status stored printed =
     (HasNoMeaning words × (status ≡ Usage) × (stored ≡ []) × (printed ≡ usage_line))
     ⊎ ((command : Command) × Means words command × CommandAnswer command before status stored printed)
 
--- a file that the command reads, and whose turn it is, can't be loaded
-abbrev pub CommandLoses : Command → Option Contents → Type 0
-CommandLoses (plan o) before = PlanRead before o (Err lost)
-CommandLoses (check o) before = CheckRead before o (Err lost)
-CommandLoses (measure o) before = MeasureRead before o (Err lost)
-CommandLoses (shape o) before = ShapeRead before o (Err lost)
-CommandLoses (gen o) before = GenRead o (Err lost)
-
--- a refusal is an answer that stores nothing; for a file that can't be loaded there is none
-abbrev pub CommandRefuses : Command → Option Contents → Refusal → Type 0
-CommandRefuses command before (bad line) = CommandAnswer command before BadInput [] line
-CommandRefuses command before (over line) = CommandAnswer command before OverLimit [] line
-CommandRefuses command before lost = CommandLoses command before
-
+-- the words mean a command that refuses so
 abbrev pub RefusesWords : List (List ℕ) → Option Contents → Refusal → Type 0
-RefusesWords words before (bad line) = Answers words before BadInput [] line
-RefusesWords words before (over line) = Answers words before OverLimit [] line
-RefusesWords words before lost = (command : Command) × Means words command × CommandLoses command before
+RefusesWords words before why = (command : Command) × Means words command × CommandRefuses command before why
 
 -- the scale of a command that writes lengths
 abbrev pub HasScale : Command → Type 0
@@ -71,9 +66,7 @@ IsAnswer status = ⊤
 
 -- the statuses at which nothing is stored and nothing printed
 abbrev pub IsSilent : Status → Type 0
-IsSilent ReadFault = ⊤
-IsSilent NoMemory = ⊤
-IsSilent status = ⊥
+IsSilent status = (status ≡ ReadFault) ⊎ (status ≡ NoMemory)
 
 -- an answer, which is stored and printed whole
 pub record IsDone (words : List (List ℕ)) (before after : Option Contents) (taken taken_then : Option (List ℕ)) (status : Status) : Type 0 where
@@ -84,26 +77,26 @@ pub record IsDone (words : List (List ℕ)) (before after : Option Contents) (ta
   pub prints : Appends taken taken_then printed
 
 -- a store of these failed, which the shelf counted, and nothing is printed
-pub record StoreFailed (stored : List Stored) (before after : Option Contents) (faults faults_then : ℕ) (taken taken_then : Option (List ℕ)) : Type 0 where
-  pub counted : Rose faults faults_then
-  pub stopped : StoppedAt before stored after
-  pub unprinted : taken_then ≡ taken
+pub record StoreFailed (stored : List Stored) (shelf shelf_then : ShelfSeen) (out out_then : SinkSeen) : Type 0 where
+  pub counted : Rose shelf.store_faults shelf_then.store_faults
+  pub stopped : StoppedAt shelf.holds stored shelf_then.holds
+  pub unprinted : out_then.taken ≡ out.taken
 
 -- all of these are stored, and a print failed, which the sink counted, so that a first part of the text is taken
-pub record PrintFailed (stored : List Stored) (printed : List ℕ) (before after : Option Contents) (faults faults_then : ℕ) (taken taken_then : Option (List ℕ)) : Type 0 where
-  pub counted : Rose faults faults_then
-  pub stores : AfterStores before stored after
-  pub part : Took taken taken_then printed
+pub record PrintFailed (stored : List Stored) (printed : List ℕ) (shelf shelf_then : ShelfSeen) (out out_then : SinkSeen) : Type 0 where
+  pub counted : Rose out.faults out_then.faults
+  pub stores : AfterStores shelf.holds stored shelf_then.holds
+  pub part : Took out.taken out_then.taken printed
 
 -- a store failed, or else a print
-abbrev pub StoreOrPrintFailed : List Stored → List ℕ → Option Contents → Option Contents → ℕ → ℕ → Option (List ℕ) → Option (List ℕ) → ℕ → ℕ → Type 0
-StoreOrPrintFailed stored printed before after stores stores_then taken taken_then puts puts_then =
-    StoreFailed stored before after stores stores_then taken taken_then ⊎ PrintFailed stored printed before after puts puts_then taken taken_then
+abbrev pub StoreOrPrintFailed : List Stored → List ℕ → ShelfSeen → ShelfSeen → SinkSeen → SinkSeen → Type 0
+StoreOrPrintFailed stored printed shelf shelf_then out out_then =
+    StoreFailed stored shelf shelf_then out out_then ⊎ PrintFailed stored printed shelf shelf_then out out_then
 
 -- an answer of which a store or the print failed
-pub record IsHalted (words : List (List ℕ)) (before after : Option Contents) (stores stores_then : ℕ) (taken taken_then : Option (List ℕ)) (puts puts_then : ℕ) : Type 0 where
+pub record IsHalted (words : List (List ℕ)) (shelf shelf_then : ShelfSeen) (out out_then : SinkSeen) : Type 0 where
   pub status : Status
   pub stored : List Stored
   pub printed : List ℕ
-  pub answer : Answers words before status stored printed
-  pub halted : StoreOrPrintFailed stored printed before after stores stores_then taken taken_then puts puts_then
+  pub answer : Answers words shelf.holds status stored printed
+  pub halted : StoreOrPrintFailed stored printed shelf shelf_then out out_then

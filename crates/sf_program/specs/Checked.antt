@@ -19,8 +19,8 @@ use Rattle.sf_checker.specs.declared.answer.Answer.{Answer}
 use Rattle.sf_checker.specs.declared.answer.Answer.TheVariants.{Yes, No}
 use Rattle.sf_checker.specs.Answers.{IsAnswer, is_yes}
 use Rattle.sf_words.specs.Meaning.{CheckOptions}
-use Rattle.sf_program.specs.Outcome.{Refusal, bad, Then}
-use Rattle.sf_program.specs.Refusals.{line_of, bad_input}
+use Rattle.sf_program.specs.Outcome.{Refusal, Then}
+use Rattle.sf_program.specs.Refusals.{line_of, bad_input, no_line}
 use Rattle.sf_program.specs.Reading.{TextRead, Judged, DesignRead}
 use Rattle.sf_program.specs.Stores.{Stored}
 
@@ -31,7 +31,7 @@ cert_refusal (fault.BadTag line) = bad_input (codes "cert") line (codes "BadTag"
 cert_refusal (fault.TooDeep line) = bad_input (codes "cert") line (codes "TooDeep" ∷ [])
 cert_refusal (fault.Truncated line) = bad_input (codes "cert") line (codes "Truncated" ∷ [])
 cert_refusal (fault.Trailing line) = bad_input (codes "cert") line (codes "Trailing" ∷ [])
-cert_refusal fault.NoMemory = bad []
+cert_refusal fault.NoMemory = no_line
 
 -- what the text under the name says as the certificate of so many blocks
 abbrev pub CertRead : Option Contents → List ℕ → ℕ → Result Said Refusal → Type 0

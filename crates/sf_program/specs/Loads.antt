@@ -1,18 +1,24 @@
 -- What a stage that reads files leaves of the shelf, and which failures it tells.
-use Rattle.std.specs.Prelude.{◌≡◌, ◌≤◌, ⊤, ℕ, Option}
-use Rattle.sf_io.specs.Outside.{Contents, Rose}
+use Rattle.std.specs.Prelude.{◌≡◌, ◌≤◌, ⊤, ℕ, Result, IfErr}
+use Rattle.sf_io.specs.Outside.{Rose, ShelfSeen}
 use Rattle.sf_program.specs.declared.stop.Stop.{Stop}
-use Rattle.sf_program.specs.declared.stop.Stop.TheVariants.{BadInput, OverLimit, ReadFault, NoMemory}
+use Rattle.sf_program.specs.declared.stop.Stop.TheVariants.{Refused, ReadFault, NoMemory}
 
 -- nothing is stored, and the count of failed loads doesn't fall
-pub record IsRead (held held_then : Option Contents) (loads loads_then stores stores_then : ℕ) : Type 0 where
-  pub unchanged : held_then ≡ held
-  pub later : loads ≤ loads_then
-  pub no_store : stores_then ≡ stores
+pub record Reads (before after : ShelfSeen) : Type 0 where
+  pub unchanged : after.holds ≡ before.holds
+  pub later : before.load_faults ≤ after.load_faults
+  pub no_store : after.store_faults ≡ before.store_faults
 
 -- a fault of reading is told only where one was counted
-abbrev pub TellsLoads : ℕ → ℕ → Stop → Type 0
-TellsLoads loads loads_then ReadFault = Rose loads loads_then
-TellsLoads loads loads_then (BadInput line) = ⊤
-TellsLoads loads loads_then (OverLimit line) = ⊤
-TellsLoads loads loads_then NoMemory = ⊤
+abbrev pub IsCounted : ℕ → ℕ → Stop → Type 0
+IsCounted faults faults_then ReadFault = Rose faults faults_then
+IsCounted faults faults_then (Refused status line) = ⊤
+IsCounted faults faults_then NoMemory = ⊤
+
+abbrev pub TellsLoads : ShelfSeen → ShelfSeen → Stop → Type 0
+TellsLoads before after stop = IsCounted before.load_faults after.load_faults stop
+
+-- no fault of reading is told, so whatever was counted
+abbrev pub TellsNoLoad : {X : Type 0} → Result X Stop → Type 0
+TellsNoLoad result = (faults faults_then : ℕ) → IfErr result (IsCounted faults faults_then)

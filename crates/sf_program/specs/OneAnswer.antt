@@ -3,14 +3,13 @@ use Rattle.std.specs.Prelude.{◌≡◌, ⊤, ℕ, List, [], map, length, Option
 use Rattle.std.specs.Io.KnownBytes.{Appends}
 use Rattle.sf_io.specs.Outside.{Contents}
 use Rattle.sf_io.specs.declared.status.Status.{Status}
-use Rattle.sf_io.specs.declared.status.Status.TheVariants.{BadInput, OverLimit, ReadFault}
 use Rattle.sf_model.specs.declared.design.Design.{Design}
 use Rattle.sf_model.specs.declared.raw.RawBlock.{RawBlock}
 use Rattle.sf_model.specs.Admitted.{block_names}
 use Rattle.sf_model.specs.Legal.{block_count}
 use Rattle.sf_words.specs.Meaning.{Command, plan, Means}
 use Rattle.sf_program.specs.Answer.{Answers}
-use Rattle.sf_program.specs.Outcome.{Refusal, bad, over, lost}
+use Rattle.sf_program.specs.Outcome.{Refusal, refused, lost}
 use Rattle.sf_program.specs.Stores.{AfterStores, Stored}
 
 -- this is so of one thing at most
@@ -19,8 +18,7 @@ AtMostOne {X} P = (x y : X) → P x → P y → x ≡ y
 
 -- a text refuses it
 abbrev pub IsSaid : Refusal → Type 0
-IsSaid (bad line) = ⊤
-IsSaid (over line) = ⊤
+IsSaid (refused status line) = ⊤
 IsSaid lost = ⊥
 
 -- the texts say it
@@ -51,11 +49,9 @@ pub record IsDoneBy (a : Answer) (before after : Option Contents) (taken taken_t
   pub stores : AfterStores before a.1 after
   pub prints : Appends taken taken_then a.2
 
--- the answer of a refusal
-abbrev pub refused : Refusal → Answer
-refused (bad line) = (BadInput, [], line)
-refused (over line) = (OverLimit, [], line)
-refused lost = (ReadFault, [], [])
+-- the answer of a refusal with this status and line
+abbrev pub refusal : Status → List ℕ → Answer
+refusal status line = (status, [], line)
 
 -- several workers settle subproblems in an order that is not told: only a search by one is a function of its design
 abbrev pub HasOneWorker : Command → Type 0

@@ -5,8 +5,8 @@ use Rattle.std.specs.Cmp.Lexicographic.{slice_cmp}
 use Rattle.std.specs.Ordering.{nat_cmp}
 use Rattle.std.specs.Borrow.{Bor}
 use Rattle.sf_gsrc.specs.declared.output.Place.{Place}
-use Rattle.sf_program.specs.declared.spotting.Lines.{Lines}
-use Rattle.sf_program.specs.declared.spotting.Lines.TheVariants.{One, More}
+use Rattle.sf_program.specs.declared.placed_lines.Lines.{Lines}
+use Rattle.sf_program.specs.declared.placed_lines.Lines.TheVariants.{One, More}
 use Rattle.sf_program.specs.Measured.{lines_named}
 
 -- the line of this number is the only one of these

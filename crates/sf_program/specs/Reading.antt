@@ -23,15 +23,14 @@ use Rattle.sf_gsrc.specs.Join.{joined, nets_in}
 use Rattle.sf_yal.specs.Standing as yals
 use Rattle.sf_yal.specs.Parts.{yal_read}
 use Rattle.sf_words.specs.Meaning.{Input, gsrc, yal, DesignOptions, WeightOptions}
-use Rattle.sf_program.specs.Outcome.{Refusal, bad, over, lost, Then}
+use Rattle.sf_program.specs.Outcome.{Refusal, refused, lost, Then}
 use Rattle.sf_program.specs.Refusals.{over_limit, gsrc_refusal, weight_refusal, yal_refusal, join_refusal, build_refusal}
 use Rattle.sf_program.specs.Weighed.{WeighedParts}
 
 -- the text under a name, of at most 64 MiB; or no text, where a load of the name may fail
 abbrev pub TextRead : Option Contents → List ℕ → Result (List ℕ) Refusal → Type 0
 TextRead held name (Ok text) = Holds held name text × (length text ≤ 2 ^ 26)
-TextRead held name (Err (bad line)) = ⊥
-TextRead held name (Err (over line)) = HoldsMore held name (2 ^ 26) × (over line ≡ over_limit (codes "file") (2 ^ 26 + 1) (2 ^ 26))
+TextRead held name (Err (refused status line)) = HoldsMore held name (2 ^ 26) × (refused status line ≡ over_limit (codes "file") (2 ^ 26 + 1) (2 ^ 26))
 TextRead held name (Err lost) = MayFail held name
 
 -- what a reader makes of a text: what the text stands for, or else its first fault
@@ -76,21 +75,13 @@ Weighed net_weights parts r = r ≡ Ok (record { parts = parts; net_weights = ne
 abbrev pub JoinedRead : GsrcBlocks → Option GsrcNets → Option GsrcPlaces → List ℕ → Result WeighedParts Refusal → Type 0
 JoinedRead blocks nets places net_weights = Then (Judged (joined blocks nets places) join_refusal) (Weighed net_weights)
 
--- the weights of the nets, and what follows
-abbrev pub WeighedRead : Option Contents → Option (List ℕ) → GsrcBlocks → Option GsrcNets → Option GsrcPlaces → Result WeighedParts Refusal → Type 0
-WeighedRead held weights blocks nets places = Then (WeightsRead held weights (length (nets_in nets))) (JoinedRead blocks nets places)
-
--- the places, and what follows
-abbrev pub PlacedRead : Option Contents → ℕ → Option (List ℕ) → Option (List ℕ) → GsrcBlocks → Option GsrcNets → Result WeighedParts Refusal → Type 0
-PlacedRead held scale pl weights blocks nets = Then (IfNamed (PlacesRead held (codes "pl") scale) pl) (WeighedRead held weights blocks nets)
-
--- the nets, and what follows
-abbrev pub WiredRead : Option Contents → ℕ → Option (List ℕ) → Option (List ℕ) → Option (List ℕ) → GsrcBlocks → Result WeighedParts Refusal → Type 0
-WiredRead held scale nets pl weights blocks = Then (IfNamed (NetsRead held) nets) (PlacedRead held scale pl weights blocks)
-
--- the blocks, and what follows
+-- the blocks, then the nets, the places and the weights of the nets, and all of it joined
 abbrev pub GsrcRead : Option Contents → ℕ → List ℕ → Option (List ℕ) → Option (List ℕ) → Option (List ℕ) → Result WeighedParts Refusal → Type 0
-GsrcRead held scale blocks nets pl weights = Then (BlocksRead held scale blocks) (WiredRead held scale nets pl weights)
+GsrcRead held scale blocks nets pl weights =
+    Then (BlocksRead held scale blocks) (λ its_blocks.
+    Then (IfNamed (NetsRead held) nets) (λ its_nets.
+    Then (IfNamed (PlacesRead held (codes "pl") scale) pl) (λ its_places.
+    Then (WeightsRead held weights (length (nets_in its_nets))) (JoinedRead its_blocks its_nets its_places))))
 
 -- what a YAL text says, and then the weights of its nets
 abbrev pub YalWeighed : Option Contents → ℕ → List ℕ → Option (List ℕ) → Result WeighedParts Refusal → Type 0

@@ -17,9 +17,9 @@ use Rattle.sf_curves.specs.Choices.{IsRootCurve}
 use Rattle.sf_curves.specs.Points.{IsLeastArea, area_of}
 use Rattle.sf_node.specs.Subproblem.{root}
 use Rattle.sf_words.specs.Meaning.{ShapeOptions, WeightOptions}
-use Rattle.sf_program.specs.Outcome.{Refusal, bad, Then}
+use Rattle.sf_program.specs.Outcome.{Refusal, Then}
 use Rattle.sf_program.specs.Reading.{DesignRead, Said, TextRead, With}
-use Rattle.sf_program.specs.Refusals.{bad_input, line_of}
+use Rattle.sf_program.specs.Refusals.{bad_input, line_of, no_line}
 
 -- a text that spells no expression; want of memory has no line, and is not met
 abbrev pub expr_refusal : ExprFault → Refusal
@@ -28,7 +28,7 @@ expr_refusal (fault.NotBallot line) = bad_input (codes "expr") line (codes "NotB
 expr_refusal (fault.NotNormal line) = bad_input (codes "expr") line (codes "NotNormal" ∷ [])
 expr_refusal (fault.RepeatedBlock line) = bad_input (codes "expr") line (codes "RepeatedBlock" ∷ [])
 expr_refusal (fault.MissingBlock line) = bad_input (codes "expr") line (codes "MissingBlock" ∷ [])
-expr_refusal fault.NoMemory = bad []
+expr_refusal fault.NoMemory = no_line
 
 -- the tokens that the text under the name spells, of so many blocks
 abbrev pub TokensRead : Option Contents → List ℕ → ℕ → Result (List Token) Refusal → Type 0

@@ -1,6 +1,8 @@
 -- What is stored, one text after another.
 use Rattle.std.specs.Prelude.{◌≡◌, ◌⊎◌, ℕ, List, [], ◌∷◌, map, Option, string_bytes}
 use Rattle.sf_program.specs.declared.work.Store.{Store}
+use Rattle.sf_program.specs.declared.work.Work.{Work}
+use Rattle.sf_io.specs.declared.status.Status.{Status}
 use Rattle.sf_io.specs.Outside.{Contents, Stores, StoresPart}
 
 -- a name and the bytes that are stored under it
@@ -19,3 +21,7 @@ StoppedAt before (s ∷ rest) after = StoresPart before after s.0 s.1 ⊎ ((next
 
 abbrev pub stored_in : List Store → List Stored
 stored_in stores = map (λ s. (string_bytes s.name, s.bytes.items)) stores
+
+-- this is so of what the work says: its status, what is to be stored and what is to be printed
+abbrev pub Gives : (Status → List Stored → List ℕ → Type 0) → Work → Type 0
+Gives Is work = Is work.status (stored_in work.stores.items) work.text.items

@@ -55,7 +55,8 @@ fn yes_text(alloc: Global, cost: u64, bound: u64, decided: u64) -> Result<String
 
 /// A number that differs: what is said, and what it is.
 fn differs_text(alloc: Global, fault: &str, said: u64, is: u64) -> Result<String, NoMemory>
-    ensures { IfOk result (λ text. string_bytes text ≡ line_of (codes "status" ∷ codes "No" ∷ fault.now ∷ cost_text said ∷ cost_text is ∷ [])) }
+    ensures { IfOk result (λ text. string_bytes text ≡
+        line_of (codes "status" ∷ codes "No" ∷ fault.now ∷ cost_text said ∷ cost_text is ∷ [])) }
 {
     let said = cost_word(alloc, said)?;
     let is = cost_word(alloc, is)?;
@@ -64,7 +65,8 @@ fn differs_text(alloc: Global, fault: &str, said: u64, is: u64) -> Result<String
 
 /// A subproblem that is closed below the cost.
 fn not_closed_text(alloc: Global, node: u64, bound: u64, cost: u64) -> Result<String, NoMemory>
-    ensures { IfOk result (λ text. string_bytes text ≡ line_of (codes "status" ∷ codes "No" ∷ codes "NotClosed" ∷ decimal node ∷ cost_text bound ∷ cost_text cost ∷ [])) }
+    ensures { let words = codes "NotClosed" ∷ decimal node ∷ cost_text bound ∷ cost_text cost ∷ [] in
+        IfOk result (λ text. string_bytes text ≡ line_of (codes "status" ∷ codes "No" ∷ words)) }
 {
     let bound = cost_word(alloc, bound)?;
     let cost = cost_word(alloc, cost)?;
@@ -73,7 +75,8 @@ fn not_closed_text(alloc: Global, node: u64, bound: u64, cost: u64) -> Result<St
 
 /// The line with the first failure.
 fn no_text(alloc: Global, why: Why) -> Result<String, NoMemory>
-    ensures { IfOk result (λ text. string_bytes text ≡ line_of (codes "status" ∷ codes "No" ∷ why_words why)) }
+    ensures { IfOk result (λ text.
+        string_bytes text ≡ line_of (codes "status" ∷ codes "No" ∷ why_words why)) }
 {
     match why {
         Why::BadPlan => String::from_str(alloc, "status No BadPlan\n"),

@@ -1,7 +1,7 @@
 //! How many subproblems a search may decide.
 
-ghost use Rattle.std.specs.Prelude.{◌≡◌, ◌≤◌, ◌<◌, ℕ, IfErr, codes};
-ghost use Rattle.sf_program.specs.Loads.{TellsLoads};
+ghost use Rattle.std.specs.Prelude.{◌≡◌, ◌≤◌, ◌<◌};
+ghost use Rattle.sf_program.specs.Loads.{TellsNoLoad};
 ghost use Rattle.sf_program.specs.Outcome.{Ends};
 ghost use Rattle.sf_program.specs.Planned.{node_limit, budget_of, BudgetTested};
 
@@ -32,7 +32,7 @@ pub fn budget_of(nodes: Option<u64>, blocks: u64) -> u64
 pub fn test_budget(alloc: Global, nodes: Option<u64>, blocks: u64) -> Result<u64, Stop>
     requires { blocks ≤ 320 }
     ensures budget { Ends (λ x. x) result (BudgetTested nodes blocks) }
-    ensures tells { (loads loads_then : ℕ) → IfErr result (TellsLoads loads loads_then) }
+    ensures tells { TellsNoLoad result }
 {
     let budget = budget_of(nodes, blocks);
     let limit = node_limit(blocks);

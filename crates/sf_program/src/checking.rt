@@ -7,14 +7,15 @@ ghost use Rattle.sf_model.specs.declared.design.Design.{Design as DesignValue};
 ghost use Rattle.sf_model.specs.Legal.{block_count};
 ghost use Rattle.sf_standard.specs.Standard.{standard, part_value};
 ghost use Rattle.sf_words.specs.Seen.{check_seen, text_of};
-ghost use Rattle.sf_program.specs.Checked.{CertRead, CheckRead, IsChecked, JudgedFile, JudgedText, cert_refusal};
-ghost use Rattle.sf_program.specs.Loads.{IsRead, TellsLoads};
+ghost use Rattle.sf_program.specs.Checked.{CertRead, CheckRead, IsChecked, JudgedFile, JudgedText};
+ghost use Rattle.sf_program.specs.Checked.{cert_refusal};
+ghost use Rattle.sf_program.specs.Loads.{Reads, TellsLoads, TellsNoLoad};
 ghost use Rattle.sf_program.specs.Outcome.{Stops};
 ghost use Rattle.sf_program.specs.Reading.{Judged};
-ghost use Rattle.sf_program.specs.Stores.{stored_in};
+ghost use Rattle.sf_program.specs.Stores.{Gives};
 
 use crate::answering::{answer_work, cert_fault};
-use crate::making::read_design;
+use crate::designs::read_design;
 use crate::reading::load_text;
 use crate::rewriting::rewrite_text;
 use crate::stop::Stop;
@@ -31,7 +32,10 @@ const PIECE: usize = 65_536;
 
 /// Feeds a text in pieces.
 fn feed_text(checking: &mut Checking<'_, Standard>, text: &[u8]) -> Result<(), NoMemory>
-    ensures { (design : DesignValue) (fed : List ℕ) → IsFed (λ bounds d. standard d) (λ bounds d. part_value d) design (standard design) (part_value design) fed checking.old → OnOk result (IsFed (λ bounds d. standard d) (λ bounds d. part_value d) design (standard design) (part_value design) (fed ++ text.now) checking.new) }
+    ensures { (design : DesignValue) (fed : List ℕ) →
+        let IsFedSo = IsFed (λ bounds d. standard d) (λ bounds d. part_value d)
+        design (standard design) (part_value design) in
+        IsFedSo fed checking.old → OnOk result (IsFedSo (fed ++ text.now) checking.new) }
 {
     let mut rest = text;
     while !rest.is_empty() {
@@ -44,9 +48,11 @@ fn feed_text(checking: &mut Checking<'_, Standard>, text: &[u8]) -> Result<(), N
 
 /// What the checker answers to the certificate that a text says.
 fn check_text(alloc: Global, text: &[u8], design: &Design) -> Result<Answer, Stop>
-    ensures answer { IfOk result (λ a. IsAnswerTo design.now (standard design.now) (part_value design.now) text.now a) }
-    ensures refused { IfErr result (λ stop. Stops stop (λ why. Judged (cert_read (block_count design.now) text.now) cert_refusal (Err why))) }
-    ensures tells { (loads loads_then : ℕ) → IfErr result (TellsLoads loads loads_then) }
+    ensures answer { IfOk result (λ a.
+        IsAnswerTo design.now (standard design.now) (part_value design.now) text.now a) }
+    ensures refused { IfErr result (λ stop.
+        Stops stop (λ why. Judged (cert_read (block_count design.now) text.now) cert_refusal (Err why))) }
+    ensures tells { TellsNoLoad result }
 {
     let mut checking = Checking::new(alloc, design, &Standard)?;
     feed_text(&mut checking, text)?;
@@ -59,9 +65,10 @@ fn check_text(alloc: Global, text: &[u8], design: &Design) -> Result<Answer, Sto
 
 /// What is told of the certificate that a text says: nothing of it is stored.
 fn judge_text(alloc: Global, text: &[u8], design: &Design) -> Result<Work, Stop>
-    ensures answer { IfOk result (λ w. JudgedText design.now text.now None w.status (stored_in w.stores.items) w.text.items) }
-    ensures refused { IfErr result (λ stop. Stops stop (λ why. Judged (cert_read (block_count design.now) text.now) cert_refusal (Err why))) }
-    ensures tells { (loads loads_then : ℕ) → IfErr result (TellsLoads loads loads_then) }
+    ensures answer { IfOk result (Gives (JudgedText design.now text.now None)) }
+    ensures refused { IfErr result (λ stop.
+        Stops stop (λ why. Judged (cert_read (block_count design.now) text.now) cert_refusal (Err why))) }
+    ensures tells { TellsNoLoad result }
 {
     let answer = check_text(alloc, text, design)?;
     let work = answer_work(alloc, answer, no_stores(alloc))?;
@@ -76,10 +83,12 @@ fn check_file<S: Shelf>(
     design: &Design,
     rewrite: Option<&str>,
 ) -> Result<Work, Stop>
-    ensures answer { IfOk result (λ w. JudgedFile (S.holds shelf.old) name.now design.now (text_of rewrite.entry) w.status (stored_in w.stores.items) w.text.items) }
-    ensures refused { IfErr result (λ stop. Stops stop (λ why. CertRead (S.holds shelf.old) name.now (block_count design.now) (Err why))) }
-    ensures read { IsRead (S.holds shelf.old) (S.holds shelf.new) (S.load_faults shelf.old) (S.load_faults shelf.new) (S.store_faults shelf.old) (S.store_faults shelf.new) }
-    ensures tells { IfErr result (TellsLoads (S.load_faults shelf.old) (S.load_faults shelf.new)) }
+    ensures answer { IfOk result
+        (Gives (JudgedFile (S.seen shelf.old).holds name.now design.now (text_of rewrite.entry))) }
+    ensures refused { IfErr result (λ stop.
+        Stops stop (λ why. CertRead (S.seen shelf.old).holds name.now (block_count design.now) (Err why))) }
+    ensures read { Reads (S.seen shelf.old) (S.seen shelf.new) }
+    ensures tells { IfErr result (TellsLoads (S.seen shelf.old) (S.seen shelf.new)) }
 {
     let text = load_text(alloc, shelf, name)?;
     match rewrite {
@@ -88,13 +97,14 @@ fn check_file<S: Shelf>(
     }
 }
 
-/// Reads a design and a certificate, and tells what the checker answers. A valid certificate is stored anew where there is
-/// a name for that.
+/// Reads a design and a certificate, and tells what the checker answers. A valid certificate is stored anew
+/// where there is a name for that.
 pub fn check<S: Shelf>(alloc: Global, words: &CheckWords<'_>, shelf: &mut S) -> Result<Work, Stop>
-    ensures answer { IfOk result (λ w. IsChecked (check_seen words.now) (S.holds shelf.old) w.status (stored_in w.stores.items) w.text.items) }
-    ensures refused { IfErr result (λ stop. Stops stop (λ why. CheckRead (S.holds shelf.old) (check_seen words.now) (Err why))) }
-    ensures read { IsRead (S.holds shelf.old) (S.holds shelf.new) (S.load_faults shelf.old) (S.load_faults shelf.new) (S.store_faults shelf.old) (S.store_faults shelf.new) }
-    ensures tells { IfErr result (TellsLoads (S.load_faults shelf.old) (S.load_faults shelf.new)) }
+    ensures answer { IfOk result (Gives (IsChecked (check_seen words.now) (S.seen shelf.old).holds)) }
+    ensures refused { IfErr result (λ stop.
+        Stops stop (λ why. CheckRead (S.seen shelf.old).holds (check_seen words.now) (Err why))) }
+    ensures read { Reads (S.seen shelf.old) (S.seen shelf.new) }
+    ensures tells { IfErr result (TellsLoads (S.seen shelf.old) (S.seen shelf.new)) }
 {
     let design = read_design(alloc, shelf, &words.design, words.weights)?;
     check_file(alloc, shelf, words.cert, &design, words.rewrite)

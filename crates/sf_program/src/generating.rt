@@ -1,20 +1,22 @@
 //! The command `gen`: a design made from a number.
 
-ghost use Rattle.std.specs.Prelude.{◌≡◌, ◌++◌, ℕ, All, Ok, Err, IfErr, IfOk, string_bytes};
+ghost use Rattle.std.specs.Prelude.{◌≡◌, ◌++◌, All, Ok, Err, IfErr, IfOk, string_bytes};
 ghost use Rattle.sf_gsrc.specs.Ranges.{HasPinsInAnyRange};
 ghost use Rattle.sf_model.specs.Admitted.{HasPinsInRange, HasSizes, IsSized};
 ghost use Rattle.sf_words.specs.Seen.{gen_seen};
-ghost use Rattle.sf_program.specs.Generated.{DesignGenerated, GenRead, IsGenerated, blocks_made, blocks_said, kinds_of, nets_made, nets_said, parts_made, pl_made, places_said, texts_stored};
-ghost use Rattle.sf_program.specs.Loads.{TellsLoads};
+ghost use Rattle.sf_program.specs.Generated.{DesignGenerated, GenRead, IsGenerated, blocks_made, blocks_said};
+ghost use Rattle.sf_program.specs.Generated.{kinds_of, nets_made, nets_said, parts_made, pl_made};
+ghost use Rattle.sf_program.specs.Generated.{places_said, texts_stored};
+ghost use Rattle.sf_program.specs.Loads.{TellsNoLoad};
 ghost use Rattle.sf_program.specs.Outcome.{IsFault, Stops};
-ghost use Rattle.sf_program.specs.Stores.{stored_in};
+ghost use Rattle.sf_program.specs.Stores.{Gives, stored_in};
 
 use crate::budget::test_budget;
-use crate::making::make_design;
+use crate::designs::make_design;
 use crate::parsing::{join, parse_blocks, parse_nets, parse_places};
+use crate::plan_answer::Names;
 use crate::planning::searched;
 use crate::stop::Stop;
-use crate::telling::Names;
 use crate::weighed::Weighed;
 use crate::work::{Store, Work};
 use sf_gen::{
@@ -52,7 +54,7 @@ fn made_blocks(alloc: Global, words: &GenWords<'_>, text: &[u8]) -> Result<GsrcB
     ensures is { IfOk result (λ out. out ≡ blocks_said (gen_seen words.now)) }
     ensures sizes { IfOk result (λ out. All (λ b. IsSized b.kind) out.blocks) }
     ensures never { IfErr result IsFault }
-    ensures tells { (loads loads_then : ℕ) → IfErr result (TellsLoads loads loads_then) }
+    ensures tells { TellsNoLoad result }
 {
     blocks_are_read();
     parse_blocks(alloc, text, 1)
@@ -64,7 +66,7 @@ fn made_nets(alloc: Global, words: &GenWords<'_>, text: &[u8]) -> Result<GsrcNet
     ensures is { IfOk result (λ out. out ≡ nets_said (gen_seen words.now)) }
     ensures pins { IfOk result (λ out. HasPinsInAnyRange out.nets) }
     ensures never { IfErr result IsFault }
-    ensures tells { (loads loads_then : ℕ) → IfErr result (TellsLoads loads loads_then) }
+    ensures tells { TellsNoLoad result }
 {
     nets_are_read();
     parse_nets(alloc, text)
@@ -75,7 +77,7 @@ fn made_places(alloc: Global, words: &GenWords<'_>, text: &[u8]) -> Result<GsrcP
     requires { text.now ≡ pl_made (gen_seen words.now) }
     ensures is { IfOk result (λ out. out ≡ places_said (gen_seen words.now)) }
     ensures never { IfErr result IsFault }
-    ensures tells { (loads loads_then : ℕ) → IfErr result (TellsLoads loads loads_then) }
+    ensures tells { TellsNoLoad result }
 {
     places_are_read();
     parse_places(alloc, "pl", text, 1)
@@ -98,7 +100,7 @@ fn made_parts(
     ensures sizes { IfOk result HasSizes }
     ensures pins { IfOk result HasPinsInRange }
     ensures never { IfErr result IsFault }
-    ensures tells { (loads loads_then : ℕ) → IfErr result (TellsLoads loads loads_then) }
+    ensures tells { TellsNoLoad result }
 {
     parts_are_admitted();
     join(alloc, blocks, Some(nets), Some(places))
@@ -113,7 +115,7 @@ fn read_back(alloc: Global, words: &GenWords<'_>, texts: &GenTexts) -> Result<Pa
     ensures sizes { IfOk result HasSizes }
     ensures pins { IfOk result HasPinsInRange }
     ensures never { IfErr result IsFault }
-    ensures tells { (loads loads_then : ℕ) → IfErr result (TellsLoads loads loads_then) }
+    ensures tells { TellsNoLoad result }
 {
     let blocks = made_blocks(alloc, words, texts.blocks.as_slice())?;
     let nets = made_nets(alloc, words, texts.nets.as_slice())?;
@@ -137,7 +139,7 @@ fn made_design(alloc: Global, words: &GenWords<'_>, parts: Parts) -> Result<Desi
     requires pins { HasPinsInRange parts }
     ensures design { IfOk result (λ d. DesignGenerated (gen_seen words.now) (Ok d)) }
     ensures never { IfErr result IsFault }
-    ensures tells { (loads loads_then : ℕ) → IfErr result (TellsLoads loads loads_then) }
+    ensures tells { TellsNoLoad result }
 {
     nets_are_read();
     blocks_are_read();
@@ -190,7 +192,8 @@ fn text_stores(alloc: Global, words: &GenWords<'_>, texts: GenTexts) -> Result<V
 
 /// The answer of a search, behind other stores.
 fn behind(mut stores: Vec<Store>, searched: Work) -> Result<Work, NoMemory>
-    ensures stores { IfOk result (λ w. stored_in w.stores.items ≡ stored_in stores.items ++ stored_in searched.stores.items) }
+    ensures stores { IfOk result (λ w.
+        stored_in w.stores.items ≡ stored_in stores.items ++ stored_in searched.stores.items) }
     ensures status { IfOk result (λ w. w.status ≡ searched.status) }
     ensures text { IfOk result (λ w. w.text ≡ searched.text) }
 {
@@ -211,9 +214,9 @@ pub fn generate<R: Threads + Sync, G: Gate>(
     words: &GenWords<'_>,
     gate: &G,
 ) -> Result<Work, Stop>
-    ensures answer { IfOk result (λ w. IsGenerated (gen_seen words.now) w.status (stored_in w.stores.items) w.text.items) }
+    ensures answer { IfOk result (Gives (IsGenerated (gen_seen words.now))) }
     ensures refused { IfErr result (λ stop. Stops stop (λ why. GenRead (gen_seen words.now) (Err why))) }
-    ensures tells { (loads loads_then : ℕ) → IfErr result (TellsLoads loads loads_then) }
+    ensures tells { TellsNoLoad result }
 {
     test_budget(alloc, words.nodes, u64::from(words.count))?;
     let texts = made_texts(alloc, words)?;

@@ -1,29 +1,29 @@
-//! The floorplanner as one call: `run` takes the words, a shelf of files, a sink and a gate, does what the words ask
-//! for, and ends with a status. It stands on every crate below. A command is worked out as stages one after another,
-//! each of which gives a value or the refusal that ends the call; what is stored and printed is made before anything is
-//! stored. The program crate, which holds `main` alone, uses the clauses of `run`: the answer that the words and the
-//! texts on the shelf have is stored and printed whole, a fault is told only where one was counted, and where something
-//! failed it is said what was stored and printed.
+//! The floorplanner as one call: `run` takes the words, a shelf of files, a sink and a gate, does what the
+//! words ask for, and ends with a status. It stands on every crate below. A command is worked out as stages
+//! one after another, each of which gives a value or the refusal that ends the call; what is stored and
+//! printed is made before anything is stored. The program crate, which holds `main` alone, uses the clauses
+//! of `run`: the answer that the words and the texts on the shelf have is stored and printed whole, a fault
+//! is told only where one was counted, and where something failed it is said what was stored and printed.
 #![tactic(auto)]
 
 mod answering;
 mod budget;
 mod checking;
+mod commands;
+mod designs;
 mod generating;
 mod laws;
-mod making;
 mod measuring;
-mod obeying;
 mod parsing;
+mod placed_lines;
+mod plan_answer;
 mod planning;
 mod program;
 mod reading;
 mod refusals;
 mod rewriting;
 mod shaping;
-mod spotting;
 mod stop;
-mod telling;
 #[cfg(test)]
 mod tests;
 mod weighed;

@@ -1,20 +1,21 @@
 //! The command `measure`.
 
-ghost use Rattle.std.specs.Prelude.{◌≡◌, ℕ, [], codes, length, All, IfErr, IfOk, Err};
+ghost use Rattle.std.specs.Prelude.{◌≡◌, [], length, All, IfErr, IfOk, Err};
 ghost use Rattle.sf_model.specs.Cost.{right_end, upper_end, spots_cost};
 ghost use Rattle.sf_model.specs.Legal.{block_count};
 ghost use Rattle.sf_model.specs.Wire.{wire};
 ghost use Rattle.sf_place.specs.Spots.{HasNearCorner, IsByNumber};
 ghost use Rattle.sf_place.specs.Verdict.{AreLegal, IsVerdict};
 ghost use Rattle.sf_words.specs.Seen.{measure_seen};
-ghost use Rattle.sf_program.specs.Loads.{IsRead, TellsLoads};
-ghost use Rattle.sf_program.specs.Measured.{IsMeasured, MeasureRead, SpotsRead, legal_text, status_of, verdict_text};
+ghost use Rattle.sf_program.specs.Loads.{Reads, TellsLoads};
+ghost use Rattle.sf_program.specs.Measured.{IsMeasured, MeasureRead, SpotsRead, legal_text, status_of};
+ghost use Rattle.sf_program.specs.Measured.{verdict_text};
 ghost use Rattle.sf_program.specs.Outcome.{Ends, Stops};
 ghost use Rattle.sf_program.specs.Stores.{stored_in};
 
-use crate::making::read_design;
+use crate::designs::read_design;
+use crate::placed_lines::place_blocks;
 use crate::reading::read_places_file;
-use crate::spotting::place_blocks;
 use crate::stop::Stop;
 use crate::work::Work;
 use sf_io::{Shelf, Status};
@@ -31,12 +32,13 @@ fn read_spots<S: Shelf>(
     shelf: &mut S,
     design: &Design,
 ) -> Result<Vec<Spot>, Stop>
-    ensures spots { Ends (λ v. v.items) result (SpotsRead (S.holds shelf.old) (measure_seen words.now) design.now) }
+    ensures spots { Ends (λ v. v.items) result
+        (SpotsRead (S.seen shelf.old).holds (measure_seen words.now) design.now) }
     ensures one_each { IfOk result (λ v. length v.items ≡ block_count design.now) }
     ensures by_number { IfOk result (λ v. IsByNumber v.items) }
     ensures near { IfOk result (λ v. All HasNearCorner v.items) }
-    ensures read { IsRead (S.holds shelf.old) (S.holds shelf.new) (S.load_faults shelf.old) (S.load_faults shelf.new) (S.store_faults shelf.old) (S.store_faults shelf.new) }
-    ensures tells { IfErr result (TellsLoads (S.load_faults shelf.old) (S.load_faults shelf.new)) }
+    ensures read { Reads (S.seen shelf.old) (S.seen shelf.new) }
+    ensures tells { IfErr result (TellsLoads (S.seen shelf.old) (S.seen shelf.new)) }
 {
     let file = read_places_file(alloc, shelf, "placed", words.design.per_unit, words.placed)?;
     place_blocks(alloc, design.blocks.as_slice(), file.places.as_slice())
@@ -54,7 +56,8 @@ fn status_of(verdict: Verdict) -> Status
 /// The lines of a legal placement.
 fn legal_text(alloc: Global, design: &Design, spots: &[Spot]) -> Result<Vec<u8>, NoMemory>
     requires { AreLegal design.now spots.now }
-    ensures { IfOk result (λ text. text.items ≡ legal_text (spots_cost design.now spots.now) (right_end spots.now) (upper_end spots.now) (wire design.now spots.now)) }
+    ensures { let design = design.now in let spots = spots.now in IfOk result (λ text. text.items ≡
+        legal_text (spots_cost design spots) (right_end spots) (upper_end spots) (wire design spots)) }
 {
     let cost = spots_cost(design, spots);
     let (width, height) = spots_size(spots);
@@ -84,17 +87,20 @@ fn verdict_text(
     Ok(text.into_bytes())
 }
 
-/// Whether the blocks of the named design are legally placed by the placed file, and at what cost. Nothing is stored.
+/// Whether the blocks of the named design are legally placed by the placed file, and at what cost. Nothing
+/// is stored.
 pub fn measure<S: Shelf>(
     alloc: Global,
     words: &MeasureWords<'_>,
     shelf: &mut S,
 ) -> Result<Work, Stop>
-    ensures answer { IfOk result (λ w. IsMeasured (measure_seen words.now) (S.holds shelf.old) w.status w.text.items) }
+    ensures answer { IfOk result (λ w.
+        IsMeasured (measure_seen words.now) (S.seen shelf.old).holds w.status w.text.items) }
     ensures stores { IfOk result (λ w. stored_in w.stores.items ≡ []) }
-    ensures refused { IfErr result (λ stop. Stops stop (λ why. MeasureRead (S.holds shelf.old) (measure_seen words.now) (Err why))) }
-    ensures read { IsRead (S.holds shelf.old) (S.holds shelf.new) (S.load_faults shelf.old) (S.load_faults shelf.new) (S.store_faults shelf.old) (S.store_faults shelf.new) }
-    ensures tells { IfErr result (TellsLoads (S.load_faults shelf.old) (S.load_faults shelf.new)) }
+    ensures refused { IfErr result (λ stop.
+        Stops stop (λ why. MeasureRead (S.seen shelf.old).holds (measure_seen words.now) (Err why))) }
+    ensures read { Reads (S.seen shelf.old) (S.seen shelf.new) }
+    ensures tells { IfErr result (TellsLoads (S.seen shelf.old) (S.seen shelf.new)) }
 {
     let design = read_design(alloc, shelf, &words.design, words.weights)?;
     let spots = read_spots(alloc, words, shelf, &design)?;

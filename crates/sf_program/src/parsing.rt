@@ -1,6 +1,6 @@
 //! Texts to what they stand for, or to their refusal.
 
-ghost use Rattle.std.specs.Prelude.{◌≡◌, ◌≤◌, ◌^◌, ℕ, length, codes, All, IfErr, IfOk, IfSome};
+ghost use Rattle.std.specs.Prelude.{◌≡◌, ◌≤◌, ◌^◌, length, codes, All, IfOk, IfSome};
 ghost use Rattle.sf_model.specs.Admitted.{HasPinsInRange, HasSizes, IsSized};
 ghost use Rattle.sf_gsrc.specs.Blocks.{blocks_read};
 ghost use Rattle.sf_gsrc.specs.Join.{joined, nets_in};
@@ -12,7 +12,7 @@ ghost use Rattle.sf_gsrc.specs.Standing.{StandsFor};
 ghost use Rattle.sf_gsrc.specs.Weights.{weights_read, WeightsStandFor};
 ghost use Rattle.sf_yal.specs.Parts.{yal_read};
 ghost use Rattle.sf_yal.specs.Standing as yals;
-ghost use Rattle.sf_program.specs.Loads.{TellsLoads};
+ghost use Rattle.sf_program.specs.Loads.{TellsNoLoad};
 ghost use Rattle.sf_program.specs.Outcome.{Ends};
 ghost use Rattle.sf_program.specs.Reading.{Said, Judged};
 ghost use Rattle.sf_program.specs.Refusals.{gsrc_refusal, weight_refusal, yal_refusal, join_refusal};
@@ -32,8 +32,9 @@ use std::alloc::Global;
 pub fn parse_blocks(alloc: Global, text: &[u8], scale: u64) -> Result<GsrcBlocks, Stop>
     requires scale_low { 1 ≤ scale }
     requires scale_high { scale ≤ 1000 }
-    ensures tells { (loads loads_then : ℕ) → IfErr result (TellsLoads loads loads_then) }
-    ensures said { Ends (λ x. x) result (Said (StandsFor scale text.now) (blocks_read scale text.now) (gsrc_refusal (codes "blocks"))) }
+    ensures tells { TellsNoLoad result }
+    ensures said { Ends (λ x. x) result
+        (Said (StandsFor scale text.now) (blocks_read scale text.now) (gsrc_refusal (codes "blocks"))) }
     ensures sizes { IfOk result (λ out. All (λ b. IsSized b.kind) out.blocks) }
 {
     blocks_have_sizes();
@@ -46,8 +47,9 @@ pub fn parse_blocks(alloc: Global, text: &[u8], scale: u64) -> Result<GsrcBlocks
 
 /// What a nets file stands for.
 pub fn parse_nets(alloc: Global, text: &[u8]) -> Result<GsrcNets, Stop>
-    ensures tells { (loads loads_then : ℕ) → IfErr result (TellsLoads loads loads_then) }
-    ensures said { Ends (λ x. x) result (Said (NetsStandFor text.now) (nets_read text.now) (gsrc_refusal (codes "nets"))) }
+    ensures tells { TellsNoLoad result }
+    ensures said { Ends (λ x. x) result
+        (Said (NetsStandFor text.now) (nets_read text.now) (gsrc_refusal (codes "nets"))) }
     ensures pins { IfOk result (λ out. HasPinsInAnyRange out.nets) }
 {
     nets_name_their_pins();
@@ -67,8 +69,9 @@ pub fn parse_places(
 ) -> Result<GsrcPlaces, Stop>
     requires scale_low { 1 ≤ scale }
     requires scale_high { scale ≤ 1000 }
-    ensures tells { (loads loads_then : ℕ) → IfErr result (TellsLoads loads loads_then) }
-    ensures said { Ends (λ x. x) result (Said (PlacesStandFor scale text.now) (places_read scale text.now) (gsrc_refusal source.now)) }
+    ensures tells { TellsNoLoad result }
+    ensures said { Ends (λ x. x) result
+        (Said (PlacesStandFor scale text.now) (places_read scale text.now) (gsrc_refusal source.now)) }
 {
     match read_pl(alloc, text, scale) {
         Ok(places) => Ok(places),
@@ -79,8 +82,9 @@ pub fn parse_places(
 
 /// The weights of so many nets for which a weights file stands.
 pub fn parse_weights(alloc: Global, text: &[u8], nets: u64) -> Result<Vec<u8>, Stop>
-    ensures tells { (loads loads_then : ℕ) → IfErr result (TellsLoads loads loads_then) }
-    ensures said { Ends (λ v. v.items) result (Said (WeightsStandFor text.now nets) (weights_read nets text.now) weight_refusal) }
+    ensures tells { TellsNoLoad result }
+    ensures said { Ends (λ v. v.items) result
+        (Said (WeightsStandFor text.now nets) (weights_read nets text.now) weight_refusal) }
     ensures one_each { IfOk result (λ v. length v.items ≡ nets) }
 {
     match read_weights(alloc, text, nets) {
@@ -95,8 +99,9 @@ pub fn parse_yal(alloc: Global, text: &[u8], scale: u64) -> Result<Parts, Stop>
     requires scale_low { 1 ≤ scale }
     requires scale_high { scale ≤ 1000 }
     requires size { length text.now ≤ 2 ^ 26 }
-    ensures tells { (loads loads_then : ℕ) → IfErr result (TellsLoads loads loads_then) }
-    ensures said { Ends (λ x. x) result (Said (yals.StandsFor scale text.now) (yal_read scale text.now) yal_refusal) }
+    ensures tells { TellsNoLoad result }
+    ensures said { Ends (λ x. x) result
+        (Said (yals.StandsFor scale text.now) (yal_read scale text.now) yal_refusal) }
     ensures sizes { IfOk result HasSizes }
     ensures pins { IfOk result HasPinsInRange }
 {
@@ -117,7 +122,7 @@ pub fn join(
 ) -> Result<Parts, Stop>
     requires sizes { All (λ b. IsSized b.kind) blocks.blocks }
     requires pins { IfSome nets (λ out. HasPinsInAnyRange out.nets) }
-    ensures tells { (loads loads_then : ℕ) → IfErr result (TellsLoads loads loads_then) }
+    ensures tells { TellsNoLoad result }
     ensures said { Ends (λ x. x) result (Judged (joined blocks nets places) join_refusal) }
     ensures nets { IfOk result (λ parts. length parts.nets ≡ length (nets_in nets)) }
     ensures sizes { IfOk result HasSizes }

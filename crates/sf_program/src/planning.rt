@@ -1,6 +1,6 @@
 //! The command `plan`.
 
-ghost use Rattle.std.specs.Prelude.{◌≡◌, ◌≤◌, ℕ, IfErr, IfOk, Err};
+ghost use Rattle.std.specs.Prelude.{◌≡◌, IfErr, IfOk, Err};
 ghost use Rattle.sf_model.specs.Admitted.{HasPinsInRange, HasSizes, IsAdmitted};
 ghost use Rattle.sf_model.specs.Legal.{block_count};
 ghost use Rattle.sf_certificate.specs.Named.{AllNameFirst, AreAlikeButNames};
@@ -8,16 +8,17 @@ ghost use Rattle.sf_certificate.specs.Valid.{IsValid, decided};
 ghost use Rattle.sf_pl_writer.specs.Length.{IsScale};
 ghost use Rattle.sf_standard.specs.Standard.{standard, part_value};
 ghost use Rattle.sf_words.specs.Seen.{plan_seen, text_of};
-ghost use Rattle.sf_program.specs.Loads.{IsRead, TellsLoads};
+ghost use Rattle.sf_program.specs.Loads.{Reads, TellsLoads, TellsNoLoad};
 ghost use Rattle.sf_program.specs.Outcome.{Ends, Stops};
-ghost use Rattle.sf_program.specs.Planned.{IsAnswered, IsPlanned, IsSearched, BudgetedDesign, PlanRead, budget_of};
-ghost use Rattle.sf_program.specs.Stores.{stored_in};
+ghost use Rattle.sf_program.specs.Planned.{IsAnswered, IsPlanned, IsSearched, BudgetedDesign, PlanRead};
+ghost use Rattle.sf_program.specs.Planned.{budget_of};
+ghost use Rattle.sf_program.specs.Stores.{Gives};
 ghost use Rattle.sf_program.specs.Weighed.{weighed_in};
 
 use crate::budget::{budget_of, test_budget};
-use crate::making::{make_design, read_admitted};
+use crate::designs::{make_design, read_admitted};
+use crate::plan_answer::{Names, ending_of, tell_none, tell_plan};
 use crate::stop::Stop;
-use crate::telling::{Names, ending_of, tell_none, tell_plan};
 use crate::weighed::Weighed;
 use crate::work::Work;
 use sf_bounds::Standard;
@@ -32,9 +33,9 @@ use std::thread::Threads;
 
 /// The design for which the named files stand, where the budget is within its limit.
 fn read_plan<S: Shelf>(alloc: Global, shelf: &mut S, words: &PlanWords<'_>) -> Result<Design, Stop>
-    ensures design { Ends (λ x. x) result (PlanRead (S.holds shelf.old) (plan_seen words.now)) }
-    ensures read { IsRead (S.holds shelf.old) (S.holds shelf.new) (S.load_faults shelf.old) (S.load_faults shelf.new) (S.store_faults shelf.old) (S.store_faults shelf.new) }
-    ensures tells { IfErr result (TellsLoads (S.load_faults shelf.old) (S.load_faults shelf.new)) }
+    ensures design { Ends (λ x. x) result (PlanRead (S.seen shelf.old).holds (plan_seen words.now)) }
+    ensures read { Reads (S.seen shelf.old) (S.seen shelf.new) }
+    ensures tells { IfErr result (TellsLoads (S.seen shelf.old) (S.seen shelf.new)) }
 {
     let read = read_admitted(alloc, shelf, &words.design, words.weights)?;
     within_budget(alloc, words, read)
@@ -46,7 +47,7 @@ fn within_budget(alloc: Global, words: &PlanWords<'_>, read: Weighed) -> Result<
     requires pins { HasPinsInRange read.parts }
     requires sizes { HasSizes read.parts }
     ensures design { Ends (λ x. x) result (BudgetedDesign (plan_seen words.now) (weighed_in read)) }
-    ensures tells { (loads loads_then : ℕ) → IfErr result (TellsLoads loads loads_then) }
+    ensures tells { TellsNoLoad result }
 {
     admitted_parts_keep_limits();
     let blocks = read.parts.blocks.as_slice().len() as u64;
@@ -56,14 +57,17 @@ fn within_budget(alloc: Global, words: &PlanWords<'_>, read: Weighed) -> Result<
     }
 }
 
-/// What was found, with each closed subproblem of the certificate naming the first part of the bound that is at least the
-/// cost: one worker names them as it goes, several leave it to the end.
+/// What was found, with each closed subproblem of the certificate naming the first part of the bound that
+/// is at least the cost: one worker names them as it goes, several leave it to the end.
 fn name_found(alloc: Global, design: &Design, workers: u16, found: Found) -> Result<Found, NoMemory>
     requires blocks { found.cert.blocks ≡ block_count design.now }
     requires valid { IsValid design.now (standard design.now) (part_value design.now) found.cert }
-    requires named { workers ≡ 1 → AllNameFirst design.now (part_value design.now) found.cert.cost found.cert.tags }
-    ensures valid { IfOk result (λ f. IsValid design.now (standard design.now) (part_value design.now) f.cert) }
-    ensures named { IfOk result (λ f. AllNameFirst design.now (part_value design.now) f.cert.cost f.cert.tags) }
+    requires named { workers ≡ 1 →
+        AllNameFirst design.now (part_value design.now) found.cert.cost found.cert.tags }
+    ensures valid { IfOk result (λ f.
+        IsValid design.now (standard design.now) (part_value design.now) f.cert) }
+    ensures named { IfOk result (λ f.
+        AllNameFirst design.now (part_value design.now) f.cert.cost f.cert.tags) }
     ensures alike { IfOk result (λ f. AreAlikeButNames found.cert f.cert) }
     ensures plan { IfOk result (λ f. f.plan ≡ found.plan) }
     ensures decided { IfOk result (λ f. f.decided ≡ found.decided) }
@@ -100,7 +104,8 @@ fn answered(
     requires plan { found.plan ≡ found.cert.plan }
     requires decided { found.decided ≡ decided found.cert.tags }
     requires scale { IsScale names.scale }
-    ensures { IfOk result (λ w. IsAnswered design.now options.workers options.nodes names.entry.scale names.entry.cert.now (text_of names.entry.pl) w.status (stored_in w.stores.items) w.text.items) }
+    ensures { let names = names.entry in IfOk result (Gives
+        (IsAnswered design.now options.workers options.nodes names.scale names.cert.now (text_of names.pl))) }
 {
     let decided = found.decided;
     let cert = found.cert;
@@ -121,10 +126,11 @@ pub fn plan<R: Threads + Sync, S: Shelf, G: Gate>(
     gate: &G,
 ) -> Result<Work, Stop>
     requires scale { IsScale words.now.design.per_unit }
-    ensures answer { IfOk result (λ w. IsPlanned (plan_seen words.now) (S.holds shelf.old) w.status (stored_in w.stores.items) w.text.items) }
-    ensures refused { IfErr result (λ stop. Stops stop (λ why. PlanRead (S.holds shelf.old) (plan_seen words.now) (Err why))) }
-    ensures read { IsRead (S.holds shelf.old) (S.holds shelf.new) (S.load_faults shelf.old) (S.load_faults shelf.new) (S.store_faults shelf.old) (S.store_faults shelf.new) }
-    ensures tells { IfErr result (TellsLoads (S.load_faults shelf.old) (S.load_faults shelf.new)) }
+    ensures answer { IfOk result (Gives (IsPlanned (plan_seen words.now) (S.seen shelf.old).holds)) }
+    ensures refused { IfErr result (λ stop.
+        Stops stop (λ why. PlanRead (S.seen shelf.old).holds (plan_seen words.now) (Err why))) }
+    ensures read { Reads (S.seen shelf.old) (S.seen shelf.new) }
+    ensures tells { IfErr result (TellsLoads (S.seen shelf.old) (S.seen shelf.new)) }
 {
     let design = read_plan(alloc, shelf, words)?;
     let names = Names {
@@ -147,7 +153,8 @@ pub fn searched<R: Threads + Sync, G: Gate>(
     gate: &G,
 ) -> Result<Work, NoMemory>
     requires scale { IsScale names.scale }
-    ensures { IfOk result (λ w. IsAnswered design.now workers (budget_of nodes (block_count design.now)) names.entry.scale names.entry.cert.now (text_of names.entry.pl) w.status (stored_in w.stores.items) w.text.items) }
+    ensures { let names = names.entry in let budget = budget_of nodes (block_count design.now) in IfOk result (Gives
+        (IsAnswered design.now workers budget names.scale names.cert.now (text_of names.pl))) }
 {
     let nodes = budget_of(nodes, design.blocks.as_slice().len() as u64);
     let options = SearchOptions { workers, nodes };

@@ -1,13 +1,14 @@
 //! From the named files to the parts of a design.
 
-ghost use Rattle.std.specs.Prelude.{◌≡◌, ◌≤◌, ◌^◌, ℕ, length, codes, All, IfErr, IfOk, IfSome};
+ghost use Rattle.std.specs.Prelude.{◌≡◌, ◌≤◌, length, codes, All, IfErr, IfOk, IfSome};
 ghost use Rattle.sf_words.specs.Seen.{input_seen, text_of};
 ghost use Rattle.sf_model.specs.Admitted.{HasPinsInRange, HasSizes, IsSized};
 ghost use Rattle.sf_gsrc.specs.Join.{nets_in};
 ghost use Rattle.sf_gsrc.specs.Ranges.{HasPinsInAnyRange};
-ghost use Rattle.sf_program.specs.Loads.{IsRead, TellsLoads};
+ghost use Rattle.sf_program.specs.Loads.{Reads, TellsLoads, TellsNoLoad};
 ghost use Rattle.sf_program.specs.Outcome.{Ends};
-ghost use Rattle.sf_program.specs.Reading.{TextRead, BlocksRead, NetsRead, PlacesRead, YalRead, YalWeighed, IfNamed, JoinedRead, WeighedRead, PlacedRead, WiredRead, GsrcRead, PartsRead};
+ghost use Rattle.sf_program.specs.Reading.{TextRead, BlocksRead, NetsRead, PlacesRead, YalRead, YalWeighed};
+ghost use Rattle.sf_program.specs.Reading.{IfNamed, JoinedRead, GsrcRead, PartsRead};
 ghost use Rattle.sf_program.specs.Weighed.{weighed_in};
 
 use crate::parsing::{join, parse_blocks, parse_nets, parse_places, parse_yal};
@@ -26,9 +27,9 @@ const FILE_LIMIT: u64 = 67_108_864;
 
 /// The bytes under a name.
 pub fn load_text<S: Shelf>(alloc: Global, shelf: &mut S, name: &str) -> Result<Vec<u8>, Stop>
-    ensures text { Ends (λ v. v.items) result (TextRead (S.holds shelf.old) name.now) }
-    ensures read { IsRead (S.holds shelf.old) (S.holds shelf.new) (S.load_faults shelf.old) (S.load_faults shelf.new) (S.store_faults shelf.old) (S.store_faults shelf.new) }
-    ensures tells { IfErr result (TellsLoads (S.load_faults shelf.old) (S.load_faults shelf.new)) }
+    ensures text { Ends (λ v. v.items) result (TextRead (S.seen shelf.old).holds name.now) }
+    ensures read { Reads (S.seen shelf.old) (S.seen shelf.new) }
+    ensures tells { IfErr result (TellsLoads (S.seen shelf.old) (S.seen shelf.new)) }
 {
     match shelf.load(name, FILE_LIMIT) {
         Ok(text) => Ok(text),
@@ -38,6 +39,7 @@ pub fn load_text<S: Shelf>(alloc: Global, shelf: &mut S, name: &str) -> Result<V
     }
 }
 
+/// What a blocks file stands for.
 fn read_blocks_file<S: Shelf>(
     alloc: Global,
     shelf: &mut S,
@@ -46,20 +48,21 @@ fn read_blocks_file<S: Shelf>(
 ) -> Result<GsrcBlocks, Stop>
     requires scale_low { 1 ≤ scale }
     requires scale_high { scale ≤ 1000 }
-    ensures blocks { Ends (λ x. x) result (BlocksRead (S.holds shelf.old) scale name.now) }
+    ensures blocks { Ends (λ x. x) result (BlocksRead (S.seen shelf.old).holds scale name.now) }
     ensures sizes { IfOk result (λ out. All (λ b. IsSized b.kind) out.blocks) }
-    ensures read { IsRead (S.holds shelf.old) (S.holds shelf.new) (S.load_faults shelf.old) (S.load_faults shelf.new) (S.store_faults shelf.old) (S.store_faults shelf.new) }
-    ensures tells { IfErr result (TellsLoads (S.load_faults shelf.old) (S.load_faults shelf.new)) }
+    ensures read { Reads (S.seen shelf.old) (S.seen shelf.new) }
+    ensures tells { IfErr result (TellsLoads (S.seen shelf.old) (S.seen shelf.new)) }
 {
     let text = load_text(alloc, shelf, name)?;
     parse_blocks(alloc, &text, scale)
 }
 
+/// What a nets file stands for.
 fn read_nets_file<S: Shelf>(alloc: Global, shelf: &mut S, name: &str) -> Result<GsrcNets, Stop>
-    ensures nets { Ends (λ x. x) result (NetsRead (S.holds shelf.old) name.now) }
+    ensures nets { Ends (λ x. x) result (NetsRead (S.seen shelf.old).holds name.now) }
     ensures pins { IfOk result (λ out. HasPinsInAnyRange out.nets) }
-    ensures read { IsRead (S.holds shelf.old) (S.holds shelf.new) (S.load_faults shelf.old) (S.load_faults shelf.new) (S.store_faults shelf.old) (S.store_faults shelf.new) }
-    ensures tells { IfErr result (TellsLoads (S.load_faults shelf.old) (S.load_faults shelf.new)) }
+    ensures read { Reads (S.seen shelf.old) (S.seen shelf.new) }
+    ensures tells { IfErr result (TellsLoads (S.seen shelf.old) (S.seen shelf.new)) }
 {
     let text = load_text(alloc, shelf, name)?;
     parse_nets(alloc, &text)
@@ -75,14 +78,15 @@ pub fn read_places_file<S: Shelf>(
 ) -> Result<GsrcPlaces, Stop>
     requires scale_low { 1 ≤ scale }
     requires scale_high { scale ≤ 1000 }
-    ensures places { Ends (λ x. x) result (PlacesRead (S.holds shelf.old) source.now scale name.now) }
-    ensures read { IsRead (S.holds shelf.old) (S.holds shelf.new) (S.load_faults shelf.old) (S.load_faults shelf.new) (S.store_faults shelf.old) (S.store_faults shelf.new) }
-    ensures tells { IfErr result (TellsLoads (S.load_faults shelf.old) (S.load_faults shelf.new)) }
+    ensures places { Ends (λ x. x) result (PlacesRead (S.seen shelf.old).holds source.now scale name.now) }
+    ensures read { Reads (S.seen shelf.old) (S.seen shelf.new) }
+    ensures tells { IfErr result (TellsLoads (S.seen shelf.old) (S.seen shelf.new)) }
 {
     let text = load_text(alloc, shelf, name)?;
     parse_places(alloc, source, &text, scale)
 }
 
+/// What a YAL file stands for.
 fn read_yal_file<S: Shelf>(
     alloc: Global,
     shelf: &mut S,
@@ -91,25 +95,26 @@ fn read_yal_file<S: Shelf>(
 ) -> Result<Parts, Stop>
     requires scale_low { 1 ≤ scale }
     requires scale_high { scale ≤ 1000 }
-    ensures parts { Ends (λ x. x) result (YalRead (S.holds shelf.old) scale name.now) }
+    ensures parts { Ends (λ x. x) result (YalRead (S.seen shelf.old).holds scale name.now) }
     ensures sizes { IfOk result HasSizes }
     ensures pins { IfOk result HasPinsInRange }
-    ensures read { IsRead (S.holds shelf.old) (S.holds shelf.new) (S.load_faults shelf.old) (S.load_faults shelf.new) (S.store_faults shelf.old) (S.store_faults shelf.new) }
-    ensures tells { IfErr result (TellsLoads (S.load_faults shelf.old) (S.load_faults shelf.new)) }
+    ensures read { Reads (S.seen shelf.old) (S.seen shelf.new) }
+    ensures tells { IfErr result (TellsLoads (S.seen shelf.old) (S.seen shelf.new)) }
 {
     let text = load_text(alloc, shelf, name)?;
     parse_yal(alloc, &text, scale)
 }
 
+/// The nets of the named file, or none where no file is named.
 fn read_named_nets<S: Shelf>(
     alloc: Global,
     shelf: &mut S,
     name: Option<&str>,
 ) -> Result<Option<GsrcNets>, Stop>
-    ensures nets { Ends (λ x. x) result (IfNamed (NetsRead (S.holds shelf.old)) (text_of name.entry)) }
+    ensures nets { Ends (λ x. x) result (IfNamed (NetsRead (S.seen shelf.old).holds) (text_of name.entry)) }
     ensures pins { IfOk result (λ named. IfSome named (λ out. HasPinsInAnyRange out.nets)) }
-    ensures read { IsRead (S.holds shelf.old) (S.holds shelf.new) (S.load_faults shelf.old) (S.load_faults shelf.new) (S.store_faults shelf.old) (S.store_faults shelf.new) }
-    ensures tells { IfErr result (TellsLoads (S.load_faults shelf.old) (S.load_faults shelf.new)) }
+    ensures read { Reads (S.seen shelf.old) (S.seen shelf.new) }
+    ensures tells { IfErr result (TellsLoads (S.seen shelf.old) (S.seen shelf.new)) }
 {
     match name {
         None => Ok(None),
@@ -117,6 +122,7 @@ fn read_named_nets<S: Shelf>(
     }
 }
 
+/// The places of the named file, or none where no file is named.
 fn read_named_places<S: Shelf>(
     alloc: Global,
     shelf: &mut S,
@@ -125,9 +131,10 @@ fn read_named_places<S: Shelf>(
 ) -> Result<Option<GsrcPlaces>, Stop>
     requires scale_low { 1 ≤ scale }
     requires scale_high { scale ≤ 1000 }
-    ensures places { Ends (λ x. x) result (IfNamed (PlacesRead (S.holds shelf.old) (codes "pl") scale) (text_of name.entry)) }
-    ensures read { IsRead (S.holds shelf.old) (S.holds shelf.new) (S.load_faults shelf.old) (S.load_faults shelf.new) (S.store_faults shelf.old) (S.store_faults shelf.new) }
-    ensures tells { IfErr result (TellsLoads (S.load_faults shelf.old) (S.load_faults shelf.new)) }
+    ensures places { Ends (λ x. x) result
+        (IfNamed (PlacesRead (S.seen shelf.old).holds (codes "pl") scale) (text_of name.entry)) }
+    ensures read { Reads (S.seen shelf.old) (S.seen shelf.new) }
+    ensures tells { IfErr result (TellsLoads (S.seen shelf.old) (S.seen shelf.new)) }
 {
     match name {
         None => Ok(None),
@@ -149,12 +156,13 @@ fn join_weighed(
     ensures parts { Ends weighed_in result (JoinedRead blocks nets places net_weights.items) }
     ensures sizes { IfOk result (λ read. HasSizes read.parts) }
     ensures pins { IfOk result (λ read. HasPinsInRange read.parts) }
-    ensures tells { (loads loads_then : ℕ) → IfErr result (TellsLoads loads loads_then) }
+    ensures tells { TellsNoLoad result }
 {
     let parts = join(alloc, blocks, nets, places)?;
     Ok(Weighed { parts, net_weights })
 }
 
+/// How many nets there are.
 fn net_count(nets: &Option<GsrcNets>) -> usize
     ensures { result ≡ length (nets_in nets.now) }
 {
@@ -164,74 +172,7 @@ fn net_count(nets: &Option<GsrcNets>) -> usize
     }
 }
 
-/// The rest of GSRC files behind the blocks, the nets and the places.
-fn read_weighed<S: Shelf>(
-    alloc: Global,
-    shelf: &mut S,
-    blocks: GsrcBlocks,
-    nets: Option<GsrcNets>,
-    places: Option<GsrcPlaces>,
-    weights: Option<&str>,
-) -> Result<Weighed, Stop>
-    requires sizes { All (λ b. IsSized b.kind) blocks.blocks }
-    requires pins { IfSome nets (λ out. HasPinsInAnyRange out.nets) }
-    ensures parts { Ends weighed_in result (WeighedRead (S.holds shelf.old) (text_of weights.entry) blocks nets places) }
-    ensures sizes { IfOk result (λ read. HasSizes read.parts) }
-    ensures pins { IfOk result (λ read. HasPinsInRange read.parts) }
-    ensures read { IsRead (S.holds shelf.old) (S.holds shelf.new) (S.load_faults shelf.old) (S.load_faults shelf.new) (S.store_faults shelf.old) (S.store_faults shelf.new) }
-    ensures tells { IfErr result (TellsLoads (S.load_faults shelf.old) (S.load_faults shelf.new)) }
-{
-    let net_weights = read_net_weights(alloc, shelf, net_count(&nets), weights)?;
-    join_weighed(alloc, blocks, nets, places, net_weights)
-}
-
-/// The rest of GSRC files behind the blocks and the nets.
-fn read_placed<S: Shelf>(
-    alloc: Global,
-    shelf: &mut S,
-    scale: u64,
-    blocks: GsrcBlocks,
-    nets: Option<GsrcNets>,
-    pl: Option<&str>,
-    weights: Option<&str>,
-) -> Result<Weighed, Stop>
-    requires scale_low { 1 ≤ scale }
-    requires scale_high { scale ≤ 1000 }
-    requires sizes { All (λ b. IsSized b.kind) blocks.blocks }
-    requires pins { IfSome nets (λ out. HasPinsInAnyRange out.nets) }
-    ensures parts { Ends weighed_in result (PlacedRead (S.holds shelf.old) scale (text_of pl.entry) (text_of weights.entry) blocks nets) }
-    ensures sizes { IfOk result (λ read. HasSizes read.parts) }
-    ensures pins { IfOk result (λ read. HasPinsInRange read.parts) }
-    ensures read { IsRead (S.holds shelf.old) (S.holds shelf.new) (S.load_faults shelf.old) (S.load_faults shelf.new) (S.store_faults shelf.old) (S.store_faults shelf.new) }
-    ensures tells { IfErr result (TellsLoads (S.load_faults shelf.old) (S.load_faults shelf.new)) }
-{
-    let places = read_named_places(alloc, shelf, scale, pl)?;
-    read_weighed(alloc, shelf, blocks, nets, places, weights)
-}
-
-/// The rest of GSRC files behind the blocks.
-fn read_wired<S: Shelf>(
-    alloc: Global,
-    shelf: &mut S,
-    scale: u64,
-    blocks: GsrcBlocks,
-    nets: Option<&str>,
-    pl: Option<&str>,
-    weights: Option<&str>,
-) -> Result<Weighed, Stop>
-    requires scale_low { 1 ≤ scale }
-    requires scale_high { scale ≤ 1000 }
-    requires sizes { All (λ b. IsSized b.kind) blocks.blocks }
-    ensures parts { Ends weighed_in result (WiredRead (S.holds shelf.old) scale (text_of nets.entry) (text_of pl.entry) (text_of weights.entry) blocks) }
-    ensures sizes { IfOk result (λ read. HasSizes read.parts) }
-    ensures pins { IfOk result (λ read. HasPinsInRange read.parts) }
-    ensures read { IsRead (S.holds shelf.old) (S.holds shelf.new) (S.load_faults shelf.old) (S.load_faults shelf.new) (S.store_faults shelf.old) (S.store_faults shelf.new) }
-    ensures tells { IfErr result (TellsLoads (S.load_faults shelf.old) (S.load_faults shelf.new)) }
-{
-    let nets = read_named_nets(alloc, shelf, nets)?;
-    read_placed(alloc, shelf, scale, blocks, nets, pl, weights)
-}
-
+/// What GSRC files say: the blocks, and the nets, places and weights that are named.
 fn read_gsrc_files<S: Shelf>(
     alloc: Global,
     shelf: &mut S,
@@ -243,14 +184,18 @@ fn read_gsrc_files<S: Shelf>(
 ) -> Result<Weighed, Stop>
     requires scale_low { 1 ≤ scale }
     requires scale_high { scale ≤ 1000 }
-    ensures parts { Ends weighed_in result (GsrcRead (S.holds shelf.old) scale blocks.now (text_of nets.entry) (text_of pl.entry) (text_of weights.entry)) }
+    ensures parts { let held = (S.seen shelf.old).holds in Ends weighed_in result
+        (GsrcRead held scale blocks.now (text_of nets.entry) (text_of pl.entry) (text_of weights.entry)) }
     ensures sizes { IfOk result (λ read. HasSizes read.parts) }
     ensures pins { IfOk result (λ read. HasPinsInRange read.parts) }
-    ensures read { IsRead (S.holds shelf.old) (S.holds shelf.new) (S.load_faults shelf.old) (S.load_faults shelf.new) (S.store_faults shelf.old) (S.store_faults shelf.new) }
-    ensures tells { IfErr result (TellsLoads (S.load_faults shelf.old) (S.load_faults shelf.new)) }
+    ensures read { Reads (S.seen shelf.old) (S.seen shelf.new) }
+    ensures tells { IfErr result (TellsLoads (S.seen shelf.old) (S.seen shelf.new)) }
 {
     let blocks = read_blocks_file(alloc, shelf, scale, blocks)?;
-    read_wired(alloc, shelf, scale, blocks, nets, pl, weights)
+    let nets = read_named_nets(alloc, shelf, nets)?;
+    let places = read_named_places(alloc, shelf, scale, pl)?;
+    let net_weights = read_net_weights(alloc, shelf, net_count(&nets), weights)?;
+    join_weighed(alloc, blocks, nets, places, net_weights)
 }
 
 /// What a YAL file says, with a weight for each net.
@@ -263,11 +208,12 @@ fn read_weighed_yal<S: Shelf>(
 ) -> Result<Weighed, Stop>
     requires scale_low { 1 ≤ scale }
     requires scale_high { scale ≤ 1000 }
-    ensures parts { Ends weighed_in result (YalWeighed (S.holds shelf.old) scale file.now (text_of weights.entry)) }
+    ensures parts { Ends weighed_in result
+        (YalWeighed (S.seen shelf.old).holds scale file.now (text_of weights.entry)) }
     ensures sizes { IfOk result (λ read. HasSizes read.parts) }
     ensures pins { IfOk result (λ read. HasPinsInRange read.parts) }
-    ensures read { IsRead (S.holds shelf.old) (S.holds shelf.new) (S.load_faults shelf.old) (S.load_faults shelf.new) (S.store_faults shelf.old) (S.store_faults shelf.new) }
-    ensures tells { IfErr result (TellsLoads (S.load_faults shelf.old) (S.load_faults shelf.new)) }
+    ensures read { Reads (S.seen shelf.old) (S.seen shelf.new) }
+    ensures tells { IfErr result (TellsLoads (S.seen shelf.old) (S.seen shelf.new)) }
 {
     let parts = read_yal_file(alloc, shelf, scale, file)?;
     let nets = parts.nets.as_slice().len();
@@ -285,11 +231,12 @@ pub fn read_parts<S: Shelf>(
 ) -> Result<Weighed, Stop>
     requires scale_low { 1 ≤ scale }
     requires scale_high { scale ≤ 1000 }
-    ensures parts { Ends weighed_in result (PartsRead (S.holds shelf.old) scale (input_seen input.entry) (text_of weights.entry)) }
+    ensures parts { Ends weighed_in result
+        (PartsRead (S.seen shelf.old).holds scale (input_seen input.entry) (text_of weights.entry)) }
     ensures pins { IfOk result (λ read. HasPinsInRange read.parts) }
     ensures sizes { IfOk result (λ read. HasSizes read.parts) }
-    ensures read { IsRead (S.holds shelf.old) (S.holds shelf.new) (S.load_faults shelf.old) (S.load_faults shelf.new) (S.store_faults shelf.old) (S.store_faults shelf.new) }
-    ensures tells { IfErr result (TellsLoads (S.load_faults shelf.old) (S.load_faults shelf.new)) }
+    ensures read { Reads (S.seen shelf.old) (S.seen shelf.new) }
+    ensures tells { IfErr result (TellsLoads (S.seen shelf.old) (S.seen shelf.new)) }
 {
     match input {
         InputFiles::Gsrc { blocks, nets, pl } => {

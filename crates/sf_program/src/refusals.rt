@@ -3,10 +3,13 @@
 ghost use Rattle.std.specs.Prelude.{◌≡◌, ◌++◌, ◌∷◌, [], IfOk, codes, string_bytes};
 ghost use Rattle.std.specs.Fmt.{decimal};
 ghost use Rattle.sf_program.specs.Outcome.{Refuses};
-ghost use Rattle.sf_program.specs.Refusals.{bad_input, over_limit, number_fault, gsrc_refusal, weight_refusal, yal_refusal, limit_word, build_refusal, design_fault};
+ghost use Rattle.sf_program.specs.Refusals.{bad_input, over_limit, number_fault, gsrc_refusal};
+ghost use Rattle.sf_program.specs.Refusals.{weight_refusal, yal_refusal, limit_word, build_refusal};
+ghost use Rattle.sf_program.specs.Refusals.{design_fault};
 
 use crate::stop::Stop;
 use sf_gsrc::{GsrcFault, WeightFault};
+use sf_io::Status;
 use sf_lex::NumberFault;
 use sf_model::{BuildFault, Limit, Name};
 use sf_yal::YalFault;
@@ -17,7 +20,7 @@ pub fn bare_fault(alloc: Global, source: &str, line: u64, fault: &str) -> Result
     ensures { IfOk result (λ stop. Refuses stop (bad_input source.now line (fault.now ∷ []))) }
 {
     let text = format!(in alloc; "error BadInput {source} {line} {fault}\n")?;
-    Ok(Stop::BadInput(text.into_bytes()))
+    Ok(Stop::Refused(Status::BadInput, text.into_bytes()))
 }
 
 /// A fault that carries a word.
@@ -32,7 +35,7 @@ pub fn worded_fault(
 {
     let head = format!(in alloc; "error BadInput {source} {line} {fault} ")?;
     let text = with_word(head, word)?;
-    Ok(Stop::BadInput(text))
+    Ok(Stop::Refused(Status::BadInput, text))
 }
 
 /// The line that begins so and ends with a word of any bytes.
@@ -54,10 +57,11 @@ pub fn counted_fault(
     said: u64,
     found: u64,
 ) -> Result<Stop, NoMemory>
-    ensures { IfOk result (λ stop. Refuses stop (bad_input source.now line (fault.now ∷ decimal said ∷ decimal found ∷ []))) }
+    ensures { IfOk result (λ stop.
+        Refuses stop (bad_input source.now line (fault.now ∷ decimal said ∷ decimal found ∷ []))) }
 {
     let text = format!(in alloc; "error BadInput {source} {line} {fault} {said} {found}\n")?;
-    Ok(Stop::BadInput(text.into_bytes()))
+    Ok(Stop::Refused(Status::BadInput, text.into_bytes()))
 }
 
 /// A quantity past its limit.
@@ -65,10 +69,11 @@ pub fn over_limit(alloc: Global, quantity: &str, found: u64, limit: u64) -> Resu
     ensures { IfOk result (λ stop. Refuses stop (over_limit quantity.now found limit)) }
 {
     let text = format!(in alloc; "error OverLimit {quantity} {found} {limit}\n")?;
-    Ok(Stop::OverLimit(text.into_bytes()))
+    Ok(Stop::Refused(Status::OverLimit, text.into_bytes()))
 }
 
-pub fn number_word(fault: NumberFault) -> &'static str
+/// What is wrong with a number, in a word.
+fn number_word(fault: NumberFault) -> &'static str
     ensures { result.now ≡ number_fault fault }
 {
     match fault {
@@ -79,13 +84,15 @@ pub fn number_word(fault: NumberFault) -> &'static str
     }
 }
 
+/// A word that is no number that may stand there.
 fn number_fault(
     alloc: Global,
     source: &str,
     line: u64,
     fault: NumberFault,
 ) -> Result<Stop, NoMemory>
-    ensures { IfOk result (λ stop. Refuses stop (bad_input source.now line (codes "BadNumber" ∷ number_fault fault ∷ []))) }
+    ensures { IfOk result (λ stop.
+        Refuses stop (bad_input source.now line (codes "BadNumber" ∷ number_fault fault ∷ []))) }
 {
     let word = number_word(fault);
     worded_fault(alloc, source, line, "BadNumber", word.as_bytes())
@@ -119,10 +126,11 @@ fn numbered_fault(
     fault: &str,
     number: u64,
 ) -> Result<Stop, NoMemory>
-    ensures { IfOk result (λ stop. Refuses stop (bad_input source.now line (fault.now ∷ decimal number ∷ []))) }
+    ensures { IfOk result (λ stop.
+        Refuses stop (bad_input source.now line (fault.now ∷ decimal number ∷ []))) }
 {
     let text = format!(in alloc; "error BadInput {source} {line} {fault} {number}\n")?;
-    Ok(Stop::BadInput(text.into_bytes()))
+    Ok(Stop::Refused(Status::BadInput, text.into_bytes()))
 }
 
 /// The first fault of a weights file.
@@ -160,6 +168,7 @@ pub fn yal_fault(alloc: Global, fault: YalFault) -> Result<Stop, NoMemory>
     }
 }
 
+/// The quantity that passes its limit, in a word.
 fn limit_word(limit: Limit) -> &'static str
     ensures { result.now ≡ limit_word limit }
 {

@@ -1,21 +1,21 @@
-//! A certificate that is stored anew: where it is valid, each closed subproblem names the first part of the bound that is
-//! at least the cost.
+//! A certificate that is stored anew: where it is valid, each closed subproblem names the first part of the
+//! bound that is at least the cost.
 
-ghost use Rattle.std.specs.Prelude.{◌≡◌, ◌≤◌, ℕ, Some, Ok, Err, IfErr, IfOk};
+ghost use Rattle.std.specs.Prelude.{◌≡◌, ◌≤◌, Some, Ok, Err, IfErr, IfOk};
 ghost use Rattle.sf_certificate.specs.Reading.{cert_read, said_by};
 ghost use Rattle.sf_certificate.specs.Valid.{IsValid};
 ghost use Rattle.sf_checker.specs.Answers.{IsAnswer};
 ghost use Rattle.sf_model.specs.Legal.{block_count};
 ghost use Rattle.sf_standard.specs.Standard.{standard, part_value};
 ghost use Rattle.sf_program.specs.Checked.{IsJudged, IsRewritten, IsStoredAnew, JudgedText, cert_refusal};
-ghost use Rattle.sf_program.specs.Loads.{TellsLoads};
+ghost use Rattle.sf_program.specs.Loads.{TellsNoLoad};
 ghost use Rattle.sf_program.specs.Outcome.{Stops};
 ghost use Rattle.sf_program.specs.Reading.{Judged};
-ghost use Rattle.sf_program.specs.Stores.{stored_in};
+ghost use Rattle.sf_program.specs.Stores.{Gives, stored_in};
 
 use crate::answering::{answer_work, cert_fault};
+use crate::plan_answer::stored_cert;
 use crate::stop::Stop;
-use crate::telling::stored_cert;
 use crate::work::{Store, Work, no_stores};
 use sf_bounds::Standard;
 use sf_certificate::{Cert, CertFault, read};
@@ -35,8 +35,9 @@ fn block_count(design: &Design) -> u16
 fn read_cert(alloc: Global, text: &[u8], design: &Design) -> Result<Cert, Stop>
     ensures cert { IfOk result (λ c. cert_read (block_count design.now) text.now ≡ Ok (said_by c)) }
     ensures blocks { IfOk result (λ c. c.blocks ≡ block_count design.now) }
-    ensures refused { IfErr result (λ stop. Stops stop (λ why. Judged (cert_read (block_count design.now) text.now) cert_refusal (Err why))) }
-    ensures tells { (loads loads_then : ℕ) → IfErr result (TellsLoads loads loads_then) }
+    ensures refused { IfErr result (λ stop.
+        Stops stop (λ why. Judged (cert_read (block_count design.now) text.now) cert_refusal (Err why))) }
+    ensures tells { TellsNoLoad result }
 {
     match read(alloc, text, block_count(design)) {
         Ok(cert) => Ok(cert),
@@ -81,7 +82,7 @@ fn rewritten(
 /// What is told of a certificate, and stored of it under this name.
 fn rewrite_cert(alloc: Global, design: &Design, cert: Cert, name: &str) -> Result<Work, NoMemory>
     requires { cert.blocks ≡ block_count design.now }
-    ensures { IfOk result (λ w. IsJudged design.now cert (Some name.now) w.status (stored_in w.stores.items) w.text.items) }
+    ensures { IfOk result (Gives (IsJudged design.now cert (Some name.now))) }
 {
     let answer = check(alloc, design, &Standard, &cert)?;
     let stores = rewritten(alloc, design, cert, answer, name)?;
@@ -90,9 +91,10 @@ fn rewrite_cert(alloc: Global, design: &Design, cert: Cert, name: &str) -> Resul
 
 /// What is told of the certificate that a text says, and stored of it under this name.
 pub fn rewrite_text(alloc: Global, text: &[u8], design: &Design, name: &str) -> Result<Work, Stop>
-    ensures answer { IfOk result (λ w. JudgedText design.now text.now (Some name.now) w.status (stored_in w.stores.items) w.text.items) }
-    ensures refused { IfErr result (λ stop. Stops stop (λ why. Judged (cert_read (block_count design.now) text.now) cert_refusal (Err why))) }
-    ensures tells { (loads loads_then : ℕ) → IfErr result (TellsLoads loads loads_then) }
+    ensures answer { IfOk result (Gives (JudgedText design.now text.now (Some name.now))) }
+    ensures refused { IfErr result (λ stop.
+        Stops stop (λ why. Judged (cert_read (block_count design.now) text.now) cert_refusal (Err why))) }
+    ensures tells { TellsNoLoad result }
 {
     let cert = read_cert(alloc, text, design)?;
     let work = rewrite_cert(alloc, design, cert, name)?;

@@ -1,6 +1,6 @@
 //! The command `shape`: the shape curve of an expression.
 
-ghost use Rattle.std.specs.Prelude.{◌≡◌, ◌++◌, [], ℕ, Err, IfErr, IfOk, OnOk, string_bytes};
+ghost use Rattle.std.specs.Prelude.{◌≡◌, ◌++◌, [], Err, IfErr, IfOk, OnOk, string_bytes};
 ghost use Rattle.std.specs.List.{flat_map};
 ghost use Rattle.sf_curves.specs.Choices.{IsRootCurve};
 ghost use Rattle.sf_model.specs.Legal.{block_count};
@@ -9,13 +9,14 @@ ghost use Rattle.sf_polish.specs.Normal.{IsNormal};
 ghost use Rattle.sf_polish.specs.Reading.{tokens_read};
 ghost use Rattle.sf_polish.specs.Text.{SpellsTokens};
 ghost use Rattle.sf_words.specs.Seen.{shape_seen};
-ghost use Rattle.sf_program.specs.Loads.{IsRead, TellsLoads};
+ghost use Rattle.sf_program.specs.Loads.{Reads, TellsLoads, TellsNoLoad};
 ghost use Rattle.sf_program.specs.Outcome.{Ends, Refuses, Stops};
 ghost use Rattle.sf_program.specs.Reading.{Said};
-ghost use Rattle.sf_program.specs.Shaped.{IsCurveText, IsShaped, ShapeRead, TokensRead, expr_refusal, least_line, point_line};
+ghost use Rattle.sf_program.specs.Shaped.{IsCurveText, IsShaped, ShapeRead, TokensRead, expr_refusal};
+ghost use Rattle.sf_program.specs.Shaped.{least_line, point_line};
 ghost use Rattle.sf_program.specs.Stores.{stored_in};
 
-use crate::making::read_design;
+use crate::designs::read_design;
 use crate::reading::load_text;
 use crate::refusals::bare_fault;
 use crate::stop::Stop;
@@ -44,9 +45,10 @@ fn expr_fault(alloc: Global, fault: ExprFault) -> Result<Stop, NoMemory>
 
 /// The tokens that a text spells, of a design's blocks.
 fn parse_tokens(alloc: Global, text: &[u8], design: &Design) -> Result<Vec<Token>, Stop>
-    ensures said { Ends (λ v. v.items) result (Said (SpellsTokens (block_count design.now) text.now) (tokens_read (block_count design.now) text.now) expr_refusal) }
+    ensures said { let blocks = block_count design.now in Ends (λ v. v.items) result
+        (Said (SpellsTokens blocks text.now) (tokens_read blocks text.now) expr_refusal) }
     ensures normal { IfOk result (λ v. IsNormal (block_count design.now) v.items) }
-    ensures tells { (loads loads_then : ℕ) → IfErr result (TellsLoads loads loads_then) }
+    ensures tells { TellsNoLoad result }
 {
     let blocks = design.blocks.as_slice().len() as u16;
     match read_tokens(alloc, text, blocks) {
@@ -63,10 +65,11 @@ fn read_tokens_file<S: Shelf>(
     name: &str,
     design: &Design,
 ) -> Result<Vec<Token>, Stop>
-    ensures tokens { Ends (λ v. v.items) result (TokensRead (S.holds shelf.old) name.now (block_count design.now)) }
+    ensures tokens { Ends (λ v. v.items) result
+        (TokensRead (S.seen shelf.old).holds name.now (block_count design.now)) }
     ensures normal { IfOk result (λ v. IsNormal (block_count design.now) v.items) }
-    ensures read { IsRead (S.holds shelf.old) (S.holds shelf.new) (S.load_faults shelf.old) (S.load_faults shelf.new) (S.store_faults shelf.old) (S.store_faults shelf.new) }
-    ensures tells { IfErr result (TellsLoads (S.load_faults shelf.old) (S.load_faults shelf.new)) }
+    ensures read { Reads (S.seen shelf.old) (S.seen shelf.new) }
+    ensures tells { IfErr result (TellsLoads (S.seen shelf.old) (S.seen shelf.new)) }
 {
     let text = load_text(alloc, shelf, name)?;
     parse_tokens(alloc, &text, design)
@@ -120,11 +123,13 @@ fn curve_text(alloc: Global, curve: &Curve) -> Result<Vec<u8>, NoMemory>
 
 /// The shape curve of the named expression over the blocks of the named design. Nothing is stored.
 pub fn shape<S: Shelf>(alloc: Global, words: &ShapeWords<'_>, shelf: &mut S) -> Result<Work, Stop>
-    ensures answer { IfOk result (λ w. IsShaped (shape_seen words.now) (S.holds shelf.old) w.status w.text.items) }
+    ensures answer { IfOk result (λ w.
+        IsShaped (shape_seen words.now) (S.seen shelf.old).holds w.status w.text.items) }
     ensures stores { IfOk result (λ w. stored_in w.stores.items ≡ []) }
-    ensures refused { IfErr result (λ stop. Stops stop (λ why. ShapeRead (S.holds shelf.old) (shape_seen words.now) (Err why))) }
-    ensures read { IsRead (S.holds shelf.old) (S.holds shelf.new) (S.load_faults shelf.old) (S.load_faults shelf.new) (S.store_faults shelf.old) (S.store_faults shelf.new) }
-    ensures tells { IfErr result (TellsLoads (S.load_faults shelf.old) (S.load_faults shelf.new)) }
+    ensures refused { IfErr result (λ stop.
+        Stops stop (λ why. ShapeRead (S.seen shelf.old).holds (shape_seen words.now) (Err why))) }
+    ensures read { Reads (S.seen shelf.old) (S.seen shelf.new) }
+    ensures tells { IfErr result (TellsLoads (S.seen shelf.old) (S.seen shelf.new)) }
 {
     let areas_alone = WeightWords {
         area: 1,

@@ -3,14 +3,17 @@
 ghost use Rattle.std.specs.Prelude.{◌≡◌};
 ghost use Rattle.sf_program.specs.declared.stop.Stop.TheVariants.{NoMemory};
 
+use sf_io::Status;
 use std::alloc::{AllocError, AllocFailed};
 
-/// Why a stage gives no value: an input is refused, with the line that tells why, or something failed.
+/// Why a stage gives no value.
 #[derive(Drop)]
 pub enum Stop {
-    BadInput(Vec<u8>),
-    OverLimit(Vec<u8>),
+    /// An input is refused, with this status and the line that tells why.
+    Refused(Status, Vec<u8>),
+    /// A load failed.
     ReadFault,
+    /// The memory didn't suffice.
     NoMemory,
 }
 

@@ -39,8 +39,8 @@ const NAMES: [&str; 9] = [
     "a.expr",
 ];
 
-/// What a run prints. Where the whole of it is given, nothing is stored but what the row names; where only some lines
-/// are given, the other lines and the other stored texts are free.
+/// What a run prints. Where the whole of it is given, nothing is stored but what the row names; where only
+/// some lines are given, the other lines and the other stored texts are free.
 #[derive(Clone, Copy)]
 enum Printed {
     Whole(&'static str),

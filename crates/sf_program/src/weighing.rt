@@ -2,7 +2,7 @@
 
 ghost use Rattle.std.specs.Prelude.{◌≡◌, Some, IfErr, IfOk, length};
 ghost use Rattle.sf_words.specs.Seen.{text_of};
-ghost use Rattle.sf_program.specs.Loads.{IsRead, TellsLoads};
+ghost use Rattle.sf_program.specs.Loads.{Reads, TellsLoads};
 ghost use Rattle.sf_program.specs.Outcome.{Ends};
 ghost use Rattle.sf_program.specs.Reading.{WeightsRead};
 
@@ -20,10 +20,11 @@ pub fn read_net_weights<S: Shelf>(
     nets: usize,
     name: Option<&str>,
 ) -> Result<Vec<u8>, Stop>
-    ensures weights { Ends (λ v. v.items) result (WeightsRead (S.holds shelf.old) (text_of name.entry) nets) }
+    ensures weights { Ends (λ v. v.items) result
+        (WeightsRead (S.seen shelf.old).holds (text_of name.entry) nets) }
     ensures one_each { IfOk result (λ v. length v.items ≡ nets) }
-    ensures read { IsRead (S.holds shelf.old) (S.holds shelf.new) (S.load_faults shelf.old) (S.load_faults shelf.new) (S.store_faults shelf.old) (S.store_faults shelf.new) }
-    ensures tells { IfErr result (TellsLoads (S.load_faults shelf.old) (S.load_faults shelf.new)) }
+    ensures read { Reads (S.seen shelf.old) (S.seen shelf.new) }
+    ensures tells { IfErr result (TellsLoads (S.seen shelf.old) (S.seen shelf.new)) }
 {
     match name {
         None => Ok(same_weights(alloc, nets)?),
@@ -37,10 +38,10 @@ fn read_weights_file<S: Shelf>(
     nets: usize,
     name: &str,
 ) -> Result<Vec<u8>, Stop>
-    ensures weights { Ends (λ v. v.items) result (WeightsRead (S.holds shelf.old) (Some name.now) nets) }
+    ensures weights { Ends (λ v. v.items) result (WeightsRead (S.seen shelf.old).holds (Some name.now) nets) }
     ensures one_each { IfOk result (λ v. length v.items ≡ nets) }
-    ensures read { IsRead (S.holds shelf.old) (S.holds shelf.new) (S.load_faults shelf.old) (S.load_faults shelf.new) (S.store_faults shelf.old) (S.store_faults shelf.new) }
-    ensures tells { IfErr result (TellsLoads (S.load_faults shelf.old) (S.load_faults shelf.new)) }
+    ensures read { Reads (S.seen shelf.old) (S.seen shelf.new) }
+    ensures tells { IfErr result (TellsLoads (S.seen shelf.old) (S.seen shelf.new)) }
 {
     let text = load_text(alloc, shelf, name)?;
     parse_weights(alloc, &text, nets as u64)

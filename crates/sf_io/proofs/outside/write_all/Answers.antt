@@ -7,8 +7,8 @@ use Rattle.sf_io.proofs.outside.write_all.Goals as goal
 
 pub returns-in_err-at-clause-part : goal.returns-in_err-at-clause-part
 returns-in_err-at-clause-part g c =
-    let before = Took-prefix (g.K.Sink.taken c.args.out.now) (g.K.Sink.taken c.loop-at.out) c.loop-at.at c.args.text.now c.loop-at.invariant.1 in
-    let after : Took (g.K.Sink.taken c.args.out.now) (g.K.Sink.taken c.put.new.self) c.args.text.now = rw c.in_err-at.ensures.kept before in
+    let before = Took-prefix (g.K.Sink.seen c.args.out.now).taken (g.K.Sink.seen c.loop-at.out).taken c.loop-at.at c.args.text.now c.loop-at.invariant.1 in
+    let after : Took (g.K.Sink.seen c.args.out.now).taken (g.K.Sink.seen c.put.new.self).taken c.args.text.now = rw c.in_err-at.ensures.kept before in
     search rules
 
 pub loop-at-preserved : goal.loop-at-preserved

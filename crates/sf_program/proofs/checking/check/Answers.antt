@@ -13,12 +13,12 @@ pub returns-clause-answer : goal.returns-clause-answer
 returns-clause-answer g c =
     let o = check_seen c.args.words.now in
     let design = c.in_ok-design.design in
-    check-told (g.S.Shelf.holds c.args.shelf.now) o design c.in_ok-design.ensures.design c.check_file.result
+    check-told (g.S.Shelf.seen c.args.shelf.now).holds o design c.in_ok-design.ensures.design c.check_file.result
     (subst (λ (h : Option Contents). IfOk c.check_file.result (λ w. JudgedFile h o.cert design o.rewrite w.status (stored_in w.stores.items) w.text.items)) c.in_ok-design.ensures.read.unchanged c.check_file.ensures.answer)
 
 pub returns-clause-refused : goal.returns-clause-refused
 returns-clause-refused g c =
     let o = check_seen c.args.words.now in
     let design = c.in_ok-design.design in
-    check-stops (g.S.Shelf.holds c.args.shelf.now) o design c.in_ok-design.ensures.design c.check_file.result
+    check-stops (g.S.Shelf.seen c.args.shelf.now).holds o design c.in_ok-design.ensures.design c.check_file.result
     (subst (λ (h : Option Contents). IfErr c.check_file.result (λ stop. Stops stop (λ why. CertRead h o.cert (block_count design) (Err why)))) c.in_ok-design.ensures.read.unchanged c.check_file.ensures.refused)

@@ -11,7 +11,7 @@ use Rattle.sf_program.proofs.measuring.measure.Goals as goal
 
 pub returns-in_err-spots-clause-refused : goal.returns-in_err-spots-clause-refused
 returns-in_err-spots-clause-refused g c =
-    let held = g.S.Shelf.holds c.args.shelf.now in
+    let held = (g.S.Shelf.seen c.args.shelf.now).holds in
     let o = measure_seen c.args.words.now in
     let design = c.in_ok-design.design in
     let stop = c.in_err-spots.field-0.0 in
@@ -22,7 +22,7 @@ returns-in_err-spots-clause-refused g c =
 
 pub returns-clause-answer : goal.returns-clause-answer
 returns-clause-answer g c =
-    let held = g.S.Shelf.holds c.args.shelf.now in
+    let held = (g.S.Shelf.seen c.args.shelf.now).holds in
     let o = measure_seen c.args.words.now in
     let design = c.in_ok-design.design in
     let spots = c.in_ok-spots.spots.items in

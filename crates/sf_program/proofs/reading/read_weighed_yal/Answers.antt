@@ -8,7 +8,7 @@ use Rattle.sf_program.proofs.reading.read_weighed_yal.Goals as goal
 
 pub returns-in_err-net_weights-clause-parts : goal.returns-in_err-net_weights-clause-parts
 returns-in_err-net_weights-clause-parts g c =
-    let held = g.S.Shelf.holds c.args.shelf.now in
+    let held = (g.S.Shelf.seen c.args.shelf.now).holds in
     let weights = text_of c.args.weights in
     let parts = c.in_ok-parts.parts in
     let stop = c.in_err-net_weights.field-0.0 in

@@ -1,6 +1,7 @@
-use Rattle.std.proofs.Common.{◌≡◌, ◌++◌, ◌∷◌, [], List, ℕ, ap, ◌∙◌, append_assoc, rules, codes, string_bytes}
+use Rattle.std.proofs.Common.{◌≡◌, ◌++◌, ◌∷◌, [], List, ℕ, inl, refl, ap, ◌∙◌, append_assoc, rules, codes, string_bytes}
 use Rattle.std.specs.Fmt.{decimal}
-use Rattle.sf_program.specs.Outcome.{bad}
+use Rattle.sf_io.specs.declared.status.Status.TheVariants.{BadInput}
+use Rattle.sf_program.specs.Outcome.{refused}
 use Rattle.sf_program.proofs.refusals.worded_fault.Goals as goal
 
 joined : (a b c d : List ℕ) → (a ++ 32 ∷ (b ++ 32 ∷ (c ++ 32 ∷ []))) ++ (d ++ 10 ∷ []) ≡ a ++ 32 ∷ (b ++ 32 ∷ (c ++ 32 ∷ (d ++ 10 ∷ [])))
@@ -13,4 +14,4 @@ returns c =
     let fault = c.args.fault.now in
     let word = c.args.word.now in
     let head : string_bytes c.in_ok-head.head ≡ codes "error BadInput " ++ (source ++ 32 ∷ (line ++ 32 ∷ (fault ++ 32 ∷ []))) = c.in_ok-head.ensures.ok in
-    ap bad (c.in_ok-text.ensures ∙ ap (λ z. z ++ (word ++ 10 ∷ [])) head ∙ ap (λ z. codes "error BadInput " ++ z) (joined source line fault word))
+    (inl refl, ap (refused BadInput) (c.in_ok-text.ensures ∙ ap (λ z. z ++ (word ++ 10 ∷ [])) head ∙ ap (λ z. codes "error BadInput " ++ z) (joined source line fault word)))

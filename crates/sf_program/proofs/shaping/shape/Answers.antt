@@ -13,7 +13,7 @@ use Rattle.sf_program.proofs.shaping.shape.Goals as goal
 
 pub returns-in_err-tokens-clause-refused : goal.returns-in_err-tokens-clause-refused
 returns-in_err-tokens-clause-refused g c =
-    let held = g.S.Shelf.holds c.args.shelf.now in
+    let held = (g.S.Shelf.seen c.args.shelf.now).holds in
     let o = shape_seen c.args.words.now in
     let design = c.in_ok-design.design in
     let stop = c.in_err-tokens.field-0.0 in
@@ -24,7 +24,7 @@ returns-in_err-tokens-clause-refused g c =
 
 pub returns-clause-answer : goal.returns-clause-answer
 returns-clause-answer g c =
-    let held = g.S.Shelf.holds c.args.shelf.now in
+    let held = (g.S.Shelf.seen c.args.shelf.now).holds in
     let o = shape_seen c.args.words.now in
     let design = c.in_ok-design.design in
     let tokens = c.in_ok-tokens.tokens.items in

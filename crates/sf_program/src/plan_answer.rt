@@ -1,6 +1,7 @@
 //! What is stored and printed of a search.
 
-ghost use Rattle.std.specs.Prelude.{◌≡◌, ◌≤◌, ◌<◌, ◌^◌, ◌++◌, ◌∷◌, [], length, ℕ, IfOk, MatchOption, None, Some, string_bytes};
+ghost use Rattle.std.specs.Prelude.{◌≡◌, ◌≤◌, ◌<◌, ◌^◌, ◌++◌, ◌∷◌, [], length, ℕ, IfOk, None};
+ghost use Rattle.std.specs.Prelude.{Some, string_bytes};
 ghost use Rattle.sf_model.specs.declared.TheConstants.{MAX};
 ghost use Rattle.sf_model.specs.Legal.{block_count};
 ghost use Rattle.sf_polish.specs.Text.{IsWritable};
@@ -22,7 +23,8 @@ use sf_polish::{Expr, plan_of};
 use sf_wire::wire;
 use std::alloc::{AllocError as NoMemory, Global};
 
-/// The names under which the certificate and the placement are stored, and the scale of the placement's lengths.
+/// The names under which the certificate and the placement are stored, and the scale of the placement's
+/// lengths.
 #[derive(Clone, Copy)]
 pub struct Names<'a> {
     pub cert: &'a str,
@@ -65,7 +67,8 @@ struct Measured {
 fn measure_plan(alloc: Global, design: &Design, expr: &Expr) -> Result<Measured, NoMemory>
     requires writable { IsWritable (block_count design.now) expr.now }
     requires fits { (z : ℕ) × HasCost design.now expr.now z }
-    ensures measured { IfOk result (λ m. IsMeasured design.now expr.now m.spots.items m.size.0 m.size.1 m.wire) }
+    ensures measured { IfOk result (λ m.
+        IsMeasured design.now expr.now m.spots.items m.size.0 m.size.1 m.wire) }
     ensures one_each { IfOk result (λ m. length m.spots.items ≡ block_count design.now) }
     ensures small { IfOk result (λ m. (m.size.0 ≤ 2 ^ 20) × (m.size.1 ≤ 2 ^ 20)) }
 {
@@ -108,7 +111,8 @@ fn push_placed(
 ) -> Result<(), NoMemory>
     requires one_each { length spots.now ≡ block_count design.now }
     requires scale { IsScale names.scale }
-    ensures { IfOk result (λ done. stored_in stores.new.items ≡ stored_in stores.old.items ++ placed design.now names.entry.scale (text_of names.entry.pl) spots.now) }
+    ensures { let names = names.entry in IfOk result (λ done. stored_in stores.new.items ≡
+        stored_in stores.old.items ++ placed design.now names.scale (text_of names.pl) spots.now) }
 {
     if let Some(name) = names.pl {
         let text = pl_text(alloc, design, spots, names.scale)?;
@@ -128,7 +132,9 @@ pub fn tell_none(
 ) -> Result<Work, NoMemory>
     requires none { cert.now.plan ≡ None }
     requires decided { decided_count ≡ decided cert.now.tags }
-    ensures told { IfOk result (λ w. IsTold design.now names.entry.scale names.entry.cert.now (text_of names.entry.pl) said cert.now None (stored_in w.stores.items) w.text.items) }
+    ensures told { let names = names.entry in IfOk result (λ w.
+        IsTold design.now names.scale names.cert.now (text_of names.pl) said cert.now None
+        (stored_in w.stores.items) w.text.items) }
     ensures status { IfOk result (λ w. w.status ≡ status_of said) }
 {
     let report = Report {
@@ -164,7 +170,9 @@ pub fn tell_plan(
     requires blocks { cert.now.blocks ≡ block_count design.now }
     requires decided { decided_count ≡ decided cert.now.tags }
     requires scale { IsScale names.scale }
-    ensures told { IfOk result (λ w. IsTold design.now names.entry.scale names.entry.cert.now (text_of names.entry.pl) said cert.now (Some expr) (stored_in w.stores.items) w.text.items) }
+    ensures told { let names = names.entry in IfOk result (λ w.
+        IsTold design.now names.scale names.cert.now (text_of names.pl) said cert.now (Some expr)
+        (stored_in w.stores.items) w.text.items) }
     ensures status { IfOk result (λ w. w.status ≡ status_of said) }
 {
     let measured = measure_plan(alloc, design, &expr)?;

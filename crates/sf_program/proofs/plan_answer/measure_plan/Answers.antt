@@ -4,7 +4,7 @@ use Rattle.sf_model.specs.Tree.{tree_of}
 use Rattle.sf_place.specs.Verdict.{AreLegal}
 use Rattle.sf_checker.proofs.Plans.{once, leaves-few, has-sides}
 use Rattle.sf_program.proofs.Fitting.{its-legal, its-fits}
-use Rattle.sf_program.proofs.telling.measure_plan.Goals as goal
+use Rattle.sf_program.proofs.plan_answer.measure_plan.Goals as goal
 
 pub spots-requires : goal.spots-requires
 spots-requires c =

@@ -4,7 +4,7 @@ use Rattle.std.specs.List.{range_with_len}
 use Rattle.sf_place.specs.Spots.{HasNearCorner}
 use Rattle.sf_program.specs.Measured.{spots_said}
 use Rattle.sf_program.proofs.Placing.{after}
-use Rattle.sf_program.proofs.spotting.place_blocks.Given as goal
+use Rattle.sf_program.proofs.placed_lines.place_blocks.Given as goal
 
 abbrev pub invariant-loop-number : goal.invariant-loop-number
 invariant-loop-number l = record {

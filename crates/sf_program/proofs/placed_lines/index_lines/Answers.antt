@@ -3,10 +3,10 @@ use Rattle.std.specs.Prelude.{is_some}
 use Rattle.std.specs.BTreeMap.{get_by}
 use Rattle.std.specs.Cmp.Lexicographic.{slice_cmp}
 use Rattle.std.specs.Ordering.{nat_cmp}
-use Rattle.sf_program.specs.declared.spotting.Lines.TheVariants.{One, More}
+use Rattle.sf_program.specs.declared.placed_lines.Lines.TheVariants.{One, More}
 use Rattle.sf_program.proofs.Placing.{indexed_before, says_more, says_one}
-use Rattle.sf_program.proofs.spotting.index_lines.Goals as goal
-use Rattle.sf_program.proofs.spotting.index_lines.Goals.{then-contains_key, else-contains_key}
+use Rattle.sf_program.proofs.placed_lines.index_lines.Goals as goal
+use Rattle.sf_program.proofs.placed_lines.index_lines.Goals.{then-contains_key, else-contains_key}
 
 pub loop-i-preserved : goal.loop-i-preserved
 loop-i-preserved c =

@@ -1,10 +1,10 @@
 //! From parts to a design.
 
-ghost use Rattle.std.specs.Prelude.{◌≡◌, ◌≢◌, ℕ, IfErr, IfOk, None};
+ghost use Rattle.std.specs.Prelude.{◌≡◌, IfErr, IfOk, None};
 ghost use Rattle.sf_model.specs.Admitted.{HasPinsInRange, HasSizes, IsAdmitted};
 ghost use Rattle.sf_model.specs.Built.{HasShapeChoices, shapeless};
 ghost use Rattle.sf_words.specs.Seen.{design_seen, weights_seen};
-ghost use Rattle.sf_program.specs.Loads.{IsRead, TellsLoads};
+ghost use Rattle.sf_program.specs.Loads.{Reads, TellsLoads, TellsNoLoad};
 ghost use Rattle.sf_program.specs.Outcome.{Ends};
 ghost use Rattle.sf_program.specs.Reading.{Admitted, Built, DesignMade, DesignRead, ListsMade, PartsAdmitted};
 ghost use Rattle.sf_program.specs.Weighed.{weighed_in};
@@ -23,7 +23,7 @@ use std::alloc::Global;
 pub fn admit(alloc: Global, read: Weighed) -> Result<Weighed, Stop>
     requires pins { HasPinsInRange read.parts }
     ensures admitted { Ends weighed_in result (Admitted (weighed_in read)) }
-    ensures tells { (loads loads_then : ℕ) → IfErr result (TellsLoads loads loads_then) }
+    ensures tells { TellsNoLoad result }
 {
     match read.parts.admit(alloc) {
         Ok(()) => Ok(read),
@@ -39,12 +39,13 @@ pub fn read_admitted<S: Shelf>(
     words: &DesignWords<'_>,
     weights: WeightWords<'_>,
 ) -> Result<Weighed, Stop>
-    ensures parts { Ends weighed_in result (PartsAdmitted (S.holds shelf.old) (design_seen words.now) (weights_seen weights.entry)) }
+    ensures parts { Ends weighed_in result
+        (PartsAdmitted (S.seen shelf.old).holds (design_seen words.now) (weights_seen weights.entry)) }
     ensures admitted { IfOk result (λ read. IsAdmitted read.parts) }
     ensures pins { IfOk result (λ read. HasPinsInRange read.parts) }
     ensures sizes { IfOk result (λ read. HasSizes read.parts) }
-    ensures read { IsRead (S.holds shelf.old) (S.holds shelf.new) (S.load_faults shelf.old) (S.load_faults shelf.new) (S.store_faults shelf.old) (S.store_faults shelf.new) }
-    ensures tells { IfErr result (TellsLoads (S.load_faults shelf.old) (S.load_faults shelf.new)) }
+    ensures read { Reads (S.seen shelf.old) (S.seen shelf.new) }
+    ensures tells { IfErr result (TellsLoads (S.seen shelf.old) (S.seen shelf.new)) }
 {
     let read = read_parts(
         alloc,
@@ -62,7 +63,7 @@ fn make_lists(alloc: Global, words: &DesignWords<'_>, parts: &Parts) -> Result<V
     ensures lists { Ends (λ v. v.items) result (ListsMade (design_seen words.now) parts.now) }
     ensures choices { IfOk result (λ v. HasShapeChoices parts.now.blocks v.items) }
     ensures shaped { IfOk result (λ v. shapeless parts.now.blocks v.items ≡ None) }
-    ensures tells { (loads loads_then : ℕ) → IfErr result (TellsLoads loads loads_then) }
+    ensures tells { TellsNoLoad result }
 {
     match lists(alloc, parts, words.shapes, words.is_fixed) {
         Ok(lists) => Ok(lists),
@@ -82,8 +83,9 @@ fn build(
     requires pins { HasPinsInRange read.parts }
     requires choices { HasShapeChoices read.parts.blocks lists.items }
     requires shaped { shapeless read.parts.blocks lists.items ≡ None }
-    ensures design { Ends (λ x. x) result (Built (design_seen words.now) (weights_seen weights.entry) (weighed_in read) lists.items) }
-    ensures tells { (loads loads_then : ℕ) → IfErr result (TellsLoads loads loads_then) }
+    ensures design { Ends (λ x. x) result
+        (Built (design_seen words.now) (weights_seen weights.entry) (weighed_in read) lists.items) }
+    ensures tells { TellsNoLoad result }
 {
     let outline = Outline {
         w: words.width,
@@ -111,8 +113,9 @@ pub fn make_design(
     requires admitted { IsAdmitted read.parts }
     requires pins { HasPinsInRange read.parts }
     requires sizes { HasSizes read.parts }
-    ensures design { Ends (λ x. x) result (DesignMade (design_seen words.now) (weights_seen weights.entry) (weighed_in read)) }
-    ensures tells { (loads loads_then : ℕ) → IfErr result (TellsLoads loads loads_then) }
+    ensures design { Ends (λ x. x) result
+        (DesignMade (design_seen words.now) (weights_seen weights.entry) (weighed_in read)) }
+    ensures tells { TellsNoLoad result }
 {
     match make_lists(alloc, words, &read.parts) {
         Ok(lists) => build(alloc, words, weights, read, lists),
@@ -127,9 +130,10 @@ pub fn read_design<S: Shelf>(
     words: &DesignWords<'_>,
     weights: WeightWords<'_>,
 ) -> Result<Design, Stop>
-    ensures design { Ends (λ x. x) result (DesignRead (S.holds shelf.old) (design_seen words.now) (weights_seen weights.entry)) }
-    ensures read { IsRead (S.holds shelf.old) (S.holds shelf.new) (S.load_faults shelf.old) (S.load_faults shelf.new) (S.store_faults shelf.old) (S.store_faults shelf.new) }
-    ensures tells { IfErr result (TellsLoads (S.load_faults shelf.old) (S.load_faults shelf.new)) }
+    ensures design { Ends (λ x. x) result
+        (DesignRead (S.seen shelf.old).holds (design_seen words.now) (weights_seen weights.entry)) }
+    ensures read { Reads (S.seen shelf.old) (S.seen shelf.new) }
+    ensures tells { IfErr result (TellsLoads (S.seen shelf.old) (S.seen shelf.new)) }
 {
     let read = read_admitted(alloc, shelf, words, weights)?;
     make_design(alloc, words, weights, read)

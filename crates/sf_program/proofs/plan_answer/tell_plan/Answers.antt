@@ -1,5 +1,5 @@
 use Rattle.std.proofs.Common.{◌*◌, ◌≤◌, ◌^◌, ℕ, ap, ◌∙◌, length, arith}
-use Rattle.sf_program.proofs.telling.tell_plan.Goals as goal
+use Rattle.sf_program.proofs.plan_answer.tell_plan.Goals as goal
 
 pub push_placed-requires-clause-one_each : goal.push_placed-requires-clause-one_each
 push_placed-requires-clause-one_each c = ap length c.deref.ensures.value ∙ c.in_ok-measured.ensures.one_each

@@ -1,14 +1,14 @@
 use Rattle.std.proofs.Common.{◌≡◌, ◌<◌, ◌∷◌, [], List, length, Some, None, Err, ap, sym, subst, ◌∙◌, rules, codes}
 use Rattle.sf_model.specs.declared.plan.Spot.{Spot}
 use Rattle.sf_gsrc.specs.declared.output.Place.{Place}
-use Rattle.sf_program.specs.declared.spotting.Lines.TheVariants.{One, More}
+use Rattle.sf_program.specs.declared.placed_lines.Lines.TheVariants.{One, More}
 use Rattle.sf_program.specs.Measured.{lines_named, spot_said}
 use Rattle.sf_program.specs.Outcome.{Ends}
 use Rattle.sf_program.specs.PlacedLines.{LinesAre, IsOnly, IsNear}
 use Rattle.sf_program.specs.Refusals.{design_fault}
 use Rattle.sf_program.proofs.Placing.{named_lines}
 use Rattle.sf_program.proofs.Stages.{refused-stops}
-use Rattle.sf_program.proofs.spotting.spot_of.Goals as goal
+use Rattle.sf_program.proofs.placed_lines.spot_of.Goals as goal
 
 pub bounds-lines-line : goal.bounds-lines-line
 bounds-lines-line c =

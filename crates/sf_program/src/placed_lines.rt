@@ -1,8 +1,8 @@
 //! From the lines of a placed file to one spot for each block.
 
-ghost use Rattle.std.specs.Prelude.{◌≡◌, ◌≤◌, ℕ, length, min, All, IfErr, IfOk};
+ghost use Rattle.std.specs.Prelude.{◌≡◌, ◌≤◌, length, min, All, IfOk};
 ghost use Rattle.sf_place.specs.Spots.{HasNearCorner, IsByNumber};
-ghost use Rattle.sf_program.specs.Loads.{TellsLoads};
+ghost use Rattle.sf_program.specs.Loads.{TellsNoLoad};
 ghost use Rattle.sf_program.specs.Measured.{lines_named, side_in_spot, sized_spot, spot_said, spots_said};
 ghost use Rattle.sf_program.specs.Outcome.{Ends};
 ghost use Rattle.sf_program.specs.PlacedLines.{IsIndex, IsNear};
@@ -53,7 +53,7 @@ fn sized_spot(alloc: Global, block: u16, name: &Name, line: &Place) -> Result<Sp
     ensures spot { Ends (λ s. s) result (λ r. r ≡ sized_spot block name.now line.now line.now.size) }
     ensures near { IfOk result HasNearCorner }
     ensures block { IfOk result (λ s. s.block ≡ block) }
-    ensures tells { (loads loads_then : ℕ) → IfErr result (TellsLoads loads loads_then) }
+    ensures tells { TellsNoLoad result }
 {
     match line.size {
         None => Err(named_fault(alloc, "MissingPlace", name)?),
@@ -80,7 +80,7 @@ fn spot_of(
     ensures spot { Ends (λ s. s) result (λ r. r ≡ spot_said block name.now (lines_named name.now lines.now)) }
     ensures near { IfOk result HasNearCorner }
     ensures block { IfOk result (λ s. s.block ≡ block) }
-    ensures tells { (loads loads_then : ℕ) → IfErr result (TellsLoads loads loads_then) }
+    ensures tells { TellsNoLoad result }
 {
     match index.get(name.as_bytes()).copied() {
         None => Err(named_fault(alloc, "MissingPlace", name)?),
@@ -97,7 +97,7 @@ pub fn place_blocks(alloc: Global, blocks: &[Block], lines: &[Place]) -> Result<
     ensures one_each { IfOk result (λ v. length v.items ≡ length blocks.now) }
     ensures by_number { IfOk result (λ v. IsByNumber v.items) }
     ensures near { IfOk result (λ v. All HasNearCorner v.items) }
-    ensures tells { (loads loads_then : ℕ) → IfErr result (TellsLoads loads loads_then) }
+    ensures tells { TellsNoLoad result }
 {
     let index = index_lines(alloc, lines)?;
     let mut spots = Vec::new(alloc);

@@ -1,7 +1,7 @@
 use Rattle.std.proofs.Common.{arith}
 use Rattle.std.proofs.lemmas.Result.{err_from_is_err_and}
 use Rattle.sf_program.proofs.Placing.{one_spot_more, numbered_more, near_more}
-use Rattle.sf_program.proofs.spotting.place_blocks.Goals as goal
+use Rattle.sf_program.proofs.placed_lines.place_blocks.Goals as goal
 
 pub loop-number-preserved : goal.loop-number-preserved
 loop-number-preserved c =
@@ -17,7 +17,7 @@ loop-number-preserved c =
     }
 
 pub returns-in_err-spot-clause-tells : goal.returns-in_err-spot-clause-tells
-returns-in_err-spot-clause-tells c = λ loads loads_then.
-    let t = c.in_err-spot.ensures.tells loads loads_then in
+returns-in_err-spot-clause-tells c = λ before after.
+    let t = c.in_err-spot.ensures.tells before after in
     let p = err_from_is_err_and c.from_residual-in_err-spot.result c.from_residual-in_err-spot.ensures.1 in
     rw (p.1, p.2) t
