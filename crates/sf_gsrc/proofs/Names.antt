@@ -1,14 +1,10 @@
--- Names in ordered maps and sets.
-use Rattle.std.proofs.Common.{◌≡◌, ℕ, suc, ◌+◌, ◌<◌, Bool, true, false, cond, List, [], ◌∷◌, ◌++◌, length, map, take, drop, get_or, Option, Some, refl, sym, ap, ◌∙◌, add-one, ℤ, Ordering}
+-- Names in maps.
+use Rattle.std.proofs.Common.{◌≡◌, ℕ, suc, ◌+◌, ◌<◌, Bool, true, false, cond, List, [], ◌∷◌, ◌++◌, length, map, take, drop, get_or, Option, Some, None, refl, sym, ap, ◌∙◌, add-one, ℤ}
 use Rattle.std.specs.Prelude.{is_some, ◌||◌, not, filter}
 use Rattle.std.specs.List.{list_any}
 use Rattle.std.specs.Str.{bytes_eq}
-use Rattle.std.specs.BTreeMap as tree
-use Rattle.std.specs.BTreeSet as sorted
-use Rattle.std.specs.Cmp.Lexicographic.{slice_cmp}
-use Rattle.std.specs.Ordering.{nat_cmp}
-use Rattle.std.specs.Borrow.{Bor}
-use Rattle.std.proofs.lemmas.Map.Text.{btree_map_updates_str, is_eq-slice_cmp}
+use Rattle.std.specs.Map.{update}
+use Rattle.sf_names.specs.Values.{value_in}
 use Rattle.std.proofs.Math.Seq.{drop-cons}
 use Rattle.std.proofs.lemmas.List.Folds.{list_any_more}
 use Rattle.sf_gsrc.specs.declared.output.Place.{Place}
@@ -19,20 +15,16 @@ use Rattle.sf_model.specs.declared.raw.RawPad.{RawPad}
 use Rattle.sf_gsrc.specs.Join.{names_of, has_name, place_of, pads_at, is_known, strangers_of}
 use Rattle.sf_gsrc.specs.ByName.{first_again, PlacesByName, IsNameSet}
 
-abbrev pub names_cmp : Bor (List ℕ) → Bor (List ℕ) → Ordering
-names_cmp x y = slice_cmp nat_cmp x.now y.now
-
 -- ---- places, from the last to the first
 
 cut : (places : List Place) (i : ℕ) (p : Place) → i < length places → p ≡ get_or places i p → drop i places ≡ p ∷ drop (i + 1) places
 cut places i p lt is = drop-cons places i p lt ∙ ap (λ (q : Place). q ∷ drop (suc i) places) (sym is) ∙ ap (λ (n : ℕ). p ∷ drop n places) (sym (add-one i))
 
 -- one place more, before the others
-pub placed_before : (places : List Place) (i j : ℕ) (p : Place) (key : List ℕ) (at : ℤ × ℤ) (m n : tree.BTreeMap (Bor (List ℕ)) (ℤ × ℤ)) → i < length places → j ≡ i + 1 → p ≡ get_or places i p → key ≡ p.name → at ≡ (p.x, p.y)
-    → tree.UpdatesBy names_cmp (λ k. slice_cmp nat_cmp key k.now) m n (Some at) → PlacesByName m (drop j places) → PlacesByName n (drop i places)
+pub placed_before : (places : List Place) (i j : ℕ) (p : Place) (key : List ℕ) (at : ℤ × ℤ) (m n : List (List ℕ × (ℤ × ℤ))) → i < length places → j ≡ i + 1 → p ≡ get_or places i p → key ≡ p.name → at ≡ (p.x, p.y)
+    → ((other : List ℕ) → value_in n other ≡ update bytes_eq (value_in m) key (Some at) other) → PlacesByName m (drop j places) → PlacesByName n (drop i places)
 placed_before places i j p key at m n lt next is named there updates known name =
-    let found = btree_map_updates_str key m n (Some at) updates name in
-    rw (cut places i p lt is) (found ∙ rw (known name, next, named, there) refl)
+    rw (cut places i p lt is) (updates name ∙ rw (known name, next, named, there) refl)
 
 has_place_step : (p : Place) (places : List Place) (name : List ℕ) (b : Bool) → bytes_eq p.name name ≡ b → is_some (place_of places name) ≡ has_name (names_of places) name → is_some (place_of (p ∷ places) name) ≡ has_name (names_of (p ∷ places)) name
 has_place_step p places name true e h = rw e refl
@@ -59,22 +51,21 @@ twice_later places i j p later twice lt next is found none before =
 
 -- ---- sets of names
 
-or_is : (a b : Bool) → cond a true b ≡ (b || a)
-or_is true true = refl
-or_is true false = refl
-or_is false true = refl
-or_is false false = refl
+or_is : {X : Type 0} (a : Bool) (x : X) (o : Option X) → is_some (cond a (Some x) o) ≡ (is_some o || a)
+or_is true x (Some y) = refl
+or_is true x None = refl
+or_is false x (Some y) = refl
+or_is false x None = refl
 
--- what the set says of a name
-pub known_is : (s : sorted.BTreeSet (Bor (List ℕ))) (has : List ℕ → Bool) (key name : List ℕ) (b : Bool) → IsNameSet s has → key ≡ name → b ≡ sorted.contains_by (λ k. slice_cmp nat_cmp key k.now) s → has name ≡ b
-known_is s has key name b known is found = sym (known name) ∙ ap (λ (n : List ℕ). sorted.contains_by (λ k. slice_cmp nat_cmp n k.now) s) (sym is) ∙ sym found
+-- what the map says of a name
+pub known_is : (m : List (List ℕ × Unit {0})) (has : List ℕ → Bool) (key name : List ℕ) (b : Bool) → IsNameSet m has → key ≡ name → b ≡ is_some (value_in m key) → has name ≡ b
+known_is m has key name b known is found = sym (known name) ∙ ap (λ (n : List ℕ). is_some (value_in m n)) (sym is) ∙ sym found
 
 -- one name more
-pub one_name_more : (s n : sorted.BTreeSet (Bor (List ℕ))) (key : List ℕ) (has : List ℕ → Bool) → sorted.UpdatesBy names_cmp (λ k. slice_cmp nat_cmp key k.now) s n true → IsNameSet s has
+pub one_name_more : (m n : List (List ℕ × Unit {0})) (key : List ℕ) (has : List ℕ → Bool) → ((other : List ℕ) → value_in n other ≡ update bytes_eq (value_in m) key (Some tt) other) → IsNameSet m has
     → IsNameSet n (λ name. has name || bytes_eq key name)
-one_name_more s n key has updates known name =
-    let q : Bor (List ℕ) = record { ref_ptr = (0, 0); now = name } in
-    updates.0 q ∙ rw (is_eq-slice_cmp key name, known name) (or_is (bytes_eq key name) (has name))
+one_name_more m n key has updates known name =
+    ap is_some (updates name) ∙ or_is (bytes_eq key name) tt (value_in m name) ∙ ap (λ b. b || bytes_eq key name) (known name)
 
 has_name-map : {X : Type 0} (f : X → List ℕ) (xs : List X) (name : List ℕ) → has_name (map f xs) name ≡ list_any (λ x. bytes_eq (f x) name) xs
 has_name-map f [] name = refl

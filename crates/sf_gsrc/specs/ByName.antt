@@ -1,12 +1,8 @@
 -- What the code looks up by name.
-use Rattle.std.specs.Prelude.{◌≡◌, ℕ, ℤ, Bool, List, [], ◌∷◌, Option, Some, None, Result, Ok, Err, if◌then◌else◌}
+use Rattle.std.specs.Prelude.{◌≡◌, ℕ, ℤ, Bool, List, [], ◌∷◌, Option, Some, None, Result, Ok, Err, if◌then◌else◌, is_some}
 use Rattle.std.specs.Option.{option_map}
 use Rattle.std.specs.Global.{Vec}
-use Rattle.std.specs.BTreeMap as tree
-use Rattle.std.specs.BTreeSet as sorted
-use Rattle.std.specs.Cmp.Lexicographic.{slice_cmp}
-use Rattle.std.specs.Ordering.{nat_cmp}
-use Rattle.std.specs.Borrow.{Bor}
+use Rattle.sf_names.specs.Values.{value_in}
 use Rattle.sf_model.specs.declared.raw.RawPad.{RawPad}
 use Rattle.sf_gsrc.specs.declared.output.Place.{Place}
 use Rattle.sf_gsrc.specs.declared.fault.JoinFault.{JoinFault}
@@ -20,12 +16,12 @@ first_again [] = None
 first_again (name ∷ names) = if has_name names name then Some name else first_again names
 
 -- the map has the place of each name
-abbrev pub PlacesByName : tree.BTreeMap (Bor (List ℕ)) (ℤ × ℤ) → List Place → Type 0
-PlacesByName m places = (name : List ℕ) → tree.get_by (λ k. slice_cmp nat_cmp name k.now) m ≡ place_of places name
+abbrev pub PlacesByName : List (List ℕ × (ℤ × ℤ)) → List Place → Type 0
+PlacesByName m places = (name : List ℕ) → value_in m name ≡ place_of places name
 
--- the set has these names alone
-abbrev pub IsNameSet : sorted.BTreeSet (Bor (List ℕ)) → (List ℕ → Bool) → Type 0
-IsNameSet s has = (name : List ℕ) → sorted.contains_by (λ k. slice_cmp nat_cmp name k.now) s ≡ has name
+-- the map has these names alone
+abbrev pub IsNameSet : List (List ℕ × Unit {0}) → (List ℕ → Bool) → Type 0
+IsNameSet m has = (name : List ℕ) → is_some (value_in m name) ≡ has name
 
 pub record IsSpots (spots : Spots) (places : List Place) : Type 0 where
   pub by_name : PlacesByName spots.by_name places

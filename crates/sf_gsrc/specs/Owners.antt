@@ -1,10 +1,8 @@
 -- Of what each name is.
 use Rattle.std.specs.Prelude.{◌≡◌, ℕ, List, Option, Some, None}
-use Rattle.std.specs.BTreeMap as tree
-use Rattle.std.specs.Cmp.Lexicographic.{slice_cmp}
 use Rattle.std.specs.List.{position_from}
-use Rattle.std.specs.Ordering.{nat_cmp}
 use Rattle.std.specs.Str.{bytes_eq}
+use Rattle.sf_names.specs.Values.{value_in}
 use Rattle.sf_gsrc.specs.declared.owners.Owner.{Owner}
 use Rattle.sf_gsrc.specs.declared.owners.Owner.TheVariants.{Block, Pad, Both}
 use Rattle.sf_gsrc.specs.declared.owners.Owners.{Owners}
@@ -18,7 +16,7 @@ owner_of None None = None
 
 -- what is found under a name
 abbrev pub owner_found : Owners → List ℕ → Option Owner
-owner_found owners name = tree.get_by (λ k. slice_cmp nat_cmp name k.now) owners.by_name
+owner_found owners name = value_in owners.by_name name
 
 -- of these blocks the first has the number i, and of these pads the first the number j
 abbrev pub AreOwnersFrom : Owners → ℕ → List (List ℕ) → ℕ → List (List ℕ) → Type 0

@@ -1,4 +1,4 @@
-//! Places, pads and blocks by their names, which are looked up in ordered maps.
+//! Places, pads and blocks by their names.
 
 ghost use Rattle.std.specs.Prelude.{◌≡◌, List, IfOk, map};
 ghost use Rattle.sf_gsrc.specs.declared.output.Place.{Place};
@@ -8,21 +8,42 @@ ghost use Rattle.sf_gsrc.specs.ByName.{IsSpots, PlacesByName, IsNameSet, GivesPa
 use crate::fault::JoinFault;
 use crate::output::Place;
 use sf_model::{Name, RawBlock, RawPad};
+use sf_names::{NameMap, TextHash};
 use std::alloc::{AllocError, Global};
-use std::collections::{BTreeMap, BTreeSet};
 
 /// Where the lines of a pl file place each name, and the first line whose name stands again.
 #[derive(Drop)]
 pub struct Spots<'a> {
-    by_name: BTreeMap<&'a [u8], (i64, i64)>,
+    by_name: NameMap<'a, (i64, i64)>,
     twice: Option<&'a Place>,
+}
+
+/// The hash of the names of a pl file.
+fn hash_places(places: &[Place]) -> TextHash {
+    let mut hash = TextHash::new(b"");
+    for place in places {
+        hash.add(place.name.as_bytes());
+    }
+    hash
+}
+
+/// The hash of the names of blocks and pads.
+pub fn hash_parts(blocks: &[RawBlock], pads: &[RawPad]) -> TextHash {
+    let mut hash = TextHash::new(b"");
+    for block in blocks {
+        hash.add(block.name.as_bytes());
+    }
+    for pad in pads {
+        hash.add(pad.name.as_bytes());
+    }
+    hash
 }
 
 /// Goes from the last line to the first, so that the first line of a name is kept.
 fn find_spots(alloc: Global, places: &[Place]) -> Result<Spots<'_>, AllocError>
     ensures { IfOk result (λ spots. IsSpots spots places.now) }
 {
-    let mut by_name = BTreeMap::new(alloc);
+    let mut by_name = NameMap::new(alloc, hash_places(places), places.len());
     let mut twice = None;
     for i in (0..places.len()).rev() {
         let place = &places[i];
@@ -38,14 +59,14 @@ fn find_spots(alloc: Global, places: &[Place]) -> Result<Spots<'_>, AllocError>
 fn at_spots(
     alloc: Global,
     pads: Vec<Name>,
-    by_name: &BTreeMap<&[u8], (i64, i64)>,
+    by_name: &NameMap<'_, (i64, i64)>,
 ) -> Result<Vec<RawPad>, AllocError>
     ensures { (places : List Place) → PlacesByName by_name.now places
         → IfOk result (λ all. all.items ≡ pads_at places pads.items) }
 {
     let mut all = Vec::new(alloc);
     for name in pads {
-        let place = by_name.get(name.as_bytes()).copied();
+        let place = by_name.get(name.as_bytes());
         all.push(RawPad { name, place })?;
     }
     Ok(all)
@@ -73,15 +94,16 @@ fn known_names<'a>(
     alloc: Global,
     blocks: &'a [RawBlock],
     pads: &'a [RawPad],
-) -> Result<BTreeSet<&'a [u8]>, AllocError>
+) -> Result<NameMap<'a, ()>, AllocError>
     ensures { IfOk result (λ known. IsNameSet known (is_known blocks.now (map (λ p. p.name) pads.now))) }
 {
-    let mut known = BTreeSet::new(alloc);
+    let most = blocks.len().saturating_add(pads.len());
+    let mut known = NameMap::new(alloc, hash_parts(blocks, pads), most);
     for block in blocks {
-        known.insert(block.name.as_bytes())?;
+        known.insert(block.name.as_bytes(), ())?;
     }
     for pad in pads {
-        known.insert(pad.name.as_bytes())?;
+        known.insert(pad.name.as_bytes(), ())?;
     }
     Ok(known)
 }
@@ -100,7 +122,7 @@ pub fn find_strangers(
     let mut strangers = Vec::new(alloc);
     for place in places {
         let Place { name, .. } = place;
-        if !known.contains(name.as_bytes()) {
+        if !known.has(name.as_bytes()) {
             strangers.push(name)?;
         }
     }

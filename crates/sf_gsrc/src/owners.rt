@@ -8,9 +8,10 @@ ghost use Rattle.sf_model.specs.declared.raw.RawPin.TheVariants.{Named};
 ghost use Rattle.sf_gsrc.specs.Join.{numbered_pin};
 ghost use Rattle.sf_gsrc.specs.Owners.{AreOwners, AreOwnersFrom, owner_of};
 
+use crate::by_name::hash_parts;
 use sf_model::{Name, RawBlock, RawPad, RawPin};
+use sf_names::NameMap;
 use std::alloc::{AllocError, Global};
-use std::collections::BTreeMap;
 
 /// Of what a name is: of a block, of a pad, or of both. Of several blocks or pads the first counts.
 #[derive(Clone, Copy, Debug, PartialEq, Eq)]
@@ -33,7 +34,7 @@ fn beside(old: Option<Owner>, pad: u32) -> Owner
 /// The owner of each name of a block or a pad.
 #[derive(Drop)]
 pub struct Owners<'a> {
-    by_name: BTreeMap<&'a [u8], Owner>,
+    by_name: NameMap<'a, Owner>,
 }
 
 impl<'a> Owners<'a> {
@@ -47,8 +48,9 @@ impl<'a> Owners<'a> {
         requires few_pads { length pads.now < 2 ^ 32 }
         ensures { IfOk result (λ owners. AreOwners owners (block_names blocks.now) (pad_names pads.now)) }
     {
+        let most = blocks.len().saturating_add(pads.len());
         let mut owners = Owners {
-            by_name: BTreeMap::new(alloc),
+            by_name: NameMap::new(alloc, hash_parts(blocks, pads), most),
         };
         owners.put_blocks(blocks)?;
         owners.put_pads(pads)?;
@@ -87,7 +89,7 @@ impl<'a> Owners<'a> {
     fn put_pad(&mut self, name: &'a Name, pad: u32) -> Result<(), AllocError>
         ensures { OnOk result ((blocks pads : List (List ℕ)) → AreOwnersFrom self.old 0 blocks (pad + 1) pads → AreOwnersFrom self.new 0 blocks pad (name.now ∷ pads)) }
     {
-        let owner = beside(self.by_name.get(name.as_bytes()).copied(), pad);
+        let owner = beside(self.by_name.get(name.as_bytes()), pad);
         self.by_name.insert(name.as_bytes(), owner)?;
         Ok(())
     }
@@ -96,7 +98,7 @@ impl<'a> Owners<'a> {
     fn number_of(&self, name: &Name) -> Option<RawPin>
         ensures { (blocks : List RawBlock) (pads : List RawPad) → AreOwners self.now (block_names blocks) (pad_names pads) → numbered_pin blocks pads (Named name.now) ≡ unwrap_or result (Named name.now) }
     {
-        match self.by_name.get(name.as_bytes()).copied() {
+        match self.by_name.get(name.as_bytes()) {
             Some(Owner::Block(block)) => Some(RawPin::Block(block)),
             Some(Owner::Pad(pad)) => Some(RawPin::Pad(pad)),
             Some(Owner::Both) => None,

@@ -2,7 +2,6 @@ pub mod Hiding
 pub mod Cutting
 pub mod VertexSteps
 pub mod Boxes
-pub mod Indexes
 pub mod Stepping
 pub mod NetSteps
 pub mod StatementSteps

@@ -11,11 +11,11 @@ use Rattle.sf_yal.specs.declared.vertices.Size.{Size}
 use Rattle.sf_yal.specs.Words.{keyword_of, is_parent_word}
 use Rattle.sf_yal.specs.Statements.{Statement}
 use Rattle.sf_yal.specs.Box.{length_read}
-use Rattle.sf_yal.specs.Names.{index_of, has_name, Once}
+use Rattle.sf_names.specs.Names.{index_of, has_name, Once}
 use Rattle.sf_yal.specs.Reading.{Reading, start, module_opened, module_closed, type_taken, parent_taken, size_taken, list_opened, list_closed, pad_taken}
 use Rattle.sf_yal.specs.Parts.{size_at}
 use Rattle.sf_yal.specs.Standing.{SaysOutside, TypeIs, SaysType, SaysInside, SaysPad, SaysTerminal, SaysInstance, OfParent, SaysInTerminals, SaysInInstances, SaysAt, Says, SayAll, Module}
-use Rattle.sf_yal.proofs.Indexes.{some_not_none}
+use Rattle.sf_names.proofs.Indexes.{some_not_none}
 use Rattle.sf_yal.proofs.NetLaws.{none_of, once_push, same_name, is_same}
 
 -- a module that is open has a name and no box yet

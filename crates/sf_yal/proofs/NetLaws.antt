@@ -8,10 +8,10 @@ use Rattle.std.proofs.lemmas.Slice.Eq.{bytes_eq-Decides}
 use Rattle.std.proofs.lemmas.Bool.Decides.{nat_tests}
 use Rattle.sf_model.specs.declared.raw.RawPin.{RawPin}
 use Rattle.sf_model.specs.declared.raw.RawPin.TheVariants as pins
-use Rattle.sf_yal.specs.Names.{index_of, has_name, Once}
+use Rattle.sf_names.specs.Names.{index_of, has_name, Once}
 use Rattle.sf_yal.specs.Parts.{with_signal, with_signals, block_pins}
 use Rattle.sf_yal.specs.Using.{is_block, is_some_block, ends_with, with_pin}
-use Rattle.sf_yal.proofs.Indexes.{push_other, none_under, some_not_none}
+use Rattle.sf_names.proofs.Indexes.{push_other, none_under, some_not_none}
 
 abbrev pub Signals : Type 0
 Signals = List (List ℕ)

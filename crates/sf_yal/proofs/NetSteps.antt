@@ -4,7 +4,7 @@ use Rattle.std.specs.Prelude.{slice_set, slice_get}
 use Rattle.std.proofs.lemmas.List.{append-nil}
 use Rattle.sf_model.specs.declared.raw.RawNet.{RawNet}
 use Rattle.sf_model.specs.declared.raw.RawPin.{RawPin}
-use Rattle.sf_yal.specs.Names.{index_of}
+use Rattle.sf_names.specs.Names.{index_of}
 use Rattle.sf_yal.specs.Using.{with_pin, with_pin_at, with_pad, with_pad_of, with_pads}
 
 pub set_pins : (n : ℕ) (nets : List RawNet) (k : ℕ) (net new : RawNet) → net ≡ get_or nets k net → new.pins ≡ with_pin n net.pins → slice_set nets k new ≡ with_pin_at n k nets

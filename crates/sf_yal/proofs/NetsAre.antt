@@ -7,7 +7,7 @@ use Rattle.std.proofs.lemmas.List.{append-nil, map-append}
 use Rattle.sf_model.specs.declared.raw.RawNet.{RawNet}
 use Rattle.sf_model.specs.declared.raw.RawPin.{RawPin}
 use Rattle.sf_model.specs.declared.raw.RawPin.TheVariants as pins
-use Rattle.sf_yal.specs.Names.{Once, index_of, has_name}
+use Rattle.sf_names.specs.Names.{Once, index_of, has_name}
 use Rattle.sf_yal.specs.Parts.{with_signal, with_signals, signals_of, block_pins, net_of, nets_of}
 use Rattle.sf_yal.specs.Using.{Uses, nothing_used, with_pin, with_pin_at, used_at, used_once, used_all, used_by, with_pads}
 use Rattle.sf_yal.proofs.NetLaws.{Signals, fold-append, apart, same_name, has_push_same, has_push_other, pin_of, pins_last, low, with_pin_by, none_cons, once_uses, absent_uses}

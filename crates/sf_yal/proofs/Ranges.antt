@@ -12,11 +12,11 @@ use Rattle.sf_model.specs.declared.raw.RawPin.{RawPin}
 use Rattle.sf_model.specs.declared.raw.RawPin.TheVariants as pins
 use Rattle.sf_model.specs.declared.raw.Parts.{Parts}
 use Rattle.sf_yal.specs.Statements.{statements_of}
-use Rattle.sf_yal.specs.Names.{index_of, has_name}
+use Rattle.sf_names.specs.Names.{index_of, has_name}
 use Rattle.sf_yal.specs.Instances.{Instance}
 use Rattle.sf_yal.specs.Parts.{block_pins, pad_pins, net_of, nets_of, signals_of}
 use Rattle.sf_yal.specs.Standing.{IsBlockOf, Module, StandsFor}
-use Rattle.sf_yal.proofs.Indexes.{index_bound}
+use Rattle.sf_names.proofs.Indexes.{index_bound}
 use Rattle.sf_yal.proofs.PadNames.{pads_named}
 
 -- ---- sizes

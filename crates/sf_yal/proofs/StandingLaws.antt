@@ -13,7 +13,7 @@ use Rattle.sf_yal.specs.Words.{keyword_of, is_parent_word}
 use Rattle.sf_yal.specs.Statements.{Statement}
 use Rattle.sf_yal.specs.Box.{◌>>=◌, length_read, number_in, dimensions_said}
 use Rattle.sf_yal.specs.Numbers.{has_form}
-use Rattle.sf_yal.specs.Names.{has_name}
+use Rattle.sf_names.specs.Names.{has_name}
 use Rattle.sf_yal.specs.Reading.{Reading, module_opened, module_closed, module_said, type_said, type_taken, parent_taken, box_said, size_taken, list_opened, list_closed, outside_said, inside_said, placed_said, pad_taken, terminal_said, instance_said, instance_taken, in_terminals_said, in_instances_said, said_at, after_words, after_statement, after_statements}
 use Rattle.sf_yal.specs.Standing.{OpensModule, SaysOutside, TypeIs, SaysType, SaysBox, SaysInside, SaysPad, SaysTerminal, SaysInstance, OfParent, SaysInTerminals, SaysInInstances, SaysAt, Says, SayAll}
 

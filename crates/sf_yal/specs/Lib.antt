@@ -5,7 +5,6 @@ pub mod Box
 pub mod Corners
 pub mod Seen
 pub mod Numbers
-pub mod Names
 pub mod Instances
 pub mod Reading
 pub mod Parts

@@ -13,7 +13,7 @@ use Rattle.sf_yal.specs.declared.found.Place.TheVariants as places
 use Rattle.sf_yal.specs.declared.vertices.Size.{Size}
 use Rattle.sf_yal.specs.Statements.{statements_of, is_ended, last_line}
 use Rattle.sf_yal.specs.Box.{◌>>=◌}
-use Rattle.sf_yal.specs.Names.{index_of, has_name}
+use Rattle.sf_names.specs.Names.{index_of, has_name}
 use Rattle.sf_yal.specs.Instances.{Instance}
 use Rattle.sf_yal.specs.Reading.{Reading, start, after_statements}
 

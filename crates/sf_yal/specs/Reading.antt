@@ -15,7 +15,7 @@ use Rattle.sf_yal.specs.Words.{keyword_of, is_parent_word}
 use Rattle.sf_yal.specs.Statements.{Statement}
 use Rattle.sf_yal.specs.Box.{◌>>=◌, length_read, number_in, dimensions_said}
 use Rattle.sf_yal.specs.Numbers.{has_form}
-use Rattle.sf_yal.specs.Names.{has_name}
+use Rattle.sf_names.specs.Names.{has_name}
 use Rattle.sf_yal.specs.Instances.{Instance, instances_in}
 
 -- What the statements so far have said. Of the module that is being read: whether its type and a list of it

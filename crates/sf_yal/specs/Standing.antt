@@ -14,7 +14,7 @@ use Rattle.sf_yal.specs.Words.{keyword_of, is_parent_word}
 use Rattle.sf_yal.specs.Statements.{Statement, statements_of, is_ended}
 use Rattle.sf_yal.specs.Box.{length_read, dimensions_said}
 use Rattle.sf_yal.specs.Numbers.{has_form}
-use Rattle.sf_yal.specs.Names.{has_name, Once}
+use Rattle.sf_names.specs.Names.{has_name, Once}
 use Rattle.sf_yal.specs.Instances.{Instance}
 use Rattle.sf_yal.specs.Reading.{Reading, start, module_opened, module_closed, type_taken, parent_taken, size_taken, list_opened, list_closed, pad_taken, instance_taken}
 use Rattle.sf_yal.specs.Parts.{nets_of}

@@ -6,7 +6,7 @@ use Rattle.sf_model.specs.declared.raw.RawPin.{RawPin}
 use Rattle.sf_model.specs.declared.raw.RawPin.TheVariants as pins
 use Rattle.sf_yal.specs.declared.instance.Instance as code
 use Rattle.sf_yal.specs.declared.nets.Used as kept
-use Rattle.sf_yal.specs.Names.{index_of}
+use Rattle.sf_names.specs.Names.{index_of}
 use Rattle.sf_yal.specs.Parts.{pad_pins}
 
 -- the signals so far, and the net of each

@@ -9,9 +9,9 @@ ghost use Rattle.sf_yal.specs.Parts.{size_at, boxed, block_of, blocks_from, unkn
 
 use crate::fault::YalFault;
 use crate::instance::Instance;
-use crate::names::Names;
 use crate::vertices::Size;
 use sf_model::{Kind, RawBlock};
+use sf_names::Names;
 use std::alloc::Global;
 
 fn size_of_module(sizes: &[Option<Size>], place: usize) -> Option<Size>

@@ -2,17 +2,17 @@
 
 ghost use Rattle.std.specs.Prelude.{◌≡◌, ◌≤◌, ◌<◌, [], ◌∷◌, length, None, OnOk};
 ghost use Rattle.sf_lex.specs.Text.{words, is_blank_byte};
-ghost use Rattle.sf_yal.specs.Names.{index_of};
+ghost use Rattle.sf_names.specs.Names.{index_of};
 ghost use Rattle.sf_yal.specs.Numbers.{has_form};
 
 use crate::fault::YalFault;
 use crate::instance::{Instance, Label};
 use crate::keyword::{Keyword, is_parent, read_keyword};
-use crate::names::{Names, TextHash};
 use crate::piece::next_word;
 use crate::vertices::{Size, number_at, read_dimensions, read_length};
 use sf_lex::NumberFault;
 use sf_model::{Name, RawPad};
+use sf_names::{Names, TextHash};
 use std::alloc::{AllocError, Global};
 
 /// Where a statement stands.
@@ -40,6 +40,12 @@ pub struct Found<'a> {
     pub instances: Vec<Instance<'a>>,
 }
 
+/// So many bytes a module takes at least when there are many: its two statements with a name of four letters.
+const MODULE_LEN: usize = 22;
+
+/// So many a terminal that is a pad takes.
+const PAD_LEN: usize = 11;
+
 fn is_number(read: Result<i64, NumberFault>) -> bool
     ensures { result ≡ has_form read }
 {
@@ -49,19 +55,21 @@ fn is_number(read: Result<i64, NumberFault>) -> bool
 impl<'a> Found<'a> {
     ghost use Rattle.sf_yal.specs.Reading.{reading_in, Keeps, start, module_said, type_said, box_said, list_opened, list_closed, outside_said, inside_said, terminal_said, placed_said, instance_said, in_terminals_said, in_instances_said, after_words, module_closed, pad_taken};
 
-    pub fn new(alloc: Global, hash: TextHash) -> Found<'a>
+    /// Nothing yet of this text.
+    pub fn new(alloc: Global, text: &[u8]) -> Found<'a>
         ensures { reading_in result ≡ start }
     {
+        let hash = TextHash::new(text);
         Found {
             place: Place::Outside,
             typed: false,
             in_parent: false,
             listed: false,
             size: None,
-            names: Names::new(alloc, hash),
+            names: Names::new(alloc, hash, text.len() / MODULE_LEN),
             sizes: Vec::new(alloc),
             parent: None,
-            pad_names: Names::new(alloc, hash),
+            pad_names: Names::new(alloc, hash, text.len() / PAD_LEN),
             pads: Vec::new(alloc),
             instances: Vec::new(alloc),
         }

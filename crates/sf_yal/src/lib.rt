@@ -17,7 +17,6 @@ mod found;
 mod instance;
 mod keyword;
 mod laws;
-mod names;
 mod nets;
 mod piece;
 mod read;

@@ -2,23 +2,36 @@
 
 ghost use Rattle.std.specs.Prelude.{◌≡◌, ◌∷◌, ◌++◌, [], None, IfOk, OnOk, slice_get};
 ghost use Rattle.sf_lex.specs.Text.{words, is_blank_byte};
-ghost use Rattle.sf_yal.specs.Names.{index_of, bytes_of};
+ghost use Rattle.sf_names.specs.Names.{index_of, bytes_of};
 ghost use Rattle.sf_yal.specs.Parts.{nets_of};
 ghost use Rattle.sf_model.specs.declared.raw.RawPin.TheVariants.{Block};
 ghost use Rattle.sf_yal.specs.Using.{signals_in, net_opened, used_in, used_once, used_all, used_by, with_pin, with_pin_at, with_pad_of, with_pads, ends_with, nothing_used};
 
 use crate::instance::Instance;
-use crate::names::{Names, TextHash, number_at};
 use crate::piece::next_word;
 use sf_model::{RawNet, RawNetList, RawPin, RawPins};
+use sf_names::{Names, TextHash};
 use std::alloc::{AllocError, Global};
 use std::mem;
+
+/// So many bytes a signal takes at least when there are many: four letters and a blank.
+const SIGNAL_LEN: usize = 5;
 
 /// The signals so far, and the net of each.
 #[derive(Drop)]
 struct Used<'a> {
     signals: Names<'a>,
     nets: Vec<RawNet>,
+}
+
+/// The number of an item of a list. No list has room for more items than there are numbers.
+fn number_of(place: usize) -> Result<u32, AllocError>
+    ensures { IfOk result (λ n. n ≡ place) }
+{
+    match u32::try_from(place) {
+        Ok(number) => Ok(number),
+        Err(_) => Err(AllocError),
+    }
 }
 
 fn is_last(pins: &[RawPin], instance: u32) -> bool
@@ -109,6 +122,15 @@ impl<'a> Used<'a> {
     }
 }
 
+/// About how many distinct signals the instances may name.
+fn signals_expected(instances: &[Instance]) -> usize {
+    let mut bytes: usize = 0;
+    for instance in instances {
+        bytes = bytes.saturating_add(instance.signals.len());
+    }
+    bytes / SIGNAL_LEN
+}
+
 fn use_instances<'a>(
     alloc: Global,
     instances: &[Instance<'a>],
@@ -117,11 +139,11 @@ fn use_instances<'a>(
     ensures { IfOk result (λ used. used_in used ≡ used_by 0 nothing_used (signals_in instances.now)) }
 {
     let mut used = Used {
-        signals: Names::new(alloc, hash),
+        signals: Names::new(alloc, hash, signals_expected(instances)),
         nets: Vec::new(alloc),
     };
     for (place, instance) in instances.iter().enumerate() {
-        used.use_signals(alloc, instance.signals, number_at(place)?)?;
+        used.use_signals(alloc, instance.signals, number_of(place)?)?;
     }
     Ok(used)
 }
@@ -140,7 +162,7 @@ fn add_pad(
         return Ok(());
     };
     match pad_names.place_of(signal) {
-        Some(pad) => push_pin(alloc, net, RawPin::Pad(number_at(pad)?)),
+        Some(pad) => push_pin(alloc, net, RawPin::Pad(number_of(pad)?)),
         None => Ok(()),
     }
 }

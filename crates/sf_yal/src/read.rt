@@ -11,7 +11,6 @@ use crate::blocks::read_instances;
 use crate::comments::hide_comments;
 use crate::fault::YalFault;
 use crate::found::{Found, Place};
-use crate::names::TextHash;
 use crate::nets::read_nets;
 use crate::piece::{first_line, last_line_of, line_feeds, next_piece, next_word};
 use sf_model::{NameList, Parts, RawBlockList, RawPadList};
@@ -28,7 +27,7 @@ fn read_statements<'a>(
     requires size { length text.now ≤ 67_108_864 }
     ensures { ReadsAll result (after_statements scale start (statements 1 (pieces text.entry.now))) (last_piece (pieces text.entry.now)) }
 {
-    let mut found = Found::new(alloc, TextHash::new(text));
+    let mut found = Found::new(alloc, text);
     let mut rest = text;
     let mut line = 1;
     while let Some((piece, after)) = next_piece(rest) {

@@ -3,7 +3,7 @@ use Rattle.std.specs.Prelude.{slice_get}
 use Rattle.std.specs.Option.{option_map}
 use Rattle.std.proofs.lemmas.Option.{slice_get-map, slice_get_read}
 use denote.Ref.{Bor}
-use Rattle.sf_yal.specs.Names.{bytes_of, index_of}
+use Rattle.sf_names.specs.Names.{bytes_of, index_of}
 use Rattle.sf_yal.proofs.NetSteps.{no_pad}
 use Rattle.sf_yal.proofs.nets.add_pad.Goals as goal
 

@@ -1,11 +1,10 @@
 use Rattle.std.proofs.Common.{◌∙◌}
-use Rattle.std.proofs.lemmas.Map.Text.{btree_map_updates_str}
 use Rattle.sf_gsrc.specs.Owners.{owner_found}
 use Rattle.sf_gsrc.proofs.OwnerSteps.{pad_put}
 use Rattle.sf_gsrc.proofs.owners.Owners.put_pad.Goals as goal
 
 pub returns : goal.returns
 returns c = λ blocks pads is.
-    let sets = rw c.as_bytes-2.ensures.value at (btree_map_updates_str c.as_bytes-2.result.now c.args.self.now.by_name c.insert.new.self _ c.in_ok-insert.ensures.updates) in
-    let old = rw c.as_bytes.ensures.value at (c.copied.ensures ∙ c.get.ensures.value) in
+    let sets = rw c.as_bytes-2.ensures.value at c.in_ok-insert.ensures.updates in
+    let old = rw c.as_bytes.ensures.value at c.get.ensures in
     pad_put (owner_found c.args.self.now) _ c.args.name.now c.beside-owner.result c.args.pad blocks pads sets is (λ block other e. c.beside-owner.ensures block other (old ∙ e))

@@ -1,7 +1,7 @@
 use Rattle.std.proofs.Common.{◌≡◌, sym, ap, ◌∙◌}
-use Rattle.sf_yal.specs.Names.{bytes_of, index_of, noted}
-use Rattle.sf_yal.proofs.Indexes.{new_index, old_index, keys_noted}
-use Rattle.sf_yal.proofs.names.Names.note.Goals as goal
+use Rattle.sf_names.specs.Names.{bytes_of, index_of, noted}
+use Rattle.sf_names.proofs.Indexes.{new_index, old_index, keys_noted}
+use Rattle.sf_names.proofs.names.Names.note.Goals as goal
 
 pub returns-then-added-clause-place : goal.returns-then-added-clause-place
 returns-then-added-clause-place c =

@@ -7,8 +7,17 @@ use Rattle.std.specs.Str.{bytes_eq}
 use Rattle.std.proofs.lemmas.List.{map-append}
 use Rattle.std.proofs.lemmas.Bool.Decides.{Decides-ltb}
 use denote.Ref.{Bor}
-use Rattle.sf_model.proofs.Tables.{bytes_eq_sym}
-use Rattle.sf_yal.specs.Names.{index_of, bytes_of, noted}
+use Rattle.std.proofs.lemmas.Slice.Eq.{bytes_eq-Decides}
+use Rattle.sf_names.specs.Names.{index_of, bytes_of, noted}
+
+by_decides : (xs ys : List ℕ) (a b : Bool) → bytes_eq xs ys ≡ a → bytes_eq ys xs ≡ b → a ≡ b
+by_decides xs ys true true e f = refl
+by_decides xs ys false false e f = refl
+by_decides xs ys true false e f = sym ((bytes_eq-Decides ys xs).1 (sym ((bytes_eq-Decides xs ys).0 e))) ∙ f
+by_decides xs ys false true e f = sym e ∙ (bytes_eq-Decides xs ys).1 (sym ((bytes_eq-Decides ys xs).0 f))
+
+bytes_eq_sym : (xs ys : List ℕ) → bytes_eq xs ys ≡ bytes_eq ys xs
+bytes_eq_sym xs ys = by_decides xs ys (bytes_eq xs ys) (bytes_eq ys xs) refl refl
 
 pub none_under : (o : Option ℕ) → option_map suc o ≡ None → o ≡ None
 none_under None e = refl
