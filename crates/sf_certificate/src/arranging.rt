@@ -6,6 +6,7 @@ use crate::comparing::{compare_steps, rank};
 use crate::mark::Mark;
 use sf_node::Step;
 use std::alloc::{AllocError as NoMemory, Global};
+use std::cmp::Ordering;
 
 /// How many steps above a subproblem are looked at.
 const NEAR: usize = 8;
@@ -18,14 +19,42 @@ struct Stretch<'a> {
     to: usize,
 }
 
-/// Brings the marks of one subtree together, and the subtrees into order. They come in reverse: the last one was logged
-/// first. Whether a mark goes on from the one before it is told by a few steps, so a rare one may stand wrong.
+/// Brings the marks of one subtree together, and the subtrees into order. They come as they were logged, or in reverse.
+/// Whether a mark goes on from the one before it is told by a few steps, so a rare one may stand wrong.
 pub fn arrange(alloc: Global, marks: &mut Vec<Mark>) -> Result<(), NoMemory>
+    ensures { IsPermutation marks.old.items marks.new.items }
+{
+    face_back(marks);
+    put_in_place(alloc, marks)?;
+    Ok(())
+}
+
+/// The same where the last one was logged first.
+fn put_in_place(alloc: Global, marks: &mut Vec<Mark>) -> Result<(), NoMemory>
     ensures { IsPermutation marks.old.items marks.new.items }
 {
     let mut places = places(alloc, marks)?;
     move_all(marks, &mut places);
     Ok(())
+}
+
+/// Turns the marks where they come as they were logged.
+fn face_back(marks: &mut Vec<Mark>)
+    ensures { IsPermutation marks.old.items marks.new.items }
+{
+    if are_forward(marks) {
+        marks.reverse();
+    }
+}
+
+/// Whether the first mark comes before the last one.
+fn are_forward(marks: &[Mark]) -> bool {
+    match (marks.first(), marks.last()) {
+        (Some(first), Some(last)) => {
+            compare_steps(first.node.steps(), last.node.steps()) == Ordering::Less
+        }
+        _ => false,
+    }
 }
 
 /// Where each mark goes so that the stretches stand in order.

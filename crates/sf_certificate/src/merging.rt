@@ -38,14 +38,14 @@ fn tag_of(kind: Kind) -> Tag
     }
 }
 
-/// The entries and the open tasks with their tags, in reverse. The entries' list gives its room back as it goes, so that
-/// the two lists are never there whole at once.
-fn given_marks(
+/// The entries and the open tasks with their tags, the last entry first. The entries' list gives its room back as it goes,
+/// so that the two lists are never there whole at once.
+pub fn given_marks(
     alloc: Global,
     mut entries: Vec<Entry>,
     left: Vec<Task>,
 ) -> Result<Vec<Mark>, NoMemory>
-    ensures { IfOk result (λ marks. marks.items ≡ given_marks [] left.items ++ given_marks (reverse entries.items) []) }
+    ensures all { IfOk result (λ marks. IsPermutation (given_marks entries.items left.items) marks.items) }
 {
     let mut marks = Vec::with_capacity(alloc, entries.len().saturating_add(left.len()))?;
     for task in left {
@@ -67,7 +67,7 @@ fn given_marks(
 }
 
 /// Puts the marks into preorder. Once they are arranged, one comparison for each mostly shows that they are.
-fn sort_marks(alloc: Global, marks: &mut Vec<Mark>) -> Result<(), NoMemory>
+pub fn sort_marks(alloc: Global, marks: &mut Vec<Mark>) -> Result<(), NoMemory>
     ensures moved { IsPermutation marks.old.items marks.new.items }
     ensures sorted { OnOk result (IsSortedBy (λ a b. is_lt (steps_cmp a.node.steps b.node.steps)) marks.new.items) }
 {
@@ -87,8 +87,8 @@ fn tags_of(alloc: Global, marks: &[Mark]) -> Result<Vec<Tag>, NoMemory>
 }
 
 /// The least of the cost and the bounds of the tasks.
-fn least_bound(cost: u64, left: &[Task]) -> u64
-    ensures { result ≡ least cost (map (λ t. t.bound) left.now) }
+pub fn least_bound(cost: u64, left: &[Task]) -> u64
+    ensures least { result ≡ least cost (map (λ t. t.bound) left.now) }
 {
     let mut bound = cost;
     for task in left {
