@@ -157,14 +157,14 @@ module _ (design : Design) (bound : Parts → ℕ) where
   search-tasks xs entries value best h = subst (All (IsTask design bound)) (append-nil xs) h.core.valued
 
   -- what a round leaves is added to what it was not handed
-  pub absorbed : (given : List Task) (quotas : List ℕ) (out : RoundOut) (mid new : Progress) → IsAbsorbed out mid new → IsSearch design bound (given ++ mid.open_tasks) mid.entries.items mid.value mid.best → IsRound design bound given quotas mid.value out
-      → IsSearch design bound new.open_tasks new.entries.items new.value new.best
+  pub absorbed : (given : List Task) (quotas : List ℕ) (out : RoundOut) (mid new : Progress) → IsAbsorbed out mid new → IsSearch design bound (given ++ mid.open_tasks) mid.entries mid.value mid.best → IsRound design bound given quotas mid.value out
+      → IsSearch design bound new.open_tasks new.entries new.value new.best
   absorbed given quotas out mid new a h d =
-      let s = searches-on given mid.open_tasks mid.entries.items mid.value mid.best quotas out h d in
-      search-permuted (mid.open_tasks ++ out.left) new.open_tasks new.entries.items new.value new.best a.tasks
+      let s = searches-on given mid.open_tasks mid.entries mid.value mid.best quotas out h d in
+      search-permuted (mid.open_tasks ++ out.left) new.open_tasks new.entries new.value new.best a.tasks
       (subst (λ es. IsSearch design bound (mid.open_tasks ++ out.left) es new.value new.best) (sym a.entries)
-      (subst (λ v. IsSearch design bound (mid.open_tasks ++ out.left) (mid.entries.items ++ out.entries) v new.best) (sym a.value)
-      (subst (λ b. IsSearch design bound (mid.open_tasks ++ out.left) (mid.entries.items ++ out.entries) out.value b) (sym a.best) s)))
+      (subst (λ v. IsSearch design bound (mid.open_tasks ++ out.left) (mid.entries ++ out.entries) v new.best) (sym a.value)
+      (subst (λ b. IsSearch design bound (mid.open_tasks ++ out.left) (mid.entries ++ out.entries) out.value b) (sym a.best) s)))
 
   -- a round of one decision has one entry
   pub one-entry : (task : Task) (value : ℕ) (r : RoundOut) → IsRound design bound (task ∷ []) (1 ∷ []) value r → length r.entries ≡ 1

@@ -33,7 +33,7 @@ use Rattle.sf_rounds.specs.Stage.{task_at, Progress, left_of, IsBeside}
 use Rattle.sf_rounds.proofs.Settled.{all-decided}
 use Rattle.sf_rounds.proofs.Certified.{certified, lowest-is}
 
-planned : (design : Design) (word : ℕ) (best : Option Expr) → IsBest design word best → MatchOption best (word ≡ MAX) (λ expr. HasCost design expr word × IsWritable (block_count design) expr)
+pub planned : (design : Design) (word : ℕ) (best : Option Expr) → IsBest design word best → MatchOption best (word ≡ MAX) (λ expr. HasCost design expr word × IsWritable (block_count design) expr)
 planned design word None b = b
 planned design word (Some expr) b = b
 

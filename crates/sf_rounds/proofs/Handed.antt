@@ -46,7 +46,7 @@ open-marks [] = refl
 open-marks (node ∷ nodes) = ap (λ ms. record { node = node; tag = Open } ∷ ms) (open-marks nodes)
 
 -- names tell nothing of splits
-splits-named : (design : Design) (nodes : List Parts) (tags : List Tag) → AllByRecursion (λ mark. SplitsFirst design mark.tag mark.node) (marks nodes (map unnamed tags)) → AllByRecursion (λ mark. SplitsFirst design mark.tag mark.node) (marks nodes tags)
+pub splits-named : (design : Design) (nodes : List Parts) (tags : List Tag) → AllByRecursion (λ mark. SplitsFirst design mark.tag mark.node) (marks nodes (map unnamed tags)) → AllByRecursion (λ mark. SplitsFirst design mark.tag mark.node) (marks nodes tags)
 splits-named design [] tags all = tt
 splits-named design (node ∷ nodes) [] all = tt
 splits-named design (node ∷ nodes) (Extend ∷ tags) all = (all.0, splits-named design (made Extend node ++ nodes) tags all.1)
@@ -54,7 +54,7 @@ splits-named design (node ∷ nodes) (Split b ∷ tags) all = (all.0, splits-nam
 splits-named design (node ∷ nodes) (Closed p ∷ tags) all = (tt, splits-named design nodes tags all.1)
 splits-named design (node ∷ nodes) (Open ∷ tags) all = (tt, splits-named design nodes tags all.1)
 
-priced : (design : Design) (z : ℕ) (plan : Option Expr) → MatchOption plan (z ≡ MAX) (λ expr. HasCost design expr z × IsWritable (block_count design) expr) → MatchOption plan (z ≡ MAX) (λ expr. HasCost design expr z)
+pub priced : (design : Design) (z : ℕ) (plan : Option Expr) → MatchOption plan (z ≡ MAX) (λ expr. HasCost design expr z × IsWritable (block_count design) expr) → MatchOption plan (z ≡ MAX) (λ expr. HasCost design expr z)
 priced design z None h = h
 priced design z (Some expr) h = h.0
 

@@ -1,5 +1,5 @@
 -- What holds of a search with several workers between its steps.
-use Rattle.std.specs.Prelude.{◌≡◌, ℕ, List, [], ◌∷◌, ◌++◌, Option, Some, None, IsPermutation}
+use Rattle.std.specs.Prelude.{◌≡◌, ℕ, ◌+◌, length, List, [], ◌∷◌, ◌++◌, Option, Some, None, IsPermutation}
 use Rattle.sf_model.specs.declared.design.Design.{Design}
 use Rattle.sf_polish.specs.declared.expr.Expr.{Expr}
 use Rattle.sf_node.specs.declared.task.Task.{Task}
@@ -37,6 +37,7 @@ pub record IsOne (entry : Entry) (left : List Task) (best : Option Expr) (r : Ro
 -- what a round leaves is added
 pub record IsAbsorbed (out : RoundOut) (old new : Progress) : Type 0 where
   pub tasks : IsPermutation (old.open_tasks ++ out.left) new.open_tasks
-  pub entries : new.entries.items ≡ old.entries.items ++ out.entries
+  pub entries : new.entries ≡ old.entries ++ out.entries
+  pub fewer : new.left + length out.entries ≡ old.left
   pub value : new.value ≡ out.value
   pub best : new.best ≡ newer out.best old.best

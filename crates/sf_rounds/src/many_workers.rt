@@ -5,6 +5,7 @@ ghost use Rattle.sf_rounds.specs.Rounds.{IsRound};
 ghost use Rattle.sf_rounds.specs.Searching.{IsSearch, IsOne, IsAbsorbed};
 
 use crate::job::RoundOut;
+use crate::log::Log;
 use crate::open_tasks::OpenTasks;
 use crate::rounds::round;
 use sf_bounds::{Bounds, Room};
@@ -23,17 +24,19 @@ const MOST: u64 = 1024;
 /// How many open tasks that may be extended a round is handed for each worker.
 const FEW: usize = 64;
 
-/// The open tasks and the entries, the least cost found, and a plan that costs it.
+/// The open tasks and the entries, how many decisions are left, the least cost found, and a plan that costs it.
 #[derive(Drop)]
 pub struct Progress {
     pub open_tasks: OpenTasks,
-    pub entries: Vec<Entry>,
+    pub entries: Log,
+    pub left: u64,
     pub value: u64,
     pub best: Option<Expr>,
 }
 
 /// Adds what a round leaves.
 pub fn absorb(progress: &mut Progress, out: RoundOut) -> Result<(), NoMemory>
+    requires few { length out.entries ≤ progress.old.left }
     ensures { IfOk result (λ _. IsAbsorbed out progress.old progress.new) }
 {
     let RoundOut {
@@ -43,8 +46,8 @@ pub fn absorb(progress: &mut Progress, out: RoundOut) -> Result<(), NoMemory>
         best,
     } = out;
     progress.open_tasks.append(left.into_vec())?;
-    let mut entries = entries.into_vec();
-    progress.entries.append(&mut entries)?;
+    progress.left -= entries.as_slice().len() as u64;
+    progress.entries.push(entries)?;
     progress.value = value;
     if best.is_some() {
         progress.best = best;
@@ -126,11 +129,13 @@ fn begin<'a, B: Bounds>(
     alloc: Global,
     design: &'a Design,
     bounds: &B,
+    nodes: u64,
     room: &mut Room<'a>,
 ) -> Result<Progress, NoMemory>
     requires serves { MayServe room.old design.now }
-    ensures search { IfOk result (λ p. IsSearch design.now (B.Values.value bounds.now design.now) p.open_tasks p.entries.items p.value p.best) }
-    ensures none { IfOk result (λ p. p.entries.items ≡ []) }
+    ensures search { IfOk result (λ p. IsSearch design.now (B.Values.value bounds.now design.now) p.open_tasks p.entries p.value p.best) }
+    ensures none { IfOk result (λ p. p.entries ≡ []) }
+    ensures left { IfOk result (λ p. p.left ≡ nodes) }
     ensures serves { MayServe room.new design.now }
 {
     let root = Node::root(alloc, design)?;
@@ -140,7 +145,8 @@ fn begin<'a, B: Bounds>(
     open_tasks.append(first)?;
     Ok(Progress {
         open_tasks,
-        entries: Vec::new(alloc),
+        entries: Log::new(alloc),
+        left: nodes,
         value: MAX,
         best: None,
     })
@@ -154,11 +160,13 @@ fn decide_least<'a, B: Bounds>(
     bounds: &B,
     room: &mut Room<'a>,
 ) -> Result<(), NoMemory>
-    requires search { IsSearch design.now (B.Values.value bounds.now design.now) progress.old.open_tasks progress.old.entries.items progress.old.value progress.old.best }
+    requires search { IsSearch design.now (B.Values.value bounds.now design.now) progress.old.open_tasks progress.old.entries progress.old.value progress.old.best }
     requires some { 0 < length progress.old.open_tasks }
+    requires left { 0 < progress.old.left }
     requires serves { MayServe room.old design.now }
-    ensures search { IfOk result (λ _. IsSearch design.now (B.Values.value bounds.now design.now) progress.new.open_tasks progress.new.entries.items progress.new.value progress.new.best) }
-    ensures one_more { IfOk result (λ _. length progress.new.entries.items ≡ length progress.old.entries.items + 1) }
+    ensures search { IfOk result (λ _. IsSearch design.now (B.Values.value bounds.now design.now) progress.new.open_tasks progress.new.entries progress.new.value progress.new.best) }
+    ensures one_more { IfOk result (λ _. length progress.new.entries ≡ length progress.old.entries + 1) }
+    ensures one_less { IfOk result (λ _. progress.new.left + 1 ≡ progress.old.left) }
     ensures serves { MayServe room.new design.now }
 {
     let Some(task) = progress.open_tasks.take_least() else {
@@ -174,24 +182,23 @@ fn chain(design: &Design) -> u64 {
     (design.blocks.as_slice().len() as u64).saturating_mul(2)
 }
 
-/// How many subproblems a worker may decide in the next round. The first rounds are short, so that the workers stay near
-/// where one alone would be.
-fn longest(progress: &Progress, design: &Design) -> u64 {
-    let decided = progress.entries.len() as u64;
+/// How many subproblems a worker may decide in the next round, after so many. The first rounds are short, so that the
+/// workers stay near where one alone would be.
+fn longest(decided: u64, design: &Design) -> u64 {
     decided.max(chain(design)).min(MOST)
 }
 
 /// How many tasks that may be extended a round is handed: one alone while no plan is known and no worker's share of the
 /// budget is a whole chain.
-fn handed(progress: &Progress, design: &Design, workers: u16, left: u64) -> usize {
+fn handed(progress: &Progress, design: &Design, workers: u16) -> usize {
     let workers = workers.max(1);
-    if progress.best.is_none() && left / u64::from(workers) < chain(design) {
+    if progress.best.is_none() && progress.left / u64::from(workers) < chain(design) {
         return 1;
     }
     FEW * usize::from(workers)
 }
 
-/// Runs one round of so many workers on the open tasks to which a worker alone would come first.
+/// Runs one round of so many workers on the open tasks to which a worker alone would come first, after so many decisions.
 fn run_round<R: Threads + Sync, B: Bounds, G: Gate>(
     rt: &R,
     alloc: Global,
@@ -199,20 +206,20 @@ fn run_round<R: Threads + Sync, B: Bounds, G: Gate>(
     design: &Design,
     bounds: &B,
     workers: u16,
-    left: u64,
+    decided: u64,
     gate: &G,
 ) -> Result<(), NoMemory>
-    requires search { IsSearch design.now (B.Values.value bounds.now design.now) progress.old.open_tasks progress.old.entries.items progress.old.value progress.old.best }
+    requires search { IsSearch design.now (B.Values.value bounds.now design.now) progress.old.open_tasks progress.old.entries progress.old.value progress.old.best }
     requires workers { (1 ≤ workers) × (workers ≤ 16) }
-    ensures search { IfOk result (λ _. IsSearch design.now (B.Values.value bounds.now design.now) progress.new.open_tasks progress.new.entries.items progress.new.value progress.new.best) }
-    ensures few { IfOk result (λ _. length progress.new.entries.items ≤ length progress.old.entries.items + left) }
-    ensures more { IfOk result (λ _. length progress.old.entries.items ≤ length progress.new.entries.items) }
+    ensures search { IfOk result (λ _. IsSearch design.now (B.Values.value bounds.now design.now) progress.new.open_tasks progress.new.entries progress.new.value progress.new.best) }
+    ensures spent { IfOk result (λ _. length progress.new.entries + progress.new.left ≡ length progress.old.entries + progress.old.left) }
+    ensures less { IfOk result (λ _. progress.new.left ≤ progress.old.left) }
 {
-    if left == 0 || progress.open_tasks.is_empty() {
+    if progress.left == 0 || progress.open_tasks.is_empty() {
         return Ok(());
     }
-    let quotas = shares(alloc, left, longest(progress, design), workers)?;
-    let few = handed(progress, design, workers, left);
+    let quotas = shares(alloc, progress.left, longest(decided, design), workers)?;
+    let few = handed(progress, design, workers);
     let most = MOST as usize * usize::from(workers);
     let tasks = progress.open_tasks.take(alloc, few, most, progress.value)?;
     let out = round(
@@ -240,18 +247,18 @@ pub fn search_rounds<R: Threads + Sync, B: Bounds, G: Gate>(
     gate: &G,
 ) -> Result<Progress, NoMemory>
     requires { (1 ≤ workers) × (workers ≤ 16) }
-    ensures search { IfOk result (λ p. IsSearch design.now (B.Values.value bounds.now design.now) p.open_tasks p.entries.items p.value p.best) }
-    ensures few { IfOk result (λ p. length p.entries.items ≤ nodes) }
-    ensures spent { IfOk result (λ p. 0 < length p.open_tasks → length p.entries.items ≡ nodes) }
+    ensures search { IfOk result (λ p. IsSearch design.now (B.Values.value bounds.now design.now) p.open_tasks p.entries p.value p.best) }
+    ensures left { IfOk result (λ p. length p.entries + p.left ≡ nodes) }
+    ensures spent { IfOk result (λ p. 0 < length p.open_tasks → p.left ≡ 0) }
 {
     let mut room = Room::new(alloc);
-    let mut progress = begin(alloc, design, bounds, &mut room)?;
-    while (progress.entries.len() as u64) < nodes {
+    let mut progress = begin(alloc, design, bounds, nodes, &mut room)?;
+    while progress.left > 0 {
         if progress.open_tasks.is_empty() {
             break;
         }
         decide_least(alloc, &mut progress, design, bounds, &mut room)?;
-        let left = nodes - progress.entries.len() as u64;
+        let decided = nodes - progress.left;
         run_round(
             rt,
             alloc,
@@ -259,7 +266,7 @@ pub fn search_rounds<R: Threads + Sync, B: Bounds, G: Gate>(
             design,
             bounds,
             workers,
-            left,
+            decided,
             gate,
         )?;
     }

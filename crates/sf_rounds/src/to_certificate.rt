@@ -9,10 +9,11 @@ ghost use Rattle.sf_certificate.specs.Valid.{IsValid, decided};
 ghost use Rattle.sf_rounds.specs.Turns.{turns, TurnsAreAccepted};
 ghost use Rattle.sf_rounds.specs.Found.{IsCertOf, AllSplitFirst};
 
+use crate::certify::certify;
 use crate::many_workers::{Progress, search_rounds};
 use crate::one_walk::search_walk;
 use sf_bounds::{Bounds, Room};
-use sf_certificate::{Cert, TagList, merge};
+use sf_certificate::{Cert, TagList};
 use sf_io::Gate;
 use sf_model::{Design, Shapes};
 use sf_polish::{Expr, Tokens};
@@ -65,8 +66,8 @@ pub fn search<R: Threads + Sync, B: Bounds, G: Gate>(
     ensures full { IfOk result (λ found. found.decided ≤ full design.now) }
     ensures ended { IfOk result (λ found. full design.now ≤ options.nodes → found.bound ≡ found.cost) }
 
-    // With one worker each closed subproblem names the first part of the bound that is at least the cost.
-    ensures named { IfOk result (λ found. options.workers ≡ 1 → AllNameFirst design.now (B.part_value bounds.now design.now) found.cert.cost found.cert.tags) }
+    // Each closed subproblem names the first part of the bound that is at least the cost.
+    ensures named { IfOk result (λ found. AllNameFirst design.now (B.part_value bounds.now design.now) found.cert.cost found.cert.tags) }
 
     // With one worker it is a function of the design and the budget: the state after so many turns of the core, and in it
     // the plan that was found first of those that cost the word.
@@ -146,7 +147,7 @@ fn together<R: Threads + Sync, B: Bounds, G: Gate>(
     nodes: u64,
     gate: &G,
 ) -> Result<Found, NoMemory>
-    requires { (1 ≤ workers) × (workers ≤ 16) }
+    requires { (2 ≤ workers) × (workers ≤ 16) }
     ensures valid { IfOk result (λ found. IsValid design.now (B.Values.value bounds.now design.now) (B.part_value bounds.now design.now) found.cert) }
     ensures blocks { IfOk result (λ found. found.cert.blocks ≡ block_count design.now) }
     ensures plan { IfOk result (λ found. found.plan ≡ found.cert.plan) }
@@ -158,18 +159,23 @@ fn together<R: Threads + Sync, B: Bounds, G: Gate>(
     ensures splits { IfOk result (λ found. AllSplitFirst design.now found.cert.tags) }
     ensures full { IfOk result (λ found. found.decided ≤ full design.now) }
     ensures ended { IfOk result (λ found. full design.now ≤ nodes → found.bound ≡ found.cost) }
+    ensures named { IfOk result (λ found. AllNameFirst design.now (B.part_value bounds.now design.now) found.cert.cost found.cert.tags) }
 {
     let searched = search_rounds(rt, alloc, design, bounds, workers, nodes, gate)?;
     let Progress {
         open_tasks,
         entries,
+        left: spare,
         value: cost,
         best,
     } = searched;
     let plan = copy_plan(alloc, &best)?;
-    let decided = entries.len() as u64;
+    let decided = nodes - spare;
     let left = open_tasks.into_vec();
-    let cert = merge(alloc, design, entries, left, best, cost, bounds)?;
+    let threads = usize::from(workers);
+    let cert = certify(
+        rt, alloc, design, bounds, threads, decided, entries, left, best, cost,
+    )?;
     let bound = cert.bound;
     Ok(Found {
         plan,

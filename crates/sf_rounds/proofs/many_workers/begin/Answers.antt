@@ -18,5 +18,5 @@ returns-clause-search g c =
     let added : IsPermutation (task ∷ []) c.append.new.self =
     subst (λ (ts : List Task). IsPermutation (ts ++ task ∷ []) c.append.new.self) c.new-open_tasks.ensures
     (subst (λ (ts : List Task). IsPermutation (c.new-open_tasks.result ++ ts) c.append.new.self) c.in_ok-first.ensures.items c.in_ok-append.ensures) in
-    subst (λ (es : List Entry). IsSearch design bound c.append.new.self es MAX None) (sym c.new.ensures.items)
+    subst (λ (es : List Entry). IsSearch design bound c.append.new.self es MAX None) (sym c.new.ensures)
     (search-permuted design bound (task ∷ []) c.append.new.self [] MAX None added (opens design bound task c.in_ok-root.ensures (is, c.in_ok-bound.ensures.value)))

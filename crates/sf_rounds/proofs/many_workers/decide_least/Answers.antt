@@ -25,4 +25,18 @@ returns-clause-one_more g c =
     let bound = g.B.Values.value c.args.bounds.now design in
     let one = one-entry design bound c.in-Some.task c.args.progress.now.value c.in_ok-out.out c.in_ok-out.ensures.round in
     let e = c.in_ok-absorb.ensures.entries in
-    omega (arith, one, ap length e, length-append c.args.progress.now.entries.items c.in_ok-out.out.entries)
+    omega (arith, one, ap length e, length-append c.args.progress.now.entries c.in_ok-out.out.entries)
+
+pub absorb-requires : goal.absorb-requires
+absorb-requires g c =
+    let design = c.args.design.now in
+    let bound = g.B.Values.value c.args.bounds.now design in
+    let one = one-entry design bound c.in-Some.task c.args.progress.now.value c.in_ok-out.out c.in_ok-out.ensures.round in
+    record { few = omega (arith, one, c.requires.left) }
+
+pub returns-clause-one_less : goal.returns-clause-one_less
+returns-clause-one_less g c =
+    let design = c.args.design.now in
+    let bound = g.B.Values.value c.args.bounds.now design in
+    let one = one-entry design bound c.in-Some.task c.args.progress.now.value c.in_ok-out.out c.in_ok-out.ensures.round in
+    omega (arith, one, c.in_ok-absorb.ensures.fewer)

@@ -1,0 +1,29 @@
+-- The tags of marks in preorder.
+use Rattle.std.specs.Prelude.{◌≡◌, ℕ, List, ◌++◌, map, All, true, false, IsPermutation, IsSortedBy}
+use Rattle.std.specs.List.{flat_map}
+use Rattle.std.specs.Ordering.{is_lt}
+use Rattle.sf_node.specs.declared.part.Part.{Part}
+use Rattle.sf_node.specs.declared.step.Step.{Step}
+use Rattle.sf_node.specs.Order.{steps_cmp}
+use Rattle.sf_node.specs.Parts.{Parts}
+use Rattle.sf_search_core.specs.declared.entry.Entry.{Entry}
+use Rattle.sf_certificate.specs.declared.mark.Mark.{Mark}
+use Rattle.sf_certificate.specs.declared.tag.Tag.{Tag}
+use Rattle.sf_rounds.specs.Naming.{named}
+
+-- the lists one behind the other
+abbrev pub flat : List (List Entry) → List Entry
+flat lists = flat_map (λ entries. entries) lists
+
+-- the marks whose paths come before this one, and the others
+pub record AreCut (path : List Step) (marks before others : List Mark) : Type 0 where
+  pub same : IsPermutation marks (before ++ others)
+  pub low : All (λ m. is_lt (steps_cmp m.node.steps path) ≡ true) before
+  pub high : All (λ m. is_lt (steps_cmp m.node.steps path) ≡ false) others
+
+-- these are the tags of the marks in the order of their paths, and each closed one names the first part that is at least the cost
+pub record AreInOrder (part : Parts → Part → ℕ) (cost : ℕ) (marks : List Mark) (tags : List Tag) : Type 0 where
+  pub sorted : List Mark
+  pub same : IsPermutation marks sorted
+  pub rising : IsSortedBy (λ a b. is_lt (steps_cmp a.node.steps b.node.steps)) sorted
+  pub named_tags : tags ≡ map (λ m. named (part m.node) cost m.tag) sorted

@@ -1,0 +1,60 @@
+//! The entries of a search in rounds.
+
+ghost use Rattle.std.specs.Prelude.{◌≡◌, ◌++◌, [], IfOk, OnOk};
+ghost use Rattle.sf_rounds.specs.InOrder.{flat};
+
+use sf_search_core::{Entry, EntryList};
+use std::alloc::{AllocError as NoMemory, Global};
+use std::marker::Model;
+
+/// The entries, list by list as the rounds left them, so that none is moved. Contracts see them as one list.
+#[derive(Drop)]
+pub struct Log {
+    lists: Vec<EntryList>,
+}
+
+impl Model for Log {
+    ghost use Rattle.std.specs.Prelude.{List};
+    ghost use Rattle.sf_search_core.specs.declared.entry.Entry.{Entry};
+    ghost use Rattle.sf_rounds.specs.InOrder.{flat};
+
+    ghost Value = { List Entry };
+
+    ghost view = { λ l. flat l.lists.items };
+}
+
+impl Log {
+    pub fn new(alloc: Global) -> Log
+        ensures { result ≡ [] }
+    {
+        Log {
+            lists: Vec::new(alloc),
+        }
+    }
+
+    /// Adds the entries of a round.
+    pub fn push(&mut self, entries: EntryList) -> Result<(), NoMemory>
+        ensures { OnOk result (self.new ≡ self.old ++ entries) }
+    {
+        self.lists.push(entries)?;
+        Ok(())
+    }
+
+    pub fn into_lists(self) -> Vec<EntryList>
+        ensures { flat result.items ≡ self }
+    {
+        self.lists
+    }
+
+    /// All in one list.
+    pub fn into_vec(self, alloc: Global) -> Result<Vec<Entry>, NoMemory>
+        ensures { IfOk result (λ entries. entries.items ≡ self) }
+    {
+        let mut all = Vec::new(alloc);
+        for entries in self.lists {
+            let mut entries = entries.into_vec();
+            all.append(&mut entries)?;
+        }
+        Ok(all)
+    }
+}
