@@ -1,5 +1,5 @@
 -- What every stage takes is answered, and not refused.
-use Rattle.std.proofs.Common.{◌≡◌, ◌⊎◌, inl, inr, ℕ, Bool, true, false, List, Option, Some, Result, Ok, Err, refl, sym, ◌∙◌, subst}
+use Rattle.std.proofs.Common.{◌≡◌, inl, inr, ℕ, Bool, true, false, List, Option, Some, Result, Err, refl, sym, ◌∙◌, subst}
 use Rattle.std.specs.Prelude.{IsFalse}
 use Rattle.sf_io.specs.Outside.{Contents}
 use Rattle.sf_io.specs.declared.status.Status.{Status}
@@ -13,9 +13,9 @@ use Rattle.sf_pl_writer.specs.declared.report.Outcome.TheVariants as word
 use Rattle.sf_words.specs.Meaning.{Command, plan, check, measure, shape, gen, Means}
 use Rattle.sf_words.proofs.Unique.{meaning_unique}
 use Rattle.sf_program.specs.Answer.{Answers, CommandAnswer, CommandRefuses, IsAnswer, IsRefused, RefusesWords}
-use Rattle.sf_program.specs.Checked.{CheckRead, IsChecked, answer_status}
+use Rattle.sf_program.specs.Checked.{CheckRead, answer_status}
 use Rattle.sf_program.specs.Complete.{EndsJudging, HasValue, IsOwnEnd, IsTaken, MayEnd}
-use Rattle.sf_program.specs.Generated.{GenRead, IsGenerated}
+use Rattle.sf_program.specs.Generated.{GenRead}
 use Rattle.sf_program.specs.Headline.{HasSearched}
 use Rattle.sf_program.specs.Measured as measured
 use Rattle.sf_program.specs.OneAnswer.{Answer, GivesOne, IsAnswerTo}

@@ -1,5 +1,5 @@
 -- Words and texts have one answer.
-use Rattle.std.proofs.Common.{◌≡◌, ◌⊎◌, inl, inr, Bool, ℕ, List, [], Option, Some, Result, Ok, Err, refl, sym, ap, subst, ◌∙◌}
+use Rattle.std.proofs.Common.{◌≡◌, ◌⊎◌, inl, inr, Bool, ℕ, List, [], Option, Some, Result, Ok, Err, refl, sym, subst, ◌∙◌}
 use Rattle.sf_io.specs.Outside.{Contents}
 use Rattle.sf_io.specs.declared.status.Status.{Status}
 use Rattle.sf_io.specs.declared.status.Status.TheVariants.{Usage, BadInput, OverLimit}
@@ -20,7 +20,6 @@ use Rattle.sf_program.specs.OneAnswer.{Answer, AskForOneWorker, AtMostOne, Gives
 use Rattle.sf_program.specs.Outcome.{Refusal, IsRefusal, refused}
 use Rattle.sf_program.specs.Planned as planned
 use Rattle.sf_program.specs.Shaped.{IsShaped, ShapeRead}
-use Rattle.sf_program.specs.Stores.{Stored}
 use Rattle.sf_program.proofs.Once.{no-refusal, same-refusal}
 use Rattle.sf_program.proofs.OneChecked.{HasOneName, check-read-one, checked-one, checked-reads, measure-read-one, measured-one, measured-reads, shape-read-one, shaped-one, shaped-reads}
 use Rattle.sf_program.proofs.OneDesign.{plan-one}

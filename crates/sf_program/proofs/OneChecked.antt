@@ -23,7 +23,7 @@ use Rattle.sf_place.proofs.OneVerdict.{one-verdict}
 use Rattle.sf_standard.specs.Standard.{standard, part_value}
 use Rattle.sf_certificate.specs.declared.cert.Cert.{Cert}
 use Rattle.sf_certificate.specs.declared.tag.Tag.{Tag}
-use Rattle.sf_certificate.specs.Named.{AllNameFirst, AreAlikeButNames, unnamed}
+use Rattle.sf_certificate.specs.Named.{AllNameFirst, unnamed}
 use Rattle.sf_certificate.specs.Reading.{Said as CertSaid, cert_read, said_by}
 use Rattle.sf_certificate.specs.Text.{cert_text}
 use Rattle.sf_certificate.specs.Valid.{AreTrees, IsValid}

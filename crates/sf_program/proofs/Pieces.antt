@@ -1,5 +1,5 @@
 -- A text that is fed in pieces: its answer, and what its fault says.
-use Rattle.std.proofs.Common.{◌≡◌, inl, ℕ, List, [], ◌∷◌, length, arith, refl, ap, subst, sym, Option, Some, None, Result, Ok, Err, IfOk}
+use Rattle.std.proofs.Common.{◌≡◌, inl, ℕ, List, [], ◌∷◌, length, arith, refl, subst, sym, Option, None, Result, Ok, Err, IfOk}
 use Rattle.std.specs.Prelude.{IfErr}
 use Rattle.sf_io.specs.Outside.{Contents}
 use Rattle.sf_model.specs.declared.design.Design.{Design}
@@ -11,7 +11,7 @@ use Rattle.sf_checker.specs.declared.answer.Answer.{Answer}
 use Rattle.sf_checker.specs.Feeding.{IsAnswerTo}
 use Rattle.sf_words.specs.Meaning.{CheckOptions}
 use Rattle.sf_program.specs.declared.stop.Stop.{Stop}
-use Rattle.sf_program.specs.Outcome.{Refusal, Refuses, Stops}
+use Rattle.sf_program.specs.Outcome.{Refuses, Stops}
 use Rattle.sf_program.specs.declared.work.Work.{Work}
 use Rattle.sf_program.specs.Reading.{DesignRead, Judged, TextRead}
 use Rattle.sf_certificate.specs.declared.cert.Cert.{Cert}

@@ -1,5 +1,5 @@
 -- Stages one after another.
-use Rattle.std.proofs.Common.{◌≡◌, inl, inr, ℕ, List, length, Option, Result, Ok, Err, refl, sym, subst, codes}
+use Rattle.std.proofs.Common.{inl, inr, ℕ, List, length, Option, Result, Ok, Err, refl, sym, subst, codes}
 use Rattle.sf_io.specs.Outside.{Contents}
 use Rattle.sf_gsrc.specs.declared.output.GsrcBlocks.{GsrcBlocks}
 use Rattle.sf_gsrc.specs.declared.output.GsrcNets.{GsrcNets}

@@ -1,5 +1,5 @@
 -- When an answer is no refusal.
-use Rattle.std.specs.Prelude.{⊤, Option, Some, Result, Ok}
+use Rattle.std.specs.Prelude.{⊤, Some, Result, Ok}
 use Rattle.sf_io.specs.Outside.{Contents}
 use Rattle.sf_io.specs.declared.status.Status.{Status}
 use Rattle.sf_io.specs.declared.status.Status.TheVariants.{Done, No, WriteFault, NoMemory}

@@ -1,4 +1,4 @@
-use Rattle.std.proofs.Common.{◌≡◌, Option, Err, IfOk, subst}
+use Rattle.std.proofs.Common.{Option, Err, IfOk, subst}
 use Rattle.std.specs.Prelude.{IfErr}
 use Rattle.sf_io.specs.Outside.{Contents}
 use Rattle.sf_model.specs.Legal.{block_count}
