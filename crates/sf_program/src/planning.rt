@@ -3,10 +3,8 @@
 ghost use Rattle.std.specs.Prelude.{◌≡◌, IfErr, IfOk, Err};
 ghost use Rattle.sf_model.specs.Admitted.{HasPinsInRange, HasSizes, IsAdmitted};
 ghost use Rattle.sf_model.specs.Legal.{block_count};
-ghost use Rattle.sf_certificate.specs.Named.{AllNameFirst, AreAlikeButNames};
-ghost use Rattle.sf_certificate.specs.Valid.{IsValid, decided};
+ghost use Rattle.sf_certificate.specs.Valid.{decided};
 ghost use Rattle.sf_pl_writer.specs.Length.{IsScale};
-ghost use Rattle.sf_standard.specs.Standard.{standard, part_value};
 ghost use Rattle.sf_words.specs.Seen.{plan_seen, text_of};
 ghost use Rattle.sf_program.specs.Loads.{Reads, TellsLoads, TellsNoLoad};
 ghost use Rattle.sf_program.specs.Outcome.{Ends, Stops};
@@ -22,8 +20,6 @@ use crate::stop::Stop;
 use crate::weighed::Weighed;
 use crate::work::Work;
 use sf_bounds::Standard;
-use sf_certificate::names_change_nothing;
-use sf_checker::name_parts;
 use sf_io::{Gate, Shelf};
 use sf_model::{Design, admitted_parts_keep_limits};
 use sf_rounds::{Found, SearchOptions, search};
@@ -55,41 +51,6 @@ fn within_budget(alloc: Global, words: &PlanWords<'_>, read: Weighed) -> Result<
         Ok(_) => make_design(alloc, &words.design, words.weights, read),
         Err(stop) => Err(stop),
     }
-}
-
-/// What was found, with each closed subproblem of the certificate naming the first part of the bound that
-/// is at least the cost: one worker names them as it goes, several leave it to the end.
-fn name_found(alloc: Global, design: &Design, workers: u16, found: Found) -> Result<Found, NoMemory>
-    requires blocks { found.cert.blocks ≡ block_count design.now }
-    requires valid { IsValid design.now (standard design.now) (part_value design.now) found.cert }
-    requires named { workers ≡ 1 →
-        AllNameFirst design.now (part_value design.now) found.cert.cost found.cert.tags }
-    ensures valid { IfOk result (λ f.
-        IsValid design.now (standard design.now) (part_value design.now) f.cert) }
-    ensures named { IfOk result (λ f.
-        AllNameFirst design.now (part_value design.now) f.cert.cost f.cert.tags) }
-    ensures alike { IfOk result (λ f. AreAlikeButNames found.cert f.cert) }
-    ensures plan { IfOk result (λ f. f.plan ≡ found.plan) }
-    ensures decided { IfOk result (λ f. f.decided ≡ found.decided) }
-{
-    if workers == 1 {
-        return Ok(found);
-    }
-    let Found {
-        plan,
-        cost,
-        bound,
-        decided,
-        cert,
-    } = found;
-    let cert = name_parts(alloc, design, &Standard, cert)?;
-    Ok(Found {
-        plan,
-        cost,
-        bound,
-        decided,
-        cert,
-    })
 }
 
 /// What is told of the search of a design.
@@ -159,7 +120,5 @@ pub fn searched<R: Threads + Sync, G: Gate>(
     let nodes = budget_of(nodes, design.blocks.as_slice().len() as u64);
     let options = SearchOptions { workers, nodes };
     let found = search(rt, alloc, design, &Standard, options, gate)?;
-    let named = name_found(alloc, design, workers, found)?;
-    names_change_nothing();
-    answered(alloc, design, options, named, names)
+    answered(alloc, design, options, found, names)
 }
