@@ -4,8 +4,6 @@ pub mod Adding
 pub mod Leasts
 pub mod AreaLink
 pub mod Opened
-pub mod ByArea
-pub mod ByFrames
 pub mod Nearby
 pub mod Shifting
 pub mod Small
@@ -19,7 +17,6 @@ pub mod Readied
 pub mod Hulls
 pub mod NetParts
 pub mod Alone
-pub mod Solution
 pub mod Born
 pub mod Rooted
 pub mod OnePlan

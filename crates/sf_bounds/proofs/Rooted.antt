@@ -1,5 +1,5 @@
 -- Where only areas count, the least area on the root curve of a complete subproblem is the least cost.
-use Rattle.std.proofs.Common.{◌≡◌, ◌*◌, ◌<◌, ◌≤◌, List, [], length, arith, ap, sym, subst, inl, inr, ◌⊎◌, true}
+use Rattle.std.proofs.Common.{◌≡◌, ℕ, ◌∙◌, ◌*◌, ◌<◌, ◌≤◌, List, [], length, arith, ap, sym, subst, inl, inr, ◌⊎◌, true}
 use Rattle.std.proofs.Math.Nat.{mul-le-mul, mul-le-mul_left}
 use Rattle.std.proofs.lemmas.List.Elements.{All-contains, recursion_from_All}
 use Rattle.std.specs.Prelude.{Contains}
@@ -21,7 +21,15 @@ use Rattle.sf_curves.proofs.Forms.{skewed-of_normal}
 use Rattle.sf_standard.proofs.Exact.{listed-belongs}
 use Rattle.sf_bounds.specs.Cheapest.{IsCheapest, NoneOfNode}
 use Rattle.sf_bounds.proofs.Alone.{whole-postfix}
-use Rattle.sf_bounds.proofs.ByArea.{times, zero-times}
+
+times : (a b m n : ℕ) → a ≤ m → b ≤ n → a * b ≤ m * n
+times a b m n h k = mul-le-mul h k
+
+zero_times : (b : ℕ) → 0 * b ≡ 0
+zero_times b = omega arith
+
+zero-times : (a b : ℕ) → a ≡ 0 → a * b ≡ 0
+zero-times a b e = ap (λ v. v * b) e ∙ zero_times b
 
 module _ (design : Design) (node : Parts) (sub : IsSubproblem design node) (complete : is_complete node ≡ true) where
   pub normal : IsNormal (block_count design) node.tokens

@@ -9,9 +9,8 @@ ghost use Rattle.sf_node.specs.Later.{IsChildOf};
 ghost use Rattle.sf_bounds.specs.Serving.{MayServe};
 
 use crate::children::{Valued, keeps_value, value_from};
-use crate::parts::{open_values, part_value};
+use crate::parts::{all_values, part_value};
 use crate::room::Room;
-use crate::value::standard_value;
 use sf_model::Design;
 use sf_node::{Node, Part, PartValues, Values};
 use std::alloc::AllocError as NoMemory;
@@ -144,13 +143,14 @@ impl Bounds for Standard {
         let Some(kept) = &mut room.kept else {
             unreachable!()
         };
-        standard_value(
+        let values = all_values(
             &mut kept.frames,
             &mut kept.nets,
             &mut room.scratch,
             design,
             node,
-        )
+        )?;
+        Ok(values.full)
     }
 
     fn child_bound<'a>(
@@ -219,7 +219,7 @@ impl Bounds for Standard {
         let Some(kept) = &mut room.kept else {
             unreachable!()
         };
-        let values = open_values(
+        let values = all_values(
             &mut kept.frames,
             &mut kept.nets,
             &mut room.scratch,

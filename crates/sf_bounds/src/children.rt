@@ -1,18 +1,15 @@
 ghost use Rattle.std.specs.Prelude.{◌≡◌, ℕ, true, IfOk, IfSome};
 ghost use Rattle.sf_model.specs.declared.design.Design.{Design as DesignValue};
-ghost use Rattle.sf_node.specs.Children.{IsSubproblem};
 ghost use Rattle.sf_node.specs.Later.{IsChildOf};
 ghost use Rattle.sf_node.specs.ByPart.{AreValues};
 ghost use Rattle.sf_standard.specs.Standard.{standard, part_value};
 
 use crate::net_frames::NetFrames;
-use crate::parts::{all_alike, open_values};
+use crate::parts::all_values;
 use crate::scratch::Scratch;
-use crate::value::standard_value;
 use sf_frames::Frames;
 use sf_model::Design;
 use sf_node::{Node, PartValues, Step};
-use sf_standard::laws::{areas_are_all, single_spans_are_open};
 use std::alloc::AllocError as NoMemory;
 
 /// The value of a subproblem, and those of the parts of the bound where they were measured with it.
@@ -20,38 +17,6 @@ use std::alloc::AllocError as NoMemory;
 pub struct Valued {
     pub value: u64,
     pub parts: Option<PartValues>,
-}
-
-// The value of a subproblem with its parts. Where wires cost nothing all of them are alike.
-fn standard_valued(
-    frames: &mut Frames,
-    nets: &mut NetFrames,
-    scratch: &mut Scratch,
-    design: &Design,
-    node: &Node,
-) -> Result<Valued, NoMemory>
-    requires subproblem { IsSubproblem design.now node.now }
-    requires serves { frames.old ≡ design.now }
-    requires serves_nets { nets.old ≡ design.now }
-    ensures value { IfOk result (λ v. v.value ≡ standard design.now node.now) }
-    ensures parts { IfOk result (λ v. IfSome v.parts (AreValues (part_value design.now node.now))) }
-    ensures serves { frames.new ≡ design.now }
-    ensures serves_nets { nets.new ≡ design.now }
-{
-    if design.weights.wire == 0 {
-        let value = standard_value(frames, nets, scratch, design, node)?;
-        areas_are_all();
-        return Ok(Valued {
-            value,
-            parts: Some(all_alike(value)),
-        });
-    }
-    single_spans_are_open();
-    let values = open_values(frames, nets, scratch, design, node)?;
-    Ok(Valued {
-        value: values.full,
-        parts: Some(values.parts),
-    })
 }
 
 /// The value of a child of a subproblem that has this value: the same where the child is not complete and only a block was
@@ -75,7 +40,11 @@ pub fn value_from(
     if keeps_value(child) {
         return Ok(Valued { value, parts: None });
     }
-    standard_valued(frames, nets, scratch, design, child)
+    let values = all_values(frames, nets, scratch, design, child)?;
+    Ok(Valued {
+        value: values.full,
+        parts: Some(values.parts),
+    })
 }
 
 /// Whether a child is sure to have its parent's value: it is not complete, and only a block was moved from the unused ones

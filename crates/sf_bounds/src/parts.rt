@@ -4,18 +4,18 @@ ghost use Rattle.std.specs.Prelude.{◌≡◌, IfOk};
 ghost use Rattle.sf_node.specs.Children.{IsSubproblem};
 ghost use Rattle.sf_node.specs.declared.part.Part.TheVariants.{Area};
 ghost use Rattle.sf_node.specs.ByPart.{AreValues};
-ghost use Rattle.sf_standard.specs.Standard.{open_value, part_value, AllHavePlans};
+ghost use Rattle.sf_standard.specs.Standard.{standard, part_value, AllHavePlans};
 ghost use Rattle.sf_bounds.specs.Open.{AreWireParts, AreWireCosts};
 
 use crate::net_frames::NetFrames;
 use crate::scratch::Scratch;
-use crate::value::{area_cost, standard_value};
+use crate::value::area_cost;
 use crate::wire_parts::{self, WireParts};
 use crate::wires_by::wires_by;
 use sf_frames::Frames;
 use sf_model::{Design, MAX};
 use sf_node::{Node, Part, PartValues};
-use sf_standard::laws::wires_are_bounded;
+use sf_standard::laws::{standard_is_open, wires_are_bounded};
 use std::alloc::AllocError as NoMemory;
 
 // What the wires take at least by each part of the bound: by the rows of the path where each span is whole, else anew.
@@ -68,31 +68,33 @@ fn wire_costs(
     })
 }
 
-/// The value from the area and the wires, and the values of the parts below it.
+/// The value of the bound, and the values of the parts below it.
 #[derive(Clone, Copy)]
-pub struct OpenValues {
+pub struct AllValues {
     pub full: u64,
     pub parts: PartValues,
 }
 
-/// The value from the area that is needed and the wires, with those of the parts below it, all measured at once.
-pub fn open_values(
+/// The value of the bound with those of the parts below it, all measured at once: from the area that is needed and the wires,
+/// at a solved subproblem too.
+pub fn all_values(
     frames: &mut Frames,
     nets: &mut NetFrames,
     scratch: &mut Scratch,
     design: &Design,
     node: &Node,
-) -> Result<OpenValues, NoMemory>
+) -> Result<AllValues, NoMemory>
     requires subproblem { IsSubproblem design.now node.now }
     requires serves { frames.old ≡ design.now }
     requires serves_nets { nets.old ≡ design.now }
-    ensures full { IfOk result (λ values. values.full ≡ open_value design.now node.now) }
+    ensures full { IfOk result (λ values. values.full ≡ standard design.now node.now) }
     ensures values { IfOk result (λ values. AreValues (part_value design.now node.now) values.parts) }
     ensures serves { frames.new ≡ design.now }
     ensures serves_nets { nets.new ≡ design.now }
 {
+    standard_is_open();
     let Some(area) = area_cost(frames, scratch, design, node)? else {
-        return Ok(OpenValues {
+        return Ok(AllValues {
             full: MAX,
             parts: all_alike(MAX),
         });
@@ -104,7 +106,7 @@ pub fn open_values(
         pair: area + wires.pair,
         hull: area + wires.hull,
     };
-    Ok(OpenValues {
+    Ok(AllValues {
         full: area + wires.full,
         parts,
     })
@@ -159,13 +161,9 @@ pub fn part_value(
 {
     match part {
         Part::Area => area_value(frames, scratch, design, node),
-        Part::Range => Ok(
-            open_values(frames, nets, scratch, design, node)?
-                .parts
-                .range,
-        ),
-        Part::Pair => Ok(open_values(frames, nets, scratch, design, node)?.parts.pair),
-        Part::Hull => Ok(open_values(frames, nets, scratch, design, node)?.parts.hull),
-        Part::Full => standard_value(frames, nets, scratch, design, node),
+        Part::Range => Ok(all_values(frames, nets, scratch, design, node)?.parts.range),
+        Part::Pair => Ok(all_values(frames, nets, scratch, design, node)?.parts.pair),
+        Part::Hull => Ok(all_values(frames, nets, scratch, design, node)?.parts.hull),
+        Part::Full => Ok(all_values(frames, nets, scratch, design, node)?.full),
     }
 }

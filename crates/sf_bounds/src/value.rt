@@ -1,24 +1,19 @@
 ghost use Rattle.std.specs.Prelude.{◌≡◌, ◌*◌, max, length, IfOk};
 ghost use Rattle.sf_node.specs.Children.{IsSubproblem};
-ghost use Rattle.sf_standard.specs.Standard.{standard};
 ghost use Rattle.sf_frames.specs.Groups.{IsNeededOrNone};
 ghost use Rattle.sf_frames.specs.Measured.{IsMeasured};
 ghost use Rattle.sf_bounds.specs.Open.{IsAreaCostOrNone};
 
 use crate::area::area_part;
 use crate::groups::group_curves;
-use crate::net_frames::NetFrames;
-use crate::parts::open_values;
 use crate::scratch::Scratch;
-use crate::solved::least_by_area;
 use sf_frames::{Frames, Measured, Sums};
 use sf_model::Design;
 use sf_node::Node;
-use sf_standard::laws::single_spans_are_open;
 use std::alloc::AllocError as NoMemory;
 
-/// What the frames of a path tell, where each span is whole.
-pub fn measure(frames: &mut Frames, design: &Design, node: &Node) -> Result<Measured, NoMemory>
+// What the frames of a path tell, where each span is whole.
+fn measure(frames: &mut Frames, design: &Design, node: &Node) -> Result<Measured, NoMemory>
     requires subproblem { IsSubproblem design.now node.now }
     requires serves { frames.old ≡ design.now }
     ensures measured { IfOk result (IsMeasured design.now node.now) }
@@ -98,28 +93,4 @@ pub fn area_cost(
         return Ok(None);
     }
     Ok(Some(u64::from(design.weights.area) * needed))
-}
-
-/// The value of the standard bound. Only where areas alone count is a solved subproblem measured in another way than an open
-/// one: with single spans both have one value.
-pub fn standard_value(
-    frames: &mut Frames,
-    nets: &mut NetFrames,
-    scratch: &mut Scratch,
-    design: &Design,
-    node: &Node,
-) -> Result<u64, NoMemory>
-    requires subproblem { IsSubproblem design.now node.now }
-    requires serves { frames.old ≡ design.now }
-    requires serves_nets { nets.old ≡ design.now }
-    ensures value { IfOk result (λ v. v ≡ standard design.now node.now) }
-    ensures serves { frames.new ≡ design.now }
-    ensures serves_nets { nets.new ≡ design.now }
-{
-    if design.weights.wire == 0 && node.is_complete() {
-        return least_by_area(frames, scratch, design, node);
-    }
-    single_spans_are_open();
-    let values = open_values(frames, nets, scratch, design, node)?;
-    Ok(values.full)
 }

@@ -1,9 +1,9 @@
--- No part of the standard bound is above it, and where wires cost nothing each part is the bound.
+-- The standard bound is its value from area and wires; no part of it is above it, and where wires cost nothing each part is the bound.
 use Rattle.std.proofs.Common.{◌≡◌, ℕ, ◌+◌, ◌*◌, ◌^◌, ◌<◌, ◌≤◌, max, List, [], ◌∷◌, length, arith, refl, ap, sym, subst, ◌∙◌, inl, inr, Bool, true, false}
-use Rattle.std.specs.Prelude.{Contains, sum_by, nat_lt, if◌then◌else◌}
+use Rattle.std.specs.Prelude.{Contains, sum_by, nat_lt, ◌==◌, ◌||◌, if◌then◌else◌}
 use Rattle.std.specs.List.{list_any}
 use Rattle.std.proofs.Math.Nat.{mul-le-mul, mul-le-mul_left}
-use Rattle.std.proofs.lemmas.Bool.{cond_both, cond-true, cond-false, ltb-false}
+use Rattle.std.proofs.lemmas.Bool.{and_parts, ne_eqb, cases_lt, cond_both, cond-true, cond-false, ltb-false}
 use Rattle.std.proofs.lemmas.List.Sums.{sum_by-cons}
 use Rattle.sf_model.specs.declared.design.Design.{Design}
 use Rattle.sf_model.specs.declared.parts.Net.{Net}
@@ -23,12 +23,12 @@ use Rattle.sf_node.proofs.Reached.{subproblem-spans}
 use Rattle.sf_curves.proofs.Members.{Contains-head}
 use Rattle.sf_standard.specs.Items.{Item, items_of, span_shapes, fitting}
 use Rattle.sf_standard.specs.Hull.{extent_of, range_part, pair_part, hull_part}
-use Rattle.sf_standard.specs.Standard.{area, least_of, least_cost, has_none, needed_area, pins_part, weighed_part, wire_part, pins_by, wires_by, plans_of, bounded, open_value, standard, part_value, AllHavePlans}
+use Rattle.sf_standard.specs.Standard.{area, least_of, least_cost, has_none, needed_area, pins_part, weighed_part, wire_part, pins_by, wires_by, plans_of, bounded, open_value, standard, part_value, has_single_spans, AllHavePlans}
 use Rattle.sf_standard.proofs.Cutting.{least_of-le}
 use Rattle.sf_standard.proofs.Exact.{IsWholeItem, whole-item, fitting-belongs, least_of-reached, standard_is_exact}
 use Rattle.sf_standard.proofs.Listed.{each-from, sum_by-le_each}
 use Rattle.sf_standard.proofs.Shortness.{wires-short}
-use Rattle.sf_standard.proofs.Singles.{no-plan, first-needed}
+use Rattle.sf_standard.proofs.Singles.{no-plan, first-needed, single_spans_are_open}
 use Rattle.sf_standard.proofs.Soundness.{bounded-le, solved-complete}
 
 -- what stands in the other branch is no more
@@ -187,3 +187,22 @@ areas_are_all design node by.Range free sub = all-same design node free sub by.R
 areas_are_all design node by.Pair free sub = all-same design node free sub by.Pair
 areas_are_all design node by.Hull free sub = all-same design node free sub by.Hull
 areas_are_all design node by.Full free sub = refl
+
+-- where wires count, the spans of a solved subproblem are single
+pub solved_single : (design : Design) (node : Parts) → is_solved design node ≡ true → 0 < design.weights.wire → has_single_spans node ≡ true
+solved_single design node solved wires =
+    let zero_wire : (design.weights.wire == 0) ≡ false = ne_eqb design.weights.wire 0 (λ e. absurd (omega (arith, e, wires))) in
+    ap (λ b. b || has_single_spans node) (sym zero_wire)
+    ∙ (and_parts (is_complete node) (design.weights.wire == 0 || has_single_spans node) solved).1
+
+-- the bound is the value from area and wires
+pub standard_is_open : (design : Design) (node : Parts) → IsSubproblem design node → standard design node ≡ open_value design node
+standard_is_open design node sub =
+    elim (cases_lt 0 design.weights.wire) [
+      | inl wires ↦ cond_both (is_solved design node) (least_cost design node (items_of node)) (open_value design node) (λ v. v ≡ open_value design node)
+          (λ solved. sym (cond-true (is_solved design node) (least_cost design node (items_of node)) (open_value design node) solved)
+          ∙ single_spans_are_open design node sub (solved-complete design node solved) (solved_single design node solved wires))
+          (λ _. refl)
+      | inr free ↦ (let none : design.weights.wire ≡ 0 = omega (arith, free) in
+          omega (arith, standard-le design node none sub, open-below design node sub))
+    ]

@@ -22,6 +22,7 @@ use Rattle.sf_model.specs.Tree.{Tree, Leaf, Beside, Above, width, height, leaves
 use Rattle.sf_model.specs.Wire.{spot_of, pad_at, pin_x, pin_y, spread, net_wire, weighed_wire, wire}
 use Rattle.sf_model.proofs.Bounded.{cost-below}
 use Rattle.sf_model.proofs.Each.{each-append, each-left, each-right, each-weaker, each-map}
+use Rattle.sf_node.specs.Children.{IsSubproblem}
 use Rattle.sf_node.specs.Parts.{Parts}
 use Rattle.sf_node.specs.Subproblem.{Belongs, is_complete, is_solved, is_wide, span_of}
 use Rattle.sf_node.proofs.Reached.{subproblem-spans}
@@ -31,7 +32,7 @@ use Rattle.sf_standard.specs.declared.hull.Offset.{Offset}
 use Rattle.sf_standard.specs.Items as item
 use Rattle.sf_standard.specs.Items.{Item, items_of, unused, span_shapes, plans, fits, fitting, item_of}
 use Rattle.sf_standard.specs.Hull.{extent_of, point, range_part, pair_part, item_extent, offsets, moved_right, moved_up, offset_x, offset_y, contains_pin, of_pins, pads_x, pads_y, hull_of, hull_part}
-use Rattle.sf_standard.specs.Standard.{area, least_of, least_cost, has_none, needed_area, net_part, weighed_part, wire_part, plans_of, open_value, has_single_spans, SinglesAreOpen}
+use Rattle.sf_standard.specs.Standard.{area, least_of, least_cost, has_none, needed_area, net_part, weighed_part, wire_part, plans_of, open_value, standard, has_single_spans}
 use Rattle.sf_standard.proofs.Cutting.{AreListed, cut, belongs-listed, least_of-le}
 use Rattle.sf_standard.proofs.Exact.{IsWholeItem, whole-item, fitting-belongs, plans-are, least_of-reached}
 use Rattle.sf_standard.proofs.Gaps.{IsOfExtent, of-extent, Pins, spread-le-gap}
@@ -318,7 +319,8 @@ module _ (design : Design) (node : Parts) (tree : Tree) (spans : length node.spa
   pub costs-open : open_value design node ≡ cost design tree
   costs-open = omega (arith, cost-le, bounded-le design node tree spans belongs fit)
 
-pub single_spans_are_open : (design : Design) → SinglesAreOpen design
+-- a complete subproblem whose spans have one place each has one plan, and its value from area and wires is what that plan costs
+pub single_spans_are_open : (design : Design) (node : Parts) → IsSubproblem design node → is_complete node ≡ true → has_single_spans node ≡ true → standard design node ≡ open_value design node
 single_spans_are_open design node sub complete single =
     cond_both (is_solved design node) (least_cost design node (items_of node)) (open_value design node) (λ v. v ≡ open_value design node)
     (λ _. ap (least_cost design node) whole.1.items ∙ by-plans (fitting design node whole.0) refl)

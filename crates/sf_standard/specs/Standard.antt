@@ -105,7 +105,3 @@ part_value design node part = bounded design (wires_by design node part) (plans_
 -- each block's span has one place
 abbrev pub has_single_spans : Parts → Bool
 has_single_spans node = list_all (λ span. not (is_wide span)) node.spans
-
--- a complete subproblem whose spans have one place each has one plan, and its value from area and wires is what that plan costs
-abbrev pub SinglesAreOpen : Design → Type 0
-SinglesAreOpen design = (node : Parts) → IsSubproblem design node → IsTrue (is_complete node) → IsTrue (has_single_spans node) → standard design node ≡ open_value design node

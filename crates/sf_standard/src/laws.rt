@@ -7,7 +7,7 @@ ghost use Rattle.sf_node.specs.ByPart.{ArePartsOf};
 ghost use Rattle.sf_node.specs.Children.{IsSubproblem, CanStep, after};
 ghost use Rattle.sf_node.specs.Parts.{Parts};
 ghost use Rattle.sf_node.specs.Subproblem.{is_complete};
-ghost use Rattle.sf_standard.specs.Standard.{standard, part_value, wires_by, AllHavePlans, SinglesAreOpen};
+ghost use Rattle.sf_standard.specs.Standard.{standard, open_value, part_value, wires_by, AllHavePlans};
 
 /// No plan that belongs to a subproblem and fits costs less than the standard bound, which is the least cost at a solved one.
 pub fn standard_is_lawful()
@@ -37,8 +37,9 @@ pub fn wires_are_bounded()
     ensures { (design : Design) (node : Parts) (part : Part) → AllHavePlans design node → wires_by design node part < 2 ^ 47 }
 {}
 
-/// At a complete subproblem whose spans have one place each the standard bound is its value from area and wires: the one plan
-/// that is left has that area, and the hull of its one item with the pads is the wire of each net.
-pub fn single_spans_are_open()
-    ensures { (design : Design) → SinglesAreOpen design }
+/// At every subproblem the standard bound is its value from area and wires. At a solved one the least cost is what these
+/// cost: where wires cost nothing that of the least area, and else each span has one place, so that the one plan which is
+/// left has that area, and the hull of its one item with the pads is the wire of each net.
+pub fn standard_is_open()
+    ensures { (design : Design) (node : Parts) → IsSubproblem design node → standard design node ≡ open_value design node }
 {}

@@ -5,5 +5,5 @@ use Rattle.sf_bounds.proofs.children.value_from.Goals as goal
 pub returns-then-keeps_value-clause-value : goal.returns-then-keeps_value-clause-value
 returns-then-keeps_value-clause-value c = c.keeps_value.ensures c.if-keeps_value.true c.args.design.now c.args.value c.requires.child
 
-pub standard_valued-requires-clause-subproblem : goal.standard_valued-requires-clause-subproblem
-standard_valued-requires-clause-subproblem c = child_of c.args.design.now (standard c.args.design.now) c.args.value c.args.child.now c.requires.child
+pub all_values-requires-clause-subproblem : goal.all_values-requires-clause-subproblem
+all_values-requires-clause-subproblem c = child_of c.args.design.now (standard c.args.design.now) c.args.value c.args.child.now c.requires.child

@@ -6,7 +6,7 @@ use Rattle.sf_node.proofs.Normalised.{complete-normal}
 use Rattle.sf_node.proofs.Reached.{subproblem-spans}
 use Rattle.sf_standard.proofs.Soundness.{solved-complete}
 use Rattle.sf_bounds.proofs.OnePlan.{one-plan}
-use Rattle.sf_bounds.proofs.Solution.{solved_single}
+use Rattle.sf_standard.proofs.ByPart.{solved_single}
 use Rattle.sf_bounds.proofs.laws.solved_plans_are_one.Goals as goal
 
 pub returns : goal.returns

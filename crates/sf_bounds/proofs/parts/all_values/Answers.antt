@@ -1,7 +1,7 @@
-use Rattle.std.proofs.Common.{subst}
+use Rattle.std.proofs.Common.{sym, subst, ◌∙◌}
 use Rattle.sf_bounds.specs.Open.{IsAreaCostOrNone}
 use Rattle.sf_bounds.proofs.PartCosts.{full-is, parts-are}
-use Rattle.sf_bounds.proofs.parts.open_values.Goals as goal
+use Rattle.sf_bounds.proofs.parts.all_values.Goals as goal
 
 pub returns-clause-values : goal.returns-clause-values
 returns-clause-values c =
@@ -14,3 +14,4 @@ returns-clause-full c =
     let d = c.args.design.now in
     let n = c.args.node.now in
     full-is d n c.in-Some.area c.in_ok-wires.wires (subst (IsAreaCostOrNone d n) c.in-Some.is c.in_ok-area.ensures.cost) c.in_ok-wires.ensures.costs
+    ∙ sym (c.standard_is_open.ensures d n c.requires.subproblem)
