@@ -1,3 +1,5 @@
+//! What is left in the deques of a team.
+
 use sf_node::Tasks;
 
 /// What is left of a team.

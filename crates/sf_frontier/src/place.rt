@@ -1,3 +1,5 @@
+//! The place of a worker in its team.
+
 use crate::ends::{Owner, Thief};
 use crate::rule::Served;
 

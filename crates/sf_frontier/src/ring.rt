@@ -1,3 +1,5 @@
+//! A team: a deque for each worker, and a thief at the next one.
+
 ghost use Rattle.std.specs.Prelude.{◌≡◌, ◌<◌, ◌≤◌, length, All, IfOk};
 ghost use Rattle.sf_frontier.specs.Team.{IsTeam, IsNewPlace, IsNewOwner, IsNewThief};
 

@@ -1,3 +1,5 @@
+//! The end of a team: what is left in its deques is taken out.
+
 ghost use Rattle.std.specs.Prelude.{◌≡◌, List, ◌++◌, All, IfOk};
 ghost use Rattle.sf_node.specs.declared.task.Task.{Task};
 ghost use Rattle.sf_frontier.specs.Fair.{SameTasks};

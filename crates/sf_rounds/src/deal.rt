@@ -1,3 +1,5 @@
+//! How the tasks of a round are dealt out among its workers.
+
 ghost use Rattle.std.specs.Prelude.{◌≡◌, ℕ, ◌+◌, ◌-◌, ◌<◌, ◌≤◌, [], All, IfOk, length, map, reverse, drop};
 ghost use Rattle.sf_worker.specs.Tasks.{IsTask};
 ghost use Rattle.sf_worker.specs.Took.{Serves, tasks_weigh};

@@ -1,3 +1,5 @@
+//! What the workers of a round leave, gathered.
+
 ghost use Rattle.std.specs.Prelude.{◌≡◌, ◌++◌, ℕ, min, All, IfOk};
 ghost use Rattle.sf_model.specs.declared.design.Design.{Design as DesignValue};
 ghost use Rattle.sf_worker.specs.Took.{IsBest};

@@ -1,3 +1,5 @@
+//! What a worker of a round has, and what a round leaves.
+
 use sf_frontier::{Place, Served};
 use sf_node::{Task, Tasks};
 use sf_polish::Expr;

@@ -1,3 +1,5 @@
+//! The search by several workers: one decision in the caller and one round, in turn.
+
 ghost use Rattle.std.specs.Prelude.{◌≡◌, ◌<◌, ◌≤◌, ◌+◌, ◌++◌, ◌∷◌, [], length, sum, IfOk, MatchOption, IsPermutation, All};
 ghost use Rattle.sf_worker.specs.Tasks.{IsTask};
 ghost use Rattle.sf_bounds.specs.Serving.{MayServe};

@@ -1,3 +1,5 @@
+//! The open tasks between rounds.
+
 ghost use Rattle.std.specs.Prelude.{◌≡◌, ◌==◌, ◌<◌, ◌≤◌, ◌∷◌, ◌++◌, [], length, map, slice_index, All, IfOk, IfSome, OnOk, MatchOption, IsPermutation};
 
 use sf_node::Task;

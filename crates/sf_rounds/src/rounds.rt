@@ -1,3 +1,5 @@
+//! A round: several workers decide what the tasks handed to it lead to.
+
 ghost use Rattle.std.specs.Prelude.{◌≡◌, ◌≤◌, All, IfOk, MatchOption, Some, None, length};
 ghost use Rattle.sf_worker.specs.Tasks.{IsTask};
 ghost use Rattle.sf_worker.specs.Took.{Serves};

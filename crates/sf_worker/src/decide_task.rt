@@ -1,3 +1,5 @@
+//! The decision of one task.
+
 ghost use Rattle.std.specs.Prelude.{◌≡◌, IfOk};
 ghost use Rattle.sf_node.specs.Children.{IsSubproblem, extended};
 ghost use Rattle.sf_bounds.specs.Serving.{MayServe};

@@ -1,3 +1,5 @@
+//! What a decision says.
+
 use sf_node::{Task, Tasks};
 use sf_polish::Expr;
 

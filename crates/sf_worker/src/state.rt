@@ -1,3 +1,5 @@
+//! What a worker has, and why its pass ends.
+
 use sf_bounds::Room;
 use sf_frontier::{Place, Served};
 use sf_incumbent::Seat;

@@ -1,3 +1,5 @@
+//! One turn of a pass: a task is taken, decided and logged.
+
 ghost use Rattle.std.specs.Prelude.{◌≡◌, ℕ, ◌+◌, ◌<◌, ◌≤◌, [], ◌∷◌, All, map, MatchOption, IsTrue, IsFalse, vec_len, vec_capacity};
 ghost use Rattle.sf_model.specs.declared.TheConstants.{MAX};
 ghost use Rattle.sf_node.specs.declared.task.Task.{Task};
