@@ -28,12 +28,12 @@ use Rattle.sf_program.proofs.OneChecked.{check-read-one, measure-read-one, shape
 use Rattle.sf_program.proofs.OneDesign.{plan-one}
 use Rattle.sf_program.proofs.OneSearched.{gen-one}
 
-said-ends : (said : Outcome) → HasSearched (planned.status_of said)
+said-ends : (said : Outcome) → HasSearched (planned.outcome_status said)
 said-ends word.Optimal = tt
 said-ends word.NoneFits = tt
 said-ends word.Open = tt
 
-judged-ends : (v : Verdict) → EndsJudging (measured.status_of v)
+judged-ends : (v : Verdict) → EndsJudging (measured.verdict_status v)
 judged-ends verdict.Legal = tt
 judged-ends (verdict.Unlisted b) = tt
 judged-ends (verdict.Outside b) = tt

@@ -29,7 +29,7 @@ use Rattle.sf_program.specs.Answer.{Answers, CommandAnswer, IsAnswer, IsDone}
 use Rattle.sf_program.specs.Generated.{GenRead, cert_name}
 use Rattle.sf_program.specs.Headline.{HasSearched, IsEnd, IsFinding, IsHeadline, IsPlanOf}
 use Rattle.sf_program.specs.Outcome.{Refusal, IsRefusal}
-use Rattle.sf_program.specs.Planned.{IsAnswered, IsEnding, IsMeasured, IsSearched, IsTold, PlanRead, budget_of, status_of}
+use Rattle.sf_program.specs.Planned.{IsAnswered, IsEnding, AreMeasures, IsSearched, IsTold, PlanRead, budget_of, outcome_status}
 use Rattle.sf_program.specs.Stores.{AfterStores, Stored}
 
 -- the report of a certificate, with what is measured of its plan
@@ -47,13 +47,13 @@ unfinished design budget report ended below = smaller budget (full design) (nat_
 
 -- how a search ended, as its status says it
 ends-as : (design : Design) (budget : ℕ) (report : Report) (said : Outcome) → IsFloor design report.bound → (report.bound < report.cost → report.decided ≡ budget) → (full design ≤ budget → report.bound ≡ report.cost)
-    → IsEnding report.cost report.bound said → IsEnd design budget report (status_of said)
+    → IsEnding report.cost report.bound said → IsEnd design budget report (outcome_status said)
 ends-as design budget report word.Optimal floor spent ended e = (e.0, e.1, λ tree legal fits. subst (λ n. n ≤ cost design tree) e.1 (floor tree legal fits))
 ends-as design budget report word.NoneFits floor spent ended e = (e.1, (floor-none design).0 (subst (IsFloor design) e.1 floor))
 ends-as design budget report word.Open floor spent ended e = (e, spent e, unfinished design budget report ended e)
 
 -- a plan whose cost is stated, and of which these are measured
-measured-plan : (design : Design) (cert : Cert) (said : Outcome) (expr : Expr) (spots : List Spot) (w h wires : ℕ) → IsMeasured design expr spots w h wires → HasCost design expr cert.cost
+measured-plan : (design : Design) (cert : Cert) (said : Outcome) (expr : Expr) (spots : List Spot) (w h wires : ℕ) → AreMeasures design expr spots w h wires → HasCost design expr cert.cost
     → IsPlanOf design (report_of said cert (w, h) (w * h) wires (Some expr)) expr
 measured-plan design cert said expr spots w h wires m v =
     let same = spells-one expr m.tree v.tree m.spells v.spells in
@@ -76,7 +76,7 @@ Finds design budget status printed = (report : Report) × IsFinding design budge
 
 module _ (design : Design) (workers budget scale : ℕ) (name : List ℕ) (pl : Option (List ℕ)) (said : Outcome) (cert : Cert) (searched : IsSearched design workers budget cert) (floor : IsFloor design cert.bound) (ending : IsEnding cert.cost cert.bound said) where
   told-finds : (plan : Option Expr) (stored : List Stored) (printed : List ℕ) → MatchOption plan (cert.cost ≡ MAX) (λ expr. HasCost design expr cert.cost) → IsTold design scale name pl said cert plan stored printed
-      → Finds design budget (status_of said) printed
+      → Finds design budget (outcome_status said) printed
   told-finds None stored printed v t =
       let report = report_of said cert (0, 0) 0 0 None in
       (report, record { plan = v; floor = floor; few = searched.few; end = ends-as design budget report said floor searched.spent searched.ended ending }, t.1)

@@ -34,12 +34,12 @@ IsOwn BadInput = ⊥
 IsOwn OverLimit = ⊥
 IsOwn status = Unit {0}
 
-said-own : (said : Outcome) → IsOwn (planned.status_of said)
+said-own : (said : Outcome) → IsOwn (planned.outcome_status said)
 said-own word.Optimal = tt
 said-own word.NoneFits = tt
 said-own word.Open = tt
 
-judged-own : (v : Verdict) → IsOwn (measured.status_of v)
+judged-own : (v : Verdict) → IsOwn (measured.verdict_status v)
 judged-own verdict.Legal = tt
 judged-own (verdict.Unlisted b) = tt
 judged-own (verdict.Outside b) = tt

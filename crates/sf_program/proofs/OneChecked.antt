@@ -34,7 +34,7 @@ use Rattle.sf_checker.specs.Answers.{IsAnswer}
 use Rattle.sf_checker.proofs.OneAnswer.{one-answer}
 use Rattle.sf_words.specs.Meaning.{CheckOptions, MeasureOptions, ShapeOptions}
 use Rattle.sf_program.specs.Checked.{CertRead, CheckRead, IsChecked, IsJudged, IsRenamed, IsRewritten, JudgedFile, answer_status, answer_text, cert_refusal}
-use Rattle.sf_program.specs.Measured.{IsMeasured, MeasureRead, SpotsPlaced, SpotsRead, lines_named, sized_spot, spot_said, spots_said, status_of, verdict_text}
+use Rattle.sf_program.specs.Measured.{IsMeasured, MeasureRead, SpotsPlaced, SpotsRead, lines_named, sized_spot, spot_said, spots_said, verdict_status, verdict_text}
 use Rattle.sf_program.specs.OneAnswer.{Answer, AtMostOne, GivesOne}
 use Rattle.sf_program.specs.Outcome.{Refusal}
 use Rattle.sf_program.specs.Reading.{DesignRead, Judged, PlacesRead, Said, TextRead, With}
@@ -166,7 +166,7 @@ module _ (contents : Contents) (o : MeasureOptions) where
       let spots : p.spots ≡ q.spots = ap (λ (x : Design × List Spot). x.1) both in
       let judged = subst (λ (ss : List Spot). IsVerdict q.design ss p.verdict) spots (subst (λ (d : Design). IsVerdict d p.spots p.verdict) design p.judged) in
       let verdict = one-verdict q.design q.spots (numbered q.design q.spots (spots-read q.design q.spots q.reads)) p.verdict q.verdict judged q.judged in (
-        p.status_is ∙ ap status_of verdict ∙ sym q.status_is,
+        p.status_is ∙ ap verdict_status verdict ∙ sym q.status_is,
         p.text_is ∙ ap (λ (d : Design). verdict_text d p.spots p.verdict) design ∙ ap (λ (ss : List Spot). verdict_text q.design ss p.verdict) spots ∙ ap (verdict_text q.design q.spots) verdict ∙ sym q.text_is,
       )
 

@@ -18,7 +18,7 @@ use Rattle.sf_pl_writer.specs.ReportText.{report_text}
 use Rattle.sf_words.specs.Meaning.{GenOptions, PlanOptions}
 use Rattle.sf_program.specs.Generated.{DesignGenerated, GenRead, IsGenerated, by_default, both_weights, cert_name, parts_made, texts_stored}
 use Rattle.sf_program.specs.OneAnswer.{Answer, AtMostOne, GivesOne}
-use Rattle.sf_program.specs.Planned.{BudgetTested, IsAnswered, IsEnding, IsMeasured, IsPlanned, IsSearched, IsTold, PlanRead, budget_of, placed, status_of}
+use Rattle.sf_program.specs.Planned.{BudgetTested, IsAnswered, IsEnding, AreMeasures, IsPlanned, IsSearched, IsTold, PlanRead, budget_of, placed, outcome_status}
 use Rattle.sf_program.specs.Stores.{Stored}
 use Rattle.sf_program.specs.Weighed.{alike}
 use Rattle.sf_program.proofs.Once.{once, then-one, same-value}
@@ -43,7 +43,7 @@ Measures = List Spot × ℕ × ℕ × ℕ
 abbrev measures_of : Design → Tree → Measures
 measures_of design tree = (by_number (block_count design) (spots_of tree), width tree, height tree, wire design (spots_of tree))
 
-measures-are : (design : Design) (expr : Expr) (spots : List Spot) (w h wires : ℕ) (m : IsMeasured design expr spots w h wires) → (let found : Measures = (spots, w, h, wires) in found) ≡ measures_of design m.tree
+measures-are : (design : Design) (expr : Expr) (spots : List Spot) (w h wires : ℕ) (m : AreMeasures design expr spots w h wires) → (let found : Measures = (spots, w, h, wires) in found) ≡ measures_of design m.tree
 measures-are design expr spots w h wires m = λ i. (m.spots_are i, m.wide i, m.high i, m.wired i)
 
 module _ (design : Design) (scale : ℕ) (name : List ℕ) (pl : Option (List ℕ)) (said : Outcome) (cert : Cert) where
@@ -85,7 +85,7 @@ module _ (certs : HasOneCert) where
       let said = ending-one q.cert.cost q.cert.bound p.said q.said (subst (λ (c : Cert). IsEnding c.cost c.bound p.said) cert p.ending) q.ending in
       let told = subst (λ (s : Outcome). IsTold design scale name pl s q.cert q.cert.plan a.1 a.2) said (subst (λ (c : Cert). IsTold design scale name pl p.said c c.plan a.1 a.2) cert p.told) in
       let both = told-one design scale name pl q.said q.cert q.cert.plan a.1 b.1 a.2 b.2 told q.told in
-      (p.status_is ∙ ap status_of said ∙ sym q.status_is, both.0, both.1)
+      (p.status_is ∙ ap outcome_status said ∙ sym q.status_is, both.0, both.1)
 
   pub planned-one : (contents : Contents) (o : PlanOptions) → o.workers ≡ 1 → (a b : Answer) → IsPlanned o (Some contents) a.0 a.1 a.2 → IsPlanned o (Some contents) b.0 b.1 b.2 → (a.0 ≡ b.0) × (a.1 ≡ b.1) × (a.2 ≡ b.2)
   planned-one contents o single a b p q =

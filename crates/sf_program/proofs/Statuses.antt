@@ -22,12 +22,12 @@ use Rattle.sf_program.specs.Stores.{AfterStores, StoppedAt, Stored}
 refused-status : (status : Status) → IsRefusal status → IsAnswer status
 refused-status status r = elim r [ inl e ↦ subst IsAnswer (sym e) tt | inr e ↦ subst IsAnswer (sym e) tt ]
 
-said-status : (said : Outcome) → IsAnswer (planned.status_of said)
+said-status : (said : Outcome) → IsAnswer (planned.outcome_status said)
 said-status word.Optimal = tt
 said-status word.NoneFits = tt
 said-status word.Open = tt
 
-judged-status : (v : Verdict) → IsAnswer (measured.status_of v)
+judged-status : (v : Verdict) → IsAnswer (measured.verdict_status v)
 judged-status verdict.Legal = tt
 judged-status (verdict.Unlisted b) = tt
 judged-status (verdict.Outside b) = tt

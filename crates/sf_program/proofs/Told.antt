@@ -13,7 +13,7 @@ use Rattle.sf_standard.proofs.ByPart.{parts_are_below}
 use Rattle.sf_standard.proofs.Soundness.{standard_is_sound}
 use Rattle.sf_pl_writer.specs.declared.report.Outcome.{Outcome}
 use Rattle.sf_program.specs.declared.work.Work.{Work}
-use Rattle.sf_program.specs.Planned.{IsAnswered, IsEnding, IsSearched, IsTold, status_of}
+use Rattle.sf_program.specs.Planned.{IsAnswered, IsEnding, IsSearched, IsTold, outcome_status}
 use Rattle.sf_program.specs.Stores.{stored_in}
 
 least-below : (n : ℕ) (xs : List ℕ) → least n xs ≤ n
@@ -28,7 +28,7 @@ bound-below design workers budget cert s =
 module _ {E : Type 0} (design : Design) (workers budget scale : ℕ) (name : List ℕ) (pl : Option (List ℕ)) (said : Outcome) (cert : Cert) (plan : Option Expr) (searched : IsSearched design workers budget cert) (same : plan ≡ cert.plan) (ending : IsEnding cert.cost cert.bound said) where
   pub told-answered : (r : Result Work E)
       → IfOk r (λ w. IsTold design scale name pl said cert plan (stored_in w.stores.items) w.text.items)
-      → IfOk r (λ w. w.status ≡ status_of said)
+      → IfOk r (λ w. w.status ≡ outcome_status said)
       → IfOk r (λ w. IsAnswered design workers budget scale name pl w.status (stored_in w.stores.items) w.text.items)
   told-answered (Ok w) told status = record {
     cert = cert;

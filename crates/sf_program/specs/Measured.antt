@@ -59,11 +59,11 @@ SpotsRead held o design = Then (PlacesRead held (codes "placed") o.design.per_un
 abbrev pub MeasureRead : Option Contents → MeasureOptions → Result (Design × List Spot) Refusal → Type 0
 MeasureRead held o = Then (DesignRead held o.design o.weights) (With (SpotsRead held o))
 
-abbrev pub status_of : Verdict → Status
-status_of Legal = Done
-status_of (Unlisted b) = No
-status_of (Outside b) = No
-status_of (Overlap a b) = No
+abbrev pub verdict_status : Verdict → Status
+verdict_status Legal = Done
+verdict_status (Unlisted b) = No
+verdict_status (Outside b) = No
+verdict_status (Overlap a b) = No
 
 -- what a legal placement costs, how large it is, and the length of its wires without the weight
 abbrev pub legal_text : ℕ → ℕ → ℕ → ℕ → List ℕ
@@ -86,5 +86,5 @@ pub record IsMeasured (o : MeasureOptions) (before : Option Contents) (status : 
   pub reads : MeasureRead before o (Ok (design, spots))
   pub verdict : Verdict
   pub judged : IsVerdict design spots verdict
-  pub status_is : status ≡ status_of verdict
+  pub status_is : status ≡ verdict_status verdict
   pub text_is : printed ≡ verdict_text design spots verdict

@@ -63,13 +63,13 @@ IsEnding cost bound word.Optimal = (cost < MAX) × (bound ≡ cost)
 IsEnding cost bound word.NoneFits = (cost ≡ MAX) × (bound ≡ MAX)
 IsEnding cost bound word.Open = bound < cost
 
-abbrev pub status_of : Outcome → Status
-status_of word.Optimal = Done
-status_of word.NoneFits = NoneFits
-status_of word.Open = Open
+abbrev pub outcome_status : Outcome → Status
+outcome_status word.Optimal = Done
+outcome_status word.NoneFits = NoneFits
+outcome_status word.Open = Open
 
 -- what is measured of the plan that an expression spells
-pub record IsMeasured (design : Design) (expr : Expr) (spots : List Spot) (w h length_of_wires : ℕ) : Type 0 where
+pub record AreMeasures (design : Design) (expr : Expr) (spots : List Spot) (w h length_of_wires : ℕ) : Type 0 where
   pub tree : Tree
   pub spells : Spells expr tree
   pub spots_are : spots ≡ by_number (block_count design) (spots_of tree)
@@ -88,7 +88,7 @@ IsTold design scale name pl said cert None stored printed =
     (stored ≡ (name, cert_text cert) ∷ [])
     × (printed ≡ report_text (record { word = said; cost = cert.cost; bound = cert.bound; decided = decided cert.tags; size = (0, 0); area = 0; wire = 0; plan = None }))
 IsTold design scale name pl said cert (Some expr) stored printed =
-    (spots : List Spot) × (w h wires : ℕ) × IsMeasured design expr spots w h wires
+    (spots : List Spot) × (w h wires : ℕ) × AreMeasures design expr spots w h wires
     × (stored ≡ (name, cert_text cert) ∷ placed design scale pl spots)
     × (printed ≡ report_text (record { word = said; cost = cert.cost; bound = cert.bound; decided = decided cert.tags; size = (w, h); area = w * h; wire = wires; plan = Some expr }))
 
@@ -111,7 +111,7 @@ pub record IsAnswered (design : Design) (workers budget scale : ℕ) (cert_name 
   pub accepted : (answer : Answer) → IsAnswer design (standard design) (part_value design) cert answer → is_yes answer ≡ true
   pub said : Outcome
   pub ending : IsEnding cert.cost cert.bound said
-  pub status_is : status ≡ status_of said
+  pub status_is : status ≡ outcome_status said
   pub told : IsTold design scale cert_name pl_name said cert cert.plan stored printed
 
 -- the files stand for a design, and this is the answer of its search

@@ -28,10 +28,10 @@ pub fn budget_of(nodes: Option<u64>, blocks: u64) -> u64
     }
 }
 
-/// The budget, where it is within its limit.
-pub fn test_budget(alloc: Global, nodes: Option<u64>, blocks: u64) -> Result<u64, Stop>
+/// Refuses a budget past its limit.
+pub fn test_budget(alloc: Global, nodes: Option<u64>, blocks: u64) -> Result<(), Stop>
     requires { blocks ≤ 320 }
-    ensures budget { Ends (λ x. x) result (BudgetTested nodes blocks) }
+    ensures budget { Ends (λ _. budget_of nodes blocks) result (BudgetTested nodes blocks) }
     ensures tells { TellsNoLoad result }
 {
     let budget = budget_of(nodes, blocks);
@@ -39,5 +39,5 @@ pub fn test_budget(alloc: Global, nodes: Option<u64>, blocks: u64) -> Result<u64
     if budget > limit {
         return Err(over_limit(alloc, "nodes", budget, limit)?);
     }
-    Ok(budget)
+    Ok(())
 }

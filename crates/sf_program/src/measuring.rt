@@ -8,7 +8,7 @@ ghost use Rattle.sf_place.specs.Spots.{HasNearCorner, IsByNumber};
 ghost use Rattle.sf_place.specs.Verdict.{AreLegal, IsVerdict};
 ghost use Rattle.sf_words.specs.Seen.{measure_seen};
 ghost use Rattle.sf_program.specs.Loads.{Reads, TellsLoads};
-ghost use Rattle.sf_program.specs.Measured.{IsMeasured, MeasureRead, SpotsRead, legal_text, status_of};
+ghost use Rattle.sf_program.specs.Measured.{IsMeasured, MeasureRead, SpotsRead, legal_text, verdict_status};
 ghost use Rattle.sf_program.specs.Measured.{verdict_text};
 ghost use Rattle.sf_program.specs.Outcome.{Ends, Stops};
 ghost use Rattle.sf_program.specs.Stores.{stored_in};
@@ -44,8 +44,9 @@ fn read_spots<S: Shelf>(
     place_blocks(alloc, design.blocks.as_slice(), file.places.as_slice())
 }
 
-fn status_of(verdict: Verdict) -> Status
-    ensures { result ≡ status_of verdict }
+/// The status that goes with the verdict.
+fn verdict_status(verdict: Verdict) -> Status
+    ensures { result ≡ verdict_status verdict }
 {
     match verdict {
         Verdict::Legal => Status::Done,
@@ -69,6 +70,7 @@ fn legal_text(alloc: Global, design: &Design, spots: &[Spot]) -> Result<Vec<u8>,
     Ok(text.into_bytes())
 }
 
+/// What is printed of a verdict.
 fn verdict_text(
     alloc: Global,
     design: &Design,
@@ -106,5 +108,5 @@ pub fn measure<S: Shelf>(
     let spots = read_spots(alloc, words, shelf, &design)?;
     let verdict = check_spots(&design, &spots);
     let text = verdict_text(alloc, &design, &spots, verdict)?;
-    Ok(Work::printed(alloc, status_of(verdict), text))
+    Ok(Work::printed(alloc, verdict_status(verdict), text))
 }

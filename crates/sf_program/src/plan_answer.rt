@@ -10,7 +10,7 @@ ghost use Rattle.sf_certificate.specs.Valid.{HasCost, decided};
 ghost use Rattle.sf_pl_writer.specs.Length.{IsScale};
 ghost use Rattle.sf_pl_writer.specs.PlText.{pl_text};
 ghost use Rattle.sf_words.specs.Seen.{text_of};
-ghost use Rattle.sf_program.specs.Planned.{IsEnding, IsMeasured, IsTold, placed, status_of};
+ghost use Rattle.sf_program.specs.Planned.{IsEnding, AreMeasures, IsTold, placed, outcome_status};
 ghost use Rattle.sf_program.specs.Stores.{stored_in};
 
 use crate::work::{Store, Work};
@@ -46,8 +46,9 @@ pub fn ending_of(cost: u64, bound: u64) -> Outcome
     }
 }
 
-pub fn status_of(said: Outcome) -> Status
-    ensures { result ≡ status_of said }
+/// The status that goes with the word.
+fn outcome_status(said: Outcome) -> Status
+    ensures { result ≡ outcome_status said }
 {
     match said {
         Outcome::Optimal => Status::Done,
@@ -68,7 +69,7 @@ fn measure_plan(alloc: Global, design: &Design, expr: &Expr) -> Result<Measured,
     requires writable { IsWritable (block_count design.now) expr.now }
     requires fits { (z : ℕ) × HasCost design.now expr.now z }
     ensures measured { IfOk result (λ m.
-        IsMeasured design.now expr.now m.spots.items m.size.0 m.size.1 m.wire) }
+        AreMeasures design.now expr.now m.spots.items m.size.0 m.size.1 m.wire) }
     ensures one_each { IfOk result (λ m. length m.spots.items ≡ block_count design.now) }
     ensures small { IfOk result (λ m. (m.size.0 ≤ 2 ^ 20) × (m.size.1 ≤ 2 ^ 20)) }
 {
@@ -135,7 +136,7 @@ pub fn tell_none(
     ensures told { let names = names.entry in IfOk result (λ w.
         IsTold design.now names.scale names.cert.now (text_of names.pl) said cert.now None
         (stored_in w.stores.items) w.text.items) }
-    ensures status { IfOk result (λ w. w.status ≡ status_of said) }
+    ensures status { IfOk result (λ w. w.status ≡ outcome_status said) }
 {
     let report = Report {
         word: said,
@@ -149,7 +150,7 @@ pub fn tell_none(
     };
     let text = report_text(alloc, &report)?;
     Ok(Work {
-        status: status_of(said),
+        status: outcome_status(said),
         stores: stored_cert(alloc, cert, names.cert)?,
         text,
     })
@@ -173,7 +174,7 @@ pub fn tell_plan(
     ensures told { let names = names.entry in IfOk result (λ w.
         IsTold design.now names.scale names.cert.now (text_of names.pl) said cert.now (Some expr)
         (stored_in w.stores.items) w.text.items) }
-    ensures status { IfOk result (λ w. w.status ≡ status_of said) }
+    ensures status { IfOk result (λ w. w.status ≡ outcome_status said) }
 {
     let measured = measure_plan(alloc, design, &expr)?;
     let mut stores = stored_cert(alloc, cert, names.cert)?;
@@ -192,7 +193,7 @@ pub fn tell_plan(
     };
     let text = report_text(alloc, &report)?;
     Ok(Work {
-        status: status_of(said),
+        status: outcome_status(said),
         stores,
         text,
     })

@@ -48,7 +48,7 @@ fn within_budget(alloc: Global, words: &PlanWords<'_>, read: Weighed) -> Result<
     admitted_parts_keep_limits();
     let blocks = read.parts.blocks.as_slice().len() as u64;
     match test_budget(alloc, words.nodes, blocks) {
-        Ok(_) => make_design(alloc, &words.design, words.weights, read),
+        Ok(()) => make_design(alloc, &words.design, words.weights, read),
         Err(stop) => Err(stop),
     }
 }

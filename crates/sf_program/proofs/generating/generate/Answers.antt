@@ -20,19 +20,19 @@ returns-in_err-design-clause-refused g c =
     rw (p.1, p.2) (never-stops (λ why. GenRead (gen_seen c.args.words.now) (Err why)) c.in_err-design.field-0.0 c.in_err-design.ensures.never)
 
 pub returns-in_err-parts-clause-tells : goal.returns-in_err-parts-clause-tells
-returns-in_err-parts-clause-tells g c = λ loads loads_then.
+returns-in_err-parts-clause-tells g c = λ before after.
     let p = err_from_is_err_and c.from_residual-in_err-parts.result c.from_residual-in_err-parts.ensures.1 in
-    rw (p.1, p.2) (c.in_err-parts.ensures.tells loads loads_then)
+    rw (p.1, p.2) (c.in_err-parts.ensures.tells before after)
 
 pub returns-in_err-design-clause-tells : goal.returns-in_err-design-clause-tells
-returns-in_err-design-clause-tells g c = λ loads loads_then.
+returns-in_err-design-clause-tells g c = λ before after.
     let p = err_from_is_err_and c.from_residual-in_err-design.result c.from_residual-in_err-design.ensures.1 in
-    rw (p.1, p.2) (c.in_err-design.ensures.tells loads loads_then)
+    rw (p.1, p.2) (c.in_err-design.ensures.tells before after)
 
 pub returns-in_err-test_budget-clause-tells : goal.returns-in_err-test_budget-clause-tells
-returns-in_err-test_budget-clause-tells g c = λ loads loads_then.
+returns-in_err-test_budget-clause-tells g c = λ before after.
     let p = err_from_is_err_and c.from_residual.result c.from_residual.ensures.1 in
-    rw (p.1, p.2) (c.in_err-test_budget.ensures.tells loads loads_then)
+    rw (p.1, p.2) (c.in_err-test_budget.ensures.tells before after)
 
 pub returns-clause-answer : goal.returns-clause-answer
 returns-clause-answer g c =
@@ -43,15 +43,15 @@ returns-clause-answer g c =
     let found = c.in_ok-searched.searched in
     let stores = stored_in found.stores.items in
     let name : c.as_str.result.now ≡ cert_name o = c.as_str.ensures.value ∙ c.in_ok-cert.ensures in
-    let tested : BudgetTested words.nodes words.count (Ok c.in_ok-test_budget.field-0) =
-    subst (λ (n : ℕ). BudgetTested words.nodes n (Ok c.in_ok-test_budget.field-0)) c.from.ensures c.in_ok-test_budget.ensures.budget in
+    let tested : BudgetTested words.nodes words.count (Ok (budget_of words.nodes words.count)) =
+    subst (λ (n : ℕ). BudgetTested words.nodes n (Ok (budget_of words.nodes n))) c.from.ensures c.in_ok-test_budget.ensures.budget in
     let named : IsAnswered design 1 budget 1 (cert_name o) None found.status stores found.text.items =
     subst (λ (n : List ℕ). IsAnswered design 1 budget 1 n None found.status stores found.text.items) name c.in_ok-searched.ensures in
     let stated : IsAnswered design 1 budget 1 (cert_name o) None c.in_ok-work.work.status stores found.text.items =
     subst (λ (s : Status). IsAnswered design 1 budget 1 (cert_name o) None s stores found.text.items) (sym c.in_ok-work.ensures.status) named in
     record {
       design = design;
-      made = inl (c.in_ok-test_budget.field-0, tested, c.in_ok-design.ensures.design);
+      made = inl (budget_of words.nodes words.count, tested, c.in_ok-design.ensures.design);
       searched = stores;
       answered = subst (λ (t : List ℕ). IsAnswered design 1 budget 1 (cert_name o) None c.in_ok-work.work.status stores t) (sym (ap (λ v. v.items) c.in_ok-work.ensures.text)) stated;
       stored_is = c.in_ok-work.ensures.stores ∙ ap (λ (ss : List Stored). ss ++ stores) c.in_ok-stores.ensures;

@@ -35,6 +35,6 @@ returns-clause-answer g c =
       reads = inl (design, c.in_ok-design.ensures.design, (refl, read));
       verdict = verdict;
       judged = subst (λ (ss : List Spot). IsVerdict design ss verdict) c.deref.ensures.value c.check_spots-verdict.ensures.verdict;
-      status_is = c.printed.ensures.status ∙ c.status_of.ensures;
+      status_is = c.printed.ensures.status ∙ c.verdict_status.ensures;
       text_is = c.printed.ensures.text ∙ c.in_ok-text.ensures ∙ ap (λ (ss : List Spot). verdict_text design ss verdict) c.deref-2.ensures.value;
     }
