@@ -8,7 +8,7 @@ ghost use Rattle.sf_node.specs.Children.{IsSubproblem};
 ghost use Rattle.sf_node.specs.Later.{IsChildOf};
 ghost use Rattle.sf_bounds.specs.Serving.{MayServe};
 
-use crate::children::{Valued, keeps_value, value_from};
+use crate::children::{Valued, keeps_value};
 use crate::parts::{all_values, part_value};
 use crate::room::Room;
 use sf_model::Design;
@@ -139,18 +139,7 @@ impl Bounds for Standard {
         node: &Node,
         room: &mut Room<'a>,
     ) -> Result<u64, NoMemory> {
-        room.serve(design);
-        let Some(kept) = &mut room.kept else {
-            unreachable!()
-        };
-        let values = all_values(
-            &mut kept.frames,
-            &mut kept.nets,
-            &mut room.scratch,
-            design,
-            node,
-        )?;
-        Ok(values.full)
+        Ok(all_values(room, design, node)?.full)
     }
 
     fn child_bound<'a>(
@@ -174,18 +163,15 @@ impl Bounds for Standard {
         value: u64,
         room: &mut Room<'a>,
     ) -> Result<Valued, NoMemory> {
-        room.serve(design);
-        let Some(kept) = &mut room.kept else {
-            unreachable!()
-        };
-        value_from(
-            &mut kept.frames,
-            &mut kept.nets,
-            &mut room.scratch,
-            design,
-            child,
-            value,
-        )
+        if keeps_value(child) {
+            room.serve(design);
+            return Ok(Valued { value, parts: None });
+        }
+        let values = all_values(room, design, child)?;
+        Ok(Valued {
+            value: values.full,
+            parts: Some(values.parts),
+        })
     }
 
     fn part<'a>(
@@ -195,18 +181,7 @@ impl Bounds for Standard {
         part: Part,
         room: &mut Room<'a>,
     ) -> Result<u64, NoMemory> {
-        room.serve(design);
-        let Some(kept) = &mut room.kept else {
-            unreachable!()
-        };
-        part_value(
-            &mut kept.frames,
-            &mut kept.nets,
-            &mut room.scratch,
-            design,
-            node,
-            part,
-        )
+        part_value(room, design, node, part)
     }
 
     fn parts<'a>(
@@ -215,17 +190,6 @@ impl Bounds for Standard {
         node: &Node,
         room: &mut Room<'a>,
     ) -> Result<PartValues, NoMemory> {
-        room.serve(design);
-        let Some(kept) = &mut room.kept else {
-            unreachable!()
-        };
-        let values = all_values(
-            &mut kept.frames,
-            &mut kept.nets,
-            &mut room.scratch,
-            design,
-            node,
-        )?;
-        Ok(values.parts)
+        Ok(all_values(room, design, node)?.parts)
     }
 }

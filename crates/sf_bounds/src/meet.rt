@@ -16,7 +16,8 @@ fn shared(first: Interval, second: Interval) -> Interval
 
 /// What two reaches share.
 pub fn met(first: Reach, second: Reach) -> Reach
-    ensures { result ≡ met first second }
+    ensures is { result ≡ met first second }
+    ensures near { IsNearby first → IsNearby second → IsNearby result }
 {
     Reach {
         across: shared(first.across, second.across),

@@ -1,18 +1,19 @@
 //! The values of the parts of the standard bound.
 
-ghost use Rattle.std.specs.Prelude.{◌≡◌, IfOk};
+ghost use Rattle.std.specs.Prelude.{◌≡◌, Some, IfOk};
 ghost use Rattle.sf_node.specs.Children.{IsSubproblem};
 ghost use Rattle.sf_node.specs.declared.part.Part.TheVariants.{Area};
 ghost use Rattle.sf_node.specs.ByPart.{AreValues};
 ghost use Rattle.sf_standard.specs.Standard.{standard, part_value, AllHavePlans};
 ghost use Rattle.sf_bounds.specs.Open.{AreWireParts, AreWireCosts};
+ghost use Rattle.sf_bounds.specs.Serving.{MayServe};
 
 use crate::net_frames::NetFrames;
+use crate::room::Room;
 use crate::scratch::Scratch;
 use crate::value::area_cost;
 use crate::wire_parts::{self, WireParts};
 use crate::wires_by::wires_by;
-use sf_frames::Frames;
 use sf_model::{Design, MAX};
 use sf_node::{Node, Part, PartValues};
 use sf_standard::laws::{standard_is_open, wires_are_bounded};
@@ -77,29 +78,29 @@ pub struct AllValues {
 
 /// The value of the bound with those of the parts below it, all measured at once: from the area that is needed and the wires,
 /// at a solved subproblem too.
-pub fn all_values(
-    frames: &mut Frames,
-    nets: &mut NetFrames,
-    scratch: &mut Scratch,
-    design: &Design,
+pub fn all_values<'a>(
+    room: &mut Room<'a>,
+    design: &'a Design,
     node: &Node,
 ) -> Result<AllValues, NoMemory>
     requires subproblem { IsSubproblem design.now node.now }
-    requires serves { frames.old ≡ design.now }
-    requires serves_nets { nets.old ≡ design.now }
+    requires serves { MayServe room.old design.now }
     ensures full { IfOk result (λ values. values.full ≡ standard design.now node.now) }
     ensures values { IfOk result (λ values. AreValues (part_value design.now node.now) values.parts) }
-    ensures serves { frames.new ≡ design.now }
-    ensures serves_nets { nets.new ≡ design.now }
+    ensures serves { room.new ≡ Some design.now }
 {
     standard_is_open();
-    let Some(area) = area_cost(frames, scratch, design, node)? else {
+    room.serve(design);
+    let Some(kept) = &mut room.kept else {
+        unreachable!()
+    };
+    let Some(area) = area_cost(&mut kept.frames, &mut room.scratch, design, node)? else {
         return Ok(AllValues {
             full: MAX,
             parts: all_alike(MAX),
         });
     };
-    let wires = wire_costs(nets, scratch, design, node)?;
+    let wires = wire_costs(&mut kept.nets, &mut room.scratch, design, node)?;
     let parts = PartValues {
         area,
         range: area + wires.range,
@@ -125,45 +126,39 @@ pub fn all_alike(value: u64) -> PartValues
 }
 
 // What the area alone costs, or the mark of no cost.
-fn area_value(
-    frames: &mut Frames,
-    scratch: &mut Scratch,
-    design: &Design,
-    node: &Node,
-) -> Result<u64, NoMemory>
+fn area_value<'a>(room: &mut Room<'a>, design: &'a Design, node: &Node) -> Result<u64, NoMemory>
     requires subproblem { IsSubproblem design.now node.now }
-    requires serves { frames.old ≡ design.now }
+    requires serves { MayServe room.old design.now }
     ensures value { IfOk result (λ v. v ≡ part_value design.now node.now Area) }
-    ensures serves { frames.new ≡ design.now }
+    ensures serves { room.new ≡ Some design.now }
 {
-    let cost = area_cost(frames, scratch, design, node)?;
-    match cost {
-        Some(area) => Ok(area),
-        None => Ok(MAX),
-    }
+    room.serve(design);
+    let Some(kept) = &mut room.kept else {
+        unreachable!()
+    };
+    let Some(area) = area_cost(&mut kept.frames, &mut room.scratch, design, node)? else {
+        return Ok(MAX);
+    };
+    Ok(area)
 }
 
 /// The value of one part. That of the area looks at no net.
-pub fn part_value(
-    frames: &mut Frames,
-    nets: &mut NetFrames,
-    scratch: &mut Scratch,
-    design: &Design,
+pub fn part_value<'a>(
+    room: &mut Room<'a>,
+    design: &'a Design,
     node: &Node,
     part: Part,
 ) -> Result<u64, NoMemory>
     requires subproblem { IsSubproblem design.now node.now }
-    requires serves { frames.old ≡ design.now }
-    requires serves_nets { nets.old ≡ design.now }
+    requires serves { MayServe room.old design.now }
     ensures value { IfOk result (λ v. v ≡ part_value design.now node.now part) }
-    ensures serves { frames.new ≡ design.now }
-    ensures serves_nets { nets.new ≡ design.now }
+    ensures serves { room.new ≡ Some design.now }
 {
     match part {
-        Part::Area => area_value(frames, scratch, design, node),
-        Part::Range => Ok(all_values(frames, nets, scratch, design, node)?.parts.range),
-        Part::Pair => Ok(all_values(frames, nets, scratch, design, node)?.parts.pair),
-        Part::Hull => Ok(all_values(frames, nets, scratch, design, node)?.parts.hull),
-        Part::Full => Ok(all_values(frames, nets, scratch, design, node)?.full),
+        Part::Area => area_value(room, design, node),
+        Part::Range => Ok(all_values(room, design, node)?.parts.range),
+        Part::Pair => Ok(all_values(room, design, node)?.parts.pair),
+        Part::Hull => Ok(all_values(room, design, node)?.parts.hull),
+        Part::Full => Ok(all_values(room, design, node)?.full),
     }
 }

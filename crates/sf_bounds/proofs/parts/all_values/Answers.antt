@@ -7,11 +7,11 @@ pub returns-clause-values : goal.returns-clause-values
 returns-clause-values c =
     let d = c.args.design.now in
     let n = c.args.node.now in
-    parts-are d n c.in-Some.area c.in_ok-wires.wires (subst (IsAreaCostOrNone d n) c.in-Some.is c.in_ok-area.ensures.cost) c.in_ok-wires.ensures.costs
+    parts-are d n c.in-Some-2.area c.in_ok-wires.wires (subst (IsAreaCostOrNone d n) c.in-Some-2.is c.in_ok-area.ensures.cost) c.in_ok-wires.ensures.costs
 
 pub returns-clause-full : goal.returns-clause-full
 returns-clause-full c =
     let d = c.args.design.now in
     let n = c.args.node.now in
-    full-is d n c.in-Some.area c.in_ok-wires.wires (subst (IsAreaCostOrNone d n) c.in-Some.is c.in_ok-area.ensures.cost) c.in_ok-wires.ensures.costs
+    full-is d n c.in-Some-2.area c.in_ok-wires.wires (subst (IsAreaCostOrNone d n) c.in-Some-2.is c.in_ok-area.ensures.cost) c.in_ok-wires.ensures.costs
     ∙ sym (c.standard_is_open.ensures d n c.requires.subproblem)

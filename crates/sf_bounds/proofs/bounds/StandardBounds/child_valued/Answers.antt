@@ -1,6 +1,6 @@
 use Rattle.sf_standard.specs.Standard.{standard}
 use Rattle.sf_bounds.proofs.Born.{child_of}
-use Rattle.sf_bounds.proofs.children.value_from.Goals as goal
+use Rattle.sf_bounds.proofs.bounds.StandardBounds.child_valued.Goals as goal
 
 pub returns-then-keeps_value-clause-value : goal.returns-then-keeps_value-clause-value
 returns-then-keeps_value-clause-value c = c.keeps_value.ensures c.if-keeps_value.true c.args.design.now c.args.value c.requires.child
