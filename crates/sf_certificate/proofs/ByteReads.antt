@@ -1,8 +1,10 @@
 -- The tree of a text, read byte by byte.
-use Rattle.std.proofs.Common.{◌≡◌, ◌⊎◌, inl, inr, ℕ, ◌+◌, ◌≤◌, List, [], ◌∷◌, ◌++◌, length, arith, refl, ap, sym, ◌∙◌, Bool, true, false, not, append_assoc, length-append, ◌&&◌, Option, Some, None, Result, Ok, Err}
+use Rattle.std.proofs.Common.{◌≡◌, ℕ, ◌+◌, ◌≤◌, List, [], ◌∷◌, ◌++◌, length, take, drop, arith, refl, ap, sym, subst, ◌∙◌, Bool, true, false, not, append_assoc, length-append, ◌&&◌, Option, Some, None, Result, Ok, Err}
 use Rattle.std.specs.Prelude.{◌≢◌, IfOk, IfErr, nat_le}
-use Rattle.std.specs.List.{count_by, list_all}
+use Rattle.std.specs.List.{count_by, list_all, position_or_len, slice_get}
 use Rattle.std.proofs.lemmas.Bool.Decides.{nat_tests}
+use Rattle.std.proofs.Math.Seq.{take-add}
+use Rattle.std.proofs.lemmas.List.{take-append-drop}
 use Rattle.std.proofs.lemmas.List.Folds.{list_all-append}
 use Rattle.std.proofs.lemmas.Result.{IfErr-weaker}
 use Rattle.sf_lex.specs.Text.{is_blank_byte, is_line_feed, is_not_empty, has_none}
@@ -10,7 +12,7 @@ use Rattle.sf_lex.specs.Scan.{LineWord, last_word_line}
 use Rattle.sf_lex.specs.Number.{is_digit}
 use Rattle.sf_lex.specs.Whole.{whole_read}
 use Rattle.sf_lex.proofs.Decimals.{and_true}
-use Rattle.sf_lex.proofs.WordLines.{words_from, IsRun, words_from-run, words_from-gap}
+use Rattle.sf_lex.proofs.WordLines.{words_from, IsRun, IsEnded, run_of, ended_of, words_from-run, words_from-gap}
 use Rattle.sf_certificate.specs.declared.fault.CertFault.{CertFault}
 use Rattle.sf_certificate.specs.declared.fault.CertFault.TheVariants.{NoMemory}
 use Rattle.sf_certificate.specs.declared.letter.HalfTag.{HalfTag}
@@ -19,7 +21,7 @@ use Rattle.sf_certificate.specs.declared.letter.Second.TheVariants as second
 use Rattle.sf_certificate.specs.declared.tag.Tag.{Tag}
 use Rattle.sf_certificate.specs.declared.version.Version.{Version}
 use Rattle.sf_certificate.specs.Reading.{Reader, letter_of, part_of, by_letter, split_by, closed_by, second_by, tags_said, tree_from, read_on, with_some}
-use Rattle.sf_certificate.specs.Bytes.{Bytewise, begun, bytes_on, words_on}
+use Rattle.sf_certificate.specs.Bytes.{Bytewise, begun, bytes_on, past_blank, words_on}
 
 not-true : (b : Bool) → not b ≡ true → b ≡ false
 not-true true e = absurd (cc)
@@ -181,27 +183,82 @@ pub some-fault : (tag : Option Tag) (e : CertFault) → with_some tag (Err e) �
 some-fault None e = refl
 some-fault (Some tag) e = refl
 
--- a blank that ends no line
-module _ (n b : ℕ) (old new : Bytewise) (r : Result (Option Tag) CertFault) (run : has_none is_blank_byte old.word ≡ true) (blank : is_blank_byte b ≡ true) (same : is_line_feed b ≡ false) where
-  stays : old.line + count_by is_line_feed (b ∷ []) ≡ old.line
-  stays = rw same (omega arith)
+-- a blank behind the word
+module _ (n : ℕ) (old new : Bytewise) (run : has_none is_blank_byte old.word ≡ true) where
+  pub past-tag : (tag : Option Tag) → ((last : ℕ) (others : List LineWord) → read_on n last old.tree (begun old.line old.word ++ others) ≡ with_some tag (read_on n last new.tree others)) → IsEndOf old new
+      → (b : ℕ) (rest : List ℕ) → is_blank_byte b ≡ true → bytes_on n old (b ∷ rest) ≡ with_some tag (bytes_on n (past_blank b new) rest)
+  past-tag tag f end b rest blank =
+      blank-tag n old b (old.line + count_by is_line_feed (b ∷ [])) rest run blank refl new tag f end
+      ∙ ap (λ l. with_some tag (bytes_on n (record { tree = new.tree; word = new.word; line = l + count_by is_line_feed (b ∷ []); last = new.last }) rest)) (sym (ap (λ (at : Bytewise). at.line) end))
 
-  pub gap-tag : IfOk r (λ tag. (last : ℕ) (others : List LineWord) → read_on n last old.tree (begun old.line old.word ++ others) ≡ with_some tag (read_on n last new.tree others)) → IfOk r (λ tag. IsEndOf old new)
-      → IfOk r (λ tag. (rest : List ℕ) → bytes_on n old (b ∷ rest) ≡ with_some tag (bytes_on n new rest))
-  gap-tag f end =
-      elim r as (λ r. IfOk r (λ tag. (last : ℕ) (others : List LineWord) → read_on n last old.tree (begun old.line old.word ++ others) ≡ with_some tag (read_on n last new.tree others)) → IfOk r (λ tag. IsEndOf old new)
-      → IfOk r (λ tag. (rest : List ℕ) → bytes_on n old (b ∷ rest) ≡ with_some tag (bytes_on n new rest))) [
-        | Ok tag ↦ (λ f end rest. blank-tag n old b old.line rest run blank stays new tag f end
-            ∙ ap (λ l. with_some tag (bytes_on n (record { tree = new.tree; word = new.word; line = l; last = new.last }) rest)) (sym (ap (λ (at : Bytewise). at.line) end)))
+  pub past-fault : (e : CertFault) → ((last : ℕ) (others : List LineWord) → read_on n last old.tree (begun old.line old.word ++ others) ≡ Err e) → (b : ℕ) (rest : List ℕ) → is_blank_byte b ≡ true → bytes_on n old (b ∷ rest) ≡ Err e
+  past-fault e f b rest blank = blank-fault n old b _ rest run blank refl e f
+
+-- a blank behind a word of which nothing was kept: its bytes are these
+module _ (n line last : ℕ) (tree : Reader) (w : List ℕ) (run : has_none is_blank_byte w ≡ true) where
+  begun-some : (w : List ℕ) → (length w ≡ 0 → ⊥) → begun line w ≡ record { line = line; text = w } ∷ []
+  begun-some [] some = absurd (some refl)
+  begun-some (b ∷ w) some = refl
+
+  abbrev kept-whole : Bytewise
+  kept-whole = record { tree = tree; word = w; line = line; last = last }
+
+  pub run-tag : (new : Reader) (tag : Option Tag) → (length w ≡ 0 → ⊥) → ((last : ℕ) (others : List LineWord) → read_on n last tree (record { line = line; text = w } ∷ others) ≡ with_some tag (read_on n last new others))
+      → (b : ℕ) (rest : List ℕ) → is_blank_byte b ≡ true → bytes_on n (record { tree = tree; word = []; line = line; last = last }) (w ++ b ∷ rest) ≡ with_some tag (bytes_on n (past_blank b (record { tree = new; word = []; line = line; last = line })) rest)
+  run-tag new tag some f =
+      let e = begun-some w some in
+      past-tag n kept-whole (record { tree = new; word = []; line = line; last = line }) run tag
+      (λ last others. ap (λ (ws : List LineWord). read_on n last tree (ws ++ others)) e ∙ f last others)
+      (ap (λ (ws : List LineWord). record { tree = new; word = []; line = line; last = last_word_line last ws }) (sym e))
+
+  pub run-fault : (e : CertFault) → (length w ≡ 0 → ⊥) → ((last : ℕ) (others : List LineWord) → read_on n last tree (record { line = line; text = w } ∷ others) ≡ Err e)
+      → (b : ℕ) (rest : List ℕ) → is_blank_byte b ≡ true → bytes_on n (record { tree = tree; word = []; line = line; last = last }) (w ++ b ∷ rest) ≡ Err e
+  run-fault e some f = past-fault n kept-whole kept-whole run e (λ last others. ap (λ (ws : List LineWord). read_on n last tree (ws ++ others)) (begun-some w some) ∙ f last others)
+
+-- a blank behind more of a word
+module _ (first mid new : Bytewise) (w : List ℕ) (n : ℕ) (r : Result (Option Tag) CertFault) (run : has_none is_blank_byte mid.word ≡ true) (keeps : (n : ℕ) (rest : List ℕ) → bytes_on n first (w ++ rest) ≡ bytes_on n mid rest) where
+  pub kept-tag : IfOk r (λ tag. (last : ℕ) (others : List LineWord) → read_on n last mid.tree (begun mid.line mid.word ++ others) ≡ with_some tag (read_on n last new.tree others)) → IfOk r (λ tag. IsEndOf mid new)
+      → IfOk r (λ tag. (b : ℕ) (rest : List ℕ) → is_blank_byte b ≡ true → bytes_on n first (w ++ b ∷ rest) ≡ with_some tag (bytes_on n (past_blank b new) rest))
+  kept-tag f end =
+      elim r as (λ r. IfOk r (λ tag. (last : ℕ) (others : List LineWord) → read_on n last mid.tree (begun mid.line mid.word ++ others) ≡ with_some tag (read_on n last new.tree others)) → IfOk r (λ tag. IsEndOf mid new)
+      → IfOk r (λ tag. (b : ℕ) (rest : List ℕ) → is_blank_byte b ≡ true → bytes_on n first (w ++ b ∷ rest) ≡ with_some tag (bytes_on n (past_blank b new) rest))) [
+        | Ok tag ↦ (λ f end b rest blank. keeps n (b ∷ rest) ∙ past-tag n mid new run tag f end b rest blank)
         | Err e ↦ (λ f end. tt)
       ] f end
 
-  pub gap-fault : IfErr r (λ e. e ≢ NoMemory → (last : ℕ) (others : List LineWord) → read_on n last old.tree (begun old.line old.word ++ others) ≡ Err e)
-      → IfErr r (λ e. e ≢ NoMemory → (rest : List ℕ) → bytes_on n old (b ∷ rest) ≡ Err e)
-  gap-fault f = IfErr-weaker r (λ e. e ≢ NoMemory → (last : ℕ) (others : List LineWord) → read_on n last old.tree (begun old.line old.word ++ others) ≡ Err e) _ (λ e g ne rest. blank-fault n old b old.line rest run blank stays e (g ne)) f
+  pub kept-fault : IfErr r (λ e. e ≢ NoMemory → (last : ℕ) (others : List LineWord) → read_on n last mid.tree (begun mid.line mid.word ++ others) ≡ Err e)
+      → IfErr r (λ e. e ≢ NoMemory → (b : ℕ) (rest : List ℕ) → is_blank_byte b ≡ true → bytes_on n first (w ++ b ∷ rest) ≡ Err e)
+  kept-fault f = IfErr-weaker r (λ e. e ≢ NoMemory → (last : ℕ) (others : List LineWord) → read_on n last mid.tree (begun mid.line mid.word ++ others) ≡ Err e) _ (λ e g ne b rest blank. keeps n (b ∷ rest) ∙ past-fault n mid mid run e (g ne) b rest blank) f
 
--- a blank that is no LF
-pub gap-byte : (b : ℕ) → (b ≡ 9) ⊎ ((b ≡ 13) ⊎ (b ≡ 32)) → (is_blank_byte b ≡ true) × (is_line_feed b ≡ false)
-gap-byte b (inl e) = rw e (refl, refl)
-gap-byte b (inr (inl e)) = rw e (refl, refl)
-gap-byte b (inr (inr e)) = rw e (refl, refl)
+-- ---- a piece up to its first blank
+
+none-of : (w : List ℕ) → IsRun w → has_none is_blank_byte w ≡ true
+none-of [] run = refl
+none-of (b ∷ w) run = rw (run.0, none-of w run.1) refl
+
+pub none-before : (piece run : List ℕ) (k : ℕ) → k ≡ position_or_len is_blank_byte piece → run ≡ take k piece → has_none is_blank_byte run ≡ true
+none-before piece run k value front = ap (has_none is_blank_byte) (front ∙ ap (λ i. take i piece) value) ∙ none-of (take (position_or_len is_blank_byte piece) piece) (run_of piece)
+
+first-of : (xs : List ℕ) (b : ℕ) → Some b ≡ slice_get xs 0 → (rest : List ℕ) × (xs ≡ b ∷ rest)
+first-of [] b e = absurd (cc)
+first-of (x ∷ xs) b e = (xs, cc)
+
+module _ (piece run tail : List ℕ) (k b : ℕ) (value : k ≡ position_or_len is_blank_byte piece) (front : run ≡ take k piece) (back : tail ≡ drop k piece) (first : Some b ≡ slice_get tail 0) where
+  cut : (rest : List ℕ) × (tail ≡ b ∷ rest)
+  cut = first-of tail b first
+
+  blank : is_blank_byte b ≡ true
+  blank = subst IsEnded (ap (λ i. drop i piece) (sym value) ∙ sym back ∙ cut.1) (ended_of piece)
+
+  whole : piece ≡ run ++ b ∷ cut.0
+  whole = sym (take-append-drop k piece) ∙ ap (λ z. z ++ drop k piece) (sym front) ∙ ap (λ z. run ++ z) (sym back ∙ cut.1)
+
+  taken : take (k + 1) piece ≡ run ++ b ∷ []
+  taken = take-add k 1 piece ∙ ap (λ z. z ++ take 1 (drop k piece)) (sym front) ∙ ap (λ z. run ++ take 1 z) (sym back ∙ cut.1)
+
+  pub piece-tag : (n : ℕ) (old new : Bytewise) (tag : Option Tag) → ((b : ℕ) (rest : List ℕ) → is_blank_byte b ≡ true → bytes_on n old (run ++ b ∷ rest) ≡ with_some tag (bytes_on n (past_blank b new) rest))
+      → (rest : List ℕ) → bytes_on n old (take (k + 1) piece ++ rest) ≡ with_some tag (bytes_on n (past_blank b new) rest)
+  piece-tag n old new tag f rest = ap (λ p. bytes_on n old (p ++ rest)) taken ∙ ap (bytes_on n old) (append_assoc run (b ∷ []) rest) ∙ f b rest blank
+
+  pub piece-fault : (n : ℕ) (old : Bytewise) (e : CertFault) → ((b : ℕ) (rest : List ℕ) → is_blank_byte b ≡ true → bytes_on n old (run ++ b ∷ rest) ≡ Err e) → (rest : List ℕ) → bytes_on n old (piece ++ rest) ≡ Err e
+  piece-fault n old e f rest = ap (λ p. bytes_on n old (p ++ rest)) whole ∙ ap (bytes_on n old) (append_assoc run (b ∷ cut.0) rest) ∙ f b (cut.0 ++ rest) blank

@@ -8,13 +8,12 @@ use Rattle.sf_certificate.specs.declared.fault.CertFault.{CertFault}
 use Rattle.sf_certificate.specs.declared.fault.CertFault.TheVariants.{TooDeep, Truncated, Trailing, NoMemory}
 use Rattle.sf_certificate.specs.declared.letter.HalfTag.{HalfTag}
 use Rattle.sf_certificate.specs.declared.letter.Letter.{Letter}
-use Rattle.sf_certificate.specs.declared.letter.Letter.TheVariants.{First}
-use Rattle.sf_certificate.specs.declared.letter.Second.{Second}
 use Rattle.sf_certificate.specs.declared.place.Place.{Place}
 use Rattle.sf_certificate.specs.declared.tag.Tag.{Tag}
 use Rattle.sf_certificate.specs.declared.version.Version.{Version}
+use Rattle.sf_certificate.specs.declared.letter.TagSaid.{TagSaid}
 use Rattle.sf_certificate.specs.Places.{places_under, spell_trees}
-use Rattle.sf_certificate.specs.Reading.{TagSaid, letter_of, by_letter, tag_by, tags_said, Reader, first_reader, read_on, with_tags, with_some, tree_read, with_tag, tag_at, tree_from}
+use Rattle.sf_certificate.specs.Reading.{letter_of, by_letter, tag_by, tags_said, Reader, first_reader, read_on, with_tags, with_some, tree_read, with_tag, tag_at, tree_from}
 
 pub with_tags-more : (tags : List Tag) (tag : Tag) (r : Result (List Tag) CertFault) → with_tags tags (with_tag tag r) ≡ with_tags (tags ++ tag ∷ []) r
 with_tags-more tags tag (Ok more) = ap Ok (sym (append_assoc tags (tag ∷ []) more))
@@ -117,39 +116,20 @@ module _ (n : ℕ) (old : Reader) (word : LineWord) (places : List Place) (said 
       → IfErr r (λ e. e ≢ NoMemory → (last : ℕ) (others : List LineWord) → read_on n last old (word ∷ others) ≡ Err e)
   said-fault f = IfErr-weaker r (λ e. e ≢ NoMemory → (last : ℕ) (others : List TagSaid) → tree_from n last places (said ∷ others) ≡ Err e) _ (λ e g ne last others. step last others ∙ g ne last (tags_said old.version last None others)) f
 
--- the second word of a tag
-pub second-step : (n : ℕ) (old : Reader) (word : LineWord) (at : HalfTag) (said : Result Tag CertFault) (places : List Place) → old.half ≡ Some at → said ≡ tag_by at word.text → old.places ≡ places
-    → (last : ℕ) (others : List LineWord) → read_on n last old (word ∷ others) ≡ tree_from n last places (record { line = at.line; tag = said } ∷ tags_said old.version last None others)
-unfolding tags_said
-second-step n old word at said places half is same last others =
-    ap (λ s. tree_from n last old.places (tags_said old.version last s (word ∷ others))) half
-    ∙ ap (λ t. tree_from n last old.places (record { line = at.line; tag = t } ∷ tags_said old.version last None others)) (sym is)
-    ∙ ap (λ ps. tree_from n last ps (record { line = at.line; tag = said } ∷ tags_said old.version last None others)) same
-
--- the first word of a tag
-module _ (n : ℕ) (old : Reader) (word : LineWord) (l : Option Letter) (none : old.half ≡ None) (is : letter_of old.version word.text ≡ l) where
-  -- what is said where a second word comes next
-  abbrev said-after : ℕ → List LineWord → Second → List TagSaid
-  said-after last others second = tags_said old.version last (Some (record { second = second; line = word.line })) others
-
-  letter-reads : (last : ℕ) (others : List LineWord) → read_on n last old (word ∷ others) ≡ tree_from n last old.places (by_letter word.line l (tags_said old.version last None others) (said-after last others))
+-- what is said where a word comes next
+module _ (version : Version) (half : Option HalfTag) (word : LineWord) where
+  -- the second word of a tag
+  pub second-said : (at : HalfTag) → half ≡ Some at → (last : ℕ) (others : List LineWord) → tags_said version last half (word ∷ others) ≡ record { line = at.line; tag = tag_by at word.text } ∷ tags_said version last None others
   unfolding tags_said
-  letter-reads last others =
-      ap (λ s. tree_from n last old.places (tags_said old.version last s (word ∷ others))) none
-      ∙ ap (λ k. tree_from n last old.places (by_letter word.line k (tags_said old.version last None others) (said-after last others))) is
+  second-said at is last others = ap (λ h. tags_said version last h (word ∷ others)) is
 
-  pub letter-step : (said : Result Tag CertFault) → ((a : List TagSaid) (b : Second → List TagSaid) → by_letter word.line l a b ≡ record { line = word.line; tag = said } ∷ a)
-      → (last : ℕ) (others : List LineWord) → read_on n last old (word ∷ others) ≡ tree_from n last old.places (record { line = word.line; tag = said } ∷ tags_said old.version last None others)
-  letter-step said says last others = letter-reads last others ∙ ap (tree_from n last old.places) (says (tags_said old.version last None others) (said-after last others))
-
-  -- a tag of two words waits for the second
-  pub letter-first : (second : Second) → l ≡ Some (First second) → (new : Reader) → new.places ≡ old.places → new.version ≡ old.version → new.half ≡ Some (record { second = second; line = word.line })
-      → (last : ℕ) (others : List LineWord) → read_on n last old (word ∷ others) ≡ read_on n last new others
-  letter-first second e new places version half last others =
-      letter-reads last others ∙ ap (λ k. tree_from n last old.places (by_letter word.line k (tags_said old.version last None others) (said-after last others))) e
-      ∙ ap (λ h. tree_from n last old.places (tags_said old.version last h others)) (sym half)
-      ∙ ap (λ v. tree_from n last old.places (tags_said v last new.half others)) (sym version)
-      ∙ ap (λ ps. tree_from n last ps (tags_said new.version last new.half others)) (sym places)
+  -- the first word of a tag
+  pub letter-said : (l : Option Letter) → half ≡ None → letter_of version word.text ≡ l → (last : ℕ) (others : List LineWord)
+      → tags_said version last half (word ∷ others) ≡ by_letter word.line l (tags_said version last None others) (λ second. tags_said version last (Some (record { second = second; line = word.line })) others)
+  unfolding tags_said
+  letter-said l none is last others =
+      ap (λ h. tags_said version last h (word ∷ others)) none
+      ∙ ap (λ k. by_letter word.line k (tags_said version last None others) (λ second. tags_said version last (Some (record { second = second; line = word.line })) others)) is
 
 -- ---- after the last word
 

@@ -19,9 +19,10 @@ use Rattle.sf_node.specs.declared.part.Part.TheVariants.{Area, Range, Pair, Hull
 use Rattle.sf_certificate.specs.declared.tag.Tag.{Tag}
 use Rattle.sf_certificate.specs.declared.tag.Tag.TheVariants.{Extend, Split, Closed, Open}
 use Rattle.sf_certificate.specs.declared.version.Version.TheVariants.{Two}
+use Rattle.sf_certificate.specs.declared.letter.TagSaid.{TagSaid}
 use Rattle.sf_certificate.specs.Places.{places_under, spell_trees}
 use Rattle.sf_certificate.specs.Text.{tag_text, ended, FitsTag}
-use Rattle.sf_certificate.specs.Reading.{TagSaid, tags_said, split_by, with_tag, tree_from}
+use Rattle.sf_certificate.specs.Reading.{tags_said, split_by, with_tag, tree_from}
 
 -- ---- lines
 

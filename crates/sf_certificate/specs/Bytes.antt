@@ -1,5 +1,5 @@
 -- Reading a text byte by byte.
-use Rattle.std.specs.Prelude.{◌≡◌, ℕ, ◌<◌, List, [], ◌∷◌, ◌++◌, length, Result, Ok, Err}
+use Rattle.std.specs.Prelude.{◌≡◌, ℕ, ◌+◌, ◌<◌, List, [], ◌∷◌, ◌++◌, length, Result, Ok, Err}
 use Rattle.std.specs.List.{count_by}
 use Rattle.sf_lex.specs.Text.{is_line_feed, lines}
 use Rattle.sf_lex.specs.Scan.{LineWord, numbered, words_of_lines, last_word_line}
@@ -20,6 +20,10 @@ pub record Bytewise : Type 0 where
 -- before the first byte of a tree, which stands in this line, where the last line that holds a word is that
 abbrev pub first_byte : Version → ℕ → ℕ → Bytewise
 first_byte version line last = record { tree = first_reader version; word = []; line = line; last = last }
+
+-- behind a blank that no word stands before
+abbrev pub past_blank : ℕ → Bytewise → Bytewise
+past_blank b at = record at { line = at.line + count_by is_line_feed (b ∷ []) }
 
 -- the words from here on: the first of them may have begun
 abbrev pub words_on : Bytewise → List ℕ → List LineWord

@@ -20,6 +20,7 @@ use Rattle.sf_certificate.specs.declared.letter.HalfTag.{HalfTag}
 use Rattle.sf_certificate.specs.declared.letter.Letter.{Letter}
 use Rattle.sf_certificate.specs.declared.letter.Letter.TheVariants.{Whole, First}
 use Rattle.sf_certificate.specs.declared.letter.Second.{Second}
+use Rattle.sf_certificate.specs.declared.letter.TagSaid.{TagSaid}
 use Rattle.sf_certificate.specs.declared.letter.Second.TheVariants as second
 use Rattle.sf_certificate.specs.declared.place.Place.{Place}
 use Rattle.sf_certificate.specs.declared.tag.Tag.{Tag}
@@ -137,11 +138,6 @@ header_read blocks last all = do
   Ok (record { version = title.0; plan = plan.0; cost = cost.0; bound = bound.0; others = tree.1 })
 
 -- ---- the tree
-
--- a tag that words say, or their fault, and the line of the first word
-pub record TagSaid : Type 0 where
-  pub line : ℕ
-  pub tag : Result Tag CertFault
 
 -- what a `C` says: in the first version all of a tag, and in the second a part is to be named
 abbrev pub closed_word : Version → Letter

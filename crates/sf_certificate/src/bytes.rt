@@ -1,10 +1,11 @@
-//! The tree of a certificate's text, byte by byte.
+//! The tree of a certificate's text, from pieces that are cut anywhere.
 
-ghost use Rattle.std.specs.Prelude.{◌≡◌, ◌≢◌, ℕ, ◌+◌, ◌≤◌, false, true, List, [], ◌∷◌, ◌++◌, IfOk, IfErr, OnOk, Ok, Err};
-ghost use Rattle.sf_lex.specs.Text.{is_blank_byte, has_none};
+ghost use Rattle.std.specs.Prelude.{◌≡◌, ◌≢◌, ℕ, ◌+◌, ◌≤◌, false, true, List, [], ◌∷◌, ◌++◌, length, take, IfOk, IfErr, OnOk, Ok, Err};
+ghost use Rattle.std.specs.List.{count_by, position_or_len};
+ghost use Rattle.sf_lex.specs.Text.{is_blank_byte, is_line_feed, has_none};
 ghost use Rattle.sf_lex.specs.Scan.{LineWord, last_word_line};
 ghost use Rattle.sf_certificate.specs.declared.fault.CertFault.TheVariants.{NoMemory};
-ghost use Rattle.sf_certificate.specs.Bytes.{begun, bytes_on, first_byte};
+ghost use Rattle.sf_certificate.specs.Bytes.{begun, bytes_on, first_byte, past_blank};
 ghost use Rattle.sf_certificate.specs.Reading.{read_on, with_some};
 
 use crate::fault::CertFault;
@@ -38,12 +39,34 @@ impl Model for ByteReader {
     ghost invariant = { λ r. (has_none is_blank_byte r.word.items ≡ true) × (length r.word.items ≤ 21) };
 }
 
-/// The number of the next line. A text of more lines than numbers go to is answered as want of memory.
-fn next_line(line: u64) -> Result<u64, CertFault>
-    ensures next { IfOk result (λ next. next ≡ line + 1) }
+/// What was taken of a piece: how many bytes, and the tag that they end, if they end one.
+#[derive(Clone, Copy, Debug, PartialEq, Eq)]
+pub struct Taken {
+    pub tag: Option<Tag>,
+    pub bytes: usize,
+}
+
+/// The number of the line behind a byte of this line. More lines than numbers go to are answered as want of memory.
+fn line_behind(byte: u8, line: u64) -> Result<u64, CertFault>
+    ensures line { IfOk result (λ behind. behind ≡ line + count_by is_line_feed (byte ∷ [])) }
     ensures fault { IfErr result (λ e. e ≡ NoMemory) }
 {
-    line.checked_add(1).ok_or(CertFault::NoMemory)
+    if byte == b'\n' {
+        line.checked_add(1).ok_or(CertFault::NoMemory)
+    } else {
+        Ok(line)
+    }
+}
+
+/// How many bytes stand before the first blank.
+fn run_at_front(bytes: &[u8]) -> usize
+    ensures value { result ≡ position_or_len is_blank_byte bytes.now }
+    ensures bound { result ≤ length bytes.now }
+{
+    bytes
+        .iter()
+        .take_while(|byte| !matches!(**byte, b' ' | b'\t' | b'\r' | b'\n'))
+        .count()
 }
 
 impl ByteReader {
@@ -64,24 +87,26 @@ impl ByteReader {
         })
     }
 
-    /// One byte more. The answer is the tag that it ends, if it ends one.
-    pub fn take(&mut self, byte: u8, blocks: u16) -> Result<Option<Tag>, CertFault>
+    /// The bytes of a piece up to its first blank, and that blank with them; or all of a piece that has none.
+    pub fn take(&mut self, piece: &[u8], blocks: u16) -> Result<Taken, CertFault>
         requires { blocks ≤ 320 }
-        ensures tag { IfOk result (λ tag. (rest : List ℕ) → bytes_on blocks self.old (byte ∷ rest) ≡ with_some tag (bytes_on blocks self.new rest)) }
-        ensures fault { IfErr result (λ e. e ≢ NoMemory → (rest : List ℕ) → bytes_on blocks self.old (byte ∷ rest) ≡ Err e) }
+        ensures inside { IfOk result (λ taken. taken.bytes ≤ length piece.now) }
+        ensures some { IfOk result (λ taken. 1 ≤ length piece.now → 1 ≤ taken.bytes) }
+        ensures tag { IfOk result (λ taken. (rest : List ℕ) → bytes_on blocks self.old (take taken.bytes piece.now ++ rest) ≡ with_some taken.tag (bytes_on blocks self.new rest)) }
+        ensures fault { IfErr result (λ e. e ≢ NoMemory → (rest : List ℕ) → bytes_on blocks self.old (piece.now ++ rest) ≡ Err e) }
     {
-        match byte {
-            b'\n' => {
-                let tag = self.end_word(blocks)?;
-                self.line = next_line(self.line)?;
-                Ok(tag)
-            }
-            b' ' | b'\t' | b'\r' => self.end_word(blocks),
-            _ => {
-                self.keep(byte)?;
-                Ok(None)
-            }
-        }
+        let bytes = run_at_front(piece);
+        let (run, rest) = piece.split_at(bytes);
+        let Some(blank) = rest.first() else {
+            self.keep_run(run)?;
+            return Ok(Taken { tag: None, bytes });
+        };
+        let tag = self.end_run(run, blocks)?;
+        self.line = line_behind(*blank, self.line)?;
+        Ok(Taken {
+            tag,
+            bytes: bytes + 1,
+        })
     }
 
     /// After the last byte. The answer is the tag that the end of the text ends, if it ends one.
@@ -92,6 +117,26 @@ impl ByteReader {
     {
         let tag = self.end_word(blocks)?;
         self.tree.finish(self.last)?;
+        Ok(tag)
+    }
+
+    /// Ends a word whose last bytes are these, at a blank that is not taken yet. The answer is the tag that it ends, if it
+    /// ends one.
+    fn end_run(&mut self, run: &[u8], blocks: u16) -> Result<Option<Tag>, CertFault>
+        requires few { blocks ≤ 320 }
+        requires run { has_none is_blank_byte run.now ≡ true }
+        ensures tag { IfOk result (λ tag. (b : ℕ) (rest : List ℕ) → is_blank_byte b ≡ true → bytes_on blocks self.old (run.now ++ b ∷ rest) ≡ with_some tag (bytes_on blocks (past_blank b self.new) rest)) }
+        ensures fault { IfErr result (λ e. e ≢ NoMemory → (b : ℕ) (rest : List ℕ) → is_blank_byte b ≡ true → bytes_on blocks self.old (run.now ++ b ∷ rest) ≡ Err e) }
+    {
+        if !self.word.is_empty() {
+            self.keep_run(run)?;
+            return self.end_word(blocks);
+        }
+        if run.is_empty() {
+            return Ok(None);
+        }
+        let tag = self.tree.take(run, self.line, blocks)?;
+        self.last = self.line;
         Ok(tag)
     }
 
@@ -110,6 +155,17 @@ impl ByteReader {
         self.word.clear();
         self.last = self.line;
         Ok(tag)
+    }
+
+    /// Some bytes more of a word.
+    fn keep_run(&mut self, run: &[u8]) -> Result<(), AllocError>
+        requires { has_none is_blank_byte run.now ≡ true }
+        ensures { OnOk result ((n : ℕ) (rest : List ℕ) → bytes_on n self.old (run.now ++ rest) ≡ bytes_on n self.new rest) }
+    {
+        for byte in run {
+            self.keep(*byte)?;
+        }
+        Ok(())
     }
 
     /// One byte more of a word.

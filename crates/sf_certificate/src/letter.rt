@@ -31,6 +31,13 @@ pub struct HalfTag {
     pub line: u64,
 }
 
+/// What the words of a tag say, or the fault that they have, and the line of the first word.
+#[derive(Clone, Copy, Debug, PartialEq, Eq)]
+pub struct TagSaid {
+    pub line: u64,
+    pub tag: Result<Tag, CertFault>,
+}
+
 pub fn letter_of(version: Version, word: &[u8]) -> Option<Letter>
     ensures { result ≡ letter_of version word.now }
 {

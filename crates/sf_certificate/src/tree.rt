@@ -1,13 +1,14 @@
 //! The tree of a certificate's text, word by word.
 
-ghost use Rattle.std.specs.Prelude.{◌≡◌, ◌≢◌, ℕ, ◌≤◌, List, [], ◌∷◌, IfOk, IfErr, OnOk, IsTrue, Ok, Some, Err};
+ghost use Rattle.std.specs.Prelude.{◌≡◌, ◌≢◌, ℕ, ◌≤◌, List, [], ◌∷◌, IfOk, IfErr, IfSome, IfNone, OnOk, IsTrue, Ok, Some, None, Err};
 ghost use Rattle.sf_lex.specs.Scan.{LineWord, numbered_words, last_line_of};
 ghost use Rattle.sf_certificate.specs.declared.fault.CertFault.TheVariants.{NoMemory};
+ghost use Rattle.sf_certificate.specs.declared.letter.TagSaid.{TagSaid as SaidValue};
 ghost use Rattle.sf_certificate.specs.Places.{spell_tree};
-ghost use Rattle.sf_certificate.specs.Reading.{TagSaid, tree_from, tree_read, first_reader, read_on, with_some};
+ghost use Rattle.sf_certificate.specs.Reading.{tags_said, tree_from, tree_read, first_reader, read_on, with_some};
 
 use crate::fault::CertFault;
-use crate::letter::{HalfTag, Letter, letter_of, tag_by};
+use crate::letter::{HalfTag, Letter, TagSaid, letter_of, tag_by};
 use crate::tag::Tag;
 use crate::version::Version;
 use crate::waiting::Waiting;
@@ -53,39 +54,54 @@ impl TreeReader {
         ensures tag { IfOk result (λ tag. (last : ℕ) (others : List LineWord) → read_on blocks last self.old (record { line = line; text = word.now } ∷ others) ≡ with_some tag (read_on blocks last self.new others)) }
         ensures fault { IfErr result (λ e. e ≢ NoMemory → (last : ℕ) (others : List LineWord) → read_on blocks last self.old (record { line = line; text = word.now } ∷ others) ≡ Err e) }
     {
+        let Some(said) = self.said(word, line) else {
+            return Ok(None);
+        };
+        self.put(said, blocks)
+    }
+
+    /// What a word says with the one before it, or nothing where it is the first of two.
+    fn said(&mut self, word: &[u8], line: u64) -> Option<TagSaid>
+        ensures places { self.new.places ≡ self.old.places }
+        ensures version { self.new.version ≡ self.old.version }
+        ensures whole { IfSome result (λ said. self.new.half ≡ None) }
+        ensures said { IfSome result (λ said. (last : ℕ) (others : List LineWord) → tags_said self.old.version last self.old.half (record { line = line; text = word.now } ∷ others) ≡ said ∷ tags_said self.old.version last None others) }
+        ensures first { IfNone result ((last : ℕ) (others : List LineWord) → tags_said self.old.version last self.old.half (record { line = line; text = word.now } ∷ others) ≡ tags_said self.old.version last self.new.half others) }
+    {
         if let Some(half) = self.half {
             self.half = None;
-            return self.put(tag_by(half, word), half.line, blocks);
+            return Some(TagSaid {
+                line: half.line,
+                tag: tag_by(half, word),
+            });
         }
         match letter_of(self.version, word) {
-            Some(Letter::Whole(tag)) => self.put(Ok(tag), line, blocks),
+            Some(Letter::Whole(tag)) => Some(TagSaid { line, tag: Ok(tag) }),
             Some(Letter::First(second)) => {
                 self.half = Some(HalfTag { second, line });
-                Ok(None)
+                None
             }
-            None => self.put(Err(CertFault::BadTag(line)), line, blocks),
+            None => Some(TagSaid {
+                line,
+                tag: Err(CertFault::BadTag(line)),
+            }),
         }
     }
 
-    /// A tag that was said in this line, or its fault, at the next place.
-    fn put(
-        &mut self,
-        said: Result<Tag, CertFault>,
-        line: u64,
-        blocks: u16,
-    ) -> Result<Option<Tag>, CertFault>
+    /// A tag that was said, or its fault, at the next place.
+    fn put(&mut self, said: TagSaid, blocks: u16) -> Result<Option<Tag>, CertFault>
         requires { blocks ≤ 320 }
-        ensures tag { IfOk result (λ tag. (last : ℕ) (others : List TagSaid) → tree_from blocks last self.old.places (record { line = line; tag = said } ∷ others) ≡ with_some tag (tree_from blocks last self.new.places others)) }
+        ensures tag { IfOk result (λ tag. (last : ℕ) (others : List SaidValue) → tree_from blocks last self.old.places (said ∷ others) ≡ with_some tag (tree_from blocks last self.new.places others)) }
         ensures half { IfOk result (λ tag. self.new.half ≡ self.old.half) }
         ensures version { self.new.version ≡ self.old.version }
-        ensures fault { IfErr result (λ e. e ≢ NoMemory → (last : ℕ) (others : List TagSaid) → tree_from blocks last self.old.places (record { line = line; tag = said } ∷ others) ≡ Err e) }
+        ensures fault { IfErr result (λ e. e ≢ NoMemory → (last : ℕ) (others : List SaidValue) → tree_from blocks last self.old.places (said ∷ others) ≡ Err e) }
     {
         let Some(place) = self.waiting.take() else {
-            return Err(CertFault::Trailing(line));
+            return Err(CertFault::Trailing(said.line));
         };
-        let tag = said?;
+        let tag = said.tag?;
         if place.depth >= TOO_DEEP {
-            return Err(CertFault::TooDeep(line));
+            return Err(CertFault::TooDeep(said.line));
         }
         self.waiting.put(tag, place, blocks)?;
         Ok(Some(tag))

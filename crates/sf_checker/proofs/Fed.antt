@@ -1,6 +1,7 @@
 -- What a text has come to, byte by byte.
-use Rattle.std.proofs.Math.Seq.{take-suc}
-use Rattle.std.proofs.Common.{◌≡◌, ℕ, suc, ◌+◌, ◌<◌, length, take, get_or, arith, List, [], ◌∷◌, ◌++◌, refl, ap, sym, subst, ◌∙◌, append_assoc, append-nil, ◌==◌, Result, Ok, Err}
+use Rattle.std.proofs.Math.Seq.{take-suc, take-add}
+use Rattle.std.proofs.lemmas.List.{take-append-drop, take_all, length-drop}
+use Rattle.std.proofs.Common.{◌≡◌, ℕ, suc, ◌+◌, ◌-◌, ◌<◌, length, take, drop, get_or, arith, List, [], ◌∷◌, ◌++◌, refl, ap, sym, subst, ◌∙◌, append_assoc, append-nil, ◌==◌, Result, Ok, Err}
 use Rattle.std.specs.Prelude.{MatchOption, OnOk, ⊤}
 use Rattle.sf_model.specs.declared.design.Design.{Design}
 use Rattle.sf_model.specs.declared.TheConstants.{MAX}
@@ -22,7 +23,7 @@ use Rattle.sf_checker.specs.declared.stage.Body.{Body}
 use Rattle.sf_checker.specs.declared.stage.Stage.{Stage}
 use Rattle.sf_checker.specs.Answers.{IsAnswer}
 use Rattle.sf_checker.specs.Judging.{Judged, IsFound}
-use Rattle.sf_checker.specs.Feeding.{IsAnswerTo, IsBody, IsStage, IsFed}
+use Rattle.sf_checker.specs.Feeding.{IsAnswerTo, IsBody, IsFaulty, IsStage, IsFed}
 
 module _ (design : Design) (bound : Parts → ℕ) (part : Parts → Part → ℕ) (text : List ℕ) where
   -- the header was read
@@ -41,24 +42,45 @@ module _ (design : Design) (bound : Parts → ℕ) (part : Parts → Part → �
       }
 
   module _ (n : ℕ) (body : Body) (is : n ≡ block_count design) (b : IsBody design bound part text body) where
-    -- a byte that ends a tag
-    pub body-tag : (byte : ℕ) (reader : Bytewise) (judge : Judged) (tag : Tag)
-        → ((rest : List ℕ) → bytes_on n body.reader (byte ∷ rest) ≡ with_tag tag (bytes_on n reader rest))
+    -- bytes that end a tag
+    pub body-tag : (bytes : List ℕ) (reader : Bytewise) (judge : Judged) (tag : Tag)
+        → ((rest : List ℕ) → bytes_on n body.reader (bytes ++ rest) ≡ with_tag tag (bytes_on n reader rest))
         → ((cert : Cert) (tags more : List Tag) → cert.cost ≡ body.header.cost → cert.tags ≡ tags ++ tag ∷ more → IsFound design bound part cert tags body.judge → IsFound design bound part cert (tags ++ tag ∷ []) judge)
-        → IsBody design bound part (text ++ byte ∷ []) (record { header = body.header; reader = reader; judge = judge })
-    body-tag byte reader judge tag reads found =
+        → IsBody design bound part (text ++ bytes) (record { header = body.header; reader = reader; judge = judge })
+    body-tag bytes reader judge tag reads found =
         let k = block_count design in
         record {
           agrees = b.agrees;
           writable = b.writable;
           tags = b.tags ++ tag ∷ [];
-          reads = λ rest. ap (cert_read k) (append_assoc text (byte ∷ []) rest) ∙ b.reads (byte ∷ rest)
-              ∙ ap (λ r. said_with k body.header (with_tags b.tags r)) (subst (λ k. bytes_on k body.reader (byte ∷ rest) ≡ with_tag tag (bytes_on k reader rest)) is (reads rest))
+          reads = λ rest. ap (cert_read k) (append_assoc text bytes rest) ∙ b.reads (bytes ++ rest)
+              ∙ ap (λ r. said_with k body.header (with_tags b.tags r)) (subst (λ k. bytes_on k body.reader (bytes ++ rest) ≡ with_tag tag (bytes_on k reader rest)) is (reads rest))
               ∙ ap (said_with k body.header) (with_tags-more b.tags tag (bytes_on k reader rest));
           judged = λ cert more plan cost tags.
               let all = tags ∙ append_assoc b.tags (tag ∷ []) more in
               found cert b.tags more cost all (b.judged cert (tag ∷ more) plan cost all);
         }
+
+    -- bytes that end none
+    pub body-none : (bytes : List ℕ) (reader : Bytewise) → ((rest : List ℕ) → bytes_on n body.reader (bytes ++ rest) ≡ bytes_on n reader rest)
+        → IsBody design bound part (text ++ bytes) (record { header = body.header; reader = reader; judge = body.judge })
+    body-none bytes reader reads =
+        let k = block_count design in
+        record {
+          agrees = b.agrees;
+          writable = b.writable;
+          tags = b.tags;
+          reads = λ rest. ap (cert_read k) (append_assoc text bytes rest) ∙ b.reads (bytes ++ rest)
+              ∙ ap (λ r. said_with k body.header (with_tags b.tags r)) (subst (λ k. bytes_on k body.reader (bytes ++ rest) ≡ bytes_on k reader rest) is (reads rest));
+          judged = b.judged;
+        }
+
+    -- bytes at fault
+    pub body-fault : (bytes : List ℕ) (e : CertFault) → ((rest : List ℕ) → bytes_on n body.reader (bytes ++ rest) ≡ Err e) → IsFaulty design (text ++ bytes) e
+    body-fault bytes e reads rest =
+        let k = block_count design in
+        ap (cert_read k) (append_assoc text bytes rest) ∙ b.reads (bytes ++ rest)
+        ∙ ap (λ r. said_with k body.header (with_tags b.tags r)) (subst (λ k. bytes_on k body.reader (bytes ++ rest) ≡ Err e) is (reads rest))
 
     -- the text is a certificate of these tags
     ended : (all : List Tag) (answer : Answer) → cert_read (block_count design) text ≡ said_with (block_count design) body.header (Ok all)
@@ -113,6 +135,25 @@ pub past-byte : (piece : List ℕ) (i : ℕ) → i < length piece → take i pie
 past-byte piece i h =
     let more : suc i ≡ i + 1 = omega arith in
     sym (take-suc piece i 0 h) ∙ ap (λ k. take k piece) more
+
+-- the rest of a piece, as a slice has it
+abbrev pub rest_of : List ℕ → ℕ → List ℕ
+rest_of piece i = take (length piece - i) (drop i piece)
+
+pub rest-is : (piece : List ℕ) (i : ℕ) → rest_of piece i ≡ drop i piece
+rest-is piece i = take_all (length piece - i) (drop i piece) (omega (arith, length-drop i piece))
+
+-- some bytes more of a piece, and all of them
+pub past-bytes : (text piece : List ℕ) (i k : ℕ) → (text ++ take i piece) ++ take k (rest_of piece i) ≡ text ++ take (i + k) piece
+past-bytes text piece i k =
+    ap (λ r. (text ++ take i piece) ++ take k r) (rest-is piece i) ∙ append_assoc text (take i piece) (take k (drop i piece)) ∙ ap (λ p. text ++ p) (sym (take-add i k piece))
+
+pub past-all : (text piece : List ℕ) (i : ℕ) → (text ++ take i piece) ++ rest_of piece i ≡ text ++ piece
+past-all text piece i = ap (λ r. (text ++ take i piece) ++ r) (rest-is piece i) ∙ append_assoc text (take i piece) (drop i piece) ∙ ap (λ p. text ++ p) (take-append-drop i piece)
+
+-- a text at fault is so whatever follows
+pub still-faulty : (design : Design) (text more : List ℕ) (e : CertFault) → IsFaulty design text e → IsFaulty design (text ++ more) e
+still-faulty design text more e faulty rest = ap (cert_read (block_count design)) (append_assoc text more rest) ∙ faulty (more ++ rest)
 
 -- ---- the design and the bounds of a checking
 

@@ -1,6 +1,6 @@
 //! How far a text has come that is fed in pieces.
 
-ghost use Rattle.std.specs.Prelude.{◌≡◌, ◌≢◌, ℕ, ◌≤◌, List, [], ◌∷◌, ◌++◌, IfOk, IfErr, OnOk, OnErr, IsErr, IsTrue, ◌↔◌, Err};
+ghost use Rattle.std.specs.Prelude.{◌≡◌, ◌≢◌, ℕ, ◌≤◌, List, [], ◌∷◌, ◌++◌, length, take, IfOk, IfErr, OnOk, OnErr, IsErr, IsTrue, ◌↔◌, Err};
 ghost use Rattle.sf_model.specs.Legal.{block_count};
 ghost use Rattle.sf_certificate.specs.declared.fault.CertFault.TheVariants.{NoMemory};
 ghost use Rattle.sf_certificate.specs.Bytes.{IsHeader};
@@ -81,15 +81,26 @@ impl<'a> Body<'a> {
         })
     }
 
-    /// One byte more.
-    fn take<B: Bounds>(&mut self, design: &'a Design, bounds: &B, byte: u8) -> Result<(), CertFault>
+    /// A piece more.
+    fn feed<B: Bounds>(
+        &mut self,
+        design: &'a Design,
+        bounds: &B,
+        piece: &[u8],
+    ) -> Result<(), CertFault>
         requires steady { IsSteady design.now (B.Values.value bounds.now design.now) self.old.judge }
         ensures steady { OnOk result (IsSteady design.now (B.Values.value bounds.now design.now) self.new.judge) }
-        ensures reads { (text : List ℕ) → IsBody design.now (B.Values.value bounds.now design.now) (B.part_value bounds.now design.now) text self.old → OnOk result (IsBody design.now (B.Values.value bounds.now design.now) (B.part_value bounds.now design.now) (text ++ byte ∷ []) self.new) }
-        ensures fault { (text : List ℕ) → IsBody design.now (B.Values.value bounds.now design.now) (B.part_value bounds.now design.now) text self.old → IfErr result (λ e. e ≢ NoMemory → IsFaulty design.now (text ++ byte ∷ []) e) }
+        ensures reads { (text : List ℕ) → IsBody design.now (B.Values.value bounds.now design.now) (B.part_value bounds.now design.now) text self.old → OnOk result (IsBody design.now (B.Values.value bounds.now design.now) (B.part_value bounds.now design.now) (text ++ piece.now) self.new) }
+        ensures fault { (text : List ℕ) → IsBody design.now (B.Values.value bounds.now design.now) (B.part_value bounds.now design.now) text self.old → IfErr result (λ e. e ≢ NoMemory → IsFaulty design.now (text ++ piece.now) e) }
     {
-        if let Some(tag) = self.reader.take(byte, block_count(design))? {
-            self.judge.take(design, bounds, self.header.cost, tag)?;
+        let blocks = block_count(design);
+        let mut at = 0;
+        while at < piece.len() {
+            let taken = self.reader.take(&piece[at..], blocks)?;
+            if let Some(tag) = taken.tag {
+                self.judge.take(design, bounds, self.header.cost, tag)?;
+            }
+            at += taken.bytes;
         }
         Ok(())
     }
@@ -121,7 +132,7 @@ impl<'a> Stage<'a> {
         matches!(self, Stage::Fault(CertFault::NoMemory))
     }
 
-    /// One byte after another.
+    /// The text is longer by a piece. One at fault stays so.
     pub fn feed<B: Bounds>(
         &mut self,
         alloc: Global,
@@ -138,35 +149,13 @@ impl<'a> Stage<'a> {
         if self.is_wanting() {
             return Err(AllocError);
         }
-        for byte in piece {
-            self.take(alloc, design, bounds, *byte)?;
-        }
-        Ok(())
-    }
-
-    /// One byte more. A text at fault stays so.
-    fn take<B: Bounds>(
-        &mut self,
-        alloc: Global,
-        design: &'a Design,
-        bounds: &B,
-        byte: u8,
-    ) -> Result<(), AllocError>
-        requires ready { IsReady design.now (B.Values.value bounds.now design.now) self.old }
-        ensures ready { IsReady design.now (B.Values.value bounds.now design.now) self.new }
-        ensures fed { (text : List ℕ) → IsStage design.now (B.Values.value bounds.now design.now) (B.part_value bounds.now design.now) text self.old → OnOk result (IsStage design.now (B.Values.value bounds.now design.now) (B.part_value bounds.now design.now) (text ++ byte ∷ []) self.new) }
-        ensures spent { OnErr result (IsWanting self.new) }
-    {
-        match self.advance(alloc, design, bounds, byte) {
+        match self.advance(alloc, design, bounds, piece) {
             Ok(()) => Ok(()),
             Err(fault) => self.stop(fault),
         }
     }
 
-    /// The text is at fault from now on. Apart, as `begin` is, so that no call for a byte of the tree has a whole stage among
-    /// its locals.
-    #[cold]
-    #[inline(never)]
+    /// The text is at fault from now on.
     fn stop(&mut self, fault: CertFault) -> Result<(), AllocError>
         ensures stage { self.new ≡ stages.Fault fault }
         ensures found { OnOk result (fault ≢ NoMemory) }
@@ -179,28 +168,59 @@ impl<'a> Stage<'a> {
         }
     }
 
-    /// One byte more, or the fault that the text has, whatever follows.
+    /// A piece more, or the fault that the text has, whatever follows.
     fn advance<B: Bounds>(
         &mut self,
         alloc: Global,
         design: &'a Design,
         bounds: &B,
-        byte: u8,
+        piece: &[u8],
     ) -> Result<(), CertFault>
         requires ready { IsReady design.now (B.Values.value bounds.now design.now) self.old }
         ensures ready { OnOk result (IsReady design.now (B.Values.value bounds.now design.now) self.new) }
-        ensures fed { (text : List ℕ) → IsStage design.now (B.Values.value bounds.now design.now) (B.part_value bounds.now design.now) text self.old → OnOk result (IsStage design.now (B.Values.value bounds.now design.now) (B.part_value bounds.now design.now) (text ++ byte ∷ []) self.new) }
-        ensures fault { (text : List ℕ) → IsStage design.now (B.Values.value bounds.now design.now) (B.part_value bounds.now design.now) text self.old → IfErr result (λ e. e ≢ NoMemory → IsFaulty design.now (text ++ byte ∷ []) e) }
+        ensures fed { (text : List ℕ) → IsStage design.now (B.Values.value bounds.now design.now) (B.part_value bounds.now design.now) text self.old → OnOk result (IsStage design.now (B.Values.value bounds.now design.now) (B.part_value bounds.now design.now) (text ++ piece.now) self.new) }
+        ensures fault { (text : List ℕ) → IsStage design.now (B.Values.value bounds.now design.now) (B.part_value bounds.now design.now) text self.old → IfErr result (λ e. e ≢ NoMemory → IsFaulty design.now (text ++ piece.now) e) }
     {
+        let opened = self.open(alloc, design, bounds, piece)?;
         match self {
-            Stage::Tree(body) => body.take(design, bounds, byte),
-            Stage::Opening(_) | Stage::Fault(_) => self.begin(alloc, design, bounds, byte),
+            Stage::Opening(_) => Ok(()),
+            Stage::Tree(body) => body.feed(design, bounds, &piece[opened..]),
+            Stage::Fault(fault) => Err(*fault),
         }
     }
 
-    /// The same outside of the tree.
-    #[cold]
-    #[inline(never)]
+    /// The bytes of a piece up to the end of the header, or all of them where it ends in none. The answer is how many they
+    /// are.
+    fn open<B: Bounds>(
+        &mut self,
+        alloc: Global,
+        design: &'a Design,
+        bounds: &B,
+        piece: &[u8],
+    ) -> Result<usize, CertFault>
+        requires ready { IsReady design.now (B.Values.value bounds.now design.now) self.old }
+        ensures ready { IfOk result (λ opened. IsReady design.now (B.Values.value bounds.now design.now) self.new) }
+        ensures inside { IfOk result (λ opened. opened ≤ length piece.now) }
+        ensures all { IfOk result (λ opened. IsOutside self.new → opened ≡ length piece.now) }
+        ensures fed { (text : List ℕ) → IsStage design.now (B.Values.value bounds.now design.now) (B.part_value bounds.now design.now) text self.old → IfOk result (λ opened. IsStage design.now (B.Values.value bounds.now design.now) (B.part_value bounds.now design.now) (text ++ take opened piece.now) self.new) }
+        ensures fault { (text : List ℕ) → IsStage design.now (B.Values.value bounds.now design.now) (B.part_value bounds.now design.now) text self.old → IfErr result (λ e. e ≢ NoMemory → IsFaulty design.now (text ++ piece.now) e) }
+    {
+        let mut opened = 0;
+        while opened < piece.len() && self.is_outside() {
+            self.begin(alloc, design, bounds, piece[opened])?;
+            opened += 1;
+        }
+        Ok(opened)
+    }
+
+    /// Whether the tree is not read.
+    fn is_outside(&self) -> bool
+        ensures { IsTrue result ↔ IsOutside self.now }
+    {
+        !matches!(self, Stage::Tree(_))
+    }
+
+    /// One byte more outside of the tree.
     fn begin<B: Bounds>(
         &mut self,
         alloc: Global,
