@@ -10,17 +10,20 @@ use Rattle.std.proofs.lemmas.Bool.Decides.{nat_tests}
 use Rattle.std.proofs.lemmas.List.Folds.{list_any-append, list_any_more, list_any_at}
 use Rattle.std.proofs.lemmas.Grind.{common_steps}
 
+-- an ascending list stays so with one more that is no less than a bound on the others
 pub pairs_push : {X : Type 0} (f : X → ℕ) (out : List X) (x : X) (n : ℕ) → AllPairs (λ p q. f p < f q) out → All (λ p. f p < n) out → n ≤ f x → AllPairs (λ p q. f p < f q) (out ++ x ∷ [])
 pairs_push f out x n up below high i j d less within =
     let p = up i j d less in
     let b = below i d in
     grind (arith, common_steps, p, b, length-append out (x ∷ []))
 
+-- a greater bound holds of the list with one more that is below it
 pub all_push : {X : Type 0} (f : X → ℕ) (out : List X) (x : X) (n m : ℕ) → All (λ p. f p < n) out → n ≤ m → f x < m → All (λ p. f p < m) (out ++ x ∷ [])
 all_push f out x n m below less here k d within =
     let b = below k d in
     grind (arith, common_steps, b, length-append out (x ∷ []))
 
+-- what passes a test among the kept ones and one more passes it among one more of the list
 pub any_push : {X : Type 0} (t : X → Bool) (out xs : List X) (i : ℕ) (d : X) → i < length xs → list_any t out ≡ list_any t (take i xs) → list_any t (out ++ get_or xs i d ∷ []) ≡ list_any t (take (i + 1) xs)
 any_push t out xs i d within same =
     let a = list_any-append t out (get_or xs i d ∷ []) in
@@ -34,6 +37,7 @@ any_skip f p out xs i d within some equal same =
     let at = list_any_at (λ q. f p == f q) (take i xs) (i - 1) d in
     grind (arith, nat_tests, common_steps, m, at)
 
+-- the item at a place within the list doesn't depend on the default
 get_or-default : {X : Type 0} (xs : List X) (k : ℕ) (d e : X) → k < length xs → get_or xs k d ≡ get_or xs k e
 get_or-default [] k d e within = absurd (omega arith)
 get_or-default (x ∷ xs) zero d e within = refl
@@ -49,6 +53,7 @@ pub record IsSetOfFirst (pins : List Pin) (k next : ℕ) (out : List Pin) : Type
   pub reached : (d : Pin) → 0 < k → next ≡ pin_order (get_or pins (k - 1) d) + 1
   pub start : k ≡ 0 → next ≡ 0
 
+-- the distinct pins among the first ones, with the next where it is new
 pub set_push : (pins : List Pin) (k next : ℕ) (out out' : List Pin) (next' : ℕ) (d : Pin) → IsSetOfFirst pins k next out → k < length pins → next ≤ pin_order (get_or pins k d) → out' ≡ out ++ get_or pins k d ∷ [] → next' ≡ pin_order (get_or pins k d) + 1 → IsSetOfFirst pins (k + 1) next' out'
 set_push pins k next out out' next' d was within new put raised =
     let P : List Pin → Type 0 = λ o. IsSetOfFirst pins (k + 1) next' o in
@@ -62,6 +67,7 @@ set_push pins k next out out' next' d was within new put raised =
       start = λ none. absurd (omega arith);
     })
 
+-- the distinct pins among the first ones, where the next is one of them
 pub set_skip : (pins : List Pin) (k next : ℕ) (out : List Pin) (d : Pin) → IsSetOfFirst pins k next out → IsNonDecreasingBy pin_order pins → k < length pins → pin_order (get_or pins k d) < next → IsSetOfFirst pins (k + 1) next out
 set_skip pins k next out d was up within old =
     let not_first : ¬ (k ≡ 0) = (λ z. let e = was.start z in omega arith) in

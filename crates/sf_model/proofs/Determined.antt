@@ -16,31 +16,40 @@ use Rattle.sf_model.specs.declared.parts.Weights.{Weights}
 use Rattle.sf_model.specs.declared.raw.Parts.{Parts}
 use Rattle.sf_model.specs.declared.raw.RawNet.{RawNet}
 
+-- an empty list contains nothing
 none : {X : Type 0} (y : X) → Contains [] y → ⊥
 none y h = let low = h.1 in absurd (omega arith)
 
+-- a list contains its first element
 head_in : {X : Type 0} (x : X) (xs : List X) → Contains (x ∷ xs) x
 head_in x xs = (0, omega arith, refl)
 
+-- a list contains what its tail contains
 later_in : {X : Type 0} (x : X) (xs : List X) (y : X) → Contains xs y → Contains (x ∷ xs) y
 later_in x xs y h = (suc h.0, (let low = h.1 in let l : suc h.0 < length (x ∷ xs) = omega arith in l), h.2)
 
+-- an element at a place of a list is the first, or one of the tail
 member_cases : {X : Type 0} (x : X) (xs : List X) (y : X) (k : ℕ) → k < length (x ∷ xs) → get_or (x ∷ xs) k y ≡ y → (x ≡ y) ⊎ Contains xs y
 member_cases x xs y zero low is = inl is
 member_cases x xs y (suc k) low is = inr (k, (let l : k < length xs = omega arith in l), is)
 
+-- what a list contains is its first element, or in its tail
 in_cases : {X : Type 0} (x : X) (xs : List X) (y : X) → Contains (x ∷ xs) y → (x ≡ y) ⊎ Contains xs y
 in_cases x xs y h = member_cases x xs y h.0 h.1 h.2
 
+-- the pins ascend by their order
 abbrev IsAscending : List Pin → Type 0
 IsAscending pins = AllPairs (λ p q. pin_order p < pin_order q) pins
 
+-- in an ascending list the first element is below all later ones
 head_below : (x : Pin) (xs : List Pin) → IsAscending (x ∷ xs) → (y : Pin) → Contains xs y → pin_order x < pin_order y
 head_below x xs up y h = All-contains (λ q. pin_order x < pin_order q) xs y (λ k d low. up 0 (suc k) d (omega arith) (omega arith)) h
 
+-- the tail of an ascending list ascends
 tail_up : (x : Pin) (xs : List Pin) → IsAscending (x ∷ xs) → IsAscending xs
 tail_up x xs up i j d less within = up (suc i) (suc j) d (omega arith) (omega arith)
 
+-- with the same first element, what one tail contains the other does
 tail_in : (x y : Pin) (xs ys : List Pin) → IsAscending (x ∷ xs) → x ≡ y → ((p : Pin) → Contains (x ∷ xs) p → Contains (y ∷ ys) p) → (p : Pin) → Contains xs p → Contains ys p
 tail_in x y xs ys up head to p h =
     let less : pin_order x < pin_order p = head_below x xs up p h in
@@ -49,6 +58,7 @@ tail_in x y xs ys up head to p h =
       | inr q ↦ q
     ]
 
+-- two ascending lists of the same pins begin with the same
 heads : (x y : Pin) (xs ys : List Pin) → IsAscending (x ∷ xs) → IsAscending (y ∷ ys) → Contains (y ∷ ys) x → Contains (x ∷ xs) y → x ≡ y
 heads x y xs ys up up' a b =
     elim (in_cases y ys x a) [
@@ -66,21 +76,26 @@ same_sets (x ∷ xs) (y ∷ ys) up up' to from =
     let rest : xs ≡ ys = same_sets xs ys (tail_up x xs up) (tail_up y ys up') (tail_in x y xs ys up head to) (tail_in y x ys xs up' (sym head) from) in
     ap (λ (z : Pin). z ∷ xs) head ∙ ap (λ (zs : List Pin). y ∷ zs) rest
 
+-- two nets made of one that was read, with one weight, are the same
 same_net : (parts : Parts) (read : RawNet) (n m : Net) → IsNetOf parts read n → IsNetOf parts read m → n.weight ≡ m.weight → n ≡ m
 same_net parts read n m a b w =
     let f : List Pin → Net = λ ps. record { pins = ps; weight = n.weight } in
     let g : ℕ → Net = λ k. record { pins = m.pins; weight = k } in
     ap f (same_sets n.pins m.pins a.ascending b.ascending (λ p h. (b.same p).1 ((a.same p).0 h)) (λ p h. (a.same p).1 ((b.same p).0 h))) ∙ ap g w
 
+-- the weights of nets
 abbrev weights_of : List Net → List ℕ
 weights_of nets = map (λ n. n.weight) nets
 
+-- the first weights of lists with the same weights are the same
 head_weight : (n m : Net) (ns ms : List Net) → weights_of (n ∷ ns) ≡ weights_of (m ∷ ms) → n.weight ≡ m.weight
 head_weight n m ns ms e = ap (λ ws. get_or ws 0 0) e
 
+-- the later weights of lists with the same weights are the same
 tail_weights : (n m : Net) (ns ms : List Net) → weights_of (n ∷ ns) ≡ weights_of (m ∷ ms) → weights_of ns ≡ weights_of ms
 tail_weights n m ns ms e = ap (λ ws. drop 1 ws) e
 
+-- two lists of nets made of those that were read, with the same weights, are the same
 same_nets : (parts : Parts) (read : List RawNet) (ns ms : List Net) → length ns ≡ length read → length ms ≡ length read → AllByRecursion (λ n. IsNetOf parts n.0 n.1) (zip read ns) → AllByRecursion (λ n. IsNetOf parts n.0 n.1) (zip read ms) → weights_of ns ≡ weights_of ms → ns ≡ ms
 same_nets parts [] [] [] i j a b w = refl
 same_nets parts [] [] (m ∷ ms) i j a b w = absurd (omega arith)
@@ -90,9 +105,11 @@ same_nets parts (r ∷ rs) (n ∷ ns) [] i j a b w = absurd (omega arith)
 same_nets parts (r ∷ rs) (n ∷ ns) (m ∷ ms) i j a b w =
     ap (λ (z : Net). z ∷ ns) (same_net parts r n m a.0 b.0 (head_weight n m ns ms w)) ∙ ap (λ (zs : List Net). m ∷ zs) (same_nets parts rs ns ms (omega arith) (omega arith) a.1 b.1 (tail_weights n m ns ms w))
 
+-- there is one way to keep the limits
 one_proof : (blocks : List Block) (pads : List Pad) (nets : List Net) (outline : Outline) (weights : Weights) → IsProp (IsWithinLimits blocks pads nets outline weights)
 one_proof blocks pads nets outline weights = hlevel props
 
+-- the design of these fields
 design_of : (blocks : List Block) (pads : List Pad) (nets : List Net) (outline : Outline) (weights : Weights) → IsWithinLimits blocks pads nets outline weights → Design
 design_of blocks pads nets outline weights kept = record { blocks = blocks; pads = pads; nets = nets; outline = outline; weights = weights; limits = kept }
 
@@ -100,15 +117,18 @@ design_of blocks pads nets outline weights kept = record { blocks = blocks; pads
 IsOf : Design → List Block → List Pad → List Net → Outline → Weights → Type 0
 IsOf d blocks pads nets outline weights = (kept : IsWithinLimits blocks pads nets outline weights) → d ≡ design_of blocks pads nets outline weights kept
 
+-- a design is the one of its own fields
 own : (d : Design) → IsOf d d.blocks d.pads d.nets d.outline d.weights
 unfolding IsOf design_of
 own d kept = ap (design_of d.blocks d.pads d.nets d.outline d.weights) (one_proof d.blocks d.pads d.nets d.outline d.weights d.limits kept)
 
+-- two designs of the same fields are the same
 same_design : (d e : Design) → d.blocks ≡ e.blocks → d.pads ≡ e.pads → d.nets ≡ e.nets → d.outline ≡ e.outline → d.weights ≡ e.weights → d ≡ e
 unfolding IsOf design_of
 same_design d e b p n o w =
     let k : IsOf d e.blocks e.pads e.nets e.outline e.weights = rw (← b, ← p, ← n, ← o, ← w) (own d) in k e.limits
 
+-- two designs of the same parts, lists and weights are the same
 pub determined : (parts : Parts) (lists : List (List Shape)) (outline : Outline) (weights : Weights) (net_weights : List ℕ) (d e : Design) → IsDesignOf parts lists outline weights net_weights d → IsDesignOf parts lists outline weights net_weights e → d ≡ e
 determined parts lists outline weights net_weights d e a b = same_design d e
     (a.blocks ∙ sym b.blocks)

@@ -1,38 +1,21 @@
 -- The first of two lists, one after the other.
-use Rattle.std.proofs.Common.{◌≡◌, ◌≢◌, Result, Ok, Err, IsErrAnd, ℕ, ◌+◌, ◌<◌, ◌≤◌, length, get_or, drop, map, List, [], ◌∷◌, ◌++◌, Some, None, refl, ap, sym, ◌∙◌}
+use Rattle.std.proofs.Common.{◌≡◌, ◌≢◌, Result, Ok, Err, IsErrAnd, ℕ, ◌+◌, ◌<◌, length, get_or, drop, List, [], ◌∷◌, ◌++◌, Some, ap, sym, ◌∙◌}
 use Rattle.std.specs.List.{flat_map}
-use Rattle.std.proofs.Math.ListN.{drop_of_length-le}
 use Rattle.sf_model.specs.Admitted.{first, IsFirstOf}
 use Rattle.sf_model.specs.declared.fault.BuildFault.{BuildFault}
 use Rattle.sf_model.specs.declared.fault.BuildFault.TheVariants.{NoMemory}
 use Rattle.sf_model.proofs.Walks.{drop_step}
 
-pub first_none : {X : Type 0} (xs ys : List X) → first xs ≡ None → first (xs ++ ys) ≡ first ys
-first_none [] ys h = refl
-first_none (x ∷ xs) ys h = cc
-
+-- the first of the first list is the first of both
 pub first_some : {X : Type 0} (xs ys : List X) (x : X) → first xs ≡ Some x → first (xs ++ ys) ≡ Some x
 first_some [] ys x h = cc
 first_some (y ∷ xs) ys x h = h
 
-pub first_map : {X Y : Type 0} (f : X → Y) (xs : List X) (x : X) → first xs ≡ Some x → first (map f xs) ≡ Some (f x)
-first_map f [] x h = cc
-first_map f (y ∷ xs) x h = let e : y ≡ x = cc in ap (λ z. Some (f z)) e
-
-pub first_map_none : {X Y : Type 0} (f : X → Y) (xs : List X) → first xs ≡ None → first (map f xs) ≡ None
-first_map_none f [] h = refl
-first_map_none f (y ∷ xs) h = cc
-
 -- A walk that looks for the first of what f gives of a list.
 
-pub walk_on : {X Y : Type 0} (f : X → List Y) (xs : List X) (i : ℕ) (d : X) → i < length xs → first (flat_map f xs) ≡ first (flat_map f (drop i xs)) → first (f (get_or xs i d)) ≡ None → first (flat_map f xs) ≡ first (flat_map f (drop (i + 1) xs))
-walk_on f xs i d within so here = so ∙ ap (λ ys. first (flat_map f ys)) (drop_step xs i d within) ∙ first_none (f (get_or xs i d)) (flat_map f (drop (i + 1) xs)) here
-
+-- the first of what f gives is found at the element where a walk finds one
 pub walk_found : {X Y : Type 0} (f : X → List Y) (xs : List X) (i : ℕ) (d : X) (y : Y) → i < length xs → first (flat_map f xs) ≡ first (flat_map f (drop i xs)) → first (f (get_or xs i d)) ≡ Some y → first (flat_map f xs) ≡ Some y
 walk_found f xs i d y within so here = so ∙ ap (λ ys. first (flat_map f ys)) (drop_step xs i d within) ∙ first_some (f (get_or xs i d)) (flat_map f (drop (i + 1) xs)) y here
-
-pub walk_end : {X Y : Type 0} (f : X → List Y) (xs : List X) (i : ℕ) → length xs ≤ i → first (flat_map f xs) ≡ first (flat_map f (drop i xs)) → first (flat_map f xs) ≡ None
-walk_end f xs i past so = so ∙ ap (λ ys. first (flat_map f ys)) (drop_of_length-le xs past)
 
 -- a walk that ends at a fault of the element at i
 pub walk_refused : {X R : Type 0} (f : X → List BuildFault) (xs : List X) (i : ℕ) (d : X) (fault : BuildFault) (result : Result R BuildFault) → i < length xs → first (flat_map f xs) ≡ first (flat_map f (drop i xs)) → d ≡ get_or xs i d → (fault ≢ NoMemory → first (f d) ≡ Some fault) → IsErrAnd result (λ e. e ≡ fault) → IsFirstOf (flat_map f xs) result

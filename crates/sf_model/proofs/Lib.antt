@@ -1,7 +1,7 @@
 pub mod Each
 pub mod Places
 pub mod Ends
-pub mod Worked
+pub mod PairSize
 pub mod Counting
 pub mod Bounded
 pub mod Walks

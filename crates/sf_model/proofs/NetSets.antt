@@ -18,16 +18,19 @@ use Rattle.sf_model.specs.declared.raw.RawNet.{RawNet}
 use Rattle.sf_model.proofs.Limited.{limits_kept}
 use Rattle.sf_model.proofs.PinsThere.{few_placed, pins_there}
 
+-- a pin that is there has a number of 16 bits
 small : (blocks pads : ℕ) (p : Pin) → blocks ≤ 2 ^ 16 → pads ≤ 2 ^ 16 → IsThere blocks pads p → pin_number p < 2 ^ 16
 small blocks pads (pin.Block b) few_blocks few_pads there = omega arith
 small blocks pads (pin.Pad p) few_blocks few_pads there = omega arith
 
+-- pins with numbers of 16 bits and one order are the same
 same_order : (p q : Pin) → pin_number p < 2 ^ 16 → pin_number q < 2 ^ 16 → pin_order p ≡ pin_order q → p ≡ q
 same_order (pin.Block b) (pin.Block c) hp hq e = ap pin.Block e
 same_order (pin.Block b) (pin.Pad c) hp hq e = absurd (omega arith)
 same_order (pin.Pad b) (pin.Block c) hp hq e = absurd (omega arith)
 same_order (pin.Pad b) (pin.Pad c) hp hq e = ap pin.Pad (let s : b ≡ c = omega arith in s)
 
+-- pins that the test finds the same have one order
 same_test : (p q : Pin) → same_pin p q ≡ true → pin_order p ≡ pin_order q
 same_test p q h = grind (arith, nat_tests)
 
@@ -43,14 +46,17 @@ found all set p low each same here =
     let P : Pin → Type 0 = λ r. Contains set r in
     subst P (sym equal) in_set
 
+-- an item that may be there makes a list longer by one at most
 kept_length : {Y : Type 0} (o : Option Y) (ys : List Y) → length (cons_option o ys) ≤ 1 + length ys
 kept_length None ys = omega arith
 kept_length (Some y) ys = omega arith
 
+-- no more is kept of a list than it has
 length_kept : {X Y : Type 0} (h : X → Option Y) (xs : List X) → length (filter_map h xs) ≤ length xs
 length_kept h [] = omega arith
 length_kept h (x ∷ xs) = omega (arith, kept_length (h x) (filter_map h xs), length_kept h xs)
 
+-- the sorted pins of a net without repeats are its set
 pub net_made : (parts : Parts) (read : RawNet) (net : Net) (all sorted : List Pin) → IsAdmitted parts → Contains parts.nets read → HasPinsInRange parts → all ≡ named_pins parts read.pins → IsPermutation all sorted → AllPairs (λ p q. pin_order p < pin_order q) net.pins → ((p : Pin) → list_any (same_pin p) net.pins ≡ list_any (same_pin p) sorted) → All (Contains sorted) net.pins → length net.pins ≤ length sorted → net.weight < 2 ^ 8 → IsNetMade parts read net
 net_made parts read net all sorted admitted in_nets ranges named moved up same each few light =
     let limits = limits_kept parts admitted in

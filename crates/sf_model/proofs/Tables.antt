@@ -11,9 +11,11 @@ use Rattle.sf_model.specs.Admitted.{first, repeated}
 use Rattle.sf_model.specs.Table.{place_in, IsTableOf}
 use Rattle.sf_model.proofs.Walks.{drop_step}
 
+-- whether numbers are equal doesn't depend on which comes first
 nat_eq_sym : (x y : ℕ) → nat_eq x y ≡ nat_eq y x
 nat_eq_sym x y = grind (arith, nat_tests)
 
+-- whether texts are the same doesn't depend on which comes first
 pub bytes_eq_sym : (xs ys : List ℕ) → bytes_eq xs ys ≡ bytes_eq ys xs
 bytes_eq_sym [] [] = refl
 bytes_eq_sym [] (y ∷ ys) = refl
@@ -25,12 +27,15 @@ pub position_any : {X : Type 0} (p : X → Bool) (i : ℕ) (xs : List X) → is_
 position_any p i [] = refl
 position_any p i (x ∷ xs) = elim (p x) as (λ b. is_some (cond b (Some i) (position_from p (i + 1) xs)) ≡ (b || list_any p xs)) [ true ↦ refl | false ↦ position_any p (i + 1) xs ]
 
+-- with a name put before the others each name is found at its first place
 pub found_put : (old new : List ℕ → Option ℕ) (name : List ℕ) (i : ℕ) (names : List (List ℕ)) → ((n : List ℕ) → new n ≡ update bytes_eq old name (Some i) n) → ((n : List ℕ) → old n ≡ position_from (bytes_eq n) (i + 1) names) → (n : List ℕ) → new n ≡ position_from (bytes_eq n) i (name ∷ names)
 found_put old new name i names sets found n = sets n ∙ ap (λ b. cond b (Some i) (old n)) (bytes_eq_sym name n) ∙ ap (λ o. cond (bytes_eq n name) (Some i) o) (found n)
 
+-- a name that stands again is the first that does
 pub repeats_again : (name : List ℕ) (names : List (List ℕ)) → list_any (bytes_eq name) names ≡ true → first (repeated (name ∷ names)) ≡ Some name
 repeats_again name names h = rw h refl
 
+-- a name that doesn't stand again leaves the first that does
 pub repeats_once : (name : List ℕ) (names : List (List ℕ)) → list_any (bytes_eq name) names ≡ false → first (repeated (name ∷ names)) ≡ first (repeated names)
 repeats_once name names h = rw h refl
 
@@ -43,6 +48,7 @@ table_step {X} name xs left d t u some within was put =
     let Q : ℕ → Type 0 = λ k. IsTableOf t k (map name (drop left xs)) in
     subst P (sym item) (put (map name (drop left xs)) (subst Q (sym e) was))
 
+-- the table of no names is that of none that are left
 pub table_start : {X : Type 0} (name : X → List ℕ) (xs : List X) (t : NameTable) → ((i : ℕ) → IsTableOf t i []) → IsTableOf t (length xs) (map name (drop (length xs) xs))
 table_start {X} name xs t empty =
     let P : List X → Type 0 = λ ys. IsTableOf t (length xs) (map name ys) in
@@ -52,6 +58,7 @@ table_start {X} name xs t empty =
 pub table_has : (t : NameTable) (names : List (List ℕ)) → IsTableOf t 0 names → (n : List ℕ) → is_some (place_in t n) ≡ list_any (bytes_eq n) names
 table_has t names is n = ap (λ (o : Option ℕ). is_some o) (is.found n) ∙ position_any (bytes_eq n) 0 names
 
+-- a place that is found lies within the list
 position_within : {X : Type 0} (p : X → Bool) (i : ℕ) (xs : List X) (j : ℕ) → position_from p i xs ≡ Some j → j < i + length xs
 position_within p i [] j h = cc
 position_within p i (x ∷ xs) j h =

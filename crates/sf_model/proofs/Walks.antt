@@ -1,5 +1,5 @@
 -- One step of a walk over a list, by what is left of it.
-use Rattle.std.proofs.Common.{◌≡◌, ℕ, ◌+◌, ◌<◌, Bool, true, false, ◌||◌, ◌==◌, Option, Some, None, List, ◌∷◌, length, get_or, set, take, drop, ap, add-one, drop-cons, arith, get_or-set_same, get_or-set_other}
+use Rattle.std.proofs.Common.{◌≡◌, ℕ, ◌+◌, ◌<◌, Bool, true, false, ◌||◌, ◌==◌, Option, Some, List, ◌∷◌, length, get_or, set, take, drop, ap, add-one, drop-cons, arith, get_or-set_same, get_or-set_other}
 use Rattle.std.specs.List.{list_any}
 use Rattle.std.proofs.lemmas.Bool.Decides.{nat_tests}
 use Rattle.std.proofs.lemmas.List.Folds.{list_any_more}
@@ -18,10 +18,3 @@ marked of xs k d old now j within in_range here were i low =
     let at : is_index i (of (get_or xs k d)) ≡ (j == i) = ap (is_index i) here in
     let was = were i low in
     grind (arith, nat_tests, more, at, was, get_or-set_same {A = Bool}, get_or-set_other {A = Bool})
-
-pub unmarked : {X : Type 0} (of : X → Option ℕ) (xs : List X) (k : ℕ) (d : X) (old now : List Bool) → k < length xs → of (get_or xs k d) ≡ None → ((i : ℕ) → i < length now → get_or now i false ≡ (get_or old i false || list_any (λ x. is_index i (of x)) (take k xs))) → (i : ℕ) → i < length now → get_or now i false ≡ (get_or old i false || list_any (λ x. is_index i (of x)) (take (k + 1) xs))
-unmarked of xs k d old now within here were i low =
-    let more = list_any_more (λ x. is_index i (of x)) xs k d within in
-    let at : is_index i (of (get_or xs k d)) ≡ false = ap (is_index i) here in
-    let was = were i low in
-    grind (arith, nat_tests, more, at, was)

@@ -30,9 +30,11 @@ shapeless (b ∷ bs) [] = None
 shapeless (b ∷ bs) ([] ∷ ls) = Some b.name
 shapeless (b ∷ bs) ((s ∷ ss) ∷ ls) = shapeless bs ls
 
+-- both sides of the outline keep the limit of sides
 abbrev pub IsOutline : Outline → Type 0
 IsOutline outline = IsSide outline.w × IsSide outline.h
 
+-- area or wire counts
 abbrev pub IsWeighted : Weights → Type 0
 IsWeighted weights = 1 ≤ weights.area + weights.wire
 
@@ -62,6 +64,7 @@ pin_at parts None None = None
 abbrev pub pin_of : Parts → RawPin → Option Pin
 pin_of parts p = pin_at parts (block_of parts.blocks p) (pad_of parts.pads p)
 
+-- what the pins as read stand for, in their order
 abbrev pub named_pins : Parts → List RawPin → List Pin
 named_pins parts pins = filter_map (pin_of parts) pins
 

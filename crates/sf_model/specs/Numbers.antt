@@ -13,6 +13,7 @@ pub record AreNumbersOf (numbers : List ℕ) (pads : List RawPad) : Type 0 where
   pub len : length numbers ≡ length pads
   pub counts : (i : ℕ) → i < length pads → slice_index numbers i ≡ count_by (λ p. is_some p.place) (take i pads)
 
+-- the pins are the same, by their order
 abbrev pub same_pin : Pin → Pin → Bool
 same_pin p q = pin_order p == pin_order q
 

@@ -6,6 +6,7 @@ use Rattle.sf_model.specs.declared.names.NameRule.{NameRule}
 use Rattle.sf_model.specs.declared.names.NameRule.TheVariants.{NotBoth, Known}
 use Rattle.sf_model.specs.declared.raw.Parts.{Parts}
 
+-- the fault of a name by a rule
 abbrev pub rule_faults : NameRule → Parts → List ℕ → List BuildFault
 rule_faults NotBoth parts n = if_both parts n
 rule_faults Known parts n = if_neither parts n

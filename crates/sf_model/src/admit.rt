@@ -1,7 +1,8 @@
 //! Whether parts may become a design.
 
 ghost use Rattle.std.specs.Prelude.{◌≡◌, ◌≢◌, OnOk, IfErr, Some};
-ghost use Rattle.sf_model.specs.Admitted.{first_refusal, IsAdmitted, IsFirstOf, HasPinsInRange, faults, name_faults, KeepsLimits};
+ghost use Rattle.sf_model.specs.Admitted.{first_refusal, IsAdmitted, IsFirstOf, HasPinsInRange, faults};
+ghost use Rattle.sf_model.specs.Admitted.{name_faults, KeepsLimits};
 ghost use Rattle.sf_model.specs.declared.fault.BuildFault.TheVariants.{NoMemory};
 ghost use Rattle.sf_model.specs.declared.raw.Parts.{Parts};
 

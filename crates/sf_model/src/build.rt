@@ -1,9 +1,11 @@
 //! The design that admitted parts become.
 
-ghost use Rattle.std.specs.Prelude.{◌≡◌, ◌≢◌, ◌≤◌, None, Some, [], IsTrue, OnOk, IfOk, IfErr, length, vec_len, All, filter_map, nat_abs, ◌^◌, if◌then◌else◌};
+ghost use Rattle.std.specs.Prelude.{◌≡◌, ◌≢◌, ◌≤◌, None, Some, [], IsTrue, OnOk, IfOk, IfErr, length};
+ghost use Rattle.std.specs.Prelude.{vec_len, All, filter_map, nat_abs, ◌^◌, if◌then◌else◌};
 ghost use Rattle.std.specs.Option.{option_map, option_copied};
 ghost use Rattle.sf_model.specs.Admitted.{HasPinsInRange, IsAdmitted, IsPlaceWithin};
-ghost use Rattle.sf_model.specs.Built.{HasNetWeights, HasShapeChoices, IsDesignOf, IsOutline, IsWeighted, shapeless, design_blocks, placed_pad};
+ghost use Rattle.sf_model.specs.Built.{HasNetWeights, HasShapeChoices, IsDesignOf, IsOutline, IsWeighted};
+ghost use Rattle.sf_model.specs.Built.{shapeless, design_blocks, placed_pad};
 ghost use Rattle.sf_model.specs.declared.fault.BuildFault.TheVariants.{NoMemory, NoShape};
 
 use crate::design::Design;

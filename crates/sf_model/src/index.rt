@@ -2,7 +2,8 @@
 
 ghost use Rattle.std.specs.Prelude.{◌≡◌, ◌<◌, length, IfOk, IfSome};
 ghost use Rattle.std.proofs.Props.{props};
-ghost use Rattle.sf_model.specs.Admitted.{block_names, pad_names, is_block_name, is_pad_name, block_of, pad_of, IsPinInRange};
+ghost use Rattle.sf_model.specs.Admitted.{block_names, pad_names, is_block_name, is_pad_name, block_of};
+ghost use Rattle.sf_model.specs.Admitted.{pad_of, IsPinInRange};
 ghost use Rattle.sf_model.specs.Table.{IsTableOf};
 
 use crate::name::Name;

@@ -2,7 +2,8 @@
 
 ghost use Rattle.std.specs.Prelude.{◌≡◌, ℕ, List, map, flat_map};
 ghost use Rattle.std.specs.Option.{option_copied};
-ghost use Rattle.sf_model.specs.Admitted.{first, IsFirstOf, at_pin_name, at_pin_names, at_placed_name, duplicates, unknowns};
+ghost use Rattle.sf_model.specs.Admitted.{first, IsFirstOf, at_pin_name, at_pin_names, at_placed_name};
+ghost use Rattle.sf_model.specs.Admitted.{duplicates, unknowns};
 ghost use Rattle.sf_model.specs.Rules.{rule_faults};
 ghost use Rattle.sf_model.specs.declared.fault.BuildFault.TheVariants.{DuplicateName};
 

@@ -1,8 +1,10 @@
 //! Whether the pads of the nets have places.
 
-ghost use Rattle.std.specs.Prelude.{◌≡◌, ℕ, ◌<◌, ◌||◌, false, length, flat_map, All, IfOk, vec_len, slice_index_or};
+ghost use Rattle.std.specs.Prelude.{◌≡◌, ℕ, ◌<◌, ◌||◌, false, length, flat_map, All, IfOk, vec_len};
+ghost use Rattle.std.specs.Prelude.{slice_index_or};
 ghost use Rattle.std.specs.List.{list_any};
-ghost use Rattle.sf_model.specs.Admitted.{IsFirstOf, HasPinsInRange, IsPinInRange, pad_of, is_index, is_wired, missing_places};
+ghost use Rattle.sf_model.specs.Admitted.{IsFirstOf, HasPinsInRange, IsPinInRange, pad_of, is_index};
+ghost use Rattle.sf_model.specs.Admitted.{is_wired, missing_places};
 
 use crate::fault::BuildFault;
 use crate::index::Index;

@@ -26,6 +26,7 @@ fn squares(alloc: Global, names: &[Name], side: u64) -> Result<RawBlockList, All
     Ok(RawBlockList::from_vec(blocks))
 }
 
+/// A number for each fault that is asked for.
 fn number_of(fault: &BuildFault) -> u8 {
     match fault {
         BuildFault::DuplicateName(name) if name.as_bytes() == b"b".as_slice() => 1,
@@ -37,6 +38,7 @@ fn number_of(fault: &BuildFault) -> u8 {
     }
 }
 
+/// Parts are admitted, or refused with their first fault.
 #[test]
 fn admits(rt: HostRuntime) -> Result<(), Fail> {
     let alloc = rt.alloc();
@@ -148,6 +150,7 @@ fn built(alloc: Global, parts: Parts) -> Result<u8, BuildFault>
     }
 }
 
+/// A design has what was read, and a list of shapes for each block.
 #[test]
 fn builds(rt: HostRuntime) -> Result<(), Fail> {
     let alloc = rt.alloc();
