@@ -19,6 +19,7 @@ use Rattle.sf_curves.specs.Points.{IsSlimmer, IsWithin, IsNoLarger, IsCovered, C
 use Rattle.sf_curves.proofs.Forms.{same-form, form-tokens}
 use Rattle.sf_curves.proofs.OnCurve.{same_point, one_point}
 
+-- each leaf has a shape from the span of its block
 abbrev pub IsListed : Design → List (ℕ × ℕ) → Tree → Type 0
 IsListed design spans t = AllByRecursion (λ leaf. Contains (shapes_in design spans leaf.0) leaf.1) (leaves t)
 
@@ -28,15 +29,19 @@ pub record Grows (join : Shape → Shape → Shape) : Type 0 where
   pub left : (p q : Shape) → IsNoLarger p (join p q)
   pub right : (p q : Shape) → IsNoLarger q (join p q)
 
+-- rooms side by side grow with both
 beside-grows : Grows beside_size
 beside-grows = record { both = λ p q r s h k. (omega (arith, h.0, k.0), omega (arith, h.1, k.1)); left = λ p q. (omega arith, omega arith); right = λ p q. (omega arith, omega arith) }
 
+-- so do rooms one above the other
 above-grows : Grows above_size
 above-grows = record { both = λ p q r s h k. (omega (arith, h.0, k.0), omega (arith, h.1, k.1)); left = λ p q. (omega arith, omega arith); right = λ p q. (omega arith, omega arith) }
 
+-- what is no larger than a size in the outline lies in it
 smaller-within : (o : Outline) (p q : Shape) → IsNoLarger p q → IsWithin o q → IsWithin o p
 smaller-within o p q le fits = (omega (arith, le.0, fits.0), omega (arith, le.1, fits.1))
 
+-- no larger than what is no larger is no larger
 no-larger-still : (p q r : Shape) → IsNoLarger p q → IsNoLarger q r → IsNoLarger p r
 no-larger-still p q r le lf = (omega (arith, le.0, lf.0), omega (arith, le.1, lf.1))
 
@@ -58,6 +63,7 @@ covers-joined join grows o ls rs c x y joined left right fits =
     (found.0, found.1, found.2, found.3, no-larger-still found.1 (join a.1 b.1) (join x y) found.4 small)
 
 module _ (design : Design) (spans : List (ℕ × ℕ)) where
+  -- the curve of a tree covers each plan of its form with shapes from the spans
   covers-tree : (c : CurveTree) (t : Tree) → IsCurveTree design spans c → form t ≡ form_of c → IsListed design spans t → IsCovered design.outline (curve_of c) (size_of t)
   covers-tree (tree.Leaf b c) (Leaf k s) h e l =
       let same : k ≡ b = cc in
@@ -79,12 +85,14 @@ module _ (design : Design) (spans : List (ℕ × ℕ)) where
       covers-joined above_size above-grows design.outline (curve_of l) (curve_of r) c (size_of x) (size_of y) h.0.covers
       (covers-tree l x h.1 el (each-left _ (leaves x) (leaves y) all)) (covers-tree r y h.2 er (each-right _ (leaves x) (leaves y) all))
 
+  -- some plan of the form of the tree, with shapes from the spans, has this size
   record HasSize (c : CurveTree) (p : Shape) : Type 0 where
     plan : Tree
     formed : form plan ≡ form_of c
     listed : IsListed design spans plan
     size : size_of plan ≡ p
 
+  -- each point of the curve of a tree is such a size
   traced-tree : (c : CurveTree) (p : Shape) → IsCurveTree design spans c → Contains (curve_of c) p → HasSize c p
   traced-tree (tree.Leaf b c) p h k = record { plan = Leaf b p; formed = refl; listed = (All-contains (Contains (shapes_in design spans b)) c p h.traced k, tt); size = refl }
   traced-tree (tree.Beside' c i l j r) p h k =
@@ -108,27 +116,33 @@ module _ (design : Design) (spans : List (ℕ × ℕ)) where
         size = ap (λ v. above_size v (size_of y.plan)) x.size ∙ ap (above_size s.0) y.size ∙ sym s.4;
       }
 
+  -- the points of its curve lie in the outline
   within-tree : (c : CurveTree) → IsCurveTree design spans c → All (IsWithin design.outline) (curve_of c)
   within-tree (tree.Leaf b c) h = h.within
   within-tree (tree.Beside' c p l q r) h = h.0.within
   within-tree (tree.Above' c p l q r) h = h.0.within
 
+  -- each point of a joined tree comes from two points below
   pub tree-traced : (c : CurveTree) → IsCurveTree design spans c → IsTraced c
   tree-traced (tree.Leaf b c) h = tt
   tree-traced (tree.Beside' c p l q r) h = (h.0.traced, tree-traced l h.1, tree-traced r h.2)
   tree-traced (tree.Above' c p l q r) h = (h.0.traced, tree-traced l h.1, tree-traced r h.2)
 
+  -- some choice has this size
   abbrev pub HasChoice : List Token → Shape → Type 0
   HasChoice tokens p = (t : Tree) × IsChoice design tokens spans t × (size_of t ≡ p)
 
+  -- each point of the curve of a tree with these tokens is the size of a choice
   pub curve-traced : (tokens : List Token) (c : CurveTree) → IsCurveTree design spans c → postfix (form_of c) ≡ tokens → All (HasChoice tokens) (curve_of c)
   curve-traced tokens c h is k d lt =
       let x = traced-tree c _ h (Contains-get_or (curve_of c) k d lt) in
       (x.plan, record { tokens = form-tokens x.plan c x.formed ∙ is; shapes = All-from_recursion _ (leaves x.plan) x.listed }, x.size)
 
+  -- and it covers each choice
   pub curve-covers : (tokens : List Token) (c : CurveTree) → IsCurveTree design spans c → postfix (form_of c) ≡ tokens → (t : Tree) → IsChoice design tokens spans t → IsCovered design.outline (curve_of c) (size_of t)
   curve-covers tokens c h is t choice = covers-tree c t h (same-form t c (choice.tokens ∙ sym is)) (recursion_from_All _ (leaves t) choice.shapes)
 
+  -- so it is the root curve of the tokens
   pub tree-curve : (tokens : List Token) (c : CurveTree) → IsCurveTree design spans c → postfix (form_of c) ≡ tokens → AllPairs IsSlimmer (curve_of c) → IsRootCurve design tokens spans (curve_of c)
   tree-curve tokens c h is falls = record { falls = falls; within = within-tree c h; traced = curve-traced tokens c h is; covers = curve-covers tokens c h is }
 
@@ -181,6 +195,7 @@ module _ (design : Design) (spans : List (ℕ × ℕ)) where
       let b = chosen-form r y h.2 e.1 in
       (ap (λ v. Above v (form y)) a.0 ∙ ap (Above (form_of l)) b.0, each-append _ (leaves x) (leaves y) a.1 b.1)
 
+  -- a plan that is chosen on the curves of the leaves is a choice
   pub chosen-choice : (tokens : List Token) (c : CurveTree) (t : Tree) → IsCurveTree design spans c → postfix (form_of c) ≡ tokens → IsChosen c t → IsChoice design tokens spans t
   chosen-choice tokens c t h is chosen =
       let k = chosen-form c t h chosen in

@@ -12,6 +12,7 @@ beside_low ls rs points p traced c =
     let j = All-contains (IsJoinOf beside_size ls rs) points p traced c in
     (Any-from_contains (λ q. q.h ≤ p.h) ls j.0 j.2 (omega (arith, ap (λ v. v.h) j.4)), Any-from_contains (λ q. q.h ≤ p.h) rs j.1 j.3 (omega (arith, ap (λ v. v.h) j.4)))
 
+-- each of two rooms one above the other has a point no wider than both
 pub above_thin : (ls rs points : List Shape) (p : Shape) → All (IsJoinOf above_size ls rs) points → Contains points p → Any (λ q. q.w ≤ p.w) ls × Any (λ q. q.w ≤ p.w) rs
 above_thin ls rs points p traced c =
     let j = All-contains (IsJoinOf above_size ls rs) points p traced c in
@@ -26,6 +27,7 @@ beside_small ls rs points p l r x y traced c nl nr xl yr =
     let wr = All-contains (λ q. q.h ≤ p.h → r.w ≤ q.w) rs j.1 nr.least j.3 (omega (arith, h)) in
     (omega (arith, ap (λ v. v.w) j.4, wl, wr, xl.0, yr.0), omega (arith, nl.low, nr.low, xl.1, yr.1))
 
+-- the two lowest of these make a room no larger than the point
 pub above_small : (ls rs points : List Shape) (p l r x y : Shape) → All (IsJoinOf above_size ls rs) points → Contains points p → IsLowest p.w ls l → IsLowest p.w rs r → IsNoLarger x l → IsNoLarger y r → IsNoLarger (above_size x y) p
 above_small ls rs points p l r x y traced c nl nr xl yr =
     let j = All-contains (IsJoinOf above_size ls rs) points p traced c in

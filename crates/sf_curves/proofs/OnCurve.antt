@@ -6,6 +6,7 @@ use Rattle.std.proofs.lemmas.Bool.{cases_lt}
 use Rattle.sf_model.specs.declared.parts.Shape.{Shape}
 use Rattle.sf_curves.specs.Points.{IsSlimmer, IsNoLarger, IsNarrowest, IsLowest}
 
+-- points of the same sides are one
 pub same_point : (p q : Shape) → p.w ≡ q.w → p.h ≡ q.h → p ≡ q
 same_point p q a b = ap (λ v. let r : Shape = record { w = v; h = p.h } in r) a ∙ ap (λ v. let r : Shape = record { w = q.w; h = v } in r) b
 

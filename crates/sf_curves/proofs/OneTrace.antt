@@ -22,6 +22,7 @@ use Rattle.sf_curves.proofs.OnCurve.{one_point, same_point}
 
 -- ---- lists of points that fall
 
+-- two falling lists that have each other's first point have the same first point
 first-point : (x y : Shape) (xs ys : List Shape) → AllPairs IsSlimmer (x ∷ xs) → AllPairs IsSlimmer (y ∷ ys) → Contains (y ∷ ys) x → Contains (x ∷ xs) y → x ≡ y
 first-point x y xs ys falls others cx cy =
     elim (Contains-cons_cases y ys x cx) [
@@ -34,6 +35,7 @@ first-point x y xs ys falls others cx cy =
       ]
     ]
 
+-- a later point of the one is a later point of the other
 in-rest : (x y p : Shape) (xs ys : List Shape) → x ≡ y → AllPairs IsSlimmer (x ∷ xs) → Contains xs p → Contains (y ∷ ys) p → Contains ys p
 in-rest x y p xs ys e falls here there =
     elim (Contains-cons_cases y ys p there) [
@@ -55,6 +57,7 @@ same-points (x ∷ xs) (y ∷ ys) falls others to from =
     (λ p c. in-rest y x p ys xs (sym first) others c (from p (Contains-tail y ys p c))) in
     ap (λ z. z ∷ xs) first ∙ ap (λ zs. y ∷ zs) more
 
+-- a falling list has one point of a width
 same-width : (points : List Shape) (p q : Shape) → AllPairs IsSlimmer points → Contains points p → Contains points q → p.w ≡ q.w → p ≡ q
 same-width points p q falls cp cq e =
     elim (cases_lt q.h p.h) [
@@ -62,6 +65,7 @@ same-width points p q falls cp cq e =
       | inr low ↦ one_point points p q falls cp cq (omega arith, omega arith)
     ]
 
+-- and one of a height
 same-height : (points : List Shape) (p q : Shape) → AllPairs IsSlimmer points → Contains points p → Contains points q → p.h ≡ q.h → p ≡ q
 same-height points p q falls cp cq e =
     elim (cases_lt q.w p.w) [
@@ -69,12 +73,14 @@ same-height points p q falls cp cq e =
       | inr thin ↦ one_point points p q falls cp cq (omega arith, omega arith)
     ]
 
+-- it has one narrowest point that is low enough
 one-narrowest : (limit : ℕ) (points : List Shape) (p q : Shape) → AllPairs IsSlimmer points → IsNarrowest limit points p → IsNarrowest limit points q → p ≡ q
 one-narrowest limit points p q falls a b =
     let up : p.w ≤ q.w = All-contains (λ r. r.h ≤ limit → p.w ≤ r.w) points q a.least b.found b.low in
     let down : q.w ≤ p.w = All-contains (λ r. r.h ≤ limit → q.w ≤ r.w) points p b.least a.found a.low in
     same-width points p q falls a.found b.found (omega arith)
 
+-- and one lowest point that is narrow enough
 one-lowest : (limit : ℕ) (points : List Shape) (p q : Shape) → AllPairs IsSlimmer points → IsLowest limit points p → IsLowest limit points q → p ≡ q
 one-lowest limit points p q falls a b =
     let up : p.h ≤ q.h = All-contains (λ r. r.w ≤ limit → p.h ≤ r.h) points q a.least b.found b.narrow in
@@ -106,6 +112,7 @@ pub one-curve : (design : Design) (tokens : List Token) (spans : List (ℕ × �
 one-curve design tokens spans points others one two =
     same-points points others one.falls two.falls (λ p. on-other design tokens spans points others p one two) (λ p. on-other design tokens spans others points p two one)
 
+-- two points of least area are as wide
 least-wide : (points : List Shape) (p q : Shape) → IsLeastArea points p → IsLeastArea points q → p.w ≡ q.w
 least-wide points p q a b =
     let there = All-contains (λ r. (area_of p < area_of r) ⊎ ((area_of p ≡ area_of r) × (p.w ≤ r.w))) points q a.least b.found in
@@ -122,25 +129,31 @@ one-least design tokens spans points p q curve a b =
 
 -- ---- the plan of a point
 
+-- so plans of one form have the same narrowest point
 one-left : (design : Design) (spans : List (ℕ × ℕ)) (limit : ℕ) (t u : Tree) (p q : Shape) → form t ≡ form u → IsNarrowestOf design (postfix t) spans limit p → IsNarrowestOf design (postfix u) spans limit q → p ≡ q
 one-left design spans limit t u p q e a b =
     let curve = one-curve design (postfix t) spans a.points b.points a.curve (subst (λ z. IsRootCurve design z spans b.points) (sym (form-postfix t u e)) b.curve) in
     one-narrowest limit a.points p q a.curve.falls a.narrowest (subst (λ z. IsNarrowest limit z q) (sym curve) b.narrowest)
 
+-- and the same lowest point
 one-lower : (design : Design) (spans : List (ℕ × ℕ)) (limit : ℕ) (t u : Tree) (p q : Shape) → form t ≡ form u → IsLowestOf design (postfix t) spans limit p → IsLowestOf design (postfix u) spans limit q → p ≡ q
 one-lower design spans limit t u p q e a b =
     let curve = one-curve design (postfix t) spans a.points b.points a.curve (subst (λ z. IsRootCurve design z spans b.points) (sym (form-postfix t u e)) b.curve) in
     one-lowest limit a.points p q a.curve.falls a.lowest (subst (λ z. IsLowest limit z q) (sym curve) b.lowest)
 
+-- leaves that are one have one block
 leaf-block : (b c : ℕ) (s : Shape) → Leaf b s ≡ Leaf c s → b ≡ c
 leaf-block b c s e = cc
 
+-- plans side by side that are one have the same parts
 beside-parts : (l r x y : Tree) → Beside l r ≡ Beside x y → (l ≡ x) × (r ≡ y)
 beside-parts l r x y e = (cc, cc)
 
+-- so have plans one above the other
 above-parts : (l r x y : Tree) → Above l r ≡ Above x y → (l ≡ x) × (r ≡ y)
 above-parts l r x y e = (cc, cc)
 
+-- plans of one form that take their shapes from one point are one
 same-plan : (design : Design) (spans : List (ℕ × ℕ)) (p : Shape) (t u : Tree) → form t ≡ form u → TakesFrom design spans t p → TakesFrom design spans u p → t ≡ u
 same-plan design spans p (Leaf b s) (Leaf c r) e h k = ap (λ n. Leaf n s) (leaf-block b c no_shape e) ∙ ap (λ z. Leaf c z) (h ∙ sym k)
 same-plan design spans p (Leaf b s) (Beside x y) e h k = absurd cc

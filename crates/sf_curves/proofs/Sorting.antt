@@ -17,6 +17,7 @@ use Rattle.sf_model.specs.declared.parts.Shape.{Shape}
 use Rattle.sf_curves.specs.Points.{IsNoLater}
 use denote.Param.Members.{Mut}
 
+-- no later than what stands no later is no later
 no_later_still : (p q r : Shape) → IsNoLater p q → IsNoLater q r → IsNoLater p r
 no_later_still p q r h k = (
   omega (arith, h.0, k.0),
@@ -30,6 +31,7 @@ no_later_still p q r h k = (
 abbrev pub AreInOrderUpTo : Shape → List Shape → Type 0
 AreInOrderUpTo last shapes = All (λ p. IsNoLater p last) shapes × AllPairs IsNoLater shapes
 
+-- a shape that stands no later than its next goes on the order
 pub in_order_more : (shapes : List Shape) (i : ℕ) (d last : Shape) → i < length shapes → AreInOrderUpTo last (take i shapes) → IsNoLater last (get_or shapes i d) → AreInOrderUpTo (get_or shapes i d) (take (i + 1) shapes)
 in_order_more shapes i d last lt m next =
     let x = get_or shapes i d in
@@ -39,15 +41,19 @@ in_order_more shapes i d last lt m next =
       all_pairs_push IsNoLater (take i shapes) x m.1 before,
     )
 
+-- both sides of a shape, as a key to sort by
 abbrev pub sides : Shape → ℕ × ℕ
 sides p = (p.w, p.h)
 
+-- the order of these keys
 abbrev pub sides_cmp : ℕ × ℕ → ℕ × ℕ → Ordering
 sides_cmp x y = ordering_then (nat_cmp x.0 y.0) (nat_cmp x.1 y.1)
 
+-- it is a total order
 sides_cmp_total : IsTotalOrder sides_cmp
 sides_cmp_total = then_total (on_total (λ t. t.0) nat_cmp_total) (on_total (λ t. t.1) nat_cmp_total)
 
+-- a shape whose key is not less than another's stands no earlier
 not_less : (p q : Shape) (wide high : Ordering) → MatchOrdering wide (q.w < p.w) (q.w ≡ p.w) (p.w < q.w) → MatchOrdering high (q.h < p.h) (q.h ≡ p.h) (p.h < q.h) → is_lt (ordering_then wide high) ≡ false → IsNoLater p q
 not_less p q Less high w h e = absurd (true≢false e)
 not_less p q Equal Less w h e = absurd (true≢false e)

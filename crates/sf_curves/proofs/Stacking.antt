@@ -8,6 +8,7 @@ use Rattle.sf_curves.specs.Points.{IsSlimmer, IsCombination, AddsWithin, beside_
 use Rattle.sf_curves.proofs.Merge.{IsMerging, IsCombined, front, combined, all_covered, advance_left, advance_right, advance_both, at_front, back_left, back_right}
 use Rattle.sf_curves.proofs.Transpose.{flip, transposed, length-transposed, get_or-transposed, falls-transposed, combination_above}
 
+-- the outline with its axes exchanged
 abbrev turned : Outline → Outline
 turned o = record { w = o.h; h = o.w }
 
@@ -37,6 +38,7 @@ stacking_begins lower upper o points empty lower_falls upper_falls =
       right_falls = falls-transposed upper upper_falls;
     }
 
+-- what is added to the sizes is added, turned, to the turned sizes
 adds-turned : (o : Outline) (old new : List Shape) (p : Shape) → AddsWithin o old new p → AddsWithin (turned o) (map flip old) (map flip new) (flip p)
 adds-turned o old new p added =
     elim added [
@@ -45,18 +47,23 @@ adds-turned o old new p added =
     ]
 
 module _ (lower upper : List Shape) (o : Outline) (old new : List Shape) (i j : ℕ) (in_lower : i < length lower) (in_upper : j < length upper) (m : IsStacking lower upper o old i j) (added : AddsWithin o old new (above_size (from_end lower i) (from_end upper j))) where
+  -- the next point of the turned lower room is the turned one of the lower room from the end
   lower_is : front (transposed lower) i ≡ flip (from_end lower i)
   lower_is = get_or-transposed lower i record { w = 0; h = 0 } in_lower
 
+  -- so is that of the upper room
   upper_is : front (transposed upper) j ≡ flip (from_end upper j)
   upper_is = get_or-transposed upper j record { w = 0; h = 0 } in_upper
 
+  -- the lower room has a next point
   lower_in : i < length (transposed lower)
   lower_in = omega (arith, in_lower, length-transposed lower)
 
+  -- and the upper one
   upper_in : j < length (transposed upper)
   upper_in = omega (arith, in_upper, length-transposed upper)
 
+  -- both are combined, turned
   taken : IsCombined (transposed lower) (transposed upper) (turned o) (map flip new) (front (transposed lower) i) (drop (i + 1) (transposed lower)) (front (transposed upper) j) (drop (j + 1) (transposed upper))
   taken =
       combined (transposed lower) (transposed upper) (turned o) (map flip old) (map flip new) _ _ _ _
@@ -65,20 +72,24 @@ module _ (lower upper : List Shape) (o : Outline) (old new : List Shape) (i j : 
       (subst (λ v. AddsWithin (turned o) (map flip old) (map flip new) (beside_size (flip (from_end lower i)) v)) (sym upper_is)
       (adds-turned o old new (above_size (from_end lower i) (from_end upper j)) added)))
 
+  -- the lower room goes on where it is the wider one
   pub stack_lower : (from_end upper j).w < (from_end lower i).w → IsStacking lower upper o new (i + 1) j
   stack_lower wider =
       back_left (transposed lower) (transposed upper) (turned o) (map flip new) i j upper_in
       (advance_left _ _ _ _ _ _ _ _ taken (omega (arith, wider, ap (λ v. v.h) lower_is, ap (λ v. v.h) upper_is)))
 
+  -- the upper room goes on where it is the wider one
   pub stack_upper : (from_end lower i).w < (from_end upper j).w → IsStacking lower upper o new i (j + 1)
   stack_upper wider =
       back_right (transposed lower) (transposed upper) (turned o) (map flip new) i j lower_in
       (advance_right _ _ _ _ _ _ _ _ taken (omega (arith, wider, ap (λ v. v.h) lower_is, ap (λ v. v.h) upper_is)))
 
+  -- both go on where they are as wide
   pub stack_both : (from_end lower i).w ≡ (from_end upper j).w → IsStacking lower upper o new (i + 1) (j + 1)
   stack_both same =
       advance_both _ _ _ _ _ _ _ _ taken (omega (arith, same, ap (λ v. v.h) lower_is, ap (λ v. v.h) upper_is))
 
+-- turning twice gives the sizes from the other end
 turned_back : (xs : List Shape) → transposed (map flip xs) ≡ reverse xs
 turned_back [] = refl
 turned_back (x ∷ xs) =
@@ -102,5 +113,6 @@ stacked_all lower upper o points i j m done =
           ]);
     })
 
+-- these fall
 pub stacked_falls : (lower upper : List Shape) (o : Outline) (points : List Shape) (i j : ℕ) → IsStacking lower upper o points i j → AllPairs IsSlimmer (reverse points)
 stacked_falls lower upper o points i j m = subst (AllPairs IsSlimmer) (turned_back points) (falls-transposed (map flip points) m.falls)

@@ -28,6 +28,7 @@ pub record IsChoice (design : Design) (given : List Token) (spans : List (ℕ ×
   pub tokens : postfix tree ≡ given
   pub shapes : All (λ leaf. Contains (shapes_in design spans leaf.0) leaf.1) (leaves tree)
 
+-- the size of a plan
 abbrev pub size_of : Tree → Shape
 size_of tree = record { w = width tree; h = height tree }
 

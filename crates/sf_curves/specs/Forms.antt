@@ -42,14 +42,9 @@ IsTraced (tree.Above' c p l q r) = All (IsJoinOf above_size (curve_of l) (curve_
 -- the plan has the form of the tree, and its shapes are on the curves of the leaves
 abbrev pub IsChosen : CurveTree → Tree → Type 0
 IsChosen (tree.Leaf b c) (Leaf k s) = (k ≡ b) × Contains c s
-IsChosen (tree.Leaf b c) (Beside x y) = ⊥
-IsChosen (tree.Leaf b c) (Above x y) = ⊥
-IsChosen (tree.Beside' c p l q r) (Leaf k s) = ⊥
 IsChosen (tree.Beside' c p l q r) (Beside x y) = IsChosen l x × IsChosen r y
-IsChosen (tree.Beside' c p l q r) (Above x y) = ⊥
-IsChosen (tree.Above' c p l q r) (Leaf k s) = ⊥
-IsChosen (tree.Above' c p l q r) (Beside x y) = ⊥
 IsChosen (tree.Above' c p l q r) (Above x y) = IsChosen l x × IsChosen r y
+IsChosen c t = ⊥
 
 -- the narrowest point of a curve that is no higher than the limit
 pub record IsNarrowestOn (curve : List Shape) (limit : ℕ) (p : Shape) : Type 0 where
@@ -64,13 +59,8 @@ pub record IsLowestOn (curve : List Shape) (limit : ℕ) (p : Shape) : Type 0 wh
 -- the plan has the form of the tree, and its shapes are those that the point leads to on the curves
 abbrev pub IsSized : CurveTree → Tree → Shape → Type 0
 IsSized (tree.Leaf b c) (Leaf k s) p = s ≡ p
-IsSized (tree.Leaf b c) (Beside x y) p = ⊥
-IsSized (tree.Leaf b c) (Above x y) p = ⊥
-IsSized (tree.Beside' c i l j r) (Leaf k s) p = ⊥
 IsSized (tree.Beside' c i l j r) (Beside x y) p =
     (q : Shape) × (t : Shape) × IsNarrowestOn (curve_of l) p.h q × IsNarrowestOn (curve_of r) p.h t × IsSized l x q × IsSized r y t
-IsSized (tree.Beside' c i l j r) (Above x y) p = ⊥
-IsSized (tree.Above' c i l j r) (Leaf k s) p = ⊥
-IsSized (tree.Above' c i l j r) (Beside x y) p = ⊥
 IsSized (tree.Above' c i l j r) (Above x y) p =
     (q : Shape) × (t : Shape) × IsLowestOn (curve_of l) p.w q × IsLowestOn (curve_of r) p.w t × IsSized l x q × IsSized r y t
+IsSized c t p = ⊥

@@ -1,3 +1,5 @@
+//! Curves of small designs, worked out by hand.
+
 ghost use Rattle.std.specs.Prelude.{IfOk};
 ghost use Rattle.sf_curves.specs.Choices.{AreSpans};
 

@@ -6,7 +6,8 @@ ghost use Rattle.sf_model.specs.declared.parts.Shape.{Shape};
 ghost use Rattle.sf_polish.specs.Normal.{IsNormal};
 ghost use Rattle.sf_curves.specs.Choices.{AreSpans, IsOnRootCurve, IsTraceOf, size_of};
 ghost use Rattle.sf_curves.specs.Forms.{curve_of, IsTraced, IsChosen, IsSized, IsNarrowestOn, IsLowestOn};
-ghost use Rattle.sf_curves.specs.Points.{IsSlimmer, IsNarrowest, IsLowest, IsNoLarger, IsJoinOf, beside_size, above_size};
+ghost use Rattle.sf_curves.specs.Points.{IsSlimmer, IsNarrowest, IsLowest, IsNoLarger, IsJoinOf};
+ghost use Rattle.sf_curves.specs.Points.{beside_size, above_size};
 
 use crate::curve::Curve;
 use crate::curve_tree::CurveTree;
