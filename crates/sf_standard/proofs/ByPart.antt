@@ -50,6 +50,7 @@ bounded-more design plans v w le =
 no-wires : (design : Design) (w : ℕ) → design.weights.wire ≡ 0 → design.weights.wire * w ≡ 0
 no-wires design w free = omega (arith, ap (λ n. n * w) free)
 
+-- where wires cost nothing, their length does not matter
 bounded-free : (design : Design) (plans : List (List Tree)) (v w : ℕ) → design.weights.wire ≡ 0 → bounded design v plans ≡ bounded design w plans
 bounded-free design plans v w free =
     ap (λ n. if list_any has_none plans then MAX else (if nat_lt (design.outline.w * design.outline.h) (needed_area plans) then MAX else (design.weights.area * needed_area plans + n)))
@@ -69,11 +70,13 @@ pins-le design node pins by.Pair = branch-le (nat_lt (length pins) 2) 0 (pair_pa
 pins-le design node pins by.Hull = branch-le (nat_lt (length pins) 2) 0 (hull_part design (λ b. extent_of (span_shapes design node b)) (is_complete node) (items_of node) pins) (pins_most design node pins) (omega arith)
 pins-le design node pins by.Full = omega arith
 
+-- no part of the wires of all nets is above all of them
 pub wires-le : (design : Design) (node : Parts) (part : Part) → wires_by design node part ≤ wire_part design node
 wires-le design node part =
     sum_by-le_each (λ net. net.weight * pins_by design node net.pins part) (weighed_part design node) design.nets
     (each-from (λ net. net.weight * pins_by design node net.pins part ≤ weighed_part design node net) design.nets (λ net _. mul-le-mul_left net.weight (pins-le design node net.pins part)))
 
+-- where each group has a plan, no part of the wires reaches 2^47
 pub wires-small : (design : Design) (node : Parts) (part : Part) → AllHavePlans design node → wires_by design node part < 2 ^ 47
 wires-small design node part have = omega (arith, wires-le design node part, wires-short design node have)
 
@@ -82,6 +85,7 @@ no-areas : (design : Design) (node : Parts) (nets : List Net) → sum_by (λ net
 no-areas design node [] = refl
 no-areas design node (net ∷ nets) = omega (arith, sum_by-cons (λ net. net.weight * pins_by design node net.pins by.Area) net nets, no-areas design node nets)
 
+-- the part by areas has no wire at all
 pub areas-free : (design : Design) (node : Parts) → wires_by design node by.Area ≡ 0
 areas-free design node = no-areas design node design.nets
 
@@ -117,9 +121,11 @@ open-below design node sub = by-end (is_solved design node) refl
         ]
     by-end false e = omega (arith, cond-false (is_solved design node) (least_cost design node (items_of node)) (open_value design node) e)
 
+-- the value with one part of the wires is no more than the bound
 below : (design : Design) (node : Parts) (part : Part) → IsSubproblem design node → bounded design (wires_by design node part) (plans_of design node) ≤ standard design node
 below design node part sub = omega (arith, bounded-more design (plans_of design node) (wires_by design node part) (wire_part design node) (wires-le design node part), open-below design node sub)
 
+-- no part of the bound is above it
 part-below : (design : Design) (node : Parts) (part : Part) → IsSubproblem design node → part_value design node part ≤ standard design node
 part-below design node by.Area sub = below design node by.Area sub
 part-below design node by.Range sub = below design node by.Range sub
@@ -127,6 +133,7 @@ part-below design node by.Pair sub = below design node by.Pair sub
 part-below design node by.Hull sub = below design node by.Hull sub
 part-below design node by.Full sub = omega arith
 
+-- so the parts are those of the bound: none is above it, and the full one is it
 pub parts_are_below : (design : Design) → ArePartsOf design (standard design) (part_value design)
 parts_are_below design = record { below = part-below design; full = λ node. refl }
 
@@ -176,11 +183,13 @@ module _ (design : Design) (node : Parts) (free : design.weights.wire ≡ 0) (su
           )
       by-end false e = omega (arith, cond-false (is_solved design node) (least_cost design node (items_of node)) (open_value design node) e)
 
+  -- where wires cost nothing, the value with any part of the wires is the bound
   all-same : (part : Part) → bounded design (wires_by design node part) (plans_of design node) ≡ standard design node
   all-same part =
       bounded-free design (plans_of design node) (wires_by design node part) (wire_part design node) free
       ∙ omega (arith, standard-le, open-below design node sub)
 
+-- then each part of the bound is the bound
 pub areas_are_all : (design : Design) (node : Parts) (part : Part) → design.weights.wire ≡ 0 → IsSubproblem design node → part_value design node part ≡ standard design node
 areas_are_all design node by.Area free sub = all-same design node free sub by.Area
 areas_are_all design node by.Range free sub = all-same design node free sub by.Range

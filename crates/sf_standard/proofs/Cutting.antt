@@ -54,6 +54,7 @@ pub record IsCut (design : Design) (node : Parts) (tree : Tree) : Type 0 where
   pub free : (b : ℕ) → b < block_count design → is_unused b node.tokens ≡ true → Contains (blocks_of rest) b
   pub whole : is_complete node ≡ true → stack ≡ tree ∷ []
 
+-- each plan that belongs to a subproblem is cut in this way by its tokens
 pub cut : (design : Design) (node : Parts) (tree : Tree) → length node.spans ≡ block_count design → Belongs design node tree → IsCut design node tree
 cut design node tree spans belongs =
     let f = shape_in design tree belongs.legal in
@@ -92,9 +93,11 @@ plan-listed shapes (Above l r) h =
     Contains-pairs (λ p q. Above p q) (plans shapes (item_of l)) (plans shapes (item_of r)) l r
     (plan-listed shapes l (each-left _ (leaves l) (leaves r) h)) (plan-listed shapes r (each-right _ (leaves l) (leaves r) h))
 
+-- a plan whose sides are no greater than the outline fits
 pub fits-true : (o : Outline) (t : Tree) → width t ≤ o.w → height t ≤ o.h → fits o t ≡ true
 fits-true o t h k = and_from (nat_le (width t) o.w) (nat_le (height t) o.h) (le-leb (width t) o.w h) (le-leb (height t) o.h k)
 
+-- the least value is at most that of each plan
 pub least_of-le : (f : Tree → ℕ) (ts : List Tree) (t : Tree) → Contains ts t → least_of f ts ≤ f t
 least_of-le f [] t c = absurd (not_in_nil t c)
 least_of-le f (u ∷ ts) t c =
@@ -120,6 +123,7 @@ part-fitting design node tree belongs fit p part =
 abbrev pub unused_blocks : Parts → List ℕ
 unused_blocks node = filter (λ b. is_unused b node.tokens) (range_with_len 0 (length node.spans))
 
+-- the numbers of a range are below its end
 pub each-below : (a n : ℕ) → AllByRecursion (λ i. i < a + n) (range_with_len a n)
 each-below a zero = tt
 each-below a (suc n) = (omega arith, each-weaker (λ i. i < (a + 1) + n) (λ i. i < a + suc n) (λ i h. omega (arith, h)) (range_with_len (a + 1) n) (each-below (a + 1) n))
@@ -130,11 +134,13 @@ unused-is node b c =
     let k = Contains-from_filter (λ b. is_unused b node.tokens) (range_with_len 0 (length node.spans)) b c in
     (omega (arith, each-contains (λ i. i < 0 + length node.spans) (range_with_len 0 (length node.spans)) b (each-below 0 (length node.spans)) k.0), k.1)
 
+-- what bounds each number bounds the greatest
 greatest-le : (m : ℕ) (xs : List ℕ) → AllByRecursion (λ x. x ≤ m) xs → greatest xs ≤ m
 greatest-le m [] h = omega arith
 greatest-le m (x ∷ xs) h = omega (arith, h.0, greatest-le m xs h.1)
 
 module _ (design : Design) (node : Parts) (tree : Tree) (spans : length node.spans ≡ block_count design) (belongs : Belongs design node tree) (fit : Fits design.outline tree) where
+  -- an unused block is one of the tokens that follow
   pub unused-loose : (k : IsCut design node tree) (b : ℕ) → Contains (unused_blocks node) b → Contains (blocks_of k.rest) b
   unused-loose k b c = let u = unused-is node b c in k.free b (omega (arith, u.0, spans)) u.1
 
@@ -147,6 +153,7 @@ module _ (design : Design) (node : Parts) (tree : Tree) (spans : length node.spa
       (each-map P (λ b. item.Block b) (unused_blocks node) (each-from (λ b. P (item.Block b)) (unused_blocks node) (λ b c.
       f (Leaf b (k.shape b)) (each-contains (λ v. IsPart (Leaf v (k.shape v)) tree) (blocks_of k.rest) b k.loose (unused-loose k b c)))))
 
+  -- the least value of an item is at most that of its part of the plan
   pub least-part : (f : Tree → ℕ) (p : Tree) → IsPart p tree → least_of f (fitting design node (item_of p)) ≤ f p
   least-part f p part = least_of-le f (fitting design node (item_of p)) p (part-fitting design node tree belongs fit p part)
 
@@ -167,6 +174,7 @@ module _ (design : Design) (node : Parts) (tree : Tree) (spans : length node.spa
       (each-from (Contains (blocks_of k.rest)) (unused_blocks node) (unused-loose k)) in
       omega (arith, sum_by-append g (items_of node) (unused node), sum_by-map g (λ b. item.Block b) (unused_blocks node), before, after, sum_by-le_each h (own_area k.shape) (blocks_of k.rest) each, k.size)
 
+  -- the greatest of the least sides is no more than the side of the plan
   greatest-side : (f : Tree → ℕ) → ((p : Tree) → IsPart p tree → f p ≤ f tree) → greatest (map (least_of f) (map (fitting design node) (items_of node ++ unused node))) ≤ f tree
   greatest-side f le =
       greatest-le (f tree) (map (least_of f) (map (fitting design node) (items_of node ++ unused node)))

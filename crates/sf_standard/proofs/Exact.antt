@@ -54,42 +54,49 @@ item_tokens (item.Block b) = token.Block b ∷ []
 item_tokens (item.Beside l r) = item_tokens l ++ item_tokens r ++ token.Beside ∷ []
 item_tokens (item.Above l r) = item_tokens l ++ item_tokens r ++ token.Above ∷ []
 
+-- a plan has the tokens of its item
 pub postfix-item : (t : Tree) → postfix t ≡ item_tokens (item_of t)
 postfix-item (Leaf b s) = refl
 postfix-item (Beside l r) = ap (λ v. v ++ postfix r ++ token.Beside ∷ []) (postfix-item l) ∙ ap (λ v. item_tokens (item_of l) ++ v ++ token.Beside ∷ []) (postfix-item r)
 postfix-item (Above l r) = ap (λ v. v ++ postfix r ++ token.Above ∷ []) (postfix-item l) ∙ ap (λ v. item_tokens (item_of l) ++ v ++ token.Above ∷ []) (postfix-item r)
 
--- whether an item is skewed
+-- whether an item is side by side
 abbrev pub beside_item : Item → Bool
 beside_item (item.Block b) = false
 beside_item (item.Beside l r) = true
 beside_item (item.Above l r) = false
 
+-- whether an item is one above the other
 abbrev pub above_item : Item → Bool
 above_item (item.Block b) = false
 above_item (item.Beside l r) = false
 above_item (item.Above l r) = true
 
+-- no right or upper part has the direction of the item that it is part of
 abbrev pub IsSkewedItem : Item → Type 0
 IsSkewedItem (item.Block b) = ⊤
 IsSkewedItem (item.Beside l r) = IsSkewedItem l × IsSkewedItem r × IsFalse (beside_item r)
 IsSkewedItem (item.Above l r) = IsSkewedItem l × IsSkewedItem r × IsFalse (above_item r)
 
+-- a plan is side by side where its item is
 beside-same : (t : Tree) → is_beside t ≡ beside_item (item_of t)
 beside-same (Leaf b s) = refl
 beside-same (Beside l r) = refl
 beside-same (Above l r) = refl
 
+-- a plan is one above the other where its item is
 above-same : (t : Tree) → is_above t ≡ above_item (item_of t)
 above-same (Leaf b s) = refl
 above-same (Beside l r) = refl
 above-same (Above l r) = refl
 
+-- the item of a skewed plan is skewed
 skewed-to : (t : Tree) → IsSkewed t → IsSkewedItem (item_of t)
 skewed-to (Leaf b s) h = tt
 skewed-to (Beside l r) h = (skewed-to l h.0, skewed-to r h.1, sym (beside-same r) ∙ h.2)
 skewed-to (Above l r) h = (skewed-to l h.0, skewed-to r h.1, sym (above-same r) ∙ h.2)
 
+-- a plan whose item is skewed is skewed
 skewed-from : (t : Tree) → IsSkewedItem (item_of t) → IsSkewed t
 skewed-from (Leaf b s) h = tt
 skewed-from (Beside l r) h = (skewed-from l h.0, skewed-from r h.1, beside-same r ∙ h.2)
@@ -100,6 +107,7 @@ pub record IsPlanOf (shapes : ℕ → List Shape) (i : Item) (t : Tree) : Type 0
   pub same : item_of t ≡ i
   pub listed : AreListed shapes t
 
+-- each listed plan of an item is one
 pub plans-are : (shapes : ℕ → List Shape) (i : Item) (t : Tree) → Contains (plans shapes i) t → IsPlanOf shapes i t
 plans-are shapes (item.Block b) t c =
     let k = Contains-from_map (λ s. Leaf b s) (shapes b) t c in
@@ -121,11 +129,13 @@ plans-are shapes (item.Above l r) t c =
       listed = each-append (λ leaf. Contains (shapes leaf.0) leaf.1) (leaves k.0) (leaves k.1) i.listed j.listed;
     }
 
+-- a plan that fits has no side greater than the outline
 pub fits-from : (o : Outline) (t : Tree) → fits o t ≡ true → (width t ≤ o.w) × (height t ≤ o.h)
 fits-from o t h =
     let k = and_parts (nat_le (width t) o.w) (nat_le (height t) o.h) h in
     (leb-true (width t) o.w k.0, leb-true (height t) o.h k.1)
 
+-- where no token names a block past the last, no leaf does
 leaves-inside : (n : ℕ) (t : Tree) → AllByRecursion (λ x. IsFalse (is_outside n x)) (postfix t) → AllByRecursion (λ leaf. leaf.0 < n) (leaves t)
 leaves-inside n (Leaf b s) h = (inside-number n b h.0, tt)
 leaves-inside n (Beside l r) h =
@@ -156,6 +166,7 @@ pub record IsWholeItem (node : Parts) (i : Item) : Type 0 where
   pub skewed : IsSkewedItem i
   pub tokens : item_tokens i ≡ node.tokens
 
+-- a complete subproblem has one item, which has its tokens
 pub whole-item : (design : Design) (node : Parts) → IsSubproblem design node → is_complete node ≡ true → (i : Item) × IsWholeItem node i
 whole-item design node sub complete =
     let normal = complete-normal design node sub (subproblem-spans design node sub) complete in

@@ -19,25 +19,31 @@ pub record IsSpanned (zs : List ℤ) (low high : ℤ) : Type 0 where
   pub below : AllByRecursion (λ z. z ≤ℤ high) zs
   pub apart : (high -ℤ low) ≤ℤ pos (spread zs)
 
+-- the greatest number is at least the one that it begins with
 fold-max-above : (a : ℤ) (zs : List ℤ) → a ≤ℤ fold int_max a zs
 fold-max-above a [] = omega (arith, ints)
 fold-max-above a (z ∷ zs) = omega (arith, ints, clamps, fold-max-above (int_max a z) zs)
 
+-- the least number is at most the one that it begins with
 fold-min-below : (a : ℤ) (zs : List ℤ) → fold int_min a zs ≤ℤ a
 fold-min-below a [] = omega (arith, ints)
 fold-min-below a (z ∷ zs) = omega (arith, ints, clamps, fold-min-below (int_min a z) zs)
 
+-- the greatest number is at least each of them
 fold-max-each : (a : ℤ) (zs : List ℤ) → AllByRecursion (λ z. z ≤ℤ fold int_max a zs) zs
 fold-max-each a [] = tt
 fold-max-each a (z ∷ zs) = (omega (arith, ints, clamps, fold-max-above (int_max a z) zs), fold-max-each (int_max a z) zs)
 
+-- the least number is at most each of them
 fold-min-each : (a : ℤ) (zs : List ℤ) → AllByRecursion (λ z. fold int_min a zs ≤ℤ z) zs
 fold-min-each a [] = tt
 fold-min-each a (z ∷ zs) = (omega (arith, ints, clamps, fold-min-below (int_min a z) zs), fold-min-each (int_min a z) zs)
 
+-- a number is at most its distance from 0
 abs-above : (d : ℤ) → d ≤ℤ pos (nat_abs d)
 abs-above d = omega (arith, ints)
 
+-- any numbers lie between their least and their greatest
 pub spanned : (zs : List ℤ) → (low : ℤ) × (high : ℤ) × IsSpanned zs low high
 spanned [] = (pos 0, pos 0, record { above = tt; below = tt; apart = omega (arith, ints) })
 spanned (z ∷ zs) =
@@ -52,37 +58,45 @@ spanned (z ∷ zs) =
       },
     )
 
--- the greatest lower end lies above each, and the least upper end below each
+-- the greatest lower end is at least the one that it begins with
 low-start : (a : ℤ) (is : List Interval) → a ≤ℤ fold (λ z j. int_max z j.low) a is
 low-start a [] = omega (arith, ints)
 low-start a (i ∷ is) = omega (arith, ints, clamps, low-start (int_max a i.low) is)
 
+-- each lower end is at most the greatest of them
 low-each : (a : ℤ) (is : List Interval) → AllByRecursion (λ i. i.low ≤ℤ fold (λ z j. int_max z j.low) a is) is
 low-each a [] = tt
 low-each a (i ∷ is) = (omega (arith, ints, clamps, low-start (int_max a i.low) is), low-each (int_max a i.low) is)
 
+-- the least upper end is at most the one that it begins with
 high-start : (a : ℤ) (is : List Interval) → fold (λ z j. int_min z j.high) a is ≤ℤ a
 high-start a [] = omega (arith, ints)
 high-start a (i ∷ is) = omega (arith, ints, clamps, high-start (int_min a i.high) is)
 
+-- each upper end is at least the least of them
 high-each : (a : ℤ) (is : List Interval) → AllByRecursion (λ i. fold (λ z j. int_min z j.high) a is ≤ℤ i.high) is
 high-each a [] = tt
 high-each a (i ∷ is) = (omega (arith, ints, clamps, high-start (int_min a i.high) is), high-each (int_min a i.high) is)
 
+-- the same of a list that is not empty, for the lower ends
 pub low-member : (i : Interval) (is : List Interval) → AllByRecursion (λ k. k.low ≤ℤ fold (λ z j. int_max z j.low) i.low is) (i ∷ is)
 low-member i is = (low-start i.low is, low-each i.low is)
 
+-- and for the upper ends
 pub high-member : (i : Interval) (is : List Interval) → AllByRecursion (λ k. fold (λ z j. int_min z j.high) i.high is ≤ℤ k.high) (i ∷ is)
 high-member i is = (high-start i.high is, high-each i.high is)
 
+-- what bounds each lower end from above bounds the greatest
 pub low-most : (a b : ℤ) (is : List Interval) → a ≤ℤ b → AllByRecursion (λ i. i.low ≤ℤ b) is → fold (λ z j. int_max z j.low) a is ≤ℤ b
 low-most a b [] h e = h
 low-most a b (i ∷ is) h e = low-most (int_max a i.low) b is (omega (arith, ints, clamps, h, e.0)) e.1
 
+-- what bounds each upper end from below bounds the least
 pub high-least : (a b : ℤ) (is : List Interval) → b ≤ℤ a → AllByRecursion (λ i. b ≤ℤ i.high) is → b ≤ℤ fold (λ z j. int_min z j.high) a is
 high-least a b [] h e = h
 high-least a b (i ∷ is) h e = high-least (int_min a i.high) b is (omega (arith, ints, clamps, h, e.0)) e.1
 
+-- a number that is at most a natural one is so when it is cut at 0
 pub to_nat-le : (z : ℤ) (n : ℕ) → z ≤ℤ pos n → to_nat z ≤ n
 to_nat-le (pos m) n h = omega (arith, ints, h)
 to_nat-le (negsuc m) n h = omega arith
@@ -94,6 +108,7 @@ pub record Holds (d : ℤ) (zs : List ℤ) (i : Interval) : Type 0 where
   pub low : (i.low +ℤ d) ≤ℤ at
   pub high : at ≤ℤ (i.high +ℤ d)
 
+-- where each interval, moved by d, holds one of the numbers, the gap is at most their spread
 pub gap-le-spread : (d : ℤ) (zs : List ℤ) (is : List Interval) → AllByRecursion (Holds d zs) is → gap is ≤ spread zs
 gap-le-spread d zs [] h = omega arith
 gap-le-spread d zs (i ∷ is) h =
@@ -125,14 +140,17 @@ pub record Pins (is : List Interval) (z : ℤ) : Type 0 where
   pub low : z ≤ℤ at.low
   pub high : at.high ≤ℤ z
 
+-- what bounds each number from above bounds the greatest
 max-most : (a b : ℤ) (zs : List ℤ) → a ≤ℤ b → AllByRecursion (λ z. z ≤ℤ b) zs → fold int_max a zs ≤ℤ b
 max-most a b [] h e = h
 max-most a b (z ∷ zs) h e = max-most (int_max a z) b zs (omega (arith, ints, clamps, h, e.0)) e.1
 
+-- what bounds each number from below bounds the least
 min-least : (a b : ℤ) (zs : List ℤ) → b ≤ℤ a → AllByRecursion (λ z. b ≤ℤ z) zs → b ≤ℤ fold int_min a zs
 min-least a b [] h e = h
 min-least a b (z ∷ zs) h e = min-least (int_min a z) b zs (omega (arith, ints, clamps, h, e.0)) e.1
 
+-- two numbers inside an interval are no further apart than its ends
 apart-le : (a b c d : ℤ) → b ≤ℤ a → a ≤ℤ c → d ≤ℤ b → nat_abs (a -ℤ b) ≤ to_nat (c -ℤ d)
 apart-le a b c d le up down = abs-le (a -ℤ b) (c -ℤ d) (omega (arith, ints, le)) (omega (arith, ints, up, down))
   where
@@ -165,6 +183,7 @@ greatest_with-le : (m n : ℕ) (xs : List ℕ) → AllByRecursion (λ x. n + x �
 greatest_with-le m n [] h = omega arith
 greatest_with-le m n (x ∷ xs) h = omega (arith, h.0, greatest_with-le m n xs h.1)
 
+-- what bounds the sum of each two bounds the sum of the two greatest
 pub greatest_two-le : (m : ℕ) (xs : List ℕ) → EachPair (λ a b. a + b ≤ m) xs → greatest_two xs ≤ m
 greatest_two-le m [] h = omega arith
 greatest_two-le m (x ∷ xs) h = omega (arith, greatest_with-le m x xs h.0, greatest_two-le m xs h.1)
@@ -177,28 +196,35 @@ pub record IsOfExtent (e : Extent) (w h : ℕ) : Type 0 where
   pub low : h ≤ e.most_h
 
 module _ (key : Shape → ℕ) where
+  -- the least side is at most the one that it begins with
   least-start : (a : ℕ) (ss : List Shape) → fold (λ n t. min n (key t)) a ss ≤ a
   least-start a [] = omega arith
   least-start a (s ∷ ss) = omega (arith, least-start (min a (key s)) ss)
 
+  -- the least side is at most each of them
   least-each : (a : ℕ) (ss : List Shape) → AllByRecursion (λ s. fold (λ n t. min n (key t)) a ss ≤ key s) ss
   least-each a [] = tt
   least-each a (s ∷ ss) = (omega (arith, least-start (min a (key s)) ss), least-each (min a (key s)) ss)
 
+  -- the greatest side is at least the one that it begins with
   most-start : (a : ℕ) (ss : List Shape) → a ≤ fold (λ n t. max n (key t)) a ss
   most-start a [] = omega arith
   most-start a (s ∷ ss) = omega (arith, most-start (max a (key s)) ss)
 
+  -- the greatest side is at least each of them
   most-each : (a : ℕ) (ss : List Shape) → AllByRecursion (λ s. key s ≤ fold (λ n t. max n (key t)) a ss) ss
   most-each a [] = tt
   most-each a (s ∷ ss) = (omega (arith, most-start (max a (key s)) ss), most-each (max a (key s)) ss)
 
+  -- the least side of a list is at most that of each shape in it
   pub least-member : (s : Shape) (ss : List Shape) (x : Shape) → Contains (s ∷ ss) x → fold (λ n t. min n (key t)) (key s) ss ≤ key x
   least-member s ss x c = each-contains (λ v. fold (λ n t. min n (key t)) (key s) ss ≤ key v) (s ∷ ss) x (least-start (key s) ss, least-each (key s) ss) c
 
+  -- the greatest side of a list is at least that of each shape in it
   pub most-member : (s : Shape) (ss : List Shape) (x : Shape) → Contains (s ∷ ss) x → key x ≤ fold (λ n t. max n (key t)) (key s) ss
   most-member s ss x c = each-contains (λ v. key v ≤ fold (λ n t. max n (key t)) (key s) ss) (s ∷ ss) x (most-start (key s) ss, most-each (key s) ss) c
 
+-- each shape of a list is of its extent
 pub of-extent : (ss : List Shape) (x : Shape) → Contains ss x → IsOfExtent (extent_of ss) x.w x.h
 of-extent [] x c = absurd (not_in_nil x c)
 of-extent (s ∷ ss) x c = record {

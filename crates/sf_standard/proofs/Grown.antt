@@ -23,9 +23,11 @@ grow f (r ∷ l ∷ stack) (token.Beside ∷ ts) = grow f (Beside l r ∷ stack)
 grow f (r ∷ l ∷ stack) (token.Above ∷ ts) = grow f (Above l r ∷ stack) ts
 grow f stack (t ∷ ts) = grow f stack ts
 
+-- each block of the plan has the shape that f gives it
 abbrev pub HasShapes : (ℕ → Shape) → Tree → Type 0
 HasShapes f t = AllByRecursion (λ leaf. leaf.1 ≡ f leaf.0) (leaves t)
 
+-- tokens that follow others grow the plans that those left
 pub grow-append : (f : ℕ → Shape) (stack : List Tree) (xs ys : List Token) → grow f stack (xs ++ ys) ≡ grow f (grow f stack xs) ys
 grow-append f stack [] ys = refl
 grow-append f [] (token.Block b ∷ xs) ys = grow-append f (Leaf b (f b) ∷ []) xs ys
@@ -37,6 +39,7 @@ grow-append f [] (token.Above ∷ xs) ys = grow-append f [] xs ys
 grow-append f (r ∷ []) (token.Above ∷ xs) ys = grow-append f (r ∷ []) xs ys
 grow-append f (r ∷ l ∷ stack) (token.Above ∷ xs) ys = grow-append f (Above l r ∷ stack) xs ys
 
+-- the tokens of a plan grow just this plan
 pub grow-postfix : (f : ℕ → Shape) (t : Tree) (stack : List Tree) (rest : List Token) → HasShapes f t → grow f stack (postfix t ++ rest) ≡ grow f (t ∷ stack) rest
 grow-postfix f (Leaf b s) stack rest h = ap (λ z. grow f (Leaf b z ∷ stack) rest) (sym h.0)
 grow-postfix f (Beside l r) stack rest h =
@@ -69,12 +72,15 @@ pub record IsPart (p q : Tree) : Type 0 where
   pub y : ℕ
   pub placed : (a b : ℕ) (s : Spot) → Contains (spots_at (a + x) (b + y) p) s → Contains (spots_at a b q) s
 
+-- a spot of a plan that stands at (a, b) is one of the plan at the same place
 pub at : (p : Tree) (s : Spot) (a b c d : ℕ) → a ≡ c → b ≡ d → Contains (spots_at a b p) s → Contains (spots_at c d p) s
 at p s a b c d e g h = subst (λ z. Contains (spots_at z d p) s) e (subst (λ z. Contains (spots_at a z p) s) g h)
 
+-- a plan is a subtree of itself
 abbrev pub part-self : (p : Tree) → IsPart p p
 part-self p = record { narrow = omega arith; low = omega arith; listed = λ leaf h. h; x = 0; y = 0; placed = λ a b s c. at p s (a + 0) (b + 0) a b (omega arith) (omega arith) c }
 
+-- a subtree of a subtree is one of the whole
 pub part-trans : (p q r : Tree) → IsPart p q → IsPart q r → IsPart p r
 part-trans p q r i j = record {
   narrow = omega (arith, i.narrow, j.narrow);
@@ -85,6 +91,7 @@ part-trans p q r i j = record {
   placed = λ a b s c. j.placed a b s (i.placed (a + j.x) (b + j.y) s (at p s (a + (j.x + i.x)) (b + (j.y + i.y)) ((a + j.x) + i.x) ((b + j.y) + i.y) (omega arith) (omega arith) c));
 }
 
+-- the left part is a subtree
 pub part-left : (l r : Tree) → IsPart l (Beside l r)
 part-left l r = record {
   narrow = omega arith;
@@ -95,6 +102,7 @@ part-left l r = record {
   placed = λ a b s c. Contains-append_left (spots_at a b l) (spots_at (a + width l) b r) s (at l s (a + 0) (b + 0) a b (omega arith) (omega arith) c);
 }
 
+-- so is the right one, whose corner stands at the width of the left one
 pub part-right : (l r : Tree) → IsPart r (Beside l r)
 part-right l r = record {
   narrow = omega arith;
@@ -105,6 +113,7 @@ part-right l r = record {
   placed = λ a b s c. Contains-append_right (spots_at a b l) (spots_at (a + width l) b r) s (at r s (a + width l) (b + 0) (a + width l) b (omega arith) (omega arith) c);
 }
 
+-- the lower part is a subtree
 pub part-lower : (l r : Tree) → IsPart l (Above l r)
 part-lower l r = record {
   narrow = omega arith;
@@ -115,6 +124,7 @@ part-lower l r = record {
   placed = λ a b s c. Contains-append_left (spots_at a b l) (spots_at a (b + height l) r) s (at l s (a + 0) (b + 0) a b (omega arith) (omega arith) c);
 }
 
+-- so is the upper one, whose corner stands at the height of the lower one
 pub part-upper : (l r : Tree) → IsPart r (Above l r)
 part-upper l r = record {
   narrow = omega arith;
@@ -152,9 +162,11 @@ grown-parts f (r ∷ l ∷ stack) (token.Above ∷ ts) t h =
     let i = grown-parts f (Above l r ∷ stack) ts t h in
     ((part-trans r (Above l r) t (part-upper l r) i.0.0, (part-trans l (Above l r) t (part-lower l r) i.0.0, i.0.1)), i.1)
 
+-- two rooms side by side have no more area than a room as high as the higher one
 beside-most : (a b h k m : ℕ) → h ≤ m → k ≤ m → a * h + b * k ≤ (a + b) * m
 beside-most a b h k m hm km = omega (arith, mul-le-mul_left a hm, mul-le-mul_left b km)
 
+-- two rooms one above the other have no more area than a room as wide as the wider one
 above-most : (a b h k m : ℕ) → a ≤ m → b ≤ m → a * h + b * k ≤ m * (h + k)
 above-most a b h k m am bm = omega (arith, mul-le-mul_right h am, mul-le-mul_right k bm)
 

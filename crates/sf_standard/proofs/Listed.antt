@@ -8,15 +8,18 @@ use Rattle.std.proofs.lemmas.List.Elements.{Contains-append_cases, Contains-appe
 use Rattle.sf_model.proofs.Each.{EachPair}
 use Rattle.sf_curves.proofs.Members.{Contains-cons_cases, Contains-head, Contains-tail, not_in_nil}
 
+-- what holds of each element holds of one that stands in the list
 pub each-contains : {X : Type 0} (P : X → Type 0) (xs : List X) (x : X) → AllByRecursion P xs → Contains xs x → P x
 each-contains P [] x a c = absurd (not_in_nil x c)
 each-contains P (y ∷ xs) x a c =
     elim (Contains-cons_cases y xs x c) [ inl e ↦ subst P e a.0 | inr d ↦ each-contains P xs x a.1 d ]
 
+-- what holds of all that stands in the list holds of each element
 pub each-from : {X : Type 0} (P : X → Type 0) (xs : List X) → ((x : X) → Contains xs x → P x) → AllByRecursion P xs
 each-from P [] f = tt
 each-from P (x ∷ xs) f = (f x (Contains-head x xs), each-from P xs (λ y c. f y (Contains-tail x xs y c)))
 
+-- the image of an element is among the images
 pub Contains-map : {X Y : Type 0} (f : X → Y) (xs : List X) (x : X) → Contains xs x → Contains (map f xs) (f x)
 Contains-map f [] x c = absurd (not_in_nil x c)
 Contains-map f (y ∷ xs) x c =
@@ -25,6 +28,7 @@ Contains-map f (y ∷ xs) x c =
       | inr d ↦ Contains-tail (f y) (map f xs) (f x) (Contains-map f xs x d)
     ]
 
+-- each image is that of some element
 pub Contains-from_map : {X Y : Type 0} (f : X → Y) (xs : List X) (y : Y) → Contains (map f xs) y → (x : X) × Contains xs x × (f x ≡ y)
 Contains-from_map f [] y c = absurd (not_in_nil y c)
 Contains-from_map f (x ∷ xs) y c =
@@ -33,6 +37,7 @@ Contains-from_map f (x ∷ xs) y c =
       | inr d ↦ (let k = Contains-from_map f xs y d in (k.0, Contains-tail x xs k.0 k.1, k.2))
     ]
 
+-- an element that passes the test is among those that do
 pub Contains-filter : {X : Type 0} (test : X → Bool) (xs : List X) (x : X) → Contains xs x → test x ≡ true → Contains (filter test xs) x
 Contains-filter test [] x c passes = absurd (not_in_nil x c)
 Contains-filter test (y ∷ xs) x c passes =
@@ -42,6 +47,7 @@ Contains-filter test (y ∷ xs) x c passes =
           cond_both (test y) (y ∷ filter test xs) (filter test xs) (λ v. Contains v x) (λ _. Contains-tail y (filter test xs) x k) (λ _. k))
     ]
 
+-- what is among those that pass is an element that passes
 pub Contains-from_filter : {X : Type 0} (test : X → Bool) (xs : List X) (x : X) → Contains (filter test xs) x → Contains xs x × (test x ≡ true)
 Contains-from_filter test [] x c = absurd (not_in_nil x c)
 Contains-from_filter test (y ∷ xs) x c =
@@ -52,6 +58,7 @@ Contains-from_filter test (y ∷ xs) x c =
     ])
     (λ is d. let r = Contains-from_filter test xs x d in (Contains-tail y xs x r.0, r.1)) c
 
+-- two elements make a pair among the pairs
 pub Contains-pairs : {X Y Z : Type 0} (f : X → Y → Z) (xs : List X) (ys : List Y) (x : X) (y : Y) → Contains xs x → Contains ys y → Contains (flat_map (λ v. map (f v) ys) xs) (f x y)
 Contains-pairs f [] ys x y cx cy = absurd (not_in_nil x cx)
 Contains-pairs f (v ∷ xs) ys x y cx cy =
@@ -61,6 +68,7 @@ Contains-pairs f (v ∷ xs) ys x y cx cy =
       | inr d ↦ Contains-append_right (map (f v) ys) rest (f x y) (Contains-pairs f xs ys x y d cy)
     ]
 
+-- each pair is made of two elements
 pub Contains-from_pairs : {X Y Z : Type 0} (f : X → Y → Z) (xs : List X) (ys : List Y) (z : Z) → Contains (flat_map (λ v. map (f v) ys) xs) z → (x : X) × (y : Y) × Contains xs x × Contains ys y × (f x y ≡ z)
 Contains-from_pairs f [] ys z c = absurd (not_in_nil z c)
 Contains-from_pairs f (v ∷ xs) ys z c =
@@ -70,14 +78,17 @@ Contains-from_pairs f (v ∷ xs) ys z c =
     ]
 
 module _ {X : Type 0} (test : X → Bool) where
+  -- one element more counts if it passes the test
   pub count-cons : (x : X) (xs : List X) → count_by test (x ∷ xs) ≡ cond (test x) 1 0 + count_by test xs
   count-cons x xs = sum_by-cons (λ y. cond (test y) 1 0) x xs
 
+  -- one that passes counts
   pub count-head : (x : X) (xs : List X) → test x ≡ true → count_by test (x ∷ xs) ≡ 1 + count_by test xs
   count-head x xs h =
       let e : ◌≡◌ {A = ℕ} (cond (test x) 1 0) 1 = ap (λ (t : Bool). cond {A = ℕ} t 1 0) h in
       omega (arith, e, count-cons x xs)
 
+  -- where one passes the count is not 0
   pub count-some : (xs : List X) (x : X) → Contains xs x → test x ≡ true → 1 ≤ count_by test xs
   count-some [] x c h = absurd (not_in_nil x c)
   count-some (y ∷ xs) x c h =
@@ -115,14 +126,17 @@ sum_by-le_list g (u ∷ us) vs rises here =
     ])) in
     omega (arith, others, w.1, sum_by-cons g u us)
 
+-- a sum over images is the sum over the elements
 pub sum_by-map : {X Y : Type 0} (g : Y → ℕ) (f : X → Y) (xs : List X) → sum_by g (map f xs) ≡ sum_by (λ x. g (f x)) xs
 sum_by-map g f [] = refl
 sum_by-map g f (x ∷ xs) = omega (arith, sum_by-cons g (f x) (map f xs), sum_by-cons (λ v. g (f v)) x xs, sum_by-map g f xs)
 
+-- a sum of lesser numbers is no greater
 pub sum_by-le_each : {X : Type 0} (f g : X → ℕ) (xs : List X) → AllByRecursion (λ x. f x ≤ g x) xs → sum_by f xs ≤ sum_by g xs
 sum_by-le_each f g [] h = omega arith
 sum_by-le_each f g (x ∷ xs) h = omega (arith, sum_by-cons f x xs, sum_by-cons g x xs, h.0, sum_by-le_each f g xs h.1)
 
+-- what holds of each two places holds of each two elements in their order
 pub EachPair-from_pairs : {X : Type 0} (R : X → X → Type 0) (xs : List X) → AllPairs R xs → EachPair R xs
 EachPair-from_pairs R [] a = tt
 EachPair-from_pairs R (x ∷ xs) a = (

@@ -23,6 +23,7 @@ pin-found b (pin.Pad k ∷ pins) c =
       | inr d ↦ pin-found b pins d
     ]
 
+-- a block that is found among the pins is there
 pub pin-from : (b : ℕ) (pins : List Pin) → contains_pin b pins ≡ true → Contains pins (pin.Block b)
 pin-from b [] e = absurd (true≢false (sym e))
 pin-from b (pin.Block k ∷ pins) e =
@@ -42,6 +43,7 @@ offset-found pins (x ∷ os) o c e =
           cond_both (contains_pin x.block pins) (x ∷ of_pins pins os) (of_pins pins os) (λ v. Contains v o) (λ _. Contains-tail x (of_pins pins os) o k) (λ _. k))
     ]
 
+-- a picked offset is listed, and its block is among the pins
 pub offset-from : (pins : List Pin) (os : List Offset) (o : Offset) → Contains (of_pins pins os) o → Contains os o × (contains_pin o.block pins ≡ true)
 offset-from pins [] o c = absurd (not_in_nil o c)
 offset-from pins (x ∷ os) o c =
@@ -55,6 +57,7 @@ offset-from pins (x ∷ os) o c =
 -- the points of the pads among the pins
 module _ (place : ℕ → Interval) (pads : List Pin → List Interval)
     (none : pads [] ≡ []) (skips : (b : ℕ) (pins : List Pin) → pads (pin.Block b ∷ pins) ≡ pads pins) (takes : (p : ℕ) (pins : List Pin) → pads (pin.Pad p ∷ pins) ≡ place p ∷ pads pins) where
+  -- the point of a pad among the pins is picked
   pub pads-found : (pins : List Pin) (q : ℕ) → Contains pins (pin.Pad q) → Contains (pads pins) (place q)
   pads-found [] q c = absurd (not_in_nil (pin.Pad q) c)
   pads-found (pin.Block b ∷ pins) q c =
@@ -68,6 +71,7 @@ module _ (place : ℕ → Interval) (pads : List Pin → List Interval)
         | inr d ↦ Contains-tail (place p) (pads pins) (place q) (pads-found pins q d)
       ])
 
+  -- a picked point is that of a pad among the pins
   pub pads-from : (pins : List Pin) (z : Interval) → Contains (pads pins) z → (q : ℕ) × Contains pins (pin.Pad q) × (place q ≡ z)
   pads-from [] z c = absurd (not_in_nil z (subst (λ v. Contains v z) none c))
   pads-from (pin.Block b ∷ pins) z c =

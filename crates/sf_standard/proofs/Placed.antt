@@ -43,6 +43,7 @@ pub record IsSpotOf (leaf : ℕ × Shape) (s : Spot) : Type 0 where
   pub wide : s.w ≡ leaf.1.w
   pub high : s.h ≡ leaf.1.h
 
+-- each leaf has a spot
 pub leaf-spots : (x y : ℕ) (t : Tree) → AllByRecursion (λ leaf. (s : Spot) × Contains (spots_at x y t) s × IsSpotOf leaf s) (leaves t)
 leaf-spots x y (Leaf b s) = ((record { block = b; x = pos x; y = pos y; w = s.w; h = s.h }, Contains-head _ [], record { block = refl; wide = refl; high = refl }), tt)
 leaf-spots x y (Beside l r) =
@@ -54,6 +55,7 @@ leaf-spots x y (Above l r) =
     (each-weaker (λ leaf. (s : Spot) × Contains (spots_at x y l) s × IsSpotOf leaf s) _ (λ leaf k. (k.0, Contains-append_left (spots_at x y l) (spots_at x (y + height l) r) k.0 k.1, k.2)) (leaves l) (leaf-spots x y l))
     (each-weaker (λ leaf. (s : Spot) × Contains (spots_at x (y + height l) r) s × IsSpotOf leaf s) _ (λ leaf k. (k.0, Contains-append_right (spots_at x y l) (spots_at x (y + height l) r) k.0 k.1, k.2)) (leaves r) (leaf-spots x (y + height l) r))
 
+-- each spot is that of a leaf
 pub spot-leaves : (x y : ℕ) (t : Tree) → AllByRecursion (λ s. Contains (leaves t) (s.block, record { w = s.w; h = s.h })) (spots_at x y t)
 spot-leaves x y (Leaf b s) = (Contains-head (b, s) [], tt)
 spot-leaves x y (Beside l r) =
@@ -69,6 +71,7 @@ spot-leaves x y (Above l r) =
 abbrev pub IsFirst : Spot → Spot → Type 0
 IsFirst s t = ((s.x +ℤ pos s.w) ≤ℤ t.x) ⊎ ((s.y +ℤ pos s.h) ≤ℤ t.y)
 
+-- of two spots of a plan the first lies left of the second or below it
 pub spots-first : (x y : ℕ) (t : Tree) → EachPair IsFirst (spots_at x y t)
 spots-first x y (Leaf b s) = (tt, tt)
 spots-first x y (Beside l r) =
@@ -87,6 +90,7 @@ pub record IsPlaced (tree : Tree) (b : ℕ) (s : Spot) : Type 0 where
   pub inside : IsInside (width tree) (height tree) s
   pub leaf : Contains (leaves tree) (b, record { w = s.w; h = s.h })
 
+-- a test passes or not
 pub decided : (b : Bool) → (b ≡ true) ⊎ (b ≡ false)
 decided true = inl refl
 decided false = inr refl
@@ -102,15 +106,19 @@ one-passes test (x ∷ xs) h =
     ]
 
 module _ (design : Design) (tree : Tree) (legal : IsLegal design tree) where
+  -- each block has one spot
   pub once : (b : ℕ) → b < block_count design → count_by (λ s. s.block == b) (spots_of tree) ≡ 1
   once b h = count-spots b 0 0 tree ∙ legal.blocks.each_once b h
 
+  -- a spot of the plan is the one that is found by its block
   pub found-spot : (s : Spot) → Contains (spots_of tree) s → s.block < block_count design → spot_of s.block (spots_of tree) ≡ s
   found-spot s c h = spot_of-once s.block (spots_of tree) s (omega (arith, once s.block h)) c refl
 
+  -- the block of a leaf is one of the design
   pub leaf-below : (leaf : ℕ × Shape) → Contains (leaves tree) leaf → leaf.0 < block_count design
   leaf-below leaf c = each-contains (λ v. v.0 < block_count design) (leaves tree) leaf (recursion_from_All (λ v. v.0 < block_count design) (leaves tree) legal.blocks.no_other) c
 
+  -- the block of a spot is one of the design
   pub spot-below : (s : Spot) → Contains (spots_of tree) s → s.block < block_count design
   spot-below s c = leaf-below (s.block, record { w = s.w; h = s.h }) (each-contains (λ v. Contains (leaves tree) (v.block, record { w = v.w; h = v.h })) (spots_of tree) s (spot-leaves 0 0 tree) c)
 
@@ -118,6 +126,7 @@ module _ (design : Design) (tree : Tree) (legal : IsLegal design tree) where
   pub shape_in : ℕ → Shape
   shape_in b = let s = spot_of b (spots_of tree) in record { w = s.w; h = s.h }
 
+  -- each leaf has the shape of its block
   pub has-shapes : AllByRecursion (λ leaf. leaf.1 ≡ shape_in leaf.0) (leaves tree)
   unfolding shape_in
   has-shapes = each-from (λ leaf. leaf.1 ≡ shape_in leaf.0) (leaves tree) (λ leaf c.
@@ -128,6 +137,7 @@ module _ (design : Design) (tree : Tree) (legal : IsLegal design tree) where
       same : (p : Shape) (s : Spot) → p.w ≡ s.w → p.h ≡ s.h → p ≡ (record { w = s.w; h = s.h })
       same p s e g = ap (λ v. let r : Shape = record { w = v; h = p.h } in r) e ∙ ap (λ v. let r : Shape = record { w = s.w; h = v } in r) g
 
+  -- the spot of a block is there, lies inside the plan and has the shape of its leaf
   pub placed : (b : ℕ) → b < block_count design → IsPlaced tree b (spot_of b (spots_of tree))
   placed b h =
       let k = one-passes (λ s. s.block == b) (spots_of tree) (omega (arith, once b h)) in

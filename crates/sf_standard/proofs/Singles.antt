@@ -47,15 +47,18 @@ record IsFixed (e : Extent) : Type 0 where
   wide : e.least_w ≡ e.most_w
   high : e.least_h ≡ e.most_h
 
+-- the least place is the greatest
 record IsFixedOffset (o : Offset) : Type 0 where
   across : o.least_x ≡ o.most_x
   upward : o.least_y ≡ o.most_y
 
+-- a list of one shape at most has a fixed extent
 fixed-by-one : (ss : List Shape) → length ss ≤ 1 → IsFixed (extent_of ss)
 fixed-by-one [] h = record { wide = refl; high = refl }
 fixed-by-one (s ∷ []) h = record { wide = refl; high = refl }
 fixed-by-one (s ∷ t ∷ ss) h = absurd (omega (arith, h))
 
+-- what is not true is false
 not-true : (b : Bool) → not b ≡ true → b ≡ false
 not-true true h = absurd (cc)
 not-true false h = refl
@@ -66,12 +69,14 @@ single-at [] b all = omega arith
 single-at (s ∷ spans) zero all = ltb-false (s.0 + 1) s.1 (not-true (nat_lt (s.0 + 1) s.1) (and_parts (not (nat_lt (s.0 + 1) s.1)) (list_all (λ span. not (is_wide span)) spans) all).0)
 single-at (s ∷ spans) (suc b) all = single-at spans b (and_parts (not (is_wide s)) (list_all (λ span. not (is_wide span)) spans) all).1
 
+-- where each span has one place, each block has a fixed extent
 fixed-spans : (design : Design) (node : Parts) → has_single_spans node ≡ true → (b : ℕ) → IsFixed (extent_in design node b)
 fixed-spans design node single b =
     let s = span_of node b in
     fixed-by-one (slice_range (shapes_of design b) s.0 s.1) (omega (arith, single-at node.spans b single, length-take (s.1 - s.0) (drop s.0 (shapes_of design b))))
 
 module _ (extent : ℕ → Extent) (fixed : (b : ℕ) → IsFixed (extent b)) where
+  -- then each item has fixed sides
   fixed-item : (i : Item) → IsFixed (item_extent extent i)
   fixed-item (item.Block b) = fixed b
   fixed-item (item.Beside l r) =
@@ -83,6 +88,7 @@ module _ (extent : ℕ → Extent) (fixed : (b : ℕ) → IsFixed (extent b)) wh
       let q = fixed-item r in
       record { wide = omega (arith, p.wide, q.wide); high = omega (arith, p.high, q.high) }
 
+  -- and each block a fixed place in it
   fixed-offsets : (i : Item) → AllByRecursion IsFixedOffset (offsets extent i)
   fixed-offsets (item.Block b) = (record { across = refl; upward = refl }, tt)
   fixed-offsets (item.Beside l r) =
@@ -107,6 +113,7 @@ module _ (extent : ℕ → Extent) (fixed : (b : ℕ) → IsFixed (extent b)) wh
 abbrev HasSeat : ℕ → ℕ → List Offset → Spot → Type 0
 HasSeat x y os s = (o : Offset) × Contains os o × IsAt x y s o
 
+-- each spot of the plan stands at an offset of its item
 spots-at : (extent : ℕ → Extent) (x y : ℕ) (t : Tree) → FitsExtents extent t → AllByRecursion (HasSeat x y (offsets extent (item_of t))) (spots_at x y t)
 spots-at extent x y (Leaf b s) h =
     ((record { block = b; least_x = 0; most_x = 0; least_y = 0; most_y = 0 }, Contains-head _ [], record { block = refl; left = omega (arith, ints); right = omega (arith, ints); below = omega (arith, ints); above = omega (arith, ints) }), tt)
@@ -136,6 +143,7 @@ least-above : (f : Tree → ℕ) (m : ℕ) (ts : List Tree) → m ≤ MAX → Al
 least-above f m [] h e = h
 least-above f m (t ∷ ts) h e = omega (arith, e.0, least-above f m ts h e.1)
 
+-- with fewer than two pins there is no wire
 few-wire : (f g : Pin → ℤ) (pins : List Pin) → length pins < 2 → spread (map f pins) + spread (map g pins) ≡ 0
 few-wire f g [] h = omega arith
 few-wire f g (p ∷ []) h = omega (arith, ints)
@@ -156,19 +164,24 @@ no-plan design node i one e =
     cond-true (list_any has_none (plans_of design node)) MAX (if nat_lt (design.outline.w * design.outline.h) (needed_area (plans_of design node)) then MAX else (design.weights.area * needed_area (plans_of design node) + design.weights.wire * wire_part design node)) none
 
 module _ (design : Design) (node : Parts) (tree : Tree) (spans : length node.spans ≡ block_count design) (belongs : Belongs design node tree) (fit : Fits design.outline tree) (complete : is_complete node ≡ true) (single : has_single_spans node ≡ true) where
+  -- the extents of the blocks in their spans
   abbrev own : ℕ → Extent
   own = extent_in design node
 
+  -- they are fixed
   fixed : (b : ℕ) → IsFixed (extent_in design node b)
   fixed = fixed-spans design node single
 
+  -- the one item is that of the plan
   the-item : items_of node ≡ item_of tree ∷ []
   the-item = let k = cut design node tree spans belongs in k.items ∙ ap (map item_of) (k.whole complete)
 
+  -- a plan whose shapes are of the spans takes each from the extent of its block
   listed-extents : (t : Tree) → AreListed (span_shapes design node) t → FitsExtents (extent_in design node) t
   listed-extents t listed = each-weaker (λ leaf. Contains (span_shapes design node leaf.0) leaf.1) (λ leaf. IsOfExtent (extent_in design node leaf.0) leaf.1.w leaf.1.h)
       (λ leaf c. of-extent (span_shapes design node leaf.0) leaf.1 c) (leaves t) listed
 
+  -- so does the plan that belongs to the subproblem
   of-extents : FitsExtents (extent_in design node) tree
   of-extents = listed-extents tree (belongs-listed design node tree belongs)
 
@@ -185,6 +198,7 @@ module _ (design : Design) (node : Parts) (tree : Tree) (spans : length node.spa
     h : (spot_of b (spots_of tree)).h ≡ (extent_in design node o.block).least_h
     most_h : (spot_of b (spots_of tree)).h ≡ (extent_in design node o.block).most_h
 
+  -- each block has a seat
   seated : (b : ℕ) → b < block_count design → (o : Offset) × IsSeatOf b o
   seated b lt =
       let s = spot_of b (spots_of tree) in
@@ -211,15 +225,19 @@ module _ (design : Design) (node : Parts) (tree : Tree) (spans : length node.spa
       )
 
   module _ (net : Net) (set : IsPinSet (block_count design) (length design.pads) net.pins) where
+    -- a block among the pins is one of the design
     inside : (b : ℕ) → Contains net.pins (pin.Block b) → b < block_count design
     inside b c = each-contains (λ p. pin_number p < pin_count (block_count design) (length design.pads) p) net.pins (pin.Block b) (recursion_from_All (λ p. pin_number p < pin_count (block_count design) (length design.pads) p) net.pins set.in_range) c
 
+    -- the offsets of the blocks of the net
     abbrev own_offsets : List Offset
     own_offsets = of_pins net.pins (offsets (extent_in design node) (item_of tree))
 
+    -- the seat of a block of the net is one of them
     picked : (b : ℕ) (o : Offset) → Contains net.pins (pin.Block b) → IsSeatOf b o → Contains own_offsets o
     picked b o c k = offset-found net.pins (offsets (extent_in design node) (item_of tree)) o k.found (ap (λ v. contains_pin v net.pins) k.block ∙ pin-found b net.pins c)
 
+    -- where a pin lies across is pinned by an interval of the hull
     pinned-x : (p : Pin) → Contains net.pins p → Pins (map (offset_x (extent_in design node)) own_offsets ++ pads_x design net.pins) (pin_x design (spots_of tree) p)
     pinned-x (pin.Block b) c =
         let k = seated b (inside b c) in
@@ -237,6 +255,7 @@ module _ (design : Design) (node : Parts) (tree : Tree) (spans : length node.spa
       high = omega (arith, ints);
     }
 
+    -- and upward
     pinned-y : (p : Pin) → Contains net.pins p → Pins (map (offset_y (extent_in design node)) own_offsets ++ pads_y design net.pins) (pin_y design (spots_of tree) p)
     pinned-y (pin.Block b) c =
         let k = seated b (inside b c) in
@@ -265,11 +284,13 @@ module _ (design : Design) (node : Parts) (tree : Tree) (spans : length node.spa
           spread-le-gap (map (pin_y design (spots_of tree)) net.pins) js (each-map (Pins js) (pin_y design (spots_of tree)) net.pins (each-from (λ p. Pins js (pin_y design (spots_of tree) p)) net.pins pinned-y)),
         )
 
+    -- the hull part is the hull of the one item with the pads
     hull-whole : hull_part design (extent_in design node) (is_complete node) (items_of node) net.pins ≡ max (hull_of design (extent_in design node) true net.pins (item_of tree)) 0
     hull-whole =
         ap (λ t. hull_part design (extent_in design node) t (items_of node) net.pins) complete
         ∙ ap (λ is. hull_part design (extent_in design node) true is net.pins) the-item
 
+    -- the wire of a net is no more than what it is taken to be at least
     wire-le : net_wire design (spots_of tree) net ≤ net_part design node net
     wire-le =
         cond_both (nat_lt (length net.pins) 2) 0 (max (range_part design (extent_in design node) net.pins) (max (pair_part (extent_in design node) net.pins) (hull_part design (extent_in design node) (is_complete node) (items_of node) net.pins)))
@@ -277,9 +298,11 @@ module _ (design : Design) (node : Parts) (tree : Tree) (spans : length node.spa
         (λ few. omega (arith, few-wire (pin_x design (spots_of tree)) (pin_y design (spots_of tree)) net.pins (ltb-true (length net.pins) 2 few)))
         (λ _. omega (arith, wire-le-hull, hull-whole))
 
+  -- the same as often as the weight of the net says
   weighed-le : (net : Net) → IsPinSet (block_count design) (length design.pads) net.pins → weighed_wire design (spots_of tree) net ≤ weighed_part design node net
   weighed-le net set = mul-le-mul_left net.weight (wire-le net set)
 
+  -- the wire of the plan is no more than what the wires are taken to be at least
   wires-le : wire design (spots_of tree) ≤ wire_part design node
   wires-le = sum_by-le_each (weighed_wire design (spots_of tree)) (weighed_part design node) design.nets
       (each-weaker (λ net. IsPinSet (block_count design) (length design.pads) net.pins) (λ net. weighed_wire design (spots_of tree) net ≤ weighed_part design node net) weighed-le design.nets
@@ -294,9 +317,11 @@ module _ (design : Design) (node : Parts) (tree : Tree) (spans : length node.spa
       let b = fixed-size (extent_in design node) fixed tree of-extents in
       mul-le-mul (omega (arith, a.0, b.0, ap (λ i. (item_extent (extent_in design node) i).least_w) p.same)) (omega (arith, a.1, b.1, ap (λ i. (item_extent (extent_in design node) i).least_h) p.same))
 
+  -- the plans of the one item and of no unused block
   abbrev groups : List (List Tree)
   groups = plans_of design node
 
+  -- the area of the plan is no more than what is needed
   area-le : area tree ≤ needed_area groups
   area-le =
       let w : width tree ≤ 1048576 = omega (arith, fit.0, design.limits.width.1) in
@@ -305,6 +330,7 @@ module _ (design : Design) (node : Parts) (tree : Tree) (spans : length node.spa
       let least : area tree ≤ least_of area (fitting design node (item_of tree)) = least-above area (area tree) (fitting design node (item_of tree)) (omega (arith, room)) (each-from (λ t. area tree ≤ area t) (fitting design node (item_of tree)) area-each) in
       omega (arith, least, first-needed design node (item_of tree) the-item)
 
+  -- the plan costs no more than the value from area and wires
   cost-le : cost design tree ≤ open_value design node
   cost-le =
       let none = cost-below design tree fit in
@@ -316,6 +342,7 @@ module _ (design : Design) (node : Parts) (tree : Tree) (spans : length node.spa
       (λ _. omega (arith, none))
       (λ _. total))
 
+  -- so it costs just this value
   pub costs-open : open_value design node ≡ cost design tree
   costs-open = omega (arith, cost-le, bounded-le design node tree spans belongs fit)
 

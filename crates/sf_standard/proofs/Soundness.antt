@@ -1,4 +1,4 @@
--- The standard bound is sound, and exact at the end.
+-- The standard bound is sound.
 use Rattle.std.proofs.Common.{◌≡◌, ◌+◌, ◌*◌, ◌≤◌, [], ◌∷◌, map, length, arith, ap, sym, subst, ◌∙◌, true}
 use Rattle.std.specs.Prelude.{nat_lt, if◌then◌else◌}
 use Rattle.std.specs.List.{list_any}
@@ -19,6 +19,7 @@ use Rattle.sf_standard.proofs.Grown.{part-self}
 use Rattle.sf_standard.proofs.Cutting.{cut, part-fitting, least_of-le, needed-area, none-empty}
 use Rattle.sf_standard.proofs.NetWires.{nets-le}
 
+-- a solved subproblem is complete
 pub solved-complete : (design : Design) (node : Parts) → is_solved design node ≡ true → is_complete node ≡ true
 solved-complete design node h = (and_parts _ _ h).0
 
@@ -35,11 +36,13 @@ bounded-le design node tree spans belongs fit =
     (λ e. absurd (omega (arith, ltb-true (design.outline.w * design.outline.h) (needed_area plans) e, part, mul-le-mul fit.0 fit.1)))
     (λ _. total))
 
+-- its one item is that of each plan that belongs to it
 pub solved-items : (design : Design) (node : Parts) (tree : Tree) → length node.spans ≡ block_count design → Belongs design node tree → is_solved design node ≡ true → items_of node ≡ item_of tree ∷ []
 solved-items design node tree spans belongs solved =
     let k = cut design node tree spans belongs in
     k.items ∙ ap (map item_of) (k.whole (solved-complete design node solved))
 
+-- the least cost of a solved subproblem is no more than that of each such plan
 least_cost-le : (design : Design) (node : Parts) (tree : Tree) → length node.spans ≡ block_count design → Belongs design node tree → Fits design.outline tree → is_solved design node ≡ true → least_cost design node (items_of node) ≤ cost design tree
 least_cost-le design node tree spans belongs fit solved =
     subst (λ v. least_cost design node v ≤ cost design tree) (sym (solved-items design node tree spans belongs solved))

@@ -36,19 +36,23 @@ sum_by-move f [] vs x = refl
 sum_by-move f (w ∷ ws) vs x =
     omega (arith, sum_by-cons f w (ws ++ x ∷ vs), sum_by-cons f x (w ∷ (ws ++ vs)), sum_by-cons f w (ws ++ vs), sum_by-cons f x (ws ++ vs), sum_by-move f ws vs x)
 
+-- a sum stays when an element moves to the front
 pub sum-move : {X : Type 0} (f : X → ℕ) (ws vs : List X) (x : X) → sum (map f (ws ++ x ∷ vs)) ≡ sum (map f (x ∷ (ws ++ vs)))
 sum-move f ws vs x = sum-map f (ws ++ x ∷ vs) ∙ sum_by-move f ws vs x ∙ sym (sum-map f (x ∷ (ws ++ vs)))
 
+-- the greatest value stays when an element moves to the front
 pub greatest-move : {X : Type 0} (f : X → ℕ) (ws vs : List X) (x : X) → greatest (map f (ws ++ x ∷ vs)) ≡ greatest (map f (x ∷ (ws ++ vs)))
 greatest-move f [] vs x = refl
 greatest-move f (w ∷ ws) vs x = omega (arith, greatest-move f ws vs x)
 
+-- the first two sides of an or may change places
 or-swap : (a b c : Bool) → (a || (b || c)) ≡ (b || (a || c))
 or-swap true true c = refl
 or-swap true false c = refl
 or-swap false true c = refl
 or-swap false false c = refl
 
+-- whether some element passes stays when one moves to the front
 pub any-move : {X : Type 0} (p : X → Bool) (ws vs : List X) (x : X) → list_any p (ws ++ x ∷ vs) ≡ list_any p (x ∷ (ws ++ vs))
 any-move p [] vs x = refl
 any-move p (w ∷ ws) vs x = ap (λ v. p w || v) (any-move p ws vs x) ∙ or-swap (p w) (p x) (list_any p (ws ++ vs))
@@ -59,6 +63,7 @@ record AgreeBut (b : ℕ) (p q : ℕ → Bool) : Type 0 where
   gone : q b ≡ false
   other : (k : ℕ) → k ≢ b → q k ≡ p k
 
+-- two tests that agree but at b leave the same of the numbers above b
 filter-above : (b : ℕ) (p q : ℕ → Bool) → AgreeBut b p q → (a n : ℕ) → b < a → filter q (range_with_len a n) ≡ filter p (range_with_len a n)
 filter-above b p q g a zero lt = refl
 filter-above b p q g a (suc n) lt =
@@ -72,6 +77,7 @@ record Leaves (b : ℕ) (all less : List ℕ) : Type 0 where
   whole : all ≡ front ++ b ∷ back
   rest : less ≡ front ++ back
 
+-- of a range around b they leave the same but for b
 filter-leaves : (b : ℕ) (p q : ℕ → Bool) → AgreeBut b p q → (a n : ℕ) → a ≤ b → b < a + n → Leaves b (filter p (range_with_len a n)) (filter q (range_with_len a n))
 filter-leaves b p q g a zero le lt = absurd (omega arith)
 filter-leaves b p q g a (suc n) le lt =
@@ -101,9 +107,11 @@ filter-leaves b p q g a (suc n) le lt =
           ] same)
     ]
 
+-- a block at the end counts for itself alone
 count-push : (k b : ℕ) (ts : List Token) → count_by (is_block k) (ts ++ token.Block b ∷ []) ≡ count_by (is_block k) ts + (if b == k then 1 else 0)
 count-push k b ts = omega (arith, sum_by-append (λ t. cond {A = ℕ} (is_block k t) 1 0) ts (token.Block b ∷ []), sum_by-cons (λ t. cond {A = ℕ} (is_block k t) 1 0) (token.Block b) [])
 
+-- a block that was unused is used after its step, and all others are as before
 block-agrees : (b : ℕ) (ts : List Token) → is_unused b ts ≡ true → AgreeBut b (λ k. is_unused k ts) (λ k. is_unused k (ts ++ token.Block b ∷ []))
 block-agrees b ts free = record {
   here = free;
@@ -122,6 +130,7 @@ extent-ordered (s ∷ ss) = (
   omega (arith, least-member (λ t. t.h) s ss s (Contains-head s ss), most-member (λ t. t.h) s ss s (Contains-head s ss)),
 )
 
+-- a number that is not above 0 is 0 when it is cut at 0
 no-gap : (z : ℤ) → z ≤ℤ pos 0 → to_nat z ≡ 0
 no-gap (pos n) h = omega (arith, ints, h)
 no-gap (negsuc n) h = refl
@@ -137,6 +146,7 @@ lone-hull design node b pins =
       | false ↦ refl
     ]
 
+-- sums of the same numbers are the same
 pub sum_by-same : {X : Type 0} (f g : X → ℕ) → ((x : X) → f x ≡ g x) → (xs : List X) → sum_by f xs ≡ sum_by g xs
 sum_by-same f g h [] = refl
 sum_by-same f g h (x ∷ xs) = omega (arith, sum_by-cons f x xs, sum_by-cons g x xs, h x, sum_by-same f g h xs)
@@ -150,21 +160,27 @@ pub record Moves (x : List Tree) (old new : List (List Tree)) : Type 0 where
 
 -- a block that is moved from the unused ones onto the stack
 module _ (design : Design) (node : Parts) (b : ℕ) (can : CanStep node (step.Block b)) where
+  -- the child by the block
   abbrev child : Parts
   child = after node (step.Block b)
 
+  -- it has one item more, on top
   items-child : items_of child ≡ item.Block b ∷ items_of node
   items-child = read-append [] node.tokens (token.Block b ∷ []) ∙ read-block (items_of node) b
 
+  -- its unused blocks are those before without this one
   leaves-range : Leaves b (filter (λ k. is_unused k node.tokens) (range_with_len 0 (length node.spans))) (filter (λ k. is_unused k (node.tokens ++ token.Block b ∷ [])) (range_with_len 0 (length node.spans)))
   leaves-range = filter-leaves b (λ k. is_unused k node.tokens) (λ k. is_unused k (node.tokens ++ token.Block b ∷ [])) (block-agrees b node.tokens can.1) 0 (length node.spans) (omega arith) (omega (arith, can.0))
 
+  -- the groups before that of the block
   abbrev ahead : List (List Tree)
   ahead = map (fitting design node) (items_of node ++ map (λ k. item.Block k) leaves-range.front)
 
+  -- and those after it
   abbrev behind : List (List Tree)
   behind = map (fitting design node) (map (λ k. item.Block k) leaves-range.back)
 
+  -- the group of the block stands between them
   plans-node : plans_of design node ≡ ahead ++ fitting design node (item.Block b) ∷ behind
   plans-node =
       let k = leaves-range in
@@ -174,6 +190,7 @@ module _ (design : Design) (node : Parts) (b : ℕ) (can : CanStep node (step.Bl
       ∙ ap (map (fitting design node)) (sym (append_assoc (items_of node) U (item.Block b ∷ V)))
       ∙ map-append (fitting design node) (items_of node ++ U) (item.Block b ∷ V)
 
+  -- in the child it stands in front
   plans-child : plans_of design child ≡ fitting design node (item.Block b) ∷ (ahead ++ behind)
   plans-child =
       let k = leaves-range in
@@ -183,13 +200,16 @@ module _ (design : Design) (node : Parts) (b : ℕ) (can : CanStep node (step.Bl
       ∙ ap (λ v. fitting design node (item.Block b) ∷ map (fitting design node) (items_of node ++ v)) (ap (map (λ k. item.Block k)) k.rest ∙ map-append (λ k. item.Block k) k.front k.back)
       ∙ ap (λ v. fitting design node (item.Block b) ∷ v) (ap (map (fitting design node)) (sym (append_assoc (items_of node) U V)) ∙ map-append (fitting design node) (items_of node ++ U) V)
 
+  -- so the group of the block moves to the front
   pub block-moves : Moves (fitting design node (item.Block b)) (plans_of design node) (plans_of design child)
   block-moves = record { front = ahead; back = behind; was = plans-node; is = plans-child }
 
 module _ (design : Design) (node : Parts) (b : ℕ) (sub : IsSubproblem design node) (can : CanStep node (step.Block b)) (open_child : is_complete (after node (step.Block b)) ≡ false) where
+  -- the child by the block
   abbrev grown : Parts
   grown = after node (step.Block b)
 
+  -- its parent is not complete
   open-node : is_complete node ≡ false
   open-node = by-cases (is_complete node) refl
     where
@@ -211,15 +231,18 @@ module _ (design : Design) (node : Parts) (b : ℕ) (sub : IsSubproblem design n
       ∙ ap (λ t. hull_part design extent t (items_of node) net.pins) (sym open-node) in
       ap (λ h. if nat_lt (length net.pins) 2 then 0 else max (range_part design extent net.pins) (max (pair_part extent net.pins) h)) hull
 
+  -- the same as often as the weight of the net says
   weighed-same : (net : Net) → weighed_part design grown net ≡ weighed_part design node net
   weighed-same net = ap (λ v. net.weight * v) (net-same net)
 
+  -- the needed area does not depend on where a group stands
   area-same : (ws vs : List (List Tree)) (x : List Tree) → needed_area (x ∷ (ws ++ vs)) ≡ needed_area (ws ++ x ∷ vs)
   area-same ws vs x =
       ap (λ v. max v (greatest (map (least_of width) (x ∷ (ws ++ vs))) * greatest (map (least_of height) (x ∷ (ws ++ vs))))) (sym (sum-move (least_of area) ws vs x))
       ∙ ap (λ v. max (sum (map (least_of area) (ws ++ x ∷ vs))) (v * greatest (map (least_of height) (x ∷ (ws ++ vs))))) (sym (greatest-move (least_of width) ws vs x))
       ∙ ap (λ v. max (sum (map (least_of area) (ws ++ x ∷ vs))) (greatest (map (least_of width) (ws ++ x ∷ vs)) * v)) (sym (greatest-move (least_of height) ws vs x))
 
+  -- the value from area and wires is the same
   bounded-same : open_value design grown ≡ open_value design node
   bounded-same =
       let x = fitting design node (item.Block b) in
@@ -234,9 +257,11 @@ module _ (design : Design) (node : Parts) (b : ℕ) (sub : IsSubproblem design n
       ∙ ap (λ w. whole (list_any has_none (ws ++ x ∷ vs)) (needed_area (ws ++ x ∷ vs)) w) nets
       ∙ sym (ap (bounded design (wire_part design node)) moves.was)
 
+  -- a subproblem that is not complete is not solved
   unsolved : (parts : Parts) → is_complete parts ≡ false → is_solved design parts ≡ false
   unsolved parts e = ap (λ t. t && (design.weights.wire == 0 || list_all (λ span. not (is_wide span)) parts.spans)) e
 
+  -- so the child has the bound of its parent
   pub block_keeps : standard design (after node (step.Block b)) ≡ standard design node
   block_keeps =
       cond-false (is_solved design grown) (least_cost design grown (items_of grown)) (open_value design grown) (unsolved grown open_child)

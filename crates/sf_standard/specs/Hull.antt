@@ -11,7 +11,7 @@ use Rattle.sf_standard.specs.declared.hull.Interval.{Interval}
 use Rattle.sf_standard.specs.declared.hull.Offset.{Offset}
 use Rattle.sf_standard.specs.Items.{Item, Block, Beside, Above}
 
--- of one of these shapes
+-- the least and the greatest sides of some shapes
 abbrev pub extent_of : List Shape → Extent
 extent_of [] = record { least_w = 0; most_w = 0; least_h = 0; most_h = 0 }
 extent_of (s ∷ ss) = record {
@@ -35,11 +35,12 @@ gap (i ∷ is) = to_nat (fold (λ z j. int_max z j.low) i.low is -ℤ fold (λ z
 abbrev pub point : ℤ → Interval
 point z = record { low = pos 2 *ℤ z; high = pos 2 *ℤ z }
 
--- where a pin lies across and upward, in doubled units, anywhere in the outline
+-- where a pin lies across, in doubled units, anywhere in the outline
 abbrev pub range_x : Design → (ℕ → Extent) → Pin → Interval
 range_x design extent (pin.Block b) = record { low = pos (extent b).least_w; high = pos (2 * design.outline.w) -ℤ pos (extent b).least_w }
 range_x design extent (pin.Pad p) = point (pad_at design p).x
 
+-- the same upward
 abbrev pub range_y : Design → (ℕ → Extent) → Pin → Interval
 range_y design extent (pin.Block b) = record { low = pos (extent b).least_h; high = pos (2 * design.outline.h) -ℤ pos (extent b).least_h }
 range_y design extent (pin.Pad p) = point (pad_at design p).y
@@ -84,10 +85,11 @@ item_extent extent (Above l r) =
     let q = item_extent extent r in
     record { least_w = max p.least_w q.least_w; most_w = max p.most_w q.most_w; least_h = p.least_h + q.least_h; most_h = p.most_h + q.most_h }
 
--- the offset of a block that stands to the right of an item, or above it
+-- the offset of a block that stands to the right of an item
 abbrev pub moved_right : Extent → Offset → Offset
 moved_right e o = record o { least_x = e.least_w + o.least_x; most_x = e.most_w + o.most_x }
 
+-- the same of a block that stands above
 abbrev pub moved_up : Extent → Offset → Offset
 moved_up e o = record o { least_y = e.least_h + o.least_y; most_y = e.most_h + o.most_y }
 
@@ -99,10 +101,11 @@ offsets extent (Beside l r) =
 offsets extent (Above l r) =
     offsets extent l ++ map (moved_up (item_extent extent l)) (offsets extent r)
 
--- where the centre of a block lies from the item's corner, across and upward, in doubled units
+-- where the centre of a block lies across from the item's corner, in doubled units
 abbrev pub offset_x : (ℕ → Extent) → Offset → Interval
 offset_x extent o = record { low = pos (2 * o.least_x + (extent o.block).least_w); high = pos (2 * o.most_x + (extent o.block).most_w) }
 
+-- the same upward
 abbrev pub offset_y : (ℕ → Extent) → Offset → Interval
 offset_y extent o = record { low = pos (2 * o.least_y + (extent o.block).least_h); high = pos (2 * o.most_y + (extent o.block).most_h) }
 
@@ -117,18 +120,19 @@ abbrev pub of_pins : List Pin → List Offset → List Offset
 of_pins pins [] = []
 of_pins pins (o ∷ os) = if contains_pin o.block pins then (o ∷ of_pins pins os) else of_pins pins os
 
--- the points of the pads among the pins
+-- where the pads among the pins lie across
 abbrev pub pads_x : Design → List Pin → List Interval
 pads_x design [] = []
 pads_x design (pin.Block b ∷ pins) = pads_x design pins
 pads_x design (pin.Pad p ∷ pins) = point (pad_at design p).x ∷ pads_x design pins
 
+-- the same upward
 abbrev pub pads_y : Design → List Pin → List Interval
 pads_y design [] = []
 pads_y design (pin.Block b ∷ pins) = pads_y design pins
 pads_y design (pin.Pad p ∷ pins) = point (pad_at design p).y ∷ pads_y design pins
 
--- one item: its blocks, and where the subproblem is complete the pads
+-- what the wire is at least since it joins the net's blocks in one item, and where the subproblem is complete the pads
 abbrev pub hull_of : Design → (ℕ → Extent) → Bool → List Pin → Item → ℕ
 hull_of design extent complete pins item =
     let os = of_pins pins (offsets extent item) in

@@ -20,6 +20,7 @@ abbrev pub least_of : (Tree → ℕ) → List Tree → ℕ
 least_of f [] = MAX
 least_of f (t ∷ ts) = min (f t) (least_of f ts)
 
+-- the area of a plan
 abbrev pub area : Tree → ℕ
 area t = width t * height t
 
