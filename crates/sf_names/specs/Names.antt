@@ -9,6 +9,7 @@ abbrev pub index_of : List ℕ → List (List ℕ) → Option ℕ
 index_of name [] = None
 index_of name (other ∷ more) = if bytes_eq other name then Some 0 else option_map suc (index_of name more)
 
+-- the name is one of the list
 abbrev pub has_name : List ℕ → List (List ℕ) → Bool
 has_name name names = is_some (index_of name names)
 

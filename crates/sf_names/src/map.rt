@@ -51,6 +51,7 @@ impl<'a, V: Copy> NameMap<'a, V> {
         self.get(name).is_some()
     }
 
+    /// Makes room for one more name.
     fn make_room(&mut self) -> Result<(), AllocError>
         ensures { self.new ≡ self.old }
     {

@@ -35,6 +35,7 @@ impl<'a> Names<'a> {
         }
     }
 
+    /// The hash of the names.
     pub fn hash(&self) -> TextHash {
         *self.set.hasher()
     }
@@ -54,6 +55,7 @@ impl<'a> Names<'a> {
         self.set.get_index_of(name)
     }
 
+    /// Makes room for one more name.
     fn make_room(&mut self) -> Result<(), AllocError>
         ensures { self.new ≡ self.old }
     {
