@@ -16,19 +16,23 @@ use Rattle.sf_node.specs.Children.{may_join, is_unused, when, next_tokens, step_
 use Rattle.sf_node.specs.Laws.{BelongsToOne}
 use Rattle.sf_node.proofs.Cover.{extended-some}
 
+-- a number for each token, no two alike
 unfoldable pub rank : Token → ℕ
 rank token.Beside = 0
 rank token.Above = 1
 rank (token.Block b) = b + 2
 
+-- a child by a token has it behind the others
 tokens-after : (node : Parts) (t : Token) → (after node (step_of t)).tokens ≡ node.tokens ++ t ∷ []
 tokens-after node token.Beside = refl
 tokens-after node token.Above = refl
 tokens-after node (token.Block b) = refl
 
+-- the one elements of equal lists are the same
 head-same : (s t : Token) → ◌≡◌ {A = List Token} (s ∷ []) (t ∷ []) → s ≡ t
 head-same s t e = cc
 
+-- children that have a plan in common come by the same token
 same-token : (design : Design) (node : Parts) (tree : Tree) (s t : Token) → Belongs design (after node (step_of s)) tree → Belongs design (after node (step_of t)) tree → s ≡ t
 same-token design node tree s t a b =
     let p : take (length (node.tokens ++ s ∷ [])) (postfix tree) ≡ node.tokens ++ s ∷ [] = subst (λ z. take (length z) (postfix tree) ≡ z) (tokens-after node s) a.begins in
@@ -36,14 +40,17 @@ same-token design node tree s t a b =
     let n : length (node.tokens ++ s ∷ []) ≡ length (node.tokens ++ t ∷ []) = length-append node.tokens (s ∷ []) ∙ sym (length-append node.tokens (t ∷ [])) in
     head-same s t (append_cancel_left node.tokens (s ∷ []) (t ∷ []) (sym p ∙ ap (λ k. take k (postfix tree)) n ∙ q))
 
+-- what holds of a token holds of each of the list of it, if it is there
 each-when : (P : Token → Type 0) (b : Bool) (t : Token) → P t → AllByRecursion P (when b t)
 each-when P true t p = (p, tt)
 each-when P false t p = tt
 
+-- the list of one token has no two
 pair-when : (R : Token → Token → Type 0) (b : Bool) (t : Token) → EachPair R (when b t)
 pair-when R true t = (tt, tt)
 pair-when R false t = tt
 
+-- the tokens that may come next rise by their numbers
 pub next-rising : (node : Parts) → EachPair (λ s t. rank s < rank t) (next_tokens node)
 unfolding rank
 next-rising node =
@@ -63,6 +70,7 @@ next-rising node =
     (each-map (λ t. 2 ≤ rank t) (λ b. token.Block b) (filter (λ b. is_unused b ts) (range_with_len 0 (length node.spans)))
     (each-filter (λ b. 2 ≤ b + 2) (λ b. is_unused b ts) (range_with_len 0 (length node.spans)) (each-range (λ b. 2 ≤ b + 2) 0 (length node.spans) (λ i h. omega arith))))
 
+-- no plan belongs to two of the children
 extended-no_two : (design : Design) (node : Parts) (tree : Tree) → AllPairs (λ a b. ¬ (Belongs design a tree × Belongs design b tree)) (extended node)
 extended-no_two design node tree =
     AllPairs-from_recursion (λ a b. ¬ (Belongs design a tree × Belongs design b tree)) (extended node)

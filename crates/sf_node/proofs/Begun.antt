@@ -10,9 +10,11 @@ use Rattle.sf_polish.specs.declared.expr.Token.TheVariants.{Beside, Above, Block
 use Rattle.sf_node.specs.Subproblem.{BeginsWith}
 
 module _ (E : Token → Token → Bool) (beside : E Beside Beside ≡ true) (above : E Above Above ≡ true) (block : (b c : ℕ) → E (Block b) (Block c) ≡ (b == c)) (one : E Beside Above ≡ false) (two : E Above Beside ≡ false) (three : (b : ℕ) → E Beside (Block b) ≡ false) (four : (b : ℕ) → E (Block b) Beside ≡ false) (five : (b : ℕ) → E Above (Block b) ≡ false) (six : (b : ℕ) → E (Block b) Above ≡ false) where
+  -- a test that fails, on tokens that differ, decides whether they are the same
   no : (a b : Token) → (a ≡ b → ⊥) → E a b ≡ false → Decides (E a b) (a ≡ b)
   no a b ne e = (λ t. absurd (true≢false (sym t ∙ e)), λ s. absurd (ne s))
 
+  -- a test that tells tokens apart decides whether they are the same
   decides : (a b : Token) → Decides (E a b) (a ≡ b)
   decides Beside Beside = (λ t. refl, λ s. beside)
   decides Beside Above = no Beside Above (λ s. absurd (cc)) one
@@ -27,6 +29,7 @@ module _ (E : Token → Token → Bool) (beside : E Beside Beside ≡ true) (abo
     λ s. (let e : b ≡ c = cc in block b c ∙ eq-eqb b c e),
   )
 
+  -- tokens that pass the test one by one begin the others
   pub begins-is : (ts begin : List Token) (r : Bool) → r ≡ pointwise E begin (take (length begin) ts) → IsTrue r ↔ BeginsWith ts begin
   begins-is ts begin r e =
       let d = slice_eq-Decides decides begin (take (length begin) ts) r e in

@@ -29,13 +29,16 @@ count-none key n b h (x ∷ xs) a =
 
 -- the tokens, and what comes after them
 module _ (design : Design) (node : Parts) (tree : Tree) (belongs : Belongs design node tree) where
+  -- the tokens of the plan behind those of the subproblem
   rest_of : List Token
   rest_of = drop (length node.tokens) (postfix tree)
 
+  -- the tokens of the plan are those of the subproblem and the rest
   seam : postfix tree ≡ node.tokens ++ rest_of
   unfolding rest_of
   seam = sym (take-append-drop (length node.tokens) (postfix tree)) ∙ ap (λ z. z ++ drop (length node.tokens) (postfix tree)) belongs.begins
 
+  -- an incomplete subproblem leaves a rest
   some-rest : length node.spans ≡ block_count design → is_complete node ≡ false → 0 < length rest_of
   unfolding rest_of
   some-rest spans partly =
@@ -77,6 +80,7 @@ child-has design node tree rest s belongs e =
       | token.Block b ↦ λ l. record { skewed = belongs.skewed; legal = belongs.legal; begins = l; chosen = belongs.chosen }
     ] longer
 
+-- a token that is there is one of the list of it
 some-when : (P : Token → Type 0) (b : Bool) (t : Token) → b ≡ true → P t → Some P (when b t)
 some-when P b t e p = subst (λ z. Some P (when z t)) (sym e) (inl p)
 
@@ -102,6 +106,7 @@ next-is design node tree rest (token.Block b) P spans belongs e p =
     (Some-filter (λ b. P (token.Block b)) (λ b. is_unused b ts) (range_with_len 0 (length node.spans))
     (Some-range (λ b. (is_unused b ts ≡ true) × P (token.Block b)) 0 (length node.spans) b (omega arith) (omega (arith, n.0, spans)) (eq-eqb (count_by (is_block b) ts) 0 n.1, p))))
 
+-- a plan of an incomplete subproblem belongs to some child
 pub extended-some : (design : Design) (node : Parts) (tree : Tree) → length node.spans ≡ block_count design → is_complete node ≡ false → Belongs design node tree → Some (λ child. Belongs design child tree) (extended node)
 extended-some design node tree spans partly belongs =
     let go : (rest : List Token) → postfix tree ≡ node.tokens ++ rest → 0 < length rest → Some (λ child. Belongs design child tree) (extended node) =

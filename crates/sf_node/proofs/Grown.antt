@@ -9,6 +9,7 @@ use Rattle.sf_polish.specs.declared.expr.Token.TheVariants as token
 use Rattle.sf_node.specs.Parts.{Parts}
 use Rattle.sf_node.specs.Children.{after, step_of, when, may_join, is_unused, extended}
 
+-- the tokens that may come next, of blocks those below k
 abbrev pub tokens_below : Parts → ℕ → List Token
 tokens_below node k =
     when (may_join token.Beside node.tokens) token.Beside
@@ -24,6 +25,7 @@ spread : (b : Bool) (x : ℕ) (xs ys : List ℕ) → cond b (x ∷ (xs ++ ys)) (
 spread true x xs ys = refl
 spread false x xs ys = refl
 
+-- what passes a test in a range of one more
 pub filter-more : (p : ℕ → Bool) (a n : ℕ) → filter p (range_with_len a (n + 1)) ≡ filter p (range_with_len a n) ++ cond (p (a + n)) ((a + n) ∷ []) []
 filter-more p a zero = let e : a + 0 ≡ a = omega arith in ap (λ z. cond (p z) (z ∷ []) []) (sym e)
 filter-more p a (suc n) =
@@ -33,6 +35,7 @@ filter-more p a (suc n) =
     ∙ ap (λ z. cond (p a) (a ∷ z) z) (filter-more p (a + 1) n ∙ ap (λ z. filter p (range_with_len (a + 1) n) ++ cond (p z) (z ∷ []) []) f)
     ∙ spread (p a) a (filter p (range_with_len (a + 1) n)) (cond (p (a + suc n)) ((a + suc n) ∷ []) [])
 
+-- the tokens that may come with one block more
 below-more : (node : Parts) (k : ℕ) → tokens_below node (k + 1) ≡ tokens_below node k ++ map (λ b. token.Block b) (cond (is_unused k node.tokens) (k ∷ []) [])
 below-more node k =
     let p : ℕ → Bool = λ b. is_unused b node.tokens in
@@ -42,6 +45,7 @@ below-more node k =
     ∙ ap (λ xs. ops ++ xs) (map-append (λ (b : ℕ). token.Block b) (filter p (range_with_len 0 k)) (cond (p k) (k ∷ []) []))
     ∙ sym (append_assoc ops (map (λ b. token.Block b) (filter p (range_with_len 0 k))) (map (λ b. token.Block b) (cond (p k) (k ∷ []) [])))
 
+-- a block that isn't there yet brings its child
 pub grown-yes : (node : Parts) (children more : List Parts) (child : Parts) (k : ℕ) → is_unused k node.tokens ≡ true → IsGrown node children k → child ≡ after node (step_of (token.Block k)) → more ≡ children ++ child ∷ [] → IsGrown node more (k + 1)
 grown-yes node children more child k u g c m = record {
   is = m ∙ ap (λ z. z ++ child ∷ []) g.is ∙ ap (λ z. map (λ t. after node (step_of t)) (tokens_below node k) ++ z ∷ []) c
@@ -49,10 +53,12 @@ grown-yes node children more child k u g c m = record {
       ∙ map-append (λ (t : Token). after node (step_of t)) (tokens_below node k) (token.Block k ∷ []));
 }
 
+-- a block that is there brings none
 pub grown-no : (node : Parts) (children more : List Parts) (k : ℕ) → is_unused k node.tokens ≡ false → IsGrown node children k → more ≡ children → IsGrown node more (k + 1)
 grown-no node children more k u g m = record {
   is = m ∙ g.is ∙ sym (ap (λ ts. map (λ t. after node (step_of t)) ts) (below-more node k ∙ ap (λ b. tokens_below node k ++ map (λ b. token.Block b) (cond b (k ∷ []) [])) u ∙ append-nil (tokens_below node k)));
 }
 
+-- after all blocks these are all children
 pub grown-all : (node : Parts) (children : List Parts) (k : ℕ) → k ≡ length node.spans → IsGrown node children k → children ≡ extended node
 grown-all node children k e g = g.is ∙ ap (λ n. map (λ t. after node (step_of t)) (tokens_below node n)) e

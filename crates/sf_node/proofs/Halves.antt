@@ -24,6 +24,7 @@ pub record InSpan {X : Type 0} (xs : List X) (from to : ℕ) (x : X) : Type 0 wh
   pub within : at < length xs
   pub is : get_or xs at x ≡ x
 
+-- a shape that the span contains stands at a place of it
 pub in_span : {X : Type 0} (xs : List X) (from to : ℕ) (x : X) → Contains (slice_range xs from to) x → InSpan xs from to x
 in_span xs from to x h =
     let k = h.0 in
@@ -36,6 +37,7 @@ in_span xs from to x h =
       is = sym (get_or-drop from xs k x) ∙ sym (get_or-take (to - from) (drop from xs) k x (omega arith)) ∙ h.2;
     }
 
+-- a shape at a place of the span is one that it contains
 pub from_in_span : {X : Type 0} (xs : List X) (from to : ℕ) (x : X) → InSpan xs from to x → Contains (slice_range xs from to) x
 from_in_span xs from to x s =
     let e : from + (s.at - from) ≡ s.at = omega (arith, s.low) in (
@@ -45,11 +47,13 @@ from_in_span xs from to x s =
     )
 
 module _ {X : Type 0} (key : X → ℕ) (b : ℕ) where
+  -- an element with the key counts once more
   count-here : (x : X) (xs : List X) → key x ≡ b → count_by (λ y. key y == b) (x ∷ xs) ≡ 1 + count_by (λ y. key y == b) xs
   count-here x xs h =
       let e : ◌≡◌ {A = ℕ} (cond (key x == b) 1 0) 1 = ap (λ (t : Bool). cond {A = ℕ} t 1 0) (eq-eqb (key x) b h) in
       omega (arith, e, sum_by-cons (λ y. cond (key y == b) 1 0) x xs)
 
+  -- an element with another key doesn't count
   count-other : (x : X) (xs : List X) → (key x ≡ b → ⊥) → count_by (λ y. key y == b) (x ∷ xs) ≡ count_by (λ y. key y == b) xs
   count-other x xs h =
       let e : ◌≡◌ {A = ℕ} (cond (key x == b) 1 0) 0 = ap (λ (t : Bool). cond {A = ℕ} t 1 0) (ne_eqb (key x) b h) in
@@ -88,6 +92,7 @@ module _ {X : Type 0} (key : X → ℕ) (b : ℕ) where
         | inr e ↦ one-has P xs (omega (arith, count-other x xs e)) a.1
       ]
 
+-- what stands in a span stands in one of its halves
 halve : {X : Type 0} (xs : List X) (from m to : ℕ) (x : X) → InSpan xs from to x → InSpan xs from m x ⊎ InSpan xs m to x
 halve xs from m to x s =
     elim (cases_lt s.at m) [
@@ -103,6 +108,7 @@ not-both xs from m to x apart s t =
     let below = same.1 refl in
     omega arith
 
+-- what holds of each where two facts do
 pub each-both : {X : Type 0} (P Q R : X → Type 0) → ((x : X) → P x → Q x → R x) → (xs : List X) → AllByRecursion P xs → AllByRecursion Q xs → AllByRecursion R xs
 each-both P Q R f [] p q = tt
 each-both P Q R f (x ∷ xs) p q = (f x p.0 q.0, each-both P Q R f xs p.1 q.1)
@@ -111,9 +117,11 @@ each-both P Q R f (x ∷ xs) p q = (f x p.0 q.0, each-both P Q R f xs p.1 q.1)
 abbrev StandsIn : Design → ℕ × ℕ → ℕ × Shape → Type 0
 StandsIn design span leaf = InSpan (shapes_of design leaf.0) span.0 span.1 leaf.1
 
+-- the leaf's shape is one of those in the span of its block
 abbrev ChosenBy : Design → List (ℕ × ℕ) → ℕ × Shape → Type 0
 ChosenBy design spans leaf = let span = slice_index_or spans leaf.0 (0, 0) in Contains (slice_range (shapes_of design leaf.0) span.0 span.1) leaf.1
 
+-- a leaf chosen by the old spans is chosen with one halved, where its shape stands in the half
 new-span : (design : Design) (spans : List (ℕ × ℕ)) (b : ℕ) (half : ℕ × ℕ) → b < length spans → (leaf : ℕ × Shape) → (leaf.0 ≡ b → StandsIn design half leaf) → ChosenBy design spans leaf → ChosenBy design (slice_set spans b half) leaf
 new-span design spans b half inside leaf here old =
     elim (cases_eq leaf.0 b) [
@@ -122,6 +130,7 @@ new-span design spans b half inside leaf here old =
       | inr e ↦ subst (λ z. Contains (slice_range (shapes_of design leaf.0) z.0 z.1) leaf.1) (sym (get_or-set_other spans b leaf.0 half (0, 0) e)) old
     ]
 
+-- a leaf of the block chosen with one span halved stands in the half
 old-span : (design : Design) (spans : List (ℕ × ℕ)) (b : ℕ) (half : ℕ × ℕ) → b < length spans → (leaf : ℕ × Shape) → ChosenBy design (slice_set spans b half) leaf → leaf.0 ≡ b → StandsIn design half leaf
 old-span design spans b half inside leaf new e =
     let same : slice_index_or (slice_set spans b half) leaf.0 (0, 0) ≡ half = ap (λ n. slice_index_or (slice_set spans b half) n (0, 0)) e ∙ get_or-set_same spans b half (0, 0) inside in

@@ -1,6 +1,5 @@
 -- Moves among the subproblems that are not visited yet.
-use Rattle.std.proofs.Common.{◌≡◌, ℕ, suc, ◌+◌, ◌-◌, ◌<◌, ◌≤◌, List, [], ◌∷◌, ◌++◌, map, length, get_or, set, take, append_assoc, append-nil, length-append, arith, refl, ap, sym, subst, ◌∙◌, Bool, true, false, cond}
-use Prim.Native.Nat.{zero}
+use Rattle.std.proofs.Common.{◌≡◌, ℕ, suc, ◌+◌, ◌-◌, ◌<◌, List, [], ◌∷◌, ◌++◌, map, length, get_or, set, take, append_assoc, append-nil, length-append, arith, refl, ap, sym, subst, ◌∙◌, Bool, true, false, cond}
 use Rattle.std.specs.Prelude.{filter}
 use Rattle.std.specs.List.{AllByRecursion, range_with_len}
 use Rattle.std.proofs.lemmas.List.{map-append, set-set, set-get_or, take_at}
@@ -13,37 +12,44 @@ use Rattle.sf_node.specs.declared.step.Step.{Step}
 use Rattle.sf_node.specs.declared.step.Step.TheVariants.{Beside, Above, Block, Left, Right}
 use Rattle.sf_node.specs.Parts.{Parts}
 use Rattle.sf_node.specs.Subproblem.{root, span_of}
-use Rattle.sf_node.specs.Children.{may_join, is_unused, when, step_of, after, extended, split, CanStep, CanWalk, walk, with_span, IsSubproblem}
-use Rattle.sf_node.specs.Later.{when_step, blocks_from, later, extending, behind, pending, halved}
-use Rattle.sf_node.proofs.Reached.{walk-append, steps-after, after-subproblem, each-below, each-passing}
+use Rattle.sf_node.specs.Children.{may_join, is_unused, when, step_of, after, extended, CanStep, CanWalk, walk, with_span, IsSubproblem}
+use Rattle.sf_node.specs.Later.{when_step, blocks_from, later, extending, behind, pending}
+use Rattle.sf_node.proofs.Reached.{walk-append, steps-after, each-below, each-passing}
 
 -- ---- the steps by blocks, one number on
 
 module _ (node : Parts) (b : ℕ) where
+  -- the blocks from the next number on that aren't there yet
   abbrev rest : List ℕ
   rest = filter (λ c. is_unused c node.tokens) (range_with_len (b + 1) (length node.spans - (b + 1)))
 
+  -- the steps by blocks from a number on: by that block, if it isn't there, and by those behind
   blocks-first : b < length node.spans → blocks_from node b ≡ map (λ c. Block c) (cond (is_unused b node.tokens) (b ∷ rest) rest)
   blocks-first h =
       let e : length node.spans - b ≡ suc (length node.spans - (b + 1)) = omega arith in
       ap (λ k. map (λ (c : ℕ). Block c) (filter (λ c. is_unused c node.tokens) (range_with_len b k))) e
 
+  -- a block that is there gives no step
   pub blocks-used : b < length node.spans → is_unused b node.tokens ≡ false → blocks_from node b ≡ blocks_from node (b + 1)
   blocks-used h u = blocks-first h ∙ ap (map (λ (c : ℕ). Block c)) (cond-false (is_unused b node.tokens) (b ∷ rest) rest u)
 
+  -- a block that isn't there gives the first step
   pub blocks-unused : b < length node.spans → is_unused b node.tokens ≡ true → blocks_from node b ≡ Block b ∷ blocks_from node (b + 1)
   blocks-unused h u = blocks-first h ∙ ap (map (λ (c : ℕ). Block c)) (cond-true (is_unused b node.tokens) (b ∷ rest) rest u)
 
 -- ---- the children by extending, by these steps
 
+-- a step that may be taken leads to the child of its token
 when-reached : (node : Parts) (b : Bool) (t : Token) → map (after node) (when_step b (step_of t)) ≡ map (λ t. after node (step_of t)) (when b t)
 when-reached node true t = refl
 when-reached node false t = refl
 
+-- steps by blocks lead to the children of their tokens
 blocks-reached : (node : Parts) (bs : List ℕ) → map (after node) (map (λ c. Block c) bs) ≡ map (λ t. after node (step_of t)) (map (λ c. token.Block c) bs)
 blocks-reached node [] = refl
 blocks-reached node (b ∷ bs) = ap (λ z. after node (Block b) ∷ z) (blocks-reached node bs)
 
+-- the steps by which a subproblem is extended lead to its children
 pub extending-is : (node : Parts) → map (after node) (extending node) ≡ extended node
 extending-is node =
     let n = length node.spans in
@@ -64,10 +70,12 @@ extending-is node =
 
 -- ---- each of these steps can be taken
 
+-- what holds of a step holds of each of the list of it, if it may be taken
 each-when_step : (P : Step → Type 0) (b : Bool) (s : Step) → (b ≡ true → P s) → AllByRecursion P (when_step b s)
 each-when_step P true s f = (f refl, tt)
 each-when_step P false s f = tt
 
+-- each step by a block that isn't there yet can be taken
 blocks-can : (node : Parts) (b : ℕ) → AllByRecursion (CanStep node) (blocks_from node b)
 blocks-can node b =
     let p : ℕ → Bool = λ c. is_unused c node.tokens in
@@ -76,6 +84,7 @@ blocks-can node b =
     (each-passing (λ c. CanStep node (Block c)) p xs
     (each-below (λ c. p c ≡ true → CanStep node (Block c)) b (length node.spans - b) (λ i h k e. (omega arith, e))))
 
+-- each step that comes after one that can be taken can be
 pub later-can : (node : Parts) (s : Step) → CanStep node s → AllByRecursion (CanStep node) (later node s)
 later-can node Beside can =
     each-append (CanStep node) (when_step (may_join token.Above node.tokens) Above) (blocks_from node 0) (each-when_step (CanStep node) (may_join token.Above node.tokens) Above (λ e. e)) (blocks-can node 0)
@@ -84,6 +93,7 @@ later-can node (Block b) can = blocks-can node (b + 1)
 later-can node (Left b) can = (can, tt)
 later-can node (Right b) can = tt
 
+-- each step by which a subproblem is extended can be taken
 pub extending-can : (node : Parts) → AllByRecursion (CanStep node) (extending node)
 extending-can node =
     each-append (CanStep node) (when_step (may_join token.Beside node.tokens) Beside) (later node Beside) (each-when_step (CanStep node) (may_join token.Beside node.tokens) Beside (λ e. e))
@@ -91,6 +101,7 @@ extending-can node =
 
 -- ---- the way from the root
 
+-- what is behind a longer way: the later steps at its end, and what was behind before
 pub behind-append : (node : Parts) (ss : List Step) (s : Step) → behind node (ss ++ s ∷ []) ≡ map (after (walk node ss)) (later (walk node ss) s) ++ behind node ss
 behind-append node [] s = sym (append-nil (map (after node) (later node s)))
 behind-append node (x ∷ ss) s =
@@ -108,14 +119,17 @@ pub entered : (design : Design) (node : Parts) (s : Step) (steps : List Step) �
 entered design node s steps sub e =
     ap (λ z. map (after node) z ++ behind (root design) node.steps) e ∙ ap (λ z. after node s ∷ z) (sym (behind-after design node s sub))
 
+-- a walk adds its steps
 steps-walk : (ss : List Step) (node : Parts) → (walk node ss).steps ≡ node.steps ++ ss
 steps-walk [] node = sym (append-nil node.steps)
 steps-walk (s ∷ ss) node = steps-walk ss (after node s) ∙ ap (λ z. z ++ ss) (steps-after node s) ∙ append_assoc node.steps (s ∷ []) ss
 
+-- the steps before the last can be walked
 can-front : (node : Parts) (ss : List Step) (s : Step) → CanWalk node (ss ++ s ∷ []) → CanWalk node ss
 can-front node [] s can = tt
 can-front node (x ∷ ss) s can = (can.0, can-front (after node x) ss s can.1)
 
+-- the last step can be taken where those before it lead
 can-last : (node : Parts) (ss : List Step) (s : Step) → CanWalk node (ss ++ s ∷ []) → CanStep (walk node ss) s
 can-last node [] s can = can.0
 can-last node (x ∷ ss) s can = can-last (after node x) ss s can.1
@@ -139,14 +153,17 @@ came-from design node ss s sub e =
 
 -- ---- leaving a step
 
+-- a list without its last element is what stood before that
 popped : {X : Type 0} (old new front : List X) (n : ℕ) (x : X) → n ≡ length old → new ≡ take (n - 1) old → old ≡ front ++ x ∷ [] → new ≡ front
 popped old new front n x many e k =
     let fewer : n - 1 ≡ length front = omega (arith, many, ap length k, length-append front (x ∷ [])) in
     e ∙ ap (λ m. take m old) fewer ∙ ap (take (length front)) k ∙ take_at front (x ∷ []) (length front) refl
 
+-- a span that is put back gives the spans as they were
 set-back : (spans : List (ℕ × ℕ)) (b : ℕ) (half span : ℕ × ℕ) → span ≡ get_or spans b (0, 0) → set (set spans b half) b span ≡ spans
 set-back spans b half span e = set-set spans b half span ∙ ap (set spans b) e ∙ set-get_or spans b (0, 0)
 
+-- the same steps, tokens and spans are the same subproblem
 same-parts : (s s2 : List Step) (t t2 : List Token) (p p2 : List (ℕ × ℕ)) → s ≡ s2 → t ≡ t2 → p ≡ p2 → ◌≡◌ {A = Parts} (record { steps = s; tokens = t; spans = p }) (record { steps = s2; tokens = t2; spans = p2 })
 same-parts s s2 t t2 p p2 e k l = cc
 

@@ -29,10 +29,12 @@ pub record IsBegun (blocks : ℕ) (tokens : List Token) : Type 0 where
   pub once : (b : ℕ) → count_by (is_block b) tokens ≤ 1
   pub below : AllByRecursion (λ t. IsFalse (is_outside blocks t)) tokens
 
+-- what is found not to hold is false
 not-true : (b : Bool) → not b ≡ true → b ≡ false
 not-true true h = absurd (true≢false (sym h))
 not-true false h = refl
 
+-- an operator that may come keeps this
 join-begun : (blocks : ℕ) (tokens : List Token) (t : Token) → is_operand t ≡ false → ((h g : ℕ) → 2 ≤ h → g + 1 ≡ h → Reads h (t ∷ []) g) → ((b : ℕ) → is_block b t ≡ false) → is_outside blocks t ≡ false → may_join t tokens ≡ true → IsBegun blocks tokens → IsBegun blocks (tokens ++ t ∷ [])
 join-begun blocks tokens t o reads no_block inside can i =
     let may = and_parts (nat_le (operators tokens + 2) (operands tokens)) (not (ends_in t tokens)) can in
@@ -47,11 +49,13 @@ join-begun blocks tokens t o reads no_block inside can i =
       below = each-append (λ v. IsFalse (is_outside blocks v)) tokens (t ∷ []) i.below (inside, tt);
     }
 
+-- a block is no operator again
 block_after : (p : Token) (b : ℕ) → same_operator p (token.Block b) ≡ false
 block_after token.Beside b = refl
 block_after token.Above b = refl
 block_after (token.Block c) b = refl
 
+-- a block that isn't there yet keeps this
 block-begun : (blocks : ℕ) (tokens : List Token) (b : ℕ) → b < blocks → is_unused b tokens ≡ true → IsBegun blocks tokens → IsBegun blocks (tokens ++ token.Block b ∷ [])
 block-begun blocks tokens b inside free i = record {
   count = i.count + 1;
@@ -67,6 +71,7 @@ block-begun blocks tokens b inside free i = record {
   below = each-append (λ v. IsFalse (is_outside blocks v)) tokens (token.Block b ∷ []) i.below (not_from_true (nat_lt b blocks) (lt-ltb b blocks inside), tt);
 }
 
+-- each step keeps this, and the number of spans
 step-begun : (blocks : ℕ) (node : Parts) (s : Step) → length node.spans ≡ blocks → CanStep node s → IsBegun blocks node.tokens → IsBegun blocks (after node s).tokens × (length (after node s).spans ≡ blocks)
 step-begun blocks node Beside n can i = (join-begun blocks node.tokens token.Beside refl (λ h g k e. (k, omega (arith, k, e))) (λ b. refl) refl can i, n)
 step-begun blocks node Above n can i = (join-begun blocks node.tokens token.Above refl (λ h g k e. (k, omega (arith, k, e))) (λ b. refl) refl can i, n)
@@ -74,6 +79,7 @@ step-begun blocks node (Block b) n can i = (block-begun blocks node.tokens b (om
 step-begun blocks node (Left b) n can i = (i, length-set node.spans b _ ∙ n)
 step-begun blocks node (Right b) n can i = (i, length-set node.spans b _ ∙ n)
 
+-- all steps keep this
 walk-begun : (blocks : ℕ) (ss : List Step) (node : Parts) → length node.spans ≡ blocks → CanWalk node ss → IsBegun blocks node.tokens → IsBegun blocks (walk node ss).tokens
 walk-begun blocks [] node n can i = i
 walk-begun blocks (s ∷ ss) node n can i =

@@ -18,6 +18,7 @@ may_join t tokens = nat_le (operators tokens + 2) (operands tokens) && not (ends
 abbrev pub is_unused : ℕ → List Token → Bool
 is_unused b tokens = count_by (is_block b) tokens == 0
 
+-- the token, where it may come
 abbrev pub when : Bool → Token → List Token
 when true t = t ∷ []
 when false t = []
@@ -29,6 +30,7 @@ next_tokens node =
     ++ when (may_join token.Above node.tokens) token.Above
     ++ map (λ b. token.Block b) (filter (λ b. is_unused b node.tokens) (range_with_len 0 (length node.spans)))
 
+-- the step by which a token comes
 abbrev pub step_of : Token → Step
 step_of token.Beside = Beside
 step_of token.Above = Above
@@ -38,9 +40,11 @@ step_of (token.Block b) = Block b
 abbrev pub middle : ℕ × ℕ → ℕ
 middle span = (span.0 + span.1) / 2
 
+-- the subproblem with one more step and one more token
 abbrev pub with_token : Parts → Step → Token → Parts
 with_token node step t = record node { steps = node.steps ++ step ∷ []; tokens = node.tokens ++ t ∷ [] }
 
+-- the subproblem with one more step and another span of a block
 abbrev pub with_span : Parts → Step → ℕ → ℕ × ℕ → Parts
 with_span node step b span = record node { steps = node.steps ++ step ∷ []; spans = slice_set node.spans b span }
 
@@ -81,6 +85,7 @@ abbrev pub walk : Parts → List Step → Parts
 walk node [] = node
 walk node (s ∷ ss) = walk (after node s) ss
 
+-- each of these steps leads to a child of where those before it led
 abbrev pub CanWalk : Parts → List Step → Type 0
 CanWalk node [] = ⊤
 CanWalk node (s ∷ ss) = CanStep node s × CanWalk (after node s) ss

@@ -9,6 +9,7 @@ use Rattle.sf_node.specs.Parts.{Parts}
 use Rattle.sf_node.specs.Subproblem.{root, span_of}
 use Rattle.sf_node.specs.Children.{may_join, is_unused, after, CanStep, IsSubproblem}
 
+-- the step, where it may be taken
 abbrev pub when_step : Bool → Step → List Step
 when_step true s = s ∷ []
 when_step false s = []

@@ -97,7 +97,8 @@ impl Node {
     ghost use Rattle.sf_node.specs.Parts.{Parts};
     ghost use Rattle.sf_node.specs.Later.{halved, HalvesOne};
     ghost use Rattle.sf_node.specs.Subproblem.{root, span_of, is_complete, is_solved};
-    ghost use Rattle.sf_node.specs.Children.{split, extended, after, step_of, when, may_join, can_split, CanSplit, CanStep, with_token, with_span, IsSubproblem};
+    ghost use Rattle.sf_node.specs.Children.{split, extended, after, step_of, when, may_join, can_split};
+    ghost use Rattle.sf_node.specs.Children.{CanSplit, CanStep, with_token, with_span, IsSubproblem};
 
     /// The subproblem of all plans.
     pub fn root(alloc: Global, design: &Design) -> Result<Node, NoMemory>
@@ -239,13 +240,13 @@ impl Node {
         requires { IsSubproblem design.now self.now }
         ensures { IfOk result (λ children. children.items ≡ extended self.now) }
     {
-        let blocks = design.blocks.as_slice().len();
-        let most = blocks.saturating_sub(self.tokens.len() / 2) + 2;
+        let blocks = design.block_count();
+        let most = usize::from(blocks).saturating_sub(self.tokens.len() / 2) + 2;
         let mut children = Vec::with_capacity(self.allocator(), most)?;
         self.push_join(&mut children, Step::Beside, Token::Beside)?;
         self.push_join(&mut children, Step::Above, Token::Above)?;
-        let used = used_blocks(self.allocator(), blocks, &self.tokens)?;
-        for block in 0..blocks as u16 {
+        let used = used_blocks(self.allocator(), usize::from(blocks), &self.tokens)?;
+        for block in 0..blocks {
             if !used[block as usize] {
                 children.push(self.with_token(Step::Block(block), Token::Block(block))?)?;
             }

@@ -15,6 +15,7 @@ use sf_polish::Token;
 use std::alloc::{AllocError, Global};
 use std::test::Fail;
 
+/// A block of one shape.
 fn block(alloc: Global, shape: Shape) -> Result<Block, AllocError>
     ensures { IfOk result (λ b. b.shapes ≡ shape ∷ []) }
 {
@@ -120,6 +121,7 @@ fn belongs_at(alloc: Global, places: &[usize]) -> Result<(Node, bool), AllocErro
     Ok((node, answer))
 }
 
+/// A plan belongs to each subproblem on the way to it, and to none that turns off.
 #[test]
 fn belongs_along_its_path(rt: HostRuntime) -> Result<(), Fail> {
     let path = [Token::Block(0), Token::Block(1), Token::Beside];
@@ -153,6 +155,7 @@ fn three_belong_at(
     Ok((node, answer))
 }
 
+/// Three blocks in a row, one beside another or one above another, belong where their tokens lead.
 #[test]
 fn three_belong_each_way(rt: HostRuntime) -> Result<(), Fail> {
     let (a, b, c) = (Token::Block(0), Token::Block(1), Token::Block(2));
@@ -178,6 +181,7 @@ fn three_belong_each_way(rt: HostRuntime) -> Result<(), Fail> {
     Ok(())
 }
 
+/// A copy has the same steps, tokens and spans.
 #[test]
 fn copies_all(rt: HostRuntime) -> Result<(), Fail> {
     let alloc = rt.alloc();

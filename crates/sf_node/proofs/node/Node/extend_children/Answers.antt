@@ -21,7 +21,9 @@ pub loop-block-preserved : goal.loop-block-preserved
 loop-block-preserved c =
     let same : c.deref.result.now ≡ c.args.self.now.tokens = c.deref.ensures.value ∙ ap (λ n. n.tokens) c.self.view_is in
     let is : c.index.result.now ≡ slice_index_or c.in_ok-used.used.items c.loop-block.block c.index.result.now = c.index.ensures in
-    let flag = flag-of c.in_ok-used.used.items c.loop-block.block (length c.as_slice-blocks.result.now) c.index.result.now (is_unused c.loop-block.block c.deref.result.now) c.loop-block-test.true c.in_ok-used.ensures.each is (c.in_ok-used.ensures.used c.loop-block.block c.loop-block-test.true) in
+    let count = c.from-2.ensures in
+    let low : c.loop-block.block < c.from-2.result = omega (arith, count, c.loop-block-test.true) in
+    let flag = flag-of c.in_ok-used.used.items c.loop-block.block c.from-2.result c.index.result.now (is_unused c.loop-block.block c.deref.result.now) low c.in_ok-used.ensures.each is (c.in_ok-used.ensures.used c.loop-block.block low) in
     let unused : is_unused c.loop-block.block c.args.self.now.tokens ≡ not c.index.result.now = sym (ap (is_unused c.loop-block.block) same) ∙ flag in
     elim c.if-not-index.branch [
       | then-not-index+in_ok-with_token+in_ok-push w ↦ grown-yes c.args.self.now c.loop-block.children.items c.if-not-index.children.items w.in_ok-with_token.field-0 c.loop-block.block
@@ -33,4 +35,4 @@ loop-block-preserved c =
 pub returns : goal.returns
 returns c =
     grown-all c.args.self.now c.loop-block.children.items c.loop-block.block
-    (omega (arith, c.loop-block.auto.block-end, c.loop-block-test.false, ap length c.as_slice-blocks.ensures, subproblem-spans c.args.design.now c.args.self.now c.requires)) c.loop-block.invariant
+    (omega (arith, c.loop-block.auto.block-end, c.loop-block-test.false, c.block_count-blocks.ensures, subproblem-spans c.args.design.now c.args.self.now c.requires)) c.loop-block.invariant
