@@ -1,4 +1,4 @@
--- Each event keeps a core state.
+-- The changes that events make keep a core state: a task changes its place, becomes its children or an entry, or lowers the word.
 use Rattle.std.proofs.Common.{◌≡◌, ℕ, suc, ◌<◌, ◌≤◌, min, List, [], ◌∷◌, ◌++◌, map, reverse, length, get_or, All, append_assoc, append-nil, arith, refl, ap, sym, subst, ◌∙◌, Option, Some, None, ◌⊎◌, inl, inr, IsPermutation}
 use Prim.Native.Nat.{zero}
 use Rattle.std.specs.Prelude.{Any, IsTrue, remove, slice_get, slice_set}
@@ -20,9 +20,11 @@ use Rattle.sf_search_core.specs.State.{State}
 use Rattle.sf_search_core.specs.Conserved.{IsConserved, IsDecided, branched, children}
 use Rattle.sf_search_core.specs.Core.{IsCoreState}
 
+-- the tasks that are held
 abbrev tasks_in : List (Option Task) → List Task
 tasks_in held = filter_map (λ h. h) held
 
+-- a task put into an empty place comes to those held
 in_place : (held : List (Option Task)) (w : ℕ) (t : Task) → slice_get held w ≡ Some None → IsPermutation (t ∷ tasks_in held) (tasks_in (slice_set held w (Some t)))
 in_place [] w t e = absurd (cc)
 in_place (None ∷ held) zero t e = IsPermutation-refl (t ∷ tasks_in held)
@@ -33,6 +35,7 @@ in_place (Some y ∷ held) (suc w) t e =
     (IsPermutation-middle (t ∷ []) y (tasks_in held))
     (IsPermutation-cons y (t ∷ tasks_in held) (tasks_in (slice_set held w (Some t))) (in_place held w t e))
 
+-- a task taken from its place leaves the others held
 out_of_place : (held : List (Option Task)) (w : ℕ) (t : Task) → slice_get held w ≡ Some (Some t) → IsPermutation (tasks_in held) (t ∷ tasks_in (slice_set held w None))
 out_of_place [] w t e = absurd (cc)
 out_of_place (None ∷ held) zero t e = absurd (cc)
@@ -43,16 +46,19 @@ out_of_place (Some y ∷ held) (suc w) t e =
     (IsPermutation-cons y (tasks_in held) (t ∷ tasks_in (slice_set held w None)) (out_of_place held w t e))
     (IsPermutation-middle (y ∷ []) t (tasks_in (slice_set held w None)))
 
+-- what is read at a place within the list stands there
 found_at : {X : Type 0} (xs : List X) (i : ℕ) (x : X) → slice_get xs i ≡ Some x → (i < length xs) × (x ≡ get_or xs i x)
 found_at [] i x e = absurd (cc)
 found_at (y ∷ xs) zero x e = (omega arith, cc)
 found_at (y ∷ xs) (suc i) x e = let r = found_at xs i x e in (omega (arith, r.0), r.1)
 
+-- some element that has P is there in any order
 pub Any-permutation : {X : Type 0} (P : X → Type 0) (xs ys : List X) → IsPermutation xs ys → Any P xs → Any P ys
 Any-permutation P xs ys p a =
     let c = Contains-permutation xs ys a.1 p (a.0, a.2, a.3) in
     (c.0, a.1, c.1, c.2, a.4)
 
+-- the subproblems of tasks
 abbrev nodes : List Task → List Parts
 nodes ts = map (λ task. task.node) ts
 
@@ -61,6 +67,7 @@ record IsKept (design : Design) (bound : Parts → ℕ) (entries : List Entry) (
   conserved : IsConserved bound (root design ∷ []) entries (nodes ts)
   valued : All (λ task. IsSubproblem design task.node × (task.bound ≡ bound task.node)) ts
 
+-- another order of the undecided tasks matters nothing
 moved : (design : Design) (bound : Parts → ℕ) (entries : List Entry) (ts us : List Task) → IsPermutation ts us → IsKept design bound entries ts → IsKept design bound entries us
 moved design bound entries ts us p k = record {
   conserved = record {
@@ -71,6 +78,7 @@ moved design bound entries ts us p k = record {
   valued = All-permutation (λ task. IsSubproblem design task.node × (task.bound ≡ bound task.node)) ts us p k.valued;
 }
 
+-- a task that is taken goes from the open ones to those held
 taken : (waiting : List Task) (held : List (Option Task)) (w i : ℕ) (t : Task) → slice_get waiting i ≡ Some t → slice_get held w ≡ Some None → IsPermutation (waiting ++ tasks_in held) (remove waiting i ++ tasks_in (slice_set held w (Some t)))
 taken waiting held w i t e f =
     let at = found_at waiting i t e in
@@ -157,6 +165,7 @@ decide-kept design bound state w t k value ks f fresh decided same good core =
           (All-append V (state.waiting ++ rest) ks (All-tail V t (state.waiting ++ rest) front.valued) good);
     }
 
+-- a held task that has P is among the decided and held ones
 held-any : (P : Parts → Type 0) (es : List Parts) (held : List (Option Task)) (w : ℕ) (t : Task) → slice_get held w ≡ Some (Some t) → P t.node → Any P (es ++ nodes (tasks_in held))
 held-any P es held w t f p =
     let rest = tasks_in (slice_set held w None) in

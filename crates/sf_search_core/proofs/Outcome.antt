@@ -39,23 +39,28 @@ use Rattle.sf_search_core.specs.Outcome.{opening, next_of, after_event, after_ev
 use Rattle.sf_search_core.proofs.Kept.{Any-permutation}
 use Rattle.sf_search_core.proofs.Applied.{applied-kept}
 
+-- an element at a place that has P is some element, by recursion
 some-from_any : {X : Type 0} (P : X → Type 0) (xs : List X) (i : ℕ) (x : X) → i < length xs → x ≡ get_or xs i x → P x → Some P xs
 some-from_any P [] i x h e p = absurd (omega arith)
 some-from_any P (y ∷ xs) zero x h e p = inl (subst P e p)
 some-from_any P (y ∷ xs) (suc i) x h e p = inr (some-from_any P xs i x (omega arith) e p)
 
+-- some element that has P is there in any order, by recursion
 Some-permutation : {X : Type 0} (P : X → Type 0) (xs ys : List X) → IsPermutation xs ys → Some P xs → Some P ys
 Some-permutation P xs ys p s =
     let a = Any-permutation P xs ys p (Any-from_recursion P xs s) in
     some-from_any P ys a.0 a.1 a.2 (sym a.3) a.4
 
+-- n is one of these subproblems
 abbrev In : Parts → List Parts → Type 0
 In n ns = Some (λ m. m ≡ n) ns
 
+-- some element of two lists together is one of the first or of the second
 Some-split : {X : Type 0} (P : X → Type 0) (xs ys : List X) → Some P (xs ++ ys) → Some P xs ⊎ Some P ys
 Some-split P [] ys s = inr s
 Some-split P (x ∷ xs) ys s = elim s [ inl h ↦ inl (inl h) | inr h ↦ elim (Some-split P xs ys h) [ inl k ↦ inl (inr k) | inr k ↦ inr k ] ]
 
+-- what holds of each holds of one that is there
 each-at : {X : Type 0} (P : X → Type 0) (n : X) (ns : List X) → AllByRecursion P ns → Some (λ m. m ≡ n) ns → P n
 each-at P n [] a s = absurd s
 each-at P n (m ∷ ns) a s = elim s [ inl e ↦ subst P e a.0 | inr h ↦ each-at P n ns a.1 h ]
@@ -65,13 +70,16 @@ some-in : (P : Parts → Type 0) (ns : List Parts) → Some P ns → (n : Parts)
 some-in P [] s = absurd s
 some-in P (m ∷ ns) s = elim s [ inl p ↦ (m, (p, inl refl)) | inr h ↦ (let r = some-in P ns h in (r.0, (r.1.0, inr r.1.1))) ]
 
+-- how many steps lead to a subproblem
 abbrev size : Parts → ℕ
 size node = length node.steps
 
+-- one more step makes the path longer by one
 pushed : (ss : List Step) (s : Step) → length (ss ++ s ∷ []) ≡ length ss + 1
 pushed [] s = refl
 pushed (x ∷ ss) s = omega (arith, pushed ss s)
 
+-- a child is one step further
 size-after : (node : Parts) (s : Step) → size (after node s) ≡ size node + 1
 size-after node Beside = pushed node.steps Beside
 size-after node Above = pushed node.steps Above
@@ -79,6 +87,7 @@ size-after node (Block b) = pushed node.steps (Block b)
 size-after node (Left b) = pushed node.steps (Left b)
 size-after node (Right b) = pushed node.steps (Right b)
 
+-- the children by tokens are one step further
 each-size : (node : Parts) (ts : List Token) → AllByRecursion (λ m. size m ≡ size node + 1) (map (λ t. after node (step_of t)) ts)
 each-size node [] = tt
 each-size node (t ∷ ts) = (size-after node (step_of t), each-size node ts)
@@ -89,11 +98,13 @@ branched-size kind.Extended node = each-size node (next_tokens node)
 branched-size (kind.Split b) node = (size-after node (Left b), (size-after node (Right b), tt))
 branched-size kind.Closed node = tt
 
+-- the children of a decided subproblem of the design are such
 branched-subproblems : (design : Design) (k : Kind) (node : Parts) (b v : ℕ) → IsDecided k node b v → IsSubproblem design node → AllByRecursion (IsSubproblem design) (branched k node)
 branched-subproblems design kind.Extended node b v d sub = extended-subproblems design node sub
 branched-subproblems design (kind.Split i) node b v d sub = split-subproblems design node i sub d.1
 branched-subproblems design kind.Closed node b v d sub = tt
 
+-- the subproblems of entries
 abbrev nodes_of : List Entry → List Parts
 nodes_of es = map (λ entry. entry.node) es
 
@@ -124,11 +135,13 @@ abbrev most_steps : List Entry → ℕ
 most_steps [] = 0
 most_steps (e ∷ es) = max (size e.node) (most_steps es)
 
+-- the least of a number and others is no greater than it
 least-first : (n : ℕ) (xs : List ℕ) → least n xs ≤ n
 least-first n [] = omega arith
 least-first n (x ∷ xs) = omega (arith, least-first n xs)
 
 module _ (design : Design) (bound : Parts → ℕ) (word : ℕ) (n : Parts) where
+  -- a subproblem of the entries has an entry
   entry_of : (es : List Entry) → AllByRecursion (λ entry. IsDecided entry.kind entry.node (bound entry.node) entry.value) es → AllByRecursion (λ entry. word ≤ entry.value) es → In n (nodes_of es) → IsEntryOf design bound word n (flat_map children es) (most_steps es)
   entry_of [] decided fresh i = absurd i
   entry_of (e ∷ es) decided fresh i =
@@ -160,6 +173,7 @@ module _ (design : Design) (bound : Parts → ℕ) (word : ℕ) (n : Parts) wher
         | inr later ↦ omega (arith, floor-task ts valued.1 later)
       ]
 
+  -- a subproblem of the tasks is one of the design
   task-subproblem : (ts : List Task) → AllByRecursion (λ task. IsSubproblem design task.node × (task.bound ≡ bound task.node)) ts → In n (map (λ task. task.node) ts) → IsSubproblem design n
   task-subproblem [] valued i = absurd i
   task-subproblem (t ∷ ts) valued i =
@@ -169,15 +183,19 @@ module _ (design : Design) (bound : Parts → ℕ) (word : ℕ) (n : Parts) wher
       ]
 
 module _ (design : Design) (bound : Parts → ℕ) (state : State) (core : IsCoreState design bound state) where
+  -- all subproblems, decided or not
   abbrev all : List Parts
   all = nodes_of state.entries ++ undecided state
 
+  -- all subproblems that were given or made
   abbrev given : List Parts
   given = root design ∷ flat_map children state.entries
 
+  -- each entry agrees with its bound and value
   decided-each : AllByRecursion (λ entry. IsDecided entry.kind entry.node (bound entry.node) entry.value) state.entries
   decided-each = recursion_from_All _ state.entries core.conserved.decided
 
+  -- each task has the bound of its subproblem
   valued-each : AllByRecursion (λ task. IsSubproblem design task.node × (task.bound ≡ bound task.node)) (state.waiting ++ held_tasks state)
   valued-each = recursion_from_All _ (state.waiting ++ held_tasks state) core.valued
 
@@ -190,16 +208,19 @@ module _ (design : Design) (bound : Parts → ℕ) (state : State) (core : IsCor
         | inr later ↦ from_children design bound all n d h (subproblem-in d) state.entries decided-each (λ m j. Some-left (λ k. k ≡ m) (nodes_of state.entries) (undecided state) j) later
       ]
 
+  -- each subproblem of a core state is one of the design
   pub node-subproblem : (n : Parts) → In n all → IsSubproblem design n
   node-subproblem n i = subproblem-in (suc (size n)) n (omega arith) i
 
   module _ (sound : IsSound design bound) (tree : Tree) (fits : Fits design.outline tree) where
+    -- a plan of a decided subproblem belongs to a child, or its bound is no less than the value
     child-belongs : (way : Kind) (n : Parts) (value : ℕ) → IsDecided way n (bound n) value → IsSubproblem design n → Belongs design n tree → (value ≤ bound n) ⊎ Some (λ m. Belongs design m tree) (branched way n)
     child-belongs kind.Extended n value decided sub belongs = inr (extended-some design n tree (subproblem-spans design n sub) decided.1 belongs)
     child-belongs (kind.Split b) n value decided sub belongs = inr (split-some design n b tree (subproblem-spans design n sub) decided.1 belongs)
     child-belongs kind.Closed n value decided sub belongs = inl decided
 
     module _ (n : Parts) (i : In n all) (belongs : Belongs design n tree) (deeper : (m : Parts) → size n ≤ most_steps state.entries → size m ≡ size n + 1 → In m all → Belongs design m tree → floor_of state ≤ cost design tree) where
+      -- a plan of a subproblem costs no less than the floor, if those of its children do
       covered-here : floor_of state ≤ cost design tree
       covered-here =
           let sub = node-subproblem n i in
@@ -224,9 +245,11 @@ module _ (design : Design) (bound : Parts → ℕ) (state : State) (core : IsCor
     covered zero n h i belongs = covered-here n i belongs (λ m shallow e j b. absurd (omega (arith, shallow, h)))
     covered (suc fuel) n h i belongs = covered-here n i belongs (λ m shallow e j b. covered fuel m (omega (arith, e, h)) j b)
 
+  -- the root is one of the subproblems
   root-in : In (root design) all
   root-in = Some-permutation (λ k. k ≡ root design) given all core.conserved.same (inl refl)
 
+  -- no floorplan costs less than the floor of a core state
   pub core-floor : IsSound design bound → IsFloor design (floor_of state)
   core-floor sound tree legal fits =
       let same = skewed-same tree in
@@ -234,9 +257,11 @@ module _ (design : Design) (bound : Parts → ℕ) (state : State) (core : IsCor
       let belongs : Belongs design (root design) other = root-belongs design other (skewed-skewed tree) (same-legal design other tree same.order legal) in
       omega (arith, covered sound other (same-fits design other tree same fits) (suc (most_steps state.entries)) (root design) (omega arith) root-in belongs, same-cost design other tree same)
 
+  -- a least cost that is reached is that of a floorplan
   reached-cost : (node : Parts) (z : ℕ) → IsReached design node z → IsPlanCost design z
   reached-cost node z r = record { tree = r.tree; legal = r.belongs.legal; fits = r.fits; costs = r.costs }
 
+  -- the bound of a solved subproblem is the cost of a floorplan, or none
   solved-cost : (exact : IsExactAtEnd design bound) (n : Parts) → IsTrue (is_solved design n) → bound n ≡ state.word → In n all → (state.word ≡ MAX) ⊎ IsPlanCost design state.word
   solved-cost exact n solved e i =
       let least = exact n (node-subproblem n i) solved in
@@ -245,6 +270,7 @@ module _ (design : Design) (bound : Parts → ℕ) (state : State) (core : IsCor
         | inr some ↦ inr (subst (IsPlanCost design) e (reached-cost n (bound n) some))
       ]
 
+  -- the word of a core state is none or the cost of a floorplan
   pub core-found : IsExactAtEnd design bound → (state.word ≡ MAX) ⊎ IsPlanCost design state.word
   core-found exact =
       let P : Parts → Type 0 = λ node. IsTrue (is_solved design node) × (bound node ≡ state.word) in
@@ -261,19 +287,23 @@ module _ (design : Design) (bound : Parts → ℕ) (state : State) (core : IsCor
             ]))
       ]
 
+-- an event keeps a core state, accepted or refused
 next-kept : (design : Design) (bound : Parts → ℕ) (state : State) (event : Event) (r : Result State Refusal) → applied design state event ≡ r → IsCoreState design bound state → CanCome bound state event → IsCoreState design bound (next_of state r)
 next-kept design bound state event (Ok next) e core can = applied-kept design bound state next event core can e
 next-kept design bound state event (Err why) e core can = core
 
+-- all events keep a core state
 pub after_events-kept : (design : Design) (bound : Parts → ℕ) (state : State) (events : List Event) → IsCoreState design bound state → CanAllCome design bound state events → IsCoreState design bound (after_events design state events)
 after_events-kept design bound state [] core can = core
 after_events-kept design bound state (event ∷ events) core can =
     after_events-kept design bound (after_event design state event) events (next-kept design bound state event (applied design state event) refl core can.0) can.1
 
+-- idle workers hold no task
 none_held : (n : ℕ) → ◌≡◌ {A = List Task} (filter_map (λ h. h) (replicate n None)) []
 none_held zero = refl
 none_held (suc n) = none_held n
 
+-- the machine begins in a core state
 pub opening-core : (design : Design) (bound : Parts → ℕ) (workers : ℕ) → IsCoreState design bound (opening design bound workers)
 opening-core design bound workers =
     let V : Task → Type 0 = λ task. IsSubproblem design task.node × (task.bound ≡ bound task.node) in
@@ -288,14 +318,17 @@ opening-core design bound workers =
       valued = subst (λ ts. All V (task ∷ ts)) (sym (none_held workers)) (All-from_recursion V (task ∷ []) ((root-subproblem design, refl), tt));
     }
 
+-- whatever events came, the word is none or a plan's cost, and the floor is below all
 pub events-outcome : (design : Design) (bound : Parts → ℕ) (workers : ℕ) (events : List Event) → IsSound design bound → IsExactAtEnd design bound → CanAllCome design bound (opening design bound workers) events → IsOutcome design (after_events design (opening design bound workers) events)
 events-outcome design bound workers events sound exact can =
     let core = after_events-kept design bound (opening design bound workers) events (opening-core design bound workers) can in
     let state = after_events design (opening design bound workers) events in
     record { found = core-found design bound state core exact; floor = core-floor design bound state core sound }
 
+-- whatever events came, the state is a core state
 pub events-core : (design : Design) (bound : Parts → ℕ) (workers : ℕ) (events : List Event) → CanAllCome design bound (opening design bound workers) events → IsCoreState design bound (after_events design (opening design bound workers) events)
 events-core design bound workers events can = after_events-kept design bound (opening design bound workers) events (opening-core design bound workers) can
 
+-- a machine at its start is in a core state
 pub opened-core : (design : Design) (bound : Parts → ℕ) (workers : ℕ) (state : State) → state ≡ opening design bound workers → IsCoreState design bound state
 opened-core design bound workers state e = subst (IsCoreState design bound) (sym e) (opening-core design bound workers)

@@ -5,9 +5,11 @@ use Rattle.sf_node.specs.Parts.{Parts}
 use Rattle.sf_node.specs.declared.task.Task.{Task}
 use Rattle.sf_search_core.specs.Events.{tasks}
 
+-- the task of a subproblem and its bound
 abbrev pub task_of : Parts × ℕ → Task
 task_of p = record { node = p.0; bound = p.1 }
 
+-- pairs of subproblems and bounds are the tasks of both lists
 pub zip_tasks : (ns : List Parts) (cs : List ℕ) → map task_of (zip ns cs) ≡ tasks ns cs
 zip_tasks [] cs = refl
 zip_tasks (n ∷ ns) [] = refl

@@ -24,6 +24,7 @@ IsFound design bound state =
     (state.word ≡ MAX)
     ⊎ Any (λ node. IsTrue (is_solved design node) × (bound node ≡ state.word)) (map (λ entry. entry.node) state.entries ++ map (λ task. task.node) (held_tasks state))
 
+-- what holds after each event: nothing is lost or made twice, no entry was decided by a value below the word, the word was found, and all bounds are those of their subproblems
 pub record IsCoreState (design : Design) (bound : Parts → ℕ) (state : State) : Type 0 where
   pub conserved : IsConserved bound (root design ∷ []) state.entries (undecided state)
   pub not_stale : All (λ entry. state.word ≤ entry.value) state.entries

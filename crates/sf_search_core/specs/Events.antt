@@ -16,6 +16,7 @@ use Rattle.sf_search_core.specs.declared.refusal.Refusal.TheVariants.{NoPlace, N
 use Rattle.sf_search_core.specs.State.{State}
 use Rattle.sf_search_core.specs.Conserved.{branched}
 
+-- what stands at a worker's place, if there is such a place
 abbrev pub held_in : Option (Option Task) → Option Task
 held_in None = None
 held_in (Some held) = held
@@ -24,6 +25,7 @@ held_in (Some held) = held
 abbrev pub held_by : State → ℕ → Option Task
 held_by state worker = held_in (slice_get state.held worker)
 
+-- the kind of the entry that a way of branching makes
 abbrev pub kind_of : How → Kind
 kind_of how.Extend = kind.Extended
 kind_of (how.Split b) = kind.Split b
@@ -83,6 +85,7 @@ offer design state cost (Some task) =
     if is_solved design task.node && cost == task.bound then Ok (record state { word = min state.word cost })
     else Err (NotCost cost task.bound)
 
+-- what an event does to the state, or why it is refused
 abbrev pub applied : Design → State → Event → Result State Refusal
 applied design state (Take worker place) = take state worker place (slice_get state.waiting place) (held_by state worker)
 applied design state (Replace worker way value costs) = replace state worker way value costs (held_by state worker)
@@ -93,7 +96,7 @@ applied design state (Offer worker cost) = offer design state cost (held_by stat
 abbrev pub start : Design → ℕ → List (Option Task) → State
 start design bound idle = record { waiting = record { node = root design; bound = bound } ∷ []; held = idle; entries = []; word = MAX }
 
--- what a caller of an event keeps: the worker is one of the machine's, and where a Replace is not refused, its bounds are the values of the children
+-- where the worker holds a task, these are the values of its children
 abbrev pub AreBounds : (Parts → ℕ) → How → List ℕ → Option Task → Type 0
 AreBounds bound way costs None = ⊤
 AreBounds bound way costs (Some task) = costs ≡ map bound (branched (kind_of way) task.node)
@@ -103,6 +106,7 @@ abbrev pub AreChildren : How → List Task → Option Task → Type 0
 AreChildren way children None = ⊤
 AreChildren way children (Some task) = IsTrue (may_branch way task.node) → map (λ child. child.node) children ≡ branched (kind_of way) task.node
 
+-- what a caller of an event keeps: the worker is one of the machine's, and where a Replace is not refused, its bounds are the values of the children
 abbrev pub CanCome : (Parts → ℕ) → State → Event → Type 0
 CanCome bound state (Take worker place) = worker < length state.held
 CanCome bound state (Replace worker way value costs) = (worker < length state.held) × IfOk (replace state worker way value costs (held_by state worker)) (λ next. AreBounds bound way costs (held_by state worker))

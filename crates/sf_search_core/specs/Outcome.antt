@@ -22,9 +22,11 @@ abbrev pub next_of : State → Result State Refusal → State
 next_of state (Ok next) = next
 next_of state (Err why) = state
 
+-- the state after one event, refused or not
 abbrev pub after_event : Design → State → Event → State
 after_event design state event = next_of state (applied design state event)
 
+-- the state after all events in turn
 abbrev pub after_events : Design → State → List Event → State
 after_events design state [] = state
 after_events design state (event ∷ events) = after_events design (after_event design state event) events

@@ -1,6 +1,7 @@
 //! The machine: open and held tasks, entries, and the incumbent cost.
 
-ghost use Rattle.std.specs.Prelude.{◌≡◌, ◌++◌, ◌<◌, ◌≤◌, ◌+◌, ℕ, List, Err, length, reverse, map, MatchOption, MatchResult, IfOk, replicate, None, Some, true, vec_len};
+ghost use Rattle.std.specs.Prelude.{◌≡◌, ◌++◌, ◌<◌, ◌≤◌, ◌+◌, ℕ, List, Err, length, reverse, map};
+ghost use Rattle.std.specs.Prelude.{MatchOption, MatchResult, IfOk, replicate, None, Some, true, vec_len};
 ghost use Rattle.sf_node.specs.declared.task.Task.{Task};
 ghost use Rattle.std.specs.Vec.{vec_capacity};
 ghost use Rattle.sf_node.specs.Children.{IsSubproblem};
@@ -116,7 +117,8 @@ impl Pool {
     ghost use Rattle.std.specs.Prelude.{slice_get};
     ghost use Rattle.sf_node.specs.Subproblem.{root};
     ghost use Rattle.sf_search_core.specs.Core.{IsCoreState};
-    ghost use Rattle.sf_search_core.specs.Events.{applied, take, replace, close, offer, held_by, AreChildren, CanCome, IsBranching, Answers};
+    ghost use Rattle.sf_search_core.specs.Events.{applied, take, replace, close, offer, held_by, AreChildren};
+    ghost use Rattle.sf_search_core.specs.Events.{CanCome, IsBranching, Answers};
     ghost use Rattle.sf_search_core.specs.Outcome.{opening};
 
     /// The machine at its start: the root is open, and no worker holds a task.

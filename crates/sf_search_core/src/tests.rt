@@ -71,6 +71,7 @@ fn held_bounds(alloc: Global, design: &Design, pool: &Pool, how: How) -> Result<
     }
 }
 
+/// The event of a try.
 fn event_of(alloc: Global, design: &Design, pool: &Pool, tried: Try) -> Result<Event, AllocError>
     requires core { IsCoreState design.now (λ node. 7) pool.now }
     requires worker { 0 < length pool.now.held }
@@ -122,6 +123,7 @@ fn told(alloc: Global, pool: &Pool) -> Result<String, AllocError> {
     Ok(text)
 }
 
+/// An event that is refused leaves the pool as it was.
 #[test]
 fn refuses_and_stays(rt: HostRuntime) -> Result<(), Fail> {
     let alloc = rt.alloc();
