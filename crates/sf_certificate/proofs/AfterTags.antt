@@ -6,9 +6,11 @@ use Rattle.sf_certificate.specs.declared.tag.Tag.TheVariants.{Open}
 use Rattle.sf_certificate.specs.Marks.{made, marks, waiting_after}
 use Rattle.sf_certificate.specs.Valid.{left_open, least}
 
+-- an open tag for each of the subproblems
 abbrev pub opens : List Parts → List Tag
 opens nodes = map (λ node. Open) nodes
 
+-- no tag makes no mark
 marks-nil : (nodes : List Parts) → marks nodes [] ≡ []
 marks-nil [] = refl
 marks-nil (node ∷ nodes) = refl
@@ -44,6 +46,7 @@ pub open-all : (nodes : List Parts) → left_open nodes (opens nodes) ≡ nodes
 open-all [] = refl
 open-all (node ∷ nodes) = ap (λ ns. node ∷ ns) (open-all nodes)
 
+-- the least with a number more is the lesser of that number and the least
 pub least-min : (n x : ℕ) (xs : List ℕ) → least (min n x) xs ≡ min x (least n xs)
 least-min n x [] = omega arith
 least-min n x (y ∷ ys) = omega (arith, least-min n x ys)

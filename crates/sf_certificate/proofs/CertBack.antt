@@ -1,4 +1,4 @@
--- What was written is read as the certificate that it was written from.
+-- The text of a whole certificate is read as the certificate, by its lines one after another.
 use Rattle.std.proofs.Common.{◌≡◌, ℕ, ◌^◌, ◌<◌, List, [], ◌∷◌, ◌++◌, map, All, arith, refl, ap, sym, ◌∙◌, true, Option, Some, None, Ok, append-nil}
 use Rattle.std.specs.Prelude.{codes}
 use Rattle.std.specs.List.{AllByRecursion}
@@ -12,20 +12,24 @@ use Rattle.sf_polish.specs.Text.{IsWritable}
 use Rattle.sf_certificate.specs.declared.cert.Cert.{Cert}
 use Rattle.sf_certificate.specs.declared.version.Version.TheVariants.{Two}
 use Rattle.sf_certificate.specs.Places.{first_place}
-use Rattle.sf_certificate.specs.Text.{labelled, cost_text, plan_text, header_lines, tag_text, ended, cert_text, FitsTag}
+use Rattle.sf_certificate.specs.Text.{labelled, plan_text, header_lines, tag_text, ended, cert_text, FitsTag}
+use Rattle.sf_model.specs.CostText.{cost_text}
 use Rattle.sf_certificate.specs.Reading.{version_in, line_by, header_read, cert_read, said_by}
 use Rattle.sf_certificate.proofs.HeaderReads.{header-whole, cert-whole}
 use Rattle.sf_certificate.proofs.WrittenBack.{lines-ended, line-append, decimal-line, tags-lines, tags-back}
 use Rattle.sf_certificate.proofs.HeaderBack.{version-back, number-back, cost-back, plan-back, expr-line, cost-line}
 
+-- the text of a plan has no line feed
 plan-line : (blocks : ℕ) (plan : Option Expr) → blocks < 2 ^ 16 → ((expr : Expr) → plan ≡ Some expr → IsWritable blocks expr) → has_none is_line_feed (plan_text plan) ≡ true
 plan-line blocks None small wr = refl
 plan-line blocks (Some expr) small wr = expr-line blocks expr small (wr expr refl)
 
 module _ (cert : Cert) (cost : cert.cost < 2 ^ 64) (bound : cert.bound < 2 ^ 64) (fits : All FitsTag cert.tags) where
+  -- the number of blocks has 16 bits
   small : cert.blocks < 2 ^ 16
   small = omega (arith, cert.form.few_blocks)
 
+  -- no line of the header has a line feed
   header-line : AllByRecursion (λ l. has_none is_line_feed l ≡ true) (header_lines cert.blocks cert.plan cert.cost cert.bound)
   header-line = (
     refl,
@@ -44,6 +48,7 @@ module _ (cert : Cert) (cost : cert.cost < 2 ^ 64) (bound : cert.bound < 2 ^ 64)
     ),
   )
 
+  -- the lines of the text are those of the header and of the tags
   all-lines : lines (cert_text cert) ≡ header_lines cert.blocks cert.plan cert.cost cert.bound ++ map tag_text cert.tags
   all-lines =
       let tls = map tag_text cert.tags in
@@ -51,11 +56,13 @@ module _ (cert : Cert) (cost : cert.cost < 2 ^ 64) (bound : cert.bound < 2 ^ 64)
       let one : lines (ended tls) ≡ tls = ap lines (sym (append-nil (ended tls))) ∙ lines-ended tls [] (tags-lines cert.tags (recursion_from_All FitsTag cert.tags fits)) ∙ append-nil tls in
       lines-ended hs (ended tls) header-line ∙ ap (λ (x : List (List ℕ)). hs ++ x) one
 
+  -- the first line says the second version
   title : version_in (codes "slicing-certificate") (codes "slicing-certificate" ++ 32 ∷ codes "2") ≡ Some Two
   title =
       ap (λ v. version_in (codes "slicing-certificate") (codes "slicing-certificate" ++ 32 ∷ v)) (sym (decimal_digit 2 (omega arith)))
       ∙ version-back (codes "slicing-certificate") refl (omega arith) refl
 
+  -- the text is read as the certificate
   pub cert-back : cert_read cert.blocks (cert_text cert) ≡ Ok (said_by cert)
   cert-back =
       let tls = map tag_text cert.tags in

@@ -7,9 +7,11 @@ use Rattle.sf_certificate.specs.declared.place.Place.{Place}
 use Rattle.sf_certificate.specs.declared.waiting.Frame.{Frame}
 use Rattle.sf_certificate.specs.Waiting.{places_of}
 
+-- the places of the last frame come first
 places-last : (front : List Frame) (f : Frame) → places_of (front ++ f ∷ []) ≡ replicate f.count f.place ++ places_of front
 places-last front f = ap (flat_map (λ (frame : Frame). replicate frame.count frame.place)) (reverse-append front (f ∷ []))
 
+-- the places of the last frame, and those of the others
 places-split : (xs : List Frame) (n : ℕ) (f d : Frame) → n ≡ length xs → 0 < n → f ≡ get_or xs (n - 1) d → places_of xs ≡ replicate f.count f.place ++ places_of (take (n - 1) xs)
 places-split xs n f d e some is =
     ap places_of (sym (take_all (n - 1 + 1) xs (omega arith)) ∙ take_more xs (n - 1) d (omega arith) ∙ ap (λ (g : Frame). take (n - 1) xs ++ g ∷ []) (sym is))

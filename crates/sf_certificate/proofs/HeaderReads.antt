@@ -54,10 +54,12 @@ pub cert-header : (blocks : ℕ) (text : List ℕ) (e : CertFault) → header_re
 unfolding cert_read
 cert-header blocks text e h = rw h refl
 
+-- a fault of the tree behind a header
 pub cert-tree : (blocks : ℕ) (text : List ℕ) (header : Header) (e : CertFault) → header_read blocks (last_line_of text) (numbered 1 (lines text)) ≡ Ok header → tree_read header.version blocks (last_line_of text) (words_of_lines header.others) ≡ Err e → cert_read blocks text ≡ Err e
 unfolding cert_read
 cert-tree blocks text header e a h = rw (a, h) refl
 
+-- a tree behind a header
 pub cert-whole : (blocks : ℕ) (text : List ℕ) (header : Header) (tags : List Tag) → header_read blocks (last_line_of text) (numbered 1 (lines text)) ≡ Ok header → tree_read header.version blocks (last_line_of text) (words_of_lines header.others) ≡ Ok tags → cert_read blocks text ≡ Ok (record { blocks = blocks; plan = header.plan; cost = header.cost; bound = header.bound; tags = tags })
 unfolding cert_read
 cert-whole blocks text header tags a h = rw (a, h) refl

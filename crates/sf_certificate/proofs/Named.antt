@@ -24,18 +24,21 @@ use Rattle.sf_certificate.specs.Valid.{AreTrees, left_open, decided}
 
 -- ---- what names change nothing of
 
+-- a tag without its part makes the same
 pub unnamed-made : (tag : Tag) (node : Parts) → made (unnamed tag) node ≡ made tag node
 unnamed-made Extend node = refl
 unnamed-made (Split b) node = refl
 unnamed-made (Closed p) node = refl
 unnamed-made Open node = refl
 
+-- and the same places
 unnamed-places : (n : ℕ) (tag : Tag) (place : Place) → places_under n (unnamed tag) place ≡ places_under n tag place
 unnamed-places n Extend place = refl
 unnamed-places n (Split b) place = refl
 unnamed-places n (Closed p) place = refl
 unnamed-places n Open place = refl
 
+-- tags without their parts leave the same open
 pub unnamed-open : (nodes : List Parts) (tags : List Tag) → left_open nodes (map unnamed tags) ≡ left_open nodes tags
 unnamed-open [] tags = refl
 unnamed-open (node ∷ nodes) [] = refl
@@ -44,12 +47,14 @@ unnamed-open (node ∷ nodes) (Split b ∷ tags) = unnamed-open (split node b ++
 unnamed-open (node ∷ nodes) (Closed p ∷ tags) = unnamed-open nodes tags
 unnamed-open (node ∷ nodes) (Open ∷ tags) = ap (λ ns. node ∷ ns) (unnamed-open nodes tags)
 
+-- and the same waiting
 pub unnamed-waiting : (nodes : List Parts) (tags : List Tag) → waiting_after nodes (map unnamed tags) ≡ waiting_after nodes tags
 unnamed-waiting [] [] = refl
 unnamed-waiting (node ∷ nodes) [] = refl
 unnamed-waiting [] (tag ∷ tags) = refl
 unnamed-waiting (node ∷ nodes) (tag ∷ tags) = ap (λ ns. waiting_after (ns ++ nodes) (map unnamed tags)) (unnamed-made tag node) ∙ unnamed-waiting (made tag node ++ nodes) tags
 
+-- the marks are the same but for the parts
 pub unnamed-marks : (nodes : List Parts) (tags : List Tag) → marks nodes (map unnamed tags) ≡ map unnamed_mark (marks nodes tags)
 unnamed-marks [] tags = refl
 unnamed-marks (node ∷ nodes) [] = refl
@@ -57,6 +62,7 @@ unnamed-marks (node ∷ nodes) (tag ∷ tags) =
     let first : Mark = record { node = node; tag = unnamed tag } in
     ap (λ ns. first ∷ marks (ns ++ nodes) (map unnamed tags)) (unnamed-made tag node) ∙ ap (λ (ms : List Mark). first ∷ ms) (unnamed-marks (made tag node ++ nodes) tags)
 
+-- as many are decided
 pub unnamed-decided : (tags : List Tag) → decided (map unnamed tags) ≡ decided tags
 unnamed-decided [] = refl
 unnamed-decided (Extend ∷ tags) = ap suc (unnamed-decided tags)
@@ -64,6 +70,7 @@ unnamed-decided (Split b ∷ tags) = ap suc (unnamed-decided tags)
 unnamed-decided (Closed p ∷ tags) = ap suc (unnamed-decided tags)
 unnamed-decided (Open ∷ tags) = unnamed-decided tags
 
+-- they spell the same trees
 unnamed-spell : (n : ℕ) (places : List Place) (tags : List Tag) → spell_trees n places (map unnamed tags) ≡ spell_trees n places tags
 unnamed-spell n [] [] = refl
 unnamed-spell n (place ∷ places) [] = refl
@@ -72,12 +79,14 @@ unnamed-spell n (place ∷ places) (tag ∷ tags) =
     ap (λ ps. nat_lt place.depth 3200 && spell_trees n (ps ++ places) (map unnamed tags)) (unnamed-places n tag place)
     ∙ ap (λ b. nat_lt place.depth 3200 && b) (unnamed-spell n (places_under n tag place ++ places) tags)
 
+-- they spell one tree just as before
 pub unnamed-tree : (n : ℕ) (tags : List Tag) → spell_tree n (map unnamed tags) ≡ spell_tree n tags
 unnamed-tree n tags = unnamed-spell n (first_place ∷ []) tags
 
 -- ---- full parts
 
 module _ (design : Design) (value : Parts → ℕ) (part : Parts → Part → ℕ) (cost : ℕ) (parts : ArePartsOf design value part) where
+  -- trees stay such where the full part is named everywhere
   full-trees : (tags : List Tag) (nodes : List Parts) → AllByRecursion (IsSubproblem design) nodes → AreTrees part cost nodes tags → AreTrees part cost nodes (map unnamed tags)
   full-trees [] [] subs trees = tt
   full-trees [] (node ∷ nodes) subs trees = trees
@@ -89,15 +98,18 @@ module _ (design : Design) (value : Parts → ℕ) (part : Parts → Part → �
   full-trees (Closed p ∷ tags) (node ∷ nodes) subs trees = (omega (arith, trees.0, parts.below node p subs.0, parts.full node), full-trees tags nodes subs.1 trees.1)
   full-trees (Open ∷ tags) (node ∷ nodes) subs trees = full-trees tags nodes subs.1 trees
 
+-- where any parts close the subproblems, the full one does
 pub full-close : (design : Design) (value : Parts → ℕ) (part : Parts → Part → ℕ) (cost : ℕ) (tags : List Tag)
     → ArePartsOf design value part → AreTrees part cost (root design ∷ []) tags → AreTrees part cost (root design ∷ []) (map unnamed tags)
 full-close design value part cost tags parts trees = full-trees design value part cost parts tags (root design ∷ []) (root-subproblem design, tt) trees
 
 -- ---- first parts
 
+-- a number that is found to be at least the cost is
 at-least : (cost n : ℕ) → nat_le cost n ≡ true → cost ≤ n
 at-least cost n e = grind (arith, nat_tests)
 
+-- a choice between parts of which each closes
 chosen : (f : Part → ℕ) (cost : ℕ) (p q : Part) (b : Bool) → nat_le cost (f p) ≡ b → cost ≤ f q → cost ≤ f (if b then p else q)
 chosen f cost p q true e h = at-least cost (f p) e
 chosen f cost p q false e h = h
@@ -108,9 +120,11 @@ first-closes f cost h =
     chosen f cost Area _ (nat_le cost (f Area)) refl (chosen f cost Range _ (nat_le cost (f Range)) refl (chosen f cost Pair _ (nat_le cost (f Pair)) refl (chosen f cost Hull Full (nat_le cost (f Hull)) refl h)))
 
 module _ (part : Parts → Part → ℕ) (cost : ℕ) where
+  -- the mark names the first part
   abbrev First : Mark → Type 0
   First mark = NamesFirst part cost mark.tag mark.node
 
+  -- trees whose marks name the first parts are such, where they are with the full one
   first-trees : (tags : List Tag) (nodes : List Parts) → AreTrees part cost nodes (map unnamed tags) → AllByRecursion First (marks nodes tags) → AreTrees part cost nodes tags
   first-trees [] [] trees named = tt
   first-trees [] (node ∷ nodes) trees named = trees
@@ -147,6 +161,7 @@ module _ (part : Parts → Part → ℕ) (cost : ℕ) where
   tree-rest (Closed p) tags node nodes trees = trees.1
   tree-rest Open tags node nodes trees = trees
 
+  -- tags that are alike but for names and name the first parts are the same
   one-naming : (first second : List Tag) (nodes : List Parts) → AreTrees part cost nodes (map unnamed first) → map unnamed first ≡ map unnamed second
       → AllByRecursion First (marks nodes first) → AllByRecursion First (marks nodes second) → first ≡ second
   one-naming [] [] nodes trees same f g = refl
@@ -160,11 +175,13 @@ module _ (part : Parts → Part → ℕ) (cost : ℕ) where
       let more = one-naming xs ys (made x node ++ nodes) (tree-rest x xs node nodes trees) rest f.1 (subst (λ (t : Tag). AllByRecursion First (marks (made t node ++ nodes) ys)) (sym tag) g.1) in
       ap (λ (t : Tag). t ∷ xs) tag ∙ ap (λ (ts : List Tag). y ∷ ts) more
 
+-- the first parts close all subproblems that the full one closes
 pub first-close : (design : Design) (part : Parts → Part → ℕ) (cost : ℕ) (tags : List Tag)
     → AreTrees part cost (root design ∷ []) (map unnamed tags) → AllNameFirst design part cost tags → AreTrees part cost (root design ∷ []) tags
 first-close design part cost tags trees named =
     first-trees part cost tags (root design ∷ []) trees (recursion_from_All (λ (mark : Mark). NamesFirst part cost mark.tag mark.node) (marks (root design ∷ []) tags) named)
 
+-- there is one naming by first parts
 pub first-one : (design : Design) (part : Parts → Part → ℕ) (cost : ℕ) (first second : List Tag)
     → AreTrees part cost (root design ∷ []) (map unnamed first) → map unnamed first ≡ map unnamed second
     → AllNameFirst design part cost first → AllNameFirst design part cost second → first ≡ second

@@ -6,6 +6,7 @@ use Rattle.sf_certificate.specs.declared.cert.Cert.{Cert}
 use Rattle.sf_certificate.specs.declared.tag.Tag.{Tag}
 use Rattle.sf_certificate.specs.Form.{IsFormed}
 
+-- what a certificate says, field by field
 record Said : Type 0 where
   blocks : ℕ
   plan : Option Expr
@@ -13,22 +14,28 @@ record Said : Type 0 where
   bound : ℕ
   tags : List Tag
 
+-- what is said has the form of a certificate
 abbrev Formed : Said → Type 0
 Formed s = IsFormed s.blocks s.plan s.cost s.tags
 
+-- the certificate of what is said
 abbrev cert-of : (s : Said) → Formed s → Cert
 cert-of s form = record { blocks = s.blocks; plan = s.plan; cost = s.cost; bound = s.bound; tags = s.tags; form = form }
 
+-- there is one proof of the form
 one-form : (s : Said) (f g : Formed s) → f ≡ g
 one-form s = let one : IsProp (Formed s) = hlevel props in one
 
+-- the same said gives the same certificate
 same-said : (s t : Said) → s ≡ t → (f : Formed s) (g : Formed t) → cert-of s f ≡ cert-of t g
 same-said s t e f = subst (λ v. (g : Formed v) → cert-of s f ≡ cert-of v g) e (λ g. ap (cert-of s) (one-form s f g))
 
+-- the same fields are the same said
 same-parts : (b c : ℕ) (p q : Option Expr) (y z : ℕ) (k l : ℕ) (ts us : List Tag) → b ≡ c → p ≡ q → y ≡ z → k ≡ l → ts ≡ us
     → ◌≡◌ {A = Said} (record { blocks = b; plan = p; cost = y; bound = k; tags = ts }) (record { blocks = c; plan = q; cost = z; bound = l; tags = us })
 same-parts b c p q y z k l ts us e1 e2 e3 e4 e5 = cc
 
+-- certificates with the same fields are the same
 pub same-cert : (c d : Cert) → c.blocks ≡ d.blocks → c.plan ≡ d.plan → c.cost ≡ d.cost → c.bound ≡ d.bound → c.tags ≡ d.tags → c ≡ d
 same-cert c d blocks plan cost bound tags =
     same-said

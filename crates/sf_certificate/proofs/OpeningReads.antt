@@ -24,6 +24,7 @@ record IsCut (text : List ℕ) : Type 0 where
   is : (rest : List ℕ) → lines (text ++ 10 ∷ rest) ≡ first ∷ (more ++ lines rest)
   count : length more ≡ count_by is_line_feed text
 
+-- one byte more in front
 cut-step : (b : ℕ) (text : List ℕ) (t : Bool) → is_line_feed b ≡ t → IsCut text → IsCut (b ∷ text)
 cut-step b text true e p = record {
   first = [];
@@ -38,6 +39,7 @@ cut-step b text false e p = record {
   count = p.count ∙ sym (sum_by-cons (λ (c : ℕ). cond (is_line_feed c) 1 0) b text ∙ rw e (omega arith));
 }
 
+-- each text is cut so
 cut : (text : List ℕ) → IsCut text
 cut [] = record { first = []; more = []; is = λ rest. refl; count = refl }
 cut (b ∷ text) = cut-step b text (is_line_feed b) refl (cut text)
@@ -65,25 +67,31 @@ line-step : {X : Type 0} (number : ℕ) (long short more : List Line) (value : O
 line-step number long short more None f g next = refl
 line-step number long short more (Some x) f g next = next x
 
--- what is read after each line
+-- what is read of a header from one line on
 module _ (blocks last : ℕ) where
+  -- from the line of the tree on
   abbrev on-tree : Version → ℕ → ℕ → Option Expr × List Line → Result Header CertFault
   on-tree version cost bound plan = do
     tree ← line_read last (word_in (codes "tree")) plan.1
     Ok (record { version = version; plan = plan.0; cost = cost; bound = bound; others = tree.1 })
 
+  -- from the line of the plan on
   abbrev on-plan : Version → ℕ → ℕ × List Line → Result Header CertFault
   on-plan version cost bound = line_read last (plan_in blocks cost) bound.1 >>= on-tree version cost bound.0
 
+  -- from the line of the bound on
   abbrev on-bound : Version → ℕ × List Line → Result Header CertFault
   on-bound version cost = line_read last (cost_in (codes "bound")) cost.1 >>= on-plan version cost.0
 
+  -- from the line of the cost on
   abbrev on-cost : Version → ℕ × List Line → Result Header CertFault
   on-cost version count = line_read last (cost_in (codes "cost")) count.1 >>= on-bound version
 
+  -- from the line of the blocks on
   abbrev on-count : Version × List Line → Result Header CertFault
   on-count title = line_read last (number_in (codes "blocks") blocks) title.1 >>= on-cost title.0
 
+-- six lines are read as a header, whatever stands behind them
 six-lines : (blocks last other : ℕ) (a b c d e f : Line) (more : List Line) → header_read blocks last (a ∷ b ∷ c ∷ d ∷ e ∷ f ∷ more) ≡ with_lines more (header_read blocks other (a ∷ b ∷ c ∷ d ∷ e ∷ f ∷ []))
 unfolding header_read
 six-lines blocks last other a b c d e f more =
@@ -95,6 +103,7 @@ six-lines blocks last other a b c d e f more =
     line-step {X = List ℕ} f.number more [] more (word_in (codes "tree") f.bytes)
     (λ (x : List ℕ × List Line). Ok (record { version = version; plan = plan; cost = cost; bound = bound; others = x.1 })) (λ (x : List ℕ × List Line). Ok (record { version = version; plan = plan; cost = cost; bound = bound; others = x.1 })) (λ tree. refl))))))
 
+-- the same of a list of six lines
 header-more : (blocks last other : ℕ) (all more : List Line) → length all ≡ 6 → header_read blocks last (all ++ more) ≡ with_lines more (header_read blocks other all)
 header-more blocks last other [] more h = absurd (omega (arith, h))
 header-more blocks last other (a ∷ []) more h = absurd (omega (arith, h))
@@ -107,37 +116,45 @@ header-more blocks last other (a ∷ b ∷ c ∷ d ∷ e ∷ f ∷ g ∷ others)
 
 -- ---- the whole text
 
+-- lines behind others go on in number
 numbered-append : (n : ℕ) (first second : List (List ℕ)) → numbered n (first ++ second) ≡ numbered n first ++ numbered (n + length first) second
 numbered-append n [] second = let same : n ≡ n + 0 = omega arith in ap (λ k. numbered k second) same
 numbered-append n (l ∷ first) second =
     let same : n + 1 + length first ≡ n + suc (length first) = omega arith in
     ap (λ ls. record { number = n; bytes = l } ∷ ls) (numbered-append (n + 1) first second ∙ ap (λ k. numbered (n + 1) first ++ numbered k second) same)
 
+-- as many lines are numbered as there are
 length-numbered : (n : ℕ) (all : List (List ℕ)) → length (numbered n all) ≡ length all
 length-numbered n [] = refl
 length-numbered n (l ∷ all) = ap suc (length-numbered (n + 1) all)
 
+-- a header and a tree are read as a certificate
 said-read : (blocks : ℕ) (text : List ℕ) (header : Header) (r : Result (List Tag) CertFault) → header_read blocks (last_line_of text) (numbered 1 (lines text)) ≡ Ok header → tree_read header.version blocks (last_line_of text) (words_of_lines header.others) ≡ r
     → cert_read blocks text ≡ said_with blocks (record { version = header.version; plan = header.plan; cost = header.cost; bound = header.bound }) r
 said-read blocks text header (Ok tags) h t = cert-whole blocks text header tags h t
 said-read blocks text header (Err e) h t = cert-tree blocks text header e h t
 
 module _ (blocks other : ℕ) (text : List ℕ) (whole : IsHeader text) (rest : List ℕ) where
+  -- the line behind the header is the seventh
   seven : 1 + length (lines text) ≡ 7
   seven = omega (arith, whole.six)
 
+  -- the lines of the text are those of the header and those behind
   both : numbered 1 (lines (text ++ rest)) ≡ numbered 1 (lines text) ++ numbered 7 (lines rest)
   both = ap (numbered 1) (whole.apart rest) ∙ numbered-append 1 (lines text) (lines rest) ∙ ap (λ k. numbered 1 (lines text) ++ numbered k (lines rest)) seven
 
+  -- the last line that holds a word, behind the header
   last-both : last_line_of (text ++ rest) ≡ last_word_line (last_line_of text) (words_of_lines (numbered 7 (lines rest)))
   last-both =
       ap (λ ls. last_word_line 0 (words_of_lines ls)) both
       ∙ ap (last_word_line 0) (flat_map-append words_of_line (numbered 1 (lines text)) (numbered 7 (lines rest)))
       ∙ last-append 0 (words_of_lines (numbered 1 (lines text))) (words_of_lines (numbered 7 (lines rest)))
 
+  -- the header is read as before, with the lines behind it
   header-both : header_read blocks (last_line_of (text ++ rest)) (numbered 1 (lines (text ++ rest))) ≡ with_lines (numbered 7 (lines rest)) (header_read blocks other (numbered 1 (lines text)))
   header-both = ap (header_read blocks (last_line_of (text ++ rest))) both ∙ header-more blocks (last_line_of (text ++ rest)) other (numbered 1 (lines text)) (numbered 7 (lines rest)) (length-numbered 1 (lines text) ∙ whole.six)
 
+  -- a text that begins with a header is read as the header and what the rest is read as
   pub opened : (header : Header) → header_read blocks other (numbered 1 (lines text)) ≡ Ok header
       → cert_read blocks (text ++ rest) ≡ said_with blocks (record { version = header.version; plan = header.plan; cost = header.cost; bound = header.bound }) (bytes_on blocks (first_byte header.version 7 (last_line_of text)) rest)
   opened header e =
@@ -145,5 +162,6 @@ module _ (blocks other : ℕ) (text : List ℕ) (whole : IsHeader text) (rest : 
       (header-both ∙ ap (with_lines (numbered 7 (lines rest))) e)
       (ap (λ l. tree_read header.version blocks l (words_of_lines (numbered 7 (lines rest)))) last-both)
 
+  -- a fault of the header is one of the text
   pub opened-fault : (e : CertFault) → header_read blocks other (numbered 1 (lines text)) ≡ Err e → cert_read blocks (text ++ rest) ≡ Err e
   opened-fault e h = cert-header blocks (text ++ rest) e (header-both ∙ ap (with_lines (numbered 7 (lines rest))) h)

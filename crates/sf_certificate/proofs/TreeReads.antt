@@ -13,12 +13,15 @@ use Rattle.sf_certificate.specs.declared.tag.Tag.{Tag}
 use Rattle.sf_certificate.specs.declared.version.Version.{Version}
 use Rattle.sf_certificate.specs.declared.letter.TagSaid.{TagSaid}
 use Rattle.sf_certificate.specs.Places.{places_under, spell_trees}
-use Rattle.sf_certificate.specs.Reading.{letter_of, by_letter, tag_by, tags_said, Reader, first_reader, read_on, with_tags, with_some, tree_read, with_tag, tag_at, tree_from}
+use Rattle.sf_certificate.specs.Reading.{letter_of, by_letter, tag_by, tags_said, tree_read, with_tag, tag_at, tree_from}
+use Rattle.sf_certificate.specs.Reader.{Reader, first_reader, read_on, with_tags, with_some}
 
+-- one tag more before what follows
 pub with_tags-more : (tags : List Tag) (tag : Tag) (r : Result (List Tag) CertFault) → with_tags tags (with_tag tag r) ≡ with_tags (tags ++ tag ∷ []) r
 with_tags-more tags tag (Ok more) = ap Ok (sym (append_assoc tags (tag ∷ []) more))
 with_tags-more tags tag (Err fault) = refl
 
+-- no tag before what follows
 pub with_tags-none : (r : Result (List Tag) CertFault) → with_tags [] r ≡ r
 with_tags-none (Ok more) = refl
 with_tags-none (Err fault) = refl
@@ -27,13 +30,16 @@ with_tags-none (Err fault) = refl
 abbrev pub IsReading : ℕ → ℕ → Result (List Tag) CertFault → List Tag → Reader → List LineWord → Type 0
 IsReading n last whole tags reader words = whole ≡ with_tags tags (read_on n last reader words)
 
+-- before the first word
 pub reading-start : (version : Version) (n last : ℕ) (tags : List Tag) (reader : Reader) (words : List LineWord) → tags ≡ [] → reader ≡ first_reader version → tree_read version n last words ≡ with_tags tags (read_on n last reader words)
 reading-start version n last tags reader words none same =
     sym (with_tags-none (tree_read version n last words)) ∙ ap (λ ts. with_tags ts (tree_read version n last words)) (sym none) ∙ ap (λ r. with_tags tags (read_on n last r words)) (sym same)
 
+-- a word that ends no tag adds none
 with-none : (tags : List Tag) (tag : Option Tag) (r : Result (List Tag) CertFault) → tag ≡ None → with_tags tags (with_some tag r) ≡ with_tags tags r
 with-none tags tag r e = ap (λ o. with_tags tags (with_some o r)) e
 
+-- a word that ends a tag adds it
 with-one : (tags : List Tag) (said : Option Tag) (tag : Tag) (r : Result (List Tag) CertFault) → said ≡ Some tag → with_tags tags (with_some said r) ≡ with_tags (tags ++ tag ∷ []) r
 with-one tags said tag r e = ap (λ o. with_tags tags (with_some o r)) e ∙ with_tags-more tags tag r
 
@@ -55,37 +61,45 @@ reading-fault n last whole tags old words others w fault e is step = e ∙ ap (�
 pub reading-done : (n last : ℕ) (whole : Result (List Tag) CertFault) (tags : List Tag) (reader : Reader) (words : List LineWord) → IsReading n last whole tags reader words → words ≡ [] → read_on n last reader [] ≡ Ok [] → whole ≡ Ok tags
 reading-done n last whole tags reader words e none end = e ∙ ap (λ ws. with_tags tags (read_on n last reader ws)) none ∙ ap (with_tags tags) end ∙ ap Ok (append-nil tags)
 
+-- no further word, where the tree is not whole
 pub reading-cut : (n last : ℕ) (whole : Result (List Tag) CertFault) (tags : List Tag) (reader : Reader) (words : List LineWord) (fault : CertFault) → IsReading n last whole tags reader words → words ≡ [] → read_on n last reader [] ≡ Err fault → whole ≡ Err fault
 reading-cut n last whole tags reader words fault e none end = e ∙ ap (λ ws. with_tags tags (read_on n last reader ws)) none ∙ ap (with_tags tags) end
 
 -- ---- one word
 
+-- a place that is too deep is found so
 deep-true : (d : ℕ) → 3200 ≤ d → nat_lt d 3200 ≡ false
 deep-true d h = grind (arith, nat_tests)
 
+-- a place that is not too deep is found so
 shallow-true : (d : ℕ) → d < 3200 → nat_lt d 3200 ≡ true
 shallow-true d h = grind (arith, nat_tests)
 
 -- a tag at the first place, or its fault
 module _ (n : ℕ) (places : List Place) (line : ℕ) (said : Result Tag CertFault) where
+  -- a tag where no place waits is trailing
   pub put-trailing : places ≡ [] → (last : ℕ) (others : List TagSaid) → tree_from n last places (record { line = line; tag = said } ∷ others) ≡ Err (Trailing line)
   unfolding tree_from
   put-trailing none last others = ap (λ ps. tree_from n last ps (record { line = line; tag = said } ∷ others)) none
 
   module _ (place : Place) (more : List Place) (is : places ≡ place ∷ more) where
+    -- a tag comes to the first place that waits
     put-at : (last : ℕ) (others : List TagSaid) → tree_from n last places (record { line = line; tag = said } ∷ others) ≡ tag_at place line said (λ tag. with_tag tag (tree_from n last (places_under n tag place ++ more) others))
     unfolding tree_from
     put-at last others = ap (λ ps. tree_from n last ps (record { line = line; tag = said } ∷ others)) is
 
+    -- a tag at fault
     pub put-fault : (fault : CertFault) → said ≡ Err fault → (last : ℕ) (others : List TagSaid) → tree_from n last places (record { line = line; tag = said } ∷ others) ≡ Err fault
     put-fault fault e last others = put-at last others ∙ ap (λ r. tag_at place line r (λ tag. with_tag tag (tree_from n last (places_under n tag place ++ more) others))) e
 
+    -- a tag too deep
     pub put-deep : (tag : Tag) → said ≡ Ok tag → 3200 ≤ place.depth → (last : ℕ) (others : List TagSaid) → tree_from n last places (record { line = line; tag = said } ∷ others) ≡ Err (TooDeep line)
     put-deep tag e deep last others =
         let next = with_tag tag (tree_from n last (places_under n tag place ++ more) others) in
         put-at last others ∙ ap (λ r. tag_at place line r (λ tag. with_tag tag (tree_from n last (places_under n tag place ++ more) others))) e
         ∙ ap (λ b. cond b next (Err (TooDeep line))) (deep-true place.depth deep)
 
+    -- a tag at its place
     pub put-tag : (tag : Tag) (new : List Place) → said ≡ Ok tag → place.depth < 3200 → new ≡ places_under n tag place ++ more → (last : ℕ) (others : List TagSaid) → tree_from n last places (record { line = line; tag = said } ∷ others) ≡ with_tag tag (tree_from n last new others)
     put-tag tag new e shallow below last others =
         let next = with_tag tag (tree_from n last (places_under n tag place ++ more) others) in
@@ -93,11 +107,13 @@ module _ (n : ℕ) (places : List Place) (line : ℕ) (said : Result Tag CertFau
         ∙ ap (λ b. cond b next (Err (TooDeep line))) (shallow-true place.depth shallow)
         ∙ ap (λ ps. with_tag tag (tree_from n last ps others)) (sym below)
 
+-- what is nothing stays so
 pub then-none : {X : Type 0} (r : Result X CertFault) (new old : Option HalfTag) → old ≡ None → IfOk r (λ (x : X). new ≡ old) → IfOk r (λ (x : X). new ≡ None)
 then-none r new old none f = IfOk-weaker r (λ x. new ≡ old) _ (λ x e. e ∙ none) f
 
 -- a word that says a tag, or a fault of one
 module _ (n : ℕ) (old : Reader) (word : LineWord) (places : List Place) (said : TagSaid) (r : Result (Option Tag) CertFault) (step : (last : ℕ) (others : List LineWord) → read_on n last old (word ∷ others) ≡ tree_from n last places (said ∷ tags_said old.version last None others)) where
+  -- where it is a tag at its place
   pub said-tag : (new : Reader)
       → IfOk r (λ tag. (last : ℕ) (others : List TagSaid) → tree_from n last places (said ∷ others) ≡ with_some tag (tree_from n last new.places others))
       → IfOk r (λ tag. new.half ≡ None) → new.version ≡ old.version
@@ -112,6 +128,7 @@ module _ (n : ℕ) (old : Reader) (word : LineWord) (places : List Place) (said 
         | Err fault ↦ (λ f none. tt)
       ] f none
 
+  -- where it is a fault
   pub said-fault : IfErr r (λ e. e ≢ NoMemory → (last : ℕ) (others : List TagSaid) → tree_from n last places (said ∷ others) ≡ Err e)
       → IfErr r (λ e. e ≢ NoMemory → (last : ℕ) (others : List LineWord) → read_on n last old (word ∷ others) ≡ Err e)
   said-fault f = IfErr-weaker r (λ e. e ≢ NoMemory → (last : ℕ) (others : List TagSaid) → tree_from n last places (said ∷ others) ≡ Err e) _ (λ e g ne last others. step last others ∙ g ne last (tags_said old.version last None others)) f
@@ -134,28 +151,34 @@ module _ (version : Version) (half : Option HalfTag) (word : LineWord) where
 -- ---- after the last word
 
 module _ (n last : ℕ) (reader : Reader) where
+  -- no place waits and no tag is cut: the tree is whole
   pub read-done : reader.places ≡ [] → reader.half ≡ None → read_on n last reader [] ≡ Ok []
   unfolding tree_from tags_said
   read-done none whole = ap (λ s. tree_from n last reader.places (tags_said reader.version last s [])) whole ∙ ap (λ ps. tree_from n last ps []) none
 
+  -- a tag that is cut where no place waits is trailing
   pub read-trailing : (at : HalfTag) → reader.places ≡ [] → reader.half ≡ Some at → read_on n last reader [] ≡ Err (Trailing at.line)
   unfolding tree_from tags_said
   read-trailing at none half = ap (λ s. tree_from n last reader.places (tags_said reader.version last s [])) half ∙ ap (λ ps. tree_from n last ps (tags_said reader.version last (Some at) [])) none
 
+  -- a place waits, and a tag may be cut: the text ends inside the tree
   cut-by : (place : Place) (more : List Place) (half : Option HalfTag) → tree_from n last (place ∷ more) (tags_said reader.version last half []) ≡ Err (Truncated last)
   unfolding tree_from tags_said
   cut-by place more None = refl
   cut-by place more (Some at) = refl
 
+  -- the same of any reader in which a place waits
   pub read-cut : (place : Place) (more : List Place) → reader.places ≡ place ∷ more → read_on n last reader [] ≡ Err (Truncated last)
   read-cut place more is = ap (λ ps. tree_from n last ps (tags_said reader.version last reader.half [])) is ∙ cut-by place more reader.half
 
 -- ---- what is read spells a tree
 
+-- tags that are read begin with the tag in front
 with-ok : (tag : Tag) (r : Result (List Tag) CertFault) (tags : List Tag) → with_tag tag r ≡ Ok tags → (more : List Tag) × (r ≡ Ok more) × (tags ≡ tag ∷ more)
 with-ok tag (Ok more) tags e = (more, refl, (let same : tag ∷ more ≡ tags = cc in sym same))
 with-ok tag (Err fault) tags e = absurd (cc)
 
+-- a tag that is read stands no deeper than the limit
 at-ok : (n last line : ℕ) (place : Place) (places : List Place) (others : List TagSaid) (tag : Tag) (b : Bool) (tags : List Tag) → nat_lt place.depth 3200 ≡ b
     → ((more : List Tag) → tree_from n last (places_under n tag place ++ places) others ≡ Ok more → spell_trees n (places_under n tag place ++ places) more ≡ true)
     → cond b (with_tag tag (tree_from n last (places_under n tag place ++ places) others)) (Err (TooDeep line)) ≡ Ok tags → spell_trees n (place ∷ places) tags ≡ true
@@ -165,15 +188,18 @@ at-ok n last line place places others tag true tags d more e =
     subst (λ ts. spell_trees n (place ∷ places) ts ≡ true) (sym p.2) inner
 at-ok n last line place places others tag false tags d more e = absurd (cc)
 
+-- a tag that is read is one
 tag-ok : (n last line : ℕ) (place : Place) (places : List Place) (others : List TagSaid) (r : Result Tag CertFault) (tags : List Tag)
     → ((tag : Tag) (more : List Tag) → tree_from n last (places_under n tag place ++ places) others ≡ Ok more → spell_trees n (places_under n tag place ++ places) more ≡ true)
     → tag_at place line r (λ tag. with_tag tag (tree_from n last (places_under n tag place ++ places) others)) ≡ Ok tags → spell_trees n (place ∷ places) tags ≡ true
 tag-ok n last line place places others (Err fault) tags more e = absurd (cc)
 tag-ok n last line place places others (Ok tag) tags more e = at-ok n last line place places others tag (nat_lt place.depth 3200) tags refl (more tag) e
 
+-- no tags are no tags
 nil-same : (tags : List Tag) → ◌≡◌ {A = Result (List Tag) CertFault} (Ok []) (Ok tags) → tags ≡ []
 nil-same tags e = let same : [] ≡ tags = cc in sym same
 
+-- tags that are read for places spell trees for them
 pub read-spells : (n last : ℕ) (says : List TagSaid) (places : List Place) (tags : List Tag) → tree_from n last places says ≡ Ok tags → spell_trees n places tags ≡ true
 unfolding tree_from
 read-spells n last [] [] tags e = ap (λ ts. spell_trees n [] ts) (nil-same tags e)

@@ -1,4 +1,4 @@
--- A text that was written is read as the certificate that it was written from.
+-- Lines, words and tags that were written are read as they were.
 use Rattle.std.proofs.Common.{◌≡◌, ℕ, ◌+◌, ◌^◌, ◌<◌, List, [], ◌∷◌, ◌++◌, length, map, arith, refl, ap, ◌∙◌, Bool, true, cond, not, None, Result, Ok, Err, append_assoc}
 use Rattle.std.specs.Prelude.{nat_lt}
 use Rattle.std.specs.List.{AllByRecursion, list_all}
@@ -26,9 +26,6 @@ use Rattle.sf_certificate.specs.Reading.{tags_said, split_by, with_tag, tree_fro
 
 -- ---- lines
 
-abbrev pub IsLine : List ℕ → Type 0
-IsLine line = has_none is_line_feed line ≡ true
-
 -- lines that LF ends are the lines of the text
 pub lines-ended : (ls : List (List ℕ)) (rest : List ℕ) → AllByRecursion (λ l. has_none is_line_feed l ≡ true) ls → lines (ended ls ++ rest) ≡ ls ++ lines rest
 lines-ended [] rest h = refl
@@ -37,34 +34,42 @@ lines-ended (l ∷ ls) rest h =
     ∙ lines-written l (ended ls ++ rest) h.0
     ∙ ap (λ (x : List (List ℕ)). l ∷ x) (lines-ended ls rest h.1)
 
+-- two texts without a line feed have none together
 pub line-append : (xs ys : List ℕ) → has_none is_line_feed xs ≡ true → has_none is_line_feed ys ≡ true → has_none is_line_feed (xs ++ ys) ≡ true
 line-append xs ys h k = list_all-append (λ b. not (is_line_feed b)) xs ys ∙ rw (h, k) refl
 
+-- what passes a test everywhere passes a weaker one
 weaker : (p q : ℕ → Bool) → ((b : ℕ) → p b ≡ true → q b ≡ true) → (xs : List ℕ) → list_all p xs ≡ true → list_all q xs ≡ true
 weaker p q f [] h = refl
 weaker p q f (x ∷ xs) h =
     let both = and_true (p x) (list_all p xs) h in
     rw (f x both.0, weaker p q f xs both.1) refl
 
+-- a digit is no line feed
 digit-line : (d : ℕ) → is_digit d ≡ true → not (is_line_feed d) ≡ true
 digit-line d e = grind (arith, nat_tests)
 
+-- a digit is no blank
 digit-solid : (d : ℕ) → is_digit d ≡ true → not (is_blank_byte d) ≡ true
 digit-solid d e = grind (arith, nat_tests)
 
+-- a number has no line feed
 pub decimal-line : (n : ℕ) → n < 2 ^ 64 → has_none is_line_feed (decimal n) ≡ true
 decimal-line n h = weaker is_digit (λ b. not (is_line_feed b)) digit-line (decimal n) (digits_written n h)
 
+-- a number has no blank
 pub decimal-solid : (n : ℕ) → n < 2 ^ 64 → has_none is_blank_byte (decimal n) ≡ true
 decimal-solid n h = weaker is_digit (λ b. not (is_blank_byte b)) digit-solid (decimal n) (digits_written n h)
 
 -- ---- a label and a value
 
+-- a label and a value are two words
 pub words-labelled : (label value : List ℕ) → 0 < length label → has_none is_blank_byte label ≡ true → 0 < length value → has_none is_blank_byte value ≡ true → words is_blank_byte (label ++ 32 ∷ value) ≡ label ∷ value ∷ []
 words-labelled label value a b c d = words-written is_blank_byte label value 32 a b refl ∙ ap (λ (ws : List (List ℕ)). label ∷ ws) (words-last is_blank_byte value c d)
 
 -- ---- the tree
 
+-- what a tag says has no line feed
 tag-line : (tag : Tag) → FitsTag tag → has_none is_line_feed (tag_text tag) ≡ true
 tag-line Extend h = refl
 tag-line (Split b) h = line-append (83 ∷ 32 ∷ []) (decimal b) refl (decimal-line b (omega (arith, h)))
@@ -75,18 +80,22 @@ tag-line (Closed Hull) h = refl
 tag-line (Closed Full) h = refl
 tag-line Open h = refl
 
+-- nor has what any of the tags says
 pub tags-lines : (tags : List Tag) → AllByRecursion FitsTag tags → AllByRecursion (λ l. has_none is_line_feed l ≡ true) (map tag_text tags)
 tags-lines [] h = tt
 tags-lines (tag ∷ tags) h = (tag-line tag h.0, tags-lines tags h.1)
 
+-- a place that is not too deep takes its tag
 deep-enough : (place : Place) (line : ℕ) (next : Result (List Tag) CertFault) → nat_lt place.depth 3200 ≡ true → cond (nat_lt place.depth 3200) next (Err (TooDeep line)) ≡ next
 deep-enough place line next e = ap (λ b. cond b next (Err (TooDeep line))) e
 
+-- the words of a split
 split-words : (k b : ℕ) → b < 2 ^ 16 → words_of_line (record { number = k; bytes = 83 ∷ 32 ∷ decimal b }) ≡ record { line = k; text = 83 ∷ [] } ∷ record { line = k; text = decimal b } ∷ []
 split-words k b h =
     ap (map (λ w. record { line = k; text = w }))
     (words-labelled (83 ∷ []) (decimal b) (omega arith) refl (decimal_nonempty b (omega (arith, h))) (decimal-solid b (omega (arith, h))))
 
+-- the words of a tag say it
 step-said : (last k : ℕ) (tag : Tag) (others : List LineWord) → FitsTag tag → tags_said Two last None (words_of_line (record { number = k; bytes = tag_text tag }) ++ others) ≡ record { line = k; tag = Ok tag } ∷ tags_said Two last None others
 unfolding tags_said
 step-said last k Extend others h = refl
@@ -100,6 +109,7 @@ step-said last k (Closed Hull) others h = refl
 step-said last k (Closed Full) others h = refl
 step-said last k Open others h = refl
 
+-- one tag at its place, and those that follow
 tree-step : (n last k : ℕ) (tag : Tag) (tags : List Tag) (place : Place) (places : List Place) (others : List TagSaid) → nat_lt place.depth 3200 ≡ true → tree_from n last (places_under n tag place ++ places) others ≡ Ok tags → tree_from n last (place ∷ places) (record { line = k; tag = Ok tag } ∷ others) ≡ Ok (tag ∷ tags)
 unfolding tree_from
 tree-step n last k tag tags place places others d e =

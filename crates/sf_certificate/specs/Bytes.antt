@@ -1,4 +1,4 @@
--- Reading a text byte by byte.
+-- How a reader stands between two bytes of a text. These are words of the loops that read a text in pieces; what a text says stands in Reading.
 use Rattle.std.specs.Prelude.{◌≡◌, ℕ, ◌+◌, ◌<◌, List, [], ◌∷◌, ◌++◌, length, Result, Ok, Err}
 use Rattle.std.specs.List.{count_by}
 use Rattle.sf_lex.specs.Text.{is_line_feed, lines}
@@ -7,7 +7,8 @@ use Rattle.sf_certificate.specs.declared.fault.CertFault.{CertFault}
 use Rattle.sf_certificate.specs.declared.header.Header.{Header}
 use Rattle.sf_certificate.specs.declared.tag.Tag.{Tag}
 use Rattle.sf_certificate.specs.declared.version.Version.{Version}
-use Rattle.sf_certificate.specs.Reading.{Reader, Said, first_reader, read_on}
+use Rattle.sf_certificate.specs.Reading.{Said}
+use Rattle.sf_certificate.specs.Reader.{Reader, first_reader, read_on}
 
 -- a reader of a tree between two bytes: what it was between two words, the word that isn't ended yet, the line in which the
 -- next byte stands, and the last line that holds a word

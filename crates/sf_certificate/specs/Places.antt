@@ -10,6 +10,7 @@ use Rattle.sf_certificate.specs.declared.place.Place.{Place}
 use Rattle.sf_certificate.specs.declared.tag.Tag.{Tag}
 use Rattle.sf_certificate.specs.declared.tag.Tag.TheVariants.{Extend, Split, Closed, Open}
 
+-- what a token ends in
 abbrev pub ending_of : Token → Ending
 ending_of token.Beside = Beside
 ending_of token.Above = Above
@@ -24,14 +25,17 @@ ending_or e (t ∷ ts) = ending_or (ending_of t) ts
 abbrev pub place_of : Parts → Place
 place_of node = record { depth = length node.steps; operands = operands node.tokens; operators = operators node.tokens; ending = ending_or Block node.tokens }
 
+-- the place of the root
 abbrev pub first_place : Place
 first_place = record { depth = 0; operands = 0; operators = 0; ending = Block }
 
+-- tokens end in Beside
 abbrev pub is_beside : Ending → Bool
 is_beside Block = false
 is_beside Beside = true
 is_beside Above = false
 
+-- tokens end in Above
 abbrev pub is_above : Ending → Bool
 is_above Block = false
 is_above Beside = false
@@ -45,6 +49,7 @@ has_two place = nat_le (place.operators + 2) place.operands
 abbrev pub may_beside : Place → Bool
 may_beside place = has_two place && not (is_beside place.ending)
 
+-- the same of Above
 abbrev pub may_above : Place → Bool
 may_above place = has_two place && not (is_above place.ending)
 
@@ -52,12 +57,15 @@ may_above place = has_two place && not (is_above place.ending)
 abbrev pub joined : Ending → Place → Place
 joined e place = record { depth = suc place.depth; operands = place.operands; operators = suc place.operators; ending = e }
 
+-- the place after one more block
 abbrev pub named : Place → Place
 named place = record { depth = suc place.depth; operands = suc place.operands; operators = place.operators; ending = Block }
 
+-- the place one step deeper, with the same tokens
 abbrev pub below : Place → Place
 below place = record place { depth = suc place.depth }
 
+-- the place, where the test holds
 abbrev pub when_so : Bool → Place → List Place
 when_so true place = place ∷ []
 when_so false place = []

@@ -44,6 +44,7 @@ value_after label (first ∷ []) = None
 value_after label (first ∷ value ∷ []) = if bytes_eq first label then Some value else None
 value_after label (first ∷ value ∷ other ∷ others) = None
 
+-- the value of a line of a label and a value
 abbrev pub value_in : List ℕ → List ℕ → Option (List ℕ)
 value_in label line = value_after label (words is_blank_byte line)
 
@@ -72,6 +73,7 @@ number_in label n line = exactly n (option_and_then (plain_read n) (value_in lab
 abbrev pub cost_of_word : List ℕ → Option ℕ
 cost_of_word word = if bytes_eq word (codes "none") then Some MAX else plain_read 18_446_744_073_709_551_614 word
 
+-- a label and a cost
 abbrev pub cost_in : List ℕ → List ℕ → Option ℕ
 cost_in label line = option_and_then cost_of_word (value_in label line)
 
@@ -81,13 +83,16 @@ only_word word [] = None
 only_word word (first ∷ []) = if bytes_eq first word then Some word else None
 only_word word (first ∷ other ∷ others) = None
 
+-- a line of this word alone
 abbrev pub word_in : List ℕ → List ℕ → Option (List ℕ)
 word_in word line = only_word word (words is_blank_byte line)
 
+-- an expression that is read is a plan
 abbrev pub plan_read : Result Expr ExprFault → Option (Option Expr)
 plan_read (Ok expr) = Some (Some expr)
 plan_read (Err fault) = None
 
+-- no plan where the word `none` stands, and else what is read
 abbrev pub plan_or : Option (List ℕ) → Option (Option Expr) → Option (Option Expr)
 plan_or None plan = plan
 plan_or (Some word) plan = Some None
@@ -102,9 +107,11 @@ agreeing cost (Some (Some expr)) = if cost == MAX then None else Some (Some expr
 abbrev pub plan_of_rest : ℕ → List ℕ → Option (Option Expr)
 plan_of_rest blocks rest = plan_or (word_in (codes "none") rest) (plan_read (expr_read blocks rest))
 
+-- the plan that a line says behind its label
 abbrev pub plan_said : ℕ → List ℕ → Option (Option Expr)
 plan_said blocks line = if bytes_eq (first_word Blanks line) (codes "plan") then plan_of_rest blocks (after_word Blanks line) else None
 
+-- the plan of a line, which agrees with the cost
 abbrev pub plan_in : ℕ → ℕ → List ℕ → Option (Option Expr)
 plan_in blocks cost line = agreeing cost (plan_said blocks line)
 
@@ -120,6 +127,7 @@ abbrev pub line_read : {X : Type 0} → ℕ → (List ℕ → Option X) → List
 line_read last rule [] = Err (BadHeader last)
 line_read last rule (line ∷ others) = line_by line.number others (rule line.bytes)
 
+-- what the header says, and the lines behind it
 pub record Header : Type 0 where
   pub version : Version
   pub plan : Option Expr
@@ -127,6 +135,7 @@ pub record Header : Type 0 where
   pub bound : ℕ
   pub others : List Line
 
+-- the six lines in turn
 unfoldable pub header_read : ℕ → ℕ → List Line → Result Header CertFault
 header_read blocks last all = do
   title ← line_read last (version_in (codes "slicing-certificate")) all
@@ -144,6 +153,7 @@ abbrev pub closed_word : Version → Letter
 closed_word One = Whole (Closed Full)
 closed_word Two = First second.Part
 
+-- what a word of this one byte says as the first of a tag
 abbrev pub letter_by : Version → ℕ → Option Letter
 letter_by version b =
     if b == 69 then Some (Whole Extend)
@@ -158,6 +168,7 @@ letter_of version [] = None
 letter_of version (b ∷ []) = letter_by version b
 letter_of version (b ∷ c ∷ bytes) = None
 
+-- the part that a word of this one byte names
 abbrev pub part_by : ℕ → Option Part
 part_by b =
     if b == 97 then Some Area
@@ -179,10 +190,12 @@ by_letter line None others more = record { line = line; tag = Err (BadTag line) 
 by_letter line (Some (Whole tag)) others more = record { line = line; tag = Ok tag } ∷ others
 by_letter line (Some (First second)) others more = more second
 
+-- a split of the block that a word names, or a tag at fault
 abbrev pub split_by : ℕ → Option ℕ → Result Tag CertFault
 split_by line None = Err (BadTag line)
 split_by line (Some b) = Ok (Split b)
 
+-- a subproblem closed by the part that a word names, or a tag at fault
 abbrev pub closed_by : ℕ → Option Part → Result Tag CertFault
 closed_by line None = Err (BadTag line)
 closed_by line (Some p) = Ok (Closed p)
@@ -192,6 +205,7 @@ abbrev pub second_by : Second → ℕ → List ℕ → Result Tag CertFault
 second_by second.Block line word = split_by line (whole_read 65535 word)
 second_by second.Part line word = closed_by line (part_of word)
 
+-- the tag whose first word was read and whose second word this is
 abbrev pub tag_by : HalfTag → List ℕ → Result Tag CertFault
 tag_by half word = second_by half.second half.line word
 
@@ -219,32 +233,9 @@ tree_from n last [] (said ∷ others) = Err (Trailing said.line)
 tree_from n last (place ∷ places) [] = Err (Truncated last)
 tree_from n last (place ∷ places) (said ∷ others) = tag_at place said.line said.tag (λ tag. with_tag tag (tree_from n last (places_under n tag place ++ places) others))
 
--- a reader between two words: the places that wait for a tag, the version of the text, and a tag whose second word comes next
-pub record Reader : Type 0 where
-  pub places : List Place
-  pub version : Version
-  pub half : Option HalfTag
-
-abbrev pub first_reader : Version → Reader
-first_reader version = record { places = first_place ∷ []; version = version; half = None }
-
--- the tags that the words from here on spell
-abbrev pub read_on : ℕ → ℕ → Reader → List LineWord → Result (List Tag) CertFault
-read_on n last reader words = tree_from n last reader.places (tags_said reader.version last reader.half words)
-
--- tags in front of those that follow
-abbrev pub with_tags : List Tag → Result (List Tag) CertFault → Result (List Tag) CertFault
-with_tags tags (Ok more) = Ok (tags ++ more)
-with_tags tags (Err fault) = Err fault
-
--- a tag, where there is one, in front of those that follow
-abbrev pub with_some : Option Tag → Result (List Tag) CertFault → Result (List Tag) CertFault
-with_some None tags = tags
-with_some (Some tag) tags = with_tag tag tags
-
 -- the tree that words spell among n blocks
 abbrev pub tree_read : Version → ℕ → ℕ → List LineWord → Result (List Tag) CertFault
-tree_read version n last words = read_on n last (first_reader version) words
+tree_read version n last words = tree_from n last (first_place ∷ []) (tags_said version last None words)
 
 -- ---- the whole text
 
@@ -256,9 +247,11 @@ pub record Said : Type 0 where
   pub bound : ℕ
   pub tags : List Tag
 
+-- what a certificate says
 abbrev pub said_by : Cert → Said
 said_by cert = record { blocks = cert.blocks; plan = cert.plan; cost = cert.cost; bound = cert.bound; tags = cert.tags }
 
+-- the header, and then the tree
 unfoldable pub cert_read : ℕ → List ℕ → Result Said CertFault
 cert_read blocks text = do
   header ← header_read blocks (last_line_of text) (numbered 1 (lines text))

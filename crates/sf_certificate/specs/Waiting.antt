@@ -1,4 +1,4 @@
--- The places that wait for a tag, as a reader keeps them.
+-- How a reader keeps the places that wait for a tag, in frames. These are words of its loop; which tags spell a tree stands in Places.
 use Rattle.std.specs.Prelude.{List, replicate, reverse}
 use Rattle.std.specs.List.{flat_map}
 use Rattle.sf_certificate.specs.declared.place.Place.{Place}

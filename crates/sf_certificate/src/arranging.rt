@@ -19,8 +19,9 @@ struct Stretch<'a> {
     to: usize,
 }
 
-/// Brings the marks of one subtree together, and the subtrees into order. They come as they were logged, or in reverse.
-/// Whether a mark goes on from the one before it is told by a few steps, so a rare one may stand wrong.
+/// Brings the marks of one subtree together, and the subtrees into order. They come as they were logged, or
+/// in reverse. Whether a mark goes on from the one before it is told by a few steps, so a rare one may stand
+/// wrong.
 pub fn arrange(alloc: Global, marks: &mut Vec<Mark>) -> Result<(), NoMemory>
     ensures { IsPermutation marks.old.items marks.new.items }
 {

@@ -1,12 +1,13 @@
 //! The tree of a certificate's text, from pieces that are cut anywhere.
 
-ghost use Rattle.std.specs.Prelude.{◌≡◌, ◌≢◌, ℕ, ◌+◌, ◌≤◌, false, true, List, [], ◌∷◌, ◌++◌, length, take, IfOk, IfErr, OnOk, Ok, Err};
+ghost use Rattle.std.specs.Prelude.{◌≡◌, ◌≢◌, ℕ, ◌+◌, ◌≤◌, false, true, List, [], ◌∷◌, ◌++◌, length, take};
+ghost use Rattle.std.specs.Prelude.{IfOk, IfErr, OnOk, Ok, Err};
 ghost use Rattle.std.specs.List.{count_by, position_or_len};
 ghost use Rattle.sf_lex.specs.Text.{is_blank_byte, is_line_feed, has_none};
 ghost use Rattle.sf_lex.specs.Scan.{LineWord, last_word_line};
 ghost use Rattle.sf_certificate.specs.declared.fault.CertFault.TheVariants.{NoMemory};
 ghost use Rattle.sf_certificate.specs.Bytes.{begun, bytes_on, first_byte, past_blank};
-ghost use Rattle.sf_certificate.specs.Reading.{read_on, with_some};
+ghost use Rattle.sf_certificate.specs.Reader.{read_on, with_some};
 
 use crate::fault::CertFault;
 use crate::tag::Tag;
@@ -46,7 +47,8 @@ pub struct Taken {
     pub bytes: usize,
 }
 
-/// The number of the line behind a byte of this line. More lines than numbers go to are answered as want of memory.
+/// The number of the line behind a byte of this line. More lines than numbers go to are answered as want of
+/// memory.
 fn line_behind(byte: u8, line: u64) -> Result<u64, CertFault>
     ensures line { IfOk result (λ behind. behind ≡ line + count_by is_line_feed (byte ∷ [])) }
     ensures fault { IfErr result (λ e. e ≡ NoMemory) }
@@ -70,7 +72,8 @@ fn run_at_front(bytes: &[u8]) -> usize
 }
 
 impl ByteReader {
-    /// Before the first byte of a tree, which stands in this line, where the last line that holds a word is that.
+    /// Before the first byte of a tree, which stands in this line, where the last line that holds a word is
+    /// that.
     pub fn new(
         alloc: Global,
         version: Version,
@@ -92,8 +95,11 @@ impl ByteReader {
         requires { blocks ≤ 320 }
         ensures inside { IfOk result (λ taken. taken.bytes ≤ length piece.now) }
         ensures some { IfOk result (λ taken. 1 ≤ length piece.now → 1 ≤ taken.bytes) }
-        ensures tag { IfOk result (λ taken. (rest : List ℕ) → bytes_on blocks self.old (take taken.bytes piece.now ++ rest) ≡ with_some taken.tag (bytes_on blocks self.new rest)) }
-        ensures fault { IfErr result (λ e. e ≢ NoMemory → (rest : List ℕ) → bytes_on blocks self.old (piece.now ++ rest) ≡ Err e) }
+        ensures tag { IfOk result (λ taken. (rest : List ℕ)
+            → bytes_on blocks self.old (take taken.bytes piece.now ++ rest)
+            ≡ with_some taken.tag (bytes_on blocks self.new rest)) }
+        ensures fault { IfErr result (λ e. e ≢ NoMemory → (rest : List ℕ)
+            → bytes_on blocks self.old (piece.now ++ rest) ≡ Err e) }
     {
         let bytes = run_at_front(piece);
         let (run, rest) = piece.split_at(bytes);
@@ -120,13 +126,16 @@ impl ByteReader {
         Ok(tag)
     }
 
-    /// Ends a word whose last bytes are these, at a blank that is not taken yet. The answer is the tag that it ends, if it
-    /// ends one.
+    /// Ends a word whose last bytes are these, at a blank that is not taken yet. The answer is the tag that
+    /// it ends, if it ends one.
     fn end_run(&mut self, run: &[u8], blocks: u16) -> Result<Option<Tag>, CertFault>
         requires few { blocks ≤ 320 }
         requires run { has_none is_blank_byte run.now ≡ true }
-        ensures tag { IfOk result (λ tag. (b : ℕ) (rest : List ℕ) → is_blank_byte b ≡ true → bytes_on blocks self.old (run.now ++ b ∷ rest) ≡ with_some tag (bytes_on blocks (past_blank b self.new) rest)) }
-        ensures fault { IfErr result (λ e. e ≢ NoMemory → (b : ℕ) (rest : List ℕ) → is_blank_byte b ≡ true → bytes_on blocks self.old (run.now ++ b ∷ rest) ≡ Err e) }
+        ensures tag { IfOk result (λ tag. (b : ℕ) (rest : List ℕ) → is_blank_byte b ≡ true
+            → bytes_on blocks self.old (run.now ++ b ∷ rest)
+            ≡ with_some tag (bytes_on blocks (past_blank b self.new) rest)) }
+        ensures fault { IfErr result (λ e. e ≢ NoMemory → (b : ℕ) (rest : List ℕ) → is_blank_byte b ≡ true
+            → bytes_on blocks self.old (run.now ++ b ∷ rest) ≡ Err e) }
     {
         if !self.word.is_empty() {
             self.keep_run(run)?;
@@ -143,9 +152,18 @@ impl ByteReader {
     /// Ends the word that was begun, if one was. The answer is the tag that it ends, if it ends one.
     fn end_word(&mut self, blocks: u16) -> Result<Option<Tag>, CertFault>
         requires { blocks ≤ 320 }
-        ensures tag { IfOk result (λ tag. (last : ℕ) (others : List LineWord) → read_on blocks last self.old.tree (begun self.old.line self.old.word ++ others) ≡ with_some tag (read_on blocks last self.new.tree others)) }
-        ensures kept { IfOk result (λ tag. self.new ≡ record { tree = self.new.tree; word = []; line = self.old.line; last = last_word_line self.old.last (begun self.old.line self.old.word) }) }
-        ensures fault { IfErr result (λ e. e ≢ NoMemory → (last : ℕ) (others : List LineWord) → read_on blocks last self.old.tree (begun self.old.line self.old.word ++ others) ≡ Err e) }
+        ensures tag { IfOk result (λ tag. (last : ℕ) (others : List LineWord)
+            → read_on blocks last self.old.tree (begun self.old.line self.old.word ++ others)
+            ≡ with_some tag (read_on blocks last self.new.tree others)) }
+        ensures kept { IfOk result (λ tag. self.new
+            ≡ record {
+              tree = self.new.tree;
+              word = [];
+              line = self.old.line;
+              last = last_word_line self.old.last (begun self.old.line self.old.word);
+            }) }
+        ensures fault { IfErr result (λ e. e ≢ NoMemory → (last : ℕ) (others : List LineWord)
+            → read_on blocks last self.old.tree (begun self.old.line self.old.word ++ others) ≡ Err e) }
         ensures solid { has_none is_blank_byte self.old.word ≡ true }
     {
         if self.word.is_empty() {
@@ -160,7 +178,8 @@ impl ByteReader {
     /// Some bytes more of a word.
     fn keep_run(&mut self, run: &[u8]) -> Result<(), AllocError>
         requires { has_none is_blank_byte run.now ≡ true }
-        ensures { OnOk result ((n : ℕ) (rest : List ℕ) → bytes_on n self.old (run.now ++ rest) ≡ bytes_on n self.new rest) }
+        ensures { OnOk result ((n : ℕ) (rest : List ℕ)
+            → bytes_on n self.old (run.now ++ rest) ≡ bytes_on n self.new rest) }
     {
         for byte in run {
             self.keep(*byte)?;
@@ -171,7 +190,8 @@ impl ByteReader {
     /// One byte more of a word.
     fn keep(&mut self, byte: u8) -> Result<(), AllocError>
         requires { is_blank_byte byte ≡ false }
-        ensures { OnOk result ((n : ℕ) (rest : List ℕ) → bytes_on n self.old (byte ∷ rest) ≡ bytes_on n self.new rest) }
+        ensures { OnOk result ((n : ℕ) (rest : List ℕ)
+            → bytes_on n self.old (byte ∷ rest) ≡ bytes_on n self.new rest) }
     {
         if self.word.len() < TOO_LONG {
             self.word.push(byte)?;

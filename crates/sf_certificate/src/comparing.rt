@@ -20,7 +20,8 @@ pub fn rank(step: Step) -> u32
     3 * u32::from(block) + kind
 }
 
-/// The order of two lists of steps: by the first step in which they differ, and a list right before those that go on from it.
+/// The order of two lists of steps: by the first step in which they differ, and a list right before those
+/// that go on from it.
 pub fn compare_steps(first: &[Step], second: &[Step]) -> Ordering
     ensures { result ≡ steps_cmp first.now second.now }
 {

@@ -1,6 +1,7 @@
 //! The header of a certificate's text, line by line.
 
-ghost use Rattle.std.specs.Prelude.{◌≡◌, ◌≢◌, ◌==◌, [], ◌∷◌, if◌then◌else◌, IfOk, IfErr, OnOk, MatchOption, Ok, Some, None, ⊤};
+ghost use Rattle.std.specs.Prelude.{◌≡◌, ◌≢◌, ◌==◌, [], ◌∷◌, if◌then◌else◌, IfOk, IfErr, OnOk, MatchOption};
+ghost use Rattle.std.specs.Prelude.{Ok, Some, None, ⊤};
 ghost use Rattle.std.specs.Option.{option_copied};
 ghost use Rattle.sf_lex.specs.Whole.{plain_read};
 ghost use Rattle.sf_lex.specs.Scan.{numbered_rest, line_of, last_line_of};
@@ -8,7 +9,9 @@ ghost use Rattle.sf_model.specs.declared.TheConstants.{MAX};
 ghost use Rattle.sf_polish.specs.Text.{IsWritable};
 ghost use Rattle.sf_certificate.specs.declared.fault.CertFault.TheVariants.{BadHeader, NoMemory};
 ghost use Rattle.sf_certificate.specs.Form.{no_plan};
-ghost use Rattle.sf_certificate.specs.Reading.{value_in, version_of, version_of_word, version_in, number_in, cost_of_word, cost_in, word_in, plan_said, plan_in, line_read, header_read, exactly};
+ghost use Rattle.sf_certificate.specs.Reading.{value_in, version_of, version_of_word, version_in, number_in};
+ghost use Rattle.sf_certificate.specs.Reading.{cost_of_word, cost_in, word_in, plan_said, plan_in, line_read};
+ghost use Rattle.sf_certificate.specs.Reading.{header_read, exactly};
 
 use crate::fault::CertFault;
 use crate::version::Version;
@@ -34,10 +37,17 @@ pub fn read_header(
     blocks: u16,
 ) -> Result<Header, CertFault>
     ensures header { IfOk result (λ h. header_read blocks (last_line_of text.now) (numbered_rest scan.old)
-        ≡ Ok (record { version = h.version; plan = h.plan; cost = h.cost; bound = h.bound; others = numbered_rest scan.new })) }
+        ≡ Ok (record {
+          version = h.version;
+          plan = h.plan;
+          cost = h.cost;
+          bound = h.bound;
+          others = numbered_rest scan.new;
+        })) }
     ensures agrees { IfOk result (λ h. no_plan h.plan ≡ (h.cost == MAX)) }
     ensures writable { IfOk result (λ h. MatchOption h.plan ⊤ (IsWritable blocks)) }
-    ensures fault { IfErr result (λ e. e ≢ NoMemory → header_read blocks (last_line_of text.now) (numbered_rest scan.old) ≡ Err e) }
+    ensures fault { IfErr result (λ e. e ≢ NoMemory
+        → header_read blocks (last_line_of text.now) (numbered_rest scan.old) ≡ Err e) }
 {
     let version = read_version(scan, text, b"slicing-certificate")?;
     read_number(scan, text, b"blocks", blocks)?;
@@ -55,9 +65,11 @@ pub fn read_header(
 
 /// A line of a label and a version.
 fn read_version(scan: &mut Scan, text: &[u8], label: &[u8]) -> Result<Version, CertFault>
-    ensures line { IfOk result (λ version. line_read (last_line_of text.now) (version_in label.now) (numbered_rest scan.old)
+    ensures line { IfOk result
+        (λ version. line_read (last_line_of text.now) (version_in label.now) (numbered_rest scan.old)
         ≡ Ok (version, numbered_rest scan.new)) }
-    ensures fault { IfErr result (λ e. line_read (last_line_of text.now) (version_in label.now) (numbered_rest scan.old) ≡ Err e) }
+    ensures fault { IfErr result
+        (λ e. line_read (last_line_of text.now) (version_in label.now) (numbered_rest scan.old) ≡ Err e) }
 {
     let line = next_line(scan, text)?;
     match version_in(line.text, label) {
@@ -68,9 +80,12 @@ fn read_version(scan: &mut Scan, text: &[u8], label: &[u8]) -> Result<Version, C
 
 /// A line of a label and this number.
 fn read_number(scan: &mut Scan, text: &[u8], label: &[u8], number: u16) -> Result<(), CertFault>
-    ensures line { OnOk result (line_read (last_line_of text.now) (number_in label.now number) (numbered_rest scan.old)
+    ensures line { OnOk result (line_read (last_line_of text.now) (number_in label.now number)
+        (numbered_rest scan.old)
         ≡ Ok (number, numbered_rest scan.new)) }
-    ensures fault { IfErr result (λ e. line_read (last_line_of text.now) (number_in label.now number) (numbered_rest scan.old) ≡ Err e) }
+    ensures fault { IfErr result
+        (λ e. line_read (last_line_of text.now) (number_in label.now number) (numbered_rest scan.old)
+        ≡ Err e) }
 {
     let line = next_line(scan, text)?;
     if is_number(line.text, label, number) {
@@ -82,9 +97,11 @@ fn read_number(scan: &mut Scan, text: &[u8], label: &[u8], number: u16) -> Resul
 
 /// A line of a label and a cost.
 fn read_cost(scan: &mut Scan, text: &[u8], label: &[u8]) -> Result<u64, CertFault>
-    ensures line { IfOk result (λ cost. line_read (last_line_of text.now) (cost_in label.now) (numbered_rest scan.old)
+    ensures line { IfOk result
+        (λ cost. line_read (last_line_of text.now) (cost_in label.now) (numbered_rest scan.old)
         ≡ Ok (cost, numbered_rest scan.new)) }
-    ensures fault { IfErr result (λ e. line_read (last_line_of text.now) (cost_in label.now) (numbered_rest scan.old) ≡ Err e) }
+    ensures fault { IfErr result
+        (λ e. line_read (last_line_of text.now) (cost_in label.now) (numbered_rest scan.old) ≡ Err e) }
 {
     let line = next_line(scan, text)?;
     match cost_in(line.text, label) {
@@ -97,7 +114,8 @@ fn read_cost(scan: &mut Scan, text: &[u8], label: &[u8]) -> Result<u64, CertFaul
 fn read_only(scan: &mut Scan, text: &[u8], word: &[u8]) -> Result<(), CertFault>
     ensures line { OnOk result (line_read (last_line_of text.now) (word_in word.now) (numbered_rest scan.old)
         ≡ Ok (word.now, numbered_rest scan.new)) }
-    ensures fault { IfErr result (λ e. line_read (last_line_of text.now) (word_in word.now) (numbered_rest scan.old) ≡ Err e) }
+    ensures fault { IfErr result
+        (λ e. line_read (last_line_of text.now) (word_in word.now) (numbered_rest scan.old) ≡ Err e) }
 {
     let line = next_line(scan, text)?;
     if is_only(line.text, word) {
@@ -115,7 +133,8 @@ fn read_plan(
     blocks: u16,
     cost: u64,
 ) -> Result<Option<Expr>, CertFault>
-    ensures line { IfOk result (λ plan. line_read (last_line_of text.now) (plan_in blocks cost) (numbered_rest scan.old)
+    ensures line { IfOk result
+        (λ plan. line_read (last_line_of text.now) (plan_in blocks cost) (numbered_rest scan.old)
         ≡ Ok (plan, numbered_rest scan.new)) }
     ensures agrees { IfOk result (λ plan. no_plan plan ≡ (cost == MAX)) }
     ensures writable { IfOk result (λ plan. MatchOption plan ⊤ (IsWritable blocks)) }
@@ -131,6 +150,7 @@ fn read_plan(
     }
 }
 
+/// The plan that a line says behind its label.
 fn plan_of_line(alloc: Global, line: &Word, blocks: u16) -> Result<Option<Expr>, CertFault>
     ensures plan { IfOk result (λ plan. plan_said blocks line.now.text.now ≡ Some plan) }
     ensures writable { IfOk result (λ plan. MatchOption plan ⊤ (IsWritable blocks)) }
@@ -154,7 +174,8 @@ fn plan_of_line(alloc: Global, line: &Word, blocks: u16) -> Result<Option<Expr>,
 /// The next line; one that isn't there is missed at the last line of the text.
 fn next_line<'a>(scan: &mut Scan<'a>, text: &[u8]) -> Result<Word<'a>, CertFault>
     ensures line { IfOk result (λ line. numbered_rest scan.old ≡ line_of line ∷ numbered_rest scan.new) }
-    ensures fault { IfErr result (λ e. (e ≡ BadHeader (last_line_of text.now)) × (numbered_rest scan.old ≡ [])) }
+    ensures fault { IfErr result (λ e. (e ≡ BadHeader (last_line_of text.now))
+        × (numbered_rest scan.old ≡ [])) }
 {
     match scan.next_line() {
         Some(line) => Ok(line),
@@ -175,6 +196,7 @@ fn value_in<'a>(line: &'a [u8], label: &[u8]) -> Option<&'a [u8]>
     }
 }
 
+/// The version of a line of a label and a version.
 fn version_in(line: &[u8], label: &[u8]) -> Option<Version>
     ensures { result ≡ version_in label.now line.now }
 {
@@ -184,6 +206,7 @@ fn version_in(line: &[u8], label: &[u8]) -> Option<Version>
     }
 }
 
+/// The version that a word names.
 fn version_of_word(word: &[u8]) -> Option<Version>
     ensures { result ≡ version_of_word word.now }
 {
@@ -193,6 +216,7 @@ fn version_of_word(word: &[u8]) -> Option<Version>
     }
 }
 
+/// The version that a number names.
 fn version_of(number: u64) -> Option<Version>
     ensures { result ≡ version_of number }
 {
@@ -203,6 +227,7 @@ fn version_of(number: u64) -> Option<Version>
     }
 }
 
+/// Whether a line has a label and this number.
 fn is_number(line: &[u8], label: &[u8], number: u16) -> bool
     ensures { (if result then Some number else None) ≡ number_in label.now number line.now }
 {
@@ -212,6 +237,7 @@ fn is_number(line: &[u8], label: &[u8], number: u16) -> bool
     }
 }
 
+/// Whether a word is this number, without zeros at the front.
 fn is_plain(word: &[u8], number: u16) -> bool
     ensures { (if result then Some number else None) ≡ exactly number (plain_read number word.now) }
 {
@@ -221,6 +247,7 @@ fn is_plain(word: &[u8], number: u16) -> bool
     }
 }
 
+/// The cost of a line of a label and a cost.
 fn cost_in(line: &[u8], label: &[u8]) -> Option<u64>
     ensures { result ≡ cost_in label.now line.now }
 {
@@ -230,6 +257,7 @@ fn cost_in(line: &[u8], label: &[u8]) -> Option<u64>
     }
 }
 
+/// The cost that a word names, `MAX` for `none`.
 fn cost_of_word(word: &[u8]) -> Option<u64>
     ensures { result ≡ cost_of_word word.now }
 {

@@ -38,6 +38,7 @@ pub struct TagSaid {
     pub tag: Result<Tag, CertFault>,
 }
 
+/// What the first word of a tag says.
 pub fn letter_of(version: Version, word: &[u8]) -> Option<Letter>
     ensures { result ≡ letter_of version word.now }
 {
@@ -84,6 +85,7 @@ pub fn tag_by(half: HalfTag, word: &[u8]) -> Result<Tag, CertFault>
     }
 }
 
+/// A split of the block that a word names.
 fn split_of(line: u64, word: &[u8]) -> Result<Tag, CertFault>
     ensures { result ≡ split_by line (whole_read 65535 word.now) }
 {
@@ -93,6 +95,7 @@ fn split_of(line: u64, word: &[u8]) -> Result<Tag, CertFault>
     }
 }
 
+/// A subproblem closed by the part that a word names.
 fn closed_of(line: u64, word: &[u8]) -> Result<Tag, CertFault>
     ensures { result ≡ closed_by line (part_of word.now) }
 {

@@ -1,6 +1,7 @@
 //! One tree of entries and open tasks.
 
-ghost use Rattle.std.specs.Prelude.{◌≡◌, ℕ, ◌<◌, ◌≤◌, ◌++◌, ◌∷◌, [], length, map, min, reverse, All, IfOk, OnOk, MatchOption, IsPermutation, IsSortedBy};
+ghost use Rattle.std.specs.Prelude.{◌≡◌, ℕ, ◌<◌, ◌≤◌, ◌++◌, ◌∷◌, [], length, map, min, reverse, All, IfOk};
+ghost use Rattle.std.specs.Prelude.{OnOk, MatchOption, IsPermutation, IsSortedBy};
 ghost use Rattle.std.specs.Ordering.{is_lt};
 ghost use Rattle.sf_model.specs.Legal.{block_count};
 ghost use Rattle.sf_model.specs.declared.TheConstants.{MAX};
@@ -28,6 +29,7 @@ use std::alloc::{AllocError as NoMemory, Global};
 /// After how many entries their list gives room back.
 const PIECE: usize = 65536;
 
+/// The tag of an entry. A closed one names the full part.
 fn tag_of(kind: Kind) -> Tag
     ensures { result ≡ tag_of kind }
 {
@@ -38,8 +40,8 @@ fn tag_of(kind: Kind) -> Tag
     }
 }
 
-/// The entries and the open tasks with their tags, the last entry first. The entries' list gives its room back as it goes,
-/// so that the two lists are never there whole at once.
+/// The entries and the open tasks with their tags, the last entry first. The entries' list gives its room
+/// back as it goes, so that the two lists are never there whole at once.
 pub fn given_marks(
     alloc: Global,
     mut entries: Vec<Entry>,
@@ -69,13 +71,15 @@ pub fn given_marks(
 /// Puts the marks into preorder. Once they are arranged, one comparison for each mostly shows that they are.
 pub fn sort_marks(alloc: Global, marks: &mut Vec<Mark>) -> Result<(), NoMemory>
     ensures moved { IsPermutation marks.old.items marks.new.items }
-    ensures sorted { OnOk result (IsSortedBy (λ a b. is_lt (steps_cmp a.node.steps b.node.steps)) marks.new.items) }
+    ensures sorted { OnOk result (IsSortedBy
+        (λ a b. is_lt (steps_cmp a.node.steps b.node.steps)) marks.new.items) }
 {
     arrange(alloc, marks)?;
     marks.sort_by(|a, b| compare_steps(a.node.steps(), b.node.steps()))?;
     Ok(())
 }
 
+/// The tags of marks.
 fn tags_of(alloc: Global, marks: &[Mark]) -> Result<Vec<Tag>, NoMemory>
     ensures { IfOk result (λ tags. tags.items ≡ map (λ m. m.tag) marks.now) }
 {
@@ -97,8 +101,8 @@ pub fn least_bound(cost: u64, left: &[Task]) -> u64
     bound
 }
 
-/// The certificate of a search: the tree of its entries and open tasks, from the root. The plan costs `cost`, or there is
-/// none and `cost` is MAX.
+/// The certificate of a search: the tree of its entries and open tasks, from the root. The plan costs `cost`,
+/// or there is none and `cost` is MAX.
 pub fn merge<V: Values>(
     alloc: Global,
     design: &Design,
@@ -108,14 +112,19 @@ pub fn merge<V: Values>(
     cost: u64,
     values: &V,
 ) -> Result<Cert, NoMemory>
-    requires conserved { IsConserved (V.value values.now design.now) (root design.now ∷ []) entries.items (map (λ t. t.node) left.items) }
+    requires conserved { IsConserved (V.value values.now design.now) (root design.now ∷ []) entries.items
+        (map (λ t. t.node) left.items) }
     requires valued { All (λ t. t.bound ≡ V.value values.now design.now t.node) left.items }
-    requires planned { MatchOption plan (cost ≡ MAX) (λ expr. HasCost design.now expr cost × IsWritable (block_count design.now) expr) }
-    // It is valid where no entry names a lower value than the cost, whatever the parts of the bound: each closed
-    // subproblem names the full one.
-    ensures valid { IfOk result (λ c. All (λ e. cost ≤ e.value) entries.items → (part : Parts → Part → ℕ) → ((node : Parts) → part node Full ≡ V.value values.now design.now node) → IsValid design.now (V.value values.now design.now) part c) }
+    requires planned { MatchOption plan (cost ≡ MAX)
+        (λ expr. HasCost design.now expr cost × IsWritable (block_count design.now) expr) }
+    // It is valid where no entry names a lower value than the cost, whatever the parts of the bound: each
+    // closed subproblem names the full one.
+    ensures valid { IfOk result (λ c. All (λ e. cost ≤ e.value) entries.items → (part : Parts → Part → ℕ)
+        → ((node : Parts) → part node Full ≡ V.value values.now design.now node)
+        → IsValid design.now (V.value values.now design.now) part c) }
     // The tree's subproblems with their tags are the entries and the open tasks.
-    ensures placed { IfOk result (λ c. IsPermutation (given_marks entries.items left.items) (marks (root design.now ∷ []) c.tags)) }
+    ensures placed { IfOk result
+        (λ c. IsPermutation (given_marks entries.items left.items) (marks (root design.now ∷ []) c.tags)) }
     ensures decided { IfOk result (λ c. decided c.tags ≡ length entries.items) }
     ensures bound { IfOk result (λ c. c.bound ≡ least cost (map (λ t. t.bound) left.items)) }
     ensures blocks { IfOk result (λ c. c.blocks ≡ block_count design.now) }
@@ -126,7 +135,7 @@ pub fn merge<V: Values>(
     let mut marks = given_marks(alloc, entries, left)?;
     sort_marks(alloc, &mut marks)?;
     let tags = TagList::from_vec(tags_of(alloc, &marks)?);
-    let blocks = design.blocks.as_slice().len() as u16;
+    let blocks = design.block_count();
     Ok(Cert {
         blocks,
         plan,

@@ -1,6 +1,7 @@
 //! The text of a certificate up to the end of its header.
 
-ghost use Rattle.std.specs.Prelude.{◌≡◌, ◌≢◌, ◌==◌, ℕ, List, ◌∷◌, ◌++◌, [], IfOk, IfErr, MatchOption, IsTrue, IsFalse, ⊤, Ok, Err};
+ghost use Rattle.std.specs.Prelude.{◌≡◌, ◌≢◌, ◌==◌, ℕ, List, ◌∷◌, ◌++◌, [], IfOk, IfErr, MatchOption, IsTrue};
+ghost use Rattle.std.specs.Prelude.{IsFalse, ⊤, Ok, Err};
 ghost use Rattle.sf_model.specs.declared.TheConstants.{MAX};
 ghost use Rattle.sf_polish.specs.Text.{IsWritable};
 ghost use Rattle.sf_certificate.specs.declared.fault.CertFault.TheVariants.{NoMemory};
@@ -18,7 +19,8 @@ use std::marker::Model;
 /// How many lines the header has.
 const HEADER_LINES: u64 = 6;
 
-/// The bytes of a text so far, of which the header has not ended yet or ends with the last. Contracts see the bytes.
+/// The bytes of a text so far, of which the header has not ended yet or ends with the last. Contracts see the
+/// bytes.
 #[derive(Drop)]
 pub struct Opening {
     text: Vec<u8>,
@@ -48,6 +50,7 @@ impl Opening {
         }
     }
 
+    /// The bytes so far.
     pub fn text(&self) -> &[u8]
         ensures { result.now ≡ self.now }
     {
@@ -72,10 +75,12 @@ impl Opening {
     /// The header, and a reader at the first byte behind it.
     pub fn read(&self, alloc: Global, blocks: u16) -> Result<(Header, ByteReader), CertFault>
         requires { IsHeader self.now }
-        ensures reads { IfOk result (λ r. (rest : List ℕ) → cert_read blocks (self.now ++ rest) ≡ said_with blocks r.0 (bytes_on blocks r.1 rest)) }
+        ensures reads { IfOk result (λ r. (rest : List ℕ)
+            → cert_read blocks (self.now ++ rest) ≡ said_with blocks r.0 (bytes_on blocks r.1 rest)) }
         ensures agrees { IfOk result (λ r. no_plan r.0.plan ≡ (r.0.cost == MAX)) }
         ensures writable { IfOk result (λ r. MatchOption r.0.plan ⊤ (IsWritable blocks)) }
-        ensures fault { IfErr result (λ e. e ≢ NoMemory → (rest : List ℕ) → cert_read blocks (self.now ++ rest) ≡ Err e) }
+        ensures fault { IfErr result (λ e. e ≢ NoMemory → (rest : List ℕ)
+            → cert_read blocks (self.now ++ rest) ≡ Err e) }
     {
         let mut scan = Scan::new(&self.text);
         let header = read_header(alloc, &mut scan, &self.text, blocks)?;

@@ -30,18 +30,21 @@ impl Model for TagList {
 impl TagList {
     ghost use Rattle.std.specs.Prelude.{◌≡◌};
 
+    /// The list of these tags.
     pub fn from_vec(items: Vec<Tag>) -> TagList
         ensures { result ≡ items.items }
     {
         TagList { items }
     }
 
+    /// The tags.
     pub fn into_vec(self) -> Vec<Tag>
         ensures { result.items ≡ self }
     {
         self.items
     }
 
+    /// The tags, borrowed.
     pub fn as_slice(&self) -> &[Tag]
         ensures { result.now ≡ self.now }
     {

@@ -35,6 +35,7 @@ fn one_block(alloc: Global) -> Result<Design, AllocError>
     })
 }
 
+/// A search that decided nothing leaves the root open.
 #[test]
 fn merges_an_open_root(rt: HostRuntime) -> Result<(), Fail> {
     let alloc = rt.alloc();
@@ -50,6 +51,7 @@ fn merges_an_open_root(rt: HostRuntime) -> Result<(), Fail> {
     Ok(())
 }
 
+/// A text of the first version is read, its closed subproblems by their full part.
 #[test]
 fn reads_the_first_version(rt: HostRuntime) -> Result<(), Fail> {
     let alloc = rt.alloc();
@@ -67,11 +69,14 @@ fn reads_the_first_version(rt: HostRuntime) -> Result<(), Fail> {
     Ok(())
 }
 
+/// A text of the second version is written as it was read.
 #[test]
 fn writes_the_parts_that_it_read(rt: HostRuntime) -> Result<(), Fail> {
     let alloc = rt.alloc();
-    let text =
-        b"slicing-certificate 2\nblocks 2\ncost none\nbound 0\nplan none\ntree\nE\nS 0\nC a\nC r\nS 1\nC p\nS 0\nC h\nS 0\nC f\nO\n";
+    let header = b"slicing-certificate 2\nblocks 2\ncost none\nbound 0\nplan none\ntree\n";
+    let tree = b"E\nS 0\nC a\nC r\nS 1\nC p\nS 0\nC h\nS 0\nC f\nO\n";
+    let mut text = header.to_vec(alloc)?;
+    text.extend_from_slice(tree)?;
     let tags = [
         Tag::Extend,
         Tag::Split(0),
@@ -85,25 +90,24 @@ fn writes_the_parts_that_it_read(rt: HostRuntime) -> Result<(), Fail> {
         Tag::Closed(Part::Full),
         Tag::Open,
     ];
-    let cert = read(alloc, text, 2)?;
+    let cert = read(alloc, &text, 2)?;
     assert_eq!(rt; cert.tags.as_slice(), tags.as_slice());
     let written = write(alloc, &cert)?;
     assert_eq!(rt; written.as_slice(), text.as_slice());
     Ok(())
 }
 
+/// Of several faults the first is told, with its line.
 #[test]
 fn finds_the_first_fault(rt: HostRuntime) -> Result<(), Fail> {
     let alloc = rt.alloc();
+    let cut =
+        b"slicing-certificate 1\nblocks 2\ncost 12\nbound 12\nplan 0:2x3 1:2x3 *\ntree\nE\nE\n";
+    let more =
+        b"slicing-certificate 1\nblocks 2\ncost 12\nbound 12\nplan 0:2x3 1:2x3 *\ntree\nE E E C C C\nC\n";
     let faults = [
-        (
-            b"slicing-certificate 1\nblocks 2\ncost 12\nbound 12\nplan 0:2x3 1:2x3 *\ntree\nE\nE\n".as_slice(),
-            CertFault::Truncated(8),
-        ),
-        (
-            b"slicing-certificate 1\nblocks 2\ncost 12\nbound 12\nplan 0:2x3 1:2x3 *\ntree\nE E E C C C\nC\n".as_slice(),
-            CertFault::Trailing(8),
-        ),
+        (cut.as_slice(), CertFault::Truncated(8)),
+        (more.as_slice(), CertFault::Trailing(8)),
         (
             b"slicing-certificate 1\nblocks 2\ncost 12\nbound 12\nplan 0:2x3 1:2x3 *\ntree\nX\n".as_slice(),
             CertFault::BadTag(7),

@@ -1,11 +1,13 @@
 //! The tree of a certificate's text, word by word.
 
-ghost use Rattle.std.specs.Prelude.{◌≡◌, ◌≢◌, ℕ, ◌≤◌, List, [], ◌∷◌, IfOk, IfErr, IfSome, IfNone, OnOk, IsTrue, Ok, Some, None, Err};
+ghost use Rattle.std.specs.Prelude.{◌≡◌, ◌≢◌, ℕ, ◌≤◌, List, [], ◌∷◌, IfOk, IfErr, IfSome, IfNone, OnOk};
+ghost use Rattle.std.specs.Prelude.{IsTrue, Ok, Some, None, Err};
 ghost use Rattle.sf_lex.specs.Scan.{LineWord, numbered_words, last_line_of};
 ghost use Rattle.sf_certificate.specs.declared.fault.CertFault.TheVariants.{NoMemory};
 ghost use Rattle.sf_certificate.specs.declared.letter.TagSaid.{TagSaid as SaidValue};
 ghost use Rattle.sf_certificate.specs.Places.{spell_tree};
-ghost use Rattle.sf_certificate.specs.Reading.{tags_said, tree_from, tree_read, first_reader, read_on, with_some};
+ghost use Rattle.sf_certificate.specs.Reading.{tags_said, tree_from, tree_read};
+ghost use Rattle.sf_certificate.specs.Reader.{first_reader, read_on, with_some};
 
 use crate::fault::CertFault;
 use crate::letter::{HalfTag, Letter, TagSaid, letter_of, tag_by};
@@ -19,8 +21,8 @@ use std::marker::Model;
 /// No node stands so deep.
 const TOO_DEEP: u16 = 3200;
 
-/// A reader of a tree between two words: the places that wait for a tag, the version of the text, and a tag whose second
-/// word comes next.
+/// A reader of a tree between two words: the places that wait for a tag, the version of the text, and a tag
+/// whose second word comes next.
 #[derive(Drop)]
 pub struct TreeReader {
     waiting: Waiting,
@@ -29,7 +31,7 @@ pub struct TreeReader {
 }
 
 impl Model for TreeReader {
-    ghost use Rattle.sf_certificate.specs.Reading.{Reader};
+    ghost use Rattle.sf_certificate.specs.Reader.{Reader};
 
     ghost Value = { Reader };
 
@@ -51,8 +53,11 @@ impl TreeReader {
     /// One word more, of this line. The answer is the tag that it ends, if it ends one.
     pub fn take(&mut self, word: &[u8], line: u64, blocks: u16) -> Result<Option<Tag>, CertFault>
         requires { blocks ≤ 320 }
-        ensures tag { IfOk result (λ tag. (last : ℕ) (others : List LineWord) → read_on blocks last self.old (record { line = line; text = word.now } ∷ others) ≡ with_some tag (read_on blocks last self.new others)) }
-        ensures fault { IfErr result (λ e. e ≢ NoMemory → (last : ℕ) (others : List LineWord) → read_on blocks last self.old (record { line = line; text = word.now } ∷ others) ≡ Err e) }
+        ensures tag { IfOk result (λ tag. (last : ℕ) (others : List LineWord)
+            → read_on blocks last self.old (record { line = line; text = word.now } ∷ others)
+            ≡ with_some tag (read_on blocks last self.new others)) }
+        ensures fault { IfErr result (λ e. e ≢ NoMemory → (last : ℕ) (others : List LineWord)
+            → read_on blocks last self.old (record { line = line; text = word.now } ∷ others) ≡ Err e) }
     {
         let Some(said) = self.said(word, line) else {
             return Ok(None);
@@ -65,8 +70,12 @@ impl TreeReader {
         ensures places { self.new.places ≡ self.old.places }
         ensures version { self.new.version ≡ self.old.version }
         ensures whole { IfSome result (λ said. self.new.half ≡ None) }
-        ensures said { IfSome result (λ said. (last : ℕ) (others : List LineWord) → tags_said self.old.version last self.old.half (record { line = line; text = word.now } ∷ others) ≡ said ∷ tags_said self.old.version last None others) }
-        ensures first { IfNone result ((last : ℕ) (others : List LineWord) → tags_said self.old.version last self.old.half (record { line = line; text = word.now } ∷ others) ≡ tags_said self.old.version last self.new.half others) }
+        ensures said { IfSome result (λ said. (last : ℕ) (others : List LineWord)
+            → tags_said self.old.version last self.old.half (record { line = line; text = word.now } ∷ others)
+            ≡ said ∷ tags_said self.old.version last None others) }
+        ensures first { IfNone result ((last : ℕ) (others : List LineWord)
+            → tags_said self.old.version last self.old.half (record { line = line; text = word.now } ∷ others)
+            ≡ tags_said self.old.version last self.new.half others) }
     {
         if let Some(half) = self.half {
             self.half = None;
@@ -91,10 +100,13 @@ impl TreeReader {
     /// A tag that was said, or its fault, at the next place.
     fn put(&mut self, said: TagSaid, blocks: u16) -> Result<Option<Tag>, CertFault>
         requires { blocks ≤ 320 }
-        ensures tag { IfOk result (λ tag. (last : ℕ) (others : List SaidValue) → tree_from blocks last self.old.places (said ∷ others) ≡ with_some tag (tree_from blocks last self.new.places others)) }
+        ensures tag { IfOk result (λ tag. (last : ℕ) (others : List SaidValue)
+            → tree_from blocks last self.old.places (said ∷ others)
+            ≡ with_some tag (tree_from blocks last self.new.places others)) }
         ensures half { IfOk result (λ tag. self.new.half ≡ self.old.half) }
         ensures version { self.new.version ≡ self.old.version }
-        ensures fault { IfErr result (λ e. e ≢ NoMemory → (last : ℕ) (others : List SaidValue) → tree_from blocks last self.old.places (said ∷ others) ≡ Err e) }
+        ensures fault { IfErr result (λ e. e ≢ NoMemory → (last : ℕ) (others : List SaidValue)
+            → tree_from blocks last self.old.places (said ∷ others) ≡ Err e) }
     {
         let Some(place) = self.waiting.take() else {
             return Err(CertFault::Trailing(said.line));
@@ -129,9 +141,11 @@ pub fn read_tree(
     blocks: u16,
 ) -> Result<Vec<Tag>, CertFault>
     requires { blocks ≤ 320 }
-    ensures tags { IfOk result (λ tags. tree_read version blocks (last_line_of text.now) (numbered_words scan.old) ≡ Ok tags.items) }
+    ensures tags { IfOk result
+        (λ tags. tree_read version blocks (last_line_of text.now) (numbered_words scan.old) ≡ Ok tags.items) }
     ensures tree { IfOk result (λ tags. IsTrue (spell_tree blocks tags.items)) }
-    ensures fault { IfErr result (λ e. e ≢ NoMemory → tree_read version blocks (last_line_of text.now) (numbered_words scan.old) ≡ Err e) }
+    ensures fault { IfErr result (λ e. e ≢ NoMemory
+        → tree_read version blocks (last_line_of text.now) (numbered_words scan.old) ≡ Err e) }
 {
     let mut reader = TreeReader::new(alloc, version)?;
     let mut tags = Vec::new(alloc);

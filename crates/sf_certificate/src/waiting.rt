@@ -1,7 +1,11 @@
-//! The places that wait for a tag while a tree is read. The children of one node that are alike share a frame, so that each tag takes a few steps at most.
+//! The places that wait for a tag while a tree is read. The children of one node that are alike share a
+//! frame, so that each tag takes a few steps at most.
 
-ghost use Rattle.std.specs.Prelude.{◌≡◌, ◌≢◌, ℕ, ◌+◌, ◌<◌, ◌≤◌, [], ◌∷◌, ◌++◌, OnOk, IfOk, MatchOption, IsTrue, replicate};
-ghost use Rattle.sf_certificate.specs.Places.{first_place, is_beside, is_above, has_two, may_beside, may_above, joined, named, below, is_full, extended_places, places_under};
+ghost use Rattle.std.specs.Prelude.{◌≡◌, ◌≢◌, ℕ, ◌+◌, ◌<◌, ◌≤◌, [], ◌∷◌, ◌++◌, OnOk, IfOk, MatchOption};
+ghost use Rattle.std.specs.Prelude.{IsTrue, replicate};
+ghost use Rattle.sf_certificate.specs.Places.{first_place, is_beside, is_above, has_two, may_beside};
+ghost use Rattle.sf_certificate.specs.Places.{may_above, joined, named, below, is_full, extended_places};
+ghost use Rattle.sf_certificate.specs.Places.{places_under};
 
 use crate::place::{Ending, Place};
 use crate::tag::Tag;
@@ -35,6 +39,7 @@ impl Model for Waiting {
     ghost view = { λ s. places_of s.frames.items };
 }
 
+/// Whether an operator Beside may come next.
 fn may_beside(place: Place) -> bool
     requires { place.operators ≤ 320 }
     ensures { result ≡ may_beside place }
@@ -42,6 +47,7 @@ fn may_beside(place: Place) -> bool
     place.operators + 2 <= place.operands && place.ending != Ending::Beside
 }
 
+/// Whether an operator Above may come next.
 fn may_above(place: Place) -> bool
     requires { place.operators ≤ 320 }
     ensures { result ≡ may_above place }
@@ -49,6 +55,7 @@ fn may_above(place: Place) -> bool
     place.operators + 2 <= place.operands && place.ending != Ending::Above
 }
 
+/// The place after one more operator.
 fn joined(place: Place, ending: Ending) -> Place
     requires depth { place.depth < 3200 }
     requires operators { place.operators ≤ 320 }
@@ -62,6 +69,7 @@ fn joined(place: Place, ending: Ending) -> Place
     }
 }
 
+/// The place after one more block.
 fn named(place: Place) -> Place
     requires depth { place.depth < 3200 }
     requires operands { place.operands ≤ 320 }
@@ -144,6 +152,7 @@ impl Waiting {
         }
     }
 
+    /// The places of the children by extending come next.
     fn put_extended(&mut self, place: Place, blocks: u16) -> Result<(), NoMemory>
         requires few { blocks ≤ 320 }
         requires shallow { place.depth < 3200 }
@@ -163,6 +172,7 @@ impl Waiting {
         Ok(())
     }
 
+    /// So many places that are alike come next.
     fn put_alike(&mut self, place: Place, count: u16) -> Result<(), NoMemory>
         requires some { 1 ≤ count }
         requires shallow { place.depth ≤ 3200 }

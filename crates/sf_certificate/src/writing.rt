@@ -1,15 +1,18 @@
 //! The text of a certificate.
 
-ghost use Rattle.std.specs.Prelude.{◌≡◌, ◌<◌, ◌^◌, [], ◌∷◌, ◌++◌, All, IfOk, OnOk, string_bytes, codes, length, MatchOption, Ok, ⊤};
+ghost use Rattle.std.specs.Prelude.{◌≡◌, ◌<◌, ◌^◌, [], ◌∷◌, ◌++◌, All, IfOk, OnOk, string_bytes, codes};
+ghost use Rattle.std.specs.Prelude.{length, MatchOption, Ok, ⊤};
 ghost use Rattle.std.specs.Fmt.{decimal};
 ghost use Rattle.sf_polish.specs.Normal.{IsNormal};
 ghost use Rattle.sf_certificate.specs.declared.tag.Tag.TheVariants.{Closed};
 ghost use Rattle.sf_certificate.specs.Reading.{cert_read, said_by};
-ghost use Rattle.sf_certificate.specs.Text.{cost_text, plan_text, header_lines, ended, tag_text, tags_text, cert_text, FitsTag};
+ghost use Rattle.sf_certificate.specs.Text.{plan_text, header_lines, ended, tag_text, tags_text, cert_text};
+ghost use Rattle.sf_certificate.specs.Text.{FitsTag};
+ghost use Rattle.sf_model.specs.CostText.{cost_text};
 
 use crate::cert::Cert;
 use crate::tag::Tag;
-use sf_model::MAX;
+use sf_model::push_cost;
 use sf_node::Part;
 use sf_polish::{Expr, push_expr};
 use std::alloc::{AllocError as NoMemory, Global};
@@ -26,15 +29,17 @@ pub fn write(alloc: Global, cert: &Cert) -> Result<Vec<u8>, NoMemory>
     Ok(text.into_bytes())
 }
 
+/// The lines before the tree.
 fn push_header(text: &mut String, cert: &Cert) -> Result<(), NoMemory>
     ensures cost { OnOk result (cert.now.cost < 2 ^ 64) }
     ensures bound { OnOk result (cert.now.bound < 2 ^ 64) }
     ensures text { OnOk result (string_bytes text.new
-        ≡ string_bytes text.old ++ ended (header_lines cert.now.blocks cert.now.plan cert.now.cost cert.now.bound)) }
+        ≡ string_bytes text.old
+        ++ ended (header_lines cert.now.blocks cert.now.plan cert.now.cost cert.now.bound)) }
 {
     push_title(text, cert.blocks)?;
-    push_cost(text, "cost", cert.cost)?;
-    push_cost(text, "bound", cert.bound)?;
+    push_cost_line(text, "cost", cert.cost)?;
+    push_cost_line(text, "bound", cert.bound)?;
     push_plan(text, &cert.plan)?;
     text.push_str("tree\n")?;
     Ok(())
@@ -42,25 +47,28 @@ fn push_header(text: &mut String, cert: &Cert) -> Result<(), NoMemory>
 
 /// The first two lines.
 fn push_title(text: &mut String, blocks: u16) -> Result<(), NoMemory>
-    ensures { OnOk result (string_bytes text.new ≡ string_bytes text.old ++ (codes "slicing-certificate 2\nblocks " ++ (decimal blocks ++ 10 ∷ []))) }
+    ensures { OnOk result (string_bytes text.new
+        ≡ string_bytes text.old ++ (codes "slicing-certificate 2\nblocks " ++ (decimal blocks ++ 10 ∷ []))) }
 {
     write!(text, "slicing-certificate 2\nblocks {blocks}\n")
 }
 
-fn push_cost(text: &mut String, label: &str, cost: u64) -> Result<(), NoMemory>
+/// A line with a label and a cost.
+fn push_cost_line(text: &mut String, label: &str, cost: u64) -> Result<(), NoMemory>
     ensures cost { OnOk result (cost < 2 ^ 64) }
-    ensures text { OnOk result (string_bytes text.new ≡ string_bytes text.old ++ (label.now ++ 32 ∷ (cost_text cost ++ 10 ∷ []))) }
+    ensures text { OnOk result (string_bytes text.new
+        ≡ string_bytes text.old ++ (label.now ++ 32 ∷ (cost_text cost ++ 10 ∷ []))) }
 {
-    if cost == MAX {
-        write!(text, "{label} none\n")
-    } else {
-        write!(text, "{label} {cost}\n")
-    }
+    write!(text, "{label} ")?;
+    push_cost(text, cost)?;
+    text.push('\n')
 }
 
+/// The line of the plan.
 fn push_plan(text: &mut String, plan: &Option<Expr>) -> Result<(), NoMemory>
     requires { MatchOption plan.now ⊤ (λ expr. IsNormal (length expr.shapes) expr.tokens) }
-    ensures { OnOk result (string_bytes text.new ≡ string_bytes text.old ++ (codes "plan " ++ (plan_text plan.now ++ 10 ∷ []))) }
+    ensures { OnOk result (string_bytes text.new
+        ≡ string_bytes text.old ++ (codes "plan " ++ (plan_text plan.now ++ 10 ∷ []))) }
 {
     text.push_str("plan ")?;
     match plan {
@@ -83,6 +91,7 @@ fn push_tags(text: &mut String, tags: &[Tag]) -> Result<(), NoMemory>
     Ok(())
 }
 
+/// What a tag says, without the end of its line.
 fn push_tag(text: &mut String, tag: Tag) -> Result<(), NoMemory>
     ensures fits { OnOk result (FitsTag tag) }
     ensures text { OnOk result (string_bytes text.new ≡ string_bytes text.old ++ tag_text tag) }

@@ -12,7 +12,8 @@ use Rattle.sf_certificate.specs.declared.fault.CertFault.{CertFault}
 use Rattle.sf_certificate.specs.declared.fault.CertFault.TheVariants as fault
 use Rattle.sf_certificate.specs.Named.{AllNameFirst, AreAlikeButNames}
 use Rattle.sf_certificate.specs.Reading.{Said, said_by, cert_read}
-use Rattle.sf_certificate.specs.Text.{cert_text, cost_text}
+use Rattle.sf_certificate.specs.Text.{cert_text}
+use Rattle.sf_model.specs.CostText.{cost_text}
 use Rattle.sf_checker.specs.declared.answer.Why.{Why}
 use Rattle.sf_checker.specs.declared.answer.Why.TheVariants.{BadPlan, CostDiffers, NotClosed, BoundDiffers, BadSplit, BadChildren}
 use Rattle.sf_checker.specs.declared.answer.Answer.{Answer}

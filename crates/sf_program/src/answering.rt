@@ -2,7 +2,7 @@
 
 ghost use Rattle.std.specs.Prelude.{◌≡◌, ◌∷◌, [], IfOk, codes, string_bytes};
 ghost use Rattle.std.specs.Fmt.{decimal};
-ghost use Rattle.sf_certificate.specs.Text.{cost_text};
+ghost use Rattle.sf_model.specs.CostText.{cost_text};
 ghost use Rattle.sf_checker.specs.declared.answer.Answer.TheVariants as answers;
 ghost use Rattle.sf_program.specs.Checked.{answer_status, answer_text, cert_refusal, why_words};
 ghost use Rattle.sf_program.specs.Outcome.{Refuses};

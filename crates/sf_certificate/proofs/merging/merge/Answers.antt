@@ -1,4 +1,4 @@
-use Rattle.std.proofs.Common.{ℕ, length, ap, ◌∙◌, map, List}
+use Rattle.std.proofs.Common.{ℕ, ap, ◌∙◌, map, List}
 use Rattle.sf_node.specs.declared.task.Task.{Task}
 use Rattle.sf_certificate.specs.declared.mark.Mark.{Mark}
 use Rattle.sf_certificate.specs.Valid.{least}
@@ -14,7 +14,7 @@ invariant_of-result g c =
     let merged = merged-any design value c.args.entries.items c.args.left.items c.in_ok-marks.marks.items c.sort_marks.new.marks.items c.from_vec-tags.result
     c.requires.conserved c.in_ok-marks.ensures.all c.in_ok-sort_marks.ensures.moved c.in_ok-sort_marks.ensures.sorted
     (c.from_vec-tags.ensures ∙ c.in_ok-tags_of.ensures ∙ ap (map (λ (m : Mark). m.tag)) c.deref-2.ensures.value) in
-    record { form = merged-formed design value (λ node p. value node) c.args.cost 0 (length c.as_slice.result.now) c.args.entries.items c.args.left.items c.from_vec-tags.result c.args.plan (ap length c.as_slice.ensures) merged c.requires.planned (subproblem-shallow design) }
+    record { form = merged-formed design value (λ node p. value node) c.args.cost 0 c.block_count-blocks.result c.args.entries.items c.args.left.items c.from_vec-tags.result c.args.plan c.block_count-blocks.ensures merged c.requires.planned (subproblem-shallow design) }
 
 pub returns-clause-valid : goal.returns-clause-valid
 returns-clause-valid g c = λ fresh part full.

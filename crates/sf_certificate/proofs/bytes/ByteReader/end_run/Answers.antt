@@ -4,7 +4,7 @@ use Rattle.std.proofs.lemmas.Result.{err_from_is_err_and}
 use Rattle.std.proofs.lemmas.Bool.Decides.{nat_tests}
 use Rattle.sf_lex.specs.Text.{is_blank_byte}
 use Rattle.sf_certificate.specs.Bytes.{Bytewise, bytes_on, past_blank}
-use Rattle.sf_certificate.specs.Reading.{with_some}
+use Rattle.sf_certificate.specs.Reader.{with_some}
 use Rattle.sf_certificate.proofs.ByteReads.{kept-tag, kept-fault, run-tag, run-fault}
 use Rattle.sf_certificate.proofs.bytes.ByteReader.end_run.Goals as goal
 
