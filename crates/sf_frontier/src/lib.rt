@@ -1,9 +1,11 @@
-//! The deques of a team: each worker has one, into which it puts and from which it takes, and the worker before it steals there.
+//! The deques of a team: each worker has one, into which it puts and from which it takes, and the worker
+//! before it steals there.
 //!
-//! `team` makes the deques, with an owner and a thief each, and `finish` takes what is left in them. The crate stands on
-//! the ruled calls of `crossbeam_deque` and on `sf_node` for the tasks. What a team serves, a property of tasks, is chosen
-//! by its caller (`Served`). The crates above use that of each deque, whatever the schedule, what was put is what its
-//! owner took, what its thief took and what is left (`IsFinished`), and that every task that is taken or left is served.
+//! `team` makes the deques, with an owner and a thief each, and `finish` takes what is left in them. The
+//! crate stands on the ruled calls of `crossbeam_deque` and on `sf_node` for the tasks. What a team serves, a
+//! property of tasks, is chosen by its caller (`Served`). The crates above use that of each deque, whatever
+//! the schedule, what was put is what its owner took, what its thief took and what is left (`IsFinished`),
+//! and that every task that is taken or left is served.
 #![tactic(auto)]
 
 mod ends;

@@ -12,8 +12,8 @@ use std::mem;
 /// How many tasks a deque is made for. It grows as it needs to.
 const FIRST_SLOTS: usize = 64;
 
-/// One deque for each worker, and for each worker a thief on the next worker's deque; the first is next after the last.
-/// A worker alone has no thief.
+/// One deque for each worker, and for each worker a thief on the next worker's deque; the first is next after
+/// the last. A worker alone has no thief.
 pub fn team<T: Served>(alloc: Global, workers: u16) -> Result<Vec<Place<T>>, NoMemory>
     requires { 1 ≤ workers }
     ensures team { IfOk result (λ places. IsTeam places.items × (length places.items ≡ workers)) }

@@ -12,8 +12,8 @@ use crate::rule::Served;
 use sf_node::{Task, Tasks};
 use std::alloc::{AllocError as NoMemory, Global};
 
-/// Takes what is left in the deques of a team. Of each deque, what was put is what its owner took, what its thief took and
-/// what is left.
+/// Takes what is left in the deques of a team. Of each deque, what was put is what its owner took, what its
+/// thief took and what is left.
 pub fn finish<T: Served>(alloc: Global, mut places: Vec<Place<T>>) -> Result<Finish, NoMemory>
     requires { IsTeam places.items }
     ensures finished { IfOk result (λ done. IsFinished places.items done.left) }
@@ -53,7 +53,8 @@ pub fn finish<T: Served>(alloc: Global, mut places: Vec<Place<T>>) -> Result<Fin
 /// Takes what is left in the deque of an owner that has all parts of it.
 fn drain<T: Served>(mut owner: Owner<T>, left: &mut Vec<Task>) -> Result<(), NoMemory>
     requires { owner.deque.parts ≡ 1 }
-    ensures left { IfOk result (λ _. (more : List Task) × (left.new.items ≡ left.old.items ++ more) × SameTasks owner.put (owner.taken ++ more) × All T.serves more) }
+    ensures left { IfOk result (λ _. (more : List Task) × (left.new.items ≡ left.old.items ++ more)
+        × SameTasks owner.put (owner.taken ++ more) × All T.serves more) }
 {
     loop {
         left.reserve(1)?;

@@ -1,11 +1,12 @@
 //! The incumbent: one word that the workers of a search share, the least cost found so far.
 //!
-//! A worker reads the word by one load and lowers it by one fetch-min, in any schedule. What it knows of the word it carries
-//! in a `Seat`, a token of no bytes: the least value that it has seen, the least that it has offered, and its parts of the
-//! right to know the whole. Seats are split off for the workers and joined again after them. The crate stands on
-//! `atomic_table`, whose rule `IsWord` each step keeps: the word is the least of its start and all offers. The crates above
-//! use that no answer is above what its seat has read or offered before, and that whoever has all seats joined knows the
-//! word: the least of the start and all offers (`finish`).
+//! A worker reads the word by one load and lowers it by one fetch-min, in any schedule. What it knows of the
+//! word it carries in a `Seat`, a token of no bytes: the least value that it has seen, the least that it has
+//! offered, and its parts of the right to know the whole. Seats are split off for the workers and joined
+//! again after them. The crate stands on `atomic_table`, whose rule `IsWord` each step keeps: the word is the
+//! least of its start and all offers. The crates above use that no answer is above what its seat has read or
+//! offered before, and that whoever has all seats joined knows the word: the least of the start and all
+//! offers (`finish`).
 #![tactic(auto)]
 
 ghost use Rattle.std.specs.Prelude.{◌≡◌, ℕ, ◌+◌, ◌-◌, ◌<◌, ◌≤◌, [], min, IfOk};
@@ -29,12 +30,17 @@ pub struct Incumbent {
 impl Model for Incumbent {
     ghost Value = { Word };
 
-    ghost view = { λ w. record { id = w.table.shared.table_id; start = w.table.shared.key.start; seats = w.table.shared.key.seats } };
+    ghost view = { λ w. record {
+      id = w.table.shared.table_id;
+      start = w.table.shared.key.start;
+      seats = w.table.shared.key.seats;
+    } };
 
     ghost invariant = { λ w. (w.table.shared.table_id.words ≡ 1) × (w.table.shared.table_id.slots ≡ 0) };
 }
 
-/// What one holder knows of the word: the least value that it has seen, the least that it has offered, and its parts.
+/// What one holder knows of the word: the least value that it has seen, the least that it has offered, and
+/// its parts.
 #[derive(Drop)]
 pub struct Seat {
     seat: atomic_table::Seat<(), View>,
@@ -43,7 +49,12 @@ pub struct Seat {
 impl Model for Seat {
     ghost Value = { Knows };
 
-    ghost view = { λ s. record { word = s.seat.table_id; seen = s.seat.me.0.seen; offered = s.seat.me.0.offered; parts = s.seat.me.0.parts } };
+    ghost view = { λ s. record {
+      word = s.seat.table_id;
+      seen = s.seat.me.0.seen;
+      offered = s.seat.me.0.offered;
+      parts = s.seat.me.0.parts;
+    } };
 
     ghost invariant = { λ s. (0 < s.seat.me.0.parts) × (s.seat.me.1 ≡ []) };
 }
@@ -53,7 +64,8 @@ impl Incumbent {
     pub fn new(alloc: Global, start: u64, seats: u16) -> Result<(Incumbent, Seat), NoMemory>
         requires { 1 ≤ seats }
         ensures word { IfOk result (λ r. (r.0.start ≡ start) × (r.0.seats ≡ seats)) }
-        ensures seat { IfOk result (λ r. r.1 ≡ record { word = r.0.id; seen = start; offered = u64.MAX; parts = seats }) }
+        ensures seat { IfOk result
+            (λ r. r.1 ≡ record { word = r.0.id; seen = start; offered = u64.MAX; parts = seats }) }
     {
         let (table, seat) = Table::of_words(alloc, &[start], &Opening { start, seats })?;
         Ok((Incumbent { table }, Seat { seat }))
@@ -64,7 +76,8 @@ impl Incumbent {
         requires seat { seat.old.word ≡ self.now.id }
         requires parts { 2 ≤ seat.old.parts }
         ensures one { seat.new ≡ record seat.old { parts = seat.old.parts - 1 } }
-        ensures other { result ≡ record { word = self.now.id; seen = seat.old.seen; offered = u64.MAX; parts = 1 } }
+        ensures other { result
+            ≡ record { word = self.now.id; seen = seat.old.seen; offered = u64.MAX; parts = 1 } }
     {
         Seat {
             seat: self.table.shared.split_seat::<Halves>(&mut seat.seat),
@@ -96,7 +109,13 @@ impl Incumbent {
     /// The one seat takes over what the other has seen and offered, and its parts.
     pub fn join(&self, into: &mut Seat, from: Seat)
         requires { (into.old.word ≡ self.now.id) × (from.word ≡ self.now.id) }
-        ensures { into.new ≡ record into.old { seen = min into.old.seen from.seen; offered = min into.old.offered from.offered; parts = into.old.parts + from.parts } }
+        ensures { into.new
+            ≡ record into.old {
+              seen = min into.old.seen from.seen;
+              offered = min into.old.offered
+                  from.offered;
+              parts = into.old.parts + from.parts;
+            } }
     {
         let Seat { seat } = from;
         self.table.shared.join_seat::<Whole>(&mut into.seat, seat);
