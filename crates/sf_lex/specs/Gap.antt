@@ -16,8 +16,10 @@ is_gap Sizes b = is_blank_byte b || (b == 40 || (b == 41 || (b == 44 || b == 61)
 abbrev pub without_gap : Gap → List ℕ → List ℕ
 without_gap gap bytes = drop (prefix_len (is_gap gap) bytes) bytes
 
+-- the first word, which is empty where there is none
 abbrev pub first_word : Gap → List ℕ → List ℕ
 first_word gap bytes = before_first (is_gap gap) (without_gap gap bytes)
 
+-- what stands after the first word
 abbrev pub after_word : Gap → List ℕ → List ℕ
 after_word gap bytes = drop (position_or_len (is_gap gap) (without_gap gap bytes)) (without_gap gap bytes)

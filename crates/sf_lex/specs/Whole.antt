@@ -8,6 +8,7 @@ use Rattle.sf_lex.specs.Number.{is_digit, is_zero, number_of}
 abbrev pub is_whole : List ℕ → Bool
 is_whole word = list_all is_digit word && (is_not_empty word && nat_le (length word) 20)
 
+-- the first digit is 0
 abbrev pub begins_with_zero : List ℕ → Bool
 begins_with_zero [] = false
 begins_with_zero (b ∷ word) = is_zero b
@@ -16,6 +17,7 @@ begins_with_zero (b ∷ word) = is_zero b
 abbrev pub is_plain : List ℕ → Bool
 is_plain word = list_all is_digit word && (is_not_empty word && (length word == 1 || not (begins_with_zero word)))
 
+-- a number, where it is within the limit
 abbrev pub up_to : ℕ → ℕ → Option ℕ
 up_to limit n = if nat_le n limit then Some n else None
 

@@ -18,36 +18,35 @@ pub enum Gap {
     Sizes,
 }
 
-fn is_in_gap(gap: Gap, byte: u8) -> bool
-    ensures { result ≡ is_gap gap byte }
-{
-    match byte {
-        b' ' | b'\t' | b'\r' | b'\n' => true,
-        b':' => gap == Gap::Colons,
-        b'(' | b')' | b',' => gap == Gap::Points || gap == Gap::Sizes,
-        b'=' => gap == Gap::Sizes,
-        _ => false,
+impl Gap {
+    /// Whether this byte counts as a blank.
+    pub fn has(self, byte: u8) -> bool
+        ensures { result ≡ is_gap self byte }
+    {
+        match byte {
+            b' ' | b'\t' | b'\r' | b'\n' => true,
+            b':' => self == Gap::Colons,
+            b'(' | b')' | b',' => self == Gap::Points || self == Gap::Sizes,
+            b'=' => self == Gap::Sizes,
+            _ => false,
+        }
     }
 }
 
-fn gap_len(bytes: &[u8], gap: Gap) -> usize
+/// How many blanks stand at the front.
+pub fn gap_len(bytes: &[u8], gap: Gap) -> usize
     ensures value { result ≡ prefix_len (is_gap gap) bytes.now }
     ensures bound { result ≤ length bytes.now }
 {
-    bytes
-        .iter()
-        .take_while(|byte| is_in_gap(gap, **byte))
-        .count()
+    bytes.iter().take_while(|byte| gap.has(**byte)).count()
 }
 
-fn word_len(bytes: &[u8], gap: Gap) -> usize
+/// How many bytes stand before the first blank.
+pub fn word_len(bytes: &[u8], gap: Gap) -> usize
     ensures value { result ≡ position_or_len (is_gap gap) bytes.now }
     ensures bound { result ≤ length bytes.now }
 {
-    bytes
-        .iter()
-        .take_while(|byte| !is_in_gap(gap, **byte))
-        .count()
+    bytes.iter().take_while(|byte| !gap.has(**byte)).count()
 }
 
 /// The first word and what follows it. The word is empty where there is none.

@@ -13,12 +13,14 @@ pub fn lines_are_read()
         → lines (line ++ 10 ∷ rest) ≡ line ∷ lines rest }
     ensures words { (n : ℕ) (line rest : List ℕ) → has_none is_line_feed line ≡ true
         → words_of_lines (numbered n (lines (line ++ 10 ∷ rest)))
-        ≡ words_of_line (record { number = n; bytes = line }) ++ words_of_lines (numbered (n + 1) (lines rest)) }
+        ≡ words_of_line (record { number = n; bytes = line })
+        ++ words_of_lines (numbered (n + 1) (lines rest)) }
 {}
 
 /// A word that a blank ends is the first word, whatever counts as a blank.
 pub fn words_are_read()
-    ensures word { (blank : ℕ → Bool) (word rest : List ℕ) (b : ℕ) → 0 < length word → has_none blank word ≡ true
+    ensures word { (blank : ℕ → Bool) (word rest : List ℕ) (b : ℕ) → 0 < length word
+        → has_none blank word ≡ true
         → blank b ≡ true → words blank (word ++ b ∷ rest) ≡ word ∷ words blank rest }
     ensures last { (blank : ℕ → Bool) (word : List ℕ) → 0 < length word → has_none blank word ≡ true
         → words blank word ≡ word ∷ [] }

@@ -1,26 +1,11 @@
 //! Whole numbers of digits alone.
 
-ghost use Rattle.std.specs.Prelude.{◌≡◌, ◌≤◌, IsTrue, IfSome, min};
+ghost use Rattle.std.specs.Prelude.{◌≡◌, ◌≤◌, IsTrue, IfSome};
 ghost use Rattle.std.specs.List.{list_all};
 ghost use Rattle.sf_lex.specs.Number.{is_digit, number_of};
 ghost use Rattle.sf_lex.specs.Whole.{whole_read, plain_read, begins_with_zero, up_to};
 
-use crate::number::are_digits;
-
-/// One more than the greatest limit of a call.
-const ABOVE_LIMITS: u128 = 18_446_744_073_709_551_616;
-
-/// The number that the digits write, or `ABOVE_LIMITS` where it is larger.
-fn number(digits: &[u8]) -> u128
-    requires { IsTrue (list_all is_digit digits.now) }
-    ensures { result ≡ min (number_of digits.now) ABOVE_LIMITS }
-{
-    let mut number = 0;
-    for digit in digits {
-        number = (number * 10 + u128::from(digit.saturating_sub(b'0'))).min(ABOVE_LIMITS);
-    }
-    number
-}
+use crate::digits::{are_digits, number};
 
 /// The number that the digits write, where it is within the limit.
 fn number_up_to(digits: &[u8], limit: u64) -> Option<u64>
@@ -35,6 +20,7 @@ fn number_up_to(digits: &[u8], limit: u64) -> Option<u64>
     }
 }
 
+/// Whether the first digit is a zero.
 fn has_zero_at_front(word: &[u8]) -> bool
     ensures { result ≡ begins_with_zero word.now }
 {
