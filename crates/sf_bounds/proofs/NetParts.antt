@@ -2,7 +2,7 @@
 use Rattle.std.proofs.Common.{◌≡◌, ℕ, ◌+◌, ◌<◌, ◌≤◌, max, List, [], ◌∷◌, map, length, get_or, refl, ap, sym, subst, ◌∙◌, arith, true, false}
 use Rattle.std.specs.Prelude.{nat_lt, if◌then◌else◌, None}
 use Rattle.std.specs.List.{AllByRecursion}
-use Rattle.std.proofs.lemmas.Bool.{cond-false, le-ltb}
+use Rattle.std.proofs.lemmas.Bool.{cond-true, cond-false, lt-ltb, le-ltb}
 use Rattle.std.proofs.lemmas.List.{length-reverse}
 use Rattle.std.proofs.lemmas.List.Elements.{recursion_from_All}
 use Rattle.sf_model.specs.declared.design.Design.{Design}
@@ -11,6 +11,8 @@ use Rattle.sf_model.specs.declared.parts.Pin.{Pin}
 use Rattle.sf_model.specs.declared.parts.Pin.TheVariants as pin
 use Rattle.sf_model.specs.Legal.{block_count}
 use Rattle.sf_model.specs.Limits.{pin_number, pin_count}
+use Rattle.sf_node.specs.declared.part.Part.{Part}
+use Rattle.sf_node.specs.declared.part.Part.TheVariants.{Area, Range, Pair, Hull, Full}
 use Rattle.sf_node.specs.Parts.{Parts}
 use Rattle.sf_node.specs.Subproblem.{is_complete}
 use Rattle.sf_node.specs.Children.{IsSubproblem}
@@ -89,11 +91,37 @@ module _ (design : Design) (node : Parts) (layout : Layout) (m : IsLayout design
           full = counts w.full (max (range_part design ext pins) (max (pair_part ext pins) (hull_part design ext (is_complete node) (items_of node) pins))) two (omega (arith, full, range ∙ range-part, pair ∙ pair-part, hull));
         }
 
+    -- each of them alone
+    pub range_counts : (n : ℕ) → 2 ≤ length pins → n ≡ reach_gap (shared_ranges design layout.table.items pins) → n ≡ pins_by design node pins Range
+    range_counts n two e = counts n (range_part design (extent_in design node) pins) two (e ∙ range-part)
+
+    pub pair_counts : (n : ℕ) → 2 ≤ length pins → n ≡ (paired_sides layout.table.items pins).sum → n ≡ pins_by design node pins Pair
+    pair_counts n two e = counts n (pair_part (extent_in design node) pins) two (e ∙ pair-part)
+
+    pub whole_counts : (n : ℕ) → is_complete node ≡ true → 2 ≤ length pins → n ≡ reach_gap (shared_homes design layout.table.items pins) → n ≡ pins_by design node pins Hull
+    whole_counts n complete two e =
+        counts n (hull_part design (extent_in design node) (is_complete node) (items_of node) pins) two (e ∙ whole_hull design node layout sub m pins inside complete)
+
+    pub open_counts : (n : ℕ) → is_complete node ≡ false → 2 ≤ length pins → n ≡ greatest_gap design layout.table.items false (shared_in design layout.table.items false pins) pins → n ≡ pins_by design node pins Hull
+    open_counts n incomplete two e =
+        counts n (hull_part design (extent_in design node) (is_complete node) (items_of node) pins) two (e ∙ open_hull design node layout sub m pins inside incomplete)
+
+    -- all of them together
     pub whole_are : (w : WireParts) → is_complete node ≡ true → 2 ≤ length pins → w.range ≡ reach_gap (shared_ranges design layout.table.items pins) → w.pair ≡ (paired_sides layout.table.items pins).sum → w.hull ≡ reach_gap (shared_homes design layout.table.items pins) → w.full ≡ max w.range (max w.pair w.hull) → AreByPart (pins_by design node pins) w
     whole_are w complete two range pair hull = parts w two range pair (hull ∙ whole_hull design node layout sub m pins inside complete)
 
     pub open_are : (w : WireParts) → is_complete node ≡ false → 2 ≤ length pins → w.range ≡ reach_gap (shared_ranges design layout.table.items pins) → w.pair ≡ (paired_sides layout.table.items pins).sum → w.hull ≡ greatest_gap design layout.table.items false (shared_in design layout.table.items false pins) pins → w.full ≡ max w.range (max w.pair w.hull) → AreByPart (pins_by design node pins) w
     open_are w incomplete two range pair hull = parts w two range pair (hull ∙ open_hull design node layout sub m pins inside incomplete)
+
+-- fewer than two pins take nothing by any part
+pub no-wire : (design : Design) (node : Parts) (pins : List Pin) (part : Part) → length pins < 2 → 0 ≡ pins_by design node pins part
+no-wire design node pins Area few = refl
+no-wire design node pins Range few = sym (cond-true (nat_lt (length pins) 2) 0 (range_part design (extent_in design node) pins) (lt-ltb (length pins) 2 few))
+no-wire design node pins Pair few = sym (cond-true (nat_lt (length pins) 2) 0 (pair_part (extent_in design node) pins) (lt-ltb (length pins) 2 few))
+no-wire design node pins Hull few = sym (cond-true (nat_lt (length pins) 2) 0 (hull_part design (extent_in design node) (is_complete node) (items_of node) pins) (lt-ltb (length pins) 2 few))
+no-wire design node pins Full few =
+    let e = extent_in design node in
+    sym (cond-true (nat_lt (length pins) 2) 0 (max (range_part design e pins) (max (pair_part e pins) (hull_part design e (is_complete node) (items_of node) pins))) (lt-ltb (length pins) 2 few))
 
 -- the one item of a complete subproblem
 pub ready_whole : (design : Design) (node : Parts) (layout : Layout) → IsSubproblem design node → IsLayout design node layout → is_complete node ≡ true → IsReady design 1 layout.table.items

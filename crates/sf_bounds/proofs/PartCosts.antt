@@ -6,10 +6,11 @@ use Rattle.std.specs.Prelude.{nat_lt, if◌then◌else◌}
 use Rattle.std.specs.List.{list_any}
 use Rattle.sf_model.specs.declared.design.Design.{Design}
 use Rattle.sf_model.specs.declared.TheConstants.{MAX}
-use Rattle.sf_node.specs.declared.part.Part.TheVariants.{Area, Range, Pair, Hull}
+use Rattle.sf_node.specs.declared.part.Part.{Part}
+use Rattle.sf_node.specs.declared.part.Part.TheVariants.{Area, Range, Pair, Hull, Full}
 use Rattle.sf_node.specs.ByPart.{AreValues}
 use Rattle.sf_node.specs.Parts.{Parts}
-use Rattle.sf_standard.specs.Standard.{has_none, needed_area, wires_by, wire_part, plans_of, bounded, open_value, part_value}
+use Rattle.sf_standard.specs.Standard.{has_none, needed_area, wires_by, wire_part, plans_of, bounded, open_value, standard, part_value}
 use Rattle.sf_standard.proofs.ByPart.{areas-free}
 use Rattle.sf_frames.specs.Groups.{IsNeeded}
 use Rattle.sf_bounds.specs.declared.wire_parts.WireParts.{WireParts}
@@ -68,6 +69,21 @@ module _ (design : Design) (node : Parts) where
     pair = omega (arith, cost.value (wires_by design node Pair), wires.values.pair);
     hull = omega (arith, cost.value (wires_by design node Hull), wires.values.hull);
   }
+
+  -- one of them alone, the whole bound too
+  pub part-is : (part : Part) (v cost : ℕ) → IsAreaCost design node v → cost ≡ design.weights.wire * wires_by design node part → standard design node ≡ open_value design node → v + cost ≡ part_value design node part
+  part-is Area v cost area is full = omega (arith, area.value (wires_by design node Area), is)
+  part-is Range v cost area is full = omega (arith, area.value (wires_by design node Range), is)
+  part-is Pair v cost area is full = omega (arith, area.value (wires_by design node Pair), is)
+  part-is Hull v cost area is full = omega (arith, area.value (wires_by design node Hull), is)
+  part-is Full v cost area is full = omega (arith, area.value (wire_part design node), is, full)
+
+  pub no-part : (part : Part) → ((wires : ℕ) → bounded design wires (plans_of design node) ≡ MAX) → standard design node ≡ open_value design node → MAX ≡ part_value design node part
+  no-part Area none full = sym (none (wires_by design node Area))
+  no-part Range none full = sym (none (wires_by design node Range))
+  no-part Pair none full = sym (none (wires_by design node Pair))
+  no-part Hull none full = sym (none (wires_by design node Hull))
+  no-part Full none full = sym (full ∙ none (wire_part design node))
 
   -- all of them together
   pub full-is : (v : ℕ) (w : WireParts) → IsAreaCost design node v → AreWireCosts design node w → v + w.full ≡ open_value design node

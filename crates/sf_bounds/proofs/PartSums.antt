@@ -26,6 +26,11 @@ pub record ArePartsBefore (design : Design) (node : Parts) (i : ℕ) (sums : Wir
   pub values : AreByPart (λ part. sum_by (of_net design node part) (take i design.nets)) sums
   pub small : AreAtMost (714000000000 * i) sums
 
+-- one of them
+pub record IsSumBefore (design : Design) (node : Parts) (part : Part) (i sum : ℕ) : Type 0 where
+  pub value : sum ≡ sum_by (of_net design node part) (take i design.nets)
+  pub small : sum ≤ 714000000000 * i
+
 module _ (design : Design) (node : Parts) (i : ℕ) (net : Net) (lt : i < length design.nets) (at : net ≡ get_or design.nets i net) where
   more : (part : Part) → sum_by (of_net design node part) (take (i + 1) design.nets) ≡ sum_by (of_net design node part) (take i design.nets) + of_net design node part net
   more part = sum_by_more (of_net design node part) design.nets i net lt ∙ ap (λ n. sum_by (of_net design node part) (take i design.nets) + of_net design node part n) (sym at)
@@ -49,6 +54,19 @@ module _ (design : Design) (node : Parts) (i : ℕ) (net : Net) (lt : i < length
           full = omega (arith, full, before.small.full, weighed_small net.weight parts.full light small.full);
         };
       }
+
+  -- one of them with one more net, and with a net of weight 0, which adds nothing
+  pub net-adds : (part : Part) (sum wire : ℕ) → IsSumBefore design node part i sum → wire ≡ pins_by design node net.pins part → wire ≤ 2800000000 → net.weight < 256 → IsSumBefore design node part (i + 1) (sum + net.weight * wire)
+  net-adds part sum wire before is small light = record {
+    value = omega (arith, before.value, more part, ap (λ n. net.weight * n) is);
+    small = omega (arith, before.small, weighed_small net.weight wire light small);
+  }
+
+  pub none-adds : (part : Part) (sum : ℕ) → IsSumBefore design node part i sum → net.weight ≡ 0 → IsSumBefore design node part (i + 1) sum
+  none-adds part sum before free = record {
+    value = omega (arith, before.value, more part, ap (λ n. n * pins_by design node net.pins part) free);
+    small = omega (arith, before.small);
+  }
 
   -- a net of weight 0 adds nothing
   pub net-free : (sums : WireParts) → ArePartsBefore design node i sums → net.weight ≡ 0 → ArePartsBefore design node (i + 1) sums

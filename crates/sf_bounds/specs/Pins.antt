@@ -72,6 +72,10 @@ pub record IsReady (design : Design) (items : ℕ) (table : List Standing) : Typ
   pub count : length table ≡ block_count design
   pub each : All (IsReadyAt items) table
 
+-- the same for some number of items
+abbrev pub IsReadable : Design → List Standing → Type 0
+IsReadable design table = (items : ℕ) × IsReady design items table
+
 abbrev pub standing_at : List Standing → ℕ → Standing
 standing_at table b = slice_index_or table b (record { side = 0; range = anywhere; home = None })
 

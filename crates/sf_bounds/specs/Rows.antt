@@ -7,6 +7,8 @@ use Rattle.sf_model.specs.declared.parts.Pin.{Pin}
 use Rattle.sf_model.specs.declared.parts.Pin.TheVariants as pin
 use Rattle.sf_model.specs.Legal.{block_count}
 use Rattle.sf_polish.specs.declared.expr.Token.{Token}
+use Rattle.sf_node.specs.declared.part.Part.{Part}
+use Rattle.sf_node.specs.declared.part.Part.TheVariants as by
 use Rattle.sf_node.specs.declared.part.Part.TheVariants.{Range, Pair}
 use Rattle.sf_node.specs.Parts.{Parts}
 use Rattle.sf_node.specs.Subproblem.{root, is_complete}
@@ -20,6 +22,8 @@ use Rattle.sf_frames.specs.declared.direction.Direction.TheVariants as way
 use Rattle.sf_frames.specs.Direction.{token_in}
 use Rattle.sf_frames.specs.Kept.{items_at, IsNext}
 use Rattle.sf_bounds.specs.declared.net_frame.BlockRow.{BlockRow}
+use Rattle.sf_bounds.specs.declared.net_frame.Changing.{Changing}
+use Rattle.sf_bounds.specs.declared.net_frame.Changing.TheVariants as changing
 use Rattle.sf_bounds.specs.declared.net_frame.Ending.{Ending}
 use Rattle.sf_bounds.specs.declared.net_frame.Ending.TheVariants.{Open, Joined}
 use Rattle.sf_bounds.specs.declared.net_frame.Cell.{Cell}
@@ -115,6 +119,21 @@ weighed_cell weights cell j = slice_index_or weights j 0 * (cell j).part
 -- the same of its gaps alone
 abbrev pub weighed_hull : List ℕ → (ℕ → Cell) → ℕ → ℕ
 weighed_hull weights cell j = slice_index_or weights j 0 * (cell j).hull
+
+-- the part of the bound that changes along a path
+abbrev pub changed : Changing → Part
+changed changing.Hull = by.Hull
+changed changing.Full = by.Full
+
+-- what a net takes of it before any token
+abbrev pub least_at : Changing → Cell → ℕ
+least_at changing.Hull c = 0
+least_at changing.Full c = c.part
+
+-- its sum over all nets
+abbrev pub sum_in : Changing → Wires → ℕ
+sum_in changing.Hull w = w.hull
+sum_in changing.Full w = w.sum
 
 -- sums of so many nets
 pub record AreSmall (n : ℕ) (w : Wires) : Type 0 where

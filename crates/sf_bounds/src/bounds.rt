@@ -1,3 +1,5 @@
+//! What a search asks of a bound, and the standard one.
+
 ghost use Rattle.std.specs.Prelude.{◌≡◌, ℕ, Some, IfOk, IfSome};
 ghost use Rattle.sf_model.specs.declared.design.Design.{Design as DesignValue};
 ghost use Rattle.sf_node.specs.declared.part.Part.{Part as PartName};
@@ -32,8 +34,8 @@ pub trait Bounds: Values + Sync {
         ensures value { IfOk result (λ v. v ≡ Self.Values.value self.now design.now node.now) }
         ensures serves { room.new ≡ Some design.now };
 
-    /// The value of a child of a subproblem whose value is given. A bound that keeps its value at some children may answer
-    /// it from that.
+    /// The value of a child of a subproblem whose value is given. A bound that keeps its value at some
+    /// children may answer it from that.
     fn child_bound<'a>(
         &self,
         design: &'a Design,
@@ -60,7 +62,8 @@ pub trait Bounds: Values + Sync {
         requires child { IsChildOf design.now (Self.Values.value self.now design.now) value child.now }
         requires serves { MayServe room.old design.now }
         ensures value { IfOk result (λ v. v.value ≡ Self.Values.value self.now design.now child.now) }
-        ensures parts { IfOk result (λ v. IfSome v.parts (AreValues (Self.part_value self.now design.now child.now))) }
+        ensures parts { IfOk result (λ v.
+            IfSome v.parts (AreValues (Self.part_value self.now design.now child.now))) }
         ensures serves { room.new ≡ Some design.now }
     {
         let value = self.child_bound(design, child, value, room)?;
@@ -101,13 +104,16 @@ pub trait Bounds: Values + Sync {
     }
 
     /// No plan that belongs to a subproblem and fits costs less than the value.
-    ghost sound: { (bounds : Self) (design : DesignValue) → IsSound design (Self.Values.value bounds design) };
+    ghost sound: { (bounds : Self) (design : DesignValue)
+        → IsSound design (Self.Values.value bounds design) };
 
     /// At a solved subproblem the value is the least cost, or MAX.
-    ghost exact: { (bounds : Self) (design : DesignValue) → IsExactAtEnd design (Self.Values.value bounds design) };
+    ghost exact: { (bounds : Self) (design : DesignValue)
+        → IsExactAtEnd design (Self.Values.value bounds design) };
 
     /// No part of the bound is above the value, and the full one is the value.
-    ghost parts_below: { (bounds : Self) (design : DesignValue) → ArePartsOf design (Self.Values.value bounds design) (Self.part_value bounds design) };
+    ghost parts_below: { (bounds : Self) (design : DesignValue)
+        → ArePartsOf design (Self.Values.value bounds design) (Self.part_value bounds design) };
 }
 
 /// The standard bound.
@@ -139,7 +145,7 @@ impl Bounds for Standard {
         node: &Node,
         room: &mut Room<'a>,
     ) -> Result<u64, NoMemory> {
-        Ok(all_values(room, design, node)?.full)
+        part_value(room, design, node, Part::Full)
     }
 
     fn child_bound<'a>(

@@ -1,10 +1,12 @@
+//! What is kept of the nets along a path.
+
 use crate::reach::Reach;
 use sf_frames::direction::Direction;
 use sf_polish::Token;
 use sf_standard::Extent;
 
-/// What is kept of one net that counts: what its blocks in an item share, the greatest of its range, its pair and
-/// its gaps in the items so far, and the greatest of the gaps alone.
+/// What is kept of one net that counts: what its blocks in an item share, the greatest of its range, its
+/// pair and its gaps in the items so far, and the greatest of the gaps alone.
 #[derive(Clone, Copy, Debug, PartialEq, Eq)]
 pub struct Cell {
     pub reach: Reach,
@@ -19,8 +21,8 @@ pub struct BlockRow {
     pub row: usize,
 }
 
-/// What the wires of the nets take at least: where the parts of the nets begin, their sum, each as often as its
-/// net's weight says, and the same sum of the gaps alone.
+/// What the wires of the nets take at least: where the parts of the nets begin, their sum, each as often as
+/// its net's weight says, and the same sum of the gaps alone.
 #[derive(Clone, Copy, Debug, PartialEq, Eq)]
 pub struct Wires {
     pub at: usize,
@@ -28,8 +30,8 @@ pub struct Wires {
     pub hull: u64,
 }
 
-/// What one token makes: the sides of its item, where the item's row begins, how many tokens made the items under it, the
-/// wires after it, and how many cells there were after it.
+/// What one token makes: the sides of its item, where the item's row begins, how many tokens made the items
+/// under it, the wires after it, and how many cells there were after it.
 #[derive(Clone, Copy, Debug, PartialEq, Eq)]
 pub struct NetFrame {
     pub token: Token,
@@ -40,9 +42,9 @@ pub struct NetFrame {
     pub end: usize,
 }
 
-/// What is kept of a path: in one list the cells of all rows, the row of each block, the wires before any token
-/// with what the pads share, the frames, and the weights of the nets that count, of which a row has a cell each. The
-/// sums of the ranges and of the pairs are the same along all paths.
+/// What is kept of a path: in one list the cells of all rows, the row of each block, the wires before any
+/// token with what the pads share, the frames, and the weights of the nets that count, of which a row has a
+/// cell each. The sums of the ranges and of the pairs are the same along all paths.
 #[derive(Drop)]
 pub struct Nets {
     pub cells: Vec<Cell>,
@@ -54,7 +56,16 @@ pub struct Nets {
     pub pairs: u64,
 }
 
-/// How the tokens of a subproblem end: items are left open, or an operator joins two into the one that is left.
+/// A part of the wires that tokens change: the gaps in the items alone, or the greatest of these with range
+/// and pair.
+#[derive(Clone, Copy, Debug, PartialEq, Eq)]
+pub enum Changing {
+    Hull,
+    Full,
+}
+
+/// How the tokens of a subproblem end: items are left open, or an operator joins two into the one that is
+/// left.
 #[derive(Clone, Copy, Debug, PartialEq, Eq)]
 pub enum Ending {
     Open,

@@ -1,18 +1,22 @@
-ghost use Rattle.std.specs.Prelude.{◌≡◌, ◌≤◌, length, is_some, true, IfOk, IfSome, OnOk};
+//! The frames of nets along the path that was measured last.
+
+ghost use Rattle.std.specs.Prelude.{◌≡◌, length, is_some, true, IfOk, IfSome, OnOk};
+ghost use Rattle.sf_node.specs.declared.part.Part.TheVariants.{Range, Pair};
 ghost use Rattle.sf_node.specs.Children.{IsSubproblem};
+ghost use Rattle.sf_standard.specs.Standard.{wires_by};
 ghost use Rattle.sf_bounds.specs.Open.{AreWireParts};
-ghost use Rattle.sf_bounds.specs.Rows.{AreKeptOrNone, AreFirst};
+ghost use Rattle.sf_bounds.specs.Rows.{AreKeptOrNone, AreFirst, IsEnding, framed, changed};
 
 use crate::layout::Layout;
 use crate::net_back::back_to;
-use crate::net_frame::Nets;
+use crate::net_frame::{Changing, Ending, Nets};
 use crate::net_push::extend;
 use crate::net_start::start;
-use crate::net_total::{ending_of, framed, total_parts};
+use crate::net_total::{ending_of, framed, steady_sums, total_by, total_parts};
 use crate::reach::Reach;
 use crate::wire_parts::WireParts;
 use sf_model::Design;
-use sf_node::Node;
+use sf_node::{Node, Part};
 use std::alloc::{AllocError as NoMemory, Global};
 use std::marker::Model;
 
@@ -39,8 +43,10 @@ impl<'a> Model for NetFrames<'a> {
     ghost invariant = { λ s. AreKeptOrNone s.design.now s.kept };
 }
 
-// Makes what holds before any token, where it is not there yet.
-fn fill(
+/// Makes what holds before any token, which is done once for a design. It stands apart from what is done at
+/// each subproblem.
+#[inline(never)]
+fn begin(
     kept: &mut Option<Nets>,
     alloc: Global,
     layout: &mut Layout,
@@ -51,15 +57,37 @@ fn fill(
     ensures kept { AreKeptOrNone design.now kept.new }
     ensures some { OnOk result (is_some kept.new ≡ true) }
 {
-    if kept.is_none() {
-        let nets = start(alloc, layout, reaches, design)?;
-        *kept = Some(nets);
-    }
+    let nets = start(alloc, layout, reaches, design)?;
+    *kept = Some(nets);
     Ok(())
 }
 
-// Makes the frames of so many tokens. The answer is no where the rows of a path may need too many cells: a row for each
-// block, one for each operator, and one before any token.
+/// Makes what holds before any token, where it is not there yet. The answer is no where the rows of a path
+/// may need too many cells: a row for each block, one for each operator, and one before any token.
+#[inline(always)]
+fn fill(
+    kept: &mut Option<Nets>,
+    alloc: Global,
+    layout: &mut Layout,
+    reaches: &mut Vec<Reach>,
+    design: &Design,
+) -> Result<bool, NoMemory>
+    requires kept { AreKeptOrNone design.now kept.old }
+    ensures kept { AreKeptOrNone design.now kept.new }
+    ensures some { IfOk result (λ fits. fits ≡ true → is_some kept.new ≡ true) }
+{
+    if design.nets.as_slice().len() * (2 * design.blocks.as_slice().len()) > MOST_CELLS {
+        return Ok(false);
+    }
+    if kept.is_none() {
+        begin(kept, alloc, layout, reaches, design)?;
+    }
+    Ok(true)
+}
+
+/// Makes the frames that a path needs. The answer is how its tokens end; none where its rows may need too
+/// many cells, or one block is all there is.
+#[inline(always)]
 fn follow(
     kept: &mut Option<Nets>,
     alloc: Global,
@@ -67,22 +95,25 @@ fn follow(
     reaches: &mut Vec<Reach>,
     design: &Design,
     node: &Node,
-    count: usize,
-) -> Result<bool, NoMemory>
+) -> Result<Option<Ending>, NoMemory>
     requires subproblem { IsSubproblem design.now node.now }
     requires kept { AreKeptOrNone design.now kept.old }
-    requires inside { count ≤ length node.now.tokens }
     ensures kept { AreKeptOrNone design.now kept.new }
-    ensures all { IfOk result (λ fits. fits ≡ true → AreFirst design.now node.now.tokens count kept.new) }
+    ensures ending { IfOk result (λ found. IfSome found (IsEnding node.now)) }
+    ensures all { IfOk result (λ found. IfSome found (λ ending.
+        AreFirst design.now node.now.tokens (framed ending node.now.tokens) kept.new)) }
 {
-    if design.nets.as_slice().len() * (2 * design.blocks.as_slice().len()) > MOST_CELLS {
-        return Ok(false);
+    let Some(ending) = ending_of(node) else {
+        return Ok(None);
+    };
+    if !fill(kept, alloc, layout, reaches, design)? {
+        return Ok(None);
     }
-    fill(kept, alloc, layout, reaches, design)?;
     let Some(nets) = kept else { unreachable!() };
+    let count = framed(ending, node);
     back_to(nets, design, node.tokens(), count);
     extend(nets, design, node, count)?;
-    Ok(true)
+    Ok(Some(ending))
 }
 
 impl<'a> NetFrames<'a> {
@@ -97,8 +128,8 @@ impl<'a> NetFrames<'a> {
         }
     }
 
-    /// What the wires of a subproblem take at least by each part of the bound, whose spans are whole. Or none, where the rows
-    /// of a path may need too many cells, or one block is all there is.
+    /// What the wires of a subproblem take at least by each part of the bound, whose spans are whole. Or
+    /// none, where the rows of a path may need too many cells, or one block is all there is.
     pub fn measure(
         &mut self,
         layout: &mut Layout,
@@ -111,24 +142,92 @@ impl<'a> NetFrames<'a> {
         ensures same { self.new ≡ self.old }
     {
         let design = self.design;
-        let Some(ending) = ending_of(node) else {
+        let Some(ending) = follow(&mut self.kept, self.alloc, layout, reaches, design, node)? else {
             return Ok(None);
         };
-        let count = framed(ending, node);
-        if !follow(
-            &mut self.kept,
-            self.alloc,
-            layout,
-            reaches,
-            design,
-            node,
-            count,
-        )? {
+        let Some(nets) = &self.kept else {
+            unreachable!()
+        };
+        Ok(Some(total_parts(nets, design, node, ending)))
+    }
+
+    /// The sums of the ranges and of the pairs, for which no frame is needed.
+    fn measure_steady(
+        &mut self,
+        layout: &mut Layout,
+        reaches: &mut Vec<Reach>,
+        node: &Node,
+    ) -> Result<Option<(u64, u64)>, NoMemory>
+        requires subproblem { IsSubproblem self.old node.now }
+        requires whole { length node.now.steps ≡ length node.now.tokens }
+        ensures range { IfOk result (λ found. IfSome found (λ sums.
+            sums.0 ≡ wires_by self.old node.now Range)) }
+        ensures pair { IfOk result (λ found. IfSome found (λ sums.
+            sums.1 ≡ wires_by self.old node.now Pair)) }
+        ensures same { self.new ≡ self.old }
+    {
+        let design = self.design;
+        if !fill(&mut self.kept, self.alloc, layout, reaches, design)? {
             return Ok(None);
         }
         let Some(nets) = &self.kept else {
             unreachable!()
         };
-        Ok(Some(total_parts(nets, design, node, ending)))
+        Ok(Some(steady_sums(nets, design, node)))
+    }
+
+    /// The sum of a part that tokens change.
+    #[inline(always)]
+    fn measure_changing(
+        &mut self,
+        layout: &mut Layout,
+        reaches: &mut Vec<Reach>,
+        node: &Node,
+        part: Changing,
+    ) -> Result<Option<u64>, NoMemory>
+        requires subproblem { IsSubproblem self.old node.now }
+        requires whole { length node.now.steps ≡ length node.now.tokens }
+        ensures measured { IfOk result (λ found. IfSome found (λ wires.
+            wires ≡ wires_by self.old node.now (changed part))) }
+        ensures same { self.new ≡ self.old }
+    {
+        let design = self.design;
+        let Some(ending) = follow(&mut self.kept, self.alloc, layout, reaches, design, node)? else {
+            return Ok(None);
+        };
+        let Some(nets) = &self.kept else {
+            unreachable!()
+        };
+        Ok(Some(total_by(nets, design, node, ending, part)))
+    }
+
+    /// What the wires of a subproblem take at least by one part of the bound, whose spans are whole; none
+    /// in the same cases.
+    pub fn measure_part(
+        &mut self,
+        layout: &mut Layout,
+        reaches: &mut Vec<Reach>,
+        node: &Node,
+        part: Part,
+    ) -> Result<Option<u64>, NoMemory>
+        requires subproblem { IsSubproblem self.old node.now }
+        requires whole { length node.now.steps ≡ length node.now.tokens }
+        ensures measured { IfOk result (λ found. IfSome found (λ wires.
+            wires ≡ wires_by self.old node.now part)) }
+        ensures same { self.new ≡ self.old }
+    {
+        match part {
+            Part::Area => Ok(None),
+            Part::Range => match self.measure_steady(layout, reaches, node)? {
+                Some((range, _)) => Ok(Some(range)),
+                None => Ok(None),
+            },
+            Part::Pair => match self.measure_steady(layout, reaches, node)? {
+                Some((_, pair)) => Ok(Some(pair)),
+                None => Ok(None),
+            },
+            Part::Hull => self.measure_changing(layout, reaches, node, Changing::Hull),
+            Part::Full => self.measure_changing(layout, reaches, node, Changing::Full),
+        }
     }
 }

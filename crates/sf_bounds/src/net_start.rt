@@ -1,3 +1,5 @@
+//! What is kept of the nets before any token.
+
 ghost use Rattle.std.specs.Prelude.{◌≡◌, ◌<◌, ◌≤◌, ◌+◌, ◌*◌, ◌++◌, ◌∷◌, [], length, map, sum_by, All, IfOk};
 ghost use Rattle.sf_model.specs.Legal.{block_count};
 ghost use Rattle.sf_model.specs.Limits.{pin_number, pin_count};
@@ -6,21 +8,24 @@ ghost use Rattle.sf_standard.specs.Hull.{contains_pin};
 ghost use Rattle.sf_standard.specs.Standard.{net_part, weighed_part, wire_part};
 ghost use Rattle.sf_bounds.specs.Layout.{Tells};
 ghost use Rattle.sf_bounds.specs.Pins.{IsNet, IsLayout};
-ghost use Rattle.sf_bounds.specs.Rows.{counted, of_weight, weighed_nets, weights_of, whole_extent, own_reach, block_cell, with_pad, pads_share, start_cell, IsFitCell, AreBlockRows, AreKept};
+ghost use Rattle.sf_bounds.specs.Rows.{counted, of_weight, weighed_nets, weights_of, whole_extent, own_reach};
+ghost use Rattle.sf_bounds.specs.Rows.{block_cell, with_pad, pads_share, start_cell};
+ghost use Rattle.sf_bounds.specs.Rows.{IsFitCell, AreBlockRows, AreKept};
 
 use crate::layout::Layout;
 use crate::meet::met;
 use crate::net_frame::{BlockRow, Cell, Nets, Wires};
+use crate::one_part::net_by;
 use crate::pins::pad_reach;
 use crate::reach::{ANYWHERE, Reach};
-use crate::wires::{fill_layout, fill_reaches, net_part, weighed};
-use crate::wires_by::wires_by;
+use crate::wires::{fill_layout, fill_reaches, weighed};
+use crate::wires_by::all_wires;
 use sf_model::{Design, Net, Pin};
-use sf_node::Node;
+use sf_node::{Node, Part};
 use sf_standard::{Extent, Interval};
 use std::alloc::{AllocError as NoMemory, Global};
 
-// The pins that count: none where they are fewer than two.
+/// The pins that count: none where they are fewer than two.
 fn counted(net: &Net) -> &[Pin]
     ensures { result.now ≡ counted net.now.pins }
 {
@@ -31,6 +36,7 @@ fn counted(net: &Net) -> &[Pin]
     pins
 }
 
+/// Whether a block is among some pins.
 fn contains(pins: &[Pin], block: u16) -> bool
     ensures { result ≡ contains_pin block pins.now }
 {
@@ -42,7 +48,7 @@ fn contains(pins: &[Pin], block: u16) -> bool
     false
 }
 
-// What a block's own pins share, where it is an item by itself.
+/// What a block's own pins share, where it is an item by itself.
 fn own_reach(pins: &[Pin], block: u16, extent: Extent) -> Reach
     ensures { result ≡ own_reach pins.now block extent }
 {
@@ -61,7 +67,7 @@ fn own_reach(pins: &[Pin], block: u16, extent: Extent) -> Reach
     }
 }
 
-// The weights of the nets that count.
+/// The weights of the nets that count.
 fn weights_of(alloc: Global, nets: &[Net]) -> Result<Vec<u8>, NoMemory>
     ensures { IfOk result (λ weights. weights.items ≡ weights_of nets.now) }
 {
@@ -74,9 +80,10 @@ fn weights_of(alloc: Global, nets: &[Net]) -> Result<Vec<u8>, NoMemory>
     Ok(weights)
 }
 
-// Puts the cell of a net at the end, where the net counts.
+/// Puts the cell of a net at the end, where the net counts.
 fn push_own(cells: &mut Vec<Cell>, net: &Net, block: u16, extent: Extent) -> Result<(), NoMemory>
-    ensures { IfOk result (λ _. cells.new.items ≡ cells.old.items ++ map (block_cell block extent) (of_weight (net.now ∷ []))) }
+    ensures { IfOk result (λ _. cells.new.items
+        ≡ cells.old.items ++ map (block_cell block extent) (of_weight (net.now ∷ []))) }
 {
     if net.weight > 0 {
         let reach = own_reach(counted(net), block, extent);
@@ -89,14 +96,15 @@ fn push_own(cells: &mut Vec<Cell>, net: &Net, block: u16, extent: Extent) -> Res
     Ok(())
 }
 
-// Puts the row of a block at the end.
+/// Puts the row of a block at the end.
 fn push_block_row(
     cells: &mut Vec<Cell>,
     design: &Design,
     block: u16,
     extent: Extent,
 ) -> Result<(), NoMemory>
-    ensures { IfOk result (λ _. cells.new.items ≡ cells.old.items ++ map (block_cell block extent) (weighed_nets design.now)) }
+    ensures { IfOk result (λ _. cells.new.items
+        ≡ cells.old.items ++ map (block_cell block extent) (weighed_nets design.now)) }
 {
     for net in design.nets.as_slice() {
         push_own(cells, net, block, extent)?;
@@ -104,7 +112,7 @@ fn push_block_row(
     Ok(())
 }
 
-// Puts the rows of all blocks at the end.
+/// Puts the rows of all blocks at the end.
 fn push_block_rows(
     cells: &mut Vec<Cell>,
     alloc: Global,
@@ -113,7 +121,8 @@ fn push_block_rows(
 ) -> Result<Vec<BlockRow>, NoMemory>
     requires none { cells.old.items ≡ [] }
     requires extents { Tells (whole_extent design.now) (block_count design.now) extents.now }
-    ensures { IfOk result (λ blocks. AreBlockRows design.now (block_count design.now) cells.new.items blocks.items) }
+    ensures { IfOk result (λ blocks.
+        AreBlockRows design.now (block_count design.now) cells.new.items blocks.items) }
 {
     let mut blocks = Vec::new(alloc);
     for block in 0..design.blocks.as_slice().len() as u16 {
@@ -125,6 +134,7 @@ fn push_block_rows(
     Ok(blocks)
 }
 
+/// A reach narrowed by a pin, where that is a pad.
 fn with_pad(reach: Reach, design: &Design, pin: Pin) -> Reach
     requires { pin_number pin < pin_count (length design.now.blocks) (length design.now.pads) pin }
     ensures { result ≡ with_pad design.now reach pin }
@@ -135,7 +145,7 @@ fn with_pad(reach: Reach, design: &Design, pin: Pin) -> Reach
     }
 }
 
-// What the pads share.
+/// What the pads share.
 fn pads_share(design: &Design, pins: &[Pin]) -> Reach
     requires { IsNet design.now pins.now }
     ensures { result ≡ pads_share design.now pins.now }
@@ -147,8 +157,8 @@ fn pads_share(design: &Design, pins: &[Pin]) -> Reach
     reach
 }
 
-// Puts what holds of a net before any token at the end, where the net counts. The answer is its part as often
-// as its weight says.
+/// Puts what holds of a net before any token at the end, where the net counts. The answer is its part as often
+/// as its weight says.
 fn push_net(
     cells: &mut Vec<Cell>,
     reaches: &mut [Reach],
@@ -163,14 +173,15 @@ fn push_net(
     requires sized { length layout.now.held.items ≤ length reaches.old }
     requires fit { All IsFitCell cells.old.items }
     ensures fit { IfOk result (λ _. All IsFitCell cells.new.items) }
-    ensures row { IfOk result (λ _. cells.new.items ≡ cells.old.items ++ map (start_cell design.now) (of_weight (net.now ∷ []))) }
+    ensures row { IfOk result (λ _. cells.new.items
+        ≡ cells.old.items ++ map (start_cell design.now) (of_weight (net.now ∷ []))) }
     ensures part { IfOk result (λ part. part ≡ weighed_part design.now (root design.now) net.now) }
     ensures small { IfOk result (λ part. part ≤ 714000000000 * length (of_weight (net.now ∷ []))) }
 {
     if net.weight == 0 {
         return Ok(0);
     }
-    let part = net_part(reaches, design, node, layout, net);
+    let part = net_by(reaches, design, node, layout, net, Part::Full);
     let reach = pads_share(design, counted(net));
     cells.push(Cell {
         reach,
@@ -180,8 +191,8 @@ fn push_net(
     Ok(weighed(net.weight, part))
 }
 
-// Puts what holds before any token at the end. The answer is the sum of the parts, each as often as its net's
-// weight says.
+/// Puts what holds before any token at the end. The answer is the sum of the parts, each as often as its net's
+/// weight says.
 fn push_start(
     cells: &mut Vec<Cell>,
     reaches: &mut [Reach],
@@ -194,7 +205,8 @@ fn push_start(
     requires sized { length layout.now.held.items ≤ length reaches.old }
     requires fit { All IsFitCell cells.old.items }
     ensures fit { IfOk result (λ _. All IsFitCell cells.new.items) }
-    ensures row { IfOk result (λ _. cells.new.items ≡ cells.old.items ++ map (start_cell design.now) (weighed_nets design.now)) }
+    ensures row { IfOk result (λ _. cells.new.items
+        ≡ cells.old.items ++ map (start_cell design.now) (weighed_nets design.now)) }
     ensures sum { IfOk result (λ sum. sum ≡ wire_part design.now (root design.now)) }
     ensures small { IfOk result (λ sum. sum ≤ 714000000000 * length (weighed_nets design.now)) }
 {
@@ -215,7 +227,7 @@ pub fn start(
     ensures { IfOk result (AreKept design.now []) }
 {
     let node = Node::root(alloc, design)?;
-    let parts = wires_by(layout, reaches, design, &node)?;
+    let parts = all_wires(layout, reaches, design, &node)?;
     fill_layout(layout, design, &node)?;
     fill_reaches(reaches, layout.held.len())?;
     let weights = weights_of(alloc, design.nets.as_slice())?;

@@ -1,14 +1,20 @@
-ghost use Rattle.std.specs.Prelude.{◌≡◌, ◌<◌, ◌≤◌, length, IfSome};
-ghost use Rattle.sf_node.specs.declared.part.Part.TheVariants.{Hull};
+//! What the wires take after all tokens, read off the rows of a path.
+
+ghost use Rattle.std.specs.Prelude.{◌≡◌, ◌<◌, ◌≤◌, ◌+◌, length, IfSome};
+ghost use Rattle.sf_node.specs.declared.part.Part.TheVariants.{Range, Pair, Hull};
 ghost use Rattle.sf_node.specs.Children.{IsSubproblem};
 ghost use Rattle.sf_standard.specs.Standard.{wire_part, wires_by};
+ghost use Rattle.sf_frames.specs.Direction.{token_in};
+ghost use Rattle.sf_frames.specs.Kept.{IsNext};
 ghost use Rattle.sf_bounds.specs.Near.{IsNearby, met, reach_gap};
 ghost use Rattle.sf_bounds.specs.Open.{AreWireParts};
 ghost use Rattle.sf_bounds.specs.declared.net_frame.Ending.TheVariants.{Joined};
-ghost use Rattle.sf_bounds.specs.Rows.{pushed_reach, joined_reach, framed, IsEnding, IsFitCell, AreKept};
+ghost use Rattle.sf_bounds.specs.Rows.{pushed_reach, joined_reach, cell_at, framed};
+ghost use Rattle.sf_bounds.specs.Rows.{changed, least_at, sum_in, tokens_of};
+ghost use Rattle.sf_bounds.specs.Rows.{IsEnding, IsFitCell, AreKept, AreTop};
 
 use crate::meet::{met, reach_gap};
-use crate::net_frame::{Cell, Ending, Nets};
+use crate::net_frame::{Cell, Changing, Ending, NetFrame, Nets, Wires};
 use crate::net_push::{top_pair, wires_after};
 use crate::net_rows::joined_reach;
 use crate::wire_parts::WireParts;
@@ -50,7 +56,7 @@ pub fn framed(ending: Ending, node: &Node) -> usize
     }
 }
 
-// How far the pins of a net are apart in two joined items with the pads.
+/// How far the pins of a net are apart in two joined items with the pads.
 fn gap_with_pads(direction: Direction, by: Extent, left: Cell, right: Cell, pads: Cell) -> u64
     requires left { IsFitCell left }
     requires right { IsFitCell right }
@@ -63,8 +69,37 @@ fn gap_with_pads(direction: Direction, by: Extent, left: Cell, right: Cell, pads
     reach_gap(met(joined, pads.reach))
 }
 
-// What the wires take at least where the last operator leaves one item, in which the pads count too, and the gaps alone.
-// Its row is made and read in one pass and not kept. Inlined where the direction is known.
+/// The same of one of the nets that count, from the rows of the two items on top.
+#[inline(always)]
+fn joined_gap(
+    nets: &Nets,
+    design: &Design,
+    node: &Node,
+    direction: Direction,
+    left: NetFrame,
+    right: NetFrame,
+    net: usize,
+) -> u64
+    requires subproblem { IsSubproblem design.now node.now }
+    requires kept { AreKept design.now node.now.tokens nets.now }
+    requires next { IsNext node.now.tokens (length nets.now.frames.items) (token_in direction) }
+    requires top { AreTop design.now node.now.tokens nets.now.cells.items nets.now.start
+        nets.now.frames.items left right }
+    requires inside { net < length nets.now.weights.items }
+    ensures is { let cell = cell_at nets.now.cells.items in
+        let of_right = (cell (right.row + net)).reach in
+        let items = joined_reach direction left.extent (cell (left.row + net)).reach of_right in
+        result ≡ reach_gap (met items (cell (nets.now.start.at + net)).reach) }
+    ensures small { result ≤ 2800000000 }
+{
+    let of_left = nets.cells[left.row + net];
+    let of_right = nets.cells[right.row + net];
+    let start = nets.cells[nets.start.at + net];
+    gap_with_pads(direction, left.extent, of_left, of_right, start)
+}
+
+/// What the wires take at least where the last operator leaves one item, in which the pads count too, and the
+/// gaps alone. Its row is made and read in one pass and not kept. Inlined where the direction is known.
 #[inline(always)]
 fn joined_totals(nets: &Nets, design: &Design, node: &Node, direction: Direction) -> (u64, u64)
     requires subproblem { IsSubproblem design.now node.now }
@@ -80,17 +115,52 @@ fn joined_totals(nets: &Nets, design: &Design, node: &Node, direction: Direction
     let mut hull = 0;
     for net in 0..nets.weights.len() {
         let weight = nets.weights[net];
-        let of_left = nets.cells[left.row + net];
-        let of_right = nets.cells[right.row + net];
         let start = nets.cells[nets.start.at + net];
-        let gap = gap_with_pads(direction, left.extent, of_left, of_right, start);
+        let gap = joined_gap(nets, design, node, direction, left, right, net);
         full += weighed(weight, u64::from(start.part).max(gap));
         hull += weighed(weight, gap);
     }
     (full, hull)
 }
 
-// What the wires take at least after all tokens, and the gaps alone.
+/// What one net takes at least before any token: of its gaps nothing.
+fn least_of(part: Changing, start: Cell) -> u64
+    ensures { result ≡ least_at part start }
+{
+    match part {
+        Changing::Hull => 0,
+        Changing::Full => u64::from(start.part),
+    }
+}
+
+/// One of the sums of `joined_totals` alone. Inlined where the direction and the part are known.
+#[inline(always)]
+fn joined_total(
+    nets: &Nets,
+    design: &Design,
+    node: &Node,
+    direction: Direction,
+    part: Changing,
+) -> u64
+    requires subproblem { IsSubproblem design.now node.now }
+    requires whole { length node.now.steps ≡ length node.now.tokens }
+    requires kept { AreKept design.now node.now.tokens nets.now }
+    requires ending { IsEnding node.now (Joined direction) }
+    requires all { length nets.now.frames.items ≡ framed (Joined direction) node.now.tokens }
+    ensures { result ≡ wires_by design.now node.now (changed part) }
+{
+    let (left, right) = top_pair(nets, design, node, direction);
+    let mut total = 0;
+    for net in 0..nets.weights.len() {
+        let weight = nets.weights[net];
+        let start = nets.cells[nets.start.at + net];
+        let gap = joined_gap(nets, design, node, direction, left, right, net);
+        total += weighed(weight, least_of(part, start).max(gap));
+    }
+    total
+}
+
+/// What the wires take at least after all tokens, and the gaps alone.
 fn totals(nets: &Nets, design: &Design, node: &Node, ending: Ending) -> (u64, u64)
     requires subproblem { IsSubproblem design.now node.now }
     requires whole { length node.now.steps ≡ length node.now.tokens }
@@ -126,4 +196,46 @@ pub fn total_parts(nets: &Nets, design: &Design, node: &Node, ending: Ending) ->
         hull,
         full,
     }
+}
+
+/// One of the sums over all items.
+fn open_total(part: Changing, wires: Wires) -> u64
+    ensures { result ≡ sum_in part wires }
+{
+    match part {
+        Changing::Hull => wires.hull,
+        Changing::Full => wires.sum,
+    }
+}
+
+/// What the wires take at least after all tokens, by one part of the bound. Inlined where the part is known.
+#[inline(always)]
+pub fn total_by(nets: &Nets, design: &Design, node: &Node, ending: Ending, part: Changing) -> u64
+    requires subproblem { IsSubproblem design.now node.now }
+    requires whole { length node.now.steps ≡ length node.now.tokens }
+    requires kept { AreKept design.now node.now.tokens nets.now }
+    requires ending { IsEnding node.now ending }
+    requires all { length nets.now.frames.items ≡ framed ending node.now.tokens }
+    ensures { result ≡ wires_by design.now node.now (changed part) }
+{
+    match ending {
+        Ending::Joined(Direction::Beside) => {
+            joined_total(nets, design, node, Direction::Beside, part)
+        }
+        Ending::Joined(Direction::Above) => {
+            joined_total(nets, design, node, Direction::Above, part)
+        }
+        Ending::Open => open_total(part, wires_after(nets, design, node, nets.frames.len())),
+    }
+}
+
+/// The sums of the ranges and of the pairs, which no token changes.
+pub fn steady_sums(nets: &Nets, design: &Design, node: &Node) -> (u64, u64)
+    requires subproblem { IsSubproblem design.now node.now }
+    requires whole { length node.now.steps ≡ length node.now.tokens }
+    requires kept { AreKept design.now (tokens_of nets.now) nets.now }
+    ensures range { result.0 ≡ wires_by design.now node.now Range }
+    ensures pair { result.1 ≡ wires_by design.now node.now Pair }
+{
+    (nets.ranges, nets.pairs)
 }

@@ -1,10 +1,10 @@
 //! The values of the parts of the standard bound.
 
-ghost use Rattle.std.specs.Prelude.{◌≡◌, Some, IfOk};
+ghost use Rattle.std.specs.Prelude.{◌≡◌, ◌≤◌, ◌*◌, ◌^◌, Some, IfOk};
 ghost use Rattle.sf_node.specs.Children.{IsSubproblem};
 ghost use Rattle.sf_node.specs.declared.part.Part.TheVariants.{Area};
 ghost use Rattle.sf_node.specs.ByPart.{AreValues};
-ghost use Rattle.sf_standard.specs.Standard.{standard, part_value, AllHavePlans};
+ghost use Rattle.sf_standard.specs.Standard.{standard, part_value, wires_by, AllHavePlans};
 ghost use Rattle.sf_bounds.specs.Open.{AreWireParts, AreWireCosts};
 ghost use Rattle.sf_bounds.specs.Serving.{MayServe};
 
@@ -13,13 +13,14 @@ use crate::room::Room;
 use crate::scratch::Scratch;
 use crate::value::area_cost;
 use crate::wire_parts::{self, WireParts};
-use crate::wires_by::wires_by;
+use crate::wires_by::{all_wires, wires_by};
 use sf_model::{Design, MAX};
 use sf_node::{Node, Part, PartValues};
 use sf_standard::laws::{standard_is_open, wires_are_bounded};
 use std::alloc::AllocError as NoMemory;
 
-// What the wires take at least by each part of the bound: by the rows of the path where each span is whole, else anew.
+/// What the wires take at least by each part of the bound: by the rows of the path where each span is whole,
+/// else anew.
 fn wires_of(
     nets: &mut NetFrames,
     scratch: &mut Scratch,
@@ -37,12 +38,12 @@ fn wires_of(
             return Ok(wires);
         }
     }
-    let wires = wires_by(&mut scratch.layout, &mut scratch.reaches, design, node)?;
+    let wires = all_wires(&mut scratch.layout, &mut scratch.reaches, design, node)?;
     Ok(wires)
 }
 
-// What they cost, where each item and each unused block has a plan in the outline. They are not looked at where they
-// have no weight.
+/// What they cost, where each item and each unused block has a plan in the outline. They are not looked at
+/// where they have no weight.
 fn wire_costs(
     nets: &mut NetFrames,
     scratch: &mut Scratch,
@@ -69,6 +70,60 @@ fn wire_costs(
     })
 }
 
+/// The same by one part of the bound alone.
+fn wires_of_part(
+    nets: &mut NetFrames,
+    scratch: &mut Scratch,
+    design: &Design,
+    node: &Node,
+    part: Part,
+) -> Result<u64, NoMemory>
+    requires subproblem { IsSubproblem design.now node.now }
+    requires serves { nets.old ≡ design.now }
+    ensures wires { IfOk result (λ wires. wires ≡ wires_by design.now node.now part) }
+    ensures serves { nets.new ≡ design.now }
+{
+    if node.steps().len() == node.tokens().len() {
+        let measured = nets.measure_part(&mut scratch.layout, &mut scratch.reaches, node, part)?;
+        if let Some(wires) = measured {
+            return Ok(wires);
+        }
+    }
+    let wires = wires_by(
+        &mut scratch.layout,
+        &mut scratch.reaches,
+        design,
+        node,
+        part,
+    )?;
+    Ok(wires)
+}
+
+/// What the wires cost by one part of the bound alone, where each item and each unused block has a plan in
+/// the outline. They are not looked at where they have no weight.
+fn wire_cost(
+    nets: &mut NetFrames,
+    scratch: &mut Scratch,
+    design: &Design,
+    node: &Node,
+    part: Part,
+) -> Result<u64, NoMemory>
+    requires subproblem { IsSubproblem design.now node.now }
+    requires plans { AllHavePlans design.now node.now }
+    requires serves { nets.old ≡ design.now }
+    ensures cost { IfOk result (λ cost.
+        cost ≡ design.now.weights.wire * wires_by design.now node.now part) }
+    ensures small { IfOk result (λ cost. cost ≤ 2 ^ 63) }
+    ensures serves { nets.new ≡ design.now }
+{
+    if design.weights.wire == 0 {
+        return Ok(0);
+    }
+    let wires = wires_of_part(nets, scratch, design, node, part)?;
+    wires_are_bounded();
+    Ok(u64::from(design.weights.wire) * wires)
+}
+
 /// The value of the bound, and the values of the parts below it.
 #[derive(Clone, Copy)]
 pub struct AllValues {
@@ -76,8 +131,8 @@ pub struct AllValues {
     pub parts: PartValues,
 }
 
-/// The value of the bound with those of the parts below it, all measured at once: from the area that is needed and the wires,
-/// at a solved subproblem too.
+/// The value of the bound with those of the parts below it, all measured at once: from the area that is
+/// needed and the wires, at a solved subproblem too.
 pub fn all_values<'a>(
     room: &mut Room<'a>,
     design: &'a Design,
@@ -125,7 +180,7 @@ pub fn all_alike(value: u64) -> PartValues
     }
 }
 
-// What the area alone costs, or the mark of no cost.
+/// What the area alone costs, or the mark of no cost.
 fn area_value<'a>(room: &mut Room<'a>, design: &'a Design, node: &Node) -> Result<u64, NoMemory>
     requires subproblem { IsSubproblem design.now node.now }
     requires serves { MayServe room.old design.now }
@@ -142,7 +197,33 @@ fn area_value<'a>(room: &mut Room<'a>, design: &'a Design, node: &Node) -> Resul
     Ok(area)
 }
 
-/// The value of one part. That of the area looks at no net.
+/// What the area and the wires cost by one part alone, or the mark of no cost. It stands apart, so that a
+/// leaf which asks for the area alone pays nothing for what the wires need.
+#[inline(never)]
+fn wired_value<'a>(
+    room: &mut Room<'a>,
+    design: &'a Design,
+    node: &Node,
+    part: Part,
+) -> Result<u64, NoMemory>
+    requires subproblem { IsSubproblem design.now node.now }
+    requires serves { MayServe room.old design.now }
+    ensures value { IfOk result (λ v. v ≡ part_value design.now node.now part) }
+    ensures serves { room.new ≡ Some design.now }
+{
+    standard_is_open();
+    room.serve(design);
+    let Some(kept) = &mut room.kept else {
+        unreachable!()
+    };
+    let Some(area) = area_cost(&mut kept.frames, &mut room.scratch, design, node)? else {
+        return Ok(MAX);
+    };
+    let wires = wire_cost(&mut kept.nets, &mut room.scratch, design, node, part)?;
+    Ok(area + wires)
+}
+
+/// The value of one part, measured without the others. That of the area looks at no net.
 pub fn part_value<'a>(
     room: &mut Room<'a>,
     design: &'a Design,
@@ -156,9 +237,6 @@ pub fn part_value<'a>(
 {
     match part {
         Part::Area => area_value(room, design, node),
-        Part::Range => Ok(all_values(room, design, node)?.parts.range),
-        Part::Pair => Ok(all_values(room, design, node)?.parts.pair),
-        Part::Hull => Ok(all_values(room, design, node)?.parts.hull),
-        Part::Full => Ok(all_values(room, design, node)?.full),
+        Part::Range | Part::Pair | Part::Hull | Part::Full => wired_value(room, design, node, part),
     }
 }

@@ -1,8 +1,12 @@
+//! What the pins of a net add to its range, its pair and its hull.
+
 ghost use Rattle.std.specs.Prelude.{◌≡◌, ◌<◌, ◌≤◌, length, All, IfSome, max, true, false};
 ghost use Rattle.sf_model.specs.Limits.{pin_number, pin_count};
 ghost use Rattle.sf_bounds.specs.Near.{reach_gap};
 ghost use Rattle.sf_bounds.specs.Open.{AreAtMost};
-ghost use Rattle.sf_bounds.specs.Pins.{IsNet, IsReady, pad_reach, pin_range, pin_home, narrowed, paired, pairs_pin, shared_ranges, paired_sides, shared_homes, shared_in, greatest_gap};
+ghost use Rattle.sf_bounds.specs.Pins.{IsNet, IsReady, pad_reach, pin_range, pin_home, narrowed, paired};
+ghost use Rattle.sf_bounds.specs.Pins.{pairs_pin, shared_ranges, paired_sides, shared_homes, shared_in};
+ghost use Rattle.sf_bounds.specs.Pins.{greatest_gap};
 
 use crate::homes::hull_part;
 use crate::layout::{Home, Standing};
@@ -19,8 +23,8 @@ pub struct Pair {
     pub sum: u64,
 }
 
-// The pair of no sides.
-const NO_PAIR: Pair = Pair { most: None, sum: 0 };
+/// The pair of no sides.
+pub const NO_PAIR: Pair = Pair { most: None, sum: 0 };
 
 /// Where a pad lies.
 pub fn pad_reach(design: &Design, pad: u16) -> Reach
@@ -36,8 +40,9 @@ pub fn pad_reach(design: &Design, pad: u16) -> Reach
     }
 }
 
-// Where a pin lies, anywhere in the outline.
-fn pin_range(design: &Design, table: &[Standing], pin: Pin) -> Reach
+/// Where a pin lies, anywhere in the outline.
+#[inline(always)]
+pub fn pin_range(design: &Design, table: &[Standing], pin: Pin) -> Reach
     requires table { length table.now ≡ length design.now.blocks }
     requires inside { pin_number pin < pin_count (length design.now.blocks) (length design.now.pads) pin }
     ensures { result ≡ pin_range design.now table.now pin }
@@ -48,6 +53,7 @@ fn pin_range(design: &Design, table: &[Standing], pin: Pin) -> Reach
     }
 }
 
+/// A pair with one side more.
 fn with_side(pair: Pair, side: u64) -> Pair
     requires most { IfSome pair.most (λ most. most ≤ 1048576) }
     requires side { side ≤ 1048576 }
@@ -65,8 +71,9 @@ fn with_side(pair: Pair, side: u64) -> Pair
     }
 }
 
-// The pair with the lesser side of a pin's block.
-fn pair_pin(pair: Pair, design: &Design, table: &[Standing], pin: Pin) -> Pair
+/// The pair with the lesser side of a pin's block.
+#[inline(always)]
+pub fn pair_pin(pair: Pair, design: &Design, table: &[Standing], pin: Pin) -> Pair
     requires table { length table.now ≡ length design.now.blocks }
     requires inside { pin_number pin < pin_count (length design.now.blocks) (length design.now.pads) pin }
     requires sides { All (λ s. s.side ≤ 1048576) table.now }
@@ -79,8 +86,9 @@ fn pair_pin(pair: Pair, design: &Design, table: &[Standing], pin: Pin) -> Pair
     }
 }
 
-// What the one item of a complete subproblem leaves of a reach at one more pin.
-fn hull_pin(reach: Reach, design: &Design, table: &[Standing], pin: Pin) -> Reach
+/// What the one item of a complete subproblem leaves of a reach at one more pin.
+#[inline(always)]
+pub fn hull_pin(reach: Reach, design: &Design, table: &[Standing], pin: Pin) -> Reach
     requires table { length table.now ≡ length design.now.blocks }
     requires inside { pin_number pin < pin_count (length design.now.blocks) (length design.now.pads) pin }
     ensures { result ≡ narrowed reach (pin_home design.now table.now true pin) }
@@ -91,6 +99,7 @@ fn hull_pin(reach: Reach, design: &Design, table: &[Standing], pin: Pin) -> Reac
     }
 }
 
+/// A reach narrowed by a home, where there is one.
 fn narrowed(reach: Reach, home: Option<Home>) -> Reach
     ensures { result ≡ narrowed reach home }
 {
@@ -100,7 +109,8 @@ fn narrowed(reach: Reach, home: Option<Home>) -> Reach
     }
 }
 
-/// What the wire of a net is at least in a complete subproblem: range, pair and hull in one pass over its pins.
+/// What the wire of a net is at least in a complete subproblem: range, pair and hull in one pass over its
+/// pins.
 pub fn whole_parts(design: &Design, table: &[Standing], pins: &[Pin]) -> WireParts
     requires ready { IsReady design.now 1 table.now }
     requires inside { IsNet design.now pins.now }
@@ -132,7 +142,8 @@ pub fn open_parts(
     requires inside { IsNet design.now pins.now }
     ensures range { result.range ≡ reach_gap (shared_ranges design.now table.now pins.now) }
     ensures pair { result.pair ≡ (paired_sides table.now pins.now).sum }
-    ensures hull { result.hull ≡ greatest_gap design.now table.now false (shared_in design.now table.now false pins.now) pins.now }
+    ensures hull { result.hull
+        ≡ greatest_gap design.now table.now false (shared_in design.now table.now false pins.now) pins.now }
     ensures full { result.full ≡ max result.range (max result.pair result.hull) }
     ensures small { AreAtMost 2800000000 result }
 {

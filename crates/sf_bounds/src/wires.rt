@@ -1,6 +1,8 @@
+//! What the wire of a net is at least, by all parts of the bound at once.
+
 ghost use Rattle.std.specs.Prelude.{◌≡◌, ◌<◌, ◌≤◌, ◌*◌, ◌^◌, length, OnOk, IfOk};
 ghost use Rattle.sf_node.specs.Children.{IsSubproblem};
-ghost use Rattle.sf_standard.specs.Standard.{net_part, pins_by};
+ghost use Rattle.sf_standard.specs.Standard.{pins_by};
 ghost use Rattle.sf_bounds.specs.Open.{AreByPart, AreAtMost};
 ghost use Rattle.sf_bounds.specs.Pins.{IsNet, IsLayout};
 
@@ -42,7 +44,8 @@ pub fn fill_reaches(reaches: &mut Vec<Reach>, items: usize) -> Result<(), NoMemo
     Ok(())
 }
 
-/// What the wire of a net is at least by each part of the bound. In a complete subproblem all pins lie in the one item.
+/// What the wire of a net is at least by each part of the bound. In a complete subproblem all pins lie in
+/// the one item.
 pub fn net_parts(
     reaches: &mut [Reach],
     design: &Design,
@@ -65,24 +68,6 @@ pub fn net_parts(
         return whole_parts(design, &layout.table, pins);
     }
     open_parts(reaches, design, &layout.table, pins)
-}
-
-/// What the wire of a net is at least.
-pub fn net_part(
-    reaches: &mut [Reach],
-    design: &Design,
-    node: &Node,
-    layout: &Layout,
-    net: &Net,
-) -> u64
-    requires subproblem { IsSubproblem design.now node.now }
-    requires layout { IsLayout design.now node.now layout.now }
-    requires inside { IsNet design.now net.now.pins }
-    requires sized { length layout.now.held.items ≤ length reaches.old }
-    ensures is { result ≡ net_part design.now node.now net.now }
-    ensures small { result ≤ 2800000000 }
-{
-    net_parts(reaches, design, node, layout, net).full
 }
 
 /// What the wire of a net is at least, as often as its weight says.

@@ -18,25 +18,25 @@ returns-clause-fit c =
     let D = c.args.design.now in
     let net = c.args.net.now in
     let shared = c.pads_share-reach.ensures ∙ ap (pads_share D) c.counted.ensures in
-    let cell : Cell = record { reach = c.pads_share-reach.result; part = c.net_part-part.result; hull = 0 } in
+    let cell : Cell = record { reach = c.pads_share-reach.result; part = c.net_by-part.result; hull = 0 } in
     subst (All IsFitCell) (sym c.in_ok-push.ensures.items)
-    (All-push IsFitCell c.args.cells.now.items cell c.requires.fit (start-fits D net c.net_part-part.result c.pads_share-reach.result c.requires.inside c.net_part-part.ensures.small shared))
+    (All-push IsFitCell c.args.cells.now.items cell c.requires.fit (start-fits D net c.net_by-part.result c.pads_share-reach.result c.requires.inside c.net_by-part.ensures.small shared))
 
 pub returns-clause-row : goal.returns-clause-row
 returns-clause-row c =
     let D = c.args.design.now in
     let net = c.args.net.now in
     let shared = c.pads_share-reach.ensures ∙ ap (pads_share D) c.counted.ensures in
-    let part = c.net_part-part.ensures.is ∙ ap (λ n. net_part D n net) c.requires.root in
-    let cell : Cell = record { reach = c.pads_share-reach.result; part = c.net_part-part.result; hull = 0 } in
+    let part = c.net_by-part.ensures.is ∙ ap (λ n. net_part D n net) c.requires.root in
+    let cell : Cell = record { reach = c.pads_share-reach.result; part = c.net_by-part.result; hull = 0 } in
     put-cell (start_cell D) c.args.cells.now.items c.push.new.self.items net cell (omega (arith, c.if-net-eq0.false))
-    (start-cell D net c.net_part-part.result c.pads_share-reach.result shared part) c.in_ok-push.ensures.items
+    (start-cell D net c.net_by-part.result c.pads_share-reach.result shared part) c.in_ok-push.ensures.items
 
 pub returns-clause-part : goal.returns-clause-part
 returns-clause-part c =
     let D = c.args.design.now in
     let net = c.args.net.now in
-    c.weighed.ensures.is ∙ ap (λ v. net.weight * v) (c.net_part-part.ensures.is ∙ ap (λ n. net_part D n net) c.requires.root)
+    c.weighed.ensures.is ∙ ap (λ v. net.weight * v) (c.net_by-part.ensures.is ∙ ap (λ n. net_part D n net) c.requires.root)
 
 pub returns-clause-small : goal.returns-clause-small
 returns-clause-small c = omega (arith, c.weighed.ensures.small, ap length (one-counts c.args.net.now (omega (arith, c.if-net-eq0.false))))

@@ -1,4 +1,4 @@
-use Rattle.std.proofs.Common.{◌≡◌, ℕ, max, ◌+◌, ◌*◌, ◌<◌, ◌≤◌, arith, ap, sym, subst, length, get_or, ◌∙◌}
+use Rattle.std.proofs.Common.{ℕ, max, ◌+◌, ◌*◌, ◌<◌, ◌≤◌, arith, ap, sym, subst, length, get_or, ◌∙◌}
 use Rattle.std.specs.Prelude.{sum_by}
 use Rattle.std.proofs.lemmas.List.{take_all, get_or_default}
 use Rattle.sf_node.specs.declared.part.Part.TheVariants.{Hull}
@@ -6,10 +6,7 @@ use Rattle.sf_standard.specs.Standard.{net_part, weighed_part, pins_by}
 use Rattle.sf_frames.specs.Direction.{token_in}
 use Rattle.sf_frames.specs.Kept.{IsNext}
 use Rattle.sf_bounds.specs.declared.net_frame.Cell.{Cell}
-use Rattle.sf_bounds.specs.Near.{IsNearby, met, reach_gap}
-use Rattle.sf_bounds.specs.Rows.{weighed_nets, cell_at, pushed_reach, joined_reach, IsFitCell}
-use Rattle.sf_bounds.proofs.NetPushed.{pushed-fits}
-use Rattle.sf_bounds.proofs.NetRows.{cell-fits}
+use Rattle.sf_bounds.specs.Rows.{weighed_nets}
 use Rattle.sf_bounds.proofs.NetTotal.{read-cell, total-more, hull-total-more}
 use Rattle.sf_bounds.proofs.Weights.{few-weighed, length-weights, sum-of_weight}
 use Rattle.sf_bounds.proofs.net_total.joined_totals.Goals as goal
@@ -27,49 +24,8 @@ overflow_add-hull c =
     let D = c.args.design.now in
     omega (arith, c.loop-net.invariant.small_hull, c.weighed-hull.ensures.small, c.loop-net-test.true, c.len-net-end.ensures, ap length c.requires.kept.weights, length-weights D.nets, few-weighed D)
 
-pub gap_with_pads-gap-requires-clause-left : goal.gap_with_pads-gap-requires-clause-left
-gap_with_pads-gap-requires-clause-left c =
-    let D = c.args.design.now in
-    let N = c.args.nets.now in
-    let j = c.loop-net.net in
-    let at : j < length N.weights.items = omega (arith, c.loop-net-test.true, c.len-net-end.ensures) in
-    let lt : j < length (weighed_nets D) = omega (arith, at, ap length c.requires.kept.weights, length-weights D.nets) in
-    let inside : c.top_pair.result.0.row + j < length N.cells.items = omega (arith, lt, c.top_pair.ensures.left.row.inside) in
-    subst IsFitCell (sym (read-cell N.cells.items (c.top_pair.result.0.row + j) c.index-of_left.result.now c.index-of_left.ensures inside)) (cell-fits N.cells.items (c.top_pair.result.0.row + j) c.requires.kept.stored.fit inside)
-
-pub gap_with_pads-gap-requires-clause-right : goal.gap_with_pads-gap-requires-clause-right
-gap_with_pads-gap-requires-clause-right c =
-    let D = c.args.design.now in
-    let N = c.args.nets.now in
-    let j = c.loop-net.net in
-    let at : j < length N.weights.items = omega (arith, c.loop-net-test.true, c.len-net-end.ensures) in
-    let lt : j < length (weighed_nets D) = omega (arith, at, ap length c.requires.kept.weights, length-weights D.nets) in
-    let inside : c.top_pair.result.1.row + j < length N.cells.items = omega (arith, lt, c.top_pair.ensures.right.row.inside) in
-    subst IsFitCell (sym (read-cell N.cells.items (c.top_pair.result.1.row + j) c.index-of_right.result.now c.index-of_right.ensures inside)) (cell-fits N.cells.items (c.top_pair.result.1.row + j) c.requires.kept.stored.fit inside)
-
-pub gap_with_pads-gap-requires-clause-pads : goal.gap_with_pads-gap-requires-clause-pads
-gap_with_pads-gap-requires-clause-pads c =
-    let D = c.args.design.now in
-    let N = c.args.nets.now in
-    let j = c.loop-net.net in
-    let at : j < length N.weights.items = omega (arith, c.loop-net-test.true, c.len-net-end.ensures) in
-    let lt : j < length (weighed_nets D) = omega (arith, at, ap length c.requires.kept.weights, length-weights D.nets) in
-    let inside : N.start.at + j < length N.cells.items = omega (arith, lt, c.requires.kept.stored.start_is.wires.inside) in
-    subst IsFitCell (sym (read-cell N.cells.items (N.start.at + j) c.index-start.result.now c.index-start.ensures inside)) (cell-fits N.cells.items (N.start.at + j) c.requires.kept.stored.fit inside)
-
-pub gap_with_pads-gap-requires-clause-moved : goal.gap_with_pads-gap-requires-clause-moved
-gap_with_pads-gap-requires-clause-moved c =
-    let D = c.args.design.now in
-    let N = c.args.nets.now in
-    let j = c.loop-net.net in
-    let at : j < length N.weights.items = omega (arith, c.loop-net-test.true, c.len-net-end.ensures) in
-    let lt : j < length (weighed_nets D) = omega (arith, at, ap length c.requires.kept.weights, length-weights D.nets) in
-    let l = c.top_pair.result.0 in
-    let r = c.top_pair.result.1 in
-    let next = subst (λ (n : ℕ). IsNext c.args.node.now.tokens n (token_in c.args.direction)) (sym c.requires.all) c.requires.ending.1 in
-    let inside : r.row + j < length N.cells.items = omega (arith, lt, c.top_pair.ensures.right.row.inside) in
-    subst (λ (v : Cell). IsNearby (pushed_reach c.args.direction l.extent v.reach)) (sym (read-cell N.cells.items (r.row + j) c.index-of_right.result.now c.index-of_right.ensures inside))
-    (pushed-fits D c.args.node.now N.cells.items N.blocks.items N.start N.frames.items c.args.direction l r c.requires.subproblem c.requires.kept.stored next c.top_pair.ensures j lt)
+pub joined_gap-gap-requires-clause-next : goal.joined_gap-gap-requires-clause-next
+joined_gap-gap-requires-clause-next c = subst (λ (n : ℕ). IsNext c.args.node.now.tokens n (token_in c.args.direction)) (sym c.requires.all) c.requires.ending.1
 
 pub loop-net-preserved : goal.loop-net-preserved
 loop-net-preserved c =
@@ -83,16 +39,11 @@ loop-net-preserved c =
     let r = c.top_pair.result.1 in
     let d = c.args.direction in
     let next = subst (λ (n : ℕ). IsNext c.args.node.now.tokens n (token_in d)) (sym c.requires.all) c.requires.ending.1 in
-    let of_left = read-cell N.cells.items (l.row + j) c.index-of_left.result.now c.index-of_left.ensures (omega (arith, lt, c.top_pair.ensures.left.row.inside)) in
-    let of_right = read-cell N.cells.items (r.row + j) c.index-of_right.result.now c.index-of_right.ensures (omega (arith, lt, c.top_pair.ensures.right.row.inside)) in
     let start = read-cell N.cells.items (N.start.at + j) c.index-start.result.now c.index-start.ensures (omega (arith, lt, c.requires.kept.stored.start_is.wires.inside)) in
-    let gap = c.gap_with_pads-gap.result in
+    let gap = c.joined_gap-gap.result in
+    let is_gap = c.joined_gap-gap.ensures.is in
     let weight = c.index-weight.result.now in
     let of_net = c.index-weight.ensures ∙ get_or_default N.weights.items j weight 0 at ∙ ap (λ ws. get_or ws j 0) c.requires.kept.weights in
-    let is_gap = c.gap_with_pads-gap.ensures.is
-    ∙ ap (λ (v : Cell). reach_gap (met (joined_reach d l.extent v.reach c.index-of_right.result.now.reach) c.index-start.result.now.reach)) of_left
-    ∙ ap (λ (v : Cell). reach_gap (met (joined_reach d l.extent (cell_at N.cells.items (l.row + j)).reach v.reach) c.index-start.result.now.reach)) of_right
-    ∙ ap (λ (v : Cell). reach_gap (met (joined_reach d l.extent (cell_at N.cells.items (l.row + j)).reach (cell_at N.cells.items (r.row + j)).reach) v.reach)) start in
     let is_value = c.max.ensures ∙ ap (λ n. max n gap) (c.from.ensures ∙ ap (λ (v : Cell). v.part) start) in
     let more = total-more D c.args.node.now N.cells.items N.blocks.items N.start N.frames.items d l r c.requires.subproblem c.requires.kept.stored next c.top_pair.ensures c.requires.whole c.requires.all c.requires.ending.0 j c.loop-net.full weight gap lt of_net is_gap c.max.result is_value i.full in
     let more_hull = hull-total-more D c.args.node.now N.cells.items N.blocks.items N.start N.frames.items d l r c.requires.subproblem c.requires.kept.stored next c.top_pair.ensures c.requires.whole c.requires.all c.requires.ending.0 j c.loop-net.hull weight gap lt of_net is_gap i.hull in
