@@ -14,10 +14,11 @@ pub struct Valued {
     pub parts: Option<PartValues>,
 }
 
-/// Whether a child is sure to have its parent's value: it is not complete, and only a block was moved from the unused ones
-/// onto the stack.
+/// Whether a child is sure to have its parent's value: it is not complete, and only a block was moved from
+/// the unused ones onto the stack.
 pub fn keeps_value(child: &Node) -> bool
-    ensures { result ≡ true → (design : DesignValue) (value : ℕ) → IsChildOf design (standard design) value child.now → value ≡ standard design child.now }
+    ensures { result ≡ true → (design : DesignValue) (value : ℕ)
+        → IsChildOf design (standard design) value child.now → value ≡ standard design child.now }
 {
     match child.steps().last() {
         Some(Step::Block(_)) => !child.is_complete(),

@@ -1,3 +1,5 @@
+//! The least and the greatest sides of blocks within their spans.
+
 ghost use Rattle.std.specs.Prelude.{◌≡◌, ◌<◌, ◌≤◌, length, slice_range, OnOk};
 ghost use Rattle.sf_node.specs.Children.{IsSubproblem};
 ghost use Rattle.sf_standard.specs.Hull.{extent_of};
@@ -27,6 +29,7 @@ pub fn extent_of(shapes: &[Shape]) -> Extent
     extent
 }
 
+/// The extent of one shape.
 fn single(shape: Shape) -> Extent
     ensures { result ≡ single_extent shape }
 {
@@ -38,6 +41,7 @@ fn single(shape: Shape) -> Extent
     }
 }
 
+/// An extent with one shape more.
 fn with_shape(extent: Extent, shape: Shape) -> Extent
     ensures { result ≡ with_shape extent shape }
 {
@@ -49,6 +53,7 @@ fn with_shape(extent: Extent, shape: Shape) -> Extent
     }
 }
 
+/// The extent of the shapes from one place up to another.
 fn part_extent(shapes: &[Shape], from: u16, to: u16) -> Extent
     requires some { from < to }
     requires in_list { to ≤ length shapes.now }
@@ -74,7 +79,8 @@ fn block_extent(design: &Design, node: &Node, block: u16) -> Extent
 /// Fills the list with the extent of each block.
 pub fn fill_extents(extents: &mut Vec<Extent>, design: &Design, node: &Node) -> Result<(), NoMemory>
     requires { IsSubproblem design.now node.now }
-    ensures { OnOk result (Tells (extent_in design.now node.now) (length design.now.blocks) extents.new.items) }
+    ensures { OnOk result
+        (Tells (extent_in design.now node.now) (length design.now.blocks) extents.new.items) }
 {
     extents.clear();
     for block in 0..design.blocks.as_slice().len() as u16 {

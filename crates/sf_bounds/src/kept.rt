@@ -1,3 +1,5 @@
+//! All frames of one design.
+
 ghost use Rattle.std.specs.Prelude.{◌≡◌};
 
 use crate::net_frames::NetFrames;

@@ -1,7 +1,11 @@
+//! Where the blocks of a subproblem lie in its items.
+
 ghost use Rattle.std.specs.Prelude.{◌≡◌, ◌≤◌, ◌-◌, ◌++◌, length, map, take, drop, All, OnOk};
 ghost use Rattle.sf_node.specs.Children.{IsSubproblem};
 ghost use Rattle.sf_bounds.specs.Curves.{HasOperands};
-ghost use Rattle.sf_bounds.specs.Layout.{extent_in, Tells, joined_extent, moved, reseated, JoinsTop, Lays, AreModest, IsModestExtent, IsModestOffset, AreSeated, own_seat};
+ghost use Rattle.sf_bounds.specs.Layout.{extent_in, Tells, joined_extent, moved, reseated, own_seat};
+ghost use Rattle.sf_bounds.specs.Layout.{JoinsTop, Lays, AreSeated};
+ghost use Rattle.sf_bounds.specs.Layout.{AreModest, IsModestExtent, IsModestOffset};
 
 use crate::layout::{Held, Seat};
 use sf_frames::direction::Direction;
@@ -33,6 +37,7 @@ pub fn joined_extent(way: Direction, first: Extent, second: Extent) -> Extent
     }
 }
 
+/// Where a block of the right or upper item lies after both are joined.
 fn moved(way: Direction, by: Extent, offset: Offset) -> Offset
     requires by { IsModestExtent by }
     requires offset { IsModestOffset offset }
@@ -52,12 +57,13 @@ fn moved(way: Direction, by: Extent, offset: Offset) -> Offset
     }
 }
 
-// Moves the seats from a place on into the item before theirs.
+/// Moves the seats from a place on into the item before theirs.
 fn shift(way: Direction, seats: &mut Vec<Seat>, start: usize, item: usize, by: Extent)
     requires start { start ≤ length seats.old.items }
     requires by { IsModestExtent by }
     requires offsets { All (λ s. IsModestOffset s.offset) seats.old.items }
-    ensures { seats.new.items ≡ take start seats.old.items ++ map (reseated item (moved way by)) (drop start seats.old.items) }
+    ensures { seats.new.items
+        ≡ take start seats.old.items ++ map (reseated item (moved way by)) (drop start seats.old.items) }
 {
     for place in start..seats.len() {
         seats[place] = Seat {
@@ -67,11 +73,12 @@ fn shift(way: Direction, seats: &mut Vec<Seat>, start: usize, item: usize, by: E
     }
 }
 
-// Joins the top two items.
+/// Joins the top two items.
 fn join(way: Direction, held: &mut Vec<Held>, seats: &mut Vec<Seat>) -> Result<(), NoMemory>
     requires two { 2 ≤ length held.old.items }
     requires modest { AreModest held.old.items seats.old.items }
-    ensures { OnOk result (JoinsTop (joined_extent way) (moved way) held.old.items held.new.items seats.old.items seats.new.items) }
+    ensures { OnOk result (JoinsTop (joined_extent way) (moved way)
+        held.old.items held.new.items seats.old.items seats.new.items) }
 {
     let second = held.pop().unwrap();
     let first = held.pop().unwrap();
@@ -84,7 +91,7 @@ fn join(way: Direction, held: &mut Vec<Held>, seats: &mut Vec<Seat>) -> Result<(
     Ok(())
 }
 
-// Reads one token: a block pushes an item, an operator joins the top two.
+/// Reads one token: a block pushes an item, an operator joins the top two.
 fn lay_token(
     held: &mut Vec<Held>,
     seats: &mut Vec<Seat>,
@@ -96,7 +103,8 @@ fn lay_token(
     requires extents { Tells (extent_in design.now node.now) (length design.now.blocks) extents.now }
     requires operands { HasOperands (length design.now.blocks) (length held.old.items) token }
     requires modest { AreModest held.old.items seats.old.items }
-    ensures { OnOk result (Lays (extent_in design.now node.now) token held.old.items held.new.items seats.old.items seats.new.items) }
+    ensures { OnOk result (Lays (extent_in design.now node.now) token
+        held.old.items held.new.items seats.old.items seats.new.items) }
 {
     match token {
         Token::Block(block) => {
@@ -111,7 +119,7 @@ fn lay_token(
     }
 }
 
-// The seat of a block that is an item by itself.
+/// The seat of a block that is an item by itself.
 fn own_seat(item: usize, block: u16) -> Seat
     ensures { result ≡ own_seat item block }
 {

@@ -1,3 +1,5 @@
+//! What is told of the blocks of one subproblem: extents, items, seats and standings.
+
 use crate::reach::Reach;
 use sf_standard::{Extent, Offset};
 
@@ -22,8 +24,8 @@ pub struct Home {
     pub reach: Reach,
 }
 
-/// What the pins of a block are measured by: its lesser side, where it lies anywhere in the outline, and its home if it
-/// stands in an item.
+/// What the pins of a block are measured by: its lesser side, where it lies anywhere in the outline, and
+/// its home if it stands in an item.
 #[derive(Clone, Copy, Debug)]
 pub struct Standing {
     pub side: u64,
@@ -31,8 +33,8 @@ pub struct Standing {
     pub home: Option<Home>,
 }
 
-/// Where the blocks of one subproblem stand: the extent of each, the items and the seats on the stack, and the standing of
-/// each block by number.
+/// Where the blocks of one subproblem stand: the extent of each, the items and the seats on the stack, and
+/// the standing of each block by number.
 #[derive(Drop)]
 pub struct Layout {
     pub extents: Vec<Extent>,

@@ -1,3 +1,5 @@
+//! What reaches share, and how far apart their ends are.
+
 ghost use Rattle.std.specs.Prelude.{◌≡◌, ◌≤◌, ◌-ℤ◌};
 ghost use Rattle.sf_standard.specs.Hull.{to_nat};
 ghost use Rattle.sf_bounds.specs.Near.{IsNear, IsNearby, shared, met, reach_gap};
@@ -5,6 +7,7 @@ ghost use Rattle.sf_bounds.specs.Near.{IsNear, IsNearby, shared, met, reach_gap}
 use crate::reach::Reach;
 use sf_standard::Interval;
 
+/// What two intervals share.
 fn shared(first: Interval, second: Interval) -> Interval
     ensures { result ≡ shared first second }
 {

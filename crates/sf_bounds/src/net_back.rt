@@ -1,3 +1,5 @@
+//! Back to the tokens with which the kept path and another begin.
+
 ghost use Rattle.std.specs.Prelude.{◌≡◌, ◌≤◌, take, map, length};
 ghost use Rattle.sf_bounds.specs.Rows.{AreKept, IsNetEnd, token_of, tokens_of};
 
@@ -5,7 +7,7 @@ use crate::net_frame::{NetFrame, Nets};
 use sf_model::Design;
 use sf_polish::Token;
 
-// With how many tokens of the kept path these begin.
+/// With how many tokens of the kept path these begin.
 fn common(frames: &[NetFrame], tokens: &[Token]) -> usize
     ensures within_kept { result ≤ length frames.now }
     ensures within_tokens { result ≤ length tokens.now }
@@ -21,7 +23,7 @@ fn common(frames: &[NetFrame], tokens: &[Token]) -> usize
     count
 }
 
-// How many cells the first frames need.
+/// How many cells the first frames need.
 fn end_of(nets: &Nets, design: &Design, count: usize) -> usize
     requires kept { AreKept design.now (tokens_of nets.now) nets.now }
     requires few { count ≤ length nets.now.frames.items }

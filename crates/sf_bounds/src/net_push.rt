@@ -1,3 +1,5 @@
+//! The frames of nets of one token more.
+
 ghost use Rattle.std.specs.Prelude.{◌≡◌, ◌<◌, ◌≤◌, ◌+◌, length, IfOk, OnOk};
 ghost use Rattle.sf_polish.specs.declared.expr.Token.TheVariants as token;
 ghost use Rattle.sf_node.specs.Children.{IsSubproblem};
@@ -24,7 +26,8 @@ pub fn top_pair(
     requires subproblem { IsSubproblem design.now node.now }
     requires kept { AreKept design.now node.now.tokens nets.now }
     requires next { IsNext node.now.tokens (length nets.now.frames.items) (token_in direction) }
-    ensures { AreTop design.now node.now.tokens nets.now.cells.items nets.now.start nets.now.frames.items result.0 result.1 }
+    ensures { AreTop design.now node.now.tokens nets.now.cells.items nets.now.start
+        nets.now.frames.items result.0 result.1 }
 {
     let right = nets.frames[nets.frames.len() - 1];
     let left = nets.frames[right.below - 1];
@@ -43,7 +46,7 @@ pub fn wires_after(nets: &Nets, design: &Design, node: &Node, count: usize) -> W
     nets.frames[count - 1].wires
 }
 
-// The frame of a block: its row is there, and no gap comes with it.
+/// The frame of a block: its row is there, and no gap comes with it.
 fn push_block(nets: &mut Nets, design: &Design, node: &Node, block: u16) -> Result<(), NoMemory>
     requires subproblem { IsSubproblem design.now node.now }
     requires kept { AreKept design.now node.now.tokens nets.old }
@@ -66,7 +69,7 @@ fn push_block(nets: &mut Nets, design: &Design, node: &Node, block: u16) -> Resu
     Ok(())
 }
 
-// The frame of an operator, made from the two on top.
+/// The frame of an operator, made from the two on top.
 #[inline(always)]
 fn push_joined(
     nets: &mut Nets,
@@ -103,7 +106,7 @@ fn push_joined(
     Ok(())
 }
 
-// The frame of a token. It stands apart, so that the loops over the nets have the registers to themselves.
+/// The frame of a token. It stands apart, so that the loops over the nets have the registers to themselves.
 #[inline(never)]
 fn push(nets: &mut Nets, design: &Design, node: &Node, token: Token) -> Result<(), NoMemory>
     requires subproblem { IsSubproblem design.now node.now }

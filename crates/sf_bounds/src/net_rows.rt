@@ -1,7 +1,10 @@
+//! The row of two joined items.
+
 ghost use Rattle.std.specs.Prelude.{◌≡◌, ◌<◌, ◌≤◌, ◌+◌, ◌*◌, ◌++◌, ℕ, length, map, All, IfOk};
 ghost use Rattle.std.specs.List.{range_with_len};
 ghost use Rattle.sf_bounds.specs.Near.{IsNearby};
-ghost use Rattle.sf_bounds.specs.Rows.{pushed, pushed_reach, joined_reach, cell_of, joined_cell, cell_at, AreSums, AreSmall, IsFitCell, IsLonger};
+ghost use Rattle.sf_bounds.specs.Rows.{pushed, pushed_reach, joined_reach, cell_of, joined_cell, cell_at};
+ghost use Rattle.sf_bounds.specs.Rows.{AreSums, AreSmall, IsFitCell, IsLonger};
 
 use crate::meet::{met, reach_gap};
 use crate::net_frame::{Cell, Wires};
@@ -11,7 +14,7 @@ use sf_frames::direction::Direction;
 use sf_standard::{Extent, Interval};
 use std::alloc::AllocError as NoMemory;
 
-// An interval in the right or upper item, from the corner of both; what no block narrowed stays.
+/// An interval in the right or upper item, from the corner of both; what no block narrowed stays.
 fn pushed(least: u32, most: u32, interval: Interval) -> Interval
     requires { IsNearby (record { across = interval; upward = interval }) }
     ensures { result ≡ pushed least most interval }
@@ -25,6 +28,7 @@ fn pushed(least: u32, most: u32, interval: Interval) -> Interval
     }
 }
 
+/// A reach in the right or upper item, from the corner of both.
 fn pushed_reach(direction: Direction, by: Extent, reach: Reach) -> Reach
     requires { IsNearby reach }
     ensures { result ≡ pushed_reach direction by reach }
@@ -53,7 +57,7 @@ pub fn joined_reach(direction: Direction, by: Extent, left: Reach, right: Reach)
     met(left, moved)
 }
 
-// The cell of a net after two items are joined, where another tells its part in the items under them.
+/// The cell of a net after two items are joined, where another tells its part in the items under them.
 fn joined_cell(direction: Direction, by: Extent, left: Cell, right: Cell, under: Cell) -> Cell
     requires left { IsFitCell left }
     requires right { IsFitCell right }
@@ -71,7 +75,7 @@ fn joined_cell(direction: Direction, by: Extent, left: Cell, right: Cell, under:
     }
 }
 
-// The sums with one cell more.
+/// The sums with one cell more.
 fn with_cell(wires: Wires, weight: u8, cell: Cell) -> Wires
     requires cell { IsFitCell cell }
     requires sums { AreSmall 65536 wires }
@@ -88,8 +92,9 @@ fn with_cell(wires: Wires, weight: u8, cell: Cell) -> Wires
     }
 }
 
-/// Puts the row of two joined items at the end, with the part of each net. The answer is where it begins, and the sums
-/// of its parts. Inlined up to `push`, where the direction is known, so each direction has a loop of its own.
+/// Puts the row of two joined items at the end, with the part of each net. The answer is where it begins,
+/// and the sums of its parts. Inlined up to `push`, where the direction is known, so each direction has a
+/// loop of its own.
 #[inline(always)]
 pub fn join_rows(
     cells: &mut Vec<Cell>,
@@ -105,10 +110,16 @@ pub fn join_rows(
     requires under { under + length weights.now ≤ length cells.old.items }
     requires few { length weights.now ≤ 65536 }
     requires fit { All IsFitCell cells.old.items }
-    requires near { (j : ℕ) → j < length weights.now → IsNearby (pushed_reach direction by (cell_at cells.old.items (right + j)).reach) }
-    ensures row { IfOk result (λ _. cells.new.items ≡ cells.old.items ++ map (joined_cell cells.old.items direction by left right under) (range_with_len 0 (length weights.now))) }
+    requires near { (j : ℕ) → j < length weights.now
+        → IsNearby (pushed_reach direction by (cell_at cells.old.items (right + j)).reach) }
+    ensures row { IfOk result (λ _. cells.new.items
+        ≡ cells.old.items
+        ++ map (joined_cell cells.old.items direction by left right under)
+        (range_with_len 0 (length weights.now))) }
     ensures at { IfOk result (λ wires. wires.at ≡ length cells.old.items) }
-    ensures sums { IfOk result (AreSums weights.now (joined_cell cells.old.items direction by left right under) (length weights.now)) }
+    ensures sums { IfOk result
+        (AreSums weights.now (joined_cell cells.old.items direction by left right under)
+        (length weights.now)) }
     ensures fit { All IsFitCell cells.new.items }
     ensures longer { IsLonger cells.old.items cells.new.items }
 {

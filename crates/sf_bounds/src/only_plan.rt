@@ -1,3 +1,5 @@
+//! The one plan of a complete subproblem whose spans have one place each.
+
 ghost use Rattle.std.specs.Prelude.{◌≡◌, ◌<◌, ◌↔◌, length, not, slice_index_or, IfOk, IsTrue};
 ghost use Rattle.std.specs.List.{list_all};
 ghost use Rattle.sf_model.specs.Tree.{tree_of};
@@ -15,7 +17,7 @@ use sf_polish::{Expr, Tokens, plan_of};
 use sf_wire::cost;
 use std::alloc::{AllocError as NoMemory, Global};
 
-// The first shape in the span of a block.
+/// The first shape in the span of a block.
 #[tactic(auto, using(crate::proofs::Building::span_some, crate::proofs::Building::span_inside, crate::proofs::Building::span_count))]
 fn first_shape(design: &Design, node: &Node, block: u16) -> Shape
     requires subproblem { IsSubproblem design.now node.now }
@@ -29,6 +31,7 @@ fn first_shape(design: &Design, node: &Node, block: u16) -> Shape
     shape_at(shapes, from)
 }
 
+/// The shape at a place.
 fn shape_at(shapes: &[Shape], place: u16) -> Shape
     requires { place < length shapes.now }
     ensures { result ≡ slice_index_or shapes.now place (record { w = 0; h = 0 }) }
@@ -36,6 +39,7 @@ fn shape_at(shapes: &[Shape], place: u16) -> Shape
     shapes[usize::from(place)]
 }
 
+/// The first shape in the span of each block.
 fn first_shapes(alloc: Global, design: &Design, node: &Node) -> Result<Vec<Shape>, NoMemory>
     requires { IsSubproblem design.now node.now }
     ensures { IfOk result (λ v. Tells (first_shape design.now node.now) (length design.now.blocks) v.items) }
@@ -47,11 +51,12 @@ fn first_shapes(alloc: Global, design: &Design, node: &Node) -> Result<Vec<Shape
     Ok(shapes)
 }
 
-// The tokens of a subproblem, with the first shape of each span.
+/// The tokens of a subproblem, with the first shape of each span.
 fn first_expr(alloc: Global, design: &Design, node: &Node) -> Result<Expr, NoMemory>
     requires { IsSubproblem design.now node.now }
     ensures tokens { IfOk result (λ e. e.tokens ≡ node.now.tokens) }
-    ensures shapes { IfOk result (λ e. Tells (first_shape design.now node.now) (length design.now.blocks) e.shapes) }
+    ensures shapes { IfOk result (λ e.
+        Tells (first_shape design.now node.now) (length design.now.blocks) e.shapes) }
 {
     let tokens = Vec::from_slice(alloc, node.tokens())?;
     let shapes = first_shapes(alloc, design, node)?;
@@ -61,6 +66,7 @@ fn first_expr(alloc: Global, design: &Design, node: &Node) -> Result<Expr, NoMem
     })
 }
 
+/// Whether a plan lies in the outline.
 fn fits(design: &Design, plan: &Plan) -> bool
     requires { IsLegal design.now (tree_of plan.now) }
     ensures { IsTrue result ↔ Fits design.now.outline (tree_of plan.now) }

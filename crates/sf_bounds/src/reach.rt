@@ -1,6 +1,9 @@
+//! An interval across and one upward.
+
 use sf_standard::Interval;
 
-/// What some intervals across and upward share: the greatest lower end and the least upper end of each. In doubled units.
+/// What some intervals across and upward share: the greatest lower end and the least upper end of each. In
+/// doubled units.
 #[derive(Clone, Copy, Debug, PartialEq, Eq)]
 pub struct Reach {
     pub across: Interval,

@@ -1,3 +1,5 @@
+//! The memory of one worker.
+
 ghost use Rattle.std.specs.Prelude.{◌≡◌, Some, None};
 ghost use Rattle.sf_bounds.specs.Serving.{MayServe};
 
@@ -7,7 +9,8 @@ use sf_model::Design;
 use std::alloc::Global;
 use std::marker::Model;
 
-/// Memory of one worker, for the subproblems of one design. A contract sees it as the design that it serves, or none.
+/// Memory of one worker, for the subproblems of one design. A contract sees it as the design that it
+/// serves, or none.
 #[derive(Drop)]
 pub struct Room<'a> {
     pub(crate) kept: Option<Kept<'a>>,

@@ -1,3 +1,5 @@
+//! Memory that every measurement fills anew.
+
 use crate::layout::Layout;
 use crate::reach::Reach;
 use crate::stock::Stock;

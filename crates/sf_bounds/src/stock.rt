@@ -1,3 +1,5 @@
+//! Lists of points that are used again.
+
 use sf_curves::{Curve, Point};
 use std::alloc::{AllocError as NoMemory, Global};
 

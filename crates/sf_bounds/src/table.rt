@@ -1,7 +1,11 @@
-ghost use Rattle.std.specs.Prelude.{◌≡◌, ◌<◌, ◌≤◌, ◌*◌, ◌+◌, ◌-ℤ◌, pos, length, slice_index_or, slice_set, Some, None, All, OnOk};
+//! The standing of each block, by its extent and its seat.
+
+ghost use Rattle.std.specs.Prelude.{◌≡◌, ◌<◌, ◌≤◌, ◌*◌, ◌+◌, ◌-ℤ◌, pos};
+ghost use Rattle.std.specs.Prelude.{length, slice_index_or, slice_set, Some, None, All, OnOk};
 ghost use Rattle.sf_bounds.specs.Layout.{Tells};
 ghost use Rattle.sf_bounds.specs.Near.{anywhere};
-ghost use Rattle.sf_bounds.specs.Pins.{extent_from, block_range, home_in, standing_of, standing_at, standing_by};
+ghost use Rattle.sf_bounds.specs.Pins.{extent_from, block_range, home_in};
+ghost use Rattle.sf_bounds.specs.Pins.{standing_of, standing_at, standing_by};
 
 use crate::layout::{Home, Seat, Standing};
 use crate::reach::Reach;
@@ -9,6 +13,7 @@ use sf_model::Design;
 use sf_standard::{Extent, Interval};
 use std::alloc::AllocError as NoMemory;
 
+/// Where a block of this least side lies along a side of the outline.
 fn side_range(least: u32, side: u32) -> Interval
     requires least { least ≤ 1048576 }
     requires side { side ≤ 1048576 }
@@ -21,7 +26,7 @@ fn side_range(least: u32, side: u32) -> Interval
     }
 }
 
-// What the pins of a block are measured by, before its seat is known.
+/// What the pins of a block are measured by, before its seat is known.
 fn unseated(design: &Design, extent: Extent) -> Standing
     requires w { extent.least_w ≤ 1048576 }
     requires h { extent.least_h ≤ 1048576 }
@@ -37,6 +42,7 @@ fn unseated(design: &Design, extent: Extent) -> Standing
     }
 }
 
+/// Where a block lies along one side of its item: from its least place to its greatest.
 fn ends(least: u32, least_side: u32, most: u32, most_side: u32) -> Interval
     ensures { result ≡ record { low = pos (2 * least + least_side); high = pos (2 * most + most_side) } }
 {
@@ -46,6 +52,7 @@ fn ends(least: u32, least_side: u32, most: u32, most_side: u32) -> Interval
     }
 }
 
+/// The item of a block's seat, and where the block lies in it.
 fn home_in(extent: Extent, seat: Seat) -> Home
     ensures { result ≡ home_in extent seat }
 {
@@ -59,11 +66,14 @@ fn home_in(extent: Extent, seat: Seat) -> Home
     }
 }
 
-// Writes where a block stands.
+/// Writes where a block stands.
 fn put_home(table: &mut Vec<Standing>, extents: &[Extent], seat: Seat)
     requires table { seat.offset.block < length table.old.items }
     requires extents { seat.offset.block < length extents.now }
-    ensures { table.new.items ≡ slice_set table.old.items seat.offset.block (record (standing_at table.old.items seat.offset.block) { home = Some (home_in (extent_from extents.now seat.offset.block) seat) }) }
+    ensures { let b = seat.offset.block in
+        let home = Some (home_in (extent_from extents.now b) seat) in
+        table.new.items
+        ≡ slice_set table.old.items b (record (standing_at table.old.items b) { home = home }) }
 {
     let block = usize::from(seat.offset.block);
     table[block] = Standing {
@@ -82,7 +92,8 @@ pub fn fill_table(
     requires count { length extents.now ≡ length design.now.blocks }
     requires small { All (λ e. (e.least_w ≤ 1048576) × (e.least_h ≤ 1048576)) extents.now }
     requires seats { All (λ s. s.offset.block < length design.now.blocks) seats.now }
-    ensures { OnOk result (Tells (standing_by design.now extents.now seats.now) (length design.now.blocks) table.new.items) }
+    ensures { OnOk result
+        (Tells (standing_by design.now extents.now seats.now) (length design.now.blocks) table.new.items) }
 {
     table.clear();
     for extent in extents {

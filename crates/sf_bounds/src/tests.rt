@@ -1,3 +1,5 @@
+//! Values of the bound that were worked out by hand.
+
 ghost use Rattle.std.specs.Prelude.{◌≡◌, ◌≢◌, ◌∷◌, [], IfOk, IfSome, length};
 ghost use Rattle.sf_node.specs.Children.{IsSubproblem};
 ghost use Rattle.sf_bounds.specs.Serving.{MayServe};
@@ -43,6 +45,7 @@ fn three_shapes(alloc: Global) -> Result<Design, AllocError> {
     })
 }
 
+/// The subproblem of all plans.
 fn root(alloc: Global, design: &Design) -> Result<Node, AllocError>
     ensures { IfOk result (IsSubproblem design.now) }
 {
@@ -50,6 +53,7 @@ fn root(alloc: Global, design: &Design) -> Result<Node, AllocError>
     Ok(node)
 }
 
+/// The child at a place, where there is one.
 fn child(design: &Design, node: &Node, place: usize) -> Result<Option<Node>, AllocError>
     requires { IsSubproblem design.now node.now }
     ensures { IfOk result (λ child. IfSome child (IsSubproblem design.now)) }
@@ -61,9 +65,11 @@ fn child(design: &Design, node: &Node, place: usize) -> Result<Option<Node>, All
     Ok(Some(children.swap_remove(place)))
 }
 
+/// The two halves of a subproblem by its first wide span.
 fn halves(design: &Design, node: &Node) -> Result<Option<(Node, Node)>, AllocError>
     requires { IsSubproblem design.now node.now }
-    ensures { IfOk result (λ found. IfSome found (λ pair. IsSubproblem design.now pair.0 × IsSubproblem design.now pair.1)) }
+    ensures { IfOk result (λ found. IfSome found (λ pair.
+        IsSubproblem design.now pair.0 × IsSubproblem design.now pair.1)) }
 {
     let Some(block) = node.first_wide() else {
         return Ok(None);
@@ -95,6 +101,7 @@ fn values_of_halves<'a>(
     Ok(Some([first, second, third, fourth]))
 }
 
+/// The bound of the root, of the complete subproblem, and of its halves.
 #[test]
 fn measures(rt: HostRuntime) -> Result<(), Fail> {
     let alloc = rt.alloc();
@@ -146,8 +153,8 @@ fn two_squares(alloc: Global, weight: u8) -> Result<Design, AllocError> {
     })
 }
 
-/// Four blocks of 2 by 2, with wire weight 1: an outer net of the first and the third, an inner one of the second
-/// and the third, and one of the fourth and a pad, of these weights.
+/// Four blocks of 2 by 2, with wire weight 1: an outer net of the first and the third, an inner one of the
+/// second and the third, and one of the fourth and a pad, of these weights.
 fn four_squares(alloc: Global, outer: u8, inner: u8, padded: u8) -> Result<Design, AllocError> {
     let blocks = vec![in alloc;
         square(alloc, b"a")?,
@@ -198,6 +205,7 @@ fn value_at<'a>(
     Ok(Some(value))
 }
 
+/// Nets of blocks in one item, in two, and with a pad.
 #[test]
 fn measures_items(rt: HostRuntime) -> Result<(), Fail> {
     let alloc = rt.alloc();
@@ -229,6 +237,7 @@ fn measures_items(rt: HostRuntime) -> Result<(), Fail> {
     Ok(())
 }
 
+/// A net counts as often as its weight says.
 #[test]
 fn measures_one_weight(rt: HostRuntime) -> Result<(), Fail> {
     let alloc = rt.alloc();
@@ -242,6 +251,7 @@ fn measures_one_weight(rt: HostRuntime) -> Result<(), Fail> {
     Ok(())
 }
 
+/// So do several nets, in an incomplete subproblem and in a complete one.
 #[test]
 fn measures_weights(rt: HostRuntime) -> Result<(), Fail> {
     let alloc = rt.alloc();
@@ -281,6 +291,7 @@ fn values_by_part<'a>(
     ))
 }
 
+/// The parts asked for one by one are those asked for together.
 #[test]
 fn measures_parts(rt: HostRuntime) -> Result<(), Fail> {
     let alloc = rt.alloc();

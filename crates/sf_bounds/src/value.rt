@@ -1,3 +1,5 @@
+//! What the area costs at least.
+
 ghost use Rattle.std.specs.Prelude.{◌≡◌, ◌*◌, max, length, IfOk};
 ghost use Rattle.sf_node.specs.Children.{IsSubproblem};
 ghost use Rattle.sf_frames.specs.Groups.{IsNeededOrNone};
@@ -12,7 +14,7 @@ use sf_model::Design;
 use sf_node::Node;
 use std::alloc::AllocError as NoMemory;
 
-// What the frames of a path tell, where each span is whole.
+/// What the frames of a path tell, where each span is whole.
 fn measure(frames: &mut Frames, design: &Design, node: &Node) -> Result<Measured, NoMemory>
     requires subproblem { IsSubproblem design.now node.now }
     requires serves { frames.old ≡ design.now }
@@ -26,7 +28,7 @@ fn measure(frames: &mut Frames, design: &Design, node: &Node) -> Result<Measured
     Ok(measured)
 }
 
-// The area that groups need, by their sum, and by the widest and the highest one.
+/// The area that groups need, by their sum, and by the widest and the highest one.
 fn needed(sums: Sums) -> u64
     ensures { result ≡ max sums.area (sums.w * sums.h) }
 {
@@ -34,7 +36,7 @@ fn needed(sums: Sums) -> u64
     sums.area.max(box_area)
 }
 
-// The same from curves that are made anew.
+/// The same from curves that are made anew.
 fn area_of_curves(
     scratch: &mut Scratch,
     design: &Design,
@@ -53,7 +55,7 @@ fn area_of_curves(
     Ok(area_part(&scratch.curves))
 }
 
-// The area that the items and the unused blocks need, or none where one of them fits in no way.
+/// The area that the items and the unused blocks need, or none where one of them fits in no way.
 fn needed_area(
     frames: &mut Frames,
     scratch: &mut Scratch,
@@ -73,8 +75,8 @@ fn needed_area(
     }
 }
 
-/// What the area costs at least that the items and the unused blocks need; none where one of them fits in no way, or they
-/// have no room.
+/// What the area costs at least that the items and the unused blocks need; none where one of them fits in
+/// no way, or they have no room.
 pub fn area_cost(
     frames: &mut Frames,
     scratch: &mut Scratch,

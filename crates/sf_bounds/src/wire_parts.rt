@@ -5,8 +5,8 @@ ghost use Rattle.sf_bounds.specs.Open.{AreAtMost};
 
 use crate::wires::weighed;
 
-/// What wires take at least, by range, by pair, by hull and by the greatest of these: of one net, or summed over all nets,
-/// each as often as its weight says.
+/// What wires take at least, by range, by pair, by hull and by the greatest of these: of one net, or summed
+/// over all nets, each as often as its weight says.
 #[derive(Clone, Copy, Debug, PartialEq, Eq)]
 pub struct WireParts {
     pub range: u64,

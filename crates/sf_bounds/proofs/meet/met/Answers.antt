@@ -1,5 +1,5 @@
 use Rattle.sf_bounds.specs.Near.{IsNearby}
-use Rattle.std.proofs.Common.{◌≡◌, sym, ap, subst, ◌∙◌}
+use Rattle.std.proofs.Common.{sym, ap, subst, ◌∙◌}
 use Rattle.sf_bounds.specs.declared.reach.Reach.{Reach}
 use Rattle.sf_bounds.specs.Near.{shared}
 use Rattle.sf_bounds.proofs.Reading.{near_met}
