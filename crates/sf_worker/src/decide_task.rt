@@ -22,7 +22,8 @@ pub fn decide<'a, B: Bounds>(
     requires subproblem { IsSubproblem design.now task.now.node }
     requires bound { task.now.bound ≡ B.Values.value bounds.now design.now task.now.node }
     requires serves { MayServe room.old design.now }
-    ensures decision { IfOk result (λ decision. IsDecision design.now (B.Values.value bounds.now design.now) task.now value decision) }
+    ensures decision { IfOk result
+        (λ decision. IsDecision design.now (B.Values.value bounds.now design.now) task.now value decision) }
     ensures serves { MayServe room.new design.now }
 {
     if task.bound >= value {
@@ -55,7 +56,8 @@ fn with_bound<'a, B: Bounds>(
 ) -> Result<Task, NoMemory>
     requires subproblem { IsSubproblem design.now node }
     requires serves { MayServe room.old design.now }
-    ensures task { IfOk result (λ task. task ≡ record { node = node; bound = B.Values.value bounds.now design.now node }) }
+    ensures task { IfOk result
+        (λ task. task ≡ record { node = node; bound = B.Values.value bounds.now design.now node }) }
     ensures serves { MayServe room.new design.now }
 {
     let bound = bounds.bound(design, &node, room)?;
@@ -72,7 +74,8 @@ fn extended<'a, B: Bounds>(
     requires subproblem { IsSubproblem design.now task.now.node }
     requires bound { task.now.bound ≡ B.Values.value bounds.now design.now task.now.node }
     requires serves { MayServe room.old design.now }
-    ensures tasks { IfOk result (λ tasks. tasks.items ≡ valued (B.Values.value bounds.now design.now) (extended task.now.node)) }
+    ensures tasks { IfOk result
+        (λ tasks. tasks.items ≡ valued (B.Values.value bounds.now design.now) (extended task.now.node)) }
     ensures serves { MayServe room.new design.now }
 {
     let children = task.node.extend_children(design)?;

@@ -1,6 +1,7 @@
 //! Where a worker takes its tasks from, and where it puts them.
 
-ghost use Rattle.std.specs.Prelude.{◌≡◌, ℕ, ◌+◌, ◌<◌, ◌≤◌, ◌++◌, [], ◌∷◌, All, List, length, IfSome, MatchOption, vec_len, vec_capacity};
+ghost use Rattle.std.specs.Prelude.{◌≡◌, ℕ, ◌+◌, ◌<◌, ◌≤◌, ◌++◌, [], ◌∷◌, All, List, length, IfSome};
+ghost use Rattle.std.specs.Prelude.{MatchOption, vec_len, vec_capacity};
 ghost use Rattle.sf_node.specs.declared.task.Task.{Task};
 ghost use Rattle.sf_worker.specs.Takes.{IsFound, IsStolen, PutsAll, SamePuts};
 
@@ -39,7 +40,8 @@ fn steal<T: Served>(thieves: &mut Vec<Thief<T>>) -> Option<Task>
 pub fn put<T: Served>(owner: &mut Owner<T>, kept: &mut Vec<Task>, task: Task)
     requires room { vec_len kept.old < vec_capacity kept.old }
     requires served { T.serves task }
-    ensures room { (vec_capacity kept.new ≡ vec_capacity kept.old) × (vec_len kept.new ≤ vec_len kept.old + 1) }
+    ensures room { (vec_capacity kept.new ≡ vec_capacity kept.old)
+        × (vec_len kept.new ≤ vec_len kept.old + 1) }
     ensures put { PutsAll T.serves owner.old owner.new kept.old.items kept.new.items (task ∷ []) }
 {
     if let Err(task) = owner.put(task) {

@@ -1,6 +1,7 @@
 //! One turn of a pass: a task is taken, decided and logged.
 
-ghost use Rattle.std.specs.Prelude.{◌≡◌, ℕ, ◌+◌, ◌<◌, ◌≤◌, [], ◌∷◌, All, map, MatchOption, IsTrue, IsFalse, vec_len, vec_capacity};
+ghost use Rattle.std.specs.Prelude.{◌≡◌, ℕ, ◌+◌, ◌<◌, ◌≤◌, [], ◌∷◌, All, map, MatchOption, IsTrue, IsFalse};
+ghost use Rattle.std.specs.Prelude.{vec_len, vec_capacity};
 ghost use Rattle.sf_model.specs.declared.TheConstants.{MAX};
 ghost use Rattle.sf_node.specs.declared.task.Task.{Task};
 ghost use Rattle.sf_node.specs.Subproblem.{is_complete, is_solved};
@@ -38,7 +39,8 @@ pub fn turn<'a, T: Served, B: Bounds, G: Gate>(
     requires quota { 0 < state.old.quota }
     requires ready { IsReady design.now (B.Values.value bounds.now design.now) state.old }
     ensures ready { IsReady design.now (B.Values.value bounds.now design.now) state.new }
-    ensures passed { (p : Passed design.now (B.Values.value bounds.now design.now) state.old state.new) × TurnEnds state.old state.new p result }
+    ensures passed { (p : Passed design.now (B.Values.value bounds.now design.now) state.old state.new)
+        × TurnEnds state.old state.new p result }
 {
     if state.log.reserve(1).is_err() {
         return Some(PassEnd::NoMemory);
@@ -64,7 +66,8 @@ fn judge<'a, T: Served, B: Bounds>(
     requires team { Serves T.serves design.now (B.Values.value bounds.now design.now) }
     requires word { state.old.seat.word ≡ word.now.id }
     requires quota { 0 < state.old.quota }
-    requires room { (vec_len state.old.log < vec_capacity state.old.log) × (vec_len state.old.kept < vec_capacity state.old.kept) }
+    requires room { (vec_len state.old.log < vec_capacity state.old.log)
+        × (vec_len state.old.kept < vec_capacity state.old.kept) }
     requires task { IsTask design.now (B.Values.value bounds.now design.now) task }
     requires best { IsBest design.now state.old.best state.old.seat.offered }
     requires serves { MayServe state.old.room design.now }
@@ -153,7 +156,8 @@ fn solve<'a, T: Served, B: Bounds>(
     state.quota -= 1;
 }
 
-/// Puts the children, the last one first, and logs the task. Keeps it where there is no room for the children.
+/// Puts the children, the last one first, and logs the task. Keeps it where there is no room for the
+/// children.
 fn extend<'a, T: Served, B: Bounds>(
     state: &mut WorkerState<'a, T>,
     task: Task,
@@ -164,12 +168,15 @@ fn extend<'a, T: Served, B: Bounds>(
 ) -> Option<PassEnd>
     requires team { Serves T.serves design.now (B.Values.value bounds.now design.now) }
     requires quota { 0 < state.old.quota }
-    requires room { (vec_len state.old.log < vec_capacity state.old.log) × (vec_len state.old.kept < vec_capacity state.old.kept) }
+    requires room { (vec_len state.old.log < vec_capacity state.old.log)
+        × (vec_len state.old.kept < vec_capacity state.old.kept) }
     requires task { IsTask design.now (B.Values.value bounds.now design.now) task }
     requires best { IsBest design.now state.old.best state.old.seat.offered }
     requires serves { MayServe state.old.room design.now }
     requires value { (state.old.seat.seen ≡ value) × (task.bound < value) }
-    requires children { IsFalse (is_complete task.node) × (map (λ (t : Task). t.node) children.items ≡ extended task.node) × All (IsTask design.now (B.Values.value bounds.now design.now)) children.items }
+    requires children { IsFalse (is_complete task.node)
+        × (map (λ (t : Task). t.node) children.items ≡ extended task.node)
+        × All (IsTask design.now (B.Values.value bounds.now design.now)) children.items }
     ensures { IsJudged design.now (B.Values.value bounds.now design.now) task state.old state.new result }
 {
     if state.kept.reserve(children.len()).is_err() {
@@ -200,13 +207,17 @@ fn halve<'a, T: Served, B: Bounds>(
 ) -> Option<PassEnd>
     requires team { Serves T.serves design.now (B.Values.value bounds.now design.now) }
     requires quota { 0 < state.old.quota }
-    requires room { (vec_len state.old.log < vec_capacity state.old.log) × (vec_len state.old.kept < vec_capacity state.old.kept) }
+    requires room { (vec_len state.old.log < vec_capacity state.old.log)
+        × (vec_len state.old.kept < vec_capacity state.old.kept) }
     requires task { IsTask design.now (B.Values.value bounds.now design.now) task }
     requires best { IsBest design.now state.old.best state.old.seat.offered }
     requires serves { MayServe state.old.room design.now }
     requires value { (state.old.seat.seen ≡ value) × (task.bound < value) }
-    requires node { IsTrue (is_complete task.node) × IsFalse (is_solved design.now task.node) × (block ≡ first_wide task.node) × CanSplit task.node block }
-    requires halves { (left.node ∷ right.node ∷ [] ≡ split task.node block) × IsTask design.now (B.Values.value bounds.now design.now) left × IsTask design.now (B.Values.value bounds.now design.now) right }
+    requires node { IsTrue (is_complete task.node) × IsFalse (is_solved design.now task.node)
+        × (block ≡ first_wide task.node) × CanSplit task.node block }
+    requires halves { (left.node ∷ right.node ∷ [] ≡ split task.node block)
+        × IsTask design.now (B.Values.value bounds.now design.now) left
+        × IsTask design.now (B.Values.value bounds.now design.now) right }
     ensures { IsJudged design.now (B.Values.value bounds.now design.now) task state.old state.new result }
 {
     if state.kept.reserve(2).is_err() {

@@ -24,7 +24,8 @@ pub fn pass<'a, T: Served, B: Bounds, G: Gate>(
     requires word { state.old.seat.word ≡ word.now.id }
     requires ready { IsReady design.now (B.Values.value bounds.now design.now) state.old }
     ensures ready { IsReady design.now (B.Values.value bounds.now design.now) state.new }
-    ensures passed { (p : Passed design.now (B.Values.value bounds.now design.now) state.old state.new) × PassEnds state.old state.new p result }
+    ensures passed { (p : Passed design.now (B.Values.value bounds.now design.now) state.old state.new)
+        × PassEnds state.old state.new p result }
 {
     while state.quota > 0 {
         if let Some(end) = turn(state, design, bounds, word, gate) {
