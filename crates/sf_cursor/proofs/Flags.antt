@@ -18,12 +18,14 @@ use Rattle.sf_node.proofs.Depth.{count-more, subproblem-shallow}
 use Rattle.sf_node.proofs.Reached.{spans-after}
 use Rattle.sf_cursor.specs.Path.{AreUsed, marked, named, NamesOne}
 
+-- another token leaves a block as it was, used or not
 unused-more : (b : ℕ) (ts : List Token) (t : Token) → is_block b t ≡ false → is_unused b (ts ++ t ∷ []) ≡ is_unused b ts
 unused-more b ts t e =
     let k : ◌≡◌ {A = ℕ} (cond (is_block b t) 1 0) 0 = ap (λ (x : Bool). cond {A = ℕ} x 1 0) e in
     let same : count_by (is_block b) (ts ++ t ∷ []) ≡ count_by (is_block b) ts = omega (arith, count-more (is_block b) ts t, k) in
     ap (λ n. n == 0) same
 
+-- a block that comes is no longer unused
 unused-named : (b : ℕ) (ts : List Token) → is_unused b (ts ++ token.Block b ∷ []) ≡ false
 unused-named b ts =
     let self : (b == b) ≡ true = grind (arith, nat_tests) in
@@ -34,11 +36,13 @@ unused-named b ts =
     not-zero : (n : ℕ) → 0 < n → (n == 0) ≡ false
     not-zero n h = grind (arith, nat_tests)
 
+-- different blocks are found not to be the same
 not-same : (b c : ℕ) → (b ≡ c → ⊥) → (c == b) ≡ false
 not-same b c n = grind (arith, nat_tests)
 
 -- other flags stay
 module _ (node : Parts) (used : List Bool) (c : ℕ) where
+  -- the flags after a step that names a block: its flag is set
   pub flags-on : AreUsed node used → c < length used → AreUsed (after node (Block c)) (set used c true)
   flags-on u h = record {
     each = length-set used c true ∙ u.each;
@@ -50,6 +54,7 @@ module _ (node : Parts) (used : List Bool) (c : ℕ) where
     ];
   }
 
+  -- the flags before a step that names a block: its flag is taken away
   pub flags-off : AreUsed (after node (Block c)) used → c < length used → is_unused c node.tokens ≡ true → AreUsed node (set used c false)
   flags-off u h free = record {
     each = length-set used c false ∙ u.each;
@@ -61,9 +66,11 @@ module _ (node : Parts) (used : List Bool) (c : ℕ) where
     ];
   }
 
+-- subproblems with the same blocks have the same flags
 same-flags : (node other : Parts) (used : List Bool) → length other.spans ≡ length node.spans → ((b : ℕ) → is_unused b other.tokens ≡ is_unused b node.tokens) → AreUsed node used → AreUsed other used
 same-flags node other used n f u = record { each = u.each ∙ sym n; flags = λ b k. u.flags b k ∙ sym (ap not (f b)) }
 
+-- the flags after a step are those of the subproblem that it leads to
 pub used-on : (node : Parts) (s : Step) (used : List Bool) → CanStep node s → AreUsed node used → AreUsed (after node s) (marked used s true)
 used-on node Beside used can u = same-flags node (after node Beside) used refl (λ b. unused-more b node.tokens token.Beside refl) u
 used-on node Above used can u = same-flags node (after node Above) used refl (λ b. unused-more b node.tokens token.Above refl) u
@@ -71,6 +78,7 @@ used-on node (Block c) used can u = flags-on node used c u (omega (arith, can.0,
 used-on node (Left b) used can u = same-flags node (after node (Left b)) used (spans-after node (Left b)) (λ b. refl) u
 used-on node (Right b) used can u = same-flags node (after node (Right b)) used (spans-after node (Right b)) (λ b. refl) u
 
+-- the flags after a step is taken back are those of the subproblem before it
 pub used-back : (node : Parts) (s : Step) (used : List Bool) → CanStep node s → AreUsed (after node s) used → AreUsed node (marked used s false)
 used-back node Beside used can u = same-flags (after node Beside) node used refl (λ b. sym (unused-more b node.tokens token.Beside refl)) u
 used-back node Above used can u = same-flags (after node Above) node used refl (λ b. sym (unused-more b node.tokens token.Above refl)) u
@@ -78,6 +86,7 @@ used-back node (Block c) used can u = flags-off node used c u (omega (arith, can
 used-back node (Left b) used can u = same-flags (after node (Left b)) node used (sym (spans-after node (Left b))) (λ b. refl) u
 used-back node (Right b) used can u = same-flags (after node (Right b)) node used (sym (spans-after node (Right b))) (λ b. refl) u
 
+-- a block that a step names has a flag
 pub names-one : (node : Parts) (s : Step) (used : List Bool) → CanStep node s → length used ≡ length node.spans → NamesOne s used
 names-one node Beside used can e = tt
 names-one node Above used can e = tt
@@ -85,6 +94,7 @@ names-one node (Block b) used can e = omega (arith, can.0, e)
 names-one node (Left b) used can e = tt
 names-one node (Right b) used can e = tt
 
+-- a step adds as many operands as it names blocks
 pub operands-after : (node : Parts) (s : Step) → operands (after node s).tokens ≡ operands node.tokens + named s
 operands-after node Beside = count-more is_operand node.tokens token.Beside
 operands-after node Above = count-more is_operand node.tokens token.Above
@@ -92,6 +102,7 @@ operands-after node (Block b) = count-more is_operand node.tokens (token.Block b
 operands-after node (Left b) = omega arith
 operands-after node (Right b) = omega arith
 
+-- a step adds one token at most
 tokens-after : (node : Parts) (s : Step) → length (after node s).tokens ≤ length node.tokens + 1
 tokens-after node Beside = omega (arith, length-append node.tokens (token.Beside ∷ []))
 tokens-after node Above = omega (arith, length-append node.tokens (token.Above ∷ []))
@@ -99,6 +110,7 @@ tokens-after node (Block b) = omega (arith, length-append node.tokens (token.Blo
 tokens-after node (Left b) = omega arith
 tokens-after node (Right b) = omega arith
 
+-- a walk adds no more tokens than steps
 tokens-walk : (ss : List Step) (node : Parts) → length (walk node ss).tokens ≤ length node.tokens + length ss
 tokens-walk [] node = omega arith
 tokens-walk (s ∷ ss) node = omega (arith, tokens-walk ss (after node s), tokens-after node s)
@@ -107,6 +119,7 @@ tokens-walk (s ∷ ss) node = omega (arith, tokens-walk ss (after node s), token
 pub few-tokens : (design : Design) (node : Parts) → IsSubproblem design node → length node.tokens < 3200
 few-tokens design node sub = omega (arith, ap (λ n. length n.tokens) sub.is, tokens-walk node.steps (root design), subproblem-shallow design node sub)
 
+-- there are few operands
 pub few-operands : (design : Design) (node : Parts) → IsSubproblem design node → operands node.tokens < 3200
 few-operands design node sub = omega (arith, few-tokens design node sub, both-kinds node.tokens)
 
@@ -117,24 +130,29 @@ joins-by t ts n k e f = ap (λ b. b && not (ends_in t ts)) (same-test n k (opera
     same-test : (n k x y : ℕ) → n ≡ x + y → k ≡ x → nat_le (n + 2) (2 * k) ≡ nat_le (y + 2) x
     same-test n k x y e f = grind (arith, nat_tests)
 
+-- where the counts leave room, the last token decides whether an operator may come
 pub joins-yes : (t : Token) (ts : List Token) (n k : ℕ) → n ≡ length ts → k ≡ operands ts → n + 2 ≤ 2 * k → not (ends_in t ts) ≡ may_join t ts
 joins-yes t ts n k e f h =
     let yes : nat_le (n + 2) (2 * k) ≡ true = grind (arith, nat_tests) in
     sym (ap (λ b. b && not (ends_in t ts)) yes) ∙ joins-by t ts n k e f
 
+-- where the counts leave no room, no operator may come
 pub joins-no : (t : Token) (ts : List Token) (n k : ℕ) → n ≡ length ts → k ≡ operands ts → 2 * k < n + 2 → nat_le (n + 2) (2 * k) ≡ may_join t ts
 joins-no t ts n k e f h =
     let no : nat_le (n + 2) (2 * k) ≡ false = grind (arith, nat_tests) in
     no ∙ sym (ap (λ b. b && not (ends_in t ts)) no) ∙ joins-by t ts n k e f
 
+-- what is not the other way round is so both ways
 not-back : (x r : Bool) → r ≡ not x → x ≡ not r
 not-back true r e = sym (ap not e)
 not-back false r e = sym (ap not e)
 
+-- the flag of a block tells whether it is there
 pub flag-of : (node : Parts) (used flags : List Bool) (b : ℕ) (r x : Bool) → AreUsed node used → flags ≡ used → b < length used → r ≡ get_or flags b r → r ≡ x → is_unused b node.tokens ≡ not x
 flag-of node used flags b r x u same h e is =
     not-back (is_unused b node.tokens) x (sym is ∙ e ∙ ap (λ v. get_or v b r) same ∙ get_or_default used b r true h ∙ u.flags b h)
 
+-- a step names one block at most
 pub named-most : (s : Step) → named s ≤ 1
 named-most Beside = omega arith
 named-most Above = omega arith

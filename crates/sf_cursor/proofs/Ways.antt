@@ -1,12 +1,11 @@
 -- The levels of a way, one step on and one step back.
-use Rattle.std.proofs.Common.{◌≡◌, ℕ, suc, ◌+◌, ◌-◌, ◌<◌, ◌≤◌, List, [], ◌∷◌, ◌++◌, map, take, length, get_or, Bool, arith, refl, ap, sym, subst, ◌∙◌, true, false, Option, Some}
+use Rattle.std.proofs.Common.{◌≡◌, ℕ, suc, ◌+◌, ◌-◌, ◌<◌, ◌≤◌, List, [], ◌∷◌, ◌++◌, map, take, length, arith, refl, ap, sym, subst, ◌∙◌, true, false, Option, Some}
 use Prim.Native.Nat.{zero}
-use Rattle.std.specs.Prelude.{slice_get, replicate, IfSome}
+use Rattle.std.specs.Prelude.{slice_get, IfSome}
 use Rattle.std.specs.List.{AllByRecursion}
-use Rattle.std.proofs.lemmas.List.{same_from_push, nil_from_length, length_push, length-replicate, length-map, get_or-replicate}
+use Rattle.std.proofs.lemmas.List.{same_from_push, nil_from_length, length_push}
 use Rattle.std.proofs.lemmas.Option.{IfSome_then}
 use Rattle.sf_model.specs.declared.design.Design.{Design}
-use Rattle.sf_model.specs.Legal.{block_count}
 use Rattle.sf_polish.specs.Normal.{operands}
 use Rattle.sf_node.specs.declared.step.Step.{Step}
 use Rattle.sf_node.specs.declared.step.Step.TheVariants.{Beside, Above, Block, Left, Right}
@@ -32,14 +31,17 @@ record AreBefore (bound : Parts → ℕ) (node : Parts) (ss : List Step) (ls : L
   levels : AreLevels bound node ss ls
   last : IsLevel bound (walk node ss) s level
 
+-- a way of no step has no level
 none-left : (bound : Parts → ℕ) (node : Parts) (ls : List Level) (level : Level) → AreLevels bound node [] (ls ++ level ∷ []) → ⊥
 none-left bound node [] level all = all
 none-left bound node (l ∷ ls) level all = all
 
+-- a way of some steps has levels
 some-left : (bound : Parts → ℕ) (node : Parts) (ss : List Step) (s : Step) → AreLevels bound node (ss ++ s ∷ []) [] → ⊥
 some-left bound node [] s all = all
 some-left bound node (x ∷ ss) s all = all
 
+-- without the last step and the last level the others are left
 levels-back : (bound : Parts → ℕ) (node : Parts) (ss : List Step) (ls : List Level) (s : Step) (level : Level) → AreLevels bound node (ss ++ s ∷ []) (ls ++ level ∷ []) → AreBefore bound node ss ls s level
 levels-back bound node [] [] s level all = record { levels = tt; last = all.0 }
 levels-back bound node [] (l ∷ ls) s level all = absurd (none-left bound (after node s) ls level all.1)
@@ -48,12 +50,14 @@ levels-back bound node (x ∷ ss) (l ∷ ls) s level all =
     let before = levels-back bound (after node x) ss ls s level all.1 in
     record { levels = (all.0, before.levels); last = before.last }
 
+-- there are as many levels as steps
 pub levels-many : (bound : Parts → ℕ) (node : Parts) (ss : List Step) (ls : List Level) → AreLevels bound node ss ls → length ls ≡ length ss
 levels-many bound node [] [] all = refl
 levels-many bound node [] (l ∷ ls) all = absurd all
 levels-many bound node (s ∷ ss) [] all = absurd all
 levels-many bound node (s ∷ ss) (l ∷ ls) all = omega (arith, levels-many bound (after node s) ss ls all.1)
 
+-- one step on, with its level
 pub path-on : (design : Design) (bound : Parts → ℕ) (old new : Path) (s : Step) (level : Level) → IsPath design bound old → CanStep old.node s → IsLevel bound old.node s level → new.node ≡ after old.node s → new.levels ≡ old.levels ++ level ∷ []
     → new.used ≡ marked old.used s true → new.operands ≡ old.operands + named s → IsPath design bound new
 path-on design bound old new s level at can l n ls u o =
@@ -101,22 +105,28 @@ pub turned : (design : Design) (bound : Parts → ℕ) (old : Parts) (s next : S
 turned design bound old s next value new child back e is =
     ap (pending design true) is ∙ sym (entered design new.node next (later new.node s) back.at.sub e) ∙ sym (behind-after design new.node s back.at.sub) ∙ ap (λ (n : Parts). behind (root design) n.steps) (sym back.is)
 
+-- the step that comes next after one that can be taken can be
 pub next-can : (node : Parts) (s next : Step) → CanStep node s → later node s ≡ next ∷ later node next → CanStep node next
 next-can node s next can e = let all = subst (AllByRecursion (CanStep node)) e (later-can node s can) in all.0
 
+-- the first step by which a subproblem is extended can be taken
 pub first-can : (node : Parts) (next : Step) → extending node ≡ next ∷ later node next → CanStep node next
 first-can node next e = let all = subst (AllByRecursion (CanStep node)) e (extending-can node) in all.0
 
+-- over to the first child by extending
 pub extended-first : (design : Design) (node child : Parts) (next : Step) → IsSubproblem design node → extending node ≡ next ∷ later node next → child ≡ after node next → pending design true child ≡ extended node ++ behind (root design) node.steps
 extended-first design node child next sub e is =
     ap (pending design true) is ∙ sym (entered design node next (extending node) sub e) ∙ ap (λ z. z ++ behind (root design) node.steps) (extending-is node)
 
+-- past a subproblem that has no child by extending
 pub extended-none : (design : Design) (node : Parts) → extending node ≡ [] → behind (root design) node.steps ≡ extended node ++ behind (root design) node.steps
 extended-none design node e = ap (λ z. z ++ behind (root design) node.steps) (sym (ap (map (after node)) e) ∙ extending-is node)
 
+-- over to the first half of a span
 pub split-first : (design : Design) (node child : Parts) (b : ℕ) → IsSubproblem design node → child ≡ after node (Left b) → pending design true child ≡ split node b ++ behind (root design) node.steps
 split-first design node child b sub is = ap (pending design true) is ∙ sym (entered design node (Left b) (Left b ∷ later node (Left b)) sub refl)
 
+-- there are few spans
 pub few-spans : (design : Design) (bound : Parts → ℕ) (path : Path) → IsPath design bound path → length path.node.spans ≤ 320
 few-spans design bound path at = omega (arith, subproblem-spans design path.node at.sub, design.limits.few_blocks)
 
@@ -129,13 +139,16 @@ last-at (y ∷ xs) zero x h e =
     ap (λ z. y ∷ z) none ∙ ap (λ z. z ∷ []) same
 last-at (y ∷ xs) (suc i) x h e = ap (λ z. y ∷ z) (last-at xs i x (omega (arith, h)) e)
 
+-- a list whose last item this is
 last-of : {X : Type 0} (xs : List X) (x : X) → Some x ≡ slice_get xs (length xs - 1) → xs ≡ take (length xs - 1) xs ++ x ∷ []
 last-of [] x e = absurd (cc)
 last-of (y ∷ xs) x e = last-at (y ∷ xs) (length (y ∷ xs) - 1) x (omega arith) e
 
+-- the same of a list that is equal
 pub last-as : {X : Type 0} (xs ys : List X) (x : X) → xs ≡ ys → Some x ≡ slice_get xs (length xs - 1) → ys ≡ take (length ys - 1) ys ++ x ∷ []
 last-as xs ys x same e = subst (λ zs. zs ≡ take (length zs - 1) zs ++ x ∷ []) same (last-of xs x e)
 
+-- a step that halves a span halves one of a block that is there
 halves-after : (before : Parts) (s : Step) → CanStep before s → HalvesOne (after before s) s
 halves-after before Beside can = tt
 halves-after before Above can = tt
@@ -143,16 +156,19 @@ halves-after before (Block b) can = tt
 halves-after before (Left b) can = subst (λ n. b < n) (sym (spans-after before (Left b))) can.0
 halves-after before (Right b) can = subst (λ n. b < n) (sym (spans-after before (Right b))) can.0
 
+-- the last step of a way halves a span of a block that is there, if it halves one
 pub halves-one : (design : Design) (bound : Parts → ℕ) (path : Path) (front : List Step) (s : Step) → IsPath design bound path → path.node.steps ≡ front ++ s ∷ [] → HalvesOne path.node s
 halves-one design bound path front s at e =
     let from = came-from design path.node front s at.sub e in
     subst (λ n. HalvesOne n s) (sym from.is) (halves-after (walk (root design) front) s from.can)
 
+-- some steps, the last of them apart
 record HasLast (xs : List Step) : Type 0 where
   front : List Step
   last : Step
   is : xs ≡ front ++ last ∷ []
 
+-- where there is a step there is a last one
 has-last : (xs : List Step) → 0 < length xs → HasLast xs
 has-last [] h = absurd (omega arith)
 has-last (x ∷ []) h = record { front = []; last = x; is = refl }
@@ -173,12 +189,6 @@ level-above design bound path levels level at same e =
     subst (AreLevels bound (root design) (h.front ++ h.last ∷ [])) (sym same ∙ all) (subst (λ ss. AreLevels bound (root design) ss path.levels) h.is at.levels) in
     let parts = levels-back bound (root design) h.front (take (length levels - 1) levels) h.last level both in
     IfSome_then level.value parts.last.worth (λ value worth. record { parent = before; step = h.last; sub = from.sub; can = from.can; is = from.is; worth = worth })
-
-pub root-used : (design : Design) (used : List Bool) → used ≡ replicate (block_count design) false → AreUsed (root design) used
-root-used design used e = record {
-  each = ap length e ∙ length-replicate (block_count design) false ∙ sym (length-map design.blocks (λ block. (0, length block.shapes)));
-  flags = λ b h. ap (λ v. get_or v b true) e ∙ get_or-replicate (block_count design) b false true (omega (arith, h, ap length e, length-replicate (block_count design) false));
-}
 
 -- a block that the last step names has a flag
 pub names-back : (design : Design) (bound : Parts → ℕ) (path : Path) (front : List Step) (s : Step) → IsPath design bound path → path.node.steps ≡ front ++ s ∷ [] → NamesOne s path.used

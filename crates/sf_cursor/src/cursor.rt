@@ -27,7 +27,12 @@ impl Model for Cursor {
 
     ghost Value = { Path };
 
-    ghost view = { λ c. record { node = c.node; levels = c.levels.items; used = c.used.items; operands = c.operands } };
+    ghost view = { λ c. record {
+      node = c.node;
+      levels = c.levels.items;
+      used = c.used.items;
+      operands = c.operands;
+    } };
 }
 
 /// The span that a step halves, or none.
@@ -74,15 +79,15 @@ impl Cursor {
         ensures at { IfOk result (λ c. IsPath design.now (V.value values.now design.now) c) }
         ensures root { IfOk result (λ c. c.node ≡ root design.now) }
     {
-        let blocks = design.blocks.as_slice().len();
         Ok(Cursor {
             node: Node::root(alloc, design)?,
             levels: Vec::new(alloc),
-            used: Vec::from_elem(alloc, false, blocks)?,
+            used: Vec::from_elem(alloc, false, usize::from(design.block_count()))?,
             operands: 0,
         })
     }
 
+    /// The subproblem that is next.
     pub fn node(&self) -> &Node
         ensures { result.now ≡ self.now.node }
     {
@@ -92,15 +97,16 @@ impl Cursor {
     /// The value of the subproblem one step before, if there is one and its value was told.
     pub fn parent_value<V: Values>(&self, design: &Design, values: &V) -> Option<u64>
         requires { IsPath design.now (V.value values.now design.now) self.now }
-        ensures { IfSome result (λ value. IsChildOf design.now (V.value values.now design.now) value self.now.node) }
+        ensures { IfSome result
+            (λ value. IsChildOf design.now (V.value values.now design.now) value self.now.node) }
     {
         let level = *self.levels.last()?;
         level.value
     }
 
-    /// Puts a tag down at the subproblem that is next: goes on to the first that the tag makes, or past the subproblem where
-    /// it makes none. No subproblem is next where none is left. Whoever knows the subproblem's value may tell it, for those
-    /// that the tag makes.
+    /// Puts a tag down at the subproblem that is next: goes on to the first that the tag makes, or past the
+    /// subproblem where it makes none. No subproblem is next where none is left. Whoever knows the
+    /// subproblem's value may tell it, for those that the tag makes.
     pub fn follow<V: Values>(
         &mut self,
         design: &Design,
@@ -112,7 +118,8 @@ impl Cursor {
         requires may { MaySplit tag self.old.node }
         requires value { IfSome value (λ value. value ≡ V.value values.now design.now self.old.node) }
         ensures at { IfOk result (λ more. IsPath design.now (V.value values.now design.now) self.new) }
-        ensures next { IfOk result (λ more. pending design.now more self.new.node ≡ made tag self.old.node ++ behind (root design.now) self.old.node.steps) }
+        ensures next { IfOk result (λ more. pending design.now more self.new.node
+            ≡ made tag self.old.node ++ behind (root design.now) self.old.node.steps) }
     {
         match tag {
             Tag::Extend => self.extend(design, values, value),
@@ -146,12 +153,13 @@ impl Cursor {
         Ok(())
     }
 
-    /// Goes back over the last step, if there is one. The answer is that step, and the value of the subproblem before it, if
-    /// it was told.
+    /// Goes back over the last step, if there is one. The answer is that step, and the value of the
+    /// subproblem before it, if it was told.
     pub fn leave<V: Values>(&mut self, design: &Design, values: &V) -> Option<(Step, Option<u64>)>
         requires at { IsPath design.now (V.value values.now design.now) self.old }
         ensures at { IsPath design.now (V.value values.now design.now) self.new }
-        ensures back { MatchOption result (self.old.node.steps ≡ []) (λ last. IsBack design.now (V.value values.now design.now) self.old.node last.0 last.1 self.new) }
+        ensures back { MatchOption result (self.old.node.steps ≡ [])
+            (λ last. IsBack design.now (V.value values.now design.now) self.old.node last.0 last.1 self.new) }
     {
         let step = *self.node.steps().last()?;
         let Some(level) = self.levels.pop() else {
@@ -175,7 +183,8 @@ impl Cursor {
     /// The first of the steps by which the subproblem is extended.
     fn first_step<V: Values>(&self, design: &Design, values: &V) -> Option<Step>
         requires { IsPath design.now (V.value values.now design.now) self.now }
-        ensures { MatchOption result (extending self.now.node ≡ []) (λ s. extending self.now.node ≡ s ∷ later self.now.node s) }
+        ensures { MatchOption result (extending self.now.node ≡ [])
+            (λ s. extending self.now.node ≡ s ∷ later self.now.node s) }
     {
         if self.joins(design, values, Token::Beside) {
             return Some(Step::Beside);
@@ -187,7 +196,8 @@ impl Cursor {
     fn next_step<V: Values>(&self, design: &Design, values: &V, step: Step) -> Option<Step>
         requires at { IsPath design.now (V.value values.now design.now) self.now }
         requires can { CanStep self.now.node step }
-        ensures { MatchOption result (later self.now.node step ≡ []) (λ s. later self.now.node step ≡ s ∷ later self.now.node s) }
+        ensures { MatchOption result (later self.now.node step ≡ [])
+            (λ s. later self.now.node step ≡ s ∷ later self.now.node s) }
     {
         match step {
             Step::Beside => self.after_beside(design, values),
@@ -201,7 +211,8 @@ impl Cursor {
     /// The step that comes next after an operator Beside.
     fn after_beside<V: Values>(&self, design: &Design, values: &V) -> Option<Step>
         requires { IsPath design.now (V.value values.now design.now) self.now }
-        ensures { MatchOption result (later self.now.node Step.Beside ≡ []) (λ s. later self.now.node Step.Beside ≡ s ∷ later self.now.node s) }
+        ensures { MatchOption result (later self.now.node Step.Beside ≡ [])
+            (λ s. later self.now.node Step.Beside ≡ s ∷ later self.now.node s) }
     {
         if self.joins(design, values, Token::Above) {
             return Some(Step::Above);
@@ -212,7 +223,8 @@ impl Cursor {
     /// The first step by a block that isn't there yet, from this number on.
     fn block_from<V: Values>(&self, design: &Design, values: &V, from: u16) -> Option<Step>
         requires { IsPath design.now (V.value values.now design.now) self.now }
-        ensures { MatchOption result (blocks_from self.now.node from ≡ []) (λ s. blocks_from self.now.node from ≡ s ∷ later self.now.node s) }
+        ensures { MatchOption result (blocks_from self.now.node from ≡ [])
+            (λ s. blocks_from self.now.node from ≡ s ∷ later self.now.node s) }
     {
         let blocks = self.used.len() as u16;
         for block in from..blocks {
@@ -227,7 +239,8 @@ impl Cursor {
     fn advance<V: Values>(&mut self, design: &Design, values: &V) -> Result<bool, NoMemory>
         requires at { IsPath design.now (V.value values.now design.now) self.old }
         ensures at { IfOk result (λ more. IsPath design.now (V.value values.now design.now) self.new) }
-        ensures next { IfOk result (λ more. pending design.now more self.new.node ≡ behind (root design.now) self.old.node.steps) }
+        ensures next { IfOk result (λ more. pending design.now more self.new.node
+            ≡ behind (root design.now) self.old.node.steps) }
     {
         while let Some((step, value)) = self.leave(design, values) {
             if let Some(next) = self.next_step(design, values, step) {
@@ -248,7 +261,8 @@ impl Cursor {
         requires at { IsPath design.now (V.value values.now design.now) self.old }
         requires value { IfSome value (λ value. value ≡ V.value values.now design.now self.old.node) }
         ensures at { IfOk result (λ more. IsPath design.now (V.value values.now design.now) self.new) }
-        ensures next { IfOk result (λ more. pending design.now more self.new.node ≡ extended self.old.node ++ behind (root design.now) self.old.node.steps) }
+        ensures next { IfOk result (λ more. pending design.now more self.new.node
+            ≡ extended self.old.node ++ behind (root design.now) self.old.node.steps) }
     {
         let Some(step) = self.first_step(design, values) else {
             return self.advance(design, values);
@@ -269,7 +283,8 @@ impl Cursor {
         requires wide { CanSplit self.old.node block }
         requires value { IfSome value (λ value. value ≡ V.value values.now design.now self.old.node) }
         ensures at { OnOk result (IsPath design.now (V.value values.now design.now) self.new) }
-        ensures next { OnOk result (pending design.now true self.new.node ≡ split self.old.node block ++ behind (root design.now) self.old.node.steps) }
+        ensures next { OnOk result (pending design.now true self.new.node
+            ≡ split self.old.node block ++ behind (root design.now) self.old.node.steps) }
     {
         self.enter(design, values, Step::Left(block), value)?;
         Ok(())

@@ -19,6 +19,7 @@ impl Values for Seven {
     ghost value = { λ values design node. 7 };
 }
 
+/// A block of these shapes.
 fn block(alloc: Global, shapes: Vec<Shape>) -> Result<Block, AllocError>
     ensures { IfOk result (λ b. b.shapes ≡ shapes.items) }
 {
@@ -57,6 +58,7 @@ fn tag_of(node: &Node) -> Tag
     }
 }
 
+/// The cursor comes to each subproblem once, in preorder.
 #[test]
 fn walks_in_preorder(rt: HostRuntime) -> Result<(), Fail> {
     let alloc = rt.alloc();
