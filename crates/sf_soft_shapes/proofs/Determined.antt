@@ -41,19 +41,23 @@ same_widths k lo hi lo' hi' to from =
           )
     ]
 
+-- two lists of shapes of one block are the same
 pub one-list : (k : ℕ) (fixed : Bool) (of : Kind) (a b : List Shape) → IsListOf k fixed of a → IsListOf k fixed of b → a ≡ b
 one-list k fixed (kind.Hard w h) a b p q = p ∙ sym q
 one-list k fixed (kind.Soft area least most) a b p q =
     let same = same_widths k p.lo p.hi q.lo q.hi (λ w i. (q.between w).0 ((p.between w).1 i)) (λ w i. (p.between w).0 ((q.between w).1 i)) in
     p.listed ∙ ap (map (λ w. shape w (height_at area w))) same ∙ sym q.listed
 
+-- each of these lists is that of the block at its place, block by block
 FirstLists : ℕ → Bool → List RawBlock → List (List Shape) → Type 0
 FirstLists k fixed blocks lists = AllByRecursion (λ b. IsListOf k fixed b.0.kind b.1) (zip blocks lists)
 
+-- lists that are those of their blocks by place are so block by block
 by_recursion : (k : ℕ) (fixed : Bool) (blocks : List RawBlock) (lists : List (List Shape)) → AreFirstLists k fixed blocks lists → FirstLists k fixed blocks lists
 unfolding FirstLists
 by_recursion k fixed blocks lists h = recursion_from_All (λ (b : RawBlock × List Shape). IsListOf k fixed b.0.kind b.1) (zip blocks lists) h
 
+-- as many lists as blocks, each that of its block, are the same as any others
 lists-one : (k : ℕ) (fixed : Bool) (blocks : List RawBlock) (xs ys : List (List Shape)) → length xs ≡ length blocks → length ys ≡ length blocks → FirstLists k fixed blocks xs → FirstLists k fixed blocks ys → xs ≡ ys
 unfolding FirstLists
 lists-one k fixed [] [] [] i j a b = refl
@@ -64,6 +68,7 @@ lists-one k fixed (r ∷ rs) (x ∷ xs) [] i j a b = absurd (omega arith)
 lists-one k fixed (r ∷ rs) (x ∷ xs) (y ∷ ys) i j a b =
     ap (λ (z : List Shape). z ∷ xs) (one-list k fixed r.kind x y a.0 b.0) ∙ ap (λ (zs : List (List Shape)). y ∷ zs) (lists-one k fixed rs xs ys (omega arith) (omega arith) a.1 b.1)
 
+-- two lists of the lists of all blocks are the same
 pub all-lists : (k : ℕ) (fixed : Bool) (blocks : List RawBlock) (a b : List (List Shape)) → AreListsOf k fixed blocks a → AreListsOf k fixed blocks b → a ≡ b
 all-lists k fixed blocks a b p q = lists-one k fixed blocks a b p.one_each q.one_each (by_recursion k fixed blocks a p.each) (by_recursion k fixed blocks b q.each)
 
@@ -79,10 +84,12 @@ same_shapeless k fixed (r ∷ rs) ((s ∷ ss) ∷ xs) ([] ∷ ys) n a b e = let 
 same_shapeless k fixed (r ∷ rs) ((s ∷ ss) ∷ xs) ((t ∷ ts) ∷ ys) n a b e =
     elim (same_shapeless k fixed rs xs ys n a.1 b.1 e) [ inl is ↦ inl is | inr none ↦ inr (none.0, omega (arith, none.1)) ]
 
+-- a fault that tells a block without a shape tells its name
 name_of : (o : Option (List ℕ)) (f : BuildFault) → option_map NoShape o ≡ Some f → (n : List ℕ) × (o ≡ Some n) × (f ≡ NoShape n)
 name_of None f e = absurd (cc)
 name_of (Some n) f e = (n, refl, cc)
 
+-- two faults of the first block without a shape are the same
 pub one-fault : (k : ℕ) (fixed : Bool) (blocks : List RawBlock) (f g : BuildFault) → HasNoneFor k fixed blocks f → HasNoneFor k fixed blocks g → f ≡ g
 one-fault k fixed blocks f g p q =
     let a = name_of (shapeless blocks p.0) f p.2 in

@@ -13,17 +13,20 @@ past q d a b x le holds tight more =
     let e : (q + 1) * b ≡ q * b + b = omega arith in
     omega arith
 
+-- the least multiple of a wider block that holds the area is no greater
 least_multiple : (q d a b x : ℕ) → a ≤ b → x ≤ q * a → d * b < x + b → d ≤ q
 least_multiple q d a b x le holds tight =
     let not_more : ¬ (q < d) = past q d a b x le holds tight in
     omega arith
 
+-- a wider block of the same area is no higher
 pub height_le : (area a b : ℕ) → 1 ≤ a → a ≤ b → height_at area b ≤ height_at area a
 height_le area a b some le =
     let at_a = div_ceil_times area a (omega arith) in
     let at_b = div_ceil_times area b (omega arith) in
     least_multiple (height_at area a) (height_at area b) a b area le at_a.0 at_b.1
 
+-- what is low enough at a width is so at each greater one
 pub wide_up : (area most a b : ℕ) → 1 ≤ a → a ≤ b → IsLowEnough area most a → IsLowEnough area most b
 wide_up area most a b some le wide =
     let low : height_at area b ≤ height_at area a = height_le area a b some le in
@@ -32,6 +35,7 @@ wide_up area most a b some le wide =
     let second = wide.below in
     record { height = omega arith; below = omega arith }
 
+-- what is high enough at a width is so at each lesser one
 pub narrow_down : (area least a b : ℕ) → 1 ≤ a → a ≤ b → IsHighEnough area least b → IsHighEnough area least a
 narrow_down area least a b some le narrow =
     let low : height_at area b ≤ height_at area a = height_le area a b some le in

@@ -12,12 +12,14 @@ use Rattle.sf_model.specs.Limits.{IsSide, IsShapeChoice}
 use Rattle.sf_model.specs.declared.parts.Shape.{Shape}
 use Rattle.sf_soft_shapes.specs.Listed.{shape, height_at, width_count, widths, IsAllowed, IsSoftList}
 
+-- one item more at the end of those at the first j numbers is that at the number j
 pub grown : {X : Type 0} (g : ℕ → X) (f : ℕ → ℕ) (j : ℕ) (xs ys : List X) (x : X) → ys ≡ xs ++ x ∷ [] → xs ≡ map g (map f (range_with_len 0 j)) → x ≡ g (f j) → ys ≡ map g (map f (range_with_len 0 (j + 1)))
 grown g f j xs ys x put was is =
     let more : map f (range_with_len 0 (j + 1)) ≡ map f (range_with_len 0 j) ++ f j ∷ [] = map-range_with_len_more f 0 j j (omega arith) in
     let split : map g (map f (range_with_len 0 j) ++ f j ∷ []) ≡ map g (map f (range_with_len 0 j)) ++ g (f j) ∷ [] = map-append g (map f (range_with_len 0 j)) (f j ∷ []) in
     put ∙ ap (λ zs. zs ++ x ∷ []) was ∙ ap (λ z. map g (map f (range_with_len 0 j)) ++ z ∷ []) is ∙ sym split ∙ ap (map g) (sym more)
 
+-- the item at a place is that at its number
 item : {X : Type 0} (g : ℕ → X) (f : ℕ → ℕ) (n k : ℕ) (d : X) → k < n → get_or (map g (map f (range_with_len 0 n))) k d ≡ g (f k)
 item g f n k d low = ap (λ xs. get_or xs k d) (map-map g f (range_with_len 0 n)) ∙ get_or-map-range_with_len (λ j. g (f j)) 0 n k k d low (omega arith)
 
@@ -48,20 +50,24 @@ step_rises d m i j some wide less =
     let so : q + 1 ≤ j * d / m = (le-div_iff_mul-le {k = m} {x = q + 1} {y = j * d} (omega arith)).1 within in
     omega arith
 
+-- a step stays within the distance of the ends
 pub step_within : (d m j : ℕ) → j ≤ m → j * d / m ≤ d
 step_within d m j low =
     let le : j * d ≤ m * d = mul-le-mul_right d low in
     div-le_of_le-mul m {m = j * d} {n = d} le
 
+-- a block with an area has a height
 height_some : (area w : ℕ) → 1 ≤ area → 1 ≤ w → 1 ≤ height_at area w
 height_some area w some wide =
     let holds = (div_ceil_times area w (omega arith)).0 in
     let not_zero : ¬ (height_at area w ≡ 0) = (λ z. let e : height_at area w * w ≡ 0 = ap (λ h. h * w) z ∙ zero-mul w in omega arith) in
     omega arith
 
+-- the sides at an allowed width keep the limit
 allowed_sides : (area least most w : ℕ) → 1 ≤ area → IsAllowed area least most w → IsSide w × IsSide (height_at area w)
 allowed_sides area least most w some is = ((is.some, is.width), (height_some area w some is.some, is.height))
 
+-- shapes at the widths of an interval whose sides keep the limit are distinct, in order and few
 widths_choice : (area k lo hi : ℕ) → 2 ≤ k → k ≤ 256 → ((w : ℕ) → lo ≤ w → w ≤ hi → IsSide w × IsSide (height_at area w)) → IsShapeChoice (map (λ w. shape w (height_at area w)) (widths k lo hi))
 widths_choice area k lo hi two few sides = elim (cases_lt k (width_count lo hi)) [
   | inl more ↦
@@ -74,6 +80,7 @@ widths_choice area k lo hi two few sides = elim (cases_lt k (width_count lo hi))
       rw test (choice_at area (width_count lo hi) (λ j. lo + j) (omega arith) (λ i low. sides (lo + i) (omega arith) (omega arith)) (λ i j less low. omega arith)))
 ]
 
+-- the list of a soft block is one that a block may have
 pub soft_choice : (area least most k : ℕ) (shapes : List Shape) → 1 ≤ area → 2 ≤ k → k ≤ 256 → IsSoftList area least most k shapes → IsShapeChoice shapes
 soft_choice area least most k shapes some two few is =
     let lo = is.lo in

@@ -11,6 +11,7 @@ use Rattle.sf_model.specs.declared.raw.Kind.{Kind}
 use Rattle.sf_model.specs.declared.raw.Kind.TheVariants as kind
 use Rattle.sf_model.specs.declared.raw.RawBlock.{RawBlock}
 
+-- the shape of these sides
 abbrev pub shape : ℕ → ℕ → Shape
 shape w h = record { w = w; h = h }
 
@@ -48,6 +49,7 @@ pub record IsSoftList (area least most k : ℕ) (shapes : List Shape) : Type 0 w
   pub between : (w : ℕ) → IsAllowed area least most w ↔ ((lo ≤ w) × (w ≤ hi))
   pub listed : shapes ≡ map (λ w. shape w (height_at area w)) (widths k lo hi)
 
+-- the list of shapes of a block of this kind: of a hard one as it stands and turned, of a soft one at allowed widths
 abbrev pub IsListOf : ℕ → Bool → Kind → List Shape → Type 0
 IsListOf k fixed (kind.Hard w h) shapes = shapes ≡ hard_list w h fixed
 IsListOf k fixed (kind.Soft area least most) shapes = IsSoftList area least most k shapes

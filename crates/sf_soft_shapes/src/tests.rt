@@ -6,10 +6,12 @@ use crate::soft::soft_shapes;
 use sf_model::Shape;
 use std::test::Fail;
 
+/// A shape of these sides.
 const fn shape(w: u32, h: u32) -> Shape {
     Shape { w, h }
 }
 
+/// Hard blocks are turned unless fixed, and soft ones take allowed widths.
 #[test]
 fn lists_shapes(rt: HostRuntime) -> Result<(), Fail> {
     let alloc = rt.alloc();
