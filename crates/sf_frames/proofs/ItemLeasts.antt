@@ -23,10 +23,12 @@ use Rattle.sf_standard.proofs.Listed.{Contains-from_map, Contains-map, sum_by-ma
 use Rattle.sf_frames.proofs.Joining.{sizes-within}
 use Rattle.std.proofs.lemmas.List.Elements.{Contains-get_or}
 
+-- the least value over the sizes of plans is that over the plans
 least-map : (f : Shape → ℕ) (ts : List Tree) → least_by f (map size_of ts) ≡ least_of (λ t. f (size_of t)) ts
 least-map f [] = refl
 least-map f (t ∷ ts) = let rest = least-map f ts in omega (arith, rest)
 
+-- the size of each fitting plan lies in the outline
 all-within : (design : Design) (node : Parts) (i : Item) → All (IsWithin design.outline) (map size_of (fitting design node i))
 all-within design node i k d lt =
     let x = get_or (map size_of (fitting design node i)) k d in
@@ -38,12 +40,14 @@ pub least-item : (f : Shape → ℕ) → ((p q : Shape) → IsNoLarger p q → f
 least-item f grows design node c i k = least_by-curve f grows design.outline (map size_of (fitting design node i)) c (all-within design node i) k ∙ least-map f (fitting design node i)
 
 module _ (design : Design) (node : Parts) where
+  -- where some point covers each of the plans and there is no point, there is no plan
   empty-plans : (ts : List Tree) (c : List Shape) → c ≡ [] → ((t : Tree) → Contains ts t → Contains ts t → Any (λ p. IsNoLarger p (size_of t)) c) → has_none ts ≡ true
   empty-plans [] c e f = refl
   empty-plans (t ∷ ts) c e f =
       let k = f t (0, omega arith, refl) (0, omega arith, refl) in
       absurd (omega (arith, k.2, ap length e))
 
+  -- where a plan is listed there is one
   some-plans : (ts : List Tree) → (t : Tree) → Contains ts t → has_none ts ≡ false
   some-plans [] t c = absurd (not_in_nil t c)
   some-plans (u ∷ ts) t c = ne_eqb (suc (length ts)) 0 (λ e. absurd (omega (arith, e)))
@@ -55,6 +59,7 @@ module _ (design : Design) (node : Parts) where
       let t = Contains-from_map size_of (fitting design node i) p (All-contains (Contains (map size_of (fitting design node i))) (p ∷ ps) p k.traced (0, omega arith, refl)) in
       some-plans (fitting design node i) t.0 t.1
 
+  -- an item whose curve is empty has no plan
   pub item-none : (c : List Shape) (i : Item) → IsItemCurve design node c i → c ≡ [] → has_none (fitting design node i) ≡ true
   item-none c i k e = empty-plans (fitting design node i) c e (λ t ct _.
       All-contains (IsCovered design.outline c) (map size_of (fitting design node i)) (size_of t) k.covers (Contains-map size_of (fitting design node i) t ct) (sizes-within design node i t ct))

@@ -55,9 +55,11 @@ pub record IsWay (over : Item → Item → Item) (plan : Tree → Tree → Tree)
   pub right : (p q : Shape) → IsNoLarger q (join p q)
   pub listed : (shapes : ℕ → List Shape) (l r : Item) → plans shapes (over l r) ≡ pairs plan (plans shapes l) (plans shapes r)
 
+-- side by side: the widths are added, and the higher room counts
 pub beside-way : IsWay (λ l r. item.Beside l r) (λ p q. Beside p q) beside_size
 beside-way = record { sized = λ p q. refl; grows = λ p q r s h k. (omega (arith, h.0, k.0), omega (arith, h.1, k.1)); left = λ p q. (omega arith, omega arith); right = λ p q. (omega arith, omega arith); listed = λ shapes l r. refl }
 
+-- one above the other: the heights are added, and the wider room counts
 pub above-way : IsWay (λ l r. item.Above l r) (λ p q. Above p q) above_size
 above-way = record { sized = λ p q. refl; grows = λ p q r s h k. (omega (arith, h.0, k.0), omega (arith, h.1, k.1)); left = λ p q. (omega arith, omega arith); right = λ p q. (omega arith, omega arith); listed = λ shapes l r. refl }
 
@@ -105,6 +107,7 @@ Runs n depth (token.Block b ∷ tokens) = (b < n) × Runs n (depth + 1) tokens
 Runs n depth (token.Beside ∷ tokens) = (2 ≤ depth) × Runs n (depth - 1) tokens
 Runs n depth (token.Above ∷ tokens) = (2 ≤ depth) × Runs n (depth - 1) tokens
 
+-- tokens that leave g items when h stand there before, each block below n, find their operands
 pub runs-from : (n h g : ℕ) (ts : List Token) → Reads h ts g → AllByRecursion (λ t. IsFalse (is_outside n t)) ts → Runs n h ts
 runs-from n h g [] r i = tt
 runs-from n h g (token.Block b ∷ ts) r i = (inside-number n b i.0, runs-from n (h + 1) g ts r i.1)

@@ -16,11 +16,13 @@ use Rattle.sf_frames.specs.Curves.{IsItemCurve}
 use Rattle.sf_frames.specs.Kept.{IsKept, AreWhole, IsFrame, AreFrames, IsStored, IsEndOf, IsNext, IsLonger, token_of, no_token}
 use Rattle.sf_frames.proofs.Topping.{take-next}
 
+-- a range of a list stays as it is when more is put at the end
 range-append : (xs ys : List Shape) (i j : ℕ) → i ≤ j → j ≤ length xs → slice_range (xs ++ ys) i j ≡ slice_range xs i j
 range-append xs ys i j le lt =
     ap (take (j - i)) (drop-append-le i xs ys (omega arith))
     ∙ take-append-le (j - i) (drop i xs) ys (omega (arith, length-drop i xs))
 
+-- a range that ends before a cut stays as it is
 range-take : (xs : List Shape) (e i j : ℕ) → i ≤ j → j ≤ e → slice_range (take e xs) i j ≡ slice_range xs i j
 range-take xs e i j le lt =
     let split : e ≡ i + (e - i) = omega arith in
@@ -28,6 +30,7 @@ range-take xs e i j le lt =
     ∙ ap (take (j - i)) (drop-take i (e - i) xs)
     ∙ take-take (j - i) (e - i) (drop i xs) (omega arith)
 
+-- a curve stays kept in another list of points that has the same range
 kept-moves : (design : Design) (points others : List Shape) (i : Item) (k : Kept) → IsKept design points i k → slice_range others k.from k.to ≡ slice_range points k.from k.to → k.to ≤ length others → IsKept design others i k
 kept-moves design points others i k m same inside = record {
   order = m.order;
@@ -37,14 +40,17 @@ kept-moves design points others i k m same inside = record {
   least = m.least;
 }
 
+-- a kept curve stays kept when points are put at the end
 pub kept-appended : (design : Design) (points more : List Shape) (i : Item) (k : Kept) → IsKept design points i k → IsKept design (points ++ more) i k
 kept-appended design points more i k m =
     kept-moves design points (points ++ more) i k m (range-append points more k.from k.to m.order m.inside) (omega (arith, m.inside, length-append points more))
 
+-- a kept curve stays kept when the points after its end are cut off
 kept-cut : (design : Design) (points : List Shape) (e : ℕ) (i : Item) (k : Kept) → IsKept design points i k → e ≤ length points → k.to ≤ e → IsKept design (take e points) i k
 kept-cut design points e i k m le within =
     kept-moves design points (take e points) i k m (range-take points e k.from k.to m.order within) (omega (arith, within, length-take-le e points le))
 
+-- a frame tells the same when points are put at the end
 frame-appended : (design : Design) (tokens : List Token) (points more : List Shape) (whole k : ℕ) (f : Frame) → IsFrame design tokens points whole k f → IsFrame design tokens (points ++ more) whole k f
 frame-appended design tokens points more whole k f m = record {
   item = m.item;
@@ -57,6 +63,7 @@ frame-appended design tokens points more whole k f m = record {
   sums = m.sums;
 }
 
+-- a frame tells the same when the points after its end are cut off
 frame-cut : (design : Design) (tokens : List Token) (points : List Shape) (e whole k : ℕ) (f : Frame) → IsFrame design tokens points whole k f → e ≤ length points → f.end ≤ e → IsFrame design tokens (take e points) whole k f
 frame-cut design tokens points e whole k f m le within = record {
   item = m.item;
@@ -69,6 +76,7 @@ frame-cut design tokens points e whole k f m le within = record {
   sums = m.sums;
 }
 
+-- the whole curves stay where they are when points are put at the end
 wholes-appended : (design : Design) (points more : List Shape) (blocks : List Kept) (whole : ℕ) → AreWhole design points blocks whole → AreWhole design (points ++ more) blocks whole
 wholes-appended design points more blocks whole m = record {
   few = m.few;
@@ -76,6 +84,7 @@ wholes-appended design points more blocks whole m = record {
   each = λ b d lt. (kept-appended design points more (Block b) (get_or blocks b d) (m.each b d lt).0, (m.each b d lt).1);
 }
 
+-- what is kept of a path stays so when points are put at the end
 pub stored-appended : (design : Design) (tokens : List Token) (points more : List Shape) (blocks : List Kept) (whole : ℕ) (frames : List Frame) → IsStored design tokens points blocks whole frames → IsStored design tokens (points ++ more) blocks whole frames
 stored-appended design tokens points more blocks whole frames m = record {
   wholes = wholes-appended design points more blocks whole m.wholes;
@@ -87,22 +96,25 @@ stored-appended design tokens points more blocks whole frames m = record {
   };
 }
 
+-- what is kept of a path stays so in a list of points that goes on
 pub stored-longer : (design : Design) (tokens : List Token) (points all : List Shape) (blocks : List Kept) (whole : ℕ) (frames : List Frame) → IsStored design tokens points blocks whole frames → IsLonger points all → IsStored design tokens all blocks whole frames
 stored-longer design tokens points all blocks whole frames m longer =
     subst (λ v. IsStored design tokens v blocks whole frames) (sym longer.1) (stored-appended design tokens points longer.0 blocks whole frames m)
 
 module _ (design : Design) (tokens : List Token) (points : List Shape) (blocks : List Kept) (whole : ℕ) (frames : List Frame) (count e : ℕ) (m : IsStored design tokens points blocks whole frames) (le : count ≤ length frames) (at_end : IsEndOf frames whole count e) where
+  -- the points that the first frames need end where the last of them ends
   last-end : (d : Frame) → 0 < count → e ≡ (get_or frames (count - 1) d).end
   last-end d lt = sym (at_end.last d lt)
 
   -- the end lies among the points, and after the whole curves
-  end-there : (d : Frame) → (whole ≤ e) × (e ≤ length points)
+  pub end-there : (d : Frame) → (whole ≤ e) × (e ≤ length points)
   end-there d = elim (cases_lt 0 count) [
     | inl some ↦ (let f = m.frames_are.each (count - 1) d (omega (arith, le)) in
         (omega (arith, last-end d some, f.after), omega (arith, last-end d some, f.end)))
     | inr none ↦ (let same : e ≡ whole = at_end.none (omega arith) in (omega (arith, same), omega (arith, same, m.wholes.room)))
   ]
 
+  -- each of the first frames ends no later than the last of them
   within-end : (k : ℕ) (d : Frame) → k < count → (get_or frames k d).end ≤ e
   within-end k d lt =
       elim (cases_eq (k + 1) count) [
@@ -138,6 +150,18 @@ module _ (design : Design) (tokens : List Token) (points : List Shape) (blocks :
               omega (arith, ap (λ v. v.end) a, ap (λ v. v.end) b, m.frames_are.ends i j d lt (omega arith));
         };
       }
+
+-- the first frames end where the points are cut off
+pub end-cut : (frames : List Frame) (whole count e : ℕ) → count ≤ length frames → IsEndOf frames whole count e → IsEndOf (take count frames) whole (length (take count frames)) e
+end-cut frames whole count e le at_end =
+    let n : length (take count frames) ≡ count = length-take-le count frames le in
+    record {
+      none = λ z. at_end.none (omega (arith, z, n));
+      last = λ d lt. (let inside : length (take count frames) - 1 < count = omega (arith, lt, n) in
+          ap (λ f. f.end) (get_or-take count frames (length (take count frames) - 1) d inside)
+          ∙ ap (λ (k : ℕ). (get_or frames (k - 1) d).end) n
+          ∙ at_end.last d (omega (arith, lt, n)));
+    }
 
 -- one frame more, whose points end the list
 pub stored-pushed : (design : Design) (tokens : List Token) (points : List Shape) (blocks : List Kept) (whole : ℕ) (frames : List Frame) (f : Frame) → IsStored design tokens points blocks whole frames → IsNext tokens (length frames) f.token → IsFrame design tokens points whole (length frames + 1) f → f.end ≡ length points → IsStored design tokens points blocks whole (frames ++ f ∷ [])

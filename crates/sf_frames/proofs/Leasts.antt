@@ -17,6 +17,7 @@ use Rattle.sf_frames.specs.declared.least.Least.{Least}
 use Rattle.sf_standard.specs.Standard.{greatest}
 use Rattle.sf_frames.specs.Least.{least_by, width_of, height_of, IsLeastOf, AllSmall}
 
+-- the least value is at most that of each point
 pub least_by-le : (f : Shape → ℕ) (xs : List Shape) (x : Shape) → Contains xs x → least_by f xs ≤ f x
 least_by-le f [] x c = absurd (not_in_nil x c)
 least_by-le f (y ∷ xs) x c =
@@ -25,11 +26,13 @@ least_by-le f (y ∷ xs) x c =
       | inr d ↦ omega (arith, least_by-le f xs x d)
     ]
 
+-- a number that is at most the value of each point is at most the least value
 pub least_by-greatest : (f : Shape → ℕ) (m : ℕ) (xs : List Shape) → m ≤ MAX → All (λ x. m ≤ f x) xs → m ≤ least_by f xs
 least_by-greatest f m [] le h = le
 least_by-greatest f m (x ∷ xs) le h =
     omega (arith, All-head (λ z. m ≤ f z) x xs h, least_by-greatest f m xs le (All-tail (λ z. m ≤ f z) x xs h))
 
+-- the least value is at most MAX
 pub least_by-most : (f : Shape → ℕ) (xs : List Shape) → least_by f xs ≤ MAX
 least_by-most f [] = omega arith
 least_by-most f (x ∷ xs) = omega (arith, least_by-most f xs)
@@ -49,6 +52,7 @@ pub least_by-is : (f : Shape → ℕ) (points : List Shape) (p : Shape) → Cont
 least_by-is f points p c small le =
     omega (arith, least_by-le f points p c, least_by-greatest f (f p) points small le)
 
+-- the point of least area has the least area
 pub least_area_is : (points : List Shape) (p : Shape) → IsLeastArea points p → area_of p ≤ MAX → area_of p ≡ least_by area_of points
 least_area_is points p h small =
     sym (least_by-is area_of points p h.found small (λ k d lt. elim (h.least k d lt) [ inl e ↦ omega (arith, e) | inr e ↦ omega (arith, e.0) ]))
@@ -72,19 +76,23 @@ last_lowest points d some falls small =
           omega (arith, ap (λ v. v.h) (ap (λ i. get_or points i e) same), ap (λ v. v.h) (get_or_default points (length points - 1) d e (omega arith))))
     ]))
 
+-- the least area of a curve of small sides is at most 2^40
 pub least_small : (points : List Shape) → AllSmall points → points ≢ [] → least_by area_of points ≤ 1099511627776
 least_small [] small some = absurd (some refl)
 least_small (p ∷ ps) small some =
     omega (arith, least_by-le area_of (p ∷ ps) p (0, omega arith, refl), mul-le-mul (small 0 p (omega arith)).0 (small 0 p (omega arith)).1)
 
+-- the least width of a curve of small sides is at most 2^20
 pub least_width_small : (points : List Shape) → AllSmall points → points ≢ [] → least_by width_of points ≤ 1048576
 least_width_small [] small some = absurd (some refl)
 least_width_small (p ∷ ps) small some = omega (arith, least_by-le width_of (p ∷ ps) p (0, omega arith, refl), (small 0 p (omega arith)).0)
 
+-- the least height of a curve of small sides is at most 2^20
 pub least_height_small : (points : List Shape) → AllSmall points → points ≢ [] → least_by height_of points ≤ 1048576
 least_height_small [] small some = absurd (some refl)
 least_height_small (p ∷ ps) small some = omega (arith, least_by-le height_of (p ∷ ps) p (0, omega arith, refl), (small 0 p (omega arith)).1)
 
+-- the area of the least point, the width of the first and the height of the last are the least values of a curve
 pub least_of_is : (points read : List Shape) (p : Shape) (a : ℕ) → read ≡ points → AllPairs IsSlimmer points → AllSmall points → IsLeastArea points p → a ≡ area_of p → a ≤ MAX → IsLeastOf points record { area = a; w = (get_or {A = Shape} read 0 record { w = 0; h = 0 }).w; h = (get_or {A = Shape} read (length read - 1) record { w = 0; h = 0 }).h }
 least_of_is points read p a same falls small least is small_a =
     let some : points ≢ [] = λ e. not_in_nil p (subst (λ v. Contains v p) e least.found) in

@@ -15,14 +15,14 @@ use Rattle.sf_node.specs.Parts.{Parts}
 use Rattle.sf_node.specs.Subproblem.{root}
 use Rattle.sf_node.specs.Children.{IsSubproblem, CanStep, is_unused}
 use Rattle.sf_node.proofs.Normalised.{subproblem-begun}
-use Rattle.sf_standard.specs.Standard.{area, least_of, greatest, has_none}
+use Rattle.sf_standard.specs.Standard.{area, least_of, greatest, has_none, plans_of}
 use Rattle.sf_standard.proofs.Unmoved.{Moves, block-moves, sum-move, greatest-move, any-move}
 use Rattle.sf_frames.specs.declared.sums.Sums.{Sums}
-use Rattle.sf_frames.specs.Groups.{group_plans}
 use Rattle.sf_frames.specs.Kept.{path, groups_at, IsNext}
 use Rattle.sf_frames.specs.Sums.{AreSums, AreSumsOrNone}
 use Rattle.sf_frames.proofs.Topping.{take-next, block-inside}
 
+-- sums over groups stay the same when one group stands at another place
 sums-moved : (x : List Tree) (old new : List (List Tree)) (s : Option Sums) → Moves x old new → AreSumsOrNone old s → AreSumsOrNone new s
 sums-moved x old new None k m = ap (list_any has_none) k.is ∙ sym (any-move has_none k.front k.back x) ∙ sym (ap (list_any has_none) k.was) ∙ m
 sums-moved x old new (Some s) k m = record {
@@ -44,11 +44,12 @@ free-before design node k b sub next =
     eq-eqb (count_by (is_block b) (take k node.tokens)) 0
     (omega (arith, once, one, all, begun, sum_by-append f (take (k + 1) node.tokens) (drop (k + 1) node.tokens), sum_by-append f (take k node.tokens) (token.Block b ∷ []), sum_by-cons f (token.Block b) []))
 
+-- the sums after a block are those before it: its group only moves from the unused blocks onto the stack
 pub sums-block : (design : Design) (node : Parts) (k b : ℕ) (s : Option Sums) → IsSubproblem design node → IsNext node.tokens k (token.Block b) → AreSumsOrNone (groups_at design node.tokens k) s → AreSumsOrNone (groups_at design node.tokens (k + 1)) s
 sums-block design node k b s sub next m =
     let begun = path design (take k node.tokens) in
     let inside : b < length (root design).spans = omega (arith, block-inside design node k b sub next, length-map {B = ℕ × ℕ} design.blocks (λ block. (0, length block.shapes))) in
     let can : CanStep begun (step.Block b) = (inside, free-before design node k b sub next) in
     let moves = block-moves design begun b can in
-    subst (λ v. AreSumsOrNone (group_plans design (path design v)) s) (sym (take-next node.tokens k (token.Block b) next))
+    subst (λ v. AreSumsOrNone (plans_of design (path design v)) s) (sym (take-next node.tokens k (token.Block b) next))
     (sums-moved _ _ _ s moves m)

@@ -29,6 +29,7 @@ use Rattle.sf_frames.proofs.Topping.{items-block, items-joined, pair-top, block-
 use Rattle.sf_frames.proofs.Ways.{way_in}
 use Rattle.sf_frames.proofs.WholeSpans.{curve-small, least-kept, kept-end}
 
+-- with the frame of a block the path is kept for one token more
 pub block-pushed : (design : Design) (node : Parts) (points : List Shape) (blocks : List Kept) (whole : ℕ) (frames new : List Frame) (b i below end : ℕ) (d : Kept) (s : Option Sums) → IsSubproblem design node → length blocks ≡ block_count design → IsStored design node.tokens points blocks whole frames → IsNext node.tokens (length frames) (token.Block b) → i ≡ b → below ≡ length frames → end ≡ length points → AreSumsOrNone (groups_at design node.tokens (length frames)) s
     → new ≡ frames ++ record { token = token.Block b; curve = get_or blocks i d; below = below; end = end; sums = s } ∷ [] → IsStored design node.tokens points blocks whole new
 block-pushed design node points blocks whole frames new b i below end d s sub all m next same is_below is_end sums is =
@@ -49,20 +50,24 @@ block-pushed design node points blocks whole frames new b i below end d s sub al
 -- the curve of the two on top
 module _ (design : Design) (node : Parts) (points made : List Shape) (whole : ℕ) (frames : List Frame) (d : Direction) (l r : Frame) (pair : ArePair design node.tokens points whole frames l r)
     (combines : IsCombination (size_in d) design.outline (slice_range points l.curve.from l.curve.to) (slice_range points r.curve.from r.curve.to) made) where
+  -- the combination of the two curves is the curve of the joined item
   joined-curve : IsItemCurve design (root design) made (item_in d pair.left.item pair.right.item)
   joined-curve =
       curve-joined (item_in d) (plan_in d) (size_in d) (way_in d) design (root design) pair.left.item pair.right.item
       (slice_range points l.curve.from l.curve.to) (slice_range points r.curve.from r.curve.to) made pair.left.kept.curve pair.right.kept.curve combines
 
+  -- its points have small sides
   pub joined-small : AllSmall made
   joined-small = curve-small design made (item_in d pair.left.item pair.right.item) joined-curve
 
+  -- the sums allow for the two least areas to be taken out and the new one to be put in
   pub joined-within : (s : Option Sums) (o : Option Least) → IsSubproblem design node → AreSumsOrNone (groups_at design node.tokens (length frames)) s → MatchOption o (made ≡ []) (IsLeastOf made) → AreWithin s l.curve.least r.curve.least o
   joined-within s o sub sums least =
       can-join design node (length frames) pair.left.item pair.right.item (item_in d pair.left.item pair.right.item) (items_at node.tokens l.below) s l.curve.least r.curve.least o sub
       (pair-top design node.tokens points whole frames l r pair) sums pair.left.kept.least pair.right.kept.least
       (least-kept design made (item_in d pair.left.item pair.right.item) o joined-curve least)
 
+  -- with its points at the end and the frame of the operator the path is kept for one token more
   pub joined-pushed : (blocks : List Kept) (all : List Shape) (new : List Frame) (s sums : Option Sums) (o : Option Least) (k : Kept) → IsStored design node.tokens points blocks whole frames → IsNext node.tokens (length frames) (token_in d) → AllPairs IsSlimmer made → MatchOption o (made ≡ []) (IsLeastOf made)
       → AreSumsOrNone (groups_at design node.tokens (length frames)) s → sums ≡ joined s l.curve.least r.curve.least o → all ≡ points ++ made → k ≡ at_end points made o
       → new ≡ frames ++ record { token = token_in d; curve = k; below = l.below; end = k.to; sums = sums } ∷ [] → IsStored design node.tokens all blocks whole new

@@ -24,6 +24,7 @@ use Rattle.sf_frames.specs.Sums.{IsLeastFor, IsLeastOrNone, AreSums, AreSumsOrNo
 abbrev pub blocks_from : Design → ℕ → ℕ → List (List Tree)
 blocks_from design b n = map (ways design) (map (λ k. item.Block k) (range_with_len b n))
 
+-- a filter that all numbers pass leaves the list
 filter-all : (p : ℕ → Bool) → ((k : ℕ) → p k ≡ true) → (ks : List ℕ) → filter p ks ≡ ks
 filter-all p h [] = refl
 filter-all p h (k ∷ ks) = ap (λ t. cond t (k ∷ filter p ks) (filter p ks)) (h k) ∙ ap (λ v. k ∷ v) (filter-all p h ks)
@@ -34,13 +35,11 @@ groups-start design tokens =
     ap (λ v. map (ways design) (map (λ k. item.Block k) v)) (filter-all (λ b. is_unused b []) (λ k. refl) (range_with_len 0 (length (root design).spans)))
     ∙ ap (λ (n : ℕ). blocks_from design 0 n) (length-map {B = ℕ × ℕ} design.blocks (λ block. (0, length block.shapes)))
 
+-- with no group all sums are 0
 pub sums-none : (s : Sums) → s.area ≡ 0 → s.w ≡ 0 → s.h ≡ 0 → AreSums [] s
 sums-none s a w h = record { all = refl; total = a; wide = w; high = h }
 
--- one block before
-blocks-step : (design : Design) (b n : ℕ) → blocks_from design b (suc n) ≡ ways design (item.Block b) ∷ blocks_from design (b + 1) n
-blocks-step design b n = refl
-
+-- the sums with one group more in front
 pub sums-more : (x : List Tree) (groups : List (List Tree)) (a w h w' h' : ℕ) (l : Least) → AreSums groups (record { area = a; w = w; h = h }) → IsLeastFor x l → w' ≡ max l.w w → h' ≡ max l.h h → AreSums (x ∷ groups) (record { area = a + l.area; w = w'; h = h' })
 sums-more x groups a w h w' h' l m i ew eh = record {
   all = ap (λ v. v || list_any has_none groups) i.some ∙ m.all;
@@ -55,6 +54,7 @@ pub record AreSummed (design : Design) (blocks : List Kept) (rest a w h : ℕ) :
   pub sums : AreSums (blocks_from design rest (length blocks - rest)) (record { area = a; w = w; h = h })
   pub few : a + rest * 1099511627776 ≤ length blocks * 1099511627776
 
+-- before the loop no block is counted
 pub summed-begins : (design : Design) (blocks : List Kept) → AreSummed design blocks (length blocks) 0 0 0
 summed-begins design blocks =
     let none : 0 ≡ length blocks - length blocks = omega arith in
@@ -64,14 +64,7 @@ summed-begins design blocks =
       few = omega arith;
     }
 
-any-later : (p : List Tree → Bool) (xs ys : List (List Tree)) → list_any p ys ≡ true → list_any p (xs ++ ys) ≡ true
-any-later p [] ys e = e
-any-later p (x ∷ xs) ys e = or-true (p x) (list_any p (xs ++ ys)) (any-later p xs ys e)
-  where
-    or-true : (a b : Bool) → b ≡ true → (a || b) ≡ true
-    or-true true b e = refl
-    or-true false b e = e
-
+-- one side of an or is enough: the first
 or-first : (a b : Bool) → a ≡ true → (a || b) ≡ true
 or-first true b e = refl
 or-first false b e = absurd (let h : false ≡ true = e in cc)
@@ -83,6 +76,7 @@ range-split a (suc b) zero le = absurd (omega arith)
 range-split a (suc b) (suc n) le =
     ap (λ v. a ∷ v) (range-split (a + 1) b n (omega arith) ∙ ap (λ (k : ℕ). range_with_len (a + 1) b ++ range_with_len k (n - b)) (omega arith) ∙ ap (λ (k : ℕ). range_with_len (a + 1) b ++ range_with_len (a + suc b) k) (omega arith))
 
+-- a block without a plan is found among all blocks
 any-range : (design : Design) (ks : List ℕ) (ls : List ℕ) (b : ℕ) → has_none (ways design (item.Block b)) ≡ true → list_any has_none (map (ways design) (map (λ k. item.Block k) (ks ++ b ∷ ls))) ≡ true
 any-range design [] ls b e = or-first (has_none (ways design (item.Block b))) (list_any has_none (map (ways design) (map (λ k. item.Block k) ls))) e
 any-range design (k ∷ ks) ls b e = second (has_none (ways design (item.Block k))) (list_any has_none (map (ways design) (map (λ k. item.Block k) (ks ++ b ∷ ls)))) (any-range design ks ls b e)
@@ -109,6 +103,7 @@ module _ (design : Design) (points : List Shape) (blocks : List Kept) (whole : �
   pub block-least : (b : ℕ) (d : Kept) → b < length blocks → IsLeastOrNone (ways design (item.Block b)) (get_or blocks b d).least
   block-least b d lt = (m.each b d lt).0.least
 
+-- one turn of the loop counts the block before
 pub summed-more : (design : Design) (blocks : List Kept) (rest before a w h w' h' : ℕ) (l : Least) → before + 1 ≡ rest → AreSummed design blocks rest a w h → IsLeastFor (ways design (item.Block before)) l → l.area ≤ 1099511627776 → w' ≡ max l.w w → h' ≡ max l.h h → AreSummed design blocks before (a + l.area) w' h'
 summed-more design blocks rest before a w h w' h' l e m i small ew eh =
     let n : suc (length blocks - rest) ≡ length blocks - before = omega (arith, e, m.below) in
@@ -120,6 +115,7 @@ summed-more design blocks rest before a w h w' h' l e m i small ew eh =
       few = omega (arith, m.few, e, small);
     }
 
+-- after the loop all blocks are counted
 pub summed-all : (design : Design) (tokens : List Token) (blocks : List Kept) (rest a w h : ℕ) → rest ≡ 0 → length blocks ≡ block_count design → AreSummed design blocks rest a w h → AreSums (groups_at design tokens 0) (record { area = a; w = w; h = h })
 summed-all design tokens blocks rest a w h none all m =
     let n : length blocks - rest ≡ block_count design = omega (arith, none, all) in

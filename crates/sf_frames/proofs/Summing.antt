@@ -18,7 +18,7 @@ use Rattle.sf_curves.specs.Points.{IsNoLarger}
 use Rattle.sf_curves.proofs.Members.{not_in_nil, Contains-head, Contains-tail}
 use Rattle.sf_standard.specs.Items as item
 use Rattle.sf_standard.specs.Items.{Item, fits, plans, pairs, span_shapes, fitting, items_of, unused, read}
-use Rattle.sf_standard.specs.Standard.{area, least_of, greatest, has_none}
+use Rattle.sf_standard.specs.Standard.{area, least_of, greatest, has_none, plans_of}
 use Rattle.sf_standard.proofs.Listed.{Contains-filter, Contains-from_filter, Contains-from_pairs}
 use Rattle.sf_standard.proofs.Cutting.{fits-true, least_of-le}
 use Rattle.sf_standard.proofs.Exact.{fits-from}
@@ -27,16 +27,17 @@ use Rattle.sf_frames.specs.declared.direction.Direction.TheVariants.{Beside, Abo
 use Rattle.sf_frames.specs.declared.least.Least.{Least}
 use Rattle.sf_frames.specs.declared.sums.Sums.{Sums}
 use Rattle.sf_frames.specs.Direction.{token_in, item_in, plan_in, size_in}
-use Rattle.sf_frames.specs.Groups.{group_plans}
 use Rattle.sf_frames.specs.Kept.{path, items_at, ways, groups_at, IsNext}
 use Rattle.sf_frames.specs.Sums.{IsLeastFor, IsLeastOrNone, AreSums, AreSumsOrNone, joined}
 use Rattle.sf_frames.proofs.Topping.{take-next, items-joined}
 use Rattle.sf_frames.proofs.Ways.{way_in}
 
+-- the least value is at most MAX
 least_of-most : (f : Tree → ℕ) (ts : List Tree) → least_of f ts ≤ MAX
 least_of-most f [] = omega arith
 least_of-most f (t ∷ ts) = omega (arith, least_of-most f ts)
 
+-- a number that is at most the value of each plan is at most the least value
 least_of-greatest : (f : Tree → ℕ) (m : ℕ) (ts : List Tree) → m ≤ MAX → ((t : Tree) → Contains ts t → m ≤ f t) → m ≤ least_of f ts
 least_of-greatest f m [] le h = le
 least_of-greatest f m (t ∷ ts) le h = omega (arith, h t (Contains-head t ts), least_of-greatest f m ts le (λ u c. h u (Contains-tail t ts u c)))
@@ -57,6 +58,7 @@ module _ (design : Design) (d : Direction) (l r : Item) where
     left_size : IsNoLarger (size_of p) (size_of t)
     right_size : IsNoLarger (size_of q) (size_of t)
 
+  -- each plan of the joined item has such parts
   parts-of : (t : Tree) → Contains (ways design (item_in d l r)) t → AreParts t
   parts-of t c =
       let shapes = span_shapes design (root design) in
@@ -77,9 +79,11 @@ module _ (design : Design) (d : Direction) (l r : Item) where
         right_size = le_r;
       }
 
+  -- a joined item has no plan where its left or lower part has none
   left-none : has_none (ways design l) ≡ true → has_none (ways design (item_in d l r)) ≡ true
   left-none = none-from (ways design (item_in d l r)) (ways design l) (λ t c. let k = parts-of t c in (k.p, k.left))
 
+  -- a joined item has no plan where its right or upper part has none
   right-none : has_none (ways design r) ≡ true → has_none (ways design (item_in d l r)) ≡ true
   right-none = none-from (ways design (item_in d l r)) (ways design r) (λ t c. let k = parts-of t c in (k.q, k.right))
 
@@ -90,6 +94,7 @@ module _ (design : Design) (d : Direction) (l r : Item) where
     high_left : least_of height (ways design l) ≤ least_of height (ways design (item_in d l r))
     high_right : least_of height (ways design r) ≤ least_of height (ways design (item_in d l r))
 
+  -- the joined item is no narrower and no lower than either part
   grows : Grows
   grows =
       let N = ways design (item_in d l r) in
@@ -101,6 +106,7 @@ module _ (design : Design) (d : Direction) (l r : Item) where
         high_right = least_of-greatest height (least_of height R) N (least_of-most height R) (λ t c. let k = parts-of t c in omega (arith, least_of-le height R k.q k.right, k.right_size.1));
       }
 
+  -- of an or that is false the last part is false
   rest-false : (a b c : Bool) → (a || (b || c)) ≡ false → c ≡ false
   rest-false false false c e = e
   rest-false false true c e = absurd (true≢false e)
@@ -131,9 +137,11 @@ module _ (design : Design) (d : Direction) (l r : Item) where
         high = omega (arith, m.high, im.height, g.high_left, g.high_right);
       }
 
+  -- an item without a plan in front is found
   none-here : (X : List (List Tree)) → has_none (ways design (item_in d l r)) ≡ true → list_any has_none (ways design (item_in d l r) ∷ X) ≡ true
   none-here X e = ap (λ v. v || list_any has_none X) e
 
+  -- an or with true is true
   or-right : (a : Bool) → (a || true) ≡ true
   or-right true = refl
   or-right false = refl
@@ -149,6 +157,7 @@ module _ (design : Design) (d : Direction) (l r : Item) where
           let rest : list_any has_none X ≡ true = sym (ap (λ v. v || (has_none (ways design l) || list_any has_none X)) ea ∙ ap (λ v. v || list_any has_none X) eb) ∙ e in
           ap (λ v. has_none (ways design (item_in d l r)) || v) rest ∙ or-right (has_none (ways design (item_in d l r)))
 
+  -- the same where any of the three may have no plan
   pub joined-or-none : (X : List (List Tree)) (s : Option Sums) (a b made : Option Least) → AreSumsOrNone (ways design r ∷ ways design l ∷ X) s → IsLeastOrNone (ways design l) a → IsLeastOrNone (ways design r) b → IsLeastOrNone (ways design (item_in d l r)) made
       → AreSumsOrNone (ways design (item_in d l r) ∷ X) (joined s a b made)
   joined-or-none X None a b made m il ir im = none-after X m
@@ -162,10 +171,12 @@ count-operator : (d : Direction) (k : ℕ) (ts : List Token) → count_by (is_bl
 count-operator Beside k ts = omega (arith, sum_by-append (λ t. cond {A = ℕ} (is_block k t) 1 0) ts (token.Beside ∷ []), sum_by-cons (λ t. cond {A = ℕ} (is_block k t) 1 0) token.Beside [])
 count-operator Above k ts = omega (arith, sum_by-append (λ t. cond {A = ℕ} (is_block k t) 1 0) ts (token.Above ∷ []), sum_by-cons (λ t. cond {A = ℕ} (is_block k t) 1 0) token.Above [])
 
+-- two tests that agree leave the same
 filter-same : (p q : ℕ → Bool) → ((k : ℕ) → p k ≡ q k) → (ks : List ℕ) → filter p ks ≡ filter q ks
 filter-same p q h [] = refl
 filter-same p q h (k ∷ ks) = ap (λ t. cond t (k ∷ filter p ks) (filter p ks)) (h k) ∙ ap (λ v. cond (q k) (k ∷ v) v) (filter-same p q h ks)
 
+-- an operator leaves the same unused blocks
 unused-operator : (design : Design) (d : Direction) (ts : List Token) → unused (path design (ts ++ token_in d ∷ [])) ≡ unused (path design ts)
 unused-operator design d ts =
     ap (map (λ b. item.Block b)) (filter-same (λ b. is_unused b (ts ++ token_in d ∷ [])) (λ b. is_unused b ts) (λ k. ap (λ n. n == 0) (count-operator d k ts)) (range_with_len 0 (length (root design).spans)))
@@ -174,9 +185,11 @@ unused-operator design d ts =
 abbrev pub others : Design → List Token → ℕ → List Item → List (List Tree)
 others design tokens k rest = map (ways design) (rest ++ unused (path design (take k tokens)))
 
+-- the groups before an operator: both items, and the others
 pub groups-before : (design : Design) (tokens : List Token) (k : ℕ) (l r : Item) (rest : List Item) → items_at tokens k ≡ r ∷ l ∷ rest → groups_at design tokens k ≡ ways design r ∷ ways design l ∷ others design tokens k rest
 groups-before design tokens k l r rest top = ap (λ v. map (ways design) (v ++ unused (path design (take k tokens)))) top
 
+-- the groups after it: the joined item, and the same others
 pub groups-after : (design : Design) (tokens : List Token) (k : ℕ) (d : Direction) (l r : Item) (rest : List Item) → IsNext tokens k (token_in d) → items_at tokens k ≡ r ∷ l ∷ rest → groups_at design tokens (k + 1) ≡ ways design (item_in d l r) ∷ others design tokens k rest
 groups-after design tokens k d l r rest next top =
     ap (λ v. map (ways design) (v ++ unused (path design (take (k + 1) tokens)))) (items-joined tokens k d l r rest next top)

@@ -7,18 +7,21 @@ use Rattle.sf_polish.specs.declared.expr.Token.{Token}
 use Rattle.sf_standard.specs.Items.{Item, read}
 use Rattle.sf_frames.specs.declared.frame.Frame.{Frame}
 use Rattle.sf_frames.specs.declared.frame.Kept.{Kept}
-use Rattle.sf_frames.specs.Groups.{group_plans}
+use Rattle.sf_standard.specs.Standard.{plans_of}
 use Rattle.sf_frames.specs.Sums.{AreSumsOrNone}
 use Rattle.sf_frames.specs.Kept.{path, items_at, groups_at, IsFrame, AreFrames, IsStored, IsEndOf, token_of}
 use Rattle.sf_frames.proofs.Keeping.{stored-cut}
 
 module _ (design : Design) (a b : List Token) (n : ℕ) (same : take n a ≡ take n b) where
+  -- paths that agree in their first n tokens agree in the first k of them
   begins-same : (k : ℕ) → k ≤ n → take k a ≡ take k b
   begins-same k le = sym (take-take k n a le) ∙ ap (take k) same ∙ take-take k n b le
 
+  -- they have the same items there
   items-same : (k : ℕ) → k ≤ n → items_at a k ≡ items_at b k
   items-same k le = ap (read []) (begins-same k le)
 
+  -- a frame of the one is a frame of the other
   frame-switched : (points : List Shape) (whole k : ℕ) (f : Frame) → k ≤ n → IsFrame design a points whole k f → IsFrame design b points whole k f
   frame-switched points whole k f le m = record {
     item = m.item;
@@ -28,9 +31,10 @@ module _ (design : Design) (a b : List Token) (n : ℕ) (same : take n a ≡ tak
     inside = m.inside;
     after = m.after;
     end = m.end;
-    sums = subst (λ v. AreSumsOrNone (group_plans design (path design v)) f.sums) (begins-same k le) m.sums;
+    sums = subst (λ v. AreSumsOrNone (plans_of design (path design v)) f.sums) (begins-same k le) m.sums;
   }
 
+  -- what is kept of the one is kept of the other
   pub stored-switched : (points : List Shape) (blocks : List Kept) (whole : ℕ) (frames : List Frame) → length frames ≤ n → length frames ≤ length b → IsStored design a points blocks whole frames → IsStored design b points blocks whole frames
   stored-switched points blocks whole frames le few m = record {
     wholes = m.wholes;

@@ -19,6 +19,7 @@ use Rattle.sf_frames.specs.Kept.{items_at, no_token, IsFrame, AreFrames, IsNext,
 use Rattle.sf_frames.proofs.Joining.{Runs, runs-from}
 use Rattle.sf_frames.proofs.Ways.{read-joined}
 
+-- tokens that follow find their operands among the items after those before them
 runs-later : (n : ℕ) (items : List Item) (xs ys : List Token) → Runs n (length items) (xs ++ ys) → Runs n (length (read items xs)) ys
 runs-later n items [] ys r = r
 runs-later n [] (token.Block b ∷ xs) ys r = runs-later n (item.Block b ∷ []) xs ys r.1
@@ -31,6 +32,7 @@ runs-later n [] (token.Above ∷ xs) ys r = absurd (omega (arith, r.0))
 runs-later n (i ∷ []) (token.Above ∷ xs) ys r = absurd (omega (arith, r.0))
 runs-later n (i ∷ j ∷ items) (token.Above ∷ xs) ys r = runs-later n (item.Above j i ∷ items) xs ys (subst (λ v. Runs n v (xs ++ ys)) (omega arith) r.1)
 
+-- so do the tokens after the first k of a subproblem
 runs-at : (design : Design) (node : Parts) (k : ℕ) → IsSubproblem design node → k < length node.tokens → Runs (length design.blocks) (length (items_at node.tokens k)) (get_or node.tokens k no_token ∷ drop (k + 1) node.tokens)
 runs-at design node k sub lt =
     let i = subproblem-begun design node sub in
@@ -48,25 +50,31 @@ block-inside design node k b sub next =
 pub take-next : (tokens : List Token) (k : ℕ) (t : Token) → IsNext tokens k t → take (k + 1) tokens ≡ take k tokens ++ t ∷ []
 take-next tokens k t next = take_more tokens k no_token next.more ∙ ap (λ v. take k tokens ++ v ∷ []) next.token_is
 
+-- the items after the next token are read from those before it
 pub items-next : (tokens : List Token) (k : ℕ) (t : Token) → IsNext tokens k t → items_at tokens (k + 1) ≡ read (items_at tokens k) (t ∷ [])
 items-next tokens k t next = ap (read []) (take-next tokens k t next) ∙ read-append [] (take k tokens) (t ∷ [])
 
+-- after a block it is the item on top
 pub items-block : (tokens : List Token) (k b : ℕ) → IsNext tokens k (token.Block b) → items_at tokens (k + 1) ≡ item.Block b ∷ items_at tokens k
 items-block tokens k b next = items-next tokens k (token.Block b) next ∙ read-block (items_at tokens k) b
 
+-- after an operator the two items on top are one
 pub items-joined : (tokens : List Token) (k : ℕ) (d : Direction) (l r : Item) (rest : List Item) → IsNext tokens k (token_in d) → items_at tokens k ≡ r ∷ l ∷ rest → items_at tokens (k + 1) ≡ item_in d l r ∷ rest
 items-joined tokens k d l r rest next top =
     items-next tokens k (token_in d) next ∙ ap (λ v. read v (token_in d ∷ [])) top ∙ read-joined d l r rest
 
+-- an operator that finds its operands has two
 two-for : (n : ℕ) (d : Direction) (depth : ℕ) (rest : List Token) → Runs n depth (token_in d ∷ rest) → 2 ≤ depth
 two-for n Beside depth rest r = r.0
 two-for n Above depth rest r = r.0
 
+-- before an operator of a subproblem there are two items
 pub two-at : (design : Design) (node : Parts) (k : ℕ) (d : Direction) → IsSubproblem design node → IsNext node.tokens k (token_in d) → 2 ≤ length (items_at node.tokens k)
 two-at design node k d sub next =
     two-for (length design.blocks) d (length (items_at node.tokens k)) (drop (k + 1) node.tokens)
     (subst (λ t. Runs (length design.blocks) (length (items_at node.tokens k)) (t ∷ drop (k + 1) node.tokens)) next.token_is (runs-at design node k sub next.more))
 
+-- where there is an item there is a token
 pub none-first : (tokens : List Token) (k : ℕ) → 1 ≤ length (items_at tokens k) → 1 ≤ k
 none-first tokens zero h = absurd (omega (arith, h))
 none-first tokens (suc k) h = omega arith
@@ -78,15 +86,18 @@ pub record AreThere (frames : List Frame) (d : Frame) : Type 0 where
   pub fewer : (get_or frames (length frames - 1) d).below ≤ length frames
 
 module _ (design : Design) (node : Parts) (points : List Shape) (whole : ℕ) (frames : List Frame) (way : Direction) (sub : IsSubproblem design node) (m : AreFrames design node.tokens points whole frames) (next : IsNext node.tokens (length frames) (token_in way)) where
+  -- before an operator there is a frame
   some-frame : 1 ≤ length frames
   some-frame = none-first node.tokens (length frames) (omega (arith, two-at design node (length frames) way sub next))
 
+  -- the last frame tells the item on top
   right-at : (d : Frame) → IsFrame design node.tokens points whole (length frames) (get_or frames (length frames - 1) d)
   right-at d =
       let r = get_or frames (length frames - 1) d in
       let k : length frames - 1 + 1 ≡ length frames = omega (arith, some-frame) in
       subst (λ v. IsFrame design node.tokens points whole v r) k (m.each (length frames - 1) d (omega (arith, some-frame)))
 
+  -- the frames of both items on top are there, so no number is below 0 and no place outside
   pub there : (d : Frame) → AreThere frames d
   there d =
       let r = right-at d in
@@ -97,6 +108,7 @@ module _ (design : Design) (node : Parts) (points : List Shape) (whole : ℕ) (f
         fewer = omega (arith, r.fewer);
       }
 
+  -- they are the frame before the end, and the one before what it lies on
   pub pair-at : (d e : Frame) → ArePair design node.tokens points whole frames (get_or frames ((get_or frames (length frames - 1) d).below - 1) e) (get_or frames (length frames - 1) d)
   pair-at d e =
       let r = get_or frames (length frames - 1) d in

@@ -7,6 +7,7 @@ use Rattle.sf_frames.specs.declared.direction.Direction.TheVariants.{Beside, Abo
 use Rattle.sf_frames.specs.Direction.{token_in, item_in, plan_in, size_in}
 use Rattle.sf_frames.proofs.Joining.{IsWay, beside-way, above-way}
 
+-- each direction is a way to join two rooms, on plans and on sizes
 pub way_in : (d : Direction) → IsWay (item_in d) (plan_in d) (size_in d)
 way_in Beside = beside-way
 way_in Above = above-way

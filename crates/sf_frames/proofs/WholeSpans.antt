@@ -17,12 +17,11 @@ use Rattle.sf_node.specs.Children.{after, walk, IsSubproblem}
 use Rattle.sf_curves.specs.Points.{IsSlimmer, IsCurveOf, area_of}
 use Rattle.sf_standard.specs.Items as item
 use Rattle.sf_standard.specs.Items.{Item, span_shapes}
-use Rattle.sf_standard.specs.Standard.{has_none}
+use Rattle.sf_standard.specs.Standard.{has_none, plans_of}
 use Rattle.std.proofs.Math.Nat.{mul-le-mul}
 use Rattle.sf_frames.specs.declared.frame.Kept.{Kept}
 use Rattle.sf_frames.specs.declared.least.Least.{Least}
 use Rattle.sf_frames.specs.Curves.{IsItemCurve}
-use Rattle.sf_frames.specs.Groups.{group_plans}
 use Rattle.sf_frames.specs.Least.{IsLeastOf, AllSmall, width_of, height_of}
 use Rattle.sf_frames.specs.Sums.{IsLeastFor, IsLeastOrNone}
 use Rattle.sf_frames.specs.Kept.{path, ways, groups_at, IsKept, AreWhole, IsStored, at_end}
@@ -68,6 +67,7 @@ whole-shapes design b lt =
     let e : span_of (root design) b ≡ (0, length (shapes_of design b)) = get_or-map (λ block. (0, length block.shapes)) design.blocks b (record { name = []; shapes = [] }) (0, 0) lt in
     ap (λ span. slice_range (shapes_of design b) span.0 span.1) e ∙ take_all (length (shapes_of design b) - 0) (shapes_of design b) (omega arith)
 
+-- the curve of all shapes of a block is that of its item at the root
 pub whole-curve : (design : Design) (b : ℕ) (c : List Shape) → b < block_count design → IsCurveOf design.outline (slice_range (shapes_of design b) 0 (length (shapes_of design b))) c → IsItemCurve design (root design) c (item.Block b)
 whole-curve design b c lt k =
     curve-block design (root design) b c
@@ -108,6 +108,7 @@ wholes-added design points made all blocks new o k m lt curve falls least is_all
     (subst (λ v. AreWhole design (points ++ made) v (length (points ++ made))) (sym (is_new ∙ ap (λ (v : Kept). blocks ++ v ∷ []) is_kept))
     (wholes-more design points made blocks o m lt curve falls least))
 
+-- with no block there is nothing to keep
 pub wholes-none : (design : Design) → AreWhole design [] [] 0
 wholes-none design = record { few = omega arith; room = omega arith; each = λ b d lt. absurd (omega (arith, lt)) }
 
@@ -134,14 +135,15 @@ pub whole-spans : (design : Design) (node : Parts) → IsSubproblem design node 
 whole-spans design node sub e =
     ap (λ n. n.spans) sub.is ∙ walk-whole node.steps (root design) (omega (arith, sym e, ap (λ n. length n.tokens) sub.is))
 
-pub whole-groups : (design : Design) (node : Parts) → IsSubproblem design node → length node.steps ≡ length node.tokens → group_plans design (path design node.tokens) ≡ group_plans design node
+-- such a subproblem has the groups of its path
+pub whole-groups : (design : Design) (node : Parts) → IsSubproblem design node → length node.steps ≡ length node.tokens → plans_of design (path design node.tokens) ≡ plans_of design node
 whole-groups design node sub e =
-    sym (ap (λ spans. group_plans design (record { steps = node.steps; tokens = node.tokens; spans = spans })) (whole-spans design node sub e))
+    sym (ap (λ spans. plans_of design (record { steps = node.steps; tokens = node.tokens; spans = spans })) (whole-spans design node sub e))
 
 -- what the frames of all tokens sum up
-pub measured-groups : (design : Design) (node : Parts) (n : ℕ) → IsSubproblem design node → length node.steps ≡ length node.tokens → n ≡ length node.tokens → groups_at design node.tokens n ≡ group_plans design node
+pub measured-groups : (design : Design) (node : Parts) (n : ℕ) → IsSubproblem design node → length node.steps ≡ length node.tokens → n ≡ length node.tokens → groups_at design node.tokens n ≡ plans_of design node
 measured-groups design node n sub whole all =
-    ap (λ v. group_plans design (path design v)) (take_all n node.tokens (omega (arith, all))) ∙ whole-groups design node sub whole
+    ap (λ v. plans_of design (path design v)) (take_all n node.tokens (omega (arith, all))) ∙ whole-groups design node sub whole
 
 -- no frame yet
 pub stored-none : (design : Design) (points : List Shape) (blocks : List Kept) (whole : ℕ) → AreWhole design points blocks whole → IsStored design [] points blocks whole []

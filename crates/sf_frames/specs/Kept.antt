@@ -1,5 +1,5 @@
 -- What the frames of a path of tokens tell.
-use Rattle.std.specs.Prelude.{◌≡◌, ℕ, ◌+◌, ◌-◌, ◌<◌, ◌≤◌, List, [], ◌∷◌, ◌++◌, length, take, map, AllPairs, Option, slice_index_or, slice_range}
+use Rattle.std.specs.Prelude.{◌≡◌, ◌≢◌, ℕ, ◌+◌, ◌-◌, ◌<◌, ◌≤◌, List, [], ◌∷◌, ◌++◌, length, take, map, AllPairs, Option, slice_index_or, slice_range}
 use Rattle.sf_model.specs.declared.design.Design.{Design}
 use Rattle.sf_model.specs.declared.parts.Shape.{Shape}
 use Rattle.sf_model.specs.Legal.{block_count}
@@ -14,7 +14,7 @@ use Rattle.sf_frames.specs.declared.frame.Frame.{Frame}
 use Rattle.sf_frames.specs.declared.frame.Kept.{Kept}
 use Rattle.sf_frames.specs.declared.least.Least.{Least}
 use Rattle.sf_frames.specs.Curves.{IsItemCurve}
-use Rattle.sf_frames.specs.Groups.{group_plans}
+use Rattle.sf_standard.specs.Standard.{plans_of}
 use Rattle.sf_frames.specs.Sums.{IsLeastOrNone, AreSumsOrNone}
 
 -- the subproblem of these tokens in which each block has its whole span
@@ -31,14 +31,18 @@ ways design i = fitting design (root design) i
 
 -- the plans of each item and unused block after the first k tokens
 abbrev pub groups_at : Design → List Token → ℕ → List (List Tree)
-groups_at design tokens k = group_plans design (path design (take k tokens))
+groups_at design tokens k = plans_of design (path design (take k tokens))
 
--- the points at these places are the curve of the item, and its least values are told
+-- the points of a curve that lies in the list of all points
+abbrev pub points_of : List Shape → Kept → List Shape
+points_of points k = slice_range points k.from k.to
+
+-- these points are the curve of the item, and its least values are told
 pub record IsKept (design : Design) (points : List Shape) (i : Item) (k : Kept) : Type 0 where
   pub order : k.from ≤ k.to
   pub inside : k.to ≤ length points
-  pub curve : IsItemCurve design (root design) (slice_range points k.from k.to) i
-  pub falls : AllPairs IsSlimmer (slice_range points k.from k.to)
+  pub curve : IsItemCurve design (root design) (points_of points k) i
+  pub falls : AllPairs IsSlimmer (points_of points k)
   pub least : IsLeastOrNone (ways design i) k.least
 
 -- each block's whole curve is kept among the first points
@@ -58,6 +62,7 @@ pub record IsFrame (design : Design) (tokens : List Token) (points : List Shape)
   pub end : f.end ≤ length points
   pub sums : AreSumsOrNone (groups_at design tokens k) f.sums
 
+-- the token that made a frame
 abbrev pub token_of : Frame → Token
 token_of f = f.token
 
@@ -73,10 +78,22 @@ pub record IsStored (design : Design) (tokens : List Token) (points : List Shape
   pub wholes : AreWhole design points blocks whole
   pub frames_are : AreFrames design tokens points whole frames
 
--- the token that comes next
+-- the same, of the path whose tokens have frames
+abbrev pub IsStoredPath : Design → List Shape → List Kept → ℕ → List Frame → Type 0
+IsStoredPath design points blocks whole frames = IsStored design (map token_of frames) points blocks whole frames
+
+-- what stands for a token past the end of a list
 abbrev pub no_token : Token
 no_token = token.Beside
 
+-- the first n tokens are those of both paths, and no more
+pub record IsCommon (kept tokens : List Token) (n : ℕ) : Type 0 where
+  pub within_kept : n ≤ length kept
+  pub within_tokens : n ≤ length tokens
+  pub same : take n kept ≡ take n tokens
+  pub most : n < length kept → n < length tokens → slice_index_or kept n no_token ≢ slice_index_or tokens n no_token
+
+-- the token that comes next after the first k
 pub record IsNext (tokens : List Token) (k : ℕ) (t : Token) : Type 0 where
   pub more : k < length tokens
   pub token_is : slice_index_or tokens k no_token ≡ t

@@ -10,9 +10,11 @@ abbrev pub least_by : (Shape → ℕ) → List Shape → ℕ
 least_by f [] = MAX
 least_by f (p ∷ ps) = min (f p) (least_by f ps)
 
+-- the width of a size
 abbrev pub width_of : Shape → ℕ
 width_of p = p.w
 
+-- the height of a size
 abbrev pub height_of : Shape → ℕ
 height_of p = p.h
 

@@ -1,7 +1,9 @@
+-- what the crate answers
 pub mod Curves
 pub mod Least
 pub mod Groups
 pub mod Direction
 pub mod Sums
-pub mod Kept
 pub mod Measured
+-- what it keeps of a path
+pub mod Kept

@@ -3,14 +3,13 @@ use Rattle.std.specs.Prelude.{◌≡◌, true, ⊤}
 use Rattle.std.specs.List.{list_any}
 use Rattle.sf_model.specs.declared.design.Design.{Design}
 use Rattle.sf_node.specs.Parts.{Parts}
-use Rattle.sf_standard.specs.Standard.{has_none}
+use Rattle.sf_standard.specs.Standard.{has_none, plans_of}
 use Rattle.sf_frames.specs.declared.measured.Measured.{Measured}
 use Rattle.sf_frames.specs.declared.measured.Measured.TheVariants.{TooLarge, FitsInNoWay, Takes}
-use Rattle.sf_frames.specs.Groups.{group_plans}
 use Rattle.sf_frames.specs.Sums.{AreSums}
 
 -- the sums over the items and the unused blocks, or that one of them has no plan
 abbrev pub IsMeasured : Design → Parts → Measured → Type 0
 IsMeasured design node TooLarge = ⊤
-IsMeasured design node FitsInNoWay = list_any has_none (group_plans design node) ≡ true
-IsMeasured design node (Takes sums) = AreSums (group_plans design node) sums
+IsMeasured design node FitsInNoWay = list_any has_none (plans_of design node) ≡ true
+IsMeasured design node (Takes sums) = AreSums (plans_of design node) sums

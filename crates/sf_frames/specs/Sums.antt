@@ -13,6 +13,7 @@ pub record IsLeastFor (plans : List Tree) (l : Least) : Type 0 where
   pub width : l.w ≡ least_of width plans
   pub height : l.h ≡ least_of height plans
 
+-- these, or none where there is no plan
 abbrev pub IsLeastOrNone : List Tree → Option Least → Type 0
 IsLeastOrNone plans o = MatchOption o (has_none plans ≡ true) (IsLeastFor plans)
 

@@ -1,5 +1,7 @@
+//! The frames that another path leaves standing: those of the tokens with which both begin.
+
 ghost use Rattle.std.specs.Prelude.{◌≡◌, ◌≤◌, take, map, length};
-ghost use Rattle.sf_frames.specs.Kept.{IsStored, IsEndOf, token_of};
+ghost use Rattle.sf_frames.specs.Kept.{IsStored, IsStoredPath, IsEndOf, IsCommon, token_of};
 
 use crate::frame::{Frame, Kept};
 use sf_curves::Point;
@@ -8,9 +10,7 @@ use sf_polish::Token;
 
 /// With how many tokens of the kept path these begin.
 fn common(frames: &[Frame], tokens: &[Token]) -> usize
-    ensures within_kept { result ≤ length frames.now }
-    ensures within_tokens { result ≤ length tokens.now }
-    ensures same { take result (map token_of frames.now) ≡ take result tokens.now }
+    ensures { IsCommon (map token_of frames.now) tokens.now result }
 {
     let mut count = 0;
     while count < frames.len() && count < tokens.len() {
@@ -33,7 +33,7 @@ fn end_of(frames: &[Frame], count: usize, whole: usize) -> usize
     frames[count - 1].end
 }
 
-/// Keeps the frames of the tokens with which both paths begin.
+/// Keeps the frames of the tokens with which both paths begin, and no points but what these need.
 pub fn back_to(
     points: &mut Vec<Point>,
     frames: &mut Vec<Frame>,
@@ -42,8 +42,11 @@ pub fn back_to(
     design: &Design,
     tokens: &[Token],
 )
-    requires stored { IsStored design.now (map token_of frames.old.items) points.old.items blocks.now whole frames.old.items }
+    requires stored { IsStoredPath design.now points.old.items blocks.now whole frames.old.items }
     ensures stored { IsStored design.now tokens.now points.new.items blocks.now whole frames.new.items }
+    ensures first { frames.new.items ≡ take (length frames.new.items) frames.old.items }
+    ensures most { IsCommon (map token_of frames.old.items) tokens.now (length frames.new.items) }
+    ensures rest { IsEndOf frames.new.items whole (length frames.new.items) (length points.new.items) }
 {
     let count = common(frames, tokens);
     let end = end_of(frames, count, whole);

@@ -1,16 +1,18 @@
+//! The two directions in which items are joined.
+
 ghost use Rattle.std.specs.Prelude.{◌≡◌};
 ghost use Rattle.sf_frames.specs.Direction.{token_in};
 
 use sf_polish::Token;
 
-/// How two items are joined.
+/// How two items are joined: the right one beside the left, or the upper one above the lower.
 #[derive(Clone, Copy, Debug, PartialEq, Eq)]
 pub enum Direction {
     Beside,
     Above,
 }
 
-/// Its operator.
+/// The operator that joins in this direction.
 pub fn operator(direction: Direction) -> Token
     ensures { result ≡ token_in direction }
 {

@@ -1,8 +1,11 @@
+//! What is kept of one token of a path.
+
 use crate::least::Least;
 use crate::sums::Sums;
 use sf_polish::Token;
 
-/// A curve in the list of all points, and what its room takes at least; nothing where it has no point.
+/// A shape curve, which lies in the list of all points, and what its room takes at least; nothing where it
+/// has no point.
 #[derive(Clone, Copy, Debug, PartialEq, Eq)]
 pub struct Kept {
     pub from: usize,
@@ -10,8 +13,8 @@ pub struct Kept {
     pub least: Option<Least>,
 }
 
-/// What one token makes: the curve of its item, how many tokens made the items under it, how many points there were after
-/// it, and the sums over all items and unused blocks after it.
+/// What one token makes: the curve of its item, how many tokens made the items under it, how many points
+/// there were after it, and the sums over all items and unused blocks after it.
 #[derive(Clone, Copy, Debug, PartialEq, Eq)]
 pub struct Frame {
     pub token: Token,

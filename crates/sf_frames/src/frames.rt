@@ -1,3 +1,5 @@
+//! The frames of the path that was measured last.
+
 ghost use Rattle.std.specs.Prelude.{◌≡◌, length, IfOk};
 ghost use Rattle.sf_node.specs.Children.{IsSubproblem};
 
@@ -13,7 +15,9 @@ use sf_node::Node;
 use std::alloc::{AllocError as NoMemory, Global};
 use std::marker::Model;
 
-/// The frames of the path that was measured last, for one design. A contract sees that design.
+/// The frames of the path that was measured last, for one design. A contract sees that design. The points are
+/// those of the blocks' whole curves, of which there are `whole`, and then those of the frames; `list` is a
+/// buffer for the next curve.
 #[derive(Drop)]
 pub struct Frames<'a> {
     design: &'a Design,
@@ -30,12 +34,11 @@ impl<'a> Model for Frames<'a> {
 
     ghost Value = { Design };
 
-    ghost use Rattle.std.specs.Prelude.{map};
-    ghost use Rattle.sf_frames.specs.Kept.{IsStored, token_of};
+    ghost use Rattle.sf_frames.specs.Kept.{IsStoredPath};
 
     ghost view = { λ s. s.design.now };
 
-    ghost invariant = { λ s. IsStored s.design.now (map token_of s.frames.items) s.points.items s.blocks.items s.whole s.frames.items };
+    ghost invariant = { λ s. IsStoredPath s.design.now s.points.items s.blocks.items s.whole s.frames.items };
 }
 
 impl<'a> Frames<'a> {
@@ -56,7 +59,8 @@ impl<'a> Frames<'a> {
         }
     }
 
-    /// What the items and the unused blocks of a subproblem take, whose spans are whole.
+    /// What the items and the unused blocks of a subproblem take, whose spans are whole. Only the tokens are
+    /// measured by which it differs from the path before.
     pub fn measure(&mut self, node: &Node) -> Result<Measured, NoMemory>
         requires subproblem { IsSubproblem self.old node.now }
         requires whole { length node.now.steps ≡ length node.now.tokens }

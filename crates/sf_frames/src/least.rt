@@ -1,3 +1,5 @@
+//! What a room of a shape curve takes at least.
+
 ghost use Rattle.std.specs.Prelude.{◌≡◌, [], MatchOption, AllPairs};
 ghost use Rattle.sf_curves.specs.Points.{IsSlimmer};
 ghost use Rattle.sf_frames.specs.Least.{IsLeastOf, AllSmall};
@@ -12,7 +14,8 @@ pub struct Least {
     pub h: u32,
 }
 
-/// What a room of the curve takes at least.
+/// The least values of a curve, where it has a point. The first point is the narrowest and the last the
+/// lowest.
 pub fn least_of(points: &[Point]) -> Option<Least>
     requires falls { AllPairs IsSlimmer points.now }
     requires small { AllSmall points.now }

@@ -1,11 +1,12 @@
-ghost use Rattle.std.specs.Prelude.{◌≡◌, ◌≤◌, ◌+◌, ◌<◌, length, true, IfOk, OnOk, AllPairs};
+//! The frames of the tokens that have none yet.
+
+ghost use Rattle.std.specs.Prelude.{◌≡◌, ◌≤◌, ◌<◌, ◌+◌, length, true, false, IfOk, OnOk, AllPairs};
 ghost use Rattle.sf_model.specs.Legal.{block_count};
 ghost use Rattle.sf_polish.specs.declared.expr.Token.TheVariants as token;
 ghost use Rattle.sf_node.specs.Children.{IsSubproblem};
 ghost use Rattle.sf_curves.specs.Points.{IsSlimmer, IsCombination};
 ghost use Rattle.sf_frames.specs.Direction.{token_in, size_in};
-ghost use Rattle.sf_frames.specs.Kept.{IsStored, IsNext};
-ghost use Rattle.std.specs.Prelude.{slice_range};
+ghost use Rattle.sf_frames.specs.Kept.{IsStored, IsNext, points_of};
 
 use crate::direction::{Direction, operator};
 use crate::frame::{Frame, Kept};
@@ -33,12 +34,13 @@ fn join(
 ) -> Result<(), NoMemory>
     requires left_order { left.from ≤ left.to }
     requires left_inside { left.to ≤ length points.now }
-    requires left_falls { AllPairs IsSlimmer (slice_range points.now left.from left.to) }
+    requires left_falls { AllPairs IsSlimmer (points_of points.now left) }
     requires right_order { right.from ≤ right.to }
     requires right_inside { right.to ≤ length points.now }
-    requires right_falls { AllPairs IsSlimmer (slice_range points.now right.from right.to) }
+    requires right_falls { AllPairs IsSlimmer (points_of points.now right) }
     ensures falls { OnOk result (AllPairs IsSlimmer list.new.items) }
-    ensures combines { OnOk result (IsCombination (size_in direction) outline (slice_range points.now left.from left.to) (slice_range points.now right.from right.to) list.new.items) }
+    ensures combines { OnOk result (IsCombination (size_in direction) outline
+        (points_of points.now left) (points_of points.now right) list.new.items) }
 {
     let left = &points[left.from..left.to];
     let right = &points[right.from..right.to];
@@ -93,7 +95,10 @@ fn push_joined(
     requires stored { IsStored design.now node.now.tokens points.old.items blocks.now whole frames.old.items }
     requires next { IsNext node.now.tokens (length frames.old.items) (token_in direction) }
     ensures stored { IsStored design.now node.now.tokens points.new.items blocks.now whole frames.new.items }
-    ensures count { IfOk result (λ pushed. pushed ≡ true → length frames.new.items ≡ length frames.old.items + 1) }
+    ensures count { IfOk result (λ pushed. pushed ≡ true
+        → length frames.new.items ≡ length frames.old.items + 1) }
+    ensures many { IfOk result (λ pushed. pushed ≡ false
+        → 4000000 < length points.new.items + length list.new.items) }
 {
     let (left, right) = top_pair(points, frames, blocks, whole, design, node, direction);
     let sums = sums_now(points, frames, blocks, whole, design, node);
@@ -137,7 +142,10 @@ fn push(
     requires stored { IsStored design.now node.now.tokens points.old.items blocks.now whole frames.old.items }
     requires next { IsNext node.now.tokens (length frames.old.items) token }
     ensures stored { IsStored design.now node.now.tokens points.new.items blocks.now whole frames.new.items }
-    ensures count { IfOk result (λ pushed. pushed ≡ true → length frames.new.items ≡ length frames.old.items + 1) }
+    ensures count { IfOk result (λ pushed. pushed ≡ true
+        → length frames.new.items ≡ length frames.old.items + 1) }
+    ensures many { IfOk result (λ pushed. pushed ≡ false
+        → 4000000 < length points.new.items + length list.new.items) }
 {
     match token {
         Token::Block(block) => {
@@ -181,7 +189,10 @@ pub fn extend(
     requires all { length blocks.now ≡ block_count design.now }
     requires stored { IsStored design.now node.now.tokens points.old.items blocks.now whole frames.old.items }
     ensures stored { IsStored design.now node.now.tokens points.new.items blocks.now whole frames.new.items }
-    ensures count { IfOk result (λ extended. extended ≡ true → length frames.new.items ≡ length node.now.tokens) }
+    ensures count { IfOk result (λ extended. extended ≡ true
+        → length frames.new.items ≡ length node.now.tokens) }
+    ensures many { IfOk result (λ extended. extended ≡ false
+        → 4000000 < length points.new.items + length list.new.items) }
 {
     let tokens = node.tokens();
     while frames.len() < tokens.len() {

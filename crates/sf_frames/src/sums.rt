@@ -1,3 +1,5 @@
+//! The sums over the items and the unused blocks.
+
 ghost use Rattle.std.specs.Prelude.{◌≡◌};
 ghost use Rattle.sf_frames.specs.Sums.{AreWithin, joined};
 

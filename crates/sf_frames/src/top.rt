@@ -1,3 +1,5 @@
+//! What the frames tell of the path so far: the two items on top, and the sums.
+
 ghost use Rattle.std.specs.Prelude.{◌≡◌, List, length};
 ghost use Rattle.sf_model.specs.Legal.{block_count};
 ghost use Rattle.sf_polish.specs.declared.expr.Token.{Token as TokenValue};

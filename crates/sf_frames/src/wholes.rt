@@ -1,7 +1,8 @@
-ghost use Rattle.std.specs.Prelude.{◌≡◌, ◌++◌, length, IfOk, OnOk, OnErr, AllPairs};
+//! The curves of the blocks in their whole spans, with which the list of points begins.
+
+ghost use Rattle.std.specs.Prelude.{◌≡◌, ◌++◌, length, IfOk, OnErr};
 ghost use Rattle.sf_model.specs.Legal.{block_count};
-ghost use Rattle.std.specs.Prelude.{map};
-ghost use Rattle.sf_frames.specs.Kept.{AreWhole, IsStored, at_end, token_of, IsLonger};
+ghost use Rattle.sf_frames.specs.Kept.{AreWhole, IsStoredPath, at_end, IsLonger};
 
 use crate::frame::{Frame, Kept};
 use crate::least::{Least, least_of};
@@ -26,7 +27,7 @@ pub fn append(
 }
 
 /// The whole curves of all blocks, and the points in which they lie.
-pub fn wholes(alloc: Global, design: &Design) -> Result<(Vec<Point>, Vec<Kept>), NoMemory>
+fn wholes(alloc: Global, design: &Design) -> Result<(Vec<Point>, Vec<Kept>), NoMemory>
     ensures whole { IfOk result (λ r. AreWhole design.now r.0.items r.1.items (length r.0.items)) }
     ensures all { IfOk result (λ r. length r.1.items ≡ block_count design.now) }
 {
@@ -42,7 +43,8 @@ pub fn wholes(alloc: Global, design: &Design) -> Result<(Vec<Point>, Vec<Kept>),
     Ok((points, blocks))
 }
 
-/// Makes the whole curves of all blocks, where they are not there yet. The answer is how many points they have.
+/// Makes the whole curves of all blocks, where they are not there yet. The answer is how many points they
+/// have.
 pub fn fill(
     points: &mut Vec<Point>,
     frames: &mut Vec<Frame>,
@@ -51,10 +53,14 @@ pub fn fill(
     alloc: Global,
     design: &Design,
 ) -> Result<usize, NoMemory>
-    requires stored { IsStored design.now (map token_of frames.old.items) points.old.items blocks.old.items whole frames.old.items }
-    ensures filled { IfOk result (λ filled. IsStored design.now (map token_of frames.new.items) points.new.items blocks.new.items filled frames.new.items) }
+    requires stored { IsStoredPath design.now points.old.items blocks.old.items whole frames.old.items }
+    ensures filled { IfOk result (λ filled. IsStoredPath design.now
+        points.new.items blocks.new.items filled frames.new.items) }
     ensures all { IfOk result (λ filled. length blocks.new.items ≡ block_count design.now) }
-    ensures kept { OnErr result (IsStored design.now (map token_of frames.new.items) points.new.items blocks.new.items whole frames.new.items) }
+    ensures again { length blocks.old.items ≡ block_count design.now
+        → IfOk result (λ filled. frames.new.items ≡ frames.old.items) }
+    ensures kept { OnErr result (IsStoredPath design.now
+        points.new.items blocks.new.items whole frames.new.items) }
 {
     if blocks.len() >= design.blocks.as_slice().len() {
         return Ok(whole);
