@@ -63,7 +63,7 @@ fn part_extent(shapes: &[Shape], from: u16, to: u16) -> Extent
 }
 
 /// The extent of the shapes in a block's span.
-#[tactic(auto, using(crate::proofs::Building::span_some, crate::proofs::Building::span_inside, crate::proofs::Building::span_count))]
+#[tactic(auto, using(crate::proofs::Building::span_some, crate::proofs::Building::span_count))]
 fn block_extent(design: &Design, node: &Node, block: u16) -> Extent
     requires subproblem { IsSubproblem design.now node.now }
     requires inside { block < length design.now.blocks }

@@ -18,7 +18,7 @@ use sf_wire::cost;
 use std::alloc::{AllocError as NoMemory, Global};
 
 /// The first shape in the span of a block.
-#[tactic(auto, using(crate::proofs::Building::span_some, crate::proofs::Building::span_inside, crate::proofs::Building::span_count))]
+#[tactic(auto, using(crate::proofs::Building::span_count))]
 fn first_shape(design: &Design, node: &Node, block: u16) -> Shape
     requires subproblem { IsSubproblem design.now node.now }
     requires inside { block < length design.now.blocks }
