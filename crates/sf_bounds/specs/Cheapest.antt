@@ -1,4 +1,4 @@
--- The cheapest plan of a subproblem.
+-- What the crate promises of `solve`: the cheapest plan of a subproblem.
 use Rattle.std.specs.Prelude.{◌≡◌, ℕ, List, length, Option, MatchOption}
 use Rattle.sf_model.specs.declared.design.Design.{Design}
 use Rattle.sf_model.specs.declared.parts.Shape.{Shape}

@@ -1,4 +1,4 @@
--- Where the blocks of a subproblem stand: the extent of each, and its seat in an item.
+-- How the code goes, and nothing that the crate promises: where the blocks of a subproblem stand: the extent of each, and its seat in an item.
 use Rattle.std.specs.Prelude.{◌≡◌, ℕ, suc, ◌+◌, ◌-◌, ◌<◌, ◌≤◌, min, max, List, [], ◌∷◌, ◌++◌, length, map, reverse, take, drop, All, count_by, ◌==◌, slice_index_or}
 use Rattle.sf_model.specs.declared.design.Design.{Design}
 use Rattle.sf_model.specs.declared.parts.Shape.{Shape}
@@ -23,6 +23,7 @@ extent_in design node b = extent_of (span_shapes design node b)
 abbrev pub single_extent : Shape → Extent
 single_extent s = record { least_w = s.w; most_w = s.w; least_h = s.h; most_h = s.h }
 
+-- an extent with one shape more
 abbrev pub with_shape : Extent → Shape → Extent
 with_shape e s = record { least_w = min e.least_w s.w; most_w = max e.most_w s.w; least_h = min e.least_h s.h; most_h = max e.most_h s.h }
 
@@ -35,6 +36,7 @@ pub record Tells {X : Type 0} (f : ℕ → X) (n : ℕ) (xs : List X) : Type 0 w
 abbrev pub beside_extent : Extent → Extent → Extent
 beside_extent p q = record { least_w = p.least_w + q.least_w; most_w = p.most_w + q.most_w; least_h = max p.least_h q.least_h; most_h = max p.most_h q.most_h }
 
+-- the sides of two items, the second above the first
 abbrev pub above_extent : Extent → Extent → Extent
 above_extent p q = record { least_w = max p.least_w q.least_w; most_w = max p.most_w q.most_w; least_h = p.least_h + q.least_h; most_h = p.most_h + q.most_h }
 
@@ -43,13 +45,16 @@ abbrev pub joined_extent : Direction → Extent → Extent → Extent
 joined_extent way.Beside = beside_extent
 joined_extent way.Above = above_extent
 
+-- what it does to the places of the blocks of the second one
 abbrev pub moved : Direction → Extent → Offset → Offset
 moved way.Beside = moved_right
 moved way.Above = moved_up
 
+-- an item as the stack holds it: its sides, and how many blocks it has
 abbrev pub held_of : (ℕ → Extent) → Item → Held
 held_of extent i = record { extent = item_extent extent i; blocks = length (offsets extent i) }
 
+-- a seat in the item of this number
 abbrev pub seat_at : ℕ → Offset → Seat
 seat_at item o = record { item = item; offset = o }
 
@@ -81,6 +86,7 @@ pub record JoinsTop (join : Extent → Extent → Extent) (move : Extent → Off
 abbrev pub own_seat : ℕ → ℕ → Seat
 own_seat item b = seat_at item (record { block = b; least_x = 0; most_x = 0; least_y = 0; most_y = 0 })
 
+-- what one token does to the items and to the seats: a block is an item by itself, an operator joins the top two
 abbrev pub Lays : (ℕ → Extent) → Token → List Held → List Held → List Seat → List Seat → Type 0
 Lays extent (token.Block b) old new old_seats new_seats =
     (new ≡ old ++ (record { extent = extent b; blocks = 1 }) ∷ [])
@@ -92,18 +98,21 @@ Lays extent token.Above old new old_seats new_seats = JoinsTop (joined_extent wa
 abbrev pub IsModest : ℕ → Type 0
 IsModest n = n ≤ 335544320
 
+-- so are those of an extent
 pub record IsModestExtent (e : Extent) : Type 0 where
   pub least_w : IsModest e.least_w
   pub most_w : IsModest e.most_w
   pub least_h : IsModest e.least_h
   pub most_h : IsModest e.most_h
 
+-- and those of the place of a block in its item
 pub record IsModestOffset (o : Offset) : Type 0 where
   pub least_x : IsModest o.least_x
   pub most_x : IsModest o.most_x
   pub least_y : IsModest o.least_y
   pub most_y : IsModest o.most_y
 
+-- no number of the items and of the seats is greater, no item has more blocks than there are seats, and these are at most 320
 pub record AreModest (held : List Held) (seats : List Seat) : Type 0 where
   pub extents : All (λ h. IsModestExtent h.extent) held
   pub blocks : All (λ h. h.blocks ≤ length seats) held

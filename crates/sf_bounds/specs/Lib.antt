@@ -1,10 +1,10 @@
+pub mod Cheapest
 pub mod Serving
 pub mod Curves
-pub mod Least
-pub mod Open
-pub mod Near
 pub mod Layout
+pub mod Least
+pub mod Near
+pub mod Only
+pub mod Open
 pub mod Pins
 pub mod Rows
-pub mod Cheapest
-pub mod Only

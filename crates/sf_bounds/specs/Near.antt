@@ -1,13 +1,15 @@
--- Ends of intervals, and of their meeting, that fit a machine number.
+-- How the code goes, and nothing that the crate promises: ends of intervals, and of their meeting, that fit a machine number.
 use Rattle.std.specs.Prelude.{ℕ, ◌+◌, ℤ, pos, neg_ℤ, ◌≤ℤ◌, ◌-ℤ◌}
 use Rattle.std.specs.Int.{int_max, int_min}
 use Rattle.sf_standard.specs.declared.hull.Interval.{Interval}
 use Rattle.sf_standard.specs.Hull.{to_nat}
 use Rattle.sf_bounds.specs.declared.reach.Reach.{Reach}
 
+-- a number of at most 700,000,000 to either side of 0
 abbrev pub IsNumber : ℤ → Type 0
 IsNumber z = (neg_ℤ (pos 700000000) ≤ℤ z) × (z ≤ℤ pos 700000000)
 
+-- both ends of an interval are such numbers
 abbrev pub IsNear : Interval → Type 0
 IsNear i = IsNumber i.low × IsNumber i.high
 
@@ -19,6 +21,7 @@ IsNearby r = IsNear r.across × IsNear r.upward
 abbrev pub shared : Interval → Interval → Interval
 shared i j = record { low = int_max i.low j.low; high = int_min i.high j.high }
 
+-- what two reaches share, across and upward
 abbrev pub met : Reach → Reach → Reach
 met r s = record { across = shared r.across s.across; upward = shared r.upward s.upward }
 
@@ -26,6 +29,7 @@ met r s = record { across = shared r.across s.across; upward = shared r.upward s
 abbrev pub endless : Interval
 endless = record { low = neg_ℤ (pos 700000000); high = pos 700000000 }
 
+-- the reach that no interval narrows
 abbrev pub anywhere : Reach
 anywhere = record { across = endless; upward = endless }
 

@@ -1,4 +1,4 @@
--- The plan of a subproblem whose spans have one place each.
+-- How the code goes, and nothing that the crate promises: the plan of a subproblem whose spans have one place each.
 use Rattle.std.specs.Prelude.{ℕ, slice_index_or}
 use Rattle.sf_model.specs.declared.design.Design.{Design}
 use Rattle.sf_model.specs.declared.parts.Shape.{Shape}

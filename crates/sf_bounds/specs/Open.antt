@@ -1,4 +1,4 @@
--- What the area and the wires of a subproblem cost that is not solved.
+-- How the code goes, and nothing that the crate promises: what the area and the wires of a subproblem cost.
 use Rattle.std.specs.Prelude.{◌≡◌, ℕ, ◌+◌, ◌*◌, ◌^◌, ◌<◌, ◌≤◌, Option, MatchOption}
 use Rattle.sf_model.specs.declared.design.Design.{Design}
 use Rattle.sf_model.specs.declared.TheConstants.{MAX}

@@ -1,4 +1,4 @@
--- How the pins of a net are read.
+-- How the code goes, and nothing that the crate promises: how the pins of a net are read.
 use Rattle.std.specs.Prelude.{◌≡◌, ℕ, ◌+◌, ◌*◌, ◌<◌, ◌≤◌, max, List, [], ◌∷◌, length, All, Bool, cond, ◌==◌, if◌then◌else◌, slice_index_or, true, fold, Option, Some, None, IfSome, pos, ◌-ℤ◌}
 use Rattle.sf_model.specs.declared.design.Design.{Design}
 use Rattle.sf_model.specs.declared.parts.Pin.{Pin}
@@ -22,6 +22,7 @@ use Rattle.sf_bounds.specs.Near.{IsNearby, met, anywhere, reach_gap}
 abbrev pub IsNet : Design → List Pin → Type 0
 IsNet design pins = All (λ p. pin_number p < pin_count (length design.blocks) (length design.pads) p) pins
 
+-- the extent of a block by its number in a list
 abbrev pub extent_from : List Extent → ℕ → Extent
 extent_from extents b = slice_index_or extents b (record { least_w = 0; most_w = 0; least_h = 0; most_h = 0 })
 
@@ -76,9 +77,11 @@ pub record IsReady (design : Design) (items : ℕ) (table : List Standing) : Typ
 abbrev pub IsReadable : Design → List Standing → Type 0
 IsReadable design table = (items : ℕ) × IsReady design items table
 
+-- the standing of a block by its number in a table
 abbrev pub standing_at : List Standing → ℕ → Standing
 standing_at table b = slice_index_or table b (record { side = 0; range = anywhere; home = None })
 
+-- where a pad lies, to the point
 abbrev pub pad_reach : Design → ℕ → Reach
 pad_reach design p = record { across = point (pad_at design p).x; upward = point (pad_at design p).y }
 
@@ -120,19 +123,23 @@ abbrev pub paired : Option ℕ → ℕ → ℕ → Pair
 paired None sum n = record { most = Some n; sum = sum }
 paired (Some m) sum n = record { most = Some (max m n); sum = max sum (m + n) }
 
+-- the pair before any side
 abbrev pub no_pair : Pair
 no_pair = record { most = None; sum = 0 }
 
+-- a pair with the lesser side of a pin's block; a pad has none
 abbrev pub pairs_pin : List Standing → Pair → Pin → Pair
 pairs_pin table q (pin.Block b) = paired q.most q.sum (standing_at table b).side
 pairs_pin table q (pin.Pad p) = q
 
--- what all pins share anywhere in the outline, the greatest sum of two sides, and what all share in the one item of a complete subproblem
+-- what all pins share anywhere in the outline
 abbrev pub shared_ranges : Design → List Standing → List Pin → Reach
 shared_ranges design table pins = fold (λ r p. met r (pin_range design table p)) anywhere pins
 
+-- the greatest sum of the lesser sides of two blocks at the pins
 abbrev pub paired_sides : List Standing → List Pin → Pair
 paired_sides table pins = fold (pairs_pin table) no_pair pins
 
+-- what all pins share in the one item of a complete subproblem
 abbrev pub shared_homes : Design → List Standing → List Pin → Reach
 shared_homes design table pins = fold (λ r p. narrowed r (pin_home design table true p)) anywhere pins

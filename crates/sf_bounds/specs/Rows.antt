@@ -1,4 +1,4 @@
--- What is kept of the nets that count along a path of tokens whose spans are whole.
+-- How the code goes, and nothing that the crate promises: what is kept of the nets that count along a path of tokens whose spans are whole.
 use Rattle.std.specs.Prelude.{◌≡◌, ℕ, ◌+◌, ◌*◌, ◌-◌, ◌<◌, ◌≤◌, max, List, [], ◌∷◌, ◌++◌, length, map, take, filter, fold, sum_by, All, AllPairs, true, false, nat_lt, if◌then◌else◌, pos, ◌+ℤ◌, int_lt, Option, Some, IfSome, slice_index_or}
 use Rattle.std.specs.List.{range_with_len}
 use Rattle.sf_model.specs.declared.design.Design.{Design}
@@ -43,6 +43,7 @@ counted pins = if nat_lt (length pins) 2 then [] else pins
 abbrev pub of_weight : List Net → List Net
 of_weight nets = filter (λ n. nat_lt 0 n.weight) nets
 
+-- those of a design
 abbrev pub weighed_nets : Design → List Net
 weighed_nets design = of_weight design.nets
 
@@ -64,11 +65,12 @@ row extent item pins =
     let os = of_pins pins (offsets extent item) in
     record { across = fold shared endless (map (offset_x extent) os); upward = fold shared endless (map (offset_y extent) os) }
 
--- what the pads share
+-- a reach narrowed by a pin, where that is a pad
 abbrev pub with_pad : Design → Reach → Pin → Reach
 with_pad design r (pin.Block b) = r
 with_pad design r (pin.Pad p) = met r (pad_reach design p)
 
+-- what all pads at the pins share
 abbrev pub pads_share : Design → List Pin → Reach
 pads_share design pins = fold (with_pad design) anywhere pins
 
@@ -84,6 +86,7 @@ own_reach pins b e = if contains_pin b pins then (record { across = record { low
 abbrev pub pushed : ℕ → ℕ → Interval → Interval
 pushed least most i = if int_lt i.low (pos 0) then i else (record { low = i.low +ℤ pos (2 * least); high = i.high +ℤ pos (2 * most) })
 
+-- a reach that an item to the left, or one below, moves
 abbrev pub pushed_reach : Direction → Extent → Reach → Reach
 pushed_reach way.Beside e r = record r { across = pushed e.least_w e.most_w r.across }
 pushed_reach way.Above e r = record r { upward = pushed e.least_h e.most_h r.upward }
@@ -98,6 +101,7 @@ cell_of d e left right under =
     let reach = joined_reach d e left.reach right.reach in
     record { reach = reach; part = max under.part (reach_gap reach); hull = max under.hull (reach_gap reach) }
 
+-- the cell at a place
 abbrev pub cell_at : List Cell → ℕ → Cell
 cell_at cells i = slice_index_or cells i (record { reach = anywhere; part = 0; hull = 0 })
 
@@ -105,6 +109,7 @@ cell_at cells i = slice_index_or cells i (record { reach = anywhere; part = 0; h
 abbrev pub joined_cell : List Cell → Direction → Extent → ℕ → ℕ → ℕ → ℕ → Cell
 joined_cell cells d e left right under j = cell_of d e (cell_at cells (left + j)) (cell_at cells (right + j)) (cell_at cells (under + j))
 
+-- the cell of a net in the row of a block that is an item by itself
 abbrev pub block_cell : ℕ → Extent → Net → Cell
 block_cell b e net = record { reach = own_reach (counted net.pins) b e; part = 0; hull = 0 }
 
@@ -199,6 +204,7 @@ pub record IsNetFrame (design : Design) (tokens : List Token) (cells : List Cell
   pub after : first ≤ f.end
   pub end : f.end ≤ length cells
 
+-- the token of a frame
 abbrev pub token_of : NetFrame → Token
 token_of f = f.token
 
@@ -222,9 +228,11 @@ pub record AreKept (design : Design) (tokens : List Token) (nets : Nets) : Type 
   pub pairs : nets.pairs ≡ wires_by design (root design) Pair
   pub stored : AreStored design tokens nets.cells.items nets.blocks.items nets.start nets.frames.items
 
+-- those of the kept path
 abbrev pub tokens_of : Nets → List Token
 tokens_of nets = map token_of nets.frames.items
 
+-- nothing is kept yet, or all that belongs to the kept path
 abbrev pub AreKeptOrNone : Design → Option Nets → Type 0
 AreKeptOrNone design kept = IfSome kept (λ nets. AreKept design (tokens_of nets) nets)
 
@@ -240,6 +248,7 @@ abbrev pub IsEnding : Parts → Ending → Type 0
 IsEnding node Open = is_complete node ≡ false
 IsEnding node (Joined d) = (is_complete node ≡ true) × IsNext node.tokens (length node.tokens - 1) (token_in d)
 
+-- how many tokens have frames
 abbrev pub framed : Ending → List Token → ℕ
 framed Open tokens = length tokens
 framed (Joined d) tokens = length tokens - 1

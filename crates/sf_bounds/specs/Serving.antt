@@ -1,4 +1,4 @@
--- The design that a room serves.
+-- What every call asks of its room: the design that it serves.
 use Rattle.std.specs.Prelude.{◌≡◌, Option, IfSome}
 use Rattle.sf_model.specs.declared.design.Design.{Design}
 
