@@ -200,7 +200,7 @@ fn area_value<'a>(room: &mut Room<'a>, design: &'a Design, node: &Node) -> Resul
 /// What the area and the wires cost by one part alone, or the mark of no cost. It stands apart, so that a
 /// leaf which asks for the area alone pays nothing for what the wires need.
 #[inline(never)]
-fn wired_value<'a>(
+pub fn wired_value<'a>(
     room: &mut Room<'a>,
     design: &'a Design,
     node: &Node,
