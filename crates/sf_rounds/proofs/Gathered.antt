@@ -14,6 +14,7 @@ use Rattle.sf_rounds.specs.declared.job.Gathering.{Gathering}
 use Rattle.sf_rounds.specs.Jobs.{Gathers, Adds, place_of, log_of, open_of}
 
 module _ {T : Type 0} where
+  -- what one worker adds is gathered behind what the others left
   pub gathers-one_more : (design : Design) (js : List (Job T)) (j : Job T) (seat0 old new : Knows) (a b : Gathering T)
       → Gathers design js seat0 old a.places.items a.entries.items a.left.items a.best → Adds design j old new a b
       → Gathers design (js ++ j ∷ []) seat0 new b.places.items b.entries.items b.left.items b.best

@@ -66,7 +66,8 @@ pub fn both(one: Cut, other: Cut) -> Result<Cut, NoMemory>
 
 /// Cuts the marks of entries, list by list.
 fn cut_lists(alloc: Global, lists: Vec<EntryList>, path: &[Step]) -> Result<Cut, NoMemory>
-    ensures cut { IfOk result (λ c. AreCut path.now (given_marks (flat lists.items) []) c.before.items c.others.items) }
+    ensures cut { IfOk result
+        (λ c. AreCut path.now (given_marks (flat lists.items) []) c.before.items c.others.items) }
 {
     let mut all = Cut {
         before: Vec::new(alloc),
@@ -90,7 +91,8 @@ pub fn cut_lists_by<R: Threads + Sync>(
     path: &[Step],
     threads: usize,
 ) -> Result<Cut, NoMemory>
-    ensures cut { IfOk result (λ c. AreCut path.now (given_marks (flat lists.items) []) c.before.items c.others.items) }
+    ensures cut { IfOk result
+        (λ c. AreCut path.now (given_marks (flat lists.items) []) c.before.items c.others.items) }
 {
     if threads < 2 {
         return cut_lists(alloc, lists, path);
@@ -100,11 +102,13 @@ pub fn cut_lists_by<R: Threads + Sync>(
     let more = threads - few;
     let front = move || -> Result<Cut, NoMemory>
         requires { IsSync R.row }
-        ensures { IfOk result (λ c. AreCut path.entry.now (given_marks (flat lists.items) []) c.before.items c.others.items) }
+        ensures { IfOk result
+            (λ c. AreCut path.entry.now (given_marks (flat lists.items) []) c.before.items c.others.items) }
     { cut_lists_by(rt, alloc, lists, path, few) };
     let back = move || -> Result<Cut, NoMemory>
         requires { IsSync R.row }
-        ensures { IfOk result (λ c. AreCut path.entry.now (given_marks (flat rest.items) []) c.before.items c.others.items) }
+        ensures { IfOk result
+            (λ c. AreCut path.entry.now (given_marks (flat rest.items) []) c.before.items c.others.items) }
     { cut_lists_by(rt, alloc, rest, path, more) };
     let (first, second) = join(rt, front, back);
     let one = first?;
@@ -125,7 +129,8 @@ pub fn middle(alloc: Global, marks: &[Mark]) -> Result<Vec<Step>, NoMemory> {
     median(alloc, paths)
 }
 
-/// A path in the middle of the entries, of which there are so many, by a few of them.
+/// A path in the middle of the entries, of which there are so many, by a few of them: one of each list that
+/// is long, or that ends some lists which are long together.
 pub fn middle_of_lists(
     alloc: Global,
     lists: &[EntryList],
@@ -133,10 +138,16 @@ pub fn middle_of_lists(
 ) -> Result<Vec<Step>, NoMemory> {
     let stride = (count as usize / SAMPLE).max(1);
     let mut paths: Vec<&[Step]> = Vec::new(alloc);
+    let mut passed: usize = 0;
     for entries in lists {
-        for piece in entries.as_slice().chunks(stride) {
-            if let Some(entry) = piece.get(stride / 2) {
-                paths.push(entry.node.steps())?;
+        let entries = entries.as_slice();
+        passed = passed.saturating_add(entries.len());
+        if passed >= stride {
+            passed = 0;
+            for piece in entries.chunks(stride) {
+                if let Some(entry) = piece.get(piece.len() / 2) {
+                    paths.push(entry.node.steps())?;
+                }
             }
         }
     }

@@ -24,11 +24,13 @@ pub fn gather<'a, T: Served>(
 ) -> Result<Gathering<T>, NoMemory>
     requires seat { (seat.old.word ≡ word.now.id) × (seat.old.offered ≡ MAX) }
     requires done { All (IsDone design.now word.now) jobs.items }
-    ensures { IfOk result (λ r. Gathers design.now jobs.entry.items seat.old seat.new r.places.items r.entries.items r.left.items r.best) }
+    ensures { IfOk result
+        (λ r. Gathers design.now jobs.entry.items seat.old seat.new r.places.items r.entries.items
+        r.left.items r.best) }
 {
     let mut all = Gathering {
         places: Vec::new(alloc),
-        entries: Vec::new(alloc),
+        entries: Vec::with_capacity(alloc, count_of(&jobs))?,
         left: Vec::new(alloc),
         best: None,
     };
@@ -36,6 +38,15 @@ pub fn gather<'a, T: Served>(
         add(&mut all, design, word, seat, job)?;
     }
     Ok(all)
+}
+
+/// How many entries the workers have.
+fn count_of<T: Served>(jobs: &[Job<'_, T>]) -> usize {
+    let mut count: usize = 0;
+    for job in jobs {
+        count = count.saturating_add(job.state.log.len());
+    }
+    count
 }
 
 /// Adds what one worker leaves.
@@ -87,7 +98,8 @@ fn keep(left: &mut Vec<Task>, first: Option<Task>) -> Result<(), NoMemory>
 
 /// The cheaper of two plans, where there are two.
 fn better(one: Option<(Expr, u64)>, other: Option<(Expr, u64)>) -> Option<(Expr, u64)>
-    ensures { (design : DesignValue) (a b : ℕ) → IsBest design one a → IsBest design other b → IsBest design result (min a b) }
+    ensures { (design : DesignValue) (a b : ℕ) → IsBest design one a → IsBest design other b
+        → IsBest design result (min a b) }
 {
     match (one, other) {
         (None, other) => other,

@@ -1,5 +1,5 @@
-//! The tags of what several workers decided, in preorder. The marks are cut in two by a path until there are as many parts
-//! as threads, and each part is put in order, named and given back in a thread of its own.
+//! The tags of what several workers decided, in preorder. The marks are cut in two by a path until there are
+//! as many parts as threads, and each part is put in order, named and given back in a thread of its own.
 
 ghost use Rattle.std.specs.Prelude.{◌≡◌, ◌≤◌, map, List, All, IfOk};
 ghost use Rattle.sf_certificate.specs.declared.mark.Mark.{Mark as MarkValue};
@@ -20,8 +20,8 @@ use std::thread::{Threads, join};
 /// How many marks are worth a thread of their own.
 const FEW: usize = 2048;
 
-/// The tags of the marks in preorder, by so many threads. Each closed one names the first part of the bound that is at
-/// least the cost.
+/// The tags of the marks in preorder, by so many threads. Each closed one names the first part of the bound
+/// that is at least the cost.
 #[cycle(parts)]
 fn tags_in_order<R: Threads + Sync, B: Bounds>(
     rt: &R,
@@ -33,7 +33,8 @@ fn tags_in_order<R: Threads + Sync, B: Bounds>(
     threads: usize,
 ) -> Result<Vec<Tag>, NoMemory>
     requires subproblems { All (λ m. IsSubproblem design.now m.node) marks.items }
-    ensures in_order { IfOk result (λ tags. AreInOrder (B.part_value bounds.now design.now) cost marks.items tags.items) }
+    ensures in_order { IfOk result
+        (λ tags. AreInOrder (B.part_value bounds.now design.now) cost marks.items tags.items) }
 {
     if threads < 2 || marks.len() < FEW {
         return tags_of_part(alloc, design, bounds, cost, marks);
@@ -58,18 +59,24 @@ pub fn tags_of_both<R: Threads + Sync, B: Bounds>(
     requires threads { 2 ≤ threads }
     requires before { All (λ m. IsSubproblem design.now m.node) parts.before.items }
     requires others { All (λ m. IsSubproblem design.now m.node) parts.others.items }
-    ensures in_order { IfOk result (λ tags. (path : List Step) (marks : List MarkValue) → AreCut path marks parts.before.items parts.others.items → AreInOrder (B.part_value bounds.now design.now) cost marks tags.items) }
+    ensures in_order { IfOk result (λ tags. (path : List Step) (marks : List MarkValue)
+        → AreCut path marks parts.before.items parts.others.items
+        → AreInOrder (B.part_value bounds.now design.now) cost marks tags.items) }
 {
     let Cut { before, others } = parts;
     let few = threads / 2;
     let more = threads - few;
     let front = move || -> Result<Vec<Tag>, NoMemory>
         requires { IsSync R.row × IsSync B.row × All (λ m. IsSubproblem design.now m.node) before.items }
-        ensures { IfOk result (λ tags. AreInOrder (B.part_value bounds.entry.now design.entry.now) cost before.items tags.items) }
+        ensures { IfOk result
+            (λ tags. AreInOrder
+            (B.part_value bounds.entry.now design.entry.now) cost before.items tags.items) }
     { tags_in_order(rt, alloc, design, bounds, cost, before, few) };
     let back = move || -> Result<Vec<Tag>, NoMemory>
         requires { IsSync R.row × IsSync B.row × All (λ m. IsSubproblem design.now m.node) others.items }
-        ensures { IfOk result (λ tags. AreInOrder (B.part_value bounds.entry.now design.entry.now) cost others.items tags.items) }
+        ensures { IfOk result
+            (λ tags. AreInOrder
+            (B.part_value bounds.entry.now design.entry.now) cost others.items tags.items) }
     { tags_in_order(rt, alloc, design, bounds, cost, others, more) };
     let (first, second) = join(rt, front, back);
     let mut tags = first?;
@@ -87,23 +94,26 @@ fn tags_of_part<B: Bounds>(
     mut marks: Vec<Mark>,
 ) -> Result<Vec<Tag>, NoMemory>
     requires subproblems { All (λ m. IsSubproblem design.now m.node) marks.items }
-    ensures in_order { IfOk result (λ tags. AreInOrder (B.part_value bounds.now design.now) cost marks.items tags.items) }
+    ensures in_order { IfOk result
+        (λ tags. AreInOrder (B.part_value bounds.now design.now) cost marks.items tags.items) }
 {
     sort_marks(alloc, &mut marks)?;
-    let tags = name_marks(alloc, design, bounds, cost, &marks)?;
+    let tags = name_marks(alloc, design, bounds, cost, marks)?;
     Ok(tags)
 }
 
-/// The tags of the marks, named.
+/// The tags of the marks, named. Each mark is given back once it is named.
 fn name_marks<B: Bounds>(
     alloc: Global,
     design: &Design,
     bounds: &B,
     cost: u64,
-    marks: &[Mark],
+    marks: Vec<Mark>,
 ) -> Result<Vec<Tag>, NoMemory>
-    requires subproblems { All (λ m. IsSubproblem design.now m.node) marks.now }
-    ensures tags { IfOk result (λ tags. tags.items ≡ map (λ m. named (B.part_value bounds.now design.now m.node) cost m.tag) marks.now) }
+    requires subproblems { All (λ m. IsSubproblem design.now m.node) marks.items }
+    ensures tags { IfOk result
+        (λ tags. tags.items ≡ map
+        (λ m. named (B.part_value bounds.now design.now m.node) cost m.tag) marks.items) }
 {
     let mut room = Room::new(alloc);
     let mut tags = Vec::with_capacity(alloc, marks.len())?;
@@ -124,7 +134,8 @@ fn name_mark<'a, B: Bounds>(
 ) -> Result<Tag, NoMemory>
     requires subproblem { IsSubproblem design.now mark.now.node }
     requires serves { MayServe room.old design.now }
-    ensures tag { IfOk result (λ tag. tag ≡ named (B.part_value bounds.now design.now mark.now.node) cost mark.now.tag) }
+    ensures tag { IfOk result
+        (λ tag. tag ≡ named (B.part_value bounds.now design.now mark.now.node) cost mark.now.tag) }
     ensures serves { MayServe room.new design.now }
 {
     match mark.tag {

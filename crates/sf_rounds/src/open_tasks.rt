@@ -1,13 +1,16 @@
 //! The open tasks between rounds.
 
-ghost use Rattle.std.specs.Prelude.{◌≡◌, ◌==◌, ◌<◌, ◌≤◌, ◌∷◌, ◌++◌, [], length, map, slice_index, All, IfOk, IfSome, OnOk, MatchOption, IsPermutation};
+ghost use Rattle.std.specs.Prelude.{◌≡◌, ◌==◌, ◌<◌, ◌≤◌, ◌∷◌, ◌++◌, [], length, map, slice_index, All, IfOk};
+ghost use Rattle.std.specs.Prelude.{IfSome, OnOk, MatchOption, IsPermutation};
 
+use sf_certificate::compare_steps;
 use sf_node::Task;
 use std::alloc::{AllocError as NoMemory, Global};
+use std::cmp::Ordering;
 use std::marker::Model;
 
-/// The open tasks between rounds, in the order in which a worker alone comes to them, the first one last. Contracts see
-/// them as a list.
+/// The open tasks between rounds, in the order in which a worker alone comes to them, the first one last.
+/// Contracts see them as a list.
 #[derive(Drop)]
 pub struct OpenTasks {
     tasks: Vec<Task>,
@@ -37,12 +40,12 @@ impl OpenTasks {
         self.tasks.is_empty()
     }
 
-    /// Puts tasks where the first of them belongs: between two of the others there is no room for some of them alone, since
-    /// they come from subproblems that were among these.
+    /// Puts tasks where the first of them belongs: between two of the others there is no room for some of
+    /// them alone, since they come from subproblems that were among these.
     pub fn append(&mut self, mut tasks: Vec<Task>) -> Result<(), NoMemory>
         ensures { OnOk result (IsPermutation (self.old ++ tasks.items) self.new) }
     {
-        tasks.sort_by(|one, other| other.node.steps().cmp(one.node.steps()))?;
+        tasks.sort_by(|one, other| compare_steps(other.node.steps(), one.node.steps()))?;
         let at = place_before(&self.tasks, &tasks);
         let mut after = self.tasks.split_off(at)?;
         self.tasks.append(&mut tasks)?;
@@ -52,7 +55,8 @@ impl OpenTasks {
 
     /// Takes a task of the least bound, of several the one that comes first.
     pub fn take_least(&mut self) -> Option<Task>
-        ensures taken { MatchOption result ((self.old ≡ []) × (self.new ≡ [])) (λ t. IsPermutation self.old (t ∷ self.new)) }
+        ensures taken { MatchOption result ((self.old ≡ []) × (self.new ≡ []))
+            (λ t. IsPermutation self.old (t ∷ self.new)) }
         ensures least { IfSome result (λ t. All (λ u. t.bound ≤ u.bound) self.old) }
     {
         if self.tasks.is_empty() {
@@ -62,8 +66,8 @@ impl OpenTasks {
         Some(self.tasks.remove(place))
     }
 
-    /// Takes the tasks that come first: so many whose bounds are below the value, with the others among them, and `most` in
-    /// all.
+    /// Takes the tasks that come first: so many whose bounds are below the value, with the others among them,
+    /// and `most` in all.
     pub fn take(
         &mut self,
         alloc: Global,
@@ -99,12 +103,17 @@ impl OpenTasks {
     }
 }
 
+/// Whether a task comes after another one.
+fn comes_after(task: &Task, other: &Task) -> bool {
+    compare_steps(task.node.steps(), other.node.steps()) == Ordering::Greater
+}
+
 /// How many of the tasks come after the first of the others.
 fn place_before(tasks: &[Task], others: &[Task]) -> usize
     ensures { result ≤ length tasks.now }
 {
     match others.first() {
-        Some(first) => tasks.partition_point(|task| task.node.steps() > first.node.steps()),
+        Some(first) => tasks.partition_point(|task| comes_after(task, first)),
         None => tasks.len(),
     }
 }
