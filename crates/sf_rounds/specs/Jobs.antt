@@ -24,14 +24,17 @@ EachTwo R [] (y ∷ ys) = ⊥
 EachTwo R (x ∷ xs) [] = ⊥
 EachTwo R (x ∷ xs) (y ∷ ys) = R x y × EachTwo R xs ys
 
+-- the task, or none
 abbrev pub as_list : Option Task → List Task
 as_list (Some t) = t ∷ []
 as_list None = []
 
 module _ {T : Type 0} where
+  -- the place of a worker: its deque, and where it steals
   abbrev pub place_of : Job T → Place T
   place_of j = j.state.place
 
+  -- what a worker decided
   abbrev pub log_of : Job T → List Entry
   log_of j = j.state.log.items
 

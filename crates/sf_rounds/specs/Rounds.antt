@@ -10,6 +10,7 @@ use Rattle.sf_search_core.specs.Conserved.{IsConserved}
 use Rattle.sf_worker.specs.Tasks.{IsTask, IsPlan, IsEntry, Solves}
 use Rattle.sf_rounds.specs.declared.job.RoundOut.{RoundOut}
 
+-- the subproblems of the tasks
 abbrev pub nodes : List Task → List Parts
 nodes ts = map (λ (t : Task). t.node) ts
 
@@ -20,6 +21,7 @@ pub record IsLeast (design : Design) (bound : Parts → ℕ) (before after : ℕ
   pub below : All (λ (e : Entry). e.kind ≡ Closed → IsTrue (is_solved design e.node) → after ≤ bound e.node) entries
   pub is : (after ≡ before) ⊎ Any (Solves design bound after) entries
 
+-- what a round leaves of the tasks that it was given: no more are decided than the quotas allow, the others and the children are left, the value is the least cost that was handed in or found, and each worker whose quota is not 0 decides its first task
 pub record IsRound (design : Design) (bound : Parts → ℕ) (given : List Task) (quotas : List ℕ) (value : ℕ) (r : RoundOut) : Type 0 where
   pub conserved : IsConserved bound (nodes given) r.entries (nodes r.left)
   pub left : All (IsTask design bound) r.left

@@ -21,8 +21,8 @@ use std::thread::Threads;
 /// From how many entries on their marks are shared out among threads.
 const MANY: u64 = 4096;
 
-/// The certificate of a search: the tree of its entries and open tasks, in which each closed subproblem names the first part
-/// of the bound that is at least the cost.
+/// The certificate of a search: the tree of its entries and open tasks, in which each closed subproblem names
+/// the first part of the bound that is at least the cost.
 pub fn certify<R: Threads + Sync, B: Bounds>(
     rt: &R,
     alloc: Global,
@@ -36,8 +36,11 @@ pub fn certify<R: Threads + Sync, B: Bounds>(
     cost: u64,
 ) -> Result<Cert, NoMemory>
     requires threads { 2 ≤ threads }
-    requires outcome { IsOutcome design.now (B.Values.value bounds.now design.now) entries left.items plan cost }
-    ensures certified { IfOk result (IsCertified design.now (B.Values.value bounds.now design.now) (B.part_value bounds.now design.now) entries left.items plan cost) }
+    requires outcome { IsOutcome design.now
+        (B.Values.value bounds.now design.now) entries left.items plan cost }
+    ensures certified { IfOk result
+        (IsCertified design.now (B.Values.value bounds.now design.now)
+        (B.part_value bounds.now design.now) entries left.items plan cost) }
 {
     if decided < MANY {
         merge_and_name(alloc, design, bounds, entries, left, plan, cost)
@@ -58,8 +61,11 @@ fn merge_and_name<B: Bounds>(
     plan: Option<Expr>,
     cost: u64,
 ) -> Result<Cert, NoMemory>
-    requires outcome { IsOutcome design.now (B.Values.value bounds.now design.now) entries left.items plan cost }
-    ensures certified { IfOk result (IsCertified design.now (B.Values.value bounds.now design.now) (B.part_value bounds.now design.now) entries left.items plan cost) }
+    requires outcome { IsOutcome design.now
+        (B.Values.value bounds.now design.now) entries left.items plan cost }
+    ensures certified { IfOk result
+        (IsCertified design.now (B.Values.value bounds.now design.now)
+        (B.part_value bounds.now design.now) entries left.items plan cost) }
 {
     let entries = entries.into_vec(alloc)?;
     let merged = merge(alloc, design, entries, left, plan, cost, bounds)?;
@@ -81,8 +87,11 @@ fn share_out<R: Threads + Sync, B: Bounds>(
     cost: u64,
 ) -> Result<Cert, NoMemory>
     requires threads { 2 ≤ threads }
-    requires outcome { IsOutcome design.now (B.Values.value bounds.now design.now) entries left.items plan cost }
-    ensures certified { IfOk result (IsCertified design.now (B.Values.value bounds.now design.now) (B.part_value bounds.now design.now) entries left.items plan cost) }
+    requires outcome { IsOutcome design.now
+        (B.Values.value bounds.now design.now) entries left.items plan cost }
+    ensures certified { IfOk result
+        (IsCertified design.now (B.Values.value bounds.now design.now)
+        (B.part_value bounds.now design.now) entries left.items plan cost) }
 {
     let bound = least_bound(cost, &left);
     let lists = entries.into_lists();
@@ -109,7 +118,8 @@ fn cut_all<R: Threads + Sync>(
     path: &[Step],
     threads: usize,
 ) -> Result<Cut, NoMemory>
-    ensures cut { IfOk result (λ c. AreCut path.now (given_marks (flat lists.items) left.items) c.before.items c.others.items) }
+    ensures cut { IfOk result
+        (λ c. AreCut path.now (given_marks (flat lists.items) left.items) c.before.items c.others.items) }
 {
     let decided = cut_lists_by(rt, alloc, lists, path, threads)?;
     let none = Vec::new(alloc);

@@ -15,7 +15,8 @@ use sf_node::Task;
 use sf_worker::{PassEnd, WorkerState};
 use std::alloc::{AllocError as NoMemory, Global};
 
-/// Task i goes to worker i modulo their number: the first of each stands apart, and the others are put into its deque.
+/// Task i goes to worker i modulo their number: the first of each stands apart, and the others are put into
+/// its deque.
 pub fn deal<'a, T: Served, B: Bounds>(
     alloc: Global,
     design: &Design,
@@ -31,7 +32,9 @@ pub fn deal<'a, T: Served, B: Bounds>(
     requires new { All IsNewPlace places.items }
     requires seat { (seat.old.word ≡ word.now.id) × (seat.old.parts ≡ length quotas.now + 1) }
     requires tasks { All (IsTask design.now (B.Values.value bounds.now design.now)) tasks.items }
-    ensures dealt { IfOk result (λ jobs. Dealt design.now (B.Values.value bounds.now design.now) seat.old.seen word.now tasks.items quotas.now jobs.items) }
+    ensures dealt { IfOk result
+        (λ jobs. Dealt design.now
+        (B.Values.value bounds.now design.now) seat.old.seen word.now tasks.items quotas.now jobs.items) }
     ensures seat { IfOk result (λ _. seat.new ≡ record seat.old { parts = 1 }) }
 {
     tasks.reverse();
@@ -52,8 +55,11 @@ fn seated<'a, T: Served>(
 ) -> Result<Vec<Job<'a, T>>, NoMemory>
     requires quotas { length places.items ≡ length quotas.now }
     requires seat { (seat.old.word ≡ word.now.id) × (seat.old.parts ≡ length quotas.now + 1) }
-    ensures seated { IfOk result (λ jobs. IsSeated seat.old.seen word.now (reverse tasks.old.items) quotas.now places.items jobs.items) }
-    ensures left { IfOk result (λ _. reverse tasks.new.items ≡ drop (length quotas.now) (reverse tasks.old.items)) }
+    ensures seated { IfOk result
+        (λ jobs. IsSeated seat.old.seen word.now
+        (reverse tasks.old.items) quotas.now places.items jobs.items) }
+    ensures left { IfOk result
+        (λ _. reverse tasks.new.items ≡ drop (length quotas.now) (reverse tasks.old.items)) }
     ensures seat { IfOk result (λ _. seat.new ≡ record seat.old { parts = 1 }) }
 {
     let mut jobs = Vec::new(alloc);
@@ -77,8 +83,8 @@ fn seated<'a, T: Served>(
     Ok(jobs)
 }
 
-/// Puts the tasks into the deques of the workers, task i into that of worker i modulo their number. The last task is put
-/// first, so that an owner takes the first of its tasks first.
+/// Puts the tasks into the deques of the workers, task i into that of worker i modulo their number. The last
+/// task is put first, so that an owner takes the first of its tasks first.
 fn hand_out<'a, T: Served, B: Bounds>(
     design: &Design,
     bounds: &B,

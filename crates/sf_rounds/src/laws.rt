@@ -14,13 +14,16 @@ ghost use Rattle.sf_rounds.specs.Found.{IsCertOf};
 use sf_bounds::laws::solved_plans_are_one;
 use sf_certificate::{first_parts_are_one, full_parts_close, trees_are_one};
 
-/// A state has one certificate that names the first parts. So with one worker the certificate and its plan follow from the
-/// design, the bound with its parts and the budget, whatever the machine does.
+/// A state has one certificate that names the first parts. So with one worker the certificate and its plan
+/// follow from the design, the bound with its parts and the budget, whatever the machine does.
 pub fn certificates_are_one()
-    ensures { (design : Design) (bound : Parts → ℕ) (part : Parts → Part → ℕ) (state : State) (first second : Cert)
-        → ArePartsOf design bound part → IsValid design bound part first → IsValid design bound part second → first.blocks ≡ second.blocks
+    ensures { (design : Design) (bound : Parts → ℕ) (part : Parts → Part → ℕ) (state : State)
+        (first second : Cert)
+        → ArePartsOf design bound part → IsValid design bound part first → IsValid design bound part second
+        → first.blocks ≡ second.blocks
         → IsCertOf design state first → IsCertOf design state second
-        → AllNameFirst design part first.cost first.tags → AllNameFirst design part second.cost second.tags → first ≡ second }
+        → AllNameFirst design part first.cost first.tags → AllNameFirst design part second.cost second.tags
+        → first ≡ second }
 {
     trees_are_one();
     full_parts_close();

@@ -1,6 +1,7 @@
 //! The search by several workers: one decision in the caller and one round, in turn.
 
-ghost use Rattle.std.specs.Prelude.{◌≡◌, ◌<◌, ◌≤◌, ◌+◌, ◌++◌, ◌∷◌, [], length, sum, IfOk, MatchOption, IsPermutation, All};
+ghost use Rattle.std.specs.Prelude.{◌≡◌, ◌<◌, ◌≤◌, ◌+◌, ◌++◌, ◌∷◌, [], length, sum, IfOk, MatchOption};
+ghost use Rattle.std.specs.Prelude.{IsPermutation, All};
 ghost use Rattle.sf_worker.specs.Tasks.{IsTask};
 ghost use Rattle.sf_bounds.specs.Serving.{MayServe};
 ghost use Rattle.sf_rounds.specs.Rounds.{IsRound};
@@ -26,7 +27,8 @@ const MOST: u64 = 1024;
 /// How many open tasks that may be extended a round is handed for each worker.
 const FEW: usize = 64;
 
-/// The open tasks and the entries, how many decisions are left, the least cost found, and a plan that costs it.
+/// The open tasks and the entries, how many decisions are left, the least cost found, and a plan that costs
+/// it.
 #[derive(Drop)]
 pub struct Progress {
     pub open_tasks: OpenTasks,
@@ -81,7 +83,8 @@ fn one(
     best: Option<Expr>,
     left: Vec<Task>,
 ) -> Result<RoundOut, NoMemory>
-    ensures { IfOk result (λ r. IsOne (record { node = task.node; kind = kind; value = value }) left.items best r) }
+    ensures { IfOk result
+        (λ r. IsOne (record { node = task.node; kind = kind; value = value }) left.items best r) }
 {
     let mut entries = Vec::new(alloc);
     entries.push(Entry {
@@ -108,7 +111,8 @@ fn decide_one<'a, B: Bounds>(
 ) -> Result<RoundOut, NoMemory>
     requires task { IsTask design.now (B.Values.value bounds.now design.now) task }
     requires serves { MayServe room.old design.now }
-    ensures round { IfOk result (λ r. IsRound design.now (B.Values.value bounds.now design.now) (task ∷ []) (1 ∷ []) value r) }
+    ensures round { IfOk result
+        (λ r. IsRound design.now (B.Values.value bounds.now design.now) (task ∷ []) (1 ∷ []) value r) }
     ensures serves { MayServe room.new design.now }
 {
     match decide(design, bounds, room, &task, value)? {
@@ -135,7 +139,9 @@ fn begin<'a, B: Bounds>(
     room: &mut Room<'a>,
 ) -> Result<Progress, NoMemory>
     requires serves { MayServe room.old design.now }
-    ensures search { IfOk result (λ p. IsSearch design.now (B.Values.value bounds.now design.now) p.open_tasks p.entries p.value p.best) }
+    ensures search { IfOk result
+        (λ p. IsSearch design.now
+        (B.Values.value bounds.now design.now) p.open_tasks p.entries p.value p.best) }
     ensures none { IfOk result (λ p. p.entries ≡ []) }
     ensures left { IfOk result (λ p. p.left ≡ nodes) }
     ensures serves { MayServe room.new design.now }
@@ -162,11 +168,16 @@ fn decide_least<'a, B: Bounds>(
     bounds: &B,
     room: &mut Room<'a>,
 ) -> Result<(), NoMemory>
-    requires search { IsSearch design.now (B.Values.value bounds.now design.now) progress.old.open_tasks progress.old.entries progress.old.value progress.old.best }
+    requires search { IsSearch design.now
+        (B.Values.value bounds.now design.now) progress.old.open_tasks progress.old.entries progress.old.value
+        progress.old.best }
     requires some { 0 < length progress.old.open_tasks }
     requires left { 0 < progress.old.left }
     requires serves { MayServe room.old design.now }
-    ensures search { IfOk result (λ _. IsSearch design.now (B.Values.value bounds.now design.now) progress.new.open_tasks progress.new.entries progress.new.value progress.new.best) }
+    ensures search { IfOk result
+        (λ _. IsSearch design.now
+        (B.Values.value bounds.now design.now) progress.new.open_tasks progress.new.entries progress.new.value
+        progress.new.best) }
     ensures one_more { IfOk result (λ _. length progress.new.entries ≡ length progress.old.entries + 1) }
     ensures one_less { IfOk result (λ _. progress.new.left + 1 ≡ progress.old.left) }
     ensures serves { MayServe room.new design.now }
@@ -184,14 +195,14 @@ fn chain(design: &Design) -> u64 {
     (design.blocks.as_slice().len() as u64).saturating_mul(2)
 }
 
-/// How many subproblems a worker may decide in the next round, after so many. The first rounds are short, so that the
-/// workers stay near where one alone would be.
+/// How many subproblems a worker may decide in the next round, after so many. The first rounds are short, so
+/// that the workers stay near where one alone would be.
 fn longest(decided: u64, design: &Design) -> u64 {
     decided.max(chain(design)).min(MOST)
 }
 
-/// How many tasks that may be extended a round is handed: one alone while no plan is known and no worker's share of the
-/// budget is a whole chain.
+/// How many tasks that may be extended a round is handed: one alone while no plan is known and no worker's
+/// share of the budget is a whole chain.
 fn handed(progress: &Progress, design: &Design, workers: u16) -> usize {
     let workers = workers.max(1);
     if progress.best.is_none() && progress.left / u64::from(workers) < chain(design) {
@@ -200,7 +211,8 @@ fn handed(progress: &Progress, design: &Design, workers: u16) -> usize {
     FEW * usize::from(workers)
 }
 
-/// Runs one round of so many workers on the open tasks to which a worker alone would come first, after so many decisions.
+/// Runs one round of so many workers on the open tasks to which a worker alone would come first, after so
+/// many decisions.
 fn run_round<R: Threads + Sync, B: Bounds, G: Gate>(
     rt: &R,
     alloc: Global,
@@ -211,10 +223,17 @@ fn run_round<R: Threads + Sync, B: Bounds, G: Gate>(
     decided: u64,
     gate: &G,
 ) -> Result<(), NoMemory>
-    requires search { IsSearch design.now (B.Values.value bounds.now design.now) progress.old.open_tasks progress.old.entries progress.old.value progress.old.best }
+    requires search { IsSearch design.now
+        (B.Values.value bounds.now design.now) progress.old.open_tasks progress.old.entries progress.old.value
+        progress.old.best }
     requires workers { (1 ≤ workers) × (workers ≤ 16) }
-    ensures search { IfOk result (λ _. IsSearch design.now (B.Values.value bounds.now design.now) progress.new.open_tasks progress.new.entries progress.new.value progress.new.best) }
-    ensures spent { IfOk result (λ _. length progress.new.entries + progress.new.left ≡ length progress.old.entries + progress.old.left) }
+    ensures search { IfOk result
+        (λ _. IsSearch design.now
+        (B.Values.value bounds.now design.now) progress.new.open_tasks progress.new.entries progress.new.value
+        progress.new.best) }
+    ensures spent { IfOk result
+        (λ _. length progress.new.entries + progress.new.left
+        ≡ length progress.old.entries + progress.old.left) }
     ensures less { IfOk result (λ _. progress.new.left ≤ progress.old.left) }
 {
     if progress.left == 0 || progress.open_tasks.is_empty() {
@@ -238,7 +257,8 @@ fn run_round<R: Threads + Sync, B: Bounds, G: Gate>(
     Ok(())
 }
 
-/// Decides an open task of the least bound and runs a round, in turn, until none is open or `nodes` are decided.
+/// Decides an open task of the least bound and runs a round, in turn, until none is open or `nodes` are
+/// decided.
 pub fn search_rounds<R: Threads + Sync, B: Bounds, G: Gate>(
     rt: &R,
     alloc: Global,
@@ -249,7 +269,9 @@ pub fn search_rounds<R: Threads + Sync, B: Bounds, G: Gate>(
     gate: &G,
 ) -> Result<Progress, NoMemory>
     requires { (1 ≤ workers) × (workers ≤ 16) }
-    ensures search { IfOk result (λ p. IsSearch design.now (B.Values.value bounds.now design.now) p.open_tasks p.entries p.value p.best) }
+    ensures search { IfOk result
+        (λ p. IsSearch design.now
+        (B.Values.value bounds.now design.now) p.open_tasks p.entries p.value p.best) }
     ensures left { IfOk result (λ p. length p.entries + p.left ≡ nodes) }
     ensures spent { IfOk result (λ p. 0 < length p.open_tasks → p.left ≡ 0) }
 {

@@ -25,8 +25,8 @@ fn closed(values: &PartValues, cost: u64) -> Tag
     Tag::Closed(values.first(cost))
 }
 
-/// Names the parts anew, now that the cost is known. Where the area closes a subproblem it stays; each other closed one
-/// takes the next of the values that are kept.
+/// Names the parts anew, now that the cost is known. Where the area closes a subproblem it stays; each other
+/// closed one takes the next of the values that are kept.
 pub fn name_all(tags: &mut [Tag], kept: &[PartValues], cost: u64)
     ensures { tags.new ≡ renamed cost tags.old kept.now }
 {

@@ -25,7 +25,9 @@ pub fn search_walk<'a, B: Bounds, G: Gate>(
 ) -> Result<Walk, NoMemory>
     requires serves { MayServe room.old design.now }
     ensures run { IfOk result (λ walk. IsRun design.now (B.Values.value bounds.now design.now) nodes walk) }
-    ensures kept { IfOk result (λ walk. AreKept (B.part_value bounds.now design.now) walk.word (marks (root design.now ∷ []) walk.tags) walk.kept) }
+    ensures kept { IfOk result
+        (λ walk. AreKept (B.part_value bounds.now design.now) walk.word
+        (marks (root design.now ∷ []) walk.tags) walk.kept) }
     ensures few { IfOk result (λ walk. length walk.tags ≤ nodes) }
     ensures spent { IfOk result (λ walk. walk.more ≡ true → length walk.tags ≡ nodes) }
     ensures serves { MayServe room.new design.now }

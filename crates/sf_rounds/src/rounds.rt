@@ -21,8 +21,8 @@ use std::alloc::{AllocError as NoMemory, Global};
 use std::marker::Brand;
 use std::thread::Threads;
 
-/// One worker for each quota decides what the tasks lead to, each in a thread of its own, or one after another where none
-/// can be made. The open tasks come back.
+/// One worker for each quota decides what the tasks lead to, each in a thread of its own, or one after
+/// another where none can be made. The open tasks come back.
 pub fn round<R: Threads + Sync, B: Bounds, G: Gate>(
     rt: &R,
     alloc: Global,
@@ -35,7 +35,8 @@ pub fn round<R: Threads + Sync, B: Bounds, G: Gate>(
 ) -> Result<RoundOut, NoMemory>
     requires workers { (1 ≤ length quotas.now) × (length quotas.now ≤ 16) }
     requires tasks { All (IsTask design.now (B.Values.value bounds.now design.now)) tasks.items }
-    ensures { IfOk result (λ r. IsRound design.now (B.Values.value bounds.now design.now) tasks.items quotas.now value r) }
+    ensures { IfOk result
+        (λ r. IsRound design.now (B.Values.value bounds.now design.now) tasks.items quotas.now value r) }
 {
     round_as::<R, Brand, B, G>(rt, alloc, design, bounds, tasks, quotas, value, gate)
 }
@@ -54,7 +55,8 @@ fn round_as<R: Threads + Sync, T: Served + Sync, B: Bounds, G: Gate>(
     requires team { Serves T.serves design.now (B.Values.value bounds.now design.now) }
     requires workers { (1 ≤ length quotas.now) × (length quotas.now ≤ 16) }
     requires tasks { All (IsTask design.now (B.Values.value bounds.now design.now)) tasks.items }
-    ensures { IfOk result (λ r. IsRound design.now (B.Values.value bounds.now design.now) tasks.items quotas.now value r) }
+    ensures { IfOk result
+        (λ r. IsRound design.now (B.Values.value bounds.now design.now) tasks.items quotas.now value r) }
 {
     let workers = quotas.len() as u16;
     let places = team::<T>(alloc, workers)?;

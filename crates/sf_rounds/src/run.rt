@@ -24,7 +24,8 @@ pub fn run_all<'a, R: Threads + Sync, T: Served + Sync, B: Bounds, G: Gate>(
     gate: &G,
 )
     requires team { Serves T.serves design.now (B.Values.value bounds.now design.now) }
-    requires ready { All (λ j. IsReady design.now (B.Values.value bounds.now design.now) j.state × (j.state.seat.word ≡ word.now.id)) jobs.old }
+    requires ready { All (λ j. IsReady design.now (B.Values.value bounds.now design.now) j.state
+        × (j.state.seat.word ≡ word.now.id)) jobs.old }
     ensures { EachTwo (Ran design.now (B.Values.value bounds.now design.now)) jobs.old jobs.new }
 {
     let threads = jobs.len();
@@ -36,8 +37,11 @@ pub fn run_all<'a, R: Threads + Sync, T: Served + Sync, B: Bounds, G: Gate>(
         jobs,
         threads,
         &|_, job: &mut Job<T>|
-            requires { Serves T.serves design.now (B.Values.value bounds.now design.now) × IsReady design.now (B.Values.value bounds.now design.now) job.now.state × (job.now.state.seat.word ≡ word.now.id) }
-            ensures { Ran design.entry.now (B.Values.value bounds.entry.now design.entry.now) job.entry.now job.exit.now }
+            requires { Serves T.serves design.now (B.Values.value bounds.now design.now)
+                × IsReady design.now (B.Values.value bounds.now design.now) job.now.state
+                × (job.now.state.seat.word ≡ word.now.id) }
+            ensures { Ran design.entry.now
+                (B.Values.value bounds.entry.now design.entry.now) job.entry.now job.exit.now }
         {
             job.end = pass(&mut job.state, design, bounds, word, gate);
         },

@@ -29,7 +29,8 @@ pub fn decide<B: Bounds>(
 ) -> Result<Visit, NoMemory>
     requires subproblem { IsSubproblem design.now node.now }
     requires bound { bound ≡ B.Values.value bounds.now design.now node.now }
-    ensures { IfOk result (λ seen. IsVisit design.now (B.Values.value bounds.now design.now) node.now value seen) }
+    ensures { IfOk result
+        (λ seen. IsVisit design.now (B.Values.value bounds.now design.now) node.now value seen) }
 {
     if bound >= value {
         return Ok(Visit::Closed);

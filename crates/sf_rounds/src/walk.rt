@@ -13,8 +13,8 @@ use sf_polish::Expr;
 use std::alloc::{AllocError as NoMemory, Global};
 use std::marker::Model;
 
-/// A search in preorder: where it stands, whether anything is not visited yet, the tags so far, what is kept to name their
-/// parts by, the least cost found and its plan.
+/// A search in preorder: where it stands, whether anything is not visited yet, the tags so far, what is kept
+/// to name their parts by, the least cost found and its plan.
 #[derive(Drop)]
 pub struct Walk {
     cursor: Cursor,
@@ -30,7 +30,14 @@ impl Model for Walk {
 
     ghost Value = { Progress };
 
-    ghost view = { λ w. record { path = w.cursor; more = w.more; tags = w.tags.items; kept = w.kept.items; word = w.word; best = w.best } };
+    ghost view = { λ w. record {
+      path = w.cursor;
+      more = w.more;
+      tags = w.tags.items;
+      kept = w.kept.items;
+      word = w.word;
+      best = w.best;
+    } };
 }
 
 impl Walk {
@@ -89,7 +96,8 @@ impl Walk {
         self.tags.len()
     }
 
-    /// The tags and the plan, at the end of a search: what the tags name is named against the cost of the plan.
+    /// The tags and the plan, at the end of a search: what the tags name is named against the cost of the
+    /// plan.
     pub fn into_named(self) -> (Vec<Tag>, Option<Expr>)
         ensures tags { result.0.items ≡ renamed self.word self.tags self.kept }
         ensures best { result.1 ≡ self.best }
@@ -134,7 +142,8 @@ impl Walk {
         requires at { IsPath design.now (B.Values.value bounds.now design.now) self.now.path }
         requires serves { MayServe room.old design.now }
         ensures value { IfOk result (λ v. v.value ≡ B.Values.value bounds.now design.now self.now.path.node) }
-        ensures parts { IfOk result (λ v. IfSome v.parts (AreValues (B.part_value bounds.now design.now self.now.path.node))) }
+        ensures parts { IfOk result
+            (λ v. IfSome v.parts (AreValues (B.part_value bounds.now design.now self.now.path.node))) }
         ensures serves { MayServe room.new design.now }
     {
         match self.cursor.parent_value(design, bounds) {
@@ -174,7 +183,8 @@ impl Walk {
     ) -> Result<PartValues, NoMemory>
         requires at { IsPath design.now (B.Values.value bounds.now design.now) self.now.path }
         requires value { valued.value ≡ B.Values.value bounds.now design.now self.now.path.node }
-        requires parts { IfSome valued.parts (AreValues (B.part_value bounds.now design.now self.now.path.node)) }
+        requires parts { IfSome valued.parts
+            (AreValues (B.part_value bounds.now design.now self.now.path.node)) }
         requires serves { MayServe room.old design.now }
         ensures values { IfOk result (AreValues (B.part_value bounds.now design.now self.now.path.node)) }
         ensures serves { MayServe room.new design.now }
@@ -185,8 +195,8 @@ impl Walk {
         }
     }
 
-    /// Closes the subproblem that is next: the tag names the first part that is at least the cost. The values of the parts
-    /// are kept where that is not the area, since the cost may fall.
+    /// Closes the subproblem that is next: the tag names the first part that is at least the cost. The values
+    /// of the parts are kept where that is not the area, since the cost may fall.
     fn close<'a, B: Bounds>(
         &mut self,
         design: &'a Design,
@@ -197,10 +207,18 @@ impl Walk {
     ) -> Result<Tag, NoMemory>
         requires at { IsPath design.now (B.Values.value bounds.now design.now) self.old.path }
         requires value { valued.value ≡ B.Values.value bounds.now design.now self.old.path.node }
-        requires parts { IfSome valued.parts (AreValues (B.part_value bounds.now design.now self.old.path.node)) }
+        requires parts { IfSome valued.parts
+            (AreValues (B.part_value bounds.now design.now self.old.path.node)) }
         requires serves { MayServe room.old design.now }
-        ensures tag { IfOk result (λ tag. tag ≡ Tag.Closed (first_part (B.part_value bounds.now design.now self.old.path.node) cost)) }
-        ensures kept { IfOk result (λ tag. self.new ≡ record self.old { kept = self.old.kept ++ kept_for (B.part_value bounds.now design.now self.old.path.node) tag }) }
+        ensures tag { IfOk result
+            (λ tag. tag ≡ Tag.Closed
+            (first_part (B.part_value bounds.now design.now self.old.path.node) cost)) }
+        ensures kept { IfOk result
+            (λ tag. self.new
+            ≡ record self.old {
+              kept = self.old.kept ++ kept_for
+                  (B.part_value bounds.now design.now self.old.path.node) tag;
+            }) }
         ensures serves { MayServe room.new design.now }
     {
         let values = self.parts(design, bounds, valued, room)?;
@@ -222,10 +240,18 @@ impl Walk {
     ) -> Result<Tag, NoMemory>
         requires at { IsPath design.now (B.Values.value bounds.now design.now) self.old.path }
         requires value { valued.value ≡ B.Values.value bounds.now design.now self.old.path.node }
-        requires parts { IfSome valued.parts (AreValues (B.part_value bounds.now design.now self.old.path.node)) }
+        requires parts { IfSome valued.parts
+            (AreValues (B.part_value bounds.now design.now self.old.path.node)) }
         requires serves { MayServe room.old design.now }
-        ensures tag { IfOk result (λ tag. tag ≡ tag_after (B.Values.value bounds.now design.now) (B.part_value bounds.now design.now) self.old.path.node seen.now self.old.word) }
-        ensures kept { IfOk result (λ tag. self.new ≡ record self.old { kept = self.old.kept ++ kept_for (B.part_value bounds.now design.now self.old.path.node) tag }) }
+        ensures tag { IfOk result
+            (λ tag. tag ≡ tag_after (B.Values.value bounds.now design.now)
+            (B.part_value bounds.now design.now) self.old.path.node seen.now self.old.word) }
+        ensures kept { IfOk result
+            (λ tag. self.new
+            ≡ record self.old {
+              kept = self.old.kept ++ kept_for
+                  (B.part_value bounds.now design.now self.old.path.node) tag;
+            }) }
         ensures serves { MayServe room.new design.now }
     {
         match seen {
@@ -245,7 +271,10 @@ impl Walk {
     ) -> Result<(), NoMemory>
         requires at { IsPath design.now (B.Values.value bounds.now design.now) self.old.path }
         requires serves { MayServe room.old design.now }
-        ensures moved { IfOk result (λ done. (seen : Visit) × IsMove design.now (B.Values.value bounds.now design.now) (B.part_value bounds.now design.now) self.old seen self.new) }
+        ensures moved { IfOk result
+            (λ done. (seen : Visit)
+            × IsMove design.now (B.Values.value bounds.now design.now)
+            (B.part_value bounds.now design.now) self.old seen self.new) }
         ensures serves { MayServe room.new design.now }
     {
         let valued = self.value(design, bounds, room)?;
@@ -259,7 +288,8 @@ impl Walk {
         Ok(())
     }
 
-    /// Leaves all open that is not visited yet. The answer is the least of the cost found and of their values.
+    /// Leaves all open that is not visited yet. The answer is the least of the cost found and of their
+    /// values.
     pub fn leave_open<'a, B: Bounds>(
         &mut self,
         design: &'a Design,
@@ -268,8 +298,11 @@ impl Walk {
     ) -> Result<u64, NoMemory>
         requires at { IsPath design.now (B.Values.value bounds.now design.now) self.old.path }
         requires serves { MayServe room.old design.now }
-        ensures tags { IfOk result (λ bound. self.new.tags ≡ self.old.tags ++ map (λ node. Tag.Open) (left_of design.now self.old)) }
-        ensures bound { IfOk result (λ bound. bound ≡ least self.old.word (map (B.Values.value bounds.now design.now) (left_of design.now self.old))) }
+        ensures tags { IfOk result
+            (λ bound. self.new.tags ≡ self.old.tags ++ map (λ node. Tag.Open) (left_of design.now self.old)) }
+        ensures bound { IfOk result
+            (λ bound. bound ≡ least self.old.word
+            (map (B.Values.value bounds.now design.now) (left_of design.now self.old))) }
         ensures kept { IfOk result (λ bound. self.new.kept ≡ self.old.kept) }
         ensures word { IfOk result (λ bound. self.new.word ≡ self.old.word) }
         ensures best { IfOk result (λ bound. self.new.best ≡ self.old.best) }
