@@ -47,11 +47,6 @@ building-begins design node sub =
     let i = subproblem-begun design node sub in
     record { runs = runs-from (length design.blocks) 0 i.count node.tokens i.reads i.below; curves = tt }
 
-pub building-operands : (design : Design) (node : Parts) (stack : List (List Shape)) (passed : List Token) (t : Token) (rest : List Token) → IsBuilding design node stack passed (t ∷ rest) → HasOperands (length design.blocks) (length stack) t
-building-operands design node stack passed (token.Block b) rest m = m.runs.0
-building-operands design node stack passed token.Beside rest m = m.runs.0
-building-operands design node stack passed token.Above rest m = m.runs.0
-
 join-beside : (design : Design) (node : Parts) (l r c : List Shape) (below : List (List Shape)) (ts : List Item) → AllZip (IsItemCurve design node) (r ∷ (l ∷ below)) ts → IsCombination beside_size design.outline l r c → AllZip (IsItemCurve design node) (c ∷ below) (read ts (token.Beside ∷ []))
 join-beside design node l r c below [] h comb = elim h [ ]
 join-beside design node l r c below (t ∷ []) h comb = elim h.1 [ ]

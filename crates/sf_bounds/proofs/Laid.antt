@@ -42,11 +42,6 @@ laying-begins design node sub =
     let i = subproblem-begun design node sub in
     record { runs = runs-from (length design.blocks) 0 i.count node.tokens i.reads i.below; laid = record { held = refl; seats = refl }; blocks = refl }
 
-pub laying-operands : (design : Design) (node : Parts) (stack : List Held) (places : List Seat) (passed : List Token) (t : Token) (rest : List Token) → IsLaying design node stack places passed (t ∷ rest) → HasOperands (length design.blocks) (length stack) t
-laying-operands design node stack places passed (token.Block b) rest m = m.runs.0
-laying-operands design node stack places passed token.Beside rest m = m.runs.0
-laying-operands design node stack places passed token.Above rest m = m.runs.0
-
 numbers-append : (xs ys : List Token) → numbers (xs ++ ys) ≡ numbers xs ++ numbers ys
 numbers-append [] ys = refl
 numbers-append (token.Beside ∷ xs) ys = numbers-append xs ys
@@ -217,10 +212,6 @@ token-laid design node old new old_places places tokens i d lt m s =
     subst (λ v. IsLaying design node new places v (drop (i + 1) tokens)) (sym (take_more tokens i d lt))
     (lays-keeps design node old new old_places places (take i tokens) (get_or tokens i d) (drop (i + 1) tokens)
     (subst (IsLaying design node old old_places (take i tokens)) (drop_more tokens i d lt) m) s)
-
-pub token-operands : (design : Design) (node : Parts) (stack : List Held) (places : List Seat) (tokens : List Token) (i : ℕ) (d : Token) → i < length tokens → IsLaying design node stack places (take i tokens) (drop i tokens) → HasOperands (length design.blocks) (length stack) (get_or tokens i d)
-token-operands design node stack places tokens i d lt m =
-    laying-operands design node stack places (take i tokens) (get_or tokens i d) (drop (i + 1) tokens) (subst (IsLaying design node stack places (take i tokens)) (drop_more tokens i d lt) m)
 
 -- all tokens are passed
 pub laying-ends : (design : Design) (node : Parts) (stack : List Held) (places : List Seat) (i : ℕ) (rest : List Token) → IsSubproblem design node → length node.tokens ≤ i → IsLaying design node stack places (take i node.tokens) rest → AreSeated design node stack places

@@ -32,27 +32,33 @@ use Rattle.sf_bounds.proofs.Ranges.{range_is}
 use Rattle.sf_bounds.proofs.Reading.{ready_more}
 use Rattle.sf_bounds.proofs.Readied.{held-count, extent-same, standing-is, readied}
 
+-- functions that agree on each element map a list alike
 map-same : {X Y : Type 0} (f g : X → Y) (xs : List X) → AllByRecursion (λ x. f x ≡ g x) xs → map f xs ≡ map g xs
 map-same f g [] h = refl
 map-same f g (x ∷ xs) h = ap (λ v. v ∷ map f xs) h.0 ∙ ap (λ v. g x ∷ v) (map-same f g xs h.1)
 
 module _ (design : Design) (node : Parts) (layout : Layout) (m : IsLayout design node layout) where
+  -- the block or pad of a pin is there
   abbrev there : Pin → Type 0
   there p = pin_number p < pin_count (length design.blocks) (length design.pads) p
 
+  -- the table has the range of each pin
   range-same : (p : Pin) → there p → pin_range design layout.table.items p ≡ (record { across = range_x design (extent_in design node) p; upward = range_y design (extent_in design node) p })
   range-same (pin.Block b) h =
       ap (λ v. v.range) (standing-is design node layout m b h (record { side = 0; range = anywhere; home = None })) ∙ ap (block_range design) (extent-same design node layout m b h)
   range-same (pin.Pad p) h = refl
 
+  -- and the lesser side of each block
   side-same : (b : ℕ) → b < block_count design → (standing_at layout.table.items b).side ≡ small_side (extent_in design node b)
   side-same b h =
       ap (λ v. v.side) (standing-is design node layout m b h (record { side = 0; range = anywhere; home = None })) ∙ ap small_side (extent-same design node layout m b h)
 
+  -- functions that agree on each pin which is there agree along pins that are there
   each-same : {Y : Type 0} (f g : Pin → Y) → ((p : Pin) → there p → f p ≡ g p) → (pins : List Pin) → AllByRecursion there pins → AllByRecursion (λ p. f p ≡ g p) pins
   each-same f g h [] all = tt
   each-same f g h (p ∷ pins) all = (h p all.0, each-same f g h pins all.1)
 
+  -- the lesser sides along some pins
   sides-same : (pins : List Pin) → AllByRecursion there pins → map (λ b. (standing_at layout.table.items b).side) (block_pins pins) ≡ map (λ b. small_side (extent_in design node b)) (block_pins pins)
   sides-same [] h = refl
   sides-same (pin.Block b ∷ pins) h =
@@ -61,6 +67,7 @@ module _ (design : Design) (node : Parts) (layout : Layout) (m : IsLayout design
   sides-same (pin.Pad p ∷ pins) h = sides-same pins h.1
 
   module _ (sub : IsSubproblem design node) (pins : List Pin) (inside : IsNet design pins) where
+    -- what the pins share in the outline tells the range part
     range-part : reach_gap (shared_ranges design layout.table.items pins) ≡ range_part design (extent_in design node) pins
     range-part =
         let ext = extent_in design node in
@@ -73,6 +80,7 @@ module _ (design : Design) (node : Parts) (layout : Layout) (m : IsLayout design
         range_is design table (length layout.held.items) (readied design node layout m) pins inside
         ∙ ap (λ v. gap v + gap (map (λ p. (pin_range design table p).upward) pins)) x ∙ ap (λ v. gap (map (range_x design ext) pins) + gap v) y
 
+    -- the greatest sum of two sides is the pair part
     pair-part : (paired_sides layout.table.items pins).sum ≡ pair_part (extent_in design node) pins
     pair-part = pair_sum layout.table.items pins ∙ ap greatest_two (sides-same pins (recursion_from_All there pins inside))
 
@@ -129,6 +137,7 @@ ready_whole design node layout sub m complete =
     ready_more design (length layout.held.items) 1 layout.table.items
     (omega (arith, held-count design node layout m, length-reverse (items_of node), ap length (whole-item design node sub complete).1.items)) (readied design node layout m)
 
+-- a table tells the items of a layout to whoever has room for that many
 pub ready_open : (design : Design) (node : Parts) (layout : Layout) (n : ℕ) → IsLayout design node layout → length layout.held.items ≤ n → IsReady design n layout.table.items
 ready_open design node layout n m le = ready_more design (length layout.held.items) n layout.table.items le (readied design node layout m)
 

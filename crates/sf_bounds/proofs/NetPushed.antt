@@ -188,12 +188,6 @@ module _ (design : Design) (node : Parts) (cells : List Cell) (blocks : List Blo
       subst (λ v. AreTop design node.tokens cells start frames v r) (sym is_l)
       (subst (λ v. AreTop design node.tokens cells start frames (get_or frames (v.below - 1) l) v) (right-same i r e is) (top-at r l))
 
-  -- the wires after the tokens under both
-  pub wires-at : (count : ℕ) (d : NetFrame) → count ≤ length frames → 0 < count → AreWires design cells (items_at node.tokens count) (get_or frames (count - 1) d).wires
-  wires-at count d le some =
-      let k : count - 1 + 1 ≡ count = omega (arith, some) in
-      subst (λ v. AreWires design cells (items_at node.tokens v) (get_or frames (count - 1) d).wires) k (m.frames_are.each (count - 1) d (omega (arith, le, some))).wires
-
 -- what is joined
 module _ (design : Design) (node : Parts) (cells : List Cell) (blocks : List BlockRow) (start : Wires) (frames : List NetFrame) (d : Direction) (l r : NetFrame) (sub : IsSubproblem design node) (m : AreStored design node.tokens cells blocks start frames) (next : IsNext node.tokens (length frames) (token_in d)) (t : AreTop design node.tokens cells start frames l r) where
   abbrev L : Item

@@ -52,9 +52,6 @@ own-is design b pins =
       | false ↦ refl
     ]
 
-no-net : Net
-no-net = record { pins = []; weight = 0 }
-
 -- the cells of a block's row
 block-cells : (design : Design) (cells : List Cell) (b : ℕ) → IsRow design (cells ++ map (block_cell b (whole_extent design b)) (weighed_nets design)) (item.Block b) (length cells)
 block-cells design cells b =
@@ -100,9 +97,6 @@ block-more design b cells all blocks new x m lt is_extent is_row is_all is_new =
       ];
       fit = All-append IsFitCell cells made m.fit (block-fit design b);
     })
-
-pub block-none : (design : Design) → AreBlockRows design 0 [] []
-block-none design = record { count = refl; extents = λ b d lt. absurd (omega (arith, lt)); rows = λ b d lt. absurd (omega (arith, lt)); fit = λ i d lt. absurd (omega (arith, lt)) }
 
 -- nothing comes from no pins
 none-of-none : (os : List Offset) → of_pins [] os ≡ []
@@ -195,6 +189,3 @@ start-cell design net part reach is_reach is_part =
 -- what one net brings
 pub put-cell : (f : Net → Cell) (old new : List Cell) (net : Net) (c : Cell) → 0 < net.weight → c ≡ f net → new ≡ old ++ c ∷ [] → new ≡ old ++ map f (of_weight (net ∷ []))
 put-cell f old new net c h is_c is_new = is_new ∙ ap (λ v. old ++ v ∷ []) is_c ∙ ap (λ v. old ++ map f v) (sym (one-counts net h))
-
-pub no-cell : (f : Net → Cell) (old : List Cell) (net : Net) → net.weight ≤ 0 → old ≡ old ++ map f (of_weight (net ∷ []))
-no-cell f old net h = sym (append-nil old) ∙ ap (λ v. old ++ map f v) (sym (one-free net h))

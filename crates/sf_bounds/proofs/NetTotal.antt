@@ -57,6 +57,7 @@ hull-whole design node pins sub whole =
     ap (λ spans. (let e = λ (b : ℕ). extent_of (span_shapes design (record { steps = node.steps; tokens = node.tokens; spans = spans }) b) in
     if nat_lt (length pins) 2 then 0 else hull_part design e (is_complete node) (items_of node) pins)) (whole-spans design node sub whole)
 
+-- its gaps in an incomplete subproblem
 open-hull : (design : Design) (node : Parts) (pins : List Pin) → IsSubproblem design node → length node.steps ≡ length node.tokens → is_complete node ≡ false → pins_by design node pins Hull ≡ hull_part design (whole_extent design) false (items_of node) (counted pins)
 open-hull design node pins sub whole incomplete =
     hull-whole design node pins sub whole
@@ -66,6 +67,7 @@ open-hull design node pins sub whole incomplete =
       | false ↦ refl
     ])
 
+-- its gap in a complete one is that of the one item with the pads
 closed-hull : (design : Design) (node : Parts) (net : Net) (i : Item) → IsSubproblem design node → length node.steps ≡ length node.tokens → is_complete node ≡ true → items_of node ≡ i ∷ [] → length (offsets (whole_extent design) i) ≤ 320 → IsNet design net.pins →
     pins_by design node net.pins Hull ≡ reach_gap (met (row (whole_extent design) i (counted net.pins)) (pads_share design (counted net.pins)))
 closed-hull design node net i sub whole complete one few inside =
@@ -93,6 +95,7 @@ open-hulls design node cells w n sub whole all incomplete m =
 pub same-ranges : (design : Design) (node : Parts) → IsSubproblem design node → length node.steps ≡ length node.tokens → wires_by design (root design) Range ≡ wires_by design node Range
 same-ranges design node sub whole = sym (ap (λ spans. wires_by design (record { steps = node.steps; tokens = node.tokens; spans = spans }) Range) (whole-spans design node sub whole))
 
+-- so are the pairs
 pub same-pairs : (design : Design) (node : Parts) → IsSubproblem design node → length node.steps ≡ length node.tokens → wires_by design (root design) Pair ≡ wires_by design node Pair
 same-pairs design node sub whole = sym (ap (λ spans. wires_by design (record { steps = node.steps; tokens = node.tokens; spans = spans }) Pair) (whole-spans design node sub whole))
 
@@ -125,14 +128,17 @@ closed-part design node net i sub whole complete one few inside =
       | false ↦ omega (arith, row-pads e (whole-small design) design i net.pins few near.0 near.1)
     ])
 
+-- what is read within the list is the cell at that place
 pub read-cell : (cells : List Cell) (i : ℕ) (x : Cell) → x ≡ get_or cells i x → i < length cells → x ≡ cell_at cells i
 read-cell cells i x is lt = is ∙ get_or_default cells i x (record { reach = anywhere; part = 0; hull = 0 }) lt
 
 -- the last operator makes the one item of a complete subproblem
 module _ (design : Design) (node : Parts) (cells : List Cell) (blocks : List BlockRow) (start : Wires) (frames : List NetFrame) (d : Direction) (l r : NetFrame) (sub : IsSubproblem design node) (m : AreStored design node.tokens cells blocks start frames) (next : IsNext node.tokens (length frames) (token_in d)) (t : AreTop design node.tokens cells start frames l r) (whole : length node.steps ≡ length node.tokens) (all : length frames ≡ length node.tokens - 1) (complete : is_complete node ≡ true) where
+  -- the item that the last operator makes
   abbrev one : Item
   one = item_in d t.left.item t.right.item
 
+  -- it is the only one
   alone : items_of node ≡ one ∷ []
   alone =
       let n : length frames + 1 ≡ length node.tokens = omega (arith, all, next.more) in
@@ -148,15 +154,19 @@ module _ (design : Design) (node : Parts) (cells : List Cell) (blocks : List Blo
   abbrev shared_at : ℕ → Reach
   shared_at j = joined_reach d l.extent (cell_at cells (l.row + j)).reach (cell_at cells (r.row + j)).reach
 
+  -- what its pads share
   abbrev pads_at : ℕ → Reach
   pads_at j = (cell_at cells (start.at + j)).reach
 
+  -- the net of this number
   abbrev net_at : ℕ → Net
   net_at j = get_or (weighed_nets design) j (record { pins = []; weight = 0 })
 
+  -- the item has at most 320 blocks
   few : length (offsets (whole_extent design) one) ≤ 320
   few = item-few design node (length frames + 1) one (items_at node.tokens l.below) sub (top-items design node cells blocks start frames d l r sub m next t)
 
+  -- the gap read off the rows is that of the item and the pads
   gap-is : (j : ℕ) → j < length (weighed_nets design) → reach_gap (met (shared_at j) (pads_at j)) ≡ reach_gap (met (row (whole_extent design) one (pins_at design j)) (pads_share design (pins_at design j)))
   gap-is j lt =
       ap (λ v. reach_gap (met v (pads_at j))) (row-is design node cells blocks start frames d l r sub m next t j lt)
@@ -169,20 +179,24 @@ module _ (design : Design) (node : Parts) (cells : List Cell) (blocks : List Blo
       ∙ ap (max (part design (whole_extent design) [] (pins_at design j))) (gap-is j lt)
       ∙ sym (closed-part design node (net_at j) one sub whole complete alone few (weighed-inside design j (record { pins = []; weight = 0 }) lt))
 
+  -- the gap is what the net takes by the hull
   hull-at : (j : ℕ) → j < length (weighed_nets design) → reach_gap (met (shared_at j) (pads_at j)) ≡ pins_by design node (net_at j).pins Hull
   hull-at j lt = gap-is j lt ∙ sym (closed-hull design node (net_at j) one sub whole complete alone few (weighed-inside design j (record { pins = []; weight = 0 }) lt))
 
   -- the sums with one net more, as the loop has them
   module _ (j total weight gap : ℕ) (lt : j < length (weighed_nets design)) (is_weight : weight ≡ get_or (weights_of design.nets) j 0) (is_gap : gap ≡ reach_gap (met (shared_at j) (pads_at j))) where
+    -- the weight at a place is that of the net
     weight-is : weight ≡ (net_at j).weight
     weight-is = is_weight ∙ weight-at design.nets j (record { pins = []; weight = 0 }) lt
 
+    -- of the greatest of range, pair and gap
     pub total-more : (value : ℕ) → value ≡ max (cell_at cells (start.at + j)).part gap → total ≡ sum_by (weighed_part design node) (take j (weighed_nets design)) → total + weight * value ≡ sum_by (weighed_part design node) (take (j + 1) (weighed_nets design))
     total-more value is_value is_total =
         let is : value ≡ net_part design node (net_at j) = is_value ∙ ap (max (cell_at cells (start.at + j)).part) is_gap ∙ part-at j lt in
         let more : weight * value ≡ weighed_part design node (net_at j) = ap (λ w. w * value) weight-is ∙ ap (λ v. (net_at j).weight * v) is in
         omega (arith, is_total, more, sum_by_more (weighed_part design node) (weighed_nets design) j (record { pins = []; weight = 0 }) lt)
 
+    -- of the gaps alone
     pub hull-total-more : total ≡ sum_by (λ n. n.weight * pins_by design node n.pins Hull) (take j (weighed_nets design)) → total + weight * gap ≡ sum_by (λ n. n.weight * pins_by design node n.pins Hull) (take (j + 1) (weighed_nets design))
     hull-total-more is_total =
         let more : weight * gap ≡ (net_at j).weight * pins_by design node (net_at j).pins Hull = ap (λ w. w * gap) weight-is ∙ ap (λ v. (net_at j).weight * v) (is_gap ∙ hull-at j lt) in

@@ -25,9 +25,11 @@ cost-small design weight wires is few =
     omega (arith, product)
 
 module _ (design : Design) (node : Parts) where
+  -- the area of the outline
   abbrev room : ℕ
   room = design.outline.w * design.outline.h
 
+  -- what this area and these wires cost, where the area has room
   abbrev by_room : ℕ → ℕ → ℕ
   by_room a wires = if nat_lt room a then MAX else (design.weights.area * a + design.weights.wire * wires)
 
@@ -35,6 +37,7 @@ module _ (design : Design) (node : Parts) where
   pub none-cost : list_any has_none (plans_of design node) ≡ true → (wires : ℕ) → bounded design wires (plans_of design node) ≡ MAX
   none-cost none wires = cond-true (list_any has_none (plans_of design node)) MAX (by_room (needed_area (plans_of design node)) wires) none
 
+  -- each item and each unused block has a plan, so the cost goes by the area
   by-area : (a : ℕ) → IsNeeded design node a → (wires : ℕ) → bounded design wires (plans_of design node) ≡ by_room a wires
   by-area a needed wires =
       cond-false (list_any has_none (plans_of design node)) MAX (by_room (needed_area (plans_of design node)) wires) needed.some
@@ -58,10 +61,12 @@ module _ (design : Design) (node : Parts) where
         small = omega (arith, product);
       }
 
+  -- the cost of the area is the value of the part of that name
   pub area-is : (v : ℕ) → IsAreaCost design node v → v ≡ part_value design node Area
   area-is v cost =
       omega (arith, cost.value (wires_by design node Area), ap (λ n. design.weights.wire * n) (areas-free design node))
 
+  -- with the costs of the wires it makes the values of the parts
   pub parts-are : (v : ℕ) (w : WireParts) → IsAreaCost design node v → AreWireCosts design node w → AreValues (part_value design node) (record { area = v; range = v + w.range; pair = v + w.pair; hull = v + w.hull })
   parts-are v w cost wires = record {
     area = area-is v cost;
@@ -78,6 +83,7 @@ module _ (design : Design) (node : Parts) where
   part-is Hull v cost area is full = omega (arith, area.value (wires_by design node Hull), is)
   part-is Full v cost area is full = omega (arith, area.value (wire_part design node), is, full)
 
+  -- where there is no cost, each part is the mark of none, the whole bound too
   pub no-part : (part : Part) → ((wires : ℕ) → bounded design wires (plans_of design node) ≡ MAX) → standard design node ≡ open_value design node → MAX ≡ part_value design node part
   no-part Area none full = sym (none (wires_by design node Area))
   no-part Range none full = sym (none (wires_by design node Range))
@@ -89,6 +95,7 @@ module _ (design : Design) (node : Parts) where
   pub full-is : (v : ℕ) (w : WireParts) → IsAreaCost design node v → AreWireCosts design node w → v + w.full ≡ open_value design node
   full-is v w cost wires = omega (arith, cost.value (wire_part design node), wires.values.full)
 
+  -- so are the four below the whole bound
   pub no-parts : ((wires : ℕ) → bounded design wires (plans_of design node) ≡ MAX) → AreValues (part_value design node) (record { area = MAX; range = MAX; pair = MAX; hull = MAX })
   no-parts none = record {
     area = sym (none (wires_by design node Area));

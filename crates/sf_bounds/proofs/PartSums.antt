@@ -18,6 +18,7 @@ pub parts-small : (w : WireParts) (range pair hull : ℕ) → range ≤ 28000000
 parts-small w range pair hull a b c of_range of_pair of_hull of_full =
     record { range = omega (arith, a, of_range); pair = omega (arith, b, of_pair); hull = omega (arith, c, of_hull); full = omega (arith, a, b, c, of_full) }
 
+-- what a net takes by a part, as often as its weight says
 abbrev pub of_net : Design → Parts → Part → Net → ℕ
 of_net design node part net = net.weight * pins_by design node net.pins part
 
@@ -32,6 +33,7 @@ pub record IsSumBefore (design : Design) (node : Parts) (part : Part) (i sum : �
   pub small : sum ≤ 714000000000 * i
 
 module _ (design : Design) (node : Parts) (i : ℕ) (net : Net) (lt : i < length design.nets) (at : net ≡ get_or design.nets i net) where
+  -- the sum with one net more
   more : (part : Part) → sum_by (of_net design node part) (take (i + 1) design.nets) ≡ sum_by (of_net design node part) (take i design.nets) + of_net design node part net
   more part = sum_by_more (of_net design node part) design.nets i net lt ∙ ap (λ n. sum_by (of_net design node part) (take i design.nets) + of_net design node part n) (sym at)
 
@@ -62,6 +64,7 @@ module _ (design : Design) (node : Parts) (i : ℕ) (net : Net) (lt : i < length
     small = omega (arith, before.small, weighed_small net.weight wire light small);
   }
 
+  -- a net of weight 0 adds nothing to it
   pub none-adds : (part : Part) (sum : ℕ) → IsSumBefore design node part i sum → net.weight ≡ 0 → IsSumBefore design node part (i + 1) sum
   none-adds part sum before free = record {
     value = omega (arith, before.value, more part, ap (λ n. n * pins_by design node net.pins part) free);
@@ -87,6 +90,7 @@ module _ (design : Design) (node : Parts) (i : ℕ) (net : Net) (lt : i < length
         };
       }
 
+-- after the last net the sums are those over all nets
 pub all-parts : (design : Design) (node : Parts) (i : ℕ) (sums : WireParts) → length design.nets ≤ i → ArePartsBefore design node i sums → AreWireParts design node sums
 all-parts design node i sums le before =
     let whole = λ (part : Part). ap (sum_by (of_net design node part)) (take_all i design.nets le) in

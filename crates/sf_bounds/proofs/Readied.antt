@@ -121,9 +121,6 @@ module _ (design : Design) (node : Parts) (layout : Layout) (m : IsLayout design
   pub standing-is : (b : ℕ) → b < block_count design → (d : Standing) → get_or layout.table.items b d ≡ standing_by design layout.extents.items layout.seats.items b
   standing-is b lt d = m.table.each b d lt
 
-  abbrev pub home_of : ℕ → Option Home
-  home_of b = (standing_at layout.table.items b).home
-
   home-is : (b : ℕ) → b < block_count design → (standing_at layout.table.items b).home ≡ last_home (extent_from layout.extents.items) None b layout.seats.items
   home-is b lt = ap (λ v. v.home) (standing-is b lt (record { side = 0; range = anywhere; home = None }))
 

@@ -20,9 +20,6 @@ use Rattle.sf_bounds.specs.declared.reach.Reach.{Reach}
 use Rattle.sf_bounds.specs.Near.{IsNear, IsNearby, shared, met, anywhere, reach_gap}
 use Rattle.sf_bounds.specs.Pins.{IsNet, IsReadyAt, IsReady, standing_at, pad_reach, pin_range, pin_home, narrowed, narrowed_in, shared_in, home_gap, greatest_gap, shared_ranges, shared_homes}
 
-pub fold_more : {A B : Type 0} (f : B → A → B) (b : B) (xs : List A) (k : ℕ) (d : A) → k < length xs → fold f b (take (k + 1) xs) ≡ f (fold f b (take k xs)) (get_or xs k d)
-fold_more f b xs k d lt = ap (fold f b) (take_more xs k d lt) ∙ fold-append f b (take k xs) (get_or xs k d ∷ [])
-
 pub fold_whole : {A B : Type 0} (f : B → A → B) (b : B) (xs : List A) (k : ℕ) → length xs ≤ k → fold f b (take k xs) ≡ fold f b xs
 fold_whole f b xs k h = ap (fold f b) (take_all k xs h)
 
@@ -78,11 +75,6 @@ module _ (design : Design) (items : ℕ) (table : List Standing) (ready : IsRead
   near_home complete (pin.Block b) h = if-some (λ v. (v.item < items) × IsNearby v.reach) (λ v. IsNearby v.reach) (standing_at table b).home (λ v k. k.1) (standing_ready b h).home
   near_home true (pin.Pad p) h = near_pad design p h
   near_home false (pin.Pad p) h = tt
-
-  -- a block's item is one of the items
-  pub home_inside : (p : Pin) → pin_number p < pin_count (length design.blocks) (length design.pads) p → IfSome (pin_home design table false p) (λ h. h.item < items)
-  home_inside (pin.Block b) h = if-some (λ v. (v.item < items) × IsNearby v.reach) (λ v. v.item < items) (standing_at table b).home (λ v k. k.0) (standing_ready b h).home
-  home_inside (pin.Pad p) h = tt
 
   pub near_ranges : (pins : List Pin) → IsNet design pins → IsNearby (shared_ranges design table pins)
   near_ranges pins net = near-fold IsThere (λ r p. met r (pin_range design table p)) (λ r p there h. near_met r (pin_range design table p) h (near_range p there)) anywhere pins near_anywhere (recursion_from_All IsThere pins net)
