@@ -34,5 +34,6 @@ mem_load_faults s = s.load_faults
 abbrev pub mem_store_faults : MemShelf → ℕ
 mem_store_faults s = s.store_faults
 
+-- what is seen of a shelf in memory: all that it holds, and how many loads and stores have failed
 abbrev pub mem_seen : MemShelf → ShelfSeen
 mem_seen s = record { holds = Some (mem_contents s); load_faults = mem_load_faults s; store_faults = mem_store_faults s }

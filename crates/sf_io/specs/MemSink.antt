@@ -19,5 +19,6 @@ sink_calls s = s.calls
 abbrev pub sink_faults : MemSink → ℕ
 sink_faults s = s.faults
 
+-- what is seen of a sink in memory: all that it took, and how many puts have failed
 abbrev pub sink_seen : MemSink → SinkSeen
 sink_seen s = record { taken = Some (mem_taken s); faults = sink_faults s }

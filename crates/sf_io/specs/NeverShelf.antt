@@ -16,5 +16,6 @@ text_under (text ∷ texts) name = cond (bytes_eq text.0 name) text.1 (text_unde
 abbrev pub text_seen : String Global × Vec ℕ Global → List ℕ × List ℕ
 text_seen text = (string_bytes text.0, text.1.items)
 
+-- the same of each text
 abbrev pub texts_seen : List (String Global × Vec ℕ Global) → Texts
 texts_seen texts = map text_seen texts

@@ -26,5 +26,6 @@ part_sink_taken s = s.taken.items
 abbrev pub part_sink_faults : PartSink → ℕ
 part_sink_faults s = s.faults
 
+-- what is seen of the sink: all that it took, and how many puts have failed
 abbrev pub part_sink_seen : PartSink → SinkSeen
 part_sink_seen s = record { taken = Some s.taken.items; faults = s.faults }

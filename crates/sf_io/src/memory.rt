@@ -84,7 +84,8 @@ impl Shelf for MemShelf {
 
         // It fails where its number is listed or the name isn't there, and nowhere else.
         ensures listed { IsErrOf result LoadFault.Failed ↔
-            (Contains (mem_failing self.old) (one_more (mem_calls self.old)) ⊎ (mem_texts self.old name.now ≡ None)) }
+            (Contains (mem_failing self.old) (one_more (mem_calls self.old))
+            ⊎ (mem_texts self.old name.now ≡ None)) }
         ensures lost { IsErrOf result LoadFault.Failed → MayFail (Some (mem_contents self.old)) name.now }
 
         // A load that failed is counted, and no other: not one of a text that is too long, or for which

@@ -51,7 +51,8 @@ impl Shelf for NeverShelf {
     fn load(&mut self, name: &str, limit: u64) -> Result<Vec<u8>, LoadFault>
         ensures bytes { IfOk result (λ bytes. bytes.items ≡ text_under self.old name.now) }
         ensures limit { IfOk result (λ bytes. length bytes.items ≤ limit) }
-        ensures too_long { IsErrOf result LoadFault.TooLong ↔ (limit < length (text_under self.old name.now)) }
+        ensures too_long { IsErrOf result LoadFault.TooLong
+            ↔ (limit < length (text_under self.old name.now)) }
         ensures failed { ¬ IsErrOf result LoadFault.Failed }
         ensures texts { self.new ≡ self.old }
     {

@@ -12,6 +12,7 @@ use std::io::{self, ErrorKind, Read, Write};
 use std::test::Fail;
 use std::{env, fs, process};
 
+/// Whether an answer is this text.
 fn is_text(answer: &Result<Vec<u8>, LoadFault>, text: &[u8]) -> bool {
     match answer {
         Ok(bytes) => bytes.as_slice() == text,
@@ -19,6 +20,7 @@ fn is_text(answer: &Result<Vec<u8>, LoadFault>, text: &[u8]) -> bool {
     }
 }
 
+/// Whether an answer is this fault.
 fn is_fault(answer: &Result<Vec<u8>, LoadFault>, fault: LoadFault) -> bool {
     match answer {
         Ok(_) => false,
@@ -26,6 +28,7 @@ fn is_fault(answer: &Result<Vec<u8>, LoadFault>, fault: LoadFault) -> bool {
     }
 }
 
+/// A shelf and a sink in memory, of which given calls fail.
 #[test]
 fn memory(rt: HostRuntime) -> Result<(), Fail> {
     let alloc = rt.alloc();
@@ -49,7 +52,7 @@ fn memory(rt: HostRuntime) -> Result<(), Fail> {
     Ok(())
 }
 
-// Only the first store is whole, and only five bytes are taken.
+/// Only the first store is whole, and only five bytes are taken.
 #[test]
 fn parts(rt: HostRuntime) -> Result<(), Fail> {
     let alloc = rt.alloc();
@@ -68,6 +71,7 @@ fn parts(rt: HostRuntime) -> Result<(), Fail> {
     Ok(())
 }
 
+/// A shelf and a sink that never fail.
 #[test]
 fn never(rt: HostRuntime) -> Result<(), Fail> {
     let alloc = rt.alloc();
@@ -89,6 +93,7 @@ fn never(rt: HostRuntime) -> Result<(), Fail> {
     Ok(())
 }
 
+/// A shelf of files.
 #[test]
 fn host_shelf(rt: HostRuntime) -> Result<(), Fail> {
     let alloc = rt.alloc();
@@ -111,7 +116,7 @@ fn host_shelf(rt: HostRuntime) -> Result<(), Fail> {
     Ok(())
 }
 
-// The exit status of the process is the number of its status.
+/// The exit status of the process is the number of its status.
 #[test]
 fn statuses(rt: HostRuntime) {
     let named = [
@@ -131,6 +136,7 @@ fn statuses(rt: HostRuntime) {
     }
 }
 
+/// The standard output, where it takes all.
 #[test]
 fn host_sink(rt: HostRuntime) -> Result<(), Fail> {
     let mut sink = HostSink::new(rt);
@@ -147,6 +153,7 @@ struct Slow {
 }
 
 impl Slow {
+    /// What the next call does: it fails, or it gives or takes one byte.
     fn one(&mut self, bytes: usize) -> io::Result<usize>
         ensures { IfOk result (λ n. n ≤ bytes) }
     {
@@ -174,7 +181,7 @@ impl Write for Slow {
     }
 }
 
-// An interrupted call is tried again, and any other fault is told.
+/// An interrupted call is tried again, and any other fault is told.
 #[test]
 fn interrupted_calls(rt: HostRuntime) {
     for (kind, answer) in [
@@ -214,7 +221,7 @@ impl Write for Kept {
     }
 }
 
-// A write that took a part is followed by the rest.
+/// A write that took a part is followed by the rest.
 #[test]
 fn writes_in_parts(rt: HostRuntime) {
     let mut file = Kept {
