@@ -32,6 +32,7 @@ unfit-costless design expr z u h =
     let same = spells-one expr h.tree u.tree h.spells u.spells in
     u.unfit (subst (λ t. All (λ leaf. Contains (shapes_of design leaf.0) leaf.1) (leaves t)) same h.legal.listed) (subst (Fits design.outline) same h.fits)
 
+-- the expression of a plan that is right has the cost
 pub plan-of : (design : Design) (z : ℕ) (plan : Option Expr) (expr : Expr) → plan ≡ Some expr → MatchOption plan (z ≡ MAX) (λ e. HasCost design e z) → HasCost design expr z
 plan-of design z None expr e h = absurd (cc)
 plan-of design z (Some other) expr e h = let same : other ≡ expr = cc in subst (λ x. HasCost design x z) same h
@@ -42,6 +43,7 @@ seen-cert design bound part cert last e w =
     seen design bound part cert.cost cert.tags (start (root design) cert.cost) (root design ∷ []) last refl w
     (subst (λ n. spell_trees n (map place_of (root design ∷ [])) cert.tags ≡ true) e cert.form.tree) (root-subproblem design, tt)
 
+-- where the walk ends with the stated bound, the certificate is valid
 pub answer-yes : (design : Design) (bound : Parts → ℕ) (part : Parts → Part → ℕ) (cert : Cert) (last : Progress) (count : ℕ) → cert.blocks ≡ block_count design → IsPlanRight design cert → walked bound part cert.cost (start (root design) cert.cost) cert.tags ≡ Ok last → last.low ≡ cert.bound → count ≡ last.decided → IsRight design bound part cert cert.cost cert.bound count
 answer-yes design bound part cert last count e plan w low is =
     let s = seen-cert design bound part cert last e w in
@@ -52,6 +54,7 @@ answer-yes design bound part cert last count e plan w low is =
       count_is = omega (arith, is, s.count);
     }
 
+-- where the walk ends with another bound, that is the failure
 pub answer-bound : (design : Design) (bound : Parts → ℕ) (part : Parts → Part → ℕ) (cert : Cert) (last : Progress) (is : ℕ) → cert.blocks ≡ block_count design → IsPlanRight design cert → walked bound part cert.cost (start (root design) cert.cost) cert.tags ≡ Ok last → is ≡ last.low → cert.bound ≢ is → IsOtherBound design bound part cert is
 answer-bound design bound part cert last is e plan w same differs =
     let s = seen-cert design bound part cert last e w in
@@ -71,6 +74,7 @@ first-invalid design bound part cert why first valid =
       ]
     ]
 
+-- an answer is Yes just where the certificate is valid
 pub answered : (design : Design) (bound : Parts → ℕ) (part : Parts → Part → ℕ) (cert : Cert) (a : Answer) → IsAnswer design bound part cert a → (is_yes a ≡ true) ↔ IsValid design bound part cert
 answered design bound part cert (Yes z low count) h = ((λ e. h.valid), (λ v. refl))
 answered design bound part cert (No why) h = ((λ e. absurd (cc)), (λ v. absurd (first-invalid design bound part cert why h v)))

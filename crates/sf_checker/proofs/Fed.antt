@@ -15,15 +15,17 @@ use Rattle.sf_certificate.specs.declared.header.Header.{Header}
 use Rattle.sf_certificate.specs.declared.tag.Tag.{Tag}
 use Rattle.sf_certificate.specs.Form.{no_plan}
 use Rattle.sf_certificate.specs.Bytes.{Bytewise, bytes_on, said_with}
-use Rattle.sf_certificate.specs.Reading.{cert_read, with_tag, with_tags}
+use Rattle.sf_certificate.specs.Reading.{cert_read, with_tag}
+use Rattle.sf_certificate.specs.Reader.{with_tags}
 use Rattle.sf_certificate.proofs.TreeReads.{with_tags-more, with_tags-none}
 use Rattle.sf_certificate.proofs.CertSpells.{cert-spells}
 use Rattle.sf_checker.specs.declared.answer.Answer.{Answer}
 use Rattle.sf_checker.specs.declared.stage.Body.{Body}
 use Rattle.sf_checker.specs.declared.stage.Stage.{Stage}
 use Rattle.sf_checker.specs.Answers.{IsAnswer}
-use Rattle.sf_checker.specs.Judging.{Judged, IsFound}
-use Rattle.sf_checker.specs.Feeding.{IsAnswerTo, IsBody, IsFaulty, IsStage, IsFed}
+use Rattle.sf_checker.specs.Standing.{Judged, IsFound}
+use Rattle.sf_checker.specs.Feeding.{IsAnswerTo, IsFed}
+use Rattle.sf_checker.specs.Stages.{IsBody, IsFaulty, IsStage}
 
 module _ (design : Design) (bound : Parts → ℕ) (part : Parts → Part → ℕ) (text : List ℕ) where
   -- the header was read
@@ -104,6 +106,7 @@ module _ (design : Design) (bound : Parts → ℕ) (part : Parts → Part → �
         } in
         record { cert = cert; reads = reads; answered = answered cert refl refl refl refl refl }
 
+    -- what the text is read as where it ends
     at-end : cert_read (block_count design) text ≡ said_with (block_count design) body.header (with_tags b.tags (bytes_on (block_count design) body.reader []))
     at-end = ap (cert_read (block_count design)) (sym (append-nil text)) ∙ b.reads []
 
@@ -140,6 +143,7 @@ past-byte piece i h =
 abbrev pub rest_of : List ℕ → ℕ → List ℕ
 rest_of piece i = take (length piece - i) (drop i piece)
 
+-- they are what is left of the piece
 pub rest-is : (piece : List ℕ) (i : ℕ) → rest_of piece i ≡ drop i piece
 rest-is piece i = take_all (length piece - i) (drop i piece) (omega (arith, length-drop i piece))
 
@@ -148,6 +152,7 @@ pub past-bytes : (text piece : List ℕ) (i k : ℕ) → (text ++ take i piece) 
 past-bytes text piece i k =
     ap (λ r. (text ++ take i piece) ++ take k r) (rest-is piece i) ∙ append_assoc text (take i piece) (take k (drop i piece)) ∙ ap (λ p. text ++ p) (sym (take-add i k piece))
 
+-- a piece up to a place, and the rest of it
 pub past-all : (text piece : List ℕ) (i : ℕ) → (text ++ take i piece) ++ rest_of piece i ≡ text ++ piece
 past-all text piece i = ap (λ r. (text ++ take i piece) ++ r) (rest-is piece i) ∙ append_assoc text (take i piece) (drop i piece) ∙ ap (λ p. text ++ p) (take-append-drop i piece)
 
@@ -159,9 +164,11 @@ still-faulty design text more e faulty rest = ap (cert_read (block_count design)
 
 module _ {B : Type 0} (value : B → Design → Parts → ℕ) (part_value : B → Design → Parts → Part → ℕ) (design : Design) (bound : Parts → ℕ) (part : Parts → Part → ℕ) (own : Design) (bounds : B) where
   module _ (text : List ℕ) (stage : Stage) (fed : IsFed value part_value design bound part text (own, bounds, stage)) where
+    -- the values are those of the checking's own bounds
     same-bound : value bounds own ≡ bound
     same-bound = ap (value bounds) fed.serves ∙ fed.worth
 
+    -- and so are those of the parts
     same-part : part_value bounds own ≡ part
     same-part = ap (part_value bounds) fed.serves ∙ fed.part_worth
 
@@ -171,6 +178,7 @@ module _ {B : Type 0} (value : B → Design → Parts → ℕ) (part_value : B �
         subst (λ d. IsStage d (value bounds own) (part_value bounds own) text stage) (sym fed.serves)
         (subst (λ v. IsStage design v (part_value bounds own) text stage) (sym same-bound) (subst (λ v. IsStage design bound v text stage) (sym same-part) fed.stage))
 
+  -- a text that is longer by a piece leads to the stage that the piece leads to
   pub fed-more : {X E : Type 0} (text piece : List ℕ) (old new : Stage) (r : Result X E) → IsFed value part_value design bound part text (own, bounds, old)
       → ((text : List ℕ) → IsStage own (value bounds own) (part_value bounds own) text old → OnOk r (IsStage own (value bounds own) (part_value bounds own) (text ++ piece) new))
       → OnOk r (IsFed value part_value design bound part (text ++ piece) (own, bounds, new))

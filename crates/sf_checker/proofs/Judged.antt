@@ -18,8 +18,8 @@ use Rattle.sf_certificate.specs.Valid.{HasCost}
 use Rattle.sf_checker.specs.declared.answer.Why.{Why}
 use Rattle.sf_checker.specs.declared.answer.Why.TheVariants.{BadPlan, CostDiffers, BoundDiffers}
 use Rattle.sf_checker.specs.Answers.{IsPlanRight, IsBadPlan, IsOtherCost, IsFirst, IsRight}
-use Rattle.sf_checker.specs.Walking.{Progress, Stand, visited, walked, and_then, start, progress_of}
-use Rattle.sf_checker.specs.Judging.{Judged, IsFound}
+use Rattle.sf_checker.specs.Walking.{Progress, visited, walked, and_then, start}
+use Rattle.sf_checker.specs.Standing.{Stand, Judged, IsFound, progress_of}
 use Rattle.sf_checker.proofs.Answered.{answer-yes, answer-bound}
 use Rattle.sf_checker.proofs.Walks.{walked-append, walked-one}
 
@@ -37,9 +37,11 @@ module _ (design : Design) (bound : Parts → ℕ) (part : Parts → Part → �
       (subst (λ o. MatchOption o (IsPlanRight design cert × (walked bound part cert.cost (start (root design) cert.cost) tags ≡ Ok (progress_of design old.walk))) (IsFirst design bound part cert)) e found)
 
   module _ (cost : ℕ) (none : old.found ≡ None) (same : cert.cost ≡ cost) (is : cert.tags ≡ tags ++ tag ∷ more) where
+    -- so far the plan is right and the walk went over the tags
     so-far : IsPlanRight design cert × (walked bound part cert.cost (start (root design) cert.cost) tags ≡ Ok (progress_of design old.walk))
     so-far = found-none design bound part cert tags old none found
 
+    -- the walk over one tag more
     one-more : (r : Result Progress Why) → visited bound part cost (progress_of design old.walk) (progress_of design old.walk).waiting tag ≡ r → walked bound part cert.cost (start (root design) cert.cost) (tags ++ tag ∷ []) ≡ r
     one-more r e =
         walked-append bound part cert.cost tags (tag ∷ []) (start (root design) cert.cost)
@@ -65,17 +67,15 @@ module _ (design : Design) (bound : Parts → ℕ) (part : Parts → Part → �
 
 -- ---- the plan
 
+-- a number that is found to be MAX is
 max-eq : (z : ℕ) → true ≡ (z == MAX) → z ≡ MAX
 max-eq z e = grind (arith, nat_tests)
 
+-- a certificate without a plan has no cost
 no-cost : (cert : Cert) → cert.plan ≡ None → cert.cost ≡ MAX
 no-cost cert e = max-eq cert.cost (sym (ap no_plan e) ∙ cert.form.unplanned)
 
--- no plan comes without a cost
-pub plan-none : (design : Design) (cert : Cert) → cert.plan ≡ None → IsPlanRight design cert
-plan-none design cert e =
-    subst (λ p. MatchOption p (cert.cost ≡ MAX) (λ expr. HasCost design expr cert.cost)) (sym e) (no-cost cert e)
-
+-- a plan of the stated cost is right
 pub plan-right : (design : Design) (cert : Cert) (expr : Expr) (cost : ℕ) → cert.plan ≡ Some expr → cert.cost ≡ cost → HasCost design expr cost → IsPlanRight design cert
 plan-right design cert expr cost e same h =
     subst (λ p. MatchOption p (cert.cost ≡ MAX) (λ expr. HasCost design expr cert.cost)) (sym e) (subst (HasCost design expr) (sym same) h)
@@ -84,12 +84,14 @@ plan-right design cert expr cost e same h =
 
 module _ (design : Design) (bound : Parts → ℕ) (part : Parts → Part → ℕ) (cert : Cert) (judge : Judged) (blocks : cert.blocks ≡ block_count design) (none : judge.found ≡ None) (found : IsFound design bound part cert cert.tags judge)
     (cost stated : ℕ) (cost_is : cert.cost ≡ cost) (stated_is : cert.bound ≡ stated) where
+  -- the walk ended with the stated bound
   pub judged-yes : (count : ℕ) → judge.walk.low ≡ stated → count ≡ judge.walk.decided → IsRight design bound part cert cost stated count
   judged-yes count low is =
       let f = found-none design bound part cert cert.tags judge none found in
       let right = answer-yes design bound part cert (progress_of design judge.walk) count blocks f.0 f.1 (low ∙ sym stated_is) is in
       record { valid = right.valid; cost = sym cost_is; bound_is = sym stated_is; count_is = right.count_is }
 
+  -- the walk ended with another bound
   pub judged-bound : (is : ℕ) → is ≡ judge.walk.low → stated ≢ is → IsFirst design bound part cert (BoundDiffers stated is)
   judged-bound is low differs =
       let f = found-none design bound part cert cert.tags judge none found in
@@ -97,10 +99,12 @@ module _ (design : Design) (bound : Parts → ℕ) (part : Parts → Part → �
 
 -- ---- before the first tag and after the next
 
+-- a walk over no tags stays where it is
 walked-none : (bound : Parts → ℕ) (part : Parts → Part → ℕ) (cost : ℕ) (walk : Progress) → walked bound part cost walk [] ≡ Ok walk
 unfolding walked
 walked-none bound part cost walk = refl
 
+-- before the first tag: what is found of the plan
 pub found-start : (design : Design) (bound : Parts → ℕ) (part : Parts → Part → ℕ) (cert : Cert) (walk : Stand) (cost : ℕ) (fault : Option Why)
     → MatchOption fault (IsPlanRight design cert) (λ why. ((why ≡ BadPlan) × IsBadPlan design cert) ⊎ ((is : ℕ) × (why ≡ CostDiffers cert.cost is) × IsOtherCost design cert is))
     → progress_of design walk ≡ start (root design) cost → cert.cost ≡ cost
@@ -110,13 +114,16 @@ found-start design bound part cert walk cost None right e same =
 found-start design bound part cert walk cost (Some why) (inl bad) e same = inl bad
 found-start design bound part cert walk cost (Some why) (inr other) e same = inr (inl other)
 
+-- what is found not to be there is not
 pub none-of : (o : Option Why) → is_some o ≡ false → o ≡ None
 none-of None e = refl
 none-of (Some why) e = absurd (cc)
 
+-- the tags before a place, the tag there and those behind it
 pub at-tag : (tags : List Tag) (i : ℕ) (d : Tag) → i < length tags → tags ≡ take i tags ++ get_or tags i d ∷ drop (suc i) tags
 at-tag tags i d h = sym (take-append-drop i tags) ∙ ap (λ ts. take i tags ++ ts) (drop-cons tags i d h)
 
+-- the tags up to a place and the one there
 pub past-tag : (tags : List Tag) (i : ℕ) (d : Tag) → i < length tags → take i tags ++ get_or tags i d ∷ [] ≡ take (i + 1) tags
 past-tag tags i d h =
     let more : suc i ≡ i + 1 = omega arith in

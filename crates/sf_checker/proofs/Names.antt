@@ -39,10 +39,12 @@ pub record IsNaming (design : Design) (bound : Parts → ℕ) (part : Parts → 
   pub alike : map unnamed tags ≡ map unnamed old
 
 module _ (design : Design) (bound : Parts → ℕ) (part : Parts → Part → ℕ) (cost : ℕ) (old : List Tag) (at : ℕ) (path : Path) (tags : List Tag) (d : Tag) where
+  -- a subproblem that waits wants a tag
   no-tags : (node : Parts) (nodes : List Parts) (rest : List Tag) → rest ≡ [] → AreTrees part cost (node ∷ nodes) rest → ⊥
   no-tags node nodes rest e trees = subst (AreTrees part cost (node ∷ nodes)) e trees
 
   module _ (here : Bool) (is_more : here ≡ true) (going : IsNaming design bound part cost old at here path tags) where
+    -- the walk where something is next
     w : IsNaming design bound part cost old at true path tags
     w = subst (λ b. IsNaming design bound part cost old at b path tags) is_more going
 
@@ -54,6 +56,7 @@ module _ (design : Design) (bound : Parts → ℕ) (part : Parts → Part → �
           | inr h ↦ absurd (no-tags path.node (behind (root design) path.node.steps) (drop at tags) (drop_all at tags h) w.tree)
         ]
 
+    -- the next tag may stand where it stands, and the others are those of what it makes and of what is behind
     next-tag : IsFair part cost (get_or tags at d) path.node × AreTrees part cost (made (get_or tags at d) path.node ++ behind (root design) path.node.steps) (drop (suc at) tags)
     next-tag =
         trees-first part cost path.node (behind (root design) path.node.steps) (get_or tags at d) (drop (suc at) tags)
@@ -93,6 +96,7 @@ module _ (design : Design) (bound : Parts → ℕ) (part : Parts → Part → �
 -- ---- the certificate
 
 module _ (cert : Cert) (tags : List Tag) (alike : map unnamed tags ≡ map unnamed cert.tags) where
+  -- a certificate with other names has its form
   pub formed-named : IsFormed cert.blocks cert.plan cert.cost tags
   formed-named =
       record {

@@ -16,9 +16,11 @@ use Rattle.sf_checker.specs.Answers.{IsPlanRight, IsBadPlan, IsOtherCost, IsBadT
 use Rattle.sf_checker.proofs.Answered.{cost-one, unfit-costless, plan-of, first-invalid}
 use Rattle.sf_checker.proofs.Walks.{faulty}
 
+-- one plan has one expression
 some-same : (e f : Expr) (plan : Option Expr) → plan ≡ Some e → plan ≡ Some f → e ≡ f
 some-same e f plan p q = let k : Some e ≡ Some f = sym p ∙ q in cc
 
+-- one walk has one failure
 err-same : (r : Result Progress Why) (v w : Why) → r ≡ Err v → r ≡ Err w → v ≡ w
 err-same r v w p q = let k : Err v ≡ Err w = sym p ∙ q in cc
 
@@ -27,22 +29,27 @@ module _ (design : Design) (bound : Parts → ℕ) (part : Parts → Part → �
   right-cost : (expr : Expr) → cert.plan ≡ Some expr → IsPlanRight design cert → HasCost design expr cert.cost
   right-cost expr e right = plan-of design cert.cost cert.plan expr e right
 
+  -- a plan that is unfit is not right
   bad-right : IsBadPlan design cert → IsPlanRight design cert → ⊥
   bad-right bad right = unfit-costless design bad.expr cert.cost bad.unfit (right-cost bad.expr bad.planned right)
 
+  -- nor is one of another cost
   other-right : (is : ℕ) → IsOtherCost design cert is → IsPlanRight design cert → ⊥
   other-right is other right = other.differs (cost-one design other.expr cert.cost is (right-cost other.expr other.planned right) other.costs)
 
+  -- a plan that is unfit has no other cost
   bad-other : (is : ℕ) → IsBadPlan design cert → IsOtherCost design cert is → ⊥
   bad-other is bad other =
       let same : other.expr ≡ bad.expr = some-same other.expr bad.expr cert.plan other.planned bad.planned in
       unfit-costless design bad.expr is bad.unfit (subst (λ e. HasCost design e is) same other.costs)
 
+  -- the other cost is one
   one-cost : (y z : ℕ) → IsOtherCost design cert y → IsOtherCost design cert z → y ≡ z
   one-cost y z p q =
       let same : p.expr ≡ q.expr = some-same p.expr q.expr cert.plan p.planned q.planned in
       cost-one design q.expr y z (subst (λ e. HasCost design e y) same p.costs) q.costs
 
+  -- a tree at fault has no other bound
   tree-bound : (why : Why) (is : ℕ) → IsBadTree design bound part cert why → IsOtherBound design bound part cert is → ⊥
   tree-bound why is bad other = faulty bound part cert.cost cert.tags (start (root design) cert.cost) (root design ∷ []) why refl bad.found other.tree
 
@@ -90,6 +97,7 @@ module _ (design : Design) (bound : Parts → ℕ) (part : Parts → Part → �
         ]
       ]
 
+  -- a certificate has one answer
   pub one-answer : (a b : Answer) → IsAnswer design bound part cert a → IsAnswer design bound part cert b → a ≡ b
   one-answer (Yes z low count) (Yes y least few) p q =
       ap (λ x. Yes x low count) (p.cost ∙ sym q.cost) ∙ ap (λ x. Yes y x count) (p.bound_is ∙ sym q.bound_is) ∙ ap (Yes y least) (p.count_is ∙ sym q.count_is)

@@ -23,38 +23,47 @@ use Rattle.sf_checker.specs.declared.answer.Why.{Why}
 use Rattle.sf_checker.specs.declared.answer.Why.TheVariants.{NotClosed, BadSplit, BadChildren}
 use Rattle.sf_checker.specs.Walking.{Progress, fault_at, one_decided, lowered, past, unless, visited, walked, and_then}
 
+-- a choice of a failure that gives none was not taken
 some-else : (b : Bool) (why : Why) → cond b (Some why) None ≡ None → b ≡ false
 some-else true why e = absurd (cc)
 some-else false why e = refl
 
+-- a choice of none that gives none was taken
 none-else : (b : Bool) (why : Why) → cond b None (Some why) ≡ None → b ≡ true
 none-else true why e = refl
 none-else false why e = absurd (cc)
 
+-- a choice of a failure that gives one was taken
 is-some : (b : Bool) (why other : Why) → cond b (Some why) None ≡ Some other → b ≡ true
 is-some true why other e = refl
 is-some false why other e = absurd (cc)
 
+-- a choice of none that gives a failure was not taken
 is-none : (b : Bool) (why other : Why) → cond b None (Some why) ≡ Some other → b ≡ false
 is-none true why other e = absurd (cc)
 is-none false why other e = refl
 
+-- two tests that hold together hold
 and-both : (a b : Bool) → (a && b) ≡ true → (a ≡ true) × (b ≡ true)
 and-both true true e = (refl, refl)
 and-both true false e = absurd (cc)
 and-both false b e = absurd (cc)
 
+-- two tests that fail together don't both hold
 and-not : (a b : Bool) → (a && b) ≡ false → a ≡ true → b ≡ true → ⊥
 and-not true true e p q = cc
 and-not true false e p q = cc
 and-not false b e p q = cc
 
+-- a number that is found less is less
 less-true : (a b : ℕ) → nat_lt a b ≡ true → a < b
 less-true a b e = grind (arith, nat_tests)
 
+-- a lesser number is found less
 true-less : (a b : ℕ) → a < b → nat_lt a b ≡ true
 true-less a b h = grind (arith, nat_tests)
 
+-- a number that is found not to be less is no less
 less-false : (a b : ℕ) → nat_lt a b ≡ false → b ≤ a
 less-false a b e = grind (arith, nat_tests)
 
@@ -75,6 +84,7 @@ no-fault part cost number node (Split b) e =
 no-fault part cost number node (Closed p) e = less-false (part node p) cost (some-else (nat_lt (part node p) cost) (NotClosed number (part node p) cost) e)
 no-fault part cost number node Open e = tt
 
+-- and a tag at fault is no fair one
 a-fault : (part : Parts → Part → ℕ) (cost number : ℕ) (node : Parts) (tag : Tag) (why : Why) → fault_at (part node) cost number node tag ≡ Some why → IsFair part cost tag node → ⊥
 a-fault part cost number node Extend why e fair = let no : false ≡ true = sym fair ∙ is-some (is_complete node) (BadChildren number) why e in cc
 a-fault part cost number node (Split b) why e fair =
@@ -84,14 +94,17 @@ a-fault part cost number node (Closed p) why e fair =
     omega (arith, fair, less)
 a-fault part cost number node Open why e fair = cc
 
+-- a walk that goes on had no failure
 unless-ok : (o : Option Why) (walk next : Progress) → unless o walk ≡ Ok next → (o ≡ None) × (walk ≡ next)
 unless-ok None walk next e = (refl, cc)
 unless-ok (Some why) walk next e = absurd (cc)
 
+-- a walk that ends had that failure
 unless-err : (o : Option Why) (walk : Progress) (why : Why) → unless o walk ≡ Err why → o ≡ Some why
 unless-err None walk why e = absurd (cc)
 unless-err (Some other) walk why e = let same : other ≡ why = cc in ap Some same
 
+-- what one tag did, where it may stand
 visit-fact : (bound : Parts → ℕ) (part : Parts → Part → ℕ) (cost : ℕ) (walk : Progress) (node : Parts) (nodes : List Parts) (tag : Tag) (next : Progress) → visited bound part cost walk (node ∷ nodes) tag ≡ Ok next → IsVisit bound part cost walk node nodes tag next
 visit-fact bound part cost walk node nodes tag next e =
     let r = unless-ok (fault_at (part node) cost walk.number node tag) (past bound walk (node ∷ nodes) node tag) next e in
@@ -110,6 +123,7 @@ visit-fault bound part cost walk node nodes tag why e fair =
 
 -- ---- tags one after another
 
+-- one step after others, whatever came of them
 step-append : (r : Result Progress Why) (f g h : Progress → Result Progress Why) → ((walk : Progress) → f walk ≡ and_then (g walk) h) → and_then r f ≡ and_then (and_then r g) h
 step-append (Ok walk) f g h e = e walk
 step-append (Err why) f g h e = refl
@@ -167,15 +181,18 @@ seen-more bound part cost walk next last node nodes Open tags w v s =
       count = omega (arith, s.count, v.decided);
     }
 
+-- what came first, and what came of it
 record IsThen (r : Result Progress Why) (f : Progress → Result Progress Why) (last : Progress) : Type 0 where
   next : Progress
   first : r ≡ Ok next
   later : f next ≡ Ok last
 
+-- where two steps come to something, so did the first
 then-ok : (r : Result Progress Why) (f : Progress → Result Progress Why) (last : Progress) → and_then r f ≡ Ok last → IsThen r f last
 then-ok (Ok next) f last e = record { next = next; first = refl; later = e }
 then-ok (Err why) f last e = absurd (cc)
 
+-- of two tests that hold together the second holds
 and-second : (a b : Bool) → (a && b) ≡ true → b ≡ true
 and-second true b e = e
 and-second false b e = absurd (cc)
@@ -204,6 +221,7 @@ seen design bound part cost (tag ∷ tags) walk (node ∷ nodes) last w e spelle
     (subst (λ z. spell_trees n z tags ≡ true) (sym places) later)
     (each-append (IsSubproblem design) (made tag node) nodes (made-subproblems design part cost tag node subs.0 v.fair) subs.1))
 
+-- where two steps fail, the first did, or the second after it
 then-err : (r : Result Progress Why) (f : Progress → Result Progress Why) (why : Why) → and_then r f ≡ Err why → (r ≡ Err why) ⊎ ((next : Progress) × (r ≡ Ok next) × (f next ≡ Err why))
 then-err (Ok next) f why e = inr (next, refl, e)
 then-err (Err other) f why e = inl e

@@ -67,10 +67,12 @@ pub record IsRight (design : Design) (bound : Parts → ℕ) (part : Parts → P
   pub bound_is : low ≡ cert.bound
   pub count_is : count ≡ decided cert.tags
 
+-- what an answer means: the certificate is valid, or this is its first failure
 abbrev pub IsAnswer : Design → (Parts → ℕ) → (Parts → Part → ℕ) → Cert → Answer → Type 0
 IsAnswer design bound part cert (Yes z low count) = IsRight design bound part cert z low count
 IsAnswer design bound part cert (No why) = IsFirst design bound part cert why
 
+-- the answer is that the certificate is valid
 abbrev pub is_yes : Answer → Bool
 is_yes (Yes z low count) = true
 is_yes (No why) = false

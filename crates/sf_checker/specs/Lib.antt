@@ -1,5 +1,6 @@
 pub mod Walking
 pub mod Listed
 pub mod Answers
-pub mod Judging
+pub mod Standing
+pub mod Stages
 pub mod Feeding

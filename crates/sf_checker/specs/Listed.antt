@@ -1,4 +1,4 @@
--- Plans whose shapes stand in the lists of their blocks.
+-- Plans whose shapes stand in the lists of their blocks, node by node. These are words of the code that tests it; in Answers they are those of the leaves.
 use Rattle.std.specs.Prelude.{Contains}
 use Rattle.sf_model.specs.declared.design.Design.{Design}
 use Rattle.sf_model.specs.Legal.{shapes_of}

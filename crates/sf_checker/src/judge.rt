@@ -26,7 +26,7 @@ pub struct Judge<'a> {
 }
 
 impl<'a> Model for Judge<'a> {
-    ghost use Rattle.sf_checker.specs.Judging.{Judged};
+    ghost use Rattle.sf_checker.specs.Standing.{Judged};
 
     ghost Value = { Judged };
 
@@ -41,7 +41,10 @@ fn plan_fault(
     cost: u64,
 ) -> Result<Option<Why>, NoMemory>
     requires { MatchOption plan.now ⊤ (IsWritable (block_count design.now)) }
-    ensures { (cert : CertValue) → cert.plan ≡ plan.now → cert.cost ≡ cost → IfOk result (λ r. MatchOption r (IsPlanRight design.now cert) (λ why. ((why ≡ BadPlan) × IsBadPlan design.now cert) ⊎ ((is : ℕ) × (why ≡ CostDiffers cert.cost is) × IsOtherCost design.now cert is))) }
+    ensures { (cert : CertValue) → cert.plan ≡ plan.now → cert.cost ≡ cost
+        → IfOk result (λ r. MatchOption r (IsPlanRight design.now cert)
+        (λ why. ((why ≡ BadPlan) × IsBadPlan design.now cert)
+        ⊎ ((is : ℕ) × (why ≡ CostDiffers cert.cost is) × IsOtherCost design.now cert is))) }
 {
     let Some(expr) = plan else {
         return Ok(None);
@@ -63,7 +66,7 @@ impl<'a> Judge<'a> {
     ghost use Rattle.sf_node.specs.Parts.{Parts};
     ghost use Rattle.sf_certificate.specs.declared.tag.Tag.{Tag as TagValue};
     ghost use Rattle.sf_checker.specs.Answers.{IsAnswer};
-    ghost use Rattle.sf_checker.specs.Judging.{IsSteady, IsFound};
+    ghost use Rattle.sf_checker.specs.Standing.{IsSteady, IsFound};
 
     /// Before the first tag of a certificate of this plan and this cost.
     pub fn new<B: Bounds>(
@@ -74,8 +77,12 @@ impl<'a> Judge<'a> {
         cost: u64,
     ) -> Result<Judge<'a>, NoMemory>
         requires { MatchOption plan.now ⊤ (IsWritable (block_count design.now)) }
-        ensures steady { IfOk result (λ judge. IsSteady design.now (B.Values.value bounds.now design.now) judge) }
-        ensures found { (cert : CertValue) → cert.plan ≡ plan.now → cert.cost ≡ cost → IfOk result (λ judge. IsFound design.now (B.Values.value bounds.now design.now) (B.part_value bounds.now design.now) cert [] judge) }
+        ensures steady { IfOk result
+            (λ judge. IsSteady design.now (B.Values.value bounds.now design.now) judge) }
+        ensures found { let value = B.Values.value bounds.now design.now in
+            let part = B.part_value bounds.now design.now in
+            (cert : CertValue) → cert.plan ≡ plan.now → cert.cost ≡ cost → IfOk result
+            (λ judge. IsFound design.now value part cert [] judge) }
     {
         let found = plan_fault(alloc, design, plan, cost)?;
         let walk = Walk::new(alloc, design, bounds, cost)?;
@@ -93,7 +100,11 @@ impl<'a> Judge<'a> {
     ) -> Result<(), NoMemory>
         requires steady { IsSteady design.now (B.Values.value bounds.now design.now) self.old }
         ensures steady { OnOk result (IsSteady design.now (B.Values.value bounds.now design.now) self.new) }
-        ensures found { (cert : CertValue) (tags more : List TagValue) → cert.cost ≡ cost → cert.tags ≡ tags ++ tag ∷ more → IsFound design.now (B.Values.value bounds.now design.now) (B.part_value bounds.now design.now) cert tags self.old → OnOk result (IsFound design.now (B.Values.value bounds.now design.now) (B.part_value bounds.now design.now) cert (tags ++ tag ∷ []) self.new) }
+        ensures found { let value = B.Values.value bounds.now design.now in
+            let part = B.part_value bounds.now design.now in
+            (cert : CertValue) (tags more : List TagValue) → cert.cost ≡ cost → cert.tags ≡ tags ++ tag ∷ more
+            → IsFound design.now value part cert tags self.old
+            → OnOk result (IsFound design.now value part cert (tags ++ tag ∷ []) self.new) }
     {
         if self.found.is_some() {
             return Ok(());
@@ -106,7 +117,9 @@ impl<'a> Judge<'a> {
 
     /// What the certificate is found to be, after its last tag.
     pub fn answer(&self, cost: u64, bound: u64) -> Answer
-        ensures { (design : DesignValue) (value : Parts → ℕ) (part : Parts → Part → ℕ) (cert : CertValue) → cert.blocks ≡ block_count design → cert.cost ≡ cost → cert.bound ≡ bound → IsFound design value part cert cert.tags self.now → IsAnswer design value part cert result }
+        ensures { (design : DesignValue) (value : Parts → ℕ) (part : Parts → Part → ℕ) (cert : CertValue)
+            → cert.blocks ≡ block_count design → cert.cost ≡ cost → cert.bound ≡ bound
+            → IsFound design value part cert cert.tags self.now → IsAnswer design value part cert result }
     {
         match self.found {
             Some(why) => Answer::No(why),

@@ -4,7 +4,7 @@ ghost use Rattle.std.specs.Prelude.{◌≡◌, IfOk, IfSome, OnOk};
 ghost use Rattle.sf_node.specs.Later.{IsChildOf};
 ghost use Rattle.sf_bounds.specs.Serving.{MayServe};
 ghost use Rattle.sf_cursor.specs.Path.{IsPath};
-ghost use Rattle.sf_checker.specs.Walking.{asked};
+ghost use Rattle.sf_checker.specs.Standing.{asked};
 
 use sf_bounds::{Bounds, Room};
 use sf_certificate::Tag;
@@ -13,8 +13,8 @@ use sf_model::Design;
 use sf_node::{Part, Step};
 use std::alloc::AllocError as NoMemory;
 
-/// The value of the subproblem one step before, where that step names a block: such a child may have the same one. It is
-/// measured for the first child that asks, and told to those after it.
+/// The value of the subproblem one step before, where that step names a block: such a child may have the same
+/// one. It is measured for the first child that asks, and told to those after it.
 fn parent_value<'a, B: Bounds>(
     cursor: &mut Cursor,
     design: &'a Design,
@@ -25,7 +25,8 @@ fn parent_value<'a, B: Bounds>(
     requires serves { MayServe room.old design.now }
     ensures at { OnOk result (IsPath design.now (B.Values.value bounds.now design.now) cursor.new) }
     ensures node { OnOk result (cursor.new.node ≡ cursor.old.node) }
-    ensures value { IfOk result (λ told. IfSome told (λ value. IsChildOf design.now (B.Values.value bounds.now design.now) value cursor.old.node)) }
+    ensures value { IfOk result (λ told. IfSome told
+        (λ value. IsChildOf design.now (B.Values.value bounds.now design.now) value cursor.old.node)) }
     ensures serves { MayServe room.new design.now }
 {
     if let Some(value) = cursor.parent_value(design, bounds) {
@@ -62,8 +63,8 @@ fn value_at<'a, B: Bounds>(
     }
 }
 
-/// The number that a tag asks for at the subproblem that is next, if it asks for one. Of a closed subproblem the part that it
-/// names is measured, and nothing else.
+/// The number that a tag asks for at the subproblem that is next, if it asks for one. Of a closed subproblem
+/// the part that it names is measured, and nothing else.
 pub fn told_at<'a, B: Bounds>(
     cursor: &mut Cursor,
     design: &'a Design,
@@ -75,7 +76,9 @@ pub fn told_at<'a, B: Bounds>(
     requires serves { MayServe room.old design.now }
     ensures at { OnOk result (IsPath design.now (B.Values.value bounds.now design.now) cursor.new) }
     ensures node { OnOk result (cursor.new.node ≡ cursor.old.node) }
-    ensures told { IfOk result (λ told. told ≡ asked (B.Values.value bounds.now design.now cursor.old.node) (B.part_value bounds.now design.now cursor.old.node) tag) }
+    ensures told { IfOk result (λ told. told
+        ≡ asked (B.Values.value bounds.now design.now cursor.old.node)
+        (B.part_value bounds.now design.now cursor.old.node) tag) }
     ensures serves { MayServe room.new design.now }
 {
     let value = match tag {

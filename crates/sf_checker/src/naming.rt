@@ -17,8 +17,8 @@ use sf_model::Design;
 use sf_node::{Node, Part};
 use std::alloc::{AllocError as NoMemory, Global};
 
-/// The tag with the first part that closes the subproblem, where it closes it. The area, which is the first part of all, stays
-/// and is not measured.
+/// The tag with the first part that closes the subproblem, where it closes it. The area, which is the first
+/// part of all, stays and is not measured.
 fn named<'a, B: Bounds>(
     design: &'a Design,
     bounds: &B,
@@ -52,7 +52,8 @@ fn name_tags<B: Bounds>(
     tags: &mut Vec<Tag>,
 ) -> Result<(), NoMemory>
     requires tree { AreTrees (B.part_value bounds.now design.now) cost (root design.now ∷ []) tags.old.items }
-    ensures named { OnOk result (AllNameFirst design.now (B.part_value bounds.now design.now) cost tags.new.items) }
+    ensures named { OnOk result (AllNameFirst design.now (B.part_value bounds.now design.now) cost
+        tags.new.items) }
     ensures alike { OnOk result (map unnamed tags.new.items ≡ map unnamed tags.old.items) }
 {
     let mut room = Room::new(alloc);
@@ -70,10 +71,13 @@ fn name_tags<B: Bounds>(
 
 /// What a bound's law says of its parts at each subproblem of a design.
 fn parts_are_below<B: Bounds>(design: &Design, bounds: &B)
-    ensures { ArePartsOf design.now (B.Values.value bounds.now design.now) (B.part_value bounds.now design.now) }
+    ensures { let value = B.Values.value bounds.now design.now in
+        let part = B.part_value bounds.now design.now in
+        ArePartsOf design.now value part }
 {}
 
-/// A valid certificate in which each closed subproblem names the first part of the bound that closes it. All else stays.
+/// A valid certificate in which each closed subproblem names the first part of the bound that closes it. All
+/// else stays.
 pub fn name_parts<B: Bounds>(
     alloc: Global,
     design: &Design,
@@ -81,10 +85,15 @@ pub fn name_parts<B: Bounds>(
     cert: Cert,
 ) -> Result<Cert, NoMemory>
     requires blocks { cert.blocks ≡ block_count design.now }
-    requires valid { IsValid design.now (B.Values.value bounds.now design.now) (B.part_value bounds.now design.now) cert }
-    ensures named { IfOk result (λ c. AllNameFirst design.now (B.part_value bounds.now design.now) c.cost c.tags) }
+    requires valid { let value = B.Values.value bounds.now design.now in
+        let part = B.part_value bounds.now design.now in
+        IsValid design.now value part cert }
+    ensures named { IfOk result
+        (λ c. AllNameFirst design.now (B.part_value bounds.now design.now) c.cost c.tags) }
     ensures alike { IfOk result (AreAlikeButNames cert) }
-    ensures valid { IfOk result (IsValid design.now (B.Values.value bounds.now design.now) (B.part_value bounds.now design.now)) }
+    ensures valid { let value = B.Values.value bounds.now design.now in
+        let part = B.part_value bounds.now design.now in
+        IfOk result (IsValid design.now value part) }
 {
     let Cert {
         blocks,

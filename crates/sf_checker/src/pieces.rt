@@ -29,7 +29,8 @@ impl From<AllocError> for FinishFault {
     }
 }
 
-/// A check of a certificate whose text comes in pieces, wherever they are cut. It keeps the header and one path.
+/// A check of a certificate whose text comes in pieces, wherever they are cut. It keeps the header and one
+/// path.
 #[derive(Drop)]
 pub struct Checking<'a, B: Bounds> {
     design: &'a Design,
@@ -41,7 +42,7 @@ pub struct Checking<'a, B: Bounds> {
 impl<'a, B: Bounds> Model for Checking<'a, B> {
     ghost use Rattle.sf_model.specs.declared.design.Design.{Design};
     ghost use Rattle.sf_checker.specs.declared.stage.Stage.{Stage};
-    ghost use Rattle.sf_checker.specs.Feeding.{IsReady};
+    ghost use Rattle.sf_checker.specs.Stages.{IsReady};
 
     ghost Value = { Design × B × Stage };
 
@@ -66,7 +67,9 @@ impl<'a, B: Bounds> Checking<'a, B> {
         design: &'a Design,
         bounds: &'a B,
     ) -> Result<Checking<'a, B>, AllocError>
-        ensures { IfOk result (λ c. IsFed B.Values.value B.part_value design.now (B.Values.value bounds.now design.now) (B.part_value bounds.now design.now) [] c) }
+        ensures { let value = B.Values.value bounds.now design.now in
+            let part = B.part_value bounds.now design.now in
+            IfOk result (λ c. IsFed B.Values.value B.part_value design.now value part [] c) }
     {
         Ok(Checking {
             design,
@@ -78,17 +81,25 @@ impl<'a, B: Bounds> Checking<'a, B> {
 
     /// The text that is fed is longer by this piece. After want of memory each later call answers it again.
     pub fn feed(&mut self, piece: &[u8]) -> Result<(), AllocError>
-        ensures fed { (design : DesignValue) (bound : Parts → ℕ) (part : Parts → Part → ℕ) (text : List ℕ) → IsFed B.Values.value B.part_value design bound part text self.old → OnOk result (IsFed B.Values.value B.part_value design bound part (text ++ piece.now) self.new) }
+        ensures fed { (design : DesignValue) (bound : Parts → ℕ) (part : Parts → Part → ℕ) (text : List ℕ)
+            → IsFed B.Values.value B.part_value design bound part text self.old
+            → OnOk result (IsFed B.Values.value B.part_value design bound part (text ++ piece.now) self.new) }
         ensures spent { OnErr result (IsSpent self.new) }
         ensures stays { IsSpent self.old → IsErr result }
     {
         self.stage.feed(self.alloc, self.design, self.bounds, piece)
     }
 
-    /// The answer to the certificate that the fed text spells, or the first fault of the text, however it was cut.
+    /// The answer to the certificate that the fed text spells, or the first fault of the text, however it was
+    /// cut.
     pub fn finish(self) -> Result<Answer, FinishFault>
-        ensures answer { (design : DesignValue) (bound : Parts → ℕ) (part : Parts → Part → ℕ) (text : List ℕ) → IsFed B.Values.value B.part_value design bound part text self.entry → IfOk result (λ a. IsAnswerTo design bound part text a) }
-        ensures fault { (design : DesignValue) (bound : Parts → ℕ) (part : Parts → Part → ℕ) (text : List ℕ) (e : FaultValue) → IsFed B.Values.value B.part_value design bound part text self.entry → result ≡ Err (fault.Text e) → cert_read (block_count design) text ≡ Err e }
+        ensures answer { (design : DesignValue) (bound : Parts → ℕ) (part : Parts → Part → ℕ) (text : List ℕ)
+            → IsFed B.Values.value B.part_value design bound part text self.entry
+            → IfOk result (λ a. IsAnswerTo design bound part text a) }
+        ensures fault { (design : DesignValue) (bound : Parts → ℕ) (part : Parts → Part → ℕ)
+            (text : List ℕ) (e : FaultValue)
+            → IsFed B.Values.value B.part_value design bound part text self.entry
+            → result ≡ Err (fault.Text e) → cert_read (block_count design) text ≡ Err e }
         ensures stays { IsSpent self.entry → result ≡ Err fault.NoMemory }
     {
         match self.stage.finish(self.alloc, self.design, self.bounds) {

@@ -8,8 +8,8 @@ ghost use Rattle.sf_certificate.specs.Valid.{HasCost};
 ghost use Rattle.sf_checker.specs.Answers.{IsUnfit};
 ghost use Rattle.sf_checker.specs.Listed.{HasListedShapes};
 
-use sf_model::{Design, Plan, Shape};
-use sf_place::size;
+use sf_model::{Design, Plan};
+use sf_place::{fits, is_listed};
 use sf_polish::{Expr, plan_of};
 use sf_wire::cost;
 use std::alloc::{AllocError as NoMemory, Global};
@@ -20,40 +20,27 @@ pub fn plan_cost(alloc: Global, design: &Design, expr: &Expr) -> Result<Option<u
     ensures { IfOk result (λ r. MatchOption r (IsUnfit design.now expr.now) (HasCost design.now expr.now)) }
 {
     let plan = plan_of(alloc, expr)?;
-    if !is_listed(design, &plan) {
+    if !has_listed_shapes(design, &plan) {
         return Ok(None);
     }
-    if !fits(design, &plan) {
+    if !fits(design.outline, &plan) {
         return Ok(None);
     }
     Ok(Some(cost(alloc, design, &plan)?))
 }
 
 /// Whether each block of the plan has a shape of its list.
-fn is_listed(design: &Design, plan: &Plan) -> bool
+fn has_listed_shapes(design: &Design, plan: &Plan) -> bool
     requires { HasBlocksBelow (block_count design.now) (tree_of plan.now) }
     ensures { IsTrue result ↔ HasListedShapes design.now (tree_of plan.now) }
 {
     match plan {
-        Plan::Leaf(block, shape) => lists(design, *block, *shape),
-        Plan::Beside(left, right) => is_listed(design, left) && is_listed(design, right),
-        Plan::Above(lower, upper) => is_listed(design, lower) && is_listed(design, upper),
+        Plan::Leaf(block, shape) => is_listed(design, *block, *shape),
+        Plan::Beside(left, right) => {
+            has_listed_shapes(design, left) && has_listed_shapes(design, right)
+        }
+        Plan::Above(lower, upper) => {
+            has_listed_shapes(design, lower) && has_listed_shapes(design, upper)
+        }
     }
-}
-
-fn lists(design: &Design, block: u16, shape: Shape) -> bool
-    requires { block < block_count design.now }
-    ensures { IsTrue result ↔ Contains (shapes_of design.now block) shape }
-{
-    let shapes = &design.blocks.as_slice()[usize::from(block)].shapes;
-    shapes.as_slice().contains(&shape)
-}
-
-fn fits(design: &Design, plan: &Plan) -> bool
-    requires few { leaf_count (tree_of plan.now) ≤ 320 }
-    requires sides { HasSides (tree_of plan.now) }
-    ensures { IsTrue result ↔ Fits design.now.outline (tree_of plan.now) }
-{
-    let (width, height) = size(plan);
-    width <= u64::from(design.outline.w) && height <= u64::from(design.outline.h)
 }

@@ -1,6 +1,7 @@
 //! How far a text has come that is fed in pieces.
 
-ghost use Rattle.std.specs.Prelude.{◌≡◌, ◌≢◌, ℕ, ◌≤◌, List, [], ◌∷◌, ◌++◌, length, take, IfOk, IfErr, OnOk, OnErr, IsErr, IsTrue, ◌↔◌, Err};
+ghost use Rattle.std.specs.Prelude.{◌≡◌, ◌≢◌, ℕ, ◌≤◌, List, [], ◌∷◌, ◌++◌, length, take, IfOk, IfErr, OnOk};
+ghost use Rattle.std.specs.Prelude.{OnErr, IsErr, IsTrue, ◌↔◌, Err};
 ghost use Rattle.sf_model.specs.Legal.{block_count};
 ghost use Rattle.sf_certificate.specs.declared.fault.CertFault.TheVariants.{NoMemory};
 ghost use Rattle.sf_certificate.specs.Bytes.{IsHeader};
@@ -24,21 +25,13 @@ pub struct Body<'a> {
     judge: Judge<'a>,
 }
 
-/// A text up to the end of its header, one whose header was read, or one that has a fault, whatever follows. Where memory was
-/// wanting, that is the fault.
+/// A text up to the end of its header, one whose header was read, or one that has a fault, whatever follows.
+/// Where memory was wanting, that is the fault.
 #[derive(Drop)]
 pub enum Stage<'a> {
     Opening(Opening),
     Tree(Body<'a>),
     Fault(CertFault),
-}
-
-fn block_count(design: &Design) -> u16
-    ensures value { result ≡ block_count design.now }
-    ensures some { 1 ≤ result }
-    ensures few { result ≤ 320 }
-{
-    design.blocks.as_slice().len() as u16
 }
 
 /// The answer to a text that is read at once.
@@ -48,17 +41,20 @@ fn answer_whole<B: Bounds>(
     bounds: &B,
     text: &[u8],
 ) -> Result<Answer, CertFault>
-    ensures answer { IfOk result (λ a. IsAnswerTo design.now (B.Values.value bounds.now design.now) (B.part_value bounds.now design.now) text.now a) }
+    ensures answer { let value = B.Values.value bounds.now design.now in
+        let part = B.part_value bounds.now design.now in
+        IfOk result (λ a. IsAnswerTo design.now value part text.now a) }
     ensures fault { IfErr result (λ e. e ≢ NoMemory → cert_read (block_count design.now) text.now ≡ Err e) }
 {
-    let cert = read(alloc, text, block_count(design))?;
+    let cert = read(alloc, text, design.block_count())?;
     let answer = check(alloc, design, bounds, &cert)?;
     Ok(answer)
 }
 
 impl<'a> Body<'a> {
-    ghost use Rattle.sf_checker.specs.Feeding.{IsAnswerTo, IsBody, IsFaulty};
-    ghost use Rattle.sf_checker.specs.Judging.{IsSteady};
+    ghost use Rattle.sf_checker.specs.Feeding.{IsAnswerTo};
+    ghost use Rattle.sf_checker.specs.Stages.{IsBody, IsFaulty};
+    ghost use Rattle.sf_checker.specs.Standing.{IsSteady};
 
     /// At the first byte behind the header.
     fn new<B: Bounds>(
@@ -68,11 +64,14 @@ impl<'a> Body<'a> {
         opening: &Opening,
     ) -> Result<Body<'a>, CertFault>
         requires { IsHeader opening.now }
-        ensures steady { IfOk result (λ body. IsSteady design.now (B.Values.value bounds.now design.now) body.judge) }
-        ensures reads { IfOk result (λ body. IsBody design.now (B.Values.value bounds.now design.now) (B.part_value bounds.now design.now) opening.now body) }
+        ensures steady { IfOk result
+            (λ body. IsSteady design.now (B.Values.value bounds.now design.now) body.judge) }
+        ensures reads { let value = B.Values.value bounds.now design.now in
+            let part = B.part_value bounds.now design.now in
+            IfOk result (λ body. IsBody design.now value part opening.now body) }
         ensures fault { IfErr result (λ e. e ≢ NoMemory → IsFaulty design.now opening.now e) }
     {
-        let (header, reader) = opening.read(alloc, block_count(design))?;
+        let (header, reader) = opening.read(alloc, design.block_count())?;
         let judge = Judge::new(alloc, design, bounds, &header.plan, header.cost)?;
         Ok(Body {
             header,
@@ -89,11 +88,18 @@ impl<'a> Body<'a> {
         piece: &[u8],
     ) -> Result<(), CertFault>
         requires steady { IsSteady design.now (B.Values.value bounds.now design.now) self.old.judge }
-        ensures steady { OnOk result (IsSteady design.now (B.Values.value bounds.now design.now) self.new.judge) }
-        ensures reads { (text : List ℕ) → IsBody design.now (B.Values.value bounds.now design.now) (B.part_value bounds.now design.now) text self.old → OnOk result (IsBody design.now (B.Values.value bounds.now design.now) (B.part_value bounds.now design.now) (text ++ piece.now) self.new) }
-        ensures fault { (text : List ℕ) → IsBody design.now (B.Values.value bounds.now design.now) (B.part_value bounds.now design.now) text self.old → IfErr result (λ e. e ≢ NoMemory → IsFaulty design.now (text ++ piece.now) e) }
+        ensures steady { OnOk result (IsSteady design.now (B.Values.value bounds.now design.now)
+            self.new.judge) }
+        ensures reads { let value = B.Values.value bounds.now design.now in
+            let part = B.part_value bounds.now design.now in
+            (text : List ℕ) → IsBody design.now value part text self.old
+            → OnOk result (IsBody design.now value part (text ++ piece.now) self.new) }
+        ensures fault { let value = B.Values.value bounds.now design.now in
+            let part = B.part_value bounds.now design.now in
+            (text : List ℕ) → IsBody design.now value part text self.old → IfErr result
+            (λ e. e ≢ NoMemory → IsFaulty design.now (text ++ piece.now) e) }
     {
-        let blocks = block_count(design);
+        let blocks = design.block_count();
         let mut at = 0;
         while at < piece.len() {
             let taken = self.reader.take(&piece[at..], blocks)?;
@@ -108,15 +114,21 @@ impl<'a> Body<'a> {
     /// The answer, after the last byte.
     fn finish<B: Bounds>(self, design: &'a Design, bounds: &B) -> Result<Answer, CertFault>
         requires steady { IsSteady design.now (B.Values.value bounds.now design.now) self.judge }
-        ensures answer { (text : List ℕ) → IsBody design.now (B.Values.value bounds.now design.now) (B.part_value bounds.now design.now) text self.entry → IfOk result (λ a. IsAnswerTo design.now (B.Values.value bounds.now design.now) (B.part_value bounds.now design.now) text a) }
-        ensures fault { (text : List ℕ) → IsBody design.now (B.Values.value bounds.now design.now) (B.part_value bounds.now design.now) text self.entry → IfErr result (λ e. e ≢ NoMemory → cert_read (block_count design.now) text ≡ Err e) }
+        ensures answer { let value = B.Values.value bounds.now design.now in
+            let part = B.part_value bounds.now design.now in
+            (text : List ℕ) → IsBody design.now value part text self.entry → IfOk result
+            (λ a. IsAnswerTo design.now value part text a) }
+        ensures fault { let value = B.Values.value bounds.now design.now in
+            let part = B.part_value bounds.now design.now in
+            (text : List ℕ) → IsBody design.now value part text self.entry → IfErr result
+            (λ e. e ≢ NoMemory → cert_read (block_count design.now) text ≡ Err e) }
     {
         let Body {
             header,
             reader,
             mut judge,
         } = self;
-        if let Some(tag) = reader.finish(block_count(design))? {
+        if let Some(tag) = reader.finish(design.block_count())? {
             judge.take(design, bounds, header.cost, tag)?;
         }
         Ok(judge.answer(header.cost, header.bound))
@@ -124,8 +136,10 @@ impl<'a> Body<'a> {
 }
 
 impl<'a> Stage<'a> {
-    ghost use Rattle.sf_checker.specs.Feeding.{IsAnswerTo, IsFaulty, IsOutside, IsReady, IsStage, IsWanting};
+    ghost use Rattle.sf_checker.specs.Feeding.{IsAnswerTo};
+    ghost use Rattle.sf_checker.specs.Stages.{IsFaulty, IsOutside, IsReady, IsStage, IsWanting};
 
+    /// Whether memory was wanting.
     fn is_wanting(&self) -> bool
         ensures { IsTrue result ↔ IsWanting self.now }
     {
@@ -142,7 +156,10 @@ impl<'a> Stage<'a> {
     ) -> Result<(), AllocError>
         requires ready { IsReady design.now (B.Values.value bounds.now design.now) self.old }
         ensures ready { IsReady design.now (B.Values.value bounds.now design.now) self.new }
-        ensures fed { (text : List ℕ) → IsStage design.now (B.Values.value bounds.now design.now) (B.part_value bounds.now design.now) text self.old → OnOk result (IsStage design.now (B.Values.value bounds.now design.now) (B.part_value bounds.now design.now) (text ++ piece.now) self.new) }
+        ensures fed { let value = B.Values.value bounds.now design.now in
+            let part = B.part_value bounds.now design.now in
+            (text : List ℕ) → IsStage design.now value part text self.old
+            → OnOk result (IsStage design.now value part (text ++ piece.now) self.new) }
         ensures spent { OnErr result (IsWanting self.new) }
         ensures stays { IsWanting self.old → IsErr result }
     {
@@ -178,8 +195,14 @@ impl<'a> Stage<'a> {
     ) -> Result<(), CertFault>
         requires ready { IsReady design.now (B.Values.value bounds.now design.now) self.old }
         ensures ready { OnOk result (IsReady design.now (B.Values.value bounds.now design.now) self.new) }
-        ensures fed { (text : List ℕ) → IsStage design.now (B.Values.value bounds.now design.now) (B.part_value bounds.now design.now) text self.old → OnOk result (IsStage design.now (B.Values.value bounds.now design.now) (B.part_value bounds.now design.now) (text ++ piece.now) self.new) }
-        ensures fault { (text : List ℕ) → IsStage design.now (B.Values.value bounds.now design.now) (B.part_value bounds.now design.now) text self.old → IfErr result (λ e. e ≢ NoMemory → IsFaulty design.now (text ++ piece.now) e) }
+        ensures fed { let value = B.Values.value bounds.now design.now in
+            let part = B.part_value bounds.now design.now in
+            (text : List ℕ) → IsStage design.now value part text self.old
+            → OnOk result (IsStage design.now value part (text ++ piece.now) self.new) }
+        ensures fault { let value = B.Values.value bounds.now design.now in
+            let part = B.part_value bounds.now design.now in
+            (text : List ℕ) → IsStage design.now value part text self.old → IfErr result
+            (λ e. e ≢ NoMemory → IsFaulty design.now (text ++ piece.now) e) }
     {
         let opened = self.open(alloc, design, bounds, piece)?;
         match self {
@@ -189,8 +212,8 @@ impl<'a> Stage<'a> {
         }
     }
 
-    /// The bytes of a piece up to the end of the header, or all of them where it ends in none. The answer is how many they
-    /// are.
+    /// The bytes of a piece up to the end of the header, or all of them where it ends in none. The answer is
+    /// how many they are.
     fn open<B: Bounds>(
         &mut self,
         alloc: Global,
@@ -199,11 +222,18 @@ impl<'a> Stage<'a> {
         piece: &[u8],
     ) -> Result<usize, CertFault>
         requires ready { IsReady design.now (B.Values.value bounds.now design.now) self.old }
-        ensures ready { IfOk result (λ opened. IsReady design.now (B.Values.value bounds.now design.now) self.new) }
+        ensures ready { IfOk result
+            (λ opened. IsReady design.now (B.Values.value bounds.now design.now) self.new) }
         ensures inside { IfOk result (λ opened. opened ≤ length piece.now) }
         ensures all { IfOk result (λ opened. IsOutside self.new → opened ≡ length piece.now) }
-        ensures fed { (text : List ℕ) → IsStage design.now (B.Values.value bounds.now design.now) (B.part_value bounds.now design.now) text self.old → IfOk result (λ opened. IsStage design.now (B.Values.value bounds.now design.now) (B.part_value bounds.now design.now) (text ++ take opened piece.now) self.new) }
-        ensures fault { (text : List ℕ) → IsStage design.now (B.Values.value bounds.now design.now) (B.part_value bounds.now design.now) text self.old → IfErr result (λ e. e ≢ NoMemory → IsFaulty design.now (text ++ piece.now) e) }
+        ensures fed { let value = B.Values.value bounds.now design.now in
+            let part = B.part_value bounds.now design.now in
+            (text : List ℕ) → IsStage design.now value part text self.old → IfOk result
+            (λ opened. IsStage design.now value part (text ++ take opened piece.now) self.new) }
+        ensures fault { let value = B.Values.value bounds.now design.now in
+            let part = B.part_value bounds.now design.now in
+            (text : List ℕ) → IsStage design.now value part text self.old → IfErr result
+            (λ e. e ≢ NoMemory → IsFaulty design.now (text ++ piece.now) e) }
     {
         let mut opened = 0;
         while opened < piece.len() && self.is_outside() {
@@ -231,8 +261,14 @@ impl<'a> Stage<'a> {
         requires ready { IsReady design.now (B.Values.value bounds.now design.now) self.old }
         requires outside { IsOutside self.old }
         ensures ready { OnOk result (IsReady design.now (B.Values.value bounds.now design.now) self.new) }
-        ensures fed { (text : List ℕ) → IsStage design.now (B.Values.value bounds.now design.now) (B.part_value bounds.now design.now) text self.old → OnOk result (IsStage design.now (B.Values.value bounds.now design.now) (B.part_value bounds.now design.now) (text ++ byte ∷ []) self.new) }
-        ensures fault { (text : List ℕ) → IsStage design.now (B.Values.value bounds.now design.now) (B.part_value bounds.now design.now) text self.old → IfErr result (λ e. e ≢ NoMemory → IsFaulty design.now (text ++ byte ∷ []) e) }
+        ensures fed { let value = B.Values.value bounds.now design.now in
+            let part = B.part_value bounds.now design.now in
+            (text : List ℕ) → IsStage design.now value part text self.old
+            → OnOk result (IsStage design.now value part (text ++ byte ∷ []) self.new) }
+        ensures fault { let value = B.Values.value bounds.now design.now in
+            let part = B.part_value bounds.now design.now in
+            (text : List ℕ) → IsStage design.now value part text self.old → IfErr result
+            (λ e. e ≢ NoMemory → IsFaulty design.now (text ++ byte ∷ []) e) }
     {
         match self {
             Stage::Opening(opening) => {
@@ -254,8 +290,14 @@ impl<'a> Stage<'a> {
         bounds: &B,
     ) -> Result<Answer, CertFault>
         requires ready { IsReady design.now (B.Values.value bounds.now design.now) self }
-        ensures answer { (text : List ℕ) → IsStage design.now (B.Values.value bounds.now design.now) (B.part_value bounds.now design.now) text self.entry → IfOk result (λ a. IsAnswerTo design.now (B.Values.value bounds.now design.now) (B.part_value bounds.now design.now) text a) }
-        ensures fault { (text : List ℕ) → IsStage design.now (B.Values.value bounds.now design.now) (B.part_value bounds.now design.now) text self.entry → IfErr result (λ e. e ≢ NoMemory → cert_read (block_count design.now) text ≡ Err e) }
+        ensures answer { let value = B.Values.value bounds.now design.now in
+            let part = B.part_value bounds.now design.now in
+            (text : List ℕ) → IsStage design.now value part text self.entry → IfOk result
+            (λ a. IsAnswerTo design.now value part text a) }
+        ensures fault { let value = B.Values.value bounds.now design.now in
+            let part = B.part_value bounds.now design.now in
+            (text : List ℕ) → IsStage design.now value part text self.entry → IfErr result
+            (λ e. e ≢ NoMemory → cert_read (block_count design.now) text ≡ Err e) }
         ensures stays { IsWanting self.entry → result ≡ Err NoMemory }
     {
         match self {

@@ -1,6 +1,6 @@
 use Rattle.std.proofs.Common.{take}
-use Rattle.sf_checker.specs.Judging.{IsSteady, IsFound}
-use Rattle.sf_checker.proofs.checking.answer_of.Given as goal
+use Rattle.sf_checker.specs.Standing.{IsSteady, IsFound}
+use Rattle.sf_checker.proofs.checking.check.Given as goal
 
 abbrev pub invariant-loop-tag : goal.invariant-loop-tag
 invariant-loop-tag g l = record {

@@ -4,8 +4,8 @@ use Rattle.std.proofs.lemmas.Result.{err_from_is_err_and}
 use Rattle.sf_node.specs.declared.part.Part.{Part}
 use Rattle.sf_node.specs.Parts.{Parts}
 use Rattle.sf_checker.specs.declared.stage.Body.{Body}
-use Rattle.sf_checker.specs.Feeding.{IsBody, IsFaulty}
-use Rattle.sf_checker.specs.Judging.{IsSteady}
+use Rattle.sf_checker.specs.Stages.{IsBody, IsFaulty}
+use Rattle.sf_checker.specs.Standing.{IsSteady}
 use Rattle.sf_checker.proofs.Fed.{body-tag, body-none, body-fault, rest_of, rest-is, past-bytes, past-all}
 use Rattle.sf_checker.proofs.stage.Body.feed.Goals as goal
 use Rattle.sf_checker.proofs.stage.Body.feed.Goals.{in-Some+in_ok-take, in_default}
@@ -20,7 +20,7 @@ returns-in_err-taken-clause-fault g c text b =
     let at = c.loop-at.at in
     let e = c.in_err-taken.field-0.0 in
     rw (p.1, p.2) (λ ne. subst (λ t. IsFaulty design t e) (past-all text piece at)
-    (body-fault design value part (text ++ take at piece) c.block_count-blocks.result c.loop-at.self c.block_count-blocks.ensures.value (c.loop-at.invariant.reads text b) (rest_of piece at) e (c.in_err-taken.ensures.fault ne)))
+    (body-fault design value part (text ++ take at piece) c.block_count-blocks.result c.loop-at.self c.block_count-blocks.ensures (c.loop-at.invariant.reads text b) (rest_of piece at) e (c.in_err-taken.ensures.fault ne)))
 
 pub loop-at-preserved : goal.loop-at-preserved
 loop-at-preserved g c =
@@ -39,7 +39,7 @@ loop-at-preserved g c =
         steady = subst (λ (b : Body). IsSteady design value b.judge) (sym w.self-is) w.in_ok-take.ensures.steady;
         reads = λ text b. subst (IsBody design value part (text ++ take (at + count) piece)) (sym w.self-is)
             (subst (λ t. IsBody design value part t (record { header = body.header; reader = c.take.new.self; judge = w.take-in-Some.new.self })) (past-bytes text piece at count)
-            (body-tag design value part (text ++ take at piece) n body c.block_count-blocks.ensures.value (c.loop-at.invariant.reads text b) (take count (rest_of piece at)) c.take.new.self w.take-in-Some.new.self w.in-Some.tag
+            (body-tag design value part (text ++ take at piece) n body c.block_count-blocks.ensures (c.loop-at.invariant.reads text b) (take count (rest_of piece at)) c.take.new.self w.take-in-Some.new.self w.in-Some.tag
             (rw w.in-Some.is at c.in_ok-taken.ensures.tag) w.in_ok-take.ensures.found));
       }
       | in_default w ↦ record {
@@ -47,7 +47,7 @@ loop-at-preserved g c =
         steady = subst (λ (b : Body). IsSteady design value b.judge) (sym w.self-is) c.loop-at.invariant.steady;
         reads = λ text b. subst (IsBody design value part (text ++ take (at + count) piece)) (sym w.self-is)
             (subst (λ t. IsBody design value part t (record { header = body.header; reader = c.take.new.self; judge = body.judge })) (past-bytes text piece at count)
-            (body-none design value part (text ++ take at piece) n body c.block_count-blocks.ensures.value (c.loop-at.invariant.reads text b) (take count (rest_of piece at)) c.take.new.self
+            (body-none design value part (text ++ take at piece) n body c.block_count-blocks.ensures (c.loop-at.invariant.reads text b) (take count (rest_of piece at)) c.take.new.self
             (rw w.in_default.is at c.in_ok-taken.ensures.tag)));
       }
     ]

@@ -5,7 +5,7 @@ use Rattle.sf_certificate.specs.declared.fault.CertFault.TheVariants.{NoMemory}
 use Rattle.sf_node.specs.declared.part.Part.{Part}
 use Rattle.sf_node.specs.Parts.{Parts}
 use Rattle.sf_checker.specs.declared.stage.Stage.TheVariants.{Tree, Fault}
-use Rattle.sf_checker.specs.Feeding.{IsBody, IsFaulty, IsOutside, IsStage}
+use Rattle.sf_checker.specs.Stages.{IsBody, IsFaulty, IsOutside, IsStage}
 use Rattle.sf_checker.proofs.Fed.{past-all}
 use Rattle.sf_checker.proofs.stage.Stage.advance.Goals as goal
 

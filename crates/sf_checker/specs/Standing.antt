@@ -1,16 +1,37 @@
--- What is found of a certificate while its tags come.
-use Rattle.std.specs.Prelude.{◌≡◌, ℕ, List, Option, MatchOption, Ok}
+-- How the check stands between two tags. These are words of its loop over the tags; what it answers stands in Answers.
+use Rattle.std.specs.Prelude.{◌≡◌, ℕ, Bool, List, Option, Some, None, MatchOption, Ok}
 use Rattle.sf_model.specs.declared.design.Design.{Design}
 use Rattle.sf_node.specs.declared.part.Part.{Part}
 use Rattle.sf_node.specs.Parts.{Parts}
+use Rattle.sf_node.specs.Later.{pending}
 use Rattle.sf_node.specs.Subproblem.{root}
 use Rattle.sf_bounds.specs.Serving.{MayServe}
 use Rattle.sf_certificate.specs.declared.cert.Cert.{Cert}
 use Rattle.sf_certificate.specs.declared.tag.Tag.{Tag}
-use Rattle.sf_cursor.specs.Path.{IsPath}
+use Rattle.sf_certificate.specs.declared.tag.Tag.TheVariants.{Extend, Split, Closed, Open}
+use Rattle.sf_cursor.specs.Path.{Path, IsPath}
 use Rattle.sf_checker.specs.declared.answer.Why.{Why}
 use Rattle.sf_checker.specs.Answers.{IsPlanRight, IsFirst}
-use Rattle.sf_checker.specs.Walking.{Stand, walked, start, progress_of}
+use Rattle.sf_checker.specs.Walking.{Progress, walked, start}
+
+-- the number that a tag asks for: of a closed subproblem the value of the part that it names, of an open one its own
+abbrev pub asked : ℕ → (Part → ℕ) → Tag → Option ℕ
+asked value part Extend = None
+asked value part (Split b) = None
+asked value part (Closed p) = Some (part p)
+asked value part Open = Some value
+
+-- what a walk keeps: where it stands, whether anything is not visited yet, and the rest as it is
+pub record Stand : Type 0 where
+  pub path : Path
+  pub more : Bool
+  pub low : ℕ
+  pub decided : ℕ
+  pub number : ℕ
+
+-- the progress of a walk that stands so: what waits is where it stands and what is behind that
+abbrev pub progress_of : Design → Stand → Progress
+progress_of design walk = record { waiting = pending design walk.more walk.path.node; low = walk.low; decided = walk.decided; number = walk.number }
 
 -- where the walk stands, the design that the room serves, and the first failure so far
 pub record Judged : Type 0 where
