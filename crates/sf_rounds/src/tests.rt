@@ -1,10 +1,11 @@
-//! Two hard blocks, searched with several budgets, and two squares with a net.
+//! Two hard blocks, searched with several budgets, five squares, and two squares with a net.
 
 ghost use Rattle.std.specs.Prelude.{◌≡◌, ◌∷◌, [], IfOk};
 
 use crate::{SearchOptions, search};
 use sf_bounds::Standard;
 use sf_certificate::Tag;
+use sf_checker::{Answer, check};
 use sf_io::{Gate, OpenGate};
 use sf_model::{
     Block, BlockList, Design, MAX, Name, Net, NetList, Outline, Pad, PadList, Pin, Pins, Shape,
@@ -78,6 +79,41 @@ fn several_workers_search_two_hard_blocks(rt: HostRuntime) -> Result<(), Fail> {
     Ok(())
 }
 
+/// The squares of the sides 1 to 5, area alone.
+fn five_squares(alloc: Global) -> Result<Design, AllocError> {
+    let one = block(alloc, Shape { w: 1, h: 1 })?;
+    let two = block(alloc, Shape { w: 2, h: 2 })?;
+    let three = block(alloc, Shape { w: 3, h: 3 })?;
+    let four = block(alloc, Shape { w: 4, h: 4 })?;
+    let five = block(alloc, Shape { w: 5, h: 5 })?;
+    Ok(Design {
+        blocks: BlockList::from_vec(vec![in alloc; one, two, three, four, five]?),
+        pads: PadList::from_vec(Vec::new(alloc)),
+        nets: NetList::from_vec(Vec::new(alloc)),
+        outline: Outline { w: 100, h: 100 },
+        weights: Weights { area: 1, wire: 0 },
+    })
+}
+
+/// The squares of the sides 1 to 5 fit into no less than an area of 60 (Korf 2003). To prove it takes more
+/// decisions than one thread alone makes the certificate of.
+#[test]
+fn two_workers_share_out_the_certificate(rt: HostRuntime) -> Result<(), Fail> {
+    let alloc = rt.alloc();
+    let design = five_squares(alloc)?;
+    let options = SearchOptions {
+        workers: 2,
+        nodes: 10_000,
+    };
+    let found = search(&rt, alloc, &design, &Standard, options, &OpenGate)?;
+    assert_eq!(rt; (found.cost, found.bound), (60, 60));
+    let many = found.decided > 5000;
+    assert!(rt; many);
+    let answer = check(alloc, &design, &Standard, &found.cert)?;
+    assert_eq!(rt; answer, Answer::Yes(60, 60, found.decided));
+    Ok(())
+}
+
 /// Two squares, a pad where the middle of the first one lies when it stands on the right, and a net of both.
 fn squares_and_pad(alloc: Global) -> Result<Design, AllocError> {
     let first = block(alloc, Shape { w: 2, h: 2 })?;
@@ -100,7 +136,8 @@ fn squares_and_pad(alloc: Global) -> Result<Design, AllocError> {
     })
 }
 
-/// The first plan costs 8 for its area and 4 for the net, so no area closes its subproblem yet. A later plan costs 8.
+/// The first plan costs 8 for its area and 4 for the net, so no area closes its subproblem yet. A later plan
+/// costs 8.
 #[test]
 fn names_are_those_of_the_last_cost(rt: HostRuntime) -> Result<(), Fail> {
     let alloc = rt.alloc();
@@ -127,7 +164,8 @@ fn names_are_those_of_the_last_cost(rt: HostRuntime) -> Result<(), Fail> {
     Ok(())
 }
 
-/// Counts the decisions of two workers, and those whose step is not the count of the same worker's decisions before.
+/// Counts the decisions of two workers, and those whose step is not the count of the same worker's decisions
+/// before.
 #[derive(Drop)]
 struct Counting {
     first: AtomicU64,
