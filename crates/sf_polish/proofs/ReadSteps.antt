@@ -7,8 +7,8 @@ use Rattle.sf_model.specs.declared.parts.Shape.{Shape}
 use Rattle.sf_polish.specs.declared.expr.Token.{Token}
 use Rattle.sf_polish.specs.declared.fault.ExprFault.{ExprFault}
 use Rattle.sf_polish.specs.declared.fault.ExprFault.TheVariants.{BadToken, NotBallot, NotNormal, RepeatedBlock, MissingBlock, NoMemory}
-use Rattle.sf_polish.specs.declared.piece.Piece.{Piece}
-use Rattle.sf_polish.specs.declared.piece.Piece.TheVariants as pieces
+use Rattle.sf_polish.specs.declared.word.Piece.{Piece}
+use Rattle.sf_polish.specs.declared.word.Piece.TheVariants as pieces
 use Rattle.sf_polish.specs.Shaping.{no_shape}
 use Rattle.sf_polish.specs.Word.{shaped_token_in, piece_in}
 use Rattle.sf_polish.specs.Reading.{token_after, ended, tokens_from, shapes_with, shapes_from, expr_of_parts, expr_read, Fails, ◌>>=◌}

@@ -15,8 +15,8 @@ use Rattle.sf_polish.specs.declared.expr.Expr.{Expr}
 use Rattle.sf_polish.specs.declared.expr.Token.{Token}
 use Rattle.sf_polish.specs.declared.expr.Token.TheVariants as token
 use Rattle.sf_polish.specs.declared.fault.ExprFault.{ExprFault}
-use Rattle.sf_polish.specs.declared.piece.Piece.{Piece}
-use Rattle.sf_polish.specs.declared.piece.Piece.TheVariants as piece
+use Rattle.sf_polish.specs.declared.word.Piece.{Piece}
+use Rattle.sf_polish.specs.declared.word.Piece.TheVariants as piece
 use Rattle.sf_polish.specs.Normal.{is_block, is_outside, IsNormal}
 use Rattle.sf_polish.specs.Postfix.{shape_at}
 use Rattle.sf_polish.specs.Reading.{is_named, tokens_from, shapes_with, shapes_from, tokens_read, expr_of_parts, expr_read, ◌>>=◌}

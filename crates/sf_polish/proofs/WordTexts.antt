@@ -17,8 +17,8 @@ use Rattle.sf_model.specs.declared.parts.Shape.{Shape}
 use Rattle.sf_model.specs.Limits.{IsSide}
 use Rattle.sf_polish.specs.declared.expr.Token.{Token}
 use Rattle.sf_polish.specs.declared.expr.Token.TheVariants as token
-use Rattle.sf_polish.specs.declared.piece.Piece.{Piece}
-use Rattle.sf_polish.specs.declared.piece.Piece.TheVariants as piece
+use Rattle.sf_polish.specs.declared.word.Piece.{Piece}
+use Rattle.sf_polish.specs.declared.word.Piece.TheVariants as piece
 use Rattle.sf_polish.specs.Normal.{is_outside}
 use Rattle.sf_polish.specs.Postfix.{shape_at}
 use Rattle.sf_polish.specs.Text.{token_text, shape_text}

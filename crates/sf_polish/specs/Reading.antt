@@ -8,12 +8,13 @@ use Rattle.sf_polish.specs.declared.expr.Token.{Token}
 use Rattle.sf_polish.specs.declared.expr.Token.TheVariants.{Beside, Above, Block}
 use Rattle.sf_polish.specs.declared.fault.ExprFault.{ExprFault}
 use Rattle.sf_polish.specs.declared.fault.ExprFault.TheVariants.{BadToken, NotBallot, NotNormal, RepeatedBlock, MissingBlock, NoMemory}
-use Rattle.sf_polish.specs.declared.piece.Piece.{Piece}
-use Rattle.sf_polish.specs.declared.piece.Piece.TheVariants as piece
+use Rattle.sf_polish.specs.declared.word.Piece.{Piece}
+use Rattle.sf_polish.specs.declared.word.Piece.TheVariants as piece
 use Rattle.sf_polish.specs.Normal.{is_block, operands, operators, ends_in}
 use Rattle.sf_polish.specs.Shaping.{no_shape}
 use Rattle.sf_polish.specs.Word.{token_in, shaped_token_in, piece_in}
 
+-- whether a block is among the tokens
 abbrev pub is_named : ℕ → List Token → Bool
 is_named b tokens = list_any (is_block b) tokens
 
@@ -56,18 +57,22 @@ shapes_with shapes (Some piece.Beside) = shapes
 shapes_with shapes (Some piece.Above) = shapes
 shapes_with shapes (Some (piece.Block b s)) = slice_set shapes b s
 
+-- the shapes after the words
 unfoldable pub shapes_from : ℕ → List Shape → List LineWord → List Shape
 shapes_from blocks shapes [] = shapes
 shapes_from blocks shapes (word ∷ more) = shapes_from blocks (shapes_with shapes (piece_in blocks word.text)) more
 
 -- ---- the two texts
 
+-- what a text of tokens is read as
 abbrev pub tokens_read : ℕ → List ℕ → Result (List Token) ExprFault
 tokens_read blocks text = tokens_from blocks (last_line_of text) (token_in blocks) [] (line_words text)
 
+-- the expression of its tokens and shapes
 abbrev pub expr_of_parts : List Shape → List Token → Result Expr ExprFault
 expr_of_parts shapes tokens = Ok (record { tokens = tokens; shapes = shapes })
 
+-- what the text of an expression is read as
 abbrev pub expr_read : ℕ → List ℕ → Result Expr ExprFault
 expr_read blocks text = tokens_from blocks (last_line_of text) (shaped_token_in blocks) [] (line_words text)
     >>= expr_of_parts (shapes_from blocks (replicate blocks no_shape) (line_words text))

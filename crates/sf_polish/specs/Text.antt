@@ -33,6 +33,7 @@ shaped_text shapes (Block b) = decimal b ++ (58 ∷ shape_text (shape_at shapes 
 abbrev pub expr_words : Expr → List (List ℕ)
 expr_words expr = map (shaped_text expr.shapes) expr.tokens
 
+-- the text of an expression
 abbrev pub expr_text : Expr → List ℕ
 expr_text expr = join_with_byte 32 (expr_words expr)
 

@@ -6,8 +6,8 @@ use Rattle.sf_lex.specs.Whole.{plain_read}
 use Rattle.sf_model.specs.declared.parts.Shape.{Shape}
 use Rattle.sf_polish.specs.declared.expr.Token.{Token}
 use Rattle.sf_polish.specs.declared.expr.Token.TheVariants as token
-use Rattle.sf_polish.specs.declared.piece.Piece.{Piece}
-use Rattle.sf_polish.specs.declared.piece.Piece.TheVariants.{Beside, Above, Block}
+use Rattle.sf_polish.specs.declared.word.Piece.{Piece}
+use Rattle.sf_polish.specs.declared.word.Piece.TheVariants.{Beside, Above, Block}
 
 -- the token of a piece, without the shape
 abbrev pub token_of : Piece → Token
@@ -21,9 +21,11 @@ is_byte b [] = false
 is_byte b (c ∷ []) = c == b
 is_byte b (c ∷ d ∷ bytes) = false
 
+-- the colon
 abbrev pub is_colon : ℕ → Bool
 is_colon b = b == 58
 
+-- the letter `x`
 abbrev pub is_times : ℕ → Bool
 is_times b = b == 120
 
@@ -45,6 +47,7 @@ abbrev pub shape_of_sides : Option ℕ → Option ℕ → Option Shape
 shape_of_sides (Some w) (Some h) = Some (record { w = w; h = h })
 shape_of_sides _ _ = None
 
+-- a shape in a word
 unfoldable pub shape_in : List ℕ → Option Shape
 shape_in word = shape_of_sides (side_in (before_first is_times word)) (side_in (after_first is_times word))
 

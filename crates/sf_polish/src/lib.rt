@@ -13,7 +13,6 @@ mod expr;
 mod fault;
 mod laws;
 mod normal;
-mod piece;
 mod postfix;
 mod read;
 mod reading;
@@ -21,6 +20,7 @@ mod skew;
 mod spell;
 #[cfg(test)]
 mod tests;
+mod word;
 mod write;
 
 pub use expr::{Expr, Token, Tokens};

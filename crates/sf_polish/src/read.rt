@@ -8,9 +8,9 @@ ghost use Rattle.sf_polish.specs.Word.{token_of};
 
 use crate::expr::{Expr, Token, Tokens};
 use crate::fault::ExprFault;
-use crate::piece::{Piece, read_piece, read_token, token_of};
 use crate::postfix::without_shapes;
 use crate::reading::Reading;
+use crate::word::{Piece, read_piece, read_token, token_of};
 use sf_lex::Scan;
 use sf_model::{Shape, Shapes};
 use std::alloc::Global;
@@ -51,6 +51,7 @@ pub fn read_expr(alloc: Global, text: &[u8], blocks: u16) -> Result<Expr, ExprFa
     })
 }
 
+/// Keeps a block's shape.
 fn keep_shape(shapes: &mut Vec<Shape>, piece: Option<Piece>)
     requires { IfSome piece (λ p. IsFalse (is_outside (length shapes.old.items) (token_of p))) }
     ensures { shapes.new.items ≡ shapes_with shapes.old.items piece }

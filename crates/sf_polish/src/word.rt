@@ -1,13 +1,12 @@
 //! What a word of an expression text spells.
 
-ghost use Rattle.std.specs.Prelude.{◌≡◌, ◌<◌, ◌≤◌, ◌==◌, length, IfSome, IsFalse};
-ghost use Rattle.std.specs.List.{position_or_len, before_first, after_first};
+ghost use Rattle.std.specs.Prelude.{◌≡◌, ◌<◌, ◌≤◌, ◌==◌, IfSome, IsFalse};
 ghost use Rattle.std.specs.Option.{option_map};
 ghost use Rattle.sf_polish.specs.Normal.{is_outside};
 ghost use Rattle.sf_polish.specs.Word.{token_of, is_byte, block_in, side_in, shape_in, token_in, piece_in};
 
 use crate::expr::Token;
-use sf_lex::read_plain;
+use sf_lex::{read_plain, split_at_byte};
 use sf_model::{MOST_SIDE, Shape};
 
 /// An operator, or a block in a shape.
@@ -58,26 +57,6 @@ fn read_side(word: &[u8]) -> Option<u32>
     match read_plain(word, MOST_SIDE) {
         Some(side) if side >= 1 => Some(side as u32),
         _ => None,
-    }
-}
-
-/// How many bytes stand before the first such byte.
-fn bytes_before(word: &[u8], byte: u8) -> usize
-    ensures value { result ≡ position_or_len (λ b. b == byte) word.now }
-    ensures bound { result ≤ length word.now }
-{
-    word.iter().take_while(|b| **b != byte).count()
-}
-
-/// What stands before the first such byte, and what stands behind it.
-fn split_at_byte(word: &[u8], byte: u8) -> (&[u8], &[u8])
-    ensures before { result.0.now ≡ before_first (λ b. b == byte) word.now }
-    ensures after { result.1.now ≡ after_first (λ b. b == byte) word.now }
-{
-    let (before, rest) = word.split_at(bytes_before(word, byte));
-    match rest {
-        [] => (before, rest),
-        [_, after @ ..] => (before, after),
     }
 }
 
