@@ -5,6 +5,7 @@ use Rattle.std.proofs.lemmas.List.Sums.{length-filter, count_by-le-length}
 use Rattle.std.proofs.lemmas.List.Splits.{length-slice_split}
 use Rattle.sf_lex.specs.Text.{words, is_not_empty}
 
+-- a text has at most one word more than bytes
 pub length-words : (blank : ℕ → Bool) (bytes : List ℕ) → length (words blank bytes) ≤ length bytes + 1
 length-words blank bytes =
     let parts = slice_split blank bytes in

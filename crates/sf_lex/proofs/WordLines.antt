@@ -9,6 +9,7 @@ use Rattle.sf_lex.specs.Text.{words, is_not_empty, lines, is_line_feed, is_blank
 use Rattle.sf_lex.specs.Scan.{numbered, LineWord, words_of_lines}
 use Rattle.sf_lex.proofs.Pieces.{CutWord, length_text, line_after_word, text_filled}
 
+-- one and a number is the next number
 one_more : (n : ℕ) → 1 + n ≡ suc n
 one_more n = omega arith
 
@@ -31,26 +32,32 @@ abbrev pub IsEnded : List ℕ → Type 0
 IsEnded [] = Unit {0}
 IsEnded (b ∷ bytes) = is_blank_byte b ≡ true
 
+-- with one byte more in front
 gap_step : (b : ℕ) (xs : List ℕ) (t : Bool) → is_blank_byte b ≡ t → IsGap (take (prefix_len is_blank_byte xs) xs) → IsGap (take (prefix_len is_blank_byte (b ∷ xs)) (b ∷ xs))
 gap_step b xs true e h = rw (e, one_more (prefix_len is_blank_byte xs)) (e, h)
 gap_step b xs false e h = rw e tt
 
+-- the bytes before the first word are blanks
 pub gap_of : (xs : List ℕ) → IsGap (take (prefix_len is_blank_byte xs) xs)
 gap_of [] = tt
 gap_of (b ∷ xs) = gap_step b xs (is_blank_byte b) refl (gap_of xs)
 
+-- with one byte more in front
 run_step : (b : ℕ) (xs : List ℕ) (t : Bool) → is_blank_byte b ≡ t → IsRun (before_first is_blank_byte xs) → IsRun (before_first is_blank_byte (b ∷ xs))
 run_step b xs true e h = rw e tt
 run_step b xs false e h = rw (e, one_more (position_or_len is_blank_byte xs)) (e, h)
 
+-- the bytes of the first word are no blanks
 pub run_of : (xs : List ℕ) → IsRun (before_first is_blank_byte xs)
 run_of [] = tt
 run_of (b ∷ xs) = run_step b xs (is_blank_byte b) refl (run_of xs)
 
+-- with one byte more in front
 ended_step : (b : ℕ) (xs : List ℕ) (t : Bool) → is_blank_byte b ≡ t → IsEnded (drop (position_or_len is_blank_byte xs) xs) → IsEnded (drop (position_or_len is_blank_byte (b ∷ xs)) (b ∷ xs))
 ended_step b xs true e h = rw e e
 ended_step b xs false e h = rw (e, one_more (position_or_len is_blank_byte xs)) h
 
+-- behind the first word the text is ended
 pub ended_of : (xs : List ℕ) → IsEnded (drop (position_or_len is_blank_byte xs) xs)
 ended_of [] = tt
 ended_of (b ∷ xs) = ended_step b xs (is_blank_byte b) refl (ended_of xs)
@@ -62,21 +69,26 @@ abbrev onto : List ℕ → List (List ℕ) → List (List ℕ)
 onto [] parts = parts
 onto (b ∷ run) parts = onto_first b (onto run parts)
 
+-- a run before parts is joined to the first
 onto-cons : (run part : List ℕ) (parts : List (List ℕ)) → onto run (part ∷ parts) ≡ (run ++ part) ∷ parts
 onto-cons [] part parts = refl
 onto-cons (b ∷ run) part parts = rw (onto-cons run part parts) refl
 
+-- a run before none is one part
 onto-nil : (b : ℕ) (run : List ℕ) → onto (b ∷ run) [] ≡ (b ∷ run) ∷ []
 onto-nil b [] = refl
 onto-nil b (c ∷ run) = ap (onto_first b) (onto-nil c run)
 
+-- what is no blank is no line feed
 not_feed : (b : ℕ) → is_blank_byte b ≡ false → is_line_feed b ≡ false
 not_feed b e = grind (arith, nat_tests)
 
+-- a run is joined to the first line
 lines-run : (run rest : List ℕ) → IsRun run → lines (run ++ rest) ≡ onto run (lines rest)
 lines-run [] rest h = refl
 lines-run (b ∷ run) rest h = rw (not_feed b h.0, lines-run run rest h.1) refl
 
+-- a run is joined to the first part
 split-run : (run rest : List ℕ) → IsRun run → slice_split is_blank_byte (run ++ rest) ≡ onto run (slice_split is_blank_byte rest)
 split-run [] rest h = refl
 split-run (b ∷ run) rest h = rw (h.0, split-run run rest h.1) refl
@@ -92,22 +104,27 @@ words-run b run (c ∷ rest) h e =
 
 -- ---- lines
 
+-- the first line, or none
 abbrev head : List (List ℕ) → List ℕ
 head [] = []
 head (line ∷ more) = line
 
+-- a blank before the first line ends it
 onto_first_ended : (c : ℕ) (ls : List (List ℕ)) → is_blank_byte c ≡ true → IsEnded (head (onto_first c ls))
 onto_first_ended c [] e = e
 onto_first_ended c (line ∷ ls) e = e
 
+-- by whether the first byte is a line feed
 lines_ended_step : (c : ℕ) (rest : List ℕ) (t : Bool) → is_line_feed c ≡ t → is_blank_byte c ≡ true → IsEnded (head (lines (c ∷ rest)))
 lines_ended_step c rest true f e = rw f tt
 lines_ended_step c rest false f e = rw f (onto_first_ended c (lines rest) e)
 
+-- the first line of an ended text is ended
 lines_ended : (rest : List ℕ) → IsEnded rest → IsEnded (head (lines rest))
 lines_ended [] h = tt
 lines_ended (c ∷ rest) h = lines_ended_step c rest (is_line_feed c) refl h
 
+-- a run joined to lines is their first word
 words-onto : (n b : ℕ) (run : List ℕ) (ls : List (List ℕ)) → IsRun (b ∷ run) → IsEnded (head ls)
     → words_of_lines (numbered n (onto (b ∷ run) ls)) ≡ record { line = n; text = b ∷ run } ∷ words_of_lines (numbered n ls)
 words-onto n b run [] h e =
@@ -122,16 +139,19 @@ words_from-run n (b ∷ run) rest some h e = ap (λ (ls : List (List ℕ)). word
 
 -- ---- blanks before the text
 
+-- a blank before the first line changes no words
 blank_before_lines : (n b : ℕ) (ls : List (List ℕ)) → is_blank_byte b ≡ true → words_of_lines (numbered n (onto_first b ls)) ≡ words_of_lines (numbered n ls)
 blank_before_lines n b [] e = rw e refl
 blank_before_lines n b (line ∷ ls) e = rw e refl
 
+-- a blank before the text moves its words by a line where it is a line feed
 gap_before : (n b : ℕ) (rest : List ℕ) (t : Bool) → is_line_feed b ≡ t → is_blank_byte b ≡ true → words_from n (b ∷ rest) ≡ words_from (n + cond (is_line_feed b) 1 0) rest
 gap_before n b rest true f e = rw f refl
 gap_before n b rest false f e =
     let same : n ≡ n + 0 = omega arith in
     rw f (blank_before_lines n b (lines rest) e ∙ ap (λ (k : ℕ). words_from k rest) same)
 
+-- blanks before the text move its words by their line feeds
 pub words_from-gap : (n : ℕ) (gap rest : List ℕ) → IsGap gap → words_from n (gap ++ rest) ≡ words_from (n + count_by is_line_feed gap) rest
 words_from-gap n [] rest h = let same : n ≡ n + 0 = omega arith in ap (λ (k : ℕ). words_from k rest) same
 words_from-gap n (b ∷ gap) rest h =
@@ -148,6 +168,7 @@ words_from-none n xs all =
 -- ---- the next word of a scan
 
 module _ (s : List ℕ) (from skipped len : ℕ) (rest blanks after text : List ℕ) (cut : CutWord s from skipped len rest blanks after text) where
+  -- the words of the rest: the word that was cut off, and those behind it
   word_then : (n : ℕ) → words_from n rest ≡ record { line = n + count_by is_line_feed blanks; text = text } ∷ words_from (n + count_by is_line_feed blanks) (drop len after)
   word_then n =
       let blanks_are : blanks ≡ take (prefix_len is_blank_byte rest) rest = cut.blanks_is ∙ ap (λ (n : ℕ). take n rest) cut.skipped_is in
