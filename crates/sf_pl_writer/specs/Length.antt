@@ -15,6 +15,7 @@ decimals (suc places) scale rest = if rest == 0 then [] else (decimal (10 * rest
 abbrev pub length_text : ℕ → ℕ → List ℕ
 length_text scale n = decimal (n / scale) ++ (if n % scale == 0 then [] else (codes "." ++ decimals 3 scale (n % scale)))
 
+-- the same with a sign
 abbrev pub signed_text : ℕ → ℤ → List ℕ
 signed_text scale (pos n) = length_text scale n
 signed_text scale (negsuc n) = codes "-" ++ length_text scale (suc n)

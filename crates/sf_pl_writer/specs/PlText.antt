@@ -27,6 +27,7 @@ block_line scale block s = block.name ++ place_text scale s.x s.y ++ size_text s
 abbrev pub pad_line : ℕ → Pad → List ℕ
 pad_line scale pad = pad.name ++ place_text scale pad.x pad.y ++ codes "\n"
 
+-- whether a pin is of the pad
 abbrev pub is_pad : ℕ → Pin → Bool
 is_pad p (pin.Block b) = false
 is_pad p (pin.Pad q) = q == p
@@ -43,8 +44,10 @@ block_lines scale blocks spots = flat_map (λ p. block_line scale p.0 p.1) (zip 
 abbrev pub pad_lines_of : ℕ → Design → ℕ → List ℕ
 pad_lines_of scale design p = if stands_in design.nets p then pad_line scale (pad_at design p) else []
 
+-- one line for each pad in a net, by number
 abbrev pub pad_lines : ℕ → Design → List ℕ
 pad_lines scale design = flat_map (pad_lines_of scale design) (range_with_len 0 (length design.pads))
 
+-- the whole text
 abbrev pub pl_text : Design → List Spot → ℕ → List ℕ
 pl_text design spots scale = codes "UCLA pl 1.0\n" ++ block_lines scale design.blocks spots ++ pad_lines scale design

@@ -1,3 +1,5 @@
+//! Lengths in the unit of the file.
+
 ghost use Rattle.std.specs.Prelude.{◌≡◌, ◌++◌, ◌<◌, ◌≤◌, OnOk, string_bytes};
 ghost use Rattle.sf_pl_writer.specs.Length.{IsScale, decimals, length_text, signed_text};
 

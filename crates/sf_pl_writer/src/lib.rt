@@ -7,8 +7,8 @@
 #![tactic(auto)]
 
 mod length;
-pub mod placed;
-pub mod report;
+mod placed;
+mod report;
 #[cfg(test)]
 mod tests;
 

@@ -1,3 +1,5 @@
+//! The GSRC pl text of a placement.
+
 ghost use Rattle.std.specs.Prelude.{◌≡◌, ℕ, ◌++◌, ◌<◌, ◌||◌, Bool, false, length, slice_index_or, IfOk, OnOk, string_bytes};
 ghost use Rattle.std.specs.List.{list_any};
 ghost use Rattle.sf_model.specs.Legal.{block_count};
@@ -26,6 +28,7 @@ pub fn pl_text(
     Ok(text)
 }
 
+/// Adds the lines of the blocks.
 fn push_blocks(
     text: &mut Vec<u8>,
     blocks: &[Block],
@@ -42,6 +45,7 @@ fn push_blocks(
     Ok(())
 }
 
+/// Adds the line of a block.
 fn push_block(text: &mut Vec<u8>, block: &Block, spot: Spot, scale: u64) -> Result<(), NoMemory>
     requires { IsScale scale }
     ensures { OnOk result (text.new.items ≡ text.old.items ++ block_line scale block.now spot) }
@@ -53,6 +57,7 @@ fn push_block(text: &mut Vec<u8>, block: &Block, spot: Spot, scale: u64) -> Resu
     Ok(())
 }
 
+/// Adds the lines of the pads that stand in nets.
 fn push_pads(text: &mut Vec<u8>, design: &Design, scale: u64) -> Result<(), NoMemory>
     requires { IsScale scale }
     ensures { OnOk result (text.new.items ≡ text.old.items ++ pad_lines scale design.now) }
@@ -66,6 +71,7 @@ fn push_pads(text: &mut Vec<u8>, design: &Design, scale: u64) -> Result<(), NoMe
     Ok(())
 }
 
+/// Adds the line of a pad.
 fn push_pad(text: &mut Vec<u8>, pad: &Pad, scale: u64) -> Result<(), NoMemory>
     requires { IsScale scale }
     ensures { OnOk result (text.new.items ≡ text.old.items ++ pad_line scale pad.now) }
@@ -89,6 +95,7 @@ fn place_of(alloc: Global, x: i64, y: i64, scale: u64) -> Result<String, NoMemor
     Ok(place)
 }
 
+/// Adds the size of a rectangle.
 fn push_size(line: &mut String, w: u32, h: u32, scale: u64) -> Result<(), NoMemory>
     requires { IsScale scale }
     ensures { OnOk result (string_bytes line.new ≡ string_bytes line.old ++ size_text scale w h) }
@@ -103,7 +110,8 @@ fn push_size(line: &mut String, w: u32, h: u32, scale: u64) -> Result<(), NoMemo
 /// For each pad whether it stands in a net: one pass over the pins.
 fn pads_in_nets(alloc: Global, design: &Design) -> Result<Vec<bool>, NoMemory>
     ensures len { IfOk result (λ flags. length flags.items ≡ length design.now.pads) }
-    ensures standing { (p : ℕ) → p < length design.now.pads → IfOk result (λ flags. slice_index_or flags.items p false ≡ stands_in design.now.nets p) }
+    ensures standing { (p : ℕ) → p < length design.now.pads
+        → IfOk result (λ flags. slice_index_or flags.items p false ≡ stands_in design.now.nets p) }
 {
     let mut flags = vec![in alloc; false; design.pads.as_slice().len()]?;
     for net in design.nets.as_slice() {
@@ -112,16 +120,21 @@ fn pads_in_nets(alloc: Global, design: &Design) -> Result<Vec<bool>, NoMemory>
     Ok(flags)
 }
 
+/// Marks the pads of a net.
 fn mark_pads(flags: &mut [bool], net: &Net)
-    ensures { (p : ℕ) → p < length flags.old → slice_index_or flags.new p false ≡ (slice_index_or flags.old p false || list_any (is_pad p) net.now.pins) }
+    ensures { (p : ℕ) → p < length flags.old
+        → slice_index_or flags.new p false
+        ≡ (slice_index_or flags.old p false || list_any (is_pad p) net.now.pins) }
 {
     for pin in net.pins.as_slice() {
         mark(flags, *pin);
     }
 }
 
+/// Marks the pad that a pin is of.
 fn mark(flags: &mut [bool], pin: Pin)
-    ensures { (p : ℕ) → p < length flags.old → slice_index_or flags.new p false ≡ (slice_index_or flags.old p false || is_pad p pin) }
+    ensures { (p : ℕ) → p < length flags.old
+        → slice_index_or flags.new p false ≡ (slice_index_or flags.old p false || is_pad p pin) }
 {
     if let Pin::Pad(pad) = pin {
         let index = usize::from(pad);

@@ -1,9 +1,12 @@
+//! The report of a search.
+
 ghost use Rattle.std.specs.Prelude.{◌≡◌, ◌++◌, length, IfOk, OnOk, MatchOption, ⊤, string_bytes};
 ghost use Rattle.std.specs.Fmt.{decimal};
+ghost use Rattle.sf_model.specs.CostText.{cost_text};
 ghost use Rattle.sf_polish.specs.Normal.{IsNormal};
-ghost use Rattle.sf_pl_writer.specs.ReportText.{line, outcome_text, value_text, no_plan_lines, measured_lines, report_text};
+ghost use Rattle.sf_pl_writer.specs.ReportText.{line, outcome_text, no_plan_lines, measured_lines, report_text};
 
-use sf_model::MAX;
+use sf_model::push_cost;
 use sf_polish::{Expr, push_expr};
 use std::alloc::{AllocError as NoMemory, Global};
 
@@ -46,6 +49,7 @@ pub fn report_text(alloc: Global, report: &Report) -> Result<Vec<u8>, NoMemory>
     Ok(text.into_bytes())
 }
 
+/// The word of an outcome.
 fn word_of(outcome: Outcome) -> &'static str
     ensures { result.now ≡ outcome_text outcome }
 {
@@ -56,15 +60,18 @@ fn word_of(outcome: Outcome) -> &'static str
     }
 }
 
+/// Adds the lines that would tell a plan.
 fn push_no_plan(text: &mut String) -> Result<(), NoMemory>
     ensures { OnOk result (string_bytes text.new ≡ string_bytes text.old ++ no_plan_lines) }
 {
     text.push_str("size none\narea none\nwire none\nplan none\n")
 }
 
+/// Adds the lines of a plan.
 fn push_plan(text: &mut String, report: &Report, expr: &Expr) -> Result<(), NoMemory>
     requires { IsNormal (length expr.now.shapes) expr.now.tokens }
-    ensures { OnOk result (string_bytes text.new ≡ string_bytes text.old ++ measured_lines report.now expr.now) }
+    ensures { OnOk result (string_bytes text.new
+        ≡ string_bytes text.old ++ measured_lines report.now expr.now) }
 {
     let (w, h) = report.size;
     write!(text, "size {w} {h}\n")?;
@@ -75,24 +82,26 @@ fn push_plan(text: &mut String, report: &Report, expr: &Expr) -> Result<(), NoMe
     text.push_str("\n")
 }
 
+/// Adds a line of a label and words.
 fn push_words(text: &mut String, label: &str, words: &str) -> Result<(), NoMemory>
     ensures { OnOk result (string_bytes text.new ≡ string_bytes text.old ++ line label.now words.now) }
 {
     write!(text, "{label} {words}\n")
 }
 
+/// Adds a line of a label and a number.
 fn push_number(text: &mut String, label: &str, number: u64) -> Result<(), NoMemory>
     ensures { OnOk result (string_bytes text.new ≡ string_bytes text.old ++ line label.now (decimal number)) }
 {
     write!(text, "{label} {number}\n")
 }
 
+/// Adds a line of a label and a cost, or `none`.
 fn push_value(text: &mut String, label: &str, value: u64) -> Result<(), NoMemory>
-    ensures { OnOk result (string_bytes text.new ≡ string_bytes text.old ++ line label.now (value_text value)) }
+    ensures { OnOk result (string_bytes text.new
+        ≡ string_bytes text.old ++ line label.now (cost_text value)) }
 {
-    if value == MAX {
-        push_words(text, label, "none")
-    } else {
-        push_number(text, label, value)
-    }
+    write!(text, "{label} ")?;
+    push_cost(text, value)?;
+    text.push_str("\n")
 }
