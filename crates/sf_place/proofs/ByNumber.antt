@@ -37,6 +37,7 @@ count-before a (suc n) (s ∷ ss) e b h =
     let tail : map (λ s. s.block) ss ≡ range_with_len (a + 1) n = cc in
     omega (arith, count-other b s ss (λ q. absurd (omega (arith, is, q, h))), count-before (a + 1) n ss tail b (omega arith))
 
+-- no block is there twice
 count-few : (a n : ℕ) (ss : List Spot) → map (λ s. s.block) ss ≡ range_with_len a n → (b : ℕ) → count b ss ≤ 1
 count-few a n [] e b = omega arith
 count-few a zero (s ∷ ss) e b = cc
@@ -48,6 +49,7 @@ count-few a (suc n) (s ∷ ss) e b =
       | inr q ↦ omega (arith, count-other b s ss q, count-few (a + 1) n ss tail b)
     ]
 
+-- spots of given blocks stand by number
 blocks-map : (f : ℕ → Spot) → ((b : ℕ) → (f b).block ≡ b) → (a n : ℕ) → map (λ s. s.block) (map f (range_with_len a n)) ≡ range_with_len a n
 blocks-map f is a zero = refl
 blocks-map f is a (suc n) = let h = is a in let t = blocks-map f is (a + 1) n in cc
@@ -56,15 +58,19 @@ blocks-map f is a (suc n) = let h = is a in let t = blocks-map f is (a + 1) n in
 blocks-by_number : (n : ℕ) (ss : List Spot) → map (λ s. s.block) (by_number n ss) ≡ range_with_len 0 n
 blocks-by_number n ss = blocks-map (λ b. spot_of b ss) (λ b. block-spot_of b ss) 0 n
 
+-- there are as many spots as blocks
 length-by_number : (n : ℕ) (ss : List Spot) → length (by_number n ss) ≡ n
 length-by_number n ss = length-map-range_with_len (λ b. spot_of b ss) 0 n
 
+-- the list is one by number
 numbered-by_number : (n : ℕ) (ss : List Spot) → IsByNumber (by_number n ss)
 numbered-by_number n ss = blocks-by_number n ss ∙ ap (range_with_len 0) (sym (length-by_number n ss))
 
+-- at each place stands the spot of that block
 pub get-by_number : (n : ℕ) (ss : List Spot) (k : ℕ) (d : Spot) → k < n → get_or (by_number n ss) k d ≡ spot_of k ss
 get-by_number n ss k d h = get_or-map-range_with_len (λ b. spot_of b ss) 0 n k k d h (omega arith)
 
+-- a number past the last block has no spot
 count-past : (a n b : ℕ) (ss : List Spot) → map (λ s. s.block) ss ≡ range_with_len a n → a + n ≤ b → count b ss ≡ 0
 count-past a n b [] e h = refl
 count-past a zero b (s ∷ ss) e h = cc
@@ -83,19 +89,23 @@ spot_of-by_number n ss none b =
 
 -- the wire depends on the spot of each block alone
 module _ (design : Design) (xs ys : List Spot) (same : (b : ℕ) → spot_of b xs ≡ spot_of b ys) where
+  -- each pin lies at the same place across
   pins_x-same : (pins : List Pin) → map (pin_x design xs) pins ≡ map (pin_x design ys) pins
   pins_x-same [] = refl
   pins_x-same (pin.Block b ∷ ps) = let h = ap (λ s. pos 2 *ℤ s.x +ℤ pos s.w) (same b) in let t = pins_x-same ps in cc
   pins_x-same (pin.Pad p ∷ ps) = let t = pins_x-same ps in cc
 
+  -- and upward
   pins_y-same : (pins : List Pin) → map (pin_y design xs) pins ≡ map (pin_y design ys) pins
   pins_y-same [] = refl
   pins_y-same (pin.Block b ∷ ps) = let h = ap (λ s. pos 2 *ℤ s.y +ℤ pos s.h) (same b) in let t = pins_y-same ps in cc
   pins_y-same (pin.Pad p ∷ ps) = let t = pins_y-same ps in cc
 
+  -- each net has the same wire
   net-same : (net : Net) → net_wire design xs net ≡ net_wire design ys net
   net-same net = omega (arith, ap spread (pins_x-same net.pins), ap spread (pins_y-same net.pins))
 
+  -- and all nets as often as their weights say
   nets-same : (nets : List Net) → sum_by (weighed_wire design xs) nets ≡ sum_by (weighed_wire design ys) nets
   nets-same [] = refl
   nets-same (net ∷ nets) =
@@ -107,13 +117,16 @@ module _ (design : Design) (xs ys : List Spot) (same : (b : ℕ) → spot_of b x
         nets-same nets,
       )
 
+  -- so the wires are the same
   pub wire-same : wire design xs ≡ wire design ys
   wire-same = nets-same design.nets
 
+-- the right end is the greatest over all spots
 right_end-greatest : (ss : List Spot) → right_end ss ≡ greatest (λ s. nat_abs (s.x +ℤ pos s.w)) ss
 right_end-greatest [] = refl
 right_end-greatest (s ∷ ss) = ap (max (nat_abs (s.x +ℤ pos s.w))) (right_end-greatest ss)
 
+-- so is the upper end
 upper_end-greatest : (ss : List Spot) → upper_end ss ≡ greatest (λ s. nat_abs (s.y +ℤ pos s.h)) ss
 upper_end-greatest [] = refl
 upper_end-greatest (s ∷ ss) = ap (max (nat_abs (s.y +ℤ pos s.h))) (upper_end-greatest ss)
@@ -136,10 +149,12 @@ spots-each P x y (Above l r) a =
     each-append _ (spots_at x y l) (spots_at x (y + height l) r)
     (spots-each P x y l (each-left _ (leaves l) (leaves r) a)) (spots-each P x (y + height l) r (each-right _ (leaves l) (leaves r) a))
 
+-- a number past all blocks has no spot
 none-past : (n : ℕ) (ss : List Spot) → AllByRecursion (λ s. s.block < n) ss → (b : ℕ) → n ≤ b → count b ss ≡ 0
 none-past n [] a b h = refl
 none-past n (s ∷ ss) a b h = omega (arith, count-other b s ss (λ q. absurd (omega (arith, q, h, a.0))), none-past n ss a.1 b h)
 
+-- what holds of each two places holds of each two elements in their order
 recursion_from_AllPairs : {X : Type 0} (R : X → X → Type 0) (xs : List X) → AllPairs R xs → EachPair R xs
 recursion_from_AllPairs R [] p = tt
 recursion_from_AllPairs R (x ∷ xs) p = (
@@ -147,47 +162,60 @@ recursion_from_AllPairs R (x ∷ xs) p = (
   recursion_from_AllPairs R xs (λ i j d h k. p (suc i) (suc j) d (omega arith) (omega arith)),
 )
 
+-- spots that do not overlap do not overlap in the other order
 turned : (s t : Spot) → ¬ (Overlaps s t) → ¬ (Overlaps t s)
 turned s t apart o = apart (record { left = o.right; right = o.left; below = o.above; above = o.below })
 
 module _ (n : ℕ) (tree : Tree) (once : HasEachOnce n tree) where
+  -- each spot is that of a block of the design
   below : AllByRecursion (λ s. s.block < n) (spots_of tree)
   below = spots-each (λ b s. b < n) 0 0 tree (recursion_from_All (λ leaf. leaf.0 < n) (leaves tree) once.no_other)
 
+  -- a number past the last block has no spot
   none : (b : ℕ) → n ≤ b → count b (spots_of tree) ≡ 0
   none = none-past n (spots_of tree) below
 
+  -- each block has one spot
   one : (b : ℕ) → b < n → count b (spots_of tree) ≡ 1
   one b h = count-spots b 0 0 tree ∙ once.each_once b h
 
+  -- no number has more than one
   few : (b : ℕ) → count b (spots_of tree) ≤ 1
   few b = elim (cases_lt b n) [ inl h ↦ omega (arith, one b h) | inr h ↦ omega (arith, none b h) ]
 
+  -- each block has the same spot in the list by number
   pub plan-spot_of : (b : ℕ) → spot_of b (by_number n (spots_of tree)) ≡ spot_of b (spots_of tree)
   plan-spot_of = spot_of-by_number n (spots_of tree) none
 
+  -- and the wires are the same
   pub plan-wire : (design : Design) → wire design (by_number n (spots_of tree)) ≡ wire design (spots_of tree)
   plan-wire design = wire-same design (by_number n (spots_of tree)) (spots_of tree) plan-spot_of
 
+  -- the greatest end is the same in the list by number
   same_greatest : (end : Spot → ℕ) → ((b : ℕ) → end (spot_of b []) ≡ 0) → greatest end (by_number n (spots_of tree)) ≡ greatest end (spots_of tree)
   same_greatest end nowhere =
       greatest-same end nowhere (by_number n (spots_of tree)) (spots_of tree)
       (count-few 0 n (by_number n (spots_of tree)) (blocks-by_number n (spots_of tree))) few plan-spot_of
 
+  -- the right end is the width of the plan
   plan-right : right_end (by_number n (spots_of tree)) ≡ width tree
   plan-right = right_end-greatest (by_number n (spots_of tree)) ∙ same_greatest (λ s. nat_abs (s.x +ℤ pos s.w)) (λ b. refl) ∙ sym (right_end-greatest (spots_of tree)) ∙ right_end-spots_of tree
 
+  -- the upper end is its height
   plan-upper : upper_end (by_number n (spots_of tree)) ≡ height tree
   plan-upper = upper_end-greatest (by_number n (spots_of tree)) ∙ same_greatest (λ s. nat_abs (s.y +ℤ pos s.h)) (λ b. refl) ∙ sym (upper_end-greatest (spots_of tree)) ∙ upper_end-spots_of tree
 
+  -- so the spots cost what the plan costs
   pub plan-cost : (design : Design) → spots_cost design (by_number n (spots_of tree)) ≡ cost design tree
   plan-cost design = let a = plan-right in let b = plan-upper in let c = plan-wire design in cc
 
+  -- what holds of each spot of the plan holds of each in the list
   by_number-all : (P : Spot → Type 0) → AllByRecursion P (spots_of tree) → All P (by_number n (spots_of tree))
   by_number-all P a k d h =
       let lt : k < n = omega (arith, h, length-by_number n (spots_of tree)) in
       subst P (sym (get-by_number n (spots_of tree) k d lt)) (spot_of-all P k (spots_of tree) a (omega (arith, one k lt)))
 
+  -- no two in the list overlap
   by_number-apart : AllPairs (λ s t. ¬ (Overlaps s t)) (by_number n (spots_of tree))
   by_number-apart i j d h k =
       let j_low : j < n = omega (arith, k, length-by_number n (spots_of tree)) in
@@ -198,6 +226,7 @@ module _ (n : ℕ) (tree : Tree) (once : HasEachOnce n tree) where
       (spot_of-pair R turned i j (λ e. absurd (omega (arith, e, h))) (spots_of tree)
       (recursion_from_AllPairs R (spots_of tree) (spots-apart tree)) (omega (arith, one i i_low)) (omega (arith, one j j_low))))
 
+-- what lies inside a size lies inside a larger outline
 wider : (outline_w outline_h w h : ℕ) → w ≤ outline_w → h ≤ outline_h → (s : Spot) → IsInside w h s → IsInside outline_w outline_h s
 wider a b w h p q s i =
     let r = i.right in let u = i.above in
@@ -216,26 +245,32 @@ plan-legal design tree legal fits = record {
   apart = by_number-apart (block_count design) tree legal.blocks;
 }
 
+-- where each leaf is a block of the design the plan has only such blocks
 blocks-below : (n : ℕ) (t : Tree) → AllByRecursion (λ leaf. leaf.0 < n) (leaves t) → HasBlocksBelow n t
 blocks-below n (Leaf b s) a = a.0
 blocks-below n (Beside l r) a = (blocks-below n l (each-left _ (leaves l) (leaves r) a), blocks-below n r (each-right _ (leaves l) (leaves r) a))
 blocks-below n (Above l r) a = (blocks-below n l (each-left _ (leaves l) (leaves r) a), blocks-below n r (each-right _ (leaves l) (leaves r) a))
 
+-- a plan that has each block once has only blocks of the design
 pub plan-below : (n : ℕ) (tree : Tree) → HasEachOnce n tree → HasBlocksBelow n tree
 plan-below n tree once = blocks-below n tree (recursion_from_All (λ leaf. leaf.0 < n) (leaves tree) once.no_other)
 
+-- there are as many leaves as are listed
 leaf_count-leaves : (t : Tree) → leaf_count t ≡ length (leaves t)
 leaf_count-leaves (Leaf b s) = refl
 leaf_count-leaves (Beside l r) = omega (arith, leaf_count-leaves l, leaf_count-leaves r, length-append (leaves l) (leaves r))
 leaf_count-leaves (Above l r) = omega (arith, leaf_count-leaves l, leaf_count-leaves r, length-append (leaves l) (leaves r))
 
+-- a plan that has each block once has as many leaves as blocks
 pub plan-leaves : (n : ℕ) (tree : Tree) → HasEachOnce n tree → leaf_count tree ≡ n
 plan-leaves n tree once = leaf_count-leaves tree ∙ length-leaves_once n tree once
 
+-- writing spots keeps the length of a list
 length-placed : (old ss : List Spot) → length (with_spots old ss) ≡ length old
 length-placed old [] = refl
 length-placed old (s ∷ ss) = length-placed (slice_set old s.block s) ss ∙ length-set old s.block s
 
+-- a place whose block has no spot stays as it was
 untouched : (b : ℕ) (old ss : List Spot) (d : Spot) → count b ss ≡ 0 → get_or (with_spots old ss) b d ≡ get_or old b d
 untouched b old [] d h = refl
 untouched b old (s ∷ ss) d h = elim (cases_eq s.block b) [
@@ -243,6 +278,7 @@ untouched b old (s ∷ ss) d h = elim (cases_eq s.block b) [
   | inr n ↦ untouched b (slice_set old s.block s) ss d (omega (arith, h, count-other b s ss n)) ∙ get_or-set_other old s.block b s d (λ q. n (sym q))
 ]
 
+-- a place whose block has one spot has this spot
 written : (b : ℕ) (old ss : List Spot) (d : Spot) → b < length old → count b ss ≡ 1 → get_or (with_spots old ss) b d ≡ spot_of b ss
 written b old [] d l h = absurd (omega (arith, h))
 written b old (s ∷ ss) d l h = elim (cases_eq s.block b) [

@@ -12,19 +12,23 @@ use Rattle.sf_model.proofs.Each.{EachPair}
 abbrev pub count : ℕ → List Spot → ℕ
 count b ss = count_by (λ s. s.block == b) ss
 
+-- a spot of the block counts
 pub count-same : (b : ℕ) (s : Spot) (ss : List Spot) → s.block ≡ b → count b (s ∷ ss) ≡ suc (count b ss)
 count-same b s ss e =
     let one : ◌≡◌ {A = ℕ} (cond (s.block == b) 1 0) 1 = cond-true (s.block == b) 1 0 (eq-eqb s.block b e) in
     omega (arith, one, sum_by-cons (λ t. cond (t.block == b) 1 0) s ss)
 
+-- a spot of another block does not
 pub count-other : (b : ℕ) (s : Spot) (ss : List Spot) → (s.block ≡ b → ⊥) → count b (s ∷ ss) ≡ count b ss
 count-other b s ss n =
     let none : ◌≡◌ {A = ℕ} (cond (s.block == b) 1 0) 0 = cond-false (s.block == b) 1 0 (ne_eqb s.block b n) in
     omega (arith, none, sum_by-cons (λ t. cond (t.block == b) 1 0) s ss)
 
+-- a spot of the block in front is found
 pub spot_of-same : (b : ℕ) (s : Spot) (ss : List Spot) → s.block ≡ b → spot_of b (s ∷ ss) ≡ s
 spot_of-same b s ss e = cond-true (s.block == b) s (spot_of b ss) (eq-eqb s.block b e)
 
+-- one of another block is passed
 pub spot_of-other : (b : ℕ) (s : Spot) (ss : List Spot) → (s.block ≡ b → ⊥) → spot_of b (s ∷ ss) ≡ spot_of b ss
 spot_of-other b s ss n = cond-false (s.block == b) s (spot_of b ss) (ne_eqb s.block b n)
 
@@ -74,6 +78,7 @@ greatest end [] = 0
 greatest end (s ∷ ss) = max (end s) (greatest end ss)
 
 module _ (end : Spot → ℕ) (nowhere : (b : ℕ) → end (spot_of b []) ≡ 0) where
+  -- the end of the spot of a block is at most the greatest
   end-most : (b : ℕ) (ss : List Spot) → end (spot_of b ss) ≤ greatest end ss
   end-most b [] = omega (arith, nowhere b)
   end-most b (s ∷ ss) = elim (cases_eq s.block b) [
@@ -81,6 +86,7 @@ module _ (end : Spot → ℕ) (nowhere : (b : ℕ) → end (spot_of b []) ≡ 0)
     | inr n ↦ omega (arith, ap end (spot_of-other b s ss n), end-most b ss)
   ]
 
+  -- what bounds the ends of the spots of all blocks bounds the greatest
   greatest-least : (m : ℕ) (ss : List Spot) → ((b : ℕ) → count b ss ≤ 1) → ((b : ℕ) → end (spot_of b ss) ≤ m) → greatest end ss ≤ m
   greatest-least m [] few h = omega arith
   greatest-least m (s ∷ ss) few h =

@@ -9,6 +9,7 @@ use Rattle.sf_model.specs.Tree.{Overlaps}
 use Rattle.sf_place.specs.Spots.{IsByNumber}
 use Rattle.sf_place.specs.Verdict.{OverlapsNoLater}
 
+-- in spots of blocks a, a + 1 and so on each block is found at its place
 spot_of-from : (a n : ℕ) (spots : List Spot) → map (λ s. s.block) spots ≡ range_with_len a n → (k : ℕ) (d : Spot) → k < length spots → spot_of (a + k) spots ≡ get_or spots k d
 spot_of-from a n [] e k d h = absurd (omega arith)
 spot_of-from a zero (s ∷ ss) e k d h = cc
@@ -22,9 +23,11 @@ spot_of-from a (suc n) (s ∷ ss) e (suc k) d h =
     let same : (a + 1) + k ≡ a + suc k = omega arith in
     cond-false (s.block == (a + suc k)) s (spot_of (a + suc k) ss) (ne_eqb s.block (a + suc k) (λ q. absurd (omega arith))) ∙ subst (λ v. spot_of v ss ≡ get_or ss k d) same go
 
+-- in a list by number a block is found at its place
 pub spot_of_numbered : (spots : List Spot) (k : ℕ) (d : Spot) → IsByNumber spots → k < length spots → spot_of k spots ≡ get_or spots k d
 spot_of_numbered spots k d e h = subst (λ v. spot_of v spots ≡ get_or spots k d) (let z : 0 + k ≡ k = omega arith in z) (spot_of-from 0 (length spots) spots e k d h)
 
+-- in spots of blocks a, a + 1 and so on each place has its block
 block-from : (a n : ℕ) (spots : List Spot) → map (λ s. s.block) spots ≡ range_with_len a n → (k : ℕ) (d : Spot) → k < length spots → (get_or spots k d).block ≡ a + k
 block-from a n [] e k d h = absurd (omega arith)
 block-from a zero (s ∷ ss) e k d h = cc
@@ -33,6 +36,7 @@ block-from a (suc n) (s ∷ ss) e (suc k) d h =
     let tail : map (λ s. s.block) ss ≡ range_with_len (a + 1) n = cc in
     omega (arith, block-from (a + 1) n ss tail k d (omega arith))
 
+-- in a list by number each place has its block
 pub block_numbered : (spots : List Spot) (k : ℕ) (d : Spot) → IsByNumber spots → k < length spots → (get_or spots k d).block ≡ k
 block_numbered spots k d e h = omega (arith, block-from 0 (length spots) spots e k d h)
 
@@ -40,6 +44,7 @@ block_numbered spots k d e h = omega (arith, block-from 0 (length spots) spots e
 pub all_by_number : (P : Spot → Type 0) (spots : List Spot) → IsByNumber spots → ((a : ℕ) → a < length spots → P (spot_of a spots)) → All P spots
 all_by_number P spots e f k d h = subst P (spot_of_numbered spots k d e h) (f k h)
 
+-- where no spot overlaps a later one, no two overlap
 pub apart_by_number : (spots : List Spot) → IsByNumber spots → ((a : ℕ) → a < length spots → OverlapsNoLater spots a) → AllPairs (λ s t. ¬ (Overlaps s t)) spots
 apart_by_number spots e f i j d h k =
     let R : Spot → Spot → Type 0 = λ s t. ¬ (Overlaps s t) in

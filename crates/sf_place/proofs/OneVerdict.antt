@@ -10,6 +10,7 @@ use Rattle.sf_place.specs.Spots.{IsByNumber}
 use Rattle.sf_place.specs.Verdict.{IsFirstOverlapping, IsFirstWithout, IsLeastPair, IsListed, IsVerdict, LiesIn}
 use Rattle.sf_place.proofs.Legality.{none_without, none_over}
 
+-- one block is the first whose spot is not as P says
 one-without : (P : Spot → Type 0) (spots : List Spot) (a b : ℕ) → IsFirstWithout P spots a → IsFirstWithout P spots b → a ≡ b
 one-without P spots a b f g =
     elim (cases_order a b) [
@@ -17,6 +18,7 @@ one-without P spots a b f g =
       | inr other ↦ elim other [ inl less ↦ absurd (f.without (g.before a less)) | inr less ↦ absurd (g.without (f.before b less)) ]
     ]
 
+-- one block is the first after a whose spot overlaps that of a
 one-over : (spots : List Spot) (a b d : ℕ) → IsFirstOverlapping spots a b → IsFirstOverlapping spots a d → b ≡ d
 one-over spots a b d f g =
     elim (cases_order b d) [
@@ -35,6 +37,7 @@ one-first spots a b c d f g =
       ]
     ]
 
+-- one pair is the first that overlaps
 one-pair : (spots : List Spot) (a b c d : ℕ) → IsLeastPair spots a b → IsLeastPair spots c d → verdict.Overlap a b ≡ verdict.Overlap c d
 one-pair spots a b c d f g =
     let first = one-first spots a b c d f g in
@@ -42,12 +45,15 @@ one-pair spots a b c d f g =
     ap (λ n. verdict.Overlap n b) first ∙ ap (verdict.Overlap c) second
 
 module _ (design : Design) (spots : List Spot) (numbered : IsByNumber spots) where
+  -- where all sizes are listed no block is the first whose size is not
   unlisted : (b : ℕ) → All (IsListed design) spots → IsFirstWithout (IsListed design) spots b → ⊥
   unlisted b all f = none_without (IsListed design) spots b numbered all f
 
+  -- where all spots lie in the outline no block is the first whose spot does not
   outside : (b : ℕ) → All (LiesIn design.outline) spots → IsFirstWithout (LiesIn design.outline) spots b → ⊥
   outside b all f = none_without (LiesIn design.outline) spots b numbered all f
 
+  -- so spots by number have one verdict
   pub one-verdict : (v w : Verdict) → IsVerdict design spots v → IsVerdict design spots w → v ≡ w
   one-verdict verdict.Legal verdict.Legal f g = refl
   one-verdict verdict.Legal (verdict.Unlisted b) f g = absurd (unlisted b f.listed g)

@@ -4,6 +4,7 @@ use Rattle.std.specs.Prelude.{slice_set}
 use Rattle.sf_model.specs.declared.plan.Spot.{Spot}
 use Rattle.sf_place.specs.Spots.{with_spots}
 
+-- spots are written one list after the other
 pub placed_append : (old xs ys : List Spot) → with_spots old (xs ++ ys) ≡ with_spots (with_spots old xs) ys
 placed_append old [] ys = refl
 placed_append old (s ∷ ss) ys = placed_append (slice_set old s.block s) ss ys

@@ -14,6 +14,7 @@ use Rattle.sf_place.specs.Spots.{IsByNumber}
 abbrev pub IsListed : Design → Spot → Type 0
 IsListed design s = Contains (shapes_of design s.block) (record { w = s.w; h = s.h })
 
+-- the spot lies in the outline
 abbrev pub LiesIn : Outline → Spot → Type 0
 LiesIn outline s = IsInside outline.w outline.h s
 

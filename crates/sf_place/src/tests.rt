@@ -1,3 +1,5 @@
+//! Placements of small designs, worked out by hand.
+
 ghost use Rattle.std.specs.Prelude.{◌≡◌, ◌∷◌, [], IfOk};
 ghost use Rattle.sf_model.specs.Legal.{block_count};
 

@@ -1,10 +1,12 @@
 //! Whether rectangles are a floorplan of a design.
 
-ghost use Rattle.std.specs.Prelude.{◌≡◌, ◌<◌, ◌↔◌, length, All, AllPairs, IsTrue, MatchOption, Contains, pos, neg_ℤ, ◌+ℤ◌, ◌≤ℤ◌, ◌<ℤ◌};
+ghost use Rattle.std.specs.Prelude.{◌≡◌, ◌<◌, ◌↔◌, length, All, AllPairs, IsTrue, MatchOption, Contains};
+ghost use Rattle.std.specs.Prelude.{pos, neg_ℤ, ◌+ℤ◌, ◌≤ℤ◌, ◌<ℤ◌};
 ghost use Rattle.sf_model.specs.Tree.{Overlaps};
 ghost use Rattle.sf_model.specs.Legal.{block_count, shapes_of};
 ghost use Rattle.sf_place.specs.Spots.{IsByNumber, HasNearCorner};
-ghost use Rattle.sf_place.specs.Verdict.{AreLegal, IsVerdict, IsListed, LiesIn, IsFirstWithout, OverlapsNoLater, IsFirstOverlapping, IsLeastPair};
+ghost use Rattle.sf_place.specs.Verdict.{AreLegal, IsVerdict, IsListed, LiesIn, IsFirstWithout};
+ghost use Rattle.sf_place.specs.Verdict.{OverlapsNoLater, IsFirstOverlapping, IsLeastPair};
 
 use crate::placing::spot_at;
 use sf_model::{Design, Outline, Shape, Spot};
@@ -51,7 +53,6 @@ fn first_unlisted(design: &Design, spots: &[Spot]) -> Option<u16>
 {
     for block in 0..spots.len() {
         let spot = spot_at(spots, block);
-        let Spot { block, w, h, .. } = spot;
         let shape = Shape {
             w: spot.w,
             h: spot.h,

@@ -11,6 +11,7 @@ use Rattle.sf_model.specs.declared.parts.Pin.{Pin}
 use Rattle.sf_model.specs.Wire.{spread}
 use Rattle.sf_wire.specs.Near.{IsNear}
 
+-- one pin more is folded in
 pub fold_pins : (f : ℤ → ℤ → ℤ) (g : Pin → ℤ) (z : ℤ) (pins : List Pin) (i : ℕ) (d : Pin) (old new at : ℤ) → i < length pins → old ≡ fold f z (map g (take i pins)) → at ≡ g (get_or pins i d) → new ≡ f old at → new ≡ fold f z (map g (take (i + 1) pins))
 fold_pins f g z pins i d old new at h was is e =
     let more : fold f z (map g (take (i + 1) pins)) ≡ f (fold f z (map g (take i pins))) (g (get_or pins i d)) =
@@ -23,11 +24,13 @@ fold_pins f g z pins i d old new at h was is e =
 pub near_same : (z : ℤ) → IsNear z → to_z w64 (of_z w64 z) ≡ z
 near_same z near = let l = near.low in let h = near.high in omega (arith, ints)
 
+-- the lesser of two near numbers is near
 pub near_least : (a b r : ℤ) → IsNear a → IsNear b → r ≡ int_min a b → IsNear r
 near_least a b r p q e =
     let n : IsNear (int_min a b) = record { low = omega (arith, ints, clamps, p.low, q.low); high = omega (arith, ints, clamps, p.high, q.high) } in
     subst IsNear (sym e) n
 
+-- the greater of two near numbers is near
 pub near_greatest : (a b r : ℤ) → IsNear a → IsNear b → r ≡ int_max a b → IsNear r
 near_greatest a b r p q e =
     let n : IsNear (int_max a b) = record { low = omega (arith, ints, clamps, p.low, q.low); high = omega (arith, ints, clamps, p.high, q.high) } in

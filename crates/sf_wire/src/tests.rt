@@ -1,3 +1,5 @@
+//! Wires and costs of small designs, worked out by hand.
+
 ghost use Rattle.std.specs.Prelude.{◌≡◌, ◌∷◌, [], IfOk, length, pos, ◌≤ℤ◌};
 ghost use Rattle.sf_model.specs.Legal.{block_count, shapes_of};
 
