@@ -25,6 +25,7 @@ a half and of a quarter of the bytes:
   repeated    GSRC: lines of a pl file, all with one name
   placed      GSRC: three texts of this length: as many pads, pins and places as fit, with names of 4,096 bytes that begin alike
   remarks     GSRC: comments of two bytes in a nets file
+  measured    GSRC: lines of a placed file that `measure` reads, each with a name of its own
 
 Printed are how many there are, processor time and greatest resident memory of the three runs, and the first line of the
 answer, or the status where nothing is printed.
@@ -177,14 +178,20 @@ def placed(room):
         "t.pl": PLACES + "".join(one + " 0 0\n" for one in names)}
 
 
+def measured(room):
+    items = many(lambda i: name(52 * 63 + i) + " 0 0\n", room - 20)
+    return len(items), {"t.blocks": HEAD % (0, 1, 0) + BLOCK, "t.placed": PLACES + "".join(items)}
+
+
 def remarks(room):
     count = (room - 100) // 2
     return count, {"t.blocks": HEAD % (0, 1, 0) + BLOCK, "t.nets": NETS % 0 + "#\n" * count}
 
 
 CASES = (signals, scattered, long, alike, uses, instances, modules, terminals, twice, comments,
-         pins, nets, corners, blocks, pads, padded, places, repeated, placed, remarks)
-WORDS = {".yal": ["--format", "yal", "--yal"], ".blocks": ["--format", "gsrc", "--blocks"], ".nets": ["--nets"], ".pl": ["--pl"]}
+         pins, nets, corners, blocks, pads, padded, places, repeated, placed, remarks, measured)
+WORDS = {".yal": ["--format", "yal", "--yal"], ".blocks": ["--format", "gsrc", "--blocks"], ".nets": ["--nets"], ".pl": ["--pl"],
+         ".placed": ["--placed"]}
 
 
 def write(case, room):
@@ -207,10 +214,10 @@ def write(case, room):
 
 
 def measure(program, files):
-    words = []
+    words = ["measure"] if any(file.endswith(".placed") for file in files) else ["plan", "--nodes", "1", "--cert", "c"]
     for file in files:
         words += WORDS[os.path.splitext(file)[1]] + [file]
-    process = subprocess.Popen([program, "plan", "--nodes", "1", "--cert", "c"] + words, stdout=subprocess.PIPE)
+    process = subprocess.Popen([program] + words, stdout=subprocess.PIPE)
     line = process.stdout.read().decode().split("\n")[0]
     _, status, usage = os.wait4(process.pid, 0)
     process.returncode = os.waitstatus_to_exitcode(status)

@@ -1,42 +1,77 @@
 //! From the lines of a placed file to one spot for each block.
 
-ghost use Rattle.std.specs.Prelude.{◌≡◌, ◌≤◌, length, min, All, IfOk};
+ghost use Rattle.std.specs.Prelude.{◌≡◌, ◌≤◌, List, [], length, min, is_some, true, All, IfOk};
+ghost use Rattle.sf_gsrc.specs.declared.output.Place.{Place};
+ghost use Rattle.sf_names.specs.Values.{value_in};
 ghost use Rattle.sf_place.specs.Spots.{HasNearCorner, IsByNumber};
 ghost use Rattle.sf_program.specs.Loads.{TellsNoLoad};
 ghost use Rattle.sf_program.specs.Measured.{lines_named, side_in_spot, sized_spot, spot_said, spots_said};
 ghost use Rattle.sf_program.specs.Outcome.{Ends};
-ghost use Rattle.sf_program.specs.PlacedLines.{IsIndex, IsNear};
+ghost use Rattle.sf_program.specs.PlacedLines.{AreIndexed, IsIndex, IsNear, with_line};
 
 use crate::refusals::named_fault;
 use crate::stop::Stop;
 use sf_gsrc::Place;
 use sf_model::{Block, Name, Spot};
+use sf_names::{NameMap, TextHash};
 use std::alloc::{AllocError, Global};
-use std::collections::BTreeMap;
 
 /// One more than the greatest side.
 const PAST_SIDES: u64 = 1_048_577;
 
-/// The lines that have a name: the only one, by its number, or more.
+/// The lines that have a name: none, the only one, by its number, or more.
 #[derive(Clone, Copy)]
 enum Lines {
+    Without,
     One(usize),
     More,
 }
 
-fn index_lines(alloc: Global, lines: &[Place]) -> Result<BTreeMap<&[u8], Lines>, AllocError>
-    ensures { IfOk result (λ index. IsIndex index lines.now lines.now) }
+/// One line more than these, of this number.
+fn with_line(known: Lines, line: usize) -> Lines
+    ensures { result ≡ with_line known line }
 {
-    let mut index = BTreeMap::new(alloc);
+    match known {
+        Lines::Without => Lines::One(line),
+        _ => Lines::More,
+    }
+}
+
+/// The hash of the names of blocks.
+fn hash_blocks(blocks: &[Block]) -> TextHash {
+    let mut hash = TextHash::new(b"");
+    for block in blocks {
+        hash.add(block.name.as_bytes());
+    }
+    hash
+}
+
+/// The names of the blocks, each without a line.
+fn index_blocks(alloc: Global, blocks: &[Block]) -> Result<NameMap<'_, Lines>, AllocError>
+    ensures { IfOk result (λ index. (lines : List Place) → IsIndex index blocks.now lines []) }
+{
+    let mut index = NameMap::new(alloc, hash_blocks(blocks), blocks.len());
+    for block in blocks {
+        index.insert(block.name.as_bytes(), Lines::Without)?;
+    }
+    Ok(index)
+}
+
+/// The lines by the names of the blocks: those with another name are passed over.
+fn index_lines<'a>(
+    alloc: Global,
+    blocks: &'a [Block],
+    lines: &'a [Place],
+) -> Result<NameMap<'a, Lines>, AllocError>
+    ensures { IfOk result (λ index. IsIndex index blocks.now lines.now lines.now) }
+{
+    let mut index = index_blocks(alloc, blocks)?;
     for i in (0..lines.len()).rev() {
         let line = &lines[i];
         let name = line.name.as_bytes();
-        let known = if index.contains_key(name) {
-            Lines::More
-        } else {
-            Lines::One(i)
-        };
-        index.insert(name, known)?;
+        if let Some(known) = index.get(name) {
+            index.insert(name, with_line(known, i))?;
+        }
     }
     Ok(index)
 }
@@ -73,17 +108,19 @@ fn spot_of(
     block: u16,
     name: &Name,
     lines: &[Place],
-    index: &BTreeMap<&[u8], Lines>,
+    index: &NameMap<'_, Lines>,
 ) -> Result<Spot, Stop>
-    requires indexed { IsIndex index.now lines.now lines.now }
+    requires known { is_some (value_in index.now name.now) ≡ true }
+    requires indexed { AreIndexed index.now lines.now lines.now }
     requires near { All IsNear lines.now }
     ensures spot { Ends (λ s. s) result (λ r. r ≡ spot_said block name.now (lines_named name.now lines.now)) }
     ensures near { IfOk result HasNearCorner }
     ensures block { IfOk result (λ s. s.block ≡ block) }
     ensures tells { TellsNoLoad result }
 {
-    match index.get(name.as_bytes()).copied() {
-        None => Err(named_fault(alloc, "MissingPlace", name)?),
+    match index.get(name.as_bytes()) {
+        None => unreachable!(),
+        Some(Lines::Without) => Err(named_fault(alloc, "MissingPlace", name)?),
         Some(Lines::More) => Err(named_fault(alloc, "DuplicateName", name)?),
         Some(Lines::One(line)) => sized_spot(alloc, block, name, &lines[line]),
     }
@@ -99,7 +136,7 @@ pub fn place_blocks(alloc: Global, blocks: &[Block], lines: &[Place]) -> Result<
     ensures near { IfOk result (λ v. All HasNearCorner v.items) }
     ensures tells { TellsNoLoad result }
 {
-    let index = index_lines(alloc, lines)?;
+    let index = index_lines(alloc, blocks, lines)?;
     let mut spots = Vec::new(alloc);
     for number in 0..blocks.len() {
         let block = &blocks[number];

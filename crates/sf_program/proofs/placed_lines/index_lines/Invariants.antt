@@ -3,4 +3,4 @@ use Rattle.sf_program.specs.PlacedLines.{IsIndex}
 use Rattle.sf_program.proofs.placed_lines.index_lines.Given as goal
 
 abbrev pub invariant-loop-i : goal.invariant-loop-i
-invariant-loop-i l = IsIndex l.index l.lines (drop l.i l.lines)
+invariant-loop-i l = IsIndex l.index l.blocks l.lines (drop l.i l.lines)

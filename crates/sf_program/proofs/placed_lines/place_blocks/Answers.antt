@@ -1,7 +1,17 @@
-use Rattle.std.proofs.Common.{arith}
+use Rattle.std.proofs.Common.{◌≡◌, arith, sym, subst, true}
+use Rattle.std.specs.Prelude.{is_some}
+use Rattle.sf_model.specs.declared.parts.Block.{Block}
+use Rattle.sf_names.specs.Values.{value_in}
 use Rattle.std.proofs.lemmas.Result.{err_from_is_err_and}
 use Rattle.sf_program.proofs.Placing.{one_spot_more, numbered_more, near_more}
 use Rattle.sf_program.proofs.placed_lines.place_blocks.Goals as goal
+
+pub spot_of-requires : goal.spot_of-requires
+spot_of-requires c = record {
+  known = subst (λ (block : Block). is_some (value_in c.in_ok-index.index block.name) ≡ true) (sym c.index-blocks-number.is) (c.in_ok-index.ensures.names c.loop-number.number c.index-blocks-number.result c.loop-number-test.true);
+  indexed = c.in_ok-index.ensures.kept;
+  near = c.requires.near;
+}
 
 pub loop-number-preserved : goal.loop-number-preserved
 loop-number-preserved c =

@@ -1,0 +1,13 @@
+use Rattle.std.proofs.Common.{◌≡◌, true, take}
+use Rattle.std.specs.Prelude.{is_some}
+use Rattle.std.specs.List.{All}
+use Rattle.sf_model.specs.declared.parts.Block.{Block}
+use Rattle.sf_names.specs.Values.{value_in}
+use Rattle.sf_program.proofs.Placing.{HasNoLine}
+use Rattle.sf_program.proofs.placed_lines.index_blocks.Given as goal
+
+abbrev pub invariant-loop-block : goal.invariant-loop-block
+invariant-loop-block l = record {
+  names : All (λ (block : Block). is_some (value_in l.index block.name) ≡ true) (take l.block-index l.blocks);
+  none : HasNoLine l.index;
+}
