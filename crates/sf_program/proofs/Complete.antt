@@ -4,16 +4,10 @@ use Rattle.std.specs.Prelude.{IsFalse}
 use Rattle.sf_io.specs.Outside.{Contents}
 use Rattle.sf_io.specs.declared.status.Status.{Status}
 use Rattle.sf_io.specs.declared.status.Status.TheVariants.{Done, NoneFits, Usage, Open, No, BadInput, OverLimit, ReadFault, WriteFault, NoMemory}
-use Rattle.sf_place.specs.declared.verdict.Verdict.{Verdict}
-use Rattle.sf_place.specs.declared.verdict.Verdict.TheVariants as verdict
-use Rattle.sf_checker.specs.declared.answer.Answer.{Answer as Checked}
-use Rattle.sf_checker.specs.declared.answer.Answer.TheVariants as checked
-use Rattle.sf_pl_writer.specs.declared.report.Outcome.{Outcome}
-use Rattle.sf_pl_writer.specs.declared.report.Outcome.TheVariants as word
 use Rattle.sf_words.specs.Meaning.{Command, plan, check, measure, shape, gen, Means}
 use Rattle.sf_words.proofs.Unique.{meaning_unique}
 use Rattle.sf_program.specs.Answer.{Answers, CommandAnswer, CommandRefuses, IsAnswer, IsRefused, RefusesWords}
-use Rattle.sf_program.specs.Checked.{CheckRead, answer_status}
+use Rattle.sf_program.specs.Checked.{CheckRead}
 use Rattle.sf_program.specs.Complete.{EndsJudging, HasValue, IsOwnEnd, IsTaken, MayEnd}
 use Rattle.sf_program.specs.Generated.{GenRead}
 use Rattle.sf_program.specs.Headline.{HasSearched}
@@ -23,42 +17,29 @@ use Rattle.sf_program.specs.Outcome.{Refusal, refused, lost}
 use Rattle.sf_program.specs.Planned as planned
 use Rattle.sf_program.specs.Shaped.{ShapeRead}
 use Rattle.sf_program.specs.Stores.{Stored}
+use Rattle.sf_program.proofs.Endings.{said-ends, judged-ends, checked-ends}
 use Rattle.sf_program.proofs.Once.{no-refusal}
 use Rattle.sf_program.proofs.OneChecked.{check-read-one, measure-read-one, shape-read-one}
 use Rattle.sf_program.proofs.OneDesign.{plan-one}
 use Rattle.sf_program.proofs.OneSearched.{gen-one}
-
-said-ends : (said : Outcome) → HasSearched (planned.outcome_status said)
-said-ends word.Optimal = tt
-said-ends word.NoneFits = tt
-said-ends word.Open = tt
-
-judged-ends : (v : Verdict) → EndsJudging (measured.verdict_status v)
-judged-ends verdict.Legal = tt
-judged-ends (verdict.Unlisted b) = tt
-judged-ends (verdict.Outside b) = tt
-judged-ends (verdict.Overlap a b) = tt
-
-checked-ends : (a : Checked) → EndsJudging (answer_status a)
-checked-ends (checked.Yes cost bound decided) = tt
-checked-ends (checked.No why) = tt
 
 -- a stage that gives a value refuses nothing
 never-refused : {any : Bool} {X : Type 0} (Read : Result X Refusal → Type 0) → GivesOne any Read → HasValue Read → (a : Answer) → IsRefused (λ why. Read (Err why)) a.0 a.1 a.2 → ⊥
 never-refused Read once taken a r = no-refusal Read once taken.0 (refused a.0 a.2) (λ t. tt) taken.1 r.1
 
 module _ (contents : Contents) where
+  -- a command whose texts every stage takes ends by a status of its own
   command-ends : (command : Command) (a : Answer) → IsTaken command contents → CommandAnswer command (Some contents) a.0 a.1 a.2 → IsOwnEnd command a.0
   command-ends (plan o) a taken h =
-      elim h [ inl p ↦ subst HasSearched (sym p.answered.status_is) (said-ends p.answered.said) | inr r ↦ absurd (never-refused (planned.PlanRead (Some contents) o) (plan-one contents o) taken a r) ]
+      elim h [ inl p ↦ subst HasSearched (sym p.answered.status_is) (said-ends HasSearched tt tt tt p.answered.said) | inr r ↦ absurd (never-refused (planned.PlanRead (Some contents) o) (plan-one contents o) taken a r) ]
   command-ends (check o) a taken h =
-      elim h [ inl p ↦ subst EndsJudging (sym p.file.judged.status_is) (checked-ends p.file.judged.answer) | inr r ↦ absurd (never-refused (CheckRead (Some contents) o) (check-read-one contents o) taken a r) ]
+      elim h [ inl p ↦ subst EndsJudging (sym p.file.judged.status_is) (checked-ends EndsJudging tt tt p.file.judged.answer) | inr r ↦ absurd (never-refused (CheckRead (Some contents) o) (check-read-one contents o) taken a r) ]
   command-ends (measure o) a taken h =
-      elim h [ inl p ↦ subst EndsJudging (sym p.0.status_is) (judged-ends p.0.verdict) | inr r ↦ absurd (never-refused (measured.MeasureRead (Some contents) o) (measure-read-one contents o) taken a r) ]
+      elim h [ inl p ↦ subst EndsJudging (sym p.0.status_is) (judged-ends EndsJudging tt tt p.0.verdict) | inr r ↦ absurd (never-refused (measured.MeasureRead (Some contents) o) (measure-read-one contents o) taken a r) ]
   command-ends (shape o) a taken h =
       elim h [ inl p ↦ subst (IsOwnEnd (shape o)) (sym p.0.status_is) tt | inr r ↦ absurd (never-refused (ShapeRead (Some contents) o) (shape-read-one contents o) taken a r) ]
   command-ends (gen o) a taken h =
-      elim h [ inl p ↦ subst HasSearched (sym p.answered.status_is) (said-ends p.answered.said) | inr r ↦ absurd (never-refused (GenRead o) (gen-one contents.may_fail o) taken a r) ]
+      elim h [ inl p ↦ subst HasSearched (sym p.answered.status_is) (said-ends HasSearched tt tt tt p.answered.said) | inr r ↦ absurd (never-refused (GenRead o) (gen-one contents.may_fail o) taken a r) ]
 
   pub words-end : (words : List (List ℕ)) (command : Command) (a : Answer) → Means words command → IsTaken command contents → IsAnswerTo words contents a → IsOwnEnd command a.0
   words-end words command a means taken h =
@@ -75,6 +56,7 @@ never-lost contents Read once sure taken gone =
     no-refusal Read once taken.0 lost (λ t. absurd (let e : true ≡ false = sym t ∙ sure in cc)) taken.1 gone
 
 module _ (contents : Contents) where
+  -- no file is lost of a command whose texts every stage takes, where loads fail only at names without a text
   command-keeps : (command : Command) → IsFalse contents.may_fail → IsTaken command contents → CommandRefuses command (Some contents) lost → ⊥
   command-keeps (plan o) sure taken h = never-lost contents (planned.PlanRead (Some contents) o) (plan-one contents o) sure taken h
   command-keeps (check o) sure taken h = never-lost contents (CheckRead (Some contents) o) (check-read-one contents o) sure taken h
@@ -93,6 +75,7 @@ abbrev pub IsAnswered : List (List ℕ) → Option Contents → Status → Type 
 IsAnswered words before status = (stored : List Stored) × (printed : List ℕ) × Answers words before status stored printed
 
 module _ (words : List (List ℕ)) (command : Command) (contents : Contents) (means : Means words command) (sure : IsFalse contents.may_fail) (taken : IsTaken command contents) where
+  -- an answer to words whose texts every stage takes ends by a status of the command's own
   own-end : (status : Status) → IsAnswered words (Some contents) status → IsOwnEnd command status
   own-end status a = words-end contents words command (status, a.0, a.1) means taken a.2
 
@@ -109,6 +92,7 @@ module _ (words : List (List ℕ)) (command : Command) (contents : Contents) (me
   may-end WriteFault a l = tt
   may-end NoMemory a l = tt
 
+-- so `run` ends as the command may end
 pub run-ends : (words : List (List ℕ)) (before : Option Contents) (status : Status) → (IsAnswer status → IsAnswered words before status) → (status ≡ ReadFault → RefusesWords words before lost)
     → (command : Command) (contents : Contents) → Means words command → before ≡ Some contents → IsFalse contents.may_fail → IsTaken command contents → MayEnd command status
 run-ends words before status a l command contents means told sure taken =

@@ -75,6 +75,7 @@ abbrev Finds : Design → ℕ → Status → List ℕ → Type 0
 Finds design budget status printed = (report : Report) × IsFinding design budget status report × (printed ≡ report_text report)
 
 module _ (design : Design) (workers budget scale : ℕ) (name : List ℕ) (pl : Option (List ℕ)) (said : Outcome) (cert : Cert) (searched : IsSearched design workers budget cert) (floor : IsFloor design cert.bound) (ending : IsEnding cert.cost cert.bound said) where
+  -- what is told of a certificate is what its report says
   told-finds : (plan : Option Expr) (stored : List Stored) (printed : List ℕ) → MatchOption plan (cert.cost ≡ MAX) (λ expr. HasCost design expr cert.cost) → IsTold design scale name pl said cert plan stored printed
       → Finds design budget (outcome_status said) printed
   told-finds None stored printed v t =
@@ -84,6 +85,7 @@ module _ (design : Design) (workers budget scale : ℕ) (name : List ℕ) (pl : 
       let report = report_of said cert (t.1, t.2) (t.1 * t.2) t.3 (Some expr) in
       (report, record { plan = measured-plan design cert said expr t.0 t.1 t.2 t.3 t.4 v; floor = floor; few = searched.few; end = ends-as design budget report said floor searched.spent searched.ended ending }, t.6)
 
+-- the answer of a search is a report of what its certificate found
 answered-finds : (design : Design) (workers budget scale : ℕ) (name : List ℕ) (pl : Option (List ℕ)) (status : Status) (stored : List Stored) (printed : List ℕ) → IsAnswered design workers budget scale name pl status stored printed
     → Finds design budget status printed
 answered-finds design workers budget scale name pl status stored printed a =
@@ -102,11 +104,13 @@ answered-headline Stands nodes taken taken_then status design workers scale name
     record { design = design; stands = stands; report = found.0; finding = found.1; prints = subst (Appends taken taken_then) found.2 prints }
 
 module _ (before : Option Contents) (taken taken_then : Option (List ℕ)) (status : Status) (searched : HasSearched status) where
+  -- an answer of `plan` by a status of a search has the headline
   plan-headline : (o : PlanOptions) (stored : List Stored) (printed : List ℕ) → CommandAnswer (plan o) before status stored printed → Appends taken taken_then printed → IsHeadline (PlanRead before o) o.nodes taken taken_then status
   plan-headline o stored printed (inl p) prints =
       answered-headline (PlanRead before o) o.nodes taken taken_then status p.design o.workers o.design.per_unit o.cert o.pl_out stored printed p.reads p.answered prints
   plan-headline o stored printed (inr r) prints = absurd (no-search status r.0 searched)
 
+  -- so has one of `gen`
   gen-headline : (o : GenOptions) (stored : List Stored) (printed : List ℕ) → CommandAnswer (gen o) before status stored printed → Appends taken taken_then printed → IsHeadline (GenRead o) o.nodes taken taken_then status
   gen-headline o stored printed (inl p) prints =
       answered-headline (GenRead o) o.nodes taken taken_then status p.design 1 1 (cert_name o) None p.searched printed p.made p.answered prints
@@ -114,6 +118,7 @@ module _ (before : Option Contents) (taken taken_then : Option (List ℕ)) (stat
 
 -- the answer of a run that is done, where its words mean this command
 module _ (words : List (List ℕ)) (before after taken taken_then : _) (status : Status) (done : IsDone words before after taken taken_then status) (searched : HasSearched status) where
+  -- the answer is one of the command that the words mean
   answer-to : (command : Command) → Means words command → CommandAnswer command before status done.stored done.printed
   answer-to command means =
       elim done.answer [

@@ -5,6 +5,7 @@ pub mod Printed
 pub mod Legal
 pub mod NearPlaces
 pub mod Placing
+pub mod Endings
 pub mod Statuses
 pub mod Made
 pub mod Once

@@ -12,6 +12,7 @@ use Rattle.sf_program.specs.Weighed.{WeighedParts}
 use Rattle.sf_program.proofs.Stages.{stops-map}
 
 module _ {X F : Type 0} (first : Result X F) (refusal : F → Refusal) (out : X) (read : first ≡ Ok out) where
+  -- what reads as a value has no fault
   no-fault : (fault : F) → first ≡ Err fault → ⊥
   no-fault fault e = let k : Ok out ≡ Err fault = sym read ∙ e in absurd (cc)
 
@@ -20,6 +21,7 @@ module _ {X F : Type 0} (first : Result X F) (refusal : F → Refusal) (out : X)
   said-is Stands once (Ok x) h = once x h
   said-is Stands once (Err stop) h = tt
 
+  -- such a text is never refused
   pub said-never : (Stands : X → Type 0) → (r : Result X Stop) → Ends (λ x. x) r (Said Stands first refusal) → IfErr r IsFault
   said-never Stands (Ok x) h = tt
   said-never Stands (Err stop) h = stops-map (λ why. Said Stands first refusal (Err why)) (λ why. ⊥) (λ why s. no-fault s.0 s.1) stop h
@@ -28,23 +30,28 @@ module _ {X F : Type 0} (first : Result X F) (refusal : F → Refusal) (out : X)
   judged-same : (r : Result X Refusal) → Judged first refusal r → r ≡ Ok out
   judged-same r h = subst (λ f. Judged f refusal r) read h
 
+  -- the value is the one that is there
   pub judged-is : (r : Result X Stop) → Ends (λ x. x) r (Judged first refusal) → IfOk r (λ x. x ≡ out)
   judged-is (Ok x) h = let k : Ok x ≡ Ok out = judged-same (Ok x) h in cc
   judged-is (Err stop) h = tt
 
+  -- and is never refused
   pub judged-never : (r : Result X Stop) → Ends (λ x. x) r (Judged first refusal) → IfErr r IsFault
   judged-never (Ok x) h = tt
   judged-never (Err stop) h = stops-map (λ why. Judged first refusal (Err why)) (λ why. ⊥) (λ why s. let k : Err why ≡ Ok out = judged-same (Err why) s in absurd (cc)) stop h
 
 -- each block has a shape
 module _ (o : DesignOptions) (w : WeightOptions) (read : WeighedParts) (shaped : (fault : BuildFault) → HasNoneFor o.shapes o.is_fixed read.parts.blocks fault → ⊥) where
+  -- where each block has a shape the design is not refused
   no-refusal : (why : Refusal) → DesignMade o w read (Err why) → ⊥
   no-refusal why d = elim d [ inl m ↦ m.2 | inr m ↦ shaped m.1.0 m.1.1 ]
 
+  -- nor does its making stop for a refusal
   pub made-never : (r : Result Design Stop) → Ends (λ x. x) r (DesignMade o w read) → IfErr r IsFault
   made-never (Ok x) h = tt
   made-never (Err stop) h = stops-map (λ why. DesignMade o w read (Err why)) (λ why. ⊥) no-refusal stop h
 
+-- a design that is made stands beside what else is known
 pub made-ok : (o : DesignOptions) (w : WeightOptions) (read : WeighedParts) (S : Type 0) → S → (r : Result Design Stop) → Ends (λ x. x) r (DesignMade o w read) → IfOk r (λ d. S × DesignMade o w read (Ok d))
 made-ok o w read S s (Ok d) h = (s, h)
 made-ok o w read S s (Err stop) h = tt

@@ -21,12 +21,14 @@ use Rattle.sf_io.specs.Outside.{Contents}
 use Rattle.sf_program.specs.Reading.{PlacesRead}
 use Rattle.sf_program.specs.PlacedLines.{IsNear}
 
+-- a sequence that gives a value has one at its first step
 bound : (A E : Type 0) → (r : Result A E) (B : Type 0) (f : A → Result B E) (y : B) → (r >>= f) ≡ Ok y → (x : A) × (r ≡ Ok x) × (f x ≡ Ok y)
 bound A E (Ok x) B f y e = (x, refl, e)
 bound A E (Err d) B f y e = absurd cc
 
 -- ---- numbers
 
+-- a value that passes the limit's test is at most the limit
 within_most : (limit v n : ℕ) (over : Bool) → nat_lt limit v ≡ over → cond {A = Result ℕ NumberFault} over (Err TooLarge) (Ok v) ≡ Ok n → n ≤ limit
 within_most limit v n true t e = absurd cc
 within_most limit v n false t e =
@@ -34,15 +36,18 @@ within_most limit v n false t e =
     let low : v ≤ limit = grind (arith, nat_tests) in
     omega arith
 
+-- so is one that also passes the tests before it
 exact_most : (limit v n : ℕ) (many whole : Bool) → cond {A = Result ℕ NumberFault} many (Err TooManyDigits) (cond whole (within limit v) (Err NotWhole)) ≡ Ok n → n ≤ limit
 exact_most limit v n true whole e = absurd cc
 exact_most limit v n false true e = within_most limit v n (nat_lt limit v) refl e
 exact_most limit v n false false e = absurd cc
 
+-- and the value of a decimal that is read
 value_most : (scale limit n : ℕ) (d : Option Decimal) → value_or_fault (exact_value scale limit) d ≡ Ok n → n ≤ limit
 value_most scale limit n None e = absurd cc
 value_most scale limit n (Some d) e = exact_most limit (scaled scale d / unit d) n (nat_lt 6 (length d.fraction)) (scaled scale d % unit d == 0) e
 
+-- a decimal that is read with a limit is at most that
 decimal_most : (scale limit : ℕ) (word : List ℕ) (n : ℕ) → decimal_read scale limit word ≡ Ok n → n ≤ limit
 unfolding decimal_read
 decimal_most scale limit word n e = value_most scale limit n (decimal_of word) e
@@ -52,10 +57,12 @@ record IsIn (limit : ℕ) (z : ℤ) : Type 0 where
   low : neg_ℤ (pos limit) ≤ℤ z
   high : z ≤ℤ pos limit
 
+-- a number that is mapped was read
 value_of : (f : ℕ → ℤ) (r : Result ℕ NumberFault) (z : ℤ) → with_value f r ≡ Ok z → (n : ℕ) × (r ≡ Ok n) × (f n ≡ z)
 value_of f (Ok n) z e = (n, refl, cc)
 value_of f (Err d) z e = absurd cc
 
+-- a number with no sign, or with a plus, is at most so far from 0
 plus_in : (scale limit : ℕ) (word : List ℕ) (z : ℤ) → with_value pos (decimal_read scale limit word) ≡ Ok z → IsIn limit z
 plus_in scale limit word z e =
     let v = value_of pos (decimal_read scale limit word) z e in
@@ -63,6 +70,7 @@ plus_in scale limit word z e =
     let at : IsIn limit (pos v.0) = record { low = omega (arith, ints); high = omega (arith, ints) } in
     subst (IsIn limit) v.2 at
 
+-- so is one with a minus
 minus_in : (scale limit : ℕ) (word : List ℕ) (z : ℤ) → with_value (λ n. neg_ℤ (pos n)) (decimal_read scale limit word) ≡ Ok z → IsIn limit z
 minus_in scale limit word z e =
     let v = value_of (λ n. neg_ℤ (pos n)) (decimal_read scale limit word) z e in
@@ -70,29 +78,35 @@ minus_in scale limit word z e =
     let at : IsIn limit (neg_ℤ (pos v.0)) = record { low = omega (arith, ints); high = omega (arith, ints) } in
     subst (IsIn limit) v.2 at
 
+-- so is any of the three
 signed_by : (scale limit : ℕ) (b : ℕ) (digits : List ℕ) (z : ℤ) (minus plus : Bool)
     → cond minus (with_value (λ n. neg_ℤ (pos n)) (decimal_read scale limit digits)) (cond plus (with_value pos (decimal_read scale limit digits)) (with_value pos (decimal_read scale limit (b ∷ digits)))) ≡ Ok z → IsIn limit z
 signed_by scale limit b digits z true plus e = minus_in scale limit digits z e
 signed_by scale limit b digits z false true e = plus_in scale limit digits z e
 signed_by scale limit b digits z false false e = plus_in scale limit (b ∷ digits) z e
 
+-- and so the number that a word says
 signed_in : (scale limit : ℕ) (word : List ℕ) (z : ℤ) → signed_read scale limit word ≡ Ok z → IsIn limit z
 unfolding signed_read
 signed_in scale limit [] z e = absurd cc
 signed_in scale limit (b ∷ digits) z e = signed_by scale limit b digits z (b == 45) (b == 43) e
 
+-- what is no fault of a line is none of its number
 number_ok : (r : Result ℤ NumberFault) (z : ℤ) → number_in r ≡ Ok z → r ≡ Ok z
 number_ok (Ok x) z e = cc
 number_ok (Err d) z e = absurd cc
 
+-- a coordinate is at most 9,000,000,000,000,000 away from 0
 place_in : (scale : ℕ) (word : List ℕ) (z : ℤ) → place_in_word scale word ≡ Ok z → IsIn 9_000_000_000_000_000 z
 place_in scale word z e = signed_in scale 9_000_000_000_000_000 word z (number_ok (signed_read scale 9_000_000_000_000_000 word) z e)
 
 -- ---- lines
 
+-- a line that says a place
 abbrev done : Place → Result Place LineFault
 done p = Ok p
 
+-- a place made of near coordinates is near
 near_at : (name : List ℕ) (x y : ℤ) (size : Option (ℕ × ℕ)) (p : Place) → done (record { name = name; x = x; y = y; size = size }) ≡ done p → IsIn 9_000_000_000_000_000 x → IsIn 9_000_000_000_000_000 y → IsNear p
 near_at name x y size p e a b =
     let made : Place = record { name = name; x = x; y = y; size = size } in
@@ -100,6 +114,7 @@ near_at name x y size p e a b =
     let near : IsNear made = record { left = a.low; right = a.high; lower = b.low; upper = b.high } in
     subst IsNear is near
 
+-- a line of a name and two coordinates says a near place
 point_near : (scale : ℕ) (name x y : List ℕ) (p : Place) → point_said scale name x y ≡ Ok p → IsNear p
 unfolding point_said
 point_near scale name x y p e =
@@ -107,10 +122,12 @@ point_near scale name x y p e =
     let b = bound ℤ LineFault (place_in_word scale y) Place _ p a.2 in
     near_at name a.0 b.0 None p b.2 (place_in scale x a.0 a.1) (place_in scale y b.0 b.1)
 
+-- so does one with a size, where no side is 0
 sized_by : (name : List ℕ) (x y : ℤ) (size : ℕ × ℕ) (p : Place) (zero : Bool) → cond {A = Result Place LineFault} zero (Err ZeroSide) (Ok (record { name = name; x = x; y = y; size = Some size })) ≡ Ok p → IsIn 9_000_000_000_000_000 x → IsIn 9_000_000_000_000_000 y → IsNear p
 sized_by name x y size p true e a b = absurd cc
 sized_by name x y size p false e a b = near_at name x y (Some size) p e a b
 
+-- as its words are read
 sized_near : (scale : ℕ) (name x y : List ℕ) (more : List (List ℕ)) (p : Place) → sized_said scale name x y more ≡ Ok p → IsNear p
 unfolding sized_said
 sized_near scale name x y more p e =
@@ -120,29 +137,35 @@ sized_near scale name x y more p e =
     let z = bound (ℕ × ℕ) LineFault (size_in_words scale s.0) Place _ p b.2 in
     sized_by name a.0 b.0 z.0 p ((z.0.0 == 0) || (z.0.1 == 0)) z.2 (place_in scale x a.0 a.1) (place_in scale y b.0 b.1)
 
+-- and a line is one of the two
 rest_by : (scale : ℕ) (name x y : List ℕ) (more : List (List ℕ)) (p : Place) (sized : Bool) → cond sized (sized_said scale name x y more) (point_said scale name x y) ≡ Ok p → IsNear p
 rest_by scale name x y more p true e = sized_near scale name x y more p e
 rest_by scale name x y more p false e = point_near scale name x y p e
 
+-- by the word behind its coordinates
 rest_near : (scale : ℕ) (name x y : List ℕ) (rest : List (List ℕ)) (p : Place) → rest_said scale name x y rest ≡ Ok p → IsNear p
 unfolding rest_said
 rest_near scale name x y [] p e = point_near scale name x y p e
 rest_near scale name x y (word ∷ more) p e = rest_by scale name x y more p (bytes_eq word (codes "DIMS")) e
 
+-- a line that has coordinates says a near place
 coordinates_by : (scale : ℕ) (name x y : List ℕ) (rest : List (List ℕ)) (p : Place) (some : Bool) → cond some (rest_said scale name x y rest) (Err BadLine) ≡ Ok p → IsNear p
 coordinates_by scale name x y rest p true e = rest_near scale name x y rest p e
 coordinates_by scale name x y rest p false e = absurd cc
 
+-- each line that says a place says a near one
 place_near : (scale : ℕ) (line : List ℕ) (p : Place) → place_said scale line ≡ Ok p → IsNear p
 unfolding place_said
 place_near scale line p e = coordinates_by scale _ _ _ _ p _ e
 
+-- so the places of lines are near
 all_near : (scale : ℕ) (lines : List Line) (places : List Place) → AllZip (SaysPlace scale) lines places → All IsNear places
 all_near scale [] [] z = All-nil IsNear
 all_near scale [] (p ∷ ps) z = absurd z
 all_near scale (l ∷ ls) [] z = absurd z
 all_near scale (l ∷ ls) (p ∷ ps) z = All-cons IsNear p ps (place_near scale l.bytes p z.0) (all_near scale ls ps z.1)
 
+-- and those for which a text stands
 pub stands_near : (scale : ℕ) (text : List ℕ) (out : GsrcPlaces) → PlacesStandFor scale text out → All IsNear out.places
 stands_near scale text out s = all_near scale s.others out.places s.each
 

@@ -11,6 +11,7 @@ use Rattle.sf_program.specs.Reading.{IfNamed, Judged, Said, TextRead, With}
 pub once : {any : Bool} {X : Type 0} (P : Result X Refusal → Type 0) → AtMostOne P → GivesOne any P
 once P one r s p q told = one r s p q
 
+-- a refusal of what tells its reason tells it
 told-reason : {X : Type 0} (r : Result X Refusal) (why : Refusal) → r ≡ Err why → IsTold r → IsSaid why
 told-reason r why e told = subst IsTold e told
 
@@ -18,12 +19,15 @@ told-reason r why e told = subst IsTold e told
 pub no-refusal : {any : Bool} {X : Type 0} (P : Result X Refusal → Type 0) → GivesOne any P → (x : X) (why : Refusal) → (IsTrue any → IsSaid why) → P (Ok x) → P (Err why) → ⊥
 no-refusal P one x why said p q = let e = one (Ok x) (Err why) p q (λ t. (tt, said t)) in absurd (cc)
 
+-- what has one outcome has one value
 pub same-value : {any : Bool} {X : Type 0} (P : Result X Refusal → Type 0) → GivesOne any P → (x y : X) → P (Ok x) → P (Ok y) → x ≡ y
 same-value P one x y p q = let e : Ok x ≡ Ok y = one (Ok x) (Ok y) p q (λ t. (tt, tt)) in cc
 
+-- and one refusal, where both are said or no load may fail
 pub same-refusal : {any : Bool} {X : Type 0} (P : Result X Refusal → Type 0) → GivesOne any P → (v w : Refusal) → (IsTrue any → IsSaid v × IsSaid w) → P (Err v) → P (Err w) → v ≡ w
 same-refusal {X = X} P one v w said p q = let e : ◌≡◌ {A = Result X Refusal} (Err v) (Err w) = one (Err v) (Err w) p q said in cc
 
+-- a stage and the next that depends on its value have one outcome together
 pub then-one : {any : Bool} {X Y : Type 0} (P : Result X Refusal → Type 0) (Q : X → Result Y Refusal → Type 0) → GivesOne any P → ((x : X) → GivesOne any (Q x)) → GivesOne any (Then P Q)
 then-one P Q one each r s a b told =
     elim a [
@@ -39,9 +43,11 @@ then-one P Q one each r s a b told =
 
 -- a reader of a text, which reads what the text stands for
 module _ {X F : Type 0} (Stands : X → Type 0) (first : Result X F) (refusal : F → Refusal) (read : (x : X) → Stands x → first ≡ Ok x) where
+  -- a text that stands for a value has no fault
   said-fault : (x : X) (fault : F) → Stands x → first ≡ Err fault → ⊥
   said-fault x fault s e = let k : Ok x ≡ Err fault = sym (read x s) ∙ e in absurd (cc)
 
+  -- so it has one outcome
   pub said-one : AtMostOne (Said Stands first refusal)
   said-one (Ok x) (Ok y) a b = ap Ok (let e : Ok x ≡ Ok y = sym (read x a) ∙ read y b in cc)
   said-one (Ok x) (Err why) a b = absurd (said-fault x b.0 a b.1)
@@ -50,6 +56,7 @@ module _ {X F : Type 0} (Stands : X → Type 0) (first : Result X F) (refusal : 
       let same : a.0 ≡ b.0 = (let k : ◌≡◌ {A = Result X F} (Err a.0) (Err b.0) = sym a.1 ∙ b.1 in cc) in
       ap Err (a.2 ∙ ap refusal same ∙ sym b.2)
 
+-- the outcome of a function is one
 pub judged-one : {X F : Type 0} (first : Result X F) (refusal : F → Refusal) → AtMostOne (Judged first refusal)
 judged-one (Ok x) refusal r s a b = a ∙ sym b
 judged-one (Err fault) refusal r s a b = a ∙ sym b
@@ -91,6 +98,7 @@ named-one P one (Some name) (Err v) (Err w) a b told = ap Err (same-refusal (P n
 both-same : {X : Type 0} (d e : Design) (x y : X) → d ≡ e → x ≡ y → (let p : Design × X = (d, x) in p) ≡ (let q : Design × X = (e, y) in q)
 both-same {X = X} d e x y p q = ap (λ a. let r : Design × X = (a, x) in r) p ∙ ap (λ b. let r : Design × X = (e, b) in r) q
 
+-- a stage whose value is kept with its design has one outcome
 pub with-one : {any : Bool} {X : Type 0} (P : Design → Result X Refusal → Type 0) (design : Design) → GivesOne any (P design) → GivesOne any (With P design)
 with-one P design one (Ok x) (Ok y) a b told = ap Ok (both-same x.0 y.0 x.1 y.1 (a.0 ∙ sym b.0) (same-value (P design) one x.1 y.1 a.1 b.1))
 with-one P design one (Ok x) (Err w) a b told = absurd (no-refusal (P design) one x.1 w (λ t. (told t).1) a.1 b)

@@ -4,27 +4,23 @@ use Rattle.sf_io.specs.Outside.{Contents}
 use Rattle.sf_io.specs.declared.status.Status.{Status}
 use Rattle.sf_io.specs.declared.status.Status.TheVariants.{Usage, BadInput, OverLimit}
 use Rattle.sf_model.specs.declared.design.Design.{Design}
-use Rattle.sf_place.specs.declared.verdict.Verdict.{Verdict}
-use Rattle.sf_place.specs.declared.verdict.Verdict.TheVariants as verdict
-use Rattle.sf_checker.specs.declared.answer.Answer.{Answer as Checked}
-use Rattle.sf_checker.specs.declared.answer.Answer.TheVariants as checked
-use Rattle.sf_pl_writer.specs.declared.report.Outcome.{Outcome}
-use Rattle.sf_pl_writer.specs.declared.report.Outcome.TheVariants as word
 use Rattle.sf_words.specs.Meaning.{Command, GenOptions, PlanOptions, plan, check, measure, shape, gen}
 use Rattle.sf_words.proofs.Unique.{meaning_unique}
 use Rattle.sf_program.specs.Answer.{CommandAnswer, IsDone, IsRefused}
-use Rattle.sf_program.specs.Checked.{CheckRead, IsChecked, answer_status}
+use Rattle.sf_program.specs.Checked.{CheckRead, IsChecked}
 use Rattle.sf_program.specs.Generated.{GenRead, IsGenerated}
 use Rattle.sf_program.specs.Measured as measured
 use Rattle.sf_program.specs.OneAnswer.{Answer, AskForOneWorker, AtMostOne, GivesOne, HasOneWorker, IsAnswerTo, IsDoneBy, refusal}
 use Rattle.sf_program.specs.Outcome.{Refusal, IsRefusal, refused}
 use Rattle.sf_program.specs.Planned as planned
 use Rattle.sf_program.specs.Shaped.{IsShaped, ShapeRead}
+use Rattle.sf_program.proofs.Endings.{said-ends, judged-ends, checked-ends}
 use Rattle.sf_program.proofs.Once.{no-refusal, same-refusal}
 use Rattle.sf_program.proofs.OneChecked.{HasOneName, check-read-one, checked-one, checked-reads, measure-read-one, measured-one, measured-reads, shape-read-one, shaped-one, shaped-reads}
 use Rattle.sf_program.proofs.OneDesign.{plan-one}
 use Rattle.sf_program.proofs.OneSearched.{HasOneCert, gen-one, generated-one, planned-one}
 
+-- answers with the same status, stored texts and printed text are one
 triple : (a b : Answer) → a.0 ≡ b.0 → a.1 ≡ b.1 → a.2 ≡ b.2 → a ≡ b
 triple a b p q r = λ i. (p i, q i, r i)
 
@@ -34,32 +30,21 @@ IsOwn BadInput = ⊥
 IsOwn OverLimit = ⊥
 IsOwn status = Unit {0}
 
-said-own : (said : Outcome) → IsOwn (planned.outcome_status said)
-said-own word.Optimal = tt
-said-own word.NoneFits = tt
-said-own word.Open = tt
-
-judged-own : (v : Verdict) → IsOwn (measured.verdict_status v)
-judged-own verdict.Legal = tt
-judged-own (verdict.Unlisted b) = tt
-judged-own (verdict.Outside b) = tt
-judged-own (verdict.Overlap a b) = tt
-
-checked-own : (a : Checked) → IsOwn (answer_status a)
-checked-own (checked.Yes cost bound decided) = tt
-checked-own (checked.No why) = tt
-
+-- no status of a command's own is a refusal's
 not-own : (status : Status) → IsRefusal status → IsOwn status → ⊥
 not-own status r h = elim r [ inl e ↦ subst IsOwn e h | inr e ↦ subst IsOwn e h ]
 
 -- a command that reads, and then answers or is refused
 module _ {X : Type 0} (any : Bool) (Read : Result X Refusal → Type 0) (once : GivesOne any Read) (Is : Answer → Type 0) (reads : (a : Answer) → Is a → (x : X) × Read (Ok x)) where
+  -- the answer is a refusal
   abbrev Refused : Answer → Type 0
   Refused a = IsRefused (λ why. Read (Err why)) a.0 a.1 a.2
 
+  -- the answer is the command's own or a refusal
   abbrev EndsAs : Answer → Type 0
   EndsAs a = Is a ⊎ Refused a
 
+  -- two refusals are one
   refused-both : (a b : Answer) → Refused a → Refused b → a ≡ b
   refused-both a b p q =
       let why : refused a.0 a.2 ≡ refused b.0 b.2 = same-refusal Read once (refused a.0 a.2) (refused b.0 b.2) (λ t. (tt, tt)) p.1 q.1 in
@@ -67,9 +52,11 @@ module _ {X : Type 0} (any : Bool) (Read : Result X Refusal → Type 0) (once : 
       let line : a.2 ≡ b.2 = cc in
       triple a b status (p.2 ∙ sym q.2) line
 
+  -- what is answered is not refused
   answered-refused : (a b : Answer) → Is a → Refused b → ⊥
   answered-refused a b p q = let m = reads a p in no-refusal Read once m.0 (refused b.0 b.2) (λ t. tt) m.1 q.1
 
+  -- so where the command's own answers are one, all are one
   one-of : AtMostOne Is → AtMostOne EndsAs
   one-of one a b p q =
       elim p [
@@ -85,19 +72,24 @@ module _ {X : Type 0} (any : Bool) (Read : Result X Refusal → Type 0) (once : 
         | inr x ↦ elim q [ inl y ↦ absurd (answered-refused b (refusal status line) y x) | inr y ↦ refused-both b (refusal status line) y x ]
       ]
 
+-- the answer of a command on a shelf that tells what it holds
 abbrev IsOf : Command → Contents → Answer → Type 0
 IsOf command contents a = CommandAnswer command (Some contents) a.0 a.1 a.2
 
+-- an answer that stores nothing is one where its status and its printed text are
 silent-one : (Is : Answer → Type 0) → ((a b : Answer) → Is a → Is b → (a.0 ≡ b.0) × (a.2 ≡ b.2)) → AtMostOne (λ (a : Answer). Is a × (a.1 ≡ []))
 silent-one Is one a b p q = let same = one a b p.0 q.0 in triple a b same.0 (p.1 ∙ sym q.1) same.1
 
 module _ (contents : Contents) where
+  -- what is planned was read
   planned-reads : (o : PlanOptions) (a : Answer) → planned.IsPlanned o (Some contents) a.0 a.1 a.2 → (design : Design) × planned.PlanRead (Some contents) o (Ok design)
   planned-reads o a p = (p.design, p.reads)
 
+  -- what is generated was made
   generated-reads : (o : GenOptions) (a : Answer) → IsGenerated o a.0 a.1 a.2 → (design : Design) × GenRead o (Ok design)
   generated-reads o a p = (p.design, p.made)
 
+  -- a command by one worker has one answer
   command-one : HasOneCert → HasOneName → (command : Command) → HasOneWorker command → AtMostOne (IsOf command contents)
   command-one certs names (plan o) single =
       one-of contents.may_fail (planned.PlanRead (Some contents) o) (plan-one contents o) (λ a. planned.IsPlanned o (Some contents) a.0 a.1 a.2) (planned-reads o)
@@ -115,22 +107,23 @@ module _ (contents : Contents) where
       one-of contents.may_fail (GenRead o) (gen-one contents.may_fail o) (λ a. IsGenerated o a.0 a.1 a.2) (generated-reads o)
       (λ a b p q. let same = generated-one certs o a b p q in triple a b same.0 same.1 same.2)
 
+  -- where a command is refused, that is its only answer
   command-refused : (command : Command) (status : Status) (line : List ℕ) (b : Answer) → IsRefusal status → IsOf command contents (refusal status line) → IsOf command contents b → b ≡ refusal status line
   command-refused (plan o) status line b is p q =
       refused-of contents.may_fail (planned.PlanRead (Some contents) o) (plan-one contents o) (λ a. planned.IsPlanned o (Some contents) a.0 a.1 a.2) (planned-reads o)
-      (λ a h. subst IsOwn (sym h.answered.status_is) (said-own h.answered.said)) status line b is p q
+      (λ a h. subst IsOwn (sym h.answered.status_is) (said-ends IsOwn tt tt tt h.answered.said)) status line b is p q
   command-refused (check o) status line b is p q =
       refused-of contents.may_fail (CheckRead (Some contents) o) (check-read-one contents o) (λ a. IsChecked o (Some contents) a.0 a.1 a.2) (checked-reads contents o)
-      (λ a h. subst IsOwn (sym h.file.judged.status_is) (checked-own h.file.judged.answer)) status line b is p q
+      (λ a h. subst IsOwn (sym h.file.judged.status_is) (checked-ends IsOwn tt tt h.file.judged.answer)) status line b is p q
   command-refused (measure o) status line b is p q =
       refused-of contents.may_fail (measured.MeasureRead (Some contents) o) (measure-read-one contents o) (λ a. measured.IsMeasured o (Some contents) a.0 a.2 × (a.1 ≡ [])) (λ a p. measured-reads contents o a p.0)
-      (λ a h. subst IsOwn (sym h.0.status_is) (judged-own h.0.verdict)) status line b is p q
+      (λ a h. subst IsOwn (sym h.0.status_is) (judged-ends IsOwn tt tt h.0.verdict)) status line b is p q
   command-refused (shape o) status line b is p q =
       refused-of contents.may_fail (ShapeRead (Some contents) o) (shape-read-one contents o) (λ a. IsShaped o (Some contents) a.0 a.2 × (a.1 ≡ [])) (λ a p. shaped-reads contents o a p.0)
       (λ a h. subst IsOwn (sym h.0.status_is) tt) status line b is p q
   command-refused (gen o) status line b is p q =
       refused-of contents.may_fail (GenRead o) (gen-one contents.may_fail o) (λ a. IsGenerated o a.0 a.1 a.2) (generated-reads o)
-      (λ a h. subst IsOwn (sym h.answered.status_is) (said-own h.answered.said)) status line b is p q
+      (λ a h. subst IsOwn (sym h.answered.status_is) (said-ends IsOwn tt tt tt h.answered.said)) status line b is p q
 
   -- ---- by the words
 
@@ -144,6 +137,7 @@ module _ (contents : Contents) where
         ]
       ]
 
+  -- that words mean nothing is no refusal of an input
   usage-refused : (status : Status) → IsRefusal status → status ≡ Usage → ⊥
   usage-refused status is u = elim is [ inl e ↦ (let c : BadInput ≡ Usage = sym e ∙ u in absurd (cc)) | inr e ↦ (let c : OverLimit ≡ Usage = sym e ∙ u in absurd (cc)) ]
 

@@ -45,14 +45,17 @@ use Rattle.sf_program.proofs.OneDesign.{design-one, places-one}
 
 -- ---- check
 
+-- the text under a name says one certificate, or has one fault
 cert-one : (contents : Contents) (name : List ℕ) (blocks : ℕ) → GivesOne contents.may_fail (CertRead (Some contents) name blocks)
 cert-one contents name blocks =
     then-one (TextRead (Some contents) name) (λ text. Judged (cert_read blocks text) cert_refusal) (text-one contents name) (λ text. once (Judged (cert_read blocks text) cert_refusal) (judged-one (cert_read blocks text) cert_refusal))
 
+-- so the design and the certificate that are read are one
 pub check-read-one : (contents : Contents) (o : CheckOptions) → GivesOne contents.may_fail (CheckRead (Some contents) o)
 check-read-one contents o =
     then-one (DesignRead (Some contents) o.design o.weights) (λ design. CertRead (Some contents) o.cert (block_count design)) (design-one contents o.design o.weights) (λ design. cert-one contents o.cert (block_count design))
 
+-- certificates of which a text says the same are one
 said-cert : (c d : Cert) → said_by c ≡ said_by d → c ≡ d
 said-cert c d e = same-cert c d (ap (λ (s : CertSaid). s.blocks) e) (ap (λ (s : CertSaid). s.plan) e) (ap (λ (s : CertSaid). s.cost) e) (ap (λ (s : CertSaid). s.bound) e) (ap (λ (s : CertSaid). s.tags) e)
 
@@ -64,10 +67,12 @@ HasOneName = (design : Design) (old : Cert) → IsValid design (standard design)
 abbrev pub FullClose : Type 0
 FullClose = (design : Design) (tags : List Tag) (cost : ℕ) → AreTrees (part_value design) cost (root design ∷ []) tags → AreTrees (part_value design) cost (root design ∷ []) (map unnamed tags)
 
+-- two lists of tags with the same tree, which both name the first parts, are one
 abbrev pub FirstAreOne : Type 0
 FirstAreOne = (design : Design) (cost : ℕ) (first second : List Tag) → AreTrees (part_value design) cost (root design ∷ []) (map unnamed first) → map unnamed first ≡ map unnamed second
     → AllNameFirst design (part_value design) cost first → AllNameFirst design (part_value design) cost second → first ≡ second
 
+-- by both laws a valid certificate is renamed in one way
 pub one-name : FullClose → FirstAreOne → HasOneName
 one-name close ones design old valid c d p q =
     let named : (x : Cert) → IsRenamed design old x → AllNameFirst design (part_value design) old.cost x.tags = λ x h. subst (λ z. AllNameFirst design (part_value design) z x.tags) h.alike.cost h.named in
@@ -76,6 +81,7 @@ one-name close ones design old valid c d p q =
     same-cert c d (p.alike.blocks ∙ sym q.alike.blocks) (p.alike.plan ∙ sym q.alike.plan) (p.alike.cost ∙ sym q.alike.cost) (p.alike.bound ∙ sym q.alike.bound) tags
 
 module _ (names : HasOneName) (design : Design) (cert : Cert) where
+  -- what is stored of a certificate with one answer is one
   rewritten-one : (rewrite : Option (List ℕ)) (answer : Checked) (ss ts : List Stored) → IsAnswer design (standard design) (part_value design) cert answer
       → IsRewritten design cert rewrite answer ss → IsRewritten design cert rewrite answer ts → ss ≡ ts
   rewritten-one None answer ss ts right p q = p ∙ sym q
@@ -84,6 +90,7 @@ module _ (names : HasOneName) (design : Design) (cert : Cert) where
       let same = names design cert right.valid p.0 q.0 p.1 q.1 in
       p.2 ∙ ap (λ (c : Cert). let all : List Stored = (name, cert_text c) ∷ [] in all) same ∙ sym q.2
 
+  -- what is told and stored of a certificate is one
   judged-one-way : (rewrite : Option (List ℕ)) (a b : Answer) → IsJudged design cert rewrite a.0 a.1 a.2 → IsJudged design cert rewrite b.0 b.1 b.2 → (a.0 ≡ b.0) × (a.1 ≡ b.1) × (a.2 ≡ b.2)
   judged-one-way rewrite a b p q =
       let answer = one-answer design (standard design) (part_value design) cert p.answer q.answer p.answered q.answered in
@@ -91,26 +98,31 @@ module _ (names : HasOneName) (design : Design) (cert : Cert) where
       (p.status_is ∙ ap answer_status answer ∙ sym q.status_is, rewritten-one rewrite q.answer a.1 b.1 q.answered stored q.rewritten, p.prints ∙ ap answer_text answer ∙ sym q.prints)
 
 module _ (contents : Contents) (o : CheckOptions) where
+  -- so is what is told and stored of the certificate under a name
   file-one : HasOneName → (design : Design) (a b : Answer) → JudgedFile (Some contents) o.cert design o.rewrite a.0 a.1 a.2 → JudgedFile (Some contents) o.cert design o.rewrite b.0 b.1 b.2
       → (a.0 ≡ b.0) × (a.1 ≡ b.1) × (a.2 ≡ b.2)
   file-one names design a b p q =
       let same = said-cert p.cert q.cert (same-value (CertRead (Some contents) o.cert (block_count design)) (cert-one contents o.cert (block_count design)) (said_by p.cert) (said_by q.cert) p.reads q.reads) in
       judged-one-way names design q.cert o.rewrite a b (subst (λ (c : Cert). IsJudged design c o.rewrite a.0 a.1 a.2) same p.judged) q.judged
 
+  -- the answers of `check` are one
   pub checked-one : HasOneName → (a b : Answer) → IsChecked o (Some contents) a.0 a.1 a.2 → IsChecked o (Some contents) b.0 b.1 b.2 → (a.0 ≡ b.0) × (a.1 ≡ b.1) × (a.2 ≡ b.2)
   checked-one names a b p q =
       let design = same-value (DesignRead (Some contents) o.design o.weights) (design-one contents o.design o.weights) p.design q.design p.reads q.reads in
       file-one names q.design a b (subst (λ (d : Design). JudgedFile (Some contents) o.cert d o.rewrite a.0 a.1 a.2) design p.file) q.file
 
+  -- what is checked was read
   pub checked-reads : (a : Answer) → IsChecked o (Some contents) a.0 a.1 a.2 → (said : CertSaid) × CheckRead (Some contents) o (Ok said)
   checked-reads a p = (said_by p.file.cert, inl (p.design, p.reads, p.file.reads))
 
 -- ---- measure
 
+-- a placed file gives a design's blocks one list of spots, or one refusal
 spots-one : (contents : Contents) (o : MeasureOptions) (design : Design) → GivesOne contents.may_fail (SpotsRead (Some contents) o design)
 spots-one contents o design =
     then-one (PlacesRead (Some contents) (codes "placed") o.design.per_unit o.placed) (SpotsPlaced design) (places-one contents (codes "placed") o.design.per_unit o.placed) (λ places. once (SpotsPlaced design places) (λ r s a b. a ∙ sym b))
 
+-- so the design and the spots that are read are one
 pub measure-read-one : (contents : Contents) (o : MeasureOptions) → GivesOne contents.may_fail (MeasureRead (Some contents) o)
 measure-read-one contents o =
     then-one (DesignRead (Some contents) o.design o.weights) (With (SpotsRead (Some contents) o)) (design-one contents o.design o.weights) (λ design. with-one (SpotsRead (Some contents) o) design (spots-one contents o design))
@@ -120,6 +132,7 @@ sized-number : (b : ℕ) (name : List ℕ) (line : Place) (size : Option (ℕ ×
 sized-number b name line None spot e = absurd (cc)
 sized-number b name line (Some size) spot e = cc
 
+-- whatever lines have its name, the spot of a block has its number
 spot-number : (b : ℕ) (name : List ℕ) (lines : List Place) (spot : Spot) → spot_said b name lines ≡ Ok spot → spot.block ≡ b
 spot-number b name [] spot e = absurd (cc)
 spot-number b name (line ∷ []) spot e = sized-number b name line line.size spot e
@@ -129,6 +142,7 @@ spot-number b name (line ∷ other ∷ more) spot e = absurd (cc)
 abbrev StandFrom : ℕ → ℕ → List Spot → Type 0
 StandFrom b n spots = (map (λ (s : Spot). s.block) spots ≡ range_with_len b n) × (length spots ≡ n)
 
+-- one spot before others that stand by number
 one-more : (b n : ℕ) (first : Result Spot Refusal) (others : Result (List Spot) Refusal) (spots : List Spot) → ((s : Spot) → first ≡ Ok s → s.block ≡ b) → ((ss : List Spot) → others ≡ Ok ss → StandFrom (b + 1) n ss)
     → (first >>= λ s. others >>= λ ss. Ok (s ∷ ss)) ≡ Ok spots → StandFrom b (suc n) spots
 one-more b n (Ok s) (Ok ss) spots one more e =
@@ -138,6 +152,7 @@ one-more b n (Ok s) (Ok ss) spots one more e =
 one-more b n (Ok s) (Err why) spots one more e = absurd (cc)
 one-more b n (Err why) others spots one more e = absurd (cc)
 
+-- the spots of all blocks stand by number
 spots-number : (b : ℕ) (blocks : List Block) (lines : List Place) (spots : List Spot) → spots_said b blocks lines ≡ Ok spots → StandFrom b (length blocks) spots
 spots-number b [] lines spots e = let same : [] ≡ spots = cc in subst (StandFrom b 0) same (refl, refl)
 spots-number b (block ∷ blocks) lines spots e =
@@ -145,6 +160,7 @@ spots-number b (block ∷ blocks) lines spots e =
     (λ s. spot-number b block.name (lines_named block.name lines) s) (λ ss. spots-number (b + 1) blocks lines ss) e
 
 module _ (contents : Contents) (o : MeasureOptions) where
+  -- so do those that are read
   numbered : (design : Design) (spots : List Spot) → SpotsRead (Some contents) o design (Ok spots) → IsByNumber spots
   numbered design spots read =
       elim read [
@@ -152,6 +168,7 @@ module _ (contents : Contents) (o : MeasureOptions) where
         | inr m ↦ (let e = m.2 in absurd (cc))
       ]
 
+  -- the spots that are read beside a design are read for it
   spots-read : (design : Design) (spots : List Spot) → MeasureRead (Some contents) o (Ok (design, spots)) → SpotsRead (Some contents) o design (Ok spots)
   spots-read design spots read =
       elim read [
@@ -159,6 +176,7 @@ module _ (contents : Contents) (o : MeasureOptions) where
         | inr m ↦ (let e = m.2 in absurd (cc))
       ]
 
+  -- the answers of `measure` are one
   pub measured-one : (a b : Answer) → IsMeasured o (Some contents) a.0 a.2 → IsMeasured o (Some contents) b.0 b.2 → (a.0 ≡ b.0) × (a.2 ≡ b.2)
   measured-one a b p q =
       let both = same-value (MeasureRead (Some contents) o) (measure-read-one contents o) (p.design, p.spots) (q.design, q.spots) p.reads q.reads in
@@ -170,41 +188,49 @@ module _ (contents : Contents) (o : MeasureOptions) where
         p.text_is ∙ ap (λ (d : Design). verdict_text d p.spots p.verdict) design ∙ ap (λ (ss : List Spot). verdict_text q.design ss p.verdict) spots ∙ ap (verdict_text q.design q.spots) verdict ∙ sym q.text_is,
       )
 
+  -- what is measured was read
   pub measured-reads : (a : Answer) → IsMeasured o (Some contents) a.0 a.2 → (read : Design × List Spot) × MeasureRead (Some contents) o (Ok read)
   measured-reads a p = ((p.design, p.spots), p.reads)
 
 -- ---- shape
 
+-- the text under a name spells one list of tokens, or has one fault
 tokens-one : (contents : Contents) (name : List ℕ) (design : Design) → GivesOne contents.may_fail (TokensRead (Some contents) name (block_count design))
 tokens-one contents name design =
     let blocks = block_count design in
     then-one (TextRead (Some contents) name) (λ text. Said (SpellsTokens blocks text) (tokens_read blocks text) expr_refusal) (text-one contents name)
     (λ text. once (Said (SpellsTokens blocks text) (tokens_read blocks text) expr_refusal) (said-one (SpellsTokens blocks text) (tokens_read blocks text) expr_refusal (λ tokens s. spelled-tokens blocks (omega (arith, design.limits.few_blocks)) text tokens s)))
 
+-- so the design and the tokens that are read are one
 pub shape-read-one : (contents : Contents) (o : ShapeOptions) → GivesOne contents.may_fail (ShapeRead (Some contents) o)
 shape-read-one contents o =
     let Tokens : Design → Result (List Token) Refusal → Type 0 = λ design. TokensRead (Some contents) o.expr (block_count design) in
     then-one (DesignRead (Some contents) o.design areas_alone) (With Tokens) (design-one contents o.design areas_alone) (λ design. with-one Tokens design (tokens-one contents o.expr design))
 
 module _ (design : Design) (tokens : List Token) (points : List Shape) (curve : IsRootCurve design tokens (root design).spans points) where
+  -- a curve without points has no least area
   no-least : (y : Shape) → points ≡ [] → IsLeast points (Some y) → ⊥
   no-least y e least = let low = least.found.1 in let n : length points ≡ 0 = ap length e in omega arith
 
+  -- the point of least area is one
   least-one : (a b : Option Shape) → IsLeast points a → IsLeast points b → a ≡ b
   least-one None None p q = refl
   least-one None (Some y) p q = absurd (no-least y p q)
   least-one (Some x) None p q = absurd (no-least x q p)
   least-one (Some x) (Some y) p q = ap Some (one-least design tokens (root design).spans points x y curve p q)
 
+  -- so a curve has one text
   text-is-one : (s t : List ℕ) → IsCurveText points s → IsCurveText points t → s ≡ t
   text-is-one s t a b = a.2 ∙ ap (λ (l : Option Shape). flat_map point_line points ++ least_line l) (least-one a.0 b.0 a.1 b.1) ∙ sym b.2
 
 module _ (contents : Contents) (o : ShapeOptions) where
+  -- and so has an expression over a design
   same-shaped : (design : Design) (tokens : List Token) (ps qs : List Shape) (s t : List ℕ) → IsRootCurve design tokens (root design).spans ps → IsRootCurve design tokens (root design).spans qs → IsCurveText ps s → IsCurveText qs t → s ≡ t
   same-shaped design tokens ps qs s t c d a b =
       let same = one-curve design tokens (root design).spans ps qs c d in
       text-is-one design tokens qs d s t (subst (λ (xs : List Shape). IsCurveText xs s) same a) b
 
+  -- the answers of `shape` are one
   pub shaped-one : (a b : Answer) → IsShaped o (Some contents) a.0 a.2 → IsShaped o (Some contents) b.0 b.2 → (a.0 ≡ b.0) × (a.2 ≡ b.2)
   shaped-one a b p q =
       let both = same-value (ShapeRead (Some contents) o) (shape-read-one contents o) (p.design, p.tokens) (q.design, q.tokens) p.reads q.reads in
@@ -213,5 +239,6 @@ module _ (contents : Contents) (o : ShapeOptions) where
       let curve = subst (λ (ts : List Token). IsRootCurve q.design ts (root q.design).spans p.points) tokens (subst (λ (d : Design). IsRootCurve d p.tokens (root d).spans p.points) design p.curve) in
       (p.status_is ∙ sym q.status_is, same-shaped q.design q.tokens p.points q.points a.2 b.2 curve q.curve p.text_is q.text_is)
 
+  -- what `shape` tells was read
   pub shaped-reads : (a : Answer) → IsShaped o (Some contents) a.0 a.2 → (read : Design × List Token) × ShapeRead (Some contents) o (Ok read)
   shaped-reads a p = ((p.design, p.tokens), p.reads)

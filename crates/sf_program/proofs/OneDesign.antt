@@ -44,62 +44,75 @@ use Rattle.sf_program.proofs.Once.{once, then-one, said-one, judged-one, text-on
 -- ---- the parts
 
 module _ (contents : Contents) where
+  -- a blocks file stands for one list of blocks, or has one fault
   blocks-one : (scale : ℕ) (name : List ℕ) → GivesOne contents.may_fail (BlocksRead (Some contents) scale name)
   blocks-one scale name =
       then-one (TextRead (Some contents) name) (λ text. Said (StandsFor scale text) (blocks_read scale text) (gsrc_refusal (codes "blocks"))) (text-one contents name)
       (λ text. once (Said (StandsFor scale text) (blocks_read scale text) (gsrc_refusal (codes "blocks"))) (said-one (StandsFor scale text) (blocks_read scale text) (gsrc_refusal (codes "blocks")) (block_laws.read_from_stands scale text)))
 
+  -- so does a nets file for nets
   nets-one : (name : List ℕ) → GivesOne contents.may_fail (NetsRead (Some contents) name)
   nets-one name =
       then-one (TextRead (Some contents) name) (λ text. Said (NetsStandFor text) (nets_read text) (gsrc_refusal (codes "nets"))) (text-one contents name)
       (λ text. once (Said (NetsStandFor text) (nets_read text) (gsrc_refusal (codes "nets"))) (said-one (NetsStandFor text) (nets_read text) (gsrc_refusal (codes "nets")) (net_laws.read_from_stands text)))
 
+  -- and a file of places for places
   pub places-one : (source : List ℕ) (scale : ℕ) (name : List ℕ) → GivesOne contents.may_fail (PlacesRead (Some contents) source scale name)
   places-one source scale name =
       then-one (TextRead (Some contents) name) (λ text. Said (PlacesStandFor scale text) (places_read scale text) (gsrc_refusal source)) (text-one contents name)
       (λ text. once (Said (PlacesStandFor scale text) (places_read scale text) (gsrc_refusal source)) (said-one (PlacesStandFor scale text) (places_read scale text) (gsrc_refusal source) (place_laws.read_from_stands scale text)))
 
+  -- and a YAL file for parts
   yal-one : (scale : ℕ) (name : List ℕ) → GivesOne contents.may_fail (YalRead (Some contents) scale name)
   yal-one scale name =
       then-one (TextRead (Some contents) name) (λ text. Said (yals.StandsFor scale text) (yal_read scale text) yal_refusal) (text-one contents name)
       (λ text. once (Said (yals.StandsFor scale text) (yal_read scale text) yal_refusal) (said-one (yals.StandsFor scale text) (yal_read scale text) yal_refusal (yal_laws.read_from_stands scale text)))
 
+  -- the weights of so many nets are one list
   weights-one : (weights : Option (List ℕ)) (nets : ℕ) → GivesOne contents.may_fail (WeightsRead (Some contents) weights nets)
   weights-one None nets r s a b told = a ∙ sym b
   weights-one (Some name) nets r s a b told =
       then-one (TextRead (Some contents) name) (λ text. Said (WeightsStandFor text nets) (weights_read nets text) weight_refusal) (text-one contents name)
       (λ text. once (Said (WeightsStandFor text nets) (weights_read nets text) weight_refusal) (said-one (WeightsStandFor text nets) (weights_read nets text) weight_refusal (weight_laws.read_from_stands text nets))) r s a b told
 
+  -- parts with weights are one value
   weighed-one : (net_weights : List ℕ) (parts : Parts) → GivesOne contents.may_fail (Weighed net_weights parts)
   weighed-one net_weights parts r s a b told = a ∙ sym b
 
+  -- GSRC files that are joined give one value with these weights, or have one fault
   joined-one : (blocks : GsrcBlocks) (nets : Option GsrcNets) (places : Option GsrcPlaces) (net_weights : List ℕ) → GivesOne contents.may_fail (JoinedRead blocks nets places net_weights)
   joined-one blocks nets places net_weights =
       then-one (Judged (joined blocks nets places) join_refusal) (Weighed net_weights) (once (Judged (joined blocks nets places) join_refusal) (judged-one (joined blocks nets places) join_refusal)) (weighed-one net_weights)
 
+  -- so they do with the weights that are read
   weighed-read-one : (weights : Option (List ℕ)) (blocks : GsrcBlocks) (nets : Option GsrcNets) (places : Option GsrcPlaces) → GivesOne contents.may_fail (WeighedRead (Some contents) weights blocks nets places)
   weighed-read-one weights blocks nets places =
       then-one (WeightsRead (Some contents) weights (length (nets_in nets))) (JoinedRead blocks nets places) (weights-one weights (length (nets_in nets))) (joined-one blocks nets places)
 
+  -- with the places that are read before
   placed-one : (scale : ℕ) (pl weights : Option (List ℕ)) (blocks : GsrcBlocks) (nets : Option GsrcNets) → GivesOne contents.may_fail (PlacedRead (Some contents) scale pl weights blocks nets)
   placed-one scale pl weights blocks nets =
       then-one (IfNamed (PlacesRead (Some contents) (codes "pl") scale) pl) (WeighedRead (Some contents) weights blocks nets)
       (named-one (PlacesRead (Some contents) (codes "pl") scale) (places-one (codes "pl") scale) pl) (weighed-read-one weights blocks nets)
 
+  -- and with the nets that are read before these
   wired-one : (scale : ℕ) (nets pl weights : Option (List ℕ)) (blocks : GsrcBlocks) → GivesOne contents.may_fail (WiredRead (Some contents) scale nets pl weights blocks)
   wired-one scale nets pl weights blocks =
       then-one (IfNamed (NetsRead (Some contents)) nets) (PlacedRead (Some contents) scale pl weights blocks) (named-one (NetsRead (Some contents)) nets-one nets) (placed-one scale pl weights blocks)
 
+  -- a YAL file with weights gives one value
   yal-weighed-one : (scale : ℕ) (file : List ℕ) (weights : Option (List ℕ)) → GivesOne contents.may_fail (YalWeighed (Some contents) scale file weights)
   yal-weighed-one scale file weights =
       then-one (YalRead (Some contents) scale file) (λ parts. Then (WeightsRead (Some contents) weights (length parts.nets)) (λ net_weights. Weighed net_weights parts)) (yal-one scale file)
       (λ parts. then-one (WeightsRead (Some contents) weights (length parts.nets)) (λ net_weights. Weighed net_weights parts) (weights-one weights (length parts.nets)) (λ net_weights. weighed-one net_weights parts))
 
+  -- so the files of a design give one value, whatever their format is
   parts-one : (scale : ℕ) (input : Input) (weights : Option (List ℕ)) → GivesOne contents.may_fail (PartsRead (Some contents) scale input weights)
   parts-one scale (gsrc blocks nets pl) weights =
       then-one (BlocksRead (Some contents) scale blocks) (WiredRead (Some contents) scale nets pl weights) (blocks-one scale blocks) (wired-one scale nets pl weights)
   parts-one scale (yal file) weights = yal-weighed-one scale file weights
 
+  -- parts are admitted, or refused for one fault
   admitted-one : (read : WeighedParts) → AtMostOne (Admitted read)
   admitted-one read (Ok x) (Ok y) a b = ap Ok (a.0 ∙ sym b.0)
   admitted-one read (Ok x) (Err w) a b = let e : None ≡ Some b.0 = sym a.1 ∙ b.1 in absurd (cc)
@@ -108,6 +121,7 @@ module _ (contents : Contents) where
       let same : a.0 ≡ b.0 = (let e : Some a.0 ≡ Some b.0 = sym a.1 ∙ b.1 in cc) in
       ap Err (a.2 ∙ ap build_refusal same ∙ sym b.2)
 
+  -- so the files give one value that is admitted
   pub parts-admitted-one : (o : DesignOptions) (w : WeightOptions) → GivesOne contents.may_fail (PartsAdmitted (Some contents) o w)
   parts-admitted-one o w =
       then-one (PartsRead (Some contents) o.per_unit o.input w.net_weights) Admitted (parts-one o.per_unit o.input w.net_weights) (λ read. once (Admitted read) (admitted-one read))
@@ -122,11 +136,13 @@ no-empty (b ∷ bs) ([] ∷ ls) all = let some = all 0 (record { name = []; shap
 no-empty (b ∷ bs) ((s ∷ ss) ∷ ls) all = no-empty bs ls (λ i d low. all (suc i) d (omega arith))
 
 module _ (o : DesignOptions) (w : WeightOptions) (read : WeighedParts) where
+  -- each block of a design that is built has a shape
   shaped : (lists : List (List Shape)) (design : Design) → Built o w read lists (Ok design) → shapeless read.parts.blocks lists ≡ None
   shaped lists design built =
       let each : All (λ (b : Block). 1 ≤ length b.shapes) design.blocks = λ i d low. (design.limits.shapes i d low).some in
       no-empty read.parts.blocks lists (subst (λ (bs : List Block). All (λ (b : Block). 1 ≤ length b.shapes) bs) built.blocks each)
 
+  -- lists of which a design is built leave no block without a shape
   not-both : (lists : List (List Shape)) (design : Design) (why : Refusal) → AreListsOf o.shapes o.is_fixed read.parts.blocks lists → Built o w read lists (Ok design) → ListsMade o read.parts (Err why) → ⊥
   not-both lists design why all built none =
       let empty = fault-empty o.shapes o.is_fixed read.parts.blocks lists none.0 all none.1 in
@@ -139,10 +155,12 @@ module _ (o : DesignOptions) (w : WeightOptions) (read : WeighedParts) where
   built-one (Ok d) (Err why) xs ys same p q = absurd q
   built-one (Err why) s xs ys same p q = absurd p
 
+  -- so admitted parts are not built and refused at once
   clash : (r : Result Design Refusal) (lists : List (List Shape)) (why : Refusal) → AreListsOf o.shapes o.is_fixed read.parts.blocks lists → Built o w read lists r → ListsMade o read.parts (Err why) → ⊥
   clash (Ok d) lists why all built none = not-both lists d why all built none
   clash (Err v) lists why all built none = built
 
+  -- admitted parts become one design, or are refused for one block
   pub made-one : AtMostOne (DesignMade o w read)
   made-one r s a b =
       elim a [
@@ -163,6 +181,7 @@ module _ (o : DesignOptions) (w : WeightOptions) (read : WeighedParts) where
   names-kept (b ∷ bs) [] e = absurd (omega arith)
   names-kept (b ∷ bs) (l ∷ ls) e = ap (λ ns. b.name ∷ ns) (names-kept bs ls (omega arith))
 
+  -- the design has the blocks of the parts
   made-blocks : (design : Design) → DesignMade o w read (Ok design) → HasBlocksOf read.parts.blocks design
   made-blocks design made =
       elim made [
@@ -170,15 +189,18 @@ module _ (o : DesignOptions) (w : WeightOptions) (read : WeighedParts) where
         | inr m ↦ (let e = m.2 in absurd (cc))
       ]
 
+-- the files stand for one design, or are refused for one reason
 pub design-one : (contents : Contents) (o : DesignOptions) (w : WeightOptions) → GivesOne contents.may_fail (DesignRead (Some contents) o w)
 design-one contents o w = then-one (PartsAdmitted (Some contents) o w) (DesignMade o w) (parts-admitted-one contents o w) (λ read. once (DesignMade o w read) (made-one o w read))
 
+-- a budget is within its limit or past it
 pub budget-one : (nodes : Option ℕ) (blocks : ℕ) → AtMostOne (BudgetTested nodes blocks)
 budget-one nodes blocks (Ok x) (Ok y) a b = ap Ok (a.0 ∙ sym b.0)
 budget-one nodes blocks (Ok x) (Err w) a b = let within = a.1 in let over = b.0 in let e = a.0 in absurd (omega arith)
 budget-one nodes blocks (Err v) (Ok y) a b = let within = b.1 in let over = a.0 in let e = b.0 in absurd (omega arith)
 budget-one nodes blocks (Err v) (Err w) a b = ap Err (a.1 ∙ sym b.1)
 
+-- so what `plan` reads is one design
 pub plan-one : (contents : Contents) (o : PlanOptions) → GivesOne contents.may_fail (PlanRead (Some contents) o)
 plan-one contents o =
     then-one (PartsAdmitted (Some contents) o.design o.weights) (BudgetedDesign o) (parts-admitted-one contents o.design o.weights)
@@ -194,6 +216,7 @@ admitted-parts contents o w read other said admitted =
       | inr m ↦ (let e = m.2 in absurd (cc))
     ]
 
+-- a design that is read has the blocks that its files name
 pub design-blocks : (contents : Contents) (o : DesignOptions) (w : WeightOptions) (read : WeighedParts) (design : Design) → PartsRead (Some contents) o.per_unit o.input w.net_weights (Ok read) → DesignRead (Some contents) o w (Ok design)
     → HasBlocksOf read.parts.blocks design
 design-blocks contents o w read design said stands =
@@ -202,9 +225,11 @@ design-blocks contents o w read design said stands =
       | inr m ↦ (let e = m.2 in absurd (cc))
     ]
 
+-- a design within its budget is made
 budgeted-made : (o : PlanOptions) (read : WeighedParts) (design : Design) → BudgetedDesign o read (Ok design) → DesignMade o.design o.weights read (Ok design)
 budgeted-made o read design h = elim h [ inl m ↦ m.2 | inr m ↦ (let e = m.2 in absurd (cc)) ]
 
+-- so what `plan` reads has the blocks that its files name
 pub plan-blocks : (contents : Contents) (o : PlanOptions) (read : WeighedParts) (design : Design) → PartsRead (Some contents) o.design.per_unit o.design.input o.weights.net_weights (Ok read) → PlanRead (Some contents) o (Ok design)
     → HasBlocksOf read.parts.blocks design
 plan-blocks contents o read design said stands =
@@ -218,11 +243,13 @@ placed-by : (twice : Option (List ℕ)) (made parts : Parts) → placed_once twi
 placed-by None made parts e = cc
 placed-by (Some name) made parts e = absurd (cc)
 
+-- whatever is joined to them, the blocks stay
 kept-by : (out : GsrcBlocks) (nets : Option GsrcNets) (places : Option GsrcPlaces) (parts : Parts) → joined out nets places ≡ Ok parts → parts.blocks ≡ out.blocks
 kept-by out nets None parts e = let same = placed-by None (numbered (unplaced_parts out (nets_in nets))) parts e in ap (λ (p : Parts). p.blocks) same
 kept-by out nets (Some places) parts e =
     ap (λ (p : Parts). p.blocks) (placed-by (first_twice (names_of places.places)) (numbered (placed_parts out (nets_in nets) places.places)) parts e)
 
+-- a value that is judged is the function's
 judged-ok : {X F : Type 0} (first : Result X F) (refusal : F → Refusal) (x : X) → Judged first refusal (Ok x) → first ≡ Ok x
 judged-ok (Ok y) refusal x h = ap Ok (let e : Ok x ≡ Ok y = h in cc)
 judged-ok (Err fault) refusal x h = absurd (cc)
@@ -236,6 +263,7 @@ joined-kept out nets places net_weights read stands =
       | inr m ↦ (let e = m.2 in absurd (cc))
     ]
 
+-- the blocks of GSRC files are those of the blocks file
 pub joined-blocks : (contents : Contents) (scale : ℕ) (name : List ℕ) (nets pl weights : Option (List ℕ)) (out : GsrcBlocks) (read : WeighedParts)
     → BlocksRead (Some contents) scale name (Ok out) → GsrcRead (Some contents) scale name nets pl weights (Ok read) → read.parts.blocks ≡ out.blocks
 joined-blocks contents scale name nets pl weights out read said stands =

@@ -40,19 +40,24 @@ ending-one cost bound word.Open word.Open p q = refl
 abbrev Measures : Type 0
 Measures = List Spot × ℕ × ℕ × ℕ
 
+-- spots by number, width, height and wire of a tree
 abbrev measures_of : Design → Tree → Measures
 measures_of design tree = (by_number (block_count design) (spots_of tree), width tree, height tree, wire design (spots_of tree))
 
+-- what is told of an expression is measured of its tree
 measures-are : (design : Design) (expr : Expr) (spots : List Spot) (w h wires : ℕ) (m : AreMeasures design expr spots w h wires) → (let found : Measures = (spots, w, h, wires) in found) ≡ measures_of design m.tree
 measures-are design expr spots w h wires m = λ i. (m.spots_are i, m.wide i, m.high i, m.wired i)
 
 module _ (design : Design) (scale : ℕ) (name : List ℕ) (pl : Option (List ℕ)) (said : Outcome) (cert : Cert) where
+  -- what is stored of a certificate and of what is measured
   stored_of : Measures → List Stored
   stored_of m = (name, cert_text cert) ∷ placed design scale pl m.0
 
+  -- and what is printed
   printed_of : Expr → Measures → List ℕ
   printed_of expr m = report_text (record { word = said; cost = cert.cost; bound = cert.bound; decided = decided cert.tags; size = (m.1, m.2); area = m.1 * m.2; wire = m.3; plan = Some expr })
 
+  -- what is told of a certificate is one
   told-one : (plan : Option Expr) (ss ts : List Stored) (xs ys : List ℕ) → IsTold design scale name pl said cert plan ss xs → IsTold design scale name pl said cert plan ts ys → (ss ≡ ts) × (xs ≡ ys)
   unfolding stored_of printed_of
   told-one None ss ts xs ys p q = (p.0 ∙ sym q.0, p.1 ∙ sym q.1)
@@ -69,6 +74,7 @@ generated-design o (Ok d) (Ok e) p q = made-one by_default both_weights (alike (
 generated-design o (Ok d) (Err w) p q = absurd q
 generated-design o (Err v) s p q = absurd p
 
+-- `gen` makes one design, or refuses for one reason
 pub gen-one : (any : Bool) (o : GenOptions) → GivesOne any (GenRead o)
 gen-one any o =
     then-one (BudgetTested o.nodes o.count) (λ budget. DesignGenerated o) (once (BudgetTested o.nodes o.count) (budget-one o.nodes o.count)) (λ budget. once (DesignGenerated o) (generated-design o))
@@ -78,6 +84,7 @@ abbrev pub HasOneCert : Type 0
 HasOneCert = (design : Design) (budget : ℕ) → AtMostOne (IsSearched design 1 budget)
 
 module _ (certs : HasOneCert) where
+  -- the answers of a search by one worker are one
   pub answered-one : (design : Design) (budget scale : ℕ) (name : List ℕ) (pl : Option (List ℕ)) (a b : Answer)
       → IsAnswered design 1 budget scale name pl a.0 a.1 a.2 → IsAnswered design 1 budget scale name pl b.0 b.1 b.2 → (a.0 ≡ b.0) × (a.1 ≡ b.1) × (a.2 ≡ b.2)
   answered-one design budget scale name pl a b p q =
@@ -87,6 +94,7 @@ module _ (certs : HasOneCert) where
       let both = told-one design scale name pl q.said q.cert q.cert.plan a.1 b.1 a.2 b.2 told q.told in
       (p.status_is ∙ ap outcome_status said ∙ sym q.status_is, both.0, both.1)
 
+  -- so are those of `plan`
   pub planned-one : (contents : Contents) (o : PlanOptions) → o.workers ≡ 1 → (a b : Answer) → IsPlanned o (Some contents) a.0 a.1 a.2 → IsPlanned o (Some contents) b.0 b.1 b.2 → (a.0 ≡ b.0) × (a.1 ≡ b.1) × (a.2 ≡ b.2)
   planned-one contents o single a b p q =
       let design = same-value (PlanRead (Some contents) o) (plan-one contents o) p.design q.design p.reads q.reads in
@@ -94,6 +102,7 @@ module _ (certs : HasOneCert) where
       answered-one q.design (budget_of o.nodes (block_count q.design)) o.design.per_unit o.cert o.pl_out a b
       (subst (λ n. By n q.design a) single (subst (λ (d : Design). By o.workers d a) design p.answered)) (subst (λ n. By n q.design b) single q.answered)
 
+  -- and those of `gen`
   pub generated-one : (o : GenOptions) (a b : Answer) → IsGenerated o a.0 a.1 a.2 → IsGenerated o b.0 b.1 b.2 → (a.0 ≡ b.0) × (a.1 ≡ b.1) × (a.2 ≡ b.2)
   generated-one o a b p q =
       let design = same-value (GenRead o) (gen-one false o) p.design q.design p.made q.made in

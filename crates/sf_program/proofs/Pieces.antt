@@ -24,6 +24,7 @@ use Rattle.sf_program.specs.Checked.{CertRead, CheckRead, IsChecked, IsJudged, I
 use Rattle.sf_program.specs.Stores.{Stored, stored_in}
 use Rattle.sf_program.proofs.Stages.{refused-stops, stops-map}
 
+-- a text of no length has no bytes
 pub no-bytes : (bytes : List ℕ) → length bytes ≡ 0 → bytes ≡ []
 no-bytes [] e = refl
 no-bytes (b ∷ bytes) e = absurd (omega (arith, e))
@@ -80,6 +81,7 @@ module _ (held : Option Contents) (o : CheckOptions) (design : Design) (read : D
   check-told (Ok w) h = record { design = design; reads = read; file = h }
   check-told (Err stop) h = tt
 
+  -- a fault of the certificate stops the command
   pub check-stops : (r : Result Work Stop) → IfErr r (λ stop. Stops stop (λ why. CertRead held o.cert (block_count design) (Err why)))
       → IfErr r (λ stop. Stops stop (λ why. CheckRead held o (Err why)))
   check-stops (Ok w) h = tt

@@ -6,6 +6,7 @@ use Rattle.sf_program.specs.Refusals.{line_of}
 goes-on : (word rest : List ℕ) → word ++ 10 ∷ rest ≡ (word ++ 10 ∷ []) ++ rest
 goes-on word rest = sym (append_assoc word (10 ∷ []) rest)
 
+-- the four lines that are printed at once are the lines one after another
 pub yes-lines : (s t cost bound decided : List ℕ) → s ≡ cost → t ≡ bound
     → codes "status Yes\ncost " ++ (s ++ (codes "\nbound " ++ (t ++ (codes "\ndecided " ++ (decided ++ 10 ∷ [])))))
     ≡ line_of (codes "status" ∷ codes "Yes" ∷ []) ++ (line_of (codes "cost" ∷ cost ∷ []) ++ (line_of (codes "bound" ∷ bound ∷ []) ++ line_of (codes "decided" ∷ decided ∷ [])))

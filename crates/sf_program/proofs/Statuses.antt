@@ -3,51 +3,29 @@ use Rattle.std.proofs.Common.{◌≡◌, ◌⊎◌, inl, inr, ℕ, List, Option,
 use Rattle.sf_io.specs.Outside.{Contents, Rose, ShelfSeen, SinkSeen}
 use Rattle.sf_io.specs.declared.status.Status.{Status}
 use Rattle.sf_io.specs.declared.status.Status.TheVariants.{ReadFault, WriteFault, NoMemory}
-use Rattle.sf_place.specs.declared.verdict.Verdict.{Verdict}
-use Rattle.sf_place.specs.declared.verdict.Verdict.TheVariants as verdict
-use Rattle.sf_checker.specs.declared.answer.Answer.{Answer}
-use Rattle.sf_checker.specs.declared.answer.Answer.TheVariants as checked
-use Rattle.sf_pl_writer.specs.declared.report.Outcome.{Outcome}
-use Rattle.sf_pl_writer.specs.declared.report.Outcome.TheVariants as word
 use Rattle.sf_words.specs.Meaning.{Command, plan, check, measure, shape, gen}
 use Rattle.sf_program.specs.Answer.{Answers, CommandAnswer, IsAnswer, IsSilent, StoreOrPrintFailed}
-use Rattle.sf_program.specs.Checked.{answer_status}
-use Rattle.sf_program.specs.Measured as measured
 use Rattle.sf_program.specs.Loads.{Reads}
 use Rattle.sf_program.specs.Outcome.{IsRefusal}
-use Rattle.sf_program.specs.Planned as planned
 use Rattle.sf_program.specs.Stores.{AfterStores, StoppedAt, Stored}
+use Rattle.sf_program.proofs.Endings.{said-ends, judged-ends, checked-ends}
 
 -- a refusal is an answer
 refused-status : (status : Status) → IsRefusal status → IsAnswer status
 refused-status status r = elim r [ inl e ↦ subst IsAnswer (sym e) tt | inr e ↦ subst IsAnswer (sym e) tt ]
 
-said-status : (said : Outcome) → IsAnswer (planned.outcome_status said)
-said-status word.Optimal = tt
-said-status word.NoneFits = tt
-said-status word.Open = tt
-
-judged-status : (v : Verdict) → IsAnswer (measured.verdict_status v)
-judged-status verdict.Legal = tt
-judged-status (verdict.Unlisted b) = tt
-judged-status (verdict.Outside b) = tt
-judged-status (verdict.Overlap a b) = tt
-
-checked-status : (a : Answer) → IsAnswer (answer_status a)
-checked-status (checked.Yes cost bound decided) = tt
-checked-status (checked.No why) = tt
-
+-- each command answers by a status of an answer
 command-status : (command : Command) (before : Option Contents) (status : Status) (stored : List Stored) (printed : List ℕ) → CommandAnswer command before status stored printed → IsAnswer status
 command-status (plan o) before status stored printed h =
-    elim h [ inl p ↦ subst IsAnswer (sym p.answered.status_is) (said-status p.answered.said) | inr r ↦ refused-status status r.0 ]
+    elim h [ inl p ↦ subst IsAnswer (sym p.answered.status_is) (said-ends IsAnswer tt tt tt p.answered.said) | inr r ↦ refused-status status r.0 ]
 command-status (check o) before status stored printed h =
-    elim h [ inl p ↦ subst IsAnswer (sym p.file.judged.status_is) (checked-status p.file.judged.answer) | inr r ↦ refused-status status r.0 ]
+    elim h [ inl p ↦ subst IsAnswer (sym p.file.judged.status_is) (checked-ends IsAnswer tt tt p.file.judged.answer) | inr r ↦ refused-status status r.0 ]
 command-status (measure o) before status stored printed h =
-    elim h [ inl p ↦ subst IsAnswer (sym p.0.status_is) (judged-status p.0.verdict) | inr r ↦ refused-status status r.0 ]
+    elim h [ inl p ↦ subst IsAnswer (sym p.0.status_is) (judged-ends IsAnswer tt tt p.0.verdict) | inr r ↦ refused-status status r.0 ]
 command-status (shape o) before status stored printed h =
     elim h [ inl p ↦ subst IsAnswer (sym p.0.status_is) tt | inr r ↦ refused-status status r.0 ]
 command-status (gen o) before status stored printed h =
-    elim h [ inl p ↦ subst IsAnswer (sym p.answered.status_is) (said-status p.answered.said) | inr r ↦ refused-status status r.0 ]
+    elim h [ inl p ↦ subst IsAnswer (sym p.answered.status_is) (said-ends IsAnswer tt tt tt p.answered.said) | inr r ↦ refused-status status r.0 ]
 
 -- an answer's status is no fault
 pub answer-status : (words : List (List ℕ)) (before : Option Contents) (status : Status) (stored : List Stored) (printed : List ℕ) → Answers words before status stored printed → IsAnswer status

@@ -16,6 +16,7 @@ use Rattle.sf_program.specs.declared.work.Work.{Work}
 use Rattle.sf_program.specs.Planned.{IsAnswered, IsEnding, IsSearched, IsTold, outcome_status}
 use Rattle.sf_program.specs.Stores.{stored_in}
 
+-- the least of numbers from a first one is at most that
 least-below : (n : ℕ) (xs : List ℕ) → least n xs ≤ n
 least-below n [] = omega arith
 least-below n (x ∷ xs) = omega (arith, least-below n xs)
@@ -26,6 +27,7 @@ bound-below design workers budget cert s =
     omega (arith, s.valid.stated, least-below cert.cost (map (standard design) (left_open (root design ∷ []) cert.tags)))
 
 module _ {E : Type 0} (design : Design) (workers budget scale : ℕ) (name : List ℕ) (pl : Option (List ℕ)) (said : Outcome) (cert : Cert) (plan : Option Expr) (searched : IsSearched design workers budget cert) (same : plan ≡ cert.plan) (ending : IsEnding cert.cost cert.bound said) where
+  -- what is told of the certificate of a search is the search's answer
   pub told-answered : (r : Result Work E)
       → IfOk r (λ w. IsTold design scale name pl said cert plan (stored_in w.stores.items) w.text.items)
       → IfOk r (λ w. w.status ≡ outcome_status said)

@@ -34,6 +34,7 @@ CommandRefuses (gen o) before why = GenRead o (Err why)
 abbrev pub IsRefused : (Refusal → Type 0) → Status → List Stored → List ℕ → Type 0
 IsRefused Refuses status stored printed = IsRefusal status × Refuses (refused status printed) × (stored ≡ [])
 
+-- the answer of a command: its own, or a refusal of what it reads
 abbrev pub CommandAnswer : Command → Option Contents → Status → List Stored → List ℕ → Type 0
 CommandAnswer command before status stored printed =
     IsOwnAnswer command before status stored printed ⊎ IsRefused (CommandRefuses command before) status stored printed

@@ -24,11 +24,13 @@ IsTaken (measure o) contents = HasValue (MeasureRead (Some contents) o)
 IsTaken (shape o) contents = HasValue (ShapeRead (Some contents) o)
 IsTaken (gen o) contents = HasValue (GenRead o)
 
+-- the statuses of `check` and `measure`
 abbrev pub EndsJudging : Status → Type 0
 EndsJudging Done = ⊤
 EndsJudging No = ⊤
 EndsJudging status = ⊥
 
+-- the status of `shape`
 abbrev pub EndsPrinting : Status → Type 0
 EndsPrinting Done = ⊤
 EndsPrinting status = ⊥

@@ -26,6 +26,7 @@ use Rattle.sf_program.specs.Reading.{DesignMade}
 use Rattle.sf_program.specs.Stores.{Stored}
 use Rattle.sf_program.specs.Weighed.{alike}
 
+-- the kinds of blocks that the words name
 abbrev pub kinds_of : Kinds → GenKinds
 kinds_of Hard = made.Hard
 kinds_of Mixed = made.Mixed
@@ -34,12 +35,15 @@ kinds_of Mixed = made.Mixed
 abbrev pub blocks_name : GenOptions → List ℕ
 blocks_name o = o.out ++ codes ".blocks"
 
+-- the name of the nets
 abbrev pub nets_name : GenOptions → List ℕ
 nets_name o = o.out ++ codes ".nets"
 
+-- the name of the places
 abbrev pub pl_name : GenOptions → List ℕ
 pl_name o = o.out ++ codes ".pl"
 
+-- the name of the certificate
 abbrev pub cert_name : GenOptions → List ℕ
 cert_name o = o.out ++ codes ".cert"
 
@@ -47,9 +51,11 @@ cert_name o = o.out ++ codes ".cert"
 abbrev pub blocks_made : GenOptions → List ℕ
 blocks_made o = blocks_text (kinds_of o.kinds) (sizes o.seed o.count)
 
+-- the nets file of a number
 abbrev pub nets_made : GenOptions → List ℕ
 nets_made o = nets_text (ends o.seed o.count)
 
+-- the pl file of a number
 abbrev pub pl_made : GenOptions → List ℕ
 pl_made o = pl_text o.count
 
@@ -57,12 +63,15 @@ pl_made o = pl_text o.count
 abbrev pub blocks_said : GenOptions → GsrcBlocks
 blocks_said o = blocks_out (kinds_of o.kinds) (sizes o.seed o.count)
 
+-- the nets for which its text stands
 abbrev pub nets_said : GenOptions → GsrcNets
 nets_said o = nets_out (ends o.seed o.count)
 
+-- the places for which its text stands
 abbrev pub places_said : GenOptions → GsrcPlaces
 places_said o = places_out o.count
 
+-- the parts to which the three are joined
 abbrev pub parts_made : GenOptions → Parts
 parts_made o = parts_of (kinds_of o.kinds) o.seed o.count
 
@@ -70,6 +79,7 @@ parts_made o = parts_of (kinds_of o.kinds) o.seed o.count
 abbrev pub by_default : DesignOptions
 by_default = record { input = gsrc [] None None; per_unit = 1; is_fixed = false; shapes = 16; width = 1_048_576; height = 1_048_576 }
 
+-- an area weight and a wire weight of 1, and no weights of nets named
 abbrev pub both_weights : WeightOptions
 both_weights = record { area = 1; wire = 1; net_weights = None }
 

@@ -16,6 +16,7 @@ IsCounted faults faults_then ReadFault = Rose faults faults_then
 IsCounted faults faults_then (Refused status line) = ⊤
 IsCounted faults faults_then NoMemory = ⊤
 
+-- a stop that says that a load failed comes after one that was counted
 abbrev pub TellsLoads : ShelfSeen → ShelfSeen → Stop → Type 0
 TellsLoads before after stop = IsCounted before.load_faults after.load_faults stop
 

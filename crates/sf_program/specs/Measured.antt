@@ -52,6 +52,7 @@ spots_said b (block ∷ blocks) lines = do
 abbrev pub SpotsPlaced : Design → GsrcPlaces → Result (List Spot) Refusal → Type 0
 SpotsPlaced design places r = r ≡ spots_said 0 design.blocks places.places
 
+-- the spots that the placed file gives the blocks of a design
 abbrev pub SpotsRead : Option Contents → MeasureOptions → Design → Result (List Spot) Refusal → Type 0
 SpotsRead held o design = Then (PlacesRead held (codes "placed") o.design.per_unit o.placed) (SpotsPlaced design)
 
@@ -59,6 +60,7 @@ SpotsRead held o design = Then (PlacesRead held (codes "placed") o.design.per_un
 abbrev pub MeasureRead : Option Contents → MeasureOptions → Result (Design × List Spot) Refusal → Type 0
 MeasureRead held o = Then (DesignRead held o.design o.weights) (With (SpotsRead held o))
 
+-- the status that goes with a verdict
 abbrev pub verdict_status : Verdict → Status
 verdict_status Legal = Done
 verdict_status (Unlisted b) = No
@@ -73,6 +75,7 @@ legal_text cost w h wires = line_of (codes "status" ∷ codes "Legal" ∷ [])
     ++ (line_of (codes "area" ∷ decimal (w * h) ∷ [])
     ++ line_of (codes "wire" ∷ decimal wires ∷ []))))
 
+-- the lines of a verdict
 abbrev pub verdict_text : Design → List Spot → Verdict → List ℕ
 verdict_text design spots Legal = legal_text (spots_cost design spots) (right_end spots) (upper_end spots) (wire design spots)
 verdict_text design spots (Unlisted b) = line_of (codes "status" ∷ codes "Unlisted" ∷ decimal b ∷ [])

@@ -63,6 +63,7 @@ IsEnding cost bound word.Optimal = (cost < MAX) × (bound ≡ cost)
 IsEnding cost bound word.NoneFits = (cost ≡ MAX) × (bound ≡ MAX)
 IsEnding cost bound word.Open = bound < cost
 
+-- the status that goes with the word of a search
 abbrev pub outcome_status : Outcome → Status
 outcome_status word.Optimal = Done
 outcome_status word.NoneFits = NoneFits

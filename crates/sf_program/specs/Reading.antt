@@ -38,12 +38,15 @@ abbrev pub Said : {X F : Type 0} → (X → Type 0) → Result X F → (F → Re
 Said Stands first refusal (Ok x) = Stands x
 Said {X} {F} Stands first refusal (Err why) = (fault : F) × (first ≡ Err fault) × (why ≡ refusal fault)
 
+-- the blocks for which the file of this name stands
 abbrev pub BlocksRead : Option Contents → ℕ → List ℕ → Result GsrcBlocks Refusal → Type 0
 BlocksRead held scale name = Then (TextRead held name) (λ text. Said (StandsFor scale text) (blocks_read scale text) (gsrc_refusal (codes "blocks")))
 
+-- the nets for which one stands
 abbrev pub NetsRead : Option Contents → List ℕ → Result GsrcNets Refusal → Type 0
 NetsRead held name = Then (TextRead held name) (λ text. Said (NetsStandFor text) (nets_read text) (gsrc_refusal (codes "nets")))
 
+-- the places for which one stands, whose faults are told under this word
 abbrev pub PlacesRead : Option Contents → List ℕ → ℕ → List ℕ → Result GsrcPlaces Refusal → Type 0
 PlacesRead held source scale name = Then (TextRead held name) (λ text. Said (PlacesStandFor scale text) (places_read scale text) (gsrc_refusal source))
 
@@ -59,6 +62,7 @@ abbrev pub Judged : {X F : Type 0} → Result X F → (F → Refusal) → Result
 Judged (Ok x) refusal r = r ≡ Ok x
 Judged (Err fault) refusal r = r ≡ Err (refusal fault)
 
+-- the parts for which a YAL file stands
 abbrev pub YalRead : Option Contents → ℕ → List ℕ → Result Parts Refusal → Type 0
 YalRead held scale name = Then (TextRead held name) (λ text. Said (yals.StandsFor scale text) (yal_read scale text) yal_refusal)
 
@@ -102,9 +106,11 @@ abbrev pub ListsMade : DesignOptions → Parts → Result (List (List Shape)) Re
 ListsMade o parts (Ok lists) = AreListsOf o.shapes o.is_fixed parts.blocks lists
 ListsMade o parts (Err why) = (fault : BuildFault) × HasNoneFor o.shapes o.is_fixed parts.blocks fault × (why ≡ build_refusal fault)
 
+-- the outline that the words name
 abbrev pub outline_of : DesignOptions → Outline
 outline_of o = record { w = o.width; h = o.height }
 
+-- the weights that the words name
 abbrev pub weights_of : WeightOptions → Weights
 weights_of w = record { area = w.area; wire = w.wire }
 
@@ -113,9 +119,11 @@ abbrev pub Built : DesignOptions → WeightOptions → WeighedParts → List (Li
 Built o w read lists (Ok design) = IsDesignOf read.parts lists (outline_of o) (weights_of w) read.net_weights design
 Built o w read lists (Err why) = ⊥
 
+-- the parts of the files, where they may become a design
 abbrev pub PartsAdmitted : Option Contents → DesignOptions → WeightOptions → Result WeighedParts Refusal → Type 0
 PartsAdmitted held o w = Then (PartsRead held o.per_unit o.input w.net_weights) Admitted
 
+-- the design of admitted parts, or the block that has no shape
 abbrev pub DesignMade : DesignOptions → WeightOptions → WeighedParts → Result Design Refusal → Type 0
 DesignMade o w read = Then (ListsMade o read.parts) (Built o w read)
 

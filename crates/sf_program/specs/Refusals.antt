@@ -32,6 +32,7 @@ bad_input source line fault = refused BadInput (line_of (codes "error" ∷ codes
 abbrev pub over_limit : List ℕ → ℕ → ℕ → Refusal
 over_limit quantity found limit = refused OverLimit (line_of (codes "error" ∷ codes "OverLimit" ∷ quantity ∷ decimal found ∷ decimal limit ∷ []))
 
+-- what is wrong with a number, in a word
 abbrev pub number_fault : NumberFault → List ℕ
 number_fault NotNumber = codes "NotNumber"
 number_fault TooManyDigits = codes "TooManyDigits"
@@ -42,6 +43,7 @@ number_fault TooLarge = codes "TooLarge"
 abbrev pub no_line : Refusal
 no_line = refused BadInput []
 
+-- the first fault of a GSRC text
 abbrev pub gsrc_refusal : List ℕ → GsrcFault → Refusal
 gsrc_refusal source (gsrc.BadTitle line) = bad_input source line (codes "BadTitle" ∷ [])
 gsrc_refusal source (gsrc.BadLine line) = bad_input source line (codes "BadLine" ∷ [])
@@ -52,6 +54,7 @@ gsrc_refusal source (gsrc.ZeroSide line) = bad_input source line (codes "ZeroSid
 gsrc_refusal source (gsrc.Truncated line) = bad_input source line (codes "Truncated" ∷ [])
 gsrc_refusal source gsrc.NoMemory = no_line
 
+-- the first fault of a text of weights
 abbrev pub weight_refusal : WeightFault → Refusal
 weight_refusal (weight.BadLine line) = bad_input (codes "weights") line (codes "BadLine" ∷ [])
 weight_refusal (weight.BadNumber line fault) = bad_input (codes "weights") line (codes "BadNumber" ∷ number_fault fault ∷ [])
@@ -59,6 +62,7 @@ weight_refusal (weight.UnknownNet line net) = bad_input (codes "weights") line (
 weight_refusal (weight.RepeatedNet line net) = bad_input (codes "weights") line (codes "RepeatedNet" ∷ decimal net ∷ [])
 weight_refusal weight.NoMemory = no_line
 
+-- the first fault of a YAL text
 abbrev pub yal_refusal : YalFault → Refusal
 yal_refusal (yal.Truncated line) = bad_input (codes "yal") line (codes "Truncated" ∷ [])
 yal_refusal (yal.BadStatement line) = bad_input (codes "yal") line (codes "BadStatement" ∷ [])
@@ -74,6 +78,7 @@ abbrev pub join_refusal : JoinFault → Refusal
 join_refusal (join.PlacedTwice name) = bad_input (codes "design") 0 (codes "DuplicateName" ∷ name ∷ [])
 join_refusal join.NoMemory = no_line
 
+-- the quantity that passes its limit, in a word
 abbrev pub limit_word : Limit → List ℕ
 limit_word Blocks = codes "blocks"
 limit_word Pads = codes "pads"
@@ -87,6 +92,7 @@ limit_word Coordinate = codes "coordinate"
 abbrev pub design_fault : List (List ℕ) → Refusal
 design_fault fault = bad_input (codes "design") 0 fault
 
+-- why parts become no design
 abbrev pub build_refusal : BuildFault → Refusal
 build_refusal (build.DuplicateName name) = design_fault (codes "DuplicateName" ∷ name ∷ [])
 build_refusal (build.UnknownName name) = design_fault (codes "UnknownName" ∷ name ∷ [])

@@ -19,6 +19,7 @@ abbrev pub StoppedAt : Option Contents → List Stored → Option Contents → T
 StoppedAt before [] after = ⊥
 StoppedAt before (s ∷ rest) after = StoresPart before after s.0 s.1 ⊎ ((next : Option Contents) × Stores before next s.0 s.1 × StoppedAt next rest after)
 
+-- the names and the bytes of what is to be stored
 abbrev pub stored_in : List Store → List Stored
 stored_in stores = map (λ s. (string_bytes s.name, s.bytes.items)) stores
 

@@ -3,6 +3,7 @@ use Rattle.std.specs.Prelude.{ℕ, List, length, replicate}
 use Rattle.sf_model.specs.declared.raw.Parts.{Parts}
 use Rattle.sf_program.specs.declared.weighed.Weighed.{Weighed}
 
+-- parts, and a weight for each of their nets
 pub record WeighedParts : Type 0 where
   pub parts : Parts
   pub net_weights : List ℕ

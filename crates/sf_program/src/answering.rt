@@ -15,7 +15,7 @@ use crate::work::{Store, Work};
 use sf_certificate::CertFault;
 use sf_checker::{Answer, Why};
 use sf_io::Status;
-use sf_model::MAX;
+use sf_model::push_cost;
 use std::alloc::{AllocError as NoMemory, Global};
 
 /// The first fault of the text of a certificate.
@@ -36,11 +36,9 @@ pub fn cert_fault(alloc: Global, fault: CertFault) -> Result<Stop, NoMemory>
 fn cost_word(alloc: Global, cost: u64) -> Result<String, NoMemory>
     ensures { IfOk result (λ word. string_bytes word ≡ cost_text cost) }
 {
-    if cost == MAX {
-        String::from_str(alloc, "none")
-    } else {
-        format!(in alloc; "{cost}")
-    }
+    let mut word = String::new(alloc);
+    push_cost(&mut word, cost)?;
+    Ok(word)
 }
 
 /// The four lines for a valid certificate.

@@ -14,6 +14,7 @@ use crate::refusals::build_fault;
 use crate::stop::Stop;
 use crate::weighed::Weighed;
 use sf_io::Shelf;
+use sf_lex::Scale;
 use sf_model::{BuildFault, Design, Outline, Parts, Shapes, Weights};
 use sf_soft_shapes::lists;
 use sf_words::{DesignWords, WeightWords};
@@ -47,13 +48,10 @@ pub fn read_admitted<S: Shelf>(
     ensures read { Reads (S.seen shelf.old) (S.seen shelf.new) }
     ensures tells { IfErr result (TellsLoads (S.seen shelf.old) (S.seen shelf.new)) }
 {
-    let read = read_parts(
-        alloc,
-        shelf,
-        words.per_unit,
-        words.input,
-        weights.net_weights,
-    )?;
+    let scale = Scale {
+        per_unit: words.per_unit,
+    };
+    let read = read_parts(alloc, shelf, scale, words.input, weights.net_weights)?;
     admit(alloc, read)
 }
 

@@ -25,6 +25,7 @@ use sf_gen::{
 };
 use sf_gsrc::{GsrcBlocks, GsrcNets, GsrcPlaces};
 use sf_io::Gate;
+use sf_lex::Scale;
 use sf_model::{Design, Parts};
 use sf_words::{DesignWords, GenWords, InputFiles, Kinds, WeightWords};
 use std::alloc::{AllocError as NoMemory, Global};
@@ -57,7 +58,7 @@ fn made_blocks(alloc: Global, words: &GenWords<'_>, text: &[u8]) -> Result<GsrcB
     ensures tells { TellsNoLoad result }
 {
     blocks_are_read();
-    parse_blocks(alloc, text, 1)
+    parse_blocks(alloc, text, Scale { per_unit: 1 })
 }
 
 /// The nets for which the text stands.
@@ -80,7 +81,7 @@ fn made_places(alloc: Global, words: &GenWords<'_>, text: &[u8]) -> Result<GsrcP
     ensures tells { TellsNoLoad result }
 {
     places_are_read();
-    parse_places(alloc, "pl", text, 1)
+    parse_places(alloc, "pl", text, Scale { per_unit: 1 })
 }
 
 /// The parts to which the three are joined.

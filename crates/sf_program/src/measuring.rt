@@ -19,6 +19,7 @@ use crate::reading::read_places_file;
 use crate::stop::Stop;
 use crate::work::Work;
 use sf_io::{Shelf, Status};
+use sf_lex::Scale;
 use sf_model::{Design, Spot};
 use sf_place::{Verdict, check_spots};
 use sf_wire::{spots_cost, spots_size, wire};
@@ -40,7 +41,10 @@ fn read_spots<S: Shelf>(
     ensures read { Reads (S.seen shelf.old) (S.seen shelf.new) }
     ensures tells { IfErr result (TellsLoads (S.seen shelf.old) (S.seen shelf.new)) }
 {
-    let file = read_places_file(alloc, shelf, "placed", words.design.per_unit, words.placed)?;
+    let scale = Scale {
+        per_unit: words.design.per_unit,
+    };
+    let file = read_places_file(alloc, shelf, "placed", scale, words.placed)?;
     place_blocks(alloc, design.blocks.as_slice(), file.places.as_slice())
 }
 

@@ -24,21 +24,20 @@ use sf_gsrc::{
     join_parts, joined_parts_keep_ranges, nets_name_their_pins, read_blocks, read_nets, read_pl,
     read_weights,
 };
+use sf_lex::Scale;
 use sf_model::Parts;
 use sf_yal::{YalFault, parts_keep_ranges, read_yal};
 use std::alloc::Global;
 
 /// What a blocks file stands for.
-pub fn parse_blocks(alloc: Global, text: &[u8], scale: u64) -> Result<GsrcBlocks, Stop>
-    requires scale_low { 1 ≤ scale }
-    requires scale_high { scale ≤ 1000 }
+pub fn parse_blocks(alloc: Global, text: &[u8], scale: Scale) -> Result<GsrcBlocks, Stop>
     ensures tells { TellsNoLoad result }
-    ensures said { Ends (λ x. x) result
-        (Said (StandsFor scale text.now) (blocks_read scale text.now) (gsrc_refusal (codes "blocks"))) }
+    ensures said { let per_unit = scale.per_unit in Ends (λ x. x) result
+        (Said (StandsFor per_unit text.now) (blocks_read per_unit text.now) (gsrc_refusal (codes "blocks"))) }
     ensures sizes { IfOk result (λ out. All (λ b. IsSized b.kind) out.blocks) }
 {
     blocks_have_sizes();
-    match read_blocks(alloc, text, scale) {
+    match read_blocks(alloc, text, scale.per_unit) {
         Ok(blocks) => Ok(blocks),
         Err(GsrcFault::NoMemory) => Err(Stop::NoMemory),
         Err(fault) => Err(gsrc_fault(alloc, "blocks", fault)?),
@@ -65,15 +64,13 @@ pub fn parse_places(
     alloc: Global,
     source: &str,
     text: &[u8],
-    scale: u64,
+    scale: Scale,
 ) -> Result<GsrcPlaces, Stop>
-    requires scale_low { 1 ≤ scale }
-    requires scale_high { scale ≤ 1000 }
     ensures tells { TellsNoLoad result }
-    ensures said { Ends (λ x. x) result
-        (Said (PlacesStandFor scale text.now) (places_read scale text.now) (gsrc_refusal source.now)) }
+    ensures said { let per_unit = scale.per_unit in Ends (λ x. x) result
+        (Said (PlacesStandFor per_unit text.now) (places_read per_unit text.now) (gsrc_refusal source.now)) }
 {
-    match read_pl(alloc, text, scale) {
+    match read_pl(alloc, text, scale.per_unit) {
         Ok(places) => Ok(places),
         Err(GsrcFault::NoMemory) => Err(Stop::NoMemory),
         Err(fault) => Err(gsrc_fault(alloc, source, fault)?),
@@ -95,18 +92,16 @@ pub fn parse_weights(alloc: Global, text: &[u8], nets: u64) -> Result<Vec<u8>, S
 }
 
 /// What a YAL file stands for.
-pub fn parse_yal(alloc: Global, text: &[u8], scale: u64) -> Result<Parts, Stop>
-    requires scale_low { 1 ≤ scale }
-    requires scale_high { scale ≤ 1000 }
+pub fn parse_yal(alloc: Global, text: &[u8], scale: Scale) -> Result<Parts, Stop>
     requires size { length text.now ≤ 2 ^ 26 }
     ensures tells { TellsNoLoad result }
-    ensures said { Ends (λ x. x) result
-        (Said (yals.StandsFor scale text.now) (yal_read scale text.now) yal_refusal) }
+    ensures said { let per_unit = scale.per_unit in Ends (λ x. x) result
+        (Said (yals.StandsFor per_unit text.now) (yal_read per_unit text.now) yal_refusal) }
     ensures sizes { IfOk result HasSizes }
     ensures pins { IfOk result HasPinsInRange }
 {
     parts_keep_ranges();
-    match read_yal(alloc, text, scale) {
+    match read_yal(alloc, text, scale.per_unit) {
         Ok(parts) => Ok(parts),
         Err(YalFault::NoMemory) => Err(Stop::NoMemory),
         Err(fault) => Err(yal_fault(alloc, fault)?),

@@ -32,6 +32,14 @@ pub struct Names<'a> {
     pub scale: u64,
 }
 
+/// A certificate, the word that is said of it, and how many subproblems it decides.
+#[derive(Clone, Copy)]
+pub struct Ended<'a> {
+    pub cert: &'a Cert,
+    pub said: Outcome,
+    pub decided: u64,
+}
+
 /// How a search ended, by its cost and bound.
 pub fn ending_of(cost: u64, bound: u64) -> Outcome
     requires { bound ≤ cost }
@@ -74,8 +82,7 @@ fn measure_plan(alloc: Global, design: &Design, expr: &Expr) -> Result<Measured,
     ensures small { IfOk result (λ m. (m.size.0 ≤ 2 ^ 20) × (m.size.1 ≤ 2 ^ 20)) }
 {
     let plan = plan_of(alloc, expr)?;
-    let blocks = design.blocks.as_slice().len() as u16;
-    let spots = spots(alloc, &plan, blocks)?;
+    let spots = spots(alloc, &plan, design.block_count())?;
     let wire = wire(design, &spots);
     Ok(Measured {
         spots,
@@ -126,23 +133,26 @@ fn push_placed(
 pub fn tell_none(
     alloc: Global,
     design: &Design,
-    cert: &Cert,
-    said: Outcome,
-    decided_count: u64,
+    ended: Ended<'_>,
     names: Names<'_>,
 ) -> Result<Work, NoMemory>
-    requires none { cert.now.plan ≡ None }
-    requires decided { decided_count ≡ decided cert.now.tags }
-    ensures told { let names = names.entry in IfOk result (λ w.
-        IsTold design.now names.scale names.cert.now (text_of names.pl) said cert.now None
+    requires none { ended.cert.now.plan ≡ None }
+    requires decided { ended.decided ≡ decided ended.cert.now.tags }
+    ensures told { let ended = ended.entry in let names = names.entry in IfOk result (λ w.
+        IsTold design.now names.scale names.cert.now (text_of names.pl) ended.said ended.cert.now None
         (stored_in w.stores.items) w.text.items) }
-    ensures status { IfOk result (λ w. w.status ≡ outcome_status said) }
+    ensures status { IfOk result (λ w. w.status ≡ outcome_status ended.entry.said) }
 {
+    let Ended {
+        cert,
+        said,
+        decided,
+    } = ended;
     let report = Report {
         word: said,
         cost: cert.cost,
         bound: cert.bound,
-        decided: decided_count,
+        decided,
         size: (0, 0),
         area: 0,
         wire: 0,
@@ -160,32 +170,34 @@ pub fn tell_none(
 pub fn tell_plan(
     alloc: Global,
     design: &Design,
-    cert: &Cert,
+    ended: Ended<'_>,
     expr: Expr,
-    said: Outcome,
-    decided_count: u64,
     names: Names<'_>,
 ) -> Result<Work, NoMemory>
-    requires plan { cert.now.plan ≡ Some expr }
-    requires fits { HasCost design.now expr cert.now.cost }
-    requires blocks { cert.now.blocks ≡ block_count design.now }
-    requires decided { decided_count ≡ decided cert.now.tags }
+    requires plan { ended.cert.now.plan ≡ Some expr }
+    requires fits { HasCost design.now expr ended.cert.now.cost }
+    requires blocks { ended.cert.now.blocks ≡ block_count design.now }
+    requires decided { ended.decided ≡ decided ended.cert.now.tags }
     requires scale { IsScale names.scale }
-    ensures told { let names = names.entry in IfOk result (λ w.
-        IsTold design.now names.scale names.cert.now (text_of names.pl) said cert.now (Some expr)
+    ensures told { let ended = ended.entry in let names = names.entry in IfOk result (λ w.
+        IsTold design.now names.scale names.cert.now (text_of names.pl) ended.said ended.cert.now (Some expr)
         (stored_in w.stores.items) w.text.items) }
-    ensures status { IfOk result (λ w. w.status ≡ outcome_status said) }
+    ensures status { IfOk result (λ w. w.status ≡ outcome_status ended.entry.said) }
 {
+    let Ended {
+        cert,
+        said,
+        decided,
+    } = ended;
     let measured = measure_plan(alloc, design, &expr)?;
     let mut stores = stored_cert(alloc, cert, names.cert)?;
     push_placed(alloc, &mut stores, design, &measured.spots, names)?;
     let (width, height) = measured.size;
-    let cost = cert.cost;
     let report = Report {
         word: said,
-        cost,
+        cost: cert.cost,
         bound: cert.bound,
-        decided: decided_count,
+        decided,
         size: (width, height),
         area: width * height,
         wire: measured.wire,

@@ -15,7 +15,7 @@ ghost use Rattle.sf_program.specs.Weighed.{weighed_in};
 
 use crate::budget::{budget_of, test_budget};
 use crate::designs::{make_design, read_admitted};
-use crate::plan_answer::{Names, ending_of, tell_none, tell_plan};
+use crate::plan_answer::{Ended, Names, ending_of, tell_none, tell_plan};
 use crate::stop::Stop;
 use crate::weighed::Weighed;
 use crate::work::Work;
@@ -68,13 +68,20 @@ fn answered(
     ensures { let names = names.entry in IfOk result (Gives
         (IsAnswered design.now options.workers options.nodes names.scale names.cert.now (text_of names.pl))) }
 {
-    let decided = found.decided;
-    let cert = found.cert;
-    let plan = found.plan;
-    let said = ending_of(cert.cost, cert.bound);
+    let Found {
+        plan,
+        cert,
+        decided,
+        ..
+    } = found;
+    let ended = Ended {
+        cert: &cert,
+        said: ending_of(cert.cost, cert.bound),
+        decided,
+    };
     match plan {
-        None => tell_none(alloc, design, &cert, said, decided, names),
-        Some(expr) => tell_plan(alloc, design, &cert, expr, said, decided, names),
+        None => tell_none(alloc, design, ended, names),
+        Some(expr) => tell_plan(alloc, design, ended, expr, names),
     }
 }
 
@@ -114,10 +121,11 @@ pub fn searched<R: Threads + Sync, G: Gate>(
     gate: &G,
 ) -> Result<Work, NoMemory>
     requires scale { IsScale names.scale }
-    ensures { let names = names.entry in let budget = budget_of nodes (block_count design.now) in IfOk result (Gives
+    ensures { let budget = budget_of nodes (block_count design.now) in
+        let names = names.entry in IfOk result (Gives
         (IsAnswered design.now workers budget names.scale names.cert.now (text_of names.pl))) }
 {
-    let nodes = budget_of(nodes, design.blocks.as_slice().len() as u64);
+    let nodes = budget_of(nodes, u64::from(design.block_count()));
     let options = SearchOptions { workers, nodes };
     let found = search(rt, alloc, design, &Standard, options, gate)?;
     answered(alloc, design, options, found, names)

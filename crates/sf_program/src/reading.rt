@@ -18,6 +18,7 @@ use crate::weighed::Weighed;
 use crate::weighing::read_net_weights;
 use sf_gsrc::{GsrcBlocks, GsrcNets, GsrcPlaces};
 use sf_io::{LoadFault, Shelf};
+use sf_lex::Scale;
 use sf_model::Parts;
 use sf_words::InputFiles;
 use std::alloc::Global;
@@ -43,12 +44,10 @@ pub fn load_text<S: Shelf>(alloc: Global, shelf: &mut S, name: &str) -> Result<V
 fn read_blocks_file<S: Shelf>(
     alloc: Global,
     shelf: &mut S,
-    scale: u64,
+    scale: Scale,
     name: &str,
 ) -> Result<GsrcBlocks, Stop>
-    requires scale_low { 1 ≤ scale }
-    requires scale_high { scale ≤ 1000 }
-    ensures blocks { Ends (λ x. x) result (BlocksRead (S.seen shelf.old).holds scale name.now) }
+    ensures blocks { Ends (λ x. x) result (BlocksRead (S.seen shelf.old).holds scale.per_unit name.now) }
     ensures sizes { IfOk result (λ out. All (λ b. IsSized b.kind) out.blocks) }
     ensures read { Reads (S.seen shelf.old) (S.seen shelf.new) }
     ensures tells { IfErr result (TellsLoads (S.seen shelf.old) (S.seen shelf.new)) }
@@ -73,12 +72,11 @@ pub fn read_places_file<S: Shelf>(
     alloc: Global,
     shelf: &mut S,
     source: &str,
-    scale: u64,
+    scale: Scale,
     name: &str,
 ) -> Result<GsrcPlaces, Stop>
-    requires scale_low { 1 ≤ scale }
-    requires scale_high { scale ≤ 1000 }
-    ensures places { Ends (λ x. x) result (PlacesRead (S.seen shelf.old).holds source.now scale name.now) }
+    ensures places { Ends (λ x. x) result
+        (PlacesRead (S.seen shelf.old).holds source.now scale.per_unit name.now) }
     ensures read { Reads (S.seen shelf.old) (S.seen shelf.new) }
     ensures tells { IfErr result (TellsLoads (S.seen shelf.old) (S.seen shelf.new)) }
 {
@@ -90,12 +88,10 @@ pub fn read_places_file<S: Shelf>(
 fn read_yal_file<S: Shelf>(
     alloc: Global,
     shelf: &mut S,
-    scale: u64,
+    scale: Scale,
     name: &str,
 ) -> Result<Parts, Stop>
-    requires scale_low { 1 ≤ scale }
-    requires scale_high { scale ≤ 1000 }
-    ensures parts { Ends (λ x. x) result (YalRead (S.seen shelf.old).holds scale name.now) }
+    ensures parts { Ends (λ x. x) result (YalRead (S.seen shelf.old).holds scale.per_unit name.now) }
     ensures sizes { IfOk result HasSizes }
     ensures pins { IfOk result HasPinsInRange }
     ensures read { Reads (S.seen shelf.old) (S.seen shelf.new) }
@@ -126,13 +122,11 @@ fn read_named_nets<S: Shelf>(
 fn read_named_places<S: Shelf>(
     alloc: Global,
     shelf: &mut S,
-    scale: u64,
+    scale: Scale,
     name: Option<&str>,
 ) -> Result<Option<GsrcPlaces>, Stop>
-    requires scale_low { 1 ≤ scale }
-    requires scale_high { scale ≤ 1000 }
     ensures places { Ends (λ x. x) result
-        (IfNamed (PlacesRead (S.seen shelf.old).holds (codes "pl") scale) (text_of name.entry)) }
+        (IfNamed (PlacesRead (S.seen shelf.old).holds (codes "pl") scale.per_unit) (text_of name.entry)) }
     ensures read { Reads (S.seen shelf.old) (S.seen shelf.new) }
     ensures tells { IfErr result (TellsLoads (S.seen shelf.old) (S.seen shelf.new)) }
 {
@@ -176,15 +170,13 @@ fn net_count(nets: &Option<GsrcNets>) -> usize
 fn read_gsrc_files<S: Shelf>(
     alloc: Global,
     shelf: &mut S,
-    scale: u64,
+    scale: Scale,
     blocks: &str,
     nets: Option<&str>,
     pl: Option<&str>,
     weights: Option<&str>,
 ) -> Result<Weighed, Stop>
-    requires scale_low { 1 ≤ scale }
-    requires scale_high { scale ≤ 1000 }
-    ensures parts { let held = (S.seen shelf.old).holds in Ends weighed_in result
+    ensures parts { let held = (S.seen shelf.old).holds in let scale = scale.per_unit in Ends weighed_in result
         (GsrcRead held scale blocks.now (text_of nets.entry) (text_of pl.entry) (text_of weights.entry)) }
     ensures sizes { IfOk result (λ read. HasSizes read.parts) }
     ensures pins { IfOk result (λ read. HasPinsInRange read.parts) }
@@ -202,14 +194,12 @@ fn read_gsrc_files<S: Shelf>(
 fn read_weighed_yal<S: Shelf>(
     alloc: Global,
     shelf: &mut S,
-    scale: u64,
+    scale: Scale,
     file: &str,
     weights: Option<&str>,
 ) -> Result<Weighed, Stop>
-    requires scale_low { 1 ≤ scale }
-    requires scale_high { scale ≤ 1000 }
     ensures parts { Ends weighed_in result
-        (YalWeighed (S.seen shelf.old).holds scale file.now (text_of weights.entry)) }
+        (YalWeighed (S.seen shelf.old).holds scale.per_unit file.now (text_of weights.entry)) }
     ensures sizes { IfOk result (λ read. HasSizes read.parts) }
     ensures pins { IfOk result (λ read. HasPinsInRange read.parts) }
     ensures read { Reads (S.seen shelf.old) (S.seen shelf.new) }
@@ -225,14 +215,12 @@ fn read_weighed_yal<S: Shelf>(
 pub fn read_parts<S: Shelf>(
     alloc: Global,
     shelf: &mut S,
-    scale: u64,
+    scale: Scale,
     input: InputFiles<'_>,
     weights: Option<&str>,
 ) -> Result<Weighed, Stop>
-    requires scale_low { 1 ≤ scale }
-    requires scale_high { scale ≤ 1000 }
     ensures parts { Ends weighed_in result
-        (PartsRead (S.seen shelf.old).holds scale (input_seen input.entry) (text_of weights.entry)) }
+        (PartsRead (S.seen shelf.old).holds scale.per_unit (input_seen input.entry) (text_of weights.entry)) }
     ensures pins { IfOk result (λ read. HasPinsInRange read.parts) }
     ensures sizes { IfOk result (λ read. HasSizes read.parts) }
     ensures read { Reads (S.seen shelf.old) (S.seen shelf.new) }

@@ -23,14 +23,6 @@ use sf_checker::{Answer, check, name_parts};
 use sf_model::Design;
 use std::alloc::{AllocError as NoMemory, Global};
 
-fn block_count(design: &Design) -> u16
-    ensures value { result ≡ block_count design.now }
-    ensures some { 1 ≤ result }
-    ensures few { result ≤ 320 }
-{
-    design.blocks.as_slice().len() as u16
-}
-
 /// The certificate that a text says.
 fn read_cert(alloc: Global, text: &[u8], design: &Design) -> Result<Cert, Stop>
     ensures cert { IfOk result (λ c. cert_read (block_count design.now) text.now ≡ Ok (said_by c)) }
@@ -39,7 +31,7 @@ fn read_cert(alloc: Global, text: &[u8], design: &Design) -> Result<Cert, Stop>
         Stops stop (λ why. Judged (cert_read (block_count design.now) text.now) cert_refusal (Err why))) }
     ensures tells { TellsNoLoad result }
 {
-    match read(alloc, text, block_count(design)) {
+    match read(alloc, text, design.block_count()) {
         Ok(cert) => Ok(cert),
         Err(CertFault::NoMemory) => Err(Stop::NoMemory),
         Err(fault) => Err(cert_fault(alloc, fault)?),

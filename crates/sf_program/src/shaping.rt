@@ -50,8 +50,7 @@ fn parse_tokens(alloc: Global, text: &[u8], design: &Design) -> Result<Vec<Token
     ensures normal { IfOk result (λ v. IsNormal (block_count design.now) v.items) }
     ensures tells { TellsNoLoad result }
 {
-    let blocks = design.blocks.as_slice().len() as u16;
-    match read_tokens(alloc, text, blocks) {
+    match read_tokens(alloc, text, design.block_count()) {
         Ok(tokens) => Ok(tokens),
         Err(ExprFault::NoMemory) => Err(Stop::NoMemory),
         Err(fault) => Err(expr_fault(alloc, fault)?),

@@ -14,7 +14,8 @@ use std::process::Abort;
 use std::test::Fail;
 use std::thread::Threads;
 
-/// A run with the numbers of the call of the shelf and of the put that fail; none fails where the number is 0.
+/// A run with the numbers of the call of the shelf and of the put that fail; none fails where the number
+/// is 0.
 struct Case {
     call: u64,
     put: u64,
@@ -162,8 +163,9 @@ fn failing_calls(rt: HostRuntime) -> Result<(), Fail> {
     Ok(())
 }
 
-/// A run over a shelf of which the load of this number fails, the first stores are whole and each later one keeps half of
-/// its bytes, and over a sink that takes three bytes a put, as far as there is room. No load fails where the number is 0.
+/// A run over a shelf of which the load of this number fails, the first stores are whole and each later one
+/// keeps half of its bytes, and over a sink that takes three bytes a put, as far as there is room. No load
+/// fails where the number is 0.
 #[derive(Clone, Copy)]
 struct Part {
     load: u64,

@@ -73,7 +73,8 @@ fn rewritten_certificates(rt: HostRuntime) -> Result<(), Fail> {
     assert_rows(&rt, rt.alloc(), ROWS)
 }
 
-/// With two workers the order of the decisions is free, and so are the tags; the parts that they name are not.
+/// With two workers the order of the decisions is free, and so are the tags; the parts that they name are
+/// not.
 #[test]
 fn what_several_workers_store(rt: HostRuntime) -> Result<(), Fail> {
     let alloc = rt.alloc();

@@ -37,8 +37,8 @@ const PLACED_TWICE: &[u8] = b"UCLA pl 1.0\nb0 0 0\nb0 0 0\n";
 
 const PLACED_BADLY: &[u8] = b"UCLA pl 1.0\nb0 0\n";
 
-/// Designs with weights. The net's pins are (2, 2) and (6, 2), so its wire is 4. In the other design the three nets have
-/// the wires 4, 4 and 16 in the placement.
+/// Designs with weights. The net's pins are (2, 2) and (6, 2), so its wire is 4. In the other design the
+/// three nets have the wires 4, 4 and 16 in the placement.
 const WEIGHTED: &[Row] = &[
     Row {
         files: &[

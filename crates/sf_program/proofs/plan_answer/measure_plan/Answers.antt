@@ -1,4 +1,4 @@
-use Rattle.std.proofs.Common.{ap, sym, subst, length, arith}
+use Rattle.std.proofs.Common.{sym, subst, arith}
 use Rattle.sf_model.specs.Legal.{HasEachOnce}
 use Rattle.sf_model.specs.Tree.{tree_of}
 use Rattle.sf_place.specs.Verdict.{AreLegal}
@@ -9,7 +9,7 @@ use Rattle.sf_program.proofs.plan_answer.measure_plan.Goals as goal
 pub spots-requires : goal.spots-requires
 spots-requires c =
     let tree = tree_of c.in_ok-plan.plan in
-    subst (λ n. HasEachOnce n tree) (sym (ap length c.as_slice.ensures)) (once c.args.design.now c.args.expr.now tree c.requires.writable c.in_ok-plan.ensures.spelled)
+    subst (λ n. HasEachOnce n tree) (sym c.block_count.ensures) (once c.args.design.now c.args.expr.now tree c.requires.writable c.in_ok-plan.ensures.spelled)
 
 pub wire-wire-requires : goal.wire-wire-requires
 wire-wire-requires c =

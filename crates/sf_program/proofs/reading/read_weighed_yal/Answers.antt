@@ -16,4 +16,4 @@ returns-in_err-net_weights-clause-parts g c =
     let here = subst (λ h. Stops stop (λ why. WeightsRead h weights (length c.as_slice-nets.result.now) (Err why))) c.in_ok-parts.ensures.read.unchanged c.in_err-net_weights.ensures.weights in
     let failed = subst (λ (nets : ℕ). Stops stop (λ why. WeightsRead held weights nets (Err why))) (ap length c.as_slice-nets.ensures) here in
     rw (p.1, p.2)
-    (stops-map (λ why. WeightsRead held weights (length parts.nets) (Err why)) (λ why. YalWeighed held c.args.scale c.args.file.now weights (Err why)) (λ why q. inl (parts, c.in_ok-parts.ensures.parts, inr (why, q, refl))) stop failed)
+    (stops-map (λ why. WeightsRead held weights (length parts.nets) (Err why)) (λ why. YalWeighed held c.args.scale.per_unit c.args.file.now weights (Err why)) (λ why q. inl (parts, c.in_ok-parts.ensures.parts, inr (why, q, refl))) stop failed)

@@ -1,0 +1,31 @@
+-- What holds of a command's own statuses holds of whatever it answers.
+use Rattle.sf_io.specs.declared.status.Status.{Status}
+use Rattle.sf_io.specs.declared.status.Status.TheVariants.{Done, NoneFits, Open, No}
+use Rattle.sf_place.specs.declared.verdict.Verdict.{Verdict}
+use Rattle.sf_place.specs.declared.verdict.Verdict.TheVariants as verdict
+use Rattle.sf_checker.specs.declared.answer.Answer.{Answer}
+use Rattle.sf_checker.specs.declared.answer.Answer.TheVariants as checked
+use Rattle.sf_pl_writer.specs.declared.report.Outcome.{Outcome}
+use Rattle.sf_pl_writer.specs.declared.report.Outcome.TheVariants as word
+use Rattle.sf_program.specs.Checked.{answer_status}
+use Rattle.sf_program.specs.Measured.{verdict_status}
+use Rattle.sf_program.specs.Planned.{outcome_status}
+
+module _ (P : Status → Type 0) (done : P Done) where
+  -- of the word that is said of a search
+  pub said-ends : P NoneFits → P Open → (said : Outcome) → P (outcome_status said)
+  said-ends none still word.Optimal = done
+  said-ends none still word.NoneFits = none
+  said-ends none still word.Open = still
+
+  -- of a verdict on a placement
+  pub judged-ends : P No → (v : Verdict) → P (verdict_status v)
+  judged-ends failed verdict.Legal = done
+  judged-ends failed (verdict.Unlisted b) = failed
+  judged-ends failed (verdict.Outside b) = failed
+  judged-ends failed (verdict.Overlap a b) = failed
+
+  -- of the checker's answer
+  pub checked-ends : P No → (a : Answer) → P (answer_status a)
+  checked-ends failed (checked.Yes cost bound decided) = done
+  checked-ends failed (checked.No why) = failed
