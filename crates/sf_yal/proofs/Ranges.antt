@@ -8,50 +8,59 @@ use Rattle.std.proofs.lemmas.Slice.Zip.{AllZip-long}
 use Rattle.sf_model.specs.Admitted.{IsPinInRange, IsSized, HasSizes, HasPinsInRange}
 use Rattle.sf_model.specs.declared.raw.RawBlock.{RawBlock}
 use Rattle.sf_model.specs.declared.raw.RawNet.{RawNet}
+use Rattle.sf_model.specs.declared.raw.RawPad.{RawPad}
 use Rattle.sf_model.specs.declared.raw.RawPin.{RawPin}
 use Rattle.sf_model.specs.declared.raw.RawPin.TheVariants as pins
 use Rattle.sf_model.specs.declared.raw.Parts.{Parts}
-use Rattle.sf_yal.specs.Statements.{statements_of}
 use Rattle.sf_names.specs.Names.{index_of, has_name}
+use Rattle.sf_yal.specs.Faults.{IsBlockOf}
 use Rattle.sf_yal.specs.Instances.{Instance}
-use Rattle.sf_yal.specs.Parts.{block_pins, pad_pins, net_of, nets_of, signals_of}
-use Rattle.sf_yal.specs.Standing.{IsBlockOf, Module, StandsFor}
+use Rattle.sf_yal.specs.Modules.{Module, modules, pads_of, instances_of}
+use Rattle.sf_yal.specs.Nets.{block_pins, pad_pins, net_of, nets_of, signals_of}
+use Rattle.sf_yal.specs.Standing.{StandsFor}
 use Rattle.sf_names.proofs.Indexes.{index_bound}
-use Rattle.sf_yal.proofs.PadNames.{pads_named}
 
 -- ---- sizes
 
-block_sized : (modules : List Module) (parent : ℕ) (i : Instance) (block : RawBlock) → IsBlockOf modules parent i block → IsSized block.kind
-block_sized modules parent i block is = subst (λ (b : RawBlock). IsSized b.kind) (sym is.block_is) (is.wide, is.high)
+-- a block has the sides of a box
+block_sized : (scale : ℕ) (all : List Module) (parent : ℕ) (i : Instance) (block : RawBlock) → IsBlockOf scale all parent i block → IsSized block.kind
+block_sized scale all parent i block is = subst (λ (b : RawBlock). IsSized b.kind) (sym is.block_is) (is.wide, is.high)
 
-blocks_sized : (modules : List Module) (parent : ℕ) (instances : List Instance) (blocks : List RawBlock) → AllZip (IsBlockOf modules parent) instances blocks → All (λ b. IsSized b.kind) blocks
-blocks_sized modules parent [] [] each = All-nil (λ (b : RawBlock). IsSized b.kind)
-blocks_sized modules parent [] (b ∷ blocks) each = absurd each
-blocks_sized modules parent (i ∷ instances) [] each = absurd each
-blocks_sized modules parent (i ∷ instances) (b ∷ blocks) each =
-    All-cons (λ (b : RawBlock). IsSized b.kind) b blocks (block_sized modules parent i b each.0) (blocks_sized modules parent instances blocks each.1)
+-- so have all blocks
+blocks_sized : (scale : ℕ) (all : List Module) (parent : ℕ) (instances : List Instance) (blocks : List RawBlock) → AllZip (IsBlockOf scale all parent) instances blocks → All (λ b. IsSized b.kind) blocks
+blocks_sized scale all parent [] [] each = All-nil (λ (b : RawBlock). IsSized b.kind)
+blocks_sized scale all parent [] (b ∷ blocks) each = absurd each
+blocks_sized scale all parent (i ∷ instances) [] each = absurd each
+blocks_sized scale all parent (i ∷ instances) (b ∷ blocks) each =
+    All-cons (λ (b : RawBlock). IsSized b.kind) b blocks (block_sized scale all parent i b each.0) (blocks_sized scale all parent instances blocks each.1)
 
+-- the blocks of a text have sizes
 pub parts_sized : (scale : ℕ) (text : List ℕ) (out : Parts) → StandsFor scale text out → HasSizes out
-parts_sized scale text out s = blocks_sized s.modules s.parent s.said.instances out.blocks s.blocks
+parts_sized scale text out s = blocks_sized scale (modules s.cut) s.parent (instances_of s.cut) out.blocks s.blocks
 
 -- ---- pins
 
 module _ (blocks pads : ℕ) (signal : List ℕ) where
+  -- the pins are of so many blocks and pads
   abbrev InRange : List RawPin → Type 0
   InRange some = All (IsPinInRange blocks pads) some
 
+  -- the pins of instances, with one instance more
   block_pins_step : (n : ℕ) (signals : List (List ℕ)) (more : List (List (List ℕ))) (b : Bool) → has_name signal signals ≡ b → n < blocks → InRange (block_pins signal (n + 1) more) → InRange (block_pins signal n (signals ∷ more))
   block_pins_step n signals more true e below rest = rw e (All-cons (IsPinInRange blocks pads) (pins.Block n) (block_pins signal (n + 1) more) below rest)
   block_pins_step n signals more false e below rest = rw e rest
 
+  -- the pins of instances are of blocks
   block_pins_in_range : (n : ℕ) (uses : List (List (List ℕ))) → n + length uses ≤ blocks → InRange (block_pins signal n uses)
   block_pins_in_range n [] few = All-nil (IsPinInRange blocks pads)
   block_pins_in_range n (signals ∷ more) few = block_pins_step n signals more (has_name signal signals) refl (omega arith) (block_pins_in_range (n + 1) more (omega arith))
 
+  -- that of a pad is of a pad
   pad_pins_in_range : (o : Option ℕ) → IfSome o (λ k. k < pads) → InRange (pad_pins o)
   pad_pins_in_range None h = All-nil (IsPinInRange blocks pads)
   pad_pins_in_range (Some k) h = All-cons (IsPinInRange blocks pads) (pins.Pad k) [] h (All-nil (IsPinInRange blocks pads))
 
+-- the pins of nets are of blocks and pads
 nets_in_range : (uses : List (List (List ℕ))) (pad_names : List (List ℕ)) (signals : List (List ℕ)) → All (λ n. All (IsPinInRange (length uses) (length pad_names)) n.pins) (map (net_of uses pad_names) signals)
 nets_in_range uses pad_names [] = All-nil (λ (n : RawNet). All (IsPinInRange (length uses) (length pad_names)) n.pins)
 nets_in_range uses pad_names (signal ∷ signals) =
@@ -61,14 +70,17 @@ nets_in_range uses pad_names (signal ∷ signals) =
     (pad_pins_in_range (length uses) (length pad_names) signal (index_of signal pad_names) (index_bound signal pad_names)))
     (nets_in_range uses pad_names signals)
 
+-- the same numbers and nets have the same range
 in_range_of : (blocks blocks' pads pads' : ℕ) (nets nets' : List RawNet) → blocks' ≡ blocks → pads' ≡ pads → nets' ≡ nets
     → All (λ n. All (IsPinInRange blocks pads) n.pins) nets → All (λ n. All (IsPinInRange blocks' pads') n.pins) nets'
 in_range_of blocks blocks' pads pads' nets nets' a b c h = rw (a, b, c) h
 
+-- the pins of a text are of its blocks and pads
 pub parts_in_range : (scale : ℕ) (text : List ℕ) (out : Parts) → StandsFor scale text out → HasPinsInRange out
 parts_in_range scale text out s =
-    let uses : List (List (List ℕ)) = map (λ i. i.signals) s.said.instances in
-    let blocks : length out.blocks ≡ length uses = AllZip-long (IsBlockOf s.modules s.parent) s.said.instances out.blocks s.blocks ∙ sym (length-map s.said.instances (λ (i : Instance). i.signals)) in
-    let pads : length out.pads ≡ length s.said.pad_names = ap length s.pads ∙ sym (pads_named scale (statements_of text) s.said s.each) in
-    in_range_of (length uses) (length out.blocks) (length s.said.pad_names) (length out.pads) (nets_of uses s.said.pad_names) out.nets blocks pads s.nets
-    (nets_in_range uses s.said.pad_names (signals_of uses))
+    let uses : List (List (List ℕ)) = map (λ i. i.signals) (instances_of s.cut) in
+    let pad_names : List (List ℕ) = map (λ p. p.name) (pads_of scale s.cut) in
+    let blocks : length out.blocks ≡ length uses = AllZip-long (IsBlockOf scale (modules s.cut) s.parent) (instances_of s.cut) out.blocks s.blocks ∙ sym (length-map (instances_of s.cut) (λ (i : Instance). i.signals)) in
+    let pads : length out.pads ≡ length pad_names = ap length s.pads ∙ sym (length-map (pads_of scale s.cut) (λ (p : RawPad). p.name)) in
+    in_range_of (length uses) (length out.blocks) (length pad_names) (length out.pads) (nets_of uses pad_names) out.nets blocks pads s.nets
+    (nets_in_range uses pad_names (signals_of uses))

@@ -1,164 +1,218 @@
--- A text stands for parts exactly where reading gives them.
-use Rattle.std.proofs.Common.{◌≡◌, ◌≢◌, ℕ, ◌<◌, Bool, true, false, List, [], ◌∷◌, ◌++◌, Option, Some, None, Result, Ok, Err, refl, sym, ap, subst, ◌∙◌, arith, append_assoc}
-use Rattle.std.specs.Prelude.{map, ◌==◌}
+-- A text stands for parts, or has a fault, exactly where reading gives these.
+use Rattle.std.proofs.Common.{◌≡◌, ◌≢◌, ◌⊎◌, inl, inr, ℕ, ◌<◌, Bool, true, false, List, [], ◌∷◌, ◌++◌, map, Option, Some, None, Result, Ok, Err, refl, sym, ap, subst, ◌∙◌, arith, append_assoc, append-nil}
+use Rattle.std.specs.Prelude.{◌==◌, ◌&&◌, not, is_some, fold, slice_get}
 use Rattle.std.specs.List.{AllZip}
+use Rattle.std.specs.Option.{option_map}
 use Rattle.std.proofs.lemmas.Bool.Decides.{nat_tests}
-use Rattle.std.proofs.lemmas.List.{append-nil}
+use Rattle.std.proofs.lemmas.List.Sums.{fold-append}
+use Rattle.std.proofs.lemmas.Option.{slice_get-map}
 use Rattle.sf_model.specs.declared.raw.RawBlock.{RawBlock}
 use Rattle.sf_model.specs.declared.raw.Kind.TheVariants as kinds
 use Rattle.sf_model.specs.declared.raw.Parts.{Parts}
+use Rattle.sf_names.specs.Names.{index_of}
 use Rattle.sf_yal.specs.declared.fault.YalFault.{YalFault}
 use Rattle.sf_yal.specs.declared.fault.YalFault.TheVariants as faults
-use Rattle.sf_yal.specs.declared.found.Place.{Place}
-use Rattle.sf_yal.specs.declared.found.Place.TheVariants as places
 use Rattle.sf_yal.specs.declared.vertices.Size.{Size}
-use Rattle.sf_yal.specs.Statements.{statements_of, is_ended, last_line}
-use Rattle.sf_names.specs.Names.{index_of, Once}
+use Rattle.sf_yal.specs.Box.{◌>>=◌}
 use Rattle.sf_yal.specs.Instances.{Instance}
-use Rattle.sf_yal.specs.Reading.{Reading, start, after_statements}
-use Rattle.sf_yal.specs.Parts.{size_at, boxed, block_by, block_of, blocks_from, parts_with, parts_by, is_outside, parts_read, yal_read}
-use Rattle.sf_yal.specs.Standing.{SayAll, IsBlockOf, Module, StandsFor}
-use Rattle.sf_yal.proofs.Modules.{tidy_from_start, even_outside, zipped, zip_names, zip_sizes, at_name, by_name}
-use Rattle.sf_yal.proofs.StandingLaws.{bind_ok, all_from, from_all}
+use Rattle.sf_yal.specs.Statements.{Statement, statements_of, is_ended, last_line}
+use Rattle.sf_yal.specs.Modules.{Worded, worded_in, worded, Module, Rest, Nothing, InModule, InList, Cut, AreCut, name_of, box_of, closed, modules, parent_place, pads_of, instances_of}
+use Rattle.sf_yal.specs.Faults.{fault_at, box_if, box_at, IsBlockOf, SizeFault, PlaceFault, InstanceFault, FirstInstanceFault}
+use Rattle.sf_yal.specs.Standing.{AreSound, FirstFault, IsCut, IsEnded, StandsFor, PartsFault, EndFault, HasFault}
+use Rattle.sf_yal.specs.Reading.{Reading, start, after_words, after_statement, after_statements}
+use Rattle.sf_yal.specs.Parts.{size_or_none, size_at, boxed, block_by, block_of, blocks_from, parts_with, parts_by, parts_read, yal_read}
+use Rattle.sf_yal.proofs.Cuts.{step, nothing_cut, cut_of, are_cut, is_the_cut}
+use Rattle.sf_yal.proofs.Views.{view, answer, open_view, says}
+use Rattle.sf_yal.proofs.Results.{done, ok_is, failed, err_is, err_not_ok, ok_not_err, bind_ok, bind_err}
+use Rattle.sf_yal.proofs.Sound.{after_all, words_alone, Sound, Fails, sound_read, read_sound, read_fails, are_sound, sound_behind, first_fault, first_fault_read}
+use Rattle.sf_yal.proofs.InstanceBlocks.{blocks_all, all_blocks, fault_blocks, blocks_fault}
 
-err_not_ok : {A : Type 0} (f : YalFault) (x : A) → Err f ≡ Ok x → ⊥
-err_not_ok f x e = absurd cc
+-- ---- the end of a text
 
-abbrev done : {A : Type 0} → A → Result A YalFault
-done x = Ok x
+module _ (scale : ℕ) (text : List ℕ) (cut : Cut) where
+  -- what is kept of the text
+  abbrev kept : Reading
+  kept = view scale cut
 
-ok_is : {A : Type 0} (x y : A) → done x ≡ done y → y ≡ x
-ok_is x y e = cc
+  -- the boxes of all modules, where none is open
+  all_boxed : cut.rest ≡ Nothing → kept.sizes ≡ map (box_of scale) (modules cut)
+  all_boxed e = rw e (ap (map (box_of scale)) (sym (append-nil (closed cut))))
 
--- ---- blocks
+  module _ (is_cut : IsCut scale text cut) (ended : IsEnded text cut) where
+    -- the blocks by all modules
+    abbrev read_blocks : ℕ → Result (List RawBlock) YalFault
+    read_blocks parent = blocks_from (map name_of (modules cut)) (map (box_of scale) (modules cut)) parent [] (instances_of cut)
 
-some_side : (n : ℕ) → (n == 0) ≡ false → 0 < n
-some_side n e = grind (arith, nat_tests)
+    -- they are the blocks by the closed ones
+    same_blocks : (parent : ℕ) → blocks_from kept.names kept.sizes parent [] kept.instances ≡ read_blocks parent
+    same_blocks parent = ap (λ (sizes : List (Option Size)). blocks_from kept.names sizes parent [] kept.instances) (all_boxed ended.1)
 
-no_side : (n : ℕ) → 0 < n → (n == 0) ≡ false
-no_side n lt = grind (arith, nat_tests)
+    -- the parts that are read are those of the text
+    made : (o : Option ℕ) (out : Parts) → parent_place (modules cut) ≡ o → parts_by kept o ≡ Ok out → StandsFor scale text out
+    made None out one read = absurd (err_not_ok faults.NoParent out read)
+    made (Some parent) out one read =
+        let k = bind_ok (blocks_from kept.names kept.sizes parent [] kept.instances) (λ blocks. Ok (parts_with kept blocks)) out read in
+        let all = blocks_all scale (modules cut) parent [] (instances_of cut) k.0 (sym (same_blocks parent) ∙ k.1) in
+        let is = ok_is (parts_with kept k.0) out k.2 in
+        record {
+          cut = cut;
+          is_cut = is_cut;
+          ended = ended;
+          parent = parent;
+          parent_is = one;
+          blocks = subst (λ (blocks : List RawBlock). AllZip (IsBlockOf scale (modules cut) parent) (instances_of cut) blocks) (sym (ap (λ (p : Parts). p.blocks) is ∙ all.1)) all.2;
+          nets = ap (λ (p : Parts). p.nets) is;
+          pads = ap (λ (p : Parts). p.pads) is;
+          strangers = ap (λ (p : Parts). p.strangers) is;
+          pads_in = ap (λ (p : Parts). p.pads_in) is;
+        }
 
-other_place : (k n : ℕ) → (k == n) ≡ false → k ≢ n
-other_place k n e = grind (arith, nat_tests)
+    -- the fault of the blocks, since the parts have none
+    parts_fault_by : (parent : ℕ) (f : YalFault) → (blocks_from kept.names kept.sizes parent [] kept.instances ≡ Err f)
+        ⊎ ((blocks : List RawBlock) × (blocks_from kept.names kept.sizes parent [] kept.instances ≡ Ok blocks) × (done (parts_with kept blocks) ≡ Err f)) → FirstInstanceFault scale (modules cut) parent (instances_of cut) f
+    parts_fault_by parent f (inl e) = fault_blocks scale (modules cut) parent [] (instances_of cut) f (sym (same_blocks parent) ∙ e)
+    parts_fault_by parent f (inr e) = absurd (ok_not_err (parts_with kept e.0) f e.2)
 
-not_place : (k n : ℕ) → k ≢ n → (k == n) ≡ false
-not_place k n h = grind (arith, nat_tests)
+    -- the fault that is read of the parts is the first
+    parts_fault : (o : Option ℕ) (f : YalFault) → parts_by kept o ≡ Err f → PartsFault scale cut o f
+    parts_fault None f read = err_is {A = Parts} faults.NoParent f read
+    parts_fault (Some parent) f read = parts_fault_by parent f (bind_err (blocks_from kept.names kept.sizes parent [] kept.instances) (λ blocks. Ok (parts_with kept blocks)) f read)
 
-module _ (r : Reading) (parent : ℕ) (i : Instance) where
-  abbrev modules : List Module
-  modules = zipped r.names r.sizes
+    -- the first fault of the parts is read
+    fault_parts : (o : Option ℕ) (f : YalFault) → PartsFault scale cut o f → parts_by kept o ≡ Err f
+    fault_parts None f is = ap failed (sym is)
+    fault_parts (Some parent) f is =
+        let read = ap (blocks_from (map name_of (modules cut)) (map (box_of scale) (modules cut)) parent []) is.instances_are ∙ blocks_fault scale (modules cut) parent [] is.before is.i is.after is.blocks f is.sound is.faulty in
+        rw (same_blocks parent ∙ read) refl
 
-  sized_by : (k : ℕ) (size : Size) (b : RawBlock) (w h : Bool) → index_of i.module_name r.names ≡ Some k → k ≢ parent → size_at r.sizes k ≡ Some size → (size.w == 0) ≡ w → (size.h == 0) ≡ h
-      → boxed i (Some size) ≡ Ok b → IsBlockOf modules parent i b
-  sized_by k size b true h known child at ew eh read = absurd (err_not_ok (faults.ZeroSide i.line) b (rw ew at read))
-  sized_by k size b false true known child at ew eh read = absurd (err_not_ok (faults.ZeroSide i.line) b (rw (ew, eh) at read))
-  sized_by k size b false false known child at ew eh read = record {
-    place = k;
-    size = size;
-    known = at_name i.module_name r.names r.sizes k size known at;
-    child = child;
-    wide = some_side size.w ew;
-    high = some_side size.h eh;
-    block_is = ok_is (record { name = i.name; kind = kinds.Hard size.w size.h }) b (rw (ew, eh) at read);
-  }
+  -- something is open at the end, or nothing is
+  open_rest : (rest : Rest) → not (is_some (open_view scale rest)) ≡ false → rest ≢ Nothing
+  open_rest Nothing e = absurd cc
+  open_rest (InModule m) e = λ same. absurd cc
+  open_rest (InList m l) e = λ same. absurd cc
 
-  sized : (k : ℕ) (o : Option Size) (b : RawBlock) → index_of i.module_name r.names ≡ Some k → k ≢ parent → size_at r.sizes k ≡ o → boxed i o ≡ Ok b → IsBlockOf modules parent i b
-  sized k None b known child at read = absurd (err_not_ok (faults.BadStatement i.line) b read)
-  sized k (Some size) b known child at read = sized_by k size b (size.w == 0) (size.h == 0) known child at refl refl read
+  -- and the other way round
+  rest_open : (rest : Rest) → rest ≢ Nothing → not (is_some (open_view scale rest)) ≡ false
+  rest_open Nothing e = absurd (e refl)
+  rest_open (InModule m) e = refl
+  rest_open (InList m l) e = refl
 
-  placed : (k : ℕ) (b : RawBlock) (same : Bool) → index_of i.module_name r.names ≡ Some k → (k == parent) ≡ same → block_by r.sizes parent i (Some k) ≡ Ok b → IsBlockOf modules parent i b
-  placed k b true known e read = absurd (err_not_ok (faults.UnknownModule i.line i.module_name) b (rw e at read))
-  placed k b false known e read = sized k (size_at r.sizes k) b known (other_place k parent e) refl (rw e at read)
+  -- nothing is open
+  no_rest : (rest : Rest) → not (is_some (open_view scale rest)) ≡ true → rest ≡ Nothing
+  no_rest Nothing e = refl
+  no_rest (InModule m) e = absurd cc
+  no_rest (InList m l) e = absurd cc
 
-  block_by_from : (o : Option ℕ) (b : RawBlock) → index_of i.module_name r.names ≡ o → block_by r.sizes parent i o ≡ Ok b → IsBlockOf modules parent i b
-  block_by_from None b known read = absurd (err_not_ok (faults.UnknownModule i.line i.module_name) b read)
-  block_by_from (Some k) b known read = placed k b (k == parent) known refl read
+  -- what is read at the end
+  abbrev read_end : Result Parts YalFault
+  read_end = parts_read (last_line text) (is_ended text) kept
 
-  block_from : (b : RawBlock) → block_of r.names r.sizes parent i ≡ Ok b → IsBlockOf modules parent i b
-  unfolding block_of
-  block_from b read = block_by_from (index_of i.module_name r.names) b refl read
+  module _ (is_cut : IsCut scale text cut) where
+    -- what is read at the end stands for the text
+    end_stands : (out : Parts) (a b : Bool) → is_ended text ≡ a → not (is_some (open_view scale cut.rest)) ≡ b → read_end ≡ Ok out → StandsFor scale text out
+    unfolding parts_read
+    end_stands out true true ea eb read = made is_cut (ea, no_rest cut.rest eb) (parent_place (modules cut)) out refl (rw (ea, eb) at read)
+    end_stands out true false ea eb read = absurd (err_not_ok (faults.Truncated (last_line text)) out (rw (ea, eb) at read))
+    end_stands out false b ea eb read = absurd (err_not_ok (faults.Truncated (last_line text)) out (rw ea at read))
 
-  from_block : (ms : List Module) → r.names ≡ map (λ m. m.name) ms → r.sizes ≡ map (λ m. m.size) ms → Once (map (λ m. m.name) ms) → (b : RawBlock) → IsBlockOf ms parent i b → block_of r.names r.sizes parent i ≡ Ok b
-  unfolding block_of
-  from_block ms names sizes once b is =
-      let known = by_name (record { name = i.module_name; size = Some is.size }) ms is.place once is.known in
-      let found : index_of i.module_name r.names ≡ Some is.place = ap (index_of i.module_name) names ∙ known.0 in
-      let box : size_at r.sizes is.place ≡ Some is.size = ap (λ (all : List (Option Size)). size_at all is.place) sizes ∙ known.1 in
-      rw (found, not_place is.place parent is.child, box, no_side is.size.w is.wide, no_side is.size.h is.high) (ap done (sym is.block_is))
+    -- the fault that is read at the end is its fault
+    end_fault : (f : YalFault) (a b : Bool) → is_ended text ≡ a → not (is_some (open_view scale cut.rest)) ≡ b → read_end ≡ Err f → EndFault scale text cut f
+    unfolding parts_read
+    end_fault f true true ea eb read = let ended : IsEnded text cut = (ea, no_rest cut.rest eb) in inr (ended, parts_fault is_cut ended (parent_place (modules cut)) f (rw (ea, eb) at read))
+    end_fault f true false ea eb read = inl (inr (open_rest cut.rest eb), err_is {A = Parts} (faults.Truncated (last_line text)) f (rw (ea, eb) at read))
+    end_fault f false b ea eb read = inl (inl ea, err_is {A = Parts} (faults.Truncated (last_line text)) f (rw ea at read))
 
-blocks_all : (r : Reading) (parent : ℕ) (earlier : List RawBlock) (all : List Instance) (blocks : List RawBlock) → blocks_from r.names r.sizes parent earlier all ≡ Ok blocks
-    → (new : List RawBlock) × (blocks ≡ earlier ++ new) × AllZip (IsBlockOf (zipped r.names r.sizes) parent) all new
-unfolding blocks_from
-blocks_all r parent earlier [] blocks h = ([], ok_is earlier blocks h ∙ sym (append-nil earlier), tt)
-blocks_all r parent earlier (i ∷ all) blocks h =
-    let k = bind_ok (block_of r.names r.sizes parent i) (λ b. blocks_from r.names r.sizes parent (earlier ++ b ∷ []) all) blocks h in
-    let more = blocks_all r parent (earlier ++ k.0 ∷ []) all blocks k.2 in
-    (k.0 ∷ more.0, more.1 ∙ append_assoc earlier (k.0 ∷ []) more.0, (block_from r parent i k.0 k.1, more.2))
+    -- where something is open, the text is truncated
+    unended : (a : Bool) → is_ended text ≡ a → cut.rest ≢ Nothing → read_end ≡ Err (faults.Truncated (last_line text))
+    unfolding parts_read
+    unended true ea some = rw (ea, rest_open cut.rest some) refl
+    unended false ea some = rw ea refl
 
-all_blocks : (r : Reading) (parent : ℕ) (ms : List Module) → r.names ≡ map (λ m. m.name) ms → r.sizes ≡ map (λ m. m.size) ms → Once (map (λ m. m.name) ms) → (earlier : List RawBlock) (all : List Instance) (new : List RawBlock)
-    → AllZip (IsBlockOf ms parent) all new → blocks_from r.names r.sizes parent earlier all ≡ Ok (earlier ++ new)
-unfolding blocks_from
-all_blocks r parent ms names sizes once earlier [] [] each = ap done (sym (append-nil earlier))
-all_blocks r parent ms names sizes once earlier [] (b ∷ new) each = absurd each
-all_blocks r parent ms names sizes once earlier (i ∷ all) [] each = absurd each
-all_blocks r parent ms names sizes once earlier (i ∷ all) (b ∷ new) each =
-    rw (from_block r parent i ms names sizes once b each.0) (all_blocks r parent ms names sizes once (earlier ++ b ∷ []) all new each.1 ∙ ap done (append_assoc earlier (b ∷ []) new))
+    -- the fault at the end is read
+    fault_end : (f : YalFault) → EndFault scale text cut f → read_end ≡ Err f
+    unfolding parts_read
+    fault_end f (inl (inl e, is)) = rw e (ap failed (sym is))
+    fault_end f (inl (inr e, is)) = unended (is_ended text) refl e ∙ ap failed (sym is)
+    fault_end f (inr is) = let shut = ap (λ (rest : Rest). not (is_some (open_view scale rest))) is.0.1 in rw (is.0.0, shut) (fault_parts is_cut is.0 (parent_place (modules cut)) f is.1)
 
--- ---- from reading to the relation
-
-outside_is : (place : Place) → is_outside place ≡ true → place ≡ places.Outside
-outside_is places.Outside e = refl
-outside_is places.Module e = absurd cc
-outside_is places.Terminals e = absurd cc
-outside_is places.Instances e = absurd cc
+-- ---- the whole text
 
 module _ (scale : ℕ) (text : List ℕ) where
-  made : (r : Reading) (o : Option ℕ) (out : Parts) → SayAll scale start (statements_of text) r → is_ended text ≡ true → is_outside r.place ≡ true → r.parent ≡ o → parts_by r o ≡ Ok out → StandsFor scale text out
-  made r None out each ended closed one read = absurd (err_not_ok faults.NoParent out read)
-  made r (Some parent) out each ended closed one read =
-      let k = bind_ok (blocks_from r.names r.sizes parent [] r.instances) (λ blocks. Ok (parts_with r blocks)) out read in
-      let all = blocks_all r parent [] r.instances k.0 k.1 in
-      let is = ok_is (parts_with r k.0) out k.2 in
-      let tidy = tidy_from_start scale (statements_of text) r each in
-      let even = even_outside r (outside_is r.place closed) tidy in
-      record {
-        said = r;
-        each = each;
-        ended = ended;
-        closed = outside_is r.place closed;
-        modules = zipped r.names r.sizes;
-        names = zip_names r.names r.sizes even;
-        sizes = zip_sizes r.names r.sizes even;
-        names_once = subst (λ (xs : List (List ℕ)). Once xs) (zip_names r.names r.sizes even) tidy.once;
-        parent = parent;
-        one_parent = one;
-        blocks = subst (λ (blocks : List RawBlock). AllZip (IsBlockOf (zipped r.names r.sizes) parent) r.instances blocks) (sym (ap (λ (p : Parts). p.blocks) is ∙ all.1)) all.2;
-        nets = ap (λ (p : Parts). p.nets) is;
-        pads = ap (λ (p : Parts). p.pads) is;
-        strangers = ap (λ (p : Parts). p.strangers) is;
-        pads_in = ap (λ (p : Parts). p.pads_in) is;
-      }
+  -- the statements of the text
+  abbrev all : List Worded
+  all = worded (statements_of text)
 
-  ended_by : (r : Reading) (out : Parts) (a b : Bool) → SayAll scale start (statements_of text) r → is_ended text ≡ a → is_outside r.place ≡ b → parts_read (last_line text) (is_ended text) r ≡ Ok out → StandsFor scale text out
-  unfolding parts_read
-  ended_by r out true true each ea eb read = made r r.parent out each ea eb refl (rw (ea, eb) at read)
-  ended_by r out true false each ea eb read = absurd (err_not_ok (faults.Truncated (last_line text)) out (rw (ea, eb) at read))
-  ended_by r out false b each ea eb read = absurd (err_not_ok (faults.Truncated (last_line text)) out (rw ea at read))
+  -- the cut of these
+  abbrev the_cut : Cut
+  the_cut = cut_of all
 
+  -- statements that are read have no fault
+  sound_text : (r : Reading) → after_statements scale start (statements_of text) ≡ Ok r → Sound scale nothing_cut all
+  sound_text r read = read_sound scale nothing_cut all r (sym (words_alone scale start (statements_of text)) ∙ read)
+
+  -- statements without a fault are read
+  text_read : Sound scale nothing_cut all → after_statements scale start (statements_of text) ≡ Ok (view scale the_cut)
+  text_read sound = words_alone scale start (statements_of text) ∙ sound_read scale nothing_cut all sound
+
+  -- they are cut so
+  is_the_text : Sound scale nothing_cut all → IsCut scale text the_cut
+  is_the_text sound = record { sound = are_sound scale all sound; are_cut = are_cut all }
+
+  -- then the end is read
+  read_on : Sound scale nothing_cut all → yal_read scale text ≡ parts_read (last_line text) (is_ended text) (view scale the_cut)
+  unfolding yal_read
+  read_on sound = ap (λ (read : Result Reading YalFault). read >>= parts_read (last_line text) (is_ended text)) (text_read sound)
+
+  -- any cut of a text is this one
+  read_cut : (cut : Cut) → IsCut scale text cut → yal_read scale text ≡ parts_read (last_line text) (is_ended text) (view scale cut)
+  read_cut cut is = read_on (sound_behind scale [] all is.sound) ∙ ap (λ (c : Cut). parts_read (last_line text) (is_ended text) (view scale c)) (is_the_cut all cut is.are_cut)
+
+  -- what is read is what the text stands for
   pub stands_from_read : (out : Parts) → yal_read scale text ≡ Ok out → StandsFor scale text out
   unfolding yal_read
   stands_from_read out h =
       let k = bind_ok (after_statements scale start (statements_of text)) (parts_read (last_line text) (is_ended text)) out h in
-      ended_by k.0 out (is_ended text) (is_outside k.0.place) (all_from scale start (statements_of text) k.0 k.1) refl refl k.2
+      let sound = sound_text k.0 k.1 in
+      end_stands scale text the_cut (is_the_text sound) out (is_ended text) (not (is_some (open_view scale the_cut.rest))) refl refl (sym (read_on sound) ∙ h)
 
-  -- ---- from the relation to reading
-
+  -- what the text stands for is read
   pub read_from_stands : (out : Parts) → StandsFor scale text out → yal_read scale text ≡ Ok out
-  unfolding yal_read parts_read
+  unfolding parts_read
   read_from_stands out s =
-      let read = from_all scale start (statements_of text) s.said s.each in
-      let blocks = all_blocks s.said s.parent s.modules s.names s.sizes s.names_once [] s.said.instances out.blocks s.blocks in
-      rw (read, s.ended, s.closed, s.one_parent, blocks) (λ i. Ok (record { blocks = out.blocks; pads = sym s.pads i; nets = sym s.nets i; strangers = sym s.strangers i; pads_in = sym s.pads_in i }))
+      let kept = view scale s.cut in
+      let shut = ap (λ (rest : Rest). not (is_some (open_view scale rest))) s.ended.1 in
+      let blocks = same_blocks scale text s.cut s.is_cut s.ended s.parent ∙ all_blocks scale (modules s.cut) s.parent [] (instances_of s.cut) out.blocks s.blocks in
+      let parts : parts_by kept (Some s.parent) ≡ Ok out = rw blocks (λ i. Ok (record { blocks = out.blocks; pads = sym s.pads i; nets = sym s.nets i; strangers = sym s.strangers i; pads_in = sym s.pads_in i })) in
+      read_cut s.cut s.is_cut ∙ rw (s.ended.0, shut, s.parent_is) parts
 
+  -- the fault that is read, by where it is found
+  fault_by : (f : YalFault) → yal_read scale text ≡ Err f → (after_statements scale start (statements_of text) ≡ Err f)
+      ⊎ ((r : Reading) × (after_statements scale start (statements_of text) ≡ Ok r) × (parts_read (last_line text) (is_ended text) r ≡ Err f)) → HasFault scale text f
+  fault_by f h (inl e) = inl (first_fault scale all f (read_fails scale nothing_cut all f (sym (words_alone scale start (statements_of text)) ∙ e)))
+  fault_by f h (inr e) =
+      let sound = sound_text e.0 e.1 in
+      inr (the_cut, is_the_text sound, end_fault scale text the_cut (is_the_text sound) f (is_ended text) (not (is_some (open_view scale the_cut.rest))) refl refl (sym (read_on sound) ∙ h))
+
+  -- the fault that is read is the first of the text
+  pub fault_from_read : (f : YalFault) → yal_read scale text ≡ Err f → HasFault scale text f
+  unfolding yal_read
+  fault_from_read f h = fault_by f h (bind_err (after_statements scale start (statements_of text)) (parts_read (last_line text) (is_ended text)) f h)
+
+  -- the first fault of the text is read
+  pub read_from_fault : (f : YalFault) → HasFault scale text f → yal_read scale text ≡ Err f
+  unfolding yal_read
+  read_from_fault f (inl first) =
+      ap (λ (read : Result Reading YalFault). read >>= parts_read (last_line text) (is_ended text)) (words_alone scale start (statements_of text) ∙ first_fault_read scale all f first)
+  read_from_fault f (inr end) = read_cut end.0 end.1 ∙ fault_end scale text end.0 end.1 f end.2
+
+  -- a text stands for at most one output
   pub stands_once_only : (a b : Parts) → StandsFor scale text a → StandsFor scale text b → a ≡ b
   stands_once_only a b p q = ok_is b a (sym (read_from_stands b q) ∙ read_from_stands a p)
+
+  -- and has at most one first fault
+  pub one_fault : (f g : YalFault) → HasFault scale text f → HasFault scale text g → f ≡ g
+  one_fault f g p q = err_is {A = Parts} g f (sym (read_from_fault g q) ∙ read_from_fault f p)
+
+  -- and not both
+  pub not_both : (out : Parts) (f : YalFault) → StandsFor scale text out → HasFault scale text f → ⊥
+  not_both out f p q = ok_not_err out f (sym (read_from_stands out p) ∙ read_from_fault f q)

@@ -14,13 +14,16 @@ record Filled (xs : List (List ℕ)) : Type 0 where
   pub more : List (List ℕ)
   pub is : xs ≡ first ∷ more
 
+-- a byte more leaves a piece
 onto_filled : (b : ℕ) (xs : List (List ℕ)) → Filled xs → Filled (onto_first b xs)
 onto_filled b xs f = record { first = b ∷ f.first; more = f.more; is = rw f.is refl }
 
+-- so does a byte before the others
 step_filled : (b : ℕ) (bytes : List ℕ) (t : Bool) → is_semicolon b ≡ t → Filled (pieces bytes) → Filled (pieces (b ∷ bytes))
 step_filled b bytes true e f = record { first = []; more = pieces bytes; is = rw e refl }
 step_filled b bytes false e f = let g = onto_filled b (pieces bytes) f in record { first = g.first; more = g.more; is = rw e g.is }
 
+-- bytes have a piece
 filled : (bytes : List ℕ) → Filled (pieces bytes)
 filled [] = record { first = []; more = []; is = refl }
 filled (b ∷ bytes) = step_filled b bytes (is_semicolon b) refl (filled bytes)
@@ -29,9 +32,11 @@ filled (b ∷ bytes) = step_filled b bytes (is_semicolon b) refl (filled bytes)
 statements_by : (n : ℕ) (piece : List ℕ) (more : List (List ℕ)) → Filled more → statements n (piece ∷ more) ≡ statement_at n piece ∷ statements (n + feeds piece) more
 statements_by n piece more f = subst (λ (xs : List (List ℕ)). statements n (piece ∷ xs) ≡ statement_at n piece ∷ statements (n + feeds piece) xs) (sym f.is) refl
 
+-- the last piece is that of the others
 last_by : (piece : List ℕ) (more : List (List ℕ)) → Filled more → last_piece (piece ∷ more) ≡ last_piece more
 last_by piece more f = subst (λ (xs : List (List ℕ)). last_piece (piece ∷ xs) ≡ last_piece xs) (sym f.is) refl
 
+-- behind a piece the last one stays the last
 pub last_goes_on : (rest piece after last : List ℕ) → pieces rest ≡ piece ∷ pieces after → last_piece (pieces rest) ≡ last → last_piece (pieces after) ≡ last
 last_goes_on rest piece after last cut so_far = sym (last_by piece (pieces after) (filled after)) ∙ ap last_piece (sym cut) ∙ so_far
 
@@ -42,6 +47,7 @@ module _ (scale n : ℕ) (r : Reading) (rest piece after : List ℕ) (total : Re
   unfolding after_statements
   split cut = rw (cut, statements_by n piece (pieces after) (filled after)) refl
 
+  -- a statement that is read leaves what is read in all
   pub goes_on : (line : ℕ) (new : Reading) → pieces rest ≡ piece ∷ pieces after → line ≡ (statement_at n piece).line → after_words scale r line (words is_blank_byte piece) ≡ Ok new
       → after_statements scale r (statements n (pieces rest)) ≡ total → after_statements scale new (statements (n + feeds piece) (pieces after)) ≡ total
   goes_on line new cut at said so_far =
@@ -49,6 +55,7 @@ module _ (scale n : ℕ) (r : Reading) (rest piece after : List ℕ) (total : Re
       let next = λ (x : Reading). after_statements scale x (statements (n + feeds piece) (pieces after)) in
       sym (split cut ∙ ap (λ (read : Result Reading YalFault). read >>= next) here) ∙ so_far
 
+  -- its fault is the fault of all
   pub fails : (line : ℕ) (fault : YalFault) → pieces rest ≡ piece ∷ pieces after → line ≡ (statement_at n piece).line → Fails fault (after_words scale r line (words is_blank_byte piece))
       → after_statements scale r (statements n (pieces rest)) ≡ total → Fails fault total
   fails line fault cut at failed so_far =
@@ -56,9 +63,11 @@ module _ (scale n : ℕ) (r : Reading) (rest piece after : List ℕ) (total : Re
       let here : Fails fault (after_statement scale r (statement_at n piece)) = subst (λ (k : ℕ). Fails fault (after_words scale r k (words is_blank_byte piece))) at failed in
       subst (λ (read : Result Reading YalFault). Fails fault read) (sym (split cut) ∙ so_far) (Fails-then next fault (after_statement scale r (statement_at n piece)) here)
 
+-- where no statement is left, all is read
 pub is_done : (scale n : ℕ) (r : Reading) (rest : List ℕ) (total : Result Reading YalFault) → pieces rest ≡ rest ∷ [] → after_statements scale r (statements n (pieces rest)) ≡ total → total ≡ Ok r
 unfolding after_statements
 is_done scale n r rest total whole so_far = let here : after_statements scale r (statements n (pieces rest)) ≡ Ok r = rw whole refl in sym so_far ∙ here
 
+-- and the last piece is left
 pub last_done : (rest last : List ℕ) → pieces rest ≡ rest ∷ [] → last_piece (pieces rest) ≡ last → rest ≡ last
 last_done rest last whole so_far = let here : last_piece (pieces rest) ≡ rest = rw whole refl in sym here ∙ so_far

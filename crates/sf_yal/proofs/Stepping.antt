@@ -28,6 +28,7 @@ Fails-then f (faults.TwoParents n) read h = rw h refl
 Fails-then f (faults.UnknownModule n name) read h = rw h refl
 
 module _ (names : List (List ℕ)) (sizes : List (Option Size)) (parent : ℕ) (xs : List code.Instance) (total : Result (List RawBlock) YalFault) where
+  -- a block that is read leaves what is read in all
   pub goes_on : (earlier after : List RawBlock) (i : ℕ) (x : code.Instance) (b : RawBlock) → i < length xs → x ≡ get_or xs i x → block_of names sizes parent (instance_in x) ≡ Ok b → after ≡ earlier ++ b ∷ []
       → blocks_from names sizes parent earlier (instances_in (drop i xs)) ≡ total → blocks_from names sizes parent after (instances_in (drop (i + 1) xs)) ≡ total
   unfolding blocks_from
@@ -35,6 +36,7 @@ module _ (names : List (List ℕ)) (sizes : List (Option Size)) (parent : ℕ) (
       let here : blocks_from names sizes parent earlier (instances_in (drop i xs)) ≡ blocks_from names sizes parent (earlier ++ b ∷ []) (instances_in (drop (i + 1) xs)) = rw (cut xs i x lt is, read) refl in
       rw more (sym here ∙ so_far)
 
+  -- a fault is the fault of all
   pub fails : (earlier : List RawBlock) (i : ℕ) (x : code.Instance) (f : YalFault) → i < length xs → x ≡ get_or xs i x → Fails f (block_of names sizes parent (instance_in x))
       → blocks_from names sizes parent earlier (instances_in (drop i xs)) ≡ total → Fails f total
   unfolding blocks_from
@@ -43,6 +45,7 @@ module _ (names : List (List ℕ)) (sizes : List (Option Size)) (parent : ℕ) (
       let here : blocks_from names sizes parent earlier (instances_in (drop i xs)) ≡ (block_of names sizes parent (instance_in x) >>= λ b. blocks_from names sizes parent (earlier ++ b ∷ []) rest) = rw (cut xs i x lt is) refl in
       subst (λ (r : Result (List RawBlock) YalFault). Fails f r) (sym here ∙ so_far) (Fails-then (λ b. blocks_from names sizes parent (earlier ++ b ∷ []) rest) f (block_of names sizes parent (instance_in x)) failed)
 
+  -- where no instance is left, all blocks are read
   pub is_done : (earlier : List RawBlock) (i : ℕ) → length xs ≤ i → blocks_from names sizes parent earlier (instances_in (drop i xs)) ≡ total → total ≡ Ok earlier
   unfolding blocks_from
   is_done earlier i le so_far =

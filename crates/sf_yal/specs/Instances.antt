@@ -10,8 +10,10 @@ pub record Instance : Type 0 where
   pub module_name : List ℕ
   pub signals : List (List ℕ)
 
+-- the instance that the code keeps
 abbrev pub instance_in : code.Instance → Instance
 instance_in i = record { line = i.line; name = i.name; module_name = i.module_name; signals = words is_blank_byte i.signals.now }
 
+-- all that it keeps
 abbrev pub instances_in : List code.Instance → List Instance
 instances_in items = map instance_in items

@@ -6,7 +6,10 @@ pub mod Corners
 pub mod Seen
 pub mod Numbers
 pub mod Instances
+pub mod Modules
+pub mod Faults
+pub mod Nets
+pub mod Standing
 pub mod Reading
 pub mod Parts
 pub mod Using
-pub mod Standing

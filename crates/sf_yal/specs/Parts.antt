@@ -1,20 +1,16 @@
 -- What a text stands for, and its first fault if it stands for nothing.
-use Rattle.std.specs.Prelude.{ℕ, ◌+◌, Bool, true, false, ◌&&◌, ◌||◌, ◌==◌, List, [], ◌∷◌, ◌++◌, map, fold, Option, Some, None, Result, Ok, Err, if◌then◌else◌, slice_get}
+use Rattle.std.specs.Prelude.{ℕ, ◌+◌, Bool, true, ◌&&◌, ◌||◌, not, is_some, ◌==◌, List, [], ◌∷◌, ◌++◌, map, fold, Option, Some, None, Result, Ok, Err, if◌then◌else◌, slice_get}
 use Rattle.sf_model.specs.declared.raw.RawBlock.{RawBlock}
-use Rattle.sf_model.specs.declared.raw.RawNet.{RawNet}
-use Rattle.sf_model.specs.declared.raw.RawPin.{RawPin}
-use Rattle.sf_model.specs.declared.raw.RawPin.TheVariants as pins
 use Rattle.sf_model.specs.declared.raw.Kind.TheVariants as kinds
 use Rattle.sf_model.specs.declared.raw.Parts.{Parts}
 use Rattle.sf_yal.specs.declared.fault.YalFault.{YalFault}
 use Rattle.sf_yal.specs.declared.fault.YalFault.TheVariants as faults
-use Rattle.sf_yal.specs.declared.found.Place.{Place}
-use Rattle.sf_yal.specs.declared.found.Place.TheVariants as places
 use Rattle.sf_yal.specs.declared.vertices.Size.{Size}
 use Rattle.sf_yal.specs.Statements.{statements_of, is_ended, last_line}
 use Rattle.sf_yal.specs.Box.{◌>>=◌}
-use Rattle.sf_names.specs.Names.{index_of, has_name}
+use Rattle.sf_names.specs.Names.{index_of}
 use Rattle.sf_yal.specs.Instances.{Instance}
+use Rattle.sf_yal.specs.Nets.{nets_of}
 use Rattle.sf_yal.specs.Reading.{Reading, start, after_statements}
 
 -- ---- blocks
@@ -24,6 +20,7 @@ abbrev pub size_or_none : Option (Option Size) → Option Size
 size_or_none None = None
 size_or_none (Some size) = size
 
+-- the box of the module at a place, if it has one
 abbrev pub size_at : List (Option Size) → ℕ → Option Size
 size_at sizes k = size_or_none (slice_get sizes k)
 
@@ -37,6 +34,7 @@ boxed i (Some size) = if (size.w == 0) || (size.h == 0) then Err (faults.ZeroSid
 abbrev pub unknown : Instance → Result RawBlock YalFault
 unknown i = Err (faults.UnknownModule i.line i.module_name)
 
+-- the block of an instance whose module stands at this place
 abbrev pub block_by : List (Option Size) → ℕ → Instance → Option ℕ → Result RawBlock YalFault
 block_by sizes parent i None = unknown i
 block_by sizes parent i (Some k) = if k == parent then unknown i else boxed i (size_at sizes k)
@@ -52,50 +50,21 @@ blocks_from names sizes parent earlier (i ∷ more) = do
   b ← block_of names sizes parent i
   blocks_from names sizes parent (earlier ++ b ∷ []) more
 
--- ---- nets
-
--- the signals in the order of their first use, each once
-abbrev pub with_signal : List (List ℕ) → List ℕ → List (List ℕ)
-with_signal seen signal = if has_name signal seen then seen else seen ++ signal ∷ []
-
-abbrev pub with_signals : List (List ℕ) → List (List ℕ) → List (List ℕ)
-with_signals seen signals = fold with_signal seen signals
-
-abbrev pub signals_of : List (List (List ℕ)) → List (List ℕ)
-signals_of uses = fold with_signals [] uses
-
--- the instances from number n on that name the signal
-abbrev pub block_pins : List ℕ → ℕ → List (List (List ℕ)) → List RawPin
-block_pins signal n [] = []
-block_pins signal n (signals ∷ more) = if has_name signal signals then pins.Block n ∷ block_pins signal (n + 1) more else block_pins signal (n + 1) more
-
--- the pad of the signal's name
-abbrev pub pad_pins : Option ℕ → List RawPin
-pad_pins None = []
-pad_pins (Some j) = pins.Pad j ∷ []
-
-abbrev pub net_of : List (List (List ℕ)) → List (List ℕ) → List ℕ → RawNet
-net_of uses pad_names signal = record { pins = block_pins signal 0 uses ++ pad_pins (index_of signal pad_names) }
-
-abbrev pub nets_of : List (List (List ℕ)) → List (List ℕ) → List RawNet
-nets_of uses pad_names = map (net_of uses pad_names) (signals_of uses)
-
 -- ---- the whole text
 
+-- the parts with these blocks
 abbrev pub parts_with : Reading → List RawBlock → Parts
 parts_with r blocks = record { blocks = blocks; pads = r.pads; nets = nets_of (map (λ i. i.signals) r.instances) r.pad_names; strangers = []; pads_in = true }
 
+-- the parts, where there is a parent
 abbrev pub parts_by : Reading → Option ℕ → Result Parts YalFault
 parts_by r None = Err faults.NoParent
 parts_by r (Some parent) = blocks_from r.names r.sizes parent [] r.instances >>= λ blocks. Ok (parts_with r blocks)
 
-abbrev pub is_outside : Place → Bool
-is_outside places.Outside = true
-is_outside _ = false
-
 -- at the end no comment, no statement, no list and no module is open
 unfoldable pub parts_read : ℕ → Bool → Reading → Result Parts YalFault
-parts_read last ended r = if ended && is_outside r.place then parts_by r r.parent else Err (faults.Truncated last)
+parts_read last ended r = if ended && not (is_some r.current) then parts_by r r.parent else Err (faults.Truncated last)
 
+-- what is read of a text, statement by statement
 unfoldable pub yal_read : ℕ → List ℕ → Result Parts YalFault
 yal_read scale text = after_statements scale start (statements_of text) >>= parts_read (last_line text) (is_ended text)

@@ -4,6 +4,7 @@ use Rattle.std.specs.List.{slice_split, count_by, prefix_len, suffix_len}
 use Rattle.sf_lex.specs.Text.{words, is_blank_byte, is_line_feed}
 use Rattle.sf_yal.specs.Comments.{hide, ends_inside}
 
+-- the byte ends a statement
 abbrev pub is_semicolon : ℕ → Bool
 is_semicolon b = b == 59
 
@@ -16,6 +17,7 @@ pub record Statement : Type 0 where
   pub line : ℕ
   pub words : List (List ℕ)
 
+-- how many lines end in the bytes
 abbrev pub feeds : List ℕ → ℕ
 feeds bytes = count_by is_line_feed bytes
 
@@ -29,15 +31,18 @@ statements n [] = []
 statements n (piece ∷ []) = []
 statements n (piece ∷ next ∷ more) = statement_at n piece ∷ statements (n + feeds piece) (next ∷ more)
 
+-- what stands behind the last semicolon
 abbrev pub last_piece : List (List ℕ) → List ℕ
 last_piece [] = []
 last_piece (piece ∷ []) = piece
 last_piece (piece ∷ next ∷ more) = last_piece (next ∷ more)
 
+-- there are no words
 abbrev pub is_none_left : List (List ℕ) → Bool
 is_none_left [] = true
 is_none_left (word ∷ more) = false
 
+-- the bytes have no word
 abbrev pub has_no_word : List ℕ → Bool
 has_no_word bytes = is_none_left (words is_blank_byte bytes)
 
@@ -53,9 +58,11 @@ is_ended text = not (ends_inside false text) && has_no_word (last_piece (pieces 
 abbrev pub without_end : List ℕ → List ℕ
 without_end bytes = take (length bytes - suffix_len is_blank_byte bytes) bytes
 
+-- the line in which these bytes end
 abbrev pub line_of_last : List ℕ → ℕ
 line_of_last [] = 0
 line_of_last (b ∷ bytes) = 1 + feeds (b ∷ bytes)
 
+-- that of a text, whose comments count as blanks
 abbrev pub last_line : List ℕ → ℕ
 last_line text = line_of_last (without_end (hide false text))

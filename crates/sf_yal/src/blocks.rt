@@ -14,6 +14,7 @@ use sf_model::{Kind, RawBlock};
 use sf_names::Names;
 use std::alloc::Global;
 
+/// The box of the module at a place, if it has one.
 fn size_of_module(sizes: &[Option<Size>], place: usize) -> Option<Size>
     ensures { result ≡ size_at sizes.now place }
 {
@@ -23,6 +24,7 @@ fn size_of_module(sizes: &[Option<Size>], place: usize) -> Option<Size>
     }
 }
 
+/// The fault of an instance whose module is none of the text, or the parent.
 fn unknown_module(alloc: Global, instance: &Instance) -> YalFault
     ensures { Fails result (unknown (instance_in instance.now)) }
 {
@@ -32,6 +34,7 @@ fn unknown_module(alloc: Global, instance: &Instance) -> YalFault
     }
 }
 
+/// The block of an instance whose module has this box.
 fn block_with(alloc: Global, instance: &Instance, size: Option<Size>) -> Result<RawBlock, YalFault>
     ensures { Gives result (boxed (instance_in instance.now) size) }
 {
@@ -50,6 +53,7 @@ fn block_with(alloc: Global, instance: &Instance, size: Option<Size>) -> Result<
     })
 }
 
+/// The block of an instance.
 #[tactic(auto, unfolding(crate::specs::Parts::block_of))]
 fn read_block(
     alloc: Global,
@@ -77,7 +81,8 @@ pub fn read_instances(
     sizes: &[Option<Size>],
     parent: usize,
 ) -> Result<Vec<RawBlock>, YalFault>
-    ensures { Gives (seen (λ blocks. blocks.items) result) (blocks_from names.now sizes.now parent [] (instances_in instances.now)) }
+    ensures { Gives (seen (λ blocks. blocks.items) result)
+        (blocks_from names.now sizes.now parent [] (instances_in instances.now)) }
 {
     let mut blocks = Vec::new(alloc);
     for instance in instances {

@@ -21,6 +21,7 @@ fn is_mark(text: &[u8], inside: bool) -> bool
     }
 }
 
+/// A byte of a comment is a blank, so that lines keep their numbers; others stay.
 fn shown_byte(byte: u8, inside: bool) -> u8
     ensures { result ≡ shown inside byte }
 {

@@ -8,6 +8,7 @@ ghost use Rattle.sf_yal.specs.Numbers.{has_form};
 use crate::fault::YalFault;
 use crate::instance::{Instance, Label};
 use crate::keyword::{Keyword, is_parent, read_keyword};
+use crate::open_module::{OpenModule, Section};
 use crate::piece::next_word;
 use crate::vertices::{Size, number_at, read_dimensions, read_length};
 use sf_lex::NumberFault;
@@ -15,23 +16,11 @@ use sf_model::{Name, RawPad};
 use sf_names::{Names, TextHash};
 use std::alloc::{AllocError, Global};
 
-/// Where a statement stands.
-#[derive(Clone, Copy, Debug, PartialEq, Eq)]
-pub enum Place {
-    Outside,
-    Module,
-    Terminals,
-    Instances,
-}
-
-/// What is kept of the statements.
+/// What is kept of the statements: the module that is open; the names of all modules, and the boxes of those that
+/// are closed; the place of the parent among them, and its pads and instances.
 #[derive(Drop)]
 pub struct Found<'a> {
-    pub place: Place,
-    pub typed: bool,
-    pub in_parent: bool,
-    pub listed: bool,
-    pub size: Option<Size>,
+    pub current: Option<OpenModule>,
     pub names: Names<'a>,
     pub sizes: Vec<Option<Size>>,
     pub parent: Option<usize>,
@@ -46,6 +35,7 @@ const MODULE_LEN: usize = 22;
 /// So many a terminal that is a pad takes.
 const PAD_LEN: usize = 11;
 
+/// The word has the form of a number, whether it can be read or not.
 fn is_number(read: Result<i64, NumberFault>) -> bool
     ensures { result ≡ has_form read }
 {
@@ -53,7 +43,11 @@ fn is_number(read: Result<i64, NumberFault>) -> bool
 }
 
 impl<'a> Found<'a> {
-    ghost use Rattle.sf_yal.specs.Reading.{reading_in, Keeps, start, module_said, type_said, box_said, list_opened, list_closed, outside_said, inside_said, terminal_said, placed_said, instance_said, in_terminals_said, in_instances_said, after_words, module_closed, pad_taken};
+    ghost use Rattle.sf_yal.specs.Reading.{reading_in, Keeps, start, module_said, module_closed};
+    ghost use Rattle.sf_yal.specs.Reading.{type_said, box_said};
+    ghost use Rattle.sf_yal.specs.Reading.{list_opened, list_closed, outside_said, in_body_said, pad_taken};
+    ghost use Rattle.sf_yal.specs.Reading.{terminal_said, placed_said, instance_said, in_terminals_said};
+    ghost use Rattle.sf_yal.specs.Reading.{in_network_said, after_words};
 
     /// Nothing yet of this text.
     pub fn new(alloc: Global, text: &[u8]) -> Found<'a>
@@ -61,11 +55,7 @@ impl<'a> Found<'a> {
     {
         let hash = TextHash::new(text);
         Found {
-            place: Place::Outside,
-            typed: false,
-            in_parent: false,
-            listed: false,
-            size: None,
+            current: None,
             names: Names::new(alloc, hash, text.len() / MODULE_LEN),
             sizes: Vec::new(alloc),
             parent: None,
@@ -75,9 +65,11 @@ impl<'a> Found<'a> {
         }
     }
 
+    /// MODULE with these words behind it.
     #[tactic(auto, unfolding(crate::specs::Reading::module_said))]
-    fn open_module(&mut self, rest: &'a [u8], line: u64) -> Result<(), YalFault>
-        ensures { Keeps result self.new (module_said (reading_in self.old) line (words is_blank_byte rest.now)) }
+    fn begin_module(&mut self, rest: &'a [u8], line: u64) -> Result<(), YalFault>
+        ensures { Keeps result self.new
+            (module_said (reading_in self.old) line (words is_blank_byte rest.now)) }
     {
         let Some((name, _)) = next_word(rest) else {
             return Err(YalFault::BadStatement(line));
@@ -85,81 +77,112 @@ impl<'a> Found<'a> {
         if self.names.note(name)?.is_some() {
             return Err(YalFault::BadStatement(line));
         }
-        self.place = Place::Module;
-        self.typed = false;
-        self.in_parent = false;
-        self.listed = false;
-        self.size = None;
+        self.current = Some(OpenModule::new());
         Ok(())
     }
 
-    fn close_module(&mut self) -> Result<(), AllocError>
-        ensures { OnOk result (reading_in self.new ≡ module_closed (reading_in self.old)) }
+    /// ENDMODULE.
+    fn end_module(&mut self, current: OpenModule) -> Result<(), AllocError>
+        ensures { OnOk result (reading_in self.new ≡ module_closed (reading_in self.old) current) }
     {
-        self.sizes.push(self.size)?;
-        self.place = Place::Outside;
+        self.sizes.push(current.size)?;
+        self.current = None;
         Ok(())
     }
 
+    /// TYPE with these words behind it.
     #[tactic(auto, unfolding(crate::specs::Reading::type_said))]
-    fn take_type(&mut self, rest: &[u8], line: u64) -> Result<(), YalFault>
-        ensures { Keeps result self.new (type_said (reading_in self.old) line (words is_blank_byte rest.now)) }
+    fn take_type(&mut self, current: OpenModule, rest: &[u8], line: u64) -> Result<(), YalFault>
+        ensures { Keeps result self.new
+            (type_said (reading_in self.old) current line (words is_blank_byte rest.now)) }
     {
         let Some((word, _)) = next_word(rest) else {
             return Err(YalFault::BadStatement(line));
         };
-        if self.typed || self.listed {
+        if current.is_typed || current.has_list {
             return Err(YalFault::BadStatement(line));
         }
-        if is_parent(word) {
-            if self.parent.is_some() {
-                return Err(YalFault::TwoParents(line));
-            }
-            self.parent = Some(self.sizes.len());
-            self.in_parent = true;
+        if !is_parent(word) {
+            self.current = Some(OpenModule {
+                is_typed: true,
+                ..current
+            });
+            return Ok(());
         }
-        self.typed = true;
+        if self.parent.is_some() {
+            return Err(YalFault::TwoParents(line));
+        }
+        self.parent = Some(self.sizes.len());
+        self.current = Some(OpenModule {
+            is_typed: true,
+            is_parent: true,
+            ..current
+        });
         Ok(())
     }
 
+    /// DIMENSIONS with these words behind it.
     #[tactic(auto, unfolding(crate::specs::Reading::box_said))]
-    fn take_box(&mut self, rest: &[u8], line: u64, scale: u64) -> Result<(), YalFault>
+    fn take_box(
+        &mut self,
+        current: OpenModule,
+        rest: &[u8],
+        line: u64,
+        scale: u64,
+    ) -> Result<(), YalFault>
         requires scale_low { 1 ≤ scale }
         requires scale_high { scale ≤ 1000 }
-        ensures { Keeps result self.new (box_said scale (reading_in self.old) line (words is_blank_byte rest.now)) }
+        ensures { Keeps result self.new
+            (box_said scale (reading_in self.old) current line (words is_blank_byte rest.now)) }
     {
-        if self.size.is_some() {
+        if current.size.is_some() {
             return Err(YalFault::BadStatement(line));
         }
-        self.size = Some(read_dimensions(rest, line, scale)?);
+        let size = read_dimensions(rest, line, scale)?;
+        self.current = Some(OpenModule {
+            size: Some(size),
+            ..current
+        });
         Ok(())
     }
 
-    fn open_list(&mut self, place: Place)
-        ensures { reading_in self.new ≡ list_opened (reading_in self.old) place }
+    /// IOLIST or NETWORK.
+    fn open_list(&mut self, current: OpenModule, section: Section)
+        ensures { reading_in self.new ≡ list_opened (reading_in self.old) current section }
     {
-        self.place = place;
-        self.listed = true;
+        self.current = Some(OpenModule {
+            section,
+            has_list: true,
+            ..current
+        });
     }
 
-    fn close_list(&mut self)
-        ensures { reading_in self.new ≡ list_closed (reading_in self.old) }
+    /// ENDIOLIST or ENDNETWORK.
+    fn close_list(&mut self, current: OpenModule)
+        ensures { reading_in self.new ≡ list_closed (reading_in self.old) current }
     {
-        self.place = Place::Module;
+        self.current = Some(OpenModule {
+            section: Section::Body,
+            ..current
+        });
     }
 
+    /// A statement outside of all modules.
     fn take_outside(&mut self, key: Keyword, rest: &'a [u8], line: u64) -> Result<(), YalFault>
-        ensures { Keeps result self.new (outside_said (reading_in self.old) line key (words is_blank_byte rest.now)) }
+        ensures { Keeps result self.new
+            (outside_said (reading_in self.old) line key (words is_blank_byte rest.now)) }
     {
         match key {
-            Keyword::Module => self.open_module(rest, line),
+            Keyword::Module => self.begin_module(rest, line),
             Keyword::EndModule => Err(YalFault::BadStatement(line)),
             _ => Ok(()),
         }
     }
 
-    fn take_inside(
+    /// A statement of a module outside of its lists.
+    fn take_in_body(
         &mut self,
+        current: OpenModule,
         key: Keyword,
         rest: &[u8],
         line: u64,
@@ -167,20 +190,22 @@ impl<'a> Found<'a> {
     ) -> Result<(), YalFault>
         requires scale_low { 1 ≤ scale }
         requires scale_high { scale ≤ 1000 }
-        ensures { Keeps result self.new (inside_said scale (reading_in self.old) line key (words is_blank_byte rest.now)) }
+        ensures { Keeps result self.new
+            (in_body_said scale (reading_in self.old) current line key (words is_blank_byte rest.now)) }
     {
         match key {
             Keyword::Module => return Err(YalFault::BadStatement(line)),
-            Keyword::EndModule => self.close_module()?,
-            Keyword::Type => self.take_type(rest, line)?,
-            Keyword::Dimensions => self.take_box(rest, line, scale)?,
-            Keyword::IoList => self.open_list(Place::Terminals),
-            Keyword::Network => self.open_list(Place::Instances),
+            Keyword::EndModule => self.end_module(current)?,
+            Keyword::Type => self.take_type(current, rest, line)?,
+            Keyword::Dimensions => self.take_box(current, rest, line, scale)?,
+            Keyword::IoList => self.open_list(current, Section::Terminals),
+            Keyword::Network => self.open_list(current, Section::Network),
             _ => {}
         }
         Ok(())
     }
 
+    /// A pad of the parent.
     fn add_pad(
         &mut self,
         alloc: Global,
@@ -220,6 +245,7 @@ impl<'a> Found<'a> {
         Ok(self.add_pad(alloc, name, (x, y))?)
     }
 
+    /// A terminal of the parent.
     #[tactic(auto, unfolding(crate::specs::Reading::terminal_said))]
     fn take_terminal(
         &mut self,
@@ -230,7 +256,8 @@ impl<'a> Found<'a> {
     ) -> Result<(), YalFault>
         requires scale_low { 1 ≤ scale }
         requires scale_high { scale ≤ 1000 }
-        ensures { Keeps result self.new (terminal_said scale (reading_in self.old) line (words is_blank_byte all.now)) }
+        ensures { Keeps result self.new
+            (terminal_said scale (reading_in self.old) line (words is_blank_byte all.now)) }
     {
         let Some((name, rest)) = next_word(all) else {
             return Ok(());
@@ -249,9 +276,11 @@ impl<'a> Found<'a> {
         self.take_placed(alloc, name, x, y, line)
     }
 
+    /// An instance of the parent.
     #[tactic(auto, unfolding(crate::specs::Reading::instance_said))]
     fn take_instance(&mut self, all: &'a [u8], line: u64) -> Result<(), YalFault>
-        ensures { Keeps result self.new (instance_said (reading_in self.old) line (words is_blank_byte all.now)) }
+        ensures { Keeps result self.new
+            (instance_said (reading_in self.old) line (words is_blank_byte all.now)) }
     {
         let Some((name, rest)) = next_word(all) else {
             return Err(YalFault::BadStatement(line));
@@ -272,6 +301,7 @@ impl<'a> Found<'a> {
     fn take_in_terminals(
         &mut self,
         alloc: Global,
+        current: OpenModule,
         key: Keyword,
         all: &'a [u8],
         line: u64,
@@ -279,23 +309,31 @@ impl<'a> Found<'a> {
     ) -> Result<(), YalFault>
         requires scale_low { 1 ≤ scale }
         requires scale_high { scale ≤ 1000 }
-        ensures { Keeps result self.new (in_terminals_said scale (reading_in self.old) line key (words is_blank_byte all.now)) }
+        ensures { Keeps result self.new
+            (in_terminals_said scale (reading_in self.old) current line key (words is_blank_byte all.now)) }
     {
         if key == Keyword::EndIoList {
-            self.close_list();
-        } else if self.in_parent {
+            self.close_list(current);
+        } else if current.is_parent {
             self.take_terminal(alloc, all, line, scale)?;
         }
         Ok(())
     }
 
     /// A statement of a list NETWORK.
-    fn take_in_instances(&mut self, key: Keyword, all: &'a [u8], line: u64) -> Result<(), YalFault>
-        ensures { Keeps result self.new (in_instances_said (reading_in self.old) line key (words is_blank_byte all.now)) }
+    fn take_in_network(
+        &mut self,
+        current: OpenModule,
+        key: Keyword,
+        all: &'a [u8],
+        line: u64,
+    ) -> Result<(), YalFault>
+        ensures { Keeps result self.new
+            (in_network_said (reading_in self.old) current line key (words is_blank_byte all.now)) }
     {
         if key == Keyword::EndNetwork {
-            self.close_list();
-        } else if self.in_parent {
+            self.close_list(current);
+        } else if current.is_parent {
             self.take_instance(all, line)?;
         }
         Ok(())
@@ -311,17 +349,20 @@ impl<'a> Found<'a> {
     ) -> Result<(), YalFault>
         requires scale_low { 1 ≤ scale }
         requires scale_high { scale ≤ 1000 }
-        ensures { Keeps result self.new (after_words scale (reading_in self.old) line (words is_blank_byte all.now)) }
+        ensures { Keeps result self.new
+            (after_words scale (reading_in self.old) line (words is_blank_byte all.now)) }
     {
         let Some((word, rest)) = next_word(all) else {
             return Ok(());
         };
         let key = read_keyword(word);
-        match self.place {
-            Place::Outside => self.take_outside(key, rest, line),
-            Place::Module => self.take_inside(key, rest, line, scale),
-            Place::Terminals => self.take_in_terminals(alloc, key, all, line, scale),
-            Place::Instances => self.take_in_instances(key, all, line),
+        let Some(current) = self.current else {
+            return self.take_outside(key, rest, line);
+        };
+        match current.section {
+            Section::Body => self.take_in_body(current, key, rest, line, scale),
+            Section::Terminals => self.take_in_terminals(alloc, current, key, all, line, scale),
+            Section::Network => self.take_in_network(current, key, all, line),
         }
     }
 }

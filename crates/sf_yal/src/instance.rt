@@ -23,6 +23,7 @@ impl<'a> Model for Label<'a> {
 }
 
 impl<'a> Label<'a> {
+    /// This word.
     pub fn new(bytes: &'a [u8]) -> Label<'a>
         requires { 0 < length bytes.now }
         ensures { result ≡ bytes.entry.now }
@@ -30,12 +31,14 @@ impl<'a> Label<'a> {
         Label { bytes }
     }
 
+    /// Its bytes.
     pub fn as_bytes(&self) -> &'a [u8]
         ensures { result.now ≡ self.now }
     {
         self.bytes
     }
 
+    /// The word as a name of its own.
     pub fn to_name(&self, alloc: Global) -> Result<Name, AllocError>
         ensures { IfOk result (λ name. name ≡ self.now) }
     {

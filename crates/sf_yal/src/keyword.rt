@@ -24,12 +24,14 @@ fn is_word(word: &[u8], key: &[u8]) -> bool
     word.eq_ignore_ascii_case(key)
 }
 
+/// The word is PARENT.
 pub fn is_parent(word: &[u8]) -> bool
     ensures { result ≡ is_parent_word word.now }
 {
     is_word(word, b"PARENT")
 }
 
+/// What the word means.
 #[tactic(auto, unfolding(crate::specs::Words::keyword_of))]
 pub fn read_keyword(word: &[u8]) -> Keyword
     ensures { result ≡ keyword_of word.now }

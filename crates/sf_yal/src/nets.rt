@@ -3,9 +3,10 @@
 ghost use Rattle.std.specs.Prelude.{◌≡◌, ◌∷◌, ◌++◌, [], None, IfOk, OnOk, slice_get};
 ghost use Rattle.sf_lex.specs.Text.{words, is_blank_byte};
 ghost use Rattle.sf_names.specs.Names.{index_of, bytes_of};
-ghost use Rattle.sf_yal.specs.Parts.{nets_of};
+ghost use Rattle.sf_yal.specs.Nets.{nets_of};
 ghost use Rattle.sf_model.specs.declared.raw.RawPin.TheVariants.{Block};
-ghost use Rattle.sf_yal.specs.Using.{signals_in, net_opened, used_in, used_once, used_all, used_by, with_pin, with_pin_at, with_pad_of, with_pads, ends_with, nothing_used};
+ghost use Rattle.sf_yal.specs.Using.{signals_in, net_opened, used_in, used_once, used_all, used_by};
+ghost use Rattle.sf_yal.specs.Using.{with_pin, with_pin_at, with_pad_of, with_pads, ends_with, nothing_used};
 
 use crate::instance::Instance;
 use crate::piece::next_word;
@@ -34,6 +35,7 @@ fn number_of(place: usize) -> Result<u32, AllocError>
     }
 }
 
+/// The last pin is this instance.
 fn is_last(pins: &[RawPin], instance: u32) -> bool
     ensures { result ≡ ends_with instance pins.now }
 {
@@ -43,7 +45,8 @@ fn is_last(pins: &[RawPin], instance: u32) -> bool
     }
 }
 
-/// A pin more. A text may have millions of nets of one or two pins, so room is made for so many and not for more.
+/// A pin more. A text may have millions of nets of one or two pins, so room is made for so many and not for
+/// more.
 fn push_pin(alloc: Global, net: &mut RawNet, pin: RawPin) -> Result<(), AllocError>
     ensures { OnOk result (net.new.pins ≡ net.old.pins ++ pin ∷ []) }
 {
@@ -78,6 +81,7 @@ fn open_net(alloc: Global, instance: u32) -> Result<RawNet, AllocError>
 }
 
 impl<'a> Used<'a> {
+    /// The instance is a pin of the net at this place.
     fn add_pin(&mut self, alloc: Global, place: usize, instance: u32) -> Result<(), AllocError>
         ensures nets { OnOk result (self.new.nets.items ≡ with_pin_at instance place self.old.nets.items) }
         ensures signals { self.new.signals ≡ self.old.signals }
@@ -91,6 +95,7 @@ impl<'a> Used<'a> {
         }
     }
 
+    /// The instance names the signal.
     fn use_signal(
         &mut self,
         alloc: Global,
@@ -105,13 +110,15 @@ impl<'a> Used<'a> {
         }
     }
 
+    /// The instance names these signals.
     fn use_signals(
         &mut self,
         alloc: Global,
         signals: &'a [u8],
         instance: u32,
     ) -> Result<(), AllocError>
-        ensures { OnOk result (used_in self.new ≡ used_all instance (used_in self.old) (words is_blank_byte signals.now)) }
+        ensures { OnOk result
+            (used_in self.new ≡ used_all instance (used_in self.old) (words is_blank_byte signals.now)) }
     {
         let mut rest = signals;
         while let Some((signal, after)) = next_word(rest) {
@@ -131,6 +138,7 @@ fn signals_expected(instances: &[Instance]) -> usize {
     bytes / SIGNAL_LEN
 }
 
+/// The nets of the signals that the instances name.
 fn use_instances<'a>(
     alloc: Global,
     instances: &[Instance<'a>],
@@ -156,7 +164,8 @@ fn add_pad(
     place: usize,
     pad_names: &Names,
 ) -> Result<(), AllocError>
-    ensures { OnOk result (net.new ≡ with_pad_of pad_names.now (slice_get (bytes_of signals.now) place) net.old) }
+    ensures { OnOk result
+        (net.new ≡ with_pad_of pad_names.now (slice_get (bytes_of signals.now) place) net.old) }
 {
     let Some(signal) = signals.get(place) else {
         return Ok(());
@@ -184,7 +193,8 @@ fn add_pads(
     Ok(())
 }
 
-/// A net for each distinct signal in the order of first use: the instances that name it, and the pad of its name.
+/// A net for each distinct signal in the order of first use: the instances that name it, and the pad of its
+/// name.
 pub fn read_nets(
     alloc: Global,
     instances: &[Instance],

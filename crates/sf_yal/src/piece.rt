@@ -3,16 +3,19 @@
 ghost use Rattle.std.specs.Prelude.{◌≡◌, ◌+◌, ◌^◌, ◌≤◌, ◌<◌, [], ◌∷◌, length, MatchOption, IfSome};
 ghost use Rattle.std.specs.List.{prefix_len, position_or_len, suffix_len};
 ghost use Rattle.sf_lex.specs.Text.{words, is_blank_byte};
-ghost use Rattle.sf_yal.specs.Statements.{is_semicolon, pieces, feeds, statement_at, without_end, line_of_last};
+ghost use Rattle.sf_yal.specs.Statements.{is_semicolon, pieces, feeds, statement_at};
+ghost use Rattle.sf_yal.specs.Statements.{without_end, line_of_last};
 
 use sf_lex::{Gap, count_fields, next_field};
 
+/// The byte is a blank.
 fn is_blank(byte: u8) -> bool
     ensures { result ≡ is_blank_byte byte }
 {
     matches!(byte, b' ' | b'\t' | b'\r' | b'\n')
 }
 
+/// How many blanks stand at the front.
 fn blanks_at_front(bytes: &[u8]) -> usize
     ensures value { result ≡ prefix_len is_blank_byte bytes.now }
     ensures bound { result ≤ length bytes.now }
@@ -20,6 +23,7 @@ fn blanks_at_front(bytes: &[u8]) -> usize
     bytes.iter().take_while(|byte| is_blank(**byte)).count()
 }
 
+/// How many blanks stand at the end.
 fn blanks_at_end(bytes: &[u8]) -> usize
     ensures value { result ≡ suffix_len is_blank_byte bytes.now }
     ensures bound { result ≤ length bytes.now }
@@ -31,6 +35,7 @@ fn blanks_at_end(bytes: &[u8]) -> usize
         .count()
 }
 
+/// How many bytes stand before the first semicolon, or how many there are.
 fn piece_len(bytes: &[u8]) -> usize
     ensures value { result ≡ position_or_len is_semicolon bytes.now }
     ensures bound { result ≤ length bytes.now }

@@ -1,8 +1,10 @@
 //! The reader of YAL files.
 
-ghost use Rattle.std.specs.Prelude.{◌≡◌, ◌≤◌, ℕ, List, length, Some, Ok, IfOk};
+ghost use Rattle.std.specs.Prelude.{◌≡◌, ◌≤◌, ◌⊎◌, ℕ, List, length, Some, Ok, Err, IfOk, IfErr};
 ghost use Rattle.sf_model.specs.declared.raw.Parts.{Parts};
-ghost use Rattle.sf_yal.specs.Standing.{StandsFor};
+ghost use Rattle.sf_yal.specs.Standing.{StandsFor, HasFault};
+ghost use Rattle.sf_yal.specs.declared.fault.YalFault.{YalFault as Fault};
+ghost use Rattle.sf_yal.specs.declared.fault.YalFault.TheVariants.{NoMemory};
 ghost use Rattle.sf_yal.specs.Statements.{statements, pieces, last_piece};
 ghost use Rattle.sf_yal.specs.Reading.{Gives, start, after_statements, reading_in, ReadsAll};
 ghost use Rattle.sf_yal.specs.Parts.{parts_by, yal_read};
@@ -10,7 +12,7 @@ ghost use Rattle.sf_yal.specs.Parts.{parts_by, yal_read};
 use crate::blocks::read_instances;
 use crate::comments::hide_comments;
 use crate::fault::YalFault;
-use crate::found::{Found, Place};
+use crate::found::Found;
 use crate::nets::read_nets;
 use crate::piece::{first_line, last_line_of, line_feeds, next_piece, next_word};
 use sf_model::{NameList, Parts, RawBlockList, RawPadList};
@@ -25,7 +27,8 @@ fn read_statements<'a>(
     requires scale_low { 1 ≤ scale }
     requires scale_high { scale ≤ 1000 }
     requires size { length text.now ≤ 67_108_864 }
-    ensures { ReadsAll result (after_statements scale start (statements 1 (pieces text.entry.now))) (last_piece (pieces text.entry.now)) }
+    ensures { ReadsAll result (after_statements scale start (statements 1 (pieces text.entry.now)))
+        (last_piece (pieces text.entry.now)) }
 {
     let mut found = Found::new(alloc, text);
     let mut rest = text;
@@ -53,6 +56,7 @@ fn into_parts(alloc: Global, found: Found, parent: usize) -> Result<Parts, YalFa
     })
 }
 
+/// The parts for which a YAL text stands, or its first fault, as it is read.
 #[tactic(auto, unfolding(crate::specs::Parts::yal_read, crate::specs::Parts::parts_read))]
 fn read_exactly(alloc: Global, text: &[u8], scale: u64) -> Result<Parts, YalFault>
     requires scale_low { 1 ≤ scale }
@@ -62,7 +66,7 @@ fn read_exactly(alloc: Global, text: &[u8], scale: u64) -> Result<Parts, YalFaul
 {
     let (hidden, open) = hide_comments(alloc, text)?;
     let (found, rest) = read_statements(alloc, &hidden, scale)?;
-    if open || next_word(rest).is_some() || found.place != Place::Outside {
+    if open || next_word(rest).is_some() || found.current.is_some() {
         return Err(YalFault::Truncated(last_line_of(&hidden)));
     }
     let Some(parent) = found.parent else {
@@ -71,10 +75,10 @@ fn read_exactly(alloc: Global, text: &[u8], scale: u64) -> Result<Parts, YalFaul
     into_parts(alloc, found, parent)
 }
 
-/// The parts for which a YAL text stands, or its first fault. Lengths are taken times the scale, so they come out in
-/// whole scaled units. All pads have a place, no name is a stranger, and the pads are in. The box of the parent is read
-/// and sets no outline. The format is that of the MCNC benchmark circuits; a terminal of the parent with two numbers
-/// behind its kind is taken for a pad.
+/// The parts for which a YAL text stands, or its first fault. Lengths are taken times the scale, so they come out
+/// in whole scaled units. All pads have a place, no name is a stranger, and the pads are in. The box of the parent
+/// is read and sets no outline. The format is that of the MCNC benchmark circuits; a terminal of the parent with two
+/// numbers behind its kind is taken for a pad.
 pub fn read_yal(alloc: Global, text: &[u8], scale: u64) -> Result<Parts, YalFault>
     requires scale_low { 1 ≤ scale }
     requires scale_high { scale ≤ 1000 }
@@ -83,13 +87,22 @@ pub fn read_yal(alloc: Global, text: &[u8], scale: u64) -> Result<Parts, YalFaul
     ensures found { IfOk result (StandsFor scale text.now) }
     // What the text stands for is read, unless memory runs out.
     ensures only { (out : Parts) → StandsFor scale text.now out → Gives result (Ok out) }
-    // Which fault it is.
+    // A fault is the first one of the text, unless memory runs out.
+    ensures refused { IfErr result (λ fault. (fault ≡ NoMemory) ⊎ HasFault scale text.now fault) }
+    // The first fault of the text is answered, unless memory runs out.
+    ensures faulty { (fault : Fault) → HasFault scale text.now fault → Gives result (Err fault) }
+    // What is read, or which fault it is.
     ensures exact { Gives result (yal_read scale text.now) }
 {
     read_exactly(alloc, text, scale)
 }
 
-/// A text stands for at most one output.
+/// A text stands for at most one output, or has one first fault.
 pub fn stands_for_one()
-    ensures { (scale : ℕ) (text : List ℕ) (a b : Parts) → StandsFor scale text a → StandsFor scale text b → a ≡ b }
+    ensures output { (scale : ℕ) (text : List ℕ) (a b : Parts)
+        → StandsFor scale text a → StandsFor scale text b → a ≡ b }
+    ensures fault { (scale : ℕ) (text : List ℕ) (f g : Fault)
+        → HasFault scale text f → HasFault scale text g → f ≡ g }
+    ensures not_both { (scale : ℕ) (text : List ℕ) (out : Parts) (f : Fault)
+        → StandsFor scale text out → HasFault scale text f → ⊥ }
 {}

@@ -1,6 +1,7 @@
 -- The nets that are kept signal by signal are those of the distinct signals.
 use Rattle.std.proofs.Common.{◌≡◌, ℕ, suc, ◌+◌, Bool, true, false, List, [], ◌∷◌, ◌++◌, length, Option, Some, None, refl, sym, ap, subst, ◌∙◌, arith, append_assoc, length-append}
 use Rattle.std.specs.Prelude.{map, is_some}
+use Rattle.std.proofs.lemmas.List.Sums.{fold-append}
 use Rattle.std.specs.Option.{option_map}
 use Rattle.std.specs.Str.{bytes_eq}
 use Rattle.std.proofs.lemmas.List.{append-nil, map-append}
@@ -8,13 +9,15 @@ use Rattle.sf_model.specs.declared.raw.RawNet.{RawNet}
 use Rattle.sf_model.specs.declared.raw.RawPin.{RawPin}
 use Rattle.sf_model.specs.declared.raw.RawPin.TheVariants as pins
 use Rattle.sf_names.specs.Names.{Once, index_of, has_name}
-use Rattle.sf_yal.specs.Parts.{with_signal, with_signals, signals_of, block_pins, net_of, nets_of}
+use Rattle.sf_yal.specs.Nets.{with_signal, with_signals, signals_of, block_pins, net_of, nets_of}
 use Rattle.sf_yal.specs.Using.{Uses, nothing_used, with_pin, with_pin_at, used_at, used_once, used_all, used_by, with_pads}
-use Rattle.sf_yal.proofs.NetLaws.{Signals, fold-append, apart, same_name, has_push_same, has_push_other, pin_of, pins_last, low, with_pin_by, none_cons, once_uses, absent_uses}
+use Rattle.sf_yal.proofs.SignalPins.{Signals, apart, same_name, has_push_same, has_push_other, pin_of, pins_last, low, with_pin_by, none_cons, once_uses, absent_uses}
 
+-- the net of a signal without its pad
 abbrev net_use : List Signals → List ℕ → RawNet
 net_use uses s = record { pins = block_pins s 0 uses }
 
+-- those of some signals
 abbrev nets_for : List Signals → Signals → List RawNet
 nets_for uses signals = map (net_use uses) signals
 
@@ -22,42 +25,53 @@ nets_for uses signals = map (net_use uses) signals
 abbrev kept : List Signals → Uses
 kept uses = record { signals = signals_of uses; nets = nets_for uses (signals_of uses) }
 
+-- the front of an empty list
 front_empty : (xs ys : List RawPin) → xs ++ ys ≡ [] → xs ≡ []
 front_empty [] ys h = refl
 front_empty (x ∷ xs) ys h = absurd cc
 
+-- the place behind one
 some_is : (j k : ℕ) → Some (suc j) ≡ Some k → k ≡ suc j
 some_is j k e = cc
 
+-- the first place
 some_here : (k : ℕ) → Some 0 ≡ Some k → k ≡ 0
 some_here k e = cc
 
+-- a place that is not the first lies behind one
 under : (o : Option ℕ) (k : ℕ) → option_map suc o ≡ Some k → (j : ℕ) × (o ≡ Some j) × (k ≡ suc j)
 under None k h = absurd cc
 under (Some j) k h = (j, refl, some_is j k h)
 
 -- one signal more of the last instance
 module _ (earlier : List Signals) (taken : Signals) (t : List ℕ) where
+  -- the instances so far
   abbrev old : List Signals
   old = earlier ++ taken ∷ []
 
+  -- the same with one signal more of the last
   abbrev new : List Signals
   new = earlier ++ (taken ++ t ∷ []) ∷ []
 
+  -- the number of the last
   abbrev number : ℕ
   number = 0 + length earlier
 
+  -- other signals keep their pins
   same_pins : (s : List ℕ) → bytes_eq t s ≡ false → block_pins s 0 new ≡ block_pins s 0 old
   same_pins s e =
       let has : has_name s (taken ++ t ∷ []) ≡ has_name s taken = has_push_other s t taken e in
       pins_last s 0 earlier (taken ++ t ∷ []) ∙ rw has (sym (pins_last s 0 earlier taken))
 
+  -- the signal has the last instance as its last pin
   new_pins : block_pins t 0 new ≡ block_pins t 0 earlier ++ pins.Block number ∷ []
   new_pins = pins_last t 0 earlier (taken ++ t ∷ []) ∙ rw (has_push_same t taken) refl
 
+  -- it is a pin once
   pinned : with_pin number (block_pins t 0 old) ≡ block_pins t 0 new
   pinned = ap (with_pin number) (pins_last t 0 earlier taken) ∙ with_pin_by number t taken (block_pins t 0 earlier) (has_name t taken) refl (low t 0 number earlier (omega arith)) ∙ sym new_pins
 
+  -- the nets of other signals stay
   others : (signals : Signals) → index_of t signals ≡ None → nets_for old signals ≡ nets_for new signals
   others [] h = refl
   others (s ∷ more) h =
@@ -66,6 +80,7 @@ module _ (earlier : List Signals) (taken : Signals) (t : List ℕ) where
       let here : net_use old s ≡ net_use new s = ap (λ (ps : List RawPin). record { pins = ps }) (sym (same_pins s (apart s t k.0))) in
       ap (λ (x : RawNet). x ∷ nets_for old more) here ∙ ap (λ (xs : List RawNet). net_use new s ∷ xs) rest
 
+  -- the net of the first signal
   found_here : (s : List ℕ) (more : Signals) (k : ℕ) → s ≡ t → k ≡ 0 → index_of t more ≡ None → with_pin_at number k (nets_for old (s ∷ more)) ≡ nets_for new (s ∷ more)
   found_here s more k same zero_is none =
       let here : record { pins = with_pin number (block_pins t 0 old) } ≡ net_use new t = ap (λ (ps : List RawPin). record { pins = ps }) pinned in
@@ -73,12 +88,14 @@ module _ (earlier : List Signals) (taken : Signals) (t : List ℕ) where
       subst (λ (i : ℕ). with_pin_at number i (nets_for old (s ∷ more)) ≡ nets_for new (s ∷ more)) (sym zero_is)
       (subst (λ (x : List ℕ). with_pin_at number 0 (nets_for old (x ∷ more)) ≡ nets_for new (x ∷ more)) (sym same) at_t)
 
+  -- that of a later one
   found_there : (s : List ℕ) (more : Signals) (k j : ℕ) → bytes_eq s t ≡ false → k ≡ suc j → with_pin_at number j (nets_for old more) ≡ nets_for new more → with_pin_at number k (nets_for old (s ∷ more)) ≡ nets_for new (s ∷ more)
   found_there s more k j e next rest =
       let here : net_use old s ≡ net_use new s = ap (λ (ps : List RawPin). record { pins = ps }) (sym (same_pins s (apart s t e))) in
       subst (λ (i : ℕ). with_pin_at number i (nets_for old (s ∷ more)) ≡ nets_for new (s ∷ more)) (sym next)
       (ap (λ (x : RawNet). x ∷ with_pin_at number j (nets_for old more)) here ∙ ap (λ (xs : List RawNet). net_use new s ∷ xs) rest)
 
+  -- by whether the signal is the first one
   found_by : (s : List ℕ) (more : Signals) (k : ℕ) (b : Bool) → bytes_eq s t ≡ b → ((j : ℕ) → index_of t more ≡ Some j → with_pin_at number j (nets_for old more) ≡ nets_for new more)
       → index_of s more ≡ None → index_of t (s ∷ more) ≡ Some k → with_pin_at number k (nets_for old (s ∷ more)) ≡ nets_for new (s ∷ more)
   found_by s more k true e rest once h =
@@ -88,16 +105,20 @@ module _ (earlier : List Signals) (taken : Signals) (t : List ℕ) where
       let u = under (index_of t more) k (rw e at h) in
       found_there s more k u.0 e u.2 (rest u.0 u.1)
 
+  -- the net of a signal that is noted
   found : (signals : Signals) (k : ℕ) → Once signals → index_of t signals ≡ Some k → with_pin_at number k (nets_for old signals) ≡ nets_for new signals
   found [] k once h = absurd cc
   found (s ∷ more) k once h = found_by s more k (bytes_eq s t) refl (λ j e. found more j once.1 e) once.0 h
 
+  -- the signals so far
   signals_old : signals_of old ≡ with_signals (signals_of earlier) taken
   signals_old = fold-append with_signals [] earlier (taken ∷ [])
 
+  -- and with one more
   signals_new : signals_of new ≡ with_signal (signals_of old) t
   signals_new = fold-append with_signals [] earlier ((taken ++ t ∷ []) ∷ []) ∙ fold-append with_signal (signals_of earlier) taken (t ∷ []) ∙ ap (λ (x : Signals). with_signal x t) (sym signals_old)
 
+  -- a signal that is noted, or is not
   step_by : (o : Option ℕ) → index_of t (signals_of old) ≡ o → used_at number (kept old) t o ≡ kept new
   step_by None e =
       let has : has_name t (signals_of old) ≡ false = ap is_some e in
@@ -117,6 +138,7 @@ module _ (earlier : List Signals) (taken : Signals) (t : List ℕ) where
       let nets : with_pin_at number k (nets_for old (signals_of old)) ≡ nets_for new (signals_of new) = found (signals_of old) k (once_uses [] old tt) e ∙ ap (nets_for new) (sym same) in
       λ i. record { signals = sym same i; nets = nets i }
 
+  -- one signal more
   step : used_once number (kept old) t ≡ kept new
   step = step_by (index_of t (signals_of old)) refl
 
@@ -135,12 +157,14 @@ same_nets earlier (s ∷ more) =
     let here : block_pins s 0 earlier ≡ block_pins s 0 (earlier ++ [] ∷ []) = sym (pins_last s 0 earlier [] ∙ append-nil (block_pins s 0 earlier)) in
     ap (λ (ps : List RawPin). record { pins = ps } ∷ nets_for earlier more) here ∙ ap (λ (xs : List RawNet). net_use (earlier ++ [] ∷ []) s ∷ xs) (same_nets earlier more)
 
+-- so the nets and signals stay
 idle : (earlier : List Signals) → kept earlier ≡ kept (earlier ++ [] ∷ [])
 idle earlier =
     let same : signals_of earlier ≡ signals_of (earlier ++ [] ∷ []) = sym (fold-append with_signals [] earlier ([] ∷ [])) in
     let nets : nets_for earlier (signals_of earlier) ≡ nets_for (earlier ++ [] ∷ []) (signals_of (earlier ++ [] ∷ [])) = same_nets earlier (signals_of earlier) ∙ ap (nets_for (earlier ++ [] ∷ [])) same in
     λ i. record { signals = same i; nets = nets i }
 
+-- all instances
 by_all : (n : ℕ) (earlier more : List Signals) → n ≡ 0 + length earlier → used_by n (kept earlier) more ≡ kept (earlier ++ more)
 by_all n earlier [] at = ap kept (sym (append-nil earlier))
 by_all n earlier (signals ∷ more) at =
@@ -148,10 +172,12 @@ by_all n earlier (signals ∷ more) at =
     let next : n + 1 ≡ 0 + length (earlier ++ signals ∷ []) = omega (arith, length-append earlier (signals ∷ [])) in
     ap (λ (u : Uses). used_by (n + 1) u more) one ∙ by_all (n + 1) (earlier ++ signals ∷ []) more next ∙ ap kept (append_assoc earlier (signals ∷ []) more)
 
+-- the nets with their pads
 with_all : (uses : List Signals) (pad_names signals : Signals) → with_pads pad_names signals (nets_for uses signals) ≡ map (net_of uses pad_names) signals
 with_all uses pad_names [] = refl
 with_all uses pad_names (s ∷ more) = ap (λ (xs : List RawNet). net_of uses pad_names s ∷ xs) (with_all uses pad_names more)
 
+-- what is kept is the nets of all signals
 pub nets_are : (uses : List Signals) (pad_names : Signals) (u : Uses) → u ≡ used_by 0 nothing_used uses → with_pads pad_names u.signals u.nets ≡ nets_of uses pad_names
 nets_are uses pad_names u is =
     let all : u ≡ kept uses = is ∙ by_all 0 [] uses (omega arith) in
