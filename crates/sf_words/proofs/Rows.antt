@@ -62,9 +62,6 @@ first_of-more id (x ∷ rows) r = by_test (bytes_eq x.id id) refl (first_of-more
     by_test true e ih = inl (rw e refl)
     by_test false e ih = elim ih [ inl g ↦ inl (rw e g) | inr g ↦ inr (g.0, rw e g.1, rw e g.2) ]
 
-default_text : (j : Key) → first_of (key_text j) (default_row j ∷ []) ≡ Some (codes "false")
-default_text j = rw (same_text j j refl) refl
-
 -- an option with a value keeps its text
 pub value_kept : (k : Key) (keys : List Key) (rows : List Row) → is_flag k ≡ false → first_of (key_text k) (fold with_default rows (map full keys)) ≡ first_of (key_text k) rows
 value_kept k keys rows e = kept (λ xs. first_of (key_text k) xs ≡ first_of (key_text k) rows) keys rows

@@ -18,11 +18,11 @@ some_same e = cc
 
 pub number_unique : (key : Key) (text : Option Text) (m n : ℕ) → SaysNumber key text m → SaysNumber key text n → m ≡ n
 number_unique key None m n g h = some_same (sym g ∙ h)
-number_unique key (Some text) m n g h = g.0.value ∙ sym h.0.value
+number_unique key (Some text) m n g h = some_same (sym g.value ∙ h.value)
 
 pub optional_unique : (key : Key) (text : Option Text) (m n : Option ℕ) → SaysOptional key text m → SaysOptional key text n → m ≡ n
 optional_unique key None None None g h = refl
-optional_unique key (Some text) (Some m) (Some n) g h = ap (λ k. Some k) (g.0.value ∙ sym h.0.value)
+optional_unique key (Some text) (Some m) (Some n) g h = ap (λ k. Some k) (some_same (sym g.value ∙ h.value))
 optional_unique key None None (Some n) g h = absurd h
 optional_unique key None (Some m) n g h = absurd g
 optional_unique key (Some text) None n g h = absurd g

@@ -18,6 +18,7 @@ abbrev pub flag_text : Option Text → Option Text
 flag_text None = None
 flag_text (Some text) = cond (bytes_eq text (codes "true")) (Some []) None
 
+-- the text that the rows have of an option
 abbrev pub texts_in : List Row → Key → Option Text
 texts_in rows key = cond (is_flag key) (flag_text (first_of (key_text key) rows)) (first_of (key_text key) rows)
 
@@ -27,12 +28,15 @@ text_in_row (attached key value) = value
 text_in_row (spaced key value) = value
 text_in_row (alone key) = codes "true"
 
+-- the row of an option and its text
 abbrev pub row : Key → Text → Row
 row key text = record { id = key_text key; values = text ∷ []; count = None; source = Some CommandLine; reading = AsWritten }
 
+-- the row of an option as it stands in the words
 abbrev pub row_of : Token → Row
 row_of t = row (key_of t) (text_in_row t)
 
+-- the rule of an option, settled
 abbrev pub full : Key → Rule
 full key = cond (is_flag key) (filled (flag_rule (key_text key))) (filled (value_rule (key_text key)))
 

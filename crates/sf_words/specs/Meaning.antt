@@ -41,6 +41,7 @@ pub record DesignOptions : Type 0 where
   pub width : ℕ
   pub height : ℕ
 
+-- what the options of a design say
 pub record DesignSays (v : Values) (o : DesignOptions) : Type 0 where
   pub input : InputSays v o.input
   pub per_unit : SaysNumber PerUnit (v PerUnit) o.per_unit
@@ -55,6 +56,7 @@ pub record WeightOptions : Type 0 where
   pub wire : ℕ
   pub net_weights : Option Text
 
+-- what the options of the weights say
 pub record WeightsSay (v : Values) (o : WeightOptions) : Type 0 where
   pub area : SaysNumber AreaWeight (v AreaWeight) o.area
   pub wire : SaysNumber WireWeight (v WireWeight) o.wire
@@ -70,6 +72,7 @@ pub record PlanOptions : Type 0 where
   pub workers : ℕ
   pub nodes : Option ℕ
 
+-- what the options of `plan` say
 pub record PlanSays (v : Values) (o : PlanOptions) : Type 0 where
   pub design : DesignSays v o.design
   pub weights : WeightsSay v o.weights
@@ -85,6 +88,7 @@ pub record CheckOptions : Type 0 where
   pub cert : Text
   pub rewrite : Option Text
 
+-- what the options of `check` say
 pub record CheckSays (v : Values) (o : CheckOptions) : Type 0 where
   pub design : DesignSays v o.design
   pub weights : WeightsSay v o.weights
@@ -97,6 +101,7 @@ pub record MeasureOptions : Type 0 where
   pub weights : WeightOptions
   pub placed : Text
 
+-- what the options of `measure` say
 pub record MeasureSays (v : Values) (o : MeasureOptions) : Type 0 where
   pub design : DesignSays v o.design
   pub weights : WeightsSay v o.weights
@@ -107,6 +112,7 @@ pub record ShapeOptions : Type 0 where
   pub design : DesignOptions
   pub expr : Text
 
+-- what the options of `shape` say
 pub record ShapeSays (v : Values) (o : ShapeOptions) : Type 0 where
   pub design : DesignSays v o.design
   pub expr : v Expr ≡ Some o.expr
@@ -129,6 +135,7 @@ pub record GenOptions : Type 0 where
   pub nodes : Option ℕ
   pub out : Text
 
+-- what the options of `gen` say
 pub record GenSays (v : Values) (o : GenOptions) : Type 0 where
   pub seed : SaysNumber Seed (v Seed) o.seed
   pub count : SaysNumber Count (v Count) o.count
@@ -164,8 +171,6 @@ Says v (gen o) = GenSays v o
 abbrev pub Means : List Text → Command → Type 0
 Means words command = (tokens : List Token) × HasForm words (mode_of command) tokens × Says (value_in tokens) command
 
-abbrev pub HasMeaning : List Text → Type 0
-HasMeaning words = (command : Command) × Means words command
-
+-- the words mean no command
 abbrev pub HasNoMeaning : List Text → Type 0
 HasNoMeaning words = (command : Command) → Means words command → ⊥

@@ -1,22 +1,9 @@
 -- Whole numbers in words, and the ranges and defaults of the options that take them.
-use Rattle.std.specs.Prelude.{◌≡◌, ℕ, ◌+◌, ◌-◌, ◌*◌, ◌<◌, ◌≤◌, true, [], ◌∷◌, length, Option, Some, None}
-use Rattle.std.specs.List.{list_all}
-use Rattle.std.specs.Char.{is_ascii_digit}
+use Rattle.std.specs.Prelude.{◌≡◌, ℕ, ◌≤◌, Option, Some, None}
+use Rattle.sf_lex.specs.Whole.{whole_read}
 use Rattle.sf_words.specs.declared.options.Key.{Key}
 use Rattle.sf_words.specs.declared.options.Key.TheVariants.{PerUnit, Shapes, AreaWeight, WireWeight, Workers, Nodes, Seed, Count}
 use Rattle.sf_words.specs.Table.{Text}
-
--- the number that digits represent, after the number n
-abbrev pub read_on : ℕ → Text → ℕ
-read_on n [] = n
-read_on n (c ∷ cs) = read_on (10 * n + (c - 48)) cs
-
--- one to twenty digits are the number that they represent
-pub record IsNumber (text : Text) (n : ℕ) : Type 0 where
-  pub digits : list_all is_ascii_digit text ≡ true
-  pub some : 0 < length text
-  pub few : length text ≤ 20
-  pub value : n ≡ read_on 0 text
 
 -- the least and the greatest number that an option takes, where it takes a number
 unfoldable pub least : Key → ℕ
@@ -26,6 +13,7 @@ least WireWeight = 0
 least Seed = 0
 least key = 1
 
+-- the greatest number that an option takes, where it takes a number
 unfoldable pub greatest : Key → ℕ
 greatest PerUnit = 1000
 greatest Shapes = 256
@@ -46,18 +34,18 @@ default_of WireWeight = Some 0
 default_of Workers = Some 1
 default_of key = None
 
--- the numbers that an option takes
-pub record IsInRange (key : Key) (n : ℕ) : Type 0 where
+-- one to twenty digits are a number that an option takes
+pub record IsInRange (key : Key) (text : Text) (n : ℕ) : Type 0 where
+  pub value : whole_read (greatest key) text ≡ Some n
   pub low : least key ≤ n
-  pub high : n ≤ greatest key
 
 -- what an option that takes a number says, given or not
 abbrev pub SaysNumber : Key → Option Text → ℕ → Type 0
 SaysNumber key None n = default_of key ≡ Some n
-SaysNumber key (Some text) n = IsNumber text n × IsInRange key n
+SaysNumber key (Some text) n = IsInRange key text n
 
 -- what an option says that takes a number and has no default in the table
 abbrev pub SaysOptional : Key → Option Text → Option ℕ → Type 0
 SaysOptional key None None = Unit {0}
-SaysOptional key (Some text) (Some n) = IsNumber text n × IsInRange key n
+SaysOptional key (Some text) (Some n) = IsInRange key text n
 SaysOptional key text n = ⊥

@@ -18,39 +18,50 @@ use Rattle.sf_words.specs.declared.settings.Setting.{Setting}
 use Rattle.sf_words.specs.declared.settings.Setting.TheVariants.{Attached, Spaced, Alone}
 use Rattle.sf_words.specs.Words.{Token, attached, spaced, alone}
 
+-- an option as it stands in the words
 abbrev pub token_of : Setting → Token
 token_of (Attached key value) = attached key value.now
 token_of (Spaced key value) = spaced key value.now
 token_of (Alone key) = alone key
 
+-- a text that may be there
 abbrev pub text_of : Option (Bor (List ℕ)) → Option Text
 text_of = option_map (λ s. s.now)
 
+-- the files that tell a design
 abbrev pub input_seen : InputFiles → Input
 input_seen (Gsrc blocks nets pl) = gsrc blocks.now (text_of nets) (text_of pl)
 input_seen (Yal file) = yal file.now
 
+-- the options of a design
 abbrev pub design_seen : DesignWords → DesignOptions
 design_seen o = record { input = input_seen o.input; per_unit = o.per_unit; is_fixed = o.is_fixed; shapes = o.shapes; width = o.width; height = o.height }
 
+-- the options of the weights
 abbrev pub weights_seen : WeightWords → WeightOptions
 weights_seen o = record { area = o.area; wire = o.wire; net_weights = text_of o.net_weights }
 
+-- the options of `plan`
 abbrev pub plan_seen : PlanWords → PlanOptions
 plan_seen o = record { design = design_seen o.design; weights = weights_seen o.weights; cert = o.cert.now; pl_out = text_of o.pl_out; workers = o.workers; nodes = o.nodes }
 
+-- the options of `check`
 abbrev pub check_seen : CheckWords → CheckOptions
 check_seen o = record { design = design_seen o.design; weights = weights_seen o.weights; cert = o.cert.now; rewrite = text_of o.rewrite }
 
+-- the options of `measure`
 abbrev pub measure_seen : MeasureWords → MeasureOptions
 measure_seen o = record { design = design_seen o.design; weights = weights_seen o.weights; placed = o.placed.now }
 
+-- the options of `shape`
 abbrev pub shape_seen : ShapeWords → ShapeOptions
 shape_seen o = record { design = design_seen o.design; expr = o.expr.now }
 
+-- the options of `gen`
 abbrev pub gen_seen : GenWords → GenOptions
 gen_seen o = record { seed = o.seed; count = o.count; kinds = o.kinds; nodes = o.nodes; out = o.out.now }
 
+-- the command
 abbrev pub command_seen : CommandWords → Command
 command_seen (Plan o) = plan (plan_seen o)
 command_seen (Check o) = check (check_seen o)

@@ -1,10 +1,11 @@
 -- The commands and their options: what each takes, and how it is written.
-use Rattle.std.specs.Prelude.{ℕ, Bool, true, false, List, [], ◌∷◌, codes}
+use Rattle.std.specs.Prelude.{ℕ, Bool, true, false, List, [], ◌∷◌, ◌++◌, codes}
 use Rattle.sf_words.specs.declared.options.Mode.{Mode}
 use Rattle.sf_words.specs.declared.options.Mode.TheVariants.{Plan, Check, Measure, Shape, Gen}
 use Rattle.sf_words.specs.declared.options.Key.{Key}
 use Rattle.sf_words.specs.declared.options.Key.TheVariants.{Format, Blocks, Nets, Pl, Yal, PerUnit, Fixed, Shapes, Outline, AreaWeight, WireWeight, NetWeights, Cert, PlOut, Rewrite, Workers, Nodes, Placed, Expr, Seed, Count, Kinds, Out}
 
+-- a text is the list of its bytes
 abbrev pub Text : Type 0
 Text = List ℕ
 
@@ -51,10 +52,18 @@ unfoldable pub is_flag : Key → Bool
 is_flag Fixed = true
 is_flag key = false
 
+-- the options that tell a design
+abbrev pub design_keys : List Key
+design_keys = Format ∷ Blocks ∷ Nets ∷ Pl ∷ Yal ∷ PerUnit ∷ Fixed ∷ Shapes ∷ Outline ∷ []
+
+-- the options that tell what counts in a cost
+abbrev pub weight_keys : List Key
+weight_keys = AreaWeight ∷ WireWeight ∷ NetWeights ∷ []
+
 -- the options of each command
 unfoldable pub keys_of : Mode → List Key
-keys_of Plan = Format ∷ Blocks ∷ Nets ∷ Pl ∷ Yal ∷ PerUnit ∷ Fixed ∷ Shapes ∷ Outline ∷ AreaWeight ∷ WireWeight ∷ NetWeights ∷ Cert ∷ PlOut ∷ Workers ∷ Nodes ∷ []
-keys_of Check = Format ∷ Blocks ∷ Nets ∷ Pl ∷ Yal ∷ PerUnit ∷ Fixed ∷ Shapes ∷ Outline ∷ AreaWeight ∷ WireWeight ∷ NetWeights ∷ Cert ∷ Rewrite ∷ []
-keys_of Measure = Format ∷ Blocks ∷ Nets ∷ Pl ∷ Yal ∷ PerUnit ∷ Fixed ∷ Shapes ∷ Outline ∷ AreaWeight ∷ WireWeight ∷ NetWeights ∷ Placed ∷ []
-keys_of Shape = Format ∷ Blocks ∷ Nets ∷ Pl ∷ Yal ∷ PerUnit ∷ Fixed ∷ Shapes ∷ Outline ∷ Expr ∷ []
+keys_of Plan = design_keys ++ (weight_keys ++ (Cert ∷ PlOut ∷ Workers ∷ Nodes ∷ []))
+keys_of Check = design_keys ++ (weight_keys ++ (Cert ∷ Rewrite ∷ []))
+keys_of Measure = design_keys ++ (weight_keys ++ (Placed ∷ []))
+keys_of Shape = design_keys ++ (Expr ∷ [])
 keys_of Gen = Nodes ∷ Seed ∷ Count ∷ Kinds ∷ Out ∷ []

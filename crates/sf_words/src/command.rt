@@ -1,4 +1,4 @@
-// Commands with their options, as the words give them or leave them to their defaults.
+//! Commands with their options, as the words give them or leave them to their defaults.
 ghost use Rattle.std.specs.Prelude.{◌+◌, ◌<◌, ◌≤◌};
 ghost use Rattle.std.specs.Option.{ForSome};
 

@@ -1,4 +1,4 @@
-// The command line that clap is asked to read, and what its words mean.
+//! The command line that clap is asked to read, and what its words mean.
 ghost use Rattle.std.specs.Prelude.{◌≡◌, IfOk, IfErr, IfSome, IfNone, Some, false, map, string_bytes};
 ghost use Rattle.clap.specs.Words.{app_of, with_rule, new_app, kind_of, subcommand_rows_of, rows_of, found_of};
 ghost use Rattle.clap.specs.declared.builder.command.Command.TheViews.{out-Command as fields_of};
@@ -17,7 +17,7 @@ use clap::error::ErrorKind;
 use clap::{Arg, ArgAction, ArgMatches, Command, Error};
 use std::alloc::{AllocError, Global};
 
-// The command with one more option.
+/// The command with one more option.
 fn with_key<'a>(alloc: Global, command: Command<'a>, key: Key) -> Result<Command<'a>, AllocError>
     ensures app { IfOk result (λ r. app_of r ≡ with_rule (app_of command.entry) (rule_of_key key)) }
     ensures local { IfOk result (λ r. (fields_of r).has_globals ≡ (fields_of command.entry).has_globals) }
@@ -31,7 +31,7 @@ fn with_key<'a>(alloc: Global, command: Command<'a>, key: Key) -> Result<Command
     }
 }
 
-// A command with its options.
+/// A command with its options.
 fn subcommand<'a>(alloc: Global, mode: Mode) -> Result<Command<'a>, AllocError>
     ensures app { IfOk result (λ r. app_of r ≡ with_keys (new_app (mode_text mode)) (keys_of mode)) }
     ensures local { IfOk result (λ r. (fields_of r).has_globals ≡ false) }
@@ -44,7 +44,7 @@ fn subcommand<'a>(alloc: Global, mode: Mode) -> Result<Command<'a>, AllocError>
     Ok(command)
 }
 
-// The command line before its commands: no name of a program, and no help.
+/// The command line before its commands: no name of a program, and no help.
 fn bare<'a>(alloc: Global) -> Command<'a>
     ensures { app_of result ≡ bare }
 {
@@ -54,7 +54,7 @@ fn bare<'a>(alloc: Global) -> Command<'a>
         .disable_help_subcommand(true)
 }
 
-// The whole command line.
+/// The whole command line.
 fn floorplan<'a>(alloc: Global) -> Result<Command<'a>, AllocError>
     ensures { IfOk result (λ r. app_of r ≡ floorplan) }
 {
@@ -65,10 +65,11 @@ fn floorplan<'a>(alloc: Global) -> Result<Command<'a>, AllocError>
     Ok(command)
 }
 
-// Reads words that have the form of a command and its options.
+/// Reads words that have the form of a command and its options.
 fn parse<'a>(alloc: Global, words: &'a [String], form: &Form) -> Result<ArgMatches<'a>, Error>
     requires { HasForm (map string_bytes words.now) form.now.mode (map token_of form.now.settings.items) }
-    ensures rows { IfOk result (λ m. subcommand_rows_of m ≡ Some (mode_text form.now.mode, rows_for form.now.mode (map token_of form.now.settings.items))) }
+    ensures rows { IfOk result (λ m. subcommand_rows_of m
+        ≡ Some (mode_text form.now.mode, rows_for form.now.mode (map token_of form.now.settings.items))) }
     ensures memory { IfErr result (λ e. kind_of e ≡ ErrorKind.OutOfMemory) }
 {
     floorplan(alloc)?.try_get_matches_from(words)
@@ -97,8 +98,9 @@ impl<'b, 'a> OptionTexts<'a> for Parsed<'b, 'a> {
     }
 }
 
-/// What the words mean, those behind the name of the program: a command with its options and their defaults, or
-/// nothing. Files are named and not read. Help and version texts are no commands, and `--help` has no meaning.
+/// What the words mean, those behind the name of the program: a command with its options and their
+/// defaults, or nothing. Files are named and not read. Help and version texts are no commands, and `--help`
+/// has no meaning.
 pub fn read_words(alloc: Global, words: &[String]) -> Result<Option<CommandWords<'_>>, Error>
     ensures means { IfOk result (λ r. IfSome r (λ c. Means (map string_bytes words.now) (command_seen c))) }
     ensures none { IfOk result (λ r. IfNone r (HasNoMeaning (map string_bytes words.now))) }

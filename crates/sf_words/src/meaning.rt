@@ -1,4 +1,4 @@
-// What the texts of options mean: required options, formats, ranges and defaults.
+//! What the texts of options mean: required options, formats, ranges and defaults.
 ghost use Rattle.std.specs.Prelude.{◌≡◌, ◌↔◌, List, Option, Some, IsTrue, IfSome, IfNone, option_map, codes};
 ghost use Rattle.sf_words.specs.declared.options.Key.{Key};
 ghost use Rattle.sf_words.specs.declared.command.Kinds.{Kinds};
@@ -13,6 +13,7 @@ use crate::command::{
 use crate::options::{Key, Mode};
 use crate::outline::read_outline;
 use crate::ranges::{number, optional_number};
+use sf_lex::Scale;
 
 /// The texts that options have, whoever read them: what they mean is told apart from how they are found.
 pub trait OptionTexts<'a> {
@@ -33,7 +34,7 @@ pub fn is_text(text: Option<&str>, other: &str) -> bool
     }
 }
 
-// Reads the files of a design in the format of GSRC.
+/// Reads the files of a design in the format of GSRC.
 fn read_gsrc<'a, T: OptionTexts<'a>>(texts: &T) -> Option<InputFiles<'a>>
     requires { T.texts texts.now Key.Format ≡ Some (codes "gsrc") }
     ensures input { IfSome result (λ i. InputSays (T.texts texts.now) (input_seen i)) }
@@ -50,7 +51,7 @@ fn read_gsrc<'a, T: OptionTexts<'a>>(texts: &T) -> Option<InputFiles<'a>>
     })
 }
 
-// Reads the file of a design in the format of MCNC.
+/// Reads the file of a design in the format of MCNC.
 fn read_yal<'a, T: OptionTexts<'a>>(texts: &T) -> Option<InputFiles<'a>>
     requires { T.texts texts.now Key.Format ≡ Some (codes "yal") }
     ensures input { IfSome result (λ i. InputSays (T.texts texts.now) (input_seen i)) }
@@ -66,6 +67,7 @@ fn read_yal<'a, T: OptionTexts<'a>>(texts: &T) -> Option<InputFiles<'a>>
     Some(InputFiles::Yal { file })
 }
 
+/// The files that tell a design.
 fn read_input<'a, T: OptionTexts<'a>>(texts: &T) -> Option<InputFiles<'a>>
     ensures input { IfSome result (λ i. InputSays (T.texts texts.now) (input_seen i)) }
     ensures none { IfNone result ((i : Input) → InputSays (T.texts texts.now) i → ⊥) }
@@ -80,6 +82,7 @@ fn read_input<'a, T: OptionTexts<'a>>(texts: &T) -> Option<InputFiles<'a>>
     }
 }
 
+/// The options that tell a design.
 #[tactic(auto, unfolding(crate::specs::Numbers::least, crate::specs::Numbers::greatest))]
 fn read_design<'a, T: OptionTexts<'a>>(texts: &T) -> Option<DesignWords<'a>>
     ensures options { IfSome result (λ o. DesignSays (T.texts texts.now) (design_seen o)) }
@@ -92,7 +95,7 @@ fn read_design<'a, T: OptionTexts<'a>>(texts: &T) -> Option<DesignWords<'a>>
     }
     let is_fixed = texts.text(Key::Fixed).is_some();
     let shapes = number(Key::Shapes, texts.text(Key::Shapes))? as u16;
-    let (width, height) = read_outline(texts.text(Key::Outline), per_unit)?;
+    let (width, height) = read_outline(texts.text(Key::Outline), Scale { per_unit })?;
     Some(DesignWords {
         input,
         per_unit,
@@ -103,6 +106,7 @@ fn read_design<'a, T: OptionTexts<'a>>(texts: &T) -> Option<DesignWords<'a>>
     })
 }
 
+/// The options that tell what counts in a cost.
 #[tactic(auto, unfolding(crate::specs::Numbers::least, crate::specs::Numbers::greatest))]
 fn read_weights<'a, T: OptionTexts<'a>>(texts: &T) -> Option<WeightWords<'a>>
     ensures options { IfSome result (λ o. WeightsSay (T.texts texts.now) (weights_seen o)) }
@@ -120,6 +124,7 @@ fn read_weights<'a, T: OptionTexts<'a>>(texts: &T) -> Option<WeightWords<'a>>
     })
 }
 
+/// The options of `plan`.
 #[tactic(auto, unfolding(crate::specs::Numbers::least, crate::specs::Numbers::greatest))]
 fn read_plan<'a, T: OptionTexts<'a>>(texts: &T) -> Option<PlanWords<'a>>
     ensures options { IfSome result (λ o. PlanSays (T.texts texts.now) (plan_seen o)) }
@@ -135,6 +140,7 @@ fn read_plan<'a, T: OptionTexts<'a>>(texts: &T) -> Option<PlanWords<'a>>
     })
 }
 
+/// The options of `check`.
 fn read_check<'a, T: OptionTexts<'a>>(texts: &T) -> Option<CheckWords<'a>>
     ensures options { IfSome result (λ o. CheckSays (T.texts texts.now) (check_seen o)) }
     ensures none { IfNone result ((o : CheckOptions) → CheckSays (T.texts texts.now) o → ⊥) }
@@ -147,6 +153,7 @@ fn read_check<'a, T: OptionTexts<'a>>(texts: &T) -> Option<CheckWords<'a>>
     })
 }
 
+/// The options of `measure`.
 fn read_measure<'a, T: OptionTexts<'a>>(texts: &T) -> Option<MeasureWords<'a>>
     ensures options { IfSome result (λ o. MeasureSays (T.texts texts.now) (measure_seen o)) }
     ensures none { IfNone result ((o : MeasureOptions) → MeasureSays (T.texts texts.now) o → ⊥) }
@@ -158,6 +165,7 @@ fn read_measure<'a, T: OptionTexts<'a>>(texts: &T) -> Option<MeasureWords<'a>>
     })
 }
 
+/// The options of `shape`.
 fn read_shape<'a, T: OptionTexts<'a>>(texts: &T) -> Option<ShapeWords<'a>>
     ensures options { IfSome result (λ o. ShapeSays (T.texts texts.now) (shape_seen o)) }
     ensures none { IfNone result ((o : ShapeOptions) → ShapeSays (T.texts texts.now) o → ⊥) }
@@ -168,7 +176,7 @@ fn read_shape<'a, T: OptionTexts<'a>>(texts: &T) -> Option<ShapeWords<'a>>
     })
 }
 
-// Which blocks a generated design has.
+/// Which blocks a generated design has.
 fn read_kinds(text: Option<&str>) -> Option<Kinds>
     ensures kinds { IfSome result (KindsSay (text_of text.entry)) }
     ensures none { IfNone result ((kinds : Kinds) → KindsSay (text_of text.entry) kinds → ⊥) }
@@ -187,6 +195,7 @@ fn read_kinds(text: Option<&str>) -> Option<Kinds>
     }
 }
 
+/// The options of `gen`.
 #[tactic(auto, unfolding(crate::specs::Numbers::least, crate::specs::Numbers::greatest))]
 fn read_gen<'a, T: OptionTexts<'a>>(texts: &T) -> Option<GenWords<'a>>
     ensures options { IfSome result (λ o. GenSays (T.texts texts.now) (gen_seen o)) }
@@ -203,7 +212,8 @@ fn read_gen<'a, T: OptionTexts<'a>>(texts: &T) -> Option<GenWords<'a>>
 
 /// Reads the options of this command.
 pub fn read_command<'a, T: OptionTexts<'a>>(mode: Mode, texts: &T) -> Option<CommandWords<'a>>
-    ensures command { IfSome result (λ c. (mode_of (command_seen c) ≡ mode) × Says (T.texts texts.now) (command_seen c)) }
+    ensures command { IfSome result (λ c. (mode_of (command_seen c) ≡ mode)
+        × Says (T.texts texts.now) (command_seen c)) }
     ensures none { IfNone result ((c : Command) → mode_of c ≡ mode → Says (T.texts texts.now) c → ⊥) }
 {
     match mode {

@@ -1,4 +1,4 @@
-// The commands, their options, and how these are written.
+//! The commands, their options, and how these are written.
 ghost use Rattle.std.specs.Prelude.{◌≡◌, ◌≢◌, ◌↔◌, IsTrue, IfSome, IfNone, Contains, All};
 ghost use Rattle.sf_words.specs.declared.options.Mode.{Mode};
 ghost use Rattle.sf_words.specs.declared.options.Key.{Key};
@@ -42,6 +42,31 @@ pub enum Key {
     Out,
 }
 
+/// The options that tell a design, and then these.
+macro_rules! design_keys {
+    ($($own:expr),*) => {
+        &[
+            Key::Format,
+            Key::Blocks,
+            Key::Nets,
+            Key::Pl,
+            Key::Yal,
+            Key::PerUnit,
+            Key::Fixed,
+            Key::Shapes,
+            Key::Outline,
+            $($own),*
+        ]
+    };
+}
+
+/// The options that tell a design and what counts in a cost, and then these.
+macro_rules! weighed_keys {
+    ($($own:expr),*) => {
+        design_keys![Key::AreaWeight, Key::WireWeight, Key::NetWeights, $($own),*]
+    };
+}
+
 impl Mode {
     /// All commands.
     #[tactic(auto, unfolding(crate::specs::Table::modes))]
@@ -77,67 +102,10 @@ impl Mode {
         ensures { result.now ≡ keys_of self }
     {
         match self {
-            Mode::Plan => &[
-                Key::Format,
-                Key::Blocks,
-                Key::Nets,
-                Key::Pl,
-                Key::Yal,
-                Key::PerUnit,
-                Key::Fixed,
-                Key::Shapes,
-                Key::Outline,
-                Key::AreaWeight,
-                Key::WireWeight,
-                Key::NetWeights,
-                Key::Cert,
-                Key::PlOut,
-                Key::Workers,
-                Key::Nodes,
-            ],
-            Mode::Check => &[
-                Key::Format,
-                Key::Blocks,
-                Key::Nets,
-                Key::Pl,
-                Key::Yal,
-                Key::PerUnit,
-                Key::Fixed,
-                Key::Shapes,
-                Key::Outline,
-                Key::AreaWeight,
-                Key::WireWeight,
-                Key::NetWeights,
-                Key::Cert,
-                Key::Rewrite,
-            ],
-            Mode::Measure => &[
-                Key::Format,
-                Key::Blocks,
-                Key::Nets,
-                Key::Pl,
-                Key::Yal,
-                Key::PerUnit,
-                Key::Fixed,
-                Key::Shapes,
-                Key::Outline,
-                Key::AreaWeight,
-                Key::WireWeight,
-                Key::NetWeights,
-                Key::Placed,
-            ],
-            Mode::Shape => &[
-                Key::Format,
-                Key::Blocks,
-                Key::Nets,
-                Key::Pl,
-                Key::Yal,
-                Key::PerUnit,
-                Key::Fixed,
-                Key::Shapes,
-                Key::Outline,
-                Key::Expr,
-            ],
+            Mode::Plan => weighed_keys![Key::Cert, Key::PlOut, Key::Workers, Key::Nodes],
+            Mode::Check => weighed_keys![Key::Cert, Key::Rewrite],
+            Mode::Measure => weighed_keys![Key::Placed],
+            Mode::Shape => design_keys![Key::Expr],
             Mode::Gen => &[Key::Nodes, Key::Seed, Key::Count, Key::Kinds, Key::Out],
         }
     }
@@ -185,6 +153,7 @@ impl Key {
     }
 }
 
+/// Whether a word is this text.
 fn is_word(word: &str, text: &str) -> bool
     ensures { IsTrue result ↔ (word.now ≡ text.now) }
 {

@@ -1,12 +1,13 @@
-// The whole numbers that options take: their ranges and defaults.
-ghost use Rattle.std.specs.Prelude.{◌≡◌, ℕ, ◌≤◌, ◌^◌, Option, IfSome, IfNone, option_map};
-ghost use Rattle.std.specs.List.{list_all};
-ghost use Rattle.std.specs.Char.{is_ascii_digit};
-ghost use Rattle.sf_words.specs.Numbers.{least, greatest, default_of, IsNumber, IsInRange, SaysNumber, SaysOptional};
+//! The whole numbers that options take: their ranges and defaults.
+ghost use Rattle.std.specs.Prelude.{◌≡◌, ℕ, ◌≤◌, Option, IfSome, IfNone, option_map};
+ghost use Rattle.sf_lex.specs.Whole.{whole_read};
+ghost use Rattle.sf_words.specs.Numbers.{least, greatest, default_of, IsInRange, SaysNumber, SaysOptional};
 
 use crate::options::Key;
+use sf_lex::read_whole;
 
 impl Key {
+    /// The least number that the option takes.
     #[tactic(auto, unfolding(crate::specs::Numbers::least))]
     fn least(self) -> u64
         ensures { result ≡ least self }
@@ -18,6 +19,7 @@ impl Key {
         }
     }
 
+    /// The greatest number that the option takes.
     #[tactic(auto, unfolding(crate::specs::Numbers::greatest))]
     fn greatest(self) -> u64
         ensures { result ≡ greatest self }
@@ -34,6 +36,7 @@ impl Key {
         }
     }
 
+    /// The number that the option has where it isn't given.
     #[tactic(auto, unfolding(crate::specs::Numbers::default_of))]
     fn default(self) -> Option<u64>
         ensures { result ≡ default_of self }
@@ -47,37 +50,14 @@ impl Key {
     }
 }
 
-fn are_digits(text: &str) -> bool
-    ensures { result ≡ list_all is_ascii_digit text.now }
-{
-    text.bytes().all(|b| b.is_ascii_digit())
-}
-
-// Reads a whole number, where it fits.
-fn read_number(text: &str) -> Option<u64>
-    ensures number { IfSome result (λ n. IsNumber text.now n) }
-    ensures none { IfNone result ((n : ℕ) → IsNumber text.now n → 2 ^ 64 ≤ n) }
-{
-    if text.len() > 20 || !are_digits(text) {
-        return None;
-    }
-    match text.parse::<u64>() {
-        Ok(n) => Some(n),
-        Err(_) => None,
-    }
-}
-
-// Reads a number of an option.
+/// Reads a number of an option.
 fn read_in_range(key: Key, text: &str) -> Option<u64>
-    ensures number { IfSome result (λ n. IsNumber text.now n × IsInRange key n) }
-    ensures none { IfNone result ((n : ℕ) → IsNumber text.now n → IsInRange key n → ⊥) }
+    ensures number { IfSome result (IsInRange key text.now) }
+    ensures high { IfSome result (λ n. n ≤ greatest key) }
+    ensures none { IfNone result ((n : ℕ) → IsInRange key text.now n → ⊥) }
 {
-    let n = read_number(text)?;
-    if key.least() <= n && n <= key.greatest() {
-        Some(n)
-    } else {
-        None
-    }
+    let n = read_whole(text.as_bytes(), key.greatest())?;
+    if key.least() <= n { Some(n) } else { None }
 }
 
 /// The number of an option that has a default, or must be given.
@@ -98,7 +78,8 @@ pub fn optional_number(key: Key, text: Option<&str>) -> Option<Option<u64>>
     ensures number { IfSome result (λ n. SaysOptional key (option_map (λ s. s.now) text.entry) n) }
     ensures low { IfSome result (λ o. IfSome o (λ n. least key ≤ n)) }
     ensures high { IfSome result (λ o. IfSome o (λ n. n ≤ greatest key)) }
-    ensures none { IfNone result ((n : Option ℕ) → SaysOptional key (option_map (λ s. s.now) text.entry) n → ⊥) }
+    ensures none { IfNone result ((n : Option ℕ)
+        → SaysOptional key (option_map (λ s. s.now) text.entry) n → ⊥) }
 {
     match text {
         None => Some(None),

@@ -1,4 +1,4 @@
-// Options as they stand in the words.
+//! Options as they stand in the words.
 ghost use Rattle.std.specs.Prelude.{◌≡◌, ◌≢◌, ◌↔◌, ◌∷◌, [], ◌++◌, List, IsTrue, IfSome, IfNone, Contains, MatchOption, IfOk, map, string_bytes};
 ghost use Rattle.sf_words.specs.declared.options.Mode.{Mode};
 ghost use Rattle.sf_words.specs.declared.options.Key.{Key};
@@ -41,12 +41,15 @@ impl<'a> Setting<'a> {
     }
 }
 
+/// What stands behind two hyphens at the front.
 fn after_hyphens(word: &str) -> Option<&str>
-    ensures { MatchOption result ((rest : Text) → word.now ≢ 45 ∷ 45 ∷ rest) (λ rest. word.now ≡ 45 ∷ 45 ∷ rest.now) }
+    ensures { MatchOption result ((rest : Text) → word.now ≢ 45 ∷ 45 ∷ rest)
+        (λ rest. word.now ≡ 45 ∷ 45 ∷ rest.now) }
 {
     word.strip_prefix('-')?.strip_prefix('-')
 }
 
+/// Whether a word may be the value of the option before it.
 fn is_value(text: &str) -> bool
     ensures { IsTrue result ↔ IsValue text.now }
 {
@@ -56,10 +59,12 @@ fn is_value(text: &str) -> bool
     }
 }
 
-// Reads `name=value`, where one of these options has the name.
+/// Reads `name=value`, where one of these options has the name.
 fn read_attached<'a>(keys: &[Key], text: &'a str) -> Option<(Key, &'a str)>
-    ensures attached { IfSome result (λ p. Contains keys.now p.0 × (text.now ≡ key_text p.0 ++ 61 ∷ p.1.now)) }
-    ensures none { IfNone result ((k : Key) (v : Text) → Contains keys.now k → text.now ≢ key_text k ++ 61 ∷ v) }
+    ensures attached { IfSome result (λ p. Contains keys.now p.0
+        × (text.now ≡ key_text p.0 ++ 61 ∷ p.1.now)) }
+    ensures none { IfNone result ((k : Key) (v : Text) → Contains keys.now k
+        → text.now ≢ key_text k ++ 61 ∷ v) }
 {
     let (name, value) = text.split_once('=')?;
     let key = find_key(keys, name)?;
@@ -68,8 +73,11 @@ fn read_attached<'a>(keys: &[Key], text: &'a str) -> Option<(Key, &'a str)>
 
 /// Reads the option that stands first in the words, and gives the words behind it.
 pub fn read_setting<'a>(keys: &[Key], words: &'a [String]) -> Option<(Setting<'a>, &'a [String])>
-    ensures setting { IfSome result (λ p. Contains keys.now (key_of (token_of p.0)) × IsShaped (token_of p.0) × (map string_bytes words.now ≡ before (token_of p.0) (map string_bytes p.1.now))) }
-    ensures none { IfNone result ((t : Token) (more : List Text) → Contains keys.now (key_of t) → IsShaped t → map string_bytes words.now ≢ before t more) }
+    ensures setting { IfSome result (λ p. Contains keys.now (key_of (token_of p.0))
+        × IsShaped (token_of p.0)
+        × (map string_bytes words.now ≡ before (token_of p.0) (map string_bytes p.1.now))) }
+    ensures none { IfNone result ((t : Token) (more : List Text) → Contains keys.now (key_of t)
+        → IsShaped t → map string_bytes words.now ≢ before t more) }
 {
     let [word, rest @ ..] = words else {
         return None;
@@ -96,7 +104,7 @@ pub fn read_setting<'a>(keys: &[Key], words: &'a [String]) -> Option<(Setting<'a
     }
 }
 
-// Whether no setting has this key.
+/// Whether no setting has this key.
 fn is_new(settings: &[Setting], key: Key) -> bool
     ensures { IsTrue result ↔ IsNew key (map token_of settings.now) }
 {
@@ -108,14 +116,16 @@ fn is_new(settings: &[Setting], key: Key) -> bool
     true
 }
 
-// Reads the options of a command.
+/// Reads the options of a command.
 fn read_settings<'a>(
     alloc: Global,
     mode: Mode,
     words: &'a [String],
 ) -> Result<Option<Vec<Setting<'a>>>, AllocError>
-    ensures settings { IfOk result (λ r. IfSome r (λ s. AreOptions mode (map token_of s.items) × (map string_bytes words.now ≡ words_of (map token_of s.items)))) }
-    ensures none { IfOk result (λ r. IfNone r ((ts : List Token) → AreOptions mode ts → map string_bytes words.now ≢ words_of ts)) }
+    ensures settings { IfOk result (λ r. IfSome r (λ s. AreOptions mode (map token_of s.items)
+        × (map string_bytes words.now ≡ words_of (map token_of s.items)))) }
+    ensures none { IfOk result (λ r. IfNone r ((ts : List Token) → AreOptions mode ts
+        → map string_bytes words.now ≢ words_of ts)) }
 {
     let keys = mode.keys();
     let mut settings = Vec::new(alloc);
@@ -142,8 +152,10 @@ pub struct Form<'a> {
 
 /// Reads the command and its options, where the words are such.
 pub fn read_form(alloc: Global, words: &[String]) -> Result<Option<Form<'_>>, AllocError>
-    ensures form { IfOk result (λ r. IfSome r (λ f. HasForm (map string_bytes words.now) f.mode (map token_of f.settings.items))) }
-    ensures none { IfOk result (λ r. IfNone r ((mode : Mode) (tokens : List Token) → HasForm (map string_bytes words.now) mode tokens → ⊥)) }
+    ensures form { IfOk result (λ r. IfSome r
+        (λ f. HasForm (map string_bytes words.now) f.mode (map token_of f.settings.items))) }
+    ensures none { IfOk result (λ r. IfNone r ((mode : Mode) (tokens : List Token)
+        → HasForm (map string_bytes words.now) mode tokens → ⊥)) }
 {
     let [command, rest @ ..] = words else {
         return Ok(None);

@@ -1,4 +1,5 @@
-// The words of each command with all of its options, and lists of words at the edges of the table of options.
+//! The words of each command with all of its options, and lists of words at the edges of the table of
+//! options.
 
 use crate::{CommandWords, InputFiles, Kinds, read_words};
 use std::alloc::{AllocError, Global};
@@ -12,7 +13,7 @@ const DESIGN: &str = "--per-unit 10 --fixed --shapes 16 --outline 10.5x7";
 
 const WEIGHTS: &str = "--area-weight 2 --wire-weight 3 --net-weights w";
 
-// More words behind those of a plan, with which they have a meaning.
+/// More words behind those of a plan, with which they have a meaning.
 const TAKEN: &str = "--outline 1048576x1
 --outline 104857.6x.1 --per-unit 10
 --shapes 2
@@ -22,7 +23,7 @@ const TAKEN: &str = "--outline 1048576x1
 --workers 00000000000000000016
 --nodes 1";
 
-// More words behind those of a plan, with which they have none.
+/// More words behind those of a plan, with which they have none.
 const REFUSED: &str = "--outline 1048577x1
 --outline 0x1
 --outline 1x0.0
@@ -67,7 +68,7 @@ help
 --version
 -V";
 
-// Lists of words without a meaning, the empty list first.
+/// Lists of words without a meaning, the empty list first.
 const WITHOUT: &str = "
 --
 help
@@ -98,7 +99,7 @@ gen --seed 18446744073709551616 --count 4 --out g
 gen --seed 7 --count 4 --kinds soft --out g
 gen --help";
 
-// The words of these texts, valued options as `--name value`.
+/// The words of these texts, valued options as `--name value`.
 fn spaced(alloc: Global, texts: &[&str]) -> Result<Vec<String>, AllocError> {
     let mut words = Vec::new(alloc);
     for text in texts {
@@ -109,7 +110,7 @@ fn spaced(alloc: Global, texts: &[&str]) -> Result<Vec<String>, AllocError> {
     Ok(words)
 }
 
-// The same words with valued options as `--name=value`.
+/// The same words with valued options as `--name=value`.
 fn attached(alloc: Global, words: &[String]) -> Result<Vec<String>, AllocError> {
     let mut joined: Vec<String> = Vec::new(alloc);
     for word in words {
@@ -129,7 +130,7 @@ fn has_meaning(alloc: Global, texts: &[&str]) -> Result<bool, Fail> {
     Ok(read_words(alloc, &words)?.is_some())
 }
 
-// Each command takes all of its options that go with a format, in both spellings.
+/// Each command takes all of its options that go with a format, in both spellings.
 #[test]
 fn all_options(rt: HostRuntime) -> Result<(), Fail> {
     let alloc = rt.alloc();
@@ -160,7 +161,7 @@ fn all_options(rt: HostRuntime) -> Result<(), Fail> {
     Ok(())
 }
 
-// What the words say reaches the command, and what they leave out has its default.
+/// What the words say reaches the command, and what they leave out has its default.
 #[test]
 fn values(rt: HostRuntime) -> Result<(), Fail> {
     let alloc = rt.alloc();
@@ -213,7 +214,7 @@ fn values(rt: HostRuntime) -> Result<(), Fail> {
     Ok(())
 }
 
-// Lists of words at the edges: those with a meaning, and those without.
+/// Lists of words at the edges: those with a meaning, and those without.
 #[test]
 fn edges(rt: HostRuntime) -> Result<(), Fail> {
     let alloc = rt.alloc();
