@@ -1,7 +1,6 @@
 pub mod Hiding
 pub mod Cutting
-pub mod VertexSteps
-pub mod Boxes
+pub mod Dimensions
 pub mod Stepping
 pub mod NetSteps
 pub mod StatementSteps

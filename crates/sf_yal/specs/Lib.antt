@@ -2,8 +2,6 @@ pub mod Comments
 pub mod Words
 pub mod Statements
 pub mod Box
-pub mod Corners
-pub mod Seen
 pub mod Numbers
 pub mod Instances
 pub mod Modules

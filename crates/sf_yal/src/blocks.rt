@@ -4,7 +4,7 @@ ghost use Rattle.std.specs.Prelude.{◌≡◌, [], Err};
 ghost use Rattle.sf_yal.specs.declared.fault.YalFault.TheVariants.{UnknownModule};
 ghost use Rattle.sf_yal.specs.Instances.{instance_in, instances_in};
 ghost use Rattle.sf_yal.specs.Reading.{Fails, Gives};
-ghost use Rattle.sf_yal.specs.Seen.{seen};
+ghost use Rattle.sf_lex.specs.Results.{seen};
 ghost use Rattle.sf_yal.specs.Parts.{size_at, boxed, block_of, blocks_from, unknown};
 
 use crate::fault::YalFault;
