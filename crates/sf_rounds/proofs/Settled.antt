@@ -22,7 +22,7 @@ use Rattle.sf_search_core.specs.State.{State}
 use Rattle.sf_search_core.specs.Events.{held_in, held_by, applied, take, close, offer, may_branch}
 use Rattle.sf_search_core.specs.Outcome.{next_of, after_event, after_events}
 use Rattle.sf_search_core.proofs.Replaced.{replaced, replace-done}
-use Rattle.sf_certificate.specs.Valid.{HasCost}
+use Rattle.sf_certificate.specs.Valid.{HasCost, least}
 use Rattle.sf_worker.specs.declared.decision.Decision.{Decision}
 use Rattle.sf_worker.specs.declared.decision.Decision.TheVariants.{Closed, Solved, Extended, Split}
 use Rattle.sf_worker.specs.Decided.{first_wide, IsSolvedBy, IsDecision}
@@ -298,3 +298,8 @@ all-decided design bound state nodes core first spent h =
       | inl some ↦ absurd (omega (arith, few, spent some, h, length-map {B = Parts} tasks (λ (task : Task). task.node), length-append state.waiting (held_tasks state)))
       | inr none ↦ omega arith
     ])
+
+-- where the least of the cost and the bounds of the tasks lies below the cost, a task is left, and then nothing is spare
+pub spare-none : (z : ℕ) (ts : List Task) (spare : ℕ) → (0 < length ts → spare ≡ 0) → least z (map (λ (t : Task). t.bound) ts) < z → spare ≡ 0
+spare-none z [] spare spent below = absurd (omega (arith, below))
+spare-none z (t ∷ ts) spare spent below = spent (omega arith)

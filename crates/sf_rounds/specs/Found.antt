@@ -1,10 +1,12 @@
 -- What a search hands over.
-use Rattle.std.specs.Prelude.{◌≡◌, ⊤, ℕ, ◌<◌, ◌∷◌, ◌++◌, [], List, map, All, IsTrue, IsFalse, IsPermutation, Option, Some, None}
+use Rattle.std.specs.Prelude.{◌≡◌, ⊤, ℕ, ◌<◌, ◌≤◌, ◌∷◌, ◌++◌, [], List, map, All, IsTrue, IsFalse, IsPermutation, Option, Some, None}
 use Rattle.sf_model.specs.declared.design.Design.{Design}
+use Rattle.sf_model.specs.Legal.{block_count}
 use Rattle.sf_polish.specs.declared.expr.Expr.{Expr}
 use Rattle.sf_node.specs.Parts.{Parts}
 use Rattle.sf_node.specs.Subproblem.{root, is_complete, is_solved}
-use Rattle.sf_node.specs.Full.{first_wide_from}
+use Rattle.sf_node.specs.Full.{first_wide_from, full}
+use Rattle.sf_node.specs.declared.part.Part.{Part}
 use Rattle.sf_bounds.specs.Cheapest.{IsPlanOf, IsLeastTrace}
 use Rattle.sf_search_core.specs.declared.entry.Entry.{Entry}
 use Rattle.sf_search_core.specs.declared.entry.Kind.TheVariants as kind
@@ -13,8 +15,9 @@ use Rattle.sf_certificate.specs.declared.cert.Cert.{Cert}
 use Rattle.sf_certificate.specs.declared.tag.Tag.{Tag}
 use Rattle.sf_certificate.specs.declared.tag.Tag.TheVariants.{Extend, Split, Closed, Open}
 use Rattle.sf_certificate.specs.Marks.{given_marks, marks}
-use Rattle.sf_certificate.specs.Named.{unnamed}
-use Rattle.sf_certificate.specs.Valid.{least}
+use Rattle.sf_certificate.specs.Named.{AllNameFirst, unnamed}
+use Rattle.sf_certificate.specs.Valid.{IsValid, decided, least}
+use Rattle.sf_rounds.specs.declared.to_certificate.Found.{Found}
 
 -- the plan of the subproblem that brought the word: the first entry whose value is the word is of this subproblem, which is solved. Where only areas count the plan is the trace of the least area; else the subproblem has no other plan
 pub record IsOfFirst (design : Design) (entries : List Entry) (word : ℕ) (expr : Expr) : Type 0 where
@@ -46,5 +49,25 @@ SplitsFirst design (Split b) node = IsTrue (is_complete node) × IsFalse (is_sol
 SplitsFirst design (Closed p) node = ⊤
 SplitsFirst design Open node = ⊤
 
+-- each split of the tree is of the first block whose span is not single
 abbrev pub AllSplitFirst : Design → List Tag → Type 0
 AllSplitFirst design tags = All (λ mark. SplitsFirst design mark.tag mark.node) (marks (root design ∷ []) tags)
+
+-- what a search with this budget hands over, however many workers it has
+pub record IsFound (design : Design) (bound : Parts → ℕ) (part : Parts → Part → ℕ) (budget : ℕ) (found : Found) : Type 0 where
+  -- the certificate is valid, and what is handed over beside it is its own
+  pub valid : IsValid design bound part found.cert
+  pub blocks : found.cert.blocks ≡ block_count design
+  pub plan_is : found.plan ≡ found.cert.plan
+  pub cost_is : found.cost ≡ found.cert.cost
+  pub bound_is : found.bound ≡ found.cert.bound
+  pub decided_is : found.decided ≡ decided found.cert.tags
+  -- the budget is kept, and spent where the bound is below the cost
+  pub few : found.decided ≤ budget
+  pub spent : found.bound < found.cost → found.decided ≡ budget
+  -- no search decides more than there is, and with so large a budget each one ends
+  pub splits : AllSplitFirst design found.cert.tags
+  pub full_is : found.decided ≤ full design
+  pub ended : full design ≤ budget → found.bound ≡ found.cost
+  -- each closed subproblem names the first part of the bound that is at least the cost
+  pub named : AllNameFirst design part found.cert.cost found.cert.tags

@@ -1,13 +1,9 @@
 //! The whole search, to its certificate.
 
-ghost use Rattle.std.specs.Prelude.{◌≡◌, ◌<◌, ◌≤◌, IfOk};
-ghost use Rattle.sf_model.specs.Legal.{block_count};
-ghost use Rattle.sf_node.specs.Full.{full};
+ghost use Rattle.std.specs.Prelude.{◌≡◌, ◌≤◌, IfOk};
 ghost use Rattle.sf_search_core.specs.Outcome.{opening};
-ghost use Rattle.sf_certificate.specs.Named.{AllNameFirst};
-ghost use Rattle.sf_certificate.specs.Valid.{IsValid, decided};
 ghost use Rattle.sf_rounds.specs.Turns.{turns, TurnsAreAccepted};
-ghost use Rattle.sf_rounds.specs.Found.{IsCertOf, AllSplitFirst};
+ghost use Rattle.sf_rounds.specs.Found.{IsFound, IsCertOf};
 
 use crate::certify::certify;
 use crate::many_workers::{Progress, search_rounds};
@@ -27,8 +23,8 @@ pub struct SearchOptions {
     pub nodes: u64,
 }
 
-/// The best plan found, its cost, a bound that no plan undercuts, the count of decided subproblems, and the certificate
-/// that shows all of it.
+/// The best plan found, its cost, a bound that no plan undercuts, the count of decided subproblems, and the
+/// certificate that shows all of it.
 #[derive(Drop)]
 pub struct Found {
     pub plan: Option<Expr>,
@@ -38,9 +34,9 @@ pub struct Found {
     pub cert: Cert,
 }
 
-/// Decides subproblems until none is open or `nodes` are decided. One worker takes the last open one, turn by turn, and of
-/// plans that cost the same keeps the first. Two to sixteen take turns: the caller decides one of the least bound, and then
-/// all of them work in a round.
+/// Decides subproblems until none is open or `nodes` are decided. One worker takes the last open one, turn by
+/// turn, and of plans that cost the same keeps the first. Two to sixteen take turns: the caller decides one
+/// of the least bound, and then all of them work in a round.
 pub fn search<R: Threads + Sync, B: Bounds, G: Gate>(
     rt: &R,
     alloc: Global,
@@ -49,30 +45,18 @@ pub fn search<R: Threads + Sync, B: Bounds, G: Gate>(
     options: SearchOptions,
     gate: &G,
 ) -> Result<Found, NoMemory>
-    // The certificate is valid, and what is handed over beside it is its own.
-    ensures valid { IfOk result (λ found. IsValid design.now (B.Values.value bounds.now design.now) (B.part_value bounds.now design.now) found.cert) }
-    ensures blocks { IfOk result (λ found. found.cert.blocks ≡ block_count design.now) }
-    ensures plan { IfOk result (λ found. found.plan ≡ found.cert.plan) }
-    ensures cost { IfOk result (λ found. found.cost ≡ found.cert.cost) }
-    ensures bound { IfOk result (λ found. found.bound ≡ found.cert.bound) }
-    ensures decided { IfOk result (λ found. found.decided ≡ decided found.cert.tags) }
+    ensures found { IfOk result (IsFound design.now (B.Values.value bounds.now design.now)
+        (B.part_value bounds.now design.now) options.nodes) }
 
-    // The budget is kept, and spent where the bound is below the cost.
-    ensures few { IfOk result (λ found. found.decided ≤ options.nodes) }
-    ensures spent { IfOk result (λ found. found.bound < found.cost → found.decided ≡ options.nodes) }
-
-    // No search decides more than there is, and with so large a budget each one ends.
-    ensures splits { IfOk result (λ found. AllSplitFirst design.now found.cert.tags) }
-    ensures full { IfOk result (λ found. found.decided ≤ full design.now) }
-    ensures ended { IfOk result (λ found. full design.now ≤ options.nodes → found.bound ≡ found.cost) }
-
-    // Each closed subproblem names the first part of the bound that is at least the cost.
-    ensures named { IfOk result (λ found. AllNameFirst design.now (B.part_value bounds.now design.now) found.cert.cost found.cert.tags) }
-
-    // With one worker it is a function of the design and the budget: the state after so many turns of the core, and in it
-    // the plan that was found first of those that cost the word.
-    ensures run { IfOk result (λ found. options.workers ≡ 1 → IsCertOf design.now (turns design.now (B.Values.value bounds.now design.now) options.nodes (opening design.now (B.Values.value bounds.now design.now) 1)) found.cert) }
-    ensures accepted { IfOk result (λ found. options.workers ≡ 1 → TurnsAreAccepted design.now (B.Values.value bounds.now design.now) options.nodes (opening design.now (B.Values.value bounds.now design.now) 1)) }
+    // With one worker it is a function of the design and the budget: the state after so many turns of the
+    // core, and in it the plan that was found first of those that cost the word.
+    ensures run { IfOk result (λ found. options.workers ≡ 1
+        → IsCertOf design.now
+        (turns design.now (B.Values.value bounds.now design.now) options.nodes
+        (opening design.now (B.Values.value bounds.now design.now) 1)) found.cert) }
+    ensures accepted { IfOk result (λ found. options.workers ≡ 1
+        → TurnsAreAccepted design.now (B.Values.value bounds.now design.now) options.nodes
+        (opening design.now (B.Values.value bounds.now design.now) 1)) }
 {
     if options.workers >= 2 && options.workers <= 16 {
         together(
@@ -97,20 +81,15 @@ fn alone<B: Bounds, G: Gate>(
     nodes: u64,
     gate: &G,
 ) -> Result<Found, NoMemory>
-    ensures valid { IfOk result (λ found. IsValid design.now (B.Values.value bounds.now design.now) (B.part_value bounds.now design.now) found.cert) }
-    ensures blocks { IfOk result (λ found. found.cert.blocks ≡ block_count design.now) }
-    ensures plan { IfOk result (λ found. found.plan ≡ found.cert.plan) }
-    ensures cost { IfOk result (λ found. found.cost ≡ found.cert.cost) }
-    ensures bound { IfOk result (λ found. found.bound ≡ found.cert.bound) }
-    ensures decided { IfOk result (λ found. found.decided ≡ decided found.cert.tags) }
-    ensures few { IfOk result (λ found. found.decided ≤ nodes) }
-    ensures spent { IfOk result (λ found. found.bound < found.cost → found.decided ≡ nodes) }
-    ensures splits { IfOk result (λ found. AllSplitFirst design.now found.cert.tags) }
-    ensures full { IfOk result (λ found. found.decided ≤ full design.now) }
-    ensures ended { IfOk result (λ found. full design.now ≤ nodes → found.bound ≡ found.cost) }
-    ensures named { IfOk result (λ found. AllNameFirst design.now (B.part_value bounds.now design.now) found.cert.cost found.cert.tags) }
-    ensures run { IfOk result (λ found. IsCertOf design.now (turns design.now (B.Values.value bounds.now design.now) nodes (opening design.now (B.Values.value bounds.now design.now) 1)) found.cert) }
-    ensures accepted { IfOk result (λ found. TurnsAreAccepted design.now (B.Values.value bounds.now design.now) nodes (opening design.now (B.Values.value bounds.now design.now) 1)) }
+    ensures found { IfOk result (IsFound design.now (B.Values.value bounds.now design.now)
+        (B.part_value bounds.now design.now) nodes) }
+    ensures run { IfOk result
+        (λ found. IsCertOf design.now
+        (turns design.now (B.Values.value bounds.now design.now) nodes
+        (opening design.now (B.Values.value bounds.now design.now) 1)) found.cert) }
+    ensures accepted { IfOk result
+        (λ found. TurnsAreAccepted design.now (B.Values.value bounds.now design.now) nodes
+        (opening design.now (B.Values.value bounds.now design.now) 1)) }
 {
     let mut room = Room::new(alloc);
     let mut walk = search_walk(alloc, design, bounds, nodes, gate, &mut room)?;
@@ -148,18 +127,8 @@ fn together<R: Threads + Sync, B: Bounds, G: Gate>(
     gate: &G,
 ) -> Result<Found, NoMemory>
     requires { (2 ≤ workers) × (workers ≤ 16) }
-    ensures valid { IfOk result (λ found. IsValid design.now (B.Values.value bounds.now design.now) (B.part_value bounds.now design.now) found.cert) }
-    ensures blocks { IfOk result (λ found. found.cert.blocks ≡ block_count design.now) }
-    ensures plan { IfOk result (λ found. found.plan ≡ found.cert.plan) }
-    ensures cost { IfOk result (λ found. found.cost ≡ found.cert.cost) }
-    ensures bound { IfOk result (λ found. found.bound ≡ found.cert.bound) }
-    ensures decided { IfOk result (λ found. found.decided ≡ decided found.cert.tags) }
-    ensures few { IfOk result (λ found. found.decided ≤ nodes) }
-    ensures spent { IfOk result (λ found. found.bound < found.cost → found.decided ≡ nodes) }
-    ensures splits { IfOk result (λ found. AllSplitFirst design.now found.cert.tags) }
-    ensures full { IfOk result (λ found. found.decided ≤ full design.now) }
-    ensures ended { IfOk result (λ found. full design.now ≤ nodes → found.bound ≡ found.cost) }
-    ensures named { IfOk result (λ found. AllNameFirst design.now (B.part_value bounds.now design.now) found.cert.cost found.cert.tags) }
+    ensures found { IfOk result (IsFound design.now (B.Values.value bounds.now design.now)
+        (B.part_value bounds.now design.now) nodes) }
 {
     let searched = search_rounds(rt, alloc, design, bounds, workers, nodes, gate)?;
     let Progress {
