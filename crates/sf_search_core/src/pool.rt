@@ -184,30 +184,6 @@ impl Pool {
         Ok(())
     }
 
-    /// Makes a Replace whose children the caller has made, or refuses it and stays as it is.
-    pub fn branch<V: Values>(
-        &mut self,
-        design: &Design,
-        worker: u16,
-        how: How,
-        value: u64,
-        children: Vec<Task>,
-        values: &V,
-    ) -> Result<(), Refusal>
-        requires core { IsCoreState design.now (V.value values.now design.now) self.old }
-        requires can { CanCome (V.value values.now design.now) self.old
-            (Event.Replace worker how value (map (λ child. child.bound) children.items)) }
-        requires children { AreChildren how children.items (held_by self.old worker) }
-        ensures branched { Answers
-            (applied design.now self.old
-            (Event.Replace worker how value (map (λ child. child.bound) children.items)))
-            self.old result self.new }
-        ensures core { IsCoreState design.now (V.value values.now design.now) self.new }
-    {
-        self.branching(worker, how, value)?;
-        self.turn_into(worker, how, value, children)
-    }
-
     /// The worker's task becomes its children, with these bounds, and an entry.
     fn replace<V: Values>(
         &mut self,
