@@ -157,8 +157,8 @@ fn pads_share(design: &Design, pins: &[Pin]) -> Reach
     reach
 }
 
-/// Puts what holds of a net before any token at the end, where the net counts. The answer is its part as often
-/// as its weight says.
+/// Puts what holds of a net before any token at the end, where the net counts. The answer is its part as
+/// often as its weight says.
 fn push_net(
     cells: &mut Vec<Cell>,
     reaches: &mut [Reach],
@@ -191,8 +191,8 @@ fn push_net(
     Ok(weighed(net.weight, part))
 }
 
-/// Puts what holds before any token at the end. The answer is the sum of the parts, each as often as its net's
-/// weight says.
+/// Puts what holds before any token at the end. The answer is the sum of the parts, each as often as its
+/// net's weight says.
 fn push_start(
     cells: &mut Vec<Cell>,
     reaches: &mut [Reach],

@@ -1,10 +1,12 @@
 //! The GSRC pl text of a placement.
 
-ghost use Rattle.std.specs.Prelude.{◌≡◌, ℕ, ◌++◌, ◌<◌, ◌||◌, Bool, false, length, slice_index_or, IfOk, OnOk, string_bytes};
+ghost use Rattle.std.specs.Prelude.{◌≡◌, ℕ, ◌++◌, ◌<◌, ◌||◌, Bool, false, length, slice_index_or, IfOk, OnOk};
+ghost use Rattle.std.specs.Prelude.{string_bytes};
 ghost use Rattle.std.specs.List.{list_any};
 ghost use Rattle.sf_model.specs.Legal.{block_count};
 ghost use Rattle.sf_pl_writer.specs.Length.{IsScale};
-ghost use Rattle.sf_pl_writer.specs.PlText.{place_text, size_text, block_line, pad_line, is_pad, stands_in, block_lines, pad_lines, pl_text};
+ghost use Rattle.sf_pl_writer.specs.PlText.{place_text, size_text, block_line, pad_line, is_pad, stands_in};
+ghost use Rattle.sf_pl_writer.specs.PlText.{block_lines, pad_lines, pl_text};
 
 use crate::length::{push_length, push_signed};
 use sf_model::{Block, Design, Net, Pad, Pin, Spot};

@@ -4,7 +4,8 @@ ghost use Rattle.std.specs.Prelude.{◌≡◌, ◌++◌, length, IfOk, OnOk, Mat
 ghost use Rattle.std.specs.Fmt.{decimal};
 ghost use Rattle.sf_model.specs.CostText.{cost_text};
 ghost use Rattle.sf_polish.specs.Normal.{IsNormal};
-ghost use Rattle.sf_pl_writer.specs.ReportText.{line, outcome_text, no_plan_lines, measured_lines, report_text};
+ghost use Rattle.sf_pl_writer.specs.ReportText.{line, outcome_text, no_plan_lines, measured_lines};
+ghost use Rattle.sf_pl_writer.specs.ReportText.{report_text};
 
 use sf_model::push_cost;
 use sf_polish::{Expr, push_expr};

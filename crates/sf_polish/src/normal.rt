@@ -1,7 +1,8 @@
 //! Whether tokens are a normalised Polish expression.
 
 ghost use Rattle.std.specs.Prelude.{◌≡◌, ◌<◌, ◌↔◌, ◌≤◌, ℕ, length, take, IsTrue, IsFalse, All, count_by};
-ghost use Rattle.sf_polish.specs.Normal.{is_block, is_outside, ends_in, operands, operators, IsBallot, Alternates, IsNormal};
+ghost use Rattle.sf_polish.specs.Normal.{is_block, is_outside, ends_in, operands, operators, IsBallot};
+ghost use Rattle.sf_polish.specs.Normal.{Alternates, IsNormal};
 
 use crate::expr::Token;
 

@@ -1,6 +1,7 @@
 //! The tokens of a text as they are read.
 
-ghost use Rattle.std.specs.Prelude.{◌≡◌, ◌+◌, ◌<◌, ◌++◌, [], ◌∷◌, Ok, length, map, Some, IfOk, IfErr, IfSome, OnOk, IsFalse};
+ghost use Rattle.std.specs.Prelude.{◌≡◌, ◌+◌, ◌<◌, ◌++◌, [], ◌∷◌, Ok, length, map, Some, IfOk, IfErr, IfSome};
+ghost use Rattle.std.specs.Prelude.{OnOk, IsFalse};
 ghost use Rattle.std.specs.List.{range_with_len, list_all};
 ghost use Rattle.sf_lex.specs.Scan.{last_line_of};
 ghost use Rattle.sf_polish.specs.declared.expr.Token.{Token};

@@ -1,8 +1,8 @@
-//! The standard bound of a subproblem as a definition, with its laws: no plan that belongs to the subproblem and
-//! fits costs less, and at a solved subproblem it is the least cost; a child by a block that stays incomplete keeps
-//! the value; at every subproblem, a solved one too, it is the value from area and wires; and where each part has a
-//! plan in the outline, the wires stay small. It stands on `sf_node` and holds no code that
-//! measures; `sf_bounds` above computes it.
+//! The standard bound of a subproblem as a definition, with its laws: no plan that belongs to the
+//! subproblem and fits costs less, and at a solved subproblem it is the least cost; a child by a block
+//! that stays incomplete keeps the value; at every subproblem, a solved one too, it is the value from
+//! area and wires; and where each part has a plan in the outline, the wires stay small. It stands on
+//! `sf_node` and holds no code that measures; `sf_bounds` above computes it.
 #![tactic(auto)]
 
 pub mod hull;

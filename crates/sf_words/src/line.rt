@@ -1,6 +1,7 @@
 //! The command line that clap is asked to read, and what its words mean.
 ghost use Rattle.std.specs.Prelude.{◌≡◌, IfOk, IfErr, IfSome, IfNone, Some, false, map, string_bytes};
-ghost use Rattle.clap.specs.Words.{app_of, with_rule, new_app, kind_of, subcommand_rows_of, rows_of, found_of};
+ghost use Rattle.clap.specs.Words.{app_of, with_rule, new_app, kind_of, subcommand_rows_of, rows_of};
+ghost use Rattle.clap.specs.Words.{found_of};
 ghost use Rattle.clap.specs.declared.builder.command.Command.TheViews.{out-Command as fields_of};
 ghost use Rattle.sf_words.specs.Table.{mode_text, keys_of};
 ghost use Rattle.sf_words.specs.Words.{HasForm};

@@ -3,8 +3,12 @@ ghost use Rattle.std.specs.Prelude.{◌≡◌, ◌↔◌, List, Option, Some, Is
 ghost use Rattle.sf_words.specs.declared.options.Key.{Key};
 ghost use Rattle.sf_words.specs.declared.command.Kinds.{Kinds};
 ghost use Rattle.sf_words.specs.Table.{Text};
-ghost use Rattle.sf_words.specs.Meaning.{Input, InputSays, DesignOptions, DesignSays, WeightOptions, WeightsSay, PlanOptions, PlanSays, CheckOptions, CheckSays, MeasureOptions, MeasureSays, ShapeOptions, ShapeSays, KindsSay, GenOptions, GenSays, Command, Says, Means, mode_of};
-ghost use Rattle.sf_words.specs.Seen.{text_of, input_seen, design_seen, weights_seen, plan_seen, check_seen, measure_seen, shape_seen, gen_seen, command_seen};
+ghost use Rattle.sf_words.specs.Meaning.{Input, InputSays, DesignOptions, DesignSays, WeightOptions};
+ghost use Rattle.sf_words.specs.Meaning.{WeightsSay, PlanOptions, PlanSays, CheckOptions, CheckSays};
+ghost use Rattle.sf_words.specs.Meaning.{MeasureOptions, MeasureSays, ShapeOptions, ShapeSays, KindsSay};
+ghost use Rattle.sf_words.specs.Meaning.{GenOptions, GenSays, Command, Says, Means, mode_of};
+ghost use Rattle.sf_words.specs.Seen.{text_of, input_seen, design_seen, weights_seen, plan_seen, check_seen};
+ghost use Rattle.sf_words.specs.Seen.{measure_seen, shape_seen, gen_seen, command_seen};
 
 use crate::command::{
     CheckWords, CommandWords, DesignWords, GenWords, InputFiles, Kinds, MeasureWords, PlanWords,

@@ -1,9 +1,11 @@
 //! Options as they stand in the words.
-ghost use Rattle.std.specs.Prelude.{◌≡◌, ◌≢◌, ◌↔◌, ◌∷◌, [], ◌++◌, List, IsTrue, IfSome, IfNone, Contains, MatchOption, IfOk, map, string_bytes};
+ghost use Rattle.std.specs.Prelude.{◌≡◌, ◌≢◌, ◌↔◌, ◌∷◌, [], ◌++◌, List, IsTrue, IfSome, IfNone, Contains};
+ghost use Rattle.std.specs.Prelude.{MatchOption, IfOk, map, string_bytes};
 ghost use Rattle.sf_words.specs.declared.options.Mode.{Mode};
 ghost use Rattle.sf_words.specs.declared.options.Key.{Key};
 ghost use Rattle.sf_words.specs.Table.{Text, key_text, is_flag};
-ghost use Rattle.sf_words.specs.Words.{Token, key_of, value_of, before, words_of, IsValue, IsShaped, IsNew, AreOptions};
+ghost use Rattle.sf_words.specs.Words.{Token, key_of, value_of, before, words_of, IsValue, IsShaped, IsNew};
+ghost use Rattle.sf_words.specs.Words.{AreOptions};
 ghost use Rattle.sf_words.specs.Words.{HasForm};
 ghost use Rattle.sf_words.specs.Seen.{token_of};
 

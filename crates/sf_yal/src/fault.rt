@@ -8,12 +8,12 @@ use sf_model::Name;
 use std::alloc::{AllocError, AllocFailed};
 use thiserror::Error;
 
-/// The first fault of a text, with the number of its statement's line first. A statement's line is that of its
-/// first word.
+/// The first fault of a text, with the number of its statement's line first. A statement's line is that
+/// of its first word.
 #[derive(Debug, Drop, Error)]
 pub enum YalFault {
-    /// The text breaks off inside a comment, a statement, a list or a module. The line is the last one with anything
-    /// but blanks and comments, or 0.
+    /// The text breaks off inside a comment, a statement, a list or a module. The line is the last one
+    /// with anything but blanks and comments, or 0.
     #[error("the text ends early")]
     Truncated(u64),
     #[error("the statement has no form of such a file, or stands at a place where it may not")]

@@ -16,8 +16,8 @@ use sf_model::{Name, RawPad};
 use sf_names::{Names, TextHash};
 use std::alloc::{AllocError, Global};
 
-/// What is kept of the statements: the module that is open; the names of all modules, and the boxes of those that
-/// are closed; the place of the parent among them, and its pads and instances.
+/// What is kept of the statements: the module that is open; the names of all modules, and the boxes of
+/// those that are closed; the place of the parent among them, and its pads and instances.
 #[derive(Drop)]
 pub struct Found<'a> {
     pub current: Option<OpenModule>,

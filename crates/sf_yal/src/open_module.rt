@@ -16,8 +16,8 @@ pub enum Section {
     Network,
 }
 
-/// What its statements have said of the module so far: whether it has a type, whether that is PARENT, whether it has
-/// a list, and its box.
+/// What its statements have said of the module so far: whether it has a type, whether that is PARENT,
+/// whether it has a list, and its box.
 #[derive(Clone, Copy, Debug)]
 pub struct OpenModule {
     pub section: Section,

@@ -75,10 +75,10 @@ fn read_exactly(alloc: Global, text: &[u8], scale: u64) -> Result<Parts, YalFaul
     into_parts(alloc, found, parent)
 }
 
-/// The parts for which a YAL text stands, or its first fault. Lengths are taken times the scale, so they come out
-/// in whole scaled units. All pads have a place, no name is a stranger, and the pads are in. The box of the parent
-/// is read and sets no outline. The format is that of the MCNC benchmark circuits; a terminal of the parent with two
-/// numbers behind its kind is taken for a pad.
+/// The parts for which a YAL text stands, or its first fault. Lengths are taken times the scale, so they
+/// come out in whole scaled units. All pads have a place, no name is a stranger, and the pads are in.
+/// The box of the parent is read and sets no outline. The format is that of the MCNC benchmark circuits;
+/// a terminal of the parent with two numbers behind its kind is taken for a pad.
 pub fn read_yal(alloc: Global, text: &[u8], scale: u64) -> Result<Parts, YalFault>
     requires scale_low { 1 ≤ scale }
     requires scale_high { scale ≤ 1000 }
