@@ -1,5 +1,4 @@
-pub mod VertexSteps
-pub mod Boxes
+pub mod HardLines
 pub mod Keeping
 pub mod LineSteps
 pub mod Results

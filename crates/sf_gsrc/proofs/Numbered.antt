@@ -20,20 +20,11 @@ use Rattle.sf_gsrc.specs.Join.{by_number, has_numbers, numbered, numbered_net, n
 
 -- ---- one pin
 
-block_by : (blocks : List RawBlock) (b p : Option ℕ) (pin : RawPin) → block_of blocks pin ≡ b → block_of blocks (by_number b p pin) ≡ b
-block_by blocks (Some b) None pin e = refl
-block_by blocks (Some b) (Some p) pin e = e
-block_by blocks None (Some p) pin e = refl
-block_by blocks None None pin e = e
-
 pad_by : (pads : List RawPad) (b p : Option ℕ) (pin : RawPin) → pad_of pads pin ≡ p → pad_of pads (by_number b p pin) ≡ p
 pad_by pads (Some b) None pin e = refl
 pad_by pads (Some b) (Some p) pin e = e
 pad_by pads None (Some p) pin e = refl
 pad_by pads None None pin e = e
-
-pub same_block : (blocks : List RawBlock) (pads : List RawPad) (pin : RawPin) → block_of blocks (numbered_pin blocks pads pin) ≡ block_of blocks pin
-same_block blocks pads pin = block_by blocks (block_of blocks pin) (pad_of pads pin) pin refl
 
 pub same_pad : (blocks : List RawBlock) (pads : List RawPad) (pin : RawPin) → pad_of pads (numbered_pin blocks pads pin) ≡ pad_of pads pin
 same_pad blocks pads pin = pad_by pads (block_of blocks pin) (pad_of pads pin) pin refl

@@ -1,14 +1,12 @@
 -- The owners of names, as names come to stand before those that are there.
-use Rattle.std.proofs.Common.{◌≡◌, ℕ, ◌+◌, ◌<◌, Bool, true, false, cond, map, length, drop, get_or, subst, List, [], ◌∷◌, Option, Some, None, refl, ap, sym, ◌∙◌}
+use Rattle.std.proofs.Common.{◌≡◌, ℕ, ◌+◌, Bool, true, false, cond, subst, List, ◌∷◌, Option, Some, None, refl, ap, sym, ◌∙◌}
 use Rattle.std.specs.List.{position_from}
 use Rattle.std.specs.Map.{update}
 use Rattle.std.specs.Str.{bytes_eq}
 use Rattle.std.proofs.lemmas.Slice.Eq.{bytes_eq-Decides}
 use Rattle.sf_model.specs.declared.raw.RawPin.{RawPin}
 use Rattle.sf_model.specs.declared.raw.RawPin.TheVariants as raw
-use Rattle.std.proofs.Math.Seq.{drop-length}
 use Rattle.sf_model.proofs.Tables.{bytes_eq_sym}
-use Rattle.sf_model.proofs.Walks.{drop_step}
 use Rattle.sf_gsrc.specs.declared.owners.Owner.{Owner}
 use Rattle.sf_gsrc.specs.declared.owners.Owner.TheVariants.{Block, Pad, Both}
 use Rattle.sf_gsrc.specs.Join.{by_number}
@@ -62,20 +60,3 @@ of_none (Some b) None pin e = cc
 of_none (Some b) (Some p) pin e = cc
 of_none None (Some p) pin e = cc
 of_none None None pin e = refl
-
--- ---- from the last name to the first
-
--- the walk begins behind the last
-pub owners_start : {X : Type 0} (name : X → List ℕ) (xs : List X) (P : ℕ → List (List ℕ) → Type 0) → P (length xs) [] → P (length xs) (map name (drop (length xs) xs))
-owners_start {X} name xs P h =
-    let Q : List X → Type 0 = λ ys. P (length xs) (map name ys) in
-    subst Q (sym (drop-length xs)) h
-
--- one item more, before those that are left
-pub owners_step : {X : Type 0} (name : X → List ℕ) (xs : List X) (i j : ℕ) (x : X) (P Q : ℕ → List (List ℕ) → Type 0) → i < length xs → j ≡ i + 1 → x ≡ get_or xs i x
-    → ((names : List (List ℕ)) → P (i + 1) names → Q i (name x ∷ names)) → P j (map name (drop j xs)) → Q i (map name (drop i xs))
-owners_step {X} name xs i j x P Q lt next is put was =
-    let item : drop i xs ≡ x ∷ drop j xs = drop_step xs i x lt ∙ ap (λ (y : X). y ∷ drop (i + 1) xs) (sym is) ∙ ap (λ (k : ℕ). x ∷ drop k xs) (sym next) in
-    let R : List X → Type 0 = λ ys. Q i (map name ys) in
-    let S : ℕ → Type 0 = λ k. P k (map name (drop j xs)) in
-    subst R (sym item) (put (map name (drop j xs)) (subst S next was))

@@ -8,7 +8,7 @@ use Rattle.sf_gsrc.specs.declared.fault.GsrcFault.TheVariants as faults
 use Rattle.sf_gsrc.specs.declared.fault.LineFault.{LineFault}
 use Rattle.sf_gsrc.specs.declared.output.Place.{Place}
 use Rattle.sf_gsrc.specs.declared.output.GsrcPlaces.{GsrcPlaces}
-use Rattle.sf_gsrc.specs.Line.{◌>>=◌}
+use Rattle.sf_lex.specs.Results.{◌>>=◌}
 use Rattle.sf_gsrc.specs.PlaceLine.{place_said}
 use Rattle.sf_gsrc.specs.Blocks.{content_of, is_title}
 use Rattle.sf_gsrc.specs.Places.{at_number, place_at, places_from, places_titled, places_read, SaysPlace, PlacesStandFor}

@@ -1,19 +1,25 @@
 -- What a result says of the steps that gave it, and a test of an option.
 use Rattle.std.proofs.Common.{◌≡◌, false, Option, Some, None, Result, Ok, Err, refl}
 use Rattle.std.specs.Prelude.{is_some}
-use Rattle.sf_gsrc.specs.Line.{◌>>=◌}
+use Rattle.sf_lex.specs.Results.{◌>>=◌}
+use Rattle.sf_gsrc.specs.declared.fault.GsrcFault.{GsrcFault}
+use Rattle.sf_gsrc.specs.declared.fault.GsrcFault.TheVariants as faults
+use Rattle.sf_gsrc.specs.Blocks.{Fails}
 
 -- one step after another gives what the second gives of the first
 pub bind_ok : {A B E : Type 0} (r : Result A E) (f : A → Result B E) (y : B) → (r >>= f) ≡ Ok y → (x : A) × (r ≡ Ok x) × (f x ≡ Ok y)
 bind_ok (Ok x) f y e = (x, refl, e)
 bind_ok (Err d) f y e = absurd cc
 
+-- an answer that is no fault
 abbrev pub done : {A E : Type 0} → A → Result A E
 done x = Ok x
 
+-- one answer has one value
 pub ok_is : {A E : Type 0} (x y : A) → done {E = E} x ≡ done y → x ≡ y
 ok_is x y e = cc
 
+-- a fault is no answer
 pub err_not_ok : {A E : Type 0} (f : E) (x : A) → Err f ≡ Ok x → ⊥
 err_not_ok f x e = absurd cc
 
@@ -21,3 +27,19 @@ err_not_ok f x e = absurd cc
 pub none_of : {X : Type 0} (o : Option X) → is_some o ≡ false → o ≡ None
 none_of None e = refl
 none_of (Some x) e = absurd cc
+
+-- a fault is that of all that hands faults on
+pub Fails-as : {X Y : Type 0} (f : Result X GsrcFault → Result Y GsrcFault) → ((e : GsrcFault) → f (Err e) ≡ Err e)
+    → (fault : GsrcFault) (read : Result X GsrcFault) → Fails fault read → Fails fault (f read)
+Fails-as f keeps faults.NoMemory read h = tt
+Fails-as f keeps (faults.BadTitle n) read h = rw h (keeps (faults.BadTitle n))
+Fails-as f keeps (faults.BadLine n) read h = rw h (keeps (faults.BadLine n))
+Fails-as f keeps (faults.BadNumber n e) read h = rw h (keeps (faults.BadNumber n e))
+Fails-as f keeps (faults.CountDiffers n a b) read h = rw h (keeps (faults.CountDiffers n a b))
+Fails-as f keeps (faults.BadDegree n a b) read h = rw h (keeps (faults.BadDegree n a b))
+Fails-as f keeps (faults.ZeroSide n) read h = rw h (keeps (faults.ZeroSide n))
+Fails-as f keeps (faults.Truncated n) read h = rw h (keeps (faults.Truncated n))
+
+-- a step's fault is that of the steps after one another
+pub Fails-then : {X Y : Type 0} (f : X → Result Y GsrcFault) (fault : GsrcFault) (read : Result X GsrcFault) → Fails fault read → Fails fault (read >>= f)
+Fails-then f fault read h = Fails-as (λ r. r >>= f) (λ e. refl) fault read h

@@ -1,6 +1,6 @@
 -- Each block of a blocks file has a size.
-use Rattle.std.proofs.Common.{◌≡◌, ◌<◌, ℕ, Bool, true, false, List, [], ◌∷◌, Option, Some, None, Result, Ok, Err, refl, sym, subst, arith, nat_lt, ◌*◌, ℤ}
-use Rattle.std.specs.Prelude.{map, ◌==◌, ◌||◌, if◌then◌else◌, length}
+use Rattle.std.proofs.Common.{◌≡◌, ◌<◌, ℕ, Bool, true, false, List, [], ◌∷◌, Option, Some, None, Result, Ok, Err, refl, sym, subst, arith, nat_lt, ◌*◌}
+use Rattle.std.specs.Prelude.{◌==◌, ◌||◌, if◌then◌else◌, length}
 use Rattle.std.specs.List.{All, AllZip}
 use Rattle.std.proofs.lemmas.Bool.Decides.{nat_tests}
 use Rattle.std.proofs.lemmas.List.Elements.{All-nil, All-cons, All-same}
@@ -18,7 +18,10 @@ use Rattle.sf_gsrc.specs.declared.keywords.Form.{Form}
 use Rattle.sf_gsrc.specs.declared.keywords.Form.TheVariants as forms
 use Rattle.sf_gsrc.specs.declared.output.GsrcBlocks.{GsrcBlocks}
 use Rattle.sf_gsrc.specs.Keywords.{form_of}
-use Rattle.sf_gsrc.specs.Line.{◌>>=◌, Item, BlockIs, PadIs, area_in_word, aspect_in_word, count_in_word, vertices_of, extent, soft_said, box_said, hard_said, form_said, plain_said, counted_by}
+use Rattle.sf_lex.specs.Results.{◌>>=◌, told}
+use Rattle.sf_lex.specs.Vertices.{box_read}
+use Rattle.sf_lex.specs.declared.vertices.BoxSize.{BoxSize}
+use Rattle.sf_gsrc.specs.Line.{Item, BlockIs, PadIs, area_in_word, aspect_in_word, count_in_word, vertex_fault, soft_said, box_said, hard_said, form_said, plain_said, counted_by}
 use Rattle.sf_gsrc.specs.Blocks.{Entry, Said, CountIs, ItemIs, blocks_in}
 use Rattle.sf_gsrc.specs.Standing.{SaysBy, SaysEntry, StandsFor}
 use Rattle.sf_gsrc.proofs.Results.{bind_ok, done, ok_is, err_not_ok}
@@ -58,12 +61,10 @@ box_by name w h item true b ea eb e = absurd (err_not_ok ZeroSide item e)
 box_by name w h item false true ea eb e = absurd (err_not_ok ZeroSide item e)
 box_by name w h item false false ea eb e = sized_as (BlockIs (record { name = name; kind = kinds.Hard w h })) item e (some_size w ea, some_size h eb)
 
-box_sized : (name : List ℕ) (vertices : List (ℤ × ℤ)) (item : Item) → box_said name vertices ≡ Ok item → ItemSized item
-box_sized name vertices item h =
-    box_by name (extent (map (λ v. v.0) vertices)) (extent (map (λ v. v.1) vertices)) item
-    (extent (map (λ v. v.0) vertices) == 0) (extent (map (λ v. v.1) vertices) == 0) refl refl h
+box_sized : (name : List ℕ) (size : BoxSize) (item : Item) → box_said name size ≡ Ok item → ItemSized item
+box_sized name size item h = box_by name size.w size.h item (size.w == 0) (size.h == 0) refl refl h
 
-outline_sized : (name : List ℕ) (read : Result (List (ℤ × ℤ)) LineFault) (item : Item) (b : Bool) → (if b then Err BadLine else (read >>= box_said name)) ≡ Ok item → ItemSized item
+outline_sized : (name : List ℕ) (read : Result BoxSize LineFault) (item : Item) (b : Bool) → (if b then Err BadLine else (read >>= box_said name)) ≡ Ok item → ItemSized item
 outline_sized name read item true h = absurd (err_not_ok BadLine item h)
 outline_sized name read item false h = let k = bind_ok read (box_said name) item h in box_sized name k.0 item k.2
 
@@ -72,7 +73,7 @@ unfolding hard_said
 hard_sized scale name [] item h = absurd (err_not_ok BadLine item h)
 hard_sized scale name (count ∷ places) item h =
     let k = bind_ok (count_in_word count) _ item h in
-    outline_sized name (vertices_of scale k.0 places) item ((k.0 == 0) || nat_lt (length places) (2 * k.0)) k.2
+    outline_sized name (told vertex_fault (box_read scale k.0 places)) item ((k.0 == 0) || nat_lt (length places) (2 * k.0)) k.2
 
 form_sized : (scale : ℕ) (name rest : List ℕ) (form : Option Form) (item : Item) → form_said scale name rest form ≡ Ok item → ItemSized item
 form_sized scale name rest None item h = absurd (err_not_ok BadLine item h)

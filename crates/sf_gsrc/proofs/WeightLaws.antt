@@ -11,7 +11,7 @@ use Rattle.sf_lex.specs.declared.number.NumberFault.{NumberFault}
 use Rattle.sf_gsrc.specs.declared.fault.WeightFault.{WeightFault}
 use Rattle.sf_gsrc.specs.declared.fault.WeightFault.TheVariants.{BadLine, RepeatedNet, UnknownNet}
 use Rattle.sf_gsrc.specs.Blocks.{content_of, or_else}
-use Rattle.sf_gsrc.specs.Line.{◌>>=◌}
+use Rattle.sf_lex.specs.Results.{◌>>=◌}
 use Rattle.sf_gsrc.specs.Weights.{NetWeight, SaysWeight, WeightsStandFor, net_in_word, new_net, number_on, pair_after, two_words, weight_after, weight_in_word, weight_of, weight_said, weights_from, weights_of, weights_read}
 use Rattle.sf_gsrc.proofs.Results.{bind_ok, err_not_ok, ok_is}
 use Rattle.sf_gsrc.proofs.WeightSteps.{weight_said-push}

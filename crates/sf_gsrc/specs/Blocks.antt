@@ -17,7 +17,8 @@ use Rattle.sf_gsrc.specs.declared.keywords.Counted.TheVariants as counts
 use Rattle.sf_gsrc.specs.declared.count.Count.{Count}
 use Rattle.sf_gsrc.specs.declared.output.GsrcBlocks.{GsrcBlocks}
 use Rattle.sf_lex.specs.Gap.{is_gap, first_word, after_word}
-use Rattle.sf_gsrc.specs.Line.{◌>>=◌, Item, BlockIs, PadIs, counted_by, count_said, plain_said}
+use Rattle.sf_lex.specs.Results.{◌>>=◌}
+use Rattle.sf_gsrc.specs.Line.{Item, BlockIs, PadIs, counted_by, count_said, plain_said}
 
 -- ---- lines
 
@@ -26,12 +27,15 @@ abbrev pub is_content_word : List ℕ → Bool
 is_content_word [] = false
 is_content_word (b ∷ word) = not (b == 35)
 
+-- a line that is neither blank nor a comment
 abbrev pub is_content : Line → Bool
 is_content line = is_content_word (first_word Blanks line.bytes)
 
+-- the lines that are neither blank nor comments
 abbrev pub content : List Line → List Line
 content all = filter is_content all
 
+-- those of a text
 abbrev pub content_of : List ℕ → List Line
 content_of text = content (numbered 1 (lines text))
 
@@ -56,26 +60,31 @@ pub record Entry : Type 0 where
   pub number : ℕ
   pub said : Said
 
+-- whether two counts are of one kind
 abbrev pub is_same : Counted → Counted → Bool
 is_same counts.Soft counts.Soft = true
 is_same counts.Hard counts.Hard = true
 is_same counts.Terminals counts.Terminals = true
 is_same _ _ = false
 
+-- the count of this kind that a line says
 abbrev pub count_at : Counted → ℕ → Said → Option Count
 count_at which n (CountIs k said) = if is_same which k then Some (record { line = n; said = said }) else None
 count_at which n (ItemIs item) = None
 
+-- the block that a line says
 abbrev pub block_at : Said → Option RawBlock
 block_at (CountIs k said) = None
 block_at (ItemIs (BlockIs block)) = Some block
 block_at (ItemIs (PadIs name)) = None
 
+-- the pad that a line says
 abbrev pub pad_at : Said → Option (List ℕ)
 pad_at (CountIs k said) = None
 pad_at (ItemIs (BlockIs block)) = None
 pad_at (ItemIs (PadIs name)) = Some name
 
+-- the first of two that is there
 abbrev pub or_else : {X : Type 0} → Option X → Option X → Option X
 or_else None other = other
 or_else (Some x) other = Some x
@@ -85,19 +94,23 @@ abbrev pub count_in : Counted → List Entry → Option Count
 count_in which [] = None
 count_in which (e ∷ more) = or_else (count_at which e.number e.said) (count_in which more)
 
+-- the blocks that the lines say
 abbrev pub blocks_in : List Entry → List RawBlock
 blocks_in entries = filter_map (λ e. block_at e.said) entries
 
+-- the pads that the lines say
 abbrev pub pads_in : List Entry → List (List ℕ)
 pads_in entries = filter_map (λ e. pad_at e.said) entries
 
 -- ---- the faults of a line
 
+-- a line's fault with the number of the line
 abbrev pub fault_at : ℕ → LineFault → GsrcFault
 fault_at n BadLine = faults.BadLine n
 fault_at n (BadNumber fault) = faults.BadNumber n fault
 fault_at n ZeroSide = faults.ZeroSide n
 
+-- what a line says, or its fault, with the number of the line
 abbrev pub entry_at : {A : Type 0} → ℕ → (A → Said) → Result A LineFault → Result Entry GsrcFault
 entry_at n says (Ok x) = Ok (record { number = n; said = says x })
 entry_at n says (Err fault) = Err (fault_at n fault)
@@ -107,6 +120,7 @@ unfoldable pub count_after : Counted → List Entry → Line → Result Entry Gs
 count_after which earlier line = if is_some (count_in which earlier) then Err (faults.BadLine line.number)
     else entry_at line.number (CountIs which) (count_said (words (is_gap Colons) line.bytes))
 
+-- what a line says that is a count line or none
 abbrev pub entry_by : ℕ → List Entry → Line → Option Counted → Result Entry GsrcFault
 entry_by scale earlier line (Some which) = count_after which earlier line
 entry_by scale earlier line None = entry_at line.number ItemIs (plain_said scale line.bytes)
@@ -124,10 +138,12 @@ entries_from scale earlier (line ∷ more) = do
 
 -- ---- the end of the text
 
+-- whether a kind is soft
 abbrev pub is_soft_kind : Kind → Bool
 is_soft_kind (kinds.Soft area min max) = true
 is_soft_kind (kinds.Hard w h) = false
 
+-- whether a block is soft
 abbrev pub is_soft : RawBlock → Bool
 is_soft block = is_soft_kind block.kind
 
@@ -135,25 +151,32 @@ is_soft block = is_soft_kind block.kind
 abbrev pub compared : {X : Type 0} → Count → ℕ → Result X GsrcFault → Result X GsrcFault
 compared count found next = if count.said == found then next else Err (faults.CountDiffers count.line count.said found)
 
+-- the counts are there, and each agrees with what was found
 abbrev pub finished_by : ℕ → Option Count → Option Count → Option Count → GsrcBlocks → Result GsrcBlocks GsrcFault
 finished_by last (Some soft) (Some hard) (Some terminals) out =
     compared soft (count_by is_soft out.blocks) (compared hard (count_by (λ b. not (is_soft b)) out.blocks) (compared terminals (length out.pads) (Ok out)))
 finished_by last _ _ _ out = Err (faults.Truncated last)
 
+-- the blocks and pads of the lines
 abbrev pub out_of : List Entry → GsrcBlocks
 out_of entries = record { blocks = blocks_in entries; pads = pads_in entries }
 
+-- what all lines say, where their counts agree
 abbrev pub finished : ℕ → List Entry → Result GsrcBlocks GsrcFault
 finished last entries = finished_by last (count_in counts.Soft entries) (count_in counts.Hard entries) (count_in counts.Terminals entries) (out_of entries)
 
 -- ---- the whole text
 
-abbrev pub titled : ℕ → List Line → Result GsrcBlocks GsrcFault
-titled scale [] = Err (faults.Truncated 0)
-titled scale (title ∷ others) = if is_title (codes "blocks") title.bytes
-    then (entries_from scale [] others >>= finished (last_of title.number others))
-    else Err (faults.BadTitle title.number)
+-- the number of the title's line and the lines behind it, where the title is one of this kind
+abbrev pub opened : List ℕ → List Line → Result (ℕ × List Line) GsrcFault
+opened kind [] = Err (faults.Truncated 0)
+opened kind (title ∷ others) = if is_title kind title.bytes then Ok (title.number, others) else Err (faults.BadTitle title.number)
 
+-- what the lines say behind their title
+abbrev pub titled : ℕ → List Line → Result GsrcBlocks GsrcFault
+titled scale all = opened (codes "blocks") all >>= λ o. (entries_from scale [] o.1 >>= finished (last_of o.0 o.1))
+
+-- what a text is read as
 unfoldable pub blocks_read : ℕ → List ℕ → Result GsrcBlocks GsrcFault
 blocks_read scale text = titled scale (content_of text)
 

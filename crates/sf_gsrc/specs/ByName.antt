@@ -23,6 +23,7 @@ PlacesByName m places = (name : List ℕ) → value_in m name ≡ place_of place
 abbrev pub IsNameSet : List (List ℕ × Unit {0}) → (List ℕ → Bool) → Type 0
 IsNameSet m has = (name : List ℕ) → is_some (value_in m name) ≡ has name
 
+-- places by their names, and the first name that is placed twice
 pub record IsSpots (spots : Spots) (places : List Place) : Type 0 where
   pub by_name : PlacesByName spots.by_name places
   pub twice : option_map (λ p. p.now.name) spots.twice ≡ first_twice (names_of places)
@@ -32,6 +33,7 @@ abbrev pub pads_once : Option (List ℕ) → List RawPad → Result (List RawPad
 pads_once None pads = Ok pads
 pads_once (Some name) pads = Err (faults.PlacedTwice name)
 
+-- what a function returned is this, unless memory ran out
 abbrev pub GivesPads : Result (Vec RawPad) JoinFault → Result (List RawPad) JoinFault → Type 0
 GivesPads (Ok pads) wanted = wanted ≡ Ok pads.items
 GivesPads (Err faults.NoMemory) wanted = Unit {0}

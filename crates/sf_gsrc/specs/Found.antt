@@ -15,11 +15,13 @@ pub record IsFound (found : Found) (entries : List Entry) : Type 0 where
   pub blocks : found.blocks.items ≡ blocks_in entries
   pub pads : found.pads.items ≡ pads_in entries
 
+-- the count of a kind, as it is kept
 abbrev pub count_kept : Found → Counted → Option Count
 count_kept found counts.Soft = found.soft
 count_kept found counts.Hard = found.hard
 count_kept found counts.Terminals = found.terminals
 
+-- with a count of this kind
 abbrev pub with_count : Found → Counted → Count → Found
 with_count found counts.Soft count = record found { soft = Some count }
 with_count found counts.Hard count = record found { hard = Some count }
@@ -29,6 +31,7 @@ with_count found counts.Terminals count = record found { terminals = Some count 
 abbrev pub Takes : Found → Found → List Entry → Result Entry GsrcFault → Type 0
 Takes old new entries read = (entry : Entry) × (read ≡ Ok entry) × IsFound new (entries ++ entry ∷ [])
 
+-- what a line says is kept, or its fault is answered
 abbrev pub Keeps : {T : Type 0} → Result T GsrcFault → Found → Found → (List Entry → Result Entry GsrcFault) → Type 0
 Keeps (Ok x) old new read = (entries : List Entry) → IsFound old entries → Takes old new entries (read entries)
 Keeps (Err fault) old new read = (entries : List Entry) → IsFound old entries → Fails fault (read entries)

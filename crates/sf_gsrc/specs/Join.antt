@@ -16,6 +16,7 @@ use Rattle.sf_gsrc.specs.declared.output.Place.{Place}
 use Rattle.sf_gsrc.specs.declared.fault.JoinFault.{JoinFault}
 use Rattle.sf_gsrc.specs.declared.fault.JoinFault.TheVariants as faults
 
+-- the names that are placed
 abbrev pub names_of : List Place → List (List ℕ)
 names_of places = map (λ p. p.name) places
 
@@ -80,9 +81,11 @@ by_number None (Some p) pin = raw.Pad p
 by_number (Some b) (Some p) pin = pin
 by_number None None pin = pin
 
+-- a pin by the number of its block or pad
 abbrev pub numbered_pin : List RawBlock → List RawPad → RawPin → RawPin
 numbered_pin blocks pads pin = by_number (block_of blocks pin) (pad_of pads pin) pin
 
+-- a net of such pins
 abbrev pub numbered_net : List RawBlock → List RawPad → RawNet → RawNet
 numbered_net blocks pads net = record { pins = map (numbered_pin blocks pads) net.pins }
 
@@ -90,6 +93,7 @@ numbered_net blocks pads net = record { pins = map (numbered_pin blocks pads) ne
 abbrev pub has_numbers : List RawBlock → List RawPad → Bool
 has_numbers blocks pads = nat_lt (length blocks) (2 ^ 32) && nat_lt (length pads) (2 ^ 32)
 
+-- nets of such pins, where the numbers tell all blocks and pads apart
 abbrev pub numbered_nets : List RawBlock → List RawPad → List RawNet → List RawNet
 numbered_nets blocks pads nets = if has_numbers blocks pads then map (numbered_net blocks pads) nets else nets
 
@@ -97,6 +101,7 @@ numbered_nets blocks pads nets = if has_numbers blocks pads then map (numbered_n
 abbrev pub numbered : Parts → Parts
 numbered parts = record parts { nets = numbered_nets parts.blocks parts.pads parts.nets }
 
+-- the parts, unless a name is placed twice
 abbrev pub placed_once : Option (List ℕ) → Parts → Result Parts JoinFault
 placed_once None parts = Ok parts
 placed_once (Some name) parts = Err (faults.PlacedTwice name)

@@ -11,6 +11,7 @@ use Rattle.sf_gsrc.specs.declared.keywords.NetWord.TheVariants as net_words
 use Rattle.sf_gsrc.specs.declared.keywords.Form.{Form}
 use Rattle.sf_gsrc.specs.declared.keywords.Form.TheVariants as forms
 
+-- the colon
 abbrev pub is_colon : ℕ → Bool
 is_colon b = b == 58
 
@@ -39,5 +40,6 @@ net_word_of word = if bytes_eq word (codes "NumNets") then Some net_words.Nets
     else if bytes_eq word (codes "NetDegree") then Some net_words.Degree
     else None
 
+-- what a word of a nets file says
 abbrev pub net_word_by : List ℕ → Option NetWord
 net_word_by line = net_word_of (count_word line)

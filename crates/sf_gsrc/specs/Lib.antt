@@ -1,8 +1,6 @@
 pub mod Keywords
 pub mod Line
 pub mod Statement
-pub mod Corners
-pub mod Seen
 pub mod Blocks
 pub mod Found
 pub mod Standing

@@ -1,6 +1,10 @@
 -- What a line of a block file says by itself, and its fault if it says nothing.
-use Rattle.std.specs.Prelude.{ℕ, zero, suc, ◌*◌, ◌||◌, ◌==◌, nat_lt, List, [], ◌∷◌, length, map, Option, Some, None, Result, Ok, Err, if◌then◌else◌, ℤ, ◌-ℤ◌, fold, unsigned_abs}
-use Rattle.std.specs.Int.{int_min, int_max}
+use Rattle.std.specs.Prelude.{ℕ, ◌*◌, ◌||◌, ◌==◌, nat_lt, List, [], ◌∷◌, length, Option, Some, None, Result, Ok, Err, if◌then◌else◌, ℤ}
+use Rattle.sf_lex.specs.Results.{◌>>=◌, told}
+use Rattle.sf_lex.specs.Vertices.{box_read}
+use Rattle.sf_lex.specs.declared.vertices.BoxSize.{BoxSize}
+use Rattle.sf_lex.specs.declared.vertices.VertexFault.{VertexFault}
+use Rattle.sf_lex.specs.declared.vertices.VertexFault.TheVariants as vertices
 use Rattle.sf_lex.specs.Text.{words}
 use Rattle.sf_lex.specs.Number.{decimal_read, area_read, signed_read}
 use Rattle.sf_lex.specs.declared.number.NumberFault.{NumberFault}
@@ -20,16 +24,11 @@ pub data Item : Type 0 where
   BlockIs : RawBlock → Item
   PadIs : List ℕ → Item
 
--- one reading after another: the first fault is the fault of both
-infixl 10 ◌>>=◌
-abbrev pub ◌>>=◌ : {A B E : Type 0} → Result A E → (A → Result B E) → Result B E
-(Ok x) >>= f = f x
-(Err e) >>= f = Err e
-
+-- a number's fault is its line's
 abbrev pub number_in : {A : Type 0} → Result A NumberFault → Result A LineFault
-number_in (Ok n) = Ok n
-number_in (Err fault) = Err (BadNumber fault)
+number_in read = told BadNumber read
 
+-- numbers in a word: a count, an aspect, a soft block's area and a coordinate
 abbrev pub count_in_word : List ℕ → Result ℕ LineFault
 count_in_word word = number_in (decimal_read 1 9_000_000_000_000_000 word)
 
@@ -59,33 +58,14 @@ soft_said scale name (area ∷ min ∷ max ∷ more) = do
   high ← aspect_in_word max
   if a == 0 then Err ZeroSide else Ok (BlockIs (record { name = name; kind = kinds.Soft a low high }))
 
--- a vertex is two words
-unfoldable pub vertex_of : ℕ → List (List ℕ) → Result ((ℤ × ℤ) × List (List ℕ)) LineFault
-vertex_of scale [] = Err BadLine
-vertex_of scale (x ∷ []) = Err BadLine
-vertex_of scale (x ∷ y ∷ more) = do
-  a ← place_in_word scale x
-  b ← place_in_word scale y
-  Ok ((a, b), more)
+-- a missing word of a vertex is a line that says nothing, and a number's fault is its line's
+abbrev pub vertex_fault : VertexFault → LineFault
+vertex_fault vertices.Missing = BadLine
+vertex_fault (vertices.BadNumber fault) = BadNumber fault
 
--- the vertices at the front, so many
-unfoldable pub vertices_of : ℕ → ℕ → List (List ℕ) → Result (List (ℤ × ℤ)) LineFault
-vertices_of scale zero places = Ok []
-vertices_of scale (suc n) places = do
-  first ← vertex_of scale places
-  others ← vertices_of scale n first.1
-  Ok (first.0 ∷ others)
-
--- how far the numbers reach
-abbrev pub extent : List ℤ → ℕ
-extent [] = 0
-extent (x ∷ xs) = unsigned_abs (fold int_max x xs -ℤ fold int_min x xs)
-
--- the bounding box of the vertices
-abbrev pub box_said : List ℕ → List (ℤ × ℤ) → Result Item LineFault
-box_said name vertices = if (extent (map (λ v. v.0) vertices) == 0) || (extent (map (λ v. v.1) vertices) == 0)
-    then Err ZeroSide
-    else Ok (BlockIs (record { name = name; kind = kinds.Hard (extent (map (λ v. v.0) vertices)) (extent (map (λ v. v.1) vertices)) }))
+-- a block with these sides
+abbrev pub box_said : List ℕ → BoxSize → Result Item LineFault
+box_said name size = if (size.w == 0) || (size.h == 0) then Err ZeroSide else Ok (BlockIs (record { name = name; kind = kinds.Hard size.w size.h }))
 
 -- what follows `name hardrectilinear`
 unfoldable pub hard_said : ℕ → List ℕ → List (List ℕ) → Result Item LineFault
@@ -93,8 +73,9 @@ hard_said scale name [] = Err BadLine
 hard_said scale name (count ∷ places) = do
   k ← count_in_word count
   if (k == 0) || nat_lt (length places) (2 * k) then Err BadLine
-      else (vertices_of scale k places >>= box_said name)
+      else (told vertex_fault (box_read scale k places) >>= box_said name)
 
+-- what a line says by the word behind its name
 abbrev pub form_said : ℕ → List ℕ → List ℕ → Option Form → Result Item LineFault
 form_said scale name rest None = Err BadLine
 form_said scale name rest (Some forms.Soft) = soft_said scale name (words (is_gap Blanks) rest)

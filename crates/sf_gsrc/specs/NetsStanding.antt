@@ -20,6 +20,7 @@ SaysNetBy line said (Some net_words.Pins) = (n : ℕ) × (number_of_line line �
 SaysNetBy line said (Some net_words.Degree) = (n : ℕ) × (number_of_line line ≡ Ok n) × (said ≡ DegreeIs n)
 SaysNetBy line said None = said ≡ PinIs (first_word Blanks line.bytes)
 
+-- what a line says
 abbrev pub SaysNet : Line → NetSaid → Type 0
 SaysNet line said = SaysNetBy line said (net_word_by line.bytes)
 
@@ -41,9 +42,11 @@ net_part (PinIs name) = Some (PinIs name)
 abbrev pub net_lines : List (List ℕ) → List NetSaid
 net_lines names = DegreeIs (length names) ∷ map PinIs names
 
+-- the net of these names
 abbrev pub net_of : List (List ℕ) → RawNet
 net_of names = record { pins = map Named names }
 
+-- behind the title each line says its part, and the numbers agree with what was found
 pub record NetsStandFor (text : List ℕ) (out : GsrcNets) : Type 0 where
   pub title : Line
   pub others : List Line

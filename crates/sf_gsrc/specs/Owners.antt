@@ -22,5 +22,6 @@ owner_found owners name = value_in owners.by_name name
 abbrev pub AreOwnersFrom : Owners → ℕ → List (List ℕ) → ℕ → List (List ℕ) → Type 0
 AreOwnersFrom owners i blocks j pads = (name : List ℕ) → owner_found owners name ≡ owner_of (position_from (bytes_eq name) i blocks) (position_from (bytes_eq name) j pads)
 
+-- the owner of each name, of all blocks and pads
 abbrev pub AreOwners : Owners → List (List ℕ) → List (List ℕ) → Type 0
 AreOwners owners blocks pads = AreOwnersFrom owners 0 blocks 0 pads

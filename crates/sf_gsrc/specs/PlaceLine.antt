@@ -8,8 +8,10 @@ use Rattle.sf_lex.specs.declared.field.Gap.TheVariants.{Blanks, Sizes}
 use Rattle.sf_gsrc.specs.declared.fault.LineFault.{LineFault}
 use Rattle.sf_gsrc.specs.declared.fault.LineFault.TheVariants.{BadLine, ZeroSide}
 use Rattle.sf_gsrc.specs.declared.output.Place.{Place}
-use Rattle.sf_gsrc.specs.Line.{◌>>=◌, number_in, place_in_word}
+use Rattle.sf_lex.specs.Results.{◌>>=◌}
+use Rattle.sf_gsrc.specs.Line.{number_in, place_in_word}
 
+-- a side in a word
 abbrev pub length_in_word : ℕ → List ℕ → Result ℕ LineFault
 length_in_word scale word = number_in (decimal_read scale 9_000_000_000_000_000 word)
 

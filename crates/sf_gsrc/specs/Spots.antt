@@ -6,6 +6,7 @@ use Rattle.sf_gsrc.specs.declared.place_line.Spot.{Spot}
 use Rattle.sf_gsrc.specs.declared.output.Place.{Place}
 use Rattle.sf_gsrc.specs.Blocks.{Fails}
 
+-- the place that the code has of a line
 abbrev pub place_in : Spot → Place
 place_in spot = record { name = spot.name.now; x = spot.x; y = spot.y; size = spot.size }
 

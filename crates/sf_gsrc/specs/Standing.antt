@@ -17,6 +17,7 @@ abbrev pub SaysBy : ℕ → Line → Said → Option Counted → Type 0
 SaysBy scale line said (Some which) = (n : ℕ) × (count_said (words (is_gap Colons) line.bytes) ≡ Ok n) × (said ≡ CountIs which n)
 SaysBy scale line said None = (item : Item) × (plain_said scale line.bytes ≡ Ok item) × (said ≡ ItemIs item)
 
+-- a line says its part
 abbrev pub SaysEntry : ℕ → Line → Entry → Type 0
 SaysEntry scale line entry = (entry.number ≡ line.number) × SaysBy scale line entry.said (counted_by line.bytes)
 
@@ -29,6 +30,7 @@ pub record StandsOnce (which : Counted) (entries : List Entry) (found : ℕ) : T
   pub line : ℕ
   pub once : counts_of which entries ≡ record { line = line; said = found } ∷ []
 
+-- behind the title each line says its part, each count stands once and agrees with what was found
 pub record StandsFor (scale : ℕ) (text : List ℕ) (out : GsrcBlocks) : Type 0 where
   pub title : Line
   pub others : List Line

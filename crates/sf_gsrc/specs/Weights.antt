@@ -11,7 +11,7 @@ use Rattle.sf_lex.specs.declared.field.Gap.TheVariants.{Blanks}
 use Rattle.sf_lex.specs.declared.number.NumberFault.{NumberFault}
 use Rattle.sf_gsrc.specs.declared.fault.WeightFault.{WeightFault}
 use Rattle.sf_gsrc.specs.declared.fault.WeightFault.TheVariants.{BadLine, BadNumber, UnknownNet, RepeatedNet, NoMemory}
-use Rattle.sf_gsrc.specs.Line.{◌>>=◌}
+use Rattle.sf_lex.specs.Results.{◌>>=◌}
 use Rattle.sf_gsrc.specs.Blocks.{content_of}
 
 -- a net by its number, and its weight
@@ -36,6 +36,7 @@ weights_of nets said = map (weight_of said) (range_with_len 0 nets)
 abbrev pub net_in_word : List ℕ → Result ℕ NumberFault
 net_in_word word = decimal_read 1 9_000_000_000_000_000 word
 
+-- a weight in a word
 abbrev pub weight_in_word : List ℕ → Result ℕ NumberFault
 weight_in_word word = decimal_read 1 255 word
 
@@ -60,6 +61,7 @@ pub record WeightsStandFor (text : List ℕ) (nets : ℕ) (out : List ℕ) : Typ
 
 -- ---- the faults of a line
 
+-- a number, or its fault with the line's number
 abbrev pub number_on : ℕ → Result ℕ NumberFault → Result ℕ WeightFault
 number_on n (Ok x) = Ok x
 number_on n (Err fault) = Err (BadNumber n fault)
@@ -77,6 +79,7 @@ two_words (number ∷ []) = None
 two_words (number ∷ weight ∷ []) = Some (number, weight)
 two_words (number ∷ weight ∷ other ∷ more) = None
 
+-- what a line of two words says after earlier ones
 abbrev pub pair_after : ℕ → List NetWeight → ℕ → Option (List ℕ × List ℕ) → Result NetWeight WeightFault
 pair_after nets earlier n None = Err (BadLine n)
 pair_after nets earlier n (Some pair) = do
@@ -96,6 +99,7 @@ weights_from nets earlier (line ∷ more) = do
   said ← weight_after nets earlier line
   weights_from nets (earlier ++ said ∷ []) more
 
+-- what a text is read as
 unfoldable pub weights_read : ℕ → List ℕ → Result (List ℕ) WeightFault
 weights_read nets text = weights_from nets [] (content_of text) >>= λ said. Ok (weights_of nets said)
 

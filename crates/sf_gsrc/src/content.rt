@@ -3,10 +3,13 @@
 ghost use Rattle.std.specs.Prelude.{◌≡◌, [], ◌∷◌, MatchOption, IsTrue, IfSome, ◌<◌, length};
 ghost use Rattle.sf_lex.specs.Scan.{numbered_rest, line_of};
 ghost use Rattle.sf_lex.specs.Gap.{first_word};
-ghost use Rattle.sf_gsrc.specs.Blocks.{is_content, content, is_title};
+ghost use Rattle.sf_lex.specs.Results.{seen};
+ghost use Rattle.sf_gsrc.specs.Blocks.{is_content, content, content_of, is_title, opened};
 
+use crate::fault::GsrcFault;
 use sf_lex::{Gap, Scan, Word, split_word};
 
+/// Whether a line is neither blank nor a comment.
 fn has_content(line: &Word) -> bool
     ensures { result ≡ is_content (line_of line.now) }
 {
@@ -31,11 +34,26 @@ pub fn next_content<'a>(scan: &mut Scan<'a>) -> Option<Word<'a>>
     None
 }
 
+/// Whether a line is the title of a file of this kind.
 #[tactic(auto, unfolding(crate::specs::Blocks::is_title))]
-pub fn has_title(line: &[u8], kind: &[u8]) -> bool
+fn has_title(line: &[u8], kind: &[u8]) -> bool
     ensures { result ≡ is_title kind.now line.now }
 {
     let (first, rest) = split_word(line, Gap::Blanks);
     let (second, _) = split_word(rest, Gap::Blanks);
     (first == b"UCSC".as_slice() || first == b"UCLA".as_slice()) && second == kind
+}
+
+/// The lines behind the title of a file of this kind, and the number of the title's line.
+pub fn open<'a>(text: &'a [u8], kind: &[u8]) -> Result<(Scan<'a>, u64), GsrcFault>
+    ensures { seen (λ r. (r.1, content (numbered_rest r.0))) result ≡ opened kind.now (content_of text.now) }
+{
+    let mut scan = Scan::new(text);
+    let Some(title) = next_content(&mut scan) else {
+        return Err(GsrcFault::Truncated(0));
+    };
+    if !has_title(title.text, kind) {
+        return Err(GsrcFault::BadTitle(title.line));
+    }
+    Ok((scan, title.line))
 }

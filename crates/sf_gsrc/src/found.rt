@@ -10,7 +10,7 @@ use crate::fault::{GsrcFault, LineFault};
 use crate::keywords::{Counted, count_word_in, read_counted};
 use crate::line::{Statement, read_count_line, read_plain_line};
 use crate::output::GsrcBlocks;
-use sf_lex::Word;
+use sf_lex::{Scale, Word};
 use sf_model::{Kind, Name, NameList, RawBlock, RawBlockList};
 use std::alloc::Global;
 
@@ -24,6 +24,7 @@ pub struct Found {
     pads: Vec<Name>,
 }
 
+/// The fault of a line, with the line's number.
 pub fn at_line(fault: LineFault, line: u64) -> GsrcFault
     ensures { result ≡ fault_at line fault }
 {
@@ -34,6 +35,7 @@ pub fn at_line(fault: LineFault, line: u64) -> GsrcFault
     }
 }
 
+/// How many blocks are soft.
 fn soft_count(blocks: &[RawBlock]) -> u64
     ensures { result ≡ count_by is_soft blocks.now }
 {
@@ -43,6 +45,7 @@ fn soft_count(blocks: &[RawBlock]) -> u64
         .count() as u64
 }
 
+/// How many blocks are hard.
 fn hard_count(blocks: &[RawBlock]) -> u64
     ensures { result ≡ count_by (λ b. not (is_soft b)) blocks.now }
 {
@@ -68,6 +71,7 @@ impl Found {
     ghost use Rattle.sf_gsrc.specs.Found.{with_count, IsFound, Keeps, count_kept};
     ghost use Rattle.sf_gsrc.specs.Statement.{IsNamed, entry_in, plain_entry};
 
+    /// Nothing yet.
     pub fn new(alloc: Global) -> Found
         ensures { IsFound result [] }
     {
@@ -80,6 +84,7 @@ impl Found {
         }
     }
 
+    /// Whether there was such a count.
     fn has_count(&self, which: Counted) -> bool
         ensures { result ≡ is_some (count_kept self.now which) }
     {
@@ -90,6 +95,7 @@ impl Found {
         }
     }
 
+    /// Keeps a count.
     fn set_count(&mut self, which: Counted, count: Count)
         ensures { self.new ≡ with_count self.old which count }
     {
@@ -137,11 +143,10 @@ impl Found {
         Ok(())
     }
 
-    fn take_plain(&mut self, alloc: Global, line: &Word, scale: u64) -> Result<(), GsrcFault>
-        requires scale_low { 1 ≤ scale }
-        requires scale_high { scale ≤ 1000 }
+    /// A line that is no count line.
+    fn take_plain(&mut self, alloc: Global, line: &Word, scale: Scale) -> Result<(), GsrcFault>
         requires content { 0 < length (first_word Blanks line.now.text.now) }
-        ensures { Keeps result self.old self.new (λ entries. plain_entry scale (line_of line.now)) }
+        ensures { Keeps result self.old self.new (λ entries. plain_entry scale.per_unit (line_of line.now)) }
     {
         match read_plain_line(line.text, scale) {
             Ok(statement) => self.keep(alloc, line.line, statement),
@@ -150,11 +155,10 @@ impl Found {
     }
 
     /// The next line with content.
-    pub fn take(&mut self, alloc: Global, line: &Word, scale: u64) -> Result<(), GsrcFault>
-        requires scale_low { 1 ≤ scale }
-        requires scale_high { scale ≤ 1000 }
+    pub fn take(&mut self, alloc: Global, line: &Word, scale: Scale) -> Result<(), GsrcFault>
         requires content { 0 < length (first_word Blanks line.now.text.now) }
-        ensures { Keeps result self.old self.new (λ entries. entry_after scale entries (line_of line.now)) }
+        ensures { Keeps result self.old self.new
+            (λ entries. entry_after scale.per_unit entries (line_of line.now)) }
     {
         match read_counted(count_word_in(line.text)) {
             Some(which) => self.take_count(which, line),

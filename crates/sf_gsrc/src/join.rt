@@ -21,6 +21,7 @@ fn unplaced(alloc: Global, pads: Vec<Name>) -> Result<Vec<RawPad>, AllocError>
     Ok(all)
 }
 
+/// The parts without a pl file.
 fn join_unplaced(alloc: Global, blocks: GsrcBlocks, nets: RawNetList) -> Result<Parts, AllocError>
     ensures { IfOk result (λ parts. parts ≡ unplaced_parts blocks nets) }
 {
@@ -34,13 +35,15 @@ fn join_unplaced(alloc: Global, blocks: GsrcBlocks, nets: RawNetList) -> Result<
     })
 }
 
+/// The parts with the places of a pl file.
 fn join_placed(
     alloc: Global,
     blocks: GsrcBlocks,
     nets: RawNetList,
     places: Vec<Place>,
 ) -> Result<Parts, JoinFault>
-    ensures { Joins result (placed_once (first_twice (names_of places.items)) (placed_parts blocks nets places.items)) }
+    ensures { Joins result (placed_once (first_twice (names_of places.items))
+        (placed_parts blocks nets places.items)) }
 {
     let pads = place_pads(alloc, blocks.pads.into_vec(), &places)?;
     let strangers = find_strangers(alloc, blocks.blocks.as_slice(), &pads, places)?;

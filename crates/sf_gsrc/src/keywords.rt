@@ -1,10 +1,9 @@
 //! The words that have a meaning in a line.
 
-ghost use Rattle.std.specs.Prelude.{◌≡◌, ◌≤◌, length, Some, None};
-ghost use Rattle.std.specs.List.{position_or_len};
-ghost use Rattle.sf_gsrc.specs.Keywords.{is_colon, count_word, counted_of, form_of, net_word_of};
+ghost use Rattle.std.specs.Prelude.{◌≡◌, Some, None};
+ghost use Rattle.sf_gsrc.specs.Keywords.{count_word, counted_of, form_of, net_word_of};
 
-use sf_lex::{Gap, split_word};
+use sf_lex::{Gap, split_at_byte, split_word};
 
 /// What a count line counts.
 #[derive(Clone, Copy, Debug, PartialEq, Eq)]
@@ -22,22 +21,15 @@ pub enum Form {
     Terminal,
 }
 
-fn place_of_colon(word: &[u8]) -> usize
-    ensures value { result ≡ position_or_len is_colon word.now }
-    ensures bound { result ≤ length word.now }
-{
-    word.iter().take_while(|byte| **byte != b':').count()
-}
-
 /// The first word of a line, up to a colon.
 pub fn count_word_in(line: &[u8]) -> &[u8]
     ensures { result.now ≡ count_word line.now }
 {
     let (word, _) = split_word(line, Gap::Blanks);
-    let (word, _) = word.split_at(place_of_colon(word));
-    word
+    split_at_byte(word, b':').0
 }
 
+/// What a count word counts.
 #[tactic(auto, unfolding(crate::specs::Keywords::counted_of))]
 pub fn read_counted(word: &[u8]) -> Option<Counted>
     ensures { result ≡ counted_of word.now }
@@ -53,6 +45,7 @@ pub fn read_counted(word: &[u8]) -> Option<Counted>
     }
 }
 
+/// What the second word of a line says.
 #[tactic(auto, unfolding(crate::specs::Keywords::form_of))]
 pub fn read_form(word: &[u8]) -> Option<Form>
     ensures { result ≡ form_of word.now }
@@ -76,6 +69,7 @@ pub enum NetWord {
     Degree,
 }
 
+/// What a word of a nets file says.
 #[tactic(auto, unfolding(crate::specs::Keywords::net_word_of))]
 pub fn read_net_word(word: &[u8]) -> Option<NetWord>
     ensures { result ≡ net_word_of word.now }

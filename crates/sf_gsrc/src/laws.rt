@@ -11,9 +11,11 @@ ghost use Rattle.sf_gsrc.specs.NetsStanding.{NetsStandFor};
 ghost use Rattle.sf_gsrc.specs.Ranges.{HasPinsInAnyRange};
 ghost use Rattle.sf_gsrc.specs.Standing.{StandsFor};
 
-/// Each block of a blocks file has a size: both sides of a hard block, or the area of a soft one, are at least 1.
+/// Each block of a blocks file has a size: both sides of a hard block, or the area of a soft one, are at
+/// least 1.
 pub fn blocks_have_sizes()
-    ensures { (scale : ℕ) (text : List ℕ) (out : GsrcBlocks) → StandsFor scale text out → All (λ b. IsSized b.kind) out.blocks }
+    ensures { (scale : ℕ) (text : List ℕ) (out : GsrcBlocks) → StandsFor scale text out
+        → All (λ b. IsSized b.kind) out.blocks }
 {}
 
 /// A nets file gives its pins by names, so none of them is out of range.
@@ -21,14 +23,17 @@ pub fn nets_name_their_pins()
     ensures { (text : List ℕ) (out : GsrcNets) → NetsStandFor text out → HasPinsInAnyRange out.nets }
 {}
 
-/// Joining keeps the blocks and the nets, so the parts have as many nets as the files, and sizes and pins in range where
-/// the files have them.
+/// Joining keeps the blocks and the nets, so the parts have as many nets as the files, and sizes and pins
+/// in range where the files have them.
 pub fn joined_parts_keep_ranges()
-    ensures sizes { (blocks : GsrcBlocks) (nets : Option GsrcNets) (places : Option GsrcPlaces) (parts : Parts) → joined blocks nets places ≡ Ok parts
+    ensures sizes { (blocks : GsrcBlocks) (nets : Option GsrcNets)
+        (places : Option GsrcPlaces) (parts : Parts) → joined blocks nets places ≡ Ok parts
         → All (λ b. IsSized b.kind) blocks.blocks → HasSizes parts }
-    ensures pins { (blocks : GsrcBlocks) (nets : Option GsrcNets) (places : Option GsrcPlaces) (parts : Parts) → joined blocks nets places ≡ Ok parts
+    ensures pins { (blocks : GsrcBlocks) (nets : Option GsrcNets)
+        (places : Option GsrcPlaces) (parts : Parts) → joined blocks nets places ≡ Ok parts
         → IfSome nets (λ out. HasPinsInAnyRange out.nets) → HasPinsInRange parts }
-    ensures nets { (blocks : GsrcBlocks) (nets : Option GsrcNets) (places : Option GsrcPlaces) (parts : Parts) → joined blocks nets places ≡ Ok parts
+    ensures nets { (blocks : GsrcBlocks) (nets : Option GsrcNets)
+        (places : Option GsrcPlaces) (parts : Parts) → joined blocks nets places ≡ Ok parts
         → length parts.nets ≡ length (nets_in nets) }
 {}
 

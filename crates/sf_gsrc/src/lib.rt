@@ -1,12 +1,14 @@
-//! Readers of GSRC floorplan benchmark files: blocks, nets and pl; and of the weights of nets, which those files lack.
+//! Readers of GSRC floorplan benchmark files: blocks, nets and pl; and of the weights of nets, which those
+//! files lack.
 //!
-//! Each reader goes over the lines of its text once, by `sf_lex`, and makes the raw parts of `sf_model`. The
-//! crates above use three clauses of a reader: `stands` (what is read is what the text stands for, by a relation
-//! on its lines that knows no order of work), `only` (what the text stands for is read, unless memory runs out),
-//! and `exact` (any fault is the first one, at its line and with its values). `join_parts` joins what the readers
-//! gave to the parts of one design; `blocks_have_sizes`, `nets_name_their_pins` and `joined_parts_keep_ranges` say
-//! that its blocks have sizes and no pin is of a block or a pad that isn't there. How the files are read is this
-//! project's own choice, lenient where the files of the benchmark vary.
+//! Each reader goes over the lines of its text once, by `sf_lex`, and makes the raw parts of `sf_model`.
+//! The crates above use three clauses of a reader: `stands` (what is read is what the text stands for, by a
+//! relation on its lines that knows no order of work), `only` (what the text stands for is read, unless
+//! memory runs out), and `exact` (any fault is the first one, at its line and with its values).
+//! `join_parts` joins what the readers gave to the parts of one design; `blocks_have_sizes`,
+//! `nets_name_their_pins` and `joined_parts_keep_ranges` say that its blocks have sizes and no pin is of a
+//! block or a pad that isn't there. How the files are read is this project's own choice, lenient where the
+//! files of the benchmark vary.
 #![tactic(auto)]
 
 mod blocks;
@@ -26,7 +28,6 @@ mod output;
 mod owners;
 mod place_line;
 mod places;
-mod vertices;
 mod weights;
 
 pub use blocks::{blocks_stand_for_one, read_blocks};

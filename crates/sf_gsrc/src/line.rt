@@ -4,14 +4,15 @@ ghost use Rattle.std.specs.Prelude.{◌≡◌, ◌≤◌, ◌<◌, ◌*◌, leng
 ghost use Rattle.sf_lex.specs.Text.{words};
 ghost use Rattle.sf_lex.specs.Gap.{is_gap, first_word, after_word};
 ghost use Rattle.sf_gsrc.specs.Keywords.{count_word, counted_of, form_of};
-ghost use Rattle.sf_gsrc.specs.Line.{count_said, soft_said, count_in_word, aspect_in_word, area_in_word, hard_said, plain_said};
-ghost use Rattle.sf_gsrc.specs.Corners.{corners_said};
+ghost use Rattle.sf_gsrc.specs.Line.{count_said, soft_said, count_in_word, aspect_in_word, area_in_word, vertex_fault, box_said, hard_said, plain_said};
 ghost use Rattle.sf_gsrc.specs.Statement.{item_in, IsNamed, Says};
 
 use crate::fault::LineFault;
 use crate::keywords::{Form, read_form};
-use crate::vertices::{Corners, read_corners};
-use sf_lex::{Gap, count_fields, next_field, read_area, read_decimal, split_word};
+use sf_lex::{
+    BoxSize, Gap, LENGTH_LIMIT, Scale, VertexFault, count_fields, next_field, read_area, read_box,
+    read_decimal, split_word,
+};
 use sf_model::Kind;
 
 /// What a line says that is no count line.
@@ -21,10 +22,10 @@ pub enum Statement<'a> {
     Pad(&'a [u8]),
 }
 
-const LENGTH_LIMIT: u64 = 9_000_000_000_000_000;
-
+/// The greatest aspect, in millionths.
 const ASPECT_LIMIT: u64 = 1_000_000_000_000;
 
+/// A count.
 fn read_count(word: &[u8]) -> Result<u64, LineFault>
     ensures value { result ≡ count_in_word word.now }
     ensures bound { IfOk result (λ n. n ≤ LENGTH_LIMIT) }
@@ -32,18 +33,18 @@ fn read_count(word: &[u8]) -> Result<u64, LineFault>
     Ok(read_decimal(word, 1, LENGTH_LIMIT)?)
 }
 
+/// An aspect, in millionths.
 fn read_aspect(word: &[u8]) -> Result<u64, LineFault>
     ensures { result ≡ aspect_in_word word.now }
 {
     Ok(read_decimal(word, 1_000_000, ASPECT_LIMIT)?)
 }
 
-fn read_soft_area(word: &[u8], scale: u64) -> Result<u64, LineFault>
-    requires scale_low { 1 ≤ scale }
-    requires scale_high { scale ≤ 1000 }
-    ensures { result ≡ area_in_word scale word.now }
+/// The area of a soft block.
+fn read_soft_area(word: &[u8], scale: Scale) -> Result<u64, LineFault>
+    ensures { result ≡ area_in_word scale.per_unit word.now }
 {
-    Ok(read_area(word, scale * scale, LENGTH_LIMIT)?)
+    Ok(read_area(word, scale.per_unit * scale.per_unit, LENGTH_LIMIT)?)
 }
 
 /// The number of a count line.
@@ -60,12 +61,11 @@ pub fn read_count_line(line: &[u8]) -> Result<u64, LineFault>
     read_count(number)
 }
 
+/// What follows `name softrectangular`.
 #[tactic(auto, unfolding(crate::specs::Line::soft_said))]
-fn soft_line<'a>(name: &'a [u8], rest: &[u8], scale: u64) -> Result<Statement<'a>, LineFault>
-    requires scale_low { 1 ≤ scale }
-    requires scale_high { scale ≤ 1000 }
+fn soft_line<'a>(name: &'a [u8], rest: &[u8], scale: Scale) -> Result<Statement<'a>, LineFault>
     ensures named { 0 < length name.now → IfOk result IsNamed }
-    ensures says { Says result (soft_said scale name.now (words (is_gap Gap.Blanks) rest.now)) }
+    ensures says { Says result (soft_said scale.per_unit name.now (words (is_gap Gap.Blanks) rest.now)) }
 {
     let Some((area, rest)) = next_field(rest, Gap::Blanks) else {
         return Err(LineFault::BadLine);
@@ -85,24 +85,33 @@ fn soft_line<'a>(name: &'a [u8], rest: &[u8], scale: u64) -> Result<Statement<'a
     Ok(Statement::Block(name, Kind::Soft { area, min, max }))
 }
 
-fn box_line<'a>(name: &'a [u8], corners: &Corners) -> Result<Statement<'a>, LineFault>
-    ensures named { 0 < length name.now → IfOk result IsNamed }
-    ensures says { Says result (corners_said name.now corners.now) }
+/// The fault of vertices, as their line's.
+fn line_fault(fault: VertexFault) -> LineFault
+    ensures { result ≡ vertex_fault fault }
 {
-    let w = corners.width();
-    let h = corners.height();
+    match fault {
+        VertexFault::Missing => LineFault::BadLine,
+        VertexFault::BadNumber(number) => LineFault::BadNumber(number),
+    }
+}
+
+/// A hard block with these sides.
+fn box_line(name: &[u8], size: BoxSize) -> Result<Statement<'_>, LineFault>
+    ensures named { 0 < length name.now → IfOk result IsNamed }
+    ensures says { Says result (box_said name.now size) }
+{
+    let BoxSize { w, h } = size;
     if w == 0 || h == 0 {
         return Err(LineFault::ZeroSide);
     }
     Ok(Statement::Block(name, Kind::Hard { w, h }))
 }
 
+/// What follows `name hardrectilinear`.
 #[tactic(auto, unfolding(crate::specs::Line::hard_said))]
-fn hard_line<'a>(name: &'a [u8], rest: &[u8], scale: u64) -> Result<Statement<'a>, LineFault>
-    requires scale_low { 1 ≤ scale }
-    requires scale_high { scale ≤ 1000 }
+fn hard_line<'a>(name: &'a [u8], rest: &[u8], scale: Scale) -> Result<Statement<'a>, LineFault>
     ensures named { 0 < length name.now → IfOk result IsNamed }
-    ensures says { Says result (hard_said scale name.now (words (is_gap Gap.Points) rest.now)) }
+    ensures says { Says result (hard_said scale.per_unit name.now (words (is_gap Gap.Points) rest.now)) }
 {
     let Some((count, places)) = next_field(rest, Gap::Points) else {
         return Err(LineFault::BadLine);
@@ -111,16 +120,16 @@ fn hard_line<'a>(name: &'a [u8], rest: &[u8], scale: u64) -> Result<Statement<'a
     if count == 0 || (count_fields(places, Gap::Points) as u64) < 2 * count {
         return Err(LineFault::BadLine);
     }
-    let corners = read_corners(places, count, scale)?;
-    box_line(name, &corners)
+    match read_box(places, Gap::Points, count, scale) {
+        Ok(size) => box_line(name, size),
+        Err(fault) => Err(line_fault(fault)),
+    }
 }
 
 /// What a line says that is no count line.
 #[tactic(auto, unfolding(crate::specs::Line::plain_said))]
-pub fn read_plain_line(line: &[u8], scale: u64) -> Result<Statement<'_>, LineFault>
-    requires scale_low { 1 ≤ scale }
-    requires scale_high { scale ≤ 1000 }
-    ensures says { Says result (plain_said scale line.now) }
+pub fn read_plain_line(line: &[u8], scale: Scale) -> Result<Statement<'_>, LineFault>
+    ensures says { Says result (plain_said scale.per_unit line.now) }
     ensures named { 0 < length (first_word Gap.Blanks line.now) → IfOk result IsNamed }
 {
     let (name, rest) = split_word(line, Gap::Blanks);

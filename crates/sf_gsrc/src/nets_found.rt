@@ -31,6 +31,7 @@ impl NetsFound {
     ghost use Rattle.sf_gsrc.specs.declared.keywords.NetWord.TheVariants.{Nets, Pins, Degree};
     ghost use Rattle.sf_gsrc.specs.NetsFound.{KeepsNets, ReadsNet};
 
+    /// Nothing yet.
     pub fn new(alloc: Global) -> NetsFound
         ensures { KeepsNets result [] }
     {
@@ -55,8 +56,10 @@ impl NetsFound {
         }
     }
 
+    /// The number of nets, which stands once.
     fn take_nets(&mut self, line: &Word) -> Result<(), GsrcFault>
-        ensures { ReadsNet result self.old self.new (λ past. net_entry_by past (line_of line.now) (Some Nets)) }
+        ensures { ReadsNet result self.old self.new
+            (λ past. net_entry_by past (line_of line.now) (Some Nets)) }
     {
         if self.count.is_some() {
             return Err(GsrcFault::BadLine(line.line));
@@ -73,8 +76,10 @@ impl NetsFound {
         }
     }
 
+    /// The number of pins, which is read and not compared.
     fn take_pins(&mut self, line: &Word) -> Result<(), GsrcFault>
-        ensures { ReadsNet result self.old self.new (λ past. net_entry_by past (line_of line.now) (Some Pins)) }
+        ensures { ReadsNet result self.old self.new
+            (λ past. net_entry_by past (line_of line.now) (Some Pins)) }
     {
         match read_count_line(line.text) {
             Ok(_) => Ok(()),
@@ -82,9 +87,11 @@ impl NetsFound {
         }
     }
 
-    /// Closes the last net, if there is one. It keeps no room for further pins: a text may have millions of nets.
+    /// Closes the last net, if there is one. It keeps no room for further pins: a text may have millions of
+    /// nets.
     fn close(&mut self, alloc: Global) -> Result<(), AllocError>
-        ensures nets { OnOk result (self.new.nets.items ≡ with_last self.old.nets.items self.old.degree self.old.pins.items) }
+        ensures nets { OnOk result (self.new.nets.items
+            ≡ with_last self.old.nets.items self.old.degree self.old.pins.items) }
         ensures pins { OnOk result (self.new.pins.items ≡ []) }
         ensures count { self.new.count ≡ self.old.count }
     {
@@ -100,7 +107,8 @@ impl NetsFound {
 
     /// A new net, of this degree.
     fn take_degree(&mut self, alloc: Global, line: &Word) -> Result<(), GsrcFault>
-        ensures { ReadsNet result self.old self.new (λ past. net_entry_by past (line_of line.now) (Some Degree)) }
+        ensures { ReadsNet result self.old self.new
+            (λ past. net_entry_by past (line_of line.now) (Some Degree)) }
     {
         self.check_degree()?;
         match read_count_line(line.text) {
@@ -116,6 +124,7 @@ impl NetsFound {
         }
     }
 
+    /// A pin of the last net.
     fn take_pin(&mut self, alloc: Global, line: &Word) -> Result<(), GsrcFault>
         requires { 0 < length (first_word Blanks line.now.text.now) }
         ensures { ReadsNet result self.old self.new (λ past. net_entry_by past (line_of line.now) None) }

@@ -14,8 +14,10 @@ use std::alloc::{AllocError, Global};
 /// So many numbers there are.
 const MANY: usize = 0x1_0000_0000;
 
+/// Numbers the pins of a net.
 fn number_pins(owners: &Owners<'_>, pins: &mut Vec<RawPin>)
-    ensures { (blocks : List RawBlock) (pads : List RawPad) → AreOwners owners.now (block_names blocks) (pad_names pads)
+    ensures { (blocks : List RawBlock) (pads : List RawPad)
+        → AreOwners owners.now (block_names blocks) (pad_names pads)
         → pins.new.items ≡ map (numbered_pin blocks pads) pins.old.items }
 {
     for pin in pins.iter_mut() {
@@ -23,12 +25,14 @@ fn number_pins(owners: &Owners<'_>, pins: &mut Vec<RawPin>)
     }
 }
 
+/// Numbers the pins of all nets.
 fn number_nets(
     alloc: Global,
     owners: &Owners<'_>,
     nets: Vec<RawNet>,
 ) -> Result<Vec<RawNet>, AllocError>
-    ensures { (blocks : List RawBlock) (pads : List RawPad) → AreOwners owners.now (block_names blocks) (pad_names pads)
+    ensures { (blocks : List RawBlock) (pads : List RawPad)
+        → AreOwners owners.now (block_names blocks) (pad_names pads)
         → IfOk result (λ all. all.items ≡ map (numbered_net blocks pads) nets.items) }
 {
     let mut all = Vec::with_capacity(alloc, nets.len())?;

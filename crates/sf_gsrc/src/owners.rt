@@ -23,7 +23,8 @@ pub enum Owner {
 
 /// The owner of a name that is also of this pad, before those that have it.
 fn beside(old: Option<Owner>, pad: u32) -> Owner
-    ensures { (block other : Option ℕ) → old ≡ owner_of block other → Some result ≡ owner_of block (Some pad) }
+    ensures { (block other : Option ℕ) → old ≡ owner_of block other
+        → Some result ≡ owner_of block (Some pad) }
 {
     match old {
         Some(Owner::Block(_) | Owner::Both) => Owner::Both,
@@ -57,6 +58,7 @@ impl<'a> Owners<'a> {
         Ok(owners)
     }
 
+    /// Puts all blocks, from the last to the first.
     fn put_blocks(&mut self, blocks: &'a [RawBlock]) -> Result<(), AllocError>
         requires { length blocks.now < 2 ^ 32 }
         ensures { OnOk result (AreOwners self.old [] [] → AreOwners self.new (block_names blocks.now) []) }
@@ -67,9 +69,11 @@ impl<'a> Owners<'a> {
         Ok(())
     }
 
+    /// Puts all pads, from the last to the first.
     fn put_pads(&mut self, pads: &'a [RawPad]) -> Result<(), AllocError>
         requires { length pads.now < 2 ^ 32 }
-        ensures { OnOk result ((blocks : List (List ℕ)) → AreOwners self.old blocks [] → AreOwners self.new blocks (pad_names pads.now)) }
+        ensures { OnOk result ((blocks : List (List ℕ)) → AreOwners self.old blocks []
+            → AreOwners self.new blocks (pad_names pads.now)) }
     {
         for i in (0..pads.len()).rev() {
             self.put_pad(&pads[i].name, i as u32)?;
@@ -79,7 +83,9 @@ impl<'a> Owners<'a> {
 
     /// Puts a block before those that stand there.
     fn put_block(&mut self, name: &'a Name, block: u32) -> Result<(), AllocError>
-        ensures { OnOk result ((blocks : List (List ℕ)) → AreOwnersFrom self.old (block + 1) blocks 0 [] → AreOwnersFrom self.new block (name.now ∷ blocks) 0 []) }
+        ensures { OnOk result ((blocks : List (List ℕ))
+            → AreOwnersFrom self.old (block + 1) blocks 0 []
+            → AreOwnersFrom self.new block (name.now ∷ blocks) 0 []) }
     {
         self.by_name.insert(name.as_bytes(), Owner::Block(block))?;
         Ok(())
@@ -87,7 +93,9 @@ impl<'a> Owners<'a> {
 
     /// Puts a pad before those that stand there.
     fn put_pad(&mut self, name: &'a Name, pad: u32) -> Result<(), AllocError>
-        ensures { OnOk result ((blocks pads : List (List ℕ)) → AreOwnersFrom self.old 0 blocks (pad + 1) pads → AreOwnersFrom self.new 0 blocks pad (name.now ∷ pads)) }
+        ensures { OnOk result ((blocks pads : List (List ℕ))
+            → AreOwnersFrom self.old 0 blocks (pad + 1) pads
+            → AreOwnersFrom self.new 0 blocks pad (name.now ∷ pads)) }
     {
         let owner = beside(self.by_name.get(name.as_bytes()), pad);
         self.by_name.insert(name.as_bytes(), owner)?;
@@ -96,7 +104,9 @@ impl<'a> Owners<'a> {
 
     /// The number of a name's block or pad, where it is of one of them and not of both.
     fn number_of(&self, name: &Name) -> Option<RawPin>
-        ensures { (blocks : List RawBlock) (pads : List RawPad) → AreOwners self.now (block_names blocks) (pad_names pads) → numbered_pin blocks pads (Named name.now) ≡ unwrap_or result (Named name.now) }
+        ensures { (blocks : List RawBlock) (pads : List RawPad)
+            → AreOwners self.now (block_names blocks) (pad_names pads)
+            → numbered_pin blocks pads (Named name.now) ≡ unwrap_or result (Named name.now) }
     {
         match self.by_name.get(name.as_bytes()) {
             Some(Owner::Block(block)) => Some(RawPin::Block(block)),
@@ -108,7 +118,9 @@ impl<'a> Owners<'a> {
 
     /// Puts a pin's number in the place of its name, where it has one.
     pub fn number(&self, pin: &mut RawPin)
-        ensures { (blocks : List RawBlock) (pads : List RawPad) → AreOwners self.now (block_names blocks) (pad_names pads) → pin.new ≡ numbered_pin blocks pads pin.old }
+        ensures { (blocks : List RawBlock) (pads : List RawPad)
+            → AreOwners self.now (block_names blocks) (pad_names pads)
+            → pin.new ≡ numbered_pin blocks pads pin.old }
     {
         if let RawPin::Named(name) = pin
             && let Some(number) = self.number_of(name)

@@ -3,13 +3,13 @@
 ghost use Rattle.std.specs.Prelude.{◌≡◌, ◌≤◌, IfOk, Ok, Err};
 ghost use Rattle.sf_lex.specs.Text.{words};
 ghost use Rattle.sf_lex.specs.Gap.{is_gap, first_word};
+ghost use Rattle.sf_gsrc.specs.Line.{place_in_word};
 ghost use Rattle.sf_gsrc.specs.PlaceLine.{length_in_word, size_words, size_in_words, point_said, sized_said, rest_said, place_said};
-ghost use Rattle.sf_gsrc.specs.Seen.{seen};
+ghost use Rattle.sf_lex.specs.Results.{seen};
 ghost use Rattle.sf_gsrc.specs.Spots.{place_in};
 
 use crate::fault::LineFault;
-use crate::vertices::{LENGTH_LIMIT, read_place};
-use sf_lex::{Gap, next_field, read_decimal, split_word};
+use sf_lex::{Gap, LENGTH_LIMIT, Scale, next_field, read_decimal, read_signed, split_word};
 
 /// A name at its place, and its size where the line tells one.
 #[derive(Clone, Copy, Debug)]
@@ -20,12 +20,18 @@ pub struct Spot<'a> {
     pub size: Option<(u64, u64)>,
 }
 
-fn read_length(word: &[u8], scale: u64) -> Result<u64, LineFault>
-    requires scale_low { 1 ≤ scale }
-    requires scale_high { scale ≤ 1000 }
-    ensures { result ≡ length_in_word scale word.now }
+/// A coordinate.
+fn read_place(word: &[u8], scale: Scale) -> Result<i64, LineFault>
+    ensures { result ≡ place_in_word scale.per_unit word.now }
 {
-    Ok(read_decimal(word, scale, LENGTH_LIMIT)?)
+    Ok(read_signed(word, scale.per_unit, LENGTH_LIMIT)?)
+}
+
+/// The length of a side.
+fn read_length(word: &[u8], scale: Scale) -> Result<u64, LineFault>
+    ensures { result ≡ length_in_word scale.per_unit word.now }
+{
+    Ok(read_decimal(word, scale.per_unit, LENGTH_LIMIT)?)
 }
 
 /// The two words behind `DIMS`.
@@ -42,22 +48,20 @@ fn next_sides(rest: &[u8]) -> Result<(&[u8], &[u8]), LineFault>
     Ok((w, h))
 }
 
+/// The size that two words are.
 #[tactic(auto, unfolding(crate::specs::PlaceLine::size_in_words))]
-fn read_size(w: &[u8], h: &[u8], scale: u64) -> Result<(u64, u64), LineFault>
-    requires scale_low { 1 ≤ scale }
-    requires scale_high { scale ≤ 1000 }
-    ensures { result ≡ size_in_words scale (w.now, h.now) }
+fn read_size(w: &[u8], h: &[u8], scale: Scale) -> Result<(u64, u64), LineFault>
+    ensures { result ≡ size_in_words scale.per_unit (w.now, h.now) }
 {
     let w = read_length(w, scale)?;
     let h = read_length(h, scale)?;
     Ok((w, h))
 }
 
+/// A name at a place, without a size.
 #[tactic(auto, unfolding(crate::specs::PlaceLine::point_said))]
-fn point<'a>(name: &'a [u8], x: &[u8], y: &[u8], scale: u64) -> Result<Spot<'a>, LineFault>
-    requires scale_low { 1 ≤ scale }
-    requires scale_high { scale ≤ 1000 }
-    ensures says { seen place_in result ≡ point_said scale name.now x.now y.now }
+fn point<'a>(name: &'a [u8], x: &[u8], y: &[u8], scale: Scale) -> Result<Spot<'a>, LineFault>
+    ensures says { seen place_in result ≡ point_said scale.per_unit name.now x.now y.now }
     ensures name { IfOk result (λ s. s.name.now ≡ name.now) }
 {
     let x = read_place(x, scale)?;
@@ -70,18 +74,17 @@ fn point<'a>(name: &'a [u8], x: &[u8], y: &[u8], scale: u64) -> Result<Spot<'a>,
     })
 }
 
+/// A name at a place, with the size behind `DIMS`.
 #[tactic(auto, unfolding(crate::specs::PlaceLine::sized_said))]
 fn sized<'a>(
     name: &'a [u8],
     x: &[u8],
     y: &[u8],
     rest: &[u8],
-    scale: u64,
+    scale: Scale,
 ) -> Result<Spot<'a>, LineFault>
-    requires scale_low { 1 ≤ scale }
-    requires scale_high { scale ≤ 1000 }
     ensures says { seen place_in result
-        ≡ sized_said scale name.now x.now y.now (words (is_gap Gap.Sizes) rest.now) }
+        ≡ sized_said scale.per_unit name.now x.now y.now (words (is_gap Gap.Sizes) rest.now) }
     ensures name { IfOk result (λ s. s.name.now ≡ name.now) }
 {
     let (w, h) = next_sides(rest)?;
@@ -99,18 +102,17 @@ fn sized<'a>(
     })
 }
 
+/// A name at a place, with a size where `DIMS` follows.
 #[tactic(auto, unfolding(crate::specs::PlaceLine::rest_said))]
 fn with_rest<'a>(
     name: &'a [u8],
     x: &[u8],
     y: &[u8],
     rest: &[u8],
-    scale: u64,
+    scale: Scale,
 ) -> Result<Spot<'a>, LineFault>
-    requires scale_low { 1 ≤ scale }
-    requires scale_high { scale ≤ 1000 }
     ensures says { seen place_in result
-        ≡ rest_said scale name.now x.now y.now (words (is_gap Gap.Sizes) rest.now) }
+        ≡ rest_said scale.per_unit name.now x.now y.now (words (is_gap Gap.Sizes) rest.now) }
     ensures name { IfOk result (λ s. s.name.now ≡ name.now) }
 {
     match next_field(rest, Gap::Sizes) {
@@ -127,10 +129,8 @@ fn with_rest<'a>(
 
 /// What a line says: a name, two coordinates, and maybe a size.
 #[tactic(auto, unfolding(crate::specs::PlaceLine::place_said))]
-pub fn read_place_line(line: &[u8], scale: u64) -> Result<Spot<'_>, LineFault>
-    requires scale_low { 1 ≤ scale }
-    requires scale_high { scale ≤ 1000 }
-    ensures says { seen place_in result ≡ place_said scale line.now }
+pub fn read_place_line(line: &[u8], scale: Scale) -> Result<Spot<'_>, LineFault>
+    ensures says { seen place_in result ≡ place_said scale.per_unit line.now }
     ensures name { IfOk result (λ s. s.name.now ≡ first_word Gap.Blanks line.now) }
 {
     let (name, rest) = split_word(line, Gap::Blanks);

@@ -8,12 +8,12 @@ ghost use Rattle.sf_gsrc.specs.Blocks.{content, Gives};
 ghost use Rattle.sf_gsrc.specs.Places.{place_at, places_from, places_read, PlacesStandFor};
 ghost use Rattle.sf_gsrc.specs.Spots.{KeepsPlace, KeepsPlaces};
 
-use crate::content::{has_title, next_content};
+use crate::content::{next_content, open};
 use crate::fault::GsrcFault;
 use crate::found::at_line;
 use crate::output::{GsrcPlaces, Place, PlaceList};
 use crate::place_line::read_place_line;
-use sf_lex::{Scan, Word};
+use sf_lex::{Scale, Scan, Word};
 use sf_model::Name;
 use std::alloc::Global;
 
@@ -22,12 +22,11 @@ fn take_line(
     alloc: Global,
     places: &mut Vec<Place>,
     line: &Word,
-    scale: u64,
+    scale: Scale,
 ) -> Result<(), GsrcFault>
-    requires scale_low { 1 ≤ scale }
-    requires scale_high { scale ≤ 1000 }
     requires content { 0 < length (first_word Blanks line.now.text.now) }
-    ensures { KeepsPlace result places.old.items places.new.items (place_at scale (line_of line.now)) }
+    ensures { KeepsPlace result places.old.items places.new.items
+        (place_at scale.per_unit (line_of line.now)) }
 {
     match read_place_line(line.text, scale) {
         Ok(spot) => {
@@ -45,10 +44,8 @@ fn take_line(
 }
 
 /// What the lines behind the title say.
-fn read_lines(alloc: Global, scan: &mut Scan, scale: u64) -> Result<Vec<Place>, GsrcFault>
-    requires scale_low { 1 ≤ scale }
-    requires scale_high { scale ≤ 1000 }
-    ensures { KeepsPlaces result (places_from scale (content (numbered_rest scan.old))) }
+fn read_lines(alloc: Global, scan: &mut Scan, scale: Scale) -> Result<Vec<Place>, GsrcFault>
+    ensures { KeepsPlaces result (places_from scale.per_unit (content (numbered_rest scan.old))) }
 {
     let mut places = Vec::new(alloc);
     while let Some(line) = next_content(scan) {
@@ -57,19 +54,12 @@ fn read_lines(alloc: Global, scan: &mut Scan, scale: u64) -> Result<Vec<Place>, 
     Ok(places)
 }
 
+/// What the text stands for, or its first fault.
 #[tactic(auto, unfolding(crate::specs::Places::places_read))]
-fn read_exactly(alloc: Global, text: &[u8], scale: u64) -> Result<GsrcPlaces, GsrcFault>
-    requires scale_low { 1 ≤ scale }
-    requires scale_high { scale ≤ 1000 }
-    ensures { Gives result (places_read scale text.now) }
+fn read_exactly(alloc: Global, text: &[u8], scale: Scale) -> Result<GsrcPlaces, GsrcFault>
+    ensures { Gives result (places_read scale.per_unit text.now) }
 {
-    let mut scan = Scan::new(text);
-    let Some(title) = next_content(&mut scan) else {
-        return Err(GsrcFault::Truncated(0));
-    };
-    if !has_title(title.text, b"pl") {
-        return Err(GsrcFault::BadTitle(title.line));
-    }
+    let (mut scan, _) = open(text, b"pl")?;
     let places = read_lines(alloc, &mut scan, scale)?;
     Ok(GsrcPlaces {
         places: PlaceList::from_vec(places),
@@ -87,10 +77,11 @@ pub fn read_pl(alloc: Global, text: &[u8], scale: u64) -> Result<GsrcPlaces, Gsr
     // Which fault it is.
     ensures exact { Gives result (places_read scale text.now) }
 {
-    read_exactly(alloc, text, scale)
+    read_exactly(alloc, text, Scale { per_unit: scale })
 }
 
 /// A pl file stands for at most one list of places.
 pub fn places_stand_for_one()
-    ensures { (scale : ℕ) (text : List ℕ) (a b : GsrcPlaces) → PlacesStandFor scale text a → PlacesStandFor scale text b → a ≡ b }
+    ensures { (scale : ℕ) (text : List ℕ) (a b : GsrcPlaces) → PlacesStandFor scale text a
+        → PlacesStandFor scale text b → a ≡ b }
 {}

@@ -12,11 +12,10 @@ ghost use Rattle.sf_gsrc.specs.WeightsKept.{TakesWeight, TakesWeights};
 
 use crate::content::next_content;
 use crate::fault::WeightFault;
-use sf_lex::{Gap, Scan, Word, next_field, read_decimal};
+use sf_lex::{Gap, LENGTH_LIMIT, Scan, Word, next_field, read_decimal};
 use std::alloc::{AllocError, Global};
 
-const NET_LIMIT: u64 = 9_000_000_000_000_000;
-
+/// The greatest weight of a net.
 const WEIGHT_LIMIT: u64 = 255;
 
 /// The words of a line of two words.
@@ -32,8 +31,9 @@ fn split_pair(line: &[u8]) -> Option<(&[u8], &[u8])>
     Some((number, weight))
 }
 
+/// A whole number up to this limit, or its fault at this line.
 fn read_number(word: &[u8], line: u64, limit: u64) -> Result<u64, WeightFault>
-    requires { limit ≤ NET_LIMIT }
+    requires { limit ≤ LENGTH_LIMIT }
     ensures value { result ≡ number_on line (decimal_read 1 limit word.now) }
     ensures bound { IfOk result (λ n. n ≤ limit) }
 {
@@ -50,7 +50,7 @@ fn take_line(kept: &mut [Option<u8>], line: &Word) -> Result<(), WeightFault>
     let Some((number, weight)) = split_pair(line.text) else {
         return Err(WeightFault::BadLine(line.line));
     };
-    let net = read_number(number, line.line, NET_LIMIT)?;
+    let net = read_number(number, line.line, LENGTH_LIMIT)?;
     if net >= kept.len() as u64 {
         return Err(WeightFault::UnknownNet(line.line, net));
     }
@@ -80,12 +80,14 @@ fn none_said(alloc: Global, nets: usize) -> Result<Vec<Option<u8>>, AllocError>
     vec![in alloc; None; nets]
 }
 
+/// The weights, which are 1 where no line gives one.
 fn or_one(alloc: Global, kept: &[Option<u8>]) -> Result<Vec<u8>, AllocError>
     ensures { IfOk result (λ weights. weights.items ≡ map (λ o. unwrap_or o 1) kept.now) }
 {
     kept.iter().map(|weight| weight.unwrap_or(1)).collect(alloc)
 }
 
+/// What the text stands for, or its first fault.
 #[tactic(auto, unfolding(crate::specs::Weights::weights_read))]
 fn read_exactly(alloc: Global, text: &[u8], nets: u64) -> Result<Vec<u8>, WeightFault>
     ensures { GivesWeights result (weights_read nets text.now) }
@@ -97,8 +99,8 @@ fn read_exactly(alloc: Global, text: &[u8], nets: u64) -> Result<Vec<u8>, Weight
     Ok(weights)
 }
 
-/// The weights of so many nets for which a weights file stands, or its first fault. A net is named by its number from
-/// 0, and one without a line has the weight 1.
+/// The weights of so many nets for which a weights file stands, or its first fault. A net is named by its
+/// number from 0, and one without a line has the weight 1.
 pub fn read_weights(alloc: Global, text: &[u8], nets: u64) -> Result<Vec<u8>, WeightFault>
     // What is read is what the text stands for.
     ensures stands { IfOk result (λ weights. WeightsStandFor text.now nets weights.items) }
@@ -114,5 +116,6 @@ pub fn read_weights(alloc: Global, text: &[u8], nets: u64) -> Result<Vec<u8>, We
 
 /// A weights file stands for at most one list of weights.
 pub fn weights_stand_for_one()
-    ensures { (text : List ℕ) (nets : ℕ) (a b : List ℕ) → WeightsStandFor text nets a → WeightsStandFor text nets b → a ≡ b }
+    ensures { (text : List ℕ) (nets : ℕ) (a b : List ℕ) → WeightsStandFor text nets a
+        → WeightsStandFor text nets b → a ≡ b }
 {}

@@ -14,7 +14,8 @@ use Rattle.sf_gsrc.specs.declared.fault.LineFault.{LineFault}
 use Rattle.sf_gsrc.specs.declared.fault.LineFault.TheVariants.{BadLine, ZeroSide}
 use Rattle.sf_gsrc.specs.declared.output.GsrcPlaces.{GsrcPlaces}
 use Rattle.sf_gsrc.specs.declared.output.Place.{Place}
-use Rattle.sf_gsrc.specs.Line.{◌>>=◌, number_in, place_in_word}
+use Rattle.sf_lex.specs.Results.{◌>>=◌}
+use Rattle.sf_gsrc.specs.Line.{number_in, place_in_word}
 use Rattle.sf_gsrc.specs.PlaceLine.{size_words, size_in_words, point_said, sized_said, rest_said, place_said}
 use Rattle.sf_gsrc.specs.Places.{PlacesStandFor, SaysPlace}
 use Rattle.sf_io.specs.Outside.{Contents}

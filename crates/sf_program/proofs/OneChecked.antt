@@ -15,7 +15,7 @@ use Rattle.sf_polish.proofs.TextLaws.{spelled-tokens}
 use Rattle.sf_node.specs.Subproblem.{root}
 use Rattle.sf_curves.specs.Choices.{IsRootCurve}
 use Rattle.sf_curves.proofs.OneTrace.{one-curve, one-least}
-use Rattle.sf_gsrc.specs.Line.{◌>>=◌}
+use Rattle.sf_lex.specs.Results.{◌>>=◌}
 use Rattle.sf_gsrc.specs.declared.output.Place.{Place}
 use Rattle.sf_place.specs.Spots.{IsByNumber}
 use Rattle.sf_place.specs.Verdict.{IsVerdict}

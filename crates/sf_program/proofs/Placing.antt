@@ -15,7 +15,7 @@ use Rattle.std.proofs.Math.Seq.{drop-cons}
 use Rattle.sf_model.specs.declared.parts.Block.{Block}
 use Rattle.sf_model.specs.declared.plan.Spot.{Spot}
 use Rattle.sf_gsrc.specs.declared.output.Place.{Place}
-use Rattle.sf_gsrc.specs.Line.{◌>>=◌}
+use Rattle.sf_lex.specs.Results.{◌>>=◌}
 use Rattle.sf_program.specs.declared.placed_lines.Lines.{Lines}
 use Rattle.sf_program.specs.declared.placed_lines.Lines.TheVariants.{Without, One, More}
 use Rattle.sf_names.specs.Values.{value_in}

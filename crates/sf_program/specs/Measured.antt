@@ -12,7 +12,7 @@ use Rattle.sf_model.specs.Cost.{right_end, upper_end, spots_cost}
 use Rattle.sf_model.specs.Wire.{wire}
 use Rattle.sf_gsrc.specs.declared.output.GsrcPlaces.{GsrcPlaces}
 use Rattle.sf_gsrc.specs.declared.output.Place.{Place}
-use Rattle.sf_gsrc.specs.Line.{◌>>=◌}
+use Rattle.sf_lex.specs.Results.{◌>>=◌}
 use Rattle.sf_place.specs.declared.verdict.Verdict.{Verdict}
 use Rattle.sf_place.specs.declared.verdict.Verdict.TheVariants.{Legal, Unlisted, Outside, Overlap}
 use Rattle.sf_place.specs.Verdict.{IsVerdict}
