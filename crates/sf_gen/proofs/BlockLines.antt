@@ -17,7 +17,8 @@ use Rattle.sf_model.specs.declared.raw.Kind.TheVariants as kind
 use Rattle.sf_model.specs.declared.raw.RawBlock.{RawBlock}
 use Rattle.sf_gsrc.specs.Blocks.{is_content_word}
 use Rattle.sf_gsrc.specs.Keywords.{is_colon, counted_of, form_of}
-use Rattle.sf_gsrc.specs.Line.{Item, BlockIs, counted_by, place_in_word, extent, vertex_of, vertices_of, hard_said, soft_said, plain_said, form_said}
+use Rattle.sf_lex.specs.Vertices.{place_of, extent, vertex_of, vertices_of}
+use Rattle.sf_gsrc.specs.Line.{Item, BlockIs, counted_by, hard_said, soft_said, plain_said, form_said}
 use Rattle.sf_gsrc.specs.declared.keywords.Form.{Form}
 use Rattle.sf_gsrc.specs.declared.keywords.Form.TheVariants as forms
 use Rattle.sf_gen.specs.declared.drawn.Size.{Size}
@@ -74,7 +75,7 @@ corner_words w h sw sh =
     let front : words (is_gap Points) (corners w h) ≡ codes "4" ∷ codes "0" ∷ codes "0" ∷ codes "0" ∷ words (is_gap Points) t1 = refl in
     front ∙ rw (e1, e2, e3, e4) refl
 
-place_written : (n : ℕ) → small n → place_in_word 1 (decimal n) ≡ Ok (pos n)
+place_written : (n : ℕ) → small n → place_of 1 (decimal n) ≡ Ok (pos n)
 place_written n low = rw (signed_written n 9_000_000_000_000_000 (omega arith) (omega arith)) refl
 
 corner_places : (w h : ℕ) → small w → small h

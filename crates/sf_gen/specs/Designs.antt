@@ -21,6 +21,7 @@ use Rattle.sf_gen.specs.Texts.{indexed, block_name, is_soft, nets_pins, square}
 abbrev pub raw_nets : List Ends → List RawNet
 raw_nets ends = map (λ pins. record { pins = map Named pins }) (nets_pins ends)
 
+-- the nets that the text of the nets stands for
 abbrev pub nets_out : List Ends → GsrcNets
 nets_out ends = record { nets = raw_nets ends }
 
@@ -31,18 +32,23 @@ raw_block kinds i s = record {
   kind = if is_soft kinds i then kind.Soft (s.w * s.h) 500_000 2_000_000 else kind.Hard s.w s.h;
 }
 
+-- the blocks
 abbrev pub raw_blocks : Kinds → List Size → List RawBlock
 raw_blocks kinds sizes = indexed (raw_block kinds) 0 sizes
 
+-- the names of the four pads
 abbrev pub pad_list : List (List ℕ)
 pad_list = codes "p0" ∷ codes "p1" ∷ codes "p2" ∷ codes "p3" ∷ []
 
+-- what the text of the blocks stands for
 abbrev pub blocks_out : Kinds → List Size → GsrcBlocks
 blocks_out kinds sizes = record { blocks = raw_blocks kinds sizes; pads = pad_list }
 
+-- a name at a place
 abbrev pub placed : List ℕ → ℕ → ℕ → Place
 placed name x y = record { name = name; x = pos x; y = pos y; size = None }
 
+-- what the text of the places stands for
 abbrev pub places_out : ℕ → GsrcPlaces
 places_out n = record {
   places =
@@ -52,14 +58,17 @@ places_out n = record {
 
 -- ---- the parts of the whole design
 
+-- a pad at its place
 abbrev pub raw_pad : List ℕ → ℕ → ℕ → RawPad
 raw_pad name x y = record { name = name; place = Some (pos x, pos y) }
 
+-- the four pads at their places
 abbrev pub raw_pads : ℕ → List RawPad
 raw_pads n =
     raw_pad (codes "p0") 0 0 ∷ raw_pad (codes "p1") (square n) 0
     ∷ raw_pad (codes "p2") 0 (square n) ∷ raw_pad (codes "p3") (square n) (square n) ∷ []
 
+-- the parts of the design, with pins by name
 abbrev pub named_parts : Kinds → ℕ → ℕ → Parts
 named_parts kinds seed n = record {
   blocks = raw_blocks kinds (sizes seed n);

@@ -13,6 +13,7 @@ side drawn = 4 + drawn % 29
 abbrev pub size_at : ℕ → ℕ → Size
 size_at seed i = record { w = side (word seed (2 * i)); h = side (word seed (2 * i + 1)) }
 
+-- the sizes of the blocks
 abbrev pub sizes : ℕ → ℕ → List Size
 sizes seed n = map (size_at seed) (range_with_len 0 n)
 
@@ -24,5 +25,6 @@ net_count n = if nat_lt n 2 then 0 else 2 * n
 abbrev pub ends_at : ℕ → ℕ → ℕ → Ends
 ends_at seed n j = record { a = word seed (2 * n + 2 * j) % n; b = word seed (2 * n + 2 * j + 1) % n }
 
+-- the ends of the nets
 abbrev pub ends : ℕ → ℕ → List Ends
 ends seed n = map (ends_at seed n) (range_with_len 0 (net_count n))

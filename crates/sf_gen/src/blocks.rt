@@ -1,7 +1,8 @@
 //! The text of the blocks.
 
 ghost use Rattle.std.specs.Prelude.{◌≡◌, ◌++◌, IfOk, OnOk, string_bytes};
-ghost use Rattle.sf_gen.specs.Texts.{soft_count, is_soft, hard_line, soft_line, block_line, block_lines, blocks_head, blocks_text};
+ghost use Rattle.sf_gen.specs.Texts.{soft_count, is_soft, hard_line, soft_line, block_line, block_lines};
+ghost use Rattle.sf_gen.specs.Texts.{blocks_head, blocks_text};
 
 use crate::design::Kinds;
 use crate::drawn::Size;
@@ -18,6 +19,7 @@ pub fn blocks_text(alloc: Global, sizes: &[Size], kinds: Kinds) -> Result<Vec<u8
     Ok(text.into_bytes())
 }
 
+/// How many of so many blocks are soft.
 fn soft_among(count: usize, kinds: Kinds) -> usize
     ensures { result ≡ soft_count kinds count }
 {
@@ -27,6 +29,7 @@ fn soft_among(count: usize, kinds: Kinds) -> usize
     }
 }
 
+/// Adds the lines before the blocks.
 fn push_head(text: &mut String, count: usize, kinds: Kinds) -> Result<(), NoMemory>
     ensures { OnOk result (string_bytes text.new ≡ string_bytes text.old ++ blocks_head kinds count) }
 {
@@ -38,6 +41,7 @@ fn push_head(text: &mut String, count: usize, kinds: Kinds) -> Result<(), NoMemo
     )
 }
 
+/// Adds the lines of the blocks.
 fn push_blocks(text: &mut String, sizes: &[Size], kinds: Kinds) -> Result<(), NoMemory>
     ensures { OnOk result (string_bytes text.new ≡ string_bytes text.old ++ block_lines kinds sizes.now) }
 {
@@ -47,6 +51,7 @@ fn push_blocks(text: &mut String, sizes: &[Size], kinds: Kinds) -> Result<(), No
     Ok(())
 }
 
+/// Adds the line of a block.
 fn push_block(text: &mut String, i: usize, size: Size, kinds: Kinds) -> Result<(), NoMemory>
     ensures { OnOk result (string_bytes text.new ≡ string_bytes text.old ++ block_line kinds i size) }
 {
@@ -57,6 +62,7 @@ fn push_block(text: &mut String, i: usize, size: Size, kinds: Kinds) -> Result<(
     }
 }
 
+/// Whether the block of this number is soft.
 fn is_soft(kinds: Kinds, i: usize) -> bool
     ensures { result ≡ is_soft kinds i }
 {
@@ -66,6 +72,7 @@ fn is_soft(kinds: Kinds, i: usize) -> bool
     }
 }
 
+/// Adds the line of a soft block.
 fn push_soft(text: &mut String, i: usize, size: Size) -> Result<(), NoMemory>
     ensures { OnOk result (string_bytes text.new ≡ string_bytes text.old ++ soft_line i size) }
 {
@@ -73,6 +80,7 @@ fn push_soft(text: &mut String, i: usize, size: Size) -> Result<(), NoMemory>
     write!(text, "b{i} softrectangular {area} 0.5 2\n")
 }
 
+/// Adds the line of a hard block.
 fn push_hard(text: &mut String, i: usize, size: Size) -> Result<(), NoMemory>
     ensures { OnOk result (string_bytes text.new ≡ string_bytes text.old ++ hard_line i size) }
 {

@@ -29,6 +29,7 @@ pub fn generator(seed: u64) -> Lcg64Xsh32
     Lcg64Xsh32::new(seed, 1)
 }
 
+/// The next word of the generator.
 fn draw(rng: &mut Lcg64Xsh32) -> u32
     ensures word { (seed k : ℕ) → rng.old ≡ after seed k → result ≡ word seed k }
     ensures moved { (seed k : ℕ) → rng.old ≡ after seed k → rng.new ≡ after seed (k + 1) }
@@ -36,6 +37,7 @@ fn draw(rng: &mut Lcg64Xsh32) -> u32
     rng.next_word()
 }
 
+/// The next size.
 fn draw_size(rng: &mut Lcg64Xsh32) -> Size
     ensures size { (seed i : ℕ) → rng.old ≡ after seed (2 * i) → result ≡ size_at seed i }
     ensures moved { (seed i : ℕ) → rng.old ≡ after seed (2 * i) → rng.new ≡ after seed (2 * (i + 1)) }
@@ -60,10 +62,12 @@ pub fn draw_sizes(alloc: Global, rng: &mut Lcg64Xsh32, count: u16) -> Result<Vec
     Ok(sizes)
 }
 
+/// The ends of the next net.
 fn draw_ends_of_net(rng: &mut Lcg64Xsh32, count: u16) -> Ends
     requires { 1 ≤ count }
     ensures ends { (seed j : ℕ) → rng.old ≡ after seed (2 * count + 2 * j) → result ≡ ends_at seed count j }
-    ensures moved { (seed j : ℕ) → rng.old ≡ after seed (2 * count + 2 * j) → rng.new ≡ after seed (2 * count + 2 * (j + 1)) }
+    ensures moved { (seed j : ℕ) → rng.old ≡ after seed (2 * count + 2 * j)
+        → rng.new ≡ after seed (2 * count + 2 * (j + 1)) }
 {
     let blocks = u32::from(count);
     let a = draw(rng) % blocks;
@@ -74,6 +78,7 @@ fn draw_ends_of_net(rng: &mut Lcg64Xsh32, count: u16) -> Ends
     }
 }
 
+/// How many nets so many blocks have.
 fn nets_among(count: u16) -> u16
     requires { count ≤ 320 }
     ensures { result ≡ net_count count }

@@ -2,7 +2,8 @@
 
 ghost use Rattle.std.specs.Prelude.{◌≡◌, ◌+◌, ◌++◌, ◌≤◌, IfOk, OnOk, length, string_bytes};
 ghost use Rattle.std.specs.List.{flat_map};
-ghost use Rattle.sf_gen.specs.Texts.{net_lines, nets_head, nets_pins, pad_pins, pin_lines, pins_of, nets_text};
+ghost use Rattle.sf_gen.specs.Texts.{net_lines, nets_head, nets_pins, pad_pins, pin_lines, pins_of};
+ghost use Rattle.sf_gen.specs.Texts.{nets_text};
 
 use crate::drawn::Ends;
 use std::alloc::{AllocError as NoMemory, Global};
@@ -28,8 +29,10 @@ fn push_head(text: &mut String, ends: &[Ends]) -> Result<(), NoMemory>
     write!(text, "UCLA nets 1.0\nNumNets : {nets}\nNumPins : {pins}\n")
 }
 
+/// Adds the lines of the nets.
 fn push_nets(text: &mut String, ends: &[Ends]) -> Result<(), NoMemory>
-    ensures { OnOk result (string_bytes text.new ≡ string_bytes text.old ++ flat_map net_lines (nets_pins ends.now)) }
+    ensures { OnOk result (string_bytes text.new
+        ≡ string_bytes text.old ++ flat_map net_lines (nets_pins ends.now)) }
 {
     for (j, ends_of_net) in ends.iter().enumerate() {
         push_net(text, j, *ends_of_net)?;
@@ -37,6 +40,7 @@ fn push_nets(text: &mut String, ends: &[Ends]) -> Result<(), NoMemory>
     Ok(())
 }
 
+/// Adds the lines of a net.
 fn push_net(text: &mut String, j: usize, ends: Ends) -> Result<(), NoMemory>
     ensures { OnOk result (string_bytes text.new ≡ string_bytes text.old ++ net_lines (pins_of j ends)) }
 {
@@ -47,6 +51,7 @@ fn push_net(text: &mut String, j: usize, ends: Ends) -> Result<(), NoMemory>
     Ok(())
 }
 
+/// How many pins the net of this number has.
 fn degree(j: usize) -> usize
     ensures { result ≡ 2 + length (pad_pins j) }
 {

@@ -4,7 +4,8 @@ ghost use Rattle.std.specs.Prelude.{◌≡◌, ◌≤◌, ◌<◌, ◌*◌, leng
 ghost use Rattle.sf_lex.specs.Text.{words};
 ghost use Rattle.sf_lex.specs.Gap.{is_gap, first_word, after_word};
 ghost use Rattle.sf_gsrc.specs.Keywords.{count_word, counted_of, form_of};
-ghost use Rattle.sf_gsrc.specs.Line.{count_said, soft_said, count_in_word, aspect_in_word, area_in_word, vertex_fault, box_said, hard_said, plain_said};
+ghost use Rattle.sf_gsrc.specs.Line.{count_said, soft_said, count_in_word, aspect_in_word, area_in_word};
+ghost use Rattle.sf_gsrc.specs.Line.{vertex_fault, box_said, hard_said, plain_said};
 ghost use Rattle.sf_gsrc.specs.Statement.{item_in, IsNamed, Says};
 
 use crate::fault::LineFault;

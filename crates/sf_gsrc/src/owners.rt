@@ -1,6 +1,7 @@
 //! Of what each name is, which is looked up once for each pin.
 
-ghost use Rattle.std.specs.Prelude.{◌≡◌, ◌+◌, ◌<◌, ◌^◌, List, ℕ, [], ◌∷◌, IfOk, OnOk, Option, Some, unwrap_or, length};
+ghost use Rattle.std.specs.Prelude.{◌≡◌, ◌+◌, ◌<◌, ◌^◌, List, ℕ, [], ◌∷◌, IfOk, OnOk, Option, Some};
+ghost use Rattle.std.specs.Prelude.{unwrap_or, length};
 ghost use Rattle.sf_model.specs.Admitted.{block_names, pad_names};
 ghost use Rattle.sf_model.specs.declared.raw.RawBlock.{RawBlock};
 ghost use Rattle.sf_model.specs.declared.raw.RawPad.{RawPad};

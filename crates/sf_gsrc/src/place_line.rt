@@ -4,7 +4,8 @@ ghost use Rattle.std.specs.Prelude.{◌≡◌, ◌≤◌, IfOk, Ok, Err};
 ghost use Rattle.sf_lex.specs.Text.{words};
 ghost use Rattle.sf_lex.specs.Gap.{is_gap, first_word};
 ghost use Rattle.sf_gsrc.specs.Line.{place_in_word};
-ghost use Rattle.sf_gsrc.specs.PlaceLine.{length_in_word, size_words, size_in_words, point_said, sized_said, rest_said, place_said};
+ghost use Rattle.sf_gsrc.specs.PlaceLine.{length_in_word, size_words, size_in_words, point_said, sized_said};
+ghost use Rattle.sf_gsrc.specs.PlaceLine.{rest_said, place_said};
 ghost use Rattle.sf_lex.specs.Results.{seen};
 ghost use Rattle.sf_gsrc.specs.Spots.{place_in};
 
