@@ -176,7 +176,8 @@ fn read_gsrc_files<S: Shelf>(
     pl: Option<&str>,
     weights: Option<&str>,
 ) -> Result<Weighed, Stop>
-    ensures parts { let held = (S.seen shelf.old).holds in let scale = scale.per_unit in Ends weighed_in result
+    ensures parts { let held = (S.seen shelf.old).holds in let scale = scale.per_unit in
+        Ends weighed_in result
         (GsrcRead held scale blocks.now (text_of nets.entry) (text_of pl.entry) (text_of weights.entry)) }
     ensures sizes { IfOk result (λ read. HasSizes read.parts) }
     ensures pins { IfOk result (λ read. HasPinsInRange read.parts) }
