@@ -1,5 +1,6 @@
 pub mod Stages
 pub mod Fitting
+pub mod YalRefused
 pub mod Told
 pub mod Printed
 pub mod Legal

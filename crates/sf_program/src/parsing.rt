@@ -26,7 +26,7 @@ use sf_gsrc::{
 };
 use sf_lex::Scale;
 use sf_model::Parts;
-use sf_yal::{YalFault, parts_keep_ranges, read_yal};
+use sf_yal::{parts_keep_ranges, read_yal};
 use std::alloc::Global;
 
 /// What a blocks file stands for.
@@ -103,7 +103,6 @@ pub fn parse_yal(alloc: Global, text: &[u8], scale: Scale) -> Result<Parts, Stop
     parts_keep_ranges();
     match read_yal(alloc, text, scale.per_unit) {
         Ok(parts) => Ok(parts),
-        Err(YalFault::NoMemory) => Err(Stop::NoMemory),
         Err(fault) => Err(yal_fault(alloc, fault)?),
     }
 }

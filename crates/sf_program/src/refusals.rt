@@ -1,6 +1,6 @@
 //! Refusals of inputs, each with the line that tells why.
 
-ghost use Rattle.std.specs.Prelude.{◌≡◌, ◌++◌, ◌∷◌, [], IfOk, codes, string_bytes};
+ghost use Rattle.std.specs.Prelude.{◌≡◌, ◌≢◌, ◌++◌, ◌∷◌, [], IfOk, codes, string_bytes};
 ghost use Rattle.std.specs.Fmt.{decimal};
 ghost use Rattle.sf_program.specs.Outcome.{Refuses};
 ghost use Rattle.sf_program.specs.Refusals.{bad_input, over_limit, number_fault, gsrc_refusal};
@@ -152,7 +152,8 @@ pub fn weight_fault(alloc: Global, fault: WeightFault) -> Result<Stop, NoMemory>
 
 /// The first fault of a YAL text.
 pub fn yal_fault(alloc: Global, fault: YalFault) -> Result<Stop, NoMemory>
-    ensures { IfOk result (λ stop. Refuses stop (yal_refusal fault)) }
+    ensures refused { IfOk result (λ stop. Refuses stop (yal_refusal fault)) }
+    ensures real { IfOk result (λ stop. fault ≢ YalFault.NoMemory) }
 {
     match fault {
         YalFault::Truncated(line) => bare_fault(alloc, "yal", line, "Truncated"),
