@@ -2,16 +2,13 @@
 
 ghost use Rattle.std.specs.Prelude.{IsPermutation};
 
-use crate::comparing::{compare_steps, rank};
+use crate::comparing::compare_steps;
 use crate::mark::Mark;
 use sf_node::Step;
 use std::alloc::{AllocError as NoMemory, Global};
 use std::cmp::Ordering;
 
-/// How many steps above a subproblem are looked at.
-const NEAR: usize = 8;
-
-/// Marks that stand one after the other in a list: the first one, and those below it.
+/// Marks that stand one after the other in a list: the first one's path, and those below it.
 #[derive(Drop)]
 struct Stretch<'a> {
     first: &'a [Step],
@@ -19,19 +16,25 @@ struct Stretch<'a> {
     to: usize,
 }
 
+/// A stretch, or what another one cuts off of it.
+#[derive(Drop)]
+struct Piece {
+    from: usize,
+    to: usize,
+}
+
 /// Brings the marks of one subtree together, and the subtrees into order. They come as they were logged, or
-/// in reverse. Whether a mark goes on from the one before it is told by a few steps, so a rare one may stand
-/// wrong.
-pub fn arrange(alloc: Global, marks: &mut Vec<Mark>) -> Result<(), NoMemory>
+/// in reverse.
+pub fn arrange(alloc: Global, marks: &mut Vec<&Mark>) -> Result<(), NoMemory>
     ensures { IsPermutation marks.old.items marks.new.items }
 {
-    face_back(marks);
+    face_forward(marks);
     put_in_place(alloc, marks)?;
     Ok(())
 }
 
-/// The same where the last one was logged first.
-fn put_in_place(alloc: Global, marks: &mut Vec<Mark>) -> Result<(), NoMemory>
+/// The same where they come as they were logged.
+fn put_in_place(alloc: Global, marks: &mut Vec<&Mark>) -> Result<(), NoMemory>
     ensures { IsPermutation marks.old.items marks.new.items }
 {
     let mut places = places(alloc, marks)?;
@@ -39,34 +42,32 @@ fn put_in_place(alloc: Global, marks: &mut Vec<Mark>) -> Result<(), NoMemory>
     Ok(())
 }
 
-/// Turns the marks where they come as they were logged.
-fn face_back(marks: &mut Vec<Mark>)
+/// Turns the marks where the last one was logged first.
+fn face_forward(marks: &mut Vec<&Mark>)
     ensures { IsPermutation marks.old.items marks.new.items }
 {
-    if are_forward(marks) {
+    if are_backward(marks) {
         marks.reverse();
     }
 }
 
-/// Whether the first mark comes before the last one.
-fn are_forward(marks: &[Mark]) -> bool {
+/// Whether the last mark comes before the first one.
+fn are_backward(marks: &[&Mark]) -> bool {
     match (marks.first(), marks.last()) {
         (Some(first), Some(last)) => {
-            compare_steps(first.node.steps(), last.node.steps()) == Ordering::Less
+            compare_steps(last.node.steps(), first.node.steps()) == Ordering::Less
         }
         _ => false,
     }
 }
 
-/// Where each mark goes so that the stretches stand in order.
-fn places(alloc: Global, marks: &[Mark]) -> Result<Vec<usize>, NoMemory> {
-    let count = marks.len();
-    let mut places = Vec::from_elem(alloc, 0, count)?;
+/// Where each mark goes so that the pieces stand in order.
+fn places(alloc: Global, marks: &[&Mark]) -> Result<Vec<usize>, NoMemory> {
+    let mut places = Vec::from_elem(alloc, 0, marks.len())?;
     let mut next: usize = 0;
-    for stretch in stretches(alloc, marks)? {
-        for at in stretch.from..stretch.to {
-            let from_end = at.saturating_add(1);
-            if let Some(place) = places.get_mut(count.saturating_sub(from_end)) {
+    for piece in pieces(alloc, marks)? {
+        for at in piece.from..piece.to {
+            if let Some(place) = places.get_mut(at) {
                 *place = next;
             }
             next = next.saturating_add(1);
@@ -75,13 +76,62 @@ fn places(alloc: Global, marks: &[Mark]) -> Result<Vec<usize>, NoMemory> {
     Ok(places)
 }
 
-/// The stretches of the marks from the last one on, in the order of their first marks.
-fn stretches<'a>(alloc: Global, marks: &'a [Mark]) -> Result<Vec<Stretch<'a>>, NoMemory> {
+/// The pieces of the marks in order: each stretch is cut where another one begins between its marks.
+fn pieces(alloc: Global, marks: &[&Mark]) -> Result<Vec<Piece>, NoMemory> {
+    let mut ended = Vec::new(alloc);
+    let mut begun = Vec::new(alloc);
+    for stretch in stretches(alloc, marks)? {
+        end_before(&mut begun, &mut ended, marks, stretch.first)?;
+        begun.push(Piece {
+            from: stretch.from,
+            to: stretch.to,
+        })?;
+    }
+    begun.reverse();
+    ended.append(&mut begun)?;
+    Ok(ended)
+}
+
+/// Ends the pieces that were begun, from the last one on, up to one that goes on behind a path. That one is
+/// cut there.
+fn end_before(
+    begun: &mut Vec<Piece>,
+    ended: &mut Vec<Piece>,
+    marks: &[&Mark],
+    path: &[Step],
+) -> Result<(), NoMemory> {
+    while let Some(piece) = begun.pop() {
+        let Piece { from, to } = piece;
+        let middle = place_before(marks, from, to, path);
+        ended.push(Piece { from, to: middle })?;
+        if middle < to {
+            begun.push(Piece { from: middle, to })?;
+            return Ok(());
+        }
+    }
+    Ok(())
+}
+
+/// The place up to which the marks of a piece come before a path.
+fn place_before(marks: &[&Mark], from: usize, to: usize, path: &[Step]) -> usize {
+    let to = to.min(marks.len());
+    let from = from.min(to);
+    let few = marks[from..to].partition_point(|mark| comes_before(mark, path));
+    from.saturating_add(few)
+}
+
+/// Whether a mark comes before a path.
+fn comes_before(mark: &Mark, path: &[Step]) -> bool {
+    compare_steps(mark.node.steps(), path) == Ordering::Less
+}
+
+/// The stretches of the marks, in the order of their first paths.
+fn stretches<'a>(alloc: Global, marks: &[&'a Mark]) -> Result<Vec<Stretch<'a>>, NoMemory> {
     let mut all: Vec<Stretch<'a>> = Vec::new(alloc);
     let mut from: usize = 0;
     let mut first: &'a [Step] = &[];
     let mut before: &'a [Step] = &[];
-    for (to, mark) in marks.iter().rev().enumerate() {
+    for (to, mark) in marks.iter().enumerate() {
         let steps = mark.node.steps();
         if steps.len() <= first.len() || !goes_on(steps, before) {
             all.push(Stretch { first, from, to })?;
@@ -96,23 +146,16 @@ fn stretches<'a>(alloc: Global, marks: &'a [Mark]) -> Result<Vec<Stretch<'a>>, N
     Ok(all)
 }
 
-/// Whether a subproblem's parent seems to be the one before, or one above that.
+/// Whether a subproblem's parent is the one before, or one above that.
 fn goes_on(steps: &[Step], before: &[Step]) -> bool {
-    let Some((_, parent)) = steps.split_last() else {
-        return false;
-    };
-    let depth = parent.len();
-    for at in depth.saturating_sub(NEAR)..depth {
-        match (parent.get(at), before.get(at)) {
-            (Some(wanted), Some(there)) if rank(*wanted) == rank(*there) => {}
-            _ => return false,
-        }
+    match steps.split_last() {
+        Some((_, parent)) => before.starts_with(parent),
+        None => false,
     }
-    true
 }
 
 /// Moves each mark to its place. Each exchange brings one there for good.
-fn move_all(marks: &mut [Mark], places: &mut [usize])
+fn move_all(marks: &mut [&Mark], places: &mut [usize])
     ensures { IsPermutation marks.old marks.new }
 {
     let count = marks.len().min(places.len());

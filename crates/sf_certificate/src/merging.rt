@@ -12,7 +12,7 @@ ghost use Rattle.sf_node.specs.Subproblem.{root};
 ghost use Rattle.sf_search_core.specs.Conserved.{IsConserved};
 ghost use Rattle.sf_polish.specs.Text.{IsWritable};
 ghost use Rattle.sf_node.specs.Order.{steps_cmp};
-ghost use Rattle.sf_certificate.specs.Marks.{tag_of, given_marks, marks};
+ghost use Rattle.sf_certificate.specs.Marks.{tag_of, given_marks, marks, lent};
 ghost use Rattle.sf_certificate.specs.Valid.{HasCost, IsValid, least, decided};
 
 use crate::arranging::arrange;
@@ -69,19 +69,30 @@ pub fn given_marks(
 }
 
 /// Puts the marks into preorder. Once they are arranged, one comparison for each mostly shows that they are.
-pub fn sort_marks(alloc: Global, marks: &mut Vec<Mark>) -> Result<(), NoMemory>
-    ensures moved { IsPermutation marks.old.items marks.new.items }
+pub fn sort_marks(alloc: Global, marks: &mut Vec<&Mark>) -> Result<(), NoMemory>
+    ensures moved { IsPermutation (lent marks.old.items) (lent marks.new.items) }
     ensures sorted { OnOk result (IsSortedBy
-        (λ a b. is_lt (steps_cmp a.node.steps b.node.steps)) marks.new.items) }
+        (λ a b. is_lt (steps_cmp a.node.steps b.node.steps)) (lent marks.new.items)) }
 {
     arrange(alloc, marks)?;
     marks.sort_by(|a, b| compare_steps(a.node.steps(), b.node.steps()))?;
     Ok(())
 }
 
+/// Marks, lent one by one.
+pub fn lent<'a>(alloc: Global, marks: &'a [Mark]) -> Result<Vec<&'a Mark>, NoMemory>
+    ensures { IfOk result (λ all. lent all.items ≡ marks.now) }
+{
+    let mut all = Vec::with_capacity(alloc, marks.len())?;
+    for mark in marks {
+        all.push(mark)?;
+    }
+    Ok(all)
+}
+
 /// The tags of marks.
-fn tags_of(alloc: Global, marks: &[Mark]) -> Result<Vec<Tag>, NoMemory>
-    ensures { IfOk result (λ tags. tags.items ≡ map (λ m. m.tag) marks.now) }
+fn tags_of(alloc: Global, marks: &[&Mark]) -> Result<Vec<Tag>, NoMemory>
+    ensures { IfOk result (λ tags. tags.items ≡ map (λ m. m.tag) (lent marks.now)) }
 {
     let mut tags = Vec::new(alloc);
     for mark in marks {
@@ -132,9 +143,10 @@ pub fn merge<V: Values>(
     ensures cost { IfOk result (λ c. c.cost ≡ cost) }
 {
     let bound = least_bound(cost, &left);
-    let mut marks = given_marks(alloc, entries, left)?;
-    sort_marks(alloc, &mut marks)?;
-    let tags = TagList::from_vec(tags_of(alloc, &marks)?);
+    let marks = given_marks(alloc, entries, left)?;
+    let mut sorted = lent(alloc, &marks)?;
+    sort_marks(alloc, &mut sorted)?;
+    let tags = TagList::from_vec(tags_of(alloc, &sorted)?);
     let blocks = design.block_count();
     Ok(Cert {
         blocks,

@@ -1,10 +1,11 @@
--- Marks that are cut in two by a path.
-use Rattle.std.proofs.Common.{◌≡◌, List, [], ◌∷◌, ◌++◌, map, All, ap, sym, subst, ◌∙◌, refl, true, false, IsPermutation, append_assoc, append-nil}
-use Rattle.std.specs.List.{flat_map}
+-- Marks and piles that are cut in two by a path.
+use Rattle.std.proofs.Common.{◌≡◌, List, [], ◌∷◌, ◌++◌, map, All, ap, sym, subst, ◌∙◌, refl, true, false, IsPermutation, append_assoc, append-nil, flat_map}
+use Rattle.std.specs.Global.{Vec}
 use Rattle.std.specs.Ordering.{is_lt}
+use Rattle.std.proofs.lemmas.Grind.{flat_map-append}
 use Rattle.std.proofs.lemmas.List.{map-append}
 use Rattle.std.proofs.lemmas.List.Elements.{All-nil, All-cons, All-append, All-from_recursion, recursion_from_All}
-use Rattle.std.proofs.lemmas.List.Sorted.{All-permutation, IsPermutation-refl, IsPermutation-trans, IsPermutation-append, IsPermutation-append_right, IsPermutation-append_comm, IsPermutation-middle, IsPermutation-to_front}
+use Rattle.std.proofs.lemmas.List.Sorted.{All-permutation, IsPermutation-refl, IsPermutation-trans, IsPermutation-append, IsPermutation-append_right, IsPermutation-append_comm}
 use Rattle.sf_model.proofs.Each.{each-left, each-right}
 use Rattle.sf_node.specs.declared.step.Step.{Step}
 use Rattle.sf_node.specs.declared.task.Task.{Task}
@@ -13,37 +14,10 @@ use Rattle.sf_search_core.specs.declared.entry.Entry.{Entry}
 use Rattle.sf_certificate.specs.declared.mark.Mark.{Mark}
 use Rattle.sf_certificate.specs.declared.tag.Tag.TheVariants.{Open}
 use Rattle.sf_certificate.specs.Marks.{given_marks, tag_of}
+use Rattle.sf_rounds.specs.declared.pile.Pile.{Pile}
+use Rattle.sf_rounds.specs.declared.pile.Pile.TheVariants as pile
 use Rattle.sf_rounds.specs.InOrder.{flat, AreCut}
-
--- ---- the last one of those that are left is put
-
--- the last one of those that are left may come first
-last-first : (given done left rest : List Mark) (x : Mark) → IsPermutation given (done ++ left) → left ≡ rest ++ x ∷ [] → IsPermutation given (done ++ x ∷ rest)
-last-first given done left rest x p e =
-    IsPermutation-trans given (done ++ (rest ++ x ∷ [])) (done ++ x ∷ rest) (subst (λ (ys : List Mark). IsPermutation given (done ++ ys)) e p)
-    (IsPermutation-append_right done (rest ++ x ∷ []) (x ∷ rest) (IsPermutation-to_front rest x))
-
--- it may be put among the others
-pub put-others : (given before others left rest next : List Mark) (x : Mark) → IsPermutation given ((before ++ others) ++ left) → left ≡ rest ++ x ∷ [] → next ≡ others ++ x ∷ [] → IsPermutation given ((before ++ next) ++ rest)
-put-others given before others left rest next x p e f =
-    let q = last-first given (before ++ others) left rest x p e in
-    let same : (before ++ others) ++ x ∷ rest ≡ (before ++ next) ++ rest =
-    sym (append_assoc (before ++ others) (x ∷ []) rest) ∙ ap (λ (ys : List Mark). ys ++ rest) (append_assoc before others (x ∷ []) ∙ ap (λ (ys : List Mark). before ++ ys) (sym f)) in
-    subst (IsPermutation given) same q
-
--- it may be put among those before the path
-pub put-before : (given before others left rest next : List Mark) (x : Mark) → IsPermutation given ((before ++ others) ++ left) → left ≡ rest ++ x ∷ [] → next ≡ before ++ x ∷ [] → IsPermutation given ((next ++ others) ++ rest)
-put-before given before others left rest next x p e f =
-    let q : IsPermutation given (before ++ (others ++ x ∷ rest)) = subst (IsPermutation given) (append_assoc before others (x ∷ rest)) (last-first given (before ++ others) left rest x p e) in
-    let r : IsPermutation given (before ++ x ∷ (others ++ rest)) =
-    IsPermutation-trans given (before ++ (others ++ x ∷ rest)) (before ++ x ∷ (others ++ rest)) q (IsPermutation-append_right before (others ++ x ∷ rest) (x ∷ (others ++ rest)) (IsPermutation-middle others x rest)) in
-    let same : before ++ x ∷ (others ++ rest) ≡ (next ++ others) ++ rest =
-    sym (append_assoc before (x ∷ []) (others ++ rest)) ∙ ap (λ (ys : List Mark). ys ++ (others ++ rest)) (sym f) ∙ sym (append_assoc next others rest) in
-    subst (IsPermutation given) same r
-
--- what holds of all and of one more holds when that is put behind them
-pub all-put : (P : Mark → Type 0) (ms next : List Mark) (x : Mark) → All P ms → P x → next ≡ ms ++ x ∷ [] → All P next
-all-put P ms next x h k e = subst (All P) (sym e) (All-append P ms (x ∷ []) h (All-cons P x [] k (All-nil P)))
+use Rattle.sf_rounds.specs.Piles.{marks_in, all_in, in_lists}
 
 -- ---- one cut behind another
 
@@ -73,6 +47,22 @@ cut-both path given ms ns b o c p before others g one other e f =
 pub cut-none : (path : List Step) → AreCut path [] [] []
 cut-none path = record { same = IsPermutation-refl []; low = All-nil (λ (m : Mark). is_lt (steps_cmp m.node.steps path) ≡ true); high = All-nil (λ (m : Mark). is_lt (steps_cmp m.node.steps path) ≡ false) }
 
+-- one mark before the path
+cut-low : (path : List Step) (x : Mark) → is_lt (steps_cmp x.node.steps path) ≡ true → AreCut path (x ∷ []) (x ∷ []) []
+cut-low path x h = record { same = IsPermutation-refl (x ∷ []); low = All-cons (λ (m : Mark). is_lt (steps_cmp m.node.steps path) ≡ true) x [] h (All-nil (λ (m : Mark). is_lt (steps_cmp m.node.steps path) ≡ true)); high = All-nil (λ (m : Mark). is_lt (steps_cmp m.node.steps path) ≡ false) }
+
+-- one mark that isn't before it
+cut-high : (path : List Step) (x : Mark) → is_lt (steps_cmp x.node.steps path) ≡ false → AreCut path (x ∷ []) [] (x ∷ [])
+cut-high path x h = record { same = IsPermutation-refl (x ∷ []); low = All-nil (λ (m : Mark). is_lt (steps_cmp m.node.steps path) ≡ true); high = All-cons (λ (m : Mark). is_lt (steps_cmp m.node.steps path) ≡ false) x [] h (All-nil (λ (m : Mark). is_lt (steps_cmp m.node.steps path) ≡ false)) }
+
+-- one mark more before the path
+pub cut-more-low : (path : List Step) (given b o next : List Mark) (x : Mark) → AreCut path given b o → is_lt (steps_cmp x.node.steps path) ≡ true → next ≡ b ++ x ∷ [] → AreCut path (given ++ x ∷ []) next o
+cut-more-low path given b o next x c h e = cut-both path (given ++ x ∷ []) given (x ∷ []) b o (x ∷ []) [] next o refl c (cut-low path x h) e (sym (append-nil o))
+
+-- one mark more that isn't before it
+pub cut-more-high : (path : List Step) (given b o next : List Mark) (x : Mark) → AreCut path given b o → is_lt (steps_cmp x.node.steps path) ≡ false → next ≡ o ++ x ∷ [] → AreCut path (given ++ x ∷ []) b next
+cut-more-high path given b o next x c h e = cut-both path (given ++ x ∷ []) given (x ∷ []) b o [] (x ∷ []) b next refl c (cut-high path x h) (sym (append-nil b)) e
+
 -- a cut of marks is a cut of the same ones in another order
 pub cut-permuted : (path : List Step) (given ms b o : List Mark) → IsPermutation given ms → AreCut path ms b o → AreCut path given b o
 cut-permuted path given ms b o p c = record { same = IsPermutation-trans given ms (b ++ o) p c.same; low = c.low; high = c.high }
@@ -83,7 +73,29 @@ cut-each P path given b o c h =
     let all = recursion_from_All P (b ++ o) (All-permutation P given (b ++ o) c.same h) in
     (All-from_recursion P b (each-left P b o all), All-from_recursion P o (each-right P b o all))
 
--- ---- the marks of lists
+-- ---- the marks of piles
+
+-- one list more, as one list
+pub flat-push : {X Y : Type 0} (f : X → List Y) (xs : List X) (x : X) → flat_map f (xs ++ x ∷ []) ≡ flat_map f xs ++ f x
+flat-push f xs x = flat_map-append f xs (x ∷ []) ∙ ap (λ ys. flat_map f xs ++ ys) (append-nil (f x))
+
+-- the marks of lists that are the same but for their order in each
+pub lists-push : (piles : List Pile) (lists next : List (Vec Mark)) (one : Pile) (marks : Vec Mark) → IsPermutation (all_in piles) (in_lists lists) → IsPermutation (marks_in one) marks.items → next ≡ lists ++ marks ∷ [] → IsPermutation (all_in (piles ++ one ∷ [])) (in_lists next)
+lists-push piles lists next one marks p q e =
+    subst (λ (ms : List Mark). IsPermutation ms (in_lists next)) (sym (flat-push marks_in piles one))
+    (subst (IsPermutation (all_in piles ++ marks_in one)) (sym (ap in_lists e ∙ flat-push (λ (v : Vec Mark). v.items) lists marks))
+    (IsPermutation-append (all_in piles) (in_lists lists) (marks_in one) marks.items p q))
+
+-- one pile more is cut as those before it are
+pub cut-pile : (path : List Step) (piles below above lows highs : List Pile) (one : Pile) (marks b o : List Mark) (first second : Pile)
+    → AreCut path (all_in piles) (all_in below) (all_in above) → IsPermutation (marks_in one) marks → AreCut path marks b o
+    → marks_in first ≡ b → marks_in second ≡ o → lows ≡ below ++ first ∷ [] → highs ≡ above ++ second ∷ []
+    → AreCut path (all_in (piles ++ one ∷ [])) (all_in lows) (all_in highs)
+cut-pile path piles below above lows highs one marks b o first second old p c f g e h =
+    cut-both path (all_in (piles ++ one ∷ [])) (all_in piles) (marks_in one) (all_in below) (all_in above) b o (all_in lows) (all_in highs)
+    (flat-push marks_in piles one) old (cut-permuted path (marks_in one) marks b o p c)
+    (ap all_in e ∙ flat-push marks_in below first ∙ ap (λ ms. all_in below ++ ms) f)
+    (ap all_in h ∙ flat-push marks_in above second ∙ ap (λ ms. all_in above ++ ms) g)
 
 -- the mark of an entry
 abbrev entry_mark : Entry → Mark
@@ -94,20 +106,18 @@ abbrev task_mark : Task → Mark
 task_mark task = record { node = task.node; tag = Open }
 
 -- the marks of entries behind entries
-pub marks-behind : (xs ys : List Entry) → given_marks (xs ++ ys) [] ≡ given_marks xs [] ++ given_marks ys []
+marks-behind : (xs ys : List Entry) → given_marks (xs ++ ys) [] ≡ given_marks xs [] ++ given_marks ys []
 marks-behind xs ys =
     append-nil (map entry_mark (xs ++ ys)) ∙ map-append entry_mark xs ys
     ∙ (λ i. (sym (append-nil (map entry_mark xs))) i ++ (sym (append-nil (map entry_mark ys))) i)
 
--- the marks of entries and open tasks are those of the entries and those of the tasks
-pub marks-of-both : (entries : List Entry) (left : List Task) → given_marks entries left ≡ given_marks entries [] ++ given_marks [] left
-marks-of-both entries left = ap (λ (ms : List Mark). ms ++ map task_mark left) (sym (append-nil (map entry_mark entries)))
+-- a pile of entries more
+pub entries-pile : (piles more : List Pile) (lists : List (List Entry)) (entries : List Entry) → all_in piles ≡ given_marks (flat lists) [] → more ≡ piles ++ pile.Decided entries ∷ [] → all_in more ≡ given_marks (flat (lists ++ entries ∷ [])) []
+entries-pile piles more lists entries h e =
+    ap all_in e ∙ flat-push marks_in piles (pile.Decided entries) ∙ ap (λ ms. ms ++ given_marks entries []) h
+    ∙ sym (ap (λ es. given_marks es []) (flat-push (λ es. es) lists entries) ∙ marks-behind (flat lists) entries)
 
--- lists behind lists, as one list
-pub flat-behind : (xs ys : List (List Entry)) → flat (xs ++ ys) ≡ flat xs ++ flat ys
-flat-behind [] ys = refl
-flat-behind (x ∷ xs) ys = ap (λ es. x ++ es) (flat-behind xs ys) ∙ sym (append_assoc x (flat xs) (flat ys))
-
--- one list more, as one list
-pub flat-more : (lists : List (List Entry)) (entries : List Entry) → flat (lists ++ entries ∷ []) ≡ flat lists ++ entries
-flat-more lists entries = flat-behind lists (entries ∷ []) ∙ ap (λ es. flat lists ++ es) (append-nil entries)
+-- the open tasks behind the entries
+pub tasks-pile : (piles more : List Pile) (entries : List Entry) (left : Vec Task) → all_in piles ≡ given_marks entries [] → more ≡ piles ++ pile.Open left ∷ [] → all_in more ≡ given_marks entries left.items
+tasks-pile piles more entries left h e =
+    ap all_in e ∙ flat-push marks_in piles (pile.Open left) ∙ ap (λ ms. ms ++ map task_mark left.items) (h ∙ append-nil (map entry_mark entries))

@@ -1,5 +1,5 @@
 -- Marks that are cut by a path and put in order part by part, and the certificate of their tags.
-use Rattle.std.proofs.Common.{◌≡◌, ℕ, ◌+◌, ◌<◌, ◌≤◌, List, [], ◌∷◌, ◌++◌, length, map, All, refl, ap, sym, subst, ◌∙◌, arith, Bool, true, false, inl, inr, Option, Some, None, IsPermutation}
+use Rattle.std.proofs.Common.{◌≡◌, ℕ, ◌+◌, List, [], ◌∷◌, ◌++◌, length, map, All, refl, ap, sym, subst, ◌∙◌, arith, true, false, inl, inr, Option, IsPermutation}
 use Rattle.std.specs.Prelude.{MatchOption, IsSortedBy, IsTrue}
 use Rattle.std.specs.List.{AllByRecursion}
 use Rattle.std.specs.Ordering.{is_lt}
@@ -15,13 +15,12 @@ use Rattle.sf_model.specs.declared.TheConstants.{MAX}
 use Rattle.sf_model.specs.Legal.{block_count}
 use Rattle.sf_model.proofs.Each.{EachPair, EachPair-append, AllPairs-from_recursion, each-append, each-map}
 use Rattle.sf_polish.specs.declared.expr.Expr.{Expr}
-use Rattle.sf_polish.specs.Text.{IsWritable}
 use Rattle.sf_node.specs.declared.part.Part.{Part}
 use Rattle.sf_node.specs.declared.step.Step.{Step}
 use Rattle.sf_node.specs.declared.task.Task.{Task}
 use Rattle.sf_node.specs.Order.{rank, steps_cmp}
 use Rattle.sf_node.specs.Parts.{Parts}
-use Rattle.sf_node.specs.ByPart.{ArePartsOf, first_part}
+use Rattle.sf_node.specs.ByPart.{ArePartsOf}
 use Rattle.sf_node.specs.Children.{IsSubproblem}
 use Rattle.sf_node.specs.Subproblem.{root}
 use Rattle.sf_node.proofs.Depth.{subproblem-shallow}

@@ -1,5 +1,5 @@
 -- What rounds leave is what a certificate is made of.
-use Rattle.std.proofs.Common.{◌≡◌, ℕ, List, [], ◌∷◌, All, map, sym, subst, ◌∙◌, append-nil, Option}
+use Rattle.std.proofs.Common.{◌≡◌, ℕ, List, [], ◌∷◌, map, sym, subst, append-nil, Option}
 use Rattle.std.proofs.lemmas.List.Elements.{All-weaker}
 use Rattle.sf_model.specs.declared.design.Design.{Design}
 use Rattle.sf_polish.specs.declared.expr.Expr.{Expr}

@@ -1,20 +1,19 @@
 //! The certificate of what several workers decided.
 
-ghost use Rattle.std.specs.Prelude.{◌≤◌, IfOk};
+ghost use Rattle.std.specs.Prelude.{◌≡◌, ◌≤◌, IfOk};
 ghost use Rattle.sf_certificate.specs.Marks.{given_marks};
-ghost use Rattle.sf_rounds.specs.InOrder.{flat, AreCut};
+ghost use Rattle.sf_rounds.specs.Piles.{all_in};
 ghost use Rattle.sf_rounds.specs.Certify.{IsOutcome, IsCertified};
 
-use crate::cutting::{Cut, both, cut_lists_by, cut_marks, middle_of_lists};
-use crate::in_order::tags_of_both;
+use crate::in_order::tags_in_order;
 use crate::log::Log;
+use crate::pile::Pile;
 use sf_bounds::Bounds;
-use sf_certificate::{Cert, TagList, given_marks, least_bound, merge};
+use sf_certificate::{Cert, TagList, least_bound, merge};
 use sf_checker::name_parts;
 use sf_model::Design;
-use sf_node::{Step, Task};
+use sf_node::Task;
 use sf_polish::Expr;
-use sf_search_core::EntryList;
 use std::alloc::{AllocError as NoMemory, Global};
 use std::thread::Threads;
 
@@ -46,7 +45,7 @@ pub fn certify<R: Threads + Sync, B: Bounds>(
         merge_and_name(alloc, design, bounds, entries, left, plan, cost)
     } else {
         share_out(
-            rt, alloc, design, bounds, threads, decided, entries, left, plan, cost,
+            rt, alloc, design, bounds, threads, entries, left, plan, cost,
         )
     }
 }
@@ -80,7 +79,6 @@ fn share_out<R: Threads + Sync, B: Bounds>(
     design: &Design,
     bounds: &B,
     threads: usize,
-    decided: u64,
     entries: Log,
     left: Vec<Task>,
     plan: Option<Expr>,
@@ -94,10 +92,8 @@ fn share_out<R: Threads + Sync, B: Bounds>(
         (B.part_value bounds.now design.now) entries left.items plan cost) }
 {
     let bound = least_bound(cost, &left);
-    let lists = entries.into_lists();
-    let path = middle_of_lists(alloc, &lists, decided)?;
-    let parts = cut_all(rt, alloc, lists, left, &path, threads)?;
-    let tags = tags_of_both(rt, alloc, design, bounds, cost, parts, threads)?;
+    let piles = piles_of(alloc, entries, left)?;
+    let tags = tags_in_order(rt, alloc, design, bounds, cost, piles, threads)?;
     let tags = TagList::from_vec(tags);
     let blocks = design.blocks.as_slice().len() as u16;
     Ok(Cert {
@@ -109,22 +105,14 @@ fn share_out<R: Threads + Sync, B: Bounds>(
     })
 }
 
-/// Cuts the marks of the entries and the open tasks by a path.
-fn cut_all<R: Threads + Sync>(
-    rt: &R,
-    alloc: Global,
-    lists: Vec<EntryList>,
-    left: Vec<Task>,
-    path: &[Step],
-    threads: usize,
-) -> Result<Cut, NoMemory>
-    ensures cut { IfOk result
-        (λ c. AreCut path.now (given_marks (flat lists.items) left.items) c.before.items c.others.items) }
+/// The entries, list by list, and the open tasks.
+fn piles_of(alloc: Global, entries: Log, left: Vec<Task>) -> Result<Vec<Pile>, NoMemory>
+    ensures { IfOk result (λ piles. all_in piles.items ≡ given_marks entries left.items) }
 {
-    let decided = cut_lists_by(rt, alloc, lists, path, threads)?;
-    let none = Vec::new(alloc);
-    let marks = given_marks(alloc, none, left)?;
-    let open_tasks = cut_marks(alloc, marks, path)?;
-    let all = both(decided, open_tasks)?;
-    Ok(all)
+    let mut piles = Vec::new(alloc);
+    for entries in entries.into_lists() {
+        piles.push(Pile::Decided(entries))?;
+    }
+    piles.push(Pile::Open(left))?;
+    Ok(piles)
 }

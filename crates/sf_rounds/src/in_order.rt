@@ -3,14 +3,17 @@
 
 ghost use Rattle.std.specs.Prelude.{◌≡◌, ◌≤◌, map, List, All, IfOk};
 ghost use Rattle.sf_certificate.specs.declared.mark.Mark.{Mark as MarkValue};
+ghost use Rattle.sf_certificate.specs.Marks.{lent};
 ghost use Rattle.sf_node.specs.declared.step.Step.{Step};
 ghost use Rattle.std.specs.Thread.{IsSync};
 ghost use Rattle.sf_bounds.specs.Serving.{MayServe};
 ghost use Rattle.sf_node.specs.Children.{IsSubproblem};
 ghost use Rattle.sf_rounds.specs.InOrder.{AreCut, AreInOrder};
 ghost use Rattle.sf_rounds.specs.Naming.{named};
+ghost use Rattle.sf_rounds.specs.Piles.{all_in};
 
-use crate::cutting::{Cut, cut_marks, middle};
+use crate::cutting::{Cut, cut_by_threads, path_of_share};
+use crate::pile::{Pile, count_of, lent_of, lists_of};
 use sf_bounds::{Bounds, Room};
 use sf_certificate::{Mark, Tag, sort_marks};
 use sf_model::Design;
@@ -23,31 +26,31 @@ const FEW: usize = 2048;
 /// The tags of the marks in preorder, by so many threads. Each closed one names the first part of the bound
 /// that is at least the cost.
 #[cycle(parts)]
-fn tags_in_order<R: Threads + Sync, B: Bounds>(
+pub fn tags_in_order<R: Threads + Sync, B: Bounds>(
     rt: &R,
     alloc: Global,
     design: &Design,
     bounds: &B,
     cost: u64,
-    marks: Vec<Mark>,
+    piles: Vec<Pile>,
     threads: usize,
 ) -> Result<Vec<Tag>, NoMemory>
-    requires subproblems { All (λ m. IsSubproblem design.now m.node) marks.items }
+    requires subproblems { All (λ m. IsSubproblem design.now m.node) (all_in piles.items) }
     ensures in_order { IfOk result
-        (λ tags. AreInOrder (B.part_value bounds.now design.now) cost marks.items tags.items) }
+        (λ tags. AreInOrder (B.part_value bounds.now design.now) cost (all_in piles.items) tags.items) }
 {
-    if threads < 2 || marks.len() < FEW {
-        return tags_of_part(alloc, design, bounds, cost, marks);
+    if threads < 2 || count_of(&piles) < FEW {
+        return tags_of_part(alloc, design, bounds, cost, piles);
     }
-    let path = middle(alloc, &marks)?;
-    let parts = cut_marks(alloc, marks, &path)?;
+    let path = path_of_share(alloc, &piles, threads / 2, threads)?;
+    let parts = cut_by_threads(rt, alloc, piles, &path, threads)?;
     let tags = tags_of_both(rt, alloc, design, bounds, cost, parts, threads)?;
     Ok(tags)
 }
 
 /// The same of marks that are cut in two.
 #[cycle(parts)]
-pub fn tags_of_both<R: Threads + Sync, B: Bounds>(
+fn tags_of_both<R: Threads + Sync, B: Bounds>(
     rt: &R,
     alloc: Global,
     design: &Design,
@@ -57,26 +60,26 @@ pub fn tags_of_both<R: Threads + Sync, B: Bounds>(
     threads: usize,
 ) -> Result<Vec<Tag>, NoMemory>
     requires threads { 2 ≤ threads }
-    requires before { All (λ m. IsSubproblem design.now m.node) parts.before.items }
-    requires others { All (λ m. IsSubproblem design.now m.node) parts.others.items }
+    requires before { All (λ m. IsSubproblem design.now m.node) (all_in parts.before.items) }
+    requires others { All (λ m. IsSubproblem design.now m.node) (all_in parts.others.items) }
     ensures in_order { IfOk result (λ tags. (path : List Step) (marks : List MarkValue)
-        → AreCut path marks parts.before.items parts.others.items
+        → AreCut path marks (all_in parts.before.items) (all_in parts.others.items)
         → AreInOrder (B.part_value bounds.now design.now) cost marks tags.items) }
 {
     let Cut { before, others } = parts;
     let few = threads / 2;
     let more = threads - few;
     let front = move || -> Result<Vec<Tag>, NoMemory>
-        requires { IsSync R.row × IsSync B.row × All (λ m. IsSubproblem design.now m.node) before.items }
+        requires { IsSync R.row × IsSync B.row × All (λ m. IsSubproblem design.now m.node) (all_in before.items) }
         ensures { IfOk result
             (λ tags. AreInOrder
-            (B.part_value bounds.entry.now design.entry.now) cost before.items tags.items) }
+            (B.part_value bounds.entry.now design.entry.now) cost (all_in before.items) tags.items) }
     { tags_in_order(rt, alloc, design, bounds, cost, before, few) };
     let back = move || -> Result<Vec<Tag>, NoMemory>
-        requires { IsSync R.row × IsSync B.row × All (λ m. IsSubproblem design.now m.node) others.items }
+        requires { IsSync R.row × IsSync B.row × All (λ m. IsSubproblem design.now m.node) (all_in others.items) }
         ensures { IfOk result
             (λ tags. AreInOrder
-            (B.part_value bounds.entry.now design.entry.now) cost others.items tags.items) }
+            (B.part_value bounds.entry.now design.entry.now) cost (all_in others.items) tags.items) }
     { tags_in_order(rt, alloc, design, bounds, cost, others, more) };
     let (first, second) = join(rt, front, back);
     let mut tags = first?;
@@ -91,34 +94,36 @@ fn tags_of_part<B: Bounds>(
     design: &Design,
     bounds: &B,
     cost: u64,
-    mut marks: Vec<Mark>,
+    piles: Vec<Pile>,
 ) -> Result<Vec<Tag>, NoMemory>
-    requires subproblems { All (λ m. IsSubproblem design.now m.node) marks.items }
+    requires subproblems { All (λ m. IsSubproblem design.now m.node) (all_in piles.items) }
     ensures in_order { IfOk result
-        (λ tags. AreInOrder (B.part_value bounds.now design.now) cost marks.items tags.items) }
+        (λ tags. AreInOrder (B.part_value bounds.now design.now) cost (all_in piles.items) tags.items) }
 {
+    let lists = lists_of(alloc, piles)?;
+    let mut marks = lent_of(alloc, &lists)?;
     sort_marks(alloc, &mut marks)?;
-    let tags = name_marks(alloc, design, bounds, cost, marks)?;
+    let tags = name_marks(alloc, design, bounds, cost, &marks)?;
     Ok(tags)
 }
 
-/// The tags of the marks, named. Each mark is given back once it is named.
+/// The tags of the marks, named.
 fn name_marks<B: Bounds>(
     alloc: Global,
     design: &Design,
     bounds: &B,
     cost: u64,
-    marks: Vec<Mark>,
+    marks: &[&Mark],
 ) -> Result<Vec<Tag>, NoMemory>
-    requires subproblems { All (λ m. IsSubproblem design.now m.node) marks.items }
+    requires subproblems { All (λ m. IsSubproblem design.now m.node) (lent marks.now) }
     ensures tags { IfOk result
         (λ tags. tags.items ≡ map
-        (λ m. named (B.part_value bounds.now design.now m.node) cost m.tag) marks.items) }
+        (λ m. named (B.part_value bounds.now design.now m.node) cost m.tag) (lent marks.now)) }
 {
     let mut room = Room::new(alloc);
     let mut tags = Vec::with_capacity(alloc, marks.len())?;
     for mark in marks {
-        let tag = name_mark(design, bounds, cost, &mark, &mut room)?;
+        let tag = name_mark(design, bounds, cost, mark, &mut room)?;
         tags.push(tag)?;
     }
     Ok(tags)

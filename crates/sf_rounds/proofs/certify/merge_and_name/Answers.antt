@@ -1,4 +1,4 @@
-use Rattle.std.proofs.Common.{◌≡◌, ◌≤◌, ◌∷◌, [], All, length, map, ap, sym, subst, ◌∙◌, IsPermutation}
+use Rattle.std.proofs.Common.{◌≤◌, ◌∷◌, [], All, length, map, ap, sym, subst, ◌∙◌, IsPermutation}
 use Rattle.sf_node.specs.Subproblem.{root}
 use Rattle.sf_node.specs.declared.task.Task.{Task}
 use Rattle.sf_search_core.specs.declared.entry.Entry.{Entry}

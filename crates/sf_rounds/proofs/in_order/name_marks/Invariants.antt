@@ -1,13 +1,11 @@
-use Rattle.std.proofs.Common.{◌≡◌, ◌++◌, All, map}
+use Rattle.std.proofs.Common.{◌≡◌, map, take}
 use Rattle.sf_bounds.specs.Serving.{MayServe}
-use Rattle.sf_node.specs.Children.{IsSubproblem}
+use Rattle.sf_certificate.specs.Marks.{lent}
 use Rattle.sf_rounds.specs.Naming.{named}
 use Rattle.sf_rounds.proofs.in_order.name_marks.Given as goal
 
 abbrev pub invariant-loop-mark : goal.invariant-loop-mark
 invariant-loop-mark g l = record {
-  rest : All (λ m. IsSubproblem l.design m.node) l.mark-iterator.rest.items;
-  left : l.yielded ++ l.mark-iterator.rest.items ≡ l.fn.marks.items;
-  tags : l.tags.items ≡ map (λ m. named (g.B.Bounds.part_value l.bounds l.design m.node) l.cost m.tag) l.yielded;
+  tags : l.tags.items ≡ map (λ m. named (g.B.Bounds.part_value l.bounds l.design m.node) l.cost m.tag) (lent (take l.mark-index l.marks));
   serves : MayServe l.room l.design;
 }

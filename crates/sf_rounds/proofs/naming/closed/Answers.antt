@@ -1,4 +1,4 @@
-use Rattle.std.proofs.Common.{ap, refl, ◌∙◌}
+use Rattle.std.proofs.Common.{ap, refl}
 use Rattle.sf_certificate.specs.declared.tag.Tag.TheVariants.{Closed}
 use Rattle.sf_rounds.specs.Naming.{value_in}
 use Rattle.sf_rounds.proofs.naming.closed.Goals as goal
