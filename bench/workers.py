@@ -1,8 +1,8 @@
 #!/usr/bin/env python3
 """Measures the search by workers: python3 bench/workers.py PATH/floorplan [TABLE..]
 
-TABLE is results, speed or memory; without one all three are printed. Each figure is taken three times. The designs are
-those of run.py and examples/ten. Times want a machine with four processors and nothing else to do.
+TABLE is results, speed or memory; without one all three are printed. Each figure is taken three times, for speed seven.
+The designs are those of run.py and examples/ten. Times want a machine with four processors and nothing else to do.
 
 results  cost, bound and wall time for 1, 2 and 4 workers after 10^3, 10^4, 10^5 and 10^6 decisions. What several workers
          find depends on how they come, so the greatest cost, the least bound and the longest time of three are printed.
@@ -12,8 +12,10 @@ speed    how much faster several workers are than one of them. The program has n
          alone: with --workers 1 another program searches, by one path. So `--workers 2` on a single processor stands for
          it: there the two decide in turn what one alone would decide in one pass. Printed are, per case, the processor
          time per decision of --workers 1, of this one pass, and of 2 and 4 workers on all processors, each the least of
-         three, taken in turn; and the wall time of the one pass over that of 2 and of 4 workers, per decision. Wanted are at
-         most 1.5 times the processor time of the pass, and wall time 1.6 and 2.6 times as short.
+         seven, taken in turn; and the wall time of the one pass over that of 2 and of 4 workers, per decision. Wanted are at
+         most 1.5 times the processor time of the pass, and wall time 1.6 and 2.6 times as short. Where this may be asked
+         for, the programs run with real-time priority: some kernels, of virtual machines above all, leave two threads on
+         one processor for tens of milliseconds while another is idle, and other programs take none of the four then.
 
 memory   greatest resident size of a search of 2,000,000 decisions of 7 blocks by 4 workers.
 """
@@ -32,6 +34,7 @@ BUDGETS = (1000, 10000, 100000, 1000000)
 WORKERS = (1, 2, 4)
 OVER_LIMIT = 6
 TIMES = 3
+SPEED_TIMES = 7
 
 
 class Run:
@@ -86,12 +89,21 @@ def results(program):
                 row(name, str(nodes), str(workers), number(max(run.cost for run in runs)), number(min(run.bound for run in runs)), str(min(run.decided for run in runs)), "%.2f s" % max(run.wall for run in runs))
 
 
+def have_processors():
+    """Asks for real-time priority, which the programs inherit, and says so where it isn't given."""
+    try:
+        os.sched_setscheduler(0, os.SCHED_FIFO, os.sched_param(1))
+    except PermissionError:
+        print("without real-time priority\n")
+
+
 def speed(program):
+    have_processors()
     head("Case", "--workers 1", "one pass", "2 workers", "4 workers", "over one pass with 2", "with 4", "faster with 2", "with 4")
     for name, blocks, nets, nodes in SPEED:
         design = words_of(name, blocks, nets)
         least = {}
-        for _ in range(TIMES):
+        for _ in range(SPEED_TIMES):
             for what, workers, one_processor in (("walk", 1, False), ("pass", 2, True), (2, 2, False), (4, 4, False)):
                 run = Run(program, design, nodes, workers, one_processor)
                 if run.status == OVER_LIMIT:
