@@ -23,42 +23,13 @@ struct Piece {
     to: usize,
 }
 
-/// Brings the marks of one subtree together, and the subtrees into order. They come as they were logged, or
-/// in reverse.
+/// Brings the marks of one subtree together, and the subtrees into order. They come as they were logged.
 pub fn arrange(alloc: Global, marks: &mut Vec<&Mark>) -> Result<(), NoMemory>
-    ensures { IsPermutation marks.old.items marks.new.items }
-{
-    face_forward(marks);
-    put_in_place(alloc, marks)?;
-    Ok(())
-}
-
-/// The same where they come as they were logged.
-fn put_in_place(alloc: Global, marks: &mut Vec<&Mark>) -> Result<(), NoMemory>
     ensures { IsPermutation marks.old.items marks.new.items }
 {
     let mut places = places(alloc, marks)?;
     move_all(marks, &mut places);
     Ok(())
-}
-
-/// Turns the marks where the last one was logged first.
-fn face_forward(marks: &mut Vec<&Mark>)
-    ensures { IsPermutation marks.old.items marks.new.items }
-{
-    if are_backward(marks) {
-        marks.reverse();
-    }
-}
-
-/// Whether the last mark comes before the first one.
-fn are_backward(marks: &[&Mark]) -> bool {
-    match (marks.first(), marks.last()) {
-        (Some(first), Some(last)) => {
-            compare_steps(last.node.steps(), first.node.steps()) == Ordering::Less
-        }
-        _ => false,
-    }
 }
 
 /// Where each mark goes so that the pieces stand in order.

@@ -40,7 +40,7 @@ fn tag_of(kind: Kind) -> Tag
     }
 }
 
-/// The entries and the open tasks with their tags, the last entry first. The entries' list gives its room
+/// The entries and the open tasks with their tags, the entries as they were logged. Their list gives its room
 /// back as it goes, so that the two lists are never there whole at once.
 pub fn given_marks(
     alloc: Global,
@@ -65,6 +65,7 @@ pub fn given_marks(
             tag: tag_of(entry.kind),
         })?;
     }
+    marks.reverse();
     Ok(marks)
 }
 

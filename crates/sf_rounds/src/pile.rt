@@ -36,15 +36,14 @@ impl Pile {
         }
     }
 
-    /// Its marks. Those of entries come as they were logged.
+    /// Its marks, those of entries as they were logged.
     pub fn into_marks(self, alloc: Global) -> Result<Vec<Mark>, NoMemory>
         ensures { IfOk result (λ marks. IsPermutation (marks_in self) marks.items) }
     {
         match self {
             Pile::Decided(entries) => {
                 let none = Vec::new(alloc);
-                let mut marks = given_marks(alloc, entries.into_vec(), none)?;
-                marks.reverse();
+                let marks = given_marks(alloc, entries.into_vec(), none)?;
                 Ok(marks)
             }
             Pile::Open(tasks) => {
