@@ -3,6 +3,7 @@
 mod checking;
 mod expressions;
 mod failing;
+mod faults;
 mod generating;
 mod limits;
 mod many;

@@ -41,6 +41,16 @@ fn chain(alloc: Global, count: u64) -> Result<String, AllocError> {
     Ok(text)
 }
 
+/// So many nets of the first two blocks.
+fn nets_text(alloc: Global, count: u64) -> Result<String, AllocError> {
+    let pins = count.saturating_mul(2);
+    let mut text = format!(in alloc; "UCLA nets 1.0\nNumNets : {count}\nNumPins : {pins}\n")?;
+    for _ in 0..count {
+        text.push_str("NetDegree : 2\nb0 B\nb1 B\n")?;
+    }
+    Ok(text)
+}
+
 fn count_lines(text: &str, wanted: &str) -> u64 {
     let mut count = 0u64;
     for line in text.lines() {
@@ -115,5 +125,20 @@ fn past_the_limits(rt: HostRuntime) -> Result<(), Fail> {
     assert_eq!(rt; status, Status::OverLimit);
     assert_eq!(rt; printed.as_str(), "error OverLimit blocks 321 320\n");
     assert!(rt; more.bytes("a.cert").is_none());
+    Ok(())
+}
+
+/// Rows are kept of 1,500 nets of 320 blocks, and not of 1,600. Each block has the area 100, and the middles
+/// of the two blocks of a net are 10 apart at least, which is 20 in doubled coordinates.
+#[test]
+fn nets_with_rows_and_without(rt: HostRuntime) -> Result<(), Fail> {
+    let alloc = rt.alloc();
+    for (nets, bound) in [(1500, "bound 62000"), (1600, "bound 64000")] {
+        let mut shelf = shelf(alloc, 320)?;
+        shelf.add("a.nets", nets_text(alloc, nets)?.as_bytes())?;
+        let (status, printed) = plan(&rt, alloc, &mut shelf, "--wire-weight 1 --nodes 1")?;
+        assert_eq!(rt; status, Status::Open);
+        assert!(rt; has_line(printed.as_str(), bound), "{bound} in {printed}");
+    }
     Ok(())
 }
