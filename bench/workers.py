@@ -28,7 +28,7 @@ sys.dont_write_bytecode = True
 from run import timed, write_design
 
 TEN = os.path.join(os.path.dirname(os.path.abspath(__file__)), "..", "examples", "ten", "ten")
-DESIGNS = [("ten", None, None), ("area-7", 7, 0), ("area-20", 20, 0), ("wire-6", 6, 12), ("wire-20", 20, 40), ("wire-50", 50, 100), ("wire-100", 100, 200)]
+DESIGNS = [("ten", None, None), ("area-6", 6, 0), ("area-7", 7, 0), ("area-20", 20, 0), ("area-320", 320, 0), ("wire-6", 6, 12), ("wire-20", 20, 40), ("wire-50", 50, 100), ("wire-100", 100, 200)]
 SPEED = [("area-20", 20, 0, 400000), ("wire-20", 20, 40, 100000), ("wire-50", 50, 100, 73000)]
 BUDGETS = (1000, 10000, 100000, 1000000)
 WORKERS = (1, 2, 4)
