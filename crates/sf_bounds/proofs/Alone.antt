@@ -28,10 +28,12 @@ use Rattle.sf_standard.proofs.Exact.{listed-belongs, spelled-inside}
 use Rattle.sf_bounds.specs.Layout.{Tells}
 use Rattle.sf_bounds.specs.Only.{first_shape}
 
+-- what follows from two properties holds of all elements of which both hold
 each-both : {X : Type 0} (P Q R : X → Type 0) → ((x : X) → P x → Q x → R x) → (xs : List X) → AllByRecursion P xs → AllByRecursion Q xs → AllByRecursion R xs
 each-both P Q R f [] p q = tt
 each-both P Q R f (x ∷ xs) p q = (f x p.0 q.0, each-both P Q R f xs p.1 q.1)
 
+-- this plan belongs to the subproblem, and no other does
 pub record IsAlone (design : Design) (node : Parts) (tree : Tree) : Type 0 where
   pub belongs : Belongs design node tree
   pub only : (t : Tree) → Belongs design node t → t ≡ tree
@@ -55,9 +57,11 @@ single-span (s ∷ spans) zero d all lt = ltb-false (s.0 + 1) s.1 (not-true (nat
 single-span (s ∷ spans) (suc b) d all lt = single-span spans b d (and_parts (not (is_wide s)) (list_all (λ span. not (is_wide span)) spans) all).1 (omega arith)
 
 module _ (design : Design) (node : Parts) (expr : Expr) (tree : Tree) (sub : IsSubproblem design node) (complete : is_complete node ≡ true) (tokens : expr.tokens ≡ node.tokens) (shapes : Tells (first_shape design node) (block_count design) expr.shapes) (spells : Spells expr tree) where
+  -- a shape that stands for none
   abbrev none : Shape
   none = record { w = 0; h = 0 }
 
+  -- the first shape in the span of a block is in the span
   first-listed : (b : ℕ) → b < block_count design → Contains (span_shapes design node b) (first_shape design node b)
   first-listed b lt =
       let k = (are-spans design node sub).each b lt in
@@ -102,6 +106,7 @@ few-leaves design tree legal = omega (arith, counted tree, length-leaves design 
     counted (Beside l r) = omega (arith, counted l, counted r, length-append (leaves l) (leaves r))
     counted (Above l r) = omega (arith, counted l, counted r, length-append (leaves l) (leaves r))
 
+-- each leaf of a legal plan has sides within the limits
 pub has-sides : (design : Design) (tree : Tree) → IsLegal design tree → HasSides tree
 has-sides design tree legal = sided tree (each-both (λ leaf. leaf.0 < block_count design) (λ leaf. Contains (shapes_of design leaf.0) leaf.1) (λ leaf. IsSide leaf.1.w × IsSide leaf.1.h)
     (λ leaf lt c. All-contains (λ s. IsSide s.w × IsSide s.h) (shapes_of design leaf.0) leaf.1 (design.limits.shapes leaf.0 (record { name = []; shapes = [] }) lt).choice.sides c)

@@ -28,14 +28,17 @@ child_born design bound value parent before child behind sub worth e =
     let k = Contains-from_map (λ t. after parent (step_of t)) (next_tokens parent) child c in
     record { parent = parent; step = step_of k.0; sub = sub; can = each-contains (λ t. CanStep parent (step_of t)) (next_tokens parent) k.0 (next-can parent) k.1; is = sym k.2; worth = worth }
 
+-- the last place of a list holds what was put behind the others
 get-last : {X : Type 0} (xs : List X) (x : X) (i : ℕ) → i ≡ length xs → slice_get (xs ++ x ∷ []) i ≡ Some x
 get-last [] x i e = ap (slice_get (x ∷ [])) e
 get-last (y ∷ xs) x i e = ap (slice_get (y ∷ (xs ++ x ∷ []))) e ∙ get-last xs x (length xs) refl
 
 module _ (design : Design) (bound : Parts → ℕ) (value : ℕ) (child : Parts) (c : IsChildOf design bound value child) where
+  -- the child is a subproblem
   pub child_of : IsSubproblem design child
   child_of = subst (IsSubproblem design) (sym c.is) (after-subproblem design c.parent c.step c.sub c.can)
 
+  -- the last step of the child is the one by which it came
   last_step : (steps : List Step) (s : Step) → steps ≡ child.steps → Some s ≡ slice_get steps (length steps - 1) → c.step ≡ s
   last_step steps s e k =
       let all : steps ≡ c.parent.steps ++ c.step ∷ [] = e ∙ ap (λ n. n.steps) c.is ∙ steps-after c.parent c.step in

@@ -26,9 +26,11 @@ use Rattle.sf_standard.proofs.Appended.{read-append, read-block}
 pub span_count : (design : Design) (node : Parts) → IsSubproblem design node → length node.spans ≡ length design.blocks
 span_count design node sub = (are-spans design node sub).count
 
+-- the span of a block has a shape
 pub span_some : (design : Design) (node : Parts) (b : ℕ) → IsSubproblem design node → b < length design.blocks → (span_of node b).0 < (span_of node b).1
 span_some design node b sub lt = ((are-spans design node sub).each b lt).0
 
+-- the span of a block ends within its list of shapes
 pub span_inside : (design : Design) (node : Parts) (b : ℕ) → IsSubproblem design node → b < length design.blocks → (span_of node b).1 ≤ length (shapes_of design b)
 span_inside design node b sub lt = ((are-spans design node sub).each b lt).1
 
@@ -38,28 +40,35 @@ curve_spans design node sub =
     let k = are-spans design node sub in
     record { count = k.count; some = λ b lt. (k.each b lt).0; inside = λ b lt. (k.each b lt).1 }
 
+-- the rest of the tokens finds its operands, and the curves are those of the items that the passed tokens
+-- leave
 pub record IsBuilding (design : Design) (node : Parts) (stack : List (List Shape)) (passed rest : List Token) : Type 0 where
   pub runs : Runs (length design.blocks) (length stack) rest
   pub curves : AllZip (IsItemCurve design node) (reverse stack) (read [] passed)
 
+-- before any token there is no item and no curve
 pub building-begins : (design : Design) (node : Parts) → IsSubproblem design node → IsBuilding design node [] [] node.tokens
 building-begins design node sub =
     let i = subproblem-begun design node sub in
     record { runs = runs-from (length design.blocks) 0 i.count node.tokens i.reads i.below; curves = tt }
 
+-- the combination of the top two curves side by side is the curve of the item that `Beside` makes
 join-beside : (design : Design) (node : Parts) (l r c : List Shape) (below : List (List Shape)) (ts : List Item) → AllZip (IsItemCurve design node) (r ∷ (l ∷ below)) ts → IsCombination beside_size design.outline l r c → AllZip (IsItemCurve design node) (c ∷ below) (read ts (token.Beside ∷ []))
 join-beside design node l r c below [] h comb = elim h [ ]
 join-beside design node l r c below (t ∷ []) h comb = elim h.1 [ ]
 join-beside design node l r c below (tr ∷ (tl ∷ ts)) h comb = (curve-joined (λ l r. item.Beside l r) (λ p q. Beside p q) beside_size beside-way design node tl tr l r c h.1.0 h.0 comb, h.1.1)
 
+-- the combination of the top two curves one above the other is the curve of the item that `Above` makes
 join-above : (design : Design) (node : Parts) (l r c : List Shape) (below : List (List Shape)) (ts : List Item) → AllZip (IsItemCurve design node) (r ∷ (l ∷ below)) ts → IsCombination above_size design.outline l r c → AllZip (IsItemCurve design node) (c ∷ below) (read ts (token.Above ∷ []))
 join-above design node l r c below [] h comb = elim h [ ]
 join-above design node l r c below (t ∷ []) h comb = elim h.1 [ ]
 join-above design node l r c below (tr ∷ (tl ∷ ts)) h comb = (curve-joined (λ l r. item.Above l r) (λ p q. Above p q) above_size above-way design node tl tr l r c h.1.0 h.0 comb, h.1.1)
 
+-- what was put behind a list stands first in the list reversed
 pub reverse-push : (xs : List (List Shape)) (x : List Shape) → reverse (xs ++ x ∷ []) ≡ x ∷ reverse xs
 reverse-push xs x = reverse-append xs (x ∷ [])
 
+-- after an operator the curves are those of the items that the passed tokens leave
 keep-join : (design : Design) (node : Parts) (join : Shape → Shape → Shape) (t : Token) (old new : List (List Shape)) (passed rest : List Token) → ((l r c : List Shape) (below : List (List Shape)) (ts : List Item) → AllZip (IsItemCurve design node) (r ∷ (l ∷ below)) ts → IsCombination join design.outline l r c → AllZip (IsItemCurve design node) (c ∷ below) (read ts (t ∷ []))) → Runs (length design.blocks) (length old - 1) rest → AllZip (IsItemCurve design node) (reverse old) (read [] passed) → IsJoined join design.outline old new → IsBuilding design node new (passed ++ t ∷ []) rest
 keep-join design node join t old new passed rest top runs curves s =
     let below = s.0 in
@@ -74,6 +83,7 @@ keep-join design node join t old new passed rest top runs curves s =
           (top s.1 s.2 s.3 (reverse below) (read [] passed) (subst (λ v. AllZip (IsItemCurve design node) v (read [] passed)) turned curves) s.6));
     }
 
+-- after each token the curves are those of the items that the passed tokens leave
 pub step-keeps : (design : Design) (node : Parts) (old new : List (List Shape)) (passed : List Token) (t : Token) (rest : List Token) → IsBuilding design node old passed (t ∷ rest) → IsStep (span_shapes design node) design.outline t old new → IsBuilding design node new (passed ++ t ∷ []) rest
 step-keeps design node old new passed (token.Block b) rest m s =
     record {

@@ -7,6 +7,7 @@ use Rattle.sf_standard.specs.Hull.{extent_of}
 use Rattle.sf_bounds.specs.Layout.{single_extent, with_shape}
 use Rattle.std.specs.Prelude.{min, max}
 
+-- the extent with more shapes has the least and greatest sides of all, one number after another
 extent-from : (e : Extent) (ss : List Shape) → fold with_shape e ss ≡ (record {
   least_w = fold (λ n t. min n t.w) e.least_w ss;
   most_w = fold (λ n t. max n t.w) e.most_w ss;
@@ -16,5 +17,6 @@ extent-from : (e : Extent) (ss : List Shape) → fold with_shape e ss ≡ (recor
 extent-from e [] = refl
 extent-from e (s ∷ ss) = extent-from (with_shape e s) ss
 
+-- the extent of one shape, taken on by the others one after another, is the extent of all
 pub extent_folded : (s : Shape) (ss : List Shape) → fold with_shape (single_extent s) ss ≡ extent_of (s ∷ ss)
 extent_folded s ss = extent-from (single_extent s) ss

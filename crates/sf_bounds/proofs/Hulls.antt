@@ -37,10 +37,12 @@ use Rattle.sf_bounds.proofs.Readied.{held-count, extent-same, home-found, home-s
 
 -- what the pins with a home in the item i are measured by, one way
 module _ (side : Reach → Interval) (i : ℕ) where
+  -- an interval of a home is put before the others where the home is in the item i
   abbrev pub pick : Option Home → List Interval → List Interval
   pick None rest = rest
   pick (Some h) rest = if h.item == i then (side h.reach ∷ rest) else rest
 
+  -- the intervals of the pins whose home is in the item i
   abbrev pub picked : (Pin → Option Home) → List Pin → List Interval
   picked home [] = []
   picked home (p ∷ pins) = pick (home p) (picked home pins)
@@ -54,10 +56,12 @@ module _ (side : Reach → Interval) (i : ℕ) where
     pub item : at.item ≡ i
     pub is : side at.reach ≡ z
 
+  -- an interval among the others is among them with one more put before
   pick-rest : (o : Option Home) (xs : List Interval) (z : Interval) → Contains xs z → Contains (pick o xs) z
   pick-rest None xs z k = k
   pick-rest (Some v) xs z k = cond_both (v.item == i) (side v.reach ∷ xs) xs (λ ys. Contains ys z) (λ _. Contains-tail (side v.reach) xs z k) (λ _. k)
 
+  -- a pin with its home in the item has its interval among those picked
   pub picked-to : (home : Pin → Option Home) (pins : List Pin) (p : Pin) (h : Home) → Contains pins p → home p ≡ Some h → h.item ≡ i → Contains (picked home pins) (side h.reach)
   picked-to home [] p h c e g = absurd (not_in_nil p c)
   picked-to home (q ∷ pins) p h c e g =
@@ -67,9 +71,11 @@ module _ (side : Reach → Interval) (i : ℕ) where
         | inr d ↦ pick-rest (home q) (picked home pins) (side h.reach) (picked-to home pins p h d e g)
       ]
 
+  -- an interval of one of the pins is so with one pin more in front
   picked-later : (home : Pin → Option Home) (p : Pin) (pins : List Pin) (z : Interval) → IsPicked home pins z → IsPicked home (p ∷ pins) z
   picked-later home p pins z k = record { pin = k.pin; found = Contains-tail p pins k.pin k.found; at = k.at; has = k.has; item = k.item; is = k.is }
 
+  -- an interval that was picked is that of the first pin or of one behind it
   pick-from : (home : Pin → Option Home) (p : Pin) (pins : List Pin) (z : Interval) (o : Option Home) → home p ≡ o → (Contains (picked home pins) z → IsPicked home pins z) → Contains (pick o (picked home pins)) z → IsPicked home (p ∷ pins) z
   pick-from home p pins z None e rest d = picked-later home p pins z (rest d)
   pick-from home p pins z (Some h) e rest d =
@@ -80,18 +86,22 @@ module _ (side : Reach → Interval) (i : ℕ) where
       ])
       (λ _ k. picked-later home p pins z (rest k)) d
 
+  -- an interval that was picked is that of a pin with its home in the item
   pub picked-from : (home : Pin → Option Home) (pins : List Pin) (z : Interval) → Contains (picked home pins) z → IsPicked home pins z
   picked-from home [] z c = absurd (not_in_nil z c)
   picked-from home (p ∷ pins) z c = pick-from home p pins z (home p) refl (λ d. picked-from home pins z d) c
 
+  -- what holds of the others and of the home's interval holds of those with it put before
   pick-each : (P : Interval → Type 0) (o : Option Home) (xs : List Interval) → IfSome o (λ h. P (side h.reach)) → AllByRecursion P xs → AllByRecursion P (pick o xs)
   pick-each P None xs k r = r
   pick-each P (Some v) xs k r = cond_both (v.item == i) (side v.reach ∷ xs) xs (AllByRecursion P) (λ _. (k, r)) (λ _. r)
 
+  -- what holds of each pin's home's interval holds of those picked
   pub picked-near : (P : Interval → Type 0) (home : Pin → Option Home) (pins : List Pin) → AllByRecursion (λ p. IfSome (home p) (λ h. P (side h.reach))) pins → AllByRecursion P (picked home pins)
   picked-near P home [] h = tt
   picked-near P home (p ∷ pins) h = pick-each P (home p) (picked home pins) h.0 (picked-near P home pins h.1)
 
+  -- a side of a reach that is narrowed by a home is what the interval picked leaves of it
   narrow-side : ((r s : Reach) → side (met r s) ≡ shared (side r) (side s)) → (r : Reach) (o : Option Home) (xs : List Interval) → fold shared (side (narrowed_in i r o)) xs ≡ fold shared (side r) (pick o xs)
   narrow-side meets r None xs = refl
   narrow-side meets r (Some h) xs =
@@ -100,17 +110,21 @@ module _ (side : Reach → Interval) (i : ℕ) where
         | false ↦ refl
       ]
 
+  -- a side of what the pins share in the item is what the picked intervals share
   pub gather-side : ((r s : Reach) → side (met r s) ≡ shared (side r) (side s)) → (home : Pin → Option Home) (r : Reach) (pins : List Pin) → side (fold (λ r p. narrowed_in i r (home p)) r pins) ≡ fold shared (side r) (picked home pins)
   gather-side meets home r [] = refl
   gather-side meets home r (p ∷ pins) = gather-side meets home (narrowed_in i r (home p)) pins ∙ narrow-side meets r (home p) (picked home pins)
 
 module _ (design : Design) (node : Parts) (layout : Layout) (sub : IsSubproblem design node) (m : IsLayout design node layout) (pins : List Pin) (net : IsNet design pins) where
+  -- the items in the order of the stack, the first at the bottom
   abbrev these : List Item
   these = reverse (items_of node)
 
+  -- the home of a pin
   abbrev home : Pin → Option Home
   home = pin_home design layout.table.items (is_complete node)
 
+  -- a block at a pin is one of the design
   block-inside : (b : ℕ) → Contains pins (pin.Block b) → b < block_count design
   block-inside b c = All-contains (λ p. pin_number p < pin_count (length design.blocks) (length design.pads) p) pins (pin.Block b) net c
 
@@ -118,15 +132,19 @@ module _ (design : Design) (node : Parts) (layout : Layout) (sub : IsSubproblem 
   module _ (side : Reach → Interval) (off : Offset → Interval) (place : ℕ → Interval) (pads : List Pin → List Interval)
       (block_side : (o : Offset) (j : ℕ) → o.block < block_count design → side (home_in (extent_from layout.extents.items o.block) (seat_at j o)).reach ≡ off o) (pad_side : (q : ℕ) → side (pad_reach design q) ≡ place q)
       (found : (q : ℕ) → Contains pins (pin.Pad q) → Contains (pads pins) (place q)) (from : (z : Interval) → Contains (pads pins) z → (q : ℕ) × Contains pins (pin.Pad q) × (place q ≡ z)) where
+    -- the intervals of the pins in the item j, as they are kept
     abbrev own : ℕ → List Interval
     own j = picked side j (pin_home design layout.table.items (is_complete node)) pins
 
+    -- the intervals of the pins in an item, as the hull part states them
     abbrev stated : Item → List Interval
     stated i = map off (of_pins pins (offsets (extent_in design node) i)) ++ cond (is_complete node) (pads pins) []
 
+    -- a complete subproblem has one item
     one-item : is_complete node ≡ true → length these ≡ 1
     one-item complete = omega (arith, length-reverse (items_of node), ap length (whole-item design node sub complete).1.items)
 
+    -- each interval that is kept for an item is one that the hull part states
     to-stated : (j : ℕ) (d : Item) (z : Interval) → j < length these → Contains (own j) z → Contains (stated (get_or these j d)) z
     to-stated j d z lt c =
         let k = picked-from side j (pin_home design layout.table.items (is_complete node)) pins z c in
@@ -152,6 +170,7 @@ module _ (design : Design) (node : Parts) (layout : Layout) (sub : IsSubproblem 
                 Contains-append_right (map off (of_pins pins (offsets (extent_in design node) (get_or these j d)))) (pads pins) (side h.reach) (subst (Contains (pads pins)) (sym (pad_side q) ∙ ap (λ v. side v.reach) same) (found q cp))
             by-complete false g = absurd (cc)
 
+    -- each interval that the hull part states for an item is kept for it
     from-stated : (j : ℕ) (d : Item) (z : Interval) → j < length these → Contains (stated (get_or these j d)) z → Contains (own j) z
     from-stated j d z lt c =
         let ls = offsets (extent_in design node) (get_or these j d) in
@@ -168,12 +187,15 @@ module _ (design : Design) (node : Parts) (layout : Layout) (sub : IsSubproblem 
               (λ _ k. absurd (not_in_nil z k)) h
         ]
 
+    -- the gap of what is kept for an item is that of what the hull part states
     pub gaps-agree : (j : ℕ) (d : Item) → j < length these → gap (own j) ≡ gap (stated (get_or these j d))
     gaps-agree j d lt = gap-same (own j) (stated (get_or these j d)) (λ z c. to-stated j d z lt c) (λ z c. from-stated j d z lt c)
 
+  -- the home of a block in an item reaches across as the hull part states
   block-across : (o : Offset) (j : ℕ) → o.block < block_count design → (home_in (extent_from layout.extents.items o.block) (seat_at j o)).reach.across ≡ offset_x (extent_in design node) o
   block-across o j lt = ap (λ (v : Extent). (let i : Interval = record { low = pos (2 * o.least_x + v.least_w); high = pos (2 * o.most_x + v.most_w) } in i)) (extent-same design node layout m o.block lt)
 
+  -- the home of a block in an item reaches upward as the hull part states
   block-upward : (o : Offset) (j : ℕ) → o.block < block_count design → (home_in (extent_from layout.extents.items o.block) (seat_at j o)).reach.upward ≡ offset_y (extent_in design node) o
   block-upward o j lt = ap (λ (v : Extent). (let i : Interval = record { low = pos (2 * o.least_y + v.least_h); high = pos (2 * o.most_y + v.most_h) } in i)) (extent-same design node layout m o.block lt)
 
@@ -204,6 +226,7 @@ fold-start : (f : Pin → ℕ) (n : ℕ) (pins : List Pin) → n ≤ fold (λ n 
 fold-start f n [] = omega arith
 fold-start f n (p ∷ pins) = omega (arith, fold-start f (max n (f p)) pins)
 
+-- each pin's number is at most the greatest over the pins
 fold-each : (f : Pin → ℕ) (n : ℕ) (pins : List Pin) (p : Pin) → Contains pins p → f p ≤ fold (λ n p. max n (f p)) n pins
 fold-each f n [] p c = absurd (not_in_nil p c)
 fold-each f n (q ∷ pins) p c =
@@ -212,10 +235,12 @@ fold-each f n (q ∷ pins) p c =
       | inr d ↦ fold-each f (max n (f q)) pins p d
     ]
 
+-- the greatest over the pins is at most what bounds the start and each pin's number
 fold-most : (f : Pin → ℕ) (n m : ℕ) (pins : List Pin) → n ≤ m → ((p : Pin) → Contains pins p → f p ≤ m) → fold (λ n p. max n (f p)) n pins ≤ m
 fold-most f n m [] h g = h
 fold-most f n m (p ∷ pins) h g = fold-most f (max n (f p)) m pins (omega (arith, h, g p (Contains-head p pins))) (λ q c. g q (Contains-tail p pins q c))
 
+-- the gap of each item is at most the hull part
 hull-each : (design : Design) (extent : ℕ → Extent) (complete : Bool) (is : List Item) (pins : List Pin) (i : Item) → Contains is i → hull_of design extent complete pins i ≤ hull_part design extent complete is pins
 hull-each design extent complete [] pins i c = absurd (not_in_nil i c)
 hull-each design extent complete (x ∷ is) pins i c =
@@ -224,10 +249,12 @@ hull-each design extent complete (x ∷ is) pins i c =
       | inr d ↦ omega (arith, hull-each design extent complete is pins i d)
     ]
 
+-- the hull part is at most what bounds the gap of each item
 hull-most : (design : Design) (extent : ℕ → Extent) (complete : Bool) (is : List Item) (pins : List Pin) (m : ℕ) → ((i : Item) → Contains is i → hull_of design extent complete pins i ≤ m) → hull_part design extent complete is pins ≤ m
 hull-most design extent complete [] pins m g = omega arith
 hull-most design extent complete (x ∷ is) pins m g = omega (arith, g x (Contains-head x is), hull-most design extent complete is pins m (λ i c. g i (Contains-tail x is i c)))
 
+-- an element of the list reversed is one of the list
 reverse-from : {X : Type 0} (xs : List X) (x : X) → Contains (reverse xs) x → Contains xs x
 reverse-from [] x c = c
 reverse-from (y ∷ xs) x c =
@@ -236,6 +263,7 @@ reverse-from (y ∷ xs) x c =
       | inr h ↦ elim (Contains-cons_cases y [] x h) [ inl e ↦ subst (Contains (y ∷ xs)) e (Contains-head y xs) | inr d ↦ absurd (not_in_nil x d) ]
     ]
 
+-- an element of a list is one of the list reversed
 reverse-to : {X : Type 0} (xs : List X) (x : X) → Contains xs x → Contains (reverse xs) x
 reverse-to [] x c = c
 reverse-to (y ∷ xs) x c =
@@ -248,9 +276,11 @@ reverse-to (y ∷ xs) x c =
 abbrev IsElsewhere : ℕ → Option Home → Type 0
 IsElsewhere j o = IfSome o (λ h. h.item ≢ j)
 
+-- some pin has its home in the item j
 abbrev HasIn : (Pin → Option Home) → ℕ → List Pin → Type 0
 HasIn at j pins = (p : Pin) × (h : Home) × Contains pins p × (at p ≡ Some h) × (h.item ≡ j)
 
+-- the first pin has its home in the item j, or has none there
 pin-first : (at : Pin → Option Home) (j : ℕ) (p : Pin) (pins : List Pin) (o : Option Home) → at p ≡ o → HasIn at j (p ∷ pins) ⊎ IsElsewhere j (at p)
 pin-first at j p pins None e = inr (subst (IsElsewhere j) (sym e) tt)
 pin-first at j p pins (Some h) e =
@@ -259,6 +289,7 @@ pin-first at j p pins (Some h) e =
       | inr ne ↦ inr (subst (IsElsewhere j) (sym e) ne)
     ]
 
+-- some pin has its home in the item j, or none of them has
 pin-in : (at : Pin → Option Home) (j : ℕ) (pins : List Pin) → HasIn at j pins ⊎ AllByRecursion (λ p. IsElsewhere j (at p)) pins
 pin-in at j [] = inr tt
 pin-in at j (p ∷ pins) =
@@ -270,6 +301,7 @@ pin-in at j (p ∷ pins) =
       ]
     ]
 
+-- pins without a home in the item j do not narrow what is shared there
 gathers-none : (home : Pin → Option Home) (j : ℕ) (r : Reach) (pins : List Pin) → AllByRecursion (λ p. IsElsewhere j (home p)) pins → fold (λ r p. narrowed_in j r (home p)) r pins ≡ r
 gathers-none home j r [] h = refl
 gathers-none home j r (p ∷ pins) h = ap (λ v. fold (λ r p. narrowed_in j r (home p)) v pins) (stays (home p) h.0) ∙ gathers-none home j r pins h.1

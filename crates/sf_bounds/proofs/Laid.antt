@@ -29,19 +29,24 @@ use Rattle.sf_frames.proofs.Joining.{Runs, runs-from}
 use Rattle.sf_standard.proofs.Sides.{span-small}
 use Rattle.sf_bounds.proofs.Small.{are-modest}
 
+-- the block of a seat
 abbrev pub block_of : Seat → ℕ
 block_of s = s.offset.block
 
+-- the rest of the tokens finds its operands, the items that the passed tokens leave are laid out, and their
+-- seats are of the passed blocks in turn
 pub record IsLaying (design : Design) (node : Parts) (stack : List Held) (places : List Seat) (passed rest : List Token) : Type 0 where
   pub runs : Runs (length design.blocks) (length stack) rest
   pub laid : IsLaid (extent_in design node) (read [] passed) stack places
   pub blocks : map block_of places ≡ numbers passed
 
+-- before any token there is no item and no seat
 pub laying-begins : (design : Design) (node : Parts) → IsSubproblem design node → IsLaying design node [] [] [] node.tokens
 laying-begins design node sub =
     let i = subproblem-begun design node sub in
     record { runs = runs-from (length design.blocks) 0 i.count node.tokens i.reads i.below; laid = record { held = refl; seats = refl }; blocks = refl }
 
+-- the blocks of two lists of tokens are those of the first and then those of the second
 numbers-append : (xs ys : List Token) → numbers (xs ++ ys) ≡ numbers xs ++ numbers ys
 numbers-append [] ys = refl
 numbers-append (token.Beside ∷ xs) ys = numbers-append xs ys
@@ -57,6 +62,7 @@ few-numbers design node i sub =
     length-at_most_once (λ (m : ℕ). m) n (numbers node.tokens) (λ b. omega (arith, count-numbers b node.tokens, k.once b)) (numbers-below n node.tokens k.below) in
     omega (arith, most, design.limits.few_blocks, ap length (ap numbers (sym (take-append-drop i node.tokens)) ∙ numbers-append (take i node.tokens) (drop i node.tokens)), length-append (numbers (take i node.tokens)) (numbers (drop i node.tokens)))
 
+-- all numbers of sides and places along the tokens of a subproblem are modest
 pub laying-modest : (design : Design) (node : Parts) (stack : List Held) (places : List Seat) (i : ℕ) (rest : List Token) → IsSubproblem design node → IsLaying design node stack places (take i node.tokens) rest → AreModest stack places
 laying-modest design node stack places i rest sub m =
     let extent = extent_in design node in
@@ -65,6 +71,7 @@ laying-modest design node stack places i rest sub m =
     let e : length (seats_from extent 0 its) ≤ 320 = omega (arith, few, ap length m.blocks, length-map places block_of, ap length m.laid.seats) in
     subst (λ v. AreModest v places) (sym m.laid.held) (subst (AreModest (map (held_of extent) its)) (sym m.laid.seats) (are-modest extent (span-small design node) its e))
 
+-- lists that are equal with one element behind are equal, and so are these elements
 push-same : {X : Type 0} (xs ys : List X) (x y : X) → xs ++ x ∷ [] ≡ ys ++ y ∷ [] → (xs ≡ ys) × (x ≡ y)
 push-same [] [] x y e = (refl, cc)
 push-same [] (z ∷ ys) x y e = absurd (omega (arith, ap length e, length_push ys y))
@@ -75,11 +82,13 @@ push-same (w ∷ xs) (z ∷ ys) x y e =
     let k = push-same xs ys x y tail in
     (ap (λ v. v ∷ xs) head ∙ ap (λ v. z ∷ v) k.0, k.1)
 
+-- the list reversed has what was first at its end
 reverse-cons : {X : Type 0} (x : X) (xs : List X) → reverse (x ∷ xs) ≡ reverse xs ++ x ∷ []
 reverse-cons x xs = reverse-append (x ∷ []) xs
 
 -- the items with one more on top
 module _ (extent : ℕ → Extent) where
+  -- the seats of one item more stand behind those of the others
   seats-push : (k : ℕ) (is : List Item) (i : Item) → seats_from extent k (is ++ i ∷ []) ≡ seats_from extent k is ++ map (seat_at (k + length is)) (offsets extent i)
   seats-push k [] i =
       let e : k ≡ k + 0 = omega arith in
@@ -89,6 +98,7 @@ module _ (extent : ℕ → Extent) where
       ap (λ v. map (seat_at k) (offsets extent j) ++ v) (seats-push (suc k) is i ∙ ap (λ n. seats_from extent (suc k) is ++ map (seat_at n) (offsets extent i)) e)
       ∙ sym (append_assoc (map (seat_at k) (offsets extent j)) (seats_from extent (suc k) is) (map (seat_at (k + suc (length is))) (offsets extent i)))
 
+  -- one item more on top, with the seats of its blocks behind the others, is laid out
   pub laid-more : (items : List Item) (i : Item) (stack : List Held) (places : List Seat) (old : List Held) (old_places : List Seat) → IsLaid extent items old old_places → stack ≡ old ++ held_of extent i ∷ [] → places ≡ old_places ++ map (seat_at (length old)) (offsets extent i) → IsLaid extent (i ∷ items) stack places
   laid-more items i stack places old old_places m e f =
       let its = reverse items in
@@ -109,6 +119,7 @@ blocks-kept f same n xs =
     kept [] = refl
     kept (y ∷ ys) = ap (λ v. block_of (f y) ∷ v) (kept ys) ∙ ap (λ v. v ∷ map block_of ys) (same y)
 
+-- seats that are moved into another item are the seats there of the moved places
 reseat-map : (k n : ℕ) (move : Offset → Offset) (os : List Offset) → map (reseated n move) (map (seat_at k) os) ≡ map (seat_at n) (map move os)
 reseat-map k n move [] = refl
 reseat-map k n move (o ∷ os) = ap (λ v. seat_at n (move o) ∷ v) (reseat-map k n move os)
@@ -118,6 +129,7 @@ pub record IsOver (extent : ℕ → Extent) (join : Extent → Extent → Extent
   pub sides : (l r : Item) → item_extent extent (over l r) ≡ join (item_extent extent l) (item_extent extent r)
   pub places : (l r : Item) → offsets extent (over l r) ≡ offsets extent l ++ map (move (item_extent extent l)) (offsets extent r)
 
+-- the joined sides and the added counts of blocks are what is held of the item that the operator makes
 joined-held : (extent : ℕ → Extent) (join : Extent → Extent → Extent) (move : Extent → Offset → Offset) (over : Item → Item → Item) → IsOver extent join move over → (l r : Item) (left right : Held) → left ≡ held_of extent l → right ≡ held_of extent r → (let h : Held = record { extent = join left.extent right.extent; blocks = left.blocks + right.blocks } in h) ≡ held_of extent (over l r)
 joined-held extent join move over is l r left right el er =
     let n : left.blocks + right.blocks ≡ length (offsets extent (over l r)) =
@@ -127,6 +139,7 @@ joined-held extent join move over is l r left right el er =
     (ap (λ (v : Held). join v.extent right.extent) el ∙ ap (λ (v : Held). join (item_extent extent l) v.extent) er ∙ sym (is.sides l r))
 
 module _ (extent : ℕ → Extent) (join : Extent → Extent → Extent) (move : Extent → Offset → Offset) (over : Item → Item → Item) (is : IsOver extent join move over) where
+  -- after a join of the top two, the item that the operator makes of them and the others are laid out
   pub laid-joined : (items : List Item) (old new : List Held) (old_places places : List Seat) → 2 ≤ length old → IsLaid extent items old old_places → JoinsTop join move old new old_places places → (l : Item) × (r : Item) × (rest : List Item) × (items ≡ r ∷ l ∷ rest) × IsLaid extent (over l r ∷ rest) new places
   laid-joined [] old new old_places places two m j = absurd (omega (arith, two, ap length m.held))
   laid-joined (r ∷ []) old new old_places places two m j = absurd (omega (arith, two, ap length m.held))
@@ -169,18 +182,23 @@ module _ (extent : ℕ → Extent) (join : Extent → Extent → Extent) (move :
             (shifted ∙ moved),
       )
 
+-- an item beside another has their sides side by side, and moves the second one's blocks to the right
 beside-over : (extent : ℕ → Extent) → IsOver extent beside_extent moved_right (λ l r. item.Beside l r)
 beside-over extent = record { sides = λ l r. refl; places = λ l r. refl }
 
+-- an item above another has their sides one above the other, and moves the second one's blocks up
 above-over : (extent : ℕ → Extent) → IsOver extent above_extent moved_up (λ l r. item.Above l r)
 above-over extent = record { sides = λ l r. refl; places = λ l r. refl }
 
+-- after a join there is one item less
 joined-length : (join : Extent → Extent → Extent) (move : Extent → Offset → Offset) (old new : List Held) (old_places places : List Seat) → JoinsTop join move old new old_places places → length old - 1 ≡ length new
 joined-length join move old new old_places places j = omega (arith, ap length j.was, ap length j.is, length_push (j.below ++ j.left ∷ []) j.right, length_push j.below j.left, length_push j.below (let h : Held = record { extent = join j.left.extent j.right.extent; blocks = j.left.blocks + j.right.blocks } in h))
 
+-- with one token more its block, if it is one, stands behind those before
 numbers-push : (passed : List Token) (t : Token) → numbers (passed ++ t ∷ []) ≡ numbers passed ++ numbers (t ∷ [])
 numbers-push passed t = numbers-append passed (t ∷ [])
 
+-- after each token the items that the passed tokens leave are laid out
 pub lays-keeps : (design : Design) (node : Parts) (old new : List Held) (old_places places : List Seat) (passed : List Token) (t : Token) (rest : List Token) → IsLaying design node old old_places passed (t ∷ rest) → Lays (extent_in design node) t old new old_places places → IsLaying design node new places (passed ++ t ∷ []) rest
 lays-keeps design node old new old_places places passed (token.Block b) rest m s =
     let extent = extent_in design node in

@@ -11,25 +11,31 @@ use Rattle.sf_standard.proofs.Gaps.{low-member, high-member, low-most, high-leas
 use Rattle.sf_standard.proofs.Listed.{each-contains, each-from}
 use Rattle.sf_bounds.specs.Near.{IsNumber, IsNear, shared, endless}
 
+-- the lower end of what intervals share is the greatest of their lower ends
 fold-low : (i : Interval) (is : List Interval) → (fold shared i is).low ≡ fold (λ z j. int_max z j.low) i.low is
 fold-low i [] = refl
 fold-low i (j ∷ js) = fold-low (shared i j) js
 
+-- the upper end of what intervals share is the least of their upper ends
 fold-high : (i : Interval) (is : List Interval) → (fold shared i is).high ≡ fold (λ z j. int_min z j.high) i.high is
 fold-high i [] = refl
 fold-high i (j ∷ js) = fold-high (shared i j) js
 
+-- a number that fits is not below the least one
 max-first : (z : ℤ) → IsNumber z → int_max (neg_ℤ (pos 700000000)) z ≡ z
 max-first z h = omega (arith, ints, clamps, h.0)
 
+-- a number that fits is not above the greatest one
 min-first : (z : ℤ) → IsNumber z → int_min (pos 700000000) z ≡ z
 min-first z h = omega (arith, ints, clamps, h.1)
 
+-- an interval whose ends fit is not narrowed by the endless one
 endless-first : (i : Interval) → IsNear i → shared endless i ≡ i
 endless-first i h =
     ap (λ z. (let k : Interval = record { low = z; high = int_min (pos 700000000) i.high } in k)) (max-first i.low h.0)
     ∙ ap (λ z. (let k : Interval = record { low = i.low; high = z } in k)) (min-first i.high h.1)
 
+-- how far the ends of what intervals share have passed each other is their gap
 pub gap-shared : (is : List Interval) → AllByRecursion IsNear is → to_nat ((fold shared endless is).low -ℤ (fold shared endless is).high) ≡ gap is
 gap-shared [] h = refl
 gap-shared (i ∷ is) h =
@@ -45,6 +51,7 @@ lows-le i j is js sub =
     let under : (z : Interval) → Contains (i ∷ is) z → z.low ≤ℤ b = λ z c. each-contains (λ k. k.low ≤ℤ b) (j ∷ js) z each (sub z c) in
     low-most i.low b is (under i (Contains-head i is)) (each-from (λ k. k.low ≤ℤ b) is (λ z c. under z (Contains-tail i is z c)))
 
+-- the least upper end of more intervals is not greater
 highs-le : (i j : Interval) (is js : List Interval) → ((z : Interval) → Contains (i ∷ is) z → Contains (j ∷ js) z) → fold (λ z j. int_min z j.high) j.high js ≤ℤ fold (λ z j. int_min z j.high) i.high is
 highs-le i j is js sub =
     let b = fold (λ z j. int_min z j.high) j.high js in
@@ -52,6 +59,7 @@ highs-le i j is js sub =
     let over : (z : Interval) → Contains (i ∷ is) z → b ≤ℤ z.high = λ z c. each-contains (λ k. b ≤ℤ k.high) (j ∷ js) z each (sub z c) in
     high-least i.high b is (over i (Contains-head i is)) (each-from (λ k. b ≤ℤ k.high) is (λ z c. over z (Contains-tail i is z c)))
 
+-- integers that are at most each other are equal
 same-order : (a b : ℤ) → a ≤ℤ b → b ≤ℤ a → a ≡ b
 same-order a b h k = omega (arith, ints, h, k)
 

@@ -16,6 +16,7 @@ use Rattle.sf_bounds.specs.declared.net_frame.Wires.{Wires}
 use Rattle.sf_bounds.specs.Near.{anywhere}
 use Rattle.sf_bounds.specs.Rows.{weighed_nets, cell_at, IsFitCell, IsLonger, IsRow, AreWires, AreBlockRows, first_end, IsStart, IsNetFrame, AreStored, IsNetEnd, token_of}
 
+-- a frame that stands for none
 abbrev pub no_frame : NetFrame
 no_frame = record { token = token.Beside; extent = record { least_w = 0; most_w = 0; least_h = 0; most_h = 0 }; below = 0; row = 0; wires = record { at = 0; sum = 0; hull = 0 }; end = 0 }
 
@@ -23,12 +24,14 @@ no_frame = record { token = token.Beside; extent = record { least_w = 0; most_w 
 abbrev AreSame : List Cell → List Cell → ℕ → Type 0
 AreSame cells others e = (i : ℕ) → i < e → cell_at others i ≡ cell_at cells i
 
+-- a row stays a row in cells that are the same up to its end
 pub row-moves : (design : Design) (cells others : List Cell) (item : Item) (at e : ℕ) → IsRow design cells item at → at + length (weighed_nets design) ≤ e → e ≤ length others → AreSame cells others e → IsRow design others item at
 row-moves design cells others item at e m within inside same = record {
   inside = omega (arith, within, inside);
   each = λ j lt. ap (λ c. c.reach) (same (at + j) (omega (arith, lt, within))) ∙ m.each j lt;
 }
 
+-- the wires stay wires in cells that are the same up to their end
 wires-move : (design : Design) (cells others : List Cell) (items : List Item) (w : Wires) (e : ℕ) → AreWires design cells items w → w.at + length (weighed_nets design) ≤ e → e ≤ length others → AreSame cells others e → AreWires design others items w
 wires-move design cells others items w e m within inside same = record {
   inside = omega (arith, within, inside);
@@ -38,6 +41,7 @@ wires-move design cells others items w e m within inside same = record {
   hull_total = m.hull_total;
 }
 
+-- a frame stays a frame in cells that are the same up to its end
 frame-moves : (design : Design) (tokens : List Token) (cells others : List Cell) (first k e : ℕ) (f : NetFrame) → IsNetFrame design tokens cells first k f → f.end ≤ e → e ≤ length others → AreSame cells others e → IsNetFrame design tokens others first k f
 frame-moves design tokens cells others first k e f m within inside same = record {
   item = m.item;
@@ -52,6 +56,7 @@ frame-moves design tokens cells others first k e f m within inside same = record
   end = omega (arith, within, inside);
 }
 
+-- what holds before any token stays so in cells that are the same as far as they stand before the first frame
 start-moves : (design : Design) (cells others : List Cell) (blocks : List BlockRow) (start : Wires) (e : ℕ) → IsStart design cells blocks start → first_end design start ≤ e → e ≤ length others → AreSame cells others e → take start.at others ≡ take start.at cells → IsStart design others blocks start
 start-moves design cells others blocks start e m within inside same firsts = record {
   rows = subst (λ v. AreBlockRows design (length design.blocks) v blocks) (sym firsts) m.rows;
@@ -76,16 +81,19 @@ stored-appended design tokens cells more blocks start frames m fit =
       };
     }
 
+-- what is kept of a path is kept in a longer list of cells
 pub stored-longer : (design : Design) (tokens : List Token) (cells all : List Cell) (blocks : List BlockRow) (start : Wires) (frames : List NetFrame) → AreStored design tokens cells blocks start frames → All IsFitCell all → IsLonger cells all → AreStored design tokens all blocks start frames
 stored-longer design tokens cells all blocks start frames m fit longer =
     subst (λ v. AreStored design tokens v blocks start frames) (sym longer.1) (stored-appended design tokens cells longer.0 blocks start frames m (subst (All IsFitCell) longer.1 fit))
 
+-- if all cells fit, the first ones do
 all-take : (e : ℕ) (cells : List Cell) → e ≤ length cells → All IsFitCell cells → All IsFitCell (take e cells)
 all-take e cells le h i d lt =
     let n : i < e = omega (arith, lt, length-take-le e cells le) in
     subst IsFitCell (sym (get_or-take e cells i d n)) (h i d (omega (arith, n, le)))
 
 module _ (design : Design) (tokens : List Token) (cells : List Cell) (blocks : List BlockRow) (start : Wires) (frames : List NetFrame) (count e : ℕ) (m : AreStored design tokens cells blocks start frames) (le : count ≤ length frames) (at_end : IsNetEnd design start frames count e) where
+  -- the end of the first frames is that of the last of them
   last-end : (d : NetFrame) → 0 < count → e ≡ (get_or frames (count - 1) d).end
   last-end d lt = sym (at_end.last d lt)
 
@@ -97,6 +105,7 @@ module _ (design : Design) (tokens : List Token) (cells : List Cell) (blocks : L
     | inr none ↦ (let same : e ≡ first_end design start = at_end.none (omega arith) in (omega (arith, same), omega (arith, same, m.start_is.wires.inside)))
   ]
 
+  -- each of the first frames ends within the end
   within-end : (k : ℕ) (d : NetFrame) → k < count → (get_or frames k d).end ≤ e
   within-end k d lt =
       elim (cases_eq (k + 1) count) [
@@ -148,12 +157,15 @@ frame-pushed design tokens cells blocks start frames f m next is last =
 
 -- tokens that begin in the same way
 module _ (design : Design) (a b : List Token) (n : ℕ) (same : take n a ≡ take n b) where
+  -- lists of tokens that begin with the same n tokens begin with the same k, where k is at most n
   pub begins-same : (k : ℕ) → k ≤ n → take k a ≡ take k b
   begins-same k le = sym (take-take k n a le) ∙ ap (take k) same ∙ take-take k n b le
 
+  -- tokens that begin with the same leave the same items
   items-same : (k : ℕ) → k ≤ n → items_at a k ≡ items_at b k
   items-same k le = ap (read []) (begins-same k le)
 
+  -- a frame of the one list of tokens is one of the other
   frame-switched : (cells : List Cell) (first k : ℕ) (f : NetFrame) → k ≤ n → IsNetFrame design a cells first k f → IsNetFrame design b cells first k f
   frame-switched cells first k f le m = record {
     item = m.item;
@@ -168,6 +180,7 @@ module _ (design : Design) (a b : List Token) (n : ℕ) (same : take n a ≡ tak
     end = m.end;
   }
 
+  -- what is kept of the one path is what is kept of the other, as far as both are the same
   stored-switched : (cells : List Cell) (blocks : List BlockRow) (start : Wires) (frames : List NetFrame) → length frames ≤ n → length frames ≤ length b → AreStored design a cells blocks start frames → AreStored design b cells blocks start frames
   stored-switched cells blocks start frames le few m = record {
     fit = m.fit;

@@ -103,13 +103,16 @@ module _ (design : Design) (node : Parts) (layout : Layout) (m : IsLayout design
     pub range_counts : (n : ℕ) → 2 ≤ length pins → n ≡ reach_gap (shared_ranges design layout.table.items pins) → n ≡ pins_by design node pins Range
     range_counts n two e = counts n (range_part design (extent_in design node) pins) two (e ∙ range-part)
 
+    -- the greatest sum of two sides is what the pins take by the pair part
     pub pair_counts : (n : ℕ) → 2 ≤ length pins → n ≡ (paired_sides layout.table.items pins).sum → n ≡ pins_by design node pins Pair
     pair_counts n two e = counts n (pair_part (extent_in design node) pins) two (e ∙ pair-part)
 
+    -- what the homes in the one item of a complete subproblem share tells what the pins take by the hull part
     pub whole_counts : (n : ℕ) → is_complete node ≡ true → 2 ≤ length pins → n ≡ reach_gap (shared_homes design layout.table.items pins) → n ≡ pins_by design node pins Hull
     whole_counts n complete two e =
         counts n (hull_part design (extent_in design node) (is_complete node) (items_of node) pins) two (e ∙ whole_hull design node layout sub m pins inside complete)
 
+    -- the greatest gap of an incomplete subproblem's items is what the pins take by the hull part
     pub open_counts : (n : ℕ) → is_complete node ≡ false → 2 ≤ length pins → n ≡ greatest_gap design layout.table.items false (shared_in design layout.table.items false pins) pins → n ≡ pins_by design node pins Hull
     open_counts n incomplete two e =
         counts n (hull_part design (extent_in design node) (is_complete node) (items_of node) pins) two (e ∙ open_hull design node layout sub m pins inside incomplete)
@@ -118,6 +121,7 @@ module _ (design : Design) (node : Parts) (layout : Layout) (m : IsLayout design
     pub whole_are : (w : WireParts) → is_complete node ≡ true → 2 ≤ length pins → w.range ≡ reach_gap (shared_ranges design layout.table.items pins) → w.pair ≡ (paired_sides layout.table.items pins).sum → w.hull ≡ reach_gap (shared_homes design layout.table.items pins) → w.full ≡ max w.range (max w.pair w.hull) → AreByPart (pins_by design node pins) w
     whole_are w complete two range pair hull = parts w two range pair (hull ∙ whole_hull design node layout sub m pins inside complete)
 
+    -- in an incomplete subproblem all four numbers are what the pins take by each part
     pub open_are : (w : WireParts) → is_complete node ≡ false → 2 ≤ length pins → w.range ≡ reach_gap (shared_ranges design layout.table.items pins) → w.pair ≡ (paired_sides layout.table.items pins).sum → w.hull ≡ greatest_gap design layout.table.items false (shared_in design layout.table.items false pins) pins → w.full ≡ max w.range (max w.pair w.hull) → AreByPart (pins_by design node pins) w
     open_are w incomplete two range pair hull = parts w two range pair (hull ∙ open_hull design node layout sub m pins inside incomplete)
 

@@ -38,6 +38,7 @@ use Rattle.sf_standard.proofs.Sides.{IsSmallExtent, span-small}
 use Rattle.sf_bounds.proofs.Small.{item-small}
 use Rattle.sf_bounds.proofs.Weights.{weight-at}
 
+-- the extent of a block in its whole span has no side beyond the limit
 pub whole-small : (design : Design) (b : ℕ) → IsSmallExtent 1048576 (whole_extent design b)
 whole-small design b = span-small design (root design) b
 
@@ -47,10 +48,12 @@ blocks_in extent [] = 0
 blocks_in extent (i ∷ is) = length (offsets extent i) + blocks_in extent is
 
 module _ (extent : ℕ → Extent) where
+  -- a joined item has the blocks of both
   joined-length : (d : Direction) (l r : Item) → length (offsets extent (item_in d l r)) ≡ length (offsets extent l) + length (offsets extent r)
   joined-length Beside l r = length-append (offsets extent l) (map (moved_right (item_extent extent l)) (offsets extent r)) ∙ ap (λ n. length (offsets extent l) + n) (length-map (offsets extent r) (moved_right (item_extent extent l)))
   joined-length Above l r = length-append (offsets extent l) (map (moved_up (item_extent extent l)) (offsets extent r)) ∙ ap (λ n. length (offsets extent l) + n) (length-map (offsets extent r) (moved_up (item_extent extent l)))
 
+  -- the items that tokens leave have no more blocks than the items before, and the tokens, have
   read-few : (items : List Item) (xs : List Token) → blocks_in extent (read items xs) ≤ blocks_in extent items + length (numbers xs)
   read-few items [] = omega arith
   read-few [] (token.Block b ∷ xs) = omega (arith, read-few (item.Block b ∷ []) xs)
@@ -71,6 +74,7 @@ item-few design node k i rest sub e =
 pub part-block : (design : Design) (b : ℕ) (items : List Item) (pins : List Pin) → part design (whole_extent design) (item.Block b ∷ items) pins ≡ part design (whole_extent design) items pins
 part-block design b items pins = omega (arith, lone-hull design (root design) b pins)
 
+-- with one item more the part of a net is the greater of that before and the gap of the item
 pub part-more : (design : Design) (i : Item) (items : List Item) (pins : List Pin) → length (offsets (whole_extent design) i) ≤ 320 → part design (whole_extent design) (i ∷ items) pins ≡ max (part design (whole_extent design) items pins) (reach_gap (row (whole_extent design) i pins))
 part-more design i items pins few = omega (arith, row-hull (whole_extent design) (whole-small design) design i pins few)
 
@@ -78,6 +82,7 @@ part-more design i items pins few = omega (arith, row-hull (whole_extent design)
 pub hull-block : (design : Design) (b : ℕ) (items : List Item) (pins : List Pin) → hull_part design (whole_extent design) false (item.Block b ∷ items) pins ≡ hull_part design (whole_extent design) false items pins
 hull-block design b items pins = omega (arith, lone-hull design (root design) b pins)
 
+-- with one item more the greatest gap of a net is the greater of that before and the gap of the item
 pub hull-more : (design : Design) (i : Item) (items : List Item) (pins : List Pin) → length (offsets (whole_extent design) i) ≤ 320 → hull_part design (whole_extent design) false (i ∷ items) pins ≡ max (hull_part design (whole_extent design) false items pins) (reach_gap (row (whole_extent design) i pins))
 hull-more design i items pins few = omega (arith, row-hull (whole_extent design) (whole-small design) design i pins few)
 
@@ -111,6 +116,7 @@ block-row design cells blocks start b d m lt =
       each = λ j lj. ap (λ c. c.reach) (sym (get_or-take start.at cells ((get_or blocks b d).row + j) (record { reach = anywhere; part = 0; hull = 0 }) (omega (arith, lj, r.inside, n)))) ∙ r.each j lj;
     }
 
+-- the frame of a block: its extent and its row, and the wires after it
 abbrev pub block_frame : ℕ → ℕ → BlockRow → Wires → ℕ → NetFrame
 block_frame b below x w end = record { token = token.Block b; extent = x.extent; below = below; row = x.row; wires = w; end = end }
 
@@ -144,15 +150,18 @@ pub record AreThere (frames : List NetFrame) (d : NetFrame) : Type 0 where
   pub fewer : (get_or frames (length frames - 1) d).below ≤ length frames
 
 module _ (design : Design) (node : Parts) (cells : List Cell) (blocks : List BlockRow) (start : Wires) (frames : List NetFrame) (way : Direction) (sub : IsSubproblem design node) (m : AreStored design node.tokens cells blocks start frames) (next : IsNext node.tokens (length frames) (token_in way)) where
+  -- before an operator there is a frame
   pub some-frame : 1 ≤ length frames
   some-frame = none-first node.tokens (length frames) (omega (arith, two-at design node (length frames) way sub next))
 
+  -- the last frame is that of the item on top
   right-at : (d : NetFrame) → IsNetFrame design node.tokens cells (first_end design start) (length frames) (get_or frames (length frames - 1) d)
   right-at d =
       let r = get_or frames (length frames - 1) d in
       let k : length frames - 1 + 1 ≡ length frames = omega (arith, some-frame) in
       subst (λ v. IsNetFrame design node.tokens cells (first_end design start) v r) k (m.frames_are.each (length frames - 1) d (omega (arith, some-frame)))
 
+  -- both items on top have frames
   pub there : (d : NetFrame) → AreThere frames d
   there d =
       let r = right-at d in
@@ -163,6 +172,7 @@ module _ (design : Design) (node : Parts) (cells : List Cell) (blocks : List Blo
         fewer = omega (arith, r.fewer);
       }
 
+  -- the last frame, and that of the item under it, are those of the two items on top
   pub top-at : (d e : NetFrame) → AreTop design node.tokens cells start frames (get_or frames ((get_or frames (length frames - 1) d).below - 1) e) (get_or frames (length frames - 1) d)
   top-at d e =
       let r = get_or frames (length frames - 1) d in
@@ -174,15 +184,18 @@ module _ (design : Design) (node : Parts) (cells : List Cell) (blocks : List Blo
         left = subst (λ v. IsNetFrame design node.tokens cells (first_end design start) v l) k (m.frames_are.each (r.below - 1) e (omega (arith, t.under, t.fewer)));
       }
 
+  -- a frame that was read at the last place is the last one
   right-same : (i : ℕ) (r : NetFrame) → i ≡ length frames - 1 → r ≡ get_or frames i r → get_or frames (length frames - 1) r ≡ r
   right-same i r e is = sym (is ∙ ap (λ (v : ℕ). get_or frames v r) e)
 
+  -- below the item on top there is a frame, and it is among those kept
   pub top-right : (i : ℕ) (r : NetFrame) → i ≡ length frames - 1 → r ≡ get_or frames i r → (1 ≤ r.below) × (r.below ≤ length frames)
   top-right i r e is =
       let t = there r in
       let b = ap (λ v. v.below) (right-same i r e is) in
       (omega (arith, b, t.under), omega (arith, b, t.fewer))
 
+  -- frames that were read at both places are those of the two items on top
   pub top-both : (i : ℕ) (r : NetFrame) → i ≡ length frames - 1 → r ≡ get_or frames i r → (l : NetFrame) → l ≡ get_or frames (r.below - 1) l → AreTop design node.tokens cells start frames l r
   top-both i r e is l is_l =
       subst (λ v. AreTop design node.tokens cells start frames v r) (sym is_l)
@@ -190,38 +203,49 @@ module _ (design : Design) (node : Parts) (cells : List Cell) (blocks : List Blo
 
 -- what is joined
 module _ (design : Design) (node : Parts) (cells : List Cell) (blocks : List BlockRow) (start : Wires) (frames : List NetFrame) (d : Direction) (l r : NetFrame) (sub : IsSubproblem design node) (m : AreStored design node.tokens cells blocks start frames) (next : IsNext node.tokens (length frames) (token_in d)) (t : AreTop design node.tokens cells start frames l r) where
+  -- the item under the one on top
   abbrev L : Item
   L = t.left.item
 
+  -- the item on top
   abbrev R : Item
   R = t.right.item
 
+  -- the items under both
   abbrev rest : List Item
   rest = items_at node.tokens l.below
 
+  -- after the operator the joined item is on top of the others
   pub top-items : items_at node.tokens (length frames + 1) ≡ item_in d L R ∷ rest
   top-items = items-joined node.tokens (length frames) d L R rest next (t.right.top ∙ ap (λ v. R ∷ v) t.left.top)
 
+  -- the joined item has no more blocks than a design
   few : length (offsets (whole_extent design) (item_in d L R)) ≤ 320
   few = item-few design node (length frames + 1) (item_in d L R) rest sub top-items
 
+  -- the left item has no more blocks than a design
   few-left : length (offsets (whole_extent design) L) ≤ 320
   few-left = omega (arith, few, joined-length (whole_extent design) d L R)
 
+  -- the right item has no more blocks than a design
   few-right : length (offsets (whole_extent design) R) ≤ 320
   few-right = omega (arith, few, joined-length (whole_extent design) d L R)
 
+  -- the extent of an item with no more blocks than a design is modest
   modest : (i : Item) (e : Extent) → e ≡ item_extent (whole_extent design) i → length (offsets (whole_extent design) i) ≤ 320 → IsModestExtent e
   modest i e is n =
       let s = item-small (whole_extent design) (whole-small design) i in
       subst IsModestExtent (sym is) record { least_w = omega (arith, s.least_w, n); most_w = omega (arith, s.most_w, n); least_h = omega (arith, s.least_h, n); most_h = omega (arith, s.most_h, n) }
 
+  -- the extent of the left frame is modest
   pub modest-left : IsModestExtent l.extent
   modest-left = modest L l.extent t.left.extent few-left
 
+  -- the extent of the right frame is modest
   pub modest-right : IsModestExtent r.extent
   modest-right = modest R r.extent t.right.extent few-right
 
+  -- what the right item's blocks share, moved by the left item, is near
   pub pushed-fits : (j : ℕ) → j < length (weighed_nets design) → IsNearby (pushed_reach d l.extent (cell_at cells (r.row + j)).reach)
   pushed-fits j lt =
       subst (λ v. IsNearby (pushed_reach d v (cell_at cells (r.row + j)).reach)) (sym t.left.extent)
@@ -236,35 +260,42 @@ module _ (design : Design) (node : Parts) (cells : List Cell) (blocks : List Blo
       ∙ ap (joined_reach d (item_extent (whole_extent design) L) (row (whole_extent design) L (pins_at design j))) (t.right.row.each j lt)
       ∙ sym (row-joined (whole_extent design) (whole-small design) L R (pins_at design j) d few)
 
+  -- the joined extents of both items are that of the joined item
   joined-sides : (d : Direction) → joined_extent d (item_extent (whole_extent design) L) (item_extent (whole_extent design) R) ≡ item_extent (whole_extent design) (item_in d L R)
   joined-sides Beside = refl
   joined-sides Above = refl
 
   module _ (under : Wires) (wires : AreWires design cells rest under) where
+    -- the cell of each net for the joined item
     abbrev cell : ℕ → Cell
     cell = joined_cell cells d l.extent l.row r.row under.at
 
+    -- the cell tells the part of the net with the joined item on top
     part-is : (j : ℕ) → j < length (weighed_nets design) → (cell j).part ≡ part design (whole_extent design) (item_in d L R ∷ rest) (pins_at design j)
     part-is j lt =
         ap (λ v. max v (reach_gap (cell j).reach)) (wires.each j lt)
         ∙ ap (λ v. max (part design (whole_extent design) rest (pins_at design j)) (reach_gap v)) (row-is j lt)
         ∙ sym (part-more design (item_in d L R) rest (pins_at design j) few)
 
+    -- the cell tells the greatest gap of the net with the joined item on top
     hull-is : (j : ℕ) → j < length (weighed_nets design) → (cell j).hull ≡ hull_part design (whole_extent design) false (item_in d L R ∷ rest) (pins_at design j)
     hull-is j lt =
         ap (λ v. max v (reach_gap (cell j).reach)) (wires.hulls j lt)
         ∙ ap (λ v. max (hull_part design (whole_extent design) false rest (pins_at design j)) (reach_gap v)) (row-is j lt)
         ∙ sym (hull-more design (item_in d L R) rest (pins_at design j) few)
 
+    -- the row of cells for the joined item
     abbrev made : List Cell
     made = map cell (range_with_len 0 (length (weighed_nets design)))
 
+    -- behind the cells that were there stand those of the row
     cell-is : (j : ℕ) → j < length (weighed_nets design) → cell_at (cells ++ made) (length cells + j) ≡ cell j
     cell-is j lt =
         get_or-append_right cells made (length cells) (length cells + j) (record { reach = anywhere; part = 0; hull = 0 }) refl (omega arith)
         ∙ (let e : length cells + j - length cells ≡ j = omega arith in ap (cell_at made) e)
         ∙ get_or-map-range_with_len cell 0 (length (weighed_nets design)) j j (record { reach = anywhere; part = 0; hull = 0 }) lt (omega arith)
 
+    -- a cell's part, as often as the net's weight says, is what the net takes
     weighed-is : (j : ℕ) → j < length (weighed_nets design) → weighed_cell (weights_of design.nets) cell (0 + j) ≡ (get_or (weighed_nets design) j (record { pins = []; weight = 0 })).weight * part design (whole_extent design) (item_in d L R ∷ rest) (pins_at design j)
     weighed-is j lt =
         let e : 0 + j ≡ j = omega arith in
@@ -272,6 +303,7 @@ module _ (design : Design) (node : Parts) (cells : List Cell) (blocks : List Blo
         ∙ ap (λ w. w * (cell j).part) (weight-at design.nets j (record { pins = []; weight = 0 }) lt)
         ∙ ap (λ v. (get_or (weighed_nets design) j (record { pins = []; weight = 0 })).weight * v) (part-is j lt)
 
+    -- a cell's gap, as often as the net's weight says, is what the net takes by its gaps
     weighed-hull-is : (j : ℕ) → j < length (weighed_nets design) → weighed_hull (weights_of design.nets) cell (0 + j) ≡ (get_or (weighed_nets design) j (record { pins = []; weight = 0 })).weight * hull_part design (whole_extent design) false (item_in d L R ∷ rest) (pins_at design j)
     weighed-hull-is j lt =
         let e : 0 + j ≡ j = omega arith in

@@ -14,6 +14,7 @@ pub read-old : (old made cur : List Cell) (i : ℕ) (x : Cell) → cur ≡ old +
 read-old old made cur i x e lt is =
     is ∙ ap (λ v. get_or v i x) e ∙ get_or_append_left old made x i lt ∙ get_or_default old i x (record { reach = anywhere; part = 0; hull = 0 }) lt
 
+-- if all cells fit, the cell at each place does
 pub cell-fits : (cells : List Cell) (i : ℕ) → All IsFitCell cells → i < length cells → IsFitCell (cell_at cells i)
 cell-fits cells i fit lt = fit i (record { reach = anywhere; part = 0; hull = 0 }) lt
 

@@ -66,6 +66,7 @@ block-cells design cells b =
           ∙ own-is design b (pins_at design j);
     }
 
+-- the cells of a block's row fit
 block-fit : (design : Design) (b : ℕ) → All IsFitCell (map (block_cell b (whole_extent design b)) (weighed_nets design))
 block-fit design b = All-from_recursion IsFitCell (map (block_cell b (whole_extent design b)) (weighed_nets design)) (each (weighed_nets design))
   where
@@ -103,11 +104,13 @@ none-of-none : (os : List Offset) → of_pins [] os ≡ []
 none-of-none [] = refl
 none-of-none (o ∷ os) = none-of-none os
 
+-- no pins have no gap in an item
 pub no-hull : (design : Design) (extent : ℕ → Extent) (complete : Bool) (i : Item) → hull_of design extent complete [] i ≡ 0
 no-hull design extent complete i =
     ap (λ os. gap (map (offset_x extent) os ++ cond complete [] []) + gap (map (offset_y extent) os ++ cond complete [] [])) (none-of-none (offsets extent i))
     ∙ (elim complete as (λ t. gap (cond t [] []) + gap (cond t [] []) ≡ 0) [ true ↦ refl | false ↦ refl ])
 
+-- no pins have no gap in any items
 pub no-hulls : (design : Design) (extent : ℕ → Extent) (complete : Bool) (items : List Item) → hull_part design extent complete items [] ≡ 0
 no-hulls design extent complete [] = refl
 no-hulls design extent complete (i ∷ items) = omega (arith, no-hull design extent complete i, no-hulls design extent complete items)
@@ -120,6 +123,7 @@ start-part design net =
       | false ↦ refl
     ]
 
+-- a sum of parts that are all 0 is 0
 no-sum : (nets : List Net) → 0 ≡ sum_by (λ n. n.weight * 0) nets
 no-sum [] = refl
 no-sum (n ∷ nets) = omega (arith, sum_by-cons (λ n. n.weight * 0) n nets, no-sum nets)
@@ -154,10 +158,11 @@ started design cells all blocks at sum m fit is_at is_all is_sum =
       frames_are = record { few = omega arith; are = refl; each = λ k d lt. absurd (omega (arith, lt)); ends = λ i j d lt lj. absurd (omega (arith, lj)) };
     }
 
--- pads are near
+-- the pin's block or pad is there
 abbrev pub IsThere : Design → Pin → Type 0
 IsThere design p = pin_number p < pin_count (length design.blocks) (length design.pads) p
 
+-- the places of the pads at a net's pins are near, across and upward
 pub near-pads : (design : Design) (pins : List Pin) → AllByRecursion (IsThere design) pins → AllByRecursion IsNear (pads_x design pins) × AllByRecursion IsNear (pads_y design pins)
 near-pads design [] h = (tt, tt)
 near-pads design (pin.Block b ∷ pins) h = near-pads design pins h.1
@@ -166,11 +171,13 @@ near-pads design (pin.Pad q ∷ pins) h =
     let n = near_pad design q h.0 in
     ((n.0, k.0), (n.1, k.1))
 
+-- what is near stays so when it is narrowed by the pads at a net's pins
 with-pads : (design : Design) (r : Reach) (pins : List Pin) → IsNearby r → AllByRecursion (IsThere design) pins → IsNearby (fold (with_pad design) r pins)
 with-pads design r [] h k = h
 with-pads design r (pin.Block b ∷ pins) h k = with-pads design r pins h k.1
 with-pads design r (pin.Pad q ∷ pins) h k = with-pads design (met r (pad_reach design q)) pins (near_met r (pad_reach design q) h (near_pad design q k.0)) k.1
 
+-- what the pads at a net's pins share is near
 pub near-pads_share : (design : Design) (pins : List Pin) → IsNet design pins → IsNearby (pads_share design pins)
 near-pads_share design pins net = with-pads design anywhere pins near_anywhere (recursion_from_All (IsThere design) pins net)
 
@@ -182,6 +189,7 @@ counted-net design pins net = cond_both (nat_lt (length pins) 2) [] pins (IsNet 
 pub start-fits : (design : Design) (net : Net) (part : ℕ) (reach : Reach) → IsNet design net.pins → part ≤ 2800000000 → reach ≡ pads_share design (counted net.pins) → IsFitCell (record { reach = reach; part = part; hull = 0 })
 start-fits design net part reach inside small is = record { near = subst IsNearby (sym is) (near-pads_share design (counted net.pins) (counted-net design net.pins inside)); small = small; hull = omega arith }
 
+-- the share of the pads and the part at the root make the cell of a net before any token
 pub start-cell : (design : Design) (net : Net) (part : ℕ) (reach : Reach) → reach ≡ pads_share design (counted net.pins) → part ≡ net_part design (root design) net → (let c : Cell = record { reach = reach; part = part; hull = 0 } in c) ≡ start_cell design net
 start-cell design net part reach is_reach is_part =
     ap (λ v. (let c : Cell = record { reach = v; part = part; hull = 0 } in c)) is_reach ∙ ap (λ n. (let c : Cell = record { reach = pads_share design (counted net.pins); part = n; hull = 0 } in c)) is_part

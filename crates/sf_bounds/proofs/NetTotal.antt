@@ -22,14 +22,12 @@ use Rattle.sf_frames.specs.Kept.{items_at, IsNext}
 use Rattle.sf_frames.proofs.WholeSpans.{whole-spans}
 use Rattle.sf_bounds.specs.declared.net_frame.BlockRow.{BlockRow}
 use Rattle.sf_bounds.specs.declared.net_frame.Cell.{Cell}
-use Rattle.sf_bounds.specs.declared.net_frame.Changing.{Changing}
-use Rattle.sf_bounds.specs.declared.net_frame.Changing.TheVariants as changing
 use Rattle.sf_bounds.specs.declared.net_frame.NetFrame.{NetFrame}
 use Rattle.sf_bounds.specs.declared.net_frame.Wires.{Wires}
 use Rattle.sf_bounds.specs.declared.reach.Reach.{Reach}
 use Rattle.sf_bounds.specs.Near.{anywhere, met, reach_gap}
 use Rattle.sf_bounds.specs.Pins.{IsNet}
-use Rattle.sf_bounds.specs.Rows.{counted, weighed_nets, weights_of, pins_at, whole_extent, row, part, pads_share, joined_reach, cell_at, changed, least_at, sum_in, AreWires, AreStored, AreTop}
+use Rattle.sf_bounds.specs.Rows.{counted, weighed_nets, weights_of, pins_at, whole_extent, row, part, pads_share, joined_reach, cell_at, AreWires, AreStored, AreTop}
 use Rattle.sf_bounds.proofs.NetPushed.{whole-small, item-few, top-items, row-is}
 use Rattle.sf_bounds.proofs.NetStarted.{no-hull, no-hulls, near-pads, IsThere}
 use Rattle.sf_bounds.proofs.RowLaws.{row-pads}
@@ -107,11 +105,6 @@ open-total design node cells w n sub whole all incomplete m =
     m.total ∙ ap (λ v. sum_by (λ net. net.weight * part design (whole_extent design) v (counted net.pins)) (weighed_nets design)) items
     ∙ sum-of_weight now design.nets
     ∙ sym (sum_by-same (weighed_part design node) (λ net. net.weight * now net) (λ net. ap (λ v. net.weight * v) (open-part design node net sub whole incomplete)) design.nets)
-
--- by the part that changes
-pub open-changed : (design : Design) (node : Parts) (cells : List Cell) (w : Wires) (n : ℕ) (p : Changing) → IsSubproblem design node → length node.steps ≡ length node.tokens → n ≡ length node.tokens → is_complete node ≡ false → AreWires design cells (items_at node.tokens n) w → sum_in p w ≡ wires_by design node (changed p)
-open-changed design node cells w n changing.Hull sub whole all incomplete m = open-hulls design node cells w n sub whole all incomplete m
-open-changed design node cells w n changing.Full sub whole all incomplete m = open-total design node cells w n sub whole all incomplete m
 
 -- in a complete one with the pads
 closed-part : (design : Design) (node : Parts) (net : Net) (i : Item) → IsSubproblem design node → length node.steps ≡ length node.tokens → is_complete node ≡ true → items_of node ≡ i ∷ [] → length (offsets (whole_extent design) i) ≤ 320 → IsNet design net.pins →
@@ -201,10 +194,3 @@ module _ (design : Design) (node : Parts) (cells : List Cell) (blocks : List Blo
     hull-total-more is_total =
         let more : weight * gap ≡ (net_at j).weight * pins_by design node (net_at j).pins Hull = ap (λ w. w * gap) weight-is ∙ ap (λ v. (net_at j).weight * v) (is_gap ∙ hull-at j lt) in
         omega (arith, is_total, more, sum_by_more (λ (n : Net). n.weight * pins_by design node n.pins Hull) (weighed_nets design) j (record { pins = []; weight = 0 }) lt)
-
-    -- by the part that changes
-    pub changed-more : (p : Changing) (value : ℕ) → value ≡ max (least_at p (cell_at cells (start.at + j))) gap → total ≡ sum_by (λ n. n.weight * pins_by design node n.pins (changed p)) (take j (weighed_nets design)) → total + weight * value ≡ sum_by (λ n. n.weight * pins_by design node n.pins (changed p)) (take (j + 1) (weighed_nets design))
-    changed-more changing.Hull value is_value is_total =
-        let e : value ≡ gap = omega (arith, is_value) in
-        ap (λ v. total + weight * v) e ∙ hull-total-more is_total
-    changed-more changing.Full value is_value is_total = total-more value is_value is_total

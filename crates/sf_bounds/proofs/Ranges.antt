@@ -16,20 +16,25 @@ use Rattle.sf_bounds.proofs.Meeting.{gap-shared}
 use Rattle.sf_bounds.proofs.Reading.{near_range}
 
 module _ (design : Design) (table : List Standing) where
+  -- where the pins lie across
   abbrev pub ranges_x : List Pin → List Interval
   ranges_x pins = map (λ p. (pin_range design table p).across) pins
 
+  -- where the pins lie upward
   abbrev pub ranges_y : List Pin → List Interval
   ranges_y pins = map (λ p. (pin_range design table p).upward) pins
 
+  -- what the pins share across is what their ranges across share
   range-across : (r : Reach) (pins : List Pin) → (fold (λ r p. met r (pin_range design table p)) r pins).across ≡ fold shared r.across (ranges_x pins)
   range-across r [] = refl
   range-across r (p ∷ pins) = range-across (met r (pin_range design table p)) pins
 
+  -- what the pins share upward is what their ranges upward share
   range-upward : (r : Reach) (pins : List Pin) → (fold (λ r p. met r (pin_range design table p)) r pins).upward ≡ fold shared r.upward (ranges_y pins)
   range-upward r [] = refl
   range-upward r (p ∷ pins) = range-upward (met r (pin_range design table p)) pins
 
+  -- the gap of what the pins share is the sum of the gaps of their ranges, across and upward
   pub range_is : (items : ℕ) → IsReady design items table → (pins : List Pin) → IsNet design pins → reach_gap (shared_ranges design table pins) ≡ gap (ranges_x pins) + gap (ranges_y pins)
   range_is items ready pins net =
       let there = λ (p : Pin). pin_number p < pin_count (length design.blocks) (length design.pads) p in

@@ -32,12 +32,15 @@ pub record IsSeated (extent : ℕ → Extent) (b : ℕ) (ss : List Seat) (h : Ho
   pub block : seat.offset.block ≡ b
   pub is : h ≡ home_in (extent seat.offset.block) seat
 
+-- the last home of the block is the one given, or by one of the seats
 abbrev pub IsLastHome : (ℕ → Extent) → Option Home → ℕ → List Seat → Type 0
 IsLastHome extent d b ss = (last_home extent d b ss ≡ d) ⊎ ((h : Home) × (last_home extent d b ss ≡ Some h) × IsSeated extent b ss h)
 
+-- a home by one of the seats is so where one seat more stands in front
 further : (extent : ℕ → Extent) (b : ℕ) (s : Seat) (ss : List Seat) (h : Home) → IsSeated extent b ss h → IsSeated extent b (s ∷ ss) h
 further extent b s ss h k = record { seat = k.seat; found = Contains-tail s ss k.seat k.found; block = k.block; is = k.is }
 
+-- the last home of a block is the one given, or by one of the seats
 pub last-is : (extent : ℕ → Extent) (d : Option Home) (b : ℕ) (ss : List Seat) → IsLastHome extent d b ss
 last-is extent d b [] = inl refl
 last-is extent d b (s ∷ ss) =
@@ -55,6 +58,7 @@ last-is extent d b (s ∷ ss) =
           ])
     ]
 
+-- the last home of a block without a seat is the one given
 last-none : (extent : ℕ → Extent) (d : Option Home) (b : ℕ) (ss : List Seat) → count_by (λ s. s.offset.block == b) ss ≡ 0 → last_home extent d b ss ≡ d
 last-none extent d b [] h = refl
 last-none extent d b (s ∷ ss) h =
@@ -82,6 +86,7 @@ pub record IsSeatFrom (extent : ℕ → Extent) (k : ℕ) (is : List Item) (s : 
   pub item : s.item ≡ k + at
   pub stands : (d : Item) → Contains (offsets extent (get_or is at d)) s.offset
 
+-- a seat among those of the items from number k on stands in one of them
 pub seat-from : (extent : ℕ → Extent) (k : ℕ) (is : List Item) (s : Seat) → Contains (seats_from extent k is) s → IsSeatFrom extent k is s
 seat-from extent k [] s c = absurd (not_in_nil s c)
 seat-from extent k (i ∷ is) s c =
@@ -92,6 +97,7 @@ seat-from extent k (i ∷ is) s c =
           record { at = suc r.at; inside = omega (arith, r.inside); item = (let e : suc k + r.at ≡ k + suc r.at = omega arith in r.item ∙ e); stands = λ d. r.stands d })
     ]
 
+-- each place of a block in an item has its seat among those of the items
 pub from-item : (extent : ℕ → Extent) (k : ℕ) (is : List Item) (j : ℕ) (d : Item) (o : Offset) → j < length is → Contains (offsets extent (get_or is j d)) o → Contains (seats_from extent k is) (seat_at (k + j) o)
 from-item extent k [] j d o lt c = absurd (omega arith)
 from-item extent k (i ∷ is) zero d o lt c =
@@ -112,15 +118,19 @@ pub record StandsIn (design : Design) (node : Parts) (layout : Layout) (b : ℕ)
   pub stands : (d : Item) → Contains (offsets (extent_in design node) (get_or (reverse (items_of node)) h.item d)) offset
 
 module _ (design : Design) (node : Parts) (layout : Layout) (m : IsLayout design node layout) where
+  -- as many items are held as there are
   pub held-count : length layout.held.items ≡ length (reverse (items_of node))
   held-count = ap length m.stack.laid.held ∙ length-map (reverse (items_of node)) (held_of (extent_in design node))
 
+  -- the extent of each block is that in its span
   pub extent-same : (b : ℕ) → b < block_count design → extent_from layout.extents.items b ≡ extent_in design node b
   extent-same b lt = m.extents.each b (record { least_w = 0; most_w = 0; least_h = 0; most_h = 0 }) lt
 
+  -- the standing of each block is by its extent and its last seat
   pub standing-is : (b : ℕ) → b < block_count design → (d : Standing) → get_or layout.table.items b d ≡ standing_by design layout.extents.items layout.seats.items b
   standing-is b lt d = m.table.each b d lt
 
+  -- the home of each block is by its last seat
   home-is : (b : ℕ) → b < block_count design → (standing_at layout.table.items b).home ≡ last_home (extent_from layout.extents.items) None b layout.seats.items
   home-is b lt = ap (λ v. v.home) (standing-is b lt (record { side = 0; range = anywhere; home = None }))
 
@@ -161,6 +171,7 @@ module _ (design : Design) (node : Parts) (layout : Layout) (m : IsLayout design
       only : (h k : Home) → ◌≡◌ {A = Option Home} (Some h) (Some k) → h ≡ k
       only h k e = cc
 
+  -- the numbers of a layout are modest
   modest : AreModest layout.held.items layout.seats.items
   modest =
       let extent = extent_in design node in
@@ -168,21 +179,25 @@ module _ (design : Design) (node : Parts) (layout : Layout) (m : IsLayout design
       subst (λ v. AreModest v layout.seats.items) (sym m.stack.laid.held) (subst (AreModest (map (held_of extent) its)) (sym m.stack.laid.seats)
       (are-modest extent (span-small design node) its (omega (arith, m.stack.few, ap length m.stack.laid.seats))))
 
+  -- the range of a block of a small extent is near
   near-range : (e : Extent) → IsSmallExtent 1048576 e → IsNearby (block_range design e)
   near-range e s = (
     ((omega (arith, ints, s.least_w), omega (arith, ints, s.least_w)), (omega (arith, ints, s.least_w, design.limits.width.1), omega (arith, ints, s.least_w, design.limits.width.1))),
     ((omega (arith, ints, s.least_h), omega (arith, ints, s.least_h)), (omega (arith, ints, s.least_h, design.limits.height.1), omega (arith, ints, s.least_h, design.limits.height.1))),
   )
 
+  -- the home of a block of a small extent at a modest place is near
   near-home : (e : Extent) (s : Seat) → IsSmallExtent 1048576 e → IsModestOffset s.offset → IsNearby (home_in e s).reach
   near-home e s k o = (
     ((omega (arith, ints), omega (arith, ints, o.least_x, k.least_w)), (omega (arith, ints), omega (arith, ints, o.most_x, k.most_w))),
     ((omega (arith, ints), omega (arith, ints, o.least_y, k.least_h)), (omega (arith, ints), omega (arith, ints, o.most_y, k.most_h))),
   )
 
+  -- no extent of a block has a side beyond the limit
   small : (b : ℕ) → b < block_count design → IsSmallExtent 1048576 (extent_from layout.extents.items b)
   small b lt = subst (IsSmallExtent 1048576) (sym (extent-same b lt)) (span-small design node b)
 
+  -- the home of a block is in an item that is there, and near
   ready-home : (b : ℕ) → b < block_count design → IfSome (last_home (extent_from layout.extents.items) None b layout.seats.items) (λ h. (h.item < length layout.held.items) × IsNearby h.reach)
   ready-home b lt =
       let ready : Option Home → Type 0 = λ o. IfSome o (λ h. (h.item < length layout.held.items) × IsNearby h.reach) in
@@ -195,6 +210,7 @@ module _ (design : Design) (node : Parts) (layout : Layout) (m : IsLayout design
             ))
       ]
 
+  -- the table of a layout is one that pins can be read by
   pub readied : IsReady design (length layout.held.items) layout.table.items
   readied = record {
     count = m.table.count;

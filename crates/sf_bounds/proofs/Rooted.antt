@@ -22,16 +22,20 @@ use Rattle.sf_standard.proofs.Exact.{listed-belongs}
 use Rattle.sf_bounds.specs.Cheapest.{IsCheapest, NoneOfNode}
 use Rattle.sf_bounds.proofs.Alone.{whole-postfix}
 
+-- a product of lesser numbers is not greater
 times : (a b m n : ℕ) → a ≤ m → b ≤ n → a * b ≤ m * n
 times a b m n h k = mul-le-mul h k
 
+-- 0 times a number is 0
 zero_times : (b : ℕ) → 0 * b ≡ 0
 zero_times b = omega arith
 
+-- a number that is 0, times another, is 0
 zero-times : (a b : ℕ) → a ≡ 0 → a * b ≡ 0
 zero-times a b e = ap (λ v. v * b) e ∙ zero_times b
 
 module _ (design : Design) (node : Parts) (sub : IsSubproblem design node) (complete : is_complete node ≡ true) where
+  -- the tokens of a complete subproblem are a normal expression of all blocks
   pub normal : IsNormal (block_count design) node.tokens
   normal = complete-normal design node sub (subproblem-spans design node sub) complete
 
@@ -41,21 +45,25 @@ module _ (design : Design) (node : Parts) (sub : IsSubproblem design node) (comp
       listed-belongs design node t sub complete choice.tokens (skewed-of_normal (block_count design) node.tokens t normal choice.tokens)
       (recursion_from_All (λ leaf. Contains (shapes_in design node.spans leaf.0) leaf.1) (leaves t) choice.shapes)
 
+  -- a plan that belongs to the subproblem is one of its choices
   belongs-choice : (t : Tree) → Belongs design node t → IsChoice design node.tokens node.spans t
   belongs-choice t belongs = record { tokens = whole-postfix design node t sub complete belongs; shapes = belongs.chosen }
 
   module _ (points : List Shape) (root : IsRootCurve design node.tokens node.spans points) where
+    -- where the root curve is empty no plan of the subproblem fits
     pub none-fits : points ≡ [] → NoneOfNode design node
     none-fits e t belongs fits =
         let k = root.covers t (belongs-choice t belongs) fits in
         absurd (omega (arith, k.2, ap length e))
 
+    -- the least area, as often as its weight says, is not too great
     pub least-small : (p : Shape) → IsLeastArea points p → design.weights.area * area_of p ≤ 65535 * 1099511627776
     least-small p least =
         let within = All-contains (IsWithin design.outline) points p root.within least.found in
         let small : area_of p ≤ 1048576 * 1048576 = times p.w p.h 1048576 1048576 (omega (arith, within.0, design.limits.width.1)) (omega (arith, within.1, design.limits.height.1)) in
         times design.weights.area (area_of p) 65535 1099511627776 (omega (arith, design.limits.area_weight)) (omega (arith, small))
 
+    -- the trace of the least area on the root curve is a cheapest plan, where wires count nothing
     pub cheapest : (p : Shape) (expr : Expr) → design.weights.wire ≡ 0 → IsLeastArea points p → length expr.shapes ≡ block_count design → IsTraceOf design node.tokens node.spans p expr → IsCheapest design node expr (design.weights.area * area_of p)
     cheapest p expr flat least one_each t =
         let here : width t.tree * height t.tree ≡ area_of p = ap area_of t.size in

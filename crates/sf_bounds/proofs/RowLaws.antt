@@ -26,6 +26,7 @@ use Rattle.sf_bounds.proofs.Shares.{interval, moved, IsHome, home-near, share-ap
 use Rattle.sf_standard.proofs.Sides.{IsSmallExtent}
 use Rattle.sf_bounds.proofs.Small.{IsSmallOffset, offsets-small}
 
+-- the places of the pins' blocks in two lists together are those in the first and then those in the second
 pins-append : (pins : List Pin) (xs ys : List Offset) → of_pins pins (xs ++ ys) ≡ of_pins pins xs ++ of_pins pins ys
 pins-append pins [] ys = refl
 pins-append pins (x ∷ xs) ys =
@@ -53,20 +54,24 @@ pins-each P pins (o ∷ os) h =
       | false ↦ pins-each P pins os h.1
     ]
 
+-- two functions that agree everywhere give the same list
 map-same : {X Y : Type 0} (f g : X → Y) → ((x : X) → f x ≡ g x) → (xs : List X) → map f xs ≡ map g xs
 map-same f g h [] = refl
 map-same f g h (x ∷ xs) = ap (λ v. v ∷ map f xs) (h x) ∙ ap (λ v. g x ∷ v) (map-same f g h xs)
 
+-- a list mapped twice is mapped by one function after the other
 map-twice : {X Y Z : Type 0} (f : X → Y) (g : Y → Z) (xs : List X) → map g (map f xs) ≡ map (λ x. g (f x)) xs
 map-twice f g [] = refl
 map-twice f g (x ∷ xs) = ap (λ v. g (f x) ∷ v) (map-twice f g xs)
 
 module _ (extent : ℕ → Extent) (small : (b : ℕ) → IsSmallExtent 1048576 (extent b)) where
+  -- where a block at a small place stands across is an interval of a home
   home-x : (n : ℕ) → n ≤ 320 → (o : Offset) → IsSmallOffset (1048576 * n) o → IsHome (offset_x extent o)
   home-x n few o h =
       let k = small o.block in
       record { low = omega (arith, ints); low_small = omega (arith, ints, few, h.least_x, k.least_w); high = omega (arith, ints); high_small = omega (arith, ints, few, h.most_x, k.most_w) }
 
+  -- where a block at a small place stands upward is an interval of a home
   home-y : (n : ℕ) → n ≤ 320 → (o : Offset) → IsSmallOffset (1048576 * n) o → IsHome (offset_y extent o)
   home-y n few o h =
       let k = small o.block in
@@ -76,6 +81,7 @@ module _ (extent : ℕ → Extent) (small : (b : ℕ) → IsSmallExtent 1048576 
   pub homes-x : (i : Item) → length (offsets extent i) ≤ 320 → AllByRecursion (λ o. IsHome (offset_x extent o)) (offsets extent i)
   homes-x i few = each-weaker (IsSmallOffset (1048576 * length (offsets extent i))) (λ o. IsHome (offset_x extent o)) (home-x (length (offsets extent i)) few) (offsets extent i) (offsets-small extent small i)
 
+  -- where the blocks of an item stand upward is no less than 0, and near
   pub homes-y : (i : Item) → length (offsets extent i) ≤ 320 → AllByRecursion (λ o. IsHome (offset_y extent o)) (offsets extent i)
   homes-y i few = each-weaker (IsSmallOffset (1048576 * length (offsets extent i))) (λ o. IsHome (offset_y extent o)) (home-y (length (offsets extent i)) few) (offsets extent i) (offsets-small extent small i)
 
@@ -83,15 +89,19 @@ module _ (extent : ℕ → Extent) (small : (b : ℕ) → IsSmallExtent 1048576 
   pub pin-homes-x : (i : Item) (pins : List Pin) → length (offsets extent i) ≤ 320 → AllByRecursion IsHome (map (offset_x extent) (of_pins pins (offsets extent i)))
   pin-homes-x i pins few = each-map IsHome (offset_x extent) (of_pins pins (offsets extent i)) (pins-each (λ o. IsHome (offset_x extent o)) pins (offsets extent i) (homes-x i few))
 
+  -- where the blocks of some pins stand upward in an item is no less than 0, and near
   pub pin-homes-y : (i : Item) (pins : List Pin) → length (offsets extent i) ≤ 320 → AllByRecursion IsHome (map (offset_y extent) (of_pins pins (offsets extent i)))
   pin-homes-y i pins few = each-map IsHome (offset_y extent) (of_pins pins (offsets extent i)) (pins-each (λ o. IsHome (offset_y extent o)) pins (offsets extent i) (homes-y i few))
 
+  -- intervals of homes are near
   nears : (is : List Interval) → AllByRecursion IsHome is → AllByRecursion IsNear is
   nears is h = each-weaker IsHome IsNear home-near is h
 
+  -- the endless interval is near
   near-endless : IsNear endless
   near-endless = ((omega (arith, ints), omega (arith, ints)), (omega (arith, ints), omega (arith, ints)))
 
+  -- what the pins' blocks in an item share is near
   pub row-near : (i : Item) (pins : List Pin) → length (offsets extent i) ≤ 320 → IsNearby (row extent i pins)
   row-near i pins few = (
     near-share endless (map (offset_x extent) (of_pins pins (offsets extent i))) near-endless (nears (map (offset_x extent) (of_pins pins (offsets extent i))) (pin-homes-x i pins few)),
@@ -130,12 +140,15 @@ module _ (extent : ℕ → Extent) (small : (b : ℕ) → IsSmallExtent 1048576 
       ∙ ap (λ n. gap ax + n) (gap-shared ay (each-append IsNear ys (pads_y design pins) (nears ys (pin-homes-y i pins few)) py))
 
   module _ (l r : Item) (pins : List Pin) where
+    -- the extent of the left item
     abbrev e : Extent
     e = item_extent extent l
 
+    -- a block that is moved right stands further across by the left item's width
     right-x : (o : Offset) → offset_x extent (moved_right e o) ≡ moved e.least_w e.most_w (offset_x extent o)
     right-x o = interval _ _ _ _ (omega (arith, ints)) (omega (arith, ints))
 
+    -- a block that is moved up stands further upward by the lower item's height
     up-y : (o : Offset) → offset_y extent (moved_up e o) ≡ moved e.least_h e.most_h (offset_y extent o)
     up-y o = interval _ _ _ _ (omega (arith, ints)) (omega (arith, ints))
 
@@ -147,6 +160,7 @@ module _ (extent : ℕ → Extent) (small : (b : ℕ) → IsSmallExtent 1048576 
         ∙ map-same (λ o. g (f o)) (λ o. m (g o)) goes (of_pins pins (offsets extent r))
         ∙ sym (map-twice g m (of_pins pins (offsets extent r)))
 
+    -- what the blocks of both items share is what those of the left share with what the others share
     split : (g : Offset → Interval) (os : List Offset) → fold shared endless (map g (of_pins pins (offsets extent l ++ os))) ≡ shared (fold shared endless (map g (of_pins pins (offsets extent l)))) (fold shared endless (map g (of_pins pins os)))
     split g os =
         ap (λ v. fold shared endless (map g v)) (pins-append pins (offsets extent l) os)
@@ -161,6 +175,7 @@ module _ (extent : ℕ → Extent) (small : (b : ℕ) → IsSmallExtent 1048576 
         behind [] k = k
         behind (x ∷ xs) k = behind xs k.1
 
+    -- the right item has no more blocks than both
     few-right : (f : Offset → Offset) → length (offsets extent l ++ map f (offsets extent r)) ≤ 320 → length (offsets extent r) ≤ 320
     few-right f h = omega (arith, h, length-append (offsets extent l) (map f (offsets extent r)), length-map (offsets extent r) f)
 
@@ -171,10 +186,12 @@ module _ (extent : ℕ → Extent) (small : (b : ℕ) → IsSmallExtent 1048576 
         ap (fold shared endless) (lists f g (moved a b) blocks goes)
         ∙ share-moved a b (map g (of_pins pins (offsets extent r))) own (subst (AllByRecursion IsHome) (lists f g (moved a b) blocks goes) there)
 
+    -- where a move changes no place one way, the share of the moved item's pins stays that way
     across : (f : Offset → Offset) (g : Offset → Interval) → ((o : Offset) → (f o).block ≡ o.block) → ((o : Offset) → g (f o) ≡ g o) → fold shared endless (map g (of_pins pins (map f (offsets extent r)))) ≡ fold shared endless (map g (of_pins pins (offsets extent r)))
     across f g blocks stays =
         ap (fold shared endless) (ap (map g) (pins-moved pins f blocks (offsets extent r)) ∙ map-twice f g (of_pins pins (offsets extent r)) ∙ map-same (λ o. g (f o)) g stays (of_pins pins (offsets extent r)))
 
+    -- reaches with equal intervals are equal
     reach : (a b c d : Interval) → a ≡ c → b ≡ d → ◌≡◌ {A = Reach} (record { across = a; upward = b }) (record { across = c; upward = d })
     reach a b c d p q = ap (λ v. (let k : Reach = record { across = v; upward = b } in k)) p ∙ ap (λ v. (let k : Reach = record { across = c; upward = v } in k)) q
 
@@ -183,6 +200,7 @@ module _ (extent : ℕ → Extent) (small : (b : ℕ) → IsSmallExtent 1048576 
     pushed-row Beside = let os = of_pins pins (map (moved_right e) (offsets extent r)) in record { across = fold shared endless (map (offset_x extent) os); upward = fold shared endless (map (offset_y extent) os) }
     pushed-row Above = let os = of_pins pins (map (moved_up e) (offsets extent r)) in record { across = fold shared endless (map (offset_x extent) os); upward = fold shared endless (map (offset_y extent) os) }
 
+    -- the row of the moved item is its own row, pushed by the other item's extent
     pub pushed-is : (d : Direction) → length (offsets extent (item_in d l r)) ≤ 320 → pushed-row d ≡ pushed_reach d e (row extent r pins)
     pushed-is Beside few =
         reach _ _ _ _

@@ -12,10 +12,13 @@ use Rattle.sf_bounds.specs.Layout.{Tells}
 use Rattle.sf_bounds.specs.Near.{anywhere}
 use Rattle.sf_bounds.specs.Pins.{extent_from, home_in, last_home, standing_of, standing_at, standing_by}
 
+-- with one seat more, the last home of its block is that of this seat, and of any other block the one before
 last-push : (extent : ℕ → Extent) (d : Option Home) (b : ℕ) (xs : List Seat) (s : Seat) → last_home extent d b (xs ++ s ∷ []) ≡ (if s.offset.block == b then Some (home_in (extent s.offset.block) s) else last_home extent d b xs)
 last-push extent d b [] s = refl
 last-push extent d b (x ∷ xs) s = last-push extent (if x.offset.block == b then Some (home_in (extent x.offset.block) x) else d) b xs s
 
+-- where two functions differ at one number alone, a list that tells the one tells the other once that place
+-- is set
 tells-set : {X : Type 0} (f g : ℕ → X) (n i : ℕ) (xs : List X) (x : X) → Tells f n xs → i < n → x ≡ g i → ((b : ℕ) → b ≢ i → f b ≡ g b) → Tells g n (slice_set xs i x)
 tells-set f g n i xs x t lt is same = record {
   count = length-set xs i x ∙ t.count;

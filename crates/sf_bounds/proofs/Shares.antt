@@ -8,6 +8,7 @@ use Rattle.sf_standard.specs.declared.hull.Interval.{Interval}
 use Rattle.sf_bounds.specs.Near.{IsNear, shared, endless}
 use Rattle.sf_bounds.specs.Rows.{pushed}
 
+-- intervals with equal ends are equal
 pub interval : (a b c d : ℤ) → a ≡ c → b ≡ d → ◌≡◌ {A = Interval} (record { low = a; high = b }) (record { low = c; high = d })
 interval a b c d p q = ap (λ z. (let k : Interval = record { low = z; high = b } in k)) p ∙ ap (λ z. (let k : Interval = record { low = c; high = z } in k)) q
 
@@ -15,9 +16,11 @@ interval a b c d p q = ap (λ z. (let k : Interval = record { low = z; high = b 
 abbrev IsWithin : Interval → Type 0
 IsWithin i = (neg_ℤ (pos 700000000) ≤ℤ i.low) × (i.high ≤ℤ pos 700000000)
 
+-- what is shared with an interval that is within the endless one is within it
 within-shared : (i j : Interval) → IsWithin i → IsWithin (shared i j)
 within-shared i j h = (omega (arith, ints, clamps, h.0), omega (arith, ints, clamps, h.1))
 
+-- what an interval within the endless one shares with others is what it shares with their share
 fold-split : (z : Interval) (ys : List Interval) → IsWithin z → fold shared z ys ≡ shared z (fold shared endless ys)
 fold-split z [] h = interval _ _ _ _ (omega (arith, ints, clamps, h.0)) (omega (arith, ints, clamps, h.1))
 fold-split z (y ∷ ys) h =
@@ -26,10 +29,12 @@ fold-split z (y ∷ ys) h =
     let r = fold shared endless ys in
     a ∙ interval _ _ _ _ (omega (arith, ints, clamps, h.0)) (omega (arith, ints, clamps, h.1)) ∙ ap (shared z) (sym b)
 
+-- the share along two lists together is the share along the second, begun with that along the first
 fold-append : (z : Interval) (xs ys : List Interval) → fold shared z (xs ++ ys) ≡ fold shared (fold shared z xs) ys
 fold-append z [] ys = refl
 fold-append z (x ∷ xs) ys = fold-append (shared z x) xs ys
 
+-- the share along intervals, begun with one within the endless one, is within it
 fold-within : (z : Interval) (xs : List Interval) → IsWithin z → IsWithin (fold shared z xs)
 fold-within z [] h = h
 fold-within z (x ∷ xs) h = fold-within (shared z x) xs (within-shared z x h)
@@ -45,25 +50,31 @@ pub record IsHome (i : Interval) : Type 0 where
   pub high : pos 0 ≤ℤ i.high
   pub high_small : i.high ≤ℤ pos 700000000
 
+-- an interval of a home is near
 pub home-near : (i : Interval) → IsHome i → IsNear i
 home-near i h = ((omega (arith, ints, h.low), h.low_small), (omega (arith, ints, h.high), h.high_small))
 
+-- the interval with its lower end moved by 2 a and its upper one by 2 b
 abbrev pub moved : ℕ → ℕ → Interval → Interval
 moved a b i = record { low = i.low +ℤ pos (2 * a); high = i.high +ℤ pos (2 * b) }
 
+-- an interval of a home is not narrowed by the endless one
 pub first-home : (i : Interval) → IsHome i → shared endless i ≡ i
 first-home i h = interval _ _ _ _ (omega (arith, ints, clamps, h.low)) (omega (arith, ints, clamps, h.high_small))
 
+-- the share of moved intervals is the share moved
 fold-moved : (a b : ℕ) (i : Interval) (is : List Interval) → fold shared (moved a b i) (map (moved a b) is) ≡ moved a b (fold shared i is)
 fold-moved a b i [] = refl
 fold-moved a b i (j ∷ js) =
     ap (λ v. fold shared v (map (moved a b) js)) (interval _ _ _ _ (omega (arith, ints, clamps)) (omega (arith, ints, clamps)))
     ∙ fold-moved a b (shared i j) js
 
+-- the lower end of a share is at least 0 where that of the first interval is
 fold-low : (i : Interval) (is : List Interval) → pos 0 ≤ℤ i.low → pos 0 ≤ℤ (fold shared i is).low
 fold-low i [] h = h
 fold-low i (j ∷ js) h = fold-low (shared i j) js (omega (arith, ints, clamps, h))
 
+-- a number of at least 0 is not less than 0
 not-negative : (z : ℤ) → pos 0 ≤ℤ z → int_lt z (pos 0) ≡ false
 not-negative z h = grind (arith, ints, h)
 
@@ -77,6 +88,7 @@ share-moved a b (i ∷ is) h k =
     ∙ sym (cond-false (int_lt all.low (pos 0)) all (moved a b all) (not-negative all.low (fold-low i is h.0.low)))
     ∙ ap (λ v. pushed a b (fold shared v is)) (sym (first-home i h.0))
 
+-- what two near intervals share is near
 near-shared : (i j : Interval) → IsNear i → IsNear j → IsNear (shared i j)
 near-shared i j h k = (
   (omega (arith, ints, clamps, h.0.0, k.0.0), omega (arith, ints, clamps, h.0.1, k.0.1)),

@@ -12,6 +12,7 @@ use Rattle.sf_standard.specs.Hull.{item_extent, offsets, moved_right, moved_up}
 use Rattle.sf_standard.proofs.Sides.{IsSmallExtent}
 use Rattle.sf_bounds.specs.Layout.{held_of, seat_at, seats_from, IsModestExtent, IsModestOffset, AreModest}
 
+-- no number of the place of a block in its item is more than m
 pub record IsSmallOffset (m : ℕ) (o : Offset) : Type 0 where
   pub least_x : o.least_x ≤ m
   pub most_x : o.most_x ≤ m
@@ -19,6 +20,7 @@ pub record IsSmallOffset (m : ℕ) (o : Offset) : Type 0 where
   pub most_y : o.most_y ≤ m
 
 module _ (extent : ℕ → Extent) (small : (b : ℕ) → IsSmallExtent 1048576 (extent b)) where
+  -- the extent of an item has sides of at most 2^20 for each of its blocks
   pub item-small : (i : Item) → IsSmallExtent (1048576 * length (offsets extent i)) (item_extent extent i)
   item-small (item.Block b) = let k = small b in record { least_w = omega (arith, k.least_w); most_w = omega (arith, k.most_w); least_h = omega (arith, k.least_h); most_h = omega (arith, k.most_h) }
   item-small (item.Beside l r) =
@@ -34,9 +36,11 @@ module _ (extent : ℕ → Extent) (small : (b : ℕ) → IsSmallExtent 1048576 
       let m = length-map (offsets extent r) (moved_up (item_extent extent l)) in
       record { least_w = omega (arith, p.least_w, q.least_w, n, m); most_w = omega (arith, p.most_w, q.most_w, n, m); least_h = omega (arith, p.least_h, q.least_h, n, m); most_h = omega (arith, p.most_h, q.most_h, n, m) }
 
+  -- a place within m is within every number that is greater
   wider : (m n : ℕ) (o : Offset) → m ≤ n → IsSmallOffset m o → IsSmallOffset n o
   wider m n o h k = record { least_x = omega (arith, h, k.least_x); most_x = omega (arith, h, k.most_x); least_y = omega (arith, h, k.least_y); most_y = omega (arith, h, k.most_y) }
 
+  -- the places of an item's blocks are within 2^20 for each of its blocks
   pub offsets-small : (i : Item) → AllByRecursion (IsSmallOffset (1048576 * length (offsets extent i))) (offsets extent i)
   offsets-small (item.Block b) = (record { least_x = omega arith; most_x = omega arith; least_y = omega arith; most_y = omega arith }, tt)
   offsets-small (item.Beside l r) =
@@ -60,9 +64,11 @@ module _ (extent : ℕ → Extent) (small : (b : ℕ) → IsSmallExtent 1048576 
       (each-map (IsSmallOffset total) (moved_up e) (offsets extent r)
       (each-weaker (IsSmallOffset (1048576 * length (offsets extent r))) (λ o. IsSmallOffset total (moved_up e o)) (λ o k. record { least_x = omega (arith, n, m, k.least_x); most_x = omega (arith, n, m, k.most_x); least_y = omega (arith, n, m, k.least_y, p.least_h); most_y = omega (arith, n, m, k.most_y, p.most_h) }) (offsets extent r) (offsets-small r)))
 
+  -- the seats of one item more are more by its blocks
   seats-long : (k : ℕ) (i : Item) (is : List Item) → length (seats_from extent k (i ∷ is)) ≡ length (offsets extent i) + length (seats_from extent (suc k) is)
   seats-long k i is = omega (arith, length-append (map (seat_at k) (offsets extent i)) (seats_from extent (suc k) is), length-map (offsets extent i) (seat_at k))
 
+  -- what is held of items with at most 320 seats is modest
   held-modest : (k m : ℕ) (is : List Item) → length (seats_from extent k is) ≤ m → m ≤ 320 → AllByRecursion (λ h. IsModestExtent h.extent × (h.blocks ≤ m)) (map (held_of extent) is)
   held-modest k m [] h few = tt
   held-modest k m (i ∷ is) h few =
@@ -73,6 +79,7 @@ module _ (extent : ℕ → Extent) (small : (b : ℕ) → IsSmallExtent 1048576 
         held-modest (suc k) m is (omega (arith, n, h)) few,
       )
 
+  -- the seats of items with at most 320 of them are modest
   seats-modest : (k m : ℕ) (is : List Item) → length (seats_from extent k is) ≤ m → m ≤ 320 → AllByRecursion (λ s. IsModestOffset s.offset) (seats_from extent k is)
   seats-modest k m [] h few = tt
   seats-modest k m (i ∷ is) h few =

@@ -13,6 +13,7 @@ use Rattle.sf_bounds.specs.declared.net_frame.Cell.{Cell}
 use Rattle.sf_bounds.specs.Pins.{IsNet}
 use Rattle.sf_bounds.specs.Rows.{of_weight, weighed_nets, weights_of}
 
+-- the nets that count of two lists are those of the first and then those of the second
 pub of_weight-append : (ns ms : List Net) → of_weight (ns ++ ms) ≡ of_weight ns ++ of_weight ms
 of_weight-append ns ms = filter-append (λ n. nat_lt 0 n.weight) ns ms
 
@@ -20,6 +21,7 @@ of_weight-append ns ms = filter-append (λ n. nat_lt 0 n.weight) ns ms
 pub one-counts : (n : Net) → 0 < n.weight → of_weight (n ∷ []) ≡ n ∷ []
 one-counts n h = cond-true (nat_lt 0 n.weight) (n ∷ []) [] (lt-ltb 0 n.weight h)
 
+-- a net of weight 0 does not count
 pub one-free : (n : Net) → n.weight ≤ 0 → of_weight (n ∷ []) ≡ []
 one-free n h = cond-false (nat_lt 0 n.weight) (n ∷ []) [] (le-ltb 0 n.weight h)
 
@@ -35,18 +37,22 @@ sum-of_weight f (n ∷ ns) =
     let none : n.weight * f n ≡ 0 * f n = ap (λ v. v * f n) z in
     omega (arith, none, sum_by-cons g n ns, rest)))
 
+-- the nets that count are not more than all
 pub few-kept : (nets : List Net) → length (of_weight nets) ≤ length nets
 few-kept [] = omega arith
 few-kept (n ∷ ns) =
     cond_both (nat_lt 0 n.weight) (n ∷ of_weight ns) (of_weight ns) (λ v. length v ≤ length (n ∷ ns))
     (λ _. omega (arith, few-kept ns)) (λ _. omega (arith, few-kept ns))
 
+-- at most 65,536 nets of a design count
 pub few-weighed : (design : Design) → length (weighed_nets design) ≤ 65536
 few-weighed design = omega (arith, few-kept design.nets, design.limits.few_nets)
 
+-- there are as many weights as nets that count
 pub length-weights : (nets : List Net) → length (weights_of nets) ≡ length (of_weight nets)
 length-weights nets = length-map (of_weight nets) (λ n. n.weight)
 
+-- the weight at a place is that of the net that counts there
 pub weight-at : (nets : List Net) (j : ℕ) (d : Net) → j < length (of_weight nets) → get_or (weights_of nets) j 0 ≡ (get_or (of_weight nets) j d).weight
 weight-at nets j d lt = get_or-map (λ n. n.weight) (of_weight nets) j d 0 lt
 
@@ -82,6 +88,7 @@ pub of_weight-more : (nets : List Net) (i : ℕ) (net : Net) → net ≡ get_or 
 of_weight-more nets i net at lt =
     ap of_weight (take_more nets i net lt ∙ ap (λ v. take i nets ++ v ∷ []) (sym at)) ∙ of_weight-append (take i nets) (net ∷ [])
 
+-- the weights with one net more are those before, and its own where it counts
 pub weights_of-more : (nets : List Net) (i : ℕ) (net : Net) → net ≡ get_or nets i net → i < length nets → weights_of (take (i + 1) nets) ≡ weights_of (take i nets) ++ weights_of (net ∷ [])
 weights_of-more nets i net at lt =
     let weight = λ (n : Net). n.weight in

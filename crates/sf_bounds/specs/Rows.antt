@@ -130,16 +130,6 @@ abbrev pub changed : Changing → Part
 changed changing.Hull = by.Hull
 changed changing.Full = by.Full
 
--- what a net takes of it before any token
-abbrev pub least_at : Changing → Cell → ℕ
-least_at changing.Hull c = 0
-least_at changing.Full c = c.part
-
--- its sum over all nets
-abbrev pub sum_in : Changing → Wires → ℕ
-sum_in changing.Hull w = w.hull
-sum_in changing.Full w = w.sum
-
 -- sums of so many nets
 pub record AreSmall (n : ℕ) (w : Wires) : Type 0 where
   pub part : w.sum ≤ 714000000000 * n

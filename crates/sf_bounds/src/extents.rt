@@ -70,10 +70,7 @@ fn block_extent(design: &Design, node: &Node, block: u16) -> Extent
     ensures { result ≡ extent_in design.now node.now block }
 {
     let (from, to) = node.span(block);
-    let shapes = design.blocks.as_slice()[usize::from(block)]
-        .shapes
-        .as_slice();
-    part_extent(shapes, from, to)
+    part_extent(design.shapes_of(block), from, to)
 }
 
 /// Fills the list with the extent of each block.

@@ -10,11 +10,11 @@ ghost use Rattle.sf_bounds.specs.Near.{IsNearby, met, reach_gap};
 ghost use Rattle.sf_bounds.specs.Open.{AreWireParts};
 ghost use Rattle.sf_bounds.specs.declared.net_frame.Ending.TheVariants.{Joined};
 ghost use Rattle.sf_bounds.specs.Rows.{pushed_reach, joined_reach, cell_at, framed};
-ghost use Rattle.sf_bounds.specs.Rows.{changed, least_at, sum_in, tokens_of};
+ghost use Rattle.sf_bounds.specs.Rows.{changed, tokens_of};
 ghost use Rattle.sf_bounds.specs.Rows.{IsEnding, IsFitCell, AreKept, AreTop};
 
 use crate::meet::{met, reach_gap};
-use crate::net_frame::{Cell, Changing, Ending, NetFrame, Nets, Wires};
+use crate::net_frame::{Cell, Changing, Ending, NetFrame, Nets};
 use crate::net_push::{top_pair, wires_after};
 use crate::net_rows::joined_reach;
 use crate::wire_parts::WireParts;
@@ -123,44 +123,9 @@ fn joined_totals(nets: &Nets, design: &Design, node: &Node, direction: Direction
     (full, hull)
 }
 
-/// What one net takes at least before any token: of its gaps nothing.
-fn least_of(part: Changing, start: Cell) -> u64
-    ensures { result ≡ least_at part start }
-{
-    match part {
-        Changing::Hull => 0,
-        Changing::Full => u64::from(start.part),
-    }
-}
-
-/// One of the sums of `joined_totals` alone. Inlined where the direction and the part are known.
+/// What the wires take at least after all tokens, and the gaps alone. Inlined, so that the one which is not
+/// read is not summed.
 #[inline(always)]
-fn joined_total(
-    nets: &Nets,
-    design: &Design,
-    node: &Node,
-    direction: Direction,
-    part: Changing,
-) -> u64
-    requires subproblem { IsSubproblem design.now node.now }
-    requires whole { length node.now.steps ≡ length node.now.tokens }
-    requires kept { AreKept design.now node.now.tokens nets.now }
-    requires ending { IsEnding node.now (Joined direction) }
-    requires all { length nets.now.frames.items ≡ framed (Joined direction) node.now.tokens }
-    ensures { result ≡ wires_by design.now node.now (changed part) }
-{
-    let (left, right) = top_pair(nets, design, node, direction);
-    let mut total = 0;
-    for net in 0..nets.weights.len() {
-        let weight = nets.weights[net];
-        let start = nets.cells[nets.start.at + net];
-        let gap = joined_gap(nets, design, node, direction, left, right, net);
-        total += weighed(weight, least_of(part, start).max(gap));
-    }
-    total
-}
-
-/// What the wires take at least after all tokens, and the gaps alone.
 fn totals(nets: &Nets, design: &Design, node: &Node, ending: Ending) -> (u64, u64)
     requires subproblem { IsSubproblem design.now node.now }
     requires whole { length node.now.steps ≡ length node.now.tokens }
@@ -198,16 +163,6 @@ pub fn total_parts(nets: &Nets, design: &Design, node: &Node, ending: Ending) ->
     }
 }
 
-/// One of the sums over all items.
-fn open_total(part: Changing, wires: Wires) -> u64
-    ensures { result ≡ sum_in part wires }
-{
-    match part {
-        Changing::Hull => wires.hull,
-        Changing::Full => wires.sum,
-    }
-}
-
 /// What the wires take at least after all tokens, by one part of the bound. Inlined where the part is known.
 #[inline(always)]
 pub fn total_by(nets: &Nets, design: &Design, node: &Node, ending: Ending, part: Changing) -> u64
@@ -218,14 +173,10 @@ pub fn total_by(nets: &Nets, design: &Design, node: &Node, ending: Ending, part:
     requires all { length nets.now.frames.items ≡ framed ending node.now.tokens }
     ensures { result ≡ wires_by design.now node.now (changed part) }
 {
-    match ending {
-        Ending::Joined(Direction::Beside) => {
-            joined_total(nets, design, node, Direction::Beside, part)
-        }
-        Ending::Joined(Direction::Above) => {
-            joined_total(nets, design, node, Direction::Above, part)
-        }
-        Ending::Open => open_total(part, wires_after(nets, design, node, nets.frames.len())),
+    let (full, hull) = totals(nets, design, node, ending);
+    match part {
+        Changing::Hull => hull,
+        Changing::Full => full,
     }
 }
 

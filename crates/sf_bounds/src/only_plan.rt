@@ -25,10 +25,7 @@ fn first_shape(design: &Design, node: &Node, block: u16) -> Shape
     ensures { result ≡ first_shape design.now node.now block }
 {
     let (from, _) = node.span(block);
-    let shapes = design.blocks.as_slice()[usize::from(block)]
-        .shapes
-        .as_slice();
-    shape_at(shapes, from)
+    shape_at(design.shapes_of(block), from)
 }
 
 /// The shape at a place.

@@ -2,11 +2,11 @@
 
 ghost use Rattle.std.specs.Prelude.{◌≡◌, ◌<◌, ◌≤◌, length, All, IfSome, max, true, false};
 ghost use Rattle.sf_model.specs.Limits.{pin_number, pin_count};
-ghost use Rattle.sf_bounds.specs.Near.{reach_gap};
+ghost use Rattle.sf_bounds.specs.Near.{IsNearby, reach_gap};
 ghost use Rattle.sf_bounds.specs.Open.{AreAtMost};
-ghost use Rattle.sf_bounds.specs.Pins.{IsNet, IsReady, pad_reach, pin_range, pin_home, narrowed, paired};
-ghost use Rattle.sf_bounds.specs.Pins.{pairs_pin, shared_ranges, paired_sides, shared_homes, shared_in};
-ghost use Rattle.sf_bounds.specs.Pins.{greatest_gap};
+ghost use Rattle.sf_bounds.specs.Pins.{IsNet, IsReady, IsReadable, pad_reach, pin_range, pin_home};
+ghost use Rattle.sf_bounds.specs.Pins.{narrowed, paired, pairs_pin, greatest_gap};
+ghost use Rattle.sf_bounds.specs.Pins.{shared_ranges, paired_sides, shared_homes, shared_in};
 
 use crate::homes::hull_part;
 use crate::layout::{Home, Standing};
@@ -24,7 +24,7 @@ pub struct Pair {
 }
 
 /// The pair of no sides.
-pub const NO_PAIR: Pair = Pair { most: None, sum: 0 };
+const NO_PAIR: Pair = Pair { most: None, sum: 0 };
 
 /// Where a pad lies.
 pub fn pad_reach(design: &Design, pad: u16) -> Reach
@@ -42,7 +42,7 @@ pub fn pad_reach(design: &Design, pad: u16) -> Reach
 
 /// Where a pin lies, anywhere in the outline.
 #[inline(always)]
-pub fn pin_range(design: &Design, table: &[Standing], pin: Pin) -> Reach
+fn pin_range(design: &Design, table: &[Standing], pin: Pin) -> Reach
     requires table { length table.now ≡ length design.now.blocks }
     requires inside { pin_number pin < pin_count (length design.now.blocks) (length design.now.pads) pin }
     ensures { result ≡ pin_range design.now table.now pin }
@@ -73,7 +73,7 @@ fn with_side(pair: Pair, side: u64) -> Pair
 
 /// The pair with the lesser side of a pin's block.
 #[inline(always)]
-pub fn pair_pin(pair: Pair, design: &Design, table: &[Standing], pin: Pin) -> Pair
+fn pair_pin(pair: Pair, design: &Design, table: &[Standing], pin: Pin) -> Pair
     requires table { length table.now ≡ length design.now.blocks }
     requires inside { pin_number pin < pin_count (length design.now.blocks) (length design.now.pads) pin }
     requires sides { All (λ s. s.side ≤ 1048576) table.now }
@@ -88,7 +88,7 @@ pub fn pair_pin(pair: Pair, design: &Design, table: &[Standing], pin: Pin) -> Pa
 
 /// What the one item of a complete subproblem leaves of a reach at one more pin.
 #[inline(always)]
-pub fn hull_pin(reach: Reach, design: &Design, table: &[Standing], pin: Pin) -> Reach
+fn hull_pin(reach: Reach, design: &Design, table: &[Standing], pin: Pin) -> Reach
     requires table { length table.now ≡ length design.now.blocks }
     requires inside { pin_number pin < pin_count (length design.now.blocks) (length design.now.pads) pin }
     ensures { result ≡ narrowed reach (pin_home design.now table.now true pin) }
@@ -109,16 +109,27 @@ fn narrowed(reach: Reach, home: Option<Home>) -> Reach
     }
 }
 
-/// What the wire of a net is at least in a complete subproblem: range, pair and hull in one pass over its
-/// pins.
-pub fn whole_parts(design: &Design, table: &[Standing], pins: &[Pin]) -> WireParts
-    requires ready { IsReady design.now 1 table.now }
+/// What the pins of a net share anywhere in the outline, the pair of their blocks, and what they share in the
+/// one item of a complete subproblem.
+#[derive(Clone, Copy, Debug)]
+pub struct PinParts {
+    pub range: Reach,
+    pub pair: Pair,
+    pub hull: Reach,
+}
+
+/// Range, pair and hull of a net in one pass over its pins. Inlined, so that what is not read of it is not
+/// measured.
+#[inline(always)]
+pub fn pin_parts(design: &Design, table: &[Standing], pins: &[Pin]) -> PinParts
+    requires ready { IsReadable design.now table.now }
     requires inside { IsNet design.now pins.now }
-    ensures range { result.range ≡ reach_gap (shared_ranges design.now table.now pins.now) }
-    ensures pair { result.pair ≡ (paired_sides table.now pins.now).sum }
-    ensures hull { result.hull ≡ reach_gap (shared_homes design.now table.now pins.now) }
-    ensures full { result.full ≡ max result.range (max result.pair result.hull) }
-    ensures small { AreAtMost 2800000000 result }
+    ensures range { result.range ≡ shared_ranges design.now table.now pins.now }
+    ensures near_range { IsNearby result.range }
+    ensures pair { result.pair ≡ paired_sides table.now pins.now }
+    ensures small_pair { result.pair.sum ≤ 2800000000 }
+    ensures hull { result.hull ≡ shared_homes design.now table.now pins.now }
+    ensures near_hull { IsNearby result.hull }
 {
     let mut range = ANYWHERE;
     let mut pair = NO_PAIR;
@@ -128,7 +139,25 @@ pub fn whole_parts(design: &Design, table: &[Standing], pins: &[Pin]) -> WirePar
         pair = pair_pin(pair, design, table, *pin);
         hull = hull_pin(hull, design, table, *pin);
     }
-    WireParts::of_net(reach_gap(range), pair.sum, reach_gap(hull))
+    PinParts { range, pair, hull }
+}
+
+/// What the wire of a net is at least in a complete subproblem.
+pub fn whole_parts(design: &Design, table: &[Standing], pins: &[Pin]) -> WireParts
+    requires ready { IsReady design.now 1 table.now }
+    requires inside { IsNet design.now pins.now }
+    ensures range { result.range ≡ reach_gap (shared_ranges design.now table.now pins.now) }
+    ensures pair { result.pair ≡ (paired_sides table.now pins.now).sum }
+    ensures hull { result.hull ≡ reach_gap (shared_homes design.now table.now pins.now) }
+    ensures full { result.full ≡ max result.range (max result.pair result.hull) }
+    ensures small { AreAtMost 2800000000 result }
+{
+    let parts = pin_parts(design, table, pins);
+    WireParts::of_net(
+        reach_gap(parts.range),
+        parts.pair.sum,
+        reach_gap(parts.hull),
+    )
 }
 
 /// What the wire of a net is at least in an incomplete subproblem.
@@ -147,12 +176,7 @@ pub fn open_parts(
     ensures full { result.full ≡ max result.range (max result.pair result.hull) }
     ensures small { AreAtMost 2800000000 result }
 {
-    let mut range = ANYWHERE;
-    let mut pair = NO_PAIR;
-    for pin in pins {
-        range = met(range, pin_range(design, table, *pin));
-        pair = pair_pin(pair, design, table, *pin);
-    }
+    let parts = pin_parts(design, table, pins);
     let hull = hull_part(reaches, design, table, pins);
-    WireParts::of_net(reach_gap(range), pair.sum, hull)
+    WireParts::of_net(reach_gap(parts.range), parts.pair.sum, hull)
 }

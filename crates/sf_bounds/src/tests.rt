@@ -6,8 +6,8 @@ ghost use Rattle.sf_bounds.specs.Serving.{MayServe};
 
 use crate::{Bounds, Room, Standard, solve};
 use sf_model::{
-    Block, BlockList, Design, Name, Net, NetList, Outline, Pad, PadList, Pin, Pins, Shape, Shapes,
-    Weights,
+    Block, BlockList, Design, MAX, Name, Net, NetList, Outline, Pad, PadList, Pin, Pins, Shape,
+    Shapes, Weights,
 };
 use sf_node::{Node, Part};
 use std::alloc::{AllocError, Global};
@@ -307,5 +307,58 @@ fn measures_parts(rt: HostRuntime) -> Result<(), Fail> {
     let (high, _low) = halves(&design, &whole)?.ok_or("no halves")?;
     let of_high = values_by_part(&design, &high, &mut room)?;
     assert_eq!(rt; of_high, ([4, 44, 4, 234, 234], [4, 44, 4, 234]));
+    Ok(())
+}
+
+/// A block of 2 by 3 or 3 by 2 in an outline of 2 by 2, with this wire weight.
+fn too_large(alloc: Global, wire: u16) -> Result<Design, AllocError> {
+    let block = Block {
+        name: Name::new(alloc, b"b")?,
+        shapes: Shapes::from_vec(vec![in alloc; Shape { w: 2, h: 3 }, Shape { w: 3, h: 2 }]?),
+    };
+    Ok(Design {
+        blocks: BlockList::from_vec(vec![in alloc; block]?),
+        pads: PadList::from_vec(Vec::new(alloc)),
+        nets: NetList::from_vec(Vec::new(alloc)),
+        outline: Outline { w: 2, h: 2 },
+        weights: Weights { area: 1, wire },
+    })
+}
+
+/// Whether a subproblem has a solution, where it is solved.
+fn has_solution(alloc: Global, design: &Design, node: &Node) -> Result<Option<bool>, AllocError>
+    requires { IsSubproblem design.now node.now }
+{
+    if !node.is_solved(design) {
+        return Ok(None);
+    }
+    let found = solve(alloc, design, node)?;
+    Ok(Some(found.is_some()))
+}
+
+/// Where only areas count and no shape fits, the one complete subproblem has no solution.
+#[test]
+fn solves_no_areas(rt: HostRuntime) -> Result<(), Fail> {
+    let alloc = rt.alloc();
+    let design = too_large(alloc, 0)?;
+    let start = root(alloc, &design)?;
+    let whole = child(&design, &start, 0)?.ok_or("no child")?;
+    assert_eq!(rt; has_solution(alloc, &design, &whole)?, Some(false));
+    let mut room = Room::new(alloc);
+    assert_eq!(rt; Standard.bound(&design, &whole, &mut room)?, MAX);
+    Ok(())
+}
+
+/// Where wires count it is not solved, and neither shape by itself has a solution.
+#[test]
+fn solves_no_wires(rt: HostRuntime) -> Result<(), Fail> {
+    let alloc = rt.alloc();
+    let design = too_large(alloc, 1)?;
+    let start = root(alloc, &design)?;
+    let whole = child(&design, &start, 0)?.ok_or("no child")?;
+    assert_eq!(rt; has_solution(alloc, &design, &whole)?, None);
+    let (high, wide) = halves(&design, &whole)?.ok_or("no halves")?;
+    assert_eq!(rt; has_solution(alloc, &design, &high)?, Some(false));
+    assert_eq!(rt; has_solution(alloc, &design, &wide)?, Some(false));
     Ok(())
 }

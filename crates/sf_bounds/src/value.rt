@@ -1,9 +1,8 @@
 //! What the area costs at least.
 
-ghost use Rattle.std.specs.Prelude.{◌≡◌, ◌*◌, max, length, IfOk};
+ghost use Rattle.std.specs.Prelude.{◌≡◌, ◌*◌, max, IfOk};
 ghost use Rattle.sf_node.specs.Children.{IsSubproblem};
 ghost use Rattle.sf_frames.specs.Groups.{IsNeededOrNone};
-ghost use Rattle.sf_frames.specs.Measured.{IsMeasured};
 ghost use Rattle.sf_bounds.specs.Open.{IsAreaCostOrNone};
 
 use crate::area::area_part;
@@ -13,20 +12,6 @@ use sf_frames::{Frames, Measured, Sums};
 use sf_model::Design;
 use sf_node::Node;
 use std::alloc::AllocError as NoMemory;
-
-/// What the frames of a path tell, where each span is whole.
-fn measure(frames: &mut Frames, design: &Design, node: &Node) -> Result<Measured, NoMemory>
-    requires subproblem { IsSubproblem design.now node.now }
-    requires serves { frames.old ≡ design.now }
-    ensures measured { IfOk result (IsMeasured design.now node.now) }
-    ensures serves { frames.new ≡ design.now }
-{
-    if node.steps().len() != node.tokens().len() {
-        return Ok(Measured::TooLarge);
-    }
-    let measured = frames.measure(node)?;
-    Ok(measured)
-}
 
 /// The area that groups need, by their sum, and by the widest and the highest one.
 fn needed(sums: Sums) -> u64
@@ -55,7 +40,9 @@ fn area_of_curves(
     Ok(area_part(&scratch.curves))
 }
 
-/// The area that the items and the unused blocks need, or none where one of them fits in no way.
+/// The area that the items and the unused blocks need, or none where one of them fits in no way: by the
+/// frames of the path where each span is whole and no more points are needed than are kept, else from curves
+/// that are made anew.
 fn needed_area(
     frames: &mut Frames,
     scratch: &mut Scratch,
@@ -67,12 +54,15 @@ fn needed_area(
     ensures needed { IfOk result (IsNeededOrNone design.now node.now) }
     ensures serves { frames.new ≡ design.now }
 {
-    let measured = measure(frames, design, node)?;
-    match measured {
-        Measured::Takes(sums) => Ok(Some(needed(sums))),
-        Measured::FitsInNoWay => Ok(None),
-        Measured::TooLarge => area_of_curves(scratch, design, node),
+    if node.steps().len() == node.tokens().len() {
+        let measured = frames.measure(node)?;
+        match measured {
+            Measured::Takes(sums) => return Ok(Some(needed(sums))),
+            Measured::FitsInNoWay => return Ok(None),
+            Measured::TooLarge => {}
+        }
     }
+    area_of_curves(scratch, design, node)
 }
 
 /// What the area costs at least that the items and the unused blocks need; none where one of them fits in

@@ -29,6 +29,7 @@ no-shapes (Leaf b s) = (refl, tt)
 no-shapes (Beside l r) = each-append _ (leaves (form l)) (leaves (form r)) (no-shapes l) (no-shapes r)
 no-shapes (Above l r) = each-append _ (leaves (form l)) (leaves (form r)) (no-shapes l) (no-shapes r)
 
+-- a plan without its shapes is spelled by its tokens alone
 spelled-form : (t : Tree) (tokens : List Token) → postfix t ≡ tokens → Spells (record { tokens = tokens; shapes = [] }) (form t)
 spelled-form t tokens e = record { tokens = postfix-form t ∙ e; shapes = All-from_recursion (λ leaf. leaf.1 ≡ shape_at [] leaf.0) (leaves (form t)) (no-shapes t) }
 

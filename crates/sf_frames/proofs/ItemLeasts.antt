@@ -1,25 +1,21 @@
 -- The least values over the curve of an item are those over its plans.
-use Rattle.std.proofs.Common.{◌≡◌, ◌≢◌, ℕ, suc, ◌*◌, ◌≤◌, List, [], ◌∷◌, ◌++◌, length, map, reverse, get_or, max, refl, ap, ◌∙◌, subst, arith, true, false, All}
-use Rattle.std.specs.Prelude.{sum, sum_by, Any, Contains}
-use Rattle.std.specs.List.{AllZip}
-use Rattle.std.proofs.Math.Nat.{mul-le-mul}
-use Rattle.std.proofs.lemmas.List.{reverse-append, map-append}
+use Rattle.std.proofs.Common.{◌≡◌, ◌≢◌, ℕ, suc, ◌≤◌, List, [], ◌∷◌, length, map, get_or, refl, ap, ◌∙◌, subst, arith, true, false, All}
+use Rattle.std.specs.Prelude.{Any, Contains}
 use Rattle.std.proofs.lemmas.Bool.{ne_eqb}
-use Rattle.std.proofs.lemmas.List.Sums.{sum_by-append, sum_by-cons, sum-map}
 use Rattle.std.proofs.lemmas.List.Elements.{All-contains}
 use Rattle.sf_model.specs.declared.design.Design.{Design}
 use Rattle.sf_model.specs.declared.parts.Shape.{Shape}
-use Rattle.sf_model.specs.Tree.{Tree, width, height}
+use Rattle.sf_model.specs.Tree.{Tree}
 use Rattle.sf_node.specs.Parts.{Parts}
-use Rattle.sf_curves.specs.Points.{IsNoLarger, IsWithin, IsCovered, area_of}
+use Rattle.sf_curves.specs.Points.{IsNoLarger, IsWithin, IsCovered}
 use Rattle.sf_curves.proofs.Members.{not_in_nil}
-use Rattle.sf_standard.specs.Items.{Item, items_of, unused, fitting}
-use Rattle.sf_standard.specs.Standard.{area, least_of, has_none, greatest, needed_area}
+use Rattle.sf_standard.specs.Items.{Item, fitting}
+use Rattle.sf_standard.specs.Standard.{least_of, has_none}
 use Rattle.sf_curves.specs.Choices.{size_of}
 use Rattle.sf_frames.specs.Curves.{IsItemCurve}
-use Rattle.sf_frames.specs.Least.{least_by, width_of, height_of}
+use Rattle.sf_frames.specs.Least.{least_by}
 use Rattle.sf_frames.proofs.Leasts.{least_by-curve}
-use Rattle.sf_standard.proofs.Listed.{Contains-from_map, Contains-map, sum_by-map}
+use Rattle.sf_standard.proofs.Listed.{Contains-from_map, Contains-map}
 use Rattle.sf_frames.proofs.Joining.{sizes-within}
 use Rattle.std.proofs.lemmas.List.Elements.{Contains-get_or}
 

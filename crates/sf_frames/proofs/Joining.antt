@@ -1,12 +1,10 @@
 -- The curves of joined items, and the operands of tokens.
-use Rattle.std.proofs.Common.{◌≡◌, ℕ, ◌+◌, ◌-◌, ◌<◌, ◌≤◌, List, [], ◌∷◌, ◌++◌, length, reverse, map, take, drop, get_or, refl, sym, ap, ◌∙◌, subst, arith, All}
+use Rattle.std.proofs.Common.{◌≡◌, ℕ, ◌+◌, ◌-◌, ◌<◌, ◌≤◌, List, [], ◌∷◌, map, get_or, refl, sym, ap, ◌∙◌, subst, arith, All}
 use Rattle.std.specs.Prelude.{Contains, IsFalse}
-use Rattle.std.specs.List.{AllZip, AllByRecursion}
-use Rattle.std.proofs.lemmas.List.{reverse-append, length_push, drop_more, take_more}
+use Rattle.std.specs.List.{AllByRecursion}
 use Rattle.std.proofs.lemmas.List.Elements.{All-contains, Contains-get_or}
 use Rattle.sf_model.specs.declared.design.Design.{Design}
 use Rattle.sf_model.specs.declared.parts.Shape.{Shape}
-use Rattle.sf_model.specs.Legal.{shapes_of}
 use Rattle.sf_model.specs.Tree.{Tree, Leaf, Beside, Above}
 use Rattle.sf_polish.specs.declared.expr.Token.{Token}
 use Rattle.sf_polish.specs.declared.expr.Token.TheVariants as token
@@ -14,16 +12,11 @@ use Rattle.sf_polish.specs.Normal.{is_outside}
 use Rattle.sf_polish.proofs.Stack.{Reads}
 use Rattle.sf_polish.proofs.Normality.{inside-number}
 use Rattle.sf_node.specs.Parts.{Parts}
-use Rattle.sf_node.specs.Subproblem.{span_of}
-use Rattle.sf_node.specs.Children.{IsSubproblem}
-use Rattle.sf_node.proofs.Normalised.{subproblem-begun}
-use Rattle.sf_node.proofs.Spanned.{are-spans}
 use Rattle.sf_curves.specs.Points.{IsWithin, IsNoLarger, IsCovered, IsCurveOf, IsCombination, beside_size, above_size}
 use Rattle.sf_standard.specs.Items as item
 use Rattle.sf_standard.specs.Items.{Item, read, items_of, span_shapes, plans, pairs, fits, fitting}
-use Rattle.sf_curves.specs.Choices.{AreSpans, size_of}
+use Rattle.sf_curves.specs.Choices.{size_of}
 use Rattle.sf_frames.specs.Curves.{IsItemCurve}
-use Rattle.sf_standard.proofs.Appended.{read-append, read-block}
 use Rattle.sf_standard.proofs.Listed.{Contains-map, Contains-from_map, Contains-filter, Contains-from_filter, Contains-pairs, Contains-from_pairs}
 use Rattle.sf_standard.proofs.Cutting.{fits-true}
 use Rattle.sf_standard.proofs.Exact.{fits-from}

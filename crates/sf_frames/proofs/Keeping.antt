@@ -1,8 +1,9 @@
 -- Frames through changes of the list of points.
-use Rattle.std.proofs.Common.{◌≡◌, ℕ, ◌+◌, ◌-◌, ◌<◌, ◌≤◌, List, [], ◌∷◌, ◌++◌, length, take, drop, map, get_or, refl, sym, ap, ◌∙◌, subst, inl, inr, arith, length-append, length-drop}
+use Rattle.std.proofs.Common.{◌≡◌, ℕ, ◌+◌, ◌-◌, ◌<◌, ◌≤◌, List, [], ◌∷◌, ◌++◌, length, take, drop, get_or, sym, ap, ◌∙◌, subst, inl, inr, arith, length-append, length-drop}
 use Rattle.std.specs.Prelude.{AllPairs, slice_range}
 use Rattle.std.proofs.lemmas.List.{take-take, take-append-le, drop-append-le, drop-take, get_or-take, get_or_push, get_or_append_left, length_push, length-take-le, take_all, map-append, take-map}
 use Rattle.std.proofs.lemmas.List.Quantifiers.{all_pairs_push}
+use Rattle.std.proofs.lemmas.List.Sums.{sum_by_push}
 use Rattle.std.proofs.lemmas.Bool.{cases_lt, cases_eq}
 use Rattle.sf_model.specs.declared.design.Design.{Design}
 use Rattle.sf_model.specs.declared.parts.Shape.{Shape}
@@ -13,7 +14,7 @@ use Rattle.sf_standard.specs.Items.{Item, Block}
 use Rattle.sf_frames.specs.declared.frame.Frame.{Frame}
 use Rattle.sf_frames.specs.declared.frame.Kept.{Kept}
 use Rattle.sf_frames.specs.Curves.{IsItemCurve}
-use Rattle.sf_frames.specs.Kept.{IsKept, AreWhole, IsFrame, AreFrames, IsStored, IsEndOf, IsNext, IsLonger, token_of, no_token}
+use Rattle.sf_frames.specs.Kept.{IsKept, AreWhole, IsFrame, IsStored, IsEndOf, IsNext, token_of, added, needed}
 use Rattle.sf_frames.proofs.Topping.{take-next}
 
 -- a range of a list stays as it is when more is put at the end
@@ -81,6 +82,7 @@ wholes-appended : (design : Design) (points more : List Shape) (blocks : List Ke
 wholes-appended design points more blocks whole m = record {
   few = m.few;
   room = omega (arith, m.room, length-append points more);
+  tight = m.tight;
   each = λ b d lt. (kept-appended design points more (Block b) (get_or blocks b d) (m.each b d lt).0, (m.each b d lt).1);
 }
 
@@ -93,13 +95,9 @@ stored-appended design tokens points more blocks whole frames m = record {
     are = m.frames_are.are;
     each = λ k d lt. frame-appended design tokens points more whole (k + 1) (get_or frames k d) (m.frames_are.each k d lt);
     ends = m.frames_are.ends;
+    tight = m.frames_are.tight;
   };
 }
-
--- what is kept of a path stays so in a list of points that goes on
-pub stored-longer : (design : Design) (tokens : List Token) (points all : List Shape) (blocks : List Kept) (whole : ℕ) (frames : List Frame) → IsStored design tokens points blocks whole frames → IsLonger points all → IsStored design tokens all blocks whole frames
-stored-longer design tokens points all blocks whole frames m longer =
-    subst (λ v. IsStored design tokens v blocks whole frames) (sym longer.1) (stored-appended design tokens points longer.0 blocks whole frames m)
 
 module _ (design : Design) (tokens : List Token) (points : List Shape) (blocks : List Kept) (whole : ℕ) (frames : List Frame) (count e : ℕ) (m : IsStored design tokens points blocks whole frames) (le : count ≤ length frames) (at_end : IsEndOf frames whole count e) where
   -- the points that the first frames need end where the last of them ends
@@ -132,6 +130,7 @@ module _ (design : Design) (tokens : List Token) (points : List Shape) (blocks :
         wholes = record {
           few = m.wholes.few;
           room = omega (arith, t.0, length-take-le e points t.1);
+          tight = m.wholes.tight;
           each = λ b d lt. (kept-cut design points e (Block b) (get_or blocks b d) (m.wholes.each b d lt).0 t.1 (omega (arith, (m.wholes.each b d lt).1, t.0)), (m.wholes.each b d lt).1);
         };
         frames_are = record {
@@ -148,24 +147,30 @@ module _ (design : Design) (tokens : List Token) (points : List Shape) (blocks :
               let a : get_or (take count frames) i d ≡ get_or frames i d = get_or-take count frames i d li' in
               let b : get_or (take count frames) j d ≡ get_or frames j d = get_or-take count frames j d lj' in
               omega (arith, ap (λ v. v.end) a, ap (λ v. v.end) b, m.frames_are.ends i j d lt (omega arith));
+          tight = λ k d lt.
+              let lt' : k < count = omega (arith, n) in
+              ap (λ v. v.end) (get_or-take count frames k d lt') ∙ m.frames_are.tight k d (omega arith)
+              ∙ ap (needed whole) (sym (take-take (k + 1) count frames (omega (arith, lt'))));
         };
       }
 
--- the first frames end where the points are cut off
-pub end-cut : (frames : List Frame) (whole count e : ℕ) → count ≤ length frames → IsEndOf frames whole count e → IsEndOf (take count frames) whole (length (take count frames)) e
-end-cut frames whole count e le at_end =
-    let n : length (take count frames) ≡ count = length-take-le count frames le in
-    record {
-      none = λ z. at_end.none (omega (arith, z, n));
-      last = λ d lt. (let inside : length (take count frames) - 1 < count = omega (arith, lt, n) in
-          ap (λ f. f.end) (get_or-take count frames (length (take count frames) - 1) d inside)
-          ∙ ap (λ (k : ℕ). (get_or frames (k - 1) d).end) n
-          ∙ at_end.last d (omega (arith, lt, n)));
-    }
+-- they end where the points stop that they need
+pub end-tight : (design : Design) (tokens : List Token) (points : List Shape) (blocks : List Kept) (whole : ℕ) (frames : List Frame) (count e : ℕ) (d : Frame) → IsStored design tokens points blocks whole frames → count ≤ length frames → IsEndOf frames whole count e → e ≡ needed whole (take count frames)
+end-tight design tokens points blocks whole frames count e d m le at_end = elim (cases_lt 0 count) [
+  | inl some ↦ (let same : count - 1 + 1 ≡ count = omega (arith, some) in
+      sym (at_end.last d some) ∙ m.frames_are.tight (count - 1) d (omega (arith, some, le)) ∙ ap (λ (v : ℕ). needed whole (take v frames)) same)
+  | inr none ↦ (let same : count ≡ 0 = omega (arith, none) in
+      let nothing : needed whole [] ≡ whole = omega arith in
+      at_end.none same ∙ sym nothing ∙ ap (λ (v : ℕ). needed whole (take v frames)) (sym same))
+]
+
+-- one frame more needs the points that it added
+pub needed-pushed : (whole : ℕ) (frames : List Frame) (f : Frame) → needed whole (frames ++ f ∷ []) ≡ needed whole frames + added f
+needed-pushed whole frames f = omega (arith, sum_by_push added frames f)
 
 -- one frame more, whose points end the list
-pub stored-pushed : (design : Design) (tokens : List Token) (points : List Shape) (blocks : List Kept) (whole : ℕ) (frames : List Frame) (f : Frame) → IsStored design tokens points blocks whole frames → IsNext tokens (length frames) f.token → IsFrame design tokens points whole (length frames + 1) f → f.end ≡ length points → IsStored design tokens points blocks whole (frames ++ f ∷ [])
-stored-pushed design tokens points blocks whole frames f m next here last =
+pub stored-pushed : (design : Design) (tokens : List Token) (points : List Shape) (blocks : List Kept) (whole : ℕ) (frames : List Frame) (f : Frame) → IsStored design tokens points blocks whole frames → IsNext tokens (length frames) f.token → IsFrame design tokens points whole (length frames + 1) f → f.end ≡ length points → f.end ≡ needed whole frames + added f → IsStored design tokens points blocks whole (frames ++ f ∷ [])
+stored-pushed design tokens points blocks whole frames f m next here last exact =
     let n : length (frames ++ f ∷ []) ≡ length frames + 1 = length_push frames f in
     record {
       wholes = m.wholes;
@@ -179,5 +184,12 @@ stored-pushed design tokens points blocks whole frames f m next here last =
               (subst (λ v. IsFrame design tokens points whole (v + 1) f) same here))
         ];
         ends = all_pairs_push (λ a b. a.end ≤ b.end) frames f m.frames_are.ends (λ k d lk. omega (arith, (m.frames_are.each k d lk).end, last));
+        tight = λ k d lk. elim (cases_lt k (length frames)) [
+          | inl before ↦ ap (λ v. v.end) (get_or_append_left frames (f ∷ []) d k before) ∙ m.frames_are.tight k d before
+              ∙ ap (needed whole) (sym (take-append-le (k + 1) frames (f ∷ []) (omega (arith, before))))
+          | inr at_last ↦ (let same : length frames ≡ k = omega (arith, n) in
+              ap (λ v. v.end) (get_or_push frames f d k same) ∙ exact ∙ sym (needed-pushed whole frames f)
+              ∙ ap (needed whole) (sym (take_all (k + 1) (frames ++ f ∷ []) (omega (arith, n, same)))))
+        ];
       };
     }

@@ -1,20 +1,16 @@
 -- The least values of a curve.
-use Rattle.std.proofs.Common.{◌≡◌, ◌≢◌, ℕ, zero, suc, ◌+◌, ◌-◌, ◌*◌, ◌<◌, ◌≤◌, inl, inr, List, [], ◌∷◌, ◌++◌, length, get_or, take, map, max, refl, sym, ap, ◌∙◌, subst, arith}
-use Rattle.std.specs.Prelude.{All, AllPairs, Contains, sum_by}
+use Rattle.std.proofs.Common.{◌≡◌, ◌≢◌, ℕ, zero, suc, ◌-◌, ◌<◌, ◌≤◌, inl, inr, List, [], ◌∷◌, length, get_or, refl, sym, ap, ◌∙◌, subst, arith}
+use Rattle.std.specs.Prelude.{All, AllPairs, Contains}
 use Rattle.std.proofs.Math.Nat.{mul-le-mul}
-use Rattle.std.proofs.lemmas.List.{map_more, take_all, get_or_default}
+use Rattle.std.proofs.lemmas.List.{get_or_default}
 use Rattle.std.proofs.lemmas.Bool.{cases_lt}
-use Rattle.std.proofs.lemmas.List.Sums.{sum_by-append}
-use Rattle.std.proofs.lemmas.List.Elements.{All-more, Contains-get_or}
-use Rattle.std.proofs.lemmas.List.{take_more}
+use Rattle.std.proofs.lemmas.List.Elements.{Contains-get_or}
 use Rattle.sf_model.specs.declared.parts.Shape.{Shape}
 use Rattle.sf_curves.specs.Points.{IsSlimmer, IsLeastArea, IsWithin, IsNoLarger, IsCurveOf, area_of}
 use Rattle.sf_curves.proofs.Members.{not_in_nil, Contains-cons_cases}
 use Rattle.std.proofs.lemmas.List.Elements.{All-head, All-tail}
 use Rattle.sf_model.specs.declared.TheConstants.{MAX}
 use Rattle.sf_model.specs.declared.parts.Outline.{Outline}
-use Rattle.sf_frames.specs.declared.least.Least.{Least}
-use Rattle.sf_standard.specs.Standard.{greatest}
 use Rattle.sf_frames.specs.Least.{least_by, width_of, height_of, IsLeastOf, AllSmall}
 
 -- the least value is at most that of each point

@@ -11,3 +11,4 @@ pub mod WholeSpans
 pub mod Smallness
 pub mod Starting
 pub mod Pushing
+pub mod Rooms

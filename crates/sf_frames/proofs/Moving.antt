@@ -1,6 +1,6 @@
 -- The sums over the groups after a block was moved onto the stack.
-use Rattle.std.proofs.Common.{◌≡◌, ℕ, suc, ◌+◌, ◌<◌, ◌≤◌, max, List, [], ◌∷◌, ◌++◌, length, map, take, drop, refl, sym, ap, ◌∙◌, subst, arith, Bool, true, false, ◌==◌}
-use Rattle.std.specs.Prelude.{sum, count_by, cond, Option, Some, None, IsTrue}
+use Rattle.std.proofs.Common.{◌≡◌, ℕ, ◌+◌, ◌<◌, List, [], ◌∷◌, length, map, take, drop, refl, sym, ap, ◌∙◌, subst, arith, true, ◌==◌}
+use Rattle.std.specs.Prelude.{sum, count_by, cond, Option, Some, None}
 use Rattle.std.specs.List.{list_any}
 use Rattle.std.proofs.lemmas.Bool.{cond-true, eq-eqb}
 use Rattle.std.proofs.lemmas.List.{take-append-drop, length-map}
@@ -19,7 +19,7 @@ use Rattle.sf_standard.specs.Standard.{area, least_of, greatest, has_none, plans
 use Rattle.sf_standard.proofs.Unmoved.{Moves, block-moves, sum-move, greatest-move, any-move}
 use Rattle.sf_frames.specs.declared.sums.Sums.{Sums}
 use Rattle.sf_frames.specs.Kept.{path, groups_at, IsNext}
-use Rattle.sf_frames.specs.Sums.{AreSums, AreSumsOrNone}
+use Rattle.sf_frames.specs.Sums.{AreSumsOrNone}
 use Rattle.sf_frames.proofs.Topping.{take-next, block-inside}
 
 -- sums over groups stay the same when one group stands at another place

@@ -1,5 +1,5 @@
 -- One frame more.
-use Rattle.std.proofs.Common.{◌≡◌, ℕ, ◌+◌, ◌-◌, ◌<◌, ◌≤◌, List, [], ◌∷◌, ◌++◌, length, get_or, refl, sym, ap, ◌∙◌, subst, arith, length-append}
+use Rattle.std.proofs.Common.{◌≡◌, ℕ, ◌+◌, ◌-◌, ◌<◌, List, [], ◌∷◌, ◌++◌, length, get_or, refl, sym, ap, ◌∙◌, subst, arith, length-append}
 use Rattle.std.specs.Prelude.{AllPairs, MatchOption, Option, slice_range}
 use Rattle.sf_model.specs.declared.design.Design.{Design}
 use Rattle.sf_model.specs.declared.parts.Shape.{Shape}
@@ -11,6 +11,7 @@ use Rattle.sf_node.specs.Children.{IsSubproblem}
 use Rattle.sf_curves.specs.Points.{IsSlimmer, IsCombination}
 use Rattle.sf_standard.specs.Items as item
 use Rattle.sf_frames.specs.declared.direction.Direction.{Direction}
+use Rattle.sf_frames.specs.declared.direction.Direction.TheVariants.{Beside, Above}
 use Rattle.sf_frames.specs.declared.frame.Frame.{Frame}
 use Rattle.sf_frames.specs.declared.frame.Kept.{Kept}
 use Rattle.sf_frames.specs.declared.least.Least.{Least}
@@ -18,8 +19,9 @@ use Rattle.sf_frames.specs.declared.sums.Sums.{Sums}
 use Rattle.sf_frames.specs.Curves.{IsItemCurve}
 use Rattle.sf_frames.specs.Direction.{token_in, item_in, plan_in, size_in}
 use Rattle.sf_frames.specs.Least.{IsLeastOf, AllSmall}
-use Rattle.sf_frames.specs.Sums.{AreSumsOrNone, IsLeastOrNone, AreWithin, joined}
-use Rattle.sf_frames.specs.Kept.{items_at, ways, groups_at, IsKept, IsFrame, IsStored, IsNext, ArePair, at_end}
+use Rattle.sf_frames.specs.Sums.{AreSumsOrNone, AreWithin, joined}
+use Rattle.sf_frames.specs.Kept.{items_at, groups_at, IsKept, IsStored, IsNext, ArePair, at_end, made_for, needed}
+use Rattle.sf_frames.specs.Room.{IsTopCurve}
 use Rattle.sf_frames.proofs.Joining.{curve-joined}
 use Rattle.sf_frames.proofs.Keeping.{stored-appended, stored-pushed}
 use Rattle.sf_frames.proofs.Moving.{sums-block}
@@ -29,10 +31,15 @@ use Rattle.sf_frames.proofs.Topping.{items-block, items-joined, pair-top, block-
 use Rattle.sf_frames.proofs.Ways.{way_in}
 use Rattle.sf_frames.proofs.WholeSpans.{curve-small, least-kept, kept-end}
 
+-- an operator makes the points of its item's curve
+pub made-joined : (d : Direction) (k : Kept) → made_for (token_in d) k ≡ k.to - k.from
+made-joined Beside k = refl
+made-joined Above k = refl
+
 -- with the frame of a block the path is kept for one token more
-pub block-pushed : (design : Design) (node : Parts) (points : List Shape) (blocks : List Kept) (whole : ℕ) (frames new : List Frame) (b i below end : ℕ) (d : Kept) (s : Option Sums) → IsSubproblem design node → length blocks ≡ block_count design → IsStored design node.tokens points blocks whole frames → IsNext node.tokens (length frames) (token.Block b) → i ≡ b → below ≡ length frames → end ≡ length points → AreSumsOrNone (groups_at design node.tokens (length frames)) s
+pub block-pushed : (design : Design) (node : Parts) (points : List Shape) (blocks : List Kept) (whole : ℕ) (frames new : List Frame) (b i below end : ℕ) (d : Kept) (s : Option Sums) → IsSubproblem design node → length blocks ≡ block_count design → IsStored design node.tokens points blocks whole frames → length points ≡ needed whole frames → IsNext node.tokens (length frames) (token.Block b) → i ≡ b → below ≡ length frames → end ≡ length points → AreSumsOrNone (groups_at design node.tokens (length frames)) s
     → new ≡ frames ++ record { token = token.Block b; curve = get_or blocks i d; below = below; end = end; sums = s } ∷ [] → IsStored design node.tokens points blocks whole new
-block-pushed design node points blocks whole frames new b i below end d s sub all m next same is_below is_end sums is =
+block-pushed design node points blocks whole frames new b i below end d s sub all m exact next same is_below is_end sums is =
     let there : i < length blocks = omega (arith, block-inside design node (length frames) b sub next, all, same) in
     let w = subst (λ v. IsKept design points (item.Block v) (get_or blocks i d)) same (m.wholes.each i d there).0 in
     subst (IsStored design node.tokens points blocks whole) (sym is)
@@ -45,7 +52,7 @@ block-pushed design node points blocks whole frames new b i below end d s sub al
       after = omega (arith, m.wholes.room, is_end);
       end = omega (arith, is_end);
       sums = sums-block design node (length frames) b s sub next sums;
-    }) is_end)
+    }) is_end (omega (arith, is_end, exact)))
 
 -- the curve of the two on top
 module _ (design : Design) (node : Parts) (points made : List Shape) (whole : ℕ) (frames : List Frame) (d : Direction) (l r : Frame) (pair : ArePair design node.tokens points whole frames l r)
@@ -55,6 +62,16 @@ module _ (design : Design) (node : Parts) (points made : List Shape) (whole : �
   joined-curve =
       curve-joined (item_in d) (plan_in d) (size_in d) (way_in d) design (root design) pair.left.item pair.right.item
       (slice_range points l.curve.from l.curve.to) (slice_range points r.curve.from r.curve.to) made pair.left.kept.curve pair.right.kept.curve combines
+
+  -- it is the curve on top after the operator
+  pub joined-top : IsNext node.tokens (length frames) (token_in d) → AllPairs IsSlimmer made → IsTopCurve design (items_at node.tokens (length frames + 1)) made
+  joined-top next falls = record {
+    item = item_in d pair.left.item pair.right.item;
+    under = items_at node.tokens l.below;
+    top = items-joined node.tokens (length frames) d pair.left.item pair.right.item (items_at node.tokens l.below) next (pair-top design node.tokens points whole frames l r pair);
+    curve = joined-curve;
+    falls = falls;
+  }
 
   -- its points have small sides
   pub joined-small : AllSmall made
@@ -68,10 +85,10 @@ module _ (design : Design) (node : Parts) (points made : List Shape) (whole : �
       (least-kept design made (item_in d pair.left.item pair.right.item) o joined-curve least)
 
   -- with its points at the end and the frame of the operator the path is kept for one token more
-  pub joined-pushed : (blocks : List Kept) (all : List Shape) (new : List Frame) (s sums : Option Sums) (o : Option Least) (k : Kept) → IsStored design node.tokens points blocks whole frames → IsNext node.tokens (length frames) (token_in d) → AllPairs IsSlimmer made → MatchOption o (made ≡ []) (IsLeastOf made)
+  pub joined-pushed : (blocks : List Kept) (all : List Shape) (new : List Frame) (s sums : Option Sums) (o : Option Least) (k : Kept) → IsStored design node.tokens points blocks whole frames → length points ≡ needed whole frames → IsNext node.tokens (length frames) (token_in d) → AllPairs IsSlimmer made → MatchOption o (made ≡ []) (IsLeastOf made)
       → AreSumsOrNone (groups_at design node.tokens (length frames)) s → sums ≡ joined s l.curve.least r.curve.least o → all ≡ points ++ made → k ≡ at_end points made o
       → new ≡ frames ++ record { token = token_in d; curve = k; below = l.below; end = k.to; sums = sums } ∷ [] → IsStored design node.tokens all blocks whole new
-  joined-pushed blocks all new s sums o k m next falls least before is_sums is_all is_kept is_new =
+  joined-pushed blocks all new s sums o k m exact next falls least before is_sums is_all is_kept is_new =
       let i = item_in d pair.left.item pair.right.item in
       let n = length-append points made in
       let f : Frame = record { token = token_in d; curve = at_end points made o; below = l.below; end = length points + length made; sums = joined s l.curve.least r.curve.least o } in
@@ -87,4 +104,4 @@ module _ (design : Design) (node : Parts) (points made : List Shape) (whole : �
         after = omega (arith, m.wholes.room);
         end = omega (arith, n);
         sums = sums-after design node.tokens (length frames) d pair.left.item pair.right.item (items_at node.tokens l.below) s l.curve.least r.curve.least o next (pair-top design node.tokens points whole frames l r pair) before pair.left.kept.least pair.right.kept.least (least-kept design made i o joined-curve least);
-      }) (omega (arith, n))))
+      }) (omega (arith, n)) (omega (arith, exact, made-joined d (at_end points made o)))))

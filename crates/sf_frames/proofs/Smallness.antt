@@ -1,6 +1,6 @@
 -- Least areas and their sums are machine numbers.
-use Rattle.std.proofs.Common.{◌≡◌, ℕ, suc, ◌+◌, ◌*◌, ◌<◌, ◌≤◌, List, [], ◌∷◌, ◌++◌, length, take, drop, map, refl, sym, ap, ◌∙◌, subst, arith, true, false, length-append}
-use Rattle.std.specs.Prelude.{sum, sum_by, count_by, filter, Contains, ◌||◌, Bool, cond, Option, Some, None, ⊤}
+use Rattle.std.proofs.Common.{◌≡◌, ℕ, suc, ◌+◌, ◌*◌, ◌≤◌, List, [], ◌∷◌, ◌++◌, length, take, drop, map, refl, ap, subst, arith, true, false, length-append}
+use Rattle.std.specs.Prelude.{sum_by, filter, Contains, ◌||◌, Bool, cond, Option, Some, None}
 use Rattle.std.specs.List.{list_any, range_with_len}
 use Rattle.std.proofs.Math.Nat.{mul-le-mul}
 use Rattle.std.proofs.lemmas.Bool.{cond_both}
@@ -9,7 +9,7 @@ use Rattle.std.proofs.lemmas.List.FromFn.{length-range_with_len}
 use Rattle.std.proofs.lemmas.List.Sums.{sum_by-cons, sum_by-append, sum-map}
 use Rattle.sf_model.specs.declared.design.Design.{Design}
 use Rattle.sf_model.specs.Legal.{block_count}
-use Rattle.sf_model.specs.Tree.{Tree, width, height}
+use Rattle.sf_model.specs.Tree.{Tree}
 use Rattle.sf_model.proofs.Counting.{length-at_most_once}
 use Rattle.sf_polish.specs.declared.expr.Token.{Token}
 use Rattle.sf_polish.specs.declared.expr.Token.TheVariants as token

@@ -1,8 +1,8 @@
 -- The sums over the groups after two items became one.
-use Rattle.std.proofs.Common.{◌≡◌, ℕ, suc, ◌+◌, ◌-◌, ◌*◌, ◌<◌, ◌≤◌, max, inl, inr, List, [], ◌∷◌, ◌++◌, length, map, take, refl, sym, ap, ◌∙◌, subst, arith, Bool, true, false, ◌==◌}
-use Rattle.std.specs.Prelude.{sum, ◌||◌, Contains, filter, count_by, cond, Option, Some, None}
+use Rattle.std.proofs.Common.{◌≡◌, ℕ, suc, ◌+◌, ◌-◌, ◌≤◌, max, List, [], ◌∷◌, ◌++◌, length, map, take, refl, sym, ap, ◌∙◌, subst, arith, Bool, true, false, ◌==◌}
+use Rattle.std.specs.Prelude.{◌||◌, Contains, filter, count_by, cond, Option, Some, None}
 use Rattle.std.specs.List.{list_any, range_with_len}
-use Rattle.std.proofs.lemmas.Bool.{ne_eqb, eqb-true, true≢false}
+use Rattle.std.proofs.lemmas.Bool.{eqb-true, true≢false}
 use Rattle.std.proofs.lemmas.List.Sums.{sum_by-cons, sum_by-append, sum-map}
 use Rattle.sf_model.specs.declared.design.Design.{Design}
 use Rattle.sf_model.specs.declared.TheConstants.{MAX}
@@ -10,7 +10,6 @@ use Rattle.sf_model.specs.Tree.{Tree, width, height}
 use Rattle.sf_polish.specs.declared.expr.Token.{Token}
 use Rattle.sf_polish.specs.declared.expr.Token.TheVariants as token
 use Rattle.sf_polish.specs.Normal.{is_block}
-use Rattle.sf_node.specs.Parts.{Parts}
 use Rattle.sf_node.specs.Subproblem.{root}
 use Rattle.sf_node.specs.Children.{is_unused}
 use Rattle.sf_curves.specs.Choices.{size_of}
@@ -18,7 +17,7 @@ use Rattle.sf_curves.specs.Points.{IsNoLarger}
 use Rattle.sf_curves.proofs.Members.{not_in_nil, Contains-head, Contains-tail}
 use Rattle.sf_standard.specs.Items as item
 use Rattle.sf_standard.specs.Items.{Item, fits, plans, pairs, span_shapes, fitting, items_of, unused, read}
-use Rattle.sf_standard.specs.Standard.{area, least_of, greatest, has_none, plans_of}
+use Rattle.sf_standard.specs.Standard.{area, least_of, has_none}
 use Rattle.sf_standard.proofs.Listed.{Contains-filter, Contains-from_filter, Contains-from_pairs}
 use Rattle.sf_standard.proofs.Cutting.{fits-true, least_of-le}
 use Rattle.sf_standard.proofs.Exact.{fits-from}

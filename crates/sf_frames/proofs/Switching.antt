@@ -1,15 +1,15 @@
 -- The same frames for another path that begins with the same tokens.
-use Rattle.std.proofs.Common.{◌≡◌, ℕ, ◌+◌, ◌<◌, ◌≤◌, List, [], ◌∷◌, length, take, map, get_or, refl, sym, ap, ◌∙◌, subst, arith}
+use Rattle.std.proofs.Common.{◌≡◌, ℕ, ◌+◌, ◌≤◌, List, [], ◌∷◌, length, take, map, get_or, sym, ap, ◌∙◌, subst, arith}
 use Rattle.std.proofs.lemmas.List.{take-take, length-take-le, length-map, take_all}
 use Rattle.sf_model.specs.declared.design.Design.{Design}
 use Rattle.sf_model.specs.declared.parts.Shape.{Shape}
 use Rattle.sf_polish.specs.declared.expr.Token.{Token}
-use Rattle.sf_standard.specs.Items.{Item, read}
+use Rattle.sf_standard.specs.Items.{read}
 use Rattle.sf_frames.specs.declared.frame.Frame.{Frame}
 use Rattle.sf_frames.specs.declared.frame.Kept.{Kept}
 use Rattle.sf_standard.specs.Standard.{plans_of}
 use Rattle.sf_frames.specs.Sums.{AreSumsOrNone}
-use Rattle.sf_frames.specs.Kept.{path, items_at, groups_at, IsFrame, AreFrames, IsStored, IsEndOf, token_of}
+use Rattle.sf_frames.specs.Kept.{path, items_at, IsFrame, IsStored, IsEndOf, token_of}
 use Rattle.sf_frames.proofs.Keeping.{stored-cut}
 
 module _ (design : Design) (a b : List Token) (n : ℕ) (same : take n a ≡ take n b) where
@@ -43,6 +43,7 @@ module _ (design : Design) (a b : List Token) (n : ℕ) (same : take n a ≡ tak
       are = m.frames_are.are ∙ begins-same (length frames) le;
       each = λ k d lt. frame-switched points whole (k + 1) (get_or frames k d) (omega arith) (m.frames_are.each k d lt);
       ends = m.frames_are.ends;
+      tight = m.frames_are.tight;
     };
   }
 

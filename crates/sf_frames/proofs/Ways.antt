@@ -1,6 +1,5 @@
 -- The two directions are ways to join.
 use Rattle.std.proofs.Common.{◌≡◌, List, ◌∷◌, [], refl}
-use Rattle.sf_model.specs.declared.parts.Shape.{Shape}
 use Rattle.sf_standard.specs.Items.{Item, read}
 use Rattle.sf_frames.specs.declared.direction.Direction.{Direction}
 use Rattle.sf_frames.specs.declared.direction.Direction.TheVariants.{Beside, Above}

@@ -1,13 +1,13 @@
 -- The whole curves of blocks, and subproblems whose spans are whole.
-use Rattle.std.proofs.Common.{◌≡◌, ℕ, suc, ◌+◌, ◌-◌, ◌<◌, ◌≤◌, List, [], ◌∷◌, ◌++◌, length, take, drop, map, get_or, refl, sym, ap, ◌∙◌, subst, inl, inr, arith, length-append}
-use Rattle.std.specs.Prelude.{AllPairs, slice_range, MatchOption, Option, Some, None, true}
+use Rattle.std.proofs.Common.{◌≡◌, ℕ, ◌+◌, ◌-◌, ◌<◌, ◌≤◌, List, [], ◌∷◌, ◌++◌, length, take, get_or, refl, sym, ap, ◌∙◌, subst, inl, inr, arith, length-append}
+use Rattle.std.specs.Prelude.{AllPairs, slice_range, MatchOption, Option, Some, None}
 use Rattle.std.proofs.lemmas.List.{take_all, length_push, get_or_append_left, get_or_push, get_or-map, get_or_default, drop-append-le, drop_all}
+use Rattle.std.proofs.lemmas.List.Sums.{sum_by_push}
 use Rattle.std.proofs.lemmas.Bool.{cases_lt}
 use Rattle.sf_model.specs.declared.design.Design.{Design}
 use Rattle.sf_model.specs.declared.parts.Block.{Block as Block'}
 use Rattle.sf_model.specs.declared.parts.Shape.{Shape}
 use Rattle.sf_model.specs.Legal.{block_count, shapes_of}
-use Rattle.sf_model.specs.Tree.{width, height}
 use Rattle.sf_polish.specs.declared.expr.Token.TheVariants as token
 use Rattle.sf_node.specs.declared.step.Step.{Step}
 use Rattle.sf_node.specs.declared.step.Step.TheVariants.{Beside, Above, Block, Left, Right}
@@ -17,14 +17,14 @@ use Rattle.sf_node.specs.Children.{after, walk, IsSubproblem}
 use Rattle.sf_curves.specs.Points.{IsSlimmer, IsCurveOf, area_of}
 use Rattle.sf_standard.specs.Items as item
 use Rattle.sf_standard.specs.Items.{Item, span_shapes}
-use Rattle.sf_standard.specs.Standard.{has_none, plans_of}
+use Rattle.sf_standard.specs.Standard.{plans_of}
 use Rattle.std.proofs.Math.Nat.{mul-le-mul}
 use Rattle.sf_frames.specs.declared.frame.Kept.{Kept}
 use Rattle.sf_frames.specs.declared.least.Least.{Least}
 use Rattle.sf_frames.specs.Curves.{IsItemCurve}
 use Rattle.sf_frames.specs.Least.{IsLeastOf, AllSmall, width_of, height_of}
-use Rattle.sf_frames.specs.Sums.{IsLeastFor, IsLeastOrNone}
-use Rattle.sf_frames.specs.Kept.{path, ways, groups_at, IsKept, AreWhole, IsStored, at_end}
+use Rattle.sf_frames.specs.Sums.{IsLeastOrNone}
+use Rattle.sf_frames.specs.Kept.{path, ways, groups_at, point_count, IsKept, AreWhole, IsStored, at_end}
 use Rattle.sf_frames.proofs.Joining.{curve-block}
 use Rattle.sf_frames.proofs.ItemLeasts.{least-item, item-some, item-none}
 use Rattle.sf_frames.proofs.Keeping.{kept-appended}
@@ -83,6 +83,7 @@ wholes-more design points made blocks o m lt curve falls least =
     record {
       few = omega (arith, n, lt);
       room = omega arith;
+      tight = omega (arith, p, m.tight, sum_by_push point_count blocks (at_end points made o));
       each = λ b d lb. elim (cases_lt b (length blocks)) [
         | inl before ↦ subst (P b) (sym (get_or_append_left blocks (at_end points made o ∷ []) d b before))
             (kept-appended design points made (item.Block b) (get_or blocks b d) (m.each b d before).0, omega (arith, (m.each b d before).1, p))
@@ -110,7 +111,7 @@ wholes-added design points made all blocks new o k m lt curve falls least is_all
 
 -- with no block there is nothing to keep
 pub wholes-none : (design : Design) → AreWhole design [] [] 0
-wholes-none design = record { few = omega arith; room = omega arith; each = λ b d lt. absurd (omega (arith, lt)) }
+wholes-none design = record { few = omega arith; room = omega arith; tight = refl; each = λ b d lt. absurd (omega (arith, lt)) }
 
 -- no step makes more than one token
 tokens-few : (ss : List Step) (node : Parts) → length (walk node ss).tokens ≤ length node.tokens + length ss
@@ -149,5 +150,5 @@ measured-groups design node n sub whole all =
 pub stored-none : (design : Design) (points : List Shape) (blocks : List Kept) (whole : ℕ) → AreWhole design points blocks whole → IsStored design [] points blocks whole []
 stored-none design points blocks whole m = record {
   wholes = m;
-  frames_are = record { few = omega arith; are = refl; each = λ k d lt. absurd (omega (arith, lt)); ends = λ i j d lt lj. absurd (omega (arith, lj)) };
+  frames_are = record { few = omega arith; are = refl; each = λ k d lt. absurd (omega (arith, lt)); ends = λ i j d lt lj. absurd (omega (arith, lj)); tight = λ k d lt. absurd (omega (arith, lt)) };
 }

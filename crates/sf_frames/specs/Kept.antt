@@ -1,5 +1,5 @@
 -- What the frames of a path of tokens tell.
-use Rattle.std.specs.Prelude.{◌≡◌, ◌≢◌, ℕ, ◌+◌, ◌-◌, ◌<◌, ◌≤◌, List, [], ◌∷◌, ◌++◌, length, take, map, AllPairs, Option, slice_index_or, slice_range}
+use Rattle.std.specs.Prelude.{◌≡◌, ◌≢◌, ℕ, ◌+◌, ◌-◌, ◌<◌, ◌≤◌, List, [], ◌∷◌, length, take, map, AllPairs, Option, sum_by, slice_index_or, slice_range}
 use Rattle.sf_model.specs.declared.design.Design.{Design}
 use Rattle.sf_model.specs.declared.parts.Shape.{Shape}
 use Rattle.sf_model.specs.Legal.{block_count}
@@ -37,6 +37,10 @@ groups_at design tokens k = plans_of design (path design (take k tokens))
 abbrev pub points_of : List Shape → Kept → List Shape
 points_of points k = slice_range points k.from k.to
 
+-- how many points a kept curve has
+abbrev pub point_count : Kept → ℕ
+point_count k = k.to - k.from
+
 -- these points are the curve of the item, and its least values are told
 pub record IsKept (design : Design) (points : List Shape) (i : Item) (k : Kept) : Type 0 where
   pub order : k.from ≤ k.to
@@ -49,6 +53,7 @@ pub record IsKept (design : Design) (points : List Shape) (i : Item) (k : Kept) 
 pub record AreWhole (design : Design) (points : List Shape) (blocks : List Kept) (whole : ℕ) : Type 0 where
   pub few : length blocks ≤ block_count design
   pub room : whole ≤ length points
+  pub tight : whole ≡ sum_by point_count blocks
   pub each : (b : ℕ) (d : Kept) → b < length blocks → IsKept design points (Block b) (slice_index_or blocks b d) × ((slice_index_or blocks b d).to ≤ whole)
 
 -- the frame of the k-th token tells the item on top after k tokens; what lies under it are the items after fewer tokens
@@ -66,12 +71,27 @@ pub record IsFrame (design : Design) (tokens : List Token) (points : List Shape)
 abbrev pub token_of : Frame → Token
 token_of f = f.token
 
--- the frames of the first tokens, in their order
+-- how many points were made for a token: none for a block, whose curve is there
+abbrev pub made_for : Token → Kept → ℕ
+made_for (token.Block b) k = 0
+made_for token.Beside k = point_count k
+made_for token.Above k = point_count k
+
+-- how many points a frame added
+abbrev pub added : Frame → ℕ
+added f = made_for f.token f.curve
+
+-- how many points the whole curves and these frames have
+abbrev pub needed : ℕ → List Frame → ℕ
+needed whole frames = whole + sum_by added frames
+
+-- the frames of the first tokens, in their order, with no point between theirs
 pub record AreFrames (design : Design) (tokens : List Token) (points : List Shape) (whole : ℕ) (frames : List Frame) : Type 0 where
   pub few : length frames ≤ length tokens
   pub are : map token_of frames ≡ take (length frames) tokens
   pub each : (k : ℕ) (d : Frame) → k < length frames → IsFrame design tokens points whole (k + 1) (slice_index_or frames k d)
   pub ends : AllPairs (λ f g. f.end ≤ g.end) frames
+  pub tight : (k : ℕ) (d : Frame) → k < length frames → (slice_index_or frames k d).end ≡ needed whole (take (k + 1) frames)
 
 -- the whole curves and the frames
 pub record IsStored (design : Design) (tokens : List Token) (points : List Shape) (blocks : List Kept) (whole : ℕ) (frames : List Frame) : Type 0 where
@@ -106,10 +126,6 @@ pub record ArePair (design : Design) (tokens : List Token) (points : List Shape)
 -- points that are put at the end
 abbrev pub at_end : List Shape → List Shape → Option Least → Kept
 at_end points made least = record { from = length points; to = length points + length made; least = least }
-
--- the list goes on from another
-abbrev pub IsLonger : List Shape → List Shape → Type 0
-IsLonger old new = (more : List Shape) × (new ≡ old ++ more)
 
 -- how many points the first frames need, beside the whole curves
 pub record IsEndOf (frames : List Frame) (whole count e : ℕ) : Type 0 where

@@ -7,3 +7,5 @@ pub mod Sums
 pub mod Measured
 -- what it keeps of a path
 pub mod Kept
+-- how much it keeps
+pub mod Room

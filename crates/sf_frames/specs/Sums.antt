@@ -1,5 +1,5 @@
 -- The sums over groups of plans, and what becomes of them where two groups are joined.
-use Rattle.std.specs.Prelude.{◌≡◌, ℕ, ◌+◌, ◌-◌, ◌≤◌, max, List, map, sum, true, false, Option, Some, None, MatchOption, ⊤}
+use Rattle.std.specs.Prelude.{◌≡◌, ◌+◌, ◌-◌, ◌≤◌, max, List, map, sum, true, false, Option, Some, None, MatchOption, ⊤}
 use Rattle.std.specs.List.{list_any}
 use Rattle.sf_model.specs.Tree.{Tree, width, height}
 use Rattle.sf_standard.specs.Standard.{area, least_of, greatest, has_none}

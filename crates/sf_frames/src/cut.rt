@@ -1,7 +1,7 @@
 //! The frames that another path leaves standing: those of the tokens with which both begin.
 
 ghost use Rattle.std.specs.Prelude.{◌≡◌, ◌≤◌, take, map, length};
-ghost use Rattle.sf_frames.specs.Kept.{IsStored, IsStoredPath, IsEndOf, IsCommon, token_of};
+ghost use Rattle.sf_frames.specs.Kept.{IsStored, IsStoredPath, IsEndOf, IsCommon, token_of, needed};
 
 use crate::frame::{Frame, Kept};
 use sf_curves::Point;
@@ -46,7 +46,8 @@ pub fn back_to(
     ensures stored { IsStored design.now tokens.now points.new.items blocks.now whole frames.new.items }
     ensures first { frames.new.items ≡ take (length frames.new.items) frames.old.items }
     ensures most { IsCommon (map token_of frames.old.items) tokens.now (length frames.new.items) }
-    ensures rest { IsEndOf frames.new.items whole (length frames.new.items) (length points.new.items) }
+    ensures rest { length points.new.items ≡ needed whole frames.new.items }
+    ensures fewer { length points.new.items ≤ length points.old.items }
 {
     let count = common(frames, tokens);
     let end = end_of(frames, count, whole);

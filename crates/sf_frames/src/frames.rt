@@ -1,6 +1,6 @@
 //! The frames of the path that was measured last.
 
-ghost use Rattle.std.specs.Prelude.{◌≡◌, length, IfOk};
+ghost use Rattle.std.specs.Prelude.{◌≡◌, ◌≢◌, length, IfOk};
 ghost use Rattle.sf_node.specs.Children.{IsSubproblem};
 
 use crate::cut::back_to;
@@ -17,7 +17,8 @@ use std::marker::Model;
 
 /// The frames of the path that was measured last, for one design. A contract sees that design. The points are
 /// those of the blocks' whole curves, of which there are `whole`, and then those of the frames; `list` is a
-/// buffer for the next curve.
+/// buffer for the next curve. No more is kept than `MOST_POINTS` and `MOST_FRAMES` say: from the frame on
+/// that would pass them the path is not kept.
 #[derive(Drop)]
 pub struct Frames<'a> {
     design: &'a Design,
@@ -35,14 +36,19 @@ impl<'a> Model for Frames<'a> {
     ghost Value = { Design };
 
     ghost use Rattle.sf_frames.specs.Kept.{IsStoredPath};
+    ghost use Rattle.sf_frames.specs.Room.{IsWithinRoom};
 
     ghost view = { λ s. s.design.now };
 
-    ghost invariant = { λ s. IsStoredPath s.design.now s.points.items s.blocks.items s.whole s.frames.items };
+    ghost invariant = { λ s.
+        IsStoredPath s.design.now s.points.items s.blocks.items s.whole s.frames.items
+        × IsWithinRoom s.points.items s.frames.items };
 }
 
 impl<'a> Frames<'a> {
     ghost use Rattle.sf_frames.specs.Measured.{IsMeasured};
+    ghost use Rattle.sf_frames.specs.Room.{HasRoom};
+    ghost use Rattle.sf_frames.specs.declared.measured.Measured.TheVariants.{TooLarge};
 
     /// No frame yet.
     pub fn new(alloc: Global, design: &'a Design) -> Frames<'a>
@@ -60,11 +66,14 @@ impl<'a> Frames<'a> {
     }
 
     /// What the items and the unused blocks of a subproblem take, whose spans are whole. Only the tokens are
-    /// measured by which it differs from the path before.
+    /// measured by which it differs from the path before. The answer is `TooLarge` just where the path needs
+    /// more points than are kept: those of the blocks' whole curves, and of the curve of each item that an
+    /// operator makes.
     pub fn measure(&mut self, node: &Node) -> Result<Measured, NoMemory>
         requires subproblem { IsSubproblem self.old node.now }
         requires whole { length node.now.steps ≡ length node.now.tokens }
         ensures measured { IfOk result (IsMeasured self.old node.now) }
+        ensures room { IfOk result (λ found. found ≢ TooLarge → HasRoom self.old node.now.tokens) }
         ensures same { self.new ≡ self.old }
     {
         let design = self.design;

@@ -1,16 +1,19 @@
 //! The frames of the tokens that have none yet.
 
-ghost use Rattle.std.specs.Prelude.{◌≡◌, ◌≤◌, ◌<◌, ◌+◌, length, true, false, IfOk, OnOk, AllPairs};
+ghost use Rattle.std.specs.Prelude.{◌≡◌, ◌≤◌, ◌+◌, length, true, false, IfOk, OnOk, AllPairs};
 ghost use Rattle.sf_model.specs.Legal.{block_count};
 ghost use Rattle.sf_polish.specs.declared.expr.Token.TheVariants as token;
 ghost use Rattle.sf_node.specs.Children.{IsSubproblem};
 ghost use Rattle.sf_curves.specs.Points.{IsSlimmer, IsCombination};
 ghost use Rattle.sf_frames.specs.Direction.{token_in, size_in};
-ghost use Rattle.sf_frames.specs.Kept.{IsStored, IsNext, points_of};
+ghost use Rattle.sf_frames.specs.declared.limits.TheConstants.{MOST_POINTS};
+ghost use Rattle.sf_frames.specs.Kept.{IsStored, IsNext, points_of, needed};
+ghost use Rattle.sf_frames.specs.Room.{NeedsMore, HasRoom};
 
 use crate::direction::{Direction, operator};
 use crate::frame::{Frame, Kept};
 use crate::least::least_of;
+use crate::limits::MOST_POINTS;
 use crate::sums::joined;
 use crate::top::{sums_now, top_pair};
 use crate::wholes::append;
@@ -19,9 +22,6 @@ use sf_model::{Design, Outline};
 use sf_node::Node;
 use sf_polish::Token;
 use std::alloc::AllocError as NoMemory;
-
-/// How many points are kept at most.
-const MOST_POINTS: usize = 4_000_000;
 
 /// Fills the list with the curve of two items, whose curves lie among the points.
 fn join(
@@ -63,8 +63,10 @@ fn push_block(
     requires subproblem { IsSubproblem design.now node.now }
     requires all { length blocks.now ≡ block_count design.now }
     requires stored { IsStored design.now node.now.tokens points.now blocks.now whole frames.old.items }
+    requires exact { length points.now ≡ needed whole frames.old.items }
     requires next { IsNext node.now.tokens (length frames.old.items) (token.Block block) }
     ensures stored { IsStored design.now node.now.tokens points.now blocks.now whole frames.new.items }
+    ensures exact { OnOk result (length points.now ≡ needed whole frames.new.items) }
     ensures count { OnOk result (length frames.new.items ≡ length frames.old.items + 1) }
 {
     let sums = sums_now(points, frames, blocks, whole, design, node);
@@ -93,12 +95,15 @@ fn push_joined(
     requires subproblem { IsSubproblem design.now node.now }
     requires all { length blocks.now ≡ block_count design.now }
     requires stored { IsStored design.now node.now.tokens points.old.items blocks.now whole frames.old.items }
+    requires exact { length points.old.items ≡ needed whole frames.old.items }
+    requires few { length points.old.items ≤ MOST_POINTS }
     requires next { IsNext node.now.tokens (length frames.old.items) (token_in direction) }
     ensures stored { IsStored design.now node.now.tokens points.new.items blocks.now whole frames.new.items }
+    ensures exact { OnOk result (length points.new.items ≡ needed whole frames.new.items) }
+    ensures few { length points.new.items ≤ MOST_POINTS }
     ensures count { IfOk result (λ pushed. pushed ≡ true
         → length frames.new.items ≡ length frames.old.items + 1) }
-    ensures many { IfOk result (λ pushed. pushed ≡ false
-        → 4000000 < length points.new.items + length list.new.items) }
+    ensures many { IfOk result (λ pushed. pushed ≡ false → NeedsMore design.now node.now.tokens) }
 {
     let (left, right) = top_pair(points, frames, blocks, whole, design, node, direction);
     let sums = sums_now(points, frames, blocks, whole, design, node);
@@ -140,12 +145,15 @@ fn push(
     requires subproblem { IsSubproblem design.now node.now }
     requires all { length blocks.now ≡ block_count design.now }
     requires stored { IsStored design.now node.now.tokens points.old.items blocks.now whole frames.old.items }
+    requires exact { length points.old.items ≡ needed whole frames.old.items }
+    requires few { length points.old.items ≤ MOST_POINTS }
     requires next { IsNext node.now.tokens (length frames.old.items) token }
     ensures stored { IsStored design.now node.now.tokens points.new.items blocks.now whole frames.new.items }
+    ensures exact { OnOk result (length points.new.items ≡ needed whole frames.new.items) }
+    ensures few { length points.new.items ≤ MOST_POINTS }
     ensures count { IfOk result (λ pushed. pushed ≡ true
         → length frames.new.items ≡ length frames.old.items + 1) }
-    ensures many { IfOk result (λ pushed. pushed ≡ false
-        → 4000000 < length points.new.items + length list.new.items) }
+    ensures many { IfOk result (λ pushed. pushed ≡ false → NeedsMore design.now node.now.tokens) }
 {
     match token {
         Token::Block(block) => {
@@ -188,11 +196,15 @@ pub fn extend(
     requires subproblem { IsSubproblem design.now node.now }
     requires all { length blocks.now ≡ block_count design.now }
     requires stored { IsStored design.now node.now.tokens points.old.items blocks.now whole frames.old.items }
+    requires exact { length points.old.items ≡ needed whole frames.old.items }
+    requires few { length points.old.items ≤ MOST_POINTS }
     ensures stored { IsStored design.now node.now.tokens points.new.items blocks.now whole frames.new.items }
+    ensures exact { OnOk result (length points.new.items ≡ needed whole frames.new.items) }
+    ensures few { length points.new.items ≤ MOST_POINTS }
     ensures count { IfOk result (λ extended. extended ≡ true
         → length frames.new.items ≡ length node.now.tokens) }
-    ensures many { IfOk result (λ extended. extended ≡ false
-        → 4000000 < length points.new.items + length list.new.items) }
+    ensures many { IfOk result (λ extended. extended ≡ false → NeedsMore design.now node.now.tokens) }
+    ensures fits { IfOk result (λ extended. extended ≡ true → HasRoom design.now node.now.tokens) }
 {
     let tokens = node.tokens();
     while frames.len() < tokens.len() {

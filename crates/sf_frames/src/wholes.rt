@@ -1,8 +1,9 @@
 //! The curves of the blocks in their whole spans, with which the list of points begins.
 
-ghost use Rattle.std.specs.Prelude.{◌≡◌, ◌++◌, length, IfOk, OnErr};
+ghost use Rattle.std.specs.Prelude.{◌≡◌, ◌≤◌, ◌++◌, length, IfOk, OnErr};
 ghost use Rattle.sf_model.specs.Legal.{block_count};
-ghost use Rattle.sf_frames.specs.Kept.{AreWhole, IsStoredPath, at_end, IsLonger};
+ghost use Rattle.sf_frames.specs.declared.limits.TheConstants.{MOST_POINTS};
+ghost use Rattle.sf_frames.specs.Kept.{AreWhole, IsStoredPath, at_end};
 
 use crate::frame::{Frame, Kept};
 use crate::least::{Least, least_of};
@@ -18,7 +19,7 @@ pub fn append(
 ) -> Result<Kept, NoMemory>
     ensures points { IfOk result (λ _. points.new.items ≡ points.old.items ++ made.now) }
     ensures kept { IfOk result (λ k. k ≡ at_end points.old.items made.now least) }
-    ensures longer { IsLonger points.old.items points.new.items }
+    ensures same { OnErr result (points.new.items ≡ points.old.items) }
 {
     let from = points.len();
     points.extend_from_slice(made)?;
@@ -30,6 +31,7 @@ pub fn append(
 fn wholes(alloc: Global, design: &Design) -> Result<(Vec<Point>, Vec<Kept>), NoMemory>
     ensures whole { IfOk result (λ r. AreWhole design.now r.0.items r.1.items (length r.0.items)) }
     ensures all { IfOk result (λ r. length r.1.items ≡ block_count design.now) }
+    ensures few { IfOk result (λ r. length r.0.items ≤ MOST_POINTS) }
 {
     let mut points = Vec::new(alloc);
     let mut blocks = Vec::new(alloc);
@@ -54,6 +56,7 @@ pub fn fill(
     design: &Design,
 ) -> Result<usize, NoMemory>
     requires stored { IsStoredPath design.now points.old.items blocks.old.items whole frames.old.items }
+    requires few { length points.old.items ≤ MOST_POINTS }
     ensures filled { IfOk result (λ filled. IsStoredPath design.now
         points.new.items blocks.new.items filled frames.new.items) }
     ensures all { IfOk result (λ filled. length blocks.new.items ≡ block_count design.now) }
@@ -61,6 +64,8 @@ pub fn fill(
         → IfOk result (λ filled. frames.new.items ≡ frames.old.items) }
     ensures kept { OnErr result (IsStoredPath design.now
         points.new.items blocks.new.items whole frames.new.items) }
+    ensures few { length points.new.items ≤ MOST_POINTS }
+    ensures fewer { length frames.new.items ≤ length frames.old.items }
 {
     if blocks.len() >= design.blocks.as_slice().len() {
         return Ok(whole);

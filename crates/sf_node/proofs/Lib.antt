@@ -9,3 +9,4 @@ pub mod Spanned
 pub mod Spelled
 pub mod Begun
 pub mod Later
+pub mod TwoLeaves

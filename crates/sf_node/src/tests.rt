@@ -1,5 +1,5 @@
-//! Two hard blocks, and the plan with the one beside the other; and three, with each operator above the
-//! other.
+//! Two hard blocks, and the plan with the one beside the other; a hard block and one that may be turned; and
+//! three hard blocks, with each operator above the other.
 
 ghost use Rattle.std.specs.Prelude.{◌≡◌, ◌∷◌, [], IfOk};
 ghost use Rattle.sf_model.specs.Legal.{IsLegal};
@@ -22,6 +22,16 @@ fn block(alloc: Global, shape: Shape) -> Result<Block, AllocError>
     Ok(Block {
         name: Name::new(alloc, b"b")?,
         shapes: Shapes::from_vec(vec![in alloc; shape]?),
+    })
+}
+
+/// A block of two shapes.
+fn turning_block(alloc: Global, narrow: Shape, flat: Shape) -> Result<Block, AllocError>
+    ensures { IfOk result (λ b. b.shapes ≡ narrow ∷ flat ∷ []) }
+{
+    Ok(Block {
+        name: Name::new(alloc, b"b")?,
+        shapes: Shapes::from_vec(vec![in alloc; narrow, flat]?),
     })
 }
 
@@ -177,6 +187,71 @@ fn three_belong_each_way(rt: HostRuntime) -> Result<(), Fail> {
             assert_eq!(rt; node.tokens(), tokens);
             assert_eq!(rt; belongs, answer, "{tokens:?}");
         }
+    }
+    Ok(())
+}
+
+/// A block 2x3 and a block that may be turned, by area alone, and the plan with the first beside the second,
+/// which lies.
+fn hard_and_turned(alloc: Global) -> Result<(Design, Plan), AllocError>
+    ensures legal { IfOk result (λ both. IsLegal both.0 (tree_of both.1)) }
+    ensures skewed { IfOk result (λ both. IsSkewed (tree_of both.1)) }
+{
+    let narrow = Shape { w: 2, h: 3 };
+    let flat = Shape { w: 3, h: 2 };
+    let first = block(alloc, narrow)?;
+    let second = turning_block(alloc, narrow, flat)?;
+    let left = Box::new(alloc, Plan::Leaf(0, narrow))?;
+    let right = Box::new(alloc, Plan::Leaf(1, flat))?;
+    let design = Design {
+        blocks: BlockList::from_vec(vec![in alloc; first, second]?),
+        pads: PadList::from_vec(Vec::new(alloc)),
+        nets: NetList::from_vec(Vec::new(alloc)),
+        outline: Outline {
+            w: 1_048_576,
+            h: 1_048_576,
+        },
+        weights: Weights { area: 1, wire: 0 },
+    };
+    Ok((design, Plan::Beside(left, right)))
+}
+
+/// The subproblem with one half of the second block's span, or the subproblem itself where it has one shape.
+fn half(node: Node, design: &Design, right: bool) -> Result<Node, AllocError>
+    requires { IsSubproblem design.now node }
+    ensures { IfOk result (IsSubproblem design.now) }
+{
+    if !node.can_split(1) {
+        return Ok(node);
+    }
+    let halves = node.split_children(design, 1)?;
+    Ok(if right { halves.1 } else { halves.0 })
+}
+
+/// The second block's span in the subproblem over these places with one half of it, and whether the plan
+/// in which that block lies belongs there.
+fn lying_belongs_at(
+    alloc: Global,
+    places: &[usize],
+    right: bool,
+) -> Result<(Option<(u16, u16)>, bool), AllocError> {
+    let (design, plan) = hard_and_turned(alloc)?;
+    let node = half(node_at(alloc, &design, places)?, &design, right)?;
+    let answer = belongs(alloc, &plan, &node, &design)?;
+    Ok((node.spans().get(1).copied(), answer))
+}
+
+/// A plan belongs only where the shape of each block stands in the block's span, whatever its tokens.
+#[test]
+fn belongs_within_its_spans(rt: HostRuntime) -> Result<(), Fail> {
+    let none = [0usize; 0];
+    for places in [none.as_slice(), [0].as_slice(), [0, 0, 0].as_slice()] {
+        let (span, belongs) = lying_belongs_at(rt.alloc(), places, false)?;
+        assert_eq!(rt; span, Some((0, 1)), "{places:?}");
+        assert!(rt; !belongs, "{places:?}");
+        let (span, belongs) = lying_belongs_at(rt.alloc(), places, true)?;
+        assert_eq!(rt; span, Some((1, 2)), "{places:?}");
+        assert!(rt; belongs, "{places:?}");
     }
     Ok(())
 }

@@ -139,6 +139,7 @@ parts_are_below design = record { below = part-below design; full = λ node. ref
 
 module _ (design : Design) (node : Parts) (free : design.weights.wire ≡ 0) (sub : IsSubproblem design node) where
   module _ (solved : is_solved design node ≡ true) where
+    -- the one item of a complete subproblem
     whole : (i : Item) × IsWholeItem node i
     whole = whole-item design node sub (solved-complete design node solved)
 
@@ -156,6 +157,7 @@ module _ (design : Design) (node : Parts) (free : design.weights.wire ≡ 0) (su
               omega (arith, areas, wires, least_of-le (cost design) (fitting design node whole.0) k.0 k.1))
         ]
 
+    -- the least cost of its plans is at most the value of an open subproblem, whether one fits or not
     by-plans : (ts : List Tree) → fitting design node whole.0 ≡ ts → least_of (cost design) (fitting design node whole.0) ≤ open_value design node
     by-plans [] e = omega (arith, no-plan design node whole.0 whole.1.items e, ap (least_of (cost design)) e)
     by-plans (t ∷ ts) e =

@@ -1,10 +1,8 @@
-use Rattle.std.proofs.Common.{arith, ap, length, ◌∙◌, [], get_or}
-use Rattle.std.proofs.lemmas.List.{get_or_default}
+use Rattle.std.proofs.Common.{arith, ap, length}
 use Rattle.sf_bounds.proofs.Building.{span_inside}
 use Rattle.sf_bounds.proofs.extents.block_extent.Goals as goal
 
 pub part_extent-requires-clause-in_list : goal.part_extent-requires-clause-in_list
 part_extent-requires-clause-in_list c =
     let k = span_inside c.args.design.now c.args.node.now c.args.block c.requires.subproblem c.requires.inside in
-    let same = get_or_default c.args.design.now.blocks c.args.block c.index-as_slice-from.result (record { name = []; shapes = [] }) c.requires.inside in
-    omega (arith, k, ap (λ s. s.1) c.span-from.ensures, ap length (c.as_slice-shapes.ensures ∙ ap (λ b. b.shapes) (ap (λ v. get_or v c.from.result c.index-as_slice-from.result) c.as_slice.ensures ∙ ap (λ n. get_or c.args.design.now.blocks n c.index-as_slice-from.result) c.from.ensures ∙ same)))
+    omega (arith, k, ap (λ s. s.1) c.span-from.ensures, ap length c.shapes_of.ensures)

@@ -1,10 +1,12 @@
-use Rattle.std.proofs.Common.{◌≡◌, length, ap, subst, ◌∙◌, arith}
-use Rattle.sf_bounds.specs.Rows.{IsEnding, framed}
-use Rattle.sf_bounds.proofs.NetTotal.{open-changed}
+use Rattle.std.proofs.Common.{◌∙◌, ap, sym}
+use Rattle.sf_standard.specs.Standard.{wires_by}
+use Rattle.sf_bounds.specs.Rows.{changed}
 use Rattle.sf_bounds.proofs.net_total.total_by.Goals as goal
 
-pub returns-in-Open : goal.returns-in-Open
-returns-in-Open c =
-    let all : length c.args.nets.now.frames.items ≡ length c.args.node.now.tokens = c.requires.all ∙ ap (λ e. framed e c.args.node.now.tokens) c.in-Open.is in
-    c.open_total.ensures
-    ∙ open-changed c.args.design.now c.args.node.now c.args.nets.now.cells.items c.wires_after.result c.len.result c.args.part c.requires.subproblem c.requires.whole (omega (arith, c.len.ensures, all)) (subst (IsEnding c.args.node.now) c.in-Open.is c.requires.ending) c.wires_after.ensures
+pub returns-in-Hull : goal.returns-in-Hull
+returns-in-Hull c =
+    c.totals-full.ensures.hull ∙ ap (λ p. wires_by c.args.design.now c.args.node.now (changed p)) (sym c.in-Hull.is)
+
+pub returns-in-Full : goal.returns-in-Full
+returns-in-Full c =
+    c.totals-full.ensures.full ∙ ap (λ p. wires_by c.args.design.now c.args.node.now (changed p)) (sym c.in-Full.is)

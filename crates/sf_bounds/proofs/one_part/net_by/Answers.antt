@@ -2,21 +2,21 @@ use Rattle.std.proofs.Common.{arith, ap, sym, subst, ◌∙◌, length, false}
 use Rattle.sf_standard.specs.Standard.{pins_by}
 use Rattle.sf_bounds.specs.Near.{reach_gap}
 use Rattle.sf_bounds.specs.Pins.{IsReady, IsReadable, shared_ranges, paired_sides, shared_homes, shared_in, greatest_gap}
-use Rattle.sf_bounds.proofs.NetParts.{range_counts, pair_counts, whole_counts, open_counts, ready_whole, ready_open}
+use Rattle.sf_bounds.proofs.NetParts.{range_counts, pair_counts, whole_counts, open_counts, ready_open}
 use Rattle.sf_bounds.proofs.Readied.{readied}
 use Rattle.sf_bounds.proofs.one_part.net_by.Goals as goal
 
-pub range_alone-requires-clause-ready : goal.range_alone-requires-clause-ready
-range_alone-requires-clause-ready c =
+pub pin_parts-requires-clause-ready : goal.pin_parts-requires-clause-ready
+pin_parts-requires-clause-ready c =
     subst (IsReadable c.args.design.now) (sym c.deref.ensures.value) (length c.args.layout.now.held.items, readied c.args.design.now c.args.node.now c.args.layout.now c.requires.layout)
 
-pub pair_alone-requires-clause-ready : goal.pair_alone-requires-clause-ready
-pair_alone-requires-clause-ready c =
+pub pin_parts-requires-in-Pair-clause-ready : goal.pin_parts-requires-in-Pair-clause-ready
+pin_parts-requires-in-Pair-clause-ready c =
     subst (IsReadable c.args.design.now) (sym c.deref-in-Pair.ensures.value) (length c.args.layout.now.held.items, readied c.args.design.now c.args.node.now c.args.layout.now c.requires.layout)
 
-pub whole_hull-requires-clause-ready : goal.whole_hull-requires-clause-ready
-whole_hull-requires-clause-ready c =
-    subst (IsReady c.args.design.now 1) (sym c.deref-in-Hull.ensures.value) (ready_whole c.args.design.now c.args.node.now c.args.layout.now c.requires.subproblem c.requires.layout (sym c.is_complete.ensures ∙ c.if-is_complete.true))
+pub pin_parts-requires-in-Hull-clause-ready : goal.pin_parts-requires-in-Hull-clause-ready
+pin_parts-requires-in-Hull-clause-ready c =
+    subst (IsReadable c.args.design.now) (sym c.deref-in-Hull.ensures.value) (length c.args.layout.now.held.items, readied c.args.design.now c.args.node.now c.args.layout.now c.requires.layout)
 
 pub hull_part-requires-clause-ready : goal.hull_part-requires-clause-ready
 hull_part-requires-clause-ready c =
@@ -27,8 +27,8 @@ returns-in-Range-clause-is c =
     let d = c.args.design.now in
     let table = c.args.layout.now.table.items in
     let pins = c.as_slice-pins.result.now in
-    range_counts d c.args.node.now c.args.layout.now c.requires.layout c.requires.subproblem c.args.net.now.pins c.requires.inside c.range_alone.result (omega (arith, c.if-pins-lt2.false, ap length c.as_slice-pins.ensures))
-    (c.range_alone.ensures.is ∙ ap (λ t. reach_gap (shared_ranges d t pins)) c.deref.ensures.value ∙ ap (λ ps. reach_gap (shared_ranges d table ps)) c.as_slice-pins.ensures)
+    range_counts d c.args.node.now c.args.layout.now c.requires.layout c.requires.subproblem c.args.net.now.pins c.requires.inside c.reach_gap.result (omega (arith, c.if-pins-lt2.false, ap length c.as_slice-pins.ensures))
+    (c.reach_gap.ensures.is ∙ ap reach_gap c.pin_parts.ensures.range ∙ ap (λ t. reach_gap (shared_ranges d t pins)) c.deref.ensures.value ∙ ap (λ ps. reach_gap (shared_ranges d table ps)) c.as_slice-pins.ensures)
     ∙ ap (pins_by d c.args.node.now c.args.net.now.pins) (sym c.in-Range.is)
 
 pub returns-in-Pair-clause-is : goal.returns-in-Pair-clause-is
@@ -36,8 +36,8 @@ returns-in-Pair-clause-is c =
     let d = c.args.design.now in
     let table = c.args.layout.now.table.items in
     let pins = c.as_slice-pins.result.now in
-    pair_counts d c.args.node.now c.args.layout.now c.requires.layout c.requires.subproblem c.args.net.now.pins c.requires.inside c.pair_alone.result (omega (arith, c.if-pins-lt2.false, ap length c.as_slice-pins.ensures))
-    (c.pair_alone.ensures.is ∙ ap (λ t. (paired_sides t pins).sum) c.deref-in-Pair.ensures.value ∙ ap (λ ps. (paired_sides table ps).sum) c.as_slice-pins.ensures)
+    pair_counts d c.args.node.now c.args.layout.now c.requires.layout c.requires.subproblem c.args.net.now.pins c.requires.inside c.pin_parts-in-Pair.result.pair.sum (omega (arith, c.if-pins-lt2.false, ap length c.as_slice-pins.ensures))
+    (ap (λ q. q.sum) c.pin_parts-in-Pair.ensures.pair ∙ ap (λ t. (paired_sides t pins).sum) c.deref-in-Pair.ensures.value ∙ ap (λ ps. (paired_sides table ps).sum) c.as_slice-pins.ensures)
     ∙ ap (pins_by d c.args.node.now c.args.net.now.pins) (sym c.in-Pair.is)
 
 pub returns-in-Hull-clause-is : goal.returns-in-Hull-clause-is
@@ -45,8 +45,8 @@ returns-in-Hull-clause-is c =
     let d = c.args.design.now in
     let table = c.args.layout.now.table.items in
     let pins = c.as_slice-pins.result.now in
-    whole_counts d c.args.node.now c.args.layout.now c.requires.layout c.requires.subproblem c.args.net.now.pins c.requires.inside c.whole_hull.result (sym c.is_complete.ensures ∙ c.if-is_complete.true) (omega (arith, c.if-pins-lt2.false, ap length c.as_slice-pins.ensures))
-    (c.whole_hull.ensures.is ∙ ap (λ t. reach_gap (shared_homes d t pins)) c.deref-in-Hull.ensures.value ∙ ap (λ ps. reach_gap (shared_homes d table ps)) c.as_slice-pins.ensures)
+    whole_counts d c.args.node.now c.args.layout.now c.requires.layout c.requires.subproblem c.args.net.now.pins c.requires.inside c.reach_gap-in-Hull.result (sym c.is_complete.ensures ∙ c.if-is_complete.true) (omega (arith, c.if-pins-lt2.false, ap length c.as_slice-pins.ensures))
+    (c.reach_gap-in-Hull.ensures.is ∙ ap reach_gap c.pin_parts-in-Hull.ensures.hull ∙ ap (λ t. reach_gap (shared_homes d t pins)) c.deref-in-Hull.ensures.value ∙ ap (λ ps. reach_gap (shared_homes d table ps)) c.as_slice-pins.ensures)
     ∙ ap (pins_by d c.args.node.now c.args.net.now.pins) (sym c.in-Hull.is)
 
 pub returns-in-Hull-2-clause-is : goal.returns-in-Hull-2-clause-is

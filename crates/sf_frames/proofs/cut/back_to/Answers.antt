@@ -1,10 +1,10 @@
-use Rattle.std.proofs.Common.{◌≡◌, ◌≤◌, List, take, map, length, ap, sym, subst, arith, ◌∙◌}
+use Rattle.std.proofs.Common.{◌≤◌, take, map, length, ap, sym, subst, arith, ◌∙◌}
 use Rattle.std.specs.Prelude.{None}
 use Rattle.std.proofs.lemmas.List.{length-map, length-take-le}
 use Rattle.sf_polish.specs.declared.expr.Token.TheVariants as token
 use Rattle.sf_frames.specs.declared.frame.Frame.{Frame}
-use Rattle.sf_frames.specs.Kept.{IsCommon, IsEndOf, token_of}
-use Rattle.sf_frames.proofs.Keeping.{end-there, end-cut}
+use Rattle.sf_frames.specs.Kept.{IsCommon, IsEndOf, token_of, needed}
+use Rattle.sf_frames.proofs.Keeping.{end-there, end-tight}
 use Rattle.sf_frames.proofs.Switching.{stored-back}
 use Rattle.sf_frames.proofs.cut.back_to.Goals as goal
 
@@ -46,5 +46,18 @@ returns-clause-rest c =
     let last = subst (λ v. IsEndOf v c.args.whole n e) c.deref-2.ensures.value c.end_of-end.ensures in
     let few : n ≤ length F = omega (arith, shared.within_kept, length-map F token_of) in
     let inside = end-there c.args.design.now (map token_of F) P c.args.blocks.now c.args.whole F n e c.requires.stored few last none in
-    subst (IsEndOf c.truncate.new.self.items c.args.whole (length c.truncate.new.self.items)) (sym (ap length c.truncate-2.ensures.items ∙ length-take-le e P inside.1))
-    (subst (λ v. IsEndOf v c.args.whole (length v) e) (sym c.truncate.ensures.items) (end-cut F c.args.whole n e few last))
+    ap length c.truncate-2.ensures.items ∙ length-take-le e P inside.1
+    ∙ end-tight c.args.design.now (map token_of F) P c.args.blocks.now c.args.whole F n e none c.requires.stored few last
+    ∙ ap (needed c.args.whole) (sym c.truncate.ensures.items)
+
+pub returns-clause-fewer : goal.returns-clause-fewer
+returns-clause-fewer c =
+    let n = c.common-count.result in
+    let e = c.end_of-end.result in
+    let P = c.args.points.now.items in
+    let F = c.args.frames.now.items in
+    let shared = subst (λ v. IsCommon (map token_of v) c.args.tokens.now n) c.deref.ensures.value c.common-count.ensures in
+    let last = subst (λ v. IsEndOf v c.args.whole n e) c.deref-2.ensures.value c.end_of-end.ensures in
+    let few : n ≤ length F = omega (arith, shared.within_kept, length-map F token_of) in
+    let inside = end-there c.args.design.now (map token_of F) P c.args.blocks.now c.args.whole F n e c.requires.stored few last none in
+    omega (arith, ap length c.truncate-2.ensures.items, length-take-le e P inside.1, inside.1)

@@ -12,4 +12,4 @@ bounds-blocks-from c =
 pub returns-clause-stored : goal.returns-clause-stored
 returns-clause-stored c =
     let sums = subst (λ v. AreSumsOrNone (groups_at c.args.design.now c.args.node.now.tokens (length v)) c.sums_now-sums.result) c.deref.ensures.value c.sums_now-sums.ensures in
-    block-pushed c.args.design.now c.args.node.now c.args.points.now c.args.blocks.now c.args.whole c.args.frames.now.items c.push.new.self.items c.args.block c.from.result c.len-below.result (length c.args.points.now) _ c.sums_now-sums.result c.requires.subproblem c.requires.all c.requires.stored c.requires.next c.from.ensures (omega (arith, c.len-below.ensures)) refl sums c.in_ok-push.ensures.items
+    block-pushed c.args.design.now c.args.node.now c.args.points.now c.args.blocks.now c.args.whole c.args.frames.now.items c.push.new.self.items c.args.block c.from.result c.len-below.result (length c.args.points.now) _ c.sums_now-sums.result c.requires.subproblem c.requires.all c.requires.stored c.requires.exact c.requires.next c.from.ensures (omega (arith, c.len-below.ensures)) refl sums c.in_ok-push.ensures.items

@@ -1,4 +1,4 @@
-use Rattle.std.proofs.Common.{◌≡◌, ◌-◌, ◌<◌, length, subst, arith}
+use Rattle.std.proofs.Common.{◌-◌, ◌<◌, length, subst, arith}
 use Rattle.sf_standard.specs.Items as item
 use Rattle.sf_frames.specs.Kept.{ways}
 use Rattle.sf_frames.specs.Sums.{IsLeastOrNone}

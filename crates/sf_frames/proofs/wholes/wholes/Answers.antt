@@ -1,8 +1,9 @@
-use Rattle.std.proofs.Common.{◌≡◌, ◌++◌, [], length, ap, sym, ◌∙◌, subst, arith}
+use Rattle.std.proofs.Common.{◌≡◌, ◌++◌, [], length, ap, ◌∙◌, subst, arith, length-append}
 use Rattle.std.specs.Prelude.{MatchOption}
 use Rattle.sf_frames.specs.Kept.{at_end}
 use Rattle.sf_frames.specs.Least.{IsLeastOf}
-use Rattle.sf_frames.proofs.WholeSpans.{block-curve, wholes-added, curve-small}
+use Rattle.sf_frames.proofs.Rooms.{block-few}
+use Rattle.sf_frames.proofs.WholeSpans.{block-curve, wholes-added}
 use Rattle.sf_frames.proofs.wholes.wholes.Goals as goal
 
 pub loop-block-preserved : goal.loop-block-preserved
@@ -21,4 +22,15 @@ loop-block-preserved c =
           (c.in_ok-kept.ensures.kept ∙ ap (λ v. at_end P v o) c.points-in-loop-block.ensures.is)
           c.in_ok-push.ensures.items;
       count = omega (arith, c.in_ok-push.ensures.len, i.count);
+      few = omega (
+        arith,
+        i.few,
+        ap length c.in_ok-kept.ensures.points,
+        length-append P c.points-in-loop-block.result.now,
+        ap length c.points-in-loop-block.ensures.is,
+        block-few D c.as_slice-block-items.result.now c.loop-block.block-index c.block-item.result c.as_slice-shapes.result.now C c.as_slice-block-items.ensures c.block-item.is c.as_slice-shapes.ensures (omega arith) c.in_ok-curve.ensures c.points.ensures.falls,
+      );
     }
+
+pub returns-clause-few : goal.returns-clause-few
+returns-clause-few c = omega (arith, c.loop-block.invariant.few, c.args.design.now.limits.few_blocks, ap length c.as_slice-block-items.ensures)

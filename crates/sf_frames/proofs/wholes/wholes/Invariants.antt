@@ -1,4 +1,4 @@
-use Rattle.std.proofs.Common.{◌≡◌, length}
+use Rattle.std.proofs.Common.{◌≡◌, ◌≤◌, ◌*◌, length}
 use Rattle.sf_frames.specs.Kept.{AreWhole}
 use Rattle.sf_frames.proofs.wholes.wholes.Given as goal
 
@@ -6,4 +6,5 @@ abbrev pub invariant-loop-block : goal.invariant-loop-block
 invariant-loop-block l = record {
   whole : AreWhole l.design l.points.items l.blocks.items (length l.points.items);
   count : length l.blocks.items ≡ l.block-index;
+  few : length l.points.items ≤ 256 * l.block-index;
 }

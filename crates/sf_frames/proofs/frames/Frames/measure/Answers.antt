@@ -1,8 +1,9 @@
-use Rattle.std.proofs.Common.{◌≡◌, length, sym, ap, ◌∙◌, subst}
+use Rattle.std.proofs.Common.{◌≡◌, length, sym, subst}
 use Rattle.sf_node.specs.Children.{IsSubproblem}
-use Rattle.sf_frames.specs.Kept.{groups_at}
+use Rattle.sf_frames.specs.Kept.{groups_at, IsStored}
 use Rattle.sf_frames.specs.Measured.{IsMeasured}
 use Rattle.sf_frames.specs.Sums.{AreSumsOrNone}
+use Rattle.sf_frames.proofs.Rooms.{kept-within}
 use Rattle.sf_frames.proofs.WholeSpans.{measured-groups}
 use Rattle.sf_frames.proofs.frames.Frames.measure.Goals as goal
 
@@ -16,3 +17,36 @@ returns-clause-measured c =
     let sums = subst (λ v. AreSumsOrNone (groups_at D N.tokens (length v)) c.sums_now-sums.result) c.deref-4.ensures.value c.sums_now-sums.ensures in
     subst (λ v. IsMeasured v N c.answer_of.result) c.self.view_is
     (c.answer_of.ensures D N (subst (λ v. AreSumsOrNone v c.sums_now-sums.result) (measured-groups D N n sub c.requires.whole all) sums))
+
+pub invariant_of-self-in_err-kept : goal.invariant_of-self-in_err-kept
+invariant_of-self-in_err-kept c =
+    let D = c.self.inside.design.now in
+    let N = c.args.node.now in
+    let P = c.extend.new.points.items in
+    let F = c.extend.new.frames.items in
+    let whole = c.in_ok-self-inside.field-0 in
+    let sub = subst (λ v. IsSubproblem v N) (sym c.self.view_is) c.requires.subproblem in
+    let stored = subst (λ v. IsStored D N.tokens P v whole F) c.deref-2.ensures.value c.in_err-kept.ensures.stored in
+    kept-within D N P c.fill.new.blocks.items whole F sub c.requires.whole stored c.in_err-kept.ensures.few
+
+pub invariant_of-self-then-not-kept : goal.invariant_of-self-then-not-kept
+invariant_of-self-then-not-kept c =
+    let D = c.self.inside.design.now in
+    let N = c.args.node.now in
+    let P = c.extend.new.points.items in
+    let F = c.extend.new.frames.items in
+    let whole = c.in_ok-self-inside.field-0 in
+    let sub = subst (λ v. IsSubproblem v N) (sym c.self.view_is) c.requires.subproblem in
+    let stored = subst (λ v. IsStored D N.tokens P v whole F) c.deref-2.ensures.value c.in_ok-kept.ensures.stored in
+    kept-within D N P c.fill.new.blocks.items whole F sub c.requires.whole stored c.in_ok-kept.ensures.few
+
+pub invariant_of-self-2 : goal.invariant_of-self-2
+invariant_of-self-2 c =
+    let D = c.self.inside.design.now in
+    let N = c.args.node.now in
+    let P = c.extend.new.points.items in
+    let F = c.extend.new.frames.items in
+    let whole = c.in_ok-self-inside.field-0 in
+    let sub = subst (λ v. IsSubproblem v N) (sym c.self.view_is) c.requires.subproblem in
+    let stored = subst (λ v. IsStored D N.tokens P v whole F) c.deref-2.ensures.value c.in_ok-kept.ensures.stored in
+    kept-within D N P c.fill.new.blocks.items whole F sub c.requires.whole stored c.in_ok-kept.ensures.few
