@@ -19,13 +19,15 @@ use Rattle.sf_certificate.specs.Reading.{cert_read, with_tag}
 use Rattle.sf_certificate.specs.Reader.{with_tags}
 use Rattle.sf_certificate.proofs.TreeReads.{with_tags-more, with_tags-none}
 use Rattle.sf_certificate.proofs.CertSpells.{cert-spells}
+use Rattle.sf_cursor.proofs.Ways.{one-way}
 use Rattle.sf_checker.specs.declared.answer.Answer.{Answer}
 use Rattle.sf_checker.specs.declared.stage.Body.{Body}
 use Rattle.sf_checker.specs.declared.stage.Stage.{Stage}
+use Rattle.sf_checker.specs.declared.stage.Stage.TheVariants.{Opening, Tree, Fault}
 use Rattle.sf_checker.specs.Answers.{IsAnswer}
 use Rattle.sf_checker.specs.Standing.{Judged, IsFound}
 use Rattle.sf_checker.specs.Feeding.{IsAnswerTo, IsFed}
-use Rattle.sf_checker.specs.Stages.{IsBody, IsFaulty, IsStage}
+use Rattle.sf_checker.specs.Stages.{HoldsOneWay, IsBody, IsFaulty, IsReady, IsStage}
 
 module _ (design : Design) (bound : Parts → ℕ) (part : Parts → Part → ℕ) (text : List ℕ) where
   -- the header was read
@@ -160,6 +162,12 @@ past-all text piece i = ap (λ r. (text ++ take i piece) ++ r) (rest-is piece i)
 pub still-faulty : (design : Design) (text more : List ℕ) (e : CertFault) → IsFaulty design text e → IsFaulty design (text ++ more) e
 still-faulty design text more e faulty rest = ap (cert_read (block_count design)) (append_assoc text more rest) ∙ faulty (more ++ rest)
 
+-- a stage that can take the next byte holds one way at most
+pub ready-way : (design : Design) (bound : Parts → ℕ) (stage : Stage) → IsReady design bound stage → HoldsOneWay design stage
+ready-way design bound (Opening bytes) ready = tt
+ready-way design bound (Tree body) ready = one-way design bound body.judge.walk.path ready.at
+ready-way design bound (Fault fault) ready = tt
+
 -- ---- the design and the bounds of a checking
 
 module _ {B : Type 0} (value : B → Design → Parts → ℕ) (part_value : B → Design → Parts → Part → ℕ) (design : Design) (bound : Parts → ℕ) (part : Parts → Part → ℕ) (own : Design) (bounds : B) where
@@ -191,9 +199,3 @@ module _ {B : Type 0} (value : B → Design → Parts → ℕ) (part_value : B �
             (subst (λ d. IsStage d (value bounds own) (part_value bounds own) (text ++ piece) new) fed.serves (more text (fed-stage text old fed))));
       }
   fed-more text piece old new (Err e) fed more = tt
-
-  -- the answer is one by the design and the bound
-  pub fed-answer : (text : List ℕ) (stage : Stage) (answer : Answer) → IsFed value part_value design bound part text (own, bounds, stage) → IsAnswerTo own (value bounds own) (part_value bounds own) text answer → IsAnswerTo design bound part text answer
-  fed-answer text stage answer fed a =
-      subst (λ v. IsAnswerTo design bound v text answer) (same-part text stage fed) (subst (λ v. IsAnswerTo design v (part_value bounds own) text answer) (same-bound text stage fed)
-      (subst (λ d. IsAnswerTo d (value bounds own) (part_value bounds own) text answer) fed.serves a))

@@ -9,7 +9,7 @@ use Rattle.sf_certificate.specs.Reading.{cert_read, said_by}
 use Rattle.sf_checker.specs.declared.answer.Answer.{Answer}
 use Rattle.sf_checker.specs.declared.stage.Stage.{Stage}
 use Rattle.sf_checker.specs.Answers.{IsAnswer}
-use Rattle.sf_checker.specs.Stages.{IsStage, IsWanting}
+use Rattle.sf_checker.specs.Stages.{HoldsOneWay, IsStage, IsWanting}
 
 -- the text spells a certificate for the blocks of the design, and this is the answer to it
 pub record IsAnswerTo (design : Design) (bound : Parts → ℕ) (part : Parts → Part → ℕ) (text : List ℕ) (answer : Answer) : Type 0 where
@@ -27,3 +27,7 @@ pub record IsFed {B : Type 0} (value : B → Design → Parts → ℕ) (part_val
 -- memory was wanting when it was fed
 abbrev pub IsSpent : {B : Type 0} → Design × B × Stage → Type 0
 IsSpent fed = IsWanting fed.2
+
+-- of the tree it holds one way at most: that to a subproblem of its design, of 3,199 steps at most
+abbrev pub KeepsOneWay : {B : Type 0} → Design × B × Stage → Type 0
+KeepsOneWay fed = HoldsOneWay fed.0 fed.2

@@ -15,6 +15,7 @@ use Rattle.sf_certificate.specs.Form.{no_plan}
 use Rattle.sf_certificate.specs.Bytes.{IsPart, bytes_on, said_with}
 use Rattle.sf_certificate.specs.Reading.{cert_read}
 use Rattle.sf_certificate.specs.Reader.{with_tags}
+use Rattle.sf_cursor.specs.Path.{IsOneWay}
 use Rattle.sf_checker.specs.declared.stage.Body.{Body}
 use Rattle.sf_checker.specs.declared.stage.Stage.{Stage}
 use Rattle.sf_checker.specs.declared.stage.Stage.TheVariants.{Opening, Tree, Fault}
@@ -44,6 +45,17 @@ abbrev pub IsReady : Design → (Parts → ℕ) → Stage → Type 0
 IsReady design bound (Opening bytes) = IsPart bytes
 IsReady design bound (Tree body) = IsSteady design bound body.judge
 IsReady design bound (Fault fault) = ⊤
+
+-- a stage holds one way at most, to a subproblem of the design: none before the tree is read, and none after a fault
+abbrev pub HoldsOneWay : Design → Stage → Type 0
+HoldsOneWay design (Opening bytes) = ⊤
+HoldsOneWay design (Tree body) = IsOneWay design body.judge.walk.path
+HoldsOneWay design (Fault fault) = ⊤
+
+-- between two pieces the next byte can be taken, and one way is held at most
+pub record IsBetween (design : Design) (bound : Parts → ℕ) (stage : Stage) : Type 0 where
+  pub ready : IsReady design bound stage
+  pub way : HoldsOneWay design stage
 
 -- the tree is not read
 abbrev pub IsOutside : Stage → Type 0

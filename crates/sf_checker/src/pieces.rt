@@ -30,7 +30,7 @@ impl From<AllocError> for FinishFault {
 }
 
 /// A check of a certificate whose text comes in pieces, wherever they are cut. It keeps the header and one
-/// path.
+/// path, which is never longer than the one to the deepest subproblem of its design.
 #[derive(Drop)]
 pub struct Checking<'a, B: Bounds> {
     design: &'a Design,
@@ -42,13 +42,13 @@ pub struct Checking<'a, B: Bounds> {
 impl<'a, B: Bounds> Model for Checking<'a, B> {
     ghost use Rattle.sf_model.specs.declared.design.Design.{Design};
     ghost use Rattle.sf_checker.specs.declared.stage.Stage.{Stage};
-    ghost use Rattle.sf_checker.specs.Stages.{IsReady};
+    ghost use Rattle.sf_checker.specs.Stages.{IsBetween};
 
     ghost Value = { Design × B × Stage };
 
     ghost view = { λ c. (c.design.now, c.bounds.now, c.stage) };
 
-    ghost invariant = { λ c. IsReady c.design.now (B.Values.value c.bounds.now c.design.now) c.stage };
+    ghost invariant = { λ c. IsBetween c.design.now (B.Values.value c.bounds.now c.design.now) c.stage };
 }
 
 impl<'a, B: Bounds> Checking<'a, B> {
@@ -59,7 +59,7 @@ impl<'a, B: Bounds> Checking<'a, B> {
     ghost use Rattle.sf_node.specs.Parts.{Parts};
     ghost use Rattle.sf_certificate.specs.declared.fault.CertFault.{CertFault as FaultValue};
     ghost use Rattle.sf_certificate.specs.Reading.{cert_read};
-    ghost use Rattle.sf_checker.specs.Feeding.{IsAnswerTo, IsFed, IsSpent};
+    ghost use Rattle.sf_checker.specs.Feeding.{IsAnswerTo, IsFed, IsSpent, KeepsOneWay};
 
     /// Nothing is fed yet.
     pub fn new(
@@ -84,6 +84,7 @@ impl<'a, B: Bounds> Checking<'a, B> {
         ensures fed { (design : DesignValue) (bound : Parts → ℕ) (part : Parts → Part → ℕ) (text : List ℕ)
             → IsFed B.Values.value B.part_value design bound part text self.old
             → OnOk result (IsFed B.Values.value B.part_value design bound part (text ++ piece.now) self.new) }
+        ensures way { KeepsOneWay self.new }
         ensures spent { OnErr result (IsSpent self.new) }
         ensures stays { IsSpent self.old → IsErr result }
     {

@@ -1,5 +1,5 @@
 -- The levels of a way, one step on and one step back.
-use Rattle.std.proofs.Common.{◌≡◌, ℕ, suc, ◌+◌, ◌-◌, ◌<◌, ◌≤◌, List, [], ◌∷◌, ◌++◌, map, take, length, arith, refl, ap, sym, subst, ◌∙◌, true, false, Option, Some}
+use Rattle.std.proofs.Common.{◌≡◌, ℕ, suc, ◌+◌, ◌-◌, ◌<◌, ◌≤◌, List, [], ◌∷◌, ◌++◌, map, take, length, length-append, arith, refl, ap, sym, subst, ◌∙◌, true, false, Option, Some}
 use Prim.Native.Nat.{zero}
 use Rattle.std.specs.Prelude.{slice_get, IfSome}
 use Rattle.std.specs.List.{AllByRecursion}
@@ -13,10 +13,11 @@ use Rattle.sf_node.specs.Parts.{Parts}
 use Rattle.sf_node.specs.Subproblem.{root}
 use Rattle.sf_node.specs.Children.{after, walk, extended, split, CanStep, IsSubproblem}
 use Rattle.sf_node.specs.Later.{later, extending, behind, pending, halved, HalvesOne, IsChildOf}
+use Rattle.sf_node.proofs.Depth.{subproblem-shallow}
 use Rattle.sf_node.proofs.Reached.{steps-after, after-subproblem, subproblem-spans, spans-after}
 use Rattle.sf_node.proofs.Later.{came-from, entered, behind-after, later-can, extending-can, extending-is}
 use Rattle.sf_cursor.specs.declared.level.Level.{Level}
-use Rattle.sf_cursor.specs.Path.{Path, IsLevel, AreLevels, AreUsed, marked, named, NamesOne, IsPath, IsBack}
+use Rattle.sf_cursor.specs.Path.{Path, IsLevel, AreLevels, AreUsed, marked, named, NamesOne, IsPath, IsBack, IsOneWay, most_steps}
 use Rattle.sf_cursor.proofs.Flags.{used-on, used-back, operands-after, names-one}
 
 -- one step more
@@ -56,6 +57,25 @@ levels-many bound node [] [] all = refl
 levels-many bound node [] (l ∷ ls) all = absurd all
 levels-many bound node (s ∷ ss) [] all = absurd all
 levels-many bound node (s ∷ ss) (l ∷ ls) all = omega (arith, levels-many bound (after node s) ss ls all.1)
+
+-- a way keeps as many levels as it has steps, and those are few
+pub one-way : (design : Design) (bound : Parts → ℕ) (path : Path) → IsPath design bound path → IsOneWay design path
+one-way design bound path at =
+    record { sub = at.sub; few = omega (arith, subproblem-shallow design path.node at.sub); each = levels-many bound (root design) path.node.steps path.levels at.levels }
+
+-- with one level more they are still few, where one more step can be taken
+pub few-on : (design : Design) (bound : Parts → ℕ) (path : Path) (s : Step) (old new : List Level) (level : Level) → IsPath design bound path → CanStep path.node s → old ≡ path.levels → new ≡ old ++ level ∷ [] → length new ≤ most_steps
+few-on design bound path s old new level at can same more =
+    omega (
+      arith,
+      levels-many bound (root design) path.node.steps path.levels at.levels,
+      ap length (steps-after path.node s),
+      length-append path.node.steps (s ∷ []),
+      subproblem-shallow design (after path.node s) (after-subproblem design path.node s at.sub can),
+      ap length same,
+      ap length more,
+      length_push old level,
+    )
 
 -- one step on, with its level
 pub path-on : (design : Design) (bound : Parts → ℕ) (old new : Path) (s : Step) (level : Level) → IsPath design bound old → CanStep old.node s → IsLevel bound old.node s level → new.node ≡ after old.node s → new.levels ≡ old.levels ++ level ∷ []

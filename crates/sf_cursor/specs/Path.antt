@@ -1,5 +1,5 @@
 -- Where a search in preorder stands.
-use Rattle.std.specs.Prelude.{◌≡◌, ℕ, ◌<◌, List, [], ◌∷◌, length, Bool, true, not, slice_index_or, slice_set, Option, IfSome, ⊤}
+use Rattle.std.specs.Prelude.{◌≡◌, ℕ, ◌<◌, ◌≤◌, List, [], ◌∷◌, length, Bool, true, not, slice_index_or, slice_set, Option, IfSome, ⊤}
 use Rattle.sf_model.specs.declared.design.Design.{Design}
 use Rattle.sf_polish.specs.Normal.{operands}
 use Rattle.sf_node.specs.declared.step.Step.{Step}
@@ -16,6 +16,10 @@ pub record Path : Type 0 where
   pub levels : List Level
   pub used : List Bool
   pub operands : ℕ
+
+-- the most steps that a way has: of 320 blocks there are 639 tokens, and the span of at most 256 shapes of each is halved eight times at most
+abbrev pub most_steps : ℕ
+most_steps = 3199
 
 -- the level of a step: the span that it halves, and the value of the subproblem before it, where one was told
 pub record IsLevel (bound : Parts → ℕ) (node : Parts) (s : Step) (level : Level) : Type 0 where
@@ -71,3 +75,9 @@ pub record IsBack (design : Design) (bound : Parts → ℕ) (old : Parts) (s : S
   pub can : CanStep path.node s
   pub is : old ≡ after path.node s
   pub worth : IfSome value (λ v. v ≡ bound path.node)
+
+-- one way and no more: it leads from the root to a subproblem of the design, has at most so many steps, and keeps a level for each of them
+pub record IsOneWay (design : Design) (path : Path) : Type 0 where
+  pub sub : IsSubproblem design path.node
+  pub few : length path.node.steps ≤ most_steps
+  pub each : length path.levels ≡ length path.node.steps

@@ -14,6 +14,7 @@ use std::alloc::{AllocError as NoMemory, Global};
 use std::marker::Model;
 
 /// The subproblem that is next, the levels of the way to it, which blocks are there, and how many they are.
+/// No cursor keeps more levels than the longest way of a design has steps, whatever came before.
 #[derive(Drop)]
 pub struct Cursor {
     node: Node,
@@ -23,7 +24,8 @@ pub struct Cursor {
 }
 
 impl Model for Cursor {
-    ghost use Rattle.sf_cursor.specs.Path.{Path};
+    ghost use Rattle.std.specs.Prelude.{◌≤◌, length};
+    ghost use Rattle.sf_cursor.specs.Path.{Path, most_steps};
 
     ghost Value = { Path };
 
@@ -33,6 +35,8 @@ impl Model for Cursor {
       used = c.used.items;
       operands = c.operands;
     } };
+
+    ghost invariant = { λ c. length c.levels.items ≤ most_steps };
 }
 
 /// The span that a step halves, or none.
@@ -67,12 +71,13 @@ fn named(step: Step) -> usize
 }
 
 impl Cursor {
-    ghost use Rattle.std.specs.Prelude.{[], ◌∷◌, ◌++◌, ◌≤◌, true, map, IfOk, IfSome, OnOk, MatchOption};
+    ghost use Rattle.std.specs.Prelude.{[], ◌∷◌, ◌++◌, ◌≤◌, true, length, map};
+    ghost use Rattle.std.specs.Prelude.{IfOk, IfSome, OnOk, MatchOption};
     ghost use Rattle.sf_node.specs.Subproblem.{root};
     ghost use Rattle.sf_node.specs.Children.{after, extended, split, CanSplit, may_join};
     ghost use Rattle.sf_node.specs.Later.{behind, pending, later, extending, blocks_from, IsChildOf};
     ghost use Rattle.sf_certificate.specs.Marks.{made, MaySplit};
-    ghost use Rattle.sf_cursor.specs.Path.{IsPath, IsBack};
+    ghost use Rattle.sf_cursor.specs.Path.{IsPath, IsBack, most_steps};
 
     /// At the root, which is next before anything was visited.
     pub fn new<V: Values>(alloc: Global, design: &Design, values: &V) -> Result<Cursor, NoMemory>
@@ -97,8 +102,9 @@ impl Cursor {
     /// The value of the subproblem one step before, if there is one and its value was told.
     pub fn parent_value<V: Values>(&self, design: &Design, values: &V) -> Option<u64>
         requires { IsPath design.now (V.value values.now design.now) self.now }
-        ensures { IfSome result
+        ensures value { IfSome result
             (λ value. IsChildOf design.now (V.value values.now design.now) value self.now.node) }
+        ensures few { length self.now.levels ≤ most_steps }
     {
         let level = *self.levels.last()?;
         level.value

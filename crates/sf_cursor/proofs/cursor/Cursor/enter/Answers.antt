@@ -4,7 +4,7 @@ use Rattle.sf_node.specs.Later.{halved}
 use Rattle.sf_cursor.specs.declared.level.Level.{Level}
 use Rattle.sf_cursor.specs.Path.{marked}
 use Rattle.sf_cursor.proofs.Flags.{few-operands, named-most}
-use Rattle.sf_cursor.proofs.Ways.{path-on}
+use Rattle.sf_cursor.proofs.Ways.{few-on, path-on}
 use Rattle.sf_cursor.proofs.cursor.Cursor.enter.Goals as goal
 
 pub returns-clause-at : goal.returns-clause-at
@@ -22,3 +22,13 @@ pub overflow_add-self : goal.overflow_add-self
 overflow_add-self g c =
     let now = c.args.self.now in
     omega (arith, few-operands c.args.design.now now.node c.requires.at.sub, c.requires.at.operands, ap (λ p. p.operands) c.self.view_is, c.named.ensures, named-most c.args.step)
+
+pub invariant_of-self-in_err-enter : goal.invariant_of-self-in_err-enter
+invariant_of-self-in_err-enter g c =
+    few-on c.args.design.now (g.V.Values.value c.args.values.now c.args.design.now) c.args.self.now c.args.step c.self.inside.levels.items _ _ c.requires.at c.requires.can
+    (ap (λ p. p.levels) c.self.view_is) c.in_ok-push.ensures.items
+
+pub invariant_of-self-2 : goal.invariant_of-self-2
+invariant_of-self-2 g c =
+    few-on c.args.design.now (g.V.Values.value c.args.values.now c.args.design.now) c.args.self.now c.args.step c.self.inside.levels.items _ _ c.requires.at c.requires.can
+    (ap (λ p. p.levels) c.self.view_is) c.in_ok-push.ensures.items
