@@ -1,35 +1,41 @@
 -- Rings of deques, opened at one worker, and what is left of a team, one deque at a time.
-use Rattle.std.proofs.Common.{◌≡◌, ℕ, ◌<◌, List, [], ◌∷◌, ◌++◌, length, take, drop, map, All, sym, ap, ◌∙◌, subst, refl, arith, length-append, append-nil, append_assoc, inl, inr}
+use Rattle.std.proofs.Common.{◌≡◌, ℕ, ◌<◌, List, [], ◌∷◌, ◌++◌, length, take, drop, reverse, map, All, sym, ap, ◌∙◌, subst, refl, arith, length-append, append-nil, append_assoc, inl, inr}
 use Rattle.std.specs.Prelude.{sum_by}
 use Rattle.std.specs.List.{flat_map}
 use Rattle.std.proofs.lemmas.List.Sums.{sum_by-append, sum_by-cons}
 use Rattle.std.proofs.lemmas.List.Elements.{All-take, All-drop, All-push, All-head, All-nil, All-cons}
-use Rattle.std.proofs.lemmas.List.{map-append}
+use Rattle.std.proofs.lemmas.List.{map-append, reverse-append}
 use lib.Seq.{take-append_seam, drop-append_seam}
 use Rattle.sf_node.specs.declared.task.Task.{Task}
-use Rattle.sf_frontier.specs.Ends.{Deque, OwnerView, ThiefView}
+use Rattle.sf_frontier.specs.Ends.{Deque, OwnerView, ThiefView, joined, IsDrained}
 use Rattle.sf_frontier.specs.Fair.{SameTasks}
 use Rattle.sf_frontier.specs.Team.{thief_deques_of, turned, owners_of, deques_of, preys_of, stolen_by, AreSettled, IsTeam, IsFinished, IsNewOwner, IsNewThief, IsNewPlace}
 use Rattle.sf_frontier.specs.declared.place.Place.{Place}
 
 module _ {A : Type 0} where
+  -- what holds of all elements of two lists together holds of those of the first
   pub all_front : (P : A → Type 0) (xs ys : List A) → All P (xs ++ ys) → All P xs
   all_front P xs ys h = subst (All P) (take-append_seam xs ys) (All-take P (length xs) (xs ++ ys) h)
 
+  -- what holds of all elements holds of the last one
   pub all_last : (P : A → Type 0) (xs : List A) (x : A) → All P (xs ++ x ∷ []) → P x
   all_last P xs x h = All-head P x [] (subst (All P) (drop-append_seam xs (x ∷ [])) (All-drop P (length xs) (xs ++ x ∷ []) h))
 
+  -- lists that are equal with one element behind have the same length
   snoc_length : (xs ys : List A) (x y : A) → xs ++ x ∷ [] ≡ ys ++ y ∷ [] → length xs ≡ length ys
   snoc_length xs ys x y e = omega (arith, ap length e, length-append xs (x ∷ []), length-append ys (y ∷ []))
 
+  -- lists that are equal with one element behind are equal
   snoc_same : (xs ys : List A) (x y : A) → xs ++ x ∷ [] ≡ ys ++ y ∷ [] → xs ≡ ys
   snoc_same xs ys x y e =
       let len = snoc_length xs ys x y e in
       sym (take-append_seam xs (x ∷ [])) ∙ (ap (λ (l : List A). take (length xs) l) e ∙ (ap (λ (n : ℕ). take n (ys ++ y ∷ [])) len ∙ take-append_seam ys (y ∷ [])))
 
+  -- the only elements of equal lists are equal
   one_same : (x y : A) → x ∷ [] ≡ y ∷ [] → x ≡ y
   one_same x y e = cc
 
+  -- lists that are equal with one element behind have the same last element
   snoc_last : (xs ys : List A) (x y : A) → xs ++ x ∷ [] ≡ ys ++ y ∷ [] → x ≡ y
   snoc_last xs ys x y e =
       let len = snoc_length xs ys x y e in
@@ -40,20 +46,29 @@ module _ {A : Type 0} where
   first_or d [] = d
   first_or d (x ∷ xs) = x
 
+  -- without its first element a list of two or more still ends as before
   drop_snoc : (xs : List A) (x y : A) → drop 1 ((xs ++ x ∷ []) ++ y ∷ []) ≡ drop 1 (xs ++ x ∷ []) ++ y ∷ []
   drop_snoc [] x y = refl
   drop_snoc (z ∷ xs) x y = refl
 
+  -- the first of a list with one element behind is the first of the list, or that element where it has none
   first_snoc : (xs : List A) (x y : A) → first_or y (xs ++ x ∷ []) ≡ first_or x xs
   first_snoc [] x y = refl
   first_snoc (z ∷ xs) x y = refl
 
+  -- a list with its first element put last ends with this one
   turned_snoc : (xs : List A) (x : A) → turned (xs ++ x ∷ []) ≡ drop 1 (xs ++ x ∷ []) ++ first_or x xs ∷ []
   turned_snoc [] x = refl
   turned_snoc (z ∷ xs) x = refl
 
+  -- the list of this one alone
   abbrev one : A → List A
   one x = x ∷ []
+
+  -- what is taken last first from the end of a list
+  pub last-first : (all stack less more : List A) (x : A) → all ≡ stack ++ reverse more → stack ≡ less ++ x ∷ [] → all ≡ less ++ reverse (more ++ x ∷ [])
+  last-first all stack less more x e last =
+      e ∙ (ap (λ (l : List A). l ++ reverse more) last ∙ (append_assoc less (x ∷ []) (reverse more) ∙ ap (λ (l : List A). less ++ l) (sym (reverse-append more (x ∷ [])))))
 
 -- one thief, on this deque
 pub one_thief : (rest ts : List ThiefView) (t : ThiefView) (d : Deque) → ts ≡ rest ++ t ∷ [] → thief_deques_of ts ≡ d ∷ [] → (ts ≡ t ∷ []) × (t.deque ≡ d)
@@ -69,11 +84,12 @@ pub record IsNewPair (o : OwnerView) (t : ThiefView) : Type 0 where
   pub owner : IsNewOwner o
   pub thief : IsNewThief t
 
-pub new-pair : (lone o : OwnerView) (t : ThiefView) → IsNewOwner lone → o ≡ record lone { deque = record lone.deque { parts = 2 } } → t ≡ record { deque = record lone.deque { parts = 2 }; taken = []; empty_takes = 0 } → IsNewPair o t
+-- an owner that was alone and gave its front away is, with the thief that has it, a new pair
+pub new-pair : (lone o : OwnerView) (t : ThiefView) → IsNewOwner lone → o ≡ record lone { deque = record lone.deque { parts = 2 }; stack = drop (length lone.stolen) lone.stack; stolen = [] } → t ≡ record { deque = record lone.deque { parts = 2 }; taken = []; empty_takes = 0 } → IsNewPair o t
 new-pair lone o t new eo et = record {
   deque = ap (λ (x : ThiefView). x.deque) et ∙ sym (ap (λ (x : OwnerView). x.deque) eo);
   parts = ap (λ (x : OwnerView). x.deque.parts) eo;
-  owner = (ap (λ (x : OwnerView). x.put) eo ∙ new.0, ap (λ (x : OwnerView). x.taken) eo ∙ new.1, ap (λ (x : OwnerView). x.empty_takes) eo ∙ new.2, ap (λ (x : OwnerView). x.refused_puts) eo ∙ new.3);
+  owner = (ap (λ (x : OwnerView). x.put) eo ∙ new.0, ap (λ (x : OwnerView). x.taken) eo ∙ new.1, ap (λ (x : OwnerView). x.empty_takes) eo ∙ new.2, ap (λ (x : OwnerView). x.refused_puts) eo ∙ new.3, ap (λ (x : OwnerView). x.stack) eo ∙ (ap (λ (zs : List Task). drop (length zs) lone.stack) new.5 ∙ new.4), ap (λ (x : OwnerView). x.stolen) eo);
   thief = (ap (λ (x : ThiefView). x.taken) et, ap (λ (x : ThiefView). x.empty_takes) et);
 }
 
@@ -83,15 +99,19 @@ module _ {T : Type 0} where
     pub preys : preys_of ps ≡ map (λ x. x ∷ []) (drop 1 (deques_of ps ++ d ∷ []))
     pub first_is : first ≡ first_or d (deques_of ps)
 
+  -- the deques on which a worker has thieves
   abbrev prey : Place T → List Deque
   prey p = thief_deques_of p.thieves.items
 
+  -- the deque of a worker
   abbrev deque : Place T → Deque
   deque p = p.owner.deque
 
+  -- before the first worker the ring is open at its deque
   pub ring-start : (d : Deque) → IsOpenRing [] d d
   ring-start d = record { preys = refl; first_is = refl }
 
+  -- a worker with a thief on the next deque makes the open ring longer by one
   pub ring-more : (ps : List (Place T)) (p : Place T) (d first next : Deque) → IsOpenRing ps d first → p.owner.deque ≡ d → prey p ≡ next ∷ [] → IsOpenRing (ps ++ p ∷ []) next first
   ring-more ps p d first next r here there =
       let ds : deques_of (ps ++ p ∷ []) ≡ deques_of ps ++ d ∷ [] = map-append deque ps (p ∷ []) ∙ ap (λ x. deques_of ps ++ x ∷ []) here in
@@ -105,6 +125,7 @@ module _ {T : Type 0} where
         first_is = r.first_is ∙ (sym (first_snoc (deques_of ps) d next) ∙ ap (first_or next) (sym ds));
       }
 
+  -- a last worker with its thief on the first deque closes the ring
   pub ring-closed : (ps : List (Place T)) (p : Place T) (d first : Deque) → IsOpenRing ps d first → p.owner.deque ≡ d → prey p ≡ first ∷ [] → preys_of (ps ++ p ∷ []) ≡ map (λ x. x ∷ []) (turned (deques_of (ps ++ p ∷ [])))
   ring-closed ps p d first r here there =
       let ds : deques_of (ps ++ p ∷ []) ≡ deques_of ps ++ d ∷ [] = map-append deque ps (p ∷ []) ∙ ap (λ x. deques_of ps ++ x ∷ []) here in
@@ -114,6 +135,7 @@ module _ {T : Type 0} where
       ∙ (ap (map (λ (x : Deque). x ∷ [])) (sym (turned_snoc (deques_of ps) d))
       ∙ ap (λ zs. map (λ (x : Deque). x ∷ []) (turned zs)) (sym ds))))
 
+  -- a closed ring without its last worker is open, and this one has its thief on the first deque
   pub ring-opened : (ps : List (Place T)) (p : Place T) → preys_of (ps ++ p ∷ []) ≡ map (λ x. x ∷ []) (turned (deques_of (ps ++ p ∷ [])))
       → (prey p ≡ first_or p.owner.deque (deques_of ps) ∷ []) × IsOpenRing ps p.owner.deque (first_or p.owner.deque (deques_of ps))
   ring-opened ps p e =
@@ -124,6 +146,8 @@ module _ {T : Type 0} where
       ∙ (ap (map (λ (x : Deque). x ∷ [])) (turned_snoc (deques_of ps) d) ∙ map-append (λ (x : Deque). x ∷ []) (drop 1 (deques_of ps ++ d ∷ [])) (first ∷ [])))) in
       (snoc_last _ _ (prey p) (first ∷ []) both, record { preys = snoc_same _ _ (prey p) (first ∷ []) both; first_is = refl })
 
+  -- without its last worker an open ring is open at this one's deque, where the worker had its thief on the
+  -- next one
   pub ring-less : (ps : List (Place T)) (p : Place T) (d first : Deque) → IsOpenRing (ps ++ p ∷ []) d first → (prey p ≡ d ∷ []) × IsOpenRing ps p.owner.deque first
   ring-less ps p d first r =
       let here = p.owner.deque in
@@ -146,9 +170,11 @@ module _ {T : Type 0} where
     pub parts : All (λ place. place.owner.deque.parts ≡ 2) ps
     pub part : o.deque.parts ≡ 2
 
+  -- what a worker with one thief stole is what this one took
   stolen_one : (p : Place T) (t : ThiefView) → p.thieves.items ≡ t ∷ [] → stolen_by p ≡ t.taken
   stolen_one p t e = ap (flat_map (λ (u : ThiefView). u.taken)) e ∙ append-nil t.taken
 
+  -- at first no deque of a ring is settled, and the last worker's own is the next one
   pub settling-start : (places ps : List (Place T)) (last : Place T) (rest : List ThiefView) (first : ThiefView) → places ≡ ps ++ last ∷ [] → last.thieves.items ≡ rest ++ first ∷ [] → IsTeam places
       → IsSettling places ps last.owner first [] × (first.deque.parts ≡ 2)
   settling-start places ps last rest first e thieves team =
@@ -182,10 +208,10 @@ module _ {T : Type 0} where
       first_parts (q ∷ qs) p e h = ap (λ (x : Deque). x.parts) e ∙ All-head (λ (place : Place T). place.owner.deque.parts ≡ 2) q (qs ++ p ∷ []) h
 
   -- the owner's deque is settled, and the place before it is the next
-  pub settling-more : (places ps qs : List (Place T)) (p : Place T) (o : OwnerView) (first t : ThiefView) (rest : List ThiefView) (put taken before more after : List Task)
-      → qs ≡ ps ++ p ∷ [] → IsSettling places qs o first before → p.thieves.items ≡ rest ++ t ∷ [] → put ≡ o.put → taken ≡ o.taken ++ t.taken → SameTasks put (taken ++ more) → after ≡ before ++ more
+  pub settling-more : (places ps qs : List (Place T)) (p : Place T) (o : OwnerView) (first t : ThiefView) (rest : List ThiefView) (all : OwnerView) (before more after : List Task)
+      → qs ≡ ps ++ p ∷ [] → IsSettling places qs o first before → p.thieves.items ≡ rest ++ t ∷ [] → all ≡ joined o t.taken → IsDrained all more → after ≡ before ++ more
       → IsSettling places ps p.owner first after
-  settling-more places ps qs p o first t rest put taken before more after e s thieves ep et same ea =
+  settling-more places ps qs p o first t rest all before more after e s thieves is drained ea =
       let P : Place T → Type 0 = λ place. place.owner.deque.parts ≡ 2 in
       let parts = subst (All P) e s.parts in
       let less = ring-less ps p o.deque first.deque (subst (λ zs. IsOpenRing zs o.deque first.deque) e s.ring) in
@@ -198,13 +224,14 @@ module _ {T : Type 0} where
         stolen_are = s.stolen_are ∙ (ap (λ zs. map stolen_by zs ++ (s.stolen ++ first.taken ∷ [])) e
             ∙ (ap (λ zs. zs ++ (s.stolen ++ first.taken ∷ [])) (map-append stolen_by ps (p ∷ []) ∙ ap (λ z. map stolen_by ps ++ z ∷ []) (stolen_one p t lone.0))
             ∙ append_assoc (map stolen_by ps) (t.taken ∷ []) (s.stolen ++ first.taken ∷ [])));
-        settled = (subst (λ zs. SameTasks zs ((o.taken ++ t.taken) ++ more)) ep (subst (λ zs. SameTasks put (zs ++ more)) et same), s.settled);
+        settled = (subst (λ x. IsDrained x more) is drained, s.settled);
         left_are = λ w. omega (arith, s.left_are w, ap (sum_by w) ea, sum_by-append w before more, sum_by-cons (λ (r : List Task). sum_by w r) more s.rests);
         ring = less.1;
         parts = all_front P ps (p ∷ []) parts;
         part = all_last P ps p parts;
       }
 
+  -- the worker before has its thief on the deque that is settled next
   pub settling-thief : (places ps qs : List (Place T)) (p : Place T) (o : OwnerView) (first t : ThiefView) (rest : List ThiefView) (before : List Task)
       → qs ≡ ps ++ p ∷ [] → IsSettling places qs o first before → p.thieves.items ≡ rest ++ t ∷ [] → (o.deque.parts ≡ 2) × (t.deque ≡ o.deque)
   settling-thief places ps qs p o first t rest before e s thieves =
@@ -222,15 +249,16 @@ module _ {T : Type 0} where
       length-map' [] = refl
       length-map' (t ∷ ts) = omega (arith, length-map' ts)
 
-  pub settling-done : (places ps : List (Place T)) (o : OwnerView) (first : ThiefView) (put taken before more after : List Task)
-      → ps ≡ [] → IsSettling places ps o first before → put ≡ o.put → taken ≡ o.taken ++ first.taken → SameTasks put (taken ++ more) → after ≡ before ++ more → IsFinished places after
-  settling-done places ps o first put taken before more after none s ep et same ea =
+  -- where all deques are settled the team is finished
+  pub settling-done : (places ps : List (Place T)) (o : OwnerView) (first : ThiefView) (all : OwnerView) (before more after : List Task)
+      → ps ≡ [] → IsSettling places ps o first before → all ≡ joined o first.taken → IsDrained all more → after ≡ before ++ more → IsFinished places after
+  settling-done places ps o first all before more after none s is drained ea =
       record {
         stolen = first.taken ∷ s.stolen;
         rests = more ∷ s.rests;
         thieves = s.stolen_are ∙ ap (λ zs. map stolen_by zs ++ (s.stolen ++ first.taken ∷ [])) none;
         settled = subst (λ zs. AreSettled zs (first.taken ∷ s.stolen) (more ∷ s.rests)) (sym (s.owners_are ∙ ap (λ zs. owners_of zs ++ o ∷ s.done) none))
-            (subst (λ zs. SameTasks zs ((o.taken ++ first.taken) ++ more)) ep (subst (λ zs. SameTasks put (zs ++ more)) et same), s.settled);
+            (subst (λ x. IsDrained x more) is drained, s.settled);
         left_are = λ w. omega (arith, s.left_are w, ap (sum_by w) ea, sum_by-append w before more, sum_by-cons (λ (r : List Task). sum_by w r) more s.rests);
       }
 
@@ -246,9 +274,10 @@ module _ {T : Type 0} where
       no_thief [] n e = omega (arith, ap length e)
       no_thief (t ∷ ts) n e = omega (arith, n)
 
+  -- a worker alone that has drained its deque is a finished team
   pub lone-done : (places ps : List (Place T)) (last : Place T) (more left : List Task) → places ≡ ps ++ last ∷ [] → length last.thieves.items ≡ 0 → IsTeam places
-      → SameTasks last.owner.put (last.owner.taken ++ more) → left ≡ more → IsFinished places left
-  lone-done places ps last more left e none team same is =
+      → IsDrained last.owner more → left ≡ more → IsFinished places left
+  lone-done places ps last more left e none team drained is =
       elim team.1 [
         | inl alone ↦ (
             let no : ps ≡ [] = no_items ps (let n = ap length e in omega (arith, alone.0, n, length-append ps (last ∷ []))) in
@@ -258,12 +287,15 @@ module _ {T : Type 0} where
               stolen = [] ∷ [];
               rests = more ∷ [];
               thieves = ap (map stolen_by) one ∙ ap (λ z. z ∷ []) empty;
-              settled = subst (λ zs. AreSettled zs ([] ∷ []) (more ∷ [])) (sym (ap owners_of one)) (subst (λ zs. SameTasks last.owner.put (zs ++ more)) (sym (append-nil last.owner.taken)) same, tt);
+              settled = subst (λ zs. AreSettled zs ([] ∷ []) (more ∷ [])) (sym (ap owners_of one)) (alone_joined last.owner more drained, tt);
               left_are = λ w. omega (arith, ap (sum_by w) is, sum_by-cons (λ (r : List Task). sum_by w r) more []);
             })
         | inr all ↦ absurd (let p = lone-part places ps last e none team in let q = all_last (λ place. place.owner.deque.parts ≡ 2) ps last (subst (All (λ (place : Place T). place.owner.deque.parts ≡ 2)) e all.0) in omega (arith, p, q))
       ]
     where
+      alone_joined : (o : OwnerView) (more : List Task) → IsDrained o more → IsDrained (joined o []) more
+      alone_joined o more d = (subst (λ zs. SameTasks o.put (zs ++ more)) (sym (append-nil o.taken)) d.0, d.1 ∙ ap (λ (zs : List Task). zs ++ reverse more) (sym (append-nil o.stolen)))
+
       no_items : {X : Type 0} (xs : List X) → length xs ≡ 0 → xs ≡ []
       no_items [] n = refl
       no_items (x ∷ xs) n = absurd (omega (arith, n))
@@ -276,9 +308,11 @@ module _ {T : Type 0} where
     pub parts : All (λ place. place.owner.deque.parts ≡ 2) ps
     pub new : All IsNewPlace ps
 
+  -- at first no place is made, and the owner of the first deque is new
   pub growing-start : (o : OwnerView) (first : Deque) → o.deque ≡ first → o.deque.parts ≡ 2 → IsNewOwner o → IsGrowing [] o first
   growing-start o first e part new = record { ring = subst (IsOpenRing [] o.deque) e (ring-start o.deque); part = part; owner = new; parts = All-nil (λ (place : Place T). place.owner.deque.parts ≡ 2); new = All-nil IsNewPlace }
 
+  -- a place with the next pair's thief makes the growing ring longer by one
   pub growing-more : (ps qs : List (Place T)) (p : Place T) (o next : OwnerView) (t : ThiefView) (first : Deque) → qs ≡ ps ++ p ∷ [] → IsGrowing ps o first → p.owner ≡ o → p.thieves.items ≡ t ∷ [] → IsNewPair next t → IsGrowing qs next first
   growing-more ps qs p o next t first e h eo et pair =
       let P : Place T → Type 0 = λ place. place.owner.deque.parts ≡ 2 in

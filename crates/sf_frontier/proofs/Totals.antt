@@ -7,21 +7,26 @@ use Rattle.sf_frontier.specs.Ends.{OwnerView}
 use Rattle.sf_frontier.specs.Team.{turned, owners_of, stolen_by, AreSettled, IsFinished}
 use Rattle.sf_frontier.specs.declared.place.Place.{Place}
 
+-- a sum over what a function gives is the sum over the elements
 sum_map : {X Y : Type 0} (f : Y → ℕ) (g : X → Y) (xs : List X) → sum_by f (map g xs) ≡ sum_by (λ x. f (g x)) xs
 sum_map f g [] = refl
 sum_map f g (x ∷ xs) = omega (arith, sum_map f g xs, sum_by-cons f (g x) (map g xs), sum_by-cons (λ y. f (g y)) x xs)
 
+-- a sum is the same where the first element comes last
 sum_turned : {X : Type 0} (f : X → ℕ) (xs : List X) → sum_by f (turned xs) ≡ sum_by f xs
 sum_turned f [] = refl
 sum_turned f (x ∷ xs) = omega (arith, sum_by-append f xs (x ∷ []), sum_by-cons f x xs, sum_by-cons f x [])
 
 module _ (w : Task → ℕ) where
+  -- the weight of what an owner put
   abbrev put_by : OwnerView → ℕ
   put_by o = sum_by w o.put
 
+  -- the weight of what an owner took
   abbrev taken_by : OwnerView → ℕ
   taken_by o = sum_by w o.taken
 
+  -- over settled deques what was put weighs as much as what owners and thieves took, and the rests
   settled-total : (os : List OwnerView) (ss rs : List (List Task)) → AreSettled os ss rs → sum_by put_by os ≡ (sum_by taken_by os + sum_by (λ s. sum_by w s) ss) + sum_by (λ r. sum_by w r) rs
   settled-total [] [] [] h = refl
   settled-total [] [] (r ∷ rs) h = absurd h
@@ -31,7 +36,7 @@ module _ (w : Task → ℕ) where
   settled-total (o ∷ os) (s ∷ ss) (r ∷ rs) h =
       omega (
         arith,
-        h.0 w,
+        h.0.0 w,
         settled-total os ss rs h.1,
         sum_by-append w (o.taken ++ s) r,
         sum_by-append w o.taken s,
@@ -41,6 +46,7 @@ module _ (w : Task → ℕ) where
         sum_by-cons (λ (x : List Task). sum_by w x) r rs,
       )
 
+  -- over a finished team what was put weighs as much as what owners and thieves took, and what is left
   pub finished-total : {T : Type 0} (places : List (Place T)) (left : List Task) → IsFinished places left
       → sum_by (λ place. sum_by w place.owner.put) places ≡ (sum_by (λ place. sum_by w place.owner.taken) places + sum_by (λ place. sum_by w (stolen_by place)) places) + sum_by w left
   finished-total {T} places left h =

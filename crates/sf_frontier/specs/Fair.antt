@@ -1,52 +1,79 @@
--- The rule of a deque: what was put is what was taken and what the deque holds.
-use Rattle.std.specs.Prelude.{◌≡◌, ℕ, ◌+◌, ◌-◌, ◌<◌, List, [], ◌++◌, sum_by, length, All}
+-- The rule of a deque: what was put is what was taken and what the deque holds, and it holds it in the order in which it was put.
+use Rattle.std.specs.Prelude.{◌≡◌, ℕ, ◌+◌, ◌-◌, ◌<◌, List, [], ◌++◌, sum_by, length, drop, All}
 use mathlib.Core.Option.{some}
 use lib.ListN.{get_elem?}
 use Rattle.sf_node.specs.declared.task.Task.{Task}
 use Rattle.sf_frontier.specs.declared.rule.View.{View}
 
-abbrev pub view : ℕ → List Task → List Task → View
-view parts put taken = record { parts = parts; put = put; taken = taken }
+-- the view of the pass that has the back of the deque, the front or both
+abbrev pub view : ℕ → ℕ → List Task → List Task → List Task → List Task → View
+view backs fronts put taken stack stolen = record { backs = backs; fronts = fronts; put = put; taken = taken; stack = stack; stolen = stolen }
 
--- a pass without parts has put and taken nothing
+-- how many of the two ends a pass has
+abbrev pub ends : View → ℕ
+ends v = v.backs + v.fronts
+
+-- a pass without ends has put and taken nothing
 abbrev pub IdleIsEmpty : List View → Type 0
-IdleIsEmpty views = (port : ℕ) (v : View) → get_elem? views port ≡ some v → v.parts ≡ 0 → (v.put ≡ []) × (v.taken ≡ [])
+IdleIsEmpty views = (port : ℕ) (v : View) → get_elem? views port ≡ some v → ends v ≡ 0 → (v.put ≡ []) × (v.taken ≡ [])
+
+-- the stack of the pass at the back is what the pass at the front stole, and then what the deque holds
+abbrev pub IsOrdered : List Task → List View → Type 0
+IsOrdered items views = (port : ℕ) (v : View) → get_elem? views port ≡ some v → 0 < v.backs
+    → (stolen : List Task) × (v.stack ≡ stolen ++ items) × ((other : ℕ) (u : View) → get_elem? views other ≡ some u → 0 < u.fronts → u.stolen ≡ stolen)
 
 -- the weights of what a pass has put, and of what it has taken
 abbrev pub weight_put : (Task → ℕ) → View → ℕ
 weight_put w v = sum_by w v.put
 
+-- the weight of what a pass has taken
 abbrev pub weight_taken : (Task → ℕ) → View → ℕ
 weight_taken w v = sum_by w v.taken
 
+-- what was put weighs as much as what was taken and what the deque holds; there is one back and one front,
+-- the deque holds what is left of the stack in its order, and the tasks held are ones that the team serves
 pub record Balanced (Serves : Task → Type 0) (items : List Task) (views : List View) : Type 0 where
   pub kept : (w : Task → ℕ) → sum_by (weight_put w) views ≡ sum_by (weight_taken w) views + sum_by w items
-  pub parts_add_up : sum_by (λ (v : View). v.parts) views ≡ 2
+  pub one_back : sum_by (λ (v : View). v.backs) views ≡ 1
+  pub one_front : sum_by (λ (v : View). v.fronts) views ≡ 1
   pub idle : IdleIsEmpty views
+  pub ordered : IsOrdered items views
   pub served : All Serves items
 
 -- of two lists as multisets: however the tasks are weighed, both weigh the same
 abbrev pub SameTasks : List Task → List Task → Type 0
 SameTasks xs ys = (w : Task → ℕ) → sum_by w xs ≡ sum_by w ys
 
+-- the tasks join the stack at its end
 abbrev pub Put : View → List Task → View → Type 0
-Put v xs u = u ≡ view v.parts (v.put ++ xs) v.taken
+Put v xs u = u ≡ view v.backs v.fronts (v.put ++ xs) v.taken (v.stack ++ xs) v.stolen
 
--- who has both parts has taken fewer than it put
+-- the tasks were the last of the stack; who has both ends has taken fewer than it put
 abbrev pub Taken : (Task → Type 0) → View → List Task → View → Type 0
-Taken Serves v xs u = (u ≡ view v.parts v.put (v.taken ++ xs)) × All Serves xs × (v.parts ≡ 2 → length v.taken + length xs < length v.put + 1)
+Taken Serves v xs u =
+    (u ≡ view v.backs v.fronts v.put (v.taken ++ xs) u.stack v.stolen) × (v.stack ≡ u.stack ++ xs) × All Serves xs
+    × (ends v ≡ 2 → length v.taken + length xs < length v.put + 1)
 
+-- the tasks are stolen
+abbrev pub Stolen : (Task → Type 0) → View → List Task → View → Type 0
+Stolen Serves v xs u = (u ≡ view v.backs v.fronts v.put (v.taken ++ xs) v.stack (v.stolen ++ xs)) × All Serves xs
+
+-- who has both ends of an empty deque knows that all was taken
 abbrev pub IsAllTaken : View → Type 0
-IsAllTaken v = v.parts ≡ 2 → SameTasks v.put v.taken
+IsAllTaken v = ends v ≡ 2 → SameTasks v.put v.taken × (v.stack ≡ v.stolen)
 
+-- the back alone: what was stolen is no longer on the stack
 abbrev pub kept : View → View
-kept v = view (v.parts - 1) v.put v.taken
+kept v = view v.backs (v.fronts - 1) v.put v.taken (drop (length v.stolen) v.stack) []
 
+-- the front alone
 abbrev pub given : View → View
-given v = view 1 [] []
+given v = view 0 1 [] [] [] []
 
+-- both ends together
 abbrev pub both : View → View → View
-both v u = view (v.parts + u.parts) (v.put ++ u.put) (v.taken ++ u.taken)
+both v u = view (v.backs + u.backs) (v.fronts + u.fronts) (v.put ++ u.put) (v.taken ++ u.taken) v.stack (v.stolen ++ u.stolen)
 
+-- no end
 abbrev pub spent : View
-spent = view 0 [] []
+spent = view 0 0 [] [] [] []

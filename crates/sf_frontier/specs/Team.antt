@@ -2,10 +2,10 @@
 use Rattle.std.specs.Prelude.{◌≡◌, ℕ, ◌⊎◌, ◌<◌, List, [], ◌∷◌, ◌++◌, sum_by, map, length, All, ⊤}
 use Rattle.std.specs.List.{flat_map}
 use Rattle.sf_node.specs.declared.task.Task.{Task}
-use Rattle.sf_frontier.specs.Ends.{Deque, OwnerView, ThiefView}
-use Rattle.sf_frontier.specs.Fair.{SameTasks}
+use Rattle.sf_frontier.specs.Ends.{Deque, OwnerView, ThiefView, joined, IsDrained}
 use Rattle.sf_frontier.specs.declared.place.Place.{Place}
 
+-- the deques on which these thieves stand
 abbrev pub thief_deques_of : List ThiefView → List Deque
 thief_deques_of ts = map (λ (t : ThiefView). t.deque) ts
 
@@ -14,25 +14,29 @@ abbrev pub turned : {X : Type 0} → List X → List X
 turned [] = []
 turned (x ∷ xs) = xs ++ x ∷ []
 
+-- an owner that has put and taken nothing, and has counted nothing
 abbrev pub IsNewOwner : OwnerView → Type 0
-IsNewOwner o = (o.put ≡ []) × (o.taken ≡ []) × (o.empty_takes ≡ 0) × (o.refused_puts ≡ 0)
+IsNewOwner o = (o.put ≡ []) × (o.taken ≡ []) × (o.empty_takes ≡ 0) × (o.refused_puts ≡ 0) × (o.stack ≡ []) × (o.stolen ≡ [])
 
+-- a thief that has taken nothing, and has counted nothing
 abbrev pub IsNewThief : ThiefView → Type 0
 IsNewThief t = (t.taken ≡ []) × (t.empty_takes ≡ 0)
 
--- of the owners and the tasks that thieves took from each deque: what was put is what the owner took, what the thief took, and the rest
+-- of the owners and the tasks that thieves took from each deque: what was put is what the owner took, what the thief took, and the rest; and on the owner's stack what the thief took stands first
 abbrev pub AreSettled : List OwnerView → List (List Task) → List (List Task) → Type 0
 AreSettled [] [] [] = ⊤
 AreSettled [] [] (r ∷ rs) = ⊥
 AreSettled [] (s ∷ ss) rs = ⊥
 AreSettled (o ∷ os) [] rs = ⊥
 AreSettled (o ∷ os) (s ∷ ss) [] = ⊥
-AreSettled (o ∷ os) (s ∷ ss) (r ∷ rs) = SameTasks o.put ((o.taken ++ s) ++ r) × AreSettled os ss rs
+AreSettled (o ∷ os) (s ∷ ss) (r ∷ rs) = IsDrained (joined o s) r × AreSettled os ss rs
 
 module _ {T : Type 0} where
+  -- the owners of the workers' places
   abbrev pub owners_of : List (Place T) → List OwnerView
   owners_of places = map (λ place. place.owner) places
 
+  -- the deques of the workers' places
   abbrev pub deques_of : List (Place T) → List Deque
   deques_of places = map (λ place. place.owner.deque) places
 
@@ -51,10 +55,11 @@ module _ {T : Type 0} where
       × (((length places ≡ 1) × All (λ place. (place.owner.deque.parts ≡ 1) × (place.thieves.items ≡ [])) places)
       ⊎ (All (λ place. place.owner.deque.parts ≡ 2) places × (preys_of places ≡ map (λ d. d ∷ []) (turned (deques_of places)))))
 
+  -- the owner of the place is new, and so are its thieves
   abbrev pub IsNewPlace : Place T → Type 0
   IsNewPlace place = IsNewOwner place.owner × All IsNewThief place.thieves.items
 
-  -- of each deque, what was put is what its owner took, what its thief took, and what is left of it
+  -- of each deque, what was put is what its owner took, what its thief took, and what is left of it; what the owner put and did not take is, in its order, what the thief took and what is left
   pub record IsFinished (places : List (Place T)) (left : List Task) : Type 0 where
     pub stolen : List (List Task)
     pub rests : List (List Task)

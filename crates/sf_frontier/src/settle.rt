@@ -2,7 +2,7 @@
 
 ghost use Rattle.std.specs.Prelude.{◌≡◌, List, ◌++◌, All, IfOk};
 ghost use Rattle.sf_node.specs.declared.task.Task.{Task};
-ghost use Rattle.sf_frontier.specs.Fair.{SameTasks};
+ghost use Rattle.sf_frontier.specs.Ends.{IsDrained};
 ghost use Rattle.sf_frontier.specs.Team.{IsTeam, IsFinished};
 
 use crate::ends::Owner;
@@ -13,7 +13,7 @@ use sf_node::{Task, Tasks};
 use std::alloc::{AllocError as NoMemory, Global};
 
 /// Takes what is left in the deques of a team. Of each deque, what was put is what its owner took, what its
-/// thief took and what is left.
+/// thief took and what is left; of what the owner did not take, the thief took the first.
 pub fn finish<T: Served>(alloc: Global, mut places: Vec<Place<T>>) -> Result<Finish, NoMemory>
     requires { IsTeam places.items }
     ensures finished { IfOk result (λ done. IsFinished places.items done.left) }
@@ -54,7 +54,7 @@ pub fn finish<T: Served>(alloc: Global, mut places: Vec<Place<T>>) -> Result<Fin
 fn drain<T: Served>(mut owner: Owner<T>, left: &mut Vec<Task>) -> Result<(), NoMemory>
     requires { owner.deque.parts ≡ 1 }
     ensures left { IfOk result (λ _. (more : List Task) × (left.new.items ≡ left.old.items ++ more)
-        × SameTasks owner.put (owner.taken ++ more) × All T.serves more) }
+        × IsDrained owner more × All T.serves more) }
 {
     loop {
         left.reserve(1)?;

@@ -10,21 +10,26 @@ use Rattle.atomic_table.proofs.Lists.{at_set, at_snoc, set_else, at_longer}
 use Rattle.sf_incumbent.specs.declared.rule.View.{View}
 use Rattle.sf_incumbent.specs.Rule.{most, view, kept, given, joined, spent, IsLive, IsWord, IsIncumbent, Looks, Offers}
 
+-- the parts of a seat
 abbrev parts : View → ℕ
 parts v = v.parts
 
+-- the parts of all seats
 abbrev total : List View → ℕ
 total views = sum_by parts views
 
+-- where the view of one seat changes, the parts of all change by as much as its own
 total_set : (views : List View) (seat : ℕ) (v w : View) → get_elem? views seat ≡ some v → total (set views seat w) + parts v ≡ total views + parts w
 total_set [] seat v w at = absurd (some-ne-none v (sym at))
 total_set (x ∷ xs) zero v w at = omega (arith, sum_by-cons parts x xs, sum_by-cons parts w xs, ap parts (some-injective x v at))
 total_set (x ∷ xs) (suc seat) v w at = omega (arith, sum_by-cons parts x xs, sum_by-cons parts x (set xs seat w), total_set xs seat v w at)
 
+-- with one seat more, the parts of all are more by its own
 total_snoc : (views : List View) (w : View) → total (views ++ w ∷ []) ≡ total views + parts w
 total_snoc [] w = omega (arith, sum_by-cons parts w [])
 total_snoc (x ∷ xs) w = omega (arith, sum_by-cons parts x xs, sum_by-cons parts x (xs ++ w ∷ []), total_snoc xs w)
 
+-- a seat has at most the parts of all
 total_at : (views : List View) (seat : ℕ) (v : View) → get_elem? views seat ≡ some v → parts v ≤ total views
 total_at [] seat v at = absurd (some-ne-none v (sym at))
 total_at (x ∷ xs) zero v at = omega (arith, sum_by-cons parts x xs, ap parts (some-injective x v at))
@@ -38,11 +43,13 @@ total_two (x ∷ xs) zero (suc j) v w at at' ne = omega (arith, sum_by-cons part
 total_two (x ∷ xs) (suc i) zero v w at at' ne = omega (arith, sum_by-cons parts x xs, ap parts (some-injective x w at'), total_at xs i v at)
 total_two (x ∷ xs) (suc i) (suc j) v w at at' ne = omega (arith, sum_by-cons parts x xs, total_two xs i j v w at at' (λ e. ne (ap suc e)))
 
+-- what was put at a seat's number stands there
 at_here : (l : List View) (i : ℕ) (a b : View) → get_elem? l i ≡ some a → get_elem? (set l i b) i ≡ some b
 at_here [] i a b e = absurd (some-ne-none a (sym e))
 at_here (x ∷ xs) zero a b e = refl
 at_here (x ∷ xs) (suc i) a b e = at_here xs i a b e
 
+-- at one number stands one view
 same_seat : (views : List View) (i j : ℕ) (v u : View) → get_elem? views i ≡ some v → get_elem? views j ≡ some u → j ≡ i → u ≡ v
 same_seat views i j v u at at' e = some-injective u v (sym at' ∙ ap (get_elem? views) e ∙ at)
 
@@ -58,6 +65,8 @@ follows start word views views' one next = elim one as (λ _. IsOne start word v
 -- one seat's view changes and keeps its parts, and the word falls to `new` or stays
 module _ (start seats word new : ℕ) (views : List View) (seat : ℕ) (v w : View) (h : IsWord start seats word views) (at : get_elem? views seat ≡ some v) (some_part : 0 < v.parts)
     (same : w.parts ≡ v.parts) where
+  -- the rule of the word holds after the change, where the word fell to no more than the seat has seen and
+  -- offered
   after : new ≤ word → new ≤ w.seen → new ≤ w.offered → IsOne start new (set views seat w) → IsWord start seats new (set views seat w)
   after falls seen offered one = record {
     small = h.small;
@@ -74,6 +83,7 @@ module _ (start seats word new : ℕ) (views : List View) (seat : ℕ) (v w : Vi
         (at_set views seat j w u there);
   }
 
+  -- the word is one that this seat has offered
   mine : new ≡ w.offered → IsOne start new (set views seat w)
   mine e = inr (seat, w, (at_here views seat v w at, omega arith), e)
 
@@ -85,13 +95,16 @@ module _ (start seats word new : ℕ) (views : List View) (seat : ℕ) (v w : Vi
         | no ne ↦ (j, u, (set_else views seat j w ne ∙ live.0, live.1), is)
       ])
 
+-- the table's first word and the seats keep the rule of the word
 abbrev Holds : ℕ → ℕ → State (Unit {0}) View → Type 0
 Holds start seats s = IsIncumbent start seats s.words s.views
 
+-- the first word, changed by a function that keeps 0, is what the function makes of it
 word_after : (f : ℕ → ℕ) → f 0 ≡ 0 → (ws : List ℕ) → slice_index (set ws 0 (f (slice_index ws 0))) 0 ≡ f (slice_index ws 0)
 word_after f e [] = sym e
 word_after f e (x ∷ xs) = refl
 
+-- a seat with a part may load the word: the rule stays kept, and the seat has seen what it found
 pub looks : (start seats slots seat : ℕ) (me : Me (Unit {0}) View) → 0 < me.0.parts
     → Allows (Holds start seats) slots seat me 0 (λ n. n) (Looks (step slots 0 0 0 none) me)
 looks start seats slots seat me some_part s h homes at fits =
@@ -107,6 +120,7 @@ looks start seats slots seat me some_part s h homes at fits =
       (refl, below.0, below.1),
     )
 
+-- a seat with a part may lower the word to its cost: the rule stays kept, and the seat has offered the cost
 pub offers : (start seats slots seat cost : ℕ) (me : Me (Unit {0}) View) → 0 < me.0.parts
     → Allows (Holds start seats) slots seat me 0 (λ n. min n cost) (Offers (step slots 0 cost 0 none) me)
 offers start seats slots seat cost me some_part s h homes at fits =
@@ -128,6 +142,7 @@ offers start seats slots seat cost me some_part s h homes at fits =
       (refl, below.0, below.1),
     )
 
+-- a seat with two parts or more may be split, and the rule stays kept
 pub splits : (start seats seat : ℕ) (v : View) → 2 ≤ v.parts → Splits (Holds start seats) seat v (kept v) (given v)
 splits start seats seat v two s h at =
     let word : ℕ = slice_index s.words 0 in
@@ -159,6 +174,7 @@ splits start seats seat v two s h at =
           (at_snoc mid (given v) u j there);
     }
 
+-- two seats with parts may be joined, and the rule stays kept
 pub joins : (start seats seat : ℕ) (v : View) (other : ℕ) (w : View) → 0 < v.parts → 0 < w.parts → Joins (Holds start seats) seat v other w (joined v w) spent
 joins start seats seat v other w vs ws s h at apart at' =
     let word : ℕ = slice_index s.words 0 in
@@ -214,6 +230,7 @@ least start seats seat word views v h at some_part all =
       below.0,
     )
 
+-- a word that is found at the first place is the first word
 pub first_word : (ws : List ℕ) (n : ℕ) → get_elem? ws 0 ≡ some n → slice_index ws 0 ≡ n
 first_word [] n e = absurd (some-ne-none n (sym e))
 first_word (x ∷ xs) n e = some-injective x n e

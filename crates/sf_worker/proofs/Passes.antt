@@ -18,6 +18,7 @@ use Rattle.sf_worker.proofs.Thieves.{fell-trans, thieves_fell-trans, thieves_fel
 use Rattle.sf_worker.proofs.Turned.{nothing-passed}
 
 module _ {X : Type 0} (P : X → Type 0) where
+  -- what is found in the first of two lists is found in both together
   pub any-left : (xs ys : List X) → Any P xs → Any P (xs ++ ys)
   any-left [] ys h = absurd (let b = h.2 in omega (arith, b))
   any-left (x ∷ xs) ys (zero, y, below, is, p) = (zero, y, omega arith, is, p)
@@ -25,16 +26,19 @@ module _ {X : Type 0} (P : X → Type 0) where
       let r = any-left xs ys (i, y, omega (arith, below), is, p) in
       (suc r.0, r.1, (let b = r.2 in omega (arith, b)), r.3, r.4)
 
+  -- what is found in the second of two lists is found in both together
   pub any-right : (xs ys : List X) → Any P ys → Any P (xs ++ ys)
   any-right [] ys h = h
   any-right (x ∷ xs) ys h =
       let r = any-right xs ys h in
       (suc r.0, r.1, (let b = r.2 in omega (arith, b)), r.3, r.4)
 
+-- what holds of the value that is there, if one is, may be weakened
 if_some_weaker : {X : Type 0} (P Q : X → Type 0) → ((x : X) → P x → Q x) → (o : Option X) → IfSome o P → IfSome o Q
 if_some_weaker P Q f None h = tt
 if_some_weaker P Q f (Some x) h = f x h
 
+-- what holds of a value that is there, if one is, holds of this one, which is there
 if_some_at : {X : Type 0} (P : X → Type 0) (o : Option X) (x : X) → o ≡ Some x → IfSome o P → P x
 if_some_at P o x e h = subst (λ z. IfSome z P) e h
 
@@ -91,6 +95,7 @@ module _ {T : Type 0} (design : Design) (bound : Parts → ℕ) where
     pub none : passed.undecided ≡ []
     pub stage : Stage a b passed
 
+  -- before the first turn nothing was done
   pub not_begun : (a : WorkerState T) → IsGoing a a
   not_begun a =
       let p = nothing-passed design bound a a refl refl refl refl (refl, refl) (λ w. refl) (λ w. refl) refl (never_fell a.place.owner.empty_takes, thieves_never_fell a.place.thieves.items) in
@@ -115,6 +120,7 @@ module _ {T : Type 0} (design : Design) (bound : Parts → ℕ) where
         ))
       ]
 
+  -- a turn that decided a task, behind those before it
   pub goes_on : (a b c : WorkerState T) → IsGoing a b → 0 < b.quota → (q : Passed design bound b c) × TurnEnds b c q None → IsGoing a c
   unfolding passed-trans
   goes_on a b c g some q = record {
@@ -123,6 +129,7 @@ module _ {T : Type 0} (design : Design) (bound : Parts → ℕ) where
     stage = inr ((let e = g.passed.quota in omega (arith, e, some)), decided_first a b c g q.0.logged (inr q.1.2) q.1.2.0);
   }
 
+  -- where the quota is spent, the turns so far are a pass that ends so
   pub spent : (a b : WorkerState T) → IsGoing a b → b.quota ≡ 0 → (p : Passed design bound a b) × PassEnds a b p QuotaSpent
   spent a b g zero_left = (
     g.passed,
@@ -134,6 +141,8 @@ module _ {T : Type 0} (design : Design) (bound : Parts → ℕ) where
     ),
   )
 
+  -- a last turn that logs nothing leaves the task of `first` where it was, decided or kept, over the whole
+  -- pass
   kept_first : (a b c : WorkerState T) (g : IsGoing a b) (q : Passed design bound b c) → IsKeptFirst b c q → q.logged ≡ [] → IsKeptFirst a c (passed-trans a b c g.passed g.none q)
   unfolding passed-trans
   kept_first a b c g q k none =
@@ -154,6 +163,7 @@ module _ {T : Type 0} (design : Design) (bound : Parts → ℕ) where
         | inr h ↦ (let d = h.1 in let gone = k.0 d.0 in ((λ e. gone), λ t e. inr (gone, inl (any-left (λ (f : Entry). f.node ≡ t.node) g.passed.logged q.logged (if_some_at (λ s. Any (λ (f : Entry). f.node ≡ s.node) g.passed.logged) a.first t e d.1)))))
       ]
 
+  -- where a turn gives an end, the turns so far and this one are a pass that ends so
   pub ends : (a b c : WorkerState T) → IsGoing a b → 0 < b.quota → (end : PassEnd) → (q : Passed design bound b c) × TurnEnds b c q (Some end) → (p : Passed design bound a c) × PassEnds a c p end
   unfolding passed-trans
   ends a b c g some QuotaSpent q = absurd q.1

@@ -4,10 +4,11 @@ use Rattle.std.specs.Prelude.{sum_by}
 use Rattle.std.proofs.lemmas.List.Sums.{sum_by-append, sum_by-cons}
 use Rattle.std.proofs.lemmas.List.Elements.{All-append, All-cons, All-nil}
 use Rattle.sf_node.specs.declared.task.Task.{Task}
-use Rattle.sf_frontier.specs.Ends.{OwnerView, one_more}
+use Rattle.sf_frontier.specs.Ends.{OwnerView, one_more, with_put}
 use Rattle.sf_worker.specs.Takes.{PutsAll}
 
 module _ (S : Task → Type 0) where
+  -- where there is no task to put, nothing changes
   pub puts-none : (old : OwnerView) (kept : List Task) → PutsAll S old old kept kept []
   puts-none old kept = record {
     refused = [];
@@ -20,7 +21,8 @@ module _ (S : Task → Type 0) where
     refusals = (omega arith, λ h. omega arith);
   }
 
-  pub puts-one : (old new : OwnerView) (kept : List Task) (x : Task) → new ≡ record old { put = old.put ++ x ∷ [] } → PutsAll S old new kept kept (x ∷ [])
+  -- an owner that has put one task more has kept none of it
+  pub puts-one : (old new : OwnerView) (kept : List Task) (x : Task) → new ≡ with_put old x → PutsAll S old new kept kept (x ∷ [])
   puts-one old new kept x e =
       let r : new.refused_puts ≡ old.refused_puts = ap (λ (o : OwnerView). o.refused_puts) e in record {
         refused = [];
@@ -33,6 +35,7 @@ module _ (S : Task → Type 0) where
         refusals = (omega (arith, r), λ h. omega (arith, r));
       }
 
+  -- one task that came back and is kept
   pub puts-back : (old new : OwnerView) (kept kept' : List Task) (x y : Task) → y ≡ x → S x → new ≡ record old { refused_puts = one_more old.refused_puts } → kept' ≡ kept ++ y ∷ [] → PutsAll S old new kept kept' (x ∷ [])
   puts-back old new kept kept' x y is s e k =
       let r : new.refused_puts ≡ one_more old.refused_puts = ap (λ (o : OwnerView). o.refused_puts) e in record {
@@ -46,6 +49,7 @@ module _ (S : Task → Type 0) where
         refusals = (omega (arith, r), λ h. omega (arith, r, h));
       }
 
+  -- tasks that were put or kept one after another
   pub puts-more : (a b c : OwnerView) (kept kept' kept'' done : List Task) (x : Task) → PutsAll S a b kept kept' done → PutsAll S b c kept' kept'' (x ∷ []) → PutsAll S a c kept kept'' (x ∷ done)
   puts-more a b c kept kept' kept'' done x p q = record {
     refused = p.refused ++ q.refused;

@@ -15,10 +15,12 @@ Tried i (t ∷ ts) [] = ⊥
 Tried zero (t ∷ ts) (u ∷ us) = (u ≡ t) × Tried zero ts us
 Tried (suc i) (t ∷ ts) (u ∷ us) = ((u.deque ≡ t.deque) × (u.taken ≡ t.taken) × Rose t.empty_takes u.empty_takes) × Tried i ts us
 
+-- before the first try all thieves are as they were
 pub tried-none : (ts : List ThiefView) → Tried zero ts ts
 tried-none [] = tt
 tried-none (t ∷ ts) = (refl, tried-none ts)
 
+-- one thief more was tried and had nothing
 pub tried-one_more : (i : ℕ) (ts us : List ThiefView) (old new : ThiefView) → Tried i ts us → i < length us → old ≡ get_or us i old → new ≡ record old { empty_takes = one_more old.empty_takes } → Tried (suc i) ts (set us i new)
 tried-one_more i [] [] old new h below is e = absurd (omega (arith, below))
 tried-one_more i [] (u ∷ us) old new h below is e = absurd h
@@ -34,6 +36,7 @@ tried-one_more zero (t ∷ ts) (u ∷ us) old new h below is e =
     )
 tried-one_more (suc i) (t ∷ ts) (u ∷ us) old new h below is e = (h.0, tried-one_more i ts us old new h.1 (omega (arith, below)) is e)
 
+-- tries leave as many thieves as there were
 pub tried-length : (i : ℕ) (ts us : List ThiefView) → Tried i ts us → length us ≡ length ts
 tried-length i [] [] h = refl
 tried-length i [] (u ∷ us) h = absurd h
@@ -41,6 +44,7 @@ tried-length i (t ∷ ts) [] h = absurd h
 tried-length zero (t ∷ ts) (u ∷ us) h = omega (arith, tried-length zero ts us h.1)
 tried-length (suc i) (t ∷ ts) (u ∷ us) h = omega (arith, tried-length i ts us h.1)
 
+-- once all thieves were tried in vain, the counts of empty takes of all of them rose
 pub tried-rose : (i : ℕ) (ts us : List ThiefView) → Tried i ts us → length us ≤ i → ThievesRose ts us
 tried-rose i [] [] h all = tt
 tried-rose i [] (u ∷ us) h all = absurd h
@@ -48,6 +52,7 @@ tried-rose i (t ∷ ts) [] h all = absurd h
 tried-rose zero (t ∷ ts) (u ∷ us) h all = absurd (omega (arith, all))
 tried-rose (suc i) (t ∷ ts) (u ∷ us) h all = (h.0.2, tried-rose i ts us h.1 (omega (arith, all)))
 
+-- tries in vain lower no count of empty takes
 pub tried-fell : (i : ℕ) (ts us : List ThiefView) → Tried i ts us → ThievesNeverFell ts us
 tried-fell i [] [] h = tt
 tried-fell i [] (u ∷ us) h = absurd h
@@ -55,6 +60,7 @@ tried-fell i (t ∷ ts) [] h = absurd h
 tried-fell zero (t ∷ ts) (u ∷ us) h = ((let k : u.empty_takes ≡ t.empty_takes = ap (λ (v : ThiefView). v.empty_takes) h.0 in omega (arith, k)), tried-fell zero ts us h.1)
 tried-fell (suc i) (t ∷ ts) (u ∷ us) h = ((let k = h.0.2 in omega (arith, k)), tried-fell i ts us h.1)
 
+-- tries in vain leave each thief at its deque
 pub tried-deques : (i : ℕ) (ts us : List ThiefView) → Tried i ts us → thief_deques_of us ≡ thief_deques_of ts
 tried-deques i [] [] h = refl
 tried-deques i [] (u ∷ us) h = absurd h
@@ -62,6 +68,7 @@ tried-deques i (t ∷ ts) [] h = absurd h
 tried-deques zero (t ∷ ts) (u ∷ us) h = λ j. (h.0 j).deque ∷ tried-deques zero ts us h.1 j
 tried-deques (suc i) (t ∷ ts) (u ∷ us) h = λ j. h.0.0 j ∷ tried-deques i ts us h.1 j
 
+-- tries in vain leave what the thieves took
 pub tried-weigh : (w : Task → ℕ) (i : ℕ) (ts us : List ThiefView) → Tried i ts us → thieves_weigh w us ≡ thieves_weigh w ts
 tried-weigh w i [] [] h = refl
 tried-weigh w i [] (u ∷ us) h = absurd h
@@ -75,11 +82,13 @@ tried-weigh w (suc i) (t ∷ ts) (u ∷ us) h =
     let k : f u ≡ f t = ap (sum_by w) h.0.1 in
     omega (arith, k, tried-weigh w i ts us h.1, sum_by-cons f t ts, sum_by-cons f u us)
 
+-- where one thief changes and keeps its deque, all thieves stay at theirs
 pub same_deques : (ts : List ThiefView) (i : ℕ) (old new : ThiefView) → i < length ts → old ≡ get_or ts i old → new.deque ≡ old.deque → thief_deques_of (set ts i new) ≡ thief_deques_of ts
 same_deques [] i old new below is same = refl
 same_deques (x ∷ xs) zero old new below is same = ap (λ d. d ∷ thief_deques_of xs) (same ∙ ap (λ (t : ThiefView). t.deque) is)
 same_deques (x ∷ xs) (suc i) old new below is same = ap (λ ds. x.deque ∷ ds) (same_deques xs i old new (omega arith) is same)
 
+-- where one thief changes and keeps its count of empty takes, no count fell that had not fallen before
 pub fell_set : (ts us : List ThiefView) (i : ℕ) (old new : ThiefView) → old ≡ get_or us i old → new.empty_takes ≡ old.empty_takes → ThievesNeverFell ts us → ThievesNeverFell ts (set us i new)
 fell_set [] [] i old new is same h = tt
 fell_set [] (u ∷ us) i old new is same h = absurd h
@@ -87,6 +96,7 @@ fell_set (t ∷ ts) [] i old new is same h = absurd h
 fell_set (t ∷ ts) (u ∷ us) zero old new is same h = ((let k : new.empty_takes ≡ u.empty_takes = same ∙ ap (λ (v : ThiefView). v.empty_takes) is in let n = h.0 in omega (arith, k, n)), h.1)
 fell_set (t ∷ ts) (u ∷ us) (suc i) old new is same h = (h.0, fell_set ts us i old new is same h.1)
 
+-- a thief that took one task more makes the thieves' tasks weigh more by that one
 pub weigh_set : (w : Task → ℕ) (us : List ThiefView) (i : ℕ) (old new : ThiefView) (x : Task) → i < length us → old ≡ get_or us i old → new.taken ≡ old.taken ++ x ∷ [] → thieves_weigh w (set us i new) ≡ thieves_weigh w us + w x
 weigh_set w us i old new x below is same =
     let f : ThiefView → ℕ = λ t. sum_by w t.taken in
@@ -95,9 +105,11 @@ weigh_set w us i old new x below is same =
     let b : f old ≡ f (get_or us i old) = ap f is in
     omega (arith, s, a, b, sum_by-append w old.taken (x ∷ []))
 
+-- a count that fell in neither of two steps did not fall over both
 pub fell-trans : (n m k : ℕ) → NeverFell n m → NeverFell m k → NeverFell n k
 fell-trans n m k p q = omega (arith, p, q)
 
+-- where in neither of two steps a count of empty takes fell, none did over both
 pub thieves_fell-trans : (ts us vs : List ThiefView) → ThievesNeverFell ts us → ThievesNeverFell us vs → ThievesNeverFell ts vs
 thieves_fell-trans [] [] vs p q = q
 thieves_fell-trans [] (u ∷ us) vs p q = absurd p
@@ -105,6 +117,7 @@ thieves_fell-trans (t ∷ ts) [] vs p q = absurd p
 thieves_fell-trans (t ∷ ts) (u ∷ us) [] p q = absurd q
 thieves_fell-trans (t ∷ ts) (u ∷ us) (v ∷ vs) p q = (fell-trans t.empty_takes u.empty_takes v.empty_takes p.0 q.0, thieves_fell-trans ts us vs p.1 q.1)
 
+-- where no count of empty takes fell and then all rose, all rose over both
 pub thieves_fell-rose : (ts us vs : List ThiefView) → ThievesNeverFell ts us → ThievesRose us vs → ThievesRose ts vs
 thieves_fell-rose [] [] vs p q = q
 thieves_fell-rose [] (u ∷ us) vs p q = absurd p
@@ -112,9 +125,11 @@ thieves_fell-rose (t ∷ ts) [] vs p q = absurd p
 thieves_fell-rose (t ∷ ts) (u ∷ us) [] p q = absurd q
 thieves_fell-rose (t ∷ ts) (u ∷ us) (v ∷ vs) p q = ((let a = p.0 in let b = q.0 in omega (arith, a, b)), thieves_fell-rose ts us vs p.1 q.1)
 
+-- where nothing changes, no count of empty takes fell
 pub thieves_never_fell : (ts : List ThiefView) → ThievesNeverFell ts ts
 thieves_never_fell [] = tt
 thieves_never_fell (t ∷ ts) = (omega arith, thieves_never_fell ts)
 
+-- a count that stays has not fallen
 pub never_fell : (n : ℕ) → NeverFell n n
 never_fell n = omega arith

@@ -15,18 +15,22 @@ use Rattle.sf_worker.specs.Took.{IsReady, Serves, Passed, thieves_weigh, on_task
 use Rattle.sf_worker.specs.Takes.{IsFirst, IsFound, SamePuts}
 use Rattle.sf_worker.specs.Turns.{Became, Stayed, IsJudged, TurnEnds, IsKeptFirst}
 
+-- where a task was found, none is in `first` any more
 pub first-gone : (first first' : Option Task) (x : Task) → IsFirst first first' (Some x) → first' ≡ None
 first-gone None first' x h = h
 first-gone (Some t) first' x h = h.0
 
+-- where no task was found, none was in `first`, and none is
 pub first-not : (first first' : Option Task) → IsFirst first first' None → (first ≡ None) × (first' ≡ None)
 first-not None first' h = (refl, h)
 first-not (Some t) first' h = absurd (let e = h.1 in cc)
 
+-- a task that was in `first` is the one found
 pub first-is : (first first' : Option Task) (x t : Task) → IsFirst first first' (Some x) → first ≡ Some t → x ≡ t
 first-is None first' x t h e = absurd (cc)
 first-is (Some u) first' x t h e = (let k = h.1 in cc)
 
+-- an entry of the task found decides the task that was in `first`, if one was
 pub first-decided : (first first' : Option Task) (x : Task) (e : Entry) → IsFirst first first' (Some x) → e.node ≡ x.node → IfSome first (λ t. Any (λ (f : Entry). f.node ≡ t.node) (e ∷ []))
 first-decided None first' x e h is = tt
 first-decided (Some t) first' x e h is = (0, e, omega arith, refl, is ∙ ap (λ (u : Task). u.node) (first-is (Some t) first' x t h refl))
@@ -67,9 +71,11 @@ module _ {T : Type 0} (design : Design) (bound : Parts → ℕ) where
   module _ (S : Task → Type 0) (team : Serves S design bound) (task : Task) (old mid new : WorkerState T)
       (log : mid.log.items ≡ old.log.items) (kept : mid.kept.items ≡ old.kept.items) (quota : mid.quota ≡ old.quota) (seat : mid.seat ≡ old.seat)
       (same : SamePuts old.place mid.place) (found : IsFound S old.first old.place mid.first mid.place (Some task)) where
+    -- what was taken, with the task that was in `first`, weighs more by the task found than what was before
     taken_mid : (w : Parts → ℕ) → taken_of w mid + first_of w old ≡ taken_of w old + w task.node
     taken_mid w = found.4 (on_task w)
 
+    -- where the task found became an entry, this was one turn that decided a task
     pub became-passed : Became design bound task mid new → (p : Passed design bound old new) × TurnEnds old new p None
     became-passed b =
         let e = b.entry in
@@ -107,6 +113,7 @@ module _ {T : Type 0} (design : Design) (bound : Parts → ℕ) where
           (refl, refl, (gone, first-decided old.first mid.first task e found.0 b.node)),
         )
 
+    -- where the task found was kept, nothing was logged, and at most one task stayed undecided
     pub stayed-passed : Stayed design task mid new → (p : Passed design bound old new) × (length p.undecided ≤ 1) × (p.logged ≡ []) × IsKeptFirst old new p
     stayed-passed b =
         let gone : new.first ≡ None = b.first ∙ first-gone old.first mid.first task found.0 in
@@ -142,10 +149,12 @@ module _ {T : Type 0} (design : Design) (bound : Parts → ℕ) where
           ((λ _. gone), λ t e. inr (gone, inr (0, omega arith, first-is old.first mid.first task t found.0 e))),
         )
 
+    -- whatever the task found was judged, this was one turn with that answer
     pub judged-passed : (r : Option PassEnd) → IsJudged design bound task mid new r → (p : Passed design bound old new) × TurnEnds old new p r
     judged-passed None b = became-passed b
     judged-passed (Some end) b = let p = stayed-passed b.1 in (p.0, subst (λ e. TurnEnds old new p.0 (Some e)) (sym b.0) (p.1, p.2, p.3))
 
+    -- after the turn the worker is ready for another one
     pub judged-ready : IsReady design bound old → mid.best ≡ old.best → (r : Option PassEnd) → IsJudged design bound task mid new r → IsReady design bound new
     judged-ready ready best None b =
         let gone : new.first ≡ None = b.first ∙ first-gone old.first mid.first task found.0 in

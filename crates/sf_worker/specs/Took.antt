@@ -17,6 +17,7 @@ use Rattle.sf_worker.specs.Tasks.{IsTask, IsPlan, IsEntry, Solves}
 abbrev pub NeverFell : ℕ → ℕ → Type 0
 NeverFell n m = min n MAX ≤ m
 
+-- a count that stays at the greatest u64 has risen, or stands there
 abbrev pub Rose : ℕ → ℕ → Type 0
 Rose n m = one_more n ≤ m
 
@@ -27,6 +28,7 @@ ThievesNeverFell [] (u ∷ us) = ⊥
 ThievesNeverFell (t ∷ ts) [] = ⊥
 ThievesNeverFell (t ∷ ts) (u ∷ us) = NeverFell t.empty_takes u.empty_takes × ThievesNeverFell ts us
 
+-- the counts of empty takes of all thieves rose
 abbrev pub ThievesRose : List ThiefView → List ThiefView → Type 0
 ThievesRose [] [] = ⊤
 ThievesRose [] (u ∷ us) = ⊥
@@ -42,20 +44,25 @@ IsBest design (Some best) offered = IsPlan design best.0 best.1 × (best.1 ≡ o
 abbrev pub thieves_weigh : (Task → ℕ) → List ThiefView → ℕ
 thieves_weigh w ts = sum_by (λ (t : ThiefView). sum_by w t.taken) ts
 
+-- a task weighs what its subproblem weighs
 abbrev pub on_task : (Parts → ℕ) → Task → ℕ
 on_task w t = w t.node
 
+-- the weight of a task that may be there
 abbrev pub maybe_weighs : (Task → ℕ) → Option Task → ℕ
 maybe_weighs w (Some t) = w t
 maybe_weighs w None = 0
 
 module _ (w : Parts → ℕ) where
+  -- the weight of tasks
   abbrev pub tasks_weigh : List Task → ℕ
   tasks_weigh ts = sum_by (on_task w) ts
 
+  -- the weight of the subproblems that the entries decide
   abbrev pub nodes_weigh : List Entry → ℕ
   nodes_weigh es = sum_by (λ (e : Entry). w e.node) es
 
+  -- the weight of the children of the entries
   abbrev pub children_weigh : List Entry → ℕ
   children_weigh es = sum_by (λ (e : Entry). sum_by w (children e)) es
 
@@ -68,18 +75,23 @@ abbrev pub Serves : (Task → Type 0) → Design → (Parts → ℕ) → Type 0
 Serves S design bound = (t : Task) → (S t → IsTask design bound t) × (IsTask design bound t → S t)
 
 module _ {T : Type 0} where
+  -- the weight of what a worker took, from its own deque and by its thieves
   abbrev pub taken_of : (Parts → ℕ) → WorkerState T → ℕ
   taken_of w s = sum_by (on_task w) s.place.owner.taken + thieves_weigh (on_task w) s.place.thieves.items
 
+  -- the weight of what a worker put
   abbrev pub put_of : (Parts → ℕ) → WorkerState T → ℕ
   put_of w s = tasks_weigh w s.place.owner.put
 
+  -- the weight of the task in `first`
   abbrev pub first_of : (Parts → ℕ) → WorkerState T → ℕ
   first_of w s = maybe_weighs (on_task w) s.first
 
+  -- the owner and the thieves stand at the deques at which they stood
   abbrev pub SameDeques : WorkerState T → WorkerState T → Type 0
   SameDeques old new = (new.place.owner.deque ≡ old.place.owner.deque) × (thief_deques_of new.place.thieves.items ≡ thief_deques_of old.place.thieves.items)
 
+  -- the seat is at the same word, with the same parts
   abbrev pub SameSeat : WorkerState T → WorkerState T → Type 0
   SameSeat old new = (new.seat.word ≡ old.seat.word) × (new.seat.parts ≡ old.seat.parts)
 

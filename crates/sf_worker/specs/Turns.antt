@@ -50,6 +50,7 @@ module _ {T : Type 0} where
     pub thieves : new.place.thieves.items ≡ old.place.thieves.items
     pub serves : MayServe new.room design
 
+  -- the task became an entry, or memory ran out and it is kept
   abbrev pub IsJudged : Design → (Parts → ℕ) → Task → WorkerState T → WorkerState T → Option PassEnd → Type 0
   IsJudged design bound task old new None = Became design bound task old new
   IsJudged design bound task old new (Some end) = (end ≡ NoMemory) × Stayed design task old new

@@ -1,6 +1,7 @@
 //! One turn of a pass: a task is taken, decided and logged.
 
-ghost use Rattle.std.specs.Prelude.{◌≡◌, ℕ, ◌+◌, ◌<◌, ◌≤◌, [], ◌∷◌, All, map, MatchOption, IsTrue, IsFalse};
+ghost use Rattle.std.specs.Prelude.{◌≡◌, ℕ, ◌+◌, ◌<◌, ◌≤◌, [], ◌∷◌, ◌++◌, All, map, MatchOption, IsTrue};
+ghost use Rattle.std.specs.Prelude.{IsFalse};
 ghost use Rattle.std.specs.Prelude.{vec_len, vec_capacity};
 ghost use Rattle.sf_model.specs.declared.TheConstants.{MAX};
 ghost use Rattle.sf_node.specs.declared.task.Task.{Task};
@@ -96,6 +97,19 @@ fn judge<'a, T: Served, B: Bounds>(
     }
 }
 
+/// Logs what became of the task, which is one decision of the quota.
+fn enter(log: &mut Vec<Entry>, quota: &mut u64, task: Task, kind: Kind, value: u64)
+    requires room { vec_len log.old < vec_capacity log.old }
+    requires quota { 0 < quota.old }
+    ensures log { log.new.items
+        ≡ log.old.items ++ record { node = task.node; kind = kind; value = value } ∷ [] }
+    ensures quota { quota.new + 1 ≡ quota.old }
+{
+    let Task { node, bound: _ } = task;
+    log.push_reserved(Entry { node, kind, value });
+    *quota -= 1;
+}
+
 /// Logs the task as closed.
 fn close<'a, T: Served, B: Bounds>(
     state: &mut WorkerState<'a, T>,
@@ -113,13 +127,7 @@ fn close<'a, T: Served, B: Bounds>(
     requires closed { value ≤ task.bound }
     ensures { Became design.now (B.Values.value bounds.now design.now) task state.old state.new }
 {
-    let Task { node, bound: _ } = task;
-    state.log.push_reserved(Entry {
-        node,
-        kind: Kind::Closed,
-        value,
-    });
-    state.quota -= 1;
+    enter(&mut state.log, &mut state.quota, task, Kind::Closed, value);
 }
 
 /// Offers the cost of the plan, which is the best so far, and logs the task as closed at the answer.
@@ -147,13 +155,7 @@ fn solve<'a, T: Served, B: Bounds>(
 {
     let value = word.offer(&mut state.seat, cost);
     state.best = Some((expr, cost));
-    let Task { node, bound: _ } = task;
-    state.log.push_reserved(Entry {
-        node,
-        kind: Kind::Closed,
-        value,
-    });
-    state.quota -= 1;
+    enter(&mut state.log, &mut state.quota, task, Kind::Closed, value);
 }
 
 /// Puts the children, the last one first, and logs the task. Keeps it where there is no room for the
@@ -184,13 +186,13 @@ fn extend<'a, T: Served, B: Bounds>(
         return Some(PassEnd::NoMemory);
     }
     put_all(&mut state.place.owner, &mut state.kept, children);
-    let Task { node, bound: _ } = task;
-    state.log.push_reserved(Entry {
-        node,
-        kind: Kind::Extended,
+    enter(
+        &mut state.log,
+        &mut state.quota,
+        task,
+        Kind::Extended,
         value,
-    });
-    state.quota -= 1;
+    );
     None
 }
 
@@ -226,12 +228,7 @@ fn halve<'a, T: Served, B: Bounds>(
     }
     put(&mut state.place.owner, &mut state.kept, right);
     put(&mut state.place.owner, &mut state.kept, left);
-    let Task { node, bound: _ } = task;
-    state.log.push_reserved(Entry {
-        node,
-        kind: Kind::Split(block),
-        value,
-    });
-    state.quota -= 1;
+    let kind = Kind::Split(block);
+    enter(&mut state.log, &mut state.quota, task, kind, value);
     None
 }

@@ -9,7 +9,7 @@ pub loop-preserved : goal.loop-preserved
 loop-preserved g c =
     let a = c.in_ok-alone.ensures in
     let n = c.in_ok-next.ensures in
-    let pair = new-pair c.in_ok-alone.field-0 c.in_ok-next.next c.in_ok-next.thief (a.1, a.2, a.3, a.4) n.owner n.thief in
+    let pair = new-pair c.in_ok-alone.field-0 c.in_ok-next.next c.in_ok-next.thief (a.1, a.2, a.3, a.4, a.5, a.6) n.owner n.thief in
     let i = c.loop.invariant in (
       subst (λ o. IsGrowing c.push.new.self.items o c.args.first.deque) (sym c.replace-owner.ensures.after)
           (growing-more c.loop.places.items c.push.new.self.items _ c.loop.owner c.in_ok-next.next c.in_ok-next.thief c.args.first.deque c.in_ok-push.ensures.items i.0 c.replace-owner.ensures.value c.in_ok-thieves.ensures.items pair),

@@ -1,7 +1,7 @@
 use Rattle.std.proofs.Common.{◌≡◌, ◌∙◌, List, [], ◌++◌, All, length, ap, sym, subst, arith, rules}
 use Rattle.std.proofs.lemmas.List.Elements.{All-append, All-nil}
 use Rattle.sf_node.specs.declared.task.Task.{Task}
-use Rattle.sf_frontier.specs.Ends.{OwnerView, ThiefView}
+use Rattle.sf_frontier.specs.Ends.{ThiefView, joined}
 use Rattle.sf_frontier.specs.Team.{IsFinished}
 use Rattle.sf_frontier.proofs.Teams.{IsSettling, settling-start, settling-more, settling-thief, settling-some, settling-done, lone-part, lone-done}
 use Rattle.sf_frontier.proofs.settle.finish.Goals as goal
@@ -42,8 +42,7 @@ loop-place-preserved g c =
     let S = g.T.Served.serves in
     let d = c.in_ok-drain-2.ensures.left in (
       settling-more c.args.places.items c.pop-in-loop-place.new.self.items c.loop-place.places.items c.in-Some-pop-2.place c.loop-place.owner _ c.in-Some-pop-3.thief c.pop-in-Some-pop-2.new.self.items
-          c.join.result.put c.join.result.taken c.loop-place.left.items d.0 c.drain-in-Some-pop-2.new.left.items c.in-Some-pop-2.ensures.items c.loop-place.invariant.0 c.in-Some-pop-3.ensures.items
-          (ap (λ (o : OwnerView). o.put) c.join.ensures) (ap (λ (o : OwnerView). o.taken) c.join.ensures) d.2 d.1,
+          c.join.result c.loop-place.left.items d.0 c.drain-in-Some-pop-2.new.left.items c.in-Some-pop-2.ensures.items c.loop-place.invariant.0 c.in-Some-pop-3.ensures.items c.join.ensures d.2 d.1,
       subst (All S) (sym d.1) (All-append S c.loop-place.left.items d.0 c.loop-place.invariant.1 d.3),
     )
 
@@ -52,8 +51,8 @@ returns-clause-finished g c =
     let d = c.in_ok-drain-3.ensures.left in
     let none : c.loop-place.places.items ≡ [] = search rules in
     subst (IsFinished c.args.places.items) (sym c.from_vec-2.ensures)
-    (settling-done c.args.places.items c.loop-place.places.items c.loop-place.owner _ c.join-2.result.put c.join-2.result.taken c.loop-place.left.items d.0 c.drain-2.new.left.items none c.loop-place.invariant.0
-    (ap (λ (o : OwnerView). o.put) c.join-2.ensures) (ap (λ (o : OwnerView). o.taken) c.join-2.ensures ∙ ap (λ (t : ThiefView). c.loop-place.owner.taken ++ t.taken) (sym c.first.view_is)) d.2 d.1)
+    (settling-done c.args.places.items c.loop-place.places.items c.loop-place.owner _ c.join-2.result c.loop-place.left.items d.0 c.drain-2.new.left.items none c.loop-place.invariant.0
+    (c.join-2.ensures ∙ ap (λ (t : ThiefView). joined c.loop-place.owner t.taken) (sym c.first.view_is)) d.2 d.1)
 
 pub returns-clause-served : goal.returns-clause-served
 returns-clause-served g c =

@@ -17,10 +17,10 @@ returns g c =
       node = refl;
       is = ((let k = c.requires.cost in let b = c.requires.task.1 in let f = o.fresh.0 in omega (arith, k, b, f)), tt);
       fresh = omega (arith, seen);
-      log = c.push_reserved.ensures.items;
+      log = c.enter.ensures.log;
       kept = sym (append-nil c.args.state.now.kept.items);
       refused_are = All-nil (IsTask c.args.design.now bound);
-      quota = omega (arith, c.requires.quota);
+      quota = c.enter.ensures.quota;
       first = refl;
       seat = ((ap (λ (k : Knows). k.word) o.seat, ap (λ (k : Knows). k.parts) o.seat), (let f = o.fresh.1 in omega (arith, seen, f)), omega (arith, offered));
       best = (c.requires.plan, sym is, omega (arith, is, c.requires.small));

@@ -1,6 +1,8 @@
-use Rattle.std.proofs.Common.{arith}
-use Rattle.sf_frontier.proofs.Steps.{merges, some_part}
+use Rattle.std.proofs.Common.{ap, ◌∙◌}
+use Rattle.sf_frontier.specs.Ends.{OwnerView}
+use Rattle.sf_frontier.proofs.Steps.{merges, stole_none}
 use Rattle.sf_frontier.proofs.ends.Owner.join.Goals as goal
 
 pub absorb-requires-clause-rule : goal.absorb-requires-clause-rule
-absorb-requires-clause-rule g c = merges g.T.Served.serves _ _ _ _ (some_part _ _ c.self.invariant.0) (let p = c.thief.invariant.0 in omega arith)
+absorb-requires-clause-rule g c =
+    merges g.T.Served.serves _ _ _ _ c.self.invariant.0 (stole_none _ _ c.self.invariant.2 (ap (λ (o : OwnerView). o.deque.parts) c.self.view_is ∙ c.requires.0)) c.thief.invariant.0 c.thief.invariant.1
