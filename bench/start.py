@@ -4,7 +4,7 @@
 A copy of `floorplan` stands in a small repository of its own, with a stand-in for the kit's `rt` that proves nothing and
 whose program prints its words and ends with the status that its first word names. The script is called by links, through
 CDPATH, from other folders, twice at once, without `rt`, with a kit that changed, with sources and tests that changed, with
-a build that fails, and in a folder that can't be written. The first answer that isn't as it should be ends the run.
+a build that fails, in a folder that can't be written, and with an allocator that is told how to lay out heaps. The first answer that isn't as it should be ends the run.
 """
 import os
 import re
@@ -26,6 +26,7 @@ mkdir -p out && cp %(folder)s/program out/floorplan && echo "error Usage" && exi
 """
 PROGRAM = """#!/bin/sh
 if [ "$1" = sleep ]; then exec sleep 60; fi
+if [ "$1" = heaps ]; then echo "words heaps $GLIBC_TUNABLES"; exit; fi
 echo "words $*"
 exit "${STATUS-0}"
 """
@@ -136,12 +137,23 @@ def statuses(trial):
     print("a signal ends the program too")
 
 
+def heaps(trial):
+    """How threads' heaps are laid out is asked for behind what the caller asks for, and never against it."""
+    ours, other, theirs = "glibc.malloc.top_pad=67108864", "glibc.malloc.arena_max=2", "glibc.malloc.top_pad=4096"
+    for given, found in (("", ours), (other, other + ":" + ours), (theirs, theirs)):
+        done = subprocess.run([trial.script, "heaps"], env={**trial.env, "GLIBC_TUNABLES": given}, capture_output=True, text=True)
+        if done.stdout != "words heaps %s\n" % found:
+            sys.exit("heaps, with %r given: %r" % (given, done.stdout))
+    print("heaps of threads")
+
+
 def main():
     with tempfile.TemporaryDirectory() as folder:
         trial = Trial(folder)
         places(trial)
         changes(trial)
         statuses(trial)
+        heaps(trial)
 
 
 if __name__ == "__main__":

@@ -12,6 +12,7 @@ ghost use Rattle.sf_node.specs.Subproblem.{root};
 ghost use Rattle.sf_search_core.specs.Conserved.{IsConserved};
 ghost use Rattle.sf_polish.specs.Text.{IsWritable};
 ghost use Rattle.sf_node.specs.Order.{steps_cmp};
+ghost use Rattle.sf_certificate.specs.InPreorder.{AreTagsInPreorder};
 ghost use Rattle.sf_certificate.specs.Marks.{tag_of, given_marks, marks, lent};
 ghost use Rattle.sf_certificate.specs.Valid.{HasCost, IsValid, least, decided};
 
@@ -102,6 +103,20 @@ fn tags_of(alloc: Global, marks: &[&Mark]) -> Result<Vec<Tag>, NoMemory>
     Ok(tags)
 }
 
+/// The tags of the entries and the open tasks, in preorder.
+fn tags_in_preorder(
+    alloc: Global,
+    entries: Vec<Entry>,
+    left: Vec<Task>,
+) -> Result<Vec<Tag>, NoMemory>
+    ensures { IfOk result (λ tags. AreTagsInPreorder entries.items left.items tags.items) }
+{
+    let marks = given_marks(alloc, entries, left)?;
+    let mut sorted = lent(alloc, &marks)?;
+    sort_marks(alloc, &mut sorted)?;
+    tags_of(alloc, &sorted)
+}
+
 /// The least of the cost and the bounds of the tasks.
 pub fn least_bound(cost: u64, left: &[Task]) -> u64
     ensures least { result ≡ least cost (map (λ t. t.bound) left.now) }
@@ -144,10 +159,7 @@ pub fn merge<V: Values>(
     ensures cost { IfOk result (λ c. c.cost ≡ cost) }
 {
     let bound = least_bound(cost, &left);
-    let marks = given_marks(alloc, entries, left)?;
-    let mut sorted = lent(alloc, &marks)?;
-    sort_marks(alloc, &mut sorted)?;
-    let tags = TagList::from_vec(tags_of(alloc, &sorted)?);
+    let tags = TagList::from_vec(tags_in_preorder(alloc, entries, left)?);
     let blocks = design.block_count();
     Ok(Cert {
         blocks,

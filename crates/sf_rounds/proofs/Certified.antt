@@ -35,45 +35,56 @@ trees-then part cost [] (tag ∷ tags) more e fair trees = absurd (omega (arith,
 trees-then part cost (node ∷ nodes) (tag ∷ tags) more e fair trees =
     trees-step part cost tag node nodes (tags ++ more) fair.0 (trees-then part cost (made tag node ++ nodes) tags more (omega (arith, e)) fair.1 trees)
 
+-- open tags, one for each subproblem, are those of trees from them
 trees-open : (part : Parts → Part → ℕ) (cost : ℕ) (nodes : List Parts) → AreTrees part cost nodes (opens nodes)
 trees-open part cost [] = tt
 trees-open part cost (node ∷ nodes) = trees-open part cost nodes
 
+-- subproblems marked as open are the open tasks' marks
 marks-open : (bound : Parts → ℕ) (nodes : List Parts) → marks nodes (opens nodes) ≡ map (λ task. record { node = task.node; tag = Open }) (map (task_at bound) nodes)
 marks-open bound [] = refl
 marks-open bound (node ∷ nodes) = ap (λ ms. record { node = node; tag = Open } ∷ ms) (marks-open bound nodes)
 
+-- a decided subproblem leaves open what its children and those behind it leave open
 open-one : (k : Kind) (node : Parts) (nodes : List Parts) (tags more : List Tag) → ((ns : List Parts) → left_open ns (tags ++ more) ≡ left_open (waiting_after ns tags) more) → left_open (node ∷ nodes) (tag_of k ∷ (tags ++ more)) ≡ left_open (waiting_after (made (tag_of k) node ++ nodes) tags) more
 open-one kind.Extended node nodes tags more then = then (made Extend node ++ nodes)
 open-one (kind.Split b) node nodes tags more then = then (made (Split b) node ++ nodes)
 open-one kind.Closed node nodes tags more then = then nodes
 
+-- what the tags of the entries and further ones leave open is what these leave open of the subproblems that
+-- wait
 open-then : (entries : List Entry) (nodes : List Parts) (more : List Tag) → left_open nodes (map (λ (e : Entry). tag_of e.kind) entries ++ more) ≡ left_open (waiting_after nodes (map (λ e. tag_of e.kind) entries)) more
 open-then [] nodes more = refl
 open-then (e ∷ entries) [] more = refl
 open-then (e ∷ entries) (node ∷ nodes) more = open-one e.kind node nodes (map (λ (e : Entry). tag_of e.kind) entries) more (λ ns. open-then entries ns more)
 
+-- open tags decide nothing
 decided-open : (nodes : List Parts) → decided (opens nodes) ≡ 0
 decided-open [] = refl
 decided-open (node ∷ nodes) = decided-open nodes
 
+-- the tag of an entry decides one subproblem more
 decided-one : (k : Kind) (tags : List Tag) (n : ℕ) → decided tags ≡ n → decided (tag_of k ∷ tags) ≡ suc n
 decided-one kind.Extended tags n e = ap suc e
 decided-one (kind.Split b) tags n e = ap suc e
 decided-one kind.Closed tags n e = ap suc e
 
+-- the tags of the entries, with open ones behind them, decide as many subproblems as there are entries
 decided-all : (entries : List Entry) (nodes : List Parts) → decided (map (λ (e : Entry). tag_of e.kind) entries ++ opens nodes) ≡ length entries
 decided-all [] nodes = decided-open nodes
 decided-all (e ∷ entries) nodes = decided-one e.kind (map (λ (e : Entry). tag_of e.kind) entries ++ opens nodes) (length entries) (decided-all entries nodes)
 
+-- the subproblems of the tasks made of some subproblems are these
 nodes-of : (bound : Parts → ℕ) (nodes : List Parts) → map (λ (t : Task). t.node) (map (task_at bound) nodes) ≡ nodes
 nodes-of bound [] = refl
 nodes-of bound (node ∷ nodes) = ap (λ ns. node ∷ ns) (nodes-of bound nodes)
 
+-- the bounds of the tasks made of some subproblems are their bounds
 bounds-of : (bound : Parts → ℕ) (nodes : List Parts) → map (λ (t : Task). t.bound) (map (task_at bound) nodes) ≡ map bound nodes
 bounds-of bound [] = refl
 bounds-of bound (node ∷ nodes) = ap (λ ns. bound node ∷ ns) (bounds-of bound nodes)
 
+-- the total over what a function gives is the total of both functions in turn
 map-total : {X : Type 0} (f : Parts → ℕ) (g : X → Parts) (xs : List X) → total f (map g xs) ≡ total (λ x. f (g x)) xs
 map-total f g [] = refl
 map-total f g (x ∷ xs) = omega (arith, map-total f g xs)
@@ -89,26 +100,32 @@ turned-total bound nodes f =
     sym (ap (total f) (nodes-of bound nodes)) ∙ a ∙ c ∙ sym b
 
 module _ (design : Design) (bound : Parts → ℕ) (state : State) (tags : List Tag) (left : List Parts) (stage : IsStage design bound state tags left) (core : IsCoreState design bound state) where
+  -- the root alone
   abbrev one : List Parts
   one = root design ∷ []
 
+  -- the tags so far, and an open one for each subproblem that is left
   abbrev all : List Tag
   all = tags ++ opens left
 
+  -- each tag marks a subproblem
   many : length (marks one tags) ≡ length tags
   many = sym (ap length stage.marked) ∙ length-map state.entries mark_of ∙ sym (length-map state.entries (λ (e : Entry). tag_of e.kind)) ∙ sym (ap length stage.kinds)
 
+  -- what the tags leave open is what is left
   open-left : left_open one all ≡ left
   open-left =
       let es = map (λ (e : Entry). tag_of e.kind) state.entries in
       ap (λ ts. left_open one (ts ++ opens left)) stage.kinds ∙ open-then state.entries one (opens left)
       ∙ ap (λ ts. left_open (waiting_after one ts) (opens left)) (sym stage.kinds) ∙ ap (λ ns. left_open ns (opens left)) stage.then ∙ open-all left
 
+  -- the least of a number and the bounds of what is left is that with the bounds of the open tasks
   pub lowest-is : (n : ℕ) → least n (map bound left) ≡ least n (map bound (map (λ (t : Task). t.node) state.waiting))
   lowest-is n =
       least-same n bound left (map (λ (t : Task). t.node) (reverse (map (task_at bound) left))) (turned-total bound left)
       ∙ ap (λ (ts : List Task). least n (map bound (map (λ (t : Task). t.node) ts))) (sym stage.waiting)
 
+  -- the marks of the entries and of the open tasks are those of the tags, in another order
   placed : IsPermutation (given_marks state.entries state.waiting) (marks one all)
   placed =
       let open_marks : List Task → List Mark = λ ts. map (λ (task : Task). record { node = task.node; tag = Open }) ts in
@@ -122,14 +139,17 @@ module _ (design : Design) (bound : Parts → ℕ) (state : State) (tags : List 
 
   -- whatever the parts of the bound: each closed subproblem names the full one
   module _ (part : Parts → Part → ℕ) (full : (node : Parts) → part node Full ≡ bound node) where
+    -- each tag so far is fair to its subproblem
     fair : AllByRecursion (λ m. IsFair part state.word m.tag m.node) (marks one tags)
     fair =
         subst (AllByRecursion (λ m. IsFair part state.word m.tag m.node)) (append-nil (map mark_of state.entries) ∙ stage.marked)
         (all-fair bound part full state.word state.entries [] core.conserved.decided core.not_stale)
 
+    -- the tags are those of a tree from the root
     tree : AreTrees part state.word one all
     tree = trees-then part state.word one tags (opens left) many fair (subst (λ ns. AreTrees part state.word ns (opens left)) (sym stage.then) (trees-open part state.word left))
 
+    -- the entries and the open tasks are merged into these tags
     pub certified : IsMerged design bound part state.word state.entries state.waiting (tags ++ opens left)
     certified = record {
       tree = tree;
@@ -140,17 +160,20 @@ module _ (design : Design) (bound : Parts → ℕ) (state : State) (tags : List 
 
 -- one subproblem more is left open
 module _ (design : Design) (bound : Parts → ℕ) (old new : Progress) (more : old.more ≡ true) (f : IsFollowed design bound old Open new) where
+  -- the tags, and open ones for what is left behind them, are the same before and after
   pub tags-opened : new.tags ++ opens (left_of design new) ≡ old.tags ++ opens (left_of design old)
   tags-opened =
       ap (λ ts. ts ++ opens (left_of design new)) f.tags ∙ append_assoc old.tags (Open ∷ []) (opens (left_of design new))
       ∙ ap (λ ns. old.tags ++ (Open ∷ opens ns)) f.left ∙ ap (λ b. old.tags ++ opens (pending design b old.path.node)) (sym more)
 
+  -- the least of a number and the bounds of what is left stays, where that of the one left open is taken in
   pub low-opened : (low value next : ℕ) → value ≡ bound old.path.node → next ≡ min low value → least next (map bound (left_of design new)) ≡ least low (map bound (left_of design old))
   low-opened low value next e k =
       let rest = behind (root design) old.path.node.steps in
       ap (λ n. least n (map bound (left_of design new))) k ∙ ap (λ ns. least (min low value) (map bound ns)) f.left ∙ least-min low value (map bound rest)
       ∙ ap (λ x. min x (least low (map bound rest))) e ∙ ap (λ b. least low (map bound (pending design b old.path.node))) (sym more)
 
+  -- one subproblem less is left to visit
   pub fewer-opened : length (left_of design new) < length (left_of design old)
   fewer-opened =
       let one : length (left_of design old) ≡ suc (length (behind (root design) old.path.node.steps)) = ap (λ b. length (pending design b old.path.node)) more in

@@ -30,12 +30,15 @@ use Rattle.sf_rounds.proofs.Formed.{plan-formed}
 use Rattle.sf_rounds.proofs.Weights.{nodes-permute}
 use Rattle.sf_rounds.proofs.Whole.{weigh_map, weigh_flat}
 
+-- the subproblem of an entry
 abbrev node_of : Entry → Parts
 node_of e = e.node
 
+-- the subproblem of a task
 abbrev task_node : Task → Parts
 task_node t = t.node
 
+-- what holds of all elements of two lists together holds of those of the second
 all_after : {X : Type 0} (P : X → Type 0) (xs ys : List X) → All P (xs ++ ys) → All P ys
 all_after P xs ys h = subst (All P) (drop-append_seam xs ys) (All-drop P (length xs) (xs ++ ys) h)
 
@@ -101,16 +104,20 @@ module _ (design : Design) (bound : Parts → ℕ) where
     splits = All-nil (λ (x : Entry). BranchesFirst design x.kind x.node);
   }
 
+  -- the expression of a plan costs what the plan does, and can be written
   plan-best : (expr : Expr) (z : ℕ) → IsPlan design expr z → HasCost design expr z × IsWritable (block_count design) expr
   plan-best expr z p = (record { tree = p.1.tree; spells = p.1.spells; legal = p.1.belongs.legal; fits = p.1.fits; costs = p.1.costs }, plan-formed design p.0 expr z p.1)
 
+  -- after a round the newer plan is the best: it costs the word, or there is none and the word is none
   best-newer : (new old : Option Expr) (before after : ℕ) → MatchOption new (after ≡ before) (λ e. (after < before) × IsPlan design e after) → IsBest design before old → IsBest design after (newer new old)
   best-newer None old before after e h = subst (λ z. IsBest design z old) (sym e) h
   best-newer (Some expr) old before after e h = plan-best expr after e.1
 
+  -- the subproblem is solved and has this bound
   abbrev Finds : ℕ → Parts → Type 0
   Finds z node = IsTrue (is_solved design node) × (bound node ≡ z)
 
+  -- an entry that solves at a value is of a subproblem that finds it
   any-nodes : (z : ℕ) (es : List Entry) → Any (Solves design bound z) es → Any (Finds z) (map node_of es)
   any-nodes z [] a = absurd (let b = a.2 in omega (arith, b))
   any-nodes z (e ∷ es) (zero, x, below, is, p) = (zero, x.node, omega arith, ap node_of is, (p.1, p.2))
@@ -118,6 +125,7 @@ module _ (design : Design) (bound : Parts → ℕ) where
       let r = any-nodes z es (i, x, omega (arith, below), is, p) in
       (suc r.0, r.1, (let b = r.2 in omega (arith, b)), r.3, r.4)
 
+  -- the word after more entries is the start, or the bound of a solved subproblem among all
   found-more : (before after : ℕ) (entries more : List Entry) → (before ≡ MAX) ⊎ Any (Finds before) (map node_of entries ++ []) → (after ≡ before) ⊎ Any (Solves design bound after) more → (after ≡ MAX) ⊎ Any (Finds after) (map node_of (entries ++ more) ++ [])
   found-more before after entries more old new =
       let P = Finds after in
@@ -130,6 +138,7 @@ module _ (design : Design) (bound : Parts → ℕ) where
         | inr some ↦ inr (whole (any-right P (map node_of entries) (map node_of more) (any-nodes after more some)))
       ]
 
+  -- a round of some of the tasks makes of a search one with what the round leaves
   pub searches-on : (given kept : List Task) (entries : List Entry) (value : ℕ) (best : Option Expr) (quotas : List ℕ) (r : RoundOut)
       → IsSearch design bound (given ++ kept) entries value best → IsRound design bound given quotas value r → IsSearch design bound (kept ++ r.left) (entries ++ r.entries) r.value (newer r.best best)
   searches-on given kept entries value best quotas r h d =
@@ -153,6 +162,7 @@ module _ (design : Design) (bound : Parts → ℕ) where
         splits = All-append (λ (e : Entry). BranchesFirst design e.kind e.node) entries more h.splits (All-weaker (IsEntry design bound) (λ (e : Entry). BranchesFirst design e.kind e.node) (λ e i. i.1) more d.entries);
       }
 
+  -- the open tasks of a search are tasks
   pub search-tasks : (xs : List Task) (entries : List Entry) (value : ℕ) (best : Option Expr) → IsSearch design bound xs entries value best → All (IsTask design bound) xs
   search-tasks xs entries value best h = subst (All (IsTask design bound)) (append-nil xs) h.core.valued
 

@@ -51,6 +51,14 @@ cut-none path = record { same = IsPermutation-refl []; low = All-nil (λ (m : Ma
 cut-low : (path : List Step) (x : Mark) → is_lt (steps_cmp x.node.steps path) ≡ true → AreCut path (x ∷ []) (x ∷ []) []
 cut-low path x h = record { same = IsPermutation-refl (x ∷ []); low = All-cons (λ (m : Mark). is_lt (steps_cmp m.node.steps path) ≡ true) x [] h (All-nil (λ (m : Mark). is_lt (steps_cmp m.node.steps path) ≡ true)); high = All-nil (λ (m : Mark). is_lt (steps_cmp m.node.steps path) ≡ false) }
 
+-- marks that all come before the path
+pub cut_all_low : (path : List Step) (ms : List Mark) → All (λ (m : Mark). is_lt (steps_cmp m.node.steps path) ≡ true) ms → AreCut path ms ms []
+cut_all_low path ms h = record { same = subst (IsPermutation ms) (sym (append-nil ms)) (IsPermutation-refl ms); low = h; high = All-nil (λ (m : Mark). is_lt (steps_cmp m.node.steps path) ≡ false) }
+
+-- marks of which none comes before the path
+pub cut_all_high : (path : List Step) (ms : List Mark) → All (λ (m : Mark). is_lt (steps_cmp m.node.steps path) ≡ false) ms → AreCut path ms [] ms
+cut_all_high path ms h = record { same = IsPermutation-refl ms; low = All-nil (λ (m : Mark). is_lt (steps_cmp m.node.steps path) ≡ true); high = h }
+
 -- one mark that isn't before it
 cut-high : (path : List Step) (x : Mark) → is_lt (steps_cmp x.node.steps path) ≡ false → AreCut path (x ∷ []) [] (x ∷ [])
 cut-high path x h = record { same = IsPermutation-refl (x ∷ []); low = All-nil (λ (m : Mark). is_lt (steps_cmp m.node.steps path) ≡ true); high = All-cons (λ (m : Mark). is_lt (steps_cmp m.node.steps path) ≡ false) x [] h (All-nil (λ (m : Mark). is_lt (steps_cmp m.node.steps path) ≡ false)) }

@@ -31,6 +31,7 @@ next-none xs ts n e h = none-at ts n (sym h ∙ ap reverse e)
     none-at (t ∷ ts) zero e = absurd (let k = ap length e in omega (arith, k))
     none-at (t ∷ ts) (suc n) e = none-at ts n e
 
+-- the last of the tasks that are left is the next one of the reversed list, and the others stay behind it
 pub next-some : (xs ys ts : List Task) (t : Task) (n : ℕ) → xs ≡ ys ++ t ∷ [] → reverse xs ≡ drop n ts → (slice_get ts n ≡ Some t) × (reverse ys ≡ drop (suc n) ts)
 next-some xs ys ts t n e h = some-at ts n (sym h ∙ (ap reverse e ∙ reverse-append ys (t ∷ [])))
   where
@@ -40,6 +41,7 @@ next-some xs ys ts t n e h = some-at ts n (sym h ∙ (ap reverse e ∙ reverse-a
     some-at (u ∷ us) zero e = ((let k : u ≡ t = cc in ap (λ z. Some z) k), (let k : us ≡ reverse ys = cc in sym k))
     some-at (u ∷ us) (suc n) e = some-at us n e
 
+-- new thieves have stolen nothing
 none-stolen : (ts : List ThiefView) → All IsNewThief ts → (w : Task → ℕ) → thieves_weigh w ts ≡ 0
 none-stolen [] h w = refl
 none-stolen (t ∷ ts) h w =
@@ -53,9 +55,11 @@ left-tasks P given turned left n e l all =
     let some : All P (reverse left) = subst (All P) (sym (l ∙ ap (drop n) back)) (All-drop P n given all) in
     All-permutation P (reverse left) left (IsPermutation-sym left (reverse left) (IsPermutation-reverse left)) some
 
+-- what holds of all tasks holds of them reversed
 pub turned-tasks : (P : Task → Type 0) (tasks turned : List Task) → turned ≡ reverse tasks → All P tasks → All P turned
 turned-tasks P tasks turned e h = subst (All P) (sym e) (All-permutation P tasks (reverse tasks) (IsPermutation-reverse tasks) h)
 
+-- a list of length 0 is empty
 pub no-items : {X : Type 0} (xs : List X) → length xs ≡ 0 → xs ≡ []
 no-items [] n = refl
 no-items (x ∷ xs) n = absurd (omega (arith, n))
@@ -74,6 +78,7 @@ next-task None xs ys ts n before after e b a c h =
 next-task (Some t) xs ys ts n before after e b a c h = (let r = next-some xs ys ts t n e h in (sym r.0, r.1))
 
 module _ {T : Type 0} where
+  -- one worker more has the next task and the next quota
   firsts-snoc : (ts : List Task) (qs : List ℕ) (js : List (Job T)) (q : ℕ) (j : Job T) → FirstsAre ts qs js → j.state.first ≡ slice_get ts (length js) → j.state.quota ≡ q → FirstsAre ts (qs ++ q ∷ []) (js ++ j ∷ [])
   firsts-snoc [] [] [] q j h e k = ((e, k), tt)
   firsts-snoc (t ∷ ts) [] [] q j h e k = ((e, k), tt)
@@ -88,6 +93,7 @@ module _ {T : Type 0} where
     pub left_are : reverse left ≡ drop (length jobs) ts
     pub seat : now ≡ record first { parts = first.parts - length jobs }
 
+  -- at first no worker is in its place, and all tasks are left
   pub seating-start : (value : ℕ) (word : Word) (ts : List Task) (quotas : List ℕ) (left : List Task) (first : Knows) → reverse left ≡ ts → IsSeating value word ts quotas [] [] left first first
   seating-start value word ts quotas left first e = record {
     seated = record { places_are = refl; fresh = λ new. All-nil (IsFresh value word); empty = λ new w. refl; firsts = tt };
@@ -106,6 +112,7 @@ module _ {T : Type 0} where
     pub first : j.state.first ≡ task
     pub quota_is : j.state.quota ≡ quota
 
+  -- a worker that takes a new place is fresh, and has put nothing
   taken-fresh : (value : ℕ) (word : Word) (task : Option Task) (quota : ℕ) (place : Place T) (j : Job T) → TakesPlace value word task quota place j → IsNewPlace place → IsFresh value word j × ((w : Parts → ℕ) → put_of w j.state ≡ 0)
   taken-fresh value word task quota place j h new = (
     record {
@@ -120,6 +127,7 @@ module _ {T : Type 0} where
     λ w. ap (λ (p : Place T). tasks_weigh w p.owner.put) h.place_is ∙ ap (tasks_weigh w) new.0.0,
   )
 
+  -- one worker more takes its place, with the next task and the next quota
   pub seating-more : (value : ℕ) (word : Word) (ts : List Task) (quotas : List ℕ) (places : List (Place T)) (place : Place T) (js ks : List (Job T)) (j : Job T) (before after : List Task) (first old now : Knows) (d : ℕ)
       → ks ≡ js ++ j ∷ [] → IsSeating value word ts quotas places js before first old → TakesPlace value word (slice_get ts (length js)) (get_or quotas (length js) d) place j → length js < length quotas
       → reverse after ≡ drop (suc (length js)) ts → now ≡ record old { parts = old.parts - 1 } → IsSeating value word ts quotas (places ++ place ∷ []) ks after first now
@@ -151,6 +159,7 @@ module _ {T : Type 0} where
         seat = seat ∙ (ap (λ (k : Knows). record k { parts = k.parts - 1 }) h.seat ∙ ap (λ (k : ℕ). record first { parts = k }) (omega (arith, n)));
       }
 
+  -- where there are as many workers as quotas, all are in their places
   pub seating-done : (value : ℕ) (word : Word) (ts : List Task) (quotas : List ℕ) (places : List (Place T)) (jobs : List (Job T)) (left : List Task) (first now : Knows) → length jobs ≡ length quotas → IsSeating value word ts quotas places jobs left first now
       → IsSeated value word ts quotas places jobs
   seating-done value word ts quotas places jobs left first now e h = subst (λ zs. IsSeated value word ts zs places jobs) (take_all (length jobs) quotas (omega (arith, e))) h.seated
@@ -158,17 +167,20 @@ module _ {T : Type 0} where
   -- one task more in a deque
   same-refl : (js : List (Job T)) → EachTwo IsSameBut js js
   same-refl [] = tt
-  same-refl (j ∷ js) = ((j.state.place.owner.put, refl), same-refl js)
+  same-refl (j ∷ js) = ((j.state.place.owner.put, j.state.place.owner.stack, refl), same-refl js)
 
+  -- workers that changed only in their deques are as many as before
   pub same-length : (js ks : List (Job T)) → EachTwo IsSameBut js ks → length ks ≡ length js
   same-length [] [] h = refl
   same-length [] (k ∷ ks) h = absurd h
   same-length (j ∷ js) [] h = absurd h
   same-length (j ∷ js) (k ∷ ks) h = omega (arith, same-length js ks h.1)
 
+  -- a worker that changed only in its deque, with one task more put, changed only in its deque
   with-put : (j k new : Job T) (t : Task) → IsSameBut j k → new ≡ with_put k t → IsSameBut j new
-  with-put j k new t h e = (h.0 ++ t ∷ [], e ∙ ap (λ z. with_put z t) h.1)
+  with-put j k new t h e = (h.0 ++ t ∷ [], h.1 ++ t ∷ [], e ∙ ap (λ z. with_put z t) h.2)
 
+  -- where one worker puts a task more, all changed only in their deques
   same-more : (js ks : List (Job T)) (i : ℕ) (old new : Job T) (t : Task) → EachTwo IsSameBut js ks → i < length ks → old ≡ get_or ks i old → new ≡ with_put old t → EachTwo IsSameBut js (set ks i new)
   same-more [] [] i old new t h below is e = absurd (omega (arith, below))
   same-more [] (k ∷ ks) i old new t h below is e = absurd h
@@ -181,9 +193,11 @@ module _ {T : Type 0} where
     pub same : EachTwo IsSameBut old new
     pub weight : (w : Parts → ℕ) → sum_by (has_weight w) new + tasks_weigh w left ≡ sum_by (has_weight w) old + tasks_weigh w all
 
+  -- at first nothing is put, and all tasks are left
   pub handing-start : (js : List (Job T)) (all : List Task) → IsHanding js js all all
   handing-start js all = record { same = same-refl js; weight = λ w. refl }
 
+  -- the last of the tasks that are left is put by one worker
   pub handing-more : (js ks : List (Job T)) (all before after : List Task) (t : Task) (i : ℕ) (old new : Job T) → IsHanding js ks all before → before ≡ after ++ t ∷ [] → i < length ks → old ≡ get_or ks i old → new ≡ with_put old t → IsHanding js (set ks i new) all after
   handing-more js ks all before after t i old new h e below is put = record {
     same = same-more js ks i old new t h.same below is put;
@@ -197,6 +211,7 @@ module _ {T : Type 0} where
         omega (arith, h.weight w, s, a, b, c, ap (tasks_weigh w) e, sum_by-append v after (t ∷ []), sum_by-cons v t []);
   }
 
+  -- where no task is left, all were put
   pub handing-done : (js ks : List (Job T)) (all left : List Task) → left ≡ [] → IsHanding js ks all left → Handed js ks all
   handing-done js ks all left e h = record { same = h.same; weight = λ w. omega (arith, h.weight w, ap (tasks_weigh w) e) }
 
@@ -208,25 +223,27 @@ module _ {T : Type 0} where
   same-fresh value word (j ∷ js) (k ∷ ks) h fs =
       let F = IsFresh value word in
       let f = All-head F j js fs in
-      All-cons F k ks (subst F (sym h.0.1) (record { log = f.log; kept = f.kept; best = f.best; room = f.room; seat = f.seat; taken = f.taken; stolen = f.stolen })) (same-fresh value word js ks h.1 (All-tail F j js fs))
+      All-cons F k ks (subst F (sym h.0.2) (record { log = f.log; kept = f.kept; best = f.best; room = f.room; seat = f.seat; taken = f.taken; stolen = f.stolen })) (same-fresh value word js ks h.1 (All-tail F j js fs))
 
+  -- each worker has its first task and its quota still as tasks are put
   same-firsts : (ts : List Task) (qs : List ℕ) (js ks : List (Job T)) → EachTwo IsSameBut js ks → FirstsAre ts qs js → FirstsAre ts qs ks
   same-firsts ts [] [] [] h fs = tt
   same-firsts ts qs [] (k ∷ ks) h fs = absurd h
   same-firsts ts qs (j ∷ js) [] h fs = absurd h
   same-firsts ts (q ∷ qs) [] [] h fs = absurd fs
   same-firsts ts [] (j ∷ js) (k ∷ ks) h fs = absurd fs
-  same-firsts [] (q ∷ qs) (j ∷ js) (k ∷ ks) h fs = ((ap (λ (i : Job T). i.state.first) h.0.1 ∙ fs.0.0, ap (λ (i : Job T). i.state.quota) h.0.1 ∙ fs.0.1), same-firsts [] qs js ks h.1 fs.1)
-  same-firsts (t ∷ ts) (q ∷ qs) (j ∷ js) (k ∷ ks) h fs = ((ap (λ (i : Job T). i.state.first) h.0.1 ∙ fs.0.0, ap (λ (i : Job T). i.state.quota) h.0.1 ∙ fs.0.1), same-firsts ts qs js ks h.1 fs.1)
+  same-firsts [] (q ∷ qs) (j ∷ js) (k ∷ ks) h fs = ((ap (λ (i : Job T). i.state.first) h.0.2 ∙ fs.0.0, ap (λ (i : Job T). i.state.quota) h.0.2 ∙ fs.0.1), same-firsts [] qs js ks h.1 fs.1)
+  same-firsts (t ∷ ts) (q ∷ qs) (j ∷ js) (k ∷ ks) h fs = ((ap (λ (i : Job T). i.state.first) h.0.2 ∙ fs.0.0, ap (λ (i : Job T). i.state.quota) h.0.2 ∙ fs.0.1), same-firsts ts qs js ks h.1 fs.1)
 
+  -- the deques, and those on which thieves stand, stay as tasks are put
   same-deques : (js ks : List (Job T)) → EachTwo IsSameBut js ks → (deques_of (map place_of ks) ≡ deques_of (map place_of js)) × (preys_of (map place_of ks) ≡ preys_of (map place_of js))
   same-deques [] [] h = (refl, refl)
   same-deques [] (k ∷ ks) h = absurd h
   same-deques (j ∷ js) [] h = absurd h
   same-deques (j ∷ js) (k ∷ ks) h =
       let r = same-deques js ks h.1 in
-      let a : k.state.place.owner.deque ≡ j.state.place.owner.deque = ap (λ (i : Job T). i.state.place.owner.deque) h.0.1 in
-      let b : thief_deques_of k.state.place.thieves.items ≡ thief_deques_of j.state.place.thieves.items = ap (λ (i : Job T). thief_deques_of i.state.place.thieves.items) h.0.1 in
+      let a : k.state.place.owner.deque ≡ j.state.place.owner.deque = ap (λ (i : Job T). i.state.place.owner.deque) h.0.2 in
+      let b : thief_deques_of k.state.place.thieves.items ≡ thief_deques_of j.state.place.thieves.items = ap (λ (i : Job T). thief_deques_of i.state.place.thieves.items) h.0.2 in
       ((λ i. a i ∷ r.0 i), (λ i. b i ∷ r.1 i))
 
   -- the first tasks and the others are all tasks
@@ -247,6 +264,7 @@ module _ {T : Type 0} where
       let e = ap (maybe_weighs v) h.0.0 in
       omega (arith, firsts-weigh w ts qs js h.1, e, sum_by-cons v t ts, sum_by-cons (λ (i : Job T). first_of w i.state) j js)
 
+  -- what holds of all tasks holds of the workers' first ones
   firsts-tasks : (P : Task → Type 0) (ts : List Task) (qs : List ℕ) (js : List (Job T)) → FirstsAre ts qs js → All P ts → All (λ j. IfSome j.state.first P) js
   firsts-tasks P ts [] [] h all = All-nil (λ (j : Job T). IfSome j.state.first P)
   firsts-tasks P ts [] (j ∷ js) h all = absurd h
@@ -256,6 +274,7 @@ module _ {T : Type 0} where
   firsts-tasks P (t ∷ ts) (q ∷ qs) (j ∷ js) h all =
       All-cons (λ (i : Job T). IfSome i.state.first P) j js (subst (λ o. IfSome o P) (sym h.0.0) (All-head P t ts all)) (firsts-tasks P ts qs js h.1 (All-tail P t ts all))
 
+  -- a sum of two weights over the workers is the sum of both sums
   sum_both : (f g : Job T → ℕ) (js : List (Job T)) → sum_by (λ j. f j + g j) js ≡ sum_by f js + sum_by g js
   sum_both f g [] = refl
   sum_both f g (j ∷ js) = omega (arith, sum_both f g js, sum_by-cons (λ (i : Job T). f i + g i) j js, sum_by-cons f j js, sum_by-cons g j js)
@@ -267,6 +286,7 @@ module _ {T : Type 0} where
     weight = λ w. omega (arith, h.weight w, sum_by-IsPermutation (on_task w) tasks (reverse tasks) (IsPermutation-reverse tasks), ap (tasks_weigh w) e);
   }
 
+  -- workers in new places, among whom the tasks behind the first ones were put, have been dealt all tasks
   pub dealt : (design : Design) (bound : Parts → ℕ) (value : ℕ) (word : Word) (given turned left : List Task) (quotas : List ℕ) (places : List (Place T)) (js ks : List (Job T))
       → turned ≡ reverse given → IsSeated value word (reverse turned) quotas places js → reverse left ≡ drop (length quotas) (reverse turned) → Handed js ks left → IsTeam places → All IsNewPlace places → All (IsTask design bound) given
       → Dealt design bound value word given quotas ks

@@ -26,6 +26,7 @@ pub record IsLeafOf (P : ℕ × Shape → Type 0) (b : ℕ) : Type 0 where
   pub holds : P leaf
 
 module _ (P : ℕ × Shape → Type 0) where
+  -- a block that stands among the leaves has a leaf, of which what holds of all leaves holds
   leaf-of : (b : ℕ) (ls : List (ℕ × Shape)) → 1 ≤ count_by (λ leaf. leaf.0 == b) ls → AllByRecursion P ls → IsLeafOf P b
   leaf-of b [] h all = absurd (omega (arith, h))
   leaf-of b (l ∷ ls) h all =
@@ -36,9 +37,11 @@ module _ (P : ℕ × Shape → Type 0) where
       ]
 
 module _ (design : Design) (tree : Tree) (expr : Expr) (legal : IsLegal design tree) (spells : Spells expr tree) where
+  -- the leaf has the expression's shape of its block, and this is one of the block's list
   abbrev IsListed : ℕ × Shape → Type 0
   IsListed leaf = (leaf.1 ≡ shape_at expr.shapes leaf.0) × Contains (shapes_of design leaf.0) leaf.1
 
+  -- the expression's shape of each block has sides within the limits
   side-at : (b : ℕ) → b < block_count design → IsSide (shape_at expr.shapes b).w × IsSide (shape_at expr.shapes b).h
   side-at b lt =
       let all : All IsListed (leaves tree) = λ k d h. (spells.shapes k d h, legal.listed k d h) in
@@ -48,6 +51,7 @@ module _ (design : Design) (tree : Tree) (expr : Expr) (legal : IsLegal design t
       let same = found.holds.0 ∙ ap (shape_at expr.shapes) found.block in
       subst (λ s. IsSide s.w × IsSide s.h) same (All-contains (λ s. IsSide s.w × IsSide s.h) (shapes_of design b) found.leaf.1 list.choice.sides listed)
 
+-- a plan of a subproblem is a normal expression with a shape for each block, so it can be written
 pub plan-formed : (design : Design) (node : Parts) (expr : Expr) (z : ℕ) → IsPlanOf design node expr z → IsWritable (block_count design) expr
 plan-formed design node expr z p = record {
   normal = subst (IsNormal (block_count design)) p.spells.tokens (postfix-normal (block_count design) p.tree p.belongs.legal.blocks p.belongs.skewed);

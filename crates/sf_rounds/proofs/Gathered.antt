@@ -16,8 +16,8 @@ use Rattle.sf_rounds.specs.Jobs.{Gathers, Adds, place_of, log_of, open_of}
 module _ {T : Type 0} where
   -- what one worker adds is gathered behind what the others left
   pub gathers-one_more : (design : Design) (js : List (Job T)) (j : Job T) (seat0 old new : Knows) (a b : Gathering T)
-      → Gathers design js seat0 old a.places.items a.entries.items a.left.items a.best → Adds design j old new a b
-      → Gathers design (js ++ j ∷ []) seat0 new b.places.items b.entries.items b.left.items b.best
+      → Gathers design js seat0 old a.places.items a.entries a.left.items a.best → Adds design j old new a b
+      → Gathers design (js ++ j ∷ []) seat0 new b.places.items b.entries b.left.items b.best
   gathers-one_more design js j seat0 old new a b g h =
       let offered : new.offered ≡ min old.offered j.state.seat.offered = ap (λ (k : Knows). k.offered) h.seat in
       let seen : new.seen ≡ min old.seen j.state.seat.seen = ap (λ (k : Knows). k.seen) h.seat in

@@ -34,13 +34,16 @@ use Rattle.sf_rounds.proofs.Ended.{valued, merged-as, planned-as, stated-as, dec
 use Rattle.sf_rounds.proofs.Names.{renamed-alike, kept-open, name-first}
 use Rattle.sf_rounds.proofs.SplitMarks.{marks-first}
 
+-- equal costs, tags and kept values give equal renamed tags
 pub same-renamed : {y z : ℕ} {xs ys : List Tag} {ks ls : List PartValues} → y ≡ z → xs ≡ ys → ks ≡ ls → renamed y xs ks ≡ renamed z ys ls
 same-renamed e f g = λ i. renamed (e i) (f i) (g i)
 
+-- open tags name no part
 opens-unnamed : (nodes : List Parts) → map unnamed (opens nodes) ≡ opens nodes
 opens-unnamed [] = refl
 opens-unnamed (node ∷ nodes) = ap (λ ts. Open ∷ ts) (opens-unnamed nodes)
 
+-- open tags mark each subproblem as open
 open-marks : (nodes : List Parts) → marks nodes (opens nodes) ≡ map (λ node. record { node = node; tag = Open }) nodes
 open-marks [] = refl
 open-marks (node ∷ nodes) = ap (λ ms. record { node = node; tag = Open } ∷ ms) (open-marks nodes)
@@ -54,15 +57,18 @@ splits-named design (node ∷ nodes) (Split b ∷ tags) all = (all.0, splits-nam
 splits-named design (node ∷ nodes) (Closed p ∷ tags) all = (tt, splits-named design nodes tags all.1)
 splits-named design (node ∷ nodes) (Open ∷ tags) all = (tt, splits-named design nodes tags all.1)
 
+-- a plan that costs the word and can be written costs the word
 pub priced : (design : Design) (z : ℕ) (plan : Option Expr) → MatchOption plan (z ≡ MAX) (λ expr. HasCost design expr z × IsWritable (block_count design) expr) → MatchOption plan (z ≡ MAX) (λ expr. HasCost design expr z)
 priced design z None h = h
 priced design z (Some expr) h = h.0
 
 module _ (design : Design) (bound : Parts → ℕ) (part : Parts → Part → ℕ) (parts : ArePartsOf design bound part) (state : State) (walk : Progress) (b : IsBeside design bound state walk) (cost low : ℕ) (tags : List Tag) (plan : Option Expr) (c : cost ≡ walk.word) (l : low ≡ least walk.word (map bound (left_of design walk)))
     (t : tags ≡ renamed walk.word (walk.tags ++ opens (left_of design walk)) walk.kept) (p : plan ≡ walk.best) where
+  -- the root alone
   abbrev one : List Parts
   one = root design ∷ []
 
+  -- the subproblems that are left to visit
   abbrev left : List Parts
   left = left_of design walk
 
@@ -70,38 +76,46 @@ module _ (design : Design) (bound : Parts → ℕ) (part : Parts → Part → �
   abbrev plain : List Tag
   plain = map unnamed tags
 
+  -- without names the tags are those put down, and open ones behind them
   pub plain-is : map unnamed tags ≡ map unnamed walk.tags ++ opens (left_of design walk)
   plain-is =
       ap (map unnamed) t ∙ renamed-alike walk.word (walk.tags ++ opens left) walk.kept ∙ map-append unnamed walk.tags (opens left)
       ∙ ap (λ ts. map unnamed walk.tags ++ ts) (opens-unnamed left)
 
+  -- the entries and the open tasks are merged into the tags without names
   merged : IsMerged design bound part cost state.entries state.waiting plain
   merged = merged-as design bound state walk b part parts.full cost low plain plan c l plain-is p
 
+  -- plan, cost and tags have the form of a certificate's
   pub form-is : (n : ℕ) → n ≡ block_count design → IsFormed n plan cost tags
   form-is n e =
       let f = merged-formed design bound part cost cost n state.entries state.waiting plain plan e merged
       (planned-as design bound state walk b part parts.full cost low plain plan c l plain-is p) (subproblem-shallow design) in
       record { some_block = f.some_block; few_blocks = f.few_blocks; planned = f.planned; unplanned = f.unplanned; tree = subst IsTrue (unnamed-tree n tags) f.tree }
 
+  -- the plan costs the cost, or there is none and the cost is none
   pub plan-is : MatchOption plan (cost ≡ MAX) (λ expr. HasCost design expr cost)
   plan-is = priced design cost plan (planned-as design bound state walk b part parts.full cost low plain plan c l plain-is p)
 
+  -- the lower bound is the least of the cost and the bounds of what the tags leave open
   pub low-is : low ≡ least cost (map bound (left_open (root design ∷ []) tags))
   low-is =
       stated-as design bound state walk b part parts.full cost low plain plan c l plain-is p
       ∙ ap (least cost) (task-bounds bound state.waiting (valued design bound state walk b)) ∙ sym merged.lowest
       ∙ ap (λ ns. least cost (map bound ns)) (unnamed-open one tags)
 
+  -- each split is of the first block whose span is not single
   pub splits-are : AllSplitFirst design tags
   splits-are =
       let P : Mark → Type 0 = λ mark. SplitsFirst design mark.tag mark.node in
       All-from_recursion P (marks one tags) (splits-named design one tags (recursion_from_All P (marks one plain) (marks-first design state.entries state.waiting (marks one plain) b.splits merged.placed)))
 
+  -- the tags decide as many subproblems as were visited
   pub decided-are : decided tags ≡ length walk.tags
   decided-are = sym (unnamed-decided tags) ∙ decided-as design bound state walk b part parts.full cost low plain plan c l plain-is p
 
   module _ (k : AreKept part walk.word (marks (root design ∷ []) walk.tags) walk.kept) where
+    -- each closed subproblem names the first part that is at least the cost
     pub names-are : AllNameFirst design part cost tags
     names-are =
         let raw = walk.tags ++ opens left in
@@ -112,5 +126,6 @@ module _ (design : Design) (bound : Parts → ℕ) (part : Parts → Part → �
         subst (λ z. AllNameFirst design part z tags) (sym c)
         (subst (AllNameFirst design part walk.word) (sym t) (name-first part walk.word one raw walk.kept all))
 
+    -- the tags, with their names, are those of a tree from the root
     pub tree-is : AreTrees part cost (root design ∷ []) tags
     tree-is = first-close design part cost tags merged.tree names-are

@@ -47,6 +47,7 @@ use Rattle.sf_rounds.proofs.Names.{named-alike}
 
 -- ---- parts in order
 
+-- an order that is less is `Less`
 less-is : (r : Ordering) → is_lt r ≡ true → r ≡ Less
 less-is Less h = refl
 less-is Equal h = absurd (cc)
@@ -61,13 +62,16 @@ apart path a b before other =
       | inr f ↦ f
     ]
 
+-- the second mark's path does not come before the first one's
 abbrev IsNotFalling : Mark → Mark → Type 0
 IsNotFalling a b = is_lt (steps_cmp b.node.steps a.node.steps) ≡ false
 
+-- marks of which no later one comes before an earlier one are sorted by their paths
 pairs-sorted : (ms : List Mark) → EachPair IsNotFalling ms → IsSortedBy (λ a b. is_lt (steps_cmp a.node.steps b.node.steps)) ms
 pairs-sorted ms pairs k d low high = AllPairs-from_recursion IsNotFalling ms pairs k (k + 1) d (omega arith) high
 
 module _ (part : Parts → Part → ℕ) (cost : ℕ) where
+  -- the tag of a mark, which names the first part that is at least the cost
   abbrev tag_in : Mark → Tag
   tag_in m = named (part m.node) cost m.tag
 
@@ -88,23 +92,27 @@ module _ (part : Parts → Part → ℕ) (cost : ℕ) where
         named_tags = e ∙ (λ i. a.named_tags i ++ b.named_tags i) ∙ sym (map-append tag_in a.sorted b.sorted);
       }
 
+  -- the tags of marks that were sorted by their paths are in order
   pub in-order : (given sorted : List Mark) (tags : List Tag) → IsPermutation given sorted → IsSortedBy (λ a b. is_lt (steps_cmp a.node.steps b.node.steps)) sorted → tags ≡ map tag_in sorted → AreInOrder part cost given tags
   in-order given sorted tags p up e = record { sorted = sorted; same = p; rising = up; named_tags = e }
 
   -- ---- what the tags name
 
+  -- a tag that was named names the first part that is at least the cost
   names-first : (tag : Tag) (node : Parts) → NamesFirst part cost (named (part node) cost tag) node
   names-first Extend node = tt
   names-first (Split b) node = tt
   names-first (Closed p) node = refl
   names-first Open node = tt
 
+  -- a tag makes the same children, whichever part it names
   named-made : (f : Part → ℕ) (tag : Tag) (node : Parts) → made (named f cost tag) node ≡ made tag node
   named-made f Extend node = refl
   named-made f (Split b) node = refl
   named-made f (Closed p) node = refl
   named-made f Open node = refl
 
+  -- the mark names the first part that is at least the cost
   abbrev First : Mark → Type 0
   First mark = NamesFirst part cost mark.tag mark.node
 
@@ -121,24 +129,29 @@ module _ (part : Parts → Part → ℕ) (cost : ℕ) where
         subst (λ ns. AllByRecursion First (marks (ns ++ nodes) (map tag_in ms))) (sym (named-made (part m.node) m.tag node)) (all-named ms (made m.tag node ++ nodes) rest),
       )
 
+  -- the mark names no part
   abbrev IsPlain : Mark → Type 0
   IsPlain mark = unnamed mark.tag ≡ mark.tag
 
+  -- marks that name no part have their own tags once the names are taken away again
   all-plain : (ms : List Mark) → AllByRecursion IsPlain ms → map unnamed (map tag_in ms) ≡ map (λ m. m.tag) ms
   all-plain [] h = refl
   all-plain (m ∷ ms) h = λ i. (named-alike (part m.node) cost m.tag ∙ h.0) i ∷ all-plain ms h.1 i
 
 -- ---- what entries and tasks say of names
 
+-- the tag of an entry's kind names no part
 plain-kind : (k : Kind) → unnamed (tag_of k) ≡ tag_of k
 plain-kind kind.Extended = refl
 plain-kind (kind.Split b) = refl
 plain-kind kind.Closed = refl
 
+-- what holds of everything holds of each element
 each-any : {X : Type 0} (P : X → Type 0) → ((x : X) → P x) → (xs : List X) → AllByRecursion P xs
 each-any P f [] = tt
 each-any P f (x ∷ xs) = (f x, each-any P f xs)
 
+-- the marks of entries and of open tasks name no part
 given-plain : (entries : List Entry) (left : List Task) → All (λ (m : Mark). unnamed m.tag ≡ m.tag) (given_marks entries left)
 given-plain entries left =
     let P : Mark → Type 0 = λ m. unnamed m.tag ≡ m.tag in
@@ -147,6 +160,7 @@ given-plain entries left =
     (each-map P (λ (e : Entry). record { node = e.node; tag = tag_of e.kind }) entries (each-any (λ (e : Entry). unnamed (tag_of e.kind) ≡ tag_of e.kind) (λ e. plain-kind e.kind) entries))
     (each-map P (λ (t : Task). record { node = t.node; tag = Open }) left (each-any (λ (t : Task). Open ≡ Open) (λ t. refl) left)))
 
+-- marks that name no part are the same without names
 plain-marks : (ms : List Mark) → AllByRecursion (λ (m : Mark). unnamed m.tag ≡ m.tag) ms → map unnamed_mark ms ≡ ms
 plain-marks [] h = refl
 plain-marks (m ∷ ms) h = λ i. record { node = m.node; tag = h.0 i } ∷ plain-marks ms h.1 i
@@ -154,6 +168,7 @@ plain-marks (m ∷ ms) h = λ i. record { node = m.node; tag = h.0 i } ∷ plain
 -- ---- the certificate
 
 module _ (design : Design) (bound : Parts → ℕ) (part : Parts → Part → ℕ) (parts : ArePartsOf design bound part) (entries : List Entry) (left : List Task) (plan : Option Expr) (cost : ℕ) (o : IsOutcome design bound entries left plan cost) where
+  -- the root alone
   abbrev one : List Parts
   one = root design ∷ []
 
@@ -162,31 +177,38 @@ module _ (design : Design) (bound : Parts → ℕ) (part : Parts → Part → �
   given-subproblems given p = All-permutation (λ m. IsSubproblem design m.node) (given_marks entries left) given p (All-from_recursion (λ (m : Mark). IsSubproblem design m.node) (given_marks entries left) (conserved-marks design bound entries left o.conserved))
 
   module _ (given : List Mark) (tags : List Tag) (g : IsPermutation (given_marks entries left) given) (a : AreInOrder part cost given tags) where
+    -- the marks of the entries and of the open tasks, in the order of their paths
     moved : IsPermutation (given_marks entries left) a.sorted
     moved = IsPermutation-trans (given_marks entries left) given a.sorted g a.same
 
+    -- the entries and the open tasks are merged into the tags of the sorted marks
     bare : IsMerged design bound part cost entries left (map (λ m. m.tag) a.sorted)
     bare = conserved-tree design bound part parts.full cost entries left a.sorted o.conserved o.fresh moved a.rising
 
+    -- without names the tags are those of the sorted marks
     plain-is : map unnamed tags ≡ map (λ m. m.tag) a.sorted
     plain-is =
         ap (map unnamed) a.named_tags
         ∙ all-plain part cost a.sorted (recursion_from_All (λ (m : Mark). unnamed m.tag ≡ m.tag) a.sorted (All-permutation (λ (m : Mark). unnamed m.tag ≡ m.tag) (given_marks entries left) a.sorted moved (given-plain entries left)))
 
+    -- the entries and the open tasks are merged into the tags without names
     merged : IsMerged design bound part cost entries left (map unnamed tags)
     merged = subst (IsMerged design bound part cost entries left) (sym plain-is) bare
 
+    -- each closed subproblem names the first part that is at least the cost
     names-are : AllNameFirst design part cost tags
     names-are =
         All-from_recursion (λ (m : Mark). NamesFirst part cost m.tag m.node) (marks one tags)
         (subst (λ ts. AllByRecursion (λ (m : Mark). NamesFirst part cost m.tag m.node) (marks one ts)) (sym a.named_tags)
         (all-named part cost a.sorted one (sorted-marks design bound part cost entries left a.sorted o.conserved bare moved a.rising)))
 
+    -- plan, cost and tags have the form of a certificate's
     pub shared-form : (n : ℕ) → n ≡ block_count design → IsFormed n plan cost tags
     shared-form n e =
         let f = merged-formed design bound part cost cost n entries left (map unnamed tags) plan e merged o.planned (subproblem-shallow design) in
         record { some_block = f.some_block; few_blocks = f.few_blocks; planned = f.planned; unplanned = f.unplanned; tree = subst IsTrue (unnamed-tree n tags) f.tree }
 
+    -- a certificate of these tags, this plan and this cost is certified by the entries and the open tasks
     pub shared-out : (cert : Cert) → cert.tags ≡ tags → cert.plan ≡ plan → cert.cost ≡ cost → cert.bound ≡ least cost (map (λ (t : Task). t.bound) left) → cert.blocks ≡ block_count design → IsCertified design bound part entries left plan cost cert
     shared-out cert t p c l n =
         let low : cert.bound ≡ least cost (map bound (left_open one tags)) = l ∙ ap (least cost) (task-bounds bound left o.valued) ∙ sym merged.lowest ∙ ap (λ ns. least cost (map bound ns)) (unnamed-open one tags) in

@@ -18,13 +18,16 @@ use Rattle.sf_rounds.specs.Naming.{value_in, named, kept_for, AreKept, renamed}
 
 -- ---- what is kept of a closed subproblem
 
+-- the first part that is at least the cost is the same by the kept values as by the parts
 pub same-first : (part : Part → ℕ) (cost : ℕ) (values : PartValues) → AreValues part values → first_part (value_in values) cost ≡ first_part part cost
 same-first part cost values are =
     λ i. cond (leb cost (are.area i)) Area (cond (leb cost (are.range i)) Range (cond (leb cost (are.pair i)) Pair (cond (leb cost (are.hull i)) Hull Full)))
 
+-- of a subproblem that its area closes nothing is kept
 pub kept-none : (part : Part → ℕ) (p : Part) → p ≡ Area → kept_for part (Closed p) ≡ []
 kept-none part p e = ap (λ q. kept_for part (Closed q)) e
 
+-- of a subproblem that another part closes the values of its parts are kept
 pub kept-values : (part : Part → ℕ) (p : Part) (values : PartValues) → AreValues part values → p ≢ Area → kept_for part (Closed p) ≡ values ∷ []
 kept-values part Area values are other = absurd (other refl)
 kept-values part p values are other = λ i. (sym {a = values} (λ j. record { area = are.area j; range = are.range j; pair = are.pair j; hull = are.hull j }) i) ∷ []
@@ -41,6 +44,7 @@ renamed-alike cost (Closed Area ∷ tags) kept = ap (λ ts. Closed Full ∷ ts) 
 renamed-alike cost (Closed p ∷ tags) [] = ap (λ ts. Closed Full ∷ ts) (renamed-alike cost tags [])
 renamed-alike cost (Closed p ∷ tags) (values ∷ kept) = ap (λ ts. Closed Full ∷ ts) (renamed-alike cost tags kept)
 
+-- naming the first part changes nothing of a tag but the name
 pub named-alike : (part : Part → ℕ) (cost : ℕ) (tag : Tag) → unnamed (named part cost tag) ≡ unnamed tag
 named-alike part cost Extend = refl
 named-alike part cost (Split b) = refl
@@ -55,15 +59,18 @@ area-first part cost h = let e = le-leb cost (part Area) h in grind (arith, e)
 abbrev later : (Part → ℕ) → ℕ → Part
 later part cost = cond (leb cost (part Range)) Range (cond (leb cost (part Pair)) Pair (cond (leb cost (part Hull)) Hull Full))
 
+-- the part is not the area
 abbrev IsOther : Part → Type 0
 IsOther p = p ≡ Area → ⊥
 
+-- the first part but for the area is not the area
 not-area : (part : Part → ℕ) (cost : ℕ) → IsOther (later part cost)
 not-area part cost =
     cond_both (leb cost (part Range)) Range (cond (leb cost (part Pair)) Pair (cond (leb cost (part Hull)) Hull Full)) IsOther (λ _ e. cc)
     (λ _. cond_both (leb cost (part Pair)) Pair (cond (leb cost (part Hull)) Hull Full) IsOther (λ _ e. cc)
     (λ _. cond_both (leb cost (part Hull)) Hull Full IsOther (λ _ e. cc) (λ _ e. cc)))
 
+-- where the area is the first part that is at least the cost, it is at least the cost
 first-area : (part : Part → ℕ) (cost : ℕ) → first_part part cost ≡ Area → cost ≤ part Area
 first-area part cost e =
     elim (cases_Bool (leb cost (part Area))) [
@@ -72,12 +79,15 @@ first-area part cost e =
     ]
 
 module _ (part : Parts → Part → ℕ) (cost : ℕ) where
+  -- the values that are kept for a mark
   abbrev values_for : Mark → List PartValues
   values_for mark = kept_for (part mark.node) mark.tag
 
+  -- where the mark names the area, that is at least the cost
   abbrev IsArea : Mark → Type 0
   IsArea mark = mark.tag ≡ Closed Area → cost ≤ part mark.node Area
 
+  -- the mark names the first part that is at least the cost
   abbrev IsNamed : Mark → Type 0
   IsNamed mark = NamesFirst part cost mark.tag mark.node
 
@@ -94,15 +104,18 @@ module _ (part : Parts → Part → ℕ) (cost : ℕ) where
 
   -- one visit more
   module _ (before : ℕ) (old : List Mark) (node : Parts) (tag : Tag) (lower : cost ≤ before) where
+    -- the subproblem with its tag, which names the first part that is at least the cost
     abbrev mark : Mark
     mark = record { node = node; tag = named (part node) cost tag }
 
+    -- a tag that names the area as the first part names one that is at least the cost
     tag-area : (t : Tag) → named (part node) cost t ≡ Closed Area → cost ≤ part node Area
     tag-area Extend e = absurd cc
     tag-area (Split b) e = absurd cc
     tag-area Open e = absurd cc
     tag-area (Closed p) e = let same : first_part (part node) cost ≡ Area = cc in first-area (part node) cost same
 
+    -- with one mark more the values of its parts are kept, also for a lower cost
     pub kept-more : (kept : List PartValues) → AreKept part before old kept → AreKept part cost (old ++ mark ∷ []) (kept ++ kept_for (part node) (named (part node) cost tag))
     kept-more kept k = record {
       values = ap (λ vs. vs ++ values_for mark) k.values ∙ flat_map_more values_for [] old mark;
@@ -118,6 +131,7 @@ module _ (part : Parts → Part → ℕ) (cost : ℕ) where
       subst (λ ms. AreKept part cost ms kept) (append_assoc old (record { node = node; tag = Open } ∷ []) (map (λ node. record { node = node; tag = Open }) nodes))
       (kept-open (old ++ record { node = node; tag = Open } ∷ []) kept nodes (subst (AreKept part cost (old ++ record { node = node; tag = Open } ∷ [])) same one))
 
+  -- tags that are named by the kept values name the first parts
   pub name-first : (nodes : List Parts) (tags : List Tag) (kept : List PartValues) → AreKept part cost (marks nodes tags) kept → All IsNamed (marks nodes (renamed cost tags kept))
   name-first nodes tags kept k =
       subst (λ vs. All IsNamed (marks nodes (renamed cost tags vs))) (sym k.values)

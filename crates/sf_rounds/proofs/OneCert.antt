@@ -31,6 +31,7 @@ use Rattle.sf_rounds.specs.Found.{IsCertOf, IsFirst, IsOfFirst}
 abbrev closed : Parts → ℕ → Entry
 closed node word = record { node = node; kind = kind.Closed; value = word }
 
+-- equal lists have the same first entry and the same others
 heads : (x y : Entry) (xs ys : List Entry) → x ∷ xs ≡ y ∷ ys → (x ≡ y) × (xs ≡ ys)
 heads x y xs ys e = (cc, cc)
 
@@ -64,6 +65,7 @@ entries-good design part state cert trees of =
     each-unmap Good (λ (entry : Entry). record { node = entry.node; tag = tag_of entry.kind }) state.entries
     (each-left Good (map (λ (entry : Entry). record { node = entry.node; tag = tag_of entry.kind }) state.entries) (map (λ (task : Task). record { node = task.node; tag = Open }) state.waiting) all)
 
+-- where the entries stand at subproblems, the one that brought the word is a subproblem
 pub first-good : (design : Design) (entries : List Entry) (word : ℕ) (e : Expr) (a : IsOfFirst design entries word e) → AllByRecursion (λ entry. IsSubproblem design entry.node) entries → IsSubproblem design a.node
 first-good design entries word e a good =
     (each-right (λ (entry : Entry). IsSubproblem design entry.node) a.before (closed a.node word ∷ a.after) (subst (AllByRecursion (λ (entry : Entry). IsSubproblem design entry.node)) a.at good)).0

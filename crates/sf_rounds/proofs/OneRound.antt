@@ -22,6 +22,7 @@ use Rattle.sf_rounds.specs.Rounds.{IsLeast, IsRound, nodes}
 use Rattle.sf_rounds.specs.Searching.{IsOne}
 
 module _ (design : Design) (bound : Parts → ℕ) (task : Task) (is : IsTask design bound task) (value : ℕ) where
+  -- one entry and what it leaves are a round of its task alone
   one-round : (e : Entry) (left : List Task) (best : Option Expr) (r : RoundOut) → e.node ≡ task.node → IsOne e left best r → IsEntry design bound e → map (λ (t : Task). t.node) left ≡ children e → All (IsTask design bound) left
       → IsLeast design bound value r.value (e ∷ []) → MatchOption best (r.value ≡ value) (λ x. (r.value < value) × IsPlan design x r.value) → IsRound design bound (task ∷ []) (1 ∷ []) value r
   one-round e left best r en o entry made tasks least plan =
@@ -59,11 +60,13 @@ module _ (design : Design) (bound : Parts → ℕ) (task : Task) (is : IsTask de
     is = inl (ez ∙ ev);
   }
 
+  -- a task that is closed at the value is a round of one
   pub one-closed : (r : RoundOut) (none : List Task) → none ≡ [] → value ≤ task.bound → IsOne (record { node = task.node; kind = kind.Closed; value = value }) none None r → IsRound design bound (task ∷ []) (1 ∷ []) value r
   one-closed r none e d o =
       let entry : IsEntry design bound (record { node = task.node; kind = kind.Closed; value = value }) = (subst (λ n. value ≤ n) is.1 d, tt) in
       one-round (record { node = task.node; kind = kind.Closed; value = value }) none None r refl o entry (ap (map (λ (t : Task). t.node)) e) (subst (All (IsTask design bound)) (sym e) (All-nil (IsTask design bound))) (still (record { node = task.node; kind = kind.Closed; value = value }) r.value refl o.value entry) o.value
 
+  -- a task that is solved, with its plan, is a round of one
   pub one-solved : (r : RoundOut) (none : List Task) (expr : Expr) (cost : ℕ) → none ≡ [] → IsSolvedBy design task value expr cost → IsOne (record { node = task.node; kind = kind.Closed; value = cost }) none (Some expr) r → IsRound design bound (task ∷ []) (1 ∷ []) value r
   one-solved r none expr cost e d o =
       let e' : Entry = record { node = task.node; kind = kind.Closed; value = cost } in
@@ -79,6 +82,7 @@ module _ (design : Design) (bound : Parts → ℕ) (task : Task) (is : IsTask de
       })
       (omega (arith, z, d.same, d.below), (task.node, subst (IsPlanOf design task.node expr) (sym z) d.plan))
 
+  -- a task that is extended to its children is a round of one
   pub one-extended : (r : RoundOut) (made : List Task) → IsExtendedTo bound task value made → IsOne (record { node = task.node; kind = kind.Extended; value = value }) made None r → IsRound design bound (task ∷ []) (1 ∷ []) value r
   one-extended r made d o =
       let e' : Entry = record { node = task.node; kind = kind.Extended; value = value } in
@@ -86,6 +90,7 @@ module _ (design : Design) (bound : Parts → ℕ) (task : Task) (is : IsTask de
       let m = extended-made design bound task value made is.0 d in
       one-round e' made None r refl o entry m.0 m.1 (still e' r.value refl o.value entry) o.value
 
+  -- a task that is split into its halves is a round of one
   pub one-split : (r : RoundOut) (b : ℕ) (made : List Task) → IsSplitInto design bound task value b made → IsOne (record { node = task.node; kind = kind.Split b; value = value }) made None r → IsRound design bound (task ∷ []) (1 ∷ []) value r
   one-split r b made d o =
       let e' : Entry = record { node = task.node; kind = kind.Split b; value = value } in

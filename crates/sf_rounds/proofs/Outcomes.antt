@@ -14,6 +14,7 @@ use Rattle.sf_rounds.specs.Searching.{IsSearch}
 use Rattle.sf_rounds.proofs.Composed.{search-tasks}
 use Rattle.sf_rounds.proofs.Ended.{planned}
 
+-- what a search leaves between its rounds is an outcome from which a certificate is made
 pub outcome : (design : Design) (bound : Parts → ℕ) (tasks left : List Task) (entries : List Entry) (value : ℕ) (best : Option Expr) → left ≡ tasks → IsSearch design bound tasks entries value best → IsOutcome design bound entries left best value
 outcome design bound tasks left entries value best e s =
     subst (λ ts. IsOutcome design bound entries ts best value) (sym e) (record {

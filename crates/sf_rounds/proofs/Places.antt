@@ -6,6 +6,7 @@ use Rattle.std.proofs.lemmas.List.Elements.{All-more, All-weaker}
 use Rattle.std.proofs.lemmas.List.Sorted.{IsPermutation-trans, IsPermutation-append, IsPermutation-append_comm, IsPermutation-append_right, IsPermutation-refl, IsPermutation-to_front}
 use Rattle.sf_node.specs.declared.task.Task.{Task}
 
+-- the bound at a task's place is the task's
 pub bound-at : (ts : List Task) (i : ℕ) (t : Task) → i < length ts → t ≡ get_or ts i t → get_or (map (λ (u : Task). u.bound) ts) i 0 ≡ t.bound
 bound-at ts i t lt is = get_or-map (λ (u : Task). u.bound) ts i t 0 lt ∙ ap (λ (u : Task). u.bound) (sym is)
 
@@ -17,6 +18,7 @@ above-more ts i n m t lt is le here before =
     (subst (λ (u : Task). m ≤ u.bound) is here)
 
 module _ (ts : List Task) (i place next : ℕ) (t s : Task) (lt : i < length ts) (within : place < length ts) (is : t ≡ get_or ts i t) (was : s ≡ get_or ts place s) where
+  -- the bound of the task at place n is at most those of the first k tasks
   abbrev IsLeastAt : ℕ → ℕ → Type 0
   IsLeastAt n k = All (λ (u : Task). get_or (map (λ (v : Task). v.bound) ts) n 0 ≤ u.bound) (take k ts)
 

@@ -27,9 +27,11 @@ use Rattle.sf_rounds.proofs.Whole.{conserved, fresh-ready, all_entries, all_open
 use Rattle.sf_rounds.proofs.Team.{all_solved, all_firsts}
 
 module _ (design : Design) (bound : Parts → ℕ) where
+  -- a number that is at most a closed entry's value is at most its subproblem's bound
   below-closed : (z : ℕ) (k : Kind) (node : Parts) (v : ℕ) → z ≤ v → IsDecided k node (bound node) v → k ≡ Closed → z ≤ bound node
   below-closed z k node v low d e = (let h = subst (λ i. IsDecided i node (bound node) v) e d in omega (arith, low, h))
 
+  -- a number that is at most all values is at most the bound of each closed and solved entry
   all-below : (z : ℕ) (es : List Entry) → All (λ (e : Entry). z ≤ e.value) es → All (IsEntry design bound) es → All (λ (e : Entry). e.kind ≡ Closed → IsTrue (is_solved design e.node) → z ≤ bound e.node) es
   all-below z [] low h = All-nil (λ (e : Entry). e.kind ≡ Closed → IsTrue (is_solved design e.node) → z ≤ bound e.node)
   all-below z (e ∷ es) low h =
@@ -37,6 +39,8 @@ module _ (design : Design) (bound : Parts → ℕ) where
       (λ closed solved. below-closed z e.kind e.node e.value (All-head (λ (x : Entry). z ≤ x.value) e es low) (All-head (IsEntry design bound) e es h).0 closed)
       (all-below z es (All-tail (λ (x : Entry). z ≤ x.value) e es low) (All-tail (IsEntry design bound) e es h))
 
+  -- a plan below the value costs the lesser of the value and the offer, or there is none and that is the
+  -- value
   best-least : (best : Option Expr) (value o z : ℕ) → z ≡ min value o → MatchOption best (value ≤ o) (λ e. (o < value) × IsPlan design e o) → MatchOption best (z ≡ value) (λ e. (z < value) × IsPlan design e z)
   best-least None value o z e h = omega (arith, e, h)
   best-least (Some expr) value o z e h = (let same : o ≡ z = omega (arith, e, h.0) in (omega (arith, same, h.0), subst (IsPlan design expr) same h.1))
@@ -48,6 +52,7 @@ module _ (design : Design) (bound : Parts → ℕ) where
   plan-below (Some b) plan value o e h below most = subst (λ p. MatchOption p (value ≤ o) (λ x. (o < value) × IsPlan design x o)) (sym e) (below h.2, subst (IsPlan design b.0) h.1 h.0)
 
   module _ {T : Type 0} (value : ℕ) (word : Word) where
+    -- what the worker offered, if anything, lies below the value that was handed in
     abbrev Undercuts : Job T → Type 0
     Undercuts j = j.state.seat.offered < MAX → j.state.seat.offered < value
 
@@ -62,6 +67,7 @@ module _ (design : Design) (bound : Parts → ℕ) where
         let seen : j.state.seat.seen ≡ value = ap (λ (s : Knows). s.seen) seat in
         All-cons Undercuts k ks (λ small. (let u = h.0.passed.undercut (omega (arith, small, offered)) in omega (arith, u, seen))) (undercuts js ks h.1 (All-tail (IsFresh value word) j js fs))
 
+    -- an offer of one of the workers lies below the value that was handed in
     any-undercuts : (o : ℕ) (ks : List (Job T)) → All Undercuts ks → Any (λ k. k.state.seat.offered ≡ o) ks → o < MAX → o < value
     any-undercuts o [] all some small = absurd (let b = some.2 in omega (arith, b))
     any-undercuts o (k ∷ ks) all (zero, x, below, is, e) small =
@@ -69,6 +75,7 @@ module _ (design : Design) (bound : Parts → ℕ) where
         let u = All-head Undercuts k ks all (omega (arith, small, same)) in omega (arith, u, same)
     any-undercuts o (k ∷ ks) all (suc i, x, below, is, e) small = any-undercuts o ks (All-tail Undercuts k ks all) (i, x, omega (arith, below), is, e) small
 
+    -- the least offer, where there is one, lies below the value that was handed in
     least-undercuts : (o o0 : ℕ) (js ks : List (Job T)) → o0 ≡ MAX → EachTwo (Ran design bound) js ks → All (IsFresh value word) js → (o ≡ o0) ⊎ Any (λ k. k.state.seat.offered ≡ o) ks → o < MAX → o < value
     least-undercuts o o0 js ks none h fs how small =
         elim how [
@@ -76,6 +83,7 @@ module _ (design : Design) (bound : Parts → ℕ) where
           | inr some ↦ any-undercuts o ks (undercuts js ks h fs) some small
         ]
 
+    -- all fresh workers with tasks are ready for a pass
     pub all-ready : (js : List (Job T)) → All (IsFresh value word) js → All (λ j. IfSome j.state.first (IsTask design bound)) js → All (λ j. IsReady design bound j.state × (j.state.seat.word ≡ word.id)) js
     all-ready [] fs gs = All-nil (λ (j : Job T). IsReady design bound j.state × (j.state.seat.word ≡ word.id))
     all-ready (j ∷ js) fs gs =
@@ -83,6 +91,7 @@ module _ (design : Design) (bound : Parts → ℕ) where
         (fresh-ready design bound value word j (All-head (IsFresh value word) j js fs) (All-head (λ (i : Job T). IfSome i.state.first (IsTask design bound)) j js gs))
         (all-ready js (All-tail (IsFresh value word) j js fs) (All-tail (λ (i : Job T). IfSome i.state.first (IsTask design bound)) j js gs))
 
+    -- the lesser of the value and the least offer is the value, or the bound of a solved entry
     least-is : (z o o0 : ℕ) (js ks : List (Job T)) → value ≤ MAX → o0 ≡ MAX → z ≡ min value o → EachTwo (Ran design bound) js ks → All (IsFresh value word) js → (o ≡ o0) ⊎ Any (λ k. k.state.seat.offered ≡ o) ks
         → (z ≡ value) ⊎ Any (Solves design bound z) (flat_map log_of ks)
     least-is z o o0 js ks most none e h fs how =
@@ -95,6 +104,7 @@ module _ (design : Design) (bound : Parts → ℕ) where
           | inr more ↦ inl (omega (arith, e, more))
         ]
 
+    -- what the workers did, gathered, is a round of the tasks given
     pub rounded : (given : List Task) (quotas : List ℕ) (js ks : List (Job T)) (places : List (Place T)) (entries : List Entry) (left kept : List Task) (best : Option (Expr × ℕ)) (first last : Knows) (r : RoundOut)
         → EachTwo (Ran design bound) js ks → Dealt design bound value word given quotas js → Gathers design ks first last places entries kept best → first.offered ≡ MAX → value ≤ MAX
         → IsFinished places left → All (IsTask design bound) left → r.left ≡ left ++ kept → r.entries ≡ entries → r.value ≡ min value last.offered → r.value ≤ last.seen

@@ -31,9 +31,11 @@ use Rattle.sf_rounds.proofs.Settled.{taken-is, turned-is, first-is, accepted-is,
 use Rattle.sf_rounds.proofs.Formed.{plan-formed}
 use Rattle.sf_rounds.proofs.Stage.{mid, some, taken, turn-is, next-is, stage-next}
 
+-- at the start the root is the one open task, and no tag is put down
 pub stage-start : (design : Design) (bound : Parts → ℕ) → IsStage design bound (opening design bound 1) [] (root design ∷ [])
 stage-start design bound = record { idle = refl; waiting = refl; kinds = refl; marked = refl; then = refl }
 
+-- a search with the root before it, no tags and no plan is the one after no visits
 pub run-start : (design : Design) (bound : Parts → ℕ) (walk : Progress) → IsPath design bound walk.path → left_of design walk ≡ root design ∷ [] → walk.tags ≡ [] → walk.word ≡ MAX → walk.best ≡ None → IsRun design bound 0 walk
 run-start design bound walk at l t w b = record {
   beside = record {
@@ -48,6 +50,7 @@ run-start design bound walk at l t w b = record {
   accepted = tt;
 }
 
+-- where there are no tags nothing is marked
 marks-none : (one : List Parts) → marks one [] ≡ []
 marks-none [] = refl
 marks-none (node ∷ nodes) = refl
@@ -85,6 +88,7 @@ word-lower design bound node (Solved expr) word d = let less : bound node < word
 word-lower design bound node Extended word d = omega arith
 word-lower design bound node (Split b) word d = omega arith
 
+-- the best plan after a visit costs the word after it, or there is none and the word is none
 best-next : (design : Design) (bound : Parts → ℕ) (node : Parts) (seen : Visit) (word : ℕ) (best : Option Expr) → IsVisit design bound node word seen → IsBest design word best → IsBest design (word_after bound node seen word) (best_after (decision_of bound node seen) best)
 best-next design bound node Closed word best d b = b
 best-next design bound node (Solved expr) word best d b =
@@ -95,9 +99,11 @@ best-next design bound node (Split i) word best d b = b
 
 -- one visit more
 module _ (design : Design) (bound : Parts → ℕ) (part : Parts → Part → ℕ) (state : State) (old new : Progress) (seen : Visit) (b : IsBeside design bound state old) (more : old.more ≡ true) (m : IsMove design bound part old seen new) where
+  -- the subproblem that is next
   abbrev node : Parts
   node = old.path.node
 
+  -- the subproblems that come behind it and what it makes
   abbrev rest : List Parts
   rest = behind (root design) node.steps
 
@@ -105,17 +111,21 @@ module _ (design : Design) (bound : Parts → ℕ) (part : Parts → Part → �
   abbrev plain : List Tag
   plain = map unnamed old.tags
 
+  -- the tag of the visit
   abbrev tag : Tag
   tag = tag_after bound part node seen old.word
 
+  -- the machine's open tasks are the next subproblem and those behind it
   stage : IsStage design bound state plain (node ∷ rest)
   stage = subst (λ x. IsStage design bound state plain (pending design x node)) more b.stage
 
+  -- without names the tags after the visit are those before, and that of the visit
   plain-next : map unnamed new.tags ≡ plain ++ tag_at seen ∷ []
   plain-next =
       ap (map unnamed) m.tags ∙ map-append unnamed old.tags (tag ∷ [])
       ∙ ap (λ t. plain ++ t ∷ []) (named-alike (part node) (word_after bound node seen old.word) (tag_at seen) ∙ unnamed-tag seen)
 
+  -- what is kept after the visit is kept for all marks, also for the word after it
   pub kept-next : AreKept part old.word (marks (root design ∷ []) old.tags) old.kept → AreKept part new.word (marks (root design ∷ []) new.tags) new.kept
   kept-next k =
       let one = root design ∷ [] in
@@ -127,12 +137,15 @@ module _ (design : Design) (bound : Parts → ℕ) (part : Parts → Part → �
       (subst (λ ms. AreKept part word ms (old.kept ++ kept_for (part node) tag)) (sym more_marks)
       (kept-more part word old.word (marks one old.tags) node (tag_at seen) (word-lower design bound node seen old.word m.visit) old.kept k)))
 
+  -- the visit decides the subproblem against the machine's word
   decided : IsVisit design bound node state.word seen
   decided = subst (λ w. IsVisit design bound node w seen) (sym b.word) m.visit
 
+  -- the machine's state in which the worker holds the next subproblem
   abbrev held : State
   held = mid design bound state plain node rest stage
 
+  -- after the visit the search is beside the machine after one turn
   pub beside-next : IsBeside design bound (turn design bound state) new
   beside-next =
       let n = next-is design bound state plain node rest stage b.core seen decided in
@@ -153,12 +166,14 @@ module _ (design : Design) (bound : Parts → ℕ) (part : Parts → Part → �
         splits = t.splits b.splits;
       }
 
+  -- the machine accepts the events of the turn
   pub accepted-next : AreAccepted design state (turn_events design bound state)
   accepted-next =
       let took = taken-is design state held stage.idle (some design bound state plain node rest stage) (taken design bound state plain node rest stage) in
       accepted-is design bound state held (turn design bound state) (task_at bound node) (decision_of bound node seen) took refl b.core.not_stale decided (turn-is design bound state plain node rest stage)
       stage.idle (some design bound state plain node rest stage) (taken design bound state plain node rest stage)
 
+-- one more visit makes of the search after k visits that after k + 1
 pub run-next : (design : Design) (bound : Parts → ℕ) (part : Parts → Part → ℕ) (k : ℕ) (old new : Progress) (seen : Visit) → IsRun design bound k old → old.more ≡ true → IsMove design bound part old seen new → IsRun design bound (k + 1) new
 run-next design bound part k old new seen run more m =
     let first = opening design bound 1 in
@@ -179,5 +194,6 @@ run-still design bound k n walk h none run =
       accepted = accepted-still design bound k n first h empty run.accepted;
     }
 
+-- one more visit puts down one more tag
 pub count-next : (design : Design) (bound : Parts → ℕ) (part : Parts → Part → ℕ) (k : ℕ) (old new : Progress) (seen : Visit) → length old.tags ≡ k → IsMove design bound part old seen new → length new.tags ≡ k + 1
 count-next design bound part k old new seen e m = omega (arith, ap length m.tags, length-append old.tags (tag_after bound part old.path.node seen old.word ∷ []))

@@ -34,52 +34,67 @@ use Rattle.sf_rounds.specs.Turns.{settling, turn_of, turn_events, turn, turns, A
 use Rattle.sf_rounds.specs.Found.{IsOfFirst, IsFirst}
 use Rattle.sf_rounds.specs.Run.{IsIdle, Decides, IsTurned, IsSettled, best_after}
 
+-- a number is not less than one that is at most it
 not-lt : (a b : ℕ) → b ≤ a → nat_lt a b ≡ false
 not-lt a b h = grind arith
 
+-- a number is not at most one that is less
 not-le : (a b : ℕ) → b < a → nat_le a b ≡ false
 not-le a b h = grind arith
 
+-- a number that is at most another compares so
 is-le : (a b : ℕ) → a ≤ b → nat_le a b ≡ true
 is-le a b h = grind arith
 
+-- the state once the worker has closed the task that it holds at this value
 abbrev pub closed : State → Task → ℕ → State
 closed state t v = record state { held = slice_set state.held 0 None; entries = state.entries ++ record { node = t.node; kind = kind.Closed; value = v } ∷ [] }
 
 module _ (design : Design) (state : State) (t : Task) (held : held_by state 0 ≡ Some t) where
+  -- a held task whose bound is at least the value, which is at least the word, is closed at it
   pub close-done : (v : ℕ) → state.word ≤ v → v ≤ t.bound → applied design state (Close 0 v) ≡ Ok (closed state t v)
   close-done v h k = ap (close state 0 v) held ∙ cond-false _ _ _ (not-lt v state.word h) ∙ cond-false _ _ _ (not-lt t.bound v k)
 
+  -- a solved task's own bound may be offered
   both-true : is_solved design t.node ≡ true → (is_solved design t.node && t.bound == t.bound) ≡ true
   both-true solved = ap (λ b. b && t.bound == t.bound) solved ∙ eq-eqb t.bound t.bound refl
 
+  -- the bound of a solved task that is held may be offered, and lowers the word
   pub offer-done : is_solved design t.node ≡ true → applied design state (Offer 0 t.bound) ≡ Ok (record state { word = min state.word t.bound })
   offer-done solved = ap (offer design state t.bound) held ∙ cond-true _ _ _ (both-true solved)
 
+-- a complete subproblem is solved where wires count nothing or each span has one shape
 abbrev rest_of : Design → Parts → Bool
 rest_of design node = design.weights.wire == 0 || list_all (λ span. not (is_wide span)) node.spans
 
 -- the events that settle a task, by its case
 module _ (design : Design) (bound : Parts → ℕ) (t : Task) (value : ℕ) where
+  -- a task whose bound is at least the value is closed at the value
   pub settling-closed : value ≤ t.bound → settling design bound (Some t) value ≡ Close 0 value ∷ []
   settling-closed h = cond-true _ _ _ (is-le value t.bound h)
 
+  -- a solved task below the value offers its bound and is closed at it
   pub settling-solved : t.bound < value → is_solved design t.node ≡ true → settling design bound (Some t) value ≡ Offer 0 t.bound ∷ Close 0 t.bound ∷ []
   settling-solved h solved = cond-false _ _ _ (not-le value t.bound h) ∙ cond-true _ _ _ solved
 
+  -- a complete task that is not solved is split at the first block whose span is wide
   pub settling-split : t.bound < value → is_solved design t.node ≡ false → is_complete t.node ≡ true → settling design bound (Some t) value ≡ Replace 0 (how.Split (first_wide t.node)) value (map bound (split t.node (first_wide t.node))) ∷ []
   settling-split h solved complete = cond-false _ _ _ (not-le value t.bound h) ∙ cond-false _ _ _ solved ∙ cond-true _ _ _ complete
 
+  -- an incomplete subproblem is not solved
   incomplete-unsolved : is_complete t.node ≡ false → is_solved design t.node ≡ false
   incomplete-unsolved e = ap (λ b. b && rest_of design t.node) e
 
+  -- an incomplete task below the value is extended
   pub settling-extended : t.bound < value → is_complete t.node ≡ false → settling design bound (Some t) value ≡ Replace 0 how.Extend value (map bound (extended t.node)) ∷ []
   settling-extended h incomplete = cond-false _ _ _ (not-le value t.bound h) ∙ cond-false _ _ _ (incomplete-unsolved incomplete) ∙ cond-false _ _ _ incomplete
 
+-- what holds anyway holds of a result
 pub ok-const : {X E : Type 0} (P : Type 0) (r : Result X E) → P → IfOk r (λ (x : X). P)
 ok-const P (Ok x) p = p
 ok-const P (Err e) p = tt
 
+-- the expression of a plan of a subproblem has the plan's cost
 pub plan-cost : (design : Design) (node : Parts) (expr : Expr) (z : ℕ) → IsPlanOf design node expr z → HasCost design expr z
 plan-cost design node expr z p = record { tree = p.tree; spells = p.spells; legal = p.belongs.legal; fits = p.fits; costs = p.costs }
 
@@ -96,6 +111,7 @@ first-more design entries more word expr f = record {
   traced = f.traced;
 }
 
+-- the plan that was found first stays so when one entry is added and the word stays
 first-kept : (design : Design) (old new : State) (e : Entry) (best : Option Expr) → new.entries ≡ old.entries ++ e ∷ [] → new.word ≡ old.word → IsFirst design old best → IsFirst design new best
 first-kept design old new e None k same f = tt
 first-kept design old new e (Some expr) k same f =
@@ -116,6 +132,7 @@ first-solved design state t expr z fresh d = record {
 }
 
 module _ (design : Design) (state : State) where
+  -- one entry more, and no task held any more, is a settling of the held task
   entry-settled : (decision : Decision) (new : State) (e : Entry) → new.held ≡ slice_set state.held 0 None → new.entries ≡ state.entries ++ e ∷ [] → BranchesFirst design e.kind e.node → ((best : Option Expr) → IsFirst design state best → IsFirst design new (best_after decision best)) → IsSettled design decision state new
   entry-settled decision new e h k first keeps = record {
     held = h;
@@ -125,6 +142,7 @@ module _ (design : Design) (state : State) where
   }
 
   module _ (bound : Parts → ℕ) (fresh : All (λ entry. state.word ≤ entry.value) state.entries) where
+    -- the events of a decision settle the held task by it
     pub settled-at : (held : Option Task) (decision : Decision) → held_by state 0 ≡ held → Decides design bound held state.word decision → IsSettled design decision state (after_events design state (settling design bound held state.word))
     settled-at None decision e d = absurd d
     settled-at (Some t) Closed e d =
@@ -194,12 +212,14 @@ pub record IsTaken (old mid : State) : Type 0 where
   pub word : mid.word ≡ old.word
   pub got : slice_get old.waiting (length old.waiting - 1) ≡ Some task
 
+-- a place within a list holds something
 got : {X : Type 0} (xs : List X) (i : ℕ) → i < length xs → slice_get xs i ≡ None → ⊥
 got [] i h e = absurd (omega arith)
 got (x ∷ xs) zero h e = absurd (cc)
 got (x ∷ xs) (suc i) h e = got xs i (omega arith) e
 
 module _ (design : Design) (state : State) (idle : IsIdle state) (some : 0 < length state.waiting) where
+  -- taking the last open task, whichever it is, leaves it with the worker
   pub taken-at : (o : Option Task) → slice_get state.waiting (length state.waiting - 1) ≡ o → IsTaken state (after_event design state (Take 0 (length state.waiting - 1)))
   taken-at None e = absurd (got state.waiting (length state.waiting - 1) (omega arith) e)
   taken-at (Some t) e =
@@ -215,6 +235,7 @@ module _ (design : Design) (state : State) (idle : IsIdle state) (some : 0 < len
         got = e;
       }
 
+  -- an idle worker may take the last open task, whichever it is
   pub take-accepted : (o : Option Task) → slice_get state.waiting (length state.waiting - 1) ≡ o → IsOk (applied design state (Take 0 (length state.waiting - 1)))
   take-accepted None e = absurd (got state.waiting (length state.waiting - 1) (omega arith) e)
   take-accepted (Some t) e =
@@ -222,16 +243,19 @@ module _ (design : Design) (state : State) (idle : IsIdle state) (some : 0 < len
       let free : held_by state 0 ≡ None = ap (λ h. held_in (slice_get h 0)) idle in
       ap is_ok (ap (λ o. take state 0 place o (held_by state 0)) e ∙ ap (λ h. take state 0 place (Some t) h) free)
 
+-- taking the last open task leaves it with the worker, and leaves the entries and the word
 pub taken-is : (design : Design) (state mid : State) → IsIdle state → 0 < length state.waiting → mid ≡ after_event design state (Take 0 (length state.waiting - 1)) → IsTaken state mid
 taken-is design state mid idle some e = subst (IsTaken state) (sym e) (taken-at design state idle some (slice_get state.waiting (length state.waiting - 1)) refl)
 
 -- a turn: taking, then settling
 module _ (design : Design) (bound : Parts → ℕ) (old mid new : State) (task : Task) (decision : Decision) (taken : IsTaken old mid) (e : held_by mid 0 ≡ Some task) (fresh : All (λ entry. mid.word ≤ entry.value) mid.entries) (d : IsDecision design bound task mid.word decision) (made : new ≡ after_events design mid (settling design bound (held_by mid 0) mid.word)) where
+  -- the events settle the task that was taken
   settled : IsSettled design decision mid new
   settled =
       let decides = subst (λ h. Decides design bound h mid.word decision) (sym e) d in
       subst (IsSettled design decision mid) (sym made) (settled-at design mid bound fresh (held_by mid 0) decision refl decides)
 
+  -- taking and settling a task is one turn
   pub turned-is : IsTurned design old new
   turned-is = record {
     idle = settled.held ∙ ap (λ h. slice_set h 0 None) taken.held;
@@ -239,13 +263,16 @@ module _ (design : Design) (bound : Parts → ℕ) (old mid new : State) (task :
     splits = λ a. settled.splits (subst (AllBranchFirst design) (sym taken.entries) a);
   }
 
+  -- the plan that was found first stays so when a task is taken
   taken-first : (best : Option Expr) → IsFirst design old best → IsFirst design mid best
   taken-first None f = tt
   taken-first (Some expr) f = subst (λ w. IsOfFirst design mid.entries w expr) (sym taken.word) (subst (λ es. IsOfFirst design es old.word expr) (sym taken.entries) f)
 
+  -- the best plan after the turn is the first one of its cost
   pub first-is : (best : Option Expr) → IsFirst design old best → IsFirst design new (best_after decision best)
   first-is best f = settled.keeps best (taken-first best f)
 
+  -- the machine accepts the events of the turn
   pub accepted-is : IsIdle old → 0 < length old.waiting → mid ≡ after_event design old (Take 0 (length old.waiting - 1)) → AreAccepted design old (turn_events design bound old)
   accepted-is idle some was =
       let t = taken.task in
@@ -258,6 +285,7 @@ module _ (design : Design) (bound : Parts → ℕ) (old mid new : State) (task :
         subst (λ (s : State). AreAccepted design s (settling design bound (Some t) old.word)) was rest,
       )
 
+-- a turn without an open task changes nothing
 pub turn-empty : (design : Design) (bound : Parts → ℕ) (state : State) → state.waiting ≡ [] → turn design bound state ≡ state
 turn-empty design bound state e = ap (λ (ws : List Task). after_events design state (turn_of design bound state (slice_get ws (length ws - 1)))) e
 
@@ -285,6 +313,7 @@ accepted-still design bound k (suc n) state h e a =
     none-accepted : (s : State) → s.waiting ≡ [] → AreAccepted design s (turn_events design bound s)
     none-accepted s empty = subst (AreAccepted design s) (sym (ap (λ (ws : List Task). turn_of design bound s (slice_get ws (length ws - 1))) empty)) tt
 
+-- a list of no tasks is empty
 pub no-task : (ws : List Task) → length ws ≡ 0 → ws ≡ []
 no-task [] e = refl
 no-task (t ∷ ws) e = absurd (omega (arith, e))

@@ -33,27 +33,32 @@ use Rattle.sf_rounds.specs.Turns.{settling, turn_of, turn}
 use Rattle.sf_rounds.specs.Stage.{task_at, mark_of, IsStage, IsVisit, tag_at, word_after}
 use Rattle.sf_rounds.proofs.Settled.{closed, close-done, offer-done, settling-closed, settling-solved, settling-split, settling-extended, ok-const}
 
+-- a list without its last element is what stood before it
 remove-last : {X : Type 0} (xs : List X) (x : X) (i : ℕ) → i ≡ length xs → remove (xs ++ x ∷ []) i ≡ xs
 remove-last xs x i e =
     ap (λ z. z ++ drop (suc i) (xs ++ x ∷ [])) (take_at xs (x ∷ []) i (sym e))
     ∙ ap (λ z. xs ++ z) (drop_all (suc i) (xs ++ x ∷ []) (omega (arith, e, length-append xs (x ∷ [])))) ∙ append-nil xs
 
+-- tasks of subproblems with their bounds are the tasks as the machine keeps them
 tasks-are : (bound : Parts → ℕ) (ns : List Parts) → tasks ns (map bound ns) ≡ map (task_at bound) ns
 tasks-are bound [] = refl
 tasks-are bound (n ∷ ns) = ap (λ z. task_at bound n ∷ z) (tasks-are bound ns)
 
+-- the kind of the entry of a visit
 abbrev pub kind_at : Visit → Kind
 kind_at Closed = kind.Closed
 kind_at (Solved expr) = kind.Closed
 kind_at Extended = kind.Extended
 kind_at (Split b) = kind.Split b
 
+-- the tag of a visit's kind is the visit's tag
 tag-of-kind : (seen : Visit) → tag_of (kind_at seen) ≡ tag_at seen
 tag-of-kind Closed = refl
 tag-of-kind (Solved expr) = refl
 tag-of-kind Extended = refl
 tag-of-kind (Split b) = refl
 
+-- states with the same open and held tasks, the same entries and the same word are the same
 same-state : (w w2 : List Task) (h h2 : List (Option Task)) (es : List Entry) (z : ℕ) → w ≡ w2 → h ≡ h2 → ◌≡◌ {A = State} (record { waiting = w; held = h; entries = es; word = z }) (record { waiting = w2; held = h2; entries = es; word = z })
 same-state w w2 h h2 es z e k = cc
 
@@ -66,9 +71,11 @@ pub record IsNext (design : Design) (bound : Parts → ℕ) (state : State) (nod
   pub word : new.word ≡ word_after bound node seen state.word
 
 module _ (design : Design) (bound : Parts → ℕ) (state : State) (tags : List Tag) (node : Parts) (rest : List Parts) (stage : IsStage design bound state tags (node ∷ rest)) where
+  -- the next subproblem as the machine keeps it
   abbrev task : Task
   task = task_at bound node
 
+  -- the subproblems behind it as the machine keeps them, the first of them last
   abbrev others : List Task
   others = reverse (map (task_at bound) rest)
 
@@ -76,19 +83,24 @@ module _ (design : Design) (bound : Parts → ℕ) (state : State) (tags : List 
   abbrev pub mid : State
   mid = record { waiting = others; held = Some task ∷ []; entries = state.entries; word = state.word }
 
+  -- the next subproblem is the last open task
   waiting-is : state.waiting ≡ others ++ task ∷ []
   waiting-is = stage.waiting ∙ reverse-append (task ∷ []) (map (task_at bound) rest)
 
+  -- the last open task stands behind the others
   place-is : length state.waiting - 1 ≡ length others
   place-is = omega (arith, ap length waiting-is, length-append others (task ∷ []))
 
+  -- there is an open task
   pub some : 0 < length state.waiting
   some = omega (arith, ap length waiting-is, length-append others (task ∷ []))
 
+  -- at the last place of the open tasks stands the next subproblem
   got : slice_get state.waiting (length state.waiting - 1) ≡ Some task
   got = ap (λ z. slice_get z (length state.waiting - 1)) waiting-is ∙ slice_get-get_or (others ++ task ∷ []) (length state.waiting - 1) task (omega (arith, place-is, length-append others (task ∷ [])))
       ∙ ap (λ i. Some (get_or (others ++ task ∷ []) i task)) place-is ∙ ap Some (get_or-append_seam others task [] task)
 
+  -- the machine lets the worker take the last open task
   take-done : applied design state (Take 0 (length state.waiting - 1)) ≡ Ok mid
   take-done =
       let place = length state.waiting - 1 in
@@ -98,6 +110,7 @@ module _ (design : Design) (bound : Parts → ℕ) (state : State) (tags : List 
       (ap (λ z. remove z place) waiting-is ∙ remove-last others task place place-is)
       (ap (λ h. slice_set h 0 (Some task)) stage.idle))
 
+  -- after taking the last open task the machine is in this state
   pub taken : mid ≡ after_event design state (Take 0 (length state.waiting - 1))
   taken = sym (ap (next_of state) take-done)
 
@@ -108,14 +121,17 @@ module _ (design : Design) (bound : Parts → ℕ) (state : State) (tags : List 
       ∙ ap (λ s. after_events design s (settling design bound (Some task) state.word)) (sym taken)
 
   module _ (core : IsCoreState design bound state) where
+    -- the state in which the task is held is a core state
     mid-core : IsCoreState design bound mid
     mid-core = applied-kept design bound state mid (Take 0 (length state.waiting - 1)) core (omega (arith, ap length stage.idle)) take-done
 
+    -- the open tasks and those of the children behind them are, the first last, the children and the rest
     joined : (children : List Parts) → others ++ reverse (tasks children (map bound children)) ≡ reverse (map (task_at bound) (children ++ rest))
     joined children =
         ap (λ z. others ++ reverse z) (tasks-are bound children) ∙ sym (reverse-append (map (task_at bound) children) (map (task_at bound) rest))
         ∙ ap reverse (sym (map-append (task_at bound) children rest))
 
+    -- replacing the held task by its children makes a core state
     replaced-next : (way : How) → bound node < state.word → may_branch way node ≡ true → IsCoreState design bound (replaced mid 0 way state.word (map bound (branched (kind_of way) node)) task)
     replaced-next way below may =
         let costs = map bound (branched (kind_of way) node) in
@@ -123,6 +139,7 @@ module _ (design : Design) (bound : Parts → ℕ) (state : State) (tags : List 
         (omega arith, ok-const (AreBounds bound way costs (Some task)) (replace mid 0 way state.word costs (Some task)) refl)
         (replace-done mid 0 way state.word costs (held_by mid 0) task refl (omega arith) below may)
 
+    -- after a visit the machine's turn has made the state of the visit
     pub next-is : (seen : Visit) → IsVisit design bound node state.word seen → IsNext design bound state node rest seen (turn design bound state)
     next-is Closed d =
         let done = close-done design mid task refl state.word (omega arith) d in

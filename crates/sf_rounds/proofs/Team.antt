@@ -24,26 +24,31 @@ use Rattle.sf_rounds.specs.declared.job.Job.{Job}
 use Rattle.sf_rounds.specs.Jobs.{EachTwo, Ran, IsFresh, FirstsAre, place_of, log_of}
 use Rattle.sf_rounds.proofs.Whole.{log_is}
 
+-- lists that are related place by place have the same length
 pub each_two-length : {X : Type 0} (R : X → X → Type 0) (xs ys : List X) → EachTwo R xs ys → length ys ≡ length xs
 each_two-length R [] [] h = refl
 each_two-length R [] (y ∷ ys) h = absurd h
 each_two-length R (x ∷ xs) [] h = absurd h
 each_two-length R (x ∷ xs) (y ∷ ys) h = omega (arith, each_two-length R xs ys h.1)
 
+-- the first part of what was written over a list is what was written
 pub after_slice : {X : Type 0} (n : ℕ) (new items : List X) → n ≡ length new → take n (new ++ drop (length new) items) ≡ new
 after_slice n new items e = ap (λ m. take m (new ++ drop (length new) items)) e ∙ take-append_seam new (drop (length new) items)
 
+-- where no deque can be stolen from, there is no thief
 no_thieves : (ts : List ThiefView) → thief_deques_of ts ≡ [] → ts ≡ []
 no_thieves [] e = refl
 no_thieves (t ∷ ts) e = absurd (let n = ap length e in omega (arith, n))
 
 module _ {T : Type 0} where
+  -- owners of the same deques are as many
   deques_length : (ps qs : List (Place T)) → deques_of qs ≡ deques_of ps → length qs ≡ length ps
   deques_length [] [] e = refl
   deques_length [] (q ∷ qs) e = absurd (let n = ap length e in omega (arith, n))
   deques_length (p ∷ ps) [] e = absurd (let n = ap length e in omega (arith, n))
   deques_length (p ∷ ps) (q ∷ qs) e = (let rest : deques_of qs ≡ deques_of ps = cc in omega (arith, deques_length ps qs rest))
 
+  -- owners of the same deques have as many parts of them
   parts_all : (n : ℕ) (ps qs : List (Place T)) → deques_of qs ≡ deques_of ps → All (λ place. place.owner.deque.parts ≡ n) ps → All (λ place. place.owner.deque.parts ≡ n) qs
   parts_all n [] [] e h = h
   parts_all n [] (q ∷ qs) e h = absurd (let n = ap length e in omega (arith, n))
@@ -54,6 +59,7 @@ module _ {T : Type 0} where
       let rest : deques_of qs ≡ deques_of ps = cc in
       All-cons P q qs (ap (λ (d : Deque). d.parts) here ∙ All-head P p ps h) (parts_all n ps qs rest (All-tail P p ps h))
 
+  -- workers alone with their deques stay so where the deques and the thieves' are the same
   lone_all : (ps qs : List (Place T)) → deques_of qs ≡ deques_of ps → preys_of qs ≡ preys_of ps → All (λ place. (place.owner.deque.parts ≡ 1) × (place.thieves.items ≡ [])) ps → All (λ place. (place.owner.deque.parts ≡ 1) × (place.thieves.items ≡ [])) qs
   lone_all [] [] e f h = h
   lone_all [] (q ∷ qs) e f h = absurd (let n = ap length e in omega (arith, n))
@@ -67,6 +73,7 @@ module _ {T : Type 0} where
       let one = All-head P p ps h in
       All-cons P q qs (ap (λ (d : Deque). d.parts) here ∙ one.0, no_thieves q.thieves.items (here' ∙ ap thief_deques_of one.1)) (lone_all ps qs rest rest' (All-tail P p ps h))
 
+  -- a team stays one where the deques and those on which thieves stand are the same
   pub team_same : (ps qs : List (Place T)) → deques_of qs ≡ deques_of ps → preys_of qs ≡ preys_of ps → IsTeam ps → IsTeam qs
   team_same ps qs e f team = (
     omega (arith, team.0, deques_length ps qs e),
@@ -77,6 +84,7 @@ module _ {T : Type 0} where
   )
 
 module _ {T : Type 0} (design : Design) (bound : Parts → ℕ) where
+  -- the workers' passes leave the deques, and those on which thieves stand
   pub all_deques : (js ks : List (Job T)) → EachTwo (Ran design bound) js ks
       → (deques_of (map place_of ks) ≡ deques_of (map place_of js)) × (preys_of (map place_of ks) ≡ preys_of (map place_of js))
   all_deques [] [] h = (refl, refl)
@@ -88,6 +96,7 @@ module _ {T : Type 0} (design : Design) (bound : Parts → ℕ) where
       ((λ i. d.0 i ∷ r.0 i), (λ i. d.1 i ∷ r.1 i))
 
   module _ (value : ℕ) (word : Word) where
+    -- after the passes the seats have together as many parts as there are quotas
     pub all_parts : (given : List Task) (quotas : List ℕ) (js ks : List (Job T)) → EachTwo (Ran design bound) js ks → All (IsFresh value word) js → FirstsAre given quotas js
         → sum_by (λ (k : Job T). k.state.seat.parts) ks ≡ length quotas
     all_parts given [] [] [] h fs q = refl
@@ -122,11 +131,13 @@ module _ {T : Type 0} (design : Design) (bound : Parts → ℕ) where
         any-right (Solves design bound z) (log_of k) (flat_map log_of ks)
         (all_solved z less js ks h.1 (All-tail (IsFresh value word) j js fs) (i, x, omega (arith, below), is, e))
 
+    -- a worker with a quota, whose pass ended otherwise than for want of memory, decided its first task
     first_end : (j k : Job T) (p : Passed design bound j.state k.state) (end : PassEnd) → end ≢ NoMemory → 0 < j.state.quota → PassEnds j.state k.state p end → IsDecidedFirst j.state.first k.state.first p.logged
     first_end j k p QuotaSpent ne some h = h.2 some
     first_end j k p FoundNothing ne some h = h.2
     first_end j k p NoMemory ne some h = absurd (ne refl)
 
+    -- each given task whose worker has a quota was decided
     pub all_firsts : (given : List Task) (quotas : List ℕ) (js ks : List (Job T)) → EachTwo (Ran design bound) js ks → All (IsFresh value word) js → FirstsAre given quotas js → All (λ (k : Job T). k.end ≢ NoMemory) ks
         → (i : ℕ) (t : Task) → slice_get given i ≡ Some t → 1 ≤ slice_index_or quotas i 0 → Any (λ (e : Entry). e.node ≡ t.node) (flat_map log_of ks)
     all_firsts given [] js ks h fs q ne i t e some = absurd (omega (arith, some))

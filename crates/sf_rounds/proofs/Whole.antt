@@ -22,32 +22,40 @@ use Rattle.sf_rounds.specs.declared.job.Job.{Job}
 use Rattle.sf_rounds.specs.Jobs.{EachTwo, Ran, IsFresh, IsDone, FirstsAre, Dealt, place_of, log_of, open_of, as_list, has_weight}
 use Rattle.sf_rounds.specs.Rounds.{nodes}
 
+-- the weight of what a function gives is the sum over the elements
 pub weigh_map : {X : Type 0} (w : Parts → ℕ) (f : X → Parts) (xs : List X) → sum_by w (map f xs) ≡ sum_by (λ x. w (f x)) xs
 weigh_map w f [] = refl
 weigh_map w f (x ∷ xs) = omega (arith, weigh_map w f xs, sum_by-cons w (f x) (map f xs), sum_by-cons (λ y. w (f y)) x xs)
 
+-- the weight of lists put together is the sum of the lists' weights
 pub weigh_flat : {X : Type 0} (w : Parts → ℕ) (f : X → List Parts) (xs : List X) → sum_by w (flat_map f xs) ≡ sum_by (λ x. sum_by w (f x)) xs
 weigh_flat w f [] = refl
 weigh_flat w f (x ∷ xs) = omega (arith, weigh_flat w f xs, sum_by-append w (f x) (flat_map f xs), sum_by-cons (λ y. sum_by w (f y)) x xs)
 
+-- a task that may be there weighs as the list of it does
 maybe_list : (w : Task → ℕ) (o : Option Task) → sum_by w (as_list o) ≡ maybe_weighs w o
 maybe_list w None = refl
 maybe_list w (Some t) = omega (arith, sum_by-cons w t [])
 
+-- what holds of a task that may be there holds of all of the list of it
 maybe_all : (P : Task → Type 0) (o : Option Task) → IfSome o P → All P (as_list o)
 maybe_all P None h = All-nil P
 maybe_all P (Some t) h = All-cons P t [] h (All-nil P)
 
 module _ {T : Type 0} (design : Design) (bound : Parts → ℕ) (value : ℕ) (word : Word) where
+  -- the worker is at the start of the round
   Fresh : Job T → Type 0
   Fresh = IsFresh value word
 
+  -- what a worker logged is what its pass logged
   pub log_is : (j k : Job T) → IsFresh value word j → (r : Ran design bound j k) → log_of k ≡ r.passed.logged
   log_is j k f r = r.passed.log ∙ ap (λ z. z ++ r.passed.logged) f.log
 
+  -- what a worker kept is what its pass could not put or decide
   kept_is : (j k : Job T) → IsFresh value word j → (r : Ran design bound j k) → k.state.kept.items ≡ r.passed.refused ++ r.passed.undecided
   kept_is j k f r = r.passed.kept ∙ ap (λ z. (z ++ r.passed.refused) ++ r.passed.undecided) f.kept
 
+  -- a fresh worker with its first task is ready for a pass
   pub fresh-ready : (j : Job T) → IsFresh value word j → IfSome j.state.first (IsTask design bound) → IsReady design bound j.state × (j.state.seat.word ≡ word.id)
   fresh-ready j f first = (
     record {
@@ -59,6 +67,7 @@ module _ {T : Type 0} (design : Design) (bound : Parts → ℕ) (value : ℕ) (w
     ap (λ (k : Knows). k.word) f.seat,
   )
 
+  -- after their passes all workers may be gathered
   pub all_done : (js ks : List (Job T)) → EachTwo (Ran design bound) js ks → All (IsFresh value word) js → All (IsDone design word) ks
   all_done [] [] h fs = All-nil (IsDone design word)
   all_done [] (k ∷ ks) h fs = absurd h
@@ -67,6 +76,8 @@ module _ {T : Type 0} (design : Design) (bound : Parts → ℕ) (value : ℕ) (w
       let f = All-head (IsFresh value word) j js fs in
       All-cons (IsDone design word) k ks (h.0.passed.seat.0 ∙ ap (λ (s : Knows). s.word) f.seat, h.0.ready.best) (all_done js ks h.1 (All-tail (IsFresh value word) j js fs))
 
+  -- one worker: what it took and was given, and the children of its entries, weigh as much as what it put,
+  -- decided and has left
   pub one_weighs : (w : Parts → ℕ) (j k : Job T) → IsFresh value word j → Ran design bound j k
       → (taken_of w k.state + has_weight w j) + children_weigh w (log_of k) ≡ (put_of w k.state + nodes_weigh w (log_of k)) + tasks_weigh w (open_of k)
   one_weighs w j k f r =
@@ -79,12 +90,16 @@ module _ {T : Type 0} (design : Design) (bound : Parts → ℕ) (value : ℕ) (w
       let e : tasks_weigh w k.state.kept.items ≡ tasks_weigh w (p.refused ++ p.undecided) = ap (tasks_weigh w) (kept_is j k f r) in
       omega (arith, p.took w, p.put w, a, b, c, n, e, sum_by-append v p.refused p.undecided, sum_by-append v (as_list k.state.first) k.state.kept.items, maybe_list v k.state.first)
 
+  -- the weight of what a worker put
   abbrev put_by : (Parts → ℕ) → Job T → ℕ
   put_by w k = put_of w k.state
 
+  -- the weight of what a worker took
   abbrev taken_by : (Parts → ℕ) → Job T → ℕ
   taken_by w k = taken_of w k.state
 
+  -- all workers: what they took and were given, and the children of their entries, weigh as much as what they
+  -- put, decided and have left
   pub all_weigh : (w : Parts → ℕ) (js ks : List (Job T)) → EachTwo (Ran design bound) js ks → All (IsFresh value word) js
       → (sum_by (taken_by w) ks + sum_by (has_weight w) js) + children_weigh w (flat_map log_of ks) ≡ (sum_by (put_by w) ks + nodes_weigh w (flat_map log_of ks)) + tasks_weigh w (flat_map open_of ks)
   all_weigh w [] [] h fs = refl
@@ -136,6 +151,7 @@ module _ {T : Type 0} (design : Design) (bound : Parts → ℕ) (value : ℕ) (w
             sum_by-cons (λ (i : Job T). sum_by v (stolen_by i.state.place)) k ks,
           )
 
+  -- all that the workers logged are entries of the design
   pub all_entries : (js ks : List (Job T)) → EachTwo (Ran design bound) js ks → All (IsFresh value word) js → All (IsEntry design bound) (flat_map log_of ks)
   all_entries [] [] h fs = All-nil (IsEntry design bound)
   all_entries [] (k ∷ ks) h fs = absurd h
@@ -145,6 +161,7 @@ module _ {T : Type 0} (design : Design) (bound : Parts → ℕ) (value : ℕ) (w
       (subst (All (IsEntry design bound)) (sym (log_is j k (All-head (IsFresh value word) j js fs) h.0)) h.0.passed.entries)
       (all_entries js ks h.1 (All-tail (IsFresh value word) j js fs))
 
+  -- all that the workers have left are tasks
   pub all_open : (js ks : List (Job T)) → EachTwo (Ran design bound) js ks → All (IsFresh value word) js → All (IsTask design bound) (flat_map open_of ks)
   all_open [] [] h fs = All-nil (IsTask design bound)
   all_open [] (k ∷ ks) h fs = absurd h
@@ -157,6 +174,7 @@ module _ {T : Type 0} (design : Design) (bound : Parts → ℕ) (value : ℕ) (w
       (subst (All P) (sym (kept_is j k (All-head (IsFresh value word) j js fs) h.0)) (All-append P p.refused p.undecided p.refused_are p.undecided_are)))
       (all_open js ks h.1 (All-tail (IsFresh value word) j js fs))
 
+  -- a value that is at most what each worker has seen is at most that of each entry
   pub all_named : (z : ℕ) (js ks : List (Job T)) → EachTwo (Ran design bound) js ks → All (λ (k : Job T). z ≤ k.state.seat.seen) ks → All (λ (e : Entry). z ≤ e.value) (flat_map log_of ks)
   all_named z [] [] h s = All-nil (λ (e : Entry). z ≤ e.value)
   all_named z [] (k ∷ ks) h s = absurd h
@@ -167,6 +185,7 @@ module _ {T : Type 0} (design : Design) (bound : Parts → ℕ) (value : ℕ) (w
       (All-weaker (λ (e : Entry). k.state.seat.seen ≤ e.value) (λ (e : Entry). z ≤ e.value) (λ e l. omega (arith, l, low)) (log_of k) h.0.ready.fresh)
       (all_named z js ks h.1 (All-tail (λ (i : Job T). z ≤ i.state.seat.seen) k ks s))
 
+  -- the workers logged together no more entries than the quotas allow
   pub all_few : (given : List Task) (quotas : List ℕ) (js ks : List (Job T)) → EachTwo (Ran design bound) js ks → All (IsFresh value word) js → FirstsAre given quotas js → length (flat_map log_of ks) ≤ sum quotas
   all_few given [] [] [] h fs q = omega arith
   all_few given [] [] (k ∷ ks) h fs q = absurd h
@@ -184,6 +203,7 @@ module _ {T : Type 0} (design : Design) (bound : Parts → ℕ) (value : ℕ) (w
       let e = h.0.passed.quota in let m = q.0.1 in
       omega (arith, rest, l, e, m, length-append (log_of k) (flat_map log_of ks), sum_by-cons (λ (i : ℕ). i) n ns)
 
+  -- the tasks given and the children of the entries are the subproblems of the entries and of what is left
   pub conserved : (given : List Task) (quotas : List ℕ) (js ks : List (Job T)) (places : List (Place T)) (entries : List Entry) (left kept all : List Task)
       → EachTwo (Ran design bound) js ks → Dealt design bound value word given quotas js → places ≡ map place_of ks → entries ≡ flat_map log_of ks → kept ≡ flat_map open_of ks
       → IsFinished places left → all ≡ left ++ kept

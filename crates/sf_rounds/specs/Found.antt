@@ -1,11 +1,11 @@
 -- What a search hands over.
-use Rattle.std.specs.Prelude.{◌≡◌, ⊤, ℕ, ◌<◌, ◌≤◌, ◌∷◌, ◌++◌, [], List, map, All, IsTrue, IsFalse, IsPermutation, Option, Some, None}
+use Rattle.std.specs.Prelude.{◌≡◌, ⊤, ℕ, ◌<◌, ◌≤◌, ◌∷◌, ◌++◌, [], List, map, All, IsTrue, IsPermutation, Option, Some, None}
 use Rattle.sf_model.specs.declared.design.Design.{Design}
 use Rattle.sf_model.specs.Legal.{block_count}
 use Rattle.sf_polish.specs.declared.expr.Expr.{Expr}
 use Rattle.sf_node.specs.Parts.{Parts}
-use Rattle.sf_node.specs.Subproblem.{root, is_complete, is_solved}
-use Rattle.sf_node.specs.Full.{first_wide_from, full}
+use Rattle.sf_node.specs.Subproblem.{root, is_solved}
+use Rattle.sf_node.specs.Full.{IsFirstSplit, full}
 use Rattle.sf_node.specs.declared.part.Part.{Part}
 use Rattle.sf_bounds.specs.Cheapest.{IsPlanOf, IsLeastTrace}
 use Rattle.sf_search_core.specs.declared.entry.Entry.{Entry}
@@ -45,7 +45,7 @@ pub record IsCertOf (design : Design) (state : State) (cert : Cert) : Type 0 whe
 -- a split is of the first block whose span isn't single, at a complete subproblem that isn't solved
 abbrev pub SplitsFirst : Design → Tag → Parts → Type 0
 SplitsFirst design Extend node = ⊤
-SplitsFirst design (Split b) node = IsTrue (is_complete node) × IsFalse (is_solved design node) × (b ≡ first_wide_from 0 node.spans)
+SplitsFirst design (Split b) node = IsFirstSplit design node b
 SplitsFirst design (Closed p) node = ⊤
 SplitsFirst design Open node = ⊤
 

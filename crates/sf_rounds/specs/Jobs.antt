@@ -9,6 +9,7 @@ use Rattle.sf_node.specs.Parts.{Parts}
 use Rattle.sf_search_core.specs.declared.entry.Entry.{Entry}
 use Rattle.sf_incumbent.specs.Seen.{Word, Knows}
 use Rattle.sf_frontier.specs.declared.place.Place.{Place}
+use Rattle.sf_frontier.specs.Ends.{with_put as owner_with}
 use Rattle.sf_frontier.specs.Team.{IsTeam, IsNewPlace}
 use Rattle.sf_worker.specs.declared.state.PassEnd.TheVariants.{NoMemory}
 use Rattle.sf_worker.specs.Tasks.{IsTask}
@@ -79,11 +80,11 @@ module _ {T : Type 0} where
 
   -- the worker with one task more in its deque
   abbrev pub with_put : Job T → Task → Job T
-  with_put j task = record j { state = record j.state { place = record j.state.place { owner = record j.state.place.owner { put = j.state.place.owner.put ++ task ∷ [] } } } }
+  with_put j task = record j { state = record j.state { place = record j.state.place { owner = owner_with j.state.place.owner task } } }
 
   -- the worker is the same but for the tasks in its deque
   abbrev pub IsSameBut : Job T → Job T → Type 0
-  IsSameBut old new = (put : List Task) × (new ≡ record old { state = record old.state { place = record old.state.place { owner = record old.state.place.owner { put = put } } } })
+  IsSameBut old new = (put : List Task) × (stack : List Task) × (new ≡ record old { state = record old.state { place = record old.state.place { owner = record old.state.place.owner { put = put; stack = stack } } } })
 
   -- the tasks are put into the deques of the workers
   pub record Handed (old new : List (Job T)) (tasks : List Task) : Type 0 where
@@ -118,7 +119,7 @@ module _ {T : Type 0} where
   -- what one worker adds
   pub record Adds (design : Design) (j : Job T) (old new : Knows) (before after : Gathering T) : Type 0 where
     pub places : after.places.items ≡ before.places.items ++ place_of j ∷ []
-    pub entries : after.entries.items ≡ before.entries.items ++ log_of j
+    pub entries : after.entries ≡ before.entries ++ log_of j
     pub left : after.left.items ≡ before.left.items ++ open_of j
     pub seat : new ≡ record old { seen = min old.seen j.state.seat.seen; offered = min old.offered j.state.seat.offered; parts = old.parts + j.state.seat.parts }
     pub best : IsBest design after.best new.offered

@@ -1,6 +1,8 @@
 //! Piles are cut in two by a path.
 
-ghost use Rattle.std.specs.Prelude.{◌≡◌, ◌≤◌, ◌++◌, length, IfOk};
+ghost use Rattle.std.specs.Prelude.{◌≡◌, ◌≤◌, ◌++◌, length, true, All, IfOk};
+ghost use Rattle.std.specs.Ordering.{is_lt};
+ghost use Rattle.sf_node.specs.Order.{steps_cmp};
 ghost use Rattle.std.specs.Thread.{IsSync};
 ghost use Rattle.sf_rounds.specs.InOrder.{AreCut};
 ghost use Rattle.sf_rounds.specs.Piles.{all_in};
@@ -29,8 +31,43 @@ struct Sides {
     others: Vec<Mark>,
 }
 
-/// Cuts marks by a path.
+/// Whether all marks lie on one side of a path: before it, or not.
+fn are_on_side(marks: &[Mark], path: &[Step], is_before: bool) -> bool
+    ensures { result ≡ true → All (λ m. is_lt (steps_cmp m.node.steps path.now) ≡ is_before) marks.now }
+{
+    for mark in marks {
+        let is_less = compare_steps(mark.node.steps(), path) == Ordering::Less;
+        if is_less != is_before {
+            return false;
+        }
+    }
+    true
+}
+
+/// Cuts marks by a path. What a worker logs in one round mostly lies on one side of it, and then no mark is
+/// moved.
+#[tactic(auto, using(crate::proofs::Cuts::cut_all_low, crate::proofs::Cuts::cut_all_high))]
 fn cut_marks(alloc: Global, marks: Vec<Mark>, path: &[Step]) -> Result<Sides, NoMemory>
+    ensures cut { IfOk result (λ c. AreCut path.now marks.items c.before.items c.others.items) }
+{
+    let none = Vec::new(alloc);
+    if are_on_side(&marks, path, true) {
+        return Ok(Sides {
+            before: marks,
+            others: none,
+        });
+    }
+    if are_on_side(&marks, path, false) {
+        return Ok(Sides {
+            before: none,
+            others: marks,
+        });
+    }
+    deal_out(alloc, marks, path)
+}
+
+/// The same mark by mark.
+fn deal_out(alloc: Global, marks: Vec<Mark>, path: &[Step]) -> Result<Sides, NoMemory>
     ensures cut { IfOk result (λ c. AreCut path.now marks.items c.before.items c.others.items) }
 {
     let mut before = Vec::with_capacity(alloc, marks.len())?;

@@ -6,11 +6,13 @@ ghost use Rattle.sf_worker.specs.Took.{IsBest};
 ghost use Rattle.sf_rounds.specs.Jobs.{IsDone, Gathers, Adds, as_list};
 
 use crate::job::{Gathering, Job};
+use crate::log::Log;
 use sf_frontier::Served;
 use sf_incumbent::{Incumbent, Seat};
 use sf_model::{Design, MAX};
 use sf_node::Task;
 use sf_polish::Expr;
+use sf_search_core::EntryList;
 use sf_worker::{PassEnd, WorkerState};
 use std::alloc::{AllocError as NoMemory, Global};
 
@@ -25,12 +27,12 @@ pub fn gather<'a, T: Served>(
     requires seat { (seat.old.word ≡ word.now.id) × (seat.old.offered ≡ MAX) }
     requires done { All (IsDone design.now word.now) jobs.items }
     ensures { IfOk result
-        (λ r. Gathers design.now jobs.entry.items seat.old seat.new r.places.items r.entries.items
+        (λ r. Gathers design.now jobs.entry.items seat.old seat.new r.places.items r.entries
         r.left.items r.best) }
 {
     let mut all = Gathering {
         places: Vec::new(alloc),
-        entries: Vec::with_capacity(alloc, count_of(&jobs))?,
+        entries: Log::new(alloc),
         left: Vec::new(alloc),
         best: None,
     };
@@ -38,15 +40,6 @@ pub fn gather<'a, T: Served>(
         add(&mut all, design, word, seat, job)?;
     }
     Ok(all)
-}
-
-/// How many entries the workers have.
-fn count_of<T: Served>(jobs: &[Job<'_, T>]) -> usize {
-    let mut count: usize = 0;
-    for job in jobs {
-        count = count.saturating_add(job.state.log.len());
-    }
-    count
 }
 
 /// Adds what one worker leaves.
@@ -71,14 +64,14 @@ fn add<'a, T: Served>(
         first,
         place,
         seat: other,
-        mut log,
+        log,
         best,
         room: _,
         quota: _,
         mut kept,
     } = state;
     all.places.push(place)?;
-    all.entries.append(&mut log)?;
+    all.entries.push(EntryList::from_vec(log))?;
     keep(&mut all.left, first)?;
     all.left.append(&mut kept)?;
     word.join(seat, other);

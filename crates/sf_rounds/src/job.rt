@@ -1,9 +1,9 @@
 //! What a worker of a round has, and what a round leaves.
 
+use crate::log::Log;
 use sf_frontier::{Place, Served};
 use sf_node::{Task, Tasks};
 use sf_polish::Expr;
-use sf_search_core::{Entry, EntryList};
 use sf_worker::{PassEnd, WorkerState};
 
 /// One worker, and how its pass ended.
@@ -17,7 +17,7 @@ pub struct Job<'a, T: Served> {
 #[derive(Drop)]
 pub struct Gathering<T: Served> {
     pub places: Vec<Place<T>>,
-    pub entries: Vec<Entry>,
+    pub entries: Log,
     pub left: Vec<Task>,
     pub best: Option<(Expr, u64)>,
 }
@@ -26,7 +26,7 @@ pub struct Gathering<T: Served> {
 #[derive(Drop)]
 pub struct RoundOut {
     pub left: Tasks,
-    pub entries: EntryList,
+    pub entries: Log,
     pub value: u64,
     pub best: Option<Expr>,
 }

@@ -1,13 +1,13 @@
-//! The entries of a search in rounds.
+//! The entries of a round, and of a search in rounds.
 
-ghost use Rattle.std.specs.Prelude.{◌≡◌, ◌++◌, [], IfOk, OnOk};
+ghost use Rattle.std.specs.Prelude.{◌≡◌, ◌+◌, ◌≤◌, ◌++◌, [], length, IfOk, OnOk};
 ghost use Rattle.sf_rounds.specs.InOrder.{flat};
 
 use sf_search_core::{Entry, EntryList};
 use std::alloc::{AllocError as NoMemory, Global};
 use std::marker::Model;
 
-/// The entries, list by list as the rounds left them, so that none is moved. Contracts see them as one list.
+/// The entries, list by list as the workers logged them, so that none is moved. Contracts see them as one list.
 #[derive(Drop)]
 pub struct Log {
     lists: Vec<EntryList>,
@@ -32,12 +32,32 @@ impl Log {
         }
     }
 
-    /// Adds the entries of a round.
+    /// Adds the entries of a worker.
     pub fn push(&mut self, entries: EntryList) -> Result<(), NoMemory>
         ensures { OnOk result (self.new ≡ self.old ++ entries) }
     {
         self.lists.push(entries)?;
         Ok(())
+    }
+
+    /// Adds the entries of another log behind these, list by list.
+    pub fn append(&mut self, mut other: Log) -> Result<(), NoMemory>
+        ensures { OnOk result (self.new ≡ self.old ++ other) }
+    {
+        self.lists.append(&mut other.lists)?;
+        Ok(())
+    }
+
+    /// What is left of a budget once each entry has taken one of it.
+    pub fn left_of(&self, budget: u64) -> u64
+        requires few { length self.now ≤ budget }
+        ensures left { result + length self.now ≡ budget }
+    {
+        let mut left = budget;
+        for entries in &self.lists {
+            left -= entries.as_slice().len() as u64;
+        }
+        left
     }
 
     pub fn into_lists(self) -> Vec<EntryList>

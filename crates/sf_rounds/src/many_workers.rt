@@ -50,8 +50,8 @@ pub fn absorb(progress: &mut Progress, out: RoundOut) -> Result<(), NoMemory>
         best,
     } = out;
     progress.open_tasks.append(left.into_vec())?;
-    progress.left -= entries.as_slice().len() as u64;
-    progress.entries.push(entries)?;
+    progress.left = entries.left_of(progress.left);
+    progress.entries.append(entries)?;
     progress.value = value;
     if best.is_some() {
         progress.best = best;
@@ -86,15 +86,16 @@ fn one(
     ensures { IfOk result
         (λ r. IsOne (record { node = task.node; kind = kind; value = value }) left.items best r) }
 {
-    let mut entries = Vec::new(alloc);
-    entries.push(Entry {
+    let entry = Entry {
         node: task.node,
         kind,
         value,
-    })?;
+    };
+    let mut entries = Log::new(alloc);
+    entries.push(EntryList::from_vec(vec![in alloc; entry]?))?;
     Ok(RoundOut {
         left: Tasks::from_vec(left),
-        entries: EntryList::from_vec(entries),
+        entries,
         value,
         best,
     })

@@ -1,6 +1,6 @@
 //! Subproblems in the lists in which they came.
 
-ghost use Rattle.std.specs.Prelude.{◌≡◌, ◌≤◌, length, IfOk, IsPermutation};
+ghost use Rattle.std.specs.Prelude.{◌≡◌, ◌≤◌, length, min, IfOk, IsPermutation};
 ghost use Rattle.sf_certificate.specs.Marks.{lent};
 ghost use Rattle.sf_rounds.specs.Piles.{marks_in, all_in, in_lists};
 
@@ -19,7 +19,9 @@ pub enum Pile {
 
 impl Pile {
     /// How many subproblems are in it.
-    pub fn len(&self) -> usize {
+    pub fn len(&self) -> usize
+        ensures { result ≡ length (marks_in self.now) }
+    {
         match self {
             Pile::Decided(entries) => entries.as_slice().len(),
             Pile::Open(tasks) => tasks.len(),
@@ -57,7 +59,9 @@ impl Pile {
 }
 
 /// How many subproblems are in the piles.
-pub fn count_of(piles: &[Pile]) -> usize {
+pub fn count_of(piles: &[Pile]) -> usize
+    ensures { result ≡ min (length (all_in piles.now)) 18446744073709551615 }
+{
     let mut count: usize = 0;
     for pile in piles {
         count = count.saturating_add(pile.len());

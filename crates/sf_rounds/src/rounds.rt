@@ -16,7 +16,6 @@ use sf_io::Gate;
 use sf_model::Design;
 use sf_node::{Task, Tasks};
 use sf_polish::Expr;
-use sf_search_core::EntryList;
 use std::alloc::{AllocError as NoMemory, Global};
 use std::marker::Brand;
 use std::thread::Threads;
@@ -76,7 +75,7 @@ fn round_as<R: Threads + Sync, T: Served + Sync, B: Bounds, G: Gate>(
     left.append(&mut kept)?;
     Ok(RoundOut {
         left: Tasks::from_vec(left),
-        entries: EntryList::from_vec(entries),
+        entries,
         value: word.finish(seat),
         best: plan_of(best),
     })

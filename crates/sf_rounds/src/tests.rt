@@ -164,25 +164,61 @@ fn names_are_those_of_the_last_cost(rt: HostRuntime) -> Result<(), Fail> {
     Ok(())
 }
 
-/// Counts the decisions of two workers, and those whose step is not the count of the same worker's decisions
-/// before.
+/// What a gate heard of one worker: its decisions in all, those in the round that is on, and the rounds.
+#[derive(Drop)]
+struct Heard {
+    decisions: AtomicU64,
+    in_round: AtomicU64,
+    rounds: AtomicU64,
+}
+
+fn nothing_heard() -> Heard {
+    Heard {
+        decisions: AtomicU64::new(0),
+        in_round: AtomicU64::new(0),
+        rounds: AtomicU64::new(0),
+    }
+}
+
+/// Counts the decisions of two workers, and those whose step is neither the first of a round nor the count of
+/// the same worker's decisions before in this round.
 #[derive(Drop)]
 struct Counting {
-    first: AtomicU64,
-    second: AtomicU64,
+    first: Heard,
+    second: Heard,
     miscounted: AtomicU64,
+}
+
+/// A gate that has counted nothing yet.
+fn nothing_counted() -> Counting {
+    Counting {
+        first: nothing_heard(),
+        second: nothing_heard(),
+        miscounted: AtomicU64::new(0),
+    }
+}
+
+impl Counting {
+    fn told(&self) -> u64 {
+        let first = self.first.decisions.load(Ordering::SeqCst);
+        first.wrapping_add(self.second.decisions.load(Ordering::SeqCst))
+    }
 }
 
 impl Gate for Counting {
     fn at(&self, worker: usize, step: u64) {
-        let made = if worker == 0 {
+        let heard = if worker == 0 {
             &self.first
         } else {
             &self.second
         };
-        if made.fetch_add(1, Ordering::SeqCst) != step {
+        heard.decisions.fetch_add(1, Ordering::SeqCst);
+        if step == 0 {
+            heard.rounds.fetch_add(1, Ordering::SeqCst);
+        } else if heard.in_round.load(Ordering::SeqCst) != step {
             self.miscounted.fetch_add(1, Ordering::SeqCst);
         }
+        heard.in_round.store(step.wrapping_add(1), Ordering::SeqCst);
     }
 }
 
@@ -191,29 +227,59 @@ impl Gate for Counting {
 fn the_gate_is_told_the_count_of_decisions_before(rt: HostRuntime) -> Result<(), Fail> {
     let alloc = rt.alloc();
     let design = two_blocks(alloc)?;
-    for (workers, without_gate) in [(1, 0), (2, 1)] {
-        let gate = Counting {
-            first: AtomicU64::new(0),
-            second: AtomicU64::new(0),
-            miscounted: AtomicU64::new(0),
-        };
+    // The workers, the decisions that no gate hears of, and the rounds of either worker.
+    for (workers, without_gate, rounds) in [(1, 0, (1, 0)), (2, 1, (1, 1))] {
+        let gate = nothing_counted();
         let options = SearchOptions {
             workers,
             nodes: 100,
         };
         let found = search(&rt, alloc, &design, &Standard, options, &gate)?;
-        let first = gate.first.load(Ordering::SeqCst);
-        let second = gate.second.load(Ordering::SeqCst);
+        let first = gate.first.rounds.load(Ordering::SeqCst);
+        let second = gate.second.rounds.load(Ordering::SeqCst);
+        assert_eq!(rt; (first, second), rounds, "{workers} workers");
         assert_eq!(rt;
             gate.miscounted.load(Ordering::SeqCst),
             0,
             "{workers} workers"
         );
         assert_eq!(rt;
-            first.wrapping_add(second).wrapping_add(without_gate),
+            gate.told().wrapping_add(without_gate),
             found.decided,
             "{workers} workers"
         );
+    }
+    Ok(())
+}
+
+/// Two workers take many rounds. Before each the caller decides one subproblem, and it may decide a last one;
+/// the first worker decides one at least in each round. A worker alone counts through.
+#[test]
+fn each_round_counts_its_decisions_anew(rt: HostRuntime) -> Result<(), Fail> {
+    let alloc = rt.alloc();
+    let design = five_squares(alloc)?;
+    for workers in 1..=2 {
+        let gate = nothing_counted();
+        let options = SearchOptions {
+            workers,
+            nodes: 10_000,
+        };
+        let found = search(&rt, alloc, &design, &Standard, options, &gate)?;
+        assert_eq!(rt;
+            gate.miscounted.load(Ordering::SeqCst),
+            0,
+            "{workers} workers"
+        );
+        let rounds = gate.first.rounds.load(Ordering::SeqCst);
+        let untold = found.decided.wrapping_sub(gate.told());
+        if workers == 1 {
+            assert_eq!(rt; (rounds, untold), (1, 0));
+        } else {
+            let one_a_round = untold == rounds || untold == rounds.wrapping_add(1);
+            assert!(rt; one_a_round, "{untold} in {rounds} rounds");
+            let many = rounds > 3;
+            assert!(rt; many, "{rounds} rounds");
+        }
     }
     Ok(())
 }

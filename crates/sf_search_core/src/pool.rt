@@ -335,14 +335,6 @@ impl Pool {
     {
         self.word
     }
-
-    /// The open tasks and the entries, at the end of a search.
-    pub fn into_parts(self) -> (Vec<Task>, Vec<Entry>)
-        ensures waiting { result.0.items ≡ self.waiting }
-        ensures entries { result.1.items ≡ self.entries }
-    {
-        (self.open, self.entries)
-    }
 }
 
 /// Nothing held by any worker.

@@ -1,7 +1,6 @@
-use Rattle.std.proofs.Common.{ℕ, ap, ◌∙◌, map, List, Bor, subst, sym, IsPermutation}
+use Rattle.std.proofs.Common.{ℕ, ap, ◌∙◌, map, List, sym, subst}
 use Rattle.sf_node.specs.declared.task.Task.{Task}
-use Rattle.sf_certificate.specs.declared.mark.Mark.{Mark}
-use Rattle.sf_certificate.specs.Marks.{given_marks, lent}
+use Rattle.sf_certificate.specs.InPreorder.{AreTagsInPreorder}
 use Rattle.sf_certificate.specs.Valid.{least}
 use Rattle.sf_node.specs.Parts.{Parts}
 use Rattle.sf_node.proofs.Depth.{subproblem-shallow}
@@ -14,11 +13,9 @@ invariant_of-result g c =
     let value : Parts → ℕ = g.V.Values.value c.args.values.now design in
     let entries = c.args.entries.items in
     let left = c.args.left.items in
-    let given = subst (IsPermutation (given_marks entries left)) (sym (c.in_ok-sorted.ensures ∙ c.deref-2.ensures.value)) c.in_ok-marks.ensures.all in
-    let tags = c.from_vec-tags.ensures ∙ c.in_ok-tags_of.ensures ∙ ap (λ (ms : List (Bor Mark)). map (λ m. m.tag) (lent ms)) c.deref-3.ensures.value in
-    let merged = merged-any design value entries left (lent c.in_ok-sorted.sorted.items) (lent c.sort_marks.new.marks.items) c.from_vec-tags.result
-    c.requires.conserved given c.in_ok-sort_marks.ensures.moved c.in_ok-sort_marks.ensures.sorted tags in
-    record { form = merged-formed design value (λ node p. value node) c.args.cost 0 c.block_count-blocks.result entries left c.from_vec-tags.result c.args.plan c.block_count-blocks.ensures merged c.requires.planned (subproblem-shallow design) }
+    let tags = c.from_vec-tags.result in
+    let order = subst (AreTagsInPreorder entries left) (sym c.from_vec-tags.ensures) c.in_ok-tags_in_preorder.ensures in
+    record { form = merged-formed design value (λ node p. value node) c.args.cost 0 c.block_count-blocks.result entries left tags c.args.plan c.block_count-blocks.ensures (merged-any design value entries left tags c.requires.conserved order) c.requires.planned (subproblem-shallow design) }
 
 pub returns-clause-valid : goal.returns-clause-valid
 returns-clause-valid g c = λ fresh part full.
@@ -26,32 +23,16 @@ returns-clause-valid g c = λ fresh part full.
     let value : Parts → ℕ = g.V.Values.value c.args.values.now design in
     let entries = c.args.entries.items in
     let left = c.args.left.items in
-    let given = subst (IsPermutation (given_marks entries left)) (sym (c.in_ok-sorted.ensures ∙ c.deref-2.ensures.value)) c.in_ok-marks.ensures.all in
-    let tags = c.from_vec-tags.ensures ∙ c.in_ok-tags_of.ensures ∙ ap (λ (ms : List (Bor Mark)). map (λ m. m.tag) (lent ms)) c.deref-3.ensures.value in
-    let merged = merged-tree design value part full c.args.cost entries left (lent c.in_ok-sorted.sorted.items) (lent c.sort_marks.new.marks.items) c.from_vec-tags.result
-    c.requires.conserved fresh given c.in_ok-sort_marks.ensures.moved c.in_ok-sort_marks.ensures.sorted tags in
-    merged-valid design value part entries left _ merged c.requires.planned c.requires.valued (c.least_bound-bound.ensures.least ∙ ap (λ (ts : List Task). least c.args.cost (map (λ t. t.bound) ts)) c.deref.ensures.value)
+    let order = subst (AreTagsInPreorder entries left) (sym c.from_vec-tags.ensures) c.in_ok-tags_in_preorder.ensures in
+    merged-valid design value part entries left _ (merged-tree design value part full c.args.cost entries left c.from_vec-tags.result c.requires.conserved fresh order) c.requires.planned c.requires.valued
+    (c.least_bound-bound.ensures.least ∙ ap (λ (ts : List Task). least c.args.cost (map (λ t. t.bound) ts)) c.deref.ensures.value)
 
 pub returns-clause-placed : goal.returns-clause-placed
 returns-clause-placed g c =
-    let design = c.args.design.now in
-    let value : Parts → ℕ = g.V.Values.value c.args.values.now design in
-    let entries = c.args.entries.items in
-    let left = c.args.left.items in
-    let given = subst (IsPermutation (given_marks entries left)) (sym (c.in_ok-sorted.ensures ∙ c.deref-2.ensures.value)) c.in_ok-marks.ensures.all in
-    let tags = c.from_vec-tags.ensures ∙ c.in_ok-tags_of.ensures ∙ ap (λ (ms : List (Bor Mark)). map (λ m. m.tag) (lent ms)) c.deref-3.ensures.value in
-    let merged = merged-any design value entries left (lent c.in_ok-sorted.sorted.items) (lent c.sort_marks.new.marks.items) c.from_vec-tags.result
-    c.requires.conserved given c.in_ok-sort_marks.ensures.moved c.in_ok-sort_marks.ensures.sorted tags in
-    merged.placed
+    let order = subst (AreTagsInPreorder c.args.entries.items c.args.left.items) (sym c.from_vec-tags.ensures) c.in_ok-tags_in_preorder.ensures in
+    (merged-any c.args.design.now (g.V.Values.value c.args.values.now c.args.design.now) c.args.entries.items c.args.left.items c.from_vec-tags.result c.requires.conserved order).placed
 
 pub returns-clause-decided : goal.returns-clause-decided
 returns-clause-decided g c =
-    let design = c.args.design.now in
-    let value : Parts → ℕ = g.V.Values.value c.args.values.now design in
-    let entries = c.args.entries.items in
-    let left = c.args.left.items in
-    let given = subst (IsPermutation (given_marks entries left)) (sym (c.in_ok-sorted.ensures ∙ c.deref-2.ensures.value)) c.in_ok-marks.ensures.all in
-    let tags = c.from_vec-tags.ensures ∙ c.in_ok-tags_of.ensures ∙ ap (λ (ms : List (Bor Mark)). map (λ m. m.tag) (lent ms)) c.deref-3.ensures.value in
-    let merged = merged-any design value entries left (lent c.in_ok-sorted.sorted.items) (lent c.sort_marks.new.marks.items) c.from_vec-tags.result
-    c.requires.conserved given c.in_ok-sort_marks.ensures.moved c.in_ok-sort_marks.ensures.sorted tags in
-    merged.count
+    let order = subst (AreTagsInPreorder c.args.entries.items c.args.left.items) (sym c.from_vec-tags.ensures) c.in_ok-tags_in_preorder.ensures in
+    (merged-any c.args.design.now (g.V.Values.value c.args.values.now c.args.design.now) c.args.entries.items c.args.left.items c.from_vec-tags.result c.requires.conserved order).count

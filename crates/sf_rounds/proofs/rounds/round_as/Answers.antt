@@ -1,4 +1,4 @@
-use Rattle.std.proofs.Common.{◌≡◌, ℕ, ◌++◌, List, All, ◌≤◌, length, map, min, ap, sym, ◌∙◌, subst, arith}
+use Rattle.std.proofs.Common.{◌≡◌, refl, ℕ, ◌++◌, List, All, ◌≤◌, length, map, min, ap, sym, ◌∙◌, subst, arith}
 use Rattle.std.specs.Prelude.{sum_by}
 use Rattle.std.proofs.lemmas.List.Elements.{All-weaker}
 use Rattle.sf_model.specs.declared.TheConstants.{MAX}
@@ -69,10 +69,10 @@ returns g c =
     let word = c.in_ok-word.word in
     let seen : c.in_ok-word.seat.seen ≡ c.args.value = ap (λ (k : Knows). k.seen) c.in_ok-word.ensures.seat in
     let dealt = subst (λ (v : ℕ). Dealt design bound v word c.args.tasks.items c.args.quotas.now js) seen c.in_ok-jobs.ensures.dealt in
-    let all = subst (λ zs. Gathers design zs c.deal.new.seat c.gather.new.seat c.in_ok-places-2.field-0.places.items c.in_ok-places-2.field-0.entries.items c.in_ok-places-2.field-0.left.items c.in_ok-places-2.field-0.best) is c.in_ok-places-2.ensures in
+    let all = subst (λ zs. Gathers design zs c.deal.new.seat c.gather.new.seat c.in_ok-places-2.field-0.places.items c.in_ok-places-2.field-0.entries c.in_ok-places-2.field-0.left.items c.in_ok-places-2.field-0.best) is c.in_ok-places-2.ensures in
     let none : c.deal.new.seat.offered ≡ MAX = ap (λ (k : Knows). k.offered) c.in_ok-jobs.ensures.seat ∙ ap (λ (k : Knows). k.offered) c.in_ok-word.ensures.seat in
     let small : c.args.value ≤ MAX = (let f = c.ranges.value in omega arith) in
     let S = g.T.Served.serves in
-    rounded design bound c.args.value word c.args.tasks.items c.args.quotas.now js ks c.in_ok-places-2.field-0.places.items c.in_ok-places-2.field-0.entries.items c.in_ok-left.field-0.left c.in_ok-places-2.field-0.left.items c.in_ok-places-2.field-0.best c.deal.new.seat c.gather.new.seat _
+    rounded design bound c.args.value word c.args.tasks.items c.args.quotas.now js ks c.in_ok-places-2.field-0.places.items c.in_ok-places-2.field-0.entries c.in_ok-left.field-0.left c.in_ok-places-2.field-0.left.items c.in_ok-places-2.field-0.best c.deal.new.seat c.gather.new.seat _
     ran dealt all none small c.in_ok-left.ensures.finished (All-weaker S (IsTask design bound) (λ t s. (c.requires.team t).0 s) c.in_ok-left.field-0.left c.in_ok-left.ensures.served)
-    (c.from_vec.ensures ∙ (c.in_ok-append.ensures.items ∙ ap (λ (ts : List Task). ts ++ c.in_ok-places-2.field-0.left.items) c.into_vec-left.ensures)) c.from_vec-2.ensures (c.finish-2.ensures.least ∙ ap (λ (n : ℕ). min n c.gather.new.seat.offered) c.in_ok-word.ensures.word.0) c.finish-2.ensures.seen c.plan_of.ensures
+    (c.from_vec.ensures ∙ (c.in_ok-append.ensures.items ∙ ap (λ (ts : List Task). ts ++ c.in_ok-places-2.field-0.left.items) c.into_vec-left.ensures)) refl (c.finish-2.ensures.least ∙ ap (λ (n : ℕ). min n c.gather.new.seat.offered) c.in_ok-word.ensures.word.0) c.finish-2.ensures.seen c.plan_of.ensures
