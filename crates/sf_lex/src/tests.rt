@@ -1,5 +1,8 @@
+//! Numbers with their faults, and the words and lines of short texts.
+
 use super::*;
 
+/// Decimals, areas and coordinates, each at its limits or with its first fault.
 #[test]
 fn numbers(rt: HostRuntime) {
     let limit = 9_000_000_000_000_000;
@@ -31,6 +34,7 @@ fn numbers(rt: HostRuntime) {
     assert_eq!(rt; read_plain(b"01", 9), None);
 }
 
+/// Words and lines come one after another, each with the number of its line.
 #[test]
 fn words_and_lines(rt: HostRuntime) {
     let text = b"ab c\r\n\n\td\n \n";

@@ -1,6 +1,6 @@
 //! What the statements of a text have said so far.
 
-ghost use Rattle.std.specs.Prelude.{◌≡◌, ◌≤◌, ◌<◌, [], ◌∷◌, length, None, OnOk};
+ghost use Rattle.std.specs.Prelude.{◌≡◌, ◌<◌, [], ◌∷◌, length, None, OnOk};
 ghost use Rattle.sf_lex.specs.Text.{words, is_blank_byte};
 ghost use Rattle.sf_names.specs.Names.{index_of};
 ghost use Rattle.sf_yal.specs.Numbers.{has_form};
@@ -11,7 +11,7 @@ use crate::keyword::{Keyword, is_parent, read_keyword};
 use crate::open_module::{OpenModule, Section};
 use crate::piece::next_word;
 use crate::vertices::{Size, number_at, read_dimensions, read_length};
-use sf_lex::NumberFault;
+use sf_lex::{NumberFault, Scale};
 use sf_model::{Name, RawPad};
 use sf_names::{Names, TextHash};
 use std::alloc::{AllocError, Global};
@@ -128,12 +128,10 @@ impl<'a> Found<'a> {
         current: OpenModule,
         rest: &[u8],
         line: u64,
-        scale: u64,
+        scale: Scale,
     ) -> Result<(), YalFault>
-        requires scale_low { 1 ≤ scale }
-        requires scale_high { scale ≤ 1000 }
         ensures { Keeps result self.new
-            (box_said scale (reading_in self.old) current line (words is_blank_byte rest.now)) }
+            (box_said scale.per_unit (reading_in self.old) current line (words is_blank_byte rest.now)) }
     {
         if current.size.is_some() {
             return Err(YalFault::BadStatement(line));
@@ -186,12 +184,11 @@ impl<'a> Found<'a> {
         key: Keyword,
         rest: &[u8],
         line: u64,
-        scale: u64,
+        scale: Scale,
     ) -> Result<(), YalFault>
-        requires scale_low { 1 ≤ scale }
-        requires scale_high { scale ≤ 1000 }
         ensures { Keeps result self.new
-            (in_body_said scale (reading_in self.old) current line key (words is_blank_byte rest.now)) }
+            (in_body_said scale.per_unit (reading_in self.old) current line key
+            (words is_blank_byte rest.now)) }
     {
         match key {
             Keyword::Module => return Err(YalFault::BadStatement(line)),
@@ -252,12 +249,10 @@ impl<'a> Found<'a> {
         alloc: Global,
         all: &'a [u8],
         line: u64,
-        scale: u64,
+        scale: Scale,
     ) -> Result<(), YalFault>
-        requires scale_low { 1 ≤ scale }
-        requires scale_high { scale ≤ 1000 }
         ensures { Keeps result self.new
-            (terminal_said scale (reading_in self.old) line (words is_blank_byte all.now)) }
+            (terminal_said scale.per_unit (reading_in self.old) line (words is_blank_byte all.now)) }
     {
         let Some((name, rest)) = next_word(all) else {
             return Ok(());
@@ -305,12 +300,11 @@ impl<'a> Found<'a> {
         key: Keyword,
         all: &'a [u8],
         line: u64,
-        scale: u64,
+        scale: Scale,
     ) -> Result<(), YalFault>
-        requires scale_low { 1 ≤ scale }
-        requires scale_high { scale ≤ 1000 }
         ensures { Keeps result self.new
-            (in_terminals_said scale (reading_in self.old) current line key (words is_blank_byte all.now)) }
+            (in_terminals_said scale.per_unit (reading_in self.old) current line key
+            (words is_blank_byte all.now)) }
     {
         if key == Keyword::EndIoList {
             self.close_list(current);
@@ -345,12 +339,10 @@ impl<'a> Found<'a> {
         alloc: Global,
         all: &'a [u8],
         line: u64,
-        scale: u64,
+        scale: Scale,
     ) -> Result<(), YalFault>
-        requires scale_low { 1 ≤ scale }
-        requires scale_high { scale ≤ 1000 }
         ensures { Keeps result self.new
-            (after_words scale (reading_in self.old) line (words is_blank_byte all.now)) }
+            (after_words scale.per_unit (reading_in self.old) line (words is_blank_byte all.now)) }
     {
         let Some((word, rest)) = next_word(all) else {
             return Ok(());

@@ -15,6 +15,7 @@ use crate::fault::YalFault;
 use crate::found::Found;
 use crate::nets::read_nets;
 use crate::piece::{first_line, last_line_of, line_feeds, next_piece, next_word};
+use sf_lex::Scale;
 use sf_model::{NameList, Parts, RawBlockList, RawPadList};
 use std::alloc::Global;
 
@@ -22,12 +23,10 @@ use std::alloc::Global;
 fn read_statements<'a>(
     alloc: Global,
     text: &'a [u8],
-    scale: u64,
+    scale: Scale,
 ) -> Result<(Found<'a>, &'a [u8]), YalFault>
-    requires scale_low { 1 ≤ scale }
-    requires scale_high { scale ≤ 1000 }
-    requires size { length text.now ≤ 67_108_864 }
-    ensures { ReadsAll result (after_statements scale start (statements 1 (pieces text.entry.now)))
+    requires { length text.now ≤ 67_108_864 }
+    ensures { ReadsAll result (after_statements scale.per_unit start (statements 1 (pieces text.entry.now)))
         (last_piece (pieces text.entry.now)) }
 {
     let mut found = Found::new(alloc, text);
@@ -58,11 +57,9 @@ fn into_parts(alloc: Global, found: Found, parent: usize) -> Result<Parts, YalFa
 
 /// The parts for which a YAL text stands, or its first fault, as it is read.
 #[tactic(auto, unfolding(crate::specs::Parts::yal_read, crate::specs::Parts::parts_read))]
-fn read_exactly(alloc: Global, text: &[u8], scale: u64) -> Result<Parts, YalFault>
-    requires scale_low { 1 ≤ scale }
-    requires scale_high { scale ≤ 1000 }
-    requires size { length text.now ≤ 67_108_864 }
-    ensures { Gives result (yal_read scale text.now) }
+fn read_exactly(alloc: Global, text: &[u8], scale: Scale) -> Result<Parts, YalFault>
+    requires { length text.now ≤ 67_108_864 }
+    ensures { Gives result (yal_read scale.per_unit text.now) }
 {
     let (hidden, open) = hide_comments(alloc, text)?;
     let (found, rest) = read_statements(alloc, &hidden, scale)?;
@@ -94,7 +91,7 @@ pub fn read_yal(alloc: Global, text: &[u8], scale: u64) -> Result<Parts, YalFaul
     // What is read, or which fault it is.
     ensures exact { Gives result (yal_read scale text.now) }
 {
-    read_exactly(alloc, text, scale)
+    read_exactly(alloc, text, Scale { per_unit: scale })
 }
 
 /// A text stands for at most one output, or has one first fault.

@@ -1,8 +1,11 @@
+//! YAL texts of few modules, and the first fault of others.
+
 use super::*;
 use sf_lex::NumberFault;
 use sf_model::{Kind, RawPin};
 use std::test::Fail;
 
+/// Two instances between two pads, in a row of three nets.
 const TWO_CELLS: &[u8] = b"/* two cells */
 MODULE a; TYPE GENERAL; DIMENSIONS 0 0 2 0 2 2 0 2;
 IOLIST; s B 0 1 1 M1; ENDIOLIST; ENDMODULE;
@@ -12,6 +15,7 @@ IOLIST; p PI 0 0 1 M1; q PO 10 0 1 M1; ENDIOLIST;
 NETWORK; u a p n; v b n q; ENDNETWORK; ENDMODULE;
 ";
 
+/// Instances are blocks, terminals with places are pads, and signals are nets.
 #[test]
 fn two_cells(rt: HostRuntime) -> Result<(), Fail> {
     let out = read_yal(rt.alloc(), TWO_CELLS, 10)?;
@@ -39,6 +43,7 @@ fn two_cells(rt: HostRuntime) -> Result<(), Fail> {
     Ok(())
 }
 
+/// Texts with a fault each, and some with two.
 const TEXTS: &[&[u8]] = &[
     b"",
     b" /* MODULE a;",
@@ -64,6 +69,7 @@ const TEXTS: &[&[u8]] = &[
     b"MODULE t; TYPE PARENT; IOLIST; p PI 0 0.5; ENDIOLIST; ENDMODULE;",
 ];
 
+/// The fault of each of them by its place, with the line.
 fn has_fault(text: usize, fault: &YalFault) -> bool {
     match (text, fault) {
         (1, YalFault::Truncated(0)) => true,
@@ -83,6 +89,7 @@ fn has_fault(text: usize, fault: &YalFault) -> bool {
     }
 }
 
+/// Each text is refused by its first fault.
 #[test]
 fn first_faults(rt: HostRuntime) -> Result<(), Fail> {
     for (i, text) in TEXTS.iter().enumerate() {
@@ -94,10 +101,12 @@ fn first_faults(rt: HostRuntime) -> Result<(), Fail> {
     Ok(())
 }
 
+/// Words between modules, comments within words, terminals without a place and statements of no meaning.
 const KINDLY: &[u8] =
     b"stray words; MODULE t/**/x; TYPE/* */PARENT; ; IOLIST later; p PI 1 -2.5e; p PI +.5 -2; p PI 9 9.7;
 ENDIOLIST; NETWORK; u a n n/*,*/p; ENDNETWORK; other; ENDMODULE; Module a; Dimensions -1 0.5 3 1; EndModule;";
 
+/// What has no meaning is passed over.
 #[test]
 fn kindly(rt: HostRuntime) -> Result<(), Fail> {
     let out = read_yal(rt.alloc(), KINDLY, 10)?;

@@ -1,6 +1,6 @@
 //! The vertices of a module's outline, and the box round them.
 
-ghost use Rattle.std.specs.Prelude.{◌≡◌, ◌≤◌, Ok, Err};
+ghost use Rattle.std.specs.Prelude.{◌≡◌, Ok, Err};
 ghost use Rattle.sf_lex.specs.Results.{seen};
 ghost use Rattle.sf_lex.specs.Text.{words, is_blank_byte};
 ghost use Rattle.sf_yal.specs.Box.{length_read, number_in, vertex_fault, size_of, dimensions_said};
@@ -17,12 +17,10 @@ pub struct Size {
 }
 
 /// A length with a sign or without one.
-pub fn read_length(word: &[u8], scale: u64) -> Result<i64, NumberFault>
-    requires scale_low { 1 ≤ scale }
-    requires scale_high { scale ≤ 1000 }
-    ensures { result ≡ length_read scale word.now }
+pub fn read_length(word: &[u8], scale: Scale) -> Result<i64, NumberFault>
+    ensures { result ≡ length_read scale.per_unit word.now }
 {
-    read_signed(word, scale, LENGTH_LIMIT)
+    read_signed(word, scale.per_unit, LENGTH_LIMIT)
 }
 
 /// What was read, or its fault at this line.
@@ -47,16 +45,13 @@ fn fault_at(line: u64, fault: VertexFault) -> YalFault
 
 /// The bounding box of the vertices that a statement lists.
 #[tactic(auto, unfolding(crate::specs::Box::dimensions_said))]
-pub fn read_dimensions(places: &[u8], line: u64, scale: u64) -> Result<Size, YalFault>
-    requires scale_low { 1 ≤ scale }
-    requires scale_high { scale ≤ 1000 }
-    ensures { result ≡ dimensions_said scale line (words is_blank_byte places.now) }
+pub fn read_dimensions(places: &[u8], line: u64, scale: Scale) -> Result<Size, YalFault>
+    ensures { result ≡ dimensions_said scale.per_unit line (words is_blank_byte places.now) }
 {
     let count = count_words(places);
     if count < 4 || count % 2 != 0 {
         return Err(YalFault::BadStatement(line));
     }
-    let scale = Scale { per_unit: scale };
     match read_box(places, Gap::Blanks, (count / 2) as u64, scale) {
         Ok(size) => Ok(Size {
             w: size.w,

@@ -7,7 +7,7 @@ pub loop-piece-init : goal.loop-piece-init
 loop-piece-init c = record { same = rw c.new-found.ensures refl; last = refl; short = omega arith }
 
 pub first_line-requires : goal.first_line-requires
-first_line-requires c = omega (arith, c.requires.size, c.loop-piece.invariant.short, c.in-Some.ensures.shorter)
+first_line-requires c = omega (arith, c.requires, c.loop-piece.invariant.short, c.in-Some.ensures.shorter)
 
 pub returns-in_err-take : goal.returns-in_err-take
 returns-in_err-take c =
@@ -15,7 +15,7 @@ returns-in_err-take c =
     rw (p.1, p.2) (fails _ _ _ c.loop-piece.rest.now c.in-Some.piece.now c.in-Some.after.now _ _ c.in_err-take.field-0.0 c.in-Some.ensures.pieces c.first_line.ensures c.in_err-take.ensures c.loop-piece.invariant.same)
 
 pub overflow_add-line : goal.overflow_add-line
-overflow_add-line c = omega (arith, c.requires.size, c.loop-piece.invariant.short, c.in-Some.ensures.shorter, c.line_feeds-line.ensures.bound)
+overflow_add-line c = omega (arith, c.requires, c.loop-piece.invariant.short, c.in-Some.ensures.shorter, c.line_feeds-line.ensures.bound)
 
 pub loop-piece-preserved : goal.loop-piece-preserved
 loop-piece-preserved c = record {
