@@ -1,9 +1,11 @@
 //! The program: the words, files and standard output of the host, handed to the floorplanner's one call.
 #![tactic(auto)]
 
-ghost use Rattle.std.specs.Prelude.{◌≡◌, drop, IfOk};
+ghost use Rattle.std.specs.Prelude.{◌≡◌, drop, map, IfOk, IfSome, string_bytes};
 ghost use Rattle.std.specs.Process.{exit_status};
 ghost use Rattle.std.specs.Vec.Iter.{into_iter_items};
+ghost use Rattle.sf_io.specs.declared.status.Status.{Status};
+ghost use Rattle.floorplan.specs.Ending.{MayEnd, NamesBudget};
 ghost use Rattle.floorplan.specs.Number.{number};
 
 mod progress;
@@ -40,7 +42,9 @@ fn given(rt: HostRuntime) -> Result<Vec<String>, NoMemory> {
 }
 
 /// The budget that the words name, where they name one.
-fn named_budget(alloc: Global, words: &[String]) -> Option<u64> {
+fn named_budget(alloc: Global, words: &[String]) -> Option<u64>
+    ensures { IfSome result (NamesBudget (map string_bytes words.now)) }
+{
     match read_words(alloc, words) {
         Ok(Some(CommandWords::Plan(options))) => options.nodes,
         Ok(Some(CommandWords::Gen(options))) => options.nodes,
@@ -57,7 +61,9 @@ fn told(rt: HostRuntime, words: &[String]) -> Option<Progress<HostRuntime>> {
 }
 
 /// Does what the words ask for. Where progress is told, its line is gone before anything is printed.
-fn answer<T: Threads + Sync>(rt: HostRuntime, threads: &T, words: &[String]) -> Status {
+fn answer<T: Threads + Sync>(rt: HostRuntime, threads: &T, words: &[String]) -> Status
+    ensures { MayEnd (map string_bytes words.now) result }
+{
     let alloc = rt.alloc();
     let mut shelf = HostShelf::new(rt, alloc);
     let mut sink = HostSink::new(rt);
@@ -79,9 +85,17 @@ fn code_of(status: Status) -> ExitCode
     ExitCode::from(status as u8)
 }
 
+/// Does what the words ask for, and says what the process ends with.
+fn ended<T: Threads + Sync>(rt: HostRuntime, threads: &T, words: &[String]) -> ExitCode
+    ensures { (status : Status) × MayEnd (map string_bytes words.now) status
+        × (exit_status result ≡ number status) }
+{
+    code_of(answer(rt, threads, words))
+}
+
 fn main(rt: HostRuntime) -> ExitCode {
     match given(rt) {
-        Ok(words) => code_of(answer(rt, &rt, &words)),
+        Ok(words) => ended(rt, &rt, &words),
         Err(NoMemory) => code_of(Status::NoMemory),
     }
 }

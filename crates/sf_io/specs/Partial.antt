@@ -10,6 +10,10 @@ use Rattle.sf_io.specs.declared.partial.PartSink.{PartSink}
 abbrev pub part_shelf_texts : PartShelf → MemShelf
 part_shelf_texts s = s.texts
 
+-- how many more stores are done whole
+abbrev pub part_shelf_whole : PartShelf → ℕ
+part_shelf_whole s = s.whole
+
 -- how many stores have failed, up to the end of u64
 abbrev pub part_shelf_faults : PartShelf → ℕ
 part_shelf_faults s = s.faults
@@ -21,6 +25,10 @@ part_shelf_seen s = record { holds = Some (mem_contents s.texts); load_faults = 
 -- the bytes taken so far
 abbrev pub part_sink_taken : PartSink → List ℕ
 part_sink_taken s = s.taken.items
+
+-- how many more bytes are taken
+abbrev pub part_sink_room : PartSink → ℕ
+part_sink_room s = s.room
 
 -- how many puts have failed, up to the end of u64
 abbrev pub part_sink_faults : PartSink → ℕ

@@ -4,8 +4,8 @@ ghost use Rattle.std.specs.Prelude.{◌≡◌, [], Some};
 ghost use Rattle.std.specs.Option.{option_map};
 ghost use Rattle.sf_io.specs.MemShelf.{mem_contents, mem_load_faults, mem_texts};
 ghost use Rattle.sf_io.specs.Outside.{StoresPart};
-ghost use Rattle.sf_io.specs.Partial.{part_shelf_faults, part_shelf_seen, part_shelf_texts, part_sink_faults};
-ghost use Rattle.sf_io.specs.Partial.{part_sink_seen, part_sink_taken};
+ghost use Rattle.sf_io.specs.Partial.{part_shelf_faults, part_shelf_seen, part_shelf_texts, part_shelf_whole};
+ghost use Rattle.sf_io.specs.Partial.{part_sink_faults, part_sink_room, part_sink_seen, part_sink_taken};
 
 use crate::{Failed, LoadFault, MemShelf, Shelf, Sink};
 use std::alloc::{AllocError as NoMemory, Global};
@@ -26,6 +26,7 @@ impl PartShelf {
     /// So many stores are done whole.
     pub fn new(texts: MemShelf, whole: u64) -> Self
         ensures texts { part_shelf_texts result ≡ texts }
+        ensures whole { part_shelf_whole result ≡ whole }
         ensures faults { part_shelf_faults result ≡ 0 }
     {
         PartShelf {
@@ -92,6 +93,7 @@ impl PartSink {
     /// There is room for so many bytes.
     pub fn new(alloc: Global, room: usize) -> Self
         ensures taken { part_sink_taken result ≡ [] }
+        ensures room { part_sink_room result ≡ room }
         ensures faults { part_sink_faults result ≡ 0 }
     {
         PartSink {

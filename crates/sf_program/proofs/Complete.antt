@@ -41,6 +41,7 @@ module _ (contents : Contents) where
   command-ends (gen o) a taken h =
       elim h [ inl p ↦ subst HasSearched (sym p.answered.status_is) (said-ends HasSearched tt tt tt p.answered.said) | inr r ↦ absurd (never-refused (GenRead o) (gen-one contents.may_fail o) taken a r) ]
 
+  -- words of a command whose texts every stage takes end by a status of its own
   pub words-end : (words : List (List ℕ)) (command : Command) (a : Answer) → Means words command → IsTaken command contents → IsAnswerTo words contents a → IsOwnEnd command a.0
   words-end words command a means taken h =
       elim h [
@@ -64,6 +65,8 @@ module _ (contents : Contents) where
   command-keeps (shape o) sure taken h = never-lost contents (ShapeRead (Some contents) o) (shape-read-one contents o) sure taken h
   command-keeps (gen o) sure taken h = never-lost contents (GenRead o) (gen-one contents.may_fail o) sure taken h
 
+  -- no file is lost of words of a command whose texts every stage takes, where loads fail only at names
+  -- without a text
   pub words-keep : (words : List (List ℕ)) (command : Command) → Means words command → IsFalse contents.may_fail → IsTaken command contents → RefusesWords words (Some contents) lost → ⊥
   words-keep words command means sure taken h =
       command-keeps command sure taken (subst (λ (c : Command). CommandRefuses c (Some contents) lost) (meaning_unique words h.0 command h.1 means) h.2)

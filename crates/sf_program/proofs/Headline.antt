@@ -126,9 +126,11 @@ module _ (words : List (List ℕ)) (before after taken taken_then : _) (status :
         | inr m ↦ subst (λ c. CommandAnswer c before status done.stored done.printed) (meaning_unique words m.0 command m.1 means) m.2
       ]
 
+  -- what was done for words of `plan`, by a status of a search, has the headline
   pub planned-headline : (o : PlanOptions) → Means words (plan o) → IsHeadline (PlanRead before o) o.nodes taken taken_then status
   planned-headline o means = plan-headline before taken taken_then status searched o done.stored done.printed (answer-to (plan o) means) done.prints
 
+  -- what was done for words of `gen`, by a status of a search, has the headline
   pub generated-headline : (o : GenOptions) → Means words (gen o) → IsHeadline (GenRead o) o.nodes taken taken_then status
   generated-headline o means = gen-headline before taken taken_then status searched o done.stored done.printed (answer-to (gen o) means) done.prints
 

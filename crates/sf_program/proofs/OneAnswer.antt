@@ -127,6 +127,8 @@ module _ (contents : Contents) where
 
   -- ---- by the words
 
+  -- where a search by one worker has one certificate, and each is renamed in one way, words that ask for one
+  -- worker have at most one answer
   pub words-one : HasOneCert → HasOneName → (words : List (List ℕ)) → AskForOneWorker words → AtMostOne (IsAnswerTo words contents)
   words-one certs names words single a b p q =
       elim p [
@@ -141,6 +143,7 @@ module _ (contents : Contents) where
   usage-refused : (status : Status) → IsRefusal status → status ≡ Usage → ⊥
   usage-refused status is u = elim is [ inl e ↦ (let c : BadInput ≡ Usage = sym e ∙ u in absurd (cc)) | inr e ↦ (let c : OverLimit ≡ Usage = sym e ∙ u in absurd (cc)) ]
 
+  -- where words may be answered by a refusal, they have no other answer
   pub words-refused : (words : List (List ℕ)) (status : Status) (line : List ℕ) (b : Answer) → IsRefusal status → IsAnswerTo words contents (refusal status line) → IsAnswerTo words contents b → b ≡ refusal status line
   words-refused words status line b is p q =
       elim p [

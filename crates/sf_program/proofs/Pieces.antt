@@ -76,6 +76,7 @@ told-file held name text said design rewrite named read same given (Err stop) h 
 
 -- the design comes before the certificate
 module _ (held : Option Contents) (o : CheckOptions) (design : Design) (read : DesignRead held o.design o.weights (Ok design)) where
+  -- what was told of the certificate's file is what `check` tells of the design
   pub check-told : (r : Result Work Stop) → IfOk r (λ w. JudgedFile held o.cert design o.rewrite w.status (stored_in w.stores.items) w.text.items)
       → IfOk r (λ w. IsChecked o held w.status (stored_in w.stores.items) w.text.items)
   check-told (Ok w) h = record { design = design; reads = read; file = h }

@@ -18,7 +18,7 @@ mod words;
 mod workers;
 
 use crate::run;
-use sf_io::{Gate, MemShelf, MemSink, OpenGate, Status};
+use sf_io::{Gate, MemShelf, MemSink, OpenGate, PartShelf, PartSink, Status};
 use std::alloc::{AllocError, Global};
 use std::process::Abort;
 use std::test::Fail;
@@ -86,7 +86,7 @@ fn only(alloc: Global, number: u64) -> Result<Vec<u64>, AllocError> {
 }
 
 /// A shelf with these files, of which the call of this number fails; none fails where it is 0.
-fn shelf_of(alloc: Global, files: &[Text], failing_call: u64) -> Result<MemShelf, Fail> {
+fn shelf_of(alloc: Global, files: &[(&str, &[u8])], failing_call: u64) -> Result<MemShelf, Fail> {
     let mut shelf = MemShelf::new(alloc, only(alloc, failing_call)?);
     for (name, text) in files {
         shelf.add(name, text)?;
@@ -129,7 +129,7 @@ fn has_line(text: &str, wanted: &str) -> bool {
     false
 }
 
-fn text_of(texts: &[Text], wanted: &str) -> Option<&'static [u8]> {
+fn text_of<'a>(texts: &[(&str, &'a [u8])], wanted: &str) -> Option<&'a [u8]> {
     for (name, text) in texts {
         if *name == wanted {
             return Some(*text);
@@ -153,18 +153,15 @@ fn assert_printed(rt: &impl Abort, row: &Row, printed: &str) {
     }
 }
 
-fn assert_stored(rt: &impl Abort, row: &Row, shelf: &MemShelf) {
+/// The name holds what the row says of it.
+fn assert_held(rt: &impl Abort, row: &Row, name: &str, held: Option<&[u8]>) {
     let (command, options) = (row.command, row.options);
-    let is_whole = matches!(row.printed, Printed::Whole(_));
-    for name in NAMES {
-        let stored = text_of(row.stored, name);
-        if is_whole || stored.is_some() {
-            let held = stored.or(text_of(row.files, name));
-            assert!(rt;
-                shelf.bytes(name) == held,
-                "{name} after {command} {options}"
-            );
-        }
+    let stored = text_of(row.stored, name);
+    if matches!(row.printed, Printed::Whole(_)) || stored.is_some() {
+        assert!(rt;
+            held == stored.or(text_of(row.files, name)),
+            "{name} after {command} {options}"
+        );
     }
 }
 
@@ -182,7 +179,9 @@ fn assert_words(
     let (status, printed) = answer(rt, alloc, words, &mut shelf, failing_put)?;
     assert_eq!(rt; status, row.status, "{command} {options}");
     assert_printed(rt, row, printed.as_str());
-    assert_stored(rt, row, &shelf);
+    for name in NAMES {
+        assert_held(rt, row, name, shelf.bytes(name));
+    }
     Ok(())
 }
 
@@ -195,6 +194,33 @@ fn assert_rows(
     for row in rows {
         let words = words_of(alloc, &[row.command, row.options])?;
         assert_words(rt, alloc, row, &words, 0, 0)?;
+    }
+    Ok(())
+}
+
+/// Runs the words over files that are refused: the line is printed, and nothing is stored. So it is too where
+/// a store keeps a part and a put takes three bytes.
+fn assert_refused(
+    rt: &(impl Abort + Threads + Sync),
+    alloc: Global,
+    words: &[String],
+    files: &[(&str, &[u8])],
+    line: &str,
+) -> Result<(), Fail> {
+    let mut shelf = shelf_of(alloc, files, 0)?;
+    let (status, printed) = answer(rt, alloc, words, &mut shelf, 0)?;
+    assert_eq!(rt; status, Status::BadInput, "{line}");
+    assert_eq!(rt; printed.as_str(), line);
+    let mut parts = PartShelf::new(shelf, 0);
+    let mut out = PartSink::new(alloc, line.len());
+    let status = run(rt, alloc, words, &mut parts, &mut out, &OpenGate);
+    assert_eq!(rt; status, Status::BadInput, "{line} in parts");
+    assert!(rt; out.bytes() == line.as_bytes(), "{line} in parts");
+    for name in NAMES {
+        assert!(rt;
+            parts.bytes(name) == text_of(files, name),
+            "{name} after {line}"
+        );
     }
     Ok(())
 }

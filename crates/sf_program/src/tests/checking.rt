@@ -4,8 +4,19 @@ use super::texts::{
     CELL_BLOCKS, CELL_NETS, CELL_PADS, CELLS, EQUALS, FAR_PAD, FIVE, JOINED, JOINED_CERT, NOWHERE,
     ONE, PADDED, SOFT, SQUARES, TO_PAD, TWO, TWO_CERT, TWO_UNNAMED,
 };
-use super::{GIVEN, Printed, Row, Text, answer, assert_rows, has_line, shelf_of, words_of};
-use sf_io::Status;
+use super::{
+    GIVEN, Printed, Row, Text, answer, assert_printed, assert_refused, assert_rows, has_line,
+    shelf_of, words_of,
+};
+use crate::answering::{answer_work, cert_fault};
+use crate::designs::read_design;
+use crate::stop::Stop;
+use crate::work::{Work, no_stores};
+use sf_bounds::Standard;
+use sf_checker::{Checking, FinishFault};
+use sf_io::{MemShelf, Status};
+use sf_words::{CommandWords, read_words};
+use std::alloc::Global;
 use std::test::Fail;
 
 const BARE: &str = "check --format gsrc --blocks a.blocks --cert a.cert";
@@ -179,6 +190,40 @@ fn certificates(rt: HostRuntime) -> Result<(), Fail> {
     Ok(())
 }
 
+/// What is answered to a certificate that comes byte by byte.
+fn answer_bytes(alloc: Global, words: &[String], shelf: &mut MemShelf) -> Result<Work, Stop> {
+    let Ok(Some(CommandWords::Check(words))) = read_words(alloc, words) else {
+        return Err(Stop::NoMemory);
+    };
+    let design = read_design(alloc, shelf, &words.design, words.weights)?;
+    let mut checking = Checking::new(alloc, &design, &Standard)?;
+    for byte in shelf.bytes("a.cert").unwrap_or(&[]) {
+        checking.feed(&[*byte])?;
+    }
+    match checking.finish() {
+        Ok(answer) => Ok(answer_work(alloc, answer, no_stores(alloc))?),
+        Err(FinishFault::Text(fault)) => Err(cert_fault(alloc, fault)?),
+        Err(FinishFault::NoMemory) => Err(Stop::NoMemory),
+    }
+}
+
+#[test]
+fn certificates_by_bytes(rt: HostRuntime) -> Result<(), Fail> {
+    let alloc = rt.alloc();
+    for row in JUDGED.iter().chain(UNREADABLE) {
+        let words = words_of(alloc, &[row.command, row.options])?;
+        let mut shelf = shelf_of(alloc, row.files, 0)?;
+        let (status, printed) = match answer_bytes(alloc, &words, &mut shelf) {
+            Ok(work) => (work.status, work.text),
+            Err(Stop::Refused(status, line)) => (status, line),
+            Err(_) => return Err(Fail::new("the certificate has no answer")),
+        };
+        assert_eq!(rt; status, row.status);
+        assert_printed(&rt, row, str::from_utf8(&printed)?);
+    }
+    Ok(())
+}
+
 #[test]
 fn a_tree_without_end(rt: HostRuntime) -> Result<(), Fail> {
     let alloc = rt.alloc();
@@ -189,13 +234,15 @@ fn a_tree_without_end(rt: HostRuntime) -> Result<(), Fail> {
     for _ in 0..3201 {
         text.push_str("S 0\n")?;
     }
-    let mut shelf = shelf_of(alloc, &[("a.blocks", ONE)], 0)?;
-    shelf.add("a.cert", text.as_bytes())?;
+    let files = [("a.blocks", ONE), ("a.cert", text.as_bytes())];
     let words = words_of(alloc, &[BARE])?;
-    let (status, printed) = answer(&rt, alloc, &words, &mut shelf, 0)?;
-    assert_eq!(rt; status, Status::BadInput);
-    assert_eq!(rt; printed.as_str(), "error BadInput cert 3207 TooDeep\n");
-    Ok(())
+    assert_refused(
+        &rt,
+        alloc,
+        &words,
+        &files,
+        "error BadInput cert 3207 TooDeep\n",
+    )
 }
 
 const SOFT_FILES: &[Text] = &[("a.blocks", SOFT), ("a.nets", TO_PAD), ("a.pl", FAR_PAD)];

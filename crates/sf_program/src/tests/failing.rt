@@ -1,11 +1,11 @@
 //! Runs in which a load, a store or a put fails, or a store and a put do a part of what they are asked for.
 
 use super::checking::UNREADABLE;
-use super::reading::REFUSED;
+use super::reading::{READ, REFUSED};
 use super::texts::{FAR_PAD, ONE, ONE_CERT, PADDED, TO_PAD};
 use super::words::{AT_ENDS, MEANINGLESS};
 use super::{
-    GIVEN, NAMES, Printed, Row, assert_printed, assert_words, shelf_of, text_of, words_of,
+    GIVEN, NAMES, Printed, Row, assert_held, assert_printed, assert_words, shelf_of, words_of,
 };
 use crate::run;
 use sf_io::{OpenGate, PartShelf, PartSink, Status};
@@ -338,11 +338,7 @@ fn assert_part(rt: &(impl Abort + Threads + Sync), alloc: Global, part: &Part) -
     assert_eq!(rt; status, row.status, "{command} {options}");
     assert_printed(rt, row, str::from_utf8(out.bytes())?);
     for name in NAMES {
-        let held = text_of(row.stored, name).or(text_of(row.files, name));
-        assert!(rt;
-            shelf.bytes(name) == held,
-            "{name} after {command} {options}"
-        );
+        assert_held(rt, row, name, shelf.bytes(name));
     }
     Ok(())
 }
@@ -352,7 +348,7 @@ fn parts_of_calls(rt: HostRuntime) -> Result<(), Fail> {
     for part in PARTS {
         assert_part(&rt, rt.alloc(), part)?;
     }
-    for rows in [REFUSED, UNREADABLE, MEANINGLESS, AT_ENDS] {
+    for rows in [READ, REFUSED, UNREADABLE, MEANINGLESS, AT_ENDS] {
         for row in rows {
             let part = Part {
                 row: *row,

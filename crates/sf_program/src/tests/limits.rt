@@ -1,9 +1,11 @@
-//! Texts past the limits of pads, nets and files, which lines by the thousand make.
+//! Texts past the limits of pads, nets, pins and files, which lines by the thousand make.
 
 use super::{answer, words_of};
 use sf_io::{MemShelf, Status};
 use std::alloc::{AllocError, Global};
+use std::process::Abort;
 use std::test::Fail;
+use std::thread::Threads;
 
 /// A text of these first lines and of one line that stands so often, and what is printed where it is read.
 struct Past {
@@ -41,6 +43,16 @@ const PAST: &[Past] = &[
     },
 ];
 
+/// A net with one pin too many. A pin that is named again counts again.
+const PINS: Past = Past {
+    options: "--nets a.nets",
+    file: "a.nets",
+    head: "UCLA nets 1.0\nNumNets : 1\nNumPins : 1048577\nNetDegree : 1048577\n",
+    line: "b0 B\n",
+    count: 1_048_577,
+    printed: "error OverLimit pins 1048577 1048576\n",
+};
+
 fn text_of(alloc: Global, past: &Past) -> Result<String, AllocError> {
     let mut text = String::from_str(alloc, past.head)?;
     for _ in 0..past.count {
@@ -49,20 +61,29 @@ fn text_of(alloc: Global, past: &Past) -> Result<String, AllocError> {
     Ok(text)
 }
 
+fn assert_past(rt: &(impl Abort + Threads + Sync), alloc: Global, past: &Past) -> Result<(), Fail> {
+    let command = "plan --format gsrc --blocks a.blocks --cert a.cert";
+    let words = words_of(alloc, &[command, past.options])?;
+    let mut shelf = MemShelf::new(alloc, Vec::new(alloc));
+    shelf.add("a.blocks", BLOCK)?;
+    shelf.add(past.file, text_of(alloc, past)?.as_bytes())?;
+    let (status, printed) = answer(rt, alloc, &words, &mut shelf, 0)?;
+    assert_eq!(rt; status, Status::OverLimit, "{}", past.printed);
+    assert_eq!(rt; printed.as_str(), past.printed);
+    Ok(())
+}
+
 #[test]
 fn past_each_limit(rt: HostRuntime) -> Result<(), Fail> {
-    let alloc = rt.alloc();
     for past in PAST {
-        let command = "plan --format gsrc --blocks a.blocks --cert a.cert";
-        let words = words_of(alloc, &[command, past.options])?;
-        let mut shelf = MemShelf::new(alloc, Vec::new(alloc));
-        shelf.add("a.blocks", BLOCK)?;
-        shelf.add(past.file, text_of(alloc, past)?.as_bytes())?;
-        let (status, printed) = answer(&rt, alloc, &words, &mut shelf, 0)?;
-        assert_eq!(rt; status, Status::OverLimit, "{}", past.printed);
-        assert_eq!(rt; printed.as_str(), past.printed);
+        assert_past(&rt, rt.alloc(), past)?;
     }
     Ok(())
+}
+
+#[test]
+fn past_the_limit_of_pins(rt: HostRuntime) -> Result<(), Fail> {
+    assert_past(&rt, rt.alloc(), &PINS)
 }
 
 /// A file of one byte more than 64 MiB.

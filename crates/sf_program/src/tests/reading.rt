@@ -4,8 +4,8 @@ use super::texts::{
     CELL_BLOCKS, CELL_CERT, CELL_LINES, CELL_NETS, CELL_PADS, CELL_PLACES, CELLS, JOINED, NOWHERE,
     ONE_CERT, ONE_LINES, PADDED, SQUARES, TO_PAD,
 };
-use super::{GIVEN, Printed, Row, answer, assert_rows, words_of};
-use sf_io::{MemShelf, Status};
+use super::{GIVEN, Printed, Row, assert_refused, assert_rows, words_of};
+use sf_io::Status;
 use std::test::Fail;
 
 const PLAN: Row = Row {
@@ -106,7 +106,7 @@ const YAL_FLAT: &[u8] =
 const YAL_STRANGE_CELL: &[u8] = b"MODULE t; TYPE PARENT; NETWORK; u zz n; ENDNETWORK; ENDMODULE;";
 
 /// Designs that are read.
-const READ: &[Row] = &[
+pub const READ: &[Row] = &[
     Row {
         options: "--wire-weight 1 --pl-out a.out",
         files: &[("a.yal", CELLS)],
@@ -340,12 +340,8 @@ fn lines_of_a_block(rt: HostRuntime) -> Result<(), Fail> {
     for (line, fault) in BLOCK_LINES {
         let text = format!(in alloc; "{BEFORE_BLOCK}{line}\n")?;
         let said = format!(in alloc; "error BadInput blocks 5 {fault}\n")?;
-        let mut shelf = MemShelf::new(alloc, Vec::new(alloc));
-        shelf.add("a.blocks", text.as_bytes())?;
-        let (status, printed) = answer(&rt, alloc, &words, &mut shelf, 0)?;
-        assert_eq!(rt; status, Status::BadInput, "{line}");
-        assert_eq!(rt; printed.as_str(), said.as_str(), "{line}");
-        assert!(rt; shelf.bytes("a.cert").is_none(), "{line}");
+        let files = [("a.blocks", text.as_bytes())];
+        assert_refused(&rt, alloc, &words, &files, said.as_str())?;
     }
     Ok(())
 }
