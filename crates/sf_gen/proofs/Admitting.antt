@@ -34,45 +34,55 @@ use Rattle.sf_gen.proofs.TextLines.{Each}
 
 -- ---- no faults at all
 
+-- two lists that are both empty are empty when put together
 neither : {X : Type 0} (a b : List X) → a ≡ [] → b ≡ [] → a ++ b ≡ []
 neither a b p q = rw (p, q) refl
 
+-- where each element gives the empty list, all of them together give it too
 flat_none : {X Y : Type 0} (f : X → List Y) (xs : List X) → Each (λ x. f x ≡ []) xs → flat_map f xs ≡ []
 flat_none f [] h = refl
 flat_none f (x ∷ xs) h = neither (f x) (flat_map f xs) h.0 (flat_none f xs h.1)
 
+-- a quantity that is no more than the most allowed is no fault
 within : (quantity : Limit) (most found : ℕ) → found ≤ most → over quantity most found ≡ []
 within quantity most found h = let low : nat_lt most found ≡ false = grind (arith, nat_tests) in rw low refl
 
 -- ---- names
 
+-- a truth value that cannot be true is false
 false_of : (b : Bool) → (b ≡ true → ⊥) → b ≡ false
 false_of true h = absurd (h refl)
 false_of false h = refl
 
+-- two different numbers below 2^64 have different decimal texts
 differ : (i j : ℕ) → i < j → j < 2 ^ 64 → bytes_eq (decimal i) (decimal j) ≡ false
 differ i j h low =
     false_of (bytes_eq (decimal i) (decimal j))
     (λ e. let same = decimal_injective i j (omega arith) low ((bytes_eq-Decides (decimal i) (decimal j)).0 e) in absurd (omega (arith, same)))
 
 module _ (kinds : Kinds) where
+  -- the names of the blocks of these sizes, numbered from i on
   names_from : ℕ → List Size → List (List ℕ)
   names_from i sizes = block_names (indexed (raw_block kinds) i sizes)
 
+  -- the name of block i is not among the names of blocks with greater numbers
   later_differs : (i j : ℕ) (sizes : List Size) → i < j → j + length sizes ≤ 1000 → list_any (bytes_eq (block_name i)) (names_from j sizes) ≡ false
   unfolding names_from
   later_differs i j [] h low = refl
   later_differs i j (s ∷ sizes) h low = rw (differ i j h (omega arith)) (later_differs i (j + 1) sizes (omega arith) (omega arith))
 
+  -- no name of a block stands twice
   no_repeats : (i : ℕ) (sizes : List Size) → i + length sizes ≤ 1000 → repeated (names_from i sizes) ≡ []
   unfolding names_from
   no_repeats i [] low = refl
   no_repeats i (s ∷ sizes) low = rw (later_differs i (i + 1) sizes (omega arith) (omega arith)) (no_repeats (i + 1) sizes (omega arith))
 
+  -- a disjunction with true is true
   or_true : (b : Bool) → (b || true) ≡ true
   or_true true = refl
   or_true false = refl
 
+  -- the name of each block from number i on is among these names
   is_found : (a i : ℕ) (sizes : List Size) → i ≤ a → a < i + length sizes → list_any (bytes_eq (block_name a)) (names_from i sizes) ≡ true
   unfolding names_from
   is_found a i [] low high = absurd (omega arith)
@@ -81,11 +91,13 @@ module _ (kinds : Kinds) where
     | inr n ↦ rw (is_found a (i + 1) sizes (omega arith) (omega arith)) (or_true (bytes_eq (decimal a) (decimal i)))
   ]
 
+  -- a name that begins with `p` is not among the names of blocks
   no_pad_is_block : (x : List ℕ) (i : ℕ) (sizes : List Size) → list_any (bytes_eq (112 ∷ x)) (names_from i sizes) ≡ false
   unfolding names_from
   no_pad_is_block x i [] = refl
   no_pad_is_block x i (s ∷ sizes) = no_pad_is_block x (i + 1) sizes
 
+-- the names of the pads 0 to 3 are among the names of the four placed pads
 pad_known : (n p : ℕ) → p < 4 → list_any (bytes_eq (pad_name p)) (pad_names (raw_pads n)) ≡ true
 pad_known n zero h = rw (decimal_digit 0 (lit< tt)) refl
 pad_known n (suc zero) h = rw (decimal_digit 1 (lit< tt)) refl
@@ -95,10 +107,12 @@ pad_known n (suc (suc (suc (suc p)))) h = absurd (omega arith)
 
 -- ---- the names of pins
 
+-- where no name of the list is a fault, the pins of these names have no fault
 pin_none : (f : List ℕ → List BuildFault) (pins : List (List ℕ)) → Each (λ name. f name ≡ []) pins → flat_map (at_pin_name f) (map Named pins) ≡ []
 pin_none f [] h = refl
 pin_none f (name ∷ pins) h = neither (f name) (flat_map (at_pin_name f) (map Named pins)) h.0 (pin_none f pins h.1)
 
+-- where no name of a pin is a fault, the nets have no fault at their pins' names
 nets_none : (f : List ℕ → List BuildFault) (nets : List (List (List ℕ))) → Each (λ pins. Each (λ name. f name ≡ []) pins) nets
     → at_pin_names f (map (λ pins. record { pins = map Named pins }) nets) ≡ []
 nets_none f [] h = refl
@@ -106,13 +120,16 @@ nets_none f (pins ∷ nets) h =
     neither (flat_map (at_pin_name f) (map Named pins)) (at_pin_names f (map (λ pins. record { pins = map Named pins }) nets)) (pin_none f pins h.0) (nets_none f nets h.1)
 
 module _ (n : ℕ) (f : List ℕ → List BuildFault) (blocks : (a : ℕ) → a < n → f (block_name a) ≡ []) (pads : (p : ℕ) → p < 4 → f (pad_name p) ≡ []) where
+  -- the pad of a net, if there is one, has no fault where no name of a pad has one
   pads_none : (b : Bool) (j : ℕ) → Each (λ name. f name ≡ []) (cond b (pad_name (j % 4) ∷ []) [])
   pads_none true j = (pads (j % 4) (omega arith), tt)
   pads_none false j = tt
 
+  -- no pin of a net between two blocks has a fault where no name of a block or of a pad has one
   net_none : (j : ℕ) (e : Ends) → IsAmong n e → Each (λ name. f name ≡ []) (pins_of j e)
   net_none j e among = (blocks e.a among.first, (blocks e.b among.second, pads_none (j % 3 == 0) j))
 
+  -- no pin of the nets has a fault where no name of a block or of a pad has one
   pins_none : (seed : ℕ) → 1 ≤ n → at_pin_names f (raw_nets (ends seed n)) ≡ []
   pins_none seed low =
       nets_none f (nets_pins (ends seed n))
@@ -120,17 +137,21 @@ module _ (n : ℕ) (f : List ℕ → List BuildFault) (blocks : (a : ℕ) → a 
 
 -- ---- the faults, one kind after another
 
+-- a conjunction with false is false
 and_false : (b : Bool) → (b && false) ≡ false
 and_false true = refl
 and_false false = refl
 
+-- a block of small sides, soft or hard, has no number beyond its limit
 kind_within : (b : Bool) (s : Size) → IsSmall s → over_kind (cond b (kind.Soft (s.w * s.h) 500_000 2_000_000) (kind.Hard s.w s.h)) ≡ []
 kind_within true s f = within limit.Area (2 ^ 40) (s.w * s.h) (omega (arith, area_high s f))
 kind_within false s f = neither (over limit.Side (2 ^ 20) s.w) (over limit.Side (2 ^ 20) s.h) (within limit.Side (2 ^ 20) s.w (omega (arith, f.width))) (within limit.Side (2 ^ 20) s.h (omega (arith, f.height)))
 
+-- a place with coordinates of at most a million is within the limits
 place_within : (x y : ℕ) → x ≤ 1_000_000 → y ≤ 1_000_000 → over_place (Some (pos x, pos y)) ≡ []
 place_within x y low high = neither (over limit.Coordinate (2 ^ 20) x) (over limit.Coordinate (2 ^ 20) y) (within limit.Coordinate (2 ^ 20) x (omega (arith, low))) (within limit.Coordinate (2 ^ 20) y (omega (arith, high)))
 
+-- the nets have as many pins as there are names
 pins_counted : (nets : List (List (List ℕ))) → sum_by (λ (n : RawNet). length n.pins) (map (λ pins. record { pins = map Named pins }) nets) ≡ sum_by length nets
 pins_counted [] = refl
 pins_counted (pins ∷ nets) =
@@ -140,16 +161,20 @@ pins_counted (pins ∷ nets) =
     ∙ sym (sum_by-cons length pins nets)
 
 module _ (kinds : Kinds) (seed n : ℕ) (low : 1 ≤ n) (high : n ≤ 320) where
+  -- the parts of the generated design, with pins by name
   parts : Parts
   parts = named_parts kinds seed n
 
+  -- there are n blocks
   block_count : length (raw_blocks kinds (sizes seed n)) ≡ n
   block_count = length-indexed (raw_block kinds) 0 (sizes seed n) ∙ length-sizes seed n
 
+  -- there is a block, so none of the faults is that there is none
   some_block : no_blocks parts ≡ []
   unfolding parts
   some_block = let some : (length (raw_blocks kinds (sizes seed n)) == 0) ≡ false = grind (arith, nat_tests, block_count) in rw some refl
 
+  -- no count is beyond its limit
   few_counts : over_counts parts ≡ []
   unfolding parts
   few_counts =
@@ -162,11 +187,13 @@ module _ (kinds : Kinds) (seed n : ℕ) (low : 1 ≤ n) (high : n ≤ 320) where
       let d = within limit.Pins 1048576 pins (omega (arith, pins_counted (nets_pins (ends seed n)), few_pins seed n high)) in
       neither _ (over limit.Pins 1048576 pins) (neither _ (over limit.Nets 65536 (length nets)) (neither (over limit.Blocks 320 (length (raw_blocks kinds (sizes seed n)))) (over limit.Pads 16384 4) a b) c) d
 
+  -- no side and no area of a block is beyond its limit
   small_kinds : flat_map (λ (b : RawBlock). over_kind b.kind) (raw_blocks kinds (sizes seed n)) ≡ []
   small_kinds =
       flat_none (λ (b : RawBlock). over_kind b.kind) (raw_blocks kinds (sizes seed n))
       (each_indexed IsSmall (λ (b : RawBlock). over_kind b.kind ≡ []) (raw_block kinds) (λ i s f. kind_within (is_soft kinds i) s f) 0 (sizes seed n) (sizes_small seed n))
 
+  -- no coordinate of a pad is beyond its limit
   near_places : over_places parts ≡ []
   unfolding parts
   near_places =
@@ -176,12 +203,15 @@ module _ (kinds : Kinds) (seed n : ℕ) (low : 1 ≤ n) (high : n ≤ 320) where
       flat_none (λ p. over_place p.place) (raw_pads n)
       (place_within 0 0 zero_near zero_near, (place_within q 0 near zero_near, (place_within 0 q zero_near near, (place_within q q near near, tt))))
 
+  -- there are at most 1000 sizes
   short : 0 + length (sizes seed n) ≤ 1000
   short = omega (arith, length-sizes seed n)
 
+  -- a name that is not a block's is not the name of both a block and a pad
   not_both : (name : List ℕ) → is_block_name parts name ≡ false → if_both parts name ≡ []
   not_both name e = rw e refl
 
+  -- no name stands twice, for two blocks or for a block and a pad
   once_each : duplicates parts ≡ []
   unfolding parts names_from
   once_each =
@@ -195,6 +225,7 @@ module _ (kinds : Kinds) (seed n : ℕ) (low : 1 ≤ n) (high : n ≤ 320) where
       flat_none (at_placed_name f) parts.pads (not_block (48 ∷ []), (not_block (49 ∷ []), (not_block (50 ∷ []), (not_block (51 ∷ []), tt)))) in
       neither _ (flat_map (at_placed_name f) parts.pads) (neither _ (at_pin_names f parts.nets) (neither (map fault.DuplicateName (repeated (block_names parts.blocks))) [] names refl) pins) placed
 
+  -- each pin has the name of a block or of a pad
   all_known : unknowns parts ≡ []
   unfolding parts names_from
   all_known =
@@ -203,17 +234,21 @@ module _ (kinds : Kinds) (seed n : ℕ) (low : 1 ≤ n) (high : n ≤ 320) where
       let of_pads : (p : ℕ) → p < 4 → f (pad_name p) ≡ [] = λ p h. rw (no_pad_is_block kinds (decimal p) 0 (sizes seed n), pad_known n p h) refl in
       neither (at_pin_names f parts.nets) [] (pins_none n f of_blocks of_pads seed low) refl
 
+  -- no pad lacks its place
   all_placed : missing_places parts ≡ []
   unfolding parts
   all_placed = refl
 
+  -- no name has a fault
   no_name_faults : name_faults parts ≡ []
   no_name_faults = neither _ (missing_places parts) (neither (duplicates parts) (unknowns parts) once_each all_known) all_placed
 
+  -- no limit is passed
   no_limit_passed : over_limits parts ≡ []
   unfolding parts
   no_limit_passed = neither _ (over_places parts) (neither (over_counts parts) (flat_map (λ (b : RawBlock). over_kind b.kind) (raw_blocks kinds (sizes seed n))) few_counts small_kinds) near_places
 
+  -- the parts of a generated design may become a design
   pub admitted : IsAdmitted (parts_of kinds seed n)
   unfolding parts
   admitted = refusal_same (named_parts kinds seed n) ∙ ap first (neither _ (name_faults parts) (neither (no_blocks parts) (over_limits parts) some_block no_limit_passed) no_name_faults)

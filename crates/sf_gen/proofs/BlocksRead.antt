@@ -33,14 +33,17 @@ SaysHere bytes said = (n : ℕ) → SaysBy 1 (record { number = n; bytes = bytes
 
 -- ---- the lines of the blocks
 
+-- what a line says that gives this block
 said_block : RawBlock → Said
 said_block b = ItemIs (BlockIs b)
 
+-- a line without a count word that gives a block says this block, whatever its number
 plain_says : (bytes : List ℕ) (b : RawBlock) → counted_by bytes ≡ None → plain_said 1 bytes ≡ Ok (BlockIs b) → SaysHere bytes (said_block b)
 unfolding said_block
 plain_says bytes b none says n = subst (λ o. SaysBy 1 (record { number = n; bytes = bytes }) (ItemIs (BlockIs b)) o) (sym none) (BlockIs b, says, refl)
 
 module _ (i : ℕ) (s : Size) (h : i < 2 ^ 64) (f : IsSmall s) where
+  -- the line of a block is read as this block, soft or hard
   by_kind : (b : Bool) → Reads SaysHere (cond b (soft_line i s) (hard_line i s))
       (said_block (record { name = block_name i; kind = cond b (kind.Soft (s.w * s.h) 500_000 2_000_000) (kind.Hard s.w s.h) }) ∷ [])
   by_kind true =
@@ -54,6 +57,7 @@ module _ (i : ℕ) (s : Size) (h : i < 2 ^ 64) (f : IsSmall s) where
       reads_line SaysHere (hard_line i s) bytes (said_block block) (hard_lines i s h f) (name_filled i h (hard_rest s))
       (plain_says bytes block (no_count i h (hard_rest s)) (hard_plain i s h f))
 
+-- the lines of the blocks from number i on are read as these blocks
 blocks_from : (kinds : Kinds) (i : ℕ) (sizes : List Size) → i + length sizes ≤ 1_000_000 → Each IsSmall sizes
     → Reads SaysHere (flat_map (λ (line : List ℕ). line) (indexed (block_line kinds) i sizes)) (map said_block (indexed (raw_block kinds) i sizes))
 blocks_from kinds i [] low ok = reads_none SaysHere
@@ -64,12 +68,15 @@ blocks_from kinds i (s ∷ sizes) low ok =
 
 -- ---- the lines of the pads
 
+-- what a line says that gives a pad of this name
 said_pad : List ℕ → Said
 said_pad name = ItemIs (PadIs name)
 
+-- the lines of the four pads
 pad_lines : List ℕ
 pad_lines = codes "p0 terminal\np1 terminal\np2 terminal\np3 terminal\n"
 
+-- the lines of the four pads are read as these pads
 pads_read : Reads SaysHere pad_lines (map said_pad pad_list)
 unfolding pad_lines said_pad counted_of form_of plain_said
 pads_read = record {
@@ -82,6 +89,7 @@ pads_read = record {
 -- ---- the counts
 
 module _ (d : ℕ) (le : d ≤ 9_000_000_000_000_000) where
+  -- the count of soft blocks is read as that count
   soft_count_read : Reads SaysHere (codes "NumSoftRectangularBlocks : " ++ (decimal d ++ codes "\n")) (CountIs Soft d ∷ [])
   unfolding counted_of
   soft_count_read =
@@ -89,6 +97,7 @@ module _ (d : ℕ) (le : d ≤ 9_000_000_000_000_000) where
       (piece (codes "NumSoftRectangularBlocks : ") refl (piece (decimal d) (decimal_no_feed d (omega arith)) (ended none))) refl
       (λ n. (d, number_said (codes "NumSoftRectangularBlocks") d le, refl))
 
+  -- the count of hard blocks is read as that count
   hard_count_read : Reads SaysHere (codes "NumHardRectilinearBlocks : " ++ (decimal d ++ codes "\n")) (CountIs Hard d ∷ [])
   unfolding counted_of
   hard_count_read =
@@ -96,6 +105,7 @@ module _ (d : ℕ) (le : d ≤ 9_000_000_000_000_000) where
       (piece (codes "NumHardRectilinearBlocks : ") refl (piece (decimal d) (decimal_no_feed d (omega arith)) (ended none))) refl
       (λ n. (d, number_said (codes "NumHardRectilinearBlocks") d le, refl))
 
+-- the count of terminals is read as 4
 pad_count_read : Reads SaysHere (codes "NumTerminals : 4\n") (CountIs Terminals 4 ∷ [])
 unfolding counted_of count_said decimal_read
 pad_count_read =
@@ -104,10 +114,12 @@ pad_count_read =
 
 -- ---- entries
 
+-- what the lines say, numbered from n on
 entries : ℕ → List Said → List Entry
 entries n [] = []
 entries n (s ∷ said) = record { number = n; said = s } ∷ entries (n + 1) said
 
+-- where each line says its part whatever its number, the numbered lines say the numbered entries
 each_entry : (n : ℕ) (bs : List (List ℕ)) (said : List Said) → AllZip SaysHere bs said → AllZip (SaysEntry 1) (numbered n bs) (entries n said)
 unfolding entries
 each_entry n [] [] h = h
@@ -115,11 +127,13 @@ each_entry n [] (s ∷ said) h = absurd h
 each_entry n (b ∷ bs) [] h = absurd h
 each_entry n (b ∷ bs) (s ∷ said) h = ((refl, h.0 n), each_entry (n + 1) bs said h.1)
 
+-- the blocks among the entries are those among what the lines say
 blocks_of : (n : ℕ) (said : List Said) → blocks_in (entries n said) ≡ filter_map block_at said
 unfolding entries
 blocks_of n [] = refl
 blocks_of n (s ∷ said) = ap (cons_option (block_at s)) (blocks_of (n + 1) said)
 
+-- the pads among the entries are those among what the lines say
 pads_of : (n : ℕ) (said : List Said) → pads_in (entries n said) ≡ filter_map pad_at said
 unfolding entries
 pads_of n [] = refl
@@ -130,21 +144,25 @@ abbrev IsItem : Said → Type 0
 IsItem (CountIs k n) = ⊥
 IsItem (ItemIs item) = Unit {0}
 
+-- where no line says a count, there is no count of any kind
 no_counts : (which : Counted) (n : ℕ) (said : List Said) → Each IsItem said → counts_of which (entries n said) ≡ []
 unfolding entries
 no_counts which n [] ok = refl
 no_counts which n (CountIs k m ∷ said) ok = absurd ok.0
 no_counts which n (ItemIs item ∷ said) ok = no_counts which (n + 1) said ok.1
 
+-- items put before items are items
 all_items : {X : Type 0} (f : X → Said) → ((x : X) → IsItem (f x)) → (xs : List X) (more : List Said) → Each IsItem more → Each IsItem (map f xs ++ more)
 all_items f h [] more ok = ok
 all_items f h (x ∷ xs) more ok = (h x, all_items f h xs more ok)
 
+-- the blocks among lines that all give blocks are these blocks
 blocks_kept : (bs : List RawBlock) → filter_map block_at (map said_block bs) ≡ bs
 unfolding said_block
 blocks_kept [] = refl
 blocks_kept (b ∷ bs) = ap (λ l. b ∷ l) (blocks_kept bs)
 
+-- lines that all give blocks give no pad
 no_pads : (bs : List RawBlock) → filter_map pad_at (map said_block bs) ≡ []
 unfolding said_block
 no_pads [] = refl
@@ -152,13 +170,16 @@ no_pads (b ∷ bs) = no_pads bs
 
 -- ---- how many are soft
 
+-- a block is soft exactly when its kind was chosen as soft
 soft_kind : (b : Bool) (a l m w h : ℕ) → is_soft_kind (cond b (kind.Soft a l m) (kind.Hard w h)) ≡ b
 soft_kind true a l m w h = refl
 soft_kind false a l m w h = refl
 
+-- a block of a generated design is soft exactly when its number says so
 softness : (kinds : Kinds) (i : ℕ) (s : Size) → blocks.is_soft (raw_block kinds i s) ≡ is_soft kinds i
 softness kinds i s = soft_kind (is_soft kinds i) (s.w * s.h) 500_000 2_000_000 s.w s.h
 
+-- as many blocks pass a test of their softness as of their numbers do
 count_from : (p : Bool → Bool) (kinds : Kinds) (i : ℕ) (sizes : List Size)
     → count_by (λ b. p (blocks.is_soft b)) (indexed (raw_block kinds) i sizes) ≡ count_by (λ j. p (is_soft kinds j)) (range_with_len i (length sizes))
 count_from p kinds i [] = refl
@@ -171,18 +192,22 @@ count_from p kinds i (s ∷ sizes) =
 -- ---- the whole text
 
 module _ (kinds : Kinds) (sizes : List Size) (few : length sizes ≤ 1000) (ok : Each IsSmall sizes) where
+  -- what the lines behind the counts say: the blocks, and then the pads
   items : List Said
   items = map said_block (raw_blocks kinds sizes) ++ map said_pad pad_list
 
+  -- what the lines behind the title say: the three counts, the blocks and the pads
   said_of : List Said
   said_of = CountIs Soft (soft_count kinds (length sizes)) ∷ CountIs Hard (hard_count kinds (length sizes)) ∷ CountIs Terminals 4 ∷ items
 
+  -- the text behind the title, line by line
   behind_title : List ℕ
   behind_title =
       (codes "NumSoftRectangularBlocks : " ++ (decimal (soft_count kinds (length sizes)) ++ codes "\n"))
       ++ ((codes "NumHardRectilinearBlocks : " ++ (decimal (hard_count kinds (length sizes)) ++ codes "\n"))
       ++ (codes "NumTerminals : 4\n" ++ (block_lines kinds sizes ++ pad_lines)))
 
+  -- the title and what stands behind it are the text of the blocks
   shape : codes "UCSC blocks 1.0\n" ++ behind_title ≡ blocks_head kinds (length sizes) ++ (block_lines kinds sizes ++ pad_lines)
   unfolding behind_title
   shape =
@@ -197,6 +222,7 @@ module _ (kinds : Kinds) (sizes : List Size) (few : length sizes ≤ 1000) (ok :
       ∙ ap (λ v. soft ++ (codes "\n" ++ (word ++ v))) inner
       ∙ sym (append_assoc soft (codes "\n" ++ (word ++ (hard ++ (10 ∷ third)))) more))
 
+  -- the text behind the title is read as the counts, the blocks and the pads
   all_read : Reads SaysHere behind_title said_of
   unfolding behind_title said_of items
   all_read =
@@ -212,25 +238,30 @@ module _ (kinds : Kinds) (sizes : List Size) (few : length sizes ≤ 1000) (ok :
       ((codes "NumHardRectilinearBlocks : " ++ (decimal hard ++ codes "\n")) ++ (codes "NumTerminals : 4\n" ++ (block_lines kinds sizes ++ pad_lines)))
       (CountIs Soft soft ∷ []) (CountIs Hard hard ∷ CountIs Terminals 4 ∷ (map said_block (raw_blocks kinds sizes) ++ map said_pad pad_list)) (soft_count_read soft low) hards
 
+  -- behind the counts no line says a count
   are_items : Each IsItem items
   unfolding items said_block said_pad
   are_items = all_items said_block (λ b. tt) (raw_blocks kinds sizes) (map said_pad pad_list) (tt, (tt, (tt, (tt, tt))))
 
+  -- the blocks among these lines are the design's
   blocks_are : filter_map block_at items ≡ raw_blocks kinds sizes
   unfolding items said_pad
   blocks_are =
       filter_map-append block_at (map said_block (raw_blocks kinds sizes)) (map said_pad pad_list)
       ∙ append-nil (filter_map block_at (map said_block (raw_blocks kinds sizes))) ∙ blocks_kept (raw_blocks kinds sizes)
 
+  -- the pads among these lines are the four pads
   pads_are : filter_map pad_at items ≡ pad_list
   unfolding items said_pad
   pads_are =
       filter_map-append pad_at (map said_block (raw_blocks kinds sizes)) (map said_pad pad_list)
       ∙ ap (λ l. l ++ pad_list) (no_pads (raw_blocks kinds sizes))
 
+  -- a count that was said on a line
   count : ℕ → ℕ → Count
   count line said = record { line = line; said = said }
 
+  -- the count of soft blocks stands once, and agrees with the blocks
   softs : StandsOnce Soft (entries 2 said_of) (count_by blocks.is_soft (raw_blocks kinds sizes))
   unfolding said_of entries count
   softs = record {
@@ -238,6 +269,7 @@ module _ (kinds : Kinds) (sizes : List Size) (few : length sizes ≤ 1000) (ok :
     once = ap (λ l. count 2 (soft_count kinds (length sizes)) ∷ l) (no_counts Soft 5 items are_items) ∙ ap (λ k. count 2 k ∷ []) (sym (count_from (λ b. b) kinds 0 sizes));
   }
 
+  -- the count of hard blocks stands once, and agrees with the blocks
   hards : StandsOnce Hard (entries 2 said_of) (count_by (λ b. not (blocks.is_soft b)) (raw_blocks kinds sizes))
   unfolding said_of entries count
   hards = record {
@@ -245,10 +277,12 @@ module _ (kinds : Kinds) (sizes : List Size) (few : length sizes ≤ 1000) (ok :
     once = ap (λ l. count 3 (hard_count kinds (length sizes)) ∷ l) (no_counts Hard 5 items are_items) ∙ ap (λ k. count 3 k ∷ []) (sym (count_from not kinds 0 sizes));
   }
 
+  -- the count of terminals stands once, and is 4
   pads : StandsOnce Terminals (entries 2 said_of) 4
   unfolding said_of entries count
   pads = record { line = 4; once = ap (λ l. count 4 4 ∷ l) (no_counts Terminals 5 items are_items) }
 
+  -- the text of the blocks stands for the blocks and the pads
   pub blocks_stand : StandsFor 1 (blocks_head kinds (length sizes) ++ (block_lines kinds sizes ++ codes "p0 terminal\np1 terminal\np2 terminal\np3 terminal\n")) (blocks_out kinds sizes)
   unfolding said_of is_title pad_lines
   blocks_stand =

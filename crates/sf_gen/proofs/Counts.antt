@@ -11,30 +11,38 @@ use Rattle.sf_gen.specs.declared.drawn.Ends.{Ends}
 use Rattle.sf_gen.specs.Drawn.{net_count}
 use Rattle.sf_gen.specs.Texts.{indexed, is_soft, soft_count, hard_count, pins_of, nets_pins, pad_name, pad_pins}
 
+-- the count over a longer list is one more where the new element counts
 count_cons : (p : ℕ → Bool) (x : ℕ) (xs : List ℕ) → count_by p (x ∷ xs) ≡ cond (p x) 1 0 + count_by p xs
 count_cons p x xs = sum_by-cons (λ y. cond (p y) 1 0) x xs
 
+-- with hard kinds no block is soft
 none_from : (a n : ℕ) → count_by (is_soft Hard) (range_with_len a n) ≡ 0
 none_from a zero = refl
 none_from a (suc n) = rw (count_cons (is_soft Hard) a (range_with_len (a + 1) n), none_from (a + 1) n) refl
 
+-- the count of odd numbers, as a difference of halves, holds with one more number
 odd_step : (a n k : ℕ) → k + (a + 1) / 2 ≡ (a + 1 + n) / 2 → (cond (a % 2 == 1) 1 0 + k) + a / 2 ≡ (a + suc n) / 2
 odd_step a n k h = grind (arith, nat_tests)
 
+-- among the n numbers from a on, the odd ones are the half of a + n without the half of a, rounded down
 odd_from : (a n : ℕ) → count_by (is_soft Mixed) (range_with_len a n) + a / 2 ≡ (a + n) / 2
 odd_from a zero = omega arith
 odd_from a (suc n) = rw (count_cons (is_soft Mixed) a (range_with_len (a + 1) n)) (odd_step a n _ (odd_from (a + 1) n))
 
+-- with hard kinds the count of soft blocks is 0
 pub soft_of_hard : (n : ℕ) → 0 ≡ soft_count Hard n
 soft_of_hard n = sym (none_from 0 n)
 
+-- with mixed kinds the count of soft blocks is the half of n, rounded down
 pub soft_of_mixed : (n : ℕ) → n / 2 ≡ soft_count Mixed n
 soft_of_mixed n = omega (arith, odd_from 0 n)
 
+-- those that pass and those that do not are together one more with one more element
 both_step : (b : Bool) (k l n : ℕ) → k + l ≡ n → (cond b 1 0 + k) + (cond (not b) 1 0 + l) ≡ suc n
 both_step true k l n h = omega arith
 both_step false k l n h = omega arith
 
+-- of n numbers those that pass a test and those that do not are together n
 both_from : (p : ℕ → Bool) (a n : ℕ) → count_by p (range_with_len a n) + count_by (λ i. not (p i)) (range_with_len a n) ≡ n
 both_from p a zero = refl
 both_from p a (suc n) = rw (count_cons p a (range_with_len (a + 1) n), count_cons (λ i. not (p i)) a (range_with_len (a + 1) n)) (both_step (p a) _ _ n (both_from p (a + 1) n))
@@ -45,26 +53,33 @@ all_blocks kinds n = both_from (is_soft kinds) 0 n
 
 -- ---- pins
 
+-- there are as many results as elements
 pub length-indexed : {X Y : Type 0} (f : ℕ → X → Y) (i : ℕ) (xs : List X) → length (indexed f i xs) ≡ length xs
 length-indexed f i [] = refl
 length-indexed f i (x ∷ xs) = ap suc (length-indexed f (i + 1) xs)
 
+-- a list that has an element only under a condition has length 1 or 0
 one_or_none : {X : Type 0} (b : Bool) (x : X) → length (cond b (x ∷ []) []) ≡ cond b 1 0
 one_or_none true x = refl
 one_or_none false x = refl
 
+-- a net has one pad where its number is a multiple of 3, and else none
 pad_count : (j : ℕ) → length (pad_pins j) ≡ cond (j % 3 == 0) 1 0
 pad_count j = one_or_none (j % 3 == 0) (pad_name (j % 4))
 
+-- the count of pins, as a sum of twice the nets and of thirds, holds with one more net
 third_step : (j n k : ℕ) → k + (j + 1 + 2) / 3 ≡ 2 * n + (j + 1 + n + 2) / 3 → (suc (suc (cond (j % 3 == 0) 1 0)) + k) + (j + 2) / 3 ≡ 2 * suc n + (j + suc n + 2) / 3
 third_step j n k h = grind (arith, nat_tests)
 
+-- the nets from number j on have two pins each, and one more for each multiple of 3 among their numbers
 pins_from : (j : ℕ) (ends : List Ends) → sum_by length (indexed pins_of j ends) + (j + 2) / 3 ≡ 2 * length ends + (j + length ends + 2) / 3
 pins_from j [] = omega arith
 pins_from j (e ∷ ends) = rw (sum_by-cons length (pins_of j e) (indexed pins_of (j + 1) ends), pad_count j) (third_step j (length ends) _ (pins_from (j + 1) ends))
 
+-- at most 320 blocks have at most 640 nets
 pub few_nets : (n : ℕ) → n ≤ 320 → net_count n ≤ 640
 few_nets n h = grind (arith, nat_tests)
 
+-- the nets have together two pins each, and one more for a third of them, rounded up
 pub all_pins : (ends : List Ends) → 2 * length ends + div_ceil (length ends) 3 ≡ sum_by length (nets_pins ends)
 all_pins ends = omega (arith, pins_from 0 ends)

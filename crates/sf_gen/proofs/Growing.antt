@@ -6,12 +6,14 @@ use Rattle.std.proofs.lemmas.List.{take_more, flat_map_more, length-take}
 use Rattle.std.proofs.lemmas.List.FromFn.{map-range_with_len_more}
 use Rattle.sf_gen.specs.Texts.{indexed}
 
+-- the results of two lists together are those of the first, and those of the second with indices that go on
 indexed-append : {X Y : Type 0} (f : ℕ → X → Y) (i : ℕ) (xs ys : List X) → indexed f i (xs ++ ys) ≡ indexed f i xs ++ indexed f (i + length xs) ys
 indexed-append f i [] ys = let e : i + 0 ≡ i = omega arith in rw e refl
 indexed-append f i (x ∷ xs) ys =
     let e : i + 1 + length xs ≡ i + suc (length xs) = omega arith in
     ap (λ l. f i x ∷ l) (indexed-append f (i + 1) xs ys ∙ ap (λ k. indexed f (i + 1) xs ++ indexed f k ys) e)
 
+-- the results of one more element are those so far, and that of the element
 indexed_more : {X Y : Type 0} (f : ℕ → X → Y) (xs : List X) (i : ℕ) (d : X) → i < length xs → indexed f 0 (take (i + 1) xs) ≡ indexed f 0 (take i xs) ++ f i (get_or xs i d) ∷ []
 indexed_more f xs i d h =
     let e : 0 + length (take i xs) ≡ i = omega (arith, length-take i xs) in
@@ -32,12 +34,15 @@ lines_more g f xs i d old before new h was is =
     ∙ flat_map_more g old (indexed f 0 (take i xs)) (f i (get_or xs i d))
     ∙ ap (λ v. old ++ flat_map g v) (sym (indexed_more f xs i d h))
 
+-- a text that began empty and took two parts is these two parts
 pub two_parts : (old a b first new : List ℕ) → old ≡ [] → first ≡ old ++ a → new ≡ first ++ b → new ≡ a ++ b
 two_parts old a b first new o f n = n ∙ ap (λ v. v ++ b) (f ∙ ap (λ v. v ++ a) o)
 
+-- a text that began empty and took three parts is these three parts
 pub three_parts : (old a b c first second new : List ℕ) → old ≡ [] → first ≡ old ++ a → second ≡ first ++ b → new ≡ second ++ c → new ≡ a ++ (b ++ c)
 three_parts old a b c first second new o f s n = n ∙ ap (λ v. v ++ c) (two_parts old a b first second o f s) ∙ append_assoc a b c
 
+-- what follows a text also follows it with more in front
 before_more : (x t rest u : List ℕ) → t ++ rest ≡ u → (x ++ t) ++ rest ≡ x ++ u
 before_more x t rest u h = append_assoc x t rest ∙ ap (λ v. x ++ v) h
 

@@ -30,33 +30,40 @@ pub data IsName : List ℕ → Type 0 where
   of_block : (i : ℕ) → i < 2 ^ 64 → IsName (98 ∷ decimal i)
   of_pad : (p : ℕ) → p < 2 ^ 64 → IsName (112 ∷ decimal p)
 
+-- the first word of a pin's line is the name
 pin_first : (name : List ℕ) → IsName name → first_word Blanks (name ++ 32 ∷ 66 ∷ []) ≡ name
 pin_first _ (of_block i h) = first_written Blanks 98 (decimal i) (decimal_no_gap i h Blanks) (66 ∷ []) 32 refl
 pin_first _ (of_pad p h) = first_written Blanks 112 (decimal p) (decimal_no_gap p h Blanks) (66 ∷ []) 32 refl
 
+-- the line of a pin begins with no keyword of nets
 no_keyword : (name : List ℕ) → IsName name → net_word_by (name ++ 32 ∷ 66 ∷ []) ≡ None
 unfolding net_word_of
 no_keyword _ (of_block i h) = rw (pin_first (98 ∷ decimal i) (of_block i h), before_none is_colon (98 ∷ decimal i) (decimal_no_colon i h)) refl
 no_keyword _ (of_pad p h) = rw (pin_first (112 ∷ decimal p) (of_pad p h), before_none is_colon (112 ∷ decimal p) (decimal_no_colon p h)) refl
 
+-- the line of a pin has content
 pin_filled : (name : List ℕ) → IsName name → is_content_word (first_word Blanks (name ++ 32 ∷ 66 ∷ [])) ≡ true
 pin_filled _ (of_block i h) = rw (pin_first (98 ∷ decimal i) (of_block i h)) refl
 pin_filled _ (of_pad p h) = rw (pin_first (112 ∷ decimal p) (of_pad p h)) refl
 
+-- the line of a pin says the pin of this name
 pin_says : (name : List ℕ) → IsName name → SaysHere (name ++ 32 ∷ 66 ∷ []) (PinIs name)
 pin_says name h n =
     let line : Line = record { number = n; bytes = name ++ 32 ∷ 66 ∷ [] } in
     subst (λ o. SaysNetBy line (PinIs name) o) (sym (no_keyword name h)) (ap PinIs (sym (pin_first name h)))
 
+-- a name put in front of a text goes in front of its first line
 name_no_feed : {t l : List ℕ} {ls : List (List ℕ)} (name : List ℕ) → IsName name → IsLines t (l ∷ ls) → IsLines (name ++ t) ((name ++ l) ∷ ls)
 name_no_feed _ (of_block i h) k = piece (98 ∷ decimal i) (decimal_no_feed i h) k
 name_no_feed _ (of_pad p h) k = piece (112 ∷ decimal p) (decimal_no_feed p h) k
 
+-- what is written of a pin is read as this pin
 pin_read : (name : List ℕ) → IsName name → Reads SaysHere (name ++ 32 ∷ 66 ∷ 10 ∷ []) (PinIs name ∷ [])
 pin_read name h =
     reads_line SaysHere (name ++ 32 ∷ 66 ∷ 10 ∷ []) (name ++ 32 ∷ 66 ∷ []) (PinIs name)
     (name_no_feed name h (piece (32 ∷ 66 ∷ []) refl (ended none))) (pin_filled name h) (pin_says name h)
 
+-- what is written of the pins is read as these pins
 pins_read : (pins : List (List ℕ)) → Each IsName pins → Reads SaysHere (pin_lines pins) (map PinIs pins)
 pins_read [] ok = reads_none SaysHere
 pins_read (name ∷ more) ok =
@@ -67,12 +74,14 @@ pins_read (name ∷ more) ok =
 -- ---- the lines of a net
 
 module _ (d : ℕ) (le : d ≤ 9_000_000_000_000_000) where
+  -- a count word with its number is read as what they say
   count_read : (word : List ℕ) (said : NetSaid) → has_none is_line_feed word ≡ true → is_content_word (first_word Blanks (word ++ (decimal d ++ []))) ≡ true
       → SaysHere (word ++ (decimal d ++ [])) said → Reads SaysHere (word ++ (decimal d ++ codes "\n")) (said ∷ [])
   count_read word said clean filled says =
       reads_line SaysHere (word ++ (decimal d ++ codes "\n")) (word ++ (decimal d ++ [])) said
       (piece word clean (piece (decimal d) (decimal_no_feed d (omega arith)) (ended none))) filled says
 
+  -- a line of a degree says this degree
   degree_says : SaysHere (codes "NetDegree : " ++ (decimal d ++ [])) (DegreeIs d)
   unfolding net_word_of
   degree_says n =
@@ -80,6 +89,7 @@ module _ (d : ℕ) (le : d ≤ 9_000_000_000_000_000) where
       let word : net_word_by line.bytes ≡ Some Degree = refl in
       subst (λ o. SaysNetBy line (DegreeIs d) o) (sym word) (d, number_said (codes "NetDegree") d le, refl)
 
+  -- a line of the count of nets says this count
   nets_say : SaysHere (codes "NumNets : " ++ (decimal d ++ [])) (NetsAre d)
   unfolding net_word_of
   nets_say n =
@@ -87,6 +97,7 @@ module _ (d : ℕ) (le : d ≤ 9_000_000_000_000_000) where
       let word : net_word_by line.bytes ≡ Some Nets = refl in
       subst (λ o. SaysNetBy line (NetsAre d) o) (sym word) (d, number_said (codes "NumNets") d le, refl)
 
+  -- a line of the count of pins says this count
   pins_say : SaysHere (codes "NumPins : " ++ (decimal d ++ [])) (PinsAre d)
   unfolding net_word_of
   pins_say n =
@@ -94,10 +105,12 @@ module _ (d : ℕ) (le : d ≤ 9_000_000_000_000_000) where
       let word : net_word_by line.bytes ≡ Some Pins = refl in
       subst (λ o. SaysNetBy line (PinsAre d) o) (sym word) (d, number_said (codes "NumPins") d le, refl)
 
+-- at most three pins, and each has a name of a block or of a pad
 pub record IsNet (pins : List (List ℕ)) : Type 0 where
   pub names : Each IsName pins
   pub few : length pins ≤ 3
 
+-- what is written of a net is read as its degree and its pins
 net_read : (pins : List (List ℕ)) → IsNet pins → Reads SaysHere (net_lines pins) (standing.net_lines pins)
 net_read pins h =
     let d = length pins in
@@ -110,10 +123,12 @@ net_read pins h =
 
 -- ---- the whole text
 
+-- lines that say pins are all parts of nets
 parts_of_pins : (names : List (List ℕ)) → filter_map net_part (map PinIs names) ≡ map PinIs names
 parts_of_pins [] = refl
 parts_of_pins (name ∷ names) = ap (λ l. PinIs name ∷ l) (parts_of_pins names)
 
+-- the lines of the nets are all parts of nets
 parts_of_nets : (nets : List (List (List ℕ))) → filter_map net_part (flat_map standing.net_lines nets) ≡ flat_map standing.net_lines nets
 parts_of_nets [] = refl
 parts_of_nets (pins ∷ nets) =
@@ -121,10 +136,12 @@ parts_of_nets (pins ∷ nets) =
     ∙ ap (λ l. (DegreeIs (length pins) ∷ l) ++ filter_map net_part (flat_map standing.net_lines nets)) (parts_of_pins pins)
     ∙ ap (λ l. standing.net_lines pins ++ l) (parts_of_nets nets)
 
+-- lines that say pins say no count of nets
 no_count_of_pins : (names : List (List ℕ)) → filter_map nets_count (map PinIs names) ≡ []
 no_count_of_pins [] = refl
 no_count_of_pins (name ∷ names) = no_count_of_pins names
 
+-- the lines of the nets say no count of nets
 no_count_of_nets : (nets : List (List (List ℕ))) → filter_map nets_count (flat_map standing.net_lines nets) ≡ []
 no_count_of_nets [] = refl
 no_count_of_nets (pins ∷ nets) =
@@ -133,14 +150,17 @@ no_count_of_nets (pins ∷ nets) =
     ∙ no_count_of_nets nets
 
 module _ (nets : List (List (List ℕ))) (fine : Each IsNet nets) (few : length nets ≤ 1_000_000) (small : sum_by length nets ≤ 9_000_000_000_000_000) where
+  -- what the lines behind the title say: both counts, and then the nets
   said_of : List NetSaid
   said_of = NetsAre (length nets) ∷ PinsAre (sum_by length nets) ∷ flat_map standing.net_lines nets
 
+  -- the text behind the title, line by line
   behind_title : List ℕ
   behind_title =
       (codes "NumNets : " ++ (decimal (length nets) ++ codes "\n"))
       ++ ((codes "NumPins : " ++ (decimal (sum_by length nets) ++ codes "\n")) ++ flat_map net_lines nets)
 
+  -- the title and what stands behind it are the text of the nets
   shape : codes "UCLA nets 1.0\n" ++ behind_title ≡ nets_head nets ++ flat_map net_lines nets
   unfolding behind_title
   shape =
@@ -149,6 +169,7 @@ module _ (nets : List (List (List ℕ))) (fine : Each IsNet nets) (few : length 
       ap (λ v. codes "UCLA nets 1.0\nNumNets : " ++ v)
       (append_assoc (decimal (length nets)) (codes "\n") (pins ++ more) ∙ sym (append_assoc (decimal (length nets)) (10 ∷ pins) more))
 
+  -- the text behind the title is read as the counts and the nets
   all_read : Reads SaysHere behind_title said_of
   unfolding behind_title said_of
   all_read =
@@ -161,6 +182,7 @@ module _ (nets : List (List (List ℕ))) (fine : Each IsNet nets) (few : length 
       (reads_both SaysHere pins_line (flat_map net_lines nets) (PinsAre (sum_by length nets) ∷ []) (flat_map standing.net_lines nets)
       (count_read (sum_by length nets) small (codes "NumPins : ") (PinsAre (sum_by length nets)) refl refl (pins_say (sum_by length nets) small)) more)
 
+  -- the text of the nets stands for these nets
   pub nets_stand : NetsStandFor (nets_head nets ++ flat_map net_lines nets) (record { nets = map standing.net_of nets })
   unfolding said_of is_title
   nets_stand =

@@ -17,6 +17,7 @@ use Rattle.sf_gen.specs.Texts.{square, pl_text}
 use Rattle.sf_gen.proofs.TextLines.{IsLines, none, ended, piece, content_is, each_numbered}
 use Rattle.sf_gen.proofs.TextWords.{decimal_no_feed, number_first, number_after, number_last, number_ends, number_filled, signed_written}
 
+-- a name with two words that are coordinates is placed there
 point_is : (name x y : List ℕ) (a b : ℕ) → place_in_word 1 x ≡ Ok (pos a) → place_in_word 1 y ≡ Ok (pos b) → point_said 1 name x y ≡ Ok (placed name a b)
 unfolding point_said
 point_is name x y a b e f = rw (e, f) refl
@@ -41,31 +42,37 @@ said_as line name x y one two three p e1 e2 e3 e4 e5 e6 e7 some says =
     ∙ ap (coordinates_said 1 name x y) e7
     ∙ rw some says
 
+-- the word 0 is the coordinate 0
 zero_place : place_in_word 1 (codes "0") ≡ Ok (pos 0)
 unfolding signed_read decimal_read
 zero_place = refl
 
 module _ (q : ℕ) (low : q ≤ 1_000_000) where
+  -- a small number that was written is the coordinate that it says
   number_place : place_in_word 1 (decimal q) ≡ Ok (pos q)
   number_place = rw (signed_written q 9_000_000_000_000_000 (omega arith) (omega arith)) refl
 
+  -- the line of the first pad places it at (0, 0)
   origin : place_said 1 (codes "p0 0 0") ≡ Ok (placed (codes "p0") 0 0)
   origin =
       said_as (codes "p0 0 0") (codes "p0") (codes "0") (codes "0") (codes " 0 0") (codes " 0") [] (placed (codes "p0") 0 0)
       refl refl refl refl refl refl refl refl (point_is (codes "p0") (codes "0") (codes "0") 0 0 zero_place zero_place)
 
+  -- the line of the second pad places it at (q, 0)
   right : place_said 1 (codes "p1 " ++ (decimal q ++ codes " 0")) ≡ Ok (placed (codes "p1") q 0)
   right =
       said_as (codes "p1 " ++ (decimal q ++ codes " 0")) (codes "p1") (decimal q) (codes "0") (32 ∷ (decimal q ++ codes " 0")) (codes " 0") [] (placed (codes "p1") q 0)
       refl refl (number_first q (omega arith) (codes "0")) (number_after q (omega arith) (codes "0")) refl refl refl refl
       (point_is (codes "p1") (decimal q) (codes "0") q 0 number_place zero_place)
 
+  -- the line of the third pad places it at (0, q)
   above : place_said 1 (codes "p2 0 " ++ (decimal q ++ [])) ≡ Ok (placed (codes "p2") 0 q)
   above =
       said_as (codes "p2 0 " ++ (decimal q ++ [])) (codes "p2") (codes "0") (decimal q) (codes " 0 " ++ (decimal q ++ [])) (32 ∷ (decimal q ++ [])) [] (placed (codes "p2") 0 q)
       refl refl refl refl (number_last q (omega arith)) (number_ends q (omega arith)) refl (number_filled q (omega arith))
       (point_is (codes "p2") (codes "0") (decimal q) 0 q zero_place number_place)
 
+  -- the line of the fourth pad places it at (q, q)
   across : place_said 1 (codes "p3 " ++ (decimal q ++ (codes " " ++ (decimal q ++ [])))) ≡ Ok (placed (codes "p3") q q)
   across =
       let last : List ℕ = decimal q ++ [] in
@@ -73,6 +80,7 @@ module _ (q : ℕ) (low : q ≤ 1_000_000) where
       refl refl (number_first q (omega arith) last) (number_after q (omega arith) last) (number_last q (omega arith)) (number_ends q (omega arith)) refl (number_filled q (omega arith))
       (point_is (codes "p3") (decimal q) (decimal q) q q number_place number_place)
 
+-- the text of the places stands for the four pads at their places
 pub places_stand : (n : ℕ) → n ≤ 320 → PlacesStandFor 1 (pl_text n) (places_out n)
 unfolding pl_text is_title
 places_stand n high =

@@ -19,21 +19,26 @@ Each P (x ∷ xs) = P x × Each P xs
 pub record IsLines (t : List ℕ) (ls : List (List ℕ)) : Type 0 where
   pub before : (rest : List ℕ) → lines (t ++ rest) ≡ ls ++ lines rest
 
+-- the empty text has no lines
 pub none : IsLines [] []
 none = record { before = λ rest. refl }
 
+-- a line feed in front of a text makes an empty line in front
 pub ended : {t : List ℕ} {ls : List (List ℕ)} → IsLines t ls → IsLines (10 ∷ t) ([] ∷ ls)
 ended h = record { before = λ rest. ap (λ l. [] ∷ l) (h.before rest) }
 
+-- what is not, is false
 not_true : (b : Bool) → not b ≡ true → b ≡ false
 not_true true e = absurd cc
 not_true false e = refl
 
+-- where no byte passes the test, the first one does not, and none of the others does
 pub first_fails : (test : ℕ → Bool) (b : ℕ) (bytes : List ℕ) → has_none test (b ∷ bytes) ≡ true → (test b ≡ false) × (has_none test bytes ≡ true)
 first_fails test b bytes h =
     let both = and_true (not (test b)) (has_none test bytes) h in
     (not_true (test b) both.0, both.1)
 
+-- bytes without a line feed in front of a text go in front of its first line, whatever follows
 piece_before : (ds t l rest : List ℕ) (ls : List (List ℕ)) → has_none is_line_feed ds ≡ true → lines (t ++ rest) ≡ (l ∷ ls) ++ lines rest → lines ((ds ++ t) ++ rest) ≡ ((ds ++ l) ∷ ls) ++ lines rest
 piece_before [] t l rest ls n h = h
 piece_before (d ∷ ds) t l rest ls n h =
@@ -44,11 +49,13 @@ piece_before (d ∷ ds) t l rest ls n h =
 pub piece : (ds : List ℕ) {t l : List ℕ} {ls : List (List ℕ)} → has_none is_line_feed ds ≡ true → IsLines t (l ∷ ls) → IsLines (ds ++ t) ((ds ++ l) ∷ ls)
 piece ds {t} {l} {ls} n h = record { before = λ rest. piece_before ds t l rest ls n (h.before rest) }
 
+-- the lines of two texts together are those of the first and then those of the second
 pub both : (t u : List ℕ) (ls ms : List (List ℕ)) → IsLines t ls → IsLines u ms → IsLines (t ++ u) (ls ++ ms)
 both t u ls ms h k = record {
   before = λ rest. ap lines (append_assoc t u rest) ∙ h.before (u ++ rest) ∙ ap (λ v. ls ++ v) (k.before rest) ∙ sym (append_assoc ls ms (lines rest));
 }
 
+-- the lines of the whole text are these
 pub whole : (t : List ℕ) (ls : List (List ℕ)) → IsLines t ls → lines t ≡ ls
 whole t ls h = ap lines (sym (append-nil t)) ∙ h.before [] ∙ append-nil ls
 
@@ -62,22 +69,27 @@ pub record Reads {S : Type 0} (Says : List ℕ → S → Type 0) (t : List ℕ) 
   pub each : AllZip Says bytes said
 
 module _ {S : Type 0} (Says : List ℕ → S → Type 0) where
+  -- the empty text is read as nothing
   pub reads_none : Reads Says [] []
   reads_none = record { bytes = []; are = none; filled = tt; each = tt }
 
+  -- a text of one line with content is read as what this says
   pub reads_line : (t b : List ℕ) (s : S) → IsLines t (b ∷ []) → is_content_word (first_word Blanks b) ≡ true → Says b s → Reads Says t (s ∷ [])
   reads_line t b s l f h = record { bytes = b ∷ []; are = l; filled = (f, tt); each = (h, tt) }
 
+  -- what holds of each line of two lists holds of each of both together
   all_both : (P : List ℕ → Type 0) (xs ys : List (List ℕ)) → Each P xs → Each P ys → Each P (xs ++ ys)
   all_both P [] ys h k = k
   all_both P (x ∷ xs) ys h k = (h.0, all_both P xs ys h.1 k)
 
+  -- lines that say their parts, and others that say theirs, say both together
   each_both : (xs ys : List (List ℕ)) (ss rs : List S) → AllZip Says xs ss → AllZip Says ys rs → AllZip Says (xs ++ ys) (ss ++ rs)
   each_both [] ys [] rs h k = k
   each_both [] ys (s ∷ ss) rs h k = absurd h
   each_both (x ∷ xs) ys [] rs h k = absurd h
   each_both (x ∷ xs) ys (s ∷ ss) rs h k = (h.0, each_both xs ys ss rs h.1 k)
 
+  -- two texts together are read as what the first says and then what the second says
   pub reads_both : (t u : List ℕ) (ss rs : List S) → Reads Says t ss → Reads Says u rs → Reads Says (t ++ u) (ss ++ rs)
   reads_both t u ss rs h k = record {
     bytes = h.bytes ++ k.bytes;
@@ -86,6 +98,7 @@ module _ {S : Type 0} (Says : List ℕ → S → Type 0) where
     each = each_both h.bytes k.bytes ss rs h.each k.each;
   }
 
+  -- where the text of each element is read as its part, all of them together are read as all parts
   pub reads_each : {X : Type 0} (Fine : X → Type 0) (f : X → List ℕ) (g : X → List S) → ((x : X) → Fine x → Reads Says (f x) (g x)) → (xs : List X) → Each Fine xs → Reads Says (flat_map f xs) (flat_map g xs)
   reads_each Fine f g h [] ok = reads_none
   reads_each Fine f g h (x ∷ xs) ok = reads_both (f x) (flat_map f xs) (g x) (flat_map g xs) (h x ok.0) (reads_each Fine f g h xs ok.1)
@@ -100,6 +113,7 @@ pub content_is : (t title : List ℕ) (bs : List (List ℕ)) → IsLines t (titl
     → content_of t ≡ record { number = 1; bytes = title } ∷ numbered 2 bs
 content_is t title bs are f h = ap (λ (ls : List (List ℕ)). content (numbered 1 ls)) (whole t (title ∷ bs) are) ∙ all_content 1 (title ∷ bs) (f, h)
 
+-- where each line says its part whatever its number, the numbered lines say their parts
 pub each_numbered : {S : Type 0} (Says : Line → S → Type 0) (n : ℕ) (bs : List (List ℕ)) (said : List S)
     → AllZip (λ (b : List ℕ) s. (k : ℕ) → Says (record { number = k; bytes = b }) s) bs said → AllZip Says (numbered n bs) said
 each_numbered Says n [] [] h = h

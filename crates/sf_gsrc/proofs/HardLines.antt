@@ -8,9 +8,11 @@ use Rattle.sf_lex.specs.declared.vertices.BoxSize.{BoxSize}
 use Rattle.sf_lex.specs.declared.vertices.VertexFault.{VertexFault}
 use Rattle.sf_gsrc.specs.Line.{count_in_word, vertex_fault, box_said, hard_said}
 
+-- a number other than 0 does not equal it
 not_zero : (n : ℕ) → n ≢ 0 → (n == 0) ≡ false
 not_zero n h = grind (arith, nat_tests)
 
+-- a number that is at most another is not above it
 not_fewer : (m n : ℕ) → n ≤ m → nat_lt m n ≡ false
 not_fewer m n h = grind (arith, nat_tests)
 

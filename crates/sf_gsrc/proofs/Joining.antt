@@ -15,6 +15,7 @@ names-pads_at : (places : List Place) (pads : List (List ℕ)) → map (λ p. p.
 names-pads_at places [] = refl
 names-pads_at places (name ∷ pads) = ap (λ (ns : List (List ℕ)). name ∷ ns) (names-pads_at places pads)
 
+-- pads and strangers as they were found are the parts, whether a name is placed twice or not
 joined_by : (out : GsrcBlocks) (nets : List RawNet) (places : List Place) (pads : List RawPad) (strangers : List (List ℕ)) (twice : Option (List ℕ)) → pads_once twice (pads_at places out.pads) ≡ Ok pads
     → strangers ≡ strangers_of out.blocks (map (λ p. p.name) pads) places
     → placed_once twice (placed_parts out nets places) ≡ Ok (record { blocks = out.blocks; pads = pads; nets = nets; strangers = strangers; pads_in = true })
@@ -24,6 +25,7 @@ joined_by out nets places pads strangers None placed others =
     let names : map (λ p. p.name) pads ≡ out.pads = ap (λ (ps : List RawPad). map (λ p. p.name) ps) (sym same) ∙ names-pads_at places out.pads in
     rw (others, names, ← same) refl
 
+-- pads and strangers as they were found are the parts
 pub joined_once : (out : GsrcBlocks) (nets : List RawNet) (places : List Place) (pads : List RawPad) (strangers : List (List ℕ)) → pads_once (first_twice (names_of places)) (pads_at places out.pads) ≡ Ok pads
     → strangers ≡ strangers_of out.blocks (map (λ p. p.name) pads) places
     → placed_once (first_twice (names_of places)) (placed_parts out nets places) ≡ Ok (record { blocks = out.blocks; pads = pads; nets = nets; strangers = strangers; pads_in = true })

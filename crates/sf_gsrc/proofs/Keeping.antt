@@ -20,26 +20,32 @@ use Rattle.sf_gsrc.specs.Blocks.{Entry, CountIs, ItemIs, or_else, count_at, coun
 use Rattle.sf_gsrc.proofs.Results.{none_of}
 use Rattle.sf_gsrc.specs.Found.{IsFound, count_kept, with_count}
 
+-- the first that is there of three, however they are grouped
 or_else_assoc : {X : Type 0} (a b c : Option X) → or_else a (or_else b c) ≡ or_else (or_else a b) c
 or_else_assoc None b c = refl
 or_else_assoc (Some x) b c = refl
 
+-- nothing behind it changes what is there
 or_else-None : {X : Type 0} (a : Option X) → or_else a None ≡ a
 or_else-None None = refl
 or_else-None (Some x) = refl
 
+-- of entries and one more, the count is that of the entries, or else that of the last one
 count_in-push : (which : Counted) (es : List Entry) (e : Entry) → count_in which (es ++ e ∷ []) ≡ or_else (count_in which es) (count_at which e.number e.said)
 count_in-push which [] e = or_else-None (count_at which e.number e.said)
 count_in-push which (d ∷ es) e = ap (or_else (count_at which d.number d.said)) (count_in-push which es e) ∙ or_else_assoc (count_at which d.number d.said) (count_in which es) (count_at which e.number e.said)
 
+-- what may stand in front stays in front when a list is put behind
 cons_option-append : {X : Type 0} (o : Option X) (xs ys : List X) → cons_option o (xs ++ ys) ≡ cons_option o xs ++ ys
 cons_option-append None xs ys = refl
 cons_option-append (Some x) xs ys = refl
 
+-- what one more element is kept as goes behind what is kept of the others
 filter_map-push : {X Y : Type 0} (h : X → Option Y) (xs : List X) (x : X) → filter_map h (xs ++ x ∷ []) ≡ filter_map h xs ++ cons_option (h x) []
 filter_map-push h [] x = refl
 filter_map-push h (y ∷ xs) x = ap (cons_option (h y)) (filter_map-push h xs x) ∙ cons_option-append (h y) (filter_map h xs) (cons_option (h x) [])
 
+-- what is kept of a count is what the entries say
 pub count_is_kept : (which : Counted) (found : Found) (es : List Entry) → IsFound found es → count_kept found which ≡ count_in which es
 count_is_kept counts.Soft found es is = is.soft
 count_is_kept counts.Hard found es is = is.hard
@@ -91,6 +97,7 @@ pub takes_count : (which : Counted) (found : Found) (es : List Entry) (line : Li
 unfolding count_after
 takes_count which found es line said is new read = rw (← count_is_kept which found es is, new, ← read) refl
 
+-- a count line whose number has a fault is refused at its line
 pub fails_count : (which : Counted) (found : Found) (es : List Entry) (line : Line) (fault : LineFault) → IsFound found es → is_some (count_kept found which) ≡ false
     → Err fault ≡ count_said (words (is_gap Colons) line.bytes) → count_after which es line ≡ Err (fault_at line.number fault)
 unfolding count_after
@@ -102,6 +109,7 @@ Fails-at n BadLine read e = e
 Fails-at n (BadNumber number) read e = e
 Fails-at n ZeroSide read e = e
 
+-- a block that is put behind the others is kept
 pub keeps_block : (found new : Found) (es : List Entry) (n : ℕ) (block : RawBlock) → IsFound found es
     → new.soft ≡ found.soft → new.hard ≡ found.hard → new.terminals ≡ found.terminals → new.blocks.items ≡ found.blocks.items ++ block ∷ [] → new.pads.items ≡ found.pads.items
     → IsFound new (es ++ record { number = n; said = ItemIs (BlockIs block) } ∷ [])
@@ -115,6 +123,7 @@ keeps_block found new es n block is s h t b p =
       pads = p ∙ is.pads ∙ sym (filter_map-push (λ (e : Entry). pad_at e.said) es e ∙ append-nil (pads_in es));
     }
 
+-- a pad that is put behind the others is kept
 pub keeps_pad : (found new : Found) (es : List Entry) (n : ℕ) (name : List ℕ) → IsFound found es
     → new.soft ≡ found.soft → new.hard ≡ found.hard → new.terminals ≡ found.terminals → new.blocks.items ≡ found.blocks.items → new.pads.items ≡ found.pads.items ++ name ∷ []
     → IsFound new (es ++ record { number = n; said = ItemIs (PadIs name) } ∷ [])

@@ -17,6 +17,7 @@ use Rattle.sf_gsrc.specs.ByName.{first_again, PlacesByName, IsNameSet}
 
 -- ---- places, from the last to the first
 
+-- the places from an index on begin with the one there
 cut : (places : List Place) (i : ℕ) (p : Place) → i < length places → p ≡ get_or places i p → drop i places ≡ p ∷ drop (i + 1) places
 cut places i p lt is = drop-cons places i p lt ∙ ap (λ (q : Place). q ∷ drop (suc i) places) (sym is) ∙ ap (λ (n : ℕ). p ∷ drop n places) (sym (add-one i))
 
@@ -26,6 +27,7 @@ pub placed_before : (places : List Place) (i j : ℕ) (p : Place) (key : List �
 placed_before places i j p key at m n lt next is named there updates known name =
     rw (cut places i p lt is) (updates name ∙ rw (known name, next, named, there) refl)
 
+-- with one more place in front, a name has a place exactly where it is one of the names
 has_place_step : (p : Place) (places : List Place) (name : List ℕ) (b : Bool) → bytes_eq p.name name ≡ b → is_some (place_of places name) ≡ has_name (names_of places) name → is_some (place_of (p ∷ places) name) ≡ has_name (names_of (p ∷ places)) name
 has_place_step p places name true e h = rw e refl
 has_place_step p places name false e h = rw e h
@@ -51,6 +53,7 @@ twice_later places i j p later twice lt next is found none before =
 
 -- ---- sets of names
 
+-- one of two choices is there where the first is taken or the second is there
 or_is : {X : Type 0} (a : Bool) (x : X) (o : Option X) → is_some (cond a (Some x) o) ≡ (is_some o || a)
 or_is true x (Some y) = refl
 or_is true x None = refl
@@ -67,19 +70,23 @@ pub one_name_more : (m n : List (List ℕ × Unit {0})) (key : List ℕ) (has : 
 one_name_more m n key has updates known name =
     ap is_some (updates name) ∙ or_is (bytes_eq key name) tt (value_in m name) ∙ ap (λ b. b || bytes_eq key name) (known name)
 
+-- a name is one of those of a list where some element has it
 has_name-map : {X : Type 0} (f : X → List ℕ) (xs : List X) (name : List ℕ) → has_name (map f xs) name ≡ list_any (λ x. bytes_eq (f x) name) xs
 has_name-map f [] name = refl
 has_name-map f (x ∷ xs) name = ap (λ (b : Bool). bytes_eq (f x) name || b) (has_name-map f xs name)
 
+-- a name is one of those of one element more where it was one before or is the new one
 pub has_name-more : {X : Type 0} (f : X → List ℕ) (xs : List X) (i : ℕ) (x : X) (key name : List ℕ) → i < length xs → x ≡ get_or xs i x → key ≡ f x
     → has_name (map f (take (i + 1) xs)) name ≡ (has_name (map f (take i xs)) name || bytes_eq key name)
 has_name-more f xs i x key name lt is named =
     has_name-map f (take (i + 1) xs) name ∙ list_any_more (λ y. bytes_eq (f y) name) xs i x lt ∙ rw (← is, ← named, has_name-map f (take i xs) name) refl
 
+-- the disjunction of three, however they are grouped
 or-assoc : (a b c : Bool) → ((a || b) || c) ≡ (a || (b || c))
 or-assoc true b c = refl
 or-assoc false b c = refl
 
+-- the same, where the last two are known together
 pub or_more : (a b c d : Bool) → d ≡ (b || c) → ((a || b) || c) ≡ (a || d)
 or_more a b c d e = or-assoc a b c ∙ ap (λ (x : Bool). a || x) (sym e)
 
@@ -93,6 +100,7 @@ one_pad_more places pads name place old new before more is =
 
 -- ---- strangers
 
+-- of one place more, the strangers are those so far, and the name that is placed where it is not known
 strangers-push : (blocks : List RawBlock) (pads : List (List ℕ)) (places : List Place) (p : Place)
     → strangers_of blocks pads (places ++ p ∷ []) ≡ strangers_of blocks pads places ++ filter (λ name. not (is_known blocks pads name)) (p.name ∷ [])
 strangers-push blocks pads places p =

@@ -52,23 +52,28 @@ pub record Follows (past final : List NetEntry) (said : List NetSaid) (more : Li
   pub counts : counts_of (nets_said final) ≡ counts_of (nets_said past) ++ filter_map nets_count said
   pub full : IsFull (degree_said final) (length (last_pins final))
 
+-- with no more pins the nets are those of the lines so far
 nets_with-nil : (past : List NetEntry) → nets_with past [] ≡ nets_of past
 nets_with-nil past = ap (with_last (earlier_nets past) (degree_said past)) (append-nil (last_pins past))
 
 -- ---- the steps: a line of each form, before lines that follow it
 
+-- a count of nets that is said first stands before those that are said later
 counts_before : (n : ℕ) (past final : List NetEntry) (said : List NetSaid) → nets_said past ≡ None → counts_of (nets_said final) ≡ n ∷ filter_map nets_count said
     → counts_of (nets_said final) ≡ counts_of (nets_said past) ++ (n ∷ filter_map nets_count said)
 counts_before n past final said none e = rw none e
 
+-- a line with the number of nets, before lines that follow it
 nets_step : (k n : ℕ) (past final : List NetEntry) (said : List NetSaid) (more : List (List ℕ)) (names : List (List (List ℕ))) → nets_said past ≡ None
     → Follows (record { number = k; said = NetsAre n } ∷ past) final said more names → Follows past final (NetsAre n ∷ said) more names
 nets_step k n past final said more names none f = record { parts = f.parts; wants = f.wants; nets = f.nets; counts = counts_before n past final said none f.counts; full = f.full }
 
+-- a line with the number of pins, before lines that follow it
 pins_step' : (k n : ℕ) (past final : List NetEntry) (said : List NetSaid) (more : List (List ℕ)) (names : List (List (List ℕ)))
     → Follows (record { number = k; said = PinsAre n } ∷ past) final said more names → Follows past final (PinsAre n ∷ said) more names
 pins_step' k n past final said more names f = record { parts = f.parts; wants = f.wants; nets = f.nets; counts = f.counts; full = f.full }
 
+-- a full net wants no more pins
 full_wants : (o : Option Count) (found : ℕ) → IsFull o found → Wants o found []
 full_wants None found h = refl
 full_wants (Some d) found h = omega (arith, h)
@@ -86,13 +91,16 @@ degree_step' k d past final said more names full f =
       full = f.full;
     }
 
+-- a pin that is put behind the others comes before those that follow
 some_with : (nets : List RawNet) (o : Option Count) (pins : List RawPin) (name : List ℕ) (more : List (List ℕ)) → with_last nets o ((pins ++ Named name ∷ []) ++ map Named more) ≡ with_last nets o (pins ++ (Named name ∷ map Named more))
 some_with nets o pins name more = ap (with_last nets o) (append_assoc pins (Named name ∷ []) (map Named more))
 
+-- a net that wants pins wanted one more before this one
 wants_more : (o : Option Count) (found found' : ℕ) (name : List ℕ) (more : List (List ℕ)) → is_some o ≡ true → found' ≡ found + 1 → Wants o found' more → Wants o found (name ∷ more)
 wants_more None found found' name more some e h = absurd cc
 wants_more (Some d) found found' name more some e h = omega (arith, h, e)
 
+-- a line with a pin, before lines that follow it
 pin_step : (k : ℕ) (name : List ℕ) (past final : List NetEntry) (said : List NetSaid) (more : List (List ℕ)) (names : List (List (List ℕ))) → is_some (degree_said past) ≡ true
     → Follows (record { number = k; said = PinIs name } ∷ past) final said more names → Follows past final (PinIs name ∷ said) (name ∷ more) names
 pin_step k name past final said more names some f = record {
@@ -103,6 +111,7 @@ pin_step k name past final said more names some f = record {
   full = f.full;
 }
 
+-- no lines follow where the last net is full
 none_step : (past : List NetEntry) → IsFull (degree_said past) (length (last_pins past)) → Follows past past [] [] []
 none_step past full = record {
   parts = refl;
@@ -114,6 +123,7 @@ none_step past full = record {
 
 -- ---- from reading to the relation
 
+-- what the lines that were read say, and that it follows from what was read before
 pub record WereRead (past final : List NetEntry) (ls : List Line) : Type 0 where
   pub said : List NetSaid
   pub more : List (List ℕ)
@@ -121,14 +131,17 @@ pub record WereRead (past final : List NetEntry) (ls : List Line) : Type 0 where
   pub each : AllZip SaysNet ls said
   pub follows : Follows past final said more names
 
+-- an entry of a line that was read has the line's number and its value
 entry_ok : (n : ℕ) (says : ℕ → NetSaid) (r : Result ℕ LineFault) (e : NetEntry) → net_entry_at n says r ≡ Ok e → (x : ℕ) × (r ≡ Ok x) × (e ≡ record { number = n; said = says x })
 entry_ok n says (Ok x) e h = (x, refl, sym (ok_is {E = GsrcFault} (record { number = n; said = says x }) e h))
 entry_ok n says (Err f) e h = absurd cc
 
+-- where a degree lets reading go on, the net has so many pins and the rest is what was read
 kept_ok_by : {X : Type 0} (d : Count) (found : ℕ) (next : Result X GsrcFault) (x : X) (b : Bool) → (d.said == found) ≡ b → degree_kept (Some d) found next ≡ Ok x → (d.said ≡ found) × (next ≡ Ok x)
 kept_ok_by d found next x true e h = (eqb-true d.said found e, rw e at h)
 kept_ok_by d found next x false e h = absurd (err_not_ok (faults.BadDegree d.line d.said found) x (rw e at h))
 
+-- where reading goes on behind a net, the net is full and the rest is what was read
 kept_ok : {X : Type 0} (o : Option Count) (found : ℕ) (next : Result X GsrcFault) (x : X) → degree_kept o found next ≡ Ok x → IsFull o found × (next ≡ Ok x)
 kept_ok None found next x h = (tt, h)
 kept_ok (Some d) found next x h = kept_ok_by d found next x (d.said == found) refl h
@@ -148,6 +161,7 @@ nets_line_read past final line ls e false w is h r =
       follows = nets_step line.number k.0 past final f.said f.more f.names (none_of (nets_said past) is) f.follows;
     }
 
+-- a line with a pin that was read, whether a net is open or not
 pin_line_read : (past final : List NetEntry) (line : Line) (ls : List Line) (e : NetEntry) (b : Bool) → net_word_by line.bytes ≡ None → is_some (degree_said past) ≡ b → net_entry_by past line None ≡ Ok e
     → WereRead (e ∷ past) final ls → WereRead past final (line ∷ ls)
 pin_line_read past final line ls e false w is h r = absurd (err_not_ok (faults.BadLine line.number) e (rw is at h))
@@ -162,6 +176,7 @@ pin_line_read past final line ls e true w is h r =
       follows = pin_step line.number (first_word Blanks line.bytes) past final f.said f.more f.names is f.follows;
     }
 
+-- a line that was read, whatever its first word is
 line_read : (past final : List NetEntry) (line : Line) (ls : List Line) (e : NetEntry) (o : Option NetWord) (w : net_word_by line.bytes ≡ o) → net_entry_by past line o ≡ Ok e
     → WereRead (e ∷ past) final ls → WereRead past final (line ∷ ls)
 line_read past final line ls e (Some net_words.Nets) w h r = nets_line_read past final line ls e (is_some (nets_said past)) w refl h r
@@ -188,6 +203,7 @@ line_read past final line ls e (Some net_words.Degree) w h r =
     }
 line_read past final line ls e None w h r = pin_line_read past final line ls e (is_some (degree_said past)) w refl h r
 
+-- the lines that were read, with the last net full
 lines_read : (past final : List NetEntry) (ls : List Line) → net_entries_from past ls ≡ Ok final → IsFull (degree_said final) (length (last_pins final)) → WereRead past final ls
 unfolding net_entries_from
 lines_read past final [] h full =
@@ -198,6 +214,7 @@ lines_read past final (line ∷ ls) h full =
     let k = bind_ok (net_entry_after past line) (λ e. net_entries_from (e ∷ past) ls) final h in
     line_read past final line ls k.0 (net_word_by line.bytes) refl k.1 (lines_read (k.0 ∷ past) final ls k.2 full)
 
+-- a count that let reading go on is the number that was found, and the rest is what was read
 compared_by : {X : Type 0} (count : Count) (found : ℕ) (next : Result X GsrcFault) (x : X) (b : Bool) → (count.said == found) ≡ b → compared count found next ≡ Ok x → (count.said ≡ found) × (next ≡ Ok x)
 compared_by count found next x true e h = (eqb-true count.said found e, rw e at h)
 compared_by count found next x false e h = absurd (err_not_ok (faults.CountDiffers count.line count.said found) x (rw e at h))
@@ -209,6 +226,7 @@ counted_ok last (Some count) nets out h =
     let k = compared_by count (length nets) (Ok (record { nets = nets })) out (count.said == length nets) refl h in
     (ap (λ (n : ℕ). n ∷ []) k.0, ap (λ (o : GsrcNets). o.nets) (ok_is {E = GsrcFault} (record { nets = nets }) out k.1))
 
+-- a text that is read under its title stands for what is read, whether the title is right or not
 titled_by : (text : List ℕ) (title : Line) (others : List Line) (out : GsrcNets) (b : Bool) → content_of text ≡ title ∷ others → is_title (codes "nets") title.bytes ≡ b
     → nets_titled (title ∷ others) ≡ Ok out → NetsStandFor text out
 titled_by text title others out false are e h = absurd (err_not_ok (faults.BadTitle title.number) out (rw e at h))
@@ -230,37 +248,45 @@ titled_by text title others out true are e h =
       count = sym r.follows.counts ∙ counted.0 ∙ ap (λ (ns : List RawNet). length ns ∷ []) counted.1;
     }
 
+-- lines of a text that are read under their title stand for what is read
 titled_ok : (text : List ℕ) (ls : List Line) (out : GsrcNets) → content_of text ≡ ls → nets_titled ls ≡ Ok out → NetsStandFor text out
 titled_ok text [] out are h = absurd (err_not_ok (faults.Truncated 0) out h)
 titled_ok text (title ∷ others) out are h = titled_by text title others out (is_title (codes "nets") title.bytes) are refl h
 
+-- a text stands for the nets that are read from it
 pub stands_from_read : (text : List ℕ) (out : GsrcNets) → nets_read text ≡ Ok out → NetsStandFor text out
 unfolding nets_read
 stands_from_read text out h = titled_ok text (content_of text) out refl h
 
 -- ---- from the relation to reading
 
+-- lines that say this are read, and what they say follows from what was read before
 record WillRead (past : List NetEntry) (ls : List Line) (said : List NetSaid) (more : List (List ℕ)) (names : List (List (List ℕ))) : Type 0 where
   final : List NetEntry
   read : net_entries_from past ls ≡ Ok final
   follows : Follows past final said more names
 
+-- a net that wants no more pins is full
 wants_full : (o : Option Count) (found : ℕ) → Wants o found [] → IsFull o found
 wants_full None found h = tt
 wants_full (Some d) found h = omega (arith, h)
 
+-- behind a full net reading goes on
 full_kept : {X : Type 0} (o : Option Count) (found : ℕ) (next : Result X GsrcFault) → IsFull o found → degree_kept o found next ≡ next
 full_kept None found next h = refl
 full_kept (Some d) found next h = rw (eq-eqb d.said found h) refl
 
+-- only an open net wants a pin
 wants_some : (o : Option Count) (found : ℕ) (name : List ℕ) (more : List (List ℕ)) → Wants o found (name ∷ more) → is_some o ≡ true
 wants_some None found name more h = absurd cc
 wants_some (Some d) found name more h = refl
 
+-- a net that wants a pin wants only the others behind it
 wants_less : (o : Option Count) (found found' : ℕ) (name : List ℕ) (more : List (List ℕ)) → found' ≡ found + 1 → Wants o found (name ∷ more) → Wants o found' more
 wants_less None found found' name more e h = absurd cc
 wants_less (Some d) found found' name more e h = omega (arith, h, e)
 
+-- where a count is said at most once and stands ahead, none was said before
 not_said_yet : (o : Option Count) (n : ℕ) (ns : List ℕ) → length (counts_of o ++ (n ∷ ns)) ≤ 1 → o ≡ None
 not_said_yet None n ns h = refl
 not_said_yet (Some count) n ns h = absurd (omega arith)
@@ -279,6 +305,7 @@ record BeginsWithPin (name : List ℕ) (rest : List NetSaid) (more : List (List 
   more_is : more ≡ name ∷ others
   rest_is : rest ≡ map PinIs others ++ flat_map net_lines names
 
+-- where a pin is said first, it is the next one of the last net
 begins_with_pin : (name : List ℕ) (rest : List NetSaid) (more : List (List ℕ)) (names : List (List (List ℕ))) → (PinIs name ∷ rest) ≡ map PinIs more ++ flat_map net_lines names → BeginsWithPin name rest more names
 begins_with_pin name rest [] [] e = absurd cc
 begins_with_pin name rest [] (m ∷ names) e = absurd cc
@@ -287,6 +314,7 @@ begins_with_pin name rest (m ∷ more) names e =
     let left : rest ≡ map PinIs more ++ flat_map net_lines names = cc in
     record { others = more; more_is = ap (λ (n : List ℕ). n ∷ more) (sym same); rest_is = left }
 
+-- a degree comes first: the last net has no more pins, and the next one has so many
 record BeginsWithDegree (d : ℕ) (rest : List NetSaid) (more : List (List ℕ)) (names : List (List (List ℕ))) : Type 0 where
   first : List (List ℕ)
   others : List (List (List ℕ))
@@ -295,6 +323,7 @@ record BeginsWithDegree (d : ℕ) (rest : List NetSaid) (more : List (List ℕ))
   degree_is : d ≡ length first
   rest_is : rest ≡ map PinIs first ++ flat_map net_lines others
 
+-- where a degree is said first, the last net is done and the next one begins
 begins_with_degree : (d : ℕ) (rest : List NetSaid) (more : List (List ℕ)) (names : List (List (List ℕ))) → (DegreeIs d ∷ rest) ≡ map PinIs more ++ flat_map net_lines names → BeginsWithDegree d rest more names
 begins_with_degree d rest [] [] e = absurd cc
 begins_with_degree d rest [] (m ∷ names) e =
@@ -314,6 +343,7 @@ Reads ls said = (past : List NetEntry) (more : List (List ℕ)) (names : List (L
     → filter_map net_part said ≡ map PinIs more ++ flat_map net_lines names → Wants (degree_said past) (length (last_pins past)) more
     → length (counts_of (nets_said past) ++ filter_map nets_count said) ≤ 1 → WillRead past ls said more names
 
+-- a line with the number of nets is read, and then the others
 nets_line : (line : Line) (ls : List Line) (said : List NetSaid) (n : ℕ) → Reads ls said → net_word_by line.bytes ≡ Some net_words.Nets → number_of_line line ≡ Ok n → Reads (line ∷ ls) (NetsAre n ∷ said)
 nets_line line ls said n later w read past more names parts wants once =
     let none = not_said_yet (nets_said past) n (filter_map nets_count said) once in
@@ -324,6 +354,7 @@ nets_line line ls said n later w read past more names parts wants once =
     let one : net_entry_after past line ≡ Ok e = rw (w, first, read) refl in
     record { final = r.final; read = then_read past r.final line ls e one r.read; follows = nets_step line.number n past r.final said more names none r.follows }
 
+-- a line with the number of pins is read, and then the others
 pins_line : (line : Line) (ls : List Line) (said : List NetSaid) (n : ℕ) → Reads ls said → net_word_by line.bytes ≡ Some net_words.Pins → number_of_line line ≡ Ok n → Reads (line ∷ ls) (PinsAre n ∷ said)
 pins_line line ls said n later w read past more names parts wants once =
     let e : NetEntry = record { number = line.number; said = PinsAre n } in
@@ -331,6 +362,7 @@ pins_line line ls said n later w read past more names parts wants once =
     let one : net_entry_after past line ≡ Ok e = rw (w, read) refl in
     record { final = r.final; read = then_read past r.final line ls e one r.read; follows = pins_step' line.number n past r.final said more names r.follows }
 
+-- a line with a degree is read, and then the others
 degree_line : (line : Line) (ls : List Line) (said : List NetSaid) (n : ℕ) → Reads ls said → net_word_by line.bytes ≡ Some net_words.Degree → number_of_line line ≡ Ok n → Reads (line ∷ ls) (DegreeIs n ∷ said)
 degree_line line ls said n later w read past more names parts wants once =
     let b = begins_with_degree n (filter_map net_part said) more names parts in
@@ -347,6 +379,7 @@ degree_line line ls said n later w read past more names parts wants once =
       follows = subst (λ (m : List (List ℕ)). Follows past r.final (DegreeIs n ∷ said) m names) (sym b.more_is) (subst (λ (ns : List (List (List ℕ))). Follows past r.final (DegreeIs n ∷ said) [] ns) (sym b.names_are) f);
     }
 
+-- a line with a pin is read, and then the others
 pin_line : (line : Line) (ls : List Line) (said : List NetSaid) → Reads ls said → net_word_by line.bytes ≡ None → Reads (line ∷ ls) (PinIs (first_word Blanks line.bytes) ∷ said)
 pin_line line ls said later w past more names parts wants once =
     let name = first_word Blanks line.bytes in
@@ -364,12 +397,14 @@ pin_line line ls said later w past more names parts wants once =
       follows = subst (λ (m : List (List ℕ)). Follows past r.final (PinIs name ∷ said) m names) (sym b.more_is) f;
     }
 
+-- a line is read as what it says, whatever its first word is, and then the others
 said_line : (line : Line) (ls : List Line) (s : NetSaid) (said : List NetSaid) (o : Option NetWord) → Reads ls said → net_word_by line.bytes ≡ o → SaysNetBy line s o → Reads (line ∷ ls) (s ∷ said)
 said_line line ls s said (Some net_words.Nets) later w says = subst (λ (t : NetSaid). Reads (line ∷ ls) (t ∷ said)) (sym says.2) (nets_line line ls said says.0 later w says.1)
 said_line line ls s said (Some net_words.Pins) later w says = subst (λ (t : NetSaid). Reads (line ∷ ls) (t ∷ said)) (sym says.2) (pins_line line ls said says.0 later w says.1)
 said_line line ls s said (Some net_words.Degree) later w says = subst (λ (t : NetSaid). Reads (line ∷ ls) (t ∷ said)) (sym says.2) (degree_line line ls said says.0 later w says.1)
 said_line line ls s said None later w says = subst (λ (t : NetSaid). Reads (line ∷ ls) (t ∷ said)) (sym says) (pin_line line ls said later w)
 
+-- lines that each say something are read as it
 all_said : (ls : List Line) (said : List NetSaid) → AllZip SaysNet ls said → Reads ls said
 all_said [] [] each = λ past more names parts wants once. nothing_more past more names parts wants
 all_said [] (s ∷ said) each = absurd each
@@ -383,6 +418,7 @@ counted last n (Some count) nets out h e same =
     let said : count.said ≡ n = cc in
     rw (eq-eqb count.said (length nets) (said ∙ e)) (λ i. Ok (record { nets = same i }))
 
+-- a text that stands for nets is read as them
 pub read_from_stands : (text : List ℕ) (out : GsrcNets) → NetsStandFor text out → nets_read text ≡ Ok out
 unfolding nets_read
 read_from_stands text out s =
@@ -394,5 +430,6 @@ read_from_stands text out s =
     counted (last_of s.title.number s.others) (length out.nets) (nets_said r.final) (nets_of r.final) out counts (ap length (sym nets)) nets in
     rw (s.lines_are, s.titled, r.read) (full_kept (degree_said r.final) (length (last_pins r.final)) _ r.follows.full ∙ end)
 
+-- a text stands for at most one list of nets
 pub stands_once_only : (text : List ℕ) (a b : GsrcNets) → NetsStandFor text a → NetsStandFor text b → a ≡ b
 stands_once_only text a b p q = ok_is {E = GsrcFault} a b (sym (read_from_stands text a p) ∙ read_from_stands text b q)

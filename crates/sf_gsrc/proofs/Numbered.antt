@@ -20,12 +20,14 @@ use Rattle.sf_gsrc.specs.Join.{by_number, has_numbers, numbered, numbered_net, n
 
 -- ---- one pin
 
+-- a pin by its number stands for the pad that was found of it, if one was
 pad_by : (pads : List RawPad) (b p : Option ℕ) (pin : RawPin) → pad_of pads pin ≡ p → pad_of pads (by_number b p pin) ≡ p
 pad_by pads (Some b) None pin e = refl
 pad_by pads (Some b) (Some p) pin e = e
 pad_by pads None (Some p) pin e = refl
 pad_by pads None None pin e = e
 
+-- a pin by its number stands for the same pad as by its name
 pub same_pad : (blocks : List RawBlock) (pads : List RawPad) (pin : RawPin) → pad_of pads (numbered_pin blocks pads pin) ≡ pad_of pads pin
 same_pad blocks pads pin = pad_by pads (block_of blocks pin) (pad_of pads pin) pin refl
 
@@ -37,6 +39,7 @@ both_by parts n (Some b) (Some p) e f = refl
 both_by parts n None (Some p) e f = rw (← e) refl
 both_by parts n None None e f = refl
 
+-- a pin by its number has the fault of a name that is of neither just where the name has it
 neither_by : (parts : Parts) (n : List ℕ) (b p : Option ℕ) → is_some b ≡ is_block_name parts n → is_some p ≡ is_pad_name parts n
     → at_pin_name (if_neither parts) (by_number b p (raw.Named n)) ≡ if_neither parts n
 neither_by parts n (Some b) None e f = rw (← e) refl
@@ -44,11 +47,13 @@ neither_by parts n (Some b) (Some p) e f = refl
 neither_by parts n None (Some p) e f = rw (← e, ← f) refl
 neither_by parts n None None e f = refl
 
+-- numbers change no fault of a name that is of a block and of a pad
 both_same : (parts : Parts) (pin : RawPin) → at_pin_name (if_both parts) (numbered_pin parts.blocks parts.pads pin) ≡ at_pin_name (if_both parts) pin
 both_same parts (raw.Named n) = both_by parts n (block_of parts.blocks (raw.Named n)) (pad_of parts.pads (raw.Named n)) (position_any (bytes_eq n) 0 (block_names parts.blocks)) (position_any (bytes_eq n) 0 (pad_names parts.pads))
 both_same parts (raw.Block b) = refl
 both_same parts (raw.Pad p) = refl
 
+-- numbers change no fault of a name that is of neither
 neither_same : (parts : Parts) (pin : RawPin) → at_pin_name (if_neither parts) (numbered_pin parts.blocks parts.pads pin) ≡ at_pin_name (if_neither parts) pin
 neither_same parts (raw.Named n) = neither_by parts n (block_of parts.blocks (raw.Named n)) (pad_of parts.pads (raw.Named n)) (position_any (bytes_eq n) 0 (block_names parts.blocks)) (position_any (bytes_eq n) 0 (pad_names parts.pads))
 neither_same parts (raw.Block b) = refl
@@ -56,32 +61,38 @@ neither_same parts (raw.Pad p) = refl
 
 -- ---- all pins
 
+-- where a change of each element changes nothing of what it gives, the list gives the same
 flat_same : {X Y : Type 0} (f : X → X) (g : X → List Y) → ((x : X) → g (f x) ≡ g x) → (xs : List X) → flat_map g (map f xs) ≡ flat_map g xs
 flat_same f g same [] = refl
 flat_same {X} {Y} f g same (x ∷ xs) = ap (λ (ys : List Y). ys ++ flat_map g (map f xs)) (same x) ∙ ap (λ (ys : List Y). g x ++ ys) (flat_same f g same xs)
 
+-- a fault of pins' names that numbers do not change at a pin they change nowhere
 names_same : (parts : Parts) (h : List ℕ → List BuildFault) → ((pin : RawPin) → at_pin_name h (numbered_pin parts.blocks parts.pads pin) ≡ at_pin_name h pin)
     → at_pin_names h (map (numbered_net parts.blocks parts.pads) parts.nets) ≡ at_pin_names h parts.nets
 names_same parts h same =
     flat_same (numbered_net parts.blocks parts.pads) (λ (n : RawNet). flat_map (at_pin_name h) n.pins)
     (λ n. flat_same (numbered_pin parts.blocks parts.pads) (at_pin_name h) same n.pins) parts.nets
 
+-- a test that a change does not touch holds of some element just as before
 any_same : {X : Type 0} (f : X → X) (q : X → Bool) → ((x : X) → q (f x) ≡ q x) → (xs others rest : List X) → list_any q others ≡ list_any q rest → list_any q (map f xs ++ others) ≡ list_any q (xs ++ rest)
 any_same f q same [] others rest h = h
 any_same f q same (x ∷ xs) others rest h = ap (λ b. b || list_any q (map f xs ++ others)) (same x) ∙ ap (λ b. q x || b) (any_same f q same xs others rest h)
 
+-- numbers do not change which pads stand in a net
 wired_in : (blocks : List RawBlock) (pads : List RawPad) (i : ℕ) (nets : List RawNet)
     → list_any (λ p. is_index i (pad_of pads p)) (flat_map (λ (n : RawNet). n.pins) (map (numbered_net blocks pads) nets)) ≡ list_any (λ p. is_index i (pad_of pads p)) (flat_map (λ (n : RawNet). n.pins) nets)
 wired_in blocks pads i [] = refl
 wired_in blocks pads i (n ∷ nets) =
     any_same (numbered_pin blocks pads) (λ p. is_index i (pad_of pads p)) (λ p. ap (is_index i) (same_pad blocks pads p)) n.pins _ _ (wired_in blocks pads i nets)
 
+-- two tests that agree find the same pads without a place
 unplaced_same : (now was : ℕ → Bool) → ((i : ℕ) → now i ≡ was i) → (i : ℕ) (pads : List RawPad) → unplaced now i pads ≡ unplaced was i pads
 unplaced_same now was same i [] = refl
 unplaced_same now was same i (p ∷ ps) =
     ap (λ b. cond (is_none p.place && b) (fault.MissingPlace p.name ∷ unplaced now (i + 1) ps) (unplaced now (i + 1) ps)) (same i)
     ∙ ap (λ (l : List BuildFault). cond (is_none p.place && was i) (fault.MissingPlace p.name ∷ l) l) (unplaced_same now was same (i + 1) ps)
 
+-- numbers do not change how many pins the nets have
 sum_same : (blocks : List RawBlock) (pads : List RawPad) (nets : List RawNet) → sum_by (λ (n : RawNet). length n.pins) (map (numbered_net blocks pads) nets) ≡ sum_by (λ (n : RawNet). length n.pins) nets
 sum_same blocks pads [] = refl
 sum_same blocks pads (n ∷ nets) =
@@ -93,26 +104,33 @@ sum_same blocks pads (n ∷ nets) =
 
 -- ---- the parts
 
+-- the parts with each pin by its number
 abbrev with_numbers : Parts → Parts
 with_numbers parts = record parts { nets = map (numbered_net parts.blocks parts.pads) parts.nets }
 
+-- numbers change no count that is past its limit
 counts_same : (parts : Parts) → over_counts (with_numbers parts) ≡ over_counts parts
 counts_same parts = rw (length-map parts.nets (numbered_net parts.blocks parts.pads), sum_same parts.blocks parts.pads parts.nets) refl
 
+-- numbers change no name that is there twice
 duplicates_same : (parts : Parts) → duplicates (with_numbers parts) ≡ duplicates parts
 duplicates_same parts = rw (names_same parts (if_both parts) (both_same parts)) refl
 
+-- numbers change no name that is nowhere
 unknowns_same : (parts : Parts) → unknowns (with_numbers parts) ≡ unknowns parts
 unknowns_same parts = rw (names_same parts (if_neither parts) (neither_same parts)) refl
 
+-- equal lists of faults are equal where they count and where they do not
 missing_by : (b : Bool) (now was : List BuildFault) → now ≡ was → cond b now [] ≡ cond b was []
 missing_by b now was e = ap (λ (l : List BuildFault). cond b l []) e
 
+-- numbers change no pad without a place
 missing_same : (parts : Parts) → missing_places (with_numbers parts) ≡ missing_places parts
 missing_same parts =
     missing_by parts.pads_in (unplaced (is_wired (with_numbers parts)) 0 parts.pads) (unplaced (is_wired parts) 0 parts.pads)
     (unplaced_same (is_wired (with_numbers parts)) (is_wired parts) (λ i. wired_in parts.blocks parts.pads i parts.nets) 0 parts.pads)
 
+-- numbers change no first fault
 faults_same : (parts : Parts) → first_refusal (with_numbers parts) ≡ first_refusal parts
 faults_same parts =
     ap (λ (o : List BuildFault). first (no_blocks parts ++ (o ++ flat_map (λ (b : RawBlock). over_kind b.kind) parts.blocks ++ over_places parts) ++ name_faults (with_numbers parts))) (counts_same parts)
@@ -127,12 +145,14 @@ refusal_same parts =
 
 -- ---- pins in range
 
+-- a pin is in range by its number where the block or the pad that was found is
 in_range_by : (blocks pads : ℕ) (b p : Option ℕ) (pin : RawPin) → IfSome b (λ i. i < blocks) → IfSome p (λ i. i < pads) → IsPinInRange blocks pads pin → IsPinInRange blocks pads (by_number b p pin)
 in_range_by blocks pads (Some b) None pin h k was = h
 in_range_by blocks pads (Some b) (Some p) pin h k was = was
 in_range_by blocks pads None (Some p) pin h k was = k
 in_range_by blocks pads None None pin h k was = was
 
+-- a pin by its number is in range where the pin was
 pin_in_range : (blocks : List RawBlock) (pads : List RawPad) (pin : RawPin) → IsPinInRange (length blocks) (length pads) pin → IsPinInRange (length blocks) (length pads) (numbered_pin blocks pads pin)
 pin_in_range blocks pads (raw.Named n) was =
     in_range_by (length blocks) (length pads) (block_of blocks (raw.Named n)) (pad_of pads (raw.Named n)) (raw.Named n)
@@ -140,13 +160,16 @@ pin_in_range blocks pads (raw.Named n) was =
 pin_in_range blocks pads (raw.Block b) was = was
 pin_in_range blocks pads (raw.Pad p) was = was
 
+-- where a change keeps what is said of an element, it keeps it of all
 all_mapped : {X : Type 0} (P : X → Type 0) (f : X → X) → ((x : X) → P x → P (f x)) → (xs : List X) → AllByRecursion P xs → AllByRecursion P (map f xs)
 all_mapped P f keeps [] h = h
 all_mapped P f keeps (x ∷ xs) h = (keeps x h.0, all_mapped P f keeps xs h.1)
 
+-- the same of all elements by their places
 mapped : {X : Type 0} (P : X → Type 0) (f : X → X) → ((x : X) → P x → P (f x)) → (xs : List X) → All P xs → All P (map f xs)
 mapped P f keeps xs h = All-from_recursion P (map f xs) (all_mapped P f keeps xs (recursion_from_All P xs h))
 
+-- the pins of nets stay in range with their numbers
 pub nets_in_range_still : (blocks : List RawBlock) (pads : List RawPad) (nets : List RawNet) → All (λ (n : RawNet). All (IsPinInRange (length blocks) (length pads)) n.pins) nets
     → All (λ (n : RawNet). All (IsPinInRange (length blocks) (length pads)) n.pins) (numbered_nets blocks pads nets)
 nets_in_range_still blocks pads nets h =

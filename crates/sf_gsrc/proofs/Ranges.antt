@@ -23,15 +23,18 @@ use Rattle.sf_gsrc.proofs.Results.{done, ok_is, err_not_ok}
 
 -- ---- named pins
 
+-- pins by their names are in any range
 named_in_range : (blocks pads : ℕ) (names : List (List ℕ)) → All (IsPinInRange blocks pads) (map Named names)
 named_in_range blocks pads [] = All-nil (IsPinInRange blocks pads)
 named_in_range blocks pads (name ∷ names) = All-cons (IsPinInRange blocks pads) (Named name) (map Named names) tt (named_in_range blocks pads names)
 
+-- nets of pins by their names are in any range
 nets_in_range : (blocks pads : ℕ) (names : List (List (List ℕ))) → All (λ n. All (IsPinInRange blocks pads) n.pins) (map net_of names)
 nets_in_range blocks pads [] = All-nil (λ (n : RawNet). All (IsPinInRange blocks pads) n.pins)
 nets_in_range blocks pads (one ∷ names) =
     All-cons (λ (n : RawNet). All (IsPinInRange blocks pads) n.pins) (net_of one) (map net_of names) (named_in_range blocks pads one) (nets_in_range blocks pads names)
 
+-- the nets for which a text stands are in any range
 pub nets_named : (text : List ℕ) (out : GsrcNets) → NetsStandFor text out → HasPinsInAnyRange out.nets
 nets_named text out s = record {
   in_range = λ blocks pads. All-same (λ (n : RawNet). All (IsPinInRange blocks pads) n.pins) out.nets (map net_of s.names) s.nets (nets_in_range blocks pads s.names);
@@ -44,33 +47,40 @@ pub record Keeps (blocks : GsrcBlocks) (nets : List RawNet) (parts : Parts) : Ty
   pub blocks_are : parts.blocks ≡ blocks.blocks
   pub nets_are : parts.nets ≡ numbered_nets parts.blocks parts.pads nets
 
+-- parts that equal what was made keep what it keeps
 kept_as : (blocks : GsrcBlocks) (nets : List RawNet) (made parts : Parts) → done {E = JoinFault} made ≡ done parts → Keeps blocks nets made → Keeps blocks nets parts
 kept_as blocks nets made parts e k = subst (λ (p : Parts). Keeps blocks nets p) (ok_is {E = JoinFault} made parts e) k
 
+-- parts with no name placed twice keep what was made
 placed_keep : (blocks : GsrcBlocks) (nets : List RawNet) (made parts : Parts) (twice : Option (List ℕ)) → placed_once twice made ≡ Ok parts → Keeps blocks nets made → Keeps blocks nets parts
 placed_keep blocks nets made parts None e k = kept_as blocks nets made parts e k
 placed_keep blocks nets made parts (Some name) e k = absurd (err_not_ok (faults.PlacedTwice name) parts e)
 
+-- what is joined keeps the blocks and the nets
 pub joined_keep : (blocks : GsrcBlocks) (nets : Option GsrcNets) (places : Option GsrcPlaces) (parts : Parts) → joined blocks nets places ≡ Ok parts → Keeps blocks (nets_in nets) parts
 joined_keep blocks nets None parts e =
     kept_as blocks (nets_in nets) (numbered (unplaced_parts blocks (nets_in nets))) parts e (record { blocks_are = refl; nets_are = refl })
 joined_keep blocks nets (Some places) parts e =
     placed_keep blocks (nets_in nets) (numbered (placed_parts blocks (nets_in nets) places.places)) parts (first_twice (names_of places.places)) e (record { blocks_are = refl; nets_are = refl })
 
+-- what is joined of sized blocks has sizes
 pub joined_sizes : (blocks : GsrcBlocks) (nets : Option GsrcNets) (places : Option GsrcPlaces) (parts : Parts) → joined blocks nets places ≡ Ok parts
     → All (λ b. IsSized b.kind) blocks.blocks → HasSizes parts
 joined_sizes blocks nets places parts e sizes = All-same (λ (b : RawBlock). IsSized b.kind) parts.blocks blocks.blocks (joined_keep blocks nets places parts e).blocks_are sizes
 
+-- nets in any range are in it where there is a file of them, and where there is none
 some_nets : (nets : Option GsrcNets) → IfSome nets (λ out. HasPinsInAnyRange out.nets) → HasPinsInAnyRange (nets_in nets)
 some_nets None h = record { in_range = λ blocks pads. All-nil (λ (n : RawNet). All (IsPinInRange blocks pads) n.pins) }
 some_nets (Some out) h = h
 
+-- what is joined of nets in any range has its pins in range
 pub joined_pins : (blocks : GsrcBlocks) (nets : Option GsrcNets) (places : Option GsrcPlaces) (parts : Parts) → joined blocks nets places ≡ Ok parts
     → IfSome nets (λ out. HasPinsInAnyRange out.nets) → HasPinsInRange parts
 joined_pins blocks nets places parts e h =
     All-same (λ (n : RawNet). All (IsPinInRange (length parts.blocks) (length parts.pads)) n.pins) parts.nets (numbered_nets parts.blocks parts.pads (nets_in nets)) (joined_keep blocks nets places parts e).nets_are
     (nets_in_range_still parts.blocks parts.pads (nets_in nets) ((some_nets nets h).in_range (length parts.blocks) (length parts.pads)))
 
+-- numbers do not change how many nets there are
 numbered_count : (blocks : List RawBlock) (pads : List RawPad) (nets : List RawNet) → length (numbered_nets blocks pads nets) ≡ length nets
 numbered_count blocks pads nets = by_test (has_numbers blocks pads)
   where
@@ -78,5 +88,6 @@ numbered_count blocks pads nets = by_test (has_numbers blocks pads)
     by_test true = length-map nets (numbered_net blocks pads)
     by_test false = refl
 
+-- what is joined has as many nets as the file of nets
 pub joined_nets : (blocks : GsrcBlocks) (nets : Option GsrcNets) (places : Option GsrcPlaces) (parts : Parts) → joined blocks nets places ≡ Ok parts → length parts.nets ≡ length (nets_in nets)
 joined_nets blocks nets places parts e = ap length (joined_keep blocks nets places parts e).nets_are ∙ numbered_count parts.blocks parts.pads (nets_in nets)

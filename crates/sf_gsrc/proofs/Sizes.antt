@@ -31,19 +31,23 @@ abbrev ItemSized : Item → Type 0
 ItemSized (BlockIs block) = IsSized block.kind
 ItemSized (PadIs name) = Unit {0}
 
+-- a number that does not equal 0 is above it
 some_size : (n : ℕ) → (n == 0) ≡ false → 0 < n
 some_size n e = grind (arith, nat_tests)
 
+-- an item that equals a sized one is sized
 sized_as : (made item : Item) → done {E = LineFault} made ≡ done item → ItemSized made → ItemSized item
 sized_as made item e h = subst (λ (x : Item). ItemSized x) (ok_is {E = LineFault} made item e) h
 
 -- ---- what a line says
 
+-- a soft block whose area was taken has a size, whether the area is 0 or not
 area_sized : (name : List ℕ) (a low high : ℕ) (item : Item) (b : Bool) → (a == 0) ≡ b
     → (if b then Err ZeroSide else Ok (BlockIs (record { name = name; kind = kinds.Soft a low high }))) ≡ Ok item → ItemSized item
 area_sized name a low high item true e h = absurd (err_not_ok ZeroSide item h)
 area_sized name a low high item false e h = sized_as (BlockIs (record { name = name; kind = kinds.Soft a low high })) item h (some_size a e)
 
+-- the block of a soft line has a size
 soft_sized : (scale : ℕ) (name : List ℕ) (rest : List (List ℕ)) (item : Item) → soft_said scale name rest ≡ Ok item → ItemSized item
 unfolding soft_said
 soft_sized scale name [] item h = absurd (err_not_ok BadLine item h)
@@ -55,19 +59,23 @@ soft_sized scale name (area ∷ min ∷ max ∷ more) item h =
     let high = bind_ok (aspect_in_word max) _ item low.2 in
     area_sized name a.0 low.0 high.0 item (a.0 == 0) refl high.2
 
+-- a block whose sides were taken has a size, whether they are 0 or not
 box_by : (name : List ℕ) (w h : ℕ) (item : Item) (a b : Bool) → (w == 0) ≡ a → (h == 0) ≡ b
     → (if a || b then Err ZeroSide else Ok (BlockIs (record { name = name; kind = kinds.Hard w h }))) ≡ Ok item → ItemSized item
 box_by name w h item true b ea eb e = absurd (err_not_ok ZeroSide item e)
 box_by name w h item false true ea eb e = absurd (err_not_ok ZeroSide item e)
 box_by name w h item false false ea eb e = sized_as (BlockIs (record { name = name; kind = kinds.Hard w h })) item e (some_size w ea, some_size h eb)
 
+-- the block of a box has a size
 box_sized : (name : List ℕ) (size : BoxSize) (item : Item) → box_said name size ≡ Ok item → ItemSized item
 box_sized name size item h = box_by name size.w size.h item (size.w == 0) (size.h == 0) refl refl h
 
+-- the block of an outline has a size
 outline_sized : (name : List ℕ) (read : Result BoxSize LineFault) (item : Item) (b : Bool) → (if b then Err BadLine else (read >>= box_said name)) ≡ Ok item → ItemSized item
 outline_sized name read item true h = absurd (err_not_ok BadLine item h)
 outline_sized name read item false h = let k = bind_ok read (box_said name) item h in box_sized name k.0 item k.2
 
+-- the block of a hard line has a size
 hard_sized : (scale : ℕ) (name : List ℕ) (rest : List (List ℕ)) (item : Item) → hard_said scale name rest ≡ Ok item → ItemSized item
 unfolding hard_said
 hard_sized scale name [] item h = absurd (err_not_ok BadLine item h)
@@ -75,32 +83,38 @@ hard_sized scale name (count ∷ places) item h =
     let k = bind_ok (count_in_word count) _ item h in
     outline_sized name (told vertex_fault (box_read scale k.0 places)) item ((k.0 == 0) || nat_lt (length places) (2 * k.0)) k.2
 
+-- what a line says has a size, whatever its form
 form_sized : (scale : ℕ) (name rest : List ℕ) (form : Option Form) (item : Item) → form_said scale name rest form ≡ Ok item → ItemSized item
 form_sized scale name rest None item h = absurd (err_not_ok BadLine item h)
 form_sized scale name rest (Some forms.Soft) item h = soft_sized scale name (words (is_gap Blanks) rest) item h
 form_sized scale name rest (Some forms.Hard) item h = hard_sized scale name (words (is_gap Points) rest) item h
 form_sized scale name rest (Some forms.Terminal) item h = sized_as (PadIs name) item h tt
 
+-- what a line without a count says has a size
 pub plain_sized : (scale : ℕ) (line : List ℕ) (item : Item) → plain_said scale line ≡ Ok item → ItemSized item
 unfolding plain_said
 plain_sized scale line item h = form_sized scale (first_word Blanks line) (after_word Blanks (after_word Blanks line)) (form_of (first_word Blanks (after_word Blanks line))) item h
 
 -- ---- what all lines say
 
+-- the block that is said, if one is, has a size
 abbrev SaidSized : Said → Type 0
 SaidSized (CountIs k n) = Unit {0}
 SaidSized (ItemIs item) = ItemSized item
 
+-- what a line says has a size, whether it counts or not
 said_sized : (scale : ℕ) (line : Line) (said : Said) (o : Option Counted) → SaysBy scale line said o → SaidSized said
 said_sized scale line said None s = subst (λ (x : Said). SaidSized x) (sym s.2) (plain_sized scale line.bytes s.0 s.1)
 said_sized scale line said (Some which) s = subst (λ (x : Said). SaidSized x) (sym s.2) tt
 
+-- blocks with one more that has a size in front have sizes
 one_sized : (n : ℕ) (said : Said) (more : List Entry) → SaidSized said → All (λ b. IsSized b.kind) (blocks_in more)
     → All (λ b. IsSized b.kind) (blocks_in (record { number = n; said = said } ∷ more))
 one_sized n (CountIs k m) more s h = h
 one_sized n (ItemIs (BlockIs block)) more s h = All-cons (λ (b : RawBlock). IsSized b.kind) block (blocks_in more) s h
 one_sized n (ItemIs (PadIs name)) more s h = h
 
+-- the blocks of lines that each say an entry have sizes
 all_sized : (scale : ℕ) (lines : List Line) (entries : List Entry) → AllZip (SaysEntry scale) lines entries → All (λ b. IsSized b.kind) (blocks_in entries)
 all_sized scale [] [] each = All-nil (λ (b : RawBlock). IsSized b.kind)
 all_sized scale [] (e ∷ entries) each = absurd each
@@ -108,5 +122,6 @@ all_sized scale (line ∷ lines) [] each = absurd each
 all_sized scale (line ∷ lines) (e ∷ entries) each =
     one_sized e.number e.said entries (said_sized scale line e.said (counted_by line.bytes) each.0.1) (all_sized scale lines entries each.1)
 
+-- the blocks for which a text stands have sizes
 pub blocks_sized : (scale : ℕ) (text : List ℕ) (out : GsrcBlocks) → StandsFor scale text out → All (λ b. IsSized b.kind) out.blocks
 blocks_sized scale text out s = All-same (λ (b : RawBlock). IsSized b.kind) out.blocks (blocks_in s.entries) s.blocks (all_sized scale s.others s.entries s.each)

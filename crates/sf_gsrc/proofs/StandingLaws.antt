@@ -23,39 +23,48 @@ use Rattle.sf_gsrc.specs.Standing.{SaysBy, SaysEntry, counts_of, StandsOnce, Sta
 
 -- ---- the first count, and the counts
 
+-- the first of a list, if it has one
 abbrev first : {X : Type 0} → List X → Option X
 first [] = None
 first (x ∷ xs) = Some x
 
+-- what may stand in front of a list, or else its first, is the first of both
 first_step : {X : Type 0} (o : Option X) (xs : List X) → or_else o (first xs) ≡ first (cons_option o xs)
 first_step None xs = refl
 first_step (Some x) xs = refl
 
+-- a count is the first one that the entries say
 count_is_first : (which : Counted) (es : List Entry) → count_in which es ≡ first (counts_of which es)
 count_is_first which [] = refl
 count_is_first which (e ∷ es) = ap (or_else (count_at which e.number e.said)) (count_is_first which es) ∙ first_step (count_at which e.number e.said) (counts_of which es)
 
+-- a list without a first element is empty
 none_there : {X : Type 0} (xs : List X) → is_some (first xs) ≡ false → length xs ≡ 0
 none_there [] e = refl
 none_there (x ∷ xs) e = absurd cc
 
+-- an empty list has no first element
 none_said : {X : Type 0} (xs : List X) → length xs ≡ 0 → is_some (first xs) ≡ false
 none_said [] e = refl
 none_said (x ∷ xs) e = absurd (omega arith)
 
+-- a list of at most one element with a first one is this one
 one_there : {X : Type 0} (xs : List X) (x : X) → first xs ≡ Some x → length xs ≤ 1 → xs ≡ x ∷ []
 one_there [] x e h = absurd cc
 one_there (y ∷ []) x e h = cc
 one_there (y ∷ z ∷ xs) x e h = absurd (omega arith)
 
+-- each count is said at most once
 abbrev AtMostOne : List Entry → Type 0
 AtMostOne es = (which : Counted) → length (counts_of which es) ≤ 1
 
+-- a count is the same as itself
 is_same_self : (which : Counted) → is_same which which ≡ true
 is_same_self counts.Soft = refl
 is_same_self counts.Hard = refl
 is_same_self counts.Terminals = refl
 
+-- counts that are the same are equal
 same_is : (a b : Counted) → is_same a b ≡ true → a ≡ b
 same_is counts.Soft counts.Soft e = refl
 same_is counts.Hard counts.Hard e = refl
@@ -71,6 +80,7 @@ same_is counts.Terminals counts.Hard e = absurd cc
 counts-push : (which : Counted) (es : List Entry) (e : Entry) → length (counts_of which (es ++ e ∷ [])) ≡ length (counts_of which es) + length (cons_option (count_at which e.number e.said) [])
 counts-push which es e = ap length (filter_map-append (λ (e : Entry). count_at which e.number e.said) es (e ∷ [])) ∙ length-append (counts_of which es) (cons_option (count_at which e.number e.said) [])
 
+-- a count that was not said before is said once with its line, and the others as often as before
 count_step : (which k : Counted) (es : List Entry) (n said : ℕ) (b : Bool) → is_same which k ≡ b → length (counts_of k es) ≡ 0 → length (counts_of which es) ≤ 1
     → length (counts_of which (es ++ record { number = n; said = CountIs k said } ∷ [])) ≤ 1
 count_step which k es n said true e none le =
@@ -83,11 +93,13 @@ count_step which k es n said false e none le =
     let zero' : length (cons_option (count_at which n (CountIs k said)) []) ≡ 0 = rw e refl in
     omega (arith, counts-push which es e1, zero')
 
+-- a block or a pad says no count
 item_step : (es : List Entry) (n : ℕ) (item : Item) → AtMostOne es → AtMostOne (es ++ record { number = n; said = ItemIs item } ∷ [])
 item_step es n item most which = let m = most which in omega (arith, counts-push which es (record { number = n; said = ItemIs item }))
 
 -- ---- from reading to the relation
 
+-- an entry of a line that was read has the line's number and its value
 entry_ok : {A : Type 0} (n : ℕ) (says : A → Said) (r : Result A LineFault) (e : Entry) → entry_at n says r ≡ Ok e → (x : A) × (r ≡ Ok x) × (e ≡ record { number = n; said = says x })
 entry_ok n says (Ok x) e h = (x, refl, sym (ok_is {E = GsrcFault} (record { number = n; said = says x }) e h))
 entry_ok n says (Err f) e h = absurd cc
@@ -97,9 +109,11 @@ pub record WasRead (scale : ℕ) (es : List Entry) (line : Line) (e : Entry) : T
   pub says : SaysEntry scale line e
   pub most : AtMostOne es → AtMostOne (es ++ e ∷ [])
 
+-- a refused line gives no entry
 never : (n : ℕ) (e : Entry) → Err (faults.BadLine n) ≡ Ok e → ⊥
 never n e h = absurd cc
 
+-- a count line that was read says its count, which was not said before
 count_was_read : (which : Counted) (es : List Entry) (line : Line) (e : Entry) (b : Bool) → is_some (count_in which es) ≡ b
     → count_after which es line ≡ Ok e → (n : ℕ) × (count_said (words (is_gap Colons) line.bytes) ≡ Ok n) × (e ≡ record { number = line.number; said = CountIs which n }) × (length (counts_of which es) ≡ 0)
 unfolding count_after
@@ -108,6 +122,7 @@ count_was_read which es line e false is h =
     let k = entry_ok line.number (CountIs which) (count_said (words (is_gap Colons) line.bytes)) e (rw is at h) in
     (k.0, k.1, k.2, none_there (counts_of which es) (ap is_some (sym (count_is_first which es)) ∙ is))
 
+-- a line that was read says its entry, whether it counts or not
 was_read_by : (scale : ℕ) (es : List Entry) (line : Line) (e : Entry) (o : Option Counted) → counted_by line.bytes ≡ o → entry_by scale es line o ≡ Ok e → WasRead scale es line e
 was_read_by scale es line e None is h =
     let k = entry_ok line.number ItemIs (plain_said scale line.bytes) e h in
@@ -122,12 +137,14 @@ was_read_by scale es line e (Some which) is h =
       most = λ most. subst (λ (x : Entry). AtMostOne (es ++ x ∷ [])) (sym k.2) (λ kind. count_step kind which es line.number k.0 (is_same kind which) refl k.3 (most kind));
     }
 
+-- the new entries of lines that were read are what these say, and each count is said at most once
 pub record AllRead (scale : ℕ) (earlier : List Entry) (ls : List Line) (es : List Entry) : Type 0 where
   pub new : List Entry
   pub whole : es ≡ earlier ++ new
   pub each : AllZip (SaysEntry scale) ls new
   pub most : AtMostOne earlier → AtMostOne es
 
+-- of lines that are read, each says its entry
 all_read : (scale : ℕ) (earlier : List Entry) (ls : List Line) (es : List Entry) → entries_from scale earlier ls ≡ Ok es → AllRead scale earlier ls es
 unfolding entries_from
 all_read scale earlier [] es h = record { new = []; whole = sym (ok_is {E = GsrcFault} earlier es h) ∙ sym (append-nil earlier); each = tt; most = λ most. subst (λ (x : List Entry). AtMostOne x) (ok_is {E = GsrcFault} earlier es h) most }
@@ -142,10 +159,12 @@ all_read scale earlier (line ∷ ls) es h =
       most = λ most. more.most (one.most most);
     }
 
+-- a count that let reading go on is the number that was found, and the rest is what was read
 compared_by : {X : Type 0} (count : Count) (found : ℕ) (next : Result X GsrcFault) (x : X) (b : Bool) → (count.said == found) ≡ b → compared count found next ≡ Ok x → (count.said ≡ found) × (next ≡ Ok x)
 compared_by count found next x true e h = (eqb-true count.said found e, rw e at h)
 compared_by count found next x false e h = absurd (err_not_ok (faults.CountDiffers count.line count.said found) x (rw e at h))
 
+-- where a count is compared and reading goes on, it is the number that was found
 compared_ok : {X : Type 0} (count : Count) (found : ℕ) (next : Result X GsrcFault) (x : X) → compared count found next ≡ Ok x → (count.said ≡ found) × (next ≡ Ok x)
 compared_ok count found next x h = compared_by count found next x (count.said == found) refl h
 
@@ -162,6 +181,7 @@ pub record IsFinished (s h t : Option Count) (out made : GsrcBlocks) : Type 0 wh
   pub terminals_said : terminals.said ≡ length made.pads
   pub out_is : made ≡ out
 
+-- where a text ends well, all three counts are there and are what was found
 finished_ok : (last : ℕ) (s h t : Option Count) (out made : GsrcBlocks) → finished_by last s h t made ≡ Ok out → IsFinished s h t out made
 finished_ok last (Some s) (Some h) (Some t) out made e =
     let a = compared_ok s (count_by is_soft made.blocks) (compared h (count_by (λ b. not (is_soft b)) made.blocks) (compared t (length made.pads) (Ok made))) out e in
@@ -172,12 +192,14 @@ finished_ok last None h t out made e = absurd (err_not_ok (faults.Truncated last
 finished_ok last (Some s) None t out made e = absurd (err_not_ok (faults.Truncated last) out e)
 finished_ok last (Some s) (Some h) None out made e = absurd (err_not_ok (faults.Truncated last) out e)
 
+-- a count that was said at most once and is what was found stands once
 stands_once : (which : Counted) (es : List Entry) (c : Count) (found : ℕ) → count_in which es ≡ Some c → length (counts_of which es) ≤ 1 → c.said ≡ found → StandsOnce which es found
 stands_once which es c found is most said = record {
   line = c.line;
   once = one_there (counts_of which es) c (sym (count_is_first which es) ∙ is) most ∙ ap (λ (n : ℕ). record { line = c.line; said = n } ∷ []) said;
 }
 
+-- a text that is read under its title stands for what is read, whether the title is right or not
 titled_by : (scale : ℕ) (text : List ℕ) (title : Line) (others : List Line) (out : GsrcBlocks) (b : Bool) → content_of text ≡ title ∷ others → is_title (codes "blocks") title.bytes ≡ b
     → titled scale (title ∷ others) ≡ Ok out → StandsFor scale text out
 titled_by scale text title others out false are e h = absurd (err_not_ok (faults.BadTitle title.number) out (rw e at h))
@@ -200,46 +222,56 @@ titled_by scale text title others out true are e h =
       pads = ap (λ (o : GsrcBlocks). o.pads) (sym f.out_is);
     }
 
+-- lines of a text that are read under their title stand for what is read
 titled_ok : (scale : ℕ) (text : List ℕ) (ls : List Line) (out : GsrcBlocks) → content_of text ≡ ls → titled scale ls ≡ Ok out → StandsFor scale text out
 titled_ok scale text [] out are h = absurd (err_not_ok (faults.Truncated 0) out h)
 titled_ok scale text (title ∷ others) out are h = titled_by scale text title others out (is_title (codes "blocks") title.bytes) are refl h
 
+-- a text stands for the blocks and pads that are read from it
 pub stands_from_read : (scale : ℕ) (text : List ℕ) (out : GsrcBlocks) → blocks_read scale text ≡ Ok out → StandsFor scale text out
 unfolding blocks_read
 stands_from_read scale text out h = titled_ok scale text (content_of text) out refl h
 
 -- ---- from the relation to reading
 
+-- an entry is known by its number and what it says
 entry_is : (n : ℕ) (s : Said) (e : Entry) → e.number ≡ n → e.said ≡ s → record { number = n; said = s } ≡ e
 entry_is n s e p q = λ i. record { number = sym p i; said = sym q i }
 
+-- where no count was said, none is there
 no_count_yet : (which : Counted) (earlier : List Entry) → length (counts_of which earlier) ≡ 0 → is_some (count_in which earlier) ≡ false
 no_count_yet which earlier none = ap is_some (count_is_first which earlier) ∙ none_said (counts_of which earlier) none
 
+-- a line that says an entry is read as it, where its count was not said before
 said_then : (scale : ℕ) (earlier : List Entry) (line : Line) (e : Entry) (o : Option Counted) → e.number ≡ line.number → SaysBy scale line e.said o
     → ((which : Counted) → o ≡ Some which → length (counts_of which earlier) ≡ 0) → entry_by scale earlier line o ≡ Ok e
 unfolding count_after
 said_then scale earlier line e None p says none = rw says.1 (ap (λ (x : Entry). Ok x) (entry_is line.number (ItemIs says.0) e p says.2))
 said_then scale earlier line e (Some which) p says none = rw (no_count_yet which earlier (none which refl), says.1) (ap (λ (x : Entry). Ok x) (entry_is line.number (CountIs which says.0) e p says.2))
 
+-- a count that stands at most once among all entries stands nowhere before its own
 counts_around : (which : Counted) (earlier : List Entry) (e : Entry) (new : List Entry) (n : ℕ) → e.said ≡ CountIs which n → length (counts_of which (earlier ++ e ∷ new)) ≤ 1 → length (counts_of which earlier) ≡ 0
 counts_around which earlier e new n is most =
     let parts = ap length (filter_map-append (λ (e : Entry). count_at which e.number e.said) earlier (e ∷ new)) ∙ length-append (counts_of which earlier) (counts_of which (e ∷ new)) in
     let own : counts_of which (e ∷ new) ≡ record { line = e.number; said = n } ∷ counts_of which new = rw (is, is_same_self which) refl in
     omega (arith, parts, ap length own)
 
+-- nothing is not a count
 none_not_some : (which : Counted) → None ≡ Some which → ⊥
 none_not_some which e = absurd cc
 
+-- counts that are there and equal are one
 some_is : (a b : Counted) → Some a ≡ Some b → a ≡ b
 some_is a b e = cc
 
+-- where each count is said at most once, the count of a line was not said before it
 none_before : (scale : ℕ) (earlier : List Entry) (line : Line) (e : Entry) (new : List Entry) (o : Option Counted) → SaysBy scale line e.said o → AtMostOne (earlier ++ e ∷ new)
     → (which : Counted) → o ≡ Some which → length (counts_of which earlier) ≡ 0
 none_before scale earlier line e new None says most which is = absurd (none_not_some which is)
 none_before scale earlier line e new (Some k) says most which is =
     subst (λ (c : Counted). length (counts_of c earlier) ≡ 0) (some_is k which is) (counts_around k earlier e new says.0 says.2 (most k))
 
+-- lines that each say an entry are read as these
 all_said : (scale : ℕ) (earlier : List Entry) (ls : List Line) (new : List Entry) → AllZip (SaysEntry scale) ls new → AtMostOne (earlier ++ new) → entries_from scale earlier ls ≡ Ok (earlier ++ new)
 unfolding entries_from
 all_said scale earlier [] [] each most = ap (λ (es : List Entry). Ok es) (sym (append-nil earlier))
@@ -251,18 +283,23 @@ all_said scale earlier (line ∷ ls) (e ∷ new) each most =
     let more = all_said scale (earlier ++ e ∷ []) ls new each.1 (subst (λ (es : List Entry). AtMostOne es) (sym regrouped) most) in
     rw one (more ∙ ap (λ (es : List Entry). Ok es) regrouped)
 
+-- a count that stands once is there, with its line
 count_stands : (which : Counted) (es : List Entry) (found : ℕ) → (once : StandsOnce which es found) → count_in which es ≡ Some (record { line = once.line; said = found })
 count_stands which es found once = count_is_first which es ∙ ap first once.once
 
+-- a count of just the number that was found lets reading go on
 agrees : {X : Type 0} (line found : ℕ) (next : Result X GsrcFault) → compared (record { line = line; said = found }) found next ≡ next
 agrees line found next = rw (eq-eqb found found refl) refl
 
+-- the output of entries is the one with their blocks and pads
 out_stands : (out : GsrcBlocks) (es : List Entry) → out.blocks ≡ blocks_in es → out.pads ≡ pads_in es → out_of es ≡ out
 out_stands out es b p = λ i. record { blocks = sym b i; pads = sym p i }
 
+-- where all three counts are what was found, the text ends well
 finished_is : (last : ℕ) (out : GsrcBlocks) (a b c : ℕ) → finished_by last (Some (record { line = a; said = count_by is_soft out.blocks })) (Some (record { line = b; said = count_by (λ b. not (is_soft b)) out.blocks })) (Some (record { line = c; said = length out.pads })) out ≡ Ok out
 finished_is last out a b c = agrees a (count_by is_soft out.blocks) _ ∙ agrees b (count_by (λ b. not (is_soft b)) out.blocks) _ ∙ agrees c (length out.pads) (Ok out)
 
+-- where all three counts stand once, the text ends well
 finished_stands : (last : ℕ) (es : List Entry) (out : GsrcBlocks) → StandsOnce counts.Soft es (count_by is_soft out.blocks) → StandsOnce counts.Hard es (count_by (λ b. not (is_soft b)) out.blocks) → StandsOnce counts.Terminals es (length out.pads)
     → out_of es ≡ out → finished last es ≡ Ok out
 finished_stands last es out s h t same =
@@ -270,11 +307,13 @@ finished_stands last es out s h t same =
     rw (count_stands counts.Soft es _ s, count_stands counts.Hard es _ h, count_stands counts.Terminals es _ t) (finished_is last out s.line h.line t.line) in
     subst (λ (o : GsrcBlocks). finished_by last (count_in counts.Soft es) (count_in counts.Hard es) (count_in counts.Terminals es) o ≡ Ok out) (sym same) at_out
 
+-- where all three counts stand once, each is said at most once
 at_most_one : (es : List Entry) (a b c : ℕ) → StandsOnce counts.Soft es a → StandsOnce counts.Hard es b → StandsOnce counts.Terminals es c → AtMostOne es
 at_most_one es a b c s h t counts.Soft = omega (arith, ap length s.once)
 at_most_one es a b c s h t counts.Hard = omega (arith, ap length h.once)
 at_most_one es a b c s h t counts.Terminals = omega (arith, ap length t.once)
 
+-- a text that stands for blocks and pads is read as them
 pub read_from_stands : (scale : ℕ) (text : List ℕ) (out : GsrcBlocks) → StandsFor scale text out → blocks_read scale text ≡ Ok out
 unfolding blocks_read
 read_from_stands scale text out s =
@@ -284,5 +323,6 @@ read_from_stands scale text out s =
     let same = out_stands out es s.blocks s.pads in
     rw (s.lines_are, s.titled, read) (finished_stands (last_of s.title.number s.others) es out s.soft s.hard s.terminals same)
 
+-- a text stands for at most one list of blocks and pads
 pub stands_once_only : (scale : ℕ) (text : List ℕ) (a b : GsrcBlocks) → StandsFor scale text a → StandsFor scale text b → a ≡ b
 stands_once_only scale text a b p q = ok_is {E = GsrcFault} a b (sym (read_from_stands scale text a p) ∙ read_from_stands scale text b q)

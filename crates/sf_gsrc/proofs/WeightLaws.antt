@@ -18,16 +18,20 @@ use Rattle.sf_gsrc.proofs.WeightSteps.{weight_said-push}
 
 -- ---- a line that says a weight
 
+-- some of the weights is that of the net
 abbrev is_named : List NetWeight → ℕ → Bool
 is_named earlier net = is_some (weight_said earlier net)
 
+-- a number that is taken at a line is the one that was read
 number_is : (n : ℕ) (r : Result ℕ NumberFault) (x : ℕ) → number_on n r ≡ Ok x → r ≡ Ok x
 number_is n (Ok y) x e = ap (λ z. Ok z) (ok_is {E = WeightFault} y x e)
 number_is n (Err f) x e = absurd cc
 
+-- two words that are the same pair are the same list
 two_same : (p q : List ℕ × List ℕ) → Some p ≡ Some q → p.0 ∷ p.1 ∷ [] ≡ q.0 ∷ q.1 ∷ []
 two_same p q e = cc
 
+-- a line with two words has just these
 two_are : (ws : List (List ℕ)) (number weight : List ℕ) → two_words ws ≡ Some (number, weight) → ws ≡ number ∷ weight ∷ []
 unfolding two_words
 two_are [] number weight e = absurd cc
@@ -35,6 +39,7 @@ two_are (a ∷ []) number weight e = absurd cc
 two_are (a ∷ b ∷ []) number weight e = two_same (a, b) (number, weight) e
 two_are (a ∷ b ∷ d ∷ ws) number weight e = absurd cc
 
+-- a net that is taken is there and was not named before
 net_is_new : (nets : ℕ) (earlier : List NetWeight) (n number net : ℕ) → new_net nets earlier n number ≡ Ok net → (number ≡ net) × (net < nets) × (is_named earlier net ≡ false)
 net_is_new nets earlier n number net e = by_known (nat_lt number nets) refl e
   where
@@ -49,6 +54,7 @@ net_is_new nets earlier n number net e = by_known (nat_lt number nets) refl e
     by_known true low e = by_named (is_named earlier number) refl low e
     by_known false low e = absurd (err_not_ok (UnknownNet n number) net e)
 
+-- a line that is taken says its weight, and its net was not named before
 line_says : (nets : ℕ) (earlier : List NetWeight) (line : Line) (said : NetWeight) → weight_after nets earlier line ≡ Ok said → SaysWeight nets line said × (is_named earlier said.net ≡ false)
 line_says nets earlier line said e = by_words (two_words (words (is_gap Blanks) line.bytes)) refl e
   where
@@ -74,6 +80,7 @@ line_says nets earlier line said e = by_words (two_words (words (is_gap Blanks) 
           new.2,
         )
 
+-- a line that says a weight of a net that was not named before is taken
 says_line : (nets : ℕ) (earlier : List NetWeight) (line : Line) (said : NetWeight) → SaysWeight nets line said → is_named earlier said.net ≡ false → weight_after nets earlier line ≡ Ok said
 unfolding two_words
 says_line nets earlier line said s new = rw (s.words_are, s.net_is, lt-ltb said.net nets s.is_known, new, s.weight_is) refl
@@ -94,6 +101,7 @@ named-push earlier s net = ap is_some (weight_said-push earlier s net) ∙ by_ca
     by_cases None false = refl
     by_cases (Some x) b = refl
 
+-- where a disjunction is false, both parts are
 or_false : (a b : Bool) → (a || b) ≡ false → (a ≡ false) × (b ≡ false)
 or_false true b e = absurd cc
 or_false false b e = (refl, e)
@@ -107,11 +115,13 @@ split_new earlier s (t ∷ said) h =
     let more = split_new earlier s said h.1 in
     ((both.0, more.0), (both.1, more.1))
 
+-- nets that are not named before, nor by the next weight, are new behind both
 join_new : (earlier : List NetWeight) (s : NetWeight) (said : List NetWeight) → AllByRecursion (λ t. is_named earlier t.net ≡ false) said → AllByRecursion (λ (k : ℕ). (s.net == k) ≡ false) (map (λ t. t.net) said)
     → AllByRecursion (λ t. is_named (earlier ++ s ∷ []) t.net ≡ false) said
 join_new earlier s [] g h = tt
 join_new earlier s (t ∷ said) g h = (named-push earlier s t.net ∙ rw (g.0, h.0) refl, join_new earlier s said g.1 h.1)
 
+-- weights that are new each in its turn are of nets that were not named before and are distinct
 new_apart : (earlier said : List NetWeight) → AreNew earlier said → AllByRecursion (λ t. is_named earlier t.net ≡ false) said × IsDistinct (λ a b. a == b) (map (λ s. s.net) said)
 unfolding IsDistinct
 new_apart earlier [] h = (tt, tt)
@@ -120,20 +130,24 @@ new_apart earlier (s ∷ said) h =
     let both = split_new earlier s said more.0 in
     ((h.0, both.0), (both.1, more.1))
 
+-- weights of distinct nets that were not named before are new each in its turn
 apart_new : (earlier said : List NetWeight) → AllByRecursion (λ t. is_named earlier t.net ≡ false) said → IsDistinct (λ a b. a == b) (map (λ s. s.net) said) → AreNew earlier said
 unfolding IsDistinct
 apart_new earlier [] g h = tt
 apart_new earlier (s ∷ said) g h = (g.0, apart_new (earlier ++ s ∷ []) said (join_new earlier s said g.1 h.0) h.1)
 
+-- before the first weight no net is named
 none_named : (said : List NetWeight) → AllByRecursion (λ t. is_named [] t.net ≡ false) said
 none_named [] = tt
 none_named (s ∷ said) = (refl, none_named said)
 
 -- ---- all lines
 
+-- the lines say weights, new each in its turn, which end the list
 abbrev Say : ℕ → List NetWeight → List Line → List NetWeight → Type 0
 Say nets earlier ls all = (said : List NetWeight) × (all ≡ earlier ++ said) × AllZip (SaysWeight nets) ls said × AreNew earlier said
 
+-- lines that are taken say their weights
 lines_say : (nets : ℕ) (earlier : List NetWeight) (ls : List Line) (all : List NetWeight) → weights_from nets earlier ls ≡ Ok all → Say nets earlier ls all
 unfolding weights_from
 lines_say nets earlier [] all e = ([], sym (ok_is {E = WeightFault} earlier all e) ∙ sym (append-nil earlier), tt, tt)
@@ -143,6 +157,7 @@ lines_say nets earlier (line ∷ ls) all e =
     let more = lines_say nets (earlier ++ one.0 ∷ []) ls all one.2 in
     (one.0 ∷ more.0, more.1 ∙ append_assoc earlier (one.0 ∷ []) more.0, (says.0, more.2), (says.1, more.3))
 
+-- lines that say weights, new each in its turn, are taken
 say_lines : (nets : ℕ) (earlier : List NetWeight) (ls : List Line) (said : List NetWeight) → AllZip (SaysWeight nets) ls said → AreNew earlier said → weights_from nets earlier ls ≡ Ok (earlier ++ said)
 unfolding weights_from
 say_lines nets earlier [] [] each new = ap (λ (all : List NetWeight). Ok all) (sym (append-nil earlier))
@@ -153,6 +168,7 @@ say_lines nets earlier (line ∷ ls) (s ∷ said) each new =
 
 -- ---- the whole text
 
+-- a text stands for the weights that are read from it
 pub stands_from_read : (text : List ℕ) (nets : ℕ) (out : List ℕ) → weights_read nets text ≡ Ok out → WeightsStandFor text nets out
 unfolding weights_read
 stands_from_read text nets out e =
@@ -165,13 +181,16 @@ stands_from_read text nets out e =
       weights = sym (ok_is {E = WeightFault} (weights_of nets read.0) out read.2) ∙ ap (weights_of nets) say.1;
     }
 
+-- a text that stands for weights is read as them
 pub read_from_stands : (text : List ℕ) (nets : ℕ) (out : List ℕ) → WeightsStandFor text nets out → weights_read nets text ≡ Ok out
 unfolding weights_read
 read_from_stands text nets out s =
     rw (say_lines nets [] (content_of text) s.said s.each (apart_new [] s.said (none_named s.said) s.once)) (ap (λ (ws : List ℕ). Ok ws) (sym s.weights))
 
+-- a text stands for at most one list of weights
 pub stands_once_only : (text : List ℕ) (nets : ℕ) (a b : List ℕ) → WeightsStandFor text nets a → WeightsStandFor text nets b → a ≡ b
 stands_once_only text nets a b p q = ok_is {E = WeightFault} a b (sym (read_from_stands text nets a p) ∙ read_from_stands text nets b q)
 
+-- a text stands for one weight for each net
 pub weights_each : (text : List ℕ) (nets : ℕ) (out : List ℕ) → WeightsStandFor text nets out → length out ≡ nets
 weights_each text nets out s = ap length s.weights ∙ length-map-range_with_len (weight_of s.said) 0 nets

@@ -19,6 +19,7 @@ use Rattle.sf_gsrc.proofs.Results.{none_of}
 
 -- ---- what is kept
 
+-- nothing behind it changes what is there
 or_else-None : {X : Type 0} (o : Option X) → or_else o None ≡ o
 or_else-None None = refl
 or_else-None (Some x) = refl
@@ -33,9 +34,11 @@ weight_said-push (e ∷ earlier) s net = by_test (e.net == net) (weight_said-pus
     by_test true ih = refl
     by_test false ih = ih
 
+-- the weight that is said of a net last is its weight, where none was said before
 said_here : (earlier : List NetWeight) (net weight : ℕ) → weight_said earlier net ≡ None → weight_said (earlier ++ record { net = net; weight = weight } ∷ []) net ≡ Some weight
 said_here earlier net weight none = weight_said-push earlier (record { net = net; weight = weight }) net ∙ rw (none, eq-eqb net net refl) refl
 
+-- a weight that is said of another net changes nothing
 said_elsewhere : (earlier : List NetWeight) (s : NetWeight) (net : ℕ) → s.net ≢ net → weight_said (earlier ++ s ∷ []) net ≡ weight_said earlier net
 said_elsewhere earlier s net ne = weight_said-push earlier s net ∙ rw (ne_eqb s.net net ne) (or_else-None (weight_said earlier net))
 
@@ -43,6 +46,7 @@ said_elsewhere earlier s net ne = weight_said-push earlier s net ∙ rw (ne_eqb 
 pub kept_is : (nets : ℕ) (kept : List (Option ℕ)) (earlier : List NetWeight) (net : ℕ) (d : Option ℕ) → KeepsWeights nets kept earlier → net < nets → get_or kept net d ≡ weight_said earlier net
 kept_is nets kept earlier net d keeps low = rw keeps (get_or-map-range_with_len (weight_said earlier) 0 nets net net d low (omega arith))
 
+-- there is one place for each net
 kept_length : (nets : ℕ) (kept : List (Option ℕ)) (earlier : List NetWeight) → KeepsWeights nets kept earlier → length kept ≡ nets
 kept_length nets kept earlier keeps = ap length keeps ∙ length-map-range_with_len (weight_said earlier) 0 nets
 
@@ -106,6 +110,7 @@ pub record IsWeighing (nets : ℕ) (kept : List (Option ℕ)) (left : List Line)
   pub keeps : KeepsWeights nets kept said
   pub same : weights_from nets said left ≡ all
 
+-- a line that is taken is passed, and its weight is kept
 pub goes_on : (nets : ℕ) (kept new : List (Option ℕ)) (left more : List Line) (line : Line) (all : Result (List NetWeight) WeightFault) (w : IsWeighing nets kept left all) → left ≡ line ∷ more
     → ((said : NetWeight) × (weight_after nets w.said line ≡ Ok said) × KeepsWeights nets new (w.said ++ said ∷ [])) → IsWeighing nets new more all
 unfolding weights_from
@@ -113,11 +118,13 @@ goes_on nets kept new left more line all w cut taken =
     let one : weights_from nets w.said left ≡ weights_from nets (w.said ++ taken.0 ∷ []) more = rw (cut, taken.1) refl in
     record { said = w.said ++ taken.0 ∷ []; keeps = taken.2; same = sym one ∙ w.same }
 
+-- a line that is refused is the fault of the whole text
 pub fails : (nets : ℕ) (kept : List (Option ℕ)) (left more : List Line) (line : Line) (fault : WeightFault) (all : Result (List NetWeight) WeightFault) (w : IsWeighing nets kept left all) → left ≡ line ∷ more
     → weight_after nets w.said line ≡ Err fault → all ≡ Err fault
 unfolding weights_from
 fails nets kept left more line fault all w cut failed = sym w.same ∙ rw (cut, failed) refl
 
+-- where no line is left, the weights are those of all lines
 pub is_done : (nets : ℕ) (kept : List (Option ℕ)) (left : List Line) (all : Result (List NetWeight) WeightFault) (w : IsWeighing nets kept left all) → left ≡ []
     → (said : List NetWeight) × (all ≡ Ok said) × KeepsWeights nets kept said
 unfolding weights_from
@@ -133,6 +140,7 @@ weights_kept nets kept said keeps = rw keeps (map_twice (range_with_len 0 nets))
     map_twice [] = refl
     map_twice (n ∷ ns) = ap (λ (ws : List ℕ). weight_of said n ∷ ws) (map_twice ns)
 
+-- what is kept when all lines were taken is what the text is read as
 pub gives : (nets : ℕ) (text : List ℕ) (lines : List Line) (first kept : List (Option ℕ)) (weights : List ℕ) → lines ≡ content_of text → first ≡ replicate nets None
     → ((earlier : List NetWeight) → KeepsWeights (length first) first earlier → (said : List NetWeight) × (weights_from (length first) earlier lines ≡ Ok said) × KeepsWeights (length first) kept said)
     → weights ≡ map (λ o. unwrap_or o 1) kept → weights_read nets text ≡ Ok weights
@@ -142,6 +150,7 @@ gives nets text lines first kept weights all none takes are =
     let read = (rw long at takes) [] (none ∙ none_kept nets) in
     rw (← all, read.1) (ap (λ (ws : List ℕ). Ok ws) (sym (weights_kept nets kept read.0 read.2) ∙ sym are))
 
+-- the fault with which a text is refused is given
 given_fault : (fault : WeightFault) (read : Result (List ℕ) WeightFault) → read ≡ Err fault → GivesWeights (Err fault) read
 given_fault NoMemory read e = tt
 given_fault (BadLine n) read e = e
@@ -149,6 +158,7 @@ given_fault (BadNumber n f) read e = e
 given_fault (UnknownNet n k) read e = e
 given_fault (RepeatedNet n k) read e = e
 
+-- the fault of the lines is that of the text
 pub refuses : (nets : ℕ) (text : List ℕ) (lines : List Line) (first : List (Option ℕ)) (fault : WeightFault) → lines ≡ content_of text → first ≡ replicate nets None
     → ((earlier : List NetWeight) → KeepsWeights (length first) first earlier → weights_from (length first) earlier lines ≡ Err fault)
     → GivesWeights (Err fault) (weights_read nets text)

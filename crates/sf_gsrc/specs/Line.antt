@@ -28,16 +28,19 @@ pub data Item : Type 0 where
 abbrev pub number_in : {A : Type 0} → Result A NumberFault → Result A LineFault
 number_in read = told BadNumber read
 
--- numbers in a word: a count, an aspect, a soft block's area and a coordinate
+-- a count in a word
 abbrev pub count_in_word : List ℕ → Result ℕ LineFault
 count_in_word word = number_in (decimal_read 1 9_000_000_000_000_000 word)
 
+-- an aspect in a word, in millionths
 abbrev pub aspect_in_word : List ℕ → Result ℕ LineFault
 aspect_in_word word = number_in (decimal_read 1_000_000 1_000_000_000_000 word)
 
+-- a soft block's area in a word, in squares of whole units of the scale, rounded up
 abbrev pub area_in_word : ℕ → List ℕ → Result ℕ LineFault
 area_in_word scale word = number_in (area_read (scale * scale) 9_000_000_000_000_000 word)
 
+-- a coordinate in a word, in whole units of the scale
 abbrev pub place_in_word : ℕ → List ℕ → Result ℤ LineFault
 place_in_word scale word = number_in (signed_read scale 9_000_000_000_000_000 word)
 

@@ -76,7 +76,7 @@ fn point<'a>(name: &'a [u8], x: &[u8], y: &[u8], scale: Scale) -> Result<Spot<'a
 }
 
 /// A name at a place, with the size behind `DIMS`.
-#[tactic(auto, unfolding(crate::specs::PlaceLine::sized_said))]
+#[tactic(auto, unfolding(crate::specs::PlaceLine::sized_said, crate::specs::PlaceLine::point_said))]
 fn sized<'a>(
     name: &'a [u8],
     x: &[u8],
@@ -89,17 +89,14 @@ fn sized<'a>(
     ensures name { IfOk result (λ s. s.name.now ≡ name.now) }
 {
     let (w, h) = next_sides(rest)?;
-    let x = read_place(x, scale)?;
-    let y = read_place(y, scale)?;
+    let spot = point(name, x, y, scale)?;
     let (w, h) = read_size(w, h, scale)?;
     if w == 0 || h == 0 {
         return Err(LineFault::ZeroSide);
     }
     Ok(Spot {
-        name,
-        x,
-        y,
         size: Some((w, h)),
+        ..spot
     })
 }
 

@@ -12,10 +12,12 @@ use Rattle.sf_polish.specs.declared.fault.ExprFault.TheVariants.{MissingBlock, N
 use Rattle.sf_polish.specs.Normal.{is_block, operands, operators}
 use Rattle.sf_polish.specs.Reading.{is_named, ended}
 
+-- false changes no disjunction
 or_false : (b : Bool) → (b || false) ≡ b
 or_false true = refl
 or_false false = refl
 
+-- a disjunction with true holds
 or_true : (b : Bool) → (b || true) ≡ true
 or_true true = refl
 or_true false = refl
@@ -36,15 +38,18 @@ named-other k b ts h =
 abbrev pub flags_of : ℕ → List Token → List Bool
 flags_of blocks ts = map (λ b. is_named b ts) (range_with_len 0 blocks)
 
+-- before the first token no block is flagged, as none is named
 pub flags-none : (blocks : ℕ) (flags : List Bool) (ts : List Token) → ts ≡ [] → flags ≡ replicate blocks false → flags ≡ flags_of (length flags) ts
 flags-none blocks flags ts none e =
     let n : length flags ≡ blocks = ap length e ∙ length-replicate blocks false in
     fill_by_all (λ b. is_named b ts) flags (length flags) false refl
     (λ k h. ap (λ z. get_or z k false) e ∙ get_or-replicate blocks k false false (omega (arith, n)) ∙ sym (ap (is_named k) none))
 
+-- a block's flag says whether the tokens name it
 pub flag-at : (flags : List Bool) (ts : List Token) (b : ℕ) (d : Bool) → flags ≡ flags_of (length flags) ts → b < length flags → get_or flags b d ≡ is_named b ts
 flag-at flags ts b d e h = ap (λ z. get_or z b d) e ∙ get_or-map-range_with_len (λ b. is_named b ts) 0 (length flags) b b d h (omega arith)
 
+-- once the flag of a block is set, each flag says whether the tokens with that block behind them name its block
 flag-step : (flags : List Bool) (ts : List Token) (b k : ℕ) → flags ≡ flags_of (length flags) ts → b < length flags → k < length flags → get_or (slice_set flags b true) k false ≡ is_named k (ts ++ token.Block b ∷ [])
 flag-step flags ts b k e h i = elim (eqb_tells k b) [
   | inl p ↦ ap (λ n. get_or (slice_set flags b true) n false) p.1 ∙ get_or-set_same flags b true false h ∙ sym (named-same b ts) ∙ ap (λ n. is_named n (ts ++ token.Block b ∷ [])) (sym p.1)
@@ -63,14 +68,17 @@ flags-all flags ts e = ap (list_all (λ b. b)) e ∙ list_all-map (λ b. b) (λ 
 
 -- the end of a text, by the flags and by how many more operands than operators there are
 module _ (last depth : ℕ) (flags : List Bool) (ts : List Token) (e : flags ≡ flags_of (length flags) ts) (balance : operands ts ≡ operators ts + depth) where
+  -- where a flag is not set, the text ends with a block missing
   pub ended-missing : list_all (λ b. b) flags ≡ false → ended (length flags) last ts ≡ Err (MissingBlock last)
   ended-missing none = rw (sym (flags-all flags ts e) ∙ none) refl
 
+  -- where all flags are set and not just one plan is left, the text ends unbalanced
   pub ended-unbalanced : list_all (λ b. b) flags ≡ true → depth ≢ 1 → ended (length flags) last ts ≡ Err (NotBallot last)
   ended-unbalanced all h =
       let other : (operators ts + 1 == operands ts) ≡ false = elim (eqb_tells (operators ts + 1) (operands ts)) [ inl p ↦ absurd (h (omega (arith, p.1, balance))) | inr p ↦ p.0 ] in
       rw (sym (flags-all flags ts e) ∙ all, other) refl
 
+  -- where all flags are set and one plan is left, the tokens are the expression
   pub ended-whole : list_all (λ b. b) flags ≡ true → depth ≡ 1 → ended (length flags) last ts ≡ Ok ts
   ended-whole all h =
       let one : (operators ts + 1 == operands ts) ≡ true = elim (eqb_tells (operators ts + 1) (operands ts)) [ inl p ↦ p.0 | inr p ↦ absurd (p.1 (omega (arith, h, balance))) ] in

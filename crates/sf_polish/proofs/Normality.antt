@@ -19,24 +19,28 @@ use Rattle.sf_polish.specs.Postfix.{postfix, IsSkewed}
 use Rattle.sf_polish.proofs.Spelling.{IsSkewedTreeOf, spelled-tree}
 use Rattle.sf_polish.proofs.Stack.{Reads, Reads-split, Reads-postfix, Reads-counts, Alternating, Alternating-postfix, count_by-postfix, length-postfix}
 
+-- reading from at least one plan leaves at least one
 Reads-some : (ts : List Token) (h g : ℕ) → 1 ≤ h → Reads h ts g → 1 ≤ g
 Reads-some [] h g k r = omega (arith, r)
 Reads-some (token.Beside ∷ ts) h g k r = Reads-some ts (h - 1) g (omega (arith, r.0)) r.1
 Reads-some (token.Above ∷ ts) h g k r = Reads-some ts (h - 1) g (omega (arith, r.0)) r.1
 Reads-some (token.Block b ∷ ts) h g k r = Reads-some ts (h + 1) g (omega arith) r
 
+-- reading at least one token from no plan leaves at least one
 pub Reads-first : (ts : List Token) (g : ℕ) → 1 ≤ length ts → Reads 0 ts g → 1 ≤ g
 Reads-first [] g k r = absurd (omega arith)
 Reads-first (token.Beside ∷ ts) g k r = absurd (omega (arith, r.0))
 Reads-first (token.Above ∷ ts) g k r = absurd (omega (arith, r.0))
 Reads-first (token.Block b ∷ ts) g k r = Reads-some ts (0 + 1) g (omega arith) r
 
+-- tokens that are read from no plan to one keep the ballot rule
 pub Reads-ballot : (ts : List Token) → Reads 0 ts 1 → IsBallot ts
 Reads-ballot ts r k low high =
     let whole : Reads 0 (take k ts ++ drop k ts) 1 = subst (λ z. Reads 0 z 1) (sym (take-append-drop k ts)) r in
     let parts = Reads-split (take k ts) (drop k ts) 0 1 whole in
     omega (arith, Reads-counts (take k ts) 0 parts.0 parts.1.0, Reads-first (take k ts) parts.0 (omega (arith, length-take k ts)) parts.1.0)
 
+-- in tokens that alternate no two neighbours are the same operator
 Alternating-adjacent : (p : Token) (ts : List Token) → Alternating p ts → (k : ℕ) (d : Token) → k + 1 < length (p ∷ ts) → same_operator (get_or (p ∷ ts) k d) (get_or (p ∷ ts) (k + 1) d) ≡ false
 Alternating-adjacent p [] a k d h = absurd (omega arith)
 Alternating-adjacent p (x ∷ ts) a zero d h = a.0
@@ -44,10 +48,12 @@ Alternating-adjacent p (x ∷ ts) a (suc k) d h =
     let e : suc k + 1 ≡ suc (k + 1) = omega arith in
     ap (λ n. same_operator (get_or (x ∷ ts) k d) (get_or (p ∷ x ∷ ts) n d)) e ∙ Alternating-adjacent x ts a.1 k d (omega arith)
 
+-- tokens that alternate behind some token alternate by themselves
 pub alternates : (p : Token) (ts : List Token) → Alternating p ts → Alternates ts
 alternates p [] a k d h = absurd (omega arith)
 alternates p (x ∷ ts) a k d h = Alternating-adjacent x ts a.1 k d h
 
+-- where all leaves are blocks below n, no token of the postfix is outside n blocks
 postfix-inside : (n : ℕ) (t : Tree) → AllByRecursion (λ leaf. leaf.0 < n) (leaves t) → AllByRecursion (λ x. IsFalse (is_outside n x)) (postfix t)
 postfix-inside n (Leaf b s) h = (not_from_true (nat_lt b n) (lt-ltb b n h.0), tt)
 postfix-inside n (Beside l r) h =
@@ -65,6 +71,7 @@ postfix-normal blocks t once skewed = record {
   alternates = alternates (token.Block 0) (postfix t) (Alternating-postfix (token.Block 0) t skewed);
 }
 
+-- tokens of which no two neighbours are the same operator alternate
 Alternating-from : (p : Token) (ts : List Token) → ((k : ℕ) (d : Token) → k + 1 < length (p ∷ ts) → same_operator (get_or (p ∷ ts) k d) (get_or (p ∷ ts) (k + 1) d) ≡ false) → Alternating p ts
 Alternating-from p [] a = tt
 Alternating-from p (x ∷ ts) a = (
@@ -74,10 +81,12 @@ Alternating-from p (x ∷ ts) a = (
       ap (λ n. same_operator (get_or (x ∷ ts) k d) (get_or (p ∷ x ∷ ts) n d)) e ∙ a (suc k) d (omega arith)),
 )
 
+-- tokens that alternate by themselves alternate behind a block
 pub first-free : (ts : List Token) → Alternates ts → Alternating (token.Block 0) ts
 first-free [] a = tt
 first-free (x ∷ ts) a = (refl, Alternating-from x ts (λ k d h. a k d h))
 
+-- a list that is taken one further begins with the first token and goes on as the rest
 take-next : (x : Token) (ts : List Token) (k : ℕ) → take (k + 1) (x ∷ ts) ≡ x ∷ take k ts
 take-next x ts k =
     let e : k + 1 ≡ suc k = omega arith in
@@ -87,6 +96,7 @@ take-next x ts k =
 abbrev Ahead : ℕ → List Token → Type 0
 Ahead h ts = (k : ℕ) → 1 ≤ k → k ≤ length ts → operators (take k ts) < operands (take k ts) + h
 
+-- what keeps operands ahead keeps them ahead behind its first token, counted on from it
 ahead-next : (x : Token) (ts : List Token) (h i : ℕ) → cond (not (is_operand x)) 1 0 + i ≡ cond (is_operand x) 1 0 + h → Ahead h (x ∷ ts) → Ahead i ts
 ahead-next x ts h i e a k low high =
     omega (
@@ -99,9 +109,11 @@ ahead-next x ts h i e a k low high =
       sum_by-cons (λ t. cond (is_operand t) 1 0) x (take k ts),
     )
 
+-- where operands stay ahead, the first token leaves them ahead
 ahead-first : (x : Token) (ts : List Token) (h : ℕ) → Ahead h (x ∷ ts) → cond (not (is_operand x)) 1 0 < cond (is_operand x) 1 0 + h
 ahead-first x ts h a = omega (arith, a 1 (omega arith) (omega arith), sum_by-cons (λ t. cond (not (is_operand t)) 1 0) x (take 0 ts), sum_by-cons (λ t. cond (is_operand t) 1 0) x (take 0 ts))
 
+-- where operands stay ahead and the counts meet, the tokens are read to so many plans
 reads-from : (ts : List Token) (h g : ℕ) → Ahead h ts → operands ts + h ≡ operators ts + g → Reads h ts g
 reads-from [] h g a e = omega (arith, e)
 reads-from (token.Beside ∷ ts) h g a e =
@@ -127,27 +139,32 @@ numbers (token.Beside ∷ ts) = numbers ts
 numbers (token.Above ∷ ts) = numbers ts
 numbers (token.Block b ∷ ts) = b ∷ numbers ts
 
+-- there are as many numbers of blocks as operands
 pub length-numbers : (ts : List Token) → length (numbers ts) ≡ operands ts
 length-numbers [] = refl
 length-numbers (token.Beside ∷ ts) = omega (arith, length-numbers ts, sum_by-cons (λ t. cond (is_operand t) 1 0) token.Beside ts)
 length-numbers (token.Above ∷ ts) = omega (arith, length-numbers ts, sum_by-cons (λ t. cond (is_operand t) 1 0) token.Above ts)
 length-numbers (token.Block b ∷ ts) = omega (arith, length-numbers ts, sum_by-cons (λ t. cond (is_operand t) 1 0) (token.Block b) ts)
 
+-- a block's number stands as often among the numbers as the block among the tokens
 pub count-numbers : (b : ℕ) (ts : List Token) → count_by (λ n. n == b) (numbers ts) ≡ count_by (is_block b) ts
 count-numbers b [] = refl
 count-numbers b (token.Beside ∷ ts) = omega (arith, count-numbers b ts, sum_by-cons (λ t. cond (is_block b t) 1 0) token.Beside ts)
 count-numbers b (token.Above ∷ ts) = omega (arith, count-numbers b ts, sum_by-cons (λ t. cond (is_block b t) 1 0) token.Above ts)
 count-numbers b (token.Block c ∷ ts) = omega (arith, count-numbers b ts, sum_by-cons (λ t. cond (is_block b t) 1 0) (token.Block c) ts, sum_by-cons (λ n. cond (n == b) 1 0) c (numbers ts))
 
+-- a number that is not outside n blocks is below n
 pub inside-number : (n b : ℕ) → not (nat_lt b n) ≡ false → b < n
 inside-number n b h = ltb-true b n (true_from_ne_false (nat_lt b n) (λ e. true≢false (sym (ap not e) ∙ h)))
 
+-- where no token is outside n blocks, all numbers of blocks are below n
 pub numbers-below : (n : ℕ) (ts : List Token) → AllByRecursion (λ t. IsFalse (is_outside n t)) ts → AllByRecursion (λ b. b < n) (numbers ts)
 numbers-below n [] h = tt
 numbers-below n (token.Beside ∷ ts) h = numbers-below n ts h.1
 numbers-below n (token.Above ∷ ts) h = numbers-below n ts h.1
 numbers-below n (token.Block b ∷ ts) h = (inside-number n b h.0, numbers-below n ts h.1)
 
+-- operands and operators together are all tokens
 pub both-kinds : (ts : List Token) → operands ts + operators ts ≡ length ts
 both-kinds [] = refl
 both-kinds (token.Beside ∷ ts) = omega (arith, both-kinds ts, sum_by-cons (λ t. cond (not (is_operand t)) 1 0) token.Beside ts, sum_by-cons (λ t. cond (is_operand t) 1 0) token.Beside ts)

@@ -20,18 +20,21 @@ use Rattle.sf_polish.specs.Normal.{is_outside}
 use Rattle.sf_polish.specs.Postfix.{shape_at}
 use Rattle.sf_polish.specs.Shaping.{no_shape}
 use Rattle.sf_polish.specs.Text.{shaped_text, expr_words, expr_text, spelled_words, IsWritable, SpellsExpr}
-use Rattle.sf_polish.proofs.WordTexts.{all-weaker, below}
+use Rattle.sf_polish.proofs.WordTexts.{all-weaker, below, not_true}
 
 -- bytes of which none is a blank
 abbrev IsSolid : List ℕ → Type 0
 IsSolid word = has_none is_blank_byte word ≡ true
 
+-- two words without blanks make one without blanks
 solid-append : (xs ys : List ℕ) → IsSolid xs → IsSolid ys → IsSolid (xs ++ ys)
 solid-append xs ys h k = list_all-append (λ b. not (is_blank_byte b)) xs ys ∙ rw (h, k) refl
 
+-- a digit is no blank
 not_blank : (d : ℕ) → is_digit d ≡ true → not (is_blank_byte d) ≡ true
 not_blank d e = grind (arith, nat_tests)
 
+-- a written number has no blanks
 solid-decimal : (n : ℕ) → n < 2 ^ 64 → IsSolid (decimal n)
 solid-decimal n h = all-weaker is_digit (λ b. not (is_blank_byte b)) not_blank (decimal n) (digits_written n h)
 
@@ -40,15 +43,18 @@ record IsWord (word : List ℕ) : Type 0 where
   some : 0 < length word
   solid : IsSolid word
 
+-- words that are joined by spaces are cut into just these words
 words-joined : (ws : List (List ℕ)) → AllByRecursion IsWord ws → words is_blank_byte (join_with_byte 32 ws) ≡ ws
 words-joined [] h = refl
 words-joined (x ∷ []) h = words-last is_blank_byte x h.0.some h.0.solid
 words-joined (x ∷ y ∷ ws) h =
     words-written is_blank_byte x (join_with_byte 32 (y ∷ ws)) 32 h.0.some h.0.solid refl ∙ ap (λ z. x ∷ z) (words-joined (y ∷ ws) h.1)
 
+-- what is no blank is no line feed
 not_feed : (b : ℕ) → not (is_blank_byte b) ≡ true → not (is_line_feed b) ≡ true
 not_feed b e = grind (arith, nat_tests)
 
+-- words that are joined by spaces hold no line feed
 no_feeds : (ws : List (List ℕ)) → AllByRecursion IsWord ws → has_none is_line_feed (join_with_byte 32 ws) ≡ true
 no_feeds [] h = refl
 no_feeds (x ∷ []) h = all-weaker (λ b. not (is_blank_byte b)) (λ b. not (is_line_feed b)) not_feed x h.0.solid
@@ -56,10 +62,7 @@ no_feeds (x ∷ y ∷ ws) h =
     let first = all-weaker (λ b. not (is_blank_byte b)) (λ b. not (is_line_feed b)) not_feed x h.0.solid in
     list_all-append (λ b. not (is_line_feed b)) x (32 ∷ join_with_byte 32 (y ∷ ws)) ∙ rw (first, no_feeds (y ∷ ws) h.1) refl
 
-not_true : (b : Bool) → not b ≡ true → b ≡ false
-not_true true e = absurd cc
-not_true false e = refl
-
+-- a text without a line feed is one line
 one-line : (b : ℕ) (bytes : List ℕ) → has_none is_line_feed (b ∷ bytes) ≡ true → lines (b ∷ bytes) ≡ (b ∷ bytes) ∷ []
 one-line b [] h =
     let none = not_true (is_line_feed b) (and_true (not (is_line_feed b)) true h).0 in
@@ -68,10 +71,12 @@ one-line b (c ∷ bytes) h =
     let both = and_true (not (is_line_feed b)) (has_none is_line_feed (c ∷ bytes)) h in
     rw (not_true (is_line_feed b) both.0, one-line c bytes both.1) refl
 
+-- words that were given a line have the same texts
 texts-of : (n : ℕ) (ws : List (List ℕ)) → map (λ (w : LineWord). w.text) (map (λ w. record { line = n; text = w }) ws) ≡ ws
 texts-of n [] = refl
 texts-of n (w ∷ ws) = ap (λ z. w ∷ z) (texts-of n ws)
 
+-- of a text in one line the words are those of the line
 spelled-line : (text : List ℕ) → 0 < length text → has_none is_line_feed text ≡ true → spelled_words text ≡ words is_blank_byte text
 spelled-line [] some h = absurd (omega arith)
 spelled-line (b ∷ bytes) some h =
@@ -79,11 +84,13 @@ spelled-line (b ∷ bytes) some h =
     ∙ ap (map (λ (w : LineWord). w.text)) (append-nil (words_of_line (record { number = 1; bytes = b ∷ bytes })))
     ∙ texts-of 1 (words is_blank_byte (b ∷ bytes))
 
+-- at least one word makes a text that is not empty
 joined-some : (ws : List (List ℕ)) → 0 < length ws → AllByRecursion IsWord ws → 0 < length (join_with_byte 32 ws)
 joined-some [] some h = absurd (omega arith)
 joined-some (x ∷ []) some h = h.0.some
 joined-some (x ∷ y ∷ ws) some h = omega (arith, h.0.some, length-append x (32 ∷ join_with_byte 32 (y ∷ ws)))
 
+-- what is written of a token is a word
 shaped-word : (blocks : ℕ) (expr : Expr) → blocks < 2 ^ 16 → IsWritable blocks expr → (t : Token) → is_outside blocks t ≡ false → IsWord (shaped_text expr.shapes t)
 shaped-word blocks expr small wr token.Beside h = record { some = omega arith; solid = refl }
 shaped-word blocks expr small wr token.Above h = record { some = omega arith; solid = refl }
@@ -97,10 +104,12 @@ shaped-word blocks expr small wr (token.Block b) h =
       solid = solid-append (decimal b) (58 ∷ (decimal s.w ++ (120 ∷ decimal s.h))) number shape;
     }
 
+-- what is written of tokens are words
 words-of-all : (blocks : ℕ) (expr : Expr) → blocks < 2 ^ 16 → IsWritable blocks expr → (ts : List Token) → AllByRecursion (λ t. is_outside blocks t ≡ false) ts → AllByRecursion IsWord (map (shaped_text expr.shapes) ts)
 words-of-all blocks expr small wr [] h = tt
 words-of-all blocks expr small wr (t ∷ ts) h = (shaped-word blocks expr small wr t h.0, words-of-all blocks expr small wr ts h.1)
 
+-- the text that is written of an expression spells it
 pub expr-written : (blocks : ℕ) (expr : Expr) → blocks < 2 ^ 16 → IsWritable blocks expr → SpellsExpr blocks (expr_text expr) expr
 expr-written blocks expr small wr =
     let ws = expr_words expr in

@@ -12,6 +12,7 @@ pub record JoinsBeside (l r t : Tree) : Type 0 where
   pub high : height t ≡ max (height l) (height r)
   pub same_spots : (x y : ℕ) → spots_at x y t ≡ spots_at x y l ++ spots_at (x + width l) y r
 
+-- t is the plan of l with r above it
 pub record JoinsAbove (l r t : Tree) : Type 0 where
   pub skewed : IsSkewed t
   pub same_leaves : leaves t ≡ leaves l ++ leaves r
@@ -19,6 +20,7 @@ pub record JoinsAbove (l r t : Tree) : Type 0 where
   pub high : height t ≡ height l + height r
   pub same_spots : (x y : ℕ) → spots_at x y t ≡ spots_at x y l ++ spots_at x (y + height l) r
 
+-- two skewed plans side by side, made skewed, are the plan of both
 pub beside-joins : (l r : Tree) → IsSkewed l → IsSkewed r → JoinsBeside l r (beside l r)
 beside-joins l (Leaf b s) h k = record { skewed = (h, k, refl); same_leaves = refl; wide = refl; high = refl; same_spots = λ x y. refl }
 beside-joins l (Above r q) h k = record { skewed = (h, k, refl); same_leaves = refl; wide = refl; high = refl; same_spots = λ x y. refl }
@@ -36,6 +38,7 @@ beside-joins l (Beside r q) h k =
           ∙ append_assoc (spots_at x y l) (spots_at (x + width l) y r) (spots_at ((x + width l) + width r) y q);
     }
 
+-- two skewed plans one above the other, made skewed, are the plan of both
 pub above-joins : (l r : Tree) → IsSkewed l → IsSkewed r → JoinsAbove l r (above l r)
 above-joins l (Leaf b s) h k = record { skewed = (h, k, refl); same_leaves = refl; wide = refl; high = refl; same_spots = λ x y. refl }
 above-joins l (Beside r q) h k = record { skewed = (h, k, refl); same_leaves = refl; wide = refl; high = refl; same_spots = λ x y. refl }
@@ -53,11 +56,13 @@ above-joins l (Above r q) h k =
           ∙ append_assoc (spots_at x y l) (spots_at x (y + height l) r) (spots_at x ((y + height l) + height r) q);
     }
 
+-- the skewed plan of a plan is skewed
 pub skewed-skewed : (t : Tree) → IsSkewed (skewed t)
 skewed-skewed (Leaf b s) = tt
 skewed-skewed (Beside l r) = (beside-joins (skewed l) (skewed r) (skewed-skewed l) (skewed-skewed r)).skewed
 skewed-skewed (Above l r) = (above-joins (skewed l) (skewed r) (skewed-skewed l) (skewed-skewed r)).skewed
 
+-- a plan's skewed plan has its leaves, its size and its spots
 pub skewed-same : (t : Tree) → IsSamePlace (skewed t) t
 skewed-same (Leaf b s) = record { order = refl; wide = refl; high = refl; places = λ x y. refl }
 skewed-same (Beside l r) =

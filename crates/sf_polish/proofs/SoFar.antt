@@ -28,14 +28,17 @@ pub record IsFront (blocks : ℕ) (ts : List Token) : Type 0 where
   pub reads : Reads 0 ts depth
   pub alternating : Alternating (token.Block 0) ts
 
+-- no tokens are a front
 pub front-start : (blocks : ℕ) → IsFront blocks []
 front-start blocks = record { times = λ b. omega arith; inside = tt; depth = 0; reads = refl; alternating = tt }
 
 -- ---- named and counted
 
+-- a block stands among tokens as often as in the first and in the rest
 pub times-cons : (b : ℕ) (t : Token) (ts : List Token) → count_by (is_block b) (t ∷ ts) ≡ cond (is_block b t) 1 0 + count_by (is_block b) ts
 times-cons b t ts = sum_by-cons (λ x. cond (is_block b x) 1 0) t ts
 
+-- a block that is not named stands nowhere
 pub unnamed : (b : ℕ) (ts : List Token) → is_named b ts ≡ false → count_by (is_block b) ts ≡ 0
 unnamed b [] h = refl
 unnamed b (t ∷ ts) h = by_test (is_block b t) refl h (unnamed b ts)
@@ -44,6 +47,7 @@ unnamed b (t ∷ ts) h = by_test (is_block b t) refl h (unnamed b ts)
     by_test true e h more = absurd cc
     by_test false e h more = omega (arith, times-cons b t ts, more h, ap {B = ℕ} (λ z. cond z 1 0) e)
 
+-- a block that is named stands at least once
 pub named : (b : ℕ) (ts : List Token) → is_named b ts ≡ true → 1 ≤ count_by (is_block b) ts
 named b [] h = absurd cc
 named b (t ∷ ts) h = by_test (is_block b t) refl h (named b ts)
@@ -52,6 +56,7 @@ named b (t ∷ ts) h = by_test (is_block b t) refl h (named b ts)
     by_test true e h more = omega (arith, times-cons b t ts, ap {B = ℕ} (λ z. cond z 1 0) e)
     by_test false e h more = omega (arith, times-cons b t ts, more h, ap {B = ℕ} (λ z. cond z 1 0) e)
 
+-- a block that stands nowhere is not named
 pub uncounted : (b : ℕ) (ts : List Token) → count_by (is_block b) ts ≡ 0 → is_named b ts ≡ false
 uncounted b ts h = by_test (is_named b ts) refl
   where
@@ -59,6 +64,7 @@ uncounted b ts h = by_test (is_named b ts) refl
     by_test true e = absurd (omega (arith, named b ts e, h))
     by_test false e = e
 
+-- a block that stands at least once is named
 pub counted : (b : ℕ) (ts : List Token) → 1 ≤ count_by (is_block b) ts → is_named b ts ≡ true
 counted b ts h = by_test (is_named b ts) refl
   where
@@ -78,15 +84,18 @@ uncounted-outside blocks b (token.Block c ∷ ts) h inside =
 -- ---- one token more
 
 module _ (blocks : ℕ) (ts : List Token) (front : IsFront blocks ts) where
+  -- a token at the end adds to a block's count what it is
   front-times : (t : Token) (b : ℕ) → count_by (is_block b) (ts ++ t ∷ []) ≡ count_by (is_block b) ts + count_by (is_block b) (t ∷ [])
   front-times t b = sum_by-append (λ x. cond (is_block b x) 1 0) ts (t ∷ [])
 
+  -- behind a block that was not named no block stands twice
   block_times : (b c : ℕ) → is_named b ts ≡ false → count_by (is_block c) (ts ++ token.Block b ∷ []) ≤ 1
   block_times b c free = elim (eqb_tells b c) [
     | inl p ↦ omega (arith, front-times (token.Block b) c, times-cons c (token.Block b) [], ap {B = ℕ} (λ z. cond z 1 0) p.0, unnamed c ts (ap (λ n. is_named n ts) (sym p.1) ∙ free))
     | inr p ↦ omega (arith, front-times (token.Block b) c, times-cons c (token.Block b) [], ap {B = ℕ} (λ z. cond z 1 0) p.0, front.times c)
   ]
 
+  -- a front goes on with a block that it does not name
   pub front-block : (b : ℕ) → is_named b ts ≡ false → is_outside blocks (token.Block b) ≡ false → IsFront blocks (ts ++ token.Block b ∷ [])
   front-block b free within = record {
     times = λ c. block_times b c free;
@@ -101,9 +110,11 @@ module _ (blocks : ℕ) (ts : List Token) (front : IsFront blocks ts) where
       last_free token.Above b = refl
       last_free (token.Block c) b = refl
 
+  -- where more than one operand is ahead, two plans wait
   enough : operators ts + 1 < operands ts → 2 ≤ front.depth
   enough h = omega (arith, h, Reads-counts ts 0 front.depth front.reads)
 
+  -- a front with two plans that wait, and that does not end in Beside, goes on with Beside
   pub front-beside : operators ts + 1 < operands ts → ends_in token.Beside ts ≡ false → IsFront blocks (ts ++ token.Beside ∷ [])
   front-beside more other = record {
     times = λ c. omega (arith, front-times token.Beside c, times-cons c token.Beside [], front.times c);
@@ -113,6 +124,7 @@ module _ (blocks : ℕ) (ts : List Token) (front : IsFront blocks ts) where
     alternating = Alternating-append (token.Block 0) ts (token.Beside ∷ []) front.alternating (other, tt);
   }
 
+  -- a front with two plans that wait, and that does not end in Above, goes on with Above
   pub front-above : operators ts + 1 < operands ts → ends_in token.Above ts ≡ false → IsFront blocks (ts ++ token.Above ∷ [])
   front-above more other = record {
     times = λ c. omega (arith, front-times token.Above c, times-cons c token.Above [], front.times c);
@@ -124,9 +136,11 @@ module _ (blocks : ℕ) (ts : List Token) (front : IsFront blocks ts) where
 
 -- ---- what a word that is taken tells
 
+-- what is known of the token that a word for an operator adds: it is that operator, and a front goes on with it
 abbrev after_operator : List Token → ℕ → Token → Token → Type 0
 after_operator ts line t u = (u ≡ t) × (operators ts + 1 < operands ts) × (ends_in t ts ≡ false)
 
+-- an operator that is taken is the one of the word, and may stand there
 operator-known : (ts : List Token) (line : ℕ) (t u : Token) → operator_after ts line t ≡ Ok u → after_operator ts line t u
 operator-known ts line t u h = by_count (nat_le (operands ts) (operators ts + 1)) (ends_in t ts) refl refl h
   where
@@ -137,6 +151,7 @@ operator-known ts line t u h = by_count (nat_le (operands ts) (operators ts + 1)
         let same : u ≡ t = cc in
         (same, elim (leb_tells (operands ts) (operators ts + 1)) [ inl p ↦ absurd (let z : true ≡ false = sym p.0 ∙ e in cc) | inr p ↦ p.1 ], f)
 
+-- a token that is taken is the one of the word, and the front goes on with it
 pub front-next : (blocks : ℕ) (ts : List Token) (line : ℕ) (t u : Token) → IsFront blocks ts → is_outside blocks t ≡ false → token_after ts line (Some t) ≡ Ok u → (u ≡ t) × IsFront blocks (ts ++ t ∷ [])
 front-next blocks ts line token.Beside u front within h =
     let k = operator-known ts line token.Beside u h in
@@ -152,6 +167,7 @@ front-next blocks ts line (token.Block b) u front within h = by_name (is_named b
 
 -- ---- the end
 
+-- where a test of a range says that all its blocks are named, each is
 all-named : (ts : List Token) (a n : ℕ) → list_all (λ b. is_named b ts) (range_with_len a n) ≡ true → (b : ℕ) → a ≤ b → b < a + n → is_named b ts ≡ true
 all-named ts a zero h b low high = absurd (omega (arith, low, high))
 all-named ts a (suc n) h b low high =
@@ -161,14 +177,17 @@ all-named ts a (suc n) h b low high =
       | inr p ↦ let same : a ≡ b = omega (arith, low, p) in ap (λ k. is_named k ts) (sym same) ∙ both.0
     ]
 
+-- where each block of a range is named, the test of the range says so
 named-all : (ts : List Token) (a n : ℕ) → ((b : ℕ) → a ≤ b → b < a + n → is_named b ts ≡ true) → list_all (λ b. is_named b ts) (range_with_len a n) ≡ true
 named-all ts a zero f = refl
 named-all ts a (suc n) f = rw (f a (omega arith) (omega arith), named-all ts (a + 1) n (λ b low high. f b (omega (arith, low)) (omega (arith, high)))) refl
 
+-- where each block stands once and no token is outside, there are as many operands as blocks
 one-each : (blocks : ℕ) (ts : List Token) → ((b : ℕ) → b < blocks → count_by (is_block b) ts ≡ 1) → AllByRecursion (λ t. is_outside blocks t ≡ false) ts → operands ts ≡ blocks
 one-each blocks ts each inside =
     sym (length-numbers ts) ∙ length-each_once (λ (b : ℕ). b) blocks (numbers ts) (λ b h. count-numbers b ts ∙ each b h) (numbers-below blocks ts inside)
 
+-- a front that names all blocks and whose counts meet is normal
 front-normal : (blocks : ℕ) (ts : List Token) → IsFront blocks ts → list_all (λ b. is_named b ts) (range_with_len 0 blocks) ≡ true → operators ts + 1 ≡ operands ts → IsNormal blocks ts
 front-normal blocks ts front all balance =
     let each : (b : ℕ) → b < blocks → count_by (is_block b) ts ≡ 1 = λ b h. omega (arith, front.times b, named b ts (all-named ts 0 blocks all b (omega arith) (omega (arith, h)))) in
@@ -182,6 +201,7 @@ front-normal blocks ts front all balance =
       alternates = alternates (token.Block 0) ts front.alternating;
     }
 
+-- where a front ends well, its tokens are the expression and are normal
 pub front-ends : (blocks last : ℕ) (ts us : List Token) → IsFront blocks ts → ended blocks last ts ≡ Ok us → (us ≡ ts) × IsNormal blocks ts
 front-ends blocks last ts us front h = by_tests (list_all (λ b. is_named b ts) (range_with_len 0 blocks)) (operators ts + 1 == operands ts) refl refl h
   where
@@ -194,6 +214,7 @@ front-ends blocks last ts us front h = by_tests (list_all (λ b. is_named b ts) 
 
 -- ---- whole texts, by what each word spells
 
+-- what each word spells
 abbrev pub spelled_by : (List ℕ → Option Token) → List LineWord → List (Option Token)
 spelled_by spelled ws = map (λ w. spelled w.text) ws
 
@@ -205,16 +226,19 @@ pub record IsSpelled (blocks : ℕ) (spelled : List ℕ → Option Token) (earli
   pub normal : IsNormal blocks us
 
 module _ (blocks last : ℕ) (spelled : List ℕ → Option Token) where
+  -- a front that ends well is spelled by no further word
   spelled-end : (earlier us : List Token) → IsFront blocks earlier → ended blocks last earlier ≡ Ok us → IsSpelled blocks spelled earlier [] us
   spelled-end earlier us front h =
       let e = front-ends blocks last earlier us front h in
       record { rest = []; whole = e.0 ∙ sym (append-nil earlier); words = refl; normal = subst (IsNormal blocks) (sym e.0) e.1 }
 
+  -- where a word spells a token and the rest is spelled behind it, both are spelled
   spelled-step : (earlier us : List Token) (word : LineWord) (more : List LineWord) (t : Token) → spelled word.text ≡ Some t → IsSpelled blocks spelled (earlier ++ t ∷ []) more us → IsSpelled blocks spelled earlier (word ∷ more) us
   spelled-step earlier us word more t e k =
       let front : map Some (t ∷ k.rest) ≡ Some t ∷ map Some k.rest = refl in
       record { rest = t ∷ k.rest; whole = k.whole ∙ append_assoc earlier (t ∷ []) k.rest; words = cc (e, k.words); normal = k.normal }
 
+  -- a word and those behind it are spelled, whatever the word spells
   by_word : (earlier us : List Token) (word : LineWord) (more : List LineWord) (o : Option Token) (r : Result Token ExprFault) → IsFront blocks earlier → ((t : Token) → spelled word.text ≡ Some t → is_outside blocks t ≡ false)
       → ((t : Token) → IsFront blocks (earlier ++ t ∷ []) → tokens_from blocks last spelled (earlier ++ t ∷ []) more ≡ Ok us → IsSpelled blocks spelled (earlier ++ t ∷ []) more us)
       → spelled word.text ≡ o → token_after earlier word.line o ≡ r → (r >>= (λ t. tokens_from blocks last spelled (earlier ++ t ∷ []) more)) ≡ Ok us → IsSpelled blocks spelled earlier (word ∷ more) us
@@ -224,6 +248,7 @@ module _ (blocks last : ℕ) (spelled : List ℕ → Option Token) where
       let k = front-next blocks earlier word.line t u front (within t p) q in
       spelled-step earlier us word more t p (next t k.1 (ap (λ z. tokens_from blocks last spelled (earlier ++ z ∷ []) more) (sym k.0) ∙ h))
 
+  -- words that are read as tokens spell them, and these are normal
   pub tokens-known : (within : (w : List ℕ) (t : Token) → spelled w ≡ Some t → is_outside blocks t ≡ false) (ws : List LineWord) (earlier us : List Token) → IsFront blocks earlier → tokens_from blocks last spelled earlier ws ≡ Ok us → IsSpelled blocks spelled earlier ws us
   tokens-known within [] earlier us front h = spelled-end earlier us front (sym (tokens-end blocks last spelled earlier) ∙ h)
   tokens-known within (word ∷ more) earlier us front h =
@@ -270,6 +295,7 @@ module _ (blocks last : ℕ) (spelled : List ℕ → Option Token) where
         let balance : (operators ts + 1 == operands ts) ≡ true = elim (eqb_tells (operators ts + 1) (operands ts)) [ inl p ↦ p.0 | inr p ↦ absurd (p.1 (omega (arith, count, both-kinds ts, normal.whole))) ] in
         rw (all, balance) refl
 
+    -- words that spell a normal expression are read as its tokens
     pub tokens-again : (ws : List LineWord) (earlier rest : List Token) → ts ≡ earlier ++ rest → spelled_by spelled ws ≡ map Some rest → tokens_from blocks last spelled earlier ws ≡ Ok ts
     tokens-again [] earlier [] e h =
         let all : earlier ≡ ts = sym (e ∙ append-nil earlier) in

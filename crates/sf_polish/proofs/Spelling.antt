@@ -21,6 +21,7 @@ parse shapes (r ∷ l ∷ stack) (token.Beside ∷ ts) = parse shapes (Beside l 
 parse shapes (r ∷ l ∷ stack) (token.Above ∷ ts) = parse shapes (Above l r ∷ stack) ts
 parse shapes stack (t ∷ ts) = parse shapes stack ts
 
+-- each leaf finds its shape in the list
 abbrev pub HasShapes : List Shape → Tree → Type 0
 HasShapes shapes tree = AllByRecursion (λ leaf. leaf.1 ≡ shape_at shapes leaf.0) (leaves tree)
 
@@ -36,11 +37,13 @@ parse-postfix shapes (Above l r) stack rest h =
     ∙ parse-postfix shapes l stack (postfix r ++ (token.Above ∷ rest)) (each-left _ (leaves l) (leaves r) h)
     ∙ parse-postfix shapes r (l ∷ stack) (token.Above ∷ rest) (each-right _ (leaves l) (leaves r) h)
 
+-- the tokens of an expression that spells a plan are parsed to that plan
 pub parse-spelled : (expr : Expr) (t : Tree) → Spells expr t → parse expr.shapes [] expr.tokens ≡ t ∷ []
 parse-spelled expr t spells =
     ap (parse expr.shapes []) (sym spells.tokens ∙ sym (append-nil (postfix t)))
     ∙ parse-postfix expr.shapes t [] [] (recursion_from_All (λ leaf. leaf.1 ≡ shape_at expr.shapes leaf.0) (leaves t) spells.shapes)
 
+-- lists of one plan are equal only where the plans are
 one-same : (s t : Tree) → ◌≡◌ {A = List Tree} (s ∷ []) (t ∷ []) → s ≡ t
 one-same s t e = cc
 
@@ -64,16 +67,19 @@ record Read (shapes : List Shape) (before : List Token) (stack : List Tree) (g :
   tokens : postfixes stack ≡ before
   good : AllByRecursion (λ s. IsSkewed s × HasShapes shapes s) stack
 
+-- a plan whose last token is no Beside is no Beside
 free_right : (r : Tree) (p : Token) → top r ≡ p → same_operator p token.Beside ≡ false → is_beside r ≡ false
 free_right (Leaf b s) p e h = refl
 free_right (Beside l r) p e h = ap (λ z. same_operator z token.Beside) e ∙ h
 free_right (Above l r) p e h = refl
 
+-- a plan whose last token is no Above is no Above
 free_upper : (r : Tree) (p : Token) → top r ≡ p → same_operator p token.Above ≡ false → is_above r ≡ false
 free_upper (Leaf b s) p e h = refl
 free_upper (Beside l r) p e h = refl
 free_upper (Above l r) p e h = ap (λ z. same_operator z token.Above) e ∙ h
 
+-- tokens that can be read are parsed to skewed plans whose postfixes they are
 reading : (shapes : List Shape) (ts : List Token) (p : Token) (stack : List Tree) (before : List Token) (h g : ℕ) → length stack ≡ h → postfixes stack ≡ before → IsStack shapes p stack → Alternating p ts → Reads h ts g → Read shapes (before ++ ts) (parse shapes stack ts) g
 reading shapes [] p [] before h g n e k a r = record { count = n ∙ r; tokens = e ∙ sym (append-nil before); good = tt }
 reading shapes [] p (t ∷ stack) before h g n e k a r = record { count = n ∙ r; tokens = e ∙ sym (append-nil before); good = k.1 }
@@ -104,11 +110,13 @@ pub record IsSkewedTreeOf (expr : Expr) (tree : Tree) : Type 0 where
   pub skewed : IsSkewed tree
   pub parsed : parse expr.shapes [] expr.tokens ≡ tree ∷ []
 
+-- where the parse leaves one plan, the expression stands for that skewed plan
 only-one : (expr : Expr) (stack : List Tree) → parse expr.shapes [] expr.tokens ≡ stack → Read expr.shapes expr.tokens stack 1 → (tree : Tree) × IsSkewedTreeOf expr tree
 only-one expr [] p read = absurd (omega (arith, read.count))
 only-one expr (t ∷ []) p read = (t, record { spells = record { tokens = read.tokens; shapes = All-from_recursion _ (leaves t) read.good.0.1 }; skewed = read.good.0.0; parsed = p })
 only-one expr (t ∷ u ∷ stack) p read = absurd (omega (arith, read.count))
 
+-- an expression that can be read to one plan and alternates stands for a skewed plan
 pub spelled-tree : (expr : Expr) → Alternating (token.Block 0) expr.tokens → Reads 0 expr.tokens 1 → (tree : Tree) × IsSkewedTreeOf expr tree
 spelled-tree expr a r =
     only-one expr (parse expr.shapes [] expr.tokens) refl (reading expr.shapes expr.tokens (token.Block 0) [] [] 0 1 refl refl tt a r)

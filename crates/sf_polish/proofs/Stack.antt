@@ -16,18 +16,21 @@ Reads h (token.Beside ∷ ts) g = (2 ≤ h) × Reads (h - 1) ts g
 Reads h (token.Above ∷ ts) g = (2 ≤ h) × Reads (h - 1) ts g
 Reads h (token.Block b ∷ ts) g = Reads (h + 1) ts g
 
+-- what is read to g plans, and then on to k, is read to k
 pub Reads-append : (xs ys : List Token) (h g k : ℕ) → Reads h xs g → Reads g ys k → Reads h (xs ++ ys) k
 Reads-append [] ys h g k p q = subst (λ n. Reads n ys k) (sym p) q
 Reads-append (token.Beside ∷ xs) ys h g k p q = (p.0, Reads-append xs ys (h - 1) g k p.1 q)
 Reads-append (token.Above ∷ xs) ys h g k p q = (p.0, Reads-append xs ys (h - 1) g k p.1 q)
 Reads-append (token.Block b ∷ xs) ys h g k p q = Reads-append xs ys (h + 1) g k p q
 
+-- what is read to k plans is read to some number first, and then on to k
 pub Reads-split : (xs ys : List Token) (h k : ℕ) → Reads h (xs ++ ys) k → (g : ℕ) × (Reads h xs g × Reads g ys k)
 Reads-split [] ys h k p = (h, (refl, p))
 Reads-split (token.Beside ∷ xs) ys h k p = let r = Reads-split xs ys (h - 1) k p.1 in (r.0, ((p.0, r.1.0), r.1.1))
 Reads-split (token.Above ∷ xs) ys h k p = let r = Reads-split xs ys (h - 1) k p.1 in (r.0, ((p.0, r.1.0), r.1.1))
 Reads-split (token.Block b ∷ xs) ys h k p = Reads-split xs ys (h + 1) k p
 
+-- the postfix of a plan is read to one plan more
 pub Reads-postfix : (t : Tree) (h : ℕ) → Reads h (postfix t) (h + 1)
 Reads-postfix (Leaf b s) h = refl
 Reads-postfix (Beside l r) h =
@@ -39,6 +42,7 @@ Reads-postfix (Above l r) h =
     (Reads-append (postfix l) (postfix r) h (h + 1) ((h + 1) + 1) (Reads-postfix l h) (Reads-postfix r (h + 1)))
     (omega arith, omega arith)
 
+-- each operand adds a plan, and each operator takes one
 pub Reads-counts : (ts : List Token) (h g : ℕ) → Reads h ts g → operands ts + h ≡ operators ts + g
 Reads-counts [] h g p = omega arith
 Reads-counts (token.Beside ∷ ts) h g p =
@@ -67,14 +71,17 @@ abbrev pub Alternating : Token → List Token → Type 0
 Alternating p [] = ⊤
 Alternating p (x ∷ xs) = IsFalse (same_operator p x) × Alternating x xs
 
+-- tokens that alternate go on with tokens that alternate behind their last one
 pub Alternating-append : (p : Token) (xs ys : List Token) → Alternating p xs → Alternating (last_or p xs) ys → Alternating p (xs ++ ys)
 Alternating-append p [] ys a b = b
 Alternating-append p (x ∷ xs) ys a b = (a.0, Alternating-append x xs ys a.1 b)
 
+-- the later part of tokens that alternate does so behind the last one of the first part
 pub Alternating-after : (p : Token) (xs ys : List Token) → Alternating p (xs ++ ys) → Alternating (last_or p xs) ys
 Alternating-after p [] ys a = a
 Alternating-after p (x ∷ xs) ys a = Alternating-after x xs ys a.1
 
+-- the last token of two lists is that of the second, or else of the first
 last_or-append : (p : Token) (xs ys : List Token) → last_or p (xs ++ ys) ≡ last_or (last_or p xs) ys
 last_or-append p [] ys = refl
 last_or-append p (x ∷ xs) ys = last_or-append x xs ys
@@ -85,26 +92,31 @@ top (Leaf b s) = token.Block b
 top (Beside l r) = token.Beside
 top (Above l r) = token.Above
 
+-- the last token of a plan's postfix is the plan's own
 pub last_or-postfix : (p : Token) (t : Tree) → last_or p (postfix t) ≡ top t
 last_or-postfix p (Leaf b s) = refl
 last_or-postfix p (Beside l r) = last_or-append p (postfix l ++ postfix r) (token.Beside ∷ [])
 last_or-postfix p (Above l r) = last_or-append p (postfix l ++ postfix r) (token.Above ∷ [])
 
+-- a block is the same operator as no token
 block_after : (p : Token) (b : ℕ) → same_operator p (token.Block b) ≡ false
 block_after token.Beside b = refl
 block_after token.Above b = refl
 block_after (token.Block c) b = refl
 
+-- a plan that is no Beside does not end in that operator
 not_beside : (t : Tree) → is_beside t ≡ false → same_operator (top t) token.Beside ≡ false
 not_beside (Leaf b s) h = refl
 not_beside (Beside l r) h = h
 not_beside (Above l r) h = refl
 
+-- a plan that is no Above does not end in that operator
 not_above : (t : Tree) → is_above t ≡ false → same_operator (top t) token.Above ≡ false
 not_above (Leaf b s) h = refl
 not_above (Beside l r) h = refl
 not_above (Above l r) h = h
 
+-- the postfix of a skewed plan alternates
 pub Alternating-postfix : (p : Token) (t : Tree) → IsSkewed t → Alternating p (postfix t)
 Alternating-postfix p (Leaf b s) k = (block_after p b, tt)
 Alternating-postfix p (Beside l r) k =
@@ -129,6 +141,7 @@ count_by-postfix b (Beside l r) =
 count_by-postfix b (Above l r) =
     omega (arith, sum_by-append (λ x. cond (is_block b x) 1 0) (postfix l ++ postfix r) (token.Above ∷ []), sum_by-append (λ x. cond (is_block b x) 1 0) (postfix l) (postfix r), sum_by-append (λ leaf. cond (leaf.0 == b) 1 0) (leaves l) (leaves r), count_by-postfix b l, count_by-postfix b r)
 
+-- the postfix has one token fewer than twice the leaves
 pub length-postfix : (t : Tree) → length (postfix t) + 1 ≡ 2 * length (leaves t)
 length-postfix (Leaf b s) = refl
 length-postfix (Beside l r) =

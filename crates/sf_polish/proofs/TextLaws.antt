@@ -30,6 +30,7 @@ use Rattle.sf_polish.proofs.WordTexts.{token-known, token-written, IsPiece, piec
 -- ---- texts of tokens
 
 module _ (blocks : ℕ) (small : blocks < 2 ^ 16) where
+  -- words that spell tokens are the texts of these tokens
   tokens-texts : (ws : List LineWord) (rest : List Token) → spelled_by (token_in blocks) ws ≡ map Some rest → map (λ w. w.text) ws ≡ map token_text rest
   tokens-texts [] [] h = refl
   tokens-texts [] (t ∷ rest) h = absurd cc
@@ -40,6 +41,7 @@ module _ (blocks : ℕ) (small : blocks < 2 ^ 16) where
       let text = (token-known blocks w.text t small first).text in
       cc (text, tokens-texts ws rest others)
 
+  -- words that are the texts of tokens spell them
   texts-tokens : (ws : List LineWord) (rest : List Token) → AllByRecursion (λ t. is_outside blocks t ≡ false) rest → map (λ w. w.text) ws ≡ map token_text rest → spelled_by (token_in blocks) ws ≡ map Some rest
   texts-tokens [] [] inside h = refl
   texts-tokens [] (t ∷ rest) inside h = absurd cc
@@ -50,11 +52,13 @@ module _ (blocks : ℕ) (small : blocks < 2 ^ 16) where
       let spelled : token_in blocks w.text ≡ Some t = ap (token_in blocks) first ∙ token-written blocks t small inside.0 in
       cc (spelled, texts-tokens ws rest inside.1 others)
 
+  -- a text that is read as tokens spells them
   pub tokens-spelled : (text : List ℕ) (tokens : List Token) → tokens_read blocks text ≡ Ok tokens → SpellsTokens blocks text tokens
   tokens-spelled text tokens h =
       let s = tokens-known blocks (last_line_of text) (token_in blocks) (λ w t e. (token-known blocks w t small e).within) (line_words text) [] tokens (front-start blocks) h in
       record { words = tokens-texts (line_words text) tokens (s.words ∙ ap (map Some) (sym s.whole)); normal = s.normal }
 
+  -- a text that spells tokens is read as them
   pub spelled-tokens : (text : List ℕ) (tokens : List Token) → SpellsTokens blocks text tokens → tokens_read blocks text ≡ Ok tokens
   spelled-tokens text tokens s =
       let inside = recursion_from_All (λ t. is_outside blocks t ≡ false) tokens s.normal.no_other in
@@ -69,13 +73,16 @@ module _ (blocks : ℕ) (small : blocks < 2 ^ 16) where
     token : token_of part ≡ t
     word : IsPiece blocks w part
 
+  -- a word's piece, whatever it is, has the form of its token
   shaped-by : (w : List ℕ) (t : Token) (o : Option Piece) → piece_in blocks w ≡ o → option_map token_of o ≡ Some t → IsShaped w t
   shaped-by w t None e h = absurd cc
   shaped-by w t (Some p) e h = let same : token_of p ≡ t = cc in record { part = p; is = e; token = same; word = piece-known blocks w p small e }
 
+  -- a word that is read as a token has the form of one
   shaped : (w : List ℕ) (t : Token) → shaped_token_in blocks w ≡ Some t → IsShaped w t
   shaped w t h = shaped-by w t (piece_in blocks w) refl h
 
+  -- a word that is read as a token names no block outside
   pub shaped-within : (w : List ℕ) (t : Token) → shaped_token_in blocks w ≡ Some t → is_outside blocks t ≡ false
   shaped-within w t h = let s = shaped w t h in ap (is_outside blocks) (sym s.token) ∙ s.word.within
 
@@ -88,6 +95,7 @@ module _ (blocks : ℕ) (small : blocks < 2 ^ 16) where
     | inr p ↦ let k : is_named b rest ≡ false = rw p.0 at h in (get_or-set_other cur c b s no_shape (λ e. p.1 (sym e)), k)
   ]
 
+  -- words that do not name a block leave its shape as it is
   shapes-kept : (ws : List LineWord) (rest : List Token) (cur : List Shape) (b : ℕ) → spelled_by (shaped_token_in blocks) ws ≡ map Some rest → is_named b rest ≡ false → shape_at (shapes_from blocks cur ws) b ≡ shape_at cur b
   shapes-kept [] [] cur b h free = ap (λ z. shape_at z b) (shapes-end blocks cur)
   shapes-kept [] (t ∷ rest) cur b h free = absurd cc
@@ -100,6 +108,7 @@ module _ (blocks : ℕ) (small : blocks < 2 ^ 16) where
       ap (λ z. shape_at z b) (shapes-step blocks cur w ws ∙ ap (λ o. shapes_from blocks (shapes_with cur o) ws) s.is)
       ∙ shapes-kept ws rest (shapes_with cur (Some s.part)) b others kept.1 ∙ kept.0
 
+  -- writing the shapes of words keeps the length of the list
   length-shapes : (ws : List LineWord) (cur : List Shape) → length (shapes_from blocks cur ws) ≡ length cur
   length-shapes [] cur = ap length (shapes-end blocks cur)
   length-shapes (w ∷ ws) cur = ap length (shapes-step blocks cur w ws) ∙ length-shapes ws (shapes_with cur (piece_in blocks w.text)) ∙ shapes-same blocks cur (piece_in blocks w.text)
@@ -109,11 +118,13 @@ module _ (blocks : ℕ) (small : blocks < 2 ^ 16) where
     words : map (λ w. w.text) ws ≡ map (shaped_text all) rest
     sides : (b : ℕ) → is_named b rest ≡ true → IsSide (shape_at all b).w × IsSide (shape_at all b).h
 
+  -- a word that is a piece is what is written of its token with the piece's shape
   word-kept : (w : List ℕ) (p : Piece) (all : List Shape) → IsPiece blocks w p → ((b : ℕ) (s : Shape) → p ≡ piece.Block b s → shape_at all b ≡ s) → w ≡ shaped_text all (token_of p)
   word-kept w piece.Beside all i f = i.text
   word-kept w piece.Above all i f = i.text
   word-kept w (piece.Block b s) all i f = i.text ∙ ap (λ z. decimal b ++ (58 ∷ shape_text z)) (sym (f b s refl))
 
+  -- the sides of a block's shape keep the limit where its word is a piece with that shape
   side-kept : (w : List ℕ) (p : Piece) (rest : List Token) (all : List Shape) (b : ℕ) → IsPiece blocks w p → ((b : ℕ) (s : Shape) → p ≡ piece.Block b s → shape_at all b ≡ s) → (is_named b rest ≡ true → IsSide (shape_at all b).w × IsSide (shape_at all b).h) → is_named b (token_of p ∷ rest) ≡ true → IsSide (shape_at all b).w × IsSide (shape_at all b).h
   side-kept w piece.Beside rest all b i f more h = more h
   side-kept w piece.Above rest all b i f more h = more h
@@ -122,6 +133,7 @@ module _ (blocks : ℕ) (small : blocks < 2 ^ 16) where
     | inr p ↦ more (let k : is_named b rest ≡ true = rw p.0 at h in k)
   ]
 
+  -- a piece's shape stands at its block when all later words are read
   piece-written-at : (cur : List Shape) (p : Piece) (ws : List LineWord) (rest : List Token) → length cur ≡ blocks → is_outside blocks (token_of p) ≡ false → spelled_by (shaped_token_in blocks) ws ≡ map Some rest → ((b : ℕ) → count_by (is_block b) (token_of p ∷ rest) ≤ 1) → (b : ℕ) (s : Shape) → p ≡ piece.Block b s → shape_at (shapes_from blocks (shapes_with cur (Some p)) ws) b ≡ s
   piece-written-at cur p ws rest n within others times b s e =
       let same : (b == b) ≡ true = elim (eqb_tells b b) [ inl p ↦ p.0 | inr p ↦ absurd (p.1 refl) ] in
@@ -131,6 +143,7 @@ module _ (blocks : ℕ) (small : blocks < 2 ^ 16) where
       ∙ ap (λ z. shape_at (shapes_with cur (Some z)) b) e
       ∙ get_or-set_same cur b s no_shape (omega (arith, n, below blocks b (ap (is_outside blocks) (sym t) ∙ within)))
 
+  -- each word is what is written of its token with the shapes of all words
   shapes-written : (ws : List LineWord) (rest : List Token) (cur : List Shape) → length cur ≡ blocks → spelled_by (shaped_token_in blocks) ws ≡ map Some rest → ((b : ℕ) → count_by (is_block b) rest ≤ 1) → AreKept ws rest (shapes_from blocks cur ws)
   shapes-written [] [] cur n h times = record { words = refl; sides = λ b k. absurd cc }
   shapes-written [] (t ∷ rest) cur n h times = absurd cc
@@ -149,18 +162,21 @@ module _ (blocks : ℕ) (small : blocks < 2 ^ 16) where
         sides = λ b k. side-kept w.text s.part rest (shapes_from blocks next ws) b s.word at (more.sides b) (ap (λ x. is_named b (x ∷ rest)) s.token ∙ k);
       })
 
+  -- an expression that was put together has the tokens and the shapes that it was made of
   ok-parts : (shapes : List Shape) (r : Result (List Token) ExprFault) (expr : Expr) → (r >>= expr_of_parts shapes) ≡ Ok expr → (r ≡ Ok expr.tokens) × (expr.shapes ≡ shapes)
   ok-parts shapes (Err e) expr h = absurd cc
   ok-parts shapes (Ok ts) expr h =
       let same : ◌≡◌ {A = Expr} (record { tokens = ts; shapes = shapes }) expr = cc in
       (ap (λ (x : Expr). Ok x.tokens) same, ap (λ (x : Expr). x.shapes) (sym same))
 
+  -- normal tokens name no block twice
   at-most-once : (ts : List Token) → IsNormal blocks ts → (b : ℕ) → count_by (is_block b) ts ≤ 1
   at-most-once ts normal b = elim (cases_lt b blocks) [
     | inl p ↦ omega (arith, normal.each_once b p)
     | inr p ↦ omega (arith, uncounted-outside blocks b ts p (recursion_from_All (λ t. is_outside blocks t ≡ false) ts normal.no_other))
   ]
 
+  -- a text that is read as an expression spells it
   pub expr-spelled : (text : List ℕ) (expr : Expr) → expr_read blocks text ≡ Ok expr → SpellsExpr blocks text expr
   expr-spelled text expr h =
       let ws = line_words text in
@@ -182,16 +198,19 @@ module _ (blocks : ℕ) (small : blocks < 2 ^ 16) where
 
   -- ---- and back
 
+  -- what is written of a token is the text of its piece
   piece-text : (shapes : List Shape) (t : Token) → shaped_text shapes t ≡ piece_text (piece_at shapes t)
   piece-text shapes token.Beside = refl
   piece-text shapes token.Above = refl
   piece-text shapes (token.Block b) = refl
 
+  -- a token's piece is of that token
   piece-token : (shapes : List Shape) (t : Token) → token_of (piece_at shapes t) ≡ t
   piece-token shapes token.Beside = refl
   piece-token shapes token.Above = refl
   piece-token shapes (token.Block b) = refl
 
+  -- the sides of a block's piece keep the limit in an expression that can be written
   sides-at : (expr : Expr) → IsWritable blocks expr → (t : Token) → is_outside blocks t ≡ false → piece_sides (piece_at expr.shapes t)
   sides-at expr wr token.Beside h = tt
   sides-at expr wr token.Above h = tt
@@ -210,6 +229,7 @@ module _ (blocks : ℕ) (small : blocks < 2 ^ 16) where
       let spelled : piece_in blocks w.text ≡ Some p = ap (piece_in blocks) (first ∙ piece-text expr.shapes t) ∙ piece-written blocks p small within (sides-at expr wr t inside.0) in
       cc (spelled, pieces-again expr wr ws rest inside.1 others)
 
+  -- words that are the pieces of tokens spell these
   pieces-tokens : (shapes : List Shape) (ws : List LineWord) (rest : List Token) → map (λ (w : LineWord). piece_in blocks w.text) ws ≡ map (λ t. Some (piece_at shapes t)) rest → spelled_by (shaped_token_in blocks) ws ≡ map Some rest
   pieces-tokens shapes [] [] h = refl
   pieces-tokens shapes [] (t ∷ rest) h = absurd cc
@@ -224,6 +244,7 @@ module _ (blocks : ℕ) (small : blocks < 2 ^ 16) where
   abbrev Agrees : List Shape → List Shape → List Token → Type 0
   Agrees cur all rest = (b : ℕ) → b < length all → is_named b rest ≡ false → shape_at cur b ≡ shape_at all b
 
+  -- once a token's shape is written, the list agrees at the tokens behind it
   agrees-next : (cur all : List Shape) (t : Token) (rest : List Token) → length cur ≡ length all → Agrees cur all (t ∷ rest) → Agrees (shapes_with cur (Some (piece_at all t))) all rest
   agrees-next cur all token.Beside rest n a = a
   agrees-next cur all token.Above rest n a = a
@@ -232,6 +253,7 @@ module _ (blocks : ℕ) (small : blocks < 2 ^ 16) where
     | inr p ↦ get_or-set_other cur c b (shape_at all c) no_shape (λ e. p.1 (sym e)) ∙ a b h (rw p.0 free)
   ]
 
+  -- the shapes of words that are the pieces of tokens are those of the list
   shapes-again : (all : List Shape) (ws : List LineWord) (rest : List Token) (cur : List Shape) → length cur ≡ length all → map (λ (w : LineWord). piece_in blocks w.text) ws ≡ map (λ t. Some (piece_at all t)) rest → Agrees cur all rest → shapes_from blocks cur ws ≡ all
   shapes-again all [] [] cur n h a = shapes-end blocks cur ∙ ext_get_or no_shape cur all n (λ b k. a b (omega (arith, n, k)) refl)
   shapes-again all [] (t ∷ rest) cur n h a = absurd cc
@@ -243,6 +265,7 @@ module _ (blocks : ℕ) (small : blocks < 2 ^ 16) where
       shapes-step blocks cur w ws ∙ ap (λ o. shapes_from blocks (shapes_with cur o) ws) first
       ∙ shapes-again all ws rest next (shapes-same blocks cur (Some (piece_at all t)) ∙ n) others (agrees-next cur all t rest n a)
 
+  -- a text that spells an expression is read as it
   pub spelled-expr : (text : List ℕ) (expr : Expr) → SpellsExpr blocks text expr → expr_read blocks text ≡ Ok expr
   spelled-expr text expr s =
       let ws = line_words text in

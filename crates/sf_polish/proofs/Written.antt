@@ -18,15 +18,18 @@ abbrev pub text_of : List Shape → List Token → List ℕ
 text_of shapes tokens = join_with_byte 32 (map (shaped_text shapes) tokens)
 
 module _ (shapes : List Shape) (tokens : List Token) (i : ℕ) (t : Token) (h : i < length tokens) (old text : List ℕ) (e : text ≡ old ++ text_of shapes (take i tokens)) where
+  -- the words of one token more are those so far and the token's word
   words-more : map (shaped_text shapes) (take (i + 1) tokens) ≡ map (shaped_text shapes) (take i tokens) ++ shaped_text shapes (get_or tokens i t) ∷ []
   words-more = ap (map (shaped_text shapes)) (take_more tokens i t h) ∙ map-append (shaped_text shapes) (take i tokens) (get_or tokens i t ∷ [])
 
+  -- the first word begins the text
   pub text-first : (front : List ℕ) → i ≡ 0 → front ≡ text → front ++ shaped_text shapes (get_or tokens i t) ≡ old ++ text_of shapes (take (i + 1) tokens)
   text-first front z same =
       let none : take i tokens ≡ [] = ap (λ n. take n tokens) z in
       ap (λ x. x ++ shaped_text shapes (get_or tokens i t)) (same ∙ e ∙ ap (λ x. old ++ text_of shapes x) none ∙ append-nil old)
       ∙ ap (λ x. old ++ x) (sym (ap (join_with_byte 32) words-more ∙ ap (λ x. join_with_byte 32 (map (shaped_text shapes) x ++ shaped_text shapes (get_or tokens i t) ∷ [])) none))
 
+  -- a further word goes behind a space
   pub text-next : (front : List ℕ) → 0 < i → front ≡ text ++ 32 ∷ [] → front ++ shaped_text shapes (get_or tokens i t) ≡ old ++ text_of shapes (take (i + 1) tokens)
   text-next front some spaced =
       let words = map (shaped_text shapes) (take i tokens) in

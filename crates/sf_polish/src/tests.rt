@@ -1,3 +1,5 @@
+//! Texts of tokens and of expressions, their faults, and plans of two and three blocks.
+
 use super::*;
 use sf_model::{Plan, Shape};
 use std::test::Fail;
@@ -15,14 +17,17 @@ fn fault_of<T: Drop>(outcome: Result<T, ExprFault>) -> (u8, u64) {
     }
 }
 
+/// The fault of a text of tokens of so many blocks.
 fn tokens_fault(rt: &HostRuntime, text: &str, blocks: u16) -> (u8, u64) {
     fault_of(read_tokens(rt.alloc(), text.as_bytes(), blocks))
 }
 
+/// The fault of an expression of two blocks.
 fn expr_fault(rt: &HostRuntime, text: &str) -> (u8, u64) {
     fault_of(read_expr(rt.alloc(), text.as_bytes(), 2))
 }
 
+/// Texts of tokens of two blocks, by line.
 #[test]
 fn token_texts(rt: HostRuntime) {
     assert_eq!(rt; tokens_fault(&rt, "0 1 *", 2), (0, 0));
@@ -35,6 +40,7 @@ fn token_texts(rt: HostRuntime) {
     assert_eq!(rt; tokens_fault(&rt, "0\n1\n \n", 2), (2, 2));
 }
 
+/// Of several faults the one of the first word is told.
 #[test]
 fn faults_by_word(rt: HostRuntime) {
     assert_eq!(rt; tokens_fault(&rt, "0 1 2\n* *", 3), (3, 2));
@@ -49,6 +55,7 @@ fn faults_by_word(rt: HostRuntime) {
     assert_eq!(rt; expr_fault(&rt, "0:2x3\n0:3x2\n*"), (4, 2));
 }
 
+/// A plan of two blocks is written and read again.
 #[test]
 fn plan_of_two(rt: HostRuntime) {
     let alloc = rt.alloc();
@@ -74,6 +81,7 @@ const THREES: [&str; 6] = [
     "0:2x3 1:3x2 2:1x1 + *",
 ];
 
+/// What was read is written as it was.
 #[test]
 fn written_as_read(rt: HostRuntime) -> Result<(), Fail> {
     let alloc = rt.alloc();
@@ -85,6 +93,7 @@ fn written_as_read(rt: HostRuntime) -> Result<(), Fail> {
     Ok(())
 }
 
+/// A plan with one operator inside the other is written with the inner one first.
 #[test]
 fn plans_of_three(rt: HostRuntime) -> Result<(), Fail> {
     let alloc = rt.alloc();

@@ -8,19 +8,23 @@ use Rattle.sf_words.proofs.Unique.{form_unique}
 use Rattle.sf_words.specs.Kept.{texts_in, rows_for}
 use Rattle.sf_words.proofs.KeptTexts.{texts_are}
 
+-- what clap gives as a subcommand's rows are the rows that were found
 pub rows_same : (rows : List Row) (o : Option (Text × List Row)) (name : Text) (found : List Row) → Some rows ≡ option_map (λ p. p.1) o → o ≡ Some (name, found) → rows ≡ found
 rows_same rows None name found e h = cc
 rows_same rows (Some p) name found e h = let first : rows ≡ p.1 = cc in let second : p ≡ (name, found) = cc in first ∙ ap (λ (q : Text × List Row). q.1) second
 
+-- each option has in clap's rows the text that it has in the words
 texts_same : (m : Mode) (ts : List Token) (words : List Text) (rows : List Row) → HasForm words m ts → rows ≡ rows_for m ts → texts_in rows ≡ value_in ts
 texts_same m ts words rows form e = ap texts_in e ∙ texts_are m ts form.options
 
+-- words of this form mean each command that the texts of their rows say
 pub means : (m : Mode) (ts : List Token) (words : List Text) (rows : List Row) (c : Command) → HasForm words m ts → rows ≡ rows_for m ts → mode_of c ≡ m → Says (texts_in rows) c → Means words c
 means m ts words rows c form e same says =
     let Form : Mode → Type 0 = λ n. HasForm words n ts in
     let Saying : Values → Type 0 = λ v. Says v c in
     (ts, subst Form (sym same) form, subst Saying (texts_same m ts words rows form e) says)
 
+-- words of this form mean nothing where the texts of their rows say no command of their mode
 pub has_none : (m : Mode) (ts : List Token) (words : List Text) (rows : List Row) → HasForm words m ts → rows ≡ rows_for m ts → ((c : Command) → mode_of c ≡ m → Says (texts_in rows) c → ⊥) → HasNoMeaning words
 has_none m ts words rows form e none c meaning =
     let same = form_unique words (mode_of c) m meaning.0 ts meaning.1 form in
@@ -28,6 +32,7 @@ has_none m ts words rows form e none c meaning =
     let Saying : Values → Type 0 = λ v. Says v c in
     none c same.0 (subst Saying (sym (texts_same m ts words rows form e)) (subst SayingIn same.1 meaning.2))
 
+-- what holds of the value that is there, if one is, may be weakened
 pub some_weaker : {X : Type 0} {P Q : X → Type 0} (r : Option X) → ((x : X) → P x → Q x) → IfSome r P → IfSome r Q
 some_weaker None f h = tt
 some_weaker (Some x) f h = f x h

@@ -7,6 +7,7 @@ use Rattle.sf_words.specs.declared.options.Key.{Key}
 use Rattle.sf_words.specs.declared.options.Key.TheVariants.{Format, Blocks, Nets, Pl, Yal, PerUnit, Fixed, Shapes, Outline, AreaWeight, WireWeight, NetWeights, Cert, PlOut, Rewrite, Workers, Nodes, Placed, Expr, Seed, Count, Kinds, Out}
 use Rattle.sf_words.specs.Table.{Text, key_text}
 
+-- a word `--name=value` is read as this name with this value
 pub long_attached : (key : Key) (v : Text) → long_of (45 ∷ 45 ∷ (key_text key ++ 61 ∷ v)) ≡ Some (key_text key, Some v)
 unfolding key_text clap_on_literals
 long_attached Format v = refl
@@ -33,6 +34,7 @@ long_attached Count v = refl
 long_attached Kinds v = refl
 long_attached Out v = refl
 
+-- a word `--name=value` is not the word `--`
 pub attached_some : (key : Key) (v : Text) → bytes_eq (45 ∷ 45 ∷ (key_text key ++ 61 ∷ v)) (45 ∷ 45 ∷ []) ≡ false
 unfolding key_text clap_on_literals
 attached_some Format v = refl
@@ -59,6 +61,7 @@ attached_some Count v = refl
 attached_some Kinds v = refl
 attached_some Out v = refl
 
+-- a word `--name` is read as this name without a value
 pub long_alone : (key : Key) → long_of (45 ∷ 45 ∷ key_text key) ≡ Some (key_text key, None)
 unfolding key_text clap_on_literals
 long_alone Format = refl
@@ -85,6 +88,7 @@ long_alone Count = refl
 long_alone Kinds = refl
 long_alone Out = refl
 
+-- a word `--name` is not the word `--`
 pub alone_some : (key : Key) → bytes_eq (45 ∷ 45 ∷ key_text key) (45 ∷ 45 ∷ []) ≡ false
 unfolding key_text clap_on_literals
 alone_some Format = refl

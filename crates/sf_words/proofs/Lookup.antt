@@ -7,6 +7,7 @@ use Rattle.sf_words.specs.declared.options.Key.{Key}
 use Rattle.sf_words.specs.Table.{Text, key_text}
 use Rattle.sf_words.proofs.Texts.{key_text-injective}
 
+-- equal texts compare as equal
 pub bytes_eq-same : {xs ys : Text} → xs ≡ ys → bytes_eq xs ys ≡ true
 bytes_eq-same {xs = xs} {ys = ys} e = by_test (bytes_eq xs ys) refl (bytes_eq-Decides xs ys)
   where
@@ -14,6 +15,7 @@ bytes_eq-same {xs = xs} {ys = ys} e = by_test (bytes_eq xs ys) refl (bytes_eq-De
     by_test true h d = h
     by_test false h d = absurd (grind arith)
 
+-- different texts compare as different
 pub bytes_eq-other : {xs ys : Text} → xs ≢ ys → bytes_eq xs ys ≡ false
 bytes_eq-other {xs = xs} {ys = ys} ne = by_test (bytes_eq xs ys) refl (bytes_eq-Decides xs ys)
   where
@@ -21,12 +23,15 @@ bytes_eq-other {xs = xs} {ys = ys} ne = by_test (bytes_eq xs ys) refl (bytes_eq-
     by_test true h d = absurd (grind arith)
     by_test false h d = h
 
+-- an option's name compares as equal to itself
 pub same_text : (j k : Key) → j ≡ k → bytes_eq (key_text j) (key_text k) ≡ true
 same_text j k e = bytes_eq-same (ap key_text e)
 
+-- the names of different options compare as different
 pub other_text : (j k : Key) → j ≢ k → bytes_eq (key_text j) (key_text k) ≡ false
 other_text j k ne = bytes_eq-other (λ e. ne (key_text-injective j k e))
 
+-- what holds where no value is there may be weakened
 pub none_weaker : {X : Type 0} {P Q : Type 0} (r : Option X) → (P → Q) → IfNone r P → IfNone r Q
 none_weaker None f h = f h
 none_weaker (Some x) f h = h

@@ -23,10 +23,12 @@ use Rattle.sf_words.proofs.Walks.{at_row-absent}
 abbrev pub default_row : Key → Row
 default_row k = record { id = key_text k; values = codes "false" ∷ []; count = None; source = Some DefaultValue; reading = AsWritten }
 
+-- a choice between the same rows is these rows
 same_rows : (b : Bool) (rows : List Row) → cond b rows rows ≡ rows
 same_rows true rows = refl
 same_rows false rows = refl
 
+-- an option's default changes no row, or the option is a flag and its default row is put at the end
 pub defaulted : (rows : List Row) (j : Key) → (with_default rows (full j) ≡ rows) ⊎ ((with_default rows (full j) ≡ rows ++ default_row j ∷ []) × (is_flag j ≡ true))
 defaulted rows j = by_flag (is_flag j) refl
   where
@@ -78,6 +80,7 @@ flag_kept k keys rows h = kept (λ xs. first_of (key_text k) xs ≡ Some (codes 
       | inr e ↦ let bad : None ≡ Some (codes "true") = sym e.1 ∙ g in cc
     ]) h
 
+-- a flag that did not have the text `true` does not have it at the end either
 pub flag_not_kept : (k : Key) (keys : List Key) (rows : List Row) → first_of (key_text k) rows ≢ Some (codes "true") → first_of (key_text k) (fold with_default rows (map full keys)) ≢ Some (codes "true")
 flag_not_kept k keys rows h = kept (λ xs. first_of (key_text k) xs ≢ Some (codes "true")) keys rows
     (λ xs j flag h. elim (first_of-more (key_text k) xs (default_row j)) [

@@ -12,6 +12,7 @@ use Rattle.sf_words.proofs.Lookup.{same_text}
 use Rattle.sf_words.specs.App.{value_rule, flag_rule}
 use Rattle.sf_words.specs.Kept.{full}
 
+-- a search that tells the options by their names finds an option that is in the list
 find_full : (p : Rule → Bool) (k : Key) (keys : List Key) → ((j : Key) → p (full j) ≡ bytes_eq (key_text j) (key_text k)) → (i : ℕ) → i < length keys → get_or keys i k ≡ k
     → find p (map full keys) ≡ Some (full k)
 find_full p k [] h i lt e = absurd (omega arith)
@@ -25,10 +26,12 @@ find_full p k (j ∷ keys) h (suc i) lt e = by_test (bytes_eq (key_text j) (key_
         rw hit (ap (λ (x : Key). Some (full x)) same)
     by_test false t rest = let miss : p (full j) ≡ false = h j ∙ t in rw miss rest
 
+-- a disjunction with false is its other part
 pub or_false : (b : Bool) → (b || false) ≡ b
 or_false true = refl
 or_false false = refl
 
+-- among the rules of a command's options each one's is found by its name as an id
 pub find_id : (keys : List Key) (k : Key) → Contains keys k → arg_by_id (map full keys) (key_text k) ≡ Some (full k)
 find_id keys k inside = find_full (λ a. bytes_eq a.id (key_text k)) k keys (λ j. by_flag j (is_flag j)) inside.0 inside.1 inside.2
   where
@@ -36,6 +39,7 @@ find_id keys k inside = find_full (λ a. bytes_eq a.id (key_text k)) k keys (λ 
     by_flag j true = refl
     by_flag j false = refl
 
+-- among the rules of a command's options each one's is found by its name as a word
 pub find_long : (keys : List Key) (k : Key) → Contains keys k → arg_by_long (map full keys) (key_text k) ≡ Some (full k)
 find_long keys k inside = find_full (λ a. not (is_some a.index) && has_long a (key_text k)) k keys (λ j. by_flag j (is_flag j)) inside.0 inside.1 inside.2
   where
@@ -47,5 +51,6 @@ find_long keys k inside = find_full (λ a. not (is_some a.index) && has_long a (
 pub full_value : (k : Key) → is_flag k ≡ false → full k ≡ filled (value_rule (key_text k))
 full_value k e = rw e refl
 
+-- the settled rule of an option that takes no value is that of a flag
 pub full_flag : (k : Key) → is_flag k ≡ true → full k ≡ filled (flag_rule (key_text k))
 full_flag k e = rw e refl

@@ -14,15 +14,19 @@ use Rattle.sf_words.proofs.Lexing.{long_attached, attached_some, long_alone, alo
 use Rattle.sf_words.specs.Kept.{full}
 use Rattle.sf_words.proofs.Rules.{find_id, find_long, full_value, full_flag}
 
+-- the walk between two options
 abbrev pub between : Held → Walk
 between h = record { held = h; waiting = idle; position = 1; is_trailing = false; stopped = None }
 
+-- the walk behind the name of an option whose value is the next word
 abbrev pub waits : Text → Held → Walk
 waits name h = record { held = record h { pending = Some (name, []) }; waiting = option name; position = 1; is_trailing = false; stopped = None }
 
+-- the settled rule of an option that takes a value
 abbrev pub valued : Key → Rule
 valued k = filled (value_rule (key_text k))
 
+-- the settled rule of an option that takes no value
 abbrev pub flag : Key → Rule
 flag k = filled (flag_rule (key_text k))
 
@@ -48,52 +52,66 @@ leaf name keys = record {
   is_built = true;
 }
 
+-- an option used with a value gets a row with this value, in place of the one it had
 pub used_value : (k : Key) (v : Text) (rows : List Row) → used (valued k) (v ∷ []) rows ≡ with_values (key_text k) AsWritten CommandLine (v ∷ []) (without (key_text k) rows)
 used_value k v rows = refl
 
+-- a flag that is used gets a row with the text `true`, in place of the one it had
 pub used_flag : (k : Key) (rows : List Row) → used (flag k) [] rows ≡ with_values (key_text k) AsWritten CommandLine (codes "true" ∷ []) (without (key_text k) rows)
 used_flag k rows = refl
 
 module _ (keys : List Key) (k : Key) (inside : Contains keys k) where
+  -- an option that takes a value is found by its name as an id
   pub value_by_id : is_flag k ≡ false → arg_by_id (map full keys) (key_text k) ≡ Some (valued k)
   value_by_id e = find_id keys k inside ∙ ap (λ (r : Rule). Some r) (full_value k e)
 
+  -- an option that takes a value is found by its name as a word
   pub value_by_long : is_flag k ≡ false → arg_by_long (map full keys) (key_text k) ≡ Some (valued k)
   value_by_long e = find_long keys k inside ∙ ap (λ (r : Rule). Some r) (full_value k e)
 
+  -- an option that takes no value is found by its name as a word
   pub flag_by_long : is_flag k ≡ true → arg_by_long (map full keys) (key_text k) ≡ Some (flag k)
   flag_by_long e = find_long keys k inside ∙ ap (λ (r : Rule). Some r) (full_flag k e)
 
+  -- the word `--name=value` uses the option with this value
   pub attached_word : is_flag k ≡ false → (h : Held) (v : Text) → walked (map full keys) [] (between h) (45 ∷ 45 ∷ (key_text k ++ 61 ∷ v)) ≡ between (reacted (map full keys) (valued k) (v ∷ []) h)
   unfolding walked
   attached_word e h v = rw (attached_some k v, long_attached k v, value_by_long e) refl
 
+  -- the word `--name` of an option that takes a value waits for the value
   pub first_word : is_flag k ≡ false → (h : Held) → walked (map full keys) [] (between h) (45 ∷ 45 ∷ key_text k) ≡ waits (key_text k) (settled (map full keys) h)
   unfolding walked
   first_word e h = rw (alone_some k, long_alone k, value_by_long e) refl
 
+  -- the word `--name` of an option that takes no value uses it
   pub flag_word : is_flag k ≡ true → (h : Held) → walked (map full keys) [] (between h) (45 ∷ 45 ∷ key_text k) ≡ between (reacted (map full keys) (flag k) [] h)
   unfolding walked
   flag_word e h = rw (alone_some k, long_alone k, flag_by_long e) refl
 
+  -- the next word, which does not begin with a hyphen, is the value that was waited for
   pub second_word : is_flag k ≡ false → (h : Held) (x : ℕ) (rest : Text) → (x == 45) ≡ false
       → walked (map full keys) [] (waits (key_text k) h) (x ∷ rest) ≡ between (record h { pending = Some (key_text k, (x ∷ rest) ∷ []) })
   unfolding walked
   second_word e h x rest ne = rw (ne, ne, value_by_id e, same_text k k refl) refl
 
+  -- the word `--name=value` of an option that has no row yet passes
   pub attached_passes : is_flag k ≡ false → (name : Text) (h : Held) (v : Text) → settle_passes (map full keys) false h ≡ true → has_row (key_text k) (settled (map full keys) h).rows ≡ false
       → turn_passes (leaf name keys) [] (between h) (45 ∷ 45 ∷ (key_text k ++ 61 ∷ v)) ≡ true
   attached_passes e name h v settles fresh = rw (attached_some k v, long_attached k v, value_by_long e, settles, fresh) refl
 
+  -- the word `--name` of an option that takes a value passes
   pub first_passes : is_flag k ≡ false → (name : Text) (h : Held) → settle_passes (map full keys) false h ≡ true → turn_passes (leaf name keys) [] (between h) (45 ∷ 45 ∷ key_text k) ≡ true
   first_passes e name h settles = rw (alone_some k, long_alone k, value_by_long e, settles) refl
 
+  -- the word `--name` of an option that takes no value passes, where that has no row yet
   pub flag_passes : is_flag k ≡ true → (name : Text) (h : Held) → settle_passes (map full keys) false h ≡ true → has_row (key_text k) (settled (map full keys) h).rows ≡ false
       → turn_passes (leaf name keys) [] (between h) (45 ∷ 45 ∷ key_text k) ≡ true
   flag_passes e name h settles fresh = rw (alone_some k, long_alone k, flag_by_long e, settles, fresh) refl
 
+  -- a value that does not begin with a hyphen passes
   pub second_passes : (name : Text) (h : Held) (x : ℕ) (rest : Text) → (x == 45) ≡ false → turn_passes (leaf name keys) [] (waits (key_text k) h) (x ∷ rest) ≡ true
   second_passes name h x rest ne = rw (ne, ne) refl
 
+  -- the value of an option that has no row yet settles
   pub value_settles : is_flag k ≡ false → (h : Held) (v : Text) → has_row (key_text k) h.rows ≡ false → settle_passes (map full keys) false (record h { pending = Some (key_text k, v ∷ []) }) ≡ true
   value_settles e h v fresh = rw (value_by_id e, fresh) refl

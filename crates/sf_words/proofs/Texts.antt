@@ -9,13 +9,16 @@ use Rattle.sf_words.specs.declared.options.Mode.{Mode}
 use Rattle.sf_words.specs.declared.options.Mode.TheVariants.{Plan, Check, Measure, Shape, Gen}
 use Rattle.sf_words.specs.Table.{Text, key_text, mode_text}
 
+-- all options
 abbrev pub all_keys : List Key
 all_keys = Format ∷ Blocks ∷ Nets ∷ Pl ∷ Yal ∷ PerUnit ∷ Fixed ∷ Shapes ∷ Outline ∷ AreaWeight ∷ WireWeight ∷ NetWeights ∷ Cert ∷ PlOut ∷ Rewrite ∷ Workers ∷ Nodes ∷ Placed ∷ Expr ∷ Seed ∷ Count ∷ Kinds ∷ Out ∷ []
 
+-- the first of these options that has this text as its name
 abbrev pub first_named : List Key → Text → Option Key
 first_named [] text = None
 first_named (key ∷ keys) text = cond (bytes_eq (key_text key) text) (Some key) (first_named keys text)
 
+-- among all options, the first with an option's name is the option itself
 named : (key : Key) → first_named all_keys (key_text key) ≡ Some key
 unfolding key_text
 named Format = refl
@@ -42,17 +45,21 @@ named Count = refl
 named Kinds = refl
 named Out = refl
 
+-- options of the same name are the same
 pub key_text-injective : (j k : Key) → key_text j ≡ key_text k → j ≡ k
 key_text-injective j k e =
     let same : Some j ≡ Some k = sym (named j) ∙ (ap (first_named all_keys) e ∙ named k) in cc
 
+-- all commands
 abbrev pub all_modes : List Mode
 all_modes = Plan ∷ Check ∷ Measure ∷ Shape ∷ Gen ∷ []
 
+-- the first of these commands that has this text as its word
 abbrev pub mode_named : List Mode → Text → Option Mode
 mode_named [] text = None
 mode_named (mode ∷ modes) text = cond (bytes_eq (mode_text mode) text) (Some mode) (mode_named modes text)
 
+-- among all commands, the first with a command's word is the command itself
 moded : (mode : Mode) → mode_named all_modes (mode_text mode) ≡ Some mode
 unfolding mode_text
 moded Plan = refl
@@ -61,6 +68,7 @@ moded Measure = refl
 moded Shape = refl
 moded Gen = refl
 
+-- commands of the same word are the same
 pub mode_text-injective : (m n : Mode) → mode_text m ≡ mode_text n → m ≡ n
 mode_text-injective m n e =
     let same : Some m ≡ Some n = sym (moded m) ∙ (ap (mode_named all_modes) e ∙ moded n) in cc
@@ -69,6 +77,7 @@ mode_text-injective m n e =
 abbrev pub is_inner : ℕ → Bool
 is_inner b = cond (b == 61) false true
 
+-- all bytes of an option's name are such as may stand there
 pub key_text-inner : (key : Key) → list_all is_inner (key_text key) ≡ true
 unfolding key_text
 key_text-inner Format = refl

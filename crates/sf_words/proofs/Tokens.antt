@@ -12,10 +12,12 @@ abbrev pub ahead : List Token → List Text → List Text
 ahead [] words = words
 ahead (token ∷ tokens) words = before token (ahead tokens words)
 
+-- the words of options in front of none are their words
 pub ahead-nil : (ts : List Token) → ahead ts [] ≡ words_of ts
 ahead-nil [] = refl
 ahead-nil (t ∷ ts) = ap (before t) (ahead-nil ts)
 
+-- the words of one more option stand behind those of the others
 pub ahead-push : (ts : List Token) (t : Token) (words : List Text) → ahead (ts ++ t ∷ []) words ≡ ahead ts (before t words)
 ahead-push [] t words = refl
 ahead-push (u ∷ ts) t words = ap (before u) (ahead-push ts t words)
@@ -61,6 +63,7 @@ pub record Splits (ts us : List Token) (r : List Text) : Type 0 where
   pub all : us ≡ ts ++ more
   pub rest : r ≡ words_of more
 
+-- where the words of options, with others behind, are those of a list, the list begins with these options
 pub split : (m n : Mode) (ts us : List Token) (r : List Text) → AreOptions m ts → AreOptions n us → ahead ts r ≡ words_of us → Splits ts us r
 split m n [] us r g h e = record { more = us; all = refl; rest = e }
 split m n (t ∷ ts) [] r g h e = absurd (before-some t (ahead ts r) e)
@@ -69,6 +72,7 @@ split m n (t ∷ ts) (u ∷ us) r g h e =
     let further = split m n ts us r g.3 h.3 first.1 in
     record { more = further.more; all = ap₂ (λ (x : Token) (xs : List Token). x ∷ xs) (sym first.0) further.all; rest = further.rest }
 
+-- where there are no words there are no options
 pub words_of-nil : (ts : List Token) → words_of ts ≡ [] → ts ≡ []
 words_of-nil [] e = refl
 words_of-nil (t ∷ ts) e = absurd (before-some t (words_of ts) e)
@@ -82,6 +86,7 @@ options_unique m n (t ∷ ts) (u ∷ us) g h e =
     let further = options_unique m n ts us g.3 h.3 first.1 in
     ap₂ (λ (x : Token) (xs : List Token). x ∷ xs) first.0 further
 
+-- a key that is none of some options' and not that of one more is none of all of these
 pub IsNew-push : (key : Key) (ts : List Token) (t : Token) → IsNew key ts → key ≢ key_of t → IsNew key (ts ++ t ∷ [])
 IsNew-push key [] t h ne = (ne, tt)
 IsNew-push key (u ∷ ts) t h ne = (h.0, IsNew-push key ts t h.1 ne)
@@ -97,6 +102,7 @@ pub IsNew-middle : (key : Key) (ts : List Token) (t : Token) (more : List Token)
 IsNew-middle key [] t more h = h.0
 IsNew-middle key (u ∷ ts) t more h = IsNew-middle key ts t more h.1
 
+-- an option in the middle is the command's, has its shape, and is new after those before it
 pub AreOptions-middle : (m : Mode) (ts : List Token) (t : Token) (more : List Token) → AreOptions m (ts ++ t ∷ more) → Contains (keys_of m) (key_of t) × IsShaped t × IsNew (key_of t) ts
 AreOptions-middle m [] t more h = (h.0, h.1, tt)
 AreOptions-middle m (u ∷ ts) t more h =
@@ -127,6 +133,7 @@ pub IsNew-at : (key : Key) (ts : List Token) (t : Token) → IsNew key (ts ++ t 
 IsNew-at key [] t h = (h.0, tt)
 IsNew-at key (u ∷ ts) t h = let further = IsNew-at key ts t h.1 in (further.0, (h.0, further.1))
 
+-- a key that is none of some options' is none of the first ones'
 pub IsNew-before : (key : Key) (ts more : List Token) → IsNew key (ts ++ more) → IsNew key ts
 IsNew-before key [] more h = tt
 IsNew-before key (u ∷ ts) more h = (h.0, IsNew-before key ts more h.1)
@@ -139,15 +146,18 @@ first_of_map f (y ∷ ys) x h e =
     let others : take (length (y ∷ ys) - 1) ys ≡ ys = take_all (length (y ∷ ys) - 1) ys (omega arith) in
     rw (others, e) refl
 
+-- a list without elements has no first text
 pub none_of_map : {X : Type 0} (f : X → Text) (xs : List X) (v : Text) (more : List Text) → length xs < 1 → map f xs ≢ v ∷ more
 none_of_map f [] v more h e = cc
 none_of_map f (x ∷ xs) v more h e = absurd (omega arith)
 
+-- a key that is none of some options' is not that of the option at any place
 pub IsNew-index : {X : Type 0} (key : Key) (f : X → Token) (xs : List X) (i : ℕ) (d : X) → i < length xs → IsNew key (map f xs) → key ≢ key_of (f (get_or xs i d))
 IsNew-index key f [] i d lt h = absurd (omega arith)
 IsNew-index key f (x ∷ xs) zero d lt h = h.0
 IsNew-index key f (x ∷ xs) (suc i) d lt h = IsNew-index key f xs i d (omega arith) h.1
 
+-- equal lists have the same first word
 pub heads_same : {x y : Text} {xs ys : List Text} → x ∷ xs ≡ y ∷ ys → x ≡ y
 heads_same e = cc
 
@@ -181,13 +191,16 @@ not_twice m ts t r after g shaped is old us h e = by_more s.more s.all s.rest
         let same = first_unique t u after (words_of more) shaped it.1 (sym is ∙ rest) in
         old (let P : Token → Type 0 = λ v. IsNew (key_of v) ts in subst P (sym same.0) it.2)
 
+-- a list with elements has texts
 pub some_of_map : {X : Type 0} (f : X → Text) (xs : List X) → 0 < length xs → map f xs ≢ []
 some_of_map f [] h e = absurd (omega arith)
 some_of_map f (x ∷ xs) h e = cc
 
+-- a list of length 0 has no texts
 pub empty_of_map : {X : Type 0} (f : X → Text) (xs : List X) → length xs ≡ 0 → map f xs ≡ []
 empty_of_map f [] e = refl
 empty_of_map f (x ∷ xs) e = absurd (omega arith)
 
+-- equal lists have the same words behind the first
 pub tails_same : {x y : Text} {xs ys : List Text} → x ∷ xs ≡ y ∷ ys → xs ≡ ys
 tails_same e = cc

@@ -13,13 +13,16 @@ use Rattle.sf_words.specs.Meaning.{Values, value_in, Input, gsrc, yal, InputSays
 use Rattle.sf_words.proofs.Texts.{mode_text-injective}
 use Rattle.sf_words.proofs.Tokens.{options_unique, heads_same, tails_same}
 
+-- values that are equal as they are there are equal
 pub some_same : {X : Type 0} {x y : X} → Some x ≡ Some y → x ≡ y
 some_same e = cc
 
+-- an option says at most one number
 pub number_unique : (key : Key) (text : Option Text) (m n : ℕ) → SaysNumber key text m → SaysNumber key text n → m ≡ n
 number_unique key None m n g h = some_same (sym g ∙ h)
 number_unique key (Some text) m n g h = some_same (sym g.value ∙ h.value)
 
+-- an option without a default says at most one number, and never both one and none
 pub optional_unique : (key : Key) (text : Option Text) (m n : Option ℕ) → SaysOptional key text m → SaysOptional key text n → m ≡ n
 optional_unique key None None None g h = refl
 optional_unique key (Some text) (Some m) (Some n) g h = ap (λ k. Some k) (some_same (sym g.value ∙ h.value))
@@ -28,12 +31,15 @@ optional_unique key None (Some m) n g h = absurd g
 optional_unique key (Some text) None n g h = absurd g
 optional_unique key (Some text) (Some m) None g h = absurd h
 
+-- an option has at most one text
 texts_same : (r : Option Text) (x y : Text) → r ≡ Some x → r ≡ Some y → x ≡ y
 texts_same r x y g h = some_same (sym g ∙ h)
 
+-- the names of the two formats differ
 formats_differ : codes "gsrc" ≢ codes "yal"
 formats_differ e = cc
 
+-- the options say at most one set of files that tell a design
 input_unique : (v : Values) (a b : Input) → InputSays v a → InputSays v b → a ≡ b
 input_unique v (gsrc blocks nets pl) (gsrc blocks' nets' pl') g h =
     let first = texts_same _ _ _ g.1 h.1 in let second = sym g.2 ∙ h.2 in let third = sym g.3 ∙ h.3 in cc
@@ -41,13 +47,16 @@ input_unique v (gsrc blocks nets pl) (yal file) g h = absurd (formats_differ (te
 input_unique v (yal file) (gsrc blocks nets pl) g h = absurd (formats_differ (texts_same _ _ _ h.0 g.0))
 input_unique v (yal file) (yal file') g h = ap yal (texts_same _ _ _ g.1 h.1)
 
+-- a result has at most one value
 ok_same : {X E : Type 0} {r : Result X E} {x y : X} → r ≡ Ok x → r ≡ Ok y → x ≡ y
 ok_same g h = cc
 
+-- the option says at most one outline
 outline_unique : (unit : ℕ) (text : Option Text) (w h w' h' : ℕ) → OutlineSays unit text w h → OutlineSays unit text w' h' → (w ≡ w') × (h ≡ h')
 outline_unique unit None w h w' h' p q = (p.0 ∙ sym q.0, p.1 ∙ sym q.1)
 outline_unique unit (Some text) w h w' h' p q = (ok_same p.width_is.value q.width_is.value, ok_same p.height_is.value q.height_is.value)
 
+-- the options say a design in at most one way
 design_unique : (v : Values) (a b : DesignOptions) → DesignSays v a → DesignSays v b → a ≡ b
 design_unique v a b g h =
     let input = input_unique v _ _ g.input h.input in
@@ -58,6 +67,7 @@ design_unique v a b g h =
     let sides = outline_unique a.per_unit (v Outline) a.width a.height b.width b.height g.outline (subst Sides (sym unit) h.outline) in
     λ i. record { input = input i; per_unit = unit i; is_fixed = fixed i; shapes = shapes i; width = sides.0 i; height = sides.1 i }
 
+-- the options say the weights in at most one way
 weights_unique : (v : Values) (a b : WeightOptions) → WeightsSay v a → WeightsSay v b → a ≡ b
 weights_unique v a b g h =
     let area = number_unique AreaWeight _ _ _ g.area h.area in
@@ -65,6 +75,7 @@ weights_unique v a b g h =
     let net_weights = sym g.net_weights ∙ h.net_weights in
     λ i. record { area = area i; wire = wire i; net_weights = net_weights i }
 
+-- the options say at most one `plan`
 plan_unique : (v : Values) (a b : PlanOptions) → PlanSays v a → PlanSays v b → a ≡ b
 plan_unique v a b g h =
     let design = design_unique v _ _ g.design h.design in
@@ -75,6 +86,7 @@ plan_unique v a b g h =
     let nodes = optional_unique Nodes _ _ _ g.nodes h.nodes in
     λ i. record { design = design i; weights = weights i; cert = cert i; pl_out = pl_out i; workers = workers i; nodes = nodes i }
 
+-- the options say at most one `check`
 check_unique : (v : Values) (a b : CheckOptions) → CheckSays v a → CheckSays v b → a ≡ b
 check_unique v a b g h =
     let design = design_unique v _ _ g.design h.design in
@@ -83,6 +95,7 @@ check_unique v a b g h =
     let rewrite = sym g.rewrite ∙ h.rewrite in
     λ i. record { design = design i; weights = weights i; cert = cert i; rewrite = rewrite i }
 
+-- the options say at most one `measure`
 measure_unique : (v : Values) (a b : MeasureOptions) → MeasureSays v a → MeasureSays v b → a ≡ b
 measure_unique v a b g h =
     let design = design_unique v _ _ g.design h.design in
@@ -90,12 +103,14 @@ measure_unique v a b g h =
     let placed = texts_same _ _ _ g.placed h.placed in
     λ i. record { design = design i; weights = weights i; placed = placed i }
 
+-- the options say at most one `shape`
 shape_unique : (v : Values) (a b : ShapeOptions) → ShapeSays v a → ShapeSays v b → a ≡ b
 shape_unique v a b g h =
     let design = design_unique v _ _ g.design h.design in
     let expr = texts_same _ _ _ g.expr h.expr in
     λ i. record { design = design i; expr = expr i }
 
+-- the option says at most one choice of kinds
 kinds_unique : (text : Option Text) (a b : Kinds) → KindsSay text a → KindsSay text b → a ≡ b
 kinds_unique None a b g h = g ∙ sym h
 kinds_unique (Some text) Hard Hard g h = refl
@@ -103,6 +118,7 @@ kinds_unique (Some text) Mixed Mixed g h = refl
 kinds_unique (Some text) Mixed Hard g h = let bad : codes "mixed" ≡ codes "hard" = sym g ∙ h in cc
 kinds_unique (Some text) Hard Mixed g h = let bad : codes "mixed" ≡ codes "hard" = sym h ∙ g in cc
 
+-- the options say at most one `gen`
 gen_unique : (v : Values) (a b : GenOptions) → GenSays v a → GenSays v b → a ≡ b
 gen_unique v a b g h =
     let seed = number_unique Seed _ _ _ g.seed h.seed in
@@ -112,6 +128,7 @@ gen_unique v a b g h =
     let out = texts_same _ _ _ g.out h.out in
     λ i. record { seed = seed i; count = count i; kinds = kinds i; nodes = nodes i; out = out i }
 
+-- the options say at most one command of a mode
 says_unique : (v : Values) (c d : Command) → mode_of c ≡ mode_of d → Says v c → Says v d → c ≡ d
 says_unique v (plan a) (plan b) e g h = ap plan (plan_unique v a b g h)
 says_unique v (check a) (check b) e g h = ap check (check_unique v a b g h)
@@ -120,11 +137,13 @@ says_unique v (shape a) (shape b) e g h = ap shape (shape_unique v a b g h)
 says_unique v (gen a) (gen b) e g h = ap gen (gen_unique v a b g h)
 says_unique v c d e g h = cc
 
+-- words have at most one form: one command, and one list of options
 pub form_unique : (words : List Text) (m n : Mode) (ts us : List Token) → HasForm words m ts → HasForm words n us → (m ≡ n) × (ts ≡ us)
 form_unique words m n ts us g h =
     let both = sym g.words_are ∙ h.words_are in
     (mode_text-injective m n (heads_same both), options_unique m n ts us g.options h.options (tails_same both))
 
+-- words mean at most one command
 pub meaning_unique : (words : List Text) (c d : Command) → Means words c → Means words d → c ≡ d
 meaning_unique words c d g h =
     let form = form_unique words (mode_of c) (mode_of d) g.0 h.0 g.1 h.1 in

@@ -39,6 +39,7 @@ pub record Moves (name : Text) (keys : List Key) (t : Token) (h : Held) : Type 0
   pub settles : settle_passes (map full keys) false after ≡ true
   pub passes : (more : List Text) → walk_passes (leaf name keys) [] (between h) (before t more) ≡ walk_passes (leaf name keys) [] (between after) more
 
+-- the words of an option of the command that has no row yet move the walk past them
 pub moves : (name : Text) (keys : List Key) (t : Token) (h : Held) → Contains keys (key_of t) → IsShaped t → has_row (key_text (key_of t)) (settled (map full keys) h).rows ≡ false
     → settle_passes (map full keys) false h ≡ true → Moves name keys t h
 unfolding walk_passes
@@ -74,10 +75,12 @@ abbrev pub Absent : List Row → List Token → Type 0
 Absent rows [] = Unit {0}
 Absent rows (t ∷ ts) = (has_row (key_text (key_of t)) rows ≡ false) × Absent rows ts
 
+-- at first no option has a row
 pub absent_at_first : (ts : List Token) → Absent [] ts
 absent_at_first [] = tt
 absent_at_first (t ∷ ts) = (refl, absent_at_first ts)
 
+-- one more row of another id gives an id no row that had none
 has_row-push : (id : Text) (rows : List Row) (r : Row) → has_row id rows ≡ false → bytes_eq r.id id ≡ false → has_row id (rows ++ r ∷ []) ≡ false
 has_row-push id [] r h e = rw e refl
 has_row-push id (x ∷ rows) r h e = by_test (bytes_eq x.id id) h (λ g. has_row-push id rows r g e)
@@ -86,6 +89,7 @@ has_row-push id (x ∷ rows) r h e = by_test (bytes_eq x.id id) h (λ g. has_row
     by_test true g ih = let bad : true ≡ false = g in cc
     by_test false g ih = ih g
 
+-- after the row of one option, the others that differ from it have no row still
 absent-push : (rows : List Row) (t : Token) (ts : List Token) → Absent rows ts → IsNew (key_of t) ts → Absent (rows ++ row_of t ∷ []) ts
 absent-push rows t [] h new = tt
 absent-push rows t (u ∷ ts) h new =
@@ -99,6 +103,7 @@ pub record Walked (name : Text) (keys : List Key) (ts : List Token) (h : Held) :
   pub settles : settle_passes (map full keys) false end ≡ true
   pub passes : walk_passes (leaf name keys) [] (between h) (words_of ts) ≡ true
 
+-- the words of all options that have no row yet are walked to their end
 pub walked_all : (name : Text) (m : Mode) (ts : List Token) (h : Held) → AreOptions m ts → Absent (settled (map full (keys_of m)) h).rows ts
     → settle_passes (map full (keys_of m)) false h ≡ true → Walked name (keys_of m) ts h
 unfolding walk_passes

@@ -20,15 +20,19 @@ use Rattle.sf_words.proofs.Walks.{absent_at_first, walked_all, Walked}
 abbrev pub stopped_at : Text → List Text → Walk
 stopped_at name words = record { held = nothing_held; waiting = idle; position = 1; is_trailing = false; stopped = Some (name, words) }
 
+-- the command line itself, built
 abbrev pub top : Shape
 top = (built floorplan).top
 
+-- the names by which the built command line knows its commands
 abbrev pub names : Names
 names = names_of (built floorplan)
 
+-- a command with its options, built
 abbrev pub leaf_of : Mode → Shape
 leaf_of m = leaf (mode_text m) (keys_of m)
 
+-- the word of a command stops the walk at this command
 top_word : (m : Mode) → walked top.rules names (walk_from nothing_held) (mode_text m) ≡ stopped_at (mode_text m) []
 unfolding clap_on_literals floorplan modes mode_text key_text is_flag keys_of
 top_word Plan = refl
@@ -37,6 +41,7 @@ top_word Measure = refl
 top_word ShapeMode = refl
 top_word Gen = refl
 
+-- the word of a command passes at the top
 top_turn : (m : Mode) → turn_passes top names (walk_from nothing_held) (mode_text m) ≡ true
 unfolding clap_on_literals floorplan modes mode_text key_text is_flag keys_of
 top_turn Plan = refl
@@ -45,6 +50,7 @@ top_turn Measure = refl
 top_turn ShapeMode = refl
 top_turn Gen = refl
 
+-- the walk that stopped at a command enters it, and has its rows
 enters : (m : Mode) (words : List Text) → entered (built floorplan) (Some (mode_text m, words)) ≡ Some (rows_at (leaf_of m) words)
 unfolding clap_on_literals floorplan modes mode_text key_text is_flag keys_of
 enters Plan words = refl
@@ -53,6 +59,7 @@ enters Measure words = refl
 enters ShapeMode words = refl
 enters Gen words = refl
 
+-- what is entered passes exactly where the command's own words do
 enters_passes : (m : Mode) (words : List Text) → entered_passes (built floorplan) (Some (mode_text m, words)) ≡ level_passes (leaf_of m) [] nothing_held words false
 unfolding clap_on_literals floorplan modes mode_text key_text is_flag keys_of
 enters_passes Plan words = refl
@@ -61,6 +68,7 @@ enters_passes Measure words = refl
 enters_passes ShapeMode words = refl
 enters_passes Gen words = refl
 
+-- the defaults of a command's options pass
 defaults_pass : (m : Mode) → list_all default_passes (leaf_of m).rules ≡ true
 unfolding clap_on_literals floorplan modes mode_text key_text is_flag keys_of
 defaults_pass Plan = refl
@@ -69,6 +77,7 @@ defaults_pass Measure = refl
 defaults_pass ShapeMode = refl
 defaults_pass Gen = refl
 
+-- whatever the rows, a command lacks nothing that is required, and no option has a rule on another
 leaf_valid : (m : Mode) (rows : List Row) → is_valid (leaf_of m) rows false ≡ true
 unfolding clap_on_literals floorplan modes mode_text key_text is_flag keys_of
 leaf_valid Plan rows = refl
@@ -77,30 +86,37 @@ leaf_valid Measure rows = refl
 leaf_valid ShapeMode rows = refl
 leaf_valid Gen rows = refl
 
+-- the command line is one of those whose matches clap's contract tells
 pub simple : is_simple floorplan ≡ true
 unfolding clap_on_literals floorplan modes mode_text key_text is_flag keys_of
 simple = refl
 
+-- a walk that has stopped keeps all further words
 stopped_walk : (c : List Rule) (ns : Names) (n : Text) (p words : List Text) → fold (walked c ns) (stopped_at n p) words ≡ stopped_at n (p ++ words)
 unfolding walked
 stopped_walk c ns n p [] = ap (stopped_at n) (sym (append-nil p))
 stopped_walk c ns n p (w ∷ words) = stopped_walk c ns n (p ++ w ∷ []) words ∙ ap (stopped_at n) (append_assoc p (w ∷ []) words)
 
+-- a walk that has stopped passes with all further words
 stopped_passes : (s : Shape) (ns : Names) (n : Text) (p words : List Text) → walk_passes s ns (stopped_at n p) words ≡ true
 unfolding walked walk_passes
 stopped_passes s ns n p [] = refl
 stopped_passes s ns n p (w ∷ words) = stopped_passes s ns n (p ++ w ∷ []) words
 
+-- the walk over a command's word and others stops at the command and keeps the others
 top_walk : (m : Mode) (words : List Text) → walk top.rules names nothing_held (mode_text m ∷ words) ≡ stopped_at (mode_text m) words
 top_walk m words = ap (λ (w : Walk). fold (walked top.rules names) w words) (top_word m) ∙ stopped_walk top.rules names (mode_text m) [] words
 
+-- a conjunction of what is true is true
 and_true : {a b : Bool} → a ≡ true → b ≡ true → (a && b) ≡ true
 and_true {a = a} {b = b} g h = rw (g, h) refl
 
+-- at the top nothing is left to settle, the defaults pass, and nothing that is required is missing
 top_ok : settle_passes top.rules top.args_override_self nothing_held && (list_all default_passes top.rules && is_valid top (finished top.rules nothing_held) true) ≡ true
 unfolding clap_on_literals floorplan modes mode_text key_text is_flag keys_of
 top_ok = refl
 
+-- at the top a command's word and all further words pass
 top_level : (m : Mode) (words : List Text) → level_passes top names nothing_held (mode_text m ∷ words) true ≡ true
 unfolding walk_passes
 top_level m words =
@@ -109,6 +125,7 @@ top_level m words =
     let rest : Held → Bool = λ end. settle_passes top.rules top.args_override_self end && (list_all default_passes top.rules && is_valid top (finished top.rules end) true) in
     and_true first (ap rest (ap (λ (w : Walk). w.held) (top_walk m words)) ∙ top_ok)
 
+-- all words are arguments: the program's name is not among them
 pub arguments : (words : List Text) → argument_words floorplan words ≡ words
 unfolding floorplan modes
 arguments words = refl
@@ -117,14 +134,17 @@ arguments words = refl
 abbrev pub walked_options : (m : Mode) (ts : List Token) → AreOptions m ts → Walked (mode_text m) (keys_of m) ts nothing_held
 walked_options m ts options = walked_all (mode_text m) m ts nothing_held options (absent_at_first ts) refl
 
+-- the words of a command's options pass in the command
 leaf_level : (m : Mode) (ts : List Token) → AreOptions m ts → level_passes (leaf_of m) [] nothing_held (words_of ts) false ≡ true
 leaf_level m ts options =
     let w = walked_options m ts options in
     rw (w.passes, w.walks, w.settles, defaults_pass m) (leaf_valid m _)
 
+-- the word of a command stops the walk there, with the words behind it
 top_stop : (m : Mode) (words : List Text) → stop_after top.rules names (mode_text m ∷ words) ≡ Some (mode_text m, words)
 top_stop m words = ap (λ (w : Walk). w.stopped) (top_walk m words)
 
+-- the built command line takes the words of a command and its options
 built_takes_all : (m : Mode) (ts : List Token) → AreOptions m ts → built_takes (built floorplan) nothing_held (mode_text m ∷ words_of ts) ≡ true
 built_takes_all m ts options =
     let words = words_of ts in
