@@ -138,9 +138,11 @@ def statuses(trial):
 
 
 def heaps(trial):
-    """How threads' heaps are laid out is asked for behind what the caller asks for, and never against it."""
-    ours, other, theirs = "glibc.malloc.top_pad=67108864", "glibc.malloc.arena_max=2", "glibc.malloc.top_pad=4096"
-    for given, found in (("", ours), (other, other + ":" + ours), (theirs, theirs)):
+    """How memory is laid out is asked for behind what the caller asks for, and never against it."""
+    pad, pages = "glibc.malloc.top_pad=67108864", "glibc.malloc.hugetlb=1"
+    other, theirs = "glibc.malloc.arena_max=2", "glibc.malloc.top_pad=4096"
+    for given, found in (("", (pad, pages)), (other, (other, pad, pages)), (theirs, (theirs, pages))):
+        found = ":".join(found)
         done = subprocess.run([trial.script, "heaps"], env={**trial.env, "GLIBC_TUNABLES": given}, capture_output=True, text=True)
         if done.stdout != "words heaps %s\n" % found:
             sys.exit("heaps, with %r given: %r" % (given, done.stdout))

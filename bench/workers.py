@@ -10,18 +10,25 @@ results  cost, bound and wall time for 1, 2 and 4 workers after 10^3, 10^4, 10^5
 
 speed    how much faster several workers are than one of them. The program has no command that lets one such worker search
          alone: with --workers 1 another program searches, by one path. So `--workers 2` on a single processor stands for
-         it: there the two decide in turn what one alone would decide in one pass. Printed are, per case, the processor
-         time per decision of --workers 1, of this one pass, and of 2 and 4 workers on all processors, each the least of
-         seven, taken in turn; and the wall time of the one pass over that of 2 and of 4 workers, per decision. Wanted are at
-         most 1.5 times the processor time of the pass, and wall time 1.6 and 2.6 times as short. Where this may be asked
-         for, the programs run with real-time priority: some kernels, of virtual machines above all, leave two threads on
-         one processor for tens of milliseconds while another is idle, and other programs take none of the four then.
-         The program runs with the heaps of its threads laid out as `./floorplan` has them, unless the caller's
+         it: there the two decide in turn what one alone would decide in one pass. The first table has, per case, the
+         processor time per decision of --workers 1, of this one pass, and of 2 and 4 workers on all processors, each the
+         least of seven, taken in turn; and the wall time of the one pass over that of 2 and of 4 workers, per decision.
+         Wanted are at most 1.5 times the processor time of the pass, and wall time 1.6 and 2.6 times as short.
+         Where two processors are threads of one core, or others use the cores too, a program alone on the machine is faster
+         than the same program beside others, and no way of sharing work makes up for that. So the second table has what
+         the machine gives: the wall time of one pass, of 2 and of 4 passes at once in programs of their own, each on its
+         own processor; how many times the work of one pass alone 2 and 4 of them do in the same time; and how much
+         faster 2 and 4 workers are than one of 2 and of 4 such passes. Where the machine gives less than 1.6 and 2.6
+         times the work, that last pair says what the first table can't.
+         Where this may be asked for, the programs run with real-time priority: some kernels, of virtual machines above
+         all, leave two threads on one processor for tens of milliseconds while another is idle, and other programs take
+         none of the four then. The program runs with memory laid out as `./floorplan` has it, unless the caller's
          environment says otherwise (`GLIBC_TUNABLES`, which may be empty).
 
 memory   greatest resident size of a search of 2,000,000 decisions of 7 blocks by 4 workers.
 """
 import os
+import subprocess
 import sys
 import tempfile
 import time
@@ -37,7 +44,7 @@ WORKERS = (1, 2, 4)
 OVER_LIMIT = 6
 TIMES = 3
 SPEED_TIMES = 7
-HEAPS = "glibc.malloc.top_pad=67108864"
+HEAPS = "glibc.malloc.top_pad=67108864:glibc.malloc.hugetlb=1"
 
 
 class Run:
@@ -100,12 +107,28 @@ def have_processors():
         print("without real-time priority\n")
 
 
+def passes_at_once(program, design, nodes, count):
+    """The wall time of so many passes, each in a program and on a processor of its own."""
+    words = [program, "plan"] + design + ["--nodes", str(nodes), "--workers", "2", "--cert"]
+    all_processors = sorted(os.sched_getaffinity(0))
+    begun = time.monotonic()
+    running = []
+    for processor in all_processors[:count]:
+        os.sched_setaffinity(0, {processor})
+        running.append(subprocess.Popen(words + ["w%d.cert" % processor], stdout=subprocess.DEVNULL))
+    os.sched_setaffinity(0, all_processors)
+    for process in running:
+        process.wait()
+    return time.monotonic() - begun
+
+
 def speed(program):
     have_processors()
+    shared = []
     head("Case", "--workers 1", "one pass", "2 workers", "4 workers", "over one pass with 2", "with 4", "faster with 2", "with 4")
     for name, blocks, nets, nodes in SPEED:
         design = words_of(name, blocks, nets)
-        least = {}
+        least, at_once = {}, {}
         for _ in range(SPEED_TIMES):
             for what, workers, one_processor in (("walk", 1, False), ("pass", 2, True), (2, 2, False), (4, 4, False)):
                 run = Run(program, design, nodes, workers, one_processor)
@@ -113,10 +136,21 @@ def speed(program):
                     sys.exit("%s: %d decisions are above its limit" % (name, nodes))
                 taken = (run.processor / run.decided, run.wall / run.decided)
                 least[what] = tuple(map(min, taken, least.get(what, taken)))
+            for count in (1, 2, 4):
+                taken = passes_at_once(program, design, nodes, count) / nodes
+                at_once[count] = min(taken, at_once.get(count, taken))
         cells = ["%.2f µs" % (1e6 * least[what][0]) for what in ("walk", "pass", 2, 4)]
         cells += ["%.2f" % (least[workers][0] / least["pass"][0]) for workers in (2, 4)]
         cells += ["%.2f" % (least["pass"][1] / least[workers][1]) for workers in (2, 4)]
         row(name, *cells)
+        cells = ["%.2f µs" % (1e6 * at_once[count]) for count in (1, 2, 4)]
+        cells += ["%.2f" % (count * at_once[1] / at_once[count]) for count in (2, 4)]
+        cells += ["%.2f" % (at_once[workers] / least[workers][1]) for workers in (2, 4)]
+        shared.append([name] + cells)
+    print()
+    head("Case", "one pass", "2 passes at once", "4 at once", "work of 2 at once", "of 4", "2 workers faster than one of 2", "4 than one of 4")
+    for cells in shared:
+        row(*cells)
 
 
 def memory(program):
