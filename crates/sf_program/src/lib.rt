@@ -24,8 +24,6 @@ mod refusals;
 mod rewriting;
 mod shaping;
 mod stop;
-#[cfg(test)]
-mod tests;
 mod weighed;
 mod weighing;
 mod work;

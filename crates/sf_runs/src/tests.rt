@@ -1,5 +1,6 @@
 //! Whole runs over a shelf and a sink in memory, as tables of what is given and what is answered.
 
+mod by_bytes;
 mod checking;
 mod expressions;
 mod failing;
@@ -17,8 +18,8 @@ mod weights;
 mod words;
 mod workers;
 
-use crate::run;
 use sf_io::{Gate, MemShelf, MemSink, OpenGate, PartShelf, PartSink, Status};
+use sf_program::run;
 use std::alloc::{AllocError, Global};
 use std::process::Abort;
 use std::test::Fail;

@@ -7,8 +7,8 @@ use super::words::{AT_ENDS, MEANINGLESS};
 use super::{
     GIVEN, NAMES, Printed, Row, assert_held, assert_printed, assert_words, shelf_of, words_of,
 };
-use crate::run;
 use sf_io::{OpenGate, PartShelf, PartSink, Status};
+use sf_program::run;
 use std::alloc::Global;
 use std::process::Abort;
 use std::test::Fail;

@@ -8,15 +8,7 @@ use super::{
     GIVEN, Printed, Row, Text, answer, assert_printed, assert_refused, assert_rows, has_line,
     shelf_of, words_of,
 };
-use crate::answering::{answer_work, cert_fault};
-use crate::designs::read_design;
-use crate::stop::Stop;
-use crate::work::{Work, no_stores};
-use sf_bounds::Standard;
-use sf_checker::{Checking, FinishFault};
-use sf_io::{MemShelf, Status};
-use sf_words::{CommandWords, read_words};
-use std::alloc::Global;
+use sf_io::Status;
 use std::test::Fail;
 
 const BARE: &str = "check --format gsrc --blocks a.blocks --cert a.cert";
@@ -73,7 +65,7 @@ const NO_COST: &[u8] =
     b"slicing-certificate 1\nblocks 1\ncost 18446744073709551615\nbound 12\nplan 0:3x4\ntree\nE\nC\n";
 
 /// Certificates that are read and judged.
-const JUDGED: &[Row] = &[
+pub const JUDGED: &[Row] = &[
     Row {
         options: "--fixed",
         files: &[("a.blocks", TWO), ("a.cert", TWO_UNNAMED)],
@@ -186,40 +178,6 @@ pub const UNREADABLE: &[Row] = &[
 fn certificates(rt: HostRuntime) -> Result<(), Fail> {
     for rows in [JUDGED, UNREADABLE] {
         assert_rows(&rt, rt.alloc(), rows)?;
-    }
-    Ok(())
-}
-
-/// What is answered to a certificate that comes byte by byte.
-fn answer_bytes(alloc: Global, words: &[String], shelf: &mut MemShelf) -> Result<Work, Stop> {
-    let Ok(Some(CommandWords::Check(words))) = read_words(alloc, words) else {
-        return Err(Stop::NoMemory);
-    };
-    let design = read_design(alloc, shelf, &words.design, words.weights)?;
-    let mut checking = Checking::new(alloc, &design, &Standard)?;
-    for byte in shelf.bytes("a.cert").unwrap_or(&[]) {
-        checking.feed(&[*byte])?;
-    }
-    match checking.finish() {
-        Ok(answer) => Ok(answer_work(alloc, answer, no_stores(alloc))?),
-        Err(FinishFault::Text(fault)) => Err(cert_fault(alloc, fault)?),
-        Err(FinishFault::NoMemory) => Err(Stop::NoMemory),
-    }
-}
-
-#[test]
-fn certificates_by_bytes(rt: HostRuntime) -> Result<(), Fail> {
-    let alloc = rt.alloc();
-    for row in JUDGED.iter().chain(UNREADABLE) {
-        let words = words_of(alloc, &[row.command, row.options])?;
-        let mut shelf = shelf_of(alloc, row.files, 0)?;
-        let (status, printed) = match answer_bytes(alloc, &words, &mut shelf) {
-            Ok(work) => (work.status, work.text),
-            Err(Stop::Refused(status, line)) => (status, line),
-            Err(_) => return Err(Fail::new("the certificate has no answer")),
-        };
-        assert_eq!(rt; status, row.status);
-        assert_printed(&rt, row, str::from_utf8(&printed)?);
     }
     Ok(())
 }
