@@ -2,7 +2,6 @@
 use Rattle.std.proofs.Common.{◌≡◌, ℕ, List, [], ◌∷◌, ◌++◌, length, ap, sym, subst, ◌∙◌, false, ◌-◌, refl, arith, length-append}
 use Rattle.std.specs.Prelude.{slice_get, Contains, Option, Some, None, IfSome}
 use Rattle.std.specs.Option.{option_to_list}
-use Rattle.std.specs.List.{AllByRecursion}
 use Rattle.std.proofs.lemmas.List.Elements.{Contains-append_right}
 use Rattle.sf_model.specs.declared.design.Design.{Design}
 use Rattle.sf_node.specs.declared.step.Step.{Step}
@@ -10,8 +9,8 @@ use Rattle.sf_node.specs.declared.step.Step.TheVariants.{Block}
 use Rattle.sf_node.specs.Later.{IsChildOf}
 use Rattle.sf_node.specs.Parts.{Parts}
 use Rattle.sf_node.specs.Subproblem.{is_complete}
-use Rattle.sf_node.specs.Children.{IsSubproblem, CanStep, CanSplit, after, step_of, next_tokens, extended, split}
-use Rattle.sf_node.proofs.Reached.{next-can, extended-subproblems, split-subproblems, after-subproblem, steps-after}
+use Rattle.sf_node.specs.Children.{IsSubproblem, CanStep, after, step_of, next_tokens, extended}
+use Rattle.sf_node.proofs.Reached.{next-can, extended-subproblems, after-subproblem, steps-after}
 use Rattle.sf_curves.proofs.Members.{Contains-head}
 use Rattle.sf_standard.specs.Standard.{standard}
 use Rattle.sf_standard.proofs.Listed.{Contains-from_map, each-contains}
@@ -59,10 +58,3 @@ pub popped_sub : (design : Design) (parent : Parts) (others : List Parts) (child
 popped_sub design parent others None sub e = tt
 popped_sub design parent others (Some child) sub e =
     child_sub design parent child sub (subst (λ v. Contains v child) (sym e) (Contains-append_right others (child ∷ []) child (Contains-head child [])))
-
--- both halves of a span
-pub halves_sub : (design : Design) (parent : Parts) (b : ℕ) (l r : Parts) → IsSubproblem design parent → CanSplit parent b → l ∷ r ∷ [] ≡ split parent b → IsSubproblem design l × IsSubproblem design r
-halves_sub design parent b l r sub can e =
-    let all = split-subproblems design parent b sub can in
-    let k = subst (AllByRecursion (IsSubproblem design)) (sym e) all in
-    (k.0, k.1.0)

@@ -19,8 +19,6 @@ mod naming;
 mod pieces;
 mod planning;
 mod stage;
-#[cfg(test)]
-mod tests;
 mod walk;
 
 pub use answer::{Answer, Why};

@@ -9,8 +9,6 @@
 
 mod cursor;
 mod level;
-#[cfg(test)]
-mod tests;
 
 pub use cursor::Cursor;
 pub use level::Level;

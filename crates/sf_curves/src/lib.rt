@@ -16,8 +16,6 @@ mod of_shapes;
 mod picking;
 mod point;
 mod root;
-#[cfg(test)]
-mod tests;
 mod tracing;
 
 pub use combining::{combine_above, combine_beside};

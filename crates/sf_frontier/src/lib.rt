@@ -15,8 +15,6 @@ mod place;
 mod ring;
 mod rule;
 mod settle;
-#[cfg(test)]
-mod tests;
 
 pub use ends::{Owner, Thief};
 pub use left::Finish;

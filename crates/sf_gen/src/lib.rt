@@ -20,6 +20,3 @@ pub use laws::{
     blocks_are_read, blocks_have_shapes, nets_are_read, parts_are_admitted, places_are_read,
 };
 pub use texts::{ByteList, GenTexts};
-
-#[cfg(test)]
-mod tests;

@@ -40,6 +40,3 @@ pub use nets::{nets_stand_for_one, read_nets};
 pub use output::{GsrcBlocks, GsrcNets, GsrcPlaces, Place, PlaceList};
 pub use places::{places_stand_for_one, read_pl};
 pub use weights::{read_weights, weights_stand_for_one};
-
-#[cfg(test)]
-mod tests;

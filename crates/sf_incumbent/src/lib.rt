@@ -13,8 +13,6 @@ ghost use Rattle.std.specs.Prelude.{◌≡◌, ℕ, ◌+◌, ◌-◌, ◌<◌, �
 ghost use Rattle.sf_incumbent.specs.Seen.{Word, Knows};
 
 mod rule;
-#[cfg(test)]
-mod tests;
 
 use crate::rule::{Halves, Law, Looks, Offers, Opening, View, Whole};
 use atomic_table::Table;

@@ -24,8 +24,6 @@ mod plan;
 mod raw;
 mod raw_lists;
 mod table;
-#[cfg(test)]
-mod tests;
 
 pub use admit::admitted_parts_keep_limits;
 pub use cost_text::push_cost;

@@ -9,4 +9,3 @@ pub mod Spanned
 pub mod Spelled
 pub mod Begun
 pub mod Later
-pub mod TwoLeaves

@@ -14,8 +14,6 @@ mod node;
 mod part;
 mod step;
 mod task;
-#[cfg(test)]
-mod tests;
 mod values;
 
 pub use belonging::belongs;

@@ -9,8 +9,6 @@
 mod length;
 mod placed;
 mod report;
-#[cfg(test)]
-mod tests;
 
 pub use placed::pl_text;
 pub use report::{Outcome, Report, report_text};

@@ -9,8 +9,6 @@
 mod laws;
 mod measure;
 mod placing;
-#[cfg(test)]
-mod tests;
 mod verdict;
 
 pub use laws::verdicts_are_one;

@@ -18,8 +18,6 @@ mod read;
 mod reading;
 mod skew;
 mod spell;
-#[cfg(test)]
-mod tests;
 mod word;
 mod write;
 

@@ -9,8 +9,6 @@ mod hard;
 mod laws;
 mod listed;
 mod soft;
-#[cfg(test)]
-mod tests;
 
 pub use fault::ShapeFault;
 pub use hard::hard_shapes;

@@ -7,8 +7,6 @@
 
 mod costs;
 mod extent;
-#[cfg(test)]
-mod tests;
 mod wires;
 
 pub use costs::{cost, spots_cost, spots_size};

@@ -21,6 +21,3 @@ pub use command::{
 };
 pub use line::read_words;
 pub use meaning::meaning_is_unique;
-
-#[cfg(test)]
-mod tests;

@@ -28,6 +28,3 @@ mod vertices;
 pub use fault::YalFault;
 pub use laws::parts_keep_ranges;
 pub use read::{read_yal, stands_for_one};
-
-#[cfg(test)]
-mod tests;

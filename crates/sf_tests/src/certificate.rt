@@ -1,0 +1,170 @@
+//! Texts that are read, and the first fault of texts that are not.
+
+ghost use Rattle.std.specs.Prelude.{◌≡◌, IfOk};
+ghost use Rattle.sf_model.specs.Legal.{block_count};
+
+use sf_certificate::{CertFault, Tag, merge, read, write};
+use sf_model::{
+    Block, BlockList, Design, MAX, Name, NetList, Outline, PadList, Shape, Shapes, Weights,
+};
+use sf_node::{Node, Part, Task, Values};
+use std::alloc::{AllocError, Global};
+use std::test::Fail;
+
+/// A bound that closes nothing.
+struct Nothing;
+
+impl Values for Nothing {
+    ghost value = { λ bounds design node. 0 };
+}
+
+/// A block 3x4.
+fn one_block(alloc: Global) -> Result<Design, AllocError>
+    ensures { IfOk result (λ design. block_count design ≡ 1) }
+{
+    let block = Block {
+        name: Name::new(alloc, b"b0")?,
+        shapes: Shapes::from_vec(vec![in alloc; Shape { w: 3, h: 4 }]?),
+    };
+    Ok(Design {
+        blocks: BlockList::from_vec(vec![in alloc; block]?),
+        pads: PadList::from_vec(Vec::new(alloc)),
+        nets: NetList::from_vec(Vec::new(alloc)),
+        outline: Outline { w: 10, h: 10 },
+        weights: Weights { area: 1, wire: 0 },
+    })
+}
+
+/// A search that decided nothing leaves the root open.
+#[test]
+fn merges_an_open_root(rt: HostRuntime) -> Result<(), Fail> {
+    let alloc = rt.alloc();
+    let design = one_block(alloc)?;
+    let root = Task {
+        node: Node::root(alloc, &design)?,
+        bound: 0,
+    };
+    let left = vec![in alloc; root]?;
+    let cert = merge(alloc, &design, Vec::new(alloc), left, None, MAX, &Nothing)?;
+    assert_eq!(rt; cert.tags.as_slice(), [Tag::Open].as_slice());
+    assert_eq!(rt; cert.bound, 0);
+    Ok(())
+}
+
+/// A text of the first version is read, its closed subproblems by their full part.
+#[test]
+fn reads_the_first_version(rt: HostRuntime) -> Result<(), Fail> {
+    let alloc = rt.alloc();
+    let text = b"slicing-certificate 1\nblocks 1\ncost 12\nbound 12\nplan 0:3x4\ntree\nE\nC\n";
+    let cert = read(alloc, text, 1)?;
+    assert_eq!(rt; (cert.cost, cert.bound), (12, 12));
+    assert_eq!(rt;
+        cert.tags.as_slice(),
+        [Tag::Extend, Tag::Closed(Part::Full)].as_slice()
+    );
+    // It is written in the second one.
+    let same = b"slicing-certificate 2\nblocks 1\ncost 12\nbound 12\nplan 0:3x4\ntree\nE\nC f\n";
+    let written = write(alloc, &cert)?;
+    assert_eq!(rt; written.as_slice(), same.as_slice());
+    Ok(())
+}
+
+/// A text of the second version is written as it was read.
+#[test]
+fn writes_the_parts_that_it_read(rt: HostRuntime) -> Result<(), Fail> {
+    let alloc = rt.alloc();
+    let header = b"slicing-certificate 2\nblocks 2\ncost none\nbound 0\nplan none\ntree\n";
+    let tree = b"E\nS 0\nC a\nC r\nS 1\nC p\nS 0\nC h\nS 0\nC f\nO\n";
+    let mut text = header.to_vec(alloc)?;
+    text.extend_from_slice(tree)?;
+    let tags = [
+        Tag::Extend,
+        Tag::Split(0),
+        Tag::Closed(Part::Area),
+        Tag::Closed(Part::Range),
+        Tag::Split(1),
+        Tag::Closed(Part::Pair),
+        Tag::Split(0),
+        Tag::Closed(Part::Hull),
+        Tag::Split(0),
+        Tag::Closed(Part::Full),
+        Tag::Open,
+    ];
+    let cert = read(alloc, &text, 2)?;
+    assert_eq!(rt; cert.tags.as_slice(), tags.as_slice());
+    let written = write(alloc, &cert)?;
+    assert_eq!(rt; written.as_slice(), text.as_slice());
+    Ok(())
+}
+
+/// Of several faults the first is told, with its line.
+#[test]
+fn finds_the_first_fault(rt: HostRuntime) -> Result<(), Fail> {
+    let alloc = rt.alloc();
+    let cut =
+        b"slicing-certificate 1\nblocks 2\ncost 12\nbound 12\nplan 0:2x3 1:2x3 *\ntree\nE\nE\n";
+    let more =
+        b"slicing-certificate 1\nblocks 2\ncost 12\nbound 12\nplan 0:2x3 1:2x3 *\ntree\nE E E C C C\nC\n";
+    let faults = [
+        (cut.as_slice(), CertFault::Truncated(8)),
+        (more.as_slice(), CertFault::Trailing(8)),
+        (
+            b"slicing-certificate 1\nblocks 2\ncost 12\nbound 12\nplan 0:2x3 1:2x3 *\ntree\nX\n".as_slice(),
+            CertFault::BadTag(7),
+        ),
+        (
+            b"slicing-certificate 1\nblocks 2\ncost none\nbound 12\nplan 0:2x3 1:2x3 *\ntree\nO\n".as_slice(),
+            CertFault::BadHeader(5),
+        ),
+        (
+            b"slicing-certificate 1\nblocks 2\ncost 012\nbound 12\nplan none\ntree\nO\n".as_slice(),
+            CertFault::BadHeader(3),
+        ),
+        (
+            b"slicing-certificate 1\n blocks  2\ncost none\nbound 12\nplan none\n".as_slice(),
+            CertFault::BadHeader(5),
+        ),
+        // No third version, and no zeros in front of the second.
+        (
+            b"slicing-certificate 3\nblocks 2\ncost none\nbound 12\nplan none\ntree\nO\n".as_slice(),
+            CertFault::BadHeader(1),
+        ),
+        (
+            b"slicing-certificate 02\nblocks 2\ncost none\nbound 12\nplan none\ntree\nO\n".as_slice(),
+            CertFault::BadHeader(1),
+        ),
+        // A letter is a word like any other in the first version.
+        (
+            b"slicing-certificate 1\nblocks 2\ncost none\nbound 12\nplan none\ntree\nE\nC\na O\n".as_slice(),
+            CertFault::BadTag(9),
+        ),
+        (
+            b"slicing-certificate 1\nblocks 2\ncost none\nbound 12\nplan none\ntree\nC\na\n".as_slice(),
+            CertFault::Trailing(8),
+        ),
+        // In the second one it belongs to the C, whose line is named.
+        (
+            b"slicing-certificate 2\nblocks 2\ncost none\nbound 12\nplan none\ntree\nE\nC\nx O\n".as_slice(),
+            CertFault::BadTag(8),
+        ),
+        (
+            b"slicing-certificate 2\nblocks 2\ncost none\nbound 12\nplan none\ntree\nE\nC\nC a\n".as_slice(),
+            CertFault::BadTag(8),
+        ),
+        (
+            b"slicing-certificate 2\nblocks 2\ncost none\nbound 12\nplan none\ntree\nE C\na\nC\n".as_slice(),
+            CertFault::Truncated(9),
+        ),
+        (
+            b"slicing-certificate 2\nblocks 2\ncost none\nbound 12\nplan none\ntree\nC a\nC\n".as_slice(),
+            CertFault::Trailing(8),
+        ),
+    ];
+    for (text, fault) in faults {
+        match read(alloc, text, 2) {
+            Ok(_) => assert!(rt; false),
+            Err(found) => assert_eq!(rt; found, fault),
+        }
+    }
+    Ok(())
+}

@@ -1,0 +1,70 @@
+//! Tests of the calls of one crate each, in a file for each crate: what no clause says, as a text of an outside
+//! source or a value worked out by hand. They stand over the crates that they call, and in a crate of their
+//! own, since a crate with tests is proved twice.
+#![tactic(auto)]
+
+#[cfg(test)]
+mod bounds;
+
+#[cfg(test)]
+mod certificate;
+
+#[cfg(test)]
+mod checker;
+
+#[cfg(test)]
+mod cursor;
+
+#[cfg(test)]
+mod curves;
+
+#[cfg(test)]
+mod designs;
+
+#[cfg(test)]
+mod frontier;
+
+#[cfg(test)]
+mod generated;
+
+#[cfg(test)]
+mod gsrc;
+
+#[cfg(test)]
+mod incumbent;
+
+#[cfg(test)]
+mod lex;
+
+#[cfg(test)]
+mod model;
+
+#[cfg(test)]
+mod node;
+
+#[cfg(test)]
+mod pl_writer;
+
+#[cfg(test)]
+mod place;
+
+#[cfg(test)]
+mod polish;
+
+#[cfg(test)]
+mod rounds;
+
+#[cfg(test)]
+mod search_core;
+
+#[cfg(test)]
+mod soft_shapes;
+
+#[cfg(test)]
+mod wire;
+
+#[cfg(test)]
+mod words;
+
+#[cfg(test)]
+mod yal;

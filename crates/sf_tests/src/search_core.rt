@@ -1,0 +1,166 @@
+//! What the machine refuses, on one block by area alone.
+
+ghost use Rattle.std.specs.Prelude.{◌≡◌, ◌<◌, length, map, IfOk};
+ghost use Rattle.sf_node.specs.Children.{IsSubproblem};
+ghost use Rattle.sf_search_core.specs.Conserved.{branched};
+ghost use Rattle.sf_search_core.specs.Core.{IsCoreState};
+ghost use Rattle.sf_search_core.specs.Events.{held_by, kind_of, AreBounds, CanCome};
+
+use crate::designs::Seven;
+use sf_model::{
+    Block, BlockList, Design, MAX, Name, NetList, Outline, PadList, Shape, Shapes, Weights,
+};
+use sf_node::Node;
+use sf_search_core::{Costs, Event, How, Pool, Refusal};
+use std::alloc::{AllocError, Global};
+use std::test::Fail;
+
+/// An event of the only worker, without bounds.
+#[derive(Clone, Copy, Debug)]
+enum Try {
+    Take(usize),
+    Replace(How, u64),
+    Close(u64),
+    Offer(u64),
+}
+
+/// A block 2x3 or 3x2.
+fn one_block(alloc: Global) -> Result<Design, AllocError> {
+    let block = Block {
+        name: Name::new(alloc, b"b0")?,
+        shapes: Shapes::from_vec(vec![in alloc; Shape { w: 2, h: 3 }, Shape { w: 3, h: 2 }]?),
+    };
+    Ok(Design {
+        blocks: BlockList::from_vec(vec![in alloc; block]?),
+        pads: PadList::from_vec(Vec::new(alloc)),
+        nets: NetList::from_vec(Vec::new(alloc)),
+        outline: Outline { w: 10, h: 10 },
+        weights: Weights { area: 1, wire: 0 },
+    })
+}
+
+/// The bounds of the children that a way of branching makes.
+fn bounds_of(alloc: Global, design: &Design, node: &Node, how: How) -> Result<Costs, AllocError>
+    requires { IsSubproblem design.now node.now }
+    ensures { IfOk result (λ costs. costs ≡ map (λ child. 7) (branched (kind_of how) node.now)) }
+{
+    match how {
+        How::Extend => {
+            let children = node.extend_children(design)?;
+            Ok(Costs::new(Vec::from_elem(alloc, 7, children.len())?))
+        }
+        How::Split(_) => Ok(Costs::new(vec![in alloc; 7, 7]?)),
+    }
+}
+
+/// The bounds of the children of the held task.
+fn held_bounds(alloc: Global, design: &Design, pool: &Pool, how: How) -> Result<Costs, AllocError>
+    requires core { IsCoreState design.now (λ node. 7) pool.now }
+    requires worker { 0 < length pool.now.held }
+    ensures { IfOk result (λ costs. AreBounds (λ node. 7) how costs (held_by pool.now 0)) }
+{
+    match pool.held(0) {
+        None => Ok(Costs::new(Vec::new(alloc))),
+        Some(task) => bounds_of(alloc, design, &task.node, how),
+    }
+}
+
+/// The event of a try.
+fn event_of(alloc: Global, design: &Design, pool: &Pool, tried: Try) -> Result<Event, AllocError>
+    requires core { IsCoreState design.now (λ node. 7) pool.now }
+    requires worker { 0 < length pool.now.held }
+    ensures { IfOk result (CanCome (λ node. 7) pool.now) }
+{
+    match tried {
+        Try::Take(place) => Ok(Event::Take(0, place)),
+        Try::Replace(how, value) => {
+            let costs = held_bounds(alloc, design, pool, how)?;
+            Ok(Event::Replace(0, how, value, costs))
+        }
+        Try::Close(value) => Ok(Event::Close(0, value)),
+        Try::Offer(cost) => Ok(Event::Offer(0, cost)),
+    }
+}
+
+/// Makes one step; what was refused, and why.
+fn step(
+    alloc: Global,
+    design: &Design,
+    pool: &mut Pool,
+    tried: Try,
+) -> Result<Option<Refusal>, AllocError>
+    requires core { IsCoreState design.now (λ node. 7) pool.old }
+    requires worker { 0 < length pool.old.held }
+    ensures core { IsCoreState design.now (λ node. 7) pool.new }
+    ensures worker { 0 < length pool.new.held }
+{
+    let event = event_of(alloc, design, pool, tried)?;
+    Ok(pool.apply(design, event, &Seven).err())
+}
+
+/// The word, the open tasks and the entries.
+fn told(alloc: Global, pool: &Pool) -> Result<String, AllocError> {
+    let mut text = String::new(alloc);
+    write!(text, "{}", pool.word())?;
+    for task in pool.open_tasks() {
+        write!(text, " open {:?} {}", task.node.steps(), task.bound)?;
+    }
+    for entry in pool.entries() {
+        write!(
+            text,
+            " decided {:?} {:?} {}",
+            entry.node.steps(),
+            entry.kind,
+            entry.value
+        )?;
+    }
+    Ok(text)
+}
+
+/// An event that is refused leaves the pool as it was.
+#[test]
+fn refuses_and_stays(rt: HostRuntime) -> Result<(), Fail> {
+    let alloc = rt.alloc();
+    let design = one_block(alloc)?;
+    let mut pool = Pool::new(alloc, &design, 7, 1, &Seven)?;
+    let rows = [
+        // The root is open, and nothing is held.
+        (Try::Take(1), Some(Refusal::NoPlace)),
+        (Try::Replace(How::Extend, MAX), Some(Refusal::NotHeld)),
+        (Try::Close(MAX), Some(Refusal::NotHeld)),
+        (Try::Offer(7), Some(Refusal::NotHeld)),
+        // The root is held, and the word is MAX.
+        (Try::Take(0), None),
+        (Try::Replace(How::Extend, 9), Some(Refusal::Stale(9, MAX))),
+        (Try::Replace(How::Split(1), MAX), Some(Refusal::NoStep)),
+        (Try::Close(9), Some(Refusal::Stale(9, MAX))),
+        (Try::Close(MAX), Some(Refusal::NotAtLeast(7, MAX))),
+        (Try::Offer(7), Some(Refusal::NotCost(7, 7))),
+        // The left half of the root is held, with one shape.
+        (Try::Replace(How::Split(0), MAX), None),
+        (Try::Take(1), None),
+        (Try::Take(0), Some(Refusal::NoPlace)),
+        (Try::Replace(How::Split(0), MAX), Some(Refusal::NoStep)),
+        // Its child, which is complete and solved, is held.
+        (Try::Replace(How::Extend, MAX), None),
+        (Try::Take(1), None),
+        (Try::Replace(How::Extend, MAX), Some(Refusal::NoStep)),
+        (Try::Offer(8), Some(Refusal::NotCost(8, 7))),
+        // The word is 7.
+        (Try::Offer(7), None),
+        (Try::Replace(How::Extend, 6), Some(Refusal::Stale(6, 7))),
+        (Try::Replace(How::Extend, 7), Some(Refusal::NotBelow(7, 7))),
+        (Try::Close(6), Some(Refusal::Stale(6, 7))),
+        (Try::Close(8), Some(Refusal::NotAtLeast(7, 8))),
+        (Try::Close(7), None),
+    ];
+    for (tried, refusal) in rows {
+        let before = told(alloc, &pool)?;
+        let answer = step(alloc, &design, &mut pool, tried)?;
+        assert_eq!(rt; answer, refusal, "{tried:?}");
+        if refusal.is_some() {
+            assert_eq!(rt; told(alloc, &pool)?, before, "{tried:?}");
+        }
+    }
+    Ok(())
+}

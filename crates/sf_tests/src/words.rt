@@ -1,0 +1,238 @@
+//! The words of each command with all of its options, and lists of words at the edges of the table of
+//! options.
+
+use sf_words::{CommandWords, InputFiles, Kinds, read_words};
+use std::alloc::{AllocError, Global};
+use std::test::Fail;
+
+const GSRC: &str = "--format gsrc --blocks a --nets b --pl c";
+
+const YAL: &str = "--format yal --yal a";
+
+const DESIGN: &str = "--per-unit 10 --fixed --shapes 16 --outline 10.5x7";
+
+const WEIGHTS: &str = "--area-weight 2 --wire-weight 3 --net-weights w";
+
+/// More words behind those of a plan, with which they have a meaning.
+const TAKEN: &str = "--outline 1048576x1
+--outline 104857.6x.1 --per-unit 10
+--shapes 2
+--shapes 256
+--area-weight 0 --wire-weight 65535
+--net-weights w=w
+--workers 00000000000000000016
+--nodes 1";
+
+/// More words behind those of a plan, with which they have none.
+const REFUSED: &str = "--outline 1048577x1
+--outline 0x1
+--outline 1x0.0
+--outline 10.5x7
+--outline 7
+--outline 7x
+--outline x7
+--outline 7x7x7
+--outline 7X7
+--outline +7x7
+--shapes 1
+--shapes 257
+--per-unit 5
+--per-unit 10000
+--area-weight 0
+--area-weight 0 --wire-weight 0
+--wire-weight 65536
+--workers 0
+--workers 17
+--workers 000000000000000000016
+--nodes 0
+--nodes 4000001
+--nodes +1
+--nodes
+--yal b
+--fixed=on
+--fixed on
+--fixed --fixed
+--pl-out -e
+--pl-out=
+--cert d
+--placed p
+--rewrite r
+--net-weights
+--net-weights=
+--net-weights -w
+--net-weights w --net-weights w
+--
+help
+--help
+-h
+--version
+-V";
+
+/// Lists of words without a meaning, the empty list first.
+const WITHOUT: &str = "
+--
+help
+--help
+-h
+--version
+-V
+Plan --cert d --format gsrc --blocks a
+--cert d plan --format gsrc --blocks a
+plan --format gsrc --blocks a.blocks
+plan --cert d --blocks a
+plan --cert d --format gsrc
+plan --cert d --format yal --blocks a
+plan --cert d --format GSRC --blocks a
+check --rewrite r --format gsrc --blocks a
+check --cert d --format gsrc --blocks a --rewrite
+check --cert d --format gsrc --blocks a --rewrite=
+check --cert d --format gsrc --blocks a --rewrite -r
+check --cert d --format gsrc --blocks a --rewrite r --rewrite r
+measure --placed p --format gsrc --blocks a --rewrite r
+shape --format gsrc --blocks a --expr e --rewrite r
+shape --format gsrc --blocks a --expr e --net-weights w
+gen --seed 7 --count 4 --out g --net-weights w
+gen --seed 7 --count 4 --out g --rewrite r
+gen --seed 7 --seed 7 --count 4 --out g
+gen --seed 7 --count 321 --out g
+gen --seed 18446744073709551616 --count 4 --out g
+gen --seed 7 --count 4 --kinds soft --out g
+gen --help";
+
+/// The words of these texts, valued options as `--name value`.
+fn spaced(alloc: Global, texts: &[&str]) -> Result<Vec<String>, AllocError> {
+    let mut words = Vec::new(alloc);
+    for text in texts {
+        for word in text.split_ascii_whitespace() {
+            words.push(String::from_str(alloc, word)?)?;
+        }
+    }
+    Ok(words)
+}
+
+/// The same words with valued options as `--name=value`.
+fn attached(alloc: Global, words: &[String]) -> Result<Vec<String>, AllocError> {
+    let mut joined: Vec<String> = Vec::new(alloc);
+    for word in words {
+        match joined.last_mut() {
+            Some(last) if !word.starts_with("--") => {
+                last.push_str("=")?;
+                last.push_str(word.as_str())?;
+            }
+            _ => joined.push(word.clone()?)?,
+        }
+    }
+    Ok(joined)
+}
+
+fn has_meaning(alloc: Global, texts: &[&str]) -> Result<bool, Fail> {
+    let words = spaced(alloc, texts)?;
+    Ok(read_words(alloc, &words)?.is_some())
+}
+
+/// Each command takes all of its options that go with a format, in both spellings.
+#[test]
+fn all_options(rt: HostRuntime) -> Result<(), Fail> {
+    let alloc = rt.alloc();
+    let search = "--cert d --pl-out e --workers 16 --nodes 4000000";
+    let rows = [
+        ["plan", GSRC, DESIGN, WEIGHTS, search],
+        ["plan", YAL, DESIGN, WEIGHTS, search],
+        ["check", GSRC, DESIGN, WEIGHTS, "--cert d --rewrite e"],
+        ["check", YAL, DESIGN, WEIGHTS, "--cert d --rewrite e"],
+        ["measure", GSRC, DESIGN, WEIGHTS, "--placed d"],
+        ["measure", YAL, DESIGN, WEIGHTS, "--placed d"],
+        ["shape", GSRC, DESIGN, "", "--expr d"],
+        ["shape", YAL, DESIGN, "", "--expr d"],
+        [
+            "gen",
+            "--seed 7",
+            "--count 4 --kinds mixed",
+            "--nodes 9",
+            "--out g",
+        ],
+    ];
+    for row in rows {
+        let words = spaced(alloc, &row)?;
+        assert!(rt; read_words(alloc, &words)?.is_some(), "{row:?} spaced");
+        let words = attached(alloc, &words)?;
+        assert!(rt; read_words(alloc, &words)?.is_some(), "{row:?} attached");
+    }
+    Ok(())
+}
+
+/// What the words say reaches the command, and what they leave out has its default.
+#[test]
+fn values(rt: HostRuntime) -> Result<(), Fail> {
+    let alloc = rt.alloc();
+    let words = spaced(alloc, &["gen --seed=7 --count 004 --out g"])?;
+    let Some(CommandWords::Gen(read)) = read_words(alloc, &words)? else {
+        return Err("gen".into());
+    };
+    assert_eq!(rt; (read.seed, read.count, read.nodes), (7, 4, None));
+    assert!(rt; read.kinds == Kinds::Hard && read.out == "g");
+
+    let words = spaced(alloc, &["plan --cert=x=y", YAL])?;
+    let Some(CommandWords::Plan(read)) = read_words(alloc, &words)? else {
+        return Err("plan".into());
+    };
+    assert!(rt; matches!(read.design.input, InputFiles::Yal { file: "a" }));
+    assert!(rt; read.cert == "x=y" && read.pl_out.is_none() && !read.design.is_fixed);
+    assert_eq!(rt;
+        (read.weights.area, read.weights.wire, read.workers),
+        (1, 0, 1)
+    );
+    assert!(rt; read.weights.net_weights.is_none());
+    assert_eq!(rt; (read.design.per_unit, read.design.shapes), (1, 16));
+    assert_eq!(rt;
+        (read.design.width, read.design.height),
+        (1_048_576, 1_048_576)
+    );
+
+    let words = spaced(
+        alloc,
+        &["shape --expr e --outline .50x007.25 --per-unit 0100", GSRC],
+    )?;
+    let Some(CommandWords::Shape(read)) = read_words(alloc, &words)? else {
+        return Err("shape".into());
+    };
+    assert_eq!(rt; (read.design.width, read.design.height), (50, 725));
+
+    let words = spaced(alloc, &["measure --placed p --net-weights w", YAL])?;
+    let Some(CommandWords::Measure(read)) = read_words(alloc, &words)? else {
+        return Err("measure".into());
+    };
+    assert!(rt; read.weights.net_weights == Some("w"));
+
+    for (more, rewrite) in [("", None), ("--rewrite=x=y", Some("x=y"))] {
+        let words = spaced(alloc, &["check --cert c", more, YAL])?;
+        let Some(CommandWords::Check(read)) = read_words(alloc, &words)? else {
+            return Err("check".into());
+        };
+        assert!(rt; read.cert == "c" && read.rewrite == rewrite, "{more}");
+    }
+    Ok(())
+}
+
+/// Lists of words at the edges: those with a meaning, and those without.
+#[test]
+fn edges(rt: HostRuntime) -> Result<(), Fail> {
+    let alloc = rt.alloc();
+    let plan = "plan --cert d --format gsrc --blocks a";
+    for more in TAKEN.lines() {
+        assert!(rt; has_meaning(alloc, &[plan, more])?, "{more}");
+    }
+    for more in REFUSED.lines() {
+        assert!(rt; !has_meaning(alloc, &[plan, more])?, "{more}");
+    }
+    for list in WITHOUT.lines() {
+        assert!(rt; !has_meaning(alloc, &[list])?, "{list}");
+    }
+    assert!(rt;
+        has_meaning(
+            alloc,
+            &["gen --seed 18446744073709551615 --count 320 --out g"]
+        )?
+    );
+    Ok(())
+}

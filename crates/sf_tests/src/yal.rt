@@ -1,0 +1,124 @@
+//! YAL texts of few modules, and the first fault of others.
+
+use sf_lex::NumberFault;
+use sf_model::{Kind, RawPin};
+use sf_yal::{YalFault, read_yal};
+use std::test::Fail;
+
+/// Two instances between two pads, in a row of three nets.
+const TWO_CELLS: &[u8] = b"/* two cells */
+MODULE a; TYPE GENERAL; DIMENSIONS 0 0 2 0 2 2 0 2;
+IOLIST; s B 0 1 1 M1; ENDIOLIST; ENDMODULE;
+module b; type general; dimensions 0 0 2 0 2 2 0 2; endmodule;
+MODULE top; TYPE PARENT; DIMENSIONS 0 0 9 0 9 9 0 9;
+IOLIST; p PI 0 0 1 M1; q PO 10 0 1 M1; ENDIOLIST;
+NETWORK; u a p n; v b n q; ENDNETWORK; ENDMODULE;
+";
+
+/// Instances are blocks, terminals with places are pads, and signals are nets.
+#[test]
+fn two_cells(rt: HostRuntime) -> Result<(), Fail> {
+    let out = read_yal(rt.alloc(), TWO_CELLS, 10)?;
+    let blocks = out.blocks.into_vec();
+    assert_eq!(rt; blocks.len(), 2);
+    assert_eq!(rt; blocks[0].name.as_bytes(), b"u".as_slice());
+    assert_eq!(rt; blocks[0].kind, Kind::Hard { w: 20, h: 20 });
+    assert_eq!(rt; blocks[1].name.as_bytes(), b"v".as_slice());
+    let pads = out.pads.into_vec();
+    assert_eq!(rt; pads.len(), 2);
+    assert_eq!(rt; pads[1].name.as_bytes(), b"q".as_slice());
+    assert_eq!(rt; pads[1].place, Some((100, 0)));
+    let nets = out.nets.into_vec();
+    assert_eq!(rt; nets.len(), 3);
+    assert!(rt; matches!(nets[0].pins.as_slice(), [RawPin::Block(0), RawPin::Pad(0)]));
+    assert!(rt;
+        matches!(
+            nets[1].pins.as_slice(),
+            [RawPin::Block(0), RawPin::Block(1)]
+        )
+    );
+    assert!(rt; matches!(nets[2].pins.as_slice(), [RawPin::Block(1), RawPin::Pad(1)]));
+    assert!(rt; out.pads_in);
+    assert_eq!(rt; out.strangers.as_slice().len(), 0);
+    Ok(())
+}
+
+/// Texts with a fault each, and some with two.
+const TEXTS: &[&[u8]] = &[
+    b"",
+    b" /* MODULE a;",
+    b"MODULE a; /*/ ENDMODULE;",
+    b"MODULE a; TYPE PARENT;",
+    b"MODULE a;\nENDMODULE; x\n\n",
+    b"\nMODULE\n;",
+    b"MODULE a; ENDMODULE; MODULE a;",
+    b"MODULE a; ENDMODULE; ENDMODULE;",
+    b"MODULE a;\nMODULE b;",
+    b"MODULE a; IOLIST; ENDIOLIST;\nTYPE parent;",
+    b"MODULE a; TYPE PARENT; TYPE PARENT;",
+    b"MODULE a; TYPE PARENT; ENDMODULE;\nMODULE b; TYPE Parent;",
+    b"MODULE a; DIMENSIONS 0 0 1;",
+    b"MODULE a; DIMENSIONS 0 0\n1.5 1 x;",
+    b"MODULE a;\nDIMENSIONS 0 0\n1.5 x;",
+    b"MODULE a; ENDMODULE;",
+    b"MODULE t; TYPE PARENT; NETWORK; u; ENDNETWORK; ENDMODULE;",
+    b"MODULE t; TYPE PARENT; NETWORK; u zz n; ENDNETWORK; ENDMODULE;",
+    b"MODULE t; TYPE PARENT; NETWORK;\nu t n; ENDNETWORK; ENDMODULE;",
+    b"MODULE a; ENDMODULE; MODULE t; TYPE PARENT; NETWORK;\nu a n; ENDNETWORK; ENDMODULE;",
+    b"MODULE a; DIMENSIONS 0 0 0 5; ENDMODULE; MODULE t; TYPE PARENT; NETWORK;\n\nu a n; ENDNETWORK; ENDMODULE;",
+    b"MODULE t; TYPE PARENT; IOLIST; p PI 0 0.5; ENDIOLIST; ENDMODULE;",
+];
+
+/// The fault of each of them by its place, with the line.
+fn has_fault(text: usize, fault: &YalFault) -> bool {
+    match (text, fault) {
+        (1, YalFault::Truncated(0)) => true,
+        (2 | 3, YalFault::Truncated(1)) => true,
+        (4, YalFault::Truncated(2)) => true,
+        (5 | 8 | 9, YalFault::BadStatement(2)) => true,
+        (6 | 7 | 10 | 12 | 13 | 16, YalFault::BadStatement(1)) => true,
+        (11, YalFault::TwoParents(2)) => true,
+        (14, YalFault::BadNumber(2, NumberFault::NotWhole)) => true,
+        (0 | 15, YalFault::NoParent) => true,
+        (17, YalFault::UnknownModule(1, name)) => name.as_bytes() == b"zz".as_slice(),
+        (18, YalFault::UnknownModule(2, name)) => name.as_bytes() == b"t".as_slice(),
+        (19, YalFault::BadStatement(2)) => true,
+        (20, YalFault::ZeroSide(3)) => true,
+        (21, YalFault::BadNumber(1, NumberFault::NotWhole)) => true,
+        _ => false,
+    }
+}
+
+/// Each text is refused by its first fault.
+#[test]
+fn first_faults(rt: HostRuntime) -> Result<(), Fail> {
+    for (i, text) in TEXTS.iter().enumerate() {
+        match read_yal(rt.alloc(), text, 1) {
+            Ok(_) => assert!(rt; false, "{i}"),
+            Err(fault) => assert!(rt; has_fault(i, &fault), "{i}"),
+        }
+    }
+    Ok(())
+}
+
+/// Words between modules, comments within words, terminals without a place and statements of no meaning.
+const KINDLY: &[u8] =
+    b"stray words; MODULE t/**/x; TYPE/* */PARENT; ; IOLIST later; p PI 1 -2.5e; p PI +.5 -2; p PI 9 9.7;
+ENDIOLIST; NETWORK; u a n n/*,*/p; ENDNETWORK; other; ENDMODULE; Module a; Dimensions -1 0.5 3 1; EndModule;";
+
+/// What has no meaning is passed over.
+#[test]
+fn kindly(rt: HostRuntime) -> Result<(), Fail> {
+    let out = read_yal(rt.alloc(), KINDLY, 10)?;
+    let blocks = out.blocks.into_vec();
+    assert_eq!(rt; blocks.len(), 1);
+    assert_eq!(rt; blocks[0].kind, Kind::Hard { w: 40, h: 5 });
+    let pads = out.pads.into_vec();
+    assert_eq!(rt; pads.len(), 1);
+    assert_eq!(rt; pads[0].place, Some((5, -20)));
+    let nets = out.nets.into_vec();
+    assert_eq!(rt; nets.len(), 2);
+    assert!(rt; matches!(nets[0].pins.as_slice(), [RawPin::Block(0)]));
+    assert!(rt; matches!(nets[1].pins.as_slice(), [RawPin::Block(0), RawPin::Pad(0)]));
+    Ok(())
+}
