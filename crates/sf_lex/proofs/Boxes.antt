@@ -1,5 +1,5 @@
 -- The box that is kept vertex by vertex is the bounding box.
-use Rattle.std.proofs.Common.{◌≡◌, List, [], ◌∷◌, Result, Ok, Err, refl, sym, ap, ◌∙◌, ℤ}
+use Rattle.std.proofs.Common.{◌≡◌, List, [], ◌∷◌, Result, Ok, Err, refl, ap, ◌∙◌, ℤ}
 use Rattle.std.specs.Prelude.{map, fold}
 use Rattle.std.specs.Int.{int_min, int_max}
 use Rattle.sf_lex.specs.declared.vertices.BoxSize.{BoxSize}

@@ -1,17 +1,13 @@
 -- Words with the numbers of their lines, taken off the front of a text.
-use Rattle.std.proofs.Common.{◌≡◌, ℕ, suc, ◌+◌, ◌<◌, Bool, true, false, cond, List, [], ◌∷◌, ◌++◌, length, take, drop, refl, sym, ap, ◌∙◌, arith, subst}
+use Rattle.std.proofs.Common.{◌≡◌, ℕ, ◌+◌, ◌<◌, Bool, true, false, cond, List, [], ◌∷◌, ◌++◌, length, take, drop, refl, sym, ap, ◌∙◌, arith, subst}
 use Rattle.std.specs.Prelude.{filter}
 use Rattle.std.specs.List.{slice_split, onto_first, count_by, prefix_len, position_or_len, before_first}
 use Rattle.std.proofs.lemmas.List.{append-nil, take-append-drop, drop-drop, take_all}
 use Rattle.std.proofs.lemmas.List.Sums.{sum_by-cons}
-use Rattle.std.proofs.lemmas.Bool.Decides.{nat_tests}
+use Rattle.std.proofs.Math.Numerals.{one-add}
 use Rattle.sf_lex.specs.Text.{words, is_not_empty, lines, is_line_feed, is_blank_byte, line_at}
 use Rattle.sf_lex.specs.Scan.{numbered, LineWord, words_of_lines}
-use Rattle.sf_lex.proofs.Pieces.{CutWord, length_text, line_after_word, text_filled}
-
--- one and a number is the next number
-one_more : (n : ℕ) → 1 + n ≡ suc n
-one_more n = omega arith
+use Rattle.sf_lex.proofs.Pieces.{CutWord, length_text, line_after_word, text_filled, not_line_feed}
 
 -- the words of a text whose first line has this number
 abbrev pub words_from : ℕ → List ℕ → List LineWord
@@ -34,7 +30,7 @@ IsEnded (b ∷ bytes) = is_blank_byte b ≡ true
 
 -- with one byte more in front
 gap_step : (b : ℕ) (xs : List ℕ) (t : Bool) → is_blank_byte b ≡ t → IsGap (take (prefix_len is_blank_byte xs) xs) → IsGap (take (prefix_len is_blank_byte (b ∷ xs)) (b ∷ xs))
-gap_step b xs true e h = rw (e, one_more (prefix_len is_blank_byte xs)) (e, h)
+gap_step b xs true e h = rw (e, one-add (prefix_len is_blank_byte xs)) (e, h)
 gap_step b xs false e h = rw e tt
 
 -- the bytes before the first word are blanks
@@ -45,7 +41,7 @@ gap_of (b ∷ xs) = gap_step b xs (is_blank_byte b) refl (gap_of xs)
 -- with one byte more in front
 run_step : (b : ℕ) (xs : List ℕ) (t : Bool) → is_blank_byte b ≡ t → IsRun (before_first is_blank_byte xs) → IsRun (before_first is_blank_byte (b ∷ xs))
 run_step b xs true e h = rw e tt
-run_step b xs false e h = rw (e, one_more (position_or_len is_blank_byte xs)) (e, h)
+run_step b xs false e h = rw (e, one-add (position_or_len is_blank_byte xs)) (e, h)
 
 -- the bytes of the first word are no blanks
 pub run_of : (xs : List ℕ) → IsRun (before_first is_blank_byte xs)
@@ -55,7 +51,7 @@ run_of (b ∷ xs) = run_step b xs (is_blank_byte b) refl (run_of xs)
 -- with one byte more in front
 ended_step : (b : ℕ) (xs : List ℕ) (t : Bool) → is_blank_byte b ≡ t → IsEnded (drop (position_or_len is_blank_byte xs) xs) → IsEnded (drop (position_or_len is_blank_byte (b ∷ xs)) (b ∷ xs))
 ended_step b xs true e h = rw e e
-ended_step b xs false e h = rw (e, one_more (position_or_len is_blank_byte xs)) h
+ended_step b xs false e h = rw (e, one-add (position_or_len is_blank_byte xs)) h
 
 -- behind the first word the text is ended
 pub ended_of : (xs : List ℕ) → IsEnded (drop (position_or_len is_blank_byte xs) xs)
@@ -79,14 +75,10 @@ onto-nil : (b : ℕ) (run : List ℕ) → onto (b ∷ run) [] ≡ (b ∷ run) �
 onto-nil b [] = refl
 onto-nil b (c ∷ run) = ap (onto_first b) (onto-nil c run)
 
--- what is no blank is no line feed
-not_feed : (b : ℕ) → is_blank_byte b ≡ false → is_line_feed b ≡ false
-not_feed b e = grind (arith, nat_tests)
-
 -- a run is joined to the first line
 lines-run : (run rest : List ℕ) → IsRun run → lines (run ++ rest) ≡ onto run (lines rest)
 lines-run [] rest h = refl
-lines-run (b ∷ run) rest h = rw (not_feed b h.0, lines-run run rest h.1) refl
+lines-run (b ∷ run) rest h = rw (not_line_feed b h.0, lines-run run rest h.1) refl
 
 -- a run is joined to the first part
 split-run : (run rest : List ℕ) → IsRun run → slice_split is_blank_byte (run ++ rest) ≡ onto run (slice_split is_blank_byte rest)
