@@ -13,7 +13,6 @@ use Rattle.sf_words.specs.declared.options.Mode.{Mode}
 use Rattle.sf_words.specs.Words.{Token, attached, spaced, alone, key_of, value_of, IsShaped, AreOptions}
 use Rattle.sf_words.specs.Meaning.{value_in}
 use Rattle.sf_words.proofs.Texts.{key_text-injective}
-use Rattle.sf_words.proofs.Lookup.{same_text}
 use Rattle.std.proofs.lemmas.Bool.{false≢true}
 use Rattle.sf_words.specs.App.{flag_rule}
 use Rattle.sf_words.specs.Kept.{full, row_of, text_in_row}

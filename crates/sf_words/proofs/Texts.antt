@@ -7,7 +7,7 @@ use Rattle.sf_words.specs.declared.options.Key.{Key}
 use Rattle.sf_words.specs.declared.options.Key.TheVariants.{Format, Blocks, Nets, Pl, Yal, PerUnit, Fixed, Shapes, Outline, AreaWeight, WireWeight, NetWeights, Cert, PlOut, Rewrite, Workers, Nodes, Placed, Expr, Seed, Count, Kinds, Out}
 use Rattle.sf_words.specs.declared.options.Mode.{Mode}
 use Rattle.sf_words.specs.declared.options.Mode.TheVariants.{Plan, Check, Measure, Shape, Gen}
-use Rattle.sf_words.specs.Table.{Text, key_text, mode_text}
+use Rattle.sf_words.specs.Table.{Text, key_text, mode_text, modes}
 
 -- all options
 abbrev pub all_keys : List Key
@@ -18,41 +18,41 @@ abbrev pub first_named : List Key → Text → Option Key
 first_named [] text = None
 first_named (key ∷ keys) text = cond (bytes_eq (key_text key) text) (Some key) (first_named keys text)
 
--- among all options, the first with an option's name is the option itself
-named : (key : Key) → first_named all_keys (key_text key) ≡ Some key
+-- the bytes that may stand in an option's name
+abbrev pub is_inner : ℕ → Bool
+is_inner b = cond (b == 61) false true
+
+-- among all options, the first with an option's name is the option itself; and all bytes of the name are such as may stand there
+named : (key : Key) → (first_named all_keys (key_text key) ≡ Some key) × (list_all is_inner (key_text key) ≡ true)
 unfolding key_text
-named Format = refl
-named Blocks = refl
-named Nets = refl
-named Pl = refl
-named Yal = refl
-named PerUnit = refl
-named Fixed = refl
-named Shapes = refl
-named Outline = refl
-named AreaWeight = refl
-named WireWeight = refl
-named NetWeights = refl
-named Cert = refl
-named PlOut = refl
-named Rewrite = refl
-named Workers = refl
-named Nodes = refl
-named Placed = refl
-named Expr = refl
-named Seed = refl
-named Count = refl
-named Kinds = refl
-named Out = refl
+named Format = (refl, refl)
+named Blocks = (refl, refl)
+named Nets = (refl, refl)
+named Pl = (refl, refl)
+named Yal = (refl, refl)
+named PerUnit = (refl, refl)
+named Fixed = (refl, refl)
+named Shapes = (refl, refl)
+named Outline = (refl, refl)
+named AreaWeight = (refl, refl)
+named WireWeight = (refl, refl)
+named NetWeights = (refl, refl)
+named Cert = (refl, refl)
+named PlOut = (refl, refl)
+named Rewrite = (refl, refl)
+named Workers = (refl, refl)
+named Nodes = (refl, refl)
+named Placed = (refl, refl)
+named Expr = (refl, refl)
+named Seed = (refl, refl)
+named Count = (refl, refl)
+named Kinds = (refl, refl)
+named Out = (refl, refl)
 
 -- options of the same name are the same
 pub key_text-injective : (j k : Key) → key_text j ≡ key_text k → j ≡ k
 key_text-injective j k e =
-    let same : Some j ≡ Some k = sym (named j) ∙ (ap (first_named all_keys) e ∙ named k) in cc
-
--- all commands
-abbrev pub all_modes : List Mode
-all_modes = Plan ∷ Check ∷ Measure ∷ Shape ∷ Gen ∷ []
+    let same : Some j ≡ Some k = sym (named j).0 ∙ (ap (first_named all_keys) e ∙ (named k).0) in cc
 
 -- the first of these commands that has this text as its word
 abbrev pub mode_named : List Mode → Text → Option Mode
@@ -60,8 +60,8 @@ mode_named [] text = None
 mode_named (mode ∷ modes) text = cond (bytes_eq (mode_text mode) text) (Some mode) (mode_named modes text)
 
 -- among all commands, the first with a command's word is the command itself
-moded : (mode : Mode) → mode_named all_modes (mode_text mode) ≡ Some mode
-unfolding mode_text
+moded : (mode : Mode) → mode_named modes (mode_text mode) ≡ Some mode
+unfolding mode_text modes
 moded Plan = refl
 moded Check = refl
 moded Measure = refl
@@ -71,38 +71,11 @@ moded Gen = refl
 -- commands of the same word are the same
 pub mode_text-injective : (m n : Mode) → mode_text m ≡ mode_text n → m ≡ n
 mode_text-injective m n e =
-    let same : Some m ≡ Some n = sym (moded m) ∙ (ap (mode_named all_modes) e ∙ moded n) in cc
-
--- the bytes that may stand in an option's name
-abbrev pub is_inner : ℕ → Bool
-is_inner b = cond (b == 61) false true
+    let same : Some m ≡ Some n = sym (moded m) ∙ (ap (mode_named modes) e ∙ moded n) in cc
 
 -- all bytes of an option's name are such as may stand there
 pub key_text-inner : (key : Key) → list_all is_inner (key_text key) ≡ true
-unfolding key_text
-key_text-inner Format = refl
-key_text-inner Blocks = refl
-key_text-inner Nets = refl
-key_text-inner Pl = refl
-key_text-inner Yal = refl
-key_text-inner PerUnit = refl
-key_text-inner Fixed = refl
-key_text-inner Shapes = refl
-key_text-inner Outline = refl
-key_text-inner AreaWeight = refl
-key_text-inner WireWeight = refl
-key_text-inner NetWeights = refl
-key_text-inner Cert = refl
-key_text-inner PlOut = refl
-key_text-inner Rewrite = refl
-key_text-inner Workers = refl
-key_text-inner Nodes = refl
-key_text-inner Placed = refl
-key_text-inner Expr = refl
-key_text-inner Seed = refl
-key_text-inner Count = refl
-key_text-inner Kinds = refl
-key_text-inner Out = refl
+key_text-inner key = (named key).1
 
 -- no byte of an option's name is the sign `=`
 pub inner_at : (bs : Text) → list_all is_inner bs ≡ true → (i : ℕ) → i < length bs → get_or bs i 0 ≢ 61

@@ -1,5 +1,5 @@
 -- What the words mean: a command with its options and defaults.
-use Rattle.std.specs.Prelude.{◌≡◌, ℕ, ◌+◌, ◌⊎◌, ◌<◌, Bool, cond, List, [], ◌∷◌, Option, Some, None, is_some, codes}
+use Rattle.std.specs.Prelude.{◌≡◌, ℕ, ◌+◌, ◌⊎◌, ◌<◌, Bool, cond, List, [], ◌∷◌, Option, Some, None, MatchOption, is_some, codes}
 use Rattle.std.specs.Str.{bytes_eq}
 use Rattle.sf_words.specs.declared.options.Mode.{Mode}
 use Rattle.sf_words.specs.declared.options.Mode.TheVariants.{Plan, Check, Measure, Shape, Gen}
@@ -174,3 +174,7 @@ Means words command = (tokens : List Token) × HasForm words (mode_of command) t
 -- the words mean no command
 abbrev pub HasNoMeaning : List Text → Type 0
 HasNoMeaning words = (command : Command) → Means words command → ⊥
+
+-- what was read is, as a contract sees it, what the texts say; and where nothing was read, they say nothing
+abbrev pub IsReading : {W O : Type 0} → (O → Type 0) → (W → O) → Option W → Type 0
+IsReading says seen result = MatchOption result ((o : _) → says o → ⊥) (λ w. says (seen w))

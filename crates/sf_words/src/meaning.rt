@@ -1,12 +1,10 @@
 //! What the texts of options mean: required options, formats, ranges and defaults.
 ghost use Rattle.std.specs.Prelude.{◌≡◌, ◌↔◌, List, Option, Some, IsTrue, IfSome, IfNone, option_map, codes};
 ghost use Rattle.sf_words.specs.declared.options.Key.{Key};
-ghost use Rattle.sf_words.specs.declared.command.Kinds.{Kinds};
 ghost use Rattle.sf_words.specs.Table.{Text};
-ghost use Rattle.sf_words.specs.Meaning.{Input, InputSays, DesignOptions, DesignSays, WeightOptions};
-ghost use Rattle.sf_words.specs.Meaning.{WeightsSay, PlanOptions, PlanSays, CheckOptions, CheckSays};
-ghost use Rattle.sf_words.specs.Meaning.{MeasureOptions, MeasureSays, ShapeOptions, ShapeSays, KindsSay};
-ghost use Rattle.sf_words.specs.Meaning.{GenOptions, GenSays, Command, Says, Means, mode_of};
+ghost use Rattle.sf_words.specs.Meaning.{InputSays, DesignSays, WeightsSay, PlanSays, CheckSays};
+ghost use Rattle.sf_words.specs.Meaning.{MeasureSays, ShapeSays, KindsSay, GenSays};
+ghost use Rattle.sf_words.specs.Meaning.{Command, Says, Means, mode_of, IsReading};
 ghost use Rattle.sf_words.specs.Seen.{text_of, input_seen, design_seen, weights_seen, plan_seen, check_seen};
 ghost use Rattle.sf_words.specs.Seen.{measure_seen, shape_seen, gen_seen, command_seen};
 
@@ -41,8 +39,7 @@ pub fn is_text(text: Option<&str>, other: &str) -> bool
 /// Reads the files of a design in the format of GSRC.
 fn read_gsrc<'a, T: OptionTexts<'a>>(texts: &T) -> Option<InputFiles<'a>>
     requires { T.texts texts.now Key.Format ≡ Some (codes "gsrc") }
-    ensures input { IfSome result (λ i. InputSays (T.texts texts.now) (input_seen i)) }
-    ensures none { IfNone result ((i : Input) → InputSays (T.texts texts.now) i → ⊥) }
+    ensures { IsReading (InputSays (T.texts texts.now)) input_seen result }
 {
     if texts.text(Key::Yal).is_some() {
         return None;
@@ -58,8 +55,7 @@ fn read_gsrc<'a, T: OptionTexts<'a>>(texts: &T) -> Option<InputFiles<'a>>
 /// Reads the file of a design in the format of MCNC.
 fn read_yal<'a, T: OptionTexts<'a>>(texts: &T) -> Option<InputFiles<'a>>
     requires { T.texts texts.now Key.Format ≡ Some (codes "yal") }
-    ensures input { IfSome result (λ i. InputSays (T.texts texts.now) (input_seen i)) }
-    ensures none { IfNone result ((i : Input) → InputSays (T.texts texts.now) i → ⊥) }
+    ensures { IsReading (InputSays (T.texts texts.now)) input_seen result }
 {
     if texts.text(Key::Blocks).is_some()
         || texts.text(Key::Nets).is_some()
@@ -73,8 +69,7 @@ fn read_yal<'a, T: OptionTexts<'a>>(texts: &T) -> Option<InputFiles<'a>>
 
 /// The files that tell a design.
 fn read_input<'a, T: OptionTexts<'a>>(texts: &T) -> Option<InputFiles<'a>>
-    ensures input { IfSome result (λ i. InputSays (T.texts texts.now) (input_seen i)) }
-    ensures none { IfNone result ((i : Input) → InputSays (T.texts texts.now) i → ⊥) }
+    ensures { IsReading (InputSays (T.texts texts.now)) input_seen result }
 {
     let format = texts.text(Key::Format);
     if is_text(format, "gsrc") {
@@ -89,8 +84,7 @@ fn read_input<'a, T: OptionTexts<'a>>(texts: &T) -> Option<InputFiles<'a>>
 /// The options that tell a design.
 #[tactic(auto, unfolding(crate::specs::Numbers::least, crate::specs::Numbers::greatest))]
 fn read_design<'a, T: OptionTexts<'a>>(texts: &T) -> Option<DesignWords<'a>>
-    ensures options { IfSome result (λ o. DesignSays (T.texts texts.now) (design_seen o)) }
-    ensures none { IfNone result ((o : DesignOptions) → DesignSays (T.texts texts.now) o → ⊥) }
+    ensures { IsReading (DesignSays (T.texts texts.now)) design_seen result }
 {
     let input = read_input(texts)?;
     let per_unit = number(Key::PerUnit, texts.text(Key::PerUnit))?;
@@ -113,8 +107,7 @@ fn read_design<'a, T: OptionTexts<'a>>(texts: &T) -> Option<DesignWords<'a>>
 /// The options that tell what counts in a cost.
 #[tactic(auto, unfolding(crate::specs::Numbers::least, crate::specs::Numbers::greatest))]
 fn read_weights<'a, T: OptionTexts<'a>>(texts: &T) -> Option<WeightWords<'a>>
-    ensures options { IfSome result (λ o. WeightsSay (T.texts texts.now) (weights_seen o)) }
-    ensures none { IfNone result ((o : WeightOptions) → WeightsSay (T.texts texts.now) o → ⊥) }
+    ensures { IsReading (WeightsSay (T.texts texts.now)) weights_seen result }
 {
     let area = number(Key::AreaWeight, texts.text(Key::AreaWeight))? as u16;
     let wire = number(Key::WireWeight, texts.text(Key::WireWeight))? as u16;
@@ -131,8 +124,7 @@ fn read_weights<'a, T: OptionTexts<'a>>(texts: &T) -> Option<WeightWords<'a>>
 /// The options of `plan`.
 #[tactic(auto, unfolding(crate::specs::Numbers::least, crate::specs::Numbers::greatest))]
 fn read_plan<'a, T: OptionTexts<'a>>(texts: &T) -> Option<PlanWords<'a>>
-    ensures options { IfSome result (λ o. PlanSays (T.texts texts.now) (plan_seen o)) }
-    ensures none { IfNone result ((o : PlanOptions) → PlanSays (T.texts texts.now) o → ⊥) }
+    ensures { IsReading (PlanSays (T.texts texts.now)) plan_seen result }
 {
     Some(PlanWords {
         design: read_design(texts)?,
@@ -146,8 +138,7 @@ fn read_plan<'a, T: OptionTexts<'a>>(texts: &T) -> Option<PlanWords<'a>>
 
 /// The options of `check`.
 fn read_check<'a, T: OptionTexts<'a>>(texts: &T) -> Option<CheckWords<'a>>
-    ensures options { IfSome result (λ o. CheckSays (T.texts texts.now) (check_seen o)) }
-    ensures none { IfNone result ((o : CheckOptions) → CheckSays (T.texts texts.now) o → ⊥) }
+    ensures { IsReading (CheckSays (T.texts texts.now)) check_seen result }
 {
     Some(CheckWords {
         design: read_design(texts)?,
@@ -159,8 +150,7 @@ fn read_check<'a, T: OptionTexts<'a>>(texts: &T) -> Option<CheckWords<'a>>
 
 /// The options of `measure`.
 fn read_measure<'a, T: OptionTexts<'a>>(texts: &T) -> Option<MeasureWords<'a>>
-    ensures options { IfSome result (λ o. MeasureSays (T.texts texts.now) (measure_seen o)) }
-    ensures none { IfNone result ((o : MeasureOptions) → MeasureSays (T.texts texts.now) o → ⊥) }
+    ensures { IsReading (MeasureSays (T.texts texts.now)) measure_seen result }
 {
     Some(MeasureWords {
         design: read_design(texts)?,
@@ -171,8 +161,7 @@ fn read_measure<'a, T: OptionTexts<'a>>(texts: &T) -> Option<MeasureWords<'a>>
 
 /// The options of `shape`.
 fn read_shape<'a, T: OptionTexts<'a>>(texts: &T) -> Option<ShapeWords<'a>>
-    ensures options { IfSome result (λ o. ShapeSays (T.texts texts.now) (shape_seen o)) }
-    ensures none { IfNone result ((o : ShapeOptions) → ShapeSays (T.texts texts.now) o → ⊥) }
+    ensures { IsReading (ShapeSays (T.texts texts.now)) shape_seen result }
 {
     Some(ShapeWords {
         design: read_design(texts)?,
@@ -182,8 +171,7 @@ fn read_shape<'a, T: OptionTexts<'a>>(texts: &T) -> Option<ShapeWords<'a>>
 
 /// Which blocks a generated design has.
 fn read_kinds(text: Option<&str>) -> Option<Kinds>
-    ensures kinds { IfSome result (KindsSay (text_of text.entry)) }
-    ensures none { IfNone result ((kinds : Kinds) → KindsSay (text_of text.entry) kinds → ⊥) }
+    ensures { IsReading (KindsSay (text_of text.entry)) (λ kinds. kinds) result }
 {
     match text {
         None => Some(Kinds::Hard),
@@ -202,8 +190,7 @@ fn read_kinds(text: Option<&str>) -> Option<Kinds>
 /// The options of `gen`.
 #[tactic(auto, unfolding(crate::specs::Numbers::least, crate::specs::Numbers::greatest))]
 fn read_gen<'a, T: OptionTexts<'a>>(texts: &T) -> Option<GenWords<'a>>
-    ensures options { IfSome result (λ o. GenSays (T.texts texts.now) (gen_seen o)) }
-    ensures none { IfNone result ((o : GenOptions) → GenSays (T.texts texts.now) o → ⊥) }
+    ensures { IsReading (GenSays (T.texts texts.now)) gen_seen result }
 {
     Some(GenWords {
         seed: number(Key::Seed, texts.text(Key::Seed))?,
