@@ -1,11 +1,12 @@
 -- The first name that has a like anywhere is the first that stands again behind its line.
 use Rattle.std.proofs.Common.{◌≡◌, ℕ, ◌+◌, ◌<◌, Bool, true, false, cond, List, [], ◌∷◌, ◌++◌, refl, sym, ap, ◌∙◌, append_assoc, arith}
-use Rattle.std.specs.Prelude.{◌||◌, count_by, find}
+use Rattle.std.specs.Prelude.{count_by, find}
 use Rattle.std.specs.Str.{bytes_eq}
 use Rattle.std.proofs.lemmas.Bool.Decides.{nat_tests}
 use Rattle.std.proofs.lemmas.List.Sums.{sum_by-append, sum_by-cons}
 use Rattle.std.proofs.lemmas.List.Folds.{list_any-append}
 use Rattle.std.proofs.lemmas.Slice.Eq.{bytes_eq-Decides}
+use Rattle.std.proofs.Math.Bool.{or-true}
 use Rattle.sf_gsrc.specs.Join.{has_name, has_like, first_twice}
 use Rattle.sf_gsrc.specs.ByName.{first_again}
 
@@ -82,11 +83,6 @@ like_no before name rest fresh none =
 first_fresh : (before : List (List ℕ)) (name : List ℕ) (rest : List (List ℕ)) → IsFresh before (name ∷ rest) → has_name before name ≡ false
 first_fresh before name rest fresh = fresh name (rw (same_name name) refl)
 
--- a disjunction with true holds
-or_last : (a : Bool) → (a || true) ≡ true
-or_last true = refl
-or_last false = refl
-
 -- a name of the rest does not stand before it either when a name that is not in the rest joins those before
 still_fresh_by : (before : List (List ℕ)) (name : List ℕ) (rest : List (List ℕ)) (n : List ℕ) (b : Bool) → bytes_eq name n ≡ b → has_name rest name ≡ false → has_name before n ≡ false → has_name rest n ≡ true → has_name (before ++ name ∷ []) n ≡ false
 still_fresh_by before name rest n true e none fresh here =
@@ -96,7 +92,7 @@ still_fresh_by before name rest n false e none fresh here = list_any-append (λ 
 -- behind a name that does not stand again the rest is fresh still
 still_fresh : (before : List (List ℕ)) (name : List ℕ) (rest : List (List ℕ)) → IsFresh before (name ∷ rest) → has_name rest name ≡ false → IsFresh (before ++ name ∷ []) rest
 still_fresh before name rest fresh none n here =
-    let later : has_name (name ∷ rest) n ≡ true = rw here (or_last (bytes_eq name n)) in
+    let later : has_name (name ∷ rest) n ≡ true = rw here (or-true (bytes_eq name n)) in
     still_fresh_by before name rest n (bytes_eq name n) refl none (fresh n later) here
 
 -- the first name with a like is the first that stands again, whether the next one does or not

@@ -18,10 +18,10 @@ use Rattle.sf_gsrc.specs.declared.keywords.NetWord.TheVariants as net_words
 use Rattle.sf_gsrc.specs.declared.count.Count.{Count}
 use Rattle.sf_gsrc.specs.declared.output.GsrcNets.{GsrcNets}
 use Rattle.sf_gsrc.specs.Keywords.{net_word_by}
-use Rattle.sf_gsrc.specs.Blocks.{content_of, is_title, last_of, compared}
+use Rattle.sf_gsrc.specs.Blocks.{content_of, is_title, last_of}
 use Rattle.sf_gsrc.specs.Nets.{NetEntry, NetSaid, NetsAre, PinsAre, DegreeIs, PinIs, nets_said, degree_said, last_pins, earlier_nets, with_last, nets_of, degree_kept, net_entry_at, number_of_line, net_entry_by, net_entry_after, net_entries_from, nets_counted, nets_finished, nets_titled, nets_read}
 use Rattle.sf_gsrc.specs.NetsStanding.{SaysNetBy, SaysNet, nets_count, net_part, net_lines, net_of, NetsStandFor}
-use Rattle.sf_gsrc.proofs.Results.{bind_ok, ok_is, err_not_ok, none_of}
+use Rattle.sf_gsrc.proofs.Results.{bind_ok, ok_is, err_not_ok, none_of, compared_ok}
 
 -- ---- what earlier lines leave open
 
@@ -214,16 +214,11 @@ lines_read past final (line ∷ ls) h full =
     let k = bind_ok (net_entry_after past line) (λ e. net_entries_from (e ∷ past) ls) final h in
     line_read past final line ls k.0 (net_word_by line.bytes) refl k.1 (lines_read (k.0 ∷ past) final ls k.2 full)
 
--- a count that let reading go on is the number that was found, and the rest is what was read
-compared_by : {X : Type 0} (count : Count) (found : ℕ) (next : Result X GsrcFault) (x : X) (b : Bool) → (count.said == found) ≡ b → compared count found next ≡ Ok x → (count.said ≡ found) × (next ≡ Ok x)
-compared_by count found next x true e h = (eqb-true count.said found e, rw e at h)
-compared_by count found next x false e h = absurd (err_not_ok (faults.CountDiffers count.line count.said found) x (rw e at h))
-
 -- the count was said once, and is that of the nets
 counted_ok : (last : ℕ) (o : Option Count) (nets : List RawNet) (out : GsrcNets) → nets_counted last o nets ≡ Ok out → (counts_of o ≡ length nets ∷ []) × (nets ≡ out.nets)
 counted_ok last None nets out h = absurd (err_not_ok (faults.Truncated last) out h)
 counted_ok last (Some count) nets out h =
-    let k = compared_by count (length nets) (Ok (record { nets = nets })) out (count.said == length nets) refl h in
+    let k = compared_ok count (length nets) (Ok (record { nets = nets })) out h in
     (ap (λ (n : ℕ). n ∷ []) k.0, ap (λ (o : GsrcNets). o.nets) (ok_is {E = GsrcFault} (record { nets = nets }) out k.1))
 
 -- a text that is read under its title stands for what is read, whether the title is right or not

@@ -1,10 +1,12 @@
--- What a result says of the steps that gave it, and a test of an option.
-use Rattle.std.proofs.Common.{◌≡◌, false, Option, Some, None, Result, Ok, Err, refl}
-use Rattle.std.specs.Prelude.{is_some}
+-- What a result says of the steps that gave it, and what options and counts say.
+use Rattle.std.proofs.Common.{◌≡◌, ℕ, Bool, true, false, Option, Some, None, Result, Ok, Err, refl}
+use Rattle.std.specs.Prelude.{is_some, ◌==◌}
+use Rattle.std.proofs.lemmas.Bool.{eqb-true}
 use Rattle.sf_lex.specs.Results.{◌>>=◌}
 use Rattle.sf_gsrc.specs.declared.fault.GsrcFault.{GsrcFault}
 use Rattle.sf_gsrc.specs.declared.fault.GsrcFault.TheVariants as faults
-use Rattle.sf_gsrc.specs.Blocks.{Fails}
+use Rattle.sf_gsrc.specs.declared.count.Count.{Count}
+use Rattle.sf_gsrc.specs.Blocks.{Fails, compared, or_else}
 
 -- one step after another gives what the second gives of the first
 pub bind_ok : {A B E : Type 0} (r : Result A E) (f : A → Result B E) (y : B) → (r >>= f) ≡ Ok y → (x : A) × (r ≡ Ok x) × (f x ≡ Ok y)
@@ -27,6 +29,20 @@ err_not_ok f x e = absurd cc
 pub none_of : {X : Type 0} (o : Option X) → is_some o ≡ false → o ≡ None
 none_of None e = refl
 none_of (Some x) e = absurd cc
+
+-- nothing behind it changes what is there
+pub or_else-None : {X : Type 0} (o : Option X) → or_else o None ≡ o
+or_else-None None = refl
+or_else-None (Some x) = refl
+
+-- with the test of the count known, a count that let reading go on is the number that was found, and the rest is what was read
+compared_by : {X : Type 0} (count : Count) (found : ℕ) (next : Result X GsrcFault) (x : X) (b : Bool) → (count.said == found) ≡ b → compared count found next ≡ Ok x → (count.said ≡ found) × (next ≡ Ok x)
+compared_by count found next x true e h = (eqb-true count.said found e, rw e at h)
+compared_by count found next x false e h = absurd (err_not_ok (faults.CountDiffers count.line count.said found) x (rw e at h))
+
+-- where a count is compared and reading goes on, it is the number that was found
+pub compared_ok : {X : Type 0} (count : Count) (found : ℕ) (next : Result X GsrcFault) (x : X) → compared count found next ≡ Ok x → (count.said ≡ found) × (next ≡ Ok x)
+compared_ok count found next x h = compared_by count found next x (count.said == found) refl h
 
 -- a fault is that of all that hands faults on
 pub Fails-as : {X Y : Type 0} (f : Result X GsrcFault → Result Y GsrcFault) → ((e : GsrcFault) → f (Err e) ≡ Err e)

@@ -1,8 +1,7 @@
 -- A text stands for an output exactly where reading gives it.
 use Rattle.std.proofs.Common.{◌≡◌, ℕ, ◌+◌, ◌≤◌, Bool, true, false, List, [], ◌∷◌, ◌++◌, length, Option, Some, None, Result, Ok, Err, refl, sym, ap, subst, ◌∙◌, append_assoc, arith, eq-eqb}
-use Rattle.std.specs.Prelude.{is_some, not, codes, count_by, ◌==◌}
+use Rattle.std.specs.Prelude.{is_some, not, codes, count_by}
 use Rattle.std.specs.List.{AllZip, cons_option}
-use Rattle.std.proofs.lemmas.Bool.{eqb-true}
 use Rattle.std.proofs.lemmas.List.{length-append, append-nil}
 use Rattle.std.proofs.lemmas.List.Elements.{filter_map-append}
 use Rattle.sf_lex.specs.Scan.{Line}
@@ -18,15 +17,11 @@ use Rattle.sf_gsrc.specs.declared.output.GsrcBlocks.{GsrcBlocks}
 use Rattle.sf_lex.specs.Gap.{is_gap}
 use Rattle.sf_gsrc.specs.Line.{Item, counted_by, count_said, plain_said}
 use Rattle.sf_gsrc.specs.Blocks.{content_of, is_title, Entry, Said, CountIs, ItemIs, or_else, is_same, count_at, count_in, count_after, entry_at, entry_by, entry_after, entries_from, last_of, is_soft, compared, finished_by, out_of, finished, titled, blocks_read, blocks_in, pads_in}
-use Rattle.sf_gsrc.proofs.Results.{bind_ok, ok_is, err_not_ok}
+use Rattle.sf_gsrc.proofs.Results.{bind_ok, ok_is, err_not_ok, compared_ok}
 use Rattle.sf_gsrc.specs.Standing.{SaysBy, SaysEntry, counts_of, StandsOnce, StandsFor}
+use Rattle.sf_model.specs.Admitted.{first}
 
 -- ---- the first count, and the counts
-
--- the first of a list, if it has one
-abbrev first : {X : Type 0} → List X → Option X
-first [] = None
-first (x ∷ xs) = Some x
 
 -- what may stand in front of a list, or else its first, is the first of both
 first_step : {X : Type 0} (o : Option X) (xs : List X) → or_else o (first xs) ≡ first (cons_option o xs)
@@ -158,15 +153,6 @@ all_read scale earlier (line ∷ ls) es h =
       each = (one.says, more.each);
       most = λ most. more.most (one.most most);
     }
-
--- a count that let reading go on is the number that was found, and the rest is what was read
-compared_by : {X : Type 0} (count : Count) (found : ℕ) (next : Result X GsrcFault) (x : X) (b : Bool) → (count.said == found) ≡ b → compared count found next ≡ Ok x → (count.said ≡ found) × (next ≡ Ok x)
-compared_by count found next x true e h = (eqb-true count.said found e, rw e at h)
-compared_by count found next x false e h = absurd (err_not_ok (faults.CountDiffers count.line count.said found) x (rw e at h))
-
--- where a count is compared and reading goes on, it is the number that was found
-compared_ok : {X : Type 0} (count : Count) (found : ℕ) (next : Result X GsrcFault) (x : X) → compared count found next ≡ Ok x → (count.said ≡ found) × (next ≡ Ok x)
-compared_ok count found next x h = compared_by count found next x (count.said == found) refl h
 
 -- a finished text has each count once, and it agrees
 pub record IsFinished (s h t : Option Count) (out made : GsrcBlocks) : Type 0 where

@@ -3,6 +3,7 @@ use Rattle.std.proofs.Common.{◌≡◌, ℕ, ◌<◌, ◌==◌, Bool, true, fal
 use Rattle.std.specs.List.{AllByRecursion, AllZip, IsDistinct}
 use Rattle.std.proofs.lemmas.List.{append-nil}
 use Rattle.std.proofs.lemmas.List.FromFn.{length-map-range_with_len}
+use Rattle.std.proofs.lemmas.Bool.{or_parts}
 use Rattle.sf_lex.specs.Gap.{is_gap}
 use Rattle.sf_lex.specs.Scan.{Line}
 use Rattle.sf_lex.specs.Text.{words}
@@ -101,17 +102,12 @@ named-push earlier s net = ap is_some (weight_said-push earlier s net) ∙ by_ca
     by_cases None false = refl
     by_cases (Some x) b = refl
 
--- where a disjunction is false, both parts are
-or_false : (a b : Bool) → (a || b) ≡ false → (a ≡ false) × (b ≡ false)
-or_false true b e = absurd cc
-or_false false b e = (refl, e)
-
 -- the nets that are new behind one line more are new, and other than its own
 split_new : (earlier : List NetWeight) (s : NetWeight) (said : List NetWeight) → AllByRecursion (λ t. is_named (earlier ++ s ∷ []) t.net ≡ false) said
     → AllByRecursion (λ t. is_named earlier t.net ≡ false) said × AllByRecursion (λ (k : ℕ). (s.net == k) ≡ false) (map (λ t. t.net) said)
 split_new earlier s [] h = (tt, tt)
 split_new earlier s (t ∷ said) h =
-    let both = or_false (is_named earlier t.net) (s.net == t.net) (sym (named-push earlier s t.net) ∙ h.0) in
+    let both = or_parts (is_named earlier t.net) (s.net == t.net) (sym (named-push earlier s t.net) ∙ h.0) in
     let more = split_new earlier s said h.1 in
     ((both.0, more.0), (both.1, more.1))
 

@@ -15,14 +15,9 @@ use Rattle.sf_gsrc.specs.declared.fault.WeightFault.TheVariants.{BadLine, BadNum
 use Rattle.sf_gsrc.specs.Blocks.{content_of, or_else}
 use Rattle.sf_gsrc.specs.Weights.{GivesWeights, NetWeight, net_in_word, number_on, two_words, weight_after, weight_in_word, weight_of, weight_said, weights_from, weights_of, weights_read}
 use Rattle.sf_gsrc.specs.WeightsKept.{KeepsWeights}
-use Rattle.sf_gsrc.proofs.Results.{none_of}
+use Rattle.sf_gsrc.proofs.Results.{none_of, or_else-None}
 
 -- ---- what is kept
-
--- nothing behind it changes what is there
-or_else-None : {X : Type 0} (o : Option X) → or_else o None ≡ o
-or_else-None None = refl
-or_else-None (Some x) = refl
 
 -- one line more says the weight of its own net alone
 pub weight_said-push : (earlier : List NetWeight) (s : NetWeight) (net : ℕ) → weight_said (earlier ++ s ∷ []) net ≡ or_else (weight_said earlier net) (if s.net == net then Some s.weight else None)

@@ -12,7 +12,7 @@ use sf_model::{Name, NameList, Parts, RawNetList, RawPad, RawPadList};
 use std::alloc::{AllocError, Global};
 
 /// The pads without a place.
-fn unplaced(alloc: Global, pads: Vec<Name>) -> Result<Vec<RawPad>, AllocError>
+fn pads_without_places(alloc: Global, pads: Vec<Name>) -> Result<Vec<RawPad>, AllocError>
     ensures { IfOk result (λ all. all.items ≡ pads_at [] pads.items) }
 {
     let mut all = Vec::new(alloc);
@@ -26,7 +26,7 @@ fn unplaced(alloc: Global, pads: Vec<Name>) -> Result<Vec<RawPad>, AllocError>
 fn join_unplaced(alloc: Global, blocks: GsrcBlocks, nets: RawNetList) -> Result<Parts, AllocError>
     ensures { IfOk result (λ parts. parts ≡ unplaced_parts blocks nets) }
 {
-    let pads = unplaced(alloc, blocks.pads.into_vec())?;
+    let pads = pads_without_places(alloc, blocks.pads.into_vec())?;
     Ok(Parts {
         blocks: blocks.blocks,
         pads: RawPadList::from_vec(pads),

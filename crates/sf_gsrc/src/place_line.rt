@@ -59,16 +59,25 @@ fn read_size(w: &[u8], h: &[u8], scale: Scale) -> Result<(u64, u64), LineFault>
     Ok((w, h))
 }
 
+/// The first three words of a line: a name, and two that say its place.
+#[derive(Clone, Copy)]
+struct PlaceWords<'a> {
+    name: &'a [u8],
+    x: &'a [u8],
+    y: &'a [u8],
+}
+
 /// A name at a place, without a size.
 #[tactic(auto, unfolding(crate::specs::PlaceLine::point_said))]
-fn point<'a>(name: &'a [u8], x: &[u8], y: &[u8], scale: Scale) -> Result<Spot<'a>, LineFault>
-    ensures says { seen place_in result ≡ point_said scale.per_unit name.now x.now y.now }
-    ensures name { IfOk result (λ s. s.name.now ≡ name.now) }
+fn spot_without_size<'a>(said: PlaceWords<'a>, scale: Scale) -> Result<Spot<'a>, LineFault>
+    ensures says { let said = said.entry in
+        seen place_in result ≡ point_said scale.per_unit said.name.now said.x.now said.y.now }
+    ensures name { IfOk result (λ s. s.name.now ≡ said.entry.name.now) }
 {
-    let x = read_place(x, scale)?;
-    let y = read_place(y, scale)?;
+    let x = read_place(said.x, scale)?;
+    let y = read_place(said.y, scale)?;
     Ok(Spot {
-        name,
+        name: said.name,
         x,
         y,
         size: None,
@@ -77,19 +86,18 @@ fn point<'a>(name: &'a [u8], x: &[u8], y: &[u8], scale: Scale) -> Result<Spot<'a
 
 /// A name at a place, with the size behind `DIMS`.
 #[tactic(auto, unfolding(crate::specs::PlaceLine::sized_said, crate::specs::PlaceLine::point_said))]
-fn sized<'a>(
-    name: &'a [u8],
-    x: &[u8],
-    y: &[u8],
+fn spot_with_size<'a>(
+    said: PlaceWords<'a>,
     rest: &[u8],
     scale: Scale,
 ) -> Result<Spot<'a>, LineFault>
-    ensures says { seen place_in result
-        ≡ sized_said scale.per_unit name.now x.now y.now (words (is_gap Gap.Sizes) rest.now) }
-    ensures name { IfOk result (λ s. s.name.now ≡ name.now) }
+    ensures says { let said = said.entry in
+        seen place_in result ≡ sized_said scale.per_unit said.name.now said.x.now said.y.now
+        (words (is_gap Gap.Sizes) rest.now) }
+    ensures name { IfOk result (λ s. s.name.now ≡ said.entry.name.now) }
 {
     let (w, h) = next_sides(rest)?;
-    let spot = point(name, x, y, scale)?;
+    let spot = spot_without_size(said, scale)?;
     let (w, h) = read_size(w, h, scale)?;
     if w == 0 || h == 0 {
         return Err(LineFault::ZeroSide);
@@ -102,26 +110,15 @@ fn sized<'a>(
 
 /// A name at a place, with a size where `DIMS` follows.
 #[tactic(auto, unfolding(crate::specs::PlaceLine::rest_said))]
-fn with_rest<'a>(
-    name: &'a [u8],
-    x: &[u8],
-    y: &[u8],
-    rest: &[u8],
-    scale: Scale,
-) -> Result<Spot<'a>, LineFault>
-    ensures says { seen place_in result
-        ≡ rest_said scale.per_unit name.now x.now y.now (words (is_gap Gap.Sizes) rest.now) }
-    ensures name { IfOk result (λ s. s.name.now ≡ name.now) }
+fn spot_by_rest<'a>(said: PlaceWords<'a>, rest: &[u8], scale: Scale) -> Result<Spot<'a>, LineFault>
+    ensures says { let said = said.entry in
+        seen place_in result ≡ rest_said scale.per_unit said.name.now said.x.now said.y.now
+        (words (is_gap Gap.Sizes) rest.now) }
+    ensures name { IfOk result (λ s. s.name.now ≡ said.entry.name.now) }
 {
     match next_field(rest, Gap::Sizes) {
-        Some((word, rest)) => {
-            if word == b"DIMS".as_slice() {
-                sized(name, x, y, rest, scale)
-            } else {
-                point(name, x, y, scale)
-            }
-        }
-        None => point(name, x, y, scale),
+        Some((word, rest)) if word == b"DIMS".as_slice() => spot_with_size(said, rest, scale),
+        _ => spot_without_size(said, scale),
     }
 }
 
@@ -137,5 +134,5 @@ pub fn read_place_line(line: &[u8], scale: Scale) -> Result<Spot<'_>, LineFault>
     if y.is_empty() {
         return Err(LineFault::BadLine);
     }
-    with_rest(name, x, y, rest, scale)
+    spot_by_rest(PlaceWords { name, x, y }, rest, scale)
 }
