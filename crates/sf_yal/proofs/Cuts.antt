@@ -6,7 +6,7 @@ use Rattle.std.proofs.lemmas.List.Elements.{All-nil, All-head, All-tail, All-pus
 use Rattle.std.proofs.lemmas.List.Sums.{fold-append}
 use Rattle.sf_yal.specs.declared.keyword.Keyword.{Keyword}
 use Rattle.sf_yal.specs.declared.keyword.Keyword.TheVariants as keys
-use Rattle.sf_yal.specs.Modules.{Worded, key, ListKind, Terminals, Network, Listing, Section, Single, Listed, Module, Item, Stray, Whole, Rest, Nothing, InModule, InList, Cut, listing_text, section_text, module_text, item_text, rest_text, opens_module, opener, stands_alone, closes, IsListing, IsSection, IsModule, IsItem, IsRest, AreCut}
+use Rattle.sf_yal.specs.Modules.{Worded, key, ListKind, Terminals, Network, Listing, Section, Single, Listed, Module, Item, Stray, Whole, Rest, Nothing, InModule, InList, Cut, listing_text, section_text, module_text, item_text, rest_text, opens_module, opener, stands_alone, closes, IsSection, IsModule, IsItem, IsRest, AreCut}
 
 -- what f gives of one item more
 pub flat_push : {X Y : Type 0} (f : X → List Y) (xs : List X) (x : X) → flat_map f (xs ++ x ∷ []) ≡ flat_map f xs ++ f x

@@ -1,17 +1,14 @@
 -- Pieces of a text, taken off its front.
-use Rattle.std.proofs.Common.{◌≡◌, ℕ, suc, ◌+◌, ◌<◌, ◌≤◌, Bool, true, false, List, [], ◌∷◌, length, take, drop, refl, arith}
+use Rattle.std.proofs.Common.{◌≡◌, ℕ, suc, ◌<◌, ◌≤◌, Bool, true, false, List, [], ◌∷◌, length, take, drop, refl, arith}
 use Rattle.std.specs.List.{slice_split, position_or_len}
-
--- one more is the next number
-one_more : (n : ℕ) → 1 + n ≡ suc n
-one_more n = omega arith
+use Rattle.std.proofs.Math.Numerals.{one-add}
 
 module _ (p : ℕ → Bool) where
   -- a byte before bytes that are one piece
   whole_step : (x : ℕ) (xs : List ℕ) (b : Bool) → p x ≡ b → (length xs ≤ position_or_len p xs → slice_split p xs ≡ xs ∷ []) → length (x ∷ xs) ≤ position_or_len p (x ∷ xs) → slice_split p (x ∷ xs) ≡ (x ∷ xs) ∷ []
   whole_step x xs true e more h = let none : position_or_len p (x ∷ xs) ≡ 0 = rw e refl in absurd (omega arith)
   whole_step x xs false e more h =
-      let one : position_or_len p (x ∷ xs) ≡ suc (position_or_len p xs) = rw e (one_more (position_or_len p xs)) in
+      let one : position_or_len p (x ∷ xs) ≡ suc (position_or_len p xs) = rw e (one-add (position_or_len p xs)) in
       rw (e, more (omega arith)) refl
 
   -- bytes without a mark are one piece
@@ -25,7 +22,7 @@ module _ (p : ℕ → Bool) where
       → position_or_len p (x ∷ xs) < length (x ∷ xs) → slice_split p (x ∷ xs) ≡ take (position_or_len p (x ∷ xs)) (x ∷ xs) ∷ slice_split p (drop 1 (drop (position_or_len p (x ∷ xs)) (x ∷ xs)))
   first_step x xs true e more h = rw e refl
   first_step x xs false e more h =
-      let one : position_or_len p (x ∷ xs) ≡ suc (position_or_len p xs) = rw e (one_more (position_or_len p xs)) in
+      let one : position_or_len p (x ∷ xs) ≡ suc (position_or_len p xs) = rw e (one-add (position_or_len p xs)) in
       rw (one, e, more (omega arith)) refl
 
   -- the first piece ends at the first mark

@@ -1,26 +1,20 @@
 -- The blocks of instances, and the first fault of one, as reading finds them.
-use Rattle.std.proofs.Common.{◌≡◌, ◌≢◌, ◌⊎◌, inl, inr, ℕ, ◌<◌, Bool, true, false, List, [], ◌∷◌, ◌++◌, map, Option, Some, None, Result, Ok, Err, refl, sym, ap, subst, ◌∙◌, arith, append_assoc, append-nil}
-use Rattle.std.specs.Prelude.{◌==◌, ◌&&◌, not, is_some, fold, slice_get}
+use Rattle.std.proofs.Common.{◌≡◌, ◌≢◌, ◌⊎◌, inl, inr, ℕ, ◌<◌, Bool, true, false, List, [], ◌∷◌, ◌++◌, map, Option, Some, None, Ok, Err, refl, sym, ap, subst, ◌∙◌, arith, append_assoc, append-nil}
+use Rattle.std.specs.Prelude.{◌==◌, slice_get}
 use Rattle.std.specs.List.{AllZip}
 use Rattle.std.specs.Option.{option_map}
 use Rattle.std.proofs.lemmas.Bool.Decides.{nat_tests}
-use Rattle.std.proofs.lemmas.List.Sums.{fold-append}
 use Rattle.std.proofs.lemmas.Option.{slice_get-map}
 use Rattle.sf_model.specs.declared.raw.RawBlock.{RawBlock}
 use Rattle.sf_model.specs.declared.raw.Kind.TheVariants as kinds
-use Rattle.sf_model.specs.declared.raw.Parts.{Parts}
 use Rattle.sf_names.specs.Names.{index_of}
 use Rattle.sf_yal.specs.declared.fault.YalFault.{YalFault}
 use Rattle.sf_yal.specs.declared.fault.YalFault.TheVariants as faults
 use Rattle.sf_yal.specs.declared.vertices.Size.{Size}
-use Rattle.sf_yal.specs.Box.{◌>>=◌}
 use Rattle.sf_yal.specs.Instances.{Instance}
-use Rattle.sf_yal.specs.Statements.{Statement, statements_of, is_ended, last_line}
-use Rattle.sf_yal.specs.Modules.{Worded, worded_in, worded, Module, Rest, Nothing, InModule, InList, Cut, AreCut, name_of, box_of, closed, modules, parent_place, pads_of, instances_of}
-use Rattle.sf_yal.specs.Faults.{fault_at, box_if, box_at, IsBlockOf, SizeFault, PlaceFault, InstanceFault, FirstInstanceFault}
-use Rattle.sf_yal.specs.Standing.{AreSound, FirstFault, IsCut, IsEnded, StandsFor, PartsFault, EndFault, HasFault}
-use Rattle.sf_yal.specs.Reading.{Reading, start, after_words, after_statement, after_statements}
-use Rattle.sf_yal.specs.Parts.{size_or_none, size_at, boxed, block_by, block_of, blocks_from, parts_with, parts_by, parts_read, yal_read}
+use Rattle.sf_yal.specs.Modules.{Module, name_of, box_of}
+use Rattle.sf_yal.specs.Faults.{box_if, box_at, IsBlockOf, SizeFault, PlaceFault, InstanceFault, FirstInstanceFault}
+use Rattle.sf_yal.specs.Parts.{size_or_none, size_at, boxed, block_by, block_of, blocks_from}
 use Rattle.sf_yal.proofs.Results.{done, ok_is, failed, err_is, err_not_ok, ok_not_err, bind_ok, bind_err}
 
 -- a side that is not 0

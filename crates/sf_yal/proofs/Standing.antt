@@ -1,30 +1,23 @@
 -- A text stands for parts, or has a fault, exactly where reading gives these.
-use Rattle.std.proofs.Common.{◌≡◌, ◌≢◌, ◌⊎◌, inl, inr, ℕ, ◌<◌, Bool, true, false, List, [], ◌∷◌, ◌++◌, map, Option, Some, None, Result, Ok, Err, refl, sym, ap, subst, ◌∙◌, arith, append_assoc, append-nil}
-use Rattle.std.specs.Prelude.{◌==◌, ◌&&◌, not, is_some, fold, slice_get}
+use Rattle.std.proofs.Common.{◌≡◌, ◌≢◌, ◌⊎◌, inl, inr, ℕ, Bool, true, false, List, [], map, Option, Some, None, Result, Ok, Err, refl, sym, ap, subst, ◌∙◌, append-nil}
+use Rattle.std.specs.Prelude.{not, is_some}
 use Rattle.std.specs.List.{AllZip}
-use Rattle.std.specs.Option.{option_map}
-use Rattle.std.proofs.lemmas.Bool.Decides.{nat_tests}
-use Rattle.std.proofs.lemmas.List.Sums.{fold-append}
-use Rattle.std.proofs.lemmas.Option.{slice_get-map}
 use Rattle.sf_model.specs.declared.raw.RawBlock.{RawBlock}
-use Rattle.sf_model.specs.declared.raw.Kind.TheVariants as kinds
 use Rattle.sf_model.specs.declared.raw.Parts.{Parts}
-use Rattle.sf_names.specs.Names.{index_of}
 use Rattle.sf_yal.specs.declared.fault.YalFault.{YalFault}
 use Rattle.sf_yal.specs.declared.fault.YalFault.TheVariants as faults
 use Rattle.sf_yal.specs.declared.vertices.Size.{Size}
 use Rattle.sf_yal.specs.Box.{◌>>=◌}
-use Rattle.sf_yal.specs.Instances.{Instance}
-use Rattle.sf_yal.specs.Statements.{Statement, statements_of, is_ended, last_line}
-use Rattle.sf_yal.specs.Modules.{Worded, worded_in, worded, Module, Rest, Nothing, InModule, InList, Cut, AreCut, name_of, box_of, closed, modules, parent_place, pads_of, instances_of}
-use Rattle.sf_yal.specs.Faults.{fault_at, box_if, box_at, IsBlockOf, SizeFault, PlaceFault, InstanceFault, FirstInstanceFault}
-use Rattle.sf_yal.specs.Standing.{AreSound, FirstFault, IsCut, IsEnded, StandsFor, PartsFault, EndFault, HasFault}
-use Rattle.sf_yal.specs.Reading.{Reading, start, after_words, after_statement, after_statements}
-use Rattle.sf_yal.specs.Parts.{size_or_none, size_at, boxed, block_by, block_of, blocks_from, parts_with, parts_by, parts_read, yal_read}
-use Rattle.sf_yal.proofs.Cuts.{step, nothing_cut, cut_of, are_cut, is_the_cut}
-use Rattle.sf_yal.proofs.Views.{view, answer, open_view, says}
+use Rattle.sf_yal.specs.Statements.{statements_of, is_ended, last_line}
+use Rattle.sf_yal.specs.Modules.{Worded, worded, Rest, Nothing, InModule, InList, Cut, name_of, box_of, closed, modules, parent_place, instances_of}
+use Rattle.sf_yal.specs.Faults.{IsBlockOf, FirstInstanceFault}
+use Rattle.sf_yal.specs.Standing.{IsCut, IsEnded, StandsFor, PartsFault, EndFault, HasFault}
+use Rattle.sf_yal.specs.Reading.{Reading, start, after_statements}
+use Rattle.sf_yal.specs.Parts.{blocks_from, parts_with, parts_by, parts_read, yal_read}
+use Rattle.sf_yal.proofs.Cuts.{nothing_cut, cut_of, are_cut, is_the_cut}
+use Rattle.sf_yal.proofs.Views.{view, open_view}
 use Rattle.sf_yal.proofs.Results.{done, ok_is, failed, err_is, err_not_ok, ok_not_err, bind_ok, bind_err}
-use Rattle.sf_yal.proofs.Sound.{after_all, words_alone, Sound, Fails, sound_read, read_sound, read_fails, are_sound, sound_behind, first_fault, first_fault_read}
+use Rattle.sf_yal.proofs.Sound.{words_alone, Sound, sound_read, read_sound, read_fails, are_sound, sound_behind, first_fault, first_fault_read}
 use Rattle.sf_yal.proofs.InstanceBlocks.{blocks_all, all_blocks, fault_blocks, blocks_fault}
 
 -- ---- the end of a text

@@ -1,11 +1,12 @@
 -- What the reader keeps is seen in the cut of what it has read.
 use Rattle.std.proofs.Common.{◌≡◌, ℕ, suc, Bool, true, false, cond, List, [], ◌∷◌, ◌++◌, length, map, Option, Some, None, Result, Ok, Err, refl, sym, ap, ◌∙◌, append_assoc, append-nil, ℤ}
-use Rattle.std.specs.Prelude.{◌||◌, ◌&&◌, not, is_some, flat_map, fold}
+use Rattle.std.specs.Prelude.{◌||◌, ◌&&◌, is_some, flat_map, fold}
 use Rattle.std.specs.List.{list_any}
 use Rattle.std.specs.Option.{option_map, option_or}
 use Rattle.std.proofs.lemmas.List.{length-map, map-append}
 use Rattle.std.proofs.lemmas.List.Folds.{list_any-append}
 use Rattle.std.proofs.lemmas.List.Sums.{fold-append}
+use Rattle.std.proofs.lemmas.Bool.{or_parts}
 use Rattle.sf_lex.specs.declared.number.NumberFault.{NumberFault}
 use Rattle.sf_model.specs.declared.raw.RawPad.{RawPad}
 use Rattle.sf_names.specs.Names.{has_name}
@@ -21,9 +22,9 @@ use Rattle.sf_yal.specs.Box.{◌>>=◌, length_read, number_in, dimensions_said}
 use Rattle.sf_yal.specs.Instances.{Instance}
 use Rattle.sf_yal.specs.Numbers.{has_form}
 use Rattle.sf_yal.specs.Words.{is_parent_word}
-use Rattle.sf_yal.specs.Modules.{Worded, key, ListKind, Terminals, Network, Listing, Section, Single, Listed, Module, Item, Stray, Whole, Rest, Nothing, InModule, InList, Cut, closes, name_of, is_type_key, is_type, is_list, word_of, is_parent_type, is_parent, box_behind, section_box, box_in, box_of, in_listing, in_section, in_module, if_parent, modules_in, closed, open_module, modules, parent_place, in_rest, in_parent, point_of, point_behind, pad_at, with_pad, pads_of, instance_at, instances_of}
-use Rattle.sf_yal.specs.Faults.{name_fault, type_fault, box_fault, point_fault, terminal_fault, instance_fault, outside_fault, body_fault, listed_fault, list_fault, fault_in, fault_at}
-use Rattle.sf_yal.specs.Reading.{Reading, module_begun, module_opened, module_said, type_taken, parent_taken, type_said, size_taken, box_said, list_opened, list_closed, module_closed, outside_said, in_body_said, pad_taken, placed_said, terminal_said, instance_taken, instance_said, in_terminals_said, in_network_said, said_in, said_at, after_words}
+use Rattle.sf_yal.specs.Modules.{Worded, key, ListKind, Terminals, Network, Listing, Section, Single, Listed, Module, Item, Stray, Whole, Rest, Nothing, InModule, InList, Cut, closes, name_of, is_type_key, is_type, is_list, word_of, is_parent_type, is_parent, box_behind, section_box, box_in, box_of, in_section, in_module, if_parent, modules_in, closed, open_module, parent_place, in_rest, point_of, pad_at, with_pad, pads_of, instance_at, instances_of}
+use Rattle.sf_yal.specs.Faults.{name_fault, type_fault, box_fault, point_fault, terminal_fault, instance_fault, outside_fault, body_fault, list_fault, fault_in, fault_at}
+use Rattle.sf_yal.specs.Reading.{Reading, module_begun, module_opened, module_said, type_taken, parent_taken, type_said, size_taken, box_said, list_opened, list_closed, module_closed, outside_said, in_body_said, pad_taken, placed_said, terminal_said, instance_said, in_terminals_said, in_network_said, said_in, after_words}
 use Rattle.sf_yal.proofs.Cuts.{flat_push, begun, with_section, listing, with_inside, step_outside, step_body, step_list, step_in, step}
 
 -- ---- the view
@@ -150,11 +151,6 @@ box_first scale xs x (Some other) size none e is = absurd cc
 -- names depend on names alone
 name_more : (ms : List Module) (m n : Module) → name_of n ≡ name_of m → map name_of (ms ++ n ∷ []) ≡ map name_of (ms ++ m ∷ [])
 name_more ms m n e = map-append name_of ms (n ∷ []) ∙ ap (λ (x : List ℕ). map name_of ms ++ x ∷ []) e ∙ sym (map-append name_of ms (m ∷ []))
-
--- where neither holds, the second does not
-or_second : (a b : Bool) → (a || b) ≡ false → b ≡ false
-or_second true b e = absurd cc
-or_second false b e = e
 
 -- no statements
 abbrev no_words : List Worded
@@ -468,7 +464,7 @@ module _ (scale : ℕ) (items : List Item) (line : ℕ) (first : List ℕ) (more
     unfolding type_said
     typed_by word words true parent some e a b c = rw a refl
     typed_by word words false true true e a b c = rw (a, b, c) refl
-    typed_by word words false true false e a b c = rw (a, b, c) (ap Ok (parent_typed word words e b c (or_second (list_any is_type m.sections) (list_any is_list m.sections) a)))
+    typed_by word words false true false e a b c = rw (a, b, c) (ap Ok (parent_typed word words e b c (or_parts (list_any is_type m.sections) (list_any is_list m.sections) a).1))
     typed_by word words false false some e a b c = rw (a, b) (ap Ok (types scale ms m (record { line = line; first = first; more = word ∷ words }) e (rw (e, b) refl)))
 
     -- TYPE

@@ -1,5 +1,5 @@
 -- The fault of a statement, by where it stands, and that of an instance.
-use Rattle.std.specs.Prelude.{◌≡◌, ◌≢◌, ◌⊎◌, ℕ, ◌<◌, Bool, ◌&&◌, ◌||◌, List, [], ◌∷◌, ◌++◌, map, Option, Some, None, is_some, Result, Ok, Err, if◌then◌else◌, slice_get}
+use Rattle.std.specs.Prelude.{◌≡◌, ◌≢◌, ◌⊎◌, ℕ, ◌<◌, ◌&&◌, ◌||◌, List, [], ◌∷◌, ◌++◌, map, Option, Some, None, is_some, Result, Ok, Err, if◌then◌else◌, slice_get}
 use Rattle.std.specs.List.{AllZip, list_any}
 use Rattle.sf_model.specs.declared.raw.Kind.TheVariants as kinds
 use Rattle.sf_model.specs.declared.raw.RawBlock.{RawBlock}

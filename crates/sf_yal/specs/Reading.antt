@@ -1,6 +1,6 @@
 -- How the reader goes through the statements, one after another: a step of its proofs. What a text stands for, and
 -- which fault it has, is said without it in Standing.
-use Rattle.std.specs.Prelude.{◌≡◌, ℕ, Bool, true, false, ◌||◌, ◌&&◌, not, List, [], ◌∷◌, ◌++◌, length, Option, Some, None, is_some, Result, Ok, Err, if◌then◌else◌, ℤ}
+use Rattle.std.specs.Prelude.{◌≡◌, ℕ, true, false, ◌||◌, ◌&&◌, not, List, [], ◌∷◌, ◌++◌, length, Option, Some, None, is_some, Result, Ok, Err, if◌then◌else◌, ℤ}
 use denote.Ref.{Bor}
 use Rattle.sf_lex.specs.declared.number.NumberFault.{NumberFault}
 use Rattle.sf_model.specs.declared.raw.RawPad.{RawPad}

@@ -29,6 +29,13 @@ pub struct Found<'a> {
     pub instances: Vec<Instance<'a>>,
 }
 
+/// Words of a statement, and the line in which the statement begins.
+#[derive(Clone, Copy)]
+pub struct Words<'a> {
+    pub text: &'a [u8],
+    pub line: u64,
+}
+
 /// So many bytes a module takes at least when there are many: its two statements with a name of four letters.
 const MODULE_LEN: usize = 22;
 
@@ -67,15 +74,16 @@ impl<'a> Found<'a> {
 
     /// MODULE with these words behind it.
     #[tactic(auto, unfolding(crate::specs::Reading::module_said))]
-    fn begin_module(&mut self, rest: &'a [u8], line: u64) -> Result<(), YalFault>
-        ensures { Keeps result self.new
-            (module_said (reading_in self.old) line (words is_blank_byte rest.now)) }
+    fn begin_module(&mut self, rest: Words<'a>) -> Result<(), YalFault>
+        ensures { let rest = rest.entry in
+            Keeps result self.new
+            (module_said (reading_in self.old) rest.line (words is_blank_byte rest.text.now)) }
     {
-        let Some((name, _)) = next_word(rest) else {
-            return Err(YalFault::BadStatement(line));
+        let Some((name, _)) = next_word(rest.text) else {
+            return Err(YalFault::BadStatement(rest.line));
         };
         if self.names.note(name)?.is_some() {
-            return Err(YalFault::BadStatement(line));
+            return Err(YalFault::BadStatement(rest.line));
         }
         self.current = Some(OpenModule::new());
         Ok(())
@@ -92,15 +100,16 @@ impl<'a> Found<'a> {
 
     /// TYPE with these words behind it.
     #[tactic(auto, unfolding(crate::specs::Reading::type_said))]
-    fn take_type(&mut self, current: OpenModule, rest: &[u8], line: u64) -> Result<(), YalFault>
-        ensures { Keeps result self.new
-            (type_said (reading_in self.old) current line (words is_blank_byte rest.now)) }
+    fn take_type(&mut self, current: OpenModule, rest: Words) -> Result<(), YalFault>
+        ensures { let rest = rest.entry in
+            Keeps result self.new
+            (type_said (reading_in self.old) current rest.line (words is_blank_byte rest.text.now)) }
     {
-        let Some((word, _)) = next_word(rest) else {
-            return Err(YalFault::BadStatement(line));
+        let Some((word, _)) = next_word(rest.text) else {
+            return Err(YalFault::BadStatement(rest.line));
         };
         if current.is_typed || current.has_list {
-            return Err(YalFault::BadStatement(line));
+            return Err(YalFault::BadStatement(rest.line));
         }
         if !is_parent(word) {
             self.current = Some(OpenModule {
@@ -110,7 +119,7 @@ impl<'a> Found<'a> {
             return Ok(());
         }
         if self.parent.is_some() {
-            return Err(YalFault::TwoParents(line));
+            return Err(YalFault::TwoParents(rest.line));
         }
         self.parent = Some(self.sizes.len());
         self.current = Some(OpenModule {
@@ -123,20 +132,16 @@ impl<'a> Found<'a> {
 
     /// DIMENSIONS with these words behind it.
     #[tactic(auto, unfolding(crate::specs::Reading::box_said))]
-    fn take_box(
-        &mut self,
-        current: OpenModule,
-        rest: &[u8],
-        line: u64,
-        scale: Scale,
-    ) -> Result<(), YalFault>
-        ensures { Keeps result self.new
-            (box_said scale.per_unit (reading_in self.old) current line (words is_blank_byte rest.now)) }
+    fn take_box(&mut self, current: OpenModule, rest: Words, scale: Scale) -> Result<(), YalFault>
+        ensures { let rest = rest.entry in
+            Keeps result self.new
+            (box_said scale.per_unit (reading_in self.old) current rest.line
+            (words is_blank_byte rest.text.now)) }
     {
         if current.size.is_some() {
-            return Err(YalFault::BadStatement(line));
+            return Err(YalFault::BadStatement(rest.line));
         }
-        let size = read_dimensions(rest, line, scale)?;
+        let size = read_dimensions(rest.text, rest.line, scale)?;
         self.current = Some(OpenModule {
             size: Some(size),
             ..current
@@ -166,13 +171,14 @@ impl<'a> Found<'a> {
     }
 
     /// A statement outside of all modules.
-    fn take_outside(&mut self, key: Keyword, rest: &'a [u8], line: u64) -> Result<(), YalFault>
-        ensures { Keeps result self.new
-            (outside_said (reading_in self.old) line key (words is_blank_byte rest.now)) }
+    fn take_outside(&mut self, key: Keyword, rest: Words<'a>) -> Result<(), YalFault>
+        ensures { let rest = rest.entry in
+            Keeps result self.new
+            (outside_said (reading_in self.old) rest.line key (words is_blank_byte rest.text.now)) }
     {
         match key {
-            Keyword::Module => self.begin_module(rest, line),
-            Keyword::EndModule => Err(YalFault::BadStatement(line)),
+            Keyword::Module => self.begin_module(rest),
+            Keyword::EndModule => Err(YalFault::BadStatement(rest.line)),
             _ => Ok(()),
         }
     }
@@ -182,19 +188,19 @@ impl<'a> Found<'a> {
         &mut self,
         current: OpenModule,
         key: Keyword,
-        rest: &[u8],
-        line: u64,
+        rest: Words,
         scale: Scale,
     ) -> Result<(), YalFault>
-        ensures { Keeps result self.new
-            (in_body_said scale.per_unit (reading_in self.old) current line key
-            (words is_blank_byte rest.now)) }
+        ensures { let rest = rest.entry in
+            Keeps result self.new
+            (in_body_said scale.per_unit (reading_in self.old) current rest.line key
+            (words is_blank_byte rest.text.now)) }
     {
         match key {
-            Keyword::Module => return Err(YalFault::BadStatement(line)),
+            Keyword::Module => return Err(YalFault::BadStatement(rest.line)),
             Keyword::EndModule => self.end_module(current)?,
-            Keyword::Type => self.take_type(current, rest, line)?,
-            Keyword::Dimensions => self.take_box(current, rest, line, scale)?,
+            Keyword::Type => self.take_type(current, rest)?,
+            Keyword::Dimensions => self.take_box(current, rest, scale)?,
             Keyword::IoList => self.open_list(current, Section::Terminals),
             Keyword::Network => self.open_list(current, Section::Network),
             _ => {}
@@ -244,17 +250,12 @@ impl<'a> Found<'a> {
 
     /// A terminal of the parent.
     #[tactic(auto, unfolding(crate::specs::Reading::terminal_said))]
-    fn take_terminal(
-        &mut self,
-        alloc: Global,
-        all: &'a [u8],
-        line: u64,
-        scale: Scale,
-    ) -> Result<(), YalFault>
-        ensures { Keeps result self.new
-            (terminal_said scale.per_unit (reading_in self.old) line (words is_blank_byte all.now)) }
+    fn take_terminal(&mut self, alloc: Global, all: Words<'a>, scale: Scale) -> Result<(), YalFault>
+        ensures { let all = all.entry in
+            Keeps result self.new
+            (terminal_said scale.per_unit (reading_in self.old) all.line (words is_blank_byte all.text.now)) }
     {
-        let Some((name, rest)) = next_word(all) else {
+        let Some((name, rest)) = next_word(all.text) else {
             return Ok(());
         };
         let Some((_, rest)) = next_word(rest) else {
@@ -268,23 +269,24 @@ impl<'a> Found<'a> {
         };
         let x = read_length(x, scale);
         let y = read_length(y, scale);
-        self.take_placed(alloc, name, x, y, line)
+        self.take_placed(alloc, name, x, y, all.line)
     }
 
     /// An instance of the parent.
     #[tactic(auto, unfolding(crate::specs::Reading::instance_said))]
-    fn take_instance(&mut self, all: &'a [u8], line: u64) -> Result<(), YalFault>
-        ensures { Keeps result self.new
-            (instance_said (reading_in self.old) line (words is_blank_byte all.now)) }
+    fn take_instance(&mut self, all: Words<'a>) -> Result<(), YalFault>
+        ensures { let all = all.entry in
+            Keeps result self.new
+            (instance_said (reading_in self.old) all.line (words is_blank_byte all.text.now)) }
     {
-        let Some((name, rest)) = next_word(all) else {
-            return Err(YalFault::BadStatement(line));
+        let Some((name, rest)) = next_word(all.text) else {
+            return Err(YalFault::BadStatement(all.line));
         };
         let Some((module_name, signals)) = next_word(rest) else {
-            return Err(YalFault::BadStatement(line));
+            return Err(YalFault::BadStatement(all.line));
         };
         self.instances.push(Instance {
-            line,
+            line: all.line,
             name: Label::new(name),
             module_name: Label::new(module_name),
             signals,
@@ -298,18 +300,18 @@ impl<'a> Found<'a> {
         alloc: Global,
         current: OpenModule,
         key: Keyword,
-        all: &'a [u8],
-        line: u64,
+        all: Words<'a>,
         scale: Scale,
     ) -> Result<(), YalFault>
-        ensures { Keeps result self.new
-            (in_terminals_said scale.per_unit (reading_in self.old) current line key
-            (words is_blank_byte all.now)) }
+        ensures { let all = all.entry in
+            Keeps result self.new
+            (in_terminals_said scale.per_unit (reading_in self.old) current all.line key
+            (words is_blank_byte all.text.now)) }
     {
         if key == Keyword::EndIoList {
             self.close_list(current);
         } else if current.is_parent {
-            self.take_terminal(alloc, all, line, scale)?;
+            self.take_terminal(alloc, all, scale)?;
         }
         Ok(())
     }
@@ -319,42 +321,38 @@ impl<'a> Found<'a> {
         &mut self,
         current: OpenModule,
         key: Keyword,
-        all: &'a [u8],
-        line: u64,
+        all: Words<'a>,
     ) -> Result<(), YalFault>
-        ensures { Keeps result self.new
-            (in_network_said (reading_in self.old) current line key (words is_blank_byte all.now)) }
+        ensures { let all = all.entry in
+            Keeps result self.new
+            (in_network_said (reading_in self.old) current all.line key (words is_blank_byte all.text.now)) }
     {
         if key == Keyword::EndNetwork {
             self.close_list(current);
         } else if current.is_parent {
-            self.take_instance(all, line)?;
+            self.take_instance(all)?;
         }
         Ok(())
     }
 
     /// The next statement, which is passed over where it has no words.
-    pub fn take(
-        &mut self,
-        alloc: Global,
-        all: &'a [u8],
-        line: u64,
-        scale: Scale,
-    ) -> Result<(), YalFault>
-        ensures { Keeps result self.new
-            (after_words scale.per_unit (reading_in self.old) line (words is_blank_byte all.now)) }
+    pub fn take(&mut self, alloc: Global, all: Words<'a>, scale: Scale) -> Result<(), YalFault>
+        ensures { let all = all.entry in
+            Keeps result self.new
+            (after_words scale.per_unit (reading_in self.old) all.line (words is_blank_byte all.text.now)) }
     {
-        let Some((word, rest)) = next_word(all) else {
+        let Some((word, text)) = next_word(all.text) else {
             return Ok(());
         };
         let key = read_keyword(word);
+        let rest = Words { text, ..all };
         let Some(current) = self.current else {
-            return self.take_outside(key, rest, line);
+            return self.take_outside(key, rest);
         };
         match current.section {
-            Section::Body => self.take_in_body(current, key, rest, line, scale),
-            Section::Terminals => self.take_in_terminals(alloc, current, key, all, line, scale),
-            Section::Network => self.take_in_network(current, key, all, line),
+            Section::Body => self.take_in_body(current, key, rest, scale),
+            Section::Terminals => self.take_in_terminals(alloc, current, key, all, scale),
+            Section::Network => self.take_in_network(current, key, all),
         }
     }
 }

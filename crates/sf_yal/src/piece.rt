@@ -1,27 +1,11 @@
 //! Words and pieces at the front of a text, and the lines in which they stand. Nothing here takes memory.
 
 ghost use Rattle.std.specs.Prelude.{◌≡◌, ◌+◌, ◌^◌, ◌≤◌, ◌<◌, [], ◌∷◌, length, MatchOption, IfSome};
-ghost use Rattle.std.specs.List.{prefix_len, position_or_len, suffix_len};
+ghost use Rattle.std.specs.List.{suffix_len};
 ghost use Rattle.sf_lex.specs.Text.{words, is_blank_byte};
-ghost use Rattle.sf_yal.specs.Statements.{is_semicolon, pieces, feeds, statement_at};
-ghost use Rattle.sf_yal.specs.Statements.{without_end, line_of_last};
+ghost use Rattle.sf_yal.specs.Statements.{pieces, statement_at, without_end, line_of_last};
 
-use sf_lex::{Gap, count_fields, next_field};
-
-/// The byte is a blank.
-fn is_blank(byte: u8) -> bool
-    ensures { result ≡ is_blank_byte byte }
-{
-    matches!(byte, b' ' | b'\t' | b'\r' | b'\n')
-}
-
-/// How many blanks stand at the front.
-fn blanks_at_front(bytes: &[u8]) -> usize
-    ensures value { result ≡ prefix_len is_blank_byte bytes.now }
-    ensures bound { result ≤ length bytes.now }
-{
-    bytes.iter().take_while(|byte| is_blank(**byte)).count()
-}
+use sf_lex::{Gap, count_fields, gap_len, len_before, line_feeds, next_field};
 
 /// How many blanks stand at the end.
 fn blanks_at_end(bytes: &[u8]) -> usize
@@ -31,24 +15,8 @@ fn blanks_at_end(bytes: &[u8]) -> usize
     bytes
         .iter()
         .rev()
-        .take_while(|byte| is_blank(**byte))
+        .take_while(|byte| Gap::Blanks.has(**byte))
         .count()
-}
-
-/// How many bytes stand before the first semicolon, or how many there are.
-fn piece_len(bytes: &[u8]) -> usize
-    ensures value { result ≡ position_or_len is_semicolon bytes.now }
-    ensures bound { result ≤ length bytes.now }
-{
-    bytes.iter().take_while(|byte| **byte != b';').count()
-}
-
-/// How many lines end in the bytes.
-pub fn line_feeds(bytes: &[u8]) -> u64
-    ensures value { result ≡ feeds bytes.now }
-    ensures bound { result ≤ length bytes.now }
-{
-    bytes.iter().filter(|byte| **byte == b'\n').count() as u64
 }
 
 /// The next word and what follows it.
@@ -73,7 +41,7 @@ pub fn next_piece(bytes: &[u8]) -> Option<(&[u8], &[u8])>
         (λ r. pieces bytes.now ≡ r.0.now ∷ pieces r.1.now) }
     ensures shorter { IfSome result (λ r. length r.0.now + 1 + length r.1.now ≡ length bytes.now) }
 {
-    let (piece, rest) = bytes.split_at(piece_len(bytes));
+    let (piece, rest) = bytes.split_at(len_before(bytes, b';'));
     if rest.is_empty() {
         return None;
     }
@@ -86,7 +54,7 @@ pub fn first_line(piece: &[u8], line: u64) -> u64
     requires { line + length piece.now < 2 ^ 64 }
     ensures { result ≡ (statement_at line piece.now).line }
 {
-    let (blanks, _) = piece.split_at(blanks_at_front(piece));
+    let (blanks, _) = piece.split_at(gap_len(piece, Gap::Blanks));
     line + line_feeds(blanks)
 }
 

@@ -12,10 +12,10 @@ ghost use Rattle.sf_yal.specs.Parts.{parts_by, yal_read};
 use crate::blocks::read_instances;
 use crate::comments::hide_comments;
 use crate::fault::YalFault;
-use crate::found::Found;
+use crate::found::{Found, Words};
 use crate::nets::read_nets;
-use crate::piece::{first_line, last_line_of, line_feeds, next_piece, next_word};
-use sf_lex::Scale;
+use crate::piece::{first_line, last_line_of, next_piece, next_word};
+use sf_lex::{Scale, line_feeds};
 use sf_model::{NameList, Parts, RawBlockList, RawPadList};
 use std::alloc::Global;
 
@@ -33,7 +33,11 @@ fn read_statements<'a>(
     let mut rest = text;
     let mut line = 1;
     while let Some((piece, after)) = next_piece(rest) {
-        found.take(alloc, piece, first_line(piece, line), scale)?;
+        let words = Words {
+            text: piece,
+            line: first_line(piece, line),
+        };
+        found.take(alloc, words, scale)?;
         line += line_feeds(piece);
         rest = after;
     }

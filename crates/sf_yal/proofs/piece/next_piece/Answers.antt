@@ -13,4 +13,4 @@ returns-then-is_empty-clause-pieces c =
 pub returns-clause-pieces : goal.returns-clause-pieces
 returns-clause-pieces c =
     let some : position_or_len is_semicolon c.args.bytes.now < length c.args.bytes.now = grind (arith, nat_tests) in
-    rw (c.split_at-2.ensures.back, c.split_at.ensures.front, c.split_at.ensures.back, c.piece_len.ensures.value) (split_first is_semicolon c.args.bytes.now some)
+    rw (c.split_at-2.ensures.back, c.split_at.ensures.front, c.split_at.ensures.back, c.len_before.ensures.value) (split_first is_semicolon c.args.bytes.now some)
