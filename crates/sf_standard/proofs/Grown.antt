@@ -170,6 +170,11 @@ beside-most a b h k m hm km = omega (arith, mul-le-mul_left a hm, mul-le-mul_lef
 above-most : (a b h k m : ℕ) → a ≤ m → b ≤ m → a * h + b * k ≤ m * (h + k)
 above-most a b h k m am bm = omega (arith, mul-le-mul_right h am, mul-le-mul_right k bm)
 
+-- a plan in place of two others, which have no more area together, leaves no less on the stack
+joined-area : (joined l r : Tree) (stack : List Tree) (n m : ℕ) → area l + area r ≤ area joined → sum_by area (joined ∷ stack) + n ≤ m → sum_by area (r ∷ l ∷ stack) + n ≤ m
+joined-area joined l r stack n m more h =
+    omega (arith, sum_by-cons area r (l ∷ stack), sum_by-cons area l stack, sum_by-cons area joined stack, more, h)
+
 -- the area of a block in its shape
 abbrev pub own_area : (ℕ → Shape) → ℕ → ℕ
 own_area f b = (f b).w * (f b).h
@@ -184,22 +189,10 @@ grown-area f (r ∷ stack) (token.Block b ∷ ts) =
 grown-area f [] (token.Beside ∷ ts) = grown-area f [] ts
 grown-area f (r ∷ []) (token.Beside ∷ ts) = grown-area f (r ∷ []) ts
 grown-area f (r ∷ l ∷ stack) (token.Beside ∷ ts) =
-    omega (
-      arith,
-      sum_by-cons area r (l ∷ stack),
-      sum_by-cons area l stack,
-      sum_by-cons area (Beside l r) stack,
-      grown-area f (Beside l r ∷ stack) ts,
-      beside-most (width l) (width r) (height l) (height r) (max (height l) (height r)) (omega arith) (omega arith),
-    )
+    joined-area (Beside l r) l r stack (sum_by (own_area f) (blocks_of ts)) (sum_by area (grow f (Beside l r ∷ stack) ts))
+    (beside-most (width l) (width r) (height l) (height r) (max (height l) (height r)) (omega arith) (omega arith)) (grown-area f (Beside l r ∷ stack) ts)
 grown-area f [] (token.Above ∷ ts) = grown-area f [] ts
 grown-area f (r ∷ []) (token.Above ∷ ts) = grown-area f (r ∷ []) ts
 grown-area f (r ∷ l ∷ stack) (token.Above ∷ ts) =
-    omega (
-      arith,
-      sum_by-cons area r (l ∷ stack),
-      sum_by-cons area l stack,
-      sum_by-cons area (Above l r) stack,
-      grown-area f (Above l r ∷ stack) ts,
-      above-most (width l) (width r) (height l) (height r) (max (width l) (width r)) (omega arith) (omega arith),
-    )
+    joined-area (Above l r) l r stack (sum_by (own_area f) (blocks_of ts)) (sum_by area (grow f (Above l r ∷ stack) ts))
+    (above-most (width l) (width r) (height l) (height r) (max (width l) (width r)) (omega arith) (omega arith)) (grown-area f (Above l r ∷ stack) ts)

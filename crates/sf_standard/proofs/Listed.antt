@@ -1,11 +1,11 @@
 -- Facts on members and sums of lists.
-use Rattle.std.proofs.Common.{◌≡◌, ℕ, suc, ◌+◌, ◌<◌, ◌≤◌, List, [], ◌∷◌, map, arith, refl, ap, sym, subst, ◌∙◌, ◌⊎◌, inl, inr, Bool, true, cond, AllPairs}
+use Rattle.std.proofs.Common.{◌≡◌, ℕ, suc, ◌+◌, ◌<◌, ◌≤◌, List, [], ◌∷◌, ◌++◌, map, arith, refl, ap, sym, subst, ◌∙◌, ◌⊎◌, inl, inr, Bool, true, cond, AllPairs}
 use Rattle.std.specs.Prelude.{Contains, sum_by, filter, count_by}
 use Rattle.std.specs.List.{AllByRecursion, flat_map}
 use Rattle.std.proofs.lemmas.Bool.{cond_both, cond-true}
 use Rattle.std.proofs.lemmas.List.Sums.{sum_by-cons}
 use Rattle.std.proofs.lemmas.List.Elements.{Contains-append_cases, Contains-append_left, Contains-append_right}
-use Rattle.sf_model.proofs.Each.{EachPair}
+use Rattle.sf_model.proofs.Each.{each-append, each-weaker, each-map, EachPair}
 use Rattle.sf_curves.proofs.Members.{Contains-cons_cases, Contains-head, Contains-tail, not_in_nil}
 
 -- what holds of each element holds of one that stands in the list
@@ -18,6 +18,11 @@ each-contains P (y ∷ xs) x a c =
 pub each-from : {X : Type 0} (P : X → Type 0) (xs : List X) → ((x : X) → Contains xs x → P x) → AllByRecursion P xs
 each-from P [] f = tt
 each-from P (x ∷ xs) f = (f x (Contains-head x xs), each-from P xs (λ y c. f y (Contains-tail x xs y c)))
+
+-- what holds of each element of one list, and of what f makes of each element of another, holds of all these
+pub each-joined : {X : Type 0} (P Q R : X → Type 0) (f : X → X) (xs ys : List X) → ((x : X) → Q x → P x) → ((y : X) → R y → P (f y)) → AllByRecursion Q xs → AllByRecursion R ys → AllByRecursion P (xs ++ map f ys)
+each-joined P Q R f xs ys stays moves q r =
+    each-append P xs (map f ys) (each-weaker Q P stays xs q) (each-map P f ys (each-weaker R (λ y. P (f y)) moves ys r))
 
 -- the image of an element is among the images
 pub Contains-map : {X Y : Type 0} (f : X → Y) (xs : List X) (x : X) → Contains xs x → Contains (map f xs) (f x)

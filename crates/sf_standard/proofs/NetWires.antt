@@ -26,7 +26,7 @@ use Rattle.sf_standard.specs.declared.hull.Offset.{Offset}
 use Rattle.sf_standard.specs.Hull.{extent_of, range_x, range_y, range_part, block_pins, small_side, pair_part, item_extent, moved_right, moved_up, offsets, offset_x, offset_y, contains_pin, of_pins, pads_x, pads_y, hull_of, hull_part}
 use Rattle.sf_standard.specs.Standard.{net_part, weighed_part, wire_part}
 use Rattle.sf_standard.proofs.Grown.{IsPart, part-self}
-use Rattle.sf_standard.proofs.Listed.{each-contains, each-from, Contains-map, sum_by-le_each, EachPair-from_pairs, EachPair-of}
+use Rattle.sf_standard.proofs.Listed.{each-contains, each-joined, each-from, Contains-map, sum_by-le_each, EachPair-from_pairs, EachPair-of}
 use Rattle.sf_standard.proofs.Members.{pin-from}
 use Rattle.sf_standard.proofs.Placed.{IsPlaced, placed, found-spot, spot-below, IsFirst, spots-first}
 use Rattle.sf_standard.proofs.Cutting.{cut, belongs-listed}
@@ -65,25 +65,21 @@ pub offsets-at : (extent : ℕ → Extent) (x y : ℕ) (t : Tree) → FitsExtent
 offsets-at extent x y (Leaf b s) h =
     ((record { block = b; x = pos x; y = pos y; w = s.w; h = s.h }, Contains-head _ [], record { block = refl; left = omega (arith, ints); right = omega (arith, ints); below = omega (arith, ints); above = omega (arith, ints) }), tt)
 offsets-at extent x y (Beside l r) h =
-    let e = item_extent extent (item_of l) in
     let i = of-item-extent extent l (each-left _ (leaves l) (leaves r) h) in
-    each-append (HasOffset x y (spots_at x y l ++ spots_at (x + width l) y r)) (offsets extent (item_of l)) (map (moved_right e) (offsets extent (item_of r)))
-    (each-weaker (HasOffset x y (spots_at x y l)) (HasOffset x y (spots_at x y l ++ spots_at (x + width l) y r)) (λ o k. (k.0, Contains-append_left (spots_at x y l) (spots_at (x + width l) y r) k.0 k.1, k.2)) (offsets extent (item_of l))
-    (offsets-at extent x y l (each-left _ (leaves l) (leaves r) h)))
-    (each-map (HasOffset x y (spots_at x y l ++ spots_at (x + width l) y r)) (moved_right e) (offsets extent (item_of r))
-    (each-weaker (HasOffset (x + width l) y (spots_at (x + width l) y r)) (λ o. HasOffset x y (spots_at x y l ++ spots_at (x + width l) y r) (moved_right e o))
-    (λ o k. (k.0, Contains-append_right (spots_at x y l) (spots_at (x + width l) y r) k.0 k.1, record { block = k.2.block; left = omega (arith, ints, k.2.left, i.wide); right = omega (arith, ints, k.2.right, i.narrow); below = k.2.below; above = k.2.above }))
-    (offsets extent (item_of r)) (offsets-at extent (x + width l) y r (each-right _ (leaves l) (leaves r) h))))
+    let low = spots_at x y l in
+    let high = spots_at (x + width l) y r in
+    each-joined (HasOffset x y (low ++ high)) (HasOffset x y low) (HasOffset (x + width l) y high) (moved_right (item_extent extent (item_of l))) (offsets extent (item_of l)) (offsets extent (item_of r))
+    (λ o k. (k.0, Contains-append_left low high k.0 k.1, k.2))
+    (λ o k. (k.0, Contains-append_right low high k.0 k.1, record { block = k.2.block; left = omega (arith, ints, k.2.left, i.wide); right = omega (arith, ints, k.2.right, i.narrow); below = k.2.below; above = k.2.above }))
+    (offsets-at extent x y l (each-left _ (leaves l) (leaves r) h)) (offsets-at extent (x + width l) y r (each-right _ (leaves l) (leaves r) h))
 offsets-at extent x y (Above l r) h =
-    let e = item_extent extent (item_of l) in
     let i = of-item-extent extent l (each-left _ (leaves l) (leaves r) h) in
-    each-append (HasOffset x y (spots_at x y l ++ spots_at x (y + height l) r)) (offsets extent (item_of l)) (map (moved_up e) (offsets extent (item_of r)))
-    (each-weaker (HasOffset x y (spots_at x y l)) (HasOffset x y (spots_at x y l ++ spots_at x (y + height l) r)) (λ o k. (k.0, Contains-append_left (spots_at x y l) (spots_at x (y + height l) r) k.0 k.1, k.2)) (offsets extent (item_of l))
-    (offsets-at extent x y l (each-left _ (leaves l) (leaves r) h)))
-    (each-map (HasOffset x y (spots_at x y l ++ spots_at x (y + height l) r)) (moved_up e) (offsets extent (item_of r))
-    (each-weaker (HasOffset x (y + height l) (spots_at x (y + height l) r)) (λ o. HasOffset x y (spots_at x y l ++ spots_at x (y + height l) r) (moved_up e o))
-    (λ o k. (k.0, Contains-append_right (spots_at x y l) (spots_at x (y + height l) r) k.0 k.1, record { block = k.2.block; left = k.2.left; right = k.2.right; below = omega (arith, ints, k.2.below, i.high); above = omega (arith, ints, k.2.above, i.low) }))
-    (offsets extent (item_of r)) (offsets-at extent x (y + height l) r (each-right _ (leaves l) (leaves r) h))))
+    let low = spots_at x y l in
+    let high = spots_at x (y + height l) r in
+    each-joined (HasOffset x y (low ++ high)) (HasOffset x y low) (HasOffset x (y + height l) high) (moved_up (item_extent extent (item_of l))) (offsets extent (item_of l)) (offsets extent (item_of r))
+    (λ o k. (k.0, Contains-append_left low high k.0 k.1, k.2))
+    (λ o k. (k.0, Contains-append_right low high k.0 k.1, record { block = k.2.block; left = k.2.left; right = k.2.right; below = omega (arith, ints, k.2.below, i.high); above = omega (arith, ints, k.2.above, i.low) }))
+    (offsets-at extent x y l (each-left _ (leaves l) (leaves r) h)) (offsets-at extent x (y + height l) r (each-right _ (leaves l) (leaves r) h))
 
 -- the offsets that pins pick keep what holds of all, and their blocks are among the pins
 pub each-of_pins : (P : Offset → Type 0) (pins : List Pin) (os : List Offset) → AllByRecursion P os → AllByRecursion (λ o. (contains_pin o.block pins ≡ true) × P o) (of_pins pins os)
@@ -228,26 +224,26 @@ module _ (design : Design) (node : Parts) (tree : Tree) (spans : length node.spa
     pads-if-y false d e = tt
 
     module _ (part : Tree) (is : IsPart part tree) where
+      -- the spot of a block in the part is its spot in the whole floorplan
+      spot-at : (o : Offset) → (k : HasOffset (0 + is.x) (0 + is.y) (spots_at (0 + is.x) (0 + is.y) part) o) → spot_of o.block (spots_of tree) ≡ k.0
+      spot-at o k =
+          let found : Contains (spots_of tree) k.0 = is.placed 0 0 k.0 k.1 in
+          subst (λ b. spot_of b (spots_of tree) ≡ k.0) k.2.block (found-spot design tree belongs.legal k.0 found (spot-below design tree belongs.legal k.0 found))
+
       -- a block of the net at its offset
       offset-x : (o : Offset) → (contains_pin o.block net.pins ≡ true) × HasOffset (0 + is.x) (0 + is.y) (spots_at (0 + is.x) (0 + is.y) part) o → Holds (pos (2 * is.x)) xs (offset_x (extent_in design node) o)
       offset-x o k =
           let c = pin-from o.block net.pins k.0 in
-          let s = k.1.0 in
-          let found : Contains (spots_of tree) s = is.placed 0 0 s k.1.1 in
-          let same : spot_of o.block (spots_of tree) ≡ s = subst (λ b. spot_of b (spots_of tree) ≡ s) k.1.2.block (found-spot design tree belongs.legal s found (spot-below design tree belongs.legal s found)) in
           let e = extent-of o.block (block-in o.block c) in
-          let across : (spot_of o.block (spots_of tree)).x ≡ s.x = ap (λ v. v.x) same in
+          let across : (spot_of o.block (spots_of tree)).x ≡ k.1.0.x = ap (λ v. v.x) (spot-at o k.1) in
           record { at = pin_x design (spots_of tree) (pin.Block o.block); found = on-x (pin.Block o.block) c; low = omega (arith, ints, across, k.1.2.left, e.wide); high = omega (arith, ints, across, k.1.2.right, e.narrow) }
 
       -- the same upward
       offset-y : (o : Offset) → (contains_pin o.block net.pins ≡ true) × HasOffset (0 + is.x) (0 + is.y) (spots_at (0 + is.x) (0 + is.y) part) o → Holds (pos (2 * is.y)) ys (offset_y (extent_in design node) o)
       offset-y o k =
           let c = pin-from o.block net.pins k.0 in
-          let s = k.1.0 in
-          let found : Contains (spots_of tree) s = is.placed 0 0 s k.1.1 in
-          let same : spot_of o.block (spots_of tree) ≡ s = subst (λ b. spot_of b (spots_of tree) ≡ s) k.1.2.block (found-spot design tree belongs.legal s found (spot-below design tree belongs.legal s found)) in
           let e = extent-of o.block (block-in o.block c) in
-          let upward : (spot_of o.block (spots_of tree)).y ≡ s.y = ap (λ v. v.y) same in
+          let upward : (spot_of o.block (spots_of tree)).y ≡ k.1.0.y = ap (λ v. v.y) (spot-at o k.1) in
           record { at = pin_y design (spots_of tree) (pin.Block o.block); found = on-y (pin.Block o.block) c; low = omega (arith, ints, upward, k.1.2.below, e.high); high = omega (arith, ints, upward, k.1.2.above, e.low) }
 
       -- the hull of one item is no more than the wire of the net

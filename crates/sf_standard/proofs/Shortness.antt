@@ -31,7 +31,7 @@ use Rattle.sf_standard.specs.Hull.{extent_of, gap, point, range_x, range_y, rang
 use Rattle.sf_standard.specs.Standard.{has_none, net_part, weighed_part, wire_part, AllHavePlans}
 use Rattle.sf_standard.proofs.Exact.{plans-are, fits-from}
 use Rattle.sf_standard.proofs.Gaps.{low-most, high-least, to_nat-le, of-extent, IsOfExtent}
-use Rattle.sf_standard.proofs.Listed.{Contains-from_filter}
+use Rattle.sf_standard.proofs.Listed.{each-joined, Contains-from_filter}
 use Rattle.sf_standard.proofs.NetWires.{of-item-extent, each-of_pins}
 use Rattle.sf_standard.proofs.Sides.{span-small}
 
@@ -71,21 +71,11 @@ record IsWithin (extent : ℕ → Extent) (e : Extent) (o : Offset) : Type 0 whe
 offsets-within : (extent : ℕ → Extent) (i : Item) → AllByRecursion (IsWithin extent (item_extent extent i)) (offsets extent i)
 offsets-within extent (item.Block b) = (record { across = omega arith; upward = omega arith }, tt)
 offsets-within extent (item.Beside l r) =
-    let e = item_extent extent l in
-    let g = item_extent extent r in
-    let whole = item_extent extent (item.Beside l r) in
-    each-append (IsWithin extent whole) (offsets extent l) (map (moved_right e) (offsets extent r))
-    (each-weaker (IsWithin extent e) (IsWithin extent whole) (λ o k. record { across = omega (arith, k.across); upward = omega (arith, k.upward) }) (offsets extent l) (offsets-within extent l))
-    (each-map (IsWithin extent whole) (moved_right e) (offsets extent r)
-    (each-weaker (IsWithin extent g) (λ o. IsWithin extent whole (moved_right e o)) (λ o k. record { across = omega (arith, k.across); upward = omega (arith, k.upward) }) (offsets extent r) (offsets-within extent r)))
+    each-joined (IsWithin extent (item_extent extent (item.Beside l r))) (IsWithin extent (item_extent extent l)) (IsWithin extent (item_extent extent r)) (moved_right (item_extent extent l)) (offsets extent l) (offsets extent r)
+    (λ o k. record { across = omega (arith, k.across); upward = omega (arith, k.upward) }) (λ o k. record { across = omega (arith, k.across); upward = omega (arith, k.upward) }) (offsets-within extent l) (offsets-within extent r)
 offsets-within extent (item.Above l r) =
-    let e = item_extent extent l in
-    let g = item_extent extent r in
-    let whole = item_extent extent (item.Above l r) in
-    each-append (IsWithin extent whole) (offsets extent l) (map (moved_up e) (offsets extent r))
-    (each-weaker (IsWithin extent e) (IsWithin extent whole) (λ o k. record { across = omega (arith, k.across); upward = omega (arith, k.upward) }) (offsets extent l) (offsets-within extent l))
-    (each-map (IsWithin extent whole) (moved_up e) (offsets extent r)
-    (each-weaker (IsWithin extent g) (λ o. IsWithin extent whole (moved_up e o)) (λ o k. record { across = omega (arith, k.across); upward = omega (arith, k.upward) }) (offsets extent r) (offsets-within extent r)))
+    each-joined (IsWithin extent (item_extent extent (item.Above l r))) (IsWithin extent (item_extent extent l)) (IsWithin extent (item_extent extent r)) (moved_up (item_extent extent l)) (offsets extent l) (offsets extent r)
+    (λ o k. record { across = omega (arith, k.across); upward = omega (arith, k.upward) }) (λ o k. record { across = omega (arith, k.across); upward = omega (arith, k.upward) }) (offsets-within extent l) (offsets-within extent r)
 
 -- of an or that is false both sides are false
 or-false : (a b : Bool) → (a || b) ≡ false → (a ≡ false) × (b ≡ false)

@@ -1,5 +1,5 @@
 -- The standard bound of a subproblem.
-use Rattle.std.specs.Prelude.{◌≡◌, ℕ, ◌+◌, ◌*◌, max, min, List, [], ◌∷◌, ◌++◌, length, map, sum, sum_by, Bool, false, not, nat_lt, ◌==◌, if◌then◌else◌, IsTrue}
+use Rattle.std.specs.Prelude.{◌≡◌, ℕ, ◌+◌, ◌*◌, max, min, List, [], ◌∷◌, ◌++◌, length, map, sum, sum_by, Bool, false, not, nat_lt, ◌==◌, if◌then◌else◌}
 use Rattle.std.specs.List.{list_all, list_any}
 use Rattle.sf_model.specs.declared.design.Design.{Design}
 use Rattle.sf_model.specs.declared.parts.Net.{Net}
@@ -11,7 +11,6 @@ use Rattle.sf_node.specs.declared.part.Part.{Part}
 use Rattle.sf_node.specs.declared.part.Part.TheVariants as by
 use Rattle.sf_node.specs.Parts.{Parts}
 use Rattle.sf_node.specs.Subproblem.{is_complete, is_wide, is_solved}
-use Rattle.sf_node.specs.Children.{IsSubproblem}
 use Rattle.sf_standard.specs.Items.{Item, items_of, unused, span_shapes, fitting}
 use Rattle.sf_standard.specs.Hull.{extent_of, range_part, pair_part, hull_part}
 
