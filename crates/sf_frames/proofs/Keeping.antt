@@ -99,27 +99,34 @@ stored-appended design tokens points more blocks whole frames m = record {
   };
 }
 
-module _ (design : Design) (tokens : List Token) (points : List Shape) (blocks : List Kept) (whole : ℕ) (frames : List Frame) (count e : ℕ) (m : IsStored design tokens points blocks whole frames) (le : count ≤ length frames) (at_end : IsEndOf frames whole count e) where
-  -- the points that the first frames need end where the last of them ends
-  last-end : (d : Frame) → 0 < count → e ≡ (get_or frames (count - 1) d).end
-  last-end d lt = sym (at_end.last d lt)
-
-  -- the end lies among the points, and after the whole curves
-  pub end-there : (d : Frame) → (whole ≤ e) × (e ≤ length points)
-  end-there d = elim (cases_lt 0 count) [
-    | inl some ↦ (let f = m.frames_are.each (count - 1) d (omega (arith, le)) in
-        (omega (arith, last-end d some, f.after), omega (arith, last-end d some, f.end)))
-    | inr none ↦ (let same : e ≡ whole = at_end.none (omega arith) in (omega (arith, same), omega (arith, same, m.wholes.room)))
+-- frames of any kind, each with an end; the first `count` of them end at e
+module _ (F : Type 0) (end_of : F → ℕ) (frames : List F) (count e : ℕ) (le : count ≤ length frames) (last : (d : F) → 0 < count → end_of (get_or frames (count - 1) d) ≡ e) where
+  -- where each frame ends between two numbers, and what is there before the first one too, the first ones end between these
+  pub end-between : (low high : ℕ) → (count ≡ 0 → e ≡ low) → low ≤ high → ((k : ℕ) (d : F) → k < length frames → (low ≤ end_of (get_or frames k d)) × (end_of (get_or frames k d) ≤ high)) → F → (low ≤ e) × (e ≤ high)
+  end-between low high none order each d = elim (cases_lt 0 count) [
+    | inl some ↦ (let f = each (count - 1) d (omega (arith, le)) in (omega (arith, last d some, f.0), omega (arith, last d some, f.1)))
+    | inr nothing ↦ (let same : e ≡ low = none (omega arith) in (omega (arith, same), omega (arith, same, order)))
   ]
+
+  -- where each frame ends no later than those after it, each of the first ones ends no later than the last of them
+  pub end-within : AllPairs (λ f g. end_of f ≤ end_of g) frames → (k : ℕ) (d : F) → k < count → end_of (get_or frames k d) ≤ e
+  end-within ends k d lt =
+      elim (cases_eq (k + 1) count) [
+        | inl same ↦ (let here : count - 1 ≡ k = omega (arith, same) in
+            omega (arith, ap (λ (v : ℕ). end_of (get_or frames v d)) here, last d (omega arith)))
+        | inr other ↦ omega (arith, other, ends k (count - 1) d (omega (arith, other)) (omega arith), last d (omega arith))
+      ]
+
+module _ (design : Design) (tokens : List Token) (points : List Shape) (blocks : List Kept) (whole : ℕ) (frames : List Frame) (count e : ℕ) (m : IsStored design tokens points blocks whole frames) (le : count ≤ length frames) (at_end : IsEndOf frames whole count e) where
+  -- the end lies among the points, and after the whole curves
+  pub end-there : Frame → (whole ≤ e) × (e ≤ length points)
+  end-there =
+      end-between Frame (λ f. f.end) frames count e le at_end.last whole (length points) at_end.none m.wholes.room
+      (λ k d lt. let f = m.frames_are.each k d lt in (f.after, f.end))
 
   -- each of the first frames ends no later than the last of them
   within-end : (k : ℕ) (d : Frame) → k < count → (get_or frames k d).end ≤ e
-  within-end k d lt =
-      elim (cases_eq (k + 1) count) [
-        | inl same ↦ (let here : count - 1 ≡ k = omega (arith, same) in
-            omega (arith, ap (λ (v : ℕ). (get_or frames v d).end) here, last-end d (omega arith)))
-        | inr other ↦ omega (arith, other, m.frames_are.ends k (count - 1) d (omega (arith, other)) (omega arith), last-end d (omega arith))
-      ]
+  within-end = end-within Frame (λ f. f.end) frames count e le at_end.last m.frames_are.ends
 
   -- the first frames with the points that they need
   pub stored-cut : (d : Frame) → IsStored design tokens (take e points) blocks whole (take count frames)

@@ -208,9 +208,9 @@ module _ (design : Design) (tokens : List Token) (points : List Shape) (blocks :
         more = omega (arith, exact, many, wholes-total, made-total, sum_by_push length made c);
       }
 
--- what is kept of a path without halves is no more than may be, since it has fewer tokens than that
-pub kept-within : (design : Design) (node : Parts) (points : List Shape) (blocks : List Kept) (whole : ℕ) (frames : List Frame) → IsSubproblem design node → length node.steps ≡ length node.tokens → IsStored design node.tokens points blocks whole frames → length points ≤ MOST_POINTS → IsStoredPath design points blocks whole frames × IsWithinRoom points frames
-kept-within design node points blocks whole frames sub halves m few = (
-  stored-own design node.tokens points blocks whole frames m,
-  record { few_points = few; few_frames = omega (arith, m.frames_are.few, halves, subproblem-shallow design node sub) },
+-- what is kept of a path without halves is no more than may be, since it has fewer tokens than that: for the design that is served, from the blocks that the last call was given
+pub kept-within : (design served : Design) (node : Parts) (points : List Shape) (blocks given : List Kept) (whole : ℕ) (frames : List Frame) → design ≡ served → given ≡ blocks → IsSubproblem served node → length node.steps ≡ length node.tokens → IsStored design node.tokens points given whole frames → length points ≤ MOST_POINTS → IsStoredPath design points blocks whole frames × IsWithinRoom points frames
+kept-within design served node points blocks given whole frames is is_given sub halves m few = (
+  stored-own design node.tokens points blocks whole frames (subst (λ v. IsStored design node.tokens points v whole frames) is_given m),
+  record { few_points = few; few_frames = omega (arith, m.frames_are.few, halves, subproblem-shallow served node sub) },
 )

@@ -12,26 +12,28 @@ use Rattle.sf_frames.specs.Sums.{AreSumsOrNone}
 use Rattle.sf_frames.specs.Kept.{path, items_at, IsFrame, IsStored, IsEndOf, token_of}
 use Rattle.sf_frames.proofs.Keeping.{stored-cut}
 
-module _ (design : Design) (a b : List Token) (n : ℕ) (same : take n a ≡ take n b) where
-  -- paths that agree in their first n tokens agree in the first k of them
-  begins-same : (k : ℕ) → k ≤ n → take k a ≡ take k b
+-- paths that agree in their first n tokens
+module _ (a b : List Token) (n : ℕ) (same : take n a ≡ take n b) where
+  -- they agree in the first k of them
+  pub begins-same : (k : ℕ) → k ≤ n → take k a ≡ take k b
   begins-same k le = sym (take-take k n a le) ∙ ap (take k) same ∙ take-take k n b le
 
   -- they have the same items there
-  items-same : (k : ℕ) → k ≤ n → items_at a k ≡ items_at b k
+  pub items-same : (k : ℕ) → k ≤ n → items_at a k ≡ items_at b k
   items-same k le = ap (read []) (begins-same k le)
 
+module _ (design : Design) (a b : List Token) (n : ℕ) (same : take n a ≡ take n b) where
   -- a frame of the one is a frame of the other
   frame-switched : (points : List Shape) (whole k : ℕ) (f : Frame) → k ≤ n → IsFrame design a points whole k f → IsFrame design b points whole k f
   frame-switched points whole k f le m = record {
     item = m.item;
-    top = sym (items-same k le) ∙ m.top ∙ ap (λ v. m.item ∷ v) (items-same f.below (omega (arith, m.fewer)));
+    top = sym (items-same a b n same k le) ∙ m.top ∙ ap (λ v. m.item ∷ v) (items-same a b n same f.below (omega (arith, m.fewer)));
     fewer = m.fewer;
     kept = m.kept;
     inside = m.inside;
     after = m.after;
     end = m.end;
-    sums = subst (λ v. AreSumsOrNone (plans_of design (path design v)) f.sums) (begins-same k le) m.sums;
+    sums = subst (λ v. AreSumsOrNone (plans_of design (path design v)) f.sums) (begins-same a b n same k le) m.sums;
   }
 
   -- what is kept of the one is kept of the other
@@ -40,7 +42,7 @@ module _ (design : Design) (a b : List Token) (n : ℕ) (same : take n a ≡ tak
     wholes = m.wholes;
     frames_are = record {
       few = few;
-      are = m.frames_are.are ∙ begins-same (length frames) le;
+      are = m.frames_are.are ∙ begins-same a b n same (length frames) le;
       each = λ k d lt. frame-switched points whole (k + 1) (get_or frames k d) (omega arith) (m.frames_are.each k d lt);
       ends = m.frames_are.ends;
       tight = m.frames_are.tight;

@@ -79,46 +79,66 @@ pub none-first : (tokens : List Token) (k : ℕ) → 1 ≤ length (items_at toke
 none-first tokens zero h = absurd (omega (arith, h))
 none-first tokens (suc k) h = omega arith
 
--- the frames of both are there
-pub record AreThere (frames : List Frame) (d : Frame) : Type 0 where
+-- before an operator of a subproblem there is a token
+pub some-first : (design : Design) (node : Parts) (k : ℕ) (d : Direction) → IsSubproblem design node → IsNext node.tokens k (token_in d) → 1 ≤ k
+some-first design node k d sub next = none-first node.tokens k (omega (arith, two-at design node k d sub next))
+
+-- after k tokens an item is on top of those that fewer tokens leave
+pub record LiesOn (tokens : List Token) (k below : ℕ) : Type 0 where
+  pub item : Item
+  pub top : items_at tokens k ≡ item ∷ items_at tokens below
+  pub fewer : below < k
+
+-- the frames of both items on top are there
+pub record AreThere (F : Type 0) (below : F → ℕ) (frames : List F) (d : F) : Type 0 where
   pub some : 1 ≤ length frames
-  pub under : 1 ≤ (get_or frames (length frames - 1) d).below
-  pub fewer : (get_or frames (length frames - 1) d).below ≤ length frames
+  pub under : 1 ≤ below (get_or frames (length frames - 1) d)
+  pub fewer : below (get_or frames (length frames - 1) d) ≤ length frames
 
-module _ (design : Design) (node : Parts) (points : List Shape) (whole : ℕ) (frames : List Frame) (way : Direction) (sub : IsSubproblem design node) (m : AreFrames design node.tokens points whole frames) (next : IsNext node.tokens (length frames) (token_in way)) where
-  -- before an operator there is a frame
-  some-frame : 1 ≤ length frames
-  some-frame = none-first node.tokens (length frames) (omega (arith, two-at design node (length frames) way sub next))
-
-  -- the last frame tells the item on top
-  right-at : (d : Frame) → IsFrame design node.tokens points whole (length frames) (get_or frames (length frames - 1) d)
+-- frames of any kind, one for each of the first tokens, which say on how many tokens their item lies
+module _ (F : Type 0) (below : F → ℕ) (Is : ℕ → F → Type 0) (design : Design) (node : Parts) (frames : List F) (way : Direction)
+    (lies : (k : ℕ) (f : F) → Is k f → LiesOn node.tokens k (below f)) (each : (k : ℕ) (d : F) → k < length frames → Is (k + 1) (get_or frames k d))
+    (sub : IsSubproblem design node) (next : IsNext node.tokens (length frames) (token_in way)) where
+  -- the last frame is that of the item on top
+  right-at : (d : F) → Is (length frames) (get_or frames (length frames - 1) d)
   right-at d =
-      let r = get_or frames (length frames - 1) d in
-      let k : length frames - 1 + 1 ≡ length frames = omega (arith, some-frame) in
-      subst (λ v. IsFrame design node.tokens points whole v r) k (m.each (length frames - 1) d (omega (arith, some-frame)))
+      let some = some-first design node (length frames) way sub next in
+      let k : length frames - 1 + 1 ≡ length frames = omega (arith, some) in
+      subst (λ v. Is v (get_or frames (length frames - 1) d)) k (each (length frames - 1) d (omega (arith, some)))
 
   -- the frames of both items on top are there, so no number is below 0 and no place outside
-  pub there : (d : Frame) → AreThere frames d
-  there d =
-      let r = right-at d in
+  pub pair-there : (d : F) → AreThere F below frames d
+  pair-there d =
+      let r = lies (length frames) (get_or frames (length frames - 1) d) (right-at d) in
       let two = two-at design node (length frames) way sub next in
       record {
-        some = some-frame;
-        under = none-first node.tokens (get_or frames (length frames - 1) d).below (omega (arith, two, ap length r.top));
+        some = some-first design node (length frames) way sub next;
+        under = none-first node.tokens (below (get_or frames (length frames - 1) d)) (omega (arith, two, ap length r.top));
         fewer = omega (arith, r.fewer);
       }
 
   -- they are the frame before the end, and the one before what it lies on
+  pub pair-are : (d e : F) → Is (length frames) (get_or frames (length frames - 1) d) × Is (below (get_or frames (length frames - 1) d)) (get_or frames (below (get_or frames (length frames - 1) d) - 1) e)
+  pair-are d e =
+      let b = below (get_or frames (length frames - 1) d) in
+      let t = pair-there d in
+      let k : b - 1 + 1 ≡ b = omega (arith, t.under) in
+      (right-at d, subst (λ v. Is v (get_or frames (b - 1) e)) k (each (b - 1) e (omega (arith, t.under, t.fewer))))
+
+-- a frame says on how many tokens its item lies
+frame-lies : (design : Design) (tokens : List Token) (points : List Shape) (whole k : ℕ) (f : Frame) → IsFrame design tokens points whole k f → LiesOn tokens k f.below
+frame-lies design tokens points whole k f m = record { item = m.item; top = m.top; fewer = m.fewer }
+
+module _ (design : Design) (node : Parts) (points : List Shape) (whole : ℕ) (frames : List Frame) (way : Direction) (sub : IsSubproblem design node) (m : AreFrames design node.tokens points whole frames) (next : IsNext node.tokens (length frames) (token_in way)) where
+  -- the frames of both items on top are there
+  pub there : (d : Frame) → AreThere Frame (λ f. f.below) frames d
+  there = pair-there Frame (λ f. f.below) (IsFrame design node.tokens points whole) design node frames way (frame-lies design node.tokens points whole) m.each sub next
+
+  -- these are the two
   pub pair-at : (d e : Frame) → ArePair design node.tokens points whole frames (get_or frames ((get_or frames (length frames - 1) d).below - 1) e) (get_or frames (length frames - 1) d)
   pair-at d e =
-      let r = get_or frames (length frames - 1) d in
-      let l = get_or frames (r.below - 1) e in
-      let t = there d in
-      let k : r.below - 1 + 1 ≡ r.below = omega (arith, t.under) in
-      record {
-        right = right-at d;
-        left = subst (λ v. IsFrame design node.tokens points whole v l) k (m.each (r.below - 1) e (omega (arith, t.under, t.fewer)));
-      }
+      let p = pair-are Frame (λ f. f.below) (IsFrame design node.tokens points whole) design node frames way (frame-lies design node.tokens points whole) m.each sub next d e in
+      record { right = p.0; left = p.1 }
 
 -- the items of both on top
 pub pair-top : (design : Design) (tokens : List Token) (points : List Shape) (whole : ℕ) (frames : List Frame) (l r : Frame) → (p : ArePair design tokens points whole frames l r) → items_at tokens (length frames) ≡ p.right.item ∷ p.left.item ∷ items_at tokens l.below

@@ -1,6 +1,6 @@
 use Rattle.std.proofs.Common.{◌≡◌, length, sym, subst}
 use Rattle.sf_node.specs.Children.{IsSubproblem}
-use Rattle.sf_frames.specs.Kept.{groups_at, IsStored}
+use Rattle.sf_frames.specs.Kept.{groups_at}
 use Rattle.sf_frames.specs.Measured.{IsMeasured}
 use Rattle.sf_frames.specs.Sums.{AreSumsOrNone}
 use Rattle.sf_frames.proofs.Rooms.{kept-within}
@@ -20,33 +20,15 @@ returns-clause-measured c =
 
 pub invariant_of-self-in_err-kept : goal.invariant_of-self-in_err-kept
 invariant_of-self-in_err-kept c =
-    let D = c.self.inside.design.now in
-    let N = c.args.node.now in
-    let P = c.extend.new.points.items in
-    let F = c.extend.new.frames.items in
-    let whole = c.in_ok-self-inside.field-0 in
-    let sub = subst (λ v. IsSubproblem v N) (sym c.self.view_is) c.requires.subproblem in
-    let stored = subst (λ v. IsStored D N.tokens P v whole F) c.deref-2.ensures.value c.in_err-kept.ensures.stored in
-    kept-within D N P c.fill.new.blocks.items whole F sub c.requires.whole stored c.in_err-kept.ensures.few
+    kept-within c.self.inside.design.now _ c.args.node.now c.extend.new.points.items c.fill.new.blocks.items _ c.in_ok-self-inside.field-0 c.extend.new.frames.items c.self.view_is
+    c.deref-2.ensures.value c.requires.subproblem c.requires.whole c.in_err-kept.ensures.stored c.in_err-kept.ensures.few
 
 pub invariant_of-self-then-not-kept : goal.invariant_of-self-then-not-kept
 invariant_of-self-then-not-kept c =
-    let D = c.self.inside.design.now in
-    let N = c.args.node.now in
-    let P = c.extend.new.points.items in
-    let F = c.extend.new.frames.items in
-    let whole = c.in_ok-self-inside.field-0 in
-    let sub = subst (λ v. IsSubproblem v N) (sym c.self.view_is) c.requires.subproblem in
-    let stored = subst (λ v. IsStored D N.tokens P v whole F) c.deref-2.ensures.value c.in_ok-kept.ensures.stored in
-    kept-within D N P c.fill.new.blocks.items whole F sub c.requires.whole stored c.in_ok-kept.ensures.few
+    kept-within c.self.inside.design.now _ c.args.node.now c.extend.new.points.items c.fill.new.blocks.items _ c.in_ok-self-inside.field-0 c.extend.new.frames.items c.self.view_is
+    c.deref-2.ensures.value c.requires.subproblem c.requires.whole c.in_ok-kept.ensures.stored c.in_ok-kept.ensures.few
 
 pub invariant_of-self-2 : goal.invariant_of-self-2
 invariant_of-self-2 c =
-    let D = c.self.inside.design.now in
-    let N = c.args.node.now in
-    let P = c.extend.new.points.items in
-    let F = c.extend.new.frames.items in
-    let whole = c.in_ok-self-inside.field-0 in
-    let sub = subst (λ v. IsSubproblem v N) (sym c.self.view_is) c.requires.subproblem in
-    let stored = subst (λ v. IsStored D N.tokens P v whole F) c.deref-2.ensures.value c.in_ok-kept.ensures.stored in
-    kept-within D N P c.fill.new.blocks.items whole F sub c.requires.whole stored c.in_ok-kept.ensures.few
+    kept-within c.self.inside.design.now _ c.args.node.now c.extend.new.points.items c.fill.new.blocks.items _ c.in_ok-self-inside.field-0 c.extend.new.frames.items c.self.view_is
+    c.deref-2.ensures.value c.requires.subproblem c.requires.whole c.in_ok-kept.ensures.stored c.in_ok-kept.ensures.few
