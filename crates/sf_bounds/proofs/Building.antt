@@ -18,7 +18,7 @@ use Rattle.sf_standard.specs.Items as item
 use Rattle.sf_standard.specs.Items.{Item, read, items_of, span_shapes, plans, pairs, fits, fitting}
 use Rattle.sf_curves.specs.Choices.{AreSpans}
 use Rattle.sf_frames.proofs.Joining.{Runs, runs-from, curve-joined, curve-block, beside-way, above-way}
-use Rattle.sf_bounds.specs.Curves.{HasOperands, IsJoined, IsStep}
+use Rattle.sf_bounds.specs.Curves.{IsJoined, IsStep}
 use Rattle.sf_frames.specs.Curves.{IsItemCurve}
 use Rattle.sf_standard.proofs.Appended.{read-append, read-block}
 

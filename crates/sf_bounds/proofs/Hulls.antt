@@ -32,8 +32,8 @@ use Rattle.sf_bounds.specs.Layout.{extent_in, seat_at}
 use Rattle.sf_bounds.specs.Near.{IsNear, IsNearby, shared, met, anywhere, reach_gap}
 use Rattle.sf_bounds.specs.Pins.{IsNet, IsLayout, extent_from, home_in, standing_at, pad_reach, pin_home, narrowed, narrowed_in, shared_in, shared_homes, home_gap, greatest_gap}
 use Rattle.sf_bounds.proofs.Meeting.{gap-shared, gap-same}
-use Rattle.sf_bounds.proofs.Reading.{if-some, near_home, standing_ready}
-use Rattle.sf_bounds.proofs.Readied.{held-count, extent-same, home-found, home-stands, readied}
+use Rattle.sf_bounds.proofs.PinLoops.{if-some, near_home, standing_ready}
+use Rattle.sf_bounds.proofs.ReadyLayout.{held-count, extent-same, home-found, home-stands, readied}
 
 -- what the pins with a home in the item i are measured by, one way
 module _ (side : Reach → Interval) (i : ℕ) where

@@ -1,13 +1,15 @@
 -- Rows and frames through changes of the list of cells.
-use Rattle.std.proofs.Common.{◌≡◌, ℕ, ◌+◌, ◌-◌, ◌<◌, ◌≤◌, List, [], ◌∷◌, ◌++◌, length, take, map, get_or, sym, ap, ◌∙◌, subst, inl, inr, arith, length-append, All}
+use Rattle.std.proofs.Common.{◌≡◌, ℕ, ◌+◌, ◌<◌, ◌≤◌, List, [], ◌∷◌, ◌++◌, length, take, map, get_or, sym, ap, ◌∙◌, subst, inl, inr, arith, length-append, All}
 use Rattle.std.proofs.lemmas.List.{take-take, take-append-le, get_or-take, get_or_push, get_or_append_left, length_push, length-take-le, take_all, map-append, take-map, length-map}
 use Rattle.std.proofs.lemmas.List.Quantifiers.{all_pairs_push}
-use Rattle.std.proofs.lemmas.Bool.{cases_lt, cases_eq}
+use Rattle.std.proofs.lemmas.Bool.{cases_lt}
 use Rattle.sf_model.specs.declared.design.Design.{Design}
 use Rattle.sf_polish.specs.declared.expr.Token.{Token}
 use Rattle.sf_polish.specs.declared.expr.Token.TheVariants as token
-use Rattle.sf_standard.specs.Items.{Item, read}
+use Rattle.sf_standard.specs.Items.{Item}
 use Rattle.sf_frames.specs.Kept.{items_at, IsNext}
+use Rattle.sf_frames.proofs.Keeping.{end-between, end-within}
+use Rattle.sf_frames.proofs.Switching.{begins-same, items-same}
 use Rattle.sf_frames.proofs.Topping.{take-next}
 use Rattle.sf_bounds.specs.declared.net_frame.BlockRow.{BlockRow}
 use Rattle.sf_bounds.specs.declared.net_frame.Cell.{Cell}
@@ -93,26 +95,15 @@ all-take e cells le h i d lt =
     subst IsFitCell (sym (get_or-take e cells i d n)) (h i d (omega (arith, n, le)))
 
 module _ (design : Design) (tokens : List Token) (cells : List Cell) (blocks : List BlockRow) (start : Wires) (frames : List NetFrame) (count e : ℕ) (m : AreStored design tokens cells blocks start frames) (le : count ≤ length frames) (at_end : IsNetEnd design start frames count e) where
-  -- the end of the first frames is that of the last of them
-  last-end : (d : NetFrame) → 0 < count → e ≡ (get_or frames (count - 1) d).end
-  last-end d lt = sym (at_end.last d lt)
-
   -- the end lies among the cells, and after what the start needs
-  end-there : (d : NetFrame) → (first_end design start ≤ e) × (e ≤ length cells)
-  end-there d = elim (cases_lt 0 count) [
-    | inl some ↦ (let f = m.frames_are.each (count - 1) d (omega (arith, le)) in
-        (omega (arith, last-end d some, f.after), omega (arith, last-end d some, f.end)))
-    | inr none ↦ (let same : e ≡ first_end design start = at_end.none (omega arith) in (omega (arith, same), omega (arith, same, m.start_is.wires.inside)))
-  ]
+  end-there : NetFrame → (first_end design start ≤ e) × (e ≤ length cells)
+  end-there =
+      end-between NetFrame (λ f. f.end) frames count e le at_end.last (first_end design start) (length cells) at_end.none m.start_is.wires.inside
+      (λ k d lt. let f = m.frames_are.each k d lt in (f.after, f.end))
 
   -- each of the first frames ends within the end
   within-end : (k : ℕ) (d : NetFrame) → k < count → (get_or frames k d).end ≤ e
-  within-end k d lt =
-      elim (cases_eq (k + 1) count) [
-        | inl same ↦ (let here : count - 1 ≡ k = omega (arith, same) in
-            omega (arith, ap (λ (v : ℕ). (get_or frames v d).end) here, last-end d (omega arith)))
-        | inr other ↦ omega (arith, other, m.frames_are.ends k (count - 1) d (omega (arith, other)) (omega arith), last-end d (omega arith))
-      ]
+  within-end = end-within NetFrame (λ f. f.end) frames count e le at_end.last m.frames_are.ends
 
   -- the first frames with the cells that they need
   pub stored-cut : (d : NetFrame) → AreStored design tokens (take e cells) blocks start (take count frames)
@@ -157,23 +148,15 @@ frame-pushed design tokens cells blocks start frames f m next is last =
 
 -- tokens that begin in the same way
 module _ (design : Design) (a b : List Token) (n : ℕ) (same : take n a ≡ take n b) where
-  -- lists of tokens that begin with the same n tokens begin with the same k, where k is at most n
-  pub begins-same : (k : ℕ) → k ≤ n → take k a ≡ take k b
-  begins-same k le = sym (take-take k n a le) ∙ ap (take k) same ∙ take-take k n b le
-
-  -- tokens that begin with the same leave the same items
-  items-same : (k : ℕ) → k ≤ n → items_at a k ≡ items_at b k
-  items-same k le = ap (read []) (begins-same k le)
-
   -- a frame of the one list of tokens is one of the other
   frame-switched : (cells : List Cell) (first k : ℕ) (f : NetFrame) → k ≤ n → IsNetFrame design a cells first k f → IsNetFrame design b cells first k f
   frame-switched cells first k f le m = record {
     item = m.item;
-    top = sym (items-same k le) ∙ m.top ∙ ap (λ v. m.item ∷ v) (items-same f.below (omega (arith, m.fewer)));
+    top = sym (items-same a b n same k le) ∙ m.top ∙ ap (λ v. m.item ∷ v) (items-same a b n same f.below (omega (arith, m.fewer)));
     fewer = m.fewer;
     extent = m.extent;
     row = m.row;
-    wires = subst (λ v. AreWires design cells v f.wires) (items-same k le) m.wires;
+    wires = subst (λ v. AreWires design cells v f.wires) (items-same a b n same k le) m.wires;
     row_end = m.row_end;
     wires_end = m.wires_end;
     after = m.after;
@@ -187,7 +170,7 @@ module _ (design : Design) (a b : List Token) (n : ℕ) (same : take n a ≡ tak
     start_is = m.start_is;
     frames_are = record {
       few = few;
-      are = m.frames_are.are ∙ begins-same (length frames) le;
+      are = m.frames_are.are ∙ begins-same a b n same (length frames) le;
       each = λ k d lt. frame-switched cells (first_end design start) (k + 1) (get_or frames k d) (omega arith) (m.frames_are.each k d lt);
       ends = m.frames_are.ends;
     };

@@ -29,8 +29,8 @@ use Rattle.sf_bounds.specs.Pins.{IsNet, IsLayout, IsReady, block_range, standing
 use Rattle.sf_bounds.proofs.Hulls.{open_hull, whole_hull}
 use Rattle.sf_bounds.proofs.Pairing.{pair_sum}
 use Rattle.sf_bounds.proofs.Ranges.{range_is}
-use Rattle.sf_bounds.proofs.Reading.{ready_more}
-use Rattle.sf_bounds.proofs.Readied.{held-count, extent-same, standing-is, readied}
+use Rattle.sf_bounds.proofs.PinLoops.{ready_more}
+use Rattle.sf_bounds.proofs.ReadyLayout.{held-count, extent-same, standing-is, readied}
 
 -- functions that agree on each element map a list alike
 map-same : {X Y : Type 0} (f g : X → Y) (xs : List X) → AllByRecursion (λ x. f x ≡ g x) xs → map f xs ≡ map g xs

@@ -2,7 +2,7 @@
 use Rattle.std.proofs.Common.{◌≡◌, ℕ, suc, ◌+◌, ◌-◌, ◌*◌, ◌<◌, ◌≤◌, max, List, [], ◌∷◌, ◌++◌, length, take, map, get_or, refl, sym, ap, ◌∙◌, subst, arith, length-append, All, false}
 use Rattle.std.specs.Prelude.{sum_by}
 use Rattle.std.specs.List.{range_with_len}
-use Rattle.std.proofs.lemmas.List.{get_or-append_right, get_or-take, length-take-le, length-map}
+use Rattle.std.proofs.lemmas.List.{get_or-append_right, get_or-take, length-take-le}
 use Rattle.std.proofs.lemmas.List.FromFn.{length-map-range_with_len, get_or-map-range_with_len}
 use Rattle.std.proofs.lemmas.List.Sums.{sum_by-cons}
 use Rattle.sf_model.specs.declared.design.Design.{Design}
@@ -17,13 +17,13 @@ use Rattle.sf_node.specs.Children.{IsSubproblem}
 use Rattle.sf_standard.specs.declared.hull.Extent.{Extent}
 use Rattle.sf_standard.specs.Items as item
 use Rattle.sf_standard.specs.Items.{Item, read}
-use Rattle.sf_standard.specs.Hull.{item_extent, offsets, moved_right, moved_up, hull_part}
+use Rattle.sf_standard.specs.Hull.{item_extent, offsets, hull_part}
 use Rattle.sf_standard.proofs.Unmoved.{lone-hull, sum_by-same}
 use Rattle.sf_frames.specs.Direction.{token_in, item_in}
 use Rattle.sf_frames.specs.declared.direction.Direction.{Direction}
 use Rattle.sf_frames.specs.declared.direction.Direction.TheVariants.{Beside, Above}
 use Rattle.sf_frames.specs.Kept.{items_at, IsNext}
-use Rattle.sf_frames.proofs.Topping.{items-block, items-joined, two-at, none-first, block-inside}
+use Rattle.sf_frames.proofs.Topping.{items-block, items-joined, block-inside, LiesOn, AreThere, pair-there, pair-are}
 use Rattle.sf_bounds.specs.declared.net_frame.BlockRow.{BlockRow}
 use Rattle.sf_bounds.specs.declared.net_frame.Cell.{Cell}
 use Rattle.sf_bounds.specs.declared.net_frame.NetFrame.{NetFrame}
@@ -31,11 +31,11 @@ use Rattle.sf_bounds.specs.declared.net_frame.Wires.{Wires}
 use Rattle.sf_bounds.specs.Near.{IsNearby, anywhere, reach_gap}
 use Rattle.sf_bounds.specs.Layout.{joined_extent, IsModestExtent}
 use Rattle.sf_bounds.specs.Rows.{counted, weighed_nets, weights_of, pins_at, whole_extent, row, part, pushed_reach, joined_reach, cell_at, joined_cell, weighed_cell, weighed_hull, AreSums, IsFitCell, IsRow, AreWires, first_end, IsStart, IsNetFrame, AreStored, AreTop}
-use Rattle.sf_bounds.proofs.Laid.{few-numbers}
+use Rattle.sf_bounds.proofs.LaidTokens.{few-numbers}
 use Rattle.sf_bounds.proofs.NetKept.{stored-appended, frame-pushed}
 use Rattle.sf_bounds.proofs.RowLaws.{row-hull, row-joined, pushed-near}
 use Rattle.sf_standard.proofs.Sides.{IsSmallExtent, span-small}
-use Rattle.sf_bounds.proofs.Small.{item-small}
+use Rattle.sf_bounds.proofs.ModestExtents.{joined-length, item-small}
 use Rattle.sf_bounds.proofs.Weights.{weight-at}
 
 -- the extent of a block in its whole span has no side beyond the limit
@@ -48,11 +48,6 @@ blocks_in extent [] = 0
 blocks_in extent (i ∷ is) = length (offsets extent i) + blocks_in extent is
 
 module _ (extent : ℕ → Extent) where
-  -- a joined item has the blocks of both
-  joined-length : (d : Direction) (l r : Item) → length (offsets extent (item_in d l r)) ≡ length (offsets extent l) + length (offsets extent r)
-  joined-length Beside l r = length-append (offsets extent l) (map (moved_right (item_extent extent l)) (offsets extent r)) ∙ ap (λ n. length (offsets extent l) + n) (length-map (offsets extent r) (moved_right (item_extent extent l)))
-  joined-length Above l r = length-append (offsets extent l) (map (moved_up (item_extent extent l)) (offsets extent r)) ∙ ap (λ n. length (offsets extent l) + n) (length-map (offsets extent r) (moved_up (item_extent extent l)))
-
   -- the items that tokens leave have no more blocks than the items before, and the tokens, have
   read-few : (items : List Item) (xs : List Token) → blocks_in extent (read items xs) ≤ blocks_in extent items + length (numbers xs)
   read-few items [] = omega arith
@@ -60,10 +55,10 @@ module _ (extent : ℕ → Extent) where
   read-few (i ∷ items) (token.Block b ∷ xs) = omega (arith, read-few (item.Block b ∷ i ∷ items) xs)
   read-few [] (token.Beside ∷ xs) = read-few [] xs
   read-few (i ∷ []) (token.Beside ∷ xs) = read-few (i ∷ []) xs
-  read-few (r ∷ l ∷ items) (token.Beside ∷ xs) = omega (arith, read-few (item.Beside l r ∷ items) xs, joined-length Beside l r)
+  read-few (r ∷ l ∷ items) (token.Beside ∷ xs) = omega (arith, read-few (item.Beside l r ∷ items) xs, joined-length extent Beside l r)
   read-few [] (token.Above ∷ xs) = read-few [] xs
   read-few (i ∷ []) (token.Above ∷ xs) = read-few (i ∷ []) xs
-  read-few (r ∷ l ∷ items) (token.Above ∷ xs) = omega (arith, read-few (item.Above l r ∷ items) xs, joined-length Above l r)
+  read-few (r ∷ l ∷ items) (token.Above ∷ xs) = omega (arith, read-few (item.Above l r ∷ items) xs, joined-length extent Above l r)
 
 -- no item of a subproblem has more blocks than a design
 pub item-few : (design : Design) (node : Parts) (k : ℕ) (i : Item) (rest : List Item) → IsSubproblem design node → items_at node.tokens k ≡ i ∷ rest → length (offsets (whole_extent design) i) ≤ 320
@@ -143,46 +138,23 @@ block-pushed design node cells blocks start frames new b x d w below end sub m n
     } in
     subst (AreStored design node.tokens cells blocks start) (sym is_new) (frame-pushed design node.tokens cells blocks start frames f m next is is_end)
 
--- the frames of both items on top are there
-pub record AreThere (frames : List NetFrame) (d : NetFrame) : Type 0 where
-  pub some : 1 ≤ length frames
-  pub under : 1 ≤ (get_or frames (length frames - 1) d).below
-  pub fewer : (get_or frames (length frames - 1) d).below ≤ length frames
+-- a frame says on how many tokens its item lies
+frame-lies : (design : Design) (tokens : List Token) (cells : List Cell) (first k : ℕ) (f : NetFrame) → IsNetFrame design tokens cells first k f → LiesOn tokens k f.below
+frame-lies design tokens cells first k f m = record { item = m.item; top = m.top; fewer = m.fewer }
 
 module _ (design : Design) (node : Parts) (cells : List Cell) (blocks : List BlockRow) (start : Wires) (frames : List NetFrame) (way : Direction) (sub : IsSubproblem design node) (m : AreStored design node.tokens cells blocks start frames) (next : IsNext node.tokens (length frames) (token_in way)) where
-  -- before an operator there is a frame
-  pub some-frame : 1 ≤ length frames
-  some-frame = none-first node.tokens (length frames) (omega (arith, two-at design node (length frames) way sub next))
-
-  -- the last frame is that of the item on top
-  right-at : (d : NetFrame) → IsNetFrame design node.tokens cells (first_end design start) (length frames) (get_or frames (length frames - 1) d)
-  right-at d =
-      let r = get_or frames (length frames - 1) d in
-      let k : length frames - 1 + 1 ≡ length frames = omega (arith, some-frame) in
-      subst (λ v. IsNetFrame design node.tokens cells (first_end design start) v r) k (m.frames_are.each (length frames - 1) d (omega (arith, some-frame)))
-
-  -- both items on top have frames
-  pub there : (d : NetFrame) → AreThere frames d
-  there d =
-      let r = right-at d in
-      let two = two-at design node (length frames) way sub next in
-      record {
-        some = some-frame;
-        under = none-first node.tokens (get_or frames (length frames - 1) d).below (omega (arith, two, ap length r.top));
-        fewer = omega (arith, r.fewer);
-      }
+  -- the frames of both items on top are there
+  there : (d : NetFrame) → AreThere NetFrame (λ f. f.below) frames d
+  there =
+      pair-there NetFrame (λ f. f.below) (IsNetFrame design node.tokens cells (first_end design start)) design node frames way
+      (frame-lies design node.tokens cells (first_end design start)) m.frames_are.each sub next
 
   -- the last frame, and that of the item under it, are those of the two items on top
-  pub top-at : (d e : NetFrame) → AreTop design node.tokens cells start frames (get_or frames ((get_or frames (length frames - 1) d).below - 1) e) (get_or frames (length frames - 1) d)
+  top-at : (d e : NetFrame) → AreTop design node.tokens cells start frames (get_or frames ((get_or frames (length frames - 1) d).below - 1) e) (get_or frames (length frames - 1) d)
   top-at d e =
-      let r = get_or frames (length frames - 1) d in
-      let l = get_or frames (r.below - 1) e in
-      let t = there d in
-      let k : r.below - 1 + 1 ≡ r.below = omega (arith, t.under) in
-      record {
-        right = right-at d;
-        left = subst (λ v. IsNetFrame design node.tokens cells (first_end design start) v l) k (m.frames_are.each (r.below - 1) e (omega (arith, t.under, t.fewer)));
-      }
+      let p = pair-are NetFrame (λ f. f.below) (IsNetFrame design node.tokens cells (first_end design start)) design node frames way
+      (frame-lies design node.tokens cells (first_end design start)) m.frames_are.each sub next d e in
+      record { right = p.0; left = p.1 }
 
   -- a frame that was read at the last place is the last one
   right-same : (i : ℕ) (r : NetFrame) → i ≡ length frames - 1 → r ≡ get_or frames i r → get_or frames (length frames - 1) r ≡ r

@@ -1,5 +1,5 @@
 -- The loop that joins two rows.
-use Rattle.std.proofs.Common.{◌≡◌, ℕ, ◌+◌, ◌<◌, List, [], ◌∷◌, ◌++◌, length, map, get_or, sym, ap, ◌∙◌, arith, All, append_assoc}
+use Rattle.std.proofs.Common.{◌≡◌, ℕ, ◌+◌, ◌<◌, List, [], ◌∷◌, ◌++◌, length, map, get_or, sym, ap, ◌∙◌, subst, arith, All, append_assoc}
 use Rattle.std.specs.List.{range_with_len}
 use Rattle.std.proofs.lemmas.List.{get_or_append_left, get_or_default}
 use Rattle.std.proofs.lemmas.List.FromFn.{map-range_with_len_more}
@@ -17,6 +17,10 @@ read-old old made cur i x e lt is =
 -- if all cells fit, the cell at each place does
 pub cell-fits : (cells : List Cell) (i : ℕ) → All IsFitCell cells → i < length cells → IsFitCell (cell_at cells i)
 cell-fits cells i fit lt = fit i (record { reach = anywhere; part = 0; hull = 0 }) lt
+
+-- such a cell fits, where all that were there do
+pub old-fits : (old made cur : List Cell) (i : ℕ) (x : Cell) → All IsFitCell old → cur ≡ old ++ made → i < length old → x ≡ get_or cur i x → IsFitCell x
+old-fits old made cur i x fit e lt is = subst IsFitCell (sym (read-old old made cur i x e lt is)) (cell-fits old i fit lt)
 
 -- the cell that was made from three that were there
 pub joined-is : (old : List Cell) (d : Direction) (e : Extent) (left right under j : ℕ) (l r u c : Cell) → l ≡ cell_at old (left + j) → r ≡ cell_at old (right + j) → u ≡ cell_at old (under + j) → c ≡ cell_of d e l r u → c ≡ joined_cell old d e left right under j

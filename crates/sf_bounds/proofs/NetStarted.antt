@@ -1,5 +1,5 @@
 -- The rows of blocks, and what holds before any token.
-use Rattle.std.proofs.Common.{◌≡◌, ℕ, ◌+◌, ◌-◌, ◌*◌, ◌<◌, ◌≤◌, max, List, [], ◌∷◌, ◌++◌, length, take, map, get_or, refl, sym, ap, ◌∙◌, subst, inl, inr, arith, length-append, append-nil, All, Bool, true, false}
+use Rattle.std.proofs.Common.{◌≡◌, ℕ, ◌+◌, ◌-◌, ◌*◌, ◌<◌, ◌≤◌, max, List, [], ◌∷◌, ◌++◌, length, take, map, get_or, refl, sym, ap, ◌∙◌, subst, inl, inr, arith, length-append, All, Bool, true, false}
 use Rattle.std.specs.Prelude.{fold, pos, nat_lt, cond, if◌then◌else◌, sum_by}
 use Rattle.std.specs.List.{AllByRecursion}
 use Rattle.std.proofs.lemmas.Int.{ints, clamps}
@@ -30,9 +30,9 @@ use Rattle.sf_bounds.specs.Pins.{IsNet, pad_reach}
 use Rattle.sf_bounds.specs.Rows.{counted, of_weight, weighed_nets, pins_at, whole_extent, row, with_pad, pads_share, part, own_reach, cell_at, block_cell, start_cell, IsFitCell, IsRow, AreBlockRows, AreStored}
 use Rattle.sf_bounds.proofs.NetKept.{row-moves}
 use Rattle.sf_bounds.proofs.NetPushed.{whole-small}
-use Rattle.sf_bounds.proofs.Reading.{near_pad, near_met, near_anywhere}
+use Rattle.sf_bounds.proofs.PinLoops.{near_pad, near_met, near_anywhere}
 use Rattle.sf_bounds.proofs.RowLaws.{row-near, homes-x, homes-y}
-use Rattle.sf_bounds.proofs.Weights.{one-counts, one-free, sum-of_weight}
+use Rattle.sf_bounds.proofs.Weights.{one-counts, sum-of_weight}
 use Rattle.sf_bounds.proofs.Shares.{interval}
 
 -- what the own pins of a block share

@@ -1,5 +1,5 @@
 -- What the wires take after all tokens.
-use Rattle.std.proofs.Common.{◌≡◌, ℕ, ◌+◌, ◌-◌, ◌*◌, ◌<◌, ◌≤◌, max, List, [], ◌∷◌, length, take, get_or, refl, sym, ap, ◌∙◌, arith, true, false}
+use Rattle.std.proofs.Common.{◌≡◌, ℕ, ◌+◌, ◌-◌, ◌*◌, ◌<◌, ◌≤◌, max, List, [], ◌∷◌, length, take, get_or, refl, sym, ap, ◌∙◌, subst, arith, All, true, false}
 use Rattle.std.specs.Prelude.{nat_lt, sum_by, if◌then◌else◌}
 use Rattle.std.proofs.lemmas.List.{take_all, get_or_default}
 use Rattle.std.proofs.lemmas.List.Elements.{recursion_from_All}
@@ -27,11 +27,12 @@ use Rattle.sf_bounds.specs.declared.net_frame.Wires.{Wires}
 use Rattle.sf_bounds.specs.declared.reach.Reach.{Reach}
 use Rattle.sf_bounds.specs.Near.{anywhere, met, reach_gap}
 use Rattle.sf_bounds.specs.Pins.{IsNet}
-use Rattle.sf_bounds.specs.Rows.{counted, weighed_nets, weights_of, pins_at, whole_extent, row, part, pads_share, joined_reach, cell_at, AreWires, AreStored, AreTop}
+use Rattle.sf_bounds.specs.Rows.{counted, weighed_nets, weights_of, pins_at, whole_extent, row, part, pads_share, joined_reach, cell_at, IsFitCell, AreWires, AreStored, AreTop}
 use Rattle.sf_bounds.proofs.NetPushed.{whole-small, item-few, top-items, row-is}
+use Rattle.sf_bounds.proofs.NetRows.{cell-fits}
 use Rattle.sf_bounds.proofs.NetStarted.{no-hull, no-hulls, near-pads, IsThere}
 use Rattle.sf_bounds.proofs.RowLaws.{row-pads}
-use Rattle.sf_bounds.proofs.Weights.{sum-of_weight, weight-at, weighed-inside}
+use Rattle.sf_bounds.proofs.Weights.{sum-of_weight, length-weights, weight-at, weighed-inside}
 
 -- a net's part with the whole span of each block
 net-whole : (design : Design) (node : Parts) (net : Net) → IsSubproblem design node → length node.steps ≡ length node.tokens → net_part design node net ≡ (if nat_lt (length net.pins) 2 then 0 else max (range_part design (whole_extent design) net.pins) (max (pair_part (whole_extent design) net.pins) (hull_part design (whole_extent design) (is_complete node) (items_of node) net.pins)))
@@ -124,6 +125,14 @@ closed-part design node net i sub whole complete one few inside =
 -- what is read within the list is the cell at that place
 pub read-cell : (cells : List Cell) (i : ℕ) (x : Cell) → x ≡ get_or cells i x → i < length cells → x ≡ cell_at cells i
 read-cell cells i x is lt = is ∙ get_or_default cells i x (record { reach = anywhere; part = 0; hull = 0 }) lt
+
+-- such a cell fits, where all cells do
+pub read-fits : (cells : List Cell) (i : ℕ) (x : Cell) → All IsFitCell cells → x ≡ get_or cells i x → i < length cells → IsFitCell x
+read-fits cells i x fit is lt = subst IsFitCell (sym (read-cell cells i x is lt)) (cell-fits cells i fit lt)
+
+-- a place in the list of weights is that of a net that counts
+pub counts-there : (design : Design) (weights : List ℕ) (j : ℕ) → weights ≡ weights_of design.nets → j < length weights → j < length (weighed_nets design)
+counts-there design weights j are lt = omega (arith, lt, ap length are, length-weights design.nets)
 
 -- the last operator makes the one item of a complete subproblem
 module _ (design : Design) (node : Parts) (cells : List Cell) (blocks : List BlockRow) (start : Wires) (frames : List NetFrame) (d : Direction) (l r : NetFrame) (sub : IsSubproblem design node) (m : AreStored design node.tokens cells blocks start frames) (next : IsNext node.tokens (length frames) (token_in d)) (t : AreTop design node.tokens cells start frames l r) (whole : length node.steps ≡ length node.tokens) (all : length frames ≡ length node.tokens - 1) (complete : is_complete node ≡ true) where

@@ -17,7 +17,7 @@ use Rattle.sf_node.proofs.Reached.{subproblem-spans}
 use Rattle.sf_bounds.specs.Cheapest.{IsPlanOf}
 use Rattle.sf_bounds.specs.Layout.{Tells}
 use Rattle.sf_bounds.specs.Only.{first_shape}
-use Rattle.sf_bounds.proofs.Alone.{alone}
+use Rattle.sf_bounds.proofs.OnlyPlan.{alone}
 
 -- the first shapes of the spans of n blocks, listed by number, tell each block's
 first-shapes : (design : Design) (node : Parts) (n : ℕ) → Tells (first_shape design node) n (map (first_shape design node) (range_with_len 0 n))

@@ -14,7 +14,7 @@ use Rattle.sf_standard.specs.Standard.{greatest}
 use Rattle.sf_bounds.specs.declared.layout.Standing.{Standing}
 use Rattle.sf_bounds.specs.declared.pins.Pair.{Pair}
 use Rattle.sf_bounds.specs.Pins.{IsNet, IsReady, standing_at, paired, pairs_pin, no_pair, paired_sides}
-use Rattle.sf_bounds.proofs.Reading.{standing_ready}
+use Rattle.sf_bounds.proofs.PinLoops.{standing_ready}
 
 -- the greatest of some numbers, where there is one
 abbrev most_of : List ℕ → Option ℕ

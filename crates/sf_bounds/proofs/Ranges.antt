@@ -13,7 +13,7 @@ use Rattle.sf_bounds.specs.declared.reach.Reach.{Reach}
 use Rattle.sf_bounds.specs.Near.{IsNear, shared, met, anywhere, reach_gap}
 use Rattle.sf_bounds.specs.Pins.{IsNet, IsReady, pin_range, shared_ranges}
 use Rattle.sf_bounds.proofs.Meeting.{gap-shared}
-use Rattle.sf_bounds.proofs.Reading.{near_range}
+use Rattle.sf_bounds.proofs.PinLoops.{near_range}
 
 module _ (design : Design) (table : List Standing) where
   -- where the pins lie across

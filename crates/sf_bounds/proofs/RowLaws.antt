@@ -24,7 +24,7 @@ use Rattle.sf_bounds.specs.Rows.{row, with_pad, pads_share, pushed, pushed_reach
 use Rattle.sf_bounds.proofs.Meeting.{gap-shared}
 use Rattle.sf_bounds.proofs.Shares.{interval, moved, IsHome, home-near, share-append, share-moved, near-share}
 use Rattle.sf_standard.proofs.Sides.{IsSmallExtent}
-use Rattle.sf_bounds.proofs.Small.{IsSmallOffset, offsets-small}
+use Rattle.sf_bounds.proofs.ModestExtents.{IsSmallOffset, offsets-small}
 
 -- the places of the pins' blocks in two lists together are those in the first and then those in the second
 pins-append : (pins : List Pin) (xs ys : List Offset) → of_pins pins (xs ++ ys) ≡ of_pins pins xs ++ of_pins pins ys

@@ -11,7 +11,7 @@ ghost use Rattle.sf_node.specs.Later.{IsChildOf};
 ghost use Rattle.sf_bounds.specs.Serving.{MayServe};
 
 use crate::children::{Valued, keeps_value};
-use crate::parts::{all_values, part_value, wired_value};
+use crate::parts::{all_values, part_value};
 use crate::room::Room;
 use sf_model::Design;
 use sf_node::{Node, Part, PartValues, Values};
@@ -145,7 +145,7 @@ impl Bounds for Standard {
         node: &Node,
         room: &mut Room<'a>,
     ) -> Result<u64, NoMemory> {
-        wired_value(room, design, node, Part::Full)
+        part_value(room, design, node, Part::Full)
     }
 
     fn child_bound<'a>(

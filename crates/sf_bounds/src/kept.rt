@@ -34,7 +34,7 @@ impl<'a> Kept<'a> {
     {
         Kept {
             frames: Frames::new(alloc, design),
-            nets: NetFrames::new(alloc, design),
+            nets: NetFrames::new(design),
         }
     }
 }

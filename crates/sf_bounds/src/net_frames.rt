@@ -7,17 +7,16 @@ ghost use Rattle.sf_standard.specs.Standard.{wires_by};
 ghost use Rattle.sf_bounds.specs.Open.{AreWireParts};
 ghost use Rattle.sf_bounds.specs.Rows.{AreKeptOrNone, AreFirst, IsEnding, framed, changed};
 
-use crate::layout::Layout;
 use crate::net_back::back_to;
 use crate::net_frame::{Changing, Ending, Nets};
 use crate::net_push::extend;
 use crate::net_start::start;
 use crate::net_total::{ending_of, framed, steady_sums, total_by, total_parts};
-use crate::reach::Reach;
+use crate::scratch::Scratch;
 use crate::wire_parts::WireParts;
 use sf_model::Design;
 use sf_node::{Node, Part};
-use std::alloc::{AllocError as NoMemory, Global};
+use std::alloc::AllocError as NoMemory;
 use std::marker::Model;
 
 /// How many cells are kept at most.
@@ -27,7 +26,6 @@ const MOST_CELLS: usize = 1_000_000;
 #[derive(Drop)]
 pub struct NetFrames<'a> {
     design: &'a Design,
-    alloc: Global,
     kept: Option<Nets>,
 }
 
@@ -46,18 +44,12 @@ impl<'a> Model for NetFrames<'a> {
 /// Makes what holds before any token, which is done once for a design. It stands apart from what is done at
 /// each subproblem.
 #[inline(never)]
-fn begin(
-    kept: &mut Option<Nets>,
-    alloc: Global,
-    layout: &mut Layout,
-    reaches: &mut Vec<Reach>,
-    design: &Design,
-) -> Result<(), NoMemory>
+fn begin(kept: &mut Option<Nets>, scratch: &mut Scratch, design: &Design) -> Result<(), NoMemory>
     requires kept { AreKeptOrNone design.now kept.old }
     ensures kept { AreKeptOrNone design.now kept.new }
     ensures some { OnOk result (is_some kept.new ≡ true) }
 {
-    let nets = start(alloc, layout, reaches, design)?;
+    let nets = start(scratch, design)?;
     *kept = Some(nets);
     Ok(())
 }
@@ -65,13 +57,7 @@ fn begin(
 /// Makes what holds before any token, where it is not there yet. The answer is no where the rows of a path
 /// may need too many cells: a row for each block, one for each operator, and one before any token.
 #[inline(always)]
-fn fill(
-    kept: &mut Option<Nets>,
-    alloc: Global,
-    layout: &mut Layout,
-    reaches: &mut Vec<Reach>,
-    design: &Design,
-) -> Result<bool, NoMemory>
+fn fill(kept: &mut Option<Nets>, scratch: &mut Scratch, design: &Design) -> Result<bool, NoMemory>
     requires kept { AreKeptOrNone design.now kept.old }
     ensures kept { AreKeptOrNone design.now kept.new }
     ensures some { IfOk result (λ fits. fits ≡ true → is_some kept.new ≡ true) }
@@ -80,7 +66,7 @@ fn fill(
         return Ok(false);
     }
     if kept.is_none() {
-        begin(kept, alloc, layout, reaches, design)?;
+        begin(kept, scratch, design)?;
     }
     Ok(true)
 }
@@ -90,9 +76,7 @@ fn fill(
 #[inline(always)]
 fn follow(
     kept: &mut Option<Nets>,
-    alloc: Global,
-    layout: &mut Layout,
-    reaches: &mut Vec<Reach>,
+    scratch: &mut Scratch,
     design: &Design,
     node: &Node,
 ) -> Result<Option<Ending>, NoMemory>
@@ -106,7 +90,7 @@ fn follow(
     let Some(ending) = ending_of(node) else {
         return Ok(None);
     };
-    if !fill(kept, alloc, layout, reaches, design)? {
+    if !fill(kept, scratch, design)? {
         return Ok(None);
     }
     let Some(nets) = kept else { unreachable!() };
@@ -118,22 +102,17 @@ fn follow(
 
 impl<'a> NetFrames<'a> {
     /// No frame yet.
-    pub fn new(alloc: Global, design: &'a Design) -> NetFrames<'a>
+    pub fn new(design: &'a Design) -> NetFrames<'a>
         ensures { result ≡ design.now }
     {
-        NetFrames {
-            design,
-            alloc,
-            kept: None,
-        }
+        NetFrames { design, kept: None }
     }
 
     /// What the wires of a subproblem take at least by each part of the bound, whose spans are whole. Or
     /// none, where the rows of a path may need too many cells, or one block is all there is.
     pub fn measure(
         &mut self,
-        layout: &mut Layout,
-        reaches: &mut Vec<Reach>,
+        scratch: &mut Scratch,
         node: &Node,
     ) -> Result<Option<WireParts>, NoMemory>
         requires subproblem { IsSubproblem self.old node.now }
@@ -142,7 +121,7 @@ impl<'a> NetFrames<'a> {
         ensures same { self.new ≡ self.old }
     {
         let design = self.design;
-        let Some(ending) = follow(&mut self.kept, self.alloc, layout, reaches, design, node)? else {
+        let Some(ending) = follow(&mut self.kept, scratch, design, node)? else {
             return Ok(None);
         };
         let Some(nets) = &self.kept else {
@@ -154,8 +133,7 @@ impl<'a> NetFrames<'a> {
     /// The sums of the ranges and of the pairs, for which no frame is needed.
     fn measure_steady(
         &mut self,
-        layout: &mut Layout,
-        reaches: &mut Vec<Reach>,
+        scratch: &mut Scratch,
         node: &Node,
     ) -> Result<Option<(u64, u64)>, NoMemory>
         requires subproblem { IsSubproblem self.old node.now }
@@ -167,7 +145,7 @@ impl<'a> NetFrames<'a> {
         ensures same { self.new ≡ self.old }
     {
         let design = self.design;
-        if !fill(&mut self.kept, self.alloc, layout, reaches, design)? {
+        if !fill(&mut self.kept, scratch, design)? {
             return Ok(None);
         }
         let Some(nets) = &self.kept else {
@@ -180,8 +158,7 @@ impl<'a> NetFrames<'a> {
     #[inline(always)]
     fn measure_changing(
         &mut self,
-        layout: &mut Layout,
-        reaches: &mut Vec<Reach>,
+        scratch: &mut Scratch,
         node: &Node,
         part: Changing,
     ) -> Result<Option<u64>, NoMemory>
@@ -192,7 +169,7 @@ impl<'a> NetFrames<'a> {
         ensures same { self.new ≡ self.old }
     {
         let design = self.design;
-        let Some(ending) = follow(&mut self.kept, self.alloc, layout, reaches, design, node)? else {
+        let Some(ending) = follow(&mut self.kept, scratch, design, node)? else {
             return Ok(None);
         };
         let Some(nets) = &self.kept else {
@@ -205,8 +182,7 @@ impl<'a> NetFrames<'a> {
     /// in the same cases.
     pub fn measure_part(
         &mut self,
-        layout: &mut Layout,
-        reaches: &mut Vec<Reach>,
+        scratch: &mut Scratch,
         node: &Node,
         part: Part,
     ) -> Result<Option<u64>, NoMemory>
@@ -218,16 +194,16 @@ impl<'a> NetFrames<'a> {
     {
         match part {
             Part::Area => Ok(None),
-            Part::Range => match self.measure_steady(layout, reaches, node)? {
+            Part::Range => match self.measure_steady(scratch, node)? {
                 Some((range, _)) => Ok(Some(range)),
                 None => Ok(None),
             },
-            Part::Pair => match self.measure_steady(layout, reaches, node)? {
+            Part::Pair => match self.measure_steady(scratch, node)? {
                 Some((_, pair)) => Ok(Some(pair)),
                 None => Ok(None),
             },
-            Part::Hull => self.measure_changing(layout, reaches, node, Changing::Hull),
-            Part::Full => self.measure_changing(layout, reaches, node, Changing::Full),
+            Part::Hull => self.measure_changing(scratch, node, Changing::Hull),
+            Part::Full => self.measure_changing(scratch, node, Changing::Full),
         }
     }
 }

@@ -18,7 +18,8 @@ use crate::net_frame::{BlockRow, Cell, Nets, Wires};
 use crate::one_part::net_by;
 use crate::pins::pad_reach;
 use crate::reach::{ANYWHERE, Reach};
-use crate::wires::{fill_layout, fill_reaches, weighed};
+use crate::scratch::Scratch;
+use crate::wires::{prepare, weighed};
 use crate::wires_by::all_wires;
 use sf_model::{Design, Net, Pin};
 use sf_node::{Node, Part};
@@ -218,23 +219,24 @@ fn push_start(
 }
 
 /// The rows of all blocks, and the wires before any token.
-pub fn start(
-    alloc: Global,
-    layout: &mut Layout,
-    reaches: &mut Vec<Reach>,
-    design: &Design,
-) -> Result<Nets, NoMemory>
+pub fn start(scratch: &mut Scratch, design: &Design) -> Result<Nets, NoMemory>
     ensures { IfOk result (AreKept design.now []) }
 {
+    let alloc = scratch.alloc;
     let node = Node::root(alloc, design)?;
-    let parts = all_wires(layout, reaches, design, &node)?;
-    fill_layout(layout, design, &node)?;
-    fill_reaches(reaches, layout.held.len())?;
+    let parts = all_wires(scratch, design, &node)?;
+    prepare(scratch, design, &node)?;
     let weights = weights_of(alloc, design.nets.as_slice())?;
     let mut cells = Vec::new(alloc);
-    let blocks = push_block_rows(&mut cells, alloc, design, &layout.extents)?;
+    let blocks = push_block_rows(&mut cells, alloc, design, &scratch.layout.extents)?;
     let at = cells.len();
-    let sum = push_start(&mut cells, reaches, design, &node, layout)?;
+    let sum = push_start(
+        &mut cells,
+        &mut scratch.reaches,
+        design,
+        &node,
+        &scratch.layout,
+    )?;
     Ok(Nets {
         cells,
         blocks,

@@ -2,7 +2,6 @@
 
 ghost use Rattle.std.specs.Prelude.{◌≡◌, ◌≤◌, ◌*◌, ◌^◌, Some, IfOk};
 ghost use Rattle.sf_node.specs.Children.{IsSubproblem};
-ghost use Rattle.sf_node.specs.declared.part.Part.TheVariants.{Area};
 ghost use Rattle.sf_node.specs.ByPart.{AreValues};
 ghost use Rattle.sf_standard.specs.Standard.{standard, part_value, wires_by, AllHavePlans};
 ghost use Rattle.sf_bounds.specs.Open.{AreWireParts, AreWireCosts};
@@ -33,12 +32,12 @@ fn wires_of(
     ensures serves { nets.new ≡ design.now }
 {
     if node.steps().len() == node.tokens().len() {
-        let measured = nets.measure(&mut scratch.layout, &mut scratch.reaches, node)?;
+        let measured = nets.measure(scratch, node)?;
         if let Some(wires) = measured {
             return Ok(wires);
         }
     }
-    let wires = all_wires(&mut scratch.layout, &mut scratch.reaches, design, node)?;
+    let wires = all_wires(scratch, design, node)?;
     Ok(wires)
 }
 
@@ -84,23 +83,19 @@ fn wires_of_part(
     ensures serves { nets.new ≡ design.now }
 {
     if node.steps().len() == node.tokens().len() {
-        let measured = nets.measure_part(&mut scratch.layout, &mut scratch.reaches, node, part)?;
+        let measured = nets.measure_part(scratch, node, part)?;
         if let Some(wires) = measured {
             return Ok(wires);
         }
     }
-    let wires = wires_by(
-        &mut scratch.layout,
-        &mut scratch.reaches,
-        design,
-        node,
-        part,
-    )?;
+    let wires = wires_by(scratch, design, node, part)?;
     Ok(wires)
 }
 
 /// What the wires cost by one part of the bound alone, where each item and each unused block has a plan in
-/// the outline. They are not looked at where they have no weight.
+/// the outline. They are not looked at where they have no weight. It stands apart, so that a leaf which asks
+/// for the area alone pays nothing for what the wires need.
+#[inline(never)]
 fn wire_cost(
     nets: &mut NetFrames,
     scratch: &mut Scratch,
@@ -180,27 +175,9 @@ pub fn all_alike(value: u64) -> PartValues
     }
 }
 
-/// What the area alone costs, or the mark of no cost.
-fn area_value<'a>(room: &mut Room<'a>, design: &'a Design, node: &Node) -> Result<u64, NoMemory>
-    requires subproblem { IsSubproblem design.now node.now }
-    requires serves { MayServe room.old design.now }
-    ensures value { IfOk result (λ v. v ≡ part_value design.now node.now Area) }
-    ensures serves { room.new ≡ Some design.now }
-{
-    room.serve(design);
-    let Some(kept) = &mut room.kept else {
-        unreachable!()
-    };
-    let Some(area) = area_cost(&mut kept.frames, &mut room.scratch, design, node)? else {
-        return Ok(MAX);
-    };
-    Ok(area)
-}
-
-/// What the area and the wires cost by one part alone, or the mark of no cost. It stands apart, so that a
-/// leaf which asks for the area alone pays nothing for what the wires need.
-#[inline(never)]
-pub fn wired_value<'a>(
+/// The value of one part, measured without the others: what the area and the wires cost by it, or the mark of
+/// no cost. That of the area looks at no net.
+pub fn part_value<'a>(
     room: &mut Room<'a>,
     design: &'a Design,
     node: &Node,
@@ -219,24 +196,11 @@ pub fn wired_value<'a>(
     let Some(area) = area_cost(&mut kept.frames, &mut room.scratch, design, node)? else {
         return Ok(MAX);
     };
-    let wires = wire_cost(&mut kept.nets, &mut room.scratch, design, node, part)?;
-    Ok(area + wires)
-}
-
-/// The value of one part, measured without the others. That of the area looks at no net.
-pub fn part_value<'a>(
-    room: &mut Room<'a>,
-    design: &'a Design,
-    node: &Node,
-    part: Part,
-) -> Result<u64, NoMemory>
-    requires subproblem { IsSubproblem design.now node.now }
-    requires serves { MayServe room.old design.now }
-    ensures value { IfOk result (λ v. v ≡ part_value design.now node.now part) }
-    ensures serves { room.new ≡ Some design.now }
-{
     match part {
-        Part::Area => area_value(room, design, node),
-        Part::Range | Part::Pair | Part::Hull | Part::Full => wired_value(room, design, node, part),
+        Part::Area => Ok(area),
+        Part::Range | Part::Pair | Part::Hull | Part::Full => {
+            let wires = wire_cost(&mut kept.nets, &mut room.scratch, design, node, part)?;
+            Ok(area + wires)
+        }
     }
 }

@@ -2,7 +2,7 @@
 
 ghost use Rattle.std.specs.Prelude.{◌≡◌, ◌*◌, max, IfOk};
 ghost use Rattle.sf_node.specs.Children.{IsSubproblem};
-ghost use Rattle.sf_frames.specs.Groups.{IsNeededOrNone};
+ghost use Rattle.sf_frames.specs.Groups.{IsNeeded, IsNeededOrNone};
 ghost use Rattle.sf_bounds.specs.Open.{IsAreaCostOrNone};
 
 use crate::area::area_part;
@@ -40,33 +40,20 @@ fn area_of_curves(
     Ok(area_part(&scratch.curves))
 }
 
-/// The area that the items and the unused blocks need, or none where one of them fits in no way: by the
-/// frames of the path where each span is whole and no more points are needed than are kept, else from curves
-/// that are made anew.
-fn needed_area(
-    frames: &mut Frames,
-    scratch: &mut Scratch,
-    design: &Design,
-    node: &Node,
-) -> Result<Option<u64>, NoMemory>
-    requires subproblem { IsSubproblem design.now node.now }
-    requires serves { frames.old ≡ design.now }
-    ensures needed { IfOk result (IsNeededOrNone design.now node.now) }
-    ensures serves { frames.new ≡ design.now }
+/// What this area costs, which the items and the unused blocks need; none where they have no room.
+fn cost_of(needed: u64, design: &Design, node: &Node) -> Option<u64>
+    requires { IsNeeded design.now node.now needed }
+    ensures { IsAreaCostOrNone design.now node.now result }
 {
-    if node.steps().len() == node.tokens().len() {
-        let measured = frames.measure(node)?;
-        match measured {
-            Measured::Takes(sums) => return Ok(Some(needed(sums))),
-            Measured::FitsInNoWay => return Ok(None),
-            Measured::TooLarge => {}
-        }
+    if needed > u64::from(design.outline.w) * u64::from(design.outline.h) {
+        return None;
     }
-    area_of_curves(scratch, design, node)
+    Some(u64::from(design.weights.area) * needed)
 }
 
 /// What the area costs at least that the items and the unused blocks need; none where one of them fits in
-/// no way, or they have no room.
+/// no way, or they have no room. It is measured by the frames of the path where each span is whole and no
+/// more points are needed than are kept, else from curves that are made anew.
 pub fn area_cost(
     frames: &mut Frames,
     scratch: &mut Scratch,
@@ -78,11 +65,16 @@ pub fn area_cost(
     ensures cost { IfOk result (IsAreaCostOrNone design.now node.now) }
     ensures serves { frames.new ≡ design.now }
 {
-    let Some(needed) = needed_area(frames, scratch, design, node)? else {
+    if node.steps().len() == node.tokens().len() {
+        let measured = frames.measure(node)?;
+        match measured {
+            Measured::Takes(sums) => return Ok(cost_of(needed(sums), design, node)),
+            Measured::FitsInNoWay => return Ok(None),
+            Measured::TooLarge => {}
+        }
+    }
+    let Some(area) = area_of_curves(scratch, design, node)? else {
         return Ok(None);
     };
-    if needed > u64::from(design.outline.w) * u64::from(design.outline.h) {
-        return Ok(None);
-    }
-    Ok(Some(u64::from(design.weights.area) * needed))
+    Ok(cost_of(area, design, node))
 }

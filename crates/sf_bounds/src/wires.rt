@@ -11,6 +11,7 @@ use crate::laying::lay;
 use crate::layout::Layout;
 use crate::pins::{open_parts, whole_parts};
 use crate::reach::{ANYWHERE, Reach};
+use crate::scratch::Scratch;
 use crate::table::fill_table;
 use crate::wire_parts::{self, WireParts};
 use sf_model::{Design, Net};
@@ -18,7 +19,7 @@ use sf_node::Node;
 use std::alloc::AllocError as NoMemory;
 
 /// Lays a subproblem out.
-pub fn fill_layout(layout: &mut Layout, design: &Design, node: &Node) -> Result<(), NoMemory>
+fn fill_layout(layout: &mut Layout, design: &Design, node: &Node) -> Result<(), NoMemory>
     requires { IsSubproblem design.now node.now }
     ensures { OnOk result (IsLayout design.now node.now layout.new) }
 {
@@ -34,7 +35,7 @@ pub fn fill_layout(layout: &mut Layout, design: &Design, node: &Node) -> Result<
 }
 
 /// Makes the list long enough for the items.
-pub fn fill_reaches(reaches: &mut Vec<Reach>, items: usize) -> Result<(), NoMemory>
+fn fill_reaches(reaches: &mut Vec<Reach>, items: usize) -> Result<(), NoMemory>
     requires { items < 2 ^ 63 }
     ensures { OnOk result (items ≤ length reaches.new.items) }
 {
@@ -81,16 +82,12 @@ pub fn weighed(weight: u8, part: u64) -> u64
 }
 
 /// Lays a subproblem out, with room for the reaches of its items.
-pub fn prepare(
-    layout: &mut Layout,
-    reaches: &mut Vec<Reach>,
-    design: &Design,
-    node: &Node,
-) -> Result<(), NoMemory>
+pub fn prepare(scratch: &mut Scratch, design: &Design, node: &Node) -> Result<(), NoMemory>
     requires { IsSubproblem design.now node.now }
-    ensures layout { OnOk result (IsLayout design.now node.now layout.new) }
-    ensures sized { OnOk result (length layout.new.held.items ≤ length reaches.new.items) }
+    ensures layout { OnOk result (IsLayout design.now node.now scratch.new.layout) }
+    ensures sized { OnOk result
+        (length scratch.new.layout.held.items ≤ length scratch.new.reaches.items) }
 {
-    fill_layout(layout, design, node)?;
-    fill_reaches(reaches, layout.held.len())
+    fill_layout(&mut scratch.layout, design, node)?;
+    fill_reaches(&mut scratch.reaches, scratch.layout.held.len())
 }

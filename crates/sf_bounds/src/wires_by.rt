@@ -9,6 +9,7 @@ ghost use Rattle.sf_bounds.specs.Pins.{IsLayout};
 use crate::layout::Layout;
 use crate::one_part::net_by;
 use crate::reach::Reach;
+use crate::scratch::Scratch;
 use crate::wire_parts::{self, WireParts};
 use crate::wires::{net_parts, prepare, weighed};
 use sf_model::Design;
@@ -50,23 +51,17 @@ fn sum_by(reaches: &mut [Reach], design: &Design, node: &Node, layout: &Layout, 
 }
 
 /// What the wires of the nets are at least by each part of the bound.
-pub fn all_wires(
-    layout: &mut Layout,
-    reaches: &mut Vec<Reach>,
-    design: &Design,
-    node: &Node,
-) -> Result<WireParts, NoMemory>
+pub fn all_wires(scratch: &mut Scratch, design: &Design, node: &Node) -> Result<WireParts, NoMemory>
     requires { IsSubproblem design.now node.now }
     ensures { IfOk result (AreWireParts design.now node.now) }
 {
-    prepare(layout, reaches, design, node)?;
-    Ok(sum_parts(reaches, design, node, layout))
+    prepare(scratch, design, node)?;
+    Ok(sum_parts(&mut scratch.reaches, design, node, &scratch.layout))
 }
 
 /// What the wires of the nets are at least by one part of the bound.
 pub fn wires_by(
-    layout: &mut Layout,
-    reaches: &mut Vec<Reach>,
+    scratch: &mut Scratch,
     design: &Design,
     node: &Node,
     part: Part,
@@ -74,6 +69,6 @@ pub fn wires_by(
     requires { IsSubproblem design.now node.now }
     ensures { IfOk result (λ wires. wires ≡ wires_by design.now node.now part) }
 {
-    prepare(layout, reaches, design, node)?;
-    Ok(sum_by(reaches, design, node, layout, part))
+    prepare(scratch, design, node)?;
+    Ok(sum_by(&mut scratch.reaches, design, node, &scratch.layout, part))
 }

@@ -1,6 +1,6 @@
 use Rattle.std.proofs.Common.{◌≡◌, Bool, true, false, refl, sym, ◌∙◌}
 use Rattle.std.specs.Prelude.{not}
-use Rattle.sf_bounds.proofs.Born.{block_child}
+use Rattle.sf_bounds.proofs.Extended.{block_child}
 use Rattle.sf_bounds.proofs.children.keeps_value.Goals as goal
 
 not-true : (t : Bool) → not t ≡ true → t ≡ false

@@ -3,7 +3,7 @@ use Rattle.std.specs.Prelude.{fold}
 use Rattle.sf_standard.specs.Hull.{extent_of}
 use Rattle.sf_bounds.specs.Layout.{with_shape}
 use Rattle.sf_bounds.proofs.Folded.{extent_folded}
-use Rattle.sf_bounds.proofs.Reading.{fold_whole}
+use Rattle.sf_bounds.proofs.PinLoops.{fold_whole}
 use Rattle.sf_bounds.proofs.extents.extent_of.Goals as goal
 
 pub returns : goal.returns

@@ -1,5 +1,5 @@
 use Rattle.std.proofs.Common.{◌∙◌, length}
-use Rattle.sf_bounds.proofs.Reading.{gathered_near, gaps_same}
+use Rattle.sf_bounds.proofs.PinLoops.{gathered_near, gaps_same}
 use Rattle.sf_bounds.proofs.homes.hull_part.Goals as goal
 
 pub greatest_gap-requires-clause-near : goal.greatest_gap-requires-clause-near

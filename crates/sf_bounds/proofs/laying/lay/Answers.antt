@@ -1,5 +1,5 @@
 use Rattle.std.proofs.Common.{arith, sym, subst, take, drop, [], ◌+◌, ap, length}
-use Rattle.sf_bounds.proofs.Laid.{IsLaying, laying-begins, laying-modest, token-laid, laying-ends}
+use Rattle.sf_bounds.proofs.LaidTokens.{IsLaying, laying-begins, laying-modest, token-laid, laying-ends}
 use Rattle.sf_bounds.proofs.laying.lay.Goals as goal
 
 pub loop-token-init : goal.loop-token-init

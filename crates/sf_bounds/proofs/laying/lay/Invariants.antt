@@ -1,5 +1,5 @@
 use Rattle.std.proofs.Common.{take, drop}
-use Rattle.sf_bounds.proofs.Laid.{IsLaying}
+use Rattle.sf_bounds.proofs.LaidTokens.{IsLaying}
 use Rattle.sf_bounds.proofs.laying.lay.Given as goal
 
 abbrev pub invariant-loop-token : goal.invariant-loop-token

@@ -2,7 +2,7 @@ use Rattle.sf_bounds.specs.Near.{IsNearby}
 use Rattle.std.proofs.Common.{sym, ap, subst, ◌∙◌}
 use Rattle.sf_bounds.specs.declared.reach.Reach.{Reach}
 use Rattle.sf_bounds.specs.Near.{shared}
-use Rattle.sf_bounds.proofs.Reading.{near_met}
+use Rattle.sf_bounds.proofs.PinLoops.{near_met}
 use Rattle.sf_bounds.proofs.meet.met.Goals as goal
 
 pub returns-clause-near : goal.returns-clause-near

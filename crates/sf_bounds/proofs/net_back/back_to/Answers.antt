@@ -1,7 +1,8 @@
 use Rattle.std.proofs.Common.{◌≡◌, ◌≤◌, take, map, length, ap, subst, arith}
 use Rattle.std.proofs.lemmas.List.{length-take-le}
+use Rattle.sf_frames.proofs.Switching.{begins-same}
 use Rattle.sf_bounds.specs.Rows.{token_of}
-use Rattle.sf_bounds.proofs.NetKept.{no_frame, begins-same, stored-back}
+use Rattle.sf_bounds.proofs.NetKept.{no_frame, stored-back}
 use Rattle.sf_bounds.proofs.net_back.back_to.Goals as goal
 
 pub returns-clause-kept : goal.returns-clause-kept
@@ -10,7 +11,7 @@ returns-clause-kept c =
     let n = c.min-count.result in
     let fewer : n ≤ c.common.result = omega (arith, c.min-count.ensures) in
     let common = subst (λ v. take c.common.result (map token_of v) ≡ take c.common.result c.args.tokens.now) c.deref.ensures.value c.common.ensures.same in
-    let same = begins-same c.args.design.now (map token_of N.frames.items) c.args.tokens.now c.common.result common n fewer in
+    let same = begins-same (map token_of N.frames.items) c.args.tokens.now c.common.result common n fewer in
     record {
       weights = c.requires.weights;
       ranges = c.requires.ranges;

@@ -1,16 +1,15 @@
-use Rattle.std.proofs.Common.{◌-◌, arith}
-use Rattle.sf_bounds.proofs.NetPushed.{some-frame, top-right, top-both}
+use Rattle.std.proofs.Common.{◌-◌, length, arith}
+use Rattle.sf_frames.proofs.Topping.{some-first}
+use Rattle.sf_bounds.proofs.NetPushed.{top-right, top-both}
 use Rattle.sf_bounds.proofs.net_push.top_pair.Goals as goal
 
 pub overflow_sub-len : goal.overflow_sub-len
 overflow_sub-len c =
-    let N = c.args.nets.now in
-    omega (arith, c.len.ensures, some-frame c.args.design.now c.args.node.now N.cells.items N.blocks.items N.start N.frames.items c.args.direction c.requires.subproblem c.requires.kept.stored c.requires.next)
+    omega (arith, c.len.ensures, some-first c.args.design.now c.args.node.now (length c.args.nets.now.frames.items) c.args.direction c.requires.subproblem c.requires.next)
 
 pub index-right-requires : goal.index-right-requires
 index-right-requires c =
-    let N = c.args.nets.now in
-    omega (arith, c.len.ensures, some-frame c.args.design.now c.args.node.now N.cells.items N.blocks.items N.start N.frames.items c.args.direction c.requires.subproblem c.requires.kept.stored c.requires.next)
+    omega (arith, c.len.ensures, some-first c.args.design.now c.args.node.now (length c.args.nets.now.frames.items) c.args.direction c.requires.subproblem c.requires.next)
 
 pub overflow_sub-right : goal.overflow_sub-right
 overflow_sub-right c =

@@ -5,48 +5,25 @@ use Rattle.sf_bounds.specs.declared.net_frame.Cell.{Cell}
 use Rattle.sf_bounds.specs.Near.{IsNearby}
 use Rattle.sf_bounds.specs.Rows.{pushed_reach, joined_cell, weighed_cell, weighed_hull, IsFitCell}
 use Rattle.sf_bounds.proofs.Weights.{sum-more}
-use Rattle.sf_bounds.proofs.NetRows.{read-old, cell-fits, joined-is, row-more}
+use Rattle.sf_bounds.proofs.NetRows.{read-old, old-fits, joined-is, row-more}
 use Rattle.sf_bounds.proofs.net_rows.join_rows.Goals as goal
 
 pub joined_cell-cell-requires-clause-left : goal.joined_cell-cell-requires-clause-left
 joined_cell-cell-requires-clause-left c =
-    let old = c.args.cells.now.items in
-    let j = c.loop-net.net in
-    let f = joined_cell old c.args.direction c.args.by c.args.left c.args.right c.args.under in
-    let made = map f (range_with_len 0 j) in
-    let lt : j < length c.args.weights.now = c.loop-net-test.true in
-    let l = read-old old made c.loop-net.cells.items (c.args.left + j) c.index-of_left.result.now c.loop-net.invariant.row (omega (arith, lt, c.requires.left)) c.index-of_left.ensures in
-    subst IsFitCell (sym l) (cell-fits old (c.args.left + j) c.requires.fit (omega (arith, lt, c.requires.left)))
+    old-fits c.args.cells.now.items _ c.loop-net.cells.items (c.args.left + c.loop-net.net) c.index-of_left.result.now c.requires.fit c.loop-net.invariant.row (omega (arith, c.loop-net-test.true, c.requires.left)) c.index-of_left.ensures
 
 pub joined_cell-cell-requires-clause-right : goal.joined_cell-cell-requires-clause-right
 joined_cell-cell-requires-clause-right c =
-    let old = c.args.cells.now.items in
-    let j = c.loop-net.net in
-    let f = joined_cell old c.args.direction c.args.by c.args.left c.args.right c.args.under in
-    let made = map f (range_with_len 0 j) in
-    let lt : j < length c.args.weights.now = c.loop-net-test.true in
-    let r = read-old old made c.loop-net.cells.items (c.args.right + j) c.index-of_right.result.now c.loop-net.invariant.row (omega (arith, lt, c.requires.right)) c.index-of_right.ensures in
-    subst IsFitCell (sym r) (cell-fits old (c.args.right + j) c.requires.fit (omega (arith, lt, c.requires.right)))
+    old-fits c.args.cells.now.items _ c.loop-net.cells.items (c.args.right + c.loop-net.net) c.index-of_right.result.now c.requires.fit c.loop-net.invariant.row (omega (arith, c.loop-net-test.true, c.requires.right)) c.index-of_right.ensures
 
 pub joined_cell-cell-requires-clause-under : goal.joined_cell-cell-requires-clause-under
 joined_cell-cell-requires-clause-under c =
-    let old = c.args.cells.now.items in
-    let j = c.loop-net.net in
-    let f = joined_cell old c.args.direction c.args.by c.args.left c.args.right c.args.under in
-    let made = map f (range_with_len 0 j) in
-    let lt : j < length c.args.weights.now = c.loop-net-test.true in
-    let u = read-old old made c.loop-net.cells.items (c.args.under + j) c.index-below.result.now c.loop-net.invariant.row (omega (arith, lt, c.requires.under)) c.index-below.ensures in
-    subst IsFitCell (sym u) (cell-fits old (c.args.under + j) c.requires.fit (omega (arith, lt, c.requires.under)))
+    old-fits c.args.cells.now.items _ c.loop-net.cells.items (c.args.under + c.loop-net.net) c.index-below.result.now c.requires.fit c.loop-net.invariant.row (omega (arith, c.loop-net-test.true, c.requires.under)) c.index-below.ensures
 
 pub joined_cell-cell-requires-clause-moved : goal.joined_cell-cell-requires-clause-moved
 joined_cell-cell-requires-clause-moved c =
-    let old = c.args.cells.now.items in
-    let j = c.loop-net.net in
-    let f = joined_cell old c.args.direction c.args.by c.args.left c.args.right c.args.under in
-    let made = map f (range_with_len 0 j) in
-    let lt : j < length c.args.weights.now = c.loop-net-test.true in
-    let r = read-old old made c.loop-net.cells.items (c.args.right + j) c.index-of_right.result.now c.loop-net.invariant.row (omega (arith, lt, c.requires.right)) c.index-of_right.ensures in
-    subst (λ v. IsNearby (pushed_reach c.args.direction c.args.by v.reach)) (sym r) (c.requires.near j lt)
+    let r = read-old c.args.cells.now.items _ c.loop-net.cells.items (c.args.right + c.loop-net.net) c.index-of_right.result.now c.loop-net.invariant.row (omega (arith, c.loop-net-test.true, c.requires.right)) c.index-of_right.ensures in
+    subst (λ v. IsNearby (pushed_reach c.args.direction c.args.by v.reach)) (sym r) (c.requires.near c.loop-net.net c.loop-net-test.true)
 
 pub with_cell-wires-requires-clause-sums : goal.with_cell-wires-requires-clause-sums
 with_cell-wires-requires-clause-sums c =

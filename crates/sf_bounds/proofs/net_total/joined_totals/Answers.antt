@@ -7,7 +7,7 @@ use Rattle.sf_frames.specs.Direction.{token_in}
 use Rattle.sf_frames.specs.Kept.{IsNext}
 use Rattle.sf_bounds.specs.declared.net_frame.Cell.{Cell}
 use Rattle.sf_bounds.specs.Rows.{weighed_nets}
-use Rattle.sf_bounds.proofs.NetTotal.{read-cell, total-more, hull-total-more}
+use Rattle.sf_bounds.proofs.NetTotal.{read-cell, counts-there, total-more, hull-total-more}
 use Rattle.sf_bounds.proofs.Weights.{few-weighed, length-weights, sum-of_weight}
 use Rattle.sf_bounds.proofs.net_total.joined_totals.Goals as goal
 
@@ -33,7 +33,7 @@ loop-net-preserved c =
     let N = c.args.nets.now in
     let j = c.loop-net.net in
     let at : j < length N.weights.items = omega (arith, c.loop-net-test.true, c.len-net-end.ensures) in
-    let lt : j < length (weighed_nets D) = omega (arith, at, ap length c.requires.kept.weights, length-weights D.nets) in
+    let lt = counts-there D N.weights.items j c.requires.kept.weights at in
     let i = c.loop-net.invariant in
     let l = c.top_pair.result.0 in
     let r = c.top_pair.result.1 in

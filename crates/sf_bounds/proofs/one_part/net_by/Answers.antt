@@ -3,7 +3,7 @@ use Rattle.sf_standard.specs.Standard.{pins_by}
 use Rattle.sf_bounds.specs.Near.{reach_gap}
 use Rattle.sf_bounds.specs.Pins.{IsReady, IsReadable, shared_ranges, paired_sides, shared_homes, shared_in, greatest_gap}
 use Rattle.sf_bounds.proofs.NetParts.{range_counts, pair_counts, whole_counts, open_counts, ready_open}
-use Rattle.sf_bounds.proofs.Readied.{readied}
+use Rattle.sf_bounds.proofs.ReadyLayout.{readied}
 use Rattle.sf_bounds.proofs.one_part.net_by.Goals as goal
 
 pub pin_parts-requires-clause-ready : goal.pin_parts-requires-clause-ready

@@ -1,5 +1,5 @@
 use Rattle.sf_model.specs.Tree.{tree_of}
-use Rattle.sf_bounds.proofs.Alone.{few-leaves, has-sides}
+use Rattle.sf_bounds.proofs.OnlyPlan.{few-leaves, has-sides}
 use Rattle.sf_bounds.proofs.only_plan.fits.Goals as goal
 
 pub size-w-requires-clause-few : goal.size-w-requires-clause-few

@@ -5,7 +5,7 @@ use Rattle.sf_model.specs.Tree.{tree_of}
 use Rattle.sf_polish.specs.Normal.{IsNormal}
 use Rattle.sf_node.proofs.Normalised.{complete-normal}
 use Rattle.sf_node.proofs.Reached.{subproblem-spans}
-use Rattle.sf_bounds.proofs.Alone.{alone}
+use Rattle.sf_bounds.proofs.OnlyPlan.{alone}
 use Rattle.sf_bounds.proofs.only_plan.only_plan.Goals as goal
 
 pub plan_of-requires : goal.plan_of-requires

@@ -3,7 +3,7 @@ use Rattle.std.specs.Prelude.{IfSome}
 use Rattle.sf_bounds.specs.Near.{IsNearby, met, anywhere}
 use Rattle.sf_bounds.specs.Pins.{pin_range, pin_home, narrowed}
 use Rattle.sf_bounds.proofs.Pairing.{pairs_before}
-use Rattle.sf_bounds.proofs.Reading.{fold_whole, near_ranges, near_homes}
+use Rattle.sf_bounds.proofs.PinLoops.{fold_whole, near_ranges, near_homes}
 use Rattle.sf_bounds.proofs.pins.pin_parts.Goals as goal
 
 pub pair_pin-pair-requires-clause-most : goal.pair_pin-pair-requires-clause-most

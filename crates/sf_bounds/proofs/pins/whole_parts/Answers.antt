@@ -1,4 +1,3 @@
-use Rattle.std.proofs.Common.{arith, ap}
 use Rattle.sf_bounds.proofs.PartSums.{parts-small}
 use Rattle.sf_bounds.proofs.pins.whole_parts.Goals as goal
 

@@ -5,7 +5,7 @@ use Rattle.sf_curves.specs.Choices.{AreSpans, IsRootCurve, IsTraceOf}
 use Rattle.sf_curves.specs.Points.{area_of}
 use Rattle.sf_bounds.specs.Cheapest.{IsCheapest}
 use Rattle.sf_bounds.proofs.Building.{curve_spans}
-use Rattle.sf_bounds.proofs.Rooted.{normal, none-fits, least-small, cheapest}
+use Rattle.sf_bounds.proofs.LeastArea.{normal, none-fits, least-small, cheapest}
 use Rattle.sf_bounds.proofs.solving.least_plan.Goals as goal
 
 pub root_curve-requires-clause-normal : goal.root_curve-requires-clause-normal

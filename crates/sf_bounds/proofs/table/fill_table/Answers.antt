@@ -1,5 +1,5 @@
 use Rattle.std.proofs.Common.{arith, length, refl}
-use Rattle.sf_bounds.proofs.Seated.{table_more}
+use Rattle.sf_bounds.proofs.SeatTable.{table_more}
 use Rattle.sf_bounds.proofs.table.fill_table.Goals as goal
 
 pub loop-seat-preserved : goal.loop-seat-preserved

@@ -1,6 +1,6 @@
 use Rattle.std.proofs.Common.{sym, subst}
 use Rattle.sf_bounds.specs.Curves.{AreGroupCurves}
-use Rattle.sf_bounds.proofs.Opened.{few_groups, small_groups, needed_or_none}
+use Rattle.sf_bounds.proofs.OpenValue.{few_groups, small_groups, needed_or_none}
 use Rattle.sf_bounds.proofs.value.area_of_curves.Goals as goal
 
 pub area_part-requires-clause-few : goal.area_part-requires-clause-few

@@ -1,5 +1,5 @@
 use Rattle.std.proofs.Common.{◌≤◌, All, sym, subst}
-use Rattle.sf_bounds.proofs.Readied.{small_extents}
+use Rattle.sf_bounds.proofs.ReadyLayout.{small_extents}
 use Rattle.sf_bounds.proofs.wires.fill_layout.Goals as goal
 
 pub fill_table-requires-clause-small : goal.fill_table-requires-clause-small

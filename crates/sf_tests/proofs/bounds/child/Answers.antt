@@ -1,7 +1,7 @@
 use Rattle.std.proofs.Common.{sym, subst, arith}
 use Rattle.std.specs.Prelude.{Contains}
 use Rattle.std.proofs.lemmas.List.Elements.{Contains-get_or}
-use Rattle.sf_bounds.proofs.Born.{child_sub}
+use Rattle.sf_bounds.proofs.Extended.{child_sub}
 use Rattle.sf_tests.proofs.bounds.child.Goals as goal
 
 pub returns : goal.returns

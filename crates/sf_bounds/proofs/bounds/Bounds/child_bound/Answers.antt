@@ -1,4 +1,4 @@
-use Rattle.sf_bounds.proofs.Born.{child_of}
+use Rattle.sf_bounds.proofs.Extended.{child_of}
 use Rattle.sf_bounds.proofs.bounds.Bounds.child_bound.Goals as goal
 
 pub bound-requires-clause-subproblem : goal.bound-requires-clause-subproblem

@@ -1,5 +1,5 @@
 use Rattle.sf_standard.specs.Standard.{standard}
-use Rattle.sf_bounds.proofs.Born.{child_of}
+use Rattle.sf_bounds.proofs.Extended.{child_of}
 use Rattle.sf_bounds.proofs.bounds.StandardBounds.child_bound.Goals as goal
 
 pub bound-requires-clause-subproblem : goal.bound-requires-clause-subproblem

@@ -1,5 +1,5 @@
 use Rattle.sf_standard.specs.Standard.{standard}
-use Rattle.sf_bounds.proofs.Born.{child_of}
+use Rattle.sf_bounds.proofs.Extended.{child_of}
 use Rattle.sf_bounds.proofs.bounds.StandardBounds.child_valued.Goals as goal
 
 pub returns-then-keeps_value-clause-value : goal.returns-then-keeps_value-clause-value

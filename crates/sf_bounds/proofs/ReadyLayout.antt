@@ -23,7 +23,7 @@ use Rattle.sf_bounds.specs.Layout.{extent_in, Tells, IsModestOffset, AreModest, 
 use Rattle.sf_bounds.specs.Near.{IsNearby, anywhere}
 use Rattle.sf_bounds.specs.Pins.{IsLayout, IsReadyAt, IsReady, extent_from, home_in, last_home, block_range, standing_at, standing_by}
 use Rattle.sf_standard.proofs.Sides.{IsSmallExtent, span-small}
-use Rattle.sf_bounds.proofs.Small.{are-modest}
+use Rattle.sf_bounds.proofs.ModestExtents.{are-modest}
 
 -- the last home of a block is the one given, or by one of the seats
 pub record IsSeated (extent : ℕ → Extent) (b : ℕ) (ss : List Seat) (h : Home) : Type 0 where

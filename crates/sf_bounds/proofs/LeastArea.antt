@@ -20,7 +20,7 @@ use Rattle.sf_curves.specs.Points.{IsWithin, IsLeastArea, area_of}
 use Rattle.sf_curves.proofs.Forms.{skewed-of_normal}
 use Rattle.sf_standard.proofs.Exact.{listed-belongs}
 use Rattle.sf_bounds.specs.Cheapest.{IsCheapest, NoneOfNode}
-use Rattle.sf_bounds.proofs.Alone.{whole-postfix}
+use Rattle.sf_bounds.proofs.OnlyPlan.{whole-postfix}
 
 -- a product of lesser numbers is not greater
 times : (a b m n : ℕ) → a ≤ m → b ≤ n → a * b ≤ m * n

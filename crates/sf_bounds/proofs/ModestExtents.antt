@@ -1,5 +1,5 @@
 -- No extent, and no place of a block in an item, is too great.
-use Rattle.std.proofs.Common.{◌≡◌, ℕ, suc, ◌+◌, ◌*◌, ◌≤◌, List, [], ◌∷◌, ◌++◌, length, map, arith, length-append}
+use Rattle.std.proofs.Common.{◌≡◌, ℕ, suc, ◌+◌, ◌*◌, ◌≤◌, List, [], ◌∷◌, length, map, ap, ◌∙◌, arith, length-append}
 use Rattle.std.specs.List.{AllByRecursion}
 use Rattle.std.proofs.lemmas.List.{length-map}
 use Rattle.std.proofs.lemmas.List.Elements.{All-from_recursion}
@@ -9,7 +9,11 @@ use Rattle.sf_standard.specs.declared.hull.Offset.{Offset}
 use Rattle.sf_standard.specs.Items as item
 use Rattle.sf_standard.specs.Items.{Item}
 use Rattle.sf_standard.specs.Hull.{item_extent, offsets, moved_right, moved_up}
+use Rattle.sf_standard.proofs.Listed.{each-joined}
 use Rattle.sf_standard.proofs.Sides.{IsSmallExtent}
+use Rattle.sf_frames.specs.declared.direction.Direction.{Direction}
+use Rattle.sf_frames.specs.declared.direction.Direction.TheVariants.{Beside, Above}
+use Rattle.sf_frames.specs.Direction.{item_in}
 use Rattle.sf_bounds.specs.Layout.{held_of, seat_at, seats_from, IsModestExtent, IsModestOffset, AreModest}
 
 -- no number of the place of a block in its item is more than m
@@ -19,6 +23,12 @@ pub record IsSmallOffset (m : ℕ) (o : Offset) : Type 0 where
   pub least_y : o.least_y ≤ m
   pub most_y : o.most_y ≤ m
 
+module _ (extent : ℕ → Extent) where
+  -- a joined item has the blocks of both
+  pub joined-length : (d : Direction) (l r : Item) → length (offsets extent (item_in d l r)) ≡ length (offsets extent l) + length (offsets extent r)
+  joined-length Beside l r = length-append (offsets extent l) (map (moved_right (item_extent extent l)) (offsets extent r)) ∙ ap (λ n. length (offsets extent l) + n) (length-map (offsets extent r) (moved_right (item_extent extent l)))
+  joined-length Above l r = length-append (offsets extent l) (map (moved_up (item_extent extent l)) (offsets extent r)) ∙ ap (λ n. length (offsets extent l) + n) (length-map (offsets extent r) (moved_up (item_extent extent l)))
+
 module _ (extent : ℕ → Extent) (small : (b : ℕ) → IsSmallExtent 1048576 (extent b)) where
   -- the extent of an item has sides of at most 2^20 for each of its blocks
   pub item-small : (i : Item) → IsSmallExtent (1048576 * length (offsets extent i)) (item_extent extent i)
@@ -26,15 +36,13 @@ module _ (extent : ℕ → Extent) (small : (b : ℕ) → IsSmallExtent 1048576 
   item-small (item.Beside l r) =
       let p = item-small l in
       let q = item-small r in
-      let n = length-append (offsets extent l) (map (moved_right (item_extent extent l)) (offsets extent r)) in
-      let m = length-map (offsets extent r) (moved_right (item_extent extent l)) in
-      record { least_w = omega (arith, p.least_w, q.least_w, n, m); most_w = omega (arith, p.most_w, q.most_w, n, m); least_h = omega (arith, p.least_h, q.least_h, n, m); most_h = omega (arith, p.most_h, q.most_h, n, m) }
+      let n = joined-length extent Beside l r in
+      record { least_w = omega (arith, p.least_w, q.least_w, n); most_w = omega (arith, p.most_w, q.most_w, n); least_h = omega (arith, p.least_h, q.least_h, n); most_h = omega (arith, p.most_h, q.most_h, n) }
   item-small (item.Above l r) =
       let p = item-small l in
       let q = item-small r in
-      let n = length-append (offsets extent l) (map (moved_up (item_extent extent l)) (offsets extent r)) in
-      let m = length-map (offsets extent r) (moved_up (item_extent extent l)) in
-      record { least_w = omega (arith, p.least_w, q.least_w, n, m); most_w = omega (arith, p.most_w, q.most_w, n, m); least_h = omega (arith, p.least_h, q.least_h, n, m); most_h = omega (arith, p.most_h, q.most_h, n, m) }
+      let n = joined-length extent Above l r in
+      record { least_w = omega (arith, p.least_w, q.least_w, n); most_w = omega (arith, p.most_w, q.most_w, n); least_h = omega (arith, p.least_h, q.least_h, n); most_h = omega (arith, p.most_h, q.most_h, n) }
 
   -- a place within m is within every number that is greater
   wider : (m n : ℕ) (o : Offset) → m ≤ n → IsSmallOffset m o → IsSmallOffset n o
@@ -44,25 +52,21 @@ module _ (extent : ℕ → Extent) (small : (b : ℕ) → IsSmallExtent 1048576 
   pub offsets-small : (i : Item) → AllByRecursion (IsSmallOffset (1048576 * length (offsets extent i))) (offsets extent i)
   offsets-small (item.Block b) = (record { least_x = omega arith; most_x = omega arith; least_y = omega arith; most_y = omega arith }, tt)
   offsets-small (item.Beside l r) =
-      let e = item_extent extent l in
       let p = item-small l in
-      let n = length-append (offsets extent l) (map (moved_right e) (offsets extent r)) in
-      let m = length-map (offsets extent r) (moved_right e) in
-      let total = 1048576 * length (offsets extent l ++ map (moved_right e) (offsets extent r)) in
-      each-append (IsSmallOffset total) (offsets extent l) (map (moved_right e) (offsets extent r))
-      (each-weaker (IsSmallOffset (1048576 * length (offsets extent l))) (IsSmallOffset total) (λ o k. wider (1048576 * length (offsets extent l)) total o (omega (arith, n)) k) (offsets extent l) (offsets-small l))
-      (each-map (IsSmallOffset total) (moved_right e) (offsets extent r)
-      (each-weaker (IsSmallOffset (1048576 * length (offsets extent r))) (λ o. IsSmallOffset total (moved_right e o)) (λ o k. record { least_x = omega (arith, n, m, k.least_x, p.least_w); most_x = omega (arith, n, m, k.most_x, p.most_w); least_y = omega (arith, n, m, k.least_y); most_y = omega (arith, n, m, k.most_y) }) (offsets extent r) (offsets-small r)))
+      let n = joined-length extent Beside l r in
+      let most : Item → ℕ = λ i. 1048576 * length (offsets extent i) in
+      each-joined (IsSmallOffset (most (item.Beside l r))) (IsSmallOffset (most l)) (IsSmallOffset (most r)) (moved_right (item_extent extent l)) (offsets extent l) (offsets extent r)
+      (λ o k. wider (most l) (most (item.Beside l r)) o (omega (arith, n)) k)
+      (λ o k. record { least_x = omega (arith, n, k.least_x, p.least_w); most_x = omega (arith, n, k.most_x, p.most_w); least_y = omega (arith, n, k.least_y); most_y = omega (arith, n, k.most_y) })
+      (offsets-small l) (offsets-small r)
   offsets-small (item.Above l r) =
-      let e = item_extent extent l in
       let p = item-small l in
-      let n = length-append (offsets extent l) (map (moved_up e) (offsets extent r)) in
-      let m = length-map (offsets extent r) (moved_up e) in
-      let total = 1048576 * length (offsets extent l ++ map (moved_up e) (offsets extent r)) in
-      each-append (IsSmallOffset total) (offsets extent l) (map (moved_up e) (offsets extent r))
-      (each-weaker (IsSmallOffset (1048576 * length (offsets extent l))) (IsSmallOffset total) (λ o k. wider (1048576 * length (offsets extent l)) total o (omega (arith, n)) k) (offsets extent l) (offsets-small l))
-      (each-map (IsSmallOffset total) (moved_up e) (offsets extent r)
-      (each-weaker (IsSmallOffset (1048576 * length (offsets extent r))) (λ o. IsSmallOffset total (moved_up e o)) (λ o k. record { least_x = omega (arith, n, m, k.least_x); most_x = omega (arith, n, m, k.most_x); least_y = omega (arith, n, m, k.least_y, p.least_h); most_y = omega (arith, n, m, k.most_y, p.most_h) }) (offsets extent r) (offsets-small r)))
+      let n = joined-length extent Above l r in
+      let most : Item → ℕ = λ i. 1048576 * length (offsets extent i) in
+      each-joined (IsSmallOffset (most (item.Above l r))) (IsSmallOffset (most l)) (IsSmallOffset (most r)) (moved_up (item_extent extent l)) (offsets extent l) (offsets extent r)
+      (λ o k. wider (most l) (most (item.Above l r)) o (omega (arith, n)) k)
+      (λ o k. record { least_x = omega (arith, n, k.least_x); most_x = omega (arith, n, k.most_x); least_y = omega (arith, n, k.least_y, p.least_h); most_y = omega (arith, n, k.most_y, p.most_h) })
+      (offsets-small l) (offsets-small r)
 
   -- the seats of one item more are more by its blocks
   seats-long : (k : ℕ) (i : Item) (is : List Item) → length (seats_from extent k (i ∷ is)) ≡ length (offsets extent i) + length (seats_from extent (suc k) is)

@@ -22,12 +22,11 @@ use Rattle.sf_standard.specs.Hull.{item_extent, offsets, moved_right, moved_up}
 use Rattle.sf_standard.proofs.Listed.{sum_by-map}
 use Rattle.sf_bounds.specs.declared.layout.Held.{Held}
 use Rattle.sf_bounds.specs.declared.layout.Seat.{Seat}
-use Rattle.sf_bounds.specs.Curves.{HasOperands}
 use Rattle.sf_bounds.specs.Layout.{extent_in, beside_extent, above_extent, held_of, seat_at, seats_from, IsLaid, reseated, JoinsTop, Lays, AreModest, AreSeated}
 use Rattle.sf_standard.proofs.Appended.{read-append, read-block}
 use Rattle.sf_frames.proofs.Joining.{Runs, runs-from}
 use Rattle.sf_standard.proofs.Sides.{span-small}
-use Rattle.sf_bounds.proofs.Small.{are-modest}
+use Rattle.sf_bounds.proofs.ModestExtents.{are-modest}
 
 -- the block of a seat
 abbrev pub block_of : Seat → ℕ
