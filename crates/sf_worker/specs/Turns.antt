@@ -1,5 +1,5 @@
 -- One turn of a worker: one task becomes an entry, or is kept.
-use Rattle.std.specs.Prelude.{◌≡◌, ℕ, ◌+◌, ◌<◌, ◌≤◌, ◌⊎◌, List, [], ◌∷◌, ◌++◌, length, sum_by, All, Any, Contains, Option, Some, None}
+use Rattle.std.specs.Prelude.{◌≡◌, ℕ, ◌+◌, ◌<◌, ◌≤◌, ◌⊎◌, List, [], ◌∷◌, ◌++◌, length, sum_by, All, Any, Contains, Option, Some, None, vec_len, vec_capacity}
 use Rattle.sf_model.specs.declared.design.Design.{Design}
 use Rattle.sf_model.specs.declared.TheConstants.{MAX}
 use Rattle.sf_node.specs.declared.task.Task.{Task}
@@ -14,6 +14,15 @@ use Rattle.sf_worker.specs.Tasks.{IsTask, IsEntry, Solves}
 use Rattle.sf_worker.specs.Took.{NeverFell, Rose, ThievesRose, IsBest, Passed, SameSeat, put_of, tasks_weigh, IsDecidedFirst}
 
 module _ {T : Type 0} where
+  -- a worker that may decide one more has this task in hand, with room to log it and to keep it
+  pub record HasInHand (design : Design) (bound : Parts → ℕ) (task : Task) (s : WorkerState T) : Type 0 where
+    pub quota : 0 < s.quota
+    pub log_room : vec_len s.log < vec_capacity s.log
+    pub kept_room : vec_len s.kept < vec_capacity s.kept
+    pub task_is : IsTask design bound task
+    pub best : IsBest design s.best s.seat.offered
+    pub serves : MayServe s.room design
+
   -- the task is an entry, and its children were put or are kept
   pub record Became (design : Design) (bound : Parts → ℕ) (task : Task) (old new : WorkerState T) : Type 0 where
     pub entry : Entry

@@ -7,11 +7,10 @@ ghost use Rattle.sf_model.specs.declared.TheConstants.{MAX};
 ghost use Rattle.sf_node.specs.declared.task.Task.{Task};
 ghost use Rattle.sf_node.specs.Subproblem.{is_complete, is_solved};
 ghost use Rattle.sf_node.specs.Children.{extended, split, CanSplit};
-ghost use Rattle.sf_bounds.specs.Serving.{MayServe};
 ghost use Rattle.sf_worker.specs.Decided.{first_wide};
 ghost use Rattle.sf_worker.specs.Tasks.{IsTask, IsPlan};
-ghost use Rattle.sf_worker.specs.Took.{IsBest, IsReady, Serves, Passed};
-ghost use Rattle.sf_worker.specs.Turns.{Became, Stayed, IsJudged, TurnEnds};
+ghost use Rattle.sf_worker.specs.Took.{IsReady, Serves, Passed};
+ghost use Rattle.sf_worker.specs.Turns.{Became, HasInHand, IsJudged, TurnEnds};
 
 use crate::decide_task::decide;
 use crate::decision::Decision;
@@ -66,12 +65,7 @@ fn judge<'a, T: Served, B: Bounds>(
 ) -> Option<PassEnd>
     requires team { Serves T.serves design.now (B.Values.value bounds.now design.now) }
     requires word { state.old.seat.word ≡ word.now.id }
-    requires quota { 0 < state.old.quota }
-    requires room { (vec_len state.old.log < vec_capacity state.old.log)
-        × (vec_len state.old.kept < vec_capacity state.old.kept) }
-    requires task { IsTask design.now (B.Values.value bounds.now design.now) task }
-    requires best { IsBest design.now state.old.best state.old.seat.offered }
-    requires serves { MayServe state.old.room design.now }
+    requires hand { HasInHand design.now (B.Values.value bounds.now design.now) task state.old }
     ensures { IsJudged design.now (B.Values.value bounds.now design.now) task state.old state.new result }
 {
     let value = word.read(&mut state.seat);
@@ -118,11 +112,7 @@ fn close<'a, T: Served, B: Bounds>(
     design: &'a Design,
     bounds: &B,
 )
-    requires quota { 0 < state.old.quota }
-    requires room { vec_len state.old.log < vec_capacity state.old.log }
-    requires task { IsTask design.now (B.Values.value bounds.now design.now) task }
-    requires best { IsBest design.now state.old.best state.old.seat.offered }
-    requires serves { MayServe state.old.room design.now }
+    requires hand { HasInHand design.now (B.Values.value bounds.now design.now) task state.old }
     requires value { state.old.seat.seen ≡ value }
     requires closed { value ≤ task.bound }
     ensures { Became design.now (B.Values.value bounds.now design.now) task state.old state.new }
@@ -141,16 +131,13 @@ fn solve<'a, T: Served, B: Bounds>(
     word: &Incumbent,
 )
     requires word { state.old.seat.word ≡ word.now.id }
-    requires quota { 0 < state.old.quota }
-    requires room { vec_len state.old.log < vec_capacity state.old.log }
-    requires task { IsTask design.now (B.Values.value bounds.now design.now) task }
+    requires hand { HasInHand design.now (B.Values.value bounds.now design.now) task state.old }
     requires plan { IsPlan design.now expr cost }
     requires cost { cost ≡ task.bound }
     requires solved { IsTrue (is_solved design.now task.node) }
     requires less { cost < state.old.seat.offered }
     requires undercut { cost < state.old.seat.seen }
     requires small { cost < MAX }
-    requires serves { MayServe state.old.room design.now }
     ensures { Became design.now (B.Values.value bounds.now design.now) task state.old state.new }
 {
     let value = word.offer(&mut state.seat, cost);
@@ -169,12 +156,7 @@ fn extend<'a, T: Served, B: Bounds>(
     bounds: &B,
 ) -> Option<PassEnd>
     requires team { Serves T.serves design.now (B.Values.value bounds.now design.now) }
-    requires quota { 0 < state.old.quota }
-    requires room { (vec_len state.old.log < vec_capacity state.old.log)
-        × (vec_len state.old.kept < vec_capacity state.old.kept) }
-    requires task { IsTask design.now (B.Values.value bounds.now design.now) task }
-    requires best { IsBest design.now state.old.best state.old.seat.offered }
-    requires serves { MayServe state.old.room design.now }
+    requires hand { HasInHand design.now (B.Values.value bounds.now design.now) task state.old }
     requires value { (state.old.seat.seen ≡ value) × (task.bound < value) }
     requires children { IsFalse (is_complete task.node)
         × (map (λ (t : Task). t.node) children.items ≡ extended task.node)
@@ -208,12 +190,7 @@ fn halve<'a, T: Served, B: Bounds>(
     bounds: &B,
 ) -> Option<PassEnd>
     requires team { Serves T.serves design.now (B.Values.value bounds.now design.now) }
-    requires quota { 0 < state.old.quota }
-    requires room { (vec_len state.old.log < vec_capacity state.old.log)
-        × (vec_len state.old.kept < vec_capacity state.old.kept) }
-    requires task { IsTask design.now (B.Values.value bounds.now design.now) task }
-    requires best { IsBest design.now state.old.best state.old.seat.offered }
-    requires serves { MayServe state.old.room design.now }
+    requires hand { HasInHand design.now (B.Values.value bounds.now design.now) task state.old }
     requires value { (state.old.seat.seen ≡ value) × (task.bound < value) }
     requires node { IsTrue (is_complete task.node) × IsFalse (is_solved design.now task.node)
         × (block ≡ first_wide task.node) × CanSplit task.node block }

@@ -10,7 +10,7 @@ returns g c =
       entry = record { node = c.args.task.node; kind = kind.Closed; value = c.args.value };
       refused = [];
       node = refl;
-      is = (subst (λ n. c.args.value ≤ n) c.requires.task.1 c.requires.closed, tt);
+      is = (subst (λ n. c.args.value ≤ n) c.requires.hand.task_is.1 c.requires.closed, tt);
       fresh = omega (arith, c.requires.value);
       log = c.enter.ensures.log;
       kept = sym (append-nil c.args.state.now.kept.items);
@@ -18,7 +18,7 @@ returns g c =
       quota = c.enter.ensures.quota;
       first = refl;
       seat = ((refl, refl), omega arith, omega arith);
-      best = c.requires.best;
+      best = c.requires.hand.best;
       fell = λ h. absurd (omega (arith, h));
       undercut = λ h. absurd (omega (arith, h));
       deque = refl;
@@ -27,5 +27,5 @@ returns g c =
       thieves = refl;
       put = λ w. refl;
       refusals = (omega arith, λ h. omega arith);
-      serves = c.requires.serves;
+      serves = c.requires.hand.serves;
     }

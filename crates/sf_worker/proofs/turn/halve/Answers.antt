@@ -16,7 +16,7 @@ returns g c =
       entry = record { node = c.args.task.node; kind = kind.Split c.args.block; value = c.args.value };
       refused = p.refused;
       node = refl;
-      is = ((subst (λ n. n < c.args.value) c.requires.task.1 c.requires.value.1, c.requires.node.3), (c.requires.node.0, c.requires.node.1, c.requires.node.2));
+      is = ((subst (λ n. n < c.args.value) c.requires.hand.task_is.1 c.requires.value.1, c.requires.node.3), (c.requires.node.0, c.requires.node.1, c.requires.node.2));
       fresh = omega (arith, c.requires.value.0);
       log = c.enter.ensures.log;
       kept = p.kept_are ∙ ap (λ z. z ++ p.refused) c.reserve.ensures.items;
@@ -24,7 +24,7 @@ returns g c =
       quota = c.enter.ensures.quota;
       first = refl;
       seat = ((refl, refl), omega arith, omega arith);
-      best = c.requires.best;
+      best = c.requires.hand.best;
       fell = λ h. absurd (omega (arith, h));
       undercut = λ h. absurd (omega (arith, h));
       deque = p.deque;
@@ -33,5 +33,5 @@ returns g c =
       thieves = refl;
       put = λ w. p.put (on_task w) ∙ ap (λ n. sum_by (on_task w) c.args.state.now.place.owner.put + n) (ap (sum_by w) c.requires.halves.0);
       refusals = p.refusals;
-      serves = c.requires.serves;
+      serves = c.requires.hand.serves;
     }

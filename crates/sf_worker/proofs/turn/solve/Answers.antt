@@ -15,7 +15,7 @@ returns g c =
       entry = record { node = c.args.task.node; kind = kind.Closed; value = c.offer-value.result };
       refused = [];
       node = refl;
-      is = ((let k = c.requires.cost in let b = c.requires.task.1 in let f = o.fresh.0 in omega (arith, k, b, f)), tt);
+      is = ((let k = c.requires.cost in let b = c.requires.hand.task_is.1 in let f = o.fresh.0 in omega (arith, k, b, f)), tt);
       fresh = omega (arith, seen);
       log = c.enter.ensures.log;
       kept = sym (append-nil c.args.state.now.kept.items);
@@ -24,7 +24,7 @@ returns g c =
       first = refl;
       seat = ((ap (λ (k : Knows). k.word) o.seat, ap (λ (k : Knows). k.parts) o.seat), (let f = o.fresh.1 in omega (arith, seen, f)), omega (arith, offered));
       best = (c.requires.plan, sym is, omega (arith, is, c.requires.small));
-      fell = λ h. (refl, c.requires.solved, sym c.requires.task.1 ∙ (sym c.requires.cost ∙ sym is));
+      fell = λ h. (refl, c.requires.solved, sym c.requires.hand.task_is.1 ∙ (sym c.requires.cost ∙ sym is));
       undercut = λ _. omega (arith, is, c.requires.undercut);
       deque = refl;
       taken = refl;
@@ -32,5 +32,5 @@ returns g c =
       thieves = refl;
       put = λ w. refl;
       refusals = (omega arith, λ h. omega arith);
-      serves = c.requires.serves;
+      serves = c.requires.hand.serves;
     }
