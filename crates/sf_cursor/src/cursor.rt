@@ -71,10 +71,10 @@ fn named(step: Step) -> usize
 }
 
 impl Cursor {
-    ghost use Rattle.std.specs.Prelude.{[], ◌∷◌, ◌++◌, ◌≤◌, true, length, map};
+    ghost use Rattle.std.specs.Prelude.{[], ◌∷◌, ◌++◌, ◌≤◌, length};
     ghost use Rattle.std.specs.Prelude.{IfOk, IfSome, OnOk, MatchOption};
     ghost use Rattle.sf_node.specs.Subproblem.{root};
-    ghost use Rattle.sf_node.specs.Children.{after, extended, split, CanSplit, may_join};
+    ghost use Rattle.sf_node.specs.Children.{after, extended, may_join};
     ghost use Rattle.sf_node.specs.Later.{behind, pending, later, extending, blocks_from, IsChildOf};
     ghost use Rattle.sf_certificate.specs.Marks.{made, MaySplit};
     ghost use Rattle.sf_cursor.specs.Path.{IsPath, IsBack, most_steps};
@@ -130,7 +130,7 @@ impl Cursor {
         match tag {
             Tag::Extend => self.extend(design, values, value),
             Tag::Split(block) => {
-                self.split(design, values, block, value)?;
+                self.enter(design, values, Step::Left(block), value)?;
                 Ok(true)
             }
             Tag::Closed(_) | Tag::Open => self.advance(design, values),
@@ -275,24 +275,5 @@ impl Cursor {
         };
         self.enter(design, values, step, value)?;
         Ok(true)
-    }
-
-    /// Goes on to the first half of a block's span.
-    fn split<V: Values>(
-        &mut self,
-        design: &Design,
-        values: &V,
-        block: u16,
-        value: Option<u64>,
-    ) -> Result<(), NoMemory>
-        requires at { IsPath design.now (V.value values.now design.now) self.old }
-        requires wide { CanSplit self.old.node block }
-        requires value { IfSome value (λ value. value ≡ V.value values.now design.now self.old.node) }
-        ensures at { OnOk result (IsPath design.now (V.value values.now design.now) self.new) }
-        ensures next { OnOk result (pending design.now true self.new.node
-            ≡ split self.old.node block ++ behind (root design.now) self.old.node.steps) }
-    {
-        self.enter(design, values, Step::Left(block), value)?;
-        Ok(())
     }
 }
