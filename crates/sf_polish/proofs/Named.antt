@@ -1,38 +1,29 @@
 -- Flags that say for each block whether it is among the tokens.
 use Rattle.std.proofs.Common.{◌≡◌, ℕ, ◌+◌, ◌<◌, Bool, true, false, List, [], ◌∷◌, ◌++◌, length, get_or, map, arith, refl, ap, sym, ◌∙◌, inl, inr}
-use Rattle.std.specs.Prelude.{◌||◌, ◌==◌, slice_set, replicate, ◌≢◌, Ok, Err}
+use Rattle.std.specs.Prelude.{◌==◌, slice_set, replicate, ◌≢◌, Ok, Err}
 use Rattle.std.specs.List.{list_all, range_with_len}
 use Rattle.std.proofs.lemmas.Bool.Decides.{eqb_tells}
 use Rattle.std.proofs.lemmas.List.{get_or-set_same, get_or-set_other, length-set, get_or-replicate, length-replicate}
 use Rattle.std.proofs.lemmas.List.Folds.{list_any-append, list_all-map}
 use Rattle.std.proofs.lemmas.List.FromFn.{fill_by_all, get_or-map-range_with_len}
+use Rattle.std.proofs.Math.Bool.{or-true, or-false}
 use Rattle.sf_polish.specs.declared.expr.Token.{Token}
 use Rattle.sf_polish.specs.declared.expr.Token.TheVariants as token
 use Rattle.sf_polish.specs.declared.fault.ExprFault.TheVariants.{MissingBlock, NotBallot}
 use Rattle.sf_polish.specs.Normal.{is_block, operands, operators}
 use Rattle.sf_polish.specs.Reading.{is_named, ended}
 
--- false changes no disjunction
-or_false : (b : Bool) → (b || false) ≡ b
-or_false true = refl
-or_false false = refl
-
--- a disjunction with true holds
-or_true : (b : Bool) → (b || true) ≡ true
-or_true true = refl
-or_true false = refl
-
 -- a block is named once its token is taken
 pub named-same : (b : ℕ) (ts : List Token) → is_named b (ts ++ token.Block b ∷ []) ≡ true
 named-same b ts =
     let same : (b == b) ≡ true = elim (eqb_tells b b) [ inl p ↦ p.0 | inr p ↦ absurd (p.1 refl) ] in
-    list_any-append (is_block b) ts (token.Block b ∷ []) ∙ rw same (or_true (is_named b ts))
+    list_any-append (is_block b) ts (token.Block b ∷ []) ∙ rw same (or-true (is_named b ts))
 
 -- and no other block is
 pub named-other : (k b : ℕ) (ts : List Token) → k ≢ b → is_named k (ts ++ token.Block b ∷ []) ≡ is_named k ts
 named-other k b ts h =
     let other : (b == k) ≡ false = elim (eqb_tells b k) [ inl p ↦ absurd (h (sym p.1)) | inr p ↦ p.0 ] in
-    list_any-append (is_block k) ts (token.Block b ∷ []) ∙ rw other (or_false (is_named k ts))
+    list_any-append (is_block k) ts (token.Block b ∷ []) ∙ rw other (or-false (is_named k ts))
 
 -- the flags of the tokens
 abbrev pub flags_of : ℕ → List Token → List Bool

@@ -1,5 +1,5 @@
 -- The words of an expression's text are those that were written.
-use Rattle.std.proofs.Common.{◌≡◌, ℕ, ◌^◌, ◌<◌, Bool, true, false, not, List, [], ◌∷◌, ◌++◌, length, arith, refl, ap, ◌∙◌, length-append, append-nil}
+use Rattle.std.proofs.Common.{◌≡◌, ℕ, ◌^◌, ◌<◌, true, false, not, List, [], ◌∷◌, ◌++◌, length, arith, refl, ap, ◌∙◌, length-append, append-nil}
 use Rattle.std.specs.Prelude.{map}
 use Rattle.std.specs.Fmt.{decimal}
 use Rattle.std.specs.List.{AllByRecursion, join_with_byte}
@@ -7,6 +7,7 @@ use Rattle.std.proofs.lemmas.Bool.Decides.{nat_tests}
 use Rattle.std.proofs.lemmas.List.{length-map}
 use Rattle.std.proofs.lemmas.List.Elements.{recursion_from_All}
 use Rattle.std.proofs.lemmas.List.Folds.{list_all-append}
+use Rattle.std.proofs.lemmas.Bool.{not-true}
 use Rattle.sf_lex.specs.Number.{is_digit}
 use Rattle.sf_lex.specs.Scan.{LineWord, numbered, words_of_line, words_of_lines}
 use Rattle.sf_lex.specs.Text.{lines, words, is_blank_byte, is_line_feed, has_none}
@@ -20,7 +21,7 @@ use Rattle.sf_polish.specs.Normal.{is_outside}
 use Rattle.sf_polish.specs.Postfix.{shape_at}
 use Rattle.sf_polish.specs.Shaping.{no_shape}
 use Rattle.sf_polish.specs.Text.{shaped_text, expr_words, expr_text, spelled_words, IsWritable, SpellsExpr}
-use Rattle.sf_polish.proofs.WordTexts.{all-weaker, below, not_true}
+use Rattle.sf_polish.proofs.WordTexts.{all-weaker, below}
 
 -- bytes of which none is a blank
 abbrev IsSolid : List ℕ → Type 0
@@ -65,11 +66,11 @@ no_feeds (x ∷ y ∷ ws) h =
 -- a text without a line feed is one line
 one-line : (b : ℕ) (bytes : List ℕ) → has_none is_line_feed (b ∷ bytes) ≡ true → lines (b ∷ bytes) ≡ (b ∷ bytes) ∷ []
 one-line b [] h =
-    let none = not_true (is_line_feed b) (and_true (not (is_line_feed b)) true h).0 in
+    let none = not-true (is_line_feed b) (and_true (not (is_line_feed b)) true h).0 in
     rw none refl
 one-line b (c ∷ bytes) h =
     let both = and_true (not (is_line_feed b)) (has_none is_line_feed (c ∷ bytes)) h in
-    rw (not_true (is_line_feed b) both.0, one-line c bytes both.1) refl
+    rw (not-true (is_line_feed b) both.0, one-line c bytes both.1) refl
 
 -- words that were given a line have the same texts
 texts-of : (n : ℕ) (ws : List (List ℕ)) → map (λ (w : LineWord). w.text) (map (λ w. record { line = n; text = w }) ws) ≡ ws

@@ -57,26 +57,18 @@ module _ (shapes : List Shape) (tokens : List Token) (i : ℕ) (h : i < length t
   two-trees : (below : List Plan) (l r : Plan) → trees ((below ++ l ∷ []) ++ r ∷ []) [] ≡ tree_of r ∷ tree_of l ∷ trees below []
   two-trees below l r = trees-push (below ++ l ∷ []) r [] ∙ ap (λ z. tree_of r ∷ z) (trees-push below l [])
 
-  -- the two topmost plans become one side by side, and the reading goes on behind the operator
-  pub reading-beside : (below : List Plan) (l r p : Plan) → IsReading shapes tokens ((below ++ l ∷ []) ++ r ∷ []) i → get_or tokens i first ≡ token.Beside → tree_of p ≡ Beside (tree_of l) (tree_of r) → IsReading shapes tokens (below ++ p ∷ []) (i + 1)
-  reading-beside below l r p k e q =
-      let d = next tokens i first token.Beside h e in
-      let s : Reads (length ((below ++ l ∷ []) ++ r ∷ [])) (token.Beside ∷ drop (i + 1) tokens) 1 = subst (λ z. Reads (length ((below ++ l ∷ []) ++ r ∷ [])) z 1) d k.reads in
+  -- the two topmost plans become one plan, where the operator makes it of their trees, and the reading goes on behind the operator
+  reading-joined : (below : List Plan) (l r p : Plan) (t : Token) → IsReading shapes tokens ((below ++ l ∷ []) ++ r ∷ []) i → get_or tokens i first ≡ t
+      → ((n : ℕ) → Reads n (t ∷ drop (i + 1) tokens) 1 → Reads (n - 1) (drop (i + 1) tokens) 1)
+      → parse shapes (tree_of r ∷ tree_of l ∷ trees below []) (t ∷ drop (i + 1) tokens) ≡ parse shapes (tree_of p ∷ trees below []) (drop (i + 1) tokens)
+      → IsReading shapes tokens (below ++ p ∷ []) (i + 1)
+  reading-joined below l r p t k e taken made =
+      let d = next tokens i first t h e in
+      let s : Reads (length ((below ++ l ∷ []) ++ r ∷ [])) (t ∷ drop (i + 1) tokens) 1 = subst (λ z. Reads (length ((below ++ l ∷ []) ++ r ∷ [])) z 1) d k.reads in
       record {
-        reads = subst (λ n. Reads n (drop (i + 1) tokens) 1) (one-less below l r p) s.1;
-        parsed = ap (λ z. parse shapes z (drop (i + 1) tokens)) (trees-push below p [] ∙ ap (λ z. z ∷ trees below []) q)
-            ∙ sym (ap (λ z. parse shapes z (token.Beside ∷ drop (i + 1) tokens)) (two-trees below l r)) ∙ sym (ap (parse shapes (trees ((below ++ l ∷ []) ++ r ∷ []) [])) d) ∙ k.parsed;
-      }
-
-  -- the two topmost plans become one above the other, and the reading goes on behind the operator
-  pub reading-above : (below : List Plan) (l r p : Plan) → IsReading shapes tokens ((below ++ l ∷ []) ++ r ∷ []) i → get_or tokens i first ≡ token.Above → tree_of p ≡ Above (tree_of l) (tree_of r) → IsReading shapes tokens (below ++ p ∷ []) (i + 1)
-  reading-above below l r p k e q =
-      let d = next tokens i first token.Above h e in
-      let s : Reads (length ((below ++ l ∷ []) ++ r ∷ [])) (token.Above ∷ drop (i + 1) tokens) 1 = subst (λ z. Reads (length ((below ++ l ∷ []) ++ r ∷ [])) z 1) d k.reads in
-      record {
-        reads = subst (λ n. Reads n (drop (i + 1) tokens) 1) (one-less below l r p) s.1;
-        parsed = ap (λ z. parse shapes z (drop (i + 1) tokens)) (trees-push below p [] ∙ ap (λ z. z ∷ trees below []) q)
-            ∙ sym (ap (λ z. parse shapes z (token.Above ∷ drop (i + 1) tokens)) (two-trees below l r)) ∙ sym (ap (parse shapes (trees ((below ++ l ∷ []) ++ r ∷ []) [])) d) ∙ k.parsed;
+        reads = subst (λ n. Reads n (drop (i + 1) tokens) 1) (one-less below l r p) (taken _ s);
+        parsed = ap (λ z. parse shapes z (drop (i + 1) tokens)) (trees-push below p []) ∙ sym made
+            ∙ sym (ap (λ z. parse shapes z (t ∷ drop (i + 1) tokens)) (two-trees below l r)) ∙ sym (ap (parse shapes (trees ((below ++ l ∷ []) ++ r ∷ []) [])) d) ∙ k.parsed;
       }
 
   -- the same of a stack that is known by its push
@@ -90,12 +82,14 @@ module _ (shapes : List Shape) (tokens : List Token) (i : ℕ) (h : i < length t
   -- the plan side by side of the two that were taken is pushed in their place
   pub beside-step : (stack mid below new : List Plan) (l r p : Plan) → IsReading shapes tokens stack i → get_or tokens i first ≡ token.Beside → stack ≡ mid ++ r ∷ [] → mid ≡ below ++ l ∷ [] → new ≡ below ++ p ∷ [] → tree_of p ≡ Beside (tree_of l) (tree_of r) → IsReading shapes tokens new (i + 1)
   beside-step stack mid below new l r p k e u v n q =
-      subst (λ z. IsReading shapes tokens z (i + 1)) (sym n) (reading-beside below l r p (both stack mid below l r k u v) e q)
+      subst (λ z. IsReading shapes tokens z (i + 1)) (sym n)
+      (reading-joined below l r p token.Beside (both stack mid below l r k u v) e (λ n s. s.1) (ap (λ z. parse shapes (z ∷ trees below []) (drop (i + 1) tokens)) (sym q)))
 
   -- the plan one above the other of the two that were taken is pushed in their place
   pub above-step : (stack mid below new : List Plan) (l r p : Plan) → IsReading shapes tokens stack i → get_or tokens i first ≡ token.Above → stack ≡ mid ++ r ∷ [] → mid ≡ below ++ l ∷ [] → new ≡ below ++ p ∷ [] → tree_of p ≡ Above (tree_of l) (tree_of r) → IsReading shapes tokens new (i + 1)
   above-step stack mid below new l r p k e u v n q =
-      subst (λ z. IsReading shapes tokens z (i + 1)) (sym n) (reading-above below l r p (both stack mid below l r k u v) e q)
+      subst (λ z. IsReading shapes tokens z (i + 1)) (sym n)
+      (reading-joined below l r p token.Above (both stack mid below l r k u v) e (λ n s. s.1) (ap (λ z. parse shapes (z ∷ trees below []) (drop (i + 1) tokens)) (sym q)))
 
 -- from an empty stack tokens that can be read to one plan are read
 pub reading-start : (shapes : List Shape) (tokens : List Token) (stack : List Plan) → stack ≡ [] → Reads 0 tokens 1 → IsReading shapes tokens stack 0

@@ -7,6 +7,8 @@ use Rattle.std.specs.Option.{option_map}
 use Rattle.std.proofs.lemmas.Bool.Decides.{nat_tests, eqb_tells}
 use Rattle.std.proofs.lemmas.Fmt.{decimal-digits_value, decimal_nonempty}
 use Rattle.std.proofs.lemmas.List.{length-append}
+use Rattle.std.proofs.lemmas.Bool.{not-true}
+use Rattle.std.proofs.Math.Numerals.{one-add}
 use Rattle.sf_lex.specs.Number.{is_digit, number_of}
 use Rattle.sf_lex.specs.Text.{is_not_empty, has_none}
 use Rattle.sf_lex.specs.Whole.{is_plain, begins_with_zero, up_to, plain_read}
@@ -93,10 +95,6 @@ side-written n h =
 
 -- ---- the parts of a word
 
--- one and a number are the next number
-one_more : (n : ℕ) → 1 + n ≡ suc n
-one_more n = omega arith
-
 -- where no byte is such, neither the first nor any other is
 none_first : (p : ℕ → Bool) (b : ℕ) (xs : List ℕ) → has_none p (b ∷ xs) ≡ true → (p b ≡ false) × (has_none p xs ≡ true)
 none_first p b xs h = by_test (p b) refl h
@@ -110,7 +108,7 @@ pub before-cut : (p : ℕ → Bool) (xs ys : List ℕ) (y : ℕ) → has_none p 
 before-cut p [] ys y h e = rw e refl
 before-cut p (x ∷ xs) ys y h e =
     let f = none_first p x xs h in
-    rw (f.0, one_more (position_or_len p (xs ++ y ∷ ys))) (ap (λ z. x ∷ z) (before-cut p xs ys y f.1 e))
+    rw (f.0, one-add (position_or_len p (xs ++ y ∷ ys))) (ap (λ z. x ∷ z) (before-cut p xs ys y f.1 e))
 
 -- behind the first such byte stands the rest
 pub after-cut : (p : ℕ → Bool) (xs ys : List ℕ) (y : ℕ) → has_none p xs ≡ true → p y ≡ true → after_first p (xs ++ y ∷ ys) ≡ ys
@@ -134,7 +132,7 @@ cut-known c (b ∷ w) h = by_test (b == c) refl h (cut-known c w)
     by_test false e h more =
         let n : 1 + position_or_len (λ b. b == c) w + 1 ≡ suc (position_or_len (λ b. b == c) w + 1) = omega arith in
         let k : 0 < length (after_first (λ b. b == c) w) = rw (e, n) at h in
-        rw (e, n, one_more (position_or_len (λ b. b == c) w)) (ap (λ z. b ∷ z) (more k))
+        rw (e, n, one-add (position_or_len (λ b. b == c) w)) (ap (λ z. b ∷ z) (more k))
 
 -- a test that holds of all bytes makes one that it implies hold of all
 pub all-weaker : (p q : ℕ → Bool) → ((b : ℕ) → p b ≡ true → q b ≡ true) → (xs : List ℕ) → list_all p xs ≡ true → list_all q xs ≡ true
@@ -159,15 +157,10 @@ not_star d e = grind (arith, nat_tests)
 not_plus : (d : ℕ) → is_digit d ≡ true → not (d == 43) ≡ true
 not_plus d e = grind (arith, nat_tests)
 
--- what is not so is false
-pub not_true : (b : Bool) → not b ≡ true → b ≡ false
-not_true true e = absurd cc
-not_true false e = refl
-
 -- digits are not the one byte that is no digit
 not_byte : (c : ℕ) → ((d : ℕ) → is_digit d ≡ true → not (d == c) ≡ true) → (w : List ℕ) → list_all is_digit w ≡ true → is_byte c w ≡ false
 not_byte c f [] h = refl
-not_byte c f (b ∷ []) h = not_true (b == c) (f b (and_true (is_digit b) true h).0)
+not_byte c f (b ∷ []) h = not-true (b == c) (f b (and_true (is_digit b) true h).0)
 not_byte c f (b ∷ d ∷ w) h = refl
 
 -- a word that is one byte has it alone
