@@ -1,5 +1,5 @@
 -- A search in preorder beside the machine whose turns it makes: it keeps the tags so far, and knows which subproblems are not visited yet.
-use Rattle.std.specs.Prelude.{◌≡◌, ℕ, List, [], ◌∷◌, ◌++◌, map, reverse, Bool, Option}
+use Rattle.std.specs.Prelude.{◌≡◌, ℕ, List, [], ◌∷◌, ◌++◌, map, reverse, Bool, Option, IfSome}
 use Rattle.sf_model.specs.declared.design.Design.{Design}
 use Rattle.sf_polish.specs.declared.expr.Expr.{Expr}
 use Rattle.sf_node.specs.declared.task.Task.{Task}
@@ -7,9 +7,11 @@ use Rattle.sf_node.specs.declared.part.Part.{Part}
 use Rattle.sf_node.specs.declared.part.Part.TheVariants.{Full}
 use Rattle.sf_node.specs.declared.part.PartValues.{PartValues}
 use Rattle.sf_node.specs.Parts.{Parts}
+use Rattle.sf_node.specs.ByPart.{AreValues}
 use Rattle.sf_node.specs.Subproblem.{root}
 use Rattle.sf_node.specs.Children.{extended, after}
 use Rattle.sf_node.specs.declared.step.Step.TheVariants.{Left, Right}
+use Rattle.sf_bounds.specs.declared.children.Valued.{Valued}
 use Rattle.sf_search_core.specs.declared.entry.Entry.{Entry}
 use Rattle.sf_search_core.specs.State.{State}
 use Rattle.sf_worker.specs.declared.decision.Decision.{Decision}
@@ -94,6 +96,11 @@ pub record IsFollowed (design : Design) (bound : Parts → ℕ) (old : Progress)
   pub left : left_of design new ≡ made tag old.path.node ++ behind (root design) old.path.node.steps
   pub word : new.word ≡ old.word
   pub best : new.best ≡ old.best
+
+-- the value of the subproblem, and those of its parts where they came with it
+pub record IsValued (bound : Parts → ℕ) (part : Parts → Part → ℕ) (node : Parts) (valued : Valued) : Type 0 where
+  pub value : valued.value ≡ bound node
+  pub parts : IfSome valued.parts (AreValues (part node))
 
 -- the tag of a visit, with the part that it names against the word after the visit
 abbrev pub tag_after : (Parts → ℕ) → (Parts → Part → ℕ) → Parts → Visit → ℕ → Tag

@@ -41,8 +41,7 @@ impl Model for Walk {
 }
 
 impl Walk {
-    ghost use Rattle.std.specs.Prelude.{[], ◌∷◌, ◌++◌, map, length, true, None, IfOk, IfSome, OnOk};
-    ghost use Rattle.sf_node.specs.ByPart.{AreValues, first_part};
+    ghost use Rattle.std.specs.Prelude.{[], ◌∷◌, ◌++◌, map, length, true, None, IfOk, OnOk};
     ghost use Rattle.sf_node.specs.Subproblem.{root};
     ghost use Rattle.sf_bounds.specs.Serving.{MayServe};
     ghost use Rattle.sf_certificate.specs.Marks.{MaySplit};
@@ -51,7 +50,7 @@ impl Walk {
     ghost use Rattle.sf_rounds.specs.declared.visit.Visit.{Visit};
     ghost use Rattle.sf_rounds.specs.Run.{best_after};
     ghost use Rattle.sf_rounds.specs.Naming.{kept_for, renamed};
-    ghost use Rattle.sf_rounds.specs.Stage.{IsFollowed, IsMove, left_of, tag_after};
+    ghost use Rattle.sf_rounds.specs.Stage.{IsFollowed, IsMove, IsValued, left_of, tag_after};
 
     /// Before the first visit.
     pub fn new<V: Values>(alloc: Global, design: &Design, values: &V) -> Result<Walk, NoMemory>
@@ -125,7 +124,8 @@ impl Walk {
         requires at { IsPath design.now (V.value values.now design.now) self.old.path }
         requires value { value ≡ V.value values.now design.now self.old.path.node }
         requires may { MaySplit tag self.old.path.node }
-        ensures { OnOk result (IsFollowed design.now (V.value values.now design.now) self.old tag self.new) }
+        ensures { OnOk result
+            (IsFollowed design.now (V.value values.now design.now) self.old tag self.new) }
     {
         self.tags.push(tag)?;
         self.more = self.cursor.follow(design, values, tag, Some(value))?;
@@ -141,9 +141,8 @@ impl Walk {
     ) -> Result<Valued, NoMemory>
         requires at { IsPath design.now (B.Values.value bounds.now design.now) self.now.path }
         requires serves { MayServe room.old design.now }
-        ensures value { IfOk result (λ v. v.value ≡ B.Values.value bounds.now design.now self.now.path.node) }
-        ensures parts { IfOk result
-            (λ v. IfSome v.parts (AreValues (B.part_value bounds.now design.now self.now.path.node))) }
+        ensures valued { IfOk result (IsValued (B.Values.value bounds.now design.now)
+            (B.part_value bounds.now design.now) self.now.path.node) }
         ensures serves { MayServe room.new design.now }
     {
         match self.cursor.parent_value(design, bounds) {
@@ -173,63 +172,8 @@ impl Walk {
         }
     }
 
-    /// The values of the parts at the subproblem that is next.
-    fn parts<'a, B: Bounds>(
-        &self,
-        design: &'a Design,
-        bounds: &B,
-        valued: Valued,
-        room: &mut Room<'a>,
-    ) -> Result<PartValues, NoMemory>
-        requires at { IsPath design.now (B.Values.value bounds.now design.now) self.now.path }
-        requires value { valued.value ≡ B.Values.value bounds.now design.now self.now.path.node }
-        requires parts { IfSome valued.parts
-            (AreValues (B.part_value bounds.now design.now self.now.path.node)) }
-        requires serves { MayServe room.old design.now }
-        ensures values { IfOk result (AreValues (B.part_value bounds.now design.now self.now.path.node)) }
-        ensures serves { MayServe room.new design.now }
-    {
-        match valued.parts {
-            Some(values) => Ok(values),
-            None => bounds.parts(design, self.cursor.node(), room),
-        }
-    }
-
-    /// Closes the subproblem that is next: the tag names the first part that is at least the cost. The values
-    /// of the parts are kept where that is not the area, since the cost may fall.
-    fn close<'a, B: Bounds>(
-        &mut self,
-        design: &'a Design,
-        bounds: &B,
-        valued: Valued,
-        cost: u64,
-        room: &mut Room<'a>,
-    ) -> Result<Tag, NoMemory>
-        requires at { IsPath design.now (B.Values.value bounds.now design.now) self.old.path }
-        requires value { valued.value ≡ B.Values.value bounds.now design.now self.old.path.node }
-        requires parts { IfSome valued.parts
-            (AreValues (B.part_value bounds.now design.now self.old.path.node)) }
-        requires serves { MayServe room.old design.now }
-        ensures tag { IfOk result
-            (λ tag. tag ≡ Tag.Closed
-            (first_part (B.part_value bounds.now design.now self.old.path.node) cost)) }
-        ensures kept { IfOk result
-            (λ tag. self.new
-            ≡ record self.old {
-              kept = self.old.kept ++ kept_for
-                  (B.part_value bounds.now design.now self.old.path.node) tag;
-            }) }
-        ensures serves { MayServe room.new design.now }
-    {
-        let values = self.parts(design, bounds, valued, room)?;
-        let part = values.first(cost);
-        if part != Part::Area {
-            self.kept.push(values)?;
-        }
-        Ok(Tag::Closed(part))
-    }
-
-    /// The tag of a visit.
+    /// The tag of a visit. A closed subproblem names the first part that is at least the cost after it, and
+    /// where that is not the area the values of the parts are kept, since the cost may fall.
     fn tag<'a, B: Bounds>(
         &mut self,
         design: &'a Design,
@@ -239,9 +183,8 @@ impl Walk {
         room: &mut Room<'a>,
     ) -> Result<Tag, NoMemory>
         requires at { IsPath design.now (B.Values.value bounds.now design.now) self.old.path }
-        requires value { valued.value ≡ B.Values.value bounds.now design.now self.old.path.node }
-        requires parts { IfSome valued.parts
-            (AreValues (B.part_value bounds.now design.now self.old.path.node)) }
+        requires valued { IsValued (B.Values.value bounds.now design.now)
+            (B.part_value bounds.now design.now) self.old.path.node valued }
         requires serves { MayServe room.old design.now }
         ensures tag { IfOk result
             (λ tag. tag ≡ tag_after (B.Values.value bounds.now design.now)
@@ -254,12 +197,21 @@ impl Walk {
             }) }
         ensures serves { MayServe room.new design.now }
     {
-        match seen {
-            Visit::Closed => self.close(design, bounds, valued, self.word, room),
-            Visit::Solved(_) => self.close(design, bounds, valued, valued.value, room),
-            Visit::Extended => Ok(Tag::Extend),
-            Visit::Split(block) => Ok(Tag::Split(*block)),
+        let cost = match seen {
+            Visit::Closed => self.word,
+            Visit::Solved(_) => valued.value,
+            Visit::Extended => return Ok(Tag::Extend),
+            Visit::Split(block) => return Ok(Tag::Split(*block)),
+        };
+        let values = match valued.parts {
+            Some(values) => values,
+            None => bounds.parts(design, self.cursor.node(), room)?,
+        };
+        let part = values.first(cost);
+        if part != Part::Area {
+            self.kept.push(values)?;
         }
+        Ok(Tag::Closed(part))
     }
 
     /// Visits the subproblem that is next.

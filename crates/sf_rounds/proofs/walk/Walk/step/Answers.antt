@@ -20,7 +20,7 @@ returns-in-Solved-clause-moved g c =
     (subst (λ z. IsVisit design bound old.path.node z seen) word (subst (λ n. IsVisit design bound n c.self.inside.word seen) node c.in_ok-seen.ensures)) in
     let put = c.in_ok-tag.ensures in (
       Solved expr,
-      moved-solved design bound part old c.tag.new.self c.follow.new.self c.match-self.self expr c.in_ok-tag.tag value visit c.in_ok-valued.ensures.value
+      moved-solved design bound part old c.tag.new.self c.follow.new.self c.match-self.self expr c.in_ok-tag.tag value visit c.in_ok-valued.ensures.valued.value
           (subst (λ v. c.in_ok-tag.tag ≡ tag_after bound part old.path.node v old.word) c.in-Solved.is put.tag) put.kept c.in_ok-follow.ensures
           (elim c.match-self.branch [
             | in-Some-1 w ↦ w.self-is ∙ ap (λ (f : Progress). record f { word = value; best = Some expr }) c.self-2.view_is
