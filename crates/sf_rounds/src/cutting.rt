@@ -4,8 +4,7 @@ ghost use Rattle.std.specs.Prelude.{◌≡◌, ◌≤◌, ◌++◌, length, true
 ghost use Rattle.std.specs.Ordering.{is_lt};
 ghost use Rattle.sf_node.specs.Order.{steps_cmp};
 ghost use Rattle.std.specs.Thread.{IsSync};
-ghost use Rattle.sf_rounds.specs.InOrder.{AreCut};
-ghost use Rattle.sf_rounds.specs.Piles.{all_in};
+ghost use Rattle.sf_rounds.specs.InOrder.{AreCut, IsCut};
 
 use crate::pile::{Pile, count_of};
 use sf_certificate::{Mark, compare_steps};
@@ -45,7 +44,7 @@ fn are_on_side(marks: &[Mark], path: &[Step], is_before: bool) -> bool
 }
 
 /// Cuts marks by a path. What a worker logs in one round mostly lies on one side of it, and then no mark is
-/// moved.
+/// moved; otherwise they are dealt out one by one.
 #[tactic(auto, using(crate::proofs::Cuts::cut_all_low, crate::proofs::Cuts::cut_all_high))]
 fn cut_marks(alloc: Global, marks: Vec<Mark>, path: &[Step]) -> Result<Sides, NoMemory>
     ensures cut { IfOk result (λ c. AreCut path.now marks.items c.before.items c.others.items) }
@@ -63,13 +62,6 @@ fn cut_marks(alloc: Global, marks: Vec<Mark>, path: &[Step]) -> Result<Sides, No
             others: marks,
         });
     }
-    deal_out(alloc, marks, path)
-}
-
-/// The same mark by mark.
-fn deal_out(alloc: Global, marks: Vec<Mark>, path: &[Step]) -> Result<Sides, NoMemory>
-    ensures cut { IfOk result (λ c. AreCut path.now marks.items c.before.items c.others.items) }
-{
     let mut before = Vec::with_capacity(alloc, marks.len())?;
     let mut others = Vec::with_capacity(alloc, marks.len())?;
     for mark in marks {
@@ -86,8 +78,7 @@ fn deal_out(alloc: Global, marks: Vec<Mark>, path: &[Step]) -> Result<Sides, NoM
 
 /// Cuts piles by a path, one after another.
 fn cut_piles(alloc: Global, piles: Vec<Pile>, path: &[Step]) -> Result<Cut, NoMemory>
-    ensures cut { IfOk result
-        (λ c. AreCut path.now (all_in piles.items) (all_in c.before.items) (all_in c.others.items)) }
+    ensures cut { IfOk result (IsCut path.now piles.items) }
 {
     let mut all = Cut {
         before: Vec::new(alloc),
@@ -129,8 +120,7 @@ pub fn cut_by_threads<R: Threads + Sync>(
     path: &[Step],
     threads: usize,
 ) -> Result<Cut, NoMemory>
-    ensures cut { IfOk result
-        (λ c. AreCut path.now (all_in piles.items) (all_in c.before.items) (all_in c.others.items)) }
+    ensures cut { IfOk result (IsCut path.now piles.items) }
 {
     if threads < 2 {
         return cut_piles(alloc, piles, path);
@@ -141,13 +131,11 @@ pub fn cut_by_threads<R: Threads + Sync>(
     let rest = piles.split_off(place)?;
     let front = move || -> Result<Cut, NoMemory>
         requires { IsSync R.row }
-        ensures { IfOk result (λ c. AreCut path.entry.now (all_in piles.items)
-            (all_in c.before.items) (all_in c.others.items)) }
+        ensures { IfOk result (IsCut path.entry.now piles.items) }
     { cut_by_threads(rt, alloc, piles, path, few) };
     let back = move || -> Result<Cut, NoMemory>
         requires { IsSync R.row }
-        ensures { IfOk result (λ c. AreCut path.entry.now (all_in rest.items)
-            (all_in c.before.items) (all_in c.others.items)) }
+        ensures { IfOk result (IsCut path.entry.now rest.items) }
     { cut_by_threads(rt, alloc, rest, path, more) };
     let (first, second) = join(rt, front, back);
     let one = first?;

@@ -1,14 +1,14 @@
 //! The tags of what several workers decided, in preorder. The marks are cut in two by a path until there are
 //! as many parts as threads, and each part is put in order, named and given back in a thread of its own.
 
-ghost use Rattle.std.specs.Prelude.{◌≡◌, ◌≤◌, map, List, All, IfOk};
+ghost use Rattle.std.specs.Prelude.{◌≡◌, ◌≤◌, map, List, IfOk};
 ghost use Rattle.sf_certificate.specs.declared.mark.Mark.{Mark as MarkValue};
 ghost use Rattle.sf_certificate.specs.Marks.{lent};
 ghost use Rattle.sf_node.specs.declared.step.Step.{Step};
 ghost use Rattle.std.specs.Thread.{IsSync};
 ghost use Rattle.sf_bounds.specs.Serving.{MayServe};
 ghost use Rattle.sf_node.specs.Children.{IsSubproblem};
-ghost use Rattle.sf_rounds.specs.InOrder.{AreCut, AreInOrder};
+ghost use Rattle.sf_rounds.specs.InOrder.{AreCut, AreInOrder, AreSubproblems};
 ghost use Rattle.sf_rounds.specs.Naming.{named};
 ghost use Rattle.sf_rounds.specs.Piles.{all_in};
 
@@ -35,7 +35,7 @@ pub fn tags_in_order<R: Threads + Sync, B: Bounds>(
     piles: Vec<Pile>,
     threads: usize,
 ) -> Result<Vec<Tag>, NoMemory>
-    requires subproblems { All (λ m. IsSubproblem design.now m.node) (all_in piles.items) }
+    requires subproblems { AreSubproblems design.now (all_in piles.items) }
     ensures in_order { IfOk result
         (λ tags. AreInOrder (B.part_value bounds.now design.now) cost (all_in piles.items) tags.items) }
 {
@@ -60,8 +60,8 @@ fn tags_of_both<R: Threads + Sync, B: Bounds>(
     threads: usize,
 ) -> Result<Vec<Tag>, NoMemory>
     requires threads { 2 ≤ threads }
-    requires before { All (λ m. IsSubproblem design.now m.node) (all_in parts.before.items) }
-    requires others { All (λ m. IsSubproblem design.now m.node) (all_in parts.others.items) }
+    requires before { AreSubproblems design.now (all_in parts.before.items) }
+    requires others { AreSubproblems design.now (all_in parts.others.items) }
     ensures in_order { IfOk result (λ tags. (path : List Step) (marks : List MarkValue)
         → AreCut path marks (all_in parts.before.items) (all_in parts.others.items)
         → AreInOrder (B.part_value bounds.now design.now) cost marks tags.items) }
@@ -70,13 +70,13 @@ fn tags_of_both<R: Threads + Sync, B: Bounds>(
     let few = threads / 2;
     let more = threads - few;
     let front = move || -> Result<Vec<Tag>, NoMemory>
-        requires { IsSync R.row × IsSync B.row × All (λ m. IsSubproblem design.now m.node) (all_in before.items) }
+        requires { IsSync R.row × IsSync B.row × AreSubproblems design.now (all_in before.items) }
         ensures { IfOk result
             (λ tags. AreInOrder
             (B.part_value bounds.entry.now design.entry.now) cost (all_in before.items) tags.items) }
     { tags_in_order(rt, alloc, design, bounds, cost, before, few) };
     let back = move || -> Result<Vec<Tag>, NoMemory>
-        requires { IsSync R.row × IsSync B.row × All (λ m. IsSubproblem design.now m.node) (all_in others.items) }
+        requires { IsSync R.row × IsSync B.row × AreSubproblems design.now (all_in others.items) }
         ensures { IfOk result
             (λ tags. AreInOrder
             (B.part_value bounds.entry.now design.entry.now) cost (all_in others.items) tags.items) }
@@ -96,7 +96,7 @@ fn tags_of_part<B: Bounds>(
     cost: u64,
     piles: Vec<Pile>,
 ) -> Result<Vec<Tag>, NoMemory>
-    requires subproblems { All (λ m. IsSubproblem design.now m.node) (all_in piles.items) }
+    requires subproblems { AreSubproblems design.now (all_in piles.items) }
     ensures in_order { IfOk result
         (λ tags. AreInOrder (B.part_value bounds.now design.now) cost (all_in piles.items) tags.items) }
 {
@@ -115,7 +115,7 @@ fn name_marks<B: Bounds>(
     cost: u64,
     marks: &[&Mark],
 ) -> Result<Vec<Tag>, NoMemory>
-    requires subproblems { All (λ m. IsSubproblem design.now m.node) (lent marks.now) }
+    requires subproblems { AreSubproblems design.now (lent marks.now) }
     ensures tags { IfOk result
         (λ tags. tags.items ≡ map
         (λ m. named (B.part_value bounds.now design.now m.node) cost m.tag) (lent marks.now)) }

@@ -2,7 +2,7 @@ use Rattle.std.proofs.Common.{◌≡◌, true, false, rules}
 use Rattle.std.specs.Ordering.{is_lt}
 use Rattle.sf_node.specs.Order.{steps_cmp}
 use Rattle.sf_rounds.proofs.Cuts.{cut-more-low, cut-more-high}
-use Rattle.sf_rounds.proofs.cutting.deal_out.Goals as goal
+use Rattle.sf_rounds.proofs.cutting.cut_marks.Goals as goal
 
 pub loop-mark-preserved-in-Continue-branch-3 : goal.loop-mark-preserved-in-Continue-branch-3
 loop-mark-preserved-in-Continue-branch-3 c =
