@@ -40,7 +40,7 @@ use Rattle.sf_certificate.proofs.MergedCert.{merged-formed, task-bounds}
 use Rattle.sf_certificate.proofs.MergedTree.{IsMerged, conserved-tree, conserved-marks, sorted-marks}
 use Rattle.sf_certificate.proofs.Named.{first-close, unnamed-marks, unnamed-open, unnamed-decided, unnamed-tree}
 use Rattle.sf_rounds.specs.Certify.{IsOutcome, IsCertified}
-use Rattle.sf_rounds.specs.InOrder.{AreInOrder}
+use Rattle.sf_rounds.specs.InOrder.{AreInOrder, AreSubproblems}
 use Rattle.sf_rounds.specs.Naming.{named}
 use Rattle.sf_rounds.proofs.Handed.{priced}
 use Rattle.sf_rounds.proofs.Names.{named-alike}
@@ -173,13 +173,13 @@ module _ (design : Design) (bound : Parts → ℕ) (part : Parts → Part → �
   one = root design ∷ []
 
   -- the marks of what is conserved are subproblems
-  pub given-subproblems : (given : List Mark) → IsPermutation (given_marks entries left) given → All (λ m. IsSubproblem design m.node) given
-  given-subproblems given p = All-permutation (λ m. IsSubproblem design m.node) (given_marks entries left) given p (All-from_recursion (λ (m : Mark). IsSubproblem design m.node) (given_marks entries left) (conserved-marks design bound entries left o.conserved))
+  pub given-subproblems : (given : List Mark) → given ≡ given_marks entries left → AreSubproblems design given
+  given-subproblems given g = subst (AreSubproblems design) (sym g) (All-from_recursion (λ (m : Mark). IsSubproblem design m.node) (given_marks entries left) (conserved-marks design bound entries left o.conserved))
 
-  module _ (given : List Mark) (tags : List Tag) (g : IsPermutation (given_marks entries left) given) (a : AreInOrder part cost given tags) where
+  module _ (given : List Mark) (tags : List Tag) (g : given ≡ given_marks entries left) (a : AreInOrder part cost given tags) where
     -- the marks of the entries and of the open tasks, in the order of their paths
     moved : IsPermutation (given_marks entries left) a.sorted
-    moved = IsPermutation-trans (given_marks entries left) given a.sorted g a.same
+    moved = subst (λ ms. IsPermutation ms a.sorted) g a.same
 
     -- the entries and the open tasks are merged into the tags of the sorted marks
     bare : IsMerged design bound part cost entries left (map (λ m. m.tag) a.sorted)
@@ -203,10 +203,11 @@ module _ (design : Design) (bound : Parts → ℕ) (part : Parts → Part → �
         (all-named part cost a.sorted one (sorted-marks design bound part cost entries left a.sorted o.conserved bare moved a.rising)))
 
     -- plan, cost and tags have the form of a certificate's
-    pub shared-form : (n : ℕ) → n ≡ block_count design → IsFormed n plan cost tags
-    shared-form n e =
+    pub shared-form : (n : ℕ) (own : List Tag) → n ≡ block_count design → own ≡ tags → IsFormed n plan cost own
+    shared-form n own e t =
         let f = merged-formed design bound part cost cost n entries left (map unnamed tags) plan e merged o.planned (subproblem-shallow design) in
-        record { some_block = f.some_block; few_blocks = f.few_blocks; planned = f.planned; unplanned = f.unplanned; tree = subst IsTrue (unnamed-tree n tags) f.tree }
+        subst (IsFormed n plan cost) (sym t)
+        (record { some_block = f.some_block; few_blocks = f.few_blocks; planned = f.planned; unplanned = f.unplanned; tree = subst IsTrue (unnamed-tree n tags) f.tree })
 
     -- a certificate of these tags, this plan and this cost is certified by the entries and the open tasks
     pub shared-out : (cert : Cert) → cert.tags ≡ tags → cert.plan ≡ plan → cert.cost ≡ cost → cert.bound ≡ least cost (map (λ (t : Task). t.bound) left) → cert.blocks ≡ block_count design → IsCertified design bound part entries left plan cost cert

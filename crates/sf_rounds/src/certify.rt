@@ -1,6 +1,6 @@
 //! The certificate of what several workers decided.
 
-ghost use Rattle.std.specs.Prelude.{◌≡◌, ◌≤◌, IfOk};
+ghost use Rattle.std.specs.Prelude.{◌≡◌, IfOk};
 ghost use Rattle.sf_certificate.specs.Marks.{given_marks};
 ghost use Rattle.sf_rounds.specs.Piles.{all_in};
 ghost use Rattle.sf_rounds.specs.Certify.{IsOutcome, IsCertified};
@@ -21,7 +21,8 @@ use std::thread::Threads;
 const MANY: u64 = 4096;
 
 /// The certificate of a search: the tree of its entries and open tasks, in which each closed subproblem names
-/// the first part of the bound that is at least the cost.
+/// the first part of the bound that is at least the cost. Of few entries this thread alone merges and names
+/// it, by a walk over the tree.
 pub fn certify<R: Threads + Sync, B: Bounds>(
     rt: &R,
     alloc: Global,
@@ -34,63 +35,18 @@ pub fn certify<R: Threads + Sync, B: Bounds>(
     plan: Option<Expr>,
     cost: u64,
 ) -> Result<Cert, NoMemory>
-    requires threads { 2 ≤ threads }
     requires outcome { IsOutcome design.now
         (B.Values.value bounds.now design.now) entries left.items plan cost }
-    ensures certified { IfOk result
+    ensures { IfOk result
         (IsCertified design.now (B.Values.value bounds.now design.now)
         (B.part_value bounds.now design.now) entries left.items plan cost) }
 {
     if decided < MANY {
-        merge_and_name(alloc, design, bounds, entries, left, plan, cost)
-    } else {
-        share_out(
-            rt, alloc, design, bounds, threads, entries, left, plan, cost,
-        )
+        let entries = entries.into_vec(alloc)?;
+        let merged = merge(alloc, design, entries, left, plan, cost, bounds)?;
+        let named = name_parts(alloc, design, bounds, merged)?;
+        return Ok(named);
     }
-}
-
-/// The same by this thread alone, by a walk over the tree.
-fn merge_and_name<B: Bounds>(
-    alloc: Global,
-    design: &Design,
-    bounds: &B,
-    entries: Log,
-    left: Vec<Task>,
-    plan: Option<Expr>,
-    cost: u64,
-) -> Result<Cert, NoMemory>
-    requires outcome { IsOutcome design.now
-        (B.Values.value bounds.now design.now) entries left.items plan cost }
-    ensures certified { IfOk result
-        (IsCertified design.now (B.Values.value bounds.now design.now)
-        (B.part_value bounds.now design.now) entries left.items plan cost) }
-{
-    let entries = entries.into_vec(alloc)?;
-    let merged = merge(alloc, design, entries, left, plan, cost, bounds)?;
-    let cert = name_parts(alloc, design, bounds, merged)?;
-    Ok(cert)
-}
-
-/// The same by so many threads.
-fn share_out<R: Threads + Sync, B: Bounds>(
-    rt: &R,
-    alloc: Global,
-    design: &Design,
-    bounds: &B,
-    threads: usize,
-    entries: Log,
-    left: Vec<Task>,
-    plan: Option<Expr>,
-    cost: u64,
-) -> Result<Cert, NoMemory>
-    requires threads { 2 ≤ threads }
-    requires outcome { IsOutcome design.now
-        (B.Values.value bounds.now design.now) entries left.items plan cost }
-    ensures certified { IfOk result
-        (IsCertified design.now (B.Values.value bounds.now design.now)
-        (B.part_value bounds.now design.now) entries left.items plan cost) }
-{
     let bound = least_bound(cost, &left);
     let piles = piles_of(alloc, entries, left)?;
     let tags = tags_in_order(rt, alloc, design, bounds, cost, piles, threads)?;
