@@ -1,5 +1,5 @@
 -- What holds of a search with several workers between its steps.
-use Rattle.std.specs.Prelude.{◌≡◌, ℕ, ◌+◌, length, List, [], ◌∷◌, ◌++◌, Option, Some, None, IsPermutation}
+use Rattle.std.specs.Prelude.{◌≡◌, ℕ, ◌<◌, ◌+◌, length, List, [], ◌∷◌, ◌++◌, Option, Some, None, IsPermutation}
 use Rattle.sf_model.specs.declared.design.Design.{Design}
 use Rattle.sf_polish.specs.declared.expr.Expr.{Expr}
 use Rattle.sf_node.specs.declared.task.Task.{Task}
@@ -21,6 +21,16 @@ pub record IsSearch (design : Design) (bound : Parts → ℕ) (tasks : List Task
   pub core : IsCoreState design bound (between tasks entries value)
   pub best_is : IsBest design value best
   pub splits : AllBranchFirst design entries
+
+-- what is searched so far is a search
+abbrev pub IsSearchSoFar : Design → (Parts → ℕ) → Progress → Type 0
+IsSearchSoFar design bound progress = IsSearch design bound progress.open_tasks progress.entries progress.value progress.best
+
+-- a search with this budget at its end: no more than the budget is decided, and all of it where a task is open
+pub record IsSearched (design : Design) (bound : Parts → ℕ) (nodes : ℕ) (progress : Progress) : Type 0 where
+  pub search : IsSearchSoFar design bound progress
+  pub left : length progress.entries + progress.left ≡ nodes
+  pub spent : 0 < length progress.open_tasks → progress.left ≡ 0
 
 -- the newer plan, where there is one
 abbrev pub newer : Option Expr → Option Expr → Option Expr

@@ -5,7 +5,7 @@ ghost use Rattle.std.specs.Prelude.{IsPermutation, All};
 ghost use Rattle.sf_worker.specs.Tasks.{IsTask};
 ghost use Rattle.sf_bounds.specs.Serving.{MayServe};
 ghost use Rattle.sf_rounds.specs.Rounds.{IsRound};
-ghost use Rattle.sf_rounds.specs.Searching.{IsSearch, IsOne, IsAbsorbed};
+ghost use Rattle.sf_rounds.specs.Searching.{IsAbsorbed, IsOne, IsSearched, IsSearchSoFar};
 
 use crate::job::RoundOut;
 use crate::log::Log;
@@ -140,9 +140,7 @@ fn begin<'a, B: Bounds>(
     room: &mut Room<'a>,
 ) -> Result<Progress, NoMemory>
     requires serves { MayServe room.old design.now }
-    ensures search { IfOk result
-        (λ p. IsSearch design.now
-        (B.Values.value bounds.now design.now) p.open_tasks p.entries p.value p.best) }
+    ensures search { IfOk result (IsSearchSoFar design.now (B.Values.value bounds.now design.now)) }
     ensures none { IfOk result (λ p. p.entries ≡ []) }
     ensures left { IfOk result (λ p. p.left ≡ nodes) }
     ensures serves { MayServe room.new design.now }
@@ -169,16 +167,12 @@ fn decide_least<'a, B: Bounds>(
     bounds: &B,
     room: &mut Room<'a>,
 ) -> Result<(), NoMemory>
-    requires search { IsSearch design.now
-        (B.Values.value bounds.now design.now) progress.old.open_tasks progress.old.entries progress.old.value
-        progress.old.best }
+    requires search { IsSearchSoFar design.now (B.Values.value bounds.now design.now) progress.old }
     requires some { 0 < length progress.old.open_tasks }
     requires left { 0 < progress.old.left }
     requires serves { MayServe room.old design.now }
     ensures search { IfOk result
-        (λ _. IsSearch design.now
-        (B.Values.value bounds.now design.now) progress.new.open_tasks progress.new.entries progress.new.value
-        progress.new.best) }
+        (λ _. IsSearchSoFar design.now (B.Values.value bounds.now design.now) progress.new) }
     ensures one_more { IfOk result (λ _. length progress.new.entries ≡ length progress.old.entries + 1) }
     ensures one_less { IfOk result (λ _. progress.new.left + 1 ≡ progress.old.left) }
     ensures serves { MayServe room.new design.now }
@@ -224,14 +218,10 @@ fn run_round<R: Threads + Sync, B: Bounds, G: Gate>(
     decided: u64,
     gate: &G,
 ) -> Result<(), NoMemory>
-    requires search { IsSearch design.now
-        (B.Values.value bounds.now design.now) progress.old.open_tasks progress.old.entries progress.old.value
-        progress.old.best }
+    requires search { IsSearchSoFar design.now (B.Values.value bounds.now design.now) progress.old }
     requires workers { (1 ≤ workers) × (workers ≤ 16) }
     ensures search { IfOk result
-        (λ _. IsSearch design.now
-        (B.Values.value bounds.now design.now) progress.new.open_tasks progress.new.entries progress.new.value
-        progress.new.best) }
+        (λ _. IsSearchSoFar design.now (B.Values.value bounds.now design.now) progress.new) }
     ensures spent { IfOk result
         (λ _. length progress.new.entries + progress.new.left
         ≡ length progress.old.entries + progress.old.left) }
@@ -270,11 +260,7 @@ pub fn search_rounds<R: Threads + Sync, B: Bounds, G: Gate>(
     gate: &G,
 ) -> Result<Progress, NoMemory>
     requires { (1 ≤ workers) × (workers ≤ 16) }
-    ensures search { IfOk result
-        (λ p. IsSearch design.now
-        (B.Values.value bounds.now design.now) p.open_tasks p.entries p.value p.best) }
-    ensures left { IfOk result (λ p. length p.entries + p.left ≡ nodes) }
-    ensures spent { IfOk result (λ p. 0 < length p.open_tasks → p.left ≡ 0) }
+    ensures { IfOk result (IsSearched design.now (B.Values.value bounds.now design.now) nodes) }
 {
     let mut room = Room::new(alloc);
     let mut progress = begin(alloc, design, bounds, nodes, &mut room)?;
