@@ -7,7 +7,8 @@ use sf_search_core::{Entry, EntryList};
 use std::alloc::{AllocError as NoMemory, Global};
 use std::marker::Model;
 
-/// The entries, list by list as the workers logged them, so that none is moved. Contracts see them as one list.
+/// The entries, list by list as the workers logged them, so that none is moved. Contracts see them as one
+/// list.
 #[derive(Drop)]
 pub struct Log {
     lists: Vec<EntryList>,
