@@ -4,12 +4,13 @@ use Rattle.std.specs.Prelude.{◌&&◌, ◌||◌, map, min, sum_by, nat_lt, Some
 use Rattle.std.specs.Fmt.{decimal}
 use Rattle.std.specs.List.{flat_map, list_any}
 use Rattle.std.specs.Str.{bytes_eq}
-use Rattle.std.proofs.lemmas.Bool.{cases_eq}
+use Rattle.std.proofs.lemmas.Bool.{cases_eq, false_from_ne_true}
 use Rattle.std.proofs.lemmas.Bool.Decides.{nat_tests}
 use Rattle.std.proofs.lemmas.Fmt.{decimal_digit, decimal_injective}
 use Rattle.std.proofs.lemmas.List.{length-map}
 use Rattle.std.proofs.lemmas.List.Sums.{sum_by-cons}
 use Rattle.std.proofs.lemmas.Slice.Eq.{bytes_eq-Decides}
+use Rattle.std.proofs.Math.Bool.{or-true, and-false}
 use Rattle.sf_model.specs.declared.fault.BuildFault.{BuildFault}
 use Rattle.sf_model.specs.declared.fault.BuildFault.TheVariants as fault
 use Rattle.sf_model.specs.declared.fault.Limit.{Limit}
@@ -49,15 +50,10 @@ within quantity most found h = let low : nat_lt most found ≡ false = grind (ar
 
 -- ---- names
 
--- a truth value that cannot be true is false
-false_of : (b : Bool) → (b ≡ true → ⊥) → b ≡ false
-false_of true h = absurd (h refl)
-false_of false h = refl
-
 -- two different numbers below 2^64 have different decimal texts
 differ : (i j : ℕ) → i < j → j < 2 ^ 64 → bytes_eq (decimal i) (decimal j) ≡ false
 differ i j h low =
-    false_of (bytes_eq (decimal i) (decimal j))
+    false_from_ne_true (bytes_eq (decimal i) (decimal j))
     (λ e. let same = decimal_injective i j (omega arith) low ((bytes_eq-Decides (decimal i) (decimal j)).0 e) in absurd (omega (arith, same)))
 
 module _ (kinds : Kinds) where
@@ -77,18 +73,13 @@ module _ (kinds : Kinds) where
   no_repeats i [] low = refl
   no_repeats i (s ∷ sizes) low = rw (later_differs i (i + 1) sizes (omega arith) (omega arith)) (no_repeats (i + 1) sizes (omega arith))
 
-  -- a disjunction with true is true
-  or_true : (b : Bool) → (b || true) ≡ true
-  or_true true = refl
-  or_true false = refl
-
   -- the name of each block from number i on is among these names
   is_found : (a i : ℕ) (sizes : List Size) → i ≤ a → a < i + length sizes → list_any (bytes_eq (block_name a)) (names_from i sizes) ≡ true
   unfolding names_from
   is_found a i [] low high = absurd (omega arith)
   is_found a i (s ∷ sizes) low high = elim (cases_eq a i) [
     | inl e ↦ rw ((bytes_eq-Decides (decimal a) (decimal i)).1 (ap decimal e)) refl
-    | inr n ↦ rw (is_found a (i + 1) sizes (omega arith) (omega arith)) (or_true (bytes_eq (decimal a) (decimal i)))
+    | inr n ↦ rw (is_found a (i + 1) sizes (omega arith) (omega arith)) (or-true (bytes_eq (decimal a) (decimal i)))
   ]
 
   -- a name that begins with `p` is not among the names of blocks
@@ -136,11 +127,6 @@ module _ (n : ℕ) (f : List ℕ → List BuildFault) (blocks : (a : ℕ) → a 
       (each_indexed (IsAmong n) (λ pins. Each (λ name. f name ≡ []) pins) pins_of net_none 0 (ends seed n) (ends_among seed n low))
 
 -- ---- the faults, one kind after another
-
--- a conjunction with false is false
-and_false : (b : Bool) → (b && false) ≡ false
-and_false true = refl
-and_false false = refl
 
 -- a block of small sides, soft or hard, has no number beyond its limit
 kind_within : (b : Bool) (s : Size) → IsSmall s → over_kind (cond b (kind.Soft (s.w * s.h) 500_000 2_000_000) (kind.Hard s.w s.h)) ≡ []
@@ -217,7 +203,7 @@ module _ (kinds : Kinds) (seed n : ℕ) (low : 1 ≤ n) (high : n ≤ 320) where
   once_each =
       let f = if_both parts in
       let not_block = λ (x : List ℕ). not_both (112 ∷ x) (no_pad_is_block kinds x 0 (sizes seed n)) in
-      let of_blocks : (a : ℕ) → a < n → f (block_name a) ≡ [] = λ a h. rw (and_false (is_block_name parts (block_name a))) refl in
+      let of_blocks : (a : ℕ) → a < n → f (block_name a) ≡ [] = λ a h. rw (and-false (is_block_name parts (block_name a))) refl in
       let of_pads : (p : ℕ) → p < 4 → f (pad_name p) ≡ [] = λ p h. not_block (decimal p) in
       let names : map fault.DuplicateName (repeated (block_names parts.blocks)) ≡ [] = ap (map fault.DuplicateName) (no_repeats kinds 0 (sizes seed n) short) in
       let pins : at_pin_names f parts.nets ≡ [] = pins_none n f of_blocks of_pads seed low in

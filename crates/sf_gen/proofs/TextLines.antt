@@ -1,13 +1,12 @@
 -- The lines of a text that was written piece by piece.
-use Rattle.std.proofs.Common.{◌≡◌, ℕ, ◌+◌, Bool, true, false, List, [], ◌∷◌, ◌++◌, refl, sym, ap, ◌∙◌, append_assoc}
-use Rattle.std.specs.Prelude.{not}
+use Rattle.std.proofs.Common.{◌≡◌, ℕ, ◌+◌, true, List, [], ◌∷◌, ◌++◌, refl, sym, ap, ◌∙◌, append_assoc}
 use Rattle.std.specs.List.{AllZip, flat_map}
 use Rattle.std.proofs.lemmas.List.{append-nil}
 use Rattle.sf_lex.specs.Text.{lines, is_line_feed, has_none}
 use Rattle.sf_lex.specs.Scan.{Line, numbered}
 use Rattle.sf_lex.specs.Gap.{first_word}
 use Rattle.sf_lex.specs.declared.field.Gap.TheVariants.{Blanks}
-use Rattle.sf_lex.proofs.Decimals.{and_true}
+use Rattle.sf_lex.proofs.Spelled.{first_fails}
 use Rattle.sf_gsrc.specs.Blocks.{content, content_of, is_content_word}
 
 -- each element of the list has the property
@@ -26,17 +25,6 @@ none = record { before = λ rest. refl }
 -- a line feed in front of a text makes an empty line in front
 pub ended : {t : List ℕ} {ls : List (List ℕ)} → IsLines t ls → IsLines (10 ∷ t) ([] ∷ ls)
 ended h = record { before = λ rest. ap (λ l. [] ∷ l) (h.before rest) }
-
--- what is not, is false
-not_true : (b : Bool) → not b ≡ true → b ≡ false
-not_true true e = absurd cc
-not_true false e = refl
-
--- where no byte passes the test, the first one does not, and none of the others does
-pub first_fails : (test : ℕ → Bool) (b : ℕ) (bytes : List ℕ) → has_none test (b ∷ bytes) ≡ true → (test b ≡ false) × (has_none test bytes ≡ true)
-first_fails test b bytes h =
-    let both = and_true (not (test b)) (has_none test bytes) h in
-    (not_true (test b) both.0, both.1)
 
 -- bytes without a line feed in front of a text go in front of its first line, whatever follows
 piece_before : (ds t l rest : List ℕ) (ls : List (List ℕ)) → has_none is_line_feed ds ≡ true → lines (t ++ rest) ≡ (l ∷ ls) ++ lines rest → lines ((ds ++ t) ++ rest) ≡ ((ds ++ l) ∷ ls) ++ lines rest

@@ -1,5 +1,5 @@
 -- The words of a line that was written.
-use Rattle.std.proofs.Common.{◌≡◌, ℕ, suc, ◌+◌, ◌<◌, ◌≤◌, ◌^◌, Bool, true, false, List, [], ◌∷◌, ◌++◌, length, take, drop, refl, ap, ◌∙◌, arith, mul-one}
+use Rattle.std.proofs.Common.{◌≡◌, ℕ, ◌+◌, ◌<◌, ◌≤◌, ◌^◌, Bool, true, false, List, [], ◌∷◌, ◌++◌, length, take, drop, refl, ap, ◌∙◌, arith, mul-one}
 use Rattle.std.specs.Prelude.{◌*◌, ◌==◌, nat_lt, Ok, Some, pos}
 use Rattle.std.specs.Int.{div_ceil}
 use Rattle.std.specs.Fmt.{decimal}
@@ -7,21 +7,17 @@ use Rattle.std.specs.List.{list_all, prefix_len, position_or_len, before_first, 
 use Rattle.std.proofs.lemmas.Bool.Decides.{nat_tests}
 use Rattle.std.proofs.lemmas.Fmt.{decimal_nonempty}
 use Rattle.std.proofs.lemmas.List.{append-nil, take_all, drop_all}
+use Rattle.std.proofs.Math.Numerals.{one-add}
 use Rattle.sf_lex.specs.Text.{words, is_line_feed, is_not_empty, has_none}
 use Rattle.sf_lex.specs.Gap.{is_gap, first_word, after_word}
 use Rattle.sf_lex.specs.Number.{is_digit, is_point, number_of, scaled, decimal_of, decimal_read, area_read, signed_read, with_value}
 use Rattle.sf_lex.specs.declared.field.Gap.{Gap}
 use Rattle.sf_lex.specs.declared.field.Gap.TheVariants.{Blanks, Colons, Points, Sizes}
 use Rattle.sf_lex.proofs.Decimals.{and_true}
-use Rattle.sf_lex.proofs.Spelled.{words-last}
-use Rattle.sf_lex.proofs.WrittenNumbers.{digits_written, number_written, decimal_written}
+use Rattle.sf_lex.proofs.Spelled.{words-last, first_fails}
+use Rattle.sf_lex.proofs.WrittenNumbers.{digits_written, number_written, decimal_written, no_point_in_digit, filled}
 use Rattle.sf_gsrc.specs.Keywords.{is_colon}
 use Rattle.sf_gsrc.specs.Line.{count_said}
-use Rattle.sf_gen.proofs.TextLines.{first_fails}
-
--- one and n are the successor of n
-one_more : (n : ℕ) → 1 + n ≡ suc n
-one_more n = omega arith
 
 -- ---- digits are no blanks
 
@@ -78,14 +74,14 @@ run_len : (p : ℕ → Bool) (w rest : List ℕ) (b : ℕ) → has_none p w ≡ 
 run_len p [] rest b n e = rw e refl
 run_len p (x ∷ w) rest b n e =
     let f = first_fails p x w n in
-    rw (f.0, run_len p w rest b f.1 e) (one_more (length w))
+    rw (f.0, run_len p w rest b f.1 e) (one-add (length w))
 
 -- in a word of bytes that do not pass, the first that passes is sought up to the end
 run_all : (p : ℕ → Bool) (w : List ℕ) → has_none p w ≡ true → position_or_len p w ≡ length w
 run_all p [] n = refl
 run_all p (x ∷ w) n =
     let f = first_fails p x w n in
-    rw (f.0, run_all p w f.1) (one_more (length w))
+    rw (f.0, run_all p w f.1) (one-add (length w))
 
 -- the first bytes, as many as the first part has, are the first part
 take_front : (w rest : List ℕ) → take (length w) (w ++ rest) ≡ w
@@ -144,20 +140,11 @@ pub signed_written : (n limit : ℕ) → n < 2 ^ 64 → n ≤ limit → signed_r
 signed_written n limit h le =
     signed_digits limit (decimal n) (decimal_nonempty n h) (digits_written n h) ∙ ap (with_value pos) (decimal_written n limit h le)
 
--- a digit is no decimal point
-no_point : (b : ℕ) → is_digit b ≡ true → is_point b ≡ false
-no_point b e = grind (arith, nat_tests)
-
--- a list of some length is not empty
-filled : (ds : List ℕ) → 0 < length ds → is_not_empty ds ≡ true
-filled [] h = absurd (omega arith)
-filled (d ∷ ds) h = refl
-
 -- a natural number that was written is a decimal without a fraction
 whole_number : (n : ℕ) → n < 2 ^ 64 → decimal_of (decimal n) ≡ Some (record { whole = decimal n; fraction = [] })
 whole_number n h =
     let ds = decimal n in
-    let run : position_or_len is_point ds ≡ length ds = run_all is_point ds (none_of is_point no_point ds (digits_written n h)) in
+    let run : position_or_len is_point ds ≡ length ds = run_all is_point ds (none_of is_point no_point_in_digit ds (digits_written n h)) in
     let before : before_first is_point ds ≡ ds = ap (λ (k : ℕ). take k ds) run ∙ take_all (length ds) ds (omega arith) in
     let after : after_first is_point ds ≡ [] = drop_all (position_or_len is_point ds + 1) ds (omega (arith, run)) in
     rw (before, after, digits_written n h, filled ds (decimal_nonempty n h)) refl

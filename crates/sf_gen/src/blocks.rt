@@ -37,7 +37,8 @@ fn push_head(text: &mut String, count: usize, kinds: Kinds) -> Result<(), NoMemo
     let hard = count - soft;
     write!(
         text,
-        "UCSC blocks 1.0\nNumSoftRectangularBlocks : {soft}\nNumHardRectilinearBlocks : {hard}\nNumTerminals : 4\n"
+        "UCSC blocks 1.0\nNumSoftRectangularBlocks : {soft}\nNumHardRectilinearBlocks : {hard}\n\
+         NumTerminals : 4\n"
     )
 }
 
