@@ -1,6 +1,6 @@
-//! Tests of the calls of one crate each, in a file for each crate: what no clause says, as a text of an outside
-//! source or a value worked out by hand. They stand over the crates that they call, and in a crate of their
-//! own, since a crate with tests is proved twice.
+//! Tests of the calls of one crate each, in a file for each crate: what no clause says, as a text of an
+//! outside source or a value worked out by hand. They stand over the crates that they call, and in a crate
+//! of their own, since a crate with tests is proved twice.
 #![tactic(auto)]
 
 #[cfg(test)]
