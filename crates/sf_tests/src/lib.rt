@@ -5,66 +5,45 @@
 
 #[cfg(test)]
 mod bounds;
-
 #[cfg(test)]
 mod certificate;
-
 #[cfg(test)]
 mod checker;
-
 #[cfg(test)]
 mod cursor;
-
 #[cfg(test)]
 mod curves;
-
 #[cfg(test)]
 mod designs;
-
 #[cfg(test)]
 mod frontier;
-
 #[cfg(test)]
 mod generated;
-
 #[cfg(test)]
 mod gsrc;
-
 #[cfg(test)]
 mod incumbent;
-
 #[cfg(test)]
 mod lex;
-
 #[cfg(test)]
 mod model;
-
 #[cfg(test)]
 mod node;
-
 #[cfg(test)]
 mod pl_writer;
-
 #[cfg(test)]
 mod place;
-
 #[cfg(test)]
 mod polish;
-
 #[cfg(test)]
 mod rounds;
-
 #[cfg(test)]
 mod search_core;
-
 #[cfg(test)]
 mod soft_shapes;
-
 #[cfg(test)]
 mod wire;
-
 #[cfg(test)]
 mod words;
-
 #[cfg(test)]
 mod yal;
