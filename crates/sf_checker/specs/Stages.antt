@@ -1,6 +1,6 @@
 -- How a check stands between two pieces of a text. These are words of its loop over the pieces; what it answers stands in
 -- Feeding.
-use Rattle.std.specs.Prelude.{◌≡◌, ◌≢◌, ◌==◌, ⊤, ℕ, List, ◌++◌, MatchOption, Err}
+use Rattle.std.specs.Prelude.{◌≡◌, ◌≢◌, ◌==◌, ⊤, ℕ, List, ◌++◌, MatchOption, Result, Err, OnOk, IfErr}
 use Rattle.sf_model.specs.declared.design.Design.{Design}
 use Rattle.sf_model.specs.declared.TheConstants.{MAX}
 use Rattle.sf_model.specs.Legal.{block_count}
@@ -39,6 +39,14 @@ abbrev pub IsStage : Design → (Parts → ℕ) → (Parts → Part → ℕ) →
 IsStage design bound part text (Opening bytes) = bytes ≡ text
 IsStage design bound part text (Tree body) = IsBody design bound part text body
 IsStage design bound part text (Fault fault) = (fault ≢ NoMemory) × IsFaulty design text fault
+
+-- where a stage stands for a text and a piece is fed without a fault, the stage afterwards stands for the text with the piece
+abbrev pub FeedsOn : {X E : Type 0} → Design → (Parts → ℕ) → (Parts → Part → ℕ) → Stage → List ℕ → Result X E → Stage → Type 0
+FeedsOn design bound part old piece result new = (text : List ℕ) → IsStage design bound part text old → OnOk result (IsStage design bound part (text ++ piece) new)
+
+-- where a stage stands for a text and a piece is fed, a fault is that of the text with the piece, whatever follows
+abbrev pub FaultsOn : {X : Type 0} → Design → (Parts → ℕ) → (Parts → Part → ℕ) → Stage → List ℕ → Result X CertFault → Type 0
+FaultsOn design bound part old piece result = (text : List ℕ) → IsStage design bound part text old → IfErr result (λ e. e ≢ NoMemory → IsFaulty design (text ++ piece) e)
 
 -- the next byte can be taken
 abbrev pub IsReady : Design → (Parts → ℕ) → Stage → Type 0

@@ -53,7 +53,7 @@ fn answer_whole<B: Bounds>(
 
 impl<'a> Body<'a> {
     ghost use Rattle.sf_checker.specs.Feeding.{IsAnswerTo};
-    ghost use Rattle.sf_checker.specs.Stages.{IsBody, IsFaulty};
+    ghost use Rattle.sf_checker.specs.Stages.{FaultsOn, FeedsOn, IsBody, IsFaulty};
     ghost use Rattle.sf_checker.specs.Standing.{IsSteady};
 
     /// At the first byte behind the header.
@@ -90,14 +90,12 @@ impl<'a> Body<'a> {
         requires steady { IsSteady design.now (B.Values.value bounds.now design.now) self.old.judge }
         ensures steady { OnOk result (IsSteady design.now (B.Values.value bounds.now design.now)
             self.new.judge) }
-        ensures reads { let value = B.Values.value bounds.now design.now in
+        ensures fed { let value = B.Values.value bounds.now design.now in
             let part = B.part_value bounds.now design.now in
-            (text : List ℕ) → IsBody design.now value part text self.old
-            → OnOk result (IsBody design.now value part (text ++ piece.now) self.new) }
+            FeedsOn design.now value part (stages.Tree self.old) piece.now result (stages.Tree self.new) }
         ensures fault { let value = B.Values.value bounds.now design.now in
             let part = B.part_value bounds.now design.now in
-            (text : List ℕ) → IsBody design.now value part text self.old → IfErr result
-            (λ e. e ≢ NoMemory → IsFaulty design.now (text ++ piece.now) e) }
+            FaultsOn design.now value part (stages.Tree self.old) piece.now result }
     {
         let blocks = design.block_count();
         let mut at = 0;
@@ -137,7 +135,7 @@ impl<'a> Body<'a> {
 
 impl<'a> Stage<'a> {
     ghost use Rattle.sf_checker.specs.Feeding.{IsAnswerTo};
-    ghost use Rattle.sf_checker.specs.Stages.{IsFaulty, IsOutside, IsReady, IsStage, IsWanting};
+    ghost use Rattle.sf_checker.specs.Stages.{FaultsOn, FeedsOn, IsOutside, IsReady, IsStage, IsWanting};
 
     /// Whether memory was wanting.
     fn is_wanting(&self) -> bool
@@ -158,8 +156,7 @@ impl<'a> Stage<'a> {
         ensures ready { IsReady design.now (B.Values.value bounds.now design.now) self.new }
         ensures fed { let value = B.Values.value bounds.now design.now in
             let part = B.part_value bounds.now design.now in
-            (text : List ℕ) → IsStage design.now value part text self.old
-            → OnOk result (IsStage design.now value part (text ++ piece.now) self.new) }
+            FeedsOn design.now value part self.old piece.now result self.new }
         ensures spent { OnErr result (IsWanting self.new) }
         ensures stays { IsWanting self.old → IsErr result }
     {
@@ -197,12 +194,10 @@ impl<'a> Stage<'a> {
         ensures ready { OnOk result (IsReady design.now (B.Values.value bounds.now design.now) self.new) }
         ensures fed { let value = B.Values.value bounds.now design.now in
             let part = B.part_value bounds.now design.now in
-            (text : List ℕ) → IsStage design.now value part text self.old
-            → OnOk result (IsStage design.now value part (text ++ piece.now) self.new) }
+            FeedsOn design.now value part self.old piece.now result self.new }
         ensures fault { let value = B.Values.value bounds.now design.now in
             let part = B.part_value bounds.now design.now in
-            (text : List ℕ) → IsStage design.now value part text self.old → IfErr result
-            (λ e. e ≢ NoMemory → IsFaulty design.now (text ++ piece.now) e) }
+            FaultsOn design.now value part self.old piece.now result }
     {
         let opened = self.open(alloc, design, bounds, piece)?;
         match self {
@@ -232,8 +227,7 @@ impl<'a> Stage<'a> {
             (λ opened. IsStage design.now value part (text ++ take opened piece.now) self.new) }
         ensures fault { let value = B.Values.value bounds.now design.now in
             let part = B.part_value bounds.now design.now in
-            (text : List ℕ) → IsStage design.now value part text self.old → IfErr result
-            (λ e. e ≢ NoMemory → IsFaulty design.now (text ++ piece.now) e) }
+            FaultsOn design.now value part self.old piece.now result }
     {
         let mut opened = 0;
         while opened < piece.len() && self.is_outside() {
@@ -263,12 +257,10 @@ impl<'a> Stage<'a> {
         ensures ready { OnOk result (IsReady design.now (B.Values.value bounds.now design.now) self.new) }
         ensures fed { let value = B.Values.value bounds.now design.now in
             let part = B.part_value bounds.now design.now in
-            (text : List ℕ) → IsStage design.now value part text self.old
-            → OnOk result (IsStage design.now value part (text ++ byte ∷ []) self.new) }
+            FeedsOn design.now value part self.old (byte ∷ []) result self.new }
         ensures fault { let value = B.Values.value bounds.now design.now in
             let part = B.part_value bounds.now design.now in
-            (text : List ℕ) → IsStage design.now value part text self.old → IfErr result
-            (λ e. e ≢ NoMemory → IsFaulty design.now (text ++ byte ∷ []) e) }
+            FaultsOn design.now value part self.old (byte ∷ []) result }
     {
         match self {
             Stage::Opening(opening) => {

@@ -24,7 +24,7 @@ returns-in-Tree-clause-fed g c text at =
     let piece : List ℕ = c.args.piece.now in
     let opened : List ℕ = text ++ take c.in_ok-opened.opened piece in
     let body : IsStage c.args.design.now value part opened (Tree c.in-Tree.body) = subst (IsStage c.args.design.now value part opened) c.in-Tree.is (c.in_ok-opened.ensures.fed text at) in
-    subst (λ t. OnOk c.feed.result (IsBody c.args.design.now value part t c.feed.new.self)) (past-all text piece c.in_ok-opened.opened) (c.feed.ensures.reads opened body)
+    subst (λ t. OnOk c.feed.result (IsBody c.args.design.now value part t c.feed.new.self)) (past-all text piece c.in_ok-opened.opened) (c.feed.ensures.fed opened body)
 
 pub returns-in-Tree-clause-fault : goal.returns-in-Tree-clause-fault
 returns-in-Tree-clause-fault g c text at =
