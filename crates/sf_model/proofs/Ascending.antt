@@ -1,10 +1,11 @@
 -- Lists that ascend by a number of their elements, as one more is put at their end or passed over.
-use Rattle.std.proofs.Common.{◌≡◌, ℕ, zero, suc, refl, ◌+◌, ◌-◌, ◌<◌, ◌≤◌, Bool, ◌==◌, List, [], ◌∷◌, ◌++◌, length, take, get_or, sym, ◌∙◌, ap, subst, arith, length-append}
+use Rattle.std.proofs.Common.{◌≡◌, ℕ, ◌+◌, ◌-◌, ◌<◌, ◌≤◌, Bool, ◌==◌, List, [], ◌∷◌, ◌++◌, length, take, get_or, sym, ◌∙◌, ap, subst, arith, length-append}
 use Rattle.std.specs.List.Sorted.{IsNonDecreasingBy}
 use Rattle.sf_model.specs.Limits.{pin_order}
 use Rattle.sf_model.specs.Numbers.{same_pin}
 use Rattle.sf_model.specs.declared.parts.Pin.{Pin}
 use Rattle.std.specs.List.{list_any, All, AllPairs, Contains}
+use Rattle.std.proofs.lemmas.List.{get_or_default}
 use Rattle.std.proofs.lemmas.List.Elements.{All-push, Contains-get_or}
 use Rattle.std.proofs.lemmas.Bool.Decides.{nat_tests}
 use Rattle.std.proofs.lemmas.List.Folds.{list_any-append, list_any_more, list_any_at}
@@ -37,12 +38,6 @@ any_skip f p out xs i d within some equal same =
     let at = list_any_at (λ q. f p == f q) (take i xs) (i - 1) d in
     grind (arith, nat_tests, common_steps, m, at)
 
--- the item at a place within the list doesn't depend on the default
-get_or-default : {X : Type 0} (xs : List X) (k : ℕ) (d e : X) → k < length xs → get_or xs k d ≡ get_or xs k e
-get_or-default [] k d e within = absurd (omega arith)
-get_or-default (x ∷ xs) zero d e within = refl
-get_or-default (x ∷ xs) (suc k) d e within = get_or-default xs k d e (omega arith)
-
 -- the distinct pins among the first k of ascending pins, all of an order below next
 pub record IsSetOfFirst (pins : List Pin) (k next : ℕ) (out : List Pin) : Type 0 where
   pub ascending : AllPairs (λ p q. pin_order p < pin_order q) out
@@ -63,7 +58,7 @@ set_push pins k next out out' next' d was within new put raised =
       same = λ p. any_push (same_pin p) out pins k d within (was.same p);
       each = All-push (Contains pins) out (get_or pins k d) was.each (Contains-get_or pins k d within);
       few = (let f = was.few in omega (arith, length-append out (get_or pins k d ∷ [])));
-      reached = λ e some. raised ∙ ap (λ p. pin_order p + 1) (get_or-default pins k d e within) ∙ ap (λ j. pin_order (get_or pins j e) + 1) (let s : k ≡ k + 1 - 1 = omega arith in s);
+      reached = λ e some. raised ∙ ap (λ p. pin_order p + 1) (get_or_default pins k d e within) ∙ ap (λ j. pin_order (get_or pins j e) + 1) (let s : k ≡ k + 1 - 1 = omega arith in s);
       start = λ none. absurd (omega arith);
     })
 
@@ -81,6 +76,6 @@ set_skip pins k next out d was up within old =
       same = λ p. any_skip pin_order p out pins k d within some equal (was.same p);
       each = was.each;
       few = (let f = was.few in omega arith);
-      reached = λ e later. r ∙ ap (λ n. n + 1) (sym equal) ∙ ap (λ p. pin_order p + 1) (get_or-default pins k d e within) ∙ ap (λ j. pin_order (get_or pins j e) + 1) (let s : k ≡ k + 1 - 1 = omega arith in s);
+      reached = λ e later. r ∙ ap (λ n. n + 1) (sym equal) ∙ ap (λ p. pin_order p + 1) (get_or_default pins k d e within) ∙ ap (λ j. pin_order (get_or pins j e) + 1) (let s : k ≡ k + 1 - 1 = omega arith in s);
       start = λ none. absurd (omega arith);
     }

@@ -5,7 +5,7 @@ use Rattle.std.proofs.lemmas.Int.{ints}
 use Rattle.std.proofs.lemmas.List.Elements.{All-from_recursion, recursion_from_All}
 use Rattle.std.proofs.lemmas.List.Sums.{sum_by-cons}
 use Rattle.sf_model.specs.Admitted.{IsAdmitted, IsPlaceWithin}
-use Rattle.sf_model.specs.Built.{HasShapeChoices, IsDesignOf, IsNetOf, IsOutline, IsWeighted, design_blocks, design_pads, placed_pad, shapeless}
+use Rattle.sf_model.specs.Built.{HasShapeChoices, IsDesignOf, IsNetOf, IsOutline, IsWeighted, design_blocks, design_pads, placed_pad, first_shapeless}
 use Rattle.sf_model.specs.Limits.{IsCoordinate, IsPinSet, IsShapeList, IsWithinLimits, IsShapeChoice}
 use Rattle.sf_model.specs.Numbers.{IsNetMade}
 use Rattle.sf_model.specs.declared.design.Design.{Design}
@@ -30,7 +30,7 @@ length_blocks (b ∷ bs) [] same = absurd (omega arith)
 length_blocks (b ∷ bs) (l ∷ ls) same = omega (arith, length_blocks bs ls (omega arith))
 
 -- each block of the design has a list of shapes, where no list is empty
-shapes_fine : (blocks : List RawBlock) (lists : List (List Shape)) → shapeless blocks lists ≡ None → AllByRecursion IsShapeChoice lists → AllByRecursion (λ b. IsShapeList b.shapes) (design_blocks blocks lists)
+shapes_fine : (blocks : List RawBlock) (lists : List (List Shape)) → first_shapeless blocks lists ≡ None → AllByRecursion IsShapeChoice lists → AllByRecursion (λ b. IsShapeList b.shapes) (design_blocks blocks lists)
 shapes_fine [] lists none fine = tt
 shapes_fine (b ∷ bs) [] none fine = tt
 shapes_fine (b ∷ bs) ([] ∷ ls) none fine = cc
@@ -85,7 +85,7 @@ nets_are parts (r ∷ rs) [] made = tt
 nets_are parts (r ∷ rs) (n ∷ ns) made = (made.0.set, nets_are parts rs ns made.1)
 
 -- what is built from admitted parts keeps the limits
-pub limits_hold : (parts : Parts) (lists : List (List Shape)) (outline : Outline) (weights : Weights) (blocks : List Block) (pads : List Pad) (nets : List Net) → IsAdmitted parts → HasShapeChoices parts.blocks lists → IsOutline outline → IsWeighted weights → shapeless parts.blocks lists ≡ None → blocks ≡ design_blocks parts.blocks lists → pads ≡ design_pads parts → AllZip (IsNetMade parts) parts.nets nets → weights.area < 2 ^ 16 → weights.wire < 2 ^ 16 → IsWithinLimits blocks pads nets outline weights
+pub limits_hold : (parts : Parts) (lists : List (List Shape)) (outline : Outline) (weights : Weights) (blocks : List Block) (pads : List Pad) (nets : List Net) → IsAdmitted parts → HasShapeChoices parts.blocks lists → IsOutline outline → IsWeighted weights → first_shapeless parts.blocks lists ≡ None → blocks ≡ design_blocks parts.blocks lists → pads ≡ design_pads parts → AllZip (IsNetMade parts) parts.nets nets → weights.area < 2 ^ 16 → weights.wire < 2 ^ 16 → IsWithinLimits blocks pads nets outline weights
 limits_hold parts lists outline weights blocks pads nets admitted choices sides weighted none of_blocks of_pads made area wire =
     let limits = limits_kept parts admitted in
     let some_block = limits.some_block in

@@ -2,6 +2,7 @@ pub mod Each
 pub mod Places
 pub mod Ends
 pub mod PairSize
+pub mod BlocksBelow
 pub mod Counting
 pub mod Bounded
 pub mod Walks

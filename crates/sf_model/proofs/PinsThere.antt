@@ -5,7 +5,7 @@ use Rattle.std.specs.Option.{option_map}
 use Rattle.std.proofs.lemmas.List.Elements.{All-from_recursion, recursion_from_All, Contains-get_or}
 use Rattle.std.proofs.lemmas.List.Folds.{list_any-append, list_any_at}
 use Rattle.std.proofs.lemmas.List.Sums.{sum_by-cons, sum_by-take-le, count_by_more_yes, count_by-le-length}
-use Rattle.sf_model.specs.Admitted.{first, unplaced, missing_places, is_wired, is_index, block_of, pad_of, IsPinInRange, IsAdmitted, no_blocks, over_limits, name_faults, duplicates, unknowns}
+use Rattle.sf_model.specs.Admitted.{first, unplaced_faults, missing_places, is_wired, is_index, block_of, pad_of, IsPinInRange, IsAdmitted, no_blocks, over_limits, name_faults, duplicates, unknowns}
 use Rattle.sf_model.specs.Built.{placed_pad, design_pads, pin_at, pin_of, named_pins}
 use Rattle.sf_model.specs.Limits.{IsThere}
 use Rattle.sf_model.specs.declared.fault.BuildFault.{BuildFault}
@@ -28,13 +28,13 @@ unplaced_head None true f fs none = cc
 unplaced_head None false f fs none = (none, λ e. cc)
 
 -- where there is no fault of places, each pad that is in a net has one
-unplaced_none : (wired : ℕ → Bool) (s : ℕ) (ps : List RawPad) → first (unplaced wired s ps) ≡ None → (i : ℕ) (d : RawPad) (j : ℕ) → i < length ps → j ≡ s + i → wired j ≡ true → is_some (get_or ps i d).place ≡ true
+unplaced_none : (wired : ℕ → Bool) (s : ℕ) (ps : List RawPad) → first (unplaced_faults wired s ps) ≡ None → (i : ℕ) (d : RawPad) (j : ℕ) → i < length ps → j ≡ s + i → wired j ≡ true → is_some (get_or ps i d).place ≡ true
 unplaced_none wired s [] none i d j low e w = absurd (omega arith)
 unplaced_none wired s (p ∷ ps) none zero d j low e w =
     let here : s ≡ j = omega arith in
-    (unplaced_head p.place (wired s) (MissingPlace p.name) (unplaced wired (s + 1) ps) none).1 (ap wired here ∙ w)
+    (unplaced_head p.place (wired s) (MissingPlace p.name) (unplaced_faults wired (s + 1) ps) none).1 (ap wired here ∙ w)
 unplaced_none wired s (p ∷ ps) none (suc i) d j low e w =
-    unplaced_none wired (s + 1) ps (unplaced_head p.place (wired s) (MissingPlace p.name) (unplaced wired (s + 1) ps) none).0 i d j (omega arith) (omega arith) w
+    unplaced_none wired (s + 1) ps (unplaced_head p.place (wired s) (MissingPlace p.name) (unplaced_faults wired (s + 1) ps) none).0 i d j (omega arith) (omega arith) w
 
 -- a test among all items of lists, list by list
 any_flat : {X A : Type 0} (p : A → Bool) (f : X → List A) (xs : List X) → list_any p (flat_map f xs) ≡ list_any (λ x. list_any p (f x)) xs
@@ -109,8 +109,8 @@ no_pad = record { name = []; place = None }
 number_there : (parts : Parts) (net : RawNet) (rp : RawPin) (o : Option ℕ) → IsAdmitted parts → Contains parts.nets net → Contains net.pins rp → pad_of parts.pads rp ≡ o → IfSome o (λ i. i < length parts.pads) → IfSome o (HasNumber parts)
 number_there parts net rp None admitted in_nets in_pins at low = tt
 number_there parts net rp (Some i) admitted in_nets in_pins at low = λ on.
-    let none : first (cond parts.pads_in (unplaced (is_wired parts) 0 parts.pads) []) ≡ None = no_missing parts admitted in
-    let here : first (unplaced (is_wired parts) 0 parts.pads) ≡ None = sym (ap (λ b. first (cond b (unplaced (is_wired parts) 0 parts.pads) [])) on) ∙ none in
+    let none : first (cond parts.pads_in (unplaced_faults (is_wired parts) 0 parts.pads) []) ≡ None = no_missing parts admitted in
+    let here : first (unplaced_faults (is_wired parts) 0 parts.pads) ≡ None = sym (ap (λ b. first (cond b (unplaced_faults (is_wired parts) 0 parts.pads) [])) on) ∙ none in
     number_below parts i no_pad on low (unplaced_none (is_wired parts) 0 parts.pads here i no_pad i low (omega arith) (wired_here parts net rp i in_nets in_pins at))
 
 -- a pin of a pad with such a number stands for a pad of the design

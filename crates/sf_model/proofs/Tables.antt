@@ -7,7 +7,7 @@ use Rattle.std.proofs.lemmas.Bool.Decides.{nat_tests}
 use Rattle.std.proofs.Math.Seq.{drop-length}
 use Rattle.std.proofs.lemmas.List.{length-map}
 use Rattle.sf_model.specs.declared.table.NameTable.{NameTable}
-use Rattle.sf_model.specs.Admitted.{first, repeated}
+use Rattle.sf_model.specs.Admitted.{first, repeated_names}
 use Rattle.sf_model.specs.Table.{place_in, IsTableOf}
 use Rattle.sf_model.proofs.Walks.{drop_step}
 
@@ -32,11 +32,11 @@ pub found_put : (old new : List ℕ → Option ℕ) (name : List ℕ) (i : ℕ) 
 found_put old new name i names sets found n = sets n ∙ ap (λ b. cond b (Some i) (old n)) (bytes_eq_sym name n) ∙ ap (λ o. cond (bytes_eq n name) (Some i) o) (found n)
 
 -- a name that stands again is the first that does
-pub repeats_again : (name : List ℕ) (names : List (List ℕ)) → list_any (bytes_eq name) names ≡ true → first (repeated (name ∷ names)) ≡ Some name
+pub repeats_again : (name : List ℕ) (names : List (List ℕ)) → list_any (bytes_eq name) names ≡ true → first (repeated_names (name ∷ names)) ≡ Some name
 repeats_again name names h = rw h refl
 
 -- a name that doesn't stand again leaves the first that does
-pub repeats_once : (name : List ℕ) (names : List (List ℕ)) → list_any (bytes_eq name) names ≡ false → first (repeated (name ∷ names)) ≡ first (repeated names)
+pub repeats_once : (name : List ℕ) (names : List (List ℕ)) → list_any (bytes_eq name) names ≡ false → first (repeated_names (name ∷ names)) ≡ first (repeated_names names)
 repeats_once name names h = rw h refl
 
 -- a table of the names of a list grows by the item before those that are left

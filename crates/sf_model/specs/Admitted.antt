@@ -64,9 +64,9 @@ over_places parts = if parts.pads_in then flat_map (λ p. over_place p.place) pa
 -- Names.
 
 -- the names that stand again further on
-abbrev pub repeated : List (List ℕ) → List (List ℕ)
-repeated [] = []
-repeated (n ∷ ns) = if list_any (bytes_eq n) ns then n ∷ repeated ns else repeated ns
+abbrev pub repeated_names : List (List ℕ) → List (List ℕ)
+repeated_names [] = []
+repeated_names (n ∷ ns) = if list_any (bytes_eq n) ns then n ∷ repeated_names ns else repeated_names ns
 
 -- the fault of a name that is of a block and of a pad
 abbrev pub if_both : Parts → List ℕ → List BuildFault
@@ -93,8 +93,8 @@ at_placed_name f p = if is_some p.place then f p.name else []
 -- names of two blocks, of two pads, or of a block and of a pad where a pin has the name or it has a place
 abbrev pub duplicates : Parts → List BuildFault
 duplicates parts =
-    map fault.DuplicateName (repeated (block_names parts.blocks))
-    ++ map fault.DuplicateName (repeated (pad_names parts.pads))
+    map fault.DuplicateName (repeated_names (block_names parts.blocks))
+    ++ map fault.DuplicateName (repeated_names (pad_names parts.pads))
     ++ at_pin_names (if_both parts) parts.nets
     ++ flat_map (at_placed_name (if_both parts)) parts.pads
 
@@ -126,13 +126,13 @@ abbrev pub is_wired : Parts → ℕ → Bool
 is_wired parts i = list_any (λ p. is_index i (pad_of parts.pads p)) (flat_map (λ n. n.pins) parts.nets)
 
 -- of pads that begin at index i, the faults of those that are in a net and have no place
-abbrev pub unplaced : (ℕ → Bool) → ℕ → List RawPad → List BuildFault
-unplaced wired i [] = []
-unplaced wired i (p ∷ ps) = if is_none p.place && wired i then fault.MissingPlace p.name ∷ unplaced wired (i + 1) ps else unplaced wired (i + 1) ps
+abbrev pub unplaced_faults : (ℕ → Bool) → ℕ → List RawPad → List BuildFault
+unplaced_faults wired i [] = []
+unplaced_faults wired i (p ∷ ps) = if is_none p.place && wired i then fault.MissingPlace p.name ∷ unplaced_faults wired (i + 1) ps else unplaced_faults wired (i + 1) ps
 
 -- the faults of pads that are in a net and have no place, where pads count
 abbrev pub missing_places : Parts → List BuildFault
-missing_places parts = if parts.pads_in then unplaced (is_wired parts) 0 parts.pads else []
+missing_places parts = if parts.pads_in then unplaced_faults (is_wired parts) 0 parts.pads else []
 
 -- All faults of the parts, in the order in which they are answered.
 

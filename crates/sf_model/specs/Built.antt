@@ -24,11 +24,11 @@ pub record HasShapeChoices (blocks : List RawBlock) (lists : List (List Shape)) 
   pub fine : All IsShapeChoice lists
 
 -- the name of the first block that has no shape
-abbrev pub shapeless : List RawBlock → List (List Shape) → Option (List ℕ)
-shapeless [] lists = None
-shapeless (b ∷ bs) [] = None
-shapeless (b ∷ bs) ([] ∷ ls) = Some b.name
-shapeless (b ∷ bs) ((s ∷ ss) ∷ ls) = shapeless bs ls
+abbrev pub first_shapeless : List RawBlock → List (List Shape) → Option (List ℕ)
+first_shapeless [] lists = None
+first_shapeless (b ∷ bs) [] = None
+first_shapeless (b ∷ bs) ([] ∷ ls) = Some b.name
+first_shapeless (b ∷ bs) ((s ∷ ss) ∷ ls) = first_shapeless bs ls
 
 -- both sides of the outline keep the limit of sides
 abbrev pub IsOutline : Outline → Type 0

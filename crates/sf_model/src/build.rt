@@ -5,7 +5,7 @@ ghost use Rattle.std.specs.Prelude.{vec_len, All, filter_map, nat_abs, ◌^◌, 
 ghost use Rattle.std.specs.Option.{option_map, option_copied};
 ghost use Rattle.sf_model.specs.Admitted.{HasPinsInRange, IsAdmitted, IsPlaceWithin};
 ghost use Rattle.sf_model.specs.Built.{HasNetWeights, HasShapeChoices, IsDesignOf, IsOutline, IsWeighted};
-ghost use Rattle.sf_model.specs.Built.{shapeless, design_blocks, placed_pad};
+ghost use Rattle.sf_model.specs.Built.{first_shapeless, design_blocks, placed_pad};
 ghost use Rattle.sf_model.specs.declared.fault.BuildFault.TheVariants.{NoMemory, NoShape};
 
 use crate::design::Design;
@@ -21,7 +21,7 @@ use std::alloc::{AllocError, Global};
 /// The name of the first block whose list is empty.
 fn first_shapeless<'a>(blocks: &'a [RawBlock], lists: &[Shapes]) -> Option<&'a Name>
     requires { length lists.now ≡ length blocks.now }
-    ensures { option_copied result ≡ shapeless blocks.now lists.now }
+    ensures { option_copied result ≡ first_shapeless blocks.now lists.now }
 {
     for i in 0..blocks.len() {
         if lists[i].as_slice().is_empty() {
@@ -96,9 +96,9 @@ fn placed_pads(alloc: Global, pads_in: bool, pads: RawPadList) -> Result<PadList
 /// Refuses blocks of which one has no shape.
 fn check_shapes(alloc: Global, blocks: &[RawBlock], lists: &[Shapes]) -> Result<(), BuildFault>
     requires { length lists.now ≡ length blocks.now }
-    ensures shaped { OnOk result (shapeless blocks.now lists.now ≡ None) }
+    ensures shaped { OnOk result (first_shapeless blocks.now lists.now ≡ None) }
     ensures no_shape { IfErr result (λ fault. fault ≢ NoMemory
-        → option_map NoShape (shapeless blocks.now lists.now) ≡ Some fault) }
+        → option_map NoShape (first_shapeless blocks.now lists.now) ≡ Some fault) }
 {
     match first_shapeless(blocks, lists) {
         Some(name) => Err(BuildFault::NoShape(Name::new(alloc, name.as_bytes())?)),
@@ -126,9 +126,9 @@ impl Design {
         requires net_weights { HasNetWeights parts net_weights.now }
         ensures built { IfOk result
             (λ design. IsDesignOf parts lists.items outline weights net_weights.now design) }
-        ensures shaped { OnOk result (shapeless parts.blocks lists.items ≡ None) }
+        ensures shaped { OnOk result (first_shapeless parts.blocks lists.items ≡ None) }
         ensures no_shape { IfErr result (λ fault. fault ≢ NoMemory
-            → option_map NoShape (shapeless parts.blocks lists.items) ≡ Some fault) }
+            → option_map NoShape (first_shapeless parts.blocks lists.items) ≡ Some fault) }
     {
         check_shapes(alloc, parts.blocks.as_slice(), &lists)?;
         let nets = nets_of(alloc, &parts, net_weights)?;

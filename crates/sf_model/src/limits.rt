@@ -25,7 +25,7 @@ const MOST_AREA: u64 = 1_099_511_627_776;
 pub const MOST_COORDINATE: u64 = 1_048_576;
 
 /// Refuses a quantity that passes its limit.
-fn within(quantity: Limit, most: u64, found: u64) -> Result<(), BuildFault>
+fn check_quantity(quantity: Limit, most: u64, found: u64) -> Result<(), BuildFault>
     ensures { IsFirstOf (over quantity most found) result }
 {
     if most < found {
@@ -49,14 +49,14 @@ fn count_pins(nets: &[RawNet]) -> u64
 fn check_counts(parts: &Parts) -> Result<(), BuildFault>
     ensures { IsFirstOf (over_counts parts.now) result }
 {
-    within(
+    check_quantity(
         Limit::Blocks,
         MOST_BLOCKS,
         parts.blocks.as_slice().len() as u64,
     )?;
-    within(Limit::Pads, MOST_PADS, parts.pads.as_slice().len() as u64)?;
-    within(Limit::Nets, MOST_NETS, parts.nets.as_slice().len() as u64)?;
-    within(Limit::Pins, MOST_PINS, count_pins(parts.nets.as_slice()))
+    check_quantity(Limit::Pads, MOST_PADS, parts.pads.as_slice().len() as u64)?;
+    check_quantity(Limit::Nets, MOST_NETS, parts.nets.as_slice().len() as u64)?;
+    check_quantity(Limit::Pins, MOST_PINS, count_pins(parts.nets.as_slice()))
 }
 
 /// Tests the sides or the area of a block.
@@ -65,10 +65,10 @@ fn check_kind(kind: Kind) -> Result<(), BuildFault>
 {
     match kind {
         Kind::Hard { w, h } => {
-            within(Limit::Side, MOST_SIDE, w)?;
-            within(Limit::Side, MOST_SIDE, h)
+            check_quantity(Limit::Side, MOST_SIDE, w)?;
+            check_quantity(Limit::Side, MOST_SIDE, h)
         }
-        Kind::Soft { area, .. } => within(Limit::Area, MOST_AREA, area),
+        Kind::Soft { area, .. } => check_quantity(Limit::Area, MOST_AREA, area),
     }
 }
 
@@ -87,8 +87,8 @@ fn check_place(place: Option<(i64, i64)>) -> Result<(), BuildFault>
     ensures { IsFirstOf (over_place place) result }
 {
     if let Some((x, y)) = place {
-        within(Limit::Coordinate, MOST_COORDINATE, x.unsigned_abs())?;
-        within(Limit::Coordinate, MOST_COORDINATE, y.unsigned_abs())?;
+        check_quantity(Limit::Coordinate, MOST_COORDINATE, x.unsigned_abs())?;
+        check_quantity(Limit::Coordinate, MOST_COORDINATE, y.unsigned_abs())?;
     }
     Ok(())
 }

@@ -127,8 +127,8 @@ fn refuse_repeated(alloc: Global, repeated: Option<&Name>) -> Result<(), BuildFa
 pub fn check_duplicates(alloc: Global, index: &Index<'_>) -> Result<(), BuildFault>
     ensures { IsFirstOf (duplicates index.now.parts.now) result }
 {
-    refuse_repeated(alloc, index.blocks.repeated())?;
-    refuse_repeated(alloc, index.pads.repeated())?;
+    refuse_repeated(alloc, index.blocks.first_repeated())?;
+    refuse_repeated(alloc, index.pads.first_repeated())?;
     check_nets(alloc, index, NameRule::NotBoth, index.parts.nets.as_slice())?;
     check_placed(alloc, index, index.parts.pads.as_slice())
 }

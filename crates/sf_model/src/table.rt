@@ -13,7 +13,7 @@ use std::collections::BTreeMap;
 #[derive(Drop)]
 pub struct NameTable<'a> {
     places: BTreeMap<&'a [u8], usize>,
-    repeated: Option<&'a Name>,
+    first_repeated: Option<&'a Name>,
 }
 
 impl<'a> NameTable<'a> {
@@ -23,7 +23,7 @@ impl<'a> NameTable<'a> {
     {
         NameTable {
             places: BTreeMap::new(alloc),
-            repeated: None,
+            first_repeated: None,
         }
     }
 
@@ -34,7 +34,7 @@ impl<'a> NameTable<'a> {
     {
         let old = self.places.insert(name.as_bytes(), place)?;
         if old.is_some() {
-            self.repeated = Some(name);
+            self.first_repeated = Some(name);
         }
         Ok(())
     }
@@ -80,9 +80,9 @@ impl<'a> NameTable<'a> {
     }
 
     /// The first name that stands again further on.
-    pub fn repeated(&self) -> Option<&'a Name>
-        ensures { result ≡ self.now.repeated }
+    pub fn first_repeated(&self) -> Option<&'a Name>
+        ensures { result ≡ self.now.first_repeated }
     {
-        self.repeated
+        self.first_repeated
     }
 }

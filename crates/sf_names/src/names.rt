@@ -47,8 +47,8 @@ impl<'a> Names<'a> {
         self.set.as_slice()
     }
 
-    /// The place of a name in the list.
-    pub fn place_of(&self, name: &[u8]) -> Option<usize>
+    /// The index of a name in the list.
+    pub fn index_of(&self, name: &[u8]) -> Option<usize>
         ensures value { result ≡ index_of name.now self.now }
         ensures bound { IfSome result (λ k. k < length self.now) }
     {

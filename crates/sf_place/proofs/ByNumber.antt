@@ -15,7 +15,7 @@ use Rattle.sf_model.specs.declared.parts.Pin.{Pin}
 use Rattle.sf_model.specs.declared.parts.Pin.TheVariants as pin
 use Rattle.sf_model.specs.declared.parts.Shape.{Shape}
 use Rattle.sf_model.specs.declared.plan.Spot.{Spot}
-use Rattle.sf_model.specs.Tree.{Tree, Leaf, Beside, Above, width, height, leaves, leaf_count, spots_at, spots_of, Overlaps, IsInside, HasBlocksBelow}
+use Rattle.sf_model.specs.Tree.{Tree, Leaf, Beside, Above, width, height, leaves, leaf_count, spots_at, spots_of, Overlaps, IsInside}
 use Rattle.sf_model.specs.Legal.{HasEachOnce, IsLegal, Fits, block_count, shapes_of}
 use Rattle.sf_model.specs.Wire.{spot_of, pin_x, pin_y, net_wire, weighed_wire, wire, spread}
 use Rattle.sf_model.specs.Cost.{right_end, upper_end, cost, spots_cost}
@@ -244,16 +244,6 @@ plan-legal design tree legal fits = record {
       (recursion_from_All (IsInside (width tree) (height tree)) (spots_of tree) (spots-inside tree)));
   apart = by_number-apart (block_count design) tree legal.blocks;
 }
-
--- where each leaf is a block of the design the plan has only such blocks
-blocks-below : (n : ℕ) (t : Tree) → AllByRecursion (λ leaf. leaf.0 < n) (leaves t) → HasBlocksBelow n t
-blocks-below n (Leaf b s) a = a.0
-blocks-below n (Beside l r) a = (blocks-below n l (each-left _ (leaves l) (leaves r) a), blocks-below n r (each-right _ (leaves l) (leaves r) a))
-blocks-below n (Above l r) a = (blocks-below n l (each-left _ (leaves l) (leaves r) a), blocks-below n r (each-right _ (leaves l) (leaves r) a))
-
--- a plan that has each block once has only blocks of the design
-pub plan-below : (n : ℕ) (tree : Tree) → HasEachOnce n tree → HasBlocksBelow n tree
-plan-below n tree once = blocks-below n tree (recursion_from_All (λ leaf. leaf.0 < n) (leaves tree) once.no_other)
 
 -- there are as many leaves as are listed
 leaf_count-leaves : (t : Tree) → leaf_count t ≡ length (leaves t)

@@ -6,7 +6,7 @@ use Rattle.std.specs.Option.{option_map}
 use Rattle.std.proofs.lemmas.List.Elements.{recursion_from_All}
 use Rattle.std.proofs.lemmas.Bool.{cases_lt}
 use Rattle.std.proofs.lemmas.Bool.Decides.{nat_tests}
-use Rattle.sf_model.specs.Built.{shapeless}
+use Rattle.sf_model.specs.Built.{first_shapeless}
 use Rattle.sf_model.specs.declared.fault.BuildFault.{BuildFault}
 use Rattle.sf_model.specs.declared.fault.BuildFault.TheVariants.{NoShape}
 use Rattle.sf_model.specs.declared.parts.Shape.{Shape}
@@ -73,7 +73,7 @@ pub all-lists : (k : ℕ) (fixed : Bool) (blocks : List RawBlock) (a b : List (L
 all-lists k fixed blocks a b p q = lists-one k fixed blocks a b p.one_each q.one_each (by_recursion k fixed blocks a p.each) (by_recursion k fixed blocks b q.each)
 
 -- the first block without a shape is the same in both, as far as both have lists
-same_shapeless : (k : ℕ) (fixed : Bool) (blocks : List RawBlock) (xs ys : List (List Shape)) (n : List ℕ) → FirstLists k fixed blocks xs → FirstLists k fixed blocks ys → shapeless blocks xs ≡ Some n → (shapeless blocks ys ≡ Some n) ⊎ ((shapeless blocks ys ≡ None) × (length ys < length blocks))
+same_shapeless : (k : ℕ) (fixed : Bool) (blocks : List RawBlock) (xs ys : List (List Shape)) (n : List ℕ) → FirstLists k fixed blocks xs → FirstLists k fixed blocks ys → first_shapeless blocks xs ≡ Some n → (first_shapeless blocks ys ≡ Some n) ⊎ ((first_shapeless blocks ys ≡ None) × (length ys < length blocks))
 unfolding FirstLists
 same_shapeless k fixed [] xs ys n a b e = absurd (cc)
 same_shapeless k fixed (r ∷ rs) [] ys n a b e = absurd (cc)
@@ -92,18 +92,18 @@ name_of (Some n) f e = (n, refl, cc)
 -- two faults of the first block without a shape are the same
 pub one-fault : (k : ℕ) (fixed : Bool) (blocks : List RawBlock) (f g : BuildFault) → HasNoneFor k fixed blocks f → HasNoneFor k fixed blocks g → f ≡ g
 one-fault k fixed blocks f g p q =
-    let a = name_of (shapeless blocks p.0) f p.2 in
-    let b = name_of (shapeless blocks q.0) g q.2 in
-    let bs : shapeless blocks q.0 ≡ Some b.0 = b.1 in
+    let a = name_of (first_shapeless blocks p.0) f p.2 in
+    let b = name_of (first_shapeless blocks q.0) g q.2 in
+    let bs : first_shapeless blocks q.0 ≡ Some b.0 = b.1 in
     elim (same_shapeless k fixed blocks p.0 q.0 a.0 (by_recursion k fixed blocks p.0 p.1) (by_recursion k fixed blocks q.0 q.1) a.1) [
       | inl is ↦ (let same : Some b.0 ≡ Some a.0 = sym bs ∙ is in let names : b.0 ≡ a.0 = cc in a.2 ∙ ap NoShape (sym names) ∙ sym b.2)
       | inr none ↦ (let e : Some b.0 ≡ None = sym bs ∙ none.0 in absurd (cc))
     ]
 
 -- a fault is that of the first empty list, where all blocks have lists
-pub fault-empty : (k : ℕ) (fixed : Bool) (blocks : List RawBlock) (lists : List (List Shape)) (f : BuildFault) → AreListsOf k fixed blocks lists → HasNoneFor k fixed blocks f → option_map NoShape (shapeless blocks lists) ≡ Some f
+pub fault-empty : (k : ℕ) (fixed : Bool) (blocks : List RawBlock) (lists : List (List Shape)) (f : BuildFault) → AreListsOf k fixed blocks lists → HasNoneFor k fixed blocks f → option_map NoShape (first_shapeless blocks lists) ≡ Some f
 fault-empty k fixed blocks lists f all none =
-    let name = name_of (shapeless blocks none.0) f none.2 in
+    let name = name_of (first_shapeless blocks none.0) f none.2 in
     elim (same_shapeless k fixed blocks none.0 lists name.0 (by_recursion k fixed blocks none.0 none.1) (by_recursion k fixed blocks lists all.each) name.1) [
       | inl is ↦ ap (option_map NoShape) is ∙ ap Some (sym name.2)
       | inr short ↦ (let low = short.1 in absurd (omega (arith, all.one_each)))

@@ -2,7 +2,7 @@
 use Rattle.std.proofs.Common.{◌≡◌, ℕ, zero, suc, ◌<◌, ◌≤◌, Bool, List, [], ◌∷◌, ◌++◌, length, get_or, Some, None, refl, ap, sym, subst, arith}
 use Rattle.std.specs.List.{All, zip}
 use Rattle.std.proofs.lemmas.List.Elements.{All-append}
-use Rattle.sf_model.specs.Built.{shapeless}
+use Rattle.sf_model.specs.Built.{first_shapeless}
 use Rattle.sf_model.specs.declared.parts.Shape.{Shape}
 use Rattle.sf_model.specs.declared.raw.RawBlock.{RawBlock}
 use Rattle.sf_soft_shapes.specs.Listed.{AreFirstLists, IsListOf}
@@ -44,14 +44,14 @@ lists_start k fixed blocks =
     subst P (sym (zip_none (List Shape) blocks)) (λ j d low. absurd (omega arith))
 
 -- lists that have a shape each
-pub all_shaped : (blocks : List RawBlock) (lists : List (List Shape)) → All (λ l. 1 ≤ length l) lists → shapeless blocks lists ≡ None
+pub all_shaped : (blocks : List RawBlock) (lists : List (List Shape)) → All (λ l. 1 ≤ length l) lists → first_shapeless blocks lists ≡ None
 all_shaped [] lists all = refl
 all_shaped (b ∷ bs) [] all = refl
 all_shaped (b ∷ bs) ([] ∷ ls) all = absurd (let e = all 0 [] (omega arith) in omega arith)
 all_shaped (b ∷ bs) ((s ∷ ss) ∷ ls) all = all_shaped bs ls (λ k d low. all (suc k) d (omega arith))
 
 -- a block whose list is empty is the first without a shape, behind blocks that have shapes
-pub none_after : (blocks : List RawBlock) (lists : List (List Shape)) (d : RawBlock) → length lists < length blocks → All (λ l. 1 ≤ length l) lists → shapeless blocks (lists ++ [] ∷ []) ≡ Some (get_or blocks (length lists) d).name
+pub none_after : (blocks : List RawBlock) (lists : List (List Shape)) (d : RawBlock) → length lists < length blocks → All (λ l. 1 ≤ length l) lists → first_shapeless blocks (lists ++ [] ∷ []) ≡ Some (get_or blocks (length lists) d).name
 none_after [] lists d low all = absurd (omega arith)
 none_after (b ∷ bs) [] d low all = refl
 none_after (b ∷ bs) ([] ∷ ls) d low all = absurd (let e = all 0 [] (omega arith) in omega arith)

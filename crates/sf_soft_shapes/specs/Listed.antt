@@ -3,7 +3,7 @@ use Rattle.std.specs.Prelude.{◌≡◌, Some, ℕ, ◌+◌, ◌-◌, ◌*◌, �
 use Rattle.std.specs.Int.{div_ceil}
 use Rattle.std.specs.List.{range_with_len}
 use Rattle.std.specs.Option.{option_map}
-use Rattle.sf_model.specs.Built.{shapeless}
+use Rattle.sf_model.specs.Built.{first_shapeless}
 use Rattle.sf_model.specs.declared.fault.BuildFault.{BuildFault}
 use Rattle.sf_model.specs.declared.fault.BuildFault.TheVariants.{NoShape}
 use Rattle.sf_model.specs.declared.parts.Shape.{Shape}
@@ -65,4 +65,4 @@ pub record AreListsOf (k : ℕ) (fixed : Bool) (blocks : List RawBlock) (lists :
 
 -- the blocks before one have lists of shapes, this one has none, and the fault tells its name
 abbrev pub HasNoneFor : ℕ → Bool → List RawBlock → BuildFault → Type 0
-HasNoneFor k fixed blocks fault = (lists : List (List Shape)) × AreFirstLists k fixed blocks lists × (option_map NoShape (shapeless blocks lists) ≡ Some fault)
+HasNoneFor k fixed blocks fault = (lists : List (List Shape)) × AreFirstLists k fixed blocks lists × (option_map NoShape (first_shapeless blocks lists) ≡ Some fault)

@@ -2,7 +2,7 @@
 
 ghost use Rattle.std.specs.Prelude.{◌≡◌, ℕ, Bool, List, Some};
 ghost use Rattle.std.specs.Option.{option_map};
-ghost use Rattle.sf_model.specs.Built.{shapeless};
+ghost use Rattle.sf_model.specs.Built.{first_shapeless};
 ghost use Rattle.sf_model.specs.declared.fault.BuildFault.{BuildFault};
 ghost use Rattle.sf_model.specs.declared.fault.BuildFault.TheVariants.{NoShape};
 ghost use Rattle.sf_model.specs.declared.parts.Shape.{Shape};
@@ -21,5 +21,5 @@ pub fn lists_are_determined()
         → HasNoneFor k fixed blocks f → HasNoneFor k fixed blocks g → f ≡ g }
     ensures empty { (k : ℕ) (fixed : Bool) (blocks : List RawBlock) (lists : List (List Shape))
         (f : BuildFault) → AreListsOf k fixed blocks lists → HasNoneFor k fixed blocks f
-        → option_map NoShape (shapeless blocks lists) ≡ Some f }
+        → option_map NoShape (first_shapeless blocks lists) ≡ Some f }
 {}

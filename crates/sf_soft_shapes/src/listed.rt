@@ -2,7 +2,7 @@
 
 ghost use Rattle.std.specs.Prelude.{◌≡◌, ◌≢◌, ◌≤◌, List, [], All, IfOk, IfErr, OnOk, Some, None, zip, length};
 ghost use Rattle.sf_model.specs.Admitted.{IsAdmitted, HasSizes, IsSized, IsKindWithin, KeepsLimits};
-ghost use Rattle.sf_model.specs.Built.{HasShapeChoices, shapeless};
+ghost use Rattle.sf_model.specs.Built.{HasShapeChoices, first_shapeless};
 ghost use Rattle.sf_model.specs.Limits.{IsShapeChoice};
 ghost use Rattle.sf_model.specs.declared.parts.Shape.{Shape};
 ghost use Rattle.sf_model.specs.declared.fault.BuildFault.TheVariants.{NoShape, NoMemory};
@@ -39,7 +39,7 @@ pub fn lists(alloc: Global, parts: &Parts, k: u16, fixed: bool) -> Result<Vec<Sh
     requires count { (2 ≤ k) × (k ≤ 256) }
     ensures listed { IfOk result (λ lists. AreListsOf k fixed parts.now.blocks lists.items) }
     ensures choices { IfOk result (λ lists. HasShapeChoices parts.now.blocks lists.items) }
-    ensures shaped { IfOk result (λ lists. shapeless parts.now.blocks lists.items ≡ None) }
+    ensures shaped { IfOk result (λ lists. first_shapeless parts.now.blocks lists.items ≡ None) }
     ensures refused { IfErr result (λ fault. fault ≢ NoMemory → HasNoneFor k fixed parts.now.blocks fault) }
 {
     admitted_parts_keep_limits();

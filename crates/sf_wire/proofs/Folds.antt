@@ -9,7 +9,7 @@ use mir.Syntax.{w64}
 use mir.Val.{to_z, of_z}
 use Rattle.sf_model.specs.declared.parts.Pin.{Pin}
 use Rattle.sf_model.specs.Wire.{spread}
-use Rattle.sf_wire.specs.Near.{IsNear}
+use Rattle.sf_model.specs.Limits.{IsDoubledCoordinate}
 
 -- one pin more is folded in
 pub fold_pins : (f : ℤ → ℤ → ℤ) (g : Pin → ℤ) (z : ℤ) (pins : List Pin) (i : ℕ) (d : Pin) (old new at : ℤ) → i < length pins → old ≡ fold f z (map g (take i pins)) → at ≡ g (get_or pins i d) → new ≡ f old at → new ≡ fold f z (map g (take (i + 1) pins))
@@ -21,20 +21,20 @@ fold_pins f g z pins i d old new at h was is e =
     e ∙ ap (λ v. f v at) was ∙ ap (f (fold f z (map g (take i pins)))) is ∙ sym more
 
 -- a near number comes through its bits unchanged
-pub near_same : (z : ℤ) → IsNear z → to_z w64 (of_z w64 z) ≡ z
+pub near_same : (z : ℤ) → IsDoubledCoordinate z → to_z w64 (of_z w64 z) ≡ z
 near_same z near = let l = near.low in let h = near.high in omega (arith, ints)
 
 -- the lesser of two near numbers is near
-pub near_least : (a b r : ℤ) → IsNear a → IsNear b → r ≡ int_min a b → IsNear r
+pub near_least : (a b r : ℤ) → IsDoubledCoordinate a → IsDoubledCoordinate b → r ≡ int_min a b → IsDoubledCoordinate r
 near_least a b r p q e =
-    let n : IsNear (int_min a b) = record { low = omega (arith, ints, clamps, p.low, q.low); high = omega (arith, ints, clamps, p.high, q.high) } in
-    subst IsNear (sym e) n
+    let n : IsDoubledCoordinate (int_min a b) = record { low = omega (arith, ints, clamps, p.low, q.low); high = omega (arith, ints, clamps, p.high, q.high) } in
+    subst IsDoubledCoordinate (sym e) n
 
 -- the greater of two near numbers is near
-pub near_greatest : (a b r : ℤ) → IsNear a → IsNear b → r ≡ int_max a b → IsNear r
+pub near_greatest : (a b r : ℤ) → IsDoubledCoordinate a → IsDoubledCoordinate b → r ≡ int_max a b → IsDoubledCoordinate r
 near_greatest a b r p q e =
-    let n : IsNear (int_max a b) = record { low = omega (arith, ints, clamps, p.low, q.low); high = omega (arith, ints, clamps, p.high, q.high) } in
-    subst IsNear (sym e) n
+    let n : IsDoubledCoordinate (int_max a b) = record { low = omega (arith, ints, clamps, p.low, q.low); high = omega (arith, ints, clamps, p.high, q.high) } in
+    subst IsDoubledCoordinate (sym e) n
 
 -- the extent of the first pin and of the others is the spread of all
 pub spread_of : (g : Pin → ℤ) (first : Pin) (others : List Pin) (i : ℕ) (x least greatest : ℤ) (r : ℕ) → length others ≤ i → x ≡ g first → least ≡ fold int_min x (map g (take i others)) → greatest ≡ fold int_max x (map g (take i others)) → r ≡ nat_abs (greatest -ℤ least) → r ≡ spread (map g (first ∷ others))

@@ -5,7 +5,7 @@ use Rattle.sf_model.specs.declared.parts.Net.{Net}
 use Rattle.sf_model.specs.declared.parts.Pin.{Pin}
 use Rattle.sf_model.specs.Legal.{block_count}
 use Rattle.sf_model.specs.Limits.{IsThere}
-use Rattle.sf_wire.specs.Near.{HasPins}
+use Rattle.sf_wire.specs.Nets.{HasPins}
 
 -- the pins of a net of the design are its blocks and pads
 pub net_pins : (design : Design) (n : ℕ) (net : Net) → n < length design.nets → net ≡ get_or design.nets n net → HasPins design net

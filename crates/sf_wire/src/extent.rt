@@ -2,7 +2,7 @@
 
 ghost use Rattle.std.specs.Prelude.{◌≡◌, ◌≤◌, ◌^◌, ◌-ℤ◌, nat_abs};
 ghost use Rattle.std.specs.Int.{int_max, int_min};
-ghost use Rattle.sf_wire.specs.Near.{IsNear};
+ghost use Rattle.sf_model.specs.Limits.{IsDoubledCoordinate};
 
 /// The least and the greatest of some doubled coordinates.
 #[derive(Clone, Copy)]
@@ -14,7 +14,7 @@ pub struct Extent {
 impl Extent {
     /// That of one coordinate.
     pub fn of(at: i64) -> Extent
-        requires { IsNear at }
+        requires { IsDoubledCoordinate at }
         ensures least { result.least ≡ at }
         ensures greatest { result.greatest ≡ at }
     {
@@ -37,8 +37,8 @@ impl Extent {
 
     /// How far they are apart.
     pub fn spread(self) -> u64
-        requires least { IsNear self.least }
-        requires greatest { IsNear self.greatest }
+        requires least { IsDoubledCoordinate self.least }
+        requires greatest { IsDoubledCoordinate self.greatest }
         ensures apart { result ≡ nat_abs (self.greatest -ℤ self.least) }
         ensures bounded { result ≤ 2 ^ 22 }
     {

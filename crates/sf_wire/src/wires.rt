@@ -5,7 +5,8 @@ ghost use Rattle.sf_model.specs.Limits.{IsThere};
 ghost use Rattle.sf_model.specs.Legal.{block_count};
 ghost use Rattle.sf_model.specs.Wire.{pin_x, pin_y, net_wire, weighed_wire, wire};
 ghost use Rattle.sf_place.specs.Verdict.{AreLegal};
-ghost use Rattle.sf_wire.specs.Near.{IsNear, HasPins};
+ghost use Rattle.sf_model.specs.Limits.{IsDoubledCoordinate};
+ghost use Rattle.sf_wire.specs.Nets.{HasPins};
 ghost use Rattle.sf_wire.specs.Nets.{net_at};
 
 use crate::extent::Extent;
@@ -76,8 +77,8 @@ fn point_of(design: &Design, pin: Pin, spots: &[Spot]) -> (i64, i64)
     requires in_range { IsThere (block_count design.now) (length design.now.pads) pin }
     ensures x { result.0 ≡ pin_x design.now spots.now pin }
     ensures y { result.1 ≡ pin_y design.now spots.now pin }
-    ensures near_x { IsNear result.0 }
-    ensures near_y { IsNear result.1 }
+    ensures near_x { IsDoubledCoordinate result.0 }
+    ensures near_y { IsDoubledCoordinate result.1 }
 {
     match pin {
         Pin::Block(block) => {

@@ -1,6 +1,6 @@
 use Rattle.std.proofs.Common.{◌≡◌, drop}
-use Rattle.sf_model.specs.Built.{shapeless}
+use Rattle.sf_model.specs.Built.{first_shapeless}
 use Rattle.sf_model.proofs.build.first_shapeless.Given as goal
 
 abbrev pub invariant-loop-i : goal.invariant-loop-i
-invariant-loop-i l = shapeless l.blocks l.lists ≡ shapeless (drop l.i l.blocks) (drop l.i l.lists)
+invariant-loop-i l = first_shapeless l.blocks l.lists ≡ first_shapeless (drop l.i l.blocks) (drop l.i l.lists)

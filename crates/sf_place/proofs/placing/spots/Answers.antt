@@ -7,7 +7,8 @@ use Rattle.sf_model.specs.Legal.{block_count}
 use Rattle.sf_model.specs.Cost.{spots_cost}
 use Rattle.sf_place.specs.Spots.{by_number}
 use Rattle.sf_place.specs.Verdict.{AreLegal}
-use Rattle.sf_place.proofs.ByNumber.{plan-below, plan-leaves, plan-placed, plan-spot_of, plan-wire, plan-cost, plan-legal}
+use Rattle.sf_place.proofs.ByNumber.{plan-leaves, plan-placed, plan-spot_of, plan-wire, plan-cost, plan-legal}
+use Rattle.sf_model.proofs.BlocksBelow.{once-below}
 use Rattle.sf_place.proofs.placing.spots.Goals as goal
 
 taken : (new items : List Spot) (n : ℕ) → n ≡ length new → take n (new ++ drop (length new) items) ≡ new
@@ -16,7 +17,7 @@ taken new items n e = subst (λ v. take v (new ++ drop (length new) items) ≡ n
 pub place-requires-clause-blocks : goal.place-requires-clause-blocks
 place-requires-clause-blocks c =
     let n : c.args.blocks ≡ length c.deref_mut.result.now = omega (arith, c.in_ok-spots.ensures.len, c.from.ensures, c.deref_mut.ensures.len) in
-    subst (λ v. HasBlocksBelow v (tree_of c.args.plan.now)) n (plan-below c.args.blocks (tree_of c.args.plan.now) c.requires)
+    subst (λ v. HasBlocksBelow v (tree_of c.args.plan.now)) n (once-below c.args.blocks (tree_of c.args.plan.now) c.requires)
 
 pub place-requires-clause-right : goal.place-requires-clause-right
 place-requires-clause-right c = omega (arith, plan-leaves c.args.blocks (tree_of c.args.plan.now) c.requires)

@@ -2,7 +2,7 @@ use Rattle.std.proofs.Common.{◌≡◌, map, take}
 use Rattle.std.specs.Prelude.{fold}
 use Rattle.std.specs.Int.{int_max, int_min}
 use Rattle.sf_model.specs.Wire.{pin_x, pin_y}
-use Rattle.sf_wire.specs.Near.{IsNear}
+use Rattle.sf_model.specs.Limits.{IsDoubledCoordinate}
 use Rattle.sf_wire.proofs.wires.half_perimeter.Given as goal
 
 abbrev pub invariant-loop-pin : goal.invariant-loop-pin
@@ -11,8 +11,8 @@ invariant-loop-pin l = record {
   right : l.across.greatest ≡ fold int_max l.x (map (pin_x l.design l.spots) (take l.pin-index l.others));
   lower : l.upward.least ≡ fold int_min l.y (map (pin_y l.design l.spots) (take l.pin-index l.others));
   upper : l.upward.greatest ≡ fold int_max l.y (map (pin_y l.design l.spots) (take l.pin-index l.others));
-  near_left : IsNear l.across.least;
-  near_right : IsNear l.across.greatest;
-  near_lower : IsNear l.upward.least;
-  near_upper : IsNear l.upward.greatest;
+  near_left : IsDoubledCoordinate l.across.least;
+  near_right : IsDoubledCoordinate l.across.greatest;
+  near_lower : IsDoubledCoordinate l.upward.least;
+  near_upper : IsDoubledCoordinate l.upward.greatest;
 }

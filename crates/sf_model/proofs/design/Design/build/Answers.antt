@@ -1,5 +1,5 @@
 use Rattle.std.proofs.Common.{List, ap, sym, refl, ◌∙◌, arith}
-use Rattle.sf_model.specs.Built.{shapeless}
+use Rattle.sf_model.specs.Built.{first_shapeless}
 use Rattle.sf_model.specs.declared.parts.Shape.{Shape}
 use Rattle.sf_model.specs.declared.raw.RawBlock.{RawBlock}
 use Rattle.sf_model.proofs.Limited.{limits_kept}
@@ -13,7 +13,7 @@ pub invariant_of-result : goal.invariant_of-result
 invariant_of-result c = record {
   limits = limits_hold c.args.parts c.args.lists.items c.args.outline c.args.weights c.in_ok-blocks.blocks c.in_ok-pads.pads c.in_ok-nets.nets
       c.requires.admitted c.requires.choices c.requires.sides c.requires.weighted
-      (ap (λ (bs : List RawBlock). shapeless bs c.args.lists.items) (sym c.as_slice.ensures) ∙ ap (λ (ls : List (List Shape)). shapeless c.as_slice.result.now ls) (sym c.deref.ensures.value) ∙ c.in_ok-check_shapes.ensures.shaped)
+      (ap (λ (bs : List RawBlock). first_shapeless bs c.args.lists.items) (sym c.as_slice.ensures) ∙ ap (λ (ls : List (List Shape)). first_shapeless c.as_slice.result.now ls) (sym c.deref.ensures.value) ∙ c.in_ok-check_shapes.ensures.shaped)
       c.in_ok-blocks.ensures c.in_ok-pads.ensures c.in_ok-nets.ensures.made (omega arith) (omega arith);
 }
 
