@@ -1,6 +1,6 @@
 -- The parts of a generated design may become a design.
 use Rattle.std.proofs.Common.{◌≡◌, ℕ, zero, suc, ◌+◌, ◌*◌, ◌-◌, ◌%◌, ◌<◌, ◌≤◌, ◌^◌, ◌==◌, Bool, true, false, cond, List, [], ◌∷◌, ◌++◌, length, refl, sym, ap, ◌∙◌, inl, inr, arith, lit<}
-use Rattle.std.specs.Prelude.{◌&&◌, ◌||◌, map, min, sum_by, nat_lt, Some, pos}
+use Rattle.std.specs.Prelude.{map, min, sum_by, nat_lt, Some, pos}
 use Rattle.std.specs.Fmt.{decimal}
 use Rattle.std.specs.List.{flat_map, list_any}
 use Rattle.std.specs.Str.{bytes_eq}
@@ -20,7 +20,7 @@ use Rattle.sf_model.specs.declared.raw.Parts.{Parts}
 use Rattle.sf_model.specs.declared.raw.RawBlock.{RawBlock}
 use Rattle.sf_model.specs.declared.raw.RawNet.{RawNet}
 use Rattle.sf_model.specs.declared.raw.RawPin.TheVariants.{Named}
-use Rattle.sf_model.specs.Admitted.{first, no_blocks, over, over_counts, over_kind, over_place, over_places, over_limits, block_names, pad_names, is_block_name, repeated, if_both, if_neither, at_pin_name, at_pin_names, at_placed_name, duplicates, unknowns, missing_places, name_faults, IsAdmitted}
+use Rattle.sf_model.specs.Admitted.{first, no_blocks, over, over_counts, over_kind, over_place, over_places, over_limits, block_names, pad_names, is_block_name, repeated_names, if_both, if_neither, at_pin_name, at_pin_names, at_placed_name, duplicates, unknowns, missing_places, name_faults, IsAdmitted}
 use Rattle.sf_gen.specs.declared.design.Kinds.{Kinds}
 use Rattle.sf_gen.specs.declared.drawn.Ends.{Ends}
 use Rattle.sf_gen.specs.declared.drawn.Size.{Size}
@@ -45,8 +45,8 @@ flat_none f [] h = refl
 flat_none f (x ∷ xs) h = neither (f x) (flat_map f xs) h.0 (flat_none f xs h.1)
 
 -- a quantity that is no more than the most allowed is no fault
-within : (quantity : Limit) (most found : ℕ) → found ≤ most → over quantity most found ≡ []
-within quantity most found h = let low : nat_lt most found ≡ false = grind (arith, nat_tests) in rw low refl
+over-within : (quantity : Limit) (most found : ℕ) → found ≤ most → over quantity most found ≡ []
+over-within quantity most found h = let low : nat_lt most found ≡ false = grind (arith, nat_tests) in rw low refl
 
 -- ---- names
 
@@ -68,7 +68,7 @@ module _ (kinds : Kinds) where
   later_differs i j (s ∷ sizes) h low = rw (differ i j h (omega arith)) (later_differs i (j + 1) sizes (omega arith) (omega arith))
 
   -- no name of a block stands twice
-  no_repeats : (i : ℕ) (sizes : List Size) → i + length sizes ≤ 1000 → repeated (names_from i sizes) ≡ []
+  no_repeats : (i : ℕ) (sizes : List Size) → i + length sizes ≤ 1000 → repeated_names (names_from i sizes) ≡ []
   unfolding names_from
   no_repeats i [] low = refl
   no_repeats i (s ∷ sizes) low = rw (later_differs i (i + 1) sizes (omega arith) (omega arith)) (no_repeats (i + 1) sizes (omega arith))
@@ -130,12 +130,12 @@ module _ (n : ℕ) (f : List ℕ → List BuildFault) (blocks : (a : ℕ) → a 
 
 -- a block of small sides, soft or hard, has no number beyond its limit
 kind_within : (b : Bool) (s : Size) → IsSmall s → over_kind (cond b (kind.Soft (s.w * s.h) 500_000 2_000_000) (kind.Hard s.w s.h)) ≡ []
-kind_within true s f = within limit.Area (2 ^ 40) (s.w * s.h) (omega (arith, area_high s f))
-kind_within false s f = neither (over limit.Side (2 ^ 20) s.w) (over limit.Side (2 ^ 20) s.h) (within limit.Side (2 ^ 20) s.w (omega (arith, f.width))) (within limit.Side (2 ^ 20) s.h (omega (arith, f.height)))
+kind_within true s f = over-within limit.Area (2 ^ 40) (s.w * s.h) (omega (arith, area_high s f))
+kind_within false s f = neither (over limit.Side (2 ^ 20) s.w) (over limit.Side (2 ^ 20) s.h) (over-within limit.Side (2 ^ 20) s.w (omega (arith, f.width))) (over-within limit.Side (2 ^ 20) s.h (omega (arith, f.height)))
 
 -- a place with coordinates of at most a million is within the limits
 place_within : (x y : ℕ) → x ≤ 1_000_000 → y ≤ 1_000_000 → over_place (Some (pos x, pos y)) ≡ []
-place_within x y low high = neither (over limit.Coordinate (2 ^ 20) x) (over limit.Coordinate (2 ^ 20) y) (within limit.Coordinate (2 ^ 20) x (omega (arith, low))) (within limit.Coordinate (2 ^ 20) y (omega (arith, high)))
+place_within x y low high = neither (over limit.Coordinate (2 ^ 20) x) (over limit.Coordinate (2 ^ 20) y) (over-within limit.Coordinate (2 ^ 20) x (omega (arith, low))) (over-within limit.Coordinate (2 ^ 20) y (omega (arith, high)))
 
 -- the nets have as many pins as there are names
 pins_counted : (nets : List (List (List ℕ))) → sum_by (λ (n : RawNet). length n.pins) (map (λ pins. record { pins = map Named pins }) nets) ≡ sum_by length nets
@@ -167,10 +167,10 @@ module _ (kinds : Kinds) (seed n : ℕ) (low : 1 ≤ n) (high : n ≤ 320) where
       let nets = raw_nets (ends seed n) in
       let pins = min (sum_by (λ (m : RawNet). length m.pins) nets) (2 ^ 64 - 1) in
       let net_length : length nets ≡ net_count n = length-map (nets_pins (ends seed n)) _ ∙ length-nets seed n in
-      let a = within limit.Blocks 320 (length (raw_blocks kinds (sizes seed n))) (omega (arith, block_count)) in
-      let b = within limit.Pads 16384 4 (omega arith) in
-      let c = within limit.Nets 65536 (length nets) (omega (arith, net_length, few_nets n high)) in
-      let d = within limit.Pins 1048576 pins (omega (arith, pins_counted (nets_pins (ends seed n)), few_pins seed n high)) in
+      let a = over-within limit.Blocks 320 (length (raw_blocks kinds (sizes seed n))) (omega (arith, block_count)) in
+      let b = over-within limit.Pads 16384 4 (omega arith) in
+      let c = over-within limit.Nets 65536 (length nets) (omega (arith, net_length, few_nets n high)) in
+      let d = over-within limit.Pins 1048576 pins (omega (arith, pins_counted (nets_pins (ends seed n)), few_pins seed n high)) in
       neither _ (over limit.Pins 1048576 pins) (neither _ (over limit.Nets 65536 (length nets)) (neither (over limit.Blocks 320 (length (raw_blocks kinds (sizes seed n)))) (over limit.Pads 16384 4) a b) c) d
 
   -- no side and no area of a block is beyond its limit
@@ -205,11 +205,11 @@ module _ (kinds : Kinds) (seed n : ℕ) (low : 1 ≤ n) (high : n ≤ 320) where
       let not_block = λ (x : List ℕ). not_both (112 ∷ x) (no_pad_is_block kinds x 0 (sizes seed n)) in
       let of_blocks : (a : ℕ) → a < n → f (block_name a) ≡ [] = λ a h. rw (and-false (is_block_name parts (block_name a))) refl in
       let of_pads : (p : ℕ) → p < 4 → f (pad_name p) ≡ [] = λ p h. not_block (decimal p) in
-      let names : map fault.DuplicateName (repeated (block_names parts.blocks)) ≡ [] = ap (map fault.DuplicateName) (no_repeats kinds 0 (sizes seed n) short) in
+      let names : map fault.DuplicateName (repeated_names (block_names parts.blocks)) ≡ [] = ap (map fault.DuplicateName) (no_repeats kinds 0 (sizes seed n) short) in
       let pins : at_pin_names f parts.nets ≡ [] = pins_none n f of_blocks of_pads seed low in
       let placed : flat_map (at_placed_name f) parts.pads ≡ [] =
       flat_none (at_placed_name f) parts.pads (not_block (48 ∷ []), (not_block (49 ∷ []), (not_block (50 ∷ []), (not_block (51 ∷ []), tt)))) in
-      neither _ (flat_map (at_placed_name f) parts.pads) (neither _ (at_pin_names f parts.nets) (neither (map fault.DuplicateName (repeated (block_names parts.blocks))) [] names refl) pins) placed
+      neither _ (flat_map (at_placed_name f) parts.pads) (neither _ (at_pin_names f parts.nets) (neither (map fault.DuplicateName (repeated_names (block_names parts.blocks))) [] names refl) pins) placed
 
   -- each pin has the name of a block or of a pad
   all_known : unknowns parts ≡ []

@@ -17,7 +17,7 @@ use Rattle.sf_model.specs.declared.raw.Kind.TheVariants as kind
 use Rattle.sf_model.specs.declared.raw.RawBlock.{RawBlock}
 use Rattle.sf_gsrc.specs.Blocks.{is_content_word}
 use Rattle.sf_gsrc.specs.Keywords.{is_colon, counted_of, form_of}
-use Rattle.sf_lex.specs.Vertices.{place_of, extent, vertex_of, vertices_of}
+use Rattle.sf_lex.specs.Vertices.{coordinate_of, extent, vertex_of, vertices_of}
 use Rattle.sf_gsrc.specs.Line.{Item, BlockIs, counted_by, hard_said, soft_said, plain_said, form_said}
 use Rattle.sf_gsrc.specs.declared.keywords.Form.{Form}
 use Rattle.sf_gsrc.specs.declared.keywords.Form.TheVariants as forms
@@ -87,7 +87,7 @@ corner_words w h sw sh =
     front ∙ rw (e1, e2, e3, e4) refl
 
 -- a small number that was written is read as that coordinate
-place_written : (n : ℕ) → small n → place_of 1 (decimal n) ≡ Ok (pos n)
+place_written : (n : ℕ) → small n → coordinate_of 1 (decimal n) ≡ Ok (pos n)
 place_written n low = rw (signed_written n 9_000_000_000_000_000 (omega arith) (omega arith)) refl
 
 -- the eight coordinates are read as the corners (0, 0), (0, h), (w, h) and (w, 0)

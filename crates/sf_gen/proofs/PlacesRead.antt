@@ -9,16 +9,16 @@ use Rattle.sf_lex.specs.Number.{decimal_read, signed_read}
 use Rattle.sf_lex.specs.declared.field.Gap.TheVariants.{Blanks, Sizes}
 use Rattle.sf_gsrc.specs.declared.output.Place.{Place}
 use Rattle.sf_gsrc.specs.Blocks.{is_title}
-use Rattle.sf_gsrc.specs.Line.{place_in_word}
+use Rattle.sf_gsrc.specs.Line.{coordinate_in_word}
 use Rattle.sf_gsrc.specs.PlaceLine.{coordinates_said, place_said, point_said, rest_said}
 use Rattle.sf_gsrc.specs.Places.{SaysPlace, PlacesStandFor}
-use Rattle.sf_gen.specs.Designs.{placed, places_out}
+use Rattle.sf_gen.specs.Designs.{place_at, places_out}
 use Rattle.sf_gen.specs.Texts.{square, pl_text}
 use Rattle.sf_gen.proofs.TextLines.{IsLines, none, ended, piece, content_is, each_numbered}
 use Rattle.sf_gen.proofs.TextWords.{decimal_no_feed, number_first, number_after, number_last, number_ends, number_filled, signed_written}
 
 -- a name with two words that are coordinates is placed there
-point_is : (name x y : List ℕ) (a b : ℕ) → place_in_word 1 x ≡ Ok (pos a) → place_in_word 1 y ≡ Ok (pos b) → point_said 1 name x y ≡ Ok (placed name a b)
+point_is : (name x y : List ℕ) (a b : ℕ) → coordinate_in_word 1 x ≡ Ok (pos a) → coordinate_in_word 1 y ≡ Ok (pos b) → point_said 1 name x y ≡ Ok (place_at name a b)
 unfolding point_said
 point_is name x y a b e f = rw (e, f) refl
 
@@ -43,42 +43,42 @@ said_as line name x y one two three p e1 e2 e3 e4 e5 e6 e7 some says =
     ∙ rw some says
 
 -- the word 0 is the coordinate 0
-zero_place : place_in_word 1 (codes "0") ≡ Ok (pos 0)
+zero_coordinate : coordinate_in_word 1 (codes "0") ≡ Ok (pos 0)
 unfolding signed_read decimal_read
-zero_place = refl
+zero_coordinate = refl
 
 module _ (q : ℕ) (low : q ≤ 1_000_000) where
   -- a small number that was written is the coordinate that it says
-  number_place : place_in_word 1 (decimal q) ≡ Ok (pos q)
-  number_place = rw (signed_written q 9_000_000_000_000_000 (omega arith) (omega arith)) refl
+  number_coordinate : coordinate_in_word 1 (decimal q) ≡ Ok (pos q)
+  number_coordinate = rw (signed_written q 9_000_000_000_000_000 (omega arith) (omega arith)) refl
 
   -- the line of the first pad places it at (0, 0)
-  origin : place_said 1 (codes "p0 0 0") ≡ Ok (placed (codes "p0") 0 0)
+  origin : place_said 1 (codes "p0 0 0") ≡ Ok (place_at (codes "p0") 0 0)
   origin =
-      said_as (codes "p0 0 0") (codes "p0") (codes "0") (codes "0") (codes " 0 0") (codes " 0") [] (placed (codes "p0") 0 0)
-      refl refl refl refl refl refl refl refl (point_is (codes "p0") (codes "0") (codes "0") 0 0 zero_place zero_place)
+      said_as (codes "p0 0 0") (codes "p0") (codes "0") (codes "0") (codes " 0 0") (codes " 0") [] (place_at (codes "p0") 0 0)
+      refl refl refl refl refl refl refl refl (point_is (codes "p0") (codes "0") (codes "0") 0 0 zero_coordinate zero_coordinate)
 
   -- the line of the second pad places it at (q, 0)
-  right : place_said 1 (codes "p1 " ++ (decimal q ++ codes " 0")) ≡ Ok (placed (codes "p1") q 0)
+  right : place_said 1 (codes "p1 " ++ (decimal q ++ codes " 0")) ≡ Ok (place_at (codes "p1") q 0)
   right =
-      said_as (codes "p1 " ++ (decimal q ++ codes " 0")) (codes "p1") (decimal q) (codes "0") (32 ∷ (decimal q ++ codes " 0")) (codes " 0") [] (placed (codes "p1") q 0)
+      said_as (codes "p1 " ++ (decimal q ++ codes " 0")) (codes "p1") (decimal q) (codes "0") (32 ∷ (decimal q ++ codes " 0")) (codes " 0") [] (place_at (codes "p1") q 0)
       refl refl (number_first q (omega arith) (codes "0")) (number_after q (omega arith) (codes "0")) refl refl refl refl
-      (point_is (codes "p1") (decimal q) (codes "0") q 0 number_place zero_place)
+      (point_is (codes "p1") (decimal q) (codes "0") q 0 number_coordinate zero_coordinate)
 
   -- the line of the third pad places it at (0, q)
-  above : place_said 1 (codes "p2 0 " ++ (decimal q ++ [])) ≡ Ok (placed (codes "p2") 0 q)
+  above : place_said 1 (codes "p2 0 " ++ (decimal q ++ [])) ≡ Ok (place_at (codes "p2") 0 q)
   above =
-      said_as (codes "p2 0 " ++ (decimal q ++ [])) (codes "p2") (codes "0") (decimal q) (codes " 0 " ++ (decimal q ++ [])) (32 ∷ (decimal q ++ [])) [] (placed (codes "p2") 0 q)
+      said_as (codes "p2 0 " ++ (decimal q ++ [])) (codes "p2") (codes "0") (decimal q) (codes " 0 " ++ (decimal q ++ [])) (32 ∷ (decimal q ++ [])) [] (place_at (codes "p2") 0 q)
       refl refl refl refl (number_last q (omega arith)) (number_ends q (omega arith)) refl (number_filled q (omega arith))
-      (point_is (codes "p2") (codes "0") (decimal q) 0 q zero_place number_place)
+      (point_is (codes "p2") (codes "0") (decimal q) 0 q zero_coordinate number_coordinate)
 
   -- the line of the fourth pad places it at (q, q)
-  across : place_said 1 (codes "p3 " ++ (decimal q ++ (codes " " ++ (decimal q ++ [])))) ≡ Ok (placed (codes "p3") q q)
+  across : place_said 1 (codes "p3 " ++ (decimal q ++ (codes " " ++ (decimal q ++ [])))) ≡ Ok (place_at (codes "p3") q q)
   across =
       let last : List ℕ = decimal q ++ [] in
-      said_as (codes "p3 " ++ (decimal q ++ (codes " " ++ last))) (codes "p3") (decimal q) (decimal q) (32 ∷ (decimal q ++ (32 ∷ last))) (32 ∷ last) [] (placed (codes "p3") q q)
+      said_as (codes "p3 " ++ (decimal q ++ (codes " " ++ last))) (codes "p3") (decimal q) (decimal q) (32 ∷ (decimal q ++ (32 ∷ last))) (32 ∷ last) [] (place_at (codes "p3") q q)
       refl refl (number_first q (omega arith) last) (number_after q (omega arith) last) (number_last q (omega arith)) (number_ends q (omega arith)) refl (number_filled q (omega arith))
-      (point_is (codes "p3") (decimal q) (decimal q) q q number_place number_place)
+      (point_is (codes "p3") (decimal q) (decimal q) q q number_coordinate number_coordinate)
 
 -- the text of the places stands for the four pads at their places
 pub places_stand : (n : ℕ) → n ≤ 320 → PlacesStandFor 1 (pl_text n) (places_out n)

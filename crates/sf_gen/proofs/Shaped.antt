@@ -7,7 +7,7 @@ use Rattle.std.proofs.lemmas.Bool.{cases_lt}
 use Rattle.std.proofs.lemmas.Grind.{div_ceil_times}
 use Rattle.std.proofs.lemmas.List.Elements.{All-head, All-tail}
 use Rattle.std.proofs.Math.Nat.{mul-le-mul, mul-le-mul_right}
-use Rattle.sf_model.specs.Built.{shapeless}
+use Rattle.sf_model.specs.Built.{first_shapeless}
 use Rattle.sf_model.specs.declared.fault.BuildFault.{BuildFault}
 use Rattle.sf_model.specs.declared.fault.BuildFault.TheVariants.{NoShape}
 use Rattle.sf_model.specs.declared.parts.Shape.{Shape}
@@ -135,7 +135,7 @@ HasShape : ℕ → Bool → RawBlock → Type 0
 HasShape k fixed b = IsListOf k fixed b.kind [] → ⊥
 
 -- where no block may have an empty list, none of the blocks that have lists is without a shape
-all_shaped : (k : ℕ) (fixed : Bool) (bs : List RawBlock) (lists : List (List Shape)) → Each (HasShape k fixed) bs → AreFirstLists k fixed bs lists → shapeless bs lists ≡ None
+all_shaped : (k : ℕ) (fixed : Bool) (bs : List RawBlock) (lists : List (List Shape)) → Each (HasShape k fixed) bs → AreFirstLists k fixed bs lists → first_shapeless bs lists ≡ None
 unfolding HasShape
 all_shaped k fixed [] lists h are = refl
 all_shaped k fixed (b ∷ bs) [] h are = refl
@@ -143,14 +143,14 @@ all_shaped k fixed (b ∷ bs) ([] ∷ ls) h are = absurd (h.0 (All-head (λ (p :
 all_shaped k fixed (b ∷ bs) ((s ∷ ss) ∷ ls) h are = all_shaped k fixed bs ls h.1 (All-tail (λ (p : RawBlock × List Shape). IsListOf k fixed p.0.kind p.1) (b, s ∷ ss) (zip bs ls) are)
 
 -- among the lists made so far, none of the blocks of a generated design is without a shape
-first_shaped : (kinds : Kinds) (seed n k : ℕ) (fixed : Bool) (lists : List (List Shape)) → 2 ≤ k → AreFirstLists k fixed (raw_blocks kinds (sizes seed n)) lists → shapeless (raw_blocks kinds (sizes seed n)) lists ≡ None
+first_shaped : (kinds : Kinds) (seed n k : ℕ) (fixed : Bool) (lists : List (List Shape)) → 2 ≤ k → AreFirstLists k fixed (raw_blocks kinds (sizes seed n)) lists → first_shapeless (raw_blocks kinds (sizes seed n)) lists ≡ None
 unfolding HasShape
 first_shaped kinds seed n k fixed lists h are =
     all_shaped k fixed (raw_blocks kinds (sizes seed n)) lists
     (each_indexed IsSmall (HasShape k fixed) (raw_block kinds) (λ i s f l. kind_filled (is_soft kinds i) k fixed s f (omega (arith, h)) l) 0 (sizes seed n) (sizes_small seed n)) are
 
 -- no block of a generated design is without a shape
-pub shaped : (kinds : Kinds) (seed n k : ℕ) (fixed : Bool) (lists : List (List Shape)) → 2 ≤ k → AreListsOf k fixed (raw_blocks kinds (sizes seed n)) lists → shapeless (raw_blocks kinds (sizes seed n)) lists ≡ None
+pub shaped : (kinds : Kinds) (seed n k : ℕ) (fixed : Bool) (lists : List (List Shape)) → 2 ≤ k → AreListsOf k fixed (raw_blocks kinds (sizes seed n)) lists → first_shapeless (raw_blocks kinds (sizes seed n)) lists ≡ None
 shaped kinds seed n k fixed lists h are = first_shaped kinds seed n k fixed lists h are.each
 
 -- no block of a generated design is refused for having no shape

@@ -13,7 +13,7 @@ use Rattle.sf_lex.specs.Gap.{is_gap, first_word, after_word}
 use Rattle.sf_lex.specs.Number.{is_digit, is_point, number_of, scaled, decimal_of, decimal_read, area_read, signed_read, with_value}
 use Rattle.sf_lex.specs.declared.field.Gap.{Gap}
 use Rattle.sf_lex.specs.declared.field.Gap.TheVariants.{Blanks, Colons, Points, Sizes}
-use Rattle.sf_lex.proofs.Decimals.{and_true}
+use Rattle.std.proofs.lemmas.Bool.{and_parts}
 use Rattle.sf_lex.proofs.Spelled.{words-last, first_fails}
 use Rattle.sf_lex.proofs.WrittenNumbers.{digits_written, number_written, decimal_written, no_point_in_digit, filled}
 use Rattle.sf_gsrc.specs.Keywords.{is_colon}
@@ -25,7 +25,7 @@ use Rattle.sf_gsrc.specs.Line.{count_said}
 none_of : (test : ℕ → Bool) → ((b : ℕ) → is_digit b ≡ true → test b ≡ false) → (ds : List ℕ) → list_all is_digit ds ≡ true → has_none test ds ≡ true
 none_of test fails [] h = refl
 none_of test fails (d ∷ ds) h =
-    let f = and_true (is_digit d) (list_all is_digit ds) h in
+    let f = and_parts (is_digit d) (list_all is_digit ds) h in
     rw (fails d f.0) (none_of test fails ds f.1)
 
 -- a digit is no line feed
@@ -132,7 +132,7 @@ signed_digits : (limit : ℕ) (ds : List ℕ) → 0 < length ds → list_all is_
 unfolding signed_read
 signed_digits limit [] some h = absurd (omega arith)
 signed_digits limit (d ∷ ds) some h =
-    let f = head_digit d (and_true (is_digit d) (list_all is_digit ds) h).0 in
+    let f = head_digit d (and_parts (is_digit d) (list_all is_digit ds) h).0 in
     rw (f.0, f.1) refl
 
 -- a coordinate

@@ -45,15 +45,15 @@ abbrev pub blocks_out : Kinds → List Size → GsrcBlocks
 blocks_out kinds sizes = record { blocks = raw_blocks kinds sizes; pads = pad_list }
 
 -- a name at a place
-abbrev pub placed : List ℕ → ℕ → ℕ → Place
-placed name x y = record { name = name; x = pos x; y = pos y; size = None }
+abbrev pub place_at : List ℕ → ℕ → ℕ → Place
+place_at name x y = record { name = name; x = pos x; y = pos y; size = None }
 
 -- what the text of the places stands for
 abbrev pub places_out : ℕ → GsrcPlaces
 places_out n = record {
   places =
-      placed (codes "p0") 0 0 ∷ placed (codes "p1") (square n) 0
-      ∷ placed (codes "p2") 0 (square n) ∷ placed (codes "p3") (square n) (square n) ∷ [];
+      place_at (codes "p0") 0 0 ∷ place_at (codes "p1") (square n) 0
+      ∷ place_at (codes "p2") 0 (square n) ∷ place_at (codes "p3") (square n) (square n) ∷ [];
 }
 
 -- ---- the parts of the whole design

@@ -2,7 +2,7 @@
 
 ghost use Rattle.std.specs.Prelude.{◌≡◌, ◌≤◌, ℕ, Bool, List, Ok, Some, None};
 ghost use Rattle.sf_model.specs.Admitted.{IsAdmitted};
-ghost use Rattle.sf_model.specs.Built.{shapeless};
+ghost use Rattle.sf_model.specs.Built.{first_shapeless};
 ghost use Rattle.sf_model.specs.declared.fault.BuildFault.{BuildFault};
 ghost use Rattle.sf_model.specs.declared.parts.Shape.{Shape};
 ghost use Rattle.sf_soft_shapes.specs.Listed.{AreListsOf, HasNoneFor};
@@ -44,7 +44,7 @@ pub fn parts_are_admitted()
 pub fn blocks_have_shapes()
     ensures shaped { (kinds : Kinds) (seed n k : ℕ) (fixed : Bool) (lists : List (List Shape))
         → 2 ≤ k → AreListsOf k fixed (parts_of kinds seed n).blocks lists
-        → shapeless (parts_of kinds seed n).blocks lists ≡ None }
+        → first_shapeless (parts_of kinds seed n).blocks lists ≡ None }
     ensures never_refused { (kinds : Kinds) (seed n k : ℕ) (fixed : Bool) (fault : BuildFault)
         → 2 ≤ k → HasNoneFor k fixed (parts_of kinds seed n).blocks fault → ⊥ }
 {}

@@ -14,7 +14,7 @@ use Rattle.sf_model.specs.declared.raw.RawPad.{RawPad}
 use Rattle.sf_model.specs.declared.raw.RawPin.{RawPin}
 use Rattle.sf_model.specs.declared.raw.RawPin.TheVariants as raw
 use Rattle.sf_model.specs.declared.raw.Parts.{Parts}
-use Rattle.sf_model.specs.Admitted.{IsPinInRange, at_pin_name, at_pin_names, block_names, block_of, duplicates, first, first_refusal, if_both, if_neither, is_block_name, is_index, is_pad_name, is_wired, missing_places, name_faults, no_blocks, over_counts, over_kind, over_limits, over_places, pad_names, pad_of, unknowns, unplaced}
+use Rattle.sf_model.specs.Admitted.{IsPinInRange, at_pin_name, at_pin_names, block_names, block_of, duplicates, first, first_refusal, if_both, if_neither, is_block_name, is_index, is_pad_name, is_wired, missing_places, name_faults, no_blocks, over_counts, over_kind, over_limits, over_places, pad_names, pad_of, unknowns, unplaced_faults}
 use Rattle.sf_model.proofs.Tables.{place_within, position_any}
 use Rattle.sf_gsrc.specs.Join.{by_number, has_numbers, numbered, numbered_net, numbered_nets, numbered_pin}
 
@@ -86,10 +86,10 @@ wired_in blocks pads i (n ∷ nets) =
     any_same (numbered_pin blocks pads) (λ p. is_index i (pad_of pads p)) (λ p. ap (is_index i) (same_pad blocks pads p)) n.pins _ _ (wired_in blocks pads i nets)
 
 -- two tests that agree find the same pads without a place
-unplaced_same : (now was : ℕ → Bool) → ((i : ℕ) → now i ≡ was i) → (i : ℕ) (pads : List RawPad) → unplaced now i pads ≡ unplaced was i pads
+unplaced_same : (now was : ℕ → Bool) → ((i : ℕ) → now i ≡ was i) → (i : ℕ) (pads : List RawPad) → unplaced_faults now i pads ≡ unplaced_faults was i pads
 unplaced_same now was same i [] = refl
 unplaced_same now was same i (p ∷ ps) =
-    ap (λ b. cond (is_none p.place && b) (fault.MissingPlace p.name ∷ unplaced now (i + 1) ps) (unplaced now (i + 1) ps)) (same i)
+    ap (λ b. cond (is_none p.place && b) (fault.MissingPlace p.name ∷ unplaced_faults now (i + 1) ps) (unplaced_faults now (i + 1) ps)) (same i)
     ∙ ap (λ (l : List BuildFault). cond (is_none p.place && was i) (fault.MissingPlace p.name ∷ l) l) (unplaced_same now was same (i + 1) ps)
 
 -- numbers do not change how many pins the nets have
@@ -127,7 +127,7 @@ missing_by b now was e = ap (λ (l : List BuildFault). cond b l []) e
 -- numbers change no pad without a place
 missing_same : (parts : Parts) → missing_places (with_numbers parts) ≡ missing_places parts
 missing_same parts =
-    missing_by parts.pads_in (unplaced (is_wired (with_numbers parts)) 0 parts.pads) (unplaced (is_wired parts) 0 parts.pads)
+    missing_by parts.pads_in (unplaced_faults (is_wired (with_numbers parts)) 0 parts.pads) (unplaced_faults (is_wired parts) 0 parts.pads)
     (unplaced_same (is_wired (with_numbers parts)) (is_wired parts) (λ i. wired_in parts.blocks parts.pads i parts.nets) 0 parts.pads)
 
 -- numbers change no first fault

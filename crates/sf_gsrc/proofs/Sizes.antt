@@ -18,7 +18,7 @@ use Rattle.sf_gsrc.specs.declared.keywords.Form.{Form}
 use Rattle.sf_gsrc.specs.declared.keywords.Form.TheVariants as forms
 use Rattle.sf_gsrc.specs.declared.output.GsrcBlocks.{GsrcBlocks}
 use Rattle.sf_gsrc.specs.Keywords.{form_of}
-use Rattle.sf_lex.specs.Results.{◌>>=◌, told}
+use Rattle.sf_lex.specs.Results.{◌>>=◌, map_err}
 use Rattle.sf_lex.specs.Vertices.{box_read}
 use Rattle.sf_lex.specs.declared.vertices.BoxSize.{BoxSize}
 use Rattle.sf_gsrc.specs.Line.{Item, BlockIs, PadIs, area_in_word, aspect_in_word, count_in_word, vertex_fault, soft_said, box_said, hard_said, form_said, plain_said, counted_by}
@@ -81,7 +81,7 @@ unfolding hard_said
 hard_sized scale name [] item h = absurd (err_not_ok BadLine item h)
 hard_sized scale name (count ∷ places) item h =
     let k = bind_ok (count_in_word count) _ item h in
-    outline_sized name (told vertex_fault (box_read scale k.0 places)) item ((k.0 == 0) || nat_lt (length places) (2 * k.0)) k.2
+    outline_sized name (map_err vertex_fault (box_read scale k.0 places)) item ((k.0 == 0) || nat_lt (length places) (2 * k.0)) k.2
 
 -- what a line says has a size, whatever its form
 form_sized : (scale : ℕ) (name rest : List ℕ) (form : Option Form) (item : Item) → form_said scale name rest form ≡ Ok item → ItemSized item

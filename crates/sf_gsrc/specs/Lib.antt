@@ -7,7 +7,7 @@ pub mod Standing
 pub mod Nets
 pub mod NetsFound
 pub mod PlaceLine
-pub mod Spots
+pub mod PlacesKept
 pub mod Places
 pub mod NetsStanding
 pub mod Join

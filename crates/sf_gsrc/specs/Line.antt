@@ -1,6 +1,6 @@
 -- What a line of a block file says by itself, and its fault if it says nothing.
 use Rattle.std.specs.Prelude.{ℕ, ◌*◌, ◌||◌, ◌==◌, nat_lt, List, [], ◌∷◌, length, Option, Some, None, Result, Ok, Err, if◌then◌else◌, ℤ}
-use Rattle.sf_lex.specs.Results.{◌>>=◌, told}
+use Rattle.sf_lex.specs.Results.{◌>>=◌, map_err}
 use Rattle.sf_lex.specs.Vertices.{box_read}
 use Rattle.sf_lex.specs.declared.vertices.BoxSize.{BoxSize}
 use Rattle.sf_lex.specs.declared.vertices.VertexFault.{VertexFault}
@@ -26,7 +26,7 @@ pub data Item : Type 0 where
 
 -- a number's fault is its line's
 abbrev pub number_in : {A : Type 0} → Result A NumberFault → Result A LineFault
-number_in read = told BadNumber read
+number_in read = map_err BadNumber read
 
 -- a count in a word
 abbrev pub count_in_word : List ℕ → Result ℕ LineFault
@@ -41,8 +41,8 @@ abbrev pub area_in_word : ℕ → List ℕ → Result ℕ LineFault
 area_in_word scale word = number_in (area_read (scale * scale) 9_000_000_000_000_000 word)
 
 -- a coordinate in a word, in whole units of the scale
-abbrev pub place_in_word : ℕ → List ℕ → Result ℤ LineFault
-place_in_word scale word = number_in (signed_read scale 9_000_000_000_000_000 word)
+abbrev pub coordinate_in_word : ℕ → List ℕ → Result ℤ LineFault
+coordinate_in_word scale word = number_in (signed_read scale 9_000_000_000_000_000 word)
 
 -- the number of a count line, behind its count word
 unfoldable pub count_said : List (List ℕ) → Result ℕ LineFault
@@ -76,7 +76,7 @@ hard_said scale name [] = Err BadLine
 hard_said scale name (count ∷ places) = do
   k ← count_in_word count
   if (k == 0) || nat_lt (length places) (2 * k) then Err BadLine
-      else (told vertex_fault (box_read scale k places) >>= box_said name)
+      else (map_err vertex_fault (box_read scale k places) >>= box_said name)
 
 -- what a line says by the word behind its name
 abbrev pub form_said : ℕ → List ℕ → List ℕ → Option Form → Result Item LineFault

@@ -9,7 +9,7 @@ use Rattle.sf_gsrc.specs.declared.fault.LineFault.{LineFault}
 use Rattle.sf_gsrc.specs.declared.fault.LineFault.TheVariants.{BadLine, ZeroSide}
 use Rattle.sf_gsrc.specs.declared.output.Place.{Place}
 use Rattle.sf_lex.specs.Results.{◌>>=◌}
-use Rattle.sf_gsrc.specs.Line.{number_in, place_in_word}
+use Rattle.sf_gsrc.specs.Line.{number_in, coordinate_in_word}
 
 -- a side in a word
 abbrev pub length_in_word : ℕ → List ℕ → Result ℕ LineFault
@@ -31,16 +31,16 @@ size_in_words scale sides = do
 -- a name at a place without a size
 unfoldable pub point_said : ℕ → List ℕ → List ℕ → List ℕ → Result Place LineFault
 point_said scale name x y = do
-  a ← place_in_word scale x
-  b ← place_in_word scale y
+  a ← coordinate_in_word scale x
+  b ← coordinate_in_word scale y
   Ok (record { name = name; x = a; y = b; size = None })
 
 -- a name at a place with a size
 unfoldable pub sized_said : ℕ → List ℕ → List ℕ → List ℕ → List (List ℕ) → Result Place LineFault
 sized_said scale name x y more = do
   sides ← size_words more
-  a ← place_in_word scale x
-  b ← place_in_word scale y
+  a ← coordinate_in_word scale x
+  b ← coordinate_in_word scale y
   size ← size_in_words scale sides
   if (size.0 == 0) || (size.1 == 0) then Err ZeroSide else Ok (record { name = name; x = a; y = b; size = Some size })
 

@@ -3,18 +3,18 @@
 ghost use Rattle.std.specs.Prelude.{◌≡◌, ◌≤◌, IfOk, Ok, Err};
 ghost use Rattle.sf_lex.specs.Text.{words};
 ghost use Rattle.sf_lex.specs.Gap.{is_gap, first_word};
-ghost use Rattle.sf_gsrc.specs.Line.{place_in_word};
+ghost use Rattle.sf_gsrc.specs.Line.{coordinate_in_word};
 ghost use Rattle.sf_gsrc.specs.PlaceLine.{length_in_word, size_words, size_in_words, point_said, sized_said};
 ghost use Rattle.sf_gsrc.specs.PlaceLine.{rest_said, place_said};
 ghost use Rattle.sf_lex.specs.Results.{seen};
-ghost use Rattle.sf_gsrc.specs.Spots.{place_in};
+ghost use Rattle.sf_gsrc.specs.PlacesKept.{place_in};
 
 use crate::fault::LineFault;
 use sf_lex::{Gap, LENGTH_LIMIT, Scale, next_field, read_decimal, read_signed, split_word};
 
 /// A name at its place, and its size where the line tells one.
 #[derive(Clone, Copy, Debug)]
-pub struct Spot<'a> {
+pub struct PlaceLine<'a> {
     pub name: &'a [u8],
     pub x: i64,
     pub y: i64,
@@ -22,8 +22,8 @@ pub struct Spot<'a> {
 }
 
 /// A coordinate.
-fn read_place(word: &[u8], scale: Scale) -> Result<i64, LineFault>
-    ensures { result ≡ place_in_word scale.per_unit word.now }
+fn read_coordinate(word: &[u8], scale: Scale) -> Result<i64, LineFault>
+    ensures { result ≡ coordinate_in_word scale.per_unit word.now }
 {
     Ok(read_signed(word, scale.per_unit, LENGTH_LIMIT)?)
 }
@@ -69,14 +69,14 @@ struct PlaceWords<'a> {
 
 /// A name at a place, without a size.
 #[tactic(auto, unfolding(crate::specs::PlaceLine::point_said))]
-fn spot_without_size<'a>(said: PlaceWords<'a>, scale: Scale) -> Result<Spot<'a>, LineFault>
+fn line_without_size<'a>(said: PlaceWords<'a>, scale: Scale) -> Result<PlaceLine<'a>, LineFault>
     ensures says { let said = said.entry in
         seen place_in result ≡ point_said scale.per_unit said.name.now said.x.now said.y.now }
     ensures name { IfOk result (λ s. s.name.now ≡ said.entry.name.now) }
 {
-    let x = read_place(said.x, scale)?;
-    let y = read_place(said.y, scale)?;
-    Ok(Spot {
+    let x = read_coordinate(said.x, scale)?;
+    let y = read_coordinate(said.y, scale)?;
+    Ok(PlaceLine {
         name: said.name,
         x,
         y,
@@ -86,23 +86,23 @@ fn spot_without_size<'a>(said: PlaceWords<'a>, scale: Scale) -> Result<Spot<'a>,
 
 /// A name at a place, with the size behind `DIMS`.
 #[tactic(auto, unfolding(crate::specs::PlaceLine::sized_said, crate::specs::PlaceLine::point_said))]
-fn spot_with_size<'a>(
+fn line_with_size<'a>(
     said: PlaceWords<'a>,
     rest: &[u8],
     scale: Scale,
-) -> Result<Spot<'a>, LineFault>
+) -> Result<PlaceLine<'a>, LineFault>
     ensures says { let said = said.entry in
         seen place_in result ≡ sized_said scale.per_unit said.name.now said.x.now said.y.now
         (words (is_gap Gap.Sizes) rest.now) }
     ensures name { IfOk result (λ s. s.name.now ≡ said.entry.name.now) }
 {
     let (w, h) = next_sides(rest)?;
-    let spot = spot_without_size(said, scale)?;
+    let spot = line_without_size(said, scale)?;
     let (w, h) = read_size(w, h, scale)?;
     if w == 0 || h == 0 {
         return Err(LineFault::ZeroSide);
     }
-    Ok(Spot {
+    Ok(PlaceLine {
         size: Some((w, h)),
         ..spot
     })
@@ -110,21 +110,25 @@ fn spot_with_size<'a>(
 
 /// A name at a place, with a size where `DIMS` follows.
 #[tactic(auto, unfolding(crate::specs::PlaceLine::rest_said))]
-fn spot_by_rest<'a>(said: PlaceWords<'a>, rest: &[u8], scale: Scale) -> Result<Spot<'a>, LineFault>
+fn line_by_rest<'a>(
+    said: PlaceWords<'a>,
+    rest: &[u8],
+    scale: Scale,
+) -> Result<PlaceLine<'a>, LineFault>
     ensures says { let said = said.entry in
         seen place_in result ≡ rest_said scale.per_unit said.name.now said.x.now said.y.now
         (words (is_gap Gap.Sizes) rest.now) }
     ensures name { IfOk result (λ s. s.name.now ≡ said.entry.name.now) }
 {
     match next_field(rest, Gap::Sizes) {
-        Some((word, rest)) if word == b"DIMS".as_slice() => spot_with_size(said, rest, scale),
-        _ => spot_without_size(said, scale),
+        Some((word, rest)) if word == b"DIMS".as_slice() => line_with_size(said, rest, scale),
+        _ => line_without_size(said, scale),
     }
 }
 
 /// What a line says: a name, two coordinates, and maybe a size.
 #[tactic(auto, unfolding(crate::specs::PlaceLine::place_said))]
-pub fn read_place_line(line: &[u8], scale: Scale) -> Result<Spot<'_>, LineFault>
+pub fn read_place_line(line: &[u8], scale: Scale) -> Result<PlaceLine<'_>, LineFault>
     ensures says { seen place_in result ≡ place_said scale.per_unit line.now }
     ensures name { IfOk result (λ s. s.name.now ≡ first_word Gap.Blanks line.now) }
 {
@@ -134,5 +138,5 @@ pub fn read_place_line(line: &[u8], scale: Scale) -> Result<Spot<'_>, LineFault>
     if y.is_empty() {
         return Err(LineFault::BadLine);
     }
-    spot_by_rest(PlaceWords { name, x, y }, rest, scale)
+    line_by_rest(PlaceWords { name, x, y }, rest, scale)
 }

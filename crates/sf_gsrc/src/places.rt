@@ -6,7 +6,7 @@ ghost use Rattle.sf_lex.specs.Gap.{first_word};
 ghost use Rattle.sf_lex.specs.declared.field.Gap.TheVariants.{Blanks};
 ghost use Rattle.sf_gsrc.specs.Blocks.{content, Gives};
 ghost use Rattle.sf_gsrc.specs.Places.{place_at, places_from, places_read, PlacesStandFor};
-ghost use Rattle.sf_gsrc.specs.Spots.{KeepsPlace, KeepsPlaces};
+ghost use Rattle.sf_gsrc.specs.PlacesKept.{KeepsPlace, KeepsPlaces};
 
 use crate::content::{next_content, open};
 use crate::fault::GsrcFault;
@@ -29,13 +29,13 @@ fn take_line(
         (place_at scale.per_unit (line_of line.now)) }
 {
     match read_place_line(line.text, scale) {
-        Ok(spot) => {
-            let name = Name::new(alloc, spot.name)?;
+        Ok(said) => {
+            let name = Name::new(alloc, said.name)?;
             places.push(Place {
                 name,
-                x: spot.x,
-                y: spot.y,
-                size: spot.size,
+                x: said.x,
+                y: said.y,
+                size: said.size,
             })?;
             Ok(())
         }

@@ -13,6 +13,6 @@ seen view (Ok x) = Ok (view x)
 seen view (Err e) = Err e
 
 -- what a function returned, its fault told as another
-abbrev pub told : {X E F : Type 0} → (E → F) → Result X E → Result X F
-told f (Ok x) = Ok x
-told f (Err e) = Err (f e)
+abbrev pub map_err : {X E F : Type 0} → (E → F) → Result X E → Result X F
+map_err f (Ok x) = Ok x
+map_err f (Err e) = Err (f e)

@@ -1,23 +1,23 @@
 -- The vertices of an outline, and their bounding box.
 use Rattle.std.specs.Prelude.{ℕ, zero, suc, List, [], ◌∷◌, map, Result, Ok, Err, ℤ, ◌-ℤ◌, fold, unsigned_abs}
 use Rattle.std.specs.Int.{int_min, int_max}
-use Rattle.sf_lex.specs.Results.{◌>>=◌, told}
+use Rattle.sf_lex.specs.Results.{◌>>=◌, map_err}
 use Rattle.sf_lex.specs.Number.{signed_read}
 use Rattle.sf_lex.specs.declared.vertices.BoxSize.{BoxSize}
 use Rattle.sf_lex.specs.declared.vertices.VertexFault.{VertexFault}
 use Rattle.sf_lex.specs.declared.vertices.VertexFault.TheVariants.{Missing, BadNumber}
 
 -- a coordinate
-abbrev pub place_of : ℕ → List ℕ → Result ℤ VertexFault
-place_of scale word = told BadNumber (signed_read scale 9_000_000_000_000_000 word)
+abbrev pub coordinate_of : ℕ → List ℕ → Result ℤ VertexFault
+coordinate_of scale word = map_err BadNumber (signed_read scale 9_000_000_000_000_000 word)
 
 -- a vertex is two words
 unfoldable pub vertex_of : ℕ → List (List ℕ) → Result ((ℤ × ℤ) × List (List ℕ)) VertexFault
 vertex_of scale [] = Err Missing
 vertex_of scale (x ∷ []) = Err Missing
 vertex_of scale (x ∷ y ∷ more) = do
-  a ← place_of scale x
-  b ← place_of scale y
+  a ← coordinate_of scale x
+  b ← coordinate_of scale y
   Ok ((a, b), more)
 
 -- the vertices at the front, so many

@@ -4,7 +4,7 @@ ghost use Rattle.std.specs.Prelude.{◌≡◌, ◌≤◌, ◌-ℤ◌, unsigned_a
 ghost use Rattle.sf_lex.specs.Text.{words};
 ghost use Rattle.sf_lex.specs.Gap.{is_gap};
 ghost use Rattle.sf_lex.specs.Results.{seen};
-ghost use Rattle.sf_lex.specs.Vertices.{place_of, vertex_of, box_read};
+ghost use Rattle.sf_lex.specs.Vertices.{coordinate_of, vertex_of, box_read};
 ghost use Rattle.sf_lex.specs.Corners.{corner, grow, corners_read, size_of_corners};
 ghost use Rattle.sf_lex.specs.declared.vertices.VertexFault.TheVariants.{BadNumber};
 
@@ -82,8 +82,8 @@ impl Corners {
 }
 
 /// A coordinate.
-fn read_place(word: &[u8], scale: Scale) -> Result<i64, VertexFault>
-    ensures { result ≡ place_of scale.per_unit word.now }
+fn read_coordinate(word: &[u8], scale: Scale) -> Result<i64, VertexFault>
+    ensures { result ≡ coordinate_of scale.per_unit word.now }
 {
     Ok(read_signed(word, scale.per_unit, LENGTH_LIMIT)?)
 }
@@ -100,8 +100,8 @@ fn next_vertex(places: &[u8], gap: Gap, scale: Scale) -> Result<((i64, i64), &[u
     let Some((y, rest)) = next_field(rest, gap) else {
         return Err(VertexFault::Missing);
     };
-    let x = read_place(x, scale)?;
-    let y = read_place(y, scale)?;
+    let x = read_coordinate(x, scale)?;
+    let y = read_coordinate(y, scale)?;
     Ok(((x, y), rest))
 }
 

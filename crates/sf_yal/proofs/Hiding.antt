@@ -46,12 +46,6 @@ hides_other out inside rest text h some e = record {
   ends = sym (ends-other inside rest some e) ∙ h.ends;
 }
 
--- a mark is two bytes
-pub mark_long : (inside : Bool) (rest : List ℕ) → has_mark inside rest ≡ true → 1 < length rest
-mark_long inside [] e = absurd cc
-mark_long inside (b ∷ []) e = absurd cc
-mark_long inside (b ∷ c ∷ rest) e = omega arith
-
 -- two bytes keep their length, and so do the others
 shown_more : (inside : Bool) (b c : ℕ) (rest : List ℕ) (mark : Bool) → is_mark_of inside b c ≡ mark → length (hide (not inside) rest) ≡ length rest → length (hide inside (c ∷ rest)) ≡ suc (length rest)
     → length (hide inside (b ∷ c ∷ rest)) ≡ suc (suc (length rest))

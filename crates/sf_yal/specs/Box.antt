@@ -1,7 +1,7 @@
 -- Numbers of a statement, and the box of a module.
 use Rattle.std.specs.Prelude.{ℕ, ◌/◌, ◌%◌, Bool, not, ◌||◌, ◌==◌, nat_lt, List, length, Result, Err, if◌then◌else◌, ℤ}
 pub use Rattle.sf_lex.specs.Results.{◌>>=◌}
-use Rattle.sf_lex.specs.Results.{seen, told}
+use Rattle.sf_lex.specs.Results.{seen, map_err}
 use Rattle.sf_lex.specs.Vertices.{box_read}
 use Rattle.sf_lex.specs.declared.vertices.BoxSize.{BoxSize}
 use Rattle.sf_lex.specs.declared.vertices.VertexFault.{VertexFault}
@@ -14,7 +14,7 @@ use Rattle.sf_yal.specs.declared.vertices.Size.{Size}
 
 -- the fault of a number is one of its statement's line
 abbrev pub number_in : {A : Type 0} → ℕ → Result A NumberFault → Result A YalFault
-number_in line read = told (faults.BadNumber line) read
+number_in line read = map_err (faults.BadNumber line) read
 
 -- a length with a sign or without one
 abbrev pub length_read : ℕ → List ℕ → Result ℤ NumberFault
@@ -36,4 +36,4 @@ is_no_outline places = nat_lt (length places) 4 || not (length places % 2 == 0)
 -- the bounding box of the vertices
 unfoldable pub dimensions_said : ℕ → ℕ → List (List ℕ) → Result Size YalFault
 dimensions_said scale line places = if is_no_outline places then Err (faults.BadStatement line)
-    else seen size_of (told (vertex_fault line) (box_read scale (length places / 2) places))
+    else seen size_of (map_err (vertex_fault line) (box_read scale (length places / 2) places))

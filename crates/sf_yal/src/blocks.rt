@@ -64,7 +64,7 @@ fn read_block(
 ) -> Result<RawBlock, YalFault>
     ensures { Gives result (block_of names.now sizes.now parent (instance_in instance.now)) }
 {
-    let Some(place) = names.place_of(instance.module_name.as_bytes()) else {
+    let Some(place) = names.index_of(instance.module_name.as_bytes()) else {
         return Err(unknown_module(alloc, instance));
     };
     if place == parent {

@@ -240,7 +240,7 @@ impl<'a> Found<'a> {
         requires { 0 < length name.now }
         ensures { Keeps result self.new (placed_said (reading_in self.old) line name.now x y) }
     {
-        if self.pad_names.place_of(name).is_some() || !(is_number(x) && is_number(y)) {
+        if self.pad_names.index_of(name).is_some() || !(is_number(x) && is_number(y)) {
             return Ok(());
         }
         let x = number_at(x, line)?;

@@ -170,7 +170,7 @@ fn add_pad(
     let Some(signal) = signals.get(place) else {
         return Ok(());
     };
-    match pad_names.place_of(signal) {
+    match pad_names.index_of(signal) {
         Some(pad) => push_pin(alloc, net, RawPin::Pad(number_of(pad)?)),
         None => Ok(()),
     }

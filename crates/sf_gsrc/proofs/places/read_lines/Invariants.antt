@@ -2,11 +2,11 @@ use Rattle.std.proofs.Common.{◌≡◌, length}
 use Rattle.sf_lex.specs.Scan.{numbered_rest}
 use Rattle.sf_gsrc.specs.Blocks.{content}
 use Rattle.sf_gsrc.specs.Places.{places_from}
-use Rattle.sf_gsrc.proofs.PlaceSteps.{behind}
+use Rattle.sf_gsrc.proofs.PlaceSteps.{places_behind}
 use Rattle.sf_gsrc.proofs.places.read_lines.Given as goal
 
 abbrev pub invariant-loop-line : goal.invariant-loop-line
-invariant-loop-line l = behind l.places.items (places_from l.scale.per_unit (content (numbered_rest l.scan))) ≡ places_from l.scale.per_unit (content (numbered_rest l.fn.scan))
+invariant-loop-line l = places_behind l.places.items (places_from l.scale.per_unit (content (numbered_rest l.scan))) ≡ places_from l.scale.per_unit (content (numbered_rest l.fn.scan))
 
 abbrev pub decreases-loop-line : goal.decreases-loop-line
 decreases-loop-line l = length (content (numbered_rest l.scan))

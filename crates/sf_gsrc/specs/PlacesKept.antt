@@ -2,13 +2,13 @@
 use Rattle.std.specs.Prelude.{◌≡◌, List, ◌∷◌, [], ◌++◌, Result, Ok, Err}
 use Rattle.std.specs.Global.{Vec}
 use Rattle.sf_gsrc.specs.declared.fault.GsrcFault.{GsrcFault}
-use Rattle.sf_gsrc.specs.declared.place_line.Spot.{Spot}
+use Rattle.sf_gsrc.specs.declared.place_line.PlaceLine.{PlaceLine}
 use Rattle.sf_gsrc.specs.declared.output.Place.{Place}
 use Rattle.sf_gsrc.specs.Blocks.{Fails}
 
 -- the place that the code has of a line
-abbrev pub place_in : Spot → Place
-place_in spot = record { name = spot.name.now; x = spot.x; y = spot.y; size = spot.size }
+abbrev pub place_in : PlaceLine → Place
+place_in line = record { name = line.name.now; x = line.x; y = line.y; size = line.size }
 
 -- a line was read, and its place is kept; or it has this fault
 abbrev pub KeepsPlace : {T : Type 0} → Result T GsrcFault → List Place → List Place → Result Place GsrcFault → Type 0
