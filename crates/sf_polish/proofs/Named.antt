@@ -11,7 +11,7 @@ use Rattle.sf_polish.specs.declared.expr.Token.{Token}
 use Rattle.sf_polish.specs.declared.expr.Token.TheVariants as token
 use Rattle.sf_polish.specs.declared.fault.ExprFault.TheVariants.{MissingBlock, NotBallot}
 use Rattle.sf_polish.specs.Normal.{is_block, operands, operators}
-use Rattle.sf_polish.specs.Reading.{is_named, ended}
+use Rattle.sf_polish.specs.Reading.{is_named, whole_tokens}
 
 -- a block is named once its token is taken
 pub named-same : (b : ℕ) (ts : List Token) → is_named b (ts ++ token.Block b ∷ []) ≡ true
@@ -60,17 +60,17 @@ flags-all flags ts e = ap (list_all (λ b. b)) e ∙ list_all-map (λ b. b) (λ 
 -- the end of a text, by the flags and by how many more operands than operators there are
 module _ (last depth : ℕ) (flags : List Bool) (ts : List Token) (e : flags ≡ flags_of (length flags) ts) (balance : operands ts ≡ operators ts + depth) where
   -- where a flag is not set, the text ends with a block missing
-  pub ended-missing : list_all (λ b. b) flags ≡ false → ended (length flags) last ts ≡ Err (MissingBlock last)
-  ended-missing none = rw (sym (flags-all flags ts e) ∙ none) refl
+  pub whole_tokens-missing : list_all (λ b. b) flags ≡ false → whole_tokens (length flags) last ts ≡ Err (MissingBlock last)
+  whole_tokens-missing none = rw (sym (flags-all flags ts e) ∙ none) refl
 
   -- where all flags are set and not just one plan is left, the text ends unbalanced
-  pub ended-unbalanced : list_all (λ b. b) flags ≡ true → depth ≢ 1 → ended (length flags) last ts ≡ Err (NotBallot last)
-  ended-unbalanced all h =
+  pub whole_tokens-unbalanced : list_all (λ b. b) flags ≡ true → depth ≢ 1 → whole_tokens (length flags) last ts ≡ Err (NotBallot last)
+  whole_tokens-unbalanced all h =
       let other : (operators ts + 1 == operands ts) ≡ false = elim (eqb_tells (operators ts + 1) (operands ts)) [ inl p ↦ absurd (h (omega (arith, p.1, balance))) | inr p ↦ p.0 ] in
       rw (sym (flags-all flags ts e) ∙ all, other) refl
 
   -- where all flags are set and one plan is left, the tokens are the expression
-  pub ended-whole : list_all (λ b. b) flags ≡ true → depth ≡ 1 → ended (length flags) last ts ≡ Ok ts
-  ended-whole all h =
+  pub whole_tokens-whole : list_all (λ b. b) flags ≡ true → depth ≡ 1 → whole_tokens (length flags) last ts ≡ Ok ts
+  whole_tokens-whole all h =
       let one : (operators ts + 1 == operands ts) ≡ true = elim (eqb_tells (operators ts + 1) (operands ts)) [ inl p ↦ p.0 | inr p ↦ absurd (p.1 (omega (arith, h, balance))) ] in
       rw (sym (flags-all flags ts e) ∙ all, one) refl

@@ -33,11 +33,11 @@ Reads-first (token.Beside ∷ ts) g k r = absurd (omega (arith, r.0))
 Reads-first (token.Above ∷ ts) g k r = absurd (omega (arith, r.0))
 Reads-first (token.Block b ∷ ts) g k r = Reads-some ts (0 + 1) g (omega arith) r
 
--- tokens that are read from no plan to one keep the ballot rule
-pub Reads-ballot : (ts : List Token) → Reads 0 ts 1 → IsBallot ts
-Reads-ballot ts r k low high =
-    let whole : Reads 0 (take k ts ++ drop k ts) 1 = subst (λ z. Reads 0 z 1) (sym (take-append-drop k ts)) r in
-    let parts = Reads-split (take k ts) (drop k ts) 0 1 whole in
+-- tokens that are read from no plan keep the ballot rule
+pub Reads-ballot : (ts : List Token) (g : ℕ) → Reads 0 ts g → IsBallot ts
+Reads-ballot ts g r k low high =
+    let whole : Reads 0 (take k ts ++ drop k ts) g = subst (λ z. Reads 0 z g) (sym (take-append-drop k ts)) r in
+    let parts = Reads-split (take k ts) (drop k ts) 0 g whole in
     omega (arith, Reads-counts (take k ts) 0 parts.0 parts.1.0, Reads-first (take k ts) parts.0 (omega (arith, length-take k ts)) parts.1.0)
 
 -- in tokens that alternate no two neighbours are the same operator
@@ -66,7 +66,7 @@ pub postfix-normal : (blocks : ℕ) (t : Tree) → HasEachOnce blocks t → IsSk
 postfix-normal blocks t once skewed = record {
   each_once = λ b h. count_by-postfix b t ∙ once.each_once b h;
   no_other = All-from_recursion _ (postfix t) (postfix-inside blocks t (recursion_from_All (λ leaf. leaf.0 < blocks) (leaves t) once.no_other));
-  ballot = Reads-ballot (postfix t) (Reads-postfix t 0);
+  ballot = Reads-ballot (postfix t) 1 (Reads-postfix t 0);
   whole = omega (arith, length-postfix t, length-leaves_once blocks t once);
   alternates = alternates (token.Block 0) (postfix t) (Alternating-postfix (token.Block 0) t skewed);
 }
@@ -114,7 +114,7 @@ ahead-first : (x : Token) (ts : List Token) (h : ℕ) → Ahead h (x ∷ ts) →
 ahead-first x ts h a = omega (arith, a 1 (omega arith) (omega arith), sum_by-cons (λ t. cond (not (is_operand t)) 1 0) x (take 0 ts), sum_by-cons (λ t. cond (is_operand t) 1 0) x (take 0 ts))
 
 -- where operands stay ahead and the counts meet, the tokens are read to so many plans
-reads-from : (ts : List Token) (h g : ℕ) → Ahead h ts → operands ts + h ≡ operators ts + g → Reads h ts g
+pub reads-from : (ts : List Token) (h g : ℕ) → Ahead h ts → operands ts + h ≡ operators ts + g → Reads h ts g
 reads-from [] h g a e = omega (arith, e)
 reads-from (token.Beside ∷ ts) h g a e =
     let two : 2 ≤ h = omega (arith, ahead-first token.Beside ts h a) in (

@@ -11,7 +11,7 @@ use Rattle.sf_polish.specs.declared.word.Piece.{Piece}
 use Rattle.sf_polish.specs.declared.word.Piece.TheVariants as pieces
 use Rattle.sf_polish.specs.Shaping.{no_shape}
 use Rattle.sf_polish.specs.Word.{shaped_token_in, piece_in}
-use Rattle.sf_polish.specs.Reading.{token_after, ended, tokens_from, shapes_with, shapes_from, expr_of_parts, expr_read, Fails, ◌>>=◌}
+use Rattle.sf_polish.specs.Reading.{token_after, whole_tokens, tokens_from, shapes_with, shapes_from, expr_of_parts, expr_read, Fails, ◌>>=◌}
 
 -- a fault of the first reading is that of both
 pub fails-through : {A B : Type 0} (e : ExprFault) (r : Result A ExprFault) (f : A → Result B ExprFault) → Fails e r → Fails e (r >>= f)
@@ -33,7 +33,7 @@ module _ (blocks last : ℕ) (spelled : List ℕ → Option Token) where
   tokens-step earlier word more = refl
 
   -- behind the last word the reading ends as the tokens so far do
-  pub tokens-end : (earlier : List Token) → tokens_from blocks last spelled earlier [] ≡ ended blocks last earlier
+  pub tokens-end : (earlier : List Token) → tokens_from blocks last spelled earlier [] ≡ whole_tokens blocks last earlier
   unfolding tokens_from
   tokens-end earlier = refl
 
@@ -53,8 +53,8 @@ module _ (blocks last : ℕ) (spelled : List ℕ → Option Token) where
       fails-at e _ _ (r.answer ∙ ap (tokens_from blocks last spelled tokens) p ∙ tokens-step tokens word more) (fails-through e (token_after tokens word.line (spelled word.text)) (λ t. tokens_from blocks last spelled (tokens ++ t ∷ []) more) h)
 
   -- where no word is left, the whole text is read as the tokens end
-  pub reading-ends : (all : List LineWord) (tokens : List Token) (rest : List LineWord) (n : ℕ) → IsReading all tokens rest → rest ≡ [] → n ≡ blocks → tokens_from blocks last spelled [] all ≡ ended n last tokens
-  reading-ends all tokens rest n r e same = r.answer ∙ ap (tokens_from blocks last spelled tokens) e ∙ tokens-end tokens ∙ ap (λ k. ended k last tokens) (sym same)
+  pub reading-ends : (all : List LineWord) (tokens : List Token) (rest : List LineWord) (n : ℕ) → IsReading all tokens rest → rest ≡ [] → n ≡ blocks → tokens_from blocks last spelled [] all ≡ whole_tokens n last tokens
+  reading-ends all tokens rest n r e same = r.answer ∙ ap (tokens_from blocks last spelled tokens) e ∙ tokens-end tokens ∙ ap (λ k. whole_tokens k last tokens) (sym same)
 
 -- ---- the shapes
 

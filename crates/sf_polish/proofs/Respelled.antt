@@ -7,11 +7,10 @@ use Rattle.std.proofs.lemmas.Bool.Decides.{nat_tests}
 use Rattle.std.proofs.lemmas.List.{length-map}
 use Rattle.std.proofs.lemmas.List.Elements.{recursion_from_All}
 use Rattle.std.proofs.lemmas.List.Folds.{list_all-append}
-use Rattle.std.proofs.lemmas.Bool.{not-true}
+use Rattle.std.proofs.lemmas.Bool.{not-true, and_parts}
 use Rattle.sf_lex.specs.Number.{is_digit}
 use Rattle.sf_lex.specs.Scan.{LineWord, numbered, words_of_line, words_of_lines}
 use Rattle.sf_lex.specs.Text.{lines, words, is_blank_byte, is_line_feed, has_none}
-use Rattle.sf_lex.proofs.Decimals.{and_true}
 use Rattle.sf_lex.proofs.Spelled.{words-written, words-last}
 use Rattle.sf_lex.proofs.WrittenNumbers.{digits_written}
 use Rattle.sf_polish.specs.declared.expr.Expr.{Expr}
@@ -66,10 +65,10 @@ no_feeds (x ∷ y ∷ ws) h =
 -- a text without a line feed is one line
 one-line : (b : ℕ) (bytes : List ℕ) → has_none is_line_feed (b ∷ bytes) ≡ true → lines (b ∷ bytes) ≡ (b ∷ bytes) ∷ []
 one-line b [] h =
-    let none = not-true (is_line_feed b) (and_true (not (is_line_feed b)) true h).0 in
+    let none = not-true (is_line_feed b) (and_parts (not (is_line_feed b)) true h).0 in
     rw none refl
 one-line b (c ∷ bytes) h =
-    let both = and_true (not (is_line_feed b)) (has_none is_line_feed (c ∷ bytes)) h in
+    let both = and_parts (not (is_line_feed b)) (has_none is_line_feed (c ∷ bytes)) h in
     rw (not-true (is_line_feed b) both.0, one-line c bytes both.1) refl
 
 -- words that were given a line have the same texts

@@ -10,6 +10,7 @@ use Rattle.std.proofs.lemmas.List.Sums.{sum_by-cons, sum_by-append}
 use Rattle.sf_model.specs.declared.parts.Shape.{Shape}
 use Rattle.sf_model.specs.Legal.{HasEachOnce}
 use Rattle.sf_model.specs.Tree.{Tree, Leaf, Beside, Above, leaves, HasBlocksBelow}
+use Rattle.sf_model.proofs.BlocksBelow.{once-below}
 use Rattle.sf_model.proofs.Each.{each-append, each-left, each-right}
 use Rattle.sf_polish.specs.declared.expr.Expr.{Expr}
 use Rattle.sf_polish.specs.declared.expr.Token.{Token}
@@ -84,16 +85,6 @@ with-shapes (Above l r) shapes h apart =
     with-both l r shapes (with-shapes l shapes h.0 (λ b. omega (arith, apart b, both_times b l r)))
     (with-shapes r (with_leaves shapes l) (subst (λ n. HasBlocksBelow n r) (sym (length-with_leaves l shapes)) h.1) (λ b. omega (arith, apart b, both_times b l r)))
     (λ b. omega (arith, apart b, both_times b l r))
-
--- where all leaves are blocks below n, so are those of the tree
-below-leaves : (n : ℕ) (t : Tree) → AllByRecursion (λ leaf. leaf.0 < n) (leaves t) → HasBlocksBelow n t
-below-leaves n (Leaf b s) h = h.0
-below-leaves n (Beside l r) h = (below-leaves n l (each-left _ (leaves l) (leaves r) h), below-leaves n r (each-right _ (leaves l) (leaves r) h))
-below-leaves n (Above l r) h = (below-leaves n l (each-left _ (leaves l) (leaves r) h), below-leaves n r (each-right _ (leaves l) (leaves r) h))
-
--- a plan of each of n blocks once has blocks below n
-pub once-below : (n : ℕ) (t : Tree) → HasEachOnce n t → HasBlocksBelow n t
-once-below n t once = below-leaves n t (recursion_from_All (λ leaf. leaf.0 < n) (leaves t) once.no_other)
 
 -- a block from n on stands nowhere among leaves below n
 none-outside : (n b : ℕ) (xs : List (ℕ × Shape)) → n ≤ b → AllByRecursion (λ leaf. leaf.0 < n) xs → count_by (λ leaf. leaf.0 == b) xs ≡ 0

@@ -2,7 +2,7 @@
 use Rattle.std.proofs.Common.{◌≡◌, ℕ, ◌+◌, max, ◌++◌, append_assoc, arith, refl, ap, ◌∙◌}
 use Rattle.sf_model.specs.Tree.{Tree, Leaf, Beside, Above, width, height, leaves, spots_at}
 use Rattle.sf_polish.specs.Postfix.{IsSkewed}
-use Rattle.sf_polish.specs.Skewing.{beside, above, skewed, IsSamePlace}
+use Rattle.sf_polish.specs.Skewing.{beside, above, skewed_plan, IsSamePlace}
 
 -- t is the plan of l and r side by side
 pub record JoinsBeside (l r t : Tree) : Type 0 where
@@ -57,28 +57,28 @@ above-joins l (Above r q) h k =
     }
 
 -- the skewed plan of a plan is skewed
-pub skewed-skewed : (t : Tree) → IsSkewed (skewed t)
-skewed-skewed (Leaf b s) = tt
-skewed-skewed (Beside l r) = (beside-joins (skewed l) (skewed r) (skewed-skewed l) (skewed-skewed r)).skewed
-skewed-skewed (Above l r) = (above-joins (skewed l) (skewed r) (skewed-skewed l) (skewed-skewed r)).skewed
+pub IsSkewed-skewed_plan : (t : Tree) → IsSkewed (skewed_plan t)
+IsSkewed-skewed_plan (Leaf b s) = tt
+IsSkewed-skewed_plan (Beside l r) = (beside-joins (skewed_plan l) (skewed_plan r) (IsSkewed-skewed_plan l) (IsSkewed-skewed_plan r)).skewed
+IsSkewed-skewed_plan (Above l r) = (above-joins (skewed_plan l) (skewed_plan r) (IsSkewed-skewed_plan l) (IsSkewed-skewed_plan r)).skewed
 
 -- a plan's skewed plan has its leaves, its size and its spots
-pub skewed-same : (t : Tree) → IsSamePlace (skewed t) t
-skewed-same (Leaf b s) = record { order = refl; wide = refl; high = refl; places = λ x y. refl }
-skewed-same (Beside l r) =
-    let j = beside-joins (skewed l) (skewed r) (skewed-skewed l) (skewed-skewed r) in
-    let a = skewed-same l in
-    let b = skewed-same r in
+pub IsSamePlace-skewed_plan : (t : Tree) → IsSamePlace (skewed_plan t) t
+IsSamePlace-skewed_plan (Leaf b s) = record { order = refl; wide = refl; high = refl; places = λ x y. refl }
+IsSamePlace-skewed_plan (Beside l r) =
+    let j = beside-joins (skewed_plan l) (skewed_plan r) (IsSkewed-skewed_plan l) (IsSkewed-skewed_plan r) in
+    let a = IsSamePlace-skewed_plan l in
+    let b = IsSamePlace-skewed_plan r in
     record {
       order = j.same_leaves ∙ cc (a.order, b.order);
       wide = omega (arith, j.wide, a.wide, b.wide);
       high = omega (arith, j.high, a.high, b.high);
       places = λ x y. j.same_spots x y ∙ cc (a.places x y, a.wide, b.places (x + width l) y);
     }
-skewed-same (Above l r) =
-    let j = above-joins (skewed l) (skewed r) (skewed-skewed l) (skewed-skewed r) in
-    let a = skewed-same l in
-    let b = skewed-same r in
+IsSamePlace-skewed_plan (Above l r) =
+    let j = above-joins (skewed_plan l) (skewed_plan r) (IsSkewed-skewed_plan l) (IsSkewed-skewed_plan r) in
+    let a = IsSamePlace-skewed_plan l in
+    let b = IsSamePlace-skewed_plan r in
     record {
       order = j.same_leaves ∙ cc (a.order, b.order);
       wide = omega (arith, j.wide, a.wide, b.wide);

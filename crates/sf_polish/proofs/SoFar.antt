@@ -5,8 +5,7 @@ use Rattle.std.specs.List.{AllByRecursion, list_all, range_with_len}
 use Rattle.std.proofs.lemmas.Bool.Decides.{eqb_tells, leb_tells}
 use Rattle.std.proofs.lemmas.List.Elements.{All-from_recursion, recursion_from_All}
 use Rattle.std.proofs.lemmas.List.Sums.{sum_by-cons, sum_by-append}
-use Rattle.std.proofs.lemmas.Bool.{cases_lt}
-use Rattle.sf_lex.proofs.Decimals.{and_true}
+use Rattle.std.proofs.lemmas.Bool.{cases_lt, and_parts}
 use Rattle.sf_model.proofs.Counting.{length-each_once}
 use Rattle.sf_model.proofs.Each.{each-append, each-right}
 use Rattle.sf_lex.specs.Scan.{LineWord}
@@ -15,13 +14,13 @@ use Rattle.sf_polish.specs.declared.expr.Token.TheVariants as token
 use Rattle.sf_polish.specs.declared.fault.ExprFault.{ExprFault}
 use Rattle.sf_polish.specs.declared.fault.ExprFault.TheVariants.{NotBallot, NotNormal, RepeatedBlock, MissingBlock}
 use Rattle.sf_polish.specs.Normal.{is_block, is_outside, same_operator, last_or, ends_in, operands, operators, IsNormal}
-use Rattle.sf_polish.specs.Reading.{is_named, operator_after, token_after, ended, tokens_from, ◌>>=◌}
+use Rattle.sf_polish.specs.Reading.{is_named, operator_after, token_after, whole_tokens, tokens_from, ◌>>=◌}
 use Rattle.sf_polish.proofs.Normality.{Reads-ballot, alternates, numbers, length-numbers, count-numbers, numbers-below, inside-number, both-kinds, normal-reads, first-free}
 use Rattle.sf_polish.proofs.ReadSteps.{tokens-step, tokens-end}
 use Rattle.sf_polish.proofs.Stack.{Reads, Reads-append, Reads-split, Reads-counts, Alternating, Alternating-append, Alternating-after}
 
 -- no fault so far
-pub record IsFront (blocks : ℕ) (ts : List Token) : Type 0 where
+pub record IsFaultless (blocks : ℕ) (ts : List Token) : Type 0 where
   pub times : (b : ℕ) → count_by (is_block b) ts ≤ 1
   pub inside : AllByRecursion (λ t. is_outside blocks t ≡ false) ts
   pub depth : ℕ
@@ -29,7 +28,7 @@ pub record IsFront (blocks : ℕ) (ts : List Token) : Type 0 where
   pub alternating : Alternating (token.Block 0) ts
 
 -- no tokens are a front
-pub front-start : (blocks : ℕ) → IsFront blocks []
+pub front-start : (blocks : ℕ) → IsFaultless blocks []
 front-start blocks = record { times = λ b. omega arith; inside = tt; depth = 0; reads = refl; alternating = tt }
 
 -- ---- named and counted
@@ -48,20 +47,20 @@ unnamed b (t ∷ ts) h = by_test (is_block b t) refl h (unnamed b ts)
     by_test false e h more = omega (arith, times-cons b t ts, more h, ap {B = ℕ} (λ z. cond z 1 0) e)
 
 -- a block that is named stands at least once
-pub named : (b : ℕ) (ts : List Token) → is_named b ts ≡ true → 1 ≤ count_by (is_block b) ts
-named b [] h = absurd cc
-named b (t ∷ ts) h = by_test (is_block b t) refl h (named b ts)
+pub is_named-counted : (b : ℕ) (ts : List Token) → is_named b ts ≡ true → 1 ≤ count_by (is_block b) ts
+is_named-counted b [] h = absurd cc
+is_named-counted b (t ∷ ts) h = by_test (is_block b t) refl h (is_named-counted b ts)
   where
     by_test : (x : Bool) → is_block b t ≡ x → (x || is_named b ts) ≡ true → (is_named b ts ≡ true → 1 ≤ count_by (is_block b) ts) → 1 ≤ count_by (is_block b) (t ∷ ts)
     by_test true e h more = omega (arith, times-cons b t ts, ap {B = ℕ} (λ z. cond z 1 0) e)
     by_test false e h more = omega (arith, times-cons b t ts, more h, ap {B = ℕ} (λ z. cond z 1 0) e)
 
 -- a block that stands nowhere is not named
-pub uncounted : (b : ℕ) (ts : List Token) → count_by (is_block b) ts ≡ 0 → is_named b ts ≡ false
-uncounted b ts h = by_test (is_named b ts) refl
+pub is_named-uncounted : (b : ℕ) (ts : List Token) → count_by (is_block b) ts ≡ 0 → is_named b ts ≡ false
+is_named-uncounted b ts h = by_test (is_named b ts) refl
   where
     by_test : (x : Bool) → is_named b ts ≡ x → is_named b ts ≡ false
-    by_test true e = absurd (omega (arith, named b ts e, h))
+    by_test true e = absurd (omega (arith, is_named-counted b ts e, h))
     by_test false e = e
 
 -- a block that stands at least once is named
@@ -83,7 +82,7 @@ uncounted-outside blocks b (token.Block c ∷ ts) h inside =
 
 -- ---- one token more
 
-module _ (blocks : ℕ) (ts : List Token) (front : IsFront blocks ts) where
+module _ (blocks : ℕ) (ts : List Token) (front : IsFaultless blocks ts) where
   -- a token at the end adds to a block's count what it is
   front-times : (t : Token) (b : ℕ) → count_by (is_block b) (ts ++ t ∷ []) ≡ count_by (is_block b) ts + count_by (is_block b) (t ∷ [])
   front-times t b = sum_by-append (λ x. cond (is_block b x) 1 0) ts (t ∷ [])
@@ -96,7 +95,7 @@ module _ (blocks : ℕ) (ts : List Token) (front : IsFront blocks ts) where
   ]
 
   -- a front goes on with a block that it does not name
-  pub front-block : (b : ℕ) → is_named b ts ≡ false → is_outside blocks (token.Block b) ≡ false → IsFront blocks (ts ++ token.Block b ∷ [])
+  pub front-block : (b : ℕ) → is_named b ts ≡ false → is_outside blocks (token.Block b) ≡ false → IsFaultless blocks (ts ++ token.Block b ∷ [])
   front-block b free within = record {
     times = λ c. block_times b c free;
     inside = each-append _ ts (token.Block b ∷ []) front.inside (within, tt);
@@ -115,7 +114,7 @@ module _ (blocks : ℕ) (ts : List Token) (front : IsFront blocks ts) where
   enough h = omega (arith, h, Reads-counts ts 0 front.depth front.reads)
 
   -- a front with two plans that wait, and that does not end in Beside, goes on with Beside
-  pub front-beside : operators ts + 1 < operands ts → ends_in token.Beside ts ≡ false → IsFront blocks (ts ++ token.Beside ∷ [])
+  pub front-beside : operators ts + 1 < operands ts → ends_in token.Beside ts ≡ false → IsFaultless blocks (ts ++ token.Beside ∷ [])
   front-beside more other = record {
     times = λ c. omega (arith, front-times token.Beside c, times-cons c token.Beside [], front.times c);
     inside = each-append _ ts (token.Beside ∷ []) front.inside (refl, tt);
@@ -125,7 +124,7 @@ module _ (blocks : ℕ) (ts : List Token) (front : IsFront blocks ts) where
   }
 
   -- a front with two plans that wait, and that does not end in Above, goes on with Above
-  pub front-above : operators ts + 1 < operands ts → ends_in token.Above ts ≡ false → IsFront blocks (ts ++ token.Above ∷ [])
+  pub front-above : operators ts + 1 < operands ts → ends_in token.Above ts ≡ false → IsFaultless blocks (ts ++ token.Above ∷ [])
   front-above more other = record {
     times = λ c. omega (arith, front-times token.Above c, times-cons c token.Above [], front.times c);
     inside = each-append _ ts (token.Above ∷ []) front.inside (refl, tt);
@@ -152,7 +151,7 @@ operator-known ts line t u h = by_count (nat_le (operands ts) (operators ts + 1)
         (same, elim (leb_tells (operands ts) (operators ts + 1)) [ inl p ↦ absurd (let z : true ≡ false = sym p.0 ∙ e in cc) | inr p ↦ p.1 ], f)
 
 -- a token that is taken is the one of the word, and the front goes on with it
-pub front-next : (blocks : ℕ) (ts : List Token) (line : ℕ) (t u : Token) → IsFront blocks ts → is_outside blocks t ≡ false → token_after ts line (Some t) ≡ Ok u → (u ≡ t) × IsFront blocks (ts ++ t ∷ [])
+pub front-next : (blocks : ℕ) (ts : List Token) (line : ℕ) (t u : Token) → IsFaultless blocks ts → is_outside blocks t ≡ false → token_after ts line (Some t) ≡ Ok u → (u ≡ t) × IsFaultless blocks (ts ++ t ∷ [])
 front-next blocks ts line token.Beside u front within h =
     let k = operator-known ts line token.Beside u h in
     (k.0, front-beside blocks ts front k.1 k.2)
@@ -161,17 +160,17 @@ front-next blocks ts line token.Above u front within h =
     (k.0, front-above blocks ts front k.1 k.2)
 front-next blocks ts line (token.Block b) u front within h = by_name (is_named b ts) refl h
   where
-    by_name : (x : Bool) → is_named b ts ≡ x → cond x (Err (RepeatedBlock line)) (Ok (token.Block b)) ≡ Ok u → (u ≡ token.Block b) × IsFront blocks (ts ++ token.Block b ∷ [])
+    by_name : (x : Bool) → is_named b ts ≡ x → cond x (Err (RepeatedBlock line)) (Ok (token.Block b)) ≡ Ok u → (u ≡ token.Block b) × IsFaultless blocks (ts ++ token.Block b ∷ [])
     by_name true e k = absurd cc
     by_name false e k = let same : u ≡ token.Block b = cc in (same, front-block blocks ts front b e within)
 
 -- ---- the end
 
 -- where a test of a range says that all its blocks are named, each is
-all-named : (ts : List Token) (a n : ℕ) → list_all (λ b. is_named b ts) (range_with_len a n) ≡ true → (b : ℕ) → a ≤ b → b < a + n → is_named b ts ≡ true
+pub all-named : (ts : List Token) (a n : ℕ) → list_all (λ b. is_named b ts) (range_with_len a n) ≡ true → (b : ℕ) → a ≤ b → b < a + n → is_named b ts ≡ true
 all-named ts a zero h b low high = absurd (omega (arith, low, high))
 all-named ts a (suc n) h b low high =
-    let both = and_true (is_named a ts) (list_all (λ b. is_named b ts) (range_with_len (a + 1) n)) h in
+    let both = and_parts (is_named a ts) (list_all (λ b. is_named b ts) (range_with_len (a + 1) n)) h in
     elim (cases_lt a b) [
       | inl p ↦ all-named ts (a + 1) n both.1 b (omega (arith, p)) (omega (arith, high))
       | inr p ↦ let same : a ≡ b = omega (arith, low, p) in ap (λ k. is_named k ts) (sym same) ∙ both.0
@@ -188,21 +187,20 @@ one-each blocks ts each inside =
     sym (length-numbers ts) ∙ length-each_once (λ (b : ℕ). b) blocks (numbers ts) (λ b h. count-numbers b ts ∙ each b h) (numbers-below blocks ts inside)
 
 -- a front that names all blocks and whose counts meet is normal
-front-normal : (blocks : ℕ) (ts : List Token) → IsFront blocks ts → list_all (λ b. is_named b ts) (range_with_len 0 blocks) ≡ true → operators ts + 1 ≡ operands ts → IsNormal blocks ts
+pub front-normal : (blocks : ℕ) (ts : List Token) → IsFaultless blocks ts → list_all (λ b. is_named b ts) (range_with_len 0 blocks) ≡ true → operators ts + 1 ≡ operands ts → IsNormal blocks ts
 front-normal blocks ts front all balance =
-    let each : (b : ℕ) → b < blocks → count_by (is_block b) ts ≡ 1 = λ b h. omega (arith, front.times b, named b ts (all-named ts 0 blocks all b (omega arith) (omega (arith, h)))) in
+    let each : (b : ℕ) → b < blocks → count_by (is_block b) ts ≡ 1 = λ b h. omega (arith, front.times b, is_named-counted b ts (all-named ts 0 blocks all b (omega arith) (omega (arith, h)))) in
     let count = one-each blocks ts each front.inside in
-    let one : front.depth ≡ 1 = omega (arith, balance, Reads-counts ts 0 front.depth front.reads) in
     record {
       each_once = each;
       no_other = All-from_recursion (λ t. is_outside blocks t ≡ false) ts front.inside;
-      ballot = Reads-ballot ts (subst (Reads 0 ts) one front.reads);
+      ballot = Reads-ballot ts front.depth front.reads;
       whole = omega (arith, count, balance, both-kinds ts);
       alternates = alternates (token.Block 0) ts front.alternating;
     }
 
 -- where a front ends well, its tokens are the expression and are normal
-pub front-ends : (blocks last : ℕ) (ts us : List Token) → IsFront blocks ts → ended blocks last ts ≡ Ok us → (us ≡ ts) × IsNormal blocks ts
+pub front-ends : (blocks last : ℕ) (ts us : List Token) → IsFaultless blocks ts → whole_tokens blocks last ts ≡ Ok us → (us ≡ ts) × IsNormal blocks ts
 front-ends blocks last ts us front h = by_tests (list_all (λ b. is_named b ts) (range_with_len 0 blocks)) (operators ts + 1 == operands ts) refl refl h
   where
     by_tests : (a b : Bool) → list_all (λ b. is_named b ts) (range_with_len 0 blocks) ≡ a → (operators ts + 1 == operands ts) ≡ b → cond (not a) (Err (MissingBlock last)) (cond b (Ok ts) (Err (NotBallot last))) ≡ Ok us → (us ≡ ts) × IsNormal blocks ts
@@ -227,7 +225,7 @@ pub record IsSpelled (blocks : ℕ) (spelled : List ℕ → Option Token) (earli
 
 module _ (blocks last : ℕ) (spelled : List ℕ → Option Token) where
   -- a front that ends well is spelled by no further word
-  spelled-end : (earlier us : List Token) → IsFront blocks earlier → ended blocks last earlier ≡ Ok us → IsSpelled blocks spelled earlier [] us
+  spelled-end : (earlier us : List Token) → IsFaultless blocks earlier → whole_tokens blocks last earlier ≡ Ok us → IsSpelled blocks spelled earlier [] us
   spelled-end earlier us front h =
       let e = front-ends blocks last earlier us front h in
       record { rest = []; whole = e.0 ∙ sym (append-nil earlier); words = refl; normal = subst (IsNormal blocks) (sym e.0) e.1 }
@@ -239,8 +237,8 @@ module _ (blocks last : ℕ) (spelled : List ℕ → Option Token) where
       record { rest = t ∷ k.rest; whole = k.whole ∙ append_assoc earlier (t ∷ []) k.rest; words = cc (e, k.words); normal = k.normal }
 
   -- a word and those behind it are spelled, whatever the word spells
-  by_word : (earlier us : List Token) (word : LineWord) (more : List LineWord) (o : Option Token) (r : Result Token ExprFault) → IsFront blocks earlier → ((t : Token) → spelled word.text ≡ Some t → is_outside blocks t ≡ false)
-      → ((t : Token) → IsFront blocks (earlier ++ t ∷ []) → tokens_from blocks last spelled (earlier ++ t ∷ []) more ≡ Ok us → IsSpelled blocks spelled (earlier ++ t ∷ []) more us)
+  by_word : (earlier us : List Token) (word : LineWord) (more : List LineWord) (o : Option Token) (r : Result Token ExprFault) → IsFaultless blocks earlier → ((t : Token) → spelled word.text ≡ Some t → is_outside blocks t ≡ false)
+      → ((t : Token) → IsFaultless blocks (earlier ++ t ∷ []) → tokens_from blocks last spelled (earlier ++ t ∷ []) more ≡ Ok us → IsSpelled blocks spelled (earlier ++ t ∷ []) more us)
       → spelled word.text ≡ o → token_after earlier word.line o ≡ r → (r >>= (λ t. tokens_from blocks last spelled (earlier ++ t ∷ []) more)) ≡ Ok us → IsSpelled blocks spelled earlier (word ∷ more) us
   by_word earlier us word more o (Err e) front within next p q h = absurd cc
   by_word earlier us word more None (Ok u) front within next p q h = absurd cc
@@ -249,7 +247,7 @@ module _ (blocks last : ℕ) (spelled : List ℕ → Option Token) where
       spelled-step earlier us word more t p (next t k.1 (ap (λ z. tokens_from blocks last spelled (earlier ++ z ∷ []) more) (sym k.0) ∙ h))
 
   -- words that are read as tokens spell them, and these are normal
-  pub tokens-known : (within : (w : List ℕ) (t : Token) → spelled w ≡ Some t → is_outside blocks t ≡ false) (ws : List LineWord) (earlier us : List Token) → IsFront blocks earlier → tokens_from blocks last spelled earlier ws ≡ Ok us → IsSpelled blocks spelled earlier ws us
+  pub tokens-known : (within : (w : List ℕ) (t : Token) → spelled w ≡ Some t → is_outside blocks t ≡ false) (ws : List LineWord) (earlier us : List Token) → IsFaultless blocks earlier → tokens_from blocks last spelled earlier ws ≡ Ok us → IsSpelled blocks spelled earlier ws us
   tokens-known within [] earlier us front h = spelled-end earlier us front (sym (tokens-end blocks last spelled earlier) ∙ h)
   tokens-known within (word ∷ more) earlier us front h =
       by_word earlier us word more (spelled word.text) (token_after earlier word.line (spelled word.text)) front (within word.text) (λ t. tokens-known within more (earlier ++ t ∷ []) us) refl refl (sym (tokens-step blocks last spelled earlier word more) ∙ h)
@@ -285,9 +283,9 @@ module _ (blocks last : ℕ) (spelled : List ℕ → Option Token) where
           times-cons b (token.Block b) rest,
           ap {B = ℕ} (λ z. cond z 1 0) same,
         ) in
-        rw (uncounted b earlier none) refl
+        rw (is_named-uncounted b earlier none) refl
 
-    end-passes : ended blocks last ts ≡ Ok ts
+    end-passes : whole_tokens blocks last ts ≡ Ok ts
     end-passes =
         let all = named-all ts 0 blocks (λ b low high. counted b ts (omega (arith, normal.each_once b (omega (arith, high))))) in
         let inside = recursion_from_All (λ t. is_outside blocks t ≡ false) ts normal.no_other in
@@ -299,7 +297,7 @@ module _ (blocks last : ℕ) (spelled : List ℕ → Option Token) where
     pub tokens-again : (ws : List LineWord) (earlier rest : List Token) → ts ≡ earlier ++ rest → spelled_by spelled ws ≡ map Some rest → tokens_from blocks last spelled earlier ws ≡ Ok ts
     tokens-again [] earlier [] e h =
         let all : earlier ≡ ts = sym (e ∙ append-nil earlier) in
-        tokens-end blocks last spelled earlier ∙ ap (ended blocks last) all ∙ end-passes
+        tokens-end blocks last spelled earlier ∙ ap (whole_tokens blocks last) all ∙ end-passes
     tokens-again [] earlier (t ∷ rest) e h = absurd cc
     tokens-again (word ∷ more) earlier [] e h = absurd cc
     tokens-again (word ∷ more) earlier (t ∷ rest) e h =

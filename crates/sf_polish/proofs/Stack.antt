@@ -81,6 +81,11 @@ pub Alternating-after : (p : Token) (xs ys : List Token) → Alternating p (xs +
 Alternating-after p [] ys a = a
 Alternating-after p (x ∷ xs) ys a = Alternating-after x xs ys a.1
 
+-- the first part of tokens that alternate does so
+pub Alternating-before : (p : Token) (xs ys : List Token) → Alternating p (xs ++ ys) → Alternating p xs
+Alternating-before p [] ys a = tt
+Alternating-before p (x ∷ xs) ys a = (a.0, Alternating-before x xs ys a.1)
+
 -- the last token of two lists is that of the second, or else of the first
 last_or-append : (p : Token) (xs ys : List Token) → last_or p (xs ++ ys) ≡ last_or (last_or p xs) ys
 last_or-append p [] ys = refl

@@ -4,7 +4,6 @@ use Rattle.std.specs.Prelude.{count_by, map, replicate, slice_set, ◌==◌}
 use Rattle.std.specs.Fmt.{decimal}
 use Rattle.std.specs.List.{AllByRecursion}
 use Rattle.std.specs.Option.{option_map}
-use Rattle.std.proofs.lemmas.Bool.{cases_lt}
 use Rattle.std.proofs.lemmas.Bool.Decides.{eqb_tells}
 use Rattle.std.proofs.lemmas.List.{get_or-set_same, get_or-set_other, get_or_default, length-replicate, ext_get_or}
 use Rattle.std.proofs.lemmas.List.Elements.{recursion_from_All}
@@ -17,14 +16,15 @@ use Rattle.sf_polish.specs.declared.expr.Token.TheVariants as token
 use Rattle.sf_polish.specs.declared.fault.ExprFault.{ExprFault}
 use Rattle.sf_polish.specs.declared.word.Piece.{Piece}
 use Rattle.sf_polish.specs.declared.word.Piece.TheVariants as piece
-use Rattle.sf_polish.specs.Normal.{is_block, is_outside, IsNormal}
+use Rattle.sf_polish.specs.Normal.{is_block, is_outside}
 use Rattle.sf_polish.specs.Postfix.{shape_at}
 use Rattle.sf_polish.specs.Reading.{is_named, tokens_from, shapes_with, shapes_from, tokens_read, expr_of_parts, expr_read, ◌>>=◌}
 use Rattle.sf_polish.specs.Shaping.{no_shape}
 use Rattle.sf_polish.specs.Text.{token_text, shape_text, shaped_text, IsWritable, SpellsTokens, SpellsExpr}
 use Rattle.sf_polish.specs.Word.{token_in, piece_in, shaped_token_in, token_of}
+use Rattle.sf_polish.proofs.Fronts.{at-most-once}
 use Rattle.sf_polish.proofs.ReadSteps.{expr-read, shapes-step, shapes-end, shapes-same}
-use Rattle.sf_polish.proofs.SoFar.{front-start, spelled_by, tokens-known, tokens-again, unnamed, uncounted, counted, times-cons, uncounted-outside}
+use Rattle.sf_polish.proofs.SoFar.{front-start, spelled_by, tokens-known, tokens-again, unnamed, is_named-uncounted, counted, times-cons}
 use Rattle.sf_polish.proofs.WordTexts.{token-known, token-written, IsPiece, piece-known, piece-written, piece_text, piece_sides, piece_at, below}
 
 -- ---- texts of tokens
@@ -67,11 +67,11 @@ module _ (blocks : ℕ) (small : blocks < 2 ^ 16) where
   -- ---- texts of expressions: the shapes that are kept
 
   -- the piece of a word that spells a token
-  record IsShaped (w : List ℕ) (t : Token) : Type 0 where
-    part : Piece
-    is : piece_in blocks w ≡ Some part
-    token : token_of part ≡ t
-    word : IsPiece blocks w part
+  pub record IsShaped (w : List ℕ) (t : Token) : Type 0 where
+    pub part : Piece
+    pub is : piece_in blocks w ≡ Some part
+    pub token : token_of part ≡ t
+    pub word : IsPiece blocks w part
 
   -- a word's piece, whatever it is, has the form of its token
   shaped-by : (w : List ℕ) (t : Token) (o : Option Piece) → piece_in blocks w ≡ o → option_map token_of o ≡ Some t → IsShaped w t
@@ -79,7 +79,7 @@ module _ (blocks : ℕ) (small : blocks < 2 ^ 16) where
   shaped-by w t (Some p) e h = let same : token_of p ≡ t = cc in record { part = p; is = e; token = same; word = piece-known blocks w p small e }
 
   -- a word that is read as a token has the form of one
-  shaped : (w : List ℕ) (t : Token) → shaped_token_in blocks w ≡ Some t → IsShaped w t
+  pub shaped : (w : List ℕ) (t : Token) → shaped_token_in blocks w ≡ Some t → IsShaped w t
   shaped w t h = shaped-by w t (piece_in blocks w) refl h
 
   -- a word that is read as a token names no block outside
@@ -138,7 +138,7 @@ module _ (blocks : ℕ) (small : blocks < 2 ^ 16) where
   piece-written-at cur p ws rest n within others times b s e =
       let same : (b == b) ≡ true = elim (eqb_tells b b) [ inl p ↦ p.0 | inr p ↦ absurd (p.1 refl) ] in
       let t : token_of p ≡ token.Block b = ap token_of e in
-      let free : is_named b rest ≡ false = uncounted b rest (omega (arith, times b, times-cons b (token_of p) rest, ap {B = ℕ} (λ x. cond (is_block b x) 1 0) t, ap {B = ℕ} (λ z. cond z 1 0) same)) in
+      let free : is_named b rest ≡ false = is_named-uncounted b rest (omega (arith, times b, times-cons b (token_of p) rest, ap {B = ℕ} (λ x. cond (is_block b x) 1 0) t, ap {B = ℕ} (λ z. cond z 1 0) same)) in
       shapes-kept ws rest (shapes_with cur (Some p)) b others free
       ∙ ap (λ z. shape_at (shapes_with cur (Some z)) b) e
       ∙ get_or-set_same cur b s no_shape (omega (arith, n, below blocks b (ap (is_outside blocks) (sym t) ∙ within)))
@@ -169,13 +169,6 @@ module _ (blocks : ℕ) (small : blocks < 2 ^ 16) where
       let same : ◌≡◌ {A = Expr} (record { tokens = ts; shapes = shapes }) expr = cc in
       (ap (λ (x : Expr). Ok x.tokens) same, ap (λ (x : Expr). x.shapes) (sym same))
 
-  -- normal tokens name no block twice
-  at-most-once : (ts : List Token) → IsNormal blocks ts → (b : ℕ) → count_by (is_block b) ts ≤ 1
-  at-most-once ts normal b = elim (cases_lt b blocks) [
-    | inl p ↦ omega (arith, normal.each_once b p)
-    | inr p ↦ omega (arith, uncounted-outside blocks b ts p (recursion_from_All (λ t. is_outside blocks t ≡ false) ts normal.no_other))
-  ]
-
   -- a text that is read as an expression spells it
   pub expr-spelled : (text : List ℕ) (expr : Expr) → expr_read blocks text ≡ Ok expr → SpellsExpr blocks text expr
   expr-spelled text expr h =
@@ -183,7 +176,7 @@ module _ (blocks : ℕ) (small : blocks < 2 ^ 16) where
       let start = replicate blocks no_shape in
       let parts = ok-parts (shapes_from blocks start ws) (tokens_from blocks (last_line_of text) (shaped_token_in blocks) [] ws) expr h in
       let s = tokens-known blocks (last_line_of text) (shaped_token_in blocks) shaped-within ws [] expr.tokens (front-start blocks) parts.0 in
-      let kept = shapes-written ws expr.tokens start (length-replicate blocks no_shape) (s.words ∙ ap (map Some) (sym s.whole)) (at-most-once expr.tokens s.normal) in
+      let kept = shapes-written ws expr.tokens start (length-replicate blocks no_shape) (s.words ∙ ap (map Some) (sym s.whole)) (at-most-once blocks expr.tokens s.normal) in
       let n : length expr.shapes ≡ blocks = ap length parts.1 ∙ length-shapes ws start ∙ length-replicate blocks no_shape in
       let side : (b : ℕ) → b < blocks → IsSide (shape_at expr.shapes b).w × IsSide (shape_at expr.shapes b).h = λ b k.
       subst (λ z. IsSide (shape_at z b).w × IsSide (shape_at z b).h) (sym parts.1) (kept.sides b (counted b expr.tokens (omega (arith, s.normal.each_once b k)))) in

@@ -7,12 +7,11 @@ use Rattle.std.specs.Option.{option_map}
 use Rattle.std.proofs.lemmas.Bool.Decides.{nat_tests, eqb_tells}
 use Rattle.std.proofs.lemmas.Fmt.{decimal-digits_value, decimal_nonempty}
 use Rattle.std.proofs.lemmas.List.{length-append}
-use Rattle.std.proofs.lemmas.Bool.{not-true}
+use Rattle.std.proofs.lemmas.Bool.{not-true, and_parts}
 use Rattle.std.proofs.Math.Numerals.{one-add}
 use Rattle.sf_lex.specs.Number.{is_digit, number_of}
 use Rattle.sf_lex.specs.Text.{is_not_empty, has_none}
 use Rattle.sf_lex.specs.Whole.{is_plain, begins_with_zero, up_to, plain_read}
-use Rattle.sf_lex.proofs.Decimals.{and_true}
 use Rattle.sf_lex.proofs.WrittenNumbers.{digits_model, digits_written, plain_written}
 use Rattle.sf_model.specs.declared.parts.Shape.{Shape}
 use Rattle.sf_model.specs.Limits.{IsSide}
@@ -49,8 +48,8 @@ plain-known : (limit n : ℕ) (word : List ℕ) (b : Bool) → limit < 2 ^ 64 �
 unfolding plain_read
 plain-known limit n word false small e h = let k : None ≡ Some n = rw e at h in absurd cc
 plain-known limit n word true small e h =
-    let digits = and_true (list_all is_digit word) (is_not_empty word && (length word == 1 || not (begins_with_zero word))) e in
-    let rest = and_true (is_not_empty word) (length word == 1 || not (begins_with_zero word)) digits.1 in
+    let digits = and_parts (list_all is_digit word) (is_not_empty word && (length word == 1 || not (begins_with_zero word))) e in
+    let rest = and_parts (is_not_empty word) (length word == 1 || not (begins_with_zero word)) digits.1 in
     let k : up_to limit (number_of word) ≡ Some n = rw e at h in
     let value = up_to-known limit (number_of word) n (nat_le (number_of word) limit) refl k in (
       sym (decimal-digits_value digits_model word digits.0 (filled word rest.0) (one_digit word rest.1) (omega (arith, value.0, value.1))) ∙ ap decimal value.0,
@@ -138,7 +137,7 @@ cut-known c (b ∷ w) h = by_test (b == c) refl h (cut-known c w)
 pub all-weaker : (p q : ℕ → Bool) → ((b : ℕ) → p b ≡ true → q b ≡ true) → (xs : List ℕ) → list_all p xs ≡ true → list_all q xs ≡ true
 all-weaker p q f [] h = refl
 all-weaker p q f (x ∷ xs) h =
-    let both = and_true (p x) (list_all p xs) h in
+    let both = and_parts (p x) (list_all p xs) h in
     rw (f x both.0, all-weaker p q f xs both.1) refl
 
 -- a digit is no colon
@@ -160,7 +159,7 @@ not_plus d e = grind (arith, nat_tests)
 -- digits are not the one byte that is no digit
 not_byte : (c : ℕ) → ((d : ℕ) → is_digit d ≡ true → not (d == c) ≡ true) → (w : List ℕ) → list_all is_digit w ≡ true → is_byte c w ≡ false
 not_byte c f [] h = refl
-not_byte c f (b ∷ []) h = not-true (b == c) (f b (and_true (is_digit b) true h).0)
+not_byte c f (b ∷ []) h = not-true (b == c) (f b (and_parts (is_digit b) true h).0)
 not_byte c f (b ∷ d ∷ w) h = refl
 
 -- a word that is one byte has it alone

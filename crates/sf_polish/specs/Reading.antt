@@ -32,8 +32,8 @@ token_after earlier line (Some Above) = operator_after earlier line Above
 token_after earlier line (Some (Block b)) = if is_named b earlier then Err (RepeatedBlock line) else Ok (Block b)
 
 -- all tokens, or the fault of what is missing, at the last line
-abbrev pub ended : ℕ → ℕ → List Token → Result (List Token) ExprFault
-ended blocks last tokens = if not (list_all (λ b. is_named b tokens) (range_with_len 0 blocks)) then Err (MissingBlock last)
+abbrev pub whole_tokens : ℕ → ℕ → List Token → Result (List Token) ExprFault
+whole_tokens blocks last tokens = if not (list_all (λ b. is_named b tokens) (range_with_len 0 blocks)) then Err (MissingBlock last)
     else if operators tokens + 1 == operands tokens then Ok tokens
     else Err (NotBallot last)
 
@@ -45,7 +45,7 @@ abbrev pub ◌>>=◌ : {A B : Type 0} → Result A ExprFault → (A → Result B
 
 -- the tokens of the words behind earlier tokens, by what each word spells; `last` is the text's last line
 unfoldable pub tokens_from : ℕ → ℕ → (List ℕ → Option Token) → List Token → List LineWord → Result (List Token) ExprFault
-tokens_from blocks last spelled earlier [] = ended blocks last earlier
+tokens_from blocks last spelled earlier [] = whole_tokens blocks last earlier
 tokens_from blocks last spelled earlier (word ∷ more) = do
   t ← token_after earlier word.line (spelled word.text)
   tokens_from blocks last spelled (earlier ++ t ∷ []) more

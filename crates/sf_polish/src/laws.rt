@@ -1,6 +1,6 @@
 //! Expressions and plans correspond, and so do expressions and their texts.
 
-ghost use Rattle.std.specs.Prelude.{◌≡◌, ◌<◌, ◌^◌, ℕ, List, Ok, length};
+ghost use Rattle.std.specs.Prelude.{◌≡◌, ◌<◌, ◌≤◌, ◌^◌, ◌++◌, ℕ, List, Ok, length};
 ghost use Rattle.sf_model.specs.Legal.{HasEachOnce};
 ghost use Rattle.sf_model.specs.Tree.{Tree};
 ghost use Rattle.sf_polish.specs.declared.expr.Expr.{Expr};
@@ -8,6 +8,7 @@ ghost use Rattle.sf_polish.specs.declared.expr.Token.{Token};
 ghost use Rattle.sf_polish.specs.Normal.{IsNormal};
 ghost use Rattle.sf_polish.specs.Postfix.{IsSkewed, Spells};
 ghost use Rattle.sf_polish.specs.Reading.{tokens_read, expr_read};
+ghost use Rattle.sf_polish.specs.Refused.{IsFront};
 ghost use Rattle.sf_polish.specs.Text.{expr_text, IsWritable, SpellsTokens, SpellsExpr};
 
 /// A normal expression spells exactly one plan, which is skewed, and a skewed plan is spelled by exactly one
@@ -23,6 +24,15 @@ pub fn expressions_spell_skewed_plans()
         → Spells expr tree → IsNormal blocks expr.tokens }
     ensures one_expression { (blocks : ℕ) (e f : Expr) (tree : Tree) → HasEachOnce blocks tree
         → length e.shapes ≡ blocks → length f.shapes ≡ blocks → Spells e tree → Spells f tree → e ≡ f }
+{}
+
+/// A list of tokens is a front just where a normal expression of these blocks begins with it. So a refused
+/// text stops at the first word, or at the end, where no normal expression goes on or ends.
+pub fn normal_expressions_begin_with_fronts()
+    ensures begun { (blocks : ℕ) (tokens rest : List Token) → IsNormal blocks (tokens ++ rest)
+        → IsFront blocks tokens }
+    ensures goes_on { (blocks : ℕ) (tokens : List Token) → 1 ≤ blocks → IsFront blocks tokens
+        → (rest : List Token) × IsNormal blocks (tokens ++ rest) }
 {}
 
 /// A text is read just where its words spell a normal expression, and then as that expression. So what

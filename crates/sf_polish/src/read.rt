@@ -1,8 +1,10 @@
 //! Expressions read from their texts.
 
-ghost use Rattle.std.specs.Prelude.{◌≡◌, ◌≤◌, Ok, length, IfOk, IfErr, IfSome, IsFalse};
+ghost use Rattle.std.specs.Prelude.{◌≡◌, ◌⊎◌, ◌≤◌, Ok, length, IfOk, IfErr, IfSome, IsFalse};
+ghost use Rattle.sf_polish.specs.declared.fault.ExprFault.TheVariants.{NoMemory};
 ghost use Rattle.sf_polish.specs.Normal.{is_outside};
 ghost use Rattle.sf_polish.specs.Reading.{tokens_read, expr_read, shapes_with, Fails};
+ghost use Rattle.sf_polish.specs.Refused.{WritesToken, WritesShaped, GoesWrong};
 ghost use Rattle.sf_polish.specs.Text.{SpellsTokens, SpellsExpr};
 ghost use Rattle.sf_polish.specs.Word.{token_of};
 
@@ -19,6 +21,7 @@ use std::alloc::Global;
 pub fn read_tokens(alloc: Global, text: &[u8], blocks: u16) -> Result<Vec<Token>, ExprFault>
     ensures tokens { IfOk result (λ tokens. tokens_read blocks text.now ≡ Ok tokens.items) }
     ensures spelled { IfOk result (λ tokens. SpellsTokens blocks text.now tokens.items) }
+    ensures refused { IfErr result (λ e. (e ≡ NoMemory) ⊎ GoesWrong WritesToken blocks text.now e) }
     ensures fault { IfErr result (λ e. Fails e (tokens_read blocks text.now)) }
 {
     let mut reading = Reading::new(alloc, blocks)?;
@@ -34,6 +37,7 @@ pub fn read_tokens(alloc: Global, text: &[u8], blocks: u16) -> Result<Vec<Token>
 pub fn read_expr(alloc: Global, text: &[u8], blocks: u16) -> Result<Expr, ExprFault>
     ensures expr { IfOk result (λ expr. expr_read blocks text.now ≡ Ok expr) }
     ensures spelled { IfOk result (λ expr. SpellsExpr blocks text.now expr) }
+    ensures refused { IfErr result (λ e. (e ≡ NoMemory) ⊎ GoesWrong WritesShaped blocks text.now e) }
     ensures fault { IfErr result (λ e. Fails e (expr_read blocks text.now)) }
 {
     let mut reading = Reading::new(alloc, blocks)?;

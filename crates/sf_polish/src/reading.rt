@@ -7,7 +7,7 @@ ghost use Rattle.sf_lex.specs.Scan.{last_line_of};
 ghost use Rattle.sf_polish.specs.declared.expr.Token.{Token};
 ghost use Rattle.sf_polish.specs.declared.expr.Token.TheVariants.{Block};
 ghost use Rattle.sf_polish.specs.Normal.{is_operand, operands, operators, is_outside};
-ghost use Rattle.sf_polish.specs.Reading.{is_named, operator_after, token_after, ended, Fails};
+ghost use Rattle.sf_polish.specs.Reading.{is_named, operator_after, token_after, whole_tokens, Fails};
 
 use crate::expr::Token;
 use crate::fault::ExprFault;
@@ -103,10 +103,10 @@ impl Reading {
 
     /// All tokens of the text, where none is missing.
     pub fn finish(self, text: &[u8]) -> Result<Vec<Token>, ExprFault>
-        ensures tokens { IfOk result (λ tokens. ended (length self.named.items)
+        ensures tokens { IfOk result (λ tokens. whole_tokens (length self.named.items)
             (last_line_of text.now) self.tokens.items ≡ Ok tokens.items) }
         ensures fault { IfErr result (λ e. Fails e
-            (ended (length self.named.items) (last_line_of text.now) self.tokens.items)) }
+            (whole_tokens (length self.named.items) (last_line_of text.now) self.tokens.items)) }
     {
         if !are_all_set(&self.named) {
             return Err(ExprFault::MissingBlock(last_line(text)));

@@ -4,7 +4,8 @@ use Rattle.sf_model.specs.Tree.{tree_of, HasBlocksBelow}
 use Rattle.sf_polish.specs.Normal.{IsNormal}
 use Rattle.sf_polish.specs.Postfix.{postfix}
 use Rattle.sf_polish.specs.Shaping.{no_shape}
-use Rattle.sf_polish.proofs.Shaped.{once-below, spelled-by}
+use Rattle.sf_polish.proofs.Shaped.{spelled-by}
+use Rattle.sf_model.proofs.BlocksBelow.{once-below}
 use Rattle.sf_polish.proofs.Normality.{postfix-normal}
 use Rattle.sf_polish.proofs.postfix.expr_of.Goals as goal
 

@@ -1,10 +1,11 @@
 use Rattle.std.proofs.Common.{arith, length, ap, sym, subst, ◌∙◌, Ok}
 use Rattle.std.specs.Option.{option_map}
-use Rattle.std.proofs.lemmas.Result.{err_from_is_err_and}
+use Rattle.std.proofs.lemmas.Result.{err_from_is_err_and, IfErr-weaker}
 use Rattle.sf_lex.specs.Scan.{line_words, last_line_of}
 use Rattle.sf_polish.specs.Reading.{token_after, shapes_with, Fails}
 use Rattle.sf_polish.specs.Word.{token_of, shaped_token_in}
 use Rattle.sf_polish.proofs.ReadSteps.{reading-step, reading-fails, reading-ends, keeping-step, keeping-ends, fails-at, expr-read, expr-fails}
+use Rattle.sf_polish.proofs.Refused.{expr-refused}
 use Rattle.sf_polish.proofs.TextLaws.{expr-spelled}
 use Rattle.sf_polish.proofs.read.read_expr.Goals as goal
 
@@ -40,6 +41,12 @@ returns-in_err-tokens-clause-fault c =
     let all = reading-ends blocks (last_line_of text) (shaped_token_in blocks) (line_words text) tokens _ n c.loop-word.invariant.0 c.in_default.ensures.numbered c.loop-word.invariant.1 in
     let p = err_from_is_err_and c.from_residual-in_err-tokens.result c.from_residual-in_err-tokens.ensures.1 in
     rw (p.1, p.2) (expr-fails blocks text e (fails-at e _ _ all c.in_err-tokens.ensures.fault))
+
+pub returns-in_err-take-clause-refused : goal.returns-in_err-take-clause-refused
+returns-in_err-take-clause-refused c = IfErr-weaker _ _ _ (expr-refused c.args.blocks (omega arith) c.args.text.now) (returns-in_err-take-clause-fault c)
+
+pub returns-in_err-tokens-clause-refused : goal.returns-in_err-tokens-clause-refused
+returns-in_err-tokens-clause-refused c = IfErr-weaker _ _ _ (expr-refused c.args.blocks (omega arith) c.args.text.now) (returns-in_err-tokens-clause-fault c)
 
 pub returns-clause-expr : goal.returns-clause-expr
 returns-clause-expr c =

@@ -1,10 +1,11 @@
 use Rattle.std.proofs.Common.{arith, ◌≡◌, length, ap, sym, subst, ◌∙◌, Ok}
 use Rattle.std.proofs.lemmas.Result.{err_from_is_err_and, IfOk-weaker, IfErr-weaker}
 use Rattle.sf_lex.specs.Scan.{line_words, last_line_of}
-use Rattle.sf_polish.specs.Reading.{token_after, tokens_read, Fails, ended}
+use Rattle.sf_polish.specs.Reading.{token_after, tokens_read, Fails, whole_tokens}
 use Rattle.sf_polish.specs.Text.{SpellsTokens}
 use Rattle.sf_polish.specs.Word.{token_in}
 use Rattle.sf_polish.proofs.ReadSteps.{reading-step, reading-fails, reading-ends, fails-at}
+use Rattle.sf_polish.proofs.Refused.{tokens-refused}
 use Rattle.sf_polish.proofs.TextLaws.{tokens-spelled}
 use Rattle.sf_polish.proofs.read.read_tokens.Goals as goal
 
@@ -28,6 +29,9 @@ returns-in_err-take-clause-fault c =
     rw (p.1, p.2) (reading-fails blocks (last_line_of text) (token_in blocks) (line_words text) before _ _ _ c.in_err-take.field-0.0 c.loop-word.invariant.0 c.in-Some.ensures.numbered
     (subst (λ s. Fails c.in_err-take.field-0.0 (token_after before c.in-Some.word.line s)) c.read_token.ensures.value c.in_err-take.ensures.fault))
 
+pub returns-in_err-take-clause-refused : goal.returns-in_err-take-clause-refused
+returns-in_err-take-clause-refused c = IfErr-weaker _ _ _ (tokens-refused c.args.blocks (omega arith) c.args.text.now) (returns-in_err-take-clause-fault c)
+
 pub returns-clause-tokens : goal.returns-clause-tokens
 returns-clause-tokens c =
     let blocks = c.args.blocks in
@@ -35,7 +39,7 @@ returns-clause-tokens c =
     let tokens = c.loop-word.reading.tokens.items in
     let n = length c.loop-word.reading.named.items in
     let all = reading-ends blocks (last_line_of text) (token_in blocks) (line_words text) tokens _ n c.loop-word.invariant.0 c.in_default.ensures.numbered c.loop-word.invariant.1 in
-    IfOk-weaker c.finish.result (λ v. ended n (last_line_of text) tokens ≡ Ok v.items) (λ v. tokens_read blocks text ≡ Ok v.items) (λ v h. all ∙ h) c.finish.ensures.tokens
+    IfOk-weaker c.finish.result (λ v. whole_tokens n (last_line_of text) tokens ≡ Ok v.items) (λ v. tokens_read blocks text ≡ Ok v.items) (λ v h. all ∙ h) c.finish.ensures.tokens
 
 pub returns-clause-spelled : goal.returns-clause-spelled
 returns-clause-spelled c =
@@ -44,7 +48,7 @@ returns-clause-spelled c =
     let tokens = c.loop-word.reading.tokens.items in
     let n = length c.loop-word.reading.named.items in
     let all = reading-ends blocks (last_line_of text) (token_in blocks) (line_words text) tokens _ n c.loop-word.invariant.0 c.in_default.ensures.numbered c.loop-word.invariant.1 in
-    IfOk-weaker c.finish.result (λ v. ended n (last_line_of text) tokens ≡ Ok v.items) (λ v. SpellsTokens blocks text v.items) (λ v h. tokens-spelled blocks (omega arith) text v.items (all ∙ h)) c.finish.ensures.tokens
+    IfOk-weaker c.finish.result (λ v. whole_tokens n (last_line_of text) tokens ≡ Ok v.items) (λ v. SpellsTokens blocks text v.items) (λ v h. tokens-spelled blocks (omega arith) text v.items (all ∙ h)) c.finish.ensures.tokens
 
 pub returns-clause-fault : goal.returns-clause-fault
 returns-clause-fault c =
@@ -53,4 +57,7 @@ returns-clause-fault c =
     let tokens = c.loop-word.reading.tokens.items in
     let n = length c.loop-word.reading.named.items in
     let all = reading-ends blocks (last_line_of text) (token_in blocks) (line_words text) tokens _ n c.loop-word.invariant.0 c.in_default.ensures.numbered c.loop-word.invariant.1 in
-    IfErr-weaker c.finish.result (λ e. Fails e (ended n (last_line_of text) tokens)) (λ e. Fails e (tokens_read blocks text)) (λ e h. fails-at e _ _ all h) c.finish.ensures.fault
+    IfErr-weaker c.finish.result (λ e. Fails e (whole_tokens n (last_line_of text) tokens)) (λ e. Fails e (tokens_read blocks text)) (λ e h. fails-at e _ _ all h) c.finish.ensures.fault
+
+pub returns-clause-refused : goal.returns-clause-refused
+returns-clause-refused c = IfErr-weaker _ _ _ (tokens-refused c.args.blocks (omega arith) c.args.text.now) (returns-clause-fault c)
