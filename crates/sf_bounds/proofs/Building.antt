@@ -15,7 +15,8 @@ use Rattle.sf_node.proofs.Normalised.{subproblem-begun}
 use Rattle.sf_node.proofs.Spanned.{are-spans}
 use Rattle.sf_curves.specs.Points.{IsCombination, beside_size, above_size}
 use Rattle.sf_standard.specs.Items as item
-use Rattle.sf_standard.specs.Items.{Item, read, items_of, span_shapes, plans, pairs, fits, fitting}
+use Rattle.sf_model.specs.Spans.{shapes_in}
+use Rattle.sf_standard.specs.Items.{Item, read, items_of, plans, pairs, fits, fitting}
 use Rattle.sf_curves.specs.Choices.{AreSpans}
 use Rattle.sf_frames.proofs.Joining.{Runs, runs-from, curve-joined, curve-block, beside-way, above-way}
 use Rattle.sf_bounds.specs.Curves.{IsJoined, IsStep}
@@ -84,7 +85,7 @@ keep-join design node join t old new passed rest top runs curves s =
     }
 
 -- after each token the curves are those of the items that the passed tokens leave
-pub step-keeps : (design : Design) (node : Parts) (old new : List (List Shape)) (passed : List Token) (t : Token) (rest : List Token) → IsBuilding design node old passed (t ∷ rest) → IsStep (span_shapes design node) design.outline t old new → IsBuilding design node new (passed ++ t ∷ []) rest
+pub step-keeps : (design : Design) (node : Parts) (old new : List (List Shape)) (passed : List Token) (t : Token) (rest : List Token) → IsBuilding design node old passed (t ∷ rest) → IsStep (shapes_in design node.spans) design.outline t old new → IsBuilding design node new (passed ++ t ∷ []) rest
 step-keeps design node old new passed (token.Block b) rest m s =
     record {
       runs = subst (λ k. Runs (length design.blocks) k rest) (sym (ap length s.1 ∙ length_push old s.0)) m.runs.1;
@@ -96,7 +97,7 @@ step-keeps design node old new passed token.Beside rest m s = keep-join design n
 step-keeps design node old new passed token.Above rest m s = keep-join design node above_size token.Above old new passed rest (join-above design node) m.runs.1 m.curves s
 
 -- one more token
-pub token-read : (design : Design) (node : Parts) (old new : List (List Shape)) (tokens : List Token) (i : ℕ) (d : Token) → i < length tokens → IsBuilding design node old (take i tokens) (drop i tokens) → IsStep (span_shapes design node) design.outline (get_or tokens i d) old new → IsBuilding design node new (take (i + 1) tokens) (drop (i + 1) tokens)
+pub token-read : (design : Design) (node : Parts) (old new : List (List Shape)) (tokens : List Token) (i : ℕ) (d : Token) → i < length tokens → IsBuilding design node old (take i tokens) (drop i tokens) → IsStep (shapes_in design node.spans) design.outline (get_or tokens i d) old new → IsBuilding design node new (take (i + 1) tokens) (drop (i + 1) tokens)
 token-read design node old new tokens i d lt m s =
     subst (λ v. IsBuilding design node new v (drop (i + 1) tokens)) (sym (take_more tokens i d lt))
     (step-keeps design node old new (take i tokens) (get_or tokens i d) (drop (i + 1) tokens)

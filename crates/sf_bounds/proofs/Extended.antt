@@ -52,9 +52,3 @@ block_child design value b child steps s c e k is incomplete =
     let after_block : child ≡ after c.parent (Block b) = c.is ∙ ap (after c.parent) step in
     let can : CanStep c.parent (Block b) = subst (CanStep c.parent) step c.can in
     c.worth ∙ sym (ap (standard design) after_block ∙ block_keeps design c.parent b c.sub can (ap is_complete (sym after_block) ∙ incomplete))
-
--- the last child, where there is one
-pub popped_sub : (design : Design) (parent : Parts) (others : List Parts) (child : Option Parts) → IsSubproblem design parent → extended parent ≡ others ++ option_to_list child → IfSome child (IsSubproblem design)
-popped_sub design parent others None sub e = tt
-popped_sub design parent others (Some child) sub e =
-    child_sub design parent child sub (subst (λ v. Contains v child) (sym e) (Contains-append_right others (child ∷ []) child (Contains-head child [])))

@@ -21,15 +21,15 @@ use Rattle.sf_standard.specs.declared.hull.Interval.{Interval}
 use Rattle.sf_standard.specs.declared.hull.Offset.{Offset}
 use Rattle.sf_standard.specs.Items as item
 use Rattle.sf_standard.specs.Items.{Item, items_of}
-use Rattle.sf_standard.specs.Hull.{to_nat, gap, point, offsets, offset_x, offset_y, contains_pin, of_pins, pads_x, pads_y, hull_of, hull_part}
+use Rattle.sf_standard.specs.Hull.{to_nat, gap, point, offsets, offset_x, offset_y, contains_pin, of_pins, pads_x, pads_y, hull_of, hull_part, extent_in}
 use Rattle.sf_standard.proofs.Exact.{whole-item}
 use Rattle.sf_standard.proofs.Listed.{Contains-map, Contains-from_map}
 use Rattle.sf_standard.proofs.Members.{pin-found, pin-from, offset-found, offset-from, pads-found, pads-from}
 use Rattle.sf_bounds.specs.declared.layout.Home.{Home}
 use Rattle.sf_bounds.specs.declared.layout.Layout.{Layout}
 use Rattle.sf_bounds.specs.declared.reach.Reach.{Reach}
-use Rattle.sf_bounds.specs.Layout.{extent_in, seat_at}
-use Rattle.sf_bounds.specs.Near.{IsNear, IsNearby, shared, met, anywhere, reach_gap}
+use Rattle.sf_bounds.specs.Layout.{seat_at}
+use Rattle.sf_bounds.specs.Ends.{IsFitInterval, IsFitReach, shared, met, anywhere, reach_gap}
 use Rattle.sf_bounds.specs.Pins.{IsNet, IsLayout, extent_from, home_in, standing_at, pad_reach, pin_home, narrowed, narrowed_in, shared_in, shared_homes, home_gap, greatest_gap}
 use Rattle.sf_bounds.proofs.Meeting.{gap-shared, gap-same}
 use Rattle.sf_bounds.proofs.PinLoops.{if-some, near_home, standing_ready}
@@ -205,16 +205,16 @@ module _ (design : Design) (node : Parts) (layout : Layout) (sub : IsSubproblem 
       let h = pin_home design layout.table.items (is_complete node) in
       let r = shared_in design layout.table.items (is_complete node) pins j in
       let there = λ (p : Pin). pin_number p < pin_count (length design.blocks) (length design.pads) p in
-      let near : AllByRecursion (λ p. IfSome (h p) (λ v. IsNearby v.reach)) pins =
-      each-weaker there (λ p. IfSome (h p) (λ v. IsNearby v.reach)) (λ p k. near_home design (length layout.held.items) layout.table.items (readied design node layout m) (is_complete node) p k) pins (recursion_from_All there pins net) in
+      let near : AllByRecursion (λ p. IfSome (h p) (λ v. IsFitReach v.reach)) pins =
+      each-weaker there (λ p. IfSome (h p) (λ v. IsFitReach v.reach)) (λ p k. near_home design (length layout.held.items) layout.table.items (readied design node layout m) (is_complete node) p k) pins (recursion_from_All there pins net) in
       let xs = picked (λ v. v.across) j h pins in
       let ys = picked (λ v. v.upward) j h pins in
       let x : to_nat (r.across.low -ℤ r.across.high) ≡ gap xs =
       ap (λ i. to_nat (i.low -ℤ i.high)) (gather-side (λ v. v.across) j (λ r s. refl) h anywhere pins)
-      ∙ gap-shared xs (picked-near (λ v. v.across) j IsNear h pins (each-weaker (λ p. IfSome (h p) (λ v. IsNearby v.reach)) (λ p. IfSome (h p) (λ v. IsNear v.reach.across)) (λ p. if-some (λ v. IsNearby v.reach) (λ v. IsNear v.reach.across) (h p) (λ v k. k.0)) pins near)) in
+      ∙ gap-shared xs (picked-near (λ v. v.across) j IsFitInterval h pins (each-weaker (λ p. IfSome (h p) (λ v. IsFitReach v.reach)) (λ p. IfSome (h p) (λ v. IsFitInterval v.reach.across)) (λ p. if-some (λ v. IsFitReach v.reach) (λ v. IsFitInterval v.reach.across) (h p) (λ v k. k.0)) pins near)) in
       let y : to_nat (r.upward.low -ℤ r.upward.high) ≡ gap ys =
       ap (λ i. to_nat (i.low -ℤ i.high)) (gather-side (λ v. v.upward) j (λ r s. refl) h anywhere pins)
-      ∙ gap-shared ys (picked-near (λ v. v.upward) j IsNear h pins (each-weaker (λ p. IfSome (h p) (λ v. IsNearby v.reach)) (λ p. IfSome (h p) (λ v. IsNear v.reach.upward)) (λ p. if-some (λ v. IsNearby v.reach) (λ v. IsNear v.reach.upward) (h p) (λ v k. k.1)) pins near)) in
+      ∙ gap-shared ys (picked-near (λ v. v.upward) j IsFitInterval h pins (each-weaker (λ p. IfSome (h p) (λ v. IsFitReach v.reach)) (λ p. IfSome (h p) (λ v. IsFitInterval v.reach.upward)) (λ p. if-some (λ v. IsFitReach v.reach) (λ v. IsFitInterval v.reach.upward) (h p) (λ v k. k.1)) pins near)) in
       let px : ℕ → Interval = λ q. point (pad_at design q).x in
       let py : ℕ → Interval = λ q. point (pad_at design q).y in
       let gx = gaps-agree (λ v. v.across) (offset_x (extent_in design node)) px (pads_x design) block-across (λ q. refl) (pads-found px (pads_x design) refl (λ b ps. refl) (λ p ps. refl) pins) (pads-from px (pads_x design) refl (λ b ps. refl) (λ p ps. refl) pins) j d lt in
@@ -375,6 +375,6 @@ module _ (design : Design) (node : Parts) (layout : Layout) (sub : IsSubproblem 
           by-home (Some h) k = sym (cond-true (h.item == 0) (met r h.reach) r (eq-eqb h.item 0 k))
 
           by-pin : (p : Pin) → pin_number p < pin_count (length design.blocks) (length design.pads) p → narrowed r (pin_home design layout.table.items true p) ≡ narrowed_in 0 r (pin_home design layout.table.items true p)
-          by-pin (pin.Block b) lt = by-home (standing_at layout.table.items b).home (if-some (λ h. (h.item < length layout.held.items) × IsNearby h.reach) (λ h. h.item ≡ 0) (standing_at layout.table.items b).home
+          by-pin (pin.Block b) lt = by-home (standing_at layout.table.items b).home (if-some (λ h. (h.item < length layout.held.items) × IsFitReach h.reach) (λ h. h.item ≡ 0) (standing_at layout.table.items b).home
               (λ h k. omega (arith, k.0, held-count design node layout m, one)) (standing_ready design (length layout.held.items) layout.table.items (readied design node layout m) b lt).home)
           by-pin (pin.Pad q) lt = refl

@@ -18,11 +18,11 @@ use Rattle.sf_standard.specs.declared.hull.Extent.{Extent}
 use Rattle.sf_standard.specs.declared.hull.Offset.{Offset}
 use Rattle.sf_standard.specs.Items as item
 use Rattle.sf_standard.specs.Items.{Item, read, items_of}
-use Rattle.sf_standard.specs.Hull.{item_extent, offsets, moved_right, moved_up}
+use Rattle.sf_standard.specs.Hull.{item_extent, offsets, moved_right, moved_up, extent_in}
 use Rattle.sf_standard.proofs.Listed.{sum_by-map}
 use Rattle.sf_bounds.specs.declared.layout.Held.{Held}
 use Rattle.sf_bounds.specs.declared.layout.Seat.{Seat}
-use Rattle.sf_bounds.specs.Layout.{extent_in, beside_extent, above_extent, held_of, seat_at, seats_from, IsLaid, reseated, JoinsTop, Lays, AreModest, AreSeated}
+use Rattle.sf_bounds.specs.Layout.{beside_extent, above_extent, held_of, seat_at, seats_from, IsLaid, reseated, JoinsTop, Lays, AreModest, AreSeated}
 use Rattle.sf_standard.proofs.Appended.{read-append, read-block}
 use Rattle.sf_frames.proofs.Joining.{Runs, runs-from}
 use Rattle.sf_standard.proofs.Sides.{span-small}

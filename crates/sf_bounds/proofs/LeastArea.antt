@@ -15,7 +15,8 @@ use Rattle.sf_node.specs.Subproblem.{Belongs, is_complete}
 use Rattle.sf_node.specs.Children.{IsSubproblem}
 use Rattle.sf_node.proofs.Normalised.{complete-normal}
 use Rattle.sf_node.proofs.Reached.{subproblem-spans}
-use Rattle.sf_curves.specs.Choices.{shapes_in, IsChoice, IsRootCurve, IsTraceOf, size_of}
+use Rattle.sf_model.specs.Spans.{shapes_in}
+use Rattle.sf_curves.specs.Choices.{IsChoice, IsRootCurve, IsTraceOf, size_of}
 use Rattle.sf_curves.specs.Points.{IsWithin, IsLeastArea, area_of}
 use Rattle.sf_curves.proofs.Forms.{skewed-of_normal}
 use Rattle.sf_standard.proofs.Exact.{listed-belongs}

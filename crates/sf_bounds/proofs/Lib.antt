@@ -4,7 +4,7 @@ pub mod UnusedCurves
 pub mod Leasts
 pub mod AreaLink
 pub mod OpenValue
-pub mod Nearby
+pub mod ToNat
 pub mod Shifting
 pub mod ModestExtents
 pub mod LaidTokens

@@ -9,7 +9,7 @@ use Rattle.sf_standard.specs.declared.hull.Interval.{Interval}
 use Rattle.sf_standard.specs.Hull.{to_nat, gap}
 use Rattle.sf_standard.proofs.Gaps.{low-member, high-member, low-most, high-least}
 use Rattle.sf_standard.proofs.Listed.{each-contains, each-from}
-use Rattle.sf_bounds.specs.Near.{IsNumber, IsNear, shared, endless}
+use Rattle.sf_bounds.specs.Ends.{IsFitEnd, IsFitInterval, shared, endless}
 
 -- the lower end of what intervals share is the greatest of their lower ends
 fold-low : (i : Interval) (is : List Interval) → (fold shared i is).low ≡ fold (λ z j. int_max z j.low) i.low is
@@ -22,21 +22,21 @@ fold-high i [] = refl
 fold-high i (j ∷ js) = fold-high (shared i j) js
 
 -- a number that fits is not below the least one
-max-first : (z : ℤ) → IsNumber z → int_max (neg_ℤ (pos 700000000)) z ≡ z
+max-first : (z : ℤ) → IsFitEnd z → int_max (neg_ℤ (pos 700000000)) z ≡ z
 max-first z h = omega (arith, ints, clamps, h.0)
 
 -- a number that fits is not above the greatest one
-min-first : (z : ℤ) → IsNumber z → int_min (pos 700000000) z ≡ z
+min-first : (z : ℤ) → IsFitEnd z → int_min (pos 700000000) z ≡ z
 min-first z h = omega (arith, ints, clamps, h.1)
 
 -- an interval whose ends fit is not narrowed by the endless one
-endless-first : (i : Interval) → IsNear i → shared endless i ≡ i
+endless-first : (i : Interval) → IsFitInterval i → shared endless i ≡ i
 endless-first i h =
     ap (λ z. (let k : Interval = record { low = z; high = int_min (pos 700000000) i.high } in k)) (max-first i.low h.0)
     ∙ ap (λ z. (let k : Interval = record { low = i.low; high = z } in k)) (min-first i.high h.1)
 
 -- how far the ends of what intervals share have passed each other is their gap
-pub gap-shared : (is : List Interval) → AllByRecursion IsNear is → to_nat ((fold shared endless is).low -ℤ (fold shared endless is).high) ≡ gap is
+pub gap-shared : (is : List Interval) → AllByRecursion IsFitInterval is → to_nat ((fold shared endless is).low -ℤ (fold shared endless is).high) ≡ gap is
 gap-shared [] h = refl
 gap-shared (i ∷ is) h =
     ap (λ v. to_nat ((fold shared v is).low -ℤ (fold shared v is).high)) (endless-first i h.0)

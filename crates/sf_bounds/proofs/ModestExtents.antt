@@ -7,13 +7,12 @@ use Rattle.sf_model.proofs.Each.{each-append, each-map, each-weaker}
 use Rattle.sf_standard.specs.declared.hull.Extent.{Extent}
 use Rattle.sf_standard.specs.declared.hull.Offset.{Offset}
 use Rattle.sf_standard.specs.Items as item
-use Rattle.sf_standard.specs.Items.{Item}
+use Rattle.sf_standard.specs.Items.{Item, item_in}
 use Rattle.sf_standard.specs.Hull.{item_extent, offsets, moved_right, moved_up}
 use Rattle.sf_standard.proofs.Listed.{each-joined}
 use Rattle.sf_standard.proofs.Sides.{IsSmallExtent}
-use Rattle.sf_frames.specs.declared.direction.Direction.{Direction}
-use Rattle.sf_frames.specs.declared.direction.Direction.TheVariants.{Beside, Above}
-use Rattle.sf_frames.specs.Direction.{item_in}
+use Rattle.sf_curves.specs.declared.direction.Direction.{Direction}
+use Rattle.sf_curves.specs.declared.direction.Direction.TheVariants.{Beside, Above}
 use Rattle.sf_bounds.specs.Layout.{held_of, seat_at, seats_from, IsModestExtent, IsModestOffset, AreModest}
 
 -- no number of the place of a block in its item is more than m

@@ -17,13 +17,12 @@ use Rattle.sf_node.specs.Parts.{Parts}
 use Rattle.sf_node.specs.Subproblem.{is_complete}
 use Rattle.sf_node.specs.Children.{IsSubproblem}
 use Rattle.sf_standard.specs.Items.{items_of}
-use Rattle.sf_standard.specs.Hull.{gap, range_x, range_y, range_part, pair_part, small_side, block_pins, greatest_two, hull_part}
+use Rattle.sf_standard.specs.Hull.{gap, range_x, range_y, range_part, pair_part, small_side, block_pins, greatest_two, hull_part, extent_in}
 use Rattle.sf_standard.specs.Standard.{pins_by}
 use Rattle.sf_standard.proofs.Exact.{whole-item}
 use Rattle.sf_bounds.specs.declared.layout.Layout.{Layout}
 use Rattle.sf_bounds.specs.declared.wire_parts.WireParts.{WireParts}
-use Rattle.sf_bounds.specs.Layout.{extent_in}
-use Rattle.sf_bounds.specs.Near.{anywhere, reach_gap}
+use Rattle.sf_bounds.specs.Ends.{anywhere, reach_gap}
 use Rattle.sf_bounds.specs.Open.{AreByPart}
 use Rattle.sf_bounds.specs.Pins.{IsNet, IsLayout, IsReady, block_range, standing_at, pin_range, shared_ranges, paired_sides, shared_homes, shared_in, greatest_gap}
 use Rattle.sf_bounds.proofs.Hulls.{open_hull, whole_hull}
@@ -124,16 +123,6 @@ module _ (design : Design) (node : Parts) (layout : Layout) (m : IsLayout design
     -- in an incomplete subproblem all four numbers are what the pins take by each part
     pub open_are : (w : WireParts) → is_complete node ≡ false → 2 ≤ length pins → w.range ≡ reach_gap (shared_ranges design layout.table.items pins) → w.pair ≡ (paired_sides layout.table.items pins).sum → w.hull ≡ greatest_gap design layout.table.items false (shared_in design layout.table.items false pins) pins → w.full ≡ max w.range (max w.pair w.hull) → AreByPart (pins_by design node pins) w
     open_are w incomplete two range pair hull = parts w two range pair (hull ∙ open_hull design node layout sub m pins inside incomplete)
-
--- fewer than two pins take nothing by any part
-pub no-wire : (design : Design) (node : Parts) (pins : List Pin) (part : Part) → length pins < 2 → 0 ≡ pins_by design node pins part
-no-wire design node pins Area few = refl
-no-wire design node pins Range few = sym (cond-true (nat_lt (length pins) 2) 0 (range_part design (extent_in design node) pins) (lt-ltb (length pins) 2 few))
-no-wire design node pins Pair few = sym (cond-true (nat_lt (length pins) 2) 0 (pair_part (extent_in design node) pins) (lt-ltb (length pins) 2 few))
-no-wire design node pins Hull few = sym (cond-true (nat_lt (length pins) 2) 0 (hull_part design (extent_in design node) (is_complete node) (items_of node) pins) (lt-ltb (length pins) 2 few))
-no-wire design node pins Full few =
-    let e = extent_in design node in
-    sym (cond-true (nat_lt (length pins) 2) 0 (max (range_part design e pins) (max (pair_part e pins) (hull_part design e (is_complete node) (items_of node) pins))) (lt-ltb (length pins) 2 few))
 
 -- the one item of a complete subproblem
 pub ready_whole : (design : Design) (node : Parts) (layout : Layout) → IsSubproblem design node → IsLayout design node layout → is_complete node ≡ true → IsReady design 1 layout.table.items

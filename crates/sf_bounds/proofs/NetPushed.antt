@@ -16,19 +16,19 @@ use Rattle.sf_node.specs.Subproblem.{root}
 use Rattle.sf_node.specs.Children.{IsSubproblem}
 use Rattle.sf_standard.specs.declared.hull.Extent.{Extent}
 use Rattle.sf_standard.specs.Items as item
-use Rattle.sf_standard.specs.Items.{Item, read}
+use Rattle.sf_standard.specs.Items.{Item, read, item_in}
 use Rattle.sf_standard.specs.Hull.{item_extent, offsets, hull_part}
 use Rattle.sf_standard.proofs.Unmoved.{lone-hull, sum_by-same}
-use Rattle.sf_frames.specs.Direction.{token_in, item_in}
-use Rattle.sf_frames.specs.declared.direction.Direction.{Direction}
-use Rattle.sf_frames.specs.declared.direction.Direction.TheVariants.{Beside, Above}
+use Rattle.sf_curves.specs.Direction.{token_in}
+use Rattle.sf_curves.specs.declared.direction.Direction.{Direction}
+use Rattle.sf_curves.specs.declared.direction.Direction.TheVariants.{Beside, Above}
 use Rattle.sf_frames.specs.Kept.{items_at, IsNext}
 use Rattle.sf_frames.proofs.Topping.{items-block, items-joined, block-inside, LiesOn, AreThere, pair-there, pair-are}
 use Rattle.sf_bounds.specs.declared.net_frame.BlockRow.{BlockRow}
 use Rattle.sf_bounds.specs.declared.net_frame.Cell.{Cell}
 use Rattle.sf_bounds.specs.declared.net_frame.NetFrame.{NetFrame}
 use Rattle.sf_bounds.specs.declared.net_frame.Wires.{Wires}
-use Rattle.sf_bounds.specs.Near.{IsNearby, anywhere, reach_gap}
+use Rattle.sf_bounds.specs.Ends.{IsFitReach, anywhere, reach_gap}
 use Rattle.sf_bounds.specs.Layout.{joined_extent, IsModestExtent}
 use Rattle.sf_bounds.specs.Rows.{counted, weighed_nets, weights_of, pins_at, whole_extent, row, part, pushed_reach, joined_reach, cell_at, joined_cell, weighed_cell, weighed_hull, AreSums, IsFitCell, IsRow, AreWires, first_end, IsStart, IsNetFrame, AreStored, AreTop}
 use Rattle.sf_bounds.proofs.LaidTokens.{few-numbers}
@@ -218,10 +218,10 @@ module _ (design : Design) (node : Parts) (cells : List Cell) (blocks : List Blo
   modest-right = modest R r.extent t.right.extent few-right
 
   -- what the right item's blocks share, moved by the left item, is near
-  pub pushed-fits : (j : ℕ) → j < length (weighed_nets design) → IsNearby (pushed_reach d l.extent (cell_at cells (r.row + j)).reach)
+  pub pushed-fits : (j : ℕ) → j < length (weighed_nets design) → IsFitReach (pushed_reach d l.extent (cell_at cells (r.row + j)).reach)
   pushed-fits j lt =
-      subst (λ v. IsNearby (pushed_reach d v (cell_at cells (r.row + j)).reach)) (sym t.left.extent)
-      (subst (λ v. IsNearby (pushed_reach d (item_extent (whole_extent design) L) v)) (sym (t.right.row.each j lt))
+      subst (λ v. IsFitReach (pushed_reach d v (cell_at cells (r.row + j)).reach)) (sym t.left.extent)
+      (subst (λ v. IsFitReach (pushed_reach d (item_extent (whole_extent design) L) v)) (sym (t.right.row.each j lt))
       (pushed-near (whole_extent design) (whole-small design) L R (pins_at design j) d few))
 
   -- what the joined item's blocks share

@@ -4,9 +4,9 @@ use Rattle.std.specs.List.{range_with_len}
 use Rattle.std.proofs.lemmas.List.{get_or_append_left, get_or_default}
 use Rattle.std.proofs.lemmas.List.FromFn.{map-range_with_len_more}
 use Rattle.sf_standard.specs.declared.hull.Extent.{Extent}
-use Rattle.sf_frames.specs.declared.direction.Direction.{Direction}
+use Rattle.sf_curves.specs.declared.direction.Direction.{Direction}
 use Rattle.sf_bounds.specs.declared.net_frame.Cell.{Cell}
-use Rattle.sf_bounds.specs.Near.{anywhere}
+use Rattle.sf_bounds.specs.Ends.{anywhere}
 use Rattle.sf_bounds.specs.Rows.{cell_of, cell_at, joined_cell, IsFitCell}
 
 -- a cell that was there before

@@ -25,7 +25,7 @@ use Rattle.sf_standard.proofs.Unmoved.{sum_by-same}
 use Rattle.sf_bounds.specs.declared.net_frame.BlockRow.{BlockRow}
 use Rattle.sf_bounds.specs.declared.net_frame.Cell.{Cell}
 use Rattle.sf_bounds.specs.declared.reach.Reach.{Reach}
-use Rattle.sf_bounds.specs.Near.{IsNear, IsNearby, shared, met, endless, anywhere}
+use Rattle.sf_bounds.specs.Ends.{IsFitInterval, IsFitReach, shared, met, endless, anywhere}
 use Rattle.sf_bounds.specs.Pins.{IsNet, pad_reach}
 use Rattle.sf_bounds.specs.Rows.{counted, of_weight, weighed_nets, pins_at, whole_extent, row, with_pad, pads_share, part, own_reach, cell_at, block_cell, start_cell, IsFitCell, IsRow, AreBlockRows, AreStored}
 use Rattle.sf_bounds.proofs.NetKept.{row-moves}
@@ -72,7 +72,7 @@ block-fit design b = All-from_recursion IsFitCell (map (block_cell b (whole_exte
   where
     each : (nets : List Net) → AllByRecursion IsFitCell (map (block_cell b (whole_extent design b)) nets)
     each [] = tt
-    each (n ∷ nets) = (record { near = subst IsNearby (sym (own-is design b (counted n.pins))) (row-near (whole_extent design) (whole-small design) (item.Block b) (counted n.pins) (omega arith)); small = omega arith; hull = omega arith }, each nets)
+    each (n ∷ nets) = (record { near = subst IsFitReach (sym (own-is design b (counted n.pins))) (row-near (whole_extent design) (whole-small design) (item.Block b) (counted n.pins) (omega arith)); small = omega arith; hull = omega arith }, each nets)
 
 -- one block more
 pub block-more : (design : Design) (b : ℕ) (cells all : List Cell) (blocks new : List BlockRow) (x : BlockRow) → AreBlockRows design b cells blocks → b < block_count design → x.extent ≡ whole_extent design b → x.row ≡ length cells → all ≡ cells ++ map (block_cell b x.extent) (weighed_nets design) → new ≡ blocks ++ x ∷ [] → AreBlockRows design (b + 1) all new
@@ -163,7 +163,7 @@ abbrev pub IsThere : Design → Pin → Type 0
 IsThere design p = pin_number p < pin_count (length design.blocks) (length design.pads) p
 
 -- the places of the pads at a net's pins are near, across and upward
-pub near-pads : (design : Design) (pins : List Pin) → AllByRecursion (IsThere design) pins → AllByRecursion IsNear (pads_x design pins) × AllByRecursion IsNear (pads_y design pins)
+pub near-pads : (design : Design) (pins : List Pin) → AllByRecursion (IsThere design) pins → AllByRecursion IsFitInterval (pads_x design pins) × AllByRecursion IsFitInterval (pads_y design pins)
 near-pads design [] h = (tt, tt)
 near-pads design (pin.Block b ∷ pins) h = near-pads design pins h.1
 near-pads design (pin.Pad q ∷ pins) h =
@@ -172,13 +172,13 @@ near-pads design (pin.Pad q ∷ pins) h =
     ((n.0, k.0), (n.1, k.1))
 
 -- what is near stays so when it is narrowed by the pads at a net's pins
-with-pads : (design : Design) (r : Reach) (pins : List Pin) → IsNearby r → AllByRecursion (IsThere design) pins → IsNearby (fold (with_pad design) r pins)
+with-pads : (design : Design) (r : Reach) (pins : List Pin) → IsFitReach r → AllByRecursion (IsThere design) pins → IsFitReach (fold (with_pad design) r pins)
 with-pads design r [] h k = h
 with-pads design r (pin.Block b ∷ pins) h k = with-pads design r pins h k.1
 with-pads design r (pin.Pad q ∷ pins) h k = with-pads design (met r (pad_reach design q)) pins (near_met r (pad_reach design q) h (near_pad design q k.0)) k.1
 
 -- what the pads at a net's pins share is near
-pub near-pads_share : (design : Design) (pins : List Pin) → IsNet design pins → IsNearby (pads_share design pins)
+pub near-pads_share : (design : Design) (pins : List Pin) → IsNet design pins → IsFitReach (pads_share design pins)
 near-pads_share design pins net = with-pads design anywhere pins near_anywhere (recursion_from_All (IsThere design) pins net)
 
 -- the counted pins are there
@@ -187,7 +187,7 @@ counted-net design pins net = cond_both (nat_lt (length pins) 2) [] pins (IsNet 
 
 -- the cell of a net before any token fits
 pub start-fits : (design : Design) (net : Net) (part : ℕ) (reach : Reach) → IsNet design net.pins → part ≤ 2800000000 → reach ≡ pads_share design (counted net.pins) → IsFitCell (record { reach = reach; part = part; hull = 0 })
-start-fits design net part reach inside small is = record { near = subst IsNearby (sym is) (near-pads_share design (counted net.pins) (counted-net design net.pins inside)); small = small; hull = omega arith }
+start-fits design net part reach inside small is = record { near = subst IsFitReach (sym is) (near-pads_share design (counted net.pins) (counted-net design net.pins inside)); small = small; hull = omega arith }
 
 -- the share of the pads and the part at the root make the cell of a net before any token
 pub start-cell : (design : Design) (net : Net) (part : ℕ) (reach : Reach) → reach ≡ pads_share design (counted net.pins) → part ≡ net_part design (root design) net → (let c : Cell = record { reach = reach; part = part; hull = 0 } in c) ≡ start_cell design net

@@ -11,13 +11,14 @@ use Rattle.sf_node.specs.declared.part.Part.TheVariants.{Range, Pair, Hull}
 use Rattle.sf_node.specs.Parts.{Parts}
 use Rattle.sf_node.specs.Subproblem.{root, is_complete}
 use Rattle.sf_node.specs.Children.{IsSubproblem}
-use Rattle.sf_standard.specs.Items.{Item, read, items_of, span_shapes}
+use Rattle.sf_model.specs.Spans.{shapes_in}
+use Rattle.sf_standard.specs.Items.{Item, read, items_of, item_in}
 use Rattle.sf_standard.specs.Hull.{extent_of, offsets, hull_of, hull_part, range_part, pair_part}
 use Rattle.sf_standard.specs.Standard.{net_part, weighed_part, wire_part, pins_by, wires_by}
 use Rattle.sf_standard.proofs.Exact.{whole-item}
 use Rattle.sf_standard.proofs.Unmoved.{sum_by-same}
-use Rattle.sf_frames.specs.Direction.{token_in, item_in}
-use Rattle.sf_frames.specs.declared.direction.Direction.{Direction}
+use Rattle.sf_curves.specs.Direction.{token_in}
+use Rattle.sf_curves.specs.declared.direction.Direction.{Direction}
 use Rattle.sf_frames.specs.Kept.{items_at, IsNext}
 use Rattle.sf_frames.proofs.WholeSpans.{whole-spans}
 use Rattle.sf_bounds.specs.declared.net_frame.BlockRow.{BlockRow}
@@ -25,7 +26,7 @@ use Rattle.sf_bounds.specs.declared.net_frame.Cell.{Cell}
 use Rattle.sf_bounds.specs.declared.net_frame.NetFrame.{NetFrame}
 use Rattle.sf_bounds.specs.declared.net_frame.Wires.{Wires}
 use Rattle.sf_bounds.specs.declared.reach.Reach.{Reach}
-use Rattle.sf_bounds.specs.Near.{anywhere, met, reach_gap}
+use Rattle.sf_bounds.specs.Ends.{anywhere, met, reach_gap}
 use Rattle.sf_bounds.specs.Pins.{IsNet}
 use Rattle.sf_bounds.specs.Rows.{counted, weighed_nets, weights_of, pins_at, whole_extent, row, part, pads_share, joined_reach, cell_at, IsFitCell, AreWires, AreStored, AreTop}
 use Rattle.sf_bounds.proofs.NetPushed.{whole-small, item-few, top-items, row-is}
@@ -37,7 +38,7 @@ use Rattle.sf_bounds.proofs.Weights.{sum-of_weight, length-weights, weight-at, w
 -- a net's part with the whole span of each block
 net-whole : (design : Design) (node : Parts) (net : Net) → IsSubproblem design node → length node.steps ≡ length node.tokens → net_part design node net ≡ (if nat_lt (length net.pins) 2 then 0 else max (range_part design (whole_extent design) net.pins) (max (pair_part (whole_extent design) net.pins) (hull_part design (whole_extent design) (is_complete node) (items_of node) net.pins)))
 net-whole design node net sub whole =
-    ap (λ spans. (let e = λ (b : ℕ). extent_of (span_shapes design (record { steps = node.steps; tokens = node.tokens; spans = spans }) b) in
+    ap (λ spans. (let e = λ (b : ℕ). extent_of (shapes_in design spans b) in
     if nat_lt (length net.pins) 2 then 0 else max (range_part design e net.pins) (max (pair_part e net.pins) (hull_part design e (is_complete node) (items_of node) net.pins)))) (whole-spans design node sub whole)
 
 -- in an incomplete subproblem
@@ -53,7 +54,7 @@ open-part design node net sub whole incomplete =
 -- a net's gaps with the whole span of each block
 hull-whole : (design : Design) (node : Parts) (pins : List Pin) → IsSubproblem design node → length node.steps ≡ length node.tokens → pins_by design node pins Hull ≡ (if nat_lt (length pins) 2 then 0 else hull_part design (whole_extent design) (is_complete node) (items_of node) pins)
 hull-whole design node pins sub whole =
-    ap (λ spans. (let e = λ (b : ℕ). extent_of (span_shapes design (record { steps = node.steps; tokens = node.tokens; spans = spans }) b) in
+    ap (λ spans. (let e = λ (b : ℕ). extent_of (shapes_in design spans b) in
     if nat_lt (length pins) 2 then 0 else hull_part design e (is_complete node) (items_of node) pins)) (whole-spans design node sub whole)
 
 -- its gaps in an incomplete subproblem

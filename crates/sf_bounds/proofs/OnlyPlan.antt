@@ -23,7 +23,7 @@ use Rattle.sf_node.specs.Children.{IsSubproblem}
 use Rattle.sf_node.proofs.Halves.{in_span, from_in_span}
 use Rattle.sf_node.proofs.Reached.{subproblem-spans}
 use Rattle.sf_node.proofs.Spanned.{are-spans}
-use Rattle.sf_standard.specs.Items.{span_shapes}
+use Rattle.sf_model.specs.Spans.{shapes_in}
 use Rattle.sf_standard.proofs.Exact.{listed-belongs, spelled-inside}
 use Rattle.sf_bounds.specs.Layout.{Tells}
 use Rattle.sf_bounds.specs.Only.{first_shape}
@@ -62,7 +62,7 @@ module _ (design : Design) (node : Parts) (expr : Expr) (tree : Tree) (sub : IsS
   none = record { w = 0; h = 0 }
 
   -- the first shape in the span of a block is in the span
-  first-listed : (b : ℕ) → b < block_count design → Contains (span_shapes design node b) (first_shape design node b)
+  first-listed : (b : ℕ) → b < block_count design → Contains (shapes_in design node.spans b) (first_shape design node b)
   first-listed b lt =
       let k = (are-spans design node sub).each b lt in
       from_in_span (shapes_of design b) (span_of node b).0 (span_of node b).1 (first_shape design node b)
@@ -73,8 +73,8 @@ module _ (design : Design) (node : Parts) (expr : Expr) (tree : Tree) (sub : IsS
   first-belongs skewed =
       let spelled : postfix tree ≡ node.tokens = spells.tokens ∙ tokens in
       listed-belongs design node tree sub complete spelled skewed
-      (each-both (λ leaf. leaf.0 < block_count design) (λ leaf. leaf.1 ≡ shape_at expr.shapes leaf.0) (λ leaf. Contains (span_shapes design node leaf.0) leaf.1)
-      (λ leaf lt e. subst (Contains (span_shapes design node leaf.0)) (sym (e ∙ shapes.each leaf.0 none lt)) (first-listed leaf.0 lt)) (leaves tree)
+      (each-both (λ leaf. leaf.0 < block_count design) (λ leaf. leaf.1 ≡ shape_at expr.shapes leaf.0) (λ leaf. Contains (shapes_in design node.spans leaf.0) leaf.1)
+      (λ leaf lt e. subst (Contains (shapes_in design node.spans leaf.0)) (sym (e ∙ shapes.each leaf.0 none lt)) (first-listed leaf.0 lt)) (leaves tree)
       (spelled-inside design node tree sub complete spelled) (recursion_from_All (λ leaf. leaf.1 ≡ shape_at expr.shapes leaf.0) (leaves tree) spells.shapes))
 
   -- and is the only one where the spans are single
@@ -87,13 +87,13 @@ module _ (design : Design) (node : Parts) (expr : Expr) (tree : Tree) (sub : IsS
         only = λ t belongs. spells-one expr t tree record {
           tokens = whole-postfix design node t sub complete belongs ∙ sym tokens;
           shapes = All-from_recursion (λ leaf. leaf.1 ≡ shape_at expr.shapes leaf.0) (leaves t)
-              (each-both (λ leaf. leaf.0 < n) (λ leaf. Contains (span_shapes design node leaf.0) leaf.1) (λ leaf. leaf.1 ≡ shape_at expr.shapes leaf.0)
+              (each-both (λ leaf. leaf.0 < n) (λ leaf. Contains (shapes_in design node.spans leaf.0) leaf.1) (λ leaf. leaf.1 ≡ shape_at expr.shapes leaf.0)
               (λ leaf lt c.
               let i = in_span (shapes_of design leaf.0) (span_of node leaf.0).0 (span_of node leaf.0).1 leaf.1 c in
               let at : i.at ≡ (span_of node leaf.0).0 = omega (arith, i.low, i.high, single-span node.spans leaf.0 (0, 0) single (omega (arith, lt, spans))) in
               sym i.is ∙ ap (λ k. get_or (shapes_of design leaf.0) k leaf.1) at
               ∙ get_or_default (shapes_of design leaf.0) (span_of node leaf.0).0 leaf.1 none (omega (arith, at, i.within)) ∙ sym (shapes.each leaf.0 none lt))
-              (leaves t) (recursion_from_All (λ leaf. leaf.0 < n) (leaves t) belongs.legal.blocks.no_other) (recursion_from_All (λ leaf. Contains (span_shapes design node leaf.0) leaf.1) (leaves t) belongs.chosen));
+              (leaves t) (recursion_from_All (λ leaf. leaf.0 < n) (leaves t) belongs.legal.blocks.no_other) (recursion_from_All (λ leaf. Contains (shapes_in design node.spans leaf.0) leaf.1) (leaves t) belongs.chosen));
         } spells;
       }
 

@@ -89,14 +89,3 @@ module _ (design : Design) (node : Parts) (i : ℕ) (net : Net) (lt : i < length
           full = omega (arith, before.small.full);
         };
       }
-
--- after the last net the sums are those over all nets
-pub all-parts : (design : Design) (node : Parts) (i : ℕ) (sums : WireParts) → length design.nets ≤ i → ArePartsBefore design node i sums → AreWireParts design node sums
-all-parts design node i sums le before =
-    let whole = λ (part : Part). ap (sum_by (of_net design node part)) (take_all i design.nets le) in
-    record {
-      range = before.values.range ∙ whole Range;
-      pair = before.values.pair ∙ whole Pair;
-      hull = before.values.hull ∙ whole Hull;
-      full = before.values.full ∙ whole Full;
-    }

@@ -16,7 +16,7 @@ use Rattle.sf_standard.specs.declared.hull.Interval.{Interval}
 use Rattle.sf_bounds.specs.declared.layout.Home.{Home}
 use Rattle.sf_bounds.specs.declared.layout.Standing.{Standing}
 use Rattle.sf_bounds.specs.declared.reach.Reach.{Reach}
-use Rattle.sf_bounds.specs.Near.{IsNear, IsNearby, shared, met, anywhere, reach_gap}
+use Rattle.sf_bounds.specs.Ends.{IsFitInterval, IsFitReach, shared, met, anywhere, reach_gap}
 use Rattle.sf_bounds.specs.Pins.{IsNet, IsReadyAt, IsReady, standing_at, pad_reach, pin_range, pin_home, narrowed, narrowed_in, shared_in, home_gap, greatest_gap, shared_ranges, shared_homes}
 
 -- a fold over all pins is one over the first k, where there are no more than k
@@ -24,18 +24,18 @@ pub fold_whole : {A B : Type 0} (f : B → A → B) (b : B) (xs : List A) (k : �
 fold_whole f b xs k h = ap (fold f b) (take_all k xs h)
 
 -- what two near intervals share is near
-near-shared : (i j : Interval) → IsNear i → IsNear j → IsNear (shared i j)
+near-shared : (i j : Interval) → IsFitInterval i → IsFitInterval j → IsFitInterval (shared i j)
 near-shared i j h k = (
   (omega (arith, ints, clamps, h.0.0, k.0.0), omega (arith, ints, clamps, h.0.1, k.0.1)),
   (omega (arith, ints, clamps, h.1.0, k.1.0), omega (arith, ints, clamps, h.1.1, k.1.1)),
 )
 
 -- what two near reaches share is near
-pub near_met : (r s : Reach) → IsNearby r → IsNearby s → IsNearby (met r s)
+pub near_met : (r s : Reach) → IsFitReach r → IsFitReach s → IsFitReach (met r s)
 near_met r s h k = (near-shared r.across s.across h.0 k.0, near-shared r.upward s.upward h.1 k.1)
 
 -- the reach that no interval narrows is near
-pub near_anywhere : IsNearby anywhere
+pub near_anywhere : IsFitReach anywhere
 near_anywhere = (((omega (arith, ints), omega (arith, ints)), (omega (arith, ints), omega (arith, ints))), ((omega (arith, ints), omega (arith, ints)), (omega (arith, ints), omega (arith, ints))))
 
 -- what holds of what is there
@@ -44,22 +44,22 @@ if-some P Q None f h = tt
 if-some P Q (Some x) f h = f x h
 
 -- a near reach stays so when it is narrowed by a near home
-near-narrowed : (r : Reach) (o : Option Home) → IsNearby r → IfSome o (λ h. IsNearby h.reach) → IsNearby (narrowed r o)
+near-narrowed : (r : Reach) (o : Option Home) → IsFitReach r → IfSome o (λ h. IsFitReach h.reach) → IsFitReach (narrowed r o)
 near-narrowed r None h k = h
 near-narrowed r (Some x) h k = near_met r x.reach h k
 
 -- a near reach stays so when it is narrowed by a near home in one item
-near-narrowed_in : (i : ℕ) (r : Reach) (o : Option Home) → IsNearby r → IfSome o (λ h. IsNearby h.reach) → IsNearby (narrowed_in i r o)
+near-narrowed_in : (i : ℕ) (r : Reach) (o : Option Home) → IsFitReach r → IfSome o (λ h. IsFitReach h.reach) → IsFitReach (narrowed_in i r o)
 near-narrowed_in i r None h k = h
-near-narrowed_in i r (Some x) h k = cond_both (x.item == i) (met r x.reach) r IsNearby (λ _. near_met r x.reach h k) (λ _. h)
+near-narrowed_in i r (Some x) h k = cond_both (x.item == i) (met r x.reach) r IsFitReach (λ _. near_met r x.reach h k) (λ _. h)
 
 -- a fold over the pins stays near
-near-fold : (P : Pin → Type 0) (f : Reach → Pin → Reach) → ((r : Reach) (p : Pin) → P p → IsNearby r → IsNearby (f r p)) → (r : Reach) (pins : List Pin) → IsNearby r → AllByRecursion P pins → IsNearby (fold f r pins)
+near-fold : (P : Pin → Type 0) (f : Reach → Pin → Reach) → ((r : Reach) (p : Pin) → P p → IsFitReach r → IsFitReach (f r p)) → (r : Reach) (pins : List Pin) → IsFitReach r → AllByRecursion P pins → IsFitReach (fold f r pins)
 near-fold P f step r [] h all = h
 near-fold P f step r (p ∷ pins) h all = near-fold P f step (f r p) pins (step r p all.0 h) all.1
 
 -- the place of a pad is near
-pub near_pad : (design : Design) (p : ℕ) → p < length design.pads → IsNearby (pad_reach design p)
+pub near_pad : (design : Design) (p : ℕ) → p < length design.pads → IsFitReach (pad_reach design p)
 near_pad design p h =
     let k = design.limits.places p (record { name = []; x = pos 0; y = pos 0 }) h in (
       ((omega (arith, ints, k.0.0), omega (arith, ints, k.0.1)), (omega (arith, ints, k.0.0), omega (arith, ints, k.0.1))),
@@ -76,26 +76,26 @@ module _ (design : Design) (items : ℕ) (table : List Standing) (ready : IsRead
   standing_ready b h = ready.each b (record { side = 0; range = anywhere; home = None }) (omega (arith, h, ready.count))
 
   -- the range of each pin is near
-  pub near_range : (p : Pin) → pin_number p < pin_count (length design.blocks) (length design.pads) p → IsNearby (pin_range design table p)
+  pub near_range : (p : Pin) → pin_number p < pin_count (length design.blocks) (length design.pads) p → IsFitReach (pin_range design table p)
   near_range (pin.Block b) h = (standing_ready b h).range
   near_range (pin.Pad p) h = near_pad design p h
 
   -- the home of each pin, where it has one, is near
-  pub near_home : (complete : Bool) (p : Pin) → pin_number p < pin_count (length design.blocks) (length design.pads) p → IfSome (pin_home design table complete p) (λ h. IsNearby h.reach)
-  near_home complete (pin.Block b) h = if-some (λ v. (v.item < items) × IsNearby v.reach) (λ v. IsNearby v.reach) (standing_at table b).home (λ v k. k.1) (standing_ready b h).home
+  pub near_home : (complete : Bool) (p : Pin) → pin_number p < pin_count (length design.blocks) (length design.pads) p → IfSome (pin_home design table complete p) (λ h. IsFitReach h.reach)
+  near_home complete (pin.Block b) h = if-some (λ v. (v.item < items) × IsFitReach v.reach) (λ v. IsFitReach v.reach) (standing_at table b).home (λ v k. k.1) (standing_ready b h).home
   near_home true (pin.Pad p) h = near_pad design p h
   near_home false (pin.Pad p) h = tt
 
   -- what all pins share anywhere in the outline is near
-  pub near_ranges : (pins : List Pin) → IsNet design pins → IsNearby (shared_ranges design table pins)
+  pub near_ranges : (pins : List Pin) → IsNet design pins → IsFitReach (shared_ranges design table pins)
   near_ranges pins net = near-fold IsThere (λ r p. met r (pin_range design table p)) (λ r p there h. near_met r (pin_range design table p) h (near_range p there)) anywhere pins near_anywhere (recursion_from_All IsThere pins net)
 
   -- what all pins share in the one item is near
-  pub near_homes : (pins : List Pin) → IsNet design pins → IsNearby (shared_homes design table pins)
+  pub near_homes : (pins : List Pin) → IsNet design pins → IsFitReach (shared_homes design table pins)
   near_homes pins net = near-fold IsThere (λ r p. narrowed r (pin_home design table true p)) (λ r p there h. near-narrowed r (pin_home design table true p) h (near_home true p there)) anywhere pins near_anywhere (recursion_from_All IsThere pins net)
 
   -- what the pins share in each item is near
-  pub near_shared : (complete : Bool) (i : ℕ) (pins : List Pin) → IsNet design pins → IsNearby (shared_in design table complete pins i)
+  pub near_shared : (complete : Bool) (i : ℕ) (pins : List Pin) → IsNet design pins → IsFitReach (shared_in design table complete pins i)
   near_shared complete i pins net = near-fold IsThere (λ r p. narrowed_in i r (pin_home design table complete p)) (λ r p there h. near-narrowed_in i r (pin_home design table complete p) h (near_home complete p there)) anywhere pins near_anywhere (recursion_from_All IsThere pins net)
 
 -- the reaches that were cleared and gathered tell what the pins share
@@ -109,12 +109,12 @@ module _ (design : Design) (table : List Standing) (pins : List Pin) (clear gath
   gathered-at g i e = g i ∙ ap (λ r. fold (λ r p. narrowed_in i r (pin_home design table false p)) r pins) e
 
   -- what was gathered in the item of each pin's home is near
-  pub gathered_near : (items : ℕ) → IsReady design items table → IsNet design pins → All IsClear pins → ((i : ℕ) → get_or gathered i anywhere ≡ fold (λ r p. narrowed_in i r (pin_home design table false p)) (get_or clear i anywhere) pins) → All (λ p. IfSome (pin_home design table false p) (λ h. IsNearby (get_or gathered h.item anywhere))) pins
+  pub gathered_near : (items : ℕ) → IsReady design items table → IsNet design pins → All IsClear pins → ((i : ℕ) → get_or gathered i anywhere ≡ fold (λ r p. narrowed_in i r (pin_home design table false p)) (get_or clear i anywhere) pins) → All (λ p. IfSome (pin_home design table false p) (λ h. IsFitReach (get_or gathered h.item anywhere))) pins
   gathered_near items ready net none g =
-      All-from_recursion (λ p. IfSome (pin_home design table false p) (λ h. IsNearby (get_or gathered h.item anywhere))) pins
-      (each-weaker IsClear (λ p. IfSome (pin_home design table false p) (λ h. IsNearby (get_or gathered h.item anywhere)))
-      (λ p k. if-some (λ h. get_or clear h.item anywhere ≡ anywhere) (λ h. IsNearby (get_or gathered h.item anywhere)) (pin_home design table false p)
-      (λ h e. subst IsNearby (sym (gathered-at g h.item e)) (near_shared design items table ready false h.item pins net)) k)
+      All-from_recursion (λ p. IfSome (pin_home design table false p) (λ h. IsFitReach (get_or gathered h.item anywhere))) pins
+      (each-weaker IsClear (λ p. IfSome (pin_home design table false p) (λ h. IsFitReach (get_or gathered h.item anywhere)))
+      (λ p k. if-some (λ h. get_or clear h.item anywhere ≡ anywhere) (λ h. IsFitReach (get_or gathered h.item anywhere)) (pin_home design table false p)
+      (λ h e. subst IsFitReach (sym (gathered-at g h.item e)) (near_shared design items table ready false h.item pins net)) k)
       pins (recursion_from_All IsClear pins none))
 
   -- the gap of a home's item is the same by what was gathered as by what the pins share
@@ -138,5 +138,5 @@ pub ready_more : (design : Design) (items more : ℕ) (table : List Standing) �
 ready_more design items more table le ready = record {
   count = ready.count;
   each = λ i d lt. (let k = ready.each i d lt in
-      record { side = k.side; range = k.range; home = if-some (λ h. (h.item < items) × IsNearby h.reach) (λ h. (h.item < more) × IsNearby h.reach) (get_or table i d).home (λ h v. (omega (arith, v.0, le), v.1)) k.home });
+      record { side = k.side; range = k.range; home = if-some (λ h. (h.item < items) × IsFitReach h.reach) (λ h. (h.item < more) × IsFitReach h.reach) (get_or table i d).home (λ h v. (omega (arith, v.0, le), v.1)) k.home });
 }

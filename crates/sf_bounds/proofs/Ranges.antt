@@ -10,7 +10,7 @@ use Rattle.sf_standard.specs.declared.hull.Interval.{Interval}
 use Rattle.sf_standard.specs.Hull.{to_nat, gap}
 use Rattle.sf_bounds.specs.declared.layout.Standing.{Standing}
 use Rattle.sf_bounds.specs.declared.reach.Reach.{Reach}
-use Rattle.sf_bounds.specs.Near.{IsNear, shared, met, anywhere, reach_gap}
+use Rattle.sf_bounds.specs.Ends.{IsFitInterval, shared, met, anywhere, reach_gap}
 use Rattle.sf_bounds.specs.Pins.{IsNet, IsReady, pin_range, shared_ranges}
 use Rattle.sf_bounds.proofs.Meeting.{gap-shared}
 use Rattle.sf_bounds.proofs.PinLoops.{near_range}
@@ -44,8 +44,8 @@ module _ (design : Design) (table : List Standing) where
       let r = shared_ranges design table pins in
       let x : to_nat (r.across.low -ℤ r.across.high) ≡ gap xs =
       ap (λ i. to_nat (i.low -ℤ i.high)) (range-across anywhere pins)
-      ∙ gap-shared xs (each-map IsNear (λ p. (pin_range design table p).across) pins (each-weaker there (λ p. IsNear (pin_range design table p).across) (λ p h. (near_range design items table ready p h).0) pins all)) in
+      ∙ gap-shared xs (each-map IsFitInterval (λ p. (pin_range design table p).across) pins (each-weaker there (λ p. IsFitInterval (pin_range design table p).across) (λ p h. (near_range design items table ready p h).0) pins all)) in
       let y : to_nat (r.upward.low -ℤ r.upward.high) ≡ gap ys =
       ap (λ i. to_nat (i.low -ℤ i.high)) (range-upward anywhere pins)
-      ∙ gap-shared ys (each-map IsNear (λ p. (pin_range design table p).upward) pins (each-weaker there (λ p. IsNear (pin_range design table p).upward) (λ p h. (near_range design items table ready p h).1) pins all)) in
+      ∙ gap-shared ys (each-map IsFitInterval (λ p. (pin_range design table p).upward) pins (each-weaker there (λ p. IsFitInterval (pin_range design table p).upward) (λ p h. (near_range design items table ready p h).1) pins all)) in
       ap (λ n. n + to_nat (r.upward.low -ℤ r.upward.high)) x ∙ ap (λ n. gap xs + n) y

@@ -13,14 +13,14 @@ use Rattle.sf_curves.proofs.Members.{Contains-cons_cases, Contains-head, Contain
 use Rattle.sf_standard.specs.declared.hull.Extent.{Extent}
 use Rattle.sf_standard.specs.declared.hull.Offset.{Offset}
 use Rattle.sf_standard.specs.Items.{Item, items_of}
-use Rattle.sf_standard.specs.Hull.{offsets}
+use Rattle.sf_standard.specs.Hull.{offsets, extent_in}
 use Rattle.sf_standard.proofs.Listed.{Contains-map, Contains-from_map, count-cons, count-head}
 use Rattle.sf_bounds.specs.declared.layout.Home.{Home}
 use Rattle.sf_bounds.specs.declared.layout.Layout.{Layout}
 use Rattle.sf_bounds.specs.declared.layout.Seat.{Seat}
 use Rattle.sf_bounds.specs.declared.layout.Standing.{Standing}
-use Rattle.sf_bounds.specs.Layout.{extent_in, Tells, IsModestOffset, AreModest, held_of, seat_at, seats_from}
-use Rattle.sf_bounds.specs.Near.{IsNearby, anywhere}
+use Rattle.sf_bounds.specs.Layout.{Tells, IsModestOffset, AreModest, held_of, seat_at, seats_from}
+use Rattle.sf_bounds.specs.Ends.{IsFitReach, anywhere}
 use Rattle.sf_bounds.specs.Pins.{IsLayout, IsReadyAt, IsReady, extent_from, home_in, last_home, block_range, standing_at, standing_by}
 use Rattle.sf_standard.proofs.Sides.{IsSmallExtent, span-small}
 use Rattle.sf_bounds.proofs.ModestExtents.{are-modest}
@@ -180,14 +180,14 @@ module _ (design : Design) (node : Parts) (layout : Layout) (m : IsLayout design
       (are-modest extent (span-small design node) its (omega (arith, m.stack.few, ap length m.stack.laid.seats))))
 
   -- the range of a block of a small extent is near
-  near-range : (e : Extent) → IsSmallExtent 1048576 e → IsNearby (block_range design e)
+  near-range : (e : Extent) → IsSmallExtent 1048576 e → IsFitReach (block_range design e)
   near-range e s = (
     ((omega (arith, ints, s.least_w), omega (arith, ints, s.least_w)), (omega (arith, ints, s.least_w, design.limits.width.1), omega (arith, ints, s.least_w, design.limits.width.1))),
     ((omega (arith, ints, s.least_h), omega (arith, ints, s.least_h)), (omega (arith, ints, s.least_h, design.limits.height.1), omega (arith, ints, s.least_h, design.limits.height.1))),
   )
 
   -- the home of a block of a small extent at a modest place is near
-  near-home : (e : Extent) (s : Seat) → IsSmallExtent 1048576 e → IsModestOffset s.offset → IsNearby (home_in e s).reach
+  near-home : (e : Extent) (s : Seat) → IsSmallExtent 1048576 e → IsModestOffset s.offset → IsFitReach (home_in e s).reach
   near-home e s k o = (
     ((omega (arith, ints), omega (arith, ints, o.least_x, k.least_w)), (omega (arith, ints), omega (arith, ints, o.most_x, k.most_w))),
     ((omega (arith, ints), omega (arith, ints, o.least_y, k.least_h)), (omega (arith, ints), omega (arith, ints, o.most_y, k.most_h))),
@@ -198,15 +198,15 @@ module _ (design : Design) (node : Parts) (layout : Layout) (m : IsLayout design
   small b lt = subst (IsSmallExtent 1048576) (sym (extent-same b lt)) (span-small design node b)
 
   -- the home of a block is in an item that is there, and near
-  ready-home : (b : ℕ) → b < block_count design → IfSome (last_home (extent_from layout.extents.items) None b layout.seats.items) (λ h. (h.item < length layout.held.items) × IsNearby h.reach)
+  ready-home : (b : ℕ) → b < block_count design → IfSome (last_home (extent_from layout.extents.items) None b layout.seats.items) (λ h. (h.item < length layout.held.items) × IsFitReach h.reach)
   ready-home b lt =
-      let ready : Option Home → Type 0 = λ o. IfSome o (λ h. (h.item < length layout.held.items) × IsNearby h.reach) in
+      let ready : Option Home → Type 0 = λ o. IfSome o (λ h. (h.item < length layout.held.items) × IsFitReach h.reach) in
       elim (last-is (extent_from layout.extents.items) None b layout.seats.items) [
         | inl none ↦ subst ready (sym none) tt
         | inr k ↦ (let st = home-stands b k.0 lt (home-is b lt ∙ k.1) in
             subst ready (sym k.1) (
               omega (arith, st.inside, held-count),
-              subst (λ v. IsNearby v.reach) (sym k.2.is) (near-home (extent_from layout.extents.items k.2.seat.offset.block) k.2.seat (small k.2.seat.offset.block (omega (arith, k.2.block, lt))) (All-contains (λ s. IsModestOffset s.offset) layout.seats.items k.2.seat modest.offsets k.2.found)),
+              subst (λ v. IsFitReach v.reach) (sym k.2.is) (near-home (extent_from layout.extents.items k.2.seat.offset.block) k.2.seat (small k.2.seat.offset.block (omega (arith, k.2.block, lt))) (All-contains (λ s. IsModestOffset s.offset) layout.seats.items k.2.seat modest.offsets k.2.found)),
             ))
       ]
 

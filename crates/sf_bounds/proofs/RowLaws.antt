@@ -12,13 +12,12 @@ use Rattle.sf_standard.specs.declared.hull.Extent.{Extent}
 use Rattle.sf_standard.specs.declared.hull.Interval.{Interval}
 use Rattle.sf_standard.specs.declared.hull.Offset.{Offset}
 use Rattle.sf_standard.specs.Items as item
-use Rattle.sf_standard.specs.Items.{Item}
+use Rattle.sf_standard.specs.Items.{Item, item_in}
 use Rattle.sf_standard.specs.Hull.{to_nat, gap, item_extent, offsets, offset_x, offset_y, moved_right, moved_up, contains_pin, of_pins, pads_x, pads_y, hull_of}
-use Rattle.sf_frames.specs.Direction.{item_in}
-use Rattle.sf_frames.specs.declared.direction.Direction.{Direction}
-use Rattle.sf_frames.specs.declared.direction.Direction.TheVariants.{Beside, Above}
+use Rattle.sf_curves.specs.declared.direction.Direction.{Direction}
+use Rattle.sf_curves.specs.declared.direction.Direction.TheVariants.{Beside, Above}
 use Rattle.sf_bounds.specs.declared.reach.Reach.{Reach}
-use Rattle.sf_bounds.specs.Near.{IsNear, IsNearby, shared, met, endless, anywhere, reach_gap}
+use Rattle.sf_bounds.specs.Ends.{IsFitInterval, IsFitReach, shared, met, endless, anywhere, reach_gap}
 use Rattle.sf_bounds.specs.Pins.{pad_reach}
 use Rattle.sf_bounds.specs.Rows.{row, with_pad, pads_share, pushed, pushed_reach, joined_reach}
 use Rattle.sf_bounds.proofs.Meeting.{gap-shared}
@@ -94,15 +93,15 @@ module _ (extent : ℕ → Extent) (small : (b : ℕ) → IsSmallExtent 1048576 
   pin-homes-y i pins few = each-map IsHome (offset_y extent) (of_pins pins (offsets extent i)) (pins-each (λ o. IsHome (offset_y extent o)) pins (offsets extent i) (homes-y i few))
 
   -- intervals of homes are near
-  nears : (is : List Interval) → AllByRecursion IsHome is → AllByRecursion IsNear is
-  nears is h = each-weaker IsHome IsNear home-near is h
+  nears : (is : List Interval) → AllByRecursion IsHome is → AllByRecursion IsFitInterval is
+  nears is h = each-weaker IsHome IsFitInterval home-near is h
 
   -- the endless interval is near
-  near-endless : IsNear endless
+  near-endless : IsFitInterval endless
   near-endless = ((omega (arith, ints), omega (arith, ints)), (omega (arith, ints), omega (arith, ints)))
 
   -- what the pins' blocks in an item share is near
-  pub row-near : (i : Item) (pins : List Pin) → length (offsets extent i) ≤ 320 → IsNearby (row extent i pins)
+  pub row-near : (i : Item) (pins : List Pin) → length (offsets extent i) ≤ 320 → IsFitReach (row extent i pins)
   row-near i pins few = (
     near-share endless (map (offset_x extent) (of_pins pins (offsets extent i))) near-endless (nears (map (offset_x extent) (of_pins pins (offsets extent i))) (pin-homes-x i pins few)),
     near-share endless (map (offset_y extent) (of_pins pins (offsets extent i))) near-endless (nears (map (offset_y extent) (of_pins pins (offsets extent i))) (pin-homes-y i pins few)),
@@ -126,7 +125,7 @@ module _ (extent : ℕ → Extent) (small : (b : ℕ) → IsSmallExtent 1048576 
   pads-fold design r (pin.Pad q ∷ pins) = pads-fold design (met r (pad_reach design q)) pins
 
   -- with the pads
-  pub row-pads : (design : Design) (i : Item) (pins : List Pin) → length (offsets extent i) ≤ 320 → AllByRecursion IsNear (pads_x design pins) → AllByRecursion IsNear (pads_y design pins) → reach_gap (met (row extent i pins) (pads_share design pins)) ≡ hull_of design extent true pins i
+  pub row-pads : (design : Design) (i : Item) (pins : List Pin) → length (offsets extent i) ≤ 320 → AllByRecursion IsFitInterval (pads_x design pins) → AllByRecursion IsFitInterval (pads_y design pins) → reach_gap (met (row extent i pins) (pads_share design pins)) ≡ hull_of design extent true pins i
   row-pads design i pins few px py =
       let xs = map (offset_x extent) (of_pins pins (offsets extent i)) in
       let ys = map (offset_y extent) (of_pins pins (offsets extent i)) in
@@ -136,8 +135,8 @@ module _ (extent : ℕ → Extent) (small : (b : ℕ) → IsSmallExtent 1048576 
       ap (λ p. reach_gap (met (row extent i pins) p)) (pads-fold design anywhere pins)
       ∙ ap (λ (u : Interval). to_nat (u.low -ℤ u.high) + to_nat (v.low -ℤ v.high)) (sym (share-append xs (pads_x design pins)))
       ∙ ap (λ (u : Interval). to_nat ((fold shared endless ax).low -ℤ (fold shared endless ax).high) + to_nat (u.low -ℤ u.high)) (sym (share-append ys (pads_y design pins)))
-      ∙ ap (λ n. n + to_nat ((fold shared endless ay).low -ℤ (fold shared endless ay).high)) (gap-shared ax (each-append IsNear xs (pads_x design pins) (nears xs (pin-homes-x i pins few)) px))
-      ∙ ap (λ n. gap ax + n) (gap-shared ay (each-append IsNear ys (pads_y design pins) (nears ys (pin-homes-y i pins few)) py))
+      ∙ ap (λ n. n + to_nat ((fold shared endless ay).low -ℤ (fold shared endless ay).high)) (gap-shared ax (each-append IsFitInterval xs (pads_x design pins) (nears xs (pin-homes-x i pins few)) px))
+      ∙ ap (λ n. gap ax + n) (gap-shared ay (each-append IsFitInterval ys (pads_y design pins) (nears ys (pin-homes-y i pins few)) py))
 
   module _ (l r : Item) (pins : List Pin) where
     -- the extent of the left item
@@ -212,10 +211,10 @@ module _ (extent : ℕ → Extent) (small : (b : ℕ) → IsSmallExtent 1048576 
         (along (moved_up e) (offset_y extent) e.least_h e.most_h (λ o. refl) up-y (pin-homes-y r pins (few-right (moved_up e) few)) (back-homes (offset_y extent) (moved_up e) (homes-y (item.Above l r) few)))
 
     -- it is near
-    pub pushed-near : (d : Direction) → length (offsets extent (item_in d l r)) ≤ 320 → IsNearby (pushed_reach d e (row extent r pins))
-    pushed-near d few = subst IsNearby (pushed-is d few) (own d few)
+    pub pushed-near : (d : Direction) → length (offsets extent (item_in d l r)) ≤ 320 → IsFitReach (pushed_reach d e (row extent r pins))
+    pushed-near d few = subst IsFitReach (pushed-is d few) (own d few)
       where
-        own : (d : Direction) → length (offsets extent (item_in d l r)) ≤ 320 → IsNearby (pushed-row d)
+        own : (d : Direction) → length (offsets extent (item_in d l r)) ≤ 320 → IsFitReach (pushed-row d)
         own Beside few = (
           near-share endless (map (offset_x extent) (of_pins pins (map (moved_right e) (offsets extent r)))) near-endless (nears (map (offset_x extent) (of_pins pins (map (moved_right e) (offsets extent r)))) (back-homes (offset_x extent) (moved_right e) (homes-x (item.Beside l r) few))),
           near-share endless (map (offset_y extent) (of_pins pins (map (moved_right e) (offsets extent r)))) near-endless (nears (map (offset_y extent) (of_pins pins (map (moved_right e) (offsets extent r)))) (back-homes (offset_y extent) (moved_right e) (homes-y (item.Beside l r) few))),

@@ -9,7 +9,7 @@ use Rattle.sf_bounds.specs.declared.layout.Home.{Home}
 use Rattle.sf_bounds.specs.declared.layout.Seat.{Seat}
 use Rattle.sf_bounds.specs.declared.layout.Standing.{Standing}
 use Rattle.sf_bounds.specs.Layout.{Tells}
-use Rattle.sf_bounds.specs.Near.{anywhere}
+use Rattle.sf_bounds.specs.Ends.{anywhere}
 use Rattle.sf_bounds.specs.Pins.{extent_from, home_in, last_home, standing_of, standing_at, standing_by}
 
 -- with one seat more, the last home of its block is that of this seat, and of any other block the one before

@@ -5,7 +5,7 @@ use Rattle.std.specs.List.{AllByRecursion}
 use Rattle.std.proofs.lemmas.Int.{ints, clamps}
 use Rattle.std.proofs.lemmas.Bool.{cond-false}
 use Rattle.sf_standard.specs.declared.hull.Interval.{Interval}
-use Rattle.sf_bounds.specs.Near.{IsNear, shared, endless}
+use Rattle.sf_bounds.specs.Ends.{IsFitInterval, shared, endless}
 use Rattle.sf_bounds.specs.Rows.{pushed}
 
 -- intervals with equal ends are equal
@@ -51,7 +51,7 @@ pub record IsHome (i : Interval) : Type 0 where
   pub high_small : i.high ≤ℤ pos 700000000
 
 -- an interval of a home is near
-pub home-near : (i : Interval) → IsHome i → IsNear i
+pub home-near : (i : Interval) → IsHome i → IsFitInterval i
 home-near i h = ((omega (arith, ints, h.low), h.low_small), (omega (arith, ints, h.high), h.high_small))
 
 -- the interval with its lower end moved by 2 a and its upper one by 2 b
@@ -89,13 +89,13 @@ share-moved a b (i ∷ is) h k =
     ∙ ap (λ v. pushed a b (fold shared v is)) (sym (first-home i h.0))
 
 -- what two near intervals share is near
-near-shared : (i j : Interval) → IsNear i → IsNear j → IsNear (shared i j)
+near-shared : (i j : Interval) → IsFitInterval i → IsFitInterval j → IsFitInterval (shared i j)
 near-shared i j h k = (
   (omega (arith, ints, clamps, h.0.0, k.0.0), omega (arith, ints, clamps, h.0.1, k.0.1)),
   (omega (arith, ints, clamps, h.1.0, k.1.0), omega (arith, ints, clamps, h.1.1, k.1.1)),
 )
 
 -- what near ones share is near
-pub near-share : (z : Interval) (is : List Interval) → IsNear z → AllByRecursion IsNear is → IsNear (fold shared z is)
+pub near-share : (z : Interval) (is : List Interval) → IsFitInterval z → AllByRecursion IsFitInterval is → IsFitInterval (fold shared z is)
 near-share z [] h k = h
 near-share z (i ∷ is) h k = near-share (shared z i) is (near-shared z i h k.0) k.1

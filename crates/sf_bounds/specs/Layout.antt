@@ -8,16 +8,12 @@ use Rattle.sf_polish.specs.declared.expr.Token.TheVariants as token
 use Rattle.sf_node.specs.Parts.{Parts}
 use Rattle.sf_standard.specs.declared.hull.Extent.{Extent}
 use Rattle.sf_standard.specs.declared.hull.Offset.{Offset}
-use Rattle.sf_standard.specs.Items.{Item, items_of, span_shapes}
-use Rattle.sf_standard.specs.Hull.{extent_of, item_extent, offsets, moved_right, moved_up}
-use Rattle.sf_frames.specs.declared.direction.Direction.{Direction}
-use Rattle.sf_frames.specs.declared.direction.Direction.TheVariants as way
+use Rattle.sf_standard.specs.Items.{Item, items_of}
+use Rattle.sf_standard.specs.Hull.{item_extent, offsets, moved_right, moved_up, extent_in}
+use Rattle.sf_curves.specs.declared.direction.Direction.{Direction}
+use Rattle.sf_curves.specs.declared.direction.Direction.TheVariants as way
 use Rattle.sf_bounds.specs.declared.layout.Held.{Held}
 use Rattle.sf_bounds.specs.declared.layout.Seat.{Seat}
-
--- the extent of each block in its span
-abbrev pub extent_in : Design → Parts → ℕ → Extent
-extent_in design node b = extent_of (span_shapes design node b)
 
 -- of one shape, and of some with one more
 abbrev pub single_extent : Shape → Extent

@@ -3,7 +3,7 @@ pub mod Serving
 pub mod Curves
 pub mod Layout
 pub mod Least
-pub mod Near
+pub mod Ends
 pub mod Only
 pub mod Open
 pub mod Pins

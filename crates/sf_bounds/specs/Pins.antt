@@ -8,15 +8,15 @@ use Rattle.sf_model.specs.Limits.{pin_number, pin_count}
 use Rattle.sf_model.specs.Wire.{pad_at}
 use Rattle.sf_node.specs.Parts.{Parts}
 use Rattle.sf_standard.specs.declared.hull.Extent.{Extent}
-use Rattle.sf_standard.specs.Hull.{point, small_side}
+use Rattle.sf_standard.specs.Hull.{point, small_side, extent_in}
 use Rattle.sf_bounds.specs.declared.layout.Home.{Home}
 use Rattle.sf_bounds.specs.declared.layout.Layout.{Layout}
 use Rattle.sf_bounds.specs.declared.layout.Seat.{Seat}
 use Rattle.sf_bounds.specs.declared.layout.Standing.{Standing}
 use Rattle.sf_bounds.specs.declared.pins.Pair.{Pair}
 use Rattle.sf_bounds.specs.declared.reach.Reach.{Reach}
-use Rattle.sf_bounds.specs.Layout.{extent_in, Tells, AreSeated}
-use Rattle.sf_bounds.specs.Near.{IsNearby, met, anywhere, reach_gap}
+use Rattle.sf_bounds.specs.Layout.{Tells, AreSeated}
+use Rattle.sf_bounds.specs.Ends.{IsFitReach, met, anywhere, reach_gap}
 
 -- the blocks and pads of a net are there
 abbrev pub IsNet : Design → List Pin → Type 0
@@ -65,8 +65,8 @@ pub record IsLayout (design : Design) (node : Parts) (layout : Layout) : Type 0 
 -- numbers that fit, and an item that is there
 pub record IsReadyAt (items : ℕ) (s : Standing) : Type 0 where
   pub side : s.side ≤ 1048576
-  pub range : IsNearby s.range
-  pub home : IfSome s.home (λ h. (h.item < items) × IsNearby h.reach)
+  pub range : IsFitReach s.range
+  pub home : IfSome s.home (λ h. (h.item < items) × IsFitReach h.reach)
 
 -- a table that pins can be read by
 pub record IsReady (design : Design) (items : ℕ) (table : List Standing) : Type 0 where

@@ -16,10 +16,10 @@ use Rattle.sf_standard.specs.declared.hull.Extent.{Extent}
 use Rattle.sf_standard.specs.declared.hull.Interval.{Interval}
 use Rattle.sf_standard.specs.Items.{Item, Block}
 use Rattle.sf_standard.specs.Standard.{net_part, wires_by}
-use Rattle.sf_standard.specs.Hull.{item_extent, offsets, offset_x, offset_y, of_pins, contains_pin, range_part, pair_part, hull_part}
-use Rattle.sf_frames.specs.declared.direction.Direction.{Direction}
-use Rattle.sf_frames.specs.declared.direction.Direction.TheVariants as way
-use Rattle.sf_frames.specs.Direction.{token_in}
+use Rattle.sf_standard.specs.Hull.{item_extent, offsets, offset_x, offset_y, of_pins, contains_pin, range_part, pair_part, hull_part, extent_in}
+use Rattle.sf_curves.specs.declared.direction.Direction.{Direction}
+use Rattle.sf_curves.specs.declared.direction.Direction.TheVariants as way
+use Rattle.sf_curves.specs.Direction.{token_in}
 use Rattle.sf_frames.specs.Kept.{items_at, IsNext}
 use Rattle.sf_bounds.specs.declared.net_frame.BlockRow.{BlockRow}
 use Rattle.sf_bounds.specs.declared.net_frame.Changing.{Changing}
@@ -31,9 +31,8 @@ use Rattle.sf_bounds.specs.declared.net_frame.NetFrame.{NetFrame}
 use Rattle.sf_bounds.specs.declared.net_frame.Nets.{Nets}
 use Rattle.sf_bounds.specs.declared.net_frame.Wires.{Wires}
 use Rattle.sf_bounds.specs.declared.reach.Reach.{Reach}
-use Rattle.sf_bounds.specs.Layout.{extent_in}
 use Rattle.sf_bounds.specs.Pins.{pad_reach}
-use Rattle.sf_bounds.specs.Near.{IsNearby, shared, met, endless, anywhere, reach_gap}
+use Rattle.sf_bounds.specs.Ends.{IsFitReach, shared, met, endless, anywhere, reach_gap}
 
 -- the pins that count: none where they are fewer than two
 abbrev pub counted : List Pin → List Pin
@@ -143,7 +142,7 @@ pub record AreSums (weights : List ℕ) (cell : ℕ → Cell) (n : ℕ) (w : Wir
 
 -- numbers that fit
 pub record IsFitCell (c : Cell) : Type 0 where
-  pub near : IsNearby c.reach
+  pub near : IsFitReach c.reach
   pub small : c.part ≤ 2800000000
   pub hull : c.hull ≤ 2800000000
 

@@ -2,8 +2,8 @@
 
 ghost use Rattle.std.specs.Prelude.{◌≡◌, ◌<◌, ◌≤◌, length, slice_range, OnOk};
 ghost use Rattle.sf_node.specs.Children.{IsSubproblem};
-ghost use Rattle.sf_standard.specs.Hull.{extent_of};
-ghost use Rattle.sf_bounds.specs.Layout.{extent_in, single_extent, with_shape, Tells};
+ghost use Rattle.sf_standard.specs.Hull.{extent_of, extent_in};
+ghost use Rattle.sf_bounds.specs.Layout.{single_extent, with_shape, Tells};
 
 use sf_model::{Design, Shape};
 use sf_node::Node;

@@ -4,7 +4,7 @@ ghost use Rattle.std.specs.Prelude.{◌≡◌, ◌<◌, ◌≤◌, ℕ, length, 
 ghost use Rattle.sf_model.specs.Limits.{pin_number, pin_count};
 ghost use Rattle.sf_bounds.specs.Pins.{IsNet, IsReady};
 ghost use Rattle.sf_bounds.specs.Pins.{pin_home, narrowed_in, home_gap, shared_in, greatest_gap};
-ghost use Rattle.sf_bounds.specs.Near.{anywhere, IsNearby};
+ghost use Rattle.sf_bounds.specs.Ends.{anywhere, IsFitReach};
 
 use crate::layout::{Home, Standing};
 use crate::meet::{met, reach_gap};
@@ -55,7 +55,7 @@ fn gather(reaches: &mut [Reach], design: &Design, table: &[Standing], pins: &[Pi
 /// The gap of a pin's item, where it has one.
 fn gap_at(reaches: &[Reach], home: Option<Home>) -> u64
     requires inside { IfSome home (λ h. h.item < length reaches.now) }
-    requires near { IfSome home (λ h. IsNearby (slice_index_or reaches.now h.item anywhere)) }
+    requires near { IfSome home (λ h. IsFitReach (slice_index_or reaches.now h.item anywhere)) }
     ensures is { result ≡ home_gap (λ i. slice_index_or reaches.now i anywhere) home }
     ensures small { result ≤ 2800000000 }
 {
@@ -70,7 +70,7 @@ fn greatest_gap(reaches: &[Reach], design: &Design, table: &[Standing], pins: &[
     requires ready { IsReady design.now (length reaches.now) table.now }
     requires inside { IsNet design.now pins.now }
     requires near { All (λ p. IfSome (pin_home design.now table.now false p)
-        (λ h. IsNearby (slice_index_or reaches.now h.item anywhere))) pins.now }
+        (λ h. IsFitReach (slice_index_or reaches.now h.item anywhere))) pins.now }
     ensures is { result
         ≡ greatest_gap design.now table.now false (λ i. slice_index_or reaches.now i anywhere) pins.now }
     ensures small { result ≤ 2800000000 }

@@ -3,12 +3,13 @@
 ghost use Rattle.std.specs.Prelude.{◌≡◌, ◌≤◌, ◌-◌, ◌++◌, length, map, take, drop, All, OnOk};
 ghost use Rattle.sf_node.specs.Children.{IsSubproblem};
 ghost use Rattle.sf_bounds.specs.Curves.{HasOperands};
-ghost use Rattle.sf_bounds.specs.Layout.{extent_in, Tells, joined_extent, moved, reseated, own_seat};
+ghost use Rattle.sf_standard.specs.Hull.{extent_in};
+ghost use Rattle.sf_bounds.specs.Layout.{Tells, joined_extent, moved, reseated, own_seat};
 ghost use Rattle.sf_bounds.specs.Layout.{JoinsTop, Lays, AreSeated};
 ghost use Rattle.sf_bounds.specs.Layout.{AreModest, IsModestExtent, IsModestOffset};
 
 use crate::layout::{Held, Seat};
-use sf_frames::direction::Direction;
+use sf_curves::Direction;
 use sf_model::Design;
 use sf_node::Node;
 use sf_polish::Token;

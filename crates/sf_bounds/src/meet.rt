@@ -2,7 +2,7 @@
 
 ghost use Rattle.std.specs.Prelude.{◌≡◌, ◌≤◌, ◌-ℤ◌};
 ghost use Rattle.sf_standard.specs.Hull.{to_nat};
-ghost use Rattle.sf_bounds.specs.Near.{IsNear, IsNearby, shared, met, reach_gap};
+ghost use Rattle.sf_bounds.specs.Ends.{IsFitInterval, IsFitReach, shared, met, reach_gap};
 
 use crate::reach::Reach;
 use sf_standard::Interval;
@@ -20,7 +20,7 @@ fn shared(first: Interval, second: Interval) -> Interval
 /// What two reaches share.
 pub fn met(first: Reach, second: Reach) -> Reach
     ensures is { result ≡ met first second }
-    ensures near { IsNearby first → IsNearby second → IsNearby result }
+    ensures near { IsFitReach first → IsFitReach second → IsFitReach result }
 {
     Reach {
         across: shared(first.across, second.across),
@@ -29,9 +29,9 @@ pub fn met(first: Reach, second: Reach) -> Reach
 }
 
 /// How far the lower end lies above the upper one, or 0.
-#[tactic(auto, using(crate::proofs::Nearby::to_nat_none, crate::proofs::Nearby::to_nat_abs))]
+#[tactic(auto, using(crate::proofs::ToNat::to_nat_none, crate::proofs::ToNat::to_nat_abs))]
 fn difference(interval: Interval) -> u64
-    requires near { IsNear interval }
+    requires near { IsFitInterval interval }
     ensures is { result ≡ to_nat (interval.low -ℤ interval.high) }
     ensures small { result ≤ 1400000000 }
 {
@@ -43,7 +43,7 @@ fn difference(interval: Interval) -> u64
 
 /// How far apart the ends are, across and upward.
 pub fn reach_gap(reach: Reach) -> u64
-    requires near { IsNearby reach }
+    requires near { IsFitReach reach }
     ensures is { result ≡ reach_gap reach }
     ensures small { result ≤ 2800000000 }
 {

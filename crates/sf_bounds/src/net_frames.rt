@@ -108,18 +108,20 @@ impl<'a> NetFrames<'a> {
         NetFrames { design, kept: None }
     }
 
-    /// What the wires of a subproblem take at least by each part of the bound, whose spans are whole. Or
-    /// none, where the rows of a path may need too many cells, or one block is all there is.
+    /// What the wires of a subproblem take at least by each part of the bound. Or none, where a span is not
+    /// whole, the rows of a path may need too many cells, or one block is all there is.
     pub fn measure(
         &mut self,
         scratch: &mut Scratch,
         node: &Node,
     ) -> Result<Option<WireParts>, NoMemory>
         requires subproblem { IsSubproblem self.old node.now }
-        requires whole { length node.now.steps ≡ length node.now.tokens }
         ensures measured { IfOk result (λ found. IfSome found (AreWireParts self.old node.now)) }
         ensures same { self.new ≡ self.old }
     {
+        if node.steps().len() != node.tokens().len() {
+            return Ok(None);
+        }
         let design = self.design;
         let Some(ending) = follow(&mut self.kept, scratch, design, node)? else {
             return Ok(None);
@@ -178,8 +180,7 @@ impl<'a> NetFrames<'a> {
         Ok(Some(total_by(nets, design, node, ending, part)))
     }
 
-    /// What the wires of a subproblem take at least by one part of the bound, whose spans are whole; none
-    /// in the same cases.
+    /// What the wires of a subproblem take at least by one part of the bound; none in the same cases.
     pub fn measure_part(
         &mut self,
         scratch: &mut Scratch,
@@ -187,11 +188,13 @@ impl<'a> NetFrames<'a> {
         part: Part,
     ) -> Result<Option<u64>, NoMemory>
         requires subproblem { IsSubproblem self.old node.now }
-        requires whole { length node.now.steps ≡ length node.now.tokens }
         ensures measured { IfOk result (λ found. IfSome found (λ wires.
             wires ≡ wires_by self.old node.now part)) }
         ensures same { self.new ≡ self.old }
     {
+        if node.steps().len() != node.tokens().len() {
+            return Ok(None);
+        }
         match part {
             Part::Area => Ok(None),
             Part::Range => match self.measure_steady(scratch, node)? {

@@ -3,14 +3,14 @@
 ghost use Rattle.std.specs.Prelude.{◌≡◌, ◌<◌, ◌≤◌, ◌+◌, length, IfOk, OnOk};
 ghost use Rattle.sf_polish.specs.declared.expr.Token.TheVariants as token;
 ghost use Rattle.sf_node.specs.Children.{IsSubproblem};
-ghost use Rattle.sf_frames.specs.Direction.{token_in};
+ghost use Rattle.sf_curves.specs.Direction.{token_in};
 ghost use Rattle.sf_frames.specs.Kept.{items_at, IsNext};
 ghost use Rattle.sf_bounds.specs.Rows.{AreKept, AreTop, AreWires};
 
 use crate::laying::joined_extent;
 use crate::net_frame::{BlockRow, NetFrame, Nets, Wires};
 use crate::net_rows::join_rows;
-use sf_frames::direction::{Direction, operator};
+use sf_curves::{Direction, operator};
 use sf_model::Design;
 use sf_node::Node;
 use sf_polish::Token;

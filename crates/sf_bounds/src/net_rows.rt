@@ -2,7 +2,7 @@
 
 ghost use Rattle.std.specs.Prelude.{◌≡◌, ◌<◌, ◌≤◌, ◌+◌, ◌*◌, ◌++◌, ℕ, length, map, All, IfOk};
 ghost use Rattle.std.specs.List.{range_with_len};
-ghost use Rattle.sf_bounds.specs.Near.{IsNearby};
+ghost use Rattle.sf_bounds.specs.Ends.{IsFitReach};
 ghost use Rattle.sf_bounds.specs.Rows.{pushed, pushed_reach, joined_reach, cell_of, joined_cell, cell_at};
 ghost use Rattle.sf_bounds.specs.Rows.{AreSums, AreSmall, IsFitCell, IsLonger};
 
@@ -10,13 +10,13 @@ use crate::meet::{met, reach_gap};
 use crate::net_frame::{Cell, Wires};
 use crate::reach::Reach;
 use crate::wires::weighed;
-use sf_frames::direction::Direction;
+use sf_curves::Direction;
 use sf_standard::{Extent, Interval};
 use std::alloc::AllocError as NoMemory;
 
 /// An interval in the right or upper item, from the corner of both; what no block narrowed stays.
 fn pushed(least: u32, most: u32, interval: Interval) -> Interval
-    requires { IsNearby (record { across = interval; upward = interval }) }
+    requires { IsFitReach (record { across = interval; upward = interval }) }
     ensures { result ≡ pushed least most interval }
 {
     if interval.low < 0 {
@@ -30,7 +30,7 @@ fn pushed(least: u32, most: u32, interval: Interval) -> Interval
 
 /// A reach in the right or upper item, from the corner of both.
 fn pushed_reach(direction: Direction, by: Extent, reach: Reach) -> Reach
-    requires { IsNearby reach }
+    requires { IsFitReach reach }
     ensures { result ≡ pushed_reach direction by reach }
 {
     match direction {
@@ -47,11 +47,11 @@ fn pushed_reach(direction: Direction, by: Extent, reach: Reach) -> Reach
 
 /// What two joined items share.
 pub fn joined_reach(direction: Direction, by: Extent, left: Reach, right: Reach) -> Reach
-    requires left { IsNearby left }
-    requires right { IsNearby right }
-    requires moved { IsNearby (pushed_reach direction by right) }
+    requires left { IsFitReach left }
+    requires right { IsFitReach right }
+    requires moved { IsFitReach (pushed_reach direction by right) }
     ensures is { result ≡ joined_reach direction by left right }
-    ensures near { IsNearby result }
+    ensures near { IsFitReach result }
 {
     let moved = pushed_reach(direction, by, right);
     met(left, moved)
@@ -62,7 +62,7 @@ fn joined_cell(direction: Direction, by: Extent, left: Cell, right: Cell, under:
     requires left { IsFitCell left }
     requires right { IsFitCell right }
     requires under { IsFitCell under }
-    requires moved { IsNearby (pushed_reach direction by right.reach) }
+    requires moved { IsFitReach (pushed_reach direction by right.reach) }
     ensures is { result ≡ cell_of direction by left right under }
     ensures fit { IsFitCell result }
 {
@@ -111,7 +111,7 @@ pub fn join_rows(
     requires few { length weights.now ≤ 65536 }
     requires fit { All IsFitCell cells.old.items }
     requires near { (j : ℕ) → j < length weights.now
-        → IsNearby (pushed_reach direction by (cell_at cells.old.items (right + j)).reach) }
+        → IsFitReach (pushed_reach direction by (cell_at cells.old.items (right + j)).reach) }
     ensures row { IfOk result (λ _. cells.new.items
         ≡ cells.old.items
         ++ map (joined_cell cells.old.items direction by left right under)

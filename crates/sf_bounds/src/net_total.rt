@@ -4,9 +4,9 @@ ghost use Rattle.std.specs.Prelude.{◌≡◌, ◌<◌, ◌≤◌, ◌+◌, leng
 ghost use Rattle.sf_node.specs.declared.part.Part.TheVariants.{Range, Pair, Hull};
 ghost use Rattle.sf_node.specs.Children.{IsSubproblem};
 ghost use Rattle.sf_standard.specs.Standard.{wire_part, wires_by};
-ghost use Rattle.sf_frames.specs.Direction.{token_in};
+ghost use Rattle.sf_curves.specs.Direction.{token_in};
 ghost use Rattle.sf_frames.specs.Kept.{IsNext};
-ghost use Rattle.sf_bounds.specs.Near.{IsNearby, met, reach_gap};
+ghost use Rattle.sf_bounds.specs.Ends.{IsFitReach, met, reach_gap};
 ghost use Rattle.sf_bounds.specs.Open.{AreWireParts};
 ghost use Rattle.sf_bounds.specs.declared.net_frame.Ending.TheVariants.{Joined};
 ghost use Rattle.sf_bounds.specs.Rows.{pushed_reach, joined_reach, cell_at, framed};
@@ -19,7 +19,7 @@ use crate::net_push::{top_pair, wires_after};
 use crate::net_rows::joined_reach;
 use crate::wire_parts::WireParts;
 use crate::wires::weighed;
-use sf_frames::direction::Direction;
+use sf_curves::Direction;
 use sf_model::Design;
 use sf_node::Node;
 use sf_polish::Token;
@@ -61,7 +61,7 @@ fn gap_with_pads(direction: Direction, by: Extent, left: Cell, right: Cell, pads
     requires left { IsFitCell left }
     requires right { IsFitCell right }
     requires pads { IsFitCell pads }
-    requires moved { IsNearby (pushed_reach direction by right.reach) }
+    requires moved { IsFitReach (pushed_reach direction by right.reach) }
     ensures is { result ≡ reach_gap (met (joined_reach direction by left.reach right.reach) pads.reach) }
     ensures small { result ≤ 2800000000 }
 {

@@ -18,31 +18,25 @@ use sf_node::{Node, Part, PartValues};
 use sf_standard::laws::{standard_is_open, wires_are_bounded};
 use std::alloc::AllocError as NoMemory;
 
-/// What the wires take at least by each part of the bound: by the rows of the path where each span is whole,
-/// else anew.
-fn wires_of(
-    nets: &mut NetFrames,
-    scratch: &mut Scratch,
-    design: &Design,
-    node: &Node,
-) -> Result<WireParts, NoMemory>
-    requires subproblem { IsSubproblem design.now node.now }
-    requires serves { nets.old ≡ design.now }
-    ensures wires { IfOk result (AreWireParts design.now node.now) }
-    ensures serves { nets.new ≡ design.now }
+/// What wires cost that take so much at least.
+fn costs_of(wires: WireParts, design: &Design, node: &Node) -> WireParts
+    requires plans { AllHavePlans design.now node.now }
+    requires wires { AreWireParts design.now node.now wires }
+    ensures { AreWireCosts design.now node.now result }
 {
-    if node.steps().len() == node.tokens().len() {
-        let measured = nets.measure(scratch, node)?;
-        if let Some(wires) = measured {
-            return Ok(wires);
-        }
+    wires_are_bounded();
+    let weight = u64::from(design.weights.wire);
+    WireParts {
+        range: weight * wires.range,
+        pair: weight * wires.pair,
+        hull: weight * wires.hull,
+        full: weight * wires.full,
     }
-    let wires = all_wires(scratch, design, node)?;
-    Ok(wires)
 }
 
-/// What they cost, where each item and each unused block has a plan in the outline. They are not looked at
-/// where they have no weight.
+/// What the wires cost at least by each part of the bound, where each item and each unused block has a plan
+/// in the outline: by the rows of the path where there are any, else anew. They are not looked at where they
+/// have no weight.
 fn wire_costs(
     nets: &mut NetFrames,
     scratch: &mut Scratch,
@@ -58,43 +52,15 @@ fn wire_costs(
     if design.weights.wire == 0 {
         return Ok(wire_parts::NONE);
     }
-    let wires = wires_of(nets, scratch, design, node)?;
-    wires_are_bounded();
-    let weight = u64::from(design.weights.wire);
-    Ok(WireParts {
-        range: weight * wires.range,
-        pair: weight * wires.pair,
-        hull: weight * wires.hull,
-        full: weight * wires.full,
-    })
-}
-
-/// The same by one part of the bound alone.
-fn wires_of_part(
-    nets: &mut NetFrames,
-    scratch: &mut Scratch,
-    design: &Design,
-    node: &Node,
-    part: Part,
-) -> Result<u64, NoMemory>
-    requires subproblem { IsSubproblem design.now node.now }
-    requires serves { nets.old ≡ design.now }
-    ensures wires { IfOk result (λ wires. wires ≡ wires_by design.now node.now part) }
-    ensures serves { nets.new ≡ design.now }
-{
-    if node.steps().len() == node.tokens().len() {
-        let measured = nets.measure_part(scratch, node, part)?;
-        if let Some(wires) = measured {
-            return Ok(wires);
-        }
+    if let Some(wires) = nets.measure(scratch, node)? {
+        return Ok(costs_of(wires, design, node));
     }
-    let wires = wires_by(scratch, design, node, part)?;
-    Ok(wires)
+    let wires = all_wires(scratch, design, node)?;
+    Ok(costs_of(wires, design, node))
 }
 
-/// What the wires cost by one part of the bound alone, where each item and each unused block has a plan in
-/// the outline. They are not looked at where they have no weight. It stands apart, so that a leaf which asks
-/// for the area alone pays nothing for what the wires need.
+/// The same by one part of the bound alone. It stands apart, so that a leaf which asks for the area alone
+/// pays nothing for what the wires need.
 #[inline(never)]
 fn wire_cost(
     nets: &mut NetFrames,
@@ -111,12 +77,16 @@ fn wire_cost(
     ensures small { IfOk result (λ cost. cost ≤ 2 ^ 63) }
     ensures serves { nets.new ≡ design.now }
 {
-    if design.weights.wire == 0 {
+    let weight = u64::from(design.weights.wire);
+    if weight == 0 {
         return Ok(0);
     }
-    let wires = wires_of_part(nets, scratch, design, node, part)?;
     wires_are_bounded();
-    Ok(u64::from(design.weights.wire) * wires)
+    if let Some(wires) = nets.measure_part(scratch, node, part)? {
+        return Ok(weight * wires);
+    }
+    let wires = wires_by(scratch, design, node, part)?;
+    Ok(weight * wires)
 }
 
 /// The value of the bound, and the values of the parts below it.

@@ -2,7 +2,7 @@
 
 ghost use Rattle.std.specs.Prelude.{◌≡◌, ◌<◌, ◌≤◌, length, All, IfSome, max, true, false};
 ghost use Rattle.sf_model.specs.Limits.{pin_number, pin_count};
-ghost use Rattle.sf_bounds.specs.Near.{IsNearby, reach_gap};
+ghost use Rattle.sf_bounds.specs.Ends.{IsFitReach, reach_gap};
 ghost use Rattle.sf_bounds.specs.Open.{AreAtMost};
 ghost use Rattle.sf_bounds.specs.Pins.{IsNet, IsReady, IsReadable, pad_reach, pin_range, pin_home};
 ghost use Rattle.sf_bounds.specs.Pins.{narrowed, paired, pairs_pin, greatest_gap};
@@ -125,11 +125,11 @@ pub fn pin_parts(design: &Design, table: &[Standing], pins: &[Pin]) -> PinParts
     requires ready { IsReadable design.now table.now }
     requires inside { IsNet design.now pins.now }
     ensures range { result.range ≡ shared_ranges design.now table.now pins.now }
-    ensures near_range { IsNearby result.range }
+    ensures near_range { IsFitReach result.range }
     ensures pair { result.pair ≡ paired_sides table.now pins.now }
     ensures small_pair { result.pair.sum ≤ 2800000000 }
     ensures hull { result.hull ≡ shared_homes design.now table.now pins.now }
-    ensures near_hull { IsNearby result.hull }
+    ensures near_hull { IsFitReach result.hull }
 {
     let mut range = ANYWHERE;
     let mut pair = NO_PAIR;

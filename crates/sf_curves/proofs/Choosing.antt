@@ -13,7 +13,8 @@ use Rattle.sf_polish.specs.Postfix.{postfix}
 use Rattle.sf_polish.specs.Shaping.{no_shape}
 use Rattle.sf_curves.specs.declared.curve_tree.CurveTree.{CurveTree}
 use Rattle.sf_curves.specs.declared.curve_tree.CurveTree.TheVariants as tree
-use Rattle.sf_curves.specs.Choices.{shapes_in, IsChoice, IsRootCurve, TakesFrom, size_of}
+use Rattle.sf_model.specs.Spans.{shapes_in}
+use Rattle.sf_curves.specs.Choices.{IsChoice, IsRootCurve, TakesFrom, size_of}
 use Rattle.sf_curves.specs.Forms.{form, curve_of, form_of, IsCurveTree, IsTraced, IsChosen, IsSized}
 use Rattle.sf_curves.specs.Points.{IsSlimmer, IsWithin, IsNoLarger, IsCovered, CoversJoins, IsJoinOf, beside_size, above_size}
 use Rattle.sf_curves.proofs.Forms.{same-form, form-tokens}

@@ -11,7 +11,8 @@ use Rattle.sf_polish.specs.Normal.{IsNormal}
 use Rattle.sf_polish.specs.Postfix.{postfix, IsSkewed, shape_at, Spells}
 use Rattle.sf_polish.specs.Shaping.{no_shape, with_leaves}
 use Rattle.sf_polish.proofs.Normality.{normal-spelled}
-use Rattle.sf_polish.proofs.Shaped.{once-below, once-of_normal, spelled-by}
+use Rattle.sf_polish.proofs.Shaped.{once-of_normal, spelled-by}
+use Rattle.sf_model.proofs.BlocksBelow.{once-below}
 use Rattle.sf_polish.proofs.Spelling.{HasShapes, spells-one}
 use Rattle.sf_curves.specs.declared.curve_tree.CurveTree.{CurveTree}
 use Rattle.sf_curves.specs.declared.curve_tree.CurveTree.TheVariants as tree

@@ -1,21 +1,14 @@
 -- The plans with given tokens and with shapes from given spans, and the curve of their sizes.
-use Rattle.std.specs.Prelude.{◌≡◌, ℕ, ◌<◌, ◌≤◌, List, length, All, AllPairs, Contains, slice_index_or, slice_range}
+use Rattle.std.specs.Prelude.{◌≡◌, ℕ, ◌<◌, ◌≤◌, List, length, All, AllPairs, Contains}
 use Rattle.sf_model.specs.declared.design.Design.{Design}
 use Rattle.sf_model.specs.declared.parts.Shape.{Shape}
 use Rattle.sf_model.specs.Legal.{block_count, shapes_of}
+use Rattle.sf_model.specs.Spans.{span_in, shapes_in}
 use Rattle.sf_model.specs.Tree.{Tree, Leaf, Beside, Above, width, height, leaves}
 use Rattle.sf_polish.specs.declared.expr.Expr.{Expr}
 use Rattle.sf_polish.specs.declared.expr.Token.{Token}
 use Rattle.sf_polish.specs.Postfix.{postfix, Spells}
 use Rattle.sf_curves.specs.Points.{IsSlimmer, IsWithin, IsCovered, IsNarrowest, IsLowest}
-
--- the span of a block: from the first place of its list, and before the second
-abbrev pub span_in : List (ℕ × ℕ) → ℕ → ℕ × ℕ
-span_in spans b = slice_index_or spans b (0, 0)
-
--- the shapes of a block at the places of its span
-abbrev pub shapes_in : Design → List (ℕ × ℕ) → ℕ → List Shape
-shapes_in design spans b = slice_range (shapes_of design b) (span_in spans b).0 (span_in spans b).1
 
 -- one span for each block, not empty and within the block's list
 pub record AreSpans (design : Design) (spans : List (ℕ × ℕ)) : Type 0 where

@@ -6,7 +6,7 @@ use Rattle.sf_model.specs.Tree.{Tree, Leaf, Beside, Above}
 use Rattle.sf_polish.specs.Shaping.{no_shape}
 use Rattle.sf_curves.specs.declared.curve_tree.CurveTree.{CurveTree}
 use Rattle.sf_curves.specs.declared.curve_tree.CurveTree.TheVariants as tree
-use Rattle.sf_curves.specs.Choices.{shapes_in}
+use Rattle.sf_model.specs.Spans.{shapes_in}
 use Rattle.sf_curves.specs.Points.{IsSlimmer, IsCurveOf, IsCombination, IsJoinOf, IsNarrowest, IsLowest, beside_size, above_size}
 
 -- the plan without its shapes

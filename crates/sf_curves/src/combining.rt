@@ -1,102 +1,115 @@
-//! The sizes of two rooms side by side, and of one room above another.
+//! The sizes of two rooms that are joined, side by side or one above the other.
 
-ghost use Rattle.std.specs.Prelude.{AllPairs, OnOk};
-ghost use Rattle.sf_curves.specs.Points.{IsSlimmer, IsCombination, AddsWithin, beside_size, above_size};
+ghost use Rattle.std.specs.Prelude.{◌≡◌, ◌<◌, length, AllPairs, OnOk};
+ghost use Rattle.sf_curves.specs.Combining.{point_after, shared_side, by_width};
+ghost use Rattle.sf_curves.specs.Direction.{size_in};
+ghost use Rattle.sf_curves.specs.Points.{IsSlimmer, IsCombination, AddsWithin};
 
+use crate::direction::Direction;
 use crate::point::Point;
 use sf_model::Outline;
 use std::alloc::AllocError as NoMemory;
 
-/// Adds the size of two rooms side by side, if the outline holds it.
-fn push_beside(
-    points: &mut Vec<Point>,
-    l: Point,
-    r: Point,
+/// The point after `i` others: side by side from the highest room on, one above the other from the widest on.
+#[inline(always)]
+fn point_at(points: &[Point], i: usize, direction: Direction) -> Point
+    requires { i < length points.now }
+    ensures { result ≡ point_after direction points.now i }
+{
+    match direction {
+        Direction::Beside => points[i],
+        Direction::Above => points[points.len() - 1 - i],
+    }
+}
+
+/// The side of a room of which the joined room has the greater one.
+#[inline(always)]
+fn shared_side(room: Point, direction: Direction) -> u32
+    ensures { result ≡ shared_side direction room }
+{
+    match direction {
+        Direction::Beside => room.h,
+        Direction::Above => room.w,
+    }
+}
+
+/// Adds the size of two joined rooms, if the outline holds it.
+#[inline(always)]
+fn push_size(
+    sizes: &mut Vec<Point>,
+    first: Point,
+    second: Point,
+    direction: Direction,
     outline: Outline,
 ) -> Result<(), NoMemory>
-    ensures { OnOk result (AddsWithin outline points.old.items points.new.items (beside_size l r)) }
+    ensures { OnOk result
+        (AddsWithin outline sizes.old.items sizes.new.items (size_in direction first second)) }
 {
-    let w = u64::from(l.w) + u64::from(r.w);
-    let h = l.h.max(r.h);
-    if w <= u64::from(outline.w) && h <= outline.h {
-        points.push(Point { w: w as u32, h })?;
+    let (w, h) = match direction {
+        Direction::Beside => (
+            u64::from(first.w) + u64::from(second.w),
+            u64::from(first.h.max(second.h)),
+        ),
+        Direction::Above => (
+            u64::from(first.w.max(second.w)),
+            u64::from(first.h) + u64::from(second.h),
+        ),
+    };
+    if w <= u64::from(outline.w) && h <= u64::from(outline.h) {
+        sizes.push(Point {
+            w: w as u32,
+            h: h as u32,
+        })?;
     }
     Ok(())
 }
 
-/// Adds the size of two rooms one above the other, if the outline holds it.
-fn push_above(points: &mut Vec<Point>, l: Point, u: Point, outline: Outline) -> Result<(), NoMemory>
-    ensures { OnOk result (AddsWithin outline points.old.items points.new.items (above_size l u)) }
+/// Puts the sizes in the order of their widths.
+#[inline(always)]
+fn order(sizes: &mut Vec<Point>, direction: Direction)
+    ensures { sizes.new.items ≡ by_width direction sizes.old.items }
 {
-    let w = l.w.max(u.w);
-    let h = u64::from(l.h) + u64::from(u.h);
-    if w <= outline.w && h <= u64::from(outline.h) {
-        points.push(Point { w, h: h as u32 })?;
+    match direction {
+        Direction::Beside => {}
+        Direction::Above => sizes.reverse(),
     }
-    Ok(())
 }
 
-/// Fills the list with the sizes of a room of one curve beside a room of the other: of two rooms the higher
-/// one is exchanged for its next, which is lower.
-pub fn combine_beside(
-    points: &mut Vec<Point>,
-    left: &[Point],
-    right: &[Point],
+/// Fills the list with the sizes of a room of the first curve, the left or the lower one, joined with a room
+/// of the second: of two rooms the one with the greater shared side is exchanged for its next, in which this
+/// side is less. Inlined where the direction is known, so each direction has a loop of its own.
+#[inline(always)]
+pub fn combine(
+    sizes: &mut Vec<Point>,
+    first: &[Point],
+    second: &[Point],
+    direction: Direction,
     outline: Outline,
 ) -> Result<(), NoMemory>
-    requires left_falls { AllPairs IsSlimmer left.now }
-    requires right_falls { AllPairs IsSlimmer right.now }
-    ensures falls { OnOk result (AllPairs IsSlimmer points.new.items) }
-    ensures combines { OnOk result (IsCombination beside_size outline left.now right.now points.new.items) }
+    requires first_falls { AllPairs IsSlimmer first.now }
+    requires second_falls { AllPairs IsSlimmer second.now }
+    ensures falls { OnOk result (AllPairs IsSlimmer sizes.new.items) }
+    ensures combines { OnOk result
+        (IsCombination (size_in direction) outline first.now second.now sizes.new.items) }
 {
-    points.clear();
+    sizes.clear();
     let mut i = 0;
     let mut j = 0;
-    while i < left.len() && j < right.len() {
-        let l = left[i];
-        let r = right[j];
-        push_beside(points, l, r, outline)?;
-        if l.h > r.h {
+    while i < first.len() && j < second.len() {
+        let one = point_at(first, i, direction);
+        let other = point_at(second, j, direction);
+        push_size(sizes, one, other, direction, outline)?;
+        let here = shared_side(one, direction);
+        let there = shared_side(other, direction);
+        if here > there {
             i += 1;
-        } else if l.h < r.h {
+        } else if here < there {
             j += 1;
         } else {
             i += 1;
             j += 1;
         }
     }
-    Ok(())
-}
-
-/// Fills the list with the sizes of a room of one curve below a room of the other, from the lowest size on:
-/// of two rooms the wider one is exchanged for the one before it, which is narrower.
-pub fn combine_above(
-    points: &mut Vec<Point>,
-    lower: &[Point],
-    upper: &[Point],
-    outline: Outline,
-) -> Result<(), NoMemory>
-    requires lower_falls { AllPairs IsSlimmer lower.now }
-    requires upper_falls { AllPairs IsSlimmer upper.now }
-    ensures falls { OnOk result (AllPairs IsSlimmer points.new.items) }
-    ensures combines { OnOk result (IsCombination above_size outline lower.now upper.now points.new.items) }
-{
-    points.clear();
-    let mut i = 0;
-    let mut j = 0;
-    while i < lower.len() && j < upper.len() {
-        let l = lower[lower.len() - 1 - i];
-        let u = upper[upper.len() - 1 - j];
-        push_above(points, l, u, outline)?;
-        if l.w > u.w {
-            i += 1;
-        } else if l.w < u.w {
-            j += 1;
-        } else {
-            i += 1;
-            j += 1;
-        }
-    }
-    points.reverse();
+    order(sizes, direction);
     Ok(())
 }

@@ -2,7 +2,8 @@
 
 ghost use Rattle.std.specs.Prelude.{◌≡◌, ◌<◌, length, AllPairs, IfOk};
 ghost use Rattle.sf_model.specs.Tree.{tree_of, HasBlocksBelow};
-ghost use Rattle.sf_curves.specs.Choices.{shapes_in, AreSpans};
+ghost use Rattle.sf_model.specs.Spans.{shapes_in};
+ghost use Rattle.sf_curves.specs.Choices.{AreSpans};
 ghost use Rattle.sf_curves.specs.Forms.{form, curve_of, form_of, IsCurveTree};
 ghost use Rattle.sf_curves.specs.Points.{IsSlimmer, IsCurveOf};
 
@@ -70,7 +71,8 @@ pub fn block_curve_in(
     ensures { IfOk result (IsCurveOf design.now.outline (shapes_in design.now spans.now block)) }
 {
     let (from, to) = spans[usize::from(block)];
-    Curve::of_shapes_in(list, design.shapes_of(block), from, to, design.outline)
+    let shapes = &design.shapes_of(block)[usize::from(from)..usize::from(to)];
+    Curve::of_shapes_in(list, shapes, design.outline)
 }
 
 /// The curves of all subtrees of a plan; its own shapes don't count.

@@ -11,6 +11,7 @@
 mod combining;
 mod curve;
 mod curve_tree;
+mod direction;
 mod laws;
 mod of_shapes;
 mod picking;
@@ -18,9 +19,10 @@ mod point;
 mod root;
 mod tracing;
 
-pub use combining::{combine_above, combine_beside};
+pub use combining::combine;
 pub use curve::Curve;
 pub use curve_tree::{block_curve, block_curve_in};
+pub use direction::{Direction, operator};
 pub use laws::traces_are_one;
 pub use picking::least_area_point;
 pub use point::{Point, area};

@@ -14,7 +14,8 @@ use Rattle.sf_polish.proofs.Normality.{inside-number}
 use Rattle.sf_node.specs.Parts.{Parts}
 use Rattle.sf_curves.specs.Points.{IsWithin, IsNoLarger, IsCovered, IsCurveOf, IsCombination, beside_size, above_size}
 use Rattle.sf_standard.specs.Items as item
-use Rattle.sf_standard.specs.Items.{Item, read, items_of, span_shapes, plans, pairs, fits, fitting}
+use Rattle.sf_model.specs.Spans.{shapes_in}
+use Rattle.sf_standard.specs.Items.{Item, read, items_of, plans, pairs, fits, fitting}
 use Rattle.sf_curves.specs.Choices.{size_of}
 use Rattle.sf_frames.specs.Curves.{IsItemCurve}
 use Rattle.sf_standard.proofs.Listed.{Contains-map, Contains-from_map, Contains-filter, Contains-from_filter, Contains-pairs, Contains-from_pairs}
@@ -22,23 +23,23 @@ use Rattle.sf_standard.proofs.Cutting.{fits-true}
 use Rattle.sf_standard.proofs.Exact.{fits-from}
 
 -- a curve of a block
-pub curve-block : (design : Design) (node : Parts) (b : ℕ) (c : List Shape) → IsCurveOf design.outline (span_shapes design node b) c → IsItemCurve design node c (item.Block b)
+pub curve-block : (design : Design) (node : Parts) (b : ℕ) (c : List Shape) → IsCurveOf design.outline (shapes_in design node.spans b) c → IsItemCurve design node c (item.Block b)
 curve-block design node b c k = record {
   within = k.within;
   traced = λ i d lt.
       let s = get_or c i d in
       let w = k.within i d lt in
-      Contains-map size_of (fitting design node (item.Block b)) (Leaf b s) (Contains-filter (fits design.outline) (plans (span_shapes design node) (item.Block b)) (Leaf b s) (Contains-map (λ v. Leaf b v) (span_shapes design node b) s (k.traced i d lt)) (fits-true design.outline (Leaf b s) w.0 w.1));
+      Contains-map size_of (fitting design node (item.Block b)) (Leaf b s) (Contains-filter (fits design.outline) (plans (shapes_in design node.spans) (item.Block b)) (Leaf b s) (Contains-map (λ v. Leaf b v) (shapes_in design node.spans b) s (k.traced i d lt)) (fits-true design.outline (Leaf b s) w.0 w.1));
   covers = λ i d lt.
       let x = get_or (map size_of (fitting design node (item.Block b))) i d in
       let t = Contains-from_map size_of (fitting design node (item.Block b)) x (Contains-get_or (map size_of (fitting design node (item.Block b))) i d lt) in
-      let s = Contains-from_map (λ v. Leaf b v) (span_shapes design node b) t.0 (Contains-from_filter (fits design.outline) (plans (span_shapes design node) (item.Block b)) t.0 t.1).0 in
-      subst (IsCovered design.outline c) (ap size_of s.2 ∙ t.2) (All-contains (IsCovered design.outline c) (span_shapes design node b) s.0 k.covers s.1);
+      let s = Contains-from_map (λ v. Leaf b v) (shapes_in design node.spans b) t.0 (Contains-from_filter (fits design.outline) (plans (shapes_in design node.spans) (item.Block b)) t.0 t.1).0 in
+      subst (IsCovered design.outline c) (ap size_of s.2 ∙ t.2) (All-contains (IsCovered design.outline c) (shapes_in design node.spans b) s.0 k.covers s.1);
 }
 
 -- the sizes of the fitting plans lie in the outline
 pub sizes-within : (design : Design) (node : Parts) (i : Item) (t : Tree) → Contains (fitting design node i) t → IsWithin design.outline (size_of t)
-sizes-within design node i t c = fits-from design.outline t (Contains-from_filter (fits design.outline) (plans (span_shapes design node) i) t c).1
+sizes-within design node i t c = fits-from design.outline t (Contains-from_filter (fits design.outline) (plans (shapes_in design node.spans) i) t c).1
 
 -- a way to join two rooms, on plans and on sizes
 pub record IsWay (over : Item → Item → Item) (plan : Tree → Tree → Tree) (join : Shape → Shape → Shape) : Type 0 where
@@ -59,7 +60,7 @@ above-way = record { sized = λ p q. refl; grows = λ p q r s h k. (omega (arith
 -- the curve of two joined items
 pub curve-joined : (over : Item → Item → Item) (plan : Tree → Tree → Tree) (join : Shape → Shape → Shape) → IsWay over plan join → (design : Design) (node : Parts) (l r : Item) (ls rs c : List Shape) → IsItemCurve design node ls l → IsItemCurve design node rs r → IsCombination join design.outline ls rs c → IsItemCurve design node c (over l r)
 curve-joined over plan join way design node l r ls rs c cl cr k =
-    let shapes = span_shapes design node in
+    let shapes = shapes_in design node.spans in
     let o = design.outline in
     record {
       within = k.within;

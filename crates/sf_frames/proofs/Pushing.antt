@@ -10,14 +10,15 @@ use Rattle.sf_node.specs.Subproblem.{root}
 use Rattle.sf_node.specs.Children.{IsSubproblem}
 use Rattle.sf_curves.specs.Points.{IsSlimmer, IsCombination}
 use Rattle.sf_standard.specs.Items as item
-use Rattle.sf_frames.specs.declared.direction.Direction.{Direction}
-use Rattle.sf_frames.specs.declared.direction.Direction.TheVariants.{Beside, Above}
+use Rattle.sf_curves.specs.declared.direction.Direction.{Direction}
+use Rattle.sf_curves.specs.declared.direction.Direction.TheVariants.{Beside, Above}
 use Rattle.sf_frames.specs.declared.frame.Frame.{Frame}
 use Rattle.sf_frames.specs.declared.frame.Kept.{Kept}
 use Rattle.sf_frames.specs.declared.least.Least.{Least}
 use Rattle.sf_frames.specs.declared.sums.Sums.{Sums}
 use Rattle.sf_frames.specs.Curves.{IsItemCurve}
-use Rattle.sf_frames.specs.Direction.{token_in, item_in, plan_in, size_in}
+use Rattle.sf_curves.specs.Direction.{token_in, plan_in, size_in}
+use Rattle.sf_standard.specs.Items.{item_in}
 use Rattle.sf_frames.specs.Least.{IsLeastOf, AllSmall}
 use Rattle.sf_frames.specs.Sums.{AreSumsOrNone, AreWithin, joined}
 use Rattle.sf_frames.specs.Kept.{items_at, groups_at, IsKept, IsStored, IsNext, ArePair, at_end, made_for, needed}
@@ -72,10 +73,6 @@ module _ (design : Design) (node : Parts) (points made : List Shape) (whole : �
     curve = joined-curve;
     falls = falls;
   }
-
-  -- its points have small sides
-  pub joined-small : AllSmall made
-  joined-small = curve-small design made (item_in d pair.left.item pair.right.item) joined-curve
 
   -- the sums allow for the two least areas to be taken out and the new one to be put in
   pub joined-within : (s : Option Sums) (o : Option Least) → IsSubproblem design node → AreSumsOrNone (groups_at design node.tokens (length frames)) s → MatchOption o (made ≡ []) (IsLeastOf made) → AreWithin s l.curve.least r.curve.least o

@@ -18,14 +18,15 @@ use Rattle.sf_node.proofs.Depth.{subproblem-shallow}
 use Rattle.sf_curves.specs.Points.{IsSlimmer, IsCurveOf}
 use Rattle.sf_curves.proofs.Members.{AllPairs-tail}
 use Rattle.sf_standard.specs.Items.{Item, Block}
-use Rattle.sf_frames.specs.declared.direction.Direction.{Direction}
-use Rattle.sf_frames.specs.declared.direction.Direction.TheVariants.{Beside, Above}
+use Rattle.sf_curves.specs.declared.direction.Direction.{Direction}
+use Rattle.sf_curves.specs.declared.direction.Direction.TheVariants.{Beside, Above}
 use Rattle.sf_frames.specs.declared.frame.Frame.{Frame}
 use Rattle.sf_frames.specs.declared.frame.Kept.{Kept}
 use Rattle.sf_frames.specs.declared.limits.TheConstants.{MOST_POINTS}
-use Rattle.sf_frames.specs.Direction.{token_in}
+use Rattle.sf_curves.specs.Direction.{token_in}
 use Rattle.sf_frames.specs.Kept.{items_at, points_of, point_count, token_of, made_for, added, needed, no_token, IsKept, IsStored, IsStoredPath, IsNext}
-use Rattle.sf_frames.specs.Room.{IsWithinRoom, IsTopCurve, Adds, NeedsMore, HasRoom}
+use Rattle.sf_frames.specs.declared.stored.Stored.{Stored}
+use Rattle.sf_frames.specs.Room.{IsWithinRoom, HasFrames, IsTopCurve, Adds, NeedsMore, HasRoom}
 use Rattle.sf_frames.proofs.Switching.{stored-own}
 
 -- 1 for a size that is no narrower than this, and 0 else
@@ -208,9 +209,9 @@ module _ (design : Design) (tokens : List Token) (points : List Shape) (blocks :
         more = omega (arith, exact, many, wholes-total, made-total, sum_by_push length made c);
       }
 
--- what is kept of a path without halves is no more than may be, since it has fewer tokens than that: for the design that is served, from the blocks that the last call was given
-pub kept-within : (design served : Design) (node : Parts) (points : List Shape) (blocks given : List Kept) (whole : ℕ) (frames : List Frame) → design ≡ served → given ≡ blocks → IsSubproblem served node → length node.steps ≡ length node.tokens → IsStored design node.tokens points given whole frames → length points ≤ MOST_POINTS → IsStoredPath design points blocks whole frames × IsWithinRoom points frames
-kept-within design served node points blocks given whole frames is is_given sub halves m few = (
-  stored-own design node.tokens points blocks whole frames (subst (λ v. IsStored design node.tokens points v whole frames) is_given m),
-  record { few_points = few; few_frames = omega (arith, m.frames_are.few, halves, subproblem-shallow served node sub) },
+-- what is kept of a path without halves is no more than may be, since it has fewer tokens than that, for the design that is served
+pub kept-within : (design served : Design) (node : Parts) (s : Stored) → IsSubproblem served node → length node.steps ≡ length node.tokens → HasFrames design node.tokens s → IsStoredPath design s × IsWithinRoom s
+kept-within design served node s sub halves m = (
+  stored-own design node.tokens s.points.items s.blocks.items s.whole s.frames.items m.stored,
+  record { few_points = m.few; few_frames = omega (arith, m.stored.frames_are.few, halves, subproblem-shallow served node sub) },
 )

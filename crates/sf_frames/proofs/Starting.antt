@@ -35,10 +35,6 @@ groups-start design tokens =
     ap (λ v. map (ways design) (map (λ k. item.Block k) v)) (filter-all (λ b. is_unused b []) (λ k. refl) (range_with_len 0 (length (root design).spans)))
     ∙ ap (λ (n : ℕ). blocks_from design 0 n) (length-map {B = ℕ × ℕ} design.blocks (λ block. (0, length block.shapes)))
 
--- with no group all sums are 0
-pub sums-none : (s : Sums) → s.area ≡ 0 → s.w ≡ 0 → s.h ≡ 0 → AreSums [] s
-sums-none s a w h = record { all = refl; total = a; wide = w; high = h }
-
 -- the sums with one group more in front
 pub sums-more : (x : List Tree) (groups : List (List Tree)) (a w h w' h' : ℕ) (l : Least) → AreSums groups (record { area = a; w = w; h = h }) → IsLeastFor x l → w' ≡ max l.w w → h' ≡ max l.h h → AreSums (x ∷ groups) (record { area = a + l.area; w = w'; h = h' })
 sums-more x groups a w h w' h' l m i ew eh = record {
@@ -53,16 +49,6 @@ pub record AreSummed (design : Design) (blocks : List Kept) (rest a w h : ℕ) :
   pub below : rest ≤ length blocks
   pub sums : AreSums (blocks_from design rest (length blocks - rest)) (record { area = a; w = w; h = h })
   pub few : a + rest * 1099511627776 ≤ length blocks * 1099511627776
-
--- before the loop no block is counted
-pub summed-begins : (design : Design) (blocks : List Kept) → AreSummed design blocks (length blocks) 0 0 0
-summed-begins design blocks =
-    let none : 0 ≡ length blocks - length blocks = omega arith in
-    record {
-      below = omega arith;
-      sums = subst (λ (n : ℕ). AreSums (blocks_from design (length blocks) n) (record { area = 0; w = 0; h = 0 })) none (record { all = refl; total = refl; wide = refl; high = refl });
-      few = omega arith;
-    }
 
 -- one side of an or is enough: the first
 or-first : (a b : Bool) → a ≡ true → (a || b) ≡ true

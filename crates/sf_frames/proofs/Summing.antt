@@ -16,16 +16,17 @@ use Rattle.sf_curves.specs.Choices.{size_of}
 use Rattle.sf_curves.specs.Points.{IsNoLarger}
 use Rattle.sf_curves.proofs.Members.{not_in_nil, Contains-head, Contains-tail}
 use Rattle.sf_standard.specs.Items as item
-use Rattle.sf_standard.specs.Items.{Item, fits, plans, pairs, span_shapes, fitting, items_of, unused, read}
+use Rattle.sf_model.specs.Spans.{shapes_in}
+use Rattle.sf_standard.specs.Items.{Item, fits, plans, pairs, fitting, items_of, unused, read, item_in}
 use Rattle.sf_standard.specs.Standard.{area, least_of, has_none}
 use Rattle.sf_standard.proofs.Listed.{Contains-filter, Contains-from_filter, Contains-from_pairs}
 use Rattle.sf_standard.proofs.Cutting.{fits-true, least_of-le}
 use Rattle.sf_standard.proofs.Exact.{fits-from}
-use Rattle.sf_frames.specs.declared.direction.Direction.{Direction}
-use Rattle.sf_frames.specs.declared.direction.Direction.TheVariants.{Beside, Above}
+use Rattle.sf_curves.specs.declared.direction.Direction.{Direction}
+use Rattle.sf_curves.specs.declared.direction.Direction.TheVariants.{Beside, Above}
 use Rattle.sf_frames.specs.declared.least.Least.{Least}
 use Rattle.sf_frames.specs.declared.sums.Sums.{Sums}
-use Rattle.sf_frames.specs.Direction.{token_in, item_in, plan_in, size_in}
+use Rattle.sf_curves.specs.Direction.{token_in, plan_in, size_in}
 use Rattle.sf_frames.specs.Kept.{path, items_at, ways, groups_at, IsNext}
 use Rattle.sf_frames.specs.Sums.{IsLeastFor, IsLeastOrNone, AreSums, AreSumsOrNone, joined}
 use Rattle.sf_frames.proofs.Topping.{take-next, items-joined}
@@ -60,7 +61,7 @@ module _ (design : Design) (d : Direction) (l r : Item) where
   -- each plan of the joined item has such parts
   parts-of : (t : Tree) → Contains (ways design (item_in d l r)) t → AreParts t
   parts-of t c =
-      let shapes = span_shapes design (root design) in
+      let shapes = shapes_in design (root design).spans in
       let o = design.outline in
       let way = way_in d in
       let f = Contains-from_filter (fits o) (plans shapes (item_in d l r)) t c in

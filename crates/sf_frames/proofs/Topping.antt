@@ -1,5 +1,6 @@
 -- The items that one token more leaves.
 use Rattle.std.proofs.Common.{◌≡◌, ℕ, zero, suc, ◌+◌, ◌-◌, ◌<◌, ◌≤◌, List, [], ◌∷◌, ◌++◌, length, take, drop, get_or, sym, ap, ◌∙◌, subst, arith}
+use Rattle.std.specs.Prelude.{None}
 use Rattle.std.proofs.lemmas.List.{take_more, drop_more, take-append-drop}
 use Rattle.sf_model.specs.declared.design.Design.{Design}
 use Rattle.sf_model.specs.declared.parts.Shape.{Shape}
@@ -9,12 +10,12 @@ use Rattle.sf_node.specs.Parts.{Parts}
 use Rattle.sf_node.specs.Children.{IsSubproblem}
 use Rattle.sf_node.proofs.Normalised.{subproblem-begun}
 use Rattle.sf_standard.specs.Items as item
-use Rattle.sf_standard.specs.Items.{Item, read}
+use Rattle.sf_standard.specs.Items.{Item, read, item_in}
 use Rattle.sf_standard.proofs.Appended.{read-append, read-block}
-use Rattle.sf_frames.specs.declared.direction.Direction.{Direction}
-use Rattle.sf_frames.specs.declared.direction.Direction.TheVariants.{Beside, Above}
+use Rattle.sf_curves.specs.declared.direction.Direction.{Direction}
+use Rattle.sf_curves.specs.declared.direction.Direction.TheVariants.{Beside, Above}
 use Rattle.sf_frames.specs.declared.frame.Frame.{Frame}
-use Rattle.sf_frames.specs.Direction.{token_in, item_in}
+use Rattle.sf_curves.specs.Direction.{token_in}
 use Rattle.sf_frames.specs.Kept.{items_at, no_token, IsFrame, AreFrames, IsNext, ArePair}
 use Rattle.sf_frames.proofs.Joining.{Runs, runs-from}
 use Rattle.sf_frames.proofs.Ways.{read-joined}
@@ -88,6 +89,10 @@ pub record LiesOn (tokens : List Token) (k below : ℕ) : Type 0 where
   pub item : Item
   pub top : items_at tokens k ≡ item ∷ items_at tokens below
   pub fewer : below < k
+
+-- a frame that stands for none
+abbrev pub no_frame : Frame
+no_frame = record { token = token.Beside; curve = record { from = 0; to = 0; least = None }; below = 0; end = 0; sums = None }
 
 -- the frames of both items on top are there
 pub record AreThere (F : Type 0) (below : F → ℕ) (frames : List F) (d : F) : Type 0 where

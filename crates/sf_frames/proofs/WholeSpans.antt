@@ -16,7 +16,8 @@ use Rattle.sf_node.specs.Subproblem.{root, span_of}
 use Rattle.sf_node.specs.Children.{after, walk, IsSubproblem}
 use Rattle.sf_curves.specs.Points.{IsSlimmer, IsCurveOf, area_of}
 use Rattle.sf_standard.specs.Items as item
-use Rattle.sf_standard.specs.Items.{Item, span_shapes}
+use Rattle.sf_model.specs.Spans.{shapes_in}
+use Rattle.sf_standard.specs.Items.{Item}
 use Rattle.sf_standard.specs.Standard.{plans_of}
 use Rattle.std.proofs.Math.Nat.{mul-le-mul}
 use Rattle.sf_frames.specs.declared.frame.Kept.{Kept}
@@ -62,7 +63,7 @@ kept-end design points made i o curve falls least =
     }
 
 -- the whole span of a block holds all of its shapes
-whole-shapes : (design : Design) (b : ℕ) → b < block_count design → span_shapes design (root design) b ≡ shapes_of design b
+whole-shapes : (design : Design) (b : ℕ) → b < block_count design → shapes_in design (root design).spans b ≡ shapes_of design b
 whole-shapes design b lt =
     let e : span_of (root design) b ≡ (0, length (shapes_of design b)) = get_or-map (λ block. (0, length block.shapes)) design.blocks b (record { name = []; shapes = [] }) (0, 0) lt in
     ap (λ span. slice_range (shapes_of design b) span.0 span.1) e ∙ take_all (length (shapes_of design b) - 0) (shapes_of design b) (omega arith)
@@ -109,10 +110,6 @@ wholes-added design points made all blocks new o k m lt curve falls least is_all
     (subst (λ v. AreWhole design (points ++ made) v (length (points ++ made))) (sym (is_new ∙ ap (λ (v : Kept). blocks ++ v ∷ []) is_kept))
     (wholes-more design points made blocks o m lt curve falls least))
 
--- with no block there is nothing to keep
-pub wholes-none : (design : Design) → AreWhole design [] [] 0
-wholes-none design = record { few = omega arith; room = omega arith; tight = refl; each = λ b d lt. absurd (omega (arith, lt)) }
-
 -- no step makes more than one token
 tokens-few : (ss : List Step) (node : Parts) → length (walk node ss).tokens ≤ length node.tokens + length ss
 tokens-few [] node = omega arith
@@ -145,10 +142,3 @@ whole-groups design node sub e =
 pub measured-groups : (design : Design) (node : Parts) (n : ℕ) → IsSubproblem design node → length node.steps ≡ length node.tokens → n ≡ length node.tokens → groups_at design node.tokens n ≡ plans_of design node
 measured-groups design node n sub whole all =
     ap (λ v. plans_of design (path design v)) (take_all n node.tokens (omega (arith, all))) ∙ whole-groups design node sub whole
-
--- no frame yet
-pub stored-none : (design : Design) (points : List Shape) (blocks : List Kept) (whole : ℕ) → AreWhole design points blocks whole → IsStored design [] points blocks whole []
-stored-none design points blocks whole m = record {
-  wholes = m;
-  frames_are = record { few = omega arith; are = refl; each = λ k d lt. absurd (omega (arith, lt)); ends = λ i j d lt lj. absurd (omega (arith, lj)); tight = λ k d lt. absurd (omega (arith, lt)) };
-}

@@ -13,6 +13,7 @@ use Rattle.sf_standard.specs.Items.{Item, Block, read, fitting}
 use Rattle.sf_frames.specs.declared.frame.Frame.{Frame}
 use Rattle.sf_frames.specs.declared.frame.Kept.{Kept}
 use Rattle.sf_frames.specs.declared.least.Least.{Least}
+use Rattle.sf_frames.specs.declared.stored.Stored.{Stored}
 use Rattle.sf_frames.specs.Curves.{IsItemCurve}
 use Rattle.sf_standard.specs.Standard.{plans_of}
 use Rattle.sf_frames.specs.Sums.{IsLeastOrNone, AreSumsOrNone}
@@ -98,9 +99,17 @@ pub record IsStored (design : Design) (tokens : List Token) (points : List Shape
   pub wholes : AreWhole design points blocks whole
   pub frames_are : AreFrames design tokens points whole frames
 
--- the same, of the path whose tokens have frames
-abbrev pub IsStoredPath : Design → List Shape → List Kept → ℕ → List Frame → Type 0
-IsStoredPath design points blocks whole frames = IsStored design (map token_of frames) points blocks whole frames
+-- the same, as the code holds it
+abbrev pub IsStoredIn : Design → List Token → Stored → Type 0
+IsStoredIn design tokens s = IsStored design tokens s.points.items s.blocks.items s.whole s.frames.items
+
+-- and of the path whose tokens have frames
+abbrev pub IsStoredPath : Design → Stored → Type 0
+IsStoredPath design s = IsStoredIn design (map token_of s.frames.items) s
+
+-- no point is there but those that the whole curves and the frames need
+abbrev pub IsTight : Stored → Type 0
+IsTight s = length s.points.items ≡ needed s.whole s.frames.items
 
 -- what stands for a token past the end of a list
 abbrev pub no_token : Token

@@ -2,7 +2,6 @@
 pub mod Curves
 pub mod Least
 pub mod Groups
-pub mod Direction
 pub mod Sums
 pub mod Measured
 -- what it keeps of a path

@@ -8,15 +8,21 @@ use Rattle.sf_polish.specs.declared.expr.Token.TheVariants as token
 use Rattle.sf_node.specs.Subproblem.{root}
 use Rattle.sf_curves.specs.Points.{IsSlimmer}
 use Rattle.sf_standard.specs.Items.{Item, Block}
-use Rattle.sf_frames.specs.declared.frame.Frame.{Frame}
 use Rattle.sf_frames.specs.declared.limits.TheConstants.{MOST_FRAMES, MOST_POINTS}
 use Rattle.sf_frames.specs.Curves.{IsItemCurve}
-use Rattle.sf_frames.specs.Kept.{items_at, no_token}
+use Rattle.sf_frames.specs.declared.stored.Stored.{Stored}
+use Rattle.sf_frames.specs.Kept.{items_at, no_token, IsStoredIn}
 
 -- no more is kept than may be
-pub record IsWithinRoom (points : List Shape) (frames : List Frame) : Type 0 where
-  pub few_points : length points ≤ MOST_POINTS
-  pub few_frames : length frames ≤ MOST_FRAMES
+pub record IsWithinRoom (s : Stored) : Type 0 where
+  pub few_points : length s.points.items ≤ MOST_POINTS
+  pub few_frames : length s.frames.items ≤ MOST_FRAMES
+
+-- the curves of all blocks and the frames of the first of these tokens are there, and no more points than may be
+pub record HasFrames (design : Design) (tokens : List Token) (s : Stored) : Type 0 where
+  pub stored : IsStoredIn design tokens s
+  pub all : length s.blocks.items ≡ block_count design
+  pub few : length s.points.items ≤ MOST_POINTS
 
 -- these are the points of the curve of the item on top, in their order
 pub record IsTopCurve (design : Design) (items : List Item) (c : List Shape) : Type 0 where

@@ -1,10 +1,10 @@
 //! The frames that another path leaves standing: those of the tokens with which both begin.
 
 ghost use Rattle.std.specs.Prelude.{◌≡◌, ◌≤◌, take, map, length};
-ghost use Rattle.sf_frames.specs.Kept.{IsStored, IsStoredPath, IsEndOf, IsCommon, token_of, needed};
+ghost use Rattle.sf_frames.specs.Kept.{IsStoredIn, IsStoredPath, IsEndOf, IsCommon, IsTight, token_of};
 
-use crate::frame::{Frame, Kept};
-use sf_curves::Point;
+use crate::frame::Frame;
+use crate::stored::Stored;
 use sf_model::Design;
 use sf_polish::Token;
 
@@ -34,23 +34,19 @@ fn end_of(frames: &[Frame], count: usize, whole: usize) -> usize
 }
 
 /// Keeps the frames of the tokens with which both paths begin, and no points but what these need.
-pub fn back_to(
-    points: &mut Vec<Point>,
-    frames: &mut Vec<Frame>,
-    blocks: &[Kept],
-    whole: usize,
-    design: &Design,
-    tokens: &[Token],
-)
-    requires stored { IsStoredPath design.now points.old.items blocks.now whole frames.old.items }
-    ensures stored { IsStored design.now tokens.now points.new.items blocks.now whole frames.new.items }
-    ensures first { frames.new.items ≡ take (length frames.new.items) frames.old.items }
-    ensures most { IsCommon (map token_of frames.old.items) tokens.now (length frames.new.items) }
-    ensures rest { length points.new.items ≡ needed whole frames.new.items }
-    ensures fewer { length points.new.items ≤ length points.old.items }
+pub fn back_to(stored: &mut Stored, design: &Design, tokens: &[Token])
+    requires stored { IsStoredPath design.now stored.old }
+    ensures stored { IsStoredIn design.now tokens.now stored.new }
+    ensures first { let frames = stored.new.frames.items in
+        frames ≡ take (length frames) stored.old.frames.items }
+    ensures most { IsCommon (map token_of stored.old.frames.items) tokens.now
+        (length stored.new.frames.items) }
+    ensures rest { IsTight stored.new }
+    ensures fewer { length stored.new.points.items ≤ length stored.old.points.items }
+    ensures blocks { stored.new.blocks.items ≡ stored.old.blocks.items }
 {
-    let count = common(frames, tokens);
-    let end = end_of(frames, count, whole);
-    frames.truncate(count);
-    points.truncate(end);
+    let count = common(&stored.frames, tokens);
+    let end = end_of(&stored.frames, count, stored.whole);
+    stored.frames.truncate(count);
+    stored.points.truncate(end);
 }

@@ -4,10 +4,9 @@ ghost use Rattle.std.specs.Prelude.{◌≡◌, ◌≢◌, length, IfOk};
 ghost use Rattle.sf_node.specs.Children.{IsSubproblem};
 
 use crate::cut::back_to;
-use crate::frame::{Frame, Kept};
 use crate::measured::{Measured, answer_of};
 use crate::push::extend;
-use crate::top::sums_now;
+use crate::stored::Stored;
 use crate::wholes::fill;
 use sf_curves::Point;
 use sf_model::Design;
@@ -15,18 +14,14 @@ use sf_node::Node;
 use std::alloc::{AllocError as NoMemory, Global};
 use std::marker::Model;
 
-/// The frames of the path that was measured last, for one design. A contract sees that design. The points are
-/// those of the blocks' whole curves, of which there are `whole`, and then those of the frames; `list` is a
+/// The frames of the path that was measured last, for one design. A contract sees that design; `list` is a
 /// buffer for the next curve. No more is kept than `MOST_POINTS` and `MOST_FRAMES` say: from the frame on
 /// that would pass them the path is not kept.
 #[derive(Drop)]
 pub struct Frames<'a> {
     design: &'a Design,
     alloc: Global,
-    points: Vec<Point>,
-    blocks: Vec<Kept>,
-    whole: usize,
-    frames: Vec<Frame>,
+    stored: Stored,
     list: Vec<Point>,
 }
 
@@ -40,9 +35,7 @@ impl<'a> Model for Frames<'a> {
 
     ghost view = { λ s. s.design.now };
 
-    ghost invariant = { λ s.
-        IsStoredPath s.design.now s.points.items s.blocks.items s.whole s.frames.items
-        × IsWithinRoom s.points.items s.frames.items };
+    ghost invariant = { λ s. IsStoredPath s.design.now s.stored × IsWithinRoom s.stored };
 }
 
 impl<'a> Frames<'a> {
@@ -57,10 +50,12 @@ impl<'a> Frames<'a> {
         Frames {
             design,
             alloc,
-            points: Vec::new(alloc),
-            blocks: Vec::new(alloc),
-            whole: 0,
-            frames: Vec::new(alloc),
+            stored: Stored {
+                points: Vec::new(alloc),
+                blocks: Vec::new(alloc),
+                whole: 0,
+                frames: Vec::new(alloc),
+            },
             list: Vec::new(alloc),
         }
     }
@@ -77,42 +72,13 @@ impl<'a> Frames<'a> {
         ensures same { self.new ≡ self.old }
     {
         let design = self.design;
-        self.whole = fill(
-            &mut self.points,
-            &mut self.frames,
-            &mut self.blocks,
-            self.whole,
-            self.alloc,
-            design,
-        )?;
-        back_to(
-            &mut self.points,
-            &mut self.frames,
-            &self.blocks,
-            self.whole,
-            design,
-            node.tokens(),
-        );
-        let kept = extend(
-            &mut self.points,
-            &mut self.frames,
-            &mut self.list,
-            &self.blocks,
-            self.whole,
-            design,
-            node,
-        )?;
+        fill(&mut self.stored, self.alloc, design)?;
+        back_to(&mut self.stored, design, node.tokens());
+        let kept = extend(&mut self.stored, &mut self.list, design, node)?;
         if !kept {
             return Ok(Measured::TooLarge);
         }
-        let sums = sums_now(
-            &self.points,
-            &self.frames,
-            &self.blocks,
-            self.whole,
-            design,
-            node,
-        );
+        let sums = self.stored.sums_now(design, node);
         Ok(answer_of(sums))
     }
 }

@@ -8,18 +8,17 @@
 #![tactic(auto)]
 
 mod cut;
-pub mod direction;
 mod frame;
 mod frames;
 mod least;
 mod limits;
 mod measured;
 mod push;
+mod stored;
 mod sums;
 mod top;
 mod wholes;
 
-pub use direction::{Direction, operator};
 pub use frames::Frames;
 pub use least::{Least, least_of};
 pub use limits::{MOST_FRAMES, MOST_POINTS};

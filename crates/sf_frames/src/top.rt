@@ -4,36 +4,17 @@ ghost use Rattle.std.specs.Prelude.{◌≡◌, List, length};
 ghost use Rattle.sf_model.specs.Legal.{block_count};
 ghost use Rattle.sf_polish.specs.declared.expr.Token.{Token as TokenValue};
 ghost use Rattle.sf_node.specs.Children.{IsSubproblem};
-ghost use Rattle.sf_frames.specs.Direction.{token_in};
-ghost use Rattle.sf_frames.specs.Kept.{IsStored, IsNext, ArePair, groups_at, AreWhole};
+ghost use Rattle.sf_curves.specs.Direction.{token_in};
+ghost use Rattle.sf_frames.specs.Kept.{IsStoredIn, IsNext, ArePair, groups_at, AreWhole};
+ghost use Rattle.sf_frames.specs.Room.{HasFrames};
 ghost use Rattle.sf_frames.specs.Sums.{AreSumsOrNone};
 
-use crate::direction::Direction;
 use crate::frame::{Frame, Kept};
+use crate::stored::Stored;
 use crate::sums::Sums;
-use sf_curves::Point;
+use sf_curves::{Direction, Point};
 use sf_model::Design;
 use sf_node::Node;
-
-/// The frames of the two items on top, the left or lower one first.
-pub fn top_pair(
-    points: &[Point],
-    frames: &[Frame],
-    blocks: &[Kept],
-    whole: usize,
-    design: &Design,
-    node: &Node,
-    direction: Direction,
-) -> (Frame, Frame)
-    requires subproblem { IsSubproblem design.now node.now }
-    requires stored { IsStored design.now node.now.tokens points.now blocks.now whole frames.now }
-    requires next { IsNext node.now.tokens (length frames.now) (token_in direction) }
-    ensures { ArePair design.now node.now.tokens points.now whole frames.now result.0 result.1 }
-{
-    let right = frames[frames.len() - 1];
-    let left = frames[right.below - 1];
-    (left, right)
-}
 
 /// The sums over all blocks.
 fn start(points: &[Point], blocks: &[Kept], whole: usize, design: &Design) -> Option<Sums>
@@ -59,21 +40,30 @@ fn start(points: &[Point], blocks: &[Kept], whole: usize, design: &Design) -> Op
     Some(Sums { area, w, h })
 }
 
-/// The sums over the items and the unused blocks after the tokens that have frames.
-pub fn sums_now(
-    points: &[Point],
-    frames: &[Frame],
-    blocks: &[Kept],
-    whole: usize,
-    design: &Design,
-    node: &Node,
-) -> Option<Sums>
-    requires stored { IsStored design.now node.now.tokens points.now blocks.now whole frames.now }
-    requires all { length blocks.now ≡ block_count design.now }
-    ensures { AreSumsOrNone (groups_at design.now node.now.tokens (length frames.now)) result }
-{
-    if frames.is_empty() {
-        return start(points, blocks, whole, design);
+impl Stored {
+    /// The frames of the two items on top, the left or lower one first.
+    pub fn top_pair(&self, design: &Design, node: &Node, direction: Direction) -> (Frame, Frame)
+        requires subproblem { IsSubproblem design.now node.now }
+        requires stored { IsStoredIn design.now node.now.tokens self.now }
+        requires next { IsNext node.now.tokens (length self.now.frames.items) (token_in direction) }
+        ensures { ArePair design.now node.now.tokens self.now.points.items self.now.whole
+            self.now.frames.items result.0 result.1 }
+    {
+        let right = self.frames[self.frames.len() - 1];
+        let left = self.frames[right.below - 1];
+        (left, right)
     }
-    frames[frames.len() - 1].sums
+
+    /// The sums over the items and the unused blocks after the tokens that have frames.
+    #[inline(always)]
+    pub fn sums_now(&self, design: &Design, node: &Node) -> Option<Sums>
+        requires { HasFrames design.now node.now.tokens self.now }
+        ensures { AreSumsOrNone
+            (groups_at design.now node.now.tokens (length self.now.frames.items)) result }
+    {
+        if self.frames.is_empty() {
+            return start(&self.points, &self.blocks, self.whole, design);
+        }
+        self.frames[self.frames.len() - 1].sums
+    }
 }

@@ -1,12 +1,13 @@
 //! The curves of the blocks in their whole spans, with which the list of points begins.
 
-ghost use Rattle.std.specs.Prelude.{◌≡◌, ◌≤◌, ◌++◌, length, IfOk, OnErr};
+ghost use Rattle.std.specs.Prelude.{◌≡◌, ◌≤◌, ◌++◌, length, IfOk, OnErr, OnOk};
 ghost use Rattle.sf_model.specs.Legal.{block_count};
 ghost use Rattle.sf_frames.specs.declared.limits.TheConstants.{MOST_POINTS};
 ghost use Rattle.sf_frames.specs.Kept.{AreWhole, IsStoredPath, at_end};
 
-use crate::frame::{Frame, Kept};
+use crate::frame::Kept;
 use crate::least::{Least, least_of};
+use crate::stored::Stored;
 use sf_curves::{Curve, Point};
 use sf_model::Design;
 use std::alloc::{AllocError as NoMemory, Global};
@@ -45,34 +46,24 @@ fn wholes(alloc: Global, design: &Design) -> Result<(Vec<Point>, Vec<Kept>), NoM
     Ok((points, blocks))
 }
 
-/// Makes the whole curves of all blocks, where they are not there yet. The answer is how many points they
-/// have.
-pub fn fill(
-    points: &mut Vec<Point>,
-    frames: &mut Vec<Frame>,
-    blocks: &mut Vec<Kept>,
-    whole: usize,
-    alloc: Global,
-    design: &Design,
-) -> Result<usize, NoMemory>
-    requires stored { IsStoredPath design.now points.old.items blocks.old.items whole frames.old.items }
-    requires few { length points.old.items ≤ MOST_POINTS }
-    ensures filled { IfOk result (λ filled. IsStoredPath design.now
-        points.new.items blocks.new.items filled frames.new.items) }
-    ensures all { IfOk result (λ filled. length blocks.new.items ≡ block_count design.now) }
-    ensures again { length blocks.old.items ≡ block_count design.now
-        → IfOk result (λ filled. frames.new.items ≡ frames.old.items) }
-    ensures kept { OnErr result (IsStoredPath design.now
-        points.new.items blocks.new.items whole frames.new.items) }
-    ensures few { length points.new.items ≤ MOST_POINTS }
-    ensures fewer { length frames.new.items ≤ length frames.old.items }
+/// Makes the whole curves of all blocks, where they are not there yet.
+pub fn fill(stored: &mut Stored, alloc: Global, design: &Design) -> Result<(), NoMemory>
+    requires stored { IsStoredPath design.now stored.old }
+    requires few { length stored.old.points.items ≤ MOST_POINTS }
+    ensures stored { IsStoredPath design.now stored.new }
+    ensures all { OnOk result (length stored.new.blocks.items ≡ block_count design.now) }
+    ensures again { length stored.old.blocks.items ≡ block_count design.now
+        → OnOk result (stored.new.frames.items ≡ stored.old.frames.items) }
+    ensures few { length stored.new.points.items ≤ MOST_POINTS }
+    ensures fewer { length stored.new.frames.items ≤ length stored.old.frames.items }
 {
-    if blocks.len() >= design.blocks.as_slice().len() {
-        return Ok(whole);
+    if stored.blocks.len() >= design.blocks.as_slice().len() {
+        return Ok(());
     }
     let (made, kept) = wholes(alloc, design)?;
-    frames.clear();
-    *points = made;
-    *blocks = kept;
-    Ok(points.len())
+    stored.frames.clear();
+    stored.whole = made.len();
+    stored.points = made;
+    stored.blocks = kept;
+    Ok(())
 }

@@ -1,6 +1,6 @@
 -- A plan of a subproblem belongs to exactly one half of a span that is split.
 use Rattle.std.proofs.Common.{◌≡◌, ℕ, ◌+◌, ◌-◌, ◌<◌, ◌≤◌, min, List, [], ◌∷◌, length, drop, get_or, All, AllPairs, cond, length-take, length-drop, get_or-take, get_or-drop, arith, refl, ap, sym, subst, ◌∙◌, ◌==◌, Bool, ◌⊎◌, inl, inr, get_or-set_same, get_or-set_other}
-use Rattle.std.specs.Prelude.{count_by, Contains, slice_range, slice_index_or, slice_set}
+use Rattle.std.specs.Prelude.{count_by, Contains, slice_range, slice_set}
 use Rattle.std.specs.List.{AllByRecursion}
 use Rattle.std.proofs.lemmas.Bool.{cases_eq, cases_lt, eq-eqb, ne_eqb}
 use Rattle.std.proofs.lemmas.List.Elements.{recursion_from_All, All-from_recursion}
@@ -10,6 +10,7 @@ use Rattle.sf_model.specs.declared.parts.Shape.{Shape}
 use Rattle.sf_model.specs.Limits.{IsBefore}
 use Rattle.sf_model.specs.Tree.{Tree, leaves}
 use Rattle.sf_model.specs.Legal.{block_count, shapes_of}
+use Rattle.sf_model.specs.Spans.{span_in, shapes_in}
 use Rattle.sf_model.proofs.Each.{Some, Any-from_recursion, AllPairs-from_recursion, each-weaker}
 use Rattle.sf_node.specs.Parts.{Parts}
 use Rattle.sf_node.specs.Subproblem.{Belongs, span_of}
@@ -119,13 +120,13 @@ StandsIn design span leaf = InSpan (shapes_of design leaf.0) span.0 span.1 leaf.
 
 -- the leaf's shape is one of those in the span of its block
 abbrev ChosenBy : Design → List (ℕ × ℕ) → ℕ × Shape → Type 0
-ChosenBy design spans leaf = let span = slice_index_or spans leaf.0 (0, 0) in Contains (slice_range (shapes_of design leaf.0) span.0 span.1) leaf.1
+ChosenBy design spans leaf = Contains (shapes_in design spans leaf.0) leaf.1
 
 -- a leaf chosen by the old spans is chosen with one halved, where its shape stands in the half
 new-span : (design : Design) (spans : List (ℕ × ℕ)) (b : ℕ) (half : ℕ × ℕ) → b < length spans → (leaf : ℕ × Shape) → (leaf.0 ≡ b → StandsIn design half leaf) → ChosenBy design spans leaf → ChosenBy design (slice_set spans b half) leaf
 new-span design spans b half inside leaf here old =
     elim (cases_eq leaf.0 b) [
-      | inl e ↦ (let same : half ≡ slice_index_or (slice_set spans b half) leaf.0 (0, 0) = sym (ap (λ n. slice_index_or (slice_set spans b half) n (0, 0)) e ∙ get_or-set_same spans b half (0, 0) inside) in
+      | inl e ↦ (let same : half ≡ span_in (slice_set spans b half) leaf.0 = sym (ap (span_in (slice_set spans b half)) e ∙ get_or-set_same spans b half (0, 0) inside) in
           subst (λ z. Contains (slice_range (shapes_of design leaf.0) z.0 z.1) leaf.1) same (from_in_span (shapes_of design leaf.0) half.0 half.1 leaf.1 (here e)))
       | inr e ↦ subst (λ z. Contains (slice_range (shapes_of design leaf.0) z.0 z.1) leaf.1) (sym (get_or-set_other spans b leaf.0 half (0, 0) e)) old
     ]
@@ -133,7 +134,7 @@ new-span design spans b half inside leaf here old =
 -- a leaf of the block chosen with one span halved stands in the half
 old-span : (design : Design) (spans : List (ℕ × ℕ)) (b : ℕ) (half : ℕ × ℕ) → b < length spans → (leaf : ℕ × Shape) → ChosenBy design (slice_set spans b half) leaf → leaf.0 ≡ b → StandsIn design half leaf
 old-span design spans b half inside leaf new e =
-    let same : slice_index_or (slice_set spans b half) leaf.0 (0, 0) ≡ half = ap (λ n. slice_index_or (slice_set spans b half) n (0, 0)) e ∙ get_or-set_same spans b half (0, 0) inside in
+    let same : span_in (slice_set spans b half) leaf.0 ≡ half = ap (span_in (slice_set spans b half)) e ∙ get_or-set_same spans b half (0, 0) inside in
     in_span (shapes_of design leaf.0) half.0 half.1 leaf.1 (subst (λ z. Contains (slice_range (shapes_of design leaf.0) z.0 z.1) leaf.1) same new)
 
 -- a plan of a subproblem belongs to one half of a span that is split
@@ -146,7 +147,7 @@ split-some design node b tree spans can belongs =
     let halves : AllByRecursion (λ leaf. leaf.0 ≡ b → StandsIn design left leaf ⊎ StandsIn design right leaf) (leaves tree) =
     each-weaker (ChosenBy design node.spans) (λ leaf. leaf.0 ≡ b → StandsIn design left leaf ⊎ StandsIn design right leaf)
     (λ leaf c e. halve (shapes_of design leaf.0) span.0 (middle span) span.1 leaf.1
-    (in_span (shapes_of design leaf.0) span.0 span.1 leaf.1 (subst (λ n. let z = slice_index_or node.spans n (0, 0) in Contains (slice_range (shapes_of design leaf.0) z.0 z.1) leaf.1) e c)))
+    (in_span (shapes_of design leaf.0) span.0 span.1 leaf.1 (subst (λ n. let z = span_of node n in Contains (slice_range (shapes_of design leaf.0) z.0 z.1) leaf.1) e c)))
     (leaves tree) old in
     let once = belongs.legal.blocks.each_once b (omega (arith, can.0, spans)) in
     let child : (half : ℕ × ℕ) → AllByRecursion (λ leaf. leaf.0 ≡ b → StandsIn design half leaf) (leaves tree) → All (ChosenBy design (slice_set node.spans b half)) (leaves tree) =

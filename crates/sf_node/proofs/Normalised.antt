@@ -8,7 +8,7 @@ use Rattle.std.proofs.lemmas.List.Elements.{All-from_recursion}
 use Rattle.std.proofs.lemmas.List.Sums.{sum_by-cons, sum_by-append}
 use Rattle.sf_model.specs.declared.design.Design.{Design}
 use Rattle.sf_model.specs.Legal.{block_count}
-use Rattle.sf_model.proofs.Counting.{length-at_most_once, each-once_by_length}
+use Rattle.sf_model.proofs.Counting.{each-once_by_length}
 use Rattle.sf_model.proofs.Each.{each-append}
 use Rattle.sf_polish.specs.declared.expr.Token.{Token}
 use Rattle.sf_polish.specs.declared.expr.Token.TheVariants as token
@@ -105,13 +105,11 @@ complete-normal design node sub spans complete =
     let first = Reads-first ts i.count (omega (arith, full, some)) i.reads in
     let few : (b : ℕ) → count_by (λ m. m == b) (numbers ts) ≤ 1 = λ b. omega (arith, count-numbers b ts, i.once b) in
     let below = numbers-below n ts i.below in
-    let most : length (numbers ts) ≤ n = length-at_most_once (λ (m : ℕ). m) n (numbers ts) few below in
     let length_is = length-numbers ts in
-    let one : i.count ≡ 1 = omega (arith, counts, both, full, first, most, length_is) in
     record {
       each_once = λ b lt. sym (count-numbers b ts) ∙ each-once_by_length (λ (m : ℕ). m) n (numbers ts) few below (omega (arith, counts, both, full, first, length_is)) b lt;
       no_other = All-from_recursion (λ t. IsFalse (is_outside n t)) ts i.below;
-      ballot = Reads-ballot ts (subst (Reads 0 ts) one i.reads);
+      ballot = Reads-ballot ts i.count i.reads;
       whole = full;
       alternates = alternates (token.Block 0) ts i.alternates;
     }

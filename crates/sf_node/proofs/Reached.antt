@@ -10,6 +10,7 @@ use Rattle.sf_model.specs.declared.design.Design.{Design}
 use Rattle.sf_model.specs.declared.parts.Shape.{Shape}
 use Rattle.sf_model.specs.Tree.{Tree, leaves}
 use Rattle.sf_model.specs.Legal.{IsLegal, block_count, shapes_of}
+use Rattle.sf_model.specs.Spans.{shapes_in}
 use Rattle.sf_model.proofs.Each.{each-append, each-map, each-weaker}
 use Rattle.sf_polish.specs.declared.expr.Token.{Token}
 use Rattle.sf_polish.specs.declared.expr.Token.TheVariants as token
@@ -106,7 +107,7 @@ pub root-subproblem : (design : Design) → IsSubproblem design (root design)
 root-subproblem design = record { reached = tt; is = refl }
 
 -- each shape of a block's list is in the span of the root
-root-chosen : (design : Design) (leaf : ℕ × Shape) → leaf.0 < block_count design → Contains (shapes_of design leaf.0) leaf.1 → (let span = span_of (root design) leaf.0 in Contains (slice_range (shapes_of design leaf.0) span.0 span.1) leaf.1)
+root-chosen : (design : Design) (leaf : ℕ × Shape) → leaf.0 < block_count design → Contains (shapes_of design leaf.0) leaf.1 → Contains (shapes_in design (root design).spans leaf.0) leaf.1
 root-chosen design leaf inside c =
     let e : span_of (root design) leaf.0 ≡ (0, length (shapes_of design leaf.0)) = get_or-map (λ block. (0, length block.shapes)) design.blocks leaf.0 (record { name = []; shapes = [] }) (0, 0) inside in
     let stands : InSpan (shapes_of design leaf.0) 0 (length (shapes_of design leaf.0)) leaf.1 = record { at = c.0; low = omega arith; high = c.1; within = c.1; is = c.2 } in
@@ -119,7 +120,7 @@ root-belongs design tree skewed legal = record {
   legal = legal;
   begins = refl;
   chosen = All-from_recursion _ (leaves tree)
-      (each-both (λ leaf. leaf.0 < block_count design) (λ leaf. Contains (shapes_of design leaf.0) leaf.1) (λ leaf. let span = span_of (root design) leaf.0 in Contains (slice_range (shapes_of design leaf.0) span.0 span.1) leaf.1)
+      (each-both (λ leaf. leaf.0 < block_count design) (λ leaf. Contains (shapes_of design leaf.0) leaf.1) (λ leaf. Contains (shapes_in design (root design).spans leaf.0) leaf.1)
       (root-chosen design) (leaves tree)
       (recursion_from_All (λ leaf. leaf.0 < block_count design) (leaves tree) legal.blocks.no_other)
       (recursion_from_All (λ leaf. Contains (shapes_of design leaf.0) leaf.1) (leaves tree) legal.listed));

@@ -21,8 +21,8 @@ use Rattle.sf_node.specs.Parts.{Parts}
 use Rattle.sf_node.specs.Subproblem.{is_complete, is_solved}
 use Rattle.sf_node.proofs.Reached.{subproblem-spans}
 use Rattle.sf_curves.proofs.Members.{Contains-head}
-use Rattle.sf_standard.specs.Items.{Item, items_of, span_shapes, fitting}
-use Rattle.sf_standard.specs.Hull.{extent_of, range_part, pair_part, hull_part}
+use Rattle.sf_standard.specs.Items.{Item, items_of, fitting}
+use Rattle.sf_standard.specs.Hull.{range_part, pair_part, hull_part, extent_in}
 use Rattle.sf_standard.specs.Standard.{area, least_of, least_cost, has_none, needed_area, pins_part, weighed_part, wire_part, pins_by, wires_by, plans_of, bounded, open_value, standard, part_value, has_single_spans, AllHavePlans}
 use Rattle.sf_standard.proofs.Cutting.{least_of-le}
 use Rattle.sf_standard.proofs.Exact.{IsWholeItem, whole-item, fitting-belongs, least_of-reached, standard_is_exact}
@@ -59,15 +59,15 @@ bounded-free design plans v w free =
 -- the greatest of the three parts of the wire of a net
 abbrev pins_most : Design → Parts → List Pin → ℕ
 pins_most design node pins =
-    let extent = λ (b : ℕ). extent_of (span_shapes design node b) in
+    let extent = extent_in design node in
     max (range_part design extent pins) (max (pair_part extent pins) (hull_part design extent (is_complete node) (items_of node) pins))
 
 -- no part of the wire of a net is above all of it
 pins-le : (design : Design) (node : Parts) (pins : List Pin) (part : Part) → pins_by design node pins part ≤ pins_part design node pins
 pins-le design node pins by.Area = omega arith
-pins-le design node pins by.Range = branch-le (nat_lt (length pins) 2) 0 (range_part design (λ b. extent_of (span_shapes design node b)) pins) (pins_most design node pins) (omega arith)
-pins-le design node pins by.Pair = branch-le (nat_lt (length pins) 2) 0 (pair_part (λ b. extent_of (span_shapes design node b)) pins) (pins_most design node pins) (omega arith)
-pins-le design node pins by.Hull = branch-le (nat_lt (length pins) 2) 0 (hull_part design (λ b. extent_of (span_shapes design node b)) (is_complete node) (items_of node) pins) (pins_most design node pins) (omega arith)
+pins-le design node pins by.Range = branch-le (nat_lt (length pins) 2) 0 (range_part design (extent_in design node) pins) (pins_most design node pins) (omega arith)
+pins-le design node pins by.Pair = branch-le (nat_lt (length pins) 2) 0 (pair_part (extent_in design node) pins) (pins_most design node pins) (omega arith)
+pins-le design node pins by.Hull = branch-le (nat_lt (length pins) 2) 0 (hull_part design (extent_in design node) (is_complete node) (items_of node) pins) (pins_most design node pins) (omega arith)
 pins-le design node pins by.Full = omega arith
 
 -- no part of the wires of all nets is above all of them

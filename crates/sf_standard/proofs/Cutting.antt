@@ -25,7 +25,8 @@ use Rattle.sf_node.specs.Subproblem.{Belongs, is_complete}
 use Rattle.sf_node.specs.Children.{is_unused}
 use Rattle.sf_curves.proofs.Members.{Contains-cons_cases, Contains-head, Contains-tail, not_in_nil}
 use Rattle.sf_standard.specs.Items as item
-use Rattle.sf_standard.specs.Items.{Item, read, items_of, unused, span_shapes, plans, fits, fitting, item_of}
+use Rattle.sf_model.specs.Spans.{shapes_in}
+use Rattle.sf_standard.specs.Items.{Item, read, items_of, unused, plans, fits, fitting, item_of}
 use Rattle.sf_standard.specs.Standard.{area, least_of, has_none, greatest, needed_area}
 use Rattle.sf_standard.proofs.Grown.{grow, grow-append, grow-postfix, read-grow, IsPart, part-self, blocks_of, grown-parts, own_area, grown-area}
 use Rattle.sf_standard.proofs.Listed.{each-contains, each-from, Contains-map, Contains-filter, Contains-from_filter, Contains-pairs, count-cons, sum_by-le_list, sum_by-map, sum_by-le_each}
@@ -107,16 +108,16 @@ least_of-le f (u ∷ ts) t c =
     ]
 
 -- the leaves of a plan that belongs to a subproblem are of their spans
-pub belongs-listed : (design : Design) (node : Parts) (tree : Tree) → Belongs design node tree → AreListed (span_shapes design node) tree
+pub belongs-listed : (design : Design) (node : Parts) (tree : Tree) → Belongs design node tree → AreListed (shapes_in design node.spans) tree
 belongs-listed design node tree belongs =
-    recursion_from_All (λ leaf. Contains (span_shapes design node leaf.0) leaf.1) (leaves tree) belongs.chosen
+    recursion_from_All (λ leaf. Contains (shapes_in design node.spans leaf.0) leaf.1) (leaves tree) belongs.chosen
 
 -- a subtree is one of the fitting plans of its item
 pub part-fitting : (design : Design) (node : Parts) (tree : Tree) → Belongs design node tree → Fits design.outline tree → (p : Tree) → IsPart p tree → Contains (fitting design node (item_of p)) p
 part-fitting design node tree belongs fit p part =
-    Contains-filter (fits design.outline) (plans (span_shapes design node) (item_of p)) p
-    (plan-listed (span_shapes design node) p (each-from (λ leaf. Contains (span_shapes design node leaf.0) leaf.1) (leaves p) (λ leaf c.
-    each-contains (λ v. Contains (span_shapes design node v.0) v.1) (leaves tree) leaf (belongs-listed design node tree belongs) (part.listed leaf c))))
+    Contains-filter (fits design.outline) (plans (shapes_in design node.spans) (item_of p)) p
+    (plan-listed (shapes_in design node.spans) p (each-from (λ leaf. Contains (shapes_in design node.spans leaf.0) leaf.1) (leaves p) (λ leaf c.
+    each-contains (λ v. Contains (shapes_in design node.spans v.0) v.1) (leaves tree) leaf (belongs-listed design node tree belongs) (part.listed leaf c))))
     (fits-true design.outline p (omega (arith, part.narrow, fit.0)) (omega (arith, part.low, fit.1)))
 
 -- the unused blocks

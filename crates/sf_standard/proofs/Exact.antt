@@ -29,7 +29,8 @@ use Rattle.sf_node.proofs.Normalised.{complete-normal}
 use Rattle.sf_node.proofs.Reached.{subproblem-spans}
 use Rattle.sf_curves.proofs.Members.{Contains-head, Contains-tail}
 use Rattle.sf_standard.specs.Items as item
-use Rattle.sf_standard.specs.Items.{Item, read, items_of, span_shapes, plans, fits, fitting, item_of}
+use Rattle.sf_model.specs.Spans.{shapes_in}
+use Rattle.sf_standard.specs.Items.{Item, read, items_of, plans, fits, fitting, item_of}
 use Rattle.sf_standard.specs.Standard.{least_of, least_cost, open_value, standard}
 use Rattle.sf_standard.proofs.Listed.{Contains-from_map, Contains-from_filter, Contains-from_pairs}
 use Rattle.sf_standard.proofs.Cutting.{AreListed}
@@ -189,7 +190,7 @@ spelled-inside design node t sub complete spelled =
     leaves-inside n t (subst (AllByRecursion (λ x. IsFalse (is_outside n x))) (sym spelled) (recursion_from_All (λ x. IsFalse (is_outside n x)) node.tokens normal.no_other))
 
 -- a skewed plan with the tokens of a complete subproblem and shapes from the spans belongs to it
-pub listed-belongs : (design : Design) (node : Parts) (t : Tree) → IsSubproblem design node → is_complete node ≡ true → postfix t ≡ node.tokens → IsSkewed t → AreListed (span_shapes design node) t → Belongs design node t
+pub listed-belongs : (design : Design) (node : Parts) (t : Tree) → IsSubproblem design node → is_complete node ≡ true → postfix t ≡ node.tokens → IsSkewed t → AreListed (shapes_in design node.spans) t → Belongs design node t
 listed-belongs design node t sub complete spelled skewed listed =
     let n = block_count design in
     let normal = complete-normal design node sub (subproblem-spans design node sub) complete in
@@ -201,18 +202,18 @@ listed-belongs design node t sub complete spelled skewed listed =
           no_other = All-from_recursion (λ leaf. leaf.0 < n) (leaves t) (spelled-inside design node t sub complete spelled);
         };
         listed = All-from_recursion (λ leaf. Contains (shapes_of design leaf.0) leaf.1) (leaves t)
-            (each-weaker (λ leaf. Contains (span_shapes design node leaf.0) leaf.1) (λ leaf. Contains (shapes_of design leaf.0) leaf.1)
+            (each-weaker (λ leaf. Contains (shapes_in design node.spans leaf.0) leaf.1) (λ leaf. Contains (shapes_of design leaf.0) leaf.1)
             (λ leaf h. let s = in_span (shapes_of design leaf.0) (span_of node leaf.0).0 (span_of node leaf.0).1 leaf.1 h in (s.at, s.within, s.is)) (leaves t) listed);
       };
       begins = ap (take (length node.tokens)) (spelled ∙ sym (append-nil node.tokens)) ∙ take-append_seam node.tokens [];
-      chosen = All-from_recursion (λ leaf. Contains (span_shapes design node leaf.0) leaf.1) (leaves t) listed;
+      chosen = All-from_recursion (λ leaf. Contains (shapes_in design node.spans leaf.0) leaf.1) (leaves t) listed;
     }
 
 -- the fitting plans of the one item of a complete subproblem belong to it
 pub fitting-belongs : (design : Design) (node : Parts) (i : Item) (t : Tree) → IsSubproblem design node → is_complete node ≡ true → IsWholeItem node i → Contains (fitting design node i) t → Belongs design node t × Fits design.outline t
 fitting-belongs design node i t sub complete whole c =
-    let k = Contains-from_filter (fits design.outline) (plans (span_shapes design node) i) t c in
-    let p = plans-are (span_shapes design node) i t k.0 in
+    let k = Contains-from_filter (fits design.outline) (plans (shapes_in design node.spans) i) t c in
+    let p = plans-are (shapes_in design node.spans) i t k.0 in
     let spelled : postfix t ≡ node.tokens = postfix-item t ∙ ap item_tokens p.same ∙ whole.tokens in
     (listed-belongs design node t sub complete spelled (skewed-from t (subst IsSkewedItem (sym p.same) whole.skewed)) p.listed, fits-from design.outline t k.1)
 

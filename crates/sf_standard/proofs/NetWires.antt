@@ -20,10 +20,11 @@ use Rattle.sf_node.specs.Parts.{Parts}
 use Rattle.sf_node.specs.Subproblem.{Belongs, is_complete}
 use Rattle.sf_curves.proofs.Members.{Contains-head, Contains-tail}
 use Rattle.std.proofs.lemmas.List.Elements.{Contains-append_left, Contains-append_right}
-use Rattle.sf_standard.specs.Items.{Item, items_of, span_shapes, item_of}
+use Rattle.sf_model.specs.Spans.{shapes_in}
+use Rattle.sf_standard.specs.Items.{Item, items_of, item_of}
 use Rattle.sf_standard.specs.declared.hull.Extent.{Extent}
 use Rattle.sf_standard.specs.declared.hull.Offset.{Offset}
-use Rattle.sf_standard.specs.Hull.{extent_of, range_x, range_y, range_part, block_pins, small_side, pair_part, item_extent, moved_right, moved_up, offsets, offset_x, offset_y, contains_pin, of_pins, pads_x, pads_y, hull_of, hull_part}
+use Rattle.sf_standard.specs.Hull.{range_x, range_y, range_part, block_pins, small_side, pair_part, item_extent, moved_right, moved_up, offsets, offset_x, offset_y, contains_pin, of_pins, pads_x, pads_y, hull_of, hull_part, extent_in}
 use Rattle.sf_standard.specs.Standard.{net_part, weighed_part, wire_part}
 use Rattle.sf_standard.proofs.Grown.{IsPart, part-self}
 use Rattle.sf_standard.proofs.Listed.{each-contains, each-joined, each-from, Contains-map, sum_by-le_each, EachPair-from_pairs, EachPair-of}
@@ -104,10 +105,6 @@ block_pins-pairs R (pin.Block b ∷ pins) e f = (
 block_pins-pairs R (pin.Pad p ∷ pins) e f =
     block_pins-pairs R pins e.1 (λ a c i j. f a c (Contains-tail (pin.Pad p) pins (pin.Block a) i) (Contains-tail (pin.Pad p) pins (pin.Block c) j))
 
--- the extent of a block's span
-abbrev pub extent_in : Design → Parts → ℕ → Extent
-extent_in design node b = extent_of (span_shapes design node b)
-
 module _ (design : Design) (node : Parts) (tree : Tree) (spans : length node.spans ≡ block_count design) (belongs : Belongs design node tree) (fit : Fits design.outline tree) where
   -- the spot of a block
   place : (b : ℕ) → b < block_count design → IsPlaced tree b (spot_of b (spots_of tree))
@@ -117,13 +114,13 @@ module _ (design : Design) (node : Parts) (tree : Tree) (spans : length node.spa
   pub extent-of : (b : ℕ) → b < block_count design → IsOfExtent (extent_in design node b) (spot_of b (spots_of tree)).w (spot_of b (spots_of tree)).h
   extent-of b h =
       let s = spot_of b (spots_of tree) in
-      of-extent (span_shapes design node b) (record { w = s.w; h = s.h })
-      (each-contains (λ v. Contains (span_shapes design node v.0) v.1) (leaves tree) (b, record { w = s.w; h = s.h }) (belongs-listed design node tree belongs) (place b h).leaf)
+      of-extent (shapes_in design node.spans b) (record { w = s.w; h = s.h })
+      (each-contains (λ v. Contains (shapes_in design node.spans v.0) v.1) (leaves tree) (b, record { w = s.w; h = s.h }) (belongs-listed design node tree belongs) (place b h).leaf)
 
   -- the plan takes each shape from the extent of its block
   fits-extents : FitsExtents (extent_in design node) tree
-  fits-extents = each-weaker (λ leaf. Contains (span_shapes design node leaf.0) leaf.1) (λ leaf. IsOfExtent (extent_in design node leaf.0) leaf.1.w leaf.1.h)
-      (λ leaf c. of-extent (span_shapes design node leaf.0) leaf.1 c) (leaves tree) (belongs-listed design node tree belongs)
+  fits-extents = each-weaker (λ leaf. Contains (shapes_in design node.spans leaf.0) leaf.1) (λ leaf. IsOfExtent (extent_in design node leaf.0) leaf.1.w leaf.1.h)
+      (λ leaf c. of-extent (shapes_in design node.spans leaf.0) leaf.1 c) (leaves tree) (belongs-listed design node tree belongs)
 
   module _ (net : Net) (set : IsPinSet (block_count design) (length design.pads) net.pins) where
     -- where the pins of the net lie across

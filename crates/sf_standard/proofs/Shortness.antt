@@ -23,11 +23,12 @@ use Rattle.sf_node.specs.Parts.{Parts}
 use Rattle.sf_node.specs.Subproblem.{is_complete}
 use Rattle.sf_curves.proofs.Members.{Contains-head}
 use Rattle.sf_standard.specs.Items as item
-use Rattle.sf_standard.specs.Items.{Item, items_of, unused, span_shapes, plans, fits, fitting, item_of}
+use Rattle.sf_model.specs.Spans.{shapes_in}
+use Rattle.sf_standard.specs.Items.{Item, items_of, unused, plans, fits, fitting, item_of}
 use Rattle.sf_standard.specs.declared.hull.Extent.{Extent}
 use Rattle.sf_standard.specs.declared.hull.Interval.{Interval}
 use Rattle.sf_standard.specs.declared.hull.Offset.{Offset}
-use Rattle.sf_standard.specs.Hull.{extent_of, gap, point, range_x, range_y, range_part, greatest_with, greatest_two, block_pins, small_side, pair_part, item_extent, moved_right, moved_up, offsets, offset_x, offset_y, of_pins, pads_x, pads_y, hull_of, hull_part}
+use Rattle.sf_standard.specs.Hull.{gap, point, range_x, range_y, range_part, greatest_with, greatest_two, block_pins, small_side, pair_part, item_extent, moved_right, moved_up, offsets, offset_x, offset_y, of_pins, pads_x, pads_y, hull_of, hull_part, extent_in}
 use Rattle.sf_standard.specs.Standard.{has_none, net_part, weighed_part, wire_part, AllHavePlans}
 use Rattle.sf_standard.proofs.Exact.{plans-are, fits-from}
 use Rattle.sf_standard.proofs.Gaps.{low-most, high-least, to_nat-le, of-extent, IsOfExtent}
@@ -90,7 +91,7 @@ first-of (t ∷ ts) h = (t, Contains-head t ts)
 module _ (design : Design) (node : Parts) where
   -- the extent of a block in its span
   abbrev extent : ℕ → Extent
-  extent b = extent_of (span_shapes design node b)
+  extent = extent_in design node
 
   -- what stands for a pad past the last
   no-pad : Pad
@@ -164,12 +165,12 @@ module _ (design : Design) (node : Parts) where
   narrow : (i : Item) → has_none (fitting design node i) ≡ false → IsNarrow i
   narrow i some =
       let t = first-of (fitting design node i) some in
-      let k = Contains-from_filter (fits design.outline) (plans (span_shapes design node) i) t.0 t.1 in
-      let p = plans-are (span_shapes design node) i t.0 k.0 in
+      let k = Contains-from_filter (fits design.outline) (plans (shapes_in design node.spans) i) t.0 t.1 in
+      let p = plans-are (shapes_in design node.spans) i t.0 k.0 in
       let size = fits-from design.outline t.0 k.1 in
-      let leaf = λ (l : ℕ × Shape). of-extent (span_shapes design node l.0) l.1 in
+      let leaf = λ (l : ℕ × Shape). of-extent (shapes_in design node.spans l.0) l.1 in
       let of : IsOfExtent (item_extent extent (item_of t.0)) (width t.0) (height t.0) =
-      of-item-extent extent t.0 (each-weaker (λ l. Contains (span_shapes design node l.0) l.1) (λ l. IsOfExtent (extent l.0) l.1.w l.1.h) leaf (leaves t.0) p.listed) in
+      of-item-extent extent t.0 (each-weaker (λ l. Contains (shapes_in design node.spans l.0) l.1) (λ l. IsOfExtent (extent l.0) l.1.w l.1.h) leaf (leaves t.0) p.listed) in
       let e = subst (λ j. IsOfExtent (item_extent extent j) (width t.0) (height t.0)) p.same of in
       record { wide = omega (arith, e.wide, size.0); high = omega (arith, e.high, size.1) }
 

@@ -13,8 +13,8 @@ use Rattle.sf_node.specs.Parts.{Parts}
 use Rattle.sf_node.specs.Subproblem.{span_of}
 use Rattle.sf_node.proofs.Halves.{in_span}
 use Rattle.sf_standard.specs.declared.hull.Extent.{Extent}
-use Rattle.sf_standard.specs.Items.{span_shapes}
-use Rattle.sf_standard.specs.Hull.{extent_of}
+use Rattle.sf_model.specs.Spans.{shapes_in}
+use Rattle.sf_standard.specs.Hull.{extent_of, extent_in}
 use Rattle.sf_standard.proofs.Listed.{each-from}
 
 -- no side of the extent is above m
@@ -45,7 +45,7 @@ extent-small m (s ∷ ss) w h = record {
 }
 
 -- a shape of a span has sides of at most 2^20
-side-in : (design : Design) (node : Parts) (b : ℕ) (s : Shape) → Contains (span_shapes design node b) s → (s.w ≤ 1048576) × (s.h ≤ 1048576)
+side-in : (design : Design) (node : Parts) (b : ℕ) (s : Shape) → Contains (shapes_in design node.spans b) s → (s.w ≤ 1048576) × (s.h ≤ 1048576)
 side-in design node b s c =
     let i = in_span (shapes_of design b) (span_of node b).0 (span_of node b).1 s c in
     elim (cases_lt b (length design.blocks)) [
@@ -55,8 +55,8 @@ side-in design node b s c =
     ]
 
 -- no side of a span's shapes is above 2^20
-pub span-small : (design : Design) (node : Parts) (b : ℕ) → IsSmallExtent 1048576 (extent_of (span_shapes design node b))
+pub span-small : (design : Design) (node : Parts) (b : ℕ) → IsSmallExtent 1048576 (extent_in design node b)
 span-small design node b =
-    extent-small 1048576 (span_shapes design node b)
-    (each-from (λ s. s.w ≤ 1048576) (span_shapes design node b) (λ s c. (side-in design node b s c).0))
-    (each-from (λ s. s.h ≤ 1048576) (span_shapes design node b) (λ s c. (side-in design node b s c).1))
+    extent-small 1048576 (shapes_in design node.spans b)
+    (each-from (λ s. s.w ≤ 1048576) (shapes_in design node.spans b) (λ s c. (side-in design node b s c).0))
+    (each-from (λ s. s.h ≤ 1048576) (shapes_in design node.spans b) (λ s c. (side-in design node b s c).1))

@@ -30,15 +30,16 @@ use Rattle.sf_curves.proofs.Members.{Contains-head}
 use Rattle.sf_standard.specs.declared.hull.Extent.{Extent}
 use Rattle.sf_standard.specs.declared.hull.Offset.{Offset}
 use Rattle.sf_standard.specs.Items as item
-use Rattle.sf_standard.specs.Items.{Item, items_of, unused, span_shapes, plans, fits, fitting, item_of}
-use Rattle.sf_standard.specs.Hull.{extent_of, point, range_part, pair_part, item_extent, offsets, moved_right, moved_up, offset_x, offset_y, contains_pin, of_pins, pads_x, pads_y, hull_of, hull_part}
+use Rattle.sf_model.specs.Spans.{shapes_in}
+use Rattle.sf_standard.specs.Items.{Item, items_of, unused, plans, fits, fitting, item_of}
+use Rattle.sf_standard.specs.Hull.{extent_of, point, range_part, pair_part, item_extent, offsets, moved_right, moved_up, offset_x, offset_y, contains_pin, of_pins, pads_x, pads_y, hull_of, hull_part, extent_in}
 use Rattle.sf_standard.specs.Standard.{area, least_of, least_cost, has_none, needed_area, net_part, weighed_part, wire_part, plans_of, open_value, standard, has_single_spans}
 use Rattle.sf_standard.proofs.Cutting.{AreListed, cut, belongs-listed, least_of-le}
 use Rattle.sf_standard.proofs.Exact.{IsWholeItem, whole-item, fitting-belongs, plans-are, least_of-reached}
 use Rattle.sf_standard.proofs.Gaps.{IsOfExtent, of-extent, Pins, spread-le-gap}
 use Rattle.sf_standard.proofs.Listed.{each-contains, each-from, Contains-map, Contains-from_filter, sum_by-le_each}
 use Rattle.sf_standard.proofs.Members.{pin-found, offset-found, pads-found}
-use Rattle.sf_standard.proofs.NetWires.{extent_in, FitsExtents, of-item-extent, IsAt, extent-of}
+use Rattle.sf_standard.proofs.NetWires.{FitsExtents, of-item-extent, IsAt, extent-of}
 use Rattle.sf_standard.proofs.Placed.{placed}
 use Rattle.sf_standard.proofs.Soundness.{bounded-le}
 
@@ -177,9 +178,9 @@ module _ (design : Design) (node : Parts) (tree : Tree) (spans : length node.spa
   the-item = let k = cut design node tree spans belongs in k.items ∙ ap (map item_of) (k.whole complete)
 
   -- a plan whose shapes are of the spans takes each from the extent of its block
-  listed-extents : (t : Tree) → AreListed (span_shapes design node) t → FitsExtents (extent_in design node) t
-  listed-extents t listed = each-weaker (λ leaf. Contains (span_shapes design node leaf.0) leaf.1) (λ leaf. IsOfExtent (extent_in design node leaf.0) leaf.1.w leaf.1.h)
-      (λ leaf c. of-extent (span_shapes design node leaf.0) leaf.1 c) (leaves t) listed
+  listed-extents : (t : Tree) → AreListed (shapes_in design node.spans) t → FitsExtents (extent_in design node) t
+  listed-extents t listed = each-weaker (λ leaf. Contains (shapes_in design node.spans leaf.0) leaf.1) (λ leaf. IsOfExtent (extent_in design node leaf.0) leaf.1.w leaf.1.h)
+      (λ leaf c. of-extent (shapes_in design node.spans leaf.0) leaf.1 c) (leaves t) listed
 
   -- so does the plan that belongs to the subproblem
   of-extents : FitsExtents (extent_in design node) tree
@@ -311,8 +312,8 @@ module _ (design : Design) (node : Parts) (tree : Tree) (spans : length node.spa
   -- each plan of the item has this area
   area-each : (t : Tree) → Contains (fitting design node (item_of tree)) t → area tree ≤ area t
   area-each t c =
-      let k = Contains-from_filter (fits design.outline) (plans (span_shapes design node) (item_of tree)) t c in
-      let p = plans-are (span_shapes design node) (item_of tree) t k.0 in
+      let k = Contains-from_filter (fits design.outline) (plans (shapes_in design node.spans) (item_of tree)) t c in
+      let p = plans-are (shapes_in design node.spans) (item_of tree) t k.0 in
       let a = fixed-size (extent_in design node) fixed t (listed-extents t p.listed) in
       let b = fixed-size (extent_in design node) fixed tree of-extents in
       mul-le-mul (omega (arith, a.0, b.0, ap (λ i. (item_extent (extent_in design node) i).least_w) p.same)) (omega (arith, a.1, b.1, ap (λ i. (item_extent (extent_in design node) i).least_h) p.same))

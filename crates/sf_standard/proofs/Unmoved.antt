@@ -24,8 +24,9 @@ use Rattle.sf_node.proofs.Normalised.{complete-normal}
 use Rattle.sf_node.proofs.Reached.{subproblem-spans}
 use Rattle.sf_curves.proofs.Members.{Contains-head}
 use Rattle.sf_standard.specs.Items as item
-use Rattle.sf_standard.specs.Items.{Item, read, items_of, unused, span_shapes, fitting}
-use Rattle.sf_standard.specs.Hull.{extent_of, to_nat, gap, range_part, pair_part, offset_x, offset_y, contains_pin, hull_of, hull_part}
+use Rattle.sf_model.specs.Spans.{shapes_in}
+use Rattle.sf_standard.specs.Items.{Item, read, items_of, unused, fitting}
+use Rattle.sf_standard.specs.Hull.{extent_of, to_nat, gap, range_part, pair_part, offset_x, offset_y, contains_pin, hull_of, hull_part, extent_in}
 use Rattle.sf_standard.specs.Standard.{least_of, area, least_cost, has_none, greatest, needed_area, net_part, weighed_part, wire_part, plans_of, bounded, open_value, standard}
 use Rattle.sf_standard.proofs.Gaps.{least-member, most-member}
 use Rattle.sf_standard.proofs.Appended.{read-append, read-block}
@@ -136,12 +137,12 @@ no-gap (pos n) h = omega (arith, ints, h)
 no-gap (negsuc n) h = refl
 
 -- a lone block has no hull
-pub lone-hull : (design : Design) (node : Parts) (b : ℕ) (pins : List Pin) → hull_of design (λ k. extent_of (span_shapes design node k)) false pins (item.Block b) ≡ 0
+pub lone-hull : (design : Design) (node : Parts) (b : ℕ) (pins : List Pin) → hull_of design (extent_in design node) false pins (item.Block b) ≡ 0
 lone-hull design node b pins =
-    let e = extent_of (span_shapes design node b) in
-    let k = extent-ordered (span_shapes design node b) in
-    elim (contains_pin b pins) as (λ t. (gap (map (offset_x (λ k. extent_of (span_shapes design node k))) (if t then (record { block = b; least_x = 0; most_x = 0; least_y = 0; most_y = 0 } ∷ []) else []) ++ [])
-    + gap (map (offset_y (λ k. extent_of (span_shapes design node k))) (if t then (record { block = b; least_x = 0; most_x = 0; least_y = 0; most_y = 0 } ∷ []) else []) ++ [])) ≡ 0) [
+    let e = extent_in design node b in
+    let k = extent-ordered (shapes_in design node.spans b) in
+    elim (contains_pin b pins) as (λ t. (gap (map (offset_x (extent_in design node)) (if t then (record { block = b; least_x = 0; most_x = 0; least_y = 0; most_y = 0 } ∷ []) else []) ++ [])
+    + gap (map (offset_y (extent_in design node)) (if t then (record { block = b; least_x = 0; most_x = 0; least_y = 0; most_y = 0 } ∷ []) else []) ++ [])) ≡ 0) [
       | true ↦ omega (arith, no-gap (pos (2 * 0 + e.least_w) -ℤ pos (2 * 0 + e.most_w)) (omega (arith, ints, k.0)), no-gap (pos (2 * 0 + e.least_h) -ℤ pos (2 * 0 + e.most_h)) (omega (arith, ints, k.1)))
       | false ↦ refl
     ]
@@ -223,7 +224,7 @@ module _ (design : Design) (node : Parts) (b : ℕ) (sub : IsSubproblem design n
   -- the wires of each net
   net-same : (net : Net) → net_part design grown net ≡ net_part design node net
   net-same net =
-      let extent = λ (k : ℕ). extent_of (span_shapes design node k) in
+      let extent = extent_in design node in
       let hull : hull_part design extent (is_complete grown) (items_of grown) net.pins ≡ hull_part design extent (is_complete node) (items_of node) net.pins =
       ap (λ t. hull_part design extent t (items_of grown) net.pins) open_child
       ∙ ap (λ is. hull_part design extent false is net.pins) (items-child design node b can)

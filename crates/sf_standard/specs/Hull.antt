@@ -5,7 +5,9 @@ use Rattle.sf_model.specs.declared.design.Design.{Design}
 use Rattle.sf_model.specs.declared.parts.Pin.{Pin}
 use Rattle.sf_model.specs.declared.parts.Pin.TheVariants as pin
 use Rattle.sf_model.specs.declared.parts.Shape.{Shape}
+use Rattle.sf_model.specs.Spans.{shapes_in}
 use Rattle.sf_model.specs.Wire.{pad_at}
+use Rattle.sf_node.specs.Parts.{Parts}
 use Rattle.sf_standard.specs.declared.hull.Extent.{Extent}
 use Rattle.sf_standard.specs.declared.hull.Interval.{Interval}
 use Rattle.sf_standard.specs.declared.hull.Offset.{Offset}
@@ -20,6 +22,10 @@ extent_of (s ∷ ss) = record {
   least_h = fold (λ n t. min n t.h) s.h ss;
   most_h = fold (λ n t. max n t.h) s.h ss;
 }
+
+-- the least and the greatest sides of a block by the shapes in its span
+abbrev pub extent_in : Design → Parts → ℕ → Extent
+extent_in design node b = extent_of (shapes_in design node.spans b)
 
 -- the number, or 0 below 0
 abbrev pub to_nat : ℤ → ℕ

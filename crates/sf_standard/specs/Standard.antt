@@ -11,8 +11,8 @@ use Rattle.sf_node.specs.declared.part.Part.{Part}
 use Rattle.sf_node.specs.declared.part.Part.TheVariants as by
 use Rattle.sf_node.specs.Parts.{Parts}
 use Rattle.sf_node.specs.Subproblem.{is_complete, is_wide, is_solved}
-use Rattle.sf_standard.specs.Items.{Item, items_of, unused, span_shapes, fitting}
-use Rattle.sf_standard.specs.Hull.{extent_of, range_part, pair_part, hull_part}
+use Rattle.sf_standard.specs.Items.{Item, items_of, unused, fitting}
+use Rattle.sf_standard.specs.Hull.{extent_in, range_part, pair_part, hull_part}
 
 -- the least of f over the plans, or MAX where there is none
 abbrev pub least_of : (Tree → ℕ) → List Tree → ℕ
@@ -46,7 +46,7 @@ needed_area plans =
 -- what a wire that joins these pins is at least: the greatest of range, pair and hull, and nothing with fewer than two pins
 abbrev pub pins_part : Design → Parts → List Pin → ℕ
 pins_part design node pins =
-    let extent = λ (b : ℕ). extent_of (span_shapes design node b) in
+    let extent = extent_in design node in
     if nat_lt (length pins) 2 then 0
     else max (range_part design extent pins) (max (pair_part extent pins) (hull_part design extent (is_complete node) (items_of node) pins))
 
@@ -65,9 +65,9 @@ wire_part design node = sum_by (weighed_part design node) design.nets
 -- what one part of the bound takes the wire that joins these pins to be at least, nothing with fewer than two pins; areas know no wires
 abbrev pub pins_by : Design → Parts → List Pin → Part → ℕ
 pins_by design node pins by.Area = 0
-pins_by design node pins by.Range = if nat_lt (length pins) 2 then 0 else range_part design (λ b. extent_of (span_shapes design node b)) pins
-pins_by design node pins by.Pair = if nat_lt (length pins) 2 then 0 else pair_part (λ b. extent_of (span_shapes design node b)) pins
-pins_by design node pins by.Hull = if nat_lt (length pins) 2 then 0 else hull_part design (λ b. extent_of (span_shapes design node b)) (is_complete node) (items_of node) pins
+pins_by design node pins by.Range = if nat_lt (length pins) 2 then 0 else range_part design (extent_in design node) pins
+pins_by design node pins by.Pair = if nat_lt (length pins) 2 then 0 else pair_part (extent_in design node) pins
+pins_by design node pins by.Hull = if nat_lt (length pins) 2 then 0 else hull_part design (extent_in design node) (is_complete node) (items_of node) pins
 pins_by design node pins by.Full = pins_part design node pins
 
 -- the sum over all nets, each as often as its weight says

@@ -1,4 +1,5 @@
-use Rattle.sf_bounds.specs.Layout.{extent_in, Tells}
+use Rattle.sf_standard.specs.Hull.{extent_in}
+use Rattle.sf_bounds.specs.Layout.{Tells}
 use Rattle.sf_bounds.proofs.extents.fill_extents.Given as goal
 
 abbrev pub invariant-loop-block : goal.invariant-loop-block

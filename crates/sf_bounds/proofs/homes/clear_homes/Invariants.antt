@@ -1,7 +1,7 @@
 use Rattle.std.proofs.Common.{◌≡◌, ℕ, ◌<◌, get_or, false}
 use Rattle.std.specs.Prelude.{IfSome}
 use Rattle.sf_model.specs.declared.parts.Pin.{Pin}
-use Rattle.sf_bounds.specs.Near.{anywhere}
+use Rattle.sf_bounds.specs.Ends.{anywhere}
 use Rattle.sf_bounds.specs.Pins.{pin_home}
 use Rattle.sf_bounds.proofs.homes.clear_homes.Given as goal
 

@@ -1,6 +1,6 @@
 use Rattle.std.proofs.Common.{◌≡◌, ℕ, get_or, take, false}
 use Rattle.std.specs.Prelude.{fold}
-use Rattle.sf_bounds.specs.Near.{anywhere}
+use Rattle.sf_bounds.specs.Ends.{anywhere}
 use Rattle.sf_bounds.specs.Pins.{pin_home, narrowed_in}
 use Rattle.sf_bounds.proofs.homes.gather.Given as goal
 

@@ -2,7 +2,7 @@ use Rattle.std.proofs.Common.{◌≡◌, ◌+◌, ◌*◌, ◌<◌, length, get_
 use Rattle.std.specs.List.{range_with_len}
 use Rattle.std.proofs.lemmas.List.Elements.{All-push}
 use Rattle.sf_bounds.specs.declared.net_frame.Cell.{Cell}
-use Rattle.sf_bounds.specs.Near.{IsNearby}
+use Rattle.sf_bounds.specs.Ends.{IsFitReach}
 use Rattle.sf_bounds.specs.Rows.{pushed_reach, joined_cell, weighed_cell, weighed_hull, IsFitCell}
 use Rattle.sf_bounds.proofs.Weights.{sum-more}
 use Rattle.sf_bounds.proofs.NetRows.{read-old, old-fits, joined-is, row-more}
@@ -23,7 +23,7 @@ joined_cell-cell-requires-clause-under c =
 pub joined_cell-cell-requires-clause-moved : goal.joined_cell-cell-requires-clause-moved
 joined_cell-cell-requires-clause-moved c =
     let r = read-old c.args.cells.now.items _ c.loop-net.cells.items (c.args.right + c.loop-net.net) c.index-of_right.result.now c.loop-net.invariant.row (omega (arith, c.loop-net-test.true, c.requires.right)) c.index-of_right.ensures in
-    subst (λ v. IsNearby (pushed_reach c.args.direction c.args.by v.reach)) (sym r) (c.requires.near c.loop-net.net c.loop-net-test.true)
+    subst (λ v. IsFitReach (pushed_reach c.args.direction c.args.by v.reach)) (sym r) (c.requires.near c.loop-net.net c.loop-net-test.true)
 
 pub with_cell-wires-requires-clause-sums : goal.with_cell-wires-requires-clause-sums
 with_cell-wires-requires-clause-sums c =

@@ -1,6 +1,6 @@
 use Rattle.std.proofs.Common.{◌+◌, ◌<◌, arith, ap, sym, subst, length, ◌∙◌}
 use Rattle.sf_bounds.specs.declared.net_frame.Cell.{Cell}
-use Rattle.sf_bounds.specs.Near.{IsNearby, met, reach_gap}
+use Rattle.sf_bounds.specs.Ends.{IsFitReach, met, reach_gap}
 use Rattle.sf_bounds.specs.Rows.{cell_at, pushed_reach, joined_reach}
 use Rattle.sf_bounds.proofs.NetPushed.{pushed-fits}
 use Rattle.sf_bounds.proofs.NetTotal.{read-cell, read-fits, counts-there}
@@ -30,7 +30,7 @@ gap_with_pads-requires-clause-moved c =
     let j = c.args.net in
     let lt = counts-there D N.weights.items j c.requires.kept.weights c.requires.inside in
     let inside : r.row + j < length N.cells.items = omega (arith, lt, c.requires.top.right.row.inside) in
-    subst (λ (v : Cell). IsNearby (pushed_reach c.args.direction l.extent v.reach)) (sym (read-cell N.cells.items (r.row + j) c.index-of_right.result.now c.index-of_right.ensures inside))
+    subst (λ (v : Cell). IsFitReach (pushed_reach c.args.direction l.extent v.reach)) (sym (read-cell N.cells.items (r.row + j) c.index-of_right.result.now c.index-of_right.ensures inside))
     (pushed-fits D c.args.node.now N.cells.items N.blocks.items N.start N.frames.items c.args.direction l r c.requires.subproblem c.requires.kept.stored c.requires.next c.requires.top j lt)
 
 pub returns-clause-is : goal.returns-clause-is

@@ -3,7 +3,7 @@ use Rattle.std.specs.Prelude.{sum_by}
 use Rattle.std.proofs.lemmas.List.{take_all, get_or_default}
 use Rattle.sf_node.specs.declared.part.Part.TheVariants.{Hull}
 use Rattle.sf_standard.specs.Standard.{net_part, weighed_part, pins_by}
-use Rattle.sf_frames.specs.Direction.{token_in}
+use Rattle.sf_curves.specs.Direction.{token_in}
 use Rattle.sf_frames.specs.Kept.{IsNext}
 use Rattle.sf_bounds.specs.declared.net_frame.Cell.{Cell}
 use Rattle.sf_bounds.specs.Rows.{weighed_nets}

@@ -1,6 +1,6 @@
 use Rattle.std.proofs.Common.{◌≤◌, arith, ap, sym, subst, ◌∙◌, true}
 use Rattle.std.specs.Prelude.{IfSome}
-use Rattle.sf_bounds.specs.Near.{IsNearby, met, anywhere}
+use Rattle.sf_bounds.specs.Ends.{IsFitReach, met, anywhere}
 use Rattle.sf_bounds.specs.Pins.{pin_range, pin_home, narrowed}
 use Rattle.sf_bounds.proofs.Pairing.{pairs_before}
 use Rattle.sf_bounds.proofs.PinLoops.{fold_whole, near_ranges, near_homes}
@@ -13,7 +13,7 @@ pair_pin-pair-requires-clause-most c =
 pub returns-clause-near_range : goal.returns-clause-near_range
 returns-clause-near_range c =
     let whole = fold_whole (λ r p. met r (pin_range c.args.design.now c.args.table.now p)) anywhere c.args.pins.now c.loop-pin.pin-index (omega arith) in
-    subst IsNearby (sym (c.loop-pin.invariant.0 ∙ whole)) (near_ranges c.args.design.now c.requires.ready.0 c.args.table.now c.requires.ready.1 c.args.pins.now c.requires.inside)
+    subst IsFitReach (sym (c.loop-pin.invariant.0 ∙ whole)) (near_ranges c.args.design.now c.requires.ready.0 c.args.table.now c.requires.ready.1 c.args.pins.now c.requires.inside)
 
 pub returns-clause-small_pair : goal.returns-clause-small_pair
 returns-clause-small_pair c =
@@ -22,4 +22,4 @@ returns-clause-small_pair c =
 pub returns-clause-near_hull : goal.returns-clause-near_hull
 returns-clause-near_hull c =
     let whole = fold_whole (λ r p. narrowed r (pin_home c.args.design.now c.args.table.now true p)) anywhere c.args.pins.now c.loop-pin.pin-index (omega arith) in
-    subst IsNearby (sym (c.loop-pin.invariant.2 ∙ whole)) (near_homes c.args.design.now c.requires.ready.0 c.args.table.now c.requires.ready.1 c.args.pins.now c.requires.inside)
+    subst IsFitReach (sym (c.loop-pin.invariant.2 ∙ whole)) (near_homes c.args.design.now c.requires.ready.0 c.args.table.now c.requires.ready.1 c.args.pins.now c.requires.inside)

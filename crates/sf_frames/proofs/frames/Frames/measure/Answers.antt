@@ -1,6 +1,5 @@
 use Rattle.std.proofs.Common.{◌≡◌, length, sym, subst}
 use Rattle.sf_node.specs.Children.{IsSubproblem}
-use Rattle.sf_frames.specs.Kept.{groups_at}
 use Rattle.sf_frames.specs.Measured.{IsMeasured}
 use Rattle.sf_frames.specs.Sums.{AreSumsOrNone}
 use Rattle.sf_frames.proofs.Rooms.{kept-within}
@@ -11,24 +10,17 @@ pub returns-clause-measured : goal.returns-clause-measured
 returns-clause-measured c =
     let N = c.args.node.now in
     let D = c.self.inside.design.now in
-    let n = length c.extend.new.frames.items in
+    let n = length c.extend.new.stored.frames.items in
     let all : n ≡ length N.tokens = c.in_ok-kept.ensures.count (c.if-not-kept.false) in
     let sub = subst (λ v. IsSubproblem v N) (sym c.self.view_is) c.requires.subproblem in
-    let sums = subst (λ v. AreSumsOrNone (groups_at D N.tokens (length v)) c.sums_now-sums.result) c.deref-4.ensures.value c.sums_now-sums.ensures in
     subst (λ v. IsMeasured v N c.answer_of.result) c.self.view_is
-    (c.answer_of.ensures D N (subst (λ v. AreSumsOrNone v c.sums_now-sums.result) (measured-groups D N n sub c.requires.whole all) sums))
+    (c.answer_of.ensures D N (subst (λ v. AreSumsOrNone v c.sums_now-sums.result) (measured-groups D N n sub c.requires.whole all) c.sums_now-sums.ensures))
 
 pub invariant_of-self-in_err-kept : goal.invariant_of-self-in_err-kept
-invariant_of-self-in_err-kept c =
-    kept-within c.self.inside.design.now _ c.args.node.now c.extend.new.points.items c.fill.new.blocks.items _ c.in_ok-self-inside.field-0 c.extend.new.frames.items c.self.view_is
-    c.deref-2.ensures.value c.requires.subproblem c.requires.whole c.in_err-kept.ensures.stored c.in_err-kept.ensures.few
+invariant_of-self-in_err-kept c = kept-within c.self.inside.design.now _ c.args.node.now c.extend.new.stored c.requires.subproblem c.requires.whole c.in_err-kept.ensures.frames
 
 pub invariant_of-self-then-not-kept : goal.invariant_of-self-then-not-kept
-invariant_of-self-then-not-kept c =
-    kept-within c.self.inside.design.now _ c.args.node.now c.extend.new.points.items c.fill.new.blocks.items _ c.in_ok-self-inside.field-0 c.extend.new.frames.items c.self.view_is
-    c.deref-2.ensures.value c.requires.subproblem c.requires.whole c.in_ok-kept.ensures.stored c.in_ok-kept.ensures.few
+invariant_of-self-then-not-kept c = kept-within c.self.inside.design.now _ c.args.node.now c.extend.new.stored c.requires.subproblem c.requires.whole c.in_ok-kept.ensures.frames
 
 pub invariant_of-self-2 : goal.invariant_of-self-2
-invariant_of-self-2 c =
-    kept-within c.self.inside.design.now _ c.args.node.now c.extend.new.points.items c.fill.new.blocks.items _ c.in_ok-self-inside.field-0 c.extend.new.frames.items c.self.view_is
-    c.deref-2.ensures.value c.requires.subproblem c.requires.whole c.in_ok-kept.ensures.stored c.in_ok-kept.ensures.few
+invariant_of-self-2 c = kept-within c.self.inside.design.now _ c.args.node.now c.extend.new.stored c.requires.subproblem c.requires.whole c.in_ok-kept.ensures.frames

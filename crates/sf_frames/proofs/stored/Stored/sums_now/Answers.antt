@@ -1,9 +1,9 @@
 use Rattle.std.proofs.Common.{◌≡◌, length, sym, subst, rules}
 use Rattle.sf_frames.specs.Kept.{groups_at}
 use Rattle.sf_frames.specs.Sums.{AreSumsOrNone}
-use Rattle.sf_frames.proofs.top.sums_now.Goals as goal
+use Rattle.sf_frames.proofs.stored.Stored.sums_now.Goals as goal
 
 pub returns-then-is_empty : goal.returns-then-is_empty
 returns-then-is_empty c =
-    let none : length c.args.frames.now ≡ 0 = search rules in
+    let none : length c.args.self.now.frames.items ≡ 0 = search rules in
     subst (λ n. AreSumsOrNone (groups_at c.args.design.now c.args.node.now.tokens n) c.start.result) (sym none) (c.start.ensures c.args.node.now.tokens)

@@ -5,17 +5,17 @@ use Rattle.sf_standard.specs.declared.hull.Interval.{Interval}
 use Rattle.sf_standard.specs.Hull.{to_nat}
 use Rattle.sf_bounds.specs.declared.reach.Reach.{Reach}
 
--- a number of at most 700,000,000 to either side of 0
-abbrev pub IsNumber : ℤ → Type 0
-IsNumber z = (neg_ℤ (pos 700000000) ≤ℤ z) × (z ≤ℤ pos 700000000)
+-- an end that fits: at most 700,000,000 to either side of 0
+abbrev pub IsFitEnd : ℤ → Type 0
+IsFitEnd z = (neg_ℤ (pos 700000000) ≤ℤ z) × (z ≤ℤ pos 700000000)
 
--- both ends of an interval are such numbers
-abbrev pub IsNear : Interval → Type 0
-IsNear i = IsNumber i.low × IsNumber i.high
+-- both ends of an interval fit
+abbrev pub IsFitInterval : Interval → Type 0
+IsFitInterval i = IsFitEnd i.low × IsFitEnd i.high
 
--- the ends across and upward
-abbrev pub IsNearby : Reach → Type 0
-IsNearby r = IsNear r.across × IsNear r.upward
+-- those across and those upward
+abbrev pub IsFitReach : Reach → Type 0
+IsFitReach r = IsFitInterval r.across × IsFitInterval r.upward
 
 -- what two intervals share: the greater lower end and the lesser upper end
 abbrev pub shared : Interval → Interval → Interval

@@ -1,11 +1,11 @@
-//! The two directions in which items are joined.
+//! The two directions in which rooms are joined.
 
 ghost use Rattle.std.specs.Prelude.{◌≡◌};
-ghost use Rattle.sf_frames.specs.Direction.{token_in};
+ghost use Rattle.sf_curves.specs.Direction.{token_in};
 
 use sf_polish::Token;
 
-/// How two items are joined: the right one beside the left, or the upper one above the lower.
+/// How two rooms are joined: the right one beside the left, or the upper one above the lower.
 #[derive(Clone, Copy, Debug, PartialEq, Eq)]
 pub enum Direction {
     Beside,

@@ -1,4 +1,4 @@
--- The ends that the code finds are near too.
+-- What an integer is as a number of at least 0.
 use Rattle.std.proofs.Common.{◌≡◌, arith, refl}
 use Rattle.std.specs.Prelude.{ℤ, pos, negsuc, ◌≤ℤ◌, nat_abs}
 use Rattle.std.proofs.lemmas.Int.{ints}
