@@ -10,7 +10,7 @@ use Rattle.sf_lex.specs.Text.{is_blank_byte, is_line_feed, is_not_empty, has_non
 use Rattle.sf_lex.specs.Scan.{LineWord, last_word_line}
 use Rattle.sf_lex.specs.Number.{is_digit}
 use Rattle.sf_lex.specs.Whole.{whole_read}
-use Rattle.sf_lex.proofs.Decimals.{and_true}
+use Rattle.std.proofs.lemmas.Bool.{and_parts}
 use Rattle.sf_lex.proofs.WordLines.{words_from, IsRun, IsEnded, run_of, ended_of, words_from-run, words_from-gap}
 use Rattle.sf_certificate.specs.declared.fault.CertFault.{CertFault}
 use Rattle.sf_certificate.specs.declared.fault.CertFault.TheVariants.{NoMemory}
@@ -21,7 +21,7 @@ use Rattle.sf_certificate.specs.declared.tag.Tag.{Tag}
 use Rattle.sf_certificate.specs.declared.version.Version.{Version}
 use Rattle.sf_certificate.specs.Reading.{letter_of, part_of, by_letter, split_by, closed_by, second_by, tags_said, tree_from}
 use Rattle.sf_certificate.specs.Reader.{Reader, read_on, with_some}
-use Rattle.sf_certificate.specs.Bytes.{Bytewise, begun, bytes_on, past_blank, words_on}
+use Rattle.sf_certificate.specs.Bytes.{Bytewise, begun_word, bytes_on, past_blank, words_on}
 
 -- what is found not to hold is false
 not-true : (b : Bool) → not b ≡ true → b ≡ false
@@ -32,7 +32,7 @@ not-true false e = refl
 pub run-of : (w : List ℕ) → has_none is_blank_byte w ≡ true → IsRun w
 run-of [] h = tt
 run-of (b ∷ w) h =
-    let both = and_true (not (is_blank_byte b)) (has_none is_blank_byte w) h in
+    let both = and_parts (not (is_blank_byte b)) (has_none is_blank_byte w) h in
     (not-true (is_blank_byte b) both.0, run-of w both.1)
 
 -- a run goes on by a byte that is no blank
@@ -43,14 +43,14 @@ run-more (c ∷ w) b h e = (h.0, run-more w b h.1 e)
 -- ---- the end of a word
 
 -- a blank ends the word that was begun
-pub begun-blank : (n k b : ℕ) (w rest : List ℕ) → IsRun w → is_blank_byte b ≡ true → n + count_by is_line_feed (b ∷ []) ≡ k → words_from n (w ++ b ∷ rest) ≡ begun n w ++ words_from k rest
+pub begun-blank : (n k b : ℕ) (w rest : List ℕ) → IsRun w → is_blank_byte b ≡ true → n + count_by is_line_feed (b ∷ []) ≡ k → words_from n (w ++ b ∷ rest) ≡ begun_word n w ++ words_from k rest
 begun-blank n k b [] rest run blank next = words_from-gap n (b ∷ []) rest (blank, tt) ∙ ap (λ l. words_from l rest) next
 begun-blank n k b (c ∷ w) rest run blank next =
     words_from-run n (c ∷ w) (b ∷ rest) (omega arith) run blank
     ∙ ap (λ ws. record { line = n; text = c ∷ w } ∷ ws) (words_from-gap n (b ∷ []) rest (blank, tt) ∙ ap (λ l. words_from l rest) next)
 
 -- and so does the end of the text
-pub begun-end : (n : ℕ) (w : List ℕ) → IsRun w → words_from n (w ++ []) ≡ begun n w ++ []
+pub begun-end : (n : ℕ) (w : List ℕ) → IsRun w → words_from n (w ++ []) ≡ begun_word n w ++ []
 begun-end n [] run = refl
 begun-end n (c ∷ w) run = words_from-run n (c ∷ w) [] (omega arith) run tt
 
@@ -107,7 +107,7 @@ module _ (n line last : ℕ) (tree : Reader) where
   by-words w bytes ws e = ap (λ (z : List LineWord). read_on n (last_word_line last z) tree z) e
 
   -- words that are too long at the front are read as each other
-  long-first : (w v : List ℕ) (others : List LineWord) → 21 ≤ length w → 21 ≤ length v → read_on n (last_word_line last (begun line w ++ others)) tree (begun line w ++ others) ≡ read_on n (last_word_line last (begun line v ++ others)) tree (begun line v ++ others)
+  long-first : (w v : List ℕ) (others : List LineWord) → 21 ≤ length w → 21 ≤ length v → read_on n (last_word_line last (begun_word line w ++ others)) tree (begun_word line w ++ others) ≡ read_on n (last_word_line last (begun_word line v ++ others)) tree (begun_word line v ++ others)
   long-first [] v others h k = absurd (omega arith)
   long-first (b ∷ w) [] others h k = absurd (omega arith)
   long-first (b ∷ w) (c ∷ v) others h k = ap (tree_from n (last_word_line line others) tree.places) (long-said tree.version (last_word_line line others) line tree.half (b ∷ w) (c ∷ v) others h k)
@@ -121,9 +121,9 @@ module _ (n line last : ℕ) (tree : Reader) where
       → bytes_on n (record { tree = tree; word = w; line = line; last = last }) (b ∷ rest) ≡ bytes_on n (record { tree = tree; word = v; line = line; last = last }) (b ∷ rest)
   long-blank b w v rest run too h k blank =
       let others = words_from (line + count_by is_line_feed (b ∷ [])) rest in
-      by-words w (b ∷ rest) (begun line w ++ others) (begun-blank line _ b w rest run blank refl)
+      by-words w (b ∷ rest) (begun_word line w ++ others) (begun-blank line _ b w rest run blank refl)
       ∙ long-first w v others h k
-      ∙ sym (by-words v (b ∷ rest) (begun line v ++ others) (begun-blank line _ b v rest too blank refl))
+      ∙ sym (by-words v (b ∷ rest) (begun_word line v ++ others) (begun-blank line _ b v rest too blank refl))
 
   -- a byte more of a word may be kept or still to come
   pub more-word : (w rest : List ℕ) (b : ℕ) → bytes_on n (record { tree = tree; word = w; line = line; last = last }) (b ∷ rest) ≡ bytes_on n (record { tree = tree; word = w ++ b ∷ []; line = line; last = last }) rest
@@ -141,7 +141,7 @@ module _ (n line last : ℕ) (tree : Reader) where
   long-same : (rest w v : List ℕ) → IsRun w → IsRun v → 21 ≤ length w → 21 ≤ length v
       → bytes_on n (record { tree = tree; word = w; line = line; last = last }) rest ≡ bytes_on n (record { tree = tree; word = v; line = line; last = last }) rest
   long-same [] w v run too h k =
-      by-words w [] (begun line w ++ []) (begun-end line w run) ∙ long-first w v [] h k ∙ sym (by-words v [] (begun line v ++ []) (begun-end line v too))
+      by-words w [] (begun_word line w ++ []) (begun-end line w run) ∙ long-first w v [] h k ∙ sym (by-words v [] (begun_word line v ++ []) (begun-end line v too))
   long-same (b ∷ rest) w v run too h k = long-byte rest w v b (is_blank_byte b) refl run too h k (λ x y p q i j. long-same rest x y p q i j)
 
   -- a byte of a word that is too long need not be kept
@@ -152,49 +152,49 @@ module _ (n line last : ℕ) (tree : Reader) where
 
 -- how a reader stands after the end of a word
 abbrev pub IsEndOf : Bytewise → Bytewise → Type 0
-IsEndOf old new = new ≡ record { tree = new.tree; word = []; line = old.line; last = last_word_line old.last (begun old.line old.word) }
+IsEndOf old new = new ≡ record { tree = new.tree; word = []; line = old.line; last = last_word_line old.last (begun_word old.line old.word) }
 
 module _ (n : ℕ) (old : Bytewise) where
   -- the words that are left, where the first of them was begun
-  by-begun : (bytes : List ℕ) (others : List LineWord) → words_on old bytes ≡ begun old.line old.word ++ others
-      → bytes_on n old bytes ≡ read_on n (last_word_line (last_word_line old.last (begun old.line old.word)) others) old.tree (begun old.line old.word ++ others)
+  by-begun : (bytes : List ℕ) (others : List LineWord) → words_on old bytes ≡ begun_word old.line old.word ++ others
+      → bytes_on n old bytes ≡ read_on n (last_word_line (last_word_line old.last (begun_word old.line old.word)) others) old.tree (begun_word old.line old.word ++ others)
   by-begun bytes others e =
       ap (λ (z : List LineWord). read_on n (last_word_line old.last z) old.tree z) e
-      ∙ ap (λ l. read_on n l old.tree (begun old.line old.word ++ others)) (last-append old.last (begun old.line old.word) others)
+      ∙ ap (λ l. read_on n l old.tree (begun_word old.line old.word ++ others)) (last-append old.last (begun_word old.line old.word) others)
 
   -- a blank behind the word
   module _ (b k : ℕ) (rest : List ℕ) (run : has_none is_blank_byte old.word ≡ true) (blank : is_blank_byte b ≡ true) (next : old.line + count_by is_line_feed (b ∷ []) ≡ k) where
     -- the words that are left where a blank ends the first
-    left : words_on old (b ∷ rest) ≡ begun old.line old.word ++ words_from k rest
+    left : words_on old (b ∷ rest) ≡ begun_word old.line old.word ++ words_from k rest
     left = begun-blank old.line k b old.word rest (run-of old.word run) blank next
 
     -- a blank behind the word, where the word ends a tag or none
-    pub blank-tag : (new : Bytewise) (tag : Option Tag) → ((last : ℕ) (others : List LineWord) → read_on n last old.tree (begun old.line old.word ++ others) ≡ with_some tag (read_on n last new.tree others)) → IsEndOf old new
+    pub blank-tag : (new : Bytewise) (tag : Option Tag) → ((last : ℕ) (others : List LineWord) → read_on n last old.tree (begun_word old.line old.word ++ others) ≡ with_some tag (read_on n last new.tree others)) → IsEndOf old new
         → bytes_on n old (b ∷ rest) ≡ with_some tag (bytes_on n (record { tree = new.tree; word = new.word; line = k; last = new.last }) rest)
     blank-tag new tag f end =
         let others = words_from k rest in
         by-begun (b ∷ rest) others left
-        ∙ f (last_word_line (last_word_line old.last (begun old.line old.word)) others) others
+        ∙ f (last_word_line (last_word_line old.last (begun_word old.line old.word)) others) others
         ∙ ap (λ l. with_some tag (read_on n (last_word_line l others) new.tree others)) (sym (ap (λ (at : Bytewise). at.last) end))
         ∙ ap (λ w. with_some tag (bytes_on n (record { tree = new.tree; word = w; line = k; last = new.last }) rest)) (sym (ap (λ (at : Bytewise). at.word) end))
 
     -- a blank behind the word, where the word is at fault
-    pub blank-fault : (e : CertFault) → ((last : ℕ) (others : List LineWord) → read_on n last old.tree (begun old.line old.word ++ others) ≡ Err e) → bytes_on n old (b ∷ rest) ≡ Err e
-    blank-fault e f = by-begun (b ∷ rest) (words_from k rest) left ∙ f (last_word_line (last_word_line old.last (begun old.line old.word)) (words_from k rest)) (words_from k rest)
+    pub blank-fault : (e : CertFault) → ((last : ℕ) (others : List LineWord) → read_on n last old.tree (begun_word old.line old.word ++ others) ≡ Err e) → bytes_on n old (b ∷ rest) ≡ Err e
+    blank-fault e f = by-begun (b ∷ rest) (words_from k rest) left ∙ f (last_word_line (last_word_line old.last (begun_word old.line old.word)) (words_from k rest)) (words_from k rest)
 
   -- the end of the text behind the word
   module _ (run : has_none is_blank_byte old.word ≡ true) where
     -- the end of the text behind the word, where it ends a tag or none
-    pub end-tag : (new : Bytewise) (tag : Option Tag) (r : Result (List Tag) CertFault) → ((last : ℕ) (others : List LineWord) → read_on n last old.tree (begun old.line old.word ++ others) ≡ with_some tag (read_on n last new.tree others)) → IsEndOf old new
+    pub end-tag : (new : Bytewise) (tag : Option Tag) (r : Result (List Tag) CertFault) → ((last : ℕ) (others : List LineWord) → read_on n last old.tree (begun_word old.line old.word ++ others) ≡ with_some tag (read_on n last new.tree others)) → IsEndOf old new
         → read_on n new.last new.tree [] ≡ r → bytes_on n old [] ≡ with_some tag r
     end-tag new tag r f end e =
-        let last = last_word_line old.last (begun old.line old.word) in
+        let last = last_word_line old.last (begun_word old.line old.word) in
         by-begun [] [] (begun-end old.line old.word (run-of old.word run)) ∙ f last []
         ∙ ap (λ l. with_some tag (read_on n l new.tree [])) (sym (ap (λ (at : Bytewise). at.last) end)) ∙ ap (with_some tag) e
 
     -- the end of the text behind the word, where it is at fault
-    pub end-fault : (e : CertFault) → ((last : ℕ) (others : List LineWord) → read_on n last old.tree (begun old.line old.word ++ others) ≡ Err e) → bytes_on n old [] ≡ Err e
-    end-fault e f = by-begun [] [] (begun-end old.line old.word (run-of old.word run)) ∙ f (last_word_line old.last (begun old.line old.word)) []
+    pub end-fault : (e : CertFault) → ((last : ℕ) (others : List LineWord) → read_on n last old.tree (begun_word old.line old.word ++ others) ≡ Err e) → bytes_on n old [] ≡ Err e
+    end-fault e f = by-begun [] [] (begun-end old.line old.word (run-of old.word run)) ∙ f (last_word_line old.last (begun_word old.line old.word)) []
 
 -- a fault stays one behind a tag
 pub some-fault : (tag : Option Tag) (e : CertFault) → with_some tag (Err e) ≡ Err e
@@ -204,20 +204,20 @@ some-fault (Some tag) e = refl
 -- a blank behind the word
 module _ (n : ℕ) (old new : Bytewise) (run : has_none is_blank_byte old.word ≡ true) where
   -- where the word ends a tag or none
-  pub past-tag : (tag : Option Tag) → ((last : ℕ) (others : List LineWord) → read_on n last old.tree (begun old.line old.word ++ others) ≡ with_some tag (read_on n last new.tree others)) → IsEndOf old new
+  pub past-tag : (tag : Option Tag) → ((last : ℕ) (others : List LineWord) → read_on n last old.tree (begun_word old.line old.word ++ others) ≡ with_some tag (read_on n last new.tree others)) → IsEndOf old new
       → (b : ℕ) (rest : List ℕ) → is_blank_byte b ≡ true → bytes_on n old (b ∷ rest) ≡ with_some tag (bytes_on n (past_blank b new) rest)
   past-tag tag f end b rest blank =
       blank-tag n old b (old.line + count_by is_line_feed (b ∷ [])) rest run blank refl new tag f end
       ∙ ap (λ l. with_some tag (bytes_on n (record { tree = new.tree; word = new.word; line = l + count_by is_line_feed (b ∷ []); last = new.last }) rest)) (sym (ap (λ (at : Bytewise). at.line) end))
 
   -- where the word is at fault
-  pub past-fault : (e : CertFault) → ((last : ℕ) (others : List LineWord) → read_on n last old.tree (begun old.line old.word ++ others) ≡ Err e) → (b : ℕ) (rest : List ℕ) → is_blank_byte b ≡ true → bytes_on n old (b ∷ rest) ≡ Err e
+  pub past-fault : (e : CertFault) → ((last : ℕ) (others : List LineWord) → read_on n last old.tree (begun_word old.line old.word ++ others) ≡ Err e) → (b : ℕ) (rest : List ℕ) → is_blank_byte b ≡ true → bytes_on n old (b ∷ rest) ≡ Err e
   past-fault e f b rest blank = blank-fault n old b _ rest run blank refl e f
 
 -- a blank behind a word of which nothing was kept: its bytes are these
 module _ (n line last : ℕ) (tree : Reader) (w : List ℕ) (run : has_none is_blank_byte w ≡ true) where
   -- a word of which there is a byte was begun
-  begun-some : (w : List ℕ) → (length w ≡ 0 → ⊥) → begun line w ≡ record { line = line; text = w } ∷ []
+  begun-some : (w : List ℕ) → (length w ≡ 0 → ⊥) → begun_word line w ≡ record { line = line; text = w } ∷ []
   begun-some [] some = absurd (some refl)
   begun-some (b ∷ w) some = refl
 
@@ -242,19 +242,19 @@ module _ (n line last : ℕ) (tree : Reader) (w : List ℕ) (run : has_none is_b
 -- a blank behind more of a word
 module _ (first mid new : Bytewise) (w : List ℕ) (n : ℕ) (r : Result (Option Tag) CertFault) (run : has_none is_blank_byte mid.word ≡ true) (keeps : (n : ℕ) (rest : List ℕ) → bytes_on n first (w ++ rest) ≡ bytes_on n mid rest) where
   -- where the word ends a tag or none
-  pub kept-tag : IfOk r (λ tag. (last : ℕ) (others : List LineWord) → read_on n last mid.tree (begun mid.line mid.word ++ others) ≡ with_some tag (read_on n last new.tree others)) → IfOk r (λ tag. IsEndOf mid new)
+  pub kept-tag : IfOk r (λ tag. (last : ℕ) (others : List LineWord) → read_on n last mid.tree (begun_word mid.line mid.word ++ others) ≡ with_some tag (read_on n last new.tree others)) → IfOk r (λ tag. IsEndOf mid new)
       → IfOk r (λ tag. (b : ℕ) (rest : List ℕ) → is_blank_byte b ≡ true → bytes_on n first (w ++ b ∷ rest) ≡ with_some tag (bytes_on n (past_blank b new) rest))
   kept-tag f end =
-      elim r as (λ r. IfOk r (λ tag. (last : ℕ) (others : List LineWord) → read_on n last mid.tree (begun mid.line mid.word ++ others) ≡ with_some tag (read_on n last new.tree others)) → IfOk r (λ tag. IsEndOf mid new)
+      elim r as (λ r. IfOk r (λ tag. (last : ℕ) (others : List LineWord) → read_on n last mid.tree (begun_word mid.line mid.word ++ others) ≡ with_some tag (read_on n last new.tree others)) → IfOk r (λ tag. IsEndOf mid new)
       → IfOk r (λ tag. (b : ℕ) (rest : List ℕ) → is_blank_byte b ≡ true → bytes_on n first (w ++ b ∷ rest) ≡ with_some tag (bytes_on n (past_blank b new) rest))) [
         | Ok tag ↦ (λ f end b rest blank. keeps n (b ∷ rest) ∙ past-tag n mid new run tag f end b rest blank)
         | Err e ↦ (λ f end. tt)
       ] f end
 
   -- where the word is at fault
-  pub kept-fault : IfErr r (λ e. e ≢ NoMemory → (last : ℕ) (others : List LineWord) → read_on n last mid.tree (begun mid.line mid.word ++ others) ≡ Err e)
+  pub kept-fault : IfErr r (λ e. e ≢ NoMemory → (last : ℕ) (others : List LineWord) → read_on n last mid.tree (begun_word mid.line mid.word ++ others) ≡ Err e)
       → IfErr r (λ e. e ≢ NoMemory → (b : ℕ) (rest : List ℕ) → is_blank_byte b ≡ true → bytes_on n first (w ++ b ∷ rest) ≡ Err e)
-  kept-fault f = IfErr-weaker r (λ e. e ≢ NoMemory → (last : ℕ) (others : List LineWord) → read_on n last mid.tree (begun mid.line mid.word ++ others) ≡ Err e) _ (λ e g ne b rest blank. keeps n (b ∷ rest) ∙ past-fault n mid mid run e (g ne) b rest blank) f
+  kept-fault f = IfErr-weaker r (λ e. e ≢ NoMemory → (last : ℕ) (others : List LineWord) → read_on n last mid.tree (begun_word mid.line mid.word ++ others) ≡ Err e) _ (λ e g ne b rest blank. keeps n (b ∷ rest) ∙ past-fault n mid mid run e (g ne) b rest blank) f
 
 -- ---- a piece up to its first blank
 

@@ -12,7 +12,7 @@ use Rattle.sf_polish.specs.Text.{IsWritable}
 use Rattle.sf_certificate.specs.declared.cert.Cert.{Cert}
 use Rattle.sf_certificate.specs.declared.version.Version.TheVariants.{Two}
 use Rattle.sf_certificate.specs.Places.{first_place}
-use Rattle.sf_certificate.specs.Text.{labelled, plan_text, header_lines, tag_text, ended, cert_text, FitsTag}
+use Rattle.sf_certificate.specs.Text.{labelled, plan_text, header_lines, tag_text, text_of_lines, cert_text, FitsTag}
 use Rattle.sf_model.specs.CostText.{cost_text}
 use Rattle.sf_certificate.specs.Reading.{version_in, line_by, header_read, cert_read, said_by}
 use Rattle.sf_certificate.proofs.HeaderReads.{header-whole, cert-whole}
@@ -53,8 +53,8 @@ module _ (cert : Cert) (cost : cert.cost < 2 ^ 64) (bound : cert.bound < 2 ^ 64)
   all-lines =
       let tls = map tag_text cert.tags in
       let hs = header_lines cert.blocks cert.plan cert.cost cert.bound in
-      let one : lines (ended tls) ≡ tls = ap lines (sym (append-nil (ended tls))) ∙ lines-ended tls [] (tags-lines cert.tags (recursion_from_All FitsTag cert.tags fits)) ∙ append-nil tls in
-      lines-ended hs (ended tls) header-line ∙ ap (λ (x : List (List ℕ)). hs ++ x) one
+      let one : lines (text_of_lines tls) ≡ tls = ap lines (sym (append-nil (text_of_lines tls))) ∙ lines-ended tls [] (tags-lines cert.tags (recursion_from_All FitsTag cert.tags fits)) ∙ append-nil tls in
+      lines-ended hs (text_of_lines tls) header-line ∙ ap (λ (x : List (List ℕ)). hs ++ x) one
 
   -- the first line says the second version
   title : version_in (codes "slicing-certificate") (codes "slicing-certificate" ++ 32 ∷ codes "2") ≡ Some Two

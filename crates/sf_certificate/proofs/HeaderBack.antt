@@ -13,7 +13,7 @@ use Rattle.sf_lex.specs.Number.{is_digit}
 use Rattle.sf_lex.specs.Text.{is_line_feed, is_blank_byte, has_none, is_not_empty}
 use Rattle.sf_lex.specs.Scan.{LineWord, line_words}
 use Rattle.sf_lex.specs.Whole.{plain_read}
-use Rattle.sf_lex.proofs.Decimals.{and_true}
+use Rattle.std.proofs.lemmas.Bool.{and_parts}
 use Rattle.sf_lex.proofs.Spelled.{words-blank}
 use Rattle.sf_lex.proofs.WordLines.{words_from-gap}
 use Rattle.sf_lex.proofs.WrittenNumbers.{digits_written, plain_written}
@@ -65,7 +65,7 @@ not-none d e = grind (arith, nat_tests)
 digits-none : (ds : List ℕ) → 0 < length ds → list_all is_digit ds ≡ true → bytes_eq ds (codes "none") ≡ false
 digits-none [] some h = absurd (omega arith)
 digits-none (d ∷ ds) some h =
-    let both = and_true (is_digit d) (list_all is_digit ds) h in
+    let both = and_parts (is_digit d) (list_all is_digit ds) h in
     rw (not-none d both.0) refl
 
 -- a number that is found to be MAX is
@@ -107,7 +107,7 @@ digit-other d e = (grind (arith, nat_tests), grind (arith, nat_tests))
 other-digits : (ds more : List ℕ) → 0 < length ds → list_all is_digit ds ≡ true → IsOther (ds ++ more)
 other-digits [] more some h = absurd (omega arith)
 other-digits (d ∷ ds) more some h =
-    let both = digit-other d (and_true (is_digit d) (list_all is_digit ds) h).0 in
+    let both = digit-other d (and_parts (is_digit d) (list_all is_digit ds) h).0 in
     record { first = d; rest = ds ++ more; is = refl; solid = both.0; other = both.1 }
 
 -- nor is a word that goes on from such

@@ -5,14 +5,7 @@ use Rattle.sf_polish.specs.declared.expr.Expr.{Expr}
 use Rattle.sf_certificate.specs.declared.cert.Cert.{Cert}
 use Rattle.sf_certificate.specs.declared.tag.Tag.{Tag}
 use Rattle.sf_certificate.specs.Form.{IsFormed}
-
--- what a certificate says, field by field
-record Said : Type 0 where
-  blocks : ℕ
-  plan : Option Expr
-  cost : ℕ
-  bound : ℕ
-  tags : List Tag
+use Rattle.sf_certificate.specs.Reading.{Said, said_by}
 
 -- what is said has the form of a certificate
 abbrev Formed : Said → Type 0
@@ -38,7 +31,5 @@ same-parts b c p q y z k l ts us e1 e2 e3 e4 e5 = cc
 -- certificates with the same fields are the same
 pub same-cert : (c d : Cert) → c.blocks ≡ d.blocks → c.plan ≡ d.plan → c.cost ≡ d.cost → c.bound ≡ d.bound → c.tags ≡ d.tags → c ≡ d
 same-cert c d blocks plan cost bound tags =
-    same-said
-    (record { blocks = c.blocks; plan = c.plan; cost = c.cost; bound = c.bound; tags = c.tags })
-    (record { blocks = d.blocks; plan = d.plan; cost = d.cost; bound = d.bound; tags = d.tags })
+    same-said (said_by c) (said_by d)
     (same-parts c.blocks d.blocks c.plan d.plan c.cost d.cost c.bound d.bound c.tags d.tags blocks plan cost bound tags) c.form d.form

@@ -10,7 +10,8 @@ use Rattle.sf_polish.specs.declared.expr.Expr.{Expr}
 use Rattle.sf_certificate.specs.declared.fault.CertFault.{CertFault}
 use Rattle.sf_certificate.specs.declared.tag.Tag.{Tag}
 use Rattle.sf_certificate.specs.declared.version.Version.{Version}
-use Rattle.sf_certificate.specs.Reading.{◌>>=◌, Header, version_in, number_in, cost_in, plan_in, word_in, line_by, line_read, header_read, tree_read, cert_read}
+use Rattle.sf_lex.specs.Results.{◌>>=◌}
+use Rattle.sf_certificate.specs.Reading.{Header, version_in, number_in, cost_in, plan_in, word_in, line_by, line_read, header_read, tree_read, cert_read}
 use Rattle.sf_certificate.specs.Bytes.{IsHeader, first_byte, bytes_on, said_with}
 use Rattle.sf_certificate.proofs.ByteReads.{last-append}
 use Rattle.sf_certificate.proofs.HeaderReads.{cert-header, cert-tree, cert-whole}

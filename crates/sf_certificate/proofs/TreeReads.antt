@@ -1,11 +1,10 @@
 -- The tree of a text, read tag by tag.
 use Rattle.std.proofs.Common.{◌≡◌, ℕ, ◌<◌, ◌≤◌, List, [], ◌∷◌, ◌++◌, arith, refl, ap, sym, subst, ◌∙◌, Bool, true, false, cond, append_assoc, append-nil, ◌&&◌, Option, Some, None, Result, Ok, Err}
-use Rattle.std.specs.Prelude.{◌≢◌, IfOk, IfErr, nat_lt}
-use Rattle.std.proofs.lemmas.Result.{IfOk-weaker, IfErr-weaker}
+use Rattle.std.specs.Prelude.{nat_lt}
 use Rattle.std.proofs.lemmas.Bool.Decides.{nat_tests}
 use Rattle.sf_lex.specs.Scan.{LineWord}
 use Rattle.sf_certificate.specs.declared.fault.CertFault.{CertFault}
-use Rattle.sf_certificate.specs.declared.fault.CertFault.TheVariants.{TooDeep, Truncated, Trailing, NoMemory}
+use Rattle.sf_certificate.specs.declared.fault.CertFault.TheVariants.{TooDeep, Truncated, Trailing}
 use Rattle.sf_certificate.specs.declared.letter.HalfTag.{HalfTag}
 use Rattle.sf_certificate.specs.declared.letter.Letter.{Letter}
 use Rattle.sf_certificate.specs.declared.place.Place.{Place}
@@ -13,8 +12,8 @@ use Rattle.sf_certificate.specs.declared.tag.Tag.{Tag}
 use Rattle.sf_certificate.specs.declared.version.Version.{Version}
 use Rattle.sf_certificate.specs.declared.letter.TagSaid.{TagSaid}
 use Rattle.sf_certificate.specs.Places.{places_under, spell_trees}
-use Rattle.sf_certificate.specs.Reading.{letter_of, by_letter, tag_by, tags_said, tree_read, with_tag, tag_at, tree_from}
-use Rattle.sf_certificate.specs.Reader.{Reader, first_reader, read_on, with_tags, with_some}
+use Rattle.sf_certificate.specs.Reading.{letter_of, by_letter, tag_by, tags_said, with_tag, tag_at, tree_from}
+use Rattle.sf_certificate.specs.Reader.{Reader, read_on, with_tags}
 
 -- one tag more before what follows
 pub with_tags-more : (tags : List Tag) (tag : Tag) (r : Result (List Tag) CertFault) → with_tags tags (with_tag tag r) ≡ with_tags (tags ++ tag ∷ []) r
@@ -30,40 +29,9 @@ with_tags-none (Err fault) = refl
 abbrev pub IsReading : ℕ → ℕ → Result (List Tag) CertFault → List Tag → Reader → List LineWord → Type 0
 IsReading n last whole tags reader words = whole ≡ with_tags tags (read_on n last reader words)
 
--- before the first word
-pub reading-start : (version : Version) (n last : ℕ) (tags : List Tag) (reader : Reader) (words : List LineWord) → tags ≡ [] → reader ≡ first_reader version → tree_read version n last words ≡ with_tags tags (read_on n last reader words)
-reading-start version n last tags reader words none same =
-    sym (with_tags-none (tree_read version n last words)) ∙ ap (λ ts. with_tags ts (tree_read version n last words)) (sym none) ∙ ap (λ r. with_tags tags (read_on n last r words)) (sym same)
-
--- a word that ends no tag adds none
-with-none : (tags : List Tag) (tag : Option Tag) (r : Result (List Tag) CertFault) → tag ≡ None → with_tags tags (with_some tag r) ≡ with_tags tags r
-with-none tags tag r e = ap (λ o. with_tags tags (with_some o r)) e
-
--- a word that ends a tag adds it
-with-one : (tags : List Tag) (said : Option Tag) (tag : Tag) (r : Result (List Tag) CertFault) → said ≡ Some tag → with_tags tags (with_some said r) ≡ with_tags (tags ++ tag ∷ []) r
-with-one tags said tag r e = ap (λ o. with_tags tags (with_some o r)) e ∙ with_tags-more tags tag r
-
--- a word that ends no tag
-pub reading-word : (n last : ℕ) (whole : Result (List Tag) CertFault) (tags : List Tag) (old new : Reader) (words others : List LineWord) (w : LineWord) (said : Option Tag) → IsReading n last whole tags old words → words ≡ w ∷ others → read_on n last old (w ∷ others) ≡ with_some said (read_on n last new others) → said ≡ None → IsReading n last whole tags new others
-reading-word n last whole tags old new words others w said e is step none =
-    e ∙ ap (λ ws. with_tags tags (read_on n last old ws)) is ∙ ap (with_tags tags) step ∙ with-none tags said (read_on n last new others) none
-
--- a word that ends a tag
-pub reading-tag : (n last : ℕ) (whole : Result (List Tag) CertFault) (tags grown : List Tag) (old new : Reader) (words others : List LineWord) (w : LineWord) (said : Option Tag) (tag : Tag) → IsReading n last whole tags old words → words ≡ w ∷ others → read_on n last old (w ∷ others) ≡ with_some said (read_on n last new others) → said ≡ Some tag → grown ≡ tags ++ tag ∷ [] → IsReading n last whole grown new others
-reading-tag n last whole tags grown old new words others w said tag e is step some more =
-    e ∙ ap (λ ws. with_tags tags (read_on n last old ws)) is ∙ ap (with_tags tags) step ∙ with-one tags said tag (read_on n last new others) some ∙ ap (λ ts. with_tags ts (read_on n last new others)) (sym more)
-
--- a word at fault
-pub reading-fault : (n last : ℕ) (whole : Result (List Tag) CertFault) (tags : List Tag) (old : Reader) (words others : List LineWord) (w : LineWord) (fault : CertFault) → IsReading n last whole tags old words → words ≡ w ∷ others → read_on n last old (w ∷ others) ≡ Err fault → whole ≡ Err fault
-reading-fault n last whole tags old words others w fault e is step = e ∙ ap (λ ws. with_tags tags (read_on n last old ws)) is ∙ ap (with_tags tags) step
-
 -- no further word
 pub reading-done : (n last : ℕ) (whole : Result (List Tag) CertFault) (tags : List Tag) (reader : Reader) (words : List LineWord) → IsReading n last whole tags reader words → words ≡ [] → read_on n last reader [] ≡ Ok [] → whole ≡ Ok tags
 reading-done n last whole tags reader words e none end = e ∙ ap (λ ws. with_tags tags (read_on n last reader ws)) none ∙ ap (with_tags tags) end ∙ ap Ok (append-nil tags)
-
--- no further word, where the tree is not whole
-pub reading-cut : (n last : ℕ) (whole : Result (List Tag) CertFault) (tags : List Tag) (reader : Reader) (words : List LineWord) (fault : CertFault) → IsReading n last whole tags reader words → words ≡ [] → read_on n last reader [] ≡ Err fault → whole ≡ Err fault
-reading-cut n last whole tags reader words fault e none end = e ∙ ap (λ ws. with_tags tags (read_on n last reader ws)) none ∙ ap (with_tags tags) end
 
 -- ---- one word
 
@@ -106,32 +74,6 @@ module _ (n : ℕ) (places : List Place) (line : ℕ) (said : Result Tag CertFau
         put-at last others ∙ ap (λ r. tag_at place line r (λ tag. with_tag tag (tree_from n last (places_under n tag place ++ more) others))) e
         ∙ ap (λ b. cond b next (Err (TooDeep line))) (shallow-true place.depth shallow)
         ∙ ap (λ ps. with_tag tag (tree_from n last ps others)) (sym below)
-
--- what is nothing stays so
-pub then-none : {X : Type 0} (r : Result X CertFault) (new old : Option HalfTag) → old ≡ None → IfOk r (λ (x : X). new ≡ old) → IfOk r (λ (x : X). new ≡ None)
-then-none r new old none f = IfOk-weaker r (λ x. new ≡ old) _ (λ x e. e ∙ none) f
-
--- a word that says a tag, or a fault of one
-module _ (n : ℕ) (old : Reader) (word : LineWord) (places : List Place) (said : TagSaid) (r : Result (Option Tag) CertFault) (step : (last : ℕ) (others : List LineWord) → read_on n last old (word ∷ others) ≡ tree_from n last places (said ∷ tags_said old.version last None others)) where
-  -- where it is a tag at its place
-  pub said-tag : (new : Reader)
-      → IfOk r (λ tag. (last : ℕ) (others : List TagSaid) → tree_from n last places (said ∷ others) ≡ with_some tag (tree_from n last new.places others))
-      → IfOk r (λ tag. new.half ≡ None) → new.version ≡ old.version
-      → IfOk r (λ tag. (last : ℕ) (others : List LineWord) → read_on n last old (word ∷ others) ≡ with_some tag (read_on n last new others))
-  said-tag new f none same =
-      elim r as (λ r. IfOk r (λ tag. (last : ℕ) (others : List TagSaid) → tree_from n last places (said ∷ others) ≡ with_some tag (tree_from n last new.places others))
-      → IfOk r (λ tag. new.half ≡ None)
-      → IfOk r (λ tag. (last : ℕ) (others : List LineWord) → read_on n last old (word ∷ others) ≡ with_some tag (read_on n last new others))) [
-        | Ok tag ↦ (λ f none last others. step last others ∙ f last (tags_said old.version last None others)
-            ∙ ap (λ v. with_some tag (tree_from n last new.places (tags_said v last None others))) (sym same)
-            ∙ ap (λ s. with_some tag (tree_from n last new.places (tags_said new.version last s others))) (sym none))
-        | Err fault ↦ (λ f none. tt)
-      ] f none
-
-  -- where it is a fault
-  pub said-fault : IfErr r (λ e. e ≢ NoMemory → (last : ℕ) (others : List TagSaid) → tree_from n last places (said ∷ others) ≡ Err e)
-      → IfErr r (λ e. e ≢ NoMemory → (last : ℕ) (others : List LineWord) → read_on n last old (word ∷ others) ≡ Err e)
-  said-fault f = IfErr-weaker r (λ e. e ≢ NoMemory → (last : ℕ) (others : List TagSaid) → tree_from n last places (said ∷ others) ≡ Err e) _ (λ e g ne last others. step last others ∙ g ne last (tags_said old.version last None others)) f
 
 -- what is said where a word comes next
 module _ (version : Version) (half : Option HalfTag) (word : LineWord) where

@@ -1,7 +1,7 @@
 -- Lines, words and tags that were written are read as they were.
-use Rattle.std.proofs.Common.{◌≡◌, ℕ, ◌+◌, ◌^◌, ◌<◌, List, [], ◌∷◌, ◌++◌, length, map, arith, refl, ap, ◌∙◌, Bool, true, cond, not, None, Result, Ok, Err, append_assoc}
+use Rattle.std.proofs.Common.{◌≡◌, ℕ, ◌+◌, ◌^◌, ◌<◌, List, [], ◌∷◌, ◌++◌, length, map, arith, refl, ap, ◌∙◌, true, cond, not, None, Result, Ok, Err, append_assoc}
 use Rattle.std.specs.Prelude.{nat_lt}
-use Rattle.std.specs.List.{AllByRecursion, list_all}
+use Rattle.std.specs.List.{AllByRecursion}
 use Rattle.std.specs.Fmt.{decimal}
 use Rattle.std.proofs.lemmas.Bool.Decides.{nat_tests}
 use Rattle.std.proofs.lemmas.Fmt.{decimal_nonempty}
@@ -9,9 +9,10 @@ use Rattle.std.proofs.lemmas.List.Folds.{list_all-append}
 use Rattle.sf_lex.specs.Number.{is_digit}
 use Rattle.sf_lex.specs.Text.{lines, words, is_line_feed, is_blank_byte, has_none}
 use Rattle.sf_lex.specs.Scan.{LineWord, numbered, words_of_line, words_of_lines}
-use Rattle.sf_lex.proofs.Decimals.{and_true}
+use Rattle.std.proofs.lemmas.Bool.{and_parts}
 use Rattle.sf_lex.proofs.Spelled.{lines-written, words-written, words-last}
 use Rattle.sf_lex.proofs.WrittenNumbers.{digits_written, whole_written}
+use Rattle.sf_polish.proofs.WordTexts.{all-weaker}
 use Rattle.sf_certificate.specs.declared.fault.CertFault.{CertFault}
 use Rattle.sf_certificate.specs.declared.fault.CertFault.TheVariants.{TooDeep}
 use Rattle.sf_certificate.specs.declared.place.Place.{Place}
@@ -21,29 +22,22 @@ use Rattle.sf_certificate.specs.declared.tag.Tag.TheVariants.{Extend, Split, Clo
 use Rattle.sf_certificate.specs.declared.version.Version.TheVariants.{Two}
 use Rattle.sf_certificate.specs.declared.letter.TagSaid.{TagSaid}
 use Rattle.sf_certificate.specs.Places.{places_under, spell_trees}
-use Rattle.sf_certificate.specs.Text.{tag_text, ended, FitsTag}
+use Rattle.sf_certificate.specs.Text.{tag_text, text_of_lines, FitsTag}
 use Rattle.sf_certificate.specs.Reading.{tags_said, split_by, with_tag, tree_from}
 
 -- ---- lines
 
 -- lines that LF ends are the lines of the text
-pub lines-ended : (ls : List (List ℕ)) (rest : List ℕ) → AllByRecursion (λ l. has_none is_line_feed l ≡ true) ls → lines (ended ls ++ rest) ≡ ls ++ lines rest
+pub lines-ended : (ls : List (List ℕ)) (rest : List ℕ) → AllByRecursion (λ l. has_none is_line_feed l ≡ true) ls → lines (text_of_lines ls ++ rest) ≡ ls ++ lines rest
 lines-ended [] rest h = refl
 lines-ended (l ∷ ls) rest h =
-    ap lines (append_assoc (l ++ 10 ∷ []) (ended ls) rest ∙ append_assoc l (10 ∷ []) (ended ls ++ rest))
-    ∙ lines-written l (ended ls ++ rest) h.0
+    ap lines (append_assoc (l ++ 10 ∷ []) (text_of_lines ls) rest ∙ append_assoc l (10 ∷ []) (text_of_lines ls ++ rest))
+    ∙ lines-written l (text_of_lines ls ++ rest) h.0
     ∙ ap (λ (x : List (List ℕ)). l ∷ x) (lines-ended ls rest h.1)
 
 -- two texts without a line feed have none together
 pub line-append : (xs ys : List ℕ) → has_none is_line_feed xs ≡ true → has_none is_line_feed ys ≡ true → has_none is_line_feed (xs ++ ys) ≡ true
 line-append xs ys h k = list_all-append (λ b. not (is_line_feed b)) xs ys ∙ rw (h, k) refl
-
--- what passes a test everywhere passes a weaker one
-weaker : (p q : ℕ → Bool) → ((b : ℕ) → p b ≡ true → q b ≡ true) → (xs : List ℕ) → list_all p xs ≡ true → list_all q xs ≡ true
-weaker p q f [] h = refl
-weaker p q f (x ∷ xs) h =
-    let both = and_true (p x) (list_all p xs) h in
-    rw (f x both.0, weaker p q f xs both.1) refl
 
 -- a digit is no line feed
 digit-line : (d : ℕ) → is_digit d ≡ true → not (is_line_feed d) ≡ true
@@ -55,11 +49,11 @@ digit-solid d e = grind (arith, nat_tests)
 
 -- a number has no line feed
 pub decimal-line : (n : ℕ) → n < 2 ^ 64 → has_none is_line_feed (decimal n) ≡ true
-decimal-line n h = weaker is_digit (λ b. not (is_line_feed b)) digit-line (decimal n) (digits_written n h)
+decimal-line n h = all-weaker is_digit (λ b. not (is_line_feed b)) digit-line (decimal n) (digits_written n h)
 
 -- a number has no blank
 pub decimal-solid : (n : ℕ) → n < 2 ^ 64 → has_none is_blank_byte (decimal n) ≡ true
-decimal-solid n h = weaker is_digit (λ b. not (is_blank_byte b)) digit-solid (decimal n) (digits_written n h)
+decimal-solid n h = all-weaker is_digit (λ b. not (is_blank_byte b)) digit-solid (decimal n) (digits_written n h)
 
 -- ---- a label and a value
 
@@ -122,7 +116,7 @@ tags-back n last k [] [] h s = refl
 tags-back n last k [] (place ∷ places) h s = absurd (cc)
 tags-back n last k (tag ∷ tags) [] h s = absurd (cc)
 tags-back n last k (tag ∷ tags) (place ∷ places) h s =
-    let both = and_true (nat_lt place.depth 3200) (spell_trees n (places_under n tag place ++ places) tags) s in
+    let both = and_parts (nat_lt place.depth 3200) (spell_trees n (places_under n tag place ++ places) tags) s in
     let more = tags-back n last (k + 1) tags (places_under n tag place ++ places) h.1 both.1 in
     ap (tree_from n last (place ∷ places)) (step-said last k tag (words_of_lines (numbered (k + 1) (map tag_text tags))) h.0)
     ∙ tree-step n last k tag tags place places (tags_said Two last None (words_of_lines (numbered (k + 1) (map tag_text tags)))) both.0 more

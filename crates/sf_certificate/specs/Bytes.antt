@@ -31,9 +31,9 @@ abbrev pub words_on : Bytewise → List ℕ → List LineWord
 words_on at bytes = words_of_lines (numbered at.line (lines (at.word ++ bytes)))
 
 -- the word that was begun, if one was
-abbrev pub begun : ℕ → List ℕ → List LineWord
-begun line [] = []
-begun line (b ∷ bytes) = record { line = line; text = b ∷ bytes } ∷ []
+abbrev pub begun_word : ℕ → List ℕ → List LineWord
+begun_word line [] = []
+begun_word line (b ∷ bytes) = record { line = line; text = b ∷ bytes } ∷ []
 
 -- the tags that the bytes from here on spell
 abbrev pub bytes_on : ℕ → Bytewise → List ℕ → Result (List Tag) CertFault

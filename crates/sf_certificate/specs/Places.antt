@@ -54,16 +54,16 @@ abbrev pub may_above : Place → Bool
 may_above place = has_two place && not (is_above place.ending)
 
 -- the place after one more operator, or one more block
-abbrev pub joined : Ending → Place → Place
-joined e place = record { depth = suc place.depth; operands = place.operands; operators = suc place.operators; ending = e }
+abbrev pub after_operator : Ending → Place → Place
+after_operator e place = record { depth = suc place.depth; operands = place.operands; operators = suc place.operators; ending = e }
 
 -- the place after one more block
-abbrev pub named : Place → Place
-named place = record { depth = suc place.depth; operands = suc place.operands; operators = place.operators; ending = Block }
+abbrev pub after_block : Place → Place
+after_block place = record { depth = suc place.depth; operands = suc place.operands; operators = place.operators; ending = Block }
 
 -- the place one step deeper, with the same tokens
-abbrev pub below : Place → Place
-below place = record place { depth = suc place.depth }
+abbrev pub one_deeper : Place → Place
+one_deeper place = record place { depth = suc place.depth }
 
 -- the place, where the test holds
 abbrev pub when_so : Bool → Place → List Place
@@ -76,12 +76,12 @@ is_full n place = place.operands + place.operators + 1 == 2 * n
 
 -- the children of an Extend among n blocks: one for each operator that may come next, and one for each block that isn't there yet
 abbrev pub extended_places : ℕ → Place → List Place
-extended_places n place = when_so (may_beside place) (joined Beside place) ++ when_so (may_above place) (joined Above place) ++ replicate (n - place.operands) (named place)
+extended_places n place = when_so (may_beside place) (after_operator Beside place) ++ when_so (may_above place) (after_operator Above place) ++ replicate (n - place.operands) (after_block place)
 
 -- the places right under a tag: none where all tokens are there, two halves of a split, and none under a leaf
 abbrev pub places_under : ℕ → Tag → Place → List Place
 places_under n Extend place = if is_full n place then [] else extended_places n place
-places_under n (Split b) place = below place ∷ below place ∷ []
+places_under n (Split b) place = one_deeper place ∷ one_deeper place ∷ []
 places_under n (Closed p) place = []
 places_under n Open place = []
 

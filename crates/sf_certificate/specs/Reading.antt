@@ -1,5 +1,5 @@
 -- What a text of either version is read as: the certificate that it spells, or its first fault.
-use Rattle.std.specs.Prelude.{ℕ, ◌==◌, nat_lt, List, [], ◌∷◌, ◌++◌, codes, Option, Some, None, Result, Ok, Err, if◌then◌else◌}
+use Rattle.std.specs.Prelude.{◌≡◌, ℕ, ◌==◌, nat_lt, List, [], ◌∷◌, ◌++◌, codes, Option, Some, None, Result, Ok, Err, if◌then◌else◌}
 use Rattle.std.specs.Option.{option_and_then}
 use Rattle.std.specs.Str.{bytes_eq}
 use Rattle.sf_lex.specs.Text.{lines, words, is_blank_byte}
@@ -7,6 +7,7 @@ use Rattle.sf_lex.specs.Scan.{Line, LineWord, numbered, words_of_lines, last_lin
 use Rattle.sf_lex.specs.Gap.{first_word, after_word}
 use Rattle.sf_lex.specs.declared.field.Gap.TheVariants.{Blanks}
 use Rattle.sf_lex.specs.Whole.{whole_read, plain_read}
+use Rattle.sf_lex.specs.Results.{◌>>=◌}
 use Rattle.sf_model.specs.declared.TheConstants.{MAX}
 use Rattle.sf_polish.specs.declared.expr.Expr.{Expr}
 use Rattle.sf_polish.specs.declared.fault.ExprFault.{ExprFault}
@@ -28,12 +29,6 @@ use Rattle.sf_certificate.specs.declared.tag.Tag.TheVariants.{Extend, Split, Clo
 use Rattle.sf_certificate.specs.declared.version.Version.{Version}
 use Rattle.sf_certificate.specs.declared.version.Version.TheVariants.{One, Two}
 use Rattle.sf_certificate.specs.Places.{first_place, places_under}
-
--- one reading after another: the first fault is the fault of both
-infixl 10 ◌>>=◌
-abbrev pub ◌>>=◌ : {A B : Type 0} → Result A CertFault → (A → Result B CertFault) → Result B CertFault
-(Ok x) >>= f = f x
-(Err e) >>= f = Err e
 
 -- ---- the header: each line by itself
 
@@ -126,6 +121,11 @@ line_by number others (Some x) = Ok (x, others)
 abbrev pub line_read : {X : Type 0} → ℕ → (List ℕ → Option X) → List Line → Result (X × List Line) CertFault
 line_read last rule [] = Err (BadHeader last)
 line_read last rule (line ∷ others) = line_by line.number others (rule line.bytes)
+
+-- the next line is read by a rule and the answer stands for its value, or both are at one fault
+abbrev pub ReadsLine : {X Y : Type 0} → ℕ → (List ℕ → Option X) → (Y → X) → List Line → List Line → Result Y CertFault → Type 0
+ReadsLine last rule value old new (Ok y) = line_read last rule old ≡ Ok (value y, new)
+ReadsLine last rule value old new (Err fault) = line_read last rule old ≡ Err fault
 
 -- what the header says, and the lines behind it
 pub record Header : Type 0 where

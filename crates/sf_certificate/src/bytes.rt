@@ -6,7 +6,7 @@ ghost use Rattle.std.specs.List.{count_by, position_or_len};
 ghost use Rattle.sf_lex.specs.Text.{is_blank_byte, is_line_feed, has_none};
 ghost use Rattle.sf_lex.specs.Scan.{LineWord, last_word_line};
 ghost use Rattle.sf_certificate.specs.declared.fault.CertFault.TheVariants.{NoMemory};
-ghost use Rattle.sf_certificate.specs.Bytes.{begun, bytes_on, first_byte, past_blank};
+ghost use Rattle.sf_certificate.specs.Bytes.{begun_word, bytes_on, first_byte, past_blank};
 ghost use Rattle.sf_certificate.specs.Reader.{read_on, with_some};
 
 use crate::fault::CertFault;
@@ -153,17 +153,17 @@ impl ByteReader {
     fn end_word(&mut self, blocks: u16) -> Result<Option<Tag>, CertFault>
         requires { blocks ≤ 320 }
         ensures tag { IfOk result (λ tag. (last : ℕ) (others : List LineWord)
-            → read_on blocks last self.old.tree (begun self.old.line self.old.word ++ others)
+            → read_on blocks last self.old.tree (begun_word self.old.line self.old.word ++ others)
             ≡ with_some tag (read_on blocks last self.new.tree others)) }
         ensures kept { IfOk result (λ tag. self.new
             ≡ record {
               tree = self.new.tree;
               word = [];
               line = self.old.line;
-              last = last_word_line self.old.last (begun self.old.line self.old.word);
+              last = last_word_line self.old.last (begun_word self.old.line self.old.word);
             }) }
         ensures fault { IfErr result (λ e. e ≢ NoMemory → (last : ℕ) (others : List LineWord)
-            → read_on blocks last self.old.tree (begun self.old.line self.old.word ++ others) ≡ Err e) }
+            → read_on blocks last self.old.tree (begun_word self.old.line self.old.word ++ others) ≡ Err e) }
         ensures solid { has_none is_blank_byte self.old.word ≡ true }
     {
         if self.word.is_empty() {

@@ -1,7 +1,7 @@
 //! The header of a certificate's text, line by line.
 
-ghost use Rattle.std.specs.Prelude.{◌≡◌, ◌≢◌, ◌==◌, [], ◌∷◌, if◌then◌else◌, IfOk, IfErr, OnOk, MatchOption};
-ghost use Rattle.std.specs.Prelude.{Ok, Some, None, ⊤};
+ghost use Rattle.std.specs.Prelude.{◌≡◌, ◌≢◌, ◌==◌, [], ◌∷◌, if◌then◌else◌, IfOk, IfErr, MatchOption};
+ghost use Rattle.std.specs.Prelude.{Ok, Err, Some, None, ⊤};
 ghost use Rattle.std.specs.Option.{option_copied};
 ghost use Rattle.sf_lex.specs.Whole.{plain_read};
 ghost use Rattle.sf_lex.specs.Scan.{numbered_rest, line_of, last_line_of};
@@ -11,7 +11,7 @@ ghost use Rattle.sf_certificate.specs.declared.fault.CertFault.TheVariants.{BadH
 ghost use Rattle.sf_certificate.specs.Form.{no_plan};
 ghost use Rattle.sf_certificate.specs.Reading.{value_in, version_of, version_of_word, version_in, number_in};
 ghost use Rattle.sf_certificate.specs.Reading.{cost_of_word, cost_in, word_in, plan_said, plan_in, line_read};
-ghost use Rattle.sf_certificate.specs.Reading.{header_read, exactly};
+ghost use Rattle.sf_certificate.specs.Reading.{header_read, exactly, ReadsLine};
 
 use crate::fault::CertFault;
 use crate::version::Version;
@@ -65,63 +65,48 @@ pub fn read_header(
 
 /// A line of a label and a version.
 fn read_version(scan: &mut Scan, text: &[u8], label: &[u8]) -> Result<Version, CertFault>
-    ensures line { IfOk result
-        (λ version. line_read (last_line_of text.now) (version_in label.now) (numbered_rest scan.old)
-        ≡ Ok (version, numbered_rest scan.new)) }
-    ensures fault { IfErr result
-        (λ e. line_read (last_line_of text.now) (version_in label.now) (numbered_rest scan.old) ≡ Err e) }
+    ensures { ReadsLine (last_line_of text.now) (version_in label.now) (λ version. version)
+        (numbered_rest scan.old) (numbered_rest scan.new) result }
 {
     let line = next_line(scan, text)?;
-    match version_in(line.text, label) {
-        Some(version) => Ok(version),
-        None => Err(CertFault::BadHeader(line.line)),
-    }
+    version_in(line.text, label).ok_or(CertFault::BadHeader(line.line))
 }
 
 /// A line of a label and this number.
 fn read_number(scan: &mut Scan, text: &[u8], label: &[u8], number: u16) -> Result<(), CertFault>
-    ensures line { OnOk result (line_read (last_line_of text.now) (number_in label.now number)
-        (numbered_rest scan.old)
-        ≡ Ok (number, numbered_rest scan.new)) }
-    ensures fault { IfErr result
-        (λ e. line_read (last_line_of text.now) (number_in label.now number) (numbered_rest scan.old)
-        ≡ Err e) }
+    ensures { ReadsLine (last_line_of text.now) (number_in label.now number) (λ _. number)
+        (numbered_rest scan.old) (numbered_rest scan.new) result }
 {
     let line = next_line(scan, text)?;
-    if is_number(line.text, label, number) {
-        Ok(())
-    } else {
-        Err(CertFault::BadHeader(line.line))
-    }
+    fault_unless(is_number(line.text, label, number), line.line)
 }
 
 /// A line of a label and a cost.
 fn read_cost(scan: &mut Scan, text: &[u8], label: &[u8]) -> Result<u64, CertFault>
-    ensures line { IfOk result
-        (λ cost. line_read (last_line_of text.now) (cost_in label.now) (numbered_rest scan.old)
-        ≡ Ok (cost, numbered_rest scan.new)) }
-    ensures fault { IfErr result
-        (λ e. line_read (last_line_of text.now) (cost_in label.now) (numbered_rest scan.old) ≡ Err e) }
+    ensures { ReadsLine (last_line_of text.now) (cost_in label.now) (λ cost. cost)
+        (numbered_rest scan.old) (numbered_rest scan.new) result }
 {
     let line = next_line(scan, text)?;
-    match cost_in(line.text, label) {
-        Some(cost) => Ok(cost),
-        None => Err(CertFault::BadHeader(line.line)),
-    }
+    cost_in(line.text, label).ok_or(CertFault::BadHeader(line.line))
 }
 
 /// A line of one word.
 fn read_only(scan: &mut Scan, text: &[u8], word: &[u8]) -> Result<(), CertFault>
-    ensures line { OnOk result (line_read (last_line_of text.now) (word_in word.now) (numbered_rest scan.old)
-        ≡ Ok (word.now, numbered_rest scan.new)) }
-    ensures fault { IfErr result
-        (λ e. line_read (last_line_of text.now) (word_in word.now) (numbered_rest scan.old) ≡ Err e) }
+    ensures { ReadsLine (last_line_of text.now) (word_in word.now) (λ _. word.now)
+        (numbered_rest scan.old) (numbered_rest scan.new) result }
 {
     let line = next_line(scan, text)?;
-    if is_only(line.text, word) {
+    fault_unless(is_only(line.text, word), line.line)
+}
+
+/// The fault of a line, unless it stands as it is to stand.
+fn fault_unless(stands: bool, line: u64) -> Result<(), CertFault>
+    ensures { result ≡ (if stands then Ok tt else Err (BadHeader line)) }
+{
+    if stands {
         Ok(())
     } else {
-        Err(CertFault::BadHeader(line.line))
+        Err(CertFault::BadHeader(line))
     }
 }
 

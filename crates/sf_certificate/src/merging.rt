@@ -1,6 +1,6 @@
 //! One tree of entries and open tasks.
 
-ghost use Rattle.std.specs.Prelude.{◌≡◌, ℕ, ◌<◌, ◌≤◌, ◌++◌, ◌∷◌, [], length, map, min, reverse, All, IfOk};
+ghost use Rattle.std.specs.Prelude.{◌≡◌, ℕ, ◌<◌, ◌≤◌, ◌∷◌, [], length, map, min, reverse, All, IfOk};
 ghost use Rattle.std.specs.Prelude.{OnOk, MatchOption, IsPermutation, IsSortedBy};
 ghost use Rattle.std.specs.Ordering.{is_lt};
 ghost use Rattle.sf_model.specs.Legal.{block_count};

@@ -1,11 +1,11 @@
 //! The places that wait for a tag while a tree is read. The children of one node that are alike share a
 //! frame, so that each tag takes a few steps at most.
 
-ghost use Rattle.std.specs.Prelude.{◌≡◌, ◌≢◌, ℕ, ◌+◌, ◌<◌, ◌≤◌, [], ◌∷◌, ◌++◌, OnOk, IfOk, MatchOption};
-ghost use Rattle.std.specs.Prelude.{IsTrue, replicate};
-ghost use Rattle.sf_certificate.specs.Places.{first_place, is_beside, is_above, has_two, may_beside};
-ghost use Rattle.sf_certificate.specs.Places.{may_above, joined, named, below, is_full, extended_places};
-ghost use Rattle.sf_certificate.specs.Places.{places_under};
+ghost use Rattle.std.specs.Prelude.{◌≡◌, ◌≢◌, ◌+◌, ◌<◌, ◌≤◌, [], ◌∷◌, ◌++◌, OnOk, IfOk, MatchOption};
+ghost use Rattle.std.specs.Prelude.{replicate};
+ghost use Rattle.sf_certificate.specs.Places.{first_place, may_beside};
+ghost use Rattle.sf_certificate.specs.Places.{may_above, after_operator, after_block};
+ghost use Rattle.sf_certificate.specs.Places.{extended_places, places_under};
 
 use crate::place::{Ending, Place};
 use crate::tag::Tag;
@@ -56,10 +56,10 @@ fn may_above(place: Place) -> bool
 }
 
 /// The place after one more operator.
-fn joined(place: Place, ending: Ending) -> Place
+fn after_operator(place: Place, ending: Ending) -> Place
     requires depth { place.depth < 3200 }
     requires operators { place.operators ≤ 320 }
-    ensures { result ≡ joined ending place }
+    ensures { result ≡ after_operator ending place }
 {
     Place {
         depth: place.depth + 1,
@@ -70,10 +70,10 @@ fn joined(place: Place, ending: Ending) -> Place
 }
 
 /// The place after one more block.
-fn named(place: Place) -> Place
+fn after_block(place: Place) -> Place
     requires depth { place.depth < 3200 }
     requires operands { place.operands ≤ 320 }
-    ensures { result ≡ named place }
+    ensures { result ≡ after_block place }
 {
     Place {
         depth: place.depth + 1,
@@ -161,13 +161,13 @@ impl Waiting {
         ensures { OnOk result (self.new ≡ extended_places blocks place ++ self.old) }
     {
         if place.operands < blocks {
-            self.put_alike(named(place), blocks - place.operands)?;
+            self.put_alike(after_block(place), blocks - place.operands)?;
         }
         if may_above(place) {
-            self.put_alike(joined(place, Ending::Above), 1)?;
+            self.put_alike(after_operator(place, Ending::Above), 1)?;
         }
         if may_beside(place) {
-            self.put_alike(joined(place, Ending::Beside), 1)?;
+            self.put_alike(after_operator(place, Ending::Beside), 1)?;
         }
         Ok(())
     }

@@ -6,8 +6,8 @@ ghost use Rattle.std.specs.Fmt.{decimal};
 ghost use Rattle.sf_polish.specs.Normal.{IsNormal};
 ghost use Rattle.sf_certificate.specs.declared.tag.Tag.TheVariants.{Closed};
 ghost use Rattle.sf_certificate.specs.Reading.{cert_read, said_by};
-ghost use Rattle.sf_certificate.specs.Text.{plan_text, header_lines, ended, tag_text, tags_text, cert_text};
-ghost use Rattle.sf_certificate.specs.Text.{FitsTag};
+ghost use Rattle.sf_certificate.specs.Text.{plan_text, header_lines, text_of_lines, tag_text, tags_text};
+ghost use Rattle.sf_certificate.specs.Text.{cert_text, FitsTag};
 ghost use Rattle.sf_model.specs.CostText.{cost_text};
 
 use crate::cert::Cert;
@@ -35,7 +35,7 @@ fn push_header(text: &mut String, cert: &Cert) -> Result<(), NoMemory>
     ensures bound { OnOk result (cert.now.bound < 2 ^ 64) }
     ensures text { OnOk result (string_bytes text.new
         ≡ string_bytes text.old
-        ++ ended (header_lines cert.now.blocks cert.now.plan cert.now.cost cert.now.bound)) }
+        ++ text_of_lines (header_lines cert.now.blocks cert.now.plan cert.now.cost cert.now.bound)) }
 {
     push_title(text, cert.blocks)?;
     push_cost_line(text, "cost", cert.cost)?;

@@ -1,20 +1,15 @@
 -- What is found, tag by tag.
-use Rattle.std.proofs.Common.{◌≡◌, ◌⊎◌, inl, inr, ℕ, suc, ◌+◌, ◌<◌, length, false, List, [], ◌∷◌, ◌++◌, take, drop, get_or, arith, refl, ap, sym, true, ◌==◌, subst, ◌∙◌, append_assoc, Option, Some, None, Result, Ok, Err}
+use Rattle.std.proofs.Common.{◌≡◌, ◌⊎◌, inl, inr, ℕ, suc, ◌+◌, ◌<◌, length, false, List, [], ◌∷◌, ◌++◌, take, drop, get_or, arith, refl, ap, sym, subst, ◌∙◌, append_assoc, Option, Some, None, Result, Ok, Err}
 use Rattle.std.proofs.Math.Seq.{drop-cons, take-suc}
 use Rattle.std.proofs.lemmas.List.{take-append-drop}
 use Rattle.std.specs.Prelude.{◌≢◌, MatchOption, is_some}
-use Rattle.std.proofs.lemmas.Bool.Decides.{nat_tests}
 use Rattle.sf_model.specs.declared.design.Design.{Design}
 use Rattle.sf_model.specs.Legal.{block_count}
-use Rattle.sf_model.specs.declared.TheConstants.{MAX}
-use Rattle.sf_polish.specs.declared.expr.Expr.{Expr}
 use Rattle.sf_node.specs.declared.part.Part.{Part}
 use Rattle.sf_node.specs.Parts.{Parts}
 use Rattle.sf_node.specs.Subproblem.{root}
 use Rattle.sf_certificate.specs.declared.cert.Cert.{Cert}
 use Rattle.sf_certificate.specs.declared.tag.Tag.{Tag}
-use Rattle.sf_certificate.specs.Form.{no_plan}
-use Rattle.sf_certificate.specs.Valid.{HasCost}
 use Rattle.sf_checker.specs.declared.answer.Why.{Why}
 use Rattle.sf_checker.specs.declared.answer.Why.TheVariants.{BadPlan, CostDiffers, BoundDiffers}
 use Rattle.sf_checker.specs.Answers.{IsPlanRight, IsBadPlan, IsOtherCost, IsFirst, IsRight}
@@ -30,12 +25,6 @@ found-none design bound part cert tags judge none found =
     subst (λ o. MatchOption o (IsPlanRight design cert × (walked bound part cert.cost (start (root design) cert.cost) tags ≡ Ok (progress_of design judge.walk))) (IsFirst design bound part cert)) none found
 
 module _ (design : Design) (bound : Parts → ℕ) (part : Parts → Part → ℕ) (cert : Cert) (tags more : List Tag) (tag : Tag) (old : Judged) (found : IsFound design bound part cert tags old) where
-  -- after a failure nothing more is sought
-  pub found-stays : (new : Judged) (why : Why) → old.found ≡ Some why → new.found ≡ Some why → IsFound design bound part cert (tags ++ tag ∷ []) new
-  found-stays new why e f =
-      subst (λ o. MatchOption o (IsPlanRight design cert × (walked bound part cert.cost (start (root design) cert.cost) (tags ++ tag ∷ []) ≡ Ok (progress_of design new.walk))) (IsFirst design bound part cert)) (sym f)
-      (subst (λ o. MatchOption o (IsPlanRight design cert × (walked bound part cert.cost (start (root design) cert.cost) tags ≡ Ok (progress_of design old.walk))) (IsFirst design bound part cert)) e found)
-
   module _ (cost : ℕ) (none : old.found ≡ None) (same : cert.cost ≡ cost) (is : cert.tags ≡ tags ++ tag ∷ more) where
     -- so far the plan is right and the walk went over the tags
     so-far : IsPlanRight design cert × (walked bound part cert.cost (start (root design) cert.cost) tags ≡ Ok (progress_of design old.walk))
@@ -66,19 +55,6 @@ module _ (design : Design) (bound : Parts → ℕ) (part : Parts → Part → �
         })))
 
 -- ---- the plan
-
--- a number that is found to be MAX is
-max-eq : (z : ℕ) → true ≡ (z == MAX) → z ≡ MAX
-max-eq z e = grind (arith, nat_tests)
-
--- a certificate without a plan has no cost
-no-cost : (cert : Cert) → cert.plan ≡ None → cert.cost ≡ MAX
-no-cost cert e = max-eq cert.cost (sym (ap no_plan e) ∙ cert.form.unplanned)
-
--- a plan of the stated cost is right
-pub plan-right : (design : Design) (cert : Cert) (expr : Expr) (cost : ℕ) → cert.plan ≡ Some expr → cert.cost ≡ cost → HasCost design expr cost → IsPlanRight design cert
-plan-right design cert expr cost e same h =
-    subst (λ p. MatchOption p (cert.cost ≡ MAX) (λ expr. HasCost design expr cert.cost)) (sym e) (subst (HasCost design expr) (sym same) h)
 
 -- ---- the answer
 

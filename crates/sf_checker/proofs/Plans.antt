@@ -9,7 +9,8 @@ use Rattle.sf_model.specs.Limits.{IsSide}
 use Rattle.sf_model.specs.Legal.{HasEachOnce, IsLegal, Fits, block_count, shapes_of}
 use Rattle.sf_model.specs.Tree.{Tree, Leaf, Beside, Above, leaves, leaf_count, HasSides, HasBlocksBelow}
 use Rattle.sf_model.proofs.Each.{each-append, each-left, each-right}
-use Rattle.sf_place.proofs.ByNumber.{plan-below, plan-leaves}
+use Rattle.sf_place.proofs.ByNumber.{plan-leaves}
+use Rattle.sf_model.proofs.BlocksBelow.{once-below}
 use Rattle.sf_polish.specs.declared.expr.Expr.{Expr}
 use Rattle.sf_polish.specs.Postfix.{Spells, shape_at}
 use Rattle.sf_polish.specs.Text.{IsWritable}
@@ -51,7 +52,7 @@ module _ (design : Design) (expr : Expr) (tree : Tree) (writable : IsWritable (b
 
   -- all its blocks are of the design
   pub blocks-below : HasBlocksBelow (block_count design) tree
-  blocks-below = plan-below (block_count design) tree once
+  blocks-below = once-below (block_count design) tree once
 
   -- it has few leaves
   pub leaves-few : leaf_count tree ≤ 320

@@ -14,14 +14,14 @@ use Rattle.sf_node.specs.Children.{extended, split, can_split, IsSubproblem}
 use Rattle.sf_certificate.specs.declared.tag.Tag.{Tag}
 use Rattle.sf_certificate.specs.declared.tag.Tag.TheVariants.{Extend, Split, Closed, Open}
 use Rattle.sf_certificate.specs.Places.{place_of, places_under, spell_trees}
-use Rattle.sf_certificate.specs.Valid.{AreTrees, left_open, least, decided}
+use Rattle.sf_certificate.specs.Valid.{AreTrees, left_open, least, decided, one_decided}
 use Rattle.sf_certificate.specs.Marks.{made, IsFair}
 use Rattle.sf_certificate.proofs.AfterTags.{least-min}
 use Rattle.sf_certificate.proofs.Places.{places-made}
 use Rattle.sf_certificate.proofs.Growth.{made-subproblems, trees-first}
 use Rattle.sf_checker.specs.declared.answer.Why.{Why}
 use Rattle.sf_checker.specs.declared.answer.Why.TheVariants.{NotClosed, BadSplit, BadChildren}
-use Rattle.sf_checker.specs.Walking.{Progress, fault_at, one_decided, lowered, past, unless, visited, walked, and_then}
+use Rattle.sf_checker.specs.Walking.{Progress, fault_at, low_after, walk_past, unless, visited, walked, and_then}
 
 -- a choice of a failure that gives none was not taken
 some-else : (b : Bool) (why : Why) → cond b (Some why) None ≡ None → b ≡ false
@@ -71,7 +71,7 @@ less-false a b e = grind (arith, nat_tests)
 pub record IsVisit (bound : Parts → ℕ) (part : Parts → Part → ℕ) (cost : ℕ) (walk : Progress) (node : Parts) (nodes : List Parts) (tag : Tag) (next : Progress) : Type 0 where
   pub fair : IsFair part cost tag node
   pub waiting : made tag node ++ nodes ≡ next.waiting
-  pub low : lowered tag walk.low (bound node) ≡ next.low
+  pub low : low_after tag walk.low (bound node) ≡ next.low
   pub decided : walk.decided + one_decided tag ≡ next.decided
   pub number : walk.number + 1 ≡ next.number
 
@@ -107,7 +107,7 @@ unless-err (Some other) walk why e = let same : other ≡ why = cc in ap Some sa
 -- what one tag did, where it may stand
 visit-fact : (bound : Parts → ℕ) (part : Parts → Part → ℕ) (cost : ℕ) (walk : Progress) (node : Parts) (nodes : List Parts) (tag : Tag) (next : Progress) → visited bound part cost walk (node ∷ nodes) tag ≡ Ok next → IsVisit bound part cost walk node nodes tag next
 visit-fact bound part cost walk node nodes tag next e =
-    let r = unless-ok (fault_at (part node) cost walk.number node tag) (past bound walk (node ∷ nodes) node tag) next e in
+    let r = unless-ok (fault_at (part node) cost walk.number node tag) (walk_past bound walk (node ∷ nodes) node tag) next e in
     record {
       fair = no-fault part cost walk.number node tag r.0;
       waiting = ap (λ (w : Progress). w.waiting) r.1;
@@ -119,7 +119,7 @@ visit-fact bound part cost walk node nodes tag next e =
 -- where a tag is refused, it may not stand there
 visit-fault : (bound : Parts → ℕ) (part : Parts → Part → ℕ) (cost : ℕ) (walk : Progress) (node : Parts) (nodes : List Parts) (tag : Tag) (why : Why) → visited bound part cost walk (node ∷ nodes) tag ≡ Err why → IsFair part cost tag node → ⊥
 visit-fault bound part cost walk node nodes tag why e fair =
-    a-fault part cost walk.number node tag why (unless-err (fault_at (part node) cost walk.number node tag) (past bound walk (node ∷ nodes) node tag) why e) fair
+    a-fault part cost walk.number node tag why (unless-err (fault_at (part node) cost walk.number node tag) (walk_past bound walk (node ∷ nodes) node tag) why e) fair
 
 -- ---- tags one after another
 

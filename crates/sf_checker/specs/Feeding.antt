@@ -1,10 +1,12 @@
 -- What a text has come to that is fed in pieces, and what is answered to it.
-use Rattle.std.specs.Prelude.{◌≡◌, ℕ, List, Ok}
+use Rattle.std.specs.Prelude.{◌≡◌, ◌≢◌, ℕ, List, Result, Ok, Err, IfOk, IfErr}
 use Rattle.sf_model.specs.declared.design.Design.{Design}
 use Rattle.sf_model.specs.Legal.{block_count}
 use Rattle.sf_node.specs.declared.part.Part.{Part}
 use Rattle.sf_node.specs.Parts.{Parts}
 use Rattle.sf_certificate.specs.declared.cert.Cert.{Cert}
+use Rattle.sf_certificate.specs.declared.fault.CertFault.{CertFault}
+use Rattle.sf_certificate.specs.declared.fault.CertFault.TheVariants.{NoMemory}
 use Rattle.sf_certificate.specs.Reading.{cert_read, said_by}
 use Rattle.sf_checker.specs.declared.answer.Answer.{Answer}
 use Rattle.sf_checker.specs.declared.stage.Stage.{Stage}
@@ -16,6 +18,14 @@ pub record IsAnswerTo (design : Design) (bound : Parts → ℕ) (part : Parts �
   pub cert : Cert
   pub reads : cert_read (block_count design) text ≡ Ok (said_by cert)
   pub answered : IsAnswer design bound part cert answer
+
+-- where a stage stands for a text that goes no further, the answer is one to the certificate that the text spells
+abbrev pub AnswersAt : Design → (Parts → ℕ) → (Parts → Part → ℕ) → Stage → Result Answer CertFault → Type 0
+AnswersAt design bound part stage result = (text : List ℕ) → IsStage design bound part text stage → IfOk result (IsAnswerTo design bound part text)
+
+-- where a stage stands for a text that goes no further, a fault is that of the text
+abbrev pub FaultsAt : Design → (Parts → ℕ) → (Parts → Part → ℕ) → Stage → Result Answer CertFault → Type 0
+FaultsAt design bound part stage result = (text : List ℕ) → IsStage design bound part text stage → IfErr result (λ e. e ≢ NoMemory → cert_read (block_count design) text ≡ Err e)
 
 -- the design, the bounds and the stage of a checking that was fed this text; the values are those of the bounds and of their parts
 pub record IsFed {B : Type 0} (value : B → Design → Parts → ℕ) (part_value : B → Design → Parts → Part → ℕ) (design : Design) (bound : Parts → ℕ) (part : Parts → Part → ℕ) (text : List ℕ) (fed : Design × B × Stage) : Type 0 where

@@ -15,11 +15,11 @@ use Rattle.sf_checker.specs.Answers.{IsPlanRight, IsFirst}
 use Rattle.sf_checker.specs.Walking.{Progress, walked, start}
 
 -- the number that a tag asks for: of a closed subproblem the value of the part that it names, of an open one its own
-abbrev pub asked : ℕ → (Part → ℕ) → Tag → Option ℕ
-asked value part Extend = None
-asked value part (Split b) = None
-asked value part (Closed p) = Some (part p)
-asked value part Open = Some value
+abbrev pub asked_value : ℕ → (Part → ℕ) → Tag → Option ℕ
+asked_value value part Extend = None
+asked_value value part (Split b) = None
+asked_value value part (Closed p) = Some (part p)
+asked_value value part Open = Some value
 
 -- what a walk keeps: where it stands, whether anything is not visited yet, and the rest as it is
 pub record Stand : Type 0 where

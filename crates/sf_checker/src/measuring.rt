@@ -4,7 +4,7 @@ ghost use Rattle.std.specs.Prelude.{◌≡◌, IfOk, IfSome, OnOk};
 ghost use Rattle.sf_node.specs.Later.{IsChildOf};
 ghost use Rattle.sf_bounds.specs.Serving.{MayServe};
 ghost use Rattle.sf_cursor.specs.Path.{IsPath};
-ghost use Rattle.sf_checker.specs.Standing.{asked};
+ghost use Rattle.sf_checker.specs.Standing.{asked_value};
 
 use sf_bounds::{Bounds, Room};
 use sf_certificate::Tag;
@@ -77,7 +77,7 @@ pub fn told_at<'a, B: Bounds>(
     ensures at { OnOk result (IsPath design.now (B.Values.value bounds.now design.now) cursor.new) }
     ensures node { OnOk result (cursor.new.node ≡ cursor.old.node) }
     ensures told { IfOk result (λ told. told
-        ≡ asked (B.Values.value bounds.now design.now cursor.old.node)
+        ≡ asked_value (B.Values.value bounds.now design.now cursor.old.node)
         (B.part_value bounds.now design.now cursor.old.node) tag) }
     ensures serves { MayServe room.new design.now }
 {

@@ -19,7 +19,7 @@ use std::alloc::{AllocError as NoMemory, Global};
 
 /// The tag with the first part that closes the subproblem, where it closes it. The area, which is the first
 /// part of all, stays and is not measured.
-fn named<'a, B: Bounds>(
+fn name_tag<'a, B: Bounds>(
     design: &'a Design,
     bounds: &B,
     node: &Node,
@@ -61,7 +61,7 @@ fn name_tags<B: Bounds>(
     let mut at = 0;
     let mut more = true;
     while more {
-        let tag = named(design, bounds, cursor.node(), cost, tags[at], &mut room)?;
+        let tag = name_tag(design, bounds, cursor.node(), cost, tags[at], &mut room)?;
         tags[at] = tag;
         at += 1;
         more = cursor.follow(design, bounds, tag, None)?;

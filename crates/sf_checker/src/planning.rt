@@ -1,8 +1,8 @@
 //! What the plan of a certificate costs.
 
-ghost use Rattle.std.specs.Prelude.{◌≡◌, ◌↔◌, ◌<◌, ◌≤◌, IfOk, IsTrue, MatchOption, Contains};
-ghost use Rattle.sf_model.specs.Legal.{block_count, shapes_of, Fits};
-ghost use Rattle.sf_model.specs.Tree.{tree_of, leaf_count, HasSides, HasBlocksBelow};
+ghost use Rattle.std.specs.Prelude.{◌↔◌, ◌<◌, IfOk, IsTrue, MatchOption};
+ghost use Rattle.sf_model.specs.Legal.{block_count};
+ghost use Rattle.sf_model.specs.Tree.{tree_of, HasBlocksBelow};
 ghost use Rattle.sf_polish.specs.Text.{IsWritable};
 ghost use Rattle.sf_certificate.specs.Valid.{HasCost};
 ghost use Rattle.sf_checker.specs.Answers.{IsUnfit};

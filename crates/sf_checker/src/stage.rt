@@ -52,7 +52,7 @@ fn answer_whole<B: Bounds>(
 }
 
 impl<'a> Body<'a> {
-    ghost use Rattle.sf_checker.specs.Feeding.{IsAnswerTo};
+    ghost use Rattle.sf_checker.specs.Feeding.{AnswersAt, FaultsAt};
     ghost use Rattle.sf_checker.specs.Stages.{FaultsOn, FeedsOn, IsBody, IsFaulty};
     ghost use Rattle.sf_checker.specs.Standing.{IsSteady};
 
@@ -114,12 +114,10 @@ impl<'a> Body<'a> {
         requires steady { IsSteady design.now (B.Values.value bounds.now design.now) self.judge }
         ensures answer { let value = B.Values.value bounds.now design.now in
             let part = B.part_value bounds.now design.now in
-            (text : List ℕ) → IsBody design.now value part text self.entry → IfOk result
-            (λ a. IsAnswerTo design.now value part text a) }
+            AnswersAt design.now value part (stages.Tree self.entry) result }
         ensures fault { let value = B.Values.value bounds.now design.now in
             let part = B.part_value bounds.now design.now in
-            (text : List ℕ) → IsBody design.now value part text self.entry → IfErr result
-            (λ e. e ≢ NoMemory → cert_read (block_count design.now) text ≡ Err e) }
+            FaultsAt design.now value part (stages.Tree self.entry) result }
     {
         let Body {
             header,
@@ -134,7 +132,7 @@ impl<'a> Body<'a> {
 }
 
 impl<'a> Stage<'a> {
-    ghost use Rattle.sf_checker.specs.Feeding.{IsAnswerTo};
+    ghost use Rattle.sf_checker.specs.Feeding.{AnswersAt, FaultsAt};
     ghost use Rattle.sf_checker.specs.Stages.{FaultsOn, FeedsOn, IsOutside, IsReady, IsStage, IsWanting};
 
     /// Whether memory was wanting.
@@ -284,12 +282,10 @@ impl<'a> Stage<'a> {
         requires ready { IsReady design.now (B.Values.value bounds.now design.now) self }
         ensures answer { let value = B.Values.value bounds.now design.now in
             let part = B.part_value bounds.now design.now in
-            (text : List ℕ) → IsStage design.now value part text self.entry → IfOk result
-            (λ a. IsAnswerTo design.now value part text a) }
+            AnswersAt design.now value part self.entry result }
         ensures fault { let value = B.Values.value bounds.now design.now in
             let part = B.part_value bounds.now design.now in
-            (text : List ℕ) → IsStage design.now value part text self.entry → IfErr result
-            (λ e. e ≢ NoMemory → cert_read (block_count design.now) text ≡ Err e) }
+            FaultsAt design.now value part self.entry result }
         ensures stays { IsWanting self.entry → result ≡ Err NoMemory }
     {
         match self {

@@ -16,7 +16,7 @@ use Rattle.sf_node.specs.Subproblem.{root}
 use Rattle.sf_node.specs.Children.{after, walk, may_join, is_unused, CanStep, IsSubproblem}
 use Rattle.sf_node.proofs.Depth.{count-more, subproblem-shallow}
 use Rattle.sf_node.proofs.Reached.{spans-after}
-use Rattle.sf_cursor.specs.Path.{AreUsed, marked, named, NamesOne}
+use Rattle.sf_cursor.specs.Path.{AreUsed, flags_after, step_blocks, NamesOne}
 
 -- another token leaves a block as it was, used or not
 unused-more : (b : ℕ) (ts : List Token) (t : Token) → is_block b t ≡ false → is_unused b (ts ++ t ∷ []) ≡ is_unused b ts
@@ -71,7 +71,7 @@ same-flags : (node other : Parts) (used : List Bool) → length other.spans ≡ 
 same-flags node other used n f u = record { each = u.each ∙ sym n; flags = λ b k. u.flags b k ∙ sym (ap not (f b)) }
 
 -- the flags after a step are those of the subproblem that it leads to
-pub used-on : (node : Parts) (s : Step) (used : List Bool) → CanStep node s → AreUsed node used → AreUsed (after node s) (marked used s true)
+pub used-on : (node : Parts) (s : Step) (used : List Bool) → CanStep node s → AreUsed node used → AreUsed (after node s) (flags_after used s true)
 used-on node Beside used can u = same-flags node (after node Beside) used refl (λ b. unused-more b node.tokens token.Beside refl) u
 used-on node Above used can u = same-flags node (after node Above) used refl (λ b. unused-more b node.tokens token.Above refl) u
 used-on node (Block c) used can u = flags-on node used c u (omega (arith, can.0, u.each))
@@ -79,7 +79,7 @@ used-on node (Left b) used can u = same-flags node (after node (Left b)) used (s
 used-on node (Right b) used can u = same-flags node (after node (Right b)) used (spans-after node (Right b)) (λ b. refl) u
 
 -- the flags after a step is taken back are those of the subproblem before it
-pub used-back : (node : Parts) (s : Step) (used : List Bool) → CanStep node s → AreUsed (after node s) used → AreUsed node (marked used s false)
+pub used-back : (node : Parts) (s : Step) (used : List Bool) → CanStep node s → AreUsed (after node s) used → AreUsed node (flags_after used s false)
 used-back node Beside used can u = same-flags (after node Beside) node used refl (λ b. sym (unused-more b node.tokens token.Beside refl)) u
 used-back node Above used can u = same-flags (after node Above) node used refl (λ b. sym (unused-more b node.tokens token.Above refl)) u
 used-back node (Block c) used can u = flags-off node used c u (omega (arith, can.0, u.each)) can.1
@@ -95,7 +95,7 @@ names-one node (Left b) used can e = tt
 names-one node (Right b) used can e = tt
 
 -- a step adds as many operands as it names blocks
-pub operands-after : (node : Parts) (s : Step) → operands (after node s).tokens ≡ operands node.tokens + named s
+pub operands-after : (node : Parts) (s : Step) → operands (after node s).tokens ≡ operands node.tokens + step_blocks s
 operands-after node Beside = count-more is_operand node.tokens token.Beside
 operands-after node Above = count-more is_operand node.tokens token.Above
 operands-after node (Block b) = count-more is_operand node.tokens (token.Block b)
@@ -153,7 +153,7 @@ flag-of node used flags b r x u same h e is =
     not-back (is_unused b node.tokens) x (sym is ∙ e ∙ ap (λ v. get_or v b r) same ∙ get_or_default used b r true h ∙ u.flags b h)
 
 -- a step names one block at most
-pub named-most : (s : Step) → named s ≤ 1
+pub named-most : (s : Step) → step_blocks s ≤ 1
 named-most Beside = omega arith
 named-most Above = omega arith
 named-most (Block b) = omega arith

@@ -17,7 +17,7 @@ use Rattle.sf_node.proofs.Depth.{subproblem-shallow}
 use Rattle.sf_node.proofs.Reached.{steps-after, after-subproblem, subproblem-spans, spans-after}
 use Rattle.sf_node.proofs.Later.{came-from, entered, behind-after, later-can, extending-can, extending-is}
 use Rattle.sf_cursor.specs.declared.level.Level.{Level}
-use Rattle.sf_cursor.specs.Path.{Path, IsLevel, AreLevels, AreUsed, marked, named, NamesOne, IsPath, IsBack, IsOneWay, most_steps}
+use Rattle.sf_cursor.specs.Path.{Path, IsLevel, AreLevels, AreUsed, flags_after, step_blocks, NamesOne, IsPath, IsBack, IsOneWay, most_steps}
 use Rattle.sf_cursor.proofs.Flags.{used-on, used-back, operands-after, names-one}
 
 -- one step more
@@ -79,7 +79,7 @@ few-on design bound path s old new level at can same more =
 
 -- one step on, with its level
 pub path-on : (design : Design) (bound : Parts → ℕ) (old new : Path) (s : Step) (level : Level) → IsPath design bound old → CanStep old.node s → IsLevel bound old.node s level → new.node ≡ after old.node s → new.levels ≡ old.levels ++ level ∷ []
-    → new.used ≡ marked old.used s true → new.operands ≡ old.operands + named s → IsPath design bound new
+    → new.used ≡ flags_after old.used s true → new.operands ≡ old.operands + step_blocks s → IsPath design bound new
 path-on design bound old new s level at can l n ls u o =
     let steps : new.node.steps ≡ old.node.steps ++ s ∷ [] = ap (λ (m : Parts). m.steps) n ∙ steps-after old.node s in
     record {
@@ -94,7 +94,7 @@ path-on design bound old new s level at can l n ls u o =
 -- the level that is taken off is that of the last step
 pub path-back : (design : Design) (bound : Parts → ℕ) (old new : Path) (front : List Step) (s : Step) (level : Level) → IsPath design bound old → old.node.steps ≡ front ++ s ∷ [] → old.levels ≡ new.levels ++ level ∷ []
     → ((before : Parts) → old.node ≡ after before s → level.span ≡ halved before s → new.node ≡ before)
-    → new.used ≡ marked old.used s false → new.operands ≡ old.operands - named s → IsBack design bound old.node s level.value new
+    → new.used ≡ flags_after old.used s false → new.operands ≡ old.operands - step_blocks s → IsBack design bound old.node s level.value new
 path-back design bound old new front s level at e ls leaves u o =
     let from = came-from design old.node front s at.sub e in
     let before = walk (root design) front in
@@ -218,7 +218,7 @@ names-back design bound path front s at e =
     names-one before s path.used from.can (at.used.each ∙ ap (λ (n : Parts). length n.spans) from.is ∙ spans-after before s)
 
 -- the last step names no more blocks than are there
-pub names-few : (design : Design) (bound : Parts → ℕ) (path : Path) (front : List Step) (s : Step) → IsPath design bound path → path.node.steps ≡ front ++ s ∷ [] → named s ≤ path.operands
+pub names-few : (design : Design) (bound : Parts → ℕ) (path : Path) (front : List Step) (s : Step) → IsPath design bound path → path.node.steps ≡ front ++ s ∷ [] → step_blocks s ≤ path.operands
 names-few design bound path front s at e =
     let from = came-from design path.node front s at.sub e in
     let before = walk (root design) front in

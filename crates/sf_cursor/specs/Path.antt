@@ -39,20 +39,20 @@ pub record AreUsed (node : Parts) (used : List Bool) : Type 0 where
   pub flags : (b : ℕ) → b < length used → slice_index_or used b true ≡ not (is_unused b node.tokens)
 
 -- the flags after one more step, or after one is taken back
-abbrev pub marked : List Bool → Step → Bool → List Bool
-marked used Beside flag = used
-marked used Above flag = used
-marked used (Block b) flag = slice_set used b flag
-marked used (Left b) flag = used
-marked used (Right b) flag = used
+abbrev pub flags_after : List Bool → Step → Bool → List Bool
+flags_after used Beside flag = used
+flags_after used Above flag = used
+flags_after used (Block b) flag = slice_set used b flag
+flags_after used (Left b) flag = used
+flags_after used (Right b) flag = used
 
 -- how many blocks a step names
-abbrev pub named : Step → ℕ
-named Beside = 0
-named Above = 0
-named (Block b) = 1
-named (Left b) = 0
-named (Right b) = 0
+abbrev pub step_blocks : Step → ℕ
+step_blocks Beside = 0
+step_blocks Above = 0
+step_blocks (Block b) = 1
+step_blocks (Left b) = 0
+step_blocks (Right b) = 0
 
 -- a block that the step names has a flag
 abbrev pub NamesOne : Step → List Bool → Type 0

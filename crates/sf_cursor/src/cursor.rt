@@ -3,7 +3,7 @@
 ghost use Rattle.std.specs.Prelude.{◌≡◌};
 ghost use Rattle.sf_node.specs.Children.{CanStep};
 ghost use Rattle.sf_node.specs.Later.{halved};
-ghost use Rattle.sf_cursor.specs.Path.{NamesOne, marked, named};
+ghost use Rattle.sf_cursor.specs.Path.{NamesOne, flags_after, step_blocks};
 
 use crate::level::Level;
 use sf_certificate::Tag;
@@ -53,7 +53,7 @@ fn halved(node: &Node, step: Step) -> (u16, u16)
 /// Flags a block that the step names.
 fn mark(used: &mut Vec<bool>, step: Step, flag: bool)
     requires { NamesOne step used.old.items }
-    ensures { used.new.items ≡ marked used.old.items step flag }
+    ensures { used.new.items ≡ flags_after used.old.items step flag }
 {
     if let Step::Block(block) = step {
         used[block as usize] = flag;
@@ -61,8 +61,8 @@ fn mark(used: &mut Vec<bool>, step: Step, flag: bool)
 }
 
 /// How many blocks a step names.
-fn named(step: Step) -> usize
-    ensures { result ≡ named step }
+fn step_blocks(step: Step) -> usize
+    ensures { result ≡ step_blocks step }
 {
     match step {
         Step::Block(_) => 1,
@@ -155,7 +155,7 @@ impl Cursor {
         self.levels.push(Level { value, span })?;
         self.node.enter(step)?;
         mark(&mut self.used, step, true);
-        self.operands += named(step);
+        self.operands += step_blocks(step);
         Ok(())
     }
 
@@ -173,7 +173,7 @@ impl Cursor {
         };
         self.node.leave(step, level.span);
         mark(&mut self.used, step, false);
-        self.operands -= named(step);
+        self.operands -= step_blocks(step);
         Some((step, level.value))
     }
 

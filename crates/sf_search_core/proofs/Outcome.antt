@@ -12,8 +12,8 @@ use Rattle.sf_model.specs.Tree.{Tree}
 use Rattle.sf_model.specs.Legal.{Fits}
 use Rattle.sf_model.specs.Cost.{cost, IsFloor}
 use Rattle.sf_model.proofs.Each.{Some, Some-left, Some-right, Any-from_recursion}
-use Rattle.sf_polish.specs.Skewing.{skewed}
-use Rattle.sf_polish.proofs.Skewed.{skewed-skewed, skewed-same}
+use Rattle.sf_polish.specs.Skewing.{skewed_plan}
+use Rattle.sf_polish.proofs.Skewed.{IsSkewed-skewed_plan, IsSamePlace-skewed_plan}
 use Rattle.sf_polish.proofs.Same.{same-legal, same-fits, same-cost}
 use Rattle.sf_node.specs.declared.task.Task.{Task}
 use Rattle.sf_node.specs.Parts.{Parts}
@@ -35,9 +35,11 @@ use Rattle.sf_search_core.specs.State.{State}
 use Rattle.sf_search_core.specs.Conserved.{IsDecided, branched, children}
 use Rattle.sf_search_core.specs.Core.{IsCoreState, held_tasks, undecided}
 use Rattle.sf_search_core.specs.Events.{applied, CanCome}
-use Rattle.sf_search_core.specs.Outcome.{opening, next_of, after_event, after_events, CanAllCome, IsPlanCost, least, floor_of, IsOutcome}
+use Rattle.sf_search_core.specs.Least.{least}
+use Rattle.sf_search_core.specs.Outcome.{opening, next_of, after_event, after_events, CanAllCome, IsPlanCost, floor_of, IsOutcome}
 use Rattle.sf_search_core.proofs.Kept.{Any-permutation}
 use Rattle.sf_search_core.proofs.Applied.{applied-kept}
+use Rattle.sf_search_core.proofs.Least.{least-first}
 
 -- an element at a place that has P is some element, by recursion
 some-from_any : {X : Type 0} (P : X → Type 0) (xs : List X) (i : ℕ) (x : X) → i < length xs → x ≡ get_or xs i x → P x → Some P xs
@@ -135,11 +137,6 @@ abbrev most_steps : List Entry → ℕ
 most_steps [] = 0
 most_steps (e ∷ es) = max (size e.node) (most_steps es)
 
--- the least of a number and others is no greater than it
-least-first : (n : ℕ) (xs : List ℕ) → least n xs ≤ n
-least-first n [] = omega arith
-least-first n (x ∷ xs) = omega (arith, least-first n xs)
-
 module _ (design : Design) (bound : Parts → ℕ) (word : ℕ) (n : Parts) where
   -- a subproblem of the entries has an entry
   entry_of : (es : List Entry) → AllByRecursion (λ entry. IsDecided entry.kind entry.node (bound entry.node) entry.value) es → AllByRecursion (λ entry. word ≤ entry.value) es → In n (nodes_of es) → IsEntryOf design bound word n (flat_map children es) (most_steps es)
@@ -171,15 +168,6 @@ module _ (design : Design) (bound : Parts → ℕ) (word : ℕ) (n : Parts) wher
       elim i [
         | inl here ↦ omega (arith, valued.0.1, ap bound here)
         | inr later ↦ omega (arith, floor-task ts valued.1 later)
-      ]
-
-  -- a subproblem of the tasks is one of the design
-  task-subproblem : (ts : List Task) → AllByRecursion (λ task. IsSubproblem design task.node × (task.bound ≡ bound task.node)) ts → In n (map (λ task. task.node) ts) → IsSubproblem design n
-  task-subproblem [] valued i = absurd i
-  task-subproblem (t ∷ ts) valued i =
-      elim i [
-        | inl here ↦ subst (IsSubproblem design) here valued.0.0
-        | inr later ↦ task-subproblem ts valued.1 later
       ]
 
 module _ (design : Design) (bound : Parts → ℕ) (state : State) (core : IsCoreState design bound state) where
@@ -252,9 +240,9 @@ module _ (design : Design) (bound : Parts → ℕ) (state : State) (core : IsCor
   -- no floorplan costs less than the floor of a core state
   pub core-floor : IsSound design bound → IsFloor design (floor_of state)
   core-floor sound tree legal fits =
-      let same = skewed-same tree in
-      let other = skewed tree in
-      let belongs : Belongs design (root design) other = root-belongs design other (skewed-skewed tree) (same-legal design other tree same.order legal) in
+      let same = IsSamePlace-skewed_plan tree in
+      let other = skewed_plan tree in
+      let belongs : Belongs design (root design) other = root-belongs design other (IsSkewed-skewed_plan tree) (same-legal design other tree same.order legal) in
       omega (arith, covered sound other (same-fits design other tree same fits) (suc (most_steps state.entries)) (root design) (omega arith) root-in belongs, same-cost design other tree same)
 
   -- a least cost that is reached is that of a floorplan

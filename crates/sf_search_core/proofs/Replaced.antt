@@ -22,7 +22,7 @@ use Rattle.sf_search_core.proofs.Kept.{held-valued}
 use Rattle.sf_search_core.proofs.Applied.{held-some, applied-kept}
 
 -- a number that is no less is found not to be less
-not-lt : (a b : ℕ) → b ≤ a → nat_lt a b ≡ false
+pub not-lt : (a b : ℕ) → b ≤ a → nat_lt a b ≡ false
 not-lt a b h = grind arith
 
 -- the state after a Replace

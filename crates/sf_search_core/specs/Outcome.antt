@@ -1,5 +1,5 @@
 -- The machine after a list of events, and what it then tells of a design's floorplans.
-use Rattle.std.specs.Prelude.{◌≡◌, ⊤, ℕ, min, List, [], ◌∷◌, ◌++◌, map, replicate, ◌⊎◌, None, Result, Ok, Err}
+use Rattle.std.specs.Prelude.{◌≡◌, ⊤, ℕ, List, [], ◌∷◌, ◌++◌, map, replicate, ◌⊎◌, None, Result, Ok, Err}
 use Rattle.sf_model.specs.declared.design.Design.{Design}
 use Rattle.sf_model.specs.declared.TheConstants.{MAX}
 use Rattle.sf_model.specs.Tree.{Tree}
@@ -12,6 +12,7 @@ use Rattle.sf_search_core.specs.declared.refusal.Refusal.{Refusal}
 use Rattle.sf_search_core.specs.State.{State}
 use Rattle.sf_search_core.specs.Core.{held_tasks}
 use Rattle.sf_search_core.specs.Events.{applied, start, CanCome}
+use Rattle.sf_search_core.specs.Least.{least}
 
 -- the machine at its start, where no worker holds a task
 abbrev pub opening : Design → (Parts → ℕ) → ℕ → State
@@ -42,11 +43,6 @@ pub record IsPlanCost (design : Design) (z : ℕ) : Type 0 where
   pub legal : IsLegal design tree
   pub fits : Fits design.outline tree
   pub costs : cost design tree ≡ z
-
--- the least of n and the numbers
-abbrev pub least : ℕ → List ℕ → ℕ
-least n [] = n
-least n (x ∷ xs) = min x (least n xs)
 
 -- the least of the word and the bounds of the open and held tasks
 abbrev pub floor_of : State → ℕ

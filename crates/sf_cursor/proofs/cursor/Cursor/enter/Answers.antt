@@ -2,7 +2,7 @@ use Rattle.std.proofs.Common.{ap, ◌∙◌, ◌++◌, ◌∷◌, [], arith, tru
 use Rattle.sf_node.specs.Children.{after}
 use Rattle.sf_node.specs.Later.{halved}
 use Rattle.sf_cursor.specs.declared.level.Level.{Level}
-use Rattle.sf_cursor.specs.Path.{marked}
+use Rattle.sf_cursor.specs.Path.{flags_after}
 use Rattle.sf_cursor.proofs.Flags.{few-operands, named-most}
 use Rattle.sf_cursor.proofs.Ways.{few-on, path-on}
 use Rattle.sf_cursor.proofs.cursor.Cursor.enter.Goals as goal
@@ -15,13 +15,13 @@ returns-clause-at g c =
     (record { span = c.halved-span.ensures ∙ ap (λ p. halved p.node c.args.step) c.self.view_is; worth = c.requires.value })
     (c.in_ok-enter.ensures ∙ ap (λ p. after p.node c.args.step) c.self.view_is)
     (c.in_ok-push.ensures.items ∙ ap (λ p. p.levels ++ level ∷ []) c.self.view_is)
-    (c.mark.ensures ∙ ap (λ p. marked p.used c.args.step true) c.self.view_is)
-    (omega (arith, c.named.ensures, ap (λ p. p.operands) c.self.view_is))
+    (c.mark.ensures ∙ ap (λ p. flags_after p.used c.args.step true) c.self.view_is)
+    (omega (arith, c.step_blocks.ensures, ap (λ p. p.operands) c.self.view_is))
 
 pub overflow_add-self : goal.overflow_add-self
 overflow_add-self g c =
     let now = c.args.self.now in
-    omega (arith, few-operands c.args.design.now now.node c.requires.at.sub, c.requires.at.operands, ap (λ p. p.operands) c.self.view_is, c.named.ensures, named-most c.args.step)
+    omega (arith, few-operands c.args.design.now now.node c.requires.at.sub, c.requires.at.operands, ap (λ p. p.operands) c.self.view_is, c.step_blocks.ensures, named-most c.args.step)
 
 pub invariant_of-self-in_err-enter : goal.invariant_of-self-in_err-enter
 invariant_of-self-in_err-enter g c =

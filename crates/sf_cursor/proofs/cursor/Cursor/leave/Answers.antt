@@ -1,6 +1,6 @@
 use Rattle.std.proofs.Common.{◌-◌, length, take, ap, subst, sym, ◌∙◌, arith, false}
 use Rattle.sf_node.specs.Later.{HalvesOne}
-use Rattle.sf_cursor.specs.Path.{marked, NamesOne}
+use Rattle.sf_cursor.specs.Path.{flags_after, NamesOne}
 use Rattle.sf_cursor.proofs.Ways.{last-as, halves-one, path-back, names-back, names-few}
 use Rattle.sf_cursor.proofs.cursor.Cursor.leave.Goals as goal
 
@@ -21,8 +21,8 @@ returns-clause-back g c =
     path-back c.args.design.now (g.V.Values.value c.args.values.now c.args.design.now) now _ (take (length steps - 1) steps) s c.in-Some.level c.requires.at e
     (ap (λ p. p.levels) (sym c.self.view_is) ∙ c.in-Some.ensures.items)
     (λ before f k. c.leave.ensures before (ap (λ p. p.node) c.self.view_is ∙ f) k)
-    (c.mark.ensures ∙ ap (λ p. marked p.used s false) c.self.view_is)
-    (omega (arith, c.named.ensures, ap (λ p. p.operands) c.self.view_is))
+    (c.mark.ensures ∙ ap (λ p. flags_after p.used s false) c.self.view_is)
+    (omega (arith, c.step_blocks.ensures, ap (λ p. p.operands) c.self.view_is))
 
 pub returns-clause-at : goal.returns-clause-at
 returns-clause-at g c =
@@ -33,8 +33,8 @@ returns-clause-at g c =
     let back = path-back c.args.design.now (g.V.Values.value c.args.values.now c.args.design.now) now _ (take (length steps - 1) steps) s c.in-Some.level c.requires.at e
     (ap (λ p. p.levels) (sym c.self.view_is) ∙ c.in-Some.ensures.items)
     (λ before f k. c.leave.ensures before (ap (λ p. p.node) c.self.view_is ∙ f) k)
-    (c.mark.ensures ∙ ap (λ p. marked p.used s false) c.self.view_is)
-    (omega (arith, c.named.ensures, ap (λ p. p.operands) c.self.view_is)) in
+    (c.mark.ensures ∙ ap (λ p. flags_after p.used s false) c.self.view_is)
+    (omega (arith, c.step_blocks.ensures, ap (λ p. p.operands) c.self.view_is)) in
     back.at
 
 pub mark-requires : goal.mark-requires
@@ -51,4 +51,4 @@ overflow_sub-self g c =
     let steps = now.node.steps in
     let s = c.in_ok-step.field-0.now in
     let e = last-as c.steps.result.now steps s (c.steps.ensures ∙ ap (λ p. p.node.steps) c.self.view_is) c.in_ok-step.ensures.value in
-    omega (arith, c.named.ensures, ap (λ p. p.operands) c.self.view_is, names-few c.args.design.now (g.V.Values.value c.args.values.now c.args.design.now) now (take (length steps - 1) steps) s c.requires.at e)
+    omega (arith, c.step_blocks.ensures, ap (λ p. p.operands) c.self.view_is, names-few c.args.design.now (g.V.Values.value c.args.values.now c.args.design.now) now (take (length steps - 1) steps) s c.requires.at e)
