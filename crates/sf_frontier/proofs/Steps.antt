@@ -10,7 +10,7 @@ use Rattle.crossbeam_deque.specs.Tasks.{Pushes, Takes, Pops, Finds, Forks, Merge
 use Rattle.crossbeam_deque.proofs.Lists.{at_set, at_snoc}
 use Rattle.sf_node.specs.declared.task.Task.{Task}
 use Rattle.sf_frontier.specs.declared.rule.View.{View}
-use Rattle.sf_frontier.specs.Fair.{view, ends, IdleIsEmpty, IsOrdered, weight_put, weight_taken, Balanced, Put, Taken, Stolen, IsAllTaken, kept, given, both, spent}
+use Rattle.sf_frontier.specs.Fair.{view, ends, IdleIsEmpty, IsOrdered, weight_put, weight_taken, Balanced, Put, Taken, Stolen, IsAllTaken, back_alone, front_alone, both_ends, no_end}
 
 -- the total after one view became another
 total_set : (f : View → ℕ) (views : List View) (port : ℕ) (v w : View) → get_elem? views port ≡ some v → sum_by f (set views port w) + f v ≡ sum_by f views + f w
@@ -114,22 +114,6 @@ module _ (S : Task → Type 0) where
   -- of no tasks all are ones that the team serves
   none_served : All S []
   none_served k d below = absurd (omega arith)
-
-  -- a new deque, which one pass has alone
-  pub opens : Balanced S [] (view 1 1 [] [] [] [] ∷ [])
-  opens = record { kept = λ w. refl; one_back = refl; one_front = refl; idle = one; ordered = alone; served = none_served }
-    where
-      one : IdleIsEmpty (view 1 1 [] [] [] [] ∷ [])
-      one zero u at none = let p : 2 ≡ ends u = ap ends (some-injective (view 1 1 [] [] [] []) u at) in absurd (omega arith)
-      one (suc j) u at none = absurd (some-ne-none u (sym at))
-
-      nothing : (other : ℕ) (u : View) → get_elem? (view 1 1 [] [] [] [] ∷ []) other ≡ some u → 0 < u.fronts → u.stolen ≡ []
-      nothing zero u at front = sym (ap (λ (y : View). y.stolen) (some-injective (view 1 1 [] [] [] []) u at))
-      nothing (suc j) u at front = absurd (some-ne-none u (sym at))
-
-      alone : IsOrdered [] (view 1 1 [] [] [] [] ∷ [])
-      alone zero u at back = ([], sym (ap (λ (y : View). y.stack) (some-injective (view 1 1 [] [] [] []) u at)), nothing)
-      alone (suc j) u at back = absurd (some-ne-none u (sym at))
 
   -- a put keeps the rule
   pub puts : (port : ℕ) (v : View) (x : Task) → 0 < v.backs → S x → Pushes (Balanced S) port v (x ∷ []) (Put v (x ∷ []))
@@ -240,52 +224,52 @@ module _ (S : Task → Type 0) where
       )
 
   -- the front is given away
-  pub forks : (port : ℕ) (v : View) → v.backs ≡ 1 → v.fronts ≡ 1 → Forks (Balanced S) port v (kept v) (given v)
+  pub forks : (port : ℕ) (v : View) → v.backs ≡ 1 → v.fronts ≡ 1 → Forks (Balanced S) port v (back_alone v) (front_alone v)
   forks port v back front items views h at =
-      let mid : List View = set views port (kept v) in
-      let new : View = given v in
+      let mid : List View = set views port (back_alone v) in
+      let new : View = front_alone v in
       let e : List Task = [] in
       let knew = h.ordered port v at (omega (arith, back)) in
       let mine : v.stolen ≡ knew.0 = knew.2 port v at (omega (arith, front)) in
       let left : drop (length v.stolen) v.stack ≡ items = ap (λ (n : List Task). drop (length n) v.stack) mine ∙ (ap (λ (zs : List Task). drop (length knew.0) zs) knew.1 ∙ drop-append_seam knew.0 items) in
       record {
         kept = λ w.
-            let a = total_set (weight_put w) views port v (kept v) at in
-            let b = total_set (weight_taken w) views port v (kept v) at in
+            let a = total_set (weight_put w) views port v (back_alone v) at in
+            let b = total_set (weight_taken w) views port v (back_alone v) at in
             let k = h.kept w in
             let c = total_snoc (weight_put w) mid new in
             let d = total_snoc (weight_taken w) mid new in
             let z : sum_by w e ≡ 0 = refl in
             omega arith;
-        one_back = let t = total_set backs views port v (kept v) at in let q = total_snoc backs mid new in let p = h.one_back in omega arith;
-        one_front = let t = total_set fronts views port v (kept v) at in let q = total_snoc fronts mid new in let p = h.one_front in omega (arith, front);
+        one_back = let t = total_set backs views port v (back_alone v) at in let q = total_snoc backs mid new in let p = h.one_back in omega arith;
+        one_front = let t = total_set fronts views port v (back_alone v) at in let q = total_snoc fronts mid new in let p = h.one_front in omega (arith, front);
         idle = λ j u there none. ⊎_elim
-            (λ was. idle_set views port (kept v) (λ none'. absurd (omega (arith, back))) h.idle j u was none)
+            (λ was. idle_set views port (back_alone v) (λ none'. absurd (omega (arith, back))) h.idle j u was none)
             (λ (is : new ≡ u). let p : ends new ≡ ends u = ap ends is in absurd (omega arith))
             (at_snoc mid new u j there);
         ordered = λ i a there some_back. ⊎_elim
             (λ was. ⊎_elim
-            (λ (x : (i ≡ port) × (kept v ≡ a)). ([], sym (ap (λ (y : View). y.stack) x.1) ∙ left, nothing views h.one_front at))
+            (λ (x : (i ≡ port) × (back_alone v ≡ a)). ([], sym (ap (λ (y : View). y.stack) x.1) ∙ left, nothing views h.one_front at))
             (λ (x : (i ≢ port) × (get_elem? views i ≡ some a)). absurd (let t = total_two backs views i port a v x.1 at x.0 in let p = h.one_back in omega (arith, t, p, back)))
-            (at_set views port i (kept v) a was))
+            (at_set views port i (back_alone v) a was))
             (λ (is : new ≡ a). let p : backs new ≡ backs a = ap backs is in absurd (omega arith))
             (at_snoc mid new a i there);
         served = h.served;
       }
     where
-      nothing : (views : List View) → sum_by fronts views ≡ 1 → get_elem? views port ≡ some v → (other : ℕ) (b : View) → get_elem? (set views port (kept v) ++ given v ∷ []) other ≡ some b → 0 < b.fronts → b.stolen ≡ []
+      nothing : (views : List View) → sum_by fronts views ≡ 1 → get_elem? views port ≡ some v → (other : ℕ) (b : View) → get_elem? (set views port (back_alone v) ++ front_alone v ∷ []) other ≡ some b → 0 < b.fronts → b.stolen ≡ []
       nothing views one at j b there some_front = ⊎_elim
           (λ was. ⊎_elim
-          (λ (x : (j ≡ port) × (kept v ≡ b)). sym (ap (λ (y : View). y.stolen) x.1))
+          (λ (x : (j ≡ port) × (back_alone v ≡ b)). sym (ap (λ (y : View). y.stolen) x.1))
           (λ (x : (j ≢ port) × (get_elem? views j ≡ some b)). absurd (let t = total_two fronts views j port b v x.1 at x.0 in omega (arith, t, front, one)))
-          (at_set views port j (kept v) b was))
-          (λ (is : given v ≡ b). sym (ap (λ (y : View). y.stolen) is))
-          (at_snoc (set views port (kept v)) (given v) b j there)
+          (at_set views port j (back_alone v) b was))
+          (λ (is : front_alone v ≡ b). sym (ap (λ (y : View). y.stolen) is))
+          (at_snoc (set views port (back_alone v)) (front_alone v) b j there)
 
   -- the front comes back
-  pub merges : (port : ℕ) (v : View) (other : ℕ) (u : View) → v.backs ≡ 1 → v.stolen ≡ [] → u.backs ≡ 0 → u.fronts ≡ 1 → Merges (Balanced S) port v other u (both v u) spent
+  pub merges : (port : ℕ) (v : View) (other : ℕ) (u : View) → v.backs ≡ 1 → v.stolen ≡ [] → u.backs ≡ 0 → u.fronts ≡ 1 → Merges (Balanced S) port v other u (both_ends v u) no_end
   merges port v other u back none_yet no_back front items views h at apart at' =
-      let now : View = both v u in
+      let now : View = both_ends v u in
       let mid : List View = set views port now in
       let e : List Task = [] in
       let there_u : get_elem? views other ≡ some u = ⊎_elim (λ (x : (other ≡ port) × (now ≡ u)). absurd (apart x.0)) (λ (x : (other ≢ port) × (get_elem? views other ≡ some u)). x.1) (at_set views port other now u at') in
@@ -295,33 +279,33 @@ module _ (S : Task → Type 0) where
         kept = λ w.
             let a = total_set (weight_put w) views port v now at in
             let b = total_set (weight_taken w) views port v now at in
-            let c = total_set (weight_put w) mid other u spent at' in
-            let d = total_set (weight_taken w) mid other u spent at' in
+            let c = total_set (weight_put w) mid other u no_end at' in
+            let d = total_set (weight_taken w) mid other u no_end at' in
             let k = h.kept w in
             let z : sum_by w e ≡ 0 = refl in
             omega (arith, sum_by-append w v.put u.put, sum_by-append w v.taken u.taken);
-        one_back = let t = total_set backs views port v now at in let q = total_set backs mid other u spent at' in let p = h.one_back in omega arith;
-        one_front = let t = total_set fronts views port v now at in let q = total_set fronts mid other u spent at' in let p = h.one_front in omega arith;
-        idle = idle_set mid other spent (λ none. (refl, refl)) (idle_set views port now (λ none. absurd (omega (arith, back))) h.idle);
+        one_back = let t = total_set backs views port v now at in let q = total_set backs mid other u no_end at' in let p = h.one_back in omega arith;
+        one_front = let t = total_set fronts views port v now at in let q = total_set fronts mid other u no_end at' in let p = h.one_front in omega arith;
+        idle = idle_set mid other no_end (λ none. (refl, refl)) (idle_set views port now (λ none. absurd (omega (arith, back))) h.idle);
         ordered = λ i a there some_back. ⊎_elim
-            (λ (x : (i ≡ other) × (spent ≡ a)). absurd (let p = ap backs x.1 in omega (arith, p)))
+            (λ (x : (i ≡ other) × (no_end ≡ a)). absurd (let p = ap backs x.1 in omega (arith, p)))
             (λ (x : (i ≢ other) × (get_elem? mid i ≡ some a)). ⊎_elim
             (λ (y : (i ≡ port) × (now ≡ a)). (knew.0, sym (ap (λ (z : View). z.stack) y.1) ∙ knew.1, stolen_both views knew.0 h.one_front there_u mine))
             (λ (y : (i ≢ port) × (get_elem? views i ≡ some a)). absurd (let t = total_two backs views i port a v y.1 at y.0 in let p = h.one_back in omega (arith, t, p, back)))
             (at_set views port i now a x.1))
-            (at_set mid other i spent a there);
+            (at_set mid other i no_end a there);
         served = h.served;
       }
     where
       stolen_both : (views : List View) (stolen : List Task) → sum_by fronts views ≡ 1 → get_elem? views other ≡ some u → u.stolen ≡ stolen
-          → (j : ℕ) (b : View) → get_elem? (set (set views port (both v u)) other spent) j ≡ some b → 0 < b.fronts → b.stolen ≡ stolen
+          → (j : ℕ) (b : View) → get_elem? (set (set views port (both_ends v u)) other no_end) j ≡ some b → 0 < b.fronts → b.stolen ≡ stolen
       stolen_both views stolen one there_u mine j b there some_front = ⊎_elim
-          (λ (x : (j ≡ other) × (spent ≡ b)). absurd (let p = ap fronts x.1 in omega (arith, p)))
-          (λ (x : (j ≢ other) × (get_elem? (set views port (both v u)) j ≡ some b)). ⊎_elim
-          (λ (y : (j ≡ port) × (both v u ≡ b)). sym (ap (λ (z : View). z.stolen) y.1) ∙ (ap (λ (zs : List Task). zs ++ u.stolen) none_yet ∙ mine))
+          (λ (x : (j ≡ other) × (no_end ≡ b)). absurd (let p = ap fronts x.1 in omega (arith, p)))
+          (λ (x : (j ≢ other) × (get_elem? (set views port (both_ends v u)) j ≡ some b)). ⊎_elim
+          (λ (y : (j ≡ port) × (both_ends v u ≡ b)). sym (ap (λ (z : View). z.stolen) y.1) ∙ (ap (λ (zs : List Task). zs ++ u.stolen) none_yet ∙ mine))
           (λ (y : (j ≢ port) × (get_elem? views j ≡ some b)). absurd (let t = total_two fronts views j other b u y.1 there_u x.0 in omega (arith, t, front, one)))
-          (at_set views port j (both v u) b x.1))
-          (at_set (set views port (both v u)) other j spent b there)
+          (at_set views port j (both_ends v u) b x.1))
+          (at_set (set views port (both_ends v u)) other j no_end b there)
 
 -- an owner that is alone has the front too
 pub has_front : (alone : Bool) (n : ℕ) → n ≡ (if alone then 1 else 0) → ◌≡◌ {A = ℕ} (if alone then 1 else 2) 1 → n ≡ 1

@@ -4,10 +4,10 @@ use Rattle.std.specs.Prelude.{sum_by}
 use Rattle.std.specs.List.{flat_map}
 use Rattle.std.proofs.lemmas.List.Sums.{sum_by-append, sum_by-cons}
 use Rattle.std.proofs.lemmas.List.Elements.{All-take, All-drop, All-push, All-head, All-nil, All-cons}
-use Rattle.std.proofs.lemmas.List.{map-append, reverse-append}
+use Rattle.std.proofs.lemmas.List.{nil_from_length, map-append, reverse-append}
 use lib.Seq.{take-append_seam, drop-append_seam}
 use Rattle.sf_node.specs.declared.task.Task.{Task}
-use Rattle.sf_frontier.specs.Ends.{Deque, OwnerView, ThiefView, joined, IsDrained}
+use Rattle.sf_frontier.specs.Ends.{Deque, OwnerView, ThiefView, with_stolen, IsDrained}
 use Rattle.sf_frontier.specs.Fair.{SameTasks}
 use Rattle.sf_frontier.specs.Team.{thief_deques_of, turned, owners_of, deques_of, preys_of, stolen_by, AreSettled, IsTeam, IsFinished, IsNewOwner, IsNewThief, IsNewPlace}
 use Rattle.sf_frontier.specs.declared.place.Place.{Place}
@@ -209,7 +209,7 @@ module _ {T : Type 0} where
 
   -- the owner's deque is settled, and the place before it is the next
   pub settling-more : (places ps qs : List (Place T)) (p : Place T) (o : OwnerView) (first t : ThiefView) (rest : List ThiefView) (all : OwnerView) (before more after : List Task)
-      → qs ≡ ps ++ p ∷ [] → IsSettling places qs o first before → p.thieves.items ≡ rest ++ t ∷ [] → all ≡ joined o t.taken → IsDrained all more → after ≡ before ++ more
+      → qs ≡ ps ++ p ∷ [] → IsSettling places qs o first before → p.thieves.items ≡ rest ++ t ∷ [] → all ≡ with_stolen o t.taken → IsDrained all more → after ≡ before ++ more
       → IsSettling places ps p.owner first after
   settling-more places ps qs p o first t rest all before more after e s thieves is drained ea =
       let P : Place T → Type 0 = λ place. place.owner.deque.parts ≡ 2 in
@@ -251,7 +251,7 @@ module _ {T : Type 0} where
 
   -- where all deques are settled the team is finished
   pub settling-done : (places ps : List (Place T)) (o : OwnerView) (first : ThiefView) (all : OwnerView) (before more after : List Task)
-      → ps ≡ [] → IsSettling places ps o first before → all ≡ joined o first.taken → IsDrained all more → after ≡ before ++ more → IsFinished places after
+      → ps ≡ [] → IsSettling places ps o first before → all ≡ with_stolen o first.taken → IsDrained all more → after ≡ before ++ more → IsFinished places after
   settling-done places ps o first all before more after none s is drained ea =
       record {
         stolen = first.taken ∷ s.stolen;
@@ -280,9 +280,9 @@ module _ {T : Type 0} where
   lone-done places ps last more left e none team drained is =
       elim team.1 [
         | inl alone ↦ (
-            let no : ps ≡ [] = no_items ps (let n = ap length e in omega (arith, alone.0, n, length-append ps (last ∷ []))) in
+            let no : ps ≡ [] = nil_from_length ps (let n = ap length e in omega (arith, alone.0, n, length-append ps (last ∷ []))) in
             let one : places ≡ last ∷ [] = e ∙ ap (λ zs. zs ++ last ∷ []) no in
-            let empty : stolen_by last ≡ [] = ap (flat_map (λ (u : ThiefView). u.taken)) (no_items last.thieves.items none) in
+            let empty : stolen_by last ≡ [] = ap (flat_map (λ (u : ThiefView). u.taken)) (nil_from_length last.thieves.items none) in
             record {
               stolen = [] ∷ [];
               rests = more ∷ [];
@@ -293,12 +293,8 @@ module _ {T : Type 0} where
         | inr all ↦ absurd (let p = lone-part places ps last e none team in let q = all_last (λ place. place.owner.deque.parts ≡ 2) ps last (subst (All (λ (place : Place T). place.owner.deque.parts ≡ 2)) e all.0) in omega (arith, p, q))
       ]
     where
-      alone_joined : (o : OwnerView) (more : List Task) → IsDrained o more → IsDrained (joined o []) more
+      alone_joined : (o : OwnerView) (more : List Task) → IsDrained o more → IsDrained (with_stolen o []) more
       alone_joined o more d = (subst (λ zs. SameTasks o.put (zs ++ more)) (sym (append-nil o.taken)) d.0, d.1 ∙ ap (λ (zs : List Task). zs ++ reverse more) (sym (append-nil o.stolen)))
-
-      no_items : {X : Type 0} (xs : List X) → length xs ≡ 0 → xs ≡ []
-      no_items [] n = refl
-      no_items (x ∷ xs) n = absurd (omega (arith, n))
 
   -- the workers before the owner o, whose places are made
   pub record IsGrowing (ps : List (Place T)) (o : OwnerView) (first : Deque) : Type 0 where

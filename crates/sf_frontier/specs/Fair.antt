@@ -63,17 +63,17 @@ abbrev pub IsAllTaken : View → Type 0
 IsAllTaken v = ends v ≡ 2 → SameTasks v.put v.taken × (v.stack ≡ v.stolen)
 
 -- the back alone: what was stolen is no longer on the stack
-abbrev pub kept : View → View
-kept v = view v.backs (v.fronts - 1) v.put v.taken (drop (length v.stolen) v.stack) []
+abbrev pub back_alone : View → View
+back_alone v = view v.backs (v.fronts - 1) v.put v.taken (drop (length v.stolen) v.stack) []
 
 -- the front alone
-abbrev pub given : View → View
-given v = view 0 1 [] [] [] []
+abbrev pub front_alone : View → View
+front_alone v = view 0 1 [] [] [] []
 
 -- both ends together
-abbrev pub both : View → View → View
-both v u = view (v.backs + u.backs) (v.fronts + u.fronts) (v.put ++ u.put) (v.taken ++ u.taken) v.stack (v.stolen ++ u.stolen)
+abbrev pub both_ends : View → View → View
+both_ends v u = view (v.backs + u.backs) (v.fronts + u.fronts) (v.put ++ u.put) (v.taken ++ u.taken) v.stack (v.stolen ++ u.stolen)
 
 -- no end
-abbrev pub spent : View
-spent = view 0 0 [] [] [] []
+abbrev pub no_end : View
+no_end = view 0 0 [] [] [] []

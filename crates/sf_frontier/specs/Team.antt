@@ -2,7 +2,7 @@
 use Rattle.std.specs.Prelude.{◌≡◌, ℕ, ◌⊎◌, ◌<◌, List, [], ◌∷◌, ◌++◌, sum_by, map, length, All, ⊤}
 use Rattle.std.specs.List.{flat_map}
 use Rattle.sf_node.specs.declared.task.Task.{Task}
-use Rattle.sf_frontier.specs.Ends.{Deque, OwnerView, ThiefView, joined, IsDrained}
+use Rattle.sf_frontier.specs.Ends.{Deque, OwnerView, ThiefView, with_stolen, IsDrained}
 use Rattle.sf_frontier.specs.declared.place.Place.{Place}
 
 -- the deques on which these thieves stand
@@ -29,7 +29,7 @@ AreSettled [] [] (r ∷ rs) = ⊥
 AreSettled [] (s ∷ ss) rs = ⊥
 AreSettled (o ∷ os) [] rs = ⊥
 AreSettled (o ∷ os) (s ∷ ss) [] = ⊥
-AreSettled (o ∷ os) (s ∷ ss) (r ∷ rs) = IsDrained (joined o s) r × AreSettled os ss rs
+AreSettled (o ∷ os) (s ∷ ss) (r ∷ rs) = IsDrained (with_stolen o s) r × AreSettled os ss rs
 
 module _ {T : Type 0} where
   -- the owners of the workers' places

@@ -8,7 +8,7 @@ use lib.ListN.{get_elem?}
 use Rattle.atomic_table.specs.Table.{State, Me, step, Allows, Splits, Joins, keeps}
 use Rattle.atomic_table.proofs.Lists.{at_set, at_snoc, set_else, at_longer}
 use Rattle.sf_incumbent.specs.declared.rule.View.{View}
-use Rattle.sf_incumbent.specs.Rule.{most, view, kept, given, joined, spent, IsLive, IsWord, IsIncumbent, Looks, Offers}
+use Rattle.sf_incumbent.specs.Rule.{most, view, split_seat, new_seat, joined_seat, empty_seat, IsLive, IsWord, IsIncumbent, Looks, Offers}
 
 -- the parts of a seat
 abbrev parts : View → ℕ
@@ -143,10 +143,10 @@ offers start seats slots seat cost me some_part s h homes at fits =
     )
 
 -- a seat with two parts or more may be split, and the rule stays kept
-pub splits : (start seats seat : ℕ) (v : View) → 2 ≤ v.parts → Splits (Holds start seats) seat v (kept v) (given v)
+pub splits : (start seats seat : ℕ) (v : View) → 2 ≤ v.parts → Splits (Holds start seats) seat v (split_seat v) (new_seat v)
 splits start seats seat v two s h at =
     let word : ℕ = slice_index s.words 0 in
-    let mid : List View = set s.views seat (kept v) in
+    let mid : List View = set s.views seat (split_seat v) in
     let below : (word ≤ v.seen) × (word ≤ v.offered) = h.below_seats seat v (at, omega arith) in
     let low : word ≤ most = let a = h.small in let b = h.below_start in omega arith in
     record {
@@ -154,63 +154,63 @@ splits start seats seat v two s h at =
       below_start = h.below_start;
       below_seats = λ j u live. ⊎_elim
           (λ (was : get_elem? mid j ≡ some u). ⊎_elim
-          (λ (x : (j ≡ seat) × (kept v ≡ u)). subst (λ (y : View). (word ≤ y.seen) × (word ≤ y.offered)) x.1 below)
+          (λ (x : (j ≡ seat) × (split_seat v ≡ u)). subst (λ (y : View). (word ≤ y.seen) × (word ≤ y.offered)) x.1 below)
           (λ (x : (j ≢ seat) × (get_elem? s.views j ≡ some u)). h.below_seats j u (x.1, live.1))
-          (at_set s.views seat j (kept v) u was))
-          (λ (is : given v ≡ u). subst (λ (y : View). (word ≤ y.seen) × (word ≤ y.offered)) is (below.0, low))
-          (at_snoc mid (given v) u j live.0);
-      is_one = follows start word s.views (mid ++ given v ∷ []) h.is_one (λ j u live is.
-          elim (ℕ_discrete j seat) as (λ _. (i : ℕ) × (y : View) × IsLive (mid ++ given v ∷ []) i y × (word ≡ y.offered)) [
-            | yes eq ↦ (seat, kept v, (at_longer mid (given v ∷ []) seat (kept v) (at_here s.views seat v (kept v) at), omega arith), is ∙ ap (λ (y : View). y.offered) (same_seat s.views seat j v u at live.0 eq))
-            | no ne ↦ (j, u, (at_longer mid (given v ∷ []) j u (set_else s.views seat j (kept v) ne ∙ live.0), live.1), is)
+          (at_set s.views seat j (split_seat v) u was))
+          (λ (is : new_seat v ≡ u). subst (λ (y : View). (word ≤ y.seen) × (word ≤ y.offered)) is (below.0, low))
+          (at_snoc mid (new_seat v) u j live.0);
+      is_one = follows start word s.views (mid ++ new_seat v ∷ []) h.is_one (λ j u live is.
+          elim (ℕ_discrete j seat) as (λ _. (i : ℕ) × (y : View) × IsLive (mid ++ new_seat v ∷ []) i y × (word ≡ y.offered)) [
+            | yes eq ↦ (seat, split_seat v, (at_longer mid (new_seat v ∷ []) seat (split_seat v) (at_here s.views seat v (split_seat v) at), omega arith), is ∙ ap (λ (y : View). y.offered) (same_seat s.views seat j v u at live.0 eq))
+            | no ne ↦ (j, u, (at_longer mid (new_seat v ∷ []) j u (set_else s.views seat j (split_seat v) ne ∙ live.0), live.1), is)
           ]);
-      parts_add_up = let t = total_set s.views seat v (kept v) at in let q = total_snoc mid (given v) in let p = h.parts_add_up in omega arith;
+      parts_add_up = let t = total_set s.views seat v (split_seat v) at in let q = total_snoc mid (new_seat v) in let p = h.parts_add_up in omega arith;
       idle = λ j u there none. ⊎_elim
           (λ (was : get_elem? mid j ≡ some u). ⊎_elim
-          (λ (x : (j ≡ seat) × (kept v ≡ u)). let p : parts (kept v) ≡ parts u = ap parts x.1 in absurd (omega arith))
+          (λ (x : (j ≡ seat) × (split_seat v ≡ u)). let p : parts (split_seat v) ≡ parts u = ap parts x.1 in absurd (omega arith))
           (λ (x : (j ≢ seat) × (get_elem? s.views j ≡ some u)). h.idle j u x.1 none)
-          (at_set s.views seat j (kept v) u was))
-          (λ (is : given v ≡ u). let p : parts (given v) ≡ parts u = ap parts is in absurd (omega arith))
-          (at_snoc mid (given v) u j there);
+          (at_set s.views seat j (split_seat v) u was))
+          (λ (is : new_seat v ≡ u). let p : parts (new_seat v) ≡ parts u = ap parts is in absurd (omega arith))
+          (at_snoc mid (new_seat v) u j there);
     }
 
 -- two seats with parts may be joined, and the rule stays kept
-pub joins : (start seats seat : ℕ) (v : View) (other : ℕ) (w : View) → 0 < v.parts → 0 < w.parts → Joins (Holds start seats) seat v other w (joined v w) spent
+pub joins : (start seats seat : ℕ) (v : View) (other : ℕ) (w : View) → 0 < v.parts → 0 < w.parts → Joins (Holds start seats) seat v other w (joined_seat v w) empty_seat
 joins start seats seat v other w vs ws s h at apart at' =
     let word : ℕ = slice_index s.words 0 in
-    let both : View = joined v w in
+    let both : View = joined_seat v w in
     let mid : List View = set s.views seat both in
-    let end : List View = set mid other spent in
+    let end : List View = set mid other empty_seat in
     let was : get_elem? s.views other ≡ some w = sym (set_else s.views seat other both apart) ∙ at' in
     let below : (word ≤ v.seen) × (word ≤ v.offered) = h.below_seats seat v (at, vs) in
     let below' : (word ≤ w.seen) × (word ≤ w.offered) = h.below_seats other w (was, ws) in
-    let here : IsLive end seat both = (set_else mid other seat spent (λ e. apart (sym e)) ∙ at_here s.views seat v both at, omega arith) in
+    let here : IsLive end seat both = (set_else mid other seat empty_seat (λ e. apart (sym e)) ∙ at_here s.views seat v both at, omega arith) in
     record {
       small = h.small;
       below_start = h.below_start;
       below_seats = λ j u live. ⊎_elim
-          (λ (x : (j ≡ other) × (spent ≡ u)). let p : parts spent ≡ parts u = ap parts x.1 in let q = live.1 in absurd (omega arith))
+          (λ (x : (j ≡ other) × (empty_seat ≡ u)). let p : parts empty_seat ≡ parts u = ap parts x.1 in let q = live.1 in absurd (omega arith))
           (λ (x : (j ≢ other) × (get_elem? mid j ≡ some u)). ⊎_elim
           (λ (y : (j ≡ seat) × (both ≡ u)). subst (λ (z : View). (word ≤ z.seen) × (word ≤ z.offered)) y.1 (omega arith, omega arith))
           (λ (y : (j ≢ seat) × (get_elem? s.views j ≡ some u)). h.below_seats j u (y.1, live.1))
           (at_set s.views seat j both u x.1))
-          (at_set mid other j spent u live.0);
+          (at_set mid other j empty_seat u live.0);
       is_one = follows start word s.views end h.is_one (λ j u live is.
           elim (ℕ_discrete j seat) as (λ _. (i : ℕ) × (y : View) × IsLive end i y × (word ≡ y.offered)) [
             | yes eq ↦ (seat, both, here, (let e : word ≡ v.offered = is ∙ ap (λ (y : View). y.offered) (same_seat s.views seat j v u at live.0 eq) in omega arith))
             | no ne ↦ elim (ℕ_discrete j other) as (λ _. (i : ℕ) × (y : View) × IsLive end i y × (word ≡ y.offered)) [
               | yes eq ↦ (seat, both, here, (let e : word ≡ w.offered = is ∙ ap (λ (y : View). y.offered) (same_seat s.views other j w u was live.0 eq) in omega arith))
-              | no ne' ↦ (j, u, (set_else mid other j spent ne' ∙ (set_else s.views seat j both ne ∙ live.0), live.1), is)
+              | no ne' ↦ (j, u, (set_else mid other j empty_seat ne' ∙ (set_else s.views seat j both ne ∙ live.0), live.1), is)
             ]
           ]);
-      parts_add_up = let t = total_set s.views seat v both at in let q = total_set mid other w spent at' in let p = h.parts_add_up in omega arith;
+      parts_add_up = let t = total_set s.views seat v both at in let q = total_set mid other w empty_seat at' in let p = h.parts_add_up in omega arith;
       idle = λ j u there none. ⊎_elim
-          (λ (x : (j ≡ other) × (spent ≡ u)). ap (λ (y : View). y.offered) (sym x.1))
+          (λ (x : (j ≡ other) × (empty_seat ≡ u)). ap (λ (y : View). y.offered) (sym x.1))
           (λ (x : (j ≢ other) × (get_elem? mid j ≡ some u)). ⊎_elim
           (λ (y : (j ≡ seat) × (both ≡ u)). let p : parts both ≡ parts u = ap parts y.1 in absurd (omega arith))
           (λ (y : (j ≢ seat) × (get_elem? s.views j ≡ some u)). h.idle j u y.1 none)
           (at_set s.views seat j both u x.1))
-          (at_set mid other j spent u there);
+          (at_set mid other j empty_seat u there);
     }
 
 -- who has all parts knows the word

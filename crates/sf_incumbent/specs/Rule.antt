@@ -14,24 +14,24 @@ abbrev pub view : ℕ → ℕ → ℕ → View
 view seen offered parts = record { seen = seen; offered = offered; parts = parts }
 
 -- the first seat has seen the start and has all parts
-abbrev pub opened : ℕ → ℕ → View
-opened start seats = view start most seats
+abbrev pub first_seat : ℕ → ℕ → View
+first_seat start seats = view start most seats
 
 -- a seat that is split keeps all but one part
-abbrev pub kept : View → View
-kept v = view v.seen v.offered (v.parts - 1)
+abbrev pub split_seat : View → View
+split_seat v = view v.seen v.offered (v.parts - 1)
 
 -- the new seat has offered nothing and has one part
-abbrev pub given : View → View
-given v = view v.seen most 1
+abbrev pub new_seat : View → View
+new_seat v = view v.seen most 1
 
 -- two seats that are joined: the lesser values, and the parts of both
-abbrev pub joined : View → View → View
-joined v w = view (min v.seen w.seen) (min v.offered w.offered) (v.parts + w.parts)
+abbrev pub joined_seat : View → View → View
+joined_seat v w = view (min v.seen w.seen) (min v.offered w.offered) (v.parts + w.parts)
 
 -- a seat that was joined into another is left without parts
-abbrev pub spent : View
-spent = view most most 0
+abbrev pub empty_seat : View
+empty_seat = view most most 0
 
 -- the view v stands at the number `seat`, and isn't spent
 abbrev pub IsLive : List View → ℕ → View → Type 0

@@ -9,7 +9,7 @@
 //! offers (`finish`).
 #![tactic(auto)]
 
-ghost use Rattle.std.specs.Prelude.{◌≡◌, ℕ, ◌+◌, ◌-◌, ◌<◌, ◌≤◌, [], min, IfOk};
+ghost use Rattle.std.specs.Prelude.{◌≡◌, ◌+◌, ◌-◌, ◌<◌, ◌≤◌, [], min, IfOk};
 ghost use Rattle.sf_incumbent.specs.Seen.{Word, Knows};
 
 mod rule;

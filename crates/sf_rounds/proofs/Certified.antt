@@ -26,7 +26,7 @@ use Rattle.sf_certificate.proofs.Merged.{least-same}
 use Rattle.sf_certificate.proofs.Growth.{trees-step}
 use Rattle.sf_certificate.proofs.MergedTree.{IsMerged, all-fair}
 use Rattle.sf_certificate.proofs.MergedCert.{turned}
-use Rattle.sf_rounds.specs.Stage.{task_at, mark_of, IsStage, Progress, left_of, IsFollowed}
+use Rattle.sf_rounds.specs.Stage.{task_at, mark_of, IsStage, WalkView, left_of, IsFollowed}
 
 -- fair tags are trees as far as they go
 trees-then : (part : Parts → Part → ℕ) (cost : ℕ) (nodes : List Parts) (tags more : List Tag) → length (marks nodes tags) ≡ length tags → AllByRecursion (λ m. IsFair part cost m.tag m.node) (marks nodes tags) → AreTrees part cost (waiting_after nodes tags) more → AreTrees part cost nodes (tags ++ more)
@@ -78,11 +78,6 @@ decided-all (e ∷ entries) nodes = decided-one e.kind (map (λ (e : Entry). tag
 nodes-of : (bound : Parts → ℕ) (nodes : List Parts) → map (λ (t : Task). t.node) (map (task_at bound) nodes) ≡ nodes
 nodes-of bound [] = refl
 nodes-of bound (node ∷ nodes) = ap (λ ns. node ∷ ns) (nodes-of bound nodes)
-
--- the bounds of the tasks made of some subproblems are their bounds
-bounds-of : (bound : Parts → ℕ) (nodes : List Parts) → map (λ (t : Task). t.bound) (map (task_at bound) nodes) ≡ map bound nodes
-bounds-of bound [] = refl
-bounds-of bound (node ∷ nodes) = ap (λ ns. bound node ∷ ns) (bounds-of bound nodes)
 
 -- the total over what a function gives is the total of both functions in turn
 map-total : {X : Type 0} (f : Parts → ℕ) (g : X → Parts) (xs : List X) → total f (map g xs) ≡ total (λ x. f (g x)) xs
@@ -159,7 +154,7 @@ module _ (design : Design) (bound : Parts → ℕ) (state : State) (tags : List 
     }
 
 -- one subproblem more is left open
-module _ (design : Design) (bound : Parts → ℕ) (old new : Progress) (more : old.more ≡ true) (f : IsFollowed design bound old Open new) where
+module _ (design : Design) (bound : Parts → ℕ) (old new : WalkView) (more : old.more ≡ true) (f : IsFollowed design bound old Open new) where
   -- the tags, and open ones for what is left behind them, are the same before and after
   pub tags-opened : new.tags ++ opens (left_of design new) ≡ old.tags ++ opens (left_of design old)
   tags-opened =
@@ -172,9 +167,3 @@ module _ (design : Design) (bound : Parts → ℕ) (old new : Progress) (more : 
       let rest = behind (root design) old.path.node.steps in
       ap (λ n. least n (map bound (left_of design new))) k ∙ ap (λ ns. least (min low value) (map bound ns)) f.left ∙ least-min low value (map bound rest)
       ∙ ap (λ x. min x (least low (map bound rest))) e ∙ ap (λ b. least low (map bound (pending design b old.path.node))) (sym more)
-
-  -- one subproblem less is left to visit
-  pub fewer-opened : length (left_of design new) < length (left_of design old)
-  fewer-opened =
-      let one : length (left_of design old) ≡ suc (length (behind (root design) old.path.node.steps)) = ap (λ b. length (pending design b old.path.node)) more in
-      omega (arith, ap length f.left, one)

@@ -18,6 +18,7 @@ use Rattle.sf_rounds.specs.declared.pile.Pile.{Pile}
 use Rattle.sf_rounds.specs.declared.pile.Pile.TheVariants as pile
 use Rattle.sf_rounds.specs.InOrder.{flat, AreCut}
 use Rattle.sf_rounds.specs.Piles.{marks_in, all_in, in_lists}
+use Rattle.sf_rounds.specs.Stage.{mark_of}
 
 -- ---- one cut behind another
 
@@ -42,10 +43,6 @@ cut-both path given ms ns b o c p before others g one other e f =
       low = subst (All P) (sym e) (All-append P b c one.low other.low);
       high = subst (All Q) (sym f) (All-append Q o p one.high other.high);
     }
-
--- no marks are cut into none and none
-pub cut-none : (path : List Step) → AreCut path [] [] []
-cut-none path = record { same = IsPermutation-refl []; low = All-nil (λ (m : Mark). is_lt (steps_cmp m.node.steps path) ≡ true); high = All-nil (λ (m : Mark). is_lt (steps_cmp m.node.steps path) ≡ false) }
 
 -- one mark before the path
 cut-low : (path : List Step) (x : Mark) → is_lt (steps_cmp x.node.steps path) ≡ true → AreCut path (x ∷ []) (x ∷ []) []
@@ -105,27 +102,14 @@ cut-pile path piles below above lows highs one marks b o first second old p c f 
     (ap all_in e ∙ flat-push marks_in below first ∙ ap (λ ms. all_in below ++ ms) f)
     (ap all_in h ∙ flat-push marks_in above second ∙ ap (λ ms. all_in above ++ ms) g)
 
--- the mark of an entry
-abbrev entry_mark : Entry → Mark
-entry_mark entry = record { node = entry.node; tag = tag_of entry.kind }
-
--- the mark of an open task
-abbrev task_mark : Task → Mark
-task_mark task = record { node = task.node; tag = Open }
-
 -- the marks of entries behind entries
 marks-behind : (xs ys : List Entry) → given_marks (xs ++ ys) [] ≡ given_marks xs [] ++ given_marks ys []
 marks-behind xs ys =
-    append-nil (map entry_mark (xs ++ ys)) ∙ map-append entry_mark xs ys
-    ∙ (λ i. (sym (append-nil (map entry_mark xs))) i ++ (sym (append-nil (map entry_mark ys))) i)
+    append-nil (map mark_of (xs ++ ys)) ∙ map-append mark_of xs ys
+    ∙ (λ i. (sym (append-nil (map mark_of xs))) i ++ (sym (append-nil (map mark_of ys))) i)
 
 -- a pile of entries more
 pub entries-pile : (piles more : List Pile) (lists : List (List Entry)) (entries : List Entry) → all_in piles ≡ given_marks (flat lists) [] → more ≡ piles ++ pile.Decided entries ∷ [] → all_in more ≡ given_marks (flat (lists ++ entries ∷ [])) []
 entries-pile piles more lists entries h e =
     ap all_in e ∙ flat-push marks_in piles (pile.Decided entries) ∙ ap (λ ms. ms ++ given_marks entries []) h
     ∙ sym (ap (λ es. given_marks es []) (flat-push (λ es. es) lists entries) ∙ marks-behind (flat lists) entries)
-
--- the open tasks behind the entries
-pub tasks-pile : (piles more : List Pile) (entries : List Entry) (left : Vec Task) → all_in piles ≡ given_marks entries [] → more ≡ piles ++ pile.Open left ∷ [] → all_in more ≡ given_marks entries left.items
-tasks-pile piles more entries left h e =
-    ap all_in e ∙ flat-push marks_in piles (pile.Open left) ∙ ap (λ ms. ms ++ map task_mark left.items) (h ∙ append-nil (map entry_mark entries))

@@ -2,7 +2,7 @@
 use Rattle.std.proofs.Common.{◌≡◌, ℕ, zero, suc, ◌+◌, ◌-◌, ◌<◌, List, [], ◌∷◌, ◌++◌, length, map, take, drop, set, get_or, reverse, All, ap, sym, ◌∙◌, subst, refl, arith, length-append}
 use Rattle.std.specs.Prelude.{sum_by, Option, Some, None, IfSome, MatchOption, slice_get}
 use Rattle.std.specs.Option.{option_to_list}
-use Rattle.std.proofs.lemmas.List.{map-append, reverse-append, reverse-reverse, take_more, take_all, drop_all}
+use Rattle.std.proofs.lemmas.List.{nil_from_length, map-append, reverse-append, reverse-reverse, take_more, take_all, drop_all}
 use Rattle.std.proofs.lemmas.List.Sums.{sum_by-cons, sum_by-append, sum_by-set}
 use Rattle.std.proofs.lemmas.List.Elements.{All-nil, All-cons, All-head, All-tail, All-push, All-drop}
 use Rattle.std.proofs.lemmas.List.Sorted.{All-permutation, IsPermutation-reverse, IsPermutation-sym, sum_by-IsPermutation}
@@ -59,17 +59,12 @@ left-tasks P given turned left n e l all =
 pub turned-tasks : (P : Task → Type 0) (tasks turned : List Task) → turned ≡ reverse tasks → All P tasks → All P turned
 turned-tasks P tasks turned e h = subst (All P) (sym e) (All-permutation P tasks (reverse tasks) (IsPermutation-reverse tasks) h)
 
--- a list of length 0 is empty
-pub no-items : {X : Type 0} (xs : List X) → length xs ≡ 0 → xs ≡ []
-no-items [] n = refl
-no-items (x ∷ xs) n = absurd (omega (arith, n))
-
 -- the next task, or none
 pub next-task : (o : Option Task) (xs ys ts : List Task) (n before after : ℕ) → xs ≡ ys ++ option_to_list o → before ≡ length xs → after ≡ length ys → MatchOption o ((before ≡ 0) × (after ≡ 0)) (λ _. after + 1 ≡ before) → reverse xs ≡ drop n ts
     → (o ≡ slice_get ts n) × (reverse ys ≡ drop (suc n) ts)
 next-task None xs ys ts n before after e b a c h =
-    let none : xs ≡ [] = no-items xs (omega (arith, b, c.0)) in
-    (sym (next-none xs ts n none h), ap reverse (no-items ys (omega (arith, a, c.1))) ∙ sym (later ts n (sym h ∙ ap reverse none)))
+    let none : xs ≡ [] = nil_from_length xs (omega (arith, b, c.0)) in
+    (sym (next-none xs ts n none h), ap reverse (nil_from_length ys (omega (arith, a, c.1))) ∙ sym (later ts n (sym h ∙ ap reverse none)))
   where
     later : (ts : List Task) (n : ℕ) → drop n ts ≡ [] → drop (suc n) ts ≡ []
     later [] n e = refl
@@ -92,14 +87,6 @@ module _ {T : Type 0} where
     pub seated : IsSeated value word ts (take (length jobs) quotas) places jobs
     pub left_are : reverse left ≡ drop (length jobs) ts
     pub seat : now ≡ record first { parts = first.parts - length jobs }
-
-  -- at first no worker is in its place, and all tasks are left
-  pub seating-start : (value : ℕ) (word : Word) (ts : List Task) (quotas : List ℕ) (left : List Task) (first : Knows) → reverse left ≡ ts → IsSeating value word ts quotas [] [] left first first
-  seating-start value word ts quotas left first e = record {
-    seated = record { places_are = refl; fresh = λ new. All-nil (IsFresh value word); empty = λ new w. refl; firsts = tt };
-    left_are = e;
-    seat = ap (λ (n : ℕ). record first { parts = n }) (omega arith);
-  }
 
   -- a worker as it takes its place
   pub record TakesPlace (value : ℕ) (word : Word) (task : Option Task) (quota : ℕ) (place : Place T) (j : Job T) : Type 0 where
@@ -169,13 +156,6 @@ module _ {T : Type 0} where
   same-refl [] = tt
   same-refl (j ∷ js) = ((j.state.place.owner.put, j.state.place.owner.stack, refl), same-refl js)
 
-  -- workers that changed only in their deques are as many as before
-  pub same-length : (js ks : List (Job T)) → EachTwo IsSameBut js ks → length ks ≡ length js
-  same-length [] [] h = refl
-  same-length [] (k ∷ ks) h = absurd h
-  same-length (j ∷ js) [] h = absurd h
-  same-length (j ∷ js) (k ∷ ks) h = omega (arith, same-length js ks h.1)
-
   -- a worker that changed only in its deque, with one task more put, changed only in its deque
   with-put : (j k new : Job T) (t : Task) → IsSameBut j k → new ≡ with_put k t → IsSameBut j new
   with-put j k new t h e = (h.0 ++ t ∷ [], h.1 ++ t ∷ [], e ∙ ap (λ z. with_put z t) h.2)
@@ -210,10 +190,6 @@ module _ {T : Type 0} where
         let c = sum_by-append v old.state.place.owner.put (t ∷ []) in
         omega (arith, h.weight w, s, a, b, c, ap (tasks_weigh w) e, sum_by-append v after (t ∷ []), sum_by-cons v t []);
   }
-
-  -- where no task is left, all were put
-  pub handing-done : (js ks : List (Job T)) (all left : List Task) → left ≡ [] → IsHanding js ks all left → Handed js ks all
-  handing-done js ks all left e h = record { same = h.same; weight = λ w. omega (arith, h.weight w, ap (tasks_weigh w) e) }
 
   -- what stays as tasks are put
   same-fresh : (value : ℕ) (word : Word) (js ks : List (Job T)) → EachTwo IsSameBut js ks → All (IsFresh value word) js → All (IsFresh value word) ks

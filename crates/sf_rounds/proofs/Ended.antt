@@ -26,10 +26,10 @@ use Rattle.sf_certificate.specs.Valid.{HasCost, least, decided}
 use Rattle.sf_certificate.proofs.AfterTags.{opens}
 use Rattle.sf_certificate.proofs.MergedTree.{IsMerged}
 use Rattle.sf_certificate.proofs.MergedCert.{task-bounds}
-use Rattle.sf_count.proofs.Weighed.{entries-few}
+use Rattle.sf_count.proofs.FewEntries.{entries-few}
 use Rattle.sf_rounds.specs.Found.{IsFirst}
 use Rattle.sf_rounds.specs.Run.{IsBest}
-use Rattle.sf_rounds.specs.Stage.{task_at, Progress, left_of, IsBeside}
+use Rattle.sf_rounds.specs.Stage.{task_at, WalkView, left_of, IsBeside}
 use Rattle.sf_rounds.proofs.Settled.{all-decided}
 use Rattle.sf_rounds.proofs.Certified.{certified, lowest-is}
 
@@ -48,7 +48,7 @@ more-below : (design : Design) (bound : Parts → ℕ) (more : Bool) (node : Par
 more-below design bound true node word h = refl
 more-below design bound false node word h = let same : word < word = h in absurd (omega arith)
 
-module _ (design : Design) (bound : Parts → ℕ) (state : State) (walk : Progress) (b : IsBeside design bound state walk) where
+module _ (design : Design) (bound : Parts → ℕ) (state : State) (walk : WalkView) (b : IsBeside design bound state walk) where
   -- the open tasks have their bounds
   pub valued : All (λ (t : Task). t.bound ≡ bound t.node) state.waiting
   valued =

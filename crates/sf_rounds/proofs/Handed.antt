@@ -24,12 +24,12 @@ use Rattle.sf_certificate.specs.Marks.{made, marks, waiting_after}
 use Rattle.sf_certificate.specs.Named.{AllNameFirst, unnamed}
 use Rattle.sf_certificate.specs.Valid.{AreTrees, HasCost, left_open, least, decided}
 use Rattle.sf_certificate.proofs.AfterTags.{opens, marks-then}
-use Rattle.sf_certificate.proofs.MergedCert.{merged-formed, task-bounds}
+use Rattle.sf_certificate.proofs.MergedCert.{merged-formed, task-bounds, plan-cost}
 use Rattle.sf_certificate.proofs.MergedTree.{IsMerged}
 use Rattle.sf_certificate.proofs.Named.{first-close, unnamed-open, unnamed-decided, unnamed-tree, unnamed-waiting}
 use Rattle.sf_rounds.specs.Found.{SplitsFirst, AllSplitFirst}
 use Rattle.sf_rounds.specs.Naming.{AreKept, renamed}
-use Rattle.sf_rounds.specs.Stage.{Progress, left_of, IsBeside}
+use Rattle.sf_rounds.specs.Stage.{WalkView, left_of, IsBeside}
 use Rattle.sf_rounds.proofs.Ended.{valued, merged-as, planned-as, stated-as, decided-as}
 use Rattle.sf_rounds.proofs.Names.{renamed-alike, kept-open, name-first}
 use Rattle.sf_rounds.proofs.SplitMarks.{marks-first}
@@ -57,12 +57,7 @@ splits-named design (node ∷ nodes) (Split b ∷ tags) all = (all.0, splits-nam
 splits-named design (node ∷ nodes) (Closed p ∷ tags) all = (tt, splits-named design nodes tags all.1)
 splits-named design (node ∷ nodes) (Open ∷ tags) all = (tt, splits-named design nodes tags all.1)
 
--- a plan that costs the word and can be written costs the word
-pub priced : (design : Design) (z : ℕ) (plan : Option Expr) → MatchOption plan (z ≡ MAX) (λ expr. HasCost design expr z × IsWritable (block_count design) expr) → MatchOption plan (z ≡ MAX) (λ expr. HasCost design expr z)
-priced design z None h = h
-priced design z (Some expr) h = h.0
-
-module _ (design : Design) (bound : Parts → ℕ) (part : Parts → Part → ℕ) (parts : ArePartsOf design bound part) (state : State) (walk : Progress) (b : IsBeside design bound state walk) (cost low : ℕ) (tags : List Tag) (plan : Option Expr) (c : cost ≡ walk.word) (l : low ≡ least walk.word (map bound (left_of design walk)))
+module _ (design : Design) (bound : Parts → ℕ) (part : Parts → Part → ℕ) (parts : ArePartsOf design bound part) (state : State) (walk : WalkView) (b : IsBeside design bound state walk) (cost low : ℕ) (tags : List Tag) (plan : Option Expr) (c : cost ≡ walk.word) (l : low ≡ least walk.word (map bound (left_of design walk)))
     (t : tags ≡ renamed walk.word (walk.tags ++ opens (left_of design walk)) walk.kept) (p : plan ≡ walk.best) where
   -- the root alone
   abbrev one : List Parts
@@ -95,7 +90,7 @@ module _ (design : Design) (bound : Parts → ℕ) (part : Parts → Part → �
 
   -- the plan costs the cost, or there is none and the cost is none
   pub plan-is : MatchOption plan (cost ≡ MAX) (λ expr. HasCost design expr cost)
-  plan-is = priced design cost plan (planned-as design bound state walk b part parts.full cost low plain plan c l plain-is p)
+  plan-is = plan-cost design cost plan (planned-as design bound state walk b part parts.full cost low plain plan c l plain-is p)
 
   -- the lower bound is the least of the cost and the bounds of what the tags leave open
   pub low-is : low ≡ least cost (map bound (left_open (root design ∷ []) tags))

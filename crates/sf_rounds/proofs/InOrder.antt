@@ -13,7 +13,7 @@ use Rattle.std.proofs.lemmas.List.Sorted.{All-permutation, IsPermutation-trans, 
 use Rattle.sf_model.specs.declared.design.Design.{Design}
 use Rattle.sf_model.specs.declared.TheConstants.{MAX}
 use Rattle.sf_model.specs.Legal.{block_count}
-use Rattle.sf_model.proofs.Each.{EachPair, EachPair-append, AllPairs-from_recursion, each-append, each-map}
+use Rattle.sf_model.proofs.Each.{EachPair, EachPair-append, AllPairs-from_recursion, each-any, each-append, each-map}
 use Rattle.sf_polish.specs.declared.expr.Expr.{Expr}
 use Rattle.sf_node.specs.declared.part.Part.{Part}
 use Rattle.sf_node.specs.declared.step.Step.{Step}
@@ -35,14 +35,13 @@ use Rattle.sf_certificate.specs.Form.{IsFormed}
 use Rattle.sf_certificate.specs.Marks.{made, marks, tag_of, given_marks}
 use Rattle.sf_certificate.specs.Named.{NamesFirst, AllNameFirst, unnamed, unnamed_mark, AreAlikeButNames}
 use Rattle.sf_certificate.specs.Valid.{AreTrees, HasCost, IsValid, left_open, least, decided}
-use Rattle.sf_certificate.proofs.Merged.{sorted-pairs}
-use Rattle.sf_certificate.proofs.MergedCert.{merged-formed, task-bounds}
+use Rattle.sf_certificate.proofs.Merged.{IsNotFalling, sorted-pairs}
+use Rattle.sf_certificate.proofs.MergedCert.{merged-formed, task-bounds, plan-cost}
 use Rattle.sf_certificate.proofs.MergedTree.{IsMerged, conserved-tree, conserved-marks, sorted-marks}
 use Rattle.sf_certificate.proofs.Named.{first-close, unnamed-marks, unnamed-open, unnamed-decided, unnamed-tree}
-use Rattle.sf_rounds.specs.Certify.{IsOutcome, IsCertified}
+use Rattle.sf_rounds.specs.Certify.{IsCertifiable, IsCertified}
 use Rattle.sf_rounds.specs.InOrder.{AreInOrder, AreSubproblems}
-use Rattle.sf_rounds.specs.Naming.{named}
-use Rattle.sf_rounds.proofs.Handed.{priced}
+use Rattle.sf_rounds.specs.Naming.{with_first_part}
 use Rattle.sf_rounds.proofs.Names.{named-alike}
 
 -- ---- parts in order
@@ -62,10 +61,6 @@ apart path a b before other =
       | inr f ↦ f
     ]
 
--- the second mark's path does not come before the first one's
-abbrev IsNotFalling : Mark → Mark → Type 0
-IsNotFalling a b = is_lt (steps_cmp b.node.steps a.node.steps) ≡ false
-
 -- marks of which no later one comes before an earlier one are sorted by their paths
 pairs-sorted : (ms : List Mark) → EachPair IsNotFalling ms → IsSortedBy (λ a b. is_lt (steps_cmp a.node.steps b.node.steps)) ms
 pairs-sorted ms pairs k d low high = AllPairs-from_recursion IsNotFalling ms pairs k (k + 1) d (omega arith) high
@@ -73,7 +68,7 @@ pairs-sorted ms pairs k d low high = AllPairs-from_recursion IsNotFalling ms pai
 module _ (part : Parts → Part → ℕ) (cost : ℕ) where
   -- the tag of a mark, which names the first part that is at least the cost
   abbrev tag_in : Mark → Tag
-  tag_in m = named (part m.node) cost m.tag
+  tag_in m = with_first_part (part m.node) cost m.tag
 
   -- parts on two sides of a path, each in order, are in order one behind the other
   pub joined : (given before others : List Mark) (path : List Step) (first second tags : List Tag) → IsPermutation given (before ++ others)
@@ -99,14 +94,14 @@ module _ (part : Parts → Part → ℕ) (cost : ℕ) where
   -- ---- what the tags name
 
   -- a tag that was named names the first part that is at least the cost
-  names-first : (tag : Tag) (node : Parts) → NamesFirst part cost (named (part node) cost tag) node
+  names-first : (tag : Tag) (node : Parts) → NamesFirst part cost (with_first_part (part node) cost tag) node
   names-first Extend node = tt
   names-first (Split b) node = tt
   names-first (Closed p) node = refl
   names-first Open node = tt
 
   -- a tag makes the same children, whichever part it names
-  named-made : (f : Part → ℕ) (tag : Tag) (node : Parts) → made (named f cost tag) node ≡ made tag node
+  named-made : (f : Part → ℕ) (tag : Tag) (node : Parts) → made (with_first_part f cost tag) node ≡ made tag node
   named-made f Extend node = refl
   named-made f (Split b) node = refl
   named-made f (Closed p) node = refl
@@ -125,7 +120,7 @@ module _ (part : Parts → Part → ℕ) (cost : ℕ) where
       let first : record { node = node; tag = m.tag } ≡ m = cc in
       let rest : marks (made m.tag node ++ nodes) (map (λ (k : Mark). k.tag) ms) ≡ ms = cc in
       let head : node ≡ m.node = ap (λ (k : Mark). k.node) first in (
-        subst (λ n. NamesFirst part cost (named (part m.node) cost m.tag) n) (sym head) (names-first m.tag m.node),
+        subst (λ n. NamesFirst part cost (with_first_part (part m.node) cost m.tag) n) (sym head) (names-first m.tag m.node),
         subst (λ ns. AllByRecursion First (marks (ns ++ nodes) (map tag_in ms))) (sym (named-made (part m.node) m.tag node)) (all-named ms (made m.tag node ++ nodes) rest),
       )
 
@@ -146,11 +141,6 @@ plain-kind kind.Extended = refl
 plain-kind (kind.Split b) = refl
 plain-kind kind.Closed = refl
 
--- what holds of everything holds of each element
-each-any : {X : Type 0} (P : X → Type 0) → ((x : X) → P x) → (xs : List X) → AllByRecursion P xs
-each-any P f [] = tt
-each-any P f (x ∷ xs) = (f x, each-any P f xs)
-
 -- the marks of entries and of open tasks name no part
 given-plain : (entries : List Entry) (left : List Task) → All (λ (m : Mark). unnamed m.tag ≡ m.tag) (given_marks entries left)
 given-plain entries left =
@@ -167,7 +157,7 @@ plain-marks (m ∷ ms) h = λ i. record { node = m.node; tag = h.0 i } ∷ plain
 
 -- ---- the certificate
 
-module _ (design : Design) (bound : Parts → ℕ) (part : Parts → Part → ℕ) (parts : ArePartsOf design bound part) (entries : List Entry) (left : List Task) (plan : Option Expr) (cost : ℕ) (o : IsOutcome design bound entries left plan cost) where
+module _ (design : Design) (bound : Parts → ℕ) (part : Parts → Part → ℕ) (parts : ArePartsOf design bound part) (entries : List Entry) (left : List Task) (plan : Option Expr) (cost : ℕ) (o : IsCertifiable design bound entries left plan cost) where
   -- the root alone
   abbrev one : List Parts
   one = root design ∷ []
@@ -215,7 +205,7 @@ module _ (design : Design) (bound : Parts → ℕ) (part : Parts → Part → �
         let low : cert.bound ≡ least cost (map bound (left_open one tags)) = l ∙ ap (least cost) (task-bounds bound left o.valued) ∙ sym merged.lowest ∙ ap (λ ns. least cost (map bound ns)) (unnamed-open one tags) in
         record {
           valid = record {
-            plan = subst (λ z. MatchOption cert.plan (z ≡ MAX) (λ expr. HasCost design expr z)) (sym c) (subst (λ q. MatchOption q (cost ≡ MAX) (λ expr. HasCost design expr cost)) (sym p) (priced design cost plan o.planned));
+            plan = subst (λ z. MatchOption cert.plan (z ≡ MAX) (λ expr. HasCost design expr z)) (sym c) (subst (λ q. MatchOption q (cost ≡ MAX) (λ expr. HasCost design expr cost)) (sym p) (plan-cost design cost plan o.planned));
             tree = subst (λ z. AreTrees part z one cert.tags) (sym c) (subst (λ ts. AreTrees part cost one ts) (sym t) (first-close design part cost tags merged.tree names-are));
             stated = subst (λ z. cert.bound ≡ least z (map bound (left_open one cert.tags))) (sym c) (subst (λ ts. cert.bound ≡ least cost (map bound (left_open one ts))) (sym t) low);
           };

@@ -14,23 +14,9 @@ use Rattle.sf_certificate.specs.declared.tag.Tag.{Tag}
 use Rattle.sf_certificate.specs.declared.tag.Tag.TheVariants.{Extend, Split, Closed, Open}
 use Rattle.sf_certificate.specs.Marks.{made, marks}
 use Rattle.sf_certificate.specs.Named.{NamesFirst, unnamed}
-use Rattle.sf_rounds.specs.Naming.{value_in, named, kept_for, AreKept, renamed}
+use Rattle.sf_rounds.specs.Naming.{value_in, with_first_part, kept_for, AreKept, renamed}
 
 -- ---- what is kept of a closed subproblem
-
--- the first part that is at least the cost is the same by the kept values as by the parts
-pub same-first : (part : Part → ℕ) (cost : ℕ) (values : PartValues) → AreValues part values → first_part (value_in values) cost ≡ first_part part cost
-same-first part cost values are =
-    λ i. cond (leb cost (are.area i)) Area (cond (leb cost (are.range i)) Range (cond (leb cost (are.pair i)) Pair (cond (leb cost (are.hull i)) Hull Full)))
-
--- of a subproblem that its area closes nothing is kept
-pub kept-none : (part : Part → ℕ) (p : Part) → p ≡ Area → kept_for part (Closed p) ≡ []
-kept-none part p e = ap (λ q. kept_for part (Closed q)) e
-
--- of a subproblem that another part closes the values of its parts are kept
-pub kept-values : (part : Part → ℕ) (p : Part) (values : PartValues) → AreValues part values → p ≢ Area → kept_for part (Closed p) ≡ values ∷ []
-kept-values part Area values are other = absurd (other refl)
-kept-values part p values are other = λ i. (sym {a = values} (λ j. record { area = are.area j; range = are.range j; pair = are.pair j; hull = are.hull j }) i) ∷ []
 
 -- ---- what the names are
 
@@ -45,7 +31,7 @@ renamed-alike cost (Closed p ∷ tags) [] = ap (λ ts. Closed Full ∷ ts) (rena
 renamed-alike cost (Closed p ∷ tags) (values ∷ kept) = ap (λ ts. Closed Full ∷ ts) (renamed-alike cost tags kept)
 
 -- naming the first part changes nothing of a tag but the name
-pub named-alike : (part : Part → ℕ) (cost : ℕ) (tag : Tag) → unnamed (named part cost tag) ≡ unnamed tag
+pub named-alike : (part : Part → ℕ) (cost : ℕ) (tag : Tag) → unnamed (with_first_part part cost tag) ≡ unnamed tag
 named-alike part cost Extend = refl
 named-alike part cost (Split b) = refl
 named-alike part cost (Closed p) = refl
@@ -106,17 +92,17 @@ module _ (part : Parts → Part → ℕ) (cost : ℕ) where
   module _ (before : ℕ) (old : List Mark) (node : Parts) (tag : Tag) (lower : cost ≤ before) where
     -- the subproblem with its tag, which names the first part that is at least the cost
     abbrev mark : Mark
-    mark = record { node = node; tag = named (part node) cost tag }
+    mark = record { node = node; tag = with_first_part (part node) cost tag }
 
     -- a tag that names the area as the first part names one that is at least the cost
-    tag-area : (t : Tag) → named (part node) cost t ≡ Closed Area → cost ≤ part node Area
+    tag-area : (t : Tag) → with_first_part (part node) cost t ≡ Closed Area → cost ≤ part node Area
     tag-area Extend e = absurd cc
     tag-area (Split b) e = absurd cc
     tag-area Open e = absurd cc
     tag-area (Closed p) e = let same : first_part (part node) cost ≡ Area = cc in first-area (part node) cost same
 
     -- with one mark more the values of its parts are kept, also for a lower cost
-    pub kept-more : (kept : List PartValues) → AreKept part before old kept → AreKept part cost (old ++ mark ∷ []) (kept ++ kept_for (part node) (named (part node) cost tag))
+    pub kept-more : (kept : List PartValues) → AreKept part before old kept → AreKept part cost (old ++ mark ∷ []) (kept ++ kept_for (part node) (with_first_part (part node) cost tag))
     kept-more kept k = record {
       values = ap (λ vs. vs ++ values_for mark) k.values ∙ flat_map_more values_for [] old mark;
       areas = All-append IsArea old (mark ∷ []) (All-weaker (λ (m : Mark). m.tag ≡ Closed Area → before ≤ part m.node Area) IsArea (λ m h e. (let now = h e in omega (arith, now, lower))) old k.areas) (All-cons IsArea mark [] (tag-area tag) (All-nil IsArea));

@@ -94,6 +94,6 @@ module _ (design : Design) (bound : Parts → ℕ) (task : Task) (is : IsTask de
   pub one-split : (r : RoundOut) (b : ℕ) (made : List Task) → IsSplitInto design bound task value b made → IsOne (record { node = task.node; kind = kind.Split b; value = value }) made None r → IsRound design bound (task ∷ []) (1 ∷ []) value r
   one-split r b made d o =
       let e' : Entry = record { node = task.node; kind = kind.Split b; value = value } in
-      let entry : IsEntry design bound e' = ((subst (λ n. n < value) is.1 d.below, d.wide), (d.complete, d.unsolved, d.first)) in
+      let entry : IsEntry design bound e' = ((subst (λ n. n < value) is.1 d.below, d.wide), d.first) in
       let m = split-made design bound task value b made is.0 d in
       one-round e' made None r refl o entry m.0 m.1 (still e' r.value refl o.value entry) o.value

@@ -23,7 +23,7 @@ use Rattle.sf_rounds.specs.declared.job.Job.{Job}
 use Rattle.sf_rounds.specs.declared.job.RoundOut.{RoundOut}
 use Rattle.sf_rounds.specs.Jobs.{EachTwo, Ran, IsFresh, Dealt, Gathers, log_of}
 use Rattle.sf_rounds.specs.Rounds.{IsRound}
-use Rattle.sf_rounds.proofs.Whole.{conserved, fresh-ready, all_entries, all_open, all_named, all_few}
+use Rattle.sf_rounds.proofs.Whole.{conserved, all_entries, all_open, all_named, all_few}
 use Rattle.sf_rounds.proofs.Team.{all_solved, all_firsts}
 
 module _ (design : Design) (bound : Parts → ℕ) where
@@ -82,14 +82,6 @@ module _ (design : Design) (bound : Parts → ℕ) where
           | inl same ↦ absurd (omega (arith, same, none, small))
           | inr some ↦ any-undercuts o ks (undercuts js ks h fs) some small
         ]
-
-    -- all fresh workers with tasks are ready for a pass
-    pub all-ready : (js : List (Job T)) → All (IsFresh value word) js → All (λ j. IfSome j.state.first (IsTask design bound)) js → All (λ j. IsReady design bound j.state × (j.state.seat.word ≡ word.id)) js
-    all-ready [] fs gs = All-nil (λ (j : Job T). IsReady design bound j.state × (j.state.seat.word ≡ word.id))
-    all-ready (j ∷ js) fs gs =
-        All-cons (λ (j : Job T). IsReady design bound j.state × (j.state.seat.word ≡ word.id)) j js
-        (fresh-ready design bound value word j (All-head (IsFresh value word) j js fs) (All-head (λ (i : Job T). IfSome i.state.first (IsTask design bound)) j js gs))
-        (all-ready js (All-tail (IsFresh value word) j js fs) (All-tail (λ (i : Job T). IfSome i.state.first (IsTask design bound)) j js gs))
 
     -- the lesser of the value and the least offer is the value, or the bound of a solved entry
     least-is : (z o o0 : ℕ) (js ks : List (Job T)) → value ≤ MAX → o0 ≡ MAX → z ≡ min value o → EachTwo (Ran design bound) js ks → All (IsFresh value word) js → (o ≡ o0) ⊎ Any (λ k. k.state.seat.offered ≡ o) ks

@@ -26,7 +26,7 @@ use Rattle.sf_rounds.specs.Found.{IsFirst}
 use Rattle.sf_rounds.specs.Naming.{kept_for, AreKept}
 use Rattle.sf_rounds.proofs.Names.{named-alike, kept-more}
 use Rattle.sf_rounds.specs.Run.{IsBest, best_after}
-use Rattle.sf_rounds.specs.Stage.{task_at, IsStage, decision_of, IsVisit, tag_at, tag_after, word_after, Progress, left_of, IsFollowed, IsMove, IsBeside, IsRun}
+use Rattle.sf_rounds.specs.Stage.{task_at, IsStage, decision_of, IsVisit, tag_at, tag_after, word_after, WalkView, left_of, IsFollowed, IsMove, IsBeside, IsRun}
 use Rattle.sf_rounds.proofs.Settled.{taken-is, turned-is, first-is, accepted-is, plan-cost, turns-still, accepted-still}
 use Rattle.sf_rounds.proofs.Formed.{plan-formed}
 use Rattle.sf_rounds.proofs.Stage.{mid, some, taken, turn-is, next-is, stage-next}
@@ -36,7 +36,7 @@ pub stage-start : (design : Design) (bound : Parts → ℕ) → IsStage design b
 stage-start design bound = record { idle = refl; waiting = refl; kinds = refl; marked = refl; then = refl }
 
 -- a search with the root before it, no tags and no plan is the one after no visits
-pub run-start : (design : Design) (bound : Parts → ℕ) (walk : Progress) → IsPath design bound walk.path → left_of design walk ≡ root design ∷ [] → walk.tags ≡ [] → walk.word ≡ MAX → walk.best ≡ None → IsRun design bound 0 walk
+pub run-start : (design : Design) (bound : Parts → ℕ) (walk : WalkView) → IsPath design bound walk.path → left_of design walk ≡ root design ∷ [] → walk.tags ≡ [] → walk.word ≡ MAX → walk.best ≡ None → IsRun design bound 0 walk
 run-start design bound walk at l t w b = record {
   beside = record {
     at = at;
@@ -69,16 +69,16 @@ unnamed-tag Extended = refl
 unnamed-tag (Split b) = refl
 
 -- the visit of a solved subproblem: its tag is put down, and then its plan is the best
-pub moved-solved : (design : Design) (bound : Parts → ℕ) (part : Parts → Part → ℕ) (old tagged followed new : Progress) (expr : Expr) (tag : Tag) (value : ℕ) → IsVisit design bound old.path.node old.word (Solved expr) → value ≡ bound old.path.node →
+pub moved-solved : (design : Design) (bound : Parts → ℕ) (part : Parts → Part → ℕ) (old tagged followed new : WalkView) (expr : Expr) (tag : Tag) (value : ℕ) → IsVisit design bound old.path.node old.word (Solved expr) → value ≡ bound old.path.node →
     tag ≡ tag_after bound part old.path.node (Solved expr) old.word → tagged ≡ record old { kept = old.kept ++ kept_for (part old.path.node) tag } → IsFollowed design bound tagged tag followed → new ≡ record followed { word = value; best = Some expr } → IsMove design bound part old (Solved expr) new
 moved-solved design bound part old tagged followed new expr tag value v e t m f n = record {
   visit = v;
-  at = subst (IsPath design bound) (sym (ap (λ (w : Progress). w.path) n)) f.at;
-  tags = ap (λ (w : Progress). w.tags) n ∙ f.tags ∙ ap (λ (w : Progress). w.tags ++ tag ∷ []) m ∙ ap (λ x. old.tags ++ x ∷ []) t;
-  kept = ap (λ (w : Progress). w.kept) n ∙ f.kept ∙ ap (λ (w : Progress). w.kept) m ∙ ap (λ x. old.kept ++ kept_for (part old.path.node) x) t;
-  left = ap (left_of design) n ∙ f.left ∙ ap (λ (w : Progress). made tag w.path.node ++ behind (root design) w.path.node.steps) m ∙ ap (λ x. made x old.path.node ++ behind (root design) old.path.node.steps) t;
-  word = ap (λ (w : Progress). w.word) n ∙ e;
-  best = ap (λ (w : Progress). w.best) n;
+  at = subst (IsPath design bound) (sym (ap (λ (w : WalkView). w.path) n)) f.at;
+  tags = ap (λ (w : WalkView). w.tags) n ∙ f.tags ∙ ap (λ (w : WalkView). w.tags ++ tag ∷ []) m ∙ ap (λ x. old.tags ++ x ∷ []) t;
+  kept = ap (λ (w : WalkView). w.kept) n ∙ f.kept ∙ ap (λ (w : WalkView). w.kept) m ∙ ap (λ x. old.kept ++ kept_for (part old.path.node) x) t;
+  left = ap (left_of design) n ∙ f.left ∙ ap (λ (w : WalkView). made tag w.path.node ++ behind (root design) w.path.node.steps) m ∙ ap (λ x. made x old.path.node ++ behind (root design) old.path.node.steps) t;
+  word = ap (λ (w : WalkView). w.word) n ∙ e;
+  best = ap (λ (w : WalkView). w.best) n;
 }
 
 -- a visit never raises the word
@@ -98,7 +98,7 @@ best-next design bound node Extended word best d b = b
 best-next design bound node (Split i) word best d b = b
 
 -- one visit more
-module _ (design : Design) (bound : Parts → ℕ) (part : Parts → Part → ℕ) (state : State) (old new : Progress) (seen : Visit) (b : IsBeside design bound state old) (more : old.more ≡ true) (m : IsMove design bound part old seen new) where
+module _ (design : Design) (bound : Parts → ℕ) (part : Parts → Part → ℕ) (state : State) (old new : WalkView) (seen : Visit) (b : IsBeside design bound state old) (more : old.more ≡ true) (m : IsMove design bound part old seen new) where
   -- the subproblem that is next
   abbrev node : Parts
   node = old.path.node
@@ -174,7 +174,7 @@ module _ (design : Design) (bound : Parts → ℕ) (part : Parts → Part → �
       stage.idle (some design bound state plain node rest stage) (taken design bound state plain node rest stage)
 
 -- one more visit makes of the search after k visits that after k + 1
-pub run-next : (design : Design) (bound : Parts → ℕ) (part : Parts → Part → ℕ) (k : ℕ) (old new : Progress) (seen : Visit) → IsRun design bound k old → old.more ≡ true → IsMove design bound part old seen new → IsRun design bound (k + 1) new
+pub run-next : (design : Design) (bound : Parts → ℕ) (part : Parts → Part → ℕ) (k : ℕ) (old new : WalkView) (seen : Visit) → IsRun design bound k old → old.more ≡ true → IsMove design bound part old seen new → IsRun design bound (k + 1) new
 run-next design bound part k old new seen run more m =
     let first = opening design bound 1 in
     let one : suc k ≡ k + 1 = omega arith in
@@ -184,7 +184,7 @@ run-next design bound part k old new seen run more m =
     }
 
 -- where nothing is left, the machine has no open task, and further turns change nothing
-pub run-still : (design : Design) (bound : Parts → ℕ) (k n : ℕ) (walk : Progress) → k ≤ n → walk.more ≡ false → IsRun design bound k walk → IsRun design bound n walk
+pub run-still : (design : Design) (bound : Parts → ℕ) (k n : ℕ) (walk : WalkView) → k ≤ n → walk.more ≡ false → IsRun design bound k walk → IsRun design bound n walk
 run-still design bound k n walk h none run =
     let first = opening design bound 1 in
     let left : left_of design walk ≡ [] = ap (λ x. pending design x walk.path.node) none in
@@ -195,5 +195,5 @@ run-still design bound k n walk h none run =
     }
 
 -- one more visit puts down one more tag
-pub count-next : (design : Design) (bound : Parts → ℕ) (part : Parts → Part → ℕ) (k : ℕ) (old new : Progress) (seen : Visit) → length old.tags ≡ k → IsMove design bound part old seen new → length new.tags ≡ k + 1
+pub count-next : (design : Design) (bound : Parts → ℕ) (part : Parts → Part → ℕ) (k : ℕ) (old new : WalkView) (seen : Visit) → length old.tags ≡ k → IsMove design bound part old seen new → length new.tags ≡ k + 1
 count-next design bound part k old new seen e m = omega (arith, ap length m.tags, length-append old.tags (tag_after bound part old.path.node seen old.word ∷ []))

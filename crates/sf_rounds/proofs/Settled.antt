@@ -21,22 +21,18 @@ use Rattle.sf_search_core.specs.declared.event.How.TheVariants as how
 use Rattle.sf_search_core.specs.State.{State}
 use Rattle.sf_search_core.specs.Events.{held_in, held_by, applied, take, close, offer, may_branch}
 use Rattle.sf_search_core.specs.Outcome.{next_of, after_event, after_events}
-use Rattle.sf_search_core.proofs.Replaced.{replaced, replace-done}
+use Rattle.sf_search_core.proofs.Replaced.{not-lt, replaced, replace-done}
 use Rattle.sf_certificate.specs.Valid.{HasCost, least}
 use Rattle.sf_worker.specs.declared.decision.Decision.{Decision}
 use Rattle.sf_worker.specs.declared.decision.Decision.TheVariants.{Closed, Solved, Extended, Split}
 use Rattle.sf_worker.specs.Decided.{first_wide, IsSolvedBy, IsDecision}
 use Rattle.sf_count.specs.Few.{BranchesFirst, AllBranchFirst}
-use Rattle.sf_count.proofs.Weighed.{entries-few}
+use Rattle.sf_count.proofs.FewEntries.{entries-few}
 use Rattle.sf_node.specs.Full.{full}
 use Rattle.sf_search_core.specs.Core.{IsCoreState, held_tasks}
 use Rattle.sf_rounds.specs.Turns.{settling, turn_of, turn_events, turn, turns, AreAccepted, TurnsAreAccepted}
 use Rattle.sf_rounds.specs.Found.{IsOfFirst, IsFirst}
 use Rattle.sf_rounds.specs.Run.{IsIdle, Decides, IsTurned, IsSettled, best_after}
-
--- a number is not less than one that is at most it
-not-lt : (a b : ℕ) → b ≤ a → nat_lt a b ≡ false
-not-lt a b h = grind arith
 
 -- a number is not at most one that is less
 not-le : (a b : ℕ) → b < a → nat_le a b ≡ false
@@ -162,15 +158,15 @@ module _ (design : Design) (state : State) where
         subst (IsSettled design (Solved expr z) state) (sym same) (entry-settled (Solved expr z) (closed s1 t t.bound) e' refl refl tt (λ best f. found))
     settled-at (Some t) (Split b left right) e d =
         let i = first_wide t.node in
-        let wide : CanSplit t.node i = subst (CanSplit t.node) d.first d.wide in
+        let wide : CanSplit t.node i = subst (CanSplit t.node) d.first.2 d.wide in
         let may : may_branch (how.Split i) t.node ≡ true = ap (λ x. x && is_wide (span_of t.node i)) (lt-ltb i (length t.node.spans) wide.0) ∙ wide.1 in
         let costs = map bound (split t.node i) in
         let same : after_events design state (settling design bound (Some t) state.word) ≡ replaced state 0 (how.Split i) state.word costs t =
-        ap (after_events design state) (settling-split design bound t state.word d.below d.unsolved d.complete)
+        ap (after_events design state) (settling-split design bound t state.word d.below d.first.1 d.first.0)
         ∙ ap (next_of state) (replace-done state 0 (how.Split i) state.word costs (held_by state 0) t e (omega arith) d.below may) in
         let new = replaced state 0 (how.Split i) state.word costs t in
         let e' : Entry = record { node = t.node; kind = kind.Split i; value = state.word } in
-        subst (IsSettled design (Split b left right) state) (sym same) (entry-settled (Split b left right) new e' refl refl (d.complete, d.unsolved, refl) (λ best f. first-kept design state new e' best refl refl f))
+        subst (IsSettled design (Split b left right) state) (sym same) (entry-settled (Split b left right) new e' refl refl (d.first.0, d.first.1, refl) (λ best f. first-kept design state new e' best refl refl f))
     settled-at (Some t) (Extended made) e d =
         let may : may_branch how.Extend t.node ≡ true = ap not d.incomplete in
         let costs = map bound (extended t.node) in
@@ -195,9 +191,9 @@ module _ (design : Design) (state : State) where
         (ap is_ok offered, (subst (λ (s : State). IsOk (applied design s (Close 0 t.bound))) (sym then) (ap is_ok last), tt))
     accepted-at (Some t) (Split b left right) e d =
         let i = first_wide t.node in
-        let wide : CanSplit t.node i = subst (CanSplit t.node) d.first d.wide in
+        let wide : CanSplit t.node i = subst (CanSplit t.node) d.first.2 d.wide in
         let may : may_branch (how.Split i) t.node ≡ true = ap (λ x. x && is_wide (span_of t.node i)) (lt-ltb i (length t.node.spans) wide.0) ∙ wide.1 in
-        subst (AreAccepted design state) (sym (settling-split design bound t state.word d.below d.unsolved d.complete))
+        subst (AreAccepted design state) (sym (settling-split design bound t state.word d.below d.first.1 d.first.0))
         (ap is_ok (replace-done state 0 (how.Split i) state.word (map bound (split t.node i)) (held_by state 0) t e (omega arith) d.below may), tt)
     accepted-at (Some t) (Extended made) e d =
         let may : may_branch how.Extend t.node ≡ true = ap not d.incomplete in

@@ -181,13 +181,13 @@ module _ (design : Design) (bound : Parts → ℕ) (state : State) (tags : List 
         })
     next-is (Split b) d =
         let i = first_wide node in
-        let wide : CanSplit node i = subst (CanSplit node) d.first d.wide in
+        let wide : CanSplit node i = subst (CanSplit node) d.first.2 d.wide in
         let may : may_branch (how.Split i) node ≡ true = ap (λ x. x && is_wide (span_of node i)) (lt-ltb i (length node.spans) wide.0) ∙ wide.1 in
         let costs = map bound (split node i) in
         let same : turn design bound state ≡ replaced mid 0 (how.Split i) state.word costs task =
-        turn-is ∙ ap (after_events design mid) (settling-split design bound task state.word d.below d.unsolved d.complete)
+        turn-is ∙ ap (after_events design mid) (settling-split design bound task state.word d.below d.first.1 d.first.0)
         ∙ ap (next_of mid) (replace-done mid 0 (how.Split i) state.word costs (held_by mid 0) task refl (omega arith) d.below may) in
-        subst (λ j. IsNext design bound state node rest (Split j) (turn design bound state)) (sym d.first)
+        subst (λ j. IsNext design bound state node rest (Split j) (turn design bound state)) (sym d.first.2)
         (subst (IsNext design bound state node rest (Split i)) (sym same) (record {
           core = replaced-next (how.Split i) d.below may;
           held = refl;

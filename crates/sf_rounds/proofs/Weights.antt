@@ -93,10 +93,6 @@ module _ {X : Type 0} (same : X → X → Bool) (test : IsTest same) where
       let b = both_true (same x y) (same_list xs ys) h in
       λ i. test.tells x y b.0 i ∷ list_tells xs ys b.1 i
 
-  -- comparing element by element tells whether lists are equal
-  list_test : IsTest same_list
-  list_test = record { self = list_self; tells = list_tells }
-
 -- values that are got back from their codes are compared by comparing these
 by_code : {X Y : Type 0} (code : X → Y) (decode : Y → X) → ((x : X) → decode (code x) ≡ x) → (same : Y → Y → Bool) → IsTest same → IsTest (λ x y. same (code x) (code y))
 by_code code decode back same test = record {

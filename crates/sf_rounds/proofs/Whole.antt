@@ -43,10 +43,6 @@ maybe_all P None h = All-nil P
 maybe_all P (Some t) h = All-cons P t [] h (All-nil P)
 
 module _ {T : Type 0} (design : Design) (bound : Parts → ℕ) (value : ℕ) (word : Word) where
-  -- the worker is at the start of the round
-  Fresh : Job T → Type 0
-  Fresh = IsFresh value word
-
   -- what a worker logged is what its pass logged
   pub log_is : (j k : Job T) → IsFresh value word j → (r : Ran design bound j k) → log_of k ≡ r.passed.logged
   log_is j k f r = r.passed.log ∙ ap (λ z. z ++ r.passed.logged) f.log
@@ -54,18 +50,6 @@ module _ {T : Type 0} (design : Design) (bound : Parts → ℕ) (value : ℕ) (w
   -- what a worker kept is what its pass could not put or decide
   kept_is : (j k : Job T) → IsFresh value word j → (r : Ran design bound j k) → k.state.kept.items ≡ r.passed.refused ++ r.passed.undecided
   kept_is j k f r = r.passed.kept ∙ ap (λ z. (z ++ r.passed.refused) ++ r.passed.undecided) f.kept
-
-  -- a fresh worker with its first task is ready for a pass
-  pub fresh-ready : (j : Job T) → IsFresh value word j → IfSome j.state.first (IsTask design bound) → IsReady design bound j.state × (j.state.seat.word ≡ word.id)
-  fresh-ready j f first = (
-    record {
-      first = first;
-      best = subst (λ z. IsBest design z j.state.seat.offered) (sym f.best) (ap (λ (k : Knows). k.offered) f.seat);
-      fresh = subst (All (λ (e : Entry). j.state.seat.seen ≤ e.value)) (sym f.log) (All-nil (λ (e : Entry). j.state.seat.seen ≤ e.value));
-      serves = subst (λ r. MayServe r design) (sym f.room) tt;
-    },
-    ap (λ (k : Knows). k.word) f.seat,
-  )
 
   -- after their passes all workers may be gathered
   pub all_done : (js ks : List (Job T)) → EachTwo (Ran design bound) js ks → All (IsFresh value word) js → All (IsDone design word) ks

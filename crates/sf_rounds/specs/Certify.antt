@@ -17,7 +17,7 @@ use Rattle.sf_certificate.specs.Named.{AllNameFirst, unnamed}
 use Rattle.sf_certificate.specs.Valid.{HasCost, IsValid, least, decided}
 
 -- the entries and the open tasks are conserved from the root, no entry names a lower value than the cost, the tasks have their bounds, and the plan costs it, or there is none
-pub record IsOutcome (design : Design) (bound : Parts → ℕ) (entries : List Entry) (left : List Task) (plan : Option Expr) (cost : ℕ) : Type 0 where
+pub record IsCertifiable (design : Design) (bound : Parts → ℕ) (entries : List Entry) (left : List Task) (plan : Option Expr) (cost : ℕ) : Type 0 where
   pub conserved : IsConserved bound (root design ∷ []) entries (map (λ t. t.node) left)
   pub fresh : All (λ e. cost ≤ e.value) entries
   pub valued : All (λ t. t.bound ≡ bound t.node) left

@@ -13,7 +13,7 @@ use Rattle.sf_certificate.specs.declared.mark.Mark.{Mark}
 use Rattle.sf_certificate.specs.declared.tag.Tag.{Tag}
 use Rattle.sf_rounds.specs.declared.cutting.Cut.{Cut}
 use Rattle.sf_rounds.specs.declared.pile.Pile.{Pile}
-use Rattle.sf_rounds.specs.Naming.{named}
+use Rattle.sf_rounds.specs.Naming.{with_first_part}
 use Rattle.sf_rounds.specs.Piles.{all_in}
 
 -- the lists one behind the other
@@ -39,4 +39,4 @@ pub record AreInOrder (part : Parts → Part → ℕ) (cost : ℕ) (marks : List
   pub sorted : List Mark
   pub same : IsPermutation marks sorted
   pub rising : IsSortedBy (λ a b. is_lt (steps_cmp a.node.steps b.node.steps)) sorted
-  pub named_tags : tags ≡ map (λ m. named (part m.node) cost m.tag) sorted
+  pub named_tags : tags ≡ map (λ m. with_first_part (part m.node) cost m.tag) sorted

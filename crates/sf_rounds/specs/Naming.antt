@@ -19,11 +19,11 @@ value_in values Hull = values.hull
 value_in values Full = 0
 
 -- a closed tag names the first part that is at least the cost
-abbrev pub named : (Part → ℕ) → ℕ → Tag → Tag
-named part cost Extend = Extend
-named part cost (Split b) = Split b
-named part cost (Closed p) = Closed (first_part part cost)
-named part cost Open = Open
+abbrev pub with_first_part : (Part → ℕ) → ℕ → Tag → Tag
+with_first_part part cost Extend = Extend
+with_first_part part cost (Split b) = Split b
+with_first_part part cost (Closed p) = Closed (first_part part cost)
+with_first_part part cost Open = Open
 
 -- another part than the area is named
 abbrev pub is_late : Tag → Bool

@@ -1,6 +1,7 @@
 -- A search in preorder beside the machine whose turns it makes: it keeps the tags so far, and knows which subproblems are not visited yet.
-use Rattle.std.specs.Prelude.{◌≡◌, ℕ, List, [], ◌∷◌, ◌++◌, map, reverse, Bool, Option, IfSome}
+use Rattle.std.specs.Prelude.{◌≡◌, ℕ, List, [], ◌∷◌, ◌++◌, map, reverse, Bool, Option, None, IfSome}
 use Rattle.sf_model.specs.declared.design.Design.{Design}
+use Rattle.sf_model.specs.declared.TheConstants.{MAX}
 use Rattle.sf_polish.specs.declared.expr.Expr.{Expr}
 use Rattle.sf_node.specs.declared.task.Task.{Task}
 use Rattle.sf_node.specs.declared.part.Part.{Part}
@@ -19,15 +20,16 @@ use Rattle.sf_worker.specs.declared.decision.Decision.TheVariants as decision
 use Rattle.sf_worker.specs.Decided.{IsDecision, valued}
 use Rattle.sf_certificate.specs.declared.mark.Mark.{Mark}
 use Rattle.sf_certificate.specs.declared.tag.Tag.{Tag}
-use Rattle.sf_certificate.specs.declared.tag.Tag.TheVariants.{Extend, Split, Closed}
+use Rattle.sf_certificate.specs.declared.tag.Tag.TheVariants.{Extend, Split, Closed, Open}
 use Rattle.sf_certificate.specs.Marks.{made, marks, tag_of, waiting_after}
 use Rattle.sf_certificate.specs.Named.{unnamed}
+use Rattle.sf_certificate.specs.Valid.{least}
 use Rattle.sf_rounds.specs.declared.visit.Visit.{Visit}
 use Rattle.sf_rounds.specs.declared.visit.Visit.TheVariants as visit
 use Rattle.sf_cursor.specs.Path.{Path, IsPath}
 use Rattle.sf_rounds.specs.Run.{IsIdle, IsBest, best_after}
 use Rattle.sf_rounds.specs.Found.{IsFirst}
-use Rattle.sf_rounds.specs.Naming.{named, kept_for}
+use Rattle.sf_rounds.specs.Naming.{with_first_part, kept_for}
 use Rattle.sf_rounds.specs.Turns.{turns, TurnsAreAccepted}
 use Rattle.sf_search_core.specs.Core.{IsCoreState}
 use Rattle.sf_search_core.specs.Outcome.{opening}
@@ -76,7 +78,7 @@ word_after bound node visit.Extended word = word
 word_after bound node (visit.Split b) word = word
 
 -- what the search holds: where it stands, whether anything is not visited yet, the tags so far, what is kept to name their parts by, the least cost found and its plan
-pub record Progress : Type 0 where
+pub record WalkView : Type 0 where
   pub path : Path
   pub more : Bool
   pub tags : List Tag
@@ -85,11 +87,20 @@ pub record Progress : Type 0 where
   pub best : Option Expr
 
 -- the subproblems that are not visited yet
-abbrev pub left_of : Design → Progress → List Parts
+abbrev pub left_of : Design → WalkView → List Parts
 left_of design walk = pending design walk.more walk.path.node
 
+-- nothing is visited yet, and the root is next
+pub record IsAtRoot (design : Design) (bound : Parts → ℕ) (walk : WalkView) : Type 0 where
+  pub at : IsPath design bound walk.path
+  pub left : left_of design walk ≡ root design ∷ []
+  pub tags : walk.tags ≡ []
+  pub kept : walk.kept ≡ []
+  pub word : walk.word ≡ MAX
+  pub best : walk.best ≡ None
+
 -- the tag was put down, and what it makes comes next
-pub record IsFollowed (design : Design) (bound : Parts → ℕ) (old : Progress) (tag : Tag) (new : Progress) : Type 0 where
+pub record IsFollowed (design : Design) (bound : Parts → ℕ) (old : WalkView) (tag : Tag) (new : WalkView) : Type 0 where
   pub at : IsPath design bound new.path
   pub tags : new.tags ≡ old.tags ++ tag ∷ []
   pub kept : new.kept ≡ old.kept
@@ -104,10 +115,10 @@ pub record IsValued (bound : Parts → ℕ) (part : Parts → Part → ℕ) (nod
 
 -- the tag of a visit, with the part that it names against the word after the visit
 abbrev pub tag_after : (Parts → ℕ) → (Parts → Part → ℕ) → Parts → Visit → ℕ → Tag
-tag_after bound part node seen word = named (part node) (word_after bound node seen word) (tag_at seen)
+tag_after bound part node seen word = with_first_part (part node) (word_after bound node seen word) (tag_at seen)
 
 -- the subproblem that was next was visited
-pub record IsMove (design : Design) (bound : Parts → ℕ) (part : Parts → Part → ℕ) (old : Progress) (seen : Visit) (new : Progress) : Type 0 where
+pub record IsMove (design : Design) (bound : Parts → ℕ) (part : Parts → Part → ℕ) (old : WalkView) (seen : Visit) (new : WalkView) : Type 0 where
   pub visit : IsVisit design bound old.path.node old.word seen
   pub at : IsPath design bound new.path
   pub tags : new.tags ≡ old.tags ++ tag_after bound part old.path.node seen old.word ∷ []
@@ -116,8 +127,16 @@ pub record IsMove (design : Design) (bound : Parts → ℕ) (part : Parts → Pa
   pub word : new.word ≡ word_after bound old.path.node seen old.word
   pub best : new.best ≡ best_after (decision_of bound old.path.node seen) old.best
 
+-- what was not visited is left open, and this is the least of the cost found and of the values there
+pub record IsLeftOpen (design : Design) (bound : Parts → ℕ) (old new : WalkView) (low : ℕ) : Type 0 where
+  pub tags : new.tags ≡ old.tags ++ map (λ node. Open) (left_of design old)
+  pub low_is : low ≡ least old.word (map bound (left_of design old))
+  pub kept : new.kept ≡ old.kept
+  pub word : new.word ≡ old.word
+  pub best : new.best ≡ old.best
+
 -- the search beside the machine in this state, which names no part
-pub record IsBeside (design : Design) (bound : Parts → ℕ) (state : State) (walk : Progress) : Type 0 where
+pub record IsBeside (design : Design) (bound : Parts → ℕ) (state : State) (walk : WalkView) : Type 0 where
   pub at : IsPath design bound walk.path
   pub stage : IsStage design bound state (map unnamed walk.tags) (left_of design walk)
   pub core : IsCoreState design bound state
@@ -127,6 +146,6 @@ pub record IsBeside (design : Design) (bound : Parts → ℕ) (state : State) (w
   pub splits : AllBranchFirst design state.entries
 
 -- the search after k visits, which are the machine's turns
-pub record IsRun (design : Design) (bound : Parts → ℕ) (k : ℕ) (walk : Progress) : Type 0 where
+pub record IsRun (design : Design) (bound : Parts → ℕ) (k : ℕ) (walk : WalkView) : Type 0 where
   pub beside : IsBeside design bound (turns design bound k (opening design bound 1)) walk
   pub accepted : TurnsAreAccepted design bound k (opening design bound 1)

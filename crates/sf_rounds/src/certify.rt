@@ -3,7 +3,7 @@
 ghost use Rattle.std.specs.Prelude.{◌≡◌, IfOk};
 ghost use Rattle.sf_certificate.specs.Marks.{given_marks};
 ghost use Rattle.sf_rounds.specs.Piles.{all_in};
-ghost use Rattle.sf_rounds.specs.Certify.{IsOutcome, IsCertified};
+ghost use Rattle.sf_rounds.specs.Certify.{IsCertifiable, IsCertified};
 
 use crate::in_order::tags_in_order;
 use crate::log::Log;
@@ -35,7 +35,7 @@ pub fn certify<R: Threads + Sync, B: Bounds>(
     plan: Option<Expr>,
     cost: u64,
 ) -> Result<Cert, NoMemory>
-    requires outcome { IsOutcome design.now
+    requires outcome { IsCertifiable design.now
         (B.Values.value bounds.now design.now) entries left.items plan cost }
     ensures { IfOk result
         (IsCertified design.now (B.Values.value bounds.now design.now)

@@ -159,12 +159,14 @@ fn place_of_share(piles: &[Pile], few: usize, threads: usize) -> usize
     piles.len()
 }
 
-/// What falls to a few of the threads.
+/// What falls to a few of the threads. Any share would do: it decides how long each thread works, and
+/// nothing of what comes out.
 fn share_of(count: usize, few: usize, threads: usize) -> usize {
     count.saturating_mul(few) / threads.max(1)
 }
 
-/// A path before which a share of the subproblems lies, by some of their paths.
+/// A path before which a share of the subproblems lies, by some of their paths. A cut by any path is right:
+/// which one it is decides how long each thread works.
 pub fn path_of_share(
     alloc: Global,
     piles: &[Pile],

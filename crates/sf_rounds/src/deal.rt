@@ -1,8 +1,8 @@
 //! How the tasks of a round are dealt out among its workers.
 
-ghost use Rattle.std.specs.Prelude.{◌≡◌, ℕ, ◌+◌, ◌-◌, ◌<◌, ◌≤◌, [], All, IfOk, length, map, reverse, drop};
+ghost use Rattle.std.specs.Prelude.{◌≡◌, ◌+◌, ◌-◌, ◌<◌, All, IfOk, length, reverse, drop};
 ghost use Rattle.sf_worker.specs.Tasks.{IsTask};
-ghost use Rattle.sf_worker.specs.Took.{Serves, tasks_weigh};
+ghost use Rattle.sf_worker.specs.Took.{Serves};
 ghost use Rattle.sf_frontier.specs.Team.{IsTeam, IsNewPlace};
 ghost use Rattle.sf_rounds.specs.Jobs.{Dealt, IsSeated, with_put, Handed};
 

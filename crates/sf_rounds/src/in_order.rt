@@ -9,7 +9,7 @@ ghost use Rattle.std.specs.Thread.{IsSync};
 ghost use Rattle.sf_bounds.specs.Serving.{MayServe};
 ghost use Rattle.sf_node.specs.Children.{IsSubproblem};
 ghost use Rattle.sf_rounds.specs.InOrder.{AreCut, AreInOrder, AreSubproblems};
-ghost use Rattle.sf_rounds.specs.Naming.{named};
+ghost use Rattle.sf_rounds.specs.Naming.{with_first_part};
 ghost use Rattle.sf_rounds.specs.Piles.{all_in};
 
 use crate::cutting::{Cut, cut_by_threads, path_of_share};
@@ -118,7 +118,7 @@ fn name_marks<B: Bounds>(
     requires subproblems { AreSubproblems design.now (lent marks.now) }
     ensures tags { IfOk result
         (λ tags. tags.items ≡ map
-        (λ m. named (B.part_value bounds.now design.now m.node) cost m.tag) (lent marks.now)) }
+        (λ m. with_first_part (B.part_value bounds.now design.now m.node) cost m.tag) (lent marks.now)) }
 {
     let mut room = Room::new(alloc);
     let mut tags = Vec::with_capacity(alloc, marks.len())?;
@@ -140,7 +140,7 @@ fn name_mark<'a, B: Bounds>(
     requires subproblem { IsSubproblem design.now mark.now.node }
     requires serves { MayServe room.old design.now }
     ensures tag { IfOk result
-        (λ tag. tag ≡ named (B.part_value bounds.now design.now mark.now.node) cost mark.now.tag) }
+        (λ tag. tag ≡ with_first_part (B.part_value bounds.now design.now mark.now.node) cost mark.now.tag) }
     ensures serves { MayServe room.new design.now }
 {
     match mark.tag {

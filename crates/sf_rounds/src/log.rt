@@ -25,6 +25,7 @@ impl Model for Log {
 }
 
 impl Log {
+    /// No entries.
     pub fn new(alloc: Global) -> Log
         ensures { result ≡ [] }
     {
@@ -61,6 +62,7 @@ impl Log {
         left
     }
 
+    /// The entries, list by list.
     pub fn into_lists(self) -> Vec<EntryList>
         ensures { flat result.items ≡ self }
     {

@@ -26,6 +26,7 @@ impl Model for OpenTasks {
 }
 
 impl OpenTasks {
+    /// No open tasks.
     pub fn new(alloc: Global) -> OpenTasks
         ensures { result ≡ [] }
     {
@@ -34,6 +35,7 @@ impl OpenTasks {
         }
     }
 
+    /// Whether no task is open.
     pub fn is_empty(&self) -> bool
         ensures { result ≡ (length self.now == 0) }
     {

@@ -1,6 +1,6 @@
 //! Subproblems in the lists in which they came.
 
-ghost use Rattle.std.specs.Prelude.{◌≡◌, ◌≤◌, length, min, IfOk, IsPermutation};
+ghost use Rattle.std.specs.Prelude.{◌≡◌, length, min, IfOk, IsPermutation};
 ghost use Rattle.sf_certificate.specs.Marks.{lent};
 ghost use Rattle.sf_rounds.specs.Piles.{marks_in, all_in, in_lists};
 
@@ -29,7 +29,7 @@ impl Pile {
         }
     }
 
-    /// The path to the subproblem at a place.
+    /// The path to the subproblem at a place. It is only a path to cut by, and any would do.
     pub fn path(&self, at: usize) -> Option<&[Step]> {
         match self {
             Pile::Decided(entries) => Some(entries.as_slice().get(at)?.node.steps()),

@@ -1,6 +1,6 @@
 //! The workers of a round at work, each in a thread of its own.
 
-ghost use Rattle.std.specs.Prelude.{◌≡◌, ℕ, All};
+ghost use Rattle.std.specs.Prelude.{◌≡◌, All};
 ghost use Rattle.sf_worker.specs.Took.{IsReady, Serves};
 ghost use Rattle.sf_rounds.specs.Jobs.{Ran, EachTwo};
 

@@ -1,9 +1,10 @@
 //! The whole search, to its certificate.
 
-ghost use Rattle.std.specs.Prelude.{◌≡◌, ◌≤◌, IfOk};
+ghost use Rattle.std.specs.Prelude.{◌≡◌, IfOk};
 ghost use Rattle.sf_search_core.specs.Outcome.{opening};
 ghost use Rattle.sf_rounds.specs.Turns.{turns, TurnsAreAccepted};
 ghost use Rattle.sf_rounds.specs.Found.{IsFound, IsCertOf};
+ghost use Rattle.sf_rounds.specs.Searching.{IsSearched};
 
 use crate::certify::certify;
 use crate::many_workers::{Progress, search_rounds};
@@ -58,18 +59,12 @@ pub fn search<R: Threads + Sync, B: Bounds, G: Gate>(
         → TurnsAreAccepted design.now (B.Values.value bounds.now design.now) options.nodes
         (opening design.now (B.Values.value bounds.now design.now) 1)) }
 {
-    if options.workers >= 2 && options.workers <= 16 {
-        together(
-            rt,
-            alloc,
-            design,
-            bounds,
-            options.workers,
-            options.nodes,
-            gate,
-        )
+    let SearchOptions { workers, nodes } = options;
+    if workers >= 2 && workers <= 16 {
+        let searched = search_rounds(rt, alloc, design, bounds, workers, nodes, gate)?;
+        found_in_rounds(rt, alloc, design, bounds, options, searched)
     } else {
-        alone(alloc, design, bounds, options.nodes, gate)
+        alone(alloc, design, bounds, nodes, gate)
     }
 }
 
@@ -116,21 +111,19 @@ fn alone<B: Bounds, G: Gate>(
     })
 }
 
-/// The search in rounds of several workers.
-fn together<R: Threads + Sync, B: Bounds, G: Gate>(
+/// What a search in rounds of several workers hands over.
+fn found_in_rounds<R: Threads + Sync, B: Bounds>(
     rt: &R,
     alloc: Global,
     design: &Design,
     bounds: &B,
-    workers: u16,
-    nodes: u64,
-    gate: &G,
+    options: SearchOptions,
+    searched: Progress,
 ) -> Result<Found, NoMemory>
-    requires { (2 ≤ workers) × (workers ≤ 16) }
-    ensures found { IfOk result (IsFound design.now (B.Values.value bounds.now design.now)
-        (B.part_value bounds.now design.now) nodes) }
+    requires { IsSearched design.now (B.Values.value bounds.now design.now) options.nodes searched }
+    ensures { IfOk result (IsFound design.now (B.Values.value bounds.now design.now)
+        (B.part_value bounds.now design.now) options.nodes) }
 {
-    let searched = search_rounds(rt, alloc, design, bounds, workers, nodes, gate)?;
     let Progress {
         open_tasks,
         entries,
@@ -139,9 +132,9 @@ fn together<R: Threads + Sync, B: Bounds, G: Gate>(
         best,
     } = searched;
     let plan = copy_plan(alloc, &best)?;
-    let decided = nodes - spare;
+    let decided = options.nodes - spare;
     let left = open_tasks.into_vec();
-    let threads = usize::from(workers);
+    let threads = usize::from(options.workers);
     let cert = certify(
         rt, alloc, design, bounds, threads, decided, entries, left, best, cost,
     )?;
@@ -155,6 +148,7 @@ fn together<R: Threads + Sync, B: Bounds, G: Gate>(
     })
 }
 
+/// The plan once more.
 fn copy_plan(alloc: Global, plan: &Option<Expr>) -> Result<Option<Expr>, NoMemory>
     ensures { IfOk result (λ copy. copy ≡ plan.now) }
 {

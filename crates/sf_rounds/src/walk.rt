@@ -26,9 +26,9 @@ pub struct Walk {
 }
 
 impl Model for Walk {
-    ghost use Rattle.sf_rounds.specs.Stage.{Progress};
+    ghost use Rattle.sf_rounds.specs.Stage.{WalkView};
 
-    ghost Value = { Progress };
+    ghost Value = { WalkView };
 
     ghost view = { λ w. record {
       path = w.cursor;
@@ -41,25 +41,17 @@ impl Model for Walk {
 }
 
 impl Walk {
-    ghost use Rattle.std.specs.Prelude.{[], ◌∷◌, ◌++◌, map, length, true, None, IfOk, OnOk};
-    ghost use Rattle.sf_node.specs.Subproblem.{root};
+    ghost use Rattle.std.specs.Prelude.{◌++◌, length, IfOk, OnOk};
     ghost use Rattle.sf_bounds.specs.Serving.{MayServe};
     ghost use Rattle.sf_certificate.specs.Marks.{MaySplit};
-    ghost use Rattle.sf_certificate.specs.Valid.{least};
     ghost use Rattle.sf_cursor.specs.Path.{IsPath};
     ghost use Rattle.sf_rounds.specs.declared.visit.Visit.{Visit};
-    ghost use Rattle.sf_rounds.specs.Run.{best_after};
     ghost use Rattle.sf_rounds.specs.Naming.{kept_for, renamed};
-    ghost use Rattle.sf_rounds.specs.Stage.{IsFollowed, IsMove, IsValued, left_of, tag_after};
+    ghost use Rattle.sf_rounds.specs.Stage.{IsAtRoot, IsFollowed, IsLeftOpen, IsMove, IsValued, tag_after};
 
     /// Before the first visit.
     pub fn new<V: Values>(alloc: Global, design: &Design, values: &V) -> Result<Walk, NoMemory>
-        ensures at { IfOk result (λ w. IsPath design.now (V.value values.now design.now) w.path) }
-        ensures left { IfOk result (λ w. left_of design.now w ≡ root design.now ∷ []) }
-        ensures tags { IfOk result (λ w. w.tags ≡ []) }
-        ensures kept { IfOk result (λ w. w.kept ≡ []) }
-        ensures word { IfOk result (λ w. w.word ≡ MAX) }
-        ensures best { IfOk result (λ w. w.best ≡ None) }
+        ensures { IfOk result (IsAtRoot design.now (V.value values.now design.now)) }
     {
         Ok(Walk {
             cursor: Cursor::new(alloc, design, values)?,
@@ -71,24 +63,28 @@ impl Walk {
         })
     }
 
+    /// Whether anything is not visited yet.
     pub fn more(&self) -> bool
         ensures { result ≡ self.now.more }
     {
         self.more
     }
 
+    /// The least cost found, or `MAX` for none.
     pub fn word(&self) -> u64
         ensures { result ≡ self.now.word }
     {
         self.word
     }
 
+    /// A plan of the least cost found.
     pub fn best(&self) -> &Option<Expr>
         ensures { result.now ≡ self.now.best }
     {
         &self.best
     }
 
+    /// How many subproblems were visited.
     pub fn count(&self) -> usize
         ensures { result ≡ length self.now.tags }
     {
@@ -250,14 +246,8 @@ impl Walk {
     ) -> Result<u64, NoMemory>
         requires at { IsPath design.now (B.Values.value bounds.now design.now) self.old.path }
         requires serves { MayServe room.old design.now }
-        ensures tags { IfOk result
-            (λ bound. self.new.tags ≡ self.old.tags ++ map (λ node. Tag.Open) (left_of design.now self.old)) }
-        ensures bound { IfOk result
-            (λ bound. bound ≡ least self.old.word
-            (map (B.Values.value bounds.now design.now) (left_of design.now self.old))) }
-        ensures kept { IfOk result (λ bound. self.new.kept ≡ self.old.kept) }
-        ensures word { IfOk result (λ bound. self.new.word ≡ self.old.word) }
-        ensures best { IfOk result (λ bound. self.new.best ≡ self.old.best) }
+        ensures left { IfOk result
+            (IsLeftOpen design.now (B.Values.value bounds.now design.now) self.old self.new) }
         ensures serves { MayServe room.new design.now }
     {
         let mut low = self.word;

@@ -2,9 +2,9 @@
 use Rattle.std.proofs.Common.{◌≡◌, List, [], ◌∷◌, ◌++◌, refl, sym, ap, ◌∙◌, arith, append-nil, append_assoc, length-append}
 use Rattle.std.specs.Prelude.{sum_by}
 use Rattle.std.proofs.lemmas.List.Sums.{sum_by-append, sum_by-cons}
-use Rattle.std.proofs.lemmas.List.Elements.{All-append, All-cons, All-nil}
+use Rattle.std.proofs.lemmas.List.Elements.{All-append, All-nil}
 use Rattle.sf_node.specs.declared.task.Task.{Task}
-use Rattle.sf_frontier.specs.Ends.{OwnerView, one_more, with_put}
+use Rattle.sf_frontier.specs.Ends.{OwnerView, with_put}
 use Rattle.sf_worker.specs.Takes.{PutsAll}
 
 module _ (S : Task → Type 0) where
@@ -33,20 +33,6 @@ module _ (S : Task → Type 0) where
         empty_takes = ap (λ (o : OwnerView). o.empty_takes) e;
         put = λ w. (let k : sum_by w new.put ≡ sum_by w (old.put ++ x ∷ []) = ap (λ (o : OwnerView). sum_by w o.put) e in omega (arith, k, sum_by-append w old.put (x ∷ [])));
         refusals = (omega (arith, r), λ h. omega (arith, r));
-      }
-
-  -- one task that came back and is kept
-  pub puts-back : (old new : OwnerView) (kept kept' : List Task) (x y : Task) → y ≡ x → S x → new ≡ record old { refused_puts = one_more old.refused_puts } → kept' ≡ kept ++ y ∷ [] → PutsAll S old new kept kept' (x ∷ [])
-  puts-back old new kept kept' x y is s e k =
-      let r : new.refused_puts ≡ one_more old.refused_puts = ap (λ (o : OwnerView). o.refused_puts) e in record {
-        refused = x ∷ [];
-        kept_are = k ∙ ap (λ z. kept ++ z ∷ []) is;
-        served = All-cons S x [] s (All-nil S);
-        deque = ap (λ (o : OwnerView). o.deque) e;
-        taken = ap (λ (o : OwnerView). o.taken) e;
-        empty_takes = ap (λ (o : OwnerView). o.empty_takes) e;
-        put = λ w. (let p : sum_by w new.put ≡ sum_by w old.put = ap (λ (o : OwnerView). sum_by w o.put) e in omega (arith, p));
-        refusals = (omega (arith, r), λ h. omega (arith, r, h));
       }
 
   -- tasks that were put or kept one after another

@@ -1,11 +1,10 @@
 -- What a worker takes, and what it puts or keeps.
-use Rattle.std.specs.Prelude.{◌≡◌, ℕ, ◌+◌, ◌<◌, ◌≤◌, List, ◌++◌, length, sum_by, All, Option, Some, None, IfSome}
-use Rattle.sf_model.specs.declared.TheConstants.{MAX}
+use Rattle.std.specs.Prelude.{◌≡◌, ℕ, ◌+◌, List, ◌++◌, sum_by, All, Option, Some, None, IfSome}
 use Rattle.sf_node.specs.declared.task.Task.{Task}
 use Rattle.sf_frontier.specs.Ends.{OwnerView, ThiefView}
 use Rattle.sf_frontier.specs.declared.place.Place.{Place}
 use Rattle.sf_frontier.specs.Team.{thief_deques_of}
-use Rattle.sf_worker.specs.Took.{NeverFell, Rose, ThievesNeverFell, ThievesRose, maybe_weighs, thieves_weigh}
+use Rattle.sf_worker.specs.Took.{CountsAll, NeverFell, Rose, ThievesNeverFell, ThievesRose, maybe_weighs, thieves_weigh}
 
 -- a try at each thief: none had a task, or one gave this one
 abbrev pub IsStolen : (Task → Type 0) → List ThiefView → List ThiefView → Option Task → Type 0
@@ -43,4 +42,4 @@ pub record PutsAll (Serves : Task → Type 0) (old new : OwnerView) (kept kept' 
   pub taken : new.taken ≡ old.taken
   pub empty_takes : new.empty_takes ≡ old.empty_takes
   pub put : (w : Task → ℕ) → sum_by w new.put + sum_by w refused ≡ sum_by w old.put + sum_by w tasks
-  pub refusals : NeverFell old.refused_puts new.refused_puts × (new.refused_puts < MAX → length refused + old.refused_puts ≤ new.refused_puts)
+  pub refusals : CountsAll old.refused_puts new.refused_puts refused

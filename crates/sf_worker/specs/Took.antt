@@ -21,6 +21,10 @@ NeverFell n m = min n MAX ≤ m
 abbrev pub Rose : ℕ → ℕ → Type 0
 Rose n m = one_more n ≤ m
 
+-- a count that stays at the greatest u64 has risen by as many as these tasks, or stands there
+abbrev pub CountsAll : ℕ → ℕ → List Task → Type 0
+CountsAll n m refused = NeverFell n m × (m < MAX → length refused + n ≤ m)
+
 -- the counts of empty takes of all thieves
 abbrev pub ThievesNeverFell : List ThiefView → List ThiefView → Type 0
 ThievesNeverFell [] [] = ⊤
@@ -121,5 +125,5 @@ module _ {T : Type 0} where
     pub undecided_are : All (IsTask design bound) undecided
     pub took : (w : Parts → ℕ) → taken_of w new + first_of w old ≡ ((taken_of w old + first_of w new) + nodes_weigh w logged) + tasks_weigh w undecided
     pub put : (w : Parts → ℕ) → put_of w new + tasks_weigh w refused ≡ put_of w old + children_weigh w logged
-    pub refusals : NeverFell old.place.owner.refused_puts new.place.owner.refused_puts × (new.place.owner.refused_puts < MAX → length refused + old.place.owner.refused_puts ≤ new.place.owner.refused_puts)
+    pub refusals : CountsAll old.place.owner.refused_puts new.place.owner.refused_puts refused
     pub empty_takes : NeverFell old.place.owner.empty_takes new.place.owner.empty_takes × ThievesNeverFell old.place.thieves.items new.place.thieves.items

@@ -1,7 +1,6 @@
 -- One turn of a worker: one task becomes an entry, or is kept.
 use Rattle.std.specs.Prelude.{◌≡◌, ℕ, ◌+◌, ◌<◌, ◌≤◌, ◌⊎◌, List, [], ◌∷◌, ◌++◌, length, sum_by, All, Any, Contains, Option, Some, None, vec_len, vec_capacity}
 use Rattle.sf_model.specs.declared.design.Design.{Design}
-use Rattle.sf_model.specs.declared.TheConstants.{MAX}
 use Rattle.sf_node.specs.declared.task.Task.{Task}
 use Rattle.sf_node.specs.Parts.{Parts}
 use Rattle.sf_search_core.specs.declared.entry.Entry.{Entry}
@@ -11,7 +10,7 @@ use Rattle.sf_worker.specs.declared.state.PassEnd.{PassEnd}
 use Rattle.sf_worker.specs.declared.state.PassEnd.TheVariants.{QuotaSpent, FoundNothing, NoMemory}
 use Rattle.sf_bounds.specs.Serving.{MayServe}
 use Rattle.sf_worker.specs.Tasks.{IsTask, IsEntry, Solves}
-use Rattle.sf_worker.specs.Took.{NeverFell, Rose, ThievesRose, IsBest, Passed, SameSeat, put_of, tasks_weigh, IsDecidedFirst}
+use Rattle.sf_worker.specs.Took.{CountsAll, Rose, ThievesRose, IsBest, Passed, SameSeat, put_of, tasks_weigh, IsDecidedFirst}
 
 module _ {T : Type 0} where
   -- a worker that may decide one more has this task in hand, with room to log it and to keep it
@@ -44,7 +43,7 @@ module _ {T : Type 0} where
     pub empty_takes : new.place.owner.empty_takes ≡ old.place.owner.empty_takes
     pub thieves : new.place.thieves.items ≡ old.place.thieves.items
     pub put : (w : Parts → ℕ) → put_of w new + tasks_weigh w refused ≡ put_of w old + sum_by w (children entry)
-    pub refusals : NeverFell old.place.owner.refused_puts new.place.owner.refused_puts × (new.place.owner.refused_puts < MAX → length refused + old.place.owner.refused_puts ≤ new.place.owner.refused_puts)
+    pub refusals : CountsAll old.place.owner.refused_puts new.place.owner.refused_puts refused
     pub serves : MayServe new.room design
 
   -- the task is kept, and nothing else changed but what the seat saw and what the room keeps

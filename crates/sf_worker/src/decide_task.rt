@@ -48,6 +48,7 @@ pub fn decide<'a, B: Bounds>(
     Ok(Decision::Extended(Tasks::from_vec(children)))
 }
 
+/// The subproblem with its bound.
 fn with_bound<'a, B: Bounds>(
     design: &'a Design,
     bounds: &B,

@@ -1,7 +1,7 @@
 //! Where a worker takes its tasks from, and where it puts them.
 
-ghost use Rattle.std.specs.Prelude.{◌≡◌, ℕ, ◌+◌, ◌<◌, ◌≤◌, ◌++◌, [], ◌∷◌, All, List, length, IfSome};
-ghost use Rattle.std.specs.Prelude.{MatchOption, vec_len, vec_capacity};
+ghost use Rattle.std.specs.Prelude.{◌≡◌, ◌+◌, ◌<◌, ◌≤◌, [], ◌∷◌, All, IfSome};
+ghost use Rattle.std.specs.Prelude.{vec_len, vec_capacity};
 ghost use Rattle.sf_node.specs.declared.task.Task.{Task};
 ghost use Rattle.sf_worker.specs.Takes.{IsFound, IsStolen, PutsAll, SamePuts};
 

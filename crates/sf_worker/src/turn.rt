@@ -1,13 +1,13 @@
 //! One turn of a pass: a task is taken, decided and logged.
 
-ghost use Rattle.std.specs.Prelude.{◌≡◌, ℕ, ◌+◌, ◌<◌, ◌≤◌, [], ◌∷◌, ◌++◌, All, map, MatchOption, IsTrue};
+ghost use Rattle.std.specs.Prelude.{◌≡◌, ◌+◌, ◌<◌, ◌≤◌, [], ◌∷◌, ◌++◌, All, map, IsTrue};
 ghost use Rattle.std.specs.Prelude.{IsFalse};
 ghost use Rattle.std.specs.Prelude.{vec_len, vec_capacity};
 ghost use Rattle.sf_model.specs.declared.TheConstants.{MAX};
 ghost use Rattle.sf_node.specs.declared.task.Task.{Task};
 ghost use Rattle.sf_node.specs.Subproblem.{is_complete, is_solved};
 ghost use Rattle.sf_node.specs.Children.{extended, split, CanSplit};
-ghost use Rattle.sf_worker.specs.Decided.{first_wide};
+ghost use Rattle.sf_node.specs.Full.{IsFirstSplit};
 ghost use Rattle.sf_worker.specs.Tasks.{IsTask, IsPlan};
 ghost use Rattle.sf_worker.specs.Took.{IsReady, Serves, Passed};
 ghost use Rattle.sf_worker.specs.Turns.{Became, HasInHand, IsJudged, TurnEnds};
@@ -192,8 +192,7 @@ fn halve<'a, T: Served, B: Bounds>(
     requires team { Serves T.serves design.now (B.Values.value bounds.now design.now) }
     requires hand { HasInHand design.now (B.Values.value bounds.now design.now) task state.old }
     requires value { (state.old.seat.seen ≡ value) × (task.bound < value) }
-    requires node { IsTrue (is_complete task.node) × IsFalse (is_solved design.now task.node)
-        × (block ≡ first_wide task.node) × CanSplit task.node block }
+    requires node { IsFirstSplit design.now task.node block × CanSplit task.node block }
     requires halves { (left.node ∷ right.node ∷ [] ≡ split task.node block)
         × IsTask design.now (B.Values.value bounds.now design.now) left
         × IsTask design.now (B.Values.value bounds.now design.now) right }

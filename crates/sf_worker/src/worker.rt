@@ -1,6 +1,6 @@
 //! A pass of one worker.
 
-ghost use Rattle.std.specs.Prelude.{◌≡◌, ℕ, ◌<◌};
+ghost use Rattle.std.specs.Prelude.{◌≡◌, ◌<◌};
 ghost use Rattle.sf_worker.specs.Took.{IsReady, Serves, Passed};
 ghost use Rattle.sf_worker.specs.Turns.{PassEnds};
 

@@ -1,7 +1,7 @@
 use Rattle.std.proofs.Common.{◌≡◌, ◌∙◌, List, [], ◌++◌, All, length, ap, sym, subst, arith, rules}
 use Rattle.std.proofs.lemmas.List.Elements.{All-append, All-nil}
 use Rattle.sf_node.specs.declared.task.Task.{Task}
-use Rattle.sf_frontier.specs.Ends.{ThiefView, joined}
+use Rattle.sf_frontier.specs.Ends.{ThiefView, with_stolen}
 use Rattle.sf_frontier.specs.Team.{IsFinished}
 use Rattle.sf_frontier.proofs.Teams.{IsSettling, settling-start, settling-more, settling-thief, settling-some, settling-done, lone-part, lone-done}
 use Rattle.sf_frontier.proofs.settle.finish.Goals as goal
@@ -52,7 +52,7 @@ returns-clause-finished g c =
     let none : c.loop-place.places.items ≡ [] = search rules in
     subst (IsFinished c.args.places.items) (sym c.from_vec-2.ensures)
     (settling-done c.args.places.items c.loop-place.places.items c.loop-place.owner _ c.join-2.result c.loop-place.left.items d.0 c.drain-2.new.left.items none c.loop-place.invariant.0
-    (c.join-2.ensures ∙ ap (λ (t : ThiefView). joined c.loop-place.owner t.taken) (sym c.first.view_is)) d.2 d.1)
+    (c.join-2.ensures ∙ ap (λ (t : ThiefView). with_stolen c.loop-place.owner t.taken) (sym c.first.view_is)) d.2 d.1)
 
 pub returns-clause-served : goal.returns-clause-served
 returns-clause-served g c =

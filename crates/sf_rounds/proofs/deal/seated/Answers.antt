@@ -1,8 +1,9 @@
 use Rattle.std.proofs.Common.{◌≡◌, ◌<◌, [], ◌∷◌, ◌++◌, length, ap, sym, subst, arith, rules, refl, ◌∙◌, append-nil, append_assoc}
+use Rattle.std.proofs.lemmas.List.{nil_from_length}
 use Rattle.sf_model.specs.declared.TheConstants.{MAX}
 use Rattle.sf_incumbent.specs.Seen.{Knows}
 use Rattle.sf_rounds.specs.Jobs.{IsSeated}
-use Rattle.sf_rounds.proofs.Dealing.{no-items, next-task, seating-more, seating-done}
+use Rattle.sf_rounds.proofs.Dealing.{next-task, seating-more, seating-done}
 use Rattle.std.specs.Prelude.{reverse, slice_index}
 use Rattle.sf_rounds.proofs.deal.seated.Goals as goal
 
@@ -40,5 +41,5 @@ pub returns-clause-seated : goal.returns-clause-seated
 returns-clause-seated g c =
     let i = c.loop-place.invariant in
     let all : length c.loop-place.jobs.items ≡ length c.args.quotas.now = search rules in
-    let places : c.loop-place.yielded ≡ c.args.places.items = (let zero : length c.loop-place.place-iterator.rest.items ≡ 0 = search rules in let none = no-items c.loop-place.place-iterator.rest.items zero in sym (append-nil c.loop-place.yielded) ∙ (ap (λ zs. c.loop-place.yielded ++ zs) (sym none) ∙ i.1)) in
+    let places : c.loop-place.yielded ≡ c.args.places.items = (let zero : length c.loop-place.place-iterator.rest.items ≡ 0 = search rules in let none = nil_from_length c.loop-place.place-iterator.rest.items zero in sym (append-nil c.loop-place.yielded) ∙ (ap (λ zs. c.loop-place.yielded ++ zs) (sym none) ∙ i.1)) in
     subst (λ ps. IsSeated c.args.seat.now.seen c.args.word.now (reverse c.args.tasks.now.items) c.args.quotas.now ps c.loop-place.jobs.items) places (seating-done c.args.seat.now.seen c.args.word.now (reverse c.args.tasks.now.items) c.args.quotas.now c.loop-place.yielded c.loop-place.jobs.items c.loop-place.tasks.items c.args.seat.now c.loop-place.seat all i.0)

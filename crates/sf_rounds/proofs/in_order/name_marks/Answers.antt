@@ -5,7 +5,7 @@ use lib.ListN.{length-map}
 use Rattle.sf_node.specs.Children.{IsSubproblem}
 use Rattle.sf_certificate.specs.declared.mark.Mark.{Mark}
 use Rattle.sf_certificate.specs.Marks.{lent}
-use Rattle.sf_rounds.specs.Naming.{named}
+use Rattle.sf_rounds.specs.Naming.{with_first_part}
 use Rattle.sf_rounds.proofs.in_order.name_marks.Goals as goal
 
 pub name_mark-requires-clause-subproblem : goal.name_mark-requires-clause-subproblem
@@ -21,4 +21,4 @@ name_mark-requires-clause-subproblem g c κs within =
 pub returns : goal.returns
 returns g c =
     let all = take_all c.loop-mark.mark-index c.args.marks.now (omega (arith, c.loop-mark-test.false)) in
-    record { tags = c.loop-mark.invariant.tags ∙ ap (λ (ms : List (Bor Mark)). map (λ m. named (g.B.Bounds.part_value c.args.bounds.now c.args.design.now m.node) c.args.cost m.tag) (lent ms)) all }
+    record { tags = c.loop-mark.invariant.tags ∙ ap (λ (ms : List (Bor Mark)). map (λ m. with_first_part (g.B.Bounds.part_value c.args.bounds.now c.args.design.now m.node) c.args.cost m.tag) (lent ms)) all }

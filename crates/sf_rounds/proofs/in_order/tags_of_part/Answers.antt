@@ -3,7 +3,7 @@ use Rattle.std.proofs.lemmas.List.Sorted.{All-permutation, IsPermutation-trans}
 use Rattle.sf_node.specs.Children.{IsSubproblem}
 use Rattle.sf_certificate.specs.declared.mark.Mark.{Mark}
 use Rattle.sf_certificate.specs.Marks.{lent}
-use Rattle.sf_rounds.specs.Naming.{named}
+use Rattle.sf_rounds.specs.Naming.{with_first_part}
 use Rattle.sf_rounds.specs.Piles.{all_in, in_lists}
 use Rattle.sf_rounds.proofs.InOrder.{in-order}
 use Rattle.sf_rounds.proofs.in_order.tags_of_part.Goals as goal
@@ -23,5 +23,5 @@ returns g c =
     let here = c.in_ok-marks.ensures ∙ ap in_lists c.deref.ensures.value in
     let given = subst (IsPermutation (all_in c.args.piles.items)) (sym here) c.in_ok-lists.ensures in
     let moved = IsPermutation-trans (all_in c.args.piles.items) (lent c.in_ok-marks.marks.items) (lent c.sort_marks.new.marks.items) given c.in_ok-sort_marks.ensures.moved in
-    let tags = c.in_ok-tags.ensures.tags ∙ ap (λ (ms : List (Bor Mark)). map (λ m. named (part m.node) c.args.cost m.tag) (lent ms)) c.deref-2.ensures.value in
+    let tags = c.in_ok-tags.ensures.tags ∙ ap (λ (ms : List (Bor Mark)). map (λ m. with_first_part (part m.node) c.args.cost m.tag) (lent ms)) c.deref-2.ensures.value in
     record { in_order = in-order part c.args.cost (all_in c.args.piles.items) (lent c.sort_marks.new.marks.items) c.in_ok-tags.tags.items moved c.in_ok-sort_marks.ensures.sorted tags }

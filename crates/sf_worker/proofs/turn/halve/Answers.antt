@@ -16,7 +16,7 @@ returns g c =
       entry = record { node = c.args.task.node; kind = kind.Split c.args.block; value = c.args.value };
       refused = p.refused;
       node = refl;
-      is = ((subst (λ n. n < c.args.value) c.requires.hand.task_is.1 c.requires.value.1, c.requires.node.3), (c.requires.node.0, c.requires.node.1, c.requires.node.2));
+      is = ((subst (λ n. n < c.args.value) c.requires.hand.task_is.1 c.requires.value.1, c.requires.node.1), c.requires.node.0);
       fresh = omega (arith, c.requires.value.0);
       log = c.enter.ensures.log;
       kept = p.kept_are ∙ ap (λ z. z ++ p.refused) c.reserve.ensures.items;
