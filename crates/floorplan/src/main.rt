@@ -32,7 +32,7 @@ fn behind_the_name(alloc: Global, all: env::Args) -> Result<Vec<String>, NoMemor
 }
 
 /// The words after the program's name. Words that are no text are taken as no words, which mean nothing.
-fn given(rt: HostRuntime) -> Result<Vec<String>, NoMemory> {
+fn host_words(rt: HostRuntime) -> Result<Vec<String>, NoMemory> {
     let alloc = rt.alloc();
     match env::args(&rt) {
         Ok(all) => behind_the_name(alloc, all),
@@ -53,7 +53,7 @@ fn named_budget(alloc: Global, words: &[String]) -> Option<u64>
 }
 
 /// The gate that tells the progress of a search, where it is to be told.
-fn told(rt: HostRuntime, words: &[String]) -> Option<Progress<HostRuntime>> {
+fn progress_of(rt: HostRuntime, words: &[String]) -> Option<Progress<HostRuntime>> {
     match env::var(&rt, TOLD_WHERE) {
         Ok(text) if !text.is_empty() => Some(Progress::new(rt, named_budget(rt.alloc(), words))),
         _ => None,
@@ -67,7 +67,7 @@ fn answer<T: Threads + Sync>(rt: HostRuntime, threads: &T, words: &[String]) -> 
     let alloc = rt.alloc();
     let mut shelf = HostShelf::new(rt, alloc);
     let mut sink = HostSink::new(rt);
-    match told(rt, words) {
+    match progress_of(rt, words) {
         None => run(threads, alloc, words, &mut shelf, &mut sink, &OpenGate),
         Some(progress) => {
             let mut sink = AfterProgress::new(sink, &progress);
@@ -86,7 +86,7 @@ fn code_of(status: Status) -> ExitCode
 }
 
 /// Does what the words ask for, and says what the process ends with.
-fn ended<T: Threads + Sync>(rt: HostRuntime, threads: &T, words: &[String]) -> ExitCode
+fn exit_code<T: Threads + Sync>(rt: HostRuntime, threads: &T, words: &[String]) -> ExitCode
     ensures { (status : Status) × MayEnd (map string_bytes words.now) status
         × (exit_status result ≡ number status) }
 {
@@ -94,8 +94,8 @@ fn ended<T: Threads + Sync>(rt: HostRuntime, threads: &T, words: &[String]) -> E
 }
 
 fn main(rt: HostRuntime) -> ExitCode {
-    match given(rt) {
-        Ok(words) => ended(rt, &rt, &words),
+    match host_words(rt) {
+        Ok(words) => exit_code(rt, &rt, &words),
         Err(NoMemory) => code_of(Status::NoMemory),
     }
 }

@@ -7,7 +7,7 @@ use Rattle.std.proofs.lemmas.Bool.Decides.{nat_tests}
 use Rattle.std.proofs.lemmas.Int.{ints}
 use Rattle.std.proofs.lemmas.List.Elements.{All-nil, All-cons}
 use Rattle.sf_lex.specs.Scan.{Line}
-use Rattle.sf_lex.specs.Number.{Decimal, decimal_of, decimal_read, signed_read, value_or_fault, exact_value, scaled, unit, within, with_value}
+use Rattle.sf_lex.specs.Number.{Decimal, decimal_of, decimal_read, signed_read, value_or_fault, exact_value, scaled, unit, value_within, with_value}
 use Rattle.sf_lex.specs.declared.number.NumberFault.{NumberFault}
 use Rattle.sf_lex.specs.declared.number.NumberFault.TheVariants.{TooManyDigits, NotWhole, TooLarge}
 use Rattle.sf_gsrc.specs.declared.fault.LineFault.{LineFault}
@@ -15,7 +15,7 @@ use Rattle.sf_gsrc.specs.declared.fault.LineFault.TheVariants.{BadLine, ZeroSide
 use Rattle.sf_gsrc.specs.declared.output.GsrcPlaces.{GsrcPlaces}
 use Rattle.sf_gsrc.specs.declared.output.Place.{Place}
 use Rattle.sf_lex.specs.Results.{◌>>=◌}
-use Rattle.sf_gsrc.specs.Line.{number_in, place_in_word}
+use Rattle.sf_gsrc.specs.Line.{number_in, coordinate_in_word}
 use Rattle.sf_gsrc.specs.PlaceLine.{size_words, size_in_words, point_said, sized_said, rest_said, place_said}
 use Rattle.sf_gsrc.specs.Places.{PlacesStandFor, SaysPlace}
 use Rattle.sf_io.specs.Outside.{Contents}
@@ -38,7 +38,7 @@ within_most limit v n false t e =
     omega arith
 
 -- so is one that also passes the tests before it
-exact_most : (limit v n : ℕ) (many whole : Bool) → cond {A = Result ℕ NumberFault} many (Err TooManyDigits) (cond whole (within limit v) (Err NotWhole)) ≡ Ok n → n ≤ limit
+exact_most : (limit v n : ℕ) (many whole : Bool) → cond {A = Result ℕ NumberFault} many (Err TooManyDigits) (cond whole (value_within limit v) (Err NotWhole)) ≡ Ok n → n ≤ limit
 exact_most limit v n true whole e = absurd cc
 exact_most limit v n false true e = within_most limit v n (nat_lt limit v) refl e
 exact_most limit v n false false e = absurd cc
@@ -98,7 +98,7 @@ number_ok (Ok x) z e = cc
 number_ok (Err d) z e = absurd cc
 
 -- a coordinate is at most 9,000,000,000,000,000 away from 0
-place_in : (scale : ℕ) (word : List ℕ) (z : ℤ) → place_in_word scale word ≡ Ok z → IsIn 9_000_000_000_000_000 z
+place_in : (scale : ℕ) (word : List ℕ) (z : ℤ) → coordinate_in_word scale word ≡ Ok z → IsIn 9_000_000_000_000_000 z
 place_in scale word z e = signed_in scale 9_000_000_000_000_000 word z (number_ok (signed_read scale 9_000_000_000_000_000 word) z e)
 
 -- ---- lines
@@ -119,8 +119,8 @@ near_at name x y size p e a b =
 point_near : (scale : ℕ) (name x y : List ℕ) (p : Place) → point_said scale name x y ≡ Ok p → IsNear p
 unfolding point_said
 point_near scale name x y p e =
-    let a = bound ℤ LineFault (place_in_word scale x) Place _ p e in
-    let b = bound ℤ LineFault (place_in_word scale y) Place _ p a.2 in
+    let a = bound ℤ LineFault (coordinate_in_word scale x) Place _ p e in
+    let b = bound ℤ LineFault (coordinate_in_word scale y) Place _ p a.2 in
     near_at name a.0 b.0 None p b.2 (place_in scale x a.0 a.1) (place_in scale y b.0 b.1)
 
 -- so does one with a size, where no side is 0
@@ -133,8 +133,8 @@ sized_near : (scale : ℕ) (name x y : List ℕ) (more : List (List ℕ)) (p : P
 unfolding sized_said
 sized_near scale name x y more p e =
     let s = bound (List ℕ × List ℕ) LineFault (size_words more) Place _ p e in
-    let a = bound ℤ LineFault (place_in_word scale x) Place _ p s.2 in
-    let b = bound ℤ LineFault (place_in_word scale y) Place _ p a.2 in
+    let a = bound ℤ LineFault (coordinate_in_word scale x) Place _ p s.2 in
+    let b = bound ℤ LineFault (coordinate_in_word scale y) Place _ p a.2 in
     let z = bound (ℕ × ℕ) LineFault (size_in_words scale s.0) Place _ p b.2 in
     sized_by name a.0 b.0 z.0 p ((z.0.0 == 0) || (z.0.1 == 0)) z.2 (place_in scale x a.0 a.1) (place_in scale y b.0 b.1)
 

@@ -10,7 +10,7 @@ use Rattle.sf_model.specs.declared.parts.Block.{Block}
 use Rattle.sf_model.specs.declared.parts.Shape.{Shape}
 use Rattle.sf_model.specs.declared.raw.Parts.{Parts}
 use Rattle.sf_model.specs.declared.raw.RawBlock.{RawBlock}
-use Rattle.sf_model.specs.Built.{design_blocks, shapeless}
+use Rattle.sf_model.specs.Built.{design_blocks, first_shapeless}
 use Rattle.sf_model.proofs.Determined.{determined}
 use Rattle.sf_soft_shapes.specs.Listed.{AreListsOf}
 use Rattle.sf_soft_shapes.proofs.Determined.{all-lists, one-fault, fault-empty}
@@ -129,7 +129,7 @@ module _ (contents : Contents) where
 -- ---- the design
 
 -- a design has a shape for each block
-no-empty : (blocks : List RawBlock) (lists : List (List Shape)) → All (λ (b : Block). 1 ≤ length b.shapes) (design_blocks blocks lists) → shapeless blocks lists ≡ None
+no-empty : (blocks : List RawBlock) (lists : List (List Shape)) → All (λ (b : Block). 1 ≤ length b.shapes) (design_blocks blocks lists) → first_shapeless blocks lists ≡ None
 no-empty [] lists all = refl
 no-empty (b ∷ bs) [] all = refl
 no-empty (b ∷ bs) ([] ∷ ls) all = let some = all 0 (record { name = []; shapes = [] }) (omega arith) in absurd (omega arith)
@@ -137,7 +137,7 @@ no-empty (b ∷ bs) ((s ∷ ss) ∷ ls) all = no-empty bs ls (λ i d low. all (s
 
 module _ (o : DesignOptions) (w : WeightOptions) (read : WeighedParts) where
   -- each block of a design that is built has a shape
-  shaped : (lists : List (List Shape)) (design : Design) → Built o w read lists (Ok design) → shapeless read.parts.blocks lists ≡ None
+  shaped : (lists : List (List Shape)) (design : Design) → Built o w read lists (Ok design) → first_shapeless read.parts.blocks lists ≡ None
   shaped lists design built =
       let each : All (λ (b : Block). 1 ≤ length b.shapes) design.blocks = λ i d low. (design.limits.shapes i d low).some in
       no-empty read.parts.blocks lists (subst (λ (bs : List Block). All (λ (b : Block). 1 ≤ length b.shapes) bs) built.blocks each)
@@ -146,7 +146,7 @@ module _ (o : DesignOptions) (w : WeightOptions) (read : WeighedParts) where
   not-both : (lists : List (List Shape)) (design : Design) (why : Refusal) → AreListsOf o.shapes o.is_fixed read.parts.blocks lists → Built o w read lists (Ok design) → ListsMade o read.parts (Err why) → ⊥
   not-both lists design why all built none =
       let empty = fault-empty o.shapes o.is_fixed read.parts.blocks lists none.0 all none.1 in
-      let full : option_map NoShape (shapeless read.parts.blocks lists) ≡ None = ap (option_map NoShape) (shaped lists design built) in
+      let full : option_map NoShape (first_shapeless read.parts.blocks lists) ≡ None = ap (option_map NoShape) (shaped lists design built) in
       let e : None ≡ Some none.0 = sym full ∙ empty in absurd (cc)
 
   -- the same lists give the same design

@@ -18,7 +18,7 @@ use Rattle.sf_pl_writer.specs.ReportText.{report_text}
 use Rattle.sf_words.specs.Meaning.{GenOptions, PlanOptions}
 use Rattle.sf_program.specs.Generated.{DesignGenerated, GenRead, IsGenerated, by_default, both_weights, cert_name, parts_made, texts_stored}
 use Rattle.sf_program.specs.OneAnswer.{Answer, AtMostOne, GivesOne}
-use Rattle.sf_program.specs.Planned.{BudgetTested, IsAnswered, IsEnding, AreMeasures, IsPlanned, IsSearched, IsTold, PlanRead, budget_of, placed, outcome_status}
+use Rattle.sf_program.specs.Planned.{BudgetTested, IsAnswered, IsEnding, AreMeasures, IsPlanned, IsSearched, IsTold, PlanRead, budget_of, outcome_status, placement_stores}
 use Rattle.sf_program.specs.Stores.{Stored}
 use Rattle.sf_program.specs.Weighed.{alike}
 use Rattle.sf_program.proofs.Once.{once, then-one, same-value}
@@ -51,7 +51,7 @@ measures-are design expr spots w h wires m = λ i. (m.spots_are i, m.wide i, m.h
 module _ (design : Design) (scale : ℕ) (name : List ℕ) (pl : Option (List ℕ)) (said : Outcome) (cert : Cert) where
   -- what is stored of a certificate and of what is measured
   stored_of : Measures → List Stored
-  stored_of m = (name, cert_text cert) ∷ placed design scale pl m.0
+  stored_of m = (name, cert_text cert) ∷ placement_stores design scale pl m.0
 
   -- and what is printed
   printed_of : Expr → Measures → List ℕ

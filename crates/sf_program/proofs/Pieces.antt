@@ -9,7 +9,7 @@ use Rattle.sf_certificate.specs.declared.fault.CertFault.{CertFault}
 use Rattle.sf_certificate.specs.Reading.{Said, cert_read, said_by}
 use Rattle.sf_checker.specs.declared.answer.Answer.{Answer}
 use Rattle.sf_checker.specs.Feeding.{IsAnswerTo}
-use Rattle.sf_words.specs.Meaning.{CheckOptions}
+use Rattle.sf_words.specs.Meaning.{CheckOptions, Command, check}
 use Rattle.sf_program.specs.declared.stop.Stop.{Stop}
 use Rattle.sf_program.specs.Outcome.{Refuses, Stops}
 use Rattle.sf_program.specs.declared.work.Work.{Work}
@@ -20,7 +20,8 @@ use Rattle.sf_certificate.specs.Text.{cert_text}
 use Rattle.sf_certificate.specs.Valid.{IsValid}
 use Rattle.sf_checker.specs.Answers.{IsAnswer}
 use Rattle.sf_checker.proofs.Answered.{answered}
-use Rattle.sf_program.specs.Checked.{CertRead, CheckRead, IsChecked, IsJudged, IsRewritten, IsStoredAnew, JudgedFile, JudgedText, answer_status, answer_text, cert_refusal}
+use Rattle.sf_program.specs.Answer.{CommandRefuses, IsOwnAnswer, Obeys}
+use Rattle.sf_program.specs.Checked.{CertRead, CheckRead, IsJudged, IsRewritten, IsStoredAnew, JudgedFile, JudgedText, answer_status, answer_text, cert_refusal}
 use Rattle.sf_program.specs.Stores.{Stored, stored_in}
 use Rattle.sf_program.proofs.Stages.{refused-stops, stops-map}
 
@@ -76,17 +77,17 @@ told-file held name text said design rewrite named read same given (Err stop) h 
 
 -- the design comes before the certificate
 module _ (held : Option Contents) (o : CheckOptions) (design : Design) (read : DesignRead held o.design o.weights (Ok design)) where
-  -- what was told of the certificate's file is what `check` tells of the design
-  pub check-told : (r : Result Work Stop) → IfOk r (λ w. JudgedFile held o.cert design o.rewrite w.status (stored_in w.stores.items) w.text.items)
-      → IfOk r (λ w. IsChecked o held w.status (stored_in w.stores.items) w.text.items)
-  check-told (Ok w) h = record { design = design; reads = read; file = h }
-  check-told (Err stop) h = tt
+  -- what is told of the certificate's file, and a fault of it, is what `check` tells of the design
+  pub check-obeyed : (r : Result Work Stop) → IfOk r (λ w. JudgedFile held o.cert design o.rewrite w.status (stored_in w.stores.items) w.text.items)
+      → IfErr r (λ stop. Stops stop (λ why. CertRead held o.cert (block_count design) (Err why))) → Obeys (check o) held r
+  check-obeyed (Ok w) told stopped = record { design = design; reads = read; file = told }
+  check-obeyed (Err stop) told stopped = stops-map (λ why. CertRead held o.cert (block_count design) (Err why)) (λ why. CheckRead held o (Err why)) (λ why p. inl (design, read, p)) stop stopped
 
-  -- a fault of the certificate stops the command
-  pub check-stops : (r : Result Work Stop) → IfErr r (λ stop. Stops stop (λ why. CertRead held o.cert (block_count design) (Err why)))
-      → IfErr r (λ stop. Stops stop (λ why. CheckRead held o (Err why)))
-  check-stops (Ok w) h = tt
-  check-stops (Err stop) h = stops-map (λ why. CertRead held o.cert (block_count design) (Err why)) (λ why. CheckRead held o (Err why)) (λ why p. inl (design, read, p)) stop h
+-- an answer of the command's own, or a stop where it refuses, obeys it
+pub obeyed : (command : Command) (held : Option Contents) (r : Result Work Stop) → IfOk r (λ w. IsOwnAnswer command held w.status (stored_in w.stores.items) w.text.items)
+    → IfErr r (λ stop. Stops stop (CommandRefuses command held)) → Obeys command held r
+obeyed command held (Ok w) answered stopped = answered
+obeyed command held (Err stop) answered stopped = stopped
 
 -- what is so of each value that is given is so of what was given
 pub given : {X E : Type 0} (P Q : X → Type 0) (r : Result X E) → ((x : X) → P x → Q x) → IfOk r P → IfOk r Q

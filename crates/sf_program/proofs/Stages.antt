@@ -1,6 +1,7 @@
 -- Stages one after another.
-use Rattle.std.proofs.Common.{inl, inr, ℕ, List, length, Option, Result, Ok, Err, refl, sym, subst, codes}
-use Rattle.sf_io.specs.Outside.{Contents}
+use Rattle.std.proofs.Common.{inl, inr, ℕ, List, length, Option, Result, Ok, Err, refl, sym, subst, codes, arith, ◌∙◌}
+use Rattle.std.specs.Prelude.{IfErr}
+use Rattle.sf_io.specs.Outside.{Contents, ShelfSeen}
 use Rattle.sf_gsrc.specs.declared.output.GsrcBlocks.{GsrcBlocks}
 use Rattle.sf_gsrc.specs.declared.output.GsrcNets.{GsrcNets}
 use Rattle.sf_gsrc.specs.declared.output.GsrcPlaces.{GsrcPlaces}
@@ -8,6 +9,7 @@ use Rattle.sf_gsrc.specs.Join.{nets_in}
 use Rattle.sf_program.specs.declared.stop.Stop.{Stop}
 use Rattle.sf_program.specs.declared.stop.Stop.TheVariants.{Refused, ReadFault, NoMemory}
 use Rattle.sf_program.specs.declared.weighed.Weighed.{Weighed}
+use Rattle.sf_program.specs.Loads.{IsCounted, Reads, TellsNoLoad}
 use Rattle.sf_program.specs.Outcome.{Refusal, refused, lost, Then, Refuses, Stops, Ends}
 use Rattle.sf_program.specs.Reading.{BlocksRead, GsrcRead, IfNamed, JoinedRead, NetsRead, PlacesRead, WeightsRead}
 use Rattle.sf_program.specs.Weighed.{WeighedParts, weighed_in}
@@ -23,6 +25,21 @@ pub refused-stops : (P : Refusal → Type 0) (why : Refusal) → P why → (stop
 refused-stops P why p (Refused status line) h = (h.0, subst P (sym h.1) p)
 refused-stops P why p ReadFault h = absurd h
 refused-stops P why p NoMemory h = absurd h
+
+-- what tells no failed load tells none that wasn't counted
+pub uncounted : {X : Type 0} (result : Result X Stop) (faults faults_then : ℕ) → TellsNoLoad result → IfErr result (IsCounted faults faults_then)
+uncounted (Ok x) faults faults_then h = tt
+uncounted (Err (Refused status line)) faults faults_then h = tt
+uncounted (Err ReadFault) faults faults_then h = absurd h
+uncounted (Err NoMemory) faults faults_then h = tt
+
+-- a stage that reads, and then another one
+pub reads-then : (before between after : ShelfSeen) → Reads before between → Reads between after → Reads before after
+reads-then before between after first second = record {
+  unchanged = second.unchanged ∙ first.unchanged;
+  later = omega (arith, first.later, second.later);
+  no_store = second.no_store ∙ first.no_store;
+}
 
 module _ {X Y : Type 0} (P : Result X Refusal → Type 0) (Q : X → Result Y Refusal → Type 0) where
   -- the first stage ends the call

@@ -1,12 +1,12 @@
 -- A YAL text that is refused.
-use Rattle.std.proofs.Common.{◌≡◌, ℕ, Result, Err, refl, subst}
+use Rattle.std.proofs.Common.{◌≡◌, Result, Err, refl, subst}
 use Rattle.sf_model.specs.declared.raw.Parts.{Parts}
 use Rattle.sf_yal.specs.declared.fault.YalFault.{YalFault}
 use Rattle.sf_yal.specs.declared.fault.YalFault.TheVariants as yal
 use Rattle.sf_yal.specs.Reading.{Gives}
 use Rattle.sf_program.specs.declared.stop.Stop.{Stop}
 use Rattle.sf_program.specs.declared.stop.Stop.TheVariants.{Refused, ReadFault, NoMemory}
-use Rattle.sf_program.specs.Loads.{IsCounted}
+use Rattle.sf_program.specs.Loads.{IsNoLoad}
 use Rattle.sf_program.specs.Outcome.{Refusal, Refuses, Stops}
 use Rattle.sf_program.specs.Reading.{Said}
 use Rattle.sf_program.specs.Refusals.{yal_refusal}
@@ -31,7 +31,7 @@ module _ (Stands : Parts → Type 0) (first : Result Parts YalFault) where
       (fault, told-fault fault real (subst (λ r. Gives r first) is told), refl) stop refused
 
 -- a refusal tells of no load
-pub refused-tells : (stop : Stop) (why : Refusal) → Refuses stop why → (faults faults_then : ℕ) → IsCounted faults faults_then stop
-refused-tells (Refused status line) why h faults faults_then = tt
-refused-tells ReadFault why h faults faults_then = absurd h
-refused-tells NoMemory why h faults faults_then = tt
+pub refused-tells : (stop : Stop) (why : Refusal) → Refuses stop why → IsNoLoad stop
+refused-tells (Refused status line) why h = tt
+refused-tells ReadFault why h = absurd h
+refused-tells NoMemory why h = tt

@@ -1,18 +1,20 @@
 -- What a run may answer, by its words and by the texts on the shelf: the status, what is stored and what is printed.
-use Rattle.std.specs.Prelude.{◌≡◌, ◌⊎◌, ⊤, ℕ, List, [], Option, Err, codes}
+use Rattle.std.specs.Prelude.{◌≡◌, ◌⊎◌, ⊤, ℕ, List, [], Option, Result, Ok, Err, codes}
 use Rattle.std.specs.Io.KnownBytes.{Appends}
 use Rattle.sf_io.specs.Outside.{Contents, Rose, ShelfSeen, SinkSeen, Took}
 use Rattle.sf_io.specs.declared.status.Status.{Status}
 use Rattle.sf_io.specs.declared.status.Status.TheVariants.{Usage, ReadFault, WriteFault, NoMemory}
 use Rattle.sf_pl_writer.specs.Length.{IsScale}
 use Rattle.sf_words.specs.Meaning.{Command, plan, check, measure, shape, gen, Means, HasNoMeaning}
-use Rattle.sf_program.specs.Outcome.{Refusal, IsRefusal, refused}
+use Rattle.sf_program.specs.declared.stop.Stop.{Stop}
+use Rattle.sf_program.specs.declared.work.Work.{Work}
+use Rattle.sf_program.specs.Outcome.{Refusal, IsRefusal, Stops, refused}
 use Rattle.sf_program.specs.Planned.{IsPlanned, PlanRead}
 use Rattle.sf_program.specs.Checked.{IsChecked, CheckRead}
 use Rattle.sf_program.specs.Measured.{IsMeasured, MeasureRead}
 use Rattle.sf_program.specs.Shaped.{IsShaped, ShapeRead}
 use Rattle.sf_program.specs.Generated.{IsGenerated, GenRead}
-use Rattle.sf_program.specs.Stores.{Stored, AfterStores, StoppedAt}
+use Rattle.sf_program.specs.Stores.{Stored, AfterStores, Gives, StoppedAt}
 
 -- what the command answers where no stage refuses; none but `plan`, `gen` and `check` with `--rewrite` stores anything
 abbrev pub IsOwnAnswer : Command → Option Contents → Status → List Stored → List ℕ → Type 0
@@ -29,6 +31,11 @@ CommandRefuses (check o) before why = CheckRead before o (Err why)
 CommandRefuses (measure o) before why = MeasureRead before o (Err why)
 CommandRefuses (shape o) before why = ShapeRead before o (Err why)
 CommandRefuses (gen o) before why = GenRead o (Err why)
+
+-- the command is obeyed: with an answer of its own, or a stop where a stage refuses, or for want of memory
+abbrev pub Obeys : Command → Option Contents → Result Work Stop → Type 0
+Obeys command before (Ok work) = Gives (IsOwnAnswer command before) work
+Obeys command before (Err stop) = Stops stop (CommandRefuses command before)
 
 -- such a refusal as an answer: its line is printed, and nothing is stored; where a file can't be loaded there is none
 abbrev pub IsRefused : (Refusal → Type 0) → Status → List Stored → List ℕ → Type 0

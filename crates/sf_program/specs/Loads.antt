@@ -16,10 +16,16 @@ IsCounted faults faults_then ReadFault = Rose faults faults_then
 IsCounted faults faults_then (Refused status line) = ⊤
 IsCounted faults faults_then NoMemory = ⊤
 
--- a stop that says that a load failed comes after one that was counted
-abbrev pub TellsLoads : ShelfSeen → ShelfSeen → Stop → Type 0
-TellsLoads before after stop = IsCounted before.load_faults after.load_faults stop
+-- what a stage does with the shelf: it stores nothing, and tells that a load failed only where one was counted
+abbrev pub ReadsShelf : {X : Type 0} → ShelfSeen → ShelfSeen → Result X Stop → Type 0
+ReadsShelf before after result = Reads before after × IfErr result (IsCounted before.load_faults after.load_faults)
 
--- no fault of reading is told, so whatever was counted
+-- no failed load
+abbrev pub IsNoLoad : Stop → Type 0
+IsNoLoad ReadFault = ⊥
+IsNoLoad (Refused status line) = ⊤
+IsNoLoad NoMemory = ⊤
+
+-- a stage that has no shelf tells no failed load
 abbrev pub TellsNoLoad : {X : Type 0} → Result X Stop → Type 0
-TellsNoLoad result = (faults faults_then : ℕ) → IfErr result (IsCounted faults faults_then)
+TellsNoLoad result = IfErr result IsNoLoad

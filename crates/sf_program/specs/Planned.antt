@@ -79,9 +79,9 @@ pub record AreMeasures (design : Design) (expr : Expr) (spots : List Spot) (w h 
   pub wired : length_of_wires ≡ wire design (spots_of tree)
 
 -- the placement is stored behind the certificate where its name is given
-abbrev pub placed : Design → ℕ → Option (List ℕ) → List Spot → List Stored
-placed design scale None spots = []
-placed design scale (Some name) spots = (name, pl_text design spots scale) ∷ []
+abbrev pub placement_stores : Design → ℕ → Option (List ℕ) → List Spot → List Stored
+placement_stores design scale None spots = []
+placement_stores design scale (Some name) spots = (name, pl_text design spots scale) ∷ []
 
 -- what is stored and printed of a certificate without a plan, and of one with a plan that is measured
 abbrev pub IsTold : Design → ℕ → List ℕ → Option (List ℕ) → Outcome → Cert → Option Expr → List Stored → List ℕ → Type 0
@@ -90,7 +90,7 @@ IsTold design scale name pl said cert None stored printed =
     × (printed ≡ report_text (record { word = said; cost = cert.cost; bound = cert.bound; decided = decided cert.tags; size = (0, 0); area = 0; wire = 0; plan = None }))
 IsTold design scale name pl said cert (Some expr) stored printed =
     (spots : List Spot) × (w h wires : ℕ) × AreMeasures design expr spots w h wires
-    × (stored ≡ (name, cert_text cert) ∷ placed design scale pl spots)
+    × (stored ≡ (name, cert_text cert) ∷ placement_stores design scale pl spots)
     × (printed ≡ report_text (record { word = said; cost = cert.cost; bound = cert.bound; decided = decided cert.tags; size = (w, h); area = w * h; wire = wires; plan = Some expr }))
 
 -- the certificate of a search of the design by so many workers with this budget: valid by the standard bound and its parts, each closed subproblem naming the first part that is at least the cost, and with one worker found by the turns of the search core

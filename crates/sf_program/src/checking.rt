@@ -6,10 +6,12 @@ ghost use Rattle.sf_checker.specs.Feeding.{IsAnswerTo, IsFed};
 ghost use Rattle.sf_model.specs.declared.design.Design.{Design as DesignValue};
 ghost use Rattle.sf_model.specs.Legal.{block_count};
 ghost use Rattle.sf_standard.specs.Standard.{standard, part_value};
+ghost use Rattle.sf_words.specs.Meaning.{check};
 ghost use Rattle.sf_words.specs.Seen.{check_seen, text_of};
-ghost use Rattle.sf_program.specs.Checked.{CertRead, CheckRead, IsChecked, JudgedFile, JudgedText};
+ghost use Rattle.sf_program.specs.Answer.{Obeys};
+ghost use Rattle.sf_program.specs.Checked.{CertRead, JudgedFile, JudgedText};
 ghost use Rattle.sf_program.specs.Checked.{cert_refusal};
-ghost use Rattle.sf_program.specs.Loads.{Reads, TellsLoads, TellsNoLoad};
+ghost use Rattle.sf_program.specs.Loads.{Reads, ReadsShelf, TellsNoLoad};
 ghost use Rattle.sf_program.specs.Outcome.{Stops};
 ghost use Rattle.sf_program.specs.Reading.{Judged};
 ghost use Rattle.sf_program.specs.Stores.{Gives};
@@ -87,8 +89,7 @@ fn check_file<S: Shelf>(
         (Gives (JudgedFile (S.seen shelf.old).holds name.now design.now (text_of rewrite.entry))) }
     ensures refused { IfErr result (λ stop.
         Stops stop (λ why. CertRead (S.seen shelf.old).holds name.now (block_count design.now) (Err why))) }
-    ensures read { Reads (S.seen shelf.old) (S.seen shelf.new) }
-    ensures tells { IfErr result (TellsLoads (S.seen shelf.old) (S.seen shelf.new)) }
+    ensures shelf { ReadsShelf (S.seen shelf.old) (S.seen shelf.new) result }
 {
     let text = load_text(alloc, shelf, name)?;
     match rewrite {
@@ -100,11 +101,8 @@ fn check_file<S: Shelf>(
 /// Reads a design and a certificate, and tells what the checker answers. A valid certificate is stored anew
 /// where there is a name for that.
 pub fn check<S: Shelf>(alloc: Global, words: &CheckWords<'_>, shelf: &mut S) -> Result<Work, Stop>
-    ensures answer { IfOk result (Gives (IsChecked (check_seen words.now) (S.seen shelf.old).holds)) }
-    ensures refused { IfErr result (λ stop.
-        Stops stop (λ why. CheckRead (S.seen shelf.old).holds (check_seen words.now) (Err why))) }
-    ensures read { Reads (S.seen shelf.old) (S.seen shelf.new) }
-    ensures tells { IfErr result (TellsLoads (S.seen shelf.old) (S.seen shelf.new)) }
+    ensures answer { Obeys (check (check_seen words.now)) (S.seen shelf.old).holds result }
+    ensures shelf { ReadsShelf (S.seen shelf.old) (S.seen shelf.new) result }
 {
     let design = read_design(alloc, shelf, &words.design, words.weights)?;
     check_file(alloc, shelf, words.cert, &design, words.rewrite)

@@ -3,9 +3,9 @@
 ghost use Rattle.std.specs.Prelude.{◌≡◌, [], IfErr, IfOk, map, string_bytes};
 ghost use Rattle.sf_io.specs.Outside.{Rose};
 ghost use Rattle.sf_words.specs.Seen.{command_seen};
-ghost use Rattle.sf_program.specs.Answer.{Answers, CommandRefuses, HasScale, IsOwnAnswer, IsSilent};
+ghost use Rattle.sf_program.specs.Answer.{Answers, HasScale, IsSilent, Obeys};
 ghost use Rattle.sf_program.specs.Answer.{RefusesWords, usage_line};
-ghost use Rattle.sf_program.specs.Loads.{Reads, TellsLoads};
+ghost use Rattle.sf_program.specs.Loads.{Reads, ReadsShelf};
 ghost use Rattle.sf_program.specs.Outcome.{Stops, lost};
 ghost use Rattle.sf_program.specs.Stores.{Gives, stored_in};
 
@@ -40,12 +40,8 @@ fn obey<R: Threads + Sync, S: Shelf, G: Gate>(
     gate: &G,
 ) -> Result<Work, Stop>
     requires scale { HasScale (command_seen command) }
-    ensures answer { let command = command_seen command.entry in
-        IfOk result (Gives (IsOwnAnswer command (S.seen shelf.old).holds)) }
-    ensures refused { IfErr result (λ stop.
-        Stops stop (CommandRefuses (command_seen command.entry) (S.seen shelf.old).holds)) }
-    ensures read { Reads (S.seen shelf.old) (S.seen shelf.new) }
-    ensures tells { IfErr result (TellsLoads (S.seen shelf.old) (S.seen shelf.new)) }
+    ensures answer { Obeys (command_seen command.entry) (S.seen shelf.old).holds result }
+    ensures shelf { ReadsShelf (S.seen shelf.old) (S.seen shelf.new) result }
 {
     match command {
         CommandWords::Plan(words) => plan(rt, alloc, &words, shelf, gate),
@@ -68,8 +64,7 @@ fn obey_words<R: Threads + Sync, S: Shelf, G: Gate>(
         IfOk result (Gives (Answers words (S.seen shelf.old).holds)) }
     ensures refused { let words = map string_bytes words.now in IfErr result (λ stop.
         Stops stop (RefusesWords words (S.seen shelf.old).holds)) }
-    ensures read { Reads (S.seen shelf.old) (S.seen shelf.new) }
-    ensures tells { IfErr result (TellsLoads (S.seen shelf.old) (S.seen shelf.new)) }
+    ensures shelf { ReadsShelf (S.seen shelf.old) (S.seen shelf.new) result }
 {
     match read_words(alloc, words) {
         Err(_) => Err(Stop::NoMemory),

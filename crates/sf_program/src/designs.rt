@@ -1,10 +1,10 @@
 //! From parts to a design.
 
-ghost use Rattle.std.specs.Prelude.{◌≡◌, IfErr, IfOk, None};
+ghost use Rattle.std.specs.Prelude.{◌≡◌, IfOk, None};
 ghost use Rattle.sf_model.specs.Admitted.{HasPinsInRange, HasSizes, IsAdmitted};
-ghost use Rattle.sf_model.specs.Built.{HasShapeChoices, shapeless};
+ghost use Rattle.sf_model.specs.Built.{HasShapeChoices, first_shapeless};
 ghost use Rattle.sf_words.specs.Seen.{design_seen, weights_seen};
-ghost use Rattle.sf_program.specs.Loads.{Reads, TellsLoads, TellsNoLoad};
+ghost use Rattle.sf_program.specs.Loads.{ReadsShelf, TellsNoLoad};
 ghost use Rattle.sf_program.specs.Outcome.{Ends};
 ghost use Rattle.sf_program.specs.Reading.{Admitted, Built, DesignMade, DesignRead, ListsMade, PartsAdmitted};
 ghost use Rattle.sf_program.specs.Weighed.{weighed_in};
@@ -45,8 +45,7 @@ pub fn read_admitted<S: Shelf>(
     ensures admitted { IfOk result (λ read. IsAdmitted read.parts) }
     ensures pins { IfOk result (λ read. HasPinsInRange read.parts) }
     ensures sizes { IfOk result (λ read. HasSizes read.parts) }
-    ensures read { Reads (S.seen shelf.old) (S.seen shelf.new) }
-    ensures tells { IfErr result (TellsLoads (S.seen shelf.old) (S.seen shelf.new)) }
+    ensures shelf { ReadsShelf (S.seen shelf.old) (S.seen shelf.new) result }
 {
     let scale = Scale {
         per_unit: words.per_unit,
@@ -60,7 +59,7 @@ fn make_lists(alloc: Global, words: &DesignWords<'_>, parts: &Parts) -> Result<V
     requires sizes { HasSizes parts.now }
     ensures lists { Ends (λ v. v.items) result (ListsMade (design_seen words.now) parts.now) }
     ensures choices { IfOk result (λ v. HasShapeChoices parts.now.blocks v.items) }
-    ensures shaped { IfOk result (λ v. shapeless parts.now.blocks v.items ≡ None) }
+    ensures shaped { IfOk result (λ v. first_shapeless parts.now.blocks v.items ≡ None) }
     ensures tells { TellsNoLoad result }
 {
     match lists(alloc, parts, words.shapes, words.is_fixed) {
@@ -80,7 +79,7 @@ fn build(
     requires admitted { IsAdmitted read.parts }
     requires pins { HasPinsInRange read.parts }
     requires choices { HasShapeChoices read.parts.blocks lists.items }
-    requires shaped { shapeless read.parts.blocks lists.items ≡ None }
+    requires shaped { first_shapeless read.parts.blocks lists.items ≡ None }
     ensures design { Ends (λ x. x) result
         (Built (design_seen words.now) (weights_seen weights.entry) (weighed_in read) lists.items) }
     ensures tells { TellsNoLoad result }
@@ -130,8 +129,7 @@ pub fn read_design<S: Shelf>(
 ) -> Result<Design, Stop>
     ensures design { Ends (λ x. x) result
         (DesignRead (S.seen shelf.old).holds (design_seen words.now) (weights_seen weights.entry)) }
-    ensures read { Reads (S.seen shelf.old) (S.seen shelf.new) }
-    ensures tells { IfErr result (TellsLoads (S.seen shelf.old) (S.seen shelf.new)) }
+    ensures shelf { ReadsShelf (S.seen shelf.old) (S.seen shelf.new) result }
 {
     let read = read_admitted(alloc, shelf, words, weights)?;
     make_design(alloc, words, weights, read)

@@ -15,7 +15,7 @@ use crate::budget::test_budget;
 use crate::designs::make_design;
 use crate::parsing::{join, parse_blocks, parse_nets, parse_places};
 use crate::plan_answer::Names;
-use crate::planning::searched;
+use crate::planning::search_design;
 use crate::stop::Stop;
 use crate::weighed::Weighed;
 use crate::work::{Store, Work};
@@ -26,7 +26,7 @@ use sf_gen::{
 use sf_gsrc::{GsrcBlocks, GsrcNets, GsrcPlaces};
 use sf_io::Gate;
 use sf_lex::Scale;
-use sf_model::{Design, Parts};
+use sf_model::{Design, MOST_SIDE, Parts};
 use sf_words::{DesignWords, GenWords, InputFiles, Kinds, WeightWords};
 use std::alloc::{AllocError as NoMemory, Global};
 use std::thread::Threads;
@@ -125,7 +125,7 @@ fn read_back(alloc: Global, words: &GenWords<'_>, texts: &GenTexts) -> Result<Pa
 }
 
 /// The name of a file: the base, and what it ends with.
-fn named(alloc: Global, words: &GenWords<'_>, ending: &str) -> Result<String, NoMemory>
+fn file_name(alloc: Global, words: &GenWords<'_>, ending: &str) -> Result<String, NoMemory>
     ensures { IfOk result (λ name. string_bytes name ≡ words.now.out.now ++ ending.now) }
 {
     let mut name = String::from_str(alloc, words.out)?;
@@ -156,8 +156,8 @@ fn made_design(alloc: Global, words: &GenWords<'_>, parts: Parts) -> Result<Desi
         per_unit: 1,
         is_fixed: false,
         shapes: 16,
-        width: 1_048_576,
-        height: 1_048_576,
+        width: MOST_SIDE as u32,
+        height: MOST_SIDE as u32,
     };
     let both_weights = WeightWords {
         area: 1,
@@ -177,22 +177,22 @@ fn text_stores(alloc: Global, words: &GenWords<'_>, texts: GenTexts) -> Result<V
 {
     let mut stores = Vec::new(alloc);
     stores.push(Store {
-        name: named(alloc, words, ".blocks")?,
+        name: file_name(alloc, words, ".blocks")?,
         bytes: texts.blocks.into_vec(),
     })?;
     stores.push(Store {
-        name: named(alloc, words, ".nets")?,
+        name: file_name(alloc, words, ".nets")?,
         bytes: texts.nets.into_vec(),
     })?;
     stores.push(Store {
-        name: named(alloc, words, ".pl")?,
+        name: file_name(alloc, words, ".pl")?,
         bytes: texts.pl.into_vec(),
     })?;
     Ok(stores)
 }
 
 /// The answer of a search, behind other stores.
-fn behind(mut stores: Vec<Store>, searched: Work) -> Result<Work, NoMemory>
+fn put_behind(mut stores: Vec<Store>, searched: Work) -> Result<Work, NoMemory>
     ensures stores { IfOk result (λ w.
         stored_in w.stores.items ≡ stored_in stores.items ++ stored_in searched.stores.items) }
     ensures status { IfOk result (λ w. w.status ≡ searched.status) }
@@ -223,14 +223,14 @@ pub fn generate<R: Threads + Sync, G: Gate>(
     let texts = made_texts(alloc, words)?;
     let parts = read_back(alloc, words, &texts)?;
     let design = made_design(alloc, words, parts)?;
-    let cert = named(alloc, words, ".cert")?;
+    let cert = file_name(alloc, words, ".cert")?;
     let names = Names {
         cert: cert.as_str(),
         pl: None,
         scale: 1,
     };
-    let searched = searched(rt, alloc, &design, words.nodes, 1, names, gate)?;
+    let searched = search_design(rt, alloc, &design, words.nodes, 1, names, gate)?;
     let stores = text_stores(alloc, words, texts)?;
-    let work = behind(stores, searched)?;
+    let work = put_behind(stores, searched)?;
     Ok(work)
 }

@@ -1,17 +1,18 @@
 //! The command `measure`.
 
-ghost use Rattle.std.specs.Prelude.{◌≡◌, [], length, All, IfErr, IfOk, Err};
+ghost use Rattle.std.specs.Prelude.{◌≡◌, length, All, IfOk};
 ghost use Rattle.sf_model.specs.Cost.{right_end, upper_end, spots_cost};
 ghost use Rattle.sf_model.specs.Legal.{block_count};
 ghost use Rattle.sf_model.specs.Wire.{wire};
 ghost use Rattle.sf_place.specs.Spots.{HasNearCorner, IsByNumber};
 ghost use Rattle.sf_place.specs.Verdict.{AreLegal, IsVerdict};
+ghost use Rattle.sf_words.specs.Meaning.{measure};
 ghost use Rattle.sf_words.specs.Seen.{measure_seen};
-ghost use Rattle.sf_program.specs.Loads.{Reads, TellsLoads};
-ghost use Rattle.sf_program.specs.Measured.{IsMeasured, MeasureRead, SpotsRead, legal_text, verdict_status};
+ghost use Rattle.sf_program.specs.Answer.{Obeys};
+ghost use Rattle.sf_program.specs.Loads.{ReadsShelf};
+ghost use Rattle.sf_program.specs.Measured.{SpotsRead, legal_text, verdict_status};
 ghost use Rattle.sf_program.specs.Measured.{verdict_text};
-ghost use Rattle.sf_program.specs.Outcome.{Ends, Stops};
-ghost use Rattle.sf_program.specs.Stores.{stored_in};
+ghost use Rattle.sf_program.specs.Outcome.{Ends};
 
 use crate::designs::read_design;
 use crate::placed_lines::place_blocks;
@@ -38,8 +39,7 @@ fn read_spots<S: Shelf>(
     ensures one_each { IfOk result (λ v. length v.items ≡ block_count design.now) }
     ensures by_number { IfOk result (λ v. IsByNumber v.items) }
     ensures near { IfOk result (λ v. All HasNearCorner v.items) }
-    ensures read { Reads (S.seen shelf.old) (S.seen shelf.new) }
-    ensures tells { IfErr result (TellsLoads (S.seen shelf.old) (S.seen shelf.new)) }
+    ensures shelf { ReadsShelf (S.seen shelf.old) (S.seen shelf.new) result }
 {
     let scale = Scale {
         per_unit: words.design.per_unit,
@@ -100,13 +100,8 @@ pub fn measure<S: Shelf>(
     words: &MeasureWords<'_>,
     shelf: &mut S,
 ) -> Result<Work, Stop>
-    ensures answer { IfOk result (λ w.
-        IsMeasured (measure_seen words.now) (S.seen shelf.old).holds w.status w.text.items) }
-    ensures stores { IfOk result (λ w. stored_in w.stores.items ≡ []) }
-    ensures refused { IfErr result (λ stop.
-        Stops stop (λ why. MeasureRead (S.seen shelf.old).holds (measure_seen words.now) (Err why))) }
-    ensures read { Reads (S.seen shelf.old) (S.seen shelf.new) }
-    ensures tells { IfErr result (TellsLoads (S.seen shelf.old) (S.seen shelf.new)) }
+    ensures answer { Obeys (measure (measure_seen words.now)) (S.seen shelf.old).holds result }
+    ensures shelf { ReadsShelf (S.seen shelf.old) (S.seen shelf.new) result }
 {
     let design = read_design(alloc, shelf, &words.design, words.weights)?;
     let spots = read_spots(alloc, words, shelf, &design)?;

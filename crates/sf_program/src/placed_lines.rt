@@ -12,12 +12,12 @@ ghost use Rattle.sf_program.specs.PlacedLines.{AreIndexed, IsIndex, IsNear, with
 use crate::refusals::named_fault;
 use crate::stop::Stop;
 use sf_gsrc::Place;
-use sf_model::{Block, Name, Spot};
+use sf_model::{Block, MOST_SIDE, Name, Spot};
 use sf_names::{NameMap, TextHash};
 use std::alloc::{AllocError, Global};
 
 /// One more than the greatest side.
-const PAST_SIDES: u64 = 1_048_577;
+const PAST_SIDES: u64 = MOST_SIDE + 1;
 
 /// The lines that have a name: none, the only one, by its number, or more.
 #[derive(Clone, Copy)]

@@ -10,7 +10,7 @@ ghost use Rattle.sf_certificate.specs.Valid.{HasCost, decided};
 ghost use Rattle.sf_pl_writer.specs.Length.{IsScale};
 ghost use Rattle.sf_pl_writer.specs.PlText.{pl_text};
 ghost use Rattle.sf_words.specs.Seen.{text_of};
-ghost use Rattle.sf_program.specs.Planned.{IsEnding, AreMeasures, IsTold, placed, outcome_status};
+ghost use Rattle.sf_program.specs.Planned.{IsEnding, AreMeasures, IsTold, outcome_status, placement_stores};
 ghost use Rattle.sf_program.specs.Stores.{stored_in};
 
 use crate::work::{Store, Work};
@@ -120,7 +120,8 @@ fn push_placed(
     requires one_each { length spots.now ≡ block_count design.now }
     requires scale { IsScale names.scale }
     ensures { let names = names.entry in IfOk result (λ done. stored_in stores.new.items ≡
-        stored_in stores.old.items ++ placed design.now names.scale (text_of names.pl) spots.now) }
+        stored_in stores.old.items
+        ++ placement_stores design.now names.scale (text_of names.pl) spots.now) }
 {
     if let Some(name) = names.pl {
         let text = pl_text(alloc, design, spots, names.scale)?;

@@ -1,14 +1,16 @@
 //! The command `plan`.
 
-ghost use Rattle.std.specs.Prelude.{◌≡◌, IfErr, IfOk, Err};
+ghost use Rattle.std.specs.Prelude.{◌≡◌, IfOk};
 ghost use Rattle.sf_model.specs.Admitted.{HasPinsInRange, HasSizes, IsAdmitted};
 ghost use Rattle.sf_model.specs.Legal.{block_count};
 ghost use Rattle.sf_certificate.specs.Valid.{decided};
 ghost use Rattle.sf_pl_writer.specs.Length.{IsScale};
 ghost use Rattle.sf_words.specs.Seen.{plan_seen, text_of};
-ghost use Rattle.sf_program.specs.Loads.{Reads, TellsLoads, TellsNoLoad};
-ghost use Rattle.sf_program.specs.Outcome.{Ends, Stops};
-ghost use Rattle.sf_program.specs.Planned.{IsAnswered, IsPlanned, IsSearched, BudgetedDesign, PlanRead};
+ghost use Rattle.sf_words.specs.Meaning.{plan};
+ghost use Rattle.sf_program.specs.Answer.{Obeys};
+ghost use Rattle.sf_program.specs.Loads.{ReadsShelf, TellsNoLoad};
+ghost use Rattle.sf_program.specs.Outcome.{Ends};
+ghost use Rattle.sf_program.specs.Planned.{IsAnswered, IsSearched, BudgetedDesign, PlanRead};
 ghost use Rattle.sf_program.specs.Planned.{budget_of};
 ghost use Rattle.sf_program.specs.Stores.{Gives};
 ghost use Rattle.sf_program.specs.Weighed.{weighed_in};
@@ -30,8 +32,7 @@ use std::thread::Threads;
 /// The design for which the named files stand, where the budget is within its limit.
 fn read_plan<S: Shelf>(alloc: Global, shelf: &mut S, words: &PlanWords<'_>) -> Result<Design, Stop>
     ensures design { Ends (λ x. x) result (PlanRead (S.seen shelf.old).holds (plan_seen words.now)) }
-    ensures read { Reads (S.seen shelf.old) (S.seen shelf.new) }
-    ensures tells { IfErr result (TellsLoads (S.seen shelf.old) (S.seen shelf.new)) }
+    ensures shelf { ReadsShelf (S.seen shelf.old) (S.seen shelf.new) result }
 {
     let read = read_admitted(alloc, shelf, &words.design, words.weights)?;
     within_budget(alloc, words, read)
@@ -54,7 +55,7 @@ fn within_budget(alloc: Global, words: &PlanWords<'_>, read: Weighed) -> Result<
 }
 
 /// What is told of the search of a design.
-fn answered(
+fn tell_found(
     alloc: Global,
     design: &Design,
     options: SearchOptions,
@@ -94,11 +95,8 @@ pub fn plan<R: Threads + Sync, S: Shelf, G: Gate>(
     gate: &G,
 ) -> Result<Work, Stop>
     requires scale { IsScale words.now.design.per_unit }
-    ensures answer { IfOk result (Gives (IsPlanned (plan_seen words.now) (S.seen shelf.old).holds)) }
-    ensures refused { IfErr result (λ stop.
-        Stops stop (λ why. PlanRead (S.seen shelf.old).holds (plan_seen words.now) (Err why))) }
-    ensures read { Reads (S.seen shelf.old) (S.seen shelf.new) }
-    ensures tells { IfErr result (TellsLoads (S.seen shelf.old) (S.seen shelf.new)) }
+    ensures answer { Obeys (plan (plan_seen words.now)) (S.seen shelf.old).holds result }
+    ensures shelf { ReadsShelf (S.seen shelf.old) (S.seen shelf.new) result }
 {
     let design = read_plan(alloc, shelf, words)?;
     let names = Names {
@@ -106,12 +104,12 @@ pub fn plan<R: Threads + Sync, S: Shelf, G: Gate>(
         pl: words.pl_out,
         scale: words.design.per_unit,
     };
-    let work = searched(rt, alloc, &design, words.nodes, words.workers, names, gate)?;
+    let work = search_design(rt, alloc, &design, words.nodes, words.workers, names, gate)?;
     Ok(work)
 }
 
 /// Searches a design with the budget that was asked for, and tells what was found.
-pub fn searched<R: Threads + Sync, G: Gate>(
+pub fn search_design<R: Threads + Sync, G: Gate>(
     rt: &R,
     alloc: Global,
     design: &Design,
@@ -128,5 +126,5 @@ pub fn searched<R: Threads + Sync, G: Gate>(
     let nodes = budget_of(nodes, u64::from(design.block_count()));
     let options = SearchOptions { workers, nodes };
     let found = search(rt, alloc, design, &Standard, options, gate)?;
-    answered(alloc, design, options, found, names)
+    tell_found(alloc, design, options, found, names)
 }

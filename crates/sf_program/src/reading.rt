@@ -1,11 +1,11 @@
 //! From the named files to the parts of a design.
 
-ghost use Rattle.std.specs.Prelude.{◌≡◌, ◌≤◌, length, codes, All, IfErr, IfOk, IfSome};
+ghost use Rattle.std.specs.Prelude.{◌≡◌, ◌≤◌, length, codes, All, IfOk, IfSome};
 ghost use Rattle.sf_words.specs.Seen.{input_seen, text_of};
 ghost use Rattle.sf_model.specs.Admitted.{HasPinsInRange, HasSizes, IsSized};
 ghost use Rattle.sf_gsrc.specs.Join.{nets_in};
 ghost use Rattle.sf_gsrc.specs.Ranges.{HasPinsInAnyRange};
-ghost use Rattle.sf_program.specs.Loads.{Reads, TellsLoads, TellsNoLoad};
+ghost use Rattle.sf_program.specs.Loads.{ReadsShelf, TellsNoLoad};
 ghost use Rattle.sf_program.specs.Outcome.{Ends};
 ghost use Rattle.sf_program.specs.Reading.{TextRead, BlocksRead, NetsRead, PlacesRead, YalRead, YalWeighed};
 ghost use Rattle.sf_program.specs.Reading.{IfNamed, JoinedRead, GsrcRead, PartsRead};
@@ -29,8 +29,7 @@ const FILE_LIMIT: u64 = 67_108_864;
 /// The bytes under a name.
 pub fn load_text<S: Shelf>(alloc: Global, shelf: &mut S, name: &str) -> Result<Vec<u8>, Stop>
     ensures text { Ends (λ v. v.items) result (TextRead (S.seen shelf.old).holds name.now) }
-    ensures read { Reads (S.seen shelf.old) (S.seen shelf.new) }
-    ensures tells { IfErr result (TellsLoads (S.seen shelf.old) (S.seen shelf.new)) }
+    ensures shelf { ReadsShelf (S.seen shelf.old) (S.seen shelf.new) result }
 {
     match shelf.load(name, FILE_LIMIT) {
         Ok(text) => Ok(text),
@@ -49,8 +48,7 @@ fn read_blocks_file<S: Shelf>(
 ) -> Result<GsrcBlocks, Stop>
     ensures blocks { Ends (λ x. x) result (BlocksRead (S.seen shelf.old).holds scale.per_unit name.now) }
     ensures sizes { IfOk result (λ out. All (λ b. IsSized b.kind) out.blocks) }
-    ensures read { Reads (S.seen shelf.old) (S.seen shelf.new) }
-    ensures tells { IfErr result (TellsLoads (S.seen shelf.old) (S.seen shelf.new)) }
+    ensures shelf { ReadsShelf (S.seen shelf.old) (S.seen shelf.new) result }
 {
     let text = load_text(alloc, shelf, name)?;
     parse_blocks(alloc, &text, scale)
@@ -60,8 +58,7 @@ fn read_blocks_file<S: Shelf>(
 fn read_nets_file<S: Shelf>(alloc: Global, shelf: &mut S, name: &str) -> Result<GsrcNets, Stop>
     ensures nets { Ends (λ x. x) result (NetsRead (S.seen shelf.old).holds name.now) }
     ensures pins { IfOk result (λ out. HasPinsInAnyRange out.nets) }
-    ensures read { Reads (S.seen shelf.old) (S.seen shelf.new) }
-    ensures tells { IfErr result (TellsLoads (S.seen shelf.old) (S.seen shelf.new)) }
+    ensures shelf { ReadsShelf (S.seen shelf.old) (S.seen shelf.new) result }
 {
     let text = load_text(alloc, shelf, name)?;
     parse_nets(alloc, &text)
@@ -77,8 +74,7 @@ pub fn read_places_file<S: Shelf>(
 ) -> Result<GsrcPlaces, Stop>
     ensures places { Ends (λ x. x) result
         (PlacesRead (S.seen shelf.old).holds source.now scale.per_unit name.now) }
-    ensures read { Reads (S.seen shelf.old) (S.seen shelf.new) }
-    ensures tells { IfErr result (TellsLoads (S.seen shelf.old) (S.seen shelf.new)) }
+    ensures shelf { ReadsShelf (S.seen shelf.old) (S.seen shelf.new) result }
 {
     let text = load_text(alloc, shelf, name)?;
     parse_places(alloc, source, &text, scale)
@@ -94,8 +90,7 @@ fn read_yal_file<S: Shelf>(
     ensures parts { Ends (λ x. x) result (YalRead (S.seen shelf.old).holds scale.per_unit name.now) }
     ensures sizes { IfOk result HasSizes }
     ensures pins { IfOk result HasPinsInRange }
-    ensures read { Reads (S.seen shelf.old) (S.seen shelf.new) }
-    ensures tells { IfErr result (TellsLoads (S.seen shelf.old) (S.seen shelf.new)) }
+    ensures shelf { ReadsShelf (S.seen shelf.old) (S.seen shelf.new) result }
 {
     let text = load_text(alloc, shelf, name)?;
     parse_yal(alloc, &text, scale)
@@ -109,8 +104,7 @@ fn read_named_nets<S: Shelf>(
 ) -> Result<Option<GsrcNets>, Stop>
     ensures nets { Ends (λ x. x) result (IfNamed (NetsRead (S.seen shelf.old).holds) (text_of name.entry)) }
     ensures pins { IfOk result (λ named. IfSome named (λ out. HasPinsInAnyRange out.nets)) }
-    ensures read { Reads (S.seen shelf.old) (S.seen shelf.new) }
-    ensures tells { IfErr result (TellsLoads (S.seen shelf.old) (S.seen shelf.new)) }
+    ensures shelf { ReadsShelf (S.seen shelf.old) (S.seen shelf.new) result }
 {
     match name {
         None => Ok(None),
@@ -127,8 +121,7 @@ fn read_named_places<S: Shelf>(
 ) -> Result<Option<GsrcPlaces>, Stop>
     ensures places { Ends (λ x. x) result
         (IfNamed (PlacesRead (S.seen shelf.old).holds (codes "pl") scale.per_unit) (text_of name.entry)) }
-    ensures read { Reads (S.seen shelf.old) (S.seen shelf.new) }
-    ensures tells { IfErr result (TellsLoads (S.seen shelf.old) (S.seen shelf.new)) }
+    ensures shelf { ReadsShelf (S.seen shelf.old) (S.seen shelf.new) result }
 {
     match name {
         None => Ok(None),
@@ -181,8 +174,7 @@ fn read_gsrc_files<S: Shelf>(
         (GsrcRead held scale blocks.now (text_of nets.entry) (text_of pl.entry) (text_of weights.entry)) }
     ensures sizes { IfOk result (λ read. HasSizes read.parts) }
     ensures pins { IfOk result (λ read. HasPinsInRange read.parts) }
-    ensures read { Reads (S.seen shelf.old) (S.seen shelf.new) }
-    ensures tells { IfErr result (TellsLoads (S.seen shelf.old) (S.seen shelf.new)) }
+    ensures shelf { ReadsShelf (S.seen shelf.old) (S.seen shelf.new) result }
 {
     let blocks = read_blocks_file(alloc, shelf, scale, blocks)?;
     let nets = read_named_nets(alloc, shelf, nets)?;
@@ -203,8 +195,7 @@ fn read_weighed_yal<S: Shelf>(
         (YalWeighed (S.seen shelf.old).holds scale.per_unit file.now (text_of weights.entry)) }
     ensures sizes { IfOk result (λ read. HasSizes read.parts) }
     ensures pins { IfOk result (λ read. HasPinsInRange read.parts) }
-    ensures read { Reads (S.seen shelf.old) (S.seen shelf.new) }
-    ensures tells { IfErr result (TellsLoads (S.seen shelf.old) (S.seen shelf.new)) }
+    ensures shelf { ReadsShelf (S.seen shelf.old) (S.seen shelf.new) result }
 {
     let parts = read_yal_file(alloc, shelf, scale, file)?;
     let nets = parts.nets.as_slice().len();
@@ -224,8 +215,7 @@ pub fn read_parts<S: Shelf>(
         (PartsRead (S.seen shelf.old).holds scale.per_unit (input_seen input.entry) (text_of weights.entry)) }
     ensures pins { IfOk result (λ read. HasPinsInRange read.parts) }
     ensures sizes { IfOk result (λ read. HasSizes read.parts) }
-    ensures read { Reads (S.seen shelf.old) (S.seen shelf.new) }
-    ensures tells { IfErr result (TellsLoads (S.seen shelf.old) (S.seen shelf.new)) }
+    ensures shelf { ReadsShelf (S.seen shelf.old) (S.seen shelf.new) result }
 {
     match input {
         InputFiles::Gsrc { blocks, nets, pl } => {

@@ -54,7 +54,7 @@ fn stored_anew(
 }
 
 /// What is stored of a certificate with this answer.
-fn rewritten(
+fn stores_of(
     alloc: Global,
     design: &Design,
     cert: Cert,
@@ -77,7 +77,7 @@ fn rewrite_cert(alloc: Global, design: &Design, cert: Cert, name: &str) -> Resul
     ensures { IfOk result (Gives (IsJudged design.now cert (Some name.now))) }
 {
     let answer = check(alloc, design, &Standard, &cert)?;
-    let stores = rewritten(alloc, design, cert, answer, name)?;
+    let stores = stores_of(alloc, design, cert, answer, name)?;
     answer_work(alloc, answer, stores)
 }
 

@@ -1,6 +1,6 @@
 //! The command `shape`: the shape curve of an expression.
 
-ghost use Rattle.std.specs.Prelude.{◌≡◌, ◌++◌, [], Err, IfErr, IfOk, OnOk, string_bytes};
+ghost use Rattle.std.specs.Prelude.{◌≡◌, ◌++◌, IfOk, OnOk, string_bytes};
 ghost use Rattle.std.specs.List.{flat_map};
 ghost use Rattle.sf_curves.specs.Choices.{IsRootCurve};
 ghost use Rattle.sf_model.specs.Legal.{block_count};
@@ -8,13 +8,14 @@ ghost use Rattle.sf_node.specs.Subproblem.{root};
 ghost use Rattle.sf_polish.specs.Normal.{IsNormal};
 ghost use Rattle.sf_polish.specs.Reading.{tokens_read};
 ghost use Rattle.sf_polish.specs.Text.{SpellsTokens};
+ghost use Rattle.sf_words.specs.Meaning.{shape};
 ghost use Rattle.sf_words.specs.Seen.{shape_seen};
-ghost use Rattle.sf_program.specs.Loads.{Reads, TellsLoads, TellsNoLoad};
-ghost use Rattle.sf_program.specs.Outcome.{Ends, Refuses, Stops};
+ghost use Rattle.sf_program.specs.Answer.{Obeys};
+ghost use Rattle.sf_program.specs.Loads.{ReadsShelf, TellsNoLoad};
+ghost use Rattle.sf_program.specs.Outcome.{Ends, Refuses};
 ghost use Rattle.sf_program.specs.Reading.{Said};
-ghost use Rattle.sf_program.specs.Shaped.{IsCurveText, IsShaped, ShapeRead, TokensRead, expr_refusal};
+ghost use Rattle.sf_program.specs.Shaped.{IsCurveText, TokensRead, expr_refusal};
 ghost use Rattle.sf_program.specs.Shaped.{least_line, point_line};
-ghost use Rattle.sf_program.specs.Stores.{stored_in};
 
 use crate::designs::read_design;
 use crate::reading::load_text;
@@ -67,8 +68,7 @@ fn read_tokens_file<S: Shelf>(
     ensures tokens { Ends (λ v. v.items) result
         (TokensRead (S.seen shelf.old).holds name.now (block_count design.now)) }
     ensures normal { IfOk result (λ v. IsNormal (block_count design.now) v.items) }
-    ensures read { Reads (S.seen shelf.old) (S.seen shelf.new) }
-    ensures tells { IfErr result (TellsLoads (S.seen shelf.old) (S.seen shelf.new)) }
+    ensures shelf { ReadsShelf (S.seen shelf.old) (S.seen shelf.new) result }
 {
     let text = load_text(alloc, shelf, name)?;
     parse_tokens(alloc, &text, design)
@@ -122,13 +122,8 @@ fn curve_text(alloc: Global, curve: &Curve) -> Result<Vec<u8>, NoMemory>
 
 /// The shape curve of the named expression over the blocks of the named design. Nothing is stored.
 pub fn shape<S: Shelf>(alloc: Global, words: &ShapeWords<'_>, shelf: &mut S) -> Result<Work, Stop>
-    ensures answer { IfOk result (λ w.
-        IsShaped (shape_seen words.now) (S.seen shelf.old).holds w.status w.text.items) }
-    ensures stores { IfOk result (λ w. stored_in w.stores.items ≡ []) }
-    ensures refused { IfErr result (λ stop.
-        Stops stop (λ why. ShapeRead (S.seen shelf.old).holds (shape_seen words.now) (Err why))) }
-    ensures read { Reads (S.seen shelf.old) (S.seen shelf.new) }
-    ensures tells { IfErr result (TellsLoads (S.seen shelf.old) (S.seen shelf.new)) }
+    ensures answer { Obeys (shape (shape_seen words.now)) (S.seen shelf.old).holds result }
+    ensures shelf { ReadsShelf (S.seen shelf.old) (S.seen shelf.new) result }
 {
     let areas_alone = WeightWords {
         area: 1,

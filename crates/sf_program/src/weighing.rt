@@ -1,8 +1,8 @@
 //! The weights of nets: those of the named file, or 1 for each.
 
-ghost use Rattle.std.specs.Prelude.{◌≡◌, Some, IfErr, IfOk, length};
+ghost use Rattle.std.specs.Prelude.{◌≡◌, Some, IfOk, length};
 ghost use Rattle.sf_words.specs.Seen.{text_of};
-ghost use Rattle.sf_program.specs.Loads.{Reads, TellsLoads};
+ghost use Rattle.sf_program.specs.Loads.{ReadsShelf};
 ghost use Rattle.sf_program.specs.Outcome.{Ends};
 ghost use Rattle.sf_program.specs.Reading.{WeightsRead};
 
@@ -23,8 +23,7 @@ pub fn read_net_weights<S: Shelf>(
     ensures weights { Ends (λ v. v.items) result
         (WeightsRead (S.seen shelf.old).holds (text_of name.entry) nets) }
     ensures one_each { IfOk result (λ v. length v.items ≡ nets) }
-    ensures read { Reads (S.seen shelf.old) (S.seen shelf.new) }
-    ensures tells { IfErr result (TellsLoads (S.seen shelf.old) (S.seen shelf.new)) }
+    ensures shelf { ReadsShelf (S.seen shelf.old) (S.seen shelf.new) result }
 {
     match name {
         None => Ok(same_weights(alloc, nets)?),
@@ -40,8 +39,7 @@ fn read_weights_file<S: Shelf>(
 ) -> Result<Vec<u8>, Stop>
     ensures weights { Ends (λ v. v.items) result (WeightsRead (S.seen shelf.old).holds (Some name.now) nets) }
     ensures one_each { IfOk result (λ v. length v.items ≡ nets) }
-    ensures read { Reads (S.seen shelf.old) (S.seen shelf.new) }
-    ensures tells { IfErr result (TellsLoads (S.seen shelf.old) (S.seen shelf.new)) }
+    ensures shelf { ReadsShelf (S.seen shelf.old) (S.seen shelf.new) result }
 {
     let text = load_text(alloc, shelf, name)?;
     parse_weights(alloc, &text, nets as u64)

@@ -6,19 +6,14 @@ use Rattle.sf_words.specs.Seen.{check_seen}
 use Rattle.sf_program.specs.Checked.{CertRead, JudgedFile}
 use Rattle.sf_program.specs.Outcome.{Stops}
 use Rattle.sf_program.specs.Stores.{stored_in}
-use Rattle.sf_program.proofs.Pieces.{check-stops, check-told}
+use Rattle.sf_program.proofs.Pieces.{check-obeyed}
 use Rattle.sf_program.proofs.checking.check.Goals as goal
 
 pub returns-clause-answer : goal.returns-clause-answer
 returns-clause-answer g c =
     let o = check_seen c.args.words.now in
     let design = c.in_ok-design.design in
-    check-told (g.S.Shelf.seen c.args.shelf.now).holds o design c.in_ok-design.ensures.design c.check_file.result
-    (subst (λ (h : Option Contents). IfOk c.check_file.result (λ w. JudgedFile h o.cert design o.rewrite w.status (stored_in w.stores.items) w.text.items)) c.in_ok-design.ensures.read.unchanged c.check_file.ensures.answer)
-
-pub returns-clause-refused : goal.returns-clause-refused
-returns-clause-refused g c =
-    let o = check_seen c.args.words.now in
-    let design = c.in_ok-design.design in
-    check-stops (g.S.Shelf.seen c.args.shelf.now).holds o design c.in_ok-design.ensures.design c.check_file.result
-    (subst (λ (h : Option Contents). IfErr c.check_file.result (λ stop. Stops stop (λ why. CertRead h o.cert (block_count design) (Err why)))) c.in_ok-design.ensures.read.unchanged c.check_file.ensures.refused)
+    let same = c.in_ok-design.ensures.shelf.0.unchanged in
+    check-obeyed (g.S.Shelf.seen c.args.shelf.now).holds o design c.in_ok-design.ensures.design c.check_file.result
+    (subst (λ (h : Option Contents). IfOk c.check_file.result (λ w. JudgedFile h o.cert design o.rewrite w.status (stored_in w.stores.items) w.text.items)) same c.check_file.ensures.answer)
+    (subst (λ (h : Option Contents). IfErr c.check_file.result (λ stop. Stops stop (λ why. CertRead h o.cert (block_count design) (Err why)))) same c.check_file.ensures.refused)

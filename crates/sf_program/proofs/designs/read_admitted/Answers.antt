@@ -1,4 +1,5 @@
+use Rattle.sf_program.proofs.Stages.{uncounted}
 use Rattle.sf_program.proofs.designs.read_admitted.Goals as goal
 
-pub returns-clause-tells : goal.returns-clause-tells
-returns-clause-tells g c = c.admit.ensures.tells _ _
+pub returns-clause-shelf : goal.returns-clause-shelf
+returns-clause-shelf g c = (c.in_ok-read.ensures.shelf.0, uncounted c.admit.result _ _ c.admit.ensures.tells)

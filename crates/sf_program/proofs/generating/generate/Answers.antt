@@ -19,21 +19,6 @@ returns-in_err-design-clause-refused g c =
     let p = err_from_is_err_and c.from_residual-in_err-design.result c.from_residual-in_err-design.ensures.1 in
     rw (p.1, p.2) (never-stops (λ why. GenRead (gen_seen c.args.words.now) (Err why)) c.in_err-design.field-0.0 c.in_err-design.ensures.never)
 
-pub returns-in_err-parts-clause-tells : goal.returns-in_err-parts-clause-tells
-returns-in_err-parts-clause-tells g c = λ before after.
-    let p = err_from_is_err_and c.from_residual-in_err-parts.result c.from_residual-in_err-parts.ensures.1 in
-    rw (p.1, p.2) (c.in_err-parts.ensures.tells before after)
-
-pub returns-in_err-design-clause-tells : goal.returns-in_err-design-clause-tells
-returns-in_err-design-clause-tells g c = λ before after.
-    let p = err_from_is_err_and c.from_residual-in_err-design.result c.from_residual-in_err-design.ensures.1 in
-    rw (p.1, p.2) (c.in_err-design.ensures.tells before after)
-
-pub returns-in_err-test_budget-clause-tells : goal.returns-in_err-test_budget-clause-tells
-returns-in_err-test_budget-clause-tells g c = λ before after.
-    let p = err_from_is_err_and c.from_residual.result c.from_residual.ensures.1 in
-    rw (p.1, p.2) (c.in_err-test_budget.ensures.tells before after)
-
 pub returns-clause-answer : goal.returns-clause-answer
 returns-clause-answer g c =
     let words = c.args.words.now in

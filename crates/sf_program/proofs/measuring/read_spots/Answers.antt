@@ -3,6 +3,7 @@ use Rattle.std.specs.List.{All}
 use Rattle.sf_gsrc.specs.declared.output.Place.{Place}
 use Rattle.sf_program.specs.PlacedLines.{IsNear}
 use Rattle.sf_program.proofs.NearPlaces.{read_near}
+use Rattle.sf_program.proofs.Stages.{uncounted}
 use Rattle.sf_program.proofs.measuring.read_spots.Goals as goal
 
 pub place_blocks-requires-clause-near : goal.place_blocks-requires-clause-near
@@ -11,5 +12,5 @@ place_blocks-requires-clause-near g c =
     read_near (g.S.Shelf.seen c.args.shelf.now).holds (codes "placed") c.args.words.now.design.per_unit c.args.words.now.placed.now c.in_ok-file.file c.in_ok-file.ensures.places in
     subst (λ (lines : List Place). All IsNear lines) (sym c.as_slice-2.ensures) near
 
-pub returns-clause-tells : goal.returns-clause-tells
-returns-clause-tells g c = c.place_blocks.ensures.tells _ _
+pub returns-clause-shelf : goal.returns-clause-shelf
+returns-clause-shelf g c = (c.in_ok-file.ensures.shelf.0, uncounted c.place_blocks.result _ _ c.place_blocks.ensures.tells)

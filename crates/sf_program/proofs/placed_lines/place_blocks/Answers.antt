@@ -2,7 +2,6 @@ use Rattle.std.proofs.Common.{◌≡◌, arith, sym, subst, true}
 use Rattle.std.specs.Prelude.{is_some}
 use Rattle.sf_model.specs.declared.parts.Block.{Block}
 use Rattle.sf_names.specs.Values.{value_in}
-use Rattle.std.proofs.lemmas.Result.{err_from_is_err_and}
 use Rattle.sf_program.proofs.Placing.{one_spot_more, numbered_more, near_more}
 use Rattle.sf_program.proofs.placed_lines.place_blocks.Goals as goal
 
@@ -25,9 +24,3 @@ loop-number-preserved c =
       by_number = numbered_more old new c.in_ok-spot.spot i was.by_number c.in_ok-spot.ensures.block c.in_ok-push.ensures.items;
       near = near_more old new c.in_ok-spot.spot was.near c.in_ok-spot.ensures.near c.in_ok-push.ensures.items;
     }
-
-pub returns-in_err-spot-clause-tells : goal.returns-in_err-spot-clause-tells
-returns-in_err-spot-clause-tells c = λ before after.
-    let t = c.in_err-spot.ensures.tells before after in
-    let p = err_from_is_err_and c.from_residual-in_err-spot.result c.from_residual-in_err-spot.ensures.1 in
-    rw (p.1, p.2) t

@@ -1,4 +1,5 @@
+use Rattle.sf_program.proofs.Stages.{uncounted}
 use Rattle.sf_program.proofs.planning.read_plan.Goals as goal
 
-pub returns-clause-tells : goal.returns-clause-tells
-returns-clause-tells g c = c.within_budget.ensures.tells _ _
+pub returns-clause-shelf : goal.returns-clause-shelf
+returns-clause-shelf g c = (c.in_ok-read.ensures.shelf.0, uncounted c.within_budget.result _ _ c.within_budget.ensures.tells)

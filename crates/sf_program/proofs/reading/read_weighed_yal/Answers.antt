@@ -13,7 +13,7 @@ returns-in_err-net_weights-clause-parts g c =
     let parts = c.in_ok-parts.parts in
     let stop = c.in_err-net_weights.field-0.0 in
     let p = err_from_is_err_and c.from_residual-in_err-net_weights.result c.from_residual-in_err-net_weights.ensures.1 in
-    let here = subst (λ h. Stops stop (λ why. WeightsRead h weights (length c.as_slice-nets.result.now) (Err why))) c.in_ok-parts.ensures.read.unchanged c.in_err-net_weights.ensures.weights in
+    let here = subst (λ h. Stops stop (λ why. WeightsRead h weights (length c.as_slice-nets.result.now) (Err why))) c.in_ok-parts.ensures.shelf.0.unchanged c.in_err-net_weights.ensures.weights in
     let failed = subst (λ (nets : ℕ). Stops stop (λ why. WeightsRead held weights nets (Err why))) (ap length c.as_slice-nets.ensures) here in
     rw (p.1, p.2)
     (stops-map (λ why. WeightsRead held weights (length parts.nets) (Err why)) (λ why. YalWeighed held c.args.scale.per_unit c.args.file.now weights (Err why)) (λ why q. inl (parts, c.in_ok-parts.ensures.parts, inr (why, q, refl))) stop failed)

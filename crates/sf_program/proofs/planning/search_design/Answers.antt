@@ -1,8 +1,8 @@
 use Rattle.std.proofs.Common.{◌<◌, ◌≤◌, sym, subst, ◌∙◌}
-use Rattle.sf_program.proofs.planning.searched.Goals as goal
+use Rattle.sf_program.proofs.planning.search_design.Goals as goal
 
-pub answered-requires-clause-searched : goal.answered-requires-clause-searched
-answered-requires-clause-searched g c =
+pub tell_found-requires-clause-searched : goal.tell_found-requires-clause-searched
+tell_found-requires-clause-searched g c =
     let found = c.in_ok-found.found in
     let e = c.in_ok-found.ensures.found in
     record {

@@ -1,7 +1,7 @@
 use Rattle.std.proofs.Common.{sym, ◌∙◌}
 use Rattle.sf_words.specs.Seen.{text_of}
 use Rattle.sf_program.proofs.Told.{bound-below, told-answered}
-use Rattle.sf_program.proofs.planning.answered.Goals as goal
+use Rattle.sf_program.proofs.planning.tell_found.Goals as goal
 
 pub ending_of-requires : goal.ending_of-requires
 ending_of-requires c = bound-below c.args.design.now c.args.options.workers c.args.options.nodes c.args.found.cert c.requires.searched
