@@ -1,9 +1,10 @@
 -- The spots of a plan by block number: the same wire, the same ends, and a legal placement.
 use Rattle.std.proofs.Common.{length-append, ◌≡◌, ℕ, suc, ◌+◌, ◌*◌, ◌<◌, ◌≤◌, max, List, [], ◌∷◌, map, length, get_or, All, AllPairs, arith, refl, sym, ap, subst, ◌∙◌, ◌==◌, cond, inl, inr}
 use Prim.Native.Nat.{zero}
-use Rattle.std.specs.Prelude.{count_by, Contains, slice_set, pos, ◌+ℤ◌, ◌*ℤ◌, nat_abs, sum_by}
+use Rattle.std.specs.Prelude.{count_by, Contains, slice_set, pos, ◌+ℤ◌, nat_abs, sum_by}
 use Rattle.std.specs.List.{AllByRecursion, range_with_len}
-use Rattle.std.proofs.lemmas.Bool.{cases_eq, cases_lt}
+use Rattle.std.proofs.lemmas.Bool.{cases_lt}
+use Rattle.std.proofs.lemmas.Bool.Decides.{nat_tests}
 use Rattle.std.proofs.lemmas.Int.{ints}
 use Rattle.std.proofs.lemmas.List.{get_or-set_same, get_or-set_other, length-set}
 use Rattle.std.proofs.lemmas.List.Sums.{sum_by-append, sum_by-cons}
@@ -12,7 +13,6 @@ use Rattle.std.proofs.lemmas.List.FromFn.{fill_by_all, length-map-range_with_len
 use Rattle.sf_model.specs.declared.design.Design.{Design}
 use Rattle.sf_model.specs.declared.parts.Net.{Net}
 use Rattle.sf_model.specs.declared.parts.Pin.{Pin}
-use Rattle.sf_model.specs.declared.parts.Pin.TheVariants as pin
 use Rattle.sf_model.specs.declared.parts.Shape.{Shape}
 use Rattle.sf_model.specs.declared.plan.Spot.{Spot}
 use Rattle.sf_model.specs.Tree.{Tree, Leaf, Beside, Above, width, height, leaves, leaf_count, spots_at, spots_of, Overlaps, IsInside}
@@ -25,38 +25,13 @@ use Rattle.sf_model.proofs.Ends.{right_end-spots_of, upper_end-spots_of}
 use Rattle.sf_model.proofs.Counting.{length-leaves_once}
 use Rattle.sf_place.specs.Spots.{IsByNumber, by_number, with_spots}
 use Rattle.sf_place.specs.Verdict.{AreLegal, IsListed, LiesIn}
-use Rattle.sf_place.proofs.Found.{count, count-same, count-other, spot_of-same, spot_of-other, block-spot_of, spot_of-all, spot_of-none, spot_of-pair, greatest, greatest-same}
-use Rattle.sf_place.proofs.Numbered.{spot_of_numbered}
-
--- a list by number has each block once at most
-count-before : (a n : ℕ) (ss : List Spot) → map (λ s. s.block) ss ≡ range_with_len a n → (b : ℕ) → b < a → count b ss ≡ 0
-count-before a n [] e b h = refl
-count-before a zero (s ∷ ss) e b h = cc
-count-before a (suc n) (s ∷ ss) e b h =
-    let is : s.block ≡ a = cc in
-    let tail : map (λ s. s.block) ss ≡ range_with_len (a + 1) n = cc in
-    omega (arith, count-other b s ss (λ q. absurd (omega (arith, is, q, h))), count-before (a + 1) n ss tail b (omega arith))
-
--- no block is there twice
-count-few : (a n : ℕ) (ss : List Spot) → map (λ s. s.block) ss ≡ range_with_len a n → (b : ℕ) → count b ss ≤ 1
-count-few a n [] e b = omega arith
-count-few a zero (s ∷ ss) e b = cc
-count-few a (suc n) (s ∷ ss) e b =
-    let is : s.block ≡ a = cc in
-    let tail : map (λ s. s.block) ss ≡ range_with_len (a + 1) n = cc in
-    elim (cases_eq s.block b) [
-      | inl q ↦ omega (arith, count-same b s ss q, count-before (a + 1) n ss tail b (omega (arith, is, q)))
-      | inr q ↦ omega (arith, count-other b s ss q, count-few (a + 1) n ss tail b)
-    ]
+use Rattle.sf_place.proofs.Found.{count, count-cons, block-spot_of, spot_of-all, spot_of-none, spot_of-pair, greatest, greatest-each, greatest-least, end-most}
+use Rattle.sf_place.proofs.Numbered.{spot_of_numbered, block_numbered}
 
 -- spots of given blocks stand by number
 blocks-map : (f : ℕ → Spot) → ((b : ℕ) → (f b).block ≡ b) → (a n : ℕ) → map (λ s. s.block) (map f (range_with_len a n)) ≡ range_with_len a n
 blocks-map f is a zero = refl
 blocks-map f is a (suc n) = let h = is a in let t = blocks-map f is (a + 1) n in cc
-
--- spots looked up by number stand by number
-blocks-by_number : (n : ℕ) (ss : List Spot) → map (λ s. s.block) (by_number n ss) ≡ range_with_len 0 n
-blocks-by_number n ss = blocks-map (λ b. spot_of b ss) (λ b. block-spot_of b ss) 0 n
 
 -- there are as many spots as blocks
 length-by_number : (n : ℕ) (ss : List Spot) → length (by_number n ss) ≡ n
@@ -64,27 +39,29 @@ length-by_number n ss = length-map-range_with_len (λ b. spot_of b ss) 0 n
 
 -- the list is one by number
 numbered-by_number : (n : ℕ) (ss : List Spot) → IsByNumber (by_number n ss)
-numbered-by_number n ss = blocks-by_number n ss ∙ ap (range_with_len 0) (sym (length-by_number n ss))
+numbered-by_number n ss = blocks-map (λ b. spot_of b ss) (λ b. block-spot_of b ss) 0 n ∙ ap (range_with_len 0) (sym (length-by_number n ss))
 
 -- at each place stands the spot of that block
 pub get-by_number : (n : ℕ) (ss : List Spot) (k : ℕ) (d : Spot) → k < n → get_or (by_number n ss) k d ≡ spot_of k ss
 get-by_number n ss k d h = get_or-map-range_with_len (λ b. spot_of b ss) 0 n k k d h (omega arith)
 
--- a number past the last block has no spot
-count-past : (a n b : ℕ) (ss : List Spot) → map (λ s. s.block) ss ≡ range_with_len a n → a + n ≤ b → count b ss ≡ 0
-count-past a n b [] e h = refl
-count-past a zero b (s ∷ ss) e h = cc
-count-past a (suc n) b (s ∷ ss) e h =
-    let is : s.block ≡ a = cc in
-    let tail : map (λ s. s.block) ss ≡ range_with_len (a + 1) n = cc in
-    omega (arith, count-other b s ss (λ q. absurd (omega (arith, is, q, h))), count-past (a + 1) n b ss tail (omega arith))
+-- a number past all blocks has no spot
+none-past : (n : ℕ) (ss : List Spot) → AllByRecursion (λ s. s.block < n) ss → (b : ℕ) → n ≤ b → count b ss ≡ 0
+none-past n [] a b h = refl
+none-past n (s ∷ ss) a b h = grind (arith, nat_tests, a.0, count-cons b s ss, none-past n ss a.1 b h)
+
+-- each spot of the list is of a lower number
+below-by_number : (n : ℕ) (ss : List Spot) → AllByRecursion (λ s. s.block < n) (by_number n ss)
+below-by_number n ss =
+    recursion_from_All (λ s. s.block < n) (by_number n ss)
+    (λ k d h. omega (arith, h, length-by_number n ss, block_numbered (by_number n ss) k d (numbered-by_number n ss) h))
 
 -- each block has the same spot
 pub spot_of-by_number : (n : ℕ) (ss : List Spot) → ((b : ℕ) → n ≤ b → count b ss ≡ 0) → (b : ℕ) → spot_of b (by_number n ss) ≡ spot_of b ss
 spot_of-by_number n ss none b =
     elim (cases_lt b n) [
       | inl h ↦ spot_of_numbered (by_number n ss) b (spot_of b []) (numbered-by_number n ss) (omega (arith, h, length-by_number n ss)) ∙ get-by_number n ss b (spot_of b []) h
-      | inr h ↦ spot_of-none b (by_number n ss) (count-past 0 n b (by_number n ss) (blocks-by_number n ss) (omega arith)) ∙ sym (spot_of-none b ss (none b h))
+      | inr h ↦ spot_of-none b (by_number n ss) (none-past n (by_number n ss) (below-by_number n ss) b h) ∙ sym (spot_of-none b ss (none b h))
     ]
 
 -- the wire depends on the spot of each block alone
@@ -92,14 +69,12 @@ module _ (design : Design) (xs ys : List Spot) (same : (b : ℕ) → spot_of b x
   -- each pin lies at the same place across
   pins_x-same : (pins : List Pin) → map (pin_x design xs) pins ≡ map (pin_x design ys) pins
   pins_x-same [] = refl
-  pins_x-same (pin.Block b ∷ ps) = let h = ap (λ s. pos 2 *ℤ s.x +ℤ pos s.w) (same b) in let t = pins_x-same ps in cc
-  pins_x-same (pin.Pad p ∷ ps) = let t = pins_x-same ps in cc
+  pins_x-same (p ∷ ps) = grind (arith, same, pins_x-same ps)
 
   -- and upward
   pins_y-same : (pins : List Pin) → map (pin_y design xs) pins ≡ map (pin_y design ys) pins
   pins_y-same [] = refl
-  pins_y-same (pin.Block b ∷ ps) = let h = ap (λ s. pos 2 *ℤ s.y +ℤ pos s.h) (same b) in let t = pins_y-same ps in cc
-  pins_y-same (pin.Pad p ∷ ps) = let t = pins_y-same ps in cc
+  pins_y-same (p ∷ ps) = grind (arith, same, pins_y-same ps)
 
   -- each net has the same wire
   net-same : (net : Net) → net_wire design xs net ≡ net_wire design ys net
@@ -109,13 +84,8 @@ module _ (design : Design) (xs ys : List Spot) (same : (b : ℕ) → spot_of b x
   nets-same : (nets : List Net) → sum_by (weighed_wire design xs) nets ≡ sum_by (weighed_wire design ys) nets
   nets-same [] = refl
   nets-same (net ∷ nets) =
-      omega (
-        arith,
-        sum_by-cons (weighed_wire design xs) net nets,
-        sum_by-cons (weighed_wire design ys) net nets,
-        ap (λ v. net.weight * v) (net-same net),
-        nets-same nets,
-      )
+      let first = ap (λ v. net.weight * v) (net-same net) in
+      omega (arith, first, nets-same nets, sum_by-cons (weighed_wire design xs) net nets, sum_by-cons (weighed_wire design ys) net nets)
 
   -- so the wires are the same
   pub wire-same : wire design xs ≡ wire design ys
@@ -149,11 +119,6 @@ spots-each P x y (Above l r) a =
     each-append _ (spots_at x y l) (spots_at x (y + height l) r)
     (spots-each P x y l (each-left _ (leaves l) (leaves r) a)) (spots-each P x (y + height l) r (each-right _ (leaves l) (leaves r) a))
 
--- a number past all blocks has no spot
-none-past : (n : ℕ) (ss : List Spot) → AllByRecursion (λ s. s.block < n) ss → (b : ℕ) → n ≤ b → count b ss ≡ 0
-none-past n [] a b h = refl
-none-past n (s ∷ ss) a b h = omega (arith, count-other b s ss (λ q. absurd (omega (arith, q, h, a.0))), none-past n ss a.1 b h)
-
 -- what holds of each two places holds of each two elements in their order
 recursion_from_AllPairs : {X : Type 0} (R : X → X → Type 0) (xs : List X) → AllPairs R xs → EachPair R xs
 recursion_from_AllPairs R [] p = tt
@@ -181,7 +146,7 @@ module _ (n : ℕ) (tree : Tree) (once : HasEachOnce n tree) where
 
   -- no number has more than one
   few : (b : ℕ) → count b (spots_of tree) ≤ 1
-  few b = elim (cases_lt b n) [ inl h ↦ omega (arith, one b h) | inr h ↦ omega (arith, none b h) ]
+  few b = grind (arith, one b, none b)
 
   -- each block has the same spot in the list by number
   pub plan-spot_of : (b : ℕ) → spot_of b (by_number n (spots_of tree)) ≡ spot_of b (spots_of tree)
@@ -191,11 +156,18 @@ module _ (n : ℕ) (tree : Tree) (once : HasEachOnce n tree) where
   pub plan-wire : (design : Design) → wire design (by_number n (spots_of tree)) ≡ wire design (spots_of tree)
   plan-wire design = wire-same design (by_number n (spots_of tree)) (spots_of tree) plan-spot_of
 
+  -- what holds of the spot of each block holds of each in the list
+  by_number-each : (P : Spot → Type 0) → ((b : ℕ) → b < n → P (spot_of b (spots_of tree))) → All P (by_number n (spots_of tree))
+  by_number-each P f k d h = let low : k < n = omega (arith, h, length-by_number n (spots_of tree)) in subst P (sym (get-by_number n (spots_of tree) k d low)) (f k low)
+
   -- the greatest end is the same in the list by number
   same_greatest : (end : Spot → ℕ) → ((b : ℕ) → end (spot_of b []) ≡ 0) → greatest end (by_number n (spots_of tree)) ≡ greatest end (spots_of tree)
   same_greatest end nowhere =
-      greatest-same end nowhere (by_number n (spots_of tree)) (spots_of tree)
-      (count-few 0 n (by_number n (spots_of tree)) (blocks-by_number n (spots_of tree))) few plan-spot_of
+      let ss = spots_of tree in
+      let most = greatest end ss in
+      let up = greatest-each end most (by_number n ss) (recursion_from_All (λ s. end s ≤ most) (by_number n ss) (by_number-each (λ s. end s ≤ most) (λ b h. end-most end nowhere b ss))) in
+      let down = greatest-least end nowhere (greatest end (by_number n ss)) ss few (λ b. omega (arith, ap end (plan-spot_of b), end-most end nowhere b (by_number n ss))) in
+      omega (arith, up, down)
 
   -- the right end is the width of the plan
   plan-right : right_end (by_number n (spots_of tree)) ≡ width tree
@@ -211,26 +183,22 @@ module _ (n : ℕ) (tree : Tree) (once : HasEachOnce n tree) where
 
   -- what holds of each spot of the plan holds of each in the list
   by_number-all : (P : Spot → Type 0) → AllByRecursion P (spots_of tree) → All P (by_number n (spots_of tree))
-  by_number-all P a k d h =
-      let lt : k < n = omega (arith, h, length-by_number n (spots_of tree)) in
-      subst P (sym (get-by_number n (spots_of tree) k d lt)) (spot_of-all P k (spots_of tree) a (omega (arith, one k lt)))
+  by_number-all P a = by_number-each P (λ b h. spot_of-all P b (spots_of tree) a (omega (arith, one b h)))
 
   -- no two in the list overlap
   by_number-apart : AllPairs (λ s t. ¬ (Overlaps s t)) (by_number n (spots_of tree))
   by_number-apart i j d h k =
+      let R : Spot → Spot → Type 0 = λ s t. ¬ (Overlaps s t) in
       let j_low : j < n = omega (arith, k, length-by_number n (spots_of tree)) in
       let i_low : i < n = omega (arith, h, j_low) in
-      let R : Spot → Spot → Type 0 = λ s t. ¬ (Overlaps s t) in
-      subst (λ v. R v (get_or (by_number n (spots_of tree)) j d)) (sym (get-by_number n (spots_of tree) i d i_low))
-      (subst (R (spot_of i (spots_of tree))) (sym (get-by_number n (spots_of tree) j d j_low))
+      rw (get-by_number n (spots_of tree) i d i_low, get-by_number n (spots_of tree) j d j_low)
       (spot_of-pair R turned i j (λ e. absurd (omega (arith, e, h))) (spots_of tree)
-      (recursion_from_AllPairs R (spots_of tree) (spots-apart tree)) (omega (arith, one i i_low)) (omega (arith, one j j_low))))
+      (recursion_from_AllPairs R (spots_of tree) (spots-apart tree)) (omega (arith, one i i_low)) (omega (arith, one j j_low)))
 
 -- what lies inside a size lies inside a larger outline
 wider : (outline_w outline_h w h : ℕ) → w ≤ outline_w → h ≤ outline_h → (s : Spot) → IsInside w h s → IsInside outline_w outline_h s
 wider a b w h p q s i =
-    let r = i.right in let u = i.above in
-    record { left = i.left; right = omega (arith, ints); below = i.below; above = omega (arith, ints) }
+    record { left = i.left; right = grind (arith, ints, i.right); below = i.below; above = grind (arith, ints, i.above) }
 
 -- the spots of a floorplan that fits are a legal placement
 pub plan-legal : (design : Design) (tree : Tree) → IsLegal design tree → Fits design.outline tree → AreLegal design (by_number (block_count design) (spots_of tree))
@@ -263,19 +231,14 @@ length-placed old (s ∷ ss) = length-placed (slice_set old s.block s) ss ∙ le
 -- a place whose block has no spot stays as it was
 untouched : (b : ℕ) (old ss : List Spot) (d : Spot) → count b ss ≡ 0 → get_or (with_spots old ss) b d ≡ get_or old b d
 untouched b old [] d h = refl
-untouched b old (s ∷ ss) d h = elim (cases_eq s.block b) [
-  | inl e ↦ absurd (omega (arith, h, count-same b s ss e))
-  | inr n ↦ untouched b (slice_set old s.block s) ss d (omega (arith, h, count-other b s ss n)) ∙ get_or-set_other old s.block b s d (λ q. n (sym q))
-]
+untouched b old (s ∷ ss) d h = grind (arith, nat_tests, count-cons b s ss, untouched b (slice_set old s.block s) ss d, get_or-set_other old s.block b s d)
 
 -- a place whose block has one spot has this spot
 written : (b : ℕ) (old ss : List Spot) (d : Spot) → b < length old → count b ss ≡ 1 → get_or (with_spots old ss) b d ≡ spot_of b ss
 written b old [] d l h = absurd (omega (arith, h))
-written b old (s ∷ ss) d l h = elim (cases_eq s.block b) [
-  | inl e ↦ untouched b (slice_set old s.block s) ss d (omega (arith, h, count-same b s ss e))
-      ∙ subst (λ v. get_or (slice_set old v s) b d ≡ s) (sym e) (get_or-set_same old b s d l) ∙ sym (spot_of-same b s ss e)
-  | inr n ↦ written b (slice_set old s.block s) ss d (omega (arith, l, length-set old s.block s)) (omega (arith, h, count-other b s ss n)) ∙ sym (spot_of-other b s ss n)
-]
+written b old (s ∷ ss) d l h =
+    let more = slice_set old s.block s in
+    grind (arith, nat_tests, count-cons b s ss, untouched b more ss d, written b more ss d, get_or-set_same old s.block s d, length-set old s.block s)
 
 -- spots written at their blocks' numbers stand by number
 pub plan-placed : (n : ℕ) (tree : Tree) → HasEachOnce n tree → (old : List Spot) → length old ≡ n → with_spots old (spots_of tree) ≡ by_number n (spots_of tree)

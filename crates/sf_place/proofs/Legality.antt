@@ -1,5 +1,5 @@
 -- A legal placement has no fault.
-use Rattle.std.proofs.Common.{ℕ, ◌<◌, List, [], length, get_or, All, AllPairs, subst, sym, arith}
+use Rattle.std.proofs.Common.{ℕ, List, [], All, AllPairs, subst, sym, arith}
 use Rattle.sf_model.specs.declared.plan.Spot.{Spot}
 use Rattle.sf_model.specs.Tree.{Overlaps}
 use Rattle.sf_model.specs.Wire.{spot_of}
@@ -17,9 +17,5 @@ pub none_over : (spots : List Spot) (a b : ℕ) → IsByNumber spots → AllPair
 none_over spots a b e apart least =
     let f = least.pair in
     let d = spot_of a [] in
-    let R : Spot → Spot → Type 0 = λ s t. ¬ (Overlaps s t) in
-    let a_low : a < length spots = omega (arith, f.in_order, f.in_range) in
-    let none : R (spot_of a spots) (spot_of b spots) =
-    subst (λ v. R v (spot_of b spots)) (sym (spot_of_numbered spots a d e a_low))
-    (subst (R (get_or spots a d)) (sym (spot_of_numbered spots b d e f.in_range)) (apart a b d f.in_order f.in_range)) in
-    none f.overlap
+    let first = spot_of_numbered spots a d e (omega (arith, f.in_order, f.in_range)) in
+    apart a b d f.in_order f.in_range (rw (first, spot_of_numbered spots b d e f.in_range) at f.overlap)

@@ -1,6 +1,5 @@
 -- Spots by number have one verdict.
-use Rattle.std.proofs.Common.{◌≡◌, ℕ, inl, inr, List, All, ap, ◌∙◌, refl, subst}
-use Rattle.std.proofs.lemmas.Bool.{cases_order}
+use Rattle.std.proofs.Common.{◌≡◌, ℕ, ◌<◌, List, All, ap, ◌∙◌, refl, subst, arith}
 use Rattle.sf_model.specs.declared.design.Design.{Design}
 use Rattle.sf_model.specs.declared.plan.Spot.{Spot}
 use Rattle.sf_place.specs.declared.verdict.Verdict.{Verdict}
@@ -12,29 +11,23 @@ use Rattle.sf_place.proofs.Legality.{none_without, none_over}
 -- one block is the first whose spot is not as P says
 one-without : (P : Spot → Type 0) (spots : List Spot) (a b : ℕ) → IsFirstWithout P spots a → IsFirstWithout P spots b → a ≡ b
 one-without P spots a b f g =
-    elim (cases_order a b) [
-      | inl e ↦ e
-      | inr other ↦ elim other [ inl less ↦ absurd (f.without (g.before a less)) | inr less ↦ absurd (g.without (f.before b less)) ]
-    ]
+    let above : ¬ (a < b) = λ less. f.without (g.before a less) in
+    let below : ¬ (b < a) = λ less. g.without (f.before b less) in
+    omega (arith, above, below)
 
 -- one block is the first after a whose spot overlaps that of a
 one-over : (spots : List Spot) (a b d : ℕ) → IsFirstOverlapping spots a b → IsFirstOverlapping spots a d → b ≡ d
 one-over spots a b d f g =
-    elim (cases_order b d) [
-      | inl e ↦ e
-      | inr other ↦ elim other [ inl less ↦ absurd (g.nearer b f.in_order less f.overlap) | inr less ↦ absurd (f.nearer d g.in_order less g.overlap) ]
-    ]
+    let above : ¬ (b < d) = λ less. g.nearer b f.in_order less f.overlap in
+    let below : ¬ (d < b) = λ less. f.nearer d g.in_order less g.overlap in
+    omega (arith, above, below)
 
 -- the first blocks of two least pairs are the same
 one-first : (spots : List Spot) (a b c d : ℕ) → IsLeastPair spots a b → IsLeastPair spots c d → a ≡ c
 one-first spots a b c d f g =
-    elim (cases_order a c) [
-      | inl e ↦ e
-      | inr other ↦ elim other [
-        | inl less ↦ absurd (g.earlier a less b f.pair.in_order f.pair.in_range f.pair.overlap)
-        | inr less ↦ absurd (f.earlier c less d g.pair.in_order g.pair.in_range g.pair.overlap)
-      ]
-    ]
+    let above : ¬ (a < c) = λ less. g.earlier a less b f.pair.in_order f.pair.in_range f.pair.overlap in
+    let below : ¬ (c < a) = λ less. f.earlier c less d g.pair.in_order g.pair.in_range g.pair.overlap in
+    omega (arith, above, below)
 
 -- one pair is the first that overlaps
 one-pair : (spots : List Spot) (a b c d : ℕ) → IsLeastPair spots a b → IsLeastPair spots c d → verdict.Overlap a b ≡ verdict.Overlap c d
@@ -46,11 +39,11 @@ one-pair spots a b c d f g =
 module _ (design : Design) (spots : List Spot) (numbered : IsByNumber spots) where
   -- where all sizes are listed no block is the first whose size is not
   unlisted : (b : ℕ) → All (IsListed design) spots → IsFirstWithout (IsListed design) spots b → ⊥
-  unlisted b all f = none_without (IsListed design) spots b numbered all f
+  unlisted b = none_without (IsListed design) spots b numbered
 
   -- where all spots lie in the outline no block is the first whose spot does not
   outside : (b : ℕ) → All (LiesIn design.outline) spots → IsFirstWithout (LiesIn design.outline) spots b → ⊥
-  outside b all f = none_without (LiesIn design.outline) spots b numbered all f
+  outside b = none_without (LiesIn design.outline) spots b numbered
 
   -- so spots by number have one verdict
   pub one-verdict : (v w : Verdict) → IsVerdict design spots v → IsVerdict design spots w → v ≡ w
