@@ -1,5 +1,5 @@
 -- What clap's texts mean is what the words mean.
-use Rattle.std.proofs.Common.{◌≡◌, List, Option, Some, None, IfSome, option_map, sym, ap, subst, ◌∙◌}
+use Rattle.std.proofs.Common.{◌≡◌, List, Option, Some, None, option_map, sym, ap, subst, ◌∙◌}
 use Rattle.clap.specs.Words.{Row, Text}
 use Rattle.sf_words.specs.declared.options.Mode.{Mode}
 use Rattle.sf_words.specs.Words.{Token, HasForm}
@@ -31,8 +31,3 @@ has_none m ts words rows form e none c meaning =
     let SayingIn : List Token → Type 0 = λ us. Says (value_in us) c in
     let Saying : Values → Type 0 = λ v. Says v c in
     none c same.0 (subst Saying (sym (texts_same m ts words rows form e)) (subst SayingIn same.1 meaning.2))
-
--- what holds of the value that is there, if one is, may be weakened
-pub some_weaker : {X : Type 0} {P Q : X → Type 0} (r : Option X) → ((x : X) → P x → Q x) → IfSome r P → IfSome r Q
-some_weaker None f h = tt
-some_weaker (Some x) f h = f x h

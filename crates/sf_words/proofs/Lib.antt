@@ -4,7 +4,6 @@ pub mod Tokens
 pub mod Numbers
 pub mod Lookup
 pub mod Unique
-pub mod Lexing
 pub mod Rules
 pub mod Steps
 pub mod Walks

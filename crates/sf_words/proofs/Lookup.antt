@@ -1,31 +1,23 @@
 -- The text of an option among others.
-use Rattle.std.proofs.Common.{◌≡◌, ◌≢◌, Bool, true, false, Option, Some, None, IfNone, refl, ap, arith}
+use Rattle.std.proofs.Common.{◌≡◌, ◌≢◌, true, false, Option, Some, None, IfNone, ap}
 use Rattle.std.specs.Str.{bytes_eq}
-use Rattle.std.specs.Bool.{Decides}
+use Rattle.std.proofs.lemmas.Bool.{false_from_ne_true}
 use Rattle.std.proofs.lemmas.Slice.Eq.{bytes_eq-Decides}
 use Rattle.sf_words.specs.declared.options.Key.{Key}
 use Rattle.sf_words.specs.Table.{Text, key_text}
 use Rattle.sf_words.proofs.Texts.{key_text-injective}
 
--- equal texts compare as equal
-pub bytes_eq-same : {xs ys : Text} → xs ≡ ys → bytes_eq xs ys ≡ true
-bytes_eq-same {xs = xs} {ys = ys} e = by_test (bytes_eq xs ys) refl (bytes_eq-Decides xs ys)
-  where
-    by_test : (b : Bool) → bytes_eq xs ys ≡ b → Decides b (xs ≡ ys) → bytes_eq xs ys ≡ true
-    by_test true h d = h
-    by_test false h d = absurd (grind arith)
-
 -- different texts compare as different
 pub bytes_eq-other : {xs ys : Text} → xs ≢ ys → bytes_eq xs ys ≡ false
-bytes_eq-other {xs = xs} {ys = ys} ne = by_test (bytes_eq xs ys) refl (bytes_eq-Decides xs ys)
-  where
-    by_test : (b : Bool) → bytes_eq xs ys ≡ b → Decides b (xs ≡ ys) → bytes_eq xs ys ≡ false
-    by_test true h d = absurd (grind arith)
-    by_test false h d = h
+bytes_eq-other {xs = xs} {ys = ys} ne = false_from_ne_true (bytes_eq xs ys) (λ h. ne ((bytes_eq-Decides xs ys).0 h))
 
 -- an option's name compares as equal to itself
 pub same_text : (j k : Key) → j ≡ k → bytes_eq (key_text j) (key_text k) ≡ true
-same_text j k e = bytes_eq-same (ap key_text e)
+same_text j k e = (bytes_eq-Decides (key_text j) (key_text k)).1 (ap key_text e)
+
+-- options whose names compare as equal are the same
+pub named_same : (j k : Key) → bytes_eq (key_text j) (key_text k) ≡ true → j ≡ k
+named_same j k h = key_text-injective j k ((bytes_eq-Decides (key_text j) (key_text k)).0 h)
 
 -- the names of different options compare as different
 pub other_text : (j k : Key) → j ≢ k → bytes_eq (key_text j) (key_text k) ≡ false

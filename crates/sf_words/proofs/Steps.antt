@@ -1,18 +1,16 @@
 -- What a walk makes of the words of one option.
-use Rattle.std.proofs.Common.{◌≡◌, ℕ, true, false, ◌==◌, List, [], ◌∷◌, ◌++◌, Some, None, Contains, map, refl, ap, ◌∙◌, codes}
-use Rattle.clap.specs.Words.{Rule, Shape, Row, Text}
+use Rattle.std.proofs.Common.{◌≡◌, ℕ, true, false, ◌==◌, List, [], ◌∷◌, ◌++◌, Some, None, Contains, map, refl, ◌∙◌}
+use Rattle.clap.specs.Words.{Rule, Shape, Text}
 use Rattle.clap.specs.Simple.{filled}
-use Rattle.clap.specs.Walk.{Walk, Held, idle, option, walked, reacted, settled, used, with_values, without, arg_by_id, arg_by_long, has_row}
+use Rattle.clap.specs.Walk.{Walk, Held, idle, option, walked, reacted, settled, arg_by_id, arg_by_long, has_row}
 use Rattle.clap.specs.Takes.{settle_passes, turn_passes}
 use Rattle.sf_words.proofs.Lookup.{same_text}
-use Rattle.clap.specs.declared.parser.matches.ValueSource.TheVariants.{CommandLine}
-use Rattle.clap.specs.declared.builder.value_parser.Reading.TheVariants.{AsWritten}
 use Rattle.sf_words.specs.declared.options.Key.{Key}
 use Rattle.sf_words.specs.Table.{key_text, is_flag}
 use Rattle.sf_words.specs.App.{value_rule, flag_rule}
-use Rattle.sf_words.proofs.Lexing.{long_attached, attached_some, long_alone, alone_some}
+use Rattle.sf_words.proofs.Texts.{named}
 use Rattle.sf_words.specs.Kept.{full}
-use Rattle.sf_words.proofs.Rules.{find_id, find_long, full_value, full_flag}
+use Rattle.sf_words.proofs.Rules.{find_id, find_long}
 
 -- the walk between two options
 abbrev pub between : Held → Walk
@@ -52,41 +50,33 @@ leaf name keys = record {
   is_built = true;
 }
 
--- an option used with a value gets a row with this value, in place of the one it had
-pub used_value : (k : Key) (v : Text) (rows : List Row) → used (valued k) (v ∷ []) rows ≡ with_values (key_text k) AsWritten CommandLine (v ∷ []) (without (key_text k) rows)
-used_value k v rows = refl
-
--- a flag that is used gets a row with the text `true`, in place of the one it had
-pub used_flag : (k : Key) (rows : List Row) → used (flag k) [] rows ≡ with_values (key_text k) AsWritten CommandLine (codes "true" ∷ []) (without (key_text k) rows)
-used_flag k rows = refl
-
 module _ (keys : List Key) (k : Key) (inside : Contains keys k) where
   -- an option that takes a value is found by its name as an id
   pub value_by_id : is_flag k ≡ false → arg_by_id (map full keys) (key_text k) ≡ Some (valued k)
-  value_by_id e = find_id keys k inside ∙ ap (λ (r : Rule). Some r) (full_value k e)
+  value_by_id e = find_id keys k inside ∙ rw e refl
 
   -- an option that takes a value is found by its name as a word
   pub value_by_long : is_flag k ≡ false → arg_by_long (map full keys) (key_text k) ≡ Some (valued k)
-  value_by_long e = find_long keys k inside ∙ ap (λ (r : Rule). Some r) (full_value k e)
+  value_by_long e = find_long keys k inside ∙ rw e refl
 
   -- an option that takes no value is found by its name as a word
   pub flag_by_long : is_flag k ≡ true → arg_by_long (map full keys) (key_text k) ≡ Some (flag k)
-  flag_by_long e = find_long keys k inside ∙ ap (λ (r : Rule). Some r) (full_flag k e)
+  flag_by_long e = find_long keys k inside ∙ rw e refl
 
   -- the word `--name=value` uses the option with this value
   pub attached_word : is_flag k ≡ false → (h : Held) (v : Text) → walked (map full keys) [] (between h) (45 ∷ 45 ∷ (key_text k ++ 61 ∷ v)) ≡ between (reacted (map full keys) (valued k) (v ∷ []) h)
   unfolding walked
-  attached_word e h v = rw (attached_some k v, long_attached k v, value_by_long e) refl
+  attached_word e h v = rw ((named k).attached_some v, (named k).long_attached v, value_by_long e) refl
 
   -- the word `--name` of an option that takes a value waits for the value
   pub first_word : is_flag k ≡ false → (h : Held) → walked (map full keys) [] (between h) (45 ∷ 45 ∷ key_text k) ≡ waits (key_text k) (settled (map full keys) h)
   unfolding walked
-  first_word e h = rw (alone_some k, long_alone k, value_by_long e) refl
+  first_word e h = rw ((named k).alone_some, (named k).long_alone, value_by_long e) refl
 
   -- the word `--name` of an option that takes no value uses it
   pub flag_word : is_flag k ≡ true → (h : Held) → walked (map full keys) [] (between h) (45 ∷ 45 ∷ key_text k) ≡ between (reacted (map full keys) (flag k) [] h)
   unfolding walked
-  flag_word e h = rw (alone_some k, long_alone k, flag_by_long e) refl
+  flag_word e h = rw ((named k).alone_some, (named k).long_alone, flag_by_long e) refl
 
   -- the next word, which does not begin with a hyphen, is the value that was waited for
   pub second_word : is_flag k ≡ false → (h : Held) (x : ℕ) (rest : Text) → (x == 45) ≡ false
@@ -97,16 +87,16 @@ module _ (keys : List Key) (k : Key) (inside : Contains keys k) where
   -- the word `--name=value` of an option that has no row yet passes
   pub attached_passes : is_flag k ≡ false → (name : Text) (h : Held) (v : Text) → settle_passes (map full keys) false h ≡ true → has_row (key_text k) (settled (map full keys) h).rows ≡ false
       → turn_passes (leaf name keys) [] (between h) (45 ∷ 45 ∷ (key_text k ++ 61 ∷ v)) ≡ true
-  attached_passes e name h v settles fresh = rw (attached_some k v, long_attached k v, value_by_long e, settles, fresh) refl
+  attached_passes e name h v settles fresh = rw ((named k).attached_some v, (named k).long_attached v, value_by_long e, settles, fresh) refl
 
   -- the word `--name` of an option that takes a value passes
   pub first_passes : is_flag k ≡ false → (name : Text) (h : Held) → settle_passes (map full keys) false h ≡ true → turn_passes (leaf name keys) [] (between h) (45 ∷ 45 ∷ key_text k) ≡ true
-  first_passes e name h settles = rw (alone_some k, long_alone k, value_by_long e, settles) refl
+  first_passes e name h settles = rw ((named k).alone_some, (named k).long_alone, value_by_long e, settles) refl
 
   -- the word `--name` of an option that takes no value passes, where that has no row yet
   pub flag_passes : is_flag k ≡ true → (name : Text) (h : Held) → settle_passes (map full keys) false h ≡ true → has_row (key_text k) (settled (map full keys) h).rows ≡ false
       → turn_passes (leaf name keys) [] (between h) (45 ∷ 45 ∷ key_text k) ≡ true
-  flag_passes e name h settles fresh = rw (alone_some k, long_alone k, flag_by_long e, settles, fresh) refl
+  flag_passes e name h settles fresh = rw ((named k).alone_some, (named k).long_alone, flag_by_long e, settles, fresh) refl
 
   -- a value that does not begin with a hyphen passes
   pub second_passes : (name : Text) (h : Held) (x : ℕ) (rest : Text) → (x == 45) ≡ false → turn_passes (leaf name keys) [] (waits (key_text k) h) (x ∷ rest) ≡ true

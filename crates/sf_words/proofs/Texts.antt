@@ -3,10 +3,12 @@ use Rattle.std.proofs.Common.{◌≡◌, ◌≢◌, ℕ, ◌<◌, Bool, true, fa
 use Rattle.std.specs.List.{list_all}
 use Rattle.std.specs.Str.{bytes_eq}
 use Rattle.std.proofs.lemmas.List.{append-nil}
+use Rattle.clap.specs.Lexer.{long_of}
+use Rattle.clap.proofs.OnLiterals.{clap_on_literals}
 use Rattle.sf_words.specs.declared.options.Key.{Key}
 use Rattle.sf_words.specs.declared.options.Key.TheVariants.{Format, Blocks, Nets, Pl, Yal, PerUnit, Fixed, Shapes, Outline, AreaWeight, WireWeight, NetWeights, Cert, PlOut, Rewrite, Workers, Nodes, Placed, Expr, Seed, Count, Kinds, Out}
 use Rattle.sf_words.specs.declared.options.Mode.{Mode}
-use Rattle.sf_words.specs.declared.options.Mode.TheVariants.{Plan, Check, Measure, Shape, Gen}
+use Rattle.sf_words.specs.declared.options.Mode.TheVariants.{Plan}
 use Rattle.sf_words.specs.Table.{Text, key_text, mode_text, modes}
 
 -- all options
@@ -22,60 +24,42 @@ first_named (key ∷ keys) text = cond (bytes_eq (key_text key) text) (Some key)
 abbrev pub is_inner : ℕ → Bool
 is_inner b = cond (b == 61) false true
 
--- among all options, the first with an option's name is the option itself; and all bytes of the name are such as may stand there
-named : (key : Key) → (first_named all_keys (key_text key) ≡ Some key) × (list_all is_inner (key_text key) ≡ true)
-unfolding key_text
-named Format = (refl, refl)
-named Blocks = (refl, refl)
-named Nets = (refl, refl)
-named Pl = (refl, refl)
-named Yal = (refl, refl)
-named PerUnit = (refl, refl)
-named Fixed = (refl, refl)
-named Shapes = (refl, refl)
-named Outline = (refl, refl)
-named AreaWeight = (refl, refl)
-named WireWeight = (refl, refl)
-named NetWeights = (refl, refl)
-named Cert = (refl, refl)
-named PlOut = (refl, refl)
-named Rewrite = (refl, refl)
-named Workers = (refl, refl)
-named Nodes = (refl, refl)
-named Placed = (refl, refl)
-named Expr = (refl, refl)
-named Seed = (refl, refl)
-named Count = (refl, refl)
-named Kinds = (refl, refl)
-named Out = (refl, refl)
+-- How an option's name is known: it is the first of that name among all options; its bytes are such as may stand there; and the
+-- words of the option, with a value behind the sign `=` and alone, are read as this name, and not as the word `--`.
+pub record IsNamed (key : Key) : Type 0 where
+  pub first : first_named all_keys (key_text key) ≡ Some key
+  pub inner : list_all is_inner (key_text key) ≡ true
+  pub long_attached : (v : Text) → long_of (45 ∷ 45 ∷ (key_text key ++ 61 ∷ v)) ≡ Some (key_text key, Some v)
+  pub attached_some : (v : Text) → bytes_eq (45 ∷ 45 ∷ (key_text key ++ 61 ∷ v)) (45 ∷ 45 ∷ []) ≡ false
+  pub long_alone : long_of (45 ∷ 45 ∷ key_text key) ≡ Some (key_text key, None)
+  pub alone_some : bytes_eq (45 ∷ 45 ∷ key_text key) (45 ∷ 45 ∷ []) ≡ false
+
+-- each option's name is known so, by the same clause for each
+pub named : (key : Key) → IsNamed key
+unfolding key_text clap_on_literals
+named Format = record { first = refl; inner = refl; long_attached = λ v. refl; attached_some = λ v. refl; long_alone = refl; alone_some = refl }
+named key = record { first = refl; inner = refl; long_attached = λ v. refl; attached_some = λ v. refl; long_alone = refl; alone_some = refl }
 
 -- options of the same name are the same
 pub key_text-injective : (j k : Key) → key_text j ≡ key_text k → j ≡ k
 key_text-injective j k e =
-    let same : Some j ≡ Some k = sym (named j).0 ∙ (ap (first_named all_keys) e ∙ (named k).0) in cc
+    let same : Some j ≡ Some k = sym (named j).first ∙ (ap (first_named all_keys) e ∙ (named k).first) in cc
 
 -- the first of these commands that has this text as its word
 abbrev pub mode_named : List Mode → Text → Option Mode
 mode_named [] text = None
 mode_named (mode ∷ modes) text = cond (bytes_eq (mode_text mode) text) (Some mode) (mode_named modes text)
 
--- among all commands, the first with a command's word is the command itself
+-- among all commands, the first with a command's word is the command itself, by the same clause for each
 moded : (mode : Mode) → mode_named modes (mode_text mode) ≡ Some mode
 unfolding mode_text modes
 moded Plan = refl
-moded Check = refl
-moded Measure = refl
-moded Shape = refl
-moded Gen = refl
+moded mode = refl
 
 -- commands of the same word are the same
 pub mode_text-injective : (m n : Mode) → mode_text m ≡ mode_text n → m ≡ n
 mode_text-injective m n e =
     let same : Some m ≡ Some n = sym (moded m) ∙ (ap (mode_named modes) e ∙ moded n) in cc
-
--- all bytes of an option's name are such as may stand there
-pub key_text-inner : (key : Key) → list_all is_inner (key_text key) ≡ true
-key_text-inner key = (named key).1
 
 -- no byte of an option's name is the sign `=`
 pub inner_at : (bs : Text) → list_all is_inner bs ≡ true → (i : ℕ) → i < length bs → get_or bs i 0 ≢ 61
@@ -101,7 +85,7 @@ cut_unique (x ∷ xs) (y ∷ ys) r s q v t w e =
 -- an option's name and what is behind the sign `=` are determined
 pub attached_unique : (j k : Key) (v w : Text) → key_text j ++ 61 ∷ v ≡ key_text k ++ 61 ∷ w → (j ≡ k) × (v ≡ w)
 attached_unique j k v w e =
-    let cut = cut_unique (key_text j) (key_text k) (61 ∷ v) (61 ∷ w) (key_text-inner j) (key_text-inner k) refl refl e in
+    let cut = cut_unique (key_text j) (key_text k) (61 ∷ v) (61 ∷ w) (named j).inner (named k).inner refl refl e in
     let tails : 61 ∷ v ≡ 61 ∷ w = cut.1 in
     (key_text-injective j k cut.0, cc)
 
@@ -109,5 +93,5 @@ attached_unique j k v w e =
 pub attached_not_alone : (j k : Key) (v : Text) → key_text j ++ 61 ∷ v ≢ key_text k
 attached_not_alone j k v e =
     let whole : key_text j ++ 61 ∷ v ≡ key_text k ++ [] = e ∙ sym (append-nil (key_text k)) in
-    let cut = cut_unique (key_text j) (key_text k) (61 ∷ v) [] (key_text-inner j) (key_text-inner k) refl tt whole in
+    let cut = cut_unique (key_text j) (key_text k) (61 ∷ v) [] (named j).inner (named k).inner refl tt whole in
     let tails : 61 ∷ v ≡ [] = cut.1 in cc

@@ -1,6 +1,6 @@
 -- The options that words are made of are determined by the words.
 use Rattle.std.proofs.Common.{◌≡◌, ◌≢◌, ℕ, true, false, List, [], ◌∷◌, ◌++◌, Contains, refl, ◌≤◌, length, get_or, drop, take, subst, ◌<◌, zero, suc, ◌-◌, map, arith, sym, ap, ap₂, ◌∙◌}
-use Rattle.std.proofs.lemmas.List.{take_all}
+use Rattle.std.proofs.lemmas.List.{append-nil, take_all}
 use Rattle.sf_words.specs.declared.options.Key.{Key}
 use Rattle.sf_words.specs.declared.options.Mode.{Mode}
 use Rattle.sf_words.specs.Table.{Text, key_text, is_flag, keys_of}
@@ -22,34 +22,21 @@ pub ahead-push : (ts : List Token) (t : Token) (words : List Text) → ahead (ts
 ahead-push [] t words = refl
 ahead-push (u ∷ ts) t words = ap (before u) (ahead-push ts t words)
 
+-- an option that takes a value has another name than one that takes none
+flags_differ : (j k : Key) → key_text j ≡ key_text k → is_flag j ≡ false → is_flag k ≡ true → ⊥
+flags_differ j k e f g = let bad : false ≡ true = sym f ∙ (ap is_flag (key_text-injective j k e) ∙ g) in cc
+
 -- the option that stands first in the words is determined
 pub first_unique : (t u : Token) (r s : List Text) → IsShaped t → IsShaped u → before t r ≡ before u s → (t ≡ u) × (r ≡ s)
-first_unique (attached j v) (attached k w) r s g h e =
-    let heads : key_text j ++ 61 ∷ v ≡ key_text k ++ 61 ∷ w = cc in
-    let rest : r ≡ s = cc in
-    let both = attached_unique j k v w heads in
-    (rw (both.0, both.1) refl, rest)
+first_unique (attached j v) (attached k w) r s g h e = let both = attached_unique j k v w cc in (ap₂ attached both.0 both.1, cc)
 first_unique (attached j v) (spaced k w) r s g h e = absurd (attached_not_alone j k v cc)
 first_unique (attached j v) (alone k) r s g h e = absurd (attached_not_alone j k v cc)
 first_unique (spaced j v) (attached k w) r s g h e = absurd (attached_not_alone k j w cc)
-first_unique (spaced j v) (spaced k w) r s g h e =
-    let heads : key_text j ≡ key_text k = cc in
-    let same = key_text-injective j k heads in
-    let values : v ≡ w = cc in
-    (rw (same, values) refl, cc)
-first_unique (spaced j v) (alone k) r s g h e =
-    let heads : key_text j ≡ key_text k = cc in
-    let same = key_text-injective j k heads in
-    let flags : false ≡ true = sym g.0 ∙ (ap is_flag same ∙ h) in cc
+first_unique (spaced j v) (spaced k w) r s g h e = (ap₂ spaced (key_text-injective j k cc) (cc), cc)
+first_unique (spaced j v) (alone k) r s g h e = absurd (flags_differ j k (cc) g.0 h)
 first_unique (alone j) (attached k w) r s g h e = absurd (attached_not_alone k j w cc)
-first_unique (alone j) (spaced k w) r s g h e =
-    let heads : key_text j ≡ key_text k = cc in
-    let same = key_text-injective j k heads in
-    let flags : false ≡ true = sym h.0 ∙ (sym (ap is_flag same) ∙ g) in cc
-first_unique (alone j) (alone k) r s g h e =
-    let heads : key_text j ≡ key_text k = cc in
-    let same = key_text-injective j k heads in
-    (rw same refl, cc)
+first_unique (alone j) (spaced k w) r s g h e = absurd (flags_differ k j (cc) h.0 g)
+first_unique (alone j) (alone k) r s g h e = (ap alone (key_text-injective j k cc), cc)
 
 -- the words of an option aren't none
 pub before-some : (t : Token) (r : List Text) → before t r ≢ []
@@ -79,12 +66,9 @@ words_of-nil (t ∷ ts) e = absurd (before-some t (words_of ts) e)
 
 -- words have options in at most one way
 pub options_unique : (m n : Mode) (ts us : List Token) → AreOptions m ts → AreOptions n us → words_of ts ≡ words_of us → ts ≡ us
-options_unique m n [] us g h e = sym (words_of-nil us (sym e))
-options_unique m n (t ∷ ts) [] g h e = absurd (before-some t (words_of ts) e)
-options_unique m n (t ∷ ts) (u ∷ us) g h e =
-    let first = first_unique t u (words_of ts) (words_of us) g.1 h.1 e in
-    let further = options_unique m n ts us g.3 h.3 first.1 in
-    ap₂ (λ (x : Token) (xs : List Token). x ∷ xs) first.0 further
+options_unique m n ts us g h e =
+    let rest = split m n ts us [] g h (ahead-nil ts ∙ e) in
+    sym (rest.all ∙ (ap (λ (more : List Token). ts ++ more) (words_of-nil rest.more (sym rest.rest)) ∙ append-nil ts))
 
 -- a key that is none of some options' and not that of one more is none of all of these
 pub IsNew-push : (key : Key) (ts : List Token) (t : Token) → IsNew key ts → key ≢ key_of t → IsNew key (ts ++ t ∷ [])
@@ -111,10 +95,7 @@ AreOptions-middle m (u ∷ ts) t more h =
 
 -- words that begin with an option in one word have no other there
 pub attached_only : (k : Key) (v : Text) (r : List Text) (t : Token) (more : List Text) → before (attached k v) r ≡ before t more → t ≡ attached k v
-attached_only k v r (attached j w) more e =
-    let heads : key_text j ++ 61 ∷ w ≡ key_text k ++ 61 ∷ v = cc in
-    let both = attached_unique j k w v heads in
-    ap₂ attached both.0 both.1
+attached_only k v r (attached j w) more e = let both = attached_unique j k w v cc in ap₂ attached both.0 both.1
 attached_only k v r (spaced j w) more e = absurd (attached_not_alone k j v cc)
 attached_only k v r (alone j) more e = absurd (attached_not_alone k j v cc)
 
@@ -123,20 +104,7 @@ pub spaced_only : (k : Key) (r : List Text) (t : Token) (more : List Text) → k
     → (v : Text) × (r ≡ v ∷ more) × IsValue v
 spaced_only k r (attached j w) more e h f = absurd (attached_not_alone j k w cc)
 spaced_only k r (spaced j w) more e h f = (w, cc, h.1)
-spaced_only k r (alone j) more e h f =
-    let heads : key_text j ≡ key_text k = cc in
-    let same = key_text-injective j k heads in
-    let flags : false ≡ true = sym f ∙ (sym (ap is_flag same) ∙ h) in cc
-
--- the last of some options is one of them
-pub IsNew-at : (key : Key) (ts : List Token) (t : Token) → IsNew key (ts ++ t ∷ []) → (key ≢ key_of t) × IsNew key ts
-IsNew-at key [] t h = (h.0, tt)
-IsNew-at key (u ∷ ts) t h = let further = IsNew-at key ts t h.1 in (further.0, (h.0, further.1))
-
--- a key that is none of some options' is none of the first ones'
-pub IsNew-before : (key : Key) (ts more : List Token) → IsNew key (ts ++ more) → IsNew key ts
-IsNew-before key [] more h = tt
-IsNew-before key (u ∷ ts) more h = (h.0, IsNew-before key ts more h.1)
+spaced_only k r (alone j) more e h f = absurd (flags_differ k j (cc) f h)
 
 -- a list that isn't empty is its first element and the others
 pub first_of_map : {X : Type 0} (f : X → Text) (xs : List X) (x : X) → 1 ≤ length xs → x ≡ get_or xs 0 x → map f xs ≡ f x ∷ map f (take (length xs - 1) (drop 1 xs))
@@ -195,11 +163,6 @@ not_twice m ts t r after g shaped is old us h e = by_more s.more s.all s.rest
 pub some_of_map : {X : Type 0} (f : X → Text) (xs : List X) → 0 < length xs → map f xs ≢ []
 some_of_map f [] h e = absurd (omega arith)
 some_of_map f (x ∷ xs) h e = cc
-
--- a list of length 0 has no texts
-pub empty_of_map : {X : Type 0} (f : X → Text) (xs : List X) → length xs ≡ 0 → map f xs ≡ []
-empty_of_map f [] e = refl
-empty_of_map f (x ∷ xs) e = absurd (omega arith)
 
 -- equal lists have the same words behind the first
 pub tails_same : {x y : Text} {xs ys : List Text} → x ∷ xs ≡ y ∷ ys → xs ≡ ys

@@ -1,5 +1,5 @@
 -- A list of words has at most one meaning.
-use Rattle.std.proofs.Common.{◌≡◌, ◌≢◌, ℕ, List, Option, Some, None, Result, Ok, codes, refl, sym, ap, subst, ◌∙◌}
+use Rattle.std.proofs.Common.{◌≡◌, ℕ, List, Option, Some, None, codes, refl, sym, ap, subst, ◌∙◌}
 use Rattle.sf_words.specs.declared.options.Mode.{Mode}
 use Rattle.sf_words.specs.declared.options.Key.{Key}
 use Rattle.sf_words.specs.declared.options.Key.TheVariants.{PerUnit, Shapes, Outline, AreaWeight, WireWeight, Workers, Nodes, Seed, Count}
@@ -13,19 +13,15 @@ use Rattle.sf_words.specs.Meaning.{Values, value_in, Input, gsrc, yal, InputSays
 use Rattle.sf_words.proofs.Texts.{mode_text-injective}
 use Rattle.sf_words.proofs.Tokens.{options_unique, heads_same, tails_same}
 
--- values that are equal as they are there are equal
-pub some_same : {X : Type 0} {x y : X} → Some x ≡ Some y → x ≡ y
-some_same e = cc
-
 -- an option says at most one number
 pub number_unique : (key : Key) (text : Option Text) (m n : ℕ) → SaysNumber key text m → SaysNumber key text n → m ≡ n
-number_unique key None m n g h = some_same (sym g ∙ h)
-number_unique key (Some text) m n g h = some_same (sym g.value ∙ h.value)
+number_unique key None m n g h = cc
+number_unique key (Some text) m n g h = cc (g.value, h.value)
 
 -- an option without a default says at most one number, and never both one and none
 pub optional_unique : (key : Key) (text : Option Text) (m n : Option ℕ) → SaysOptional key text m → SaysOptional key text n → m ≡ n
 optional_unique key None None None g h = refl
-optional_unique key (Some text) (Some m) (Some n) g h = ap (λ k. Some k) (some_same (sym g.value ∙ h.value))
+optional_unique key (Some text) (Some m) (Some n) g h = cc (g.value, h.value)
 optional_unique key None None (Some n) g h = absurd h
 optional_unique key None (Some m) n g h = absurd g
 optional_unique key (Some text) None n g h = absurd g
@@ -33,28 +29,20 @@ optional_unique key (Some text) (Some m) None g h = absurd h
 
 -- an option has at most one text
 texts_same : (r : Option Text) (x y : Text) → r ≡ Some x → r ≡ Some y → x ≡ y
-texts_same r x y g h = some_same (sym g ∙ h)
-
--- the names of the two formats differ
-formats_differ : codes "gsrc" ≢ codes "yal"
-formats_differ e = cc
+texts_same r x y g h = cc
 
 -- the options say at most one set of files that tell a design
 input_unique : (v : Values) (a b : Input) → InputSays v a → InputSays v b → a ≡ b
 input_unique v (gsrc blocks nets pl) (gsrc blocks' nets' pl') g h =
     let first = texts_same _ _ _ g.1 h.1 in let second = sym g.2 ∙ h.2 in let third = sym g.3 ∙ h.3 in cc
-input_unique v (gsrc blocks nets pl) (yal file) g h = absurd (formats_differ (texts_same _ _ _ g.0 h.0))
-input_unique v (yal file) (gsrc blocks nets pl) g h = absurd (formats_differ (texts_same _ _ _ h.0 g.0))
+input_unique v (gsrc blocks nets pl) (yal file) g h = let bad : Some (codes "gsrc") ≡ Some (codes "yal") = sym g.0 ∙ h.0 in cc
+input_unique v (yal file) (gsrc blocks nets pl) g h = let bad : Some (codes "gsrc") ≡ Some (codes "yal") = sym h.0 ∙ g.0 in cc
 input_unique v (yal file) (yal file') g h = ap yal (texts_same _ _ _ g.1 h.1)
-
--- a result has at most one value
-ok_same : {X E : Type 0} {r : Result X E} {x y : X} → r ≡ Ok x → r ≡ Ok y → x ≡ y
-ok_same g h = cc
 
 -- the option says at most one outline
 outline_unique : (unit : ℕ) (text : Option Text) (w h w' h' : ℕ) → OutlineSays unit text w h → OutlineSays unit text w' h' → (w ≡ w') × (h ≡ h')
 outline_unique unit None w h w' h' p q = (p.0 ∙ sym q.0, p.1 ∙ sym q.1)
-outline_unique unit (Some text) w h w' h' p q = (ok_same p.width_is.value q.width_is.value, ok_same p.height_is.value q.height_is.value)
+outline_unique unit (Some text) w h w' h' p q = (cc (p.width_is.value, q.width_is.value), cc (p.height_is.value, q.height_is.value))
 
 -- the options say a design in at most one way
 design_unique : (v : Values) (a b : DesignOptions) → DesignSays v a → DesignSays v b → a ≡ b

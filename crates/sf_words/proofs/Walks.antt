@@ -1,5 +1,6 @@
 -- What a walk makes of options in any order and both spellings.
-use Rattle.std.proofs.Common.{◌≡◌, Bool, true, false, ◌||◌, ◌==◌, List, [], ◌∷◌, ◌++◌, Some, Contains, map, fold, refl, sym, ap, ◌∙◌, arith, codes, append_assoc}
+use Rattle.std.proofs.Common.{◌≡◌, inl, inr, true, false, ◌==◌, List, [], ◌∷◌, ◌++◌, Some, Contains, map, fold, refl, sym, ap, ◌∙◌, arith, codes, append_assoc}
+use Rattle.std.proofs.lemmas.Bool.{cases_Bool, or_parts}
 use Rattle.std.proofs.lemmas.List.{append-nil}
 use Rattle.std.specs.Str.{bytes_eq}
 use Rattle.clap.specs.Words.{Row, Text}
@@ -13,16 +14,15 @@ use Rattle.sf_words.specs.Table.{key_text, keys_of}
 use Rattle.sf_words.specs.Words.{Token, attached, spaced, alone, key_of, before, words_of, IsShaped, IsNew, AreOptions}
 use Rattle.sf_words.proofs.Lookup.{other_text}
 use Rattle.sf_words.specs.Kept.{full, row, row_of}
-use Rattle.sf_words.proofs.Steps.{between, valued, flag, leaf, used_value, used_flag, value_by_id, attached_word, first_word, flag_word, second_word, attached_passes, first_passes, flag_passes, second_passes, value_settles}
+use Rattle.sf_words.proofs.Steps.{between, valued, flag, leaf, value_by_id, attached_word, first_word, flag_word, second_word, attached_passes, first_passes, flag_passes, second_passes, value_settles}
 
 -- where no row has the id, a change at it adds the missing row
 pub at_row-absent : (id : Text) (change : Row → List Row) (missing : List Row) (rows : List Row) → has_row id rows ≡ false → at_row id change missing rows ≡ rows ++ missing
 at_row-absent id change missing [] h = refl
-at_row-absent id change missing (r ∷ rows) h = by_test (bytes_eq r.id id) refl (at_row-absent id change missing rows)
-  where
-    by_test : (b : Bool) → bytes_eq r.id id ≡ b → (has_row id rows ≡ false → at_row id change missing rows ≡ rows ++ missing) → at_row id change missing (r ∷ rows) ≡ r ∷ (rows ++ missing)
-    by_test true e ih = let bad : true ≡ false = rw e at h in cc
-    by_test false e ih = let rest : has_row id rows ≡ false = rw e at h in rw e (ap (λ (xs : List Row). r ∷ xs) (ih rest))
+at_row-absent id change missing (r ∷ rows) h = elim (cases_Bool (bytes_eq r.id id)) [
+  | inl e ↦ let bad : true ≡ false = rw e at h in cc
+  | inr e ↦ rw e (ap (λ (xs : List Row). r ∷ xs) (at_row-absent id change missing rows (rw e at h)))
+]
 
 -- a new option adds its row
 added : (k : Key) (v : Text) (rows : List Row) → has_row (key_text k) rows ≡ false
@@ -46,7 +46,7 @@ unfolding walk_passes
 moves name keys (attached k v) h inside shaped fresh settles = record {
   after = reacted (map full keys) (valued k) (v ∷ []) h;
   walks = λ more. ap (λ (w : Walk). fold (walked (map full keys) []) w more) (attached_word keys k inside shaped.0 h v);
-  rows = used_value k v _ ∙ added k v _ fresh;
+  rows = added k v _ fresh;
   settles = refl;
   passes = λ more. rw (attached_passes keys k inside shaped.0 name h v settles fresh, attached_word keys k inside shaped.0 h v) refl;
 }
@@ -65,7 +65,7 @@ moves name keys (spaced k (x ∷ v)) h inside shaped fresh settles =
 moves name keys (alone k) h inside shaped fresh settles = record {
   after = reacted (map full keys) (flag k) [] h;
   walks = λ more. ap (λ (w : Walk). fold (walked (map full keys) []) w more) (flag_word keys k inside shaped h);
-  rows = used_flag k _ ∙ added k (codes "true") _ fresh;
+  rows = added k (codes "true") _ fresh;
   settles = refl;
   passes = λ more. rw (flag_passes keys k inside shaped name h settles fresh, flag_word keys k inside shaped h) refl;
 }
@@ -83,11 +83,7 @@ absent_at_first (t ∷ ts) = (refl, absent_at_first ts)
 -- one more row of another id gives an id no row that had none
 has_row-push : (id : Text) (rows : List Row) (r : Row) → has_row id rows ≡ false → bytes_eq r.id id ≡ false → has_row id (rows ++ r ∷ []) ≡ false
 has_row-push id [] r h e = rw e refl
-has_row-push id (x ∷ rows) r h e = by_test (bytes_eq x.id id) h (λ g. has_row-push id rows r g e)
-  where
-    by_test : (b : Bool) → (b || has_row id rows) ≡ false → (has_row id rows ≡ false → has_row id (rows ++ r ∷ []) ≡ false) → (b || has_row id (rows ++ r ∷ [])) ≡ false
-    by_test true g ih = let bad : true ≡ false = g in cc
-    by_test false g ih = ih g
+has_row-push id (x ∷ rows) r h e = let apart = or_parts (bytes_eq x.id id) (has_row id rows) h in rw (apart.0, has_row-push id rows r apart.1 e) refl
 
 -- after the row of one option, the others that differ from it have no row still
 absent-push : (rows : List Row) (t : Token) (ts : List Token) → Absent rows ts → IsNew (key_of t) ts → Absent (rows ++ row_of t ∷ []) ts

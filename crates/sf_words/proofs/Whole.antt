@@ -1,6 +1,7 @@
 -- The whole command line.
 use Rattle.std.proofs.Common.{◌≡◌, Bool, true, false, ◌&&◌, List, [], ◌∷◌, ◌++◌, Option, Some, map, fold, is_some, refl, sym, ap, ◌∙◌, append_assoc}
 use Rattle.std.specs.List.{list_all}
+use Rattle.std.proofs.lemmas.Bool.{and_from}
 use Rattle.std.proofs.lemmas.List.{append-nil}
 use Rattle.clap.specs.Words.{Rule, Row, Text, Shape, is_simple, subcommand_of, takes}
 use Rattle.clap.specs.Simple.{built, names_of, entered, rows_at, argument_words}
@@ -8,7 +9,7 @@ use Rattle.clap.specs.Walk.{Walk, Held, Names, stop_after, walked, walk, walk_fr
 use Rattle.clap.specs.Takes.{walk_passes, settle_passes, turn_passes, entered_passes, level_passes, default_passes, is_valid, built_takes}
 use Rattle.clap.proofs.OnLiterals.{clap_on_literals}
 use Rattle.sf_words.specs.declared.options.Mode.{Mode}
-use Rattle.sf_words.specs.declared.options.Mode.TheVariants.{Plan, Check, Measure, Shape as ShapeMode, Gen}
+use Rattle.sf_words.specs.declared.options.Mode.TheVariants.{Plan}
 use Rattle.sf_words.specs.Table.{modes, mode_text, key_text, is_flag, keys_of}
 use Rattle.sf_words.specs.Words.{Token, words_of, AreOptions, HasForm}
 use Rattle.sf_words.specs.App.{floorplan}
@@ -32,59 +33,21 @@ names = names_of (built floorplan)
 abbrev pub leaf_of : Mode → Shape
 leaf_of m = leaf (mode_text m) (keys_of m)
 
--- the word of a command stops the walk at this command
-top_word : (m : Mode) → walked top.rules names (walk_from nothing_held) (mode_text m) ≡ stopped_at (mode_text m) []
-unfolding clap_on_literals floorplan modes mode_text key_text is_flag keys_of
-top_word Plan = refl
-top_word Check = refl
-top_word Measure = refl
-top_word ShapeMode = refl
-top_word Gen = refl
+-- How the built command line knows a command: its word stops the walk there and passes at the top; what is entered are the
+-- command's rows, and passes where its own words do; its defaults pass; and whatever the rows, it lacks nothing.
+record IsKnown (m : Mode) : Type 0 where
+  word : walked top.rules names (walk_from nothing_held) (mode_text m) ≡ stopped_at (mode_text m) []
+  turn : turn_passes top names (walk_from nothing_held) (mode_text m) ≡ true
+  enters : (words : List Text) → entered (built floorplan) (Some (mode_text m, words)) ≡ Some (rows_at (leaf_of m) words)
+  passes : (words : List Text) → entered_passes (built floorplan) (Some (mode_text m, words)) ≡ level_passes (leaf_of m) [] nothing_held words false
+  defaults : list_all default_passes (leaf_of m).rules ≡ true
+  valid : (rows : List Row) → is_valid (leaf_of m) rows false ≡ true
 
--- the word of a command passes at the top
-top_turn : (m : Mode) → turn_passes top names (walk_from nothing_held) (mode_text m) ≡ true
+-- it knows each command so, by the same clause for each
+known : (m : Mode) → IsKnown m
 unfolding clap_on_literals floorplan modes mode_text key_text is_flag keys_of
-top_turn Plan = refl
-top_turn Check = refl
-top_turn Measure = refl
-top_turn ShapeMode = refl
-top_turn Gen = refl
-
--- the walk that stopped at a command enters it, and has its rows
-enters : (m : Mode) (words : List Text) → entered (built floorplan) (Some (mode_text m, words)) ≡ Some (rows_at (leaf_of m) words)
-unfolding clap_on_literals floorplan modes mode_text key_text is_flag keys_of
-enters Plan words = refl
-enters Check words = refl
-enters Measure words = refl
-enters ShapeMode words = refl
-enters Gen words = refl
-
--- what is entered passes exactly where the command's own words do
-enters_passes : (m : Mode) (words : List Text) → entered_passes (built floorplan) (Some (mode_text m, words)) ≡ level_passes (leaf_of m) [] nothing_held words false
-unfolding clap_on_literals floorplan modes mode_text key_text is_flag keys_of
-enters_passes Plan words = refl
-enters_passes Check words = refl
-enters_passes Measure words = refl
-enters_passes ShapeMode words = refl
-enters_passes Gen words = refl
-
--- the defaults of a command's options pass
-defaults_pass : (m : Mode) → list_all default_passes (leaf_of m).rules ≡ true
-unfolding clap_on_literals floorplan modes mode_text key_text is_flag keys_of
-defaults_pass Plan = refl
-defaults_pass Check = refl
-defaults_pass Measure = refl
-defaults_pass ShapeMode = refl
-defaults_pass Gen = refl
-
--- whatever the rows, a command lacks nothing that is required, and no option has a rule on another
-leaf_valid : (m : Mode) (rows : List Row) → is_valid (leaf_of m) rows false ≡ true
-unfolding clap_on_literals floorplan modes mode_text key_text is_flag keys_of
-leaf_valid Plan rows = refl
-leaf_valid Check rows = refl
-leaf_valid Measure rows = refl
-leaf_valid ShapeMode rows = refl
-leaf_valid Gen rows = refl
+known Plan = record { word = refl; turn = refl; enters = λ words. refl; passes = λ words. refl; defaults = refl; valid = λ rows. refl }
+known m = record { word = refl; turn = refl; enters = λ words. refl; passes = λ words. refl; defaults = refl; valid = λ rows. refl }
 
 -- the command line is one of those whose matches clap's contract tells
 pub simple : is_simple floorplan ≡ true
@@ -105,11 +68,7 @@ stopped_passes s ns n p (w ∷ words) = stopped_passes s ns n (p ++ w ∷ []) wo
 
 -- the walk over a command's word and others stops at the command and keeps the others
 top_walk : (m : Mode) (words : List Text) → walk top.rules names nothing_held (mode_text m ∷ words) ≡ stopped_at (mode_text m) words
-top_walk m words = ap (λ (w : Walk). fold (walked top.rules names) w words) (top_word m) ∙ stopped_walk top.rules names (mode_text m) [] words
-
--- a conjunction of what is true is true
-and_true : {a b : Bool} → a ≡ true → b ≡ true → (a && b) ≡ true
-and_true {a = a} {b = b} g h = rw (g, h) refl
+top_walk m words = ap (λ (w : Walk). fold (walked top.rules names) w words) (known m).word ∙ stopped_walk top.rules names (mode_text m) [] words
 
 -- at the top nothing is left to settle, the defaults pass, and nothing that is required is missing
 top_ok : settle_passes top.rules top.args_override_self nothing_held && (list_all default_passes top.rules && is_valid top (finished top.rules nothing_held) true) ≡ true
@@ -121,9 +80,9 @@ top_level : (m : Mode) (words : List Text) → level_passes top names nothing_he
 unfolding walk_passes
 top_level m words =
     let first : walk_passes top names (walk_from nothing_held) (mode_text m ∷ words) ≡ true =
-    and_true (top_turn m) (ap (λ (w : Walk). walk_passes top names w words) (top_word m) ∙ stopped_passes top names (mode_text m) [] words) in
+    and_from _ _ (known m).turn (ap (λ (w : Walk). walk_passes top names w words) (known m).word ∙ stopped_passes top names (mode_text m) [] words) in
     let rest : Held → Bool = λ end. settle_passes top.rules top.args_override_self end && (list_all default_passes top.rules && is_valid top (finished top.rules end) true) in
-    and_true first (ap rest (ap (λ (w : Walk). w.held) (top_walk m words)) ∙ top_ok)
+    and_from _ _ first (ap rest (ap (λ (w : Walk). w.held) (top_walk m words)) ∙ top_ok)
 
 -- all words are arguments: the program's name is not among them
 pub arguments : (words : List Text) → argument_words floorplan words ≡ words
@@ -138,7 +97,7 @@ walked_options m ts options = walked_all (mode_text m) m ts nothing_held options
 leaf_level : (m : Mode) (ts : List Token) → AreOptions m ts → level_passes (leaf_of m) [] nothing_held (words_of ts) false ≡ true
 leaf_level m ts options =
     let w = walked_options m ts options in
-    rw (w.passes, w.walks, w.settles, defaults_pass m) (leaf_valid m _)
+    rw (w.passes, w.walks, w.settles, (known m).defaults) ((known m).valid _)
 
 -- the word of a command stops the walk there, with the words behind it
 top_stop : (m : Mode) (words : List Text) → stop_after top.rules names (mode_text m ∷ words) ≡ Some (mode_text m, words)
@@ -150,12 +109,12 @@ built_takes_all m ts options =
     let words = words_of ts in
     let all : Option (Text × List Text) → Bool = λ stop. entered_passes (built floorplan) stop && level_passes top names nothing_held (mode_text m ∷ words) (is_some (entered (built floorplan) stop)) in
     let level : Option (Text × List Row) → Bool = λ o. level_passes top names nothing_held (mode_text m ∷ words) (is_some o) in
-    ap all (top_stop m words) ∙ and_true (enters_passes m words ∙ leaf_level m ts options) (ap level (enters m words) ∙ top_level m words)
+    ap all (top_stop m words) ∙ and_from _ _ ((known m).passes words ∙ leaf_level m ts options) (ap level ((known m).enters words) ∙ top_level m words)
 
 -- clap takes the words of a command and its options
 pub taken : (words : List Text) (m : Mode) (ts : List Token) → HasForm words m ts → takes floorplan words ≡ true
 taken words m ts form =
-    and_true simple (ap (built_takes (built floorplan) nothing_held) (arguments words ∙ form.words_are) ∙ built_takes_all m ts form.options)
+    and_from _ _ simple (ap (built_takes (built floorplan) nothing_held) (arguments words ∙ form.words_are) ∙ built_takes_all m ts form.options)
 
 -- what clap finds
 pub found : (words : List Text) (m : Mode) (ts : List Token) → HasForm words m ts → subcommand_of floorplan words ≡ Some (mode_text m, rows_for m ts)
@@ -165,4 +124,4 @@ found words m ts form =
     let rows : rows_after (map full (keys_of m)) [] (words_of ts) ≡ rows_for m ts =
     ap ends w.walks ∙ ap (λ (r : List Row). fold with_default r (map full (keys_of m))) w.rows in
     ap (λ (ws : List Text). entered (built floorplan) (stop_after top.rules names ws)) (arguments words ∙ form.words_are)
-    ∙ (ap (entered (built floorplan)) (top_stop m (words_of ts)) ∙ (enters m (words_of ts) ∙ ap (λ (r : List Row). Some (mode_text m, r)) rows))
+    ∙ (ap (entered (built floorplan)) (top_stop m (words_of ts)) ∙ ((known m).enters (words_of ts) ∙ ap (λ (r : List Row). Some (mode_text m, r)) rows))

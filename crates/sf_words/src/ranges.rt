@@ -61,6 +61,7 @@ fn read_in_range(key: Key, text: &str) -> Option<u64>
 }
 
 /// The number of an option that has a default, or must be given.
+#[tactic(auto, using(crate::proofs::Numbers::default_low, crate::proofs::Numbers::default_high))]
 pub fn number(key: Key, text: Option<&str>) -> Option<u64>
     ensures number { IfSome result (λ n. SaysNumber key (option_map (λ s. s.now) text.entry) n) }
     ensures low { IfSome result (λ n. least key ≤ n) }

@@ -4,7 +4,7 @@ ghost use Rattle.std.specs.Prelude.{MatchOption, IfOk, map, string_bytes};
 ghost use Rattle.sf_words.specs.declared.options.Mode.{Mode};
 ghost use Rattle.sf_words.specs.declared.options.Key.{Key};
 ghost use Rattle.sf_words.specs.Table.{Text, key_text, is_flag};
-ghost use Rattle.sf_words.specs.Words.{Token, key_of, value_of, before, words_of, IsValue, IsShaped, IsNew};
+ghost use Rattle.sf_words.specs.Words.{Token, key_of, before, words_of, IsValue, IsShaped, IsNew};
 ghost use Rattle.sf_words.specs.Words.{AreOptions};
 ghost use Rattle.sf_words.specs.Words.{HasForm};
 ghost use Rattle.sf_words.specs.Seen.{token_of};
@@ -28,17 +28,6 @@ impl<'a> Setting<'a> {
             Setting::Attached(key, _) => *key,
             Setting::Spaced(key, _) => *key,
             Setting::Alone(key) => *key,
-        }
-    }
-
-    /// The option's text, which is empty for a flag.
-    pub fn text(&self) -> &'a str
-        ensures { result.now ≡ value_of (token_of self.now) }
-    {
-        match self {
-            Setting::Attached(_, value) => value,
-            Setting::Spaced(_, value) => value,
-            Setting::Alone(_) => "",
         }
     }
 }

@@ -1,10 +1,11 @@
 use Rattle.std.proofs.Common.{map, string_bytes}
+use Rattle.std.proofs.lemmas.Option.{IfSome_then}
 use Rattle.clap.specs.Words.{found_of, rows_of}
 use Rattle.sf_words.specs.Table.{mode_text}
 use Rattle.sf_words.specs.Seen.{token_of, command_seen}
 use Rattle.sf_words.proofs.Lookup.{none_weaker}
 use Rattle.sf_words.specs.Kept.{rows_for}
-use Rattle.sf_words.proofs.FoundMeaning.{rows_same, means, has_none, some_weaker}
+use Rattle.sf_words.proofs.FoundMeaning.{rows_same, means, has_none}
 use Rattle.sf_words.proofs.line.read_words.Goals as goal
 
 pub returns-in-Some-subcommand-clause-means : goal.returns-in-Some-subcommand-clause-means
@@ -14,7 +15,7 @@ returns-in-Some-subcommand-clause-means c =
     let tokens = map token_of c.in-Some.form.settings.items in
     let form = rw c.in-Some.is at c.in_ok-form.ensures.form in
     let rows = rows_same (rows_of (found_of c.in-Some-subcommand.options.now)) _ (mode_text mode) (rows_for mode tokens) c.in-Some-subcommand.ensures.rows c.in_ok-matches.ensures.rows in
-    some_weaker c.read_command.result (λ r h. means mode tokens words _ (command_seen r) form rows h.0 h.1) c.read_command.ensures.command
+    IfSome_then c.read_command.result c.read_command.ensures.command (λ r h. means mode tokens words _ (command_seen r) form rows h.0 h.1)
 
 pub returns-in-Some-subcommand-clause-none : goal.returns-in-Some-subcommand-clause-none
 returns-in-Some-subcommand-clause-none c =

@@ -1,9 +1,9 @@
 use Rattle.std.proofs.Common.{◌≡◌, ◌<◌, arith, ◌∷◌, [], ◌++◌, sym, ap, ◌∙◌, map, string_bytes, length, IsTrue, Contains}
-use Rattle.std.proofs.lemmas.List.{map-append}
+use Rattle.std.proofs.lemmas.List.{map-append, nil_from_length}
 use Rattle.sf_words.specs.Table.{keys_of}
 use Rattle.sf_words.specs.Words.{IsNew, key_of}
 use Rattle.sf_words.specs.Seen.{token_of}
-use Rattle.sf_words.proofs.Tokens.{ahead, no_more, not_twice, ahead-push, ahead-nil, AreOptions-push, some_of_map, empty_of_map}
+use Rattle.sf_words.proofs.Tokens.{ahead, no_more, not_twice, ahead-push, ahead-nil, AreOptions-push, some_of_map}
 use Rattle.sf_words.proofs.settings.read_settings.Goals as goal
 
 pub returns-in_default-clause-none : goal.returns-in_default-clause-none
@@ -37,5 +37,5 @@ pub returns-clause-settings : goal.returns-clause-settings
 returns-clause-settings c =
     let none : length c.loop-keys.rest.now ≡ 0 = grind arith in (
       c.loop-keys.invariant.0,
-      c.loop-keys.invariant.1 ∙ (ap (ahead (map token_of c.loop-keys.settings.items)) (empty_of_map string_bytes c.loop-keys.rest.now none) ∙ ahead-nil (map token_of c.loop-keys.settings.items)),
+      c.loop-keys.invariant.1 ∙ (ap (ahead (map token_of c.loop-keys.settings.items)) (ap (map string_bytes) (nil_from_length c.loop-keys.rest.now none)) ∙ ahead-nil (map token_of c.loop-keys.settings.items)),
     )
