@@ -87,14 +87,7 @@ module _ (pre : List Worded) (items : List Item) (s : Worded) where
   -- the cut keeps its statements, with one more outside of all modules
   outside_cut : (k : Keyword) → key s ≡ k → AreCut pre (record { items = items; rest = Nothing }) → AreCut (pre ++ s ∷ []) (step_outside items s k)
   outside_cut keys.Module e a = record { text = ap (λ (xs : List Worded). xs ++ s ∷ []) (a.text ∙ append-nil items_text); items = a.items; rest = (ap opens_module e, All-nil IsSection) }
-  outside_cut keys.EndModule e a = stray_cut (ap opens_module e) a
-  outside_cut keys.Type e a = stray_cut (ap opens_module e) a
-  outside_cut keys.Dimensions e a = stray_cut (ap opens_module e) a
-  outside_cut keys.IoList e a = stray_cut (ap opens_module e) a
-  outside_cut keys.EndIoList e a = stray_cut (ap opens_module e) a
-  outside_cut keys.Network e a = stray_cut (ap opens_module e) a
-  outside_cut keys.EndNetwork e a = stray_cut (ap opens_module e) a
-  outside_cut keys.Other e a = stray_cut (ap opens_module e) a
+  outside_cut k e a = stray_cut (ap opens_module e) a
 
   module _ (m : Module) where
     -- the statements so far, and one more
@@ -115,19 +108,14 @@ module _ (pre : List Worded) (items : List Item) (s : Worded) where
 
     -- with one more in a module outside of its lists
     body_cut : (k : Keyword) → key s ≡ k → AreCut pre (record { items = items; rest = InModule m }) → AreCut (pre ++ s ∷ []) (step_body items m s k)
-    body_cut keys.Module e a = single_cut (ap stands_alone e) a
     body_cut keys.EndModule e a = record {
       text = body_text a ∙ sym (append-nil (flat_map item_text (items ++ Whole m s ∷ [])) ∙ flat_push item_text items (Whole m s));
       items = All-push IsItem items (Whole m s) a.items (a.rest, e);
       rest = tt;
     }
-    body_cut keys.Type e a = single_cut (ap stands_alone e) a
-    body_cut keys.Dimensions e a = single_cut (ap stands_alone e) a
     body_cut keys.IoList e a = listing_cut Terminals e a
-    body_cut keys.EndIoList e a = single_cut (ap stands_alone e) a
     body_cut keys.Network e a = listing_cut Network e a
-    body_cut keys.EndNetwork e a = single_cut (ap stands_alone e) a
-    body_cut keys.Other e a = single_cut (ap stands_alone e) a
+    body_cut k e a = single_cut (ap stands_alone e) a
 
     -- the statements so far, where a list is open, and one more
     list_text : (l : Listing) → AreCut pre (record { items = items; rest = InList m l }) → pre ++ s ∷ [] ≡ items_text ++ (module_text m ++ (listing_text l ++ s ∷ []))
@@ -173,38 +161,19 @@ module _ (items : List Item) where
   -- MODULE opens a module
   begins : (s : Worded) (k : Keyword) → opens_module k ≡ true → step_outside items s k ≡ then_open (InModule (begun s))
   begins s keys.Module e = refl
-  begins s keys.EndModule e = absurd cc
-  begins s keys.Type e = absurd cc
-  begins s keys.Dimensions e = absurd cc
-  begins s keys.IoList e = absurd cc
-  begins s keys.EndIoList e = absurd cc
-  begins s keys.Network e = absurd cc
-  begins s keys.EndNetwork e = absurd cc
-  begins s keys.Other e = absurd cc
+  begins s k e = absurd cc
 
   -- outside of modules all else stands by itself
   strays : (s : Worded) (k : Keyword) → opens_module k ≡ false → step_outside items s k ≡ record { items = items ++ Stray s ∷ []; rest = Nothing }
   strays s keys.Module e = absurd cc
-  strays s keys.EndModule e = refl
-  strays s keys.Type e = refl
-  strays s keys.Dimensions e = refl
-  strays s keys.IoList e = refl
-  strays s keys.EndIoList e = refl
-  strays s keys.Network e = refl
-  strays s keys.EndNetwork e = refl
-  strays s keys.Other e = refl
+  strays s k e = refl
 
   -- in a module so does what opens no list and does not close it
   stands : (m : Module) (s : Worded) (k : Keyword) → stands_alone k ≡ true → step_body items m s k ≡ then_open (InModule (with_section m (Single s)))
-  stands m s keys.Module e = refl
   stands m s keys.EndModule e = absurd cc
-  stands m s keys.Type e = refl
-  stands m s keys.Dimensions e = refl
   stands m s keys.IoList e = absurd cc
-  stands m s keys.EndIoList e = refl
   stands m s keys.Network e = absurd cc
-  stands m s keys.EndNetwork e = refl
-  stands m s keys.Other e = refl
+  stands m s k e = refl
 
   -- a list begins with the word of its kind
   list_begins : (m : Module) (s : Worded) (kind : ListKind) → step_body items m s (opener kind) ≡ then_open (InList m (listing kind s))

@@ -3,6 +3,7 @@ use Rattle.std.proofs.Common.{◌≡◌, ◌≢◌, ◌⊎◌, inl, inr, ℕ, �
 use Rattle.std.specs.Prelude.{◌==◌, slice_get}
 use Rattle.std.specs.List.{AllZip}
 use Rattle.std.specs.Option.{option_map}
+use Rattle.std.proofs.lemmas.Bool.{cases_Bool, eqb-true, eqb-false, eq-eqb, ne_eqb}
 use Rattle.std.proofs.lemmas.Bool.Decides.{nat_tests}
 use Rattle.std.proofs.lemmas.Option.{slice_get-map}
 use Rattle.sf_model.specs.declared.raw.RawBlock.{RawBlock}
@@ -24,30 +25,6 @@ some_side n e = grind (arith, nat_tests)
 -- is not 0
 no_side : (n : ℕ) → 0 < n → (n == 0) ≡ false
 no_side n lt = grind (arith, nat_tests)
-
--- a side of 0
-zero_side : (n : ℕ) → (n == 0) ≡ true → n ≡ 0
-zero_side n e = grind (arith, nat_tests)
-
--- is 0
-side_zero : (n : ℕ) → n ≡ 0 → (n == 0) ≡ true
-side_zero n e = grind (arith, nat_tests)
-
--- the same place
-same_place : (k n : ℕ) → (k == n) ≡ true → k ≡ n
-same_place k n e = grind (arith, nat_tests)
-
--- by the test
-place_same : (k n : ℕ) → k ≡ n → (k == n) ≡ true
-place_same k n e = grind (arith, nat_tests)
-
--- another place
-other_place : (k n : ℕ) → (k == n) ≡ false → k ≢ n
-other_place k n e = grind (arith, nat_tests)
-
--- by the test
-not_place : (k n : ℕ) → k ≢ n → (k == n) ≡ false
-not_place k n h = grind (arith, nat_tests)
 
 module _ (scale : ℕ) (all : List Module) (parent : ℕ) where
   -- the names of the modules
@@ -89,15 +66,13 @@ module _ (scale : ℕ) (all : List Module) (parent : ℕ) where
     sized k None b known child at read = absurd (err_not_ok (faults.BadStatement i.line) b read)
     sized k (Some size) b known child at read = sized_by k size b (size.w == 0) (size.h == 0) known child at refl refl read
 
-    -- a block, where its module is not the parent
-    placed : (k : ℕ) (b : RawBlock) (same : Bool) → index_of i.module_name names ≡ Some k → (k == parent) ≡ same → block_by sizes parent i (Some k) ≡ Ok b → IsBlockOf scale all parent i b
-    placed k b true known e read = absurd (err_not_ok (faults.UnknownModule i.line i.module_name) b (rw e at read))
-    placed k b false known e read = sized k (size_at sizes k) b known (other_place k parent e) (sym (size_there k)) (rw e at read)
-
     -- a block, if its module is known
     block_by_from : (o : Option ℕ) (b : RawBlock) → index_of i.module_name names ≡ o → block_by sizes parent i o ≡ Ok b → IsBlockOf scale all parent i b
     block_by_from None b known read = absurd (err_not_ok (faults.UnknownModule i.line i.module_name) b read)
-    block_by_from (Some k) b known read = placed k b (k == parent) known refl read
+    block_by_from (Some k) b known read = elim (cases_Bool (k == parent)) [
+      | inl e ↦ absurd (err_not_ok (faults.UnknownModule i.line i.module_name) b (rw e at read))
+      | inr e ↦ sized k (size_at sizes k) b known (eqb-false k parent e) (sym (size_there k)) (rw e at read)
+    ]
 
     -- the block that is read is the block of the instance
     block_from : (b : RawBlock) → block_of names sizes parent i ≡ Ok b → IsBlockOf scale all parent i b
@@ -109,14 +84,14 @@ module _ (scale : ℕ) (all : List Module) (parent : ℕ) where
     unfolding block_of
     from_block b is =
         let box : size_at sizes is.place ≡ Some is.size = size_there is.place ∙ is.boxed in
-        rw (is.known, not_place is.place parent is.child, box, no_side is.size.w is.wide, no_side is.size.h is.high) (ap done (sym is.block_is))
+        rw (is.known, ne_eqb is.place parent is.child, box, no_side is.size.w is.wide, no_side is.size.h is.high) (ap done (sym is.block_is))
 
     -- the fault of an instance
 
     -- the fault of a box, by the tests of its sides
     size_fault_by : (size : Size) (f : YalFault) (w h : Bool) → (size.w == 0) ≡ w → (size.h == 0) ≡ h → boxed i (Some size) ≡ Err f → SizeFault i.line (Some size) f
-    size_fault_by size f true h ew eh read = (inl (zero_side size.w ew), err_is {A = RawBlock} (faults.ZeroSide i.line) f (rw ew at read))
-    size_fault_by size f false true ew eh read = (inr (zero_side size.h eh), err_is {A = RawBlock} (faults.ZeroSide i.line) f (rw (ew, eh) at read))
+    size_fault_by size f true h ew eh read = (inl (eqb-true size.w 0 ew), err_is {A = RawBlock} (faults.ZeroSide i.line) f (rw ew at read))
+    size_fault_by size f false true ew eh read = (inr (eqb-true size.h 0 eh), err_is {A = RawBlock} (faults.ZeroSide i.line) f (rw (ew, eh) at read))
     size_fault_by size f false false ew eh read = absurd (ok_not_err (record { name = i.name; kind = kinds.Hard size.w size.h }) f (rw (ew, eh) at read))
 
     -- the fault of the box, or that there is none
@@ -124,15 +99,13 @@ module _ (scale : ℕ) (all : List Module) (parent : ℕ) where
     size_fault None f read = err_is {A = RawBlock} (faults.BadStatement i.line) f read
     size_fault (Some size) f read = size_fault_by size f (size.w == 0) (size.h == 0) refl refl read
 
-    -- the fault of an instance, where its module is the parent or not
-    place_fault_by : (k : ℕ) (f : YalFault) (same : Bool) → (k == parent) ≡ same → block_by sizes parent i (Some k) ≡ Err f → PlaceFault scale all parent i (Some k) f
-    place_fault_by k f true e read = inl (same_place k parent e, err_is {A = RawBlock} (faults.UnknownModule i.line i.module_name) f (rw e at read))
-    place_fault_by k f false e read = inr (other_place k parent e, subst (λ (o : Option Size). SizeFault i.line o f) (size_there k) (size_fault (size_at sizes k) f (rw e at read)))
-
     -- the fault of an instance, where its module is known or not
     place_fault : (o : Option ℕ) (f : YalFault) → block_by sizes parent i o ≡ Err f → PlaceFault scale all parent i o f
     place_fault None f read = err_is {A = RawBlock} (faults.UnknownModule i.line i.module_name) f read
-    place_fault (Some k) f read = place_fault_by k f (k == parent) refl read
+    place_fault (Some k) f read = elim (cases_Bool (k == parent)) [
+      | inl e ↦ inl (eqb-true k parent e, err_is {A = RawBlock} (faults.UnknownModule i.line i.module_name) f (rw e at read))
+      | inr e ↦ inr (eqb-false k parent e, subst (λ (o : Option Size). SizeFault i.line o f) (size_there k) (size_fault (size_at sizes k) f (rw e at read)))
+    ]
 
     -- the fault that is read is the fault of the instance
     fault_from : (f : YalFault) → block_of names sizes parent i ≡ Err f → InstanceFault scale all parent i f
@@ -142,8 +115,8 @@ module _ (scale : ℕ) (all : List Module) (parent : ℕ) where
     -- a side of 0 is read as a fault
     from_sides : (size : Size) (f : YalFault) (w : Bool) → (size.w == 0) ≡ w → (size.w ≡ 0) ⊎ (size.h ≡ 0) → f ≡ faults.ZeroSide i.line → boxed i (Some size) ≡ Err f
     from_sides size f true e side is = rw e (ap failed (sym is))
-    from_sides size f false e (inl side) is = absurd (let no : true ≡ false = sym (side_zero size.w side) ∙ e in cc)
-    from_sides size f false e (inr side) is = rw (e, side_zero size.h side) (ap failed (sym is))
+    from_sides size f false e (inl side) is = absurd (let no : true ≡ false = sym (eq-eqb size.w 0 side) ∙ e in cc)
+    from_sides size f false e (inr side) is = rw (e, eq-eqb size.h 0 side) (ap failed (sym is))
 
     -- a fault of the box is read
     from_size_fault : (o : Option Size) (f : YalFault) → SizeFault i.line o f → boxed i o ≡ Err f
@@ -153,8 +126,8 @@ module _ (scale : ℕ) (all : List Module) (parent : ℕ) where
     -- a fault of the module is read
     from_place_fault : (o : Option ℕ) (f : YalFault) → PlaceFault scale all parent i o f → block_by sizes parent i o ≡ Err f
     from_place_fault None f is = ap failed (sym is)
-    from_place_fault (Some k) f (inl is) = rw (place_same k parent is.0) (ap failed (sym is.1))
-    from_place_fault (Some k) f (inr is) = rw (not_place k parent is.0, size_there k) (from_size_fault (box_at scale all k) f is.1)
+    from_place_fault (Some k) f (inl is) = rw (eq-eqb k parent is.0) (ap failed (sym is.1))
+    from_place_fault (Some k) f (inr is) = rw (ne_eqb k parent is.0, size_there k) (from_size_fault (box_at scale all k) f is.1)
 
     -- the fault of the instance is read
     from_fault : (f : YalFault) → InstanceFault scale all parent i f → block_of names sizes parent i ≡ Err f
@@ -181,22 +154,16 @@ module _ (scale : ℕ) (all : List Module) (parent : ℕ) where
   all_blocks earlier (i ∷ more) [] each = absurd each
   all_blocks earlier (i ∷ more) (b ∷ new) each = rw (from_block i b each.0) (all_blocks (earlier ++ b ∷ []) more new each.1 ∙ ap done (append_assoc earlier (b ∷ []) new))
 
-  -- the first fault, by the first instance
-  fault_blocks_by : (earlier : List RawBlock) (i : Instance) (more : List Instance) (f : YalFault)
-      → ((b : RawBlock) → blocks_from names sizes parent (earlier ++ b ∷ []) more ≡ Err f → FirstInstanceFault scale all parent more f)
-      → (block_of names sizes parent i ≡ Err f) ⊎ ((b : RawBlock) × (block_of names sizes parent i ≡ Ok b) × (blocks_from names sizes parent (earlier ++ b ∷ []) more ≡ Err f))
-      → FirstInstanceFault scale all parent (i ∷ more) f
-  fault_blocks_by earlier i more f later (inl e) = record { before = []; i = i; after = more; instances_are = refl; blocks = []; sound = tt; faulty = fault_from i f e }
-  fault_blocks_by earlier i more f later (inr e) =
-      let rest = later e.0 e.2 in
-      record { before = i ∷ rest.before; i = rest.i; after = rest.after; instances_are = ap (λ (xs : List Instance). i ∷ xs) rest.instances_are; blocks = e.0 ∷ rest.blocks; sound = (block_from i e.0 e.1, rest.sound); faulty = rest.faulty }
-
   -- the fault that is read is the first
   pub fault_blocks : (earlier : List RawBlock) (instances : List Instance) (f : YalFault) → blocks_from names sizes parent earlier instances ≡ Err f → FirstInstanceFault scale all parent instances f
   unfolding blocks_from
   fault_blocks earlier [] f read = absurd (ok_not_err earlier f read)
-  fault_blocks earlier (i ∷ more) f read =
-      fault_blocks_by earlier i more f (λ b. fault_blocks (earlier ++ b ∷ []) more f) (bind_err (block_of names sizes parent i) (λ b. blocks_from names sizes parent (earlier ++ b ∷ []) more) f read)
+  fault_blocks earlier (i ∷ more) f read = elim (bind_err (block_of names sizes parent i) (λ b. blocks_from names sizes parent (earlier ++ b ∷ []) more) f read) [
+    | inl e ↦ record { before = []; i = i; after = more; instances_are = refl; blocks = []; sound = tt; faulty = fault_from i f e }
+    | inr e ↦
+        let rest = fault_blocks (earlier ++ e.0 ∷ []) more f e.2 in
+        record { before = i ∷ rest.before; i = rest.i; after = rest.after; instances_are = ap (λ (xs : List Instance). i ∷ xs) rest.instances_are; blocks = e.0 ∷ rest.blocks; sound = (block_from i e.0 e.1, rest.sound); faulty = rest.faulty }
+  ]
 
   -- the first fault is read
   pub blocks_fault : (earlier : List RawBlock) (before : List Instance) (i : Instance) (after : List Instance) (blocks : List RawBlock) (f : YalFault) → AllZip (IsBlockOf scale all parent) before blocks → InstanceFault scale all parent i f

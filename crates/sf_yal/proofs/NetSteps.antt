@@ -1,7 +1,8 @@
 -- Nets signal by signal, as the code keeps them.
 use Rattle.std.proofs.Common.{◌≡◌, ℕ, zero, suc, ◌≤◌, ◌<◌, ◌+◌, List, [], ◌∷◌, ◌++◌, length, get_or, take, Option, Some, None, refl, ap, ◌∙◌, arith}
 use Rattle.std.specs.Prelude.{slice_set, slice_get}
-use Rattle.std.proofs.lemmas.List.{append-nil}
+use Rattle.std.proofs.lemmas.List.{append-nil, set-get_or}
+use Rattle.std.proofs.Math.Seq.{take-nil, take-append_seam}
 use Rattle.sf_model.specs.declared.raw.RawNet.{RawNet}
 use Rattle.sf_model.specs.declared.raw.RawPin.{RawPin}
 use Rattle.sf_names.specs.Names.{index_of}
@@ -27,23 +28,12 @@ no_pad pads o signal net at none = rw (at, none, append-nil net.pins) refl
 
 -- an item that stays
 set_same : (nets : List RawNet) (k : ℕ) (net d : RawNet) → k < length nets → net ≡ get_or nets k d → slice_set nets k net ≡ nets
-set_same [] k net d lt is = absurd (omega arith)
-set_same (m ∷ nets) zero net d lt is = ap (λ (x : RawNet). x ∷ nets) is
-set_same (m ∷ nets) (suc k) net d lt is = ap (λ (xs : List RawNet). m ∷ xs) (set_same nets k net d (omega arith) is)
-
--- no names
-abbrev the_nil : List (List ℕ)
-the_nil = []
-
--- the front of no names
-take_none : (k : ℕ) → take k the_nil ≡ the_nil
-take_none zero = refl
-take_none (suc k) = refl
+set_same nets k net d lt is = rw is (set-get_or nets k d)
 
 -- the net at a place, with its pad
 pad_step : (pads signals : List (List ℕ)) (nets : List RawNet) (k : ℕ) (net d : RawNet) → k < length nets → net ≡ get_or (with_pads pads (take k signals) nets) k d
     → slice_set (with_pads pads (take k signals) nets) k (with_pad_of pads (slice_get signals k) net) ≡ with_pads pads (take (suc k) signals) nets
-pad_step pads [] nets k net d lt is = rw (take_none k) (set_same nets k net d lt (rw (take_none k) at is))
+pad_step pads [] nets k net d lt is = rw (take-nil k) (set_same nets k net d lt (rw (take-nil k) at is))
 pad_step pads (s ∷ signals) [] k net d lt is = absurd (omega arith)
 pad_step pads (s ∷ signals) (m ∷ nets) zero net d lt is = ap (λ (x : RawNet). with_pad pads s x ∷ nets) is
 pad_step pads (s ∷ signals) (m ∷ nets) (suc k) net d lt is = ap (λ (xs : List RawNet). with_pad pads s m ∷ xs) (pad_step pads signals nets k net d (omega arith) is)
@@ -57,16 +47,10 @@ pad_more pads signals nets now k net new d lt at is made =
 
 -- all nets, with their pads
 pub pads_all : (pads signals : List (List ℕ)) (nets : List RawNet) → with_pads pads (take (length nets) signals) nets ≡ with_pads pads signals nets
-pads_all pads [] nets = rw (take_none (length nets)) refl
+pads_all pads [] nets = rw (take-nil (length nets)) refl
 pads_all pads (s ∷ signals) [] = refl
 pads_all pads (s ∷ signals) (m ∷ nets) = ap (λ (xs : List RawNet). with_pad pads s m ∷ xs) (pads_all pads signals nets)
 
--- the front of a list
-front : (xs ys : List RawNet) → take (length xs) (xs ++ ys) ≡ xs
-front [] [] = refl
-front [] (y ∷ ys) = refl
-front (x ∷ xs) ys = ap (λ (zs : List RawNet). x ∷ zs) (front xs ys)
-
 -- the front of so many
 pub front_of : (n : ℕ) (xs ys : List RawNet) → n ≡ length xs → take n (xs ++ ys) ≡ xs
-front_of n xs ys is = rw is (front xs ys)
+front_of n xs ys is = rw is (take-append_seam xs ys)

@@ -1,9 +1,10 @@
 -- The nets that are kept signal by signal are those of the distinct signals.
-use Rattle.std.proofs.Common.{◌≡◌, ℕ, suc, ◌+◌, Bool, true, false, List, [], ◌∷◌, ◌++◌, length, Option, Some, None, refl, sym, ap, subst, ◌∙◌, arith, append_assoc, length-append}
+use Rattle.std.proofs.Common.{◌≡◌, inl, inr, ℕ, suc, ◌+◌, true, false, List, [], ◌∷◌, ◌++◌, length, Option, Some, None, refl, sym, ap, subst, ◌∙◌, arith, append_assoc, length-append}
 use Rattle.std.specs.Prelude.{map, is_some}
 use Rattle.std.proofs.lemmas.List.Sums.{fold-append}
 use Rattle.std.specs.Option.{option_map}
 use Rattle.std.specs.Str.{bytes_eq}
+use Rattle.std.proofs.lemmas.Bool.{cases_Bool}
 use Rattle.std.proofs.lemmas.List.{append-nil, map-append}
 use Rattle.sf_model.specs.declared.raw.RawNet.{RawNet}
 use Rattle.sf_model.specs.declared.raw.RawPin.{RawPin}
@@ -30,18 +31,10 @@ front_empty : (xs ys : List RawPin) → xs ++ ys ≡ [] → xs ≡ []
 front_empty [] ys h = refl
 front_empty (x ∷ xs) ys h = absurd cc
 
--- the place behind one
-some_is : (j k : ℕ) → Some (suc j) ≡ Some k → k ≡ suc j
-some_is j k e = cc
-
--- the first place
-some_here : (k : ℕ) → Some 0 ≡ Some k → k ≡ 0
-some_here k e = cc
-
 -- a place that is not the first lies behind one
 under : (o : Option ℕ) (k : ℕ) → option_map suc o ≡ Some k → (j : ℕ) × (o ≡ Some j) × (k ≡ suc j)
 under None k h = absurd cc
-under (Some j) k h = (j, refl, some_is j k h)
+under (Some j) k h = (j, refl, cc)
 
 -- one signal more of the last instance
 module _ (earlier : List Signals) (taken : Signals) (t : List ℕ) where
@@ -57,11 +50,11 @@ module _ (earlier : List Signals) (taken : Signals) (t : List ℕ) where
   abbrev number : ℕ
   number = 0 + length earlier
 
-  -- other signals keep their pins
-  same_pins : (s : List ℕ) → bytes_eq t s ≡ false → block_pins s 0 new ≡ block_pins s 0 old
-  same_pins s e =
+  -- other signals keep their nets
+  same_net : (s : List ℕ) → bytes_eq t s ≡ false → net_use old s ≡ net_use new s
+  same_net s e =
       let has : has_name s (taken ++ t ∷ []) ≡ has_name s taken = has_push_other s t taken e in
-      pins_last s 0 earlier (taken ++ t ∷ []) ∙ rw has (sym (pins_last s 0 earlier taken))
+      ap (λ (ps : List RawPin). record { pins = ps }) (pins_last s 0 earlier taken ∙ sym (pins_last s 0 earlier (taken ++ t ∷ []) ∙ rw has refl))
 
   -- the signal has the last instance as its last pin
   new_pins : block_pins t 0 new ≡ block_pins t 0 earlier ++ pins.Block number ∷ []
@@ -75,10 +68,9 @@ module _ (earlier : List Signals) (taken : Signals) (t : List ℕ) where
   others : (signals : Signals) → index_of t signals ≡ None → nets_for old signals ≡ nets_for new signals
   others [] h = refl
   others (s ∷ more) h =
-      let k = none_cons t s more (bytes_eq s t) refl h in
+      let k = none_cons t s more h in
       let rest = others more k.1 in
-      let here : net_use old s ≡ net_use new s = ap (λ (ps : List RawPin). record { pins = ps }) (sym (same_pins s (apart s t k.0))) in
-      ap (λ (x : RawNet). x ∷ nets_for old more) here ∙ ap (λ (xs : List RawNet). net_use new s ∷ xs) rest
+      ap (λ (x : RawNet). x ∷ nets_for old more) (same_net s (apart s t k.0)) ∙ ap (λ (xs : List RawNet). net_use new s ∷ xs) rest
 
   -- the net of the first signal
   found_here : (s : List ℕ) (more : Signals) (k : ℕ) → s ≡ t → k ≡ 0 → index_of t more ≡ None → with_pin_at number k (nets_for old (s ∷ more)) ≡ nets_for new (s ∷ more)
@@ -91,24 +83,21 @@ module _ (earlier : List Signals) (taken : Signals) (t : List ℕ) where
   -- that of a later one
   found_there : (s : List ℕ) (more : Signals) (k j : ℕ) → bytes_eq s t ≡ false → k ≡ suc j → with_pin_at number j (nets_for old more) ≡ nets_for new more → with_pin_at number k (nets_for old (s ∷ more)) ≡ nets_for new (s ∷ more)
   found_there s more k j e next rest =
-      let here : net_use old s ≡ net_use new s = ap (λ (ps : List RawPin). record { pins = ps }) (sym (same_pins s (apart s t e))) in
       subst (λ (i : ℕ). with_pin_at number i (nets_for old (s ∷ more)) ≡ nets_for new (s ∷ more)) (sym next)
-      (ap (λ (x : RawNet). x ∷ with_pin_at number j (nets_for old more)) here ∙ ap (λ (xs : List RawNet). net_use new s ∷ xs) rest)
-
-  -- by whether the signal is the first one
-  found_by : (s : List ℕ) (more : Signals) (k : ℕ) (b : Bool) → bytes_eq s t ≡ b → ((j : ℕ) → index_of t more ≡ Some j → with_pin_at number j (nets_for old more) ≡ nets_for new more)
-      → index_of s more ≡ None → index_of t (s ∷ more) ≡ Some k → with_pin_at number k (nets_for old (s ∷ more)) ≡ nets_for new (s ∷ more)
-  found_by s more k true e rest once h =
-      let same = same_name s t e in
-      found_here s more k same (some_here k (rw e at h)) (subst (λ (x : List ℕ). index_of x more ≡ None) same once)
-  found_by s more k false e rest once h =
-      let u = under (index_of t more) k (rw e at h) in
-      found_there s more k u.0 e u.2 (rest u.0 u.1)
+      (ap (λ (x : RawNet). x ∷ with_pin_at number j (nets_for old more)) (same_net s (apart s t e)) ∙ ap (λ (xs : List RawNet). net_use new s ∷ xs) rest)
 
   -- the net of a signal that is noted
   found : (signals : Signals) (k : ℕ) → Once signals → index_of t signals ≡ Some k → with_pin_at number k (nets_for old signals) ≡ nets_for new signals
   found [] k once h = absurd cc
-  found (s ∷ more) k once h = found_by s more k (bytes_eq s t) refl (λ j e. found more j once.1 e) once.0 h
+  found (s ∷ more) k once h = elim (cases_Bool (bytes_eq s t)) [
+    | inl e ↦
+        let same = same_name s t e in
+        let here : Some 0 ≡ Some k = rw e at h in
+        found_here s more k same (cc) (subst (λ (x : List ℕ). index_of x more ≡ None) same once.0)
+    | inr e ↦
+        let u = under (index_of t more) k (rw e at h) in
+        found_there s more k u.0 e u.2 (found more u.0 once.1 u.1)
+  ]
 
   -- the signals so far
   signals_old : signals_of old ≡ with_signals (signals_of earlier) taken

@@ -1,7 +1,8 @@
 -- Blocks have sizes, and pins are of blocks and pads that are there.
-use Rattle.std.proofs.Common.{◌≡◌, ℕ, ◌+◌, ◌≤◌, ◌<◌, Bool, true, false, List, [], ◌∷◌, length, map, Option, Some, None, refl, ap, sym, subst, ◌∙◌, arith}
+use Rattle.std.proofs.Common.{◌≡◌, inl, inr, ℕ, ◌+◌, ◌≤◌, ◌<◌, List, [], ◌∷◌, length, map, Option, Some, None, ap, sym, subst, ◌∙◌, arith}
 use Rattle.std.specs.Prelude.{IfSome}
 use Rattle.std.specs.List.{All, AllZip}
+use Rattle.std.proofs.lemmas.Bool.{cases_Bool}
 use Rattle.std.proofs.lemmas.List.{length-map}
 use Rattle.std.proofs.lemmas.List.Elements.{All-nil, All-cons, All-append}
 use Rattle.std.proofs.lemmas.Slice.Zip.{AllZip-long}
@@ -16,7 +17,7 @@ use Rattle.sf_names.specs.Names.{index_of, has_name}
 use Rattle.sf_yal.specs.Faults.{IsBlockOf}
 use Rattle.sf_yal.specs.Instances.{Instance}
 use Rattle.sf_yal.specs.Modules.{Module, modules, pads_of, instances_of}
-use Rattle.sf_yal.specs.Nets.{block_pins, pad_pins, net_of, nets_of, signals_of}
+use Rattle.sf_yal.specs.Nets.{block_pins, pad_pins, net_of, signals_of}
 use Rattle.sf_yal.specs.Standing.{StandsFor}
 use Rattle.sf_names.proofs.Indexes.{index_bound}
 
@@ -45,15 +46,12 @@ module _ (blocks pads : ℕ) (signal : List ℕ) where
   abbrev InRange : List RawPin → Type 0
   InRange some = All (IsPinInRange blocks pads) some
 
-  -- the pins of instances, with one instance more
-  block_pins_step : (n : ℕ) (signals : List (List ℕ)) (more : List (List (List ℕ))) (b : Bool) → has_name signal signals ≡ b → n < blocks → InRange (block_pins signal (n + 1) more) → InRange (block_pins signal n (signals ∷ more))
-  block_pins_step n signals more true e below rest = rw e (All-cons (IsPinInRange blocks pads) (pins.Block n) (block_pins signal (n + 1) more) below rest)
-  block_pins_step n signals more false e below rest = rw e rest
-
   -- the pins of instances are of blocks
   block_pins_in_range : (n : ℕ) (uses : List (List (List ℕ))) → n + length uses ≤ blocks → InRange (block_pins signal n uses)
   block_pins_in_range n [] few = All-nil (IsPinInRange blocks pads)
-  block_pins_in_range n (signals ∷ more) few = block_pins_step n signals more (has_name signal signals) refl (omega arith) (block_pins_in_range (n + 1) more (omega arith))
+  block_pins_in_range n (signals ∷ more) few =
+      let rest = block_pins_in_range (n + 1) more (omega arith) in
+      elim (cases_Bool (has_name signal signals)) [ inl e ↦ rw e (All-cons (IsPinInRange blocks pads) (pins.Block n) (block_pins signal (n + 1) more) (omega arith) rest) | inr e ↦ rw e rest ]
 
   -- that of a pad is of a pad
   pad_pins_in_range : (o : Option ℕ) → IfSome o (λ k. k < pads) → InRange (pad_pins o)
@@ -70,11 +68,6 @@ nets_in_range uses pad_names (signal ∷ signals) =
     (pad_pins_in_range (length uses) (length pad_names) signal (index_of signal pad_names) (index_bound signal pad_names)))
     (nets_in_range uses pad_names signals)
 
--- the same numbers and nets have the same range
-in_range_of : (blocks blocks' pads pads' : ℕ) (nets nets' : List RawNet) → blocks' ≡ blocks → pads' ≡ pads → nets' ≡ nets
-    → All (λ n. All (IsPinInRange blocks pads) n.pins) nets → All (λ n. All (IsPinInRange blocks' pads') n.pins) nets'
-in_range_of blocks blocks' pads pads' nets nets' a b c h = rw (a, b, c) h
-
 -- the pins of a text are of its blocks and pads
 pub parts_in_range : (scale : ℕ) (text : List ℕ) (out : Parts) → StandsFor scale text out → HasPinsInRange out
 parts_in_range scale text out s =
@@ -82,5 +75,4 @@ parts_in_range scale text out s =
     let pad_names : List (List ℕ) = map (λ p. p.name) (pads_of scale s.cut) in
     let blocks : length out.blocks ≡ length uses = AllZip-long (IsBlockOf scale (modules s.cut) s.parent) (instances_of s.cut) out.blocks s.blocks ∙ sym (length-map (instances_of s.cut) (λ (i : Instance). i.signals)) in
     let pads : length out.pads ≡ length pad_names = ap length s.pads ∙ sym (length-map (pads_of scale s.cut) (λ (p : RawPad). p.name)) in
-    in_range_of (length uses) (length out.blocks) (length pad_names) (length out.pads) (nets_of uses pad_names) out.nets blocks pads s.nets
-    (nets_in_range uses pad_names (signals_of uses))
+    rw (blocks, pads, s.nets) (nets_in_range uses pad_names (signals_of uses))

@@ -1,11 +1,11 @@
 -- The pins of a signal, and lists of signals without repeats.
-use Rattle.std.proofs.Common.{◌≡◌, ℕ, suc, ◌+◌, ◌<◌, ◌≤◌, Bool, true, false, cond, List, [], ◌∷◌, ◌++◌, length, Option, Some, None, refl, sym, ap, ◌∙◌, arith, length-append, eq-eqb}
-use Rattle.std.specs.Prelude.{fold, is_some, slice_get, ◌-◌, ◌==◌}
+use Rattle.std.proofs.Common.{◌≡◌, inl, inr, ℕ, suc, ◌+◌, ◌<◌, ◌≤◌, Bool, true, false, cond, List, [], ◌∷◌, ◌++◌, length, Option, Some, None, refl, sym, ap, ◌∙◌, arith, length-append, eq-eqb}
+use Rattle.std.specs.Prelude.{fold, is_some, slice_get, ◌-◌}
 use Rattle.std.specs.Option.{option_map}
 use Rattle.std.specs.Str.{bytes_eq}
 use Rattle.std.proofs.lemmas.List.{append-nil}
 use Rattle.std.proofs.lemmas.Slice.Eq.{bytes_eq-Decides}
-use Rattle.std.proofs.lemmas.Bool.Decides.{nat_tests}
+use Rattle.std.proofs.lemmas.Bool.{cases_Bool, false_from_ne_true, ne_eqb, true≢false}
 use Rattle.sf_model.specs.declared.raw.RawPin.{RawPin}
 use Rattle.sf_model.specs.declared.raw.RawPin.TheVariants as pins
 use Rattle.sf_names.specs.Names.{index_of, has_name, Once}
@@ -32,33 +32,19 @@ same_name a b e = (bytes_eq-Decides a b).0 e
 pub is_same : (a : List ℕ) → bytes_eq a a ≡ true
 is_same a = (bytes_eq-Decides a a).1 refl
 
--- true is not false
-pub true_not_false : true ≡ false → ⊥
-true_not_false e = absurd cc
-
--- the test of two names, in the other order
-swapped : (a b : List ℕ) (t : Bool) → bytes_eq b a ≡ t → bytes_eq a b ≡ false → t ≡ false
-swapped a b false e h = refl
-swapped a b true e h = absurd (true_not_false (sym (is_same a) ∙ ap (λ (x : List ℕ). bytes_eq a x) (sym (same_name b a e)) ∙ h))
-
 -- the other name isn't this one
 pub apart : (a b : List ℕ) → bytes_eq a b ≡ false → bytes_eq b a ≡ false
-apart a b h = swapped a b (bytes_eq b a) refl h
+apart a b h = false_from_ne_true (bytes_eq b a) (λ e. true≢false (sym (is_same a) ∙ ap (bytes_eq a) (sym (same_name b a e)) ∙ h))
 
 -- a place behind one is a place
 pub some_under : (o : Option ℕ) → is_some (option_map suc o) ≡ is_some o
 some_under None = refl
 some_under (Some x) = refl
 
--- a name is in a longer list too
-has_step : (t s : List ℕ) (more : Signals) (b : Bool) → bytes_eq s t ≡ b → has_name t more ≡ true → has_name t (s ∷ more) ≡ true
-has_step t s more true e h = rw e refl
-has_step t s more false e h = rw e (some_under (index_of t more) ∙ h)
-
 -- a list has the name that is put behind it
 pub has_push_same : (t : List ℕ) (names : Signals) → has_name t (names ++ t ∷ []) ≡ true
 has_push_same t [] = rw (is_same t) refl
-has_push_same t (s ∷ names) = has_step t s (names ++ t ∷ []) (bytes_eq s t) refl (has_push_same t names)
+has_push_same t (s ∷ names) = elim (cases_Bool (bytes_eq s t)) [ inl e ↦ rw e refl | inr e ↦ rw e (some_under (index_of t (names ++ t ∷ [])) ∙ has_push_same t names) ]
 
 -- another name behind it changes nothing
 pub has_push_other : (s t : List ℕ) (names : Signals) → bytes_eq t s ≡ false → has_name s (names ++ t ∷ []) ≡ has_name s names
@@ -70,22 +56,13 @@ has_push_other s t names e = ap is_some (push_other s t names e)
 abbrev pub pin_of : ℕ → List ℕ → Signals → List RawPin
 pin_of n s taken = cond (has_name s taken) (pins.Block n ∷ []) []
 
--- the pins of one instance
-pins_step : (s : List ℕ) (m : ℕ) (first : Signals) (b : Bool) (rest : List RawPin) → has_name s first ≡ b → block_pins s m (first ∷ []) ≡ pin_of m s first
-pins_step s m first true rest e = rw e refl
-pins_step s m first false rest e = rw e refl
-
--- the pins with one instance before the others
-pins_more : (s : List ℕ) (m : ℕ) (first taken : Signals) (earlier : List Signals) (b : Bool) → has_name s first ≡ b
-    → block_pins s (m + 1) (earlier ++ taken ∷ []) ≡ block_pins s (m + 1) earlier ++ pin_of (m + 1 + length earlier) s taken
-    → block_pins s m (first ∷ (earlier ++ taken ∷ [])) ≡ block_pins s m (first ∷ earlier) ++ pin_of (m + suc (length earlier)) s taken
-pins_more s m first taken earlier true e h = let k : m + 1 + length earlier ≡ m + suc (length earlier) = omega arith in rw (e, ← k) (ap (λ (ps : List RawPin). pins.Block m ∷ ps) h)
-pins_more s m first taken earlier false e h = let k : m + 1 + length earlier ≡ m + suc (length earlier) = omega arith in rw (e, ← k) h
-
 -- the instance behind the earlier ones is the last pin, if it names the signal
 pub pins_last : (s : List ℕ) (m : ℕ) (earlier : List Signals) (taken : Signals) → block_pins s m (earlier ++ taken ∷ []) ≡ block_pins s m earlier ++ pin_of (m + length earlier) s taken
-pins_last s m [] taken = let k : m + 0 ≡ m = omega arith in rw k (pins_step s m taken (has_name s taken) [] refl)
-pins_last s m (first ∷ earlier) taken = pins_more s m first taken earlier (has_name s first) refl (pins_last s (m + 1) earlier taken)
+pins_last s m [] taken = let k : m + 0 ≡ m = omega arith in rw k (elim (cases_Bool (has_name s taken)) [ inl e ↦ rw e refl | inr e ↦ rw e refl ])
+pins_last s m (first ∷ earlier) taken =
+    let k : m + 1 + length earlier ≡ m + suc (length earlier) = omega arith in
+    let more = pins_last s (m + 1) earlier taken in
+    elim (cases_Bool (has_name s first)) [ inl e ↦ rw (e, ← k) (ap (λ (ps : List RawPin). pins.Block m ∷ ps) more) | inr e ↦ rw (e, ← k) more ]
 
 -- ---- the last pin
 
@@ -107,24 +84,17 @@ ends_cons n p q qs =
     let b : suc (length qs) - 1 ≡ length qs = omega arith in
     ap (λ (i : ℕ). is_some_block n (slice_get (p ∷ q ∷ qs) i)) a ∙ sym (ap (λ (i : ℕ). is_some_block n (slice_get (q ∷ qs) i)) b)
 
--- an earlier instance is another one
-other_block : (m k : ℕ) → m < k → (m == k) ≡ false
-other_block m k lt = grind (arith, nat_tests)
-
 -- an earlier instance before the others is not the last one
 cons_low : (m k : ℕ) (rest : List RawPin) → m < k → ends_with k rest ≡ false → ends_with k (pins.Block m ∷ rest) ≡ false
-cons_low m k [] lt h = other_block m k lt
+cons_low m k [] lt h = ne_eqb m k (λ e. absurd (omega arith))
 cons_low m k (q ∷ qs) lt h = ends_cons k (pins.Block m) q qs ∙ h
-
--- so with one instance more
-low_step : (s : List ℕ) (m k : ℕ) (first : Signals) (more : List Signals) (b : Bool) → has_name s first ≡ b → m < k → ends_with k (block_pins s (m + 1) more) ≡ false → ends_with k (block_pins s m (first ∷ more)) ≡ false
-low_step s m k first more true e lt h = rw e (cons_low m k (block_pins s (m + 1) more) lt h)
-low_step s m k first more false e lt h = rw e h
 
 -- no earlier instance has a later number
 pub low : (s : List ℕ) (m k : ℕ) (uses : List Signals) → m + length uses ≤ k → ends_with k (block_pins s m uses) ≡ false
 low s m k [] le = refl
-low s m k (first ∷ more) le = low_step s m k first more (has_name s first) refl (omega arith) (low s (m + 1) k more (omega arith))
+low s m k (first ∷ more) le =
+    let rest = low s (m + 1) k more (omega arith) in
+    elim (cases_Bool (has_name s first)) [ inl e ↦ rw e (cons_low m k (block_pins s (m + 1) more) (omega arith) rest) | inr e ↦ rw e rest ]
 
 -- an instance that names the signal is a pin once
 pub with_pin_by : (n : ℕ) (t : List ℕ) (taken : Signals) (before : List RawPin) (b : Bool) → has_name t taken ≡ b → ends_with n before ≡ false → with_pin n (before ++ pin_of n t taken) ≡ before ++ pins.Block n ∷ []
@@ -136,26 +106,24 @@ with_pin_by n t taken before false e h = rw (e, append-nil before, h) refl
 -- ---- lists without repeats
 
 -- a name that a list lacks is neither its first nor among the others
-pub none_cons : (t s : List ℕ) (more : Signals) (b : Bool) → bytes_eq s t ≡ b → index_of t (s ∷ more) ≡ None → (bytes_eq s t ≡ false) × (index_of t more ≡ None)
-none_cons t s more true e h = absurd (some_not_none (rw e at h))
-none_cons t s more false e h = (e, none_under (index_of t more) (rw e at h))
+pub none_cons : (t s : List ℕ) (more : Signals) → index_of t (s ∷ more) ≡ None → (bytes_eq s t ≡ false) × (index_of t more ≡ None)
+none_cons t s more h = elim (cases_Bool (bytes_eq s t)) [ inl e ↦ absurd (some_not_none (rw e at h)) | inr e ↦ (e, none_under (index_of t more) (rw e at h)) ]
 
 -- a new name behind a list without repeats
 pub once_push : (names : Signals) (t : List ℕ) → Once names → index_of t names ≡ None → Once (names ++ t ∷ [])
 once_push [] t once h = (refl, tt)
 once_push (s ∷ more) t once h =
-    let k = none_cons t s more (bytes_eq s t) refl h in
+    let k = none_cons t s more h in
     (push_other s t more (apart s t k.0) ∙ once.0, once_push more t once.1 k.1)
 
 -- a signal more
-once_with : (seen : Signals) (t : List ℕ) (b : Bool) → has_name t seen ≡ b → Once seen → Once (with_signal seen t)
-once_with seen t true e once = rw e once
-once_with seen t false e once = rw e (once_push seen t once (none_of (index_of t seen) e))
+once_with : (seen : Signals) (t : List ℕ) → Once seen → Once (with_signal seen t)
+once_with seen t once = elim (cases_Bool (has_name t seen)) [ inl e ↦ rw e once | inr e ↦ rw e (once_push seen t once (none_of (index_of t seen) e)) ]
 
 -- some signals more
 once_all : (seen signals : Signals) → Once seen → Once (with_signals seen signals)
 once_all seen [] once = once
-once_all seen (t ∷ signals) once = once_all (with_signal seen t) signals (once_with seen t (has_name t seen) refl once)
+once_all seen (t ∷ signals) once = once_all (with_signal seen t) signals (once_with seen t once)
 
 -- the signals of all instances
 pub once_uses : (seen : Signals) (uses : List Signals) → Once seen → Once (fold with_signals seen uses)
@@ -166,28 +134,29 @@ once_uses seen (signals ∷ uses) once = once_uses (with_signals seen signals) u
 
 -- a name that a longer list lacks
 push_none : (t w : List ℕ) (seen : Signals) → index_of t (seen ++ w ∷ []) ≡ None → (index_of t seen ≡ None) × (bytes_eq w t ≡ false)
-push_none t w [] h = let k = none_cons t w [] (bytes_eq w t) refl h in (refl, k.0)
+push_none t w [] h = let k = none_cons t w [] h in (refl, k.0)
 push_none t w (s ∷ seen) h =
-    let k = none_cons t s (seen ++ w ∷ []) (bytes_eq s t) refl h in
+    let k = none_cons t s (seen ++ w ∷ []) h in
     let more = push_none t w seen k.1 in
     (rw (k.0, more.0) refl, more.1)
 
 -- a name that the list has is another one
-not_named : (t w : List ℕ) (seen : Signals) (b : Bool) → bytes_eq w t ≡ b → has_name w seen ≡ true → index_of t seen ≡ None → bytes_eq w t ≡ false
-not_named t w seen false e has none = e
-not_named t w seen true e has none = absurd (true_not_false (sym has ∙ ap (λ (x : List ℕ). has_name x seen) (same_name w t e) ∙ ap is_some none))
+not_named : (t w : List ℕ) (seen : Signals) → has_name w seen ≡ true → index_of t seen ≡ None → bytes_eq w t ≡ false
+not_named t w seen has none = false_from_ne_true (bytes_eq w t) (λ e. true≢false (sym has ∙ ap (λ (x : List ℕ). has_name x seen) (same_name w t e) ∙ ap is_some none))
 
 -- a signal that is not noted is not named
-absent_with : (t w : List ℕ) (seen : Signals) (b : Bool) → has_name w seen ≡ b → index_of t (with_signal seen w) ≡ None → (index_of t seen ≡ None) × (bytes_eq w t ≡ false)
-absent_with t w seen true e h = let none : index_of t seen ≡ None = rw e at h in (none, not_named t w seen (bytes_eq w t) refl e none)
-absent_with t w seen false e h = push_none t w seen (rw e at h)
+absent_with : (t w : List ℕ) (seen : Signals) → index_of t (with_signal seen w) ≡ None → (index_of t seen ≡ None) × (bytes_eq w t ≡ false)
+absent_with t w seen h = elim (cases_Bool (has_name w seen)) [
+  | inl e ↦ let none : index_of t seen ≡ None = rw e at h in (none, not_named t w seen e none)
+  | inr e ↦ push_none t w seen (rw e at h)
+]
 
 -- nor by some signals
 pub absent_all : (t : List ℕ) (seen signals : Signals) → index_of t (with_signals seen signals) ≡ None → (index_of t seen ≡ None) × (has_name t signals ≡ false)
 absent_all t seen [] h = (h, refl)
 absent_all t seen (w ∷ signals) h =
     let more = absent_all t (with_signal seen w) signals h in
-    let here = absent_with t w seen (has_name w seen) refl more.0 in
+    let here = absent_with t w seen more.0 in
     (here.0, rw here.1 (some_under (index_of t signals) ∙ more.1))
 
 -- nor by any instance

@@ -1,5 +1,5 @@
 -- A text stands for parts, or has a fault, exactly where reading gives these.
-use Rattle.std.proofs.Common.{◌≡◌, ◌≢◌, ◌⊎◌, inl, inr, ℕ, Bool, true, false, List, [], map, Option, Some, None, Result, Ok, Err, refl, sym, ap, subst, ◌∙◌, append-nil}
+use Rattle.std.proofs.Common.{◌≡◌, ◌≢◌, inl, inr, ℕ, Bool, true, false, List, [], map, Option, Some, None, Result, Ok, Err, refl, sym, ap, subst, ◌∙◌, append-nil}
 use Rattle.std.specs.Prelude.{not, is_some}
 use Rattle.std.specs.List.{AllZip}
 use Rattle.sf_model.specs.declared.raw.RawBlock.{RawBlock}
@@ -9,14 +9,14 @@ use Rattle.sf_yal.specs.declared.fault.YalFault.TheVariants as faults
 use Rattle.sf_yal.specs.declared.vertices.Size.{Size}
 use Rattle.sf_yal.specs.Box.{◌>>=◌}
 use Rattle.sf_yal.specs.Statements.{statements_of, is_ended, last_line}
-use Rattle.sf_yal.specs.Modules.{Worded, worded, Rest, Nothing, InModule, InList, Cut, name_of, box_of, closed, modules, parent_place, instances_of}
-use Rattle.sf_yal.specs.Faults.{IsBlockOf, FirstInstanceFault}
+use Rattle.sf_yal.specs.Modules.{Worded, worded, Rest, Nothing, Cut, name_of, box_of, closed, modules, parent_place, instances_of}
+use Rattle.sf_yal.specs.Faults.{IsBlockOf}
 use Rattle.sf_yal.specs.Standing.{IsCut, IsEnded, StandsFor, PartsFault, EndFault, HasFault}
 use Rattle.sf_yal.specs.Reading.{Reading, start, after_statements}
 use Rattle.sf_yal.specs.Parts.{blocks_from, parts_with, parts_by, parts_read, yal_read}
 use Rattle.sf_yal.proofs.Cuts.{nothing_cut, cut_of, are_cut, is_the_cut}
 use Rattle.sf_yal.proofs.Views.{view, open_view}
-use Rattle.sf_yal.proofs.Results.{done, ok_is, failed, err_is, err_not_ok, ok_not_err, bind_ok, bind_err}
+use Rattle.sf_yal.proofs.Results.{ok_is, failed, err_is, err_not_ok, ok_not_err, bind_ok, bind_err}
 use Rattle.sf_yal.proofs.Sound.{words_alone, Sound, sound_read, read_sound, read_fails, are_sound, sound_behind, first_fault, first_fault_read}
 use Rattle.sf_yal.proofs.InstanceBlocks.{blocks_all, all_blocks, fault_blocks, blocks_fault}
 
@@ -60,16 +60,13 @@ module _ (scale : ℕ) (text : List ℕ) (cut : Cut) where
           pads_in = ap (λ (p : Parts). p.pads_in) is;
         }
 
-    -- the fault of the blocks, since the parts have none
-    parts_fault_by : (parent : ℕ) (f : YalFault) → (blocks_from kept.names kept.sizes parent [] kept.instances ≡ Err f)
-        ⊎ ((blocks : List RawBlock) × (blocks_from kept.names kept.sizes parent [] kept.instances ≡ Ok blocks) × (done (parts_with kept blocks) ≡ Err f)) → FirstInstanceFault scale (modules cut) parent (instances_of cut) f
-    parts_fault_by parent f (inl e) = fault_blocks scale (modules cut) parent [] (instances_of cut) f (sym (same_blocks parent) ∙ e)
-    parts_fault_by parent f (inr e) = absurd (ok_not_err (parts_with kept e.0) f e.2)
-
     -- the fault that is read of the parts is the first
     parts_fault : (o : Option ℕ) (f : YalFault) → parts_by kept o ≡ Err f → PartsFault scale cut o f
     parts_fault None f read = err_is {A = Parts} faults.NoParent f read
-    parts_fault (Some parent) f read = parts_fault_by parent f (bind_err (blocks_from kept.names kept.sizes parent [] kept.instances) (λ blocks. Ok (parts_with kept blocks)) f read)
+    parts_fault (Some parent) f read = elim (bind_err (blocks_from kept.names kept.sizes parent [] kept.instances) (λ blocks. Ok (parts_with kept blocks)) f read) [
+      | inl e ↦ fault_blocks scale (modules cut) parent [] (instances_of cut) f (sym (same_blocks parent) ∙ e)
+      | inr e ↦ absurd (ok_not_err (parts_with kept e.0) f e.2)
+    ]
 
     -- the first fault of the parts is read
     fault_parts : (o : Option ℕ) (f : YalFault) → PartsFault scale cut o f → parts_by kept o ≡ Err f
@@ -81,20 +78,17 @@ module _ (scale : ℕ) (text : List ℕ) (cut : Cut) where
   -- something is open at the end, or nothing is
   open_rest : (rest : Rest) → not (is_some (open_view scale rest)) ≡ false → rest ≢ Nothing
   open_rest Nothing e = absurd cc
-  open_rest (InModule m) e = λ same. absurd cc
-  open_rest (InList m l) e = λ same. absurd cc
+  open_rest rest e = λ same. absurd cc
 
   -- and the other way round
   rest_open : (rest : Rest) → rest ≢ Nothing → not (is_some (open_view scale rest)) ≡ false
   rest_open Nothing e = absurd (e refl)
-  rest_open (InModule m) e = refl
-  rest_open (InList m l) e = refl
+  rest_open rest e = refl
 
   -- nothing is open
   no_rest : (rest : Rest) → not (is_some (open_view scale rest)) ≡ true → rest ≡ Nothing
   no_rest Nothing e = refl
-  no_rest (InModule m) e = absurd cc
-  no_rest (InList m l) e = absurd cc
+  no_rest rest e = absurd cc
 
   -- what is read at the end
   abbrev read_end : Result Parts YalFault
@@ -178,18 +172,15 @@ module _ (scale : ℕ) (text : List ℕ) where
       let parts : parts_by kept (Some s.parent) ≡ Ok out = rw blocks (λ i. Ok (record { blocks = out.blocks; pads = sym s.pads i; nets = sym s.nets i; strangers = sym s.strangers i; pads_in = sym s.pads_in i })) in
       read_cut s.cut s.is_cut ∙ rw (s.ended.0, shut, s.parent_is) parts
 
-  -- the fault that is read, by where it is found
-  fault_by : (f : YalFault) → yal_read scale text ≡ Err f → (after_statements scale start (statements_of text) ≡ Err f)
-      ⊎ ((r : Reading) × (after_statements scale start (statements_of text) ≡ Ok r) × (parts_read (last_line text) (is_ended text) r ≡ Err f)) → HasFault scale text f
-  fault_by f h (inl e) = inl (first_fault scale all f (read_fails scale nothing_cut all f (sym (words_alone scale start (statements_of text)) ∙ e)))
-  fault_by f h (inr e) =
-      let sound = sound_text e.0 e.1 in
-      inr (the_cut, is_the_text sound, end_fault scale text the_cut (is_the_text sound) f (is_ended text) (not (is_some (open_view scale the_cut.rest))) refl refl (sym (read_on sound) ∙ h))
-
   -- the fault that is read is the first of the text
   pub fault_from_read : (f : YalFault) → yal_read scale text ≡ Err f → HasFault scale text f
   unfolding yal_read
-  fault_from_read f h = fault_by f h (bind_err (after_statements scale start (statements_of text)) (parts_read (last_line text) (is_ended text)) f h)
+  fault_from_read f h = elim (bind_err (after_statements scale start (statements_of text)) (parts_read (last_line text) (is_ended text)) f h) [
+    | inl e ↦ inl (first_fault scale all f (read_fails scale nothing_cut all f (sym (words_alone scale start (statements_of text)) ∙ e)))
+    | inr e ↦
+        let sound = sound_text e.0 e.1 in
+        inr (the_cut, is_the_text sound, end_fault scale text the_cut (is_the_text sound) f (is_ended text) (not (is_some (open_view scale the_cut.rest))) refl refl (sym (read_on sound) ∙ h))
+  ]
 
   -- the first fault of the text is read
   pub read_from_fault : (f : YalFault) → HasFault scale text f → yal_read scale text ≡ Err f

@@ -1,6 +1,7 @@
 -- Statements one after another, as the loop takes them.
-use Rattle.std.proofs.Common.{◌≡◌, ℕ, ◌+◌, List, [], ◌∷◌, Result, Ok, refl, sym, ap, ◌∙◌, subst, Bool, true, false}
+use Rattle.std.proofs.Common.{◌≡◌, inl, inr, ℕ, ◌+◌, List, [], ◌∷◌, Result, Ok, refl, sym, ap, ◌∙◌, subst}
 use Rattle.std.specs.List.{onto_first}
+use Rattle.std.proofs.lemmas.Bool.{cases_Bool}
 use Rattle.sf_lex.specs.Text.{words, is_blank_byte}
 use Rattle.sf_yal.specs.declared.fault.YalFault.{YalFault}
 use Rattle.sf_yal.specs.Box.{◌>>=◌}
@@ -18,15 +19,13 @@ record Filled (xs : List (List ℕ)) : Type 0 where
 onto_filled : (b : ℕ) (xs : List (List ℕ)) → Filled xs → Filled (onto_first b xs)
 onto_filled b xs f = record { first = b ∷ f.first; more = f.more; is = rw f.is refl }
 
--- so does a byte before the others
-step_filled : (b : ℕ) (bytes : List ℕ) (t : Bool) → is_semicolon b ≡ t → Filled (pieces bytes) → Filled (pieces (b ∷ bytes))
-step_filled b bytes true e f = record { first = []; more = pieces bytes; is = rw e refl }
-step_filled b bytes false e f = let g = onto_filled b (pieces bytes) f in record { first = g.first; more = g.more; is = rw e g.is }
-
 -- bytes have a piece
 filled : (bytes : List ℕ) → Filled (pieces bytes)
 filled [] = record { first = []; more = []; is = refl }
-filled (b ∷ bytes) = step_filled b bytes (is_semicolon b) refl (filled bytes)
+filled (b ∷ bytes) = elim (cases_Bool (is_semicolon b)) [
+  | inl e ↦ record { first = []; more = pieces bytes; is = rw e refl }
+  | inr e ↦ let g = onto_filled b (pieces bytes) (filled bytes) in record { first = g.first; more = g.more; is = rw e g.is }
+]
 
 -- a piece before others is a statement
 statements_by : (n : ℕ) (piece : List ℕ) (more : List (List ℕ)) → Filled more → statements n (piece ∷ more) ≡ statement_at n piece ∷ statements (n + feeds piece) more

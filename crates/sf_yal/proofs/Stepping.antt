@@ -19,13 +19,7 @@ cut xs i x lt is = drop-cons xs i x lt ∙ ap (λ y. y ∷ drop (suc i) xs) (sym
 -- a fault of the first reading is the fault of both
 pub Fails-then : {X Y : Type 0} (f : X → Result Y YalFault) (fault : YalFault) (read : Result X YalFault) → Fails fault read → Fails fault (read >>= f)
 Fails-then f faults.NoMemory read h = tt
-Fails-then f (faults.Truncated n) read h = rw h refl
-Fails-then f (faults.BadStatement n) read h = rw h refl
-Fails-then f (faults.BadNumber n e) read h = rw h refl
-Fails-then f (faults.ZeroSide n) read h = rw h refl
-Fails-then f faults.NoParent read h = rw h refl
-Fails-then f (faults.TwoParents n) read h = rw h refl
-Fails-then f (faults.UnknownModule n name) read h = rw h refl
+Fails-then f fault read h = rw h refl
 
 module _ (names : List (List ℕ)) (sizes : List (Option Size)) (parent : ℕ) (xs : List code.Instance) (total : Result (List RawBlock) YalFault) where
   -- a block that is read leaves what is read in all

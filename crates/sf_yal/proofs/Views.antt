@@ -1,12 +1,13 @@
 -- What the reader keeps is seen in the cut of what it has read.
-use Rattle.std.proofs.Common.{◌≡◌, ℕ, suc, Bool, true, false, cond, List, [], ◌∷◌, ◌++◌, length, map, Option, Some, None, Result, Ok, Err, refl, sym, ap, ◌∙◌, append_assoc, append-nil, ℤ}
+use Rattle.std.proofs.Common.{◌≡◌, inl, inr, ℕ, suc, Bool, true, false, cond, List, [], ◌∷◌, ◌++◌, length, map, Option, Some, None, Result, Ok, Err, refl, sym, ap, subst, ◌∙◌, append_assoc, append-nil, ℤ}
 use Rattle.std.specs.Prelude.{◌||◌, ◌&&◌, is_some, flat_map, fold}
 use Rattle.std.specs.List.{list_any}
 use Rattle.std.specs.Option.{option_map, option_or}
 use Rattle.std.proofs.lemmas.List.{length-map, map-append}
 use Rattle.std.proofs.lemmas.List.Folds.{list_any-append}
 use Rattle.std.proofs.lemmas.List.Sums.{fold-append}
-use Rattle.std.proofs.lemmas.Bool.{or_parts}
+use Rattle.std.proofs.lemmas.Bool.{cases_Bool, or_left, or_parts, or_right, true≢false}
+use Rattle.std.proofs.Math.Bool.{or-false}
 use Rattle.sf_lex.specs.declared.number.NumberFault.{NumberFault}
 use Rattle.sf_model.specs.declared.raw.RawPad.{RawPad}
 use Rattle.sf_names.specs.Names.{has_name}
@@ -25,6 +26,7 @@ use Rattle.sf_yal.specs.Words.{is_parent_word}
 use Rattle.sf_yal.specs.Modules.{Worded, key, ListKind, Terminals, Network, Listing, Section, Single, Listed, Module, Item, Stray, Whole, Rest, Nothing, InModule, InList, Cut, closes, name_of, is_type_key, is_type, is_list, word_of, is_parent_type, is_parent, box_behind, section_box, box_in, box_of, in_section, in_module, if_parent, modules_in, closed, open_module, parent_place, in_rest, point_of, pad_at, with_pad, pads_of, instance_at, instances_of}
 use Rattle.sf_yal.specs.Faults.{name_fault, type_fault, box_fault, point_fault, terminal_fault, instance_fault, outside_fault, body_fault, list_fault, fault_in, fault_at}
 use Rattle.sf_yal.specs.Reading.{Reading, module_begun, module_opened, module_said, type_taken, parent_taken, type_said, size_taken, box_said, list_opened, list_closed, module_closed, outside_said, in_body_said, pad_taken, placed_said, terminal_said, instance_said, in_terminals_said, in_network_said, said_in, after_words}
+use Rattle.sf_yal.proofs.SignalPins.{some_under}
 use Rattle.sf_yal.proofs.Cuts.{flat_push, begun, with_section, listing, with_inside, step_outside, step_body, step_list, step_in, step}
 
 -- ---- the view
@@ -86,43 +88,21 @@ parent_same : (ms : List Module) (m n : Module) → is_parent n ≡ is_parent m 
 parent_same [] m n e = rw e refl
 parent_same (x ∷ ms) m n e = ap (λ (o : Option ℕ). cond (is_parent x) (Some 0) (option_map suc o)) (parent_same ms m n e)
 
--- no place behind one is none
-none_behind : (o : Option ℕ) → is_some (option_map suc o) ≡ false → is_some o ≡ false
-none_behind None e = refl
-none_behind (Some k) e = absurd cc
-
--- the first place, by whether the first module is the parent
-parent_first_by : (x : Module) (ms : List Module) (m n : Module) (b : Bool) → is_parent x ≡ b → is_some (parent_place ((x ∷ ms) ++ m ∷ [])) ≡ false
-    → (is_some (parent_place (ms ++ m ∷ [])) ≡ false → parent_place (ms ++ n ∷ []) ≡ Some (length ms)) → parent_place ((x ∷ ms) ++ n ∷ []) ≡ Some (suc (length ms))
-parent_first_by x ms m n true e none more = absurd (let e : true ≡ false = rw e at none in cc)
-parent_first_by x ms m n false e none more = rw (e, more (none_behind (parent_place (ms ++ m ∷ [])) (rw e at none))) refl
-
 -- where there is no parent yet, the last module is the first one
 parent_first : (ms : List Module) (m n : Module) → is_some (parent_place (ms ++ m ∷ [])) ≡ false → is_parent n ≡ true → parent_place (ms ++ n ∷ []) ≡ Some (length ms)
 parent_first [] m n none e = rw e refl
-parent_first (x ∷ ms) m n none e = parent_first_by x ms m n (is_parent x) refl none (λ none. parent_first ms m n none e)
-
--- a test of one item more
-any_push : {X : Type 0} (p : X → Bool) (xs : List X) (x : X) → list_any p (xs ++ x ∷ []) ≡ (list_any p xs || (p x || false))
-any_push p xs x = list_any-append p xs (x ∷ [])
-
--- a test that fails at the last
-or-no : (b : Bool) → (b || (false || false)) ≡ b
-or-no true = refl
-or-no false = refl
-
--- a test that passes at the last
-or-yes : (b : Bool) → (b || (true || false)) ≡ true
-or-yes true = refl
-or-yes false = refl
+parent_first (x ∷ ms) m n none e = elim (cases_Bool (is_parent x)) [
+  | inl p ↦ absurd (true≢false (rw p at none))
+  | inr p ↦ rw (p, parent_first ms m n (sym (some_under (parent_place (ms ++ m ∷ []))) ∙ (rw p at none)) e) refl
+]
 
 -- an item more that fails leaves the test
 any_no : {X : Type 0} (p : X → Bool) (xs : List X) (x : X) → p x ≡ false → list_any p (xs ++ x ∷ []) ≡ list_any p xs
-any_no p xs x e = any_push p xs x ∙ ap (λ (b : Bool). list_any p xs || (b || false)) e ∙ or-no (list_any p xs)
+any_no p xs x e = rw (list_any-append p xs (x ∷ []), e) (or-false (list_any p xs))
 
 -- an item more that passes makes it true
 any_yes : {X : Type 0} (p : X → Bool) (xs : List X) (x : X) → p x ≡ true → list_any p (xs ++ x ∷ []) ≡ true
-any_yes p xs x e = any_push p xs x ∙ ap (λ (b : Bool). list_any p xs || (b || false)) e ∙ or-yes (list_any p xs)
+any_yes p xs x e = list_any-append p xs (x ∷ []) ∙ or_right (list_any p xs) (p x || false) (or_left (p x) false e)
 
 -- nothing more leaves what is there
 or_none : (o : Option Size) → option_or o None ≡ o
@@ -170,12 +150,6 @@ unlisted_empty kind (Listed l closing ∷ xs) e = absurd cc
 -- ---- one statement more
 
 module _ (scale : ℕ) where
-  -- the same parts give the same
-  same_parts : (current current' : Option OpenModule) (names names' : List (List ℕ)) (sizes sizes' : List (Option Size)) (parent parent' : Option ℕ) (pads pads' : List RawPad) (instances instances' : List Instance)
-      → current ≡ current' → names ≡ names' → sizes ≡ sizes' → parent ≡ parent' → pads ≡ pads' → instances ≡ instances'
-      → shown scale current names sizes parent pads instances ≡ shown scale current' names' sizes' parent' pads' instances'
-  same_parts current current' names names' sizes sizes' parent parent' pads pads' instances instances' a b c d e f = λ i. shown scale (a i) (b i) (c i) (d i) (e i) (f i)
-
   module _ (ms : List Module) where
     -- what is kept behind these modules
     abbrev kept : Rest → Reading
@@ -194,18 +168,9 @@ module _ (scale : ℕ) where
         → in_rest Terminals rest' ≡ in_rest Terminals rest → in_rest Network rest' ≡ in_rest Network rest → open_view scale rest' ≡ current
         → record (kept rest) { current = current } ≡ kept rest'
     changes m n rest rest' current opened opened' named parent ts ws seen =
-        same_parts current (open_view scale rest')
-        (map name_of (ms ++ open_module rest)) (map name_of (ms ++ open_module rest'))
-        (map (box_of scale) ms) (map (box_of scale) ms)
-        (parent_place (ms ++ open_module rest)) (parent_place (ms ++ open_module rest'))
-        (pads_with (in_rest Terminals rest)) (pads_with (in_rest Terminals rest'))
-        (instances_with (in_rest Network rest)) (instances_with (in_rest Network rest'))
-        (sym seen)
-        (rw (opened, opened') (sym (name_more ms m n named)))
-        refl
-        (rw (opened, opened') (sym (parent_same ms m n parent)))
-        (ap pads_with (sym ts))
-        (ap instances_with (sym ws))
+        let names : map name_of (ms ++ open_module rest) ≡ map name_of (ms ++ open_module rest') = rw (opened, opened') (sym (name_more ms m n named)) in
+        let place : parent_place (ms ++ open_module rest) ≡ parent_place (ms ++ open_module rest') = rw (opened, opened') (sym (parent_same ms m n parent)) in
+        λ i. shown scale (sym seen i) (names i) (map (box_of scale) ms) (place i) (pads_with (sym ts i)) (instances_with (sym ws i))
 
     module _ (m : Module) (s : Worded) where
       -- the module with this statement more
@@ -216,16 +181,18 @@ module _ (scale : ℕ) where
       in_more : (kind : ListKind) → in_module kind one_more ≡ in_module kind m
       in_more kind = flat_push (in_section kind) m.sections (Single s) ∙ append-nil (in_module kind m)
 
+      -- it is kept by what is said of it
+      grows : (typed listed : Bool) (size : Option Size) → list_any is_type one_more.sections ≡ typed → is_parent_type (Single s) ≡ false → list_any is_list one_more.sections ≡ listed → box_of scale one_more ≡ size
+          → record (kept (InModule m)) { current = Some (record { section = sections.Body; is_typed = typed; is_parent = is_parent m; has_list = listed; size = size }) } ≡ kept (InModule one_more)
+      grows typed listed size t other l b =
+          let parent = any_no is_parent_type m.sections (Single s) other in
+          changes m one_more (InModule m) (InModule one_more) _ refl refl refl parent
+          (rw (parent, in_more Terminals) refl) (rw (parent, in_more Network) refl)
+          (λ i. Some (record { section = sections.Body; is_typed = t i; is_parent = parent i; has_list = l i; size = b i }))
+
       -- a statement by itself that is no TYPE and no DIMENSIONS changes nothing
       quiet : is_type_key (key s) ≡ false → section_box scale (Single s) ≡ None → kept (InModule m) ≡ kept (InModule one_more)
-      quiet untyped unboxed =
-          let typed = any_no is_type m.sections (Single s) untyped in
-          let parent = any_no is_parent_type m.sections (Single s) (rw untyped refl) in
-          let listed = any_no is_list m.sections (Single s) refl in
-          let box = box_same scale m.sections (Single s) unboxed in
-          changes m one_more (InModule m) (InModule one_more) (open_view scale (InModule m)) refl refl refl parent
-          (rw (parent, in_more Terminals) refl) (rw (parent, in_more Network) refl)
-          (λ i. Some (record { section = sections.Body; is_typed = typed i; is_parent = parent i; has_list = listed i; size = box i }))
+      quiet untyped unboxed = grows _ _ _ (any_no is_type m.sections (Single s) untyped) (rw untyped refl) (any_no is_list m.sections (Single s) refl) (box_same scale m.sections (Single s) unboxed)
 
       -- where there are no lists, nothing stands in them
       empty_either : (kind : ListKind) → list_any is_list m.sections ≡ false → if_parent m (in_module kind m) ≡ []
@@ -237,14 +204,7 @@ module _ (scale : ℕ) where
 
       -- TYPE of another module than the parent
       types : key s ≡ keys.Type → is_parent_type (Single s) ≡ false → type_taken (kept (InModule m)) (open_as scale m sections.Body false) ≡ kept (InModule one_more)
-      types e other =
-          let typed = any_yes is_type m.sections (Single s) (ap is_type_key e) in
-          let parent = any_no is_parent_type m.sections (Single s) other in
-          let listed = any_no is_list m.sections (Single s) refl in
-          let box = box_same scale m.sections (Single s) (untyped_box e) in
-          changes m one_more (InModule m) (InModule one_more) (Some (record { section = sections.Body; is_typed = true; is_parent = is_parent m; has_list = list_any is_list m.sections; size = box_of scale m })) refl refl refl parent
-          (rw (parent, in_more Terminals) refl) (rw (parent, in_more Network) refl)
-          (λ i. Some (record { section = sections.Body; is_typed = typed i; is_parent = parent i; has_list = listed i; size = box i }))
+      types e other = grows _ _ _ (any_yes is_type m.sections (Single s) (ap is_type_key e)) other (any_no is_list m.sections (Single s) refl) (box_same scale m.sections (Single s) (untyped_box e))
 
       -- TYPE PARENT, before all lists
       parent_types : key s ≡ keys.Type → is_parent_word (word_of s.more) ≡ true → is_some (parent_place (ms ++ m ∷ [])) ≡ false → list_any is_list m.sections ≡ false
@@ -256,30 +216,11 @@ module _ (scale : ℕ) where
           let box = box_same scale m.sections (Single s) (untyped_box e) in
           let empty : (kind : ListKind) → if_parent m (in_module kind m) ≡ if_parent one_more (in_module kind one_more) = λ kind. empty_either kind unlisted ∙ sym (rw parent (in_more kind ∙ unlisted_empty kind m.sections unlisted)) in
           let place : Some (length (map (box_of scale) ms)) ≡ parent_place (ms ++ one_more ∷ []) = ap Some (length-map ms (box_of scale)) ∙ sym (parent_first ms m one_more none parent) in
-          same_parts
-          (Some (record { section = sections.Body; is_typed = true; is_parent = true; has_list = list_any is_list m.sections; size = box_of scale m })) (open_view scale (InModule one_more))
-          (map name_of (ms ++ m ∷ [])) (map name_of (ms ++ one_more ∷ []))
-          (map (box_of scale) ms) (map (box_of scale) ms)
-          (Some (length (map (box_of scale) ms))) (parent_place (ms ++ one_more ∷ []))
-          (pads_with (in_rest Terminals (InModule m))) (pads_with (in_rest Terminals (InModule one_more)))
-          (instances_with (in_rest Network (InModule m))) (instances_with (in_rest Network (InModule one_more)))
-          (λ i. Some (record { section = sections.Body; is_typed = sym typed i; is_parent = sym parent i; has_list = sym listed i; size = sym box i }))
-          (name_more ms one_more m refl)
-          refl
-          place
-          (ap pads_with (empty Terminals))
-          (ap instances_with (empty Network))
+          λ i. shown scale (Some (record { section = sections.Body; is_typed = sym typed i; is_parent = sym parent i; has_list = sym listed i; size = sym box i })) (name_more ms one_more m refl i) (map (box_of scale) ms) (place i) (pads_with (empty Terminals i)) (instances_with (empty Network i))
 
       -- DIMENSIONS
       boxes : (size : Size) → key s ≡ keys.Dimensions → is_some (box_of scale m) ≡ false → section_box scale (Single s) ≡ Some size → size_taken (kept (InModule m)) (open_as scale m sections.Body false) size ≡ kept (InModule one_more)
-      boxes size e none is =
-          let typed = any_no is_type m.sections (Single s) (ap is_type_key e) in
-          let parent = any_no is_parent_type m.sections (Single s) (rw e refl) in
-          let listed = any_no is_list m.sections (Single s) refl in
-          let box = box_first scale m.sections (Single s) (box_of scale m) size refl none is in
-          changes m one_more (InModule m) (InModule one_more) (Some (record { section = sections.Body; is_typed = list_any is_type m.sections; is_parent = is_parent m; has_list = list_any is_list m.sections; size = Some size })) refl refl refl parent
-          (rw (parent, in_more Terminals) refl) (rw (parent, in_more Network) refl)
-          (λ i. Some (record { section = sections.Body; is_typed = typed i; is_parent = parent i; has_list = listed i; size = box i }))
+      boxes size e none is = grows _ _ _ (any_no is_type m.sections (Single s) (ap is_type_key e)) (rw e refl) (any_no is_list m.sections (Single s) refl) (box_first scale m.sections (Single s) (box_of scale m) size refl none is)
 
       -- a list begins
       lists : (kind : ListKind) → list_opened (kept (InModule m)) (open_as scale m sections.Body false) (section_of kind) ≡ kept (InList m (listing kind s))
@@ -315,18 +256,8 @@ module _ (scale : ℕ) where
     closes_module m =
         let listed : (kind : ListKind) → in_closed kind ms ++ if_parent m (in_module kind m) ≡ in_closed kind (ms ++ m ∷ []) ++ [] =
         (λ kind. sym (append-nil (in_closed kind (ms ++ m ∷ [])) ∙ flat_push (λ m. if_parent m (in_module kind m)) ms m)) in
-        same_parts None None
-        (map name_of (ms ++ m ∷ [])) (map name_of ((ms ++ m ∷ []) ++ []))
-        (map (box_of scale) ms ++ box_of scale m ∷ []) (map (box_of scale) (ms ++ m ∷ []))
-        (parent_place (ms ++ m ∷ [])) (parent_place ((ms ++ m ∷ []) ++ []))
-        (pads_with (if_parent m (in_module Terminals m))) (pads_in scale (in_closed Terminals (ms ++ m ∷ []) ++ []))
-        (instances_with (if_parent m (in_module Network m))) (instances_in (in_closed Network (ms ++ m ∷ []) ++ []))
-        refl
-        (ap (map name_of) (sym (append-nil (ms ++ m ∷ []))))
-        (sym (map-append (box_of scale) ms (m ∷ [])))
-        (ap parent_place (sym (append-nil (ms ++ m ∷ []))))
-        (ap (pads_in scale) (listed Terminals))
-        (ap instances_in (listed Network))
+        let all : ms ++ m ∷ [] ≡ (ms ++ m ∷ []) ++ [] = sym (append-nil (ms ++ m ∷ [])) in
+        λ i. shown scale None (map name_of (all i)) (sym (map-append (box_of scale) ms (m ∷ [])) i) (parent_place (all i)) (pads_in scale (listed Terminals i)) (instances_in (listed Network i))
 
     module _ (m : Module) (l : Listing) (s : Worded) where
       -- a statement in a list of a module that is not the parent
@@ -415,30 +346,20 @@ module _ (scale : ℕ) (items : List Item) (line : ℕ) (first : List ℕ) (more
   stray : view_of scale ms Nothing ≡ view scale (record { items = items ++ Stray s ∷ []; rest = Nothing })
   stray = ap (λ (ms : List Module). view_of scale ms Nothing) (sym (flat_push modules_in items (Stray s) ∙ append-nil ms))
 
-  -- MODULE with a name opens a module, where the name is new
-  named : (name : List ℕ) (words : List (List ℕ)) (known : Bool) → has_name name (map name_of (ms ++ [])) ≡ known
-      → module_said (view_of scale ms Nothing) line (name ∷ words) ≡ answer (cond known (Some (faults.BadStatement line)) None) (view scale (here (InModule (begun (record { line = line; first = first; more = name ∷ words })))))
-  unfolding module_said
-  named name words true e = rw e refl
-  named name words false e = rw e (ap Ok (begins scale ms line first name words))
-
   -- MODULE opens a module, or has a fault
   modules_named : (words : List (List ℕ)) → module_said (view_of scale ms Nothing) line words ≡ answer (name_fault (map name_of (ms ++ [])) line words) (view scale (here (InModule (begun (record { line = line; first = first; more = words })))))
   unfolding module_said
   modules_named [] = refl
-  modules_named (name ∷ words) = named name words (has_name name (map name_of (ms ++ []))) refl
+  modules_named (name ∷ words) = elim (cases_Bool (has_name name (map name_of (ms ++ [])))) [
+    | inl e ↦ rw e refl
+    | inr e ↦ rw e (ap Ok (begins scale ms line first name words))
+  ]
 
   -- a statement outside of all modules
   outside : (k : Keyword) → outside_said (view_of scale ms Nothing) line k more ≡ answer (outside_fault (here Nothing) s k) (view scale (step_outside items s k))
   outside keys.Module = modules_named more
   outside keys.EndModule = refl
-  outside keys.Type = ap Ok stray
-  outside keys.Dimensions = ap Ok stray
-  outside keys.IoList = ap Ok stray
-  outside keys.EndIoList = ap Ok stray
-  outside keys.Network = ap Ok stray
-  outside keys.EndNetwork = ap Ok stray
-  outside keys.Other = ap Ok stray
+  outside k = ap Ok stray
 
   module _ (m : Module) where
     -- the module that is open
@@ -453,18 +374,13 @@ module _ (scale : ℕ) (items : List Item) (line : ℕ) (first : List ℕ) (more
     abbrev single : List (List ℕ) → Module
     single words = with_section m (Single (record { line = line; first = first; more = words }))
 
-    -- TYPE PARENT
-    parent_typed : (word : List ℕ) (words : List (List ℕ)) → key s ≡ keys.Type → is_parent_word word ≡ true → is_some (parent_place (ms ++ m ∷ [])) ≡ false → list_any is_list m.sections ≡ false
-        → parent_taken in_body body ≡ view_of scale ms (InModule (single (word ∷ words)))
-    parent_typed word words e is none unlisted = parent_types scale ms m (record { line = line; first = first; more = word ∷ words }) e is none unlisted
-
     -- TYPE with a word, by the three tests
     typed_by : (word : List ℕ) (words : List (List ℕ)) (late parent some : Bool) → key s ≡ keys.Type → (list_any is_type m.sections || list_any is_list m.sections) ≡ late → is_parent_word word ≡ parent → is_some (parent_place (ms ++ m ∷ [])) ≡ some
         → type_said in_body body line (word ∷ words) ≡ answer (type_fault (parent_place (ms ++ m ∷ [])) m line (word ∷ words)) (view_of scale ms (InModule (single (word ∷ words))))
     unfolding type_said
     typed_by word words true parent some e a b c = rw a refl
     typed_by word words false true true e a b c = rw (a, b, c) refl
-    typed_by word words false true false e a b c = rw (a, b, c) (ap Ok (parent_typed word words e b c (or_parts (list_any is_type m.sections) (list_any is_list m.sections) a).1))
+    typed_by word words false true false e a b c = rw (a, b, c) (ap Ok (parent_types scale ms m (record { line = line; first = first; more = word ∷ words }) e b c (or_parts (list_any is_type m.sections) (list_any is_list m.sections) a).1))
     typed_by word words false false some e a b c = rw (a, b) (ap Ok (types scale ms m (record { line = line; first = first; more = word ∷ words }) e (rw (e, b) refl)))
 
     -- TYPE
@@ -492,10 +408,8 @@ module _ (scale : ℕ) (items : List Item) (line : ℕ) (first : List ℕ) (more
     in_the_body keys.Type e = typed more e
     in_the_body keys.Dimensions e = boxed_by (is_some (box_of scale m)) (dimensions_said scale line more) e refl refl
     in_the_body keys.IoList e = ap Ok (lists scale ms m s Terminals)
-    in_the_body keys.EndIoList e = still keys.EndIoList e refl refl
     in_the_body keys.Network e = ap Ok (lists scale ms m s Network)
-    in_the_body keys.EndNetwork e = still keys.EndNetwork e refl refl
-    in_the_body keys.Other e = still keys.Other e refl refl
+    in_the_body k e = still k e refl refl
 
     module _ (opening : Worded) (inside : List Worded) where
       -- the list that is open
@@ -545,31 +459,12 @@ module _ (scale : ℕ) (items : List Item) (line : ℕ) (first : List ℕ) (more
       abbrev terminal_wrong : Option YalFault
       terminal_wrong = terminal_fault scale pads_so_far s
 
-      -- a terminal
-      in_terminals : (parent : Bool) → is_parent m ≡ parent
-          → cond (is_parent m) (terminal_said scale (in_list Terminals) line (first ∷ more)) (Ok (in_list Terminals)) ≡ answer (cond (is_parent m) terminal_wrong None) (after_it Terminals)
-      in_terminals false e =
-          ap (λ (b : Bool). cond b (terminal_said scale (in_list Terminals) line (first ∷ more)) (Ok (in_list Terminals))) e
-          ∙ ap Ok (passes scale ms m (listing_of Terminals) s e) ∙ ap (λ (b : Bool). answer (cond b terminal_wrong None) (after_it Terminals)) (sym e)
-      in_terminals true e =
-          let r = in_list Terminals in
-          ap (λ (b : Bool). cond b (terminal_said scale (in_list Terminals) line (first ∷ more)) (Ok (in_list Terminals))) e
-          ∙ terminal scale r.current r.names r.sizes r.parent r.pads r.instances line first more
-          ∙ ap (answer terminal_wrong) (terminal_kept e)
-          ∙ ap (λ (b : Bool). answer (cond b terminal_wrong None) (after_it Terminals)) (sym e)
-
-      -- instances
-      in_network : (parent : Bool) → is_parent m ≡ parent
-          → cond (is_parent m) (instance_said (in_list Network) line (first ∷ more)) (Ok (in_list Network)) ≡ answer (cond (is_parent m) (instance_fault line more) None) (after_it Network)
-      in_network false e =
-          ap (λ (b : Bool). cond b (instance_said (in_list Network) line (first ∷ more)) (Ok (in_list Network))) e
-          ∙ ap Ok (passes scale ms m (listing_of Network) s e) ∙ ap (λ (b : Bool). answer (cond b (instance_fault line more) None) (after_it Network)) (sym e)
-      in_network true e =
-          let r = in_list Network in
-          ap (λ (b : Bool). cond b (instance_said (in_list Network) line (first ∷ more)) (Ok (in_list Network))) e
-          ∙ instance scale r.current r.names r.sizes r.parent r.pads r.instances line first more
-          ∙ ap (answer (instance_fault line more)) (instance_kept e)
-          ∙ ap (λ (b : Bool). answer (cond b (instance_fault line more) None) (after_it Network)) (sym e)
+      -- a statement of a list says something in the parent alone
+      in_parent : (kind : ListKind) (said : Result Reading YalFault) (wrong : Option YalFault) → (is_parent m ≡ true → said ≡ answer wrong (after_it kind))
+          → cond (is_parent m) said (Ok (in_list kind)) ≡ answer (cond (is_parent m) wrong None) (after_it kind)
+      in_parent kind said wrong says_it =
+          let Holds : Bool → Type 0 = λ b. cond b said (Ok (in_list kind)) ≡ answer (cond b wrong None) (after_it kind) in
+          elim (cases_Bool (is_parent m)) [ inl e ↦ subst Holds (sym e) (says_it e) | inr e ↦ subst Holds (sym e) (ap Ok (passes scale ms m (listing_of kind) s e)) ]
 
       -- the module that is open
       abbrev list_open : ListKind → OpenModule
@@ -581,27 +476,17 @@ module _ (scale : ℕ) (items : List Item) (line : ℕ) (first : List ℕ) (more
 
       -- a statement of a list IOLIST
       in_a_terminals : (k : Keyword) → in_terminals_said scale (in_list Terminals) (list_open Terminals) line k (first ∷ more) ≡ list_then Terminals k terminal_wrong
-      in_a_terminals keys.Module = in_terminals (is_parent m) refl
-      in_a_terminals keys.EndModule = in_terminals (is_parent m) refl
-      in_a_terminals keys.Type = in_terminals (is_parent m) refl
-      in_a_terminals keys.Dimensions = in_terminals (is_parent m) refl
-      in_a_terminals keys.IoList = in_terminals (is_parent m) refl
       in_a_terminals keys.EndIoList = ap Ok (ends scale ms m (listing_of Terminals) s)
-      in_a_terminals keys.Network = in_terminals (is_parent m) refl
-      in_a_terminals keys.EndNetwork = in_terminals (is_parent m) refl
-      in_a_terminals keys.Other = in_terminals (is_parent m) refl
+      in_a_terminals k =
+          let r = in_list Terminals in
+          in_parent Terminals _ terminal_wrong (λ e. terminal scale r.current r.names r.sizes r.parent r.pads r.instances line first more ∙ ap (answer terminal_wrong) (terminal_kept e))
 
       -- a statement of a list NETWORK
       in_a_network : (k : Keyword) → in_network_said (in_list Network) (list_open Network) line k (first ∷ more) ≡ list_then Network k (instance_fault line more)
-      in_a_network keys.Module = in_network (is_parent m) refl
-      in_a_network keys.EndModule = in_network (is_parent m) refl
-      in_a_network keys.Type = in_network (is_parent m) refl
-      in_a_network keys.Dimensions = in_network (is_parent m) refl
-      in_a_network keys.IoList = in_network (is_parent m) refl
-      in_a_network keys.EndIoList = in_network (is_parent m) refl
-      in_a_network keys.Network = in_network (is_parent m) refl
       in_a_network keys.EndNetwork = ap Ok (ends scale ms m (listing_of Network) s)
-      in_a_network keys.Other = in_network (is_parent m) refl
+      in_a_network k =
+          let r = in_list Network in
+          in_parent Network _ (instance_fault line more) (λ e. instance scale r.current r.names r.sizes r.parent r.pads r.instances line first more ∙ ap (answer (instance_fault line more)) (instance_kept e))
 
       -- a statement of a list
       in_a_list : (kind : ListKind) → said_in scale (in_list kind) (list_open kind) line (section_of kind) first more

@@ -45,8 +45,7 @@ pub fn next_piece(bytes: &[u8]) -> Option<(&[u8], &[u8])>
     if rest.is_empty() {
         return None;
     }
-    let (_, after) = rest.split_at(1);
-    Some((piece, after))
+    Some((piece, rest.split_at(1).1))
 }
 
 /// The number of the line of the first word of a piece that begins in this line.
@@ -54,7 +53,7 @@ pub fn first_line(piece: &[u8], line: u64) -> u64
     requires { line + length piece.now < 2 ^ 64 }
     ensures { result ≡ (statement_at line piece.now).line }
 {
-    let (blanks, _) = piece.split_at(gap_len(piece, Gap::Blanks));
+    let blanks = &piece[..gap_len(piece, Gap::Blanks)];
     line + line_feeds(blanks)
 }
 
@@ -62,7 +61,7 @@ pub fn first_line(piece: &[u8], line: u64) -> u64
 pub fn last_line_of(bytes: &[u8]) -> u64
     ensures { result ≡ line_of_last (without_end bytes.now) }
 {
-    let (kept, _) = bytes.split_at(bytes.len() - blanks_at_end(bytes));
+    let kept = &bytes[..bytes.len() - blanks_at_end(bytes)];
     if kept.is_empty() {
         0
     } else {

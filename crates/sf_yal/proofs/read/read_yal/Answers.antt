@@ -15,13 +15,7 @@ is_found scale text (Err e) given = tt
 
 has_fault : (scale : _) (text : _) (f : YalFault) → Fails f (yal_read scale text) → (f ≡ faults.NoMemory) ⊎ HasFault scale text f
 has_fault scale text faults.NoMemory given = inl refl
-has_fault scale text (faults.Truncated n) given = inr (fault_from_read scale text (faults.Truncated n) given)
-has_fault scale text (faults.BadStatement n) given = inr (fault_from_read scale text (faults.BadStatement n) given)
-has_fault scale text (faults.BadNumber n e) given = inr (fault_from_read scale text (faults.BadNumber n e) given)
-has_fault scale text (faults.ZeroSide n) given = inr (fault_from_read scale text (faults.ZeroSide n) given)
-has_fault scale text faults.NoParent given = inr (fault_from_read scale text faults.NoParent given)
-has_fault scale text (faults.TwoParents n) given = inr (fault_from_read scale text (faults.TwoParents n) given)
-has_fault scale text (faults.UnknownModule n name) given = inr (fault_from_read scale text (faults.UnknownModule n name) given)
+has_fault scale text fault given = inr (fault_from_read scale text fault given)
 
 is_refused : (scale : _) (text : _) (r : Result Parts YalFault) → Gives r (yal_read scale text) → IfErr r (λ f. (f ≡ faults.NoMemory) ⊎ HasFault scale text f)
 is_refused scale text (Ok out) given = tt
