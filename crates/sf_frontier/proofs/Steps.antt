@@ -1,8 +1,8 @@
 -- Each step keeps the rule of a deque.
-use Rattle.std.proofs.Common.{Bool, true, false, if◌then◌else◌, ◌≡◌, ◌≢◌, ℕ, zero, suc, ◌+◌, ◌<◌, ◌≤◌, List, [], ◌∷◌, ◌++◌, length, set, drop, All, refl, sym, ap, ◌∙◌, subst, ⊎_elim, arith, length-append, append_assoc, append-nil}
+use Rattle.std.proofs.Common.{Bool, if◌then◌else◌, ◌≡◌, ◌≢◌, ℕ, zero, suc, ◌+◌, ◌<◌, ◌≤◌, List, [], ◌∷◌, ◌++◌, length, set, drop, All, refl, sym, ap, ◌∙◌, subst, ⊎_elim, arith, length-append, append_assoc, append-nil}
 use Rattle.std.specs.Prelude.{sum_by}
-use Rattle.std.proofs.lemmas.List.Sums.{sum_by-cons, sum_by-append}
-use Rattle.std.proofs.lemmas.List.Elements.{All-append, All-cons, All-take, All-drop}
+use Rattle.std.proofs.lemmas.List.Sums.{sum_by-cons, sum_by-append, sum_by_push}
+use Rattle.std.proofs.lemmas.List.Elements.{All-append, All-cons, All-nil, All-take, All-drop}
 use lib.Seq.{take-append_seam, drop-append_seam}
 use mathlib.Core.Option.{some, some-ne-none, some-injective}
 use lib.ListN.{get_elem?}
@@ -17,11 +17,6 @@ total_set : (f : View → ℕ) (views : List View) (port : ℕ) (v w : View) →
 total_set f [] port v w at = absurd (some-ne-none v (sym at))
 total_set f (x ∷ xs) zero v w at = omega (arith, sum_by-cons f x xs, sum_by-cons f w xs, ap f (some-injective x v at))
 total_set f (x ∷ xs) (suc port) v w at = omega (arith, sum_by-cons f x xs, sum_by-cons f x (set xs port w), total_set f xs port v w at)
-
--- the total with one view more
-total_snoc : (f : View → ℕ) (views : List View) (w : View) → sum_by f (views ++ w ∷ []) ≡ sum_by f views + f w
-total_snoc f [] w = omega (arith, sum_by-cons f w [])
-total_snoc f (x ∷ xs) w = omega (arith, sum_by-cons f x xs, sum_by-cons f x (xs ++ w ∷ []), total_snoc f xs w)
 
 -- one view weighs no more than all
 total_at : (f : View → ℕ) (views : List View) (port : ℕ) (v : View) → get_elem? views port ≡ some v → f v ≤ sum_by f views
@@ -102,19 +97,15 @@ stolen_as_before views port v w stolen at same as_before all j u there front = �
     (λ (x : (j ≢ port) × (get_elem? views j ≡ some u)). all j u x.1 front)
     (at_set views port j w u there)
 
--- what holds of all tasks of two lists together holds of those of the first
-all_left : (P : Task → Type 0) (xs ys : List Task) → All P (xs ++ ys) → All P xs
-all_left P xs ys h = subst (All P) (take-append_seam xs ys) (All-take P (length xs) (xs ++ ys) h)
+-- what holds of all elements of two lists together holds of those of the first
+pub all_front : {A : Type 0} (P : A → Type 0) (xs ys : List A) → All P (xs ++ ys) → All P xs
+all_front P xs ys h = subst (All P) (take-append_seam xs ys) (All-take P (length xs) (xs ++ ys) h)
 
--- what holds of all tasks of two lists together holds of those of the second
-all_right : (P : Task → Type 0) (xs ys : List Task) → All P (xs ++ ys) → All P ys
-all_right P xs ys h = subst (All P) (drop-append_seam xs ys) (All-drop P (length xs) (xs ++ ys) h)
+-- what holds of all elements of two lists together holds of those of the second
+pub all_back : {A : Type 0} (P : A → Type 0) (xs ys : List A) → All P (xs ++ ys) → All P ys
+all_back P xs ys h = subst (All P) (drop-append_seam xs ys) (All-drop P (length xs) (xs ++ ys) h)
 
 module _ (S : Task → Type 0) where
-  -- of no tasks all are ones that the team serves
-  none_served : All S []
-  none_served k d below = absurd (omega arith)
-
   -- a put keeps the rule
   pub puts : (port : ℕ) (v : View) (x : Task) → 0 < v.backs → S x → Pushes (Balanced S) port v (x ∷ []) (Put v (x ∷ []))
   puts port v x back new items views h at =
@@ -132,7 +123,7 @@ module _ (S : Task → Type 0) where
           idle = idle_set views port u (λ none. absurd (omega arith)) h.idle;
           ordered = ordered_at_back (items ++ x ∷ []) views port v u h.one_back at back
               (knew.0, ap (λ (zs : List Task). zs ++ x ∷ []) knew.1 ∙ append_assoc knew.0 items (x ∷ []), stolen_as_before views port v u knew.0 at refl refl knew.2);
-          served = All-append S items (x ∷ []) h.served (All-cons S x [] new none_served);
+          served = All-append S items (x ∷ []) h.served (All-cons S x [] new (All-nil S));
         },
         refl,
       )
@@ -181,12 +172,12 @@ module _ (S : Task → Type 0) where
       let knew = h.ordered port v at back in
       let u : View = view v.backs v.fronts v.put (v.taken ++ x ∷ []) (knew.0 ++ items) v.stolen in (
         u,
-        takes port v u (x ∷ []) items (items ++ x ∷ []) views (omega arith) refl refl refl refl (λ w. sum_by-append w items (x ∷ [])) (all_left S items (x ∷ []) h.served) h at
+        takes port v u (x ∷ []) items (items ++ x ∷ []) views (omega arith) refl refl refl refl (λ w. sum_by-append w items (x ∷ [])) (all_front S items (x ∷ []) h.served) h at
             (ordered_at_back items views port v u h.one_back at back (knew.0, refl, stolen_as_before views port v u knew.0 at refl refl knew.2)),
         (
           refl,
           knew.1 ∙ sym (append_assoc knew.0 items (x ∷ [])),
-          all_right S items (x ∷ []) h.served,
+          all_back S items (x ∷ []) h.served,
           fewer port v (x ∷ []) (items ++ x ∷ []) views (omega (arith, length-append items (x ∷ []))) h at,
         ),
       )
@@ -196,7 +187,7 @@ module _ (S : Task → Type 0) where
   steals port v most back front xs items views _ _ h at =
       let u : View = view v.backs v.fronts v.put (v.taken ++ xs) v.stack (v.stolen ++ xs) in (
         u,
-        takes port v u xs items (xs ++ items) views (omega (arith, front)) refl refl refl refl (λ w. let s = sum_by-append w xs items in omega arith) (all_right S xs items h.served) h at
+        takes port v u xs items (xs ++ items) views (omega (arith, front)) refl refl refl refl (λ w. let s = sum_by-append w xs items in omega arith) (all_back S xs items h.served) h at
             (λ i a there some_back. ⊎_elim
             (λ (x : (i ≡ port) × (u ≡ a)). absurd (let b = ap backs x.1 in omega (arith, b, back)))
             (λ (x : (i ≢ port) × (get_elem? views i ≡ some a)).
@@ -204,7 +195,7 @@ module _ (S : Task → Type 0) where
             let mine : v.stolen ≡ knew.0 = knew.2 port v at (omega (arith, front)) in
             (knew.0 ++ xs, knew.1 ∙ sym (append_assoc knew.0 xs items), stolen_now u knew.0 views mine refl h.one_front at))
             (at_set views port i u a there)),
-        (refl, all_left S xs items h.served),
+        (refl, all_front S xs items h.served),
       )
     where
       stolen_now : (u : View) (stolen : List Task) (views : List View) → v.stolen ≡ stolen → u.stolen ≡ v.stolen ++ xs → sum_by fronts views ≡ 1 → get_elem? views port ≡ some v
@@ -237,12 +228,12 @@ module _ (S : Task → Type 0) where
             let a = total_set (weight_put w) views port v (back_alone v) at in
             let b = total_set (weight_taken w) views port v (back_alone v) at in
             let k = h.kept w in
-            let c = total_snoc (weight_put w) mid new in
-            let d = total_snoc (weight_taken w) mid new in
+            let c = sum_by_push (weight_put w) mid new in
+            let d = sum_by_push (weight_taken w) mid new in
             let z : sum_by w e ≡ 0 = refl in
             omega arith;
-        one_back = let t = total_set backs views port v (back_alone v) at in let q = total_snoc backs mid new in let p = h.one_back in omega arith;
-        one_front = let t = total_set fronts views port v (back_alone v) at in let q = total_snoc fronts mid new in let p = h.one_front in omega (arith, front);
+        one_back = let t = total_set backs views port v (back_alone v) at in let q = sum_by_push backs mid new in let p = h.one_back in omega arith;
+        one_front = let t = total_set fronts views port v (back_alone v) at in let q = sum_by_push fronts mid new in let p = h.one_front in omega (arith, front);
         idle = λ j u there none. ⊎_elim
             (λ was. idle_set views port (back_alone v) (λ none'. absurd (omega (arith, back))) h.idle j u was none)
             (λ (is : new ≡ u). let p : ends new ≡ ends u = ap ends is in absurd (omega arith))
@@ -309,10 +300,8 @@ module _ (S : Task → Type 0) where
 
 -- an owner that is alone has the front too
 pub has_front : (alone : Bool) (n : ℕ) → n ≡ (if alone then 1 else 0) → ◌≡◌ {A = ℕ} (if alone then 1 else 2) 1 → n ≡ 1
-has_front true n e p = e
-has_front false n e p = absurd (omega arith)
+has_front alone n e p = grind arith
 
 -- an owner that isn't alone has stolen nothing
 pub stole_none : (alone : Bool) (xs : List Task) → (if alone then [] else xs) ≡ [] → ◌≡◌ {A = ℕ} (if alone then 1 else 2) 2 → xs ≡ []
-stole_none true xs e p = absurd (omega arith)
-stole_none false xs e p = e
+stole_none alone xs e p = grind arith

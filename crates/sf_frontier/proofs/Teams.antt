@@ -1,45 +1,22 @@
 -- Rings of deques, opened at one worker, and what is left of a team, one deque at a time.
-use Rattle.std.proofs.Common.{◌≡◌, ℕ, ◌<◌, List, [], ◌∷◌, ◌++◌, length, take, drop, reverse, map, All, sym, ap, ◌∙◌, subst, refl, arith, length-append, append-nil, append_assoc, inl, inr}
+use Rattle.std.proofs.Common.{◌≡◌, ℕ, ◌<◌, List, [], ◌∷◌, ◌++◌, length, drop, reverse, map, All, sym, ap, ◌∙◌, subst, refl, arith, length-append, append-nil, append_assoc, inl, inr}
 use Rattle.std.specs.Prelude.{sum_by}
 use Rattle.std.specs.List.{flat_map}
 use Rattle.std.proofs.lemmas.List.Sums.{sum_by-append, sum_by-cons}
-use Rattle.std.proofs.lemmas.List.Elements.{All-take, All-drop, All-push, All-head, All-nil, All-cons}
-use Rattle.std.proofs.lemmas.List.{nil_from_length, map-append, reverse-append}
-use lib.Seq.{take-append_seam, drop-append_seam}
+use Rattle.std.proofs.lemmas.List.Elements.{All-push, All-head, All-nil, All-cons}
+use Rattle.std.proofs.lemmas.List.{nil_from_length, map-append, reverse-append, same_from_push}
 use Rattle.sf_node.specs.declared.task.Task.{Task}
 use Rattle.sf_frontier.specs.Ends.{Deque, OwnerView, ThiefView, with_stolen, IsDrained}
 use Rattle.sf_frontier.specs.Fair.{SameTasks}
 use Rattle.sf_frontier.specs.Team.{thief_deques_of, turned, owners_of, deques_of, preys_of, stolen_by, AreSettled, IsTeam, IsFinished, IsNewOwner, IsNewThief, IsNewPlace}
 use Rattle.sf_frontier.specs.declared.place.Place.{Place}
+pub use Rattle.sf_frontier.proofs.Steps.{all_front}
+use Rattle.sf_frontier.proofs.Steps.{all_back}
 
 module _ {A : Type 0} where
-  -- what holds of all elements of two lists together holds of those of the first
-  pub all_front : (P : A → Type 0) (xs ys : List A) → All P (xs ++ ys) → All P xs
-  all_front P xs ys h = subst (All P) (take-append_seam xs ys) (All-take P (length xs) (xs ++ ys) h)
-
   -- what holds of all elements holds of the last one
   pub all_last : (P : A → Type 0) (xs : List A) (x : A) → All P (xs ++ x ∷ []) → P x
-  all_last P xs x h = All-head P x [] (subst (All P) (drop-append_seam xs (x ∷ [])) (All-drop P (length xs) (xs ++ x ∷ []) h))
-
-  -- lists that are equal with one element behind have the same length
-  snoc_length : (xs ys : List A) (x y : A) → xs ++ x ∷ [] ≡ ys ++ y ∷ [] → length xs ≡ length ys
-  snoc_length xs ys x y e = omega (arith, ap length e, length-append xs (x ∷ []), length-append ys (y ∷ []))
-
-  -- lists that are equal with one element behind are equal
-  snoc_same : (xs ys : List A) (x y : A) → xs ++ x ∷ [] ≡ ys ++ y ∷ [] → xs ≡ ys
-  snoc_same xs ys x y e =
-      let len = snoc_length xs ys x y e in
-      sym (take-append_seam xs (x ∷ [])) ∙ (ap (λ (l : List A). take (length xs) l) e ∙ (ap (λ (n : ℕ). take n (ys ++ y ∷ [])) len ∙ take-append_seam ys (y ∷ [])))
-
-  -- the only elements of equal lists are equal
-  one_same : (x y : A) → x ∷ [] ≡ y ∷ [] → x ≡ y
-  one_same x y e = cc
-
-  -- lists that are equal with one element behind have the same last element
-  snoc_last : (xs ys : List A) (x y : A) → xs ++ x ∷ [] ≡ ys ++ y ∷ [] → x ≡ y
-  snoc_last xs ys x y e =
-      let len = snoc_length xs ys x y e in
-      one_same x y (sym (drop-append_seam xs (x ∷ [])) ∙ (ap (λ (l : List A). drop (length xs) l) e ∙ (ap (λ (n : ℕ). drop n (ys ++ y ∷ [])) len ∙ drop-append_seam ys (y ∷ []))))
+  all_last P xs x h = All-head P x [] (all_back P xs (x ∷ []) h)
 
   -- the first of a list, or d where there is none
   abbrev pub first_or : A → List A → A
@@ -53,13 +30,11 @@ module _ {A : Type 0} where
 
   -- the first of a list with one element behind is the first of the list, or that element where it has none
   first_snoc : (xs : List A) (x y : A) → first_or y (xs ++ x ∷ []) ≡ first_or x xs
-  first_snoc [] x y = refl
-  first_snoc (z ∷ xs) x y = refl
+  first_snoc xs x y = grind arith
 
   -- a list with its first element put last ends with this one
   turned_snoc : (xs : List A) (x : A) → turned (xs ++ x ∷ []) ≡ drop 1 (xs ++ x ∷ []) ++ first_or x xs ∷ []
-  turned_snoc [] x = refl
-  turned_snoc (z ∷ xs) x = refl
+  turned_snoc xs x = grind arith
 
   -- the list of this one alone
   abbrev one : A → List A
@@ -72,7 +47,7 @@ module _ {A : Type 0} where
 
 -- one thief, on this deque
 pub one_thief : (rest ts : List ThiefView) (t : ThiefView) (d : Deque) → ts ≡ rest ++ t ∷ [] → thief_deques_of ts ≡ d ∷ [] → (ts ≡ t ∷ []) × (t.deque ≡ d)
-one_thief [] ts t d e h = (e, one_same t.deque d (ap thief_deques_of (sym e) ∙ h))
+one_thief [] ts t d e h = (e, (let same : t.deque ∷ [] ≡ d ∷ [] = ap thief_deques_of (sym e) ∙ h in cc))
 one_thief (r ∷ rest) ts t d e h =
     let n = ap length (ap thief_deques_of (sym e) ∙ h) in
     absurd (omega (arith, n, ap length (map-append (λ (x : ThiefView). x.deque) rest (t ∷ [])), length-append (map (λ (x : ThiefView). x.deque) rest) (t.deque ∷ [])))
@@ -144,7 +119,8 @@ module _ {T : Type 0} where
       let both : preys_of ps ++ prey p ∷ [] ≡ map (λ x. x ∷ []) (drop 1 (deques_of ps ++ d ∷ [])) ++ (first ∷ []) ∷ [] =
       sym (map-append prey ps (p ∷ [])) ∙ (e ∙ (ap (λ zs. map (λ (x : Deque). x ∷ []) (turned zs)) (map-append deque ps (p ∷ []))
       ∙ (ap (map (λ (x : Deque). x ∷ [])) (turned_snoc (deques_of ps) d) ∙ map-append (λ (x : Deque). x ∷ []) (drop 1 (deques_of ps ++ d ∷ [])) (first ∷ [])))) in
-      (snoc_last _ _ (prey p) (first ∷ []) both, record { preys = snoc_same _ _ (prey p) (first ∷ []) both; first_is = refl })
+      let same = same_from_push _ _ (prey p) (first ∷ []) both in
+      (same.1, record { preys = same.0; first_is = refl })
 
   -- without its last worker an open ring is open at this one's deque, where the worker had its thief on the
   -- next one
@@ -155,7 +131,8 @@ module _ {T : Type 0} where
       let both : preys_of ps ++ prey p ∷ [] ≡ map (λ x. x ∷ []) (drop 1 (deques_of ps ++ here ∷ [])) ++ (d ∷ []) ∷ [] =
       sym (map-append prey ps (p ∷ [])) ∙ (r.preys ∙ (ap (λ zs. map (λ (x : Deque). x ∷ []) (drop 1 (zs ++ d ∷ []))) ds
       ∙ (ap (map (λ (x : Deque). x ∷ [])) (drop_snoc (deques_of ps) here d) ∙ map-append (λ (x : Deque). x ∷ []) (drop 1 (deques_of ps ++ here ∷ [])) (d ∷ [])))) in
-      (snoc_last _ _ (prey p) (d ∷ []) both, record { preys = snoc_same _ _ (prey p) (d ∷ []) both; first_is = r.first_is ∙ (ap (first_or d) ds ∙ first_snoc (deques_of ps) here d) })
+      let same = same_from_push _ _ (prey p) (d ∷ []) both in
+      (same.1, record { preys = same.0; first_is = r.first_is ∙ (ap (first_or d) ds ∙ first_snoc (deques_of ps) here d) })
 
   -- some last deques of a ring are settled. The next one is that of the owner o, and the first one's thief is still to be joined
   pub record IsSettling (places ps : List (Place T)) (o : OwnerView) (first : ThiefView) (left : List Task) : Type 0 where
