@@ -1,16 +1,14 @@
 -- The tree of a text, read byte by byte.
-use Rattle.std.proofs.Common.{◌≡◌, ℕ, ◌+◌, ◌≤◌, List, [], ◌∷◌, ◌++◌, length, take, drop, arith, refl, ap, sym, subst, ◌∙◌, Bool, true, false, not, append_assoc, length-append, ◌&&◌, Option, Some, None, Result, Ok, Err}
-use Rattle.std.specs.Prelude.{◌≢◌, IfOk, IfErr, nat_le}
-use Rattle.std.specs.List.{count_by, list_all, position_or_len, slice_get}
+use Rattle.std.proofs.Common.{◌≡◌, ℕ, ◌+◌, ◌≤◌, List, [], ◌∷◌, ◌++◌, length, take, drop, arith, refl, ap, sym, subst, ◌∙◌, Bool, true, false, append_assoc, length-append, Option, Some, None, Result, Ok, Err}
+use Rattle.std.specs.Prelude.{◌≢◌, IfOk, IfErr}
+use Rattle.std.specs.List.{count_by, position_or_len, slice_get}
 use Rattle.std.proofs.lemmas.Bool.Decides.{nat_tests}
 use Rattle.std.proofs.Math.Seq.{take-add}
 use Rattle.std.proofs.lemmas.List.{take-append-drop}
-use Rattle.std.proofs.lemmas.Result.{IfErr-weaker}
-use Rattle.sf_lex.specs.Text.{is_blank_byte, is_line_feed, is_not_empty, has_none}
+use Rattle.sf_lex.specs.Text.{is_blank_byte, is_line_feed, has_none}
 use Rattle.sf_lex.specs.Scan.{LineWord, last_word_line}
-use Rattle.sf_lex.specs.Number.{is_digit}
 use Rattle.sf_lex.specs.Whole.{whole_read}
-use Rattle.std.proofs.lemmas.Bool.{and_parts}
+use Rattle.sf_lex.proofs.Spelled.{first_fails}
 use Rattle.sf_lex.proofs.WordLines.{words_from, IsRun, IsEnded, run_of, ended_of, words_from-run, words_from-gap}
 use Rattle.sf_certificate.specs.declared.fault.CertFault.{CertFault}
 use Rattle.sf_certificate.specs.declared.fault.CertFault.TheVariants.{NoMemory}
@@ -23,17 +21,10 @@ use Rattle.sf_certificate.specs.Reading.{letter_of, part_of, by_letter, split_by
 use Rattle.sf_certificate.specs.Reader.{Reader, read_on, with_some}
 use Rattle.sf_certificate.specs.Bytes.{Bytewise, begun_word, bytes_on, past_blank, words_on}
 
--- what is found not to hold is false
-not-true : (b : Bool) → not b ≡ true → b ≡ false
-not-true true e = absurd (cc)
-not-true false e = refl
-
 -- a word without a blank is a run
 pub run-of : (w : List ℕ) → has_none is_blank_byte w ≡ true → IsRun w
 run-of [] h = tt
-run-of (b ∷ w) h =
-    let both = and_parts (not (is_blank_byte b)) (has_none is_blank_byte w) h in
-    (not-true (is_blank_byte b) both.0, run-of w both.1)
+run-of (b ∷ w) h = let first = first_fails is_blank_byte b w h in (first.0, run-of w first.1)
 
 -- a run goes on by a byte that is no blank
 pub run-more : (w : List ℕ) (b : ℕ) → IsRun w → is_blank_byte b ≡ false → IsRun (w ++ b ∷ [])
@@ -43,11 +34,10 @@ run-more (c ∷ w) b h e = (h.0, run-more w b h.1 e)
 -- ---- the end of a word
 
 -- a blank ends the word that was begun
-pub begun-blank : (n k b : ℕ) (w rest : List ℕ) → IsRun w → is_blank_byte b ≡ true → n + count_by is_line_feed (b ∷ []) ≡ k → words_from n (w ++ b ∷ rest) ≡ begun_word n w ++ words_from k rest
-begun-blank n k b [] rest run blank next = words_from-gap n (b ∷ []) rest (blank, tt) ∙ ap (λ l. words_from l rest) next
-begun-blank n k b (c ∷ w) rest run blank next =
-    words_from-run n (c ∷ w) (b ∷ rest) (omega arith) run blank
-    ∙ ap (λ ws. record { line = n; text = c ∷ w } ∷ ws) (words_from-gap n (b ∷ []) rest (blank, tt) ∙ ap (λ l. words_from l rest) next)
+pub begun-blank : (n b : ℕ) (w rest : List ℕ) → IsRun w → is_blank_byte b ≡ true → words_from n (w ++ b ∷ rest) ≡ begun_word n w ++ words_from (n + count_by is_line_feed (b ∷ [])) rest
+begun-blank n b [] rest run blank = words_from-gap n (b ∷ []) rest (blank, tt)
+begun-blank n b (c ∷ w) rest run blank =
+    words_from-run n (c ∷ w) (b ∷ rest) (omega arith) run blank ∙ ap (λ ws. record { line = n; text = c ∷ w } ∷ ws) (words_from-gap n (b ∷ []) rest (blank, tt))
 
 -- and so does the end of the text
 pub begun-end : (n : ℕ) (w : List ℕ) → IsRun w → words_from n (w ++ []) ≡ begun_word n w ++ []
@@ -63,30 +53,16 @@ last-append n (w ∷ first) second = last-append w.line first second
 
 -- a word that is too long is no letter
 long-letter : (version : Version) (w : List ℕ) → 21 ≤ length w → letter_of version w ≡ None
-long-letter version [] h = absurd (omega arith)
-long-letter version (b ∷ []) h = absurd (omega arith)
-long-letter version (b ∷ c ∷ w) h = refl
+long-letter version w h = grind arith
 
 -- nor the name of a part
 long-part : (w : List ℕ) → 21 ≤ length w → part_of w ≡ None
-long-part [] h = absurd (omega arith)
-long-part (b ∷ []) h = absurd (omega arith)
-long-part (b ∷ c ∷ w) h = refl
-
--- a number from 21 on is found to be above 20
-too-long : (n : ℕ) → 21 ≤ n → nat_le n 20 ≡ false
-too-long n h = grind (arith, nat_tests)
-
--- what needs a test that fails fails
-and-none : (a b c : Bool) → c ≡ false → (a && (b && c)) ≡ false
-and-none true true c e = e
-and-none true false c e = refl
-and-none false b c e = refl
+long-part w h = grind arith
 
 -- nor a number
 long-number : (w : List ℕ) → 21 ≤ length w → whole_read 65535 w ≡ None
 unfolding whole_read
-long-number w h = rw (and-none (list_all is_digit w) (is_not_empty w) (nat_le (length w) 20) (too-long (length w) h)) refl
+long-number w h = grind (arith, nat_tests)
 
 -- so second words that are too long say the same
 long-second : (second : Second) (line : ℕ) (w v : List ℕ) → 21 ≤ length w → 21 ≤ length v → second_by second line w ≡ second_by second line v
@@ -121,9 +97,9 @@ module _ (n line last : ℕ) (tree : Reader) where
       → bytes_on n (record { tree = tree; word = w; line = line; last = last }) (b ∷ rest) ≡ bytes_on n (record { tree = tree; word = v; line = line; last = last }) (b ∷ rest)
   long-blank b w v rest run too h k blank =
       let others = words_from (line + count_by is_line_feed (b ∷ [])) rest in
-      by-words w (b ∷ rest) (begun_word line w ++ others) (begun-blank line _ b w rest run blank refl)
+      by-words w (b ∷ rest) (begun_word line w ++ others) (begun-blank line b w rest run blank)
       ∙ long-first w v others h k
-      ∙ sym (by-words v (b ∷ rest) (begun_word line v ++ others) (begun-blank line _ b v rest too blank refl))
+      ∙ sym (by-words v (b ∷ rest) (begun_word line v ++ others) (begun-blank line b v rest too blank))
 
   -- a byte more of a word may be kept or still to come
   pub more-word : (w rest : List ℕ) (b : ℕ) → bytes_on n (record { tree = tree; word = w; line = line; last = last }) (b ∷ rest) ≡ bytes_on n (record { tree = tree; word = w ++ b ∷ []; line = line; last = last }) rest
@@ -154,7 +130,7 @@ module _ (n line last : ℕ) (tree : Reader) where
 abbrev pub IsEndOf : Bytewise → Bytewise → Type 0
 IsEndOf old new = new ≡ record { tree = new.tree; word = []; line = old.line; last = last_word_line old.last (begun_word old.line old.word) }
 
-module _ (n : ℕ) (old : Bytewise) where
+module _ (n : ℕ) (old : Bytewise) (run : has_none is_blank_byte old.word ≡ true) where
   -- the words that are left, where the first of them was begun
   by-begun : (bytes : List ℕ) (others : List LineWord) → words_on old bytes ≡ begun_word old.line old.word ++ others
       → bytes_on n old bytes ≡ read_on n (last_word_line (last_word_line old.last (begun_word old.line old.word)) others) old.tree (begun_word old.line old.word ++ others)
@@ -162,57 +138,36 @@ module _ (n : ℕ) (old : Bytewise) where
       ap (λ (z : List LineWord). read_on n (last_word_line old.last z) old.tree z) e
       ∙ ap (λ l. read_on n l old.tree (begun_word old.line old.word ++ others)) (last-append old.last (begun_word old.line old.word) others)
 
-  -- a blank behind the word
-  module _ (b k : ℕ) (rest : List ℕ) (run : has_none is_blank_byte old.word ≡ true) (blank : is_blank_byte b ≡ true) (next : old.line + count_by is_line_feed (b ∷ []) ≡ k) where
-    -- the words that are left where a blank ends the first
-    left : words_on old (b ∷ rest) ≡ begun_word old.line old.word ++ words_from k rest
-    left = begun-blank old.line k b old.word rest (run-of old.word run) blank next
+  -- the words that are left where a blank ends the first
+  left : (b : ℕ) (rest : List ℕ) → is_blank_byte b ≡ true → bytes_on n old (b ∷ rest) ≡ (let others = words_from (old.line + count_by is_line_feed (b ∷ [])) rest in
+      read_on n (last_word_line (last_word_line old.last (begun_word old.line old.word)) others) old.tree (begun_word old.line old.word ++ others))
+  left b rest blank = by-begun (b ∷ rest) (words_from (old.line + count_by is_line_feed (b ∷ [])) rest) (begun-blank old.line b old.word rest (run-of old.word run) blank)
 
-    -- a blank behind the word, where the word ends a tag or none
-    pub blank-tag : (new : Bytewise) (tag : Option Tag) → ((last : ℕ) (others : List LineWord) → read_on n last old.tree (begun_word old.line old.word ++ others) ≡ with_some tag (read_on n last new.tree others)) → IsEndOf old new
-        → bytes_on n old (b ∷ rest) ≡ with_some tag (bytes_on n (record { tree = new.tree; word = new.word; line = k; last = new.last }) rest)
-    blank-tag new tag f end =
-        let others = words_from k rest in
-        by-begun (b ∷ rest) others left
-        ∙ f (last_word_line (last_word_line old.last (begun_word old.line old.word)) others) others
-        ∙ ap (λ l. with_some tag (read_on n (last_word_line l others) new.tree others)) (sym (ap (λ (at : Bytewise). at.last) end))
-        ∙ ap (λ w. with_some tag (bytes_on n (record { tree = new.tree; word = w; line = k; last = new.last }) rest)) (sym (ap (λ (at : Bytewise). at.word) end))
+  -- a blank behind the word, where the word ends a tag or none
+  pub past-tag : (new : Bytewise) (tag : Option Tag) → ((last : ℕ) (others : List LineWord) → read_on n last old.tree (begun_word old.line old.word ++ others) ≡ with_some tag (read_on n last new.tree others)) → IsEndOf old new
+      → (b : ℕ) (rest : List ℕ) → is_blank_byte b ≡ true → bytes_on n old (b ∷ rest) ≡ with_some tag (bytes_on n (past_blank b new) rest)
+  past-tag new tag f end b rest blank =
+      left b rest blank ∙ f _ (words_from (old.line + count_by is_line_feed (b ∷ [])) rest) ∙ ap (λ (at : Bytewise). with_some tag (bytes_on n (past_blank b at) rest)) (sym end)
 
-    -- a blank behind the word, where the word is at fault
-    pub blank-fault : (e : CertFault) → ((last : ℕ) (others : List LineWord) → read_on n last old.tree (begun_word old.line old.word ++ others) ≡ Err e) → bytes_on n old (b ∷ rest) ≡ Err e
-    blank-fault e f = by-begun (b ∷ rest) (words_from k rest) left ∙ f (last_word_line (last_word_line old.last (begun_word old.line old.word)) (words_from k rest)) (words_from k rest)
+  -- a blank behind the word, where the word is at fault
+  pub past-fault : (e : CertFault) → ((last : ℕ) (others : List LineWord) → read_on n last old.tree (begun_word old.line old.word ++ others) ≡ Err e) → (b : ℕ) (rest : List ℕ) → is_blank_byte b ≡ true → bytes_on n old (b ∷ rest) ≡ Err e
+  past-fault e f b rest blank = left b rest blank ∙ f _ (words_from (old.line + count_by is_line_feed (b ∷ [])) rest)
 
-  -- the end of the text behind the word
-  module _ (run : has_none is_blank_byte old.word ≡ true) where
-    -- the end of the text behind the word, where it ends a tag or none
-    pub end-tag : (new : Bytewise) (tag : Option Tag) (r : Result (List Tag) CertFault) → ((last : ℕ) (others : List LineWord) → read_on n last old.tree (begun_word old.line old.word ++ others) ≡ with_some tag (read_on n last new.tree others)) → IsEndOf old new
-        → read_on n new.last new.tree [] ≡ r → bytes_on n old [] ≡ with_some tag r
-    end-tag new tag r f end e =
-        let last = last_word_line old.last (begun_word old.line old.word) in
-        by-begun [] [] (begun-end old.line old.word (run-of old.word run)) ∙ f last []
-        ∙ ap (λ l. with_some tag (read_on n l new.tree [])) (sym (ap (λ (at : Bytewise). at.last) end)) ∙ ap (with_some tag) e
+  -- the end of the text behind the word, where it ends a tag or none
+  pub end-tag : (new : Bytewise) (tag : Option Tag) (r : Result (List Tag) CertFault) → ((last : ℕ) (others : List LineWord) → read_on n last old.tree (begun_word old.line old.word ++ others) ≡ with_some tag (read_on n last new.tree others)) → IsEndOf old new
+      → read_on n new.last new.tree [] ≡ r → bytes_on n old [] ≡ with_some tag r
+  end-tag new tag r f end e =
+      by-begun [] [] (begun-end old.line old.word (run-of old.word run)) ∙ f _ []
+      ∙ ap (λ (at : Bytewise). with_some tag (read_on n at.last new.tree [])) (sym end) ∙ ap (with_some tag) e
 
-    -- the end of the text behind the word, where it is at fault
-    pub end-fault : (e : CertFault) → ((last : ℕ) (others : List LineWord) → read_on n last old.tree (begun_word old.line old.word ++ others) ≡ Err e) → bytes_on n old [] ≡ Err e
-    end-fault e f = by-begun [] [] (begun-end old.line old.word (run-of old.word run)) ∙ f (last_word_line old.last (begun_word old.line old.word)) []
+  -- the end of the text behind the word, where it is at fault
+  pub end-fault : (e : CertFault) → ((last : ℕ) (others : List LineWord) → read_on n last old.tree (begun_word old.line old.word ++ others) ≡ Err e) → bytes_on n old [] ≡ Err e
+  end-fault e f = by-begun [] [] (begun-end old.line old.word (run-of old.word run)) ∙ f _ []
 
 -- a fault stays one behind a tag
 pub some-fault : (tag : Option Tag) (e : CertFault) → with_some tag (Err e) ≡ Err e
 some-fault None e = refl
 some-fault (Some tag) e = refl
-
--- a blank behind the word
-module _ (n : ℕ) (old new : Bytewise) (run : has_none is_blank_byte old.word ≡ true) where
-  -- where the word ends a tag or none
-  pub past-tag : (tag : Option Tag) → ((last : ℕ) (others : List LineWord) → read_on n last old.tree (begun_word old.line old.word ++ others) ≡ with_some tag (read_on n last new.tree others)) → IsEndOf old new
-      → (b : ℕ) (rest : List ℕ) → is_blank_byte b ≡ true → bytes_on n old (b ∷ rest) ≡ with_some tag (bytes_on n (past_blank b new) rest)
-  past-tag tag f end b rest blank =
-      blank-tag n old b (old.line + count_by is_line_feed (b ∷ [])) rest run blank refl new tag f end
-      ∙ ap (λ l. with_some tag (bytes_on n (record { tree = new.tree; word = new.word; line = l + count_by is_line_feed (b ∷ []); last = new.last }) rest)) (sym (ap (λ (at : Bytewise). at.line) end))
-
-  -- where the word is at fault
-  pub past-fault : (e : CertFault) → ((last : ℕ) (others : List LineWord) → read_on n last old.tree (begun_word old.line old.word ++ others) ≡ Err e) → (b : ℕ) (rest : List ℕ) → is_blank_byte b ≡ true → bytes_on n old (b ∷ rest) ≡ Err e
-  past-fault e f b rest blank = blank-fault n old b _ rest run blank refl e f
 
 -- a blank behind a word of which nothing was kept: its bytes are these
 module _ (n line last : ℕ) (tree : Reader) (w : List ℕ) (run : has_none is_blank_byte w ≡ true) where
@@ -230,31 +185,28 @@ module _ (n line last : ℕ) (tree : Reader) (w : List ℕ) (run : has_none is_b
       → (b : ℕ) (rest : List ℕ) → is_blank_byte b ≡ true → bytes_on n (record { tree = tree; word = []; line = line; last = last }) (w ++ b ∷ rest) ≡ with_some tag (bytes_on n (past_blank b (record { tree = new; word = []; line = line; last = line })) rest)
   run-tag new tag some f =
       let e = begun-some w some in
-      past-tag n kept-whole (record { tree = new; word = []; line = line; last = line }) run tag
+      past-tag n kept-whole run (record { tree = new; word = []; line = line; last = line }) tag
       (λ last others. ap (λ (ws : List LineWord). read_on n last tree (ws ++ others)) e ∙ f last others)
       (ap (λ (ws : List LineWord). record { tree = new; word = []; line = line; last = last_word_line last ws }) (sym e))
 
   -- where the word is at fault
   pub run-fault : (e : CertFault) → (length w ≡ 0 → ⊥) → ((last : ℕ) (others : List LineWord) → read_on n last tree (record { line = line; text = w } ∷ others) ≡ Err e)
       → (b : ℕ) (rest : List ℕ) → is_blank_byte b ≡ true → bytes_on n (record { tree = tree; word = []; line = line; last = last }) (w ++ b ∷ rest) ≡ Err e
-  run-fault e some f = past-fault n kept-whole kept-whole run e (λ last others. ap (λ (ws : List LineWord). read_on n last tree (ws ++ others)) (begun-some w some) ∙ f last others)
+  run-fault e some f = past-fault n kept-whole run e (λ last others. ap (λ (ws : List LineWord). read_on n last tree (ws ++ others)) (begun-some w some) ∙ f last others)
 
 -- a blank behind more of a word
-module _ (first mid new : Bytewise) (w : List ℕ) (n : ℕ) (r : Result (Option Tag) CertFault) (run : has_none is_blank_byte mid.word ≡ true) (keeps : (n : ℕ) (rest : List ℕ) → bytes_on n first (w ++ rest) ≡ bytes_on n mid rest) where
+module _ (first mid new : Bytewise) (w : List ℕ) (n : ℕ) (run : has_none is_blank_byte mid.word ≡ true) (keeps : (n : ℕ) (rest : List ℕ) → bytes_on n first (w ++ rest) ≡ bytes_on n mid rest) where
   -- where the word ends a tag or none
-  pub kept-tag : IfOk r (λ tag. (last : ℕ) (others : List LineWord) → read_on n last mid.tree (begun_word mid.line mid.word ++ others) ≡ with_some tag (read_on n last new.tree others)) → IfOk r (λ tag. IsEndOf mid new)
+  pub kept-tag : (r : Result (Option Tag) CertFault) → IfOk r (λ tag. (last : ℕ) (others : List LineWord) → read_on n last mid.tree (begun_word mid.line mid.word ++ others) ≡ with_some tag (read_on n last new.tree others)) → IfOk r (λ tag. IsEndOf mid new)
       → IfOk r (λ tag. (b : ℕ) (rest : List ℕ) → is_blank_byte b ≡ true → bytes_on n first (w ++ b ∷ rest) ≡ with_some tag (bytes_on n (past_blank b new) rest))
-  kept-tag f end =
-      elim r as (λ r. IfOk r (λ tag. (last : ℕ) (others : List LineWord) → read_on n last mid.tree (begun_word mid.line mid.word ++ others) ≡ with_some tag (read_on n last new.tree others)) → IfOk r (λ tag. IsEndOf mid new)
-      → IfOk r (λ tag. (b : ℕ) (rest : List ℕ) → is_blank_byte b ≡ true → bytes_on n first (w ++ b ∷ rest) ≡ with_some tag (bytes_on n (past_blank b new) rest))) [
-        | Ok tag ↦ (λ f end b rest blank. keeps n (b ∷ rest) ∙ past-tag n mid new run tag f end b rest blank)
-        | Err e ↦ (λ f end. tt)
-      ] f end
+  kept-tag (Ok tag) f end = λ b rest blank. keeps n (b ∷ rest) ∙ past-tag n mid run new tag f end b rest blank
+  kept-tag (Err e) f end = tt
 
   -- where the word is at fault
-  pub kept-fault : IfErr r (λ e. e ≢ NoMemory → (last : ℕ) (others : List LineWord) → read_on n last mid.tree (begun_word mid.line mid.word ++ others) ≡ Err e)
+  pub kept-fault : (r : Result (Option Tag) CertFault) → IfErr r (λ e. e ≢ NoMemory → (last : ℕ) (others : List LineWord) → read_on n last mid.tree (begun_word mid.line mid.word ++ others) ≡ Err e)
       → IfErr r (λ e. e ≢ NoMemory → (b : ℕ) (rest : List ℕ) → is_blank_byte b ≡ true → bytes_on n first (w ++ b ∷ rest) ≡ Err e)
-  kept-fault f = IfErr-weaker r (λ e. e ≢ NoMemory → (last : ℕ) (others : List LineWord) → read_on n last mid.tree (begun_word mid.line mid.word ++ others) ≡ Err e) _ (λ e g ne b rest blank. keeps n (b ∷ rest) ∙ past-fault n mid mid run e (g ne) b rest blank) f
+  kept-fault (Ok tag) f = tt
+  kept-fault (Err e) f = λ ne b rest blank. keeps n (b ∷ rest) ∙ past-fault n mid run e (f ne) b rest blank
 
 -- ---- a piece up to its first blank
 

@@ -6,13 +6,13 @@ use Rattle.std.specs.Fmt.{decimal}
 use Rattle.std.proofs.lemmas.Fmt.{decimal_digit}
 use Rattle.std.proofs.lemmas.List.Elements.{recursion_from_All}
 use Rattle.sf_lex.specs.Text.{lines, is_line_feed, has_none}
-use Rattle.sf_lex.specs.Scan.{Line, numbered, last_line_of}
+use Rattle.sf_lex.specs.Scan.{numbered, last_line_of}
 use Rattle.sf_polish.specs.declared.expr.Expr.{Expr}
 use Rattle.sf_polish.specs.Text.{IsWritable}
 use Rattle.sf_certificate.specs.declared.cert.Cert.{Cert}
 use Rattle.sf_certificate.specs.declared.version.Version.TheVariants.{Two}
 use Rattle.sf_certificate.specs.Places.{first_place}
-use Rattle.sf_certificate.specs.Text.{labelled, plan_text, header_lines, tag_text, text_of_lines, cert_text, FitsTag}
+use Rattle.sf_certificate.specs.Text.{plan_text, header_lines, tag_text, text_of_lines, cert_text, FitsTag}
 use Rattle.sf_model.specs.CostText.{cost_text}
 use Rattle.sf_certificate.specs.Reading.{version_in, line_by, header_read, cert_read, said_by}
 use Rattle.sf_certificate.proofs.HeaderReads.{header-whole, cert-whole}
@@ -68,20 +68,14 @@ module _ (cert : Cert) (cost : cert.cost < 2 ^ 64) (bound : cert.bound < 2 ^ 64)
       let tls = map tag_text cert.tags in
       let last = last_line_of (cert_text cert) in
       let n = cert.blocks in
-      let l5 : List Line = numbered 6 (codes "tree" ∷ tls) in
-      let l6 : List Line = numbered 7 tls in
-      let l4 : List Line = numbered 5 (labelled (codes "plan") (plan_text cert.plan) ∷ codes "tree" ∷ tls) in
-      let l3 : List Line = numbered 4 (labelled (codes "bound") (cost_text cert.bound) ∷ labelled (codes "plan") (plan_text cert.plan) ∷ codes "tree" ∷ tls) in
-      let l2 : List Line = numbered 3 (labelled (codes "cost") (cost_text cert.cost) ∷ labelled (codes "bound") (cost_text cert.bound) ∷ labelled (codes "plan") (plan_text cert.plan) ∷ codes "tree" ∷ tls) in
-      let l1 : List Line = numbered 2 (labelled (codes "blocks") (decimal n) ∷ labelled (codes "cost") (cost_text cert.cost) ∷ labelled (codes "bound") (cost_text cert.bound) ∷ labelled (codes "plan") (plan_text cert.plan) ∷ codes "tree" ∷ tls) in
-      let l0 : List Line = numbered 1 (header_lines n cert.plan cert.cost cert.bound ++ tls) in
-      let header = header-whole n last Two l0 l1 l2 l3 l4 l5 l6 cert.cost cert.bound cert.plan
-      (ap (line_by 1 l1) title)
-      (ap (line_by 2 l2) (number-back (codes "blocks") n refl (omega arith) refl (omega (arith, small))))
-      (ap (line_by 3 l3) (cost-back (codes "cost") cert.cost refl (omega arith) refl cost))
-      (ap (line_by 4 l4) (cost-back (codes "bound") cert.bound refl (omega arith) refl bound))
-      (ap (line_by 5 l5) (plan-back n cert.cost cert.plan small cert.form.planned cert.form.unplanned))
+      let header : header_read n last (numbered 1 (header_lines n cert.plan cert.cost cert.bound ++ tls)) ≡ Ok (record { version = Two; plan = cert.plan; cost = cert.cost; bound = cert.bound; others = numbered 7 tls }) =
+      header-whole n last Two _ _ _ _ _ _ _ cert.cost cert.bound cert.plan
+      (ap (line_by 1 _) title)
+      (ap (line_by 2 _) (number-back (codes "blocks") n refl (omega arith) refl (omega (arith, small))))
+      (ap (line_by 3 _) (cost-back (codes "cost") cert.cost refl (omega arith) refl cost))
+      (ap (line_by 4 _) (cost-back (codes "bound") cert.bound refl (omega arith) refl bound))
+      (ap (line_by 5 _) (plan-back n cert.cost cert.plan small cert.form.planned cert.form.unplanned))
       refl in
-      cert-whole n (cert_text cert) (record { version = Two; plan = cert.plan; cost = cert.cost; bound = cert.bound; others = l6 }) cert.tags
+      cert-whole n (cert_text cert) (record { version = Two; plan = cert.plan; cost = cert.cost; bound = cert.bound; others = numbered 7 tls }) cert.tags
       (ap (λ ls. header_read n last (numbered 1 ls)) all-lines ∙ header)
       (tags-back n last 7 cert.tags (first_place ∷ []) (recursion_from_All FitsTag cert.tags fits) cert.form.tree)

@@ -1,5 +1,5 @@
 -- A header that was written is read as it was.
-use Rattle.std.proofs.Common.{◌≡◌, ℕ, ◌^◌, ◌<◌, ◌≤◌, List, [], ◌∷◌, ◌++◌, length, map, arith, refl, ap, sym, ◌∙◌, Bool, true, false, cond, ◌==◌, Option, Some, None, Ok}
+use Rattle.std.proofs.Common.{◌≡◌, ℕ, ◌^◌, ◌<◌, List, [], ◌∷◌, ◌++◌, length, map, arith, refl, ap, sym, ◌∙◌, Bool, true, false, cond, ◌==◌, Option, Some, None, Ok}
 use Rattle.std.specs.Prelude.{codes, filter}
 use Rattle.std.specs.List.{AllByRecursion, list_all, join_with_byte, slice_split, onto_first}
 use Rattle.std.specs.Option.{option_and_then}
@@ -11,9 +11,9 @@ use Rattle.std.proofs.lemmas.List.Elements.{recursion_from_All}
 use Rattle.sf_model.specs.declared.TheConstants.{MAX}
 use Rattle.sf_lex.specs.Number.{is_digit}
 use Rattle.sf_lex.specs.Text.{is_line_feed, is_blank_byte, has_none, is_not_empty}
-use Rattle.sf_lex.specs.Scan.{LineWord, line_words}
+use Rattle.sf_lex.specs.Scan.{LineWord}
 use Rattle.sf_lex.specs.Whole.{plain_read}
-use Rattle.std.proofs.lemmas.Bool.{and_parts}
+use Rattle.std.proofs.lemmas.Bool.{and_parts, eqb-true, eq-eqb}
 use Rattle.sf_lex.proofs.Spelled.{words-blank}
 use Rattle.sf_lex.proofs.WordLines.{words_from-gap}
 use Rattle.sf_lex.proofs.WrittenNumbers.{digits_written, plain_written}
@@ -40,16 +40,12 @@ use Rattle.sf_certificate.proofs.WrittenBack.{words-labelled, decimal-solid, dec
 value-back : (label value : List ℕ) → bytes_eq label label ≡ true → 0 < length label → has_none is_blank_byte label ≡ true → 0 < length value → has_none is_blank_byte value ≡ true → value_in label (label ++ 32 ∷ value) ≡ Some value
 value-back label value e a b c d = ap (value_after label) (words-labelled label value a b c d) ∙ ap (λ t. cond t (Some value) None) e
 
--- a number is found equal to itself
-same-number : (n : ℕ) → (n == n) ≡ true
-same-number n = grind (arith, nat_tests)
-
 -- a number behind a label is read as it is
 pub number-back : (label : List ℕ) (n : ℕ) → bytes_eq label label ≡ true → 0 < length label → has_none is_blank_byte label ≡ true → n < 2 ^ 64 → number_in label n (label ++ 32 ∷ decimal n) ≡ Some n
 number-back label n e a b h =
     ap (λ o. exactly n (option_and_then (plain_read n) o)) (value-back label (decimal n) e a b (decimal_nonempty n h) (decimal-solid n h))
     ∙ ap (exactly n) (plain_written n n h (omega arith))
-    ∙ ap (λ t. cond t (Some n) None) (same-number n)
+    ∙ ap (λ t. cond t (Some n) None) (eq-eqb n n refl)
 
 -- what is written is of the second version
 pub version-back : (label : List ℕ) → bytes_eq label label ≡ true → 0 < length label → has_none is_blank_byte label ≡ true → version_in label (label ++ 32 ∷ decimal 2) ≡ Some Two
@@ -57,33 +53,24 @@ version-back label e a b =
     ap (option_and_then version_of_word) (value-back label (decimal 2) e a b (decimal_nonempty 2 (omega arith)) (decimal-solid 2 (omega arith)))
     ∙ ap (option_and_then version_of) (plain_written 2 2 (omega arith) (omega arith))
 
--- no digit is the first letter of `none`
-not-none : (d : ℕ) → is_digit d ≡ true → (d == 110) ≡ false
-not-none d e = grind (arith, nat_tests)
+-- a digit is no blank, and not the first letter of `none`
+digit-other : (d : ℕ) → is_digit d ≡ true → (is_blank_byte d ≡ false) × ((d == 110) ≡ false)
+digit-other d e = (grind (arith, nat_tests), grind (arith, nat_tests))
 
 -- digits are not `none`
 digits-none : (ds : List ℕ) → 0 < length ds → list_all is_digit ds ≡ true → bytes_eq ds (codes "none") ≡ false
 digits-none [] some h = absurd (omega arith)
 digits-none (d ∷ ds) some h =
-    let both = and_parts (is_digit d) (list_all is_digit ds) h in
-    rw (not-none d both.0) refl
-
--- a number that is found to be MAX is
-max-true : (z : ℕ) → (z == MAX) ≡ true → z ≡ MAX
-max-true z e = grind (arith, nat_tests)
-
--- a number that is found not to be MAX is below it
-below-max : (z : ℕ) → (z == MAX) ≡ false → z < 2 ^ 64 → z ≤ 18446744073709551614
-below-max z e h = grind (arith, nat_tests)
+    rw (digit-other d (and_parts (is_digit d) (list_all is_digit ds) h).0).1 refl
 
 -- a cost behind a label is read as it is, by whether it is MAX
 cost-by : (label : List ℕ) (z : ℕ) (b : Bool) → (z == MAX) ≡ b → bytes_eq label label ≡ true → 0 < length label → has_none is_blank_byte label ≡ true → z < 2 ^ 64 → cost_in label (label ++ 32 ∷ cond b (codes "none") (decimal z)) ≡ Some z
 cost-by label z true is e a b h =
-    ap (option_and_then cost_of_word) (value-back label (codes "none") e a b (omega arith) refl) ∙ ap Some (sym (max-true z is))
+    ap (option_and_then cost_of_word) (value-back label (codes "none") e a b (omega arith) refl) ∙ ap Some (sym (eqb-true z MAX is))
 cost-by label z false is e a b h =
     ap (option_and_then cost_of_word) (value-back label (decimal z) e a b (decimal_nonempty z h) (decimal-solid z h))
     ∙ ap (λ t. cond t (Some MAX) (plain_read 18446744073709551614 (decimal z))) (digits-none (decimal z) (decimal_nonempty z h) (digits_written z h))
-    ∙ plain_written z 18446744073709551614 h (below-max z is h)
+    ∙ plain_written z 18446744073709551614 h (grind (arith, nat_tests))
 
 -- a cost behind a label is read as it is
 pub cost-back : (label : List ℕ) (z : ℕ) → bytes_eq label label ≡ true → 0 < length label → has_none is_blank_byte label ≡ true → z < 2 ^ 64 → cost_in label (label ++ 32 ∷ cost_text z) ≡ Some z
@@ -98,10 +85,6 @@ record IsOther (word : List ℕ) : Type 0 where
   is : word ≡ first ∷ rest
   solid : is_blank_byte first ≡ false
   other : (first == 110) ≡ false
-
--- a digit is no blank, and not the first letter of `none`
-digit-other : (d : ℕ) → is_digit d ≡ true → (is_blank_byte d ≡ false) × ((d == 110) ≡ false)
-digit-other d e = (grind (arith, nat_tests), grind (arith, nat_tests))
 
 -- digits with anything behind them are not `none`
 other-digits : (ds more : List ℕ) → 0 < length ds → list_all is_digit ds ≡ true → IsOther (ds ++ more)
@@ -179,15 +162,11 @@ no-none word o =
     ∙ ap (λ parts. only_word (codes "none") (filter is_not_empty parts)) split
     ∙ other-word o.first (slice_split is_blank_byte o.rest) o.other
 
--- a blank in front changes no word
-line_words-blank : (text : List ℕ) → line_words (32 ∷ text) ≡ line_words text
-line_words-blank text = words_from-gap 1 (32 ∷ []) text (refl, tt)
-
 -- the text of an expression behind a blank is read as the expression
 expr-spelled : (blocks : ℕ) (expr : Expr) → blocks < 2 ^ 16 → IsWritable blocks expr → expr_read blocks (32 ∷ expr_text expr) ≡ Ok expr
 expr-spelled blocks expr small wr =
     let written = expr-written blocks expr small wr in
-    spelled-expr blocks small (32 ∷ expr_text expr) expr (record { words = ap (map (λ (w : LineWord). w.text)) (line_words-blank (expr_text expr)) ∙ written.words; writable = wr })
+    spelled-expr blocks small (32 ∷ expr_text expr) expr (record { words = ap (map (λ (w : LineWord). w.text)) (words_from-gap 1 (32 ∷ []) (expr_text expr) (refl, tt)) ∙ written.words; writable = wr })
 
 -- and so a plan is
 expr-back : (blocks : ℕ) (expr : Expr) → blocks < 2 ^ 16 → IsWritable blocks expr → plan_of_rest blocks (32 ∷ expr_text expr) ≡ Some (Some expr)
@@ -195,13 +174,9 @@ expr-back blocks expr small wr =
     ap (λ o. plan_or o (plan_read (expr_read blocks (32 ∷ expr_text expr)))) (ap (only_word (codes "none")) (words-blank is_blank_byte 32 (expr_text expr) refl) ∙ no-none (expr_text expr) (expr-other blocks expr small wr))
     ∙ ap plan_read (expr-spelled blocks expr small wr)
 
--- no plan behind a blank is read as none
-none-back : (blocks : ℕ) → plan_of_rest blocks (32 ∷ codes "none") ≡ Some None
-none-back blocks = refl
-
 -- the line of a plan is read as the plan
 pub plan-back : (blocks cost : ℕ) (plan : Option Expr) → blocks < 2 ^ 16 → ((expr : Expr) → plan ≡ Some expr → IsWritable blocks expr) → no_plan plan ≡ (cost == MAX) → plan_in blocks cost (codes "plan" ++ 32 ∷ plan_text plan) ≡ Some plan
-plan-back blocks cost None small wr e = ap (agreeing cost) (none-back blocks) ∙ ap (λ b. cond b (Some None) None) (sym e)
+plan-back blocks cost None small wr e = ap (λ b. cond b (Some None) None) (sym e)
 plan-back blocks cost (Some expr) small wr e = ap (agreeing cost) (expr-back blocks expr small (wr expr refl)) ∙ ap (λ b. cond b None (Some (Some expr))) (sym e)
 
 -- the text of a cost has no line feed, by whether it is MAX

@@ -1,51 +1,42 @@
 -- Trees whose closed subproblems name other parts.
-use Rattle.std.proofs.Common.{◌≡◌, ℕ, ◌≤◌, suc, List, [], ◌∷◌, ◌++◌, map, arith, refl, ap, sym, subst, ◌∙◌, Bool, true, false, ◌&&◌}
-use Rattle.std.specs.Prelude.{nat_le, nat_lt, if◌then◌else◌}
+use Rattle.std.proofs.Common.{◌≡◌, ℕ, ◌≤◌, List, [], ◌∷◌, ◌++◌, map, arith, refl, ap, sym, subst, ◌∙◌, ◌&&◌}
+use Rattle.std.specs.Prelude.{nat_lt}
 use Rattle.std.specs.List.{AllByRecursion}
 use Rattle.std.proofs.lemmas.Bool.Decides.{nat_tests}
 use Rattle.std.proofs.lemmas.List.Elements.{recursion_from_All}
 use Rattle.sf_model.specs.declared.design.Design.{Design}
 use Rattle.sf_model.proofs.Each.{each-append}
 use Rattle.sf_node.specs.declared.part.Part.{Part}
-use Rattle.sf_node.specs.declared.part.Part.TheVariants.{Area, Range, Pair, Hull, Full}
+use Rattle.sf_node.specs.declared.part.Part.TheVariants.{Full}
 use Rattle.sf_node.specs.Parts.{Parts}
 use Rattle.sf_node.specs.ByPart.{ArePartsOf, first_part}
 use Rattle.sf_node.specs.Subproblem.{root}
-use Rattle.sf_node.specs.Children.{extended, split, IsSubproblem}
-use Rattle.sf_node.proofs.Reached.{extended-subproblems, split-subproblems, root-subproblem}
+use Rattle.sf_node.specs.Children.{IsSubproblem}
+use Rattle.sf_node.proofs.Reached.{root-subproblem}
 use Rattle.sf_certificate.specs.declared.mark.Mark.{Mark}
 use Rattle.sf_certificate.specs.declared.place.Place.{Place}
 use Rattle.sf_certificate.specs.declared.tag.Tag.{Tag}
-use Rattle.sf_certificate.specs.declared.tag.Tag.TheVariants.{Extend, Split, Closed, Open}
-use Rattle.sf_certificate.specs.Marks.{made, marks, waiting_after}
+use Rattle.sf_certificate.specs.Marks.{made, marks, waiting_after, IsFair}
 use Rattle.sf_certificate.specs.Named.{NamesFirst, AllNameFirst, unnamed, unnamed_mark}
 use Rattle.sf_certificate.specs.Places.{first_place, places_under, spell_trees, spell_tree}
 use Rattle.sf_certificate.specs.Valid.{AreTrees, left_open, decided}
+use Rattle.sf_certificate.proofs.Growth.{made-subproblems, trees-first, trees-step}
 
 -- ---- what names change nothing of
 
 -- a tag without its part makes the same
 pub unnamed-made : (tag : Tag) (node : Parts) → made (unnamed tag) node ≡ made tag node
-unnamed-made Extend node = refl
-unnamed-made (Split b) node = refl
-unnamed-made (Closed p) node = refl
-unnamed-made Open node = refl
+unnamed-made tag node = grind arith
 
 -- and the same places
 unnamed-places : (n : ℕ) (tag : Tag) (place : Place) → places_under n (unnamed tag) place ≡ places_under n tag place
-unnamed-places n Extend place = refl
-unnamed-places n (Split b) place = refl
-unnamed-places n (Closed p) place = refl
-unnamed-places n Open place = refl
+unnamed-places n tag place = grind arith
 
 -- tags without their parts leave the same open
 pub unnamed-open : (nodes : List Parts) (tags : List Tag) → left_open nodes (map unnamed tags) ≡ left_open nodes tags
 unnamed-open [] tags = refl
 unnamed-open (node ∷ nodes) [] = refl
-unnamed-open (node ∷ nodes) (Extend ∷ tags) = unnamed-open (extended node ++ nodes) tags
-unnamed-open (node ∷ nodes) (Split b ∷ tags) = unnamed-open (split node b ++ nodes) tags
-unnamed-open (node ∷ nodes) (Closed p ∷ tags) = unnamed-open nodes tags
-unnamed-open (node ∷ nodes) (Open ∷ tags) = ap (λ ns. node ∷ ns) (unnamed-open nodes tags)
+unnamed-open (node ∷ nodes) (tag ∷ tags) = grind (arith, unnamed-open (made tag node ++ nodes) tags)
 
 -- and the same waiting
 pub unnamed-waiting : (nodes : List Parts) (tags : List Tag) → waiting_after nodes (map unnamed tags) ≡ waiting_after nodes tags
@@ -65,10 +56,7 @@ unnamed-marks (node ∷ nodes) (tag ∷ tags) =
 -- as many are decided
 pub unnamed-decided : (tags : List Tag) → decided (map unnamed tags) ≡ decided tags
 unnamed-decided [] = refl
-unnamed-decided (Extend ∷ tags) = ap suc (unnamed-decided tags)
-unnamed-decided (Split b ∷ tags) = ap suc (unnamed-decided tags)
-unnamed-decided (Closed p ∷ tags) = ap suc (unnamed-decided tags)
-unnamed-decided (Open ∷ tags) = unnamed-decided tags
+unnamed-decided (tag ∷ tags) = grind (arith, unnamed-decided tags)
 
 -- they spell the same trees
 unnamed-spell : (n : ℕ) (places : List Place) (tags : List Tag) → spell_trees n places (map unnamed tags) ≡ spell_trees n places tags
@@ -86,17 +74,20 @@ unnamed-tree n tags = unnamed-spell n (first_place ∷ []) tags
 -- ---- full parts
 
 module _ (design : Design) (value : Parts → ℕ) (part : Parts → Part → ℕ) (cost : ℕ) (parts : ArePartsOf design value part) where
+  -- a tag stays fair where it names the full part
+  full-fair : (tag : Tag) (node : Parts) → IsSubproblem design node → IsFair part cost tag node → IsFair part cost (unnamed tag) node
+  full-fair tag node sub fair = grind (arith, λ (p : Part). parts.below node p sub, parts.full node)
+
   -- trees stay such where the full part is named everywhere
   full-trees : (tags : List Tag) (nodes : List Parts) → AllByRecursion (IsSubproblem design) nodes → AreTrees part cost nodes tags → AreTrees part cost nodes (map unnamed tags)
   full-trees [] [] subs trees = tt
   full-trees [] (node ∷ nodes) subs trees = trees
   full-trees (tag ∷ tags) [] subs trees = trees
-  full-trees (Extend ∷ tags) (node ∷ nodes) subs trees =
-      (trees.0, full-trees tags (extended node ++ nodes) (each-append (IsSubproblem design) (extended node) nodes (extended-subproblems design node subs.0) subs.1) trees.1)
-  full-trees (Split b ∷ tags) (node ∷ nodes) subs trees =
-      (trees.0, full-trees tags (split node b ++ nodes) (each-append (IsSubproblem design) (split node b) nodes (split-subproblems design node b subs.0 trees.0) subs.1) trees.1)
-  full-trees (Closed p ∷ tags) (node ∷ nodes) subs trees = (omega (arith, trees.0, parts.below node p subs.0, parts.full node), full-trees tags nodes subs.1 trees.1)
-  full-trees (Open ∷ tags) (node ∷ nodes) subs trees = full-trees tags nodes subs.1 trees
+  full-trees (tag ∷ tags) (node ∷ nodes) subs trees =
+      let first = trees-first part cost node nodes tag tags trees in
+      let below = each-append (IsSubproblem design) (made tag node) nodes (made-subproblems design part cost tag node subs.0 first.0) subs.1 in
+      trees-step part cost (unnamed tag) node nodes (map unnamed tags) (full-fair tag node subs.0 first.0)
+      (subst (λ ns. AreTrees part cost (ns ++ nodes) (map unnamed tags)) (sym (unnamed-made tag node)) (full-trees tags (made tag node ++ nodes) below first.1))
 
 -- where any parts close the subproblems, the full one does
 pub full-close : (design : Design) (value : Parts → ℕ) (part : Parts → Part → ℕ) (cost : ℕ) (tags : List Tag)
@@ -105,61 +96,35 @@ full-close design value part cost tags parts trees = full-trees design value par
 
 -- ---- first parts
 
--- a number that is found to be at least the cost is
-at-least : (cost n : ℕ) → nat_le cost n ≡ true → cost ≤ n
-at-least cost n e = grind (arith, nat_tests)
-
--- a choice between parts of which each closes
-chosen : (f : Part → ℕ) (cost : ℕ) (p q : Part) (b : Bool) → nat_le cost (f p) ≡ b → cost ≤ f q → cost ≤ f (if b then p else q)
-chosen f cost p q true e h = at-least cost (f p) e
-chosen f cost p q false e h = h
-
 -- where the full part is at least the cost, so is the first one
 first-closes : (f : Part → ℕ) (cost : ℕ) → cost ≤ f Full → cost ≤ f (first_part f cost)
-first-closes f cost h =
-    chosen f cost Area _ (nat_le cost (f Area)) refl (chosen f cost Range _ (nat_le cost (f Range)) refl (chosen f cost Pair _ (nat_le cost (f Pair)) refl (chosen f cost Hull Full (nat_le cost (f Hull)) refl h)))
+first-closes f cost h = grind (arith, nat_tests)
 
 module _ (part : Parts → Part → ℕ) (cost : ℕ) where
   -- the mark names the first part
   abbrev First : Mark → Type 0
   First mark = NamesFirst part cost mark.tag mark.node
 
+  -- a tag that names the first part is fair, where it is with the full one
+  first-fair : (tag : Tag) (node : Parts) → IsFair part cost (unnamed tag) node → NamesFirst part cost tag node → IsFair part cost tag node
+  first-fair tag node fair named = grind (arith, first-closes (part node) cost)
+
+  -- a first tag and what it makes
+  tree-rest : (tag : Tag) (tags : List Tag) (node : Parts) (nodes : List Parts) → AreTrees part cost (node ∷ nodes) (map unnamed (tag ∷ tags)) → AreTrees part cost (made tag node ++ nodes) (map unnamed tags)
+  tree-rest tag tags node nodes trees = grind arith
+
   -- trees whose marks name the first parts are such, where they are with the full one
   first-trees : (tags : List Tag) (nodes : List Parts) → AreTrees part cost nodes (map unnamed tags) → AllByRecursion First (marks nodes tags) → AreTrees part cost nodes tags
   first-trees [] [] trees named = tt
   first-trees [] (node ∷ nodes) trees named = trees
   first-trees (tag ∷ tags) [] trees named = trees
-  first-trees (Extend ∷ tags) (node ∷ nodes) trees named = (trees.0, first-trees tags (extended node ++ nodes) trees.1 named.1)
-  first-trees (Split b ∷ tags) (node ∷ nodes) trees named = (trees.0, first-trees tags (split node b ++ nodes) trees.1 named.1)
-  first-trees (Closed p ∷ tags) (node ∷ nodes) trees named =
-      (subst (λ q. cost ≤ part node q) (sym named.0) (first-closes (part node) cost trees.0), first-trees tags nodes trees.1 named.1)
-  first-trees (Open ∷ tags) (node ∷ nodes) trees named = first-trees tags nodes trees named.1
+  first-trees (tag ∷ tags) (node ∷ nodes) trees named =
+      let more = first-trees tags (made tag node ++ nodes) (tree-rest tag tags node nodes trees) named.1 in
+      trees-step part cost tag node nodes tags (first-fair tag node (trees-first part cost node nodes (unnamed tag) (map unnamed tags) trees).0 named.0) more
 
   -- two tags that are alike but for names and name the first parts are the same
   one-tag : (x y : Tag) (node : Parts) → unnamed x ≡ unnamed y → NamesFirst part cost x node → NamesFirst part cost y node → x ≡ y
-  one-tag Extend Extend node e f g = refl
-  one-tag Extend (Split c) node e f g = absurd (cc)
-  one-tag Extend (Closed q) node e f g = absurd (cc)
-  one-tag Extend Open node e f g = absurd (cc)
-  one-tag (Split b) Extend node e f g = absurd (cc)
-  one-tag (Split b) (Split c) node e f g = e
-  one-tag (Split b) (Closed q) node e f g = absurd (cc)
-  one-tag (Split b) Open node e f g = absurd (cc)
-  one-tag (Closed p) Extend node e f g = absurd (cc)
-  one-tag (Closed p) (Split c) node e f g = absurd (cc)
-  one-tag (Closed p) (Closed q) node e f g = ap (λ n. Closed n) (f ∙ sym g)
-  one-tag (Closed p) Open node e f g = absurd (cc)
-  one-tag Open Extend node e f g = absurd (cc)
-  one-tag Open (Split c) node e f g = absurd (cc)
-  one-tag Open (Closed q) node e f g = absurd (cc)
-  one-tag Open Open node e f g = refl
-
-  -- a first tag and what it makes
-  tree-rest : (tag : Tag) (tags : List Tag) (node : Parts) (nodes : List Parts) → AreTrees part cost (node ∷ nodes) (map unnamed (tag ∷ tags)) → AreTrees part cost (made tag node ++ nodes) (map unnamed tags)
-  tree-rest Extend tags node nodes trees = trees.1
-  tree-rest (Split b) tags node nodes trees = trees.1
-  tree-rest (Closed p) tags node nodes trees = trees.1
-  tree-rest Open tags node nodes trees = trees
+  one-tag x y node e f g = grind arith
 
   -- tags that are alike but for names and name the first parts are the same
   one-naming : (first second : List Tag) (nodes : List Parts) → AreTrees part cost nodes (map unnamed first) → map unnamed first ≡ map unnamed second

@@ -1,7 +1,8 @@
 -- A text whose header is there is read as the header and the bytes behind it.
-use Rattle.std.proofs.Common.{◌≡◌, ℕ, suc, ◌+◌, List, [], ◌∷◌, ◌++◌, length, arith, refl, ap, sym, ◌∙◌, Bool, true, false, cond, append_assoc, append-nil, Option, Some, None, Result, Ok, Err}
+use Rattle.std.proofs.Common.{◌≡◌, ℕ, suc, ◌+◌, List, [], ◌∷◌, ◌++◌, length, arith, refl, ap, sym, ◌∙◌, Bool, true, false, cond, append_assoc, append-nil, Option, Result, Ok, Err}
 use Rattle.std.specs.Prelude.{codes}
 use Rattle.std.specs.List.{count_by}
+use Rattle.std.proofs.lemmas.List.{nil_from_length}
 use Rattle.std.proofs.lemmas.List.Sums.{sum_by-cons}
 use Rattle.std.proofs.lemmas.Grind.{flat_map-append}
 use Rattle.sf_lex.specs.Text.{is_line_feed, lines}
@@ -11,10 +12,9 @@ use Rattle.sf_certificate.specs.declared.fault.CertFault.{CertFault}
 use Rattle.sf_certificate.specs.declared.tag.Tag.{Tag}
 use Rattle.sf_certificate.specs.declared.version.Version.{Version}
 use Rattle.sf_lex.specs.Results.{◌>>=◌}
-use Rattle.sf_certificate.specs.Reading.{Header, version_in, number_in, cost_in, plan_in, word_in, line_by, line_read, header_read, tree_read, cert_read}
+use Rattle.sf_certificate.specs.Reading.{Header, version_in, number_in, cost_in, plan_in, word_in, line_read, header_read, tree_read, cert_read}
 use Rattle.sf_certificate.specs.Bytes.{IsHeader, first_byte, bytes_on, said_with}
 use Rattle.sf_certificate.proofs.ByteReads.{last-append}
-use Rattle.sf_certificate.proofs.HeaderReads.{cert-header, cert-tree, cert-whole}
 
 -- ---- lines that are ended
 
@@ -62,58 +62,27 @@ abbrev with_lines : List Line → Result Header CertFault → Result Header Cert
 with_lines more (Ok h) = Ok (record { version = h.version; plan = h.plan; cost = h.cost; bound = h.bound; others = more })
 with_lines more (Err e) = Err e
 
--- one line is read, whatever stands behind the six
-line-step : {X : Type 0} (number : ℕ) (long short more : List Line) (value : Option X) (f g : X × List Line → Result Header CertFault)
-    → ((x : X) → f (x, long) ≡ with_lines more (g (x, short))) → (line_by number long value >>= f) ≡ with_lines more (line_by number short value >>= g)
-line-step number long short more None f g next = refl
-line-step number long short more (Some x) f g next = next x
+-- six lines, each by a rule, whatever stands behind them
+module _ (title : List ℕ → Option Version) (count cost bound : List ℕ → Option ℕ) (plan : ℕ → List ℕ → Option (Option Expr)) (tree : List ℕ → Option (List ℕ)) where
+  -- the header by these rules
+  abbrev read_by : ℕ → List Line → Result Header CertFault
+  read_by last all = do
+    t ← line_read last title all
+    n ← line_read last count t.1
+    c ← line_read last cost n.1
+    b ← line_read last bound c.1
+    p ← line_read last (plan c.0) b.1
+    e ← line_read last tree p.1
+    Ok (record { version = t.0; plan = p.0; cost = c.0; bound = b.0; others = e.1 })
 
--- what is read of a header from one line on
-module _ (blocks last : ℕ) where
-  -- from the line of the tree on
-  abbrev on-tree : Version → ℕ → ℕ → Option Expr × List Line → Result Header CertFault
-  on-tree version cost bound plan = do
-    tree ← line_read last (word_in (codes "tree")) plan.1
-    Ok (record { version = version; plan = plan.0; cost = cost; bound = bound; others = tree.1 })
-
-  -- from the line of the plan on
-  abbrev on-plan : Version → ℕ → ℕ × List Line → Result Header CertFault
-  on-plan version cost bound = line_read last (plan_in blocks cost) bound.1 >>= on-tree version cost bound.0
-
-  -- from the line of the bound on
-  abbrev on-bound : Version → ℕ × List Line → Result Header CertFault
-  on-bound version cost = line_read last (cost_in (codes "bound")) cost.1 >>= on-plan version cost.0
-
-  -- from the line of the cost on
-  abbrev on-cost : Version → ℕ × List Line → Result Header CertFault
-  on-cost version count = line_read last (cost_in (codes "cost")) count.1 >>= on-bound version
-
-  -- from the line of the blocks on
-  abbrev on-count : Version × List Line → Result Header CertFault
-  on-count title = line_read last (number_in (codes "blocks") blocks) title.1 >>= on-cost title.0
+  -- the same header, with the lines behind it
+  more-by : (last other : ℕ) (all more : List Line) → length all ≡ 6 → read_by last (all ++ more) ≡ with_lines more (read_by other all)
+  more-by last other all more h = grind (arith, nil_from_length {X = Line})
 
 -- six lines are read as a header, whatever stands behind them
-six-lines : (blocks last other : ℕ) (a b c d e f : Line) (more : List Line) → header_read blocks last (a ∷ b ∷ c ∷ d ∷ e ∷ f ∷ more) ≡ with_lines more (header_read blocks other (a ∷ b ∷ c ∷ d ∷ e ∷ f ∷ []))
-unfolding header_read
-six-lines blocks last other a b c d e f more =
-    line-step {X = Version} a.number (b ∷ c ∷ d ∷ e ∷ f ∷ more) (b ∷ c ∷ d ∷ e ∷ f ∷ []) more (version_in (codes "slicing-certificate") a.bytes) (on-count blocks last) (on-count blocks other) (λ version.
-    line-step {X = ℕ} b.number (c ∷ d ∷ e ∷ f ∷ more) (c ∷ d ∷ e ∷ f ∷ []) more (number_in (codes "blocks") blocks b.bytes) (on-cost blocks last version) (on-cost blocks other version) (λ count.
-    line-step {X = ℕ} c.number (d ∷ e ∷ f ∷ more) (d ∷ e ∷ f ∷ []) more (cost_in (codes "cost") c.bytes) (on-bound blocks last version) (on-bound blocks other version) (λ cost.
-    line-step {X = ℕ} d.number (e ∷ f ∷ more) (e ∷ f ∷ []) more (cost_in (codes "bound") d.bytes) (on-plan blocks last version cost) (on-plan blocks other version cost) (λ bound.
-    line-step {X = Option Expr} e.number (f ∷ more) (f ∷ []) more (plan_in blocks cost e.bytes) (on-tree blocks last version cost bound) (on-tree blocks other version cost bound) (λ plan.
-    line-step {X = List ℕ} f.number more [] more (word_in (codes "tree") f.bytes)
-    (λ (x : List ℕ × List Line). Ok (record { version = version; plan = plan; cost = cost; bound = bound; others = x.1 })) (λ (x : List ℕ × List Line). Ok (record { version = version; plan = plan; cost = cost; bound = bound; others = x.1 })) (λ tree. refl))))))
-
--- the same of a list of six lines
 header-more : (blocks last other : ℕ) (all more : List Line) → length all ≡ 6 → header_read blocks last (all ++ more) ≡ with_lines more (header_read blocks other all)
-header-more blocks last other [] more h = absurd (omega (arith, h))
-header-more blocks last other (a ∷ []) more h = absurd (omega (arith, h))
-header-more blocks last other (a ∷ b ∷ []) more h = absurd (omega (arith, h))
-header-more blocks last other (a ∷ b ∷ c ∷ []) more h = absurd (omega (arith, h))
-header-more blocks last other (a ∷ b ∷ c ∷ d ∷ []) more h = absurd (omega (arith, h))
-header-more blocks last other (a ∷ b ∷ c ∷ d ∷ e ∷ []) more h = absurd (omega (arith, h))
-header-more blocks last other (a ∷ b ∷ c ∷ d ∷ e ∷ f ∷ []) more h = six-lines blocks last other a b c d e f more
-header-more blocks last other (a ∷ b ∷ c ∷ d ∷ e ∷ f ∷ g ∷ others) more h = absurd (omega (arith, h))
+unfolding header_read
+header-more blocks last other = more-by (version_in (codes "slicing-certificate")) (number_in (codes "blocks") blocks) (cost_in (codes "cost")) (cost_in (codes "bound")) (plan_in blocks) (word_in (codes "tree")) last other
 
 -- ---- the whole text
 
@@ -132,8 +101,9 @@ length-numbered n (l ∷ all) = ap suc (length-numbered (n + 1) all)
 -- a header and a tree are read as a certificate
 said-read : (blocks : ℕ) (text : List ℕ) (header : Header) (r : Result (List Tag) CertFault) → header_read blocks (last_line_of text) (numbered 1 (lines text)) ≡ Ok header → tree_read header.version blocks (last_line_of text) (words_of_lines header.others) ≡ r
     → cert_read blocks text ≡ said_with blocks (record { version = header.version; plan = header.plan; cost = header.cost; bound = header.bound }) r
-said-read blocks text header (Ok tags) h t = cert-whole blocks text header tags h t
-said-read blocks text header (Err e) h t = cert-tree blocks text header e h t
+unfolding cert_read
+said-read blocks text header (Ok tags) h t = rw (h, t) refl
+said-read blocks text header (Err e) h t = rw (h, t) refl
 
 module _ (blocks other : ℕ) (text : List ℕ) (whole : IsHeader text) (rest : List ℕ) where
   -- the line behind the header is the seventh
@@ -165,4 +135,5 @@ module _ (blocks other : ℕ) (text : List ℕ) (whole : IsHeader text) (rest : 
 
   -- a fault of the header is one of the text
   pub opened-fault : (e : CertFault) → header_read blocks other (numbered 1 (lines text)) ≡ Err e → cert_read blocks (text ++ rest) ≡ Err e
-  opened-fault e h = cert-header blocks (text ++ rest) e (header-both ∙ ap (with_lines (numbered 7 (lines rest))) h)
+  unfolding cert_read
+  opened-fault e h = rw (header-both ∙ ap (with_lines (numbered 7 (lines rest))) h) refl

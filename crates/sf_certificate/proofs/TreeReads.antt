@@ -35,14 +35,6 @@ reading-done n last whole tags reader words e none end = e ∙ ap (λ ws. with_t
 
 -- ---- one word
 
--- a place that is too deep is found so
-deep-true : (d : ℕ) → 3200 ≤ d → nat_lt d 3200 ≡ false
-deep-true d h = grind (arith, nat_tests)
-
--- a place that is not too deep is found so
-shallow-true : (d : ℕ) → d < 3200 → nat_lt d 3200 ≡ true
-shallow-true d h = grind (arith, nat_tests)
-
 -- a tag at the first place, or its fault
 module _ (n : ℕ) (places : List Place) (line : ℕ) (said : Result Tag CertFault) where
   -- a tag where no place waits is trailing
@@ -64,15 +56,17 @@ module _ (n : ℕ) (places : List Place) (line : ℕ) (said : Result Tag CertFau
     pub put-deep : (tag : Tag) → said ≡ Ok tag → 3200 ≤ place.depth → (last : ℕ) (others : List TagSaid) → tree_from n last places (record { line = line; tag = said } ∷ others) ≡ Err (TooDeep line)
     put-deep tag e deep last others =
         let next = with_tag tag (tree_from n last (places_under n tag place ++ more) others) in
+        let test : nat_lt place.depth 3200 ≡ false = grind (arith, nat_tests) in
         put-at last others ∙ ap (λ r. tag_at place line r (λ tag. with_tag tag (tree_from n last (places_under n tag place ++ more) others))) e
-        ∙ ap (λ b. cond b next (Err (TooDeep line))) (deep-true place.depth deep)
+        ∙ ap (λ b. cond b next (Err (TooDeep line))) test
 
     -- a tag at its place
     pub put-tag : (tag : Tag) (new : List Place) → said ≡ Ok tag → place.depth < 3200 → new ≡ places_under n tag place ++ more → (last : ℕ) (others : List TagSaid) → tree_from n last places (record { line = line; tag = said } ∷ others) ≡ with_tag tag (tree_from n last new others)
     put-tag tag new e shallow below last others =
         let next = with_tag tag (tree_from n last (places_under n tag place ++ more) others) in
+        let test : nat_lt place.depth 3200 ≡ true = grind (arith, nat_tests) in
         put-at last others ∙ ap (λ r. tag_at place line r (λ tag. with_tag tag (tree_from n last (places_under n tag place ++ more) others))) e
-        ∙ ap (λ b. cond b next (Err (TooDeep line))) (shallow-true place.depth shallow)
+        ∙ ap (λ b. cond b next (Err (TooDeep line))) test
         ∙ ap (λ ps. with_tag tag (tree_from n last ps others)) (sym below)
 
 -- what is said where a word comes next

@@ -16,6 +16,7 @@ use Rattle.sf_polish.proofs.WordTexts.{all-weaker}
 use Rattle.sf_certificate.specs.declared.fault.CertFault.{CertFault}
 use Rattle.sf_certificate.specs.declared.fault.CertFault.TheVariants.{TooDeep}
 use Rattle.sf_certificate.specs.declared.place.Place.{Place}
+use Rattle.sf_node.specs.declared.part.Part.{Part}
 use Rattle.sf_node.specs.declared.part.Part.TheVariants.{Area, Range, Pair, Hull, Full}
 use Rattle.sf_certificate.specs.declared.tag.Tag.{Tag}
 use Rattle.sf_certificate.specs.declared.tag.Tag.TheVariants.{Extend, Split, Closed, Open}
@@ -63,15 +64,15 @@ words-labelled label value a b c d = words-written is_blank_byte label value 32 
 
 -- ---- the tree
 
+-- what a tag says of a part has no line feed
+part-line : (p : Part) → has_none is_line_feed (tag_text (Closed p)) ≡ true
+part-line p = grind arith
+
 -- what a tag says has no line feed
 tag-line : (tag : Tag) → FitsTag tag → has_none is_line_feed (tag_text tag) ≡ true
-tag-line Extend h = refl
 tag-line (Split b) h = line-append (83 ∷ 32 ∷ []) (decimal b) refl (decimal-line b (omega (arith, h)))
-tag-line (Closed Area) h = refl
-tag-line (Closed Range) h = refl
-tag-line (Closed Pair) h = refl
-tag-line (Closed Hull) h = refl
-tag-line (Closed Full) h = refl
+tag-line Extend h = refl
+tag-line (Closed p) h = part-line p
 tag-line Open h = refl
 
 -- nor has what any of the tags says

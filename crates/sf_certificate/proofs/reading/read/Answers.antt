@@ -1,21 +1,23 @@
-use Rattle.std.proofs.Common.{sym, ◌∙◌, ap, Ok}
+use Rattle.std.proofs.Common.{sym, ◌∙◌, ap, Ok, refl}
 use Rattle.std.proofs.lemmas.Result.{err_from_is_err_and}
 use Rattle.sf_lex.specs.Scan.{last_line_of}
-use Rattle.sf_certificate.specs.Reading.{header_read}
-use Rattle.sf_certificate.proofs.HeaderReads.{start-lines, cert-header, cert-tree, cert-whole}
+use Rattle.sf_certificate.specs.Reading.{header_read, cert_read}
+use Rattle.sf_certificate.proofs.HeaderReads.{start-lines, cert-whole}
 use Rattle.sf_certificate.proofs.reading.read.Goals as goal
 
 pub returns-in_err-header-clause-fault : goal.returns-in_err-header-clause-fault
+unfolding cert_read
 returns-in_err-header-clause-fault c =
     let p = err_from_is_err_and c.from_residual.result c.from_residual.ensures.1 in
     let at = start-lines c.new-scan.result c.args.text.now c.new-scan.ensures.source c.new-scan.ensures.from in
-    rw (p.1, p.2) (λ ne. cert-header c.args.blocks c.args.text.now _ (ap (header_read c.args.blocks (last_line_of c.args.text.now)) (sym at) ∙ c.in_err-header.ensures.fault ne))
+    rw (p.1, p.2) (λ ne. rw (ap (header_read c.args.blocks (last_line_of c.args.text.now)) (sym at) ∙ c.in_err-header.ensures.fault ne) refl)
 
 pub returns-in_err-tags-clause-fault : goal.returns-in_err-tags-clause-fault
+unfolding cert_read
 returns-in_err-tags-clause-fault c =
     let p = err_from_is_err_and c.from_residual-in_err-tags.result c.from_residual-in_err-tags.ensures.1 in
     let at = start-lines c.new-scan.result c.args.text.now c.new-scan.ensures.source c.new-scan.ensures.from in
-    rw (p.1, p.2) (λ ne. cert-tree c.args.blocks c.args.text.now _ _ (ap (header_read c.args.blocks (last_line_of c.args.text.now)) (sym at) ∙ c.in_ok-header.ensures.header) (c.in_err-tags.ensures.fault ne))
+    rw (p.1, p.2) (λ ne. rw (ap (header_read c.args.blocks (last_line_of c.args.text.now)) (sym at) ∙ c.in_ok-header.ensures.header, c.in_err-tags.ensures.fault ne) refl)
 
 pub returns-clause-ok : goal.returns-clause-ok
 returns-clause-ok c =

@@ -11,12 +11,12 @@ use Rattle.sf_certificate.proofs.bytes.ByteReader.end_run.Goals as goal
 pub returns-then-not-is_empty-clause-tag : goal.returns-then-not-is_empty-clause-tag
 returns-then-not-is_empty-clause-tag c =
     let e = c.end_word.ensures in
-    kept-tag c.args.self.now c.keep_run.new.self c.end_word.new.self c.args.run.now c.args.blocks c.end_word.result e.solid c.in_ok-keep_run.ensures e.tag e.kept
+    kept-tag c.args.self.now c.keep_run.new.self c.end_word.new.self c.args.run.now c.args.blocks e.solid c.in_ok-keep_run.ensures c.end_word.result e.tag e.kept
 
 pub returns-then-not-is_empty-clause-fault : goal.returns-then-not-is_empty-clause-fault
 returns-then-not-is_empty-clause-fault c =
     let e = c.end_word.ensures in
-    kept-fault c.args.self.now c.keep_run.new.self c.end_word.new.self c.args.run.now c.args.blocks c.end_word.result e.solid c.in_ok-keep_run.ensures e.fault
+    kept-fault c.args.self.now c.keep_run.new.self c.end_word.new.self c.args.run.now c.args.blocks e.solid c.in_ok-keep_run.ensures c.end_word.result e.fault
 
 pub returns-in_err-tag-clause-fault : goal.returns-in_err-tag-clause-fault
 returns-in_err-tag-clause-fault c =
