@@ -6,7 +6,7 @@ use Rattle.sf_gsrc.specs.declared.fault.JoinFault.{JoinFault}
 use Rattle.sf_gsrc.specs.declared.fault.JoinFault.TheVariants as faults
 use Rattle.sf_gsrc.specs.declared.output.GsrcBlocks.{GsrcBlocks}
 use Rattle.sf_gsrc.specs.declared.output.Place.{Place}
-use Rattle.sf_gsrc.specs.Join.{names_of, first_twice, pads_at, strangers_of, placed_once, placed_parts}
+use Rattle.sf_gsrc.specs.Join.{pads_at, strangers_of, placed_once, placed_parts}
 use Rattle.sf_gsrc.specs.ByName.{pads_once}
 use Rattle.sf_gsrc.proofs.Results.{ok_is, err_not_ok}
 
@@ -16,7 +16,7 @@ names-pads_at places [] = refl
 names-pads_at places (name ∷ pads) = ap (λ (ns : List (List ℕ)). name ∷ ns) (names-pads_at places pads)
 
 -- pads and strangers as they were found are the parts, whether a name is placed twice or not
-joined_by : (out : GsrcBlocks) (nets : List RawNet) (places : List Place) (pads : List RawPad) (strangers : List (List ℕ)) (twice : Option (List ℕ)) → pads_once twice (pads_at places out.pads) ≡ Ok pads
+pub joined_by : (out : GsrcBlocks) (nets : List RawNet) (places : List Place) (pads : List RawPad) (strangers : List (List ℕ)) (twice : Option (List ℕ)) → pads_once twice (pads_at places out.pads) ≡ Ok pads
     → strangers ≡ strangers_of out.blocks (map (λ p. p.name) pads) places
     → placed_once twice (placed_parts out nets places) ≡ Ok (record { blocks = out.blocks; pads = pads; nets = nets; strangers = strangers; pads_in = true })
 joined_by out nets places pads strangers (Some name) placed others = absurd (err_not_ok (faults.PlacedTwice name) pads placed)
@@ -24,9 +24,3 @@ joined_by out nets places pads strangers None placed others =
     let same : pads_at places out.pads ≡ pads = ok_is {E = JoinFault} (pads_at places out.pads) pads placed in
     let names : map (λ p. p.name) pads ≡ out.pads = ap (λ (ps : List RawPad). map (λ p. p.name) ps) (sym same) ∙ names-pads_at places out.pads in
     rw (others, names, ← same) refl
-
--- pads and strangers as they were found are the parts
-pub joined_once : (out : GsrcBlocks) (nets : List RawNet) (places : List Place) (pads : List RawPad) (strangers : List (List ℕ)) → pads_once (first_twice (names_of places)) (pads_at places out.pads) ≡ Ok pads
-    → strangers ≡ strangers_of out.blocks (map (λ p. p.name) pads) places
-    → placed_once (first_twice (names_of places)) (placed_parts out nets places) ≡ Ok (record { blocks = out.blocks; pads = pads; nets = nets; strangers = strangers; pads_in = true })
-joined_once out nets places pads strangers placed others = joined_by out nets places pads strangers (first_twice (names_of places)) placed others

@@ -1,5 +1,5 @@
 -- One entry more.
-use Rattle.std.proofs.Common.{◌≡◌, ℕ, true, false, List, [], ◌∷◌, ◌++◌, Option, Some, None, Result, Ok, Err, refl, sym, ap, ◌∙◌}
+use Rattle.std.proofs.Common.{◌≡◌, ℕ, false, List, [], ◌∷◌, ◌++◌, Option, Some, None, Result, Err, if◌then◌else◌, refl, sym, ap, ◌∙◌}
 use Rattle.std.specs.Prelude.{is_some}
 use Rattle.std.specs.List.{cons_option}
 use Rattle.std.proofs.lemmas.List.{append-nil}
@@ -18,7 +18,7 @@ use Rattle.sf_gsrc.specs.declared.count.Count.{Count}
 use Rattle.sf_gsrc.specs.declared.found.Found.{Found}
 use Rattle.sf_lex.specs.Gap.{is_gap}
 use Rattle.sf_gsrc.specs.Line.{BlockIs, PadIs, count_said}
-use Rattle.sf_gsrc.specs.Blocks.{Entry, CountIs, ItemIs, or_else, count_at, count_in, block_at, pad_at, count_after, fault_at, Fails}
+use Rattle.sf_gsrc.specs.Blocks.{Entry, CountIs, ItemIs, or_else, count_at, count_in, block_at, pad_at, count_after, entry_at, fault_at, Fails}
 use Rattle.sf_gsrc.proofs.Results.{none_of, or_else-None}
 use Rattle.sf_gsrc.specs.Found.{IsFound, count_kept, with_count}
 
@@ -68,23 +68,11 @@ keeps_count counts.Hard found es n said is new =
 keeps_count counts.Terminals found es n said is new =
     pushed found _ es _ is (sym (or_else-None found.soft)) (sym (or_else-None found.hard)) (first_kept found.terminals _ new) (sym (append-nil found.blocks.items)) (sym (append-nil found.pads.items))
 
--- a second count of a kind is a fault
-pub refuses_count : (which : Counted) (found : Found) (es : List Entry) (line : Line) → IsFound found es → is_some (count_kept found which) ≡ true
-    → count_after which es line ≡ Err (faults.BadLine line.number)
+-- a count line says its count, unless one of its kind was kept
+pub count_line : (which : Counted) (found : Found) (es : List Entry) (line : Line) → IsFound found es
+    → count_after which es line ≡ (if is_some (count_kept found which) then Err (faults.BadLine line.number) else entry_at line.number (CountIs which) (count_said (words (is_gap Colons) line.bytes)))
 unfolding count_after
-refuses_count which found es line is old = rw (← count_is_kept which found es is, old) refl
-
--- and otherwise the line says its count
-pub takes_count : (which : Counted) (found : Found) (es : List Entry) (line : Line) (said : ℕ) → IsFound found es → is_some (count_kept found which) ≡ false
-    → Ok said ≡ count_said (words (is_gap Colons) line.bytes) → count_after which es line ≡ Ok (record { number = line.number; said = CountIs which said })
-unfolding count_after
-takes_count which found es line said is new read = rw (← count_is_kept which found es is, new, ← read) refl
-
--- a count line whose number has a fault is refused at its line
-pub fails_count : (which : Counted) (found : Found) (es : List Entry) (line : Line) (fault : LineFault) → IsFound found es → is_some (count_kept found which) ≡ false
-    → Err fault ≡ count_said (words (is_gap Colons) line.bytes) → count_after which es line ≡ Err (fault_at line.number fault)
-unfolding count_after
-fails_count which found es line fault is new read = rw (← count_is_kept which found es is, new, ← read) refl
+count_line which found es line is = rw (← count_is_kept which found es is) refl
 
 -- a fault of a line is none of memory
 pub Fails-at : {X : Type 0} (n : ℕ) (fault : LineFault) (read : Result X GsrcFault) → read ≡ Err (fault_at n fault) → Fails (fault_at n fault) read

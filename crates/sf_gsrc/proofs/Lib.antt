@@ -3,8 +3,6 @@ pub mod Keeping
 pub mod LineSteps
 pub mod Results
 pub mod StandingLaws
-pub mod NetSteps
-pub mod PlaceSteps
 pub mod PlaceLaws
 pub mod NetLaws
 pub mod Names

@@ -5,6 +5,7 @@ use Rattle.std.specs.List.{list_any}
 use Rattle.std.specs.Str.{bytes_eq}
 use Rattle.std.specs.Map.{update}
 use Rattle.sf_names.specs.Values.{value_in}
+use Rattle.std.proofs.Math.Bool.{or_assoc}
 use Rattle.std.proofs.Math.Seq.{drop-cons}
 use Rattle.std.proofs.lemmas.List.Folds.{list_any_more}
 use Rattle.sf_gsrc.specs.declared.output.Place.{Place}
@@ -21,35 +22,26 @@ use Rattle.sf_gsrc.specs.ByName.{first_again, PlacesByName, IsNameSet}
 cut : (places : List Place) (i : ℕ) (p : Place) → i < length places → p ≡ get_or places i p → drop i places ≡ p ∷ drop (i + 1) places
 cut places i p lt is = drop-cons places i p lt ∙ ap (λ (q : Place). q ∷ drop (suc i) places) (sym is) ∙ ap (λ (n : ℕ). p ∷ drop n places) (sym (add-one i))
 
--- one place more, before the others
-pub placed_before : (places : List Place) (i j : ℕ) (p : Place) (key : List ℕ) (at : ℤ × ℤ) (m n : List (List ℕ × (ℤ × ℤ))) → i < length places → j ≡ i + 1 → p ≡ get_or places i p → key ≡ p.name → at ≡ (p.x, p.y)
-    → ((other : List ℕ) → value_in n other ≡ update bytes_eq (value_in m) key (Some at) other) → PlacesByName m (drop j places) → PlacesByName n (drop i places)
-placed_before places i j p key at m n lt next is named there updates known name =
-    rw (cut places i p lt is) (updates name ∙ rw (known name, next, named, there) refl)
-
--- with one more place in front, a name has a place exactly where it is one of the names
-has_place_step : (p : Place) (places : List Place) (name : List ℕ) (b : Bool) → bytes_eq p.name name ≡ b → is_some (place_of places name) ≡ has_name (names_of places) name → is_some (place_of (p ∷ places) name) ≡ has_name (names_of (p ∷ places)) name
-has_place_step p places name true e h = rw e refl
-has_place_step p places name false e h = rw e h
-
 -- a name has a place exactly where it is one of the names
 pub has_place : (places : List Place) (name : List ℕ) → is_some (place_of places name) ≡ has_name (names_of places) name
 has_place [] name = refl
-has_place (p ∷ places) name = has_place_step p places name (bytes_eq p.name name) refl (has_place places name)
+has_place (p ∷ places) name =
+    elim (bytes_eq p.name name) as (λ b. is_some (cond b (Some (p.x, p.y)) (place_of places name)) ≡ (b || has_name (names_of places) name)) [ true ↦ refl | false ↦ has_place places name ]
 
--- the name stands again behind its line
-pub twice_here : (places : List Place) (i j : ℕ) (p : Place) (later : Option (ℤ × ℤ)) → i < length places → j ≡ i + 1 → p ≡ get_or places i p → later ≡ place_of (drop j places) p.name → is_some later ≡ true
-    → Some p.name ≡ first_again (names_of (drop i places))
-twice_here places i j p later lt next is found some =
-    let again : has_name (names_of (drop (i + 1) places)) p.name ≡ true = sym (has_place (drop (i + 1) places) p.name) ∙ ap (λ (n : ℕ). is_some (place_of (drop n places) p.name)) (sym next) ∙ ap is_some (sym found) ∙ some in
-    rw (cut places i p lt is, again) refl
+-- the places from an index on are known by their names, and so is the first name that stands again
+pub record AreKnown (places : List Place) (i : ℕ) (m : List (List ℕ × (ℤ × ℤ))) (twice : Option (List ℕ)) : Type 0 where
+  pub by_name : PlacesByName m (drop i places)
+  pub twice_is : twice ≡ first_again (names_of (drop i places))
 
--- or it doesn't, and the first is one behind it
-pub twice_later : (places : List Place) (i j : ℕ) (p : Place) (later : Option (ℤ × ℤ)) (twice : Option (List ℕ)) → i < length places → j ≡ i + 1 → p ≡ get_or places i p → later ≡ place_of (drop j places) p.name → is_some later ≡ false
-    → twice ≡ first_again (names_of (drop j places)) → twice ≡ first_again (names_of (drop i places))
-twice_later places i j p later twice lt next is found none before =
-    let again : has_name (names_of (drop (i + 1) places)) p.name ≡ false = sym (has_place (drop (i + 1) places) p.name) ∙ ap (λ (n : ℕ). is_some (place_of (drop n places) p.name)) (sym next) ∙ ap is_some (sym found) ∙ none in
-    rw (cut places i p lt is, again) (before ∙ ap (λ (n : ℕ). first_again (names_of (drop n places))) next)
+-- one place more, before the others, whose name may be one of theirs
+pub one_place_more : (places : List Place) (i j : ℕ) (p : Place) (key : List ℕ) (at : ℤ × ℤ) (m n : List (List ℕ × (ℤ × ℤ))) (later : Option (ℤ × ℤ)) (twice : Option (List ℕ)) → i < length places → j ≡ i + 1 → p ≡ get_or places i p → key ≡ p.name → at ≡ (p.x, p.y)
+    → ((other : List ℕ) → value_in n other ≡ update bytes_eq (value_in m) key (Some at) other) → later ≡ value_in m key → AreKnown places j m twice → AreKnown places i n (cond (is_some later) (Some p.name) twice)
+one_place_more places i j p key at m n later twice lt next is named there updates found known =
+    let again : is_some later ≡ has_name (names_of (drop (i + 1) places)) p.name = rw (found, named, known.by_name p.name, next) (has_place (drop (i + 1) places) p.name) in
+    record {
+      by_name = λ name. rw (cut places i p lt is) (updates name ∙ rw (known.by_name name, next, named, there) refl);
+      twice_is = rw (cut places i p lt is, ← again, known.twice_is, next) refl;
+    }
 
 -- ---- sets of names
 
@@ -81,14 +73,9 @@ pub has_name-more : {X : Type 0} (f : X → List ℕ) (xs : List X) (i : ℕ) (x
 has_name-more f xs i x key name lt is named =
     has_name-map f (take (i + 1) xs) name ∙ list_any_more (λ y. bytes_eq (f y) name) xs i x lt ∙ rw (← is, ← named, has_name-map f (take i xs) name) refl
 
--- the disjunction of three, however they are grouped
-or-assoc : (a b c : Bool) → ((a || b) || c) ≡ (a || (b || c))
-or-assoc true b c = refl
-or-assoc false b c = refl
-
--- the same, where the last two are known together
+-- the disjunction of three, where the last two are known together
 pub or_more : (a b c d : Bool) → d ≡ (b || c) → ((a || b) || c) ≡ (a || d)
-or_more a b c d e = or-assoc a b c ∙ ap (λ (x : Bool). a || x) (sym e)
+or_more a b c d e = or_assoc a b c ∙ ap (λ (x : Bool). a || x) (sym e)
 
 -- ---- pads
 

@@ -18,10 +18,10 @@ use Rattle.sf_gsrc.specs.declared.keywords.NetWord.TheVariants as net_words
 use Rattle.sf_gsrc.specs.declared.count.Count.{Count}
 use Rattle.sf_gsrc.specs.declared.output.GsrcNets.{GsrcNets}
 use Rattle.sf_gsrc.specs.Keywords.{net_word_by}
-use Rattle.sf_gsrc.specs.Blocks.{content_of, is_title, last_of}
-use Rattle.sf_gsrc.specs.Nets.{NetEntry, NetSaid, NetsAre, PinsAre, DegreeIs, PinIs, nets_said, degree_said, last_pins, earlier_nets, with_last, nets_of, degree_kept, net_entry_at, number_of_line, net_entry_by, net_entry_after, net_entries_from, nets_counted, nets_finished, nets_titled, nets_read}
+use Rattle.sf_gsrc.specs.Blocks.{content_of, read_from, last_of}
+use Rattle.sf_gsrc.specs.Nets.{NetEntry, NetSaid, NetsAre, PinsAre, DegreeIs, PinIs, nets_said, degree_said, last_pins, earlier_nets, with_last, nets_of, degree_kept, net_entry_at, number_of_line, net_entry_by, net_entry_after, net_entries_from, nets_counted, nets_finished, nets_read}
 use Rattle.sf_gsrc.specs.NetsStanding.{SaysNetBy, SaysNet, nets_count, net_part, net_lines, net_of, NetsStandFor}
-use Rattle.sf_gsrc.proofs.Results.{bind_ok, ok_is, err_not_ok, none_of, compared_ok}
+use Rattle.sf_gsrc.proofs.Results.{bind_ok, ok_is, err_not_ok, none_of, compared_ok, opened_ok}
 
 -- ---- what earlier lines leave open
 
@@ -37,8 +37,7 @@ Wants (Some degree) found more = degree.said ≡ found + length more
 
 -- the last net has what it wants
 abbrev IsFull : Option Count → ℕ → Type 0
-IsFull None found = Unit {0}
-IsFull (Some degree) found = degree.said ≡ found
+IsFull o found = Wants o found []
 
 -- the nets so far, the last one with the pins `more`
 abbrev nets_with : List NetEntry → List (List ℕ) → List RawNet
@@ -58,25 +57,15 @@ nets_with-nil past = ap (with_last (earlier_nets past) (degree_said past)) (appe
 
 -- ---- the steps: a line of each form, before lines that follow it
 
--- a count of nets that is said first stands before those that are said later
-counts_before : (n : ℕ) (past final : List NetEntry) (said : List NetSaid) → nets_said past ≡ None → counts_of (nets_said final) ≡ n ∷ filter_map nets_count said
-    → counts_of (nets_said final) ≡ counts_of (nets_said past) ++ (n ∷ filter_map nets_count said)
-counts_before n past final said none e = rw none e
-
 -- a line with the number of nets, before lines that follow it
 nets_step : (k n : ℕ) (past final : List NetEntry) (said : List NetSaid) (more : List (List ℕ)) (names : List (List (List ℕ))) → nets_said past ≡ None
     → Follows (record { number = k; said = NetsAre n } ∷ past) final said more names → Follows past final (NetsAre n ∷ said) more names
-nets_step k n past final said more names none f = record { parts = f.parts; wants = f.wants; nets = f.nets; counts = counts_before n past final said none f.counts; full = f.full }
+nets_step k n past final said more names none f = record { parts = f.parts; wants = f.wants; nets = f.nets; counts = f.counts ∙ rw none refl; full = f.full }
 
 -- a line with the number of pins, before lines that follow it
 pins_step' : (k n : ℕ) (past final : List NetEntry) (said : List NetSaid) (more : List (List ℕ)) (names : List (List (List ℕ)))
     → Follows (record { number = k; said = PinsAre n } ∷ past) final said more names → Follows past final (PinsAre n ∷ said) more names
 pins_step' k n past final said more names f = record { parts = f.parts; wants = f.wants; nets = f.nets; counts = f.counts; full = f.full }
-
--- a full net wants no more pins
-full_wants : (o : Option Count) (found : ℕ) → IsFull o found → Wants o found []
-full_wants None found h = refl
-full_wants (Some d) found h = omega (arith, h)
 
 -- a degree closes the last net, which is full
 degree_step' : (k d : ℕ) (past final : List NetEntry) (said : List NetSaid) (more : List (List ℕ)) (names : List (List (List ℕ))) → IsFull (degree_said past) (length (last_pins past))
@@ -85,15 +74,11 @@ degree_step' k d past final said more names full f =
     let said_is : d ≡ length more = omega (arith, f.wants) in
     record {
       parts = ap (λ (ps : List NetSaid). DegreeIs d ∷ ps) f.parts ∙ ap (λ (n : ℕ). DegreeIs n ∷ (map PinIs more ++ flat_map net_lines names)) said_is;
-      wants = full_wants (degree_said past) (length (last_pins past)) full;
+      wants = full;
       nets = f.nets ∙ append_assoc (nets_of past) (net_of more ∷ []) (map net_of names) ∙ ap (λ (ns : List RawNet). ns ++ (net_of more ∷ map net_of names)) (sym (nets_with-nil past));
       counts = f.counts;
       full = f.full;
     }
-
--- a pin that is put behind the others comes before those that follow
-some_with : (nets : List RawNet) (o : Option Count) (pins : List RawPin) (name : List ℕ) (more : List (List ℕ)) → with_last nets o ((pins ++ Named name ∷ []) ++ map Named more) ≡ with_last nets o (pins ++ (Named name ∷ map Named more))
-some_with nets o pins name more = ap (with_last nets o) (append_assoc pins (Named name ∷ []) (map Named more))
 
 -- a net that wants pins wanted one more before this one
 wants_more : (o : Option Count) (found found' : ℕ) (name : List ℕ) (more : List (List ℕ)) → is_some o ≡ true → found' ≡ found + 1 → Wants o found' more → Wants o found (name ∷ more)
@@ -106,7 +91,7 @@ pin_step : (k : ℕ) (name : List ℕ) (past final : List NetEntry) (said : List
 pin_step k name past final said more names some f = record {
   parts = ap (λ (ps : List NetSaid). PinIs name ∷ ps) f.parts;
   wants = wants_more (degree_said past) (length (last_pins past)) (length (last_pins past ++ Named name ∷ [])) name more some (length-append (last_pins past) (Named name ∷ [])) f.wants;
-  nets = f.nets ∙ ap (λ (ns : List RawNet). ns ++ map net_of names) (some_with (earlier_nets past) (degree_said past) (last_pins past) name more);
+  nets = f.nets ∙ ap (λ (pins : List RawPin). with_last (earlier_nets past) (degree_said past) pins ++ map net_of names) (append_assoc (last_pins past) (Named name ∷ []) (map Named more));
   counts = f.counts;
   full = f.full;
 }
@@ -115,7 +100,7 @@ pin_step k name past final said more names some f = record {
 none_step : (past : List NetEntry) → IsFull (degree_said past) (length (last_pins past)) → Follows past past [] [] []
 none_step past full = record {
   parts = refl;
-  wants = full_wants (degree_said past) (length (last_pins past)) full;
+  wants = full;
   nets = sym (nets_with-nil past) ∙ sym (append-nil (nets_with past []));
   counts = sym (append-nil (counts_of (nets_said past)));
   full = full;
@@ -137,13 +122,13 @@ entry_ok n says (Ok x) e h = (x, refl, sym (ok_is {E = GsrcFault} (record { numb
 entry_ok n says (Err f) e h = absurd cc
 
 -- where a degree lets reading go on, the net has so many pins and the rest is what was read
-kept_ok_by : {X : Type 0} (d : Count) (found : ℕ) (next : Result X GsrcFault) (x : X) (b : Bool) → (d.said == found) ≡ b → degree_kept (Some d) found next ≡ Ok x → (d.said ≡ found) × (next ≡ Ok x)
-kept_ok_by d found next x true e h = (eqb-true d.said found e, rw e at h)
+kept_ok_by : {X : Type 0} (d : Count) (found : ℕ) (next : Result X GsrcFault) (x : X) (b : Bool) → (d.said == found) ≡ b → degree_kept (Some d) found next ≡ Ok x → (d.said ≡ found + 0) × (next ≡ Ok x)
+kept_ok_by d found next x true e h = (omega (arith, eqb-true d.said found e), rw e at h)
 kept_ok_by d found next x false e h = absurd (err_not_ok (faults.BadDegree d.line d.said found) x (rw e at h))
 
 -- where reading goes on behind a net, the net is full and the rest is what was read
-kept_ok : {X : Type 0} (o : Option Count) (found : ℕ) (next : Result X GsrcFault) (x : X) → degree_kept o found next ≡ Ok x → IsFull o found × (next ≡ Ok x)
-kept_ok None found next x h = (tt, h)
+pub kept_ok : {X : Type 0} (o : Option Count) (found : ℕ) (next : Result X GsrcFault) (x : X) → degree_kept o found next ≡ Ok x → IsFull o found × (next ≡ Ok x)
+kept_ok None found next x h = (refl, h)
 kept_ok (Some d) found next x h = kept_ok_by d found next x (d.said == found) refl h
 
 -- a line that was read, before lines that were read
@@ -205,7 +190,7 @@ line_read past final line ls e None w h r = pin_line_read past final line ls e (
 
 -- the lines that were read, with the last net full
 lines_read : (past final : List NetEntry) (ls : List Line) → net_entries_from past ls ≡ Ok final → IsFull (degree_said final) (length (last_pins final)) → WereRead past final ls
-unfolding net_entries_from
+unfolding read_from
 lines_read past final [] h full =
     let same : past ≡ final = ok_is {E = GsrcFault} past final h in
     let here : WereRead final final [] = record { said = []; more = []; names = []; each = tt; follows = none_step final full } in
@@ -221,37 +206,29 @@ counted_ok last (Some count) nets out h =
     let k = compared_ok count (length nets) (Ok (record { nets = nets })) out h in
     (ap (λ (n : ℕ). n ∷ []) k.0, ap (λ (o : GsrcNets). o.nets) (ok_is {E = GsrcFault} (record { nets = nets }) out k.1))
 
--- a text that is read under its title stands for what is read, whether the title is right or not
-titled_by : (text : List ℕ) (title : Line) (others : List Line) (out : GsrcNets) (b : Bool) → content_of text ≡ title ∷ others → is_title (codes "nets") title.bytes ≡ b
-    → nets_titled (title ∷ others) ≡ Ok out → NetsStandFor text out
-titled_by text title others out false are e h = absurd (err_not_ok (faults.BadTitle title.number) out (rw e at h))
-titled_by text title others out true are e h =
-    let k = bind_ok (net_entries_from [] others) (nets_finished (last_of title.number others)) out (rw e at h) in
-    let kept = kept_ok (degree_said k.0) (length (last_pins k.0)) (nets_counted (last_of title.number others) (nets_said k.0) (nets_of k.0)) out k.2 in
+-- a text stands for the nets that are read from it
+pub stands_from_read : (text : List ℕ) (out : GsrcNets) → nets_read text ≡ Ok out → NetsStandFor text out
+unfolding nets_read
+stands_from_read text out h =
+    opened_ok (codes "nets") (content_of text) _ out (NetsStandFor text out) h
+    (λ title others are titled read.
+    let last = last_of title.number others in
+    let k = bind_ok (net_entries_from [] others) (nets_finished last) out read in
+    let kept = kept_ok (degree_said k.0) (length (last_pins k.0)) (nets_counted last (nets_said k.0) (nets_of k.0)) out k.2 in
     let r = lines_read [] k.0 others k.1 kept.0 in
-    let counted = counted_ok (last_of title.number others) (nets_said k.0) (nets_of k.0) out kept.1 in
+    let counted = counted_ok last (nets_said k.0) (nets_of k.0) out kept.1 in
     record {
       title = title;
       others = others;
       said = r.said;
       names = r.names;
       lines_are = are;
-      titled = e;
+      titled = titled;
       each = r.each;
       lines_of_nets = r.follows.parts ∙ ap (λ (more : List (List ℕ)). map PinIs more ++ flat_map net_lines r.names) r.follows.wants;
       nets = sym counted.1 ∙ r.follows.nets;
       count = sym r.follows.counts ∙ counted.0 ∙ ap (λ (ns : List RawNet). length ns ∷ []) counted.1;
-    }
-
--- lines of a text that are read under their title stand for what is read
-titled_ok : (text : List ℕ) (ls : List Line) (out : GsrcNets) → content_of text ≡ ls → nets_titled ls ≡ Ok out → NetsStandFor text out
-titled_ok text [] out are h = absurd (err_not_ok (faults.Truncated 0) out h)
-titled_ok text (title ∷ others) out are h = titled_by text title others out (is_title (codes "nets") title.bytes) are refl h
-
--- a text stands for the nets that are read from it
-pub stands_from_read : (text : List ℕ) (out : GsrcNets) → nets_read text ≡ Ok out → NetsStandFor text out
-unfolding nets_read
-stands_from_read text out h = titled_ok text (content_of text) out refl h
+    })
 
 -- ---- from the relation to reading
 
@@ -261,15 +238,10 @@ record WillRead (past : List NetEntry) (ls : List Line) (said : List NetSaid) (m
   read : net_entries_from past ls ≡ Ok final
   follows : Follows past final said more names
 
--- a net that wants no more pins is full
-wants_full : (o : Option Count) (found : ℕ) → Wants o found [] → IsFull o found
-wants_full None found h = tt
-wants_full (Some d) found h = omega (arith, h)
-
 -- behind a full net reading goes on
-full_kept : {X : Type 0} (o : Option Count) (found : ℕ) (next : Result X GsrcFault) → IsFull o found → degree_kept o found next ≡ next
+pub full_kept : {X : Type 0} (o : Option Count) (found : ℕ) (next : Result X GsrcFault) → IsFull o found → degree_kept o found next ≡ next
 full_kept None found next h = refl
-full_kept (Some d) found next h = rw (eq-eqb d.said found h) refl
+full_kept (Some d) found next h = rw (eq-eqb d.said found (omega (arith, h))) refl
 
 -- only an open net wants a pin
 wants_some : (o : Option Count) (found : ℕ) (name : List ℕ) (more : List (List ℕ)) → Wants o found (name ∷ more) → is_some o ≡ true
@@ -289,48 +261,30 @@ not_said_yet (Some count) n ns h = absurd (omega arith)
 -- the lines are all read: nothing is left to say
 nothing_more : (past : List NetEntry) (more : List (List ℕ)) (names : List (List (List ℕ))) → [] ≡ map PinIs more ++ flat_map net_lines names → Wants (degree_said past) (length (last_pins past)) more
     → WillRead past [] [] more names
-unfolding net_entries_from
-nothing_more past [] [] parts wants = record { final = past; read = refl; follows = none_step past (wants_full (degree_said past) (length (last_pins past)) wants) }
+unfolding read_from
+nothing_more past [] [] parts wants = record { final = past; read = refl; follows = none_step past wants }
 nothing_more past [] (m ∷ names) parts wants = absurd cc
 nothing_more past (m ∷ more) names parts wants = absurd cc
 
--- a pin of the last net comes first, or else a degree
-record BeginsWithPin (name : List ℕ) (rest : List NetSaid) (more : List (List ℕ)) (names : List (List (List ℕ))) : Type 0 where
-  others : List (List ℕ)
-  more_is : more ≡ name ∷ others
-  rest_is : rest ≡ map PinIs others ++ flat_map net_lines names
-
 -- where a pin is said first, it is the next one of the last net
-begins_with_pin : (name : List ℕ) (rest : List NetSaid) (more : List (List ℕ)) (names : List (List (List ℕ))) → (PinIs name ∷ rest) ≡ map PinIs more ++ flat_map net_lines names → BeginsWithPin name rest more names
+begins_with_pin : (name : List ℕ) (rest : List NetSaid) (more : List (List ℕ)) (names : List (List (List ℕ))) → (PinIs name ∷ rest) ≡ map PinIs more ++ flat_map net_lines names
+    → (others : List (List ℕ)) × (more ≡ name ∷ others) × (rest ≡ map PinIs others ++ flat_map net_lines names)
 begins_with_pin name rest [] [] e = absurd cc
 begins_with_pin name rest [] (m ∷ names) e = absurd cc
 begins_with_pin name rest (m ∷ more) names e =
     let same : name ≡ m = cc in
     let left : rest ≡ map PinIs more ++ flat_map net_lines names = cc in
-    record { others = more; more_is = ap (λ (n : List ℕ). n ∷ more) (sym same); rest_is = left }
-
--- a degree comes first: the last net has no more pins, and the next one has so many
-record BeginsWithDegree (d : ℕ) (rest : List NetSaid) (more : List (List ℕ)) (names : List (List (List ℕ))) : Type 0 where
-  first : List (List ℕ)
-  others : List (List (List ℕ))
-  more_is : more ≡ []
-  names_are : names ≡ first ∷ others
-  degree_is : d ≡ length first
-  rest_is : rest ≡ map PinIs first ++ flat_map net_lines others
+    (more, ap (λ (n : List ℕ). n ∷ more) (sym same), left)
 
 -- where a degree is said first, the last net is done and the next one begins
-begins_with_degree : (d : ℕ) (rest : List NetSaid) (more : List (List ℕ)) (names : List (List (List ℕ))) → (DegreeIs d ∷ rest) ≡ map PinIs more ++ flat_map net_lines names → BeginsWithDegree d rest more names
+begins_with_degree : (d : ℕ) (rest : List NetSaid) (more : List (List ℕ)) (names : List (List (List ℕ))) → (DegreeIs d ∷ rest) ≡ map PinIs more ++ flat_map net_lines names
+    → (first : List (List ℕ)) × (others : List (List (List ℕ))) × (more ≡ []) × (names ≡ first ∷ others) × (d ≡ length first) × (rest ≡ map PinIs first ++ flat_map net_lines others)
 begins_with_degree d rest [] [] e = absurd cc
 begins_with_degree d rest [] (m ∷ names) e =
     let same : d ≡ length m = cc in
     let left : rest ≡ map PinIs m ++ flat_map net_lines names = cc in
-    record { first = m; others = names; more_is = refl; names_are = refl; degree_is = same; rest_is = left }
+    (m, names, refl, refl, same, left)
 begins_with_degree d rest (m ∷ more) names e = absurd cc
-
--- a line that says so is read, before lines that will be read
-then_read : (past final : List NetEntry) (line : Line) (ls : List Line) (e : NetEntry) → net_entry_after past line ≡ Ok e → net_entries_from (e ∷ past) ls ≡ Ok final → net_entries_from past (line ∷ ls) ≡ Ok final
-unfolding net_entries_from
-then_read past final line ls e h more = rw h more
 
 -- lines that say so are read so, whatever came before
 abbrev Reads : List Line → List NetSaid → Type 0
@@ -340,6 +294,7 @@ Reads ls said = (past : List NetEntry) (more : List (List ℕ)) (names : List (L
 
 -- a line with the number of nets is read, and then the others
 nets_line : (line : Line) (ls : List Line) (said : List NetSaid) (n : ℕ) → Reads ls said → net_word_by line.bytes ≡ Some net_words.Nets → number_of_line line ≡ Ok n → Reads (line ∷ ls) (NetsAre n ∷ said)
+unfolding read_from
 nets_line line ls said n later w read past more names parts wants once =
     let none = not_said_yet (nets_said past) n (filter_map nets_count said) once in
     let first : is_some (nets_said past) ≡ false = ap is_some none in
@@ -347,49 +302,52 @@ nets_line line ls said n later w read past more names parts wants once =
     let once_more : length (counts_of (nets_said past) ++ (n ∷ filter_map nets_count said)) ≤ 1 = once in
     let r = later (e ∷ past) more names parts wants (rw none at once_more) in
     let one : net_entry_after past line ≡ Ok e = rw (w, first, read) refl in
-    record { final = r.final; read = then_read past r.final line ls e one r.read; follows = nets_step line.number n past r.final said more names none r.follows }
+    record { final = r.final; read = rw one r.read; follows = nets_step line.number n past r.final said more names none r.follows }
 
 -- a line with the number of pins is read, and then the others
 pins_line : (line : Line) (ls : List Line) (said : List NetSaid) (n : ℕ) → Reads ls said → net_word_by line.bytes ≡ Some net_words.Pins → number_of_line line ≡ Ok n → Reads (line ∷ ls) (PinsAre n ∷ said)
+unfolding read_from
 pins_line line ls said n later w read past more names parts wants once =
     let e : NetEntry = record { number = line.number; said = PinsAre n } in
     let r = later (e ∷ past) more names parts wants once in
     let one : net_entry_after past line ≡ Ok e = rw (w, read) refl in
-    record { final = r.final; read = then_read past r.final line ls e one r.read; follows = pins_step' line.number n past r.final said more names r.follows }
+    record { final = r.final; read = rw one r.read; follows = pins_step' line.number n past r.final said more names r.follows }
 
 -- a line with a degree is read, and then the others
 degree_line : (line : Line) (ls : List Line) (said : List NetSaid) (n : ℕ) → Reads ls said → net_word_by line.bytes ≡ Some net_words.Degree → number_of_line line ≡ Ok n → Reads (line ∷ ls) (DegreeIs n ∷ said)
+unfolding read_from
 degree_line line ls said n later w read past more names parts wants once =
     let b = begins_with_degree n (filter_map net_part said) more names parts in
-    let full = wants_full (degree_said past) (length (last_pins past)) (subst (λ (m : List (List ℕ)). Wants (degree_said past) (length (last_pins past)) m) b.more_is wants) in
+    let full = subst (λ (m : List (List ℕ)). Wants (degree_said past) (length (last_pins past)) m) b.2 wants in
     let e : NetEntry = record { number = line.number; said = DegreeIs n } in
-    let wanted : n ≡ 0 + length b.first = omega (arith, b.degree_is) in
-    let r = later (e ∷ past) b.first b.others b.rest_is wanted once in
+    let wanted : n ≡ 0 + length b.0 = omega (arith, b.4) in
+    let r = later (e ∷ past) b.0 b.1 b.5 wanted once in
     let kept : degree_kept (degree_said past) (length (last_pins past)) (Ok e) ≡ Ok e = full_kept (degree_said past) (length (last_pins past)) (Ok e) full in
     let one : net_entry_after past line ≡ Ok e = rw (w, read) kept in
-    let f : Follows past r.final (DegreeIs n ∷ said) [] (b.first ∷ b.others) = degree_step' line.number n past r.final said b.first b.others full r.follows in
+    let f : Follows past r.final (DegreeIs n ∷ said) [] (b.0 ∷ b.1) = degree_step' line.number n past r.final said b.0 b.1 full r.follows in
     record {
       final = r.final;
-      read = then_read past r.final line ls e one r.read;
-      follows = subst (λ (m : List (List ℕ)). Follows past r.final (DegreeIs n ∷ said) m names) (sym b.more_is) (subst (λ (ns : List (List (List ℕ))). Follows past r.final (DegreeIs n ∷ said) [] ns) (sym b.names_are) f);
+      read = rw one r.read;
+      follows = subst (λ (m : List (List ℕ)). Follows past r.final (DegreeIs n ∷ said) m names) (sym b.2) (subst (λ (ns : List (List (List ℕ))). Follows past r.final (DegreeIs n ∷ said) [] ns) (sym b.3) f);
     }
 
 -- a line with a pin is read, and then the others
 pin_line : (line : Line) (ls : List Line) (said : List NetSaid) → Reads ls said → net_word_by line.bytes ≡ None → Reads (line ∷ ls) (PinIs (first_word Blanks line.bytes) ∷ said)
+unfolding read_from
 pin_line line ls said later w past more names parts wants once =
     let name = first_word Blanks line.bytes in
     let b = begins_with_pin name (filter_map net_part said) more names parts in
-    let wanted : Wants (degree_said past) (length (last_pins past)) (name ∷ b.others) = subst (λ (m : List (List ℕ)). Wants (degree_said past) (length (last_pins past)) m) b.more_is wants in
-    let some = wants_some (degree_said past) (length (last_pins past)) name b.others wanted in
+    let wanted : Wants (degree_said past) (length (last_pins past)) (name ∷ b.0) = subst (λ (m : List (List ℕ)). Wants (degree_said past) (length (last_pins past)) m) b.1 wants in
+    let some = wants_some (degree_said past) (length (last_pins past)) name b.0 wanted in
     let e : NetEntry = record { number = line.number; said = PinIs name } in
     let longer : length (last_pins past ++ Named name ∷ []) ≡ length (last_pins past) + 1 = length-append (last_pins past) (Named name ∷ []) in
-    let r = later (e ∷ past) b.others names b.rest_is (wants_less (degree_said past) (length (last_pins past)) (length (last_pins past ++ Named name ∷ [])) name b.others longer wanted) once in
+    let r = later (e ∷ past) b.0 names b.2 (wants_less (degree_said past) (length (last_pins past)) (length (last_pins past ++ Named name ∷ [])) name b.0 longer wanted) once in
     let one : net_entry_after past line ≡ Ok e = rw (w, some) refl in
-    let f : Follows past r.final (PinIs name ∷ said) (name ∷ b.others) names = pin_step line.number name past r.final said b.others names some r.follows in
+    let f : Follows past r.final (PinIs name ∷ said) (name ∷ b.0) names = pin_step line.number name past r.final said b.0 names some r.follows in
     record {
       final = r.final;
-      read = then_read past r.final line ls e one r.read;
-      follows = subst (λ (m : List (List ℕ)). Follows past r.final (PinIs name ∷ said) m names) (sym b.more_is) f;
+      read = rw one r.read;
+      follows = subst (λ (m : List (List ℕ)). Follows past r.final (PinIs name ∷ said) m names) (sym b.1) f;
     }
 
 -- a line is read as what it says, whatever its first word is, and then the others

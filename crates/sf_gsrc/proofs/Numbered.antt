@@ -1,11 +1,11 @@
 -- A numbered pin is of the block and of the pad of the pin that was read, so numbers change no fault of the parts.
 use Rattle.std.proofs.Common.{◌≡◌, ℕ, ◌+◌, ◌<◌, Bool, true, false, ◌&&◌, ◌||◌, cond, map, length, List, [], ◌∷◌, ◌++◌, Option, Some, None, is_some, is_none, refl, ap, sym, ◌∙◌}
 use Rattle.std.specs.Prelude.{IfSome, flat_map, sum_by}
-use Rattle.std.specs.List.{All, AllByRecursion, list_any}
+use Rattle.std.specs.List.{All, list_any}
 use Rattle.std.specs.Str.{bytes_eq}
 use Rattle.std.proofs.lemmas.List.{length-map}
 use Rattle.std.proofs.lemmas.List.Sums.{sum_by-cons}
-use Rattle.std.proofs.lemmas.List.Elements.{All-from_recursion, recursion_from_All}
+use Rattle.std.proofs.lemmas.List.Elements.{All-map, All-weaker}
 use Rattle.sf_model.specs.declared.fault.BuildFault.{BuildFault}
 use Rattle.sf_model.specs.declared.fault.BuildFault.TheVariants as fault
 use Rattle.sf_model.specs.declared.raw.RawBlock.{RawBlock}
@@ -120,14 +120,10 @@ duplicates_same parts = rw (names_same parts (if_both parts) (both_same parts)) 
 unknowns_same : (parts : Parts) → unknowns (with_numbers parts) ≡ unknowns parts
 unknowns_same parts = rw (names_same parts (if_neither parts) (neither_same parts)) refl
 
--- equal lists of faults are equal where they count and where they do not
-missing_by : (b : Bool) (now was : List BuildFault) → now ≡ was → cond b now [] ≡ cond b was []
-missing_by b now was e = ap (λ (l : List BuildFault). cond b l []) e
-
 -- numbers change no pad without a place
 missing_same : (parts : Parts) → missing_places (with_numbers parts) ≡ missing_places parts
 missing_same parts =
-    missing_by parts.pads_in (unplaced_faults (is_wired (with_numbers parts)) 0 parts.pads) (unplaced_faults (is_wired parts) 0 parts.pads)
+    ap (λ (l : List BuildFault). cond parts.pads_in l [])
     (unplaced_same (is_wired (with_numbers parts)) (is_wired parts) (λ i. wired_in parts.blocks parts.pads i parts.nets) 0 parts.pads)
 
 -- numbers change no first fault
@@ -161,13 +157,8 @@ pin_in_range blocks pads (raw.Block b) was = was
 pin_in_range blocks pads (raw.Pad p) was = was
 
 -- where a change keeps what is said of an element, it keeps it of all
-all_mapped : {X : Type 0} (P : X → Type 0) (f : X → X) → ((x : X) → P x → P (f x)) → (xs : List X) → AllByRecursion P xs → AllByRecursion P (map f xs)
-all_mapped P f keeps [] h = h
-all_mapped P f keeps (x ∷ xs) h = (keeps x h.0, all_mapped P f keeps xs h.1)
-
--- the same of all elements by their places
 mapped : {X : Type 0} (P : X → Type 0) (f : X → X) → ((x : X) → P x → P (f x)) → (xs : List X) → All P xs → All P (map f xs)
-mapped P f keeps xs h = All-from_recursion P (map f xs) (all_mapped P f keeps xs (recursion_from_All P xs h))
+mapped P f keeps xs h = All-map P f xs (All-weaker P (λ x. P (f x)) keeps xs h)
 
 -- the pins of nets stay in range with their numbers
 pub nets_in_range_still : (blocks : List RawBlock) (pads : List RawPad) (nets : List RawNet) → All (λ (n : RawNet). All (IsPinInRange (length blocks) (length pads)) n.pins) nets

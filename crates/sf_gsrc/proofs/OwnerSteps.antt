@@ -37,30 +37,16 @@ pad_put old new key w i blocks pads sets found beside n =
 
 -- ---- pins by their owners
 
--- the owner of a name that is of a block alone is the block by its number
-pub of_block : (b p : Option ℕ) (x : ℕ) (pin : RawPin) → Some (Block x) ≡ owner_of b p → raw.Block x ≡ by_number b p pin
-of_block (Some b) None x pin e = cc
-of_block (Some b) (Some p) x pin e = cc
-of_block None (Some p) x pin e = cc
-of_block None None x pin e = cc
+-- the pin that an owner stands for, where it is a block or a pad alone
+abbrev pub owned : Option Owner → RawPin → RawPin
+owned (Some (Block x)) pin = raw.Block x
+owned (Some (Pad x)) pin = raw.Pad x
+owned (Some Both) pin = pin
+owned None pin = pin
 
--- the owner of a name that is of a pad alone is the pad by its number
-pub of_pad : (b p : Option ℕ) (x : ℕ) (pin : RawPin) → Some (Pad x) ≡ owner_of b p → raw.Pad x ≡ by_number b p pin
-of_pad (Some b) None x pin e = cc
-of_pad (Some b) (Some p) x pin e = cc
-of_pad None (Some p) x pin e = cc
-of_pad None None x pin e = cc
-
--- a name that is of a block and of a pad stays a name
-pub of_both : (b p : Option ℕ) (pin : RawPin) → Some Both ≡ owner_of b p → pin ≡ by_number b p pin
-of_both (Some b) None pin e = cc
-of_both (Some b) (Some p) pin e = refl
-of_both None (Some p) pin e = cc
-of_both None None pin e = cc
-
--- a name that is of neither stays a name
-pub of_none : (b p : Option ℕ) (pin : RawPin) → None ≡ owner_of b p → pin ≡ by_number b p pin
-of_none (Some b) None pin e = cc
-of_none (Some b) (Some p) pin e = cc
-of_none None (Some p) pin e = cc
-of_none None None pin e = refl
+-- a pin by its number is the pin of the owner that was found
+pub by_owner : (b p : Option ℕ) (pin : RawPin) (found : Option Owner) → found ≡ owner_of b p → by_number b p pin ≡ owned found pin
+by_owner (Some b) None pin found e = rw e refl
+by_owner (Some b) (Some p) pin found e = rw e refl
+by_owner None (Some p) pin found e = rw e refl
+by_owner None None pin found e = rw e refl

@@ -1,5 +1,5 @@
 -- The pins of a nets file are named, and joining keeps blocks and nets.
-use Rattle.std.proofs.Common.{◌≡◌, ℕ, Bool, true, false, List, [], ◌∷◌, length, map, Option, Some, None, Ok, refl, ap, subst, ◌∙◌, if◌then◌else◌}
+use Rattle.std.proofs.Common.{◌≡◌, ℕ, true, false, List, [], ◌∷◌, length, map, Option, Some, None, Ok, refl, cond, ap, subst, ◌∙◌}
 use Rattle.std.specs.Prelude.{IfSome}
 use Rattle.std.specs.List.{All}
 use Rattle.std.proofs.lemmas.List.{length-map}
@@ -82,11 +82,8 @@ joined_pins blocks nets places parts e h =
 
 -- numbers do not change how many nets there are
 numbered_count : (blocks : List RawBlock) (pads : List RawPad) (nets : List RawNet) → length (numbered_nets blocks pads nets) ≡ length nets
-numbered_count blocks pads nets = by_test (has_numbers blocks pads)
-  where
-    by_test : (b : Bool) → length (if b then map (numbered_net blocks pads) nets else nets) ≡ length nets
-    by_test true = length-map nets (numbered_net blocks pads)
-    by_test false = refl
+numbered_count blocks pads nets =
+    elim (has_numbers blocks pads) as (λ b. length (cond b (map (numbered_net blocks pads) nets) nets) ≡ length nets) [ true ↦ length-map nets (numbered_net blocks pads) | false ↦ refl ]
 
 -- what is joined has as many nets as the file of nets
 pub joined_nets : (blocks : GsrcBlocks) (nets : Option GsrcNets) (places : Option GsrcPlaces) (parts : Parts) → joined blocks nets places ≡ Ok parts → length parts.nets ≡ length (nets_in nets)

@@ -1,12 +1,13 @@
 -- What a result says of the steps that gave it, and what options and counts say.
-use Rattle.std.proofs.Common.{◌≡◌, ℕ, Bool, true, false, Option, Some, None, Result, Ok, Err, refl}
-use Rattle.std.specs.Prelude.{is_some, ◌==◌}
+use Rattle.std.proofs.Common.{◌≡◌, ℕ, Bool, true, false, List, [], ◌∷◌, Option, Some, None, Result, Ok, Err, refl, if◌then◌else◌}
+use Rattle.std.specs.Prelude.{IfOk, is_some, ◌==◌}
 use Rattle.std.proofs.lemmas.Bool.{eqb-true}
+use Rattle.sf_lex.specs.Scan.{Line}
 use Rattle.sf_lex.specs.Results.{◌>>=◌}
 use Rattle.sf_gsrc.specs.declared.fault.GsrcFault.{GsrcFault}
 use Rattle.sf_gsrc.specs.declared.fault.GsrcFault.TheVariants as faults
 use Rattle.sf_gsrc.specs.declared.count.Count.{Count}
-use Rattle.sf_gsrc.specs.Blocks.{Fails, compared, or_else}
+use Rattle.sf_gsrc.specs.Blocks.{Fails, Gives, compared, is_title, opened, or_else}
 
 -- one step after another gives what the second gives of the first
 pub bind_ok : {A B E : Type 0} (r : Result A E) (f : A → Result B E) (y : B) → (r >>= f) ≡ Ok y → (x : A) × (r ≡ Ok x) × (f x ≡ Ok y)
@@ -24,6 +25,21 @@ ok_is x y e = cc
 -- a fault is no answer
 pub err_not_ok : {A E : Type 0} (f : E) (x : A) → Err f ≡ Ok x → ⊥
 err_not_ok f x e = absurd cc
+
+-- what is read behind a title has a title of the kind, and the lines behind it are read
+pub opened_ok : {Y : Type 0} (kind : List ℕ) (ls : List Line) (f : ℕ × List Line → Result Y GsrcFault) (y : Y) (P : Type 0) → (opened kind ls >>= f) ≡ Ok y
+    → ((title : Line) (others : List Line) → ls ≡ title ∷ others → is_title kind title.bytes ≡ true → f (title.number, others) ≡ Ok y → P) → P
+opened_ok kind [] f y P h next = absurd cc
+opened_ok kind (title ∷ others) f y P h next = by_title (is_title kind title.bytes) refl h
+  where
+    by_title : (b : Bool) → is_title kind title.bytes ≡ b → ((if b then Ok (title.number, others) else Err (faults.BadTitle title.number)) >>= f) ≡ Ok y → P
+    by_title true e h = next title others refl e h
+    by_title false e h = absurd cc
+
+-- what holds of all that a text is read as holds of what was given
+pub holds_if_read : {X : Type 0} (P : X → Type 0) (result read : Result X GsrcFault) → ((x : X) → read ≡ Ok x → P x) → Gives result read → IfOk result P
+holds_if_read P (Ok x) read h given = h x given
+holds_if_read P (Err e) read h given = tt
 
 -- a test that fails says that there is none
 pub none_of : {X : Type 0} (o : Option X) → is_some o ≡ false → o ≡ None

@@ -16,8 +16,8 @@ use Rattle.sf_gsrc.specs.declared.count.Count.{Count}
 use Rattle.sf_gsrc.specs.declared.output.GsrcBlocks.{GsrcBlocks}
 use Rattle.sf_lex.specs.Gap.{is_gap}
 use Rattle.sf_gsrc.specs.Line.{Item, counted_by, count_said, plain_said}
-use Rattle.sf_gsrc.specs.Blocks.{content_of, is_title, Entry, Said, CountIs, ItemIs, or_else, is_same, count_at, count_in, count_after, entry_at, entry_by, entry_after, entries_from, last_of, is_soft, compared, finished_by, out_of, finished, titled, blocks_read, blocks_in, pads_in}
-use Rattle.sf_gsrc.proofs.Results.{bind_ok, ok_is, err_not_ok, compared_ok}
+use Rattle.sf_gsrc.specs.Blocks.{content_of, Entry, Said, CountIs, ItemIs, or_else, is_same, count_at, count_in, count_after, entry_at, entry_by, entry_after, entries_from, read_from, last_of, is_soft, compared, finished_by, out_of, finished, blocks_read, blocks_in, pads_in}
+use Rattle.sf_gsrc.proofs.Results.{bind_ok, ok_is, err_not_ok, compared_ok, opened_ok}
 use Rattle.sf_gsrc.specs.Standing.{SaysBy, SaysEntry, counts_of, StandsOnce, StandsFor}
 use Rattle.sf_model.specs.Admitted.{first}
 
@@ -104,15 +104,11 @@ pub record WasRead (scale : ℕ) (es : List Entry) (line : Line) (e : Entry) : T
   pub says : SaysEntry scale line e
   pub most : AtMostOne es → AtMostOne (es ++ e ∷ [])
 
--- a refused line gives no entry
-never : (n : ℕ) (e : Entry) → Err (faults.BadLine n) ≡ Ok e → ⊥
-never n e h = absurd cc
-
 -- a count line that was read says its count, which was not said before
 count_was_read : (which : Counted) (es : List Entry) (line : Line) (e : Entry) (b : Bool) → is_some (count_in which es) ≡ b
     → count_after which es line ≡ Ok e → (n : ℕ) × (count_said (words (is_gap Colons) line.bytes) ≡ Ok n) × (e ≡ record { number = line.number; said = CountIs which n }) × (length (counts_of which es) ≡ 0)
 unfolding count_after
-count_was_read which es line e true is h = absurd (never line.number e (rw is at h))
+count_was_read which es line e true is h = absurd (err_not_ok (faults.BadLine line.number) e (rw is at h))
 count_was_read which es line e false is h =
     let k = entry_ok line.number (CountIs which) (count_said (words (is_gap Colons) line.bytes)) e (rw is at h) in
     (k.0, k.1, k.2, none_there (counts_of which es) (ap is_some (sym (count_is_first which es)) ∙ is))
@@ -141,7 +137,7 @@ pub record AllRead (scale : ℕ) (earlier : List Entry) (ls : List Line) (es : L
 
 -- of lines that are read, each says its entry
 all_read : (scale : ℕ) (earlier : List Entry) (ls : List Line) (es : List Entry) → entries_from scale earlier ls ≡ Ok es → AllRead scale earlier ls es
-unfolding entries_from
+unfolding read_from
 all_read scale earlier [] es h = record { new = []; whole = sym (ok_is {E = GsrcFault} earlier es h) ∙ sym (append-nil earlier); each = tt; most = λ most. subst (λ (x : List Entry). AtMostOne x) (ok_is {E = GsrcFault} earlier es h) most }
 all_read scale earlier (line ∷ ls) es h =
     let k = bind_ok (entry_after scale earlier line) (λ e. entries_from scale (earlier ++ e ∷ []) ls) es h in
@@ -185,38 +181,30 @@ stands_once which es c found is most said = record {
   once = one_there (counts_of which es) c (sym (count_is_first which es) ∙ is) most ∙ ap (λ (n : ℕ). record { line = c.line; said = n } ∷ []) said;
 }
 
--- a text that is read under its title stands for what is read, whether the title is right or not
-titled_by : (scale : ℕ) (text : List ℕ) (title : Line) (others : List Line) (out : GsrcBlocks) (b : Bool) → content_of text ≡ title ∷ others → is_title (codes "blocks") title.bytes ≡ b
-    → titled scale (title ∷ others) ≡ Ok out → StandsFor scale text out
-titled_by scale text title others out false are e h = absurd (err_not_ok (faults.BadTitle title.number) out (rw e at h))
-titled_by scale text title others out true are e h =
-    let k = bind_ok (entries_from scale [] others) (finished (last_of title.number others)) out (rw e at h) in
+-- a text stands for the blocks and pads that are read from it
+pub stands_from_read : (scale : ℕ) (text : List ℕ) (out : GsrcBlocks) → blocks_read scale text ≡ Ok out → StandsFor scale text out
+unfolding blocks_read
+stands_from_read scale text out h =
+    opened_ok (codes "blocks") (content_of text) _ out (StandsFor scale text out) h
+    (λ title others are titled read.
+    let last = last_of title.number others in
+    let k = bind_ok (entries_from scale [] others) (finished last) out read in
     let all = all_read scale [] others k.0 k.1 in
     let most = all.most (λ which. omega arith) in
-    let f = finished_ok (last_of title.number others) (count_in counts.Soft k.0) (count_in counts.Hard k.0) (count_in counts.Terminals k.0) out (out_of k.0) k.2 in
+    let f = finished_ok last (count_in counts.Soft k.0) (count_in counts.Hard k.0) (count_in counts.Terminals k.0) out (out_of k.0) k.2 in
     record {
       title = title;
       others = others;
       entries = k.0;
       lines_are = are;
-      titled = e;
+      titled = titled;
       each = subst (λ (es : List Entry). AllZip (SaysEntry scale) others es) (sym all.whole) all.each;
       soft = stands_once counts.Soft k.0 f.soft _ f.soft_is (most counts.Soft) (f.soft_said ∙ ap (λ (o : GsrcBlocks). count_by is_soft o.blocks) f.out_is);
       hard = stands_once counts.Hard k.0 f.hard _ f.hard_is (most counts.Hard) (f.hard_said ∙ ap (λ (o : GsrcBlocks). count_by (λ b. not (is_soft b)) o.blocks) f.out_is);
       terminals = stands_once counts.Terminals k.0 f.terminals _ f.terminals_is (most counts.Terminals) (f.terminals_said ∙ ap (λ (o : GsrcBlocks). length o.pads) f.out_is);
       blocks = ap (λ (o : GsrcBlocks). o.blocks) (sym f.out_is);
       pads = ap (λ (o : GsrcBlocks). o.pads) (sym f.out_is);
-    }
-
--- lines of a text that are read under their title stand for what is read
-titled_ok : (scale : ℕ) (text : List ℕ) (ls : List Line) (out : GsrcBlocks) → content_of text ≡ ls → titled scale ls ≡ Ok out → StandsFor scale text out
-titled_ok scale text [] out are h = absurd (err_not_ok (faults.Truncated 0) out h)
-titled_ok scale text (title ∷ others) out are h = titled_by scale text title others out (is_title (codes "blocks") title.bytes) are refl h
-
--- a text stands for the blocks and pads that are read from it
-pub stands_from_read : (scale : ℕ) (text : List ℕ) (out : GsrcBlocks) → blocks_read scale text ≡ Ok out → StandsFor scale text out
-unfolding blocks_read
-stands_from_read scale text out h = titled_ok scale text (content_of text) out refl h
+    })
 
 -- ---- from the relation to reading
 
@@ -242,24 +230,17 @@ counts_around which earlier e new n is most =
     let own : counts_of which (e ∷ new) ≡ record { line = e.number; said = n } ∷ counts_of which new = rw (is, is_same_self which) refl in
     omega (arith, parts, ap length own)
 
--- nothing is not a count
-none_not_some : (which : Counted) → None ≡ Some which → ⊥
-none_not_some which e = absurd cc
-
--- counts that are there and equal are one
-some_is : (a b : Counted) → Some a ≡ Some b → a ≡ b
-some_is a b e = cc
-
 -- where each count is said at most once, the count of a line was not said before it
 none_before : (scale : ℕ) (earlier : List Entry) (line : Line) (e : Entry) (new : List Entry) (o : Option Counted) → SaysBy scale line e.said o → AtMostOne (earlier ++ e ∷ new)
     → (which : Counted) → o ≡ Some which → length (counts_of which earlier) ≡ 0
-none_before scale earlier line e new None says most which is = absurd (none_not_some which is)
+none_before scale earlier line e new None says most which is = absurd cc
 none_before scale earlier line e new (Some k) says most which is =
-    subst (λ (c : Counted). length (counts_of c earlier) ≡ 0) (some_is k which is) (counts_around k earlier e new says.0 says.2 (most k))
+    let same : k ≡ which = cc in
+    subst (λ (c : Counted). length (counts_of c earlier) ≡ 0) same (counts_around k earlier e new says.0 says.2 (most k))
 
 -- lines that each say an entry are read as these
 all_said : (scale : ℕ) (earlier : List Entry) (ls : List Line) (new : List Entry) → AllZip (SaysEntry scale) ls new → AtMostOne (earlier ++ new) → entries_from scale earlier ls ≡ Ok (earlier ++ new)
-unfolding entries_from
+unfolding read_from
 all_said scale earlier [] [] each most = ap (λ (es : List Entry). Ok es) (sym (append-nil earlier))
 all_said scale earlier [] (e ∷ new) each most = absurd each
 all_said scale earlier (line ∷ ls) [] each most = absurd each

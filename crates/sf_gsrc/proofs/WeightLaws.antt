@@ -11,7 +11,7 @@ use Rattle.sf_lex.specs.declared.field.Gap.TheVariants.{Blanks}
 use Rattle.sf_lex.specs.declared.number.NumberFault.{NumberFault}
 use Rattle.sf_gsrc.specs.declared.fault.WeightFault.{WeightFault}
 use Rattle.sf_gsrc.specs.declared.fault.WeightFault.TheVariants.{BadLine, RepeatedNet, UnknownNet}
-use Rattle.sf_gsrc.specs.Blocks.{content_of, or_else}
+use Rattle.sf_gsrc.specs.Blocks.{content_of, or_else, read_from}
 use Rattle.sf_lex.specs.Results.{◌>>=◌}
 use Rattle.sf_gsrc.specs.Weights.{NetWeight, SaysWeight, WeightsStandFor, net_in_word, new_net, number_on, pair_after, two_words, weight_after, weight_in_word, weight_of, weight_said, weights_from, weights_of, weights_read}
 use Rattle.sf_gsrc.proofs.Results.{bind_ok, err_not_ok, ok_is}
@@ -145,7 +145,7 @@ Say nets earlier ls all = (said : List NetWeight) × (all ≡ earlier ++ said) �
 
 -- lines that are taken say their weights
 lines_say : (nets : ℕ) (earlier : List NetWeight) (ls : List Line) (all : List NetWeight) → weights_from nets earlier ls ≡ Ok all → Say nets earlier ls all
-unfolding weights_from
+unfolding read_from
 lines_say nets earlier [] all e = ([], sym (ok_is {E = WeightFault} earlier all e) ∙ sym (append-nil earlier), tt, tt)
 lines_say nets earlier (line ∷ ls) all e =
     let one = bind_ok (weight_after nets earlier line) (λ said. weights_from nets (earlier ++ said ∷ []) ls) all e in
@@ -155,7 +155,7 @@ lines_say nets earlier (line ∷ ls) all e =
 
 -- lines that say weights, new each in its turn, are taken
 say_lines : (nets : ℕ) (earlier : List NetWeight) (ls : List Line) (said : List NetWeight) → AllZip (SaysWeight nets) ls said → AreNew earlier said → weights_from nets earlier ls ≡ Ok (earlier ++ said)
-unfolding weights_from
+unfolding read_from
 say_lines nets earlier [] [] each new = ap (λ (all : List NetWeight). Ok all) (sym (append-nil earlier))
 say_lines nets earlier [] (s ∷ said) each new = absurd each
 say_lines nets earlier (line ∷ ls) [] each new = absurd each

@@ -97,34 +97,6 @@ takes nets kept earlier line number weight net value d keeps two number_is low n
     let none : weight_said earlier net ≡ None = none_of (weight_said earlier net) (ap is_some (sym (kept_is nets kept earlier net d keeps low)) ∙ new) in
     (record { net = net; weight = value }, rw (two, number_is, lt-ltb net nets low, none, weight_is) refl, keeps_more nets kept earlier net value keeps low none)
 
--- ---- all lines
-
--- what was read so far, and that the lines that are left go on from there
-pub record IsWeighing (nets : ℕ) (kept : List (Option ℕ)) (left : List Line) (all : Result (List NetWeight) WeightFault) : Type 0 where
-  pub said : List NetWeight
-  pub keeps : KeepsWeights nets kept said
-  pub same : weights_from nets said left ≡ all
-
--- a line that is taken is passed, and its weight is kept
-pub goes_on : (nets : ℕ) (kept new : List (Option ℕ)) (left more : List Line) (line : Line) (all : Result (List NetWeight) WeightFault) (w : IsWeighing nets kept left all) → left ≡ line ∷ more
-    → ((said : NetWeight) × (weight_after nets w.said line ≡ Ok said) × KeepsWeights nets new (w.said ++ said ∷ [])) → IsWeighing nets new more all
-unfolding weights_from
-goes_on nets kept new left more line all w cut taken =
-    let one : weights_from nets w.said left ≡ weights_from nets (w.said ++ taken.0 ∷ []) more = rw (cut, taken.1) refl in
-    record { said = w.said ++ taken.0 ∷ []; keeps = taken.2; same = sym one ∙ w.same }
-
--- a line that is refused is the fault of the whole text
-pub fails : (nets : ℕ) (kept : List (Option ℕ)) (left more : List Line) (line : Line) (fault : WeightFault) (all : Result (List NetWeight) WeightFault) (w : IsWeighing nets kept left all) → left ≡ line ∷ more
-    → weight_after nets w.said line ≡ Err fault → all ≡ Err fault
-unfolding weights_from
-fails nets kept left more line fault all w cut failed = sym w.same ∙ rw (cut, failed) refl
-
--- where no line is left, the weights are those of all lines
-pub is_done : (nets : ℕ) (kept : List (Option ℕ)) (left : List Line) (all : Result (List NetWeight) WeightFault) (w : IsWeighing nets kept left all) → left ≡ []
-    → (said : List NetWeight) × (all ≡ Ok said) × KeepsWeights nets kept said
-unfolding weights_from
-is_done nets kept left all w none = (w.said, sym w.same ∙ rw none refl, w.keeps)
-
 -- ---- the whole text
 
 -- the weights at the end

@@ -39,6 +39,13 @@ content all = filter is_content all
 abbrev pub content_of : List ℕ → List Line
 content_of text = content (numbered 1 (lines text))
 
+-- what the lines say, each added to what the earlier ones said, up to the first fault
+unfoldable pub read_from : {E F : Type 0} → (List E → Line → Result E F) → (List E → E → List E) → List E → List Line → Result (List E) F
+read_from after add past [] = Ok past
+read_from after add past (line ∷ more) = do
+  e ← after past line
+  read_from after add (add past e) more
+
 -- the first two words of a title
 unfoldable pub is_title : List ℕ → List ℕ → Bool
 is_title kind line = (bytes_eq (first_word Blanks line) (codes "UCSC") || bytes_eq (first_word Blanks line) (codes "UCLA")) && bytes_eq (first_word Blanks (after_word Blanks line)) kind
@@ -130,11 +137,8 @@ abbrev pub entry_after : ℕ → List Entry → Line → Result Entry GsrcFault
 entry_after scale earlier line = entry_by scale earlier line (counted_by line.bytes)
 
 -- what the lines say, behind what the earlier ones said
-unfoldable pub entries_from : ℕ → List Entry → List Line → Result (List Entry) GsrcFault
-entries_from scale earlier [] = Ok earlier
-entries_from scale earlier (line ∷ more) = do
-  e ← entry_after scale earlier line
-  entries_from scale (earlier ++ e ∷ []) more
+abbrev pub entries_from : ℕ → List Entry → List Line → Result (List Entry) GsrcFault
+entries_from scale earlier lines = read_from (entry_after scale) (λ past e. past ++ e ∷ []) earlier lines
 
 -- ---- the end of the text
 

@@ -17,7 +17,7 @@ use Rattle.sf_lex.specs.Gap.{is_gap, first_word}
 use Rattle.sf_gsrc.specs.Keywords.{net_word_by}
 use Rattle.sf_lex.specs.Results.{◌>>=◌}
 use Rattle.sf_gsrc.specs.Line.{count_said}
-use Rattle.sf_gsrc.specs.Blocks.{content_of, opened, last_of, fault_at, compared}
+use Rattle.sf_gsrc.specs.Blocks.{content_of, read_from, opened, last_of, fault_at, compared}
 
 -- what a line says
 pub data NetSaid : Type 0 where
@@ -118,11 +118,8 @@ abbrev pub net_entry_after : List NetEntry → Line → Result NetEntry GsrcFaul
 net_entry_after past line = net_entry_by past line (net_word_by line.bytes)
 
 -- what the lines say, behind what the earlier ones said
-unfoldable pub net_entries_from : List NetEntry → List Line → Result (List NetEntry) GsrcFault
-net_entries_from past [] = Ok past
-net_entries_from past (line ∷ more) = do
-  e ← net_entry_after past line
-  net_entries_from (e ∷ past) more
+abbrev pub net_entries_from : List NetEntry → List Line → Result (List NetEntry) GsrcFault
+net_entries_from past lines = read_from net_entry_after (λ past e. e ∷ past) past lines
 
 -- ---- the end of the text
 

@@ -1,5 +1,5 @@
 -- What a line of a pl file says by itself, and its fault if it says nothing.
-use Rattle.std.specs.Prelude.{ℕ, ◌||◌, ◌==◌, List, [], ◌∷◌, Some, None, Result, Ok, Err, if◌then◌else◌, codes}
+use Rattle.std.specs.Prelude.{ℕ, ◌||◌, ◌==◌, List, [], ◌∷◌, Option, Some, None, Result, Ok, Err, if◌then◌else◌, codes}
 use Rattle.std.specs.Str.{bytes_eq}
 use Rattle.sf_lex.specs.Text.{words, is_not_empty}
 use Rattle.sf_lex.specs.Number.{decimal_read}
@@ -16,42 +16,35 @@ abbrev pub length_in_word : ℕ → List ℕ → Result ℕ LineFault
 length_in_word scale word = number_in (decimal_read scale 9_000_000_000_000_000 word)
 
 -- the two words behind `DIMS`
-unfoldable pub size_words : List (List ℕ) → Result (List ℕ × List ℕ) LineFault
+abbrev pub size_words : List (List ℕ) → Result (Option (List ℕ × List ℕ)) LineFault
 size_words [] = Err BadLine
 size_words (w ∷ []) = Err BadLine
-size_words (w ∷ h ∷ more) = Ok (w, h)
+size_words (w ∷ h ∷ more) = Ok (Some (w, h))
+
+-- the words of the sides, where `DIMS` follows
+unfoldable pub sides_said : List (List ℕ) → Result (Option (List ℕ × List ℕ)) LineFault
+sides_said [] = Ok None
+sides_said (word ∷ more) = if bytes_eq word (codes "DIMS") then size_words more else Ok None
 
 -- and the size that they are
-unfoldable pub size_in_words : ℕ → List ℕ × List ℕ → Result (ℕ × ℕ) LineFault
-size_in_words scale sides = do
+unfoldable pub size_in_words : ℕ → Option (List ℕ × List ℕ) → Result (Option (ℕ × ℕ)) LineFault
+size_in_words scale None = Ok None
+size_in_words scale (Some sides) = do
   w ← length_in_word scale sides.0
   h ← length_in_word scale sides.1
-  Ok (w, h)
+  if (w == 0) || (h == 0) then Err ZeroSide else Ok (Some (w, h))
 
--- a name at a place without a size
-unfoldable pub point_said : ℕ → List ℕ → List ℕ → List ℕ → Result Place LineFault
-point_said scale name x y = do
-  a ← coordinate_in_word scale x
-  b ← coordinate_in_word scale y
-  Ok (record { name = name; x = a; y = b; size = None })
-
--- a name at a place with a size
-unfoldable pub sized_said : ℕ → List ℕ → List ℕ → List ℕ → List (List ℕ) → Result Place LineFault
-sized_said scale name x y more = do
-  sides ← size_words more
+-- a name at a place, with such a size
+unfoldable pub spot_said : ℕ → List ℕ → List ℕ → List ℕ → Option (List ℕ × List ℕ) → Result Place LineFault
+spot_said scale name x y sides = do
   a ← coordinate_in_word scale x
   b ← coordinate_in_word scale y
   size ← size_in_words scale sides
-  if (size.0 == 0) || (size.1 == 0) then Err ZeroSide else Ok (record { name = name; x = a; y = b; size = Some size })
-
--- what follows the third word says whether there is a size
-unfoldable pub rest_said : ℕ → List ℕ → List ℕ → List ℕ → List (List ℕ) → Result Place LineFault
-rest_said scale name x y [] = point_said scale name x y
-rest_said scale name x y (word ∷ more) = if bytes_eq word (codes "DIMS") then sized_said scale name x y more else point_said scale name x y
+  Ok (record { name = name; x = a; y = b; size = size })
 
 -- the third word is there
 abbrev pub coordinates_said : ℕ → List ℕ → List ℕ → List ℕ → List (List ℕ) → Result Place LineFault
-coordinates_said scale name x y rest = if is_not_empty y then rest_said scale name x y rest else Err BadLine
+coordinates_said scale name x y rest = if is_not_empty y then (sides_said rest >>= spot_said scale name x y) else Err BadLine
 
 -- a name and two coordinates, and behind them maybe a size
 unfoldable pub place_said : ℕ → List ℕ → Result Place LineFault

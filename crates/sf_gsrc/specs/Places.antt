@@ -1,5 +1,5 @@
 -- What a pl file stands for, and its first fault if it stands for nothing.
-use Rattle.std.specs.Prelude.{◌≡◌, ℕ, true, List, [], ◌∷◌, Result, Ok, Err, codes}
+use Rattle.std.specs.Prelude.{◌≡◌, ℕ, true, List, [], ◌∷◌, ◌++◌, Result, Ok, Err, codes}
 use Rattle.std.specs.List.{AllZip}
 use Rattle.sf_lex.specs.Scan.{Line}
 use Rattle.sf_gsrc.specs.declared.fault.GsrcFault.{GsrcFault}
@@ -8,7 +8,7 @@ use Rattle.sf_gsrc.specs.declared.output.Place.{Place}
 use Rattle.sf_gsrc.specs.declared.output.GsrcPlaces.{GsrcPlaces}
 use Rattle.sf_lex.specs.Results.{◌>>=◌}
 use Rattle.sf_gsrc.specs.PlaceLine.{place_said}
-use Rattle.sf_gsrc.specs.Blocks.{content_of, is_title, opened, fault_at}
+use Rattle.sf_gsrc.specs.Blocks.{content_of, read_from, is_title, opened, fault_at}
 
 -- what a line says, or its fault with the line's number
 abbrev pub at_number : {A : Type 0} → ℕ → Result A LineFault → Result A GsrcFault
@@ -19,13 +19,13 @@ at_number n (Err fault) = Err (fault_at n fault)
 abbrev pub place_at : ℕ → Line → Result Place GsrcFault
 place_at scale line = at_number line.number (place_said scale line.bytes)
 
--- what the lines say, up to the first fault
-unfoldable pub places_from : ℕ → List Line → Result (List Place) GsrcFault
-places_from scale [] = Ok []
-places_from scale (line ∷ more) = do
-  place ← place_at scale line
-  others ← places_from scale more
-  Ok (place ∷ others)
+-- what the lines say, behind what the earlier ones said
+abbrev pub places_behind : ℕ → List Place → List Line → Result (List Place) GsrcFault
+places_behind scale earlier lines = read_from (λ past line. place_at scale line) (λ past p. past ++ p ∷ []) earlier lines
+
+-- what all lines say
+abbrev pub places_from : ℕ → List Line → Result (List Place) GsrcFault
+places_from scale lines = places_behind scale [] lines
 
 -- what the lines say behind their title
 abbrev pub places_titled : ℕ → List Line → Result GsrcPlaces GsrcFault

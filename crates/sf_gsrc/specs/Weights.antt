@@ -12,7 +12,7 @@ use Rattle.sf_lex.specs.declared.number.NumberFault.{NumberFault}
 use Rattle.sf_gsrc.specs.declared.fault.WeightFault.{WeightFault}
 use Rattle.sf_gsrc.specs.declared.fault.WeightFault.TheVariants.{BadLine, BadNumber, UnknownNet, RepeatedNet, NoMemory}
 use Rattle.sf_lex.specs.Results.{◌>>=◌}
-use Rattle.sf_gsrc.specs.Blocks.{content_of}
+use Rattle.sf_gsrc.specs.Blocks.{content_of, read_from}
 
 -- a net by its number, and its weight
 pub record NetWeight : Type 0 where
@@ -93,11 +93,8 @@ abbrev pub weight_after : ℕ → List NetWeight → Line → Result NetWeight W
 weight_after nets earlier line = pair_after nets earlier line.number (two_words (words (is_gap Blanks) line.bytes))
 
 -- what the lines say, behind what the earlier ones said
-unfoldable pub weights_from : ℕ → List NetWeight → List Line → Result (List NetWeight) WeightFault
-weights_from nets earlier [] = Ok earlier
-weights_from nets earlier (line ∷ more) = do
-  said ← weight_after nets earlier line
-  weights_from nets (earlier ++ said ∷ []) more
+abbrev pub weights_from : ℕ → List NetWeight → List Line → Result (List NetWeight) WeightFault
+weights_from nets earlier lines = read_from (weight_after nets) (λ past s. past ++ s ∷ []) earlier lines
 
 -- what a text is read as
 unfoldable pub weights_read : ℕ → List ℕ → Result (List ℕ) WeightFault

@@ -1,11 +1,11 @@
 //! What a line of a pl file says by itself. Nothing here takes memory.
 
 ghost use Rattle.std.specs.Prelude.{◌≡◌, ◌≤◌, IfOk, Ok, Err};
+ghost use Rattle.std.specs.Option.{option_map};
 ghost use Rattle.sf_lex.specs.Text.{words};
 ghost use Rattle.sf_lex.specs.Gap.{is_gap, first_word};
 ghost use Rattle.sf_gsrc.specs.Line.{coordinate_in_word};
-ghost use Rattle.sf_gsrc.specs.PlaceLine.{length_in_word, size_words, size_in_words, point_said, sized_said};
-ghost use Rattle.sf_gsrc.specs.PlaceLine.{rest_said, place_said};
+ghost use Rattle.sf_gsrc.specs.PlaceLine.{length_in_word, sides_said, size_in_words, spot_said, place_said};
 ghost use Rattle.sf_lex.specs.Results.{seen};
 ghost use Rattle.sf_gsrc.specs.PlacesKept.{place_in};
 
@@ -35,99 +35,44 @@ fn read_length(word: &[u8], scale: Scale) -> Result<u64, LineFault>
     Ok(read_decimal(word, scale.per_unit, LENGTH_LIMIT)?)
 }
 
-/// The two words behind `DIMS`.
-#[tactic(auto, unfolding(crate::specs::PlaceLine::size_words))]
-fn next_sides(rest: &[u8]) -> Result<(&[u8], &[u8]), LineFault>
-    ensures { seen (λ s. (s.0.now, s.1.now)) result ≡ size_words (words (is_gap Gap.Sizes) rest.now) }
+/// The two words of the sides, where `DIMS` follows.
+#[tactic(auto, unfolding(crate::specs::PlaceLine::sides_said))]
+fn next_sides(rest: &[u8]) -> Result<Option<(&[u8], &[u8])>, LineFault>
+    ensures { seen (option_map (λ s. (s.0.now, s.1.now))) result
+        ≡ sides_said (words (is_gap Gap.Sizes) rest.now) }
 {
-    let Some((w, rest)) = next_field(rest, Gap::Sizes) else {
-        return Err(LineFault::BadLine);
-    };
-    let Some((h, _)) = next_field(rest, Gap::Sizes) else {
-        return Err(LineFault::BadLine);
-    };
-    Ok((w, h))
+    match next_field(rest, Gap::Sizes) {
+        Some((b"DIMS", rest)) => {
+            let Some((w, rest)) = next_field(rest, Gap::Sizes) else {
+                return Err(LineFault::BadLine);
+            };
+            let Some((h, _)) = next_field(rest, Gap::Sizes) else {
+                return Err(LineFault::BadLine);
+            };
+            Ok(Some((w, h)))
+        }
+        _ => Ok(None),
+    }
 }
 
-/// The size that two words are.
+/// The size that two words are, where there are such.
 #[tactic(auto, unfolding(crate::specs::PlaceLine::size_in_words))]
-fn read_size(w: &[u8], h: &[u8], scale: Scale) -> Result<(u64, u64), LineFault>
-    ensures { result ≡ size_in_words scale.per_unit (w.now, h.now) }
+fn read_size(sides: Option<(&[u8], &[u8])>, scale: Scale) -> Result<Option<(u64, u64)>, LineFault>
+    ensures { result ≡ size_in_words scale.per_unit (option_map (λ s. (s.0.now, s.1.now)) sides.entry) }
 {
+    let Some((w, h)) = sides else {
+        return Ok(None);
+    };
     let w = read_length(w, scale)?;
     let h = read_length(h, scale)?;
-    Ok((w, h))
-}
-
-/// The first three words of a line: a name, and two that say its place.
-#[derive(Clone, Copy)]
-struct PlaceWords<'a> {
-    name: &'a [u8],
-    x: &'a [u8],
-    y: &'a [u8],
-}
-
-/// A name at a place, without a size.
-#[tactic(auto, unfolding(crate::specs::PlaceLine::point_said))]
-fn line_without_size<'a>(said: PlaceWords<'a>, scale: Scale) -> Result<PlaceLine<'a>, LineFault>
-    ensures says { let said = said.entry in
-        seen place_in result ≡ point_said scale.per_unit said.name.now said.x.now said.y.now }
-    ensures name { IfOk result (λ s. s.name.now ≡ said.entry.name.now) }
-{
-    let x = read_coordinate(said.x, scale)?;
-    let y = read_coordinate(said.y, scale)?;
-    Ok(PlaceLine {
-        name: said.name,
-        x,
-        y,
-        size: None,
-    })
-}
-
-/// A name at a place, with the size behind `DIMS`.
-#[tactic(auto, unfolding(crate::specs::PlaceLine::sized_said, crate::specs::PlaceLine::point_said))]
-fn line_with_size<'a>(
-    said: PlaceWords<'a>,
-    rest: &[u8],
-    scale: Scale,
-) -> Result<PlaceLine<'a>, LineFault>
-    ensures says { let said = said.entry in
-        seen place_in result ≡ sized_said scale.per_unit said.name.now said.x.now said.y.now
-        (words (is_gap Gap.Sizes) rest.now) }
-    ensures name { IfOk result (λ s. s.name.now ≡ said.entry.name.now) }
-{
-    let (w, h) = next_sides(rest)?;
-    let spot = line_without_size(said, scale)?;
-    let (w, h) = read_size(w, h, scale)?;
     if w == 0 || h == 0 {
         return Err(LineFault::ZeroSide);
     }
-    Ok(PlaceLine {
-        size: Some((w, h)),
-        ..spot
-    })
-}
-
-/// A name at a place, with a size where `DIMS` follows.
-#[tactic(auto, unfolding(crate::specs::PlaceLine::rest_said))]
-fn line_by_rest<'a>(
-    said: PlaceWords<'a>,
-    rest: &[u8],
-    scale: Scale,
-) -> Result<PlaceLine<'a>, LineFault>
-    ensures says { let said = said.entry in
-        seen place_in result ≡ rest_said scale.per_unit said.name.now said.x.now said.y.now
-        (words (is_gap Gap.Sizes) rest.now) }
-    ensures name { IfOk result (λ s. s.name.now ≡ said.entry.name.now) }
-{
-    match next_field(rest, Gap::Sizes) {
-        Some((word, rest)) if word == b"DIMS".as_slice() => line_with_size(said, rest, scale),
-        _ => line_without_size(said, scale),
-    }
+    Ok(Some((w, h)))
 }
 
 /// What a line says: a name, two coordinates, and maybe a size.
-#[tactic(auto, unfolding(crate::specs::PlaceLine::place_said))]
+#[tactic(auto, unfolding(crate::specs::PlaceLine::place_said, crate::specs::PlaceLine::spot_said))]
 pub fn read_place_line(line: &[u8], scale: Scale) -> Result<PlaceLine<'_>, LineFault>
     ensures says { seen place_in result ≡ place_said scale.per_unit line.now }
     ensures name { IfOk result (λ s. s.name.now ≡ first_word Gap.Blanks line.now) }
@@ -138,5 +83,9 @@ pub fn read_place_line(line: &[u8], scale: Scale) -> Result<PlaceLine<'_>, LineF
     if y.is_empty() {
         return Err(LineFault::BadLine);
     }
-    line_by_rest(PlaceWords { name, x, y }, rest, scale)
+    let sides = next_sides(rest)?;
+    let x = read_coordinate(x, scale)?;
+    let y = read_coordinate(y, scale)?;
+    let size = read_size(sides, scale)?;
+    Ok(PlaceLine { name, x, y, size })
 }

@@ -1,8 +1,7 @@
 -- A coordinate that is read is near.
-use Rattle.std.proofs.Common.{◌≡◌, ◌==◌, ℕ, ◌≤◌, Bool, true, false, cond, List, [], ◌∷◌, length, Option, Some, None, Result, Ok, Err, refl, subst, arith, codes, inl, inr}
-use Rattle.std.specs.Prelude.{ℤ, pos, neg_ℤ, ◌≤ℤ◌, nat_lt, ◌%◌, ◌/◌, ◌||◌}
+use Rattle.std.proofs.Common.{◌≡◌, ◌==◌, ℕ, ◌≤◌, Bool, true, false, cond, List, [], ◌∷◌, length, Option, Some, None, Result, Ok, Err, refl, subst, arith, inl, inr}
+use Rattle.std.specs.Prelude.{ℤ, pos, neg_ℤ, ◌≤ℤ◌, nat_lt, ◌%◌, ◌/◌}
 use Rattle.std.specs.List.{All, AllZip}
-use Rattle.std.specs.Str.{bytes_eq}
 use Rattle.std.proofs.lemmas.Bool.Decides.{nat_tests}
 use Rattle.std.proofs.lemmas.Int.{ints}
 use Rattle.std.proofs.lemmas.List.Elements.{All-nil, All-cons}
@@ -11,12 +10,12 @@ use Rattle.sf_lex.specs.Number.{Decimal, decimal_of, decimal_read, signed_read, 
 use Rattle.sf_lex.specs.declared.number.NumberFault.{NumberFault}
 use Rattle.sf_lex.specs.declared.number.NumberFault.TheVariants.{TooManyDigits, NotWhole, TooLarge}
 use Rattle.sf_gsrc.specs.declared.fault.LineFault.{LineFault}
-use Rattle.sf_gsrc.specs.declared.fault.LineFault.TheVariants.{BadLine, ZeroSide}
+use Rattle.sf_gsrc.specs.declared.fault.LineFault.TheVariants.{BadLine}
 use Rattle.sf_gsrc.specs.declared.output.GsrcPlaces.{GsrcPlaces}
 use Rattle.sf_gsrc.specs.declared.output.Place.{Place}
 use Rattle.sf_lex.specs.Results.{◌>>=◌}
 use Rattle.sf_gsrc.specs.Line.{number_in, coordinate_in_word}
-use Rattle.sf_gsrc.specs.PlaceLine.{size_words, size_in_words, point_said, sized_said, rest_said, place_said}
+use Rattle.sf_gsrc.specs.PlaceLine.{sides_said, size_in_words, spot_said, place_said}
 use Rattle.sf_gsrc.specs.Places.{PlacesStandFor, SaysPlace}
 use Rattle.sf_io.specs.Outside.{Contents}
 use Rattle.sf_program.specs.Reading.{PlacesRead}
@@ -115,43 +114,20 @@ near_at name x y size p e a b =
     let near : IsNear made = record { left = a.low; right = a.high; lower = b.low; upper = b.high } in
     subst IsNear is near
 
--- a line of a name and two coordinates says a near place
-point_near : (scale : ℕ) (name x y : List ℕ) (p : Place) → point_said scale name x y ≡ Ok p → IsNear p
-unfolding point_said
-point_near scale name x y p e =
+-- a line of a name and two coordinates says a near place, with a size or without
+spot_near : (scale : ℕ) (name x y : List ℕ) (sides : Option (List ℕ × List ℕ)) (p : Place) → spot_said scale name x y sides ≡ Ok p → IsNear p
+unfolding spot_said
+spot_near scale name x y sides p e =
     let a = bound ℤ LineFault (coordinate_in_word scale x) Place _ p e in
     let b = bound ℤ LineFault (coordinate_in_word scale y) Place _ p a.2 in
-    near_at name a.0 b.0 None p b.2 (place_in scale x a.0 a.1) (place_in scale y b.0 b.1)
-
--- so does one with a size, where no side is 0
-sized_by : (name : List ℕ) (x y : ℤ) (size : ℕ × ℕ) (p : Place) (zero : Bool) → cond {A = Result Place LineFault} zero (Err ZeroSide) (Ok (record { name = name; x = x; y = y; size = Some size })) ≡ Ok p → IsIn 9_000_000_000_000_000 x → IsIn 9_000_000_000_000_000 y → IsNear p
-sized_by name x y size p true e a b = absurd cc
-sized_by name x y size p false e a b = near_at name x y (Some size) p e a b
-
--- as its words are read
-sized_near : (scale : ℕ) (name x y : List ℕ) (more : List (List ℕ)) (p : Place) → sized_said scale name x y more ≡ Ok p → IsNear p
-unfolding sized_said
-sized_near scale name x y more p e =
-    let s = bound (List ℕ × List ℕ) LineFault (size_words more) Place _ p e in
-    let a = bound ℤ LineFault (coordinate_in_word scale x) Place _ p s.2 in
-    let b = bound ℤ LineFault (coordinate_in_word scale y) Place _ p a.2 in
-    let z = bound (ℕ × ℕ) LineFault (size_in_words scale s.0) Place _ p b.2 in
-    sized_by name a.0 b.0 z.0 p ((z.0.0 == 0) || (z.0.1 == 0)) z.2 (place_in scale x a.0 a.1) (place_in scale y b.0 b.1)
-
--- and a line is one of the two
-rest_by : (scale : ℕ) (name x y : List ℕ) (more : List (List ℕ)) (p : Place) (sized : Bool) → cond sized (sized_said scale name x y more) (point_said scale name x y) ≡ Ok p → IsNear p
-rest_by scale name x y more p true e = sized_near scale name x y more p e
-rest_by scale name x y more p false e = point_near scale name x y p e
-
--- by the word behind its coordinates
-rest_near : (scale : ℕ) (name x y : List ℕ) (rest : List (List ℕ)) (p : Place) → rest_said scale name x y rest ≡ Ok p → IsNear p
-unfolding rest_said
-rest_near scale name x y [] p e = point_near scale name x y p e
-rest_near scale name x y (word ∷ more) p e = rest_by scale name x y more p (bytes_eq word (codes "DIMS")) e
+    let z = bound (Option (ℕ × ℕ)) LineFault (size_in_words scale sides) Place _ p b.2 in
+    near_at name a.0 b.0 z.0 p z.2 (place_in scale x a.0 a.1) (place_in scale y b.0 b.1)
 
 -- a line that has coordinates says a near place
-coordinates_by : (scale : ℕ) (name x y : List ℕ) (rest : List (List ℕ)) (p : Place) (some : Bool) → cond some (rest_said scale name x y rest) (Err BadLine) ≡ Ok p → IsNear p
-coordinates_by scale name x y rest p true e = rest_near scale name x y rest p e
+coordinates_by : (scale : ℕ) (name x y : List ℕ) (rest : List (List ℕ)) (p : Place) (some : Bool) → cond some (sides_said rest >>= spot_said scale name x y) (Err BadLine) ≡ Ok p → IsNear p
+coordinates_by scale name x y rest p true e =
+    let s = bound (Option (List ℕ × List ℕ)) LineFault (sides_said rest) Place _ p e in
+    spot_near scale name x y s.0 p s.2
 coordinates_by scale name x y rest p false e = absurd cc
 
 -- each line that says a place says a near one

@@ -1,17 +1,21 @@
+use Rattle.std.proofs.Common.{[], ◌∷◌, ◌++◌, List, sym, ap, ◌∙◌}
 use Rattle.std.proofs.lemmas.Result.{err_from_is_err_and}
-use Rattle.sf_gsrc.proofs.PlaceSteps.{starts, goes_on, fails, is_done}
+use Rattle.sf_gsrc.specs.declared.output.Place.{Place}
+use Rattle.sf_gsrc.proofs.LineSteps.{goes_on, fails_unless, is_done}
 use Rattle.sf_gsrc.proofs.places.read_lines.Goals as goal
-
-pub loop-line-init : goal.loop-line-init
-loop-line-init c = rw c.new-places.ensures.items (starts _)
 
 pub returns-in_err-take_line : goal.returns-in_err-take_line
 returns-in_err-take_line c =
     let p = err_from_is_err_and c.from_residual.result c.from_residual.ensures.1 in
-    rw (p.1, p.2) (fails _ _ _ _ _ c.in_err-take_line.field-0.0 _ c.loop-line.invariant c.in-Some.ensures.lines c.in_err-take_line.ensures)
+    rw (p.1, p.2) (fails_unless _ _ _ _ _ _ c.in_err-take_line.field-0.0 _ c.loop-line.invariant c.in-Some.ensures.lines c.in_err-take_line.ensures)
 
 pub loop-line-preserved : goal.loop-line-preserved
-loop-line-preserved c = goes_on _ _ _ _ _ _ _ c.loop-line.invariant c.in-Some.ensures.lines c.in_ok-take_line.ensures
+loop-line-preserved c =
+    let r = c.loop-line.invariant in
+    let taken = c.in_ok-take_line.ensures in
+    goes_on _ _ _ _ _ _ _ _ r c.in-Some.ensures.lines (taken.0, taken.1, ap (λ (ps : List Place). ps ++ taken.0 ∷ []) r.kept ∙ sym taken.2)
 
 pub returns : goal.returns
-returns c = is_done _ _ _ _ c.loop-line.invariant c.in_default.ensures.lines
+returns c =
+    let d = is_done _ _ _ _ _ c.loop-line.invariant c.in_default.ensures.lines in
+    rw d.2 at d.1

@@ -1,21 +1,25 @@
-use Rattle.std.proofs.Common.{Some, ap, ◌∙◌, sym}
+use Rattle.std.proofs.Common.{◌∙◌, refl}
 use Rattle.sf_model.specs.Admitted.{block_of, pad_of}
 use Rattle.sf_model.specs.declared.raw.RawPin.TheVariants.{Named}
-use Rattle.sf_gsrc.proofs.OwnerSteps.{of_block, of_pad, of_both, of_none}
+use Rattle.sf_gsrc.proofs.OwnerSteps.{by_owner}
 use Rattle.sf_gsrc.proofs.owners.Owners.number_of.Goals as goal
 
 pub returns-in-Some-Block : goal.returns-in-Some-Block
 returns-in-Some-Block c = λ blocks pads are.
-    sym (of_block (block_of blocks (Named c.args.name.now)) (pad_of pads (Named c.args.name.now)) c.in-Some-Block.block (Named c.args.name.now) (ap Some (sym c.in-Some-Block.field-0-is) ∙ rw c.as_bytes.ensures.value at (sym c.in-Some-Block.is ∙ c.get.ensures) ∙ are c.args.name.now))
+    let pin = Named c.args.name.now in
+    by_owner (block_of blocks pin) (pad_of pads pin) pin c.get.result (rw c.as_bytes.ensures.value at c.get.ensures ∙ are c.args.name.now) ∙ rw (c.in-Some-Block.is, c.in-Some-Block.field-0-is) refl
 
 pub returns-in-Some-Pad : goal.returns-in-Some-Pad
 returns-in-Some-Pad c = λ blocks pads are.
-    sym (of_pad (block_of blocks (Named c.args.name.now)) (pad_of pads (Named c.args.name.now)) c.in-Some-Pad.pad (Named c.args.name.now) (ap Some (sym c.in-Some-Pad.field-0-is) ∙ rw c.as_bytes.ensures.value at (sym c.in-Some-Pad.is ∙ c.get.ensures) ∙ are c.args.name.now))
+    let pin = Named c.args.name.now in
+    by_owner (block_of blocks pin) (pad_of pads pin) pin c.get.result (rw c.as_bytes.ensures.value at c.get.ensures ∙ are c.args.name.now) ∙ rw (c.in-Some-Pad.is, c.in-Some-Pad.field-0-is) refl
 
 pub returns-in-Some-Both : goal.returns-in-Some-Both
 returns-in-Some-Both c = λ blocks pads are.
-    sym (of_both (block_of blocks (Named c.args.name.now)) (pad_of pads (Named c.args.name.now)) (Named c.args.name.now) (ap Some (sym c.in-Some-Both.field-0-is) ∙ rw c.as_bytes.ensures.value at (sym c.in-Some-Both.is ∙ c.get.ensures) ∙ are c.args.name.now))
+    let pin = Named c.args.name.now in
+    by_owner (block_of blocks pin) (pad_of pads pin) pin c.get.result (rw c.as_bytes.ensures.value at c.get.ensures ∙ are c.args.name.now) ∙ rw (c.in-Some-Both.is, c.in-Some-Both.field-0-is) refl
 
 pub returns-in-None : goal.returns-in-None
 returns-in-None c = λ blocks pads are.
-    sym (of_none (block_of blocks (Named c.args.name.now)) (pad_of pads (Named c.args.name.now)) (Named c.args.name.now) (rw c.as_bytes.ensures.value at (sym c.in-None.is ∙ c.get.ensures) ∙ are c.args.name.now))
+    let pin = Named c.args.name.now in
+    by_owner (block_of blocks pin) (pad_of pads pin) pin c.get.result (rw c.as_bytes.ensures.value at c.get.ensures ∙ are c.args.name.now) ∙ rw (c.in-None.is) refl
