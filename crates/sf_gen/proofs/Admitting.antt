@@ -1,10 +1,10 @@
 -- The parts of a generated design may become a design.
 use Rattle.std.proofs.Common.{◌≡◌, ℕ, zero, suc, ◌+◌, ◌*◌, ◌-◌, ◌%◌, ◌<◌, ◌≤◌, ◌^◌, ◌==◌, Bool, true, false, cond, List, [], ◌∷◌, ◌++◌, length, refl, sym, ap, ◌∙◌, inl, inr, arith, lit<}
-use Rattle.std.specs.Prelude.{map, min, sum_by, nat_lt, Some, pos}
+use Rattle.std.specs.Prelude.{map, min, sum_by, Some, pos}
 use Rattle.std.specs.Fmt.{decimal}
-use Rattle.std.specs.List.{flat_map, list_any}
+use Rattle.std.specs.List.{AllByRecursion, flat_map, list_any}
 use Rattle.std.specs.Str.{bytes_eq}
-use Rattle.std.proofs.lemmas.Bool.{cases_eq, false_from_ne_true}
+use Rattle.std.proofs.lemmas.Bool.{cases_eq, false_from_ne_true, le-ltb}
 use Rattle.std.proofs.lemmas.Bool.Decides.{nat_tests}
 use Rattle.std.proofs.lemmas.Fmt.{decimal_digit, decimal_injective}
 use Rattle.std.proofs.lemmas.List.{length-map}
@@ -27,11 +27,10 @@ use Rattle.sf_gen.specs.declared.drawn.Size.{Size}
 use Rattle.sf_gen.specs.Designs.{named_parts, raw_block, raw_blocks, raw_nets, raw_pads, parts_of}
 use Rattle.sf_gsrc.proofs.Numbered.{refusal_same}
 use Rattle.sf_gen.specs.Drawn.{sizes, ends, net_count}
-use Rattle.sf_gen.specs.Texts.{indexed, is_soft, block_name, pad_name, pins_of, nets_pins, square}
+use Rattle.sf_gen.specs.Texts.{indexed, is_soft, block_name, pad_name, pad_pins, pins_of, nets_pins, square}
 use Rattle.sf_gen.proofs.BlockLines.{IsSmall, area_high}
 use Rattle.sf_gen.proofs.Counts.{few_nets, length-indexed}
 use Rattle.sf_gen.proofs.EndsDrawn.{IsAmong, each_indexed, ends_among, few_pins, length-nets, length-sizes, sizes_small}
-use Rattle.sf_gen.proofs.TextLines.{Each}
 
 -- ---- no faults at all
 
@@ -40,13 +39,13 @@ neither : {X : Type 0} (a b : List X) → a ≡ [] → b ≡ [] → a ++ b ≡ [
 neither a b p q = rw (p, q) refl
 
 -- where each element gives the empty list, all of them together give it too
-flat_none : {X Y : Type 0} (f : X → List Y) (xs : List X) → Each (λ x. f x ≡ []) xs → flat_map f xs ≡ []
+flat_none : {X Y : Type 0} (f : X → List Y) (xs : List X) → AllByRecursion (λ x. f x ≡ []) xs → flat_map f xs ≡ []
 flat_none f [] h = refl
 flat_none f (x ∷ xs) h = neither (f x) (flat_map f xs) h.0 (flat_none f xs h.1)
 
 -- a quantity that is no more than the most allowed is no fault
 over-within : (quantity : Limit) (most found : ℕ) → found ≤ most → over quantity most found ≡ []
-over-within quantity most found h = let low : nat_lt most found ≡ false = grind (arith, nat_tests) in rw low refl
+over-within quantity most found h = rw (le-ltb most found h) refl
 
 -- ---- names
 
@@ -99,12 +98,12 @@ pad_known n (suc (suc (suc (suc p)))) h = absurd (omega arith)
 -- ---- the names of pins
 
 -- where no name of the list is a fault, the pins of these names have no fault
-pin_none : (f : List ℕ → List BuildFault) (pins : List (List ℕ)) → Each (λ name. f name ≡ []) pins → flat_map (at_pin_name f) (map Named pins) ≡ []
+pin_none : (f : List ℕ → List BuildFault) (pins : List (List ℕ)) → AllByRecursion (λ name. f name ≡ []) pins → flat_map (at_pin_name f) (map Named pins) ≡ []
 pin_none f [] h = refl
 pin_none f (name ∷ pins) h = neither (f name) (flat_map (at_pin_name f) (map Named pins)) h.0 (pin_none f pins h.1)
 
 -- where no name of a pin is a fault, the nets have no fault at their pins' names
-nets_none : (f : List ℕ → List BuildFault) (nets : List (List (List ℕ))) → Each (λ pins. Each (λ name. f name ≡ []) pins) nets
+nets_none : (f : List ℕ → List BuildFault) (nets : List (List (List ℕ))) → AllByRecursion (λ pins. AllByRecursion (λ name. f name ≡ []) pins) nets
     → at_pin_names f (map (λ pins. record { pins = map Named pins }) nets) ≡ []
 nets_none f [] h = refl
 nets_none f (pins ∷ nets) h =
@@ -112,19 +111,18 @@ nets_none f (pins ∷ nets) h =
 
 module _ (n : ℕ) (f : List ℕ → List BuildFault) (blocks : (a : ℕ) → a < n → f (block_name a) ≡ []) (pads : (p : ℕ) → p < 4 → f (pad_name p) ≡ []) where
   -- the pad of a net, if there is one, has no fault where no name of a pad has one
-  pads_none : (b : Bool) (j : ℕ) → Each (λ name. f name ≡ []) (cond b (pad_name (j % 4) ∷ []) [])
-  pads_none true j = (pads (j % 4) (omega arith), tt)
-  pads_none false j = tt
+  pads_none : (j : ℕ) → AllByRecursion (λ name. f name ≡ []) (pad_pins j)
+  pads_none j = elim (j % 3 == 0) as (λ b. AllByRecursion (λ name. f name ≡ []) (cond b (pad_name (j % 4) ∷ []) [])) [ true ↦ (pads (j % 4) (omega arith), tt) | false ↦ tt ]
 
   -- no pin of a net between two blocks has a fault where no name of a block or of a pad has one
-  net_none : (j : ℕ) (e : Ends) → IsAmong n e → Each (λ name. f name ≡ []) (pins_of j e)
-  net_none j e among = (blocks e.a among.first, (blocks e.b among.second, pads_none (j % 3 == 0) j))
+  net_none : (j : ℕ) (e : Ends) → IsAmong n e → AllByRecursion (λ name. f name ≡ []) (pins_of j e)
+  net_none j e among = (blocks e.a among.first, (blocks e.b among.second, pads_none j))
 
   -- no pin of the nets has a fault where no name of a block or of a pad has one
   pins_none : (seed : ℕ) → 1 ≤ n → at_pin_names f (raw_nets (ends seed n)) ≡ []
   pins_none seed low =
       nets_none f (nets_pins (ends seed n))
-      (each_indexed (IsAmong n) (λ pins. Each (λ name. f name ≡ []) pins) pins_of net_none 0 (ends seed n) (ends_among seed n low))
+      (each_indexed (IsAmong n) (λ pins. AllByRecursion (λ name. f name ≡ []) pins) pins_of net_none 0 (ends seed n) (ends_among seed n low))
 
 -- ---- the faults, one kind after another
 

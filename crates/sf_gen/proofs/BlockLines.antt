@@ -1,8 +1,8 @@
 -- The line of a block is read again.
 use Rattle.std.proofs.Common.{◌≡◌, ℕ, ◌*◌, ◌<◌, ◌≤◌, ◌^◌, ◌==◌, true, false, List, [], ◌∷◌, ◌++◌, refl, ap, ◌∙◌, arith}
-use Rattle.std.specs.Prelude.{◌-ℤ◌, pos, nat_lt, unsigned_abs, Some, None, Ok, codes}
+use Rattle.std.specs.Prelude.{◌-ℤ◌, pos, unsigned_abs, Some, None, Ok, codes}
 use Rattle.std.specs.Fmt.{decimal}
-use Rattle.std.specs.Int.{int_max, int_min}
+use Rattle.std.proofs.lemmas.Bool.{le-ltb, lt-ltb}
 use Rattle.std.proofs.lemmas.Bool.Decides.{nat_tests}
 use Rattle.std.proofs.lemmas.Fmt.{decimal_nonempty}
 use Rattle.std.proofs.lemmas.Int.{ints}
@@ -28,33 +28,17 @@ use Rattle.sf_gen.proofs.TextWords.{decimal_no_feed, decimal_no_gap, decimal_no_
 
 -- ---- the box of the corners
 
--- the greater of 0 and a natural number is the number
-max_up : (w : ℕ) → int_max (pos 0) (pos w) ≡ pos w
-max_up w = let f : nat_lt w 0 ≡ false = grind (arith, nat_tests) in rw f refl
-
--- the greater of a number and itself is the number
-max_same : (w : ℕ) → int_max (pos w) (pos w) ≡ pos w
-max_same w = let f : nat_lt w w ≡ false = grind (arith, nat_tests) in rw f refl
-
--- the greater of a positive number and 0 is the number
-max_down : (w : ℕ) → 0 < w → int_max (pos w) (pos 0) ≡ pos w
-max_down w h = let f : nat_lt 0 w ≡ true = grind (arith, nat_tests) in rw f refl
-
--- the lesser of 0 and a natural number is 0
-min_up : (w : ℕ) → int_min (pos 0) (pos w) ≡ pos 0
-min_up w = let f : nat_lt w 0 ≡ false = grind (arith, nat_tests) in rw f refl
-
 -- the distance from 0 to a natural number is the number
 from_zero : (w : ℕ) → unsigned_abs (pos w -ℤ pos 0) ≡ w
 from_zero w = omega (arith, ints)
 
 -- corners at 0, 0, w and w span w
 across : (w : ℕ) → extent (pos 0 ∷ pos 0 ∷ pos w ∷ pos w ∷ []) ≡ w
-across w = rw (max_up w, max_same w, min_up w, min_up w) (from_zero w)
+across w = let zero_first = le-ltb w 0 (omega arith) in rw (zero_first, le-ltb w w (omega arith), zero_first) (from_zero w)
 
 -- corners at 0, h, h and 0 span h
 upward : (h : ℕ) → 0 < h → extent (pos 0 ∷ pos h ∷ pos h ∷ pos 0 ∷ []) ≡ h
-upward h low = rw (max_up h, max_same h, max_down h low, min_up h, min_up h) (from_zero h)
+upward h low = let zero_first = le-ltb h 0 (omega arith) in rw (zero_first, le-ltb h h (omega arith), lt-ltb 0 h low, zero_first) (from_zero h)
 
 -- ---- the words of the corners
 
@@ -127,11 +111,11 @@ hard_box name s f =
 module _ (i : ℕ) (h : i < 2 ^ 64) (rest : List ℕ) where
   -- the first word of a block's line is the block's name
   name_first : first_word Blanks (block_name i ++ 32 ∷ rest) ≡ block_name i
-  name_first = first_written Blanks 98 (decimal i) (decimal_no_gap i h Blanks) rest 32 refl
+  name_first = first_written Blanks (98 ∷ decimal i) (omega arith) (decimal_no_gap i h Blanks) rest 32 refl
 
   -- behind the name stands the blank and the rest
   name_after : after_word Blanks (block_name i ++ 32 ∷ rest) ≡ 32 ∷ rest
-  name_after = after_written Blanks 98 (decimal i) (decimal_no_gap i h Blanks) rest 32 refl
+  name_after = after_written Blanks (98 ∷ decimal i) (omega arith) (decimal_no_gap i h Blanks) rest 32 refl
 
   -- the line of a block is no count line
   pub no_count : counted_by (block_name i ++ 32 ∷ rest) ≡ None

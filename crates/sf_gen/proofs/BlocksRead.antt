@@ -1,8 +1,8 @@
 -- The text of the blocks is read again.
 use Rattle.std.proofs.Common.{◌≡◌, ℕ, ◌+◌, ◌*◌, ◌<◌, ◌≤◌, ◌^◌, Bool, true, false, cond, List, [], ◌∷◌, ◌++◌, length, refl, sym, ap, subst, ◌∙◌, arith, append_assoc}
-use Rattle.std.specs.Prelude.{not, map, count_by, None, Ok, codes}
+use Rattle.std.specs.Prelude.{not, map, count_by, Option, None, Ok, codes}
 use Rattle.std.specs.Fmt.{decimal}
-use Rattle.std.specs.List.{AllZip, cons_option, filter_map, flat_map, range_with_len}
+use Rattle.std.specs.List.{AllByRecursion, AllZip, cons_option, filter_map, flat_map, range_with_len}
 use Rattle.std.proofs.lemmas.List.{append-nil}
 use Rattle.std.proofs.lemmas.List.Elements.{filter_map-append}
 use Rattle.std.proofs.lemmas.List.Sums.{sum_by-cons}
@@ -13,7 +13,7 @@ use Rattle.sf_model.specs.declared.raw.RawBlock.{RawBlock}
 use Rattle.sf_gsrc.specs.declared.count.Count.{Count}
 use Rattle.sf_gsrc.specs.declared.keywords.Counted.{Counted}
 use Rattle.sf_gsrc.specs.declared.keywords.Counted.TheVariants.{Soft, Hard, Terminals}
-use Rattle.sf_gsrc.specs.Blocks.{content_of, is_content_word, is_title, Said, CountIs, ItemIs, Entry, count_at, block_at, pad_at, blocks_in, pads_in, is_soft_kind}
+use Rattle.sf_gsrc.specs.Blocks.{content_of, is_content_word, is_title, Said, CountIs, ItemIs, Entry, count_at, block_at, pad_at, is_soft_kind}
 use Rattle.sf_gsrc.specs.Blocks as blocks
 use Rattle.sf_gsrc.specs.Keywords.{counted_of, form_of}
 use Rattle.sf_gsrc.specs.Line.{BlockIs, PadIs, counted_by, count_said, plain_said}
@@ -23,9 +23,9 @@ use Rattle.sf_gen.specs.declared.drawn.Size.{Size}
 use Rattle.sf_gen.specs.Designs.{raw_block, raw_blocks, pad_list, blocks_out}
 use Rattle.sf_gen.specs.Texts.{indexed, is_soft, block_name, hard_line, soft_line, block_line, block_lines, blocks_head, soft_count, hard_count}
 use Rattle.sf_gen.proofs.Counts.{all_blocks}
-use Rattle.sf_gen.proofs.TextLines.{Each, IsLines, Reads, none, ended, piece, reads_none, reads_line, reads_both, content_is}
-use Rattle.sf_gen.proofs.TextWords.{decimal_no_feed, number_said}
-use Rattle.sf_gen.proofs.BlockLines.{IsSmall, hard_lines, hard_plain, hard_rest, no_count, name_filled, soft_lines, soft_plain, soft_rest}
+use Rattle.sf_gen.proofs.TextLines.{IsLines, Reads, none, ended, piece, reads_none, reads_line, reads_both, content_is}
+use Rattle.sf_gen.proofs.TextWords.{count_read, number_said}
+use Rattle.sf_gen.proofs.BlockLines.{IsSmall, hard_block, hard_lines, hard_plain, hard_rest, no_count, name_filled, soft_block, soft_lines, soft_plain, soft_rest}
 
 -- whatever its number, the line says this
 abbrev SaysHere : List ℕ → Said → Type 0
@@ -47,24 +47,16 @@ module _ (i : ℕ) (s : Size) (h : i < 2 ^ 64) (f : IsSmall s) where
   by_kind : (b : Bool) → Reads SaysHere (cond b (soft_line i s) (hard_line i s))
       (said_block (record { name = block_name i; kind = cond b (kind.Soft (s.w * s.h) 500_000 2_000_000) (kind.Hard s.w s.h) }) ∷ [])
   by_kind true =
-      let bytes : List ℕ = block_name i ++ 32 ∷ soft_rest s in
-      let block : RawBlock = record { name = block_name i; kind = kind.Soft (s.w * s.h) 500_000 2_000_000 } in
-      reads_line SaysHere (soft_line i s) bytes (said_block block) (soft_lines i s h f) (name_filled i h (soft_rest s))
-      (plain_says bytes block (no_count i h (soft_rest s)) (soft_plain i s h f))
+      reads_line SaysHere _ _ _ (soft_lines i s h f) (name_filled i h (soft_rest s)) (plain_says (block_name i ++ 32 ∷ soft_rest s) (soft_block i s) (no_count i h (soft_rest s)) (soft_plain i s h f))
   by_kind false =
-      let bytes : List ℕ = block_name i ++ 32 ∷ hard_rest s in
-      let block : RawBlock = record { name = block_name i; kind = kind.Hard s.w s.h } in
-      reads_line SaysHere (hard_line i s) bytes (said_block block) (hard_lines i s h f) (name_filled i h (hard_rest s))
-      (plain_says bytes block (no_count i h (hard_rest s)) (hard_plain i s h f))
+      reads_line SaysHere _ _ _ (hard_lines i s h f) (name_filled i h (hard_rest s)) (plain_says (block_name i ++ 32 ∷ hard_rest s) (hard_block i s) (no_count i h (hard_rest s)) (hard_plain i s h f))
 
 -- the lines of the blocks from number i on are read as these blocks
-blocks_from : (kinds : Kinds) (i : ℕ) (sizes : List Size) → i + length sizes ≤ 1_000_000 → Each IsSmall sizes
+blocks_from : (kinds : Kinds) (i : ℕ) (sizes : List Size) → i + length sizes ≤ 1_000_000 → AllByRecursion IsSmall sizes
     → Reads SaysHere (flat_map (λ (line : List ℕ). line) (indexed (block_line kinds) i sizes)) (map said_block (indexed (raw_block kinds) i sizes))
 blocks_from kinds i [] low ok = reads_none SaysHere
 blocks_from kinds i (s ∷ sizes) low ok =
-    reads_both SaysHere (block_line kinds i s) (flat_map (λ (line : List ℕ). line) (indexed (block_line kinds) (i + 1) sizes))
-    (said_block (raw_block kinds i s) ∷ []) (map said_block (indexed (raw_block kinds) (i + 1) sizes))
-    (by_kind i s (omega arith) ok.0 (is_soft kinds i)) (blocks_from kinds (i + 1) sizes (omega arith) ok.1)
+    reads_both SaysHere _ _ _ _ (by_kind i s (omega arith) ok.0 (is_soft kinds i)) (blocks_from kinds (i + 1) sizes (omega arith) ok.1)
 
 -- ---- the lines of the pads
 
@@ -92,18 +84,12 @@ module _ (d : ℕ) (le : d ≤ 9_000_000_000_000_000) where
   -- the count of soft blocks is read as that count
   soft_count_read : Reads SaysHere (codes "NumSoftRectangularBlocks : " ++ (decimal d ++ codes "\n")) (CountIs Soft d ∷ [])
   unfolding counted_of
-  soft_count_read =
-      reads_line SaysHere (codes "NumSoftRectangularBlocks : " ++ (decimal d ++ codes "\n")) (codes "NumSoftRectangularBlocks : " ++ (decimal d ++ [])) (CountIs Soft d)
-      (piece (codes "NumSoftRectangularBlocks : ") refl (piece (decimal d) (decimal_no_feed d (omega arith)) (ended none))) refl
-      (λ n. (d, number_said (codes "NumSoftRectangularBlocks") d le, refl))
+  soft_count_read = count_read SaysHere d le (codes "NumSoftRectangularBlocks : ") (CountIs Soft d) refl refl (λ n. (d, number_said (codes "NumSoftRectangularBlocks") d le, refl))
 
   -- the count of hard blocks is read as that count
   hard_count_read : Reads SaysHere (codes "NumHardRectilinearBlocks : " ++ (decimal d ++ codes "\n")) (CountIs Hard d ∷ [])
   unfolding counted_of
-  hard_count_read =
-      reads_line SaysHere (codes "NumHardRectilinearBlocks : " ++ (decimal d ++ codes "\n")) (codes "NumHardRectilinearBlocks : " ++ (decimal d ++ [])) (CountIs Hard d)
-      (piece (codes "NumHardRectilinearBlocks : ") refl (piece (decimal d) (decimal_no_feed d (omega arith)) (ended none))) refl
-      (λ n. (d, number_said (codes "NumHardRectilinearBlocks") d le, refl))
+  hard_count_read = count_read SaysHere d le (codes "NumHardRectilinearBlocks : ") (CountIs Hard d) refl refl (λ n. (d, number_said (codes "NumHardRectilinearBlocks") d le, refl))
 
 -- the count of terminals is read as 4
 pad_count_read : Reads SaysHere (codes "NumTerminals : 4\n") (CountIs Terminals 4 ∷ [])
@@ -127,17 +113,11 @@ each_entry n [] (s ∷ said) h = absurd h
 each_entry n (b ∷ bs) [] h = absurd h
 each_entry n (b ∷ bs) (s ∷ said) h = ((refl, h.0 n), each_entry (n + 1) bs said h.1)
 
--- the blocks among the entries are those among what the lines say
-blocks_of : (n : ℕ) (said : List Said) → blocks_in (entries n said) ≡ filter_map block_at said
+-- what is found among the entries is what is found among what the lines say
+found_of : {Y : Type 0} (h : Said → Option Y) (n : ℕ) (said : List Said) → filter_map (λ (e : Entry). h e.said) (entries n said) ≡ filter_map h said
 unfolding entries
-blocks_of n [] = refl
-blocks_of n (s ∷ said) = ap (cons_option (block_at s)) (blocks_of (n + 1) said)
-
--- the pads among the entries are those among what the lines say
-pads_of : (n : ℕ) (said : List Said) → pads_in (entries n said) ≡ filter_map pad_at said
-unfolding entries
-pads_of n [] = refl
-pads_of n (s ∷ said) = ap (cons_option (pad_at s)) (pads_of (n + 1) said)
+found_of h n [] = refl
+found_of h n (s ∷ said) = ap (cons_option (h s)) (found_of h (n + 1) said)
 
 -- what is no count
 abbrev IsItem : Said → Type 0
@@ -145,14 +125,14 @@ IsItem (CountIs k n) = ⊥
 IsItem (ItemIs item) = Unit {0}
 
 -- where no line says a count, there is no count of any kind
-no_counts : (which : Counted) (n : ℕ) (said : List Said) → Each IsItem said → counts_of which (entries n said) ≡ []
+no_counts : (which : Counted) (n : ℕ) (said : List Said) → AllByRecursion IsItem said → counts_of which (entries n said) ≡ []
 unfolding entries
 no_counts which n [] ok = refl
 no_counts which n (CountIs k m ∷ said) ok = absurd ok.0
 no_counts which n (ItemIs item ∷ said) ok = no_counts which (n + 1) said ok.1
 
 -- items put before items are items
-all_items : {X : Type 0} (f : X → Said) → ((x : X) → IsItem (f x)) → (xs : List X) (more : List Said) → Each IsItem more → Each IsItem (map f xs ++ more)
+all_items : {X : Type 0} (f : X → Said) → ((x : X) → IsItem (f x)) → (xs : List X) (more : List Said) → AllByRecursion IsItem more → AllByRecursion IsItem (map f xs ++ more)
 all_items f h [] more ok = ok
 all_items f h (x ∷ xs) more ok = (h x, all_items f h xs more ok)
 
@@ -170,14 +150,9 @@ no_pads (b ∷ bs) = no_pads bs
 
 -- ---- how many are soft
 
--- a block is soft exactly when its kind was chosen as soft
-soft_kind : (b : Bool) (a l m w h : ℕ) → is_soft_kind (cond b (kind.Soft a l m) (kind.Hard w h)) ≡ b
-soft_kind true a l m w h = refl
-soft_kind false a l m w h = refl
-
 -- a block of a generated design is soft exactly when its number says so
 softness : (kinds : Kinds) (i : ℕ) (s : Size) → blocks.is_soft (raw_block kinds i s) ≡ is_soft kinds i
-softness kinds i s = soft_kind (is_soft kinds i) (s.w * s.h) 500_000 2_000_000 s.w s.h
+softness kinds i s = elim (is_soft kinds i) as (λ b. is_soft_kind (cond b (kind.Soft (s.w * s.h) 500_000 2_000_000) (kind.Hard s.w s.h)) ≡ b) [ true ↦ refl | false ↦ refl ]
 
 -- as many blocks pass a test of their softness as of their numbers do
 count_from : (p : Bool → Bool) (kinds : Kinds) (i : ℕ) (sizes : List Size)
@@ -191,7 +166,7 @@ count_from p kinds i (s ∷ sizes) =
 
 -- ---- the whole text
 
-module _ (kinds : Kinds) (sizes : List Size) (few : length sizes ≤ 1000) (ok : Each IsSmall sizes) where
+module _ (kinds : Kinds) (sizes : List Size) (few : length sizes ≤ 1000) (ok : AllByRecursion IsSmall sizes) where
   -- what the lines behind the counts say: the blocks, and then the pads
   items : List Said
   items = map said_block (raw_blocks kinds sizes) ++ map said_pad pad_list
@@ -210,17 +185,7 @@ module _ (kinds : Kinds) (sizes : List Size) (few : length sizes ≤ 1000) (ok :
   -- the title and what stands behind it are the text of the blocks
   shape : codes "UCSC blocks 1.0\n" ++ behind_title ≡ blocks_head kinds (length sizes) ++ (block_lines kinds sizes ++ pad_lines)
   unfolding behind_title
-  shape =
-      let more : List ℕ = block_lines kinds sizes ++ pad_lines in
-      let soft : List ℕ = decimal (soft_count kinds (length sizes)) in
-      let hard : List ℕ = decimal (hard_count kinds (length sizes)) in
-      let third : List ℕ = codes "NumTerminals : 4\n" in
-      let word : List ℕ = codes "NumHardRectilinearBlocks : " in
-      let inner : (hard ++ codes "\n") ++ (third ++ more) ≡ (hard ++ (10 ∷ third)) ++ more = append_assoc hard (codes "\n") (third ++ more) ∙ sym (append_assoc hard (10 ∷ third) more) in
-      ap (λ v. codes "UCSC blocks 1.0\nNumSoftRectangularBlocks : " ++ v)
-      (append_assoc soft (codes "\n") (word ++ ((hard ++ codes "\n") ++ (third ++ more)))
-      ∙ ap (λ v. soft ++ (codes "\n" ++ (word ++ v))) inner
-      ∙ sym (append_assoc soft (codes "\n" ++ (word ++ (hard ++ (10 ∷ third)))) more))
+  shape = simp append_assoc refl
 
   -- the text behind the title is read as the counts, the blocks and the pads
   all_read : Reads SaysHere behind_title said_of
@@ -230,16 +195,12 @@ module _ (kinds : Kinds) (sizes : List Size) (few : length sizes ≤ 1000) (ok :
       let hard = hard_count kinds (length sizes) in
       let low : soft ≤ 9_000_000_000_000_000 = omega (arith, all_blocks kinds (length sizes), few) in
       let high : hard ≤ 9_000_000_000_000_000 = omega (arith, all_blocks kinds (length sizes), few) in
-      let last = reads_both SaysHere (block_lines kinds sizes) pad_lines (map said_block (raw_blocks kinds sizes)) (map said_pad pad_list) (blocks_from kinds 0 sizes (omega (arith, few)) ok) pads_read in
-      let pads = reads_both SaysHere (codes "NumTerminals : 4\n") (block_lines kinds sizes ++ pad_lines) (CountIs Terminals 4 ∷ []) (map said_block (raw_blocks kinds sizes) ++ map said_pad pad_list) pad_count_read last in
-      let hards = reads_both SaysHere (codes "NumHardRectilinearBlocks : " ++ (decimal hard ++ codes "\n")) (codes "NumTerminals : 4\n" ++ (block_lines kinds sizes ++ pad_lines))
-      (CountIs Hard hard ∷ []) (CountIs Terminals 4 ∷ (map said_block (raw_blocks kinds sizes) ++ map said_pad pad_list)) (hard_count_read hard high) pads in
-      reads_both SaysHere (codes "NumSoftRectangularBlocks : " ++ (decimal soft ++ codes "\n"))
-      ((codes "NumHardRectilinearBlocks : " ++ (decimal hard ++ codes "\n")) ++ (codes "NumTerminals : 4\n" ++ (block_lines kinds sizes ++ pad_lines)))
-      (CountIs Soft soft ∷ []) (CountIs Hard hard ∷ CountIs Terminals 4 ∷ (map said_block (raw_blocks kinds sizes) ++ map said_pad pad_list)) (soft_count_read soft low) hards
+      reads_both SaysHere _ _ _ _ (soft_count_read soft low)
+      (reads_both SaysHere _ _ _ _ (hard_count_read hard high)
+      (reads_both SaysHere _ _ _ _ pad_count_read (reads_both SaysHere _ _ _ _ (blocks_from kinds 0 sizes (omega (arith, few)) ok) pads_read)))
 
   -- behind the counts no line says a count
-  are_items : Each IsItem items
+  are_items : AllByRecursion IsItem items
   unfolding items said_block said_pad
   are_items = all_items said_block (λ b. tt) (raw_blocks kinds sizes) (map said_pad pad_list) (tt, (tt, (tt, (tt, tt))))
 
@@ -298,6 +259,6 @@ module _ (kinds : Kinds) (sizes : List Size) (few : length sizes ≤ 1000) (ok :
         soft = softs;
         hard = hards;
         terminals = pads;
-        blocks = sym (blocks_of 2 said_of ∙ blocks_are);
-        pads = sym (pads_of 2 said_of ∙ pads_are);
+        blocks = sym (found_of block_at 2 said_of ∙ blocks_are);
+        pads = sym (found_of pad_at 2 said_of ∙ pads_are);
       }

@@ -1,10 +1,12 @@
 -- The counts of soft and of hard blocks, and of pins.
-use Rattle.std.proofs.Common.{◌≡◌, ℕ, zero, suc, ◌+◌, ◌*◌, ◌/◌, ◌%◌, ◌≤◌, ◌==◌, Bool, true, false, cond, List, [], ◌∷◌, length, refl, sym, ap, arith}
+use Rattle.std.proofs.Common.{◌≡◌, ℕ, zero, suc, ◌+◌, ◌*◌, ◌/◌, ◌%◌, ◌≤◌, ◌==◌, Bool, true, false, cond, List, [], ◌∷◌, length, refl, sym, ap, ◌∙◌, arith}
 use Rattle.std.specs.Prelude.{not, count_by, sum_by}
 use Rattle.std.specs.Int.{div_ceil}
 use Rattle.std.specs.List.{range_with_len}
 use Rattle.std.proofs.lemmas.Bool.Decides.{nat_tests}
-use Rattle.std.proofs.lemmas.List.Sums.{sum_by-cons}
+use Rattle.std.proofs.lemmas.List.Sums.{length-filter, sum_by-cons}
+use Rattle.std.proofs.lemmas.List.Filters.{length-filter_both}
+use Rattle.std.proofs.lemmas.List.FromFn.{length-range_with_len}
 use Rattle.sf_gen.specs.declared.design.Kinds.{Kinds}
 use Rattle.sf_gen.specs.declared.design.Kinds.TheVariants.{Hard, Mixed}
 use Rattle.sf_gen.specs.declared.drawn.Ends.{Ends}
@@ -37,19 +39,11 @@ soft_of_hard n = sym (none_from 0 n)
 pub soft_of_mixed : (n : ℕ) → n / 2 ≡ soft_count Mixed n
 soft_of_mixed n = omega (arith, odd_from 0 n)
 
--- those that pass and those that do not are together one more with one more element
-both_step : (b : Bool) (k l n : ℕ) → k + l ≡ n → (cond b 1 0 + k) + (cond (not b) 1 0 + l) ≡ suc n
-both_step true k l n h = omega arith
-both_step false k l n h = omega arith
-
--- of n numbers those that pass a test and those that do not are together n
-both_from : (p : ℕ → Bool) (a n : ℕ) → count_by p (range_with_len a n) + count_by (λ i. not (p i)) (range_with_len a n) ≡ n
-both_from p a zero = refl
-both_from p a (suc n) = rw (count_cons p a (range_with_len (a + 1) n), count_cons (λ i. not (p i)) a (range_with_len (a + 1) n)) (both_step (p a) _ _ n (both_from p (a + 1) n))
-
 -- each block is soft or hard
 pub all_blocks : (kinds : Kinds) (n : ℕ) → soft_count kinds n + hard_count kinds n ≡ n
-all_blocks kinds n = both_from (is_soft kinds) 0 n
+all_blocks kinds n =
+    let p = is_soft kinds in
+    rw (← length-filter p (range_with_len 0 n), ← length-filter (λ i. not (p i)) (range_with_len 0 n)) (length-filter_both p (λ i. not (p i)) (λ i. refl) (range_with_len 0 n) ∙ length-range_with_len 0 n)
 
 -- ---- pins
 
@@ -58,14 +52,9 @@ pub length-indexed : {X Y : Type 0} (f : ℕ → X → Y) (i : ℕ) (xs : List X
 length-indexed f i [] = refl
 length-indexed f i (x ∷ xs) = ap suc (length-indexed f (i + 1) xs)
 
--- a list that has an element only under a condition has length 1 or 0
-one_or_none : {X : Type 0} (b : Bool) (x : X) → length (cond b (x ∷ []) []) ≡ cond b 1 0
-one_or_none true x = refl
-one_or_none false x = refl
-
 -- a net has one pad where its number is a multiple of 3, and else none
-pad_count : (j : ℕ) → length (pad_pins j) ≡ cond (j % 3 == 0) 1 0
-pad_count j = one_or_none (j % 3 == 0) (pad_name (j % 4))
+pub pad_count : (j : ℕ) → length (pad_pins j) ≡ cond (j % 3 == 0) 1 0
+pad_count j = elim (j % 3 == 0) as (λ b. length (cond b (pad_name (j % 4) ∷ []) []) ≡ cond b 1 0) [ true ↦ refl | false ↦ refl ]
 
 -- the count of pins, as a sum of twice the nets and of thirds, holds with one more net
 third_step : (j n k : ℕ) → k + (j + 1 + 2) / 3 ≡ 2 * n + (j + 1 + n + 2) / 3 → (suc (suc (cond (j % 3 == 0) 1 0)) + k) + (j + 2) / 3 ≡ 2 * suc n + (j + suc n + 2) / 3

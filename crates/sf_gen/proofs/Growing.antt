@@ -1,5 +1,5 @@
 -- One more line, and the parts of a text put together.
-use Rattle.std.proofs.Common.{◌≡◌, ℕ, suc, ◌+◌, ◌<◌, List, [], ◌∷◌, ◌++◌, length, get_or, take, refl, sym, ap, ◌∙◌, arith, append_assoc}
+use Rattle.std.proofs.Common.{◌≡◌, ℕ, suc, ◌+◌, ◌<◌, List, [], ◌∷◌, ◌++◌, length, get_or, take, refl, sym, ap, ◌∙◌, arith}
 use Rattle.std.specs.Prelude.{map}
 use Rattle.std.specs.List.{flat_map, range_with_len}
 use Rattle.std.proofs.lemmas.List.{take_more, flat_map_more, length-take}
@@ -33,20 +33,3 @@ lines_more g f xs i d old before new h was is =
     is ∙ ap (λ v. v ++ g (f i (get_or xs i d))) was
     ∙ flat_map_more g old (indexed f 0 (take i xs)) (f i (get_or xs i d))
     ∙ ap (λ v. old ++ flat_map g v) (sym (indexed_more f xs i d h))
-
--- a text that began empty and took two parts is these two parts
-pub two_parts : (old a b first new : List ℕ) → old ≡ [] → first ≡ old ++ a → new ≡ first ++ b → new ≡ a ++ b
-two_parts old a b first new o f n = n ∙ ap (λ v. v ++ b) (f ∙ ap (λ v. v ++ a) o)
-
--- a text that began empty and took three parts is these three parts
-pub three_parts : (old a b c first second new : List ℕ) → old ≡ [] → first ≡ old ++ a → second ≡ first ++ b → new ≡ second ++ c → new ≡ a ++ (b ++ c)
-three_parts old a b c first second new o f s n = n ∙ ap (λ v. v ++ c) (two_parts old a b first second o f s) ∙ append_assoc a b c
-
--- what follows a text also follows it with more in front
-before_more : (x t rest u : List ℕ) → t ++ rest ≡ u → (x ++ t) ++ rest ≡ x ++ u
-before_more x t rest u h = append_assoc x t rest ∙ ap (λ v. x ++ v) h
-
--- what follows a line goes behind its last part
-pub net_over : (old n d p a q b e rest : List ℕ) → (old ++ (n ++ (d ++ (p ++ (a ++ (q ++ (b ++ e))))))) ++ rest ≡ old ++ (n ++ (d ++ (p ++ (a ++ (q ++ (b ++ (e ++ rest)))))))
-net_over old n d p a q b e rest =
-    before_more old _ rest _ (before_more n _ rest _ (before_more d _ rest _ (before_more p _ rest _ (before_more a _ rest _ (before_more q _ rest _ (append_assoc b e rest))))))

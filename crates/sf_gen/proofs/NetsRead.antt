@@ -1,23 +1,21 @@
 -- The text of the nets is read again.
 use Rattle.std.proofs.Common.{◌≡◌, ℕ, ◌<◌, ◌≤◌, ◌^◌, true, List, [], ◌∷◌, ◌++◌, length, refl, sym, ap, subst, ◌∙◌, arith, append_assoc}
-use Rattle.std.specs.Prelude.{map, sum_by, Some, None, codes}
+use Rattle.std.specs.Prelude.{map, sum_by, None, codes}
 use Rattle.std.specs.Fmt.{decimal}
-use Rattle.std.specs.List.{flat_map, filter_map}
+use Rattle.std.specs.List.{AllByRecursion, flat_map, filter_map}
 use Rattle.std.proofs.lemmas.List.{length-map}
 use Rattle.std.proofs.lemmas.List.Elements.{filter_map-append}
-use Rattle.sf_lex.specs.Text.{is_line_feed, has_none}
 use Rattle.sf_lex.specs.Scan.{Line, numbered}
 use Rattle.sf_lex.specs.Gap.{first_word}
 use Rattle.sf_lex.specs.declared.field.Gap.TheVariants.{Blanks}
 use Rattle.sf_gsrc.specs.Blocks.{content_of, is_content_word, is_title}
 use Rattle.sf_gsrc.specs.Keywords.{is_colon, net_word_of, net_word_by}
-use Rattle.sf_gsrc.specs.declared.keywords.NetWord.TheVariants.{Nets, Pins, Degree}
 use Rattle.sf_gsrc.specs.Nets.{NetSaid, NetsAre, PinsAre, DegreeIs, PinIs}
 use Rattle.sf_gsrc.specs.NetsStanding.{SaysNetBy, SaysNet, nets_count, net_part, NetsStandFor}
 use Rattle.sf_gsrc.specs.NetsStanding as standing
 use Rattle.sf_gen.specs.Texts.{net_lines, nets_head, pin_lines}
-use Rattle.sf_gen.proofs.TextLines.{Each, IsLines, Reads, none, ended, piece, reads_none, reads_line, reads_both, reads_each, content_is, each_numbered}
-use Rattle.sf_gen.proofs.TextWords.{decimal_no_feed, decimal_no_gap, decimal_no_colon, number_said, before_none, first_written}
+use Rattle.sf_gen.proofs.TextLines.{IsLines, Reads, none, ended, piece, reads_none, reads_line, reads_both, reads_each, content_is, each_numbered}
+use Rattle.sf_gen.proofs.TextWords.{count_read, decimal_no_feed, decimal_no_gap, decimal_no_colon, number_said, before_none, first_written}
 
 -- whatever its number, the line says this
 abbrev pub SaysHere : List ℕ → NetSaid → Type 0
@@ -32,8 +30,8 @@ pub data IsName : List ℕ → Type 0 where
 
 -- the first word of a pin's line is the name
 pin_first : (name : List ℕ) → IsName name → first_word Blanks (name ++ 32 ∷ 66 ∷ []) ≡ name
-pin_first _ (of_block i h) = first_written Blanks 98 (decimal i) (decimal_no_gap i h Blanks) (66 ∷ []) 32 refl
-pin_first _ (of_pad p h) = first_written Blanks 112 (decimal p) (decimal_no_gap p h Blanks) (66 ∷ []) 32 refl
+pin_first _ (of_block i h) = first_written Blanks (98 ∷ decimal i) (omega arith) (decimal_no_gap i h Blanks) (66 ∷ []) 32 refl
+pin_first _ (of_pad p h) = first_written Blanks (112 ∷ decimal p) (omega arith) (decimal_no_gap p h Blanks) (66 ∷ []) 32 refl
 
 -- the line of a pin begins with no keyword of nets
 no_keyword : (name : List ℕ) → IsName name → net_word_by (name ++ 32 ∷ 66 ∷ []) ≡ None
@@ -64,7 +62,7 @@ pin_read name h =
     (name_no_feed name h (piece (32 ∷ 66 ∷ []) refl (ended none))) (pin_filled name h) (pin_says name h)
 
 -- what is written of the pins is read as these pins
-pins_read : (pins : List (List ℕ)) → Each IsName pins → Reads SaysHere (pin_lines pins) (map PinIs pins)
+pins_read : (pins : List (List ℕ)) → AllByRecursion IsName pins → Reads SaysHere (pin_lines pins) (map PinIs pins)
 pins_read [] ok = reads_none SaysHere
 pins_read (name ∷ more) ok =
     let shape : (name ++ 32 ∷ 66 ∷ 10 ∷ []) ++ pin_lines more ≡ name ++ 32 ∷ 66 ∷ 10 ∷ pin_lines more = append_assoc name (32 ∷ 66 ∷ 10 ∷ []) (pin_lines more) in
@@ -74,40 +72,24 @@ pins_read (name ∷ more) ok =
 -- ---- the lines of a net
 
 module _ (d : ℕ) (le : d ≤ 9_000_000_000_000_000) where
-  -- a count word with its number is read as what they say
-  count_read : (word : List ℕ) (said : NetSaid) → has_none is_line_feed word ≡ true → is_content_word (first_word Blanks (word ++ (decimal d ++ []))) ≡ true
-      → SaysHere (word ++ (decimal d ++ [])) said → Reads SaysHere (word ++ (decimal d ++ codes "\n")) (said ∷ [])
-  count_read word said clean filled says =
-      reads_line SaysHere (word ++ (decimal d ++ codes "\n")) (word ++ (decimal d ++ [])) said
-      (piece word clean (piece (decimal d) (decimal_no_feed d (omega arith)) (ended none))) filled says
-
-  -- a line of a degree says this degree
-  degree_says : SaysHere (codes "NetDegree : " ++ (decimal d ++ [])) (DegreeIs d)
+  -- a line of a degree is read as this degree
+  degree_read : Reads SaysHere (codes "NetDegree : " ++ (decimal d ++ codes "\n")) (DegreeIs d ∷ [])
   unfolding net_word_of
-  degree_says n =
-      let line : Line = record { number = n; bytes = codes "NetDegree : " ++ (decimal d ++ []) } in
-      let word : net_word_by line.bytes ≡ Some Degree = refl in
-      subst (λ o. SaysNetBy line (DegreeIs d) o) (sym word) (d, number_said (codes "NetDegree") d le, refl)
+  degree_read = count_read SaysHere d le (codes "NetDegree : ") (DegreeIs d) refl refl (λ n. (d, number_said (codes "NetDegree") d le, refl))
 
-  -- a line of the count of nets says this count
-  nets_say : SaysHere (codes "NumNets : " ++ (decimal d ++ [])) (NetsAre d)
+  -- a line of the count of nets is read as this count
+  nets_read : Reads SaysHere (codes "NumNets : " ++ (decimal d ++ codes "\n")) (NetsAre d ∷ [])
   unfolding net_word_of
-  nets_say n =
-      let line : Line = record { number = n; bytes = codes "NumNets : " ++ (decimal d ++ []) } in
-      let word : net_word_by line.bytes ≡ Some Nets = refl in
-      subst (λ o. SaysNetBy line (NetsAre d) o) (sym word) (d, number_said (codes "NumNets") d le, refl)
+  nets_read = count_read SaysHere d le (codes "NumNets : ") (NetsAre d) refl refl (λ n. (d, number_said (codes "NumNets") d le, refl))
 
-  -- a line of the count of pins says this count
-  pins_say : SaysHere (codes "NumPins : " ++ (decimal d ++ [])) (PinsAre d)
+  -- a line of the count of pins is read as this count
+  num_pins_read : Reads SaysHere (codes "NumPins : " ++ (decimal d ++ codes "\n")) (PinsAre d ∷ [])
   unfolding net_word_of
-  pins_say n =
-      let line : Line = record { number = n; bytes = codes "NumPins : " ++ (decimal d ++ []) } in
-      let word : net_word_by line.bytes ≡ Some Pins = refl in
-      subst (λ o. SaysNetBy line (PinsAre d) o) (sym word) (d, number_said (codes "NumPins") d le, refl)
+  num_pins_read = count_read SaysHere d le (codes "NumPins : ") (PinsAre d) refl refl (λ n. (d, number_said (codes "NumPins") d le, refl))
 
 -- at most three pins, and each has a name of a block or of a pad
 pub record IsNet (pins : List (List ℕ)) : Type 0 where
-  pub names : Each IsName pins
+  pub names : AllByRecursion IsName pins
   pub few : length pins ≤ 3
 
 -- what is written of a net is read as its degree and its pins
@@ -119,7 +101,7 @@ net_read pins h =
     let shape : head ++ pin_lines pins ≡ net_lines pins = ap (λ v. codes "NetDegree : " ++ v) (append_assoc (decimal d) (codes "\n") (pin_lines pins)) in
     subst (λ (t : List ℕ). Reads SaysHere t (standing.net_lines pins)) shape
     (reads_both SaysHere head (pin_lines pins) (DegreeIs d ∷ []) (map PinIs pins)
-    (count_read d le (codes "NetDegree : ") (DegreeIs d) refl refl (degree_says d le)) (pins_read pins h.names))
+    (degree_read d le) (pins_read pins h.names))
 
 -- ---- the whole text
 
@@ -149,7 +131,7 @@ no_count_of_nets (pins ∷ nets) =
     ∙ ap (λ l. l ++ filter_map nets_count (flat_map standing.net_lines nets)) (no_count_of_pins pins)
     ∙ no_count_of_nets nets
 
-module _ (nets : List (List (List ℕ))) (fine : Each IsNet nets) (few : length nets ≤ 1_000_000) (small : sum_by length nets ≤ 9_000_000_000_000_000) where
+module _ (nets : List (List (List ℕ))) (fine : AllByRecursion IsNet nets) (few : length nets ≤ 1_000_000) (small : sum_by length nets ≤ 9_000_000_000_000_000) where
   -- what the lines behind the title say: both counts, and then the nets
   said_of : List NetSaid
   said_of = NetsAre (length nets) ∷ PinsAre (sum_by length nets) ∷ flat_map standing.net_lines nets
@@ -163,24 +145,15 @@ module _ (nets : List (List (List ℕ))) (fine : Each IsNet nets) (few : length 
   -- the title and what stands behind it are the text of the nets
   shape : codes "UCLA nets 1.0\n" ++ behind_title ≡ nets_head nets ++ flat_map net_lines nets
   unfolding behind_title
-  shape =
-      let more : List ℕ = flat_map net_lines nets in
-      let pins : List ℕ = codes "NumPins : " ++ (decimal (sum_by length nets) ++ codes "\n") in
-      ap (λ v. codes "UCLA nets 1.0\nNumNets : " ++ v)
-      (append_assoc (decimal (length nets)) (codes "\n") (pins ++ more) ∙ sym (append_assoc (decimal (length nets)) (10 ∷ pins) more))
+  shape = simp append_assoc refl
 
   -- the text behind the title is read as the counts and the nets
   all_read : Reads SaysHere behind_title said_of
   unfolding behind_title said_of
   all_read =
       let low : length nets ≤ 9_000_000_000_000_000 = omega (arith, few) in
-      let nets_line : List ℕ = codes "NumNets : " ++ (decimal (length nets) ++ codes "\n") in
-      let pins_line : List ℕ = codes "NumPins : " ++ (decimal (sum_by length nets) ++ codes "\n") in
-      let more = reads_each SaysHere IsNet net_lines standing.net_lines net_read nets fine in
-      reads_both SaysHere nets_line (pins_line ++ flat_map net_lines nets) (NetsAre (length nets) ∷ []) (PinsAre (sum_by length nets) ∷ flat_map standing.net_lines nets)
-      (count_read (length nets) low (codes "NumNets : ") (NetsAre (length nets)) refl refl (nets_say (length nets) low))
-      (reads_both SaysHere pins_line (flat_map net_lines nets) (PinsAre (sum_by length nets) ∷ []) (flat_map standing.net_lines nets)
-      (count_read (sum_by length nets) small (codes "NumPins : ") (PinsAre (sum_by length nets)) refl refl (pins_say (sum_by length nets) small)) more)
+      reads_both SaysHere _ _ _ _ (nets_read (length nets) low)
+      (reads_both SaysHere _ _ _ _ (num_pins_read (sum_by length nets) small) (reads_each SaysHere IsNet net_lines standing.net_lines net_read nets fine))
 
   -- the text of the nets stands for these nets
   pub nets_stand : NetsStandFor (nets_head nets ++ flat_map net_lines nets) (record { nets = map standing.net_of nets })

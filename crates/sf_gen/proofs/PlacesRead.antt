@@ -1,5 +1,5 @@
 -- The text of the places is read again.
-use Rattle.std.proofs.Common.{◌≡◌, ℕ, ◌≤◌, true, List, [], ◌∷◌, ◌++◌, refl, ap, ◌∙◌, arith}
+use Rattle.std.proofs.Common.{◌≡◌, ℕ, ◌≤◌, true, List, [], ◌∷◌, ◌++◌, refl, arith}
 use Rattle.std.specs.Prelude.{pos, Ok, codes}
 use Rattle.std.specs.Fmt.{decimal}
 use Rattle.sf_lex.specs.Text.{words, is_not_empty}
@@ -7,40 +7,23 @@ use Rattle.sf_lex.specs.Scan.{numbered}
 use Rattle.sf_lex.specs.Gap.{is_gap, first_word, after_word}
 use Rattle.sf_lex.specs.Number.{decimal_read, signed_read}
 use Rattle.sf_lex.specs.declared.field.Gap.TheVariants.{Blanks, Sizes}
-use Rattle.sf_gsrc.specs.declared.output.Place.{Place}
 use Rattle.sf_gsrc.specs.Blocks.{is_title}
 use Rattle.sf_gsrc.specs.Line.{coordinate_in_word}
-use Rattle.sf_gsrc.specs.PlaceLine.{coordinates_said, place_said, point_said, rest_said}
+use Rattle.sf_gsrc.specs.PlaceLine.{place_said, sides_said, size_in_words, spot_said}
 use Rattle.sf_gsrc.specs.Places.{SaysPlace, PlacesStandFor}
 use Rattle.sf_gen.specs.Designs.{place_at, places_out}
 use Rattle.sf_gen.specs.Texts.{square, pl_text}
 use Rattle.sf_gen.proofs.TextLines.{IsLines, none, ended, piece, content_is, each_numbered}
 use Rattle.sf_gen.proofs.TextWords.{decimal_no_feed, number_first, number_after, number_last, number_ends, number_filled, signed_written}
 
--- a name with two words that are coordinates is placed there
-point_is : (name x y : List ℕ) (a b : ℕ) → coordinate_in_word 1 x ≡ Ok (pos a) → coordinate_in_word 1 y ≡ Ok (pos b) → point_said 1 name x y ≡ Ok (place_at name a b)
-unfolding point_said
-point_is name x y a b e f = rw (e, f) refl
-
--- three words, and nothing behind them
-said_as : (line name x y one two three : List ℕ) (p : Place)
+-- three words, two of them coordinates, and nothing behind them
+said_as : (line name x y one two three : List ℕ) (a b : ℕ)
     → first_word Blanks line ≡ name → after_word Blanks line ≡ one
     → first_word Blanks one ≡ x → after_word Blanks one ≡ two
     → first_word Blanks two ≡ y → after_word Blanks two ≡ three
-    → words (is_gap Sizes) three ≡ [] → is_not_empty y ≡ true → point_said 1 name x y ≡ Ok p → place_said 1 line ≡ Ok p
-unfolding place_said rest_said
-said_as line name x y one two three p e1 e2 e3 e4 e5 e6 e7 some says =
-    let f = first_word Blanks in
-    let a = after_word Blanks in
-    let w = words (is_gap Sizes) in
-    ap (λ (n : List ℕ). coordinates_said 1 n (f (a line)) (f (a (a line))) (w (a (a (a line))))) e1
-    ∙ ap (λ (l : List ℕ). coordinates_said 1 name (f l) (f (a l)) (w (a (a l)))) e2
-    ∙ ap (λ (v : List ℕ). coordinates_said 1 name v (f (a one)) (w (a (a one)))) e3
-    ∙ ap (λ (l : List ℕ). coordinates_said 1 name x (f l) (w (a l))) e4
-    ∙ ap (λ (v : List ℕ). coordinates_said 1 name x v (w (a two))) e5
-    ∙ ap (λ (l : List ℕ). coordinates_said 1 name x y (w l)) e6
-    ∙ ap (coordinates_said 1 name x y) e7
-    ∙ rw some says
+    → words (is_gap Sizes) three ≡ [] → is_not_empty y ≡ true → coordinate_in_word 1 x ≡ Ok (pos a) → coordinate_in_word 1 y ≡ Ok (pos b) → place_said 1 line ≡ Ok (place_at name a b)
+unfolding place_said sides_said spot_said size_in_words
+said_as line name x y one two three a b e1 e2 e3 e4 e5 e6 e7 some p q = rw (e1, e2, e3, e4, e5, e6, e7, some, p, q) refl
 
 -- the word 0 is the coordinate 0
 zero_coordinate : coordinate_in_word 1 (codes "0") ≡ Ok (pos 0)
@@ -55,30 +38,30 @@ module _ (q : ℕ) (low : q ≤ 1_000_000) where
   -- the line of the first pad places it at (0, 0)
   origin : place_said 1 (codes "p0 0 0") ≡ Ok (place_at (codes "p0") 0 0)
   origin =
-      said_as (codes "p0 0 0") (codes "p0") (codes "0") (codes "0") (codes " 0 0") (codes " 0") [] (place_at (codes "p0") 0 0)
-      refl refl refl refl refl refl refl refl (point_is (codes "p0") (codes "0") (codes "0") 0 0 zero_coordinate zero_coordinate)
+      said_as (codes "p0 0 0") (codes "p0") (codes "0") (codes "0") (codes " 0 0") (codes " 0") [] 0 0
+      refl refl refl refl refl refl refl refl zero_coordinate zero_coordinate
 
   -- the line of the second pad places it at (q, 0)
   right : place_said 1 (codes "p1 " ++ (decimal q ++ codes " 0")) ≡ Ok (place_at (codes "p1") q 0)
   right =
-      said_as (codes "p1 " ++ (decimal q ++ codes " 0")) (codes "p1") (decimal q) (codes "0") (32 ∷ (decimal q ++ codes " 0")) (codes " 0") [] (place_at (codes "p1") q 0)
+      said_as (codes "p1 " ++ (decimal q ++ codes " 0")) (codes "p1") (decimal q) (codes "0") (32 ∷ (decimal q ++ codes " 0")) (codes " 0") [] q 0
       refl refl (number_first q (omega arith) (codes "0")) (number_after q (omega arith) (codes "0")) refl refl refl refl
-      (point_is (codes "p1") (decimal q) (codes "0") q 0 number_coordinate zero_coordinate)
+      number_coordinate zero_coordinate
 
   -- the line of the third pad places it at (0, q)
   above : place_said 1 (codes "p2 0 " ++ (decimal q ++ [])) ≡ Ok (place_at (codes "p2") 0 q)
   above =
-      said_as (codes "p2 0 " ++ (decimal q ++ [])) (codes "p2") (codes "0") (decimal q) (codes " 0 " ++ (decimal q ++ [])) (32 ∷ (decimal q ++ [])) [] (place_at (codes "p2") 0 q)
+      said_as (codes "p2 0 " ++ (decimal q ++ [])) (codes "p2") (codes "0") (decimal q) (codes " 0 " ++ (decimal q ++ [])) (32 ∷ (decimal q ++ [])) [] 0 q
       refl refl refl refl (number_last q (omega arith)) (number_ends q (omega arith)) refl (number_filled q (omega arith))
-      (point_is (codes "p2") (codes "0") (decimal q) 0 q zero_coordinate number_coordinate)
+      zero_coordinate number_coordinate
 
   -- the line of the fourth pad places it at (q, q)
   across : place_said 1 (codes "p3 " ++ (decimal q ++ (codes " " ++ (decimal q ++ [])))) ≡ Ok (place_at (codes "p3") q q)
   across =
       let last : List ℕ = decimal q ++ [] in
-      said_as (codes "p3 " ++ (decimal q ++ (codes " " ++ last))) (codes "p3") (decimal q) (decimal q) (32 ∷ (decimal q ++ (32 ∷ last))) (32 ∷ last) [] (place_at (codes "p3") q q)
+      said_as (codes "p3 " ++ (decimal q ++ (codes " " ++ last))) (codes "p3") (decimal q) (decimal q) (32 ∷ (decimal q ++ (32 ∷ last))) (32 ∷ last) [] q q
       refl refl (number_first q (omega arith) last) (number_after q (omega arith) last) (number_last q (omega arith)) (number_ends q (omega arith)) refl (number_filled q (omega arith))
-      (point_is (codes "p3") (decimal q) (decimal q) q q number_coordinate number_coordinate)
+      number_coordinate number_coordinate
 
 -- the text of the places stands for the four pads at their places
 pub places_stand : (n : ℕ) → n ≤ 320 → PlacesStandFor 1 (pl_text n) (places_out n)

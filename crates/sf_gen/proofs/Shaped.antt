@@ -1,7 +1,7 @@
--- Each block has a shape.
+-- AllByRecursion block has a shape.
 use Rattle.std.proofs.Common.{◌≡◌, ℕ, zero, suc, ◌+◌, ◌*◌, ◌-◌, ◌/◌, ◌<◌, ◌≤◌, ◌==◌, Bool, true, false, cond, List, [], ◌∷◌, refl, sym, ap, ◌∙◌, inl, inr, arith}
 use Rattle.std.specs.Prelude.{◌||◌, map, max, min, nat_le, zip, Some, None}
-use Rattle.std.specs.List.{range_with_len}
+use Rattle.std.specs.List.{AllByRecursion, range_with_len}
 use Rattle.std.specs.Option.{option_map}
 use Rattle.std.proofs.lemmas.Bool.{cases_lt}
 use Rattle.std.proofs.lemmas.Grind.{div_ceil_times}
@@ -21,7 +21,6 @@ use Rattle.sf_gen.specs.Drawn.{sizes}
 use Rattle.sf_gen.specs.Texts.{is_soft}
 use Rattle.sf_gen.proofs.BlockLines.{IsSmall, area_low, area_high}
 use Rattle.sf_gen.proofs.EndsDrawn.{each_indexed, sizes_small}
-use Rattle.sf_gen.proofs.TextLines.{Each}
 
 -- ---- the least side of a square that holds the area
 
@@ -135,7 +134,7 @@ HasShape : ℕ → Bool → RawBlock → Type 0
 HasShape k fixed b = IsListOf k fixed b.kind [] → ⊥
 
 -- where no block may have an empty list, none of the blocks that have lists is without a shape
-all_shaped : (k : ℕ) (fixed : Bool) (bs : List RawBlock) (lists : List (List Shape)) → Each (HasShape k fixed) bs → AreFirstLists k fixed bs lists → first_shapeless bs lists ≡ None
+all_shaped : (k : ℕ) (fixed : Bool) (bs : List RawBlock) (lists : List (List Shape)) → AllByRecursion (HasShape k fixed) bs → AreFirstLists k fixed bs lists → first_shapeless bs lists ≡ None
 unfolding HasShape
 all_shaped k fixed [] lists h are = refl
 all_shaped k fixed (b ∷ bs) [] h are = refl

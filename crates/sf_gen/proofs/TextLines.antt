@@ -1,18 +1,14 @@
 -- The lines of a text that was written piece by piece.
 use Rattle.std.proofs.Common.{◌≡◌, ℕ, ◌+◌, true, List, [], ◌∷◌, ◌++◌, refl, sym, ap, ◌∙◌, append_assoc}
-use Rattle.std.specs.List.{AllZip, flat_map}
+use Rattle.std.specs.List.{AllByRecursion, AllZip, flat_map}
 use Rattle.std.proofs.lemmas.List.{append-nil}
 use Rattle.sf_lex.specs.Text.{lines, is_line_feed, has_none}
 use Rattle.sf_lex.specs.Scan.{Line, numbered}
 use Rattle.sf_lex.specs.Gap.{first_word}
 use Rattle.sf_lex.specs.declared.field.Gap.TheVariants.{Blanks}
 use Rattle.sf_lex.proofs.Spelled.{first_fails}
+use Rattle.sf_model.proofs.Each.{each-append}
 use Rattle.sf_gsrc.specs.Blocks.{content, content_of, is_content_word}
-
--- each element of the list has the property
-abbrev pub Each : {X : Type 0} → (X → Type 0) → List X → Type 0
-Each P [] = Unit {0}
-Each P (x ∷ xs) = P x × Each P xs
 
 -- a text has these lines, and the last of them is ended
 pub record IsLines (t : List ℕ) (ls : List (List ℕ)) : Type 0 where
@@ -53,7 +49,7 @@ whole t ls h = ap lines (sym (append-nil t)) ∙ h.before [] ∙ append-nil ls
 pub record Reads {S : Type 0} (Says : List ℕ → S → Type 0) (t : List ℕ) (said : List S) : Type 0 where
   pub bytes : List (List ℕ)
   pub are : IsLines t bytes
-  pub filled : Each (λ b. is_content_word (first_word Blanks b) ≡ true) bytes
+  pub filled : AllByRecursion (λ b. is_content_word (first_word Blanks b) ≡ true) bytes
   pub each : AllZip Says bytes said
 
 module _ {S : Type 0} (Says : List ℕ → S → Type 0) where
@@ -64,11 +60,6 @@ module _ {S : Type 0} (Says : List ℕ → S → Type 0) where
   -- a text of one line with content is read as what this says
   pub reads_line : (t b : List ℕ) (s : S) → IsLines t (b ∷ []) → is_content_word (first_word Blanks b) ≡ true → Says b s → Reads Says t (s ∷ [])
   reads_line t b s l f h = record { bytes = b ∷ []; are = l; filled = (f, tt); each = (h, tt) }
-
-  -- what holds of each line of two lists holds of each of both together
-  all_both : (P : List ℕ → Type 0) (xs ys : List (List ℕ)) → Each P xs → Each P ys → Each P (xs ++ ys)
-  all_both P [] ys h k = k
-  all_both P (x ∷ xs) ys h k = (h.0, all_both P xs ys h.1 k)
 
   -- lines that say their parts, and others that say theirs, say both together
   each_both : (xs ys : List (List ℕ)) (ss rs : List S) → AllZip Says xs ss → AllZip Says ys rs → AllZip Says (xs ++ ys) (ss ++ rs)
@@ -82,22 +73,22 @@ module _ {S : Type 0} (Says : List ℕ → S → Type 0) where
   reads_both t u ss rs h k = record {
     bytes = h.bytes ++ k.bytes;
     are = both t u h.bytes k.bytes h.are k.are;
-    filled = all_both (λ b. is_content_word (first_word Blanks b) ≡ true) h.bytes k.bytes h.filled k.filled;
+    filled = each-append (λ b. is_content_word (first_word Blanks b) ≡ true) h.bytes k.bytes h.filled k.filled;
     each = each_both h.bytes k.bytes ss rs h.each k.each;
   }
 
   -- where the text of each element is read as its part, all of them together are read as all parts
-  pub reads_each : {X : Type 0} (Fine : X → Type 0) (f : X → List ℕ) (g : X → List S) → ((x : X) → Fine x → Reads Says (f x) (g x)) → (xs : List X) → Each Fine xs → Reads Says (flat_map f xs) (flat_map g xs)
+  pub reads_each : {X : Type 0} (Fine : X → Type 0) (f : X → List ℕ) (g : X → List S) → ((x : X) → Fine x → Reads Says (f x) (g x)) → (xs : List X) → AllByRecursion Fine xs → Reads Says (flat_map f xs) (flat_map g xs)
   reads_each Fine f g h [] ok = reads_none
   reads_each Fine f g h (x ∷ xs) ok = reads_both (f x) (flat_map f xs) (g x) (flat_map g xs) (h x ok.0) (reads_each Fine f g h xs ok.1)
 
 -- lines with content are all the content
-pub all_content : (n : ℕ) (bs : List (List ℕ)) → Each (λ b. is_content_word (first_word Blanks b) ≡ true) bs → content (numbered n bs) ≡ numbered n bs
+pub all_content : (n : ℕ) (bs : List (List ℕ)) → AllByRecursion (λ b. is_content_word (first_word Blanks b) ≡ true) bs → content (numbered n bs) ≡ numbered n bs
 all_content n [] h = refl
 all_content n (b ∷ bs) h = rw h.0 (ap (λ (ls : List Line). record { number = n; bytes = b } ∷ ls) (all_content (n + 1) bs h.1))
 
 -- a text with content in all its lines
-pub content_is : (t title : List ℕ) (bs : List (List ℕ)) → IsLines t (title ∷ bs) → is_content_word (first_word Blanks title) ≡ true → Each (λ b. is_content_word (first_word Blanks b) ≡ true) bs
+pub content_is : (t title : List ℕ) (bs : List (List ℕ)) → IsLines t (title ∷ bs) → is_content_word (first_word Blanks title) ≡ true → AllByRecursion (λ b. is_content_word (first_word Blanks b) ≡ true) bs
     → content_of t ≡ record { number = 1; bytes = title } ∷ numbered 2 bs
 content_is t title bs are f h = ap (λ (ls : List (List ℕ)). content (numbered 1 ls)) (whole t (title ∷ bs) are) ∙ all_content 1 (title ∷ bs) (f, h)
 

@@ -1,23 +1,26 @@
 -- The words of a line that was written.
 use Rattle.std.proofs.Common.{◌≡◌, ℕ, ◌+◌, ◌<◌, ◌≤◌, ◌^◌, Bool, true, false, List, [], ◌∷◌, ◌++◌, length, take, drop, refl, ap, ◌∙◌, arith, mul-one}
-use Rattle.std.specs.Prelude.{◌*◌, ◌==◌, nat_lt, Ok, Some, pos}
+use Rattle.std.specs.Prelude.{◌*◌, ◌==◌, nat_lt, Ok, Some, pos, codes}
 use Rattle.std.specs.Int.{div_ceil}
 use Rattle.std.specs.Fmt.{decimal}
 use Rattle.std.specs.List.{list_all, prefix_len, position_or_len, before_first, after_first}
 use Rattle.std.proofs.lemmas.Bool.Decides.{nat_tests}
 use Rattle.std.proofs.lemmas.Fmt.{decimal_nonempty}
-use Rattle.std.proofs.lemmas.List.{append-nil, take_all, drop_all}
+use Rattle.std.proofs.lemmas.List.{append-nil, drop_all}
 use Rattle.std.proofs.Math.Numerals.{one-add}
+use Rattle.std.proofs.Math.Seq.{take-append_seam, drop-append_seam, take-length, drop-length}
 use Rattle.sf_lex.specs.Text.{words, is_line_feed, is_not_empty, has_none}
-use Rattle.sf_lex.specs.Gap.{is_gap, first_word, after_word}
+use Rattle.sf_lex.specs.Gap.{is_gap, without_gap, first_word, after_word}
 use Rattle.sf_lex.specs.Number.{is_digit, is_point, number_of, scaled, decimal_of, decimal_read, area_read, signed_read, with_value}
 use Rattle.sf_lex.specs.declared.field.Gap.{Gap}
 use Rattle.sf_lex.specs.declared.field.Gap.TheVariants.{Blanks, Colons, Points, Sizes}
 use Rattle.std.proofs.lemmas.Bool.{and_parts}
 use Rattle.sf_lex.proofs.Spelled.{words-last, first_fails}
 use Rattle.sf_lex.proofs.WrittenNumbers.{digits_written, number_written, decimal_written, no_point_in_digit, filled}
+use Rattle.sf_gsrc.specs.Blocks.{is_content_word}
 use Rattle.sf_gsrc.specs.Keywords.{is_colon}
 use Rattle.sf_gsrc.specs.Line.{count_said}
+use Rattle.sf_gen.proofs.TextLines.{Reads, none, ended, piece, reads_line}
 
 -- ---- digits are no blanks
 
@@ -67,6 +70,12 @@ number_said word n le =
     let h : n < 2 ^ 64 = omega arith in
     rw (decimal_alone n h Colons, decimal_written n 9_000_000_000_000_000 h le) refl
 
+-- a count word with its number is read as what they say
+pub count_read : {S : Type 0} (Says : List ℕ → S → Type 0) (d : ℕ) → d ≤ 9_000_000_000_000_000 → (word : List ℕ) (said : S) → has_none is_line_feed word ≡ true
+    → is_content_word (first_word Blanks (word ++ (decimal d ++ []))) ≡ true → Says (word ++ (decimal d ++ [])) said → Reads Says (word ++ (decimal d ++ codes "\n")) (said ∷ [])
+count_read Says d le word said clean filled says =
+    reads_line Says (word ++ (decimal d ++ codes "\n")) (word ++ (decimal d ++ [])) said (piece word clean (piece (decimal d) (decimal_no_feed d (omega arith)) (ended none))) filled says
+
 -- ---- the first word
 
 -- the first byte that passes stands right behind a word of bytes that do not
@@ -83,40 +92,37 @@ run_all p (x ∷ w) n =
     let f = first_fails p x w n in
     rw (f.0, run_all p w f.1) (one-add (length w))
 
--- the first bytes, as many as the first part has, are the first part
-take_front : (w rest : List ℕ) → take (length w) (w ++ rest) ≡ w
-take_front [] rest = refl
-take_front (x ∷ w) rest = ap (λ v. x ∷ v) (take_front w rest)
-
--- without the first bytes, as many as the first part has, the rest is left
-drop_front : (w rest : List ℕ) → drop (length w) (w ++ rest) ≡ rest
-drop_front [] rest = refl
-drop_front (x ∷ w) rest = drop_front w rest
-
 -- what stands before the first byte that passes is all, where none passes
 pub before_none : (p : ℕ → Bool) (w : List ℕ) → has_none p w ≡ true → before_first p w ≡ w
-before_none p w n = ap (λ k. take k w) (run_all p w n) ∙ take_all (length w) w (omega arith)
+before_none p w n = ap (λ k. take k w) (run_all p w n) ∙ take-length w
 
--- a text that begins with no gap loses nothing at its front
-no_gap_first : (p : ℕ → Bool) (c : ℕ) (rest : List ℕ) → p c ≡ false → drop (prefix_len p (c ∷ rest)) (c ∷ rest) ≡ c ∷ rest
-no_gap_first p c rest e = rw e refl
+-- a text that begins with a word loses nothing at its front
+no_gap_first : (p : ℕ → Bool) (ds rest : List ℕ) → 0 < length ds → has_none p ds ≡ true → drop (prefix_len p (ds ++ rest)) (ds ++ rest) ≡ ds ++ rest
+no_gap_first p [] rest some n = absurd (omega arith)
+no_gap_first p (c ∷ w) rest some n = rw (first_fails p c w n).0 refl
 
-module _ (gap : Gap) (c : ℕ) (w : List ℕ) (n : has_none (is_gap gap) (c ∷ w) ≡ true) where
+module _ (gap : Gap) (ds : List ℕ) (some : 0 < length ds) (n : has_none (is_gap gap) ds ≡ true) where
   -- the first word of a text that begins with a word ends at the next gap
-  pub first_written : (rest : List ℕ) (b : ℕ) → is_gap gap b ≡ true → first_word gap (c ∷ (w ++ b ∷ rest)) ≡ c ∷ w
+  pub first_written : (rest : List ℕ) (b : ℕ) → is_gap gap b ≡ true → first_word gap (ds ++ b ∷ rest) ≡ ds
   first_written rest b e =
-      let f = first_fails (is_gap gap) c w n in
-      ap (before_first (is_gap gap)) (no_gap_first (is_gap gap) c (w ++ b ∷ rest) f.0)
-      ∙ ap (λ k. take k (c ∷ (w ++ b ∷ rest))) (run_len (is_gap gap) (c ∷ w) rest b n e)
-      ∙ take_front (c ∷ w) (b ∷ rest)
+      ap (before_first (is_gap gap)) (no_gap_first (is_gap gap) ds (b ∷ rest) some n)
+      ∙ ap (λ k. take k (ds ++ b ∷ rest)) (run_len (is_gap gap) ds rest b n e) ∙ take-append_seam ds (b ∷ rest)
 
   -- behind that first word stands the gap and the rest
-  pub after_written : (rest : List ℕ) (b : ℕ) → is_gap gap b ≡ true → after_word gap (c ∷ (w ++ b ∷ rest)) ≡ b ∷ rest
+  pub after_written : (rest : List ℕ) (b : ℕ) → is_gap gap b ≡ true → after_word gap (ds ++ b ∷ rest) ≡ b ∷ rest
   after_written rest b e =
-      let f = first_fails (is_gap gap) c w n in
-      ap (λ l. drop (position_or_len (is_gap gap) l) l) (no_gap_first (is_gap gap) c (w ++ b ∷ rest) f.0)
-      ∙ ap (λ k. drop k (c ∷ (w ++ b ∷ rest))) (run_len (is_gap gap) (c ∷ w) rest b n e)
-      ∙ drop_front (c ∷ w) (b ∷ rest)
+      ap (λ l. drop (position_or_len (is_gap gap) l) l) (no_gap_first (is_gap gap) ds (b ∷ rest) some n)
+      ∙ ap (λ k. drop k (ds ++ b ∷ rest)) (run_len (is_gap gap) ds rest b n e) ∙ drop-append_seam ds (b ∷ rest)
+
+  -- a word that nothing follows is the first word
+  first_last : first_word gap (ds ++ []) ≡ ds
+  first_last = ap (before_first (is_gap gap)) (no_gap_first (is_gap gap) ds [] some n ∙ append-nil ds) ∙ before_none (is_gap gap) ds n
+
+  -- and nothing is left behind it
+  after_last : after_word gap (ds ++ []) ≡ []
+  after_last =
+      ap (λ l. drop (position_or_len (is_gap gap) l) l) (no_gap_first (is_gap gap) ds [] some n ∙ append-nil ds)
+      ∙ ap (λ k. drop k ds) (run_all (is_gap gap) ds n) ∙ drop-length ds
 
 -- ---- numbers in words
 
@@ -144,9 +150,9 @@ signed_written n limit h le =
 whole_number : (n : ℕ) → n < 2 ^ 64 → decimal_of (decimal n) ≡ Some (record { whole = decimal n; fraction = [] })
 whole_number n h =
     let ds = decimal n in
-    let run : position_or_len is_point ds ≡ length ds = run_all is_point ds (none_of is_point no_point_in_digit ds (digits_written n h)) in
-    let before : before_first is_point ds ≡ ds = ap (λ (k : ℕ). take k ds) run ∙ take_all (length ds) ds (omega arith) in
-    let after : after_first is_point ds ≡ [] = drop_all (position_or_len is_point ds + 1) ds (omega (arith, run)) in
+    let none = none_of is_point no_point_in_digit ds (digits_written n h) in
+    let before : before_first is_point ds ≡ ds = before_none is_point ds none in
+    let after : after_first is_point ds ≡ [] = drop_all (position_or_len is_point ds + 1) ds (omega (arith, run_all is_point ds none)) in
     rw (before, after, digits_written n h, filled ds (decimal_nonempty n h)) refl
 
 -- an area
@@ -160,59 +166,26 @@ area_written n limit h le =
 
 -- ---- a number behind a blank
 
--- a text behind a blank begins where the blank ends
-past_blank : (c : ℕ) (t : List ℕ) → is_gap Blanks c ≡ false → drop (prefix_len (is_gap Blanks) (32 ∷ c ∷ t)) (32 ∷ c ∷ t) ≡ c ∷ t
-past_blank c t e = rw e refl
-
--- the first word behind a blank is the run of bytes up to the next blank
-first_of_run : (ds rest : List ℕ) → 0 < length ds → has_none (is_gap Blanks) ds ≡ true → first_word Blanks (32 ∷ (ds ++ 32 ∷ rest)) ≡ ds
-first_of_run [] rest some n = absurd (omega arith)
-first_of_run (c ∷ w) rest some n =
-    let f = first_fails (is_gap Blanks) c w n in
-    ap (before_first (is_gap Blanks)) (past_blank c (w ++ 32 ∷ rest) f.0)
-    ∙ ap (λ k. take k (c ∷ (w ++ 32 ∷ rest))) (run_len (is_gap Blanks) (c ∷ w) rest 32 n refl)
-    ∙ take_front (c ∷ w) (32 ∷ rest)
-
--- behind that first word stands the next blank and the rest
-after_run : (ds rest : List ℕ) → 0 < length ds → has_none (is_gap Blanks) ds ≡ true → after_word Blanks (32 ∷ (ds ++ 32 ∷ rest)) ≡ 32 ∷ rest
-after_run [] rest some n = absurd (omega arith)
-after_run (c ∷ w) rest some n =
-    let f = first_fails (is_gap Blanks) c w n in
-    ap (λ l. drop (position_or_len (is_gap Blanks) l) l) (past_blank c (w ++ 32 ∷ rest) f.0)
-    ∙ ap (λ k. drop k (c ∷ (w ++ 32 ∷ rest))) (run_len (is_gap Blanks) (c ∷ w) rest 32 n refl)
-    ∙ drop_front (c ∷ w) (32 ∷ rest)
-
--- the first word behind a blank is all that follows, where no blank does
-first_of_last : (ds : List ℕ) → 0 < length ds → has_none (is_gap Blanks) ds ≡ true → first_word Blanks (32 ∷ ds) ≡ ds
-first_of_last [] some n = absurd (omega arith)
-first_of_last (c ∷ w) some n =
-    let f = first_fails (is_gap Blanks) c w n in
-    ap (before_first (is_gap Blanks)) (past_blank c w f.0) ∙ before_none (is_gap Blanks) (c ∷ w) n
-
--- behind the last word nothing is left
-after_last : (ds : List ℕ) → 0 < length ds → has_none (is_gap Blanks) ds ≡ true → after_word Blanks (32 ∷ ds) ≡ []
-after_last [] some n = absurd (omega arith)
-after_last (c ∷ w) some n =
-    let f = first_fails (is_gap Blanks) c w n in
-    ap (λ l. drop (position_or_len (is_gap Blanks) l) l) (past_blank c w f.0)
-    ∙ ap (λ k. drop k (c ∷ w)) (run_all (is_gap Blanks) (c ∷ w) n) ∙ drop_all (length (c ∷ w)) (c ∷ w) (omega arith)
+-- a blank at the front is passed over
+past_blank : (t : List ℕ) → without_gap Blanks (32 ∷ t) ≡ without_gap Blanks t
+past_blank t = ap (λ k. drop k (32 ∷ t)) (one-add (prefix_len (is_gap Blanks) t))
 
 module _ (n : ℕ) (h : n < 2 ^ 64) where
   -- the first word behind a blank is the number that was written there, up to the next blank
   pub number_first : (rest : List ℕ) → first_word Blanks (32 ∷ (decimal n ++ 32 ∷ rest)) ≡ decimal n
-  number_first rest = first_of_run (decimal n) rest (decimal_nonempty n h) (decimal_no_gap n h Blanks)
+  number_first rest = ap (before_first (is_gap Blanks)) (past_blank (decimal n ++ 32 ∷ rest)) ∙ first_written Blanks (decimal n) (decimal_nonempty n h) (decimal_no_gap n h Blanks) rest 32 refl
 
   -- behind that number stands the next blank and the rest
   pub number_after : (rest : List ℕ) → after_word Blanks (32 ∷ (decimal n ++ 32 ∷ rest)) ≡ 32 ∷ rest
-  number_after rest = after_run (decimal n) rest (decimal_nonempty n h) (decimal_no_gap n h Blanks)
+  number_after rest = ap (λ l. drop (position_or_len (is_gap Blanks) l) l) (past_blank (decimal n ++ 32 ∷ rest)) ∙ after_written Blanks (decimal n) (decimal_nonempty n h) (decimal_no_gap n h Blanks) rest 32 refl
 
   -- the first word behind a blank is the number that was written there, where nothing follows
   pub number_last : first_word Blanks (32 ∷ (decimal n ++ [])) ≡ decimal n
-  number_last = ap (λ l. first_word Blanks (32 ∷ l)) (append-nil (decimal n)) ∙ first_of_last (decimal n) (decimal_nonempty n h) (decimal_no_gap n h Blanks)
+  number_last = ap (before_first (is_gap Blanks)) (past_blank (decimal n ++ [])) ∙ first_last Blanks (decimal n) (decimal_nonempty n h) (decimal_no_gap n h Blanks)
 
   -- behind the last number nothing is left
   pub number_ends : after_word Blanks (32 ∷ (decimal n ++ [])) ≡ []
-  number_ends = ap (λ l. after_word Blanks (32 ∷ l)) (append-nil (decimal n)) ∙ after_last (decimal n) (decimal_nonempty n h) (decimal_no_gap n h Blanks)
+  number_ends = ap (λ l. drop (position_or_len (is_gap Blanks) l) l) (past_blank (decimal n ++ [])) ∙ after_last Blanks (decimal n) (decimal_nonempty n h) (decimal_no_gap n h Blanks)
 
   -- a number that was written is not empty
   pub number_filled : is_not_empty (decimal n) ≡ true
