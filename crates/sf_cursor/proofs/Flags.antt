@@ -1,13 +1,12 @@
 -- Which blocks are there, one step on and one step back.
-use Rattle.std.proofs.Common.{◌≡◌, ℕ, ◌+◌, ◌*◌, ◌<◌, ◌≤◌, List, [], ◌∷◌, ◌++◌, length, get_or, set, length-set, length-append, arith, refl, ap, sym, subst, ◌∙◌, Bool, true, false, not, cond, inl, inr, ◌==◌}
-use Rattle.std.specs.Prelude.{count_by, nat_le, ◌&&◌}
-use Rattle.std.proofs.lemmas.Bool.{cases_eq}
+use Rattle.std.proofs.Common.{◌≡◌, ℕ, ◌+◌, ◌*◌, ◌<◌, ◌≤◌, List, [], ◌∷◌, ◌++◌, length, get_or, set, length-set, length-append, arith, refl, ap, sym, ◌∙◌, Bool, true, false, not}
+use Rattle.std.specs.Prelude.{nat_le}
 use Rattle.std.proofs.lemmas.Bool.Decides.{nat_tests}
 use Rattle.std.proofs.lemmas.List.{get_or-set_same, get_or-set_other, get_or_default}
 use Rattle.sf_model.specs.declared.design.Design.{Design}
 use Rattle.sf_polish.specs.declared.expr.Token.{Token}
 use Rattle.sf_polish.specs.declared.expr.Token.TheVariants as token
-use Rattle.sf_polish.specs.Normal.{is_operand, is_block, operands, operators, ends_in}
+use Rattle.sf_polish.specs.Normal.{is_operand, is_block, operands, ends_in}
 use Rattle.sf_polish.proofs.Normality.{both-kinds}
 use Rattle.sf_node.specs.declared.step.Step.{Step}
 use Rattle.sf_node.specs.declared.step.Step.TheVariants.{Beside, Above, Block, Left, Right}
@@ -20,25 +19,7 @@ use Rattle.sf_cursor.specs.Path.{AreUsed, flags_after, step_blocks, NamesOne}
 
 -- another token leaves a block as it was, used or not
 unused-more : (b : ℕ) (ts : List Token) (t : Token) → is_block b t ≡ false → is_unused b (ts ++ t ∷ []) ≡ is_unused b ts
-unused-more b ts t e =
-    let k : ◌≡◌ {A = ℕ} (cond (is_block b t) 1 0) 0 = ap (λ (x : Bool). cond {A = ℕ} x 1 0) e in
-    let same : count_by (is_block b) (ts ++ t ∷ []) ≡ count_by (is_block b) ts = omega (arith, count-more (is_block b) ts t, k) in
-    ap (λ n. n == 0) same
-
--- a block that comes is no longer unused
-unused-named : (b : ℕ) (ts : List Token) → is_unused b (ts ++ token.Block b ∷ []) ≡ false
-unused-named b ts =
-    let self : (b == b) ≡ true = grind (arith, nat_tests) in
-    let k : ◌≡◌ {A = ℕ} (cond (is_block b (token.Block b)) 1 0) 1 = ap (λ (x : Bool). cond {A = ℕ} x 1 0) self in
-    let some : 0 < count_by (is_block b) (ts ++ token.Block b ∷ []) = omega (arith, count-more (is_block b) ts (token.Block b), k) in
-    not-zero (count_by (is_block b) (ts ++ token.Block b ∷ [])) some
-  where
-    not-zero : (n : ℕ) → 0 < n → (n == 0) ≡ false
-    not-zero n h = grind (arith, nat_tests)
-
--- different blocks are found not to be the same
-not-same : (b c : ℕ) → (b ≡ c → ⊥) → (c == b) ≡ false
-not-same b c n = grind (arith, nat_tests)
+unused-more b ts t e = let more = count-more (is_block b) ts t in grind (arith, nat_tests)
 
 -- other flags stay
 module _ (node : Parts) (used : List Bool) (c : ℕ) where
@@ -46,24 +27,14 @@ module _ (node : Parts) (used : List Bool) (c : ℕ) where
   pub flags-on : AreUsed node used → c < length used → AreUsed (after node (Block c)) (set used c true)
   flags-on u h = record {
     each = length-set used c true ∙ u.each;
-    flags = λ b k. elim (cases_eq b c) [
-      | inl e ↦ subst (λ i. get_or (set used c true) i true ≡ not (is_unused i (node.tokens ++ token.Block c ∷ []))) (sym e)
-          (get_or-set_same used c true true h ∙ sym (ap not (unused-named c node.tokens)))
-      | inr n ↦ get_or-set_other used c b true true n ∙ u.flags b (omega (arith, k, length-set used c true))
-          ∙ sym (ap not (unused-more b node.tokens (token.Block c) (not-same b c n)))
-    ];
+    flags = λ b k. grind (arith, nat_tests, length-set used c true, u.flags b, get_or-set_same used c true true h, get_or-set_other used c b true true, count-more (is_block b) node.tokens (token.Block c));
   }
 
   -- the flags before a step that names a block: its flag is taken away
   pub flags-off : AreUsed (after node (Block c)) used → c < length used → is_unused c node.tokens ≡ true → AreUsed node (set used c false)
   flags-off u h free = record {
     each = length-set used c false ∙ u.each;
-    flags = λ b k. elim (cases_eq b c) [
-      | inl e ↦ subst (λ i. get_or (set used c false) i true ≡ not (is_unused i node.tokens)) (sym e)
-          (get_or-set_same used c false true h ∙ sym (ap not free))
-      | inr n ↦ get_or-set_other used c b false true n ∙ u.flags b (omega (arith, k, length-set used c false))
-          ∙ ap not (unused-more b node.tokens (token.Block c) (not-same b c n))
-    ];
+    flags = λ b k. grind (arith, nat_tests, length-set used c false, u.flags b, get_or-set_same used c false true h, get_or-set_other used c b false true, count-more (is_block b) node.tokens (token.Block c));
   }
 
 -- subproblems with the same blocks have the same flags
@@ -88,27 +59,15 @@ used-back node (Right b) used can u = same-flags (after node (Right b)) node use
 
 -- a block that a step names has a flag
 pub names-one : (node : Parts) (s : Step) (used : List Bool) → CanStep node s → length used ≡ length node.spans → NamesOne s used
-names-one node Beside used can e = tt
-names-one node Above used can e = tt
-names-one node (Block b) used can e = omega (arith, can.0, e)
-names-one node (Left b) used can e = tt
-names-one node (Right b) used can e = tt
+names-one node s used can e = grind (arith, can)
 
 -- a step adds as many operands as it names blocks
 pub operands-after : (node : Parts) (s : Step) → operands (after node s).tokens ≡ operands node.tokens + step_blocks s
-operands-after node Beside = count-more is_operand node.tokens token.Beside
-operands-after node Above = count-more is_operand node.tokens token.Above
-operands-after node (Block b) = count-more is_operand node.tokens (token.Block b)
-operands-after node (Left b) = omega arith
-operands-after node (Right b) = omega arith
+operands-after node s = grind (arith, λ (t : Token). count-more is_operand node.tokens t)
 
 -- a step adds one token at most
 tokens-after : (node : Parts) (s : Step) → length (after node s).tokens ≤ length node.tokens + 1
-tokens-after node Beside = omega (arith, length-append node.tokens (token.Beside ∷ []))
-tokens-after node Above = omega (arith, length-append node.tokens (token.Above ∷ []))
-tokens-after node (Block b) = omega (arith, length-append node.tokens (token.Block b ∷ []))
-tokens-after node (Left b) = omega arith
-tokens-after node (Right b) = omega arith
+tokens-after node s = grind (arith, λ (t : Token). length-append node.tokens (t ∷ []))
 
 -- a walk adds no more tokens than steps
 tokens-walk : (ss : List Step) (node : Parts) → length (walk node ss).tokens ≤ length node.tokens + length ss
@@ -123,29 +82,17 @@ few-tokens design node sub = omega (arith, ap (λ n. length n.tokens) sub.is, to
 pub few-operands : (design : Design) (node : Parts) → IsSubproblem design node → operands node.tokens < 3200
 few-operands design node sub = omega (arith, few-tokens design node sub, both-kinds node.tokens)
 
--- the test by the counts
-pub joins-by : (t : Token) (ts : List Token) (n k : ℕ) → n ≡ length ts → k ≡ operands ts → (nat_le (n + 2) (2 * k) && not (ends_in t ts)) ≡ may_join t ts
-joins-by t ts n k e f = ap (λ b. b && not (ends_in t ts)) (same-test n k (operands ts) (operators ts) (omega (arith, e, both-kinds ts)) f)
-  where
-    same-test : (n k x y : ℕ) → n ≡ x + y → k ≡ x → nat_le (n + 2) (2 * k) ≡ nat_le (y + 2) x
-    same-test n k x y e f = grind (arith, nat_tests)
-
 -- where the counts leave room, the last token decides whether an operator may come
 pub joins-yes : (t : Token) (ts : List Token) (n k : ℕ) → n ≡ length ts → k ≡ operands ts → n + 2 ≤ 2 * k → not (ends_in t ts) ≡ may_join t ts
-joins-yes t ts n k e f h =
-    let yes : nat_le (n + 2) (2 * k) ≡ true = grind (arith, nat_tests) in
-    sym (ap (λ b. b && not (ends_in t ts)) yes) ∙ joins-by t ts n k e f
+joins-yes t ts n k e f h = grind (arith, nat_tests, both-kinds ts)
 
 -- where the counts leave no room, no operator may come
 pub joins-no : (t : Token) (ts : List Token) (n k : ℕ) → n ≡ length ts → k ≡ operands ts → 2 * k < n + 2 → nat_le (n + 2) (2 * k) ≡ may_join t ts
-joins-no t ts n k e f h =
-    let no : nat_le (n + 2) (2 * k) ≡ false = grind (arith, nat_tests) in
-    no ∙ sym (ap (λ b. b && not (ends_in t ts)) no) ∙ joins-by t ts n k e f
+joins-no t ts n k e f h = grind (arith, nat_tests, both-kinds ts)
 
 -- what is not the other way round is so both ways
 not-back : (x r : Bool) → r ≡ not x → x ≡ not r
-not-back true r e = sym (ap not e)
-not-back false r e = sym (ap not e)
+not-back x r e = grind arith
 
 -- the flag of a block tells whether it is there
 pub flag-of : (node : Parts) (used flags : List Bool) (b : ℕ) (r x : Bool) → AreUsed node used → flags ≡ used → b < length used → r ≡ get_or flags b r → r ≡ x → is_unused b node.tokens ≡ not x
@@ -154,8 +101,4 @@ flag-of node used flags b r x u same h e is =
 
 -- a step names one block at most
 pub named-most : (s : Step) → step_blocks s ≤ 1
-named-most Beside = omega arith
-named-most Above = omega arith
-named-most (Block b) = omega arith
-named-most (Left b) = omega arith
-named-most (Right b) = omega arith
+named-most s = grind arith

@@ -8,7 +8,7 @@ use Rattle.std.proofs.lemmas.Option.{IfSome_then}
 use Rattle.sf_model.specs.declared.design.Design.{Design}
 use Rattle.sf_polish.specs.Normal.{operands}
 use Rattle.sf_node.specs.declared.step.Step.{Step}
-use Rattle.sf_node.specs.declared.step.Step.TheVariants.{Beside, Above, Block, Left, Right}
+use Rattle.sf_node.specs.declared.step.Step.TheVariants.{Left}
 use Rattle.sf_node.specs.Parts.{Parts}
 use Rattle.sf_node.specs.Subproblem.{root}
 use Rattle.sf_node.specs.Children.{after, walk, extended, split, CanStep, IsSubproblem}
@@ -170,11 +170,7 @@ last-as xs ys x same e = subst (λ zs. zs ≡ take (length zs - 1) zs ++ x ∷ [
 
 -- a step that halves a span halves one of a block that is there
 halves-after : (before : Parts) (s : Step) → CanStep before s → HalvesOne (after before s) s
-halves-after before Beside can = tt
-halves-after before Above can = tt
-halves-after before (Block b) can = tt
-halves-after before (Left b) can = subst (λ n. b < n) (sym (spans-after before (Left b))) can.0
-halves-after before (Right b) can = subst (λ n. b < n) (sym (spans-after before (Right b))) can.0
+halves-after before s can = grind (arith, can, spans-after before s)
 
 -- the last step of a way halves a span of a block that is there, if it halves one
 pub halves-one : (design : Design) (bound : Parts → ℕ) (path : Path) (front : List Step) (s : Step) → IsPath design bound path → path.node.steps ≡ front ++ s ∷ [] → HalvesOne path.node s
