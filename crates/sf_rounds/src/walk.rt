@@ -150,24 +150,6 @@ impl Walk {
         }
     }
 
-    /// The value of the subproblem that is next, without its parts.
-    fn bound<'a, B: Bounds>(
-        &self,
-        design: &'a Design,
-        bounds: &B,
-        room: &mut Room<'a>,
-    ) -> Result<u64, NoMemory>
-        requires at { IsPath design.now (B.Values.value bounds.now design.now) self.now.path }
-        requires serves { MayServe room.old design.now }
-        ensures value { IfOk result (λ v. v ≡ B.Values.value bounds.now design.now self.now.path.node) }
-        ensures serves { MayServe room.new design.now }
-    {
-        match self.cursor.parent_value(design, bounds) {
-            None => bounds.bound(design, self.cursor.node(), room),
-            Some(value) => bounds.child_bound(design, self.cursor.node(), value, room),
-        }
-    }
-
     /// The tag of a visit. A closed subproblem names the first part that is at least the cost after it, and
     /// where that is not the area the values of the parts are kept, since the cost may fall.
     fn tag<'a, B: Bounds>(
@@ -252,7 +234,10 @@ impl Walk {
     {
         let mut low = self.word;
         while self.more {
-            let value = self.bound(design, bounds, room)?;
+            let value = match self.cursor.parent_value(design, bounds) {
+                None => bounds.bound(design, self.cursor.node(), room)?,
+                Some(value) => bounds.child_bound(design, self.cursor.node(), value, room)?,
+            };
             low = low.min(value);
             self.follow(design, bounds, Tag::Open, value)?;
         }
