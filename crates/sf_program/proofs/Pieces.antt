@@ -88,8 +88,3 @@ pub obeyed : (command : Command) (held : Option Contents) (r : Result Work Stop)
     → IfErr r (λ stop. Stops stop (CommandRefuses command held)) → Obeys command held r
 obeyed command held (Ok w) answered stopped = answered
 obeyed command held (Err stop) answered stopped = stopped
-
--- what is so of each value that is given is so of what was given
-pub given : {X E : Type 0} (P Q : X → Type 0) (r : Result X E) → ((x : X) → P x → Q x) → IfOk r P → IfOk r Q
-given P Q (Ok x) more h = more x h
-given P Q (Err e) more h = h

@@ -158,11 +158,6 @@ after_one : (known : List Spot) (spot : Spot) (others : Result (List Spot) Refus
 after_one known spot (Ok ss) = ap (λ (v : List Spot). Ok v) (sym (append_assoc known (spot ∷ []) ss))
 after_one known spot (Err why) = refl
 
--- at first no spot is known
-pub after_none : (others : Result (List Spot) Refusal) → others ≡ after [] others
-after_none (Ok ss) = refl
-after_none (Err why) = refl
-
 -- the spot of the next block
 pub one_spot_more : (blocks : List Block) (lines : List Place) (i : ℕ) (block : Block) (known new : List Spot) (spot : Spot) (r : Result (List Spot) Refusal) → i < length blocks → block ≡ get_or blocks i block
     → Ok spot ≡ spot_said i block.name (lines_named block.name lines) → new ≡ known ++ spot ∷ []
@@ -172,16 +167,6 @@ one_spot_more blocks lines i block known new spot r lt is said more before =
     ap (λ (bs : List Block). spots_said i bs lines) (cut blocks i block lt is)
     ∙ ap (λ (s : Result Spot Refusal). s >>= λ (one : Spot). (spots_said (i + 1) (drop (i + 1) blocks) lines >>= λ (ss : List Spot). Ok (one ∷ ss))) (sym said) in
     before ∙ ap (after known) here ∙ after_one known spot (spots_said (i + 1) (drop (i + 1) blocks) lines) ∙ ap (λ (ss : List Spot). after ss (spots_said (i + 1) (drop (i + 1) blocks) lines)) (sym more)
-
--- the block that has no spot ends it
-pub no_spot : (blocks : List Block) (lines : List Place) (i : ℕ) (block : Block) (known : List Spot) (why : Refusal) (r : Result (List Spot) Refusal) → i < length blocks → block ≡ get_or blocks i block
-    → Err why ≡ spot_said i block.name (lines_named block.name lines)
-    → r ≡ after known (spots_said i (drop i blocks) lines) → Err why ≡ r
-no_spot blocks lines i block known why r lt is said before =
-    let here : spots_said i (drop i blocks) lines ≡ Err why =
-    ap (λ (bs : List Block). spots_said i bs lines) (cut blocks i block lt is)
-    ∙ ap (λ (s : Result Spot Refusal). s >>= λ (one : Spot). (spots_said (i + 1) (drop (i + 1) blocks) lines >>= λ (ss : List Spot). Ok (one ∷ ss))) (sym said) in
-    sym (before ∙ ap (after known) here)
 
 -- numbers that are left as they are
 map_same : (ns : List ℕ) → map (λ n. n) ns ≡ ns
