@@ -1,7 +1,6 @@
 -- Children by extending: each is one token more.
 use Rattle.std.proofs.Common.{◌≡◌, ℕ, List, [], ◌∷◌, ◌++◌, length, ap, sym, subst, ◌∙◌, false, ◌-◌, refl, arith, length-append}
-use Rattle.std.specs.Prelude.{slice_get, Contains, Option, Some, None, IfSome}
-use Rattle.std.specs.Option.{option_to_list}
+use Rattle.std.specs.Prelude.{slice_get, Contains, Some}
 use Rattle.std.proofs.lemmas.List.Elements.{Contains-append_right}
 use Rattle.sf_model.specs.declared.design.Design.{Design}
 use Rattle.sf_node.specs.declared.step.Step.{Step}
@@ -10,15 +9,11 @@ use Rattle.sf_node.specs.Later.{IsChildOf}
 use Rattle.sf_node.specs.Parts.{Parts}
 use Rattle.sf_node.specs.Subproblem.{is_complete}
 use Rattle.sf_node.specs.Children.{IsSubproblem, CanStep, after, step_of, next_tokens, extended}
-use Rattle.sf_node.proofs.Reached.{next-can, extended-subproblems, after-subproblem, steps-after}
+use Rattle.sf_node.proofs.Reached.{next-can, after-subproblem, steps-after}
 use Rattle.sf_curves.proofs.Members.{Contains-head}
 use Rattle.sf_standard.specs.Standard.{standard}
 use Rattle.sf_standard.proofs.Listed.{Contains-from_map, each-contains}
 use Rattle.sf_standard.proofs.Unmoved.{block_keeps}
-
--- each child is a subproblem
-pub child_sub : (design : Design) (parent child : Parts) → IsSubproblem design parent → Contains (extended parent) child → IsSubproblem design child
-child_sub design parent child sub c = each-contains (IsSubproblem design) (extended parent) child (extended-subproblems design parent sub) c
 
 -- a child by extending, between others, with its parent's value
 pub child_born : (design : Design) (bound : Parts → ℕ) (value : ℕ) (parent : Parts) (before : List Parts) (child : Parts) (behind : List Parts) → IsSubproblem design parent → value ≡ bound parent → before ++ child ∷ behind ≡ extended parent → IsChildOf design bound value child

@@ -1,26 +1,16 @@
 -- What the area and the wires of a subproblem cost, by each part of the bound.
-use Rattle.std.proofs.Common.{◌≡◌, ℕ, ◌+◌, ◌*◌, ◌^◌, ◌<◌, ◌≤◌, arith, ap, sym, ◌∙◌, true}
-use Rattle.std.proofs.Math.Nat.{mul-le-mul}
-use Rattle.std.proofs.lemmas.Bool.{cond-true, cond-false, lt-ltb, le-ltb}
-use Rattle.std.specs.Prelude.{nat_lt, if◌then◌else◌}
-use Rattle.std.specs.List.{list_any}
+use Rattle.std.proofs.Common.{◌≡◌, ℕ, ◌+◌, ◌*◌, arith, ap}
 use Rattle.sf_model.specs.declared.design.Design.{Design}
-use Rattle.sf_model.specs.declared.TheConstants.{MAX}
 use Rattle.sf_node.specs.declared.part.Part.{Part}
 use Rattle.sf_node.specs.declared.part.Part.TheVariants.{Area, Range, Pair, Hull, Full}
 use Rattle.sf_node.specs.ByPart.{AreValues}
 use Rattle.sf_node.specs.Parts.{Parts}
-use Rattle.sf_standard.specs.Standard.{has_none, needed_area, wires_by, wire_part, plans_of, bounded, open_value, standard, part_value}
+use Rattle.sf_standard.specs.Standard.{wires_by, wire_part, open_value, standard, part_value}
 use Rattle.sf_standard.proofs.ByPart.{areas-free}
-use Rattle.sf_frames.specs.Groups.{IsNeeded}
 use Rattle.sf_bounds.specs.declared.wire_parts.WireParts.{WireParts}
 use Rattle.sf_bounds.specs.Open.{IsAreaCost, AreWireCosts}
 
 module _ (design : Design) (node : Parts) where
-  -- the area of the outline
-  abbrev room : ℕ
-  room = design.outline.w * design.outline.h
-
   -- the cost of the area is the value of the part of that name
   pub area-is : (v : ℕ) → IsAreaCost design node v → v ≡ part_value design node Area
   area-is v cost =
@@ -46,12 +36,3 @@ module _ (design : Design) (node : Parts) where
   -- all of them together
   pub full-is : (v : ℕ) (w : WireParts) → IsAreaCost design node v → AreWireCosts design node w → v + w.full ≡ open_value design node
   full-is v w cost wires = omega (arith, cost.value (wire_part design node), wires.values.full)
-
-  -- so are the four below the whole bound
-  pub no-parts : ((wires : ℕ) → bounded design wires (plans_of design node) ≡ MAX) → AreValues (part_value design node) (record { area = MAX; range = MAX; pair = MAX; hull = MAX })
-  no-parts none = record {
-    area = sym (none (wires_by design node Area));
-    range = sym (none (wires_by design node Range));
-    pair = sym (none (wires_by design node Pair));
-    hull = sym (none (wires_by design node Hull));
-  }

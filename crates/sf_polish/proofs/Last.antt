@@ -1,5 +1,5 @@
 -- The last token by its place.
-use Rattle.std.proofs.Common.{◌≡◌, ℕ, ◌-◌, ◌<◌, List, [], ◌∷◌, ◌++◌, length, get_or, arith, refl, ap, ◌∙◌}
+use Rattle.std.proofs.Common.{◌≡◌, ℕ, ◌-◌, ◌<◌, List, [], ◌∷◌, length, get_or, arith, refl, ap, ◌∙◌}
 use Rattle.sf_polish.specs.declared.expr.Token.{Token}
 use Rattle.sf_polish.specs.Normal.{last_or}
 
@@ -14,8 +14,3 @@ last_or_place p d [] n h e = absurd (omega arith)
 last_or_place p d (x ∷ xs) n h e =
     let i : length xs ≡ n = omega arith in
     last_or-some p x d xs ∙ ap (λ k. get_or (x ∷ xs) k d) i
-
--- a token behind others is the last
-pub last_or-push : (p t : Token) (xs : List Token) → last_or p (xs ++ t ∷ []) ≡ t
-last_or-push p t [] = refl
-last_or-push p t (x ∷ xs) = last_or-push x t xs
