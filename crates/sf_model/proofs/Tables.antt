@@ -1,15 +1,13 @@
 -- Tables of names, as names come to stand before those that are there.
-use Rattle.std.proofs.Common.{◌≡◌, IfSome, ℕ, ◌+◌, ◌-◌, ◌<◌, ◌≤◌, map, length, drop, get_or, subst, Bool, true, false, ◌&&◌, ◌||◌, cond, nat_eq, List, [], ◌∷◌, Option, Some, None, is_some, refl, ap, sym, ◌∙◌, arith}
+use Rattle.std.proofs.Common.{◌≡◌, IfSome, ℕ, ◌+◌, ◌<◌, map, length, Bool, true, false, ◌&&◌, ◌||◌, cond, nat_eq, List, [], ◌∷◌, Option, Some, None, is_some, refl, ap, sym, ◌∙◌, arith}
 use Rattle.std.specs.List.{list_any, position_from}
 use Rattle.std.specs.Map.{update}
 use Rattle.std.specs.Str.{bytes_eq}
 use Rattle.std.proofs.lemmas.Bool.Decides.{nat_tests}
-use Rattle.std.proofs.Math.Seq.{drop-length}
 use Rattle.std.proofs.lemmas.List.{length-map}
 use Rattle.sf_model.specs.declared.table.NameTable.{NameTable}
 use Rattle.sf_model.specs.Admitted.{first, repeated_names}
 use Rattle.sf_model.specs.Table.{place_in, IsTableOf}
-use Rattle.sf_model.proofs.Walks.{drop_step}
 
 -- whether numbers are equal doesn't depend on which comes first
 nat_eq_sym : (x y : ℕ) → nat_eq x y ≡ nat_eq y x
@@ -38,21 +36,6 @@ repeats_again name names h = rw h refl
 -- a name that doesn't stand again leaves the first that does
 pub repeats_once : (name : List ℕ) (names : List (List ℕ)) → list_any (bytes_eq name) names ≡ false → first (repeated_names (name ∷ names)) ≡ first (repeated_names names)
 repeats_once name names h = rw h refl
-
--- a table of the names of a list grows by the item before those that are left
-pub table_step : {X : Type 0} (name : X → List ℕ) (xs : List X) (left : ℕ) (d : X) (t u : NameTable) → 0 < left → left ≤ length xs → IsTableOf t left (map name (drop left xs)) → ((names : List (List ℕ)) → IsTableOf t (left - 1 + 1) names → IsTableOf u (left - 1) (name (get_or xs (left - 1) d) ∷ names)) → IsTableOf u (left - 1) (map name (drop (left - 1) xs))
-table_step {X} name xs left d t u some within was put =
-    let e : left - 1 + 1 ≡ left = omega arith in
-    let item : drop (left - 1) xs ≡ get_or xs (left - 1) d ∷ drop left xs = drop_step xs (left - 1) d (omega arith) ∙ ap (λ k. get_or xs (left - 1) d ∷ drop k xs) e in
-    let P : List X → Type 0 = λ ys. IsTableOf u (left - 1) (map name ys) in
-    let Q : ℕ → Type 0 = λ k. IsTableOf t k (map name (drop left xs)) in
-    subst P (sym item) (put (map name (drop left xs)) (subst Q (sym e) was))
-
--- the table of no names is that of none that are left
-pub table_start : {X : Type 0} (name : X → List ℕ) (xs : List X) (t : NameTable) → ((i : ℕ) → IsTableOf t i []) → IsTableOf t (length xs) (map name (drop (length xs) xs))
-table_start {X} name xs t empty =
-    let P : List X → Type 0 = λ ys. IsTableOf t (length xs) (map name ys) in
-    subst P (sym (drop-length xs)) (empty (length xs))
 
 -- what a table finds tells which names are there
 pub table_has : (t : NameTable) (names : List (List ℕ)) → IsTableOf t 0 names → (n : List ℕ) → is_some (place_in t n) ≡ list_any (bytes_eq n) names

@@ -1,6 +1,6 @@
 //! The names of blocks and of pads, found by an ordered map.
 
-ghost use Rattle.std.specs.Prelude.{◌≡◌, ◌+◌, List, ℕ, [], ◌∷◌, IfOk, OnOk, is_some};
+ghost use Rattle.std.specs.Prelude.{◌≡◌, ◌+◌, List, ℕ, [], ◌∷◌, map, IfOk, OnOk, is_some};
 ghost use Rattle.sf_model.specs.Admitted.{block_names, pad_names};
 ghost use Rattle.sf_model.specs.Table.{place_in, IsTableOf};
 
@@ -39,30 +39,38 @@ impl<'a> NameTable<'a> {
         Ok(())
     }
 
+    /// The table of the names of the items of a list.
+    fn of_items<X, F: Fn(&'a X) -> &'a Name>(
+        alloc: Global,
+        items: &'a [X],
+        name: F,
+    ) -> Result<NameTable<'a>, AllocError>
+        requires { F.IsAlwaysCallable name }
+        ensures { IfOk result (λ table. (text : X → List ℕ)
+            → ((x : _) (n : _) → F.post name x n → n.now ≡ text x.now)
+            → IsTableOf table 0 (map text items.now)) }
+    {
+        let mut table = NameTable::new(alloc);
+        let mut left = items.len();
+        while left > 0 {
+            left -= 1;
+            table.put(name(&items[left]), left)?;
+        }
+        Ok(table)
+    }
+
     /// The table of the names of blocks.
     pub fn of_blocks(alloc: Global, blocks: &'a [RawBlock]) -> Result<NameTable<'a>, AllocError>
         ensures { IfOk result (λ table. IsTableOf table 0 (block_names blocks.now)) }
     {
-        let mut table = NameTable::new(alloc);
-        let mut left = blocks.len();
-        while left > 0 {
-            left -= 1;
-            table.put(&blocks[left].name, left)?;
-        }
-        Ok(table)
+        NameTable::of_items(alloc, blocks, |block| &block.name)
     }
 
     /// The table of the names of pads.
     pub fn of_pads(alloc: Global, pads: &'a [RawPad]) -> Result<NameTable<'a>, AllocError>
         ensures { IfOk result (λ table. IsTableOf table 0 (pad_names pads.now)) }
     {
-        let mut table = NameTable::new(alloc);
-        let mut left = pads.len();
-        while left > 0 {
-            left -= 1;
-            table.put(&pads[left].name, left)?;
-        }
-        Ok(table)
+        NameTable::of_items(alloc, pads, |pad| &pad.name)
     }
 
     /// The first index of a name, if it is there.
