@@ -19,18 +19,18 @@ use Rattle.sf_frames.specs.declared.sums.Sums.{Sums}
 use Rattle.sf_frames.specs.Curves.{IsItemCurve}
 use Rattle.sf_curves.specs.Direction.{token_in, plan_in, size_in}
 use Rattle.sf_standard.specs.Items.{item_in}
-use Rattle.sf_frames.specs.Least.{IsLeastOf, AllSmall}
+use Rattle.sf_frames.specs.Least.{IsLeastOf}
 use Rattle.sf_frames.specs.Sums.{AreSumsOrNone, AreWithin, joined}
-use Rattle.sf_frames.specs.Kept.{items_at, groups_at, IsKept, IsStored, IsNext, ArePair, at_end, made_for, needed}
+use Rattle.sf_frames.specs.Kept.{items_at, groups_at, IsKept, IsStored, IsNext, at_end, made_for, needed}
 use Rattle.sf_frames.specs.Room.{IsTopCurve}
 use Rattle.sf_frames.proofs.Joining.{curve-joined}
 use Rattle.sf_frames.proofs.Keeping.{stored-appended, stored-pushed}
 use Rattle.sf_frames.proofs.Moving.{sums-block}
 use Rattle.sf_frames.proofs.Smallness.{can-join}
 use Rattle.sf_frames.proofs.Summing.{sums-after}
-use Rattle.sf_frames.proofs.Topping.{items-block, items-joined, pair-top, block-inside}
+use Rattle.sf_frames.proofs.Topping.{ArePair, items-block, items-joined, pair-top, block-inside}
 use Rattle.sf_frames.proofs.Ways.{way_in}
-use Rattle.sf_frames.proofs.WholeSpans.{curve-small, least-kept, kept-end}
+use Rattle.sf_frames.proofs.WholeSpans.{least-kept, kept-end}
 
 -- an operator makes the points of its item's curve
 pub made-joined : (d : Direction) (k : Kept) → made_for (token_in d) k ≡ k.to - k.from

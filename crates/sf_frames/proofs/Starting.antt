@@ -16,7 +16,6 @@ use Rattle.sf_standard.specs.Items as item
 use Rattle.sf_standard.specs.Standard.{area, least_of, has_none}
 use Rattle.sf_frames.specs.declared.frame.Kept.{Kept}
 use Rattle.sf_frames.specs.declared.least.Least.{Least}
-use Rattle.sf_frames.specs.declared.sums.Sums.{Sums}
 use Rattle.sf_frames.specs.Kept.{ways, groups_at, AreWhole}
 use Rattle.sf_frames.specs.Sums.{IsLeastFor, IsLeastOrNone, AreSums}
 

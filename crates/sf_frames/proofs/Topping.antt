@@ -1,5 +1,5 @@
 -- The items that one token more leaves.
-use Rattle.std.proofs.Common.{◌≡◌, ℕ, zero, suc, ◌+◌, ◌-◌, ◌<◌, ◌≤◌, List, [], ◌∷◌, ◌++◌, length, take, drop, get_or, sym, ap, ◌∙◌, subst, arith}
+use Rattle.std.proofs.Common.{◌≡◌, ℕ, zero, suc, ◌+◌, ◌-◌, ◌<◌, ◌≤◌, List, [], ◌∷◌, ◌++◌, length, vec_len, take, drop, get_or, sym, ap, ◌∙◌, subst, arith}
 use Rattle.std.specs.Prelude.{None}
 use Rattle.std.proofs.lemmas.List.{take_more, drop_more, take-append-drop}
 use Rattle.sf_model.specs.declared.design.Design.{Design}
@@ -15,8 +15,9 @@ use Rattle.sf_standard.proofs.Appended.{read-append, read-block}
 use Rattle.sf_curves.specs.declared.direction.Direction.{Direction}
 use Rattle.sf_curves.specs.declared.direction.Direction.TheVariants.{Beside, Above}
 use Rattle.sf_frames.specs.declared.frame.Frame.{Frame}
+use Rattle.sf_frames.specs.declared.stored.Stored.{Stored}
 use Rattle.sf_curves.specs.Direction.{token_in}
-use Rattle.sf_frames.specs.Kept.{items_at, no_token, IsFrame, AreFrames, IsNext, ArePair}
+use Rattle.sf_frames.specs.Kept.{items_at, no_token, IsFrame, IsStoredIn, IsNext}
 use Rattle.sf_frames.proofs.Joining.{Runs, runs-from}
 use Rattle.sf_frames.proofs.Ways.{read-joined}
 
@@ -134,16 +135,32 @@ module _ (F : Type 0) (below : F → ℕ) (Is : ℕ → F → Type 0) (design : 
 frame-lies : (design : Design) (tokens : List Token) (points : List Shape) (whole k : ℕ) (f : Frame) → IsFrame design tokens points whole k f → LiesOn tokens k f.below
 frame-lies design tokens points whole k f m = record { item = m.item; top = m.top; fewer = m.fewer }
 
-module _ (design : Design) (node : Parts) (points : List Shape) (whole : ℕ) (frames : List Frame) (way : Direction) (sub : IsSubproblem design node) (m : AreFrames design node.tokens points whole frames) (next : IsNext node.tokens (length frames) (token_in way)) where
-  -- the frames of both items on top are there
-  pub there : (d : Frame) → AreThere Frame (λ f. f.below) frames d
-  there = pair-there Frame (λ f. f.below) (IsFrame design node.tokens points whole) design node frames way (frame-lies design node.tokens points whole) m.each sub next
+-- the two frames on top: what lies under the left one lies under both
+pub record ArePair (design : Design) (tokens : List Token) (points : List Shape) (whole : ℕ) (frames : List Frame) (l r : Frame) : Type 0 where
+  pub right : IsFrame design tokens points whole (length frames) r
+  pub left : IsFrame design tokens points whole r.below l
 
-  -- these are the two
-  pub pair-at : (d e : Frame) → ArePair design node.tokens points whole frames (get_or frames ((get_or frames (length frames - 1) d).below - 1) e) (get_or frames (length frames - 1) d)
-  pair-at d e =
-      let p = pair-are Frame (λ f. f.below) (IsFrame design node.tokens points whole) design node frames way (frame-lies design node.tokens points whole) m.each sub next d e in
-      record { right = p.0; left = p.1 }
+-- the last frame, read as the one before the end
+module _ (design : Design) (node : Parts) (s : Stored) (way : Direction) (sub : IsSubproblem design node) (m : IsStoredIn design node.tokens s) (next : IsNext node.tokens (length s.frames.items) (token_in way)) (n : ℕ) (r : Frame) (count : n ≡ vec_len s.frames) (is : r ≡ get_or s.frames.items (n - 1) r) where
+  -- the place does not matter
+  right-same : get_or s.frames.items (length s.frames.items - 1) r ≡ r
+  right-same =
+      let n_is : n ≡ length s.frames.items = omega (arith, count) in
+      sym (is ∙ ap (λ (k : ℕ). get_or s.frames.items (k - 1) r) n_is)
+
+  -- the frame of what it lies on is there
+  pub left-there : (1 ≤ r.below) × (r.below ≤ length s.frames.items)
+  left-there =
+      let t = pair-there Frame (λ f. f.below) (IsFrame design node.tokens s.points.items s.whole) design node s.frames.items way (frame-lies design node.tokens s.points.items s.whole) m.frames_are.each sub next r in
+      let b = ap (λ v. v.below) right-same in
+      (omega (arith, b, t.under), omega (arith, b, t.fewer))
+
+  -- with that one, read before what it lies on, it is the pair on top
+  pub pair-read : (l : Frame) → l ≡ get_or s.frames.items (r.below - 1) l → ArePair design node.tokens s.points.items s.whole s.frames.items l r
+  pair-read l is_l =
+      let p = pair-are Frame (λ f. f.below) (IsFrame design node.tokens s.points.items s.whole) design node s.frames.items way (frame-lies design node.tokens s.points.items s.whole) m.frames_are.each sub next r l in
+      subst (λ v. ArePair design node.tokens s.points.items s.whole s.frames.items v r) (sym is_l)
+      (subst (λ v. ArePair design node.tokens s.points.items s.whole s.frames.items (get_or s.frames.items (v.below - 1) l) v) right-same (record { right = p.0; left = p.1 }))
 
 -- the items of both on top
 pub pair-top : (design : Design) (tokens : List Token) (points : List Shape) (whole : ℕ) (frames : List Frame) (l r : Frame) → (p : ArePair design tokens points whole frames l r) → items_at tokens (length frames) ≡ p.right.item ∷ p.left.item ∷ items_at tokens l.below

@@ -25,7 +25,7 @@ use Rattle.sf_frames.specs.declared.least.Least.{Least}
 use Rattle.sf_frames.specs.Curves.{IsItemCurve}
 use Rattle.sf_frames.specs.Least.{IsLeastOf, AllSmall, width_of, height_of}
 use Rattle.sf_frames.specs.Sums.{IsLeastOrNone}
-use Rattle.sf_frames.specs.Kept.{path, ways, groups_at, point_count, IsKept, AreWhole, IsStored, at_end}
+use Rattle.sf_frames.specs.Kept.{path, ways, groups_at, point_count, IsKept, AreWhole, at_end}
 use Rattle.sf_frames.proofs.Joining.{curve-block}
 use Rattle.sf_frames.proofs.ItemLeasts.{least-item, item-some, item-none}
 use Rattle.sf_frames.proofs.Keeping.{kept-appended}

@@ -127,11 +127,6 @@ pub record IsNext (tokens : List Token) (k : ℕ) (t : Token) : Type 0 where
   pub more : k < length tokens
   pub token_is : slice_index_or tokens k no_token ≡ t
 
--- the two frames on top: what lies under the left one lies under both
-pub record ArePair (design : Design) (tokens : List Token) (points : List Shape) (whole : ℕ) (frames : List Frame) (l r : Frame) : Type 0 where
-  pub right : IsFrame design tokens points whole (length frames) r
-  pub left : IsFrame design tokens points whole r.below l
-
 -- points that are put at the end
 abbrev pub at_end : List Shape → List Shape → Option Least → Kept
 at_end points made least = record { from = length points; to = length points + length made; least = least }

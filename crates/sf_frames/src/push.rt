@@ -88,7 +88,8 @@ fn push_joined(
         → length stored.new.frames.items ≡ length stored.old.frames.items + 1) }
     ensures many { IfOk result (λ pushed. pushed ≡ false → NeedsMore design.now node.now.tokens) }
 {
-    let (left, right) = stored.top_pair(design, node, direction);
+    let right = stored.frames[stored.frames.len() - 1];
+    let left = stored.frames[right.below - 1];
     let sums = stored.sums_now(design, node);
     join(
         list,

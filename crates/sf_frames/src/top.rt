@@ -1,18 +1,16 @@
-//! What the frames tell of the path so far: the two items on top, and the sums.
+//! What the frames tell of the path so far: the sums over its items and the unused blocks.
 
 ghost use Rattle.std.specs.Prelude.{◌≡◌, List, length};
 ghost use Rattle.sf_model.specs.Legal.{block_count};
 ghost use Rattle.sf_polish.specs.declared.expr.Token.{Token as TokenValue};
-ghost use Rattle.sf_node.specs.Children.{IsSubproblem};
-ghost use Rattle.sf_curves.specs.Direction.{token_in};
-ghost use Rattle.sf_frames.specs.Kept.{IsStoredIn, IsNext, ArePair, groups_at, AreWhole};
+ghost use Rattle.sf_frames.specs.Kept.{groups_at, AreWhole};
 ghost use Rattle.sf_frames.specs.Room.{HasFrames};
 ghost use Rattle.sf_frames.specs.Sums.{AreSumsOrNone};
 
-use crate::frame::{Frame, Kept};
+use crate::frame::Kept;
 use crate::stored::Stored;
 use crate::sums::Sums;
-use sf_curves::{Direction, Point};
+use sf_curves::Point;
 use sf_model::Design;
 use sf_node::Node;
 
@@ -41,19 +39,6 @@ fn start(points: &[Point], blocks: &[Kept], whole: usize, design: &Design) -> Op
 }
 
 impl Stored {
-    /// The frames of the two items on top, the left or lower one first.
-    pub fn top_pair(&self, design: &Design, node: &Node, direction: Direction) -> (Frame, Frame)
-        requires subproblem { IsSubproblem design.now node.now }
-        requires stored { IsStoredIn design.now node.now.tokens self.now }
-        requires next { IsNext node.now.tokens (length self.now.frames.items) (token_in direction) }
-        ensures { ArePair design.now node.now.tokens self.now.points.items self.now.whole
-            self.now.frames.items result.0 result.1 }
-    {
-        let right = self.frames[self.frames.len() - 1];
-        let left = self.frames[right.below - 1];
-        (left, right)
-    }
-
     /// The sums over the items and the unused blocks after the tokens that have frames.
     #[inline(always)]
     pub fn sums_now(&self, design: &Design, node: &Node) -> Option<Sums>
