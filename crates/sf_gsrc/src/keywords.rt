@@ -34,14 +34,11 @@ pub fn count_word_in(line: &[u8]) -> &[u8]
 pub fn read_counted(word: &[u8]) -> Option<Counted>
     ensures { result ≡ counted_of word.now }
 {
-    if word == b"NumSoftRectangularBlocks".as_slice() {
-        Some(Counted::Soft)
-    } else if word == b"NumHardRectilinearBlocks".as_slice() {
-        Some(Counted::Hard)
-    } else if word == b"NumTerminals".as_slice() {
-        Some(Counted::Terminals)
-    } else {
-        None
+    match word {
+        _ if word == b"NumSoftRectangularBlocks".as_slice() => Some(Counted::Soft),
+        _ if word == b"NumHardRectilinearBlocks".as_slice() => Some(Counted::Hard),
+        _ if word == b"NumTerminals".as_slice() => Some(Counted::Terminals),
+        _ => None,
     }
 }
 
@@ -50,14 +47,11 @@ pub fn read_counted(word: &[u8]) -> Option<Counted>
 pub fn read_form(word: &[u8]) -> Option<Form>
     ensures { result ≡ form_of word.now }
 {
-    if word == b"softrectangular".as_slice() {
-        Some(Form::Soft)
-    } else if word == b"hardrectilinear".as_slice() {
-        Some(Form::Hard)
-    } else if word == b"terminal".as_slice() {
-        Some(Form::Terminal)
-    } else {
-        None
+    match word {
+        _ if word == b"softrectangular".as_slice() => Some(Form::Soft),
+        _ if word == b"hardrectilinear".as_slice() => Some(Form::Hard),
+        _ if word == b"terminal".as_slice() => Some(Form::Terminal),
+        _ => None,
     }
 }
 
@@ -74,13 +68,10 @@ pub enum NetWord {
 pub fn read_net_word(word: &[u8]) -> Option<NetWord>
     ensures { result ≡ net_word_of word.now }
 {
-    if word == b"NumNets".as_slice() {
-        Some(NetWord::Nets)
-    } else if word == b"NumPins".as_slice() {
-        Some(NetWord::Pins)
-    } else if word == b"NetDegree".as_slice() {
-        Some(NetWord::Degree)
-    } else {
-        None
+    match word {
+        _ if word == b"NumNets".as_slice() => Some(NetWord::Nets),
+        _ if word == b"NumPins".as_slice() => Some(NetWord::Pins),
+        _ if word == b"NetDegree".as_slice() => Some(NetWord::Degree),
+        _ => None,
     }
 }
