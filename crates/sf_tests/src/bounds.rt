@@ -1,70 +1,17 @@
 //! Values of the bound that were worked out by hand.
 
-ghost use Rattle.std.specs.Prelude.{◌≡◌, ◌≢◌, ◌∷◌, [], IfOk, IfSome};
+ghost use Rattle.std.specs.Prelude.{IfOk, IfSome};
 ghost use Rattle.sf_node.specs.Children.{IsSubproblem};
 ghost use Rattle.sf_bounds.specs.Serving.{MayServe};
 
-use crate::designs::net;
-use sf_bounds::{Bounds, Room, Standard, solve};
-use sf_model::{
-    Block, BlockList, Design, MAX, Name, Net, NetList, Outline, Pad, PadList, Pin, Pins, Shape,
-    Shapes, Weights,
+use crate::designs::{
+    FLAT, NARROW, SQUARE, WIDE, bare, block, block_of, net, node_at, pad, three_shapes, two_squares,
 };
+use sf_bounds::{Bounds, Room, Standard, solve};
+use sf_model::{BlockList, Design, MAX, NetList, Outline, PadList, Pin, Weights};
 use sf_node::{Node, Part};
 use std::alloc::{AllocError, Global};
 use std::test::Fail;
-
-/// One block in three shapes, a pad and a net of both, with wire weight 10.
-fn three_shapes(alloc: Global) -> Result<Design, AllocError> {
-    let shapes = vec![in alloc;
-        Shape { w: 1, h: 4 },
-        Shape { w: 2, h: 2 },
-        Shape { w: 3, h: 2 },
-    ]?;
-    let block = Block {
-        name: Name::new(alloc, b"b")?,
-        shapes: Shapes::from_vec(shapes),
-    };
-    let pad = Pad {
-        name: Name::new(alloc, b"p")?,
-        x: 10,
-        y: 0,
-    };
-    let net = Net {
-        pins: Pins::from_vec(vec![in alloc; Pin::Block(0), Pin::Pad(0)]?),
-        weight: 1,
-    };
-    Ok(Design {
-        blocks: BlockList::from_vec(vec![in alloc; block]?),
-        pads: PadList::from_vec(vec![in alloc; pad]?),
-        nets: NetList::from_vec(vec![in alloc; net]?),
-        outline: Outline {
-            w: 1_048_576,
-            h: 1_048_576,
-        },
-        weights: Weights { area: 1, wire: 10 },
-    })
-}
-
-/// The subproblem of all plans.
-fn root(alloc: Global, design: &Design) -> Result<Node, AllocError>
-    ensures { IfOk result (IsSubproblem design.now) }
-{
-    let node = Node::root(alloc, design)?;
-    Ok(node)
-}
-
-/// The child at a place, where there is one.
-fn child(design: &Design, node: &Node, place: usize) -> Result<Option<Node>, AllocError>
-    requires { IsSubproblem design.now node.now }
-    ensures { IfOk result (λ child. IfSome child (IsSubproblem design.now)) }
-{
-    let mut children = node.extend_children(design)?;
-    if place >= children.len() {
-        return Ok(None);
-    }
-    Ok(Some(children.swap_remove(place)))
-}
 
 /// The two halves of a subproblem by its first wide span.
 fn halves(design: &Design, node: &Node) -> Result<Option<(Node, Node)>, AllocError>
@@ -108,9 +55,9 @@ fn measures(rt: HostRuntime) -> Result<(), Fail> {
     let alloc = rt.alloc();
     let design = three_shapes(alloc)?;
     let mut room = Room::new(alloc);
-    let start = root(alloc, &design)?;
+    let start = node_at(alloc, &design, &[])?;
     assert_eq!(rt; Standard.bound(&design, &start, &mut room)?, 24);
-    let whole = child(&design, &start, 0)?.ok_or("no child")?;
+    let whole = node_at(alloc, &design, &[0])?;
     assert_eq!(rt; Standard.bound(&design, &whole, &mut room)?, 194);
     let of_halves = values_of_halves(&design, &mut room, &whole)?;
     assert_eq!(rt; of_halves, Some([234, 194, 204, 196]));
@@ -119,44 +66,16 @@ fn measures(rt: HostRuntime) -> Result<(), Fail> {
     Ok(())
 }
 
-/// A block of 2 by 2.
-fn square(alloc: Global, name: &[u8]) -> Result<Block, AllocError>
-    requires { name.now ≢ [] }
-    ensures { IfOk result (λ block. block.shapes ≡ record { w = 2; h = 2 } ∷ []) }
-{
-    Ok(Block {
-        name: Name::new(alloc, name)?,
-        shapes: Shapes::from_vec(vec![in alloc; Shape { w: 2, h: 2 }]?),
-    })
-}
-
-/// Two blocks of 2 by 2 and a net of both of this weight, with wire weight 1.
-fn two_squares(alloc: Global, weight: u8) -> Result<Design, AllocError> {
-    let blocks = vec![in alloc; square(alloc, b"a")?, square(alloc, b"b")?]?;
-    let both = net(alloc, Pin::Block(0), Pin::Block(1), weight)?;
-    Ok(Design {
-        blocks: BlockList::from_vec(blocks),
-        pads: PadList::from_vec(Vec::new(alloc)),
-        nets: NetList::from_vec(vec![in alloc; both]?),
-        outline: Outline { w: 9, h: 9 },
-        weights: Weights { area: 1, wire: 1 },
-    })
-}
-
 /// Four blocks of 2 by 2, with wire weight 1: an outer net of the first and the third, an inner one of the
 /// second and the third, and one of the fourth and a pad, of these weights.
 fn four_squares(alloc: Global, outer: u8, inner: u8, padded: u8) -> Result<Design, AllocError> {
     let blocks = vec![in alloc;
-        square(alloc, b"a")?,
-        square(alloc, b"b")?,
-        square(alloc, b"c")?,
-        square(alloc, b"d")?,
+        block(alloc, SQUARE)?,
+        block(alloc, SQUARE)?,
+        block(alloc, SQUARE)?,
+        block(alloc, SQUARE)?,
     ]?;
-    let pad = Pad {
-        name: Name::new(alloc, b"p")?,
-        x: 10,
-        y: 0,
-    };
+    let pad = pad(alloc, 10, 0)?;
     let nets = vec![in alloc;
         net(alloc, Pin::Block(0), Pin::Block(2), outer)?,
         net(alloc, Pin::Block(1), Pin::Block(2), inner)?,
@@ -166,33 +85,23 @@ fn four_squares(alloc: Global, outer: u8, inner: u8, padded: u8) -> Result<Desig
         blocks: BlockList::from_vec(blocks),
         pads: PadList::from_vec(vec![in alloc; pad]?),
         nets: NetList::from_vec(nets),
-        outline: Outline {
-            w: 1_048_576,
-            h: 1_048_576,
-        },
+        outline: WIDE,
         weights: Weights { area: 1, wire: 1 },
     })
 }
 
-/// The value of the subproblem to which these places of children lead.
+/// The value of the subproblem that is reached over the children at these places.
 fn value_at<'a>(
     alloc: Global,
     design: &'a Design,
     room: &mut Room<'a>,
     places: &[usize],
-) -> Result<Option<u64>, AllocError>
+) -> Result<u64, AllocError>
     requires serves { MayServe room.old design.now }
     ensures serves { MayServe room.new design.now }
 {
-    let mut node = root(alloc, design)?;
-    for place in places {
-        let Some(next) = child(design, &node, *place)? else {
-            return Ok(None);
-        };
-        node = next;
-    }
-    let value = Standard.bound(design, &node, room)?;
-    Ok(Some(value))
+    let node = node_at(alloc, design, places)?;
+    Standard.bound(design, &node, room)
 }
 
 /// Nets of blocks in one item, in two, and with a pad.
@@ -202,28 +111,16 @@ fn measures_items(rt: HostRuntime) -> Result<(), Fail> {
     let design = four_squares(alloc, 1, 1, 1)?;
     let mut room = Room::new(alloc);
     // no token; 0 1 *; 0 1 * 2 *; 0 1 * 2 +; 0 1 + 2 +; 0 1 * 2 * 3 *; 0 1 * 2
-    assert_eq!(rt; value_at(alloc, &design, &mut room, &[])?, Some(26));
-    assert_eq!(rt; value_at(alloc, &design, &mut room, &[0, 0, 0])?, Some(26));
-    assert_eq!(rt;
-        value_at(alloc, &design, &mut room, &[0, 0, 0, 0, 0])?,
-        Some(30)
-    );
-    assert_eq!(rt;
-        value_at(alloc, &design, &mut room, &[0, 0, 0, 0, 1])?,
-        Some(34)
-    );
-    assert_eq!(rt;
-        value_at(alloc, &design, &mut room, &[0, 0, 1, 0, 1])?,
-        Some(30)
-    );
+    assert_eq!(rt; value_at(alloc, &design, &mut room, &[])?, 26);
+    assert_eq!(rt; value_at(alloc, &design, &mut room, &[0, 0, 0])?, 26);
+    assert_eq!(rt; value_at(alloc, &design, &mut room, &[0, 0, 0, 0, 0])?, 30);
+    assert_eq!(rt; value_at(alloc, &design, &mut room, &[0, 0, 0, 0, 1])?, 34);
+    assert_eq!(rt; value_at(alloc, &design, &mut room, &[0, 0, 1, 0, 1])?, 30);
     assert_eq!(rt;
         value_at(alloc, &design, &mut room, &[0, 0, 0, 0, 0, 0, 0])?,
-        Some(36)
+        36
     );
-    assert_eq!(rt;
-        value_at(alloc, &design, &mut room, &[0, 0, 0, 0])?,
-        Some(26)
-    );
+    assert_eq!(rt; value_at(alloc, &design, &mut room, &[0, 0, 0, 0])?, 26);
     Ok(())
 }
 
@@ -236,7 +133,7 @@ fn measures_one_weight(rt: HostRuntime) -> Result<(), Fail> {
         let mut room = Room::new(alloc);
         // 0 1 *
         let of_row = value_at(alloc, &design, &mut room, &[0, 0, 0])?;
-        assert_eq!(rt; of_row, Some(value));
+        assert_eq!(rt; of_row, value);
     }
     Ok(())
 }
@@ -248,13 +145,10 @@ fn measures_weights(rt: HostRuntime) -> Result<(), Fail> {
     let design = four_squares(alloc, 0, 2, 3)?;
     let mut room = Room::new(alloc);
     // 0 1 * 2 +; 0 1 * 2 * 3 *
-    assert_eq!(rt;
-        value_at(alloc, &design, &mut room, &[0, 0, 0, 0, 1])?,
-        Some(42)
-    );
+    assert_eq!(rt; value_at(alloc, &design, &mut room, &[0, 0, 0, 0, 1])?, 42);
     assert_eq!(rt;
         value_at(alloc, &design, &mut room, &[0, 0, 0, 0, 0, 0, 0])?,
-        Some(48)
+        48
     );
     Ok(())
 }
@@ -287,10 +181,10 @@ fn measures_parts(rt: HostRuntime) -> Result<(), Fail> {
     let alloc = rt.alloc();
     let design = three_shapes(alloc)?;
     let mut room = Room::new(alloc);
-    let start = root(alloc, &design)?;
+    let start = node_at(alloc, &design, &[])?;
     let of_root = values_by_part(&design, &start, &mut room)?;
     assert_eq!(rt; of_root, ([4, 24, 4, 4, 24], [4, 24, 4, 4]));
-    let whole = child(&design, &start, 0)?.ok_or("no child")?;
+    let whole = node_at(alloc, &design, &[0])?;
     let of_whole = values_by_part(&design, &whole, &mut room)?;
     assert_eq!(rt; of_whole, ([4, 24, 4, 194, 194], [4, 24, 4, 194]));
     // the shape 1 by 4 alone
@@ -302,17 +196,9 @@ fn measures_parts(rt: HostRuntime) -> Result<(), Fail> {
 
 /// A block of 2 by 3 or 3 by 2 in an outline of 2 by 2, with this wire weight.
 fn too_large(alloc: Global, wire: u16) -> Result<Design, AllocError> {
-    let block = Block {
-        name: Name::new(alloc, b"b")?,
-        shapes: Shapes::from_vec(vec![in alloc; Shape { w: 2, h: 3 }, Shape { w: 3, h: 2 }]?),
-    };
-    Ok(Design {
-        blocks: BlockList::from_vec(vec![in alloc; block]?),
-        pads: PadList::from_vec(Vec::new(alloc)),
-        nets: NetList::from_vec(Vec::new(alloc)),
-        outline: Outline { w: 2, h: 2 },
-        weights: Weights { area: 1, wire },
-    })
+    let block = block_of(alloc, vec![in alloc; NARROW, FLAT]?)?;
+    let outline = Outline { w: 2, h: 2 };
+    Ok(bare(alloc, vec![in alloc; block]?, outline, wire))
 }
 
 /// Whether a subproblem has a solution, where it is solved.
@@ -331,8 +217,7 @@ fn has_solution(alloc: Global, design: &Design, node: &Node) -> Result<Option<bo
 fn solves_no_areas(rt: HostRuntime) -> Result<(), Fail> {
     let alloc = rt.alloc();
     let design = too_large(alloc, 0)?;
-    let start = root(alloc, &design)?;
-    let whole = child(&design, &start, 0)?.ok_or("no child")?;
+    let whole = node_at(alloc, &design, &[0])?;
     assert_eq!(rt; has_solution(alloc, &design, &whole)?, Some(false));
     let mut room = Room::new(alloc);
     assert_eq!(rt; Standard.bound(&design, &whole, &mut room)?, MAX);
@@ -344,8 +229,7 @@ fn solves_no_areas(rt: HostRuntime) -> Result<(), Fail> {
 fn solves_no_wires(rt: HostRuntime) -> Result<(), Fail> {
     let alloc = rt.alloc();
     let design = too_large(alloc, 1)?;
-    let start = root(alloc, &design)?;
-    let whole = child(&design, &start, 0)?.ok_or("no child")?;
+    let whole = node_at(alloc, &design, &[0])?;
     assert_eq!(rt; has_solution(alloc, &design, &whole)?, None);
     let (high, wide) = halves(&design, &whole)?.ok_or("no halves")?;
     assert_eq!(rt; has_solution(alloc, &design, &high)?, Some(false));

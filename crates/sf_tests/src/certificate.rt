@@ -3,10 +3,9 @@
 ghost use Rattle.std.specs.Prelude.{◌≡◌, IfOk};
 ghost use Rattle.sf_model.specs.Legal.{block_count};
 
+use crate::designs::{WIDE, bare, block};
 use sf_certificate::{CertFault, Tag, merge, read, write};
-use sf_model::{
-    Block, BlockList, Design, MAX, Name, NetList, Outline, PadList, Shape, Shapes, Weights,
-};
+use sf_model::{Design, MAX, Shape};
 use sf_node::{Node, Part, Task, Values};
 use std::alloc::{AllocError, Global};
 use std::test::Fail;
@@ -22,17 +21,8 @@ impl Values for Nothing {
 fn one_block(alloc: Global) -> Result<Design, AllocError>
     ensures { IfOk result (λ design. block_count design ≡ 1) }
 {
-    let block = Block {
-        name: Name::new(alloc, b"b0")?,
-        shapes: Shapes::from_vec(vec![in alloc; Shape { w: 3, h: 4 }]?),
-    };
-    Ok(Design {
-        blocks: BlockList::from_vec(vec![in alloc; block]?),
-        pads: PadList::from_vec(Vec::new(alloc)),
-        nets: NetList::from_vec(Vec::new(alloc)),
-        outline: Outline { w: 10, h: 10 },
-        weights: Weights { area: 1, wire: 0 },
-    })
+    let block = block(alloc, Shape { w: 3, h: 4 })?;
+    Ok(bare(alloc, vec![in alloc; block]?, WIDE, 0))
 }
 
 /// A search that decided nothing leaves the root open.
@@ -97,74 +87,76 @@ fn writes_the_parts_that_it_read(rt: HostRuntime) -> Result<(), Fail> {
     Ok(())
 }
 
+/// Texts of two blocks, each with the first of its faults.
+const FAULTS: [(&[u8], CertFault); 14] = [
+    (
+        b"slicing-certificate 1\nblocks 2\ncost 12\nbound 12\nplan 0:2x3 1:2x3 *\ntree\nE\nE\n",
+        CertFault::Truncated(8),
+    ),
+    (
+        b"slicing-certificate 1\nblocks 2\ncost 12\nbound 12\nplan 0:2x3 1:2x3 *\ntree\nE E E C C C\nC\n",
+        CertFault::Trailing(8),
+    ),
+    (
+        b"slicing-certificate 1\nblocks 2\ncost 12\nbound 12\nplan 0:2x3 1:2x3 *\ntree\nX\n",
+        CertFault::BadTag(7),
+    ),
+    (
+        b"slicing-certificate 1\nblocks 2\ncost none\nbound 12\nplan 0:2x3 1:2x3 *\ntree\nO\n",
+        CertFault::BadHeader(5),
+    ),
+    (
+        b"slicing-certificate 1\nblocks 2\ncost 012\nbound 12\nplan none\ntree\nO\n",
+        CertFault::BadHeader(3),
+    ),
+    (
+        b"slicing-certificate 1\n blocks  2\ncost none\nbound 12\nplan none\n",
+        CertFault::BadHeader(5),
+    ),
+    // No third version, and no zeros in front of the second.
+    (
+        b"slicing-certificate 3\nblocks 2\ncost none\nbound 12\nplan none\ntree\nO\n",
+        CertFault::BadHeader(1),
+    ),
+    (
+        b"slicing-certificate 02\nblocks 2\ncost none\nbound 12\nplan none\ntree\nO\n",
+        CertFault::BadHeader(1),
+    ),
+    // A letter is a word like any other in the first version.
+    (
+        b"slicing-certificate 1\nblocks 2\ncost none\nbound 12\nplan none\ntree\nE\nC\na O\n",
+        CertFault::BadTag(9),
+    ),
+    (
+        b"slicing-certificate 1\nblocks 2\ncost none\nbound 12\nplan none\ntree\nC\na\n",
+        CertFault::Trailing(8),
+    ),
+    // In the second one it belongs to the C, whose line is named.
+    (
+        b"slicing-certificate 2\nblocks 2\ncost none\nbound 12\nplan none\ntree\nE\nC\nx O\n",
+        CertFault::BadTag(8),
+    ),
+    (
+        b"slicing-certificate 2\nblocks 2\ncost none\nbound 12\nplan none\ntree\nE\nC\nC a\n",
+        CertFault::BadTag(8),
+    ),
+    (
+        b"slicing-certificate 2\nblocks 2\ncost none\nbound 12\nplan none\ntree\nE C\na\nC\n",
+        CertFault::Truncated(9),
+    ),
+    (
+        b"slicing-certificate 2\nblocks 2\ncost none\nbound 12\nplan none\ntree\nC a\nC\n",
+        CertFault::Trailing(8),
+    ),
+];
+
 /// Of several faults the first is told, with its line.
 #[test]
-fn finds_the_first_fault(rt: HostRuntime) -> Result<(), Fail> {
-    let alloc = rt.alloc();
-    let cut =
-        b"slicing-certificate 1\nblocks 2\ncost 12\nbound 12\nplan 0:2x3 1:2x3 *\ntree\nE\nE\n";
-    let more =
-        b"slicing-certificate 1\nblocks 2\ncost 12\nbound 12\nplan 0:2x3 1:2x3 *\ntree\nE E E C C C\nC\n";
-    let faults = [
-        (cut.as_slice(), CertFault::Truncated(8)),
-        (more.as_slice(), CertFault::Trailing(8)),
-        (
-            b"slicing-certificate 1\nblocks 2\ncost 12\nbound 12\nplan 0:2x3 1:2x3 *\ntree\nX\n".as_slice(),
-            CertFault::BadTag(7),
-        ),
-        (
-            b"slicing-certificate 1\nblocks 2\ncost none\nbound 12\nplan 0:2x3 1:2x3 *\ntree\nO\n".as_slice(),
-            CertFault::BadHeader(5),
-        ),
-        (
-            b"slicing-certificate 1\nblocks 2\ncost 012\nbound 12\nplan none\ntree\nO\n".as_slice(),
-            CertFault::BadHeader(3),
-        ),
-        (
-            b"slicing-certificate 1\n blocks  2\ncost none\nbound 12\nplan none\n".as_slice(),
-            CertFault::BadHeader(5),
-        ),
-        // No third version, and no zeros in front of the second.
-        (
-            b"slicing-certificate 3\nblocks 2\ncost none\nbound 12\nplan none\ntree\nO\n".as_slice(),
-            CertFault::BadHeader(1),
-        ),
-        (
-            b"slicing-certificate 02\nblocks 2\ncost none\nbound 12\nplan none\ntree\nO\n".as_slice(),
-            CertFault::BadHeader(1),
-        ),
-        // A letter is a word like any other in the first version.
-        (
-            b"slicing-certificate 1\nblocks 2\ncost none\nbound 12\nplan none\ntree\nE\nC\na O\n".as_slice(),
-            CertFault::BadTag(9),
-        ),
-        (
-            b"slicing-certificate 1\nblocks 2\ncost none\nbound 12\nplan none\ntree\nC\na\n".as_slice(),
-            CertFault::Trailing(8),
-        ),
-        // In the second one it belongs to the C, whose line is named.
-        (
-            b"slicing-certificate 2\nblocks 2\ncost none\nbound 12\nplan none\ntree\nE\nC\nx O\n".as_slice(),
-            CertFault::BadTag(8),
-        ),
-        (
-            b"slicing-certificate 2\nblocks 2\ncost none\nbound 12\nplan none\ntree\nE\nC\nC a\n".as_slice(),
-            CertFault::BadTag(8),
-        ),
-        (
-            b"slicing-certificate 2\nblocks 2\ncost none\nbound 12\nplan none\ntree\nE C\na\nC\n".as_slice(),
-            CertFault::Truncated(9),
-        ),
-        (
-            b"slicing-certificate 2\nblocks 2\ncost none\nbound 12\nplan none\ntree\nC a\nC\n".as_slice(),
-            CertFault::Trailing(8),
-        ),
-    ];
-    for (text, fault) in faults {
-        match read(alloc, text, 2) {
-            Ok(_) => assert!(rt; false),
-            Err(found) => assert_eq!(rt; found, fault),
+fn finds_the_first_fault(rt: HostRuntime) {
+    for (text, fault) in FAULTS {
+        match read(rt.alloc(), text, 2) {
+            Ok(_) => assert!(rt; false, "{text:?}"),
+            Err(found) => assert_eq!(rt; found, fault, "{text:?}"),
         }
     }
-    Ok(())
 }

@@ -1,41 +1,21 @@
 //! A walk over the whole tree of two blocks, of which the first has two shapes.
 
-ghost use Rattle.std.specs.Prelude.{◌≡◌, IfOk};
 ghost use Rattle.sf_certificate.specs.Marks.{MaySplit};
 
-use crate::designs::Seven;
+use crate::designs::{FLAT, NARROW, SQUARE, Seven, WIDE, bare, block, block_of};
 use sf_certificate::Tag;
 use sf_cursor::Cursor;
-use sf_model::{Block, BlockList, Design, Name, NetList, Outline, PadList, Shape, Shapes, Weights};
+use sf_model::Design;
 use sf_node::Step::{Above, Beside, Block as Named, Left, Right};
 use sf_node::{Node, Part};
 use std::alloc::{AllocError, Global};
 use std::test::Fail;
 
-/// A block of these shapes.
-fn block(alloc: Global, shapes: Vec<Shape>) -> Result<Block, AllocError>
-    ensures { IfOk result (λ b. b.shapes ≡ shapes.items) }
-{
-    Ok(Block {
-        name: Name::new(alloc, b"b")?,
-        shapes: Shapes::from_vec(shapes),
-    })
-}
-
 /// A block 2x3 or 3x2 and a block 2x2.
 fn two_blocks(alloc: Global) -> Result<Design, AllocError> {
-    let first = block(
-        alloc,
-        vec![in alloc; Shape { w: 2, h: 3 }, Shape { w: 3, h: 2 }]?,
-    )?;
-    let second = block(alloc, vec![in alloc; Shape { w: 2, h: 2 }]?)?;
-    Ok(Design {
-        blocks: BlockList::from_vec(vec![in alloc; first, second]?),
-        pads: PadList::from_vec(Vec::new(alloc)),
-        nets: NetList::from_vec(Vec::new(alloc)),
-        outline: Outline { w: 100, h: 100 },
-        weights: Weights { area: 1, wire: 1 },
-    })
+    let first = block_of(alloc, vec![in alloc; NARROW, FLAT]?)?;
+    let second = block(alloc, SQUARE)?;
+    Ok(bare(alloc, vec![in alloc; first, second]?, WIDE, 1))
 }
 
 /// A split of the first block where all tokens are there and it has two shapes.

@@ -3,51 +3,18 @@
 ghost use Rattle.std.specs.Prelude.{IfOk};
 ghost use Rattle.sf_curves.specs.Choices.{AreSpans};
 
+use crate::designs::{FLAT, NARROW, WIDE, bare, block_of, three_shapes};
 use sf_curves::{Curve, Point, root_curve, trace};
-use sf_model::{Block, BlockList, Design, Name, NetList, Outline, PadList, Shape, Shapes, Weights};
+use sf_model::{Design, Outline, Shape};
 use sf_polish::{Expr, Token, is_normal};
 use std::alloc::{AllocError, Global};
 use std::test::Fail;
 
-const WIDE: Outline = Outline { w: 100, h: 100 };
-
 /// Two hard blocks of 2 by 3, which may be turned.
 fn two_turned(alloc: Global) -> Result<Design, AllocError> {
-    let first = Block {
-        name: Name::new(alloc, b"a")?,
-        shapes: Shapes::from_vec(vec![in alloc; Shape { w: 2, h: 3 }, Shape { w: 3, h: 2 }]?),
-    };
-    let second = Block {
-        name: Name::new(alloc, b"b")?,
-        shapes: Shapes::from_vec(vec![in alloc; Shape { w: 2, h: 3 }, Shape { w: 3, h: 2 }]?),
-    };
-    Ok(Design {
-        blocks: BlockList::from_vec(vec![in alloc; first, second]?),
-        pads: PadList::from_vec(Vec::new(alloc)),
-        nets: NetList::from_vec(Vec::new(alloc)),
-        outline: WIDE,
-        weights: Weights { area: 1, wire: 0 },
-    })
-}
-
-/// One block in three shapes, of which the last is larger than the one before it.
-fn three_shapes(alloc: Global) -> Result<Design, AllocError> {
-    let shapes = vec![in alloc;
-        Shape { w: 1, h: 4 },
-        Shape { w: 2, h: 2 },
-        Shape { w: 3, h: 2 },
-    ]?;
-    let block = Block {
-        name: Name::new(alloc, b"a")?,
-        shapes: Shapes::from_vec(shapes),
-    };
-    Ok(Design {
-        blocks: BlockList::from_vec(vec![in alloc; block]?),
-        pads: PadList::from_vec(Vec::new(alloc)),
-        nets: NetList::from_vec(Vec::new(alloc)),
-        outline: WIDE,
-        weights: Weights { area: 1, wire: 0 },
-    })
+    let first = block_of(alloc, vec![in alloc; NARROW, FLAT]?)?;
+    let second = block_of(alloc, vec![in alloc; NARROW, FLAT]?)?;
+    Ok(bare(alloc, vec![in alloc; first, second]?, WIDE, 0))
 }
 
 fn whole_spans(alloc: Global, design: &Design) -> Result<Vec<(u16, u16)>, AllocError>
@@ -102,7 +69,7 @@ fn two_beside(rt: HostRuntime) -> Result<(), Fail> {
     assert!(rt; curve.least_area() == Some(Point { w: 4, h: 3 }));
     let expr = traced(alloc, &design, &tokens, 3)?.ok_or("no point")?;
     assert!(rt; expr.tokens.as_slice() == tokens.as_slice());
-    assert!(rt; expr.shapes.as_slice() == [Shape { w: 2, h: 3 }, Shape { w: 2, h: 3 }].as_slice());
+    assert!(rt; expr.shapes.as_slice() == [NARROW, NARROW].as_slice());
     Ok(())
 }
 
@@ -115,7 +82,7 @@ fn one_above_the_other(rt: HostRuntime) -> Result<(), Fail> {
     assert!(rt; curve.points() == [Point { w: 2, h: 6 }, Point { w: 3, h: 4 }].as_slice());
     let expr = traced(alloc, &design, &tokens, 4)?.ok_or("no point")?;
     assert!(rt; expr.tokens.as_slice() == tokens.as_slice());
-    assert!(rt; expr.shapes.as_slice() == [Shape { w: 3, h: 2 }, Shape { w: 3, h: 2 }].as_slice());
+    assert!(rt; expr.shapes.as_slice() == [FLAT, FLAT].as_slice());
     Ok(())
 }
 
@@ -167,7 +134,7 @@ fn shapes_in_no_order(rt: HostRuntime) -> Result<(), Fail> {
 #[test]
 fn two_above(rt: HostRuntime) -> Result<(), Fail> {
     let alloc = rt.alloc();
-    let shapes = [Shape { w: 2, h: 3 }, Shape { w: 3, h: 2 }];
+    let shapes = [NARROW, FLAT];
     let lower = Curve::of_shapes(alloc, shapes.as_slice(), 0, 2, WIDE)?;
     let shapes = [Shape { w: 1, h: 4 }, Shape { w: 4, h: 1 }];
     let upper = Curve::of_shapes(alloc, shapes.as_slice(), 0, 2, WIDE)?;

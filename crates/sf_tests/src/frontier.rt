@@ -1,8 +1,8 @@
 //! Tasks that a team puts, takes and steals, and what is left of a new team.
 
-use crate::designs::block;
+use crate::designs::{WIDE, bare, block};
 use sf_frontier::{Owner, Place, Served, finish, team};
-use sf_model::{BlockList, Design, NetList, Outline, PadList, Shape, Weights};
+use sf_model::{Design, Shape};
 use sf_node::{Node, Task};
 use std::alloc::{AllocError, Global};
 use std::test::Fail;
@@ -14,14 +14,8 @@ impl Served for AnyTask {
 }
 
 fn one_block(alloc: Global) -> Result<Design, AllocError> {
-    let first = block(alloc, Shape { w: 1, h: 1 })?;
-    Ok(Design {
-        blocks: BlockList::from_vec(vec![in alloc; first]?),
-        pads: PadList::from_vec(Vec::new(alloc)),
-        nets: NetList::from_vec(Vec::new(alloc)),
-        outline: Outline { w: 1, h: 1 },
-        weights: Weights { area: 1, wire: 0 },
-    })
+    let block = block(alloc, Shape { w: 1, h: 1 })?;
+    Ok(bare(alloc, vec![in alloc; block]?, WIDE, 0))
 }
 
 fn task(alloc: Global, design: &Design, bound: u64) -> Result<Task, AllocError> {

@@ -53,9 +53,9 @@ fn files_are_joined(rt: HostRuntime) -> Result<(), Fail> {
     Ok(())
 }
 
-/// Each text has its first fault, at its line.
+/// Each text of blocks has its first fault, at its line.
 #[test]
-fn the_first_fault_is_told(rt: HostRuntime) {
+fn the_first_fault_of_blocks_is_told(rt: HostRuntime) {
     let a = rt.alloc();
     assert!(rt; matches!(read_blocks(a, b"\n# x\n", 1), Err(GsrcFault::Truncated(0))));
     assert!(rt;
@@ -76,6 +76,12 @@ fn the_first_fault_is_told(rt: HostRuntime) {
             Err(GsrcFault::BadNumber(2, NumberFault::NotWhole))
         )
     );
+}
+
+/// So it is of texts of nets and of places.
+#[test]
+fn the_first_fault_of_nets_and_places_is_told(rt: HostRuntime) {
+    let a = rt.alloc();
     assert!(rt;
         matches!(
             read_nets(a, b"UCLA nets\nNumNets 2\nNetDegree 1\na\n"),

@@ -3,27 +3,24 @@
 
 ghost use Rattle.std.specs.Prelude.{◌≡◌, ◌∷◌, [], IfOk};
 ghost use Rattle.sf_model.specs.Legal.{IsLegal};
-ghost use Rattle.sf_model.specs.Tree.{tree_of, leaves};
+ghost use Rattle.sf_model.specs.Tree.{Beside, Leaf, leaves, tree_of};
 ghost use Rattle.sf_polish.specs.Postfix.{IsSkewed};
 ghost use Rattle.sf_node.specs.Children.{IsSubproblem};
 
-use crate::designs::block;
-use sf_model::{
-    Block, BlockList, Design, Name, NetList, Outline, PadList, Plan, Shape, Shapes, Weights,
-};
+use crate::designs::{self, FLAT, NARROW, WIDE, bare, block, block_of, node_at};
+use sf_model::{Design, Plan, Shape};
 use sf_node::{Node, Step, belongs};
 use sf_polish::Token;
 use std::alloc::{AllocError, Global};
 use std::test::Fail;
 
-/// A block of two shapes.
-fn turning_block(alloc: Global, narrow: Shape, flat: Shape) -> Result<Block, AllocError>
-    ensures { IfOk result (λ b. b.shapes ≡ narrow ∷ flat ∷ []) }
+/// The plan with a leaf 2x3 beside a leaf 3x2.
+fn narrow_beside_flat(alloc: Global) -> Result<Plan, AllocError>
+    ensures { IfOk result (λ plan. tree_of plan ≡ Beside (Leaf 0 NARROW) (Leaf 1 FLAT)) }
 {
-    Ok(Block {
-        name: Name::new(alloc, b"b")?,
-        shapes: Shapes::from_vec(vec![in alloc; narrow, flat]?),
-    })
+    let left = Box::new(alloc, Plan::Leaf(0, NARROW))?;
+    let right = Box::new(alloc, Plan::Leaf(1, FLAT))?;
+    Ok(Plan::Beside(left, right))
 }
 
 /// A block 2x3 and a block 3x2 by area alone, and the plan with the first beside the second.
@@ -31,23 +28,9 @@ fn two_blocks(alloc: Global) -> Result<(Design, Plan), AllocError>
     ensures legal { IfOk result (λ both. IsLegal both.0 (tree_of both.1)) }
     ensures skewed { IfOk result (λ both. IsSkewed (tree_of both.1)) }
 {
-    let narrow = Shape { w: 2, h: 3 };
-    let flat = Shape { w: 3, h: 2 };
-    let first = block(alloc, narrow)?;
-    let second = block(alloc, flat)?;
-    let left = Box::new(alloc, Plan::Leaf(0, narrow))?;
-    let right = Box::new(alloc, Plan::Leaf(1, flat))?;
-    let design = Design {
-        blocks: BlockList::from_vec(vec![in alloc; first, second]?),
-        pads: PadList::from_vec(Vec::new(alloc)),
-        nets: NetList::from_vec(Vec::new(alloc)),
-        outline: Outline {
-            w: 1_048_576,
-            h: 1_048_576,
-        },
-        weights: Weights { area: 1, wire: 0 },
-    };
-    Ok((design, Plan::Beside(left, right)))
+    let design = designs::two_blocks(alloc, WIDE)?;
+    let plan = narrow_beside_flat(alloc)?;
+    Ok((design, plan))
 }
 
 /// Three leaves of one shape: the first beside the second and the third above both, or where `turned` the
@@ -72,46 +55,12 @@ fn three_blocks(alloc: Global, turned: bool) -> Result<(Design, Plan), AllocErro
     ensures legal { IfOk result (λ both. IsLegal both.0 (tree_of both.1)) }
     ensures skewed { IfOk result (λ both. IsSkewed (tree_of both.1)) }
 {
-    let shape = Shape { w: 2, h: 3 };
-    let first = block(alloc, shape)?;
-    let second = block(alloc, shape)?;
-    let third = block(alloc, shape)?;
-    let plan = three_leaves(alloc, shape, turned)?;
-    let design = Design {
-        blocks: BlockList::from_vec(vec![in alloc; first, second, third]?),
-        pads: PadList::from_vec(Vec::new(alloc)),
-        nets: NetList::from_vec(Vec::new(alloc)),
-        outline: Outline {
-            w: 1_048_576,
-            h: 1_048_576,
-        },
-        weights: Weights { area: 1, wire: 0 },
-    };
+    let first = block(alloc, NARROW)?;
+    let second = block(alloc, NARROW)?;
+    let third = block(alloc, NARROW)?;
+    let design = bare(alloc, vec![in alloc; first, second, third]?, WIDE, 0);
+    let plan = three_leaves(alloc, NARROW, turned)?;
     Ok((design, plan))
-}
-
-/// The child with one more token at this place, or the subproblem itself where none stands there.
-fn child(node: &Node, design: &Design, place: usize) -> Result<Node, AllocError>
-    requires { IsSubproblem design.now node.now }
-    ensures { IfOk result (IsSubproblem design.now) }
-{
-    let mut children = node.extend_children(design)?;
-    if place < children.len() {
-        Ok(children.remove(place))
-    } else {
-        node.copy()
-    }
-}
-
-/// The subproblem that is reached from the root over the children at these places.
-fn node_at(alloc: Global, design: &Design, places: &[usize]) -> Result<Node, AllocError>
-    ensures { IfOk result (IsSubproblem design.now) }
-{
-    let mut node = Node::root(alloc, design)?;
-    for place in places {
-        node = child(&node, design, *place)?;
-    }
-    Ok(node)
 }
 
 /// The subproblem over these places, and whether the plan belongs to it.
@@ -188,23 +137,11 @@ fn hard_and_turned(alloc: Global) -> Result<(Design, Plan), AllocError>
     ensures legal { IfOk result (λ both. IsLegal both.0 (tree_of both.1)) }
     ensures skewed { IfOk result (λ both. IsSkewed (tree_of both.1)) }
 {
-    let narrow = Shape { w: 2, h: 3 };
-    let flat = Shape { w: 3, h: 2 };
-    let first = block(alloc, narrow)?;
-    let second = turning_block(alloc, narrow, flat)?;
-    let left = Box::new(alloc, Plan::Leaf(0, narrow))?;
-    let right = Box::new(alloc, Plan::Leaf(1, flat))?;
-    let design = Design {
-        blocks: BlockList::from_vec(vec![in alloc; first, second]?),
-        pads: PadList::from_vec(Vec::new(alloc)),
-        nets: NetList::from_vec(Vec::new(alloc)),
-        outline: Outline {
-            w: 1_048_576,
-            h: 1_048_576,
-        },
-        weights: Weights { area: 1, wire: 0 },
-    };
-    Ok((design, Plan::Beside(left, right)))
+    let first = block(alloc, NARROW)?;
+    let second = block_of(alloc, vec![in alloc; NARROW, FLAT]?)?;
+    let design = bare(alloc, vec![in alloc; first, second]?, WIDE, 0);
+    let plan = narrow_beside_flat(alloc)?;
+    Ok((design, plan))
 }
 
 /// The subproblem with one half of the second block's span, or the subproblem itself where it has one shape.

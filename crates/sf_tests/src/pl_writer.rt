@@ -3,9 +3,10 @@
 ghost use Rattle.std.specs.Prelude.{◌≡◌, IfOk};
 ghost use Rattle.sf_model.specs.Legal.{block_count};
 
+use crate::designs::{net, spot};
 use sf_model::{
-    Block, BlockList, Design, MAX, Name, Net, NetList, Outline, Pad, PadList, Pin, Pins, Shape,
-    Shapes, Spot, Weights,
+    Block, BlockList, Design, MAX, Name, NetList, Outline, Pad, PadList, Pin, Shape, Shapes,
+    Weights,
 };
 use sf_pl_writer::{Outcome, Report, pl_text, report_text};
 use sf_polish::{Expr, Token, Tokens, is_normal};
@@ -32,10 +33,7 @@ fn one_block(alloc: Global) -> Result<Design, AllocError>
         x: -5,
         y: 1205,
     };
-    let net = Net {
-        pins: Pins::from_vec(vec![in alloc; Pin::Block(0), Pin::Pad(1)]?),
-        weight: 1,
-    };
+    let net = net(alloc, Pin::Block(0), Pin::Pad(1), 1)?;
     Ok(Design {
         blocks: BlockList::from_vec(vec![in alloc; block]?),
         pads: PadList::from_vec(vec![in alloc; alone, pad]?),
@@ -49,13 +47,7 @@ fn one_block(alloc: Global) -> Result<Design, AllocError>
 fn writes_places(rt: HostRuntime) -> Result<(), Fail> {
     let alloc = rt.alloc();
     let design = one_block(alloc)?;
-    let spot = Spot {
-        block: 0,
-        x: 0,
-        y: 0,
-        w: 25,
-        h: 40,
-    };
+    let spot = spot(0, 0, 0, SHAPE);
     let tenths = pl_text(alloc, &design, &[spot], 10)?;
     let wanted = b"UCLA pl 1.0\nb0 0 0 DIMS = (2.5, 4) : N\np1 -0.5 120.5\n";
     assert_eq!(rt; tenths.as_slice(), wanted.as_slice());

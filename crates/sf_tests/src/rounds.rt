@@ -1,14 +1,11 @@
 //! Two hard blocks, searched with several budgets, five squares, and two squares with a net.
 
-use crate::designs::{block, two_blocks};
+use crate::designs::{SQUARE, WIDE, bare, block, net, pad, two_blocks};
 use sf_bounds::Standard;
 use sf_certificate::Tag;
 use sf_checker::{Answer, check};
 use sf_io::{Gate, OpenGate};
-use sf_model::{
-    Block, BlockList, Design, MAX, Name, Net, NetList, Outline, Pad, PadList, Pin, Pins, Shape,
-    Weights,
-};
+use sf_model::{BlockList, Design, MAX, NetList, PadList, Pin, Shape, Weights};
 use sf_node::Part;
 use sf_rounds::{SearchOptions, search};
 use std::alloc::{AllocError, Global};
@@ -18,7 +15,7 @@ use std::test::Fail;
 #[test]
 fn searches_two_hard_blocks(rt: HostRuntime) -> Result<(), Fail> {
     let alloc = rt.alloc();
-    let design = two_blocks(alloc)?;
+    let design = two_blocks(alloc, WIDE)?;
     // The budget, and then cost, bound and count of the decided.
     let rows = [
         (0, (MAX, 12, 0)),
@@ -41,7 +38,7 @@ fn searches_two_hard_blocks(rt: HostRuntime) -> Result<(), Fail> {
 #[test]
 fn several_workers_search_two_hard_blocks(rt: HostRuntime) -> Result<(), Fail> {
     let alloc = rt.alloc();
-    let design = two_blocks(alloc)?;
+    let design = two_blocks(alloc, WIDE)?;
     for workers in 2..=16 {
         let options = SearchOptions {
             workers,
@@ -58,18 +55,14 @@ fn several_workers_search_two_hard_blocks(rt: HostRuntime) -> Result<(), Fail> {
 
 /// The squares of the sides 1 to 5, area alone.
 fn five_squares(alloc: Global) -> Result<Design, AllocError> {
-    let one = block(alloc, Shape { w: 1, h: 1 })?;
-    let two = block(alloc, Shape { w: 2, h: 2 })?;
-    let three = block(alloc, Shape { w: 3, h: 3 })?;
-    let four = block(alloc, Shape { w: 4, h: 4 })?;
-    let five = block(alloc, Shape { w: 5, h: 5 })?;
-    Ok(Design {
-        blocks: BlockList::from_vec(vec![in alloc; one, two, three, four, five]?),
-        pads: PadList::from_vec(Vec::new(alloc)),
-        nets: NetList::from_vec(Vec::new(alloc)),
-        outline: Outline { w: 100, h: 100 },
-        weights: Weights { area: 1, wire: 0 },
-    })
+    let blocks = vec![in alloc;
+        block(alloc, Shape { w: 1, h: 1 })?,
+        block(alloc, SQUARE)?,
+        block(alloc, Shape { w: 3, h: 3 })?,
+        block(alloc, Shape { w: 4, h: 4 })?,
+        block(alloc, Shape { w: 5, h: 5 })?,
+    ]?;
+    Ok(bare(alloc, blocks, WIDE, 0))
 }
 
 /// The squares of the sides 1 to 5 fit into no less than an area of 60 (Korf 2003). To prove it takes more
@@ -93,22 +86,14 @@ fn two_workers_share_out_the_certificate(rt: HostRuntime) -> Result<(), Fail> {
 
 /// Two squares, a pad where the middle of the first one lies when it stands on the right, and a net of both.
 fn squares_and_pad(alloc: Global) -> Result<Design, AllocError> {
-    let first = block(alloc, Shape { w: 2, h: 2 })?;
-    let second = block(alloc, Shape { w: 2, h: 2 })?;
-    let pad = Pad {
-        name: Name::new(alloc, b"p")?,
-        x: 3,
-        y: 1,
-    };
-    let net = Net {
-        pins: Pins::from_vec(vec![in alloc; Pin::Block(0), Pin::Pad(0)]?),
-        weight: 1,
-    };
+    let blocks = vec![in alloc; block(alloc, SQUARE)?, block(alloc, SQUARE)?]?;
+    let pad = pad(alloc, 3, 1)?;
+    let net = net(alloc, Pin::Block(0), Pin::Pad(0), 1)?;
     Ok(Design {
-        blocks: BlockList::from_vec(vec![in alloc; first, second]?),
+        blocks: BlockList::from_vec(blocks),
         pads: PadList::from_vec(vec![in alloc; pad]?),
         nets: NetList::from_vec(vec![in alloc; net]?),
-        outline: Outline { w: 100, h: 100 },
+        outline: WIDE,
         weights: Weights { area: 1, wire: 1 },
     })
 }
@@ -203,7 +188,7 @@ impl Gate for Counting {
 #[test]
 fn the_gate_is_told_the_count_of_decisions_before(rt: HostRuntime) -> Result<(), Fail> {
     let alloc = rt.alloc();
-    let design = two_blocks(alloc)?;
+    let design = two_blocks(alloc, WIDE)?;
     // The workers, the decisions that no gate hears of, and the rounds of either worker.
     for (workers, without_gate, rounds) in [(1, 0, (1, 0)), (2, 1, (1, 1))] {
         let gate = nothing_counted();

@@ -6,10 +6,8 @@ ghost use Rattle.sf_search_core.specs.Conserved.{branched};
 ghost use Rattle.sf_search_core.specs.Core.{IsCoreState};
 ghost use Rattle.sf_search_core.specs.Events.{held_by, kind_of, AreBounds, CanCome};
 
-use crate::designs::Seven;
-use sf_model::{
-    Block, BlockList, Design, MAX, Name, NetList, Outline, PadList, Shape, Shapes, Weights,
-};
+use crate::designs::{FLAT, NARROW, Seven, WIDE, bare, block_of};
+use sf_model::{Design, MAX};
 use sf_node::Node;
 use sf_search_core::{Costs, Event, How, Pool, Refusal};
 use std::alloc::{AllocError, Global};
@@ -26,17 +24,8 @@ enum Try {
 
 /// A block 2x3 or 3x2.
 fn one_block(alloc: Global) -> Result<Design, AllocError> {
-    let block = Block {
-        name: Name::new(alloc, b"b0")?,
-        shapes: Shapes::from_vec(vec![in alloc; Shape { w: 2, h: 3 }, Shape { w: 3, h: 2 }]?),
-    };
-    Ok(Design {
-        blocks: BlockList::from_vec(vec![in alloc; block]?),
-        pads: PadList::from_vec(Vec::new(alloc)),
-        nets: NetList::from_vec(Vec::new(alloc)),
-        outline: Outline { w: 10, h: 10 },
-        weights: Weights { area: 1, wire: 0 },
-    })
+    let block = block_of(alloc, vec![in alloc; NARROW, FLAT]?)?;
+    Ok(bare(alloc, vec![in alloc; block]?, WIDE, 0))
 }
 
 /// The bounds of the children that a way of branching makes.

@@ -1,41 +1,14 @@
 //! Wires and costs of small designs, worked out by hand.
 
-ghost use Rattle.std.specs.Prelude.{◌≡◌, ◌∷◌, [], IfOk, length, pos, ◌≤ℤ◌};
+ghost use Rattle.std.specs.Prelude.{◌≡◌, ◌∷◌, [], IfOk, length};
 ghost use Rattle.sf_model.specs.Legal.{block_count, shapes_of};
 
-use crate::designs::net;
-use sf_model::{
-    Block, BlockList, Design, Name, NetList, Outline, Pad, PadList, Pin, Plan, Shape, Shapes, Spot,
-    Weights,
-};
+use crate::designs::{SQUARE, block, net, pad, spot};
+use sf_model::{BlockList, Design, NetList, Outline, PadList, Pin, Plan, Weights};
 use sf_place::{Verdict, check_spots};
 use sf_wire::{cost, net_wire, spots_cost, spots_size, wire};
 use std::alloc::{AllocError, Global};
 use std::test::Fail;
-
-const SQUARE: Shape = Shape { w: 2, h: 2 };
-
-fn square(alloc: Global) -> Result<Block, AllocError>
-    ensures { IfOk result (λ b. b.shapes ≡ SQUARE ∷ []) }
-{
-    Ok(Block {
-        name: Name::new(alloc, b"b")?,
-        shapes: Shapes::from_vec(vec![in alloc; SQUARE]?),
-    })
-}
-
-fn pad(alloc: Global, x: i32) -> Result<Pad, AllocError>
-    requires low { pos 0 ≤ℤ x }
-    requires high { x ≤ℤ pos 10 }
-    ensures x { IfOk result (λ p. p.x ≡ x) }
-    ensures y { IfOk result (λ p. p.y ≡ pos 0) }
-{
-    Ok(Pad {
-        name: Name::new(alloc, b"p")?,
-        x,
-        y: 0,
-    })
-}
 
 /// Two blocks 2x2 with a net of both, and a net of each with a pad of its own, of these weights.
 fn row(alloc: Global, both: u8, own: u8) -> Result<Design, AllocError>
@@ -46,8 +19,8 @@ fn row(alloc: Global, both: u8, own: u8) -> Result<Design, AllocError>
     ensures wide { IfOk result (λ design. design.outline.w ≡ 9) }
     ensures high { IfOk result (λ design. design.outline.h ≡ 9) }
 {
-    let blocks = vec![in alloc; square(alloc)?, square(alloc)?]?;
-    let pads = vec![in alloc; pad(alloc, 0)?, pad(alloc, 10)?]?;
+    let blocks = vec![in alloc; block(alloc, SQUARE)?, block(alloc, SQUARE)?]?;
+    let pads = vec![in alloc; pad(alloc, 0, 0)?, pad(alloc, 10, 0)?]?;
     let nets = vec![in alloc;
         net(alloc, Pin::Block(0), Pin::Pad(0), own)?,
         net(alloc, Pin::Block(0), Pin::Block(1), both)?,
@@ -65,21 +38,7 @@ fn row(alloc: Global, both: u8, own: u8) -> Result<Design, AllocError>
 #[test]
 fn wires_of_a_row(rt: HostRuntime) -> Result<(), Fail> {
     let alloc = rt.alloc();
-    let first = Spot {
-        block: 0,
-        x: 0,
-        y: 0,
-        w: 2,
-        h: 2,
-    };
-    let second = Spot {
-        block: 1,
-        x: 2,
-        y: 0,
-        w: 2,
-        h: 2,
-    };
-    let placed = [first, second];
+    let placed = [spot(0, 0, 0, SQUARE), spot(1, 2, 0, SQUARE)];
     assert_eq!(rt; spots_size(&placed), (4, 2));
     for (both, own, wires, costs) in [(1u8, 1u8, 24u64, 32u64), (3, 0, 12, 20), (0, 0, 0, 8)] {
         let design = row(alloc, both, own)?;

@@ -161,9 +161,9 @@ fn all_options(rt: HostRuntime) -> Result<(), Fail> {
     Ok(())
 }
 
-/// What the words say reaches the command, and what they leave out has its default.
+/// What the words say reaches `gen`, and what they leave out has its default.
 #[test]
-fn values(rt: HostRuntime) -> Result<(), Fail> {
+fn values_of_gen(rt: HostRuntime) -> Result<(), Fail> {
     let alloc = rt.alloc();
     let words = spaced(alloc, &["gen --seed=7 --count 004 --out g"])?;
     let Some(CommandWords::Gen(read)) = read_words(alloc, &words)? else {
@@ -171,7 +171,13 @@ fn values(rt: HostRuntime) -> Result<(), Fail> {
     };
     assert_eq!(rt; (read.seed, read.count, read.nodes), (7, 4, None));
     assert!(rt; read.kinds == Kinds::Hard && read.out == "g");
+    Ok(())
+}
 
+/// So it is of `plan`.
+#[test]
+fn values_of_plan(rt: HostRuntime) -> Result<(), Fail> {
+    let alloc = rt.alloc();
     let words = spaced(alloc, &["plan --cert=x=y", YAL])?;
     let Some(CommandWords::Plan(read)) = read_words(alloc, &words)? else {
         return Err("plan".into());
@@ -188,7 +194,13 @@ fn values(rt: HostRuntime) -> Result<(), Fail> {
         (read.design.width, read.design.height),
         (1_048_576, 1_048_576)
     );
+    Ok(())
+}
 
+/// The outline of `shape` is in scaled units.
+#[test]
+fn values_of_shape(rt: HostRuntime) -> Result<(), Fail> {
+    let alloc = rt.alloc();
     let words = spaced(
         alloc,
         &["shape --expr e --outline .50x007.25 --per-unit 0100", GSRC],
@@ -197,13 +209,18 @@ fn values(rt: HostRuntime) -> Result<(), Fail> {
         return Err("shape".into());
     };
     assert_eq!(rt; (read.design.width, read.design.height), (50, 725));
+    Ok(())
+}
 
+/// The files that `measure` and `check` may name reach them.
+#[test]
+fn values_of_measure_and_check(rt: HostRuntime) -> Result<(), Fail> {
+    let alloc = rt.alloc();
     let words = spaced(alloc, &["measure --placed p --net-weights w", YAL])?;
     let Some(CommandWords::Measure(read)) = read_words(alloc, &words)? else {
         return Err("measure".into());
     };
     assert!(rt; read.weights.net_weights == Some("w"));
-
     for (more, rewrite) in [("", None), ("--rewrite=x=y", Some("x=y"))] {
         let words = spaced(alloc, &["check --cert c", more, YAL])?;
         let Some(CommandWords::Check(read)) = read_words(alloc, &words)? else {

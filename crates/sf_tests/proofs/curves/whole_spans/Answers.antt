@@ -3,7 +3,8 @@ use Rattle.std.specs.Prelude.{slice_index_or}
 use Rattle.std.proofs.lemmas.List.{get_or-map, length-map, take_all}
 use Rattle.sf_model.specs.declared.design.Design.{Design}
 use Rattle.sf_model.specs.Legal.{shapes_of}
-use Rattle.sf_curves.specs.Choices.{AreSpans, span_in}
+use Rattle.sf_model.specs.Spans.{span_in}
+use Rattle.sf_curves.specs.Choices.{AreSpans}
 use Rattle.sf_tests.proofs.curves.whole_spans.Goals as goal
 
 whole : (design : Design) (spans : List (ℕ × ℕ)) → spans ≡ map (λ block. (0, length block.shapes)) design.blocks → AreSpans design spans

@@ -1,10 +1,14 @@
-use Rattle.std.proofs.Common.{ap, ◌∙◌}
-use Rattle.sf_model.specs.Tree.{tree_of}
+use Rattle.std.proofs.Common.{List, [], length, ap, ◌∙◌}
+use Rattle.std.specs.Prelude.{slice_index_or}
+use Rattle.sf_model.specs.declared.parts.Block.{Block}
 use Rattle.sf_tests.proofs.TwoLeaves.{only-shape, second-shape, two-legal}
 use Rattle.sf_tests.proofs.node.hard_and_turned.Goals as goal
 
 pub returns-clause-legal : goal.returns-clause-legal
 returns-clause-legal c =
-    two-legal _ c.in_ok-first.first c.in_ok-second.second (record { w = 2; h = 3 }) (record { w = 3; h = 2 }) _ _
-    (c.from_vec.ensures ∙ c.in_ok-vec.ensures.items) (only-shape _ _ c.in_ok-first.ensures) (second-shape _ _ _ c.in_ok-second.ensures)
-    (ap tree_of c.in_ok-left.ensures.ok) (ap tree_of c.in_ok-right.ensures.ok)
+    let none : Block = record { name = []; shapes = [] } in
+    let are = c.bare-design.ensures ∙ c.in_ok-vec-2.ensures.items in
+    two-legal _ (record { w = 2; h = 3 }) (record { w = 3; h = 2 }) _ (ap length are)
+    (only-shape _ _ (ap (λ (bs : List Block). (slice_index_or bs 0 none).shapes) are ∙ c.in_ok-first.ensures))
+    (second-shape _ _ _ (ap (λ (bs : List Block). (slice_index_or bs 1 none).shapes) are ∙ c.in_ok-second.ensures ∙ c.in_ok-vec.ensures.items))
+    c.in_ok-plan.ensures

@@ -1,5 +1,5 @@
 use Rattle.sf_node.specs.Children.{IsSubproblem}
-use Rattle.sf_tests.proofs.node.node_at.Given as goal
+use Rattle.sf_tests.proofs.designs.node_at.Given as goal
 
 abbrev pub invariant-loop-place : goal.invariant-loop-place
 invariant-loop-place l = IsSubproblem l.design l.node

@@ -1,7 +1,7 @@
 use Rattle.std.proofs.Common.{sym, subst}
 use Rattle.sf_node.specs.Children.{IsSubproblem}
 use Rattle.sf_node.proofs.Reached.{root-subproblem}
-use Rattle.sf_tests.proofs.node.node_at.Goals as goal
+use Rattle.sf_tests.proofs.designs.node_at.Goals as goal
 
 pub loop-place-init : goal.loop-place-init
 loop-place-init c = subst (IsSubproblem c.args.design.now) (sym c.in_ok-node.ensures) (root-subproblem c.args.design.now)
