@@ -70,6 +70,40 @@ const GIVEN: Row = Row {
     stored: &[],
 };
 
+/// The words of a search of blocks alone.
+const PLAN_WORDS: &str = "plan --format gsrc --blocks a.blocks --cert a.cert";
+
+/// A search of blocks alone.
+const PLAN: Row = Row {
+    command: PLAN_WORDS,
+    ..GIVEN
+};
+
+/// A search of blocks with nets and places.
+const PLAN_WIRED: Row = Row {
+    command: "plan --format gsrc --blocks a.blocks --nets a.nets --pl a.pl --cert a.cert",
+    ..GIVEN
+};
+
+/// A search of a YAL file.
+const PLAN_YAL: Row = Row {
+    command: "plan --format yal --yal a.yal --cert a.cert",
+    ..GIVEN
+};
+
+/// The words of a check of a certificate of blocks alone.
+const CHECK_WORDS: &str = "check --format gsrc --blocks a.blocks --cert a.cert";
+
+/// A check of a certificate of blocks alone.
+const CHECK: Row = Row {
+    command: CHECK_WORDS,
+    ..GIVEN
+};
+
+/// The words of a check of a certificate of blocks with nets and places.
+const CHECK_WIRED: &str =
+    "check --format gsrc --blocks a.blocks --nets a.nets --pl a.pl --cert a.cert";
+
 fn words_of(alloc: Global, texts: &[&str]) -> Result<Vec<String>, AllocError> {
     let mut words = Vec::new(alloc);
     for text in texts {

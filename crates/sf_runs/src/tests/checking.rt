@@ -1,24 +1,15 @@
 //! Certificates and what is said of them.
 
 use super::texts::{
-    CELL_BLOCKS, CELL_NETS, CELL_PADS, CELLS, EQUALS, FAR_PAD, FIVE, JOINED, JOINED_CERT, NOWHERE,
-    ONE, PADDED, SOFT, SQUARES, TO_PAD, TWO, TWO_CERT, TWO_UNNAMED,
+    CELL_BLOCKS, CELL_NETS, CELL_PADS, CELLS, CLOSED_ROOT, EQUALS, FAR_PAD, FIVE, JOINED,
+    JOINED_CERT, NOWHERE, ONE, PADDED, SOFT, SQUARES, TO_PAD, TWO, TWO_CERT, TWO_UNNAMED,
 };
 use super::{
-    GIVEN, Printed, Row, Text, answer, assert_printed, assert_refused, assert_rows, has_line,
-    shelf_of, words_of,
+    CHECK, CHECK_WIRED, CHECK_WORDS, GIVEN, Printed, Row, Text, answer, assert_printed,
+    assert_refused, assert_rows, has_line, shelf_of, words_of,
 };
 use sf_io::Status;
 use std::test::Fail;
-
-const BARE: &str = "check --format gsrc --blocks a.blocks --cert a.cert";
-
-const CHECK: Row = Row {
-    command: BARE,
-    ..GIVEN
-};
-
-const WIRED: &str = "check --format gsrc --blocks a.blocks --nets a.nets --pl a.pl --cert a.cert";
 
 const THREE: &[u8] = b"UCSC blocks 1.0
 NumSoftRectangularBlocks : 0
@@ -26,9 +17,6 @@ NumHardRectilinearBlocks : 1
 NumTerminals : 0
 b0 hardrectilinear 4 (0, 0) (0, 3) (3, 3) (3, 0)
 ";
-
-const CLOSED_ROOT: &[u8] =
-    b"slicing-certificate 1\nblocks 2\ncost 15\nbound 15\nplan 0:2x3 1:3x2 *\ntree\nC\n";
 
 const OTHER_COST: &[u8] =
     b"slicing-certificate 1\nblocks 2\ncost 14\nbound 15\nplan 0:2x3 1:3x2 *\ntree\nE\nE\nE\nC\nC\nE\nE\nC\nC\n";
@@ -193,7 +181,7 @@ fn a_tree_without_end(rt: HostRuntime) -> Result<(), Fail> {
         text.push_str("S 0\n")?;
     }
     let files = [("a.blocks", ONE), ("a.cert", text.as_bytes())];
-    let words = words_of(alloc, &[BARE])?;
+    let words = words_of(alloc, &[CHECK_WORDS])?;
     assert_refused(
         &rt,
         alloc,
@@ -223,7 +211,7 @@ struct Closed {
 }
 
 const SOFT_ROOT: Closed = Closed {
-    command: WIRED,
+    command: CHECK_WIRED,
     options: "--wire-weight 10",
     files: SOFT_FILES,
     blocks: 1,
@@ -232,7 +220,7 @@ const SOFT_ROOT: Closed = Closed {
 };
 
 const CELL_ROOT: Closed = Closed {
-    command: WIRED,
+    command: CHECK_WIRED,
     options: "--wire-weight 1",
     files: CELL_FILES,
     blocks: 2,
@@ -285,7 +273,7 @@ const BOUNDS: [Closed; 11] = [
         ..CELL_ROOT
     },
     Closed {
-        command: BARE,
+        command: CHECK_WORDS,
         options: "--fixed",
         files: &[("a.blocks", TWO)],
         node_and_bound: "0 12",

@@ -2,10 +2,11 @@
 
 use super::checking::UNREADABLE;
 use super::reading::{READ, REFUSED};
-use super::texts::{FAR_PAD, ONE, ONE_CERT, PADDED, TO_PAD};
+use super::texts::{FAR_PAD, ONE, ONE_CERT, PADDED, PADDED_CERT, PADDED_LINES, TO_PAD};
 use super::words::{AT_ENDS, MEANINGLESS};
 use super::{
-    GIVEN, NAMES, Printed, Row, assert_held, assert_printed, assert_words, shelf_of, words_of,
+    CHECK, GIVEN, NAMES, PLAN, PLAN_WIRED, Printed, Row, assert_held, assert_printed, assert_words,
+    shelf_of, words_of,
 };
 use sf_io::{OpenGate, PartShelf, PartSink, Status};
 use sf_program::run;
@@ -23,29 +24,23 @@ struct Case {
 }
 
 const ONE_BLOCK: Row = Row {
-    command: "plan --format gsrc --blocks a.blocks --cert a.cert",
     files: &[("a.blocks", ONE)],
-    ..GIVEN
+    ..PLAN
 };
 
 /// Three loads, for the blocks, the nets and the pads, then two stores.
 const ALL_FILES: Row = Row {
-    command: "plan --format gsrc --blocks a.blocks --nets a.nets --pl a.pl --cert a.cert",
     options: "--wire-weight 1 --pl-out a.out",
     files: &[("a.blocks", PADDED), ("a.nets", TO_PAD), ("a.pl", FAR_PAD)],
-    ..GIVEN
+    ..PLAN_WIRED
 };
 
 /// Two loads, for the blocks and the certificate, then a store.
 const REWRITE: Row = Row {
-    command: "check --format gsrc --blocks a.blocks --cert a.cert",
     options: "--rewrite b.cert",
     files: &[("a.blocks", ONE), ("a.cert", ONE_CERT)],
-    ..GIVEN
+    ..CHECK
 };
-
-const PADDED_CERT: &[u8] =
-    b"slicing-certificate 2\nblocks 1\ncost 24\nbound 24\nplan 0:2x2\ntree\nE\nC h\n";
 
 const PADDED_PLACES: &[u8] = b"UCLA pl 1.0\nb0 0 0 DIMS = (2, 2) : N\np0 10 0\n";
 
@@ -182,9 +177,6 @@ const ALL_DONE: Part = Part {
     row: GIVEN,
 };
 
-const PADDED_LINES: &str =
-    "status Optimal\ncost 24\nbound 24\ndecided 2\nsize 2 2\narea 4\nwire 20\nplan 0:2x2\n";
-
 const HALF_CERT: &[u8] = b"slicing-certificate 2\nblocks 1\ncost";
 
 const LOST: Row = Row {
@@ -278,11 +270,10 @@ const PARTS: &[Part] = &[
     Part {
         room: 7,
         row: Row {
-            command: "check --format gsrc --blocks a.blocks --cert a.cert",
             files: &[("a.blocks", ONE), ("a.cert", ONE_CERT)],
             status: Status::WriteFault,
             printed: Printed::Whole("status "),
-            ..GIVEN
+            ..CHECK
         },
         ..ALL_DONE
     },

@@ -1,6 +1,6 @@
 //! Texts past the limits of pads, nets, pins and files, which lines by the thousand make.
 
-use super::{answer, words_of};
+use super::{PLAN_WORDS, PLAN_YAL, answer, words_of};
 use sf_io::{MemShelf, Status};
 use std::alloc::{AllocError, Global};
 use std::process::Abort;
@@ -62,8 +62,7 @@ fn text_of(alloc: Global, past: &Past) -> Result<String, AllocError> {
 }
 
 fn assert_past(rt: &(impl Abort + Threads + Sync), alloc: Global, past: &Past) -> Result<(), Fail> {
-    let command = "plan --format gsrc --blocks a.blocks --cert a.cert";
-    let words = words_of(alloc, &[command, past.options])?;
+    let words = words_of(alloc, &[PLAN_WORDS, past.options])?;
     let mut shelf = MemShelf::new(alloc, Vec::new(alloc));
     shelf.add("a.blocks", BLOCK)?;
     shelf.add(past.file, text_of(alloc, past)?.as_bytes())?;
@@ -90,7 +89,7 @@ fn past_the_limit_of_pins(rt: HostRuntime) -> Result<(), Fail> {
 #[test]
 fn past_the_limit_of_files(rt: HostRuntime) -> Result<(), Fail> {
     let alloc = rt.alloc();
-    let words = words_of(alloc, &["plan --format yal --yal a.yal --cert a.cert"])?;
+    let words = words_of(alloc, &[PLAN_YAL.command])?;
     let mut shelf = MemShelf::new(alloc, Vec::new(alloc));
     shelf.add("a.yal", &vec![in alloc; b' '; 67_108_865]?)?;
     let (status, printed) = answer(&rt, alloc, &words, &mut shelf, 0)?;

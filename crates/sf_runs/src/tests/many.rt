@@ -1,6 +1,6 @@
 //! The greatest number of blocks: 320 blocks 10x10 in files with comments and CR LF, and one more.
 
-use super::{answer, has_line, words_of};
+use super::{PLAN_WIRED, answer, has_line, words_of};
 use sf_io::{MemShelf, Status};
 use std::alloc::{AllocError, Global};
 use std::test::Fail;
@@ -65,10 +65,10 @@ fn plan(
     rt: &(impl Threads + Sync),
     alloc: Global,
     shelf: &mut MemShelf,
-    options: &str,
+    options: &'static str,
 ) -> Result<(Status, String), Fail> {
-    let command = "plan --format gsrc --blocks a.blocks --nets a.nets --pl a.pl --cert a.cert";
-    answer(rt, alloc, &words_of(alloc, &[command, options])?, shelf, 0)
+    let words = words_of(alloc, &[PLAN_WIRED.command, options])?;
+    answer(rt, alloc, &words, shelf, 0)
 }
 
 #[test]

@@ -1,22 +1,12 @@
 //! Plans: what is found, at what cost, and which certificate and which placement are stored.
 
 use super::texts::{
-    EQUALS, FAR_PAD, FIVE, JOINED, JOINED_CERT, NOWHERE, ONE, ONE_CERT, ONE_LINES, PADDED, SOFT,
-    SQUARES, TO_PAD, TWO, TWO_CERT, TWO_PLACES,
+    EQUALS, FAR_PAD, FIVE, JOINED, JOINED_CERT, NOWHERE, ONE, ONE_CERT, ONE_LINES, PADDED,
+    PADDED_CERT, PADDED_LINES, SOFT, SQUARES, TO_PAD, TWO, TWO_CERT, TWO_PLACES,
 };
-use super::{GIVEN, Printed, Row, assert_rows};
+use super::{PLAN, PLAN_WIRED, Printed, Row, assert_rows};
 use sf_io::Status;
 use std::test::Fail;
-
-const PLAN: Row = Row {
-    command: "plan --format gsrc --blocks a.blocks --cert a.cert",
-    ..GIVEN
-};
-
-const WIRED: Row = Row {
-    command: "plan --format gsrc --blocks a.blocks --nets a.nets --pl a.pl --cert a.cert",
-    ..GIVEN
-};
 
 const HUGE: &[u8] = b"UCSC blocks 1.0
 NumSoftRectangularBlocks : 0
@@ -75,9 +65,6 @@ const FIRST_CERT: &[u8] =
 const THIRD_CERT: &[u8] =
     b"slicing-certificate 2\nblocks 2\ncost none\nbound 12\nplan none\ntree\nE\nE\nE\nO\nO\nO\n";
 
-const PADDED_CERT: &[u8] =
-    b"slicing-certificate 2\nblocks 1\ncost 24\nbound 24\nplan 0:2x2\ntree\nE\nC h\n";
-
 const SOFT_CERT: &[u8] =
     b"slicing-certificate 2\nblocks 1\ncost 196\nbound 196\nplan 0:3x2\ntree\nE\nS 0\nC h\nS 0\nC h\nC h\n";
 
@@ -130,16 +117,14 @@ const ROWS: &[Row] = &[
             "status Optimal\ncost 12\nbound 12\ndecided 6\nsize 4 2\narea 8\nwire 4\nplan 0:2x2 1:2x2 *\n",
         ),
         stored: &[("a.cert", JOINED_CERT)],
-        ..WIRED
+        ..PLAN_WIRED
     },
     Row {
         options: "--wire-weight 1",
         files: &[("a.blocks", PADDED), ("a.nets", TO_PAD), ("a.pl", FAR_PAD)],
-        printed: Printed::Whole(
-            "status Optimal\ncost 24\nbound 24\ndecided 2\nsize 2 2\narea 4\nwire 20\nplan 0:2x2\n",
-        ),
+        printed: Printed::Whole(PADDED_LINES),
         stored: &[("a.cert", PADDED_CERT)],
-        ..WIRED
+        ..PLAN_WIRED
     },
     Row {
         options: "--wire-weight 10",
@@ -148,7 +133,7 @@ const ROWS: &[Row] = &[
             "status Optimal\ncost 196\nbound 196\ndecided 6\nsize 3 2\narea 6\nwire 19\nplan 0:3x2\n",
         ),
         stored: &[("a.cert", SOFT_CERT)],
-        ..WIRED
+        ..PLAN_WIRED
     },
     Row {
         files: &[("a.blocks", HUGE)],

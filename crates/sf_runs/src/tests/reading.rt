@@ -4,24 +4,9 @@ use super::texts::{
     CELL_BLOCKS, CELL_CERT, CELL_LINES, CELL_NETS, CELL_PADS, CELL_PLACES, CELLS, JOINED, NOWHERE,
     ONE_CERT, ONE_LINES, PADDED, SQUARES, TO_PAD,
 };
-use super::{GIVEN, Printed, Row, assert_refused, assert_rows, words_of};
+use super::{PLAN, PLAN_WIRED, PLAN_YAL, Printed, Row, assert_refused, assert_rows, words_of};
 use sf_io::Status;
 use std::test::Fail;
-
-const PLAN: Row = Row {
-    command: "plan --format gsrc --blocks a.blocks --cert a.cert",
-    ..GIVEN
-};
-
-const WIRED: Row = Row {
-    command: "plan --format gsrc --blocks a.blocks --nets a.nets --pl a.pl --cert a.cert",
-    ..GIVEN
-};
-
-const YAL: Row = Row {
-    command: "plan --format yal --yal a.yal --cert a.cert",
-    ..GIVEN
-};
 
 const LOOSE: &[u8] = b"UCSC blocks 1.0
 NumSoftRectangularBlocks : 0
@@ -112,7 +97,7 @@ pub const READ: &[Row] = &[
         files: &[("a.yal", CELLS)],
         printed: Printed::Whole(CELL_LINES),
         stored: &[("a.cert", CELL_CERT), ("a.out", CELL_PLACES)],
-        ..YAL
+        ..PLAN_YAL
     },
     Row {
         options: "--wire-weight 1 --pl-out a.out",
@@ -123,7 +108,7 @@ pub const READ: &[Row] = &[
         ],
         printed: Printed::Whole(CELL_LINES),
         stored: &[("a.cert", CELL_CERT), ("a.out", CELL_PLACES)],
-        ..WIRED
+        ..PLAN_WIRED
     },
     Row {
         files: &[("a.blocks", LOOSE)],
@@ -138,7 +123,7 @@ pub const READ: &[Row] = &[
             ("a.pl", PAD_AT_LIMIT),
         ],
         printed: Printed::Lines("status Optimal"),
-        ..WIRED
+        ..PLAN_WIRED
     },
 ];
 
@@ -188,7 +173,7 @@ pub const REFUSED: &[Row] = &[
         ],
         status: Status::BadInput,
         printed: Printed::Whole("error BadInput nets 4 BadDegree 3 2\n"),
-        ..WIRED
+        ..PLAN_WIRED
     },
     Row {
         files: &[
@@ -198,7 +183,7 @@ pub const REFUSED: &[Row] = &[
         ],
         status: Status::BadInput,
         printed: Printed::Whole("error BadInput design 0 UnknownName zz\n"),
-        ..WIRED
+        ..PLAN_WIRED
     },
     Row {
         options: "--nets a.nets",
@@ -215,19 +200,19 @@ pub const REFUSED: &[Row] = &[
         ],
         status: Status::BadInput,
         printed: Printed::Whole("error BadInput design 0 DuplicateName p0\n"),
-        ..WIRED
+        ..PLAN_WIRED
     },
     Row {
         files: &[("a.blocks", PADDED), ("a.nets", TO_PAD), ("a.pl", PAD_CUT)],
         status: Status::BadInput,
         printed: Printed::Whole("error BadInput pl 2 BadLine\n"),
-        ..WIRED
+        ..PLAN_WIRED
     },
     Row {
         files: &[("a.blocks", PADDED), ("a.nets", TO_PAD), ("a.pl", NOWHERE)],
         status: Status::BadInput,
         printed: Printed::Whole("error BadInput design 0 MissingPlace p0\n"),
-        ..WIRED
+        ..PLAN_WIRED
     },
     Row {
         files: &[("a.blocks", TOO_LARGE)],
@@ -243,55 +228,55 @@ pub const REFUSED: &[Row] = &[
         ],
         status: Status::OverLimit,
         printed: Printed::Whole("error OverLimit coordinate 1048577 1048576\n"),
-        ..WIRED
+        ..PLAN_WIRED
     },
     Row {
         options: "--wire-weight 1",
         files: &[("a.blocks", SQUARES), ("a.pl", NOWHERE)],
         status: Status::ReadFault,
-        ..WIRED
+        ..PLAN_WIRED
     },
     Row {
         files: &[("a.yal", YAL_UNCLOSED)],
         status: Status::BadInput,
         printed: Printed::Whole("error BadInput yal 1 Truncated\n"),
-        ..YAL
+        ..PLAN_YAL
     },
     Row {
         files: &[("a.yal", YAL_NO_PARENT)],
         status: Status::BadInput,
         printed: Printed::Whole("error BadInput yal 0 NoParent\n"),
-        ..YAL
+        ..PLAN_YAL
     },
     Row {
         files: &[("a.yal", YAL_STRANGE_CELL)],
         status: Status::BadInput,
         printed: Printed::Whole("error BadInput yal 1 UnknownModule zz\n"),
-        ..YAL
+        ..PLAN_YAL
     },
     Row {
         files: &[("a.yal", YAL_CLOSED_TWICE)],
         status: Status::BadInput,
         printed: Printed::Whole("error BadInput yal 2 BadStatement\n"),
-        ..YAL
+        ..PLAN_YAL
     },
     Row {
         files: &[("a.yal", YAL_TWO_PARENTS)],
         status: Status::BadInput,
         printed: Printed::Whole("error BadInput yal 2 TwoParents\n"),
-        ..YAL
+        ..PLAN_YAL
     },
     Row {
         files: &[("a.yal", YAL_STRANGE_NUMBER)],
         status: Status::BadInput,
         printed: Printed::Whole("error BadInput yal 2 BadNumber NotNumber\n"),
-        ..YAL
+        ..PLAN_YAL
     },
     Row {
         files: &[("a.yal", YAL_FLAT)],
         status: Status::BadInput,
         printed: Printed::Whole("error BadInput yal 2 ZeroSide\n"),
-        ..YAL
+        ..PLAN_YAL
     },
 ];
 

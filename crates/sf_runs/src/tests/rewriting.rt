@@ -1,8 +1,8 @@
 //! Certificates that are stored anew with the first parts that close their subproblems.
 
 use super::texts::{
-    CELL_BLOCKS, CELL_CERT, CELL_NETS, CELL_PADS, JOINED, JOINED_CERT, ONE, SQUARES, TWO, TWO_CERT,
-    TWO_UNNAMED,
+    CELL_BLOCKS, CELL_CERT, CELL_NETS, CELL_PADS, CLOSED_ROOT, JOINED, JOINED_CERT, ONE, SQUARES,
+    TWO, TWO_CERT, TWO_UNNAMED,
 };
 use super::{GIVEN, Printed, Row, answer, assert_rows, shelf_of, words_of};
 use sf_io::Status;
@@ -16,9 +16,6 @@ const REWRITE: Row = Row {
 /// Two squares of side 2 and a net of both. No part before the pair is as high as the cost.
 const LATE_PARTS: &[u8] =
     b"slicing-certificate 2\nblocks 2\ncost 12\nbound 12\nplan 0:2x2 1:2x2 *\ntree\nE\nE\nE\nC f\nC h\nC p\n";
-
-const CLOSED_ROOT: &[u8] =
-    b"slicing-certificate 1\nblocks 2\ncost 15\nbound 15\nplan 0:2x3 1:3x2 *\ntree\nC\n";
 
 const CUT_OFF: &[u8] =
     b"slicing-certificate 2\nblocks 1\ncost 12\nbound 12\nplan 0:3x4\ntree\nE\nC\n";

@@ -89,6 +89,14 @@ p0 B
 /// The place of the pad.
 pub const FAR_PAD: &[u8] = b"UCLA pl 1.0\np0 10 0\n";
 
+/// The best plan of the block 2x2 with a net of it and this pad, with wire weight 1.
+pub const PADDED_LINES: &str =
+    "status Optimal\ncost 24\nbound 24\ndecided 2\nsize 2 2\narea 4\nwire 20\nplan 0:2x2\n";
+
+/// Its certificate.
+pub const PADDED_CERT: &[u8] =
+    b"slicing-certificate 2\nblocks 1\ncost 24\nbound 24\nplan 0:2x2\ntree\nE\nC h\n";
+
 /// Two cells 2x2 between two pads, as YAL.
 pub const CELLS: &[u8] = b"/* two cells */
 MODULE a; TYPE GENERAL; DIMENSIONS 0 0 2 0 2 2 0 2;
@@ -156,12 +164,16 @@ pub const TWO_CERT: &[u8] =
 pub const TWO_UNNAMED: &[u8] =
     b"slicing-certificate 1\nblocks 2\ncost 15\nbound 15\nplan 0:2x3 1:3x2 *\ntree\nE\nE\nE\nC\nC\nE\nE\nC\nC\n";
 
+/// The placement of their best plan.
+pub const TWO_PLACES: &[u8] = b"UCLA pl 1.0\nb0 0 0 DIMS = (2, 3) : N\nb1 2 0 DIMS = (3, 2) : N\n";
+
+/// A certificate of them that closes the root, whose bound is below the cost.
+pub const CLOSED_ROOT: &[u8] =
+    b"slicing-certificate 1\nblocks 2\ncost 15\nbound 15\nplan 0:2x3 1:3x2 *\ntree\nC\n";
+
 /// The certificate of two squares of side 2 and a net of both, with wire weight 1.
 pub const JOINED_CERT: &[u8] =
     b"slicing-certificate 2\nblocks 2\ncost 12\nbound 12\nplan 0:2x2 1:2x2 *\ntree\nE\nE\nE\nC p\nC p\nC p\n";
-
-/// Their placement.
-pub const TWO_PLACES: &[u8] = b"UCLA pl 1.0\nb0 0 0 DIMS = (2, 3) : N\nb1 2 0 DIMS = (3, 2) : N\n";
 
 /// The one block beside the other.
 pub const BESIDE: &[u8] = b"0 1 *";

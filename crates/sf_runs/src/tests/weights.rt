@@ -1,15 +1,14 @@
 //! Weights of nets: what a weighted design costs, and texts of weights that are refused.
 
 use super::texts::{CELL_PLACES, CELLS, JOINED, JOINED_CERT, NOWHERE, SQUARES};
-use super::{GIVEN, Printed, Row, Text, assert_rows};
+use super::{CHECK_WIRED, GIVEN, PLAN_WIRED, PLAN_WORDS, Printed, Row, Text, assert_rows};
 use sf_io::Status;
 use std::test::Fail;
 
 /// Two squares of side 2 and a net of both, with weights.
-const PLAN: Row = Row {
-    command: "plan --format gsrc --blocks a.blocks --nets a.nets --pl a.pl --cert a.cert",
+const PLAN_WEIGHED: Row = Row {
     options: "--wire-weight 1 --net-weights a.weights",
-    ..GIVEN
+    ..PLAN_WIRED
 };
 
 const MEASURE: Row = Row {
@@ -51,7 +50,7 @@ const WEIGHTED: &[Row] = &[
             "status Optimal\ncost 20\nbound 20\ndecided 6\nsize 4 2\narea 8\nwire 12\nplan 0:2x2 1:2x2 *\n",
         ),
         stored: &[("a.cert", TRIPLE_CERT)],
-        ..PLAN
+        ..PLAN_WEIGHED
     },
     Row {
         files: &[
@@ -64,7 +63,7 @@ const WEIGHTED: &[Row] = &[
             "status Optimal\ncost 8\nbound 8\ndecided 6\nsize 4 2\narea 8\nwire 0\nplan 0:2x2 1:2x2 *\n",
         ),
         stored: &[("a.cert", ZERO_CERT)],
-        ..PLAN
+        ..PLAN_WEIGHED
     },
     Row {
         files: &[
@@ -77,16 +76,16 @@ const WEIGHTED: &[Row] = &[
             "status Optimal\ncost 12\nbound 12\ndecided 6\nsize 4 2\narea 8\nwire 4\nplan 0:2x2 1:2x2 *\n",
         ),
         stored: &[("a.cert", JOINED_CERT)],
-        ..PLAN
+        ..PLAN_WEIGHED
     },
     Row {
-        command: "check --format gsrc --blocks a.blocks --nets a.nets --pl a.pl --cert a.cert",
+        command: CHECK_WIRED,
         files: TRIPLE_FILES,
         printed: Printed::Whole("status Yes\ncost 20\nbound 20\ndecided 6\n"),
-        ..PLAN
+        ..PLAN_WEIGHED
     },
     Row {
-        command: "check --format gsrc --blocks a.blocks --nets a.nets --pl a.pl --cert a.cert",
+        command: CHECK_WIRED,
         options: "--wire-weight 1",
         files: TRIPLE_FILES,
         status: Status::No,
@@ -116,7 +115,7 @@ const REFUSED: &[Row] = &[
         ],
         status: Status::BadInput,
         printed: Printed::Whole("error BadInput weights 1 UnknownNet 1\n"),
-        ..PLAN
+        ..PLAN_WEIGHED
     },
     Row {
         files: &[
@@ -127,7 +126,7 @@ const REFUSED: &[Row] = &[
         ],
         status: Status::BadInput,
         printed: Printed::Whole("error BadInput weights 1 BadNumber TooLarge\n"),
-        ..PLAN
+        ..PLAN_WEIGHED
     },
     Row {
         files: &[
@@ -138,7 +137,7 @@ const REFUSED: &[Row] = &[
         ],
         status: Status::BadInput,
         printed: Printed::Whole("error BadInput weights 2 RepeatedNet 0\n"),
-        ..PLAN
+        ..PLAN_WEIGHED
     },
     Row {
         files: &[
@@ -149,7 +148,7 @@ const REFUSED: &[Row] = &[
         ],
         status: Status::BadInput,
         printed: Printed::Whole("error BadInput weights 1 BadLine\n"),
-        ..PLAN
+        ..PLAN_WEIGHED
     },
     Row {
         files: &[
@@ -160,14 +159,14 @@ const REFUSED: &[Row] = &[
         ],
         status: Status::BadInput,
         printed: Printed::Whole("error BadInput pl 2 BadLine\n"),
-        ..PLAN
+        ..PLAN_WEIGHED
     },
     Row {
-        command: "plan --format gsrc --blocks a.blocks --cert a.cert",
+        command: PLAN_WORDS,
         files: &[("a.blocks", SQUARES), ("a.weights", b"0 1\n")],
         status: Status::BadInput,
         printed: Printed::Whole("error BadInput weights 1 UnknownNet 0\n"),
-        ..PLAN
+        ..PLAN_WEIGHED
     },
     Row {
         options: "--net-weights a.weights",
@@ -183,7 +182,7 @@ const REFUSED: &[Row] = &[
     Row {
         files: &[("a.blocks", SQUARES), ("a.nets", JOINED), ("a.pl", NOWHERE)],
         status: Status::ReadFault,
-        ..PLAN
+        ..PLAN_WEIGHED
     },
 ];
 

@@ -4,7 +4,7 @@ use super::texts::{
     BESIDE, CELL_BLOCKS, CELL_CERT, CELL_LINES, CELL_NETS, CELL_PADS, CELL_PLACES, CELLS, ONE,
     ONE_CERT, ONE_LINES,
 };
-use super::{GIVEN, Printed, Row, Text, assert_rows, assert_words, words_of};
+use super::{GIVEN, PLAN, PLAN_WORDS, Printed, Row, Text, assert_rows, assert_words, words_of};
 use sf_io::Status;
 use std::alloc::{AllocError, Global};
 use std::test::Fail;
@@ -16,14 +16,11 @@ const USAGE: Row = Row {
     ..GIVEN
 };
 
-const PLAN_WORDS: &str = "plan --format gsrc --blocks a.blocks --cert a.cert";
-
 const PLAN_ONE: Row = Row {
-    command: PLAN_WORDS,
     files: &[("a.blocks", ONE)],
     printed: Printed::Whole(ONE_LINES),
     stored: &[("a.cert", ONE_CERT)],
-    ..GIVEN
+    ..PLAN
 };
 
 const UNPLANNED: Row = Row {
@@ -118,7 +115,7 @@ const YAL: &[Text] = &[
     ("a.expr", BESIDE),
 ];
 
-const PLAN: Row = Row {
+const ALL_OF_PLAN: Row = Row {
     options: "--per-unit 1 --fixed --shapes 16 --outline 1048576x1048576 --area-weight 1 --wire-weight 1 --net-weights a.weights --cert a.cert --pl-out a.out --workers 1 --nodes 20",
     printed: Printed::Whole(CELL_LINES),
     stored: &[("a.cert", CELL_CERT), ("a.out", CELL_PLACES)],
@@ -149,12 +146,12 @@ const ALL_OPTIONS: &[Row] = &[
     Row {
         command: "plan --format gsrc --blocks a.blocks --nets a.nets --pl a.pl",
         files: GSRC,
-        ..PLAN
+        ..ALL_OF_PLAN
     },
     Row {
         command: "plan --format yal --yal a.yal",
         files: YAL,
-        ..PLAN
+        ..ALL_OF_PLAN
     },
     Row {
         command: "check --format gsrc --blocks a.blocks --nets a.nets --pl a.pl",

@@ -1,15 +1,11 @@
 //! Two workers: what is found, that its certificate is valid, and that both are at work at once.
 
 use super::texts::EQUALS;
-use super::{answer, answer_at, has_line, shelf_of, words_of};
+use super::{CHECK_WORDS, PLAN_WORDS, answer, answer_at, has_line, shelf_of, words_of};
 use sf_io::{Gate, Status};
 use std::sync::atomic::{AtomicBool, Ordering};
 use std::test::Fail;
 use std::thread;
-
-const PLAN: &str = "plan --format gsrc --blocks a.blocks --cert a.cert --workers 2";
-
-const CHECK: &str = "check --format gsrc --blocks a.blocks --cert a.cert";
 
 /// How often a held worker looks for the other one.
 const TURNS: u64 = 100_000_000;
@@ -45,12 +41,14 @@ impl Gate for Held {
 fn two_workers_find_the_least_cost(rt: HostRuntime) -> Result<(), Fail> {
     let alloc = rt.alloc();
     let mut shelf = shelf_of(alloc, &[("a.blocks", EQUALS)], 0)?;
-    let (status, printed) = answer(&rt, alloc, &words_of(alloc, &[PLAN])?, &mut shelf, 0)?;
+    let plan = words_of(alloc, &[PLAN_WORDS, "--workers 2"])?;
+    let (status, printed) = answer(&rt, alloc, &plan, &mut shelf, 0)?;
     assert_eq!(rt; status, Status::Done);
     for line in ["status Optimal", "cost 12", "bound 12"] {
         assert!(rt; has_line(printed.as_str(), line), "{line}");
     }
-    let (status, said) = answer(&rt, alloc, &words_of(alloc, &[CHECK])?, &mut shelf, 0)?;
+    let check = words_of(alloc, &[CHECK_WORDS])?;
+    let (status, said) = answer(&rt, alloc, &check, &mut shelf, 0)?;
     assert_eq!(rt; status, Status::Done);
     assert!(rt; has_line(said.as_str(), "status Yes"));
     Ok(())
@@ -66,7 +64,7 @@ fn each_worker_waits_for_the_other(rt: HostRuntime) -> Result<(), Fail> {
             turns_ran_out: AtomicBool::new(false),
         };
         let mut shelf = shelf_of(alloc, &[("a.blocks", EQUALS)], 0)?;
-        let words = words_of(alloc, &[PLAN])?;
+        let words = words_of(alloc, &[PLAN_WORDS, "--workers 2"])?;
         let (status, printed) = answer_at(&rt, alloc, &words, &mut shelf, 0, &gate)?;
         assert_eq!(rt; status, Status::Done, "{held}");
         assert!(rt; has_line(printed.as_str(), "cost 12"), "{held}");
