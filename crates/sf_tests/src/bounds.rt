@@ -11,6 +11,7 @@ use sf_bounds::{Bounds, Room, Standard, solve};
 use sf_model::{BlockList, Design, MAX, NetList, Outline, PadList, Pin, Weights};
 use sf_node::{Node, Part};
 use std::alloc::{AllocError, Global};
+use std::process::Abort;
 use std::test::Fail;
 
 /// The two halves of a subproblem by its first wide span.
@@ -90,6 +91,21 @@ fn four_squares(alloc: Global, outer: u8, inner: u8, padded: u8) -> Result<Desig
     })
 }
 
+/// Places of children, and the values there with weights of 1: of no token; 0 1 *; 0 1 * 2 *; 0 1 * 2 +;
+/// 0 1 + 2 +; 0 1 * 2 * 3 *; 0 1 * 2.
+const ITEMS: [(&[usize], u64); 7] = [
+    (&[], 26),
+    (&[0, 0, 0], 26),
+    (&[0, 0, 0, 0, 0], 30),
+    (&[0, 0, 0, 0, 1], 34),
+    (&[0, 0, 1, 0, 1], 30),
+    (&[0, 0, 0, 0, 0, 0, 0], 36),
+    (&[0, 0, 0, 0], 26),
+];
+
+/// The same with the weights 0, 2 and 3: of 0 1 * 2 +; 0 1 * 2 * 3 *.
+const WEIGHTED: [(&[usize], u64); 2] = [(&[0, 0, 0, 0, 1], 42), (&[0, 0, 0, 0, 0, 0, 0], 48)];
+
 /// The value of the subproblem that is reached over the children at these places.
 fn value_at<'a>(
     alloc: Global,
@@ -104,24 +120,34 @@ fn value_at<'a>(
     Standard.bound(design, &node, room)
 }
 
+/// Asserts that the subproblems over these places have these values, one after another in one room.
+fn assert_values<'a>(
+    rt: &impl Abort,
+    alloc: Global,
+    design: &'a Design,
+    room: &mut Room<'a>,
+    rows: &[(&[usize], u64)],
+) -> Result<(), Fail>
+    requires serves { MayServe room.old design.now }
+    ensures serves { MayServe room.new design.now }
+{
+    for (places, value) in rows {
+        assert_eq!(rt;
+            value_at(alloc, design, room, places)?,
+            *value,
+            "{places:?}"
+        );
+    }
+    Ok(())
+}
+
 /// Nets of blocks in one item, in two, and with a pad.
 #[test]
 fn measures_items(rt: HostRuntime) -> Result<(), Fail> {
     let alloc = rt.alloc();
     let design = four_squares(alloc, 1, 1, 1)?;
     let mut room = Room::new(alloc);
-    // no token; 0 1 *; 0 1 * 2 *; 0 1 * 2 +; 0 1 + 2 +; 0 1 * 2 * 3 *; 0 1 * 2
-    assert_eq!(rt; value_at(alloc, &design, &mut room, &[])?, 26);
-    assert_eq!(rt; value_at(alloc, &design, &mut room, &[0, 0, 0])?, 26);
-    assert_eq!(rt; value_at(alloc, &design, &mut room, &[0, 0, 0, 0, 0])?, 30);
-    assert_eq!(rt; value_at(alloc, &design, &mut room, &[0, 0, 0, 0, 1])?, 34);
-    assert_eq!(rt; value_at(alloc, &design, &mut room, &[0, 0, 1, 0, 1])?, 30);
-    assert_eq!(rt;
-        value_at(alloc, &design, &mut room, &[0, 0, 0, 0, 0, 0, 0])?,
-        36
-    );
-    assert_eq!(rt; value_at(alloc, &design, &mut room, &[0, 0, 0, 0])?, 26);
-    Ok(())
+    assert_values(&rt, alloc, &design, &mut room, &ITEMS)
 }
 
 /// A net counts as often as its weight says.
@@ -144,13 +170,7 @@ fn measures_weights(rt: HostRuntime) -> Result<(), Fail> {
     let alloc = rt.alloc();
     let design = four_squares(alloc, 0, 2, 3)?;
     let mut room = Room::new(alloc);
-    // 0 1 * 2 +; 0 1 * 2 * 3 *
-    assert_eq!(rt; value_at(alloc, &design, &mut room, &[0, 0, 0, 0, 1])?, 42);
-    assert_eq!(rt;
-        value_at(alloc, &design, &mut room, &[0, 0, 0, 0, 0, 0, 0])?,
-        48
-    );
-    Ok(())
+    assert_values(&rt, alloc, &design, &mut room, &WEIGHTED)
 }
 
 /// The values of the five parts asked for one by one, and of the four below the full one asked for together.
