@@ -13,7 +13,7 @@ use crate::layout::{Home, Standing};
 use crate::meet::{met, reach_gap};
 use crate::reach::{ANYWHERE, Reach};
 use crate::wire_parts::WireParts;
-use sf_model::{Design, Pin};
+use sf_model::{Design, MOST_SIDE, Pin};
 use sf_standard::Interval;
 
 /// The greatest side and the greatest sum of two sides so far.
@@ -55,8 +55,8 @@ fn pin_range(design: &Design, table: &[Standing], pin: Pin) -> Reach
 
 /// A pair with one side more.
 fn with_side(pair: Pair, side: u64) -> Pair
-    requires most { IfSome pair.most (λ most. most ≤ 1048576) }
-    requires side { side ≤ 1048576 }
+    requires most { IfSome pair.most (λ most. most ≤ MOST_SIDE) }
+    requires side { side ≤ MOST_SIDE }
     ensures { result ≡ paired pair.most pair.sum side }
 {
     match pair.most {
@@ -76,8 +76,8 @@ fn with_side(pair: Pair, side: u64) -> Pair
 fn pair_pin(pair: Pair, design: &Design, table: &[Standing], pin: Pin) -> Pair
     requires table { length table.now ≡ length design.now.blocks }
     requires inside { pin_number pin < pin_count (length design.now.blocks) (length design.now.pads) pin }
-    requires sides { All (λ s. s.side ≤ 1048576) table.now }
-    requires most { IfSome pair.most (λ most. most ≤ 1048576) }
+    requires sides { All (λ s. s.side ≤ MOST_SIDE) table.now }
+    requires most { IfSome pair.most (λ most. most ≤ MOST_SIDE) }
     ensures { result ≡ pairs_pin table.now pair pin }
 {
     match pin {

@@ -9,14 +9,14 @@ ghost use Rattle.sf_bounds.specs.Pins.{standing_of, standing_at, standing_by};
 
 use crate::layout::{Home, Seat, Standing};
 use crate::reach::Reach;
-use sf_model::Design;
+use sf_model::{Design, MOST_SIDE};
 use sf_standard::{Extent, Interval};
 use std::alloc::AllocError as NoMemory;
 
 /// Where a block of this least side lies along a side of the outline.
 fn side_range(least: u32, side: u32) -> Interval
-    requires least { least ≤ 1048576 }
-    requires side { side ≤ 1048576 }
+    requires least { least ≤ MOST_SIDE }
+    requires side { side ≤ MOST_SIDE }
     ensures { result ≡ record { low = pos least; high = pos (2 * side) -ℤ pos least } }
 {
     let least = i64::from(least);
@@ -28,8 +28,8 @@ fn side_range(least: u32, side: u32) -> Interval
 
 /// What the pins of a block are measured by, before its seat is known.
 fn unseated(design: &Design, extent: Extent) -> Standing
-    requires w { extent.least_w ≤ 1048576 }
-    requires h { extent.least_h ≤ 1048576 }
+    requires w { extent.least_w ≤ MOST_SIDE }
+    requires h { extent.least_h ≤ MOST_SIDE }
     ensures { result ≡ standing_of design.now extent None }
 {
     Standing {
@@ -90,7 +90,7 @@ pub fn fill_table(
     design: &Design,
 ) -> Result<(), NoMemory>
     requires count { length extents.now ≡ length design.now.blocks }
-    requires small { All (λ e. (e.least_w ≤ 1048576) × (e.least_h ≤ 1048576)) extents.now }
+    requires small { All (λ e. (e.least_w ≤ MOST_SIDE) × (e.least_h ≤ MOST_SIDE)) extents.now }
     requires seats { All (λ s. s.offset.block < length design.now.blocks) seats.now }
     ensures { OnOk result
         (Tells (standing_by design.now extents.now seats.now) (length design.now.blocks) table.new.items) }
