@@ -8,12 +8,10 @@ use Rattle.std.proofs.lemmas.List.Elements.{All-nil, All-cons, All-append, All-f
 use Rattle.std.proofs.lemmas.List.Sorted.{All-permutation, IsPermutation-refl, IsPermutation-trans, IsPermutation-append, IsPermutation-append_right, IsPermutation-append_comm}
 use Rattle.sf_model.proofs.Each.{each-left, each-right}
 use Rattle.sf_node.specs.declared.step.Step.{Step}
-use Rattle.sf_node.specs.declared.task.Task.{Task}
 use Rattle.sf_node.specs.Order.{steps_cmp}
 use Rattle.sf_search_core.specs.declared.entry.Entry.{Entry}
 use Rattle.sf_certificate.specs.declared.mark.Mark.{Mark}
-use Rattle.sf_certificate.specs.declared.tag.Tag.TheVariants.{Open}
-use Rattle.sf_certificate.specs.Marks.{given_marks, tag_of}
+use Rattle.sf_certificate.specs.Marks.{given_marks}
 use Rattle.sf_rounds.specs.declared.pile.Pile.{Pile}
 use Rattle.sf_rounds.specs.declared.pile.Pile.TheVariants as pile
 use Rattle.sf_rounds.specs.InOrder.{flat, AreCut}

@@ -1,5 +1,5 @@
 -- The names that the search puts down, and those that it hands over.
-use Rattle.std.proofs.Common.{◌≡◌, ◌≢◌, ℕ, ◌≤◌, List, [], ◌∷◌, ◌++◌, map, All, refl, ap, sym, subst, ◌∙◌, arith, append_assoc, append-nil, cond, leb, inl, inr}
+use Rattle.std.proofs.Common.{◌≡◌, ℕ, ◌≤◌, List, [], ◌∷◌, ◌++◌, map, All, refl, ap, sym, subst, ◌∙◌, arith, append_assoc, append-nil, cond, leb, inl, inr}
 use Rattle.std.specs.List.{AllByRecursion, flat_map}
 use Rattle.std.proofs.lemmas.Bool.{cases_Bool, leb-true, le-leb, cond-false, cond_both}
 use Rattle.std.proofs.lemmas.List.{flat_map_more}
@@ -8,13 +8,13 @@ use Rattle.sf_node.specs.declared.part.Part.{Part}
 use Rattle.sf_node.specs.declared.part.Part.TheVariants.{Area, Range, Pair, Hull, Full}
 use Rattle.sf_node.specs.declared.part.PartValues.{PartValues}
 use Rattle.sf_node.specs.Parts.{Parts}
-use Rattle.sf_node.specs.ByPart.{first_part, AreValues}
+use Rattle.sf_node.specs.ByPart.{first_part}
 use Rattle.sf_certificate.specs.declared.mark.Mark.{Mark}
 use Rattle.sf_certificate.specs.declared.tag.Tag.{Tag}
 use Rattle.sf_certificate.specs.declared.tag.Tag.TheVariants.{Extend, Split, Closed, Open}
 use Rattle.sf_certificate.specs.Marks.{made, marks}
 use Rattle.sf_certificate.specs.Named.{NamesFirst, unnamed}
-use Rattle.sf_rounds.specs.Naming.{value_in, with_first_part, kept_for, AreKept, renamed}
+use Rattle.sf_rounds.specs.Naming.{with_first_part, kept_for, AreKept, renamed}
 
 -- ---- what is kept of a closed subproblem
 

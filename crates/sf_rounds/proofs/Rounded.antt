@@ -1,6 +1,6 @@
 -- What a round leaves, from what its workers did.
 use Rattle.std.proofs.Common.{◌≡◌, ℕ, zero, suc, ◌<◌, ◌≤◌, ◌⊎◌, inl, inr, min, List, [], ◌∷◌, ◌++◌, length, All, ap, sym, ◌∙◌, subst, arith}
-use Rattle.std.specs.Prelude.{sum, Any, Option, Some, None, IfSome, MatchOption, IsTrue}
+use Rattle.std.specs.Prelude.{sum, Any, Option, Some, None, MatchOption, IsTrue}
 use Rattle.std.specs.List.{flat_map}
 use Rattle.std.proofs.lemmas.Bool.{cases_lt}
 use Rattle.std.proofs.lemmas.List.Elements.{All-append, All-weaker, All-nil, All-cons, All-head, All-tail}
@@ -18,7 +18,7 @@ use Rattle.sf_incumbent.specs.Seen.{Word, Knows}
 use Rattle.sf_frontier.specs.declared.place.Place.{Place}
 use Rattle.sf_frontier.specs.Team.{IsFinished}
 use Rattle.sf_worker.specs.Tasks.{IsTask, IsPlan, IsEntry, Solves}
-use Rattle.sf_worker.specs.Took.{IsReady, IsBest}
+use Rattle.sf_worker.specs.Took.{IsBest}
 use Rattle.sf_rounds.specs.declared.job.Job.{Job}
 use Rattle.sf_rounds.specs.declared.job.RoundOut.{RoundOut}
 use Rattle.sf_rounds.specs.Jobs.{EachTwo, Ran, IsFresh, Dealt, Gathers, log_of}

@@ -1,7 +1,7 @@
 -- The states that the events of a turn make.
 use Rattle.std.proofs.Common.{◌≡◌, ℕ, suc, ◌-◌, ◌<◌, ◌≤◌, min, List, [], ◌∷◌, ◌++◌, map, length, All, arith, refl, ap, sym, subst, ◌∙◌, Option, Some, None, Result, Ok, Err, Bool, true, false, not, length-append, append_assoc, eq-eqb, inl, inr}
 use Prim.Native.Nat.{zero}
-use Rattle.std.specs.Prelude.{IsOk, IfOk, slice_set, slice_get, nat_lt, nat_le, remove, ◌==◌, ◌&&◌, ◌||◌}
+use Rattle.std.specs.Prelude.{IsOk, IfOk, slice_set, slice_get, nat_le, remove, ◌==◌, ◌&&◌, ◌||◌}
 use Rattle.std.specs.List.{list_all}
 use Rattle.std.specs.Result.{is_ok}
 use Rattle.std.proofs.lemmas.Bool.{lt-ltb, cond-true, cond-false, cases_lt}

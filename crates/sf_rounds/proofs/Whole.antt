@@ -15,9 +15,8 @@ use Rattle.sf_frontier.specs.Ends.{ThiefView}
 use Rattle.sf_frontier.specs.declared.place.Place.{Place}
 use Rattle.sf_frontier.specs.Team.{IsFinished, stolen_by}
 use Rattle.sf_frontier.proofs.Totals.{finished-total}
-use Rattle.sf_bounds.specs.Serving.{MayServe}
 use Rattle.sf_worker.specs.Tasks.{IsTask, IsEntry}
-use Rattle.sf_worker.specs.Took.{IsReady, IsBest, put_of, taken_of, thieves_weigh, on_task, maybe_weighs, tasks_weigh, nodes_weigh, children_weigh}
+use Rattle.sf_worker.specs.Took.{put_of, taken_of, thieves_weigh, on_task, maybe_weighs, tasks_weigh, nodes_weigh, children_weigh}
 use Rattle.sf_rounds.specs.declared.job.Job.{Job}
 use Rattle.sf_rounds.specs.Jobs.{EachTwo, Ran, IsFresh, IsDone, FirstsAre, Dealt, place_of, log_of, open_of, as_list, has_weight}
 use Rattle.sf_rounds.specs.Rounds.{nodes}
