@@ -6,7 +6,7 @@ ghost use Rattle.sf_words.specs.Seen.{command_seen};
 ghost use Rattle.sf_program.specs.Answer.{Answers, HasScale, IsSilent, Obeys};
 ghost use Rattle.sf_program.specs.Answer.{RefusesWords, usage_line};
 ghost use Rattle.sf_program.specs.Loads.{Reads, ReadsShelf};
-ghost use Rattle.sf_program.specs.Outcome.{Stops, lost};
+ghost use Rattle.sf_program.specs.Outcome.{lost};
 ghost use Rattle.sf_program.specs.Stores.{Gives, stored_in};
 
 use crate::checking::check;
@@ -18,17 +18,20 @@ use crate::stop::Stop;
 use crate::work::Work;
 use sf_io::{Gate, Shelf, Status};
 use sf_words::{CommandWords, read_words};
-use std::alloc::{AllocError as NoMemory, Global};
+use std::alloc::Global;
 use std::thread::Threads;
 
 /// The answer to words that mean nothing.
-fn usage(alloc: Global) -> Result<Work, NoMemory>
+fn usage(alloc: Global) -> Result<Work, Status>
     ensures status { IfOk result (λ w. w.status ≡ Status.Usage) }
     ensures stores { IfOk result (λ w. stored_in w.stores.items ≡ []) }
     ensures text { IfOk result (λ w. w.text.items ≡ usage_line) }
+    ensures fault { IfErr result (λ status. status ≡ Status.NoMemory) }
 {
-    let text = Vec::from_slice(alloc, b"error Usage\n")?;
-    Ok(Work::printed(alloc, Status::Usage, text))
+    match Vec::from_slice(alloc, b"error Usage\n") {
+        Ok(text) => Ok(Work::printed(alloc, Status::Usage, text)),
+        Err(_) => Err(Status::NoMemory),
+    }
 }
 
 /// Does what a command asks for, but for stores and prints.
@@ -52,27 +55,6 @@ fn obey<R: Threads + Sync, S: Shelf, G: Gate>(
     }
 }
 
-/// Does what the words ask for, but for stores and prints, where no stage refuses.
-fn obey_words<R: Threads + Sync, S: Shelf, G: Gate>(
-    rt: &R,
-    alloc: Global,
-    words: &[String],
-    shelf: &mut S,
-    gate: &G,
-) -> Result<Work, Stop>
-    ensures answer { let words = map string_bytes words.now in
-        IfOk result (Gives (Answers words (S.seen shelf.old).holds)) }
-    ensures refused { let words = map string_bytes words.now in IfErr result (λ stop.
-        Stops stop (RefusesWords words (S.seen shelf.old).holds)) }
-    ensures shelf { ReadsShelf (S.seen shelf.old) (S.seen shelf.new) result }
-{
-    match read_words(alloc, words) {
-        Err(_) => Err(Stop::NoMemory),
-        Ok(None) => Ok(usage(alloc)?),
-        Ok(Some(command)) => obey(rt, alloc, command, shelf, gate),
-    }
-}
-
 /// What the words are answered, before anything of it is stored or printed. A refusal is an answer as any
 /// other: its line is printed. Where a load failed or the memory didn't suffice, there is only a status.
 pub fn work<R: Threads + Sync, S: Shelf, G: Gate>(
@@ -91,10 +73,14 @@ pub fn work<R: Threads + Sync, S: Shelf, G: Gate>(
         status ≡ Status.ReadFault → Rose (S.seen shelf.old).load_faults (S.seen shelf.new).load_faults) }
     ensures read { Reads (S.seen shelf.old) (S.seen shelf.new) }
 {
-    match obey_words(rt, alloc, words, shelf, gate) {
-        Ok(work) => Ok(work),
-        Err(Stop::Refused(status, line)) => Ok(Work::printed(alloc, status, line)),
-        Err(Stop::ReadFault) => Err(Status::ReadFault),
-        Err(Stop::NoMemory) => Err(Status::NoMemory),
+    match read_words(alloc, words) {
+        Err(_) => Err(Status::NoMemory),
+        Ok(None) => usage(alloc),
+        Ok(Some(command)) => match obey(rt, alloc, command, shelf, gate) {
+            Ok(work) => Ok(work),
+            Err(Stop::Refused(status, line)) => Ok(Work::printed(alloc, status, line)),
+            Err(Stop::ReadFault) => Err(Status::ReadFault),
+            Err(Stop::NoMemory) => Err(Status::NoMemory),
+        },
     }
 }
