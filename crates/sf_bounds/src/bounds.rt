@@ -1,6 +1,6 @@
 //! What a search asks of a bound, and the standard one.
 
-ghost use Rattle.std.specs.Prelude.{◌≡◌, ℕ, Some, IfOk, IfSome};
+ghost use Rattle.std.specs.Prelude.{◌≡◌, ℕ, Some, IfOk, IfSome, true};
 ghost use Rattle.sf_model.specs.declared.design.Design.{Design as DesignValue};
 ghost use Rattle.sf_node.specs.declared.part.Part.{Part as PartName};
 ghost use Rattle.sf_node.specs.Parts.{Parts};
@@ -34,41 +34,29 @@ pub trait Bounds: Values + Sync {
         ensures value { IfOk result (λ v. v ≡ Self.Values.value self.now design.now node.now) }
         ensures serves { room.new ≡ Some design.now };
 
-    /// The value of a child of a subproblem whose value is given. A bound that keeps its value at some
-    /// children may answer it from that.
-    fn child_bound<'a>(
+    /// The value of a subproblem, and those of the parts of the bound where they are measured with it.
+    fn valued<'a>(
         &self,
         design: &'a Design,
-        child: &Node,
-        value: u64,
-        room: &mut Room<'a>,
-    ) -> Result<u64, NoMemory>
-        requires child { IsChildOf design.now (Self.Values.value self.now design.now) value child.now }
-        requires serves { MayServe room.old design.now }
-        ensures value { IfOk result (λ v. v ≡ Self.Values.value self.now design.now child.now) }
-        ensures serves { room.new ≡ Some design.now }
-    {
-        self.bound(design, child, room)
-    }
-
-    /// The same, with the values of the parts of the bound where they were measured together with it.
-    fn child_valued<'a>(
-        &self,
-        design: &'a Design,
-        child: &Node,
-        value: u64,
+        node: &Node,
         room: &mut Room<'a>,
     ) -> Result<Valued, NoMemory>
-        requires child { IsChildOf design.now (Self.Values.value self.now design.now) value child.now }
+        requires subproblem { IsSubproblem design.now node.now }
         requires serves { MayServe room.old design.now }
-        ensures value { IfOk result (λ v. v.value ≡ Self.Values.value self.now design.now child.now) }
+        ensures value { IfOk result (λ v. v.value ≡ Self.Values.value self.now design.now node.now) }
         ensures parts { IfOk result (λ v.
-            IfSome v.parts (AreValues (Self.part_value self.now design.now child.now))) }
+            IfSome v.parts (AreValues (Self.part_value self.now design.now node.now))) }
         ensures serves { room.new ≡ Some design.now }
     {
-        let value = self.child_bound(design, child, value, room)?;
+        let value = self.bound(design, node, room)?;
         Ok(Valued { value, parts: None })
     }
+
+    /// Whether a child is sure to have its parent's value, so that nothing need be measured.
+    fn keeps_value(&self, child: &Node) -> bool
+        ensures { result ≡ true → (design : DesignValue) (value : ℕ)
+            → IsChildOf design (Self.Values.value self.now design) value child.now
+            → value ≡ Self.Values.value self.now design child.now };
 
     /// The value of one part of the bound at a subproblem.
     fn part<'a>(
@@ -148,36 +136,21 @@ impl Bounds for Standard {
         part_value(room, design, node, Part::Full)
     }
 
-    fn child_bound<'a>(
+    fn valued<'a>(
         &self,
         design: &'a Design,
-        child: &Node,
-        value: u64,
-        room: &mut Room<'a>,
-    ) -> Result<u64, NoMemory> {
-        if keeps_value(child) {
-            room.serve(design);
-            return Ok(value);
-        }
-        self.bound(design, child, room)
-    }
-
-    fn child_valued<'a>(
-        &self,
-        design: &'a Design,
-        child: &Node,
-        value: u64,
+        node: &Node,
         room: &mut Room<'a>,
     ) -> Result<Valued, NoMemory> {
-        if keeps_value(child) {
-            room.serve(design);
-            return Ok(Valued { value, parts: None });
-        }
-        let values = all_values(room, design, child)?;
+        let values = all_values(room, design, node)?;
         Ok(Valued {
             value: values.full,
             parts: Some(values.parts),
         })
+    }
+
+    fn keeps_value(&self, child: &Node) -> bool {
+        keeps_value(child)
     }
 
     fn part<'a>(

@@ -1,11 +1,16 @@
 //! Children of subproblems, which may have their parent's value.
 
-ghost use Rattle.std.specs.Prelude.{◌≡◌, ℕ, true};
+ghost use Rattle.std.specs.Prelude.{◌≡◌, ℕ, IfOk, true};
 ghost use Rattle.sf_model.specs.declared.design.Design.{Design as DesignValue};
 ghost use Rattle.sf_node.specs.Later.{IsChildOf};
 ghost use Rattle.sf_standard.specs.Standard.{standard};
+ghost use Rattle.sf_bounds.specs.Serving.{MayServe};
 
+use crate::bounds::Bounds;
+use crate::room::Room;
+use sf_model::Design;
 use sf_node::{Node, PartValues, Step};
+use std::alloc::AllocError as NoMemory;
 
 /// The value of a subproblem, and those of the parts of the bound where they were measured with it.
 #[derive(Clone, Copy, Debug, PartialEq, Eq)]
@@ -24,4 +29,23 @@ pub fn keeps_value(child: &Node) -> bool
         Some(Step::Block(_)) => !child.is_complete(),
         _ => false,
     }
+}
+
+/// The value of a child of a subproblem whose value is given: that one, where the child keeps it.
+pub fn child_bound<'a, B: Bounds>(
+    design: &'a Design,
+    bounds: &B,
+    child: &Node,
+    value: u64,
+    room: &mut Room<'a>,
+) -> Result<u64, NoMemory>
+    requires child { IsChildOf design.now (B.Values.value bounds.now design.now) value child.now }
+    requires serves { MayServe room.old design.now }
+    ensures value { IfOk result (λ v. v ≡ B.Values.value bounds.now design.now child.now) }
+    ensures serves { MayServe room.new design.now }
+{
+    if bounds.keeps_value(child) {
+        return Ok(value);
+    }
+    bounds.bound(design, child, room)
 }

@@ -6,7 +6,7 @@ ghost use Rattle.sf_bounds.specs.Serving.{MayServe};
 ghost use Rattle.sf_cursor.specs.Path.{IsPath};
 ghost use Rattle.sf_checker.specs.Standing.{asked_value};
 
-use sf_bounds::{Bounds, Room};
+use sf_bounds::{Bounds, Room, child_bound};
 use sf_certificate::Tag;
 use sf_cursor::Cursor;
 use sf_model::Design;
@@ -59,7 +59,7 @@ fn value_at<'a, B: Bounds>(
 {
     match parent_value(cursor, design, bounds, room)? {
         None => bounds.bound(design, cursor.node(), room),
-        Some(value) => bounds.child_bound(design, cursor.node(), value, room),
+        Some(value) => child_bound(design, bounds, cursor.node(), value, room),
     }
 }
 

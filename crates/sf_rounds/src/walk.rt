@@ -4,7 +4,7 @@ ghost use Rattle.std.specs.Prelude.{◌≡◌};
 
 use crate::naming::name_all;
 use crate::visit::{Visit, decide};
-use sf_bounds::{Bounds, Room, Valued};
+use sf_bounds::{Bounds, Room, Valued, child_bound};
 use sf_certificate::Tag;
 use sf_cursor::Cursor;
 use sf_model::{Design, MAX};
@@ -142,11 +142,10 @@ impl Walk {
         ensures serves { MayServe room.new design.now }
     {
         match self.cursor.parent_value(design, bounds) {
-            None => {
-                let value = bounds.bound(design, self.cursor.node(), room)?;
+            Some(value) if bounds.keeps_value(self.cursor.node()) => {
                 Ok(Valued { value, parts: None })
             }
-            Some(value) => bounds.child_valued(design, self.cursor.node(), value, room),
+            _ => bounds.valued(design, self.cursor.node(), room),
         }
     }
 
@@ -236,7 +235,7 @@ impl Walk {
         while self.more {
             let value = match self.cursor.parent_value(design, bounds) {
                 None => bounds.bound(design, self.cursor.node(), room)?,
-                Some(value) => bounds.child_bound(design, self.cursor.node(), value, room)?,
+                Some(value) => child_bound(design, bounds, self.cursor.node(), value, room)?,
             };
             low = low.min(value);
             self.follow(design, bounds, Tag::Open, value)?;

@@ -6,7 +6,7 @@ ghost use Rattle.sf_bounds.specs.Serving.{MayServe};
 ghost use Rattle.sf_worker.specs.Decided.{IsDecision, valued};
 
 use crate::decision::Decision;
-use sf_bounds::{Bounds, Room, solve};
+use sf_bounds::{Bounds, Room, child_bound, solve};
 use sf_model::Design;
 use sf_node::{Node, Task, Tasks};
 use std::alloc::AllocError as NoMemory;
@@ -82,7 +82,7 @@ fn extended<'a, B: Bounds>(
     let children = task.node.extend_children(design)?;
     let mut tasks = Vec::with_capacity(task.node.allocator(), children.len())?;
     for node in children {
-        let bound = bounds.child_bound(design, &node, task.bound, room)?;
+        let bound = child_bound(design, bounds, &node, task.bound, room)?;
         tasks.push(Task { node, bound })?;
     }
     Ok(tasks)
