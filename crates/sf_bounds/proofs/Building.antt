@@ -16,7 +16,7 @@ use Rattle.sf_node.proofs.Spanned.{are-spans}
 use Rattle.sf_curves.specs.Points.{IsCombination, beside_size, above_size}
 use Rattle.sf_standard.specs.Items as item
 use Rattle.sf_model.specs.Spans.{shapes_in}
-use Rattle.sf_standard.specs.Items.{Item, read, items_of, plans, pairs, fits, fitting}
+use Rattle.sf_standard.specs.Items.{Item, read}
 use Rattle.sf_curves.specs.Choices.{AreSpans}
 use Rattle.sf_frames.proofs.Joining.{Runs, runs-from, curve-joined, curve-block, beside-way, above-way}
 use Rattle.sf_bounds.specs.Curves.{IsJoined, IsStep}

@@ -17,7 +17,7 @@ use Rattle.sf_node.proofs.Normalised.{subproblem-begun}
 use Rattle.sf_standard.specs.declared.hull.Extent.{Extent}
 use Rattle.sf_standard.specs.declared.hull.Offset.{Offset}
 use Rattle.sf_standard.specs.Items as item
-use Rattle.sf_standard.specs.Items.{Item, read, items_of}
+use Rattle.sf_standard.specs.Items.{Item, read}
 use Rattle.sf_standard.specs.Hull.{item_extent, offsets, moved_right, moved_up, extent_in}
 use Rattle.sf_standard.proofs.Listed.{sum_by-map}
 use Rattle.sf_bounds.specs.declared.layout.Held.{Held}

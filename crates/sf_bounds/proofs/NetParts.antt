@@ -2,7 +2,7 @@
 use Rattle.std.proofs.Common.{◌≡◌, ℕ, ◌+◌, ◌<◌, ◌≤◌, max, List, [], ◌∷◌, map, length, get_or, refl, ap, sym, subst, ◌∙◌, arith, true, false}
 use Rattle.std.specs.Prelude.{nat_lt, if◌then◌else◌, None}
 use Rattle.std.specs.List.{AllByRecursion}
-use Rattle.std.proofs.lemmas.Bool.{cond-true, cond-false, lt-ltb, le-ltb}
+use Rattle.std.proofs.lemmas.Bool.{cond-false, le-ltb}
 use Rattle.std.proofs.lemmas.List.{length-reverse}
 use Rattle.std.proofs.lemmas.List.Elements.{recursion_from_All}
 use Rattle.sf_model.specs.declared.design.Design.{Design}
@@ -11,8 +11,7 @@ use Rattle.sf_model.specs.declared.parts.Pin.{Pin}
 use Rattle.sf_model.specs.declared.parts.Pin.TheVariants as pin
 use Rattle.sf_model.specs.Legal.{block_count}
 use Rattle.sf_model.specs.Limits.{pin_number, pin_count}
-use Rattle.sf_node.specs.declared.part.Part.{Part}
-use Rattle.sf_node.specs.declared.part.Part.TheVariants.{Area, Range, Pair, Hull, Full}
+use Rattle.sf_node.specs.declared.part.Part.TheVariants.{Range, Pair, Hull}
 use Rattle.sf_node.specs.Parts.{Parts}
 use Rattle.sf_node.specs.Subproblem.{is_complete}
 use Rattle.sf_node.specs.Children.{IsSubproblem}

@@ -18,7 +18,7 @@ use Rattle.sf_standard.specs.declared.hull.Extent.{Extent}
 use Rattle.sf_standard.specs.declared.hull.Interval.{Interval}
 use Rattle.sf_standard.specs.declared.hull.Offset.{Offset}
 use Rattle.sf_standard.specs.Items as item
-use Rattle.sf_standard.specs.Items.{Item, items_of}
+use Rattle.sf_standard.specs.Items.{Item}
 use Rattle.sf_standard.specs.Hull.{gap, hull_of, offsets, offset_x, offset_y, contains_pin, of_pins, range_part, pair_part, hull_part, pads_x, pads_y}
 use Rattle.sf_standard.specs.Standard.{net_part, weighed_part, wire_part}
 use Rattle.sf_standard.proofs.Unmoved.{sum_by-same}

@@ -1,7 +1,6 @@
 -- The sums over the nets, by each part of the bound.
 use Rattle.std.proofs.Common.{max, ◌≡◌, ℕ, ◌+◌, ◌*◌, ◌<◌, ◌≤◌, take, length, get_or, arith, ap, sym, ◌∙◌}
 use Rattle.std.specs.Prelude.{sum_by}
-use Rattle.std.proofs.lemmas.List.{take_all}
 use Rattle.std.proofs.lemmas.List.Sums.{sum_by_more}
 use Rattle.sf_model.specs.declared.design.Design.{Design}
 use Rattle.sf_model.specs.declared.parts.Net.{Net}
@@ -10,7 +9,7 @@ use Rattle.sf_node.specs.declared.part.Part.TheVariants.{Range, Pair, Hull, Full
 use Rattle.sf_node.specs.Parts.{Parts}
 use Rattle.sf_standard.specs.Standard.{pins_by}
 use Rattle.sf_bounds.specs.declared.wire_parts.WireParts.{WireParts}
-use Rattle.sf_bounds.specs.Open.{AreByPart, AreAtMost, AreWireParts}
+use Rattle.sf_bounds.specs.Open.{AreByPart, AreAtMost}
 use Rattle.sf_bounds.proofs.Weights.{weighed_small}
 
 -- the greatest of the parts is no greater than what none of them is above

@@ -1,11 +1,11 @@
 //! What is kept of the nets before any token.
 
-ghost use Rattle.std.specs.Prelude.{◌≡◌, ◌<◌, ◌≤◌, ◌+◌, ◌*◌, ◌++◌, ◌∷◌, [], length, map, sum_by, All, IfOk};
+ghost use Rattle.std.specs.Prelude.{◌≡◌, ◌<◌, ◌≤◌, ◌+◌, ◌*◌, ◌++◌, ◌∷◌, [], length, map, All, IfOk};
 ghost use Rattle.sf_model.specs.Legal.{block_count};
 ghost use Rattle.sf_model.specs.Limits.{pin_number, pin_count};
 ghost use Rattle.sf_node.specs.Subproblem.{root};
 ghost use Rattle.sf_standard.specs.Hull.{contains_pin};
-ghost use Rattle.sf_standard.specs.Standard.{net_part, weighed_part, wire_part};
+ghost use Rattle.sf_standard.specs.Standard.{weighed_part, wire_part};
 ghost use Rattle.sf_bounds.specs.Layout.{Tells};
 ghost use Rattle.sf_bounds.specs.Pins.{IsNet, IsLayout};
 ghost use Rattle.sf_bounds.specs.Rows.{counted, of_weight, weighed_nets, weights_of, whole_extent, own_reach};

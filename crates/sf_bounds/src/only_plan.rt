@@ -2,10 +2,10 @@
 
 ghost use Rattle.std.specs.Prelude.{◌≡◌, ◌<◌, ◌↔◌, length, not, slice_index_or, IfOk, IsTrue};
 ghost use Rattle.std.specs.List.{list_all};
-ghost use Rattle.sf_model.specs.Tree.{tree_of};
 ghost use Rattle.sf_model.specs.Legal.{IsLegal, Fits};
-ghost use Rattle.sf_node.specs.Subproblem.{is_complete, is_wide};
+ghost use Rattle.sf_model.specs.Tree.{tree_of};
 ghost use Rattle.sf_node.specs.Children.{IsSubproblem};
+ghost use Rattle.sf_node.specs.Subproblem.{is_complete, is_wide};
 ghost use Rattle.sf_bounds.specs.Cheapest.{IsSolution};
 ghost use Rattle.sf_bounds.specs.Layout.{Tells};
 ghost use Rattle.sf_bounds.specs.Only.{first_shape};

@@ -1,10 +1,9 @@
 //! The standing of each block, by its extent and its seat.
 
 ghost use Rattle.std.specs.Prelude.{◌≡◌, ◌<◌, ◌≤◌, ◌*◌, ◌+◌, ◌-ℤ◌, pos};
-ghost use Rattle.std.specs.Prelude.{length, slice_index_or, slice_set, Some, None, All, OnOk};
+ghost use Rattle.std.specs.Prelude.{length, slice_set, Some, None, All, OnOk};
 ghost use Rattle.sf_bounds.specs.Layout.{Tells};
-ghost use Rattle.sf_bounds.specs.Ends.{anywhere};
-ghost use Rattle.sf_bounds.specs.Pins.{extent_from, block_range, home_in};
+ghost use Rattle.sf_bounds.specs.Pins.{extent_from, home_in};
 ghost use Rattle.sf_bounds.specs.Pins.{standing_of, standing_at, standing_by};
 
 use crate::layout::{Home, Seat, Standing};

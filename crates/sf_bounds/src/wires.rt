@@ -1,6 +1,6 @@
 //! What the wire of a net is at least, by all parts of the bound at once.
 
-ghost use Rattle.std.specs.Prelude.{◌≡◌, ◌<◌, ◌≤◌, ◌*◌, ◌^◌, length, OnOk, IfOk};
+ghost use Rattle.std.specs.Prelude.{◌≡◌, ◌<◌, ◌≤◌, ◌*◌, ◌^◌, length, OnOk};
 ghost use Rattle.sf_node.specs.Children.{IsSubproblem};
 ghost use Rattle.sf_standard.specs.Standard.{pins_by};
 ghost use Rattle.sf_bounds.specs.Open.{AreByPart, AreAtMost};

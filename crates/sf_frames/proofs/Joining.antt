@@ -15,7 +15,7 @@ use Rattle.sf_node.specs.Parts.{Parts}
 use Rattle.sf_curves.specs.Points.{IsWithin, IsNoLarger, IsCovered, IsCurveOf, IsCombination, beside_size, above_size}
 use Rattle.sf_standard.specs.Items as item
 use Rattle.sf_model.specs.Spans.{shapes_in}
-use Rattle.sf_standard.specs.Items.{Item, read, items_of, plans, pairs, fits, fitting}
+use Rattle.sf_standard.specs.Items.{Item, plans, pairs, fits, fitting}
 use Rattle.sf_curves.specs.Choices.{size_of}
 use Rattle.sf_frames.specs.Curves.{IsItemCurve}
 use Rattle.sf_standard.proofs.Listed.{Contains-map, Contains-from_map, Contains-filter, Contains-from_filter, Contains-pairs, Contains-from_pairs}

@@ -21,7 +21,7 @@ use Rattle.sf_node.specs.Children.{is_unused, IsSubproblem}
 use Rattle.sf_node.proofs.Normalised.{subproblem-begun}
 use Rattle.sf_curves.proofs.Members.{Contains-head}
 use Rattle.sf_standard.specs.Items as item
-use Rattle.sf_standard.specs.Items.{Item, read, unused, plans, fits}
+use Rattle.sf_standard.specs.Items.{Item, read, unused, plans}
 use Rattle.sf_standard.specs.Standard.{area, least_of, has_none}
 use Rattle.sf_standard.proofs.Cutting.{least_of-le}
 use Rattle.sf_frames.specs.declared.least.Least.{Least}

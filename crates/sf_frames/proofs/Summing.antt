@@ -17,7 +17,7 @@ use Rattle.sf_curves.specs.Points.{IsNoLarger}
 use Rattle.sf_curves.proofs.Members.{not_in_nil, Contains-head, Contains-tail}
 use Rattle.sf_standard.specs.Items as item
 use Rattle.sf_model.specs.Spans.{shapes_in}
-use Rattle.sf_standard.specs.Items.{Item, fits, plans, pairs, fitting, items_of, unused, read, item_in}
+use Rattle.sf_standard.specs.Items.{Item, fits, plans, unused, item_in}
 use Rattle.sf_standard.specs.Standard.{area, least_of, has_none}
 use Rattle.sf_standard.proofs.Listed.{Contains-filter, Contains-from_filter, Contains-from_pairs}
 use Rattle.sf_standard.proofs.Cutting.{fits-true, least_of-le}

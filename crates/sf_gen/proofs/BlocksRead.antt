@@ -13,7 +13,7 @@ use Rattle.sf_model.specs.declared.raw.RawBlock.{RawBlock}
 use Rattle.sf_gsrc.specs.declared.count.Count.{Count}
 use Rattle.sf_gsrc.specs.declared.keywords.Counted.{Counted}
 use Rattle.sf_gsrc.specs.declared.keywords.Counted.TheVariants.{Soft, Hard, Terminals}
-use Rattle.sf_gsrc.specs.Blocks.{content_of, is_content_word, is_title, Said, CountIs, ItemIs, Entry, count_at, block_at, pad_at, is_soft_kind}
+use Rattle.sf_gsrc.specs.Blocks.{content_of, is_title, Said, CountIs, ItemIs, Entry, block_at, pad_at, is_soft_kind}
 use Rattle.sf_gsrc.specs.Blocks as blocks
 use Rattle.sf_gsrc.specs.Keywords.{counted_of, form_of}
 use Rattle.sf_gsrc.specs.Line.{BlockIs, PadIs, counted_by, count_said, plain_said}

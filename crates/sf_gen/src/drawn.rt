@@ -1,7 +1,7 @@
 //! The numbers that a design is made of, as they are drawn one after another.
 
 ghost use Rattle.std.specs.Prelude.{◌≡◌, ℕ, ◌+◌, ◌*◌, ◌≤◌, IfOk, OnOk};
-ghost use Rattle.sf_gen.specs.Words.{start, after, word};
+ghost use Rattle.sf_gen.specs.Words.{after, word};
 ghost use Rattle.sf_gen.specs.Drawn.{size_at, sizes, net_count, ends_at, ends};
 
 use rand_core::utils::NextWord;

@@ -2,7 +2,7 @@
 
 ghost use Rattle.std.specs.Prelude.{◌≡◌, List, IfOk, map};
 ghost use Rattle.sf_gsrc.specs.declared.output.Place.{Place};
-ghost use Rattle.sf_gsrc.specs.Join.{names_of, first_twice, pads_at, is_known, has_name, strangers_of};
+ghost use Rattle.sf_gsrc.specs.Join.{names_of, first_twice, pads_at, is_known, strangers_of};
 ghost use Rattle.sf_gsrc.specs.ByName.{IsSpots, PlacesByName, IsNameSet, GivesPads, pads_once};
 
 use crate::fault::JoinFault;

@@ -1,6 +1,6 @@
 //! The lines of a text without comments and lines of blanks.
 
-ghost use Rattle.std.specs.Prelude.{◌≡◌, [], ◌∷◌, MatchOption, IsTrue, IfSome, ◌<◌, length};
+ghost use Rattle.std.specs.Prelude.{◌≡◌, [], ◌∷◌, MatchOption, IfSome, ◌<◌, length};
 ghost use Rattle.sf_lex.specs.Scan.{numbered_rest, line_of};
 ghost use Rattle.sf_lex.specs.Gap.{first_word};
 ghost use Rattle.sf_lex.specs.Results.{seen};

@@ -1,10 +1,10 @@
 //! What the lines of a block file have said so far.
 
-ghost use Rattle.std.specs.Prelude.{◌≡◌, ◌≤◌, ◌<◌, [], ◌∷◌, length, IsNone, is_some, not, count_by, Ok, OnOk};
-ghost use Rattle.std.specs.Prelude.{IfOk, List};
+ghost use Rattle.std.specs.Prelude.{◌≡◌, ◌≤◌, ◌<◌, [], length, is_some, not, count_by, Ok};
+ghost use Rattle.std.specs.Prelude.{List};
 ghost use Rattle.sf_lex.specs.Scan.{line_of};
 ghost use Rattle.sf_lex.specs.Gap.{first_word};
-ghost use Rattle.sf_gsrc.specs.Blocks.{Entry, is_soft, compared, count_after, entry_after, entry_at};
+ghost use Rattle.sf_gsrc.specs.Blocks.{Entry, is_soft, compared, count_after, entry_after};
 ghost use Rattle.sf_gsrc.specs.Blocks.{fault_at, finished};
 
 use crate::count::Count;

@@ -1,7 +1,7 @@
 //! Blocks, nets and places joined to the parts of a design.
 
 ghost use Rattle.std.specs.Prelude.{◌≡◌, [], IfOk};
-ghost use Rattle.sf_gsrc.specs.Join.{joined, Joins, nets_in, placed_once, placed_parts, unplaced_parts};
+ghost use Rattle.sf_gsrc.specs.Join.{joined, Joins, placed_once, placed_parts, unplaced_parts};
 ghost use Rattle.sf_gsrc.specs.Join.{first_twice, names_of, pads_at};
 
 use crate::by_name::{find_strangers, place_pads};

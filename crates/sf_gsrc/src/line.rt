@@ -2,11 +2,10 @@
 
 ghost use Rattle.std.specs.Prelude.{◌≡◌, ◌≤◌, ◌<◌, ◌*◌, length, IfOk, Ok, Err};
 ghost use Rattle.sf_lex.specs.Text.{words};
-ghost use Rattle.sf_lex.specs.Gap.{is_gap, first_word, after_word};
-ghost use Rattle.sf_gsrc.specs.Keywords.{count_word, counted_of, form_of};
+ghost use Rattle.sf_lex.specs.Gap.{is_gap, first_word};
 ghost use Rattle.sf_gsrc.specs.Line.{count_said, soft_said, count_in_word, aspect_in_word, area_in_word};
 ghost use Rattle.sf_gsrc.specs.Line.{vertex_fault, box_said, hard_said, plain_said};
-ghost use Rattle.sf_gsrc.specs.Statement.{item_in, IsNamed, Says};
+ghost use Rattle.sf_gsrc.specs.Statement.{IsNamed, Says};
 
 use crate::fault::LineFault;
 use crate::keywords::{Form, read_form};

@@ -3,7 +3,7 @@
 ghost use Rattle.std.specs.Prelude.{◌≡◌, ◌<◌, [], length, Some, None, Ok, OnOk, is_some, List};
 ghost use Rattle.sf_lex.specs.Scan.{line_of};
 ghost use Rattle.sf_lex.specs.Gap.{first_word};
-ghost use Rattle.sf_gsrc.specs.Nets.{NetEntry, degree_kept, degree_said, last_pins, net_entry_by};
+ghost use Rattle.sf_gsrc.specs.Nets.{NetEntry, degree_kept, net_entry_by};
 ghost use Rattle.sf_gsrc.specs.Nets.{net_entry_after, nets_finished, with_last};
 ghost use Rattle.sf_gsrc.specs.Blocks.{Gives};
 

@@ -1,6 +1,6 @@
 //! The reader of pl files.
 
-ghost use Rattle.std.specs.Prelude.{◌≡◌, ◌≤◌, ◌<◌, ℕ, List, [], Ok, IfOk, length};
+ghost use Rattle.std.specs.Prelude.{◌≡◌, ◌≤◌, ◌<◌, ℕ, List, Ok, IfOk, length};
 ghost use Rattle.sf_lex.specs.Scan.{numbered_rest, line_of};
 ghost use Rattle.sf_lex.specs.Gap.{first_word};
 ghost use Rattle.sf_lex.specs.declared.field.Gap.TheVariants.{Blanks};

@@ -1,10 +1,10 @@
 //! What was written is read again.
 
-ghost use Rattle.std.specs.Prelude.{◌≡◌, ◌≤◌, ◌<◌, ◌^◌, ◌+◌, ◌++◌, ℕ, Bool, true, List, [], ◌∷◌, length, map};
+ghost use Rattle.std.specs.Prelude.{◌≡◌, ◌≤◌, ◌<◌, ◌^◌, ◌+◌, ◌++◌, ℕ, Bool, true, List, [], ◌∷◌, length};
 ghost use Rattle.std.specs.Prelude.{Ok, Some};
 ghost use Rattle.std.specs.Fmt.{decimal};
 ghost use Rattle.sf_lex.specs.Text.{lines, words, is_line_feed, has_none};
-ghost use Rattle.sf_lex.specs.Scan.{Line, numbered, words_of_line, words_of_lines};
+ghost use Rattle.sf_lex.specs.Scan.{numbered, words_of_line, words_of_lines};
 ghost use Rattle.sf_lex.specs.Number.{decimal_read};
 ghost use Rattle.sf_lex.specs.Whole.{whole_read, plain_read};
 

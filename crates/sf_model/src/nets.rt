@@ -1,7 +1,7 @@
 //! The nets of a design.
 
-ghost use Rattle.std.specs.Prelude.{◌≡◌, ℕ, ◌^◌, ◌<◌, ◌≤◌, length, All, AllPairs, Contains, IfOk, vec_len};
-ghost use Rattle.std.specs.Prelude.{map, filter_map};
+ghost use Rattle.std.specs.Prelude.{◌≡◌, ◌^◌, ◌<◌, ◌≤◌, length, All, AllPairs, Contains, IfOk, vec_len};
+ghost use Rattle.std.specs.Prelude.{map};
 ghost use Rattle.std.specs.List.{list_any, AllZip};
 ghost use Rattle.std.specs.List.Sorted.{IsNonDecreasingBy, IsPermutation};
 ghost use Rattle.sf_model.specs.Admitted.{IsAdmitted, HasPinsInRange, IsPinInRange};

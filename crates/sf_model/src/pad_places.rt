@@ -1,6 +1,6 @@
 //! Whether the pads of the nets have places.
 
-ghost use Rattle.std.specs.Prelude.{◌≡◌, ℕ, ◌<◌, ◌||◌, false, length, flat_map, All, IfOk, vec_len};
+ghost use Rattle.std.specs.Prelude.{◌≡◌, ℕ, ◌<◌, ◌||◌, false, length, All, IfOk, vec_len};
 ghost use Rattle.std.specs.Prelude.{slice_index_or};
 ghost use Rattle.std.specs.List.{list_any};
 ghost use Rattle.sf_model.specs.Admitted.{IsFirstOf, HasPinsInRange, IsPinInRange, pad_of, is_index};

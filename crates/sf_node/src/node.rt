@@ -93,7 +93,7 @@ fn may_join(operator: Token, tokens: &[Token]) -> bool
 }
 
 impl Node {
-    ghost use Rattle.std.specs.Prelude.{◌+◌, ◌^◌, map, ◌++◌, ◌∷◌, [], OnOk};
+    ghost use Rattle.std.specs.Prelude.{◌+◌, map, ◌++◌, ◌∷◌, [], OnOk};
     ghost use Rattle.sf_node.specs.Parts.{Parts};
     ghost use Rattle.sf_node.specs.Later.{halved, HalvesOne};
     ghost use Rattle.sf_node.specs.Subproblem.{root, span_of, is_complete, is_solved};

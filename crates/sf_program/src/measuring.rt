@@ -10,8 +10,7 @@ ghost use Rattle.sf_words.specs.Meaning.{measure};
 ghost use Rattle.sf_words.specs.Seen.{measure_seen};
 ghost use Rattle.sf_program.specs.Answer.{Obeys};
 ghost use Rattle.sf_program.specs.Loads.{ReadsShelf};
-ghost use Rattle.sf_program.specs.Measured.{SpotsRead, legal_text, verdict_status};
-ghost use Rattle.sf_program.specs.Measured.{verdict_text};
+ghost use Rattle.sf_program.specs.Measured.{SpotsRead, legal_text, verdict_status, verdict_text};
 ghost use Rattle.sf_program.specs.Outcome.{Ends};
 
 use crate::designs::read_design;

@@ -1,7 +1,6 @@
 //! The search by several workers: one decision in the caller and one round, in turn.
 
 ghost use Rattle.std.specs.Prelude.{◌≡◌, ◌<◌, ◌≤◌, ◌+◌, ◌∷◌, [], length, sum, IfOk};
-ghost use Rattle.std.specs.Prelude.{All};
 ghost use Rattle.sf_worker.specs.Tasks.{IsTask};
 ghost use Rattle.sf_bounds.specs.Serving.{MayServe};
 ghost use Rattle.sf_rounds.specs.Rounds.{IsRound};

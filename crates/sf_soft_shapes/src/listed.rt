@@ -1,10 +1,9 @@
 //! The lists of shapes of all blocks.
 
-ghost use Rattle.std.specs.Prelude.{◌≡◌, ◌≢◌, ◌≤◌, List, [], All, IfOk, IfErr, OnOk, Some, None, zip, length};
-ghost use Rattle.sf_model.specs.Admitted.{IsAdmitted, HasSizes, IsSized, IsKindWithin, KeepsLimits};
+ghost use Rattle.std.specs.Prelude.{◌≡◌, ◌≢◌, ◌≤◌, [], IfOk, IfErr, None, length};
+ghost use Rattle.sf_model.specs.Admitted.{IsAdmitted, HasSizes, IsSized, IsKindWithin};
 ghost use Rattle.sf_model.specs.Built.{HasShapeChoices, first_shapeless};
 ghost use Rattle.sf_model.specs.Limits.{IsShapeChoice};
-ghost use Rattle.sf_model.specs.declared.parts.Shape.{Shape};
 ghost use Rattle.sf_model.specs.declared.fault.BuildFault.TheVariants.{NoShape, NoMemory};
 ghost use Rattle.sf_soft_shapes.specs.Listed.{IsListOf, AreListsOf, HasNoneFor};
 

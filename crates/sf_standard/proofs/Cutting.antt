@@ -26,7 +26,7 @@ use Rattle.sf_node.specs.Children.{is_unused}
 use Rattle.sf_curves.proofs.Members.{Contains-cons_cases, Contains-head, Contains-tail, not_in_nil}
 use Rattle.sf_standard.specs.Items as item
 use Rattle.sf_model.specs.Spans.{shapes_in}
-use Rattle.sf_standard.specs.Items.{Item, read, items_of, unused, plans, fits, fitting, item_of}
+use Rattle.sf_standard.specs.Items.{Item, items_of, unused, plans, fits, fitting, item_of}
 use Rattle.sf_standard.specs.Standard.{area, least_of, has_none, greatest, needed_area}
 use Rattle.sf_standard.proofs.Grown.{grow, grow-append, grow-postfix, read-grow, IsPart, part-self, blocks_of, grown-parts, own_area, grown-area}
 use Rattle.sf_standard.proofs.Listed.{each-contains, each-from, Contains-map, Contains-filter, Contains-from_filter, Contains-pairs, count-cons, sum_by-le_list, sum_by-map, sum_by-le_each}

@@ -25,7 +25,7 @@ use Rattle.sf_node.proofs.Reached.{subproblem-spans}
 use Rattle.sf_curves.proofs.Members.{Contains-head}
 use Rattle.sf_standard.specs.Items as item
 use Rattle.sf_model.specs.Spans.{shapes_in}
-use Rattle.sf_standard.specs.Items.{Item, read, items_of, unused, fitting}
+use Rattle.sf_standard.specs.Items.{items_of, unused, fitting}
 use Rattle.sf_standard.specs.Hull.{extent_of, to_nat, gap, range_part, pair_part, offset_x, offset_y, contains_pin, hull_of, hull_part, extent_in}
 use Rattle.sf_standard.specs.Standard.{least_of, area, least_cost, has_none, greatest, needed_area, net_part, weighed_part, wire_part, plans_of, bounded, open_value, standard}
 use Rattle.sf_standard.proofs.Gaps.{least-member, most-member}

@@ -1,5 +1,5 @@
 //! The outline of a chip: `WxH`, two decimals in the unit of the file.
-ghost use Rattle.std.specs.Prelude.{◌≡◌, ℕ, ◌≤◌, IfSome, IfNone};
+ghost use Rattle.std.specs.Prelude.{ℕ, ◌≤◌, IfSome, IfNone};
 ghost use Rattle.sf_words.specs.Outline.{IsSide, IsOutline, OutlineSays};
 ghost use Rattle.sf_words.specs.Seen.{text_of};
 

@@ -1,6 +1,5 @@
 //! The whole numbers that options take: their ranges and defaults.
 ghost use Rattle.std.specs.Prelude.{◌≡◌, ℕ, ◌≤◌, Option, IfSome, IfNone, option_map};
-ghost use Rattle.sf_lex.specs.Whole.{whole_read};
 ghost use Rattle.sf_words.specs.Numbers.{least, greatest, default_of, IsInRange, SaysNumber, SaysOptional};
 
 use crate::options::Key;

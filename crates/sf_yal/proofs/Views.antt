@@ -12,7 +12,6 @@ use Rattle.sf_lex.specs.declared.number.NumberFault.{NumberFault}
 use Rattle.sf_model.specs.declared.raw.RawPad.{RawPad}
 use Rattle.sf_names.specs.Names.{has_name}
 use Rattle.sf_yal.specs.declared.fault.YalFault.{YalFault}
-use Rattle.sf_yal.specs.declared.fault.YalFault.TheVariants as faults
 use Rattle.sf_yal.specs.declared.keyword.Keyword.{Keyword}
 use Rattle.sf_yal.specs.declared.keyword.Keyword.TheVariants as keys
 use Rattle.sf_yal.specs.declared.open_module.OpenModule.{OpenModule}

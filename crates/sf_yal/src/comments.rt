@@ -1,6 +1,6 @@
 //! A text without its comments.
 
-ghost use Rattle.std.specs.Prelude.{◌≡◌, ◌<◌, false, length, IfOk, slice_index};
+ghost use Rattle.std.specs.Prelude.{◌≡◌, ◌<◌, false, length, IfOk};
 ghost use Rattle.sf_yal.specs.Comments.{has_mark, shown, hide, ends_inside};
 
 use std::alloc::{AllocError, Global};

@@ -1,6 +1,6 @@
 //! What the statements of a text have said so far.
 
-ghost use Rattle.std.specs.Prelude.{◌≡◌, ◌<◌, [], ◌∷◌, length, None, OnOk};
+ghost use Rattle.std.specs.Prelude.{◌≡◌, ◌<◌, length, None, OnOk};
 ghost use Rattle.sf_lex.specs.Text.{words, is_blank_byte};
 ghost use Rattle.sf_names.specs.Names.{index_of};
 ghost use Rattle.sf_yal.specs.Numbers.{has_form};

@@ -1,6 +1,6 @@
 //! Words that have a meaning.
 
-ghost use Rattle.std.specs.Prelude.{◌≡◌, map};
+ghost use Rattle.std.specs.Prelude.{◌≡◌};
 ghost use Rattle.sf_yal.specs.Words.{is_key, keyword_of, is_parent_word};
 
 /// What the first word of a statement means.

@@ -5,7 +5,7 @@ ghost use Rattle.sf_lex.specs.Text.{words, is_blank_byte};
 ghost use Rattle.sf_names.specs.Names.{index_of, bytes_of};
 ghost use Rattle.sf_yal.specs.Nets.{nets_of};
 ghost use Rattle.sf_model.specs.declared.raw.RawPin.TheVariants.{Block};
-ghost use Rattle.sf_yal.specs.Using.{signals_in, net_opened, used_in, used_once, used_all, used_by};
+ghost use Rattle.sf_yal.specs.Using.{signals_in, used_in, used_once, used_all, used_by};
 ghost use Rattle.sf_yal.specs.Using.{with_pin, with_pin_at, with_pad_of, with_pads, ends_with, nothing_used};
 
 use crate::instance::Instance;

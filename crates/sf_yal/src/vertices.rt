@@ -1,9 +1,8 @@
 //! The vertices of a module's outline, and the box round them.
 
 ghost use Rattle.std.specs.Prelude.{◌≡◌, Ok, Err};
-ghost use Rattle.sf_lex.specs.Results.{seen};
 ghost use Rattle.sf_lex.specs.Text.{words, is_blank_byte};
-ghost use Rattle.sf_yal.specs.Box.{length_read, number_in, vertex_fault, size_of, dimensions_said};
+ghost use Rattle.sf_yal.specs.Box.{length_read, number_in, vertex_fault, dimensions_said};
 
 use crate::fault::YalFault;
 use crate::piece::count_words;

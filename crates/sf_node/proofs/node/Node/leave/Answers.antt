@@ -1,4 +1,4 @@
-use Rattle.std.proofs.Common.{◌≡◌, ap, ◌∙◌}
+use Rattle.std.proofs.Common.{ap, ◌∙◌}
 use Rattle.sf_node.specs.declared.step.Step.TheVariants.{Left, Right}
 use Rattle.sf_node.specs.Children.{after, middle}
 use Rattle.sf_node.specs.Subproblem.{span_of}
