@@ -3,7 +3,7 @@
 ghost use Rattle.std.specs.Prelude.{◌≡◌};
 ghost use Rattle.sf_certificate.specs.declared.fault.CertFault.TheVariants.{NoMemory};
 
-use std::alloc::{AllocError, AllocFailed};
+use std::alloc::AllocError;
 use thiserror::Error;
 
 /// The first fault of a text, with the number of its line. Lines are numbered from 1, and a text that ends
@@ -24,18 +24,10 @@ pub enum CertFault {
     NoMemory,
 }
 
-impl From<AllocError> for CertFault {
+impl<T: Drop + Into<AllocError>> From<T> for CertFault {
     ghost from_gives = { λ _ e. e ≡ NoMemory };
 
-    fn from(_e: AllocError) -> CertFault {
-        CertFault::NoMemory
-    }
-}
-
-impl<T: Drop> From<AllocFailed<T>> for CertFault {
-    ghost from_gives = { λ _ e. e ≡ NoMemory };
-
-    fn from(_e: AllocFailed<T>) -> CertFault {
+    fn from(_e: T) -> CertFault {
         CertFault::NoMemory
     }
 }

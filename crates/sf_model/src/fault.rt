@@ -4,7 +4,7 @@ ghost use Rattle.std.specs.Prelude.{◌≡◌};
 ghost use Rattle.sf_model.specs.declared.fault.BuildFault.TheVariants.{NoMemory};
 
 use crate::name::Name;
-use std::alloc::{AllocError, AllocFailed};
+use std::alloc::AllocError;
 
 /// A quantity that has a limit.
 #[derive(Clone, Copy, Debug, PartialEq, Eq)]
@@ -35,18 +35,10 @@ pub enum BuildFault {
     NoMemory,
 }
 
-impl From<AllocError> for BuildFault {
+impl<T: Drop + Into<AllocError>> From<T> for BuildFault {
     ghost from_gives = { λ _ e. e ≡ NoMemory };
 
-    fn from(_e: AllocError) -> BuildFault {
-        BuildFault::NoMemory
-    }
-}
-
-impl<T: Drop> From<AllocFailed<T>> for BuildFault {
-    ghost from_gives = { λ _ e. e ≡ NoMemory };
-
-    fn from(_e: AllocFailed<T>) -> BuildFault {
+    fn from(_e: T) -> BuildFault {
         BuildFault::NoMemory
     }
 }

@@ -3,7 +3,7 @@
 ghost use Rattle.std.specs.Prelude.{◌≡◌};
 ghost use Rattle.sf_polish.specs.declared.fault.ExprFault.TheVariants.{NoMemory};
 
-use std::alloc::{AllocError, AllocFailed};
+use std::alloc::AllocError;
 use thiserror::Error;
 
 /// The first fault of a text, with the number of its line. Lines are numbered from 1, and a fault at the end
@@ -24,18 +24,10 @@ pub enum ExprFault {
     NoMemory,
 }
 
-impl From<AllocError> for ExprFault {
+impl<T: Drop + Into<AllocError>> From<T> for ExprFault {
     ghost from_gives = { λ _ e. e ≡ NoMemory };
 
-    fn from(_e: AllocError) -> ExprFault {
-        ExprFault::NoMemory
-    }
-}
-
-impl<T: Drop> From<AllocFailed<T>> for ExprFault {
-    ghost from_gives = { λ _ e. e ≡ NoMemory };
-
-    fn from(_e: AllocFailed<T>) -> ExprFault {
+    fn from(_e: T) -> ExprFault {
         ExprFault::NoMemory
     }
 }

@@ -4,7 +4,7 @@ ghost use Rattle.std.specs.Prelude.{◌≡◌};
 ghost use Rattle.sf_program.specs.declared.stop.Stop.TheVariants.{NoMemory};
 
 use sf_io::Status;
-use std::alloc::{AllocError, AllocFailed};
+use std::alloc::AllocError;
 
 /// Why a stage gives no value.
 #[derive(Drop)]
@@ -17,18 +17,10 @@ pub enum Stop {
     NoMemory,
 }
 
-impl From<AllocError> for Stop {
+impl<T: Drop + Into<AllocError>> From<T> for Stop {
     ghost from_gives = { λ _ e. e ≡ NoMemory };
 
-    fn from(_e: AllocError) -> Stop {
-        Stop::NoMemory
-    }
-}
-
-impl<T: Drop> From<AllocFailed<T>> for Stop {
-    ghost from_gives = { λ _ e. e ≡ NoMemory };
-
-    fn from(_e: AllocFailed<T>) -> Stop {
+    fn from(_e: T) -> Stop {
         Stop::NoMemory
     }
 }

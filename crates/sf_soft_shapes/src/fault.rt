@@ -3,7 +3,7 @@
 ghost use Rattle.std.specs.Prelude.{◌≡◌};
 ghost use Rattle.sf_soft_shapes.specs.declared.fault.ShapeFault.TheVariants.{NoMemory};
 
-use std::alloc::{AllocError, AllocFailed};
+use std::alloc::AllocError;
 
 /// Why a block has no list of shapes.
 #[derive(Clone, Copy, Debug, PartialEq, Eq)]
@@ -13,18 +13,10 @@ pub enum ShapeFault {
     NoMemory,
 }
 
-impl From<AllocError> for ShapeFault {
+impl<T: Drop + Into<AllocError>> From<T> for ShapeFault {
     ghost from_gives = { λ _ e. e ≡ NoMemory };
 
-    fn from(_e: AllocError) -> ShapeFault {
-        ShapeFault::NoMemory
-    }
-}
-
-impl<T: Drop> From<AllocFailed<T>> for ShapeFault {
-    ghost from_gives = { λ _ e. e ≡ NoMemory };
-
-    fn from(_e: AllocFailed<T>) -> ShapeFault {
+    fn from(_e: T) -> ShapeFault {
         ShapeFault::NoMemory
     }
 }

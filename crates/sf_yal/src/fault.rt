@@ -5,7 +5,7 @@ ghost use Rattle.sf_yal.specs.declared.fault.YalFault.TheVariants.{NoMemory};
 
 use sf_lex::NumberFault;
 use sf_model::Name;
-use std::alloc::{AllocError, AllocFailed};
+use std::alloc::AllocError;
 use thiserror::Error;
 
 /// The first fault of a text, with the number of its statement's line first. A statement's line is that
@@ -34,18 +34,10 @@ pub enum YalFault {
     NoMemory,
 }
 
-impl From<AllocError> for YalFault {
+impl<T: Drop + Into<AllocError>> From<T> for YalFault {
     ghost from_gives = { λ _ e. e ≡ NoMemory };
 
-    fn from(_e: AllocError) -> YalFault {
-        YalFault::NoMemory
-    }
-}
-
-impl<T: Drop> From<AllocFailed<T>> for YalFault {
-    ghost from_gives = { λ _ e. e ≡ NoMemory };
-
-    fn from(_e: AllocFailed<T>) -> YalFault {
+    fn from(_e: T) -> YalFault {
         YalFault::NoMemory
     }
 }
