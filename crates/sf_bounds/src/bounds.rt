@@ -1,6 +1,6 @@
 //! What a search asks of a bound, and the standard one.
 
-ghost use Rattle.std.specs.Prelude.{◌≡◌, ℕ, Some, IfOk, IfSome, true};
+ghost use Rattle.std.specs.Prelude.{◌≡◌, ℕ, Some, IfOk, true};
 ghost use Rattle.sf_model.specs.declared.design.Design.{Design as DesignValue};
 ghost use Rattle.sf_node.specs.declared.part.Part.{Part as PartName};
 ghost use Rattle.sf_node.specs.Parts.{Parts};
@@ -10,11 +10,11 @@ ghost use Rattle.sf_node.specs.Children.{IsSubproblem};
 ghost use Rattle.sf_node.specs.Later.{IsChildOf};
 ghost use Rattle.sf_bounds.specs.Serving.{MayServe};
 
-use crate::children::{Valued, keeps_value};
-use crate::parts::{all_values, part_value};
+use crate::children::keeps_value;
+use crate::parts::{AllValues, all_values, part_value};
 use crate::room::Room;
 use sf_model::Design;
-use sf_node::{Node, Part, PartValues, Values};
+use sf_node::{Node, Part, Values};
 use std::alloc::AllocError as NoMemory;
 
 /// A function from subproblems to numbers that no fitting plan of the subproblem undercuts.
@@ -34,23 +34,18 @@ pub trait Bounds: Values + Sync {
         ensures value { IfOk result (λ v. v ≡ Self.Values.value self.now design.now node.now) }
         ensures serves { room.new ≡ Some design.now };
 
-    /// The value of a subproblem, and those of the parts of the bound where they are measured with it.
-    fn valued<'a>(
+    /// The value of a subproblem and those of the parts below it, measured at once.
+    fn all_values<'a>(
         &self,
         design: &'a Design,
         node: &Node,
         room: &mut Room<'a>,
-    ) -> Result<Valued, NoMemory>
+    ) -> Result<AllValues, NoMemory>
         requires subproblem { IsSubproblem design.now node.now }
         requires serves { MayServe room.old design.now }
-        ensures value { IfOk result (λ v. v.value ≡ Self.Values.value self.now design.now node.now) }
-        ensures parts { IfOk result (λ v.
-            IfSome v.parts (AreValues (Self.part_value self.now design.now node.now))) }
-        ensures serves { room.new ≡ Some design.now }
-    {
-        let value = self.bound(design, node, room)?;
-        Ok(Valued { value, parts: None })
-    }
+        ensures full { IfOk result (λ v. v.full ≡ Self.Values.value self.now design.now node.now) }
+        ensures parts { IfOk result (λ v. AreValues (Self.part_value self.now design.now node.now) v.parts) }
+        ensures serves { room.new ≡ Some design.now };
 
     /// Whether a child is sure to have its parent's value, so that nothing need be measured.
     fn keeps_value(&self, child: &Node) -> bool
@@ -70,26 +65,6 @@ pub trait Bounds: Values + Sync {
         requires serves { MayServe room.old design.now }
         ensures value { IfOk result (λ v. v ≡ Self.part_value self.now design.now node.now part) }
         ensures serves { room.new ≡ Some design.now };
-
-    /// The values of the parts below the full one.
-    fn parts<'a>(
-        &self,
-        design: &'a Design,
-        node: &Node,
-        room: &mut Room<'a>,
-    ) -> Result<PartValues, NoMemory>
-        requires subproblem { IsSubproblem design.now node.now }
-        requires serves { MayServe room.old design.now }
-        ensures values { IfOk result (AreValues (Self.part_value self.now design.now node.now)) }
-        ensures serves { room.new ≡ Some design.now }
-    {
-        Ok(PartValues {
-            area: self.part(design, node, Part::Area, room)?,
-            range: self.part(design, node, Part::Range, room)?,
-            pair: self.part(design, node, Part::Pair, room)?,
-            hull: self.part(design, node, Part::Hull, room)?,
-        })
-    }
 
     /// No plan that belongs to a subproblem and fits costs less than the value.
     ghost sound: { (bounds : Self) (design : DesignValue)
@@ -136,17 +111,13 @@ impl Bounds for Standard {
         part_value(room, design, node, Part::Full)
     }
 
-    fn valued<'a>(
+    fn all_values<'a>(
         &self,
         design: &'a Design,
         node: &Node,
         room: &mut Room<'a>,
-    ) -> Result<Valued, NoMemory> {
-        let values = all_values(room, design, node)?;
-        Ok(Valued {
-            value: values.full,
-            parts: Some(values.parts),
-        })
+    ) -> Result<AllValues, NoMemory> {
+        all_values(room, design, node)
     }
 
     fn keeps_value(&self, child: &Node) -> bool {
@@ -161,14 +132,5 @@ impl Bounds for Standard {
         room: &mut Room<'a>,
     ) -> Result<u64, NoMemory> {
         part_value(room, design, node, part)
-    }
-
-    fn parts<'a>(
-        &self,
-        design: &'a Design,
-        node: &Node,
-        room: &mut Room<'a>,
-    ) -> Result<PartValues, NoMemory> {
-        Ok(all_values(room, design, node)?.parts)
     }
 }

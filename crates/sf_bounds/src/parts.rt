@@ -90,7 +90,7 @@ fn wire_cost(
 }
 
 /// The value of the bound, and the values of the parts below it.
-#[derive(Clone, Copy)]
+#[derive(Clone, Copy, Debug, PartialEq, Eq)]
 pub struct AllValues {
     pub full: u64,
     pub parts: PartValues,

@@ -43,7 +43,15 @@ impl<'a> Room<'a> {
         ensures { self.new ≡ Some design.now }
     {
         if self.kept.is_none() {
-            self.kept = Some(Kept::new(self.scratch.alloc, design));
+            self.begin(design);
         }
+    }
+
+    /// Begins to serve a design. It stands apart, so that a room which serves one already pays nothing for it.
+    #[inline(never)]
+    fn begin(&mut self, design: &'a Design)
+        ensures { self.new ≡ Some design.now }
+    {
+        self.kept = Some(Kept::new(self.scratch.alloc, design));
     }
 }

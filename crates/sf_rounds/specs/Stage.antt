@@ -12,7 +12,6 @@ use Rattle.sf_node.specs.ByPart.{AreValues}
 use Rattle.sf_node.specs.Subproblem.{root}
 use Rattle.sf_node.specs.Children.{extended, after}
 use Rattle.sf_node.specs.declared.step.Step.TheVariants.{Left, Right}
-use Rattle.sf_bounds.specs.declared.children.Valued.{Valued}
 use Rattle.sf_search_core.specs.declared.entry.Entry.{Entry}
 use Rattle.sf_search_core.specs.State.{State}
 use Rattle.sf_worker.specs.declared.decision.Decision.{Decision}
@@ -25,6 +24,7 @@ use Rattle.sf_certificate.specs.Marks.{made, marks, tag_of, waiting_after}
 use Rattle.sf_certificate.specs.Named.{unnamed}
 use Rattle.sf_certificate.specs.Valid.{least}
 use Rattle.sf_rounds.specs.declared.visit.Visit.{Visit}
+use Rattle.sf_rounds.specs.declared.walk.Valued.{Valued}
 use Rattle.sf_rounds.specs.declared.visit.Visit.TheVariants as visit
 use Rattle.sf_cursor.specs.Path.{Path, IsPath}
 use Rattle.sf_rounds.specs.Run.{IsIdle, IsBest, best_after}

@@ -145,7 +145,7 @@ fn name_mark<'a, B: Bounds>(
 {
     match mark.tag {
         Tag::Closed(_) => {
-            let values = bounds.parts(design, &mark.node, room)?;
+            let values = bounds.all_values(design, &mark.node, room)?.parts;
             Ok(Tag::Closed(values.first(cost)))
         }
         Tag::Extend | Tag::Split(_) | Tag::Open => Ok(mark.tag),

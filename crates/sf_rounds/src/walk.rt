@@ -4,7 +4,7 @@ ghost use Rattle.std.specs.Prelude.{◌≡◌};
 
 use crate::naming::name_all;
 use crate::visit::{Visit, decide};
-use sf_bounds::{Bounds, Room, Valued, child_bound};
+use sf_bounds::{Bounds, Room, child_bound};
 use sf_certificate::Tag;
 use sf_cursor::Cursor;
 use sf_model::{Design, MAX};
@@ -12,6 +12,13 @@ use sf_node::{Part, PartValues, Values};
 use sf_polish::Expr;
 use std::alloc::{AllocError as NoMemory, Global};
 use std::marker::Model;
+
+/// The value of a subproblem, and those of the parts of the bound where they were measured with it.
+#[derive(Clone, Copy)]
+pub struct Valued {
+    pub value: u64,
+    pub parts: Option<PartValues>,
+}
 
 /// A search in preorder: where it stands, whether anything is not visited yet, the tags so far, what is kept
 /// to name their parts by, the least cost found and its plan.
@@ -145,7 +152,13 @@ impl Walk {
             Some(value) if bounds.keeps_value(self.cursor.node()) => {
                 Ok(Valued { value, parts: None })
             }
-            _ => bounds.valued(design, self.cursor.node(), room),
+            _ => {
+                let values = bounds.all_values(design, self.cursor.node(), room)?;
+                Ok(Valued {
+                    value: values.full,
+                    parts: Some(values.parts),
+                })
+            }
         }
     }
 
@@ -182,7 +195,7 @@ impl Walk {
         };
         let values = match valued.parts {
             Some(values) => values,
-            None => bounds.parts(design, self.cursor.node(), room)?,
+            None => bounds.all_values(design, self.cursor.node(), room)?.parts,
         };
         let part = values.first(cost);
         if part != Part::Area {

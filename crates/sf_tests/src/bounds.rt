@@ -173,12 +173,12 @@ fn measures_weights(rt: HostRuntime) -> Result<(), Fail> {
     assert_values(&rt, alloc, &design, &mut room, &WEIGHTED)
 }
 
-/// The values of the five parts asked for one by one, and of the four below the full one asked for together.
+/// The values of the five parts asked for one by one, and asked for together.
 fn values_by_part<'a>(
     design: &'a Design,
     node: &Node,
     room: &mut Room<'a>,
-) -> Result<([u64; 5], [u64; 4]), AllocError>
+) -> Result<([u64; 5], [u64; 5]), AllocError>
     requires node { IsSubproblem design.now node.now }
     requires serves { MayServe room.old design.now }
     ensures serves { MayServe room.new design.now }
@@ -188,10 +188,11 @@ fn values_by_part<'a>(
     let pair = Standard.part(design, node, Part::Pair, room)?;
     let hull = Standard.part(design, node, Part::Hull, room)?;
     let full = Standard.part(design, node, Part::Full, room)?;
-    let parts = Standard.parts(design, node, room)?;
+    let all = Standard.all_values(design, node, room)?;
+    let parts = all.parts;
     Ok((
         [area, range, pair, hull, full],
-        [parts.area, parts.range, parts.pair, parts.hull],
+        [parts.area, parts.range, parts.pair, parts.hull, all.full],
     ))
 }
 
@@ -203,14 +204,14 @@ fn measures_parts(rt: HostRuntime) -> Result<(), Fail> {
     let mut room = Room::new(alloc);
     let start = node_at(alloc, &design, &[])?;
     let of_root = values_by_part(&design, &start, &mut room)?;
-    assert_eq!(rt; of_root, ([4, 24, 4, 4, 24], [4, 24, 4, 4]));
+    assert_eq!(rt; of_root, ([4, 24, 4, 4, 24], [4, 24, 4, 4, 24]));
     let whole = node_at(alloc, &design, &[0])?;
     let of_whole = values_by_part(&design, &whole, &mut room)?;
-    assert_eq!(rt; of_whole, ([4, 24, 4, 194, 194], [4, 24, 4, 194]));
+    assert_eq!(rt; of_whole, ([4, 24, 4, 194, 194], [4, 24, 4, 194, 194]));
     // the shape 1 by 4 alone
     let (high, _low) = halves(&design, &whole)?.ok_or("no halves")?;
     let of_high = values_by_part(&design, &high, &mut room)?;
-    assert_eq!(rt; of_high, ([4, 44, 4, 234, 234], [4, 44, 4, 234]));
+    assert_eq!(rt; of_high, ([4, 44, 4, 234, 234], [4, 44, 4, 234, 234]));
     Ok(())
 }
 

@@ -30,6 +30,6 @@ loop-self-preserved g c =
       best = f.best ∙ i.best;
       serves = elim c.match-parent_value.branch [
         | in-None+in_ok-value-in-None w ↦ subst (λ room. MayServe room design) (sym (w.room-is ∙ w.bound.ensures.serves)) refl
-        | in-Some+in_ok-value-in-Some w ↦ subst (λ room. MayServe room design) (sym w.room-is) w.child_bound.ensures.serves
+        | in-Some+in_ok-value-in-Some w ↦ subst (λ room. MayServe room design) (sym (w.room-is ∙ w.child_bound.ensures.serves)) refl
       ];
     }
