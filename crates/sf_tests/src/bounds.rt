@@ -7,7 +7,7 @@ ghost use Rattle.sf_bounds.specs.Serving.{MayServe};
 use crate::designs::{
     FLAT, NARROW, SQUARE, WIDE, bare, block, block_of, net, node_at, pad, three_shapes, two_squares,
 };
-use sf_bounds::{Bounds, Room, Standard, solve};
+use sf_bounds::{AllValues, Bounds, Room, Standard, solve};
 use sf_model::{BlockList, Design, MAX, NetList, Outline, PadList, Pin, Weights};
 use sf_node::{Node, Part};
 use std::alloc::{AllocError, Global};
@@ -48,23 +48,6 @@ fn values_of_halves<'a>(
     let third = Standard.bound(design, &square, room)?;
     let fourth = Standard.bound(design, &wide, room)?;
     Ok(Some([first, second, third, fourth]))
-}
-
-/// The bound of the root, of the complete subproblem, and of its halves.
-#[test]
-fn measures(rt: HostRuntime) -> Result<(), Fail> {
-    let alloc = rt.alloc();
-    let design = three_shapes(alloc)?;
-    let mut room = Room::new(alloc);
-    let start = node_at(alloc, &design, &[])?;
-    assert_eq!(rt; Standard.bound(&design, &start, &mut room)?, 24);
-    let whole = node_at(alloc, &design, &[0])?;
-    assert_eq!(rt; Standard.bound(&design, &whole, &mut room)?, 194);
-    let of_halves = values_of_halves(&design, &mut room, &whole)?;
-    assert_eq!(rt; of_halves, Some([234, 194, 204, 196]));
-    assert_eq!(rt; Standard.bound(&design, &whole, &mut room)?, 194);
-    assert_eq!(rt; Standard.bound(&design, &start, &mut room)?, 24);
-    Ok(())
 }
 
 /// Four blocks of 2 by 2, with wire weight 1: an outer net of the first and the third, an inner one of the
@@ -141,6 +124,22 @@ fn assert_values<'a>(
     Ok(())
 }
 
+/// Of one block of three shapes: the root, and the complete subproblem.
+const THREE_SHAPES: [(&[usize], u64); 2] = [(&[], 24), (&[0], 194)];
+
+/// The bound of these two before and after that of the halves.
+#[test]
+fn measures(rt: HostRuntime) -> Result<(), Fail> {
+    let alloc = rt.alloc();
+    let design = three_shapes(alloc)?;
+    let mut room = Room::new(alloc);
+    assert_values(&rt, alloc, &design, &mut room, &THREE_SHAPES)?;
+    let whole = node_at(alloc, &design, &[0])?;
+    let of_halves = values_of_halves(&design, &mut room, &whole)?;
+    assert_eq!(rt; of_halves, Some([234, 194, 204, 196]));
+    assert_values(&rt, alloc, &design, &mut room, &THREE_SHAPES)
+}
+
 /// Nets of blocks in one item, in two, and with a pad.
 #[test]
 fn measures_items(rt: HostRuntime) -> Result<(), Fail> {
@@ -173,28 +172,67 @@ fn measures_weights(rt: HostRuntime) -> Result<(), Fail> {
     assert_values(&rt, alloc, &design, &mut room, &WEIGHTED)
 }
 
-/// The values of the five parts asked for one by one, and asked for together.
-fn values_by_part<'a>(
+/// The value of one part among all that were measured at once.
+fn value_of(all: &AllValues, part: Part) -> u64 {
+    match part {
+        Part::Area => all.parts.area,
+        Part::Range => all.parts.range,
+        Part::Pair => all.parts.pair,
+        Part::Hull => all.parts.hull,
+        Part::Full => all.full,
+    }
+}
+
+/// Asserts that these are the values of the parts, asked for one by one and all at once.
+fn assert_parts<'a>(
+    rt: &impl Abort,
     design: &'a Design,
     node: &Node,
     room: &mut Room<'a>,
-) -> Result<([u64; 5], [u64; 5]), AllocError>
+    rows: &[(Part, u64)],
+) -> Result<(), Fail>
     requires node { IsSubproblem design.now node.now }
     requires serves { MayServe room.old design.now }
     ensures serves { MayServe room.new design.now }
 {
-    let area = Standard.part(design, node, Part::Area, room)?;
-    let range = Standard.part(design, node, Part::Range, room)?;
-    let pair = Standard.part(design, node, Part::Pair, room)?;
-    let hull = Standard.part(design, node, Part::Hull, room)?;
-    let full = Standard.part(design, node, Part::Full, room)?;
     let all = Standard.all_values(design, node, room)?;
-    let parts = all.parts;
-    Ok((
-        [area, range, pair, hull, full],
-        [parts.area, parts.range, parts.pair, parts.hull, all.full],
-    ))
+    for (part, value) in rows {
+        let alone = Standard.part(design, node, *part, room)?;
+        assert_eq!(rt;
+            (alone, value_of(&all, *part)),
+            (*value, *value),
+            "{part:?}"
+        );
+    }
+    Ok(())
 }
+
+/// The parts at the root of one block of three shapes.
+const OF_ROOT: [(Part, u64); 5] = [
+    (Part::Area, 4),
+    (Part::Range, 24),
+    (Part::Pair, 4),
+    (Part::Hull, 4),
+    (Part::Full, 24),
+];
+
+/// The same at the complete subproblem.
+const OF_WHOLE: [(Part, u64); 5] = [
+    (Part::Area, 4),
+    (Part::Range, 24),
+    (Part::Pair, 4),
+    (Part::Hull, 194),
+    (Part::Full, 194),
+];
+
+/// The same with the shape 1 by 4 alone.
+const OF_HIGH: [(Part, u64); 5] = [
+    (Part::Area, 4),
+    (Part::Range, 44),
+    (Part::Pair, 4),
+    (Part::Hull, 234),
+    (Part::Full, 234),
+];
 
 /// The parts asked for one by one are those asked for together.
 #[test]
@@ -203,16 +241,11 @@ fn measures_parts(rt: HostRuntime) -> Result<(), Fail> {
     let design = three_shapes(alloc)?;
     let mut room = Room::new(alloc);
     let start = node_at(alloc, &design, &[])?;
-    let of_root = values_by_part(&design, &start, &mut room)?;
-    assert_eq!(rt; of_root, ([4, 24, 4, 4, 24], [4, 24, 4, 4, 24]));
+    assert_parts(&rt, &design, &start, &mut room, &OF_ROOT)?;
     let whole = node_at(alloc, &design, &[0])?;
-    let of_whole = values_by_part(&design, &whole, &mut room)?;
-    assert_eq!(rt; of_whole, ([4, 24, 4, 194, 194], [4, 24, 4, 194, 194]));
-    // the shape 1 by 4 alone
+    assert_parts(&rt, &design, &whole, &mut room, &OF_WHOLE)?;
     let (high, _low) = halves(&design, &whole)?.ok_or("no halves")?;
-    let of_high = values_by_part(&design, &high, &mut room)?;
-    assert_eq!(rt; of_high, ([4, 44, 4, 234, 234], [4, 44, 4, 234, 234]));
-    Ok(())
+    assert_parts(&rt, &design, &high, &mut room, &OF_HIGH)
 }
 
 /// A block of 2 by 3 or 3 by 2 in an outline of 2 by 2, with this wire weight.
