@@ -47,7 +47,8 @@ impl<'a> Room<'a> {
         }
     }
 
-    /// Begins to serve a design. It stands apart, so that a room which serves one already pays nothing for it.
+    /// Begins to serve a design. It stands apart, so that a room which serves one already pays nothing for
+    /// it.
     #[inline(never)]
     fn begin(&mut self, design: &'a Design)
         ensures { self.new ≡ Some design.now }
