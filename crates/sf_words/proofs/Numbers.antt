@@ -1,25 +1,15 @@
 -- The defaults of the options that take numbers.
-use Rattle.std.proofs.Common.{◌≤◌, IfSome, lit≤}
+use Rattle.std.proofs.Common.{IfSome, lit≤}
 use Rattle.sf_words.specs.declared.options.Key.{Key}
 use Rattle.sf_words.specs.declared.options.Key.TheVariants.{PerUnit, Shapes, AreaWeight, WireWeight, Workers}
-use Rattle.sf_words.specs.Numbers.{least, greatest, default_of}
+use Rattle.sf_words.specs.Numbers.{range, default_of, IsAllowed}
 
--- a default is not below the range of its option
-pub default_low : (key : Key) → IfSome (default_of key) (λ n. least key ≤ n)
-unfolding least default_of
-default_low PerUnit = lit≤ tt
-default_low Shapes = lit≤ tt
-default_low AreaWeight = lit≤ tt
-default_low WireWeight = lit≤ tt
-default_low Workers = lit≤ tt
-default_low key = tt
-
--- nor above it
-pub default_high : (key : Key) → IfSome (default_of key) (λ n. n ≤ greatest key)
-unfolding greatest default_of
-default_high PerUnit = lit≤ tt
-default_high Shapes = lit≤ tt
-default_high AreaWeight = lit≤ tt
-default_high WireWeight = lit≤ tt
-default_high Workers = lit≤ tt
-default_high key = tt
+-- a default is in the range of its option
+pub default_allowed : (key : Key) → IfSome (default_of key) (IsAllowed key)
+unfolding range default_of
+default_allowed PerUnit = (lit≤ tt, lit≤ tt)
+default_allowed Shapes = (lit≤ tt, lit≤ tt)
+default_allowed AreaWeight = (lit≤ tt, lit≤ tt)
+default_allowed WireWeight = (lit≤ tt, lit≤ tt)
+default_allowed Workers = (lit≤ tt, lit≤ tt)
+default_allowed key = tt

@@ -1,11 +1,11 @@
 -- A list of words has at most one meaning.
-use Rattle.std.proofs.Common.{◌≡◌, ℕ, List, Option, Some, None, codes, refl, sym, ap, subst, ◌∙◌}
+use Rattle.std.proofs.Common.{◌≡◌, ℕ, List, Option, Some, None, MatchOption, codes, refl, sym, ap, subst, ◌∙◌}
 use Rattle.sf_words.specs.declared.options.Mode.{Mode}
 use Rattle.sf_words.specs.declared.options.Key.{Key}
 use Rattle.sf_words.specs.declared.options.Key.TheVariants.{PerUnit, Shapes, Outline, AreaWeight, WireWeight, Workers, Nodes, Seed, Count}
 use Rattle.sf_words.specs.Table.{Text}
 use Rattle.sf_words.specs.Words.{Token, HasForm}
-use Rattle.sf_words.specs.Numbers.{SaysNumber, SaysOptional}
+use Rattle.sf_words.specs.Numbers.{IsWithin, SaysNumber, SaysOptional, range}
 use Rattle.sf_words.specs.declared.command.Kinds.{Kinds}
 use Rattle.sf_words.specs.declared.command.Kinds.TheVariants.{Hard, Mixed}
 use Rattle.sf_words.specs.Outline.{OutlineSays}
@@ -13,15 +13,20 @@ use Rattle.sf_words.specs.Meaning.{Values, value_in, Input, gsrc, yal, InputSays
 use Rattle.sf_words.proofs.Texts.{mode_text-injective}
 use Rattle.sf_words.proofs.Tokens.{options_unique, heads_same, tails_same}
 
+-- a text is at most one number of a range
+within_unique : (range : Option (ℕ × ℕ)) (text : Text) (m n : ℕ) → MatchOption range ⊥ (IsWithin text m) → MatchOption range ⊥ (IsWithin text n) → m ≡ n
+within_unique None text m n g h = absurd h
+within_unique (Some range) text m n g h = cc (g.value, h.value)
+
 -- an option says at most one number
 pub number_unique : (key : Key) (text : Option Text) (m n : ℕ) → SaysNumber key text m → SaysNumber key text n → m ≡ n
 number_unique key None m n g h = cc
-number_unique key (Some text) m n g h = cc (g.value, h.value)
+number_unique key (Some text) m n g h = within_unique (range key) text m n g h
 
 -- an option without a default says at most one number, and never both one and none
 pub optional_unique : (key : Key) (text : Option Text) (m n : Option ℕ) → SaysOptional key text m → SaysOptional key text n → m ≡ n
 optional_unique key None None None g h = refl
-optional_unique key (Some text) (Some m) (Some n) g h = cc (g.value, h.value)
+optional_unique key (Some text) (Some m) (Some n) g h = ap Some (within_unique (range key) text m n g h)
 optional_unique key None None (Some n) g h = absurd h
 optional_unique key None (Some m) n g h = absurd g
 optional_unique key (Some text) None n g h = absurd g

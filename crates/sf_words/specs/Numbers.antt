@@ -1,29 +1,21 @@
 -- Whole numbers in words, and the ranges and defaults of the options that take them.
-use Rattle.std.specs.Prelude.{◌≡◌, ℕ, ◌≤◌, Option, Some, None}
+use Rattle.std.specs.Prelude.{◌≡◌, ℕ, ◌≤◌, Option, Some, None, MatchOption}
 use Rattle.sf_lex.specs.Whole.{whole_read}
 use Rattle.sf_words.specs.declared.options.Key.{Key}
 use Rattle.sf_words.specs.declared.options.Key.TheVariants.{PerUnit, Shapes, AreaWeight, WireWeight, Workers, Nodes, Seed, Count}
 use Rattle.sf_words.specs.Table.{Text}
 
 -- the least and the greatest number that an option takes, where it takes a number
-unfoldable pub least : Key → ℕ
-least Shapes = 2
-least AreaWeight = 0
-least WireWeight = 0
-least Seed = 0
-least key = 1
-
--- the greatest number that an option takes, where it takes a number
-unfoldable pub greatest : Key → ℕ
-greatest PerUnit = 1000
-greatest Shapes = 256
-greatest AreaWeight = 65_535
-greatest WireWeight = 65_535
-greatest Workers = 16
-greatest Nodes = 4_000_000
-greatest Count = 320
-greatest Seed = 18_446_744_073_709_551_615
-greatest key = 0
+unfoldable pub range : Key → Option (ℕ × ℕ)
+range PerUnit = Some (1, 1000)
+range Shapes = Some (2, 256)
+range AreaWeight = Some (0, 65_535)
+range WireWeight = Some (0, 65_535)
+range Workers = Some (1, 16)
+range Nodes = Some (1, 4_000_000)
+range Count = Some (1, 320)
+range Seed = Some (0, 18_446_744_073_709_551_615)
+range key = None
 
 -- the number that an option has where it isn't given
 unfoldable pub default_of : Key → Option ℕ
@@ -34,10 +26,18 @@ default_of WireWeight = Some 0
 default_of Workers = Some 1
 default_of key = None
 
+-- one to twenty digits are a number in a range
+pub record IsWithin (text : Text) (n : ℕ) (range : ℕ × ℕ) : Type 0 where
+  pub value : whole_read range.1 text ≡ Some n
+  pub low : range.0 ≤ n
+
 -- one to twenty digits are a number that an option takes
-pub record IsInRange (key : Key) (text : Text) (n : ℕ) : Type 0 where
-  pub value : whole_read (greatest key) text ≡ Some n
-  pub low : least key ≤ n
+abbrev pub IsInRange : Key → Text → ℕ → Type 0
+IsInRange key text n = MatchOption (range key) ⊥ (IsWithin text n)
+
+-- the number is in the range of the option
+abbrev pub IsAllowed : Key → ℕ → Type 0
+IsAllowed key n = MatchOption (range key) ⊥ (λ r. (r.0 ≤ n) × (n ≤ r.1))
 
 -- what an option that takes a number says, given or not
 abbrev pub SaysNumber : Key → Option Text → ℕ → Type 0

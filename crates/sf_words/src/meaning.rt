@@ -82,7 +82,7 @@ fn read_input<'a, T: OptionTexts<'a>>(texts: &T) -> Option<InputFiles<'a>>
 }
 
 /// The options that tell a design.
-#[tactic(auto, unfolding(crate::specs::Numbers::least, crate::specs::Numbers::greatest))]
+#[tactic(auto, unfolding(crate::specs::Numbers::range))]
 fn read_design<'a, T: OptionTexts<'a>>(texts: &T) -> Option<DesignWords<'a>>
     ensures { IsReading (DesignSays (T.texts texts.now)) design_seen result }
 {
@@ -105,7 +105,7 @@ fn read_design<'a, T: OptionTexts<'a>>(texts: &T) -> Option<DesignWords<'a>>
 }
 
 /// The options that tell what counts in a cost.
-#[tactic(auto, unfolding(crate::specs::Numbers::least, crate::specs::Numbers::greatest))]
+#[tactic(auto, unfolding(crate::specs::Numbers::range))]
 fn read_weights<'a, T: OptionTexts<'a>>(texts: &T) -> Option<WeightWords<'a>>
     ensures { IsReading (WeightsSay (T.texts texts.now)) weights_seen result }
 {
@@ -122,7 +122,7 @@ fn read_weights<'a, T: OptionTexts<'a>>(texts: &T) -> Option<WeightWords<'a>>
 }
 
 /// The options of `plan`.
-#[tactic(auto, unfolding(crate::specs::Numbers::least, crate::specs::Numbers::greatest))]
+#[tactic(auto, unfolding(crate::specs::Numbers::range))]
 fn read_plan<'a, T: OptionTexts<'a>>(texts: &T) -> Option<PlanWords<'a>>
     ensures { IsReading (PlanSays (T.texts texts.now)) plan_seen result }
 {
@@ -188,7 +188,7 @@ fn read_kinds(text: Option<&str>) -> Option<Kinds>
 }
 
 /// The options of `gen`.
-#[tactic(auto, unfolding(crate::specs::Numbers::least, crate::specs::Numbers::greatest))]
+#[tactic(auto, unfolding(crate::specs::Numbers::range))]
 fn read_gen<'a, T: OptionTexts<'a>>(texts: &T) -> Option<GenWords<'a>>
     ensures { IsReading (GenSays (T.texts texts.now)) gen_seen result }
 {
