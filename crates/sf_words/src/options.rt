@@ -1,5 +1,5 @@
 //! The commands, their options, and how these are written.
-ghost use Rattle.std.specs.Prelude.{◌≡◌, ◌≢◌, ◌↔◌, IsTrue, IfSome, IfNone, Contains, All};
+ghost use Rattle.std.specs.Prelude.{◌≡◌, ◌≢◌, ◌↔◌, IsTrue, IfSome, IfNone, Contains};
 ghost use Rattle.sf_words.specs.declared.options.Mode.{Mode};
 ghost use Rattle.sf_words.specs.declared.options.Key.{Key};
 ghost use Rattle.sf_words.specs.Table.{modes, mode_text, key_text, is_flag, keys_of};
@@ -82,32 +82,39 @@ impl Mode {
         ]
     }
 
-    /// The word that names the command.
-    #[tactic(auto, unfolding(crate::specs::Table::mode_text))]
-    pub fn text(self) -> &'static str
-        ensures { result.now ≡ mode_text self }
+    /// The row of the command: the word that names it, and the options that it takes.
+    #[tactic(auto, unfolding(crate::specs::Table::mode_text, crate::specs::Table::keys_of))]
+    fn row(self) -> (&'static str, &'static [Key])
+        ensures text { result.0.now ≡ mode_text self }
+        ensures keys { result.1.now ≡ keys_of self }
     {
         match self {
-            Mode::Plan => "plan",
-            Mode::Check => "check",
-            Mode::Measure => "measure",
-            Mode::Shape => "shape",
-            Mode::Gen => "gen",
+            Mode::Plan => (
+                "plan",
+                weighed_keys![Key::Cert, Key::PlOut, Key::Workers, Key::Nodes],
+            ),
+            Mode::Check => ("check", weighed_keys![Key::Cert, Key::Rewrite]),
+            Mode::Measure => ("measure", weighed_keys![Key::Placed]),
+            Mode::Shape => ("shape", design_keys![Key::Expr]),
+            Mode::Gen => (
+                "gen",
+                &[Key::Nodes, Key::Seed, Key::Count, Key::Kinds, Key::Out],
+            ),
         }
     }
 
+    /// The word that names the command.
+    pub fn text(self) -> &'static str
+        ensures { result.now ≡ mode_text self }
+    {
+        self.row().0
+    }
+
     /// The options that the command takes.
-    #[tactic(auto, unfolding(crate::specs::Table::keys_of))]
     pub fn keys(self) -> &'static [Key]
         ensures { result.now ≡ keys_of self }
     {
-        match self {
-            Mode::Plan => weighed_keys![Key::Cert, Key::PlOut, Key::Workers, Key::Nodes],
-            Mode::Check => weighed_keys![Key::Cert, Key::Rewrite],
-            Mode::Measure => weighed_keys![Key::Placed],
-            Mode::Shape => design_keys![Key::Expr],
-            Mode::Gen => &[Key::Nodes, Key::Seed, Key::Count, Key::Kinds, Key::Out],
-        }
+        self.row().1
     }
 }
 

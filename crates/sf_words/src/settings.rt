@@ -1,12 +1,11 @@
 //! Options as they stand in the words.
-ghost use Rattle.std.specs.Prelude.{◌≡◌, ◌≢◌, ◌↔◌, ◌∷◌, [], ◌++◌, List, IsTrue, IfSome, IfNone, Contains};
+ghost use Rattle.std.specs.Prelude.{◌≡◌, ◌≢◌, ◌↔◌, ◌∷◌, ◌++◌, List, IsTrue, IfSome, IfNone, Contains};
 ghost use Rattle.std.specs.Prelude.{MatchOption, IfOk, map, string_bytes};
 ghost use Rattle.sf_words.specs.declared.options.Mode.{Mode};
 ghost use Rattle.sf_words.specs.declared.options.Key.{Key};
-ghost use Rattle.sf_words.specs.Table.{Text, key_text, is_flag};
+ghost use Rattle.sf_words.specs.Table.{Text, key_text};
 ghost use Rattle.sf_words.specs.Words.{Token, key_of, before, words_of, IsValue, IsShaped, IsNew};
-ghost use Rattle.sf_words.specs.Words.{AreOptions};
-ghost use Rattle.sf_words.specs.Words.{HasForm};
+ghost use Rattle.sf_words.specs.Words.{AreOptions, HasForm};
 ghost use Rattle.sf_words.specs.Seen.{token_of};
 
 use crate::options::{Key, Mode, find_key, find_mode};
@@ -21,6 +20,7 @@ pub enum Setting<'a> {
 }
 
 impl<'a> Setting<'a> {
+    /// The option that it sets.
     pub fn key(&self) -> Key
         ensures { result ≡ key_of (token_of self.now) }
     {
