@@ -1,14 +1,12 @@
 //! What is stored and printed of a search.
 
-ghost use Rattle.std.specs.Prelude.{◌≡◌, ◌≤◌, ◌<◌, ◌^◌, ◌++◌, ◌∷◌, [], length, ℕ, IfOk, None};
+ghost use Rattle.std.specs.Prelude.{◌≡◌, ◌≤◌, ◌++◌, ◌∷◌, [], length, ℕ, IfOk, None};
 ghost use Rattle.std.specs.Prelude.{Some, string_bytes};
-ghost use Rattle.sf_model.specs.declared.TheConstants.{MAX};
 ghost use Rattle.sf_model.specs.Legal.{block_count};
 ghost use Rattle.sf_polish.specs.Text.{IsWritable};
 ghost use Rattle.sf_certificate.specs.Text.{cert_text};
 ghost use Rattle.sf_certificate.specs.Valid.{HasCost, decided};
 ghost use Rattle.sf_pl_writer.specs.Length.{IsScale};
-ghost use Rattle.sf_pl_writer.specs.PlText.{pl_text};
 ghost use Rattle.sf_words.specs.Seen.{text_of};
 ghost use Rattle.sf_program.specs.Planned.{IsEnding, AreMeasures, IsTold, outcome_status, placement_stores};
 ghost use Rattle.sf_program.specs.Stores.{stored_in};
@@ -16,7 +14,7 @@ ghost use Rattle.sf_program.specs.Stores.{stored_in};
 use crate::work::{Store, Work};
 use sf_certificate::{Cert, write};
 use sf_io::Status;
-use sf_model::{Design, MAX, Spot};
+use sf_model::{Design, MAX, MOST_SIDE, Spot};
 use sf_pl_writer::{Outcome, Report, pl_text, report_text};
 use sf_place::{size, spots};
 use sf_polish::{Expr, plan_of};
@@ -73,13 +71,14 @@ struct Measured {
     wire: u64,
 }
 
+/// The spots, the size and the wire length of a plan that fits.
 fn measure_plan(alloc: Global, design: &Design, expr: &Expr) -> Result<Measured, NoMemory>
     requires writable { IsWritable (block_count design.now) expr.now }
     requires fits { (z : ℕ) × HasCost design.now expr.now z }
     ensures measured { IfOk result (λ m.
         AreMeasures design.now expr.now m.spots.items m.size.0 m.size.1 m.wire) }
     ensures one_each { IfOk result (λ m. length m.spots.items ≡ block_count design.now) }
-    ensures small { IfOk result (λ m. (m.size.0 ≤ 2 ^ 20) × (m.size.1 ≤ 2 ^ 20)) }
+    ensures small { IfOk result (λ m. (m.size.0 ≤ MOST_SIDE) × (m.size.1 ≤ MOST_SIDE)) }
 {
     let plan = plan_of(alloc, expr)?;
     let spots = spots(alloc, &plan, design.block_count())?;
@@ -91,6 +90,7 @@ fn measure_plan(alloc: Global, design: &Design, expr: &Expr) -> Result<Measured,
     })
 }
 
+/// What is to be stored: these bytes under this name.
 fn store_of(alloc: Global, name: &str, bytes: Vec<u8>) -> Result<Store, NoMemory>
     ensures name { IfOk result (λ s. string_bytes s.name ≡ name.now) }
     ensures bytes { IfOk result (λ s. s.bytes.items ≡ bytes.items) }

@@ -1,6 +1,6 @@
 //! Shapes of a soft block.
 
-ghost use Rattle.std.specs.Prelude.{◌≡◌, ℕ, ◌+◌, ◌*◌, ◌^◌, ◌<◌, ◌≤◌, ◌↔◌, IsTrue, IfOk, vec_len, map};
+ghost use Rattle.std.specs.Prelude.{◌≡◌, ℕ, ◌+◌, ◌^◌, ◌≤◌, ◌↔◌, IsTrue, IfOk, vec_len, map};
 ghost use Rattle.sf_model.specs.Limits.{IsShapeChoice};
 ghost use Rattle.sf_soft_shapes.specs.Listed.{IsAllowed, IsSoftList, height_at, shape, widths};
 ghost use Rattle.sf_soft_shapes.specs.Ends.{IsLowEnough, IsHighEnough};
@@ -35,8 +35,8 @@ fn is_high_enough(area: u64, least: u64, w: u64) -> bool
 fn least_width(area: u64, most: u64) -> u64
     requires { area ≤ 2 ^ 40 }
     ensures some { 1 ≤ result }
-    ensures within { result ≤ 2 ^ 20 + 1 }
-    ensures ends { (w : ℕ) → 1 ≤ w → w ≤ 2 ^ 20 → IsLowEnough area most w ↔ (result ≤ w) }
+    ensures within { result ≤ MOST_SIDE + 1 }
+    ensures ends { (w : ℕ) → 1 ≤ w → w ≤ MOST_SIDE → IsLowEnough area most w ↔ (result ≤ w) }
 {
     let mut low = 1;
     let mut high = MOST_SIDE + 1;
@@ -54,8 +54,8 @@ fn least_width(area: u64, most: u64) -> u64
 /// The greatest width up to the limit at which a block is high enough, or 0.
 fn greatest_width(area: u64, least: u64) -> u64
     requires { area ≤ 2 ^ 40 }
-    ensures within { result ≤ 2 ^ 20 }
-    ensures ends { (w : ℕ) → 1 ≤ w → w ≤ 2 ^ 20 → IsHighEnough area least w ↔ (w ≤ result) }
+    ensures within { result ≤ MOST_SIDE }
+    ensures ends { (w : ℕ) → 1 ≤ w → w ≤ MOST_SIDE → IsHighEnough area least w ↔ (w ≤ result) }
 {
     let mut low = 0;
     let mut high = MOST_SIDE;
@@ -81,8 +81,8 @@ fn shapes_between(
     requires count { (2 ≤ k) × (k ≤ 256) }
     requires some { 1 ≤ lo }
     requires order { lo ≤ hi }
-    requires within { hi ≤ 2 ^ 20 }
-    requires low { height_at area lo ≤ 2 ^ 20 }
+    requires within { hi ≤ MOST_SIDE }
+    requires low { height_at area lo ≤ MOST_SIDE }
     ensures { IfOk result (λ shapes. shapes.items ≡ map (λ w. shape w (height_at area w)) (widths k lo hi)) }
 {
     let k = u64::from(k);
