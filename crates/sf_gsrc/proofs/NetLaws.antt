@@ -13,8 +13,8 @@ use Rattle.sf_model.specs.declared.raw.RawPin.TheVariants.{Named}
 use Rattle.sf_gsrc.specs.declared.fault.GsrcFault.{GsrcFault}
 use Rattle.sf_gsrc.specs.declared.fault.GsrcFault.TheVariants as faults
 use Rattle.sf_gsrc.specs.declared.fault.LineFault.{LineFault}
-use Rattle.sf_gsrc.specs.declared.keywords.NetWord.{NetWord}
-use Rattle.sf_gsrc.specs.declared.keywords.NetWord.TheVariants as net_words
+use Rattle.sf_gsrc.specs.declared.net_words.NetWord.{NetWord}
+use Rattle.sf_gsrc.specs.declared.net_words.NetWord.TheVariants as net_words
 use Rattle.sf_gsrc.specs.declared.count.Count.{Count}
 use Rattle.sf_gsrc.specs.declared.output.GsrcNets.{GsrcNets}
 use Rattle.sf_gsrc.specs.Keywords.{net_word_by}

@@ -6,8 +6,8 @@ use Rattle.sf_lex.specs.Gap.{first_word}
 use Rattle.sf_lex.specs.declared.field.Gap.TheVariants.{Blanks}
 use Rattle.sf_gsrc.specs.declared.keywords.Counted.{Counted}
 use Rattle.sf_gsrc.specs.declared.keywords.Counted.TheVariants as counts
-use Rattle.sf_gsrc.specs.declared.keywords.NetWord.{NetWord}
-use Rattle.sf_gsrc.specs.declared.keywords.NetWord.TheVariants as net_words
+use Rattle.sf_gsrc.specs.declared.net_words.NetWord.{NetWord}
+use Rattle.sf_gsrc.specs.declared.net_words.NetWord.TheVariants as net_words
 use Rattle.sf_gsrc.specs.declared.keywords.Form.{Form}
 use Rattle.sf_gsrc.specs.declared.keywords.Form.TheVariants as forms
 

@@ -6,8 +6,8 @@ use Rattle.sf_lex.specs.Gap.{first_word}
 use Rattle.sf_lex.specs.declared.field.Gap.TheVariants.{Blanks}
 use Rattle.sf_model.specs.declared.raw.RawNet.{RawNet}
 use Rattle.sf_model.specs.declared.raw.RawPin.TheVariants.{Named}
-use Rattle.sf_gsrc.specs.declared.keywords.NetWord.{NetWord}
-use Rattle.sf_gsrc.specs.declared.keywords.NetWord.TheVariants as net_words
+use Rattle.sf_gsrc.specs.declared.net_words.NetWord.{NetWord}
+use Rattle.sf_gsrc.specs.declared.net_words.NetWord.TheVariants as net_words
 use Rattle.sf_gsrc.specs.declared.output.GsrcNets.{GsrcNets}
 use Rattle.sf_gsrc.specs.Keywords.{net_word_by}
 use Rattle.sf_gsrc.specs.Blocks.{content_of, is_title}

@@ -1,7 +1,8 @@
-//! The words that have a meaning in a line.
+//! How a word with a meaning is looked up, and the words of a blocks file.
+#![tactic(auto, unfolding(crate::specs::Keywords::counted_of, crate::specs::Keywords::form_of))]
 
-ghost use Rattle.std.specs.Prelude.{◌≡◌, Some, None};
-ghost use Rattle.sf_gsrc.specs.Keywords.{count_word, counted_of, form_of, net_word_of};
+ghost use Rattle.std.specs.Prelude.{◌≡◌, map};
+ghost use Rattle.sf_gsrc.specs.Keywords.{count_word, counted_of, form_of, meaning_in};
 
 use sf_lex::{Gap, split_at_byte, split_word};
 
@@ -29,49 +30,42 @@ pub fn count_word_in(line: &[u8]) -> &[u8]
     split_at_byte(word, b':').0
 }
 
+/// What a word means by the first row that has it.
+pub fn meaning_in<M: Copy>(word: &[u8], rows: &[(&[u8], M)]) -> Option<M>
+    ensures { result ≡ meaning_in (map (λ row. (row.0.now, row.1)) rows.now) word.now }
+{
+    for (text, meaning) in rows {
+        if word == *text {
+            return Some(*meaning);
+        }
+    }
+    None
+}
+
 /// What a count word counts.
-#[tactic(auto, unfolding(crate::specs::Keywords::counted_of))]
 pub fn read_counted(word: &[u8]) -> Option<Counted>
     ensures { result ≡ counted_of word.now }
 {
-    match word {
-        _ if word == b"NumSoftRectangularBlocks".as_slice() => Some(Counted::Soft),
-        _ if word == b"NumHardRectilinearBlocks".as_slice() => Some(Counted::Hard),
-        _ if word == b"NumTerminals".as_slice() => Some(Counted::Terminals),
-        _ => None,
-    }
+    meaning_in(
+        word,
+        &[
+            (b"NumSoftRectangularBlocks", Counted::Soft),
+            (b"NumHardRectilinearBlocks", Counted::Hard),
+            (b"NumTerminals", Counted::Terminals),
+        ],
+    )
 }
 
 /// What the second word of a line says.
-#[tactic(auto, unfolding(crate::specs::Keywords::form_of))]
 pub fn read_form(word: &[u8]) -> Option<Form>
     ensures { result ≡ form_of word.now }
 {
-    match word {
-        _ if word == b"softrectangular".as_slice() => Some(Form::Soft),
-        _ if word == b"hardrectilinear".as_slice() => Some(Form::Hard),
-        _ if word == b"terminal".as_slice() => Some(Form::Terminal),
-        _ => None,
-    }
-}
-
-/// What a count line of a nets file says.
-#[derive(Clone, Copy, Debug, PartialEq, Eq)]
-pub enum NetWord {
-    Nets,
-    Pins,
-    Degree,
-}
-
-/// What a word of a nets file says.
-#[tactic(auto, unfolding(crate::specs::Keywords::net_word_of))]
-pub fn read_net_word(word: &[u8]) -> Option<NetWord>
-    ensures { result ≡ net_word_of word.now }
-{
-    match word {
-        _ if word == b"NumNets".as_slice() => Some(NetWord::Nets),
-        _ if word == b"NumPins".as_slice() => Some(NetWord::Pins),
-        _ if word == b"NetDegree".as_slice() => Some(NetWord::Degree),
-        _ => None,
-    }
+    meaning_in(
+        word,
+        &[
+            (b"softrectangular", Form::Soft),
+            (b"hardrectilinear", Form::Hard),
+            (b"terminal", Form::Terminal),
+        ],
+    )
 }

@@ -21,6 +21,7 @@ mod join;
 mod keywords;
 mod laws;
 mod line;
+mod net_words;
 mod nets;
 mod nets_found;
 mod numbering;

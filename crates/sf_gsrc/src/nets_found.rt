@@ -1,6 +1,6 @@
 //! What the lines of a nets file have said so far.
 
-ghost use Rattle.std.specs.Prelude.{◌≡◌, ◌<◌, [], length, Some, None, Ok, OnOk, is_some, List};
+ghost use Rattle.std.specs.Prelude.{◌≡◌, ◌<◌, [], length, Some, None, Ok, OnOk, List};
 ghost use Rattle.sf_lex.specs.Scan.{line_of};
 ghost use Rattle.sf_lex.specs.Gap.{first_word};
 ghost use Rattle.sf_gsrc.specs.Nets.{NetEntry, degree_kept, net_entry_by};
@@ -10,8 +10,9 @@ ghost use Rattle.sf_gsrc.specs.Blocks.{Gives};
 use crate::count::Count;
 use crate::fault::GsrcFault;
 use crate::found::{at_line, compare};
-use crate::keywords::{NetWord, count_word_in, read_net_word};
+use crate::keywords::count_word_in;
 use crate::line::read_count_line;
+use crate::net_words::{NetWord, read_net_word};
 use crate::output::GsrcNets;
 use sf_lex::{Gap, Word, split_word};
 use sf_model::{Name, RawNet, RawNetList, RawPin, RawPins};
@@ -29,7 +30,7 @@ pub struct NetsFound {
 
 impl NetsFound {
     ghost use Rattle.sf_lex.specs.declared.field.Gap.TheVariants.{Blanks};
-    ghost use Rattle.sf_gsrc.specs.declared.keywords.NetWord.TheVariants.{Nets, Pins, Degree};
+    ghost use Rattle.sf_gsrc.specs.declared.net_words.NetWord.TheVariants.{Nets, Pins, Degree};
     ghost use Rattle.sf_gsrc.specs.NetsFound.{KeepsNets, ReadsNet};
 
     /// Nothing yet.
