@@ -11,10 +11,10 @@ ghost use Rattle.sf_node.specs.Later.{IsChildOf};
 ghost use Rattle.sf_bounds.specs.Serving.{MayServe};
 
 use crate::children::keeps_value;
-use crate::parts::{AllValues, all_values, part_value};
+use crate::parts::{all_values, part_value};
 use crate::room::Room;
 use sf_model::Design;
-use sf_node::{Node, Part, Values};
+use sf_node::{Node, Part, PartValues, Values};
 use std::alloc::AllocError as NoMemory;
 
 /// A function from subproblems to numbers that no fitting plan of the subproblem undercuts.
@@ -40,11 +40,11 @@ pub trait Bounds: Values + Sync {
         design: &'a Design,
         node: &Node,
         room: &mut Room<'a>,
-    ) -> Result<AllValues, NoMemory>
+    ) -> Result<(u64, PartValues), NoMemory>
         requires subproblem { IsSubproblem design.now node.now }
         requires serves { MayServe room.old design.now }
-        ensures full { IfOk result (λ v. v.full ≡ Self.Values.value self.now design.now node.now) }
-        ensures parts { IfOk result (λ v. AreValues (Self.part_value self.now design.now node.now) v.parts) }
+        ensures value { IfOk result (λ v. v.0 ≡ Self.Values.value self.now design.now node.now) }
+        ensures parts { IfOk result (λ v. AreValues (Self.part_value self.now design.now node.now) v.1) }
         ensures serves { room.new ≡ Some design.now };
 
     /// Whether a child is sure to have its parent's value, so that nothing need be measured.
@@ -116,7 +116,7 @@ impl Bounds for Standard {
         design: &'a Design,
         node: &Node,
         room: &mut Room<'a>,
-    ) -> Result<AllValues, NoMemory> {
+    ) -> Result<(u64, PartValues), NoMemory> {
         all_values(room, design, node)
     }
 

@@ -89,24 +89,17 @@ fn wire_cost(
     Ok(weight * wires)
 }
 
-/// The value of the bound, and the values of the parts below it.
-#[derive(Clone, Copy, Debug, PartialEq, Eq)]
-pub struct AllValues {
-    pub full: u64,
-    pub parts: PartValues,
-}
-
 /// The value of the bound with those of the parts below it, all measured at once: from the area that is
 /// needed and the wires, at a solved subproblem too.
 pub fn all_values<'a>(
     room: &mut Room<'a>,
     design: &'a Design,
     node: &Node,
-) -> Result<AllValues, NoMemory>
+) -> Result<(u64, PartValues), NoMemory>
     requires subproblem { IsSubproblem design.now node.now }
     requires serves { MayServe room.old design.now }
-    ensures full { IfOk result (λ values. values.full ≡ standard design.now node.now) }
-    ensures values { IfOk result (λ values. AreValues (part_value design.now node.now) values.parts) }
+    ensures value { IfOk result (λ v. v.0 ≡ standard design.now node.now) }
+    ensures parts { IfOk result (λ v. AreValues (part_value design.now node.now) v.1) }
     ensures serves { room.new ≡ Some design.now }
 {
     standard_is_open();
@@ -115,10 +108,7 @@ pub fn all_values<'a>(
         unreachable!()
     };
     let Some(area) = area_cost(&mut kept.frames, &mut room.scratch, design, node)? else {
-        return Ok(AllValues {
-            full: MAX,
-            parts: all_alike(MAX),
-        });
+        return Ok((MAX, all_alike(MAX)));
     };
     let wires = wire_costs(&mut kept.nets, &mut room.scratch, design, node)?;
     let parts = PartValues {
@@ -127,10 +117,7 @@ pub fn all_values<'a>(
         pair: area + wires.pair,
         hull: area + wires.hull,
     };
-    Ok(AllValues {
-        full: area + wires.full,
-        parts,
-    })
+    Ok((area + wires.full, parts))
 }
 
 /// One value for each part.

@@ -36,7 +36,7 @@ fn name_tag<'a, B: Bounds>(
 {
     match tag {
         Tag::Closed(Part::Range | Part::Pair | Part::Hull | Part::Full) => {
-            let values = bounds.all_values(design, node, room)?.parts;
+            let (_, values) = bounds.all_values(design, node, room)?;
             Ok(Tag::Closed(values.first(cost)))
         }
         Tag::Closed(Part::Area) | Tag::Extend | Tag::Split(_) | Tag::Open => Ok(tag),

@@ -145,7 +145,7 @@ fn name_mark<'a, B: Bounds>(
 {
     match mark.tag {
         Tag::Closed(_) => {
-            let values = bounds.all_values(design, &mark.node, room)?.parts;
+            let (_, values) = bounds.all_values(design, &mark.node, room)?;
             Ok(Tag::Closed(values.first(cost)))
         }
         Tag::Extend | Tag::Split(_) | Tag::Open => Ok(mark.tag),

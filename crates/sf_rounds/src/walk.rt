@@ -153,10 +153,10 @@ impl Walk {
                 Ok(Valued { value, parts: None })
             }
             _ => {
-                let values = bounds.all_values(design, self.cursor.node(), room)?;
+                let (value, parts) = bounds.all_values(design, self.cursor.node(), room)?;
                 Ok(Valued {
-                    value: values.full,
-                    parts: Some(values.parts),
+                    value,
+                    parts: Some(parts),
                 })
             }
         }
@@ -195,7 +195,10 @@ impl Walk {
         };
         let values = match valued.parts {
             Some(values) => values,
-            None => bounds.all_values(design, self.cursor.node(), room)?.parts,
+            None => {
+                let (_, values) = bounds.all_values(design, self.cursor.node(), room)?;
+                values
+            }
         };
         let part = values.first(cost);
         if part != Part::Area {

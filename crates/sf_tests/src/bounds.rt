@@ -7,9 +7,9 @@ ghost use Rattle.sf_bounds.specs.Serving.{MayServe};
 use crate::designs::{
     FLAT, NARROW, SQUARE, WIDE, bare, block, block_of, net, node_at, pad, three_shapes, two_squares,
 };
-use sf_bounds::{AllValues, Bounds, Room, Standard, solve};
+use sf_bounds::{Bounds, Room, Standard, solve};
 use sf_model::{BlockList, Design, MAX, NetList, Outline, PadList, Pin, Weights};
-use sf_node::{Node, Part};
+use sf_node::{Node, Part, PartValues};
 use std::alloc::{AllocError, Global};
 use std::process::Abort;
 use std::test::Fail;
@@ -173,13 +173,13 @@ fn measures_weights(rt: HostRuntime) -> Result<(), Fail> {
 }
 
 /// The value of one part among all that were measured at once.
-fn value_of(all: &AllValues, part: Part) -> u64 {
+fn value_of(full: u64, parts: &PartValues, part: Part) -> u64 {
     match part {
-        Part::Area => all.parts.area,
-        Part::Range => all.parts.range,
-        Part::Pair => all.parts.pair,
-        Part::Hull => all.parts.hull,
-        Part::Full => all.full,
+        Part::Area => parts.area,
+        Part::Range => parts.range,
+        Part::Pair => parts.pair,
+        Part::Hull => parts.hull,
+        Part::Full => full,
     }
 }
 
@@ -195,11 +195,11 @@ fn assert_parts<'a>(
     requires serves { MayServe room.old design.now }
     ensures serves { MayServe room.new design.now }
 {
-    let all = Standard.all_values(design, node, room)?;
+    let (full, parts) = Standard.all_values(design, node, room)?;
     for (part, value) in rows {
         let alone = Standard.part(design, node, *part, room)?;
         assert_eq!(rt;
-            (alone, value_of(&all, *part)),
+            (alone, value_of(full, &parts, *part)),
             (*value, *value),
             "{part:?}"
         );

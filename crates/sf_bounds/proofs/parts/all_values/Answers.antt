@@ -3,14 +3,14 @@ use Rattle.sf_bounds.specs.Open.{IsAreaCostOrNone}
 use Rattle.sf_bounds.proofs.PartCosts.{full-is, parts-are}
 use Rattle.sf_bounds.proofs.parts.all_values.Goals as goal
 
-pub returns-clause-values : goal.returns-clause-values
-returns-clause-values c =
+pub returns-clause-parts : goal.returns-clause-parts
+returns-clause-parts c =
     let d = c.args.design.now in
     let n = c.args.node.now in
     parts-are d n c.in-Some-2.area c.in_ok-wires.wires (subst (IsAreaCostOrNone d n) c.in-Some-2.is c.in_ok-area.ensures.cost) c.in_ok-wires.ensures.costs
 
-pub returns-clause-full : goal.returns-clause-full
-returns-clause-full c =
+pub returns-clause-value : goal.returns-clause-value
+returns-clause-value c =
     let d = c.args.design.now in
     let n = c.args.node.now in
     full-is d n c.in-Some-2.area c.in_ok-wires.wires (subst (IsAreaCostOrNone d n) c.in-Some-2.is c.in_ok-area.ensures.cost) c.in_ok-wires.ensures.costs
