@@ -6,7 +6,7 @@ ghost use Rattle.sf_worker.specs.Took.{Serves};
 ghost use Rattle.sf_frontier.specs.Team.{IsTeam, IsNewPlace};
 ghost use Rattle.sf_rounds.specs.Jobs.{Dealt, IsSeated, with_put, Handed};
 
-use crate::job::Job;
+use crate::job::{Job, RoundWork};
 use sf_bounds::{Bounds, Room};
 use sf_frontier::{Place, Served};
 use sf_incumbent::{Incumbent, Seat};
@@ -24,19 +24,19 @@ pub fn deal<'a, T: Served, B: Bounds>(
     word: &Incumbent,
     seat: &mut Seat,
     places: Vec<Place<T>>,
-    mut tasks: Vec<Task>,
-    quotas: &[u64],
+    work: RoundWork<'_>,
 ) -> Result<Vec<Job<'a, T>>, NoMemory>
     requires team { Serves T.serves design.now (B.Values.value bounds.now design.now) }
-    requires deques { IsTeam places.items × (length places.items ≡ length quotas.now) }
+    requires deques { IsTeam places.items × (length places.items ≡ length work.quotas.now) }
     requires new { All IsNewPlace places.items }
-    requires seat { (seat.old.word ≡ word.now.id) × (seat.old.parts ≡ length quotas.now + 1) }
-    requires tasks { All (IsTask design.now (B.Values.value bounds.now design.now)) tasks.items }
+    requires seat { (seat.old.word ≡ word.now.id) × (seat.old.parts ≡ length work.quotas.now + 1) }
+    requires tasks { All (IsTask design.now (B.Values.value bounds.now design.now)) work.tasks.items }
     ensures dealt { IfOk result
-        (λ jobs. Dealt design.now
-        (B.Values.value bounds.now design.now) seat.old.seen word.now tasks.items quotas.now jobs.items) }
+        (λ jobs. Dealt design.now (B.Values.value bounds.now design.now) seat.old.seen word.now
+        work.entry.tasks.items work.entry.quotas.now jobs.items) }
     ensures seat { IfOk result (λ _. seat.new ≡ record seat.old { parts = 1 }) }
 {
+    let RoundWork { mut tasks, quotas } = work;
     tasks.reverse();
     let mut jobs = seated(alloc, word, seat, places, &mut tasks, quotas)?;
     tasks.reverse();

@@ -1,10 +1,17 @@
-//! What a worker of a round has, and what a round leaves.
+//! The work of a round, what each of its workers has, and what the round leaves.
 
 use crate::log::Log;
 use sf_frontier::{Place, Served};
 use sf_node::{Task, Tasks};
 use sf_polish::Expr;
 use sf_worker::{PassEnd, WorkerState};
+
+/// The work of a round: the tasks, and how many subproblems each worker may decide.
+#[derive(Drop)]
+pub struct RoundWork<'a> {
+    pub tasks: Vec<Task>,
+    pub quotas: &'a [u64],
+}
 
 /// One worker, and how its pass ended.
 #[derive(Drop)]

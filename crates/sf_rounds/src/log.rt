@@ -1,6 +1,7 @@
 //! The entries of a round, and of a search in rounds.
 
-ghost use Rattle.std.specs.Prelude.{◌≡◌, ◌+◌, ◌≤◌, ◌++◌, [], length, IfOk, OnOk};
+ghost use Rattle.std.specs.Prelude.{◌≡◌, ◌+◌, ◌≤◌, ◌++◌, List, [], length, IfOk, OnOk};
+ghost use Rattle.sf_search_core.specs.declared.entry.Entry.{Entry as EntryValue};
 ghost use Rattle.sf_rounds.specs.InOrder.{flat};
 
 use sf_search_core::{Entry, EntryList};
@@ -15,11 +16,7 @@ pub struct Log {
 }
 
 impl Model for Log {
-    ghost use Rattle.std.specs.Prelude.{List};
-    ghost use Rattle.sf_search_core.specs.declared.entry.Entry.{Entry};
-    ghost use Rattle.sf_rounds.specs.InOrder.{flat};
-
-    ghost Value = { List Entry };
+    ghost Value = { List EntryValue };
 
     ghost view = { λ l. flat l.lists.items };
 }

@@ -1,7 +1,8 @@
 //! The open tasks between rounds.
 
-ghost use Rattle.std.specs.Prelude.{◌≡◌, ◌==◌, ◌<◌, ◌≤◌, ◌∷◌, ◌++◌, [], length, map, slice_index, All, IfOk};
-ghost use Rattle.std.specs.Prelude.{IfSome, OnOk, MatchOption, IsPermutation};
+ghost use Rattle.std.specs.Prelude.{◌≡◌, ◌==◌, ◌<◌, ◌≤◌, List, ◌∷◌, ◌++◌, [], length, map, slice_index, All};
+ghost use Rattle.std.specs.Prelude.{IfOk, IfSome, OnOk, MatchOption, IsPermutation};
+ghost use Rattle.sf_node.specs.declared.task.Task.{Task as TaskValue};
 
 use sf_certificate::compare_steps;
 use sf_node::Task;
@@ -17,10 +18,7 @@ pub struct OpenTasks {
 }
 
 impl Model for OpenTasks {
-    ghost use Rattle.std.specs.Prelude.{List};
-    ghost use Rattle.sf_node.specs.declared.task.Task.{Task};
-
-    ghost Value = { List Task };
+    ghost Value = { List TaskValue };
 
     ghost view = { λ o. o.tasks.items };
 }

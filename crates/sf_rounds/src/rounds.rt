@@ -7,7 +7,7 @@ ghost use Rattle.sf_rounds.specs.Rounds.{IsRound};
 
 use crate::deal::deal;
 use crate::gather::gather;
-use crate::job::{Gathering, RoundOut};
+use crate::job::{Gathering, RoundOut, RoundWork};
 use crate::run::run_all;
 use sf_bounds::Bounds;
 use sf_frontier::{Finish, Served, finish, team};
@@ -37,7 +37,8 @@ pub fn round<R: Threads + Sync, B: Bounds, G: Gate>(
     ensures { IfOk result
         (λ r. IsRound design.now (B.Values.value bounds.now design.now) tasks.items quotas.now value r) }
 {
-    round_as::<R, Brand, B, G>(rt, alloc, design, bounds, tasks, quotas, value, gate)
+    let work = RoundWork { tasks, quotas };
+    round_as::<R, Brand, B, G>(rt, alloc, design, bounds, work, value, gate)
 }
 
 /// The same for one kind of team.
@@ -46,24 +47,22 @@ fn round_as<R: Threads + Sync, T: Served + Sync, B: Bounds, G: Gate>(
     alloc: Global,
     design: &Design,
     bounds: &B,
-    tasks: Vec<Task>,
-    quotas: &[u64],
+    work: RoundWork<'_>,
     value: u64,
     gate: &G,
 ) -> Result<RoundOut, NoMemory>
     requires team { Serves T.serves design.now (B.Values.value bounds.now design.now) }
-    requires workers { (1 ≤ length quotas.now) × (length quotas.now ≤ 16) }
-    requires tasks { All (IsTask design.now (B.Values.value bounds.now design.now)) tasks.items }
+    requires workers { (1 ≤ length work.quotas.now) × (length work.quotas.now ≤ 16) }
+    requires tasks { All (IsTask design.now (B.Values.value bounds.now design.now)) work.tasks.items }
     ensures { IfOk result
-        (λ r. IsRound design.now (B.Values.value bounds.now design.now) tasks.items quotas.now value r) }
+        (λ r. IsRound design.now (B.Values.value bounds.now design.now) work.entry.tasks.items
+        work.entry.quotas.now value r) }
 {
-    let workers = quotas.len() as u16;
+    let workers = work.quotas.len() as u16;
     let places = team::<T>(alloc, workers)?;
     let (word, mut seat) = Incumbent::new(alloc, value, workers + 1)?;
-    let mut jobs = deal(
-        alloc, design, bounds, &word, &mut seat, places, tasks, quotas,
-    )?;
-    run_all(rt, jobs.as_mut_slice(), design, bounds, &word, gate);
+    let jobs = deal(alloc, design, bounds, &word, &mut seat, places, work)?;
+    let jobs = run_all(rt, jobs, design, bounds, &word, gate);
     let Gathering {
         places,
         entries,

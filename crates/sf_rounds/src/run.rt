@@ -14,27 +14,27 @@ use sf_worker::pass;
 use std::thread;
 use std::thread::Threads;
 
-/// Runs all workers at once.
+/// Runs all workers at once, and gives them back.
 pub fn run_all<'a, R: Threads + Sync, T: Served + Sync, B: Bounds, G: Gate>(
     rt: &R,
-    jobs: &mut [Job<'a, T>],
+    mut jobs: Vec<Job<'a, T>>,
     design: &'a Design,
     bounds: &B,
     word: &Incumbent,
     gate: &G,
-)
+) -> Vec<Job<'a, T>>
     requires team { Serves T.serves design.now (B.Values.value bounds.now design.now) }
     requires ready { All (λ j. IsReady design.now (B.Values.value bounds.now design.now) j.state
-        × (j.state.seat.word ≡ word.now.id)) jobs.old }
-    ensures { EachTwo (Ran design.now (B.Values.value bounds.now design.now)) jobs.old jobs.new }
+        × (j.state.seat.word ≡ word.now.id)) jobs.items }
+    ensures { EachTwo (Ran design.now (B.Values.value bounds.now design.now)) jobs.entry.items result.items }
 {
     let threads = jobs.len();
     if threads == 0 {
-        return;
+        return jobs;
     }
     thread::for_each_mut(
         rt,
-        jobs,
+        jobs.as_mut_slice(),
         threads,
         &|_, job: &mut Job<T>|
             requires { Serves T.serves design.now (B.Values.value bounds.now design.now)
@@ -46,4 +46,5 @@ pub fn run_all<'a, R: Threads + Sync, T: Served + Sync, B: Bounds, G: Gate>(
             job.end = pass(&mut job.state, design, bounds, word, gate);
         },
     );
+    jobs
 }

@@ -1,13 +1,12 @@
-use Rattle.std.proofs.Common.{◌≡◌, refl, ℕ, ◌++◌, List, All, ◌≤◌, length, map, min, ap, sym, ◌∙◌, subst, arith}
-use Rattle.std.specs.Prelude.{sum_by}
+use Rattle.std.proofs.Common.{◌≡◌, refl, ℕ, ◌++◌, List, ◌≤◌, map, min, ap, sym, ◌∙◌, subst, arith}
 use Rattle.std.proofs.lemmas.List.Elements.{All-weaker}
 use Rattle.sf_model.specs.declared.TheConstants.{MAX}
 use Rattle.sf_node.specs.declared.task.Task.{Task}
 use Rattle.sf_frontier.specs.Team.{IsTeam}
 use Rattle.sf_incumbent.specs.Seen.{Knows}
 use Rattle.sf_worker.specs.Tasks.{IsTask}
-use Rattle.sf_rounds.specs.Jobs.{IsDone, Ran, EachTwo, Dealt, Gathers, place_of}
-use Rattle.sf_rounds.proofs.Team.{after_slice, each_two-length, team_same, all_deques, all_parts}
+use Rattle.sf_rounds.specs.Jobs.{Dealt, place_of}
+use Rattle.sf_rounds.proofs.Team.{team_same, all_deques, all_parts}
 use Rattle.sf_rounds.proofs.Whole.{all_done}
 use Rattle.sf_rounds.proofs.Rounded.{rounded}
 use Rattle.sf_rounds.proofs.rounds.round_as.Goals as goal
@@ -16,63 +15,41 @@ pub gather-requires-clause-done : goal.gather-requires-clause-done
 gather-requires-clause-done g c =
     let design = c.args.design.now in
     let bound = g.B.Values.value c.args.bounds.now design in
-    let word = c.in_ok-word.word in
-    let js = c.in_ok-jobs.jobs.items in
-    let ks = c.run_all.new.jobs in
-    let m = c.as_mut_slice.ensures in
-    let ran : EachTwo (Ran design bound) js ks = subst (λ z. EachTwo (Ran design bound) z ks) m.value c.run_all.ensures in
-    let len : c.in_ok-jobs.jobs.len ≡ length ks = (let n = ap length m.value in omega (arith, each_two-length (Ran design bound) js ks ran, m.len, n)) in
-    subst (All (IsDone design word)) (sym (after_slice c.in_ok-jobs.jobs.len ks js len))
-    (all_done design bound c.in_ok-word.seat.seen word js ks ran c.in_ok-jobs.ensures.dealt.fresh)
+    all_done design bound c.in_ok-word.seat.seen c.in_ok-word.word c.in_ok-jobs.jobs.items c.run_all-jobs.result.items c.run_all-jobs.ensures c.in_ok-jobs.ensures.dealt.fresh
 
 pub finish-requires : goal.finish-requires
 finish-requires g c =
     let design = c.args.design.now in
     let bound = g.B.Values.value c.args.bounds.now design in
     let js = c.in_ok-jobs.jobs.items in
-    let ks = c.run_all.new.jobs in
-    let m = c.as_mut_slice.ensures in
-    let ran : EachTwo (Ran design bound) js ks = subst (λ z. EachTwo (Ran design bound) z ks) m.value c.run_all.ensures in
-    let len : c.in_ok-jobs.jobs.len ≡ length ks = (let n = ap length m.value in omega (arith, each_two-length (Ran design bound) js ks ran, m.len, n)) in
-    let is = after_slice c.in_ok-jobs.jobs.len ks js len in
-    let all = c.in_ok-places-2.ensures in
-    let d = all_deques design bound js ks ran in
-    subst IsTeam (sym (all.places_are ∙ ap (map place_of) is)) (team_same (map place_of js) (map place_of ks) d.0 d.1 c.in_ok-jobs.ensures.dealt.team)
+    let ks = c.run_all-jobs.result.items in
+    let d = all_deques design bound js ks c.run_all-jobs.ensures in
+    subst IsTeam (sym c.in_ok-places-2.ensures.places_are) (team_same (map place_of js) (map place_of ks) d.0 d.1 c.in_ok-jobs.ensures.dealt.team)
 
 pub finish-requires-2-clause-all : goal.finish-requires-2-clause-all
 finish-requires-2-clause-all g c =
     let design = c.args.design.now in
     let bound = g.B.Values.value c.args.bounds.now design in
-    let js = c.in_ok-jobs.jobs.items in
-    let ks = c.run_all.new.jobs in
-    let m = c.as_mut_slice.ensures in
-    let ran : EachTwo (Ran design bound) js ks = subst (λ z. EachTwo (Ran design bound) z ks) m.value c.run_all.ensures in
-    let len : c.in_ok-jobs.jobs.len ≡ length ks = (let n = ap length m.value in omega (arith, each_two-length (Ran design bound) js ks ran, m.len, n)) in
     let dealt = c.in_ok-jobs.ensures in
     let parts = c.in_ok-places-2.ensures.parts in
     let one = ap (λ (k : Knows). k.parts) dealt.seat in
-    let sums = ap (sum_by (λ j. j.state.seat.parts)) (after_slice c.in_ok-jobs.jobs.len ks js len) in
-    let all = all_parts design bound c.in_ok-word.seat.seen c.in_ok-word.word c.args.tasks.items c.args.quotas.now js ks ran dealt.dealt.fresh dealt.dealt.firsts in
+    let all = all_parts design bound c.in_ok-word.seat.seen c.in_ok-word.word c.args.work.tasks.items c.args.work.quotas.now c.in_ok-jobs.jobs.items c.run_all-jobs.result.items c.run_all-jobs.ensures dealt.dealt.fresh dealt.dealt.firsts in
     let seats = c.in_ok-word.ensures.word.1 in
-    omega (arith, parts, one, sums, all, seats)
+    omega (arith, parts, one, all, seats)
 
 pub returns : goal.returns
 returns g c =
     let design = c.args.design.now in
     let bound = g.B.Values.value c.args.bounds.now design in
+    let given = c.args.work in
     let js = c.in_ok-jobs.jobs.items in
-    let ks = c.run_all.new.jobs in
-    let m = c.as_mut_slice.ensures in
-    let ran : EachTwo (Ran design bound) js ks = subst (λ z. EachTwo (Ran design bound) z ks) m.value c.run_all.ensures in
-    let len : c.in_ok-jobs.jobs.len ≡ length ks = (let n = ap length m.value in omega (arith, each_two-length (Ran design bound) js ks ran, m.len, n)) in
-    let is = after_slice c.in_ok-jobs.jobs.len ks js len in
     let word = c.in_ok-word.word in
+    let gathered = c.in_ok-places-2.field-0 in
     let seen : c.in_ok-word.seat.seen ≡ c.args.value = ap (λ (k : Knows). k.seen) c.in_ok-word.ensures.seat in
-    let dealt = subst (λ (v : ℕ). Dealt design bound v word c.args.tasks.items c.args.quotas.now js) seen c.in_ok-jobs.ensures.dealt in
-    let all = subst (λ zs. Gathers design zs c.deal.new.seat c.gather.new.seat c.in_ok-places-2.field-0.places.items c.in_ok-places-2.field-0.entries c.in_ok-places-2.field-0.left.items c.in_ok-places-2.field-0.best) is c.in_ok-places-2.ensures in
+    let dealt = subst (λ (v : ℕ). Dealt design bound v word given.tasks.items given.quotas.now js) seen c.in_ok-jobs.ensures.dealt in
     let none : c.deal.new.seat.offered ≡ MAX = ap (λ (k : Knows). k.offered) c.in_ok-jobs.ensures.seat ∙ ap (λ (k : Knows). k.offered) c.in_ok-word.ensures.seat in
     let small : c.args.value ≤ MAX = (let f = c.ranges.value in omega arith) in
     let S = g.T.Served.serves in
-    rounded design bound c.args.value word c.args.tasks.items c.args.quotas.now js ks c.in_ok-places-2.field-0.places.items c.in_ok-places-2.field-0.entries c.in_ok-left.field-0.left c.in_ok-places-2.field-0.left.items c.in_ok-places-2.field-0.best c.deal.new.seat c.gather.new.seat _
-    ran dealt all none small c.in_ok-left.ensures.finished (All-weaker S (IsTask design bound) (λ t s. (c.requires.team t).0 s) c.in_ok-left.field-0.left c.in_ok-left.ensures.served)
-    (c.from_vec.ensures ∙ (c.in_ok-append.ensures.items ∙ ap (λ (ts : List Task). ts ++ c.in_ok-places-2.field-0.left.items) c.into_vec-left.ensures)) refl (c.finish-2.ensures.least ∙ ap (λ (n : ℕ). min n c.gather.new.seat.offered) c.in_ok-word.ensures.word.0) c.finish-2.ensures.seen c.plan_of.ensures
+    rounded design bound c.args.value word given.tasks.items given.quotas.now js c.run_all-jobs.result.items gathered.places.items gathered.entries c.in_ok-left.field-0.left gathered.left.items gathered.best c.deal.new.seat c.gather.new.seat _
+    c.run_all-jobs.ensures dealt c.in_ok-places-2.ensures none small c.in_ok-left.ensures.finished (All-weaker S (IsTask design bound) (λ t s. (c.requires.team t).0 s) c.in_ok-left.field-0.left c.in_ok-left.ensures.served)
+    (c.from_vec.ensures ∙ (c.in_ok-append.ensures.items ∙ ap (λ (ts : List Task). ts ++ gathered.left.items) c.into_vec-left.ensures)) refl (c.finish-2.ensures.least ∙ ap (λ (n : ℕ). min n c.gather.new.seat.offered) c.in_ok-word.ensures.word.0) c.finish-2.ensures.seen c.plan_of.ensures

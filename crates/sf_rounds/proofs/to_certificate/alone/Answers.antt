@@ -20,8 +20,8 @@ invariant_of-cert g c =
     let plan = c.into_named-tags.ensures.best ∙ low.best in
     record { form = form-is design bound part parts state walk b c.word-cost.result c.in_ok-bound.bound c.from_vec-tags.result c.into_named-tags.result.1 c.word-cost.ensures low.low_is tags plan (length c.as_slice.result.now) (ap length c.as_slice.ensures) }
 
-pub returns-clause-found : goal.returns-clause-found
-returns-clause-found g c =
+pub returns : goal.returns
+returns g c =
     let design = c.args.design.now in
     let bound = g.B.Values.value c.args.bounds.now design in
     let part = g.B.Bounds.part_value c.args.bounds.now design in
@@ -35,40 +35,29 @@ returns-clause-found g c =
     let kept = c.in_ok-walk.ensures.kept in
     let plain = plain-is design bound part parts state walk b c.word-cost.result c.in_ok-bound.bound c.from_vec-tags.result c.into_named-tags.result.1 c.word-cost.ensures low.low_is tags plan in
     record {
-      valid = record {
-        plan = plan-is design bound part parts state walk b c.word-cost.result c.in_ok-bound.bound c.from_vec-tags.result c.into_named-tags.result.1 c.word-cost.ensures low.low_is tags plan;
-        tree = tree-is design bound part parts state walk b c.word-cost.result c.in_ok-bound.bound c.from_vec-tags.result c.into_named-tags.result.1 c.word-cost.ensures low.low_is tags plan kept;
-        stated = low-is design bound part parts state walk b c.word-cost.result c.in_ok-bound.bound c.from_vec-tags.result c.into_named-tags.result.1 c.word-cost.ensures low.low_is tags plan;
+      found = record {
+        valid = record {
+          plan = plan-is design bound part parts state walk b c.word-cost.result c.in_ok-bound.bound c.from_vec-tags.result c.into_named-tags.result.1 c.word-cost.ensures low.low_is tags plan;
+          tree = tree-is design bound part parts state walk b c.word-cost.result c.in_ok-bound.bound c.from_vec-tags.result c.into_named-tags.result.1 c.word-cost.ensures low.low_is tags plan kept;
+          stated = low-is design bound part parts state walk b c.word-cost.result c.in_ok-bound.bound c.from_vec-tags.result c.into_named-tags.result.1 c.word-cost.ensures low.low_is tags plan;
+        };
+        blocks = ap length c.as_slice.ensures;
+        plan_is = search rules;
+        cost_is = refl;
+        bound_is = refl;
+        decided_is = c.count-decided.ensures ∙ sym (decided-are design bound part parts state walk b c.word-cost.result c.in_ok-bound.bound c.from_vec-tags.result c.into_named-tags.result.1 c.word-cost.ensures low.low_is tags plan);
+        few = omega (arith, c.count-decided.ensures, c.in_ok-walk.ensures.few);
+        spent = λ below. c.count-decided.ensures ∙ spent-as design bound state walk b part parts.full c.word-cost.result c.in_ok-bound.bound (map unnamed c.from_vec-tags.result) c.into_named-tags.result.1 c.word-cost.ensures low.low_is plain plan c.args.nodes c.in_ok-walk.ensures.spent below;
+        splits = splits-are design bound part parts state walk b c.word-cost.result c.in_ok-bound.bound c.from_vec-tags.result c.into_named-tags.result.1 c.word-cost.ensures low.low_is tags plan;
+        full_is = omega (arith, c.count-decided.ensures, few design bound state c.in_ok-walk.walk b);
+        ended = ended-as design bound state walk b part parts.full c.word-cost.result c.in_ok-bound.bound (map unnamed c.from_vec-tags.result) c.into_named-tags.result.1 c.word-cost.ensures low.low_is plain plan c.args.nodes c.in_ok-walk.ensures.spent;
+        named = names-are design bound part parts state walk b c.word-cost.result c.in_ok-bound.bound c.from_vec-tags.result c.into_named-tags.result.1 c.word-cost.ensures low.low_is tags plan kept;
       };
-      blocks = ap length c.as_slice.ensures;
-      plan_is = search rules;
-      cost_is = refl;
-      bound_is = refl;
-      decided_is = c.count-decided.ensures ∙ sym (decided-are design bound part parts state walk b c.word-cost.result c.in_ok-bound.bound c.from_vec-tags.result c.into_named-tags.result.1 c.word-cost.ensures low.low_is tags plan);
-      few = omega (arith, c.count-decided.ensures, c.in_ok-walk.ensures.few);
-      spent = λ below. c.count-decided.ensures ∙ spent-as design bound state walk b part parts.full c.word-cost.result c.in_ok-bound.bound (map unnamed c.from_vec-tags.result) c.into_named-tags.result.1 c.word-cost.ensures low.low_is plain plan c.args.nodes c.in_ok-walk.ensures.spent below;
-      splits = splits-are design bound part parts state walk b c.word-cost.result c.in_ok-bound.bound c.from_vec-tags.result c.into_named-tags.result.1 c.word-cost.ensures low.low_is tags plan;
-      full_is = omega (arith, c.count-decided.ensures, few design bound state c.in_ok-walk.walk b);
-      ended = ended-as design bound state walk b part parts.full c.word-cost.result c.in_ok-bound.bound (map unnamed c.from_vec-tags.result) c.into_named-tags.result.1 c.word-cost.ensures low.low_is plain plan c.args.nodes c.in_ok-walk.ensures.spent;
-      named = names-are design bound part parts state walk b c.word-cost.result c.in_ok-bound.bound c.from_vec-tags.result c.into_named-tags.result.1 c.word-cost.ensures low.low_is tags plan kept;
-    }
-
-pub returns-clause-run : goal.returns-clause-run
-returns-clause-run g c =
-    let design = c.args.design.now in
-    let bound = g.B.Values.value c.args.bounds.now design in
-    let part = g.B.Bounds.part_value c.args.bounds.now design in
-    let parts = (g.met.B.Bounds g.world.𝓛 g.world.𝓜 g.world.𝓡 ((λ s x. x), (λ x. x), (λ x. x), λ x. x)).parts_below c.args.bounds.now design in
-    let state = turns design bound c.args.nodes (opening design bound 1) in
-    let walk = c.in_ok-walk.walk in
-    let b = c.in_ok-walk.ensures.run.beside in
-    let low = c.in_ok-bound.ensures.left in
-    let tags = c.from_vec-tags.ensures ∙ c.into_named-tags.ensures.tags ∙ same-renamed low.word low.tags low.kept in
-    let plan = c.into_named-tags.ensures.best ∙ low.best in
-    let plain = plain-is design bound part parts state walk b c.word-cost.result c.in_ok-bound.bound c.from_vec-tags.result c.into_named-tags.result.1 c.word-cost.ensures low.low_is tags plan in
-    record {
-      placed = (merged-as design bound state walk b part parts.full c.word-cost.result c.in_ok-bound.bound (map unnamed c.from_vec-tags.result) c.into_named-tags.result.1 c.word-cost.ensures low.low_is plain plan).placed;
-      cost = c.word-cost.ensures ∙ sym b.word;
-      bound = stated-by-word design bound state walk b part parts.full c.word-cost.result c.in_ok-bound.bound (map unnamed c.from_vec-tags.result) c.into_named-tags.result.1 c.word-cost.ensures low.low_is plain plan;
-      plan = first-as design bound state walk b part parts.full c.word-cost.result c.in_ok-bound.bound (map unnamed c.from_vec-tags.result) c.into_named-tags.result.1 c.word-cost.ensures low.low_is plain plan;
+      run = record {
+        placed = (merged-as design bound state walk b part parts.full c.word-cost.result c.in_ok-bound.bound (map unnamed c.from_vec-tags.result) c.into_named-tags.result.1 c.word-cost.ensures low.low_is plain plan).placed;
+        cost = c.word-cost.ensures ∙ sym b.word;
+        bound = stated-by-word design bound state walk b part parts.full c.word-cost.result c.in_ok-bound.bound (map unnamed c.from_vec-tags.result) c.into_named-tags.result.1 c.word-cost.ensures low.low_is plain plan;
+        plan = first-as design bound state walk b part parts.full c.word-cost.result c.in_ok-bound.bound (map unnamed c.from_vec-tags.result) c.into_named-tags.result.1 c.word-cost.ensures low.low_is plain plan;
+      };
+      accepted = c.in_ok-walk.ensures.run.accepted;
     }
