@@ -19,18 +19,21 @@ impl Model for ByteList {
 }
 
 impl ByteList {
+    /// The list of these bytes.
     pub fn from_vec(items: Vec<u8>) -> ByteList
         ensures { result ≡ items.items }
     {
         ByteList { items }
     }
 
+    /// The bytes.
     pub fn into_vec(self) -> Vec<u8>
         ensures { result.items ≡ self }
     {
         self.items
     }
 
+    /// The bytes, lent.
     pub fn as_slice(&self) -> &[u8]
         ensures { result.now ≡ self.now }
     {

@@ -54,6 +54,7 @@ pub fn read_admitted<S: Shelf>(
     admit(alloc, read)
 }
 
+/// The shapes of each block, or what is refused of them.
 fn make_lists(alloc: Global, words: &DesignWords<'_>, parts: &Parts) -> Result<Vec<Shapes>, Stop>
     requires admitted { IsAdmitted parts.now }
     requires sizes { HasSizes parts.now }
@@ -69,6 +70,7 @@ fn make_lists(alloc: Global, words: &DesignWords<'_>, parts: &Parts) -> Result<V
     }
 }
 
+/// The design of these parts and shapes, with what the words say of its outline and weights.
 fn build(
     alloc: Global,
     words: &DesignWords<'_>,

@@ -31,6 +31,7 @@ use sf_words::{DesignWords, GenWords, InputFiles, Kinds, WeightWords};
 use std::alloc::{AllocError as NoMemory, Global};
 use std::thread::Threads;
 
+/// The kinds of blocks that the words name.
 fn kinds_of(kinds: Kinds) -> sf_gen::Kinds
     ensures { result ≡ kinds_of kinds }
 {

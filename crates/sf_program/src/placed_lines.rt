@@ -1,6 +1,6 @@
 //! From the lines of a placed file to one spot for each block.
 
-ghost use Rattle.std.specs.Prelude.{◌≡◌, ◌≤◌, List, [], length, min, is_some, true, All, IfOk};
+ghost use Rattle.std.specs.Prelude.{◌≡◌, ◌≤◌, List, [], length, is_some, true, All, IfOk};
 ghost use Rattle.sf_gsrc.specs.declared.output.Place.{Place};
 ghost use Rattle.sf_names.specs.Values.{value_in};
 ghost use Rattle.sf_place.specs.Spots.{HasNearCorner, IsByNumber};
@@ -76,6 +76,7 @@ fn index_lines<'a>(
     Ok(index)
 }
 
+/// A side as a spot has it: one past the limit where it is greater.
 fn side_in_spot(side: u64) -> u32
     ensures { result ≡ side_in_spot side }
 {

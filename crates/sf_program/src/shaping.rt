@@ -83,6 +83,7 @@ fn whole_curve(alloc: Global, design: &Design, tokens: &[Token]) -> Result<Curve
     root_curve(alloc, design, tokens, whole.spans())
 }
 
+/// Writes the line of a point: its width and its height.
 fn push_point(text: &mut String, point: Point) -> Result<(), NoMemory>
     ensures { OnOk result (string_bytes text.new ≡ string_bytes text.old ++ point_line point) }
 {
@@ -90,6 +91,7 @@ fn push_point(text: &mut String, point: Point) -> Result<(), NoMemory>
     write!(text, "{w} {h}\n")
 }
 
+/// Writes a line for each point.
 fn push_points(text: &mut String, points: &[Point]) -> Result<(), NoMemory>
     ensures { OnOk result (string_bytes text.new ≡ string_bytes text.old ++ flat_map point_line points.now) }
 {
@@ -99,6 +101,7 @@ fn push_points(text: &mut String, points: &[Point]) -> Result<(), NoMemory>
     Ok(())
 }
 
+/// Writes the line of the least area, with its point, or that there is none.
 fn push_least(text: &mut String, least: Option<Point>) -> Result<(), NoMemory>
     ensures { OnOk result (string_bytes text.new ≡ string_bytes text.old ++ least_line least) }
 {

@@ -31,6 +31,7 @@ pub fn read_net_weights<S: Shelf>(
     }
 }
 
+/// The weight of each net, as the file of this name says.
 fn read_weights_file<S: Shelf>(
     alloc: Global,
     shelf: &mut S,
