@@ -1,7 +1,7 @@
 //! The design that admitted parts become.
 
 ghost use Rattle.std.specs.Prelude.{◌≡◌, ◌≢◌, ◌≤◌, None, Some, [], IsTrue, OnOk, IfOk, IfErr, length};
-ghost use Rattle.std.specs.Prelude.{vec_len, All, filter_map, nat_abs, ◌^◌, if◌then◌else◌};
+ghost use Rattle.std.specs.Prelude.{vec_len, All, filter_map, nat_abs, if◌then◌else◌};
 ghost use Rattle.std.specs.Option.{option_map, option_copied};
 ghost use Rattle.sf_model.specs.Admitted.{HasPinsInRange, IsAdmitted, IsPlaceWithin};
 ghost use Rattle.sf_model.specs.Built.{HasNetWeights, HasShapeChoices, IsDesignOf, IsOutline, IsWeighted};
@@ -10,6 +10,7 @@ ghost use Rattle.sf_model.specs.declared.fault.BuildFault.TheVariants.{NoMemory,
 
 use crate::design::Design;
 use crate::fault::BuildFault;
+use crate::limits::MOST_COORDINATE;
 use crate::lists::{BlockList, PadList, Shapes};
 use crate::name::Name;
 use crate::nets::nets_of;
@@ -55,7 +56,7 @@ fn blocks_of(
 
 /// A coordinate that keeps its limit.
 fn coordinate(z: i64) -> i32
-    requires { nat_abs z ≤ 2 ^ 20 }
+    requires { nat_abs z ≤ MOST_COORDINATE }
     ensures { result ≡ z }
 {
     z as i32
