@@ -53,59 +53,44 @@ fn files_are_joined(rt: HostRuntime) -> Result<(), Fail> {
     Ok(())
 }
 
-/// Each text of blocks has its first fault, at its line.
+/// Each text has its first fault, at its line.
 #[test]
-fn the_first_fault_of_blocks_is_told(rt: HostRuntime) {
+fn texts_have_their_first_fault(rt: HostRuntime) {
     let a = rt.alloc();
-    assert!(rt; matches!(read_blocks(a, b"\n# x\n", 1), Err(GsrcFault::Truncated(0))));
-    assert!(rt;
-        matches!(
-            read_blocks(a, b"\nUCLA nets 1.0\n", 1),
-            Err(GsrcFault::BadTitle(2))
-        )
-    );
-    assert!(rt;
-        matches!(
-            read_blocks(a, b"UCLA blocks\nNumTerminals 1\nNumTerminals : x", 1),
-            Err(GsrcFault::BadLine(3))
-        )
-    );
-    assert!(rt;
-        matches!(
-            read_blocks(a, b"UCLA blocks\na hardrectilinear 1 0 0.5", 1),
-            Err(GsrcFault::BadNumber(2, NumberFault::NotWhole))
-        )
-    );
-}
-
-/// So it is of texts of nets and of places.
-#[test]
-fn the_first_fault_of_nets_and_places_is_told(rt: HostRuntime) {
-    let a = rt.alloc();
-    assert!(rt;
-        matches!(
-            read_nets(a, b"UCLA nets\nNumNets 2\nNetDegree 1\na\n"),
-            Err(GsrcFault::CountDiffers(2, 2, 1))
-        )
-    );
-    assert!(rt;
-        matches!(
-            read_nets(a, b"UCLA nets\nNumNets 1\nNetDegree 2\na\nNetDegree x\n"),
-            Err(GsrcFault::BadDegree(3, 2, 1))
-        )
-    );
-    assert!(rt;
-        matches!(
-            read_pl(a, b"UCLA pl\np 0 x DIMS = (1)\n", 1),
-            Err(GsrcFault::BadLine(2))
-        )
-    );
-    assert!(rt;
-        matches!(
-            read_pl(a, b"UCLA pl\np 0 0 DIMS = (1, 0)\n", 1),
-            Err(GsrcFault::ZeroSide(2))
-        )
-    );
+    let rows = [
+        (read_blocks(a, b"\n# x\n", 1).err(), GsrcFault::Truncated(0)),
+        (
+            read_blocks(a, b"\nUCLA nets 1.0\n", 1).err(),
+            GsrcFault::BadTitle(2),
+        ),
+        (
+            read_blocks(a, b"UCLA blocks\nNumTerminals 1\nNumTerminals : x", 1).err(),
+            GsrcFault::BadLine(3),
+        ),
+        (
+            read_blocks(a, b"UCLA blocks\na hardrectilinear 1 0 0.5", 1).err(),
+            GsrcFault::BadNumber(2, NumberFault::NotWhole),
+        ),
+        (
+            read_nets(a, b"UCLA nets\nNumNets 2\nNetDegree 1\na\n").err(),
+            GsrcFault::CountDiffers(2, 2, 1),
+        ),
+        (
+            read_nets(a, b"UCLA nets\nNumNets 1\nNetDegree 2\na\nNetDegree x\n").err(),
+            GsrcFault::BadDegree(3, 2, 1),
+        ),
+        (
+            read_pl(a, b"UCLA pl\np 0 x DIMS = (1)\n", 1).err(),
+            GsrcFault::BadLine(2),
+        ),
+        (
+            read_pl(a, b"UCLA pl\np 0 0 DIMS = (1, 0)\n", 1).err(),
+            GsrcFault::ZeroSide(2),
+        ),
+    ];
+    for (found, fault) in rows {
+        assert_eq!(rt; found, Some(fault));
+    }
 }
 
 /// Of two names that are placed twice the first one in the list is told; without a pl file there are no pads.
