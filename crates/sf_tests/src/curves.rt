@@ -59,30 +59,40 @@ fn traced(
     Ok(Some(expr))
 }
 
-#[test]
-fn two_beside(rt: HostRuntime) -> Result<(), Fail> {
-    let alloc = rt.alloc();
-    let design = two_turned(alloc)?;
-    let tokens = [Token::Block(0), Token::Block(1), Token::Beside];
-    let curve = whole_curve(alloc, &design, &tokens)?.ok_or("not normal")?;
-    assert!(rt; curve.points() == [Point { w: 4, h: 3 }, Point { w: 6, h: 2 }].as_slice());
-    assert!(rt; curve.least_area() == Some(Point { w: 4, h: 3 }));
-    let expr = traced(alloc, &design, &tokens, 3)?.ok_or("no point")?;
-    assert!(rt; expr.tokens.as_slice() == tokens.as_slice());
-    assert!(rt; expr.shapes.as_slice() == [NARROW, NARROW].as_slice());
-    Ok(())
-}
+/// The operator of two blocks, the points of their curve, the height of a room, and the shape of either block
+/// in the narrowest plan that is no higher.
+const JOINED: [(Token, [Point; 2], u32, Shape); 2] = [
+    (
+        Token::Beside,
+        [Point { w: 4, h: 3 }, Point { w: 6, h: 2 }],
+        3,
+        NARROW,
+    ),
+    (
+        Token::Above,
+        [Point { w: 2, h: 6 }, Point { w: 3, h: 4 }],
+        4,
+        FLAT,
+    ),
+];
 
+/// Both points of either curve have the area 12, so the first is the one of least area.
 #[test]
-fn one_above_the_other(rt: HostRuntime) -> Result<(), Fail> {
+fn two_blocks_are_joined(rt: HostRuntime) -> Result<(), Fail> {
     let alloc = rt.alloc();
     let design = two_turned(alloc)?;
-    let tokens = [Token::Block(0), Token::Block(1), Token::Above];
-    let curve = whole_curve(alloc, &design, &tokens)?.ok_or("not normal")?;
-    assert!(rt; curve.points() == [Point { w: 2, h: 6 }, Point { w: 3, h: 4 }].as_slice());
-    let expr = traced(alloc, &design, &tokens, 4)?.ok_or("no point")?;
-    assert!(rt; expr.tokens.as_slice() == tokens.as_slice());
-    assert!(rt; expr.shapes.as_slice() == [FLAT, FLAT].as_slice());
+    for (operator, points, height, shape) in JOINED {
+        let tokens = [Token::Block(0), Token::Block(1), operator];
+        let curve = whole_curve(alloc, &design, &tokens)?.ok_or("not normal")?;
+        assert!(rt; curve.points() == points.as_slice(), "{operator:?}");
+        assert!(rt; curve.least_area() == Some(points[0]), "{operator:?}");
+        let expr = traced(alloc, &design, &tokens, height)?.ok_or("no point")?;
+        assert!(rt; expr.tokens.as_slice() == tokens.as_slice(), "{operator:?}");
+        assert!(rt;
+            expr.shapes.as_slice() == [shape, shape].as_slice(),
+            "{operator:?}"
+        );
+    }
     Ok(())
 }
 

@@ -1,12 +1,24 @@
 //! Plans that lean to the right, made skewed.
 
 use sf_model::{Plan, Shape};
-use sf_polish::normalise;
+use sf_polish::{Token, normalise};
 use std::alloc::{AllocError, Global};
 use std::test::Fail;
 
-fn leaf(alloc: Global, block: u16) -> Result<Box<Plan>, AllocError> {
-    Ok(Box::new(alloc, Plan::Leaf(block, Shape { w: 1, h: 2 }))?)
+/// A block 1x2.
+fn leaf(block: u16) -> Plan {
+    Plan::Leaf(block, Shape { w: 1, h: 2 })
+}
+
+/// Two plans, one above the other by that operator, and side by side by each other token.
+fn joined(alloc: Global, operator: Token, first: Plan, second: Plan) -> Result<Plan, AllocError> {
+    let first = Box::new(alloc, first)?;
+    let second = Box::new(alloc, second)?;
+    if operator == Token::Above {
+        Ok(Plan::Above(first, second))
+    } else {
+        Ok(Plan::Beside(first, second))
+    }
 }
 
 /// Whether two of the three blocks are joined first, and then the last.
@@ -23,21 +35,13 @@ fn leans_left(plan: &Plan) -> bool {
 }
 
 #[test]
-fn three_beside(rt: HostRuntime) -> Result<(), Fail> {
+fn three_blocks_are_made_skewed(rt: HostRuntime) -> Result<(), Fail> {
     let alloc = rt.alloc();
-    let right = Plan::Beside(leaf(alloc, 1)?, leaf(alloc, 2)?);
-    let plan = Plan::Beside(leaf(alloc, 0)?, Box::new(alloc, right)?);
-    assert!(rt; !leans_left(&plan));
-    assert!(rt; leans_left(&normalise(alloc, plan)?));
-    Ok(())
-}
-
-#[test]
-fn three_above(rt: HostRuntime) -> Result<(), Fail> {
-    let alloc = rt.alloc();
-    let upper = Plan::Above(leaf(alloc, 1)?, leaf(alloc, 2)?);
-    let plan = Plan::Above(leaf(alloc, 0)?, Box::new(alloc, upper)?);
-    assert!(rt; !leans_left(&plan));
-    assert!(rt; leans_left(&normalise(alloc, plan)?));
+    for operator in [Token::Beside, Token::Above] {
+        let last = joined(alloc, operator, leaf(1), leaf(2))?;
+        let plan = joined(alloc, operator, leaf(0), last)?;
+        assert!(rt; !leans_left(&plan), "{operator:?}");
+        assert!(rt; leans_left(&normalise(alloc, plan)?), "{operator:?}");
+    }
     Ok(())
 }
