@@ -1,5 +1,8 @@
 //! Two hard blocks, searched with several budgets, five squares, and two squares with a net.
 
+ghost use Rattle.std.specs.Prelude.{◌≡◌, IfOk};
+ghost use Rattle.sf_model.specs.Legal.{block_count};
+
 use crate::designs::{SQUARE, WIDE, bare, block, net, pad, two_blocks};
 use sf_bounds::Standard;
 use sf_certificate::Tag;
@@ -7,10 +10,25 @@ use sf_checker::{Answer, check};
 use sf_io::{Gate, OpenGate};
 use sf_model::{BlockList, Design, MAX, NetList, PadList, Pin, Shape, Weights};
 use sf_node::Part;
-use sf_rounds::{SearchOptions, search};
+use sf_rounds::{Found, SearchOptions, search};
 use std::alloc::{AllocError, Global};
 use std::sync::atomic::{AtomicU64, Ordering};
 use std::test::Fail;
+use std::thread::Threads;
+
+/// What so many workers find within this budget.
+fn searched(
+    rt: &(impl Threads + Sync),
+    alloc: Global,
+    design: &Design,
+    workers: u16,
+    nodes: u64,
+) -> Result<Found, AllocError>
+    ensures { IfOk result (λ found. found.cert.blocks ≡ block_count design.now) }
+{
+    let options = SearchOptions { workers, nodes };
+    search(rt, alloc, design, &Standard, options, &OpenGate)
+}
 
 #[test]
 fn searches_two_hard_blocks(rt: HostRuntime) -> Result<(), Fail> {
@@ -24,8 +42,7 @@ fn searches_two_hard_blocks(rt: HostRuntime) -> Result<(), Fail> {
         (100, (15, 15, 9)),
     ];
     for (nodes, answer) in rows {
-        let options = SearchOptions { workers: 1, nodes };
-        let found = search(&rt, alloc, &design, &Standard, options, &OpenGate)?;
+        let found = searched(&rt, alloc, &design, 1, nodes)?;
         assert_eq!(rt;
             (found.cost, found.bound, found.decided),
             answer,
@@ -40,14 +57,9 @@ fn several_workers_search_two_hard_blocks(rt: HostRuntime) -> Result<(), Fail> {
     let alloc = rt.alloc();
     let design = two_blocks(alloc, WIDE)?;
     for workers in 2..=16 {
-        let options = SearchOptions {
-            workers,
-            nodes: 100,
-        };
-        let found = search(&rt, alloc, &design, &Standard, options, &OpenGate)?;
+        let found = searched(&rt, alloc, &design, workers, 100)?;
         assert_eq!(rt; (found.cost, found.bound), (15, 15), "{workers} workers");
-        let few = SearchOptions { workers, nodes: 5 };
-        let found = search(&rt, alloc, &design, &Standard, few, &OpenGate)?;
+        let found = searched(&rt, alloc, &design, workers, 5)?;
         assert_eq!(rt; found.decided, 5, "{workers} workers");
     }
     Ok(())
@@ -71,11 +83,7 @@ fn five_squares(alloc: Global) -> Result<Design, AllocError> {
 fn two_workers_share_out_the_certificate(rt: HostRuntime) -> Result<(), Fail> {
     let alloc = rt.alloc();
     let design = five_squares(alloc)?;
-    let options = SearchOptions {
-        workers: 2,
-        nodes: 10_000,
-    };
-    let found = search(&rt, alloc, &design, &Standard, options, &OpenGate)?;
+    let found = searched(&rt, alloc, &design, 2, 10_000)?;
     assert_eq!(rt; (found.cost, found.bound), (60, 60));
     let many = found.decided > 5000;
     assert!(rt; many);
@@ -104,11 +112,7 @@ fn squares_and_pad(alloc: Global) -> Result<Design, AllocError> {
 fn names_are_those_of_the_last_cost(rt: HostRuntime) -> Result<(), Fail> {
     let alloc = rt.alloc();
     let design = squares_and_pad(alloc)?;
-    let options = SearchOptions {
-        workers: 1,
-        nodes: 100,
-    };
-    let found = search(&rt, alloc, &design, &Standard, options, &OpenGate)?;
+    let found = searched(&rt, alloc, &design, 1, 100)?;
     assert_eq!(rt; (found.cost, found.bound, found.decided), (8, 8, 9));
     let area = Tag::Closed(Part::Area);
     let tags = [
