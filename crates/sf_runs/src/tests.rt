@@ -2,7 +2,6 @@
 
 mod by_bytes;
 mod checking;
-mod expressions;
 mod failing;
 mod faults;
 mod generating;
@@ -220,15 +219,17 @@ fn assert_words(
     Ok(())
 }
 
-/// Runs each row.
+/// Runs each row of these tables.
 fn assert_rows(
     rt: &(impl Abort + Threads + Sync),
     alloc: Global,
-    rows: &[Row],
+    tables: &[&[Row]],
 ) -> Result<(), Fail> {
-    for row in rows {
-        let words = words_of(alloc, &[row.command, row.options])?;
-        assert_words(rt, alloc, row, &words, 0, 0)?;
+    for rows in tables {
+        for row in *rows {
+            let words = words_of(alloc, &[row.command, row.options])?;
+            assert_words(rt, alloc, row, &words, 0, 0)?;
+        }
     }
     Ok(())
 }

@@ -2,8 +2,9 @@
 
 use sf_model::{Plan, Shape};
 use sf_polish::{
-    ExprFault, expr_of, is_normal, normalise, plan_of, read_expr, read_tokens, write_expr,
+    ExprFault, Token, expr_of, is_normal, normalise, plan_of, read_expr, read_tokens, write_expr,
 };
+use std::alloc::{AllocError, Global};
 use std::test::Fail;
 
 /// The number of a fault and its line, and zeros where there is none.
@@ -59,18 +60,19 @@ fn faults_by_word(rt: HostRuntime) {
 
 /// A plan of two blocks is written and read again.
 #[test]
-fn plan_of_two(rt: HostRuntime) {
+fn plan_of_two(rt: HostRuntime) -> Result<(), Fail> {
     let alloc = rt.alloc();
-    let left = Box::new(alloc, Plan::Leaf(0, Shape { w: 2, h: 3 })).expect(&rt, "memory");
-    let right = Box::new(alloc, Plan::Leaf(1, Shape { w: 3, h: 2 })).expect(&rt, "memory");
-    let plan = normalise(alloc, Plan::Beside(left, right)).expect(&rt, "memory");
-    let expr = expr_of(alloc, &plan, 2).expect(&rt, "memory");
+    let left = Box::new(alloc, Plan::Leaf(0, Shape { w: 2, h: 3 }))?;
+    let right = Box::new(alloc, Plan::Leaf(1, Shape { w: 3, h: 2 }))?;
+    let plan = normalise(alloc, Plan::Beside(left, right))?;
+    let expr = expr_of(alloc, &plan, 2)?;
     assert!(rt; is_normal(expr.tokens.as_slice(), 2));
-    let text = write_expr(alloc, &expr).expect(&rt, "memory");
+    let text = write_expr(alloc, &expr)?;
     assert_eq!(rt; text.as_slice(), b"0:2x3 1:3x2 *".as_slice());
-    let read = read_expr(alloc, &text, 2).expect(&rt, "a text that was written");
-    let plan = plan_of(alloc, &read).expect(&rt, "memory");
+    let read = read_expr(alloc, &text, 2)?;
+    let plan = plan_of(alloc, &read)?;
     assert!(rt; matches!(plan, Plan::Beside(_, _)));
+    Ok(())
 }
 
 /// Expressions of three blocks, of which the first two are joined first, or the last two.
@@ -88,7 +90,7 @@ const THREES: [&str; 6] = [
 fn written_as_read(rt: HostRuntime) -> Result<(), Fail> {
     let alloc = rt.alloc();
     for text in THREES {
-        let expr = read_expr(alloc, text.as_bytes(), 3).expect(&rt, "a normal expression");
+        let expr = read_expr(alloc, text.as_bytes(), 3)?;
         let written = write_expr(alloc, &expr)?;
         assert_eq!(rt; str::from_utf8(&written)?, text);
     }
@@ -126,5 +128,47 @@ fn plans_of_three(rt: HostRuntime) -> Result<(), Fail> {
     let expr = expr_of(alloc, &plan, 3)?;
     let text = write_expr(alloc, &expr)?;
     assert_eq!(rt; str::from_utf8(&text)?, "0:2x3 1:3x2 * 2:1x1 +");
+    Ok(())
+}
+
+/// A block 1x2.
+fn leaf(block: u16) -> Plan {
+    Plan::Leaf(block, Shape { w: 1, h: 2 })
+}
+
+/// Two plans, one above the other by that operator, and side by side by each other token.
+fn joined(alloc: Global, operator: Token, first: Plan, second: Plan) -> Result<Plan, AllocError> {
+    let first = Box::new(alloc, first)?;
+    let second = Box::new(alloc, second)?;
+    if operator == Token::Above {
+        Ok(Plan::Above(first, second))
+    } else {
+        Ok(Plan::Beside(first, second))
+    }
+}
+
+/// Whether two of the three blocks are joined first, and then the last.
+fn leans_left(plan: &Plan) -> bool {
+    match plan {
+        Plan::Beside(left, right) => {
+            matches!(**left, Plan::Beside(_, _)) && matches!(**right, Plan::Leaf(2, _))
+        }
+        Plan::Above(left, right) => {
+            matches!(**left, Plan::Above(_, _)) && matches!(**right, Plan::Leaf(2, _))
+        }
+        Plan::Leaf(_, _) => false,
+    }
+}
+
+/// Three blocks that lean to the right, side by side and one above the other.
+#[test]
+fn three_blocks_are_made_skewed(rt: HostRuntime) -> Result<(), Fail> {
+    let alloc = rt.alloc();
+    for operator in [Token::Beside, Token::Above] {
+        let last = joined(alloc, operator, leaf(1), leaf(2))?;
+        let plan = joined(alloc, operator, leaf(0), last)?;
+        assert!(rt; !leans_left(&plan), "{operator:?}");
+        assert!(rt; leans_left(&normalise(alloc, plan)?), "{operator:?}");
+    }
     Ok(())
 }

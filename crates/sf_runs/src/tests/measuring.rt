@@ -175,8 +175,5 @@ const WIRE: &[Row] = &[
 
 #[test]
 fn placements(rt: HostRuntime) -> Result<(), Fail> {
-    for rows in [ROWS, WIRE] {
-        assert_rows(&rt, rt.alloc(), rows)?;
-    }
-    Ok(())
+    assert_rows(&rt, rt.alloc(), &[ROWS, WIRE])
 }

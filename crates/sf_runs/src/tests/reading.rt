@@ -312,10 +312,7 @@ const BLOCK_LINES: [(&str, &str); 7] = [
 
 #[test]
 fn designs(rt: HostRuntime) -> Result<(), Fail> {
-    for rows in [READ, REFUSED] {
-        assert_rows(&rt, rt.alloc(), rows)?;
-    }
-    Ok(())
+    assert_rows(&rt, rt.alloc(), &[READ, REFUSED])
 }
 
 #[test]

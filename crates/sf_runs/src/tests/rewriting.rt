@@ -67,7 +67,7 @@ const ROWS: &[Row] = &[
 
 #[test]
 fn rewritten_certificates(rt: HostRuntime) -> Result<(), Fail> {
-    assert_rows(&rt, rt.alloc(), ROWS)
+    assert_rows(&rt, rt.alloc(), &[ROWS])
 }
 
 /// With two workers the order of the decisions is free, and so are the tags; the parts that they name are

@@ -80,5 +80,5 @@ const ROWS: &[Row] = &[
 
 #[test]
 fn curves(rt: HostRuntime) -> Result<(), Fail> {
-    assert_rows(&rt, rt.alloc(), ROWS)
+    assert_rows(&rt, rt.alloc(), &[ROWS])
 }
