@@ -106,44 +106,46 @@ fn told(alloc: Global, pool: &Pool) -> Result<String, AllocError> {
     Ok(text)
 }
 
+/// Events one after another, and why they are refused.
+const STEPS: [(Try, Option<Refusal>); 24] = [
+    // The root is open, and nothing is held.
+    (Try::Take(1), Some(Refusal::NoPlace)),
+    (Try::Replace(How::Extend, MAX), Some(Refusal::NotHeld)),
+    (Try::Close(MAX), Some(Refusal::NotHeld)),
+    (Try::Offer(7), Some(Refusal::NotHeld)),
+    // The root is held, and the word is MAX.
+    (Try::Take(0), None),
+    (Try::Replace(How::Extend, 9), Some(Refusal::Stale(9, MAX))),
+    (Try::Replace(How::Split(1), MAX), Some(Refusal::NoStep)),
+    (Try::Close(9), Some(Refusal::Stale(9, MAX))),
+    (Try::Close(MAX), Some(Refusal::NotAtLeast(7, MAX))),
+    (Try::Offer(7), Some(Refusal::NotCost(7, 7))),
+    // The left half of the root is held, with one shape.
+    (Try::Replace(How::Split(0), MAX), None),
+    (Try::Take(1), None),
+    (Try::Take(0), Some(Refusal::NoPlace)),
+    (Try::Replace(How::Split(0), MAX), Some(Refusal::NoStep)),
+    // Its child, which is complete and solved, is held.
+    (Try::Replace(How::Extend, MAX), None),
+    (Try::Take(1), None),
+    (Try::Replace(How::Extend, MAX), Some(Refusal::NoStep)),
+    (Try::Offer(8), Some(Refusal::NotCost(8, 7))),
+    // The word is 7.
+    (Try::Offer(7), None),
+    (Try::Replace(How::Extend, 6), Some(Refusal::Stale(6, 7))),
+    (Try::Replace(How::Extend, 7), Some(Refusal::NotBelow(7, 7))),
+    (Try::Close(6), Some(Refusal::Stale(6, 7))),
+    (Try::Close(8), Some(Refusal::NotAtLeast(7, 8))),
+    (Try::Close(7), None),
+];
+
 /// An event that is refused leaves the pool as it was.
 #[test]
 fn refuses_and_stays(rt: HostRuntime) -> Result<(), Fail> {
     let alloc = rt.alloc();
     let design = one_block(alloc)?;
     let mut pool = Pool::new(alloc, &design, 7, 1, &Seven)?;
-    let rows = [
-        // The root is open, and nothing is held.
-        (Try::Take(1), Some(Refusal::NoPlace)),
-        (Try::Replace(How::Extend, MAX), Some(Refusal::NotHeld)),
-        (Try::Close(MAX), Some(Refusal::NotHeld)),
-        (Try::Offer(7), Some(Refusal::NotHeld)),
-        // The root is held, and the word is MAX.
-        (Try::Take(0), None),
-        (Try::Replace(How::Extend, 9), Some(Refusal::Stale(9, MAX))),
-        (Try::Replace(How::Split(1), MAX), Some(Refusal::NoStep)),
-        (Try::Close(9), Some(Refusal::Stale(9, MAX))),
-        (Try::Close(MAX), Some(Refusal::NotAtLeast(7, MAX))),
-        (Try::Offer(7), Some(Refusal::NotCost(7, 7))),
-        // The left half of the root is held, with one shape.
-        (Try::Replace(How::Split(0), MAX), None),
-        (Try::Take(1), None),
-        (Try::Take(0), Some(Refusal::NoPlace)),
-        (Try::Replace(How::Split(0), MAX), Some(Refusal::NoStep)),
-        // Its child, which is complete and solved, is held.
-        (Try::Replace(How::Extend, MAX), None),
-        (Try::Take(1), None),
-        (Try::Replace(How::Extend, MAX), Some(Refusal::NoStep)),
-        (Try::Offer(8), Some(Refusal::NotCost(8, 7))),
-        // The word is 7.
-        (Try::Offer(7), None),
-        (Try::Replace(How::Extend, 6), Some(Refusal::Stale(6, 7))),
-        (Try::Replace(How::Extend, 7), Some(Refusal::NotBelow(7, 7))),
-        (Try::Close(6), Some(Refusal::Stale(6, 7))),
-        (Try::Close(8), Some(Refusal::NotAtLeast(7, 8))),
-        (Try::Close(7), None),
-    ];
-    for (tried, refusal) in rows {
+    for (tried, refusal) in STEPS {
         let before = told(alloc, &pool)?;
         let answer = step(alloc, &design, &mut pool, tried)?;
         assert_eq!(rt; answer, refusal, "{tried:?}");
