@@ -1,11 +1,11 @@
 -- The box of a statement's vertices.
 use Rattle.std.proofs.Common.{◌≡◌, ℕ, ◌≤◌, ◌/◌, ◌%◌, false, length, arith, List, Result, refl}
 use Rattle.std.proofs.lemmas.Bool.Decides.{nat_tests}
-use Rattle.sf_lex.specs.Results.{seen, map_err}
+use Rattle.sf_lex.specs.Results.{map_err}
 use Rattle.sf_lex.specs.Vertices.{box_read}
 use Rattle.sf_lex.specs.declared.vertices.BoxSize.{BoxSize}
 use Rattle.sf_lex.specs.declared.vertices.VertexFault.{VertexFault}
-use Rattle.sf_yal.specs.Box.{vertex_fault, size_of, is_no_outline, dimensions_said}
+use Rattle.sf_yal.specs.Box.{vertex_fault, is_no_outline, dimensions_said}
 
 -- at least four words, in pairs, are an outline
 even_enough : (places : List (List ℕ)) → 4 ≤ length places → length places % 2 ≡ 0 → is_no_outline places ≡ false
@@ -13,7 +13,7 @@ even_enough places enough even = grind (arith, nat_tests)
 
 -- so many words say the box of half as many vertices
 pub dimensions_are : (scale line : ℕ) (places : List (List ℕ)) (count : ℕ) (read : Result BoxSize VertexFault) → count ≡ length places → 4 ≤ count → count % 2 ≡ 0
-    → read ≡ box_read scale (count / 2) places → dimensions_said scale line places ≡ seen size_of (map_err (vertex_fault line) read)
+    → read ≡ box_read scale (count / 2) places → dimensions_said scale line places ≡ map_err (vertex_fault line) read
 unfolding dimensions_said
 dimensions_are scale line places count read is enough even box =
     let whole : length places % 2 ≡ 0 = rw (← is) even in

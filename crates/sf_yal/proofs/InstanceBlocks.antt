@@ -11,7 +11,7 @@ use Rattle.sf_model.specs.declared.raw.Kind.TheVariants as kinds
 use Rattle.sf_names.specs.Names.{index_of}
 use Rattle.sf_yal.specs.declared.fault.YalFault.{YalFault}
 use Rattle.sf_yal.specs.declared.fault.YalFault.TheVariants as faults
-use Rattle.sf_yal.specs.declared.vertices.Size.{Size}
+use Rattle.sf_lex.specs.declared.vertices.BoxSize.{BoxSize}
 use Rattle.sf_yal.specs.Instances.{Instance}
 use Rattle.sf_yal.specs.Modules.{Module, name_of, box_of}
 use Rattle.sf_yal.specs.Faults.{box_if, box_at, IsBlockOf, SizeFault, PlaceFault, InstanceFault, FirstInstanceFault}
@@ -32,7 +32,7 @@ module _ (scale : ℕ) (all : List Module) (parent : ℕ) where
   names = map name_of all
 
   -- their boxes
-  abbrev sizes : List (Option Size)
+  abbrev sizes : List (Option BoxSize)
   sizes = map (box_of scale) all
 
   -- the box of a module, if there is one
@@ -46,7 +46,7 @@ module _ (scale : ℕ) (all : List Module) (parent : ℕ) where
 
   module _ (i : Instance) where
     -- a block with a box, by the tests of its sides
-    sized_by : (k : ℕ) (size : Size) (b : RawBlock) (w h : Bool) → index_of i.module_name names ≡ Some k → k ≢ parent → box_at scale all k ≡ Some size → (size.w == 0) ≡ w → (size.h == 0) ≡ h → boxed i (Some size) ≡ Ok b
+    sized_by : (k : ℕ) (size : BoxSize) (b : RawBlock) (w h : Bool) → index_of i.module_name names ≡ Some k → k ≢ parent → box_at scale all k ≡ Some size → (size.w == 0) ≡ w → (size.h == 0) ≡ h → boxed i (Some size) ≡ Ok b
         → IsBlockOf scale all parent i b
     sized_by k size b true h known child at ew eh read = absurd (err_not_ok (faults.ZeroSide i.line) b (rw ew at read))
     sized_by k size b false true known child at ew eh read = absurd (err_not_ok (faults.ZeroSide i.line) b (rw (ew, eh) at read))
@@ -62,7 +62,7 @@ module _ (scale : ℕ) (all : List Module) (parent : ℕ) where
     }
 
     -- a block, if there is a box
-    sized : (k : ℕ) (o : Option Size) (b : RawBlock) → index_of i.module_name names ≡ Some k → k ≢ parent → box_at scale all k ≡ o → boxed i o ≡ Ok b → IsBlockOf scale all parent i b
+    sized : (k : ℕ) (o : Option BoxSize) (b : RawBlock) → index_of i.module_name names ≡ Some k → k ≢ parent → box_at scale all k ≡ o → boxed i o ≡ Ok b → IsBlockOf scale all parent i b
     sized k None b known child at read = absurd (err_not_ok (faults.BadStatement i.line) b read)
     sized k (Some size) b known child at read = sized_by k size b (size.w == 0) (size.h == 0) known child at refl refl read
 
@@ -89,13 +89,13 @@ module _ (scale : ℕ) (all : List Module) (parent : ℕ) where
     -- the fault of an instance
 
     -- the fault of a box, by the tests of its sides
-    size_fault_by : (size : Size) (f : YalFault) (w h : Bool) → (size.w == 0) ≡ w → (size.h == 0) ≡ h → boxed i (Some size) ≡ Err f → SizeFault i.line (Some size) f
+    size_fault_by : (size : BoxSize) (f : YalFault) (w h : Bool) → (size.w == 0) ≡ w → (size.h == 0) ≡ h → boxed i (Some size) ≡ Err f → SizeFault i.line (Some size) f
     size_fault_by size f true h ew eh read = (inl (eqb-true size.w 0 ew), err_is {A = RawBlock} (faults.ZeroSide i.line) f (rw ew at read))
     size_fault_by size f false true ew eh read = (inr (eqb-true size.h 0 eh), err_is {A = RawBlock} (faults.ZeroSide i.line) f (rw (ew, eh) at read))
     size_fault_by size f false false ew eh read = absurd (ok_not_err (record { name = i.name; kind = kinds.Hard size.w size.h }) f (rw (ew, eh) at read))
 
     -- the fault of the box, or that there is none
-    size_fault : (o : Option Size) (f : YalFault) → boxed i o ≡ Err f → SizeFault i.line o f
+    size_fault : (o : Option BoxSize) (f : YalFault) → boxed i o ≡ Err f → SizeFault i.line o f
     size_fault None f read = err_is {A = RawBlock} (faults.BadStatement i.line) f read
     size_fault (Some size) f read = size_fault_by size f (size.w == 0) (size.h == 0) refl refl read
 
@@ -104,7 +104,7 @@ module _ (scale : ℕ) (all : List Module) (parent : ℕ) where
     place_fault None f read = err_is {A = RawBlock} (faults.UnknownModule i.line i.module_name) f read
     place_fault (Some k) f read = elim (cases_Bool (k == parent)) [
       | inl e ↦ inl (eqb-true k parent e, err_is {A = RawBlock} (faults.UnknownModule i.line i.module_name) f (rw e at read))
-      | inr e ↦ inr (eqb-false k parent e, subst (λ (o : Option Size). SizeFault i.line o f) (size_there k) (size_fault (size_at sizes k) f (rw e at read)))
+      | inr e ↦ inr (eqb-false k parent e, subst (λ (o : Option BoxSize). SizeFault i.line o f) (size_there k) (size_fault (size_at sizes k) f (rw e at read)))
     ]
 
     -- the fault that is read is the fault of the instance
@@ -113,13 +113,13 @@ module _ (scale : ℕ) (all : List Module) (parent : ℕ) where
     fault_from f read = place_fault (index_of i.module_name names) f read
 
     -- a side of 0 is read as a fault
-    from_sides : (size : Size) (f : YalFault) (w : Bool) → (size.w == 0) ≡ w → (size.w ≡ 0) ⊎ (size.h ≡ 0) → f ≡ faults.ZeroSide i.line → boxed i (Some size) ≡ Err f
+    from_sides : (size : BoxSize) (f : YalFault) (w : Bool) → (size.w == 0) ≡ w → (size.w ≡ 0) ⊎ (size.h ≡ 0) → f ≡ faults.ZeroSide i.line → boxed i (Some size) ≡ Err f
     from_sides size f true e side is = rw e (ap failed (sym is))
     from_sides size f false e (inl side) is = absurd (let no : true ≡ false = sym (eq-eqb size.w 0 side) ∙ e in cc)
     from_sides size f false e (inr side) is = rw (e, eq-eqb size.h 0 side) (ap failed (sym is))
 
     -- a fault of the box is read
-    from_size_fault : (o : Option Size) (f : YalFault) → SizeFault i.line o f → boxed i o ≡ Err f
+    from_size_fault : (o : Option BoxSize) (f : YalFault) → SizeFault i.line o f → boxed i o ≡ Err f
     from_size_fault None f is = ap failed (sym is)
     from_size_fault (Some size) f is = from_sides size f (size.w == 0) refl is.0 is.1
 

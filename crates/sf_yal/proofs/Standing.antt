@@ -6,7 +6,7 @@ use Rattle.sf_model.specs.declared.raw.RawBlock.{RawBlock}
 use Rattle.sf_model.specs.declared.raw.Parts.{Parts}
 use Rattle.sf_yal.specs.declared.fault.YalFault.{YalFault}
 use Rattle.sf_yal.specs.declared.fault.YalFault.TheVariants as faults
-use Rattle.sf_yal.specs.declared.vertices.Size.{Size}
+use Rattle.sf_lex.specs.declared.vertices.BoxSize.{BoxSize}
 use Rattle.sf_yal.specs.Box.{◌>>=◌}
 use Rattle.sf_yal.specs.Statements.{statements_of, is_ended, last_line}
 use Rattle.sf_yal.specs.Modules.{Worded, worded, Rest, Nothing, Cut, name_of, box_of, closed, modules, parent_place, instances_of}
@@ -38,7 +38,7 @@ module _ (scale : ℕ) (text : List ℕ) (cut : Cut) where
 
     -- they are the blocks by the closed ones
     same_blocks : (parent : ℕ) → blocks_from kept.names kept.sizes parent [] kept.instances ≡ read_blocks parent
-    same_blocks parent = ap (λ (sizes : List (Option Size)). blocks_from kept.names sizes parent [] kept.instances) (all_boxed ended.1)
+    same_blocks parent = ap (λ (sizes : List (Option BoxSize)). blocks_from kept.names sizes parent [] kept.instances) (all_boxed ended.1)
 
     -- the parts that are read are those of the text
     made : (o : Option ℕ) (out : Parts) → parent_place (modules cut) ≡ o → parts_by kept o ≡ Ok out → StandsFor scale text out

@@ -4,7 +4,7 @@ use Rattle.std.proofs.lemmas.List.{drop_all}
 use Rattle.sf_model.specs.declared.raw.RawBlock.{RawBlock}
 use Rattle.sf_yal.specs.declared.fault.YalFault.{YalFault}
 use Rattle.sf_yal.specs.declared.fault.YalFault.TheVariants as faults
-use Rattle.sf_yal.specs.declared.vertices.Size.{Size}
+use Rattle.sf_lex.specs.declared.vertices.BoxSize.{BoxSize}
 use Rattle.sf_yal.specs.declared.instance.Instance as code
 use Rattle.std.specs.Prelude.{Option}
 use Rattle.sf_yal.specs.Box.{◌>>=◌}
@@ -21,7 +21,7 @@ pub Fails-then : {X Y : Type 0} (f : X → Result Y YalFault) (fault : YalFault)
 Fails-then f faults.NoMemory read h = tt
 Fails-then f fault read h = rw h refl
 
-module _ (names : List (List ℕ)) (sizes : List (Option Size)) (parent : ℕ) (xs : List code.Instance) (total : Result (List RawBlock) YalFault) where
+module _ (names : List (List ℕ)) (sizes : List (Option BoxSize)) (parent : ℕ) (xs : List code.Instance) (total : Result (List RawBlock) YalFault) where
   -- a block that is read leaves what is read in all
   pub goes_on : (earlier after : List RawBlock) (i : ℕ) (x : code.Instance) (b : RawBlock) → i < length xs → x ≡ get_or xs i x → block_of names sizes parent (instance_in x) ≡ Ok b → after ≡ earlier ++ b ∷ []
       → blocks_from names sizes parent earlier (instances_in (drop i xs)) ≡ total → blocks_from names sizes parent after (instances_in (drop (i + 1) xs)) ≡ total

@@ -17,7 +17,7 @@ use Rattle.sf_yal.specs.declared.keyword.Keyword.TheVariants as keys
 use Rattle.sf_yal.specs.declared.open_module.OpenModule.{OpenModule}
 use Rattle.sf_yal.specs.declared.open_module.Section.TheVariants as sections
 use Rattle.sf_yal.specs.declared.open_module.Section as code
-use Rattle.sf_yal.specs.declared.vertices.Size.{Size}
+use Rattle.sf_lex.specs.declared.vertices.BoxSize.{BoxSize}
 use Rattle.sf_yal.specs.Box.{◌>>=◌, length_read, number_in, dimensions_said}
 use Rattle.sf_yal.specs.Instances.{Instance}
 use Rattle.sf_yal.specs.Numbers.{has_form}
@@ -58,7 +58,7 @@ abbrev instances_in : List Worded → List Instance
 instances_in all = flat_map (λ s. instance_at s s.more) all
 
 -- what is kept, by its parts
-abbrev shown : ℕ → Option OpenModule → List (List ℕ) → List (Option Size) → Option ℕ → List RawPad → List Instance → Reading
+abbrev shown : ℕ → Option OpenModule → List (List ℕ) → List (Option BoxSize) → Option ℕ → List RawPad → List Instance → Reading
 shown scale current names sizes parent pads instances = record { current = current; names = names; sizes = sizes; parent = parent; pad_names = map (λ p. p.name) pads; pads = pads; instances = instances }
 
 -- what is kept behind these closed modules and what is open
@@ -104,12 +104,12 @@ any_yes : {X : Type 0} (p : X → Bool) (xs : List X) (x : X) → p x ≡ true �
 any_yes p xs x e = list_any-append p xs (x ∷ []) ∙ or_right (list_any p xs) (p x || false) (or_left (p x) false e)
 
 -- nothing more leaves what is there
-or_none : (o : Option Size) → option_or o None ≡ o
+or_none : (o : Option BoxSize) → option_or o None ≡ o
 or_none None = refl
 or_none (Some size) = refl
 
 -- the first of three
-or_assoc : (a b c : Option Size) → option_or (option_or a b) c ≡ option_or a (option_or b c)
+or_assoc : (a b c : Option BoxSize) → option_or (option_or a b) c ≡ option_or a (option_or b c)
 or_assoc None b c = refl
 or_assoc (Some size) b c = refl
 
@@ -123,8 +123,8 @@ box_same : (scale : ℕ) (xs : List Section) (x : Section) → section_box scale
 box_same scale xs x e = box_more scale xs x ∙ ap (option_or (box_in scale xs)) e ∙ or_none (box_in scale xs)
 
 -- the first section with a box gives it
-box_first : (scale : ℕ) (xs : List Section) (x : Section) (o : Option Size) (size : Size) → box_in scale xs ≡ o → is_some o ≡ false → section_box scale x ≡ Some size → box_in scale (xs ++ x ∷ []) ≡ Some size
-box_first scale xs x None size none e is = box_more scale xs x ∙ ap (λ (o : Option Size). option_or o (section_box scale x)) none ∙ is
+box_first : (scale : ℕ) (xs : List Section) (x : Section) (o : Option BoxSize) (size : BoxSize) → box_in scale xs ≡ o → is_some o ≡ false → section_box scale x ≡ Some size → box_in scale (xs ++ x ∷ []) ≡ Some size
+box_first scale xs x None size none e is = box_more scale xs x ∙ ap (λ (o : Option BoxSize). option_or o (section_box scale x)) none ∙ is
 box_first scale xs x (Some other) size none e is = absurd cc
 
 -- names depend on names alone
@@ -181,7 +181,7 @@ module _ (scale : ℕ) where
       in_more kind = flat_push (in_section kind) m.sections (Single s) ∙ append-nil (in_module kind m)
 
       -- it is kept by what is said of it
-      grows : (typed listed : Bool) (size : Option Size) → list_any is_type one_more.sections ≡ typed → is_parent_type (Single s) ≡ false → list_any is_list one_more.sections ≡ listed → box_of scale one_more ≡ size
+      grows : (typed listed : Bool) (size : Option BoxSize) → list_any is_type one_more.sections ≡ typed → is_parent_type (Single s) ≡ false → list_any is_list one_more.sections ≡ listed → box_of scale one_more ≡ size
           → record (kept (InModule m)) { current = Some (record { section = sections.Body; is_typed = typed; is_parent = is_parent m; has_list = listed; size = size }) } ≡ kept (InModule one_more)
       grows typed listed size t other l b =
           let parent = any_no is_parent_type m.sections (Single s) other in
@@ -218,7 +218,7 @@ module _ (scale : ℕ) where
           λ i. shown scale (Some (record { section = sections.Body; is_typed = sym typed i; is_parent = sym parent i; has_list = sym listed i; size = sym box i })) (name_more ms one_more m refl i) (map (box_of scale) ms) (place i) (pads_with (empty Terminals i)) (instances_with (empty Network i))
 
       -- DIMENSIONS
-      boxes : (size : Size) → key s ≡ keys.Dimensions → is_some (box_of scale m) ≡ false → section_box scale (Single s) ≡ Some size → size_taken (kept (InModule m)) (open_as scale m sections.Body false) size ≡ kept (InModule one_more)
+      boxes : (size : BoxSize) → key s ≡ keys.Dimensions → is_some (box_of scale m) ≡ false → section_box scale (Single s) ≡ Some size → size_taken (kept (InModule m)) (open_as scale m sections.Body false) size ≡ kept (InModule one_more)
       boxes size e none is = grows _ _ _ (any_no is_type m.sections (Single s) (ap is_type_key e)) (rw e refl) (any_no is_list m.sections (Single s) refl) (box_first scale m.sections (Single s) (box_of scale m) size refl none is)
 
       -- a list begins
@@ -266,7 +266,7 @@ module _ (scale : ℕ) where
 
 -- ---- a statement in a list of the parent
 
-module _ (scale : ℕ) (current : Option OpenModule) (names : List (List ℕ)) (sizes : List (Option Size)) (parent : Option ℕ) (pads : List RawPad) (instances : List Instance) where
+module _ (scale : ℕ) (current : Option OpenModule) (names : List (List ℕ)) (sizes : List (Option BoxSize)) (parent : Option ℕ) (pads : List RawPad) (instances : List Instance) where
   -- what is kept
   abbrev so_far : Reading
   so_far = shown scale current names sizes parent pads instances
@@ -389,7 +389,7 @@ module _ (scale : ℕ) (items : List Item) (line : ℕ) (first : List ℕ) (more
     typed (word ∷ words) e = typed_by word words (list_any is_type m.sections || list_any is_list m.sections) (is_parent_word word) (is_some (parent_place (ms ++ m ∷ []))) e refl refl refl
 
     -- DIMENSIONS
-    boxed_by : (some : Bool) (read : Result Size YalFault) → key s ≡ keys.Dimensions → is_some (box_of scale m) ≡ some → dimensions_said scale line more ≡ read
+    boxed_by : (some : Bool) (read : Result BoxSize YalFault) → key s ≡ keys.Dimensions → is_some (box_of scale m) ≡ some → dimensions_said scale line more ≡ read
         → box_said scale in_body body line more ≡ answer (box_fault scale m s) (view_of scale ms (InModule (with_section m (Single s))))
     unfolding box_said
     boxed_by true read e a b = rw a refl

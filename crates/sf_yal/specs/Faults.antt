@@ -9,7 +9,7 @@ use Rattle.sf_yal.specs.declared.fault.YalFault.{YalFault}
 use Rattle.sf_yal.specs.declared.fault.YalFault.TheVariants.{BadStatement, BadNumber, TwoParents, UnknownModule, ZeroSide}
 use Rattle.sf_yal.specs.declared.keyword.Keyword.{Keyword}
 use Rattle.sf_yal.specs.declared.keyword.Keyword.TheVariants as keys
-use Rattle.sf_yal.specs.declared.vertices.Size.{Size}
+use Rattle.sf_lex.specs.declared.vertices.BoxSize.{BoxSize}
 use Rattle.sf_yal.specs.Box.{dimensions_said}
 use Rattle.sf_yal.specs.Instances.{Instance}
 use Rattle.sf_yal.specs.Modules.{Worded, key, ListKind, Terminals, Network, Listing, Module, Rest, Nothing, InModule, InList, Cut, closes, name_of, is_type, is_list, is_parent, box_of, modules, parent_place, Point, point_behind, pads_of}
@@ -30,7 +30,7 @@ type_fault parent m line (word ∷ more) = if list_any is_type m.sections || lis
     else None
 
 -- the fault of a box that can't be read
-abbrev pub err_of : Result Size YalFault → Option YalFault
+abbrev pub err_of : Result BoxSize YalFault → Option YalFault
 err_of (Ok size) = None
 err_of (Err fault) = Some fault
 
@@ -89,18 +89,18 @@ fault_at scale c s = fault_in scale c c.rest s
 -- ---- of an instance
 
 -- the box of a module, if there is one
-abbrev pub box_if : ℕ → Option Module → Option Size
+abbrev pub box_if : ℕ → Option Module → Option BoxSize
 box_if scale None = None
 box_if scale (Some m) = box_of scale m
 
 -- the box of the module at a place
-abbrev pub box_at : ℕ → List Module → ℕ → Option Size
+abbrev pub box_at : ℕ → List Module → ℕ → Option BoxSize
 box_at scale all k = box_if scale (slice_get all k)
 
 -- its block has the box of its module, which is one of the text and not the parent
 pub record IsBlockOf (scale : ℕ) (all : List Module) (parent : ℕ) (i : Instance) (block : RawBlock) : Type 0 where
   pub place : ℕ
-  pub size : Size
+  pub size : BoxSize
   pub known : index_of i.module_name (map name_of all) ≡ Some place
   pub child : place ≢ parent
   pub boxed : box_at scale all place ≡ Some size
@@ -109,7 +109,7 @@ pub record IsBlockOf (scale : ℕ) (all : List Module) (parent : ℕ) (i : Insta
   pub block_is : block ≡ record { name = i.name; kind = kinds.Hard size.w size.h }
 
 -- its module has no box, or one with a side of 0
-abbrev pub SizeFault : ℕ → Option Size → YalFault → Type 0
+abbrev pub SizeFault : ℕ → Option BoxSize → YalFault → Type 0
 SizeFault line None fault = fault ≡ BadStatement line
 SizeFault line (Some size) fault = ((size.w ≡ 0) ⊎ (size.h ≡ 0)) × (fault ≡ ZeroSide line)
 

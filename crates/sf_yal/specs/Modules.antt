@@ -8,7 +8,7 @@ use Rattle.sf_names.specs.Names.{has_name}
 use Rattle.sf_yal.specs.declared.fault.YalFault.{YalFault}
 use Rattle.sf_yal.specs.declared.keyword.Keyword.{Keyword}
 use Rattle.sf_yal.specs.declared.keyword.Keyword.TheVariants as keys
-use Rattle.sf_yal.specs.declared.vertices.Size.{Size}
+use Rattle.sf_lex.specs.declared.vertices.BoxSize.{BoxSize}
 use Rattle.sf_yal.specs.Words.{keyword_of, is_parent_word}
 use Rattle.sf_yal.specs.Statements.{Statement}
 use Rattle.sf_yal.specs.Box.{length_read, dimensions_said}
@@ -190,27 +190,27 @@ abbrev pub is_parent : Module → Bool
 is_parent m = list_any is_parent_type m.sections
 
 -- the box that is read, if it can be read
-abbrev pub ok_of : Result Size YalFault → Option Size
+abbrev pub ok_of : Result BoxSize YalFault → Option BoxSize
 ok_of (Ok size) = Some size
 ok_of (Err fault) = None
 
 -- the box of the vertices behind DIMENSIONS
-abbrev pub box_behind : ℕ → Worded → Keyword → Option Size
+abbrev pub box_behind : ℕ → Worded → Keyword → Option BoxSize
 box_behind scale s keys.Dimensions = ok_of (dimensions_said scale s.line s.more)
 box_behind scale s _ = None
 
 -- the box of a section
-abbrev pub section_box : ℕ → Section → Option Size
+abbrev pub section_box : ℕ → Section → Option BoxSize
 section_box scale (Single s) = box_behind scale s (key s)
 section_box scale (Listed l closing) = None
 
 -- the first box of these sections
-abbrev pub box_in : ℕ → List Section → Option Size
+abbrev pub box_in : ℕ → List Section → Option BoxSize
 box_in scale [] = None
 box_in scale (s ∷ more) = option_or (section_box scale s) (box_in scale more)
 
 -- the box of a module
-abbrev pub box_of : ℕ → Module → Option Size
+abbrev pub box_of : ℕ → Module → Option BoxSize
 box_of scale m = box_in scale m.sections
 
 -- two kinds are the same

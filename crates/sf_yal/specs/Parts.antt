@@ -5,7 +5,7 @@ use Rattle.sf_model.specs.declared.raw.Kind.TheVariants as kinds
 use Rattle.sf_model.specs.declared.raw.Parts.{Parts}
 use Rattle.sf_yal.specs.declared.fault.YalFault.{YalFault}
 use Rattle.sf_yal.specs.declared.fault.YalFault.TheVariants as faults
-use Rattle.sf_yal.specs.declared.vertices.Size.{Size}
+use Rattle.sf_lex.specs.declared.vertices.BoxSize.{BoxSize}
 use Rattle.sf_yal.specs.Statements.{statements_of, is_ended, last_line}
 use Rattle.sf_yal.specs.Box.{◌>>=◌}
 use Rattle.sf_names.specs.Names.{index_of}
@@ -16,16 +16,16 @@ use Rattle.sf_yal.specs.Reading.{Reading, start, after_statements}
 -- ---- blocks
 
 -- the box at a place, if there is one
-abbrev pub size_or_none : Option (Option Size) → Option Size
+abbrev pub size_or_none : Option (Option BoxSize) → Option BoxSize
 size_or_none None = None
 size_or_none (Some size) = size
 
 -- the box of the module at a place, if it has one
-abbrev pub size_at : List (Option Size) → ℕ → Option Size
+abbrev pub size_at : List (Option BoxSize) → ℕ → Option BoxSize
 size_at sizes k = size_or_none (slice_get sizes k)
 
 -- an instance with the box of its module
-abbrev pub boxed : Instance → Option Size → Result RawBlock YalFault
+abbrev pub boxed : Instance → Option BoxSize → Result RawBlock YalFault
 boxed i None = Err (faults.BadStatement i.line)
 boxed i (Some size) = if (size.w == 0) || (size.h == 0) then Err (faults.ZeroSide i.line)
     else Ok (record { name = i.name; kind = kinds.Hard size.w size.h })
@@ -35,16 +35,16 @@ abbrev pub unknown : Instance → Result RawBlock YalFault
 unknown i = Err (faults.UnknownModule i.line i.module_name)
 
 -- the block of an instance whose module stands at this place
-abbrev pub block_by : List (Option Size) → ℕ → Instance → Option ℕ → Result RawBlock YalFault
+abbrev pub block_by : List (Option BoxSize) → ℕ → Instance → Option ℕ → Result RawBlock YalFault
 block_by sizes parent i None = unknown i
 block_by sizes parent i (Some k) = if k == parent then unknown i else boxed i (size_at sizes k)
 
 -- the block of an instance: its module is one of the text and not the parent
-unfoldable pub block_of : List (List ℕ) → List (Option Size) → ℕ → Instance → Result RawBlock YalFault
+unfoldable pub block_of : List (List ℕ) → List (Option BoxSize) → ℕ → Instance → Result RawBlock YalFault
 block_of names sizes parent i = block_by sizes parent i (index_of i.module_name names)
 
 -- the blocks of the instances in order, behind earlier ones
-unfoldable pub blocks_from : List (List ℕ) → List (Option Size) → ℕ → List RawBlock → List Instance → Result (List RawBlock) YalFault
+unfoldable pub blocks_from : List (List ℕ) → List (Option BoxSize) → ℕ → List RawBlock → List Instance → Result (List RawBlock) YalFault
 blocks_from names sizes parent earlier [] = Ok earlier
 blocks_from names sizes parent earlier (i ∷ more) = do
   b ← block_of names sizes parent i

@@ -12,7 +12,7 @@ use Rattle.sf_yal.specs.declared.open_module.OpenModule.{OpenModule}
 use Rattle.sf_yal.specs.declared.open_module.Section.{Section}
 use Rattle.sf_yal.specs.declared.open_module.Section.TheVariants as sections
 use Rattle.sf_yal.specs.declared.found.Found.{Found}
-use Rattle.sf_yal.specs.declared.vertices.Size.{Size}
+use Rattle.sf_lex.specs.declared.vertices.BoxSize.{BoxSize}
 use Rattle.sf_yal.specs.Words.{keyword_of, is_parent_word}
 use Rattle.sf_yal.specs.Statements.{Statement}
 use Rattle.sf_yal.specs.Box.{◌>>=◌, length_read, number_in, dimensions_said}
@@ -25,7 +25,7 @@ use Rattle.sf_yal.specs.Instances.{Instance, instances_in}
 pub record Reading : Type 0 where
   pub current : Option OpenModule
   pub names : List (List ℕ)
-  pub sizes : List (Option Size)
+  pub sizes : List (Option BoxSize)
   pub parent : Option ℕ
   pub pad_names : List (List ℕ)
   pub pads : List RawPad
@@ -67,7 +67,7 @@ type_said r o line (word ∷ more) = if o.is_typed || o.has_list then Err (fault
     else Ok (type_taken r o)
 
 -- the box of the module
-abbrev pub size_taken : Reading → OpenModule → Size → Reading
+abbrev pub size_taken : Reading → OpenModule → BoxSize → Reading
 size_taken r o size = record r { current = Some (record o { size = Some size }) }
 
 -- DIMENSIONS x y x y ..

@@ -9,13 +9,13 @@ ghost use Rattle.sf_yal.specs.Parts.{size_at, boxed, block_of, blocks_from, unkn
 
 use crate::fault::YalFault;
 use crate::instance::Instance;
-use crate::vertices::Size;
+use sf_lex::BoxSize;
 use sf_model::{Kind, RawBlock};
 use sf_names::Names;
 use std::alloc::Global;
 
 /// The box of the module at a place, if it has one.
-fn size_of_module(sizes: &[Option<Size>], place: usize) -> Option<Size>
+fn size_of_module(sizes: &[Option<BoxSize>], place: usize) -> Option<BoxSize>
     ensures { result ≡ size_at sizes.now place }
 {
     match sizes.get(place) {
@@ -35,7 +35,11 @@ fn unknown_module(alloc: Global, instance: &Instance) -> YalFault
 }
 
 /// The block of an instance whose module has this box.
-fn block_with(alloc: Global, instance: &Instance, size: Option<Size>) -> Result<RawBlock, YalFault>
+fn block_with(
+    alloc: Global,
+    instance: &Instance,
+    size: Option<BoxSize>,
+) -> Result<RawBlock, YalFault>
     ensures { Gives result (boxed (instance_in instance.now) size) }
 {
     let Some(size) = size else {
@@ -59,7 +63,7 @@ fn read_block(
     alloc: Global,
     instance: &Instance,
     names: &Names,
-    sizes: &[Option<Size>],
+    sizes: &[Option<BoxSize>],
     parent: usize,
 ) -> Result<RawBlock, YalFault>
     ensures { Gives result (block_of names.now sizes.now parent (instance_in instance.now)) }
@@ -78,7 +82,7 @@ pub fn read_instances(
     alloc: Global,
     instances: &[Instance],
     names: &Names,
-    sizes: &[Option<Size>],
+    sizes: &[Option<BoxSize>],
     parent: usize,
 ) -> Result<Vec<RawBlock>, YalFault>
     ensures { Gives (seen (λ blocks. blocks.items) result)

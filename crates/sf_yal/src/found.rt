@@ -10,8 +10,8 @@ use crate::instance::{Instance, Label};
 use crate::keyword::{Keyword, is_parent, read_keyword};
 use crate::open_module::{OpenModule, Section};
 use crate::piece::next_word;
-use crate::vertices::{Size, number_at, read_dimensions, read_length};
-use sf_lex::{NumberFault, Scale};
+use crate::vertices::{number_at, read_dimensions, read_length};
+use sf_lex::{BoxSize, NumberFault, Scale};
 use sf_model::{Name, RawPad};
 use sf_names::{Names, TextHash};
 use std::alloc::{AllocError, Global};
@@ -22,7 +22,7 @@ use std::alloc::{AllocError, Global};
 pub struct Found<'a> {
     pub current: Option<OpenModule>,
     pub names: Names<'a>,
-    pub sizes: Vec<Option<Size>>,
+    pub sizes: Vec<Option<BoxSize>>,
     pub parent: Option<usize>,
     pub pad_names: Names<'a>,
     pub pads: Vec<RawPad>,

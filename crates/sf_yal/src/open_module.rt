@@ -3,7 +3,7 @@
 ghost use Rattle.std.specs.Prelude.{◌≡◌};
 ghost use Rattle.sf_yal.specs.Reading.{module_begun};
 
-use crate::vertices::Size;
+use sf_lex::BoxSize;
 
 /// The section of a module in which its next statement stands.
 #[derive(Clone, Copy, Debug, PartialEq, Eq)]
@@ -24,7 +24,7 @@ pub struct OpenModule {
     pub is_typed: bool,
     pub is_parent: bool,
     pub has_list: bool,
-    pub size: Option<Size>,
+    pub size: Option<BoxSize>,
 }
 
 impl OpenModule {

@@ -6,14 +6,7 @@ ghost use Rattle.sf_yal.specs.Box.{length_read, number_in, vertex_fault, dimensi
 
 use crate::fault::YalFault;
 use crate::piece::count_words;
-use sf_lex::{Gap, LENGTH_LIMIT, NumberFault, Scale, VertexFault, read_box, read_signed};
-
-/// The sides of a box.
-#[derive(Clone, Copy, Debug, PartialEq, Eq)]
-pub struct Size {
-    pub w: u64,
-    pub h: u64,
-}
+use sf_lex::{BoxSize, Gap, LENGTH_LIMIT, NumberFault, Scale, VertexFault, read_box, read_signed};
 
 /// A length with a sign or without one.
 pub fn read_length(word: &[u8], scale: Scale) -> Result<i64, NumberFault>
@@ -44,7 +37,7 @@ fn fault_at(line: u64, fault: VertexFault) -> YalFault
 
 /// The bounding box of the vertices that a statement lists.
 #[tactic(auto, unfolding(crate::specs::Box::dimensions_said))]
-pub fn read_dimensions(places: &[u8], line: u64, scale: Scale) -> Result<Size, YalFault>
+pub fn read_dimensions(places: &[u8], line: u64, scale: Scale) -> Result<BoxSize, YalFault>
     ensures { result ≡ dimensions_said scale.per_unit line (words is_blank_byte places.now) }
 {
     let count = count_words(places);
@@ -52,10 +45,7 @@ pub fn read_dimensions(places: &[u8], line: u64, scale: Scale) -> Result<Size, Y
         return Err(YalFault::BadStatement(line));
     }
     match read_box(places, Gap::Blanks, (count / 2) as u64, scale) {
-        Ok(size) => Ok(Size {
-            w: size.w,
-            h: size.h,
-        }),
+        Ok(size) => Ok(size),
         Err(fault) => Err(fault_at(line, fault)),
     }
 }
