@@ -1,7 +1,6 @@
 //! Commands with their options, as the words give them or leave them to their defaults.
-ghost use Rattle.std.specs.Prelude.{◌+◌, ◌<◌, ◌≤◌};
+ghost use Rattle.std.specs.Prelude.{◌+◌, ◌^◌, ◌<◌, ◌≤◌};
 ghost use Rattle.std.specs.Option.{ForSome};
-ghost use Rattle.sf_words.specs.Outline.{greatest_side};
 
 /// The files that tell a design, by the format that was chosen.
 #[derive(Clone, Copy, Debug)]
@@ -37,9 +36,9 @@ pub struct DesignWords<'a> {
     ghost shapes_low: { 2 ≤ shapes },
     ghost shapes_high: { shapes ≤ 256 },
     ghost width_low: { 1 ≤ width },
-    ghost width_high: { width ≤ greatest_side },
+    ghost width_high: { width ≤ 2 ^ 20 },
     ghost height_low: { 1 ≤ height },
-    ghost height_high: { height ≤ greatest_side },
+    ghost height_high: { height ≤ 2 ^ 20 },
 }
 
 /// What counts in a cost.
