@@ -1,8 +1,9 @@
 -- The texts of options in what clap found.
 use Rattle.std.specs.Prelude.{List, cond, Option, Some, None, [], ◌∷◌, map, fold, codes}
 use Rattle.std.specs.Str.{bytes_eq}
-use Rattle.clap.specs.Words.{Row, Text, first_of}
+use Rattle.clap.specs.Words.{Row, Text, first_of, found_of, rows_of}
 use Rattle.sf_words.specs.declared.options.Key.{Key}
+use Rattle.sf_words.specs.declared.parsed.Parsed.{Parsed}
 use Rattle.clap.specs.Words.{Rule}
 use Rattle.clap.specs.Simple.{filled}
 use Rattle.clap.specs.Walk.{with_default}
@@ -21,6 +22,10 @@ flag_text (Some text) = cond (bytes_eq text (codes "true")) (Some []) None
 -- the text that the rows have of an option
 abbrev pub texts_in : List Row → Key → Option Text
 texts_in rows key = cond (is_flag key) (flag_text (first_of (key_text key) rows)) (first_of (key_text key) rows)
+
+-- the text that clap found of an option
+unfoldable pub texts_of : Parsed → Key → Option Text
+texts_of p = texts_in (rows_of (found_of p.options.now))
 
 -- an option's text as clap keeps it
 abbrev pub text_in_row : Token → Text

@@ -12,6 +12,7 @@ mod line;
 mod meaning;
 mod options;
 mod outline;
+mod parsed;
 mod ranges;
 mod settings;
 

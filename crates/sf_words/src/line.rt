@@ -1,18 +1,18 @@
 //! The command line that clap is asked to read, and what its words mean.
 ghost use Rattle.std.specs.Prelude.{◌≡◌, IfOk, IfErr, IfSome, IfNone, Some, false, map, string_bytes};
-ghost use Rattle.clap.specs.Words.{app_of, with_rule, new_app, kind_of, subcommand_rows_of, rows_of};
-ghost use Rattle.clap.specs.Words.{found_of};
+ghost use Rattle.clap.specs.Words.{app_of, with_rule, new_app, kind_of, subcommand_rows_of};
 ghost use Rattle.clap.specs.declared.builder.command.Command.TheViews.{out-Command as fields_of};
 ghost use Rattle.sf_words.specs.Table.{mode_text, keys_of};
 ghost use Rattle.sf_words.specs.Words.{HasForm};
 ghost use Rattle.sf_words.specs.Seen.{token_of, command_seen};
 ghost use Rattle.sf_words.specs.Meaning.{Means, HasNoMeaning};
 ghost use Rattle.sf_words.specs.App.{rule_of_key, with_keys, bare, floorplan};
-ghost use Rattle.sf_words.specs.Kept.{texts_in, rows_for};
+ghost use Rattle.sf_words.specs.Kept.{rows_for};
 
 use crate::command::CommandWords;
-use crate::meaning::{OptionTexts, is_text, read_command};
+use crate::meaning::read_command;
 use crate::options::{Key, Mode};
+use crate::parsed::Parsed;
 use crate::settings::{Form, read_form};
 use clap::error::ErrorKind;
 use clap::{Arg, ArgAction, ArgMatches, Command, Error};
@@ -74,29 +74,6 @@ fn parse<'a>(alloc: Global, words: &'a [String], form: &Form) -> Result<ArgMatch
     ensures memory { IfErr result (λ e. kind_of e ≡ ErrorKind.OutOfMemory) }
 {
     floorplan(alloc)?.try_get_matches_from(words)
-}
-
-/// The options that clap found.
-#[derive(Clone, Copy)]
-pub struct Parsed<'b, 'a> {
-    options: &'b ArgMatches<'a>,
-}
-
-impl<'b, 'a> OptionTexts<'a> for Parsed<'b, 'a> {
-    ghost texts = { λ p. texts_in (rows_of (found_of p.options.now)) };
-
-    fn text(&self, key: Key) -> Option<&'a str> {
-        let text = self.options.get_str(key.text());
-        if key.is_flag() {
-            if is_text(text, "true") {
-                Some("")
-            } else {
-                None
-            }
-        } else {
-            text
-        }
-    }
 }
 
 /// What the words mean, those behind the name of the program: a command with its options and their

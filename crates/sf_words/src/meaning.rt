@@ -1,7 +1,8 @@
 //! What the texts of options mean: required options, formats, ranges and defaults.
-ghost use Rattle.std.specs.Prelude.{◌≡◌, ◌↔◌, List, Option, Some, IsTrue, IfSome, IfNone, option_map, codes};
+ghost use Rattle.std.specs.Prelude.{◌≡◌, List, Some, IfSome, IfNone, codes};
 ghost use Rattle.sf_words.specs.declared.options.Key.{Key};
 ghost use Rattle.sf_words.specs.Table.{Text};
+ghost use Rattle.sf_words.specs.Kept.{texts_of};
 ghost use Rattle.sf_words.specs.Meaning.{InputSays, DesignSays, WeightsSay, PlanSays, CheckSays};
 ghost use Rattle.sf_words.specs.Meaning.{MeasureSays, ShapeSays, KindsSay, GenSays};
 ghost use Rattle.sf_words.specs.Meaning.{Command, Says, Means, mode_of, IsReading};
@@ -14,32 +15,14 @@ use crate::command::{
 };
 use crate::options::{Key, Mode};
 use crate::outline::read_outline;
+use crate::parsed::{Parsed, is_text};
 use crate::ranges::{number, optional_number};
 use sf_lex::Scale;
 
-/// The texts that options have, whoever read them: what they mean is told apart from how they are found.
-pub trait OptionTexts<'a> {
-    ghost texts: { Self → Key → Option Text };
-
-    /// The text of an option, which is empty for a flag.
-    fn text(&self, key: Key) -> Option<&'a str>
-        ensures { option_map (λ s. s.now) result ≡ texts self.now key };
-}
-
-/// Whether the text is there and is this one.
-pub fn is_text(text: Option<&str>, other: &str) -> bool
-    ensures { IsTrue result ↔ (option_map (λ s. s.now) text.entry ≡ Some other.now) }
-{
-    match text {
-        None => false,
-        Some(text) => text == other,
-    }
-}
-
 /// Reads the files of a design in the format of GSRC.
-fn read_gsrc<'a, T: OptionTexts<'a>>(texts: &T) -> Option<InputFiles<'a>>
-    requires { T.texts texts.now Key.Format ≡ Some (codes "gsrc") }
-    ensures { IsReading (InputSays (T.texts texts.now)) input_seen result }
+fn read_gsrc<'a>(texts: &Parsed<'_, 'a>) -> Option<InputFiles<'a>>
+    requires { texts_of texts.now Key.Format ≡ Some (codes "gsrc") }
+    ensures { IsReading (InputSays (texts_of texts.now)) input_seen result }
 {
     if texts.text(Key::Yal).is_some() {
         return None;
@@ -53,9 +36,9 @@ fn read_gsrc<'a, T: OptionTexts<'a>>(texts: &T) -> Option<InputFiles<'a>>
 }
 
 /// Reads the file of a design in the format of MCNC.
-fn read_yal<'a, T: OptionTexts<'a>>(texts: &T) -> Option<InputFiles<'a>>
-    requires { T.texts texts.now Key.Format ≡ Some (codes "yal") }
-    ensures { IsReading (InputSays (T.texts texts.now)) input_seen result }
+fn read_yal<'a>(texts: &Parsed<'_, 'a>) -> Option<InputFiles<'a>>
+    requires { texts_of texts.now Key.Format ≡ Some (codes "yal") }
+    ensures { IsReading (InputSays (texts_of texts.now)) input_seen result }
 {
     if texts.text(Key::Blocks).is_some()
         || texts.text(Key::Nets).is_some()
@@ -68,8 +51,8 @@ fn read_yal<'a, T: OptionTexts<'a>>(texts: &T) -> Option<InputFiles<'a>>
 }
 
 /// The files that tell a design.
-fn read_input<'a, T: OptionTexts<'a>>(texts: &T) -> Option<InputFiles<'a>>
-    ensures { IsReading (InputSays (T.texts texts.now)) input_seen result }
+fn read_input<'a>(texts: &Parsed<'_, 'a>) -> Option<InputFiles<'a>>
+    ensures { IsReading (InputSays (texts_of texts.now)) input_seen result }
 {
     let format = texts.text(Key::Format);
     if is_text(format, "gsrc") {
@@ -83,8 +66,8 @@ fn read_input<'a, T: OptionTexts<'a>>(texts: &T) -> Option<InputFiles<'a>>
 
 /// The options that tell a design.
 #[tactic(auto, unfolding(crate::specs::Numbers::range))]
-fn read_design<'a, T: OptionTexts<'a>>(texts: &T) -> Option<DesignWords<'a>>
-    ensures { IsReading (DesignSays (T.texts texts.now)) design_seen result }
+fn read_design<'a>(texts: &Parsed<'_, 'a>) -> Option<DesignWords<'a>>
+    ensures { IsReading (DesignSays (texts_of texts.now)) design_seen result }
 {
     let input = read_input(texts)?;
     let per_unit = number(Key::PerUnit, texts.text(Key::PerUnit))?;
@@ -106,8 +89,8 @@ fn read_design<'a, T: OptionTexts<'a>>(texts: &T) -> Option<DesignWords<'a>>
 
 /// The options that tell what counts in a cost.
 #[tactic(auto, unfolding(crate::specs::Numbers::range))]
-fn read_weights<'a, T: OptionTexts<'a>>(texts: &T) -> Option<WeightWords<'a>>
-    ensures { IsReading (WeightsSay (T.texts texts.now)) weights_seen result }
+fn read_weights<'a>(texts: &Parsed<'_, 'a>) -> Option<WeightWords<'a>>
+    ensures { IsReading (WeightsSay (texts_of texts.now)) weights_seen result }
 {
     let area = number(Key::AreaWeight, texts.text(Key::AreaWeight))? as u16;
     let wire = number(Key::WireWeight, texts.text(Key::WireWeight))? as u16;
@@ -123,8 +106,8 @@ fn read_weights<'a, T: OptionTexts<'a>>(texts: &T) -> Option<WeightWords<'a>>
 
 /// The options of `plan`.
 #[tactic(auto, unfolding(crate::specs::Numbers::range))]
-fn read_plan<'a, T: OptionTexts<'a>>(texts: &T) -> Option<PlanWords<'a>>
-    ensures { IsReading (PlanSays (T.texts texts.now)) plan_seen result }
+fn read_plan<'a>(texts: &Parsed<'_, 'a>) -> Option<PlanWords<'a>>
+    ensures { IsReading (PlanSays (texts_of texts.now)) plan_seen result }
 {
     Some(PlanWords {
         design: read_design(texts)?,
@@ -137,8 +120,8 @@ fn read_plan<'a, T: OptionTexts<'a>>(texts: &T) -> Option<PlanWords<'a>>
 }
 
 /// The options of `check`.
-fn read_check<'a, T: OptionTexts<'a>>(texts: &T) -> Option<CheckWords<'a>>
-    ensures { IsReading (CheckSays (T.texts texts.now)) check_seen result }
+fn read_check<'a>(texts: &Parsed<'_, 'a>) -> Option<CheckWords<'a>>
+    ensures { IsReading (CheckSays (texts_of texts.now)) check_seen result }
 {
     Some(CheckWords {
         design: read_design(texts)?,
@@ -149,8 +132,8 @@ fn read_check<'a, T: OptionTexts<'a>>(texts: &T) -> Option<CheckWords<'a>>
 }
 
 /// The options of `measure`.
-fn read_measure<'a, T: OptionTexts<'a>>(texts: &T) -> Option<MeasureWords<'a>>
-    ensures { IsReading (MeasureSays (T.texts texts.now)) measure_seen result }
+fn read_measure<'a>(texts: &Parsed<'_, 'a>) -> Option<MeasureWords<'a>>
+    ensures { IsReading (MeasureSays (texts_of texts.now)) measure_seen result }
 {
     Some(MeasureWords {
         design: read_design(texts)?,
@@ -160,8 +143,8 @@ fn read_measure<'a, T: OptionTexts<'a>>(texts: &T) -> Option<MeasureWords<'a>>
 }
 
 /// The options of `shape`.
-fn read_shape<'a, T: OptionTexts<'a>>(texts: &T) -> Option<ShapeWords<'a>>
-    ensures { IsReading (ShapeSays (T.texts texts.now)) shape_seen result }
+fn read_shape<'a>(texts: &Parsed<'_, 'a>) -> Option<ShapeWords<'a>>
+    ensures { IsReading (ShapeSays (texts_of texts.now)) shape_seen result }
 {
     Some(ShapeWords {
         design: read_design(texts)?,
@@ -189,8 +172,8 @@ fn read_kinds(text: Option<&str>) -> Option<Kinds>
 
 /// The options of `gen`.
 #[tactic(auto, unfolding(crate::specs::Numbers::range))]
-fn read_gen<'a, T: OptionTexts<'a>>(texts: &T) -> Option<GenWords<'a>>
-    ensures { IsReading (GenSays (T.texts texts.now)) gen_seen result }
+fn read_gen<'a>(texts: &Parsed<'_, 'a>) -> Option<GenWords<'a>>
+    ensures { IsReading (GenSays (texts_of texts.now)) gen_seen result }
 {
     Some(GenWords {
         seed: number(Key::Seed, texts.text(Key::Seed))?,
@@ -202,10 +185,10 @@ fn read_gen<'a, T: OptionTexts<'a>>(texts: &T) -> Option<GenWords<'a>>
 }
 
 /// Reads the options of this command.
-pub fn read_command<'a, T: OptionTexts<'a>>(mode: Mode, texts: &T) -> Option<CommandWords<'a>>
+pub fn read_command<'a>(mode: Mode, texts: &Parsed<'_, 'a>) -> Option<CommandWords<'a>>
     ensures command { IfSome result (λ c. (mode_of (command_seen c) ≡ mode)
-        × Says (T.texts texts.now) (command_seen c)) }
-    ensures none { IfNone result ((c : Command) → mode_of c ≡ mode → Says (T.texts texts.now) c → ⊥) }
+        × Says (texts_of texts.now) (command_seen c)) }
+    ensures none { IfNone result ((c : Command) → mode_of c ≡ mode → Says (texts_of texts.now) c → ⊥) }
 {
     match mode {
         Mode::Plan => Some(CommandWords::Plan(read_plan(texts)?)),

@@ -4,11 +4,12 @@ use Rattle.clap.specs.Words.{found_of, rows_of}
 use Rattle.sf_words.specs.Table.{mode_text}
 use Rattle.sf_words.specs.Seen.{token_of, command_seen}
 use Rattle.sf_words.proofs.Lookup.{none_weaker}
-use Rattle.sf_words.specs.Kept.{rows_for}
+use Rattle.sf_words.specs.Kept.{rows_for, texts_of}
 use Rattle.sf_words.proofs.FoundMeaning.{rows_same, means, has_none}
 use Rattle.sf_words.proofs.line.read_words.Goals as goal
 
 pub returns-in-Some-subcommand-clause-means : goal.returns-in-Some-subcommand-clause-means
+unfolding texts_of
 returns-in-Some-subcommand-clause-means c =
     let words = map string_bytes c.args.words.now in
     let mode = c.in-Some.form.mode in
@@ -18,6 +19,7 @@ returns-in-Some-subcommand-clause-means c =
     IfSome_then c.read_command.result c.read_command.ensures.command (λ r h. means mode tokens words _ (command_seen r) form rows h.0 h.1)
 
 pub returns-in-Some-subcommand-clause-none : goal.returns-in-Some-subcommand-clause-none
+unfolding texts_of
 returns-in-Some-subcommand-clause-none c =
     let words = map string_bytes c.args.words.now in
     let mode = c.in-Some.form.mode in

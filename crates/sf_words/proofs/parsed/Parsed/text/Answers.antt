@@ -2,11 +2,12 @@ use Rattle.std.proofs.Common.{◌≡◌, ◌≢◌, ◌∙◌, sym, ap, codes, o
 use Rattle.clap.specs.Words.{found_of, first_of, rows_of, Text}
 use Rattle.clap.proofs.WalkLemmas.{first_value-rows}
 use Rattle.sf_words.specs.Table.{key_text}
-use Rattle.sf_words.specs.Kept.{flag_text}
+use Rattle.sf_words.specs.Kept.{flag_text, texts_of}
 use Rattle.sf_words.proofs.KeptTexts.{not_true, texts_in_value, texts_in_flag}
-use Rattle.sf_words.proofs.line.ParsedOptionTexts.text.Goals as goal
+use Rattle.sf_words.proofs.parsed.Parsed.text.Goals as goal
 
 pub returns-then-is_text : goal.returns-then-is_text
+unfolding texts_of
 returns-then-is_text c =
     let rows = rows_of (found_of c.args.self.now.options.now) in
     let text : option_map (λ s. s.now) c.get_str-text.result ≡ first_of (key_text c.args.key) rows = c.get_str-text.ensures ∙ (first_value-rows (found_of c.args.self.now.options.now) _ ∙ ap (λ (id : Text). first_of id rows) c.text.ensures) in
@@ -14,6 +15,7 @@ returns-then-is_text c =
     sym (texts_in_flag rows c.args.key (sym c.is_flag.ensures ∙ c.if-is_flag.true) (sym text) ∙ ap flag_text given)
 
 pub returns-else-is_text : goal.returns-else-is_text
+unfolding texts_of
 returns-else-is_text c =
     let rows = rows_of (found_of c.args.self.now.options.now) in
     let text : option_map (λ s. s.now) c.get_str-text.result ≡ first_of (key_text c.args.key) rows = c.get_str-text.ensures ∙ (first_value-rows (found_of c.args.self.now.options.now) _ ∙ ap (λ (id : Text). first_of id rows) c.text.ensures) in
@@ -21,6 +23,7 @@ returns-else-is_text c =
     sym (texts_in_flag rows c.args.key (sym c.is_flag.ensures ∙ c.if-is_flag.true) (sym text) ∙ not_true _ differs)
 
 pub returns-else-is_flag : goal.returns-else-is_flag
+unfolding texts_of
 returns-else-is_flag c =
     let rows = rows_of (found_of c.args.self.now.options.now) in
     let text : option_map (λ s. s.now) c.get_str-text.result ≡ first_of (key_text c.args.key) rows = c.get_str-text.ensures ∙ (first_value-rows (found_of c.args.self.now.options.now) _ ∙ ap (λ (id : Text). first_of id rows) c.text.ensures) in
