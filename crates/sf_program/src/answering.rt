@@ -1,6 +1,6 @@
 //! What is printed of a certificate: the answer of the checker, or the first fault of the text.
 
-ghost use Rattle.std.specs.Prelude.{◌≡◌, ◌∷◌, [], IfOk, codes, string_bytes};
+ghost use Rattle.std.specs.Prelude.{◌≡◌, ◌≢◌, ◌∷◌, [], IfOk, codes, string_bytes};
 ghost use Rattle.std.specs.Fmt.{decimal};
 ghost use Rattle.sf_model.specs.CostText.{cost_text};
 ghost use Rattle.sf_checker.specs.declared.answer.Answer.TheVariants as answers;
@@ -20,7 +20,8 @@ use std::alloc::{AllocError as NoMemory, Global};
 
 /// The first fault of the text of a certificate.
 pub fn cert_fault(alloc: Global, fault: CertFault) -> Result<Stop, NoMemory>
-    ensures { IfOk result (λ stop. Refuses stop (cert_refusal fault)) }
+    ensures refused { IfOk result (λ stop. Refuses stop (cert_refusal fault)) }
+    ensures real { IfOk result (λ stop. fault ≢ CertFault.NoMemory) }
 {
     match fault {
         CertFault::BadHeader(line) => bare_fault(alloc, "cert", line, "BadHeader"),

@@ -28,7 +28,6 @@ pub fn admit(alloc: Global, read: Weighed) -> Result<Weighed, Stop>
 {
     match read.parts.admit(alloc) {
         Ok(()) => Ok(read),
-        Err(BuildFault::NoMemory) => Err(Stop::NoMemory),
         Err(fault) => Err(build_fault(alloc, fault)?),
     }
 }
@@ -65,7 +64,6 @@ fn make_lists(alloc: Global, words: &DesignWords<'_>, parts: &Parts) -> Result<V
 {
     match lists(alloc, parts, words.shapes, words.is_fixed) {
         Ok(lists) => Ok(lists),
-        Err(BuildFault::NoMemory) => Err(Stop::NoMemory),
         Err(fault) => Err(build_fault(alloc, fault)?),
     }
 }

@@ -20,9 +20,8 @@ ghost use Rattle.sf_program.specs.Refusals.{gsrc_refusal, weight_refusal, yal_re
 use crate::refusals::{gsrc_fault, named_fault, weight_fault, yal_fault};
 use crate::stop::Stop;
 use sf_gsrc::{
-    GsrcBlocks, GsrcFault, GsrcNets, GsrcPlaces, JoinFault, WeightFault, blocks_have_sizes,
-    join_parts, joined_parts_keep_ranges, nets_name_their_pins, read_blocks, read_nets, read_pl,
-    read_weights,
+    GsrcBlocks, GsrcNets, GsrcPlaces, JoinFault, blocks_have_sizes, join_parts,
+    joined_parts_keep_ranges, nets_name_their_pins, read_blocks, read_nets, read_pl, read_weights,
 };
 use sf_lex::Scale;
 use sf_model::Parts;
@@ -39,7 +38,6 @@ pub fn parse_blocks(alloc: Global, text: &[u8], scale: Scale) -> Result<GsrcBloc
     blocks_have_sizes();
     match read_blocks(alloc, text, scale.per_unit) {
         Ok(blocks) => Ok(blocks),
-        Err(GsrcFault::NoMemory) => Err(Stop::NoMemory),
         Err(fault) => Err(gsrc_fault(alloc, "blocks", fault)?),
     }
 }
@@ -54,7 +52,6 @@ pub fn parse_nets(alloc: Global, text: &[u8]) -> Result<GsrcNets, Stop>
     nets_name_their_pins();
     match read_nets(alloc, text) {
         Ok(nets) => Ok(nets),
-        Err(GsrcFault::NoMemory) => Err(Stop::NoMemory),
         Err(fault) => Err(gsrc_fault(alloc, "nets", fault)?),
     }
 }
@@ -72,7 +69,6 @@ pub fn parse_places(
 {
     match read_pl(alloc, text, scale.per_unit) {
         Ok(places) => Ok(places),
-        Err(GsrcFault::NoMemory) => Err(Stop::NoMemory),
         Err(fault) => Err(gsrc_fault(alloc, source, fault)?),
     }
 }
@@ -86,7 +82,6 @@ pub fn parse_weights(alloc: Global, text: &[u8], nets: u64) -> Result<Vec<u8>, S
 {
     match read_weights(alloc, text, nets) {
         Ok(weights) => Ok(weights),
-        Err(WeightFault::NoMemory) => Err(Stop::NoMemory),
         Err(fault) => Err(weight_fault(alloc, fault)?),
     }
 }

@@ -100,7 +100,8 @@ fn number_fault(
 
 /// The first fault of a GSRC text of this kind.
 pub fn gsrc_fault(alloc: Global, source: &str, fault: GsrcFault) -> Result<Stop, NoMemory>
-    ensures { IfOk result (λ stop. Refuses stop (gsrc_refusal source.now fault)) }
+    ensures refused { IfOk result (λ stop. Refuses stop (gsrc_refusal source.now fault)) }
+    ensures real { IfOk result (λ stop. fault ≢ GsrcFault.NoMemory) }
 {
     match fault {
         GsrcFault::BadTitle(line) => bare_fault(alloc, source, line, "BadTitle"),
@@ -135,7 +136,8 @@ fn numbered_fault(
 
 /// The first fault of a weights file.
 pub fn weight_fault(alloc: Global, fault: WeightFault) -> Result<Stop, NoMemory>
-    ensures { IfOk result (λ stop. Refuses stop (weight_refusal fault)) }
+    ensures refused { IfOk result (λ stop. Refuses stop (weight_refusal fault)) }
+    ensures real { IfOk result (λ stop. fault ≢ WeightFault.NoMemory) }
 {
     match fault {
         WeightFault::BadLine(line) => bare_fault(alloc, "weights", line, "BadLine"),
@@ -193,7 +195,8 @@ pub fn named_fault(alloc: Global, fault: &str, name: &Name) -> Result<Stop, NoMe
 
 /// Why parts become no design.
 pub fn build_fault(alloc: Global, fault: BuildFault) -> Result<Stop, NoMemory>
-    ensures { IfOk result (λ stop. Refuses stop (build_refusal fault)) }
+    ensures refused { IfOk result (λ stop. Refuses stop (build_refusal fault)) }
+    ensures real { IfOk result (λ stop. fault ≢ BuildFault.NoMemory) }
 {
     match fault {
         BuildFault::DuplicateName(name) => named_fault(alloc, "DuplicateName", &name),

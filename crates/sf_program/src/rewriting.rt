@@ -18,7 +18,7 @@ use crate::plan_answer::stored_cert;
 use crate::stop::Stop;
 use crate::work::{Store, Work, no_stores};
 use sf_bounds::Standard;
-use sf_certificate::{Cert, CertFault, read};
+use sf_certificate::{Cert, read};
 use sf_checker::{Answer, check, name_parts};
 use sf_model::Design;
 use std::alloc::{AllocError as NoMemory, Global};
@@ -33,7 +33,6 @@ fn read_cert(alloc: Global, text: &[u8], design: &Design) -> Result<Cert, Stop>
 {
     match read(alloc, text, design.block_count()) {
         Ok(cert) => Ok(cert),
-        Err(CertFault::NoMemory) => Err(Stop::NoMemory),
         Err(fault) => Err(cert_fault(alloc, fault)?),
     }
 }

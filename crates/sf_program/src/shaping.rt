@@ -1,6 +1,6 @@
 //! The command `shape`: the shape curve of an expression.
 
-ghost use Rattle.std.specs.Prelude.{◌≡◌, ◌++◌, IfOk, OnOk, string_bytes};
+ghost use Rattle.std.specs.Prelude.{◌≡◌, ◌≢◌, ◌++◌, IfOk, OnOk, string_bytes};
 ghost use Rattle.std.specs.List.{flat_map};
 ghost use Rattle.sf_curves.specs.Choices.{IsRootCurve};
 ghost use Rattle.sf_model.specs.Legal.{block_count};
@@ -32,7 +32,8 @@ use std::alloc::{AllocError as NoMemory, Global};
 
 /// The first fault of the text of an expression.
 fn expr_fault(alloc: Global, fault: ExprFault) -> Result<Stop, NoMemory>
-    ensures { IfOk result (λ stop. Refuses stop (expr_refusal fault)) }
+    ensures real { IfOk result (λ stop. fault ≢ ExprFault.NoMemory) }
+    ensures refused { IfOk result (λ stop. Refuses stop (expr_refusal fault)) }
 {
     match fault {
         ExprFault::BadToken(line) => bare_fault(alloc, "expr", line, "BadToken"),
@@ -53,7 +54,6 @@ fn parse_tokens(alloc: Global, text: &[u8], design: &Design) -> Result<Vec<Token
 {
     match read_tokens(alloc, text, design.block_count()) {
         Ok(tokens) => Ok(tokens),
-        Err(ExprFault::NoMemory) => Err(Stop::NoMemory),
         Err(fault) => Err(expr_fault(alloc, fault)?),
     }
 }

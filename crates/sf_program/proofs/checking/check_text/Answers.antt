@@ -16,4 +16,4 @@ returns-in_ok-cert_fault-in-Err-Text-clause-refused c =
     let text = c.args.text.now in
     let fed = c.in_ok-feed_text.ensures design [] c.in_ok-checking.ensures in
     cert-stops (cert_read (block_count design) text) c.in-Err-Text.fault c.in_ok-cert_fault-in-Err-Text.field-0
-    (c.in-Err-Text.ensures.fault design (standard design) (part_value design) text c.in-Err-Text.fault fed (ap Err c.in-Err-Text.field-0-is)) c.in_ok-cert_fault-in-Err-Text.ensures
+    (c.in-Err-Text.ensures.fault design (standard design) (part_value design) text c.in-Err-Text.fault fed (ap Err c.in-Err-Text.field-0-is)) c.in_ok-cert_fault-in-Err-Text.ensures.refused
