@@ -15,7 +15,7 @@ use crate::wire_parts::{self, WireParts};
 use crate::wires_by::{all_wires, wires_by};
 use sf_model::{Design, MAX};
 use sf_node::{Node, Part, PartValues};
-use sf_standard::laws::{standard_is_open, wires_are_bounded};
+use sf_standard::{standard_is_open, wires_are_bounded};
 use std::alloc::AllocError as NoMemory;
 
 /// What wires cost that take so much at least.

@@ -19,9 +19,9 @@ use sf_certificate::{first_parts_are_one, full_parts_close};
 use sf_curves::traces_are_one;
 use sf_model::designs_are_determined;
 use sf_place::verdicts_are_one;
-use sf_rounds::laws::certificates_are_one;
+use sf_rounds::certificates_are_one;
 use sf_soft_shapes::lists_are_determined;
-use sf_standard::laws::parts_are_below;
+use sf_standard::parts_are_below;
 
 /// On a shelf that tells what it holds, the named files stand for at most one design, or are refused for at
 /// most one reason, and never both; a file is lost beside that only where any load may fail. The design has

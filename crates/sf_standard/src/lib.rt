@@ -5,7 +5,11 @@
 //! `sf_node` and holds no code that measures; `sf_bounds` above computes it.
 #![tactic(auto)]
 
-pub mod hull;
-pub mod laws;
+mod hull;
+mod laws;
 
 pub use hull::{Extent, Interval, Offset};
+pub use laws::{
+    areas_are_all, blocks_keep_values, parts_are_below, standard_is_lawful, standard_is_open,
+    wires_are_bounded,
+};
