@@ -51,7 +51,7 @@ pub fn certify<R: Threads + Sync, B: Bounds>(
     let piles = piles_of(alloc, entries, left)?;
     let tags = tags_in_order(rt, alloc, design, bounds, cost, piles, threads)?;
     let tags = TagList::from_vec(tags);
-    let blocks = design.blocks.as_slice().len() as u16;
+    let blocks = design.block_count();
     Ok(Cert {
         blocks,
         plan,

@@ -186,7 +186,7 @@ fn decide_least<'a, B: Bounds>(
 
 /// How many decisions a chain has that comes to a plan: one for each token.
 fn chain(design: &Design) -> u64 {
-    (design.blocks.as_slice().len() as u64).saturating_mul(2)
+    u64::from(design.block_count()).saturating_mul(2)
 }
 
 /// How many subproblems a worker may decide in the next round, after so many. The first rounds are short, so

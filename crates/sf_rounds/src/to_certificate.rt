@@ -46,18 +46,17 @@ pub fn search<R: Threads + Sync, B: Bounds, G: Gate>(
     options: SearchOptions,
     gate: &G,
 ) -> Result<Found, NoMemory>
-    ensures found { IfOk result (IsFound design.now (B.Values.value bounds.now design.now)
-        (B.part_value bounds.now design.now) options.nodes) }
+    ensures found { let value = B.Values.value bounds.now design.now in
+        IfOk result (IsFound design.now value (B.part_value bounds.now design.now) options.nodes) }
 
     // With one worker it is a function of the design and the budget: the state after so many turns of the
     // core, and in it the plan that was found first of those that cost the word.
-    ensures run { IfOk result (λ found. options.workers ≡ 1
-        → IsCertOf design.now
-        (turns design.now (B.Values.value bounds.now design.now) options.nodes
-        (opening design.now (B.Values.value bounds.now design.now) 1)) found.cert) }
-    ensures accepted { IfOk result (λ found. options.workers ≡ 1
-        → TurnsAreAccepted design.now (B.Values.value bounds.now design.now) options.nodes
-        (opening design.now (B.Values.value bounds.now design.now) 1)) }
+    ensures run { let value = B.Values.value bounds.now design.now in
+        IfOk result (λ found. options.workers ≡ 1 → IsCertOf design.now
+        (turns design.now value options.nodes (opening design.now value 1)) found.cert) }
+    ensures accepted { let value = B.Values.value bounds.now design.now in
+        IfOk result (λ found. options.workers ≡ 1
+        → TurnsAreAccepted design.now value options.nodes (opening design.now value 1)) }
 {
     let SearchOptions { workers, nodes } = options;
     if workers >= 2 && workers <= 16 {
@@ -76,15 +75,14 @@ fn alone<B: Bounds, G: Gate>(
     nodes: u64,
     gate: &G,
 ) -> Result<Found, NoMemory>
-    ensures found { IfOk result (IsFound design.now (B.Values.value bounds.now design.now)
-        (B.part_value bounds.now design.now) nodes) }
-    ensures run { IfOk result
-        (λ found. IsCertOf design.now
-        (turns design.now (B.Values.value bounds.now design.now) nodes
-        (opening design.now (B.Values.value bounds.now design.now) 1)) found.cert) }
-    ensures accepted { IfOk result
-        (λ found. TurnsAreAccepted design.now (B.Values.value bounds.now design.now) nodes
-        (opening design.now (B.Values.value bounds.now design.now) 1)) }
+    ensures found { let value = B.Values.value bounds.now design.now in
+        IfOk result (IsFound design.now value (B.part_value bounds.now design.now) nodes) }
+    ensures run { let value = B.Values.value bounds.now design.now in
+        IfOk result (λ found. IsCertOf design.now
+        (turns design.now value nodes (opening design.now value 1)) found.cert) }
+    ensures accepted { let value = B.Values.value bounds.now design.now in
+        IfOk result (λ found.
+        TurnsAreAccepted design.now value nodes (opening design.now value 1)) }
 {
     let mut room = Room::new(alloc);
     let mut walk = search_walk(alloc, design, bounds, nodes, gate, &mut room)?;
@@ -93,7 +91,7 @@ fn alone<B: Bounds, G: Gate>(
     let plan = copy_plan(alloc, walk.best())?;
     let bound = walk.leave_open(design, bounds, &mut room)?;
     let (tags, best) = walk.into_named();
-    let blocks = design.blocks.as_slice().len() as u16;
+    let blocks = design.block_count();
     let tags = TagList::from_vec(tags);
     let cert = Cert {
         blocks,

@@ -52,7 +52,7 @@ invariant_of-result g c =
     let parts = (g.met.B.Bounds g.world.𝓛 g.world.𝓜 g.world.𝓡 ((λ s x. x), (λ x. x), (λ x. x), λ x. x)).parts_below c.args.bounds.now design in
     record {
       form = shared-form design bound part parts c.args.entries c.args.left.items c.args.plan c.args.cost c.requires.outcome _ c.in_ok-tags.tags.items c.in_ok-piles.ensures c.in_ok-tags.ensures.in_order
-          (length c.as_slice.result.now) c.from_vec-tags.result (ap length c.as_slice.ensures) c.from_vec-tags.ensures;
+          c.block_count-blocks.result c.from_vec-tags.result c.block_count-blocks.ensures c.from_vec-tags.ensures;
     }
 
 pub returns : goal.returns
@@ -63,4 +63,4 @@ returns g c =
     let parts = (g.met.B.Bounds g.world.𝓛 g.world.𝓜 g.world.𝓡 ((λ s x. x), (λ x. x), (λ x. x), λ x. x)).parts_below c.args.bounds.now design in
     let low = c.least_bound-bound.ensures.least ∙ ap (λ (ts : List Task). least c.args.cost (map (λ t. t.bound) ts)) c.deref.ensures.value in
     shared-out design bound part parts c.args.entries c.args.left.items c.args.plan c.args.cost c.requires.outcome _ c.in_ok-tags.tags.items c.in_ok-piles.ensures c.in_ok-tags.ensures.in_order
-    _ c.from_vec-tags.ensures refl refl low (ap length c.as_slice.ensures)
+    _ c.from_vec-tags.ensures refl refl low c.block_count-blocks.ensures

@@ -1,4 +1,4 @@
-use Rattle.std.proofs.Common.{ap, refl, rules, sym, ◌∙◌, arith, length, map}
+use Rattle.std.proofs.Common.{refl, rules, sym, ◌∙◌, arith, map}
 use Rattle.sf_search_core.specs.Outcome.{opening}
 use Rattle.sf_certificate.specs.Named.{unnamed}
 use Rattle.sf_rounds.specs.Turns.{turns}
@@ -18,7 +18,7 @@ invariant_of-cert g c =
     let low = c.in_ok-bound.ensures.left in
     let tags = c.from_vec-tags.ensures ∙ c.into_named-tags.ensures.tags ∙ same-renamed low.word low.tags low.kept in
     let plan = c.into_named-tags.ensures.best ∙ low.best in
-    record { form = form-is design bound part parts state walk b c.word-cost.result c.in_ok-bound.bound c.from_vec-tags.result c.into_named-tags.result.1 c.word-cost.ensures low.low_is tags plan (length c.as_slice.result.now) (ap length c.as_slice.ensures) }
+    record { form = form-is design bound part parts state walk b c.word-cost.result c.in_ok-bound.bound c.from_vec-tags.result c.into_named-tags.result.1 c.word-cost.ensures low.low_is tags plan c.block_count-blocks.result c.block_count-blocks.ensures }
 
 pub returns : goal.returns
 returns g c =
@@ -41,7 +41,7 @@ returns g c =
           tree = tree-is design bound part parts state walk b c.word-cost.result c.in_ok-bound.bound c.from_vec-tags.result c.into_named-tags.result.1 c.word-cost.ensures low.low_is tags plan kept;
           stated = low-is design bound part parts state walk b c.word-cost.result c.in_ok-bound.bound c.from_vec-tags.result c.into_named-tags.result.1 c.word-cost.ensures low.low_is tags plan;
         };
-        blocks = ap length c.as_slice.ensures;
+        blocks = c.block_count-blocks.ensures;
         plan_is = search rules;
         cost_is = refl;
         bound_is = refl;
