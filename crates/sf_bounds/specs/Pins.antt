@@ -4,7 +4,7 @@ use Rattle.sf_model.specs.declared.design.Design.{Design}
 use Rattle.sf_model.specs.declared.parts.Pin.{Pin}
 use Rattle.sf_model.specs.declared.parts.Pin.TheVariants as pin
 use Rattle.sf_model.specs.Legal.{block_count}
-use Rattle.sf_model.specs.Limits.{pin_number, pin_count}
+use Rattle.sf_model.specs.Limits.{IsThere}
 use Rattle.sf_model.specs.Wire.{pad_at}
 use Rattle.sf_node.specs.Parts.{Parts}
 use Rattle.sf_standard.specs.declared.hull.Extent.{Extent}
@@ -20,7 +20,7 @@ use Rattle.sf_bounds.specs.Ends.{IsFitReach, met, anywhere, reach_gap}
 
 -- the blocks and pads of a net are there
 abbrev pub IsNet : Design → List Pin → Type 0
-IsNet design pins = All (λ p. pin_number p < pin_count (length design.blocks) (length design.pads) p) pins
+IsNet design pins = All (IsThere (length design.blocks) (length design.pads)) pins
 
 -- the extent of a block by its number in a list
 abbrev pub extent_from : List Extent → ℕ → Extent

@@ -80,7 +80,7 @@ pub fn fill_extents(extents: &mut Vec<Extent>, design: &Design, node: &Node) -> 
         (Tells (extent_in design.now node.now) (length design.now.blocks) extents.new.items) }
 {
     extents.clear();
-    for block in 0..design.blocks.as_slice().len() as u16 {
+    for block in 0..design.block_count() {
         extents.push(block_extent(design, node, block))?;
     }
     Ok(())

@@ -1,7 +1,7 @@
 //! How far the pins of a net lie apart in the items of an incomplete subproblem.
 
 ghost use Rattle.std.specs.Prelude.{◌≡◌, ◌<◌, ◌≤◌, ℕ, length, All, IfSome, slice_index_or, fold, max, false};
-ghost use Rattle.sf_model.specs.Limits.{pin_number, pin_count};
+ghost use Rattle.sf_model.specs.Limits.{IsThere};
 ghost use Rattle.sf_bounds.specs.Pins.{IsNet, IsReady};
 ghost use Rattle.sf_bounds.specs.Pins.{pin_home, narrowed_in, home_gap, shared_in, greatest_gap};
 ghost use Rattle.sf_bounds.specs.Ends.{anywhere, IsFitReach};
@@ -14,7 +14,7 @@ use sf_model::{Design, Pin};
 /// The home of a pin in an incomplete subproblem, where pads have none.
 fn block_home(design: &Design, table: &[Standing], pin: Pin) -> Option<Home>
     requires table { length table.now ≡ length design.now.blocks }
-    requires inside { pin_number pin < pin_count (length design.now.blocks) (length design.now.pads) pin }
+    requires inside { IsThere (length design.now.blocks) (length design.now.pads) pin }
     ensures { result ≡ pin_home design.now table.now false pin }
 {
     match pin {

@@ -62,7 +62,7 @@ fn fill(kept: &mut Option<Nets>, scratch: &mut Scratch, design: &Design) -> Resu
     ensures kept { AreKeptOrNone design.now kept.new }
     ensures some { IfOk result (λ fits. fits ≡ true → is_some kept.new ≡ true) }
 {
-    if design.nets.as_slice().len() * (2 * design.blocks.as_slice().len()) > MOST_CELLS {
+    if design.nets.as_slice().len() * (2 * usize::from(design.block_count())) > MOST_CELLS {
         return Ok(false);
     }
     if kept.is_none() {

@@ -1,8 +1,8 @@
 //! What is kept of the nets before any token.
 
-ghost use Rattle.std.specs.Prelude.{◌≡◌, ◌<◌, ◌≤◌, ◌+◌, ◌*◌, ◌++◌, ◌∷◌, [], length, map, All, IfOk};
+ghost use Rattle.std.specs.Prelude.{◌≡◌, ◌≤◌, ◌+◌, ◌*◌, ◌++◌, ◌∷◌, [], length, map, All, IfOk};
 ghost use Rattle.sf_model.specs.Legal.{block_count};
-ghost use Rattle.sf_model.specs.Limits.{pin_number, pin_count};
+ghost use Rattle.sf_model.specs.Limits.{IsThere};
 ghost use Rattle.sf_node.specs.Subproblem.{root};
 ghost use Rattle.sf_standard.specs.Hull.{contains_pin};
 ghost use Rattle.sf_standard.specs.Standard.{weighed_part, wire_part};
@@ -126,7 +126,7 @@ fn push_block_rows(
         AreBlockRows design.now (block_count design.now) cells.new.items blocks.items) }
 {
     let mut blocks = Vec::new(alloc);
-    for block in 0..design.blocks.as_slice().len() as u16 {
+    for block in 0..design.block_count() {
         let extent = extents[usize::from(block)];
         let row = cells.len();
         push_block_row(cells, design, block, extent)?;
@@ -137,7 +137,7 @@ fn push_block_rows(
 
 /// A reach narrowed by a pin, where that is a pad.
 fn with_pad(reach: Reach, design: &Design, pin: Pin) -> Reach
-    requires { pin_number pin < pin_count (length design.now.blocks) (length design.now.pads) pin }
+    requires { IsThere (length design.now.blocks) (length design.now.pads) pin }
     ensures { result ≡ with_pad design.now reach pin }
 {
     match pin {

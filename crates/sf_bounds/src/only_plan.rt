@@ -1,18 +1,16 @@
 //! The one plan of a complete subproblem whose spans have one place each.
 
-ghost use Rattle.std.specs.Prelude.{◌≡◌, ◌<◌, ◌↔◌, length, not, slice_index_or, IfOk, IsTrue};
+ghost use Rattle.std.specs.Prelude.{◌≡◌, ◌<◌, length, not, slice_index_or, IfOk, IsTrue};
 ghost use Rattle.std.specs.List.{list_all};
-ghost use Rattle.sf_model.specs.Legal.{IsLegal, Fits};
-ghost use Rattle.sf_model.specs.Tree.{tree_of};
 ghost use Rattle.sf_node.specs.Children.{IsSubproblem};
 ghost use Rattle.sf_node.specs.Subproblem.{is_complete, is_wide};
 ghost use Rattle.sf_bounds.specs.Cheapest.{IsSolution};
 ghost use Rattle.sf_bounds.specs.Layout.{Tells};
 ghost use Rattle.sf_bounds.specs.Only.{first_shape};
 
-use sf_model::{Design, Plan, Shape, Shapes};
+use sf_model::{Design, Shape, Shapes};
 use sf_node::Node;
-use sf_place::size;
+use sf_place::fits;
 use sf_polish::{Expr, Tokens, plan_of};
 use sf_wire::cost;
 use std::alloc::{AllocError as NoMemory, Global};
@@ -42,7 +40,7 @@ fn first_shapes(alloc: Global, design: &Design, node: &Node) -> Result<Vec<Shape
     ensures { IfOk result (λ v. Tells (first_shape design.now node.now) (length design.now.blocks) v.items) }
 {
     let mut shapes = Vec::new(alloc);
-    for block in 0..design.blocks.as_slice().len() as u16 {
+    for block in 0..design.block_count() {
         shapes.push(first_shape(design, node, block))?;
     }
     Ok(shapes)
@@ -63,15 +61,6 @@ fn first_expr(alloc: Global, design: &Design, node: &Node) -> Result<Expr, NoMem
     })
 }
 
-/// Whether a plan lies in the outline.
-fn fits(design: &Design, plan: &Plan) -> bool
-    requires { IsLegal design.now (tree_of plan.now) }
-    ensures { IsTrue result ↔ Fits design.now.outline (tree_of plan.now) }
-{
-    let (w, h) = size(plan);
-    w <= u64::from(design.outline.w) && h <= u64::from(design.outline.h)
-}
-
 /// The one plan of a complete subproblem whose spans are all single, where it fits, and its cost.
 pub fn only_plan(
     alloc: Global,
@@ -85,7 +74,7 @@ pub fn only_plan(
 {
     let expr = first_expr(alloc, design, node)?;
     let plan = plan_of(alloc, &expr)?;
-    if !fits(design, &plan) {
+    if !fits(design.outline, &plan) {
         return Ok(None);
     }
     let cost = cost(alloc, design, &plan)?;

@@ -1,7 +1,7 @@
 //! What the pins of a net add to its range, its pair and its hull.
 
 ghost use Rattle.std.specs.Prelude.{◌≡◌, ◌<◌, ◌≤◌, length, All, IfSome, max, true, false};
-ghost use Rattle.sf_model.specs.Limits.{pin_number, pin_count};
+ghost use Rattle.sf_model.specs.Limits.{IsThere};
 ghost use Rattle.sf_bounds.specs.Ends.{IsFitReach, reach_gap};
 ghost use Rattle.sf_bounds.specs.Open.{AreAtMost};
 ghost use Rattle.sf_bounds.specs.Pins.{IsNet, IsReady, IsReadable, pad_reach, pin_range, pin_home};
@@ -44,7 +44,7 @@ pub fn pad_reach(design: &Design, pad: u16) -> Reach
 #[inline(always)]
 fn pin_range(design: &Design, table: &[Standing], pin: Pin) -> Reach
     requires table { length table.now ≡ length design.now.blocks }
-    requires inside { pin_number pin < pin_count (length design.now.blocks) (length design.now.pads) pin }
+    requires inside { IsThere (length design.now.blocks) (length design.now.pads) pin }
     ensures { result ≡ pin_range design.now table.now pin }
 {
     match pin {
@@ -75,7 +75,7 @@ fn with_side(pair: Pair, side: u64) -> Pair
 #[inline(always)]
 fn pair_pin(pair: Pair, design: &Design, table: &[Standing], pin: Pin) -> Pair
     requires table { length table.now ≡ length design.now.blocks }
-    requires inside { pin_number pin < pin_count (length design.now.blocks) (length design.now.pads) pin }
+    requires inside { IsThere (length design.now.blocks) (length design.now.pads) pin }
     requires sides { All (λ s. s.side ≤ MOST_SIDE) table.now }
     requires most { IfSome pair.most (λ most. most ≤ MOST_SIDE) }
     ensures { result ≡ pairs_pin table.now pair pin }
@@ -90,7 +90,7 @@ fn pair_pin(pair: Pair, design: &Design, table: &[Standing], pin: Pin) -> Pair
 #[inline(always)]
 fn hull_pin(reach: Reach, design: &Design, table: &[Standing], pin: Pin) -> Reach
     requires table { length table.now ≡ length design.now.blocks }
-    requires inside { pin_number pin < pin_count (length design.now.blocks) (length design.now.pads) pin }
+    requires inside { IsThere (length design.now.blocks) (length design.now.pads) pin }
     ensures { result ≡ narrowed reach (pin_home design.now table.now true pin) }
 {
     match pin {

@@ -1,4 +1,4 @@
-use Rattle.std.proofs.Common.{◌<◌, length, get_or, ap, ◌∙◌, arith}
+use Rattle.std.proofs.Common.{◌<◌, get_or, ap, ◌∙◌, arith}
 use Rattle.sf_model.specs.Legal.{block_count}
 use Rattle.sf_standard.specs.declared.hull.Extent.{Extent}
 use Rattle.sf_bounds.proofs.NetStarted.{block-more}
@@ -9,7 +9,7 @@ loop-block-preserved c =
     let D = c.args.design.now in
     let b = c.loop-block.block in
     let none : Extent = record { least_w = 0; most_w = 0; least_h = 0; most_h = 0 } in
-    let lt : b < block_count D = omega (arith, c.loop-block-test.true, ap length c.as_slice.ensures, D.limits.few_blocks) in
+    let lt : b < block_count D = omega (arith, c.loop-block-test.true, c.block_count-block-end.ensures) in
     block-more D b c.loop-block.cells.items c.push_block_row.new.cells.items c.loop-block.blocks.items c.push.new.self.items _ c.loop-block.invariant lt
     (ap (λ i. get_or c.args.extents.now i none) c.from.ensures ∙ c.requires.extents.each b none lt)
     (omega (arith, c.len-row.ensures)) c.in_ok-push_block_row.ensures c.in_ok-push.ensures.items

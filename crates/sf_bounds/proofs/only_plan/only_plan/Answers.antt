@@ -5,7 +5,7 @@ use Rattle.sf_model.specs.Tree.{tree_of}
 use Rattle.sf_polish.specs.Normal.{IsNormal}
 use Rattle.sf_node.proofs.Normalised.{complete-normal}
 use Rattle.sf_node.proofs.Reached.{subproblem-spans}
-use Rattle.sf_bounds.proofs.OnlyPlan.{alone}
+use Rattle.sf_bounds.proofs.OnlyPlan.{alone, few-leaves, has-sides}
 use Rattle.sf_bounds.proofs.only_plan.only_plan.Goals as goal
 
 pub plan_of-requires : goal.plan_of-requires
@@ -13,9 +13,15 @@ plan_of-requires c =
     let normal = complete-normal c.args.design.now c.args.node.now c.requires.subproblem (subproblem-spans c.args.design.now c.args.node.now c.requires.subproblem) c.requires.complete in
     record { normal = subst (λ n. IsNormal n c.in_ok-expr.expr.tokens) (sym c.in_ok-expr.ensures.shapes.count) (subst (IsNormal (block_count c.args.design.now)) (sym c.in_ok-expr.ensures.tokens) normal) }
 
-pub fits-requires : goal.fits-requires
-fits-requires c =
-    (alone c.args.design.now c.args.node.now c.in_ok-expr.expr (tree_of c.in_ok-plan.plan) c.requires.subproblem c.requires.complete c.in_ok-expr.ensures.tokens c.in_ok-expr.ensures.shapes c.in_ok-plan.ensures.spelled c.requires.single c.in_ok-plan.ensures.skewed).belongs.legal
+pub fits-requires-clause-few : goal.fits-requires-clause-few
+fits-requires-clause-few c =
+    let k = alone c.args.design.now c.args.node.now c.in_ok-expr.expr (tree_of c.in_ok-plan.plan) c.requires.subproblem c.requires.complete c.in_ok-expr.ensures.tokens c.in_ok-expr.ensures.shapes c.in_ok-plan.ensures.spelled c.requires.single c.in_ok-plan.ensures.skewed in
+    few-leaves c.args.design.now (tree_of c.in_ok-plan.plan) k.belongs.legal
+
+pub fits-requires-clause-sides : goal.fits-requires-clause-sides
+fits-requires-clause-sides c =
+    let k = alone c.args.design.now c.args.node.now c.in_ok-expr.expr (tree_of c.in_ok-plan.plan) c.requires.subproblem c.requires.complete c.in_ok-expr.ensures.tokens c.in_ok-expr.ensures.shapes c.in_ok-plan.ensures.spelled c.requires.single c.in_ok-plan.ensures.skewed in
+    has-sides c.args.design.now (tree_of c.in_ok-plan.plan) k.belongs.legal
 
 pub cost-requires-clause-legal : goal.cost-requires-clause-legal
 cost-requires-clause-legal c =
