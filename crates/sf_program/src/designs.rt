@@ -14,7 +14,6 @@ use crate::refusals::build_fault;
 use crate::stop::Stop;
 use crate::weighed::Weighed;
 use sf_io::Shelf;
-use sf_lex::Scale;
 use sf_model::{BuildFault, Design, Outline, Parts, Shapes, Weights};
 use sf_soft_shapes::lists;
 use sf_words::{DesignWords, WeightWords};
@@ -46,10 +45,7 @@ pub fn read_admitted<S: Shelf>(
     ensures sizes { IfOk result (λ read. HasSizes read.parts) }
     ensures shelf { ReadsShelf (S.seen shelf.old) (S.seen shelf.new) result }
 {
-    let scale = Scale {
-        per_unit: words.per_unit,
-    };
-    let read = read_parts(alloc, shelf, scale, words.input, weights.net_weights)?;
+    let read = read_parts(alloc, shelf, words.scale, words.input, weights.net_weights)?;
     admit(alloc, read)
 }
 

@@ -154,7 +154,7 @@ fn made_design(alloc: Global, words: &GenWords<'_>, parts: Parts) -> Result<Desi
             nets: None,
             pl: None,
         },
-        per_unit: 1,
+        scale: Scale { per_unit: 1 },
         is_fixed: false,
         shapes: 16,
         width: MOST_SIDE as u32,

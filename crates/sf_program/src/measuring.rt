@@ -19,7 +19,6 @@ use crate::reading::read_places_file;
 use crate::stop::Stop;
 use crate::work::Work;
 use sf_io::{Shelf, Status};
-use sf_lex::Scale;
 use sf_model::{Design, Spot};
 use sf_place::{Verdict, check_spots};
 use sf_wire::{spots_cost, spots_size, wire};
@@ -40,10 +39,7 @@ fn read_spots<S: Shelf>(
     ensures near { IfOk result (λ v. All HasNearCorner v.items) }
     ensures shelf { ReadsShelf (S.seen shelf.old) (S.seen shelf.new) result }
 {
-    let scale = Scale {
-        per_unit: words.design.per_unit,
-    };
-    let file = read_places_file(alloc, shelf, "placed", scale, words.placed)?;
+    let file = read_places_file(alloc, shelf, "placed", words.design.scale, words.placed)?;
     place_blocks(alloc, design.blocks.as_slice(), file.places.as_slice())
 }
 

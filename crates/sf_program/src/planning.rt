@@ -94,7 +94,7 @@ pub fn plan<R: Threads + Sync, S: Shelf, G: Gate>(
     shelf: &mut S,
     gate: &G,
 ) -> Result<Work, Stop>
-    requires scale { IsScale words.now.design.per_unit }
+    requires scale { IsScale words.now.design.scale.per_unit }
     ensures answer { Obeys (plan (plan_seen words.now)) (S.seen shelf.old).holds result }
     ensures shelf { ReadsShelf (S.seen shelf.old) (S.seen shelf.new) result }
 {
@@ -102,7 +102,7 @@ pub fn plan<R: Threads + Sync, S: Shelf, G: Gate>(
     let names = Names {
         cert: words.cert,
         pl: words.pl_out,
-        scale: words.design.per_unit,
+        scale: words.design.scale.per_unit,
     };
     let work = search_design(rt, alloc, &design, words.nodes, words.workers, names, gate)?;
     Ok(work)

@@ -189,7 +189,7 @@ fn values_of_plan(rt: HostRuntime) -> Result<(), Fail> {
         (1, 0, 1)
     );
     assert!(rt; read.weights.net_weights.is_none());
-    assert_eq!(rt; (read.design.per_unit, read.design.shapes), (1, 16));
+    assert_eq!(rt; (read.design.scale.per_unit, read.design.shapes), (1, 16));
     assert_eq!(rt;
         (read.design.width, read.design.height),
         (1_048_576, 1_048_576)

@@ -35,7 +35,7 @@ input_seen (Yal file) = yal file.now
 
 -- the options of a design
 abbrev pub design_seen : DesignWords → DesignOptions
-design_seen o = record { input = input_seen o.input; per_unit = o.per_unit; is_fixed = o.is_fixed; shapes = o.shapes; width = o.width; height = o.height }
+design_seen o = record { input = input_seen o.input; per_unit = o.scale.per_unit; is_fixed = o.is_fixed; shapes = o.shapes; width = o.width; height = o.height }
 
 -- the options of the weights
 abbrev pub weights_seen : WeightWords → WeightOptions

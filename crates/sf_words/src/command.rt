@@ -2,6 +2,8 @@
 ghost use Rattle.std.specs.Prelude.{◌+◌, ◌^◌, ◌<◌, ◌≤◌};
 ghost use Rattle.std.specs.Option.{ForSome};
 
+use sf_lex::Scale;
+
 /// The files that tell a design, by the format that was chosen.
 #[derive(Clone, Copy, Debug)]
 pub enum InputFiles<'a> {
@@ -22,7 +24,7 @@ pub enum InputFiles<'a> {
 pub struct DesignWords<'a> {
     pub input: InputFiles<'a>,
     /// How many scaled units one unit of the file is: 1, 10, 100 or 1000.
-    pub per_unit: u64,
+    pub scale: Scale,
     /// Whether a hard block keeps its given sides, and isn't turned.
     pub is_fixed: bool,
     /// The greatest number of shapes of a block.
@@ -31,8 +33,6 @@ pub struct DesignWords<'a> {
     pub width: u32,
     /// The outline's height in scaled units.
     pub height: u32,
-    ghost unit_low: { 1 ≤ per_unit },
-    ghost unit_high: { per_unit ≤ 1000 },
     ghost shapes_low: { 2 ≤ shapes },
     ghost shapes_high: { shapes ≤ 256 },
     ghost width_low: { 1 ≤ width },

@@ -76,10 +76,11 @@ fn read_design<'a>(texts: &Parsed<'_, 'a>) -> Option<DesignWords<'a>>
     }
     let is_fixed = texts.text(Key::Fixed).is_some();
     let shapes = number(Key::Shapes, texts.text(Key::Shapes))? as u16;
-    let (width, height) = read_outline(texts.text(Key::Outline), Scale { per_unit })?;
+    let scale = Scale { per_unit };
+    let (width, height) = read_outline(texts.text(Key::Outline), scale)?;
     Some(DesignWords {
         input,
-        per_unit,
+        scale,
         is_fixed,
         shapes,
         width,

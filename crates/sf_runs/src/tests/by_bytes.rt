@@ -74,7 +74,7 @@ fn parts_of(alloc: Global, shelf: &mut MemShelf, words: &DesignWords<'_>) -> Res
     ensures pins { IfOk result HasPinsInRange }
     ensures sizes { IfOk result HasSizes }
 {
-    let scale = words.per_unit;
+    let scale = words.scale.per_unit;
     match words.input {
         InputFiles::Gsrc { blocks, nets, pl } => {
             joined_parts_keep_ranges();
