@@ -19,7 +19,7 @@ use Rattle.sf_gsrc.specs.PlaceLine.{sides_said, size_in_words, spot_said, place_
 use Rattle.sf_gsrc.specs.Places.{PlacesStandFor, SaysPlace}
 use Rattle.sf_io.specs.Outside.{Contents}
 use Rattle.sf_program.specs.Reading.{PlacesRead}
-use Rattle.sf_program.specs.PlacedLines.{IsNear}
+use Rattle.sf_program.specs.PlacedLines.{HasNearPlace}
 
 -- a sequence that gives a value has one at its first step
 bound : (A E : Type 0) → (r : Result A E) (B : Type 0) (f : A → Result B E) (y : B) → (r >>= f) ≡ Ok y → (x : A) × (r ≡ Ok x) × (f x ≡ Ok y)
@@ -107,15 +107,15 @@ abbrev done : Place → Result Place LineFault
 done p = Ok p
 
 -- a place made of near coordinates is near
-near_at : (name : List ℕ) (x y : ℤ) (size : Option (ℕ × ℕ)) (p : Place) → done (record { name = name; x = x; y = y; size = size }) ≡ done p → IsIn 9_000_000_000_000_000 x → IsIn 9_000_000_000_000_000 y → IsNear p
+near_at : (name : List ℕ) (x y : ℤ) (size : Option (ℕ × ℕ)) (p : Place) → done (record { name = name; x = x; y = y; size = size }) ≡ done p → IsIn 9_000_000_000_000_000 x → IsIn 9_000_000_000_000_000 y → HasNearPlace p
 near_at name x y size p e a b =
     let made : Place = record { name = name; x = x; y = y; size = size } in
     let is : made ≡ p = cc in
-    let near : IsNear made = record { left = a.low; right = a.high; lower = b.low; upper = b.high } in
-    subst IsNear is near
+    let near : HasNearPlace made = record { left = a.low; right = a.high; lower = b.low; upper = b.high } in
+    subst HasNearPlace is near
 
 -- a line of a name and two coordinates says a near place, with a size or without
-spot_near : (scale : ℕ) (name x y : List ℕ) (sides : Option (List ℕ × List ℕ)) (p : Place) → spot_said scale name x y sides ≡ Ok p → IsNear p
+spot_near : (scale : ℕ) (name x y : List ℕ) (sides : Option (List ℕ × List ℕ)) (p : Place) → spot_said scale name x y sides ≡ Ok p → HasNearPlace p
 unfolding spot_said
 spot_near scale name x y sides p e =
     let a = bound ℤ LineFault (coordinate_in_word scale x) Place _ p e in
@@ -124,30 +124,30 @@ spot_near scale name x y sides p e =
     near_at name a.0 b.0 z.0 p z.2 (place_in scale x a.0 a.1) (place_in scale y b.0 b.1)
 
 -- a line that has coordinates says a near place
-coordinates_by : (scale : ℕ) (name x y : List ℕ) (rest : List (List ℕ)) (p : Place) (some : Bool) → cond some (sides_said rest >>= spot_said scale name x y) (Err BadLine) ≡ Ok p → IsNear p
+coordinates_by : (scale : ℕ) (name x y : List ℕ) (rest : List (List ℕ)) (p : Place) (some : Bool) → cond some (sides_said rest >>= spot_said scale name x y) (Err BadLine) ≡ Ok p → HasNearPlace p
 coordinates_by scale name x y rest p true e =
     let s = bound (Option (List ℕ × List ℕ)) LineFault (sides_said rest) Place _ p e in
     spot_near scale name x y s.0 p s.2
 coordinates_by scale name x y rest p false e = absurd cc
 
 -- each line that says a place says a near one
-place_near : (scale : ℕ) (line : List ℕ) (p : Place) → place_said scale line ≡ Ok p → IsNear p
+place_near : (scale : ℕ) (line : List ℕ) (p : Place) → place_said scale line ≡ Ok p → HasNearPlace p
 unfolding place_said
 place_near scale line p e = coordinates_by scale _ _ _ _ p _ e
 
 -- so the places of lines are near
-all_near : (scale : ℕ) (lines : List Line) (places : List Place) → AllZip (SaysPlace scale) lines places → All IsNear places
-all_near scale [] [] z = All-nil IsNear
+all_near : (scale : ℕ) (lines : List Line) (places : List Place) → AllZip (SaysPlace scale) lines places → All HasNearPlace places
+all_near scale [] [] z = All-nil HasNearPlace
 all_near scale [] (p ∷ ps) z = absurd z
 all_near scale (l ∷ ls) [] z = absurd z
-all_near scale (l ∷ ls) (p ∷ ps) z = All-cons IsNear p ps (place_near scale l.bytes p z.0) (all_near scale ls ps z.1)
+all_near scale (l ∷ ls) (p ∷ ps) z = All-cons HasNearPlace p ps (place_near scale l.bytes p z.0) (all_near scale ls ps z.1)
 
 -- and those for which a text stands
-pub stands_near : (scale : ℕ) (text : List ℕ) (out : GsrcPlaces) → PlacesStandFor scale text out → All IsNear out.places
+pub stands_near : (scale : ℕ) (text : List ℕ) (out : GsrcPlaces) → PlacesStandFor scale text out → All HasNearPlace out.places
 stands_near scale text out s = all_near scale s.others out.places s.each
 
 -- the places of a file that was read
-pub read_near : (held : Option Contents) (source : List ℕ) (scale : ℕ) (name : List ℕ) (out : GsrcPlaces) → PlacesRead held source scale name (Ok out) → All IsNear out.places
+pub read_near : (held : Option Contents) (source : List ℕ) (scale : ℕ) (name : List ℕ) (out : GsrcPlaces) → PlacesRead held source scale name (Ok out) → All HasNearPlace out.places
 read_near held source scale name out r = elim r [
   | inl t ↦ stands_near scale t.0 out t.2
   | inr t ↦ absurd (let e : Ok out ≡ Err t.0 = t.2 in cc)

@@ -40,7 +40,7 @@ pub record IsIndex (index : List (List ℕ × Lines)) (blocks : List Block) (all
   pub kept : AreIndexed index all lines
 
 -- the place is at most 9,000,000,000,000,000 away from (0, 0) each way
-pub record IsNear (line : Place) : Type 0 where
+pub record HasNearPlace (line : Place) : Type 0 where
   pub left : neg_ℤ (pos 9000000000000000) ≤ℤ line.x
   pub right : line.x ≤ℤ pos 9000000000000000
   pub lower : neg_ℤ (pos 9000000000000000) ≤ℤ line.y

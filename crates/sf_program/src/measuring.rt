@@ -83,7 +83,7 @@ fn verdict_text(
         Verdict::Legal => return legal_text(alloc, design, spots),
         Verdict::Unlisted(block) => format!(in alloc; "status Unlisted {block}\n")?,
         Verdict::Outside(block) => format!(in alloc; "status Outside {block}\n")?,
-        Verdict::Overlap(lower, upper) => format!(in alloc; "status Overlap {lower} {upper}\n")?,
+        Verdict::Overlap(first, other) => format!(in alloc; "status Overlap {first} {other}\n")?,
     };
     Ok(text.into_bytes())
 }

@@ -7,7 +7,7 @@ ghost use Rattle.sf_place.specs.Spots.{HasNearCorner, IsByNumber};
 ghost use Rattle.sf_program.specs.Loads.{TellsNoLoad};
 ghost use Rattle.sf_program.specs.Measured.{lines_named, side_in_spot, sized_spot, spot_said, spots_said};
 ghost use Rattle.sf_program.specs.Outcome.{Ends};
-ghost use Rattle.sf_program.specs.PlacedLines.{AreIndexed, IsIndex, IsNear, with_line};
+ghost use Rattle.sf_program.specs.PlacedLines.{AreIndexed, IsIndex, HasNearPlace, with_line};
 
 use crate::refusals::named_fault;
 use crate::stop::Stop;
@@ -85,7 +85,7 @@ fn side_in_spot(side: u64) -> u32
 
 /// The spot of a block that has this line.
 fn sized_spot(alloc: Global, block: u16, name: &Name, line: &Place) -> Result<Spot, Stop>
-    requires near { IsNear line.now }
+    requires near { HasNearPlace line.now }
     ensures spot { Ends (λ s. s) result (λ r. r ≡ sized_spot block name.now line.now line.now.size) }
     ensures near { IfOk result HasNearCorner }
     ensures block { IfOk result (λ s. s.block ≡ block) }
@@ -113,7 +113,7 @@ fn spot_of(
 ) -> Result<Spot, Stop>
     requires known { is_some (value_in index.now name.now) ≡ true }
     requires indexed { AreIndexed index.now lines.now lines.now }
-    requires near { All IsNear lines.now }
+    requires near { All HasNearPlace lines.now }
     ensures spot { Ends (λ s. s) result (λ r. r ≡ spot_said block name.now (lines_named name.now lines.now)) }
     ensures near { IfOk result HasNearCorner }
     ensures block { IfOk result (λ s. s.block ≡ block) }
@@ -130,7 +130,7 @@ fn spot_of(
 /// The spots of the blocks, by number.
 pub fn place_blocks(alloc: Global, blocks: &[Block], lines: &[Place]) -> Result<Vec<Spot>, Stop>
     requires few { length blocks.now ≤ 320 }
-    requires near { All IsNear lines.now }
+    requires near { All HasNearPlace lines.now }
     ensures spots { Ends (λ v. v.items) result (λ r. r ≡ spots_said 0 blocks.now lines.now) }
     ensures one_each { IfOk result (λ v. length v.items ≡ length blocks.now) }
     ensures by_number { IfOk result (λ v. IsByNumber v.items) }

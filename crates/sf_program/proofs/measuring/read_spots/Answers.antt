@@ -1,16 +1,16 @@
 use Rattle.std.proofs.Common.{List, codes, sym, subst}
 use Rattle.std.specs.List.{All}
 use Rattle.sf_gsrc.specs.declared.output.Place.{Place}
-use Rattle.sf_program.specs.PlacedLines.{IsNear}
+use Rattle.sf_program.specs.PlacedLines.{HasNearPlace}
 use Rattle.sf_program.proofs.NearPlaces.{read_near}
 use Rattle.sf_program.proofs.Stages.{uncounted}
 use Rattle.sf_program.proofs.measuring.read_spots.Goals as goal
 
 pub place_blocks-requires-clause-near : goal.place_blocks-requires-clause-near
 place_blocks-requires-clause-near g c =
-    let near : All IsNear c.in_ok-file.file.places =
+    let near : All HasNearPlace c.in_ok-file.file.places =
     read_near (g.S.Shelf.seen c.args.shelf.now).holds (codes "placed") c.args.words.now.design.scale.per_unit c.args.words.now.placed.now c.in_ok-file.file c.in_ok-file.ensures.places in
-    subst (λ (lines : List Place). All IsNear lines) (sym c.as_slice-2.ensures) near
+    subst (λ (lines : List Place). All HasNearPlace lines) (sym c.as_slice-2.ensures) near
 
 pub returns-clause-shelf : goal.returns-clause-shelf
 returns-clause-shelf g c = (c.in_ok-file.ensures.shelf.0, uncounted c.place_blocks.result _ _ c.place_blocks.ensures.tells)

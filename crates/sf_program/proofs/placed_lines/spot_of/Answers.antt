@@ -4,7 +4,7 @@ use Rattle.sf_gsrc.specs.declared.output.Place.{Place}
 use Rattle.sf_program.specs.declared.placed_lines.Lines.TheVariants.{Without, One, More}
 use Rattle.sf_program.specs.Measured.{lines_named, spot_said}
 use Rattle.sf_program.specs.Outcome.{Ends}
-use Rattle.sf_program.specs.PlacedLines.{LinesAre, IsOnly, IsNear}
+use Rattle.sf_program.specs.PlacedLines.{LinesAre, IsOnly, HasNearPlace}
 use Rattle.sf_program.specs.Refusals.{design_fault}
 use Rattle.sf_program.proofs.Placing.{kept_is}
 use Rattle.sf_program.proofs.Stages.{refused-stops}
@@ -27,7 +27,7 @@ pub sized_spot-requires : goal.sized_spot-requires
 sized_spot-requires c =
     let found : IsOnly c.args.lines.now (lines_named c.args.name.now c.args.lines.now) c.in-Some-One.line =
     kept_is c.args.lines.now c.args.index.now c.args.name.now c.as_bytes.result.now c.get.result (Some (One c.in-Some-One.line)) c.get.ensures c.as_bytes.ensures.value c.requires.indexed (c.in-Some-One.is ∙ ap Some c.in-Some-One.field-0-is) in
-    record { near = subst IsNear (sym c.index-lines-line.is) (c.requires.near c.in-Some-One.line c.index-lines-line.result found.in_range) }
+    record { near = subst HasNearPlace (sym c.index-lines-line.is) (c.requires.near c.in-Some-One.line c.index-lines-line.result found.in_range) }
 
 pub returns-in_ok-named_fault-in-Some-Without-clause-spot : goal.returns-in_ok-named_fault-in-Some-Without-clause-spot
 returns-in_ok-named_fault-in-Some-Without-clause-spot c =
