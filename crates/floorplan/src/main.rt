@@ -93,6 +93,7 @@ fn exit_code<T: Threads + Sync>(rt: HostRuntime, threads: &T, words: &[String]) 
     code_of(answer(rt, threads, words))
 }
 
+/// The words of the system, read and obeyed.
 fn main(rt: HostRuntime) -> ExitCode {
     match host_words(rt) {
         Ok(words) => exit_code(rt, &rt, &words),

@@ -103,6 +103,7 @@ const CHECK: Row = Row {
 const CHECK_WIRED: &str =
     "check --format gsrc --blocks a.blocks --nets a.nets --pl a.pl --cert a.cert";
 
+/// The words of these texts, one behind the other.
 fn words_of(alloc: Global, texts: &[&str]) -> Result<Vec<String>, AllocError> {
     let mut words = Vec::new(alloc);
     for text in texts {
@@ -113,6 +114,7 @@ fn words_of(alloc: Global, texts: &[&str]) -> Result<Vec<String>, AllocError> {
     Ok(words)
 }
 
+/// A list of this number alone.
 fn only(alloc: Global, number: u64) -> Result<Vec<u64>, AllocError> {
     let mut numbers = Vec::new(alloc);
     numbers.push(number)?;
@@ -154,6 +156,7 @@ fn answer_at(
     Ok((status, String::from_str(alloc, printed)?))
 }
 
+/// Whether the text has this line.
 fn has_line(text: &str, wanted: &str) -> bool {
     for line in text.lines() {
         if line == wanted {
@@ -163,6 +166,7 @@ fn has_line(text: &str, wanted: &str) -> bool {
     false
 }
 
+/// What stands under this name.
 fn text_of<'a>(texts: &[(&str, &'a [u8])], wanted: &str) -> Option<&'a [u8]> {
     for (name, text) in texts {
         if *name == wanted {
@@ -172,6 +176,7 @@ fn text_of<'a>(texts: &[(&str, &'a [u8])], wanted: &str) -> Option<&'a [u8]> {
     None
 }
 
+/// A run printed what the row says.
 fn assert_printed(rt: &impl Abort, row: &Row, printed: &str) {
     let (command, options) = (row.command, row.options);
     match row.printed {

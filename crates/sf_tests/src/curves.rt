@@ -17,6 +17,7 @@ fn two_turned(alloc: Global) -> Result<Design, AllocError> {
     Ok(bare(alloc, vec![in alloc; first, second]?, WIDE, 0))
 }
 
+/// The span of each block that has all of its shapes.
 fn whole_spans(alloc: Global, design: &Design) -> Result<Vec<(u16, u16)>, AllocError>
     ensures { IfOk result (λ spans. AreSpans design.now spans.items) }
 {
@@ -27,6 +28,7 @@ fn whole_spans(alloc: Global, design: &Design) -> Result<Vec<(u16, u16)>, AllocE
     Ok(spans)
 }
 
+/// The curve of an expression whose blocks may take any of their shapes; none where it isn't normal.
 fn whole_curve(
     alloc: Global,
     design: &Design,

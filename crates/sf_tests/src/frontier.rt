@@ -18,6 +18,7 @@ fn one_block(alloc: Global) -> Result<Design, AllocError> {
     Ok(bare(alloc, vec![in alloc; block]?, WIDE, 0))
 }
 
+/// The root as a task of this bound.
 fn task(alloc: Global, design: &Design, bound: u64) -> Result<Task, AllocError> {
     Ok(Task {
         node: Node::root(alloc, design)?,
@@ -25,10 +26,12 @@ fn task(alloc: Global, design: &Design, bound: u64) -> Result<Task, AllocError> 
     })
 }
 
+/// The bound of a task that there may be.
 fn bound_of(task: Option<Task>) -> Option<u64> {
     task.map(|task| task.bound)
 }
 
+/// The bound of what the first thief takes.
 fn stolen(place: &mut Place<AnyTask>) -> Option<u64> {
     let thief = place.thieves.get_mut(0)?;
     bound_of(thief.take())

@@ -138,6 +138,7 @@ struct Heard {
     rounds: AtomicU64,
 }
 
+/// What a gate has heard before any decision.
 fn nothing_heard() -> Heard {
     Heard {
         decisions: AtomicU64::new(0),
@@ -165,6 +166,7 @@ fn nothing_counted() -> Counting {
 }
 
 impl Counting {
+    /// How many decisions the gate was told of.
     fn told(&self) -> u64 {
         let first = self.first.decisions.load(Ordering::SeqCst);
         first.wrapping_add(self.second.decisions.load(Ordering::SeqCst))

@@ -125,6 +125,7 @@ fn attached(alloc: Global, words: &[String]) -> Result<Vec<String>, AllocError> 
     Ok(joined)
 }
 
+/// Whether the words of these texts have a meaning.
 fn has_meaning(alloc: Global, texts: &[&str]) -> Result<bool, Fail> {
     let words = spaced(alloc, texts)?;
     Ok(read_words(alloc, &words)?.is_some())

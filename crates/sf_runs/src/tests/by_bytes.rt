@@ -1,6 +1,6 @@
 //! Certificates that come byte by byte, over designs made by the calls that readers and models give.
 
-ghost use Rattle.std.specs.Prelude.{◌≤◌, All, IfOk, IfSome};
+ghost use Rattle.std.specs.Prelude.{All, IfOk, IfSome};
 ghost use Rattle.sf_gsrc.specs.Ranges.{HasPinsInAnyRange};
 ghost use Rattle.sf_model.specs.Admitted.{HasPinsInRange, HasSizes, IsSized};
 
@@ -14,6 +14,7 @@ use sf_gsrc::{
     nets_name_their_pins, read_blocks, read_nets, read_pl,
 };
 use sf_io::{MemShelf, Shelf, Status};
+use sf_lex::Scale;
 use sf_model::{Design, Outline, Parts, Weights, push_cost};
 use sf_soft_shapes::lists;
 use sf_words::{CommandWords, DesignWords, InputFiles, WeightWords, read_words};
@@ -24,21 +25,21 @@ use std::test::Fail;
 /// No text of these tests is longer.
 const LONGEST: u64 = 10_000;
 
+/// The blocks of the named file.
 fn blocks_of(
     alloc: Global,
     shelf: &mut MemShelf,
     name: &str,
-    scale: u64,
+    scale: Scale,
 ) -> Result<GsrcBlocks, Fail>
-    requires scale_low { 1 ≤ scale }
-    requires scale_high { scale ≤ 1000 }
     ensures { IfOk result (λ out. All (λ b. IsSized b.kind) out.blocks) }
 {
     blocks_have_sizes();
     let text = shelf.load(name, LONGEST)?;
-    Ok(read_blocks(alloc, &text, scale)?)
+    Ok(read_blocks(alloc, &text, scale.per_unit)?)
 }
 
+/// The nets of the named file, where one is named.
 fn nets_of(
     alloc: Global,
     shelf: &mut MemShelf,
@@ -54,27 +55,26 @@ fn nets_of(
     Ok(Some(read_nets(alloc, &text)?))
 }
 
+/// The places of the named file, where one is named.
 fn places_of(
     alloc: Global,
     shelf: &mut MemShelf,
     name: Option<&str>,
-    scale: u64,
-) -> Result<Option<GsrcPlaces>, Fail>
-    requires scale_low { 1 ≤ scale }
-    requires scale_high { scale ≤ 1000 }
-{
+    scale: Scale,
+) -> Result<Option<GsrcPlaces>, Fail> {
     let Some(name) = name else {
         return Ok(None);
     };
     let text = shelf.load(name, LONGEST)?;
-    Ok(Some(read_pl(alloc, &text, scale)?))
+    Ok(Some(read_pl(alloc, &text, scale.per_unit)?))
 }
 
+/// The parts of the named files.
 fn parts_of(alloc: Global, shelf: &mut MemShelf, words: &DesignWords<'_>) -> Result<Parts, Fail>
     ensures pins { IfOk result HasPinsInRange }
     ensures sizes { IfOk result HasSizes }
 {
-    let scale = words.scale.per_unit;
+    let scale = words.scale;
     match words.input {
         InputFiles::Gsrc { blocks, nets, pl } => {
             joined_parts_keep_ranges();
@@ -86,7 +86,7 @@ fn parts_of(alloc: Global, shelf: &mut MemShelf, words: &DesignWords<'_>) -> Res
         InputFiles::Yal { file } => {
             parts_keep_ranges();
             let text = shelf.load(file, LONGEST)?;
-            Ok(read_yal(alloc, &text, scale)?)
+            Ok(read_yal(alloc, &text, scale.per_unit)?)
         }
     }
 }
@@ -113,12 +113,14 @@ fn design_of(
     Ok(Design::build(alloc, parts, lists, outline, weights, &net_weights)?)
 }
 
+/// A cost in digits, or `none` for MAX.
 fn cost_word(alloc: Global, cost: u64) -> Result<String, AllocError> {
     let mut word = String::new(alloc);
     push_cost(&mut word, cost)?;
     Ok(word)
 }
 
+/// What is printed of a number that is another one than the certificate says.
 fn differs_text(alloc: Global, fault: &str, said: u64, is: u64) -> Result<String, AllocError> {
     let said = cost_word(alloc, said)?;
     let is = cost_word(alloc, is)?;
@@ -140,6 +142,7 @@ fn answer_text(alloc: Global, answer: Answer) -> Result<(Status, String), AllocE
     })
 }
 
+/// What is printed of the first failure of a certificate.
 fn why_text(alloc: Global, why: Why) -> Result<String, AllocError> {
     match why {
         Why::BadPlan => String::from_str(alloc, "status No BadPlan\n"),

@@ -319,6 +319,7 @@ const PARTS: &[Part] = &[
     },
 ];
 
+/// Runs the row over a shelf and a sink that take only a part.
 fn assert_part(rt: &(impl Abort + Threads + Sync), alloc: Global, part: &Part) -> Result<(), Fail> {
     let row = &part.row;
     let (command, options) = (row.command, row.options);

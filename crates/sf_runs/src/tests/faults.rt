@@ -24,6 +24,7 @@ enum Reader {
     Cert,
 }
 
+/// The number of a fault of a number.
 fn of_number(fault: NumberFault) -> u8 {
     match fault {
         NumberFault::NotNumber => 1,
@@ -33,6 +34,7 @@ fn of_number(fault: NumberFault) -> u8 {
     }
 }
 
+/// The numbers of a fault of a GSRC text, and zeros where there is none.
 fn of_gsrc<T: Drop>(outcome: Result<T, GsrcFault>) -> Numbers {
     match outcome {
         Ok(_) => (0, 0, 0),
@@ -47,6 +49,7 @@ fn of_gsrc<T: Drop>(outcome: Result<T, GsrcFault>) -> Numbers {
     }
 }
 
+/// The same of a YAL text.
 fn of_yal<T: Drop>(outcome: Result<T, YalFault>) -> Numbers {
     match outcome {
         Ok(_) => (0, 0, 0),
@@ -61,6 +64,7 @@ fn of_yal<T: Drop>(outcome: Result<T, YalFault>) -> Numbers {
     }
 }
 
+/// The same of a weights file.
 fn of_weights<T: Drop>(outcome: Result<T, WeightFault>) -> Numbers {
     match outcome {
         Ok(_) => (0, 0, 0),
@@ -72,6 +76,7 @@ fn of_weights<T: Drop>(outcome: Result<T, WeightFault>) -> Numbers {
     }
 }
 
+/// The same of a certificate.
 fn of_cert<T: Drop>(outcome: Result<T, CertFault>) -> Numbers {
     match outcome {
         Ok(_) => (0, 0, 0),

@@ -53,6 +53,7 @@ const PINS: Past = Past {
     printed: "error OverLimit pins 1048577 1048576\n",
 };
 
+/// The first lines, and then the line as often as it stands.
 fn text_of(alloc: Global, past: &Past) -> Result<String, AllocError> {
     let mut text = String::from_str(alloc, past.head)?;
     for _ in 0..past.count {
@@ -61,6 +62,7 @@ fn text_of(alloc: Global, past: &Past) -> Result<String, AllocError> {
     Ok(text)
 }
 
+/// Runs a search over the text, which is refused.
 fn assert_past(rt: &(impl Abort + Threads + Sync), alloc: Global, past: &Past) -> Result<(), Fail> {
     let words = words_of(alloc, &[PLAN_WORDS, past.options])?;
     let mut shelf = MemShelf::new(alloc, Vec::new(alloc));

@@ -11,6 +11,7 @@ const NETS: &[u8] =
 
 const PLACES: &[u8] = b"UCLA pl 1.0\r\n# a comment\r\np0 0 0 : N\r\nb0 0 0 : N\r\n";
 
+/// So many blocks 10x10 and a pad.
 fn blocks_text(alloc: Global, count: u64) -> Result<String, AllocError> {
     let mut text = format!(in alloc;
         "UCSC blocks 1.0\r\n# a comment\r\n  # another\r\nNumSoftRectangularBlocks : 0\r\nNumHardRectilinearBlocks : {count}\r\nNumTerminals : 1\r\n"
@@ -23,6 +24,7 @@ fn blocks_text(alloc: Global, count: u64) -> Result<String, AllocError> {
     Ok(text)
 }
 
+/// A shelf with so many blocks, a net of the first and the pad, and their places.
 fn shelf(alloc: Global, count: u64) -> Result<MemShelf, Fail> {
     let mut shelf = MemShelf::new(alloc, Vec::new(alloc));
     shelf.add("a.blocks", blocks_text(alloc, count)?.as_bytes())?;
@@ -51,6 +53,7 @@ fn nets_text(alloc: Global, count: u64) -> Result<String, AllocError> {
     Ok(text)
 }
 
+/// How often the text has this line.
 fn count_lines(text: &str, wanted: &str) -> u64 {
     let mut count = 0u64;
     for line in text.lines() {
@@ -61,6 +64,7 @@ fn count_lines(text: &str, wanted: &str) -> u64 {
     count
 }
 
+/// What a search with these options answers and prints.
 fn plan(
     rt: &(impl Threads + Sync),
     alloc: Global,
