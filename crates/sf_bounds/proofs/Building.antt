@@ -1,26 +1,9 @@
 -- The stack's curves are those of the items that the passed tokens leave.
 use Rattle.std.proofs.Common.{◌≡◌, ℕ, ◌+◌, ◌-◌, ◌<◌, ◌≤◌, List, [], ◌∷◌, ◌++◌, length, reverse, take, drop, get_or, sym, ap, ◌∙◌, subst, arith}
-use Rattle.std.specs.List.{AllZip}
-use Rattle.std.proofs.lemmas.List.{reverse-append, length_push, drop_more, take_more}
-use Rattle.sf_model.specs.declared.design.Design.{Design}
-use Rattle.sf_model.specs.declared.parts.Shape.{Shape}
-use Rattle.sf_model.specs.Legal.{shapes_of}
-use Rattle.sf_model.specs.Tree.{Beside, Above}
-use Rattle.sf_polish.specs.declared.expr.Token.{Token}
+use Rattle.sf_bounds.proofs.Common.{AllZip, reverse-append, length_push, drop_more, take_more, Design, Shape, shapes_of, Beside, Above, Token, Parts, span_of, IsSubproblem, subproblem-begun, IsCombination, beside_size, above_size, shapes_in, Item, read, AreSpans, Runs, runs-from, curve-joined, curve-block, beside-way, above-way, IsJoined, IsStep, IsItemCurve}
 use Rattle.sf_polish.specs.declared.expr.Token.TheVariants as token
-use Rattle.sf_node.specs.Parts.{Parts}
-use Rattle.sf_node.specs.Subproblem.{span_of}
-use Rattle.sf_node.specs.Children.{IsSubproblem}
-use Rattle.sf_node.proofs.Normalised.{subproblem-begun}
 use Rattle.sf_node.proofs.Spanned.{are-spans}
-use Rattle.sf_curves.specs.Points.{IsCombination, beside_size, above_size}
 use Rattle.sf_standard.specs.Items as item
-use Rattle.sf_model.specs.Spans.{shapes_in}
-use Rattle.sf_standard.specs.Items.{Item, read}
-use Rattle.sf_curves.specs.Choices.{AreSpans}
-use Rattle.sf_frames.proofs.Joining.{Runs, runs-from, curve-joined, curve-block, beside-way, above-way}
-use Rattle.sf_bounds.specs.Curves.{IsJoined, IsStep}
-use Rattle.sf_frames.specs.Curves.{IsItemCurve}
 use Rattle.sf_standard.proofs.Appended.{read-append, read-block}
 
 -- the span of a block

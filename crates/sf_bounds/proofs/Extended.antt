@@ -1,19 +1,9 @@
 -- Children by extending: each is one token more.
 use Rattle.std.proofs.Common.{◌≡◌, ℕ, List, [], ◌∷◌, ◌++◌, length, ap, sym, subst, ◌∙◌, false, ◌-◌, refl, arith, length-append}
-use Rattle.std.specs.Prelude.{slice_get, Contains, Some}
-use Rattle.std.proofs.lemmas.List.Elements.{Contains-append_right}
-use Rattle.sf_model.specs.declared.design.Design.{Design}
+use Rattle.sf_bounds.proofs.Common.{slice_get, Contains, Some, Contains-append_right, Design, Parts, is_complete, IsSubproblem, CanStep, after, step_of, next_tokens, extended, next-can, after-subproblem, steps-after, Contains-head, standard, Contains-from_map, each-contains, block_keeps}
 use Rattle.sf_node.specs.declared.step.Step.{Step}
 use Rattle.sf_node.specs.declared.step.Step.TheVariants.{Block}
 use Rattle.sf_node.specs.Later.{IsChildOf}
-use Rattle.sf_node.specs.Parts.{Parts}
-use Rattle.sf_node.specs.Subproblem.{is_complete}
-use Rattle.sf_node.specs.Children.{IsSubproblem, CanStep, after, step_of, next_tokens, extended}
-use Rattle.sf_node.proofs.Reached.{next-can, after-subproblem, steps-after}
-use Rattle.sf_curves.proofs.Members.{Contains-head}
-use Rattle.sf_standard.specs.Standard.{standard}
-use Rattle.sf_standard.proofs.Listed.{Contains-from_map, each-contains}
-use Rattle.sf_standard.proofs.Unmoved.{block_keeps}
 
 -- a child by extending, between others, with its parent's value
 pub child_born : (design : Design) (bound : Parts → ℕ) (value : ℕ) (parent : Parts) (before : List Parts) (child : Parts) (behind : List Parts) → IsSubproblem design parent → value ≡ bound parent → before ++ child ∷ behind ≡ extended parent → IsChildOf design bound value child

@@ -1,11 +1,6 @@
 -- The extent of some shapes, shape by shape.
 use Rattle.std.proofs.Common.{◌≡◌, List, [], ◌∷◌, refl}
-use Rattle.std.specs.Prelude.{fold}
-use Rattle.sf_model.specs.declared.parts.Shape.{Shape}
-use Rattle.sf_standard.specs.declared.hull.Extent.{Extent}
-use Rattle.sf_standard.specs.Hull.{extent_of}
-use Rattle.sf_bounds.specs.Layout.{single_extent, with_shape}
-use Rattle.std.specs.Prelude.{min, max}
+use Rattle.sf_bounds.proofs.Common.{fold, Shape, Extent, extent_of, single_extent, with_shape, min, max}
 
 -- the extent with more shapes has the least and greatest sides of all, one number after another
 extent-from : (e : Extent) (ss : List Shape) → fold with_shape e ss ≡ (record {

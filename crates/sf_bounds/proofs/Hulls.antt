@@ -1,36 +1,11 @@
 -- What the pins of a net share in each item tells the hull part.
 use Rattle.std.proofs.Common.{◌≡◌, ◌≢◌, ℕ, ◌+◌, ◌*◌, ◌<◌, ◌≤◌, max, List, [], ◌∷◌, ◌++◌, length, reverse, map, get_or, arith, refl, ap, sym, subst, ◌∙◌, ◌⊎◌, inl, inr, Bool, true, false, ◌==◌, cond}
-use Rattle.std.specs.Prelude.{Contains, fold, if◌then◌else◌, Option, Some, None, IfSome, pos, ◌-ℤ◌}
-use Rattle.std.specs.List.{AllByRecursion}
-use Rattle.std.proofs.lemmas.Bool.{cases_eq, ne_eqb, eq-eqb, eqb-true, cond-true, cond-false, cond_both}
-use Rattle.std.proofs.lemmas.List.{reverse-append, length-reverse, get_or_default}
-use Rattle.std.proofs.lemmas.List.Elements.{recursion_from_All, All-contains, Contains-append_cases, Contains-append_left, Contains-append_right, Contains-get_or}
-use Rattle.sf_model.specs.declared.design.Design.{Design}
-use Rattle.sf_model.specs.declared.parts.Pin.{Pin}
+use Rattle.std.specs.Prelude.{if◌then◌else◌, ◌-ℤ◌}
+use Rattle.sf_bounds.proofs.Common.{Contains, fold, Option, Some, None, IfSome, pos, AllByRecursion, cases_eq, ne_eqb, eq-eqb, eqb-true, cond-true, cond-false, cond_both, reverse-append, length-reverse, get_or_default, recursion_from_All, All-contains, Contains-append_cases, Contains-append_left, Contains-append_right, Contains-get_or, Design, Pin, block_count, pin_number, pin_count, each-weaker, Parts, is_complete, IsSubproblem, Contains-cons_cases, Contains-head, Contains-tail, not_in_nil, Extent, Interval, Offset, Item, items_of, to_nat, gap, point, offsets, offset_x, offset_y, contains_pin, of_pins, pads_x, pads_y, hull_of, hull_part, extent_in, whole-item, Contains-map, Contains-from_map, Home, Layout, Reach, seat_at, IsFitInterval, IsFitReach, shared, met, anywhere, reach_gap, IsNet, IsLayout, extent_from, home_in, standing_at, pad_reach, pin_home, narrowed, narrowed_in, shared_in, shared_homes, home_gap, greatest_gap}
 use Rattle.sf_model.specs.declared.parts.Pin.TheVariants as pin
-use Rattle.sf_model.specs.Legal.{block_count}
-use Rattle.sf_model.specs.Limits.{pin_number, pin_count}
 use Rattle.sf_model.specs.Wire.{pad_at}
-use Rattle.sf_model.proofs.Each.{each-weaker}
-use Rattle.sf_node.specs.Parts.{Parts}
-use Rattle.sf_node.specs.Subproblem.{is_complete}
-use Rattle.sf_node.specs.Children.{IsSubproblem}
-use Rattle.sf_curves.proofs.Members.{Contains-cons_cases, Contains-head, Contains-tail, not_in_nil}
-use Rattle.sf_standard.specs.declared.hull.Extent.{Extent}
-use Rattle.sf_standard.specs.declared.hull.Interval.{Interval}
-use Rattle.sf_standard.specs.declared.hull.Offset.{Offset}
 use Rattle.sf_standard.specs.Items as item
-use Rattle.sf_standard.specs.Items.{Item, items_of}
-use Rattle.sf_standard.specs.Hull.{to_nat, gap, point, offsets, offset_x, offset_y, contains_pin, of_pins, pads_x, pads_y, hull_of, hull_part, extent_in}
-use Rattle.sf_standard.proofs.Exact.{whole-item}
-use Rattle.sf_standard.proofs.Listed.{Contains-map, Contains-from_map}
 use Rattle.sf_standard.proofs.Members.{pin-found, pin-from, offset-found, offset-from, pads-found, pads-from}
-use Rattle.sf_bounds.specs.declared.layout.Home.{Home}
-use Rattle.sf_bounds.specs.declared.layout.Layout.{Layout}
-use Rattle.sf_bounds.specs.declared.reach.Reach.{Reach}
-use Rattle.sf_bounds.specs.Layout.{seat_at}
-use Rattle.sf_bounds.specs.Ends.{IsFitInterval, IsFitReach, shared, met, anywhere, reach_gap}
-use Rattle.sf_bounds.specs.Pins.{IsNet, IsLayout, extent_from, home_in, standing_at, pad_reach, pin_home, narrowed, narrowed_in, shared_in, shared_homes, home_gap, greatest_gap}
 use Rattle.sf_bounds.proofs.Meeting.{gap-shared, gap-same}
 use Rattle.sf_bounds.proofs.PinLoops.{if-some, near_home, standing_ready}
 use Rattle.sf_bounds.proofs.ReadyLayout.{held-count, extent-same, home-found, home-stands, readied}

@@ -1,31 +1,11 @@
 -- What the code keeps of the stack is that of the items which the passed tokens leave.
 use Rattle.std.proofs.Common.{◌≡◌, ℕ, suc, ◌+◌, ◌-◌, ◌<◌, ◌≤◌, List, [], ◌∷◌, ◌++◌, length, reverse, map, take, drop, get_or, refl, sym, ap, ◌∙◌, subst, arith, length-append, append_assoc, append-nil, ◌==◌}
-use Rattle.std.specs.Prelude.{count_by, cond}
-use Rattle.std.specs.List.{AllByRecursion}
+use Rattle.sf_bounds.proofs.Common.{count_by, cond, AllByRecursion, reverse-append, length_push, drop_more, take_more, take_all, length-map, map-append, take-append-drop, All-from_recursion, Design, block_count, length-at_most_once, Token, numbers, count-numbers, numbers-below, Parts, IsSubproblem, subproblem-begun, Extent, Offset, Item, read, item_extent, offsets, moved_right, moved_up, extent_in, sum_by-map, Seat, beside_extent, above_extent, held_of, seat_at, seats_from, IsLaid, reseated, JoinsTop, Lays, AreModest, AreSeated, Runs, runs-from, span-small}
 use Rattle.std.proofs.Math.Seq.{take-append_seam, drop-append_seam}
-use Rattle.std.proofs.lemmas.List.{reverse-append, length_push, drop_more, take_more, take_all, length-map, map-append, take-append-drop}
-use Rattle.std.proofs.lemmas.List.Elements.{All-from_recursion}
-use Rattle.sf_model.specs.declared.design.Design.{Design}
-use Rattle.sf_model.specs.Legal.{block_count}
-use Rattle.sf_model.proofs.Counting.{length-at_most_once}
-use Rattle.sf_polish.specs.declared.expr.Token.{Token}
 use Rattle.sf_polish.specs.declared.expr.Token.TheVariants as token
-use Rattle.sf_polish.proofs.Normality.{numbers, count-numbers, numbers-below}
-use Rattle.sf_node.specs.Parts.{Parts}
-use Rattle.sf_node.specs.Children.{IsSubproblem}
-use Rattle.sf_node.proofs.Normalised.{subproblem-begun}
-use Rattle.sf_standard.specs.declared.hull.Extent.{Extent}
-use Rattle.sf_standard.specs.declared.hull.Offset.{Offset}
 use Rattle.sf_standard.specs.Items as item
-use Rattle.sf_standard.specs.Items.{Item, read}
-use Rattle.sf_standard.specs.Hull.{item_extent, offsets, moved_right, moved_up, extent_in}
-use Rattle.sf_standard.proofs.Listed.{sum_by-map}
 use Rattle.sf_bounds.specs.declared.layout.Held.{Held}
-use Rattle.sf_bounds.specs.declared.layout.Seat.{Seat}
-use Rattle.sf_bounds.specs.Layout.{beside_extent, above_extent, held_of, seat_at, seats_from, IsLaid, reseated, JoinsTop, Lays, AreModest, AreSeated}
 use Rattle.sf_standard.proofs.Appended.{read-append, read-block}
-use Rattle.sf_frames.proofs.Joining.{Runs, runs-from}
-use Rattle.sf_standard.proofs.Sides.{span-small}
 use Rattle.sf_bounds.proofs.ModestExtents.{are-modest}
 
 -- the block of a seat

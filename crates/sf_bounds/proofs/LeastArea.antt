@@ -1,26 +1,8 @@
 -- Where only areas count, the least area on the root curve of a complete subproblem is the least cost.
 use Rattle.std.proofs.Common.{◌≡◌, ℕ, ◌∙◌, ◌*◌, ◌<◌, ◌≤◌, List, [], length, arith, ap, sym, subst, inl, inr, ◌⊎◌, true}
-use Rattle.std.proofs.Math.Nat.{mul-le-mul, mul-le-mul_left}
-use Rattle.std.proofs.lemmas.List.Elements.{All-contains, recursion_from_All}
-use Rattle.std.specs.Prelude.{Contains}
-use Rattle.sf_model.specs.declared.design.Design.{Design}
-use Rattle.sf_model.specs.declared.parts.Shape.{Shape}
-use Rattle.sf_model.specs.Legal.{block_count}
-use Rattle.sf_model.specs.Tree.{Tree, width, height, leaves, spots_of}
+use Rattle.sf_bounds.proofs.Common.{mul-le-mul, mul-le-mul_left, All-contains, recursion_from_All, Contains, Design, Shape, block_count, Tree, width, height, leaves, spots_of, Expr, IsNormal, Parts, Belongs, is_complete, IsSubproblem, complete-normal, subproblem-spans, shapes_in, IsChoice, IsRootCurve, IsTraceOf, size_of, IsWithin, IsLeastArea, area_of, listed-belongs, IsCheapest, NoneOfNode}
 use Rattle.sf_model.specs.Wire.{wire}
-use Rattle.sf_polish.specs.declared.expr.Expr.{Expr}
-use Rattle.sf_polish.specs.Normal.{IsNormal}
-use Rattle.sf_node.specs.Parts.{Parts}
-use Rattle.sf_node.specs.Subproblem.{Belongs, is_complete}
-use Rattle.sf_node.specs.Children.{IsSubproblem}
-use Rattle.sf_node.proofs.Normalised.{complete-normal}
-use Rattle.sf_node.proofs.Reached.{subproblem-spans}
-use Rattle.sf_model.specs.Spans.{shapes_in}
-use Rattle.sf_curves.specs.Choices.{IsChoice, IsRootCurve, IsTraceOf, size_of}
-use Rattle.sf_curves.specs.Points.{IsWithin, IsLeastArea, area_of}
 use Rattle.sf_curves.proofs.Forms.{skewed-of_normal}
-use Rattle.sf_standard.proofs.Exact.{listed-belongs}
-use Rattle.sf_bounds.specs.Cheapest.{IsCheapest, NoneOfNode}
 use Rattle.sf_bounds.proofs.OnlyPlan.{whole-postfix}
 
 -- a product of lesser numbers is not greater

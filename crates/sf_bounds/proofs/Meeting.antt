@@ -1,15 +1,9 @@
 -- What intervals share tells their gap, whatever their order.
 use Rattle.std.proofs.Common.{◌≡◌, List, [], ◌∷◌, arith, refl, ap, ◌∙◌}
-use Rattle.std.specs.Prelude.{Contains, fold, ℤ, pos, neg_ℤ, ◌≤ℤ◌, ◌-ℤ◌}
+use Rattle.std.specs.Prelude.{◌≤ℤ◌, ◌-ℤ◌}
+use Rattle.sf_bounds.proofs.Common.{Contains, fold, ℤ, pos, neg_ℤ, AllByRecursion, ints, clamps, not_in_nil, Contains-head, Contains-tail, Interval, to_nat, gap, each-contains, each-from, IsFitEnd, IsFitInterval, shared, endless}
 use Rattle.std.specs.Int.{int_max, int_min}
-use Rattle.std.specs.List.{AllByRecursion}
-use Rattle.std.proofs.lemmas.Int.{ints, clamps}
-use Rattle.sf_curves.proofs.Members.{not_in_nil, Contains-head, Contains-tail}
-use Rattle.sf_standard.specs.declared.hull.Interval.{Interval}
-use Rattle.sf_standard.specs.Hull.{to_nat, gap}
 use Rattle.sf_standard.proofs.Gaps.{low-member, high-member, low-most, high-least}
-use Rattle.sf_standard.proofs.Listed.{each-contains, each-from}
-use Rattle.sf_bounds.specs.Ends.{IsFitEnd, IsFitInterval, shared, endless}
 
 -- the lower end of what intervals share is the greatest of their lower ends
 fold-low : (i : Interval) (is : List Interval) → (fold shared i is).low ≡ fold (λ z j. int_max z j.low) i.low is

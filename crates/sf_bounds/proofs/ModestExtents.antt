@@ -1,19 +1,8 @@
 -- No extent, and no place of a block in an item, is too great.
 use Rattle.std.proofs.Common.{◌≡◌, ℕ, suc, ◌+◌, ◌*◌, ◌≤◌, List, [], ◌∷◌, length, map, ap, ◌∙◌, arith, length-append}
-use Rattle.std.specs.List.{AllByRecursion}
-use Rattle.std.proofs.lemmas.List.{length-map}
-use Rattle.std.proofs.lemmas.List.Elements.{All-from_recursion}
-use Rattle.sf_model.proofs.Each.{each-append, each-map, each-weaker}
-use Rattle.sf_standard.specs.declared.hull.Extent.{Extent}
-use Rattle.sf_standard.specs.declared.hull.Offset.{Offset}
+use Rattle.sf_bounds.proofs.Common.{AllByRecursion, length-map, All-from_recursion, each-append, each-map, each-weaker, Extent, Offset, Item, item_in, item_extent, offsets, moved_right, moved_up, each-joined, IsSmallExtent, Direction, held_of, seat_at, seats_from, IsModestExtent, IsModestOffset, AreModest}
 use Rattle.sf_standard.specs.Items as item
-use Rattle.sf_standard.specs.Items.{Item, item_in}
-use Rattle.sf_standard.specs.Hull.{item_extent, offsets, moved_right, moved_up}
-use Rattle.sf_standard.proofs.Listed.{each-joined}
-use Rattle.sf_standard.proofs.Sides.{IsSmallExtent}
-use Rattle.sf_curves.specs.declared.direction.Direction.{Direction}
 use Rattle.sf_curves.specs.declared.direction.Direction.TheVariants.{Beside, Above}
-use Rattle.sf_bounds.specs.Layout.{held_of, seat_at, seats_from, IsModestExtent, IsModestOffset, AreModest}
 
 -- no number of the place of a block in its item is more than m
 pub record IsSmallOffset (m : ℕ) (o : Offset) : Type 0 where

@@ -1,29 +1,8 @@
 -- The parts of a net make its bound.
 use Rattle.std.proofs.Common.{◌≡◌, ℕ, ◌+◌, ◌<◌, ◌≤◌, max, List, [], ◌∷◌, map, length, get_or, refl, ap, sym, subst, ◌∙◌, arith, true, false}
-use Rattle.std.specs.Prelude.{nat_lt, if◌then◌else◌, None}
-use Rattle.std.specs.List.{AllByRecursion}
-use Rattle.std.proofs.lemmas.Bool.{cond-false, le-ltb}
-use Rattle.std.proofs.lemmas.List.{length-reverse}
-use Rattle.std.proofs.lemmas.List.Elements.{recursion_from_All}
-use Rattle.sf_model.specs.declared.design.Design.{Design}
-use Rattle.sf_model.specs.declared.parts.Net.{Net}
-use Rattle.sf_model.specs.declared.parts.Pin.{Pin}
+use Rattle.std.specs.Prelude.{if◌then◌else◌}
+use Rattle.sf_bounds.proofs.Common.{nat_lt, None, AllByRecursion, cond-false, le-ltb, length-reverse, recursion_from_All, Design, Net, Pin, block_count, pin_number, pin_count, Range, Pair, Hull, Parts, is_complete, IsSubproblem, items_of, gap, range_x, range_y, range_part, pair_part, small_side, block_pins, greatest_two, hull_part, extent_in, pins_by, whole-item, Layout, WireParts, anywhere, reach_gap, AreByPart, IsNet, IsLayout, IsReady, block_range, standing_at, pin_range, shared_ranges, paired_sides, shared_homes, shared_in, greatest_gap}
 use Rattle.sf_model.specs.declared.parts.Pin.TheVariants as pin
-use Rattle.sf_model.specs.Legal.{block_count}
-use Rattle.sf_model.specs.Limits.{pin_number, pin_count}
-use Rattle.sf_node.specs.declared.part.Part.TheVariants.{Range, Pair, Hull}
-use Rattle.sf_node.specs.Parts.{Parts}
-use Rattle.sf_node.specs.Subproblem.{is_complete}
-use Rattle.sf_node.specs.Children.{IsSubproblem}
-use Rattle.sf_standard.specs.Items.{items_of}
-use Rattle.sf_standard.specs.Hull.{gap, range_x, range_y, range_part, pair_part, small_side, block_pins, greatest_two, hull_part, extent_in}
-use Rattle.sf_standard.specs.Standard.{pins_by}
-use Rattle.sf_standard.proofs.Exact.{whole-item}
-use Rattle.sf_bounds.specs.declared.layout.Layout.{Layout}
-use Rattle.sf_bounds.specs.declared.wire_parts.WireParts.{WireParts}
-use Rattle.sf_bounds.specs.Ends.{anywhere, reach_gap}
-use Rattle.sf_bounds.specs.Open.{AreByPart}
-use Rattle.sf_bounds.specs.Pins.{IsNet, IsLayout, IsReady, block_range, standing_at, pin_range, shared_ranges, paired_sides, shared_homes, shared_in, greatest_gap}
 use Rattle.sf_bounds.proofs.Hulls.{open_hull, whole_hull}
 use Rattle.sf_bounds.proofs.Pairing.{pair_sum}
 use Rattle.sf_bounds.proofs.Ranges.{range_is}

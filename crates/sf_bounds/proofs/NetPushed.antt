@@ -1,40 +1,12 @@
 -- The frame of one token more.
 use Rattle.std.proofs.Common.{◌≡◌, ℕ, suc, ◌+◌, ◌-◌, ◌*◌, ◌<◌, ◌≤◌, max, List, [], ◌∷◌, ◌++◌, length, take, map, get_or, refl, sym, ap, ◌∙◌, subst, arith, length-append, All, false}
-use Rattle.std.specs.Prelude.{sum_by}
-use Rattle.std.specs.List.{range_with_len}
-use Rattle.std.proofs.lemmas.List.{get_or-append_right, get_or-take, length-take-le}
-use Rattle.std.proofs.lemmas.List.FromFn.{length-map-range_with_len, get_or-map-range_with_len}
-use Rattle.std.proofs.lemmas.List.Sums.{sum_by-cons}
-use Rattle.sf_model.specs.declared.design.Design.{Design}
-use Rattle.sf_model.specs.declared.parts.Net.{Net}
-use Rattle.sf_model.specs.declared.parts.Pin.{Pin}
-use Rattle.sf_polish.specs.declared.expr.Token.{Token}
+use Rattle.sf_bounds.proofs.Common.{sum_by, range_with_len, get_or-append_right, get_or-take, length-take-le, length-map-range_with_len, get_or-map-range_with_len, sum_by-cons, Design, Net, Pin, Token, numbers, Parts, root, IsSubproblem, Extent, Item, read, item_in, item_extent, offsets, hull_part, lone-hull, sum_by-same, token_in, Direction, items_at, IsNext, items-block, items-joined, block-inside, LiesOn, AreThere, pair-there, pair-are, BlockRow, Cell, NetFrame, Wires, IsFitReach, anywhere, reach_gap, joined_extent, IsModestExtent, counted, weighed_nets, weights_of, pins_at, whole_extent, row, part, pushed_reach, joined_reach, cell_at, joined_cell, weighed_cell, weighed_hull, AreSums, IsFitCell, IsRow, AreWires, first_end, IsStart, IsNetFrame, AreStored, AreTop, IsSmallExtent, span-small}
 use Rattle.sf_polish.specs.declared.expr.Token.TheVariants as token
-use Rattle.sf_polish.proofs.Normality.{numbers}
-use Rattle.sf_node.specs.Parts.{Parts}
-use Rattle.sf_node.specs.Subproblem.{root}
-use Rattle.sf_node.specs.Children.{IsSubproblem}
-use Rattle.sf_standard.specs.declared.hull.Extent.{Extent}
 use Rattle.sf_standard.specs.Items as item
-use Rattle.sf_standard.specs.Items.{Item, read, item_in}
-use Rattle.sf_standard.specs.Hull.{item_extent, offsets, hull_part}
-use Rattle.sf_standard.proofs.Unmoved.{lone-hull, sum_by-same}
-use Rattle.sf_curves.specs.Direction.{token_in}
-use Rattle.sf_curves.specs.declared.direction.Direction.{Direction}
 use Rattle.sf_curves.specs.declared.direction.Direction.TheVariants.{Beside, Above}
-use Rattle.sf_frames.specs.Kept.{items_at, IsNext}
-use Rattle.sf_frames.proofs.Topping.{items-block, items-joined, block-inside, LiesOn, AreThere, pair-there, pair-are}
-use Rattle.sf_bounds.specs.declared.net_frame.BlockRow.{BlockRow}
-use Rattle.sf_bounds.specs.declared.net_frame.Cell.{Cell}
-use Rattle.sf_bounds.specs.declared.net_frame.NetFrame.{NetFrame}
-use Rattle.sf_bounds.specs.declared.net_frame.Wires.{Wires}
-use Rattle.sf_bounds.specs.Ends.{IsFitReach, anywhere, reach_gap}
-use Rattle.sf_bounds.specs.Layout.{joined_extent, IsModestExtent}
-use Rattle.sf_bounds.specs.Rows.{counted, weighed_nets, weights_of, pins_at, whole_extent, row, part, pushed_reach, joined_reach, cell_at, joined_cell, weighed_cell, weighed_hull, AreSums, IsFitCell, IsRow, AreWires, first_end, IsStart, IsNetFrame, AreStored, AreTop}
 use Rattle.sf_bounds.proofs.LaidTokens.{few-numbers}
 use Rattle.sf_bounds.proofs.NetKept.{stored-appended, frame-pushed}
 use Rattle.sf_bounds.proofs.RowLaws.{row-hull, row-joined, pushed-near}
-use Rattle.sf_standard.proofs.Sides.{IsSmallExtent, span-small}
 use Rattle.sf_bounds.proofs.ModestExtents.{joined-length, item-small}
 use Rattle.sf_bounds.proofs.Weights.{weight-at}
 

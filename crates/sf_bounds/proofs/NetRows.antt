@@ -1,13 +1,6 @@
 -- The loop that joins two rows.
 use Rattle.std.proofs.Common.{◌≡◌, ℕ, ◌+◌, ◌<◌, List, [], ◌∷◌, ◌++◌, length, map, get_or, sym, ap, ◌∙◌, subst, arith, All, append_assoc}
-use Rattle.std.specs.List.{range_with_len}
-use Rattle.std.proofs.lemmas.List.{get_or_append_left, get_or_default}
-use Rattle.std.proofs.lemmas.List.FromFn.{map-range_with_len_more}
-use Rattle.sf_standard.specs.declared.hull.Extent.{Extent}
-use Rattle.sf_curves.specs.declared.direction.Direction.{Direction}
-use Rattle.sf_bounds.specs.declared.net_frame.Cell.{Cell}
-use Rattle.sf_bounds.specs.Ends.{anywhere}
-use Rattle.sf_bounds.specs.Rows.{cell_of, cell_at, joined_cell, IsFitCell}
+use Rattle.sf_bounds.proofs.Common.{range_with_len, get_or_append_left, get_or_default, map-range_with_len_more, Extent, Direction, Cell, anywhere, cell_of, cell_at, joined_cell, IsFitCell}
 
 -- a cell that was there before
 pub read-old : (old made cur : List Cell) (i : ℕ) (x : Cell) → cur ≡ old ++ made → i < length old → x ≡ get_or cur i x → x ≡ cell_at old i

@@ -1,33 +1,9 @@
 -- The rows of blocks, and what holds before any token.
 use Rattle.std.proofs.Common.{◌≡◌, ℕ, ◌+◌, ◌-◌, ◌*◌, ◌<◌, ◌≤◌, max, List, [], ◌∷◌, ◌++◌, length, take, map, get_or, refl, sym, ap, ◌∙◌, subst, inl, inr, arith, length-append, All, Bool, true, false}
-use Rattle.std.specs.Prelude.{fold, pos, nat_lt, cond, if◌then◌else◌, sum_by}
-use Rattle.std.specs.List.{AllByRecursion}
-use Rattle.std.proofs.lemmas.Int.{ints, clamps}
-use Rattle.std.proofs.lemmas.Bool.{cases_lt, cond_both}
-use Rattle.std.proofs.lemmas.List.{get_or-append_right, get_or_append_left, get_or_push, get_or-map, length_push, length-map, take_all, take-append-le}
-use Rattle.std.proofs.lemmas.List.Elements.{All-append, All-from_recursion, recursion_from_All}
-use Rattle.std.proofs.lemmas.List.Sums.{sum_by-cons}
-use Rattle.sf_model.specs.declared.design.Design.{Design}
-use Rattle.sf_model.specs.declared.parts.Net.{Net}
-use Rattle.sf_model.specs.declared.parts.Pin.{Pin}
+use Rattle.std.specs.Prelude.{if◌then◌else◌}
+use Rattle.sf_bounds.proofs.Common.{fold, pos, nat_lt, cond, sum_by, AllByRecursion, ints, clamps, cases_lt, cond_both, get_or-append_right, get_or_append_left, get_or_push, get_or-map, length_push, length-map, take_all, take-append-le, All-append, All-from_recursion, recursion_from_All, sum_by-cons, Design, Net, Pin, block_count, pin_number, pin_count, root, Extent, Interval, Offset, Item, gap, hull_of, offsets, offset_x, offset_y, contains_pin, of_pins, range_part, pair_part, hull_part, pads_x, pads_y, net_part, weighed_part, wire_part, sum_by-same, BlockRow, Cell, Reach, IsFitInterval, IsFitReach, shared, met, endless, anywhere, IsNet, pad_reach, counted, of_weight, weighed_nets, pins_at, whole_extent, row, with_pad, pads_share, part, own_reach, cell_at, block_cell, start_cell, IsFitCell, IsRow, AreBlockRows, AreStored}
 use Rattle.sf_model.specs.declared.parts.Pin.TheVariants as pin
-use Rattle.sf_model.specs.Legal.{block_count}
-use Rattle.sf_model.specs.Limits.{pin_number, pin_count}
-use Rattle.sf_node.specs.Subproblem.{root}
-use Rattle.sf_standard.specs.declared.hull.Extent.{Extent}
-use Rattle.sf_standard.specs.declared.hull.Interval.{Interval}
-use Rattle.sf_standard.specs.declared.hull.Offset.{Offset}
 use Rattle.sf_standard.specs.Items as item
-use Rattle.sf_standard.specs.Items.{Item}
-use Rattle.sf_standard.specs.Hull.{gap, hull_of, offsets, offset_x, offset_y, contains_pin, of_pins, range_part, pair_part, hull_part, pads_x, pads_y}
-use Rattle.sf_standard.specs.Standard.{net_part, weighed_part, wire_part}
-use Rattle.sf_standard.proofs.Unmoved.{sum_by-same}
-use Rattle.sf_bounds.specs.declared.net_frame.BlockRow.{BlockRow}
-use Rattle.sf_bounds.specs.declared.net_frame.Cell.{Cell}
-use Rattle.sf_bounds.specs.declared.reach.Reach.{Reach}
-use Rattle.sf_bounds.specs.Ends.{IsFitInterval, IsFitReach, shared, met, endless, anywhere}
-use Rattle.sf_bounds.specs.Pins.{IsNet, pad_reach}
-use Rattle.sf_bounds.specs.Rows.{counted, of_weight, weighed_nets, pins_at, whole_extent, row, with_pad, pads_share, part, own_reach, cell_at, block_cell, start_cell, IsFitCell, IsRow, AreBlockRows, AreStored}
 use Rattle.sf_bounds.proofs.NetKept.{row-moves}
 use Rattle.sf_bounds.proofs.NetPushed.{whole-small}
 use Rattle.sf_bounds.proofs.PinLoops.{near_pad, near_met, near_anywhere}

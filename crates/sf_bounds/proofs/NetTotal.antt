@@ -1,34 +1,8 @@
 -- What the wires take after all tokens.
 use Rattle.std.proofs.Common.{◌≡◌, ℕ, ◌+◌, ◌-◌, ◌*◌, ◌<◌, ◌≤◌, max, List, [], ◌∷◌, length, take, get_or, refl, sym, ap, ◌∙◌, subst, arith, All, true, false}
-use Rattle.std.specs.Prelude.{nat_lt, sum_by, if◌then◌else◌}
-use Rattle.std.proofs.lemmas.List.{take_all, get_or_default}
-use Rattle.std.proofs.lemmas.List.Elements.{recursion_from_All}
-use Rattle.std.proofs.lemmas.List.Sums.{sum_by_more}
-use Rattle.sf_model.specs.declared.design.Design.{Design}
-use Rattle.sf_model.specs.declared.parts.Net.{Net}
-use Rattle.sf_model.specs.declared.parts.Pin.{Pin}
-use Rattle.sf_node.specs.declared.part.Part.TheVariants.{Range, Pair, Hull}
-use Rattle.sf_node.specs.Parts.{Parts}
-use Rattle.sf_node.specs.Subproblem.{root, is_complete}
-use Rattle.sf_node.specs.Children.{IsSubproblem}
-use Rattle.sf_model.specs.Spans.{shapes_in}
-use Rattle.sf_standard.specs.Items.{Item, read, items_of, item_in}
-use Rattle.sf_standard.specs.Hull.{extent_of, offsets, hull_of, hull_part, range_part, pair_part}
-use Rattle.sf_standard.specs.Standard.{net_part, weighed_part, wire_part, pins_by, wires_by}
-use Rattle.sf_standard.proofs.Exact.{whole-item}
-use Rattle.sf_standard.proofs.Unmoved.{sum_by-same}
-use Rattle.sf_curves.specs.Direction.{token_in}
-use Rattle.sf_curves.specs.declared.direction.Direction.{Direction}
-use Rattle.sf_frames.specs.Kept.{items_at, IsNext}
+use Rattle.std.specs.Prelude.{if◌then◌else◌}
+use Rattle.sf_bounds.proofs.Common.{nat_lt, sum_by, take_all, get_or_default, recursion_from_All, sum_by_more, Design, Net, Pin, Range, Pair, Hull, Parts, root, is_complete, IsSubproblem, shapes_in, Item, read, items_of, item_in, extent_of, offsets, hull_of, hull_part, range_part, pair_part, net_part, weighed_part, wire_part, pins_by, wires_by, whole-item, sum_by-same, token_in, Direction, items_at, IsNext, BlockRow, Cell, NetFrame, Wires, Reach, anywhere, met, reach_gap, IsNet, counted, weighed_nets, weights_of, pins_at, whole_extent, row, part, pads_share, joined_reach, cell_at, IsFitCell, AreWires, AreStored, AreTop}
 use Rattle.sf_frames.proofs.WholeSpans.{whole-spans}
-use Rattle.sf_bounds.specs.declared.net_frame.BlockRow.{BlockRow}
-use Rattle.sf_bounds.specs.declared.net_frame.Cell.{Cell}
-use Rattle.sf_bounds.specs.declared.net_frame.NetFrame.{NetFrame}
-use Rattle.sf_bounds.specs.declared.net_frame.Wires.{Wires}
-use Rattle.sf_bounds.specs.declared.reach.Reach.{Reach}
-use Rattle.sf_bounds.specs.Ends.{anywhere, met, reach_gap}
-use Rattle.sf_bounds.specs.Pins.{IsNet}
-use Rattle.sf_bounds.specs.Rows.{counted, weighed_nets, weights_of, pins_at, whole_extent, row, part, pads_share, joined_reach, cell_at, IsFitCell, AreWires, AreStored, AreTop}
 use Rattle.sf_bounds.proofs.NetPushed.{whole-small, item-few, top-items, row-is}
 use Rattle.sf_bounds.proofs.NetRows.{cell-fits}
 use Rattle.sf_bounds.proofs.NetStarted.{no-hull, no-hulls, near-pads, IsThere}

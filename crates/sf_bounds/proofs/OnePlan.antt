@@ -1,22 +1,8 @@
 -- One plan belongs to a complete subproblem whose spans are single, and one expression tells it.
 use Rattle.std.proofs.Common.{◌≡◌, ℕ, map, arith, sym, subst, ◌∙◌, refl, true, not}
-use Rattle.std.specs.List.{list_all, range_with_len}
-use Rattle.std.proofs.lemmas.List.FromFn.{length-map-range_with_len, get_or-map-range_with_len}
-use Rattle.sf_model.specs.declared.design.Design.{Design}
-use Rattle.sf_model.specs.Legal.{block_count}
-use Rattle.sf_model.specs.Tree.{Tree}
-use Rattle.sf_polish.specs.declared.expr.Expr.{Expr}
+use Rattle.sf_bounds.proofs.Common.{list_all, range_with_len, length-map-range_with_len, get_or-map-range_with_len, Design, block_count, Tree, Expr, normal-spelled, Parts, Belongs, is_complete, is_wide, IsSubproblem, complete-normal, subproblem-spans, IsPlanOf, Tells, first_shape}
 use Rattle.sf_polish.specs.Postfix.{Spells}
-use Rattle.sf_polish.proofs.Normality.{normal-spelled}
 use Rattle.sf_polish.proofs.Shaped.{one-expression}
-use Rattle.sf_node.specs.Parts.{Parts}
-use Rattle.sf_node.specs.Subproblem.{Belongs, is_complete, is_wide}
-use Rattle.sf_node.specs.Children.{IsSubproblem}
-use Rattle.sf_node.proofs.Normalised.{complete-normal}
-use Rattle.sf_node.proofs.Reached.{subproblem-spans}
-use Rattle.sf_bounds.specs.Cheapest.{IsPlanOf}
-use Rattle.sf_bounds.specs.Layout.{Tells}
-use Rattle.sf_bounds.specs.Only.{first_shape}
 use Rattle.sf_bounds.proofs.OnlyPlan.{alone}
 
 -- the first shapes of the spans of n blocks, listed by number, tell each block's

@@ -1,32 +1,11 @@
 -- Where each span has one place, one plan belongs to a complete subproblem.
 use Rattle.std.proofs.Common.{◌≡◌, ℕ, suc, ◌+◌, ◌*◌, ◌<◌, ◌≤◌, List, [], ◌∷◌, length, length-append, get_or, arith, refl, ap, sym, subst, ◌∙◌, Bool, true, false, not}
-use Rattle.std.specs.Prelude.{Contains, slice_index_or, nat_lt}
-use Rattle.std.specs.List.{AllByRecursion, list_all}
-use Rattle.std.proofs.lemmas.Bool.{and_parts, eqb-true, ltb-false}
-use Rattle.std.proofs.lemmas.List.{take_all, get_or_default}
-use Rattle.std.proofs.lemmas.List.Elements.{All-from_recursion, recursion_from_All, All-contains}
-use Prim.Native.Nat.{zero}
-use Rattle.sf_model.specs.declared.design.Design.{Design}
-use Rattle.sf_model.specs.declared.parts.Shape.{Shape}
-use Rattle.sf_model.specs.Legal.{block_count, shapes_of, IsLegal}
-use Rattle.sf_model.specs.Limits.{IsSide}
-use Rattle.sf_model.specs.Tree.{Tree, Leaf, Beside, Above, leaves, leaf_count, HasSides}
-use Rattle.sf_model.proofs.Counting.{length-leaves}
-use Rattle.sf_model.proofs.Each.{each-left, each-right}
-use Rattle.sf_polish.specs.declared.expr.Expr.{Expr}
+use Rattle.sf_bounds.proofs.Common.{Contains, slice_index_or, nat_lt, AllByRecursion, list_all, and_parts, eqb-true, ltb-false, take_all, get_or_default, All-from_recursion, recursion_from_All, All-contains, zero, Design, Shape, block_count, shapes_of, IsLegal, IsSide, Tree, Leaf, Beside, Above, leaves, leaf_count, HasSides, length-leaves, each-left, each-right, Expr, Parts, Belongs, is_complete, is_wide, span_of, IsSubproblem, subproblem-spans, shapes_in, listed-belongs, spelled-inside, Tells, first_shape}
 use Rattle.sf_polish.specs.Postfix.{postfix, IsSkewed, Spells, shape_at}
 use Rattle.sf_polish.proofs.Spelling.{spells-one}
 use Rattle.sf_polish.proofs.Stack.{length-postfix}
-use Rattle.sf_node.specs.Parts.{Parts}
-use Rattle.sf_node.specs.Subproblem.{Belongs, is_complete, is_wide, span_of}
-use Rattle.sf_node.specs.Children.{IsSubproblem}
 use Rattle.sf_node.proofs.Halves.{in_span, from_in_span}
-use Rattle.sf_node.proofs.Reached.{subproblem-spans}
 use Rattle.sf_node.proofs.Spanned.{are-spans}
-use Rattle.sf_model.specs.Spans.{shapes_in}
-use Rattle.sf_standard.proofs.Exact.{listed-belongs, spelled-inside}
-use Rattle.sf_bounds.specs.Layout.{Tells}
-use Rattle.sf_bounds.specs.Only.{first_shape}
 
 -- what follows from two properties holds of all elements of which both hold
 each-both : {X : Type 0} (P Q R : X → Type 0) → ((x : X) → P x → Q x → R x) → (xs : List X) → AllByRecursion P xs → AllByRecursion Q xs → AllByRecursion R xs

@@ -1,19 +1,8 @@
 -- The greatest sum of two numbers, number by number.
 use Rattle.std.proofs.Common.{◌≡◌, ℕ, ◌+◌, ◌<◌, ◌≤◌, max, List, [], ◌∷◌, ◌++◌, map, length, take, drop, append_assoc, append-nil, arith, refl, ap, sym, subst, ◌∙◌}
-use Rattle.std.specs.Prelude.{fold, Option, Some, None, IfSome}
-use Rattle.std.specs.List.{AllByRecursion}
-use Rattle.std.proofs.lemmas.List.Elements.{recursion_from_All}
-use Rattle.std.proofs.lemmas.List.{take-append-drop}
-use Rattle.sf_model.proofs.Each.{each-left}
-use Rattle.sf_model.specs.declared.design.Design.{Design}
-use Rattle.sf_model.specs.declared.parts.Pin.{Pin}
+use Rattle.sf_bounds.proofs.Common.{fold, Option, Some, None, IfSome, AllByRecursion, recursion_from_All, take-append-drop, each-left, Design, Pin, pin_number, pin_count, greatest_with, greatest_two, block_pins, greatest, Standing, IsNet, IsReady, standing_at, paired, pairs_pin, no_pair, paired_sides}
 use Rattle.sf_model.specs.declared.parts.Pin.TheVariants as pin
-use Rattle.sf_model.specs.Limits.{pin_number, pin_count}
-use Rattle.sf_standard.specs.Hull.{greatest_with, greatest_two, block_pins}
-use Rattle.sf_standard.specs.Standard.{greatest}
-use Rattle.sf_bounds.specs.declared.layout.Standing.{Standing}
 use Rattle.sf_bounds.specs.declared.pins.Pair.{Pair}
-use Rattle.sf_bounds.specs.Pins.{IsNet, IsReady, standing_at, paired, pairs_pin, no_pair, paired_sides}
 use Rattle.sf_bounds.proofs.PinLoops.{standing_ready}
 
 -- the greatest of some numbers, where there is one

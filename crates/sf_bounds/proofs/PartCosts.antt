@@ -1,14 +1,9 @@
 -- What the area and the wires of a subproblem cost, by each part of the bound.
 use Rattle.std.proofs.Common.{◌≡◌, ℕ, ◌+◌, ◌*◌, arith, ap}
-use Rattle.sf_model.specs.declared.design.Design.{Design}
+use Rattle.sf_bounds.proofs.Common.{Design, Area, Range, Pair, Hull, Full, Parts, wires_by, wire_part, open_value, standard, part_value, WireParts, IsAreaCost, AreWireCosts}
 use Rattle.sf_node.specs.declared.part.Part.{Part}
-use Rattle.sf_node.specs.declared.part.Part.TheVariants.{Area, Range, Pair, Hull, Full}
 use Rattle.sf_node.specs.ByPart.{AreValues}
-use Rattle.sf_node.specs.Parts.{Parts}
-use Rattle.sf_standard.specs.Standard.{wires_by, wire_part, open_value, standard, part_value}
 use Rattle.sf_standard.proofs.ByPart.{areas-free}
-use Rattle.sf_bounds.specs.declared.wire_parts.WireParts.{WireParts}
-use Rattle.sf_bounds.specs.Open.{IsAreaCost, AreWireCosts}
 
 module _ (design : Design) (node : Parts) where
   -- the cost of the area is the value of the part of that name

@@ -1,15 +1,7 @@
 -- The sums over the nets, by each part of the bound.
 use Rattle.std.proofs.Common.{max, ◌≡◌, ℕ, ◌+◌, ◌*◌, ◌<◌, ◌≤◌, take, length, get_or, arith, ap, sym, ◌∙◌}
-use Rattle.std.specs.Prelude.{sum_by}
-use Rattle.std.proofs.lemmas.List.Sums.{sum_by_more}
-use Rattle.sf_model.specs.declared.design.Design.{Design}
-use Rattle.sf_model.specs.declared.parts.Net.{Net}
+use Rattle.sf_bounds.proofs.Common.{sum_by, sum_by_more, Design, Net, Range, Pair, Hull, Full, Parts, pins_by, WireParts, AreByPart, AreAtMost}
 use Rattle.sf_node.specs.declared.part.Part.{Part}
-use Rattle.sf_node.specs.declared.part.Part.TheVariants.{Range, Pair, Hull, Full}
-use Rattle.sf_node.specs.Parts.{Parts}
-use Rattle.sf_standard.specs.Standard.{pins_by}
-use Rattle.sf_bounds.specs.declared.wire_parts.WireParts.{WireParts}
-use Rattle.sf_bounds.specs.Open.{AreByPart, AreAtMost}
 use Rattle.sf_bounds.proofs.Weights.{weighed_small}
 
 -- the greatest of the parts is no greater than what none of them is above

@@ -1,23 +1,7 @@
 -- What the loops over the pins of a net keep.
 use Rattle.std.proofs.Common.{◌≡◌, ℕ, ◌<◌, ◌≤◌, max, List, [], ◌∷◌, length, take, get_or, arith, refl, ap, ◌∙◌, subst, sym, All, ◌==◌, Bool, true, false}
-use Rattle.std.specs.Prelude.{fold, Option, Some, None, IfSome, pos}
-use Rattle.std.specs.List.{AllByRecursion}
-use Rattle.std.proofs.lemmas.Int.{ints, clamps}
-use Rattle.std.proofs.lemmas.Bool.{cond_both}
-use Rattle.std.proofs.lemmas.List.{take_all}
-use Rattle.std.proofs.lemmas.List.Elements.{recursion_from_All, All-from_recursion}
-use Rattle.sf_model.specs.declared.design.Design.{Design}
-use Rattle.sf_model.specs.declared.parts.Pin.{Pin}
+use Rattle.sf_bounds.proofs.Common.{fold, Option, Some, None, IfSome, pos, AllByRecursion, ints, clamps, cond_both, take_all, recursion_from_All, All-from_recursion, Design, Pin, block_count, pin_number, pin_count, each-weaker, Interval, Home, Standing, Reach, IsFitInterval, IsFitReach, shared, met, anywhere, reach_gap, IsNet, IsReadyAt, IsReady, standing_at, pad_reach, pin_range, pin_home, narrowed, narrowed_in, shared_in, home_gap, greatest_gap, shared_ranges, shared_homes}
 use Rattle.sf_model.specs.declared.parts.Pin.TheVariants as pin
-use Rattle.sf_model.specs.Legal.{block_count}
-use Rattle.sf_model.specs.Limits.{pin_number, pin_count}
-use Rattle.sf_model.proofs.Each.{each-weaker}
-use Rattle.sf_standard.specs.declared.hull.Interval.{Interval}
-use Rattle.sf_bounds.specs.declared.layout.Home.{Home}
-use Rattle.sf_bounds.specs.declared.layout.Standing.{Standing}
-use Rattle.sf_bounds.specs.declared.reach.Reach.{Reach}
-use Rattle.sf_bounds.specs.Ends.{IsFitInterval, IsFitReach, shared, met, anywhere, reach_gap}
-use Rattle.sf_bounds.specs.Pins.{IsNet, IsReadyAt, IsReady, standing_at, pad_reach, pin_range, pin_home, narrowed, narrowed_in, shared_in, home_gap, greatest_gap, shared_ranges, shared_homes}
 
 -- a fold over all pins is one over the first k, where there are no more than k
 pub fold_whole : {A B : Type 0} (f : B → A → B) (b : B) (xs : List A) (k : ℕ) → length xs ≤ k → fold f b (take k xs) ≡ fold f b xs

@@ -1,17 +1,7 @@
 -- What the ranges of a net's pins share tells the range part.
 use Rattle.std.proofs.Common.{◌≡◌, ℕ, ◌+◌, ◌<◌, List, [], ◌∷◌, map, length, refl, ap, ◌∙◌}
-use Rattle.std.specs.Prelude.{fold, ◌-ℤ◌}
-use Rattle.std.proofs.lemmas.List.Elements.{recursion_from_All}
-use Rattle.sf_model.specs.declared.design.Design.{Design}
-use Rattle.sf_model.specs.declared.parts.Pin.{Pin}
-use Rattle.sf_model.specs.Limits.{pin_number, pin_count}
-use Rattle.sf_model.proofs.Each.{each-map, each-weaker}
-use Rattle.sf_standard.specs.declared.hull.Interval.{Interval}
-use Rattle.sf_standard.specs.Hull.{to_nat, gap}
-use Rattle.sf_bounds.specs.declared.layout.Standing.{Standing}
-use Rattle.sf_bounds.specs.declared.reach.Reach.{Reach}
-use Rattle.sf_bounds.specs.Ends.{IsFitInterval, shared, met, anywhere, reach_gap}
-use Rattle.sf_bounds.specs.Pins.{IsNet, IsReady, pin_range, shared_ranges}
+use Rattle.std.specs.Prelude.{◌-ℤ◌}
+use Rattle.sf_bounds.proofs.Common.{fold, recursion_from_All, Design, Pin, pin_number, pin_count, each-map, each-weaker, Interval, to_nat, gap, Standing, Reach, IsFitInterval, shared, met, anywhere, reach_gap, IsNet, IsReady, pin_range, shared_ranges}
 use Rattle.sf_bounds.proofs.Meeting.{gap-shared}
 use Rattle.sf_bounds.proofs.PinLoops.{near_range}
 

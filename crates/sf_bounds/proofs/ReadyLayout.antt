@@ -1,28 +1,7 @@
 -- A layout of a subproblem is one that pins can be read by, and its homes are the places of the blocks in the items.
 use Rattle.std.proofs.Common.{◌≡◌, ℕ, suc, ◌+◌, ◌<◌, ◌≤◌, List, [], ◌∷◌, length, reverse, map, get_or, arith, refl, ap, sym, subst, ◌∙◌, ◌⊎◌, inl, inr, All, ◌==◌}
-use Rattle.std.specs.Prelude.{Contains, count_by, if◌then◌else◌, Option, Some, None, IfSome}
-use Prim.Native.Nat.{zero}
-use Rattle.std.proofs.lemmas.Int.{ints}
-use Rattle.std.proofs.lemmas.Bool.{cases_eq, ne_eqb, eq-eqb, cond-true, cond-false}
-use Rattle.std.proofs.lemmas.List.{length-map}
-use Rattle.std.proofs.lemmas.List.Elements.{Contains-append_cases, Contains-append_left, Contains-append_right, All-contains}
-use Rattle.sf_model.specs.declared.design.Design.{Design}
-use Rattle.sf_model.specs.Legal.{block_count}
-use Rattle.sf_node.specs.Parts.{Parts}
-use Rattle.sf_curves.proofs.Members.{Contains-cons_cases, Contains-head, Contains-tail, not_in_nil}
-use Rattle.sf_standard.specs.declared.hull.Extent.{Extent}
-use Rattle.sf_standard.specs.declared.hull.Offset.{Offset}
-use Rattle.sf_standard.specs.Items.{Item, items_of}
-use Rattle.sf_standard.specs.Hull.{offsets, extent_in}
-use Rattle.sf_standard.proofs.Listed.{Contains-map, Contains-from_map, count-cons, count-head}
-use Rattle.sf_bounds.specs.declared.layout.Home.{Home}
-use Rattle.sf_bounds.specs.declared.layout.Layout.{Layout}
-use Rattle.sf_bounds.specs.declared.layout.Seat.{Seat}
-use Rattle.sf_bounds.specs.declared.layout.Standing.{Standing}
-use Rattle.sf_bounds.specs.Layout.{Tells, IsModestOffset, AreModest, held_of, seat_at, seats_from}
-use Rattle.sf_bounds.specs.Ends.{IsFitReach, anywhere}
-use Rattle.sf_bounds.specs.Pins.{IsLayout, IsReadyAt, IsReady, extent_from, home_in, last_home, block_range, standing_at, standing_by}
-use Rattle.sf_standard.proofs.Sides.{IsSmallExtent, span-small}
+use Rattle.std.specs.Prelude.{if◌then◌else◌}
+use Rattle.sf_bounds.proofs.Common.{Contains, count_by, Option, Some, None, IfSome, zero, ints, cases_eq, ne_eqb, eq-eqb, cond-true, cond-false, length-map, Contains-append_cases, Contains-append_left, Contains-append_right, All-contains, Design, block_count, Parts, Contains-cons_cases, Contains-head, Contains-tail, not_in_nil, Extent, Offset, Item, items_of, offsets, extent_in, Contains-map, Contains-from_map, count-cons, count-head, Home, Layout, Seat, Standing, Tells, IsModestOffset, AreModest, held_of, seat_at, seats_from, IsFitReach, anywhere, IsLayout, IsReadyAt, IsReady, extent_from, home_in, last_home, block_range, standing_at, standing_by, IsSmallExtent, span-small}
 use Rattle.sf_bounds.proofs.ModestExtents.{are-modest}
 
 -- the last home of a block is the one given, or by one of the seats

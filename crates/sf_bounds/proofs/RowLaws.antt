@@ -1,28 +1,12 @@
 -- The row of an item, from those of its parts, and what it tells of the hull.
 use Rattle.std.proofs.Common.{◌≡◌, ℕ, ◌+◌, ◌*◌, ◌≤◌, List, [], ◌∷◌, ◌++◌, length, map, refl, ap, sym, ◌∙◌, subst, arith, length-append, true, false}
-use Rattle.std.specs.Prelude.{fold, if◌then◌else◌, ◌-ℤ◌}
-use Rattle.std.specs.List.{AllByRecursion}
-use Rattle.std.proofs.lemmas.Int.{ints}
-use Rattle.std.proofs.lemmas.List.{map-append, append-nil, length-map}
-use Rattle.sf_model.specs.declared.design.Design.{Design}
-use Rattle.sf_model.specs.declared.parts.Pin.{Pin}
+use Rattle.std.specs.Prelude.{if◌then◌else◌, ◌-ℤ◌}
+use Rattle.sf_bounds.proofs.Common.{fold, AllByRecursion, ints, map-append, append-nil, length-map, Design, Pin, each-append, each-map, each-weaker, Extent, Interval, Offset, Item, item_in, to_nat, gap, item_extent, offsets, offset_x, offset_y, moved_right, moved_up, contains_pin, of_pins, pads_x, pads_y, hull_of, Direction, Reach, IsFitInterval, IsFitReach, shared, met, endless, anywhere, reach_gap, pad_reach, row, with_pad, pads_share, pushed, pushed_reach, joined_reach, IsSmallExtent}
 use Rattle.sf_model.specs.declared.parts.Pin.TheVariants as pin
-use Rattle.sf_model.proofs.Each.{each-append, each-map, each-weaker}
-use Rattle.sf_standard.specs.declared.hull.Extent.{Extent}
-use Rattle.sf_standard.specs.declared.hull.Interval.{Interval}
-use Rattle.sf_standard.specs.declared.hull.Offset.{Offset}
 use Rattle.sf_standard.specs.Items as item
-use Rattle.sf_standard.specs.Items.{Item, item_in}
-use Rattle.sf_standard.specs.Hull.{to_nat, gap, item_extent, offsets, offset_x, offset_y, moved_right, moved_up, contains_pin, of_pins, pads_x, pads_y, hull_of}
-use Rattle.sf_curves.specs.declared.direction.Direction.{Direction}
 use Rattle.sf_curves.specs.declared.direction.Direction.TheVariants.{Beside, Above}
-use Rattle.sf_bounds.specs.declared.reach.Reach.{Reach}
-use Rattle.sf_bounds.specs.Ends.{IsFitInterval, IsFitReach, shared, met, endless, anywhere, reach_gap}
-use Rattle.sf_bounds.specs.Pins.{pad_reach}
-use Rattle.sf_bounds.specs.Rows.{row, with_pad, pads_share, pushed, pushed_reach, joined_reach}
 use Rattle.sf_bounds.proofs.Meeting.{gap-shared}
 use Rattle.sf_bounds.proofs.Shares.{interval, moved, IsHome, home-near, share-append, share-moved, near-share}
-use Rattle.sf_standard.proofs.Sides.{IsSmallExtent}
 use Rattle.sf_bounds.proofs.ModestExtents.{IsSmallOffset, offsets-small}
 
 -- the places of the pins' blocks in two lists together are those in the first and then those in the second

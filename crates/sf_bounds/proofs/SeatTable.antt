@@ -1,16 +1,7 @@
 -- The table of standings, seat by seat.
 use Rattle.std.proofs.Common.{◌≡◌, ◌≢◌, ℕ, ◌+◌, ◌<◌, List, [], ◌∷◌, ◌++◌, length, take, get_or, arith, refl, ap, sym, subst, ◌∙◌, inl, inr, ◌==◌, length-set, get_or-set_same, get_or-set_other}
-use Rattle.std.specs.Prelude.{slice_set, Option, Some, None, if◌then◌else◌}
-use Rattle.std.proofs.lemmas.Bool.{cases_eq, ne_eqb, eq-eqb, cond-true, cond-false}
-use Rattle.std.proofs.lemmas.List.{take_more}
-use Rattle.sf_model.specs.declared.design.Design.{Design}
-use Rattle.sf_standard.specs.declared.hull.Extent.{Extent}
-use Rattle.sf_bounds.specs.declared.layout.Home.{Home}
-use Rattle.sf_bounds.specs.declared.layout.Seat.{Seat}
-use Rattle.sf_bounds.specs.declared.layout.Standing.{Standing}
-use Rattle.sf_bounds.specs.Layout.{Tells}
-use Rattle.sf_bounds.specs.Ends.{anywhere}
-use Rattle.sf_bounds.specs.Pins.{extent_from, home_in, last_home, standing_of, standing_at, standing_by}
+use Rattle.std.specs.Prelude.{if◌then◌else◌}
+use Rattle.sf_bounds.proofs.Common.{slice_set, Option, Some, None, cases_eq, ne_eqb, eq-eqb, cond-true, cond-false, take_more, Design, Extent, Home, Seat, Standing, Tells, anywhere, extent_from, home_in, last_home, standing_of, standing_at, standing_by}
 
 -- with one seat more, the last home of its block is that of this seat, and of any other block the one before
 last-push : (extent : ℕ → Extent) (d : Option Home) (b : ℕ) (xs : List Seat) (s : Seat) → last_home extent d b (xs ++ s ∷ []) ≡ (if s.offset.block == b then Some (home_in (extent s.offset.block) s) else last_home extent d b xs)

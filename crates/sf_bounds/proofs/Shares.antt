@@ -1,12 +1,7 @@
 -- What intervals share, where they are appended and where all are pushed.
 use Rattle.std.proofs.Common.{◌≡◌, ℕ, ◌*◌, List, [], ◌∷◌, ◌++◌, map, refl, ap, sym, ◌∙◌, arith, false}
-use Rattle.std.specs.Prelude.{fold, pos, neg_ℤ, ◌≤ℤ◌, ◌+ℤ◌, int_lt, ℤ}
-use Rattle.std.specs.List.{AllByRecursion}
-use Rattle.std.proofs.lemmas.Int.{ints, clamps}
-use Rattle.std.proofs.lemmas.Bool.{cond-false}
-use Rattle.sf_standard.specs.declared.hull.Interval.{Interval}
-use Rattle.sf_bounds.specs.Ends.{IsFitInterval, shared, endless}
-use Rattle.sf_bounds.specs.Rows.{pushed}
+use Rattle.std.specs.Prelude.{◌≤ℤ◌, ◌+ℤ◌}
+use Rattle.sf_bounds.proofs.Common.{fold, pos, neg_ℤ, int_lt, ℤ, AllByRecursion, ints, clamps, cond-false, Interval, IsFitInterval, shared, endless, pushed}
 
 -- intervals with equal ends are equal
 pub interval : (a b c d : ℤ) → a ≡ c → b ≡ d → ◌≡◌ {A = Interval} (record { low = a; high = b }) (record { low = c; high = d })

@@ -1,7 +1,6 @@
 -- A list whose elements from a on were changed, up to i.
 use Rattle.std.proofs.Common.{◌≡◌, ℕ, suc, ◌+◌, ◌<◌, ◌≤◌, List, [], ◌∷◌, ◌++◌, length, map, take, drop, get_or, arith, refl, ap, sym, subst, ◌∙◌, All}
-use Rattle.std.specs.Prelude.{slice_set}
-use Prim.Native.Nat.{zero}
+use Rattle.sf_bounds.proofs.Common.{slice_set, zero}
 
 module _ {X : Type 0} (f : X → X) where
   -- the list with f of the elements from place a up to before place i

@@ -1,8 +1,7 @@
 -- What an integer is as a number of at least 0.
 use Rattle.std.proofs.Common.{◌≡◌, arith, refl}
-use Rattle.std.specs.Prelude.{ℤ, pos, negsuc, ◌≤ℤ◌, nat_abs}
-use Rattle.std.proofs.lemmas.Int.{ints}
-use Rattle.sf_standard.specs.Hull.{to_nat}
+use Rattle.std.specs.Prelude.{◌≤ℤ◌}
+use Rattle.sf_bounds.proofs.Common.{ℤ, pos, negsuc, nat_abs, ints, to_nat}
 
 -- an integer of at most 0 counts as 0
 pub to_nat_none : (z : ℤ) → z ≤ℤ pos 0 → to_nat z ≡ 0

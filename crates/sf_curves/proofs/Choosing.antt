@@ -1,22 +1,12 @@
 -- The curve of a tree of curves is the root curve of its tokens.
 use Rattle.std.proofs.Common.{◌≡◌, ℕ, List, arith, refl, ap, sym, subst, ◌∙◌, All, AllPairs}
-use Rattle.std.specs.Prelude.{Contains}
+use Rattle.sf_curves.proofs.Common.{Contains, All-contains, All-from_recursion, recursion_from_All, Contains-get_or, Outline, Shape, Tree, Leaf, Beside, Above, leaves, Token, postfix, no_shape, IsChoice, IsRootCurve, TakesFrom, size_of, form, curve_of, form_of, IsCurveTree, IsTraced, IsChosen, IsSized, IsSlimmer, IsWithin, IsNoLarger, IsCovered, CoversJoins, IsJoinOf, beside_size, above_size}
 use Rattle.std.specs.List.{AllByRecursion}
-use Rattle.std.proofs.lemmas.List.Elements.{All-contains, All-from_recursion, recursion_from_All, Contains-get_or}
 use Rattle.sf_model.specs.declared.design.Design.{Design}
-use Rattle.sf_model.specs.declared.parts.Outline.{Outline}
-use Rattle.sf_model.specs.declared.parts.Shape.{Shape}
-use Rattle.sf_model.specs.Tree.{Tree, Leaf, Beside, Above, leaves}
 use Rattle.sf_model.proofs.Each.{each-append, each-left, each-right}
-use Rattle.sf_polish.specs.declared.expr.Token.{Token}
-use Rattle.sf_polish.specs.Postfix.{postfix}
-use Rattle.sf_polish.specs.Shaping.{no_shape}
 use Rattle.sf_curves.specs.declared.curve_tree.CurveTree.{CurveTree}
 use Rattle.sf_curves.specs.declared.curve_tree.CurveTree.TheVariants as tree
 use Rattle.sf_model.specs.Spans.{shapes_in}
-use Rattle.sf_curves.specs.Choices.{IsChoice, IsRootCurve, TakesFrom, size_of}
-use Rattle.sf_curves.specs.Forms.{form, curve_of, form_of, IsCurveTree, IsTraced, IsChosen, IsSized}
-use Rattle.sf_curves.specs.Points.{IsSlimmer, IsWithin, IsNoLarger, IsCovered, CoversJoins, IsJoinOf, beside_size, above_size}
 use Rattle.sf_curves.proofs.Forms.{same-form, form-tokens}
 use Rattle.sf_curves.proofs.OnCurve.{same_point, one_point}
 

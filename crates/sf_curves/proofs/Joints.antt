@@ -1,9 +1,6 @@
 -- The points of two rooms for a point of their curve.
 use Rattle.std.proofs.Common.{◌≤◌, List, arith, ap, All}
-use Rattle.std.specs.Prelude.{Any, Contains}
-use Rattle.std.proofs.lemmas.List.Elements.{All-contains}
-use Rattle.sf_model.specs.declared.parts.Shape.{Shape}
-use Rattle.sf_curves.specs.Points.{IsNoLarger, IsNarrowest, IsLowest, IsJoinOf, beside_size, above_size}
+use Rattle.sf_curves.proofs.Common.{Any, Contains, All-contains, Shape, IsNoLarger, IsNarrowest, IsLowest, IsJoinOf, beside_size, above_size}
 use Rattle.sf_curves.proofs.Members.{Any-from_contains}
 
 -- the points below exist

@@ -1,11 +1,6 @@
 -- Points of a curve: one of two that is no larger is the other, and which are the narrowest and the lowest by a limit.
 use Rattle.std.proofs.Common.{◌≡◌, ℕ, ◌<◌, ◌≤◌, inl, inr, List, length, get_or, sym, ap, ◌∙◌, subst, arith}
-use Rattle.std.specs.Prelude.{AllPairs, Contains}
-use Rattle.std.proofs.lemmas.List.Elements.{Contains-get_or}
-use Rattle.std.proofs.lemmas.List.{get_or_default}
-use Rattle.std.proofs.lemmas.Bool.{cases_lt}
-use Rattle.sf_model.specs.declared.parts.Shape.{Shape}
-use Rattle.sf_curves.specs.Points.{IsSlimmer, IsNoLarger, IsNarrowest, IsLowest}
+use Rattle.sf_curves.proofs.Common.{AllPairs, Contains, Contains-get_or, get_or_default, cases_lt, Shape, IsSlimmer, IsNoLarger, IsNarrowest, IsLowest}
 
 -- points of the same sides are one
 pub same_point : (p q : Shape) → p.w ≡ q.w → p.h ≡ q.h → p ≡ q

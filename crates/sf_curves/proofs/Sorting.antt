@@ -1,20 +1,14 @@
 -- Shapes in order, by width, then height.
 use Rattle.std.proofs.Common.{◌≡◌, ℕ, ◌+◌, ◌<◌, List, length, get_or, take, false, true≢false, refl, sym, subst, arith, Bor}
-use Rattle.std.specs.Prelude.{All, AllPairs}
+use Rattle.sf_curves.proofs.Common.{All, AllPairs, IsSortedByKey, take_more, All-push, All-weaker, all_pairs_push, Shape, IsNoLater}
 use Rattle.std.specs.Cmp.{IsTotalOrder}
 use Rattle.std.specs.Fn.{Called, ComputesKey}
-use Rattle.std.specs.List.Sorted.{IsSortedByKey}
 use Rattle.std.specs.Ordering.{is_lt, nat_cmp, ordering_then, MatchOrdering}
 use Rattle.std.specs.declared.cmp.Ordering.{Ordering}
 use Rattle.std.specs.declared.cmp.Ordering.TheVariants.{Less, Equal, Greater}
 use Rattle.std.proofs.lemmas.Cmp.{ranked, nat_cmp_total, on_total, then_total}
 use Rattle.std.proofs.lemmas.Fn.{always_returns_same}
-use Rattle.std.proofs.lemmas.List.{take_more}
-use Rattle.std.proofs.lemmas.List.Elements.{All-push, All-weaker}
-use Rattle.std.proofs.lemmas.List.Quantifiers.{all_pairs_push}
 use Rattle.std.proofs.lemmas.List.Sorted.{ranks_by, sorted_far}
-use Rattle.sf_model.specs.declared.parts.Shape.{Shape}
-use Rattle.sf_curves.specs.Points.{IsNoLater}
 use denote.Param.Members.{Mut}
 
 -- no later than what stands no later is no later

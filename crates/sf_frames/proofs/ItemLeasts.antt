@@ -1,23 +1,8 @@
 -- The least values over the curve of an item are those over its plans.
 use Rattle.std.proofs.Common.{◌≡◌, ◌≢◌, ℕ, suc, ◌≤◌, List, [], ◌∷◌, length, map, get_or, refl, ap, ◌∙◌, subst, arith, true, false, All}
-use Rattle.std.specs.Prelude.{Any, Contains}
-use Rattle.std.proofs.lemmas.Bool.{ne_eqb}
-use Rattle.std.proofs.lemmas.List.Elements.{All-contains}
-use Rattle.sf_model.specs.declared.design.Design.{Design}
-use Rattle.sf_model.specs.declared.parts.Shape.{Shape}
-use Rattle.sf_model.specs.Tree.{Tree}
-use Rattle.sf_node.specs.Parts.{Parts}
-use Rattle.sf_curves.specs.Points.{IsNoLarger, IsWithin, IsCovered}
-use Rattle.sf_curves.proofs.Members.{not_in_nil}
-use Rattle.sf_standard.specs.Items.{Item, fitting}
-use Rattle.sf_standard.specs.Standard.{least_of, has_none}
-use Rattle.sf_curves.specs.Choices.{size_of}
-use Rattle.sf_frames.specs.Curves.{IsItemCurve}
-use Rattle.sf_frames.specs.Least.{least_by}
+use Rattle.sf_frames.proofs.Common.{Any, Contains, ne_eqb, All-contains, Design, Shape, Tree, Parts, IsNoLarger, IsWithin, IsCovered, not_in_nil, Item, fitting, least_of, has_none, size_of, IsItemCurve, least_by, Contains-from_map, Contains-map, Contains-get_or}
 use Rattle.sf_frames.proofs.Leasts.{least_by-curve}
-use Rattle.sf_standard.proofs.Listed.{Contains-from_map, Contains-map}
 use Rattle.sf_frames.proofs.Joining.{sizes-within}
-use Rattle.std.proofs.lemmas.List.Elements.{Contains-get_or}
 
 -- the least value over the sizes of plans is that over the plans
 least-map : (f : Shape → ℕ) (ts : List Tree) → least_by f (map size_of ts) ≡ least_of (λ t. f (size_of t)) ts

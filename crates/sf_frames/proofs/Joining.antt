@@ -1,25 +1,10 @@
 -- The curves of joined items, and the operands of tokens.
 use Rattle.std.proofs.Common.{◌≡◌, ℕ, ◌+◌, ◌-◌, ◌<◌, ◌≤◌, List, [], ◌∷◌, map, get_or, refl, sym, ap, ◌∙◌, subst, arith, All}
-use Rattle.std.specs.Prelude.{Contains, IsFalse}
-use Rattle.std.specs.List.{AllByRecursion}
-use Rattle.std.proofs.lemmas.List.Elements.{All-contains, Contains-get_or}
-use Rattle.sf_model.specs.declared.design.Design.{Design}
-use Rattle.sf_model.specs.declared.parts.Shape.{Shape}
-use Rattle.sf_model.specs.Tree.{Tree, Leaf, Beside, Above}
-use Rattle.sf_polish.specs.declared.expr.Token.{Token}
+use Rattle.sf_frames.proofs.Common.{Contains, IsFalse, AllByRecursion, All-contains, Contains-get_or, Design, Shape, Tree, Leaf, Beside, Above, Token, is_outside, Parts, IsWithin, IsNoLarger, IsCovered, IsCurveOf, IsCombination, beside_size, above_size, shapes_in, Item, plans, pairs, fits, fitting, size_of, IsItemCurve, Contains-map, Contains-from_map, Contains-filter, Contains-from_filter, Contains-pairs, Contains-from_pairs, fits-true}
 use Rattle.sf_polish.specs.declared.expr.Token.TheVariants as token
-use Rattle.sf_polish.specs.Normal.{is_outside}
 use Rattle.sf_polish.proofs.Stack.{Reads}
 use Rattle.sf_polish.proofs.Normality.{inside-number}
-use Rattle.sf_node.specs.Parts.{Parts}
-use Rattle.sf_curves.specs.Points.{IsWithin, IsNoLarger, IsCovered, IsCurveOf, IsCombination, beside_size, above_size}
 use Rattle.sf_standard.specs.Items as item
-use Rattle.sf_model.specs.Spans.{shapes_in}
-use Rattle.sf_standard.specs.Items.{Item, plans, pairs, fits, fitting}
-use Rattle.sf_curves.specs.Choices.{size_of}
-use Rattle.sf_frames.specs.Curves.{IsItemCurve}
-use Rattle.sf_standard.proofs.Listed.{Contains-map, Contains-from_map, Contains-filter, Contains-from_filter, Contains-pairs, Contains-from_pairs}
-use Rattle.sf_standard.proofs.Cutting.{fits-true}
 use Rattle.sf_standard.proofs.Exact.{fits-from}
 
 -- a curve of a block

@@ -1,20 +1,7 @@
 -- Frames through changes of the list of points.
 use Rattle.std.proofs.Common.{◌≡◌, ℕ, ◌+◌, ◌-◌, ◌<◌, ◌≤◌, List, [], ◌∷◌, ◌++◌, length, take, drop, get_or, sym, ap, ◌∙◌, subst, inl, inr, arith, length-append, length-drop}
-use Rattle.std.specs.Prelude.{AllPairs, slice_range}
-use Rattle.std.proofs.lemmas.List.{take-take, take-append-le, drop-append-le, drop-take, get_or-take, get_or_push, get_or_append_left, length_push, length-take-le, take_all, map-append, take-map}
+use Rattle.sf_frames.proofs.Common.{AllPairs, slice_range, take-take, take-append-le, drop-append-le, drop-take, get_or-take, get_or_push, get_or_append_left, length_push, length-take-le, take_all, map-append, take-map, sum_by_push, cases_lt, cases_eq, Design, Shape, Token, root, IsSlimmer, Item, Block, Frame, Kept, IsItemCurve, IsKept, AreWhole, IsFrame, IsStored, IsEndOf, IsNext, token_of, added, needed}
 use Rattle.std.proofs.lemmas.List.Quantifiers.{all_pairs_push}
-use Rattle.std.proofs.lemmas.List.Sums.{sum_by_push}
-use Rattle.std.proofs.lemmas.Bool.{cases_lt, cases_eq}
-use Rattle.sf_model.specs.declared.design.Design.{Design}
-use Rattle.sf_model.specs.declared.parts.Shape.{Shape}
-use Rattle.sf_polish.specs.declared.expr.Token.{Token}
-use Rattle.sf_node.specs.Subproblem.{root}
-use Rattle.sf_curves.specs.Points.{IsSlimmer}
-use Rattle.sf_standard.specs.Items.{Item, Block}
-use Rattle.sf_frames.specs.declared.frame.Frame.{Frame}
-use Rattle.sf_frames.specs.declared.frame.Kept.{Kept}
-use Rattle.sf_frames.specs.Curves.{IsItemCurve}
-use Rattle.sf_frames.specs.Kept.{IsKept, AreWhole, IsFrame, IsStored, IsEndOf, IsNext, token_of, added, needed}
 use Rattle.sf_frames.proofs.Topping.{take-next}
 
 -- a range of a list stays as it is when more is put at the end

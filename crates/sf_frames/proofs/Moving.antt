@@ -1,25 +1,9 @@
 -- The sums over the groups after a block was moved onto the stack.
 use Rattle.std.proofs.Common.{◌≡◌, ℕ, ◌+◌, ◌<◌, List, [], ◌∷◌, length, map, take, drop, refl, sym, ap, ◌∙◌, subst, arith, true, ◌==◌}
-use Rattle.std.specs.Prelude.{sum, count_by, cond, Option, Some, None}
-use Rattle.std.specs.List.{list_any}
-use Rattle.std.proofs.lemmas.Bool.{cond-true, eq-eqb}
-use Rattle.std.proofs.lemmas.List.{take-append-drop, length-map}
-use Rattle.std.proofs.lemmas.List.Sums.{sum_by-cons, sum_by-append}
-use Rattle.sf_model.specs.declared.design.Design.{Design}
-use Rattle.sf_model.specs.Tree.{Tree, width, height}
-use Rattle.sf_polish.specs.declared.expr.Token.{Token}
+use Rattle.sf_frames.proofs.Common.{sum, count_by, cond, Option, Some, None, list_any, cond-true, eq-eqb, take-append-drop, length-map, sum_by-cons, sum_by-append, Design, Tree, width, height, Token, is_block, Parts, root, IsSubproblem, CanStep, is_unused, subproblem-begun, area, least_of, greatest, has_none, plans_of, Sums, path, groups_at, IsNext, AreSumsOrNone}
 use Rattle.sf_polish.specs.declared.expr.Token.TheVariants as token
-use Rattle.sf_polish.specs.Normal.{is_block}
 use Rattle.sf_node.specs.declared.step.Step.TheVariants as step
-use Rattle.sf_node.specs.Parts.{Parts}
-use Rattle.sf_node.specs.Subproblem.{root}
-use Rattle.sf_node.specs.Children.{IsSubproblem, CanStep, is_unused}
-use Rattle.sf_node.proofs.Normalised.{subproblem-begun}
-use Rattle.sf_standard.specs.Standard.{area, least_of, greatest, has_none, plans_of}
 use Rattle.sf_standard.proofs.Unmoved.{Moves, block-moves, sum-move, greatest-move, any-move}
-use Rattle.sf_frames.specs.declared.sums.Sums.{Sums}
-use Rattle.sf_frames.specs.Kept.{path, groups_at, IsNext}
-use Rattle.sf_frames.specs.Sums.{AreSumsOrNone}
 use Rattle.sf_frames.proofs.Topping.{take-next, block-inside}
 
 -- sums over groups stay the same when one group stands at another place

@@ -1,28 +1,9 @@
 -- One frame more.
 use Rattle.std.proofs.Common.{◌≡◌, ℕ, ◌+◌, ◌-◌, ◌<◌, List, [], ◌∷◌, ◌++◌, length, get_or, refl, sym, ap, ◌∙◌, subst, arith, length-append}
-use Rattle.std.specs.Prelude.{AllPairs, MatchOption, Option, slice_range}
-use Rattle.sf_model.specs.declared.design.Design.{Design}
-use Rattle.sf_model.specs.declared.parts.Shape.{Shape}
-use Rattle.sf_model.specs.Legal.{block_count}
+use Rattle.sf_frames.proofs.Common.{AllPairs, MatchOption, Option, slice_range, Design, Shape, block_count, Parts, root, IsSubproblem, IsSlimmer, IsCombination, Direction, Frame, Kept, Least, Sums, IsItemCurve, token_in, plan_in, size_in, item_in, IsLeastOf, AreSumsOrNone, AreWithin, joined, items_at, groups_at, IsKept, IsStored, IsNext, at_end, made_for, needed, IsTopCurve}
 use Rattle.sf_polish.specs.declared.expr.Token.TheVariants as token
-use Rattle.sf_node.specs.Parts.{Parts}
-use Rattle.sf_node.specs.Subproblem.{root}
-use Rattle.sf_node.specs.Children.{IsSubproblem}
-use Rattle.sf_curves.specs.Points.{IsSlimmer, IsCombination}
 use Rattle.sf_standard.specs.Items as item
-use Rattle.sf_curves.specs.declared.direction.Direction.{Direction}
 use Rattle.sf_curves.specs.declared.direction.Direction.TheVariants.{Beside, Above}
-use Rattle.sf_frames.specs.declared.frame.Frame.{Frame}
-use Rattle.sf_frames.specs.declared.frame.Kept.{Kept}
-use Rattle.sf_frames.specs.declared.least.Least.{Least}
-use Rattle.sf_frames.specs.declared.sums.Sums.{Sums}
-use Rattle.sf_frames.specs.Curves.{IsItemCurve}
-use Rattle.sf_curves.specs.Direction.{token_in, plan_in, size_in}
-use Rattle.sf_standard.specs.Items.{item_in}
-use Rattle.sf_frames.specs.Least.{IsLeastOf}
-use Rattle.sf_frames.specs.Sums.{AreSumsOrNone, AreWithin, joined}
-use Rattle.sf_frames.specs.Kept.{items_at, groups_at, IsKept, IsStored, IsNext, at_end, made_for, needed}
-use Rattle.sf_frames.specs.Room.{IsTopCurve}
 use Rattle.sf_frames.proofs.Joining.{curve-joined}
 use Rattle.sf_frames.proofs.Keeping.{stored-appended, stored-pushed}
 use Rattle.sf_frames.proofs.Moving.{sums-block}

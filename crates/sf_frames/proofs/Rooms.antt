@@ -1,32 +1,13 @@
 -- How many points are kept, and how many the tokens of a path need.
 use Rattle.std.proofs.Common.{◌≡◌, ℕ, zero, suc, ◌+◌, ◌-◌, ◌<◌, ◌≤◌, List, [], ◌∷◌, ◌++◌, length, map, get_or, refl, sym, ap, ◌∙◌, subst, inl, inr, cond, arith, length-drop}
-use Rattle.std.specs.Prelude.{AllPairs, All, Contains, sum_by, nat_lt, slice_range}
-use Rattle.std.proofs.lemmas.Bool.{cases_lt, cond-true, cond-false, lt-ltb, le-ltb}
-use Rattle.std.proofs.lemmas.List.{get_or-map, get_or-take, get_or_append_left, get_or_push, length_push, length-map, length-take-le, take_all}
-use Rattle.std.proofs.lemmas.List.Elements.{All-tail}
-use Rattle.std.proofs.lemmas.List.Sums.{sum_by-cons, sum_by_push}
-use Rattle.sf_model.specs.declared.design.Design.{Design}
+use Rattle.sf_frames.proofs.Common.{AllPairs, All, Contains, sum_by, nat_lt, slice_range, cases_lt, cond-true, cond-false, lt-ltb, le-ltb, get_or-map, get_or-take, get_or_append_left, get_or_push, length_push, length-map, length-take-le, take_all, All-tail, sum_by-cons, sum_by_push, Design, Shape, block_count, Token, Parts, IsSubproblem, IsSlimmer, IsCurveOf, AllPairs-tail, Item, Block, Direction, Frame, Kept, token_in, items_at, points_of, point_count, token_of, made_for, added, needed, no_token, IsKept, IsStored, IsStoredPath, IsNext, IsWithinRoom, HasFrames, IsTopCurve, Adds, NeedsMore, HasRoom}
 use Rattle.sf_model.specs.declared.parts.Block.{Block as Block'}
 use Rattle.sf_model.specs.declared.parts.Outline.{Outline}
-use Rattle.sf_model.specs.declared.parts.Shape.{Shape}
-use Rattle.sf_model.specs.Legal.{block_count}
-use Rattle.sf_polish.specs.declared.expr.Token.{Token}
 use Rattle.sf_polish.specs.declared.expr.Token.TheVariants as token
-use Rattle.sf_node.specs.Parts.{Parts}
-use Rattle.sf_node.specs.Children.{IsSubproblem}
 use Rattle.sf_node.proofs.Depth.{subproblem-shallow}
-use Rattle.sf_curves.specs.Points.{IsSlimmer, IsCurveOf}
-use Rattle.sf_curves.proofs.Members.{AllPairs-tail}
-use Rattle.sf_standard.specs.Items.{Item, Block}
-use Rattle.sf_curves.specs.declared.direction.Direction.{Direction}
 use Rattle.sf_curves.specs.declared.direction.Direction.TheVariants.{Beside, Above}
-use Rattle.sf_frames.specs.declared.frame.Frame.{Frame}
-use Rattle.sf_frames.specs.declared.frame.Kept.{Kept}
 use Rattle.sf_frames.specs.declared.limits.TheConstants.{MOST_POINTS}
-use Rattle.sf_curves.specs.Direction.{token_in}
-use Rattle.sf_frames.specs.Kept.{items_at, points_of, point_count, token_of, made_for, added, needed, no_token, IsKept, IsStored, IsStoredPath, IsNext}
 use Rattle.sf_frames.specs.declared.stored.Stored.{Stored}
-use Rattle.sf_frames.specs.Room.{IsWithinRoom, HasFrames, IsTopCurve, Adds, NeedsMore, HasRoom}
 use Rattle.sf_frames.proofs.Switching.{stored-own}
 
 -- 1 for a size that is no narrower than this, and 0 else

@@ -1,33 +1,12 @@
 -- Least areas and their sums are machine numbers.
 use Rattle.std.proofs.Common.{◌≡◌, ℕ, suc, ◌+◌, ◌*◌, ◌≤◌, List, [], ◌∷◌, ◌++◌, length, take, drop, map, refl, ap, subst, arith, true, false, length-append}
-use Rattle.std.specs.Prelude.{sum_by, filter, Contains, ◌||◌, Bool, cond, Option, Some, None}
-use Rattle.std.specs.List.{list_any, range_with_len}
-use Rattle.std.proofs.Math.Nat.{mul-le-mul}
-use Rattle.std.proofs.lemmas.Bool.{cond_both}
-use Rattle.std.proofs.lemmas.List.{length-map, take-append-drop}
+use Rattle.std.specs.Prelude.{◌||◌}
+use Rattle.sf_frames.proofs.Common.{sum_by, filter, Contains, Bool, cond, Option, Some, None, list_any, range_with_len, mul-le-mul, cond_both, length-map, take-append-drop, sum_by-cons, sum_by-append, sum-map, Design, block_count, Tree, Token, is_operand, operands, Parts, root, is_unused, IsSubproblem, subproblem-begun, Contains-head, Item, read, unused, plans, area, least_of, has_none, least_of-le, Least, Sums, path, items_at, ways, groups_at, IsLeastFor, IsLeastOrNone, AreSums, AreSumsOrNone, AreWithin}
 use Rattle.std.proofs.lemmas.List.FromFn.{length-range_with_len}
-use Rattle.std.proofs.lemmas.List.Sums.{sum_by-cons, sum_by-append, sum-map}
-use Rattle.sf_model.specs.declared.design.Design.{Design}
-use Rattle.sf_model.specs.Legal.{block_count}
-use Rattle.sf_model.specs.Tree.{Tree}
 use Rattle.sf_model.proofs.Counting.{length-at_most_once}
-use Rattle.sf_polish.specs.declared.expr.Token.{Token}
 use Rattle.sf_polish.specs.declared.expr.Token.TheVariants as token
-use Rattle.sf_polish.specs.Normal.{is_operand, operands}
 use Rattle.sf_polish.proofs.Normality.{numbers, length-numbers, count-numbers, numbers-below}
-use Rattle.sf_node.specs.Parts.{Parts}
-use Rattle.sf_node.specs.Subproblem.{root}
-use Rattle.sf_node.specs.Children.{is_unused, IsSubproblem}
-use Rattle.sf_node.proofs.Normalised.{subproblem-begun}
-use Rattle.sf_curves.proofs.Members.{Contains-head}
 use Rattle.sf_standard.specs.Items as item
-use Rattle.sf_standard.specs.Items.{Item, read, unused, plans}
-use Rattle.sf_standard.specs.Standard.{area, least_of, has_none}
-use Rattle.sf_standard.proofs.Cutting.{least_of-le}
-use Rattle.sf_frames.specs.declared.least.Least.{Least}
-use Rattle.sf_frames.specs.declared.sums.Sums.{Sums}
-use Rattle.sf_frames.specs.Kept.{path, items_at, ways, groups_at}
-use Rattle.sf_frames.specs.Sums.{IsLeastFor, IsLeastOrNone, AreSums, AreSumsOrNone, AreWithin}
 use Rattle.sf_frames.proofs.Summing.{others, groups-before}
 use Rattle.sf_frames.proofs.Joining.{sizes-within}
 

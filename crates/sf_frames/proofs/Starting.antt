@@ -1,23 +1,9 @@
 -- The sums over all blocks.
 use Rattle.std.proofs.Common.{◌≡◌, ℕ, suc, ◌+◌, ◌-◌, ◌*◌, ◌<◌, ◌≤◌, max, List, [], ◌∷◌, ◌++◌, length, map, get_or, refl, sym, ap, ◌∙◌, subst, arith, Bool, true, false}
 use Prim.Native.Nat.{zero}
-use Rattle.std.specs.Prelude.{filter, cond, ◌||◌}
-use Rattle.std.specs.List.{list_any, range_with_len}
-use Rattle.std.proofs.lemmas.List.{length-map}
-use Rattle.std.proofs.lemmas.List.Sums.{sum_by-cons, sum-map}
-use Rattle.sf_model.specs.declared.design.Design.{Design}
-use Rattle.sf_model.specs.declared.parts.Shape.{Shape}
-use Rattle.sf_model.specs.Legal.{block_count}
-use Rattle.sf_model.specs.Tree.{Tree}
-use Rattle.sf_polish.specs.declared.expr.Token.{Token}
-use Rattle.sf_node.specs.Subproblem.{root}
-use Rattle.sf_node.specs.Children.{is_unused}
+use Rattle.std.specs.Prelude.{◌||◌}
+use Rattle.sf_frames.proofs.Common.{filter, cond, list_any, range_with_len, length-map, sum_by-cons, sum-map, Design, Shape, block_count, Tree, Token, root, is_unused, area, least_of, has_none, Kept, Least, ways, groups_at, AreWhole, IsLeastFor, IsLeastOrNone, AreSums}
 use Rattle.sf_standard.specs.Items as item
-use Rattle.sf_standard.specs.Standard.{area, least_of, has_none}
-use Rattle.sf_frames.specs.declared.frame.Kept.{Kept}
-use Rattle.sf_frames.specs.declared.least.Least.{Least}
-use Rattle.sf_frames.specs.Kept.{ways, groups_at, AreWhole}
-use Rattle.sf_frames.specs.Sums.{IsLeastFor, IsLeastOrNone, AreSums}
 
 -- the groups of the blocks from the number b on, of which there are n
 abbrev pub blocks_from : Design → ℕ → ℕ → List (List Tree)

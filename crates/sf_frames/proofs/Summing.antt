@@ -1,34 +1,12 @@
 -- The sums over the groups after two items became one.
 use Rattle.std.proofs.Common.{◌≡◌, ℕ, suc, ◌+◌, ◌-◌, ◌≤◌, max, List, [], ◌∷◌, ◌++◌, length, map, take, refl, sym, ap, ◌∙◌, subst, arith, Bool, true, false, ◌==◌}
-use Rattle.std.specs.Prelude.{◌||◌, Contains, filter, count_by, cond, Option, Some, None}
-use Rattle.std.specs.List.{list_any, range_with_len}
-use Rattle.std.proofs.lemmas.Bool.{eqb-true, true≢false}
-use Rattle.std.proofs.lemmas.List.Sums.{sum_by-cons, sum_by-append, sum-map}
-use Rattle.sf_model.specs.declared.design.Design.{Design}
+use Rattle.std.specs.Prelude.{◌||◌}
+use Rattle.sf_frames.proofs.Common.{Contains, filter, count_by, cond, Option, Some, None, list_any, range_with_len, eqb-true, true≢false, sum_by-cons, sum_by-append, sum-map, Design, Tree, width, height, Token, is_block, root, is_unused, size_of, IsNoLarger, not_in_nil, Contains-head, Contains-tail, shapes_in, Item, fits, plans, unused, item_in, area, least_of, has_none, Contains-filter, Contains-from_filter, Contains-from_pairs, fits-true, least_of-le, Direction, Least, Sums, token_in, plan_in, size_in, path, items_at, ways, groups_at, IsNext, IsLeastFor, IsLeastOrNone, AreSums, AreSumsOrNone, joined}
 use Rattle.sf_model.specs.declared.TheConstants.{MAX}
-use Rattle.sf_model.specs.Tree.{Tree, width, height}
-use Rattle.sf_polish.specs.declared.expr.Token.{Token}
 use Rattle.sf_polish.specs.declared.expr.Token.TheVariants as token
-use Rattle.sf_polish.specs.Normal.{is_block}
-use Rattle.sf_node.specs.Subproblem.{root}
-use Rattle.sf_node.specs.Children.{is_unused}
-use Rattle.sf_curves.specs.Choices.{size_of}
-use Rattle.sf_curves.specs.Points.{IsNoLarger}
-use Rattle.sf_curves.proofs.Members.{not_in_nil, Contains-head, Contains-tail}
 use Rattle.sf_standard.specs.Items as item
-use Rattle.sf_model.specs.Spans.{shapes_in}
-use Rattle.sf_standard.specs.Items.{Item, fits, plans, unused, item_in}
-use Rattle.sf_standard.specs.Standard.{area, least_of, has_none}
-use Rattle.sf_standard.proofs.Listed.{Contains-filter, Contains-from_filter, Contains-from_pairs}
-use Rattle.sf_standard.proofs.Cutting.{fits-true, least_of-le}
 use Rattle.sf_standard.proofs.Exact.{fits-from}
-use Rattle.sf_curves.specs.declared.direction.Direction.{Direction}
 use Rattle.sf_curves.specs.declared.direction.Direction.TheVariants.{Beside, Above}
-use Rattle.sf_frames.specs.declared.least.Least.{Least}
-use Rattle.sf_frames.specs.declared.sums.Sums.{Sums}
-use Rattle.sf_curves.specs.Direction.{token_in, plan_in, size_in}
-use Rattle.sf_frames.specs.Kept.{path, items_at, ways, groups_at, IsNext}
-use Rattle.sf_frames.specs.Sums.{IsLeastFor, IsLeastOrNone, AreSums, AreSumsOrNone, joined}
 use Rattle.sf_frames.proofs.Topping.{take-next, items-joined}
 use Rattle.sf_frames.proofs.Ways.{way_in}
 

@@ -1,15 +1,6 @@
 -- The same frames for another path that begins with the same tokens.
 use Rattle.std.proofs.Common.{◌≡◌, ℕ, ◌+◌, ◌≤◌, List, [], ◌∷◌, length, take, map, get_or, sym, ap, ◌∙◌, subst, arith}
-use Rattle.std.proofs.lemmas.List.{take-take, length-take-le, length-map, take_all}
-use Rattle.sf_model.specs.declared.design.Design.{Design}
-use Rattle.sf_model.specs.declared.parts.Shape.{Shape}
-use Rattle.sf_polish.specs.declared.expr.Token.{Token}
-use Rattle.sf_standard.specs.Items.{read}
-use Rattle.sf_frames.specs.declared.frame.Frame.{Frame}
-use Rattle.sf_frames.specs.declared.frame.Kept.{Kept}
-use Rattle.sf_standard.specs.Standard.{plans_of}
-use Rattle.sf_frames.specs.Sums.{AreSumsOrNone}
-use Rattle.sf_frames.specs.Kept.{path, items_at, IsFrame, IsStored, IsEndOf, token_of}
+use Rattle.sf_frames.proofs.Common.{take-take, length-take-le, length-map, take_all, Design, Shape, Token, read, Frame, Kept, plans_of, AreSumsOrNone, path, items_at, IsFrame, IsStored, IsEndOf, token_of}
 use Rattle.sf_frames.proofs.Keeping.{stored-cut}
 
 -- paths that agree in their first n tokens

@@ -1,23 +1,11 @@
 -- The items that one token more leaves.
 use Rattle.std.proofs.Common.{◌≡◌, ℕ, zero, suc, ◌+◌, ◌-◌, ◌<◌, ◌≤◌, List, [], ◌∷◌, ◌++◌, length, vec_len, take, drop, get_or, sym, ap, ◌∙◌, subst, arith}
-use Rattle.std.specs.Prelude.{None}
-use Rattle.std.proofs.lemmas.List.{take_more, drop_more, take-append-drop}
-use Rattle.sf_model.specs.declared.design.Design.{Design}
-use Rattle.sf_model.specs.declared.parts.Shape.{Shape}
-use Rattle.sf_polish.specs.declared.expr.Token.{Token}
+use Rattle.sf_frames.proofs.Common.{None, take_more, drop_more, take-append-drop, Design, Shape, Token, Parts, IsSubproblem, subproblem-begun, Item, read, item_in, Direction, Frame, token_in, items_at, no_token, IsFrame, IsStoredIn, IsNext}
 use Rattle.sf_polish.specs.declared.expr.Token.TheVariants as token
-use Rattle.sf_node.specs.Parts.{Parts}
-use Rattle.sf_node.specs.Children.{IsSubproblem}
-use Rattle.sf_node.proofs.Normalised.{subproblem-begun}
 use Rattle.sf_standard.specs.Items as item
-use Rattle.sf_standard.specs.Items.{Item, read, item_in}
 use Rattle.sf_standard.proofs.Appended.{read-append, read-block}
-use Rattle.sf_curves.specs.declared.direction.Direction.{Direction}
 use Rattle.sf_curves.specs.declared.direction.Direction.TheVariants.{Beside, Above}
-use Rattle.sf_frames.specs.declared.frame.Frame.{Frame}
 use Rattle.sf_frames.specs.declared.stored.Stored.{Stored}
-use Rattle.sf_curves.specs.Direction.{token_in}
-use Rattle.sf_frames.specs.Kept.{items_at, no_token, IsFrame, IsStoredIn, IsNext}
 use Rattle.sf_frames.proofs.Joining.{Runs, runs-from}
 use Rattle.sf_frames.proofs.Ways.{read-joined}
 

@@ -1,9 +1,7 @@
 -- The two directions are ways to join.
 use Rattle.std.proofs.Common.{◌≡◌, List, ◌∷◌, [], refl}
-use Rattle.sf_standard.specs.Items.{Item, read, item_in}
-use Rattle.sf_curves.specs.declared.direction.Direction.{Direction}
+use Rattle.sf_frames.proofs.Common.{Item, read, item_in, Direction, token_in, plan_in, size_in}
 use Rattle.sf_curves.specs.declared.direction.Direction.TheVariants.{Beside, Above}
-use Rattle.sf_curves.specs.Direction.{token_in, plan_in, size_in}
 use Rattle.sf_frames.proofs.Joining.{IsWay, beside-way, above-way}
 
 -- each direction is a way to join two rooms, on plans and on sizes

@@ -1,31 +1,11 @@
 -- The whole curves of blocks, and subproblems whose spans are whole.
 use Rattle.std.proofs.Common.{◌≡◌, ℕ, ◌+◌, ◌-◌, ◌<◌, ◌≤◌, List, [], ◌∷◌, ◌++◌, length, take, get_or, refl, sym, ap, ◌∙◌, subst, inl, inr, arith, length-append}
-use Rattle.std.specs.Prelude.{AllPairs, slice_range, MatchOption, Option, Some, None}
-use Rattle.std.proofs.lemmas.List.{take_all, length_push, get_or_append_left, get_or_push, get_or-map, get_or_default, drop-append-le, drop_all}
-use Rattle.std.proofs.lemmas.List.Sums.{sum_by_push}
-use Rattle.std.proofs.lemmas.Bool.{cases_lt}
-use Rattle.sf_model.specs.declared.design.Design.{Design}
+use Rattle.sf_frames.proofs.Common.{AllPairs, slice_range, MatchOption, Option, Some, None, take_all, length_push, get_or_append_left, get_or_push, get_or-map, get_or_default, drop-append-le, drop_all, sum_by_push, cases_lt, Design, Shape, block_count, shapes_of, Parts, root, span_of, after, walk, IsSubproblem, IsSlimmer, IsCurveOf, area_of, shapes_in, Item, plans_of, mul-le-mul, Kept, Least, IsItemCurve, IsLeastOf, AllSmall, width_of, height_of, IsLeastOrNone, path, ways, groups_at, point_count, IsKept, AreWhole, at_end}
 use Rattle.sf_model.specs.declared.parts.Block.{Block as Block'}
-use Rattle.sf_model.specs.declared.parts.Shape.{Shape}
-use Rattle.sf_model.specs.Legal.{block_count, shapes_of}
 use Rattle.sf_polish.specs.declared.expr.Token.TheVariants as token
 use Rattle.sf_node.specs.declared.step.Step.{Step}
 use Rattle.sf_node.specs.declared.step.Step.TheVariants.{Beside, Above, Block, Left, Right}
-use Rattle.sf_node.specs.Parts.{Parts}
-use Rattle.sf_node.specs.Subproblem.{root, span_of}
-use Rattle.sf_node.specs.Children.{after, walk, IsSubproblem}
-use Rattle.sf_curves.specs.Points.{IsSlimmer, IsCurveOf, area_of}
 use Rattle.sf_standard.specs.Items as item
-use Rattle.sf_model.specs.Spans.{shapes_in}
-use Rattle.sf_standard.specs.Items.{Item}
-use Rattle.sf_standard.specs.Standard.{plans_of}
-use Rattle.std.proofs.Math.Nat.{mul-le-mul}
-use Rattle.sf_frames.specs.declared.frame.Kept.{Kept}
-use Rattle.sf_frames.specs.declared.least.Least.{Least}
-use Rattle.sf_frames.specs.Curves.{IsItemCurve}
-use Rattle.sf_frames.specs.Least.{IsLeastOf, AllSmall, width_of, height_of}
-use Rattle.sf_frames.specs.Sums.{IsLeastOrNone}
-use Rattle.sf_frames.specs.Kept.{path, ways, groups_at, point_count, IsKept, AreWhole, at_end}
 use Rattle.sf_frames.proofs.Joining.{curve-block}
 use Rattle.sf_frames.proofs.ItemLeasts.{least-item, item-some, item-none}
 use Rattle.sf_frames.proofs.Keeping.{kept-appended}

@@ -1,14 +1,7 @@
 -- The parts of a generated design may become a design.
 use Rattle.std.proofs.Common.{◌≡◌, ℕ, zero, suc, ◌+◌, ◌*◌, ◌-◌, ◌%◌, ◌<◌, ◌≤◌, ◌^◌, ◌==◌, Bool, true, false, cond, List, [], ◌∷◌, ◌++◌, length, refl, sym, ap, ◌∙◌, inl, inr, arith, lit<}
-use Rattle.std.specs.Prelude.{map, min, sum_by, Some, pos}
-use Rattle.std.specs.Fmt.{decimal}
-use Rattle.std.specs.List.{AllByRecursion, flat_map, list_any}
+use Rattle.sf_gen.proofs.Common.{map, min, sum_by, Some, pos, decimal, AllByRecursion, flat_map, list_any, cases_eq, false_from_ne_true, le-ltb, nat_tests, decimal_digit, decimal_injective, length-map, sum_by-cons, RawBlock, Kinds, Ends, Size, named_parts, raw_block, raw_blocks, raw_nets, raw_pads, parts_of, sizes, ends, net_count, indexed, is_soft, block_name, pad_name, pad_pins, pins_of, nets_pins, square}
 use Rattle.std.specs.Str.{bytes_eq}
-use Rattle.std.proofs.lemmas.Bool.{cases_eq, false_from_ne_true, le-ltb}
-use Rattle.std.proofs.lemmas.Bool.Decides.{nat_tests}
-use Rattle.std.proofs.lemmas.Fmt.{decimal_digit, decimal_injective}
-use Rattle.std.proofs.lemmas.List.{length-map}
-use Rattle.std.proofs.lemmas.List.Sums.{sum_by-cons}
 use Rattle.std.proofs.lemmas.Slice.Eq.{bytes_eq-Decides}
 use Rattle.std.proofs.Math.Bool.{or-true, and-false}
 use Rattle.sf_model.specs.declared.fault.BuildFault.{BuildFault}
@@ -17,17 +10,10 @@ use Rattle.sf_model.specs.declared.fault.Limit.{Limit}
 use Rattle.sf_model.specs.declared.fault.Limit.TheVariants as limit
 use Rattle.sf_model.specs.declared.raw.Kind.TheVariants as kind
 use Rattle.sf_model.specs.declared.raw.Parts.{Parts}
-use Rattle.sf_model.specs.declared.raw.RawBlock.{RawBlock}
 use Rattle.sf_model.specs.declared.raw.RawNet.{RawNet}
 use Rattle.sf_model.specs.declared.raw.RawPin.TheVariants.{Named}
 use Rattle.sf_model.specs.Admitted.{first, no_blocks, over, over_counts, over_kind, over_place, over_places, over_limits, block_names, pad_names, is_block_name, repeated_names, if_both, if_neither, at_pin_name, at_pin_names, at_placed_name, duplicates, unknowns, missing_places, name_faults, IsAdmitted}
-use Rattle.sf_gen.specs.declared.design.Kinds.{Kinds}
-use Rattle.sf_gen.specs.declared.drawn.Ends.{Ends}
-use Rattle.sf_gen.specs.declared.drawn.Size.{Size}
-use Rattle.sf_gen.specs.Designs.{named_parts, raw_block, raw_blocks, raw_nets, raw_pads, parts_of}
 use Rattle.sf_gsrc.proofs.Numbered.{refusal_same}
-use Rattle.sf_gen.specs.Drawn.{sizes, ends, net_count}
-use Rattle.sf_gen.specs.Texts.{indexed, is_soft, block_name, pad_name, pad_pins, pins_of, nets_pins, square}
 use Rattle.sf_gen.proofs.BlockLines.{IsSmall, area_high}
 use Rattle.sf_gen.proofs.Counts.{few_nets, length-indexed}
 use Rattle.sf_gen.proofs.EndsDrawn.{IsAmong, each_indexed, ends_among, few_pins, length-nets, length-sizes, sizes_small}

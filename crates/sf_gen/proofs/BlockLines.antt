@@ -1,28 +1,14 @@
 -- The line of a block is read again.
 use Rattle.std.proofs.Common.{◌≡◌, ℕ, ◌*◌, ◌<◌, ◌≤◌, ◌^◌, ◌==◌, true, false, List, [], ◌∷◌, ◌++◌, refl, ap, ◌∙◌, arith}
-use Rattle.std.specs.Prelude.{◌-ℤ◌, pos, unsigned_abs, Some, None, Ok, codes}
-use Rattle.std.specs.Fmt.{decimal}
-use Rattle.std.proofs.lemmas.Bool.{le-ltb, lt-ltb}
-use Rattle.std.proofs.lemmas.Bool.Decides.{nat_tests}
-use Rattle.std.proofs.lemmas.Fmt.{decimal_nonempty}
+use Rattle.std.specs.Prelude.{◌-ℤ◌}
+use Rattle.sf_gen.proofs.Common.{pos, unsigned_abs, Some, None, Ok, codes, decimal, le-ltb, lt-ltb, nat_tests, decimal_nonempty, words, is_gap, first_word, after_word, decimal_read, signed_read, Blanks, Points, words-written, RawBlock, is_content_word, is_colon, counted_of, form_of, Item, BlockIs, counted_by, hard_said, soft_said, plain_said, form_said, Size, block_name, hard_line, soft_line}
 use Rattle.std.proofs.lemmas.Int.{ints}
 use Rattle.std.proofs.Math.Nat.{mul-le-mul}
-use Rattle.sf_lex.specs.Text.{words}
-use Rattle.sf_lex.specs.Gap.{is_gap, first_word, after_word}
-use Rattle.sf_lex.specs.Number.{decimal_read, signed_read}
 use Rattle.sf_lex.specs.declared.field.Gap.{Gap}
-use Rattle.sf_lex.specs.declared.field.Gap.TheVariants.{Blanks, Points}
-use Rattle.sf_lex.proofs.Spelled.{words-written}
 use Rattle.sf_model.specs.declared.raw.Kind.TheVariants as kind
-use Rattle.sf_model.specs.declared.raw.RawBlock.{RawBlock}
-use Rattle.sf_gsrc.specs.Blocks.{is_content_word}
-use Rattle.sf_gsrc.specs.Keywords.{is_colon, counted_of, form_of}
 use Rattle.sf_lex.specs.Vertices.{coordinate_of, extent, vertex_of, vertices_of}
-use Rattle.sf_gsrc.specs.Line.{Item, BlockIs, counted_by, hard_said, soft_said, plain_said, form_said}
 use Rattle.sf_gsrc.specs.declared.keywords.Form.{Form}
 use Rattle.sf_gsrc.specs.declared.keywords.Form.TheVariants as forms
-use Rattle.sf_gen.specs.declared.drawn.Size.{Size}
-use Rattle.sf_gen.specs.Texts.{block_name, hard_line, soft_line}
 use Rattle.sf_gen.proofs.TextLines.{IsLines, none, ended, piece}
 use Rattle.sf_gen.proofs.TextWords.{decimal_no_feed, decimal_no_gap, decimal_no_colon, before_none, first_written, after_written, signed_written, area_written}
 

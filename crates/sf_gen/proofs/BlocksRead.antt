@@ -1,27 +1,12 @@
 -- The text of the blocks is read again.
 use Rattle.std.proofs.Common.{◌≡◌, ℕ, ◌+◌, ◌*◌, ◌<◌, ◌≤◌, ◌^◌, Bool, true, false, cond, List, [], ◌∷◌, ◌++◌, length, refl, sym, ap, subst, ◌∙◌, arith, append_assoc}
-use Rattle.std.specs.Prelude.{not, map, count_by, Option, None, Ok, codes}
-use Rattle.std.specs.Fmt.{decimal}
-use Rattle.std.specs.List.{AllByRecursion, AllZip, cons_option, filter_map, flat_map, range_with_len}
-use Rattle.std.proofs.lemmas.List.{append-nil}
-use Rattle.std.proofs.lemmas.List.Elements.{filter_map-append}
-use Rattle.std.proofs.lemmas.List.Sums.{sum_by-cons}
-use Rattle.sf_lex.specs.Scan.{numbered}
-use Rattle.sf_lex.specs.Number.{decimal_read}
+use Rattle.sf_gen.proofs.Common.{not, map, count_by, Option, None, Ok, codes, decimal, AllByRecursion, AllZip, cons_option, filter_map, flat_map, range_with_len, append-nil, filter_map-append, sum_by-cons, numbered, decimal_read, RawBlock, content_of, is_title, Said, CountIs, ItemIs, Entry, block_at, pad_at, is_soft_kind, counted_of, form_of, BlockIs, PadIs, counted_by, count_said, plain_said, Kinds, Size, raw_block, raw_blocks, pad_list, blocks_out, indexed, is_soft, block_name, hard_line, soft_line, block_line, block_lines, blocks_head, soft_count, hard_count}
 use Rattle.sf_model.specs.declared.raw.Kind.TheVariants as kind
-use Rattle.sf_model.specs.declared.raw.RawBlock.{RawBlock}
 use Rattle.sf_gsrc.specs.declared.count.Count.{Count}
 use Rattle.sf_gsrc.specs.declared.keywords.Counted.{Counted}
 use Rattle.sf_gsrc.specs.declared.keywords.Counted.TheVariants.{Soft, Hard, Terminals}
-use Rattle.sf_gsrc.specs.Blocks.{content_of, is_title, Said, CountIs, ItemIs, Entry, block_at, pad_at, is_soft_kind}
 use Rattle.sf_gsrc.specs.Blocks as blocks
-use Rattle.sf_gsrc.specs.Keywords.{counted_of, form_of}
-use Rattle.sf_gsrc.specs.Line.{BlockIs, PadIs, counted_by, count_said, plain_said}
 use Rattle.sf_gsrc.specs.Standing.{SaysBy, SaysEntry, counts_of, StandsOnce, StandsFor}
-use Rattle.sf_gen.specs.declared.design.Kinds.{Kinds}
-use Rattle.sf_gen.specs.declared.drawn.Size.{Size}
-use Rattle.sf_gen.specs.Designs.{raw_block, raw_blocks, pad_list, blocks_out}
-use Rattle.sf_gen.specs.Texts.{indexed, is_soft, block_name, hard_line, soft_line, block_line, block_lines, blocks_head, soft_count, hard_count}
 use Rattle.sf_gen.proofs.Counts.{all_blocks}
 use Rattle.sf_gen.proofs.TextLines.{IsLines, Reads, none, ended, piece, reads_none, reads_line, reads_both, content_is}
 use Rattle.sf_gen.proofs.TextWords.{count_read, number_said}

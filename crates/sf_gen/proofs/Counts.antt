@@ -1,17 +1,9 @@
 -- The counts of soft and of hard blocks, and of pins.
 use Rattle.std.proofs.Common.{◌≡◌, ℕ, zero, suc, ◌+◌, ◌*◌, ◌/◌, ◌%◌, ◌≤◌, ◌==◌, Bool, true, false, cond, List, [], ◌∷◌, length, refl, sym, ap, ◌∙◌, arith}
-use Rattle.std.specs.Prelude.{not, count_by, sum_by}
+use Rattle.sf_gen.proofs.Common.{not, count_by, sum_by, range_with_len, nat_tests, length-filter, sum_by-cons, length-range_with_len, Kinds, Ends, net_count, indexed, is_soft, soft_count, hard_count, pins_of, nets_pins, pad_name, pad_pins}
 use Rattle.std.specs.Int.{div_ceil}
-use Rattle.std.specs.List.{range_with_len}
-use Rattle.std.proofs.lemmas.Bool.Decides.{nat_tests}
-use Rattle.std.proofs.lemmas.List.Sums.{length-filter, sum_by-cons}
 use Rattle.std.proofs.lemmas.List.Filters.{length-filter_both}
-use Rattle.std.proofs.lemmas.List.FromFn.{length-range_with_len}
-use Rattle.sf_gen.specs.declared.design.Kinds.{Kinds}
 use Rattle.sf_gen.specs.declared.design.Kinds.TheVariants.{Hard, Mixed}
-use Rattle.sf_gen.specs.declared.drawn.Ends.{Ends}
-use Rattle.sf_gen.specs.Drawn.{net_count}
-use Rattle.sf_gen.specs.Texts.{indexed, is_soft, soft_count, hard_count, pins_of, nets_pins, pad_name, pad_pins}
 
 -- the count over a longer list is one more where the new element counts
 count_cons : (p : ℕ → Bool) (x : ℕ) (xs : List ℕ) → count_by p (x ∷ xs) ≡ cond (p x) 1 0 + count_by p xs

@@ -1,10 +1,6 @@
 -- One more line, and the parts of a text put together.
 use Rattle.std.proofs.Common.{◌≡◌, ℕ, suc, ◌+◌, ◌<◌, List, [], ◌∷◌, ◌++◌, length, get_or, take, refl, sym, ap, ◌∙◌, arith}
-use Rattle.std.specs.Prelude.{map}
-use Rattle.std.specs.List.{flat_map, range_with_len}
-use Rattle.std.proofs.lemmas.List.{take_more, flat_map_more, length-take}
-use Rattle.std.proofs.lemmas.List.FromFn.{map-range_with_len_more}
-use Rattle.sf_gen.specs.Texts.{indexed}
+use Rattle.sf_gen.proofs.Common.{map, flat_map, range_with_len, take_more, flat_map_more, length-take, map-range_with_len_more, indexed}
 
 -- the results of two lists together are those of the first, and those of the second with indices that go on
 indexed-append : {X Y : Type 0} (f : ℕ → X → Y) (i : ℕ) (xs ys : List X) → indexed f i (xs ++ ys) ≡ indexed f i xs ++ indexed f (i + length xs) ys

@@ -1,11 +1,8 @@
 -- The parts that the texts are joined to.
 use Rattle.std.proofs.Common.{◌≡◌, ℕ, Bool, true, false, List, [], refl, ap}
-use Rattle.std.specs.Prelude.{not, ◌||◌, map, Some, Ok, codes}
-use Rattle.sf_model.specs.declared.raw.RawBlock.{RawBlock}
+use Rattle.std.specs.Prelude.{◌||◌}
+use Rattle.sf_gen.proofs.Common.{not, map, Some, Ok, codes, RawBlock, Kinds, blocks_out, nets_out, places_out, named_parts, pad_list, parts_of, raw_blocks, sizes, ends}
 use Rattle.sf_gsrc.specs.Join.{has_name, strangers_of, joined, numbered}
-use Rattle.sf_gen.specs.declared.design.Kinds.{Kinds}
-use Rattle.sf_gen.specs.Designs.{blocks_out, nets_out, places_out, named_parts, pad_list, parts_of, raw_blocks}
-use Rattle.sf_gen.specs.Drawn.{sizes, ends}
 
 -- a name that a pad has is no stranger, whether a block has it or not
 known : (b : Bool) → not (b || true) ≡ false

@@ -1,3 +1,4 @@
+mod Common
 pub mod Generator
 pub mod Counts
 pub mod Growing

@@ -1,19 +1,9 @@
 -- The text of the nets is read again.
 use Rattle.std.proofs.Common.{◌≡◌, ℕ, ◌<◌, ◌≤◌, ◌^◌, true, List, [], ◌∷◌, ◌++◌, length, refl, sym, ap, subst, ◌∙◌, arith, append_assoc}
-use Rattle.std.specs.Prelude.{map, sum_by, None, codes}
-use Rattle.std.specs.Fmt.{decimal}
-use Rattle.std.specs.List.{AllByRecursion, flat_map, filter_map}
-use Rattle.std.proofs.lemmas.List.{length-map}
-use Rattle.std.proofs.lemmas.List.Elements.{filter_map-append}
-use Rattle.sf_lex.specs.Scan.{Line, numbered}
-use Rattle.sf_lex.specs.Gap.{first_word}
-use Rattle.sf_lex.specs.declared.field.Gap.TheVariants.{Blanks}
-use Rattle.sf_gsrc.specs.Blocks.{content_of, is_content_word, is_title}
-use Rattle.sf_gsrc.specs.Keywords.{is_colon, net_word_of, net_word_by}
+use Rattle.sf_gen.proofs.Common.{map, sum_by, None, codes, decimal, AllByRecursion, flat_map, filter_map, length-map, filter_map-append, Line, numbered, first_word, Blanks, content_of, is_content_word, is_title, is_colon, net_word_of, net_word_by, net_lines, nets_head, pin_lines}
 use Rattle.sf_gsrc.specs.Nets.{NetSaid, NetsAre, PinsAre, DegreeIs, PinIs}
 use Rattle.sf_gsrc.specs.NetsStanding.{SaysNetBy, SaysNet, nets_count, net_part, NetsStandFor}
 use Rattle.sf_gsrc.specs.NetsStanding as standing
-use Rattle.sf_gen.specs.Texts.{net_lines, nets_head, pin_lines}
 use Rattle.sf_gen.proofs.TextLines.{IsLines, Reads, none, ended, piece, reads_none, reads_line, reads_both, reads_each, content_is, each_numbered}
 use Rattle.sf_gen.proofs.TextWords.{count_read, decimal_no_feed, decimal_no_gap, decimal_no_colon, number_said, before_none, first_written}
 

@@ -1,18 +1,8 @@
 -- The text of the places is read again.
 use Rattle.std.proofs.Common.{◌≡◌, ℕ, ◌≤◌, true, List, [], ◌∷◌, ◌++◌, refl, arith}
-use Rattle.std.specs.Prelude.{pos, Ok, codes}
-use Rattle.std.specs.Fmt.{decimal}
-use Rattle.sf_lex.specs.Text.{words, is_not_empty}
-use Rattle.sf_lex.specs.Scan.{numbered}
-use Rattle.sf_lex.specs.Gap.{is_gap, first_word, after_word}
-use Rattle.sf_lex.specs.Number.{decimal_read, signed_read}
-use Rattle.sf_lex.specs.declared.field.Gap.TheVariants.{Blanks, Sizes}
-use Rattle.sf_gsrc.specs.Blocks.{is_title}
-use Rattle.sf_gsrc.specs.Line.{coordinate_in_word}
+use Rattle.sf_gen.proofs.Common.{pos, Ok, codes, decimal, words, is_not_empty, numbered, is_gap, first_word, after_word, decimal_read, signed_read, Blanks, Sizes, is_title, coordinate_in_word, place_at, places_out, square, pl_text}
 use Rattle.sf_gsrc.specs.PlaceLine.{place_said, sides_said, size_in_words, spot_said}
 use Rattle.sf_gsrc.specs.Places.{SaysPlace, PlacesStandFor}
-use Rattle.sf_gen.specs.Designs.{place_at, places_out}
-use Rattle.sf_gen.specs.Texts.{square, pl_text}
 use Rattle.sf_gen.proofs.TextLines.{IsLines, none, ended, piece, content_is, each_numbered}
 use Rattle.sf_gen.proofs.TextWords.{decimal_no_feed, number_first, number_after, number_last, number_ends, number_filled, signed_written}
 

@@ -1,24 +1,16 @@
 -- AllByRecursion block has a shape.
 use Rattle.std.proofs.Common.{◌≡◌, ℕ, zero, suc, ◌+◌, ◌*◌, ◌-◌, ◌/◌, ◌<◌, ◌≤◌, ◌==◌, Bool, true, false, cond, List, [], ◌∷◌, refl, sym, ap, ◌∙◌, inl, inr, arith}
-use Rattle.std.specs.Prelude.{◌||◌, map, max, min, nat_le, zip, Some, None}
-use Rattle.std.specs.List.{AllByRecursion, range_with_len}
+use Rattle.std.specs.Prelude.{◌||◌}
+use Rattle.sf_gen.proofs.Common.{map, max, min, nat_le, zip, Some, None, AllByRecursion, range_with_len, cases_lt, All-head, All-tail, RawBlock, Kinds, Size, raw_block, raw_blocks, sizes, is_soft}
 use Rattle.std.specs.Option.{option_map}
-use Rattle.std.proofs.lemmas.Bool.{cases_lt}
 use Rattle.std.proofs.lemmas.Grind.{div_ceil_times}
-use Rattle.std.proofs.lemmas.List.Elements.{All-head, All-tail}
 use Rattle.std.proofs.Math.Nat.{mul-le-mul, mul-le-mul_right}
 use Rattle.sf_model.specs.Built.{first_shapeless}
 use Rattle.sf_model.specs.declared.fault.BuildFault.{BuildFault}
 use Rattle.sf_model.specs.declared.fault.BuildFault.TheVariants.{NoShape}
 use Rattle.sf_model.specs.declared.parts.Shape.{Shape}
 use Rattle.sf_model.specs.declared.raw.Kind.TheVariants as kind
-use Rattle.sf_model.specs.declared.raw.RawBlock.{RawBlock}
 use Rattle.sf_soft_shapes.specs.Listed.{shape, height_at, IsAllowed, width_count, widths, IsSoftList, IsListOf, AreFirstLists, AreListsOf, HasNoneFor}
-use Rattle.sf_gen.specs.declared.design.Kinds.{Kinds}
-use Rattle.sf_gen.specs.declared.drawn.Size.{Size}
-use Rattle.sf_gen.specs.Designs.{raw_block, raw_blocks}
-use Rattle.sf_gen.specs.Drawn.{sizes}
-use Rattle.sf_gen.specs.Texts.{is_soft}
 use Rattle.sf_gen.proofs.BlockLines.{IsSmall, area_low, area_high}
 use Rattle.sf_gen.proofs.EndsDrawn.{each_indexed, sizes_small}
 

@@ -1,14 +1,7 @@
 -- The lines of a text that was written piece by piece.
 use Rattle.std.proofs.Common.{◌≡◌, ℕ, ◌+◌, true, List, [], ◌∷◌, ◌++◌, refl, sym, ap, ◌∙◌, append_assoc}
-use Rattle.std.specs.List.{AllByRecursion, AllZip, flat_map}
-use Rattle.std.proofs.lemmas.List.{append-nil}
-use Rattle.sf_lex.specs.Text.{lines, is_line_feed, has_none}
-use Rattle.sf_lex.specs.Scan.{Line, numbered}
-use Rattle.sf_lex.specs.Gap.{first_word}
-use Rattle.sf_lex.specs.declared.field.Gap.TheVariants.{Blanks}
-use Rattle.sf_lex.proofs.Spelled.{first_fails}
+use Rattle.sf_gen.proofs.Common.{AllByRecursion, AllZip, flat_map, append-nil, lines, is_line_feed, has_none, Line, numbered, first_word, Blanks, first_fails, content, content_of, is_content_word}
 use Rattle.sf_model.proofs.Each.{each-append}
-use Rattle.sf_gsrc.specs.Blocks.{content, content_of, is_content_word}
 
 -- a text has these lines, and the last of them is ended
 pub record IsLines (t : List ℕ) (ls : List (List ℕ)) : Type 0 where

@@ -1,11 +1,9 @@
 -- A line of a hard block says its box.
 use Rattle.std.proofs.Common.{◌≡◌, ◌≢◌, ℕ, ◌*◌, ◌≤◌, length, List, ◌∷◌, Result, Ok, refl}
-use Rattle.std.proofs.lemmas.Bool.{le-ltb, ne_eqb}
-use Rattle.sf_lex.specs.Results.{◌>>=◌, map_err}
+use Rattle.sf_gsrc.proofs.Common.{le-ltb, ne_eqb, ◌>>=◌, map_err, count_in_word, vertex_fault, box_said, hard_said}
 use Rattle.sf_lex.specs.Vertices.{box_read}
 use Rattle.sf_lex.specs.declared.vertices.BoxSize.{BoxSize}
 use Rattle.sf_lex.specs.declared.vertices.VertexFault.{VertexFault}
-use Rattle.sf_gsrc.specs.Line.{count_in_word, vertex_fault, box_said, hard_said}
 
 -- behind a count of enough vertices stands what the box of these says
 pub hard_is : (scale : ℕ) (name count : List ℕ) (places all : List (List ℕ)) (k : ℕ) (read : Result BoxSize VertexFault)

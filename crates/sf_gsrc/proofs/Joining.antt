@@ -1,13 +1,8 @@
 -- The parts that are joined.
 use Rattle.std.proofs.Common.{◌≡◌, ℕ, true, List, [], ◌∷◌, map, Option, Some, None, Ok, refl, sym, ap, ◌∙◌}
-use Rattle.sf_model.specs.declared.raw.RawPad.{RawPad}
-use Rattle.sf_model.specs.declared.raw.RawNet.{RawNet}
+use Rattle.sf_gsrc.proofs.Common.{RawPad, RawNet, GsrcBlocks, Place, pads_at, strangers_of, placed_once, placed_parts, pads_once}
 use Rattle.sf_gsrc.specs.declared.fault.JoinFault.{JoinFault}
 use Rattle.sf_gsrc.specs.declared.fault.JoinFault.TheVariants as faults
-use Rattle.sf_gsrc.specs.declared.output.GsrcBlocks.{GsrcBlocks}
-use Rattle.sf_gsrc.specs.declared.output.Place.{Place}
-use Rattle.sf_gsrc.specs.Join.{pads_at, strangers_of, placed_once, placed_parts}
-use Rattle.sf_gsrc.specs.ByName.{pads_once}
 use Rattle.sf_gsrc.proofs.Results.{ok_is, err_not_ok}
 
 -- a pad that is placed keeps its name

@@ -1,24 +1,10 @@
 -- One entry more.
 use Rattle.std.proofs.Common.{◌≡◌, ℕ, false, List, [], ◌∷◌, ◌++◌, Option, Some, None, Result, Err, if◌then◌else◌, refl, sym, ap, ◌∙◌}
-use Rattle.std.specs.Prelude.{is_some}
-use Rattle.std.specs.List.{cons_option}
-use Rattle.std.proofs.lemmas.List.{append-nil}
-use Rattle.std.proofs.lemmas.List.Elements.{filter_map-append}
-use Rattle.sf_lex.specs.Scan.{Line}
-use Rattle.sf_lex.specs.Text.{words}
-use Rattle.sf_model.specs.declared.raw.RawBlock.{RawBlock}
-use Rattle.sf_gsrc.specs.declared.fault.GsrcFault.{GsrcFault}
+use Rattle.sf_gsrc.proofs.Common.{is_some, cons_option, append-nil, filter_map-append, Line, words, RawBlock, GsrcFault, LineFault, Colons, Counted, Count, is_gap, BlockIs, PadIs, count_said, Entry, CountIs, ItemIs, or_else, count_at, count_in, block_at, pad_at, count_after, entry_at, fault_at, Fails}
 use Rattle.sf_gsrc.specs.declared.fault.GsrcFault.TheVariants as faults
-use Rattle.sf_gsrc.specs.declared.fault.LineFault.{LineFault}
 use Rattle.sf_gsrc.specs.declared.fault.LineFault.TheVariants.{BadLine, BadNumber, ZeroSide}
-use Rattle.sf_lex.specs.declared.field.Gap.TheVariants.{Colons}
-use Rattle.sf_gsrc.specs.declared.keywords.Counted.{Counted}
 use Rattle.sf_gsrc.specs.declared.keywords.Counted.TheVariants as counts
-use Rattle.sf_gsrc.specs.declared.count.Count.{Count}
 use Rattle.sf_gsrc.specs.declared.found.Found.{Found}
-use Rattle.sf_lex.specs.Gap.{is_gap}
-use Rattle.sf_gsrc.specs.Line.{BlockIs, PadIs, count_said}
-use Rattle.sf_gsrc.specs.Blocks.{Entry, CountIs, ItemIs, or_else, count_at, count_in, block_at, pad_at, count_after, entry_at, fault_at, Fails}
 use Rattle.sf_gsrc.proofs.Results.{none_of, or_else-None}
 use Rattle.sf_gsrc.specs.Found.{IsFound, count_kept, with_count}
 

@@ -1,3 +1,4 @@
+mod Common
 pub mod HardLines
 pub mod Keeping
 pub mod LineSteps

@@ -1,16 +1,12 @@
 -- The owners of names, as names come to stand before those that are there.
 use Rattle.std.proofs.Common.{◌≡◌, ℕ, ◌+◌, Bool, true, false, cond, subst, List, ◌∷◌, Option, Some, None, refl, ap, sym, ◌∙◌}
-use Rattle.std.specs.List.{position_from}
+use Rattle.sf_gsrc.proofs.Common.{position_from, bytes_eq, RawPin, by_number, owner_of}
 use Rattle.std.specs.Map.{update}
-use Rattle.std.specs.Str.{bytes_eq}
 use Rattle.std.proofs.lemmas.Slice.Eq.{bytes_eq-Decides}
-use Rattle.sf_model.specs.declared.raw.RawPin.{RawPin}
 use Rattle.sf_model.specs.declared.raw.RawPin.TheVariants as raw
 use Rattle.sf_model.proofs.Tables.{bytes_eq_sym}
 use Rattle.sf_gsrc.specs.declared.owners.Owner.{Owner}
 use Rattle.sf_gsrc.specs.declared.owners.Owner.TheVariants.{Block, Pad, Both}
-use Rattle.sf_gsrc.specs.Join.{by_number}
-use Rattle.sf_gsrc.specs.Owners.{owner_of}
 
 -- ---- one name more
 

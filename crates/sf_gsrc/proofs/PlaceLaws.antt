@@ -1,16 +1,8 @@
 -- A pl file stands for places exactly where reading gives them.
 use Rattle.std.proofs.Common.{◌≡◌, ℕ, List, [], ◌∷◌, ◌++◌, Result, Ok, Err, refl, sym, ap, subst, ◌∙◌, append_assoc}
-use Rattle.std.specs.Prelude.{codes}
-use Rattle.std.specs.List.{AllZip}
-use Rattle.std.proofs.lemmas.List.{append-nil}
-use Rattle.sf_lex.specs.Scan.{Line}
-use Rattle.sf_gsrc.specs.declared.fault.GsrcFault.{GsrcFault}
-use Rattle.sf_gsrc.specs.declared.fault.LineFault.{LineFault}
-use Rattle.sf_gsrc.specs.declared.output.Place.{Place}
+use Rattle.sf_gsrc.proofs.Common.{codes, AllZip, append-nil, Line, GsrcFault, LineFault, Place, content_of, read_from, at_number, place_at, places_behind, places_from, places_read, SaysPlace, PlacesStandFor}
 use Rattle.sf_gsrc.specs.declared.output.GsrcPlaces.{GsrcPlaces}
 use Rattle.sf_gsrc.specs.PlaceLine.{place_said}
-use Rattle.sf_gsrc.specs.Blocks.{content_of, read_from}
-use Rattle.sf_gsrc.specs.Places.{at_number, place_at, places_behind, places_from, places_read, SaysPlace, PlacesStandFor}
 use Rattle.sf_gsrc.proofs.Results.{bind_ok, ok_is, opened_ok}
 
 -- what is read at a line is what the line says

@@ -1,22 +1,11 @@
 -- The pins of a nets file are named, and joining keeps blocks and nets.
 use Rattle.std.proofs.Common.{◌≡◌, ℕ, true, false, List, [], ◌∷◌, length, map, Option, Some, None, Ok, refl, cond, ap, subst, ◌∙◌}
-use Rattle.std.specs.Prelude.{IfSome}
-use Rattle.std.specs.List.{All}
-use Rattle.std.proofs.lemmas.List.{length-map}
-use Rattle.std.proofs.lemmas.List.Elements.{All-nil, All-cons, All-same}
-use Rattle.sf_model.specs.declared.raw.RawBlock.{RawBlock}
-use Rattle.sf_model.specs.declared.raw.RawNet.{RawNet}
-use Rattle.sf_model.specs.declared.raw.RawPad.{RawPad}
-use Rattle.sf_model.specs.declared.raw.RawPin.TheVariants.{Named}
+use Rattle.sf_gsrc.proofs.Common.{IfSome, All, length-map, All-nil, All-cons, All-same, RawBlock, RawNet, RawPad, Named, IsPinInRange, IsSized, HasSizes, HasPinsInRange, GsrcBlocks, net_of, NetsStandFor, first_twice, has_numbers, joined, names_of, nets_in, numbered, numbered_net, numbered_nets, placed_once, placed_parts, unplaced_parts}
 use Rattle.sf_model.specs.declared.raw.Parts.{Parts}
-use Rattle.sf_model.specs.Admitted.{IsPinInRange, IsSized, HasSizes, HasPinsInRange}
 use Rattle.sf_gsrc.specs.declared.fault.JoinFault.{JoinFault}
 use Rattle.sf_gsrc.specs.declared.fault.JoinFault.TheVariants as faults
-use Rattle.sf_gsrc.specs.declared.output.GsrcBlocks.{GsrcBlocks}
 use Rattle.sf_gsrc.specs.declared.output.GsrcNets.{GsrcNets}
 use Rattle.sf_gsrc.specs.declared.output.GsrcPlaces.{GsrcPlaces}
-use Rattle.sf_gsrc.specs.NetsStanding.{net_of, NetsStandFor}
-use Rattle.sf_gsrc.specs.Join.{first_twice, has_numbers, joined, names_of, nets_in, numbered, numbered_net, numbered_nets, placed_once, placed_parts, unplaced_parts}
 use Rattle.sf_gsrc.specs.Ranges.{HasPinsInAnyRange}
 use Rattle.sf_gsrc.proofs.Numbered.{nets_in_range_still}
 use Rattle.sf_gsrc.proofs.Results.{done, ok_is, err_not_ok}

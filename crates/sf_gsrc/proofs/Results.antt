@@ -1,13 +1,8 @@
 -- What a result says of the steps that gave it, and what options and counts say.
 use Rattle.std.proofs.Common.{◌≡◌, ℕ, Bool, true, false, List, [], ◌∷◌, Option, Some, None, Result, Ok, Err, refl, if◌then◌else◌}
-use Rattle.std.specs.Prelude.{IfOk, is_some, ◌==◌}
-use Rattle.std.proofs.lemmas.Bool.{eqb-true}
-use Rattle.sf_lex.specs.Scan.{Line}
-use Rattle.sf_lex.specs.Results.{◌>>=◌}
-use Rattle.sf_gsrc.specs.declared.fault.GsrcFault.{GsrcFault}
+use Rattle.std.specs.Prelude.{◌==◌}
+use Rattle.sf_gsrc.proofs.Common.{IfOk, is_some, eqb-true, Line, ◌>>=◌, GsrcFault, Count, Fails, Gives, compared, is_title, opened, or_else}
 use Rattle.sf_gsrc.specs.declared.fault.GsrcFault.TheVariants as faults
-use Rattle.sf_gsrc.specs.declared.count.Count.{Count}
-use Rattle.sf_gsrc.specs.Blocks.{Fails, Gives, compared, is_title, opened, or_else}
 
 -- one step after another gives what the second gives of the first
 pub bind_ok : {A B E : Type 0} (r : Result A E) (f : A → Result B E) (y : B) → (r >>= f) ≡ Ok y → (x : A) × (r ≡ Ok x) × (f x ≡ Ok y)

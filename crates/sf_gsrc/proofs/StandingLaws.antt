@@ -1,25 +1,9 @@
 -- A text stands for an output exactly where reading gives it.
 use Rattle.std.proofs.Common.{◌≡◌, ℕ, ◌+◌, ◌≤◌, Bool, true, false, List, [], ◌∷◌, ◌++◌, length, Option, Some, None, Result, Ok, Err, refl, sym, ap, subst, ◌∙◌, append_assoc, arith, eq-eqb}
-use Rattle.std.specs.Prelude.{is_some, not, codes, count_by}
-use Rattle.std.specs.List.{AllZip, cons_option}
-use Rattle.std.proofs.lemmas.List.{length-append, append-nil}
-use Rattle.std.proofs.lemmas.List.Elements.{filter_map-append}
-use Rattle.sf_lex.specs.Scan.{Line}
-use Rattle.sf_lex.specs.Text.{words}
-use Rattle.sf_gsrc.specs.declared.fault.GsrcFault.{GsrcFault}
+use Rattle.sf_gsrc.proofs.Common.{is_some, not, codes, count_by, AllZip, cons_option, length-append, append-nil, filter_map-append, Line, words, GsrcFault, LineFault, Colons, Counted, Count, GsrcBlocks, is_gap, Item, counted_by, count_said, plain_said, content_of, Entry, Said, CountIs, ItemIs, or_else, is_same, count_at, count_in, count_after, entry_at, entry_by, entry_after, entries_from, read_from, last_of, is_soft, compared, finished_by, out_of, finished, blocks_read, blocks_in, pads_in, SaysBy, SaysEntry, counts_of, StandsOnce, StandsFor, first}
 use Rattle.sf_gsrc.specs.declared.fault.GsrcFault.TheVariants as faults
-use Rattle.sf_gsrc.specs.declared.fault.LineFault.{LineFault}
-use Rattle.sf_lex.specs.declared.field.Gap.TheVariants.{Colons}
-use Rattle.sf_gsrc.specs.declared.keywords.Counted.{Counted}
 use Rattle.sf_gsrc.specs.declared.keywords.Counted.TheVariants as counts
-use Rattle.sf_gsrc.specs.declared.count.Count.{Count}
-use Rattle.sf_gsrc.specs.declared.output.GsrcBlocks.{GsrcBlocks}
-use Rattle.sf_lex.specs.Gap.{is_gap}
-use Rattle.sf_gsrc.specs.Line.{Item, counted_by, count_said, plain_said}
-use Rattle.sf_gsrc.specs.Blocks.{content_of, Entry, Said, CountIs, ItemIs, or_else, is_same, count_at, count_in, count_after, entry_at, entry_by, entry_after, entries_from, read_from, last_of, is_soft, compared, finished_by, out_of, finished, blocks_read, blocks_in, pads_in}
 use Rattle.sf_gsrc.proofs.Results.{bind_ok, ok_is, err_not_ok, compared_ok, opened_ok}
-use Rattle.sf_gsrc.specs.Standing.{SaysBy, SaysEntry, counts_of, StandsOnce, StandsFor}
-use Rattle.sf_model.specs.Admitted.{first}
 
 -- ---- the first count, and the counts
 

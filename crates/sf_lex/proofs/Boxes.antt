@@ -1,13 +1,11 @@
 -- The box that is kept vertex by vertex is the bounding box.
 use Rattle.std.proofs.Common.{◌≡◌, List, [], ◌∷◌, Result, Ok, Err, refl, ap, ◌∙◌, ℤ}
-use Rattle.std.specs.Prelude.{map, fold}
+use Rattle.sf_lex.proofs.Common.{map, fold, box_of, corner, grow, corners_of, size_of_corners}
 use Rattle.std.specs.Int.{int_min, int_max}
 use Rattle.sf_lex.specs.declared.vertices.BoxSize.{BoxSize}
 use Rattle.sf_lex.specs.declared.vertices.Corners.{Corners}
 use Rattle.sf_lex.specs.declared.vertices.VertexFault.{VertexFault}
 use Rattle.sf_lex.specs.Results.{◌>>=◌}
-use Rattle.sf_lex.specs.Vertices.{box_of}
-use Rattle.sf_lex.specs.Corners.{corner, grow, corners_of, size_of_corners}
 
 -- the right side is the greatest of the places across
 right_of : (c : Corners) (vs : List (ℤ × ℤ)) → (fold grow c vs).right ≡ fold int_max c.right (map (λ v. v.0) vs)

@@ -1,9 +1,7 @@
 -- A text has no more words than bytes.
 use Rattle.std.proofs.Common.{ℕ, ◌+◌, ◌≤◌, Bool, List, length, arith}
-use Rattle.std.specs.List.{slice_split}
-use Rattle.std.proofs.lemmas.List.Sums.{length-filter, count_by-le-length}
+use Rattle.sf_lex.proofs.Common.{slice_split, length-filter, count_by-le-length, words, is_not_empty}
 use Rattle.std.proofs.lemmas.List.Splits.{length-slice_split}
-use Rattle.sf_lex.specs.Text.{words, is_not_empty}
 
 -- a text has at most one word more than bytes
 pub length-words : (blank : ℕ → Bool) (bytes : List ℕ) → length (words blank bytes) ≤ length bytes + 1

@@ -1,12 +1,6 @@
 -- Words with the numbers of their lines, taken off the front of a text.
 use Rattle.std.proofs.Common.{◌≡◌, ℕ, ◌+◌, ◌<◌, Bool, true, false, cond, List, [], ◌∷◌, ◌++◌, length, take, drop, refl, sym, ap, ◌∙◌, arith, subst}
-use Rattle.std.specs.Prelude.{filter}
-use Rattle.std.specs.List.{slice_split, onto_first, count_by, prefix_len, position_or_len, before_first}
-use Rattle.std.proofs.lemmas.List.{append-nil, take-append-drop, drop-drop, take_all}
-use Rattle.std.proofs.lemmas.List.Sums.{sum_by-cons}
-use Rattle.std.proofs.Math.Numerals.{one-add}
-use Rattle.sf_lex.specs.Text.{words, is_not_empty, lines, is_line_feed, is_blank_byte, line_at}
-use Rattle.sf_lex.specs.Scan.{numbered, LineWord, words_of_lines}
+use Rattle.sf_lex.proofs.Common.{filter, slice_split, onto_first, count_by, prefix_len, position_or_len, before_first, append-nil, take-append-drop, drop-drop, take_all, sum_by-cons, one-add, words, is_not_empty, lines, is_line_feed, is_blank_byte, line_at, numbered, LineWord, words_of_lines}
 use Rattle.sf_lex.proofs.Pieces.{CutWord, length_text, line_after_word, text_filled, not_line_feed}
 
 -- the words of a text whose first line has this number

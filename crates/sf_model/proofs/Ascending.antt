@@ -1,15 +1,6 @@
 -- Lists that ascend by a number of their elements, as one more is put at their end or passed over.
 use Rattle.std.proofs.Common.{◌≡◌, ℕ, ◌+◌, ◌-◌, ◌<◌, ◌≤◌, Bool, ◌==◌, List, [], ◌∷◌, ◌++◌, length, take, get_or, sym, ◌∙◌, ap, subst, arith, length-append}
-use Rattle.std.specs.List.Sorted.{IsNonDecreasingBy}
-use Rattle.sf_model.specs.Limits.{pin_order}
-use Rattle.sf_model.specs.Numbers.{same_pin}
-use Rattle.sf_model.specs.declared.parts.Pin.{Pin}
-use Rattle.std.specs.List.{list_any, All, AllPairs, Contains}
-use Rattle.std.proofs.lemmas.List.{get_or_default}
-use Rattle.std.proofs.lemmas.List.Elements.{All-push, Contains-get_or}
-use Rattle.std.proofs.lemmas.Bool.Decides.{nat_tests}
-use Rattle.std.proofs.lemmas.List.Folds.{list_any-append, list_any_more, list_any_at}
-use Rattle.std.proofs.lemmas.Grind.{common_steps}
+use Rattle.sf_model.proofs.Common.{IsNonDecreasingBy, pin_order, same_pin, Pin, list_any, All, AllPairs, Contains, get_or_default, All-push, Contains-get_or, nat_tests, list_any-append, list_any_more, list_any_at, common_steps}
 
 -- an ascending list stays so with one more that is no less than a bound on the others
 pub pairs_push : {X : Type 0} (f : X → ℕ) (out : List X) (x : X) (n : ℕ) → AllPairs (λ p q. f p < f q) out → All (λ p. f p < n) out → n ≤ f x → AllPairs (λ p q. f p < f q) (out ++ x ∷ [])

@@ -1,9 +1,6 @@
 -- A plan that has each block once has only blocks of the design.
 use Rattle.std.proofs.Common.{ℕ, ◌<◌}
-use Rattle.std.specs.List.{AllByRecursion}
-use Rattle.std.proofs.lemmas.List.Elements.{recursion_from_All}
-use Rattle.sf_model.specs.Legal.{HasEachOnce}
-use Rattle.sf_model.specs.Tree.{Tree, Leaf, Beside, Above, leaves, HasBlocksBelow}
+use Rattle.sf_model.proofs.Common.{AllByRecursion, recursion_from_All, HasEachOnce, Tree, Leaf, Beside, Above, leaves, HasBlocksBelow}
 use Rattle.sf_model.proofs.Each.{each-left, each-right}
 
 -- where each leaf is a block below n, the plan has only such blocks

@@ -1,24 +1,8 @@
 -- What is built from admitted parts is their design, and keeps the limits.
 use Rattle.std.proofs.Common.{◌≡◌, ℕ, ◌<◌, ◌≤◌, ◌^◌, ℤ, nat_abs, Bool, true, false, IsTrue, cond, List, [], ◌∷◌, map, length, get_or, Option, Some, None, IfSome, refl, sym, ap, ◌∙◌, subst, arith}
-use Rattle.std.specs.List.{All, AllByRecursion, AllZip, filter_map, sum_by, zip}
-use Rattle.std.proofs.lemmas.Int.{ints}
-use Rattle.std.proofs.lemmas.List.Elements.{All-from_recursion, recursion_from_All}
-use Rattle.std.proofs.lemmas.List.Sums.{sum_by-cons}
-use Rattle.sf_model.specs.Admitted.{IsAdmitted, IsPlaceWithin}
-use Rattle.sf_model.specs.Built.{HasShapeChoices, IsDesignOf, IsNetOf, IsOutline, IsWeighted, design_blocks, design_pads, placed_pad, first_shapeless}
-use Rattle.sf_model.specs.Limits.{IsCoordinate, IsPinSet, IsShapeList, IsWithinLimits, IsShapeChoice}
-use Rattle.sf_model.specs.Numbers.{IsNetMade}
-use Rattle.sf_model.specs.declared.design.Design.{Design}
-use Rattle.sf_model.specs.declared.parts.Block.{Block}
-use Rattle.sf_model.specs.declared.parts.Net.{Net}
+use Rattle.sf_model.proofs.Common.{All, AllByRecursion, AllZip, filter_map, sum_by, zip, ints, All-from_recursion, recursion_from_All, sum_by-cons, IsAdmitted, IsPlaceWithin, HasShapeChoices, IsDesignOf, IsNetOf, IsOutline, IsWeighted, design_blocks, design_pads, placed_pad, first_shapeless, IsCoordinate, IsPinSet, IsShapeList, IsWithinLimits, IsShapeChoice, IsNetMade, Design, Block, Net, Pad, Shape, Parts, RawBlock, RawNet, RawPad}
 use Rattle.sf_model.specs.declared.parts.Outline.{Outline}
-use Rattle.sf_model.specs.declared.parts.Pad.{Pad}
-use Rattle.sf_model.specs.declared.parts.Shape.{Shape}
 use Rattle.sf_model.specs.declared.parts.Weights.{Weights}
-use Rattle.sf_model.specs.declared.raw.Parts.{Parts}
-use Rattle.sf_model.specs.declared.raw.RawBlock.{RawBlock}
-use Rattle.sf_model.specs.declared.raw.RawNet.{RawNet}
-use Rattle.sf_model.specs.declared.raw.RawPad.{RawPad}
 use Rattle.sf_model.proofs.Limited.{limits_kept}
 use Rattle.sf_model.proofs.Paired.{zip_length}
 use Rattle.sf_model.proofs.PinsThere.{all_kept, few_placed}

@@ -1,20 +1,9 @@
 -- A design is determined by what it is built from.
 use Rattle.std.proofs.Common.{◌≡◌, ℕ, zero, suc, ◌<◌, List, [], ◌∷◌, map, drop, length, get_or, ◌⊎◌, inl, inr, refl, ap, sym, ◌∙◌, arith}
 use Rattle.std.proofs.Props.{props}
-use Rattle.std.specs.List.{AllByRecursion, AllPairs, Contains, zip}
-use Rattle.std.proofs.lemmas.List.Elements.{All-contains, recursion_from_All}
-use Rattle.sf_model.specs.Built.{IsDesignOf, IsNetOf}
-use Rattle.sf_model.specs.Limits.{IsWithinLimits, pin_order}
-use Rattle.sf_model.specs.declared.design.Design.{Design}
-use Rattle.sf_model.specs.declared.parts.Block.{Block}
-use Rattle.sf_model.specs.declared.parts.Pad.{Pad}
-use Rattle.sf_model.specs.declared.parts.Net.{Net}
+use Rattle.sf_model.proofs.Common.{AllByRecursion, AllPairs, Contains, zip, All-contains, recursion_from_All, IsDesignOf, IsNetOf, IsWithinLimits, pin_order, Design, Block, Pad, Net, Pin, Shape, Parts, RawNet}
 use Rattle.sf_model.specs.declared.parts.Outline.{Outline}
-use Rattle.sf_model.specs.declared.parts.Pin.{Pin}
-use Rattle.sf_model.specs.declared.parts.Shape.{Shape}
 use Rattle.sf_model.specs.declared.parts.Weights.{Weights}
-use Rattle.sf_model.specs.declared.raw.Parts.{Parts}
-use Rattle.sf_model.specs.declared.raw.RawNet.{RawNet}
 
 -- an empty list contains nothing
 none : {X : Type 0} (y : X) → Contains [] y → ⊥

@@ -1,17 +1,10 @@
 -- Admitted parts keep the limits.
 use Rattle.std.proofs.Common.{◌≡◌, ℕ, zero, suc, ◌-◌, min, ℤ, nat_abs, IsTrue, ◌≤◌, ◌^◌, List, [], ◌∷◌, ◌++◌, length, get_or, Option, Some, None, refl, arith}
-use Rattle.std.specs.List.{All, flat_map, sum_by}
-use Rattle.std.proofs.lemmas.Bool.Decides.{nat_tests}
-use Rattle.sf_model.specs.Admitted.{first, over, over_kind, over_place, over_counts, over_limits, over_places, name_faults, no_blocks, IsAdmitted, IsKindWithin, IsPlaceWithin, KeepsLimits}
-use Rattle.sf_model.specs.declared.fault.BuildFault.{BuildFault}
+use Rattle.sf_model.proofs.Common.{All, flat_map, sum_by, nat_tests, first, over, over_kind, over_place, over_counts, over_limits, over_places, name_faults, no_blocks, IsAdmitted, IsKindWithin, IsPlaceWithin, KeepsLimits, BuildFault, Parts, RawBlock, RawNet, RawPad}
 use Rattle.sf_model.specs.declared.fault.Limit.{Limit}
 use Rattle.sf_model.specs.declared.fault.Limit.TheVariants as limit
 use Rattle.sf_model.specs.declared.raw.Kind.{Kind}
 use Rattle.sf_model.specs.declared.raw.Kind.TheVariants as kind
-use Rattle.sf_model.specs.declared.raw.Parts.{Parts}
-use Rattle.sf_model.specs.declared.raw.RawBlock.{RawBlock}
-use Rattle.sf_model.specs.declared.raw.RawNet.{RawNet}
-use Rattle.sf_model.specs.declared.raw.RawPad.{RawPad}
 
 -- where two lists together are empty, the first is
 pub left_none : {X : Type 0} (xs ys : List X) → first (xs ++ ys) ≡ None → first xs ≡ None

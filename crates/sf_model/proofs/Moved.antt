@@ -1,14 +1,6 @@
 -- Items moved from the end of one list to the end of another, which is turned round in the end.
 use Rattle.std.proofs.Common.{◌≡◌, ℕ, zero, suc, List, [], ◌∷◌, ◌++◌, length, map, reverse, Some, None, refl, ap, sym, ◌∙◌, append_assoc, append-nil, get_or, ◌<◌, subst, arith, length-append}
-use Rattle.std.specs.List.{All, zip, filter_map, cons_option}
-use Rattle.std.proofs.lemmas.List.{map-append, reverse-append}
-use Rattle.sf_model.specs.Built.{design_blocks, placed_pad}
-use Rattle.sf_model.specs.declared.parts.Block.{Block}
-use Rattle.sf_model.specs.declared.parts.Pad.{Pad}
-use Rattle.sf_model.specs.declared.parts.Shape.{Shape}
-use Rattle.sf_model.specs.declared.raw.RawBlock.{RawBlock}
-use Rattle.sf_model.specs.declared.raw.RawPad.{RawPad}
-use Rattle.std.proofs.lemmas.List.Elements.{filter_map-append}
+use Rattle.sf_model.proofs.Common.{All, zip, filter_map, cons_option, map-append, reverse-append, design_blocks, placed_pad, Block, Pad, Shape, RawBlock, RawPad, filter_map-append}
 
 -- one item more in each of two lists makes one pair more
 pub zip_push : {X Y : Type 0} (xs : List X) (ys : List Y) (x : X) (y : Y) → length xs ≡ length ys → zip (xs ++ x ∷ []) (ys ++ y ∷ []) ≡ zip xs ys ++ (x, y) ∷ []

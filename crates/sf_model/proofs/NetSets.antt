@@ -1,20 +1,8 @@
 -- The set of the pins of a net: sorted, and without repeats.
 use Rattle.std.proofs.Common.{◌≡◌, ℕ, ◌+◌, ◌<◌, ◌≤◌, ◌^◌, true, List, [], ◌∷◌, length, get_or, Option, Some, None, refl, ap, sym, subst, ◌∙◌, arith, eq-eqb}
-use Rattle.std.specs.List.{All, AllPairs, Contains, list_any, filter_map, cons_option}
-use Rattle.std.specs.List.Sorted.{IsPermutation}
-use Rattle.std.proofs.lemmas.Bool.Decides.{nat_tests}
-use Rattle.std.proofs.lemmas.List.Elements.{All-contains}
-use Rattle.std.proofs.lemmas.List.Folds.{list_any_at, Any-from_list_any}
+use Rattle.sf_model.proofs.Common.{All, AllPairs, Contains, list_any, filter_map, cons_option, IsPermutation, nat_tests, All-contains, list_any_at, Any-from_list_any, IsAdmitted, IsPinInRange, HasPinsInRange, design_pads, named_pins, pin_of, pin_number, pin_order, IsThere, IsNetMade, same_pin, Net, Pin, Parts, RawNet}
 use Rattle.std.proofs.lemmas.List.Sorted.{All-permutation, Contains-permutation, IsPermutation-sym, length_permutation}
-use Rattle.sf_model.specs.Admitted.{IsAdmitted, IsPinInRange, HasPinsInRange}
-use Rattle.sf_model.specs.Built.{design_pads, named_pins, pin_of}
-use Rattle.sf_model.specs.Limits.{pin_number, pin_order, IsThere}
-use Rattle.sf_model.specs.Numbers.{IsNetMade, same_pin}
-use Rattle.sf_model.specs.declared.parts.Net.{Net}
-use Rattle.sf_model.specs.declared.parts.Pin.{Pin}
 use Rattle.sf_model.specs.declared.parts.Pin.TheVariants as pin
-use Rattle.sf_model.specs.declared.raw.Parts.{Parts}
-use Rattle.sf_model.specs.declared.raw.RawNet.{RawNet}
 use Rattle.sf_model.proofs.Limited.{limits_kept}
 use Rattle.sf_model.proofs.PinsThere.{few_placed, pins_there}
 

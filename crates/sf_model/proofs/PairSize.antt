@@ -1,7 +1,6 @@
 -- The size of two blocks side by side, worked out by hand: one of 2 by 3 beside one of 3 by 2.
 use Rattle.std.proofs.Common.{◌≡◌, ℕ, ◌*◌, refl}
-use Rattle.sf_model.specs.declared.parts.Shape.{Shape}
-use Rattle.sf_model.specs.Tree.{Tree, Leaf, Beside, width, height}
+use Rattle.sf_model.proofs.Common.{Shape, Tree, Leaf, Beside, width, height}
 
 -- the shape of these sides
 abbrev shape : ℕ → ℕ → Shape

@@ -1,9 +1,7 @@
 -- The search for a block without a shape.
 use Rattle.std.proofs.Common.{◌≡◌, ℕ, ◌+◌, ◌<◌, List, [], ◌∷◌, length, get_or, drop, refl, ap, ◌∙◌, arith}
-use Rattle.sf_model.specs.Built.{first_shapeless}
-use Rattle.sf_model.specs.declared.parts.Shape.{Shape}
+use Rattle.sf_model.proofs.Common.{first_shapeless, Shape, RawBlock}
 use Rattle.sf_model.specs.declared.raw.Kind.TheVariants.{Hard}
-use Rattle.sf_model.specs.declared.raw.RawBlock.{RawBlock}
 use Rattle.sf_model.proofs.Walks.{drop_step}
 
 -- a block with a shape is not the first without one

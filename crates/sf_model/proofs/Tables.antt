@@ -1,13 +1,9 @@
 -- Tables of names, as names come to stand before those that are there.
 use Rattle.std.proofs.Common.{◌≡◌, IfSome, ℕ, ◌+◌, ◌<◌, map, length, Bool, true, false, ◌&&◌, ◌||◌, cond, nat_eq, List, [], ◌∷◌, Option, Some, None, is_some, refl, ap, sym, ◌∙◌, arith}
-use Rattle.std.specs.List.{list_any, position_from}
+use Rattle.sf_model.proofs.Common.{list_any, position_from, nat_tests, length-map, first, repeated_names, place_in, IsTableOf}
 use Rattle.std.specs.Map.{update}
 use Rattle.std.specs.Str.{bytes_eq}
-use Rattle.std.proofs.lemmas.Bool.Decides.{nat_tests}
-use Rattle.std.proofs.lemmas.List.{length-map}
 use Rattle.sf_model.specs.declared.table.NameTable.{NameTable}
-use Rattle.sf_model.specs.Admitted.{first, repeated_names}
-use Rattle.sf_model.specs.Table.{place_in, IsTableOf}
 
 -- whether numbers are equal doesn't depend on which comes first
 nat_eq_sym : (x y : ℕ) → nat_eq x y ≡ nat_eq y x

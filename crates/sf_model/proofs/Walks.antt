@@ -1,9 +1,6 @@
 -- One step of a walk over a list, by what is left of it.
 use Rattle.std.proofs.Common.{◌≡◌, ℕ, ◌+◌, ◌<◌, Bool, true, false, ◌||◌, ◌==◌, Option, Some, List, ◌∷◌, length, get_or, set, take, drop, ap, add-one, drop-cons, arith, get_or-set_same, get_or-set_other}
-use Rattle.std.specs.List.{list_any}
-use Rattle.std.proofs.lemmas.Bool.Decides.{nat_tests}
-use Rattle.std.proofs.lemmas.List.Folds.{list_any_more}
-use Rattle.sf_model.specs.Admitted.{is_index}
+use Rattle.sf_model.proofs.Common.{list_any, nat_tests, list_any_more, is_index}
 
 -- the element at i, and what follows it
 pub drop_step : {X : Type 0} (xs : List X) (i : ℕ) (d : X) → i < length xs → drop i xs ≡ get_or xs i d ∷ drop (i + 1) xs

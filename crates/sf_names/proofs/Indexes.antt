@@ -3,12 +3,11 @@ use Rattle.std.proofs.Common.{◌≡◌, ℕ, suc, ◌+◌, ◌<◌, Bool, true,
 use Rattle.std.specs.Prelude.{IfSome, not}
 use Rattle.std.specs.Option.{option_map}
 use Rattle.std.specs.List.{list_any, position, position_or_len}
-use Rattle.std.specs.Str.{bytes_eq}
+use Rattle.sf_names.proofs.Common.{bytes_eq, index_of, bytes_of, noted}
 use Rattle.std.proofs.lemmas.List.{map-append}
 use Rattle.std.proofs.lemmas.Bool.Decides.{Decides-ltb}
 use denote.Ref.{Bor}
 use Rattle.std.proofs.lemmas.Slice.Eq.{bytes_eq-Decides}
-use Rattle.sf_names.specs.Names.{index_of, bytes_of, noted}
 
 -- two ways round of one comparison that came out so are the same
 by_decides : (xs ys : List ℕ) (a b : Bool) → bytes_eq xs ys ≡ a → bytes_eq ys xs ≡ b → a ≡ b

@@ -1,18 +1,7 @@
 -- No plan belongs to two children of a subproblem by extending.
 use Rattle.std.proofs.Common.{◌≡◌, ℕ, ◌+◌, ◌<◌, ◌≤◌, List, [], ◌∷◌, ◌++◌, length, map, take, length-append, arith, refl, ap, sym, subst, ◌∙◌, Bool, true, false}
-use Rattle.std.proofs.lemmas.List.{append_cancel_left}
-use Rattle.std.specs.Prelude.{filter, AllPairs}
-use Rattle.std.specs.List.{AllByRecursion, range_with_len}
-use Rattle.sf_model.specs.declared.design.Design.{Design}
-use Rattle.sf_model.specs.Tree.{Tree}
-use Rattle.sf_model.specs.Legal.{block_count}
-use Rattle.sf_model.proofs.Each.{Any-from_recursion, EachPair, EachPair-append, EachPair-map, EachPair-filter, EachPair-range, EachPair-weaker, AllPairs-from_recursion, each-append, each-map, each-filter, each-range}
-use Rattle.sf_polish.specs.declared.expr.Token.{Token}
+use Rattle.sf_node.proofs.Common.{append_cancel_left, filter, AllPairs, AllByRecursion, range_with_len, Design, Tree, block_count, Any-from_recursion, EachPair, EachPair-append, EachPair-map, EachPair-filter, EachPair-range, EachPair-weaker, AllPairs-from_recursion, each-append, each-map, each-filter, each-range, Token, postfix, Parts, Belongs, is_complete, may_join, is_unused, when, next_tokens, step_of, after, extended}
 use Rattle.sf_polish.specs.declared.expr.Token.TheVariants as token
-use Rattle.sf_polish.specs.Postfix.{postfix}
-use Rattle.sf_node.specs.Parts.{Parts}
-use Rattle.sf_node.specs.Subproblem.{Belongs, is_complete}
-use Rattle.sf_node.specs.Children.{may_join, is_unused, when, next_tokens, step_of, after, extended}
 use Rattle.sf_node.specs.Laws.{BelongsToOne}
 use Rattle.sf_node.proofs.Cover.{extended-some}
 

@@ -1,13 +1,11 @@
 -- Whether tokens begin with others, by comparing token by token.
 use Rattle.std.proofs.Common.{◌≡◌, ℕ, List, length, take, refl, ap, sym, ◌∙◌, ◌==◌, Bool, true, false}
-use Rattle.std.specs.Prelude.{IsTrue, ◌↔◌}
+use Rattle.std.specs.Prelude.{◌↔◌}
+use Rattle.sf_node.proofs.Common.{IsTrue, true≢false, eqb-true, eq-eqb, Token, BeginsWith}
 use Rattle.std.specs.Bool.{Decides}
 use Rattle.std.specs.Cmp.Lexicographic.{pointwise}
-use Rattle.std.proofs.lemmas.Bool.{true≢false, eqb-true, eq-eqb}
 use Rattle.std.proofs.lemmas.Slice.Eq.{slice_eq-Decides}
-use Rattle.sf_polish.specs.declared.expr.Token.{Token}
 use Rattle.sf_polish.specs.declared.expr.Token.TheVariants.{Beside, Above, Block}
-use Rattle.sf_node.specs.Subproblem.{BeginsWith}
 
 module _ (E : Token → Token → Bool) (beside : E Beside Beside ≡ true) (above : E Above Above ≡ true) (block : (b c : ℕ) → E (Block b) (Block c) ≡ (b == c)) (one : E Beside Above ≡ false) (two : E Above Beside ≡ false) (three : (b : ℕ) → E Beside (Block b) ≡ false) (four : (b : ℕ) → E (Block b) Beside ≡ false) (five : (b : ℕ) → E Above (Block b) ≡ false) (six : (b : ℕ) → E (Block b) Above ≡ false) where
   -- a test that fails, on tokens that differ, decides whether they are the same

@@ -1,26 +1,10 @@
 -- No subproblem is deeper than 10 n - 1 steps, where there are n blocks of at most 256 shapes.
 use Rattle.std.proofs.Common.{◌≡◌, ℕ, suc, ◌+◌, ◌-◌, ◌*◌, ◌/◌, ◌<◌, ◌≤◌, min, List, [], ◌∷◌, ◌++◌, length, map, get_or, length-set, length-append, arith, refl, ap, sym, subst, ◌∙◌, ◌==◌, Bool, true, false, not, cond, ◌&&◌, inl, inr}
-use Prim.Native.Nat.{zero}
-use Rattle.std.specs.Prelude.{IsTrue, nat_lt, nat_le, count_by, slice_set}
-use Rattle.std.specs.List.{AllByRecursion, range_with_len}
-use Rattle.std.proofs.lemmas.List.{length-map}
-use Rattle.std.proofs.lemmas.Bool.{cond_both}
+use Rattle.sf_node.proofs.Common.{zero, IsTrue, nat_lt, nat_le, count_by, slice_set, AllByRecursion, range_with_len, length-map, cond_both, sum_by-cons, sum_by-append, recursion_from_All, Design, block_count, Some, Some-range, Token, operands, operators, is_operand, is_block, Step, Beside, Above, Block, Left, Right, Parts, root, span_of, may_join, is_unused, after, with_token, with_span, middle, CanStep, CanWalk, walk, IsSubproblem}
 use Rattle.std.proofs.lemmas.Bool.Decides.{nat_tests}
-use Rattle.std.proofs.lemmas.List.Sums.{sum_by-cons, sum_by-append}
-use Rattle.std.proofs.lemmas.List.Elements.{recursion_from_All}
-use Rattle.sf_model.specs.declared.design.Design.{Design}
 use Rattle.sf_model.specs.declared.parts.Block.{Block as BlockValue}
 use Rattle.sf_model.specs.Limits.{IsShapeList}
-use Rattle.sf_model.specs.Legal.{block_count}
-use Rattle.sf_model.proofs.Each.{Some, Some-range}
-use Rattle.sf_polish.specs.declared.expr.Token.{Token}
 use Rattle.sf_polish.specs.declared.expr.Token.TheVariants as token
-use Rattle.sf_polish.specs.Normal.{operands, operators, is_operand, is_block}
-use Rattle.sf_node.specs.declared.step.Step.{Step}
-use Rattle.sf_node.specs.declared.step.Step.TheVariants.{Beside, Above, Block, Left, Right}
-use Rattle.sf_node.specs.Parts.{Parts}
-use Rattle.sf_node.specs.Subproblem.{root, span_of}
-use Rattle.sf_node.specs.Children.{may_join, is_unused, after, with_token, with_span, middle, CanStep, CanWalk, walk, IsSubproblem}
 
 -- the sum of f over a list
 abbrev sum : {X : Type 0} → (X → ℕ) → List X → ℕ

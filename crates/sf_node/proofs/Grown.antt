@@ -1,13 +1,7 @@
 -- The children so far, after the operators and the blocks below k.
 use Rattle.std.proofs.Common.{◌≡◌, ℕ, suc, ◌+◌, List, [], ◌∷◌, ◌++◌, map, length, append_assoc, append-nil, arith, refl, ap, sym, ◌∙◌, Bool, true, false, cond}
-use Prim.Native.Nat.{zero}
-use Rattle.std.specs.Prelude.{filter}
-use Rattle.std.specs.List.{range_with_len}
-use Rattle.std.proofs.lemmas.List.{map-append}
-use Rattle.sf_polish.specs.declared.expr.Token.{Token}
+use Rattle.sf_node.proofs.Common.{zero, filter, range_with_len, map-append, Token, Parts, after, step_of, when, may_join, is_unused, extended}
 use Rattle.sf_polish.specs.declared.expr.Token.TheVariants as token
-use Rattle.sf_node.specs.Parts.{Parts}
-use Rattle.sf_node.specs.Children.{after, step_of, when, may_join, is_unused, extended}
 
 -- the tokens that may come next, of blocks those below k
 abbrev pub tokens_below : Parts → ℕ → List Token

@@ -1,20 +1,8 @@
 -- A plan of a subproblem belongs to exactly one half of a span that is split.
 use Rattle.std.proofs.Common.{◌≡◌, ℕ, ◌+◌, ◌-◌, ◌<◌, ◌≤◌, min, List, [], ◌∷◌, length, drop, get_or, All, AllPairs, cond, length-take, length-drop, get_or-take, get_or-drop, arith, refl, ap, sym, subst, ◌∙◌, ◌==◌, Bool, ◌⊎◌, inl, inr, get_or-set_same, get_or-set_other}
-use Rattle.std.specs.Prelude.{count_by, Contains, slice_range, slice_set}
-use Rattle.std.specs.List.{AllByRecursion}
-use Rattle.std.proofs.lemmas.Bool.{cases_eq, cases_lt, eq-eqb, ne_eqb}
-use Rattle.std.proofs.lemmas.List.Elements.{recursion_from_All, All-from_recursion}
-use Rattle.std.proofs.lemmas.List.Sums.{sum_by-cons}
-use Rattle.sf_model.specs.declared.design.Design.{Design}
-use Rattle.sf_model.specs.declared.parts.Shape.{Shape}
+use Rattle.sf_node.proofs.Common.{count_by, Contains, slice_range, slice_set, AllByRecursion, cases_eq, cases_lt, eq-eqb, ne_eqb, recursion_from_All, All-from_recursion, sum_by-cons, Design, Shape, Tree, leaves, block_count, shapes_of, Some, Any-from_recursion, AllPairs-from_recursion, each-weaker, Parts, Belongs, span_of, middle, split, CanSplit}
 use Rattle.sf_model.specs.Limits.{IsBefore}
-use Rattle.sf_model.specs.Tree.{Tree, leaves}
-use Rattle.sf_model.specs.Legal.{block_count, shapes_of}
 use Rattle.sf_model.specs.Spans.{span_in, shapes_in}
-use Rattle.sf_model.proofs.Each.{Some, Any-from_recursion, AllPairs-from_recursion, each-weaker}
-use Rattle.sf_node.specs.Parts.{Parts}
-use Rattle.sf_node.specs.Subproblem.{Belongs, span_of}
-use Rattle.sf_node.specs.Children.{middle, split, CanSplit}
 use Rattle.sf_node.specs.Laws.{BelongsToOne}
 
 -- x stands at a place of xs from one number on and before another

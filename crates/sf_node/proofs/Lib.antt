@@ -1,3 +1,4 @@
+mod Common
 pub mod Cover
 pub mod Apart
 pub mod Halves

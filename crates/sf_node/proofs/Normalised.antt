@@ -1,25 +1,10 @@
 -- The tokens of a complete subproblem are normal.
 use Rattle.std.proofs.Common.{◌≡◌, ℕ, ◌+◌, ◌-◌, ◌*◌, ◌<◌, ◌≤◌, List, [], ◌∷◌, ◌++◌, length, length-set, arith, refl, ap, sym, subst, ◌∙◌, ◌==◌, Bool, true, false, cond, not, inl, inr}
-use Rattle.std.specs.Prelude.{count_by, IsFalse, nat_le, nat_lt}
-use Rattle.std.specs.List.{AllByRecursion}
-use Rattle.std.proofs.lemmas.Bool.{and_parts, not_from_true, lt-ltb, leb-true, eqb-true, ne_eqb, eq-eqb, cases_eq, true≢false}
-use Rattle.std.proofs.lemmas.List.{length-map}
-use Rattle.std.proofs.lemmas.List.Elements.{All-from_recursion}
-use Rattle.std.proofs.lemmas.List.Sums.{sum_by-cons, sum_by-append}
-use Rattle.sf_model.specs.declared.design.Design.{Design}
-use Rattle.sf_model.specs.Legal.{block_count}
+use Rattle.sf_node.proofs.Common.{count_by, IsFalse, nat_le, nat_lt, AllByRecursion, and_parts, not_from_true, lt-ltb, leb-true, eqb-true, ne_eqb, eq-eqb, cases_eq, true≢false, length-map, All-from_recursion, sum_by-cons, sum_by-append, Design, block_count, each-append, Token, is_operand, is_block, is_outside, same_operator, last_or, ends_in, operands, operators, IsNormal, Step, Beside, Above, Block, Left, Right, Parts, root, is_complete, may_join, is_unused, after, CanStep, CanWalk, walk, IsSubproblem}
 use Rattle.sf_model.proofs.Counting.{each-once_by_length}
-use Rattle.sf_model.proofs.Each.{each-append}
-use Rattle.sf_polish.specs.declared.expr.Token.{Token}
 use Rattle.sf_polish.specs.declared.expr.Token.TheVariants as token
-use Rattle.sf_polish.specs.Normal.{is_operand, is_block, is_outside, same_operator, last_or, ends_in, operands, operators, IsNormal}
 use Rattle.sf_polish.proofs.Stack.{Reads, Reads-append, Reads-counts, Alternating, Alternating-append}
 use Rattle.sf_polish.proofs.Normality.{Reads-first, Reads-ballot, alternates, numbers, length-numbers, count-numbers, numbers-below, both-kinds}
-use Rattle.sf_node.specs.declared.step.Step.{Step}
-use Rattle.sf_node.specs.declared.step.Step.TheVariants.{Beside, Above, Block, Left, Right}
-use Rattle.sf_node.specs.Parts.{Parts}
-use Rattle.sf_node.specs.Subproblem.{root, is_complete}
-use Rattle.sf_node.specs.Children.{may_join, is_unused, after, CanStep, CanWalk, walk, IsSubproblem}
 
 -- what holds of the tokens of each subproblem
 pub record IsBegun (blocks : ℕ) (tokens : List Token) : Type 0 where

@@ -1,25 +1,8 @@
 -- Each child of a subproblem of the design is one, and each skewed floorplan belongs to the root.
 use Rattle.std.proofs.Common.{◌≡◌, ℕ, suc, ◌+◌, ◌<◌, ◌≤◌, List, [], ◌∷◌, ◌++◌, length, map, length-set, arith, refl, ap, sym, subst, ◌∙◌, Bool, true, false}
-use Prim.Native.Nat.{zero}
-use Rattle.std.specs.Prelude.{Contains, slice_range, filter}
-use Rattle.std.specs.List.{AllByRecursion, range_with_len}
-use Rattle.std.proofs.lemmas.List.{get_or-map, length-map}
-use Rattle.std.proofs.lemmas.Bool.{cond_both}
-use Rattle.std.proofs.lemmas.List.Elements.{recursion_from_All, All-from_recursion}
-use Rattle.sf_model.specs.declared.design.Design.{Design}
-use Rattle.sf_model.specs.declared.parts.Shape.{Shape}
-use Rattle.sf_model.specs.Tree.{Tree, leaves}
-use Rattle.sf_model.specs.Legal.{IsLegal, block_count, shapes_of}
+use Rattle.sf_node.proofs.Common.{zero, Contains, slice_range, filter, AllByRecursion, range_with_len, get_or-map, length-map, cond_both, recursion_from_All, All-from_recursion, Design, Shape, Tree, leaves, IsLegal, block_count, shapes_of, each-append, each-map, each-weaker, Token, IsSkewed, Step, Beside, Above, Block, Left, Right, Parts, Belongs, root, span_of, may_join, is_unused, when, next_tokens, step_of, after, extended, split, CanSplit, CanStep, CanWalk, walk, IsSubproblem}
 use Rattle.sf_model.specs.Spans.{shapes_in}
-use Rattle.sf_model.proofs.Each.{each-append, each-map, each-weaker}
-use Rattle.sf_polish.specs.declared.expr.Token.{Token}
 use Rattle.sf_polish.specs.declared.expr.Token.TheVariants as token
-use Rattle.sf_polish.specs.Postfix.{IsSkewed}
-use Rattle.sf_node.specs.declared.step.Step.{Step}
-use Rattle.sf_node.specs.declared.step.Step.TheVariants.{Beside, Above, Block, Left, Right}
-use Rattle.sf_node.specs.Parts.{Parts}
-use Rattle.sf_node.specs.Subproblem.{Belongs, root, span_of}
-use Rattle.sf_node.specs.Children.{may_join, is_unused, when, next_tokens, step_of, after, extended, split, CanSplit, CanStep, CanWalk, walk, IsSubproblem}
 use Rattle.sf_node.proofs.Halves.{InSpan, from_in_span, each-both}
 
 -- a walk with one step more goes one step further

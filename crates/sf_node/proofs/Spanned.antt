@@ -1,15 +1,6 @@
 -- The spans of a subproblem are not empty and lie in the blocks' lists.
 use Rattle.std.proofs.Common.{◌≡◌, ℕ, ◌+◌, ◌<◌, ◌≤◌, List, [], ◌∷◌, length, arith, ap, sym, subst, ◌∙◌, inl, inr, get_or-set_same, get_or-set_other, length-set}
-use Rattle.std.specs.Prelude.{slice_index_or, slice_set}
-use Rattle.std.proofs.lemmas.Bool.{cases_eq, ltb-true}
-use Rattle.std.proofs.lemmas.List.{get_or-map, length-map}
-use Rattle.sf_model.specs.declared.design.Design.{Design}
-use Rattle.sf_model.specs.Legal.{block_count, shapes_of}
-use Rattle.sf_node.specs.declared.step.Step.{Step}
-use Rattle.sf_node.specs.declared.step.Step.TheVariants.{Beside, Above, Block, Left, Right}
-use Rattle.sf_node.specs.Parts.{Parts}
-use Rattle.sf_node.specs.Subproblem.{root, span_of}
-use Rattle.sf_node.specs.Children.{after, middle, CanStep, CanWalk, walk, IsSubproblem}
+use Rattle.sf_node.proofs.Common.{slice_index_or, slice_set, cases_eq, ltb-true, get_or-map, length-map, Design, block_count, shapes_of, Step, Beside, Above, Block, Left, Right, Parts, root, span_of, after, middle, CanStep, CanWalk, walk, IsSubproblem}
 
 -- a span of places of a list
 abbrev pub IsSpan : ℕ → ℕ × ℕ → Type 0

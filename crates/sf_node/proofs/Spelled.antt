@@ -1,17 +1,8 @@
 -- Whether a plan belongs to a subproblem, by its expression.
 use Rattle.std.proofs.Common.{◌≡◌, ℕ, ◌<◌, List, All, arith, sym, subst}
 use Rattle.std.specs.Prelude.{◌↔◌}
-use Rattle.std.proofs.lemmas.List.Elements.{recursion_from_All, All-from_recursion}
-use Rattle.sf_model.specs.declared.design.Design.{Design}
-use Rattle.sf_model.specs.declared.parts.Shape.{Shape}
-use Rattle.sf_model.specs.Tree.{Tree, leaves}
-use Rattle.sf_model.specs.Legal.{IsLegal, block_count}
+use Rattle.sf_node.proofs.Common.{recursion_from_All, All-from_recursion, Design, Shape, Tree, leaves, IsLegal, block_count, Token, IsSkewed, Spells, shape_at, Parts, IsInSpan, AreInSpans, Belongs, BeginsWith}
 use Rattle.sf_polish.specs.declared.expr.Expr.{Expr}
-use Rattle.sf_polish.specs.declared.expr.Token.{Token}
-use Rattle.sf_polish.specs.Postfix.{IsSkewed, Spells, shape_at}
-use Rattle.sf_node.specs.Parts.{Parts}
-use Rattle.sf_node.specs.Spans.{IsInSpan, AreInSpans}
-use Rattle.sf_node.specs.Subproblem.{Belongs, BeginsWith}
 use Rattle.sf_node.proofs.Halves.{one-has, each-both}
 
 module _ (design : Design) (node : Parts) (expr : Expr) (tree : Tree) (legal : IsLegal design tree) (spells : Spells expr tree) where

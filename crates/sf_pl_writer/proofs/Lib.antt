@@ -1,2 +1,3 @@
+mod Common
 pub mod Lines
 pub mod Pads

@@ -1,7 +1,6 @@
 -- One more line.
 use Rattle.std.proofs.Common.{◌≡◌, ℕ, ◌+◌, ◌<◌, List, ◌++◌, length, get_or, take, ap, sym, ◌∙◌, append_assoc}
-use Rattle.std.specs.List.{flat_map}
-use Rattle.std.proofs.lemmas.List.{take_more, flat_map_more}
+use Rattle.sf_pl_writer.proofs.Common.{flat_map, take_more, flat_map_more}
 
 -- one more line behind those of the items so far
 pub lines_more : {X : Type 0} (f : X → List ℕ) (xs : List X) (i : ℕ) (d : X) (old before new : List ℕ) → i < length xs → before ≡ old ++ flat_map f (take i xs) → new ≡ before ++ f (get_or xs i d) → new ≡ old ++ flat_map f (take (i + 1) xs)

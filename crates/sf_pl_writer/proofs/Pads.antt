@@ -1,11 +1,10 @@
 -- The line of a pad, by whether it stands in a net.
 use Rattle.std.proofs.Common.{◌≡◌, ℕ, ◌<◌, List, [], ◌++◌, true, false, length, get_or, ap, sym, ◌∙◌}
 use Rattle.std.proofs.lemmas.Bool.{cond-true, cond-false}
-use Rattle.std.proofs.lemmas.List.{append-nil, get_or_default}
+use Rattle.sf_pl_writer.proofs.Common.{append-nil, get_or_default, pad_line, pad_lines_of, stands_in}
 use Rattle.sf_model.specs.declared.design.Design.{Design}
 use Rattle.sf_model.specs.declared.parts.Pad.{Pad}
 use Rattle.sf_model.specs.Wire.{pad_at}
-use Rattle.sf_pl_writer.specs.PlText.{pad_line, pad_lines_of, stands_in}
 
 -- a pad that stands in a net has its line
 pub written : (scale : ℕ) (design : Design) (p : ℕ) (pad : Pad) (before new : List ℕ) → p < length design.pads → pad ≡ get_or design.pads p pad → stands_in design.nets p ≡ true → new ≡ before ++ pad_line scale pad → new ≡ before ++ pad_lines_of scale design p

@@ -1,12 +1,8 @@
 -- The spot that a list has for a block.
 use Rattle.std.proofs.Common.{max, ◌≡◌, ℕ, ◌+◌, ◌≤◌, List, [], ◌∷◌, arith, refl, ◌==◌, cond}
-use Rattle.std.specs.Prelude.{count_by}
-use Rattle.std.specs.List.{AllByRecursion}
+use Rattle.sf_place.proofs.Common.{count_by, AllByRecursion, nat_tests, Spot, spot_of}
 use Rattle.std.proofs.lemmas.Bool.{cond_both}
-use Rattle.std.proofs.lemmas.Bool.Decides.{nat_tests}
 use Rattle.std.proofs.lemmas.List.Sums.{sum_by-cons}
-use Rattle.sf_model.specs.declared.plan.Spot.{Spot}
-use Rattle.sf_model.specs.Wire.{spot_of}
 use Rattle.sf_model.proofs.Each.{EachPair}
 
 -- how many spots of the list are of the block

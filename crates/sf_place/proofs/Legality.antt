@@ -1,10 +1,6 @@
 -- A legal placement has no fault.
 use Rattle.std.proofs.Common.{ℕ, List, [], All, AllPairs, subst, sym, arith}
-use Rattle.sf_model.specs.declared.plan.Spot.{Spot}
-use Rattle.sf_model.specs.Tree.{Overlaps}
-use Rattle.sf_model.specs.Wire.{spot_of}
-use Rattle.sf_place.specs.Spots.{IsByNumber}
-use Rattle.sf_place.specs.Verdict.{IsFirstWithout, IsLeastPair}
+use Rattle.sf_place.proofs.Common.{Spot, Overlaps, spot_of, IsByNumber, IsFirstWithout, IsLeastPair}
 use Rattle.sf_place.proofs.Numbered.{spot_of_numbered}
 
 -- where all spots are as P says, none is the first that is not

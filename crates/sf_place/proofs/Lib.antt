@@ -1,3 +1,4 @@
+mod Common
 pub mod Measured
 pub mod Writes
 pub mod Numbered

@@ -1,13 +1,7 @@
 -- In a list by number, the spot at a place is the spot of the block of that number.
 use Rattle.std.proofs.Common.{All, AllPairs, ◌≡◌, ℕ, suc, ◌+◌, ◌<◌, List, [], ◌∷◌, map, length, get_or, ap, sym, subst, ◌∙◌, arith}
 use Prim.Native.Nat.{zero}
-use Rattle.std.specs.List.{range_with_len}
-use Rattle.std.proofs.lemmas.Bool.Decides.{nat_tests}
-use Rattle.sf_model.specs.declared.plan.Spot.{Spot}
-use Rattle.sf_model.specs.Wire.{spot_of}
-use Rattle.sf_model.specs.Tree.{Overlaps}
-use Rattle.sf_place.specs.Spots.{IsByNumber}
-use Rattle.sf_place.specs.Verdict.{OverlapsNoLater}
+use Rattle.sf_place.proofs.Common.{range_with_len, nat_tests, Spot, spot_of, Overlaps, IsByNumber, OverlapsNoLater}
 use Rattle.sf_place.proofs.Found.{block-spot_of}
 
 -- in spots of blocks a, a + 1 and so on each block is found at its place

@@ -1,11 +1,9 @@
 -- Spots by number have one verdict.
 use Rattle.std.proofs.Common.{◌≡◌, ℕ, ◌<◌, List, All, ap, ◌∙◌, refl, subst, arith}
 use Rattle.sf_model.specs.declared.design.Design.{Design}
-use Rattle.sf_model.specs.declared.plan.Spot.{Spot}
+use Rattle.sf_place.proofs.Common.{Spot, IsByNumber, IsFirstOverlapping, IsFirstWithout, IsLeastPair, IsListed, IsVerdict, LiesIn}
 use Rattle.sf_place.specs.declared.verdict.Verdict.{Verdict}
 use Rattle.sf_place.specs.declared.verdict.Verdict.TheVariants as verdict
-use Rattle.sf_place.specs.Spots.{IsByNumber}
-use Rattle.sf_place.specs.Verdict.{IsFirstOverlapping, IsFirstWithout, IsLeastPair, IsListed, IsVerdict, LiesIn}
 use Rattle.sf_place.proofs.Legality.{none_without, none_over}
 
 -- one block is the first whose spot is not as P says

@@ -1,8 +1,6 @@
 -- Writing the spots of two plans one after the other.
 use Rattle.std.proofs.Common.{◌≡◌, List, [], ◌∷◌, ◌++◌, refl}
-use Rattle.std.specs.Prelude.{slice_set}
-use Rattle.sf_model.specs.declared.plan.Spot.{Spot}
-use Rattle.sf_place.specs.Spots.{with_spots}
+use Rattle.sf_place.proofs.Common.{slice_set, Spot, with_spots}
 
 -- spots are written one list after the other
 pub placed_append : (old xs ys : List Spot) → with_spots old (xs ++ ys) ≡ with_spots (with_spots old xs) ys

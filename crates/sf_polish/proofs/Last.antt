@@ -1,7 +1,6 @@
 -- The last token by its place.
 use Rattle.std.proofs.Common.{◌≡◌, ℕ, ◌-◌, ◌<◌, List, [], ◌∷◌, length, get_or, arith, refl, ap, ◌∙◌}
-use Rattle.sf_polish.specs.declared.expr.Token.{Token}
-use Rattle.sf_polish.specs.Normal.{last_or}
+use Rattle.sf_polish.proofs.Common.{Token, last_or}
 
 -- the last token of a list that is not empty stands at the end
 last_or-some : (p x d : Token) (xs : List Token) → last_or p (x ∷ xs) ≡ get_or (x ∷ xs) (length xs) d

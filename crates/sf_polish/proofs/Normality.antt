@@ -1,21 +1,8 @@
 -- The postfix of a skewed plan is normal, and each normal expression stands for one skewed plan.
 use Rattle.std.proofs.Common.{◌≡◌, ℕ, suc, ◌+◌, ◌-◌, ◌<◌, ◌≤◌, List, [], ◌∷◌, ◌++◌, length, take, drop, get_or, take-append-drop, length-take, arith, refl, ap, sym, subst, ◌∙◌, false, cond, not, ◌==◌}
 use Prim.Native.Nat.{zero}
-use Rattle.std.specs.Prelude.{IsFalse, count_by, nat_lt}
-use Rattle.std.specs.List.{AllByRecursion}
-use Rattle.std.proofs.lemmas.Bool.{lt-ltb, ltb-true, not_from_true, true_from_ne_false, true≢false}
-use Rattle.std.proofs.lemmas.List.Elements.{All-from_recursion, recursion_from_All}
-use Rattle.std.proofs.lemmas.List.Sums.{sum_by-cons}
-use Rattle.sf_model.proofs.Counting.{length-each_once}
-use Rattle.sf_model.specs.Tree.{Tree, Leaf, Beside, Above, leaves}
-use Rattle.sf_model.specs.Legal.{HasEachOnce}
-use Rattle.sf_model.proofs.Counting.{length-leaves_once}
-use Rattle.sf_model.proofs.Each.{each-append, each-left, each-right}
-use Rattle.sf_polish.specs.declared.expr.Token.{Token}
+use Rattle.sf_polish.proofs.Common.{IsFalse, count_by, nat_lt, AllByRecursion, lt-ltb, ltb-true, not_from_true, true_from_ne_false, true≢false, All-from_recursion, recursion_from_All, sum_by-cons, length-each_once, Tree, Leaf, Beside, Above, leaves, HasEachOnce, length-leaves_once, each-append, each-left, each-right, Token, is_operand, is_block, is_outside, same_operator, operands, operators, IsBallot, Alternates, IsNormal, Expr, postfix, IsSkewed}
 use Rattle.sf_polish.specs.declared.expr.Token.TheVariants as token
-use Rattle.sf_polish.specs.Normal.{is_operand, is_block, is_outside, same_operator, operands, operators, IsBallot, Alternates, IsNormal}
-use Rattle.sf_polish.specs.declared.expr.Expr.{Expr}
-use Rattle.sf_polish.specs.Postfix.{postfix, IsSkewed}
 use Rattle.sf_polish.proofs.Spelling.{IsSkewedTreeOf, spelled-tree}
 use Rattle.sf_polish.proofs.Stack.{Reads, Reads-split, Reads-postfix, Reads-counts, Alternating, Alternating-postfix, count_by-postfix, length-postfix}
 

@@ -1,17 +1,7 @@
 -- The steps of reading the words of a text one after another.
 use Rattle.std.proofs.Common.{◌≡◌, ℕ, List, [], ◌∷◌, ◌++◌, length, Option, Some, None, Result, Ok, refl, ap, sym, subst, ◌∙◌}
-use Rattle.std.specs.Prelude.{replicate}
-use Rattle.std.proofs.lemmas.List.{length-set}
-use Rattle.sf_lex.specs.Scan.{LineWord, line_words, last_line_of}
-use Rattle.sf_model.specs.declared.parts.Shape.{Shape}
-use Rattle.sf_polish.specs.declared.expr.Token.{Token}
-use Rattle.sf_polish.specs.declared.fault.ExprFault.{ExprFault}
-use Rattle.sf_polish.specs.declared.fault.ExprFault.TheVariants.{BadToken, NotBallot, NotNormal, RepeatedBlock, MissingBlock, NoMemory}
-use Rattle.sf_polish.specs.declared.word.Piece.{Piece}
+use Rattle.sf_polish.proofs.Common.{replicate, length-set, LineWord, line_words, last_line_of, Shape, Token, ExprFault, BadToken, NotBallot, NotNormal, RepeatedBlock, MissingBlock, NoMemory, Piece, no_shape, shaped_token_in, piece_in, token_after, whole_tokens, tokens_from, shapes_with, shapes_from, expr_of_parts, expr_read, Fails, ◌>>=◌}
 use Rattle.sf_polish.specs.declared.word.Piece.TheVariants as pieces
-use Rattle.sf_polish.specs.Shaping.{no_shape}
-use Rattle.sf_polish.specs.Word.{shaped_token_in, piece_in}
-use Rattle.sf_polish.specs.Reading.{token_after, whole_tokens, tokens_from, shapes_with, shapes_from, expr_of_parts, expr_read, Fails, ◌>>=◌}
 
 -- a fault of the first reading is that of both
 pub fails-through : {A B : Type 0} (e : ExprFault) (r : Result A ExprFault) (f : A → Result B ExprFault) → Fails e r → Fails e (r >>= f)

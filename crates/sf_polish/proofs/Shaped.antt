@@ -1,23 +1,9 @@
 -- A plan with each block once is spelled by its postfix and the shapes of its leaves.
 use Rattle.std.proofs.Common.{◌≡◌, ℕ, ◌+◌, ◌<◌, ◌≤◌, true, false, cond, List, [], ◌∷◌, ◌++◌, length, arith, refl, ap, sym, subst, ◌∙◌, inl, inr}
-use Rattle.std.specs.Prelude.{◌==◌, count_by, ◌≢◌}
-use Rattle.std.specs.List.{AllByRecursion}
-use Rattle.std.proofs.lemmas.Bool.{cases_lt}
-use Rattle.std.proofs.lemmas.Bool.Decides.{eqb_tells}
-use Rattle.std.proofs.lemmas.List.{ext_get_or, get_or-set_same, get_or-set_other, length-set}
-use Rattle.std.proofs.lemmas.List.Elements.{All-from_recursion, recursion_from_All}
-use Rattle.std.proofs.lemmas.List.Sums.{sum_by-cons, sum_by-append}
-use Rattle.sf_model.specs.declared.parts.Shape.{Shape}
-use Rattle.sf_model.specs.Legal.{HasEachOnce}
-use Rattle.sf_model.specs.Tree.{Tree, Leaf, Beside, Above, leaves, HasBlocksBelow}
+use Rattle.std.specs.Prelude.{◌==◌, ◌≢◌}
+use Rattle.sf_polish.proofs.Common.{count_by, AllByRecursion, cases_lt, eqb_tells, ext_get_or, get_or-set_same, get_or-set_other, length-set, All-from_recursion, recursion_from_All, sum_by-cons, sum_by-append, Shape, HasEachOnce, Tree, Leaf, Beside, Above, leaves, HasBlocksBelow, each-append, each-left, each-right, Expr, Token, is_outside, IsNormal, postfix, shape_at, Spells, no_shape, with_leaves}
 use Rattle.sf_model.proofs.BlocksBelow.{once-below}
-use Rattle.sf_model.proofs.Each.{each-append, each-left, each-right}
-use Rattle.sf_polish.specs.declared.expr.Expr.{Expr}
-use Rattle.sf_polish.specs.declared.expr.Token.{Token}
 use Rattle.sf_polish.specs.declared.expr.Token.TheVariants as tokens
-use Rattle.sf_polish.specs.Normal.{is_outside, IsNormal}
-use Rattle.sf_polish.specs.Postfix.{postfix, shape_at, Spells}
-use Rattle.sf_polish.specs.Shaping.{no_shape, with_leaves}
 use Rattle.sf_polish.proofs.Normality.{inside-number}
 use Rattle.sf_polish.proofs.Spelling.{HasShapes}
 use Rattle.sf_polish.proofs.Stack.{count_by-postfix}

@@ -1,8 +1,6 @@
 -- Each plan has a skewed plan with the same leaves and the same spots: a right child with its parent's operator is taken apart.
 use Rattle.std.proofs.Common.{◌≡◌, ℕ, ◌+◌, max, ◌++◌, append_assoc, arith, refl, ap, ◌∙◌}
-use Rattle.sf_model.specs.Tree.{Tree, Leaf, Beside, Above, width, height, leaves, spots_at}
-use Rattle.sf_polish.specs.Postfix.{IsSkewed}
-use Rattle.sf_polish.specs.Skewing.{beside, above, skewed_plan, IsSamePlace}
+use Rattle.sf_polish.proofs.Common.{Tree, Leaf, Beside, Above, width, height, leaves, spots_at, IsSkewed, beside, above, skewed_plan, IsSamePlace}
 
 -- t is the plan of l and r side by side
 pub record JoinsBeside (l r t : Tree) : Type 0 where

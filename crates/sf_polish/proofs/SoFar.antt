@@ -1,20 +1,8 @@
 -- Tokens that are read one after another without a fault are the front of normal tokens, and at the end they are normal.
 use Rattle.std.proofs.Common.{◌≡◌, ℕ, zero, suc, ◌+◌, ◌-◌, ◌<◌, ◌≤◌, Bool, true, false, cond, not, List, [], ◌∷◌, ◌++◌, Option, Some, None, Result, Ok, Err, append_assoc, append-nil, arith, refl, ap, sym, subst, ◌∙◌, inl, inr}
-use Rattle.std.specs.Prelude.{count_by, nat_le, ◌==◌, ◌||◌, map}
-use Rattle.std.specs.List.{AllByRecursion, list_all, range_with_len}
-use Rattle.std.proofs.lemmas.Bool.Decides.{eqb_tells, leb_tells}
-use Rattle.std.proofs.lemmas.List.Elements.{All-from_recursion, recursion_from_All}
-use Rattle.std.proofs.lemmas.List.Sums.{sum_by-cons, sum_by-append}
-use Rattle.std.proofs.lemmas.Bool.{cases_lt, and_parts}
-use Rattle.sf_model.proofs.Counting.{length-each_once}
-use Rattle.sf_model.proofs.Each.{each-append, each-right}
-use Rattle.sf_lex.specs.Scan.{LineWord}
-use Rattle.sf_polish.specs.declared.expr.Token.{Token}
+use Rattle.std.specs.Prelude.{◌==◌, ◌||◌}
+use Rattle.sf_polish.proofs.Common.{count_by, nat_le, map, AllByRecursion, list_all, range_with_len, eqb_tells, leb_tells, All-from_recursion, recursion_from_All, sum_by-cons, sum_by-append, cases_lt, and_parts, length-each_once, each-append, each-right, LineWord, Token, ExprFault, NotBallot, NotNormal, RepeatedBlock, MissingBlock, is_block, is_outside, same_operator, last_or, ends_in, operands, operators, IsNormal, is_named, operator_after, token_after, whole_tokens, tokens_from, ◌>>=◌}
 use Rattle.sf_polish.specs.declared.expr.Token.TheVariants as token
-use Rattle.sf_polish.specs.declared.fault.ExprFault.{ExprFault}
-use Rattle.sf_polish.specs.declared.fault.ExprFault.TheVariants.{NotBallot, NotNormal, RepeatedBlock, MissingBlock}
-use Rattle.sf_polish.specs.Normal.{is_block, is_outside, same_operator, last_or, ends_in, operands, operators, IsNormal}
-use Rattle.sf_polish.specs.Reading.{is_named, operator_after, token_after, whole_tokens, tokens_from, ◌>>=◌}
 use Rattle.sf_polish.proofs.Normality.{Reads-ballot, alternates, numbers, length-numbers, count-numbers, numbers-below, inside-number, both-kinds, normal-reads, first-free}
 use Rattle.sf_polish.proofs.ReadSteps.{tokens-step, tokens-end}
 use Rattle.sf_polish.proofs.Stack.{Reads, Reads-append, Reads-split, Reads-counts, Alternating, Alternating-append, Alternating-after}

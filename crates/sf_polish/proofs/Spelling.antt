@@ -1,16 +1,7 @@
 -- The tree that an expression stands for, by reading its tokens onto a stack of trees.
 use Rattle.std.proofs.Common.{◌≡◌, ℕ, ◌+◌, ◌-◌, List, [], ◌∷◌, ◌++◌, length, append_assoc, append-nil, arith, refl, ap, sym, subst, ◌∙◌, false}
-use Rattle.std.specs.Prelude.{⊤}
-use Rattle.std.specs.List.{AllByRecursion}
-use Rattle.std.proofs.lemmas.List.Elements.{All-from_recursion, recursion_from_All}
-use Rattle.sf_model.specs.declared.parts.Shape.{Shape}
-use Rattle.sf_model.specs.Tree.{Tree, Leaf, Beside, Above, leaves}
-use Rattle.sf_model.proofs.Each.{each-append, each-left, each-right}
-use Rattle.sf_polish.specs.declared.expr.Expr.{Expr}
-use Rattle.sf_polish.specs.declared.expr.Token.{Token}
+use Rattle.sf_polish.proofs.Common.{⊤, AllByRecursion, All-from_recursion, recursion_from_All, Shape, Tree, Leaf, Beside, Above, leaves, each-append, each-left, each-right, Expr, Token, same_operator, postfix, is_beside, is_above, IsSkewed, shape_at, Spells}
 use Rattle.sf_polish.specs.declared.expr.Token.TheVariants as token
-use Rattle.sf_polish.specs.Normal.{same_operator}
-use Rattle.sf_polish.specs.Postfix.{postfix, is_beside, is_above, IsSkewed, shape_at, Spells}
 use Rattle.sf_polish.proofs.Stack.{Reads, Alternating, top}
 
 -- the trees after the tokens, the last first

@@ -1,13 +1,8 @@
 -- What stands before each token of a plan's postfix.
 use Rattle.std.proofs.Common.{◌≡◌, ℕ, ◌+◌, ◌-◌, ◌*◌, ◌≤◌, List, [], ◌∷◌, ◌++◌, length, arith, refl, ap, sym, subst, ◌∙◌, false, cond, not, ◌==◌}
-use Rattle.std.specs.Prelude.{count_by, IsFalse, ⊤}
-use Rattle.std.proofs.lemmas.List.Sums.{sum_by-append, sum_by-cons}
+use Rattle.sf_polish.proofs.Common.{count_by, IsFalse, ⊤, sum_by-append, sum_by-cons, Tree, Leaf, Beside, Above, leaves, Token, is_operand, is_block, same_operator, last_or, ends_in, operands, operators, postfix, is_beside, is_above, IsSkewed}
 use Rattle.std.proofs.Common.{length-append}
-use Rattle.sf_model.specs.Tree.{Tree, Leaf, Beside, Above, leaves}
-use Rattle.sf_polish.specs.declared.expr.Token.{Token}
 use Rattle.sf_polish.specs.declared.expr.Token.TheVariants as token
-use Rattle.sf_polish.specs.Normal.{is_operand, is_block, same_operator, last_or, ends_in, operands, operators}
-use Rattle.sf_polish.specs.Postfix.{postfix, is_beside, is_above, IsSkewed}
 
 -- reading the tokens takes a stack of h items to one of g
 abbrev pub Reads : ℕ → List Token → ℕ → Type 0

@@ -2,15 +2,10 @@
 use Rattle.std.proofs.Common.{◌≡◌, ℕ, suc, ◌+◌, ◌-◌, ◌<◌, ◌≤◌, List, [], ◌∷◌, ◌++◌, length, drop, get_or, length-append, arith, refl, ap, sym, subst, ◌∙◌}
 use Rattle.std.proofs.Math.Seq.{drop-cons}
 use Rattle.std.proofs.Math.ListN.{drop_of_length-le}
-use Rattle.sf_model.specs.declared.parts.Shape.{Shape}
+use Rattle.sf_polish.proofs.Common.{Shape, Tree, Leaf, Beside, Above, tree_of, Token, shape_at, Expr, IsNormal}
 use Rattle.sf_model.specs.declared.plan.Plan.{Plan}
-use Rattle.sf_model.specs.Tree.{Tree, Leaf, Beside, Above, tree_of}
-use Rattle.sf_polish.specs.declared.expr.Token.{Token}
 use Rattle.sf_polish.specs.declared.expr.Token.TheVariants as token
-use Rattle.sf_polish.specs.Postfix.{shape_at}
 use Rattle.sf_polish.proofs.Stack.{Reads}
-use Rattle.sf_polish.specs.declared.expr.Expr.{Expr}
-use Rattle.sf_polish.specs.Normal.{IsNormal}
 use Rattle.sf_polish.proofs.Spelling.{parse, IsSkewedTreeOf}
 use Rattle.sf_polish.proofs.Normality.{normal-spelled}
 

@@ -1,27 +1,10 @@
 -- What a text is read as is what its words spell, and the other way round.
 use Rattle.std.proofs.Common.{◌≡◌, ℕ, ◌^◌, ◌<◌, ◌≤◌, true, false, cond, List, [], ◌∷◌, ◌++◌, length, Option, Some, None, Result, Ok, Err, arith, refl, ap, sym, subst, ◌∙◌, inl, inr}
-use Rattle.std.specs.Prelude.{count_by, map, replicate, slice_set, ◌==◌}
-use Rattle.std.specs.Fmt.{decimal}
-use Rattle.std.specs.List.{AllByRecursion}
-use Rattle.std.specs.Option.{option_map}
-use Rattle.std.proofs.lemmas.Bool.Decides.{eqb_tells}
-use Rattle.std.proofs.lemmas.List.{get_or-set_same, get_or-set_other, get_or_default, length-replicate, ext_get_or}
-use Rattle.std.proofs.lemmas.List.Elements.{recursion_from_All}
-use Rattle.sf_lex.specs.Scan.{LineWord, line_words, last_line_of}
-use Rattle.sf_model.specs.declared.parts.Shape.{Shape}
+use Rattle.std.specs.Prelude.{◌==◌}
+use Rattle.sf_polish.proofs.Common.{count_by, map, replicate, slice_set, decimal, AllByRecursion, option_map, eqb_tells, get_or-set_same, get_or-set_other, get_or_default, length-replicate, ext_get_or, recursion_from_All, LineWord, line_words, last_line_of, Shape, Expr, Token, ExprFault, Piece, is_block, is_outside, shape_at, is_named, tokens_from, shapes_with, shapes_from, tokens_read, expr_of_parts, expr_read, ◌>>=◌, no_shape, token_text, shape_text, shaped_text, IsWritable, SpellsTokens, SpellsExpr, token_in, piece_in, shaped_token_in, token_of}
 use Rattle.sf_model.specs.Limits.{IsSide}
-use Rattle.sf_polish.specs.declared.expr.Expr.{Expr}
-use Rattle.sf_polish.specs.declared.expr.Token.{Token}
 use Rattle.sf_polish.specs.declared.expr.Token.TheVariants as token
-use Rattle.sf_polish.specs.declared.fault.ExprFault.{ExprFault}
-use Rattle.sf_polish.specs.declared.word.Piece.{Piece}
 use Rattle.sf_polish.specs.declared.word.Piece.TheVariants as piece
-use Rattle.sf_polish.specs.Normal.{is_block, is_outside}
-use Rattle.sf_polish.specs.Postfix.{shape_at}
-use Rattle.sf_polish.specs.Reading.{is_named, tokens_from, shapes_with, shapes_from, tokens_read, expr_of_parts, expr_read, ◌>>=◌}
-use Rattle.sf_polish.specs.Shaping.{no_shape}
-use Rattle.sf_polish.specs.Text.{token_text, shape_text, shaped_text, IsWritable, SpellsTokens, SpellsExpr}
-use Rattle.sf_polish.specs.Word.{token_in, piece_in, shaped_token_in, token_of}
 use Rattle.sf_polish.proofs.Fronts.{at-most-once}
 use Rattle.sf_polish.proofs.ReadSteps.{expr-read, shapes-step, shapes-end, shapes-same}
 use Rattle.sf_polish.proofs.SoFar.{front-start, spelled_by, tokens-known, tokens-again, unnamed, is_named-uncounted, counted, times-cons}

@@ -1,10 +1,6 @@
 -- Words that are written one behind another.
 use Rattle.std.proofs.Common.{◌≡◌, ℕ, ◌+◌, ◌<◌, List, [], ◌∷◌, ◌++◌, length, take, get_or, map, append_assoc, append-nil, arith, refl, ap, sym, ◌∙◌}
-use Rattle.std.specs.List.{join_with_byte}
-use Rattle.std.proofs.lemmas.List.{take_more, map-append, length-map, length-take}
-use Rattle.sf_model.specs.declared.parts.Shape.{Shape}
-use Rattle.sf_polish.specs.declared.expr.Token.{Token}
-use Rattle.sf_polish.specs.Text.{shaped_text}
+use Rattle.sf_polish.proofs.Common.{join_with_byte, take_more, map-append, length-map, length-take, Shape, Token, shaped_text}
 
 -- one word more, behind a space
 pub joined-push : (words : List (List ℕ)) (word : List ℕ) → 0 < length words → join_with_byte 32 (words ++ word ∷ []) ≡ join_with_byte 32 words ++ (32 ∷ word)

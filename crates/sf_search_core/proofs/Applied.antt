@@ -1,26 +1,11 @@
 -- Whatever event is accepted, its tests give what its change asks for, so that it keeps a core state.
 use Rattle.std.proofs.Common.{◌≡◌, ℕ, suc, ◌<◌, ◌≤◌, List, [], ◌∷◌, ◌++◌, map, reverse, length, arith, refl, ap, sym, subst, append-nil, ◌∙◌, Option, Some, None, Result, Ok, ◌⊎◌, inl, inr, Bool, true, false, cond, not, ◌==◌}
-use Prim.Native.Nat.{zero}
-use Rattle.std.specs.Prelude.{IfOk, slice_get, slice_set, nat_lt, ◌&&◌}
-use Rattle.std.specs.List.{AllByRecursion}
-use Rattle.std.proofs.lemmas.Bool.{and_parts, eqb-true, ltb-true, true≢false, cases_lt, lt-ltb}
-use Rattle.std.proofs.lemmas.List.Elements.{All-from_recursion, All-nil}
-use Rattle.sf_model.specs.declared.design.Design.{Design}
-use Rattle.sf_node.specs.declared.task.Task.{Task}
-use Rattle.sf_node.specs.Parts.{Parts}
-use Rattle.sf_node.specs.Subproblem.{is_complete, is_solved, is_wide, span_of}
-use Rattle.sf_node.specs.Children.{IsSubproblem}
+use Rattle.sf_search_core.proofs.Common.{zero, IfOk, slice_get, slice_set, nat_lt, AllByRecursion, and_parts, eqb-true, ltb-true, true≢false, cases_lt, lt-ltb, All-from_recursion, All-nil, Design, Task, Parts, is_complete, is_solved, is_wide, span_of, IsSubproblem, Event, Take, Replace, Close, Offer, Refusal, State, IsDecided, branched, IsCoreState, held_in, held_by, kind_of, may_branch, tasks, take, replace, close, offer, applied, AreBounds, CanCome}
+use Rattle.std.specs.Prelude.{◌&&◌}
 use Rattle.sf_node.proofs.Reached.{extended-subproblems, split-subproblems}
 use Rattle.sf_search_core.specs.declared.entry.Kind.TheVariants as kind
 use Rattle.sf_search_core.specs.declared.event.How.{How}
 use Rattle.sf_search_core.specs.declared.event.How.TheVariants as how
-use Rattle.sf_search_core.specs.declared.event.Event.{Event}
-use Rattle.sf_search_core.specs.declared.event.Event.TheVariants.{Take, Replace, Close, Offer}
-use Rattle.sf_search_core.specs.declared.refusal.Refusal.{Refusal}
-use Rattle.sf_search_core.specs.State.{State}
-use Rattle.sf_search_core.specs.Conserved.{IsDecided, branched}
-use Rattle.sf_search_core.specs.Core.{IsCoreState}
-use Rattle.sf_search_core.specs.Events.{held_in, held_by, kind_of, may_branch, tasks, take, replace, close, offer, applied, AreBounds, CanCome}
 use Rattle.sf_search_core.proofs.Kept.{take-kept, decide-kept, offer-kept, held-valued}
 
 -- a test that leads to a state passed or failed, with what it leads to

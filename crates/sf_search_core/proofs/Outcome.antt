@@ -1,12 +1,7 @@
 -- What a core state tells of a design's floorplans.
 use Rattle.std.proofs.Common.{◌≡◌, ℕ, suc, ◌+◌, ◌<◌, ◌≤◌, max, List, [], ◌∷◌, ◌++◌, length, map, replicate, get_or, All, arith, refl, ap, sym, subst, ◌∙◌, inl, inr, ◌⊎◌, None, Result, Ok, Err, IsPermutation}
-use Prim.Native.Nat.{zero}
-use Rattle.std.specs.List.{AllByRecursion, flat_map, filter_map}
-use Rattle.std.specs.Prelude.{IsTrue}
-use Rattle.std.proofs.lemmas.List.{map-append}
-use Rattle.std.proofs.lemmas.List.Elements.{recursion_from_All, All-nil, All-from_recursion}
+use Rattle.sf_search_core.proofs.Common.{zero, AllByRecursion, flat_map, filter_map, IsTrue, map-append, recursion_from_All, All-nil, All-from_recursion, Design, Task, Parts, Belongs, root, is_solved, after, step_of, next_tokens, IsSubproblem, Entry, Event, Refusal, State, IsDecided, branched, children, IsCoreState, held_tasks, undecided, applied, CanCome}
 use Rattle.std.proofs.lemmas.List.Sorted.{IsPermutation-sym, IsPermutation-refl}
-use Rattle.sf_model.specs.declared.design.Design.{Design}
 use Rattle.sf_model.specs.declared.TheConstants.{MAX}
 use Rattle.sf_model.specs.Tree.{Tree}
 use Rattle.sf_model.specs.Legal.{Fits}
@@ -15,26 +10,15 @@ use Rattle.sf_model.proofs.Each.{Some, Some-left, Some-right, Any-from_recursion
 use Rattle.sf_polish.specs.Skewing.{skewed_plan}
 use Rattle.sf_polish.proofs.Skewed.{IsSkewed-skewed_plan, IsSamePlace-skewed_plan}
 use Rattle.sf_polish.proofs.Same.{same-legal, same-fits, same-cost}
-use Rattle.sf_node.specs.declared.task.Task.{Task}
-use Rattle.sf_node.specs.Parts.{Parts}
 use Rattle.sf_polish.specs.declared.expr.Token.{Token}
 use Rattle.sf_node.specs.declared.step.Step.{Step}
 use Rattle.sf_node.specs.declared.step.Step.TheVariants.{Beside, Above, Block, Left, Right}
-use Rattle.sf_node.specs.Subproblem.{Belongs, root, is_solved}
-use Rattle.sf_node.specs.Children.{after, step_of, next_tokens, IsSubproblem}
 use Rattle.sf_node.specs.Bounds.{IsSound, IsExactAtEnd, IsReached}
 use Rattle.sf_node.proofs.Cover.{extended-some}
 use Rattle.sf_node.proofs.Halves.{split-some}
 use Rattle.sf_node.proofs.Reached.{extended-subproblems, split-subproblems, root-subproblem, root-belongs, subproblem-spans}
-use Rattle.sf_search_core.specs.declared.entry.Entry.{Entry}
 use Rattle.sf_search_core.specs.declared.entry.Kind.{Kind}
 use Rattle.sf_search_core.specs.declared.entry.Kind.TheVariants as kind
-use Rattle.sf_search_core.specs.declared.event.Event.{Event}
-use Rattle.sf_search_core.specs.declared.refusal.Refusal.{Refusal}
-use Rattle.sf_search_core.specs.State.{State}
-use Rattle.sf_search_core.specs.Conserved.{IsDecided, branched, children}
-use Rattle.sf_search_core.specs.Core.{IsCoreState, held_tasks, undecided}
-use Rattle.sf_search_core.specs.Events.{applied, CanCome}
 use Rattle.sf_search_core.specs.Least.{least}
 use Rattle.sf_search_core.specs.Outcome.{opening, next_of, after_event, after_events, CanAllCome, IsPlanCost, floor_of, IsOutcome}
 use Rattle.sf_search_core.proofs.Kept.{Any-permutation}

@@ -1,23 +1,8 @@
 -- What a Replace answers, by the tests that it passes.
 use Rattle.std.proofs.Common.{◌≡◌, ℕ, suc, ◌<◌, ◌≤◌, List, [], ◌∷◌, ◌++◌, map, reverse, length, get_or, append_assoc, arith, refl, ap, sym, subst, ◌∙◌, Option, Some, None, Result, Ok, Err, true, false, cond, not, ◌⊎◌, inl, inr}
-use Prim.Native.Nat.{zero}
-use Rattle.std.specs.Prelude.{IfOk, slice_set, slice_get, nat_lt}
-use Rattle.std.proofs.lemmas.Bool.{lt-ltb, cond-true, cond-false}
-use Rattle.std.proofs.lemmas.List.{length-map, reverse-append}
-use Rattle.sf_model.specs.declared.design.Design.{Design}
-use Rattle.sf_node.specs.declared.task.Task.{Task}
-use Rattle.sf_node.specs.Parts.{Parts}
-use Rattle.sf_node.specs.Children.{IsSubproblem}
+use Rattle.sf_search_core.proofs.Common.{zero, IfOk, slice_set, slice_get, nat_lt, lt-ltb, cond-true, cond-false, length-map, reverse-append, Design, Task, Parts, IsSubproblem, Event, Replace, Refusal, Entry, State, branched, IsCoreState, held_in, held_by, kind_of, may_branch, tasks, replace, applied, AreBounds, AreChildren, CanCome, IsBranching, Answers}
 use Rattle.sf_search_core.specs.declared.event.How.{How}
-use Rattle.sf_search_core.specs.declared.event.Event.{Event}
-use Rattle.sf_search_core.specs.declared.event.Event.TheVariants.{Replace}
-use Rattle.sf_search_core.specs.declared.refusal.Refusal.{Refusal}
 use Rattle.sf_search_core.specs.declared.refusal.Refusal.TheVariants as refusal
-use Rattle.sf_search_core.specs.declared.entry.Entry.{Entry}
-use Rattle.sf_search_core.specs.State.{State}
-use Rattle.sf_search_core.specs.Conserved.{branched}
-use Rattle.sf_search_core.specs.Core.{IsCoreState}
-use Rattle.sf_search_core.specs.Events.{held_in, held_by, kind_of, may_branch, tasks, replace, applied, AreBounds, AreChildren, CanCome, IsBranching, Answers}
 use Rattle.sf_search_core.proofs.Kept.{held-valued}
 use Rattle.sf_search_core.proofs.Applied.{held-some, applied-kept}
 

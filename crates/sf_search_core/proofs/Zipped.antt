@@ -1,9 +1,6 @@
 -- Subproblems and bounds, paired one by one.
 use Rattle.std.proofs.Common.{◌≡◌, ℕ, List, [], ◌∷◌, map, refl, ap}
-use Rattle.std.specs.Prelude.{zip}
-use Rattle.sf_node.specs.Parts.{Parts}
-use Rattle.sf_node.specs.declared.task.Task.{Task}
-use Rattle.sf_search_core.specs.Events.{tasks}
+use Rattle.sf_search_core.proofs.Common.{zip, Parts, Task, tasks}
 
 -- the task of a subproblem and its bound
 abbrev pub task_of : Parts × ℕ → Task

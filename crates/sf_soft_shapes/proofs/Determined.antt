@@ -1,19 +1,15 @@
 -- A block has one list: also where no width is allowed, though then any empty interval tells its widths.
 use Rattle.std.proofs.Common.{◌≡◌, ℕ, ◌<◌, ◌≤◌, ◌⊎◌, inl, inr, Bool, true, List, [], ◌∷◌, length, map, Option, Some, None, refl, ap, sym, ◌∙◌, arith}
 use Rattle.std.specs.Prelude.{nat_le}
-use Rattle.std.specs.List.{AllByRecursion, zip}
+use Rattle.sf_soft_shapes.proofs.Common.{AllByRecursion, zip, nat_tests, Shape, RawBlock, AreFirstLists, AreListsOf, HasNoneFor, IsListOf, height_at, shape, width_count, widths}
 use Rattle.std.specs.Option.{option_map}
 use Rattle.std.proofs.lemmas.List.Elements.{recursion_from_All}
 use Rattle.std.proofs.lemmas.Bool.{cases_lt}
-use Rattle.std.proofs.lemmas.Bool.Decides.{nat_tests}
 use Rattle.sf_model.specs.Built.{first_shapeless}
 use Rattle.sf_model.specs.declared.fault.BuildFault.{BuildFault}
 use Rattle.sf_model.specs.declared.fault.BuildFault.TheVariants.{NoShape}
-use Rattle.sf_model.specs.declared.parts.Shape.{Shape}
 use Rattle.sf_model.specs.declared.raw.Kind.{Kind}
 use Rattle.sf_model.specs.declared.raw.Kind.TheVariants as kind
-use Rattle.sf_model.specs.declared.raw.RawBlock.{RawBlock}
-use Rattle.sf_soft_shapes.specs.Listed.{AreFirstLists, AreListsOf, HasNoneFor, IsListOf, height_at, shape, width_count, widths}
 
 -- an empty interval has no width
 no_width : (k lo hi : ℕ) → hi < lo → widths k lo hi ≡ []

@@ -1,3 +1,4 @@
+mod Common
 pub mod Heights
 pub mod Spread
 pub mod Listing

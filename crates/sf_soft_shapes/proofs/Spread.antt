@@ -1,16 +1,11 @@
 -- Shapes put at the end of those at earlier widths.
 use Rattle.std.proofs.Common.{◌≡◌, ℕ, ◌+◌, ◌-◌, ◌*◌, ◌/◌, ◌<◌, ◌≤◌, inl, inr, true, false, nat_le, List, [], ◌∷◌, ◌++◌, length, get_or, map, ap, sym, subst, ◌∙◌, arith}
-use Rattle.std.specs.List.{range_with_len}
+use Rattle.sf_soft_shapes.proofs.Common.{range_with_len, nat_tests, div_ceil_times, IsSide, IsShapeChoice, Shape, shape, height_at, width_count, widths, IsAllowed, IsSoftList}
 use Rattle.std.proofs.Math.Nat.{mul-le-mul_right, div-mul-le_self, div-le_of_le-mul, le-div_iff_mul-le, zero-mul}
 use Rattle.std.proofs.lemmas.Bool.{cases_lt}
-use Rattle.std.proofs.lemmas.Bool.Decides.{nat_tests}
-use Rattle.std.proofs.lemmas.Grind.{div_ceil_times}
 use Rattle.std.proofs.lemmas.List.FromFn.{map-range_with_len_more, get_or-map-range_with_len, length-map-range_with_len}
 use Rattle.std.proofs.lemmas.List.{map-append, length-map}
 use Rattle.std.proofs.lemmas.Simd.{map-map}
-use Rattle.sf_model.specs.Limits.{IsSide, IsShapeChoice}
-use Rattle.sf_model.specs.declared.parts.Shape.{Shape}
-use Rattle.sf_soft_shapes.specs.Listed.{shape, height_at, width_count, widths, IsAllowed, IsSoftList}
 
 -- one item more at the end of those at the first j numbers is that at the number j
 pub grown : {X : Type 0} (g : ℕ → X) (f : ℕ → ℕ) (j : ℕ) (xs ys : List X) (x : X) → ys ≡ xs ++ x ∷ [] → xs ≡ map g (map f (range_with_len 0 j)) → x ≡ g (f j) → ys ≡ map g (map f (range_with_len 0 (j + 1)))

@@ -1,9 +1,8 @@
 -- The items after more tokens.
 use Rattle.std.proofs.Common.{◌≡◌, ℕ, List, [], ◌∷◌, ◌++◌, refl}
-use Rattle.sf_polish.specs.declared.expr.Token.{Token}
+use Rattle.sf_standard.proofs.Common.{Token, Item, read}
 use Rattle.sf_polish.specs.declared.expr.Token.TheVariants as token
 use Rattle.sf_standard.specs.Items as item
-use Rattle.sf_standard.specs.Items.{Item, read}
 
 -- tokens that follow others are read from the items that those left
 pub read-append : (items : List Item) (xs ys : List Token) → read items (xs ++ ys) ≡ read (read items xs) ys

@@ -1,29 +1,11 @@
 -- The standard bound is its value from area and wires; no part of it is above it, and where wires cost nothing each part is the bound.
 use Rattle.std.proofs.Common.{◌≡◌, ℕ, ◌+◌, ◌*◌, ◌^◌, ◌<◌, ◌≤◌, max, List, [], ◌∷◌, length, arith, refl, ap, sym, subst, ◌∙◌, inl, inr, Bool, true, false}
-use Rattle.std.specs.Prelude.{Contains, sum_by, nat_lt, ◌==◌, ◌||◌, if◌then◌else◌}
-use Rattle.std.specs.List.{list_any}
-use Rattle.std.proofs.Math.Nat.{mul-le-mul, mul-le-mul_left}
-use Rattle.std.proofs.lemmas.Bool.{and_parts, ne_eqb, cases_lt, cond_both, cond-true, cond-false, ltb-false}
-use Rattle.std.proofs.lemmas.List.Sums.{sum_by-cons}
-use Rattle.sf_model.specs.declared.design.Design.{Design}
-use Rattle.sf_model.specs.declared.parts.Net.{Net}
-use Rattle.sf_model.specs.declared.parts.Pin.{Pin}
-use Rattle.sf_model.specs.declared.TheConstants.{MAX}
-use Rattle.sf_model.specs.Cost.{cost}
-use Rattle.sf_model.specs.Tree.{Tree, width, height, spots_of}
-use Rattle.sf_model.specs.Wire.{wire}
+use Rattle.std.specs.Prelude.{◌==◌, ◌||◌, if◌then◌else◌}
+use Rattle.sf_standard.proofs.Common.{Contains, sum_by, nat_lt, list_any, mul-le-mul, mul-le-mul_left, and_parts, ne_eqb, cases_lt, cond_both, cond-true, cond-false, ltb-false, sum_by-cons, Design, Net, Pin, MAX, cost, Tree, width, height, spots_of, wire, IsSubproblem, Parts, is_complete, is_solved, subproblem-spans, Contains-head, Item, items_of, fitting, range_part, pair_part, hull_part, extent_in, area, least_of, least_cost, has_none, needed_area, pins_part, weighed_part, wire_part, pins_by, wires_by, plans_of, bounded, open_value, standard, part_value, has_single_spans, AllHavePlans}
 use Rattle.sf_model.proofs.Bounded.{cost-below}
 use Rattle.sf_node.specs.declared.part.Part.{Part}
 use Rattle.sf_node.specs.declared.part.Part.TheVariants as by
 use Rattle.sf_node.specs.ByPart.{ArePartsOf}
-use Rattle.sf_node.specs.Children.{IsSubproblem}
-use Rattle.sf_node.specs.Parts.{Parts}
-use Rattle.sf_node.specs.Subproblem.{is_complete, is_solved}
-use Rattle.sf_node.proofs.Reached.{subproblem-spans}
-use Rattle.sf_curves.proofs.Members.{Contains-head}
-use Rattle.sf_standard.specs.Items.{Item, items_of, fitting}
-use Rattle.sf_standard.specs.Hull.{range_part, pair_part, hull_part, extent_in}
-use Rattle.sf_standard.specs.Standard.{area, least_of, least_cost, has_none, needed_area, pins_part, weighed_part, wire_part, pins_by, wires_by, plans_of, bounded, open_value, standard, part_value, has_single_spans, AllHavePlans}
 use Rattle.sf_standard.proofs.Cutting.{least_of-le}
 use Rattle.sf_standard.proofs.Exact.{IsWholeItem, whole-item, fitting-belongs, least_of-reached, standard_is_exact}
 use Rattle.sf_standard.proofs.Listed.{each-from, sum_by-le_each}

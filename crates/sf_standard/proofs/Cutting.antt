@@ -1,33 +1,11 @@
 -- The items of a subproblem and its unused blocks are subtrees of each of its plans.
 use Rattle.std.proofs.Common.{◌≡◌, ℕ, suc, ◌+◌, ◌*◌, ◌<◌, ◌≤◌, List, [], ◌∷◌, ◌++◌, map, length, drop, take-append-drop, length-append, append-nil, arith, refl, ap, sym, subst, ◌∙◌, inl, inr, ◌==◌, Bool, true, false, cond}
-use Prim.Native.Nat.{zero}
-use Rattle.std.specs.Prelude.{Contains, count_by, filter, sum_by, nat_le, ◌||◌}
-use Rattle.std.specs.List.{AllByRecursion, range_with_len, list_any}
-use Rattle.std.proofs.Math.Nat.{mul-le-mul}
-use Rattle.std.proofs.lemmas.Bool.{eqb-true, ne_eqb, and_from, le-leb}
-use Rattle.std.proofs.lemmas.List.{nil_from_length}
-use Rattle.std.proofs.lemmas.List.Sums.{sum_by-cons, sum_by-append, sum-map}
-use Rattle.std.proofs.lemmas.List.Elements.{recursion_from_All}
-use Rattle.sf_model.specs.declared.design.Design.{Design}
-use Rattle.sf_model.specs.declared.parts.Shape.{Shape}
-use Rattle.sf_model.specs.declared.parts.Outline.{Outline}
-use Rattle.sf_model.specs.Legal.{Fits, block_count}
-use Rattle.sf_model.specs.Tree.{Tree, Leaf, Beside, Above, width, height, leaves}
+use Rattle.sf_standard.proofs.Common.{zero, Contains, count_by, filter, sum_by, nat_le, AllByRecursion, range_with_len, list_any, mul-le-mul, eqb-true, ne_eqb, and_from, le-leb, nil_from_length, sum_by-cons, sum_by-append, sum-map, recursion_from_All, Design, Shape, Outline, Fits, block_count, Tree, Leaf, Beside, Above, width, height, leaves, each-append, each-weaker, each-map, each-left, each-right, EachPair-filter, EachPair-range, Token, is_block, postfix, Parts, Belongs, is_complete, is_unused, Contains-cons_cases, Contains-head, Contains-tail, not_in_nil, shapes_in, Item, items_of, unused, plans, fits, fitting, item_of, area, least_of, has_none, greatest, needed_area}
+use Rattle.std.specs.Prelude.{◌||◌}
 use Rattle.sf_model.proofs.Counting.{length-leaves}
-use Rattle.sf_model.proofs.Each.{each-append, each-weaker, each-map, each-left, each-right, EachPair-filter, EachPair-range}
-use Rattle.sf_polish.specs.declared.expr.Token.{Token}
 use Rattle.sf_polish.specs.declared.expr.Token.TheVariants as token
-use Rattle.sf_polish.specs.Normal.{is_block}
-use Rattle.sf_polish.specs.Postfix.{postfix}
 use Rattle.sf_polish.proofs.Stack.{count_by-postfix, length-postfix}
-use Rattle.sf_node.specs.Parts.{Parts}
-use Rattle.sf_node.specs.Subproblem.{Belongs, is_complete}
-use Rattle.sf_node.specs.Children.{is_unused}
-use Rattle.sf_curves.proofs.Members.{Contains-cons_cases, Contains-head, Contains-tail, not_in_nil}
 use Rattle.sf_standard.specs.Items as item
-use Rattle.sf_model.specs.Spans.{shapes_in}
-use Rattle.sf_standard.specs.Items.{Item, items_of, unused, plans, fits, fitting, item_of}
-use Rattle.sf_standard.specs.Standard.{area, least_of, has_none, greatest, needed_area}
 use Rattle.sf_standard.proofs.Grown.{grow, grow-append, grow-postfix, read-grow, IsPart, part-self, blocks_of, grown-parts, own_area, grown-area}
 use Rattle.sf_standard.proofs.Listed.{each-contains, each-from, Contains-map, Contains-filter, Contains-from_filter, Contains-pairs, count-cons, sum_by-le_list, sum_by-map, sum_by-le_each}
 use Rattle.sf_standard.proofs.Placed.{shape_in, has-shapes}

@@ -1,37 +1,15 @@
 -- At a solved subproblem the standard bound is the least cost of a plan that belongs to it and fits.
 use Rattle.std.proofs.Common.{◌≡◌, ℕ, ◌<◌, ◌≤◌, List, [], ◌∷◌, ◌++◌, length, take, append_assoc, append-nil, arith, refl, ap, sym, subst, ◌∙◌, ◌⊎◌, inl, inr, Bool, true, false}
-use Rattle.std.specs.Prelude.{Contains, count_by, IsFalse, nat_le, ⊤}
-use Rattle.std.specs.List.{AllByRecursion}
-use Rattle.std.proofs.lemmas.Bool.{and_parts, leb-true, cases_lt, cond-true}
-use Rattle.std.proofs.lemmas.List.Elements.{All-from_recursion, recursion_from_All}
+use Rattle.sf_standard.proofs.Common.{Contains, count_by, IsFalse, nat_le, ⊤, AllByRecursion, and_parts, leb-true, cases_lt, cond-true, All-from_recursion, recursion_from_All, Design, Shape, Outline, MAX, cost, Fits, block_count, shapes_of, Tree, Leaf, Beside, Above, width, height, leaves, each-append, each-left, each-right, each-weaker, Token, is_block, is_outside, postfix, IsSkewed, is_beside, is_above, Parts, Belongs, is_complete, is_solved, span_of, IsSubproblem, subproblem-spans, Contains-head, Contains-tail, shapes_in, Item, read, items_of, plans, fits, fitting, item_of, least_of, least_cost, open_value, standard}
 use Rattle.std.proofs.Math.Seq.{take-append_seam}
-use Rattle.sf_model.specs.declared.design.Design.{Design}
-use Rattle.sf_model.specs.declared.parts.Shape.{Shape}
-use Rattle.sf_model.specs.declared.parts.Outline.{Outline}
-use Rattle.sf_model.specs.declared.TheConstants.{MAX}
-use Rattle.sf_model.specs.Cost.{cost}
-use Rattle.sf_model.specs.Legal.{Fits, block_count, shapes_of}
-use Rattle.sf_model.specs.Tree.{Tree, Leaf, Beside, Above, width, height, leaves}
-use Rattle.sf_model.proofs.Each.{each-append, each-left, each-right, each-weaker}
 use Rattle.sf_polish.specs.declared.expr.Expr.{Expr}
-use Rattle.sf_polish.specs.declared.expr.Token.{Token}
 use Rattle.sf_polish.specs.declared.expr.Token.TheVariants as token
-use Rattle.sf_polish.specs.Normal.{is_block, is_outside}
-use Rattle.sf_polish.specs.Postfix.{postfix, IsSkewed, is_beside, is_above}
 use Rattle.sf_polish.proofs.Stack.{count_by-postfix}
 use Rattle.sf_polish.proofs.Normality.{inside-number, normal-spelled}
-use Rattle.sf_node.specs.Parts.{Parts}
-use Rattle.sf_node.specs.Subproblem.{Belongs, is_complete, is_solved, span_of}
-use Rattle.sf_node.specs.Children.{IsSubproblem}
 use Rattle.sf_node.specs.Bounds.{IsExactAtEnd}
 use Rattle.sf_node.proofs.Halves.{in_span}
 use Rattle.sf_node.proofs.Normalised.{complete-normal}
-use Rattle.sf_node.proofs.Reached.{subproblem-spans}
-use Rattle.sf_curves.proofs.Members.{Contains-head, Contains-tail}
 use Rattle.sf_standard.specs.Items as item
-use Rattle.sf_model.specs.Spans.{shapes_in}
-use Rattle.sf_standard.specs.Items.{Item, read, items_of, plans, fits, fitting, item_of}
-use Rattle.sf_standard.specs.Standard.{least_of, least_cost, open_value, standard}
 use Rattle.sf_standard.proofs.Listed.{Contains-from_map, Contains-from_filter, Contains-from_pairs}
 use Rattle.sf_standard.proofs.Cutting.{AreListed}
 use Rattle.sf_standard.proofs.Soundness.{solved-complete, standard_is_sound}

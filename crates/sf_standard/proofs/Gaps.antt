@@ -1,16 +1,8 @@
 -- Numbers that lie in intervals are spread at least as far as the gap between these.
 use Rattle.std.proofs.Common.{ℕ, ◌+◌, ◌≤◌, max, min, List, [], ◌∷◌, arith}
-use Rattle.std.specs.Prelude.{Contains, fold, ℤ, pos, negsuc, ◌+ℤ◌, ◌-ℤ◌, ◌≤ℤ◌, nat_abs}
-use Rattle.std.specs.List.{AllByRecursion}
+use Rattle.std.specs.Prelude.{◌+ℤ◌, ◌-ℤ◌, ◌≤ℤ◌}
+use Rattle.sf_standard.proofs.Common.{Contains, fold, ℤ, pos, negsuc, nat_abs, AllByRecursion, ints, clamps, Shape, spread, EachPair, each-weaker, not_in_nil, Extent, Interval, extent_of, to_nat, gap, greatest_with, greatest_two}
 use Rattle.std.specs.Int.{int_max, int_min}
-use Rattle.std.proofs.lemmas.Int.{ints, clamps}
-use Rattle.sf_model.specs.declared.parts.Shape.{Shape}
-use Rattle.sf_model.specs.Wire.{spread}
-use Rattle.sf_model.proofs.Each.{EachPair, each-weaker}
-use Rattle.sf_curves.proofs.Members.{not_in_nil}
-use Rattle.sf_standard.specs.declared.hull.Extent.{Extent}
-use Rattle.sf_standard.specs.declared.hull.Interval.{Interval}
-use Rattle.sf_standard.specs.Hull.{extent_of, to_nat, gap, greatest_with, greatest_two}
 use Rattle.sf_standard.proofs.Listed.{each-contains}
 
 -- all lie between two numbers that are the spread apart

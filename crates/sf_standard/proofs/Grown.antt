@@ -1,19 +1,7 @@
 -- What stands on the stack after some tokens of a plan's postfix are subtrees of the plan.
 use Rattle.std.proofs.Common.{◌≡◌, ℕ, ◌+◌, ◌*◌, ◌≤◌, max, List, [], ◌∷◌, ◌++◌, map, append_assoc, arith, refl, ap, sym, subst, ◌∙◌}
-use Rattle.std.specs.Prelude.{Contains, sum_by}
-use Rattle.std.specs.List.{AllByRecursion}
-use Rattle.std.proofs.Math.Nat.{mul-le-mul_left, mul-le-mul_right}
-use Rattle.std.proofs.lemmas.List.Sums.{sum_by-cons}
-use Rattle.std.proofs.lemmas.List.Elements.{Contains-append_left, Contains-append_right}
-use Rattle.sf_model.specs.declared.parts.Shape.{Shape}
-use Rattle.sf_model.specs.declared.plan.Spot.{Spot}
-use Rattle.sf_model.specs.Tree.{Tree, Leaf, Beside, Above, width, height, leaves, spots_at}
-use Rattle.sf_model.proofs.Each.{each-left, each-right}
-use Rattle.sf_polish.specs.declared.expr.Token.{Token}
+use Rattle.sf_standard.proofs.Common.{Contains, sum_by, AllByRecursion, mul-le-mul_left, mul-le-mul_right, sum_by-cons, Contains-append_left, Contains-append_right, Shape, Spot, Tree, Leaf, Beside, Above, width, height, leaves, spots_at, each-left, each-right, Token, postfix, item_of, read, area}
 use Rattle.sf_polish.specs.declared.expr.Token.TheVariants as token
-use Rattle.sf_polish.specs.Postfix.{postfix}
-use Rattle.sf_standard.specs.Items.{item_of, read}
-use Rattle.sf_standard.specs.Standard.{area}
 
 -- the plans after the tokens, the last first, where each block has its shape
 abbrev pub grow : (ℕ → Shape) → List Tree → List Token → List Tree

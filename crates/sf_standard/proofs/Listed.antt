@@ -1,12 +1,6 @@
 -- Facts on members and sums of lists.
 use Rattle.std.proofs.Common.{◌≡◌, ℕ, suc, ◌+◌, ◌<◌, ◌≤◌, List, [], ◌∷◌, ◌++◌, map, arith, refl, ap, sym, subst, ◌∙◌, ◌⊎◌, inl, inr, Bool, true, cond, AllPairs}
-use Rattle.std.specs.Prelude.{Contains, sum_by, filter, count_by}
-use Rattle.std.specs.List.{AllByRecursion, flat_map}
-use Rattle.std.proofs.lemmas.Bool.{cond_both, cond-true}
-use Rattle.std.proofs.lemmas.List.Sums.{sum_by-cons}
-use Rattle.std.proofs.lemmas.List.Elements.{Contains-append_cases, Contains-append_left, Contains-append_right}
-use Rattle.sf_model.proofs.Each.{each-append, each-weaker, each-map, EachPair}
-use Rattle.sf_curves.proofs.Members.{Contains-cons_cases, Contains-head, Contains-tail, not_in_nil}
+use Rattle.sf_standard.proofs.Common.{Contains, sum_by, filter, count_by, AllByRecursion, flat_map, cond_both, cond-true, sum_by-cons, Contains-append_cases, Contains-append_left, Contains-append_right, each-append, each-weaker, each-map, EachPair, Contains-cons_cases, Contains-head, Contains-tail, not_in_nil}
 
 -- what holds of each element holds of one that stands in the list
 pub each-contains : {X : Type 0} (P : X → Type 0) (xs : List X) (x : X) → AllByRecursion P xs → Contains xs x → P x

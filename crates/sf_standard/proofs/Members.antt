@@ -1,13 +1,7 @@
 -- The offsets and the points that a list of pins picks.
 use Rattle.std.proofs.Common.{◌≡◌, ℕ, List, [], ◌∷◌, refl, ap, sym, subst, ◌∙◌, inl, inr, true, ◌==◌}
-use Rattle.std.specs.Prelude.{Contains}
-use Rattle.std.proofs.lemmas.Bool.{cases_eq, ne_eqb, eq-eqb, cond-true, cond-false, cond_both, true≢false}
-use Rattle.sf_model.specs.declared.parts.Pin.{Pin}
+use Rattle.sf_standard.proofs.Common.{Contains, cases_eq, ne_eqb, eq-eqb, cond-true, cond-false, cond_both, true≢false, Pin, Contains-cons_cases, Contains-head, Contains-tail, not_in_nil, Interval, Offset, contains_pin, of_pins}
 use Rattle.sf_model.specs.declared.parts.Pin.TheVariants as pin
-use Rattle.sf_curves.proofs.Members.{Contains-cons_cases, Contains-head, Contains-tail, not_in_nil}
-use Rattle.sf_standard.specs.declared.hull.Interval.{Interval}
-use Rattle.sf_standard.specs.declared.hull.Offset.{Offset}
-use Rattle.sf_standard.specs.Hull.{contains_pin, of_pins}
 
 -- a block is among the pins where it is found there
 pub pin-found : (b : ℕ) (pins : List Pin) → Contains pins (pin.Block b) → contains_pin b pins ≡ true

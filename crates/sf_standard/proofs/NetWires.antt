@@ -1,31 +1,8 @@
 -- The range, pair and hull parts are no more than a net's wire in any plan of the subproblem that fits.
 use Rattle.std.proofs.Common.{◌≡◌, ℕ, ◌+◌, ◌*◌, ◌<◌, ◌≤◌, max, List, [], ◌∷◌, ◌++◌, map, length, arith, refl, ap, sym, subst, ◌∙◌, inl, inr, Bool, true, false, cond}
-use Rattle.std.specs.Prelude.{Contains, nat_lt, ℤ, pos, ◌≤ℤ◌}
-use Rattle.std.proofs.Math.Nat.{mul-le-mul_left}
-use Rattle.std.specs.List.{AllByRecursion}
-use Rattle.std.proofs.lemmas.Int.{ints}
-use Rattle.std.proofs.lemmas.Bool.{cond_both, true≢false}
-use Rattle.std.proofs.lemmas.List.Elements.{recursion_from_All}
-use Rattle.sf_model.specs.declared.design.Design.{Design}
-use Rattle.sf_model.specs.declared.parts.Net.{Net}
-use Rattle.sf_model.specs.declared.parts.Pin.{Pin}
+use Rattle.std.specs.Prelude.{◌≤ℤ◌}
+use Rattle.sf_standard.proofs.Common.{Contains, nat_lt, ℤ, pos, mul-le-mul_left, AllByRecursion, ints, cond_both, true≢false, recursion_from_All, Design, Net, Pin, Spot, Fits, block_count, IsPinSet, pin_order, pin_number, pin_count, Tree, Leaf, Beside, Above, width, height, leaves, spots_at, spots_of, spot_of, pin_x, pin_y, net_wire, weighed_wire, wire, each-append, each-weaker, each-map, each-left, each-right, EachPair, EachPair-map, Parts, Belongs, is_complete, Contains-head, Contains-tail, Contains-append_left, Contains-append_right, shapes_in, Item, items_of, item_of, Extent, Offset, range_x, range_y, range_part, block_pins, small_side, pair_part, item_extent, moved_right, moved_up, offsets, offset_x, offset_y, contains_pin, of_pins, pads_x, pads_y, hull_of, hull_part, extent_in, net_part, weighed_part, wire_part}
 use Rattle.sf_model.specs.declared.parts.Pin.TheVariants as pin
-use Rattle.sf_model.specs.declared.plan.Spot.{Spot}
-use Rattle.sf_model.specs.Legal.{Fits, block_count}
-use Rattle.sf_model.specs.Limits.{IsPinSet, pin_order, pin_number, pin_count}
-use Rattle.sf_model.specs.Tree.{Tree, Leaf, Beside, Above, width, height, leaves, spots_at, spots_of}
-use Rattle.sf_model.specs.Wire.{spot_of, pin_x, pin_y, net_wire, weighed_wire, wire}
-use Rattle.sf_model.proofs.Each.{each-append, each-weaker, each-map, each-left, each-right, EachPair, EachPair-map}
-use Rattle.sf_node.specs.Parts.{Parts}
-use Rattle.sf_node.specs.Subproblem.{Belongs, is_complete}
-use Rattle.sf_curves.proofs.Members.{Contains-head, Contains-tail}
-use Rattle.std.proofs.lemmas.List.Elements.{Contains-append_left, Contains-append_right}
-use Rattle.sf_model.specs.Spans.{shapes_in}
-use Rattle.sf_standard.specs.Items.{Item, items_of, item_of}
-use Rattle.sf_standard.specs.declared.hull.Extent.{Extent}
-use Rattle.sf_standard.specs.declared.hull.Offset.{Offset}
-use Rattle.sf_standard.specs.Hull.{range_x, range_y, range_part, block_pins, small_side, pair_part, item_extent, moved_right, moved_up, offsets, offset_x, offset_y, contains_pin, of_pins, pads_x, pads_y, hull_of, hull_part, extent_in}
-use Rattle.sf_standard.specs.Standard.{net_part, weighed_part, wire_part}
 use Rattle.sf_standard.proofs.Grown.{IsPart, part-self}
 use Rattle.sf_standard.proofs.Listed.{each-contains, each-joined, each-from, Contains-map, sum_by-le_each, EachPair-from_pairs, EachPair-of}
 use Rattle.sf_standard.proofs.Members.{pin-from}

@@ -1,20 +1,8 @@
 -- Where the blocks of a floorplan stand.
 use Rattle.std.proofs.Common.{◌≡◌, ℕ, ◌+◌, ◌<◌, ◌≤◌, List, [], ◌∷◌, ◌++◌, arith, refl, ap, sym, subst, ◌∙◌, ◌⊎◌, inl, inr, ◌==◌, Bool, true, false, cond}
-use Rattle.std.specs.Prelude.{Contains, count_by, pos, ◌+ℤ◌, ◌≤ℤ◌}
-use Rattle.std.specs.List.{AllByRecursion}
-use Rattle.std.proofs.lemmas.Bool.{cases_eq, cond-true, cond-false, eq-eqb, ne_eqb}
-use Rattle.std.proofs.lemmas.Int.{ints}
-use Rattle.std.proofs.lemmas.List.Sums.{sum_by-append}
-use Rattle.std.proofs.lemmas.List.Elements.{recursion_from_All, Contains-append_left, Contains-append_right}
-use Rattle.sf_model.specs.declared.design.Design.{Design}
-use Rattle.sf_model.specs.declared.parts.Shape.{Shape}
-use Rattle.sf_model.specs.declared.plan.Spot.{Spot}
-use Rattle.sf_model.specs.Legal.{IsLegal, block_count}
-use Rattle.sf_model.specs.Tree.{Tree, Leaf, Beside, Above, width, height, leaves, spots_at, spots_of, IsInside}
-use Rattle.sf_model.specs.Wire.{spot_of}
-use Rattle.sf_model.proofs.Each.{each-append, each-weaker, EachPair, EachPair-append}
+use Rattle.std.specs.Prelude.{◌+ℤ◌, ◌≤ℤ◌}
+use Rattle.sf_standard.proofs.Common.{Contains, count_by, pos, AllByRecursion, cases_eq, cond-true, cond-false, eq-eqb, ne_eqb, ints, sum_by-append, recursion_from_All, Contains-append_left, Contains-append_right, Design, Shape, Spot, IsLegal, block_count, Tree, Leaf, Beside, Above, width, height, leaves, spots_at, spots_of, IsInside, spot_of, each-append, each-weaker, EachPair, EachPair-append, Contains-cons_cases, Contains-head, Contains-tail, not_in_nil}
 use Rattle.sf_model.proofs.Places.{Within, spots-within, spots-inside}
-use Rattle.sf_curves.proofs.Members.{Contains-cons_cases, Contains-head, Contains-tail, not_in_nil}
 use Rattle.sf_standard.proofs.Listed.{each-contains, each-from, count-head, count-cons, count-some}
 
 -- a block has as many spots as leaves

@@ -1,35 +1,11 @@
 -- Where each part of a subproblem has a plan in the outline, its wires are short.
 use Rattle.std.proofs.Common.{◌≡◌, ℕ, ◌+◌, ◌*◌, ◌^◌, ◌<◌, ◌≤◌, max, List, [], ◌∷◌, ◌++◌, map, length, arith, refl, sym, subst, inl, inr, Bool, true, false, cond}
-use Rattle.std.specs.Prelude.{Contains, sum_by, nat_lt, ℤ, pos, neg_ℤ, ◌≤ℤ◌, ◌-ℤ◌, fold, ◌||◌}
+use Rattle.std.specs.Prelude.{◌≤ℤ◌, ◌-ℤ◌, ◌||◌}
+use Rattle.sf_standard.proofs.Common.{Contains, sum_by, nat_lt, ℤ, pos, neg_ℤ, fold, AllByRecursion, list_any, mul-le-mul, ints, cases_lt, cond_both, true≢false, get_or_past, recursion_from_All, sum_by-cons, Design, Net, Pin, Shape, IsCoordinate, Tree, width, height, leaves, pad_at, each-append, each-weaker, each-map, each-left, Parts, is_complete, Contains-head, shapes_in, Item, items_of, unused, plans, fits, fitting, item_of, Extent, Interval, Offset, gap, point, range_x, range_y, range_part, greatest_with, greatest_two, block_pins, small_side, pair_part, item_extent, moved_right, moved_up, offsets, offset_x, offset_y, of_pins, pads_x, pads_y, hull_of, hull_part, extent_in, has_none, net_part, weighed_part, wire_part, AllHavePlans}
 use Rattle.std.specs.Int.{int_max, int_min}
-use Rattle.std.specs.List.{AllByRecursion, list_any}
-use Rattle.std.proofs.Math.Nat.{mul-le-mul}
-use Rattle.std.proofs.lemmas.Int.{ints}
-use Rattle.std.proofs.lemmas.Bool.{cases_lt, cond_both, true≢false}
-use Rattle.std.proofs.lemmas.List.{get_or_past}
-use Rattle.std.proofs.lemmas.List.Elements.{recursion_from_All}
-use Rattle.std.proofs.lemmas.List.Sums.{sum_by-cons}
-use Rattle.sf_model.specs.declared.design.Design.{Design}
-use Rattle.sf_model.specs.declared.parts.Net.{Net}
 use Rattle.sf_model.specs.declared.parts.Pad.{Pad}
-use Rattle.sf_model.specs.declared.parts.Pin.{Pin}
 use Rattle.sf_model.specs.declared.parts.Pin.TheVariants as pin
-use Rattle.sf_model.specs.declared.parts.Shape.{Shape}
-use Rattle.sf_model.specs.Limits.{IsCoordinate}
-use Rattle.sf_model.specs.Tree.{Tree, width, height, leaves}
-use Rattle.sf_model.specs.Wire.{pad_at}
-use Rattle.sf_model.proofs.Each.{each-append, each-weaker, each-map, each-left}
-use Rattle.sf_node.specs.Parts.{Parts}
-use Rattle.sf_node.specs.Subproblem.{is_complete}
-use Rattle.sf_curves.proofs.Members.{Contains-head}
 use Rattle.sf_standard.specs.Items as item
-use Rattle.sf_model.specs.Spans.{shapes_in}
-use Rattle.sf_standard.specs.Items.{Item, items_of, unused, plans, fits, fitting, item_of}
-use Rattle.sf_standard.specs.declared.hull.Extent.{Extent}
-use Rattle.sf_standard.specs.declared.hull.Interval.{Interval}
-use Rattle.sf_standard.specs.declared.hull.Offset.{Offset}
-use Rattle.sf_standard.specs.Hull.{gap, point, range_x, range_y, range_part, greatest_with, greatest_two, block_pins, small_side, pair_part, item_extent, moved_right, moved_up, offsets, offset_x, offset_y, of_pins, pads_x, pads_y, hull_of, hull_part, extent_in}
-use Rattle.sf_standard.specs.Standard.{has_none, net_part, weighed_part, wire_part, AllHavePlans}
 use Rattle.sf_standard.proofs.Exact.{plans-are, fits-from}
 use Rattle.sf_standard.proofs.Gaps.{low-most, high-least, to_nat-le, of-extent, IsOfExtent}
 use Rattle.sf_standard.proofs.Listed.{each-joined, Contains-from_filter}

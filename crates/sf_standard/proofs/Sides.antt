@@ -1,20 +1,7 @@
 -- No side of the shapes of a design is above 2^20.
 use Rattle.std.proofs.Common.{ℕ, ◌≤◌, min, max, List, [], ◌∷◌, length, ap, arith, inl, inr}
-use Rattle.std.specs.Prelude.{Contains, fold}
-use Rattle.std.specs.List.{AllByRecursion}
-use Rattle.std.proofs.lemmas.Bool.{cases_lt}
-use Rattle.std.proofs.lemmas.List.{get_or_past}
-use Rattle.std.proofs.lemmas.List.Elements.{All-contains}
-use Rattle.sf_model.specs.declared.design.Design.{Design}
-use Rattle.sf_model.specs.declared.parts.Shape.{Shape}
-use Rattle.sf_model.specs.Legal.{shapes_of}
-use Rattle.sf_model.specs.Limits.{IsSide}
-use Rattle.sf_node.specs.Parts.{Parts}
-use Rattle.sf_node.specs.Subproblem.{span_of}
+use Rattle.sf_standard.proofs.Common.{Contains, fold, AllByRecursion, cases_lt, get_or_past, All-contains, Design, Shape, shapes_of, IsSide, Parts, span_of, Extent, shapes_in, extent_of, extent_in}
 use Rattle.sf_node.proofs.Halves.{in_span}
-use Rattle.sf_standard.specs.declared.hull.Extent.{Extent}
-use Rattle.sf_model.specs.Spans.{shapes_in}
-use Rattle.sf_standard.specs.Hull.{extent_of, extent_in}
 use Rattle.sf_standard.proofs.Listed.{each-from}
 
 -- no side of the extent is above m

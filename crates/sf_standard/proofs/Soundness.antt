@@ -1,20 +1,8 @@
 -- The standard bound is sound.
 use Rattle.std.proofs.Common.{◌≡◌, ◌+◌, ◌*◌, ◌≤◌, [], ◌∷◌, map, length, arith, ap, sym, subst, ◌∙◌, true}
-use Rattle.std.specs.Prelude.{nat_lt, if◌then◌else◌}
-use Rattle.std.specs.List.{list_any}
-use Rattle.std.proofs.Math.Nat.{mul-le-mul, mul-le-mul_left}
-use Rattle.std.proofs.lemmas.Bool.{cond_both, and_parts, ltb-true, true≢false}
-use Rattle.sf_model.specs.declared.design.Design.{Design}
-use Rattle.sf_model.specs.declared.TheConstants.{MAX}
-use Rattle.sf_model.specs.Cost.{cost}
-use Rattle.sf_model.specs.Legal.{Fits, block_count}
-use Rattle.sf_model.specs.Tree.{Tree}
-use Rattle.sf_node.specs.Parts.{Parts}
-use Rattle.sf_node.specs.Subproblem.{Belongs, is_complete, is_solved}
+use Rattle.std.specs.Prelude.{if◌then◌else◌}
+use Rattle.sf_standard.proofs.Common.{nat_lt, list_any, mul-le-mul, mul-le-mul_left, cond_both, and_parts, ltb-true, true≢false, Design, MAX, cost, Fits, block_count, Tree, Parts, Belongs, is_complete, is_solved, subproblem-spans, items_of, fitting, item_of, least_cost, has_none, needed_area, wire_part, plans_of, open_value, standard}
 use Rattle.sf_node.specs.Bounds.{IsSound}
-use Rattle.sf_node.proofs.Reached.{subproblem-spans}
-use Rattle.sf_standard.specs.Items.{items_of, fitting, item_of}
-use Rattle.sf_standard.specs.Standard.{least_cost, has_none, needed_area, wire_part, plans_of, open_value, standard}
 use Rattle.sf_standard.proofs.Grown.{part-self}
 use Rattle.sf_standard.proofs.Cutting.{cut, part-fitting, least_of-le, needed-area, none-empty}
 use Rattle.sf_standard.proofs.NetWires.{nets-le}

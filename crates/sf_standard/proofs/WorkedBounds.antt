@@ -1,25 +1,13 @@
 -- Worked values of the bound and of costs, in small designs.
 use Rattle.std.proofs.Common.{◌≡◌, ℕ, List, [], ◌∷◌, length, refl}
-use Rattle.std.specs.Prelude.{pos}
-use Rattle.sf_model.specs.declared.design.Design.{Design}
+use Rattle.sf_standard.proofs.Common.{pos, Design, Net, Outline, Pin, Shape, IsWithinLimits, Tree, Leaf, Beside, Above, spots_of, wire, cost, root, walk, extended, standard, part_value}
 use Rattle.sf_model.specs.declared.parts.Block.{Block}
-use Rattle.sf_model.specs.declared.parts.Net.{Net}
-use Rattle.sf_model.specs.declared.parts.Outline.{Outline}
 use Rattle.sf_model.specs.declared.parts.Pad.{Pad}
-use Rattle.sf_model.specs.declared.parts.Pin.{Pin}
 use Rattle.sf_model.specs.declared.parts.Pin.TheVariants as pin
-use Rattle.sf_model.specs.declared.parts.Shape.{Shape}
 use Rattle.sf_model.specs.declared.parts.Weights.{Weights}
-use Rattle.sf_model.specs.Limits.{IsWithinLimits}
-use Rattle.sf_model.specs.Tree.{Tree, Leaf, Beside, Above, spots_of}
-use Rattle.sf_model.specs.Wire.{wire}
-use Rattle.sf_model.specs.Cost.{cost}
 use Rattle.sf_node.specs.declared.step.Step.TheVariants as step
 use Rattle.sf_node.specs.declared.part.Part.TheVariants as by
-use Rattle.sf_node.specs.Subproblem.{root}
-use Rattle.sf_node.specs.Children.{walk, extended}
 use Rattle.sf_node.specs.Full.{full}
-use Rattle.sf_standard.specs.Standard.{standard, part_value}
 
 -- a shape by its sides
 abbrev shape : ℕ → ℕ → Shape

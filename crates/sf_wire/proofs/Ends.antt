@@ -1,12 +1,11 @@
 -- The greatest ends of spots, one spot more, and of spots in an outline.
 use Rattle.std.proofs.Common.{◌≡◌, ℕ, ◌+◌, ◌<◌, ◌≤◌, max, List, [], ◌∷◌, length, get_or, take, arith, ap}
-use Rattle.std.specs.Prelude.{pos, ◌+ℤ◌, nat_abs}
+use Rattle.std.specs.Prelude.{◌+ℤ◌}
+use Rattle.sf_wire.proofs.Common.{pos, nat_abs, ints, right_end, upper_end}
 use Rattle.std.specs.List.{AllByRecursion}
-use Rattle.std.proofs.lemmas.Int.{ints}
 use Rattle.std.proofs.lemmas.List.{take_more}
 use Rattle.sf_model.specs.declared.parts.Outline.{Outline}
 use Rattle.sf_model.specs.declared.plan.Spot.{Spot}
-use Rattle.sf_model.specs.Cost.{right_end, upper_end}
 use Rattle.sf_model.proofs.Ends.{right_end-append, upper_end-append}
 use Rattle.sf_place.specs.Verdict.{LiesIn}
 

@@ -1,15 +1,11 @@
 -- A fold over the coordinates of pins, one pin more, and what keeps it near.
 use Rattle.std.proofs.Common.{◌≡◌, ℕ, ◌+◌, ◌<◌, ◌≤◌, List, [], ◌∷◌, map, length, get_or, take, ap, sym, subst, ◌∙◌, arith}
-use Rattle.std.specs.Prelude.{ℤ, fold, nat_abs, ◌-ℤ◌}
-use Rattle.std.specs.Int.{int_max, int_min}
-use Rattle.std.proofs.lemmas.Int.{ints, clamps}
+use Rattle.std.specs.Prelude.{◌-ℤ◌}
+use Rattle.sf_wire.proofs.Common.{ℤ, fold, nat_abs, int_max, int_min, ints, clamps, Pin, spread, IsDoubledCoordinate}
 use Rattle.std.proofs.lemmas.List.{take_more, take_all, map-append}
 use Rattle.std.proofs.lemmas.List.Sums.{fold-append}
 use mir.Syntax.{w64}
 use mir.Val.{to_z, of_z}
-use Rattle.sf_model.specs.declared.parts.Pin.{Pin}
-use Rattle.sf_model.specs.Wire.{spread}
-use Rattle.sf_model.specs.Limits.{IsDoubledCoordinate}
 
 -- one pin more is folded in
 pub fold_pins : (f : ℤ → ℤ → ℤ) (g : Pin → ℤ) (z : ℤ) (pins : List Pin) (i : ℕ) (d : Pin) (old new at : ℤ) → i < length pins → old ≡ fold f z (map g (take i pins)) → at ≡ g (get_or pins i d) → new ≡ f old at → new ≡ fold f z (map g (take (i + 1) pins))

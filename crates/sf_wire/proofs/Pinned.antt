@@ -2,9 +2,8 @@
 use Rattle.std.proofs.Common.{◌≡◌, ℕ, suc, ◌<◌, List, ◌∷◌, length, get_or, subst, sym, arith, ap}
 use Rattle.sf_model.specs.declared.design.Design.{Design}
 use Rattle.sf_model.specs.declared.parts.Net.{Net}
-use Rattle.sf_model.specs.declared.parts.Pin.{Pin}
+use Rattle.sf_wire.proofs.Common.{Pin, IsThere}
 use Rattle.sf_model.specs.Legal.{block_count}
-use Rattle.sf_model.specs.Limits.{IsThere}
 use Rattle.sf_wire.specs.Nets.{HasPins}
 
 -- the pins of a net of the design are its blocks and pads

@@ -1,7 +1,5 @@
 use Rattle.std.proofs.Common.{ap, sym, ◌∙◌}
-use Rattle.std.specs.Prelude.{fold}
-use Rattle.sf_standard.specs.Hull.{extent_of}
-use Rattle.sf_bounds.specs.Layout.{with_shape}
+use Rattle.sf_bounds.proofs.Common.{fold, extent_of, with_shape}
 use Rattle.sf_bounds.proofs.Folded.{extent_folded}
 use Rattle.sf_bounds.proofs.PinLoops.{fold_whole}
 use Rattle.sf_bounds.proofs.extents.extent_of.Goals as goal

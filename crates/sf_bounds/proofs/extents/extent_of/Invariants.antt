@@ -1,6 +1,5 @@
 use Rattle.std.proofs.Common.{◌≡◌, take}
-use Rattle.std.specs.Prelude.{fold}
-use Rattle.sf_bounds.specs.Layout.{with_shape}
+use Rattle.sf_bounds.proofs.Common.{fold, with_shape}
 use Rattle.sf_bounds.proofs.extents.extent_of.Given as goal
 
 abbrev pub invariant-loop-shape : goal.invariant-loop-shape

@@ -1,5 +1,4 @@
-use Rattle.sf_standard.specs.Hull.{extent_in}
-use Rattle.sf_bounds.specs.Layout.{Tells}
+use Rattle.sf_bounds.proofs.Common.{extent_in, Tells}
 use Rattle.sf_bounds.proofs.extents.fill_extents.Given as goal
 
 abbrev pub invariant-loop-block : goal.invariant-loop-block

@@ -1,8 +1,5 @@
 use Rattle.std.proofs.Common.{◌≡◌, ℕ, ◌<◌, get_or, false}
-use Rattle.std.specs.Prelude.{IfSome}
-use Rattle.sf_model.specs.declared.parts.Pin.{Pin}
-use Rattle.sf_bounds.specs.Ends.{anywhere}
-use Rattle.sf_bounds.specs.Pins.{pin_home}
+use Rattle.sf_bounds.proofs.Common.{IfSome, Pin, anywhere, pin_home}
 use Rattle.sf_bounds.proofs.homes.clear_homes.Given as goal
 
 abbrev pub invariant-loop-pin : goal.invariant-loop-pin

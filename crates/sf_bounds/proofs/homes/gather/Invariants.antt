@@ -1,7 +1,5 @@
 use Rattle.std.proofs.Common.{◌≡◌, ℕ, get_or, take, false}
-use Rattle.std.specs.Prelude.{fold}
-use Rattle.sf_bounds.specs.Ends.{anywhere}
-use Rattle.sf_bounds.specs.Pins.{pin_home, narrowed_in}
+use Rattle.sf_bounds.proofs.Common.{fold, anywhere, pin_home, narrowed_in}
 use Rattle.sf_bounds.proofs.homes.gather.Given as goal
 
 abbrev pub invariant-loop-pin : goal.invariant-loop-pin

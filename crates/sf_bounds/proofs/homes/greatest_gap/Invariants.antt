@@ -1,6 +1,5 @@
 use Rattle.std.proofs.Common.{◌≡◌, ◌≤◌, take, get_or, false}
-use Rattle.sf_bounds.specs.Ends.{anywhere}
-use Rattle.sf_bounds.specs.Pins.{greatest_gap}
+use Rattle.sf_bounds.proofs.Common.{anywhere, greatest_gap}
 use Rattle.sf_bounds.proofs.homes.greatest_gap.Given as goal
 
 abbrev pub invariant-loop-pin : goal.invariant-loop-pin

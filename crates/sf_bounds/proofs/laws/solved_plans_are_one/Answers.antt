@@ -1,9 +1,5 @@
 use Rattle.std.proofs.Common.{arith, inl, inr, subst}
-use Rattle.std.proofs.lemmas.Bool.{cases_eq}
-use Rattle.sf_curves.specs.Choices.{IsTraceOf}
-use Rattle.sf_curves.specs.Points.{IsLeastArea}
-use Rattle.sf_node.proofs.Normalised.{complete-normal}
-use Rattle.sf_node.proofs.Reached.{subproblem-spans}
+use Rattle.sf_bounds.proofs.Common.{cases_eq, IsTraceOf, IsLeastArea, complete-normal, subproblem-spans}
 use Rattle.sf_standard.proofs.Soundness.{solved-complete}
 use Rattle.sf_bounds.proofs.OnePlan.{one-plan}
 use Rattle.sf_standard.proofs.ByPart.{solved_single}

@@ -1,7 +1,5 @@
 use Rattle.std.proofs.Common.{arith, ap, sym, ◌∙◌, length}
-use Rattle.std.specs.Prelude.{slice_set}
-use Rattle.sf_bounds.specs.declared.layout.Seat.{Seat}
-use Rattle.sf_bounds.specs.Layout.{moved, reseated, IsModestOffset}
+use Rattle.sf_bounds.proofs.Common.{slice_set, Seat, moved, reseated, IsModestOffset}
 use Rattle.sf_bounds.proofs.Shifting.{shifted-none, shifted-length, shift-step, shift-fact, shift-end}
 use Rattle.sf_bounds.proofs.laying.shift.Goals as goal
 

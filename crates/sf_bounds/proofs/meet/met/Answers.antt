@@ -1,7 +1,5 @@
-use Rattle.sf_bounds.specs.Ends.{IsFitReach}
+use Rattle.sf_bounds.proofs.Common.{IsFitReach, Reach, shared}
 use Rattle.std.proofs.Common.{sym, ap, subst, ◌∙◌}
-use Rattle.sf_bounds.specs.declared.reach.Reach.{Reach}
-use Rattle.sf_bounds.specs.Ends.{shared}
 use Rattle.sf_bounds.proofs.PinLoops.{near_met}
 use Rattle.sf_bounds.proofs.meet.met.Goals as goal
 

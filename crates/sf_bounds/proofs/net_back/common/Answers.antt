@@ -1,7 +1,5 @@
 use Rattle.std.proofs.Common.{◌≡◌, map, get_or, arith, rules, ◌∙◌}
-use Rattle.std.proofs.lemmas.List.{take_more_same, get_or-map, length-map}
-use Rattle.sf_frames.specs.Kept.{no_token}
-use Rattle.sf_bounds.specs.Rows.{token_of}
+use Rattle.sf_bounds.proofs.Common.{take_more_same, get_or-map, length-map, no_token, token_of}
 use Rattle.sf_bounds.proofs.NetKept.{no_frame}
 use Rattle.sf_bounds.proofs.net_back.common.Goals as goal
 

@@ -1,7 +1,5 @@
 use Rattle.std.proofs.Common.{◌≡◌, length, get_or, ap, ◌∙◌, subst, arith}
-use Rattle.sf_frames.specs.Kept.{items_at}
-use Rattle.sf_frames.proofs.Topping.{block-inside}
-use Rattle.sf_bounds.specs.Rows.{AreWires}
+use Rattle.sf_bounds.proofs.Common.{items_at, block-inside, AreWires}
 use Rattle.sf_bounds.proofs.NetPushed.{block-pushed}
 use Rattle.sf_bounds.proofs.net_push.push_block.Goals as goal
 

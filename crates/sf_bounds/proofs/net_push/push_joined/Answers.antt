@@ -1,6 +1,5 @@
 use Rattle.std.proofs.Common.{◌++◌, length, map, refl, sym, ap, ◌∙◌, subst, arith}
-use Rattle.std.specs.List.{range_with_len}
-use Rattle.sf_bounds.specs.Rows.{AreStored, weights_of, joined_cell, AreSums}
+use Rattle.sf_bounds.proofs.Common.{range_with_len, AreStored, weights_of, joined_cell, AreSums}
 use Rattle.sf_bounds.proofs.NetKept.{stored-longer}
 use Rattle.sf_bounds.proofs.NetPushed.{modest-left, modest-right, pushed-fits, joined-pushed}
 use Rattle.sf_bounds.proofs.Weights.{length-weights, few-weighed}

@@ -1,9 +1,5 @@
 use Rattle.std.proofs.Common.{◌≡◌, ◌+◌, ◌*◌, ◌<◌, length, get_or, map, sym, ap, ◌∙◌, subst, arith, All, [], ◌∷◌, length-append}
-use Rattle.std.specs.List.{range_with_len}
-use Rattle.std.proofs.lemmas.List.Elements.{All-push}
-use Rattle.sf_bounds.specs.declared.net_frame.Cell.{Cell}
-use Rattle.sf_bounds.specs.Ends.{IsFitReach}
-use Rattle.sf_bounds.specs.Rows.{pushed_reach, joined_cell, weighed_cell, weighed_hull, IsFitCell}
+use Rattle.sf_bounds.proofs.Common.{range_with_len, All-push, Cell, IsFitReach, pushed_reach, joined_cell, weighed_cell, weighed_hull, IsFitCell}
 use Rattle.sf_bounds.proofs.Weights.{sum-more}
 use Rattle.sf_bounds.proofs.NetRows.{read-old, old-fits, joined-is, row-more}
 use Rattle.sf_bounds.proofs.net_rows.join_rows.Goals as goal

@@ -1,6 +1,5 @@
 use Rattle.std.proofs.Common.{◌<◌, ◌++◌, map, length, get_or, ap, ◌∙◌, arith}
-use Rattle.std.proofs.lemmas.List.{take_all}
-use Rattle.sf_bounds.specs.Rows.{block_cell, of_weight}
+use Rattle.sf_bounds.proofs.Common.{take_all, block_cell, of_weight}
 use Rattle.sf_bounds.proofs.Weights.{row-step}
 use Rattle.sf_bounds.proofs.net_start.push_block_row.Goals as goal
 

@@ -1,6 +1,5 @@
 use Rattle.std.proofs.Common.{◌<◌, get_or, ap, ◌∙◌, arith}
-use Rattle.sf_model.specs.Legal.{block_count}
-use Rattle.sf_standard.specs.declared.hull.Extent.{Extent}
+use Rattle.sf_bounds.proofs.Common.{block_count, Extent}
 use Rattle.sf_bounds.proofs.NetStarted.{block-more}
 use Rattle.sf_bounds.proofs.net_start.push_block_rows.Goals as goal
 

@@ -1,9 +1,5 @@
 use Rattle.std.proofs.Common.{◌*◌, length, ap, sym, subst, ◌∙◌, arith, All}
-use Rattle.std.proofs.lemmas.List.Elements.{All-push}
-use Rattle.sf_standard.specs.Standard.{net_part}
-use Rattle.sf_bounds.specs.declared.net_frame.Cell.{Cell}
-use Rattle.sf_bounds.specs.Pins.{IsNet}
-use Rattle.sf_bounds.specs.Rows.{IsFitCell, pads_share, start_cell}
+use Rattle.sf_bounds.proofs.Common.{All-push, net_part, Cell, IsNet, IsFitCell, pads_share, start_cell}
 use Rattle.sf_bounds.proofs.NetStarted.{counted-net, start-fits, start-cell, put-cell}
 use Rattle.sf_bounds.proofs.Weights.{one-counts}
 use Rattle.sf_bounds.proofs.net_start.push_net.Goals as goal

@@ -1,9 +1,5 @@
 use Rattle.std.proofs.Common.{◌≡◌, ◌<◌, [], ◌∷◌, ◌++◌, map, take, arith, ap, ◌∙◌, length, length-append, get_or}
-use Rattle.std.proofs.lemmas.List.{take_all, length-take-le}
-use Rattle.std.proofs.lemmas.List.Sums.{sum_by_more}
-use Rattle.sf_node.specs.Subproblem.{root}
-use Rattle.sf_standard.specs.Standard.{weighed_part}
-use Rattle.sf_bounds.specs.Rows.{of_weight, start_cell}
+use Rattle.sf_bounds.proofs.Common.{take_all, length-take-le, sum_by_more, root, weighed_part, of_weight, start_cell}
 use Rattle.sf_bounds.proofs.NetParts.{net_inside}
 use Rattle.sf_bounds.proofs.Weights.{few-kept, of_weight-more, row-step}
 use Rattle.sf_bounds.proofs.net_start.push_start.Goals as goal

@@ -1,8 +1,5 @@
 use Rattle.std.proofs.Common.{◌≡◌, ◌++◌, ◌*◌, ◌≤◌, map, take, length, All}
-use Rattle.std.specs.Prelude.{sum_by}
-use Rattle.sf_node.specs.Subproblem.{root}
-use Rattle.sf_standard.specs.Standard.{weighed_part}
-use Rattle.sf_bounds.specs.Rows.{of_weight, start_cell, IsFitCell}
+use Rattle.sf_bounds.proofs.Common.{sum_by, root, weighed_part, of_weight, start_cell, IsFitCell}
 use Rattle.sf_bounds.proofs.net_start.push_start.Given as goal
 
 abbrev pub invariant-loop-net : goal.invariant-loop-net

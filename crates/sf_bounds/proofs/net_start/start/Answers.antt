@@ -1,8 +1,5 @@
 use Rattle.std.proofs.Common.{[], ap, sym, subst, ◌∙◌, arith}
-use Rattle.sf_node.specs.declared.part.Part.TheVariants.{Range, Pair}
-use Rattle.sf_standard.specs.Standard.{wires_by}
-use Rattle.sf_bounds.specs.declared.net_frame.Wires.{Wires}
-use Rattle.sf_bounds.specs.Rows.{AreStored, weights_of}
+use Rattle.sf_bounds.proofs.Common.{Range, Pair, wires_by, Wires, AreStored, weights_of}
 use Rattle.sf_bounds.proofs.NetStarted.{started}
 use Rattle.sf_bounds.proofs.net_start.start.Goals as goal
 

@@ -1,6 +1,5 @@
 use Rattle.std.proofs.Common.{◌++◌, [], ◌∷◌, take, map, ap, sym, ◌∙◌, append-nil, arith}
-use Rattle.sf_model.specs.declared.parts.Net.{Net}
-use Rattle.sf_bounds.specs.Rows.{weights_of}
+use Rattle.sf_bounds.proofs.Common.{Net, weights_of}
 use Rattle.sf_bounds.proofs.Weights.{one-counts, one-free, weights_of-more}
 use Rattle.sf_bounds.proofs.net_start.weights_of.Goals as goal
 use Rattle.sf_bounds.proofs.net_start.weights_of.Goals.{then-net-gt0+in_ok-push, else-net-gt0}

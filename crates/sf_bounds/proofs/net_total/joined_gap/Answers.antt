@@ -1,7 +1,5 @@
 use Rattle.std.proofs.Common.{◌+◌, ◌<◌, arith, ap, sym, subst, length, ◌∙◌}
-use Rattle.sf_bounds.specs.declared.net_frame.Cell.{Cell}
-use Rattle.sf_bounds.specs.Ends.{IsFitReach, met, reach_gap}
-use Rattle.sf_bounds.specs.Rows.{cell_at, pushed_reach, joined_reach}
+use Rattle.sf_bounds.proofs.Common.{Cell, IsFitReach, met, reach_gap, cell_at, pushed_reach, joined_reach}
 use Rattle.sf_bounds.proofs.NetPushed.{pushed-fits}
 use Rattle.sf_bounds.proofs.NetTotal.{read-cell, read-fits, counts-there}
 use Rattle.sf_bounds.proofs.net_total.joined_gap.Goals as goal

@@ -1,12 +1,5 @@
 use Rattle.std.proofs.Common.{ℕ, max, ◌+◌, ◌*◌, ◌<◌, ◌≤◌, arith, ap, sym, subst, length, get_or, ◌∙◌}
-use Rattle.std.specs.Prelude.{sum_by}
-use Rattle.std.proofs.lemmas.List.{take_all, get_or_default}
-use Rattle.sf_node.specs.declared.part.Part.TheVariants.{Hull}
-use Rattle.sf_standard.specs.Standard.{net_part, weighed_part, pins_by}
-use Rattle.sf_curves.specs.Direction.{token_in}
-use Rattle.sf_frames.specs.Kept.{IsNext}
-use Rattle.sf_bounds.specs.declared.net_frame.Cell.{Cell}
-use Rattle.sf_bounds.specs.Rows.{weighed_nets}
+use Rattle.sf_bounds.proofs.Common.{sum_by, take_all, get_or_default, Hull, net_part, weighed_part, pins_by, token_in, IsNext, Cell, weighed_nets}
 use Rattle.sf_bounds.proofs.NetTotal.{read-cell, counts-there, total-more, hull-total-more}
 use Rattle.sf_bounds.proofs.Weights.{few-weighed, length-weights, sum-of_weight}
 use Rattle.sf_bounds.proofs.net_total.joined_totals.Goals as goal

@@ -1,8 +1,5 @@
 use Rattle.std.proofs.Common.{◌≡◌, ◌≤◌, ◌*◌, take}
-use Rattle.std.specs.Prelude.{sum_by}
-use Rattle.sf_node.specs.declared.part.Part.TheVariants.{Hull}
-use Rattle.sf_standard.specs.Standard.{weighed_part, pins_by}
-use Rattle.sf_bounds.specs.Rows.{weighed_nets}
+use Rattle.sf_bounds.proofs.Common.{sum_by, Hull, weighed_part, pins_by, weighed_nets}
 use Rattle.sf_bounds.proofs.net_total.joined_totals.Given as goal
 
 abbrev pub invariant-loop-net : goal.invariant-loop-net

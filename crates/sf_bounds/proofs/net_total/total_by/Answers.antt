@@ -1,6 +1,5 @@
 use Rattle.std.proofs.Common.{◌∙◌, ap, sym}
-use Rattle.sf_standard.specs.Standard.{wires_by}
-use Rattle.sf_bounds.specs.Rows.{changed}
+use Rattle.sf_bounds.proofs.Common.{wires_by, changed}
 use Rattle.sf_bounds.proofs.net_total.total_by.Goals as goal
 
 pub returns-in-Hull : goal.returns-in-Hull

@@ -1,7 +1,5 @@
 use Rattle.std.proofs.Common.{arith, ap, sym, subst, ◌∙◌, length, false}
-use Rattle.sf_standard.specs.Standard.{pins_by}
-use Rattle.sf_bounds.specs.Ends.{reach_gap}
-use Rattle.sf_bounds.specs.Pins.{IsReady, IsReadable, shared_ranges, paired_sides, shared_homes, shared_in, greatest_gap}
+use Rattle.sf_bounds.proofs.Common.{pins_by, reach_gap, IsReady, IsReadable, shared_ranges, paired_sides, shared_homes, shared_in, greatest_gap}
 use Rattle.sf_bounds.proofs.NetParts.{range_counts, pair_counts, whole_counts, open_counts, ready_open}
 use Rattle.sf_bounds.proofs.ReadyLayout.{readied}
 use Rattle.sf_bounds.proofs.one_part.net_by.Goals as goal

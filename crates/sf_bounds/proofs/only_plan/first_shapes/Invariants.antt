@@ -1,5 +1,4 @@
-use Rattle.sf_bounds.specs.Layout.{Tells}
-use Rattle.sf_bounds.specs.Only.{first_shape}
+use Rattle.sf_bounds.proofs.Common.{Tells, first_shape}
 use Rattle.sf_bounds.proofs.only_plan.first_shapes.Given as goal
 
 abbrev pub invariant-loop-block : goal.invariant-loop-block

@@ -1,10 +1,6 @@
 use Rattle.std.proofs.Common.{◌≡◌, sym, ap, subst, arith, true}
 use Rattle.sf_model.specs.Cost.{cost}
-use Rattle.sf_model.specs.Legal.{block_count, Fits}
-use Rattle.sf_model.specs.Tree.{tree_of}
-use Rattle.sf_polish.specs.Normal.{IsNormal}
-use Rattle.sf_node.proofs.Normalised.{complete-normal}
-use Rattle.sf_node.proofs.Reached.{subproblem-spans}
+use Rattle.sf_bounds.proofs.Common.{block_count, Fits, tree_of, IsNormal, complete-normal, subproblem-spans}
 use Rattle.sf_bounds.proofs.OnlyPlan.{alone, few-leaves, has-sides}
 use Rattle.sf_bounds.proofs.only_plan.only_plan.Goals as goal
 

@@ -1,6 +1,5 @@
 use Rattle.std.proofs.Common.{ap, sym, subst, ◌∙◌}
-use Rattle.sf_standard.specs.Standard.{part_value}
-use Rattle.sf_bounds.specs.Open.{IsAreaCostOrNone}
+use Rattle.sf_bounds.proofs.Common.{part_value, IsAreaCostOrNone}
 use Rattle.sf_bounds.proofs.PartCosts.{area-is, part-is}
 use Rattle.sf_bounds.proofs.parts.part_value.Goals as goal
 

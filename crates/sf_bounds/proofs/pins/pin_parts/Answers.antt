@@ -1,7 +1,5 @@
 use Rattle.std.proofs.Common.{◌≤◌, arith, ap, sym, subst, ◌∙◌, true}
-use Rattle.std.specs.Prelude.{IfSome}
-use Rattle.sf_bounds.specs.Ends.{IsFitReach, met, anywhere}
-use Rattle.sf_bounds.specs.Pins.{pin_range, pin_home, narrowed}
+use Rattle.sf_bounds.proofs.Common.{IfSome, IsFitReach, met, anywhere, pin_range, pin_home, narrowed}
 use Rattle.sf_bounds.proofs.Pairing.{pairs_before}
 use Rattle.sf_bounds.proofs.PinLoops.{fold_whole, near_ranges, near_homes}
 use Rattle.sf_bounds.proofs.pins.pin_parts.Goals as goal

@@ -1,9 +1,5 @@
 use Rattle.std.proofs.Common.{◌≡◌, ◌*◌, ap, sym, subst, ◌∙◌, arith, refl}
-use Rattle.sf_model.specs.Legal.{block_count}
-use Rattle.sf_polish.specs.Normal.{IsNormal}
-use Rattle.sf_curves.specs.Choices.{AreSpans, IsRootCurve, IsTraceOf}
-use Rattle.sf_curves.specs.Points.{area_of}
-use Rattle.sf_bounds.specs.Cheapest.{IsCheapest}
+use Rattle.sf_bounds.proofs.Common.{block_count, IsNormal, AreSpans, IsRootCurve, IsTraceOf, area_of, IsCheapest}
 use Rattle.sf_bounds.proofs.Building.{curve_spans}
 use Rattle.sf_bounds.proofs.LeastArea.{normal, none-fits, least-small, cheapest}
 use Rattle.sf_bounds.proofs.solving.least_plan.Goals as goal

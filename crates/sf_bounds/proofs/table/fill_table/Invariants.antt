@@ -1,7 +1,5 @@
 use Rattle.std.proofs.Common.{length, take}
-use Rattle.std.specs.Prelude.{None}
-use Rattle.sf_bounds.specs.Layout.{Tells}
-use Rattle.sf_bounds.specs.Pins.{extent_from, standing_of, standing_by}
+use Rattle.sf_bounds.proofs.Common.{None, Tells, extent_from, standing_of, standing_by}
 use Rattle.sf_bounds.proofs.table.fill_table.Given as goal
 
 abbrev pub invariant-loop-extent : goal.invariant-loop-extent

@@ -1,6 +1,5 @@
 use Rattle.std.proofs.Common.{arith, ap, sym, subst, ◌∙◌, length, false}
-use Rattle.sf_bounds.specs.Ends.{reach_gap}
-use Rattle.sf_bounds.specs.Pins.{IsReady, shared_ranges, paired_sides, shared_homes, shared_in, greatest_gap}
+use Rattle.sf_bounds.proofs.Common.{reach_gap, IsReady, shared_ranges, paired_sides, shared_homes, shared_in, greatest_gap}
 use Rattle.sf_bounds.proofs.NetParts.{whole_are, open_are, ready_whole, ready_open}
 use Rattle.sf_bounds.proofs.wires.net_parts.Goals as goal
 

@@ -1,6 +1,5 @@
 use Rattle.std.proofs.Common.{◌≡◌, ◌+◌, ◌<◌, ◌^◌, arith, ap, sym, subst, ◌∙◌, length, get_or}
-use Rattle.std.specs.Prelude.{sum_by}
-use Rattle.std.proofs.lemmas.List.{take_all}
+use Rattle.sf_bounds.proofs.Common.{sum_by, take_all}
 use Rattle.sf_bounds.proofs.NetParts.{net_inside}
 use Rattle.sf_bounds.proofs.PartSums.{of_net, IsSumBefore, net-adds, none-adds}
 use Rattle.sf_bounds.proofs.wires_by.sum_by.Goals.{then-net-gt0, else-net-gt0}

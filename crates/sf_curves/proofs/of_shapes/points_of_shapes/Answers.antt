@@ -1,6 +1,5 @@
 use Rattle.std.proofs.Common.{sym, subst}
-use Rattle.std.specs.List.Sorted.{IsPermutation}
-use Rattle.sf_curves.specs.Points.{IsCurveOf}
+use Rattle.sf_curves.proofs.Common.{IsPermutation, IsCurveOf}
 use Rattle.sf_curves.proofs.Members.{IfOk-weaker}
 use Rattle.sf_curves.proofs.Shapes.{curve_of_permutation}
 use Rattle.sf_curves.proofs.of_shapes.points_of_shapes.Goals as goal

@@ -1,7 +1,5 @@
 use Rattle.std.proofs.Common.{subst, arith}
-use Rattle.std.proofs.lemmas.List.{take_all}
-use Rattle.std.specs.Prelude.{AllPairs}
-use Rattle.sf_curves.specs.Points.{IsNoLater}
+use Rattle.sf_curves.proofs.Common.{take_all, AllPairs, IsNoLater}
 use Rattle.sf_curves.proofs.Sorting.{in_order_more}
 use Rattle.sf_curves.proofs.of_shapes.stand_in_order.Goals as goal
 

@@ -1,7 +1,5 @@
 use Rattle.std.proofs.Common.{◌≡◌, ap, ◌∙◌, length}
-use Rattle.sf_model.specs.Tree.{tree_of}
-use Rattle.sf_polish.specs.Postfix.{postfix}
-use Rattle.sf_curves.specs.Forms.{form, form_of}
+use Rattle.sf_curves.proofs.Common.{tree_of, postfix, form, form_of}
 use Rattle.sf_curves.proofs.Forms.{postfix-form, below-of_normal}
 use Rattle.sf_curves.proofs.Members.{IfOk-weaker}
 use Rattle.sf_curves.proofs.root.curve_tree_of.Goals as goal

@@ -1,6 +1,5 @@
 use Rattle.std.proofs.Common.{subst, sym, AllPairs}
-use Rattle.sf_curves.specs.Choices.{IsRootCurve}
-use Rattle.sf_curves.specs.Points.{IsSlimmer}
+use Rattle.sf_curves.proofs.Common.{IsRootCurve, IsSlimmer}
 use Rattle.sf_curves.proofs.Choosing.{tree-curve}
 use Rattle.sf_curves.proofs.root.root_curve.Goals as goal
 

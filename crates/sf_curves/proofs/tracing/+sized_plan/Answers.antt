@@ -1,8 +1,5 @@
 use Rattle.std.proofs.Common.{ap, sym, subst, ◌∙◌, All}
-use Rattle.sf_model.specs.Tree.{tree_of}
-use Rattle.sf_curves.specs.Points.{IsNoLarger, IsJoinOf, beside_size, above_size}
-use Rattle.sf_curves.specs.Forms.{curve_of, IsTraced}
-use Rattle.sf_curves.specs.Choices.{size_of}
+use Rattle.sf_curves.proofs.Common.{tree_of, IsNoLarger, IsJoinOf, beside_size, above_size, curve_of, IsTraced, size_of}
 use Rattle.sf_curves.proofs.tracing.+sized_plan.Goals as goal
 
 pub beside_points-points-requires-clause-joined : goal.beside_points-points-requires-clause-joined

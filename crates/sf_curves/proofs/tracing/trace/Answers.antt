@@ -1,10 +1,6 @@
 use Rattle.std.proofs.Common.{subst, sym, length, ◌≡◌, ◌∙◌}
 use Rattle.sf_model.specs.Legal.{HasEachOnce}
-use Rattle.sf_model.specs.Tree.{tree_of}
-use Rattle.sf_polish.specs.Postfix.{Spells}
-use Rattle.sf_polish.proofs.Shaped.{once-of_normal}
-use Rattle.sf_curves.specs.Choices.{IsTraceOf}
-use Rattle.sf_curves.specs.Forms.{curve_of}
+use Rattle.sf_curves.proofs.Common.{tree_of, Spells, once-of_normal, IsTraceOf, curve_of}
 use Rattle.sf_curves.proofs.Choosing.{curve-traced, curve-covers, tree-traced, chosen-form, chosen-choice, sized-takes, same-points, just-sized}
 use Rattle.sf_curves.proofs.Forms.{skewed-of_normal}
 use Rattle.sf_curves.proofs.Members.{IfOk-weaker}

@@ -1,6 +1,5 @@
 use Rattle.std.proofs.Common.{◌≤◌, map, length, ap, sym, subst, arith, ◌∙◌}
-use Rattle.std.proofs.lemmas.List.{length-map, length-take-le}
-use Rattle.sf_frames.specs.Kept.{IsCommon, IsEndOf, token_of, needed}
+use Rattle.sf_frames.proofs.Common.{length-map, length-take-le, IsCommon, IsEndOf, token_of, needed}
 use Rattle.sf_frames.proofs.Keeping.{end-there, end-tight}
 use Rattle.sf_frames.proofs.Switching.{stored-back}
 use Rattle.sf_frames.proofs.Topping.{no_frame}

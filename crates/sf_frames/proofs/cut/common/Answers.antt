@@ -1,6 +1,5 @@
 use Rattle.std.proofs.Common.{◌≡◌, ◌≢◌, map, get_or, arith, rules, sym, ◌∙◌}
-use Rattle.std.proofs.lemmas.List.{take_more_same, get_or-map, length-map}
-use Rattle.sf_frames.specs.Kept.{token_of, no_token}
+use Rattle.sf_frames.proofs.Common.{take_more_same, get_or-map, length-map, token_of, no_token}
 use Rattle.sf_frames.proofs.Topping.{no_frame}
 use Rattle.sf_frames.proofs.cut.common.Goals as goal
 

@@ -1,6 +1,5 @@
 use Rattle.std.proofs.Common.{length, sym, ap, subst, arith}
-use Rattle.sf_frames.specs.Kept.{IsTight}
-use Rattle.sf_frames.specs.Room.{HasFrames}
+use Rattle.sf_frames.proofs.Common.{IsTight, HasFrames}
 use Rattle.sf_frames.proofs.Rooms.{has-room}
 use Rattle.sf_frames.proofs.Topping.{no_frame}
 use Rattle.sf_frames.proofs.push.extend.Goals.{in-Block+in_ok-push_block-in-Block, in-Beside+in_ok-pushed-in-Beside, in-Above+in_ok-pushed-in-Above}

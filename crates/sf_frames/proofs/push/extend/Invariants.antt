@@ -1,6 +1,5 @@
 use Rattle.std.proofs.Common.{◌-◌, length}
-use Rattle.sf_frames.specs.Kept.{IsTight}
-use Rattle.sf_frames.specs.Room.{HasFrames}
+use Rattle.sf_frames.proofs.Common.{IsTight, HasFrames}
 use Rattle.sf_frames.proofs.push.extend.Given as goal
 
 abbrev pub invariant-loop-tokens : goal.invariant-loop-tokens

@@ -1,7 +1,6 @@
 use Rattle.std.proofs.Common.{[], ◌∷◌, ◌++◌, ap, ◌∙◌, length, arith}
 use Rattle.sf_polish.specs.declared.expr.Token.TheVariants as token
-use Rattle.sf_frames.specs.declared.frame.Frame.{Frame}
-use Rattle.sf_frames.specs.declared.frame.Kept.{Kept}
+use Rattle.sf_frames.proofs.Common.{Frame, Kept}
 use Rattle.sf_frames.proofs.Topping.{block-inside}
 use Rattle.sf_frames.proofs.Pushing.{block-pushed}
 use Rattle.sf_frames.proofs.push.push_block.Goals as goal

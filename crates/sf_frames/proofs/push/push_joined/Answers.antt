@@ -1,8 +1,5 @@
 use Rattle.std.proofs.Common.{◌≡◌, [], ◌++◌, ◌∷◌, length, sym, ap, ◌∙◌, subst, arith, rules, length-append}
-use Rattle.std.specs.Prelude.{MatchOption}
-use Rattle.sf_polish.specs.declared.expr.Token.{Token}
-use Rattle.sf_frames.specs.Kept.{IsStored, at_end}
-use Rattle.sf_frames.specs.Least.{IsLeastOf}
+use Rattle.sf_frames.proofs.Common.{MatchOption, Token, IsStored, at_end, IsLeastOf}
 use Rattle.sf_frames.proofs.Keeping.{stored-appended}
 use Rattle.sf_frames.proofs.Rooms.{needs-more}
 use Rattle.sf_frames.proofs.Pushing.{joined-within, joined-top, joined-pushed}

@@ -1,7 +1,6 @@
 use Rattle.std.proofs.Common.{◌-◌, ◌<◌, length, subst, arith}
 use Rattle.sf_standard.specs.Items as item
-use Rattle.sf_frames.specs.Kept.{ways}
-use Rattle.sf_frames.specs.Sums.{IsLeastOrNone}
+use Rattle.sf_frames.proofs.Common.{ways, IsLeastOrNone}
 use Rattle.sf_frames.proofs.Smallness.{least-small}
 use Rattle.sf_frames.proofs.Starting.{start-none, block-least, summed-more, summed-all}
 use Rattle.sf_frames.proofs.top.start.Goals as goal

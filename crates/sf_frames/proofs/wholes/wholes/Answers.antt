@@ -1,7 +1,5 @@
 use Rattle.std.proofs.Common.{◌≡◌, ◌++◌, [], length, ap, ◌∙◌, subst, arith, length-append}
-use Rattle.std.specs.Prelude.{MatchOption}
-use Rattle.sf_frames.specs.Kept.{at_end}
-use Rattle.sf_frames.specs.Least.{IsLeastOf}
+use Rattle.sf_frames.proofs.Common.{MatchOption, at_end, IsLeastOf}
 use Rattle.sf_frames.proofs.Rooms.{block-few}
 use Rattle.sf_frames.proofs.WholeSpans.{block-curve, wholes-added}
 use Rattle.sf_frames.proofs.wholes.wholes.Goals as goal

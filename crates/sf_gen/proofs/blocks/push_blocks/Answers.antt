@@ -1,7 +1,5 @@
 use Rattle.std.proofs.Common.{ℕ, List, ◌++◌, ap, ◌∙◌, string_bytes}
-use Rattle.std.specs.List.{flat_map}
-use Rattle.std.proofs.lemmas.List.{take_all}
-use Rattle.sf_gen.specs.Texts.{indexed, block_line}
+use Rattle.sf_gen.proofs.Common.{flat_map, take_all, indexed, block_line}
 use Rattle.sf_gen.proofs.Growing.{lines_more}
 use Rattle.sf_gen.proofs.blocks.push_blocks.Goals as goal
 

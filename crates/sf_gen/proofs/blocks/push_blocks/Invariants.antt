@@ -1,6 +1,5 @@
 use Rattle.std.proofs.Common.{◌≡◌, ◌++◌, take, string_bytes}
-use Rattle.std.specs.List.{flat_map}
-use Rattle.sf_gen.specs.Texts.{indexed, block_line}
+use Rattle.sf_gen.proofs.Common.{flat_map, indexed, block_line}
 use Rattle.sf_gen.proofs.blocks.push_blocks.Given as goal
 
 abbrev pub invariant-loop-i : goal.invariant-loop-i

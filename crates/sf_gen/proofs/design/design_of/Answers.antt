@@ -1,6 +1,5 @@
 use Rattle.std.proofs.Common.{length, ap, ◌∙◌, arith}
-use Rattle.std.proofs.lemmas.List.FromFn.{length-map-range_with_len}
-use Rattle.sf_gen.specs.Drawn.{net_count, ends_at}
+use Rattle.sf_gen.proofs.Common.{length-map-range_with_len, net_count, ends_at}
 use Rattle.sf_gen.proofs.Counts.{few_nets}
 use Rattle.sf_gen.proofs.design.design_of.Goals as goal
 

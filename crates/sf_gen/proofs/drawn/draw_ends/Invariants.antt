@@ -1,7 +1,5 @@
 use Rattle.std.proofs.Common.{◌≡◌, ℕ, ◌+◌, ◌*◌, map}
-use Rattle.std.specs.List.{range_with_len}
-use Rattle.sf_gen.specs.Words.{after}
-use Rattle.sf_gen.specs.Drawn.{ends_at}
+use Rattle.sf_gen.proofs.Common.{range_with_len, after, ends_at}
 use Rattle.sf_gen.proofs.drawn.draw_ends.Given as goal
 
 abbrev pub invariant-loop-net : goal.invariant-loop-net

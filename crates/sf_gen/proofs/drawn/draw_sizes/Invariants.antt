@@ -1,7 +1,5 @@
 use Rattle.std.proofs.Common.{◌≡◌, ℕ, ◌*◌, map}
-use Rattle.std.specs.List.{range_with_len}
-use Rattle.sf_gen.specs.Words.{after}
-use Rattle.sf_gen.specs.Drawn.{size_at}
+use Rattle.sf_gen.proofs.Common.{range_with_len, after, size_at}
 use Rattle.sf_gen.proofs.drawn.draw_sizes.Given as goal
 
 abbrev pub invariant-loop-block : goal.invariant-loop-block

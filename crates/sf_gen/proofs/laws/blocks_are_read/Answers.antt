@@ -1,8 +1,6 @@
 use Rattle.std.proofs.Common.{arith}
 use Rattle.sf_gsrc.proofs.StandingLaws.{read_from_stands}
-use Rattle.sf_gen.specs.Drawn.{sizes}
-use Rattle.sf_gen.specs.Designs.{blocks_out}
-use Rattle.sf_gen.specs.Texts.{blocks_text}
+use Rattle.sf_gen.proofs.Common.{sizes, blocks_out, blocks_text}
 use Rattle.sf_gen.proofs.BlocksRead.{blocks_stand}
 use Rattle.sf_gen.proofs.EndsDrawn.{length-sizes, sizes_small}
 use Rattle.sf_gen.proofs.laws.blocks_are_read.Goals as goal

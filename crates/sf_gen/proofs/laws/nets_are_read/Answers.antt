@@ -1,8 +1,6 @@
 use Rattle.std.proofs.Common.{arith}
 use Rattle.sf_gsrc.proofs.NetLaws.{read_from_stands}
-use Rattle.sf_gen.specs.Drawn.{ends}
-use Rattle.sf_gen.specs.Designs.{nets_out}
-use Rattle.sf_gen.specs.Texts.{nets_pins, nets_text}
+use Rattle.sf_gen.proofs.Common.{ends, nets_out, nets_pins, nets_text}
 use Rattle.sf_gen.proofs.Counts.{few_nets}
 use Rattle.sf_gen.proofs.EndsDrawn.{nets_are_nets, length-nets, few_pins}
 use Rattle.sf_gen.proofs.NetsRead.{nets_stand}

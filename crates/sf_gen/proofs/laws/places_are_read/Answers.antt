@@ -1,6 +1,5 @@
 use Rattle.sf_gsrc.proofs.PlaceLaws.{read_from_stands}
-use Rattle.sf_gen.specs.Designs.{places_out}
-use Rattle.sf_gen.specs.Texts.{pl_text}
+use Rattle.sf_gen.proofs.Common.{places_out, pl_text}
 use Rattle.sf_gen.proofs.PlacesRead.{places_stand}
 use Rattle.sf_gen.proofs.laws.places_are_read.Goals as goal
 

@@ -1,7 +1,5 @@
 use Rattle.std.proofs.Common.{◌++◌, ap, ◌∙◌, string_bytes}
-use Rattle.std.specs.List.{flat_map}
-use Rattle.std.proofs.lemmas.List.{take_all}
-use Rattle.sf_gen.specs.Texts.{indexed, net_lines, pins_of}
+use Rattle.sf_gen.proofs.Common.{flat_map, take_all, indexed, net_lines, pins_of}
 use Rattle.sf_gen.proofs.Growing.{lines_more}
 use Rattle.sf_gen.proofs.nets.push_nets.Goals as goal
 

@@ -1,6 +1,5 @@
 use Rattle.std.proofs.Common.{◌≡◌, ◌++◌, take, string_bytes}
-use Rattle.std.specs.List.{flat_map}
-use Rattle.sf_gen.specs.Texts.{indexed, net_lines, pins_of}
+use Rattle.sf_gen.proofs.Common.{flat_map, indexed, net_lines, pins_of}
 use Rattle.sf_gen.proofs.nets.push_nets.Given as goal
 
 abbrev pub invariant-loop-j : goal.invariant-loop-j

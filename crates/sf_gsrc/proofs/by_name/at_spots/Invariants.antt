@@ -1,7 +1,5 @@
 use Rattle.std.proofs.Common.{◌≡◌, List}
-use Rattle.sf_gsrc.specs.declared.output.Place.{Place}
-use Rattle.sf_gsrc.specs.Join.{pads_at}
-use Rattle.sf_gsrc.specs.ByName.{PlacesByName}
+use Rattle.sf_gsrc.proofs.Common.{Place, pads_at, PlacesByName}
 use Rattle.sf_gsrc.proofs.by_name.at_spots.Given as goal
 
 abbrev pub invariant-loop-name : goal.invariant-loop-name

@@ -1,6 +1,5 @@
 use Rattle.std.proofs.Common.{map, take, sym, ◌∙◌}
-use Rattle.std.specs.Str.{bytes_eq}
-use Rattle.sf_gsrc.specs.Join.{has_name}
+use Rattle.sf_gsrc.proofs.Common.{bytes_eq, has_name}
 use Rattle.sf_gsrc.proofs.Names.{one_name_more, has_name-more, or_more}
 use Rattle.sf_gsrc.proofs.by_name.known_names.Goals as goal
 

@@ -1,7 +1,6 @@
 use Rattle.std.proofs.Common.{map, take}
 use Rattle.std.specs.Prelude.{◌||◌}
-use Rattle.sf_gsrc.specs.Join.{has_name}
-use Rattle.sf_gsrc.specs.ByName.{IsNameSet}
+use Rattle.sf_gsrc.proofs.Common.{has_name, IsNameSet}
 use Rattle.sf_gsrc.proofs.by_name.known_names.Given as goal
 
 abbrev pub invariant-loop-block : goal.invariant-loop-block

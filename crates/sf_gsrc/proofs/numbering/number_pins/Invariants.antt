@@ -1,9 +1,5 @@
 use Rattle.std.proofs.Common.{◌≡◌, List, map, take, drop, ◌++◌}
-use Rattle.sf_model.specs.Admitted.{block_names, pad_names}
-use Rattle.sf_model.specs.declared.raw.RawBlock.{RawBlock}
-use Rattle.sf_model.specs.declared.raw.RawPad.{RawPad}
-use Rattle.sf_gsrc.specs.Join.{numbered_pin}
-use Rattle.sf_gsrc.specs.Owners.{AreOwners}
+use Rattle.sf_gsrc.proofs.Common.{block_names, pad_names, RawBlock, RawPad, numbered_pin, AreOwners}
 use Rattle.sf_gsrc.proofs.numbering.number_pins.Given as goal
 
 abbrev pub invariant-loop-pin : goal.invariant-loop-pin

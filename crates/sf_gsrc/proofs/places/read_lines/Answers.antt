@@ -1,6 +1,5 @@
 use Rattle.std.proofs.Common.{[], ◌∷◌, ◌++◌, List, sym, ap, ◌∙◌}
-use Rattle.std.proofs.lemmas.Result.{err_from_is_err_and}
-use Rattle.sf_gsrc.specs.declared.output.Place.{Place}
+use Rattle.sf_gsrc.proofs.Common.{err_from_is_err_and, Place}
 use Rattle.sf_gsrc.proofs.LineSteps.{goes_on, fails_unless, is_done}
 use Rattle.sf_gsrc.proofs.places.read_lines.Goals as goal
 

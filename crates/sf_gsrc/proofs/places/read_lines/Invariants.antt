@@ -1,7 +1,5 @@
 use Rattle.std.proofs.Common.{◌≡◌, [], ◌∷◌, ◌++◌, length}
-use Rattle.sf_lex.specs.Scan.{numbered_rest}
-use Rattle.sf_gsrc.specs.Blocks.{content}
-use Rattle.sf_gsrc.specs.Places.{place_at, places_from}
+use Rattle.sf_gsrc.proofs.Common.{numbered_rest, content, place_at, places_from}
 use Rattle.sf_gsrc.proofs.LineSteps.{IsReading}
 use Rattle.sf_gsrc.proofs.places.read_lines.Given as goal
 

@@ -1,8 +1,6 @@
 use Rattle.std.proofs.Common.{◌≡◌, List, ℕ, length, Result, Ok, Err, subst}
-use Rattle.std.specs.Prelude.{IfOk}
+use Rattle.sf_gsrc.proofs.Common.{IfOk, WeightFault, weights_read, GivesWeights, WeightsStandFor}
 use Rattle.std.specs.Global.{Vec}
-use Rattle.sf_gsrc.specs.declared.fault.WeightFault.{WeightFault}
-use Rattle.sf_gsrc.specs.Weights.{weights_read, GivesWeights, WeightsStandFor}
 use Rattle.sf_gsrc.proofs.WeightLaws.{stands_from_read, read_from_stands, weights_each}
 use Rattle.sf_gsrc.proofs.weights.read_weights.Goals as goal
 

@@ -1,6 +1,5 @@
 use Rattle.std.proofs.Common.{sym, ◌∙◌}
-use Rattle.std.proofs.lemmas.Result.{err_from_is_err_and}
-use Rattle.sf_lex.specs.Scan.{line_of}
+use Rattle.sf_gsrc.proofs.Common.{err_from_is_err_and, line_of}
 use Rattle.sf_gsrc.proofs.WeightSteps.{repeats, fails_weight, takes}
 use Rattle.sf_gsrc.proofs.weights.take_line.Goals as goal
 

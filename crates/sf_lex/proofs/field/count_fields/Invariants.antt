@@ -1,6 +1,5 @@
 use Rattle.std.proofs.Common.{◌≡◌, ◌+◌, length}
-use Rattle.sf_lex.specs.Text.{words}
-use Rattle.sf_lex.specs.Gap.{is_gap}
+use Rattle.sf_lex.proofs.Common.{words, is_gap}
 use Rattle.sf_lex.proofs.field.count_fields.Given as goal
 
 abbrev pub invariant-loop-after : goal.invariant-loop-after

@@ -1,6 +1,5 @@
 use Rattle.std.proofs.Common.{length, arith, ap}
-use Rattle.std.proofs.lemmas.Bool.Decides.{nat_tests}
-use Rattle.sf_lex.specs.Gap.{is_gap}
+use Rattle.sf_lex.proofs.Common.{nat_tests, is_gap}
 use Rattle.sf_lex.proofs.Pieces.{words_none, words_some}
 use Rattle.sf_lex.proofs.field.next_field.Goals as goal
 

@@ -1,6 +1,4 @@
-use Rattle.sf_lex.specs.Text.{words}
-use Rattle.sf_lex.specs.Gap.{is_gap}
-use Rattle.sf_lex.specs.Vertices.{vertices_of}
+use Rattle.sf_lex.proofs.Common.{words, is_gap, vertices_of}
 use Rattle.sf_lex.proofs.Boxes.{box_is}
 use Rattle.sf_lex.proofs.vertices.read_box.Goals as goal
 

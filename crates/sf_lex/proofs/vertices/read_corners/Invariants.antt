@@ -1,8 +1,5 @@
 use Rattle.std.proofs.Common.{◌≡◌, ◌-◌}
-use Rattle.sf_lex.specs.Text.{words}
-use Rattle.sf_lex.specs.Gap.{is_gap}
-use Rattle.sf_lex.specs.Vertices.{vertices_of}
-use Rattle.sf_lex.specs.Corners.{grown, corners_read}
+use Rattle.sf_lex.proofs.Common.{words, is_gap, vertices_of, grown, corners_read}
 use Rattle.sf_lex.proofs.vertices.read_corners.Given as goal
 
 abbrev pub invariant-loop : goal.invariant-loop

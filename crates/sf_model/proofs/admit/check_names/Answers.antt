@@ -1,6 +1,5 @@
 use Rattle.std.proofs.Common.{subst}
-use Rattle.sf_model.specs.Admitted.{IsFirstOf, name_faults}
-use Rattle.sf_model.specs.declared.raw.Parts.{Parts}
+use Rattle.sf_model.proofs.Common.{IsFirstOf, name_faults, Parts}
 use Rattle.sf_model.proofs.admit.check_names.Goals as goal
 
 pub returns : goal.returns

@@ -1,12 +1,7 @@
 use Rattle.std.proofs.Common.{◌≡◌, ◌++◌, reverse, refl, ap, sym, ◌∙◌, Some, None, rules}
 use mir.Syntax.{w32, w64}
 use mir.Val.{SFits}
-use Rattle.std.proofs.lemmas.Int.{to_z-of_z}
-use Rattle.std.specs.List.{filter_map}
-use Rattle.sf_model.specs.Admitted.{IsPlaceWithin}
-use Rattle.sf_model.specs.Built.{placed_pad}
-use Rattle.sf_model.specs.declared.parts.Pad.{Pad}
-use Rattle.sf_model.specs.declared.raw.RawPad.{RawPad}
+use Rattle.sf_model.proofs.Common.{to_z-of_z, filter_map, IsPlaceWithin, placed_pad, Pad, RawPad}
 use Rattle.sf_model.proofs.Moved.{moved, pads_cut, pads_skip, all_cut}
 use Rattle.sf_model.proofs.build.pads_of.Goals as goal
 

@@ -1,8 +1,5 @@
 use Rattle.std.proofs.Common.{◌≡◌, ◌++◌, reverse, vec_len}
-use Rattle.std.specs.List.{All, filter_map}
-use Rattle.sf_model.specs.Admitted.{IsPlaceWithin}
-use Rattle.sf_model.specs.Built.{placed_pad}
-use Rattle.sf_model.specs.declared.raw.RawPad.{RawPad}
+use Rattle.sf_model.proofs.Common.{All, filter_map, IsPlaceWithin, placed_pad, RawPad}
 use Rattle.sf_model.proofs.build.pads_of.Given as goal
 
 abbrev pub invariant-loop-pad : goal.invariant-loop-pad

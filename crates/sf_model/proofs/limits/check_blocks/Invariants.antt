@@ -1,7 +1,5 @@
 use Rattle.std.proofs.Common.{◌≡◌, drop}
-use Rattle.std.specs.List.{flat_map}
-use Rattle.sf_model.specs.Admitted.{first, over_kind}
-use Rattle.sf_model.specs.declared.raw.RawBlock.{RawBlock}
+use Rattle.sf_model.proofs.Common.{flat_map, first, over_kind, RawBlock}
 use Rattle.sf_model.proofs.limits.check_blocks.Given as goal
 
 abbrev pub invariant-loop-block : goal.invariant-loop-block

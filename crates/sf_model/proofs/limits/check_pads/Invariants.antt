@@ -1,7 +1,5 @@
 use Rattle.std.proofs.Common.{◌≡◌, drop}
-use Rattle.std.specs.List.{flat_map}
-use Rattle.sf_model.specs.Admitted.{first, over_place}
-use Rattle.sf_model.specs.declared.raw.RawPad.{RawPad}
+use Rattle.sf_model.proofs.Common.{flat_map, first, over_place, RawPad}
 use Rattle.sf_model.proofs.limits.check_pads.Given as goal
 
 abbrev pub invariant-loop-pad : goal.invariant-loop-pad

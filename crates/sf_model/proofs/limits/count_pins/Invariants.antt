@@ -1,6 +1,5 @@
 use Rattle.std.proofs.Common.{◌≡◌, ◌-◌, ◌^◌, min, length, take}
-use Rattle.std.specs.List.{sum_by}
-use Rattle.sf_model.specs.declared.raw.RawNet.{RawNet}
+use Rattle.sf_model.proofs.Common.{sum_by, RawNet}
 use Rattle.sf_model.proofs.limits.count_pins.Given as goal
 
 abbrev pub invariant-loop-net : goal.invariant-loop-net

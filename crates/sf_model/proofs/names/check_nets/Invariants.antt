@@ -1,8 +1,5 @@
 use Rattle.std.proofs.Common.{◌≡◌, drop}
-use Rattle.std.specs.List.{flat_map}
-use Rattle.sf_model.specs.Admitted.{first, at_pin_name}
-use Rattle.sf_model.specs.Rules.{rule_faults}
-use Rattle.sf_model.specs.declared.raw.RawNet.{RawNet}
+use Rattle.sf_model.proofs.Common.{flat_map, first, at_pin_name, rule_faults, RawNet}
 use Rattle.sf_model.proofs.names.check_nets.Given as goal
 
 abbrev pub invariant-loop-net : goal.invariant-loop-net

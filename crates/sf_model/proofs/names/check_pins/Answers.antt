@@ -1,6 +1,5 @@
 use Rattle.std.proofs.Common.{arith}
-use Rattle.sf_model.specs.Admitted.{at_pin_name}
-use Rattle.sf_model.specs.Rules.{rule_faults}
+use Rattle.sf_model.proofs.Common.{at_pin_name, rule_faults}
 use Rattle.sf_model.proofs.Firsts.{walk_refused}
 use Rattle.sf_model.proofs.names.check_pins.Goals as goal
 

@@ -1,7 +1,5 @@
 use Rattle.std.proofs.Common.{◌≡◌, drop}
-use Rattle.std.specs.List.{flat_map}
-use Rattle.sf_model.specs.Admitted.{first, at_placed_name}
-use Rattle.sf_model.specs.Rules.{rule_faults}
+use Rattle.sf_model.proofs.Common.{flat_map, first, at_placed_name, rule_faults}
 use Rattle.sf_model.specs.declared.names.NameRule.TheVariants.{NotBoth}
 use Rattle.sf_model.proofs.names.check_placed.Given as goal
 

@@ -1,7 +1,5 @@
 use Rattle.std.proofs.Common.{◌≡◌, drop}
-use Rattle.std.specs.List.{flat_map}
-use Rattle.sf_model.specs.Admitted.{first}
-use Rattle.sf_model.specs.Rules.{rule_faults}
+use Rattle.sf_model.proofs.Common.{flat_map, first, rule_faults}
 use Rattle.sf_model.specs.declared.names.NameRule.TheVariants.{Known}
 use Rattle.sf_model.proofs.names.check_strangers.Given as goal
 

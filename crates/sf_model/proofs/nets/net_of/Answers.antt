@@ -1,8 +1,5 @@
 use Rattle.std.proofs.Common.{List, ap, sym, subst, ◌∙◌, arith}
-use Rattle.std.specs.List.Sorted.{IsPermutation}
-use Rattle.sf_model.specs.Built.{named_pins}
-use Rattle.sf_model.specs.Numbers.{IsNetMade}
-use Rattle.sf_model.specs.declared.parts.Pin.{Pin}
+use Rattle.sf_model.proofs.Common.{IsPermutation, named_pins, IsNetMade, Pin}
 use Rattle.sf_model.proofs.NetSets.{net_made}
 use Rattle.sf_model.proofs.nets.net_of.Goals as goal
 

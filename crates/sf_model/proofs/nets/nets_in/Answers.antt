@@ -1,8 +1,5 @@
 use Rattle.std.proofs.Common.{◌≡◌, ◌<◌, ◌++◌, ◌∷◌, [], map, length, get_or, take, ap, sym, ◌∙◌, arith}
-use Rattle.std.proofs.lemmas.Grind.{common_steps}
-use Rattle.std.proofs.lemmas.List.{take_more, take_all, map-append}
-use Rattle.sf_model.specs.Numbers.{IsNetMade}
-use Rattle.sf_model.specs.declared.parts.Net.{Net}
+use Rattle.sf_model.proofs.Common.{common_steps, take_more, take_all, map-append, IsNetMade, Net}
 use Rattle.sf_model.proofs.Paired.{zip_more}
 use Rattle.sf_model.proofs.nets.nets_in.Goals as goal
 

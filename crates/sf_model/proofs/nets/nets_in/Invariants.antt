@@ -1,6 +1,5 @@
 use Rattle.std.proofs.Common.{◌≡◌, map, take}
-use Rattle.std.specs.List.{AllZip}
-use Rattle.sf_model.specs.Numbers.{IsNetMade}
+use Rattle.sf_model.proofs.Common.{AllZip, IsNetMade}
 use Rattle.sf_model.proofs.nets.nets_in.Given as goal
 
 abbrev pub invariant-loop-number : goal.invariant-loop-number

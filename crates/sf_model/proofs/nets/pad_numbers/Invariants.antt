@@ -1,6 +1,5 @@
 use Rattle.std.proofs.Common.{◌≡◌, ℕ, ◌<◌, ◌≤◌, vec_len, get_or, take, is_some}
-use Rattle.std.specs.List.{count_by}
-use Rattle.sf_model.specs.declared.raw.RawPad.{RawPad}
+use Rattle.sf_model.proofs.Common.{count_by, RawPad}
 use Rattle.sf_model.proofs.nets.pad_numbers.Given as goal
 
 abbrev pub invariant-loop-pad : goal.invariant-loop-pad

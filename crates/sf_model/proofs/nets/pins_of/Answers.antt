@@ -1,6 +1,5 @@
 use Rattle.std.proofs.Common.{arith}
-use Rattle.std.proofs.lemmas.Grind.{common_steps}
-use Rattle.std.proofs.lemmas.List.Elements.{filter_map-append}
+use Rattle.sf_model.proofs.Common.{common_steps, filter_map-append}
 use Rattle.sf_model.proofs.nets.pins_of.Goals as goal
 
 pub loop-pin-preserved : goal.loop-pin-preserved

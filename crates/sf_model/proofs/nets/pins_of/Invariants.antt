@@ -1,6 +1,5 @@
 use Rattle.std.proofs.Common.{◌≡◌, take}
-use Rattle.std.specs.List.{filter_map}
-use Rattle.sf_model.specs.Built.{pin_of}
+use Rattle.sf_model.proofs.Common.{filter_map, pin_of}
 use Rattle.sf_model.proofs.nets.pins_of.Given as goal
 
 abbrev pub invariant-loop-pin : goal.invariant-loop-pin

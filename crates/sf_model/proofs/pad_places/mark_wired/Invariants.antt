@@ -1,7 +1,5 @@
 use Rattle.std.proofs.Common.{◌≡◌, ℕ, ◌<◌, ◌||◌, false, length, get_or, take}
-use Rattle.std.specs.List.{list_any}
-use Rattle.sf_model.specs.Admitted.{pad_of, is_index}
-use Rattle.sf_model.specs.declared.raw.RawPin.{RawPin}
+use Rattle.sf_model.proofs.Common.{list_any, pad_of, is_index, RawPin}
 use Rattle.sf_model.proofs.pad_places.mark_wired.Given as goal
 
 abbrev pub invariant-loop-pin : goal.invariant-loop-pin

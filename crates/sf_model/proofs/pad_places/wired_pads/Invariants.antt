@@ -1,8 +1,5 @@
 use Rattle.std.proofs.Common.{◌≡◌, ℕ, ◌<◌, false, length, vec_len, get_or, take}
-use Rattle.std.specs.List.{list_any, flat_map}
-use Rattle.sf_model.specs.Admitted.{pad_of, is_index}
-use Rattle.sf_model.specs.declared.raw.RawNet.{RawNet}
-use Rattle.sf_model.specs.declared.raw.RawPin.{RawPin}
+use Rattle.sf_model.proofs.Common.{list_any, flat_map, pad_of, is_index, RawNet, RawPin}
 use Rattle.sf_model.proofs.pad_places.wired_pads.Given as goal
 
 abbrev pub invariant-loop-net : goal.invariant-loop-net

@@ -1,6 +1,5 @@
 use Rattle.std.proofs.Common.{ℕ, ◌<◌}
-use Rattle.sf_polish.specs.Postfix.{shape_at}
-use Rattle.sf_node.specs.Spans.{IsInSpan}
+use Rattle.sf_node.proofs.Common.{shape_at, IsInSpan}
 use Rattle.sf_node.proofs.belonging.are_in_spans.Given as goal
 
 abbrev pub invariant-loop-block : goal.invariant-loop-block

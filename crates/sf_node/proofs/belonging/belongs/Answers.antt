@@ -1,8 +1,5 @@
 use Rattle.std.proofs.Common.{List, sym, subst}
-use Rattle.sf_model.specs.Tree.{tree_of}
-use Rattle.sf_polish.specs.declared.expr.Token.{Token}
-use Rattle.sf_node.specs.Spans.{AreInSpans}
-use Rattle.sf_node.specs.Subproblem.{BeginsWith}
+use Rattle.sf_node.proofs.Common.{tree_of, Token, AreInSpans, BeginsWith}
 use Rattle.sf_node.proofs.Spelled.{belongs-both}
 use Rattle.sf_node.proofs.belonging.belongs.Goals as goal
 

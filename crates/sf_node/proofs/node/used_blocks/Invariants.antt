@@ -1,6 +1,5 @@
 use Rattle.std.proofs.Common.{◌≡◌, ℕ, ◌<◌, length, take, true}
-use Rattle.std.specs.Prelude.{not, slice_index_or}
-use Rattle.sf_node.specs.Children.{is_unused}
+use Rattle.sf_node.proofs.Common.{not, slice_index_or, is_unused}
 use Rattle.sf_node.proofs.node.used_blocks.Given as goal
 
 abbrev pub invariant-loop-token : goal.invariant-loop-token

@@ -1,6 +1,5 @@
 use Rattle.std.proofs.Common.{◌≡◌, ℕ, ◌<◌, false, ◌||◌, length, get_or, take}
-use Rattle.std.specs.List.{list_any}
-use Rattle.sf_pl_writer.specs.PlText.{is_pad}
+use Rattle.sf_pl_writer.proofs.Common.{list_any, is_pad}
 use Rattle.sf_pl_writer.proofs.placed.mark_pads.Given as goal
 
 abbrev pub invariant-loop-pin : goal.invariant-loop-pin

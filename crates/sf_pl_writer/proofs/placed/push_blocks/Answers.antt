@@ -1,11 +1,9 @@
 use Rattle.std.proofs.Common.{◌≡◌, ◌<◌, ◌≤◌, ◌++◌, length, get_or, ap, sym, ◌∙◌, arith}
 use Rattle.std.specs.Prelude.{pos}
-use Rattle.std.specs.List.{flat_map, zip}
-use Rattle.std.proofs.lemmas.List.{take_all}
+use Rattle.sf_pl_writer.proofs.Common.{flat_map, zip, take_all, block_line}
 use Rattle.std.proofs.lemmas.Slice.Zip.{length-zip, get_or-zip}
 use Rattle.sf_model.specs.declared.parts.Block.{Block}
 use Rattle.sf_model.specs.declared.plan.Spot.{Spot}
-use Rattle.sf_pl_writer.specs.PlText.{block_line}
 use Rattle.sf_pl_writer.proofs.Lines.{lines_more}
 use Rattle.sf_pl_writer.proofs.placed.push_blocks.Goals as goal
 

@@ -1,6 +1,5 @@
 use Rattle.std.proofs.Common.{◌≡◌, ◌++◌, take}
-use Rattle.std.specs.List.{flat_map, zip}
-use Rattle.sf_pl_writer.specs.PlText.{block_line}
+use Rattle.sf_pl_writer.proofs.Common.{flat_map, zip, block_line}
 use Rattle.sf_pl_writer.proofs.placed.push_blocks.Given as goal
 
 abbrev pub invariant-loop-index : goal.invariant-loop-index

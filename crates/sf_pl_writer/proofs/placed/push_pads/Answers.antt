@@ -1,8 +1,6 @@
 use Rattle.std.proofs.Common.{◌≡◌, ◌<◌, ◌≤◌, ◌++◌, false, length, get_or, ap, sym, ◌∙◌, arith}
-use Rattle.std.specs.List.{flat_map, range_with_len}
-use Rattle.std.proofs.lemmas.List.{take_all, get_or_default}
+use Rattle.sf_pl_writer.proofs.Common.{flat_map, range_with_len, take_all, get_or_default, pad_lines_of, stands_in}
 use Rattle.std.proofs.lemmas.List.FromFn.{length-range_with_len, get_or-range_with_len}
-use Rattle.sf_pl_writer.specs.PlText.{pad_lines_of, stands_in}
 use Rattle.sf_pl_writer.proofs.Lines.{lines_more}
 use Rattle.sf_pl_writer.proofs.Pads.{written, left_out}
 use Rattle.sf_pl_writer.proofs.placed.push_pads.Goals as goal

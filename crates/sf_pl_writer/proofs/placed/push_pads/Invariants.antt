@@ -1,6 +1,5 @@
 use Rattle.std.proofs.Common.{◌≡◌, ◌++◌, take, length}
-use Rattle.std.specs.List.{flat_map, range_with_len}
-use Rattle.sf_pl_writer.specs.PlText.{pad_lines_of}
+use Rattle.sf_pl_writer.proofs.Common.{flat_map, range_with_len, pad_lines_of}
 use Rattle.sf_pl_writer.proofs.placed.push_pads.Given as goal
 
 abbrev pub invariant-loop-index : goal.invariant-loop-index

@@ -1,12 +1,8 @@
 use Rattle.std.proofs.Common.{arith, ap, ℕ, ◌≡◌, length, List, take, drop, ◌++◌, sym, subst, ◌∙◌}
 use Rattle.std.proofs.Math.Seq.{take-append_seam}
-use Rattle.sf_model.specs.declared.plan.Spot.{Spot}
-use Rattle.sf_model.specs.Tree.{tree_of, spots_of, HasBlocksBelow}
-use Rattle.sf_model.specs.Wire.{spot_of, wire}
+use Rattle.sf_place.proofs.Common.{Spot, tree_of, spots_of, HasBlocksBelow, spot_of, wire, by_number, AreLegal}
 use Rattle.sf_model.specs.Legal.{block_count}
 use Rattle.sf_model.specs.Cost.{spots_cost}
-use Rattle.sf_place.specs.Spots.{by_number}
-use Rattle.sf_place.specs.Verdict.{AreLegal}
 use Rattle.sf_place.proofs.ByNumber.{plan-leaves, plan-placed, plan-spot_of, plan-wire, plan-cost, plan-legal}
 use Rattle.sf_model.proofs.BlocksBelow.{once-below}
 use Rattle.sf_place.proofs.placing.spots.Goals as goal

@@ -1,6 +1,5 @@
 use Rattle.std.proofs.Common.{ℕ, ◌<◌}
-use Rattle.sf_model.specs.Tree.{Overlaps}
-use Rattle.sf_model.specs.Wire.{spot_of}
+use Rattle.sf_place.proofs.Common.{Overlaps, spot_of}
 use Rattle.sf_place.proofs.verdict.first_overlapping.Given as goal
 
 abbrev pub invariant-loop-later : goal.invariant-loop-later

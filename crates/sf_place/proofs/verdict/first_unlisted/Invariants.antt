@@ -1,6 +1,5 @@
 use Rattle.std.proofs.Common.{ℕ, ◌<◌}
-use Rattle.sf_model.specs.Wire.{spot_of}
-use Rattle.sf_place.specs.Verdict.{IsListed}
+use Rattle.sf_place.proofs.Common.{spot_of, IsListed}
 use Rattle.sf_place.proofs.verdict.first_unlisted.Given as goal
 
 abbrev pub invariant-loop-block : goal.invariant-loop-block

@@ -1,9 +1,5 @@
 use Rattle.std.proofs.Common.{◌++◌, length, ap, sym, subst, ◌∙◌}
-use Rattle.std.proofs.lemmas.List.{length-replicate}
-use Rattle.sf_model.specs.Tree.{tree_of, HasBlocksBelow}
-use Rattle.sf_polish.specs.Normal.{IsNormal}
-use Rattle.sf_polish.specs.Postfix.{postfix}
-use Rattle.sf_polish.specs.Shaping.{no_shape}
+use Rattle.sf_polish.proofs.Common.{length-replicate, tree_of, HasBlocksBelow, IsNormal, postfix, no_shape}
 use Rattle.sf_polish.proofs.Shaped.{spelled-by}
 use Rattle.sf_model.proofs.BlocksBelow.{once-below}
 use Rattle.sf_polish.proofs.Normality.{postfix-normal}

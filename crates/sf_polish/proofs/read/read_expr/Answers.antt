@@ -1,9 +1,5 @@
 use Rattle.std.proofs.Common.{arith, length, ap, sym, subst, ◌∙◌, Ok}
-use Rattle.std.specs.Option.{option_map}
-use Rattle.std.proofs.lemmas.Result.{err_from_is_err_and, IfErr-weaker}
-use Rattle.sf_lex.specs.Scan.{line_words, last_line_of}
-use Rattle.sf_polish.specs.Reading.{token_after, shapes_with, Fails}
-use Rattle.sf_polish.specs.Word.{token_of, shaped_token_in}
+use Rattle.sf_polish.proofs.Common.{option_map, err_from_is_err_and, IfErr-weaker, line_words, last_line_of, token_after, shapes_with, Fails, token_of, shaped_token_in}
 use Rattle.sf_polish.proofs.ReadSteps.{reading-step, reading-fails, reading-ends, keeping-step, keeping-ends, fails-at, expr-read, expr-fails}
 use Rattle.sf_polish.proofs.Refused.{expr-refused}
 use Rattle.sf_polish.proofs.TextLaws.{expr-spelled}

@@ -1,6 +1,5 @@
 use Rattle.std.proofs.Common.{◌≡◌, length}
-use Rattle.sf_lex.specs.Scan.{line_words, last_line_of, numbered_words}
-use Rattle.sf_polish.specs.Word.{shaped_token_in}
+use Rattle.sf_polish.proofs.Common.{line_words, last_line_of, numbered_words, shaped_token_in}
 use Rattle.sf_polish.proofs.ReadSteps.{IsReading, IsKeeping}
 use Rattle.sf_polish.proofs.read.read_expr.Given as goal
 

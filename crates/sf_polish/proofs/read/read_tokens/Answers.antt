@@ -1,9 +1,5 @@
 use Rattle.std.proofs.Common.{arith, ◌≡◌, length, ap, sym, subst, ◌∙◌, Ok}
-use Rattle.std.proofs.lemmas.Result.{err_from_is_err_and, IfOk-weaker, IfErr-weaker}
-use Rattle.sf_lex.specs.Scan.{line_words, last_line_of}
-use Rattle.sf_polish.specs.Reading.{token_after, tokens_read, Fails, whole_tokens}
-use Rattle.sf_polish.specs.Text.{SpellsTokens}
-use Rattle.sf_polish.specs.Word.{token_in}
+use Rattle.sf_polish.proofs.Common.{err_from_is_err_and, IfOk-weaker, IfErr-weaker, line_words, last_line_of, token_after, tokens_read, Fails, whole_tokens, SpellsTokens, token_in}
 use Rattle.sf_polish.proofs.ReadSteps.{reading-step, reading-fails, reading-ends, fails-at}
 use Rattle.sf_polish.proofs.Refused.{tokens-refused}
 use Rattle.sf_polish.proofs.TextLaws.{tokens-spelled}

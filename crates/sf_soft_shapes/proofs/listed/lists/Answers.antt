@@ -1,10 +1,7 @@
 use Rattle.std.proofs.Common.{◌≡◌, ◌≤◌, List, [], ◌∷◌, ◌++◌, length, get_or, subst, ap, sym, ◌∙◌, ◌<◌, Some, Err, arith}
-use Rattle.sf_model.specs.Limits.{IsShapeChoice}
+use Rattle.sf_soft_shapes.proofs.Common.{IsShapeChoice, Shape, RawBlock, IsListOf}
 use Rattle.std.specs.Option.{option_map}
 use Rattle.sf_model.specs.declared.fault.BuildFault.TheVariants.{NoShape}
-use Rattle.sf_model.specs.declared.parts.Shape.{Shape}
-use Rattle.sf_model.specs.declared.raw.RawBlock.{RawBlock}
-use Rattle.sf_soft_shapes.specs.Listed.{IsListOf}
 use Rattle.sf_soft_shapes.proofs.Listing.{lists_start, lists_grow, all_one, all_shaped, none_after}
 use Rattle.sf_soft_shapes.proofs.listed.lists.Goals as goal
 

@@ -1,9 +1,6 @@
 use Rattle.std.proofs.Common.{◌≡◌, ◌≤◌, length, vec_len}
-use Rattle.std.specs.List.{All}
-use Rattle.sf_model.specs.Limits.{IsShapeChoice}
-use Rattle.sf_model.specs.declared.parts.Shape.{Shape}
+use Rattle.sf_soft_shapes.proofs.Common.{All, IsShapeChoice, Shape, AreFirstLists}
 use Rattle.std.proofs.Common.{List}
-use Rattle.sf_soft_shapes.specs.Listed.{AreFirstLists}
 use Rattle.sf_soft_shapes.proofs.listed.lists.Given as goal
 
 abbrev pub invariant-loop-block : goal.invariant-loop-block

@@ -1,6 +1,5 @@
 use Rattle.std.proofs.Common.{◌≡◌, ℕ, ◌+◌, ◌-◌, ◌*◌, ◌/◌, nat_le, if◌then◌else◌, arith, ap, ◌∙◌}
-use Rattle.std.proofs.lemmas.Bool.Decides.{nat_tests}
-use Rattle.sf_soft_shapes.specs.Listed.{shape, height_at, width_count}
+use Rattle.sf_soft_shapes.proofs.Common.{nat_tests, shape, height_at, width_count}
 use Rattle.sf_soft_shapes.proofs.Spread.{grown}
 use Rattle.sf_soft_shapes.proofs.soft.shapes_between.Goals as goal
 use Rattle.sf_soft_shapes.proofs.soft.shapes_between.Goals.{then-count-k, else-count-k}

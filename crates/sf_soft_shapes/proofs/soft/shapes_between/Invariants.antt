@@ -1,6 +1,5 @@
 use Rattle.std.proofs.Common.{◌≡◌, ◌+◌, ◌-◌, ◌*◌, ◌/◌, map, nat_le, if◌then◌else◌}
-use Rattle.std.specs.List.{range_with_len}
-use Rattle.sf_soft_shapes.specs.Listed.{shape, height_at, width_count}
+use Rattle.sf_soft_shapes.proofs.Common.{range_with_len, shape, height_at, width_count}
 use Rattle.sf_soft_shapes.proofs.soft.shapes_between.Given as goal
 
 abbrev pub invariant-loop-j : goal.invariant-loop-j

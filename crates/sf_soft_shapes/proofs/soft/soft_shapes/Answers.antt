@@ -1,6 +1,5 @@
 use Rattle.std.proofs.Common.{rules, arith}
-use Rattle.std.proofs.lemmas.Grind.{common_steps}
-use Rattle.sf_soft_shapes.specs.Listed.{IsSoftList}
+use Rattle.sf_soft_shapes.proofs.Common.{common_steps, IsSoftList}
 use Rattle.sf_soft_shapes.proofs.Spread.{soft_choice}
 use Rattle.sf_soft_shapes.proofs.soft.soft_shapes.Goals as goal
 

@@ -1,6 +1,5 @@
 use Rattle.std.proofs.Common.{arith}
-use Rattle.std.specs.Prelude.{pos}
-use Rattle.std.proofs.lemmas.Int.{ints}
+use Rattle.sf_wire.proofs.Common.{pos, ints}
 use Rattle.sf_wire.proofs.Ends.{right_end_more, upper_end_more}
 use Rattle.sf_wire.proofs.costs.spots_size.Goals as goal
 

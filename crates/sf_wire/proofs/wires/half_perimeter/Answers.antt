@@ -1,8 +1,6 @@
 use Rattle.std.proofs.Common.{◌≡◌, ◌+◌, ◌∷◌, List, map, ap, sym, ◌∙◌}
-use Rattle.std.specs.Int.{int_max, int_min}
-use Rattle.sf_model.specs.declared.parts.Pin.{Pin}
+use Rattle.sf_wire.proofs.Common.{int_max, int_min, Pin, pin_x, pin_y, spread}
 use Rattle.sf_model.specs.declared.parts.Pin.TheVariants as pin
-use Rattle.sf_model.specs.Wire.{pin_x, pin_y, spread}
 use Rattle.sf_wire.proofs.Folds.{fold_pins, near_same, near_least, near_greatest, spread_of}
 use Rattle.sf_wire.proofs.Pinned.{later_pin}
 use Rattle.sf_wire.proofs.wires.half_perimeter.Goals as goal

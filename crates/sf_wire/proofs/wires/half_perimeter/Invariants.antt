@@ -1,8 +1,5 @@
 use Rattle.std.proofs.Common.{◌≡◌, map, take}
-use Rattle.std.specs.Prelude.{fold}
-use Rattle.std.specs.Int.{int_max, int_min}
-use Rattle.sf_model.specs.Wire.{pin_x, pin_y}
-use Rattle.sf_model.specs.Limits.{IsDoubledCoordinate}
+use Rattle.sf_wire.proofs.Common.{fold, int_max, int_min, pin_x, pin_y, IsDoubledCoordinate}
 use Rattle.sf_wire.proofs.wires.half_perimeter.Given as goal
 
 abbrev pub invariant-loop-pin : goal.invariant-loop-pin

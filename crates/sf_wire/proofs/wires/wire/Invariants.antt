@@ -1,6 +1,5 @@
 use Rattle.std.proofs.Common.{◌≡◌, ◌≤◌, ◌*◌, ◌^◌, take}
-use Rattle.std.specs.Prelude.{sum_by}
-use Rattle.sf_model.specs.Wire.{weighed_wire}
+use Rattle.sf_wire.proofs.Common.{sum_by, weighed_wire}
 use Rattle.sf_wire.proofs.wires.wire.Given as goal
 
 abbrev pub invariant-loop-net : goal.invariant-loop-net

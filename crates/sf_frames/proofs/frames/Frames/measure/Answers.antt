@@ -1,7 +1,6 @@
 use Rattle.std.proofs.Common.{◌≡◌, length, sym, subst}
-use Rattle.sf_node.specs.Children.{IsSubproblem}
+use Rattle.sf_frames.proofs.Common.{IsSubproblem, AreSumsOrNone}
 use Rattle.sf_frames.specs.Measured.{IsMeasured}
-use Rattle.sf_frames.specs.Sums.{AreSumsOrNone}
 use Rattle.sf_frames.proofs.Rooms.{kept-within}
 use Rattle.sf_frames.proofs.WholeSpans.{measured-groups}
 use Rattle.sf_frames.proofs.frames.Frames.measure.Goals as goal

@@ -1,6 +1,5 @@
 use Rattle.std.proofs.Common.{◌≡◌, length, sym, subst, rules}
-use Rattle.sf_frames.specs.Kept.{groups_at}
-use Rattle.sf_frames.specs.Sums.{AreSumsOrNone}
+use Rattle.sf_frames.proofs.Common.{groups_at, AreSumsOrNone}
 use Rattle.sf_frames.proofs.stored.Stored.sums_now.Goals as goal
 
 pub returns-then-is_empty : goal.returns-then-is_empty

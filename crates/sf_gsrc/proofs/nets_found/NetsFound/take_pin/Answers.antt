@@ -1,8 +1,5 @@
 use Rattle.std.proofs.Common.{refl, sym, ap, ◌∙◌}
-use Rattle.std.specs.Prelude.{is_some, not}
-use Rattle.sf_lex.specs.declared.field.Gap.TheVariants.{Blanks}
-use Rattle.sf_lex.specs.Gap.{first_word}
-use Rattle.sf_gsrc.specs.Nets.{PinIs}
+use Rattle.sf_gsrc.proofs.Common.{is_some, not, Blanks, first_word, PinIs}
 use Rattle.sf_gsrc.proofs.nets_found.NetsFound.take_pin.Goals as goal
 
 pub returns : goal.returns

@@ -1,6 +1,5 @@
 use Rattle.std.proofs.Common.{◌∙◌, refl}
-use Rattle.sf_model.specs.Admitted.{block_of, pad_of}
-use Rattle.sf_model.specs.declared.raw.RawPin.TheVariants.{Named}
+use Rattle.sf_gsrc.proofs.Common.{block_of, pad_of, Named}
 use Rattle.sf_gsrc.proofs.OwnerSteps.{by_owner}
 use Rattle.sf_gsrc.proofs.owners.Owners.number_of.Goals as goal
 

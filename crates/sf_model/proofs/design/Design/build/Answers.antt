@@ -1,7 +1,5 @@
 use Rattle.std.proofs.Common.{List, ap, sym, refl, ◌∙◌, arith}
-use Rattle.sf_model.specs.Built.{first_shapeless}
-use Rattle.sf_model.specs.declared.parts.Shape.{Shape}
-use Rattle.sf_model.specs.declared.raw.RawBlock.{RawBlock}
+use Rattle.sf_model.proofs.Common.{first_shapeless, Shape, RawBlock}
 use Rattle.sf_model.proofs.Limited.{limits_kept}
 use Rattle.sf_model.proofs.Designs.{limits_hold, is_design}
 use Rattle.sf_model.proofs.design.Design.build.Goals as goal

@@ -1,7 +1,6 @@
 use Rattle.std.proofs.Common.{Some, cond, sym, ap, ◌∙◌}
-use Rattle.std.specs.Str.{bytes_eq}
+use Rattle.sf_names.proofs.Common.{bytes_eq, value_in}
 use Rattle.std.proofs.lemmas.Map.Text.{hash_map_updates_str}
-use Rattle.sf_names.specs.Values.{value_in}
 use Rattle.sf_names.proofs.Lookups.{value_found}
 use Rattle.sf_names.proofs.map.NameMap.insert.Goals as goal
 

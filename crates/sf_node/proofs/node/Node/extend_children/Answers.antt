@@ -1,9 +1,7 @@
 use Rattle.std.proofs.Common.{◌≡◌, ℕ, ◌<◌, List, Bool, length, arith, ap, sym, ◌∙◌, true, false}
-use Rattle.std.proofs.lemmas.List.{get_or_default}
-use Rattle.std.specs.Prelude.{not, slice_index_or}
+use Rattle.sf_node.proofs.Common.{get_or_default, not, slice_index_or, is_unused}
 use Rattle.sf_node.proofs.Grown.{grown-yes, grown-no, grown-all}
 use Rattle.sf_node.proofs.Reached.{subproblem-spans}
-use Rattle.sf_node.specs.Children.{is_unused}
 use Rattle.sf_node.proofs.node.Node.extend_children.Goals as goal
 use Rattle.sf_node.proofs.node.Node.extend_children.Goals.{then-not-index+in_ok-with_token+in_ok-push, else-not-index}
 

@@ -1,7 +1,5 @@
 use Rattle.std.proofs.Common.{◌≡◌, ℕ, List, map, ap, sym, subst, ◌∙◌}
-use Rattle.sf_node.specs.declared.task.Task.{Task}
-use Rattle.sf_search_core.specs.Conserved.{branched}
-use Rattle.sf_search_core.specs.Events.{held_by, kind_of, replace, AreChildren, Answers}
+use Rattle.sf_search_core.proofs.Common.{Task, branched, held_by, kind_of, replace, AreChildren, Answers}
 use Rattle.sf_search_core.proofs.Replaced.{costs-many, held_by-subproblem, nodes-of_tasks, bounds-of_tasks}
 use Rattle.sf_search_core.proofs.pool.Pool.replace.Goals as goal
 
