@@ -1,12 +1,10 @@
 -- Statements are cut in just one way.
 use Rattle.std.proofs.Common.{◌≡◌, Bool, true, false, List, [], ◌∷◌, ◌++◌, refl, sym, ap, subst, ◌∙◌, append_assoc, append-nil}
-use Rattle.std.specs.Prelude.{All, flat_map, fold}
+use Rattle.sf_yal.proofs.Common.{All, flat_map, fold, fold-append, Worded, key, ListKind, Terminals, Network, Listing, Section, Single, Listed, Module, Item, Stray, Whole, Rest, Nothing, InModule, InList, Cut, listing_text, section_text, module_text, item_text, rest_text, opens_module, opener, stands_alone, closes, IsSection, IsModule, IsItem, IsRest, AreCut}
 use Rattle.std.proofs.lemmas.Grind.{flat_map-append}
 use Rattle.std.proofs.lemmas.List.Elements.{All-nil, All-head, All-tail, All-push}
-use Rattle.std.proofs.lemmas.List.Sums.{fold-append}
 use Rattle.sf_yal.specs.declared.keyword.Keyword.{Keyword}
 use Rattle.sf_yal.specs.declared.keyword.Keyword.TheVariants as keys
-use Rattle.sf_yal.specs.Modules.{Worded, key, ListKind, Terminals, Network, Listing, Section, Single, Listed, Module, Item, Stray, Whole, Rest, Nothing, InModule, InList, Cut, listing_text, section_text, module_text, item_text, rest_text, opens_module, opener, stands_alone, closes, IsSection, IsModule, IsItem, IsRest, AreCut}
 
 -- what f gives of one item more
 pub flat_push : {X Y : Type 0} (f : X → List Y) (xs : List X) (x : X) → flat_map f (xs ++ x ∷ []) ≡ flat_map f xs ++ f x

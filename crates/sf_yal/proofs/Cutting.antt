@@ -1,7 +1,6 @@
 -- Pieces of a text, taken off its front.
 use Rattle.std.proofs.Common.{◌≡◌, inl, inr, ℕ, suc, ◌<◌, ◌≤◌, Bool, List, [], ◌∷◌, length, take, drop, refl, arith}
-use Rattle.std.specs.List.{slice_split, position_or_len}
-use Rattle.std.proofs.lemmas.Bool.{cases_Bool}
+use Rattle.sf_yal.proofs.Common.{slice_split, position_or_len, cases_Bool}
 use Rattle.std.proofs.Math.Numerals.{one-add}
 
 module _ (p : ℕ → Bool) where

@@ -1,11 +1,9 @@
 -- The box of a statement's vertices.
 use Rattle.std.proofs.Common.{◌≡◌, ℕ, ◌≤◌, ◌/◌, ◌%◌, false, length, arith, List, Result, refl}
-use Rattle.std.proofs.lemmas.Bool.Decides.{nat_tests}
+use Rattle.sf_yal.proofs.Common.{nat_tests, BoxSize, vertex_fault, is_no_outline, dimensions_said}
 use Rattle.sf_lex.specs.Results.{map_err}
 use Rattle.sf_lex.specs.Vertices.{box_read}
-use Rattle.sf_lex.specs.declared.vertices.BoxSize.{BoxSize}
 use Rattle.sf_lex.specs.declared.vertices.VertexFault.{VertexFault}
-use Rattle.sf_yal.specs.Box.{vertex_fault, is_no_outline, dimensions_said}
 
 -- at least four words, in pairs, are an outline
 even_enough : (places : List (List ℕ)) → 4 ≤ length places → length places % 2 ≡ 0 → is_no_outline places ≡ false

@@ -1,3 +1,4 @@
+mod Common
 pub mod Hiding
 pub mod Cutting
 pub mod Dimensions

@@ -1,15 +1,7 @@
 -- The parts, once all are made.
 use Rattle.std.proofs.Common.{◌≡◌, ℕ, List, [], ◌∷◌, Ok, refl, sym}
-use Rattle.std.specs.Prelude.{map, Some, true}
-use Rattle.sf_model.specs.declared.raw.RawBlock.{RawBlock}
-use Rattle.sf_model.specs.declared.raw.RawPad.{RawPad}
-use Rattle.sf_model.specs.declared.raw.RawNet.{RawNet}
+use Rattle.sf_yal.proofs.Common.{map, Some, true, RawBlock, RawPad, RawNet, instances_in, Reading, nets_of, blocks_from, parts_by, signals_in}
 use Rattle.sf_yal.specs.declared.instance.Instance as code
-use Rattle.sf_yal.specs.Instances.{instances_in}
-use Rattle.sf_yal.specs.Reading.{Reading}
-use Rattle.sf_yal.specs.Nets.{nets_of}
-use Rattle.sf_yal.specs.Parts.{blocks_from, parts_by}
-use Rattle.sf_yal.specs.Using.{signals_in}
 
 -- the signals that are kept are those of the instances
 pub signals_are : (items : List code.Instance) → signals_in items ≡ map (λ i. i.signals) (instances_in items)

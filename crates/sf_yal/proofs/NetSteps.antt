@@ -1,12 +1,7 @@
 -- Nets signal by signal, as the code keeps them.
 use Rattle.std.proofs.Common.{◌≡◌, ℕ, zero, suc, ◌≤◌, ◌<◌, ◌+◌, List, [], ◌∷◌, ◌++◌, length, get_or, take, Option, Some, None, refl, ap, ◌∙◌, arith}
-use Rattle.std.specs.Prelude.{slice_set, slice_get}
-use Rattle.std.proofs.lemmas.List.{append-nil, set-get_or}
+use Rattle.sf_yal.proofs.Common.{slice_set, slice_get, append-nil, set-get_or, RawNet, RawPin, index_of, with_pin, with_pin_at, with_pad, with_pad_of, with_pads}
 use Rattle.std.proofs.Math.Seq.{take-nil, take-append_seam}
-use Rattle.sf_model.specs.declared.raw.RawNet.{RawNet}
-use Rattle.sf_model.specs.declared.raw.RawPin.{RawPin}
-use Rattle.sf_names.specs.Names.{index_of}
-use Rattle.sf_yal.specs.Using.{with_pin, with_pin_at, with_pad, with_pad_of, with_pads}
 
 -- the net at a place with a pin more
 pub set_pins : (n : ℕ) (nets : List RawNet) (k : ℕ) (net new : RawNet) → net ≡ get_or nets k net → new.pins ≡ with_pin n net.pins → slice_set nets k new ≡ with_pin_at n k nets

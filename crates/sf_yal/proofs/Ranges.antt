@@ -1,24 +1,11 @@
 -- Blocks have sizes, and pins are of blocks and pads that are there.
 use Rattle.std.proofs.Common.{◌≡◌, inl, inr, ℕ, ◌+◌, ◌≤◌, ◌<◌, List, [], ◌∷◌, length, map, Option, Some, None, ap, sym, subst, ◌∙◌, arith}
-use Rattle.std.specs.Prelude.{IfSome}
-use Rattle.std.specs.List.{All, AllZip}
-use Rattle.std.proofs.lemmas.Bool.{cases_Bool}
-use Rattle.std.proofs.lemmas.List.{length-map}
+use Rattle.sf_yal.proofs.Common.{IfSome, AllZip, cases_Bool, length-map, RawBlock, RawNet, RawPad, RawPin, Parts, index_of, has_name, IsBlockOf, Instance, Module, modules, pads_of, instances_of, block_pins, pad_pins, net_of, signals_of, StandsFor}
+use Rattle.std.specs.List.{All}
 use Rattle.std.proofs.lemmas.List.Elements.{All-nil, All-cons, All-append}
 use Rattle.std.proofs.lemmas.Slice.Zip.{AllZip-long}
 use Rattle.sf_model.specs.Admitted.{IsPinInRange, IsSized, HasSizes, HasPinsInRange}
-use Rattle.sf_model.specs.declared.raw.RawBlock.{RawBlock}
-use Rattle.sf_model.specs.declared.raw.RawNet.{RawNet}
-use Rattle.sf_model.specs.declared.raw.RawPad.{RawPad}
-use Rattle.sf_model.specs.declared.raw.RawPin.{RawPin}
 use Rattle.sf_model.specs.declared.raw.RawPin.TheVariants as pins
-use Rattle.sf_model.specs.declared.raw.Parts.{Parts}
-use Rattle.sf_names.specs.Names.{index_of, has_name}
-use Rattle.sf_yal.specs.Faults.{IsBlockOf}
-use Rattle.sf_yal.specs.Instances.{Instance}
-use Rattle.sf_yal.specs.Modules.{Module, modules, pads_of, instances_of}
-use Rattle.sf_yal.specs.Nets.{block_pins, pad_pins, net_of, signals_of}
-use Rattle.sf_yal.specs.Standing.{StandsFor}
 use Rattle.sf_names.proofs.Indexes.{index_bound}
 
 -- ---- sizes

@@ -1,7 +1,6 @@
 -- Two readings one after the other, and what they give.
 use Rattle.std.proofs.Common.{◌≡◌, ◌⊎◌, inl, inr, Result, Ok, Err, refl, sym, ap}
-use Rattle.sf_yal.specs.declared.fault.YalFault.{YalFault}
-use Rattle.sf_yal.specs.Box.{◌>>=◌}
+use Rattle.sf_yal.proofs.Common.{YalFault, ◌>>=◌}
 
 -- a value that is read
 abbrev pub done : {A : Type 0} → A → Result A YalFault

@@ -1,14 +1,6 @@
 -- Statements without a fault, and the first fault, as reading finds them.
 use Rattle.std.proofs.Common.{◌≡◌, ℕ, List, [], ◌∷◌, ◌++◌, Option, Some, None, Result, Ok, Err, refl, sym, ap, subst, ◌∙◌, append_assoc}
-use Rattle.std.specs.Prelude.{fold}
-use Rattle.std.proofs.lemmas.List.Sums.{fold-append}
-use Rattle.sf_yal.specs.declared.fault.YalFault.{YalFault}
-use Rattle.sf_yal.specs.Box.{◌>>=◌}
-use Rattle.sf_yal.specs.Statements.{Statement}
-use Rattle.sf_yal.specs.Modules.{Worded, worded_in, worded, Cut}
-use Rattle.sf_yal.specs.Faults.{fault_at}
-use Rattle.sf_yal.specs.Standing.{AreSound, FirstFault}
-use Rattle.sf_yal.specs.Reading.{Reading, after_words, after_statements}
+use Rattle.sf_yal.proofs.Common.{fold, fold-append, YalFault, ◌>>=◌, Statement, Worded, worded_in, worded, Cut, fault_at, AreSound, FirstFault, Reading, after_words, after_statements}
 use Rattle.sf_yal.proofs.Cuts.{step, nothing_cut, cut_of, are_cut, is_the_cut}
 use Rattle.sf_yal.proofs.Views.{view, answer, says}
 use Rattle.sf_yal.proofs.Results.{err_is, err_not_ok, ok_not_err}

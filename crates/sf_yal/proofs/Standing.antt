@@ -1,19 +1,7 @@
 -- A text stands for parts, or has a fault, exactly where reading gives these.
 use Rattle.std.proofs.Common.{◌≡◌, ◌≢◌, inl, inr, ℕ, Bool, true, false, List, [], map, Option, Some, None, Result, Ok, Err, refl, sym, ap, subst, ◌∙◌, append-nil}
-use Rattle.std.specs.Prelude.{not, is_some}
-use Rattle.std.specs.List.{AllZip}
-use Rattle.sf_model.specs.declared.raw.RawBlock.{RawBlock}
-use Rattle.sf_model.specs.declared.raw.Parts.{Parts}
-use Rattle.sf_yal.specs.declared.fault.YalFault.{YalFault}
+use Rattle.sf_yal.proofs.Common.{not, is_some, AllZip, RawBlock, Parts, YalFault, BoxSize, ◌>>=◌, statements_of, is_ended, last_line, Worded, worded, Rest, Nothing, Cut, name_of, box_of, closed, modules, parent_place, instances_of, IsBlockOf, IsCut, IsEnded, StandsFor, PartsFault, EndFault, HasFault, Reading, start, after_statements, blocks_from, parts_with, parts_by, parts_read, yal_read}
 use Rattle.sf_yal.specs.declared.fault.YalFault.TheVariants as faults
-use Rattle.sf_lex.specs.declared.vertices.BoxSize.{BoxSize}
-use Rattle.sf_yal.specs.Box.{◌>>=◌}
-use Rattle.sf_yal.specs.Statements.{statements_of, is_ended, last_line}
-use Rattle.sf_yal.specs.Modules.{Worded, worded, Rest, Nothing, Cut, name_of, box_of, closed, modules, parent_place, instances_of}
-use Rattle.sf_yal.specs.Faults.{IsBlockOf}
-use Rattle.sf_yal.specs.Standing.{IsCut, IsEnded, StandsFor, PartsFault, EndFault, HasFault}
-use Rattle.sf_yal.specs.Reading.{Reading, start, after_statements}
-use Rattle.sf_yal.specs.Parts.{blocks_from, parts_with, parts_by, parts_read, yal_read}
 use Rattle.sf_yal.proofs.Cuts.{nothing_cut, cut_of, are_cut, is_the_cut}
 use Rattle.sf_yal.proofs.Views.{view, open_view}
 use Rattle.sf_yal.proofs.Results.{ok_is, failed, err_is, err_not_ok, ok_not_err, bind_ok, bind_err}

@@ -1,12 +1,6 @@
 -- Statements one after another, as the loop takes them.
 use Rattle.std.proofs.Common.{◌≡◌, inl, inr, ℕ, ◌+◌, List, [], ◌∷◌, Result, Ok, refl, sym, ap, ◌∙◌, subst}
-use Rattle.std.specs.List.{onto_first}
-use Rattle.std.proofs.lemmas.Bool.{cases_Bool}
-use Rattle.sf_lex.specs.Text.{words, is_blank_byte}
-use Rattle.sf_yal.specs.declared.fault.YalFault.{YalFault}
-use Rattle.sf_yal.specs.Box.{◌>>=◌}
-use Rattle.sf_yal.specs.Statements.{is_semicolon, pieces, feeds, statement_at, statements, last_piece}
-use Rattle.sf_yal.specs.Reading.{Reading, Fails, after_words, after_statement, after_statements}
+use Rattle.sf_yal.proofs.Common.{onto_first, cases_Bool, words, is_blank_byte, YalFault, ◌>>=◌, is_semicolon, pieces, feeds, statement_at, statements, last_piece, Reading, Fails, after_words, after_statement, after_statements}
 use Rattle.sf_yal.proofs.Stepping.{Fails-then}
 
 -- there is a piece

@@ -1,16 +1,8 @@
 -- Items one after another, as a loop takes them.
 use Rattle.std.proofs.Common.{◌≡◌, ℕ, suc, ◌+◌, ◌<◌, ◌≤◌, List, [], ◌∷◌, ◌++◌, length, drop, get_or, Result, Ok, refl, sym, ap, ◌∙◌, add-one, drop-cons, subst}
-use Rattle.std.proofs.lemmas.List.{drop_all}
-use Rattle.sf_model.specs.declared.raw.RawBlock.{RawBlock}
-use Rattle.sf_yal.specs.declared.fault.YalFault.{YalFault}
+use Rattle.sf_yal.proofs.Common.{drop_all, RawBlock, YalFault, BoxSize, Option, ◌>>=◌, instance_in, instances_in, Fails, block_of, blocks_from}
 use Rattle.sf_yal.specs.declared.fault.YalFault.TheVariants as faults
-use Rattle.sf_lex.specs.declared.vertices.BoxSize.{BoxSize}
 use Rattle.sf_yal.specs.declared.instance.Instance as code
-use Rattle.std.specs.Prelude.{Option}
-use Rattle.sf_yal.specs.Box.{◌>>=◌}
-use Rattle.sf_yal.specs.Instances.{instance_in, instances_in}
-use Rattle.sf_yal.specs.Reading.{Fails}
-use Rattle.sf_yal.specs.Parts.{block_of, blocks_from}
 
 -- the item at a place, and those behind it
 pub cut : {X : Type 0} (xs : List X) (i : ℕ) (x : X) → i < length xs → x ≡ get_or xs i x → drop i xs ≡ x ∷ drop (i + 1) xs

@@ -5,9 +5,9 @@ ghost use Rattle.sf_model.specs.declared.raw.Parts.{Parts};
 ghost use Rattle.sf_yal.specs.Standing.{StandsFor, HasFault};
 ghost use Rattle.sf_yal.specs.declared.fault.YalFault.{YalFault as Fault};
 ghost use Rattle.sf_yal.specs.declared.fault.YalFault.TheVariants.{NoMemory};
-ghost use Rattle.sf_yal.specs.Statements.{statements, pieces, last_piece};
+ghost use Rattle.sf_yal.specs.Statements.{statements, pieces, last_piece, line_of_last, without_end};
 ghost use Rattle.sf_yal.specs.Reading.{Gives, start, after_statements, reading_in, ReadsAll};
-ghost use Rattle.sf_yal.specs.Parts.{parts_by, yal_read};
+ghost use Rattle.sf_yal.specs.Parts.{parts_by, parts_read, yal_read};
 
 use crate::blocks::read_instances;
 use crate::comments::hide_comments;
@@ -18,6 +18,7 @@ use crate::piece::{first_line, last_line_of, next_piece, next_word};
 use sf_lex::{Scale, line_feeds};
 use sf_model::{NameList, Parts, RawBlockList, RawPadList};
 use std::alloc::Global;
+use std::mem;
 
 /// What the statements say, and what stands behind the last of them.
 fn read_statements<'a>(
@@ -44,36 +45,51 @@ fn read_statements<'a>(
     Ok((found, rest))
 }
 
-/// The parts, once the whole text was read.
-fn into_parts(alloc: Global, found: Found, parent: usize) -> Result<Parts, YalFault>
-    ensures { Gives result (parts_by (reading_in found.entry) (Some parent)) }
+/// The parts, once the whole text was read. The pads are taken out of what was found.
+fn into_parts(alloc: Global, found: &mut Found, parent: usize) -> Result<Parts, YalFault>
+    ensures { Gives result (parts_by (reading_in found.old) (Some parent)) }
 {
     let blocks = read_instances(alloc, &found.instances, &found.names, &found.sizes, parent)?;
     let nets = read_nets(alloc, &found.instances, &found.pad_names)?;
     Ok(Parts {
         blocks: RawBlockList::from_vec(blocks),
-        pads: RawPadList::from_vec(found.pads),
+        pads: RawPadList::from_vec(mem::replace(&mut found.pads, Vec::new(alloc))),
         nets,
         strangers: NameList::from_vec(Vec::new(alloc)),
         pads_in: true,
     })
 }
 
+/// The parts, where the text ended between statements with no module open; else its end is a fault.
+#[tactic(auto, unfolding(crate::specs::Parts::parts_read))]
+fn parts_at_end(
+    alloc: Global,
+    found: &mut Found,
+    ended: bool,
+    hidden: &[u8],
+) -> Result<Parts, YalFault>
+    ensures { let last = line_of_last (without_end hidden.now) in
+        Gives result (parts_read last ended (reading_in found.old)) }
+{
+    if !ended || found.current.is_some() {
+        return Err(YalFault::Truncated(last_line_of(hidden)));
+    }
+    match found.parent {
+        None => Err(YalFault::NoParent),
+        Some(parent) => into_parts(alloc, found, parent),
+    }
+}
+
 /// The parts for which a YAL text stands, or its first fault, as it is read.
-#[tactic(auto, unfolding(crate::specs::Parts::yal_read, crate::specs::Parts::parts_read))]
+#[tactic(auto, unfolding(crate::specs::Parts::yal_read))]
 fn read_exactly(alloc: Global, text: &[u8], scale: Scale) -> Result<Parts, YalFault>
     requires { length text.now ≤ 67_108_864 }
     ensures { Gives result (yal_read scale.per_unit text.now) }
 {
     let (hidden, open) = hide_comments(alloc, text)?;
-    let (found, rest) = read_statements(alloc, &hidden, scale)?;
-    if open || next_word(rest).is_some() || found.current.is_some() {
-        return Err(YalFault::Truncated(last_line_of(&hidden)));
-    }
-    let Some(parent) = found.parent else {
-        return Err(YalFault::NoParent);
-    };
-    into_parts(alloc, found, parent)
+    let (mut found, rest) = read_statements(alloc, &hidden, scale)?;
+    let ended = !open && next_word(rest).is_none();
+    parts_at_end(alloc, &mut found, ended, &hidden)
 }
 
 /// The parts for which a YAL text stands, or its first fault. Lengths are taken times the scale, so they

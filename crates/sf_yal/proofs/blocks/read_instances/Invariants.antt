@@ -1,6 +1,5 @@
 use Rattle.std.proofs.Common.{◌≡◌, [], drop}
-use Rattle.sf_yal.specs.Instances.{instances_in}
-use Rattle.sf_yal.specs.Parts.{blocks_from}
+use Rattle.sf_yal.proofs.Common.{instances_in, blocks_from}
 use Rattle.sf_yal.proofs.blocks.read_instances.Given as goal
 
 abbrev pub invariant-loop-instance : goal.invariant-loop-instance

@@ -1,9 +1,7 @@
 use Rattle.std.proofs.Common.{rules, ◌≡◌, ℕ, List, Some, None, length, refl, ap, ◌∙◌}
-use Rattle.std.specs.Prelude.{slice_get}
-use Rattle.std.specs.Option.{option_map}
+use Rattle.sf_yal.proofs.Common.{slice_get, option_map, bytes_of, index_of}
 use Rattle.std.proofs.lemmas.Option.{slice_get-map, slice_get_read}
 use denote.Ref.{Bor}
-use Rattle.sf_names.specs.Names.{bytes_of, index_of}
 use Rattle.sf_yal.proofs.NetSteps.{no_pad}
 use Rattle.sf_yal.proofs.nets.add_pad.Goals as goal
 

@@ -1,8 +1,5 @@
 use Rattle.std.proofs.Common.{◌≡◌, ◌+◌, ℕ, length, take, arith, ap, sym, ◌∙◌}
-use Rattle.std.specs.Prelude.{slice_get}
-use Rattle.sf_model.specs.declared.raw.RawNet.{RawNet}
-use Rattle.sf_names.specs.Names.{bytes_of}
-use Rattle.sf_yal.specs.Using.{with_pads, with_pad_of}
+use Rattle.sf_yal.proofs.Common.{slice_get, RawNet, bytes_of, with_pads, with_pad_of}
 use Rattle.sf_yal.proofs.NetSteps.{pad_more, pads_all, front_of}
 use Rattle.sf_yal.proofs.nets.add_pads.Goals as goal
 

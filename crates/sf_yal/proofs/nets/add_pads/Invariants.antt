@@ -1,6 +1,5 @@
 use Rattle.std.proofs.Common.{◌≡◌, take}
-use Rattle.sf_names.specs.Names.{bytes_of}
-use Rattle.sf_yal.specs.Using.{with_pads}
+use Rattle.sf_yal.proofs.Common.{bytes_of, with_pads}
 use Rattle.sf_yal.proofs.nets.add_pads.Given as goal
 
 abbrev pub invariant-loop-net : goal.invariant-loop-net

@@ -1,7 +1,5 @@
 use Rattle.std.proofs.Common.{◌<◌, ◌≤◌, length, arith}
-use Rattle.std.specs.List.{position_or_len}
-use Rattle.std.proofs.lemmas.Bool.Decides.{nat_tests}
-use Rattle.sf_yal.specs.Statements.{is_semicolon}
+use Rattle.sf_yal.proofs.Common.{position_or_len, nat_tests, is_semicolon}
 use Rattle.sf_yal.proofs.Cutting.{split_whole, split_first}
 use Rattle.sf_yal.proofs.piece.next_piece.Goals as goal
 

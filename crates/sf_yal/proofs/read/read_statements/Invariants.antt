@@ -1,6 +1,5 @@
 use Rattle.std.proofs.Common.{◌≡◌, ◌+◌, ◌≤◌, length}
-use Rattle.sf_yal.specs.Statements.{statements, pieces, last_piece}
-use Rattle.sf_yal.specs.Reading.{start, after_statements, reading_in}
+use Rattle.sf_yal.proofs.Common.{statements, pieces, last_piece, start, after_statements, reading_in}
 use Rattle.sf_yal.proofs.read.read_statements.Given as goal
 
 abbrev pub invariant-loop-piece : goal.invariant-loop-piece

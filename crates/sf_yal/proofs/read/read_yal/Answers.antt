@@ -1,11 +1,6 @@
 use Rattle.std.proofs.Common.{◌≡◌, ◌⊎◌, inl, inr, Result, Ok, Err, refl, subst}
-use Rattle.std.specs.Prelude.{IfOk, IfErr}
-use Rattle.sf_model.specs.declared.raw.Parts.{Parts}
-use Rattle.sf_yal.specs.declared.fault.YalFault.{YalFault}
+use Rattle.sf_yal.proofs.Common.{IfOk, IfErr, Parts, YalFault, Gives, Fails, yal_read, StandsFor, HasFault}
 use Rattle.sf_yal.specs.declared.fault.YalFault.TheVariants as faults
-use Rattle.sf_yal.specs.Reading.{Gives, Fails}
-use Rattle.sf_yal.specs.Parts.{yal_read}
-use Rattle.sf_yal.specs.Standing.{StandsFor, HasFault}
 use Rattle.sf_yal.proofs.Standing.{stands_from_read, read_from_stands, fault_from_read, read_from_fault}
 use Rattle.sf_yal.proofs.read.read_yal.Goals as goal
 

@@ -1,6 +1,5 @@
 use Rattle.std.proofs.Common.{◌≡◌, length}
-use Rattle.sf_lex.specs.Text.{words, is_blank_byte}
-use Rattle.sf_yal.specs.Using.{used_in, used_all}
+use Rattle.sf_yal.proofs.Common.{words, is_blank_byte, used_in, used_all}
 use Rattle.sf_yal.proofs.nets.Used.use_signals.Given as goal
 
 abbrev pub invariant-loop-signal : goal.invariant-loop-signal
