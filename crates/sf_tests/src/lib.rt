@@ -42,6 +42,8 @@ mod search_core;
 #[cfg(test)]
 mod soft_shapes;
 #[cfg(test)]
+mod subsets;
+#[cfg(test)]
 mod wire;
 #[cfg(test)]
 mod words;

@@ -1,0 +1,9 @@
+mod Common
+pub mod Bits
+pub mod Plans
+pub mod Law
+pub mod Added
+pub mod Filled
+pub mod Blocks
+pub mod Splits
+pub mod Areas

@@ -1,0 +1,4 @@
+pub mod Sets
+pub mod Floors
+pub mod Covering
+pub mod Gathering
