@@ -4,6 +4,8 @@
 #![tactic(auto)]
 
 #[cfg(test)]
+mod anneal;
+#[cfg(test)]
 mod bounds;
 #[cfg(test)]
 mod certificate;

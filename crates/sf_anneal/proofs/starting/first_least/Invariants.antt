@@ -1,0 +1,6 @@
+use Rattle.std.proofs.Common.{◌≡◌}
+use Rattle.sf_anneal.specs.Starts.{first_least}
+use Rattle.sf_anneal.proofs.starting.first_least.Given as goal
+
+abbrev pub invariant-loop-found : goal.invariant-loop-found
+invariant-loop-found l = l.best ≡ first_least l.yielded

@@ -1,0 +1,5 @@
+pub mod Moves
+pub mod Measured
+pub mod Walk
+pub mod Visits
+pub mod Starts

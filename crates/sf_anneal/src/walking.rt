@@ -1,0 +1,182 @@
+//! One walk.
+
+ghost use Rattle.std.specs.Prelude.{◌≡◌, ◌+◌, ◌≤◌, ◌<◌, ◌*◌, ◌/◌, length, IfOk, IfSome, OnOk};
+ghost use Rattle.sf_model.specs.Legal.{block_count};
+ghost use Rattle.sf_polish.specs.Normal.{IsNormal};
+ghost use Rattle.sf_anneal.specs.Measured.{whole_spans, IsCost, IsFloorplan};
+ghost use Rattle.sf_anneal.specs.Walk.{chain, slack, kept, cheaper, height, trials, IsMoved, IsWalk};
+ghost use Rattle.sf_anneal.specs.Visits.{visit_of};
+
+use crate::measuring::{cost_of, measure, whole_spans};
+use crate::moves::{flip_chain, run_count, swap_operands, swap_step};
+use rand_core::Rng;
+use sf_model::{Design, MAX};
+use sf_polish::{Expr, Token};
+use std::alloc::{AllocError as NoMemory, Global};
+
+/// Tokens that a walk visits, and their cost.
+#[derive(Drop)]
+pub struct Visit {
+    pub tokens: Vec<Token>,
+    pub cost: u64,
+}
+
+/// The chain `0 1 * 2 * ..`.
+fn chain(alloc: Global, blocks: u16) -> Result<Vec<Token>, NoMemory>
+    requires { 1 ≤ blocks }
+    ensures { IfOk result (λ tokens. tokens.items ≡ chain blocks) }
+{
+    let mut tokens = Vec::new(alloc);
+    tokens.push(Token::Block(0))?;
+    for block in 1..blocks {
+        tokens.push(Token::Block(block))?;
+        tokens.push(Token::Beside)?;
+    }
+    Ok(tokens)
+}
+
+/// Makes the move of these two words, the first for its kind.
+fn make_move(tokens: &mut [Token], blocks: u16, kind: u32, place: u32)
+    requires normal { IsNormal blocks tokens.old }
+    requires some { 2 ≤ blocks }
+    ensures normal { IsNormal blocks tokens.new }
+    ensures moved { IsMoved blocks kind place tokens.old tokens.new }
+{
+    let blocks = usize::from(blocks);
+    let place = place as usize;
+    match kind % 3 {
+        0 => swap_operands(tokens, place % (blocks - 1)),
+        1 => flip_chain(tokens, place % run_count(tokens)),
+        _ => {
+            let _moved = swap_step(tokens, place % (2 * blocks - 2));
+        }
+    }
+}
+
+/// Of a number the part that is left where so many of all trials are. No product exceeds 64 bits.
+pub fn part_left(number: u64, moves: u32, left: u32) -> u64
+    requires some { 1 ≤ moves }
+    requires few { left ≤ moves }
+    ensures { result ≡ number * left / moves }
+{
+    let (moves, left) = (u64::from(moves), u64::from(left));
+    number / moves * left + number % moves * left / moves
+}
+
+/// By how much the cost may rise where so many of all trials are left.
+fn slack(c: u64, moves: u32, left: u32) -> u64
+    requires some { 1 ≤ moves }
+    requires few { left ≤ moves }
+    ensures { result ≡ slack c moves left }
+{
+    part_left(c, moves, left) / 16
+}
+
+/// Moves the tokens at hand and measures what comes of it.
+fn try_move(
+    alloc: Global,
+    design: &Design,
+    spans: &[(u16, u16)],
+    now: &Visit,
+    next: &mut Visit,
+    kind: u32,
+    place: u32,
+) -> Result<(), NoMemory>
+    requires some { 2 ≤ block_count design.now }
+    requires whole { spans.now ≡ whole_spans design.now }
+    requires normal { IsNormal (block_count design.now) now.now.tokens.items }
+    requires long { length next.old.tokens.items ≡ length now.now.tokens.items }
+    ensures normal { OnOk result (IsNormal (block_count design.now) next.new.tokens.items) }
+    ensures moved { OnOk result
+        (IsMoved (block_count design.now) kind place now.now.tokens.items next.new.tokens.items) }
+    ensures costs { OnOk result (IsCost design.now next.new.tokens.items next.new.cost) }
+{
+    next.tokens.copy_from_slice(&now.tokens);
+    make_move(&mut next.tokens, design.block_count(), kind, place);
+    next.cost = cost_of(alloc, design, spans, &next.tokens)?;
+    Ok(())
+}
+
+/// Takes the other tokens and their cost.
+fn take(visit: &mut Visit, other: &Visit)
+    requires { length visit.old.tokens.items ≡ length other.now.tokens.items }
+    ensures { visit_of visit.new ≡ visit_of other.now }
+{
+    visit.tokens.copy_from_slice(&other.tokens);
+    visit.cost = other.cost;
+}
+
+/// Takes the moved tokens where they cost less.
+fn take_cheaper(best: &mut Visit, next: &Visit)
+    requires { length best.old.tokens.items ≡ length next.now.tokens.items }
+    ensures { visit_of best.new ≡ cheaper (visit_of best.old) (visit_of next.now) }
+{
+    if next.cost < best.cost {
+        take(best, next);
+    }
+}
+
+/// Takes the moved tokens where their cost is at most so much greater.
+fn take_kept(now: &mut Visit, rise: u64, next: &Visit)
+    requires { length now.old.tokens.items ≡ length next.now.tokens.items }
+    ensures { visit_of now.new ≡ kept rise (visit_of now.old) (visit_of next.now) }
+{
+    if next.cost <= now.cost.saturating_add(rise) {
+        take(now, next);
+    }
+}
+
+/// The number that the threshold falls from.
+fn height(first: u64) -> u64
+    ensures { result ≡ height first }
+{
+    if first == MAX { 0 } else { first }
+}
+
+/// How many trials there are: one block has no moves.
+pub fn trials(blocks: u16, moves: u32) -> u32
+    ensures trials { result ≡ trials blocks moves }
+    ensures few { result ≤ moves }
+    ensures one { blocks ≡ 1 → result ≡ 0 }
+{
+    if blocks == 1 { 0 } else { moves }
+}
+
+/// A walk over these words (Wong and Liu 1986): the first cheapest of all expressions that it visits, with
+/// its shapes and its cost; none where all cost `MAX`.
+pub fn one_start<R: Rng>(
+    alloc: Global,
+    design: &Design,
+    words: &mut R,
+    moves: u32,
+) -> Result<Option<(Expr, u64)>, NoMemory>
+    ensures walk { IfOk result (IsWalk design.now (R.stream words.old) moves) }
+    ensures floorplan { IfOk result (λ found. IfSome found (λ pair. IsFloorplan design.now pair.0 pair.1)) }
+{
+    let blocks = design.block_count();
+    let spans = whole_spans(alloc, design)?;
+    let tokens = chain(alloc, blocks)?;
+    let first = cost_of(alloc, design, &spans, &tokens)?;
+    let height = height(first);
+    let mut next = Visit {
+        tokens: Vec::from_slice(alloc, &tokens)?,
+        cost: first,
+    };
+    let mut best = Visit {
+        tokens: Vec::from_slice(alloc, &tokens)?,
+        cost: first,
+    };
+    let mut now = Visit {
+        tokens,
+        cost: first,
+    };
+    let trials = trials(blocks, moves);
+    for trial in 0..trials {
+        let kind = words.next_u32();
+        let place = words.next_u32();
+        try_move(alloc, design, &spans, &now, &mut next, kind, place)?;
+        take_cheaper(&mut best, &next);
+        take_kept(&mut now, slack(height, moves, trials - trial), &next);
+    }
+    measure(alloc, design, &spans, &best.tokens)
+}

@@ -1,0 +1,230 @@
+//! Moves of three blocks by hand, and walks beside those of another program.
+
+ghost use Rattle.std.specs.Prelude.{◌≡◌, ◌+◌, ◌<◌, ◌≤◌, All, IfOk, IfSome};
+ghost use Rattle.sf_gsrc.specs.Ranges.{HasPinsInAnyRange};
+ghost use Rattle.sf_model.specs.Admitted.{HasPinsInRange, HasSizes, IsSized};
+
+use rand_pcg::Lcg64Xsh32;
+use sf_anneal::{
+    flip_chain, improve, improved_starts, one_start, run_count, starts, swap_operands, swap_step,
+};
+use sf_gen::{Kinds, design_of};
+use sf_gsrc::{
+    GsrcBlocks, GsrcNets, GsrcPlaces, blocks_have_sizes, join_parts, joined_parts_keep_ranges,
+    nets_name_their_pins, read_blocks, read_nets, read_pl,
+};
+use sf_model::{Design, Outline, Parts, Weights};
+use sf_polish::{Expr, Token, is_normal, push_expr};
+use sf_soft_shapes::lists;
+use std::alloc::{AllocError, Global};
+use std::test::Fail;
+
+/// `0 1 * 2 +`
+const BOTH: [Token; 5] = [
+    Token::Block(0),
+    Token::Block(1),
+    Token::Beside,
+    Token::Block(2),
+    Token::Above,
+];
+
+/// `0 1 + 2 +`
+const ONE: [Token; 5] = [
+    Token::Block(0),
+    Token::Block(1),
+    Token::Above,
+    Token::Block(2),
+    Token::Above,
+];
+
+/// The tokens with two operands in each other's place, where they are normal.
+fn swapped(tokens: [Token; 5], j: usize) -> Option<[Token; 5]> {
+    let mut tokens = tokens;
+    if !is_normal(&tokens, 3) || j > 1 {
+        return None;
+    }
+    swap_operands(&mut tokens, j);
+    Some(tokens)
+}
+
+/// The tokens with a run of operators turned, where they are normal and have it.
+fn flipped(tokens: [Token; 5], k: usize) -> Option<[Token; 5]> {
+    let mut tokens = tokens;
+    if !is_normal(&tokens, 3) || k >= run_count(&tokens) {
+        return None;
+    }
+    flip_chain(&mut tokens, k);
+    Some(tokens)
+}
+
+/// The tokens with two neighbours in each other's place, where they may.
+fn stepped(tokens: [Token; 5], i: usize) -> Option<[Token; 5]> {
+    let mut tokens = tokens;
+    if !is_normal(&tokens, 3) || i > 3 || !swap_step(&mut tokens, i) {
+        return None;
+    }
+    Some(tokens)
+}
+
+/// Each of the three moves, and steps that would leave operators side by side or one with too few operands.
+#[test]
+fn moves_by_hand(rt: HostRuntime) {
+    let exchanged = [
+        Token::Block(1),
+        Token::Block(0),
+        Token::Beside,
+        Token::Block(2),
+        Token::Above,
+    ];
+    let together = [
+        Token::Block(0),
+        Token::Block(1),
+        Token::Block(2),
+        Token::Beside,
+        Token::Above,
+    ];
+    assert!(rt; swapped(BOTH, 0) == Some(exchanged));
+    assert!(rt; flipped(BOTH, 0) == Some(ONE));
+    assert!(rt; stepped(BOTH, 2) == Some(together));
+    assert!(rt; stepped(BOTH, 1).is_none());
+    assert!(rt; stepped(ONE, 2).is_none());
+    assert!(rt; stepped(together, 2) == Some(BOTH));
+}
+
+/// The blocks that a text spells.
+fn blocks_of(alloc: Global, text: &[u8]) -> Result<GsrcBlocks, Fail>
+    ensures { IfOk result (λ out. All (λ b. IsSized b.kind) out.blocks) }
+{
+    blocks_have_sizes();
+    Ok(read_blocks(alloc, text, 1)?)
+}
+
+/// The nets that a text spells.
+fn nets_of(alloc: Global, text: &[u8]) -> Result<Option<GsrcNets>, Fail>
+    ensures { IfOk result (λ nets. IfSome nets (λ out. HasPinsInAnyRange out.nets)) }
+{
+    nets_name_their_pins();
+    Ok(Some(read_nets(alloc, text)?))
+}
+
+/// The parts to which blocks, nets and places are joined.
+fn joined(
+    alloc: Global,
+    blocks: GsrcBlocks,
+    nets: Option<GsrcNets>,
+    places: Option<GsrcPlaces>,
+) -> Result<Parts, Fail>
+    requires sizes { All (λ b. IsSized b.kind) blocks.blocks }
+    requires pins { IfSome nets (λ out. HasPinsInAnyRange out.nets) }
+    ensures pins { IfOk result HasPinsInRange }
+    ensures sizes { IfOk result HasSizes }
+{
+    joined_parts_keep_ranges();
+    Ok(join_parts(alloc, blocks, nets, places)?)
+}
+
+/// The parts of a generated design.
+fn parts_of(alloc: Global, seed: u64, count: u16) -> Result<Parts, Fail>
+    requires some { 1 ≤ count }
+    requires few { count ≤ 320 }
+    ensures pins { IfOk result HasPinsInRange }
+    ensures sizes { IfOk result HasSizes }
+{
+    let texts = design_of(alloc, seed, count, Kinds::Hard)?;
+    let blocks = blocks_of(alloc, texts.blocks.as_slice())?;
+    let nets = nets_of(alloc, texts.nets.as_slice())?;
+    let places = read_pl(alloc, texts.pl.as_slice(), 1)?;
+    joined(alloc, blocks, nets, Some(places))
+}
+
+/// A generated design in an outline with room for all of its plans, whose areas count once and whose wires as
+/// often as this.
+fn generated(alloc: Global, seed: u64, count: u16, wire: u16) -> Result<Design, Fail>
+    requires some { 1 ≤ count }
+    requires few { count ≤ 320 }
+{
+    let parts = parts_of(alloc, seed, count)?;
+    parts.admit(alloc)?;
+    let lists = lists(alloc, &parts, 16, false)?;
+    let net_weights = vec![in alloc; 1; parts.nets.as_slice().len()]?;
+    let outline = Outline {
+        w: 1_048_576,
+        h: 1_048_576,
+    };
+    let weights = Weights { area: 1, wire };
+    Ok(Design::build(alloc, parts, lists, outline, weights, &net_weights)?)
+}
+
+/// The cost and the expression of what was found, in a text.
+fn found_text(alloc: Global, found: &Option<(Expr, u64)>) -> Result<String, AllocError> {
+    let Some((expr, cost)) = found else {
+        return format!(in alloc; "none");
+    };
+    let blocks = expr.shapes.as_slice().len();
+    if blocks > 320 || !is_normal(expr.tokens.as_slice(), blocks as u16) {
+        return format!(in alloc; "not normal");
+    }
+    let mut text = format!(in alloc; "{cost} ")?;
+    push_expr(&mut text, expr)?;
+    Ok(text)
+}
+
+/// Walks that an independent program made in the same words: with wires, without, and the least of four.
+#[test]
+fn walks_of_another_program(rt: HostRuntime) -> Result<(), Fail> {
+    let alloc = rt.alloc();
+    let wired = generated(alloc, 7, 4, 1)?;
+    let mut words = Lcg64Xsh32::new(3, 2);
+    let one = one_start(alloc, &wired, &mut words, 100)?;
+    assert_eq!(rt;
+        found_text(alloc, &one)?.as_str(),
+        "1549 1:12x8 2:5x5 * 0:22x28 + 3:7x30 *"
+    );
+    let flat = generated(alloc, 2, 6, 0)?;
+    let four = starts(&rt, alloc, &flat, 0, 4, 300)?;
+    assert_eq!(rt;
+        found_text(alloc, &four)?.as_str(),
+        "2436 4:32x20 0:32x7 + 1:10x5 3:19x19 + * 5:29x29 * 2:4x26 *"
+    );
+    let six = generated(alloc, 2, 6, 1)?;
+    let four = starts(&rt, alloc, &six, 0, 4, 300)?;
+    assert_eq!(rt;
+        found_text(alloc, &four)?.as_str(),
+        "3843 2:4x26 1:5x10 * 4:20x32 * 5:29x29 * 0:7x32 * 3:19x19 *"
+    );
+    Ok(())
+}
+
+/// An improvement costs less than the walk where there is something to be gained, and the answer of several
+/// in threads is that of the same ones in turn.
+#[test]
+fn improvements_in_threads(rt: HostRuntime) -> Result<(), Fail> {
+    let alloc = rt.alloc();
+    let design = generated(alloc, 2, 6, 1)?;
+    let threads = improved_starts(&rt, alloc, &design, 0, 4, 300, 2000)?;
+    let mut least: Option<(Expr, u64)> = None;
+    for seed in 0..4 {
+        let mut words = Lcg64Xsh32::new(seed, 2);
+        let Some(found) = one_start(alloc, &design, &mut words, 300)? else {
+            continue;
+        };
+        let better = improve(alloc, &design, found, seed, 2000)?;
+        let is_least = match &least {
+            Some(before) => better.1 < before.1,
+            None => true,
+        };
+        if is_least {
+            least = Some(better);
+        }
+    }
+    assert_eq!(rt;
+        found_text(alloc, &threads)?.as_str(),
+        found_text(alloc, &least)?.as_str()
+    );
+    let less = match &threads {
+        Some((_, cost)) => *cost < 3843,
+        None => false,
+    };
+    assert!(rt; less);
+    Ok(())
+}
