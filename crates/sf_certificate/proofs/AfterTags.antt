@@ -1,10 +1,6 @@
 -- Tags, the subproblems that they are read against, and those that wait after them.
 use Rattle.std.proofs.Common.{◌≡◌, ℕ, min, List, [], ◌∷◌, ◌++◌, map, arith, refl, ap, ◌∙◌}
-use Rattle.sf_node.specs.Parts.{Parts}
-use Rattle.sf_certificate.specs.declared.tag.Tag.{Tag}
-use Rattle.sf_certificate.specs.declared.tag.Tag.TheVariants.{Open}
-use Rattle.sf_certificate.specs.Marks.{made, marks, waiting_after}
-use Rattle.sf_certificate.specs.Valid.{left_open, least}
+use Rattle.sf_certificate.proofs.Common.{Parts, Tag, Open, made, marks, waiting_after, left_open, least}
 
 -- an open tag for each of the subproblems
 abbrev pub opens : List Parts → List Tag

@@ -1,25 +1,13 @@
 -- The tree of a text, read byte by byte.
 use Rattle.std.proofs.Common.{◌≡◌, ℕ, ◌+◌, ◌≤◌, List, [], ◌∷◌, ◌++◌, length, take, drop, arith, refl, ap, sym, subst, ◌∙◌, Bool, true, false, append_assoc, length-append, Option, Some, None, Result, Ok, Err}
-use Rattle.std.specs.Prelude.{◌≢◌, IfOk, IfErr}
-use Rattle.std.specs.List.{count_by, position_or_len, slice_get}
-use Rattle.std.proofs.lemmas.Bool.Decides.{nat_tests}
+use Rattle.std.specs.Prelude.{◌≢◌}
+use Rattle.sf_certificate.proofs.Common.{IfOk, IfErr, count_by, position_or_len, slice_get, nat_tests, take-append-drop, is_blank_byte, is_line_feed, has_none, LineWord, last_word_line, first_fails, CertFault, NoMemory, Tag, Version, letter_of, part_of, by_letter, split_by, closed_by, second_by, tags_said, tree_from, Reader, read_on, with_some, Bytewise, begun_word, bytes_on, past_blank, words_on}
 use Rattle.std.proofs.Math.Seq.{take-add}
-use Rattle.std.proofs.lemmas.List.{take-append-drop}
-use Rattle.sf_lex.specs.Text.{is_blank_byte, is_line_feed, has_none}
-use Rattle.sf_lex.specs.Scan.{LineWord, last_word_line}
 use Rattle.sf_lex.specs.Whole.{whole_read}
-use Rattle.sf_lex.proofs.Spelled.{first_fails}
 use Rattle.sf_lex.proofs.WordLines.{words_from, IsRun, IsEnded, run_of, ended_of, words_from-run, words_from-gap}
-use Rattle.sf_certificate.specs.declared.fault.CertFault.{CertFault}
-use Rattle.sf_certificate.specs.declared.fault.CertFault.TheVariants.{NoMemory}
 use Rattle.sf_certificate.specs.declared.letter.HalfTag.{HalfTag}
 use Rattle.sf_certificate.specs.declared.letter.Second.{Second}
 use Rattle.sf_certificate.specs.declared.letter.Second.TheVariants as second
-use Rattle.sf_certificate.specs.declared.tag.Tag.{Tag}
-use Rattle.sf_certificate.specs.declared.version.Version.{Version}
-use Rattle.sf_certificate.specs.Reading.{letter_of, part_of, by_letter, split_by, closed_by, second_by, tags_said, tree_from}
-use Rattle.sf_certificate.specs.Reader.{Reader, read_on, with_some}
-use Rattle.sf_certificate.specs.Bytes.{Bytewise, begun_word, bytes_on, past_blank, words_on}
 
 -- a word without a blank is a run
 pub run-of : (w : List ℕ) → has_none is_blank_byte w ≡ true → IsRun w

@@ -1,20 +1,7 @@
 -- The text of a whole certificate is read as the certificate, by its lines one after another.
 use Rattle.std.proofs.Common.{◌≡◌, ℕ, ◌^◌, ◌<◌, List, [], ◌∷◌, ◌++◌, map, All, arith, refl, ap, sym, ◌∙◌, true, Option, Some, None, Ok, append-nil}
-use Rattle.std.specs.Prelude.{codes}
-use Rattle.std.specs.List.{AllByRecursion}
-use Rattle.std.specs.Fmt.{decimal}
-use Rattle.std.proofs.lemmas.Fmt.{decimal_digit}
-use Rattle.std.proofs.lemmas.List.Elements.{recursion_from_All}
-use Rattle.sf_lex.specs.Text.{lines, is_line_feed, has_none}
-use Rattle.sf_lex.specs.Scan.{numbered, last_line_of}
-use Rattle.sf_polish.specs.declared.expr.Expr.{Expr}
-use Rattle.sf_polish.specs.Text.{IsWritable}
-use Rattle.sf_certificate.specs.declared.cert.Cert.{Cert}
-use Rattle.sf_certificate.specs.declared.version.Version.TheVariants.{Two}
-use Rattle.sf_certificate.specs.Places.{first_place}
-use Rattle.sf_certificate.specs.Text.{plan_text, header_lines, tag_text, text_of_lines, cert_text, FitsTag}
+use Rattle.sf_certificate.proofs.Common.{codes, AllByRecursion, decimal, decimal_digit, recursion_from_All, lines, is_line_feed, has_none, numbered, last_line_of, Expr, IsWritable, Cert, Two, first_place, plan_text, header_lines, tag_text, text_of_lines, cert_text, FitsTag, version_in, line_by, header_read, cert_read, said_by}
 use Rattle.sf_model.specs.CostText.{cost_text}
-use Rattle.sf_certificate.specs.Reading.{version_in, line_by, header_read, cert_read, said_by}
 use Rattle.sf_certificate.proofs.HeaderReads.{header-whole, cert-whole}
 use Rattle.sf_certificate.proofs.WrittenBack.{lines-ended, line-append, decimal-line, tags-lines, tags-back}
 use Rattle.sf_certificate.proofs.HeaderBack.{version-back, number-back, cost-back, plan-back, expr-line, cost-line}

@@ -1,12 +1,7 @@
 -- The tags of a certificate that was read spell a tree.
 use Rattle.std.proofs.Common.{◌≡◌, ℕ, List, [], ◌∷◌, refl, ap, subst, true, None, Result, Ok, Err}
-use Rattle.sf_lex.specs.Text.{lines}
-use Rattle.sf_lex.specs.Scan.{LineWord, numbered, words_of_lines, last_line_of}
-use Rattle.sf_certificate.specs.declared.fault.CertFault.{CertFault}
-use Rattle.sf_certificate.specs.declared.tag.Tag.{Tag}
-use Rattle.sf_certificate.specs.Places.{first_place, spell_tree}
+use Rattle.sf_certificate.proofs.Common.{lines, LineWord, numbered, words_of_lines, last_line_of, CertFault, Tag, first_place, spell_tree, Header, Said, header_read, tags_said, tree_read, cert_read}
 use Rattle.sf_lex.specs.Results.{◌>>=◌}
-use Rattle.sf_certificate.specs.Reading.{Header, Said, header_read, tags_said, tree_read, cert_read}
 use Rattle.sf_certificate.proofs.TreeReads.{read-spells}
 
 module _ (blocks last : ℕ) (said : Said) where

@@ -1,9 +1,6 @@
 -- The places that frames stand for.
 use Rattle.std.proofs.Common.{◌≡◌, ℕ, suc, ◌+◌, ◌-◌, ◌<◌, List, [], ◌∷◌, ◌++◌, length, take, get_or, set, arith, ap, sym, ◌∙◌}
-use Rattle.std.specs.Prelude.{replicate}
-use Rattle.std.specs.List.{flat_map}
-use Rattle.std.proofs.lemmas.List.{take_more, take_more_set, take_all, length-set, reverse-append}
-use Rattle.sf_certificate.specs.declared.place.Place.{Place}
+use Rattle.sf_certificate.proofs.Common.{replicate, flat_map, take_more, take_more_set, take_all, length-set, reverse-append, Place}
 use Rattle.sf_certificate.specs.declared.waiting.Frame.{Frame}
 use Rattle.sf_certificate.specs.Waiting.{places_of}
 

@@ -1,37 +1,21 @@
 -- A header that was written is read as it was.
 use Rattle.std.proofs.Common.{◌≡◌, ℕ, ◌^◌, ◌<◌, List, [], ◌∷◌, ◌++◌, length, map, arith, refl, ap, sym, ◌∙◌, Bool, true, false, cond, ◌==◌, Option, Some, None, Ok}
-use Rattle.std.specs.Prelude.{codes, filter}
-use Rattle.std.specs.List.{AllByRecursion, list_all, join_with_byte, slice_split, onto_first}
+use Rattle.sf_certificate.proofs.Common.{codes, filter, AllByRecursion, list_all, join_with_byte, slice_split, onto_first, decimal, nat_tests, decimal_nonempty, recursion_from_All, is_line_feed, is_blank_byte, has_none, is_not_empty, LineWord, and_parts, eqb-true, eq-eqb, words-blank, Expr, Token, shaped_text, expr_text, IsWritable, Two, no_plan, plan_text, value_after, value_in, version_of, version_of_word, version_in, exactly, number_in, cost_of_word, cost_in, only_word, word_in, plan_read, plan_or, agreeing, plan_of_rest, plan_in}
 use Rattle.std.specs.Option.{option_and_then}
-use Rattle.std.specs.Fmt.{decimal}
 use Rattle.std.specs.Str.{bytes_eq}
-use Rattle.std.proofs.lemmas.Bool.Decides.{nat_tests}
-use Rattle.std.proofs.lemmas.Fmt.{decimal_nonempty}
-use Rattle.std.proofs.lemmas.List.Elements.{recursion_from_All}
 use Rattle.sf_model.specs.declared.TheConstants.{MAX}
 use Rattle.sf_lex.specs.Number.{is_digit}
-use Rattle.sf_lex.specs.Text.{is_line_feed, is_blank_byte, has_none, is_not_empty}
-use Rattle.sf_lex.specs.Scan.{LineWord}
 use Rattle.sf_lex.specs.Whole.{plain_read}
-use Rattle.std.proofs.lemmas.Bool.{and_parts, eqb-true, eq-eqb}
-use Rattle.sf_lex.proofs.Spelled.{words-blank}
 use Rattle.sf_lex.proofs.WordLines.{words_from-gap}
 use Rattle.sf_lex.proofs.WrittenNumbers.{digits_written, plain_written}
-use Rattle.sf_polish.specs.declared.expr.Expr.{Expr}
-use Rattle.sf_polish.specs.declared.expr.Token.{Token}
 use Rattle.sf_polish.specs.declared.expr.Token.TheVariants as token
 use Rattle.sf_polish.specs.Normal.{is_outside}
 use Rattle.sf_polish.specs.Postfix.{shape_at}
-use Rattle.sf_polish.specs.Text.{shaped_text, expr_text, IsWritable}
 use Rattle.sf_polish.specs.Reading.{expr_read}
 use Rattle.sf_polish.proofs.WordTexts.{below}
 use Rattle.sf_polish.proofs.Respelled.{expr-written}
 use Rattle.sf_polish.proofs.TextLaws.{spelled-expr}
-use Rattle.sf_certificate.specs.declared.version.Version.TheVariants.{Two}
-use Rattle.sf_certificate.specs.Form.{no_plan}
-use Rattle.sf_certificate.specs.Text.{plan_text}
 use Rattle.sf_model.specs.CostText.{cost_text}
-use Rattle.sf_certificate.specs.Reading.{value_after, value_in, version_of, version_of_word, version_in, exactly, number_in, cost_of_word, cost_in, only_word, word_in, plan_read, plan_or, agreeing, plan_of_rest, plan_in}
 use Rattle.sf_certificate.proofs.WrittenBack.{words-labelled, decimal-solid, decimal-line, line-append}
 
 -- ---- a label and a value

@@ -1,12 +1,6 @@
 -- The header of a text, read line by line.
 use Rattle.std.proofs.Common.{◌≡◌, ℕ, List, drop, refl, ap, ◌∙◌, Option, Ok}
-use Rattle.std.specs.Prelude.{codes}
-use Rattle.sf_lex.specs.Text.{Cursor, lines, line_at}
-use Rattle.sf_lex.specs.Scan.{Line, numbered, numbered_rest, words_of_lines, last_line_of}
-use Rattle.sf_polish.specs.declared.expr.Expr.{Expr}
-use Rattle.sf_certificate.specs.declared.tag.Tag.{Tag}
-use Rattle.sf_certificate.specs.declared.version.Version.{Version}
-use Rattle.sf_certificate.specs.Reading.{Header, version_in, number_in, cost_in, plan_in, word_in, line_read, header_read, tree_read, cert_read}
+use Rattle.sf_certificate.proofs.Common.{codes, Cursor, lines, line_at, Line, numbered, numbered_rest, words_of_lines, last_line_of, Expr, Tag, Version, Header, version_in, number_in, cost_in, plan_in, word_in, line_read, header_read, tree_read, cert_read}
 
 -- six lines that stand as shown
 pub header-whole : (blocks last : ℕ) (v : Version) (l0 l1 l2 l3 l4 l5 l6 : List Line) (cost bound : ℕ) (plan : Option Expr) → line_read last (version_in (codes "slicing-certificate")) l0 ≡ Ok (v, l1) → line_read last (number_in (codes "blocks") blocks) l1 ≡ Ok (blocks, l2) → line_read last (cost_in (codes "cost")) l2 ≡ Ok (cost, l3) → line_read last (cost_in (codes "bound")) l3 ≡ Ok (bound, l4) → line_read last (plan_in blocks cost) l4 ≡ Ok (plan, l5) → line_read last (word_in (codes "tree")) l5 ≡ Ok (codes "tree", l6) → header_read blocks last l0 ≡ Ok (record { version = v; plan = plan; cost = cost; bound = bound; others = l6 })

@@ -1,25 +1,8 @@
 -- Trees whose closed subproblems name other parts.
 use Rattle.std.proofs.Common.{◌≡◌, ℕ, ◌≤◌, List, [], ◌∷◌, ◌++◌, map, arith, refl, ap, sym, subst, ◌∙◌, ◌&&◌}
-use Rattle.std.specs.Prelude.{nat_lt}
-use Rattle.std.specs.List.{AllByRecursion}
-use Rattle.std.proofs.lemmas.Bool.Decides.{nat_tests}
-use Rattle.std.proofs.lemmas.List.Elements.{recursion_from_All}
-use Rattle.sf_model.specs.declared.design.Design.{Design}
-use Rattle.sf_model.proofs.Each.{each-append}
-use Rattle.sf_node.specs.declared.part.Part.{Part}
-use Rattle.sf_node.specs.declared.part.Part.TheVariants.{Full}
-use Rattle.sf_node.specs.Parts.{Parts}
+use Rattle.sf_certificate.proofs.Common.{nat_lt, AllByRecursion, nat_tests, recursion_from_All, Design, each-append, Part, Full, Parts, root, IsSubproblem, root-subproblem, Mark, Place, Tag, made, marks, waiting_after, IsFair, first_place, places_under, spell_trees, spell_tree, AreTrees, left_open, decided}
 use Rattle.sf_node.specs.ByPart.{ArePartsOf, first_part}
-use Rattle.sf_node.specs.Subproblem.{root}
-use Rattle.sf_node.specs.Children.{IsSubproblem}
-use Rattle.sf_node.proofs.Reached.{root-subproblem}
-use Rattle.sf_certificate.specs.declared.mark.Mark.{Mark}
-use Rattle.sf_certificate.specs.declared.place.Place.{Place}
-use Rattle.sf_certificate.specs.declared.tag.Tag.{Tag}
-use Rattle.sf_certificate.specs.Marks.{made, marks, waiting_after, IsFair}
 use Rattle.sf_certificate.specs.Named.{NamesFirst, AllNameFirst, unnamed, unnamed_mark}
-use Rattle.sf_certificate.specs.Places.{first_place, places_under, spell_trees, spell_tree}
-use Rattle.sf_certificate.specs.Valid.{AreTrees, left_open, decided}
 use Rattle.sf_certificate.proofs.Growth.{made-subproblems, trees-first, trees-step}
 
 -- ---- what names change nothing of

@@ -1,11 +1,7 @@
 -- A certificate is known by what it says: the proof of its form adds nothing.
 use Rattle.std.proofs.Common.{◌≡◌, ℕ, List, Option, ap, subst}
 use Rattle.std.proofs.Props.{props}
-use Rattle.sf_polish.specs.declared.expr.Expr.{Expr}
-use Rattle.sf_certificate.specs.declared.cert.Cert.{Cert}
-use Rattle.sf_certificate.specs.declared.tag.Tag.{Tag}
-use Rattle.sf_certificate.specs.Form.{IsFormed}
-use Rattle.sf_certificate.specs.Reading.{Said, said_by}
+use Rattle.sf_certificate.proofs.Common.{Expr, Cert, Tag, IsFormed, Said, said_by}
 
 -- what is said has the form of a certificate
 abbrev Formed : Said → Type 0

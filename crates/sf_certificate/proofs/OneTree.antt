@@ -1,21 +1,6 @@
 -- The tags of a tree follow from its marks in any order.
 use Rattle.std.proofs.Common.{◌≡◌, ℕ, List, [], ◌∷◌, map, ap, sym, ◌∙◌, false, Less, IsPermutation}
-use Rattle.std.specs.List.{AllByRecursion}
-use Rattle.std.specs.Ordering.{is_lt, ordering_reverse}
-use Rattle.std.proofs.lemmas.Cmp.{on_total, nat_cmp_total, lists_total}
-use Rattle.sf_model.specs.declared.design.Design.{Design}
-use Rattle.sf_model.proofs.Each.{EachPair-weaker}
-use Rattle.sf_node.specs.declared.step.Step.{Step}
-use Rattle.sf_node.specs.declared.part.Part.{Part}
-use Rattle.sf_node.specs.Parts.{Parts}
-use Rattle.sf_node.specs.Order.{rank, steps_cmp}
-use Rattle.sf_node.specs.Subproblem.{root}
-use Rattle.sf_node.specs.Children.{IsSubproblem}
-use Rattle.sf_node.proofs.Reached.{root-subproblem}
-use Rattle.sf_certificate.specs.declared.mark.Mark.{Mark}
-use Rattle.sf_certificate.specs.declared.tag.Tag.{Tag}
-use Rattle.sf_certificate.specs.Valid.{AreTrees}
-use Rattle.sf_certificate.specs.Marks.{marks}
+use Rattle.sf_certificate.proofs.Common.{AllByRecursion, is_lt, ordering_reverse, on_total, nat_cmp_total, lists_total, Design, EachPair-weaker, Step, Part, Parts, rank, steps_cmp, root, IsSubproblem, root-subproblem, Mark, Tag, AreTrees, marks}
 use Rattle.sf_certificate.proofs.Totals.{total-permutation}
 use Rattle.sf_certificate.proofs.Ascending.{marks-rising}
 use Rattle.sf_certificate.proofs.Merged.{same-marks, marks-good, marks-tags}

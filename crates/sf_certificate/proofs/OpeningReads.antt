@@ -1,19 +1,8 @@
 -- A text whose header is there is read as the header and the bytes behind it.
 use Rattle.std.proofs.Common.{◌≡◌, ℕ, suc, ◌+◌, List, [], ◌∷◌, ◌++◌, length, arith, refl, ap, sym, ◌∙◌, Bool, true, false, cond, append_assoc, append-nil, Option, Result, Ok, Err}
-use Rattle.std.specs.Prelude.{codes}
-use Rattle.std.specs.List.{count_by}
-use Rattle.std.proofs.lemmas.List.{nil_from_length}
-use Rattle.std.proofs.lemmas.List.Sums.{sum_by-cons}
+use Rattle.sf_certificate.proofs.Common.{codes, count_by, nil_from_length, sum_by-cons, is_line_feed, lines, Line, numbered, words_of_line, words_of_lines, last_word_line, last_line_of, Expr, CertFault, Tag, Version, Header, version_in, number_in, cost_in, plan_in, word_in, line_read, header_read, tree_read, cert_read, IsHeader, first_byte, bytes_on, said_with}
 use Rattle.std.proofs.lemmas.Grind.{flat_map-append}
-use Rattle.sf_lex.specs.Text.{is_line_feed, lines}
-use Rattle.sf_lex.specs.Scan.{Line, numbered, words_of_line, words_of_lines, last_word_line, last_line_of}
-use Rattle.sf_polish.specs.declared.expr.Expr.{Expr}
-use Rattle.sf_certificate.specs.declared.fault.CertFault.{CertFault}
-use Rattle.sf_certificate.specs.declared.tag.Tag.{Tag}
-use Rattle.sf_certificate.specs.declared.version.Version.{Version}
 use Rattle.sf_lex.specs.Results.{◌>>=◌}
-use Rattle.sf_certificate.specs.Reading.{Header, version_in, number_in, cost_in, plan_in, word_in, line_read, header_read, tree_read, cert_read}
-use Rattle.sf_certificate.specs.Bytes.{IsHeader, first_byte, bytes_on, said_with}
 use Rattle.sf_certificate.proofs.ByteReads.{last-append}
 
 -- ---- lines that are ended

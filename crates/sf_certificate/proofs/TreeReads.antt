@@ -1,19 +1,9 @@
 -- The tree of a text, read tag by tag.
 use Rattle.std.proofs.Common.{◌≡◌, ℕ, ◌<◌, ◌≤◌, List, [], ◌∷◌, ◌++◌, arith, refl, ap, sym, subst, ◌∙◌, Bool, true, false, cond, append_assoc, append-nil, ◌&&◌, Option, Some, None, Result, Ok, Err}
-use Rattle.std.specs.Prelude.{nat_lt}
-use Rattle.std.proofs.lemmas.Bool.Decides.{nat_tests}
-use Rattle.sf_lex.specs.Scan.{LineWord}
-use Rattle.sf_certificate.specs.declared.fault.CertFault.{CertFault}
-use Rattle.sf_certificate.specs.declared.fault.CertFault.TheVariants.{TooDeep, Truncated, Trailing}
+use Rattle.sf_certificate.proofs.Common.{nat_lt, nat_tests, LineWord, CertFault, TooDeep, Truncated, Trailing, Place, Tag, Version, places_under, spell_trees, letter_of, by_letter, tag_by, tags_said, with_tag, tag_at, tree_from, Reader, read_on, with_tags}
 use Rattle.sf_certificate.specs.declared.letter.HalfTag.{HalfTag}
 use Rattle.sf_certificate.specs.declared.letter.Letter.{Letter}
-use Rattle.sf_certificate.specs.declared.place.Place.{Place}
-use Rattle.sf_certificate.specs.declared.tag.Tag.{Tag}
-use Rattle.sf_certificate.specs.declared.version.Version.{Version}
 use Rattle.sf_certificate.specs.declared.letter.TagSaid.{TagSaid}
-use Rattle.sf_certificate.specs.Places.{places_under, spell_trees}
-use Rattle.sf_certificate.specs.Reading.{letter_of, by_letter, tag_by, tags_said, with_tag, tag_at, tree_from}
-use Rattle.sf_certificate.specs.Reader.{Reader, read_on, with_tags}
 
 -- one tag more before what follows
 pub with_tags-more : (tags : List Tag) (tag : Tag) (r : Result (List Tag) CertFault) → with_tags tags (with_tag tag r) ≡ with_tags (tags ++ tag ∷ []) r

@@ -1,30 +1,11 @@
 -- Lines, words and tags that were written are read as they were.
 use Rattle.std.proofs.Common.{◌≡◌, ℕ, ◌+◌, ◌^◌, ◌<◌, List, [], ◌∷◌, ◌++◌, length, map, arith, refl, ap, ◌∙◌, true, cond, not, None, Result, Ok, Err, append_assoc}
-use Rattle.std.specs.Prelude.{nat_lt}
-use Rattle.std.specs.List.{AllByRecursion}
-use Rattle.std.specs.Fmt.{decimal}
-use Rattle.std.proofs.lemmas.Bool.Decides.{nat_tests}
-use Rattle.std.proofs.lemmas.Fmt.{decimal_nonempty}
+use Rattle.sf_certificate.proofs.Common.{nat_lt, AllByRecursion, decimal, nat_tests, decimal_nonempty, lines, words, is_line_feed, is_blank_byte, has_none, LineWord, numbered, words_of_line, words_of_lines, and_parts, lines-written, words-written, words-last, CertFault, TooDeep, Place, Part, Area, Range, Pair, Hull, Full, Tag, Extend, Split, Closed, Open, Two, places_under, spell_trees, tag_text, text_of_lines, FitsTag, tags_said, split_by, with_tag, tree_from}
 use Rattle.std.proofs.lemmas.List.Folds.{list_all-append}
 use Rattle.sf_lex.specs.Number.{is_digit}
-use Rattle.sf_lex.specs.Text.{lines, words, is_line_feed, is_blank_byte, has_none}
-use Rattle.sf_lex.specs.Scan.{LineWord, numbered, words_of_line, words_of_lines}
-use Rattle.std.proofs.lemmas.Bool.{and_parts}
-use Rattle.sf_lex.proofs.Spelled.{lines-written, words-written, words-last}
 use Rattle.sf_lex.proofs.WrittenNumbers.{digits_written, whole_written}
 use Rattle.sf_polish.proofs.WordTexts.{all-weaker}
-use Rattle.sf_certificate.specs.declared.fault.CertFault.{CertFault}
-use Rattle.sf_certificate.specs.declared.fault.CertFault.TheVariants.{TooDeep}
-use Rattle.sf_certificate.specs.declared.place.Place.{Place}
-use Rattle.sf_node.specs.declared.part.Part.{Part}
-use Rattle.sf_node.specs.declared.part.Part.TheVariants.{Area, Range, Pair, Hull, Full}
-use Rattle.sf_certificate.specs.declared.tag.Tag.{Tag}
-use Rattle.sf_certificate.specs.declared.tag.Tag.TheVariants.{Extend, Split, Closed, Open}
-use Rattle.sf_certificate.specs.declared.version.Version.TheVariants.{Two}
 use Rattle.sf_certificate.specs.declared.letter.TagSaid.{TagSaid}
-use Rattle.sf_certificate.specs.Places.{places_under, spell_trees}
-use Rattle.sf_certificate.specs.Text.{tag_text, text_of_lines, FitsTag}
-use Rattle.sf_certificate.specs.Reading.{tags_said, split_by, with_tag, tree_from}
 
 -- ---- lines
 

@@ -1,25 +1,11 @@
 -- The answer that the walk leads to, and that it is Yes just where the certificate is valid.
 use Rattle.std.proofs.Common.{◌≡◌, ◌≢◌, ℕ, [], ◌∷◌, map, arith, refl, ap, sym, subst, ◌∙◌, true, inl, inr, Ok, Option, Some, None}
-use Rattle.std.specs.Prelude.{MatchOption, ◌↔◌, All, Contains}
-use Rattle.sf_model.specs.declared.design.Design.{Design}
-use Rattle.sf_model.specs.Tree.{leaves}
-use Rattle.sf_model.specs.Legal.{block_count, shapes_of, Fits}
+use Rattle.std.specs.Prelude.{◌↔◌}
+use Rattle.sf_checker.proofs.Common.{MatchOption, All, Contains, Design, leaves, block_count, shapes_of, Fits, MAX, Expr, Part, Parts, root, Cert, place_of, spell_trees, HasCost, IsValid, Why, Answer, Progress, walked, start, IsPlanRight, IsUnfit, IsOtherBound, IsFirst, IsRight, IsAnswer, is_yes}
 use Rattle.sf_model.specs.Cost.{cost}
-use Rattle.sf_model.specs.declared.TheConstants.{MAX}
-use Rattle.sf_polish.specs.declared.expr.Expr.{Expr}
 use Rattle.sf_polish.proofs.Spelling.{spells-one}
-use Rattle.sf_node.specs.declared.part.Part.{Part}
-use Rattle.sf_node.specs.Parts.{Parts}
-use Rattle.sf_node.specs.Subproblem.{root}
 use Rattle.sf_node.proofs.Reached.{root-subproblem}
-use Rattle.sf_certificate.specs.declared.cert.Cert.{Cert}
-use Rattle.sf_certificate.specs.Places.{place_of, spell_trees}
-use Rattle.sf_certificate.specs.Valid.{HasCost, IsValid}
-use Rattle.sf_checker.specs.declared.answer.Why.{Why}
-use Rattle.sf_checker.specs.declared.answer.Answer.{Answer}
 use Rattle.sf_checker.specs.declared.answer.Answer.TheVariants.{Yes, No}
-use Rattle.sf_checker.specs.Walking.{Progress, walked, start}
-use Rattle.sf_checker.specs.Answers.{IsPlanRight, IsUnfit, IsOtherBound, IsFirst, IsRight, IsAnswer, is_yes}
 use Rattle.sf_checker.proofs.Walks.{IsSeen, seen, faulty}
 
 -- a plan has one cost

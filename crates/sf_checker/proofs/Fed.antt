@@ -1,33 +1,18 @@
 -- What a text has come to, byte by byte.
-use Rattle.std.proofs.Math.Seq.{take-suc, take-add}
-use Rattle.std.proofs.lemmas.List.{take-append-drop, take_all, length-drop}
+use Rattle.sf_checker.proofs.Common.{take-suc, take-add, take-append-drop, take_all, length-drop, MatchOption, OnOk, ⊤, Design, MAX, block_count, Part, Parts, Cert, Tag, cert_read, with_tag, Answer, Opening, Tree, Fault, IsAnswer, Judged, IsFound, HoldsOneWay, IsBody, IsFaulty, IsReady, IsStage}
 use Rattle.std.proofs.Common.{◌≡◌, ℕ, suc, ◌+◌, ◌-◌, ◌<◌, length, take, drop, get_or, arith, List, [], ◌∷◌, ◌++◌, refl, ap, sym, subst, ◌∙◌, append_assoc, append-nil, ◌==◌, Result, Ok, Err}
-use Rattle.std.specs.Prelude.{MatchOption, OnOk, ⊤}
-use Rattle.sf_model.specs.declared.design.Design.{Design}
-use Rattle.sf_model.specs.declared.TheConstants.{MAX}
-use Rattle.sf_model.specs.Legal.{block_count}
 use Rattle.sf_polish.specs.Text.{IsWritable}
-use Rattle.sf_node.specs.declared.part.Part.{Part}
-use Rattle.sf_node.specs.Parts.{Parts}
-use Rattle.sf_certificate.specs.declared.cert.Cert.{Cert}
 use Rattle.sf_certificate.specs.declared.fault.CertFault.{CertFault}
 use Rattle.sf_certificate.specs.declared.header.Header.{Header}
-use Rattle.sf_certificate.specs.declared.tag.Tag.{Tag}
 use Rattle.sf_certificate.specs.Form.{no_plan}
 use Rattle.sf_certificate.specs.Bytes.{Bytewise, bytes_on, said_with}
-use Rattle.sf_certificate.specs.Reading.{cert_read, with_tag}
 use Rattle.sf_certificate.specs.Reader.{with_tags}
 use Rattle.sf_certificate.proofs.TreeReads.{with_tags-more, with_tags-none}
 use Rattle.sf_certificate.proofs.CertSpells.{cert-spells}
 use Rattle.sf_cursor.proofs.Ways.{one-way}
-use Rattle.sf_checker.specs.declared.answer.Answer.{Answer}
 use Rattle.sf_checker.specs.declared.stage.Body.{Body}
 use Rattle.sf_checker.specs.declared.stage.Stage.{Stage}
-use Rattle.sf_checker.specs.declared.stage.Stage.TheVariants.{Opening, Tree, Fault}
-use Rattle.sf_checker.specs.Answers.{IsAnswer}
-use Rattle.sf_checker.specs.Standing.{Judged, IsFound}
 use Rattle.sf_checker.specs.Feeding.{IsAnswerTo, IsFed}
-use Rattle.sf_checker.specs.Stages.{HoldsOneWay, IsBody, IsFaulty, IsReady, IsStage}
 
 module _ (design : Design) (bound : Parts → ℕ) (part : Parts → Part → ℕ) (text : List ℕ) where
   -- the header was read

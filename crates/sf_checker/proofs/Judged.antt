@@ -1,20 +1,7 @@
 -- What is found, tag by tag.
 use Rattle.std.proofs.Common.{◌≡◌, ◌⊎◌, inl, inr, ℕ, suc, ◌+◌, ◌<◌, length, false, List, [], ◌∷◌, ◌++◌, take, drop, get_or, arith, refl, ap, sym, subst, ◌∙◌, append_assoc, Option, Some, None, Result, Ok, Err}
-use Rattle.std.proofs.Math.Seq.{drop-cons, take-suc}
-use Rattle.std.proofs.lemmas.List.{take-append-drop}
-use Rattle.std.specs.Prelude.{◌≢◌, MatchOption, is_some}
-use Rattle.sf_model.specs.declared.design.Design.{Design}
-use Rattle.sf_model.specs.Legal.{block_count}
-use Rattle.sf_node.specs.declared.part.Part.{Part}
-use Rattle.sf_node.specs.Parts.{Parts}
-use Rattle.sf_node.specs.Subproblem.{root}
-use Rattle.sf_certificate.specs.declared.cert.Cert.{Cert}
-use Rattle.sf_certificate.specs.declared.tag.Tag.{Tag}
-use Rattle.sf_checker.specs.declared.answer.Why.{Why}
-use Rattle.sf_checker.specs.declared.answer.Why.TheVariants.{BadPlan, CostDiffers, BoundDiffers}
-use Rattle.sf_checker.specs.Answers.{IsPlanRight, IsBadPlan, IsOtherCost, IsFirst, IsRight}
-use Rattle.sf_checker.specs.Walking.{Progress, visited, walked, and_then, start}
-use Rattle.sf_checker.specs.Standing.{Stand, Judged, IsFound, progress_of}
+use Rattle.sf_checker.proofs.Common.{drop-cons, take-suc, take-append-drop, MatchOption, is_some, Design, block_count, Part, Parts, root, Cert, Tag, Why, BadPlan, CostDiffers, BoundDiffers, IsPlanRight, IsBadPlan, IsOtherCost, IsFirst, IsRight, Progress, visited, walked, and_then, start, Stand, Judged, IsFound, progress_of}
+use Rattle.std.specs.Prelude.{◌≢◌}
 use Rattle.sf_checker.proofs.Answered.{answer-yes, answer-bound}
 use Rattle.sf_checker.proofs.Walks.{walked-append, walked-one}
 

@@ -1,18 +1,7 @@
 -- A certificate has one answer.
 use Rattle.std.proofs.Common.{◌≡◌, ℕ, [], ◌∷◌, inl, inr, refl, ap, sym, subst, ◌∙◌, Option, Some, Result, Err}
-use Rattle.sf_model.specs.declared.design.Design.{Design}
-use Rattle.sf_polish.specs.declared.expr.Expr.{Expr}
-use Rattle.sf_node.specs.declared.part.Part.{Part}
-use Rattle.sf_node.specs.Parts.{Parts}
-use Rattle.sf_node.specs.Subproblem.{root}
-use Rattle.sf_certificate.specs.declared.cert.Cert.{Cert}
-use Rattle.sf_certificate.specs.Valid.{HasCost}
-use Rattle.sf_checker.specs.declared.answer.Why.{Why}
-use Rattle.sf_checker.specs.declared.answer.Why.TheVariants.{CostDiffers, BoundDiffers}
-use Rattle.sf_checker.specs.declared.answer.Answer.{Answer}
+use Rattle.sf_checker.proofs.Common.{Design, Expr, Part, Parts, root, Cert, HasCost, Why, CostDiffers, BoundDiffers, Answer, Progress, walked, start, IsPlanRight, IsBadPlan, IsOtherCost, IsBadTree, IsOtherBound, IsFirst, IsAnswer}
 use Rattle.sf_checker.specs.declared.answer.Answer.TheVariants.{Yes, No}
-use Rattle.sf_checker.specs.Walking.{Progress, walked, start}
-use Rattle.sf_checker.specs.Answers.{IsPlanRight, IsBadPlan, IsOtherCost, IsBadTree, IsOtherBound, IsFirst, IsAnswer}
 use Rattle.sf_checker.proofs.Answered.{cost-one, unfit-costless, plan-of, first-invalid}
 use Rattle.sf_checker.proofs.Walks.{faulty}
 

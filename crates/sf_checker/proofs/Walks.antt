@@ -1,27 +1,14 @@
 -- What the walk keeps and finds.
 use Rattle.std.proofs.Common.{◌≡◌, ℕ, ◌+◌, ◌<◌, ◌≤◌, min, List, [], ◌∷◌, ◌++◌, length, map, arith, refl, ap, sym, subst, ◌∙◌, Bool, true, false, cond, ◌&&◌, inl, inr, ◌⊎◌, Option, Some, None, Result, Ok, Err}
-use Rattle.std.specs.Prelude.{nat_lt}
+use Rattle.sf_checker.proofs.Common.{nat_lt, map-append, Design, block_count, Part, Parts, is_complete, is_wide, span_of, Tag, Extend, Split, Closed, Open, place_of, places_under, spell_trees, AreTrees, left_open, least, decided, one_decided, Why, NotClosed, BadSplit, BadChildren, Progress, fault_at, low_after, walk_past, unless, visited, walked, and_then}
 use Rattle.std.specs.List.{AllByRecursion}
 use Rattle.std.proofs.lemmas.Bool.Decides.{nat_tests}
-use Rattle.std.proofs.lemmas.List.{map-append}
-use Rattle.sf_model.specs.declared.design.Design.{Design}
-use Rattle.sf_model.specs.Legal.{block_count}
 use Rattle.sf_model.proofs.Each.{each-append}
-use Rattle.sf_node.specs.declared.part.Part.{Part}
-use Rattle.sf_node.specs.Parts.{Parts}
-use Rattle.sf_node.specs.Subproblem.{is_complete, is_wide, span_of}
 use Rattle.sf_node.specs.Children.{extended, split, can_split, IsSubproblem}
-use Rattle.sf_certificate.specs.declared.tag.Tag.{Tag}
-use Rattle.sf_certificate.specs.declared.tag.Tag.TheVariants.{Extend, Split, Closed, Open}
-use Rattle.sf_certificate.specs.Places.{place_of, places_under, spell_trees}
-use Rattle.sf_certificate.specs.Valid.{AreTrees, left_open, least, decided, one_decided}
 use Rattle.sf_certificate.specs.Marks.{made, IsFair}
 use Rattle.sf_certificate.proofs.AfterTags.{least-min}
 use Rattle.sf_certificate.proofs.Places.{places-made}
 use Rattle.sf_certificate.proofs.Growth.{made-subproblems, trees-first}
-use Rattle.sf_checker.specs.declared.answer.Why.{Why}
-use Rattle.sf_checker.specs.declared.answer.Why.TheVariants.{NotClosed, BadSplit, BadChildren}
-use Rattle.sf_checker.specs.Walking.{Progress, fault_at, low_after, walk_past, unless, visited, walked, and_then}
 
 -- a choice of a failure that gives none was not taken
 some-else : (b : Bool) (why : Why) → cond b (Some why) None ≡ None → b ≡ false

@@ -15,9 +15,9 @@ use Rattle.sf_node.specs.Children.{after, walk, extended, split, CanStep, IsSubp
 use Rattle.sf_node.specs.Later.{later, extending, behind, pending, halved, HalvesOne, IsChildOf}
 use Rattle.sf_node.proofs.Depth.{subproblem-shallow}
 use Rattle.sf_node.proofs.Reached.{steps-after, after-subproblem, subproblem-spans, spans-after}
-use Rattle.sf_node.proofs.Later.{came-from, entered, behind-after, later-can, extending-can, extending-is}
+use Rattle.sf_node.proofs.Later.{came-from, behind-append, later-can, extending-can, extending-is}
 use Rattle.sf_cursor.specs.declared.level.Level.{Level}
-use Rattle.sf_cursor.specs.Path.{Path, IsLevel, AreLevels, AreUsed, flags_after, step_blocks, NamesOne, IsPath, IsBack, IsOneWay, most_steps}
+use Rattle.sf_cursor.specs.Path.{Path, IsLevel, AreLevels, AreUsed, flags_after, step_blocks, NamesOne, IsPath, IsBack, IsOneWay, most_steps, beyond, waiting}
 use Rattle.sf_cursor.proofs.Flags.{used-on, used-back, operands-after, names-one}
 
 -- one step more
@@ -115,15 +115,43 @@ path-back design bound old new front s level at e ls leaves u o =
       worth = subst (λ n. IfSome level.value (λ v. v ≡ bound n)) (sym here) parts.last.worth;
     }
 
+-- what is beyond a longer way: the later steps at its end, and what was beyond before
+pub beyond-append : (floor : ℕ) (node : Parts) (ss : List Step) (s : Step) → floor ≤ length ss → beyond floor node (ss ++ s ∷ []) ≡ map (after (walk node ss)) (later (walk node ss) s) ++ beyond floor node ss
+beyond-append zero node ss s h = behind-append node ss s
+beyond-append (suc k) node [] s h = absurd (omega (arith, h))
+beyond-append (suc k) node (x ∷ ss) s h = beyond-append k (after node x) ss s (omega (arith, h))
+
+-- what is beyond a child: its later siblings, and what is beyond the subproblem itself
+pub beyond-after : (design : Design) (floor : ℕ) (node : Parts) (s : Step) → IsSubproblem design node → floor ≤ length node.steps → beyond floor (root design) (after node s).steps ≡ map (after node) (later node s) ++ beyond floor (root design) node.steps
+beyond-after design floor node s sub h =
+    ap (beyond floor (root design)) (steps-after node s) ∙ beyond-append floor (root design) node.steps s h
+    ∙ ap (λ n. map (after n) (later n s) ++ beyond floor (root design) node.steps) (sym sub.is)
+
+-- nothing is beyond a way that ends at the floor
+pub beyond-none : (floor : ℕ) (node : Parts) (ss : List Step) → length ss ≤ floor → beyond floor node ss ≡ []
+beyond-none zero node [] h = refl
+beyond-none zero node (s ∷ ss) h = absurd (omega (arith, h))
+beyond-none (suc k) node [] h = refl
+beyond-none (suc k) node (s ∷ ss) h = beyond-none k (after node s) ss (omega (arith, h))
+
+-- entering the first of some steps
+pub over : (design : Design) (floor : ℕ) (node : Parts) (s : Step) (steps : List Step) → IsSubproblem design node → floor ≤ length node.steps → steps ≡ s ∷ later node s → map (after node) steps ++ beyond floor (root design) node.steps ≡ waiting design floor true (after node s)
+over design floor node s steps sub h e =
+    ap (λ z. map (after node) z ++ beyond floor (root design) node.steps) e ∙ ap (λ z. after node s ∷ z) (sym (beyond-after design floor node s sub h))
+
 -- past a subproblem whose last step has no later one
-pub passed : (design : Design) (bound : Parts → ℕ) (old : Parts) (s : Step) (value : Option ℕ) (new : Path) → IsBack design bound old s value new → later new.node s ≡ [] → behind (root design) old.steps ≡ behind (root design) new.node.steps
-passed design bound old s value new back none =
-    ap (λ (n : Parts). behind (root design) n.steps) back.is ∙ behind-after design new.node s back.at.sub ∙ ap (λ z. map (after new.node) z ++ behind (root design) new.node.steps) none
+pub passed : (design : Design) (bound : Parts → ℕ) (floor : ℕ) (old : Parts) (s : Step) (value : Option ℕ) (new : Path) → IsBack design bound old s value new → floor ≤ length new.node.steps → later new.node s ≡ [] → beyond floor (root design) old.steps ≡ beyond floor (root design) new.node.steps
+passed design bound floor old s value new back h none =
+    ap (λ (n : Parts). beyond floor (root design) n.steps) back.is ∙ beyond-after design floor new.node s back.at.sub h ∙ ap (λ z. map (after new.node) z ++ beyond floor (root design) new.node.steps) none
 
 -- past a subproblem, over to the step that comes next
-pub turned : (design : Design) (bound : Parts → ℕ) (old : Parts) (s next : Step) (value : Option ℕ) (new : Path) (child : Parts) → IsBack design bound old s value new → later new.node s ≡ next ∷ later new.node next → child ≡ after new.node next → pending design true child ≡ behind (root design) old.steps
-turned design bound old s next value new child back e is =
-    ap (pending design true) is ∙ sym (entered design new.node next (later new.node s) back.at.sub e) ∙ sym (behind-after design new.node s back.at.sub) ∙ ap (λ (n : Parts). behind (root design) n.steps) (sym back.is)
+pub turned : (design : Design) (bound : Parts → ℕ) (floor : ℕ) (old : Parts) (s next : Step) (value : Option ℕ) (new : Path) (child : Parts) → IsBack design bound old s value new → floor ≤ length new.node.steps → later new.node s ≡ next ∷ later new.node next → child ≡ after new.node next → waiting design floor true child ≡ beyond floor (root design) old.steps
+turned design bound floor old s next value new child back h e is =
+    ap (waiting design floor true) is ∙ sym (over design floor new.node next (later new.node s) back.at.sub h e) ∙ sym (beyond-after design floor new.node s back.at.sub h) ∙ ap (λ (n : Parts). beyond floor (root design) n.steps) (sym back.is)
+
+-- one step on is no less far from the floor
+pub farther : (floor : ℕ) (node child : Parts) (s : Step) → floor ≤ length node.steps → child ≡ after node s → floor ≤ length child.steps
+farther floor node child s h is = omega (arith, h, ap (λ (n : Parts). length n.steps) is, ap length (steps-after node s), length-append node.steps (s ∷ []))
 
 -- the step that comes next after one that can be taken can be
 pub next-can : (node : Parts) (s next : Step) → CanStep node s → later node s ≡ next ∷ later node next → CanStep node next
@@ -134,17 +162,17 @@ pub first-can : (node : Parts) (next : Step) → extending node ≡ next ∷ lat
 first-can node next e = let all = subst (AllByRecursion (CanStep node)) e (extending-can node) in all.0
 
 -- over to the first child by extending
-pub extended-first : (design : Design) (node child : Parts) (next : Step) → IsSubproblem design node → extending node ≡ next ∷ later node next → child ≡ after node next → pending design true child ≡ extended node ++ behind (root design) node.steps
-extended-first design node child next sub e is =
-    ap (pending design true) is ∙ sym (entered design node next (extending node) sub e) ∙ ap (λ z. z ++ behind (root design) node.steps) (extending-is node)
+pub extended-first : (design : Design) (floor : ℕ) (node child : Parts) (next : Step) → IsSubproblem design node → floor ≤ length node.steps → extending node ≡ next ∷ later node next → child ≡ after node next → waiting design floor true child ≡ extended node ++ beyond floor (root design) node.steps
+extended-first design floor node child next sub h e is =
+    ap (waiting design floor true) is ∙ sym (over design floor node next (extending node) sub h e) ∙ ap (λ z. z ++ beyond floor (root design) node.steps) (extending-is node)
 
 -- past a subproblem that has no child by extending
-pub extended-none : (design : Design) (node : Parts) → extending node ≡ [] → behind (root design) node.steps ≡ extended node ++ behind (root design) node.steps
-extended-none design node e = ap (λ z. z ++ behind (root design) node.steps) (sym (ap (map (after node)) e) ∙ extending-is node)
+pub extended-none : (design : Design) (floor : ℕ) (node : Parts) → extending node ≡ [] → beyond floor (root design) node.steps ≡ extended node ++ beyond floor (root design) node.steps
+extended-none design floor node e = ap (λ z. z ++ beyond floor (root design) node.steps) (sym (ap (map (after node)) e) ∙ extending-is node)
 
 -- over to the first half of a span
-pub split-first : (design : Design) (node child : Parts) (b : ℕ) → IsSubproblem design node → child ≡ after node (Left b) → pending design true child ≡ split node b ++ behind (root design) node.steps
-split-first design node child b sub is = ap (pending design true) is ∙ sym (entered design node (Left b) (Left b ∷ later node (Left b)) sub refl)
+pub split-first : (design : Design) (floor : ℕ) (node child : Parts) (b : ℕ) → IsSubproblem design node → floor ≤ length node.steps → child ≡ after node (Left b) → waiting design floor true child ≡ split node b ++ beyond floor (root design) node.steps
+split-first design floor node child b sub h is = ap (waiting design floor true) is ∙ sym (over design floor node (Left b) (Left b ∷ later node (Left b)) sub h refl)
 
 -- there are few spans
 pub few-spans : (design : Design) (bound : Parts → ℕ) (path : Path) → IsPath design bound path → length path.node.spans ≤ 320

@@ -1,5 +1,5 @@
 -- Where a search in preorder stands.
-use Rattle.std.specs.Prelude.{◌≡◌, ℕ, ◌<◌, ◌≤◌, List, [], ◌∷◌, length, Bool, true, not, slice_index_or, slice_set, Option, IfSome, ⊤}
+use Rattle.std.specs.Prelude.{◌≡◌, ℕ, ◌<◌, ◌≤◌, zero, suc, ◌++◌, List, [], ◌∷◌, length, Bool, true, false, not, slice_index_or, slice_set, Option, IfSome, ⊤}
 use Rattle.sf_model.specs.declared.design.Design.{Design}
 use Rattle.sf_polish.specs.Normal.{operands}
 use Rattle.sf_node.specs.declared.step.Step.{Step}
@@ -7,7 +7,7 @@ use Rattle.sf_node.specs.declared.step.Step.TheVariants.{Beside, Above, Block, L
 use Rattle.sf_node.specs.Parts.{Parts}
 use Rattle.sf_node.specs.Subproblem.{root}
 use Rattle.sf_node.specs.Children.{after, is_unused, CanStep, IsSubproblem}
-use Rattle.sf_node.specs.Later.{halved}
+use Rattle.sf_node.specs.Later.{halved, behind}
 use Rattle.sf_cursor.specs.declared.level.Level.{Level}
 
 -- the subproblem that is next, a level for each step of the way to it, which blocks are there, and how many they are
@@ -81,3 +81,21 @@ pub record IsOneWay (design : Design) (path : Path) : Type 0 where
   pub sub : IsSubproblem design path.node
   pub few : length path.node.steps ≤ most_steps
   pub each : length path.levels ≡ length path.node.steps
+
+-- on the way over these steps: where the later steps lead to, but for those of the first `floor` steps
+abbrev pub beyond : ℕ → Parts → List Step → List Parts
+beyond zero node ss = behind node ss
+beyond (suc k) node [] = []
+beyond (suc k) node (s ∷ ss) = beyond k (after node s) ss
+
+-- what waits of a stretch with this floor: the subproblem that is next and what lies beyond the floor, or none
+abbrev pub waiting : Design → ℕ → Bool → Parts → List Parts
+waiting design floor true node = node ∷ beyond floor (root design) node.steps
+waiting design floor false node = []
+
+-- a stretch is cut in two at a level: what it keeps comes first, then what another cursor is given
+pub record IsParted (design : Design) (bound : Parts → ℕ) (floor : ℕ) (old : Path) (part : Path) (level : ℕ) : Type 0 where
+  pub at : IsPath design bound part
+  pub lower : floor ≤ length part.node.steps
+  pub keeps : level ≤ length old.node.steps
+  pub cut : waiting design floor true old.node ≡ waiting design level true old.node ++ waiting design floor true part.node

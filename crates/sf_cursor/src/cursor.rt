@@ -71,13 +71,13 @@ fn step_blocks(step: Step) -> usize
 }
 
 impl Cursor {
-    ghost use Rattle.std.specs.Prelude.{[], ◌∷◌, ◌++◌, ◌≤◌, length};
+    ghost use Rattle.std.specs.Prelude.{[], ◌∷◌, ◌++◌, ◌≤◌, length, true};
     ghost use Rattle.std.specs.Prelude.{IfOk, IfSome, OnOk, MatchOption};
     ghost use Rattle.sf_node.specs.Subproblem.{root};
     ghost use Rattle.sf_node.specs.Children.{after, extended, may_join};
     ghost use Rattle.sf_node.specs.Later.{behind, pending, later, extending, blocks_from, IsChildOf};
     ghost use Rattle.sf_certificate.specs.Marks.{made, MaySplit};
-    ghost use Rattle.sf_cursor.specs.Path.{IsPath, IsBack, most_steps};
+    ghost use Rattle.sf_cursor.specs.Path.{IsPath, IsBack, IsParted, beyond, waiting, most_steps};
 
     /// At the root, which is next before anything was visited.
     pub fn new<V: Values>(alloc: Global, design: &Design, values: &V) -> Result<Cursor, NoMemory>
@@ -127,13 +127,37 @@ impl Cursor {
         ensures next { IfOk result (λ more. pending design.now more self.new.node
             ≡ made tag self.old.node ++ behind (root design.now) self.old.node.steps) }
     {
+        self.follow_to(design, values, tag, value, 0)
+    }
+
+    /// The same on a stretch, which ends where a way of `floor` steps would be left: of what waits behind the
+    /// subproblem only what lies beyond those steps comes next.
+    pub fn follow_to<V: Values>(
+        &mut self,
+        design: &Design,
+        values: &V,
+        tag: Tag,
+        value: Option<u64>,
+        floor: usize,
+    ) -> Result<bool, NoMemory>
+        requires at { IsPath design.now (V.value values.now design.now) self.old }
+        requires may { MaySplit tag self.old.node }
+        requires value { IfSome value (λ value. value ≡ V.value values.now design.now self.old.node) }
+        requires above { floor ≤ length self.old.node.steps }
+        ensures at { IfOk result (λ more. IsPath design.now (V.value values.now design.now) self.new) }
+        ensures next { IfOk result (λ more. waiting design.now floor more self.new.node
+            ≡ made tag self.old.node ++ beyond floor (root design.now) self.old.node.steps) }
+        ensures whole { IfOk result (λ more. more ≡ true → pending design.now true self.new.node
+            ≡ made tag self.old.node ++ behind (root design.now) self.old.node.steps) }
+        ensures above { IfOk result (λ more. more ≡ true → floor ≤ length self.new.node.steps) }
+    {
         match tag {
-            Tag::Extend => self.extend(design, values, value),
+            Tag::Extend => self.extend(design, values, value, floor),
             Tag::Split(block) => {
                 self.enter(design, values, Step::Left(block), value)?;
                 Ok(true)
             }
-            Tag::Closed(_) | Tag::Open => self.advance(design, values),
+            Tag::Closed(_) | Tag::Open => self.advance(design, values, floor),
         }
     }
 
@@ -241,14 +265,41 @@ impl Cursor {
         None
     }
 
-    /// Goes on past the subproblem and all under it. No subproblem is next where none is behind it.
-    fn advance<V: Values>(&mut self, design: &Design, values: &V) -> Result<bool, NoMemory>
+    /// Goes back over the last step, where the way has more than `floor` steps.
+    fn leave_to<V: Values>(
+        &mut self,
+        design: &Design,
+        values: &V,
+        floor: usize,
+    ) -> Option<(Step, Option<u64>)>
+        requires at { IsPath design.now (V.value values.now design.now) self.old }
+        ensures at { IsPath design.now (V.value values.now design.now) self.new }
+        ensures back { MatchOption result (length self.old.node.steps ≤ floor)
+            (λ last. IsBack design.now (V.value values.now design.now) self.old.node last.0 last.1 self.new
+            × (floor ≤ length self.new.node.steps)) }
+    {
+        if self.node.steps().len() <= floor {
+            return None;
+        }
+        self.leave(design, values)
+    }
+
+    /// Goes on past the subproblem and all under it. No subproblem is next where none is beyond the floor.
+    fn advance<V: Values>(
+        &mut self,
+        design: &Design,
+        values: &V,
+        floor: usize,
+    ) -> Result<bool, NoMemory>
         requires at { IsPath design.now (V.value values.now design.now) self.old }
         ensures at { IfOk result (λ more. IsPath design.now (V.value values.now design.now) self.new) }
-        ensures next { IfOk result (λ more. pending design.now more self.new.node
+        ensures next { IfOk result (λ more. waiting design.now floor more self.new.node
+            ≡ beyond floor (root design.now) self.old.node.steps) }
+        ensures whole { IfOk result (λ more. more ≡ true → pending design.now true self.new.node
             ≡ behind (root design.now) self.old.node.steps) }
+        ensures above { IfOk result (λ more. more ≡ true → floor ≤ length self.new.node.steps) }
     {
-        while let Some((step, value)) = self.leave(design, values) {
+        while let Some((step, value)) = self.leave_to(design, values, floor) {
             if let Some(next) = self.next_step(design, values, step) {
                 self.enter(design, values, next, value)?;
                 return Ok(true);
@@ -263,17 +314,75 @@ impl Cursor {
         design: &Design,
         values: &V,
         value: Option<u64>,
+        floor: usize,
     ) -> Result<bool, NoMemory>
         requires at { IsPath design.now (V.value values.now design.now) self.old }
         requires value { IfSome value (λ value. value ≡ V.value values.now design.now self.old.node) }
+        requires above { floor ≤ length self.old.node.steps }
         ensures at { IfOk result (λ more. IsPath design.now (V.value values.now design.now) self.new) }
-        ensures next { IfOk result (λ more. pending design.now more self.new.node
+        ensures next { IfOk result (λ more. waiting design.now floor more self.new.node
+            ≡ extended self.old.node ++ beyond floor (root design.now) self.old.node.steps) }
+        ensures whole { IfOk result (λ more. more ≡ true → pending design.now true self.new.node
             ≡ extended self.old.node ++ behind (root design.now) self.old.node.steps) }
+        ensures above { IfOk result (λ more. more ≡ true → floor ≤ length self.new.node.steps) }
     {
         let Some(step) = self.first_step(design, values) else {
-            return self.advance(design, values);
+            return self.advance(design, values, floor);
         };
         self.enter(design, values, step, value)?;
         Ok(true)
+    }
+
+    /// The step that comes next after this one, on a level that is not below the floor.
+    fn next_beyond<V: Values>(
+        &self,
+        design: &Design,
+        values: &V,
+        step: Step,
+        floor: usize,
+        level: usize,
+    ) -> Option<Step>
+        requires at { IsPath design.now (V.value values.now design.now) self.now }
+        requires can { CanStep self.now.node step }
+        ensures { MatchOption result (floor ≤ level → later self.now.node step ≡ [])
+            (λ s. (floor ≤ level) × (later self.now.node step ≡ s ∷ later self.now.node s)) }
+    {
+        if level < floor {
+            return None;
+        }
+        self.next_step(design, values, step)
+    }
+
+    /// Gives away what waits on the shallowest level of a stretch that has later siblings: a cursor at the
+    /// first of them, for a stretch with the same floor, and how many steps the floor of this one has then.
+    /// None where nothing but the subproblem at hand and what it makes waits.
+    pub fn part_off<V: Values>(
+        &self,
+        alloc: Global,
+        design: &Design,
+        values: &V,
+        floor: usize,
+    ) -> Result<Option<(Cursor, usize)>, NoMemory>
+        requires at { IsPath design.now (V.value values.now design.now) self.now }
+        requires above { floor ≤ length self.now.node.steps }
+        ensures { IfOk result
+            (λ given. MatchOption given (beyond floor (root design.now) self.now.node.steps ≡ [])
+            (λ part. IsParted design.now (V.value values.now design.now) floor self.now part.0 part.1)) }
+    {
+        let mut part = Cursor::new(alloc, design, values)?;
+        let steps = self.node.steps();
+        for level in 0..steps.len() {
+            let step = steps[level];
+            if let Some(next) = part.next_beyond(design, values, step, floor, level) {
+                let value = match self.levels.get(level) {
+                    Some(kept) => kept.value,
+                    None => None,
+                };
+                part.enter(design, values, next, value)?;
+                return Ok(Some((part, level + 1)));
+            }
+            part.enter(design, values, step, None)?;
+        }
+        Ok(None)
     }
 }

@@ -9,6 +9,8 @@
 
 mod cursor;
 mod level;
+mod stretch;
 
 pub use cursor::Cursor;
 pub use level::Level;
+pub use stretch::{Stretch, Stretches};

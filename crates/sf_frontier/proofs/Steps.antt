@@ -8,7 +8,7 @@ use mathlib.Core.Option.{some, some-ne-none, some-injective}
 use lib.ListN.{get_elem?}
 use Rattle.crossbeam_deque.specs.Tasks.{Pushes, Takes, Pops, Finds, Forks, Merges}
 use Rattle.crossbeam_deque.proofs.Lists.{at_set, at_snoc}
-use Rattle.sf_node.specs.declared.task.Task.{Task}
+use Rattle.sf_cursor.specs.declared.stretch.Stretch.{Stretch}
 use Rattle.sf_frontier.specs.declared.rule.View.{View}
 use Rattle.sf_frontier.specs.Fair.{view, ends, IdleIsEmpty, IsOrdered, weight_put, weight_taken, Balanced, Put, Taken, Stolen, IsAllTaken, back_alone, front_alone, both_ends, no_end}
 
@@ -79,18 +79,18 @@ idle_set views port w mine idle j u there none = ⊎_elim
     (at_set views port j w u there)
 
 -- what the back knows of the deque: its stack is some tasks, which all fronts have stolen, and the items
-abbrev Knows : List Task → List View → View → Type 0
-Knows items views v = (stolen : List Task) × (v.stack ≡ stolen ++ items) × ((other : ℕ) (u : View) → get_elem? views other ≡ some u → 0 < u.fronts → u.stolen ≡ stolen)
+abbrev Knows : List Stretch → List View → View → Type 0
+Knows items views v = (stolen : List Stretch) × (v.stack ≡ stolen ++ items) × ((other : ℕ) (u : View) → get_elem? views other ≡ some u → 0 < u.fronts → u.stolen ≡ stolen)
 
 -- the pass at the back changes: it knows as before, if its own view tells the new items and no more was stolen
-ordered_at_back : (items : List Task) (views : List View) (port : ℕ) (v w : View) → sum_by backs views ≡ 1 → get_elem? views port ≡ some v → 0 < v.backs → Knows items (set views port w) w → IsOrdered items (set views port w)
+ordered_at_back : (items : List Stretch) (views : List View) (port : ℕ) (v w : View) → sum_by backs views ≡ 1 → get_elem? views port ≡ some v → 0 < v.backs → Knows items (set views port w) w → IsOrdered items (set views port w)
 ordered_at_back items views port v w one at back mine i a there some_back = ⊎_elim
     (λ (x : (i ≡ port) × (w ≡ a)). subst (Knows items (set views port w)) x.1 mine)
     (λ (x : (i ≢ port) × (get_elem? views i ≡ some a)). absurd (let t = total_two backs views i port a v x.1 at x.0 in omega (arith, t)))
     (at_set views port i w a there)
 
 -- who stole what, after a view changed that stole no more
-stolen_as_before : (views : List View) (port : ℕ) (v w : View) (stolen : List Task) → get_elem? views port ≡ some v → w.fronts ≡ v.fronts → w.stolen ≡ v.stolen
+stolen_as_before : (views : List View) (port : ℕ) (v w : View) (stolen : List Stretch) → get_elem? views port ≡ some v → w.fronts ≡ v.fronts → w.stolen ≡ v.stolen
     → ((other : ℕ) (u : View) → get_elem? views other ≡ some u → 0 < u.fronts → u.stolen ≡ stolen) → (other : ℕ) (u : View) → get_elem? (set views port w) other ≡ some u → 0 < u.fronts → u.stolen ≡ stolen
 stolen_as_before views port v w stolen at same as_before all j u there front = ⊎_elim
     (λ (x : (j ≡ port) × (w ≡ u)). sym (ap (λ (y : View). y.stolen) x.1) ∙ (as_before ∙ all port v at (let f = ap fronts x.1 in omega (arith, f))))
@@ -105,9 +105,9 @@ all_front P xs ys h = subst (All P) (take-append_seam xs ys) (All-take P (length
 pub all_back : {A : Type 0} (P : A → Type 0) (xs ys : List A) → All P (xs ++ ys) → All P ys
 all_back P xs ys h = subst (All P) (drop-append_seam xs ys) (All-drop P (length xs) (xs ++ ys) h)
 
-module _ (S : Task → Type 0) where
+module _ (S : Stretch → Type 0) where
   -- a put keeps the rule
-  pub puts : (port : ℕ) (v : View) (x : Task) → 0 < v.backs → S x → Pushes (Balanced S) port v (x ∷ []) (Put v (x ∷ []))
+  pub puts : (port : ℕ) (v : View) (x : Stretch) → 0 < v.backs → S x → Pushes (Balanced S) port v (x ∷ []) (Put v (x ∷ []))
   puts port v x back new items views h at =
       let u : View = view v.backs v.fronts (v.put ++ x ∷ []) v.taken (v.stack ++ x ∷ []) v.stolen in
       let knew = h.ordered port v at back in (
@@ -122,15 +122,15 @@ module _ (S : Task → Type 0) where
           one_front = let t = total_set fronts views port v u at in let p = h.one_front in omega arith;
           idle = idle_set views port u (λ none. absurd (omega arith)) h.idle;
           ordered = ordered_at_back (items ++ x ∷ []) views port v u h.one_back at back
-              (knew.0, ap (λ (zs : List Task). zs ++ x ∷ []) knew.1 ∙ append_assoc knew.0 items (x ∷ []), stolen_as_before views port v u knew.0 at refl refl knew.2);
+              (knew.0, ap (λ (zs : List Stretch). zs ++ x ∷ []) knew.1 ∙ append_assoc knew.0 items (x ∷ []), stolen_as_before views port v u knew.0 at refl refl knew.2);
           served = All-append S items (x ∷ []) h.served (All-cons S x [] new (All-nil S));
         },
         refl,
       )
 
   -- all parts of the rule but the order, after a take of xs, whatever order the deque had them in
-  takes : (port : ℕ) (v u : View) (xs items before : List Task) (views : List View) → 0 < ends v → u.backs ≡ v.backs → u.fronts ≡ v.fronts → u.put ≡ v.put → u.taken ≡ v.taken ++ xs
-      → ((w : Task → ℕ) → sum_by w before ≡ sum_by w items + sum_by w xs) → All S items
+  takes : (port : ℕ) (v u : View) (xs items before : List Stretch) (views : List View) → 0 < ends v → u.backs ≡ v.backs → u.fronts ≡ v.fronts → u.put ≡ v.put → u.taken ≡ v.taken ++ xs
+      → ((w : Stretch → ℕ) → sum_by w before ≡ sum_by w items + sum_by w xs) → All S items
       → Balanced S before views → get_elem? views port ≡ some v → IsOrdered items (set views port u) → Balanced S items (set views port u)
   takes port v u xs items before views some_end back front put taken split still h at order =
       record {
@@ -148,7 +148,7 @@ module _ (S : Task → Type 0) where
       }
 
   -- who has both ends knows what the deque holds
-  knows : (port : ℕ) (v : View) (items : List Task) (views : List View) → ends v ≡ 2 → Balanced S items views → get_elem? views port ≡ some v → (w : Task → ℕ) → sum_by w v.put ≡ sum_by w v.taken + sum_by w items
+  knows : (port : ℕ) (v : View) (items : List Stretch) (views : List View) → ends v ≡ 2 → Balanced S items views → get_elem? views port ≡ some v → (w : Stretch → ℕ) → sum_by w v.put ≡ sum_by w v.taken + sum_by w items
   knows port v items views all h at w =
       let whole : ends v ≡ sum_by ends views = let b = h.one_back in let f = h.one_front in let e = total_ends views in omega (arith, b, f, e) in
       let p : sum_by (weight_put w) views ≡ sum_by w v.put = all_mine (weight_put w) views port v (λ j u there none. ap (sum_by w) (h.idle j u there none).0) at whole in
@@ -157,14 +157,14 @@ module _ (S : Task → Type 0) where
       omega arith
 
   -- tasks that weigh 1 each weigh together as many as there are
-  one_each : (xs : List Task) → sum_by (λ (x : Task). 1) xs ≡ length xs
+  one_each : (xs : List Stretch) → sum_by (λ (x : Stretch). 1) xs ≡ length xs
   one_each [] = refl
-  one_each (x ∷ xs) = omega (arith, sum_by-cons (λ (y : Task). 1) x xs, one_each xs)
+  one_each (x ∷ xs) = omega (arith, sum_by-cons (λ (y : Stretch). 1) x xs, one_each xs)
 
   -- who has both ends has taken fewer than it put, where the deque holds a task
-  fewer : (port : ℕ) (v : View) (xs before : List Task) (views : List View) → length xs ≤ length before → Balanced S before views → get_elem? views port ≡ some v → ends v ≡ 2 → length v.taken + length xs < length v.put + 1
+  fewer : (port : ℕ) (v : View) (xs before : List Stretch) (views : List View) → length xs ≤ length before → Balanced S before views → get_elem? views port ≡ some v → ends v ≡ 2 → length v.taken + length xs < length v.put + 1
   fewer port v xs before views len h at all =
-      let k = knows port v before views all h at (λ (x : Task). 1) in omega (arith, one_each v.put, one_each v.taken, one_each before)
+      let k = knows port v before views all h at (λ (x : Stretch). 1) in omega (arith, one_each v.put, one_each v.taken, one_each before)
 
   -- a take at the back keeps the rule, and gives the last of the stack
   pub pops : (port : ℕ) (v : View) → 0 < v.backs → Pops (Balanced S) port v (Taken S v)
@@ -198,10 +198,10 @@ module _ (S : Task → Type 0) where
         (refl, all_front S xs items h.served),
       )
     where
-      stolen_now : (u : View) (stolen : List Task) (views : List View) → v.stolen ≡ stolen → u.stolen ≡ v.stolen ++ xs → sum_by fronts views ≡ 1 → get_elem? views port ≡ some v
+      stolen_now : (u : View) (stolen : List Stretch) (views : List View) → v.stolen ≡ stolen → u.stolen ≡ v.stolen ++ xs → sum_by fronts views ≡ 1 → get_elem? views port ≡ some v
           → (other : ℕ) (b : View) → get_elem? (set views port u) other ≡ some b → 0 < b.fronts → b.stolen ≡ stolen ++ xs
       stolen_now u stolen views mine more one at j b there some_front = ⊎_elim
-          (λ (x : (j ≡ port) × (u ≡ b)). sym (ap (λ (y : View). y.stolen) x.1) ∙ (more ∙ ap (λ (zs : List Task). zs ++ xs) mine))
+          (λ (x : (j ≡ port) × (u ≡ b)). sym (ap (λ (y : View). y.stolen) x.1) ∙ (more ∙ ap (λ (zs : List Stretch). zs ++ xs) mine))
           (λ (x : (j ≢ port) × (get_elem? views j ≡ some b)). absurd (let t = total_two fronts views j port b v x.1 at x.0 in omega (arith, t, front, one)))
           (at_set views port j u b there)
 
@@ -219,10 +219,10 @@ module _ (S : Task → Type 0) where
   forks port v back front items views h at =
       let mid : List View = set views port (back_alone v) in
       let new : View = front_alone v in
-      let e : List Task = [] in
+      let e : List Stretch = [] in
       let knew = h.ordered port v at (omega (arith, back)) in
       let mine : v.stolen ≡ knew.0 = knew.2 port v at (omega (arith, front)) in
-      let left : drop (length v.stolen) v.stack ≡ items = ap (λ (n : List Task). drop (length n) v.stack) mine ∙ (ap (λ (zs : List Task). drop (length knew.0) zs) knew.1 ∙ drop-append_seam knew.0 items) in
+      let left : drop (length v.stolen) v.stack ≡ items = ap (λ (n : List Stretch). drop (length n) v.stack) mine ∙ (ap (λ (zs : List Stretch). drop (length knew.0) zs) knew.1 ∙ drop-append_seam knew.0 items) in
       record {
         kept = λ w.
             let a = total_set (weight_put w) views port v (back_alone v) at in
@@ -262,7 +262,7 @@ module _ (S : Task → Type 0) where
   merges port v other u back none_yet no_back front items views h at apart at' =
       let now : View = both_ends v u in
       let mid : List View = set views port now in
-      let e : List Task = [] in
+      let e : List Stretch = [] in
       let there_u : get_elem? views other ≡ some u = ⊎_elim (λ (x : (other ≡ port) × (now ≡ u)). absurd (apart x.0)) (λ (x : (other ≢ port) × (get_elem? views other ≡ some u)). x.1) (at_set views port other now u at') in
       let knew = h.ordered port v at (omega (arith, back)) in
       let mine : u.stolen ≡ knew.0 = knew.2 other u there_u (omega (arith, front)) in
@@ -288,12 +288,12 @@ module _ (S : Task → Type 0) where
         served = h.served;
       }
     where
-      stolen_both : (views : List View) (stolen : List Task) → sum_by fronts views ≡ 1 → get_elem? views other ≡ some u → u.stolen ≡ stolen
+      stolen_both : (views : List View) (stolen : List Stretch) → sum_by fronts views ≡ 1 → get_elem? views other ≡ some u → u.stolen ≡ stolen
           → (j : ℕ) (b : View) → get_elem? (set (set views port (both_ends v u)) other no_end) j ≡ some b → 0 < b.fronts → b.stolen ≡ stolen
       stolen_both views stolen one there_u mine j b there some_front = ⊎_elim
           (λ (x : (j ≡ other) × (no_end ≡ b)). absurd (let p = ap fronts x.1 in omega (arith, p)))
           (λ (x : (j ≢ other) × (get_elem? (set views port (both_ends v u)) j ≡ some b)). ⊎_elim
-          (λ (y : (j ≡ port) × (both_ends v u ≡ b)). sym (ap (λ (z : View). z.stolen) y.1) ∙ (ap (λ (zs : List Task). zs ++ u.stolen) none_yet ∙ mine))
+          (λ (y : (j ≡ port) × (both_ends v u ≡ b)). sym (ap (λ (z : View). z.stolen) y.1) ∙ (ap (λ (zs : List Stretch). zs ++ u.stolen) none_yet ∙ mine))
           (λ (y : (j ≢ port) × (get_elem? views j ≡ some b)). absurd (let t = total_two fronts views j other b u y.1 there_u x.0 in omega (arith, t, front, one)))
           (at_set views port j (both_ends v u) b x.1))
           (at_set (set views port (both_ends v u)) other j no_end b there)
@@ -303,5 +303,5 @@ pub has_front : (alone : Bool) (n : ℕ) → n ≡ (if alone then 1 else 0) → 
 has_front alone n e p = grind arith
 
 -- an owner that isn't alone has stolen nothing
-pub stole_none : (alone : Bool) (xs : List Task) → (if alone then [] else xs) ≡ [] → ◌≡◌ {A = ℕ} (if alone then 1 else 2) 2 → xs ≡ []
+pub stole_none : (alone : Bool) (xs : List Stretch) → (if alone then [] else xs) ≡ [] → ◌≡◌ {A = ℕ} (if alone then 1 else 2) 2 → xs ≡ []
 stole_none alone xs e p = grind arith

@@ -5,7 +5,7 @@ use Rattle.std.specs.List.{flat_map}
 use Rattle.std.proofs.lemmas.List.Sums.{sum_by-append, sum_by-cons}
 use Rattle.std.proofs.lemmas.List.Elements.{All-push, All-head, All-nil, All-cons}
 use Rattle.std.proofs.lemmas.List.{nil_from_length, map-append, reverse-append, same_from_push}
-use Rattle.sf_node.specs.declared.task.Task.{Task}
+use Rattle.sf_cursor.specs.declared.stretch.Stretch.{Stretch}
 use Rattle.sf_frontier.specs.Ends.{Deque, OwnerView, ThiefView, with_stolen, IsDrained}
 use Rattle.sf_frontier.specs.Fair.{SameTasks}
 use Rattle.sf_frontier.specs.Team.{thief_deques_of, turned, owners_of, deques_of, preys_of, stolen_by, AreSettled, IsTeam, IsFinished, IsNewOwner, IsNewThief, IsNewPlace}
@@ -64,7 +64,7 @@ pub new-pair : (lone o : OwnerView) (t : ThiefView) → IsNewOwner lone → o �
 new-pair lone o t new eo et = record {
   deque = ap (λ (x : ThiefView). x.deque) et ∙ sym (ap (λ (x : OwnerView). x.deque) eo);
   parts = ap (λ (x : OwnerView). x.deque.parts) eo;
-  owner = (ap (λ (x : OwnerView). x.put) eo ∙ new.0, ap (λ (x : OwnerView). x.taken) eo ∙ new.1, ap (λ (x : OwnerView). x.empty_takes) eo ∙ new.2, ap (λ (x : OwnerView). x.refused_puts) eo ∙ new.3, ap (λ (x : OwnerView). x.stack) eo ∙ (ap (λ (zs : List Task). drop (length zs) lone.stack) new.5 ∙ new.4), ap (λ (x : OwnerView). x.stolen) eo);
+  owner = (ap (λ (x : OwnerView). x.put) eo ∙ new.0, ap (λ (x : OwnerView). x.taken) eo ∙ new.1, ap (λ (x : OwnerView). x.empty_takes) eo ∙ new.2, ap (λ (x : OwnerView). x.refused_puts) eo ∙ new.3, ap (λ (x : OwnerView). x.stack) eo ∙ (ap (λ (zs : List Stretch). drop (length zs) lone.stack) new.5 ∙ new.4), ap (λ (x : OwnerView). x.stolen) eo);
   thief = (ap (λ (x : ThiefView). x.taken) et, ap (λ (x : ThiefView). x.empty_takes) et);
 }
 
@@ -135,14 +135,14 @@ module _ {T : Type 0} where
       (same.1, record { preys = same.0; first_is = r.first_is ∙ (ap (first_or d) ds ∙ first_snoc (deques_of ps) here d) })
 
   -- some last deques of a ring are settled. The next one is that of the owner o, and the first one's thief is still to be joined
-  pub record IsSettling (places ps : List (Place T)) (o : OwnerView) (first : ThiefView) (left : List Task) : Type 0 where
+  pub record IsSettling (places ps : List (Place T)) (o : OwnerView) (first : ThiefView) (left : List Stretch) : Type 0 where
     pub done : List OwnerView
-    pub stolen : List (List Task)
-    pub rests : List (List Task)
+    pub stolen : List (List Stretch)
+    pub rests : List (List Stretch)
     pub owners_are : owners_of places ≡ owners_of ps ++ o ∷ done
     pub stolen_are : map stolen_by places ≡ map stolen_by ps ++ (stolen ++ first.taken ∷ [])
     pub settled : AreSettled done stolen rests
-    pub left_are : (w : Task → ℕ) → sum_by w left ≡ sum_by (λ rest. sum_by w rest) rests
+    pub left_are : (w : Stretch → ℕ) → sum_by w left ≡ sum_by (λ rest. sum_by w rest) rests
     pub ring : IsOpenRing ps o.deque first.deque
     pub parts : All (λ place. place.owner.deque.parts ≡ 2) ps
     pub part : o.deque.parts ≡ 2
@@ -185,7 +185,7 @@ module _ {T : Type 0} where
       first_parts (q ∷ qs) p e h = ap (λ (x : Deque). x.parts) e ∙ All-head (λ (place : Place T). place.owner.deque.parts ≡ 2) q (qs ++ p ∷ []) h
 
   -- the owner's deque is settled, and the place before it is the next
-  pub settling-more : (places ps qs : List (Place T)) (p : Place T) (o : OwnerView) (first t : ThiefView) (rest : List ThiefView) (all : OwnerView) (before more after : List Task)
+  pub settling-more : (places ps qs : List (Place T)) (p : Place T) (o : OwnerView) (first t : ThiefView) (rest : List ThiefView) (all : OwnerView) (before more after : List Stretch)
       → qs ≡ ps ++ p ∷ [] → IsSettling places qs o first before → p.thieves.items ≡ rest ++ t ∷ [] → all ≡ with_stolen o t.taken → IsDrained all more → after ≡ before ++ more
       → IsSettling places ps p.owner first after
   settling-more places ps qs p o first t rest all before more after e s thieves is drained ea =
@@ -202,21 +202,21 @@ module _ {T : Type 0} where
             ∙ (ap (λ zs. zs ++ (s.stolen ++ first.taken ∷ [])) (map-append stolen_by ps (p ∷ []) ∙ ap (λ z. map stolen_by ps ++ z ∷ []) (stolen_one p t lone.0))
             ∙ append_assoc (map stolen_by ps) (t.taken ∷ []) (s.stolen ++ first.taken ∷ [])));
         settled = (subst (λ x. IsDrained x more) is drained, s.settled);
-        left_are = λ w. omega (arith, s.left_are w, ap (sum_by w) ea, sum_by-append w before more, sum_by-cons (λ (r : List Task). sum_by w r) more s.rests);
+        left_are = λ w. omega (arith, s.left_are w, ap (sum_by w) ea, sum_by-append w before more, sum_by-cons (λ (r : List Stretch). sum_by w r) more s.rests);
         ring = less.1;
         parts = all_front P ps (p ∷ []) parts;
         part = all_last P ps p parts;
       }
 
   -- the worker before has its thief on the deque that is settled next
-  pub settling-thief : (places ps qs : List (Place T)) (p : Place T) (o : OwnerView) (first t : ThiefView) (rest : List ThiefView) (before : List Task)
+  pub settling-thief : (places ps qs : List (Place T)) (p : Place T) (o : OwnerView) (first t : ThiefView) (rest : List ThiefView) (before : List Stretch)
       → qs ≡ ps ++ p ∷ [] → IsSettling places qs o first before → p.thieves.items ≡ rest ++ t ∷ [] → (o.deque.parts ≡ 2) × (t.deque ≡ o.deque)
   settling-thief places ps qs p o first t rest before e s thieves =
       let less = ring-less ps p o.deque first.deque (subst (λ zs. IsOpenRing zs o.deque first.deque) e s.ring) in
       (s.part, (one_thief rest p.thieves.items t o.deque thieves less.0).1)
 
   -- each worker of an opened ring has a thief
-  pub settling-some : (places ps qs : List (Place T)) (p : Place T) (o : OwnerView) (first : ThiefView) (before : List Task)
+  pub settling-some : (places ps qs : List (Place T)) (p : Place T) (o : OwnerView) (first : ThiefView) (before : List Stretch)
       → qs ≡ ps ++ p ∷ [] → IsSettling places qs o first before → 0 < length p.thieves.items
   settling-some places ps qs p o first before e s =
       let less = ring-less ps p o.deque first.deque (subst (λ zs. IsOpenRing zs o.deque first.deque) e s.ring) in
@@ -227,7 +227,7 @@ module _ {T : Type 0} where
       length-map' (t ∷ ts) = omega (arith, length-map' ts)
 
   -- where all deques are settled the team is finished
-  pub settling-done : (places ps : List (Place T)) (o : OwnerView) (first : ThiefView) (all : OwnerView) (before more after : List Task)
+  pub settling-done : (places ps : List (Place T)) (o : OwnerView) (first : ThiefView) (all : OwnerView) (before more after : List Stretch)
       → ps ≡ [] → IsSettling places ps o first before → all ≡ with_stolen o first.taken → IsDrained all more → after ≡ before ++ more → IsFinished places after
   settling-done places ps o first all before more after none s is drained ea =
       record {
@@ -236,7 +236,7 @@ module _ {T : Type 0} where
         thieves = s.stolen_are ∙ ap (λ zs. map stolen_by zs ++ (s.stolen ++ first.taken ∷ [])) none;
         settled = subst (λ zs. AreSettled zs (first.taken ∷ s.stolen) (more ∷ s.rests)) (sym (s.owners_are ∙ ap (λ zs. owners_of zs ++ o ∷ s.done) none))
             (subst (λ x. IsDrained x more) is drained, s.settled);
-        left_are = λ w. omega (arith, s.left_are w, ap (sum_by w) ea, sum_by-append w before more, sum_by-cons (λ (r : List Task). sum_by w r) more s.rests);
+        left_are = λ w. omega (arith, s.left_are w, ap (sum_by w) ea, sum_by-append w before more, sum_by-cons (λ (r : List Stretch). sum_by w r) more s.rests);
       }
 
   -- a worker alone
@@ -252,7 +252,7 @@ module _ {T : Type 0} where
       no_thief (t ∷ ts) n e = omega (arith, n)
 
   -- a worker alone that has drained its deque is a finished team
-  pub lone-done : (places ps : List (Place T)) (last : Place T) (more left : List Task) → places ≡ ps ++ last ∷ [] → length last.thieves.items ≡ 0 → IsTeam places
+  pub lone-done : (places ps : List (Place T)) (last : Place T) (more left : List Stretch) → places ≡ ps ++ last ∷ [] → length last.thieves.items ≡ 0 → IsTeam places
       → IsDrained last.owner more → left ≡ more → IsFinished places left
   lone-done places ps last more left e none team drained is =
       elim team.1 [
@@ -265,13 +265,13 @@ module _ {T : Type 0} where
               rests = more ∷ [];
               thieves = ap (map stolen_by) one ∙ ap (λ z. z ∷ []) empty;
               settled = subst (λ zs. AreSettled zs ([] ∷ []) (more ∷ [])) (sym (ap owners_of one)) (alone_joined last.owner more drained, tt);
-              left_are = λ w. omega (arith, ap (sum_by w) is, sum_by-cons (λ (r : List Task). sum_by w r) more []);
+              left_are = λ w. omega (arith, ap (sum_by w) is, sum_by-cons (λ (r : List Stretch). sum_by w r) more []);
             })
         | inr all ↦ absurd (let p = lone-part places ps last e none team in let q = all_last (λ place. place.owner.deque.parts ≡ 2) ps last (subst (All (λ (place : Place T). place.owner.deque.parts ≡ 2)) e all.0) in omega (arith, p, q))
       ]
     where
-      alone_joined : (o : OwnerView) (more : List Task) → IsDrained o more → IsDrained (with_stolen o []) more
-      alone_joined o more d = (subst (λ zs. SameTasks o.put (zs ++ more)) (sym (append-nil o.taken)) d.0, d.1 ∙ ap (λ (zs : List Task). zs ++ reverse more) (sym (append-nil o.stolen)))
+      alone_joined : (o : OwnerView) (more : List Stretch) → IsDrained o more → IsDrained (with_stolen o []) more
+      alone_joined o more d = (subst (λ zs. SameTasks o.put (zs ++ more)) (sym (append-nil o.taken)) d.0, d.1 ∙ ap (λ (zs : List Stretch). zs ++ reverse more) (sym (append-nil o.stolen)))
 
   -- the workers before the owner o, whose places are made
   pub record IsGrowing (ps : List (Place T)) (o : OwnerView) (first : Deque) : Type 0 where

@@ -2,7 +2,7 @@
 use Rattle.std.proofs.Common.{◌≡◌, ℕ, ◌+◌, List, [], ◌∷◌, ◌++◌, map, arith, ap, refl}
 use Rattle.std.specs.Prelude.{sum_by}
 use Rattle.std.proofs.lemmas.List.Sums.{sum_by-append, sum_by-cons}
-use Rattle.sf_node.specs.declared.task.Task.{Task}
+use Rattle.sf_cursor.specs.declared.stretch.Stretch.{Stretch}
 use Rattle.sf_frontier.specs.Ends.{OwnerView}
 use Rattle.sf_frontier.specs.Team.{turned, owners_of, stolen_by, AreSettled, IsFinished}
 use Rattle.sf_frontier.specs.declared.place.Place.{Place}
@@ -17,7 +17,7 @@ sum_turned : {X : Type 0} (f : X → ℕ) (xs : List X) → sum_by f (turned xs)
 sum_turned f [] = refl
 sum_turned f (x ∷ xs) = omega (arith, sum_by-append f xs (x ∷ []), sum_by-cons f x xs, sum_by-cons f x [])
 
-module _ (w : Task → ℕ) where
+module _ (w : Stretch → ℕ) where
   -- the weight of what an owner put
   abbrev put_by : OwnerView → ℕ
   put_by o = sum_by w o.put
@@ -27,7 +27,7 @@ module _ (w : Task → ℕ) where
   taken_by o = sum_by w o.taken
 
   -- over settled deques what was put weighs as much as what owners and thieves took, and the rests
-  settled-total : (os : List OwnerView) (ss rs : List (List Task)) → AreSettled os ss rs → sum_by put_by os ≡ (sum_by taken_by os + sum_by (λ s. sum_by w s) ss) + sum_by (λ r. sum_by w r) rs
+  settled-total : (os : List OwnerView) (ss rs : List (List Stretch)) → AreSettled os ss rs → sum_by put_by os ≡ (sum_by taken_by os + sum_by (λ s. sum_by w s) ss) + sum_by (λ r. sum_by w r) rs
   settled-total [] [] [] h = refl
   settled-total [] [] (r ∷ rs) h = absurd h
   settled-total [] (s ∷ ss) rs h = absurd h
@@ -42,15 +42,15 @@ module _ (w : Task → ℕ) where
         sum_by-append w o.taken s,
         sum_by-cons put_by o os,
         sum_by-cons taken_by o os,
-        sum_by-cons (λ (x : List Task). sum_by w x) s ss,
-        sum_by-cons (λ (x : List Task). sum_by w x) r rs,
+        sum_by-cons (λ (x : List Stretch). sum_by w x) s ss,
+        sum_by-cons (λ (x : List Stretch). sum_by w x) r rs,
       )
 
   -- over a finished team what was put weighs as much as what owners and thieves took, and what is left
-  pub finished-total : {T : Type 0} (places : List (Place T)) (left : List Task) → IsFinished places left
+  pub finished-total : {T : Type 0} (places : List (Place T)) (left : List Stretch) → IsFinished places left
       → sum_by (λ place. sum_by w place.owner.put) places ≡ (sum_by (λ place. sum_by w place.owner.taken) places + sum_by (λ place. sum_by w (stolen_by place)) places) + sum_by w left
   finished-total {T} places left h =
-      let all = λ (xs : List Task). sum_by w xs in
+      let all = λ (xs : List Stretch). sum_by w xs in
       omega (
         arith,
         settled-total (owners_of places) h.stolen h.rests h.settled,

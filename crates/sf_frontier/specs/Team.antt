@@ -1,7 +1,7 @@
 -- A team: each worker's owner and thieves, and what was put and taken.
 use Rattle.std.specs.Prelude.{◌≡◌, ℕ, ◌⊎◌, ◌<◌, List, [], ◌∷◌, ◌++◌, sum_by, map, length, All, ⊤}
 use Rattle.std.specs.List.{flat_map}
-use Rattle.sf_node.specs.declared.task.Task.{Task}
+use Rattle.sf_cursor.specs.declared.stretch.Stretch.{Stretch}
 use Rattle.sf_frontier.specs.Ends.{Deque, OwnerView, ThiefView, with_stolen, IsDrained}
 use Rattle.sf_frontier.specs.declared.place.Place.{Place}
 
@@ -23,7 +23,7 @@ abbrev pub IsNewThief : ThiefView → Type 0
 IsNewThief t = (t.taken ≡ []) × (t.empty_takes ≡ 0)
 
 -- of the owners and the tasks that thieves took from each deque: what was put is what the owner took, what the thief took, and the rest; and on the owner's stack what the thief took stands first
-abbrev pub AreSettled : List OwnerView → List (List Task) → List (List Task) → Type 0
+abbrev pub AreSettled : List OwnerView → List (List Stretch) → List (List Stretch) → Type 0
 AreSettled [] [] [] = ⊤
 AreSettled [] [] (r ∷ rs) = ⊥
 AreSettled [] (s ∷ ss) rs = ⊥
@@ -45,7 +45,7 @@ module _ {T : Type 0} where
   preys_of places = map (λ place. thief_deques_of place.thieves.items) places
 
   -- what the thieves of a worker took
-  abbrev pub stolen_by : Place T → List Task
+  abbrev pub stolen_by : Place T → List Stretch
   stolen_by place = flat_map (λ (t : ThiefView). t.taken) place.thieves.items
 
   -- a worker alone with its deque, or a ring in which each worker has one thief, on the next worker's deque
@@ -60,9 +60,9 @@ module _ {T : Type 0} where
   IsNewPlace place = IsNewOwner place.owner × All IsNewThief place.thieves.items
 
   -- of each deque, what was put is what its owner took, what its thief took, and what is left of it; what the owner put and did not take is, in its order, what the thief took and what is left
-  pub record IsFinished (places : List (Place T)) (left : List Task) : Type 0 where
-    pub stolen : List (List Task)
-    pub rests : List (List Task)
+  pub record IsFinished (places : List (Place T)) (left : List Stretch) : Type 0 where
+    pub stolen : List (List Stretch)
+    pub rests : List (List Stretch)
     pub thieves : map stolen_by places ≡ turned stolen
     pub settled : AreSettled (owners_of places) stolen rests
-    pub left_are : (w : Task → ℕ) → sum_by w left ≡ sum_by (λ rest. sum_by w rest) rests
+    pub left_are : (w : Stretch → ℕ) → sum_by w left ≡ sum_by (λ rest. sum_by w rest) rests

@@ -1,9 +1,9 @@
 //! What is left in the deques of a team.
 
-use sf_node::Tasks;
+use sf_cursor::Stretches;
 
 /// What is left of a team.
 #[derive(Drop)]
 pub struct Finish {
-    pub left: Tasks,
+    pub left: Stretches,
 }

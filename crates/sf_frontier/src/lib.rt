@@ -2,7 +2,7 @@
 //! before it steals there.
 //!
 //! `team` makes the deques, with an owner and a thief each, and `finish` takes what is left in them. The
-//! crate stands on the ruled calls of `crossbeam_deque` and on `sf_node` for the tasks. What a team serves, a
+//! crate stands on the ruled calls of `crossbeam_deque` and on `sf_cursor` for the stretches. What a team serves, a
 //! property of tasks, is chosen by its caller (`Served`). The crates above use that of each deque, whatever
 //! the schedule, what was put is what its owner took, what its thief took and what is left (`IsFinished`),
 //! and that every task that is taken or left is served. An owner takes the last of what it put and did not

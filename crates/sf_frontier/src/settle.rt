@@ -1,7 +1,7 @@
 //! The end of a team: what is left in its deques is taken out.
 
 ghost use Rattle.std.specs.Prelude.{◌≡◌, List, ◌++◌, All, IfOk};
-ghost use Rattle.sf_node.specs.declared.task.Task.{Task};
+ghost use Rattle.sf_cursor.specs.declared.stretch.Stretch.{Stretch};
 ghost use Rattle.sf_frontier.specs.Ends.{IsDrained};
 ghost use Rattle.sf_frontier.specs.Team.{IsTeam, IsFinished};
 
@@ -9,7 +9,7 @@ use crate::ends::Owner;
 use crate::left::Finish;
 use crate::place::Place;
 use crate::rule::Served;
-use sf_node::{Task, Tasks};
+use sf_cursor::{Stretch, Stretches};
 use std::alloc::{AllocError as NoMemory, Global};
 
 /// Takes what is left in the deques of a team. Of each deque, what was put is what its owner took, what its
@@ -30,7 +30,7 @@ pub fn finish<T: Served>(alloc: Global, mut places: Vec<Place<T>>) -> Result<Fin
     let Some(first) = thieves.pop() else {
         drain(owner, &mut left)?;
         return Ok(Finish {
-            left: Tasks::from_vec(left),
+            left: Stretches::from_vec(left),
         });
     };
     while let Some(place) = places.pop() {
@@ -46,14 +46,14 @@ pub fn finish<T: Served>(alloc: Global, mut places: Vec<Place<T>>) -> Result<Fin
     }
     drain(owner.join(first), &mut left)?;
     Ok(Finish {
-        left: Tasks::from_vec(left),
+        left: Stretches::from_vec(left),
     })
 }
 
 /// Takes what is left in the deque of an owner that has all parts of it.
-fn drain<T: Served>(mut owner: Owner<T>, left: &mut Vec<Task>) -> Result<(), NoMemory>
+fn drain<T: Served>(mut owner: Owner<T>, left: &mut Vec<Stretch>) -> Result<(), NoMemory>
     requires { owner.deque.parts ≡ 1 }
-    ensures left { IfOk result (λ _. (more : List Task) × (left.new.items ≡ left.old.items ++ more)
+    ensures left { IfOk result (λ _. (more : List Stretch) × (left.new.items ≡ left.old.items ++ more)
         × IsDrained owner more × All T.serves more) }
 {
     loop {

@@ -1,32 +1,10 @@
 -- The certificate of a search beside the machine: its tags, and all that is not visited yet is open.
-use Rattle.std.proofs.Common.{◌≡◌, ℕ, suc, min, List, [], ◌∷◌, ◌++◌, map, reverse, length, arith, refl, ap, sym, subst, ◌∙◌, true, append_assoc, append-nil, IsPermutation}
-use Rattle.std.specs.List.{AllByRecursion}
-use Rattle.std.proofs.lemmas.List.{length-map, reverse-reverse}
-use Rattle.std.proofs.lemmas.List.Sorted.{IsPermutation-reverse}
-use Rattle.sf_model.specs.declared.design.Design.{Design}
-use Rattle.sf_node.specs.declared.task.Task.{Task}
-use Rattle.sf_node.specs.declared.part.Part.{Part}
-use Rattle.sf_node.specs.declared.part.Part.TheVariants.{Full}
-use Rattle.sf_node.specs.Parts.{Parts}
-use Rattle.sf_node.specs.Subproblem.{root}
-use Rattle.sf_node.specs.Later.{behind, pending}
-use Rattle.sf_search_core.specs.declared.entry.Entry.{Entry}
-use Rattle.sf_search_core.specs.declared.entry.Kind.{Kind}
+use Rattle.std.proofs.Common.{◌≡◌, ℕ, suc, List, [], ◌∷◌, ◌++◌, map, reverse, length, arith, refl, ap, sym, subst, ◌∙◌, append-nil, IsPermutation}
+use Rattle.sf_rounds.proofs.Common.{AllByRecursion, length-map, reverse-reverse, IsPermutation-reverse, Design, Task, Part, Full, Parts, root, Entry, Kind, State, IsCoreState, Mark, Tag, Extend, Split, Open, made, marks, tag_of, given_marks, waiting_after, IsFair, AreTrees, left_open, least, decided, opens, marks-then, open-all, least-same, IsMerged, all-fair, task_at, mark_of, IsStage}
 use Rattle.sf_search_core.specs.declared.entry.Kind.TheVariants as kind
-use Rattle.sf_search_core.specs.State.{State}
-use Rattle.sf_search_core.specs.Core.{IsCoreState}
-use Rattle.sf_certificate.specs.declared.mark.Mark.{Mark}
-use Rattle.sf_certificate.specs.declared.tag.Tag.{Tag}
-use Rattle.sf_certificate.specs.declared.tag.Tag.TheVariants.{Extend, Split, Open}
-use Rattle.sf_certificate.specs.Marks.{made, marks, tag_of, given_marks, waiting_after, IsFair}
-use Rattle.sf_certificate.specs.Valid.{AreTrees, left_open, least, decided}
-use Rattle.sf_certificate.proofs.AfterTags.{opens, marks-then, open-all, least-min}
 use Rattle.sf_certificate.proofs.Totals.{total, total-permutation}
-use Rattle.sf_certificate.proofs.Merged.{least-same}
 use Rattle.sf_certificate.proofs.Growth.{trees-step}
-use Rattle.sf_certificate.proofs.MergedTree.{IsMerged, all-fair}
 use Rattle.sf_certificate.proofs.MergedCert.{turned}
-use Rattle.sf_rounds.specs.Stage.{task_at, mark_of, IsStage, WalkView, left_of, IsFollowed}
 
 -- fair tags are trees as far as they go
 trees-then : (part : Parts → Part → ℕ) (cost : ℕ) (nodes : List Parts) (tags more : List Tag) → length (marks nodes tags) ≡ length tags → AllByRecursion (λ m. IsFair part cost m.tag m.node) (marks nodes tags) → AreTrees part cost (waiting_after nodes tags) more → AreTrees part cost nodes (tags ++ more)
@@ -75,7 +53,7 @@ decided-all [] nodes = decided-open nodes
 decided-all (e ∷ entries) nodes = decided-one e.kind (map (λ (e : Entry). tag_of e.kind) entries ++ opens nodes) (length entries) (decided-all entries nodes)
 
 -- the subproblems of the tasks made of some subproblems are these
-nodes-of : (bound : Parts → ℕ) (nodes : List Parts) → map (λ (t : Task). t.node) (map (task_at bound) nodes) ≡ nodes
+pub nodes-of : (bound : Parts → ℕ) (nodes : List Parts) → map (λ (t : Task). t.node) (map (task_at bound) nodes) ≡ nodes
 nodes-of bound [] = refl
 nodes-of bound (node ∷ nodes) = ap (λ ns. node ∷ ns) (nodes-of bound nodes)
 
@@ -152,18 +130,3 @@ module _ (design : Design) (bound : Parts → ℕ) (state : State) (tags : List 
       placed = placed;
       count = ap (λ ts. decided (ts ++ opens left)) stage.kinds ∙ decided-all state.entries left;
     }
-
--- one subproblem more is left open
-module _ (design : Design) (bound : Parts → ℕ) (old new : WalkView) (more : old.more ≡ true) (f : IsFollowed design bound old Open new) where
-  -- the tags, and open ones for what is left behind them, are the same before and after
-  pub tags-opened : new.tags ++ opens (left_of design new) ≡ old.tags ++ opens (left_of design old)
-  tags-opened =
-      ap (λ ts. ts ++ opens (left_of design new)) f.tags ∙ append_assoc old.tags (Open ∷ []) (opens (left_of design new))
-      ∙ ap (λ ns. old.tags ++ (Open ∷ opens ns)) f.left ∙ ap (λ b. old.tags ++ opens (pending design b old.path.node)) (sym more)
-
-  -- the least of a number and the bounds of what is left stays, where that of the one left open is taken in
-  pub low-opened : (low value next : ℕ) → value ≡ bound old.path.node → next ≡ min low value → least next (map bound (left_of design new)) ≡ least low (map bound (left_of design old))
-  low-opened low value next e k =
-      let rest = behind (root design) old.path.node.steps in
-      ap (λ n. least n (map bound (left_of design new))) k ∙ ap (λ ns. least (min low value) (map bound ns)) f.left ∙ least-min low value (map bound rest)
-      ∙ ap (λ x. min x (least low (map bound rest))) e ∙ ap (λ b. least low (map bound (pending design b old.path.node))) (sym more)

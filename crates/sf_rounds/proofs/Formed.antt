@@ -1,23 +1,13 @@
 -- A plan that belongs to a subproblem has the form of a certificate's plan.
 use Rattle.std.proofs.Common.{◌≡◌, ℕ, ◌<◌, ◌≤◌, ◌==◌, List, [], ◌∷◌, All, cond, arith, ap, subst, ◌∙◌, inl, inr, Bool}
-use Rattle.std.specs.Prelude.{count_by, Contains}
-use Rattle.std.specs.List.{AllByRecursion}
+use Rattle.sf_rounds.proofs.Common.{count_by, Contains, AllByRecursion, get_or_default, sum_by-cons, recursion_from_All, All-contains, Design, IsLegal, block_count, shapes_of, Expr, Parts, IsPlanOf, IsWritable}
 use Rattle.std.proofs.lemmas.Bool.Decides.{eqb_tells}
-use Rattle.std.proofs.lemmas.List.{get_or_default}
-use Rattle.std.proofs.lemmas.List.Sums.{sum_by-cons}
-use Rattle.std.proofs.lemmas.List.Elements.{recursion_from_All, All-contains}
-use Rattle.sf_model.specs.declared.design.Design.{Design}
 use Rattle.sf_model.specs.declared.parts.Shape.{Shape}
 use Rattle.sf_model.specs.Limits.{IsSide}
-use Rattle.sf_model.specs.Legal.{IsLegal, block_count, shapes_of}
 use Rattle.sf_model.specs.Tree.{Tree, leaves}
-use Rattle.sf_polish.specs.declared.expr.Expr.{Expr}
 use Rattle.sf_polish.specs.Normal.{IsNormal}
 use Rattle.sf_polish.specs.Postfix.{Spells, shape_at}
 use Rattle.sf_polish.proofs.Normality.{postfix-normal}
-use Rattle.sf_node.specs.Parts.{Parts}
-use Rattle.sf_bounds.specs.Cheapest.{IsPlanOf}
-use Rattle.sf_polish.specs.Text.{IsWritable}
 
 -- a leaf of the block, and what holds of all leaves
 pub record IsLeafOf (P : ℕ × Shape → Type 0) (b : ℕ) : Type 0 where

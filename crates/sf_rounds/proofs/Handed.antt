@@ -1,36 +1,10 @@
 -- The certificate of a search with one worker: as that without names, and each closed subproblem names the first part that is at least the cost.
 use Rattle.std.proofs.Common.{◌≡◌, ℕ, List, [], ◌∷◌, ◌++◌, map, length, refl, ap, sym, subst, ◌∙◌, Option}
-use Rattle.std.specs.Prelude.{MatchOption, IsTrue}
-use Rattle.std.specs.List.{AllByRecursion}
-use Rattle.std.proofs.lemmas.List.{map-append}
-use Rattle.std.proofs.lemmas.List.Elements.{recursion_from_All, All-from_recursion}
-use Rattle.sf_model.specs.declared.design.Design.{Design}
-use Rattle.sf_model.specs.declared.TheConstants.{MAX}
-use Rattle.sf_model.specs.Legal.{block_count}
-use Rattle.sf_polish.specs.declared.expr.Expr.{Expr}
-use Rattle.sf_node.specs.declared.part.Part.{Part}
-use Rattle.sf_node.specs.declared.part.PartValues.{PartValues}
-use Rattle.sf_node.specs.Parts.{Parts}
-use Rattle.sf_node.specs.ByPart.{ArePartsOf}
-use Rattle.sf_node.specs.Subproblem.{root}
+use Rattle.sf_rounds.proofs.Common.{MatchOption, IsTrue, AllByRecursion, map-append, recursion_from_All, All-from_recursion, Design, MAX, block_count, Expr, Part, PartValues, Parts, ArePartsOf, root, State, Mark, Tag, Extend, Split, Closed, Open, IsFormed, made, marks, waiting_after, AllNameFirst, unnamed, AreTrees, HasCost, left_open, least, decided, opens, marks-then, merged-formed, task-bounds, plan-cost, IsMerged, first-close, unnamed-open, unnamed-decided, unnamed-tree, unnamed-waiting, SplitsFirst, AllSplitFirst, AreKept, renamed, renamed-alike, kept-open, name-first, WalkView, IsBeside, open_mark}
 use Rattle.sf_node.proofs.Depth.{subproblem-shallow}
-use Rattle.sf_search_core.specs.State.{State}
-use Rattle.sf_certificate.specs.declared.mark.Mark.{Mark}
-use Rattle.sf_certificate.specs.declared.tag.Tag.{Tag}
-use Rattle.sf_certificate.specs.declared.tag.Tag.TheVariants.{Extend, Split, Closed, Open}
-use Rattle.sf_certificate.specs.Form.{IsFormed}
-use Rattle.sf_certificate.specs.Marks.{made, marks, waiting_after}
-use Rattle.sf_certificate.specs.Named.{AllNameFirst, unnamed}
-use Rattle.sf_certificate.specs.Valid.{AreTrees, HasCost, left_open, least, decided}
-use Rattle.sf_certificate.proofs.AfterTags.{opens, marks-then}
-use Rattle.sf_certificate.proofs.MergedCert.{merged-formed, task-bounds, plan-cost}
-use Rattle.sf_certificate.proofs.MergedTree.{IsMerged}
-use Rattle.sf_certificate.proofs.Named.{first-close, unnamed-open, unnamed-decided, unnamed-tree, unnamed-waiting}
-use Rattle.sf_rounds.specs.Found.{SplitsFirst, AllSplitFirst}
-use Rattle.sf_rounds.specs.Naming.{AreKept, renamed}
-use Rattle.sf_rounds.specs.Stage.{WalkView, left_of, IsBeside}
 use Rattle.sf_rounds.proofs.Ended.{valued, merged-as, planned-as, stated-as, decided-as}
-use Rattle.sf_rounds.proofs.Names.{renamed-alike, kept-open, name-first}
+use Rattle.sf_rounds.specs.Stage.{IsLeftOpen}
+use Rattle.sf_worker.specs.InHand.{left_of, marks_of}
 use Rattle.sf_rounds.proofs.SplitMarks.{marks-first}
 
 -- equal costs, tags and kept values give equal renamed tags
@@ -56,25 +30,38 @@ splits-named design (node ∷ nodes) (Split b ∷ tags) all = (all.0, splits-nam
 splits-named design (node ∷ nodes) (Closed p ∷ tags) all = (tt, splits-named design nodes tags all.1)
 splits-named design (node ∷ nodes) (Open ∷ tags) all = (tt, splits-named design nodes tags all.1)
 
-module _ (design : Design) (bound : Parts → ℕ) (part : Parts → Part → ℕ) (parts : ArePartsOf design bound part) (state : State) (walk : WalkView) (b : IsBeside design bound state walk) (cost low : ℕ) (tags : List Tag) (plan : Option Expr) (c : cost ≡ walk.word) (l : low ≡ least walk.word (map bound (left_of design walk)))
-    (t : tags ≡ renamed walk.word (walk.tags ++ opens (left_of design walk)) walk.kept) (p : plan ≡ walk.best) where
+-- the tags of open subproblems
+tags-of-opens : (nodes : List Parts) → map (λ (m : Mark). m.tag) (map open_mark nodes) ≡ opens nodes
+tags-of-opens [] = refl
+tags-of-opens (node ∷ nodes) = ap (λ ts. Open ∷ ts) (tags-of-opens nodes)
+
+-- what was left open has open tags
+pub left-open-tags : (design : Design) (bound : Parts → ℕ) (old new : WalkView) (low : ℕ) {state : State} → IsBeside design bound state old → IsLeftOpen design bound old new low → new.hand.tags ≡ old.hand.tags ++ opens (left_of design old.hand)
+left-open-tags design bound old new low b o =
+    let tag_of_mark : Mark → Tag = λ m. m.tag in
+    let left = left_of design old.hand in
+    sym o.hand.hand_is.read ∙ ap (map tag_of_mark) o.hand.marks_are ∙ map-append tag_of_mark (marks_of design old.hand) (map open_mark left)
+    ∙ ap (λ ts. ts ++ map tag_of_mark (map open_mark left)) b.whole.0.read ∙ ap (λ ts. old.hand.tags ++ ts) (tags-of-opens left)
+
+module _ (design : Design) (bound : Parts → ℕ) (part : Parts → Part → ℕ) (parts : ArePartsOf design bound part) (state : State) (walk : WalkView) (b : IsBeside design bound state walk) (cost low : ℕ) (tags : List Tag) (plan : Option Expr) (c : cost ≡ walk.word) (l : low ≡ least walk.word (map bound (left_of design walk.hand)))
+    (t : tags ≡ renamed walk.word (walk.hand.tags ++ opens (left_of design walk.hand)) walk.hand.kept) (p : plan ≡ walk.best) where
   -- the root alone
   abbrev one : List Parts
   one = root design ∷ []
 
   -- the subproblems that are left to visit
   abbrev left : List Parts
-  left = left_of design walk
+  left = left_of design walk.hand
 
   -- the tags without names
   abbrev plain : List Tag
   plain = map unnamed tags
 
   -- without names the tags are those put down, and open ones behind them
-  pub plain-is : map unnamed tags ≡ map unnamed walk.tags ++ opens (left_of design walk)
+  pub plain-is : map unnamed tags ≡ map unnamed walk.hand.tags ++ opens (left_of design walk.hand)
   plain-is =
-      ap (map unnamed) t ∙ renamed-alike walk.word (walk.tags ++ opens left) walk.kept ∙ map-append unnamed walk.tags (opens left)
-      ∙ ap (λ ts. map unnamed walk.tags ++ ts) (opens-unnamed left)
+      ap (map unnamed) t ∙ renamed-alike walk.word (walk.hand.tags ++ opens left) walk.hand.kept ∙ map-append unnamed walk.hand.tags (opens left)
+      ∙ ap (λ ts. map unnamed walk.hand.tags ++ ts) (opens-unnamed left)
 
   -- the entries and the open tasks are merged into the tags without names
   merged : IsMerged design bound part cost state.entries state.waiting plain
@@ -105,20 +92,20 @@ module _ (design : Design) (bound : Parts → ℕ) (part : Parts → Part → �
       All-from_recursion P (marks one tags) (splits-named design one tags (recursion_from_All P (marks one plain) (marks-first design state.entries state.waiting (marks one plain) b.splits merged.placed)))
 
   -- the tags decide as many subproblems as were visited
-  pub decided-are : decided tags ≡ length walk.tags
+  pub decided-are : decided tags ≡ length walk.hand.tags
   decided-are = sym (unnamed-decided tags) ∙ decided-as design bound state walk b part parts.full cost low plain plan c l plain-is p
 
-  module _ (k : AreKept part walk.word (marks (root design ∷ []) walk.tags) walk.kept) where
+  module _ (k : AreKept part walk.word (marks (root design ∷ []) walk.hand.tags) walk.hand.kept) where
     -- each closed subproblem names the first part that is at least the cost
     pub names-are : AllNameFirst design part cost tags
     names-are =
-        let raw = walk.tags ++ opens left in
-        let then : waiting_after one walk.tags ≡ left = sym (unnamed-waiting one walk.tags) ∙ b.stage.then in
-        let same : marks one raw ≡ marks one walk.tags ++ map (λ node. record { node = node; tag = Open }) left =
-        marks-then one walk.tags (opens left) ∙ ap (λ ns. marks one walk.tags ++ marks ns (opens left)) then ∙ ap (λ ms. marks one walk.tags ++ ms) (open-marks left) in
-        let all : AreKept part walk.word (marks one raw) walk.kept = subst (λ ms. AreKept part walk.word ms walk.kept) (sym same) (kept-open part walk.word (marks one walk.tags) walk.kept left k) in
+        let raw = walk.hand.tags ++ opens left in
+        let then : waiting_after one walk.hand.tags ≡ left = sym (unnamed-waiting one walk.hand.tags) ∙ b.stage.then in
+        let same : marks one raw ≡ marks one walk.hand.tags ++ map (λ node. record { node = node; tag = Open }) left =
+        marks-then one walk.hand.tags (opens left) ∙ ap (λ ns. marks one walk.hand.tags ++ marks ns (opens left)) then ∙ ap (λ ms. marks one walk.hand.tags ++ ms) (open-marks left) in
+        let all : AreKept part walk.word (marks one raw) walk.hand.kept = subst (λ ms. AreKept part walk.word ms walk.hand.kept) (sym same) (kept-open part walk.word (marks one walk.hand.tags) walk.hand.kept left k) in
         subst (λ z. AllNameFirst design part z tags) (sym c)
-        (subst (AllNameFirst design part walk.word) (sym t) (name-first part walk.word one raw walk.kept all))
+        (subst (AllNameFirst design part walk.word) (sym t) (name-first part walk.word one raw walk.hand.kept all))
 
     -- the tags, with their names, are those of a tree from the root
     pub tree-is : AreTrees part cost (root design ∷ []) tags

@@ -1,31 +1,9 @@
 -- Two certificates of one state are the same.
 use Rattle.std.proofs.Common.{◌≡◌, ℕ, ◌<◌, List, [], ◌∷◌, ◌++◌, map, arith, refl, ap, sym, subst, ◌∙◌, Option, Some, None, true}
-use Rattle.std.specs.List.{AllByRecursion}
-use Rattle.std.proofs.lemmas.List.Elements.{All-from_recursion, recursion_from_All}
-use Rattle.std.proofs.lemmas.List.Sorted.{All-permutation, IsPermutation-sym}
-use Rattle.sf_model.specs.declared.design.Design.{Design}
-use Rattle.sf_model.proofs.Each.{each-left, each-right}
-use Rattle.sf_polish.specs.declared.expr.Expr.{Expr}
-use Rattle.sf_node.specs.declared.task.Task.{Task}
-use Rattle.sf_node.specs.declared.part.Part.{Part}
-use Rattle.sf_node.specs.Parts.{Parts}
-use Rattle.sf_node.specs.Subproblem.{root, is_solved}
-use Rattle.sf_node.specs.Children.{IsSubproblem}
+use Rattle.sf_rounds.proofs.Common.{AllByRecursion, All-from_recursion, recursion_from_All, All-permutation, IsPermutation-sym, Design, each-left, each-right, Expr, Task, Part, Parts, root, is_solved, IsSubproblem, IsPlanOf, IsLeastTrace, Entry, State, Mark, Open, no_plan, given_marks, marks, tag_of, unnamed, AreTrees, marks-good, each-unmap, IsCertOf, IsFirst, IsOfFirst}
 use Rattle.sf_node.proofs.Reached.{root-subproblem}
-use Rattle.sf_bounds.specs.Cheapest.{IsPlanOf, IsLeastTrace}
-use Rattle.sf_search_core.specs.declared.entry.Entry.{Entry}
 use Rattle.sf_search_core.specs.declared.entry.Kind.TheVariants as kind
-use Rattle.sf_search_core.specs.State.{State}
 use Rattle.sf_certificate.specs.declared.cert.Cert.{Cert}
-use Rattle.sf_certificate.specs.declared.mark.Mark.{Mark}
-use Rattle.sf_certificate.specs.declared.tag.Tag.TheVariants.{Open}
-use Rattle.sf_certificate.specs.Form.{no_plan}
-use Rattle.sf_certificate.specs.Marks.{given_marks, marks, tag_of}
-use Rattle.sf_certificate.specs.Named.{unnamed}
-use Rattle.sf_certificate.specs.Valid.{AreTrees}
-use Rattle.sf_certificate.proofs.Merged.{marks-good}
-use Rattle.sf_certificate.proofs.MergedTree.{each-unmap}
-use Rattle.sf_rounds.specs.Found.{IsCertOf, IsFirst, IsOfFirst}
 
 -- the entry of a closed subproblem
 abbrev closed : Parts → ℕ → Entry

@@ -1,32 +1,13 @@
 -- A search beside the machine, from its start on and over one visit.
 use Rattle.std.proofs.Common.{◌≡◌, ℕ, suc, ◌+◌, ◌<◌, ◌≤◌, List, [], ◌∷◌, ◌++◌, map, reverse, length, arith, refl, ap, sym, subst, ◌∙◌, Option, Some, None, true, false, length-append}
-use Rattle.std.proofs.lemmas.List.{map-append}
-use Rattle.sf_model.specs.declared.design.Design.{Design}
-use Rattle.sf_model.specs.declared.TheConstants.{MAX}
-use Rattle.sf_polish.specs.declared.expr.Expr.{Expr}
-use Rattle.sf_node.specs.declared.part.Part.{Part}
-use Rattle.sf_node.specs.declared.part.PartValues.{PartValues}
-use Rattle.sf_node.specs.Parts.{Parts}
-use Rattle.sf_node.specs.Subproblem.{root}
-use Rattle.sf_node.specs.Later.{behind, pending}
-use Rattle.sf_bounds.specs.Cheapest.{IsPlanOf}
-use Rattle.sf_search_core.specs.State.{State}
-use Rattle.sf_search_core.specs.Outcome.{opening}
+use Rattle.sf_rounds.proofs.Common.{map-append, Design, MAX, Expr, Part, PartValues, Parts, root, behind, IsPlanOf, State, opening, Mark, Tag, made, marks, waiting_after, unnamed, marks-more, unnamed-waiting, named-alike, kept-more, Solved, Extended, turn, turns, turn_events, AreAccepted, TurnsAreAccepted, IsFirst, kept_for, AreKept, best_after, task_at, IsStage, IsVisit, tag_at, tag_after, cost_at, WalkView, IsMove, IsBeside, IsRun, IsWhole, waiting}
+use Rattle.sf_cursor.specs.Path.{beyond}
 use Rattle.sf_search_core.proofs.Outcome.{opening-core}
-use Rattle.sf_certificate.specs.declared.tag.Tag.{Tag}
-use Rattle.sf_certificate.specs.Marks.{made, marks, waiting_after}
-use Rattle.sf_certificate.specs.Named.{unnamed}
-use Rattle.sf_certificate.proofs.AfterTags.{marks-more}
-use Rattle.sf_certificate.proofs.Named.{unnamed-waiting}
-use Rattle.sf_cursor.specs.Path.{IsPath}
-use Rattle.sf_rounds.specs.declared.visit.Visit.{Visit}
-use Rattle.sf_rounds.specs.declared.visit.Visit.TheVariants.{Closed, Solved, Extended, Split}
-use Rattle.sf_rounds.specs.Turns.{turn, turns, turn_events, AreAccepted, TurnsAreAccepted}
-use Rattle.sf_rounds.specs.Found.{IsFirst}
-use Rattle.sf_rounds.specs.Naming.{kept_for, AreKept}
-use Rattle.sf_rounds.proofs.Names.{named-alike, kept-more}
-use Rattle.sf_rounds.specs.Run.{IsBest, best_after}
-use Rattle.sf_rounds.specs.Stage.{task_at, IsStage, decision_of, IsVisit, tag_at, tag_after, word_after, WalkView, left_of, IsFollowed, IsMove, IsBeside, IsRun}
+use Rattle.sf_worker.specs.declared.visit.Visit.{Visit}
+use Rattle.sf_worker.specs.declared.visit.Visit.TheVariants.{Closed, Split}
+use Rattle.sf_worker.proofs.Visited.{IsPlain}
+use Rattle.sf_worker.specs.InHand.{HandView, IsFollowed, IsHand, left_of, marks_of}
+use Rattle.sf_rounds.specs.Run.{IsBest}
 use Rattle.sf_rounds.proofs.Settled.{taken-is, turned-is, first-is, accepted-is, plan-cost, turns-still, accepted-still}
 use Rattle.sf_rounds.proofs.Formed.{plan-formed}
 use Rattle.sf_rounds.proofs.Stage.{mid, some, taken, turn-is, next-is, stage-next}
@@ -36,11 +17,11 @@ pub stage-start : (design : Design) (bound : Parts → ℕ) → IsStage design b
 stage-start design bound = record { idle = refl; waiting = refl; kinds = refl; marked = refl; then = refl }
 
 -- a search with the root before it, no tags and no plan is the one after no visits
-pub run-start : (design : Design) (bound : Parts → ℕ) (walk : WalkView) → IsPath design bound walk.path → left_of design walk ≡ root design ∷ [] → walk.tags ≡ [] → walk.word ≡ MAX → walk.best ≡ None → IsRun design bound 0 walk
-run-start design bound walk at l t w b = record {
+pub run-start : (design : Design) (bound : Parts → ℕ) (walk : WalkView) → IsWhole design bound walk.hand → left_of design walk.hand ≡ root design ∷ [] → walk.hand.tags ≡ [] → walk.word ≡ MAX → walk.best ≡ None → IsRun design bound 0 walk
+run-start design bound walk whole l t w b = record {
   beside = record {
-    at = at;
-    stage = subst (λ ts. IsStage design bound (opening design bound 1) (map unnamed ts) (left_of design walk)) (sym t) (subst (IsStage design bound (opening design bound 1) []) (sym l) (stage-start design bound));
+    whole = whole;
+    stage = subst (λ ts. IsStage design bound (opening design bound 1) (map unnamed ts) (left_of design walk.hand)) (sym t) (subst (IsStage design bound (opening design bound 1) []) (sym l) (stage-start design bound));
     core = opening-core design bound 1;
     word = sym w;
     best = subst (IsBest design walk.word) (sym b) w;
@@ -68,28 +49,58 @@ unnamed-tag (Solved expr) = refl
 unnamed-tag Extended = refl
 unnamed-tag (Split b) = refl
 
--- the visit of a solved subproblem: its tag is put down, and then its plan is the best
-pub moved-solved : (design : Design) (bound : Parts → ℕ) (part : Parts → Part → ℕ) (old tagged followed new : WalkView) (expr : Expr) (tag : Tag) (value : ℕ) → IsVisit design bound old.path.node old.word (Solved expr) → value ≡ bound old.path.node →
-    tag ≡ tag_after bound part old.path.node (Solved expr) old.word → tagged ≡ record old { kept = old.kept ++ kept_for (part old.path.node) tag } → IsFollowed design bound tagged tag followed → new ≡ record followed { word = value; best = Some expr } → IsMove design bound part old (Solved expr) new
-moved-solved design bound part old tagged followed new expr tag value v e t m f n = record {
+-- what a tag makes, but for the part that it names
+made-after : (bound : Parts → ℕ) (part : Parts → Part → ℕ) (node : Parts) (seen : Visit) (word : ℕ) → made (tag_after bound part node seen word) node ≡ made (tag_at seen) node
+made-after bound part node Closed word = refl
+made-after bound part node (Solved expr) word = refl
+made-after bound part node Extended word = refl
+made-after bound part node (Split b) word = refl
+
+-- one tag more was put down
+pub followed-tags : (design : Design) (bound : Parts → ℕ) (old new : HandView) (tag : Tag) → IsHand design bound old → IsFollowed design bound old tag new → new.tags ≡ old.tags ++ tag ∷ []
+followed-tags design bound old new tag h f =
+    let tag_of_mark : Mark → Tag = λ m. m.tag in
+    sym f.hand_is.read ∙ ap (map tag_of_mark) f.marks_are ∙ map-append tag_of_mark (marks_of design old) (record { node = old.path.node; tag = tag } ∷ []) ∙ ap (λ ts. ts ++ tag ∷ []) h.read
+
+-- what is kept changes nothing else that is in hand
+keeps-followed : (design : Design) (bound : Parts → ℕ) (old new : HandView) (tag : Tag) (kept : List PartValues) → IsFollowed design bound (record old { kept = kept }) tag new → IsFollowed design bound old tag new
+keeps-followed design bound old new tag kept f = record { hand_is = f.hand_is; marks_are = f.marks_are; left = f.left; same = f.same }
+
+-- a visit that solved nothing leaves the word
+pub plain-word : (bound : Parts → ℕ) (node : Parts) (seen : Visit) (word : ℕ) → IsPlain seen → cost_at bound node seen word ≡ word
+plain-word bound node Closed word p = refl
+plain-word bound node (Solved expr) word p = absurd p
+plain-word bound node Extended word p = refl
+plain-word bound node (Split b) word p = refl
+
+-- and the best plan
+pub plain-best : (seen : Visit) (best : Option Expr) → IsPlain seen → best_after seen best ≡ best
+plain-best Closed best p = refl
+plain-best (Solved expr) best p = absurd p
+plain-best Extended best p = refl
+plain-best (Split b) best p = refl
+
+-- a visit whose tag was put down where the search was
+pub moved : (design : Design) (bound : Parts → ℕ) (part : Parts → Part → ℕ) (old new : WalkView) (tagged : HandView) (seen : Visit) (tag : Tag) → IsVisit design bound old.hand.path.node old.word seen → tag ≡ tag_after bound part old.hand.path.node seen old.word
+    → tagged ≡ record old.hand { kept = old.hand.kept ++ kept_for (part old.hand.path.node) tag } → IsFollowed design bound tagged tag new.hand → new.hand.kept ≡ tagged.kept → new.word ≡ cost_at bound old.hand.path.node seen old.word → new.best ≡ best_after seen old.best
+    → IsMove design bound part old seen new
+moved design bound part old new tagged seen tag v t m f k w b = record {
   visit = v;
-  at = subst (IsPath design bound) (sym (ap (λ (w : WalkView). w.path) n)) f.at;
-  tags = ap (λ (w : WalkView). w.tags) n ∙ f.tags ∙ ap (λ (w : WalkView). w.tags ++ tag ∷ []) m ∙ ap (λ x. old.tags ++ x ∷ []) t;
-  kept = ap (λ (w : WalkView). w.kept) n ∙ f.kept ∙ ap (λ (w : WalkView). w.kept) m ∙ ap (λ x. old.kept ++ kept_for (part old.path.node) x) t;
-  left = ap (left_of design) n ∙ f.left ∙ ap (λ (w : WalkView). made tag w.path.node ++ behind (root design) w.path.node.steps) m ∙ ap (λ x. made x old.path.node ++ behind (root design) old.path.node.steps) t;
-  word = ap (λ (w : WalkView). w.word) n ∙ e;
-  best = ap (λ (w : WalkView). w.best) n;
+  followed = subst (λ x. IsFollowed design bound old.hand x new.hand) t (keeps-followed design bound old.hand new.hand tag (old.hand.kept ++ kept_for (part old.hand.path.node) tag) (subst (λ h. IsFollowed design bound h tag new.hand) m f));
+  kept = k ∙ ap (λ (h : HandView). h.kept) m ∙ ap (λ x. old.hand.kept ++ kept_for (part old.hand.path.node) x) t;
+  word = w;
+  best = b;
 }
 
 -- a visit never raises the word
-word-lower : (design : Design) (bound : Parts → ℕ) (node : Parts) (seen : Visit) (word : ℕ) → IsVisit design bound node word seen → word_after bound node seen word ≤ word
+word-lower : (design : Design) (bound : Parts → ℕ) (node : Parts) (seen : Visit) (word : ℕ) → IsVisit design bound node word seen → cost_at bound node seen word ≤ word
 word-lower design bound node Closed word d = omega arith
 word-lower design bound node (Solved expr) word d = let less : bound node < word = d.below in omega arith
 word-lower design bound node Extended word d = omega arith
 word-lower design bound node (Split b) word d = omega arith
 
 -- the best plan after a visit costs the word after it, or there is none and the word is none
-best-next : (design : Design) (bound : Parts → ℕ) (node : Parts) (seen : Visit) (word : ℕ) (best : Option Expr) → IsVisit design bound node word seen → IsBest design word best → IsBest design (word_after bound node seen word) (best_after (decision_of bound node seen) best)
+best-next : (design : Design) (bound : Parts → ℕ) (node : Parts) (seen : Visit) (word : ℕ) (best : Option Expr) → IsVisit design bound node word seen → IsBest design word best → IsBest design (cost_at bound node seen word) (best_after seen best)
 best-next design bound node Closed word best d b = b
 best-next design bound node (Solved expr) word best d b =
     let plan : IsPlanOf design node expr (bound node) = d.plan in
@@ -98,10 +109,10 @@ best-next design bound node Extended word best d b = b
 best-next design bound node (Split i) word best d b = b
 
 -- one visit more
-module _ (design : Design) (bound : Parts → ℕ) (part : Parts → Part → ℕ) (state : State) (old new : WalkView) (seen : Visit) (b : IsBeside design bound state old) (more : old.more ≡ true) (m : IsMove design bound part old seen new) where
+module _ (design : Design) (bound : Parts → ℕ) (part : Parts → Part → ℕ) (state : State) (old new : WalkView) (seen : Visit) (b : IsBeside design bound state old) (more : old.hand.more ≡ true) (m : IsMove design bound part old seen new) where
   -- the subproblem that is next
   abbrev node : Parts
-  node = old.path.node
+  node = old.hand.path.node
 
   -- the subproblems that come behind it and what it makes
   abbrev rest : List Parts
@@ -109,7 +120,7 @@ module _ (design : Design) (bound : Parts → ℕ) (part : Parts → Part → �
 
   -- the tags without the parts that they name
   abbrev plain : List Tag
-  plain = map unnamed old.tags
+  plain = map unnamed old.hand.tags
 
   -- the tag of the visit
   abbrev tag : Tag
@@ -117,25 +128,37 @@ module _ (design : Design) (bound : Parts → ℕ) (part : Parts → Part → �
 
   -- the machine's open tasks are the next subproblem and those behind it
   stage : IsStage design bound state plain (node ∷ rest)
-  stage = subst (λ x. IsStage design bound state plain (pending design x node)) more b.stage
+  stage = subst (λ f. IsStage design bound state plain (node ∷ beyond f (root design) node.steps)) b.whole.2 (subst (λ x. IsStage design bound state plain (waiting design old.hand.floor x node)) more b.stage)
+
+  -- the tags after the visit
+  pub tags-next : new.hand.tags ≡ old.hand.tags ++ tag_after bound part old.hand.path.node seen old.word ∷ []
+  tags-next = followed-tags design bound old.hand new.hand tag b.whole.0 m.followed
+
+  -- what is left after the visit
+  left-next : left_of design new.hand ≡ made (tag_at seen) node ++ rest
+  left-next = m.followed.left ∙ ap (λ ns. ns ++ beyond old.hand.floor (root design) node.steps) (made-after bound part node seen old.word) ∙ ap (λ f. made (tag_at seen) node ++ beyond f (root design) node.steps) b.whole.2
+
+  -- it is the whole tree still
+  whole-next : IsWhole design bound new.hand
+  whole-next = (m.followed.hand_is, m.followed.same.0 ∙ b.whole.1, m.followed.same.1 ∙ b.whole.2)
 
   -- without names the tags after the visit are those before, and that of the visit
-  plain-next : map unnamed new.tags ≡ plain ++ tag_at seen ∷ []
+  plain-next : map unnamed new.hand.tags ≡ plain ++ tag_at seen ∷ []
   plain-next =
-      ap (map unnamed) m.tags ∙ map-append unnamed old.tags (tag ∷ [])
-      ∙ ap (λ t. plain ++ t ∷ []) (named-alike (part node) (word_after bound node seen old.word) (tag_at seen) ∙ unnamed-tag seen)
+      ap (map unnamed) tags-next ∙ map-append unnamed old.hand.tags (tag ∷ [])
+      ∙ ap (λ t. plain ++ t ∷ []) (named-alike (part node) (cost_at bound node seen old.word) (tag_at seen) ∙ unnamed-tag seen)
 
   -- what is kept after the visit is kept for all marks, also for the word after it
-  pub kept-next : AreKept part old.word (marks (root design ∷ []) old.tags) old.kept → AreKept part new.word (marks (root design ∷ []) new.tags) new.kept
+  pub kept-next : AreKept part old.word (marks (root design ∷ []) old.hand.tags) old.hand.kept → AreKept part new.word (marks (root design ∷ []) new.hand.tags) new.hand.kept
   kept-next k =
       let one = root design ∷ [] in
-      let then : waiting_after one old.tags ≡ node ∷ rest = sym (unnamed-waiting one old.tags) ∙ stage.then in
-      let more_marks : marks one new.tags ≡ marks one old.tags ++ record { node = node; tag = tag } ∷ [] = ap (marks one) m.tags ∙ marks-more one old.tags node rest tag then in
-      let word = word_after bound node seen old.word in
-      subst (λ w. AreKept part w (marks one new.tags) new.kept) (sym m.word)
-      (subst (AreKept part word (marks one new.tags)) (sym m.kept)
-      (subst (λ ms. AreKept part word ms (old.kept ++ kept_for (part node) tag)) (sym more_marks)
-      (kept-more part word old.word (marks one old.tags) node (tag_at seen) (word-lower design bound node seen old.word m.visit) old.kept k)))
+      let then : waiting_after one old.hand.tags ≡ node ∷ rest = sym (unnamed-waiting one old.hand.tags) ∙ stage.then in
+      let more_marks : marks one new.hand.tags ≡ marks one old.hand.tags ++ record { node = node; tag = tag } ∷ [] = ap (marks one) tags-next ∙ marks-more one old.hand.tags node rest tag then in
+      let word = cost_at bound node seen old.word in
+      subst (λ w. AreKept part w (marks one new.hand.tags) new.hand.kept) (sym m.word)
+      (subst (AreKept part word (marks one new.hand.tags)) (sym m.kept)
+      (subst (λ ms. AreKept part word ms (old.hand.kept ++ kept_for (part node) tag)) (sym more_marks)
+      (kept-more part word old.word (marks one old.hand.tags) node (tag_at seen) (word-lower design bound node seen old.word m.visit) old.hand.kept k)))
 
   -- the visit decides the subproblem against the machine's word
   decided : IsVisit design bound node state.word seen
@@ -152,17 +175,17 @@ module _ (design : Design) (bound : Parts → ℕ) (part : Parts → Part → �
       let s = stage-next design bound state plain node rest stage b.core seen decided in
       let took = taken-is design state held stage.idle (some design bound state plain node rest stage) (taken design bound state plain node rest stage) in
       let made_so = turn-is design bound state plain node rest stage in
-      let t = turned-is design bound state held (turn design bound state) (task_at bound node) (decision_of bound node seen) took refl b.core.not_stale decided made_so in
+      let t = turned-is design bound state held (turn design bound state) (task_at bound node) seen took refl refl b.core.not_stale decided made_so in
       record {
-        at = m.at;
-        stage = subst (λ ts. IsStage design bound (turn design bound state) ts (left_of design new)) (sym plain-next)
-            (subst (IsStage design bound (turn design bound state) (plain ++ tag_at seen ∷ [])) (sym m.left) s);
+        whole = whole-next;
+        stage = subst (λ ts. IsStage design bound (turn design bound state) ts (left_of design new.hand)) (sym plain-next)
+            (subst (IsStage design bound (turn design bound state) (plain ++ tag_at seen ∷ [])) (sym left-next) s);
         core = n.core;
-        word = n.word ∙ ap (word_after bound node seen) b.word ∙ sym m.word;
-        best = subst (IsBest design new.word) (sym m.best) (subst (λ w. IsBest design w (best_after (decision_of bound node seen) old.best)) (sym m.word)
+        word = n.word ∙ ap (cost_at bound node seen) b.word ∙ sym m.word;
+        best = subst (IsBest design new.word) (sym m.best) (subst (λ w. IsBest design w (best_after seen old.best)) (sym m.word)
             (best-next design bound node seen old.word old.best m.visit b.best));
         first = subst (IsFirst design (turn design bound state)) (sym m.best)
-            (first-is design bound state held (turn design bound state) (task_at bound node) (decision_of bound node seen) took refl b.core.not_stale decided made_so old.best b.first);
+            (first-is design bound state held (turn design bound state) (task_at bound node) seen took refl refl b.core.not_stale decided made_so old.best b.first);
         splits = t.splits b.splits;
       }
 
@@ -170,11 +193,11 @@ module _ (design : Design) (bound : Parts → ℕ) (part : Parts → Part → �
   pub accepted-next : AreAccepted design state (turn_events design bound state)
   accepted-next =
       let took = taken-is design state held stage.idle (some design bound state plain node rest stage) (taken design bound state plain node rest stage) in
-      accepted-is design bound state held (turn design bound state) (task_at bound node) (decision_of bound node seen) took refl b.core.not_stale decided (turn-is design bound state plain node rest stage)
+      accepted-is design bound state held (turn design bound state) (task_at bound node) seen took refl refl b.core.not_stale decided (turn-is design bound state plain node rest stage)
       stage.idle (some design bound state plain node rest stage) (taken design bound state plain node rest stage)
 
 -- one more visit makes of the search after k visits that after k + 1
-pub run-next : (design : Design) (bound : Parts → ℕ) (part : Parts → Part → ℕ) (k : ℕ) (old new : WalkView) (seen : Visit) → IsRun design bound k old → old.more ≡ true → IsMove design bound part old seen new → IsRun design bound (k + 1) new
+pub run-next : (design : Design) (bound : Parts → ℕ) (part : Parts → Part → ℕ) (k : ℕ) (old new : WalkView) (seen : Visit) → IsRun design bound k old → old.hand.more ≡ true → IsMove design bound part old seen new → IsRun design bound (k + 1) new
 run-next design bound part k old new seen run more m =
     let first = opening design bound 1 in
     let one : suc k ≡ k + 1 = omega arith in
@@ -184,10 +207,10 @@ run-next design bound part k old new seen run more m =
     }
 
 -- where nothing is left, the machine has no open task, and further turns change nothing
-pub run-still : (design : Design) (bound : Parts → ℕ) (k n : ℕ) (walk : WalkView) → k ≤ n → walk.more ≡ false → IsRun design bound k walk → IsRun design bound n walk
+pub run-still : (design : Design) (bound : Parts → ℕ) (k n : ℕ) (walk : WalkView) → k ≤ n → walk.hand.more ≡ false → IsRun design bound k walk → IsRun design bound n walk
 run-still design bound k n walk h none run =
     let first = opening design bound 1 in
-    let left : left_of design walk ≡ [] = ap (λ x. pending design x walk.path.node) none in
+    let left : left_of design walk.hand ≡ [] = ap (λ x. waiting design walk.hand.floor x walk.hand.path.node) none in
     let empty : (turns design bound k first).waiting ≡ [] = run.beside.stage.waiting ∙ ap (λ ns. reverse (map (task_at bound) ns)) left in
     record {
       beside = subst (λ s. IsBeside design bound s walk) (sym (turns-still design bound k n first h empty)) run.beside;
@@ -195,5 +218,7 @@ run-still design bound k n walk h none run =
     }
 
 -- one more visit puts down one more tag
-pub count-next : (design : Design) (bound : Parts → ℕ) (part : Parts → Part → ℕ) (k : ℕ) (old new : WalkView) (seen : Visit) → length old.tags ≡ k → IsMove design bound part old seen new → length new.tags ≡ k + 1
-count-next design bound part k old new seen e m = omega (arith, ap length m.tags, length-append old.tags (tag_after bound part old.path.node seen old.word ∷ []))
+pub count-next : (design : Design) (bound : Parts → ℕ) (part : Parts → Part → ℕ) (k : ℕ) (old new : WalkView) (seen : Visit) → IsHand design bound old.hand → length old.hand.tags ≡ k → IsMove design bound part old seen new → length new.hand.tags ≡ k + 1
+count-next design bound part k old new seen h e m =
+    let tag = tag_after bound part old.hand.path.node seen old.word in
+    omega (arith, ap length (followed-tags design bound old.hand new.hand tag h m.followed), length-append old.hand.tags (tag ∷ []), e)

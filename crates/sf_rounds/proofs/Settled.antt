@@ -1,38 +1,17 @@
 -- The states that the events of a turn make.
 use Rattle.std.proofs.Common.{◌≡◌, ℕ, suc, ◌-◌, ◌<◌, ◌≤◌, min, List, [], ◌∷◌, ◌++◌, map, length, All, arith, refl, ap, sym, subst, ◌∙◌, Option, Some, None, Result, Ok, Err, Bool, true, false, not, length-append, append_assoc, eq-eqb, inl, inr}
 use Prim.Native.Nat.{zero}
-use Rattle.std.specs.Prelude.{IsOk, IfOk, slice_set, slice_get, nat_le, remove, ◌==◌, ◌&&◌, ◌||◌}
-use Rattle.std.specs.List.{list_all}
+use Rattle.std.specs.Prelude.{◌==◌, ◌&&◌, ◌||◌}
+use Rattle.sf_rounds.proofs.Common.{IsOk, IfOk, slice_set, slice_get, nat_le, remove, list_all, lt-ltb, cond-true, cond-false, cases_lt, length-map, All-push, All-weaker, Design, Expr, Task, Parts, is_complete, is_solved, is_wide, span_of, extended, split, CanSplit, IsPlanOf, Entry, State, next_of, after_event, after_events, HasCost, least, first_wide, IsSolvedBy, IsVisit, BranchesFirst, AllBranchFirst, entries-few, IsCoreState, held_tasks, settling, turn_of, turn_events, turn, turns, AreAccepted, TurnsAreAccepted, IsOfFirst, IsFirst, IsIdle, Decides, IsTurned, IsSettled, best_after}
 use Rattle.std.specs.Result.{is_ok}
-use Rattle.std.proofs.lemmas.Bool.{lt-ltb, cond-true, cond-false, cases_lt}
-use Rattle.std.proofs.lemmas.List.{length-map}
-use Rattle.std.proofs.lemmas.List.Elements.{All-push, All-weaker}
-use Rattle.sf_model.specs.declared.design.Design.{Design}
-use Rattle.sf_polish.specs.declared.expr.Expr.{Expr}
-use Rattle.sf_node.specs.declared.task.Task.{Task}
-use Rattle.sf_node.specs.Parts.{Parts}
-use Rattle.sf_node.specs.Subproblem.{is_complete, is_solved, is_wide, span_of}
-use Rattle.sf_node.specs.Children.{extended, split, CanSplit}
-use Rattle.sf_bounds.specs.Cheapest.{IsPlanOf}
-use Rattle.sf_search_core.specs.declared.entry.Entry.{Entry}
 use Rattle.sf_search_core.specs.declared.entry.Kind.TheVariants as kind
 use Rattle.sf_search_core.specs.declared.event.Event.TheVariants.{Take, Replace, Close, Offer}
 use Rattle.sf_search_core.specs.declared.event.How.TheVariants as how
-use Rattle.sf_search_core.specs.State.{State}
 use Rattle.sf_search_core.specs.Events.{held_in, held_by, applied, take, close, offer, may_branch}
-use Rattle.sf_search_core.specs.Outcome.{next_of, after_event, after_events}
 use Rattle.sf_search_core.proofs.Replaced.{not-lt, replaced, replace-done}
-use Rattle.sf_certificate.specs.Valid.{HasCost, least}
-use Rattle.sf_worker.specs.declared.decision.Decision.{Decision}
-use Rattle.sf_worker.specs.declared.decision.Decision.TheVariants.{Closed, Solved, Extended, Split}
-use Rattle.sf_worker.specs.Decided.{first_wide, IsSolvedBy, IsDecision}
-use Rattle.sf_count.specs.Few.{BranchesFirst, AllBranchFirst}
-use Rattle.sf_count.proofs.FewEntries.{entries-few}
+use Rattle.sf_worker.specs.declared.visit.Visit.{Visit}
+use Rattle.sf_worker.specs.declared.visit.Visit.TheVariants.{Closed, Solved, Extended, Split}
 use Rattle.sf_node.specs.Full.{full}
-use Rattle.sf_search_core.specs.Core.{IsCoreState, held_tasks}
-use Rattle.sf_rounds.specs.Turns.{settling, turn_of, turn_events, turn, turns, AreAccepted, TurnsAreAccepted}
-use Rattle.sf_rounds.specs.Found.{IsOfFirst, IsFirst}
-use Rattle.sf_rounds.specs.Run.{IsIdle, Decides, IsTurned, IsSettled, best_after}
 
 -- a number is not at most one that is less
 not-le : (a b : ℕ) → b < a → nat_le a b ≡ false
@@ -115,22 +94,22 @@ first-kept design old new e (Some expr) k same f =
     (subst (λ es. IsOfFirst design es old.word expr) (sym k) (first-more design old.entries (e ∷ []) old.word expr f))
 
 -- the plan of a solved task below the word is the first one of its cost
-first-solved : (design : Design) (state : State) (t : Task) (expr : Expr) (z : ℕ) → All (λ entry. state.word ≤ entry.value) state.entries → IsSolvedBy design t state.word expr z → IsOfFirst design (state.entries ++ record { node = t.node; kind = kind.Closed; value = t.bound } ∷ []) t.bound expr
-first-solved design state t expr z fresh d = record {
+first-solved : (design : Design) (bound : Parts → ℕ) (state : State) (t : Task) (expr : Expr) → t.bound ≡ bound t.node → All (λ entry. state.word ≤ entry.value) state.entries → IsSolvedBy design bound t.node state.word expr → IsOfFirst design (state.entries ++ record { node = t.node; kind = kind.Closed; value = t.bound } ∷ []) t.bound expr
+first-solved design bound state t expr same fresh d = record {
   before = state.entries;
   node = t.node;
   after = [];
   at = refl;
-  first = All-weaker (λ entry. state.word ≤ entry.value) (λ entry. t.bound < entry.value) (λ entry h. omega (arith, h, d.below)) state.entries fresh;
+  first = All-weaker (λ entry. state.word ≤ entry.value) (λ entry. t.bound < entry.value) (λ entry h. omega (arith, h, same, d.below)) state.entries fresh;
   solved = d.solved;
-  plan = subst (IsPlanOf design t.node expr) d.same d.plan;
+  plan = subst (IsPlanOf design t.node expr) (sym same) d.plan;
   traced = d.traced;
 }
 
 module _ (design : Design) (state : State) where
   -- one entry more, and no task held any more, is a settling of the held task
-  entry-settled : (decision : Decision) (new : State) (e : Entry) → new.held ≡ slice_set state.held 0 None → new.entries ≡ state.entries ++ e ∷ [] → BranchesFirst design e.kind e.node → ((best : Option Expr) → IsFirst design state best → IsFirst design new (best_after decision best)) → IsSettled design decision state new
-  entry-settled decision new e h k first keeps = record {
+  entry-settled : (seen : Visit) (new : State) (e : Entry) → new.held ≡ slice_set state.held 0 None → new.entries ≡ state.entries ++ e ∷ [] → BranchesFirst design e.kind e.node → ((best : Option Expr) → IsFirst design state best → IsFirst design new (best_after seen best)) → IsSettled design seen state new
+  entry-settled seen new e h k first keeps = record {
     held = h;
     one_more = omega (arith, ap length k, length-append state.entries (e ∷ []));
     splits = λ a. subst (AllBranchFirst design) (sym k) (All-push (λ entry. BranchesFirst design entry.kind entry.node) state.entries e a first);
@@ -139,66 +118,74 @@ module _ (design : Design) (state : State) where
 
   module _ (bound : Parts → ℕ) (fresh : All (λ entry. state.word ≤ entry.value) state.entries) where
     -- the events of a decision settle the held task by it
-    pub settled-at : (held : Option Task) (decision : Decision) → held_by state 0 ≡ held → Decides design bound held state.word decision → IsSettled design decision state (after_events design state (settling design bound held state.word))
-    settled-at None decision e d = absurd d
-    settled-at (Some t) Closed e d =
+    pub settled-at : (held : Option Task) (seen : Visit) → held_by state 0 ≡ held → Decides design bound held state.word seen → IsSettled design seen state (after_events design state (settling design bound held state.word))
+    settled-at None seen e d = absurd d
+    settled-at (Some t) Closed e (b, d) =
+        let over : state.word ≤ t.bound = omega (arith, b, d) in
         let same : after_events design state (settling design bound (Some t) state.word) ≡ closed state t state.word =
-        ap (after_events design state) (settling-closed design bound t state.word d) ∙ ap (next_of state) (close-done design state t e state.word (omega arith) d) in
+        ap (after_events design state) (settling-closed design bound t state.word over) ∙ ap (next_of state) (close-done design state t e state.word (omega arith) over) in
         let e' : Entry = record { node = t.node; kind = kind.Closed; value = state.word } in
         subst (IsSettled design Closed state) (sym same) (entry-settled Closed (closed state t state.word) e' refl refl tt (λ best f. first-kept design state (closed state t state.word) e' best refl refl f))
-    settled-at (Some t) (Solved expr z) e d =
+    settled-at (Some t) (Solved expr) e (b, d) =
         let s1 : State = record state { word = min state.word t.bound } in
+        let below : t.bound < state.word = omega (arith, b, d.below) in
         let same : after_events design state (settling design bound (Some t) state.word) ≡ closed s1 t t.bound =
-        ap (after_events design state) (settling-solved design bound t state.word d.below d.solved)
+        ap (after_events design state) (settling-solved design bound t state.word below d.solved)
         ∙ ap (λ r. after_event design (next_of state r) (Close 0 t.bound)) (offer-done design state t e d.solved)
         ∙ ap (next_of s1) (close-done design s1 t e t.bound (omega arith) (omega arith)) in
-        let least : min state.word t.bound ≡ t.bound = omega (arith, d.below) in
+        let least : min state.word t.bound ≡ t.bound = omega (arith, below) in
         let e' : Entry = record { node = t.node; kind = kind.Closed; value = t.bound } in
-        let found = subst (λ w. IsOfFirst design (state.entries ++ e' ∷ []) w expr) (sym least) (first-solved design state t expr z fresh d) in
-        subst (IsSettled design (Solved expr z) state) (sym same) (entry-settled (Solved expr z) (closed s1 t t.bound) e' refl refl tt (λ best f. found))
-    settled-at (Some t) (Split b left right) e d =
-        let i = first_wide t.node in
-        let wide : CanSplit t.node i = subst (CanSplit t.node) d.first.2 d.wide in
-        let may : may_branch (how.Split i) t.node ≡ true = ap (λ x. x && is_wide (span_of t.node i)) (lt-ltb i (length t.node.spans) wide.0) ∙ wide.1 in
-        let costs = map bound (split t.node i) in
-        let same : after_events design state (settling design bound (Some t) state.word) ≡ replaced state 0 (how.Split i) state.word costs t =
-        ap (after_events design state) (settling-split design bound t state.word d.below d.first.1 d.first.0)
-        ∙ ap (next_of state) (replace-done state 0 (how.Split i) state.word costs (held_by state 0) t e (omega arith) d.below may) in
-        let new = replaced state 0 (how.Split i) state.word costs t in
-        let e' : Entry = record { node = t.node; kind = kind.Split i; value = state.word } in
-        subst (IsSettled design (Split b left right) state) (sym same) (entry-settled (Split b left right) new e' refl refl (d.first.0, d.first.1, refl) (λ best f. first-kept design state new e' best refl refl f))
-    settled-at (Some t) (Extended made) e d =
-        let may : may_branch how.Extend t.node ≡ true = ap not d.incomplete in
+        let found = subst (λ w. IsOfFirst design (state.entries ++ e' ∷ []) w expr) (sym least) (first-solved design bound state t expr b fresh d) in
+        subst (IsSettled design (Solved expr) state) (sym same) (entry-settled (Solved expr) (closed s1 t t.bound) e' refl refl tt (λ best f. found))
+    settled-at (Some t) (Split i) e (b, d) =
+        let first = first_wide t.node in
+        let below : t.bound < state.word = omega (arith, b, d.below) in
+        let wide : CanSplit t.node first = subst (CanSplit t.node) d.first.2 d.wide in
+        let may : may_branch (how.Split first) t.node ≡ true = ap (λ x. x && is_wide (span_of t.node first)) (lt-ltb first (length t.node.spans) wide.0) ∙ wide.1 in
+        let costs = map bound (split t.node first) in
+        let same : after_events design state (settling design bound (Some t) state.word) ≡ replaced state 0 (how.Split first) state.word costs t =
+        ap (after_events design state) (settling-split design bound t state.word below d.first.1 d.first.0)
+        ∙ ap (next_of state) (replace-done state 0 (how.Split first) state.word costs (held_by state 0) t e (omega arith) below may) in
+        let new = replaced state 0 (how.Split first) state.word costs t in
+        let e' : Entry = record { node = t.node; kind = kind.Split first; value = state.word } in
+        subst (IsSettled design (Split i) state) (sym same) (entry-settled (Split i) new e' refl refl (d.first.0, d.first.1, refl) (λ best f. first-kept design state new e' best refl refl f))
+    settled-at (Some t) Extended e (b, d) =
+        let below : t.bound < state.word = (let l = d.0 in omega (arith, b, l)) in
+        let may : may_branch how.Extend t.node ≡ true = ap not d.1 in
         let costs = map bound (extended t.node) in
         let same : after_events design state (settling design bound (Some t) state.word) ≡ replaced state 0 how.Extend state.word costs t =
-        ap (after_events design state) (settling-extended design bound t state.word d.below d.incomplete)
-        ∙ ap (next_of state) (replace-done state 0 how.Extend state.word costs (held_by state 0) t e (omega arith) d.below may) in
+        ap (after_events design state) (settling-extended design bound t state.word below d.1)
+        ∙ ap (next_of state) (replace-done state 0 how.Extend state.word costs (held_by state 0) t e (omega arith) below may) in
         let new = replaced state 0 how.Extend state.word costs t in
         let e' : Entry = record { node = t.node; kind = kind.Extended; value = state.word } in
-        subst (IsSettled design (Extended made) state) (sym same) (entry-settled (Extended made) new e' refl refl tt (λ best f. first-kept design state new e' best refl refl f))
+        subst (IsSettled design Extended state) (sym same) (entry-settled Extended new e' refl refl tt (λ best f. first-kept design state new e' best refl refl f))
 
     -- each event that settles the task is accepted
-    pub accepted-at : (held : Option Task) (decision : Decision) → held_by state 0 ≡ held → Decides design bound held state.word decision → AreAccepted design state (settling design bound held state.word)
-    accepted-at None decision e d = absurd d
-    accepted-at (Some t) Closed e d =
-        subst (AreAccepted design state) (sym (settling-closed design bound t state.word d)) (ap is_ok (close-done design state t e state.word (omega arith) d), tt)
-    accepted-at (Some t) (Solved expr z) e d =
+    pub accepted-at : (held : Option Task) (seen : Visit) → held_by state 0 ≡ held → Decides design bound held state.word seen → AreAccepted design state (settling design bound held state.word)
+    accepted-at None seen e d = absurd d
+    accepted-at (Some t) Closed e (b, d) =
+        let over : state.word ≤ t.bound = omega (arith, b, d) in
+        subst (AreAccepted design state) (sym (settling-closed design bound t state.word over)) (ap is_ok (close-done design state t e state.word (omega arith) over), tt)
+    accepted-at (Some t) (Solved expr) e (b, d) =
         let s1 : State = record state { word = min state.word t.bound } in
+        let below : t.bound < state.word = omega (arith, b, d.below) in
         let offered = offer-done design state t e d.solved in
         let then : after_event design state (Offer 0 t.bound) ≡ s1 = ap (next_of state) offered in
         let last = close-done design s1 t e t.bound (omega arith) (omega arith) in
-        subst (AreAccepted design state) (sym (settling-solved design bound t state.word d.below d.solved))
+        subst (AreAccepted design state) (sym (settling-solved design bound t state.word below d.solved))
         (ap is_ok offered, (subst (λ (s : State). IsOk (applied design s (Close 0 t.bound))) (sym then) (ap is_ok last), tt))
-    accepted-at (Some t) (Split b left right) e d =
-        let i = first_wide t.node in
-        let wide : CanSplit t.node i = subst (CanSplit t.node) d.first.2 d.wide in
-        let may : may_branch (how.Split i) t.node ≡ true = ap (λ x. x && is_wide (span_of t.node i)) (lt-ltb i (length t.node.spans) wide.0) ∙ wide.1 in
-        subst (AreAccepted design state) (sym (settling-split design bound t state.word d.below d.first.1 d.first.0))
-        (ap is_ok (replace-done state 0 (how.Split i) state.word (map bound (split t.node i)) (held_by state 0) t e (omega arith) d.below may), tt)
-    accepted-at (Some t) (Extended made) e d =
-        let may : may_branch how.Extend t.node ≡ true = ap not d.incomplete in
-        subst (AreAccepted design state) (sym (settling-extended design bound t state.word d.below d.incomplete))
-        (ap is_ok (replace-done state 0 how.Extend state.word (map bound (extended t.node)) (held_by state 0) t e (omega arith) d.below may), tt)
+    accepted-at (Some t) (Split i) e (b, d) =
+        let first = first_wide t.node in
+        let below : t.bound < state.word = omega (arith, b, d.below) in
+        let wide : CanSplit t.node first = subst (CanSplit t.node) d.first.2 d.wide in
+        let may : may_branch (how.Split first) t.node ≡ true = ap (λ x. x && is_wide (span_of t.node first)) (lt-ltb first (length t.node.spans) wide.0) ∙ wide.1 in
+        subst (AreAccepted design state) (sym (settling-split design bound t state.word below d.first.1 d.first.0))
+        (ap is_ok (replace-done state 0 (how.Split first) state.word (map bound (split t.node first)) (held_by state 0) t e (omega arith) below may), tt)
+    accepted-at (Some t) Extended e (b, d) =
+        let below : t.bound < state.word = (let l = d.0 in omega (arith, b, l)) in
+        let may : may_branch how.Extend t.node ≡ true = ap not d.1 in
+        subst (AreAccepted design state) (sym (settling-extended design bound t state.word below d.1))
+        (ap is_ok (replace-done state 0 how.Extend state.word (map bound (extended t.node)) (held_by state 0) t e (omega arith) below may), tt)
 
 -- taking the last open task
 pub record IsTaken (old mid : State) : Type 0 where
@@ -244,12 +231,12 @@ pub taken-is : (design : Design) (state mid : State) → IsIdle state → 0 < le
 taken-is design state mid idle some e = subst (IsTaken state) (sym e) (taken-at design state idle some (slice_get state.waiting (length state.waiting - 1)) refl)
 
 -- a turn: taking, then settling
-module _ (design : Design) (bound : Parts → ℕ) (old mid new : State) (task : Task) (decision : Decision) (taken : IsTaken old mid) (e : held_by mid 0 ≡ Some task) (fresh : All (λ entry. mid.word ≤ entry.value) mid.entries) (d : IsDecision design bound task mid.word decision) (made : new ≡ after_events design mid (settling design bound (held_by mid 0) mid.word)) where
+module _ (design : Design) (bound : Parts → ℕ) (old mid new : State) (task : Task) (seen : Visit) (taken : IsTaken old mid) (e : held_by mid 0 ≡ Some task) (same : task.bound ≡ bound task.node) (fresh : All (λ entry. mid.word ≤ entry.value) mid.entries) (d : IsVisit design bound task.node mid.word seen) (made : new ≡ after_events design mid (settling design bound (held_by mid 0) mid.word)) where
   -- the events settle the task that was taken
-  settled : IsSettled design decision mid new
+  settled : IsSettled design seen mid new
   settled =
-      let decides = subst (λ h. Decides design bound h mid.word decision) (sym e) d in
-      subst (IsSettled design decision mid) (sym made) (settled-at design mid bound fresh (held_by mid 0) decision refl decides)
+      let decides = subst (λ h. Decides design bound h mid.word seen) (sym e) (same, d) in
+      subst (IsSettled design seen mid) (sym made) (settled-at design mid bound fresh (held_by mid 0) seen refl decides)
 
   -- taking and settling a task is one turn
   pub turned-is : IsTurned design old new
@@ -265,7 +252,7 @@ module _ (design : Design) (bound : Parts → ℕ) (old mid new : State) (task :
   taken-first (Some expr) f = subst (λ w. IsOfFirst design mid.entries w expr) (sym taken.word) (subst (λ es. IsOfFirst design es old.word expr) (sym taken.entries) f)
 
   -- the best plan after the turn is the first one of its cost
-  pub first-is : (best : Option Expr) → IsFirst design old best → IsFirst design new (best_after decision best)
+  pub first-is : (best : Option Expr) → IsFirst design old best → IsFirst design new (best_after seen best)
   first-is best f = settled.keeps best (taken-first best f)
 
   -- the machine accepts the events of the turn
@@ -273,8 +260,8 @@ module _ (design : Design) (bound : Parts → ℕ) (old mid new : State) (task :
   accepted-is idle some was =
       let t = taken.task in
       let here : held_by mid 0 ≡ Some t = ap (λ h. held_in (slice_get h 0)) taken.held in
-      let decides = subst (λ h. Decides design bound h mid.word decision) (sym e) d in
-      let then = accepted-at design mid bound fresh (held_by mid 0) decision refl decides in
+      let decides = subst (λ h. Decides design bound h mid.word seen) (sym e) (same, d) in
+      let then = accepted-at design mid bound fresh (held_by mid 0) seen refl decides in
       let rest = subst (λ w. AreAccepted design mid (settling design bound (Some t) w)) taken.word (subst (λ h. AreAccepted design mid (settling design bound h mid.word)) here then) in
       subst (AreAccepted design old) (sym (ap (turn_of design bound old) taken.got)) (
         take-accepted design old idle some (slice_get old.waiting (length old.waiting - 1)) refl,

@@ -1,21 +1,7 @@
 -- The splits of the entries are those of the tree.
-use Rattle.std.proofs.Common.{List, [], ◌∷◌, map, All}
-use Rattle.std.specs.Prelude.{IsPermutation}
-use Rattle.std.specs.List.{AllByRecursion}
-use Rattle.std.proofs.lemmas.List.Elements.{recursion_from_All, All-from_recursion}
-use Rattle.std.proofs.lemmas.List.Sorted.{All-permutation}
-use Rattle.sf_model.specs.declared.design.Design.{Design}
-use Rattle.sf_model.proofs.Each.{each-append}
-use Rattle.sf_node.specs.declared.task.Task.{Task}
-use Rattle.sf_node.specs.Parts.{Parts}
-use Rattle.sf_search_core.specs.declared.entry.Entry.{Entry}
-use Rattle.sf_search_core.specs.declared.entry.Kind.{Kind}
+use Rattle.std.proofs.Common.{List, [], ◌∷◌, ◌++◌, map, All}
+use Rattle.sf_rounds.proofs.Common.{IsPermutation, AllByRecursion, recursion_from_All, All-from_recursion, All-permutation, Design, each-append, Task, Parts, Entry, Kind, Mark, Open, given_marks, tag_of, BranchesFirst, AllBranchFirst, SplitsFirst, mark_of, open_mark}
 use Rattle.sf_search_core.specs.declared.entry.Kind.TheVariants as kind
-use Rattle.sf_certificate.specs.declared.mark.Mark.{Mark}
-use Rattle.sf_certificate.specs.declared.tag.Tag.TheVariants.{Open}
-use Rattle.sf_certificate.specs.Marks.{given_marks, tag_of}
-use Rattle.sf_count.specs.Few.{BranchesFirst, AllBranchFirst}
-use Rattle.sf_rounds.specs.Found.{SplitsFirst}
 
 module _ (design : Design) where
   -- a split that is marked is of the first block whose span is not single
@@ -38,8 +24,21 @@ module _ (design : Design) where
   entry-each [] all = tt
   entry-each (entry ∷ entries) all = (by-kind entry.kind entry.node all.0, entry-each entries all.1)
 
-  -- all marks of entries and open tasks, in any order, split at the first such blocks
+  -- open subproblems split nothing
+  opens-each : (left : List Parts) → AllByRecursion IsFirst (map open_mark left)
+  opens-each [] = tt
+  opens-each (node ∷ left) = (tt, opens-each left)
+
+  -- all marks of entries and of others that split nothing, in any order, split at the first such blocks
+  marks-with : (entries : List Entry) (opens found : List Mark) → AllByRecursion IsFirst opens → AllBranchFirst design entries → IsPermutation (map mark_of entries ++ opens) found → All IsFirst found
+  marks-with entries opens found none all same =
+      let given = each-append IsFirst _ _ (entry-each entries (recursion_from_All (λ (entry : Entry). BranchesFirst design entry.kind entry.node) entries all)) none in
+      All-permutation IsFirst (map mark_of entries ++ opens) found same (All-from_recursion IsFirst (map mark_of entries ++ opens) given)
+
+  -- so do those of entries and open tasks
   pub marks-first : (entries : List Entry) (left : List Task) (found : List Mark) → AllBranchFirst design entries → IsPermutation (given_marks entries left) found → All IsFirst found
-  marks-first entries left found all same =
-      let given = each-append IsFirst _ _ (entry-each entries (recursion_from_All (λ (entry : Entry). BranchesFirst design entry.kind entry.node) entries all)) (open-each left) in
-      All-permutation IsFirst (given_marks entries left) found same (All-from_recursion IsFirst (given_marks entries left) given)
+  marks-first entries left found all same = marks-with entries (map (λ task. record { node = task.node; tag = Open }) left) found (open-each left) all same
+
+  -- and of entries and open subproblems
+  pub told-first : (entries : List Entry) (left : List Parts) (found : List Mark) → AllBranchFirst design entries → IsPermutation (map mark_of entries ++ map open_mark left) found → All IsFirst found
+  told-first entries left found all same = marks-with entries (map open_mark left) found (opens-each left) all same

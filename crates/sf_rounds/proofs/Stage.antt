@@ -1,36 +1,19 @@
 -- One turn of the machine is one visit of the search in preorder.
 use Rattle.std.proofs.Common.{◌≡◌, ℕ, suc, ◌-◌, ◌<◌, min, List, [], ◌∷◌, ◌++◌, map, reverse, length, drop, get_or, arith, refl, ap, sym, subst, ◌∙◌, Option, Some, None, Ok, true, not, length-append, append-nil}
-use Rattle.std.specs.Prelude.{slice_set, slice_get, remove, ◌&&◌}
-use Rattle.std.proofs.lemmas.Bool.{lt-ltb}
+use Rattle.std.specs.Prelude.{◌&&◌}
+use Rattle.sf_rounds.proofs.Common.{slice_set, slice_get, remove, lt-ltb, map-append, reverse-append, take_at, drop_all, Design, Task, Parts, root, is_wide, span_of, extended, split, CanSplit, Entry, State, branched, IsCoreState, next_of, after_event, after_events, first_wide, Tag, made, marks, tag_of, marks-more, waiting-more, Solved, Extended, settling, turn_of, turn, task_at, mark_of, IsStage, IsVisit, tag_at, cost_at}
 use Rattle.std.proofs.Math.Seq.{get_or-append_seam}
 use Rattle.std.proofs.lemmas.Option.{slice_get-get_or}
-use Rattle.std.proofs.lemmas.List.{map-append, reverse-append, take_at, drop_all}
-use Rattle.sf_model.specs.declared.design.Design.{Design}
-use Rattle.sf_node.specs.declared.task.Task.{Task}
-use Rattle.sf_node.specs.Parts.{Parts}
-use Rattle.sf_node.specs.Subproblem.{root, is_wide, span_of}
-use Rattle.sf_node.specs.Children.{extended, split, CanSplit}
-use Rattle.sf_search_core.specs.declared.entry.Entry.{Entry}
-use Rattle.sf_search_core.specs.declared.entry.Kind.{Kind}
 use Rattle.sf_search_core.specs.declared.entry.Kind.TheVariants as kind
 use Rattle.sf_search_core.specs.declared.event.Event.TheVariants.{Take, Replace, Close, Offer}
 use Rattle.sf_search_core.specs.declared.event.How.{How}
 use Rattle.sf_search_core.specs.declared.event.How.TheVariants as how
-use Rattle.sf_search_core.specs.State.{State}
-use Rattle.sf_search_core.specs.Conserved.{branched}
-use Rattle.sf_search_core.specs.Core.{IsCoreState}
-use Rattle.sf_search_core.specs.Events.{held_in, held_by, applied, take as taking, replace, kind_of, may_branch, tasks, AreBounds}
-use Rattle.sf_search_core.specs.Outcome.{next_of, after_event, after_events}
+use Rattle.sf_search_core.specs.Events.{held_in, held_by, applied, take as taking, replace, kind_of as way_kind, may_branch, tasks, AreBounds}
 use Rattle.sf_search_core.proofs.Replaced.{replaced, replace-done}
 use Rattle.sf_search_core.proofs.Applied.{applied-kept}
-use Rattle.sf_worker.specs.Decided.{first_wide}
-use Rattle.sf_certificate.specs.declared.tag.Tag.{Tag}
-use Rattle.sf_certificate.specs.Marks.{made, marks, tag_of}
-use Rattle.sf_certificate.proofs.AfterTags.{marks-more, waiting-more}
-use Rattle.sf_rounds.specs.declared.visit.Visit.{Visit}
-use Rattle.sf_rounds.specs.declared.visit.Visit.TheVariants.{Closed, Solved, Extended, Split}
-use Rattle.sf_rounds.specs.Turns.{settling, turn_of, turn}
-use Rattle.sf_rounds.specs.Stage.{task_at, mark_of, IsStage, IsVisit, tag_at, word_after}
+use Rattle.sf_worker.specs.declared.visit.Visit.{Visit}
+use Rattle.sf_worker.specs.declared.visit.Visit.TheVariants.{Closed, Split}
+use Rattle.sf_worker.specs.Decided.{kind_of}
 use Rattle.sf_rounds.proofs.Settled.{closed, close-done, offer-done, settling-closed, settling-solved, settling-split, settling-extended, ok-const}
 
 -- a list without its last element is what stood before it
@@ -44,15 +27,8 @@ tasks-are : (bound : Parts → ℕ) (ns : List Parts) → tasks ns (map bound ns
 tasks-are bound [] = refl
 tasks-are bound (n ∷ ns) = ap (λ z. task_at bound n ∷ z) (tasks-are bound ns)
 
--- the kind of the entry of a visit
-abbrev pub kind_at : Visit → Kind
-kind_at Closed = kind.Closed
-kind_at (Solved expr) = kind.Closed
-kind_at Extended = kind.Extended
-kind_at (Split b) = kind.Split b
-
 -- the tag of a visit's kind is the visit's tag
-tag-of-kind : (seen : Visit) → tag_of (kind_at seen) ≡ tag_at seen
+tag-of-kind : (seen : Visit) → tag_of (kind_of seen) ≡ tag_at seen
 tag-of-kind Closed = refl
 tag-of-kind (Solved expr) = refl
 tag-of-kind Extended = refl
@@ -67,8 +43,8 @@ pub record IsNext (design : Design) (bound : Parts → ℕ) (state : State) (nod
   pub core : IsCoreState design bound new
   pub held : new.held ≡ None ∷ []
   pub waiting : new.waiting ≡ reverse (map (task_at bound) (made (tag_at seen) node ++ rest))
-  pub entries : new.entries ≡ state.entries ++ record { node = node; kind = kind_at seen; value = word_after bound node seen state.word } ∷ []
-  pub word : new.word ≡ word_after bound node seen state.word
+  pub entries : new.entries ≡ state.entries ++ record { node = node; kind = kind_of seen; value = cost_at bound node seen state.word } ∷ []
+  pub word : new.word ≡ cost_at bound node seen state.word
 
 module _ (design : Design) (bound : Parts → ℕ) (state : State) (tags : List Tag) (node : Parts) (rest : List Parts) (stage : IsStage design bound state tags (node ∷ rest)) where
   -- the next subproblem as the machine keeps it
@@ -132,9 +108,9 @@ module _ (design : Design) (bound : Parts → ℕ) (state : State) (tags : List 
         ∙ ap reverse (sym (map-append (task_at bound) children rest))
 
     -- replacing the held task by its children makes a core state
-    replaced-next : (way : How) → bound node < state.word → may_branch way node ≡ true → IsCoreState design bound (replaced mid 0 way state.word (map bound (branched (kind_of way) node)) task)
+    replaced-next : (way : How) → bound node < state.word → may_branch way node ≡ true → IsCoreState design bound (replaced mid 0 way state.word (map bound (branched (way_kind way) node)) task)
     replaced-next way below may =
-        let costs = map bound (branched (kind_of way) node) in
+        let costs = map bound (branched (way_kind way) node) in
         applied-kept design bound mid (replaced mid 0 way state.word costs task) (Replace 0 way state.word costs) mid-core
         (omega arith, ok-const (AreBounds bound way costs (Some task)) (replace mid 0 way state.word costs (Some task)) refl)
         (replace-done mid 0 way state.word costs (held_by mid 0) task refl (omega arith) below may)
@@ -167,13 +143,13 @@ module _ (design : Design) (bound : Parts → ℕ) (state : State) (tags : List 
           word = omega (arith, d.below);
         })
     next-is Extended d =
-        let may : may_branch how.Extend node ≡ true = ap not d.incomplete in
+        let may : may_branch how.Extend node ≡ true = ap not d.1 in
         let costs = map bound (extended node) in
         let same : turn design bound state ≡ replaced mid 0 how.Extend state.word costs task =
-        turn-is ∙ ap (after_events design mid) (settling-extended design bound task state.word d.below d.incomplete)
-        ∙ ap (next_of mid) (replace-done mid 0 how.Extend state.word costs (held_by mid 0) task refl (omega arith) d.below may) in
+        turn-is ∙ ap (after_events design mid) (settling-extended design bound task state.word d.0 d.1)
+        ∙ ap (next_of mid) (replace-done mid 0 how.Extend state.word costs (held_by mid 0) task refl (omega arith) d.0 may) in
         subst (IsNext design bound state node rest Extended) (sym same) (record {
-          core = replaced-next how.Extend d.below may;
+          core = replaced-next how.Extend d.0 may;
           held = refl;
           waiting = joined (extended node);
           entries = refl;
@@ -205,10 +181,10 @@ module _ (design : Design) (bound : Parts → ℕ) (state : State) (tags : List 
           idle = n.held;
           waiting = n.waiting;
           kinds = ap (λ ts. ts ++ tag_at seen ∷ []) stage.kinds ∙ ap (λ (t : Tag). map (λ (entry : Entry). tag_of entry.kind) state.entries ++ t ∷ []) (sym (tag-of-kind seen))
-              ∙ sym (map-append (λ (entry : Entry). tag_of entry.kind) state.entries (record { node = node; kind = kind_at seen; value = word_after bound node seen state.word } ∷ []))
+              ∙ sym (map-append (λ (entry : Entry). tag_of entry.kind) state.entries (record { node = node; kind = kind_of seen; value = cost_at bound node seen state.word } ∷ []))
               ∙ ap (map (λ (entry : Entry). tag_of entry.kind)) (sym n.entries);
-          marked = ap (map mark_of) n.entries ∙ map-append mark_of state.entries (record { node = node; kind = kind_at seen; value = word_after bound node seen state.word } ∷ [])
-              ∙ ap (λ ms. ms ++ record { node = node; tag = tag_of (kind_at seen) } ∷ []) stage.marked
+          marked = ap (map mark_of) n.entries ∙ map-append mark_of state.entries (record { node = node; kind = kind_of seen; value = cost_at bound node seen state.word } ∷ [])
+              ∙ ap (λ ms. ms ++ record { node = node; tag = tag_of (kind_of seen) } ∷ []) stage.marked
               ∙ ap (λ (t : Tag). marks (root design ∷ []) tags ++ record { node = node; tag = t } ∷ []) (tag-of-kind seen)
               ∙ sym (marks-more (root design ∷ []) tags node rest (tag_at seen) stage.then);
           then = waiting-more (root design ∷ []) tags node rest (tag_at seen) stage.then;

@@ -1,28 +1,10 @@
 -- The team of a round stays the same, and what all workers did.
-use Rattle.std.proofs.Common.{◌≡◌, ◌≢◌, ℕ, zero, suc, ◌<◌, ◌≤◌, inl, inr, List, [], ◌∷◌, ◌++◌, map, length, take, drop, All, ap, sym, ◌∙◌, subst, refl, arith}
-use Rattle.std.specs.Prelude.{sum_by, Any, Some, IfSome, slice_get, slice_index_or}
-use Rattle.std.specs.List.{flat_map}
-use Rattle.std.proofs.lemmas.List.Sums.{sum_by-cons}
-use Rattle.std.proofs.lemmas.List.Elements.{All-cons, All-head, All-tail}
+use Rattle.std.proofs.Common.{◌≡◌, ℕ, zero, suc, ◌<◌, ◌≤◌, inl, inr, List, [], ◌∷◌, ◌++◌, map, length, take, drop, All, ap, sym, ◌∙◌, subst, refl, arith}
+use Rattle.sf_rounds.proofs.Common.{sum_by, Any, Some, IfSome, slice_get, slice_index_or, sum_by-cons, All-cons, All-head, All-tail, Design, MAX, Stretch, Part, Parts, Entry, Word, Knows, Deque, ThiefView, Place, IsTeam, turned, deques_of, preys_of, thief_deques_of, Solves, IsDecidedFirst, Passed, PassEnds, any-left, any-right, Job, EachTwo, IsFresh, FirstsAre, place_of}
 use lib.Seq.{take-append_seam}
-use Rattle.sf_model.specs.declared.design.Design.{Design}
-use Rattle.sf_model.specs.declared.TheConstants.{MAX}
-use Rattle.sf_node.specs.declared.task.Task.{Task}
-use Rattle.sf_node.specs.Parts.{Parts}
-use Rattle.sf_search_core.specs.declared.entry.Entry.{Entry}
-use Rattle.sf_incumbent.specs.Seen.{Word, Knows}
-use Rattle.sf_frontier.specs.Ends.{Deque, ThiefView}
-use Rattle.sf_frontier.specs.declared.place.Place.{Place}
-use Rattle.sf_frontier.specs.Team.{IsTeam, turned, deques_of, preys_of, thief_deques_of}
 use Rattle.sf_worker.specs.declared.state.PassEnd.{PassEnd}
-use Rattle.sf_worker.specs.declared.state.PassEnd.TheVariants.{QuotaSpent, FoundNothing, NoMemory}
-use Rattle.sf_worker.specs.Tasks.{Solves}
-use Rattle.sf_worker.specs.Took.{IsDecidedFirst, Passed}
-use Rattle.sf_worker.specs.Turns.{PassEnds}
-use Rattle.sf_worker.proofs.Passes.{any-left, any-right}
-use Rattle.sf_rounds.specs.declared.job.Job.{Job}
-use Rattle.sf_rounds.specs.Jobs.{EachTwo, Ran, IsFresh, FirstsAre, place_of, log_of}
-use Rattle.sf_rounds.proofs.Whole.{log_is}
+use Rattle.sf_worker.specs.declared.state.PassEnd.TheVariants.{QuotaSpent, FoundNothing}
+use Rattle.sf_rounds.proofs.Whole.{Went, entries_in}
 
 -- lists that are related place by place have the same length
 pub each_two-length : {X : Type 0} (R : X → X → Type 0) (xs ys : List X) → EachTwo R xs ys → length ys ≡ length xs
@@ -83,21 +65,21 @@ module _ {T : Type 0} where
     ],
   )
 
-module _ {T : Type 0} (design : Design) (bound : Parts → ℕ) where
+module _ {T : Type 0} (design : Design) (bound : Parts → ℕ) (part : Parts → Part → ℕ) where
   -- the workers' passes leave the deques, and those on which thieves stand
-  pub all_deques : (js ks : List (Job T)) → EachTwo (Ran design bound) js ks
+  pub all_deques : (js ks : List (Job T)) → EachTwo (Went design bound part) js ks
       → (deques_of (map place_of ks) ≡ deques_of (map place_of js)) × (preys_of (map place_of ks) ≡ preys_of (map place_of js))
   all_deques [] [] h = (refl, refl)
   all_deques [] (k ∷ ks) h = absurd h
   all_deques (j ∷ js) [] h = absurd h
   all_deques (j ∷ js) (k ∷ ks) h =
       let r = all_deques js ks h.1 in
-      let d = h.0.passed.deques in
+      let d = h.0.1.passed.did.deques in
       ((λ i. d.0 i ∷ r.0 i), (λ i. d.1 i ∷ r.1 i))
 
   module _ (value : ℕ) (word : Word) where
     -- after the passes the seats have together as many parts as there are quotas
-    pub all_parts : (given : List Task) (quotas : List ℕ) (js ks : List (Job T)) → EachTwo (Ran design bound) js ks → All (IsFresh value word) js → FirstsAre given quotas js
+    pub all_parts : (given : List Stretch) (quotas : List ℕ) (js ks : List (Job T)) → EachTwo (Went design bound part) js ks → All (IsFresh value word) js → FirstsAre given quotas js
         → sum_by (λ (k : Job T). k.state.seat.parts) ks ≡ length quotas
     all_parts given [] [] [] h fs q = refl
     all_parts given [] [] (k ∷ ks) h fs q = absurd h
@@ -106,51 +88,48 @@ module _ {T : Type 0} (design : Design) (bound : Parts → ℕ) where
     all_parts given (n ∷ ns) (j ∷ js) [] h fs q = absurd h
     all_parts [] (n ∷ ns) (j ∷ js) (k ∷ ks) h fs q =
         let F = IsFresh value word in
-        let one = h.0.passed.seat.1 ∙ ap (λ (s : Knows). s.parts) (All-head F j js fs).seat in
+        let one = h.0.1.passed.did.seat.1 ∙ ap (λ (s : Knows). s.parts) (All-head F j js fs).seat in
         omega (arith, one, all_parts [] ns js ks h.1 (All-tail F j js fs) q.1, sum_by-cons (λ (i : Job T). i.state.seat.parts) k ks)
     all_parts (t ∷ ts) (n ∷ ns) (j ∷ js) (k ∷ ks) h fs q =
         let F = IsFresh value word in
-        let one = h.0.passed.seat.1 ∙ ap (λ (s : Knows). s.parts) (All-head F j js fs).seat in
+        let one = h.0.1.passed.did.seat.1 ∙ ap (λ (s : Knows). s.parts) (All-head F j js fs).seat in
         omega (arith, one, all_parts ts ns js ks h.1 (All-tail F j js fs) q.1, sum_by-cons (λ (i : Job T). i.state.seat.parts) k ks)
 
     -- the offer of a worker, where it made one, is the bound of one of its entries
-    pub all_solved : (z : ℕ) → z < MAX → (js ks : List (Job T)) → EachTwo (Ran design bound) js ks → All (IsFresh value word) js
-        → Any (λ (k : Job T). k.state.seat.offered ≡ z) ks → Any (Solves design bound z) (flat_map log_of ks)
+    pub all_solved : (z : ℕ) → z < MAX → (js ks : List (Job T)) (h : EachTwo (Went design bound part) js ks) → All (IsFresh value word) js
+        → Any (λ (k : Job T). k.state.seat.offered ≡ z) ks → Any (Solves design bound z) (entries_in design bound part js ks h)
     all_solved z less [] [] h fs a = absurd (let b = a.2 in omega (arith, b))
     all_solved z less [] (k ∷ ks) h fs a = absurd h
     all_solved z less (j ∷ js) [] h fs a = absurd h
     all_solved z less (j ∷ js) (k ∷ ks) h fs (zero, x, below, is, e) =
         let F = IsFresh value word in
         let f = All-head F j js fs in
+        let did = h.0.1.passed.did in
         let here : k.state.seat.offered ≡ z = ap (λ (i : Job T). i.state.seat.offered) is ∙ e in
         let most : j.state.seat.offered ≡ MAX = ap (λ (s : Knows). s.offered) f.seat in
-        any-left (Solves design bound z) (log_of k) (flat_map log_of ks)
-        (subst (Any (Solves design bound z)) (sym (log_is design bound value word j k f h.0))
-        (subst (λ y. Any (Solves design bound y) h.0.passed.logged) here (h.0.passed.fell (omega (arith, here, most, less)))))
+        any-left (Solves design bound z) did.logged (entries_in design bound part js ks h.1)
+        (subst (λ y. Any (Solves design bound y) did.logged) here (did.fell (omega (arith, here, most, less))))
     all_solved z less (j ∷ js) (k ∷ ks) h fs (suc i, x, below, is, e) =
-        any-right (Solves design bound z) (log_of k) (flat_map log_of ks)
+        any-right (Solves design bound z) h.0.1.passed.did.logged (entries_in design bound part js ks h.1)
         (all_solved z less js ks h.1 (All-tail (IsFresh value word) j js fs) (i, x, omega (arith, below), is, e))
 
-    -- a worker with a quota, whose pass ended otherwise than for want of memory, decided its first task
-    first_end : (j k : Job T) (p : Passed design bound j.state k.state) (end : PassEnd) → end ≢ NoMemory → 0 < j.state.quota → PassEnds j.state k.state p end → IsDecidedFirst j.state.first k.state.first p.logged
-    first_end j k p QuotaSpent ne some h = h.2 some
-    first_end j k p FoundNothing ne some h = h.2
-    first_end j k p NoMemory ne some h = absurd (ne refl)
+    -- a worker with a quota decided the first subproblem of its first stretch
+    first_end : (j k : Job T) (p : Passed design bound part j.state k.state []) (end : PassEnd) → 0 < j.state.quota → PassEnds j.state k.state p end → IsDecidedFirst j.state.first k.state.first p.did.logged
+    first_end j k p QuotaSpent some h = h.2 some
+    first_end j k p FoundNothing some h = h.2
 
-    -- each given task whose worker has a quota was decided
-    pub all_firsts : (given : List Task) (quotas : List ℕ) (js ks : List (Job T)) → EachTwo (Ran design bound) js ks → All (IsFresh value word) js → FirstsAre given quotas js → All (λ (k : Job T). k.end ≢ NoMemory) ks
-        → (i : ℕ) (t : Task) → slice_get given i ≡ Some t → 1 ≤ slice_index_or quotas i 0 → Any (λ (e : Entry). e.node ≡ t.node) (flat_map log_of ks)
-    all_firsts given [] js ks h fs q ne i t e some = absurd (omega (arith, some))
-    all_firsts given (n ∷ ns) [] ks h fs q ne i t e some = absurd q
-    all_firsts given (n ∷ ns) (j ∷ js) [] h fs q ne i t e some = absurd h
-    all_firsts [] (n ∷ ns) (j ∷ js) (k ∷ ks) h fs q ne i t e some = absurd (cc)
-    all_firsts (u ∷ us) (n ∷ ns) (j ∷ js) (k ∷ ks) h fs q ne zero t e some =
-        let F = IsFresh value word in
+    -- the first subproblem of each given stretch whose worker has a quota was decided
+    pub all_firsts : (given : List Stretch) (quotas : List ℕ) (js ks : List (Job T)) (h : EachTwo (Went design bound part) js ks) → FirstsAre given quotas js
+        → (i : ℕ) (t : Stretch) → slice_get given i ≡ Some t → 1 ≤ slice_index_or quotas i 0 → Any (λ (e : Entry). e.node ≡ t.cursor.node) (entries_in design bound part js ks h)
+    all_firsts given [] js ks h q i t e some = absurd (omega (arith, some))
+    all_firsts given (n ∷ ns) [] ks h q i t e some = absurd q
+    all_firsts given (n ∷ ns) (j ∷ js) [] h q i t e some = absurd h
+    all_firsts [] (n ∷ ns) (j ∷ js) (k ∷ ks) h q i t e some = absurd (cc)
+    all_firsts (u ∷ us) (n ∷ ns) (j ∷ js) (k ∷ ks) h q zero t e some =
         let same : u ≡ t = cc in
-        let d = first_end j k h.0.passed k.end (All-head (λ (x : Job T). x.end ≢ NoMemory) k ks ne) (let m = q.0.1 in omega (arith, m, some)) h.0.ends in
-        any-left (λ (f : Entry). f.node ≡ t.node) (log_of k) (flat_map log_of ks)
-        (subst (Any (λ (f : Entry). f.node ≡ t.node)) (sym (log_is design bound value word j k (All-head F j js fs) h.0))
-        (subst (λ o. IfSome o (λ s. Any (λ (f : Entry). f.node ≡ s.node) h.0.passed.logged)) (q.0.0 ∙ ap (λ s. Some s) same) d.1))
-    all_firsts (u ∷ us) (n ∷ ns) (j ∷ js) (k ∷ ks) h fs q ne (suc i) t e some =
-        any-right (λ (f : Entry). f.node ≡ t.node) (log_of k) (flat_map log_of ks)
-        (all_firsts us ns js ks h.1 (All-tail (IsFresh value word) j js fs) q.1 (All-tail (λ (x : Job T). x.end ≢ NoMemory) k ks ne) i t e some)
+        let d = first_end j k h.0.1.passed h.0.0 (let m = q.0.1 in omega (arith, m, some)) h.0.1.ends in
+        any-left (λ (f : Entry). f.node ≡ t.cursor.node) h.0.1.passed.did.logged (entries_in design bound part js ks h.1)
+        (subst (λ o. IfSome o (λ s. Any (λ (f : Entry). f.node ≡ s.cursor.node) h.0.1.passed.did.logged)) (q.0.0 ∙ ap (λ s. Some s) same) d.1)
+    all_firsts (u ∷ us) (n ∷ ns) (j ∷ js) (k ∷ ks) h q (suc i) t e some =
+        any-right (λ (f : Entry). f.node ≡ t.cursor.node) h.0.1.passed.did.logged (entries_in design bound part js ks h.1)
+        (all_firsts us ns js ks h.1 q.1 i t e some)

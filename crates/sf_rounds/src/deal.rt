@@ -1,21 +1,21 @@
-//! How the tasks of a round are dealt out among its workers.
+//! How the stretches of a round are dealt out among its workers.
 
 ghost use Rattle.std.specs.Prelude.{◌≡◌, ◌+◌, ◌-◌, ◌<◌, All, IfOk, length, reverse, drop};
-ghost use Rattle.sf_worker.specs.Tasks.{IsTask};
+ghost use Rattle.sf_cursor.specs.Stretches.{IsStretch};
 ghost use Rattle.sf_worker.specs.Took.{Serves};
 ghost use Rattle.sf_frontier.specs.Team.{IsTeam, IsNewPlace};
 ghost use Rattle.sf_rounds.specs.Jobs.{Dealt, IsSeated, with_put, Handed};
 
 use crate::job::{Job, RoundWork};
 use sf_bounds::{Bounds, Room};
+use sf_cursor::Stretch;
 use sf_frontier::{Place, Served};
 use sf_incumbent::{Incumbent, Seat};
 use sf_model::Design;
-use sf_node::Task;
 use sf_worker::{PassEnd, WorkerState};
 use std::alloc::{AllocError as NoMemory, Global};
 
-/// Task i goes to worker i modulo their number: the first of each stands apart, and the others are put into
+/// Stretch i goes to worker i modulo their number: the first of each stands apart, and the others are put into
 /// its deque.
 pub fn deal<'a, T: Served, B: Bounds>(
     alloc: Global,
@@ -30,36 +30,40 @@ pub fn deal<'a, T: Served, B: Bounds>(
     requires deques { IsTeam places.items × (length places.items ≡ length work.quotas.now) }
     requires new { All IsNewPlace places.items }
     requires seat { (seat.old.word ≡ word.now.id) × (seat.old.parts ≡ length work.quotas.now + 1) }
-    requires tasks { All (IsTask design.now (B.Values.value bounds.now design.now)) work.tasks.items }
+    requires stretches { All (IsStretch design.now (B.Values.value bounds.now design.now)) work.stretches.items }
     ensures dealt { IfOk result
         (λ jobs. Dealt design.now (B.Values.value bounds.now design.now) seat.old.seen word.now
-        work.entry.tasks.items work.entry.quotas.now jobs.items) }
+        work.entry.stretches.items work.entry.quotas.now jobs.items) }
     ensures seat { IfOk result (λ _. seat.new ≡ record seat.old { parts = 1 }) }
 {
-    let RoundWork { mut tasks, quotas } = work;
-    tasks.reverse();
-    let mut jobs = seated(alloc, word, seat, places, &mut tasks, quotas)?;
-    tasks.reverse();
-    hand_out(design, bounds, &mut jobs, tasks)?;
+    let RoundWork {
+        mut stretches,
+        quotas,
+    } = work;
+    stretches.reverse();
+    let mut jobs = seated(alloc, word, seat, places, &mut stretches, quotas)?;
+    stretches.reverse();
+    hand_out(design, bounds, &mut jobs, stretches)?;
     Ok(jobs)
 }
 
-/// The workers in their places, each with its first task and a seat of the word. The tasks stand in reverse.
+/// The workers in their places, each with its first stretch and a seat of the word. The stretches stand in
+/// reverse.
 fn seated<'a, T: Served>(
     alloc: Global,
     word: &Incumbent,
     seat: &mut Seat,
     places: Vec<Place<T>>,
-    tasks: &mut Vec<Task>,
+    stretches: &mut Vec<Stretch>,
     quotas: &[u64],
 ) -> Result<Vec<Job<'a, T>>, NoMemory>
     requires quotas { length places.items ≡ length quotas.now }
     requires seat { (seat.old.word ≡ word.now.id) × (seat.old.parts ≡ length quotas.now + 1) }
     ensures seated { IfOk result
         (λ jobs. IsSeated seat.old.seen word.now
-        (reverse tasks.old.items) quotas.now places.items jobs.items) }
+        (reverse stretches.old.items) quotas.now places.items jobs.items) }
     ensures left { IfOk result
-        (λ _. reverse tasks.new.items ≡ drop (length quotas.now) (reverse tasks.old.items)) }
+        (λ _. reverse stretches.new.items ≡ drop (length quotas.now) (reverse stretches.old.items)) }
     ensures seat { IfOk result (λ _. seat.new ≡ record seat.old { parts = 1 }) }
 {
     let mut jobs = Vec::new(alloc);
@@ -67,7 +71,7 @@ fn seated<'a, T: Served>(
     for place in places {
         let state = WorkerState {
             number,
-            first: tasks.pop(),
+            first: stretches.pop(),
             place,
             seat: word.split(seat),
             log: Vec::new(alloc),
@@ -76,45 +80,45 @@ fn seated<'a, T: Served>(
             quota: quotas[number],
             kept: Vec::new(alloc),
         };
-        let end = PassEnd::FoundNothing;
+        let end = Ok(PassEnd::FoundNothing);
         jobs.push(Job { state, end })?;
         number += 1;
     }
     Ok(jobs)
 }
 
-/// Puts the tasks into the deques of the workers, task i into that of worker i modulo their number. The last
-/// task is put first, so that an owner takes the first of its tasks first.
+/// Puts the stretches into the deques of the workers, stretch i into that of worker i modulo their number. The
+/// last one is put first, so that an owner takes the first of its stretches first.
 fn hand_out<'a, T: Served, B: Bounds>(
     design: &Design,
     bounds: &B,
     jobs: &mut Vec<Job<'a, T>>,
-    mut tasks: Vec<Task>,
+    mut stretches: Vec<Stretch>,
 ) -> Result<(), NoMemory>
     requires team { Serves T.serves design.now (B.Values.value bounds.now design.now) }
     requires some { 0 < length jobs.old.items }
-    requires tasks { All (IsTask design.now (B.Values.value bounds.now design.now)) tasks.items }
-    ensures { IfOk result (λ _. Handed jobs.old.items jobs.new.items tasks.items) }
+    requires stretches { All (IsStretch design.now (B.Values.value bounds.now design.now)) stretches.items }
+    ensures { IfOk result (λ _. Handed design.now jobs.old.items jobs.new.items stretches.items) }
 {
-    while let Some(task) = tasks.pop() {
-        let place = tasks.len() % jobs.len();
-        put(design, bounds, &mut jobs[place], task)?;
+    while let Some(stretch) = stretches.pop() {
+        let place = stretches.len() % jobs.len();
+        put(design, bounds, &mut jobs[place], stretch)?;
     }
     Ok(())
 }
 
-/// Puts a task into the worker's deque.
+/// Puts a stretch into the worker's deque.
 fn put<'a, T: Served, B: Bounds>(
     design: &Design,
     bounds: &B,
     job: &mut Job<'a, T>,
-    task: Task,
+    stretch: Stretch,
 ) -> Result<(), NoMemory>
     requires team { Serves T.serves design.now (B.Values.value bounds.now design.now) }
-    requires task { IsTask design.now (B.Values.value bounds.now design.now) task }
-    ensures { IfOk result (λ _. job.new ≡ with_put job.old task) }
+    requires stretch { IsStretch design.now (B.Values.value bounds.now design.now) stretch }
+    ensures { IfOk result (λ _. job.new ≡ with_put job.old stretch) }
 {
-    match job.state.place.owner.put(task) {
+    match job.state.place.owner.put(stretch) {
         Ok(()) => Ok(()),
         Err(_) => Err(NoMemory),
     }

@@ -2,18 +2,16 @@
 
 ghost use Rattle.std.specs.Prelude.{◌≡◌, ◌++◌, ℕ, min, All, IfOk};
 ghost use Rattle.sf_model.specs.declared.design.Design.{Design as DesignValue};
-ghost use Rattle.sf_worker.specs.Took.{IsBest};
+ghost use Rattle.sf_worker.specs.Tasks.{IsBest};
 ghost use Rattle.sf_rounds.specs.Jobs.{IsDone, Gathers, Adds, as_list};
 
 use crate::job::{Gathering, Job};
-use crate::log::Log;
+use sf_cursor::Stretch;
 use sf_frontier::Served;
 use sf_incumbent::{Incumbent, Seat};
 use sf_model::{Design, MAX};
-use sf_node::Task;
 use sf_polish::Expr;
-use sf_search_core::EntryList;
-use sf_worker::{PassEnd, WorkerState};
+use sf_worker::WorkerState;
 use std::alloc::{AllocError as NoMemory, Global};
 
 /// Takes the workers apart, where none of them ran out of memory, and joins their seats into one.
@@ -27,12 +25,12 @@ pub fn gather<'a, T: Served>(
     requires seat { (seat.old.word ≡ word.now.id) × (seat.old.offered ≡ MAX) }
     requires done { All (IsDone design.now word.now) jobs.items }
     ensures { IfOk result
-        (λ r. Gathers design.now jobs.entry.items seat.old seat.new r.places.items r.entries
+        (λ r. Gathers design.now jobs.entry.items seat.old seat.new r.places.items r.pieces.items
         r.left.items r.best) }
 {
     let mut all = Gathering {
         places: Vec::new(alloc),
-        entries: Log::new(alloc),
+        pieces: Vec::new(alloc),
         left: Vec::new(alloc),
         best: None,
     };
@@ -56,22 +54,20 @@ fn add<'a, T: Served>(
     ensures { IfOk result (λ _. Adds design.now job.entry seat.old seat.new all.old all.new) }
 {
     let Job { state, end } = job;
-    if let PassEnd::NoMemory = end {
-        return Err(NoMemory);
-    }
+    end?;
     let WorkerState {
         number: _,
         first,
         place,
         seat: other,
-        log,
+        mut log,
         best,
         room: _,
         quota: _,
         mut kept,
     } = state;
     all.places.push(place)?;
-    all.entries.push(EntryList::from_vec(log))?;
+    all.pieces.append(&mut log)?;
     keep(&mut all.left, first)?;
     all.left.append(&mut kept)?;
     word.join(seat, other);
@@ -79,12 +75,12 @@ fn add<'a, T: Served>(
     Ok(())
 }
 
-/// Adds the task, where there is one.
-fn keep(left: &mut Vec<Task>, first: Option<Task>) -> Result<(), NoMemory>
+/// Adds the stretch, where there is one.
+fn keep(left: &mut Vec<Stretch>, first: Option<Stretch>) -> Result<(), NoMemory>
     ensures { IfOk result (λ _. left.new.items ≡ left.old.items ++ as_list first) }
 {
-    if let Some(task) = first {
-        left.push(task)?;
+    if let Some(stretch) = first {
+        left.push(stretch)?;
     }
     Ok(())
 }

@@ -1,15 +1,16 @@
 //! The work of a round, what each of its workers has, and what the round leaves.
 
-use crate::log::Log;
+use sf_cursor::Stretch;
 use sf_frontier::{Place, Served};
-use sf_node::{Task, Tasks};
+use sf_pieces::Piece;
 use sf_polish::Expr;
 use sf_worker::{PassEnd, WorkerState};
+use std::alloc::AllocError as NoMemory;
 
-/// The work of a round: the tasks, and how many subproblems each worker may decide.
+/// The work of a round: the stretches, and how many subproblems each worker may decide.
 #[derive(Drop)]
 pub struct RoundWork<'a> {
-    pub tasks: Vec<Task>,
+    pub stretches: Vec<Stretch>,
     pub quotas: &'a [u64],
 }
 
@@ -17,23 +18,24 @@ pub struct RoundWork<'a> {
 #[derive(Drop)]
 pub struct Job<'a, T: Served> {
     pub state: WorkerState<'a, T>,
-    pub end: PassEnd,
+    pub end: Result<PassEnd, NoMemory>,
 }
 
-/// What the workers leave. The tasks that stand in deques are still there.
+/// What the workers leave. The stretches that stand in deques are still there.
 #[derive(Drop)]
 pub struct Gathering<T: Served> {
     pub places: Vec<Place<T>>,
-    pub entries: Log,
-    pub left: Vec<Task>,
+    pub pieces: Vec<Piece>,
+    pub left: Vec<Stretch>,
     pub best: Option<(Expr, u64)>,
 }
 
-/// What a round leaves. The tasks left are the open tasks.
+/// What a round leaves: the stretches that are left open, the pieces of what was decided, the least cost, and a
+/// plan that costs it, where the cost fell.
 #[derive(Drop)]
 pub struct RoundOut {
-    pub left: Tasks,
-    pub entries: Log,
+    pub left: Vec<Stretch>,
+    pub pieces: Vec<Piece>,
     pub value: u64,
     pub best: Option<Expr>,
 }

@@ -4,7 +4,7 @@ ghost use Rattle.std.specs.Prelude.{◌≡◌, ◌≤◌, ◌∷◌, [], length,
 ghost use Rattle.sf_node.specs.Subproblem.{root};
 ghost use Rattle.sf_bounds.specs.Serving.{MayServe};
 ghost use Rattle.sf_certificate.specs.Marks.{marks};
-ghost use Rattle.sf_rounds.specs.Naming.{AreKept};
+ghost use Rattle.sf_pieces.specs.Naming.{AreKept};
 ghost use Rattle.sf_rounds.specs.Stage.{IsRun};
 
 use crate::walk::Walk;
@@ -27,9 +27,9 @@ pub fn search_walk<'a, B: Bounds, G: Gate>(
     ensures run { IfOk result (λ walk. IsRun design.now (B.Values.value bounds.now design.now) nodes walk) }
     ensures kept { IfOk result
         (λ walk. AreKept (B.part_value bounds.now design.now) walk.word
-        (marks (root design.now ∷ []) walk.tags) walk.kept) }
-    ensures few { IfOk result (λ walk. length walk.tags ≤ nodes) }
-    ensures spent { IfOk result (λ walk. walk.more ≡ true → length walk.tags ≡ nodes) }
+        (marks (root design.now ∷ []) walk.hand.tags) walk.hand.kept) }
+    ensures few { IfOk result (λ walk. length walk.hand.tags ≤ nodes) }
+    ensures spent { IfOk result (λ walk. walk.hand.more ≡ true → length walk.hand.tags ≡ nodes) }
     ensures serves { MayServe room.new design.now }
 {
     let mut walk = Walk::new(alloc, design, bounds)?;

@@ -1,7 +1,7 @@
-//! A round: several workers decide what the tasks handed to it lead to.
+//! A round: several workers decide what the stretches handed to it lead to.
 
 ghost use Rattle.std.specs.Prelude.{◌≡◌, ◌≤◌, All, IfOk, MatchOption, Some, None, length};
-ghost use Rattle.sf_worker.specs.Tasks.{IsTask};
+ghost use Rattle.sf_cursor.specs.Stretches.{IsStretch};
 ghost use Rattle.sf_worker.specs.Took.{Serves};
 ghost use Rattle.sf_rounds.specs.Rounds.{IsRound};
 
@@ -10,34 +10,35 @@ use crate::gather::gather;
 use crate::job::{Gathering, RoundOut, RoundWork};
 use crate::run::run_all;
 use sf_bounds::Bounds;
+use sf_cursor::Stretch;
 use sf_frontier::{Finish, Served, finish, team};
 use sf_incumbent::Incumbent;
 use sf_io::Gate;
 use sf_model::Design;
-use sf_node::{Task, Tasks};
 use sf_polish::Expr;
 use std::alloc::{AllocError as NoMemory, Global};
 use std::marker::Brand;
 use std::thread::Threads;
 
-/// One worker for each quota decides what the tasks lead to, each in a thread of its own, or one after
-/// another where none can be made. The open tasks come back.
+/// One worker for each quota walks over the stretches, each in a thread of its own, or one after another where
+/// none can be made. What is left of the stretches comes back.
 pub fn round<R: Threads + Sync, B: Bounds, G: Gate>(
     rt: &R,
     alloc: Global,
     design: &Design,
     bounds: &B,
-    tasks: Vec<Task>,
+    stretches: Vec<Stretch>,
     quotas: &[u64],
     value: u64,
     gate: &G,
 ) -> Result<RoundOut, NoMemory>
     requires workers { (1 ≤ length quotas.now) × (length quotas.now ≤ 16) }
-    requires tasks { All (IsTask design.now (B.Values.value bounds.now design.now)) tasks.items }
+    requires stretches { All (IsStretch design.now (B.Values.value bounds.now design.now)) stretches.items }
     ensures { IfOk result
-        (λ r. IsRound design.now (B.Values.value bounds.now design.now) tasks.items quotas.now value r) }
+        (λ r. IsRound design.now (B.Values.value bounds.now design.now)
+        (B.part_value bounds.now design.now) stretches.items quotas.now value r) }
 {
-    let work = RoundWork { tasks, quotas };
+    let work = RoundWork { stretches, quotas };
     round_as::<R, Brand, B, G>(rt, alloc, design, bounds, work, value, gate)
 }
 
@@ -53,10 +54,10 @@ fn round_as<R: Threads + Sync, T: Served + Sync, B: Bounds, G: Gate>(
 ) -> Result<RoundOut, NoMemory>
     requires team { Serves T.serves design.now (B.Values.value bounds.now design.now) }
     requires workers { (1 ≤ length work.quotas.now) × (length work.quotas.now ≤ 16) }
-    requires tasks { All (IsTask design.now (B.Values.value bounds.now design.now)) work.tasks.items }
+    requires stretches { All (IsStretch design.now (B.Values.value bounds.now design.now)) work.stretches.items }
     ensures { IfOk result
-        (λ r. IsRound design.now (B.Values.value bounds.now design.now) work.entry.tasks.items
-        work.entry.quotas.now value r) }
+        (λ r. IsRound design.now (B.Values.value bounds.now design.now)
+        (B.part_value bounds.now design.now) work.entry.stretches.items work.entry.quotas.now value r) }
 {
     let workers = work.quotas.len() as u16;
     let places = team::<T>(alloc, workers)?;
@@ -65,7 +66,7 @@ fn round_as<R: Threads + Sync, T: Served + Sync, B: Bounds, G: Gate>(
     let jobs = run_all(rt, jobs, design, bounds, &word, gate);
     let Gathering {
         places,
-        entries,
+        pieces,
         left: mut kept,
         best,
     } = gather(alloc, design, &word, &mut seat, jobs)?;
@@ -73,8 +74,8 @@ fn round_as<R: Threads + Sync, T: Served + Sync, B: Bounds, G: Gate>(
     let mut left = left.into_vec();
     left.append(&mut kept)?;
     Ok(RoundOut {
-        left: Tasks::from_vec(left),
-        entries,
+        left,
+        pieces,
         value: word.finish(seat),
         best: plan_of(best),
     })

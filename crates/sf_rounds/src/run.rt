@@ -26,7 +26,8 @@ pub fn run_all<'a, R: Threads + Sync, T: Served + Sync, B: Bounds, G: Gate>(
     requires team { Serves T.serves design.now (B.Values.value bounds.now design.now) }
     requires ready { All (λ j. IsReady design.now (B.Values.value bounds.now design.now) j.state
         × (j.state.seat.word ≡ word.now.id)) jobs.items }
-    ensures { EachTwo (Ran design.now (B.Values.value bounds.now design.now)) jobs.entry.items result.items }
+    ensures { EachTwo (Ran design.now (B.Values.value bounds.now design.now)
+        (B.part_value bounds.now design.now)) jobs.entry.items result.items }
 {
     let threads = jobs.len();
     if threads == 0 {
@@ -40,8 +41,8 @@ pub fn run_all<'a, R: Threads + Sync, T: Served + Sync, B: Bounds, G: Gate>(
             requires { Serves T.serves design.now (B.Values.value bounds.now design.now)
                 × IsReady design.now (B.Values.value bounds.now design.now) job.now.state
                 × (job.now.state.seat.word ≡ word.now.id) }
-            ensures { Ran design.entry.now
-                (B.Values.value bounds.entry.now design.entry.now) job.entry.now job.exit.now }
+            ensures { Ran design.entry.now (B.Values.value bounds.entry.now design.entry.now)
+                (B.part_value bounds.entry.now design.entry.now) job.entry.now job.exit.now }
         {
             job.end = pass(&mut job.state, design, bounds, word, gate);
         },

@@ -1,18 +1,24 @@
 //! The whole search, to its certificate.
 
-ghost use Rattle.std.specs.Prelude.{◌≡◌, IfOk};
+ghost use Rattle.std.specs.Prelude.{◌≡◌, ◌≤◌, ◌∷◌, [], IfOk};
+ghost use Rattle.sf_cursor.specs.declared.stretch.Stretch.{Stretch as StretchValue};
+ghost use Rattle.sf_cursor.specs.Stretches.{waits};
+ghost use Rattle.sf_model.specs.declared.TheConstants.{MAX as max};
+ghost use Rattle.sf_node.specs.Subproblem.{root};
 ghost use Rattle.sf_search_core.specs.Outcome.{opening};
 ghost use Rattle.sf_rounds.specs.Turns.{turns, TurnsAreAccepted};
 ghost use Rattle.sf_rounds.specs.Found.{IsFound, IsCertOf};
-ghost use Rattle.sf_rounds.specs.Searching.{IsSearched};
+ghost use Rattle.sf_rounds.specs.Legs.{IsLeg};
 
-use crate::certify::certify;
-use crate::many_workers::{Progress, search_rounds};
+use crate::leaving::{Opened, leave_open};
+use crate::legs::{Leg, go_on, left_of};
 use crate::one_walk::search_walk;
 use sf_bounds::{Bounds, Room};
 use sf_certificate::{Cert, TagList};
+use sf_cursor::{Cursor, Stretch};
 use sf_io::Gate;
-use sf_model::{Design, Shapes};
+use sf_model::{Design, MAX, Shapes};
+use sf_pieces::assemble;
 use sf_polish::{Expr, Tokens};
 use std::alloc::{AllocError as NoMemory, Global};
 use std::thread::Threads;
@@ -35,9 +41,8 @@ pub struct Found {
     pub cert: Cert,
 }
 
-/// Decides subproblems until none is open or `nodes` are decided. One worker takes the last open one, turn by
-/// turn, and of plans that cost the same keeps the first. Two to sixteen take turns: the caller decides one
-/// of the least bound, and then all of them work in a round.
+/// Decides subproblems until none is open or `nodes` are decided. One worker walks over the tree in preorder, and
+/// of plans that cost the same keeps the first. Two to sixteen go on from the root in rounds.
 pub fn search<R: Threads + Sync, B: Bounds, G: Gate>(
     rt: &R,
     alloc: Global,
@@ -60,8 +65,7 @@ pub fn search<R: Threads + Sync, B: Bounds, G: Gate>(
 {
     let SearchOptions { workers, nodes } = options;
     if workers >= 2 && workers <= 16 {
-        let searched = search_rounds(rt, alloc, design, bounds, workers, nodes, gate)?;
-        found_in_rounds(rt, alloc, design, bounds, options, searched)
+        in_teams(rt, alloc, design, bounds, options, gate)
     } else {
         alone(alloc, design, bounds, nodes, gate)
     }
@@ -109,34 +113,53 @@ fn alone<B: Bounds, G: Gate>(
     })
 }
 
-/// What a search in rounds of several workers hands over.
-fn found_in_rounds<R: Threads + Sync, B: Bounds>(
+/// The search by several workers.
+fn in_teams<R: Threads + Sync, B: Bounds, G: Gate>(
     rt: &R,
     alloc: Global,
     design: &Design,
     bounds: &B,
     options: SearchOptions,
-    searched: Progress,
+    gate: &G,
 ) -> Result<Found, NoMemory>
-    requires { IsSearched design.now (B.Values.value bounds.now design.now) options.nodes searched }
+    requires workers { (1 ≤ options.workers) × (options.workers ≤ 16) }
     ensures { IfOk result (IsFound design.now (B.Values.value bounds.now design.now)
         (B.part_value bounds.now design.now) options.nodes) }
 {
-    let Progress {
-        open_tasks,
-        entries,
-        left: spare,
-        value: cost,
+    let cursor = Cursor::new(alloc, design, bounds)?;
+    let whole = vec![in alloc; Stretch { cursor, floor: 0 }]?;
+    let leg = go_on(rt, alloc, design, bounds, whole, None, MAX, options, gate)?;
+    certified(alloc, design, bounds, options.nodes, leg)
+}
+
+/// What a search of teams from the root hands over.
+fn certified<B: Bounds>(
+    alloc: Global,
+    design: &Design,
+    bounds: &B,
+    nodes: u64,
+    leg: Leg,
+) -> Result<Found, NoMemory>
+    requires searched { (s : StretchValue) × (waits design.now s ≡ root design.now ∷ [])
+        × IsLeg design.now (B.Values.value bounds.now design.now)
+        (B.part_value bounds.now design.now) (s ∷ []) max nodes leg }
+    ensures { IfOk result (IsFound design.now (B.Values.value bounds.now design.now)
+        (B.part_value bounds.now design.now) nodes) }
+{
+    let Leg {
+        left,
+        mut pieces,
         best,
-    } = searched;
+        value: cost,
+    } = leg;
     let plan = copy_plan(alloc, &best)?;
-    let decided = options.nodes - spare;
-    let left = open_tasks.into_vec();
-    let threads = usize::from(options.workers);
-    let cert = certify(
-        rt, alloc, design, bounds, threads, decided, entries, left, best, cost,
-    )?;
-    let bound = cert.bound;
+    let decided = nodes - left_of(&pieces, nodes);
+    let Opened {
+        pieces: mut open,
+        bound,
+    } = leave_open(alloc, design, bounds, left, cost)?;
+    pieces.append(&mut open)?;
+    let cert = assemble(alloc, design, pieces, best, cost, bound)?;
     Ok(Found {
         plan,
         cost,
@@ -147,7 +170,7 @@ fn found_in_rounds<R: Threads + Sync, B: Bounds>(
 }
 
 /// The plan once more.
-fn copy_plan(alloc: Global, plan: &Option<Expr>) -> Result<Option<Expr>, NoMemory>
+pub fn copy_plan(alloc: Global, plan: &Option<Expr>) -> Result<Option<Expr>, NoMemory>
     ensures { IfOk result (λ copy. copy ≡ plan.now) }
 {
     match plan {

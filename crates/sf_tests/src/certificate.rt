@@ -1,45 +1,8 @@
 //! Texts that are read, and the first fault of texts that are not.
 
-ghost use Rattle.std.specs.Prelude.{◌≡◌, IfOk};
-ghost use Rattle.sf_model.specs.Legal.{block_count};
-
-use crate::designs::{WIDE, bare, block};
-use sf_certificate::{CertFault, Tag, merge, read, write};
-use sf_model::{Design, MAX, Shape};
-use sf_node::{Node, Part, Task, Values};
-use std::alloc::{AllocError, Global};
+use sf_certificate::{CertFault, Tag, read, write};
+use sf_node::Part;
 use std::test::Fail;
-
-/// A bound that closes nothing.
-struct Nothing;
-
-impl Values for Nothing {
-    ghost value = { λ bounds design node. 0 };
-}
-
-/// A block 3x4.
-fn one_block(alloc: Global) -> Result<Design, AllocError>
-    ensures { IfOk result (λ design. block_count design ≡ 1) }
-{
-    let block = block(alloc, Shape { w: 3, h: 4 })?;
-    Ok(bare(alloc, vec![in alloc; block]?, WIDE, 0))
-}
-
-/// A search that decided nothing leaves the root open.
-#[test]
-fn merges_an_open_root(rt: HostRuntime) -> Result<(), Fail> {
-    let alloc = rt.alloc();
-    let design = one_block(alloc)?;
-    let root = Task {
-        node: Node::root(alloc, &design)?,
-        bound: 0,
-    };
-    let left = vec![in alloc; root]?;
-    let cert = merge(alloc, &design, Vec::new(alloc), left, None, MAX, &Nothing)?;
-    assert_eq!(rt; cert.tags.as_slice(), [Tag::Open].as_slice());
-    assert_eq!(rt; cert.bound, 0);
-    Ok(())
-}
 
 /// A text of the first version is read, its closed subproblems by their full part.
 #[test]

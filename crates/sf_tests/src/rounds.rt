@@ -77,10 +77,9 @@ fn five_squares(alloc: Global) -> Result<Design, AllocError> {
     Ok(bare(alloc, blocks, WIDE, 0))
 }
 
-/// The squares of the sides 1 to 5 fit into no less than an area of 60 (Korf 2003). To prove it takes more
-/// decisions than one thread alone makes the certificate of.
+/// The squares of the sides 1 to 5 fit into no less than an area of 60 (Korf 2003).
 #[test]
-fn two_workers_share_out_the_certificate(rt: HostRuntime) -> Result<(), Fail> {
+fn two_workers_prove_an_optimum(rt: HostRuntime) -> Result<(), Fail> {
     let alloc = rt.alloc();
     let design = five_squares(alloc)?;
     let found = searched(&rt, alloc, &design, 2, 10_000)?;
@@ -220,8 +219,8 @@ fn the_gate_is_told_the_count_of_decisions_before(rt: HostRuntime) -> Result<(),
     Ok(())
 }
 
-/// Two workers take many rounds. Before each the caller decides one subproblem, and it may decide a last one;
-/// the first worker decides one at least in each round. A worker alone counts through.
+/// Two workers take many rounds. The caller decides the root, and later one subproblem at a time where what is left
+/// can't be cut in two; the first worker decides one at least in each round. A worker alone counts through.
 #[test]
 fn each_round_counts_its_decisions_anew(rt: HostRuntime) -> Result<(), Fail> {
     let alloc = rt.alloc();
@@ -243,8 +242,7 @@ fn each_round_counts_its_decisions_anew(rt: HostRuntime) -> Result<(), Fail> {
         if workers == 1 {
             assert_eq!(rt; (rounds, untold), (1, 0));
         } else {
-            let one_a_round = untold == rounds || untold == rounds.wrapping_add(1);
-            assert!(rt; one_a_round, "{untold} in {rounds} rounds");
+            assert!(rt; untold > 0);
             let many = rounds > 3;
             assert!(rt; many, "{rounds} rounds");
         }

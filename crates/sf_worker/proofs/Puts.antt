@@ -3,13 +3,13 @@ use Rattle.std.proofs.Common.{◌≡◌, List, [], ◌∷◌, ◌++◌, refl, sy
 use Rattle.std.specs.Prelude.{sum_by}
 use Rattle.std.proofs.lemmas.List.Sums.{sum_by-append, sum_by-cons}
 use Rattle.std.proofs.lemmas.List.Elements.{All-append, All-nil}
-use Rattle.sf_node.specs.declared.task.Task.{Task}
+use Rattle.sf_cursor.specs.declared.stretch.Stretch.{Stretch}
 use Rattle.sf_frontier.specs.Ends.{OwnerView, with_put}
 use Rattle.sf_worker.specs.Takes.{PutsAll}
 
-module _ (S : Task → Type 0) where
+module _ (S : Stretch → Type 0) where
   -- where there is no task to put, nothing changes
-  pub puts-none : (old : OwnerView) (kept : List Task) → PutsAll S old old kept kept []
+  pub puts-none : (old : OwnerView) (kept : List Stretch) → PutsAll S old old kept kept []
   puts-none old kept = record {
     refused = [];
     kept_are = sym (append-nil kept);
@@ -22,7 +22,7 @@ module _ (S : Task → Type 0) where
   }
 
   -- an owner that has put one task more has kept none of it
-  pub puts-one : (old new : OwnerView) (kept : List Task) (x : Task) → new ≡ with_put old x → PutsAll S old new kept kept (x ∷ [])
+  pub puts-one : (old new : OwnerView) (kept : List Stretch) (x : Stretch) → new ≡ with_put old x → PutsAll S old new kept kept (x ∷ [])
   puts-one old new kept x e =
       let r : new.refused_puts ≡ old.refused_puts = ap (λ (o : OwnerView). o.refused_puts) e in record {
         refused = [];
@@ -36,7 +36,7 @@ module _ (S : Task → Type 0) where
       }
 
   -- tasks that were put or kept one after another
-  pub puts-more : (a b c : OwnerView) (kept kept' kept'' done : List Task) (x : Task) → PutsAll S a b kept kept' done → PutsAll S b c kept' kept'' (x ∷ []) → PutsAll S a c kept kept'' (x ∷ done)
+  pub puts-more : (a b c : OwnerView) (kept kept' kept'' done : List Stretch) (x : Stretch) → PutsAll S a b kept kept' done → PutsAll S b c kept' kept'' (x ∷ []) → PutsAll S a c kept kept'' (x ∷ done)
   puts-more a b c kept kept' kept'' done x p q = record {
     refused = p.refused ++ q.refused;
     kept_are = q.kept_are ∙ (ap (λ z. z ++ q.refused) p.kept_are ∙ append_assoc kept p.refused q.refused);

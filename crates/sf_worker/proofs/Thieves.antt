@@ -1,11 +1,12 @@
 -- Tries at thieves, one after another.
 use Rattle.std.proofs.Common.{◌≡◌, ℕ, zero, suc, ◌+◌, ◌<◌, ◌≤◌, List, [], ◌∷◌, ◌++◌, length, set, get_or, refl, ap, ◌∙◌, arith}
-use Rattle.std.specs.Prelude.{sum_by, ⊤}
+use Rattle.std.specs.Prelude.{sum_by, ⊤, Option, Some, None}
 use Rattle.std.proofs.lemmas.List.Sums.{sum_by-set, sum_by-append, sum_by-cons}
-use Rattle.sf_node.specs.declared.task.Task.{Task}
+use Rattle.sf_cursor.specs.declared.stretch.Stretch.{Stretch}
 use Rattle.sf_frontier.specs.Ends.{ThiefView, one_more}
 use Rattle.sf_frontier.specs.Team.{thief_deques_of}
-use Rattle.sf_worker.specs.Took.{thieves_weigh, NeverFell, Rose, ThievesNeverFell, ThievesRose}
+use Rattle.sf_worker.specs.Takes.{IsStolen}
+use Rattle.sf_worker.specs.Took.{maybe_weighs, thieves_weigh, NeverFell, Rose, ThievesNeverFell, ThievesRose}
 
 -- the first i thieves were tried and had nothing
 abbrev pub Tried : ℕ → List ThiefView → List ThiefView → Type 0
@@ -69,7 +70,7 @@ tried-deques zero (t ∷ ts) (u ∷ us) h = λ j. (h.0 j).deque ∷ tried-deques
 tried-deques (suc i) (t ∷ ts) (u ∷ us) h = λ j. h.0.0 j ∷ tried-deques i ts us h.1 j
 
 -- tries in vain leave what the thieves took
-pub tried-weigh : (w : Task → ℕ) (i : ℕ) (ts us : List ThiefView) → Tried i ts us → thieves_weigh w us ≡ thieves_weigh w ts
+pub tried-weigh : (w : Stretch → ℕ) (i : ℕ) (ts us : List ThiefView) → Tried i ts us → thieves_weigh w us ≡ thieves_weigh w ts
 tried-weigh w i [] [] h = refl
 tried-weigh w i [] (u ∷ us) h = absurd h
 tried-weigh w i (t ∷ ts) [] h = absurd h
@@ -97,7 +98,7 @@ fell_set (t ∷ ts) (u ∷ us) zero old new is same h = ((let k : new.empty_take
 fell_set (t ∷ ts) (u ∷ us) (suc i) old new is same h = (h.0, fell_set ts us i old new is same h.1)
 
 -- a thief that took one task more makes the thieves' tasks weigh more by that one
-pub weigh_set : (w : Task → ℕ) (us : List ThiefView) (i : ℕ) (old new : ThiefView) (x : Task) → i < length us → old ≡ get_or us i old → new.taken ≡ old.taken ++ x ∷ [] → thieves_weigh w (set us i new) ≡ thieves_weigh w us + w x
+pub weigh_set : (w : Stretch → ℕ) (us : List ThiefView) (i : ℕ) (old new : ThiefView) (x : Stretch) → i < length us → old ≡ get_or us i old → new.taken ≡ old.taken ++ x ∷ [] → thieves_weigh w (set us i new) ≡ thieves_weigh w us + w x
 weigh_set w us i old new x below is same =
     let f : ThiefView → ℕ = λ t. sum_by w t.taken in
     let s = sum_by-set f us i new old below in
@@ -133,3 +134,33 @@ thieves_never_fell (t ∷ ts) = (omega arith, thieves_never_fell ts)
 -- a count that stays has not fallen
 pub never_fell : (n : ℕ) → NeverFell n n
 never_fell n = omega arith
+
+-- so many tries at each thief were in vain
+pub record Missed (n : ℕ) (ts us : List ThiefView) : Type 0 where
+  pub deques : thief_deques_of us ≡ thief_deques_of ts
+  pub fell : ThievesNeverFell ts us
+  pub weigh : (w : Stretch → ℕ) → thieves_weigh w us ≡ thieves_weigh w ts
+  pub rose : 0 < n → ThievesRose ts us
+
+-- before the first try
+pub missed-none : (ts : List ThiefView) → Missed 0 ts ts
+missed-none ts = record { deques = refl; fell = thieves_never_fell ts; weigh = λ w. refl; rose = λ h. absurd (omega (arith, h)) }
+
+-- one try more in vain
+pub missed-more : (S : Stretch → Type 0) (n : ℕ) (ts us vs : List ThiefView) → Missed n ts us → IsStolen S us vs None → Missed (n + 1) ts vs
+missed-more S n ts us vs m s = record {
+  deques = s.0 ∙ m.deques;
+  fell = thieves_fell-trans ts us vs m.fell s.1;
+  weigh = λ w. (let a = s.3 w in let b = m.weigh w in omega (arith, a, b));
+  rose = λ h. thieves_fell-rose ts us vs m.fell (s.4 refl);
+}
+
+-- and one that gave a task
+pub missed-found : (S : Stretch → Type 0) (n : ℕ) (ts us vs : List ThiefView) (x : Stretch) → Missed n ts us → IsStolen S us vs (Some x) → IsStolen S ts vs (Some x)
+missed-found S n ts us vs x m s = (
+  s.0 ∙ m.deques,
+  thieves_fell-trans ts us vs m.fell s.1,
+  s.2,
+  (λ w. (let a = s.3 w in let b = m.weigh w in omega (arith, a, b))),
+  λ e. absurd (cc),
+)

@@ -1,15 +1,18 @@
 //! Where a worker takes its tasks from, and where it puts them.
 
-ghost use Rattle.std.specs.Prelude.{◌≡◌, ◌+◌, ◌<◌, ◌≤◌, [], ◌∷◌, All, IfSome};
+ghost use Rattle.std.specs.Prelude.{◌≡◌, ◌+◌, ◌<◌, ◌≤◌, [], ◌∷◌, IfSome};
 ghost use Rattle.std.specs.Prelude.{vec_len, vec_capacity};
-ghost use Rattle.sf_node.specs.declared.task.Task.{Task};
+ghost use Rattle.sf_cursor.specs.declared.stretch.Stretch.{Stretch};
 ghost use Rattle.sf_worker.specs.Takes.{IsFound, IsStolen, PutsAll, SamePuts};
 
+use sf_cursor::Stretch;
 use sf_frontier::{Owner, Place, Served, Thief};
-use sf_node::Task;
+
+/// How often a worker without a task tries to steal one before it ends its pass.
+const TRIES: u32 = 400;
 
 /// The first task, else one of its own, else a stolen one.
-pub fn find<T: Served>(first: &mut Option<Task>, place: &mut Place<T>) -> Option<Task>
+pub fn find<T: Served>(first: &mut Option<Stretch>, place: &mut Place<T>) -> Option<Stretch>
     requires { IfSome first.old T.serves }
     ensures same { SamePuts place.old place.new }
     ensures found { IsFound T.serves first.old place.old first.new place.new result }
@@ -23,8 +26,20 @@ pub fn find<T: Served>(first: &mut Option<Task>, place: &mut Place<T>) -> Option
     steal(&mut place.thieves)
 }
 
+/// Some tries at each thief, so that one whose victim has nothing to share yet waits a moment.
+fn steal<T: Served>(thieves: &mut Vec<Thief<T>>) -> Option<Stretch>
+    ensures { IsStolen T.serves thieves.old.items thieves.new.items result }
+{
+    for _ in 0..TRIES {
+        if let Some(task) = try_each(thieves) {
+            return Some(task);
+        }
+    }
+    None
+}
+
 /// One try at each thief.
-fn steal<T: Served>(thieves: &mut Vec<Thief<T>>) -> Option<Task>
+fn try_each<T: Served>(thieves: &mut Vec<Thief<T>>) -> Option<Stretch>
     ensures { IsStolen T.serves thieves.old.items thieves.new.items result }
 {
     for i in 0..thieves.len() {
@@ -37,7 +52,7 @@ fn steal<T: Served>(thieves: &mut Vec<Thief<T>>) -> Option<Task>
 }
 
 /// Puts a task, or keeps it where it comes back.
-pub fn put<T: Served>(owner: &mut Owner<T>, kept: &mut Vec<Task>, task: Task)
+pub fn put<T: Served>(owner: &mut Owner<T>, kept: &mut Vec<Stretch>, task: Stretch)
     requires room { vec_len kept.old < vec_capacity kept.old }
     requires served { T.serves task }
     ensures room { (vec_capacity kept.new ≡ vec_capacity kept.old)
@@ -46,16 +61,5 @@ pub fn put<T: Served>(owner: &mut Owner<T>, kept: &mut Vec<Task>, task: Task)
 {
     if let Err(task) = owner.put(task) {
         kept.push_reserved(task);
-    }
-}
-
-/// Puts all tasks, the last one first. Those that come back are kept.
-pub fn put_all<T: Served>(owner: &mut Owner<T>, kept: &mut Vec<Task>, mut tasks: Vec<Task>)
-    requires room { vec_len kept.old + vec_len tasks ≤ vec_capacity kept.old }
-    requires served { All T.serves tasks.items }
-    ensures put { PutsAll T.serves owner.old owner.new kept.old.items kept.new.items tasks.items }
-{
-    while let Some(task) = tasks.pop() {
-        put(owner, kept, task);
     }
 }

@@ -1,36 +1,40 @@
 //! A pass of one worker.
 
-ghost use Rattle.std.specs.Prelude.{◌≡◌, ◌<◌};
-ghost use Rattle.sf_worker.specs.Took.{IsReady, Serves, Passed};
-ghost use Rattle.sf_worker.specs.Turns.{PassEnds};
+ghost use Rattle.std.specs.Prelude.{◌≡◌, [], OnOk, IfOk};
+ghost use Rattle.sf_worker.specs.Took.{IsReady, Serves, Passed, PassEnds};
 
 use crate::state::{PassEnd, WorkerState};
-use crate::turn::turn;
+use crate::take::find;
+use crate::walking::walk_over;
 use sf_bounds::Bounds;
 use sf_frontier::Served;
 use sf_incumbent::Incumbent;
 use sf_io::Gate;
 use sf_model::Design;
+use std::alloc::AllocError as NoMemory;
 
-/// Decides tasks until the quota is spent, none was found or memory ran out.
+/// Walks over stretches until the quota is spent or none was found.
 pub fn pass<'a, T: Served, B: Bounds, G: Gate>(
     state: &mut WorkerState<'a, T>,
     design: &'a Design,
     bounds: &B,
     word: &Incumbent,
     gate: &G,
-) -> PassEnd
+) -> Result<PassEnd, NoMemory>
     requires team { Serves T.serves design.now (B.Values.value bounds.now design.now) }
     requires word { state.old.seat.word ≡ word.now.id }
     requires ready { IsReady design.now (B.Values.value bounds.now design.now) state.old }
-    ensures ready { IsReady design.now (B.Values.value bounds.now design.now) state.new }
-    ensures passed { (p : Passed design.now (B.Values.value bounds.now design.now) state.old state.new)
-        × PassEnds state.old state.new p result }
+    ensures ready { OnOk result (IsReady design.now (B.Values.value bounds.now design.now) state.new) }
+    ensures passed { IfOk result
+        (λ end. (p : Passed design.now (B.Values.value bounds.now design.now)
+        (B.part_value bounds.now design.now) state.old state.new []) × PassEnds state.old state.new p end) }
 {
+    let given = state.quota;
     while state.quota > 0 {
-        if let Some(end) = turn(state, design, bounds, word, gate) {
-            return end;
-        }
+        let Some(stretch) = find(&mut state.first, &mut state.place) else {
+            return Ok(PassEnd::FoundNothing);
+        };
+        walk_over(state, stretch, design, bounds, word, gate, given)?;
     }
-    PassEnd::QuotaSpent
+    Ok(PassEnd::QuotaSpent)
 }

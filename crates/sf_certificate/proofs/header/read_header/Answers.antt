@@ -1,6 +1,5 @@
 use Rattle.std.proofs.Common.{refl}
-use Rattle.std.proofs.lemmas.Result.{err_from_is_err_and}
-use Rattle.sf_certificate.specs.Reading.{header_read}
+use Rattle.sf_certificate.proofs.Common.{err_from_is_err_and, header_read}
 use Rattle.sf_certificate.proofs.header.read_header.Goals as goal
 
 pub returns-in_err-version-clause-fault : goal.returns-in_err-version-clause-fault

@@ -1,7 +1,5 @@
 use Rattle.std.proofs.Common.{sym, ◌∙◌, ap, Ok, refl}
-use Rattle.std.proofs.lemmas.Result.{err_from_is_err_and}
-use Rattle.sf_lex.specs.Scan.{last_line_of}
-use Rattle.sf_certificate.specs.Reading.{header_read, cert_read}
+use Rattle.sf_certificate.proofs.Common.{err_from_is_err_and, last_line_of, header_read, cert_read}
 use Rattle.sf_certificate.proofs.HeaderReads.{start-lines, cert-whole}
 use Rattle.sf_certificate.proofs.reading.read.Goals as goal
 

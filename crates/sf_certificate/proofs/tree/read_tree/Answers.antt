@@ -1,9 +1,6 @@
 use Rattle.std.proofs.Common.{ap, sym, ◌∙◌}
-use Rattle.std.specs.Prelude.{None, ◌∷◌, []}
-use Rattle.sf_lex.specs.Scan.{numbered_words, last_line_of}
-use Rattle.sf_certificate.specs.Places.{first_place}
-use Rattle.sf_certificate.specs.Reading.{tags_said, tree_read}
-use Rattle.sf_certificate.specs.Reader.{read_on}
+use Rattle.std.specs.Prelude.{◌∷◌}
+use Rattle.sf_certificate.proofs.Common.{None, [], numbered_words, last_line_of, first_place, tags_said, tree_read, read_on}
 use Rattle.sf_certificate.proofs.TreeReads.{reading-done, read-spells}
 use Rattle.sf_certificate.proofs.tree.read_tree.Goals as goal
 

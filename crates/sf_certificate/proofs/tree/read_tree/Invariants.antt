@@ -1,6 +1,5 @@
 use Rattle.std.proofs.Common.{length}
-use Rattle.sf_lex.specs.Scan.{numbered_words, last_line_of}
-use Rattle.sf_certificate.specs.Reading.{tree_read}
+use Rattle.sf_certificate.proofs.Common.{numbered_words, last_line_of, tree_read}
 use Rattle.sf_certificate.proofs.TreeReads.{IsReading}
 use Rattle.sf_certificate.proofs.tree.read_tree.Given as goal
 

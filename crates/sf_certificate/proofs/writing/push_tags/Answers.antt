@@ -1,8 +1,6 @@
 use Rattle.std.proofs.Common.{arith}
 use Rattle.std.proofs.lemmas.Grind.{common_steps}
-use Rattle.std.proofs.lemmas.List.Elements.{All-more}
-use Rattle.sf_certificate.specs.declared.tag.Tag.TheVariants.{Extend}
-use Rattle.sf_certificate.specs.Text.{FitsTag}
+use Rattle.sf_certificate.proofs.Common.{All-more, Extend, FitsTag}
 use Rattle.sf_certificate.proofs.writing.push_tags.Goals as goal
 
 pub loop-tag-preserved : goal.loop-tag-preserved

@@ -1,7 +1,5 @@
 use Rattle.std.proofs.Common.{◌≡◌, ◌∙◌, ap, subst, All, List, rules}
-use Rattle.sf_certificate.specs.declared.tag.Tag.{Tag}
-use Rattle.sf_certificate.specs.Text.{FitsTag, cert_text}
-use Rattle.sf_certificate.specs.Reading.{cert_read}
+use Rattle.sf_certificate.proofs.Common.{Tag, FitsTag, cert_text, cert_read}
 use Rattle.sf_certificate.proofs.CertBack.{cert-back}
 use Rattle.sf_certificate.proofs.writing.write.Goals as goal
 

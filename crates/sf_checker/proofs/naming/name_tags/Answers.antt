@@ -1,8 +1,5 @@
 use Rattle.std.proofs.Common.{ℕ, ap, subst, ◌∙◌}
-use Rattle.sf_node.specs.declared.part.Part.{Part}
-use Rattle.sf_node.specs.Parts.{Parts}
-use Rattle.sf_certificate.specs.declared.tag.Tag.TheVariants.{Open}
-use Rattle.sf_certificate.specs.Named.{NamesFirst, unnamed}
+use Rattle.sf_checker.proofs.Common.{Part, Parts, Open, NamesFirst, unnamed}
 use Rattle.sf_checker.proofs.Names.{naming-next, naming-end}
 use Rattle.sf_checker.proofs.naming.name_tags.Goals as goal
 

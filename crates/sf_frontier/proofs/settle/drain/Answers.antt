@@ -1,7 +1,7 @@
 use Rattle.std.proofs.Common.{List, [], ◌∷◌, ◌++◌, ap, ◌∙◌, append_assoc}
 use Rattle.std.proofs.lemmas.List.Elements.{All-append, All-cons, All-nil}
 use Rattle.sf_frontier.specs.Ends.{OwnerView}
-use Rattle.sf_node.specs.declared.task.Task.{Task}
+use Rattle.sf_cursor.specs.declared.stretch.Stretch.{Stretch}
 use Rattle.sf_frontier.proofs.Teams.{last-first}
 use Rattle.sf_frontier.proofs.settle.drain.Goals as goal
 
@@ -17,9 +17,9 @@ loop-owner-preserved g c =
       ap (λ (o : OwnerView). o.stolen) t.0 ∙ i.2,
       (
         more ++ x ∷ [],
-        ap (λ (o : OwnerView). o.taken) t.0 ∙ (ap (λ (l : List Task). l ++ x ∷ []) i.3.1 ∙ append_assoc _ more (x ∷ [])),
+        ap (λ (o : OwnerView). o.taken) t.0 ∙ (ap (λ (l : List Stretch). l ++ x ∷ []) i.3.1 ∙ append_assoc _ more (x ∷ [])),
         last-first _ _ _ more x i.3.2 c.in-Some.ensures.last,
-        c.push_reserved.ensures.items ∙ (ap (λ (l : List Task). l ++ x ∷ []) (c.in_ok-reserve.ensures.items ∙ i.3.3) ∙ append_assoc _ more (x ∷ [])),
+        c.push_reserved.ensures.items ∙ (ap (λ (l : List Stretch). l ++ x ∷ []) (c.in_ok-reserve.ensures.items ∙ i.3.3) ∙ append_assoc _ more (x ∷ [])),
         All-append S more (x ∷ []) i.3.4 (All-cons S x [] t.1 (All-nil S)),
       ),
     )

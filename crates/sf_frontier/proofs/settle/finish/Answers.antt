@@ -1,6 +1,6 @@
 use Rattle.std.proofs.Common.{◌≡◌, ◌∙◌, List, [], ◌++◌, All, length, ap, sym, subst, arith, rules}
 use Rattle.std.proofs.lemmas.List.Elements.{All-append, All-nil}
-use Rattle.sf_node.specs.declared.task.Task.{Task}
+use Rattle.sf_cursor.specs.declared.stretch.Stretch.{Stretch}
 use Rattle.sf_frontier.specs.Ends.{ThiefView, with_stolen}
 use Rattle.sf_frontier.specs.Team.{IsFinished}
 use Rattle.sf_frontier.proofs.Teams.{IsSettling, settling-start, settling-more, settling-thief, settling-some, settling-done, lone-part, lone-done}
@@ -16,7 +16,7 @@ returns-in_default-pop-clause-finished g c =
     let none : length c.in-Some.last.thieves.items ≡ 0 = search rules in
     let d = c.in_ok-drain.ensures.left in
     subst (IsFinished c.args.places.items) (sym c.from_vec.ensures)
-    (lone-done c.args.places.items c.pop.new.self.items c.in-Some.last d.0 c.drain.new.left.items c.in-Some.ensures.items none c.requires d.2 (d.1 ∙ ap (λ (zs : List Task). zs ++ d.0) c.new-left.ensures.items))
+    (lone-done c.args.places.items c.pop.new.self.items c.in-Some.last d.0 c.drain.new.left.items c.in-Some.ensures.items none c.requires d.2 (d.1 ∙ ap (λ (zs : List Stretch). zs ++ d.0) c.new-left.ensures.items))
 
 pub loop-place-init : goal.loop-place-init
 loop-place-init g c =

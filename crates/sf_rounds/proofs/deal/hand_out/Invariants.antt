@@ -1,13 +1,13 @@
 use Rattle.std.proofs.Common.{◌<◌, length, All}
-use Rattle.sf_worker.specs.Tasks.{IsTask}
+use Rattle.sf_cursor.specs.Stretches.{IsStretch}
 use Rattle.sf_rounds.proofs.Dealing.{IsHanding}
 use Rattle.sf_rounds.proofs.deal.hand_out.Given as goal
 
-abbrev pub invariant-loop-task : goal.invariant-loop-task
-invariant-loop-task g l =
-    IsHanding l.fn.jobs.items l.jobs.items l.fn.tasks.items l.tasks.items
+abbrev pub invariant-loop-stretch : goal.invariant-loop-stretch
+invariant-loop-stretch g l =
+    IsHanding l.fn.design l.fn.jobs.items l.jobs.items l.fn.stretches.items l.stretches.items
     × (0 < length l.jobs.items)
-    × All (IsTask l.fn.design (g.B.Values.value l.fn.bounds l.fn.design)) l.tasks.items
+    × All (IsStretch l.fn.design (g.B.Values.value l.fn.bounds l.fn.design)) l.stretches.items
 
-abbrev pub decreases-loop-task : goal.decreases-loop-task
-decreases-loop-task g l = length l.tasks.items
+abbrev pub decreases-loop-stretch : goal.decreases-loop-stretch
+decreases-loop-stretch g l = length l.stretches.items

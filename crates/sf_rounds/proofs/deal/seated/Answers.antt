@@ -1,10 +1,6 @@
 use Rattle.std.proofs.Common.{◌≡◌, ◌<◌, [], ◌∷◌, ◌++◌, length, ap, sym, subst, arith, rules, refl, ◌∙◌, append-nil, append_assoc}
-use Rattle.std.proofs.lemmas.List.{nil_from_length}
-use Rattle.sf_model.specs.declared.TheConstants.{MAX}
-use Rattle.sf_incumbent.specs.Seen.{Knows}
-use Rattle.sf_rounds.specs.Jobs.{IsSeated}
-use Rattle.sf_rounds.proofs.Dealing.{next-task, seating-more, seating-done}
-use Rattle.std.specs.Prelude.{reverse, slice_index}
+use Rattle.sf_rounds.proofs.Common.{nil_from_length, MAX, Knows, IsSeated, reverse, slice_index}
+use Rattle.sf_rounds.proofs.Dealing.{next-stretch, seating-more, seating-done}
 use Rattle.sf_rounds.proofs.deal.seated.Goals as goal
 
 pub loop-place-preserved : goal.loop-place-preserved
@@ -12,14 +8,14 @@ loop-place-preserved g c =
     let i = c.loop-place.invariant in
     let value = c.args.seat.now.seen in
     let word = c.args.word.now in
-    let ts = reverse c.args.tasks.now.items in
+    let ts = reverse c.args.stretches.now.items in
     let quotas = c.args.quotas.now in
     let js = c.loop-place.jobs.items in
-    let next = next-task c.pop.result c.loop-place.tasks.items c.pop.new.self.items ts (length js) _ _ c.pop.ensures.items (omega arith) (omega arith) c.pop.ensures.cases i.0.left_are in
+    let next = next-stretch c.pop.result c.loop-place.stretches.items c.pop.new.self.items ts (length js) _ _ c.pop.ensures.items (omega arith) (omega arith) c.pop.ensures.cases i.0.left_are in
     let rest = ap length c.in-Some.ensures.steps.0 in
     let below : length js < length quotas = (let k = i.3 in omega (arith, k, rest)) in
     let len = c.in_ok-push.ensures.len in (
-      seating-more value word ts quotas c.loop-place.yielded c.in-Some.place js c.push.new.self.items _ c.loop-place.tasks.items c.pop.new.self.items c.args.seat.now c.loop-place.seat c.split.new.seat 0
+      seating-more value word ts quotas c.loop-place.yielded c.in-Some.place js c.push.new.self.items _ c.loop-place.stretches.items c.pop.new.self.items c.args.seat.now c.loop-place.seat c.split.new.seat 0
           c.in_ok-push.ensures.items i.0
           (record {
             place_is = refl;
@@ -42,4 +38,4 @@ returns-clause-seated g c =
     let i = c.loop-place.invariant in
     let all : length c.loop-place.jobs.items ≡ length c.args.quotas.now = search rules in
     let places : c.loop-place.yielded ≡ c.args.places.items = (let zero : length c.loop-place.place-iterator.rest.items ≡ 0 = search rules in let none = nil_from_length c.loop-place.place-iterator.rest.items zero in sym (append-nil c.loop-place.yielded) ∙ (ap (λ zs. c.loop-place.yielded ++ zs) (sym none) ∙ i.1)) in
-    subst (λ ps. IsSeated c.args.seat.now.seen c.args.word.now (reverse c.args.tasks.now.items) c.args.quotas.now ps c.loop-place.jobs.items) places (seating-done c.args.seat.now.seen c.args.word.now (reverse c.args.tasks.now.items) c.args.quotas.now c.loop-place.yielded c.loop-place.jobs.items c.loop-place.tasks.items c.args.seat.now c.loop-place.seat all i.0)
+    subst (λ ps. IsSeated c.args.seat.now.seen c.args.word.now (reverse c.args.stretches.now.items) c.args.quotas.now ps c.loop-place.jobs.items) places (seating-done c.args.seat.now.seen c.args.word.now (reverse c.args.stretches.now.items) c.args.quotas.now c.loop-place.yielded c.loop-place.jobs.items c.loop-place.stretches.items c.args.seat.now c.loop-place.seat all i.0)

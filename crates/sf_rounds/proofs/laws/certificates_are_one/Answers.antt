@@ -1,10 +1,5 @@
 use Rattle.std.proofs.Common.{◌≡◌, ◌==◌, [], ◌∷◌, ap, map, sym, subst, ◌∙◌}
-use Rattle.std.proofs.lemmas.List.Sorted.{IsPermutation-sym, IsPermutation-trans}
-use Rattle.sf_model.specs.declared.TheConstants.{MAX}
-use Rattle.sf_node.specs.Subproblem.{root}
-use Rattle.sf_certificate.specs.Marks.{given_marks, marks}
-use Rattle.sf_certificate.specs.Named.{AllNameFirst, unnamed}
-use Rattle.sf_certificate.specs.Valid.{AreTrees}
+use Rattle.sf_rounds.proofs.Common.{IsPermutation-sym, IsPermutation-trans, MAX, root, given_marks, marks, AllNameFirst, unnamed, AreTrees}
 use Rattle.sf_certificate.proofs.OneCert.{same-cert}
 use Rattle.sf_rounds.proofs.OneCert.{same-plan, entries-good}
 use Rattle.sf_rounds.proofs.laws.certificates_are_one.Goals as goal

@@ -1,15 +1,11 @@
 use Rattle.std.proofs.Common.{◌≡◌, ◌∷◌, [], length}
-use Rattle.sf_bounds.specs.Serving.{MayServe}
-use Rattle.sf_node.specs.Subproblem.{root}
-use Rattle.sf_certificate.specs.Marks.{marks}
-use Rattle.sf_rounds.specs.Naming.{AreKept}
-use Rattle.sf_rounds.specs.Stage.{IsRun}
+use Rattle.sf_rounds.proofs.Common.{MayServe, root, marks, AreKept, IsRun}
 use Rattle.sf_rounds.proofs.one_walk.search_walk.Given as goal
 
 abbrev pub invariant-loop-step : goal.invariant-loop-step
 invariant-loop-step g l = record {
   run : IsRun l.design (g.B.Values.value l.bounds l.design) l.step l.walk;
-  kept : AreKept (g.B.Bounds.part_value l.bounds l.design) l.walk.word (marks (root l.design ∷ []) l.walk.tags) l.walk.kept;
-  count : length l.walk.tags ≡ l.step;
+  kept : AreKept (g.B.Bounds.part_value l.bounds l.design) l.walk.word (marks (root l.design ∷ []) l.walk.hand.tags) l.walk.hand.kept;
+  count : length l.walk.hand.tags ≡ l.step;
   serves : MayServe l.room l.design;
 }

@@ -1,10 +1,5 @@
 use Rattle.std.proofs.Common.{◌≡◌, ◌++◌, ◌∷◌, ℕ, List, length, true, sym, subst, Err, arith}
-use Rattle.std.proofs.lemmas.List.{nil_from_length}
-use Rattle.std.proofs.lemmas.Result.{err_from_is_err_and}
-use Rattle.std.proofs.lemmas.Bool.Decides.{nat_tests}
-use Rattle.sf_lex.specs.Text.{is_blank_byte}
-use Rattle.sf_certificate.specs.Bytes.{Bytewise, bytes_on, past_blank}
-use Rattle.sf_certificate.specs.Reader.{with_some}
+use Rattle.sf_certificate.proofs.Common.{nil_from_length, err_from_is_err_and, nat_tests, is_blank_byte, Bytewise, bytes_on, past_blank, with_some}
 use Rattle.sf_certificate.proofs.ByteReads.{kept-tag, kept-fault, run-tag, run-fault}
 use Rattle.sf_certificate.proofs.bytes.ByteReader.end_run.Goals as goal
 

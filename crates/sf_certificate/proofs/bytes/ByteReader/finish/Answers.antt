@@ -1,7 +1,5 @@
 use Rattle.std.proofs.Common.{◌≡◌, subst, ◌∙◌, [], Ok, Err}
-use Rattle.std.proofs.lemmas.Result.{err_from_is_err_and}
-use Rattle.sf_certificate.specs.Bytes.{Bytewise}
-use Rattle.sf_certificate.specs.Reader.{read_on}
+use Rattle.sf_certificate.proofs.Common.{err_from_is_err_and, Bytewise, read_on}
 use Rattle.sf_certificate.proofs.ByteReads.{end-tag, end-fault, some-fault}
 use Rattle.sf_certificate.proofs.bytes.ByteReader.finish.Goals as goal
 

@@ -1,7 +1,5 @@
 use Rattle.std.proofs.Common.{◌∙◌, ap, sym}
-use Rattle.std.proofs.lemmas.Result.{err_from_is_err_and}
-use Rattle.sf_certificate.specs.Bytes.{Bytewise, bytes_on, past_blank}
-use Rattle.sf_certificate.specs.Reader.{with_some}
+use Rattle.sf_certificate.proofs.Common.{err_from_is_err_and, Bytewise, bytes_on, past_blank, with_some}
 use Rattle.sf_certificate.proofs.ByteReads.{none-before, piece-tag, piece-fault}
 use Rattle.sf_certificate.proofs.bytes.ByteReader.take.Goals as goal
 

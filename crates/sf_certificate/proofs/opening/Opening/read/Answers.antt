@@ -1,8 +1,5 @@
 use Rattle.std.proofs.Common.{◌≡◌, ap, sym, subst, ◌∙◌, ◌++◌, List, ℕ, Err}
-use Rattle.std.proofs.lemmas.Result.{err_from_is_err_and}
-use Rattle.sf_lex.specs.Scan.{last_line_of}
-use Rattle.sf_certificate.specs.Bytes.{IsHeader, first_byte, bytes_on, said_with}
-use Rattle.sf_certificate.specs.Reading.{header_read, cert_read}
+use Rattle.sf_certificate.proofs.Common.{err_from_is_err_and, last_line_of, IsHeader, first_byte, bytes_on, said_with, header_read, cert_read}
 use Rattle.sf_certificate.proofs.HeaderReads.{start-lines}
 use Rattle.sf_certificate.proofs.OpeningReads.{opened, opened-fault}
 use Rattle.sf_certificate.proofs.opening.Opening.read.Goals as goal

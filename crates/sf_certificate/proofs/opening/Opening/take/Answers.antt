@@ -1,8 +1,5 @@
 use Rattle.std.proofs.Common.{◌≡◌, ◌++◌, ◌∷◌, ◌+◌, [], ap, sym, subst, ◌∙◌, arith}
-use Rattle.std.specs.List.{count_by}
-use Rattle.std.proofs.lemmas.Bool.Decides.{nat_tests}
-use Rattle.sf_lex.specs.Text.{is_line_feed}
-use Rattle.sf_certificate.specs.Bytes.{IsHeader}
+use Rattle.sf_certificate.proofs.Common.{count_by, nat_tests, is_line_feed, IsHeader}
 use Rattle.sf_certificate.proofs.OpeningReads.{header-ended}
 use Rattle.sf_certificate.proofs.opening.Opening.take.Goals as goal
 

@@ -1,7 +1,6 @@
 use Rattle.std.proofs.Common.{ap, sym, ◌∙◌, ◌∷◌, Some, None}
-use Rattle.sf_lex.specs.Scan.{LineWord}
+use Rattle.sf_certificate.proofs.Common.{LineWord, letter_of, tags_said}
 use Rattle.sf_certificate.specs.declared.letter.Letter.TheVariants.{Whole, First}
-use Rattle.sf_certificate.specs.Reading.{letter_of, tags_said}
 use Rattle.sf_certificate.proofs.TreeReads.{second-said, letter-said}
 use Rattle.sf_certificate.proofs.tree.TreeReader.said.Goals as goal
 

@@ -1,6 +1,5 @@
 use Rattle.std.proofs.Common.{ℕ, ◌≤◌, ◌-◌, List, ◌++◌, length, take}
-use Rattle.sf_checker.specs.Stages.{IsBody}
-use Rattle.sf_checker.specs.Standing.{IsSteady}
+use Rattle.sf_checker.proofs.Common.{IsBody, IsSteady}
 use Rattle.sf_checker.proofs.stage.Body.feed.Given as goal
 
 abbrev pub invariant-loop-at : goal.invariant-loop-at

@@ -1,9 +1,5 @@
 use Rattle.std.proofs.Common.{◌≡◌, ℕ, List, [], ◌∷◌, ◌++◌, sym, subst}
-use Rattle.sf_node.specs.declared.part.Part.{Part}
-use Rattle.sf_node.specs.Parts.{Parts}
-use Rattle.sf_certificate.specs.declared.cert.Cert.{Cert}
-use Rattle.sf_certificate.specs.declared.tag.Tag.{Tag}
-use Rattle.sf_checker.specs.Standing.{Judged, IsFound}
+use Rattle.sf_checker.proofs.Common.{Part, Parts, Cert, Tag, Judged, IsFound}
 use Rattle.sf_checker.proofs.Fed.{body-done, body-last}
 use Rattle.sf_checker.proofs.stage.Body.finish.Goals as goal
 use Rattle.sf_checker.proofs.stage.Body.finish.Goals.{in-Some+in_ok-take, in_default}

@@ -1,11 +1,7 @@
 use Rattle.std.proofs.Common.{◌≡◌, ℕ, List, ◌++◌, length, take, sym, subst, arith}
-use Rattle.std.specs.Prelude.{◌≢◌, OnOk, IfErr}
-use Rattle.std.proofs.lemmas.List.{take_all}
+use Rattle.std.specs.Prelude.{◌≢◌}
+use Rattle.sf_checker.proofs.Common.{OnOk, IfErr, take_all, Part, Parts, Tree, Fault, IsBody, IsFaulty, IsOutside, IsStage}
 use Rattle.sf_certificate.specs.declared.fault.CertFault.TheVariants.{NoMemory}
-use Rattle.sf_node.specs.declared.part.Part.{Part}
-use Rattle.sf_node.specs.Parts.{Parts}
-use Rattle.sf_checker.specs.declared.stage.Stage.TheVariants.{Tree, Fault}
-use Rattle.sf_checker.specs.Stages.{IsBody, IsFaulty, IsOutside, IsStage}
 use Rattle.sf_checker.proofs.Fed.{past-all}
 use Rattle.sf_checker.proofs.stage.Stage.advance.Goals as goal
 

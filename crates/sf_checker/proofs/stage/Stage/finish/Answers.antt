@@ -1,8 +1,5 @@
 use Rattle.std.proofs.Common.{ap, sym, subst, ◌∙◌, [], append-nil}
-use Rattle.sf_model.specs.Legal.{block_count}
-use Rattle.sf_certificate.specs.Reading.{cert_read}
-use Rattle.sf_checker.specs.declared.stage.Stage.TheVariants.{Fault}
-use Rattle.sf_checker.specs.Stages.{IsStage}
+use Rattle.sf_checker.proofs.Common.{block_count, cert_read, Fault, IsStage}
 use Rattle.sf_checker.proofs.stage.Stage.finish.Goals as goal
 
 pub returns-in-Fault-clause-fault : goal.returns-in-Fault-clause-fault

@@ -1,8 +1,6 @@
 use Rattle.std.proofs.Common.{ℕ, ◌+◌, List, ◌++◌, take, ap, subst, ◌∙◌, append_assoc, arith}
 use Rattle.std.proofs.lemmas.Result.{err_from_is_err_and}
-use Rattle.sf_node.specs.declared.part.Part.{Part}
-use Rattle.sf_node.specs.Parts.{Parts}
-use Rattle.sf_checker.specs.Stages.{IsFaulty, IsStage}
+use Rattle.sf_checker.proofs.Common.{Part, Parts, IsFaulty, IsStage}
 use Rattle.sf_checker.proofs.Fed.{past-byte, rest_of, past-all, still-faulty}
 use Rattle.sf_checker.proofs.stage.Stage.open.Goals as goal
 

@@ -1,13 +1,14 @@
 use Rattle.std.proofs.Common.{◌≡◌, length}
 use Rattle.sf_node.specs.Subproblem.{root}
 use Rattle.sf_node.specs.Later.{behind}
-use Rattle.sf_cursor.specs.Path.{IsPath}
+use Rattle.sf_cursor.specs.Path.{IsPath, beyond}
 use Rattle.sf_cursor.proofs.cursor.Cursor.advance.Given as goal
 
 abbrev pub invariant-loop-step : goal.invariant-loop-step
 invariant-loop-step g l = record {
   at : IsPath l.design (g.V.Values.value l.values l.design) l.self;
-  behind : behind (root l.design) l.self.node.steps ≡ behind (root l.design) l.initial.self.node.steps;
+  beyond : beyond l.floor (root l.design) l.self.node.steps ≡ beyond l.floor (root l.design) l.initial.self.node.steps;
+  whole : behind (root l.design) l.self.node.steps ≡ behind (root l.design) l.initial.self.node.steps;
 }
 
 abbrev pub decreases-loop-step : goal.decreases-loop-step

@@ -1,0 +1,5 @@
+use Rattle.sf_pieces.specs.Naming.{AreNamed}
+use Rattle.sf_pieces.proofs.assembling.name_pieces.Given as goal
+
+abbrev pub invariant-loop-piece : goal.invariant-loop-piece
+invariant-loop-piece l = AreNamed l.cost l.yielded l.all.items

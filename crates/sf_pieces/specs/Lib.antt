@@ -1,0 +1,5 @@
+pub mod Naming
+pub mod Told
+pub mod Assembly
+pub mod Laid
+pub mod Searched

@@ -1,0 +1,152 @@
+//! A walk over one stretch.
+
+ghost use Rattle.std.specs.Prelude.{◌≡◌, ◌+◌, ◌<◌, ◌≤◌, true, OnOk};
+ghost use Rattle.sf_bounds.specs.Serving.{MayServe};
+ghost use Rattle.sf_cursor.specs.Stretches.{IsStretch};
+ghost use Rattle.sf_worker.specs.Tasks.{IsBest};
+ghost use Rattle.sf_worker.specs.InHand.{IsHand, IsVisited};
+ghost use Rattle.sf_worker.specs.Took.{IsPutDown, IsShared, IsWalkedOver, Serves};
+
+use crate::hand::Hand;
+use crate::one_visit::visit_next;
+use crate::state::WorkerState;
+use crate::take::put;
+use sf_bounds::Bounds;
+use sf_cursor::Stretch;
+use sf_frontier::Served;
+use sf_incumbent::Incumbent;
+use sf_io::Gate;
+use sf_model::Design;
+use sf_node::Values;
+use std::alloc::AllocError as NoMemory;
+
+/// After how many decisions a worker looks whether it shares what it has in hand: sooner where nets count, since
+/// a decision takes longer there.
+fn slice(design: &Design) -> u64
+    ensures { 0 < result }
+{
+    if design.weights.wire == 0 { 64 } else { 16 }
+}
+
+/// One decision of the quota, of which so many were given in this pass. The answer is the value that it was made
+/// against.
+fn go<'a, T: Served, B: Bounds, G: Gate>(
+    state: &mut WorkerState<'a, T>,
+    hand: &mut Hand,
+    design: &'a Design,
+    bounds: &B,
+    word: &Incumbent,
+    gate: &G,
+    given: u64,
+) -> Result<u64, NoMemory>
+    requires word { state.old.seat.word ≡ word.now.id }
+    requires quota { 0 < state.old.quota }
+    requires given { state.old.quota ≤ given }
+    requires hand { IsHand design.now (B.Values.value bounds.now design.now) hand.old }
+    requires more { hand.old.more ≡ true }
+    requires best { IsBest design.now state.old.best state.old.seat.offered }
+    requires serves { MayServe state.old.room design.now }
+    ensures visited { OnOk result (IsVisited design.now (B.Values.value bounds.now design.now)
+        (B.part_value bounds.now design.now) hand.old state.old.seat hand.new state.new.seat state.new.best) }
+    ensures quota { OnOk result (state.new.quota + 1 ≡ state.old.quota) }
+    ensures frame { OnOk result (state.new
+        ≡ record state.old {
+          seat = state.new.seat;
+          best = state.new.best;
+          room = state.new.room;
+          quota = state.new.quota;
+        }) }
+    ensures serves { OnOk result (MayServe state.new.room design.now) }
+{
+    gate.at(state.number, given - state.quota);
+    let value = visit_next(
+        hand,
+        &mut state.seat,
+        &mut state.best,
+        &mut state.room,
+        design,
+        bounds,
+        word,
+    )?;
+    state.quota -= 1;
+    Ok(value)
+}
+
+/// Where it is time to look and the own deque is empty, what waits on the shallowest level goes there, unless
+/// the value closes it all.
+fn share<'a, T: Served, V: Values>(
+    state: &mut WorkerState<'a, T>,
+    hand: &mut Hand,
+    design: &Design,
+    values: &V,
+    value: u64,
+    wanted: bool,
+) -> Result<(), NoMemory>
+    requires team { Serves T.serves design.now (V.value values.now design.now) }
+    requires hand { IsHand design.now (V.value values.now design.now) hand.old }
+    requires more { hand.old.more ≡ true }
+    ensures { OnOk result (IsShared design.now (V.value values.now design.now)
+        state.old hand.old state.new hand.new) }
+{
+    if !wanted {
+        return Ok(());
+    }
+    state.kept.reserve(1)?;
+    if let Some(stretch) = state.place.owner.take() {
+        put(&mut state.place.owner, &mut state.kept, stretch);
+        return Ok(());
+    }
+    let alloc = hand.node().allocator();
+    if let Some(stretch) = hand.part_off(alloc, design, values, value)? {
+        put(&mut state.place.owner, &mut state.kept, stretch);
+    }
+    Ok(())
+}
+
+/// Logs the piece, and keeps what is left of the stretch.
+fn put_down<'a, T: Served>(state: &mut WorkerState<'a, T>, hand: Hand) -> Result<(), NoMemory>
+    ensures { OnOk result (IsPutDown state.old hand state.new) }
+{
+    let (piece, rest) = hand.into_parts();
+    state.log.push(piece)?;
+    if let Some(rest) = rest {
+        state.kept.push(rest)?;
+    }
+    Ok(())
+}
+
+/// Walks over a stretch until it is at its end or the quota is spent, of which so many were given in this pass.
+pub fn walk_over<'a, T: Served, B: Bounds, G: Gate>(
+    state: &mut WorkerState<'a, T>,
+    stretch: Stretch,
+    design: &'a Design,
+    bounds: &B,
+    word: &Incumbent,
+    gate: &G,
+    given: u64,
+) -> Result<(), NoMemory>
+    requires team { Serves T.serves design.now (B.Values.value bounds.now design.now) }
+    requires word { state.old.seat.word ≡ word.now.id }
+    requires quota { 0 < state.old.quota }
+    requires given { state.old.quota ≤ given }
+    requires stretch { IsStretch design.now (B.Values.value bounds.now design.now) stretch }
+    requires best { IsBest design.now state.old.best state.old.seat.offered }
+    requires serves { MayServe state.old.room design.now }
+    ensures { OnOk result (IsWalkedOver design.now (B.Values.value bounds.now design.now)
+        (B.part_value bounds.now design.now) stretch state.old state.new) }
+{
+    let slice = slice(design);
+    let mut hand = Hand::at(stretch, design, bounds)?;
+    let mut value = go(state, &mut hand, design, bounds, word, gate, given)?;
+    while state.quota > 0 {
+        if !hand.more() {
+            put_down(state, hand)?;
+            return Ok(());
+        }
+        let wanted = state.quota % slice == 0;
+        share(state, &mut hand, design, bounds, value, wanted)?;
+        value = go(state, &mut hand, design, bounds, word, gate, given)?;
+    }
+    put_down(state, hand)?;
+    Ok(())
+}
