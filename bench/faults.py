@@ -77,6 +77,11 @@ PLAN = "plan --format gsrc --blocks a.blocks --cert a.cert"
 NETS = "UCLA nets 1.0\nNumNets : 1\nNumPins : 2\nNetDegree : 2\nb0 B\nb1 B\n"
 CERT = "slicing-certificate 2\nblocks 2\ncost 15\nbound 15\nplan 0:2x3 1:3x2 *\ntree\nE\nE\nE\nC a\nC a\nE\nE\nC a\nC a\n"
 UNNAMED = CERT.replace("certificate 2", "certificate 1").replace("C a", "C")
+OPEN = "slicing-certificate 2\nblocks 2\ncost none\nbound 12\nplan none\ntree\nE\nO\nO\n"
+RESUME = "resume --format gsrc --blocks a.blocks --cert a.cert --cert-out b.cert --pl-out a.out --nodes 10"
+
+# what two threads store and print may differ from run to run
+FREE = ("workers", "resume")
 
 # a name, the words, and the files that stand in the folder before the run
 CASES = [
@@ -92,6 +97,7 @@ CASES = [
         "check --format gsrc --blocks a.blocks --fixed --cert a.cert --rewrite b.cert",
         {"a.blocks": blocks((2, 3), (3, 2)), "a.cert": UNNAMED},
     ),
+    ("resume", RESUME, {"a.blocks": blocks((2, 3), (2, 3)), "a.cert": OPEN}),
     ("workers", PLAN + " --workers 2", {"a.blocks": blocks((2, 3), (2, 3))}),
     ("gen", "gen --seed 7 --count 4 --kinds mixed --out g --nodes 300", {}),
 ]
@@ -148,7 +154,7 @@ def refused_memory(folder):
         for number in range(1, count + 1):
             (status, printed, held), _ = folder.run(words, files, number)
             told[status] = told.get(status, 0) + 1
-            same = status == whole[0] and held.keys() == whole[2].keys() and (name == "workers" or (printed, held) == whole[1:])
+            same = status == whole[0] and held.keys() == whole[2].keys() and (name in FREE or (printed, held) == whole[1:])
             silent = status in (7, 9) and printed == "" and held == files
             halted = status == 8 and whole[1].startswith(printed) and starts(held, whole[2])
             if not (same or silent or halted):
@@ -164,23 +170,37 @@ def statuses(folder):
     one, two = {"a.blocks": blocks((3, 4))}, {"a.blocks": blocks((2, 3), (3, 2)), "a.cert": CERT}
     check = "check --format gsrc --blocks a.blocks --fixed --cert a.cert"
     measure = "measure --format gsrc --blocks a.blocks --placed=a.pl"
+    equals = {"a.blocks": blocks((2, 3), (2, 3)), "a.cert": OPEN}
+    resume = "resume --format gsrc --blocks a.blocks --cert a.cert --cert-out b.cert"
     cases = [
         (0, PLAN + " --workers=1 --nodes 2", one, "status Optimal", ["a.cert"]),
         (0, check, two, "status Yes", []),
         (0, check + " --rewrite b.cert", dict(two, **{"a.cert": UNNAMED}), "status Yes", ["b.cert"]),
         (0, PLAN + " --nets a.nets", dict(one, **{"a.nets": pins(1048576)}), "status Optimal", ["a.cert"]),
+        (0, resume + " --nodes 10 --workers=2", equals, "status Optimal", ["b.cert"]),
+        (0, resume + " --nodes=1000000000000 --long", equals, "status Optimal", ["b.cert"]),
         (1, PLAN + " --outline=2x2", one, "status NoneFits", ["a.cert"]),
+        (2, resume, equals, "error Usage", []),
+        (2, resume + " --nodes 4000001", equals, "error Usage", []),
+        (2, resume + " --nodes 1000000000001 --long", equals, "error Usage", []),
+        (2, resume + " --nodes 1 --rewrite c.cert", equals, "error Usage", []),
+        (2, measure + " --long", one, "error Usage", []),
         (2, PLAN + " --workers 17", one, "error Usage", []),
         (2, PLAN + " more words", one, "error Usage", []),
         (2, check + " --cert=b.cert", two, "error Usage", []),
         (3, PLAN + " --nodes=1", {"a.blocks": blocks((2, 3), (2, 3))}, "status Open", ["a.cert"]),
         (4, check, dict(two, **{"a.cert": CERT.replace("cost 15", "cost 14")}), "status No CostDiffers 14 15", []),
         (4, check + " --rewrite=b.cert", dict(two, **{"a.cert": CERT.replace("cost 15", "cost 14")}), "status No CostDiffers 14 15", []),
+        (3, resume + " --nodes 1", equals, "status Open", ["b.cert"]),
+        (4, resume + " --nodes 4000000", dict(equals, **{"a.cert": OPEN.replace("bound 12", "bound 13")}), "status No BoundDiffers 13 12", []),
         (4, measure, dict(one, **{"a.pl": "UCLA pl 1.0\nb0 -1 0 DIMS = (3, 4) : N\n"}), "status Outside 0", []),
         (5, PLAN + " --pl-out a.out", {"a.blocks": ""}, "error BadInput blocks 0 Truncated", []),
+        (5, resume + " --nodes 1", dict(equals, **{"a.cert": OPEN[:-2]}), "error BadInput cert 8 Truncated", []),
+        (6, resume + " --nodes 4000000", equals, "error OverLimit nodes 4000001 4000000", []),
         (6, PLAN + " --pl-out=a.out", {"a.blocks": blocks((1048577, 1))}, "error OverLimit side 1048577 1048576", []),
         (6, PLAN + " --nets a.nets", dict(one, **{"a.nets": pins(1048577)}), "error OverLimit pins 1048577 1048576", []),
         (7, PLAN + " --nets a.nets", one, "", []),
+        (7, resume + " --nodes 1", {"a.blocks": blocks((2, 3), (2, 3))}, "", []),
         (8, PLAN + " --pl-out none/a.out", one, "", ["a.cert"]),
         (8, check + " --rewrite none/b.cert", two, "", []),
     ]

@@ -129,6 +129,10 @@ def statuses(trial):
     trial.call("status 8", [trial.script, "plan", "--cert", "no/a"], 8, "could not be written: no;", env={"STATUS": "8"})
     rewrite = [trial.script, "check", "--cert", "none", "--rewrite=no/b"]
     trial.call("status 8 of check", rewrite, 8, "could not be written: no;", env={"STATUS": "8"})
+    unread = [trial.script, "resume", "--blocks", "/dev/null", "--cert=none here"]
+    trial.call("status 7 of resume", unread, 7, "could not be read: none here;", env={"STATUS": "7"})
+    unwritten = [trial.script, "resume", "--cert", "none", "--long", "--cert-out=no/b"]
+    trial.call("status 8 of resume", unwritten, 8, "could not be written: no;", env={"STATUS": "8"})
     process = subprocess.Popen([trial.script, "sleep"], env=trial.env)
     time.sleep(1)
     process.send_signal(signal.SIGTERM)

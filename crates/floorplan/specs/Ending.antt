@@ -2,7 +2,7 @@
 use Rattle.std.specs.Prelude.{◌≡◌, ◌⊎◌, ⊤, ℕ, List, Some, None}
 use Rattle.sf_io.specs.declared.status.Status.{Status}
 use Rattle.sf_io.specs.declared.status.Status.TheVariants.{ReadFault, WriteFault, NoMemory}
-use Rattle.sf_words.specs.Meaning.{GenOptions, PlanOptions, gen, plan, Means}
+use Rattle.sf_words.specs.Meaning.{GenOptions, PlanOptions, ResumeOptions, gen, plan, resume, Means}
 use Rattle.sf_program.specs.Answer.{Answers, RefusesWords}
 use Rattle.sf_program.specs.Outcome.{lost}
 use Rattle.sf_program.specs.Stores.{Stored}
@@ -18,8 +18,9 @@ MayEnd words WriteFault = (status : Status) × HasAnswer words status
 MayEnd words NoMemory = ⊤
 MayEnd words status = HasAnswer words status
 
--- the words mean a search that makes at most so many decisions
+-- the words mean a search, from the root or from a certificate, that makes at most so many decisions
 abbrev pub NamesBudget : List (List ℕ) → ℕ → Type 0
 NamesBudget words nodes =
     ((o : PlanOptions) × Means words (plan o) × (o.nodes ≡ Some nodes))
-    ⊎ ((o : GenOptions) × Means words (gen o) × (o.nodes ≡ Some nodes))
+    ⊎ (((o : ResumeOptions) × Means words (resume o) × (o.nodes ≡ nodes))
+    ⊎ ((o : GenOptions) × Means words (gen o) × (o.nodes ≡ Some nodes)))

@@ -47,6 +47,7 @@ fn named_budget(alloc: Global, words: &[String]) -> Option<u64>
 {
     match read_words(alloc, words) {
         Ok(Some(CommandWords::Plan(options))) => options.nodes,
+        Ok(Some(CommandWords::Resume(options))) => Some(options.nodes),
         Ok(Some(CommandWords::Gen(options))) => options.nodes,
         _ => None,
     }

@@ -1,26 +1,15 @@
 -- What every stage takes is answered, and not refused.
 use Rattle.std.proofs.Common.{◌≡◌, inl, inr, ℕ, Bool, true, false, List, Option, Some, Result, Err, refl, sym, ◌∙◌, subst}
-use Rattle.std.specs.Prelude.{IsFalse}
-use Rattle.sf_io.specs.Outside.{Contents}
-use Rattle.sf_io.specs.declared.status.Status.{Status}
-use Rattle.sf_io.specs.declared.status.Status.TheVariants.{Done, NoneFits, Usage, Open, No, BadInput, OverLimit, ReadFault, WriteFault, NoMemory}
-use Rattle.sf_words.specs.Meaning.{Command, plan, check, measure, shape, gen, Means}
-use Rattle.sf_words.proofs.Unique.{meaning_unique}
-use Rattle.sf_program.specs.Answer.{Answers, CommandAnswer, CommandRefuses, IsAnswer, IsRefused, RefusesWords}
-use Rattle.sf_program.specs.Checked.{CheckRead}
-use Rattle.sf_program.specs.Complete.{EndsJudging, HasValue, IsOwnEnd, IsTaken, MayEnd}
-use Rattle.sf_program.specs.Generated.{GenRead}
+use Rattle.sf_program.proofs.Common.{IsFalse, Contents, Status, Done, NoneFits, Usage, Open, No, BadInput, OverLimit, ReadFault, WriteFault, NoMemory, Command, plan, check, resume, measure, shape, gen, Means, meaning_unique, Answers, CommandAnswer, CommandRefuses, IsAnswer, IsRefused, RefusesWords, CheckRead, GenRead, Answer, GivesOne, IsAnswerTo, Refusal, refused, lost, ResumeRead, ShapeRead, Stored}
+use Rattle.sf_program.specs.Complete.{EndsJudging, EndsResuming, HasValue, IsOwnEnd, IsTaken, MayEnd}
 use Rattle.sf_program.specs.Headline.{HasSearched}
 use Rattle.sf_program.specs.Measured as measured
-use Rattle.sf_program.specs.OneAnswer.{Answer, GivesOne, IsAnswerTo}
-use Rattle.sf_program.specs.Outcome.{Refusal, refused, lost}
 use Rattle.sf_program.specs.Planned as planned
-use Rattle.sf_program.specs.Shaped.{ShapeRead}
-use Rattle.sf_program.specs.Stores.{Stored}
-use Rattle.sf_program.proofs.Endings.{said-ends, judged-ends, checked-ends}
+use Rattle.sf_program.proofs.Endings.{said-ends, judged-ends, checked-ends, taken-up-ends}
 use Rattle.sf_program.proofs.Once.{no-refusal}
 use Rattle.sf_program.proofs.OneChecked.{check-read-one, measure-read-one, shape-read-one}
 use Rattle.sf_program.proofs.OneDesign.{plan-one}
+use Rattle.sf_program.proofs.OneResumed.{resume-read-one}
 use Rattle.sf_program.proofs.OneSearched.{gen-one}
 
 -- a stage that gives a value refuses nothing
@@ -31,15 +20,17 @@ module _ (contents : Contents) where
   -- a command whose texts every stage takes ends by a status of its own
   command-ends : (command : Command) (a : Answer) → IsTaken command contents → CommandAnswer command (Some contents) a.0 a.1 a.2 → IsOwnEnd command a.0
   command-ends (plan o) a taken h =
-      elim h [ inl p ↦ subst HasSearched (sym p.answered.status_is) (said-ends HasSearched tt tt tt p.answered.said) | inr r ↦ absurd (never-refused (planned.PlanRead (Some contents) o) (plan-one contents o) taken a r) ]
+      elim h [ inl p ↦ subst HasSearched (sym p.answered.reported.status_is) (said-ends HasSearched tt tt tt p.answered.reported.said) | inr r ↦ absurd (never-refused (planned.PlanRead (Some contents) o) (plan-one contents o) taken a r) ]
   command-ends (check o) a taken h =
       elim h [ inl p ↦ subst EndsJudging (sym p.file.judged.status_is) (checked-ends EndsJudging tt tt p.file.judged.answer) | inr r ↦ absurd (never-refused (CheckRead (Some contents) o) (check-read-one contents o) taken a r) ]
+  command-ends (resume o) a taken h =
+      elim h [ inl p ↦ taken-up-ends EndsResuming tt tt tt tt o p.design p.cert a.0 a.1 a.2 p.taken_up | inr r ↦ absurd (never-refused (ResumeRead (Some contents) o) (resume-read-one contents o) taken a r) ]
   command-ends (measure o) a taken h =
       elim h [ inl p ↦ subst EndsJudging (sym p.0.status_is) (judged-ends EndsJudging tt tt p.0.verdict) | inr r ↦ absurd (never-refused (measured.MeasureRead (Some contents) o) (measure-read-one contents o) taken a r) ]
   command-ends (shape o) a taken h =
       elim h [ inl p ↦ subst (IsOwnEnd (shape o)) (sym p.0.status_is) tt | inr r ↦ absurd (never-refused (ShapeRead (Some contents) o) (shape-read-one contents o) taken a r) ]
   command-ends (gen o) a taken h =
-      elim h [ inl p ↦ subst HasSearched (sym p.answered.status_is) (said-ends HasSearched tt tt tt p.answered.said) | inr r ↦ absurd (never-refused (GenRead o) (gen-one contents.may_fail o) taken a r) ]
+      elim h [ inl p ↦ subst HasSearched (sym p.answered.reported.status_is) (said-ends HasSearched tt tt tt p.answered.reported.said) | inr r ↦ absurd (never-refused (GenRead o) (gen-one contents.may_fail o) taken a r) ]
 
   -- words of a command whose texts every stage takes end by a status of its own
   pub words-end : (words : List (List ℕ)) (command : Command) (a : Answer) → Means words command → IsTaken command contents → IsAnswerTo words contents a → IsOwnEnd command a.0
@@ -61,6 +52,7 @@ module _ (contents : Contents) where
   command-keeps : (command : Command) → IsFalse contents.may_fail → IsTaken command contents → CommandRefuses command (Some contents) lost → ⊥
   command-keeps (plan o) sure taken h = never-lost contents (planned.PlanRead (Some contents) o) (plan-one contents o) sure taken h
   command-keeps (check o) sure taken h = never-lost contents (CheckRead (Some contents) o) (check-read-one contents o) sure taken h
+  command-keeps (resume o) sure taken h = never-lost contents (ResumeRead (Some contents) o) (resume-read-one contents o) sure taken h
   command-keeps (measure o) sure taken h = never-lost contents (measured.MeasureRead (Some contents) o) (measure-read-one contents o) sure taken h
   command-keeps (shape o) sure taken h = never-lost contents (ShapeRead (Some contents) o) (shape-read-one contents o) sure taken h
   command-keeps (gen o) sure taken h = never-lost contents (GenRead o) (gen-one contents.may_fail o) sure taken h

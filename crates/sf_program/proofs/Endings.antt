@@ -1,15 +1,11 @@
 -- What holds of a command's own statuses holds of whatever it answers.
-use Rattle.sf_io.specs.declared.status.Status.{Status}
-use Rattle.sf_io.specs.declared.status.Status.TheVariants.{Done, NoneFits, Open, No}
+use Rattle.std.proofs.Common.{inl, inr, ℕ, List, sym, subst}
+use Rattle.sf_program.proofs.Common.{Design, Cert, ResumeOptions, Status, Done, NoneFits, Open, No, Outcome, IsTakenUp, Stored, answer_status, verdict_status, outcome_status}
 use Rattle.sf_place.specs.declared.verdict.Verdict.{Verdict}
 use Rattle.sf_place.specs.declared.verdict.Verdict.TheVariants as verdict
 use Rattle.sf_checker.specs.declared.answer.Answer.{Answer}
 use Rattle.sf_checker.specs.declared.answer.Answer.TheVariants as checked
-use Rattle.sf_pl_writer.specs.declared.report.Outcome.{Outcome}
 use Rattle.sf_pl_writer.specs.declared.report.Outcome.TheVariants as word
-use Rattle.sf_program.specs.Checked.{answer_status}
-use Rattle.sf_program.specs.Measured.{verdict_status}
-use Rattle.sf_program.specs.Planned.{outcome_status}
 
 module _ (P : Status → Type 0) (done : P Done) where
   -- of the word that is said of a search
@@ -29,3 +25,8 @@ module _ (P : Status → Type 0) (done : P Done) where
   pub checked-ends : P No → (a : Answer) → P (answer_status a)
   checked-ends failed (checked.Yes cost bound decided) = done
   checked-ends failed (checked.No why) = failed
+
+  -- of what is answered to a certificate from which a search is to go on
+  pub taken-up-ends : P NoneFits → P Open → P No → (o : ResumeOptions) (design : Design) (cert : Cert) (status : Status) (stored : List Stored) (printed : List ℕ) → IsTakenUp o design cert status stored printed → P status
+  taken-up-ends none still failed o design cert status stored printed h =
+      elim h [ inl r ↦ subst P (sym r.status_is) failed | inr g ↦ subst P (sym g.reported.status_is) (said-ends none still g.reported.said) ]

@@ -1,12 +1,7 @@
 -- The plan of an expression that costs something.
 use Rattle.std.proofs.Common.{ℕ, subst}
-use Rattle.sf_model.specs.declared.design.Design.{Design}
-use Rattle.sf_model.specs.Tree.{Tree}
-use Rattle.sf_model.specs.Legal.{IsLegal, Fits}
-use Rattle.sf_polish.specs.declared.expr.Expr.{Expr}
+use Rattle.sf_program.proofs.Common.{Design, Tree, IsLegal, Fits, Expr, spells-one, HasCost}
 use Rattle.sf_polish.specs.Postfix.{Spells}
-use Rattle.sf_polish.proofs.Spelling.{spells-one}
-use Rattle.sf_certificate.specs.Valid.{HasCost}
 
 module _ (design : Design) (expr : Expr) (z : ℕ) (costs : HasCost design expr z) (tree : Tree) (spells : Spells expr tree) where
   -- the plan that the expression spells is legal

@@ -1,36 +1,16 @@
 -- An answer of `plan` says what the headline says.
-use Rattle.std.proofs.Common.{◌≡◌, inl, inr, Bool, true, false, ℕ, ◌*◌, ◌<◌, ◌≤◌, MatchOption, List, Option, Some, None, Result, Ok, refl, sym, ap, subst, ◌∙◌, arith}
-use Rattle.std.specs.Prelude.{nat_lt}
+use Rattle.std.proofs.Common.{◌≡◌, inl, inr, Bool, true, false, ℕ, ◌+◌, ◌*◌, ◌<◌, ◌≤◌, MatchOption, List, Option, Some, None, Result, Ok, refl, sym, ap, subst, ◌∙◌, arith}
+use Rattle.sf_program.proofs.Common.{nat_lt, nat_tests, Contents, Status, Done, NoneFits, Usage, Open, No, BadInput, OverLimit, ReadFault, WriteFault, NoMemory, Design, Spot, block_count, cost, IsFloor, width, height, spots_of, wire, Expr, spells-one, Cert, HasCost, decided, Outcome, Command, GenOptions, Means, PlanOptions, ResumeOptions, gen, plan, resume, meaning_unique, Answers, CommandAnswer, IsAnswer, IsDone, GenRead, cert_name, Refusal, IsRefusal, IsAnswered, IsEnding, IsReported, IsGood, AreMeasures, PlanRead, budget_of, outcome_status, AfterStores, Stored}
 use Rattle.std.specs.Io.KnownBytes.{Appends}
-use Rattle.std.proofs.lemmas.Bool.Decides.{nat_tests}
-use Rattle.sf_io.specs.Outside.{Contents}
-use Rattle.sf_io.specs.declared.status.Status.{Status}
-use Rattle.sf_io.specs.declared.status.Status.TheVariants.{Done, NoneFits, Usage, Open, No, BadInput, OverLimit, ReadFault, WriteFault, NoMemory}
-use Rattle.sf_model.specs.declared.design.Design.{Design}
-use Rattle.sf_model.specs.declared.plan.Spot.{Spot}
 use Rattle.sf_model.specs.declared.TheConstants.{MAX}
-use Rattle.sf_model.specs.Legal.{block_count}
-use Rattle.sf_model.specs.Cost.{cost, IsFloor}
-use Rattle.sf_model.specs.Tree.{width, height, spots_of}
-use Rattle.sf_model.specs.Wire.{wire}
 use Rattle.sf_model.proofs.Bounded.{floor-none}
 use Rattle.sf_node.specs.Full.{full}
-use Rattle.sf_polish.specs.declared.expr.Expr.{Expr}
-use Rattle.sf_polish.proofs.Spelling.{spells-one}
-use Rattle.sf_certificate.specs.declared.cert.Cert.{Cert}
-use Rattle.sf_certificate.specs.Valid.{HasCost, decided}
-use Rattle.sf_pl_writer.specs.declared.report.Outcome.{Outcome}
+use Rattle.sf_resume.specs.Resumed.{full_open}
 use Rattle.sf_pl_writer.specs.declared.report.Outcome.TheVariants as word
 use Rattle.sf_pl_writer.specs.declared.report.Report.{Report}
 use Rattle.sf_pl_writer.specs.ReportText.{report_text}
-use Rattle.sf_words.specs.Meaning.{Command, GenOptions, Means, PlanOptions, gen, plan}
-use Rattle.sf_words.proofs.Unique.{meaning_unique}
-use Rattle.sf_program.specs.Answer.{Answers, CommandAnswer, IsAnswer, IsDone}
-use Rattle.sf_program.specs.Generated.{GenRead, cert_name}
-use Rattle.sf_program.specs.Headline.{HasSearched, IsEnd, IsFinding, IsHeadline, IsPlanOf}
-use Rattle.sf_program.specs.Outcome.{Refusal, IsRefusal}
-use Rattle.sf_program.specs.Planned.{IsAnswered, IsEnding, AreMeasures, IsSearched, IsTold, PlanRead, budget_of, outcome_status}
-use Rattle.sf_program.specs.Stores.{AfterStores, Stored}
+use Rattle.sf_program.specs.Headline.{HasSearched, IsEnd, IsFinding, IsHeadline, IsHeadlineOn, IsPlanOf}
+use Rattle.sf_program.specs.Planned.{IsTold}
 
 -- the report of a certificate, with what is measured of its plan
 abbrev report_of : Outcome → Cert → ℕ × ℕ → ℕ → ℕ → Option Expr → Report
@@ -42,15 +22,15 @@ smaller m n true t never = grind (arith, nat_tests)
 smaller m n false t never = absurd (never (grind (arith, nat_tests)))
 
 -- a bound below the cost shows a budget below the count of all subproblems
-unfinished : (design : Design) (budget : ℕ) (report : Report) → (full design ≤ budget → report.bound ≡ report.cost) → report.bound < report.cost → budget < full design
-unfinished design budget report ended below = smaller budget (full design) (nat_lt budget (full design)) refl (λ large. let e = ended large in omega (arith, below, e))
+unfinished : (budget all : ℕ) (report : Report) → (all ≤ budget → report.bound ≡ report.cost) → report.bound < report.cost → budget < all
+unfinished budget all report ended below = smaller budget all (nat_lt budget all) refl (λ large. let e = ended large in omega (arith, below, e))
 
 -- how a search ended, as its status says it
-ends-as : (design : Design) (budget : ℕ) (report : Report) (said : Outcome) → IsFloor design report.bound → (report.bound < report.cost → report.decided ≡ budget) → (full design ≤ budget → report.bound ≡ report.cost)
-    → IsEnding report.cost report.bound said → IsEnd design budget report (outcome_status said)
-ends-as design budget report word.Optimal floor spent ended e = (e.0, e.1, λ tree legal fits. subst (λ n. n ≤ cost design tree) e.1 (floor tree legal fits))
-ends-as design budget report word.NoneFits floor spent ended e = (e.1, (floor-none design).0 (subst (IsFloor design) e.1 floor))
-ends-as design budget report word.Open floor spent ended e = (e, spent e, unfinished design budget report ended e)
+ends-as : (design : Design) (budget all : ℕ) (report : Report) (said : Outcome) → IsFloor design report.bound → (report.bound < report.cost → report.decided ≡ budget) → (all ≤ budget → report.bound ≡ report.cost)
+    → IsEnding report.cost report.bound said → IsEnd design budget all report (outcome_status said)
+ends-as design budget all report word.Optimal floor spent ended e = (e.0, e.1, λ tree legal fits. subst (λ n. n ≤ cost design tree) e.1 (floor tree legal fits))
+ends-as design budget all report word.NoneFits floor spent ended e = (e.1, (floor-none design).0 (subst (IsFloor design) e.1 floor))
+ends-as design budget all report word.Open floor spent ended e = (e, spent e, unfinished budget all report ended e)
 
 -- a plan whose cost is stated, and of which these are measured
 measured-plan : (design : Design) (cert : Cert) (said : Outcome) (expr : Expr) (spots : List Spot) (w h wires : ℕ) → AreMeasures design expr spots w h wires → HasCost design expr cert.cost
@@ -71,26 +51,27 @@ measured-plan design cert said expr spots w h wires m v =
     }
 
 -- a report of what was found
-abbrev Finds : Design → ℕ → Status → List ℕ → Type 0
-Finds design budget status printed = (report : Report) × IsFinding design budget status report × (printed ≡ report_text report)
+abbrev Finds : Design → ℕ → ℕ → Status → List ℕ → Type 0
+Finds design budget all status printed = (report : Report) × IsFinding design budget all status report × (printed ≡ report_text report)
 
-module _ (design : Design) (workers budget scale : ℕ) (name : List ℕ) (pl : Option (List ℕ)) (said : Outcome) (cert : Cert) (searched : IsSearched design workers budget cert) (floor : IsFloor design cert.bound) (ending : IsEnding cert.cost cert.bound said) where
+module _ (design : Design) (budget all scale : ℕ) (name : List ℕ) (pl : Option (List ℕ)) (said : Outcome) (cert : Cert) (few : decided cert.tags ≤ budget) (spent : cert.bound < cert.cost → decided cert.tags ≡ budget) (ended : all ≤ budget → cert.bound ≡ cert.cost)
+    (floor : IsFloor design cert.bound) (ending : IsEnding cert.cost cert.bound said) where
   -- what is told of a certificate is what its report says
   told-finds : (plan : Option Expr) (stored : List Stored) (printed : List ℕ) → MatchOption plan (cert.cost ≡ MAX) (λ expr. HasCost design expr cert.cost) → IsTold design scale name pl said cert plan stored printed
-      → Finds design budget (outcome_status said) printed
+      → Finds design budget all (outcome_status said) printed
   told-finds None stored printed v t =
       let report = report_of said cert (0, 0) 0 0 None in
-      (report, record { plan = v; floor = floor; few = searched.few; end = ends-as design budget report said floor searched.spent searched.ended ending }, t.1)
+      (report, record { plan = v; floor = floor; few = few; end = ends-as design budget all report said floor spent ended ending }, t.1)
   told-finds (Some expr) stored printed v t =
       let report = report_of said cert (t.1, t.2) (t.1 * t.2) t.3 (Some expr) in
-      (report, record { plan = measured-plan design cert said expr t.0 t.1 t.2 t.3 t.4 v; floor = floor; few = searched.few; end = ends-as design budget report said floor searched.spent searched.ended ending }, t.6)
+      (report, record { plan = measured-plan design cert said expr t.0 t.1 t.2 t.3 t.4 v; floor = floor; few = few; end = ends-as design budget all report said floor spent ended ending }, t.6)
 
--- the answer of a search is a report of what its certificate found
-answered-finds : (design : Design) (workers budget scale : ℕ) (name : List ℕ) (pl : Option (List ℕ)) (status : Status) (stored : List Stored) (printed : List ℕ) → IsAnswered design workers budget scale name pl status stored printed
-    → Finds design budget status printed
-answered-finds design workers budget scale name pl status stored printed a =
-    subst (λ s. Finds design budget s printed) (sym a.status_is)
-    (told-finds design workers budget scale name pl a.said a.cert a.searched a.floor a.ending a.cert.plan stored printed a.searched.valid.plan a.told)
+-- the report of a valid certificate that keeps its budget says what was found
+reported-finds : (design : Design) (budget all scale : ℕ) (name : List ℕ) (pl : Option (List ℕ)) (cert : Cert) (status : Status) (stored : List Stored) (printed : List ℕ) → IsGood design cert → decided cert.tags ≤ budget
+    → (cert.bound < cert.cost → decided cert.tags ≡ budget) → (all ≤ budget → cert.bound ≡ cert.cost) → IsReported design scale name pl cert status stored printed → Finds design budget all status printed
+reported-finds design budget all scale name pl cert status stored printed valid few spent ended a =
+    subst (λ s. Finds design budget all s printed) (sym a.status_is)
+    (told-finds design budget all scale name pl a.said cert few spent ended a.floor a.ending cert.plan stored printed valid.plan a.told)
 
 -- what is refused has searched nothing
 no-search : (status : Status) → IsRefusal status → HasSearched status → ⊥
@@ -100,7 +81,8 @@ no-search status is h = elim is [ inl e ↦ subst HasSearched e h | inr e ↦ su
 answered-headline : (Stands : Result Design Refusal → Type 0) (nodes : Option ℕ) (taken taken_then : Option (List ℕ)) (status : Status) (design : Design) (workers scale : ℕ) (name : List ℕ) (pl : Option (List ℕ)) (stored : List Stored) (printed : List ℕ)
     → Stands (Ok design) → IsAnswered design workers (budget_of nodes (block_count design)) scale name pl status stored printed → Appends taken taken_then printed → IsHeadline Stands nodes taken taken_then status
 answered-headline Stands nodes taken taken_then status design workers scale name pl stored printed stands answered prints =
-    let found = answered-finds design workers (budget_of nodes (block_count design)) scale name pl status stored printed answered in
+    let s = answered.searched in
+    let found = reported-finds design (budget_of nodes (block_count design)) (full design) scale name pl answered.cert status stored printed s.valid s.few s.spent s.ended answered.reported in
     record { design = design; stands = stands; report = found.0; finding = found.1; prints = subst (Appends taken taken_then) found.2 prints }
 
 module _ (before : Option Contents) (taken taken_then : Option (List ℕ)) (status : Status) (searched : HasSearched status) where
@@ -115,6 +97,17 @@ module _ (before : Option Contents) (taken taken_then : Option (List ℕ)) (stat
   gen-headline o stored printed (inl p) prints =
       answered-headline (GenRead o) o.nodes taken taken_then status p.design 1 1 (cert_name o) None p.searched printed p.made p.answered prints
   gen-headline o stored printed (inr r) prints = absurd (no-search status r.0 searched)
+
+  -- so has one of `resume`, which is an answer of a search where the certificate is valid
+  resume-headline : (o : ResumeOptions) (stored : List Stored) (printed : List ℕ) → CommandAnswer (resume o) before status stored printed → Appends taken taken_then printed → IsHeadlineOn o before taken taken_then status
+  resume-headline o stored printed (inl p) prints = elim p.taken_up [
+    | inl r ↦ absurd (subst HasSearched r.status_is searched)
+    | inr g ↦ (let s = g.searched in
+        let old = p.cert in
+        let found = reported-finds p.design (decided old.tags + o.nodes) (decided old.tags + full_open p.design old) o.design.per_unit o.cert_out o.pl_out g.cert status stored printed s.valid s.few s.spent (λ large. s.ended (omega (arith, large))) g.reported in
+        record { design = p.design; old = old; stands = p.reads; good = g.good; report = found.0; finding = found.1; prints = subst (Appends taken taken_then) found.2 prints })
+  ]
+  resume-headline o stored printed (inr r) prints = absurd (no-search status r.0 searched)
 
 -- the answer of a run that is done, where its words mean this command
 module _ (words : List (List ℕ)) (before after taken taken_then : _) (status : Status) (done : IsDone words before after taken taken_then status) (searched : HasSearched status) where
@@ -133,6 +126,10 @@ module _ (words : List (List ℕ)) (before after taken taken_then : _) (status :
   -- what was done for words of `gen`, by a status of a search, has the headline
   pub generated-headline : (o : GenOptions) → Means words (gen o) → IsHeadline (GenRead o) o.nodes taken taken_then status
   generated-headline o means = gen-headline before taken taken_then status searched o done.stored done.printed (answer-to (gen o) means) done.prints
+
+  -- what was done for words of `resume`, by a status of a search, has the headline
+  pub resumed-headline : (o : ResumeOptions) → Means words (resume o) → IsHeadlineOn o before taken taken_then status
+  resumed-headline o means = resume-headline before taken taken_then status searched o done.stored done.printed (answer-to (resume o) means) done.prints
 
 -- what was stored and printed of an answer is done, where reading has left the shelf as it was
 pub done-of : (words : List (List ℕ)) (before held after taken taken_then : _) (status result : Status) (stored : List Stored) (printed : List ℕ)

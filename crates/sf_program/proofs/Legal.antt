@@ -1,16 +1,9 @@
 -- The area of a legal placement, and the lines that tell it.
 use Rattle.std.proofs.Common.{◌≡◌, ℕ, ◌*◌, ◌^◌, ◌≤◌, List, [], ◌∷◌, ◌++◌, arith, ap, ◌∙◌, append_assoc, codes}
 use Rattle.std.proofs.Math.Nat.{mul-le-mul_left, mul_comm}
-use Rattle.std.specs.List.{AllByRecursion}
+use Rattle.sf_program.proofs.Common.{AllByRecursion, recursion_from_All, Design, Spot, right_end, upper_end, AreLegal, LiesIn, legal_text, line_of}
 use Rattle.std.proofs.lemmas.Int.{ints}
-use Rattle.std.proofs.lemmas.List.Elements.{recursion_from_All}
-use Rattle.sf_model.specs.declared.design.Design.{Design}
 use Rattle.sf_model.specs.declared.parts.Outline.{Outline}
-use Rattle.sf_model.specs.declared.plan.Spot.{Spot}
-use Rattle.sf_model.specs.Cost.{right_end, upper_end}
-use Rattle.sf_place.specs.Verdict.{AreLegal, LiesIn}
-use Rattle.sf_program.specs.Measured.{legal_text}
-use Rattle.sf_program.specs.Refusals.{line_of}
 
 -- spots in the outline end at its width at most
 right_end_most : (outline : Outline) (ss : List Spot) → AllByRecursion (LiesIn outline) ss → right_end ss ≤ outline.w

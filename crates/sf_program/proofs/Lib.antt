@@ -1,3 +1,4 @@
+mod Common
 pub mod Stages
 pub mod Fitting
 pub mod YalRefused
@@ -12,8 +13,10 @@ pub mod Made
 pub mod Once
 pub mod OneDesign
 pub mod OneChecked
+pub mod OneResumed
 pub mod OneSearched
 pub mod OneAnswer
 pub mod Complete
 pub mod Headline
 pub mod Pieces
+pub mod Continued

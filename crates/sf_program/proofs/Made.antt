@@ -1,14 +1,7 @@
 -- Generated texts are never refused.
 use Rattle.std.proofs.Common.{◌≡◌, inl, inr, Result, Ok, Err, sym, subst, ◌∙◌}
-use Rattle.std.specs.Prelude.{IfErr, IfOk}
-use Rattle.sf_model.specs.declared.design.Design.{Design}
+use Rattle.sf_program.proofs.Common.{IfErr, IfOk, Design, HasNoneFor, DesignOptions, WeightOptions, Stop, Refusal, Ends, IsFault, Stops, DesignMade, Judged, Said, WeighedParts}
 use Rattle.sf_model.specs.declared.fault.BuildFault.{BuildFault}
-use Rattle.sf_soft_shapes.specs.Listed.{HasNoneFor}
-use Rattle.sf_words.specs.Meaning.{DesignOptions, WeightOptions}
-use Rattle.sf_program.specs.declared.stop.Stop.{Stop}
-use Rattle.sf_program.specs.Outcome.{Refusal, Ends, IsFault, Stops}
-use Rattle.sf_program.specs.Reading.{DesignMade, Judged, Said}
-use Rattle.sf_program.specs.Weighed.{WeighedParts}
 use Rattle.sf_program.proofs.Stages.{stops-map}
 
 module _ {X F : Type 0} (first : Result X F) (refusal : F → Refusal) (out : X) (read : first ≡ Ok out) where

@@ -1,25 +1,17 @@
 -- A coordinate that is read is near.
 use Rattle.std.proofs.Common.{◌≡◌, ◌==◌, ℕ, ◌≤◌, Bool, true, false, cond, List, [], ◌∷◌, length, Option, Some, None, Result, Ok, Err, refl, subst, arith, inl, inr}
-use Rattle.std.specs.Prelude.{ℤ, pos, neg_ℤ, ◌≤ℤ◌, nat_lt, ◌%◌, ◌/◌}
-use Rattle.std.specs.List.{All, AllZip}
-use Rattle.std.proofs.lemmas.Bool.Decides.{nat_tests}
+use Rattle.std.specs.Prelude.{◌≤ℤ◌, ◌%◌, ◌/◌}
+use Rattle.sf_program.proofs.Common.{ℤ, pos, neg_ℤ, nat_lt, AllZip, nat_tests, All-nil, All-cons, GsrcPlaces, Place, ◌>>=◌, PlacesStandFor, SaysPlace, Contents, PlacesRead, HasNearPlace}
+use Rattle.std.specs.List.{All}
 use Rattle.std.proofs.lemmas.Int.{ints}
-use Rattle.std.proofs.lemmas.List.Elements.{All-nil, All-cons}
 use Rattle.sf_lex.specs.Scan.{Line}
 use Rattle.sf_lex.specs.Number.{Decimal, decimal_of, decimal_read, signed_read, value_or_fault, exact_value, scaled, unit, value_within, with_value}
 use Rattle.sf_lex.specs.declared.number.NumberFault.{NumberFault}
 use Rattle.sf_lex.specs.declared.number.NumberFault.TheVariants.{TooManyDigits, NotWhole, TooLarge}
 use Rattle.sf_gsrc.specs.declared.fault.LineFault.{LineFault}
 use Rattle.sf_gsrc.specs.declared.fault.LineFault.TheVariants.{BadLine}
-use Rattle.sf_gsrc.specs.declared.output.GsrcPlaces.{GsrcPlaces}
-use Rattle.sf_gsrc.specs.declared.output.Place.{Place}
-use Rattle.sf_lex.specs.Results.{◌>>=◌}
 use Rattle.sf_gsrc.specs.Line.{number_in, coordinate_in_word}
 use Rattle.sf_gsrc.specs.PlaceLine.{sides_said, size_in_words, spot_said, place_said}
-use Rattle.sf_gsrc.specs.Places.{PlacesStandFor, SaysPlace}
-use Rattle.sf_io.specs.Outside.{Contents}
-use Rattle.sf_program.specs.Reading.{PlacesRead}
-use Rattle.sf_program.specs.PlacedLines.{HasNearPlace}
 
 -- a sequence that gives a value has one at its first step
 bound : (A E : Type 0) → (r : Result A E) (B : Type 0) (f : A → Result B E) (y : B) → (r >>= f) ≡ Ok y → (x : A) × (r ≡ Ok x) × (f x ≡ Ok y)

@@ -1,11 +1,7 @@
 -- Stages that give one value or one refusal, one after another.
 use Rattle.std.proofs.Common.{◌≡◌, inl, inr, ℕ, List, length, Option, Some, None, Result, Ok, Err, refl, sym, ap, subst, ◌∙◌, arith}
-use Rattle.std.specs.Prelude.{Bool, IsTrue, ◌^◌}
-use Rattle.sf_io.specs.Outside.{Contents, HoldsMore}
-use Rattle.sf_model.specs.declared.design.Design.{Design}
-use Rattle.sf_program.specs.Outcome.{Refusal, refused, lost, Then}
-use Rattle.sf_program.specs.OneAnswer.{AtMostOne, GivesOne, IsSaid, IsTold}
-use Rattle.sf_program.specs.Reading.{IfNamed, Judged, Said, TextRead, With}
+use Rattle.sf_program.proofs.Common.{Bool, IsTrue, Contents, HoldsMore, Design, Refusal, refused, lost, Then, AtMostOne, GivesOne, IsSaid, IsTold, IfNamed, Judged, Said, TextRead, TextWithin, With}
+use Rattle.std.specs.Prelude.{◌^◌}
 
 -- what is so of one thing at most is so on each shelf
 pub once : {any : Bool} {X : Type 0} (P : Result X Refusal → Type 0) → AtMostOne P → GivesOne any P
@@ -62,8 +58,8 @@ judged-one (Ok x) refusal r s a b = a ∙ sym b
 judged-one (Err fault) refusal r s a b = a ∙ sym b
 
 -- a text that is loaded is not too long
-not-long : (contents : Contents) (name x : List ℕ) → TextRead (Some contents) name (Ok x) → HoldsMore (Some contents) name (2 ^ 26) → ⊥
-not-long contents name x a m =
+not-long : (limit : ℕ) (contents : Contents) (name x : List ℕ) → TextWithin limit (Some contents) name (Ok x) → HoldsMore (Some contents) name limit → ⊥
+not-long limit contents name x a m =
     let e : Some x ≡ Some m.0 = sym a.0 ∙ m.1 in
     let same : x ≡ m.0 = cc in
     let n : length x ≡ length m.0 = ap length same in
@@ -72,16 +68,20 @@ not-long contents name x a m =
     omega arith
 
 -- a text that is held is not too long, and not lost where loads fail only at names without a text
+pub within-one : (limit : ℕ) (contents : Contents) (name : List ℕ) → GivesOne contents.may_fail (TextWithin limit (Some contents) name)
+within-one limit contents name (Ok x) (Ok y) a b told = ap Ok (let e : Some x ≡ Some y = sym a.0 ∙ b.0 in cc)
+within-one limit contents name (Ok x) (Err (refused status line)) a b told = absurd (not-long limit contents name x a b.0)
+within-one limit contents name (Ok x) (Err lost) a b told = elim b [ inl f ↦ absurd ((told f).1) | inr none ↦ (let e : Some x ≡ None = sym a.0 ∙ none in absurd (cc)) ]
+within-one limit contents name (Err (refused status line)) (Ok y) a b told = absurd (not-long limit contents name y b a.0)
+within-one limit contents name (Err (refused status line)) (Err (refused other words)) a b told = ap Err (a.1 ∙ sym b.1)
+within-one limit contents name (Err (refused status line)) (Err lost) a b told = elim b [ inl f ↦ absurd ((told f).1) | inr none ↦ (let e : Some a.0.0 ≡ None = sym a.0.1 ∙ none in absurd (cc)) ]
+within-one limit contents name (Err lost) (Ok y) a b told = elim a [ inl f ↦ absurd ((told f).0) | inr none ↦ (let e : Some y ≡ None = sym b.0 ∙ none in absurd (cc)) ]
+within-one limit contents name (Err lost) (Err (refused status line)) a b told = elim a [ inl f ↦ absurd ((told f).0) | inr none ↦ (let e : Some b.0.0 ≡ None = sym b.0.1 ∙ none in absurd (cc)) ]
+within-one limit contents name (Err lost) (Err lost) a b told = refl
+
+-- so is one of any file but a certificate
 pub text-one : (contents : Contents) (name : List ℕ) → GivesOne contents.may_fail (TextRead (Some contents) name)
-text-one contents name (Ok x) (Ok y) a b told = ap Ok (let e : Some x ≡ Some y = sym a.0 ∙ b.0 in cc)
-text-one contents name (Ok x) (Err (refused status line)) a b told = absurd (not-long contents name x a b.0)
-text-one contents name (Ok x) (Err lost) a b told = elim b [ inl f ↦ absurd ((told f).1) | inr none ↦ (let e : Some x ≡ None = sym a.0 ∙ none in absurd (cc)) ]
-text-one contents name (Err (refused status line)) (Ok y) a b told = absurd (not-long contents name y b a.0)
-text-one contents name (Err (refused status line)) (Err (refused other words)) a b told = ap Err (a.1 ∙ sym b.1)
-text-one contents name (Err (refused status line)) (Err lost) a b told = elim b [ inl f ↦ absurd ((told f).1) | inr none ↦ (let e : Some a.0.0 ≡ None = sym a.0.1 ∙ none in absurd (cc)) ]
-text-one contents name (Err lost) (Ok y) a b told = elim a [ inl f ↦ absurd ((told f).0) | inr none ↦ (let e : Some y ≡ None = sym b.0 ∙ none in absurd (cc)) ]
-text-one contents name (Err lost) (Err (refused status line)) a b told = elim a [ inl f ↦ absurd ((told f).0) | inr none ↦ (let e : Some b.0.0 ≡ None = sym b.0.1 ∙ none in absurd (cc)) ]
-text-one contents name (Err lost) (Err lost) a b told = refl
+text-one contents name = within-one (2 ^ 26) contents name
 
 -- a file that may be left out
 pub named-one : {any : Bool} {X : Type 0} (P : List ℕ → Result X Refusal → Type 0) → ((name : List ℕ) → GivesOne any (P name)) → (named : Option (List ℕ)) → GivesOne any (IfNamed P named)

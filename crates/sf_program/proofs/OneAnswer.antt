@@ -1,23 +1,13 @@
 -- Words and texts have one answer.
 use Rattle.std.proofs.Common.{◌≡◌, ◌⊎◌, inl, inr, Bool, ℕ, List, [], Option, Some, Result, Ok, Err, refl, sym, subst, ◌∙◌}
-use Rattle.sf_io.specs.Outside.{Contents}
-use Rattle.sf_io.specs.declared.status.Status.{Status}
-use Rattle.sf_io.specs.declared.status.Status.TheVariants.{Usage, BadInput, OverLimit}
-use Rattle.sf_model.specs.declared.design.Design.{Design}
-use Rattle.sf_words.specs.Meaning.{Command, GenOptions, PlanOptions, plan, check, measure, shape, gen}
-use Rattle.sf_words.proofs.Unique.{meaning_unique}
-use Rattle.sf_program.specs.Answer.{CommandAnswer, IsDone, IsRefused}
-use Rattle.sf_program.specs.Checked.{CheckRead, IsChecked}
-use Rattle.sf_program.specs.Generated.{GenRead, IsGenerated}
+use Rattle.sf_program.proofs.Common.{Contents, Status, Usage, BadInput, OverLimit, Design, Command, GenOptions, PlanOptions, plan, check, resume, measure, shape, gen, ResumeOptions, IsContinued, ResumeRead, Cert, meaning_unique, CommandAnswer, IsDone, IsRefused, CheckRead, IsChecked, GenRead, IsGenerated, Answer, AskForOneWorker, AtMostOne, GivesOne, HasOneWorker, IsAnswerTo, IsDoneBy, refusal, Refusal, IsRefusal, refused, IsShaped, ShapeRead}
 use Rattle.sf_program.specs.Measured as measured
-use Rattle.sf_program.specs.OneAnswer.{Answer, AskForOneWorker, AtMostOne, GivesOne, HasOneWorker, IsAnswerTo, IsDoneBy, refusal}
-use Rattle.sf_program.specs.Outcome.{Refusal, IsRefusal, refused}
 use Rattle.sf_program.specs.Planned as planned
-use Rattle.sf_program.specs.Shaped.{IsShaped, ShapeRead}
-use Rattle.sf_program.proofs.Endings.{said-ends, judged-ends, checked-ends}
+use Rattle.sf_program.proofs.Endings.{said-ends, judged-ends, checked-ends, taken-up-ends}
 use Rattle.sf_program.proofs.Once.{no-refusal, same-refusal}
 use Rattle.sf_program.proofs.OneChecked.{HasOneName, check-read-one, checked-one, checked-reads, measure-read-one, measured-one, measured-reads, shape-read-one, shaped-one, shaped-reads}
 use Rattle.sf_program.proofs.OneDesign.{plan-one}
+use Rattle.sf_program.proofs.OneResumed.{resume-read-one}
 use Rattle.sf_program.proofs.OneSearched.{HasOneCert, gen-one, generated-one, planned-one}
 
 -- answers with the same status, stored texts and printed text are one
@@ -85,6 +75,10 @@ module _ (contents : Contents) where
   planned-reads : (o : PlanOptions) (a : Answer) → planned.IsPlanned o (Some contents) a.0 a.1 a.2 → (design : Design) × planned.PlanRead (Some contents) o (Ok design)
   planned-reads o a p = (p.design, p.reads)
 
+  -- what is gone on with was read
+  continued-reads : (o : ResumeOptions) (a : Answer) → IsContinued o (Some contents) a.0 a.1 a.2 → (both : Design × Cert) × ResumeRead (Some contents) o (Ok both)
+  continued-reads o a p = ((p.design, p.cert), p.reads)
+
   -- what is generated was made
   generated-reads : (o : GenOptions) (a : Answer) → IsGenerated o a.0 a.1 a.2 → (design : Design) × GenRead o (Ok design)
   generated-reads o a p = (p.design, p.made)
@@ -97,6 +91,7 @@ module _ (contents : Contents) where
   command-one certs names (check o) single =
       one-of contents.may_fail (CheckRead (Some contents) o) (check-read-one contents o) (λ a. IsChecked o (Some contents) a.0 a.1 a.2) (checked-reads contents o)
       (λ a b p q. let same = checked-one contents o names a b p q in triple a b same.0 same.1 same.2)
+  command-one certs names (resume o) single = absurd single
   command-one certs names (measure o) single =
       one-of contents.may_fail (measured.MeasureRead (Some contents) o) (measure-read-one contents o) (λ a. measured.IsMeasured o (Some contents) a.0 a.2 × (a.1 ≡ [])) (λ a p. measured-reads contents o a p.0)
       (silent-one (λ a. measured.IsMeasured o (Some contents) a.0 a.2) (measured-one contents o))
@@ -111,10 +106,13 @@ module _ (contents : Contents) where
   command-refused : (command : Command) (status : Status) (line : List ℕ) (b : Answer) → IsRefusal status → IsOf command contents (refusal status line) → IsOf command contents b → b ≡ refusal status line
   command-refused (plan o) status line b is p q =
       refused-of contents.may_fail (planned.PlanRead (Some contents) o) (plan-one contents o) (λ a. planned.IsPlanned o (Some contents) a.0 a.1 a.2) (planned-reads o)
-      (λ a h. subst IsOwn (sym h.answered.status_is) (said-ends IsOwn tt tt tt h.answered.said)) status line b is p q
+      (λ a h. subst IsOwn (sym h.answered.reported.status_is) (said-ends IsOwn tt tt tt h.answered.reported.said)) status line b is p q
   command-refused (check o) status line b is p q =
       refused-of contents.may_fail (CheckRead (Some contents) o) (check-read-one contents o) (λ a. IsChecked o (Some contents) a.0 a.1 a.2) (checked-reads contents o)
       (λ a h. subst IsOwn (sym h.file.judged.status_is) (checked-ends IsOwn tt tt h.file.judged.answer)) status line b is p q
+  command-refused (resume o) status line b is p q =
+      refused-of contents.may_fail (ResumeRead (Some contents) o) (resume-read-one contents o) (λ a. IsContinued o (Some contents) a.0 a.1 a.2) (continued-reads o)
+      (λ a h. taken-up-ends IsOwn tt tt tt tt o h.design h.cert a.0 a.1 a.2 h.taken_up) status line b is p q
   command-refused (measure o) status line b is p q =
       refused-of contents.may_fail (measured.MeasureRead (Some contents) o) (measure-read-one contents o) (λ a. measured.IsMeasured o (Some contents) a.0 a.2 × (a.1 ≡ [])) (λ a p. measured-reads contents o a p.0)
       (λ a h. subst IsOwn (sym h.0.status_is) (judged-ends IsOwn tt tt h.0.verdict)) status line b is p q
@@ -123,7 +121,7 @@ module _ (contents : Contents) where
       (λ a h. subst IsOwn (sym h.0.status_is) tt) status line b is p q
   command-refused (gen o) status line b is p q =
       refused-of contents.may_fail (GenRead o) (gen-one contents.may_fail o) (λ a. IsGenerated o a.0 a.1 a.2) (generated-reads o)
-      (λ a h. subst IsOwn (sym h.answered.status_is) (said-ends IsOwn tt tt tt h.answered.said)) status line b is p q
+      (λ a h. subst IsOwn (sym h.answered.reported.status_is) (said-ends IsOwn tt tt tt h.answered.reported.said)) status line b is p q
 
   -- ---- by the words
 

@@ -1,62 +1,38 @@
 -- The commands that search nothing have one answer each.
 use Rattle.std.proofs.Common.{◌≡◌, inl, inr, ℕ, ◌+◌, suc, List, [], ◌∷◌, ◌++◌, map, length, Option, Some, None, Result, Ok, Err, refl, sym, ap, subst, ◌∙◌, arith}
-use Rattle.std.specs.Prelude.{codes}
-use Rattle.std.specs.List.{flat_map, range_with_len}
-use Rattle.sf_io.specs.Outside.{Contents}
-use Rattle.sf_model.specs.declared.design.Design.{Design}
-use Rattle.sf_model.specs.declared.parts.Block.{Block}
+use Rattle.sf_program.proofs.Common.{Bool, codes, flat_map, range_with_len, Contents, Design, Block, Spot, block_count, root, IsRootCurve, ◌>>=◌, Place, IsByNumber, IsVerdict, standard, part_value, Cert, cert_text, AreTrees, IsValid, CheckOptions, MeasureOptions, ShapeOptions, CertRead, CheckRead, IsChecked, IsJudged, IsRenamed, IsRewritten, JudgedFile, answer_status, answer_text, cert_limit, cert_refusal, IsMeasured, MeasureRead, SpotsPlaced, SpotsRead, lines_named, sized_spot, spot_said, spots_said, verdict_status, verdict_text, Answer, AtMostOne, GivesOne, Refusal, DesignRead, Judged, PlacesRead, Said, TextRead, TextWithin, With, Stored, IsCurveText, IsLeast, IsShaped, ShapeRead, TokensRead, areas_alone, expr_refusal, least_line, point_line}
 use Rattle.sf_model.specs.declared.parts.Shape.{Shape}
-use Rattle.sf_model.specs.declared.plan.Spot.{Spot}
-use Rattle.sf_model.specs.Legal.{block_count}
 use Rattle.sf_polish.specs.declared.expr.Token.{Token}
 use Rattle.sf_polish.specs.Reading.{tokens_read}
 use Rattle.sf_polish.specs.Text.{SpellsTokens}
 use Rattle.sf_polish.proofs.TextLaws.{spelled-tokens}
-use Rattle.sf_node.specs.Subproblem.{root}
-use Rattle.sf_curves.specs.Choices.{IsRootCurve}
 use Rattle.sf_curves.proofs.OneTrace.{one-curve, one-least}
-use Rattle.sf_lex.specs.Results.{◌>>=◌}
-use Rattle.sf_gsrc.specs.declared.output.Place.{Place}
-use Rattle.sf_place.specs.Spots.{IsByNumber}
-use Rattle.sf_place.specs.Verdict.{IsVerdict}
 use Rattle.sf_place.proofs.OneVerdict.{one-verdict}
-use Rattle.sf_standard.specs.Standard.{standard, part_value}
-use Rattle.sf_certificate.specs.declared.cert.Cert.{Cert}
 use Rattle.sf_certificate.specs.declared.tag.Tag.{Tag}
 use Rattle.sf_certificate.specs.Named.{AllNameFirst, unnamed}
 use Rattle.sf_certificate.specs.Reading.{Said as CertSaid, cert_read, said_by}
-use Rattle.sf_certificate.specs.Text.{cert_text}
-use Rattle.sf_certificate.specs.Valid.{AreTrees, IsValid}
 use Rattle.sf_certificate.proofs.OneCert.{same-cert}
 use Rattle.sf_checker.specs.declared.answer.Answer.{Answer as Checked}
 use Rattle.sf_checker.specs.declared.answer.Answer.TheVariants.{Yes, No}
 use Rattle.sf_checker.specs.Answers.{IsAnswer}
 use Rattle.sf_checker.proofs.OneAnswer.{one-answer}
-use Rattle.sf_words.specs.Meaning.{CheckOptions, MeasureOptions, ShapeOptions}
-use Rattle.sf_program.specs.Checked.{CertRead, CheckRead, IsChecked, IsJudged, IsRenamed, IsRewritten, JudgedFile, answer_status, answer_text, cert_refusal}
-use Rattle.sf_program.specs.Measured.{IsMeasured, MeasureRead, SpotsPlaced, SpotsRead, lines_named, sized_spot, spot_said, spots_said, verdict_status, verdict_text}
-use Rattle.sf_program.specs.OneAnswer.{Answer, AtMostOne, GivesOne}
-use Rattle.sf_program.specs.Outcome.{Refusal}
-use Rattle.sf_program.specs.Reading.{DesignRead, Judged, PlacesRead, Said, TextRead, With}
-use Rattle.sf_program.specs.Stores.{Stored}
-use Rattle.sf_program.specs.Shaped.{IsCurveText, IsLeast, IsShaped, ShapeRead, TokensRead, areas_alone, expr_refusal, least_line, point_line}
-use Rattle.sf_program.proofs.Once.{once, then-one, said-one, judged-one, text-one, with-one, same-value}
+use Rattle.sf_program.proofs.Once.{once, then-one, said-one, judged-one, text-one, within-one, with-one, same-value}
 use Rattle.sf_program.proofs.OneDesign.{design-one, places-one}
 
 -- ---- check
 
 -- the text under a name says one certificate, or has one fault
-cert-one : (contents : Contents) (name : List ℕ) (blocks : ℕ) → GivesOne contents.may_fail (CertRead (Some contents) name blocks)
-cert-one contents name blocks =
-    then-one (TextRead (Some contents) name) (λ text. Judged (cert_read blocks text) cert_refusal) (text-one contents name) (λ text. once (Judged (cert_read blocks text) cert_refusal) (judged-one (cert_read blocks text) cert_refusal))
+pub cert-one : (is_long : Bool) (contents : Contents) (name : List ℕ) (blocks : ℕ) → GivesOne contents.may_fail (CertRead is_long (Some contents) name blocks)
+cert-one is_long contents name blocks =
+    then-one (TextWithin (cert_limit is_long) (Some contents) name) (λ text. Judged (cert_read blocks text) cert_refusal) (within-one (cert_limit is_long) contents name) (λ text. once (Judged (cert_read blocks text) cert_refusal) (judged-one (cert_read blocks text) cert_refusal))
 
 -- so the design and the certificate that are read are one
 pub check-read-one : (contents : Contents) (o : CheckOptions) → GivesOne contents.may_fail (CheckRead (Some contents) o)
 check-read-one contents o =
-    then-one (DesignRead (Some contents) o.design o.weights) (λ design. CertRead (Some contents) o.cert (block_count design)) (design-one contents o.design o.weights) (λ design. cert-one contents o.cert (block_count design))
+    then-one (DesignRead (Some contents) o.design o.weights) (λ design. CertRead o.is_long (Some contents) o.cert (block_count design)) (design-one contents o.design o.weights) (λ design. cert-one o.is_long contents o.cert (block_count design))
 
 -- certificates of which a text says the same are one
-said-cert : (c d : Cert) → said_by c ≡ said_by d → c ≡ d
+pub said-cert : (c d : Cert) → said_by c ≡ said_by d → c ≡ d
 said-cert c d e = same-cert c d (ap (λ (s : CertSaid). s.blocks) e) (ap (λ (s : CertSaid). s.plan) e) (ap (λ (s : CertSaid). s.cost) e) (ap (λ (s : CertSaid). s.bound) e) (ap (λ (s : CertSaid). s.tags) e)
 
 -- a valid certificate is renamed in one way
@@ -99,17 +75,17 @@ module _ (names : HasOneName) (design : Design) (cert : Cert) where
 
 module _ (contents : Contents) (o : CheckOptions) where
   -- so is what is told and stored of the certificate under a name
-  file-one : HasOneName → (design : Design) (a b : Answer) → JudgedFile (Some contents) o.cert design o.rewrite a.0 a.1 a.2 → JudgedFile (Some contents) o.cert design o.rewrite b.0 b.1 b.2
+  file-one : HasOneName → (design : Design) (a b : Answer) → JudgedFile o.is_long (Some contents) o.cert design o.rewrite a.0 a.1 a.2 → JudgedFile o.is_long (Some contents) o.cert design o.rewrite b.0 b.1 b.2
       → (a.0 ≡ b.0) × (a.1 ≡ b.1) × (a.2 ≡ b.2)
   file-one names design a b p q =
-      let same = said-cert p.cert q.cert (same-value (CertRead (Some contents) o.cert (block_count design)) (cert-one contents o.cert (block_count design)) (said_by p.cert) (said_by q.cert) p.reads q.reads) in
+      let same = said-cert p.cert q.cert (same-value (CertRead o.is_long (Some contents) o.cert (block_count design)) (cert-one o.is_long contents o.cert (block_count design)) (said_by p.cert) (said_by q.cert) p.reads q.reads) in
       judged-one-way names design q.cert o.rewrite a b (subst (λ (c : Cert). IsJudged design c o.rewrite a.0 a.1 a.2) same p.judged) q.judged
 
   -- the answers of `check` are one
   pub checked-one : HasOneName → (a b : Answer) → IsChecked o (Some contents) a.0 a.1 a.2 → IsChecked o (Some contents) b.0 b.1 b.2 → (a.0 ≡ b.0) × (a.1 ≡ b.1) × (a.2 ≡ b.2)
   checked-one names a b p q =
       let design = same-value (DesignRead (Some contents) o.design o.weights) (design-one contents o.design o.weights) p.design q.design p.reads q.reads in
-      file-one names q.design a b (subst (λ (d : Design). JudgedFile (Some contents) o.cert d o.rewrite a.0 a.1 a.2) design p.file) q.file
+      file-one names q.design a b (subst (λ (d : Design). JudgedFile o.is_long (Some contents) o.cert d o.rewrite a.0 a.1 a.2) design p.file) q.file
 
   -- what is checked was read
   pub checked-reads : (a : Answer) → IsChecked o (Some contents) a.0 a.1 a.2 → (said : CertSaid) × CheckRead (Some contents) o (Ok said)

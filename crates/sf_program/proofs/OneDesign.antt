@@ -1,29 +1,19 @@
 -- The texts stand for one design, or are refused for one reason.
 use Rattle.std.proofs.Common.{◌≡◌, ◌≤◌, inl, inr, ℕ, suc, List, [], ◌∷◌, map, length, Option, Some, None, Result, Ok, Err, refl, sym, ap, subst, ◌∙◌, arith}
-use Rattle.std.specs.Prelude.{codes}
+use Rattle.sf_program.proofs.Common.{Bool, codes, Contents, Design, Block, Parts, AreListsOf, GsrcBlocks, GsrcNets, GsrcPlaces, places_read, PlacesStandFor, first_twice, joined, names_of, nets_in, numbered, placed_once, placed_parts, unplaced_parts, Input, gsrc, yal, DesignOptions, PlanOptions, WeightOptions, AtMostOne, GivesOne, HasBlocksOf, Refusal, Then, BudgetTested, BudgetedDesign, CountTested, budget_of, PlanRead, Admitted, BlocksRead, Built, DesignMade, DesignRead, GsrcRead, IfNamed, JoinedRead, Judged, ListsMade, NetsRead, PartsAdmitted, PartsRead, PlacesRead, Said, TextRead, Weighed, WeightsRead, YalRead, YalWeighed, outline_of, weights_of, build_refusal, gsrc_refusal, join_refusal, weight_refusal, yal_refusal, WeighedParts}
 use Rattle.std.specs.List.{All}
 use Rattle.std.specs.Option.{option_map}
-use Rattle.sf_io.specs.Outside.{Contents}
-use Rattle.sf_model.specs.declared.design.Design.{Design}
 use Rattle.sf_model.specs.declared.fault.BuildFault.TheVariants.{NoShape}
-use Rattle.sf_model.specs.declared.parts.Block.{Block}
 use Rattle.sf_model.specs.declared.parts.Shape.{Shape}
-use Rattle.sf_model.specs.declared.raw.Parts.{Parts}
 use Rattle.sf_model.specs.declared.raw.RawBlock.{RawBlock}
 use Rattle.sf_model.specs.Built.{design_blocks, first_shapeless}
 use Rattle.sf_model.proofs.Determined.{determined}
-use Rattle.sf_soft_shapes.specs.Listed.{AreListsOf}
 use Rattle.sf_soft_shapes.proofs.Determined.{all-lists, one-fault, fault-empty}
-use Rattle.sf_gsrc.specs.declared.output.GsrcBlocks.{GsrcBlocks}
-use Rattle.sf_gsrc.specs.declared.output.GsrcNets.{GsrcNets}
-use Rattle.sf_gsrc.specs.declared.output.GsrcPlaces.{GsrcPlaces}
 use Rattle.sf_gsrc.specs.Standing.{StandsFor}
 use Rattle.sf_gsrc.specs.Blocks.{blocks_read}
 use Rattle.sf_gsrc.specs.Nets.{nets_read}
 use Rattle.sf_gsrc.specs.NetsStanding.{NetsStandFor}
-use Rattle.sf_gsrc.specs.Places.{places_read, PlacesStandFor}
 use Rattle.sf_gsrc.specs.Weights.{weights_read, WeightsStandFor}
-use Rattle.sf_gsrc.specs.Join.{first_twice, joined, names_of, nets_in, numbered, placed_once, placed_parts, unplaced_parts}
 use Rattle.sf_gsrc.proofs.StandingLaws as block_laws
 use Rattle.sf_gsrc.proofs.NetLaws as net_laws
 use Rattle.sf_gsrc.proofs.PlaceLaws as place_laws
@@ -31,13 +21,6 @@ use Rattle.sf_gsrc.proofs.WeightLaws as weight_laws
 use Rattle.sf_yal.specs.Standing as yals
 use Rattle.sf_yal.specs.Parts.{yal_read}
 use Rattle.sf_yal.proofs.Standing as yal_laws
-use Rattle.sf_words.specs.Meaning.{Input, gsrc, yal, DesignOptions, PlanOptions, WeightOptions}
-use Rattle.sf_program.specs.OneAnswer.{AtMostOne, GivesOne, HasBlocksOf}
-use Rattle.sf_program.specs.Outcome.{Refusal, Then}
-use Rattle.sf_program.specs.Planned.{BudgetTested, BudgetedDesign, PlanRead}
-use Rattle.sf_program.specs.Reading.{Admitted, BlocksRead, Built, DesignMade, DesignRead, GsrcRead, IfNamed, JoinedRead, Judged, ListsMade, NetsRead, PartsAdmitted, PartsRead, PlacesRead, Said, TextRead, Weighed, WeightsRead, YalRead, YalWeighed, outline_of, weights_of}
-use Rattle.sf_program.specs.Refusals.{build_refusal, gsrc_refusal, join_refusal, weight_refusal, yal_refusal}
-use Rattle.sf_program.specs.Weighed.{WeighedParts}
 use Rattle.sf_program.proofs.Stages.{PlacedRead, WeighedRead, WiredRead}
 use Rattle.sf_program.proofs.Once.{once, then-one, said-one, judged-one, text-one, named-one, same-value}
 
@@ -193,18 +176,18 @@ module _ (o : DesignOptions) (w : WeightOptions) (read : WeighedParts) where
 pub design-one : (contents : Contents) (o : DesignOptions) (w : WeightOptions) → GivesOne contents.may_fail (DesignRead (Some contents) o w)
 design-one contents o w = then-one (PartsAdmitted (Some contents) o w) (DesignMade o w) (parts-admitted-one contents o w) (λ read. once (DesignMade o w read) (made-one o w read))
 
--- a budget is within its limit or past it
-pub budget-one : (nodes : Option ℕ) (blocks : ℕ) → AtMostOne (BudgetTested nodes blocks)
-budget-one nodes blocks (Ok x) (Ok y) a b = ap Ok (a.0 ∙ sym b.0)
-budget-one nodes blocks (Ok x) (Err w) a b = let within = a.1 in let over = b.0 in let e = a.0 in absurd (omega arith)
-budget-one nodes blocks (Err v) (Ok y) a b = let within = b.1 in let over = a.0 in let e = b.0 in absurd (omega arith)
-budget-one nodes blocks (Err v) (Err w) a b = ap Err (a.1 ∙ sym b.1)
+-- a count is within its limit or past it
+pub count-one : (is_long : Bool) (count blocks : ℕ) → AtMostOne (CountTested is_long count blocks)
+count-one is_long count blocks (Ok x) (Ok y) a b = ap Ok (a.0 ∙ sym b.0)
+count-one is_long count blocks (Ok x) (Err w) a b = let within = a.1 b.0 in let over = b.1 in absurd (omega arith)
+count-one is_long count blocks (Err v) (Ok y) a b = let within = b.1 a.0 in let over = a.1 in absurd (omega arith)
+count-one is_long count blocks (Err v) (Err w) a b = ap Err (a.2 ∙ sym b.2)
 
 -- so what `plan` reads is one design
 pub plan-one : (contents : Contents) (o : PlanOptions) → GivesOne contents.may_fail (PlanRead (Some contents) o)
 plan-one contents o =
     then-one (PartsAdmitted (Some contents) o.design o.weights) (BudgetedDesign o) (parts-admitted-one contents o.design o.weights)
-    (λ read. then-one (BudgetTested o.nodes (length read.parts.blocks)) (λ budget. DesignMade o.design o.weights read) (once (BudgetTested o.nodes (length read.parts.blocks)) (budget-one o.nodes (length read.parts.blocks))) (λ budget. once (DesignMade o.design o.weights read) (made-one o.design o.weights read)))
+    (λ read. then-one (BudgetTested o.is_long o.nodes (length read.parts.blocks)) (λ budget. DesignMade o.design o.weights read) (once (BudgetTested o.is_long o.nodes (length read.parts.blocks)) (count-one o.is_long (budget_of o.nodes (length read.parts.blocks)) (length read.parts.blocks))) (λ budget. once (DesignMade o.design o.weights read) (made-one o.design o.weights read)))
 
 -- ---- the blocks
 

@@ -1,28 +1,11 @@
 -- A search by one worker has one answer, where its certificate is the only one.
 use Rattle.std.proofs.Common.{◌≡◌, ℕ, ◌*◌, Bool, false, List, ◌∷◌, ◌++◌, Option, Some, None, Ok, Err, refl, sym, ap, subst, ◌∙◌, arith}
-use Rattle.sf_io.specs.Outside.{Contents}
-use Rattle.sf_model.specs.declared.design.Design.{Design}
-use Rattle.sf_model.specs.declared.plan.Spot.{Spot}
-use Rattle.sf_model.specs.Legal.{block_count}
-use Rattle.sf_model.specs.Tree.{Tree, width, height, spots_of}
-use Rattle.sf_model.specs.Wire.{wire}
-use Rattle.sf_polish.specs.declared.expr.Expr.{Expr}
-use Rattle.sf_polish.proofs.Spelling.{spells-one}
-use Rattle.sf_place.specs.Spots.{by_number}
-use Rattle.sf_certificate.specs.declared.cert.Cert.{Cert}
-use Rattle.sf_certificate.specs.Valid.{decided}
-use Rattle.sf_certificate.specs.Text.{cert_text}
-use Rattle.sf_pl_writer.specs.declared.report.Outcome.{Outcome}
+use Rattle.sf_program.proofs.Common.{Contents, Design, Spot, block_count, Tree, width, height, spots_of, wire, Expr, spells-one, by_number, Cert, decided, cert_text, Outcome, GenOptions, PlanOptions, DesignGenerated, GenRead, IsGenerated, by_default, both_weights, cert_name, parts_made, texts_stored, Answer, AtMostOne, GivesOne, BudgetTested, IsAnswered, IsEnding, AreMeasures, IsPlanned, IsReported, IsSearched, PlanRead, budget_of, outcome_status, placement_stores, Stored, alike}
 use Rattle.sf_pl_writer.specs.declared.report.Outcome.TheVariants as word
 use Rattle.sf_pl_writer.specs.ReportText.{report_text}
-use Rattle.sf_words.specs.Meaning.{GenOptions, PlanOptions}
-use Rattle.sf_program.specs.Generated.{DesignGenerated, GenRead, IsGenerated, by_default, both_weights, cert_name, parts_made, texts_stored}
-use Rattle.sf_program.specs.OneAnswer.{Answer, AtMostOne, GivesOne}
-use Rattle.sf_program.specs.Planned.{BudgetTested, IsAnswered, IsEnding, AreMeasures, IsPlanned, IsSearched, IsTold, PlanRead, budget_of, outcome_status, placement_stores}
-use Rattle.sf_program.specs.Stores.{Stored}
-use Rattle.sf_program.specs.Weighed.{alike}
+use Rattle.sf_program.specs.Planned.{IsTold}
 use Rattle.sf_program.proofs.Once.{once, then-one, same-value}
-use Rattle.sf_program.proofs.OneDesign.{budget-one, made-one, plan-one}
+use Rattle.sf_program.proofs.OneDesign.{count-one, made-one, plan-one}
 
 -- a cost and a bound have one ending
 ending-one : (cost bound : ℕ) (s t : Outcome) → IsEnding cost bound s → IsEnding cost bound t → s ≡ t
@@ -77,7 +60,7 @@ generated-design o (Err v) s p q = absurd p
 -- `gen` makes one design, or refuses for one reason
 pub gen-one : (any : Bool) (o : GenOptions) → GivesOne any (GenRead o)
 gen-one any o =
-    then-one (BudgetTested o.nodes o.count) (λ budget. DesignGenerated o) (once (BudgetTested o.nodes o.count) (budget-one o.nodes o.count)) (λ budget. once (DesignGenerated o) (generated-design o))
+    then-one (BudgetTested false o.nodes o.count) (λ budget. DesignGenerated o) (once (BudgetTested false o.nodes o.count) (count-one false (budget_of o.nodes o.count) o.count)) (λ budget. once (DesignGenerated o) (generated-design o))
 
 -- only one certificate is that of a search by one worker
 abbrev pub HasOneCert : Type 0
@@ -89,10 +72,12 @@ module _ (certs : HasOneCert) where
       → IsAnswered design 1 budget scale name pl a.0 a.1 a.2 → IsAnswered design 1 budget scale name pl b.0 b.1 b.2 → (a.0 ≡ b.0) × (a.1 ≡ b.1) × (a.2 ≡ b.2)
   answered-one design budget scale name pl a b p q =
       let cert = certs design budget p.cert q.cert p.searched q.searched in
-      let said = ending-one q.cert.cost q.cert.bound p.said q.said (subst (λ (c : Cert). IsEnding c.cost c.bound p.said) cert p.ending) q.ending in
-      let told = subst (λ (s : Outcome). IsTold design scale name pl s q.cert q.cert.plan a.1 a.2) said (subst (λ (c : Cert). IsTold design scale name pl p.said c c.plan a.1 a.2) cert p.told) in
-      let both = told-one design scale name pl q.said q.cert q.cert.plan a.1 b.1 a.2 b.2 told q.told in
-      (p.status_is ∙ ap outcome_status said ∙ sym q.status_is, both.0, both.1)
+      let r = subst (λ (c : Cert). IsReported design scale name pl c a.0 a.1 a.2) cert p.reported in
+      let s = q.reported in
+      let said = ending-one q.cert.cost q.cert.bound r.said s.said r.ending s.ending in
+      let told = subst (λ (w : Outcome). IsTold design scale name pl w q.cert q.cert.plan a.1 a.2) said r.told in
+      let both = told-one design scale name pl s.said q.cert q.cert.plan a.1 b.1 a.2 b.2 told s.told in
+      (r.status_is ∙ ap outcome_status said ∙ sym s.status_is, both.0, both.1)
 
   -- so are those of `plan`
   pub planned-one : (contents : Contents) (o : PlanOptions) → o.workers ≡ 1 → (a b : Answer) → IsPlanned o (Some contents) a.0 a.1 a.2 → IsPlanned o (Some contents) b.0 b.1 b.2 → (a.0 ≡ b.0) × (a.1 ≡ b.1) × (a.2 ≡ b.2)

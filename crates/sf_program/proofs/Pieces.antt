@@ -1,28 +1,14 @@
 -- A text that is fed in pieces: its answer, and what its fault says.
-use Rattle.std.proofs.Common.{◌≡◌, inl, ℕ, List, [], ◌∷◌, length, arith, refl, subst, sym, Option, None, Result, Ok, Err, IfOk}
-use Rattle.std.specs.Prelude.{IfErr}
-use Rattle.sf_io.specs.Outside.{Contents}
-use Rattle.sf_model.specs.declared.design.Design.{Design}
-use Rattle.sf_model.specs.Legal.{block_count}
-use Rattle.sf_standard.specs.Standard.{standard, part_value}
+use Rattle.std.proofs.Common.{◌≡◌, inl, ℕ, List, [], ◌∷◌, length, arith, refl, subst, sym, Option, None, Result, Ok, Err, IfOk, Bool}
+use Rattle.sf_program.proofs.Common.{IfErr, Contents, Design, block_count, standard, part_value, CheckOptions, Command, check, Stop, Refuses, Stops, DesignRead, Judged, TextWithin, Cert, cert_text, IsValid, CommandRefuses, IsOwnAnswer, Obeys, CertRead, CheckRead, IsJudged, IsRewritten, IsStoredAnew, JudgedFile, JudgedText, answer_status, answer_text, cert_limit, cert_refusal, Stored, stored_in}
 use Rattle.sf_certificate.specs.declared.fault.CertFault.{CertFault}
 use Rattle.sf_certificate.specs.Reading.{Said, cert_read, said_by}
 use Rattle.sf_checker.specs.declared.answer.Answer.{Answer}
 use Rattle.sf_checker.specs.Feeding.{IsAnswerTo}
-use Rattle.sf_words.specs.Meaning.{CheckOptions, Command, check}
-use Rattle.sf_program.specs.declared.stop.Stop.{Stop}
-use Rattle.sf_program.specs.Outcome.{Refuses, Stops}
 use Rattle.sf_program.specs.declared.work.Work.{Work}
-use Rattle.sf_program.specs.Reading.{DesignRead, Judged, TextRead}
-use Rattle.sf_certificate.specs.declared.cert.Cert.{Cert}
 use Rattle.sf_certificate.specs.Named.{AllNameFirst, AreAlikeButNames}
-use Rattle.sf_certificate.specs.Text.{cert_text}
-use Rattle.sf_certificate.specs.Valid.{IsValid}
 use Rattle.sf_checker.specs.Answers.{IsAnswer}
 use Rattle.sf_checker.proofs.Answered.{answered}
-use Rattle.sf_program.specs.Answer.{CommandRefuses, IsOwnAnswer, Obeys}
-use Rattle.sf_program.specs.Checked.{CertRead, CheckRead, IsJudged, IsRewritten, IsStoredAnew, JudgedFile, JudgedText, answer_status, answer_text, cert_refusal}
-use Rattle.sf_program.specs.Stores.{Stored, stored_in}
 use Rattle.sf_program.proofs.Stages.{refused-stops, stops-map}
 
 -- a text of no length has no bytes
@@ -66,22 +52,22 @@ told-cert design cert rewrite answer all so kept (Ok w) status stores printed = 
 told-cert design cert rewrite answer all so kept (Err e) status stores printed = tt
 
 -- what is told of the text that is read under a name
-pub told-file : (held : Option Contents) (name text said : List ℕ) (design : Design) (rewrite named : Option (List ℕ)) → TextRead held name (Ok text) → said ≡ text → named ≡ rewrite → (r : Result Work Stop)
-    → IfOk r (λ w. JudgedText design said rewrite w.status (stored_in w.stores.items) w.text.items) → IfOk r (λ w. JudgedFile held name design named w.status (stored_in w.stores.items) w.text.items)
-told-file held name text said design rewrite named read same given (Ok w) h = record {
+pub told-file : (is_long : Bool) (held : Option Contents) (name text said : List ℕ) (design : Design) (rewrite named : Option (List ℕ)) → TextWithin (cert_limit is_long) held name (Ok text) → said ≡ text → named ≡ rewrite → (r : Result Work Stop)
+    → IfOk r (λ w. JudgedText design said rewrite w.status (stored_in w.stores.items) w.text.items) → IfOk r (λ w. JudgedFile is_long held name design named w.status (stored_in w.stores.items) w.text.items)
+told-file is_long held name text said design rewrite named read same given (Ok w) h = record {
   cert = h.cert;
   reads = inl (text, read, subst (λ r. Judged r cert_refusal (Ok (said_by h.cert))) (sym (subst (λ t. cert_read (block_count design) t ≡ Ok (said_by h.cert)) same h.reads)) refl);
   judged = subst (λ n. IsJudged design h.cert n w.status (stored_in w.stores.items) w.text.items) (sym given) h.judged;
 }
-told-file held name text said design rewrite named read same given (Err stop) h = tt
+told-file is_long held name text said design rewrite named read same given (Err stop) h = tt
 
 -- the design comes before the certificate
 module _ (held : Option Contents) (o : CheckOptions) (design : Design) (read : DesignRead held o.design o.weights (Ok design)) where
   -- what is told of the certificate's file, and a fault of it, is what `check` tells of the design
-  pub check-obeyed : (r : Result Work Stop) → IfOk r (λ w. JudgedFile held o.cert design o.rewrite w.status (stored_in w.stores.items) w.text.items)
-      → IfErr r (λ stop. Stops stop (λ why. CertRead held o.cert (block_count design) (Err why))) → Obeys (check o) held r
+  pub check-obeyed : (r : Result Work Stop) → IfOk r (λ w. JudgedFile o.is_long held o.cert design o.rewrite w.status (stored_in w.stores.items) w.text.items)
+      → IfErr r (λ stop. Stops stop (λ why. CertRead o.is_long held o.cert (block_count design) (Err why))) → Obeys (check o) held r
   check-obeyed (Ok w) told stopped = record { design = design; reads = read; file = told }
-  check-obeyed (Err stop) told stopped = stops-map (λ why. CertRead held o.cert (block_count design) (Err why)) (λ why. CheckRead held o (Err why)) (λ why p. inl (design, read, p)) stop stopped
+  check-obeyed (Err stop) told stopped = stops-map (λ why. CertRead o.is_long held o.cert (block_count design) (Err why)) (λ why. CheckRead held o (Err why)) (λ why p. inl (design, read, p)) stop stopped
 
 -- an answer of the command's own, or a stop where it refuses, obeys it
 pub obeyed : (command : Command) (held : Option Contents) (r : Result Work Stop) → IfOk r (λ w. IsOwnAnswer command held w.status (stored_in w.stores.items) w.text.items)

@@ -1,27 +1,15 @@
 -- The lines of a placed file by name, and the spots of the blocks one after another.
 use Rattle.std.proofs.Common.{◌≡◌, ℕ, suc, ◌+◌, ◌<◌, Bool, true, false, cond, List, [], ◌∷◌, ◌++◌, length, map, take, drop, get_or, Option, Some, None, Result, Ok, Err, refl, sym, ap, subst, ◌∙◌, add-one, arith, append_assoc}
-use Rattle.std.specs.Prelude.{is_some}
-use Rattle.std.specs.List.{range_with_len}
+use Rattle.sf_program.proofs.Common.{is_some, range_with_len, All-nil, All-cons, All-append, All-more, All-weaker, HasNearCorner, map-append, get_or_default, Block, Spot, Place, ◌>>=◌, value_in, lines_named, spot_said, spots_said, Refusal, IsOnly, LinesAre, with_line, AreKept, AreIndexed, IsIndex}
 use Rattle.std.specs.Str.{bytes_eq}
 use Rattle.std.specs.Map.{update}
 use Rattle.std.specs.Option.{option_map}
 use Rattle.std.specs.List.{All}
-use Rattle.std.proofs.lemmas.List.Elements.{All-nil, All-cons, All-append, All-more, All-weaker}
-use Rattle.sf_place.specs.Spots.{HasNearCorner}
-use Rattle.std.proofs.lemmas.List.{map-append, get_or_default}
 use Rattle.std.proofs.lemmas.List.FromFn.{map-range_with_len_more}
 use Rattle.std.proofs.lemmas.Slice.Eq.{bytes_eq-Decides}
 use Rattle.std.proofs.Math.Seq.{drop-cons}
-use Rattle.sf_model.specs.declared.parts.Block.{Block}
-use Rattle.sf_model.specs.declared.plan.Spot.{Spot}
-use Rattle.sf_gsrc.specs.declared.output.Place.{Place}
-use Rattle.sf_lex.specs.Results.{◌>>=◌}
 use Rattle.sf_program.specs.declared.placed_lines.Lines.{Lines}
 use Rattle.sf_program.specs.declared.placed_lines.Lines.TheVariants.{Without, One, More}
-use Rattle.sf_names.specs.Values.{value_in}
-use Rattle.sf_program.specs.Measured.{lines_named, spot_said, spots_said}
-use Rattle.sf_program.specs.Outcome.{Refusal}
-use Rattle.sf_program.specs.PlacedLines.{IsOnly, LinesAre, with_line, AreKept, AreIndexed, IsIndex}
 
 -- ---- the index, from the last line to the first
 

@@ -1,18 +1,8 @@
 -- Stages one after another.
 use Rattle.std.proofs.Common.{inl, inr, ℕ, List, length, Option, Result, Ok, Err, refl, sym, subst, codes, arith, ◌∙◌}
-use Rattle.std.specs.Prelude.{IfErr}
-use Rattle.sf_io.specs.Outside.{Contents, ShelfSeen}
-use Rattle.sf_gsrc.specs.declared.output.GsrcBlocks.{GsrcBlocks}
-use Rattle.sf_gsrc.specs.declared.output.GsrcNets.{GsrcNets}
-use Rattle.sf_gsrc.specs.declared.output.GsrcPlaces.{GsrcPlaces}
-use Rattle.sf_gsrc.specs.Join.{nets_in}
-use Rattle.sf_program.specs.declared.stop.Stop.{Stop}
+use Rattle.sf_program.proofs.Common.{IfErr, Contents, ShelfSeen, GsrcBlocks, GsrcNets, GsrcPlaces, nets_in, Stop, IsCounted, Reads, TellsNoLoad, Refusal, refused, lost, Then, Refuses, Stops, Ends, BlocksRead, GsrcRead, IfNamed, JoinedRead, NetsRead, PlacesRead, WeightsRead, WeighedParts, weighed_in}
 use Rattle.sf_program.specs.declared.stop.Stop.TheVariants.{Refused, ReadFault, NoMemory}
 use Rattle.sf_program.specs.declared.weighed.Weighed.{Weighed}
-use Rattle.sf_program.specs.Loads.{IsCounted, Reads, TellsNoLoad}
-use Rattle.sf_program.specs.Outcome.{Refusal, refused, lost, Then, Refuses, Stops, Ends}
-use Rattle.sf_program.specs.Reading.{BlocksRead, GsrcRead, IfNamed, JoinedRead, NetsRead, PlacesRead, WeightsRead}
-use Rattle.sf_program.specs.Weighed.{WeighedParts, weighed_in}
 
 -- what ends a call for one reason ends it for each reason that follows
 pub stops-map : (P Q : Refusal → Type 0) → ((why : Refusal) → P why → Q why) → (stop : Stop) → Stops stop P → Stops stop Q

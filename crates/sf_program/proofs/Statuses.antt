@@ -1,14 +1,7 @@
 -- The statuses of answers.
 use Rattle.std.proofs.Common.{◌≡◌, ◌⊎◌, inl, inr, ℕ, List, Option, sym, subst}
-use Rattle.sf_io.specs.Outside.{Contents, Rose, ShelfSeen, SinkSeen}
-use Rattle.sf_io.specs.declared.status.Status.{Status}
-use Rattle.sf_io.specs.declared.status.Status.TheVariants.{ReadFault, WriteFault, NoMemory}
-use Rattle.sf_words.specs.Meaning.{Command, plan, check, measure, shape, gen}
-use Rattle.sf_program.specs.Answer.{Answers, CommandAnswer, IsAnswer, IsSilent, StoreOrPrintFailed}
-use Rattle.sf_program.specs.Loads.{Reads}
-use Rattle.sf_program.specs.Outcome.{IsRefusal}
-use Rattle.sf_program.specs.Stores.{AfterStores, StoppedAt, Stored}
-use Rattle.sf_program.proofs.Endings.{said-ends, judged-ends, checked-ends}
+use Rattle.sf_program.proofs.Common.{Contents, Rose, ShelfSeen, SinkSeen, Status, ReadFault, WriteFault, NoMemory, Command, plan, check, resume, measure, shape, gen, Answers, CommandAnswer, IsAnswer, IsSilent, StoreOrPrintFailed, Reads, IsRefusal, AfterStores, StoppedAt, Stored}
+use Rattle.sf_program.proofs.Endings.{said-ends, judged-ends, checked-ends, taken-up-ends}
 
 -- a refusal is an answer
 refused-status : (status : Status) → IsRefusal status → IsAnswer status
@@ -17,15 +10,17 @@ refused-status status r = elim r [ inl e ↦ subst IsAnswer (sym e) tt | inr e �
 -- each command answers by a status of an answer
 command-status : (command : Command) (before : Option Contents) (status : Status) (stored : List Stored) (printed : List ℕ) → CommandAnswer command before status stored printed → IsAnswer status
 command-status (plan o) before status stored printed h =
-    elim h [ inl p ↦ subst IsAnswer (sym p.answered.status_is) (said-ends IsAnswer tt tt tt p.answered.said) | inr r ↦ refused-status status r.0 ]
+    elim h [ inl p ↦ subst IsAnswer (sym p.answered.reported.status_is) (said-ends IsAnswer tt tt tt p.answered.reported.said) | inr r ↦ refused-status status r.0 ]
 command-status (check o) before status stored printed h =
     elim h [ inl p ↦ subst IsAnswer (sym p.file.judged.status_is) (checked-ends IsAnswer tt tt p.file.judged.answer) | inr r ↦ refused-status status r.0 ]
+command-status (resume o) before status stored printed h =
+    elim h [ inl p ↦ taken-up-ends IsAnswer tt tt tt tt o p.design p.cert status stored printed p.taken_up | inr r ↦ refused-status status r.0 ]
 command-status (measure o) before status stored printed h =
     elim h [ inl p ↦ subst IsAnswer (sym p.0.status_is) (judged-ends IsAnswer tt tt p.0.verdict) | inr r ↦ refused-status status r.0 ]
 command-status (shape o) before status stored printed h =
     elim h [ inl p ↦ subst IsAnswer (sym p.0.status_is) tt | inr r ↦ refused-status status r.0 ]
 command-status (gen o) before status stored printed h =
-    elim h [ inl p ↦ subst IsAnswer (sym p.answered.status_is) (said-ends IsAnswer tt tt tt p.answered.said) | inr r ↦ refused-status status r.0 ]
+    elim h [ inl p ↦ subst IsAnswer (sym p.answered.reported.status_is) (said-ends IsAnswer tt tt tt p.answered.reported.said) | inr r ↦ refused-status status r.0 ]
 
 -- an answer's status is no fault
 pub answer-status : (words : List (List ℕ)) (before : Option Contents) (status : Status) (stored : List Stored) (printed : List ℕ) → Answers words before status stored printed → IsAnswer status

@@ -1,15 +1,10 @@
 -- A YAL text that is refused.
 use Rattle.std.proofs.Common.{◌≡◌, Result, Err, refl, subst}
-use Rattle.sf_model.specs.declared.raw.Parts.{Parts}
+use Rattle.sf_program.proofs.Common.{Parts, Stop, IsNoLoad, Refusal, Refuses, Stops, Said, yal_refusal}
 use Rattle.sf_yal.specs.declared.fault.YalFault.{YalFault}
 use Rattle.sf_yal.specs.declared.fault.YalFault.TheVariants as yal
 use Rattle.sf_yal.specs.Reading.{Gives}
-use Rattle.sf_program.specs.declared.stop.Stop.{Stop}
 use Rattle.sf_program.specs.declared.stop.Stop.TheVariants.{Refused, ReadFault, NoMemory}
-use Rattle.sf_program.specs.Loads.{IsNoLoad}
-use Rattle.sf_program.specs.Outcome.{Refusal, Refuses, Stops}
-use Rattle.sf_program.specs.Reading.{Said}
-use Rattle.sf_program.specs.Refusals.{yal_refusal}
 use Rattle.sf_program.proofs.Stages.{refused-stops}
 
 module _ (Stands : Parts → Type 0) (first : Result Parts YalFault) where

@@ -5,21 +5,23 @@ use Rattle.sf_io.specs.Outside.{Contents, Rose, ShelfSeen, SinkSeen, Took}
 use Rattle.sf_io.specs.declared.status.Status.{Status}
 use Rattle.sf_io.specs.declared.status.Status.TheVariants.{Usage, ReadFault, WriteFault, NoMemory}
 use Rattle.sf_pl_writer.specs.Length.{IsScale}
-use Rattle.sf_words.specs.Meaning.{Command, plan, check, measure, shape, gen, Means, HasNoMeaning}
+use Rattle.sf_words.specs.Meaning.{Command, plan, check, resume, measure, shape, gen, Means, HasNoMeaning}
 use Rattle.sf_program.specs.declared.stop.Stop.{Stop}
 use Rattle.sf_program.specs.declared.work.Work.{Work}
 use Rattle.sf_program.specs.Outcome.{Refusal, IsRefusal, Stops, refused}
 use Rattle.sf_program.specs.Planned.{IsPlanned, PlanRead}
 use Rattle.sf_program.specs.Checked.{IsChecked, CheckRead}
+use Rattle.sf_program.specs.Resumed.{IsContinued, ResumeRead}
 use Rattle.sf_program.specs.Measured.{IsMeasured, MeasureRead}
 use Rattle.sf_program.specs.Shaped.{IsShaped, ShapeRead}
 use Rattle.sf_program.specs.Generated.{IsGenerated, GenRead}
 use Rattle.sf_program.specs.Stores.{Stored, AfterStores, Gives, StoppedAt}
 
--- what the command answers where no stage refuses; none but `plan`, `gen` and `check` with `--rewrite` stores anything
+-- what the command answers where no stage refuses; none but `plan`, `gen`, `resume` and `check` with `--rewrite` stores anything
 abbrev pub IsOwnAnswer : Command → Option Contents → Status → List Stored → List ℕ → Type 0
 IsOwnAnswer (plan o) before status stored printed = IsPlanned o before status stored printed
 IsOwnAnswer (check o) before status stored printed = IsChecked o before status stored printed
+IsOwnAnswer (resume o) before status stored printed = IsContinued o before status stored printed
 IsOwnAnswer (measure o) before status stored printed = IsMeasured o before status printed × (stored ≡ [])
 IsOwnAnswer (shape o) before status stored printed = IsShaped o before status printed × (stored ≡ [])
 IsOwnAnswer (gen o) before status stored printed = IsGenerated o status stored printed
@@ -28,6 +30,7 @@ IsOwnAnswer (gen o) before status stored printed = IsGenerated o status stored p
 abbrev pub CommandRefuses : Command → Option Contents → Refusal → Type 0
 CommandRefuses (plan o) before why = PlanRead before o (Err why)
 CommandRefuses (check o) before why = CheckRead before o (Err why)
+CommandRefuses (resume o) before why = ResumeRead before o (Err why)
 CommandRefuses (measure o) before why = MeasureRead before o (Err why)
 CommandRefuses (shape o) before why = ShapeRead before o (Err why)
 CommandRefuses (gen o) before why = GenRead o (Err why)
@@ -63,6 +66,7 @@ RefusesWords words before why = (command : Command) × Means words command × Co
 -- the scale of a command that writes lengths
 abbrev pub HasScale : Command → Type 0
 HasScale (plan o) = IsScale o.design.per_unit
+HasScale (resume o) = IsScale o.design.per_unit
 HasScale other = ⊤
 
 -- the statuses of the program's own answers, where nothing failed

@@ -1,5 +1,5 @@
 -- What the command `check` answers.
-use Rattle.std.specs.Prelude.{◌≡◌, ℕ, List, [], ◌∷◌, ◌++◌, codes, Option, Some, None, Result, Ok, true}
+use Rattle.std.specs.Prelude.{◌≡◌, ℕ, ◌^◌, List, [], ◌∷◌, ◌++◌, codes, Option, Some, None, Result, Ok, Bool, true, false}
 use Rattle.std.specs.Fmt.{decimal}
 use Rattle.sf_io.specs.Outside.{Contents}
 use Rattle.sf_io.specs.declared.status.Status.{Status}
@@ -22,7 +22,7 @@ use Rattle.sf_checker.specs.Answers.{IsAnswer, is_yes}
 use Rattle.sf_words.specs.Meaning.{CheckOptions}
 use Rattle.sf_program.specs.Outcome.{Refusal, Then}
 use Rattle.sf_program.specs.Refusals.{line_of, bad_input, no_line}
-use Rattle.sf_program.specs.Reading.{TextRead, Judged, DesignRead}
+use Rattle.sf_program.specs.Reading.{TextWithin, Judged, DesignRead}
 use Rattle.sf_program.specs.Stores.{Stored}
 
 -- a text that is no certificate; want of memory has no line, and is not met
@@ -34,13 +34,18 @@ cert_refusal (fault.Truncated line) = bad_input (codes "cert") line (codes "Trun
 cert_refusal (fault.Trailing line) = bad_input (codes "cert") line (codes "Trailing" ∷ [])
 cert_refusal fault.NoMemory = no_line
 
+-- the most bytes that a certificate may have: 64 MiB, or 64 GiB where it may be that of a long search
+abbrev pub cert_limit : Bool → ℕ
+cert_limit false = 2 ^ 26
+cert_limit true = 2 ^ 36
+
 -- what the text under the name says as the certificate of so many blocks
-abbrev pub CertRead : Option Contents → List ℕ → ℕ → Result Said Refusal → Type 0
-CertRead held name blocks = Then (TextRead held name) (λ text. Judged (cert_read blocks text) cert_refusal)
+abbrev pub CertRead : Bool → Option Contents → List ℕ → ℕ → Result Said Refusal → Type 0
+CertRead is_long held name blocks = Then (TextWithin (cert_limit is_long) held name) (λ text. Judged (cert_read blocks text) cert_refusal)
 
 -- the design first, and then the certificate for its blocks
 abbrev pub CheckRead : Option Contents → CheckOptions → Result Said Refusal → Type 0
-CheckRead held o = Then (DesignRead held o.design o.weights) (λ design. CertRead held o.cert (block_count design))
+CheckRead held o = Then (DesignRead held o.design o.weights) (λ design. CertRead o.is_long held o.cert (block_count design))
 
 -- the words for a failure, with `none` for MAX
 abbrev pub why_words : Why → List (List ℕ)
@@ -96,13 +101,13 @@ pub record JudgedText (design : Design) (text : List ℕ) (rewrite : Option (Lis
   pub judged : IsJudged design cert rewrite status stored printed
 
 -- the text under the name does
-pub record JudgedFile (held : Option Contents) (name : List ℕ) (design : Design) (rewrite : Option (List ℕ)) (status : Status) (stored : List Stored) (printed : List ℕ) : Type 0 where
+pub record JudgedFile (is_long : Bool) (held : Option Contents) (name : List ℕ) (design : Design) (rewrite : Option (List ℕ)) (status : Status) (stored : List Stored) (printed : List ℕ) : Type 0 where
   pub cert : Cert
-  pub reads : CertRead held name (block_count design) (Ok (said_by cert))
+  pub reads : CertRead is_long held name (block_count design) (Ok (said_by cert))
   pub judged : IsJudged design cert rewrite status stored printed
 
 -- the files stand for a design and a certificate, which is judged
 pub record IsChecked (o : CheckOptions) (before : Option Contents) (status : Status) (stored : List Stored) (printed : List ℕ) : Type 0 where
   pub design : Design
   pub reads : DesignRead before o.design o.weights (Ok design)
-  pub file : JudgedFile before o.cert design o.rewrite status stored printed
+  pub file : JudgedFile o.is_long before o.cert design o.rewrite status stored printed

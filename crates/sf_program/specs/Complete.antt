@@ -2,11 +2,12 @@
 use Rattle.std.specs.Prelude.{⊤, Some, Result, Ok}
 use Rattle.sf_io.specs.Outside.{Contents}
 use Rattle.sf_io.specs.declared.status.Status.{Status}
-use Rattle.sf_io.specs.declared.status.Status.TheVariants.{Done, No, WriteFault, NoMemory}
-use Rattle.sf_words.specs.Meaning.{Command, plan, check, measure, shape, gen}
+use Rattle.sf_io.specs.declared.status.Status.TheVariants.{Done, NoneFits, Open, No, WriteFault, NoMemory}
+use Rattle.sf_words.specs.Meaning.{Command, plan, check, resume, measure, shape, gen}
 use Rattle.sf_program.specs.Outcome.{Refusal}
 use Rattle.sf_program.specs.Planned.{PlanRead}
 use Rattle.sf_program.specs.Checked.{CheckRead}
+use Rattle.sf_program.specs.Resumed.{ResumeRead}
 use Rattle.sf_program.specs.Measured.{MeasureRead}
 use Rattle.sf_program.specs.Shaped.{ShapeRead}
 use Rattle.sf_program.specs.Generated.{GenRead}
@@ -20,6 +21,7 @@ HasValue {X} Read = (x : X) × Read (Ok x)
 abbrev pub IsTaken : Command → Contents → Type 0
 IsTaken (plan o) contents = HasValue (PlanRead (Some contents) o)
 IsTaken (check o) contents = HasValue (CheckRead (Some contents) o)
+IsTaken (resume o) contents = HasValue (ResumeRead (Some contents) o)
 IsTaken (measure o) contents = HasValue (MeasureRead (Some contents) o)
 IsTaken (shape o) contents = HasValue (ShapeRead (Some contents) o)
 IsTaken (gen o) contents = HasValue (GenRead o)
@@ -30,6 +32,14 @@ EndsJudging Done = ⊤
 EndsJudging No = ⊤
 EndsJudging status = ⊥
 
+-- the statuses of `resume`: those of a search, and that the certificate is not valid
+abbrev pub EndsResuming : Status → Type 0
+EndsResuming Done = ⊤
+EndsResuming NoneFits = ⊤
+EndsResuming Open = ⊤
+EndsResuming No = ⊤
+EndsResuming status = ⊥
+
 -- the status of `shape`
 abbrev pub EndsPrinting : Status → Type 0
 EndsPrinting Done = ⊤
@@ -39,6 +49,7 @@ EndsPrinting status = ⊥
 abbrev pub IsOwnEnd : Command → Status → Type 0
 IsOwnEnd (plan o) status = HasSearched status
 IsOwnEnd (check o) status = EndsJudging status
+IsOwnEnd (resume o) status = EndsResuming status
 IsOwnEnd (measure o) status = EndsJudging status
 IsOwnEnd (shape o) status = EndsPrinting status
 IsOwnEnd (gen o) status = HasSearched status

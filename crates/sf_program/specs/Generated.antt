@@ -98,7 +98,7 @@ DesignGenerated o (Err why) = ⊥
 
 -- the budget is tested first
 abbrev pub GenRead : GenOptions → Result Design Refusal → Type 0
-GenRead o = Then (BudgetTested o.nodes o.count) (λ budget. DesignGenerated o)
+GenRead o = Then (BudgetTested false o.nodes o.count) (λ budget. DesignGenerated o)
 
 -- the three texts are stored in this order, before the certificate
 abbrev pub texts_stored : GenOptions → List Stored

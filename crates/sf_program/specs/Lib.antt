@@ -6,6 +6,7 @@ pub mod Loads
 pub mod Stores
 pub mod Planned
 pub mod Checked
+pub mod Resumed
 pub mod Measured
 pub mod Shaped
 pub mod Generated

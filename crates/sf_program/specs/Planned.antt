@@ -1,5 +1,5 @@
 -- What the command `plan` answers.
-use Rattle.std.specs.Prelude.{◌≡◌, ℕ, ◌+◌, ◌*◌, ◌/◌, ◌<◌, ◌≤◌, min, List, [], ◌∷◌, length, codes, Option, Some, None, Result, Ok, Err, true}
+use Rattle.std.specs.Prelude.{◌≡◌, ℕ, ◌+◌, ◌*◌, ◌/◌, ◌<◌, ◌≤◌, min, List, [], ◌∷◌, length, codes, Option, Some, None, Result, Ok, Err, Bool, true, IsFalse}
 use Rattle.sf_io.specs.Outside.{Contents}
 use Rattle.sf_io.specs.declared.status.Status.{Status}
 use Rattle.sf_io.specs.declared.status.Status.TheVariants.{Done, NoneFits, Open}
@@ -44,14 +44,18 @@ abbrev pub budget_of : Option ℕ → ℕ → ℕ
 budget_of None blocks = min 100_000 (node_limit blocks)
 budget_of (Some nodes) blocks = nodes
 
--- a budget past the limit is refused
-abbrev pub BudgetTested : Option ℕ → ℕ → Result ℕ Refusal → Type 0
-BudgetTested nodes blocks (Ok budget) = (budget ≡ budget_of nodes blocks) × (budget ≤ node_limit blocks)
-BudgetTested nodes blocks (Err why) = (node_limit blocks < budget_of nodes blocks) × (why ≡ over_limit (codes "nodes") (budget_of nodes blocks) (node_limit blocks))
+-- a count of subproblems past the limit is refused, but of a long search
+abbrev pub CountTested : Bool → ℕ → ℕ → Result ℕ Refusal → Type 0
+CountTested is_long count blocks (Ok same) = (same ≡ count) × (IsFalse is_long → count ≤ node_limit blocks)
+CountTested is_long count blocks (Err why) = IsFalse is_long × (node_limit blocks < count) × (why ≡ over_limit (codes "nodes") count (node_limit blocks))
+
+-- so is a budget
+abbrev pub BudgetTested : Bool → Option ℕ → ℕ → Result ℕ Refusal → Type 0
+BudgetTested is_long nodes blocks = CountTested is_long (budget_of nodes blocks) blocks
 
 -- the design of admitted parts, where the budget is within its limit
 abbrev pub BudgetedDesign : PlanOptions → WeighedParts → Result Design Refusal → Type 0
-BudgetedDesign o read = Then (BudgetTested o.nodes (length read.parts.blocks)) (λ budget. DesignMade o.design o.weights read)
+BudgetedDesign o read = Then (BudgetTested o.is_long o.nodes (length read.parts.blocks)) (λ budget. DesignMade o.design o.weights read)
 
 -- the files stand for this design, and the budget is within its limit
 abbrev pub PlanRead : Option Contents → PlanOptions → Result Design Refusal → Type 0
@@ -103,10 +107,8 @@ pub record IsSearched (design : Design) (workers budget : ℕ) (cert : Cert) : T
   pub ended : full design ≤ budget → cert.bound ≡ cert.cost
   pub run : workers ≡ 1 → IsCertOf design (turns design (standard design) budget (opening design (standard design) 1)) cert
 
--- the answer of a search: its certificate, and what of it is stored and printed
-pub record IsAnswered (design : Design) (workers budget scale : ℕ) (cert_name : List ℕ) (pl_name : Option (List ℕ)) (status : Status) (stored : List Stored) (printed : List ℕ) : Type 0 where
-  pub cert : Cert
-  pub searched : IsSearched design workers budget cert
+-- the certificate of a search, and what of it is stored and printed
+pub record IsReported (design : Design) (scale : ℕ) (cert_name : List ℕ) (pl_name : Option (List ℕ)) (cert : Cert) (status : Status) (stored : List Stored) (printed : List ℕ) : Type 0 where
   -- no floorplan that fits costs less than the bound, and the checker says Yes to the certificate
   pub floor : IsFloor design cert.bound
   pub accepted : (answer : Answer) → IsAnswer design (standard design) (part_value design) cert answer → is_yes answer ≡ true
@@ -114,6 +116,12 @@ pub record IsAnswered (design : Design) (workers budget scale : ℕ) (cert_name 
   pub ending : IsEnding cert.cost cert.bound said
   pub status_is : status ≡ outcome_status said
   pub told : IsTold design scale cert_name pl_name said cert cert.plan stored printed
+
+-- the answer of a search
+pub record IsAnswered (design : Design) (workers budget scale : ℕ) (cert_name : List ℕ) (pl_name : Option (List ℕ)) (status : Status) (stored : List Stored) (printed : List ℕ) : Type 0 where
+  pub cert : Cert
+  pub searched : IsSearched design workers budget cert
+  pub reported : IsReported design scale cert_name pl_name cert status stored printed
 
 -- the files stand for a design, and this is the answer of its search
 pub record IsPlanned (o : PlanOptions) (before : Option Contents) (status : Status) (stored : List Stored) (printed : List ℕ) : Type 0 where

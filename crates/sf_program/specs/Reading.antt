@@ -27,11 +27,15 @@ use Rattle.sf_program.specs.Outcome.{Refusal, refused, lost, Then}
 use Rattle.sf_program.specs.Refusals.{over_limit, gsrc_refusal, weight_refusal, yal_refusal, join_refusal, build_refusal}
 use Rattle.sf_program.specs.Weighed.{WeighedParts}
 
--- the text under a name, of at most 64 MiB; or no text, where a load of the name may fail
+-- the text under a name, of at most so many bytes; or no text, where a load of the name may fail
+abbrev pub TextWithin : ℕ → Option Contents → List ℕ → Result (List ℕ) Refusal → Type 0
+TextWithin limit held name (Ok text) = Holds held name text × (length text ≤ limit)
+TextWithin limit held name (Err (refused status line)) = HoldsMore held name limit × (refused status line ≡ over_limit (codes "file") (limit + 1) limit)
+TextWithin limit held name (Err lost) = MayFail held name
+
+-- the text under a name, of at most 64 MiB
 abbrev pub TextRead : Option Contents → List ℕ → Result (List ℕ) Refusal → Type 0
-TextRead held name (Ok text) = Holds held name text × (length text ≤ 2 ^ 26)
-TextRead held name (Err (refused status line)) = HoldsMore held name (2 ^ 26) × (refused status line ≡ over_limit (codes "file") (2 ^ 26 + 1) (2 ^ 26))
-TextRead held name (Err lost) = MayFail held name
+TextRead = TextWithin (2 ^ 26)
 
 -- what a reader makes of a text: what the text stands for, or else its first fault
 abbrev pub Said : {X F : Type 0} → (X → Type 0) → Result X F → (F → Refusal) → Result X Refusal → Type 0

@@ -3,13 +3,13 @@
 ghost use Rattle.std.specs.Prelude.{◌≡◌, ◌≤◌, ◌<◌};
 ghost use Rattle.sf_program.specs.Loads.{TellsNoLoad};
 ghost use Rattle.sf_program.specs.Outcome.{Ends};
-ghost use Rattle.sf_program.specs.Planned.{node_limit, budget_of, BudgetTested};
+ghost use Rattle.sf_program.specs.Planned.{node_limit, budget_of, BudgetTested, CountTested};
 
 use crate::refusals::over_limit;
 use crate::stop::Stop;
 use std::alloc::Global;
 
-/// The limit of the budget for so many blocks, which keeps the open subproblems within about 4 GB.
+/// The limit of what a search of so many blocks decides, where it is no long one.
 fn node_limit(blocks: u64) -> u64
     requires { blocks ≤ 320 }
     ensures { result ≡ node_limit blocks }
@@ -28,16 +28,29 @@ pub fn budget_of(nodes: Option<u64>, blocks: u64) -> u64
     }
 }
 
-/// Refuses a budget past its limit.
-pub fn test_budget(alloc: Global, nodes: Option<u64>, blocks: u64) -> Result<(), Stop>
+/// Refuses a count of subproblems past the limit, but of a long search.
+pub fn test_count(alloc: Global, is_long: bool, count: u64, blocks: u64) -> Result<(), Stop>
     requires { blocks ≤ 320 }
-    ensures budget { Ends (λ _. budget_of nodes blocks) result (BudgetTested nodes blocks) }
+    ensures count { Ends (λ _. count) result (CountTested is_long count blocks) }
     ensures tells { TellsNoLoad result }
 {
-    let budget = budget_of(nodes, blocks);
     let limit = node_limit(blocks);
-    if budget > limit {
-        return Err(over_limit(alloc, "nodes", budget, limit)?);
+    if !is_long && count > limit {
+        return Err(over_limit(alloc, "nodes", count, limit)?);
     }
     Ok(())
+}
+
+/// Refuses a budget past its limit, but of a long search.
+pub fn test_budget(
+    alloc: Global,
+    is_long: bool,
+    nodes: Option<u64>,
+    blocks: u64,
+) -> Result<(), Stop>
+    requires { blocks ≤ 320 }
+    ensures budget { Ends (λ _. budget_of nodes blocks) result (BudgetTested is_long nodes blocks) }
+    ensures tells { TellsNoLoad result }
+{
+    test_count(alloc, is_long, budget_of(nodes, blocks), blocks)
 }

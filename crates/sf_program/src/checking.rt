@@ -17,8 +17,8 @@ ghost use Rattle.sf_program.specs.Reading.{Judged};
 ghost use Rattle.sf_program.specs.Stores.{Gives};
 
 use crate::answering::{answer_work, cert_fault};
+use crate::certificates::load_cert;
 use crate::designs::read_design;
-use crate::reading::load_text;
 use crate::rewriting::rewrite_text;
 use crate::stop::Stop;
 use crate::work::{Work, no_stores};
@@ -82,16 +82,17 @@ fn check_file<S: Shelf>(
     alloc: Global,
     shelf: &mut S,
     name: &str,
+    is_long: bool,
     design: &Design,
     rewrite: Option<&str>,
 ) -> Result<Work, Stop>
-    ensures answer { IfOk result
-        (Gives (JudgedFile (S.seen shelf.old).holds name.now design.now (text_of rewrite.entry))) }
-    ensures refused { IfErr result (λ stop.
-        Stops stop (λ why. CertRead (S.seen shelf.old).holds name.now (block_count design.now) (Err why))) }
+    ensures answer { let rewrite = text_of rewrite.entry in IfOk result
+        (Gives (JudgedFile is_long (S.seen shelf.old).holds name.now design.now rewrite)) }
+    ensures refused { let blocks = block_count design.now in IfErr result (λ stop.
+        Stops stop (λ why. CertRead is_long (S.seen shelf.old).holds name.now blocks (Err why))) }
     ensures shelf { ReadsShelf (S.seen shelf.old) (S.seen shelf.new) result }
 {
-    let text = load_text(alloc, shelf, name)?;
+    let text = load_cert(alloc, shelf, name, is_long)?;
     match rewrite {
         None => judge_text(alloc, &text, design),
         Some(rewrite) => rewrite_text(alloc, &text, design, rewrite),
@@ -105,5 +106,12 @@ pub fn check<S: Shelf>(alloc: Global, words: &CheckWords<'_>, shelf: &mut S) -> 
     ensures shelf { ReadsShelf (S.seen shelf.old) (S.seen shelf.new) result }
 {
     let design = read_design(alloc, shelf, &words.design, words.weights)?;
-    check_file(alloc, shelf, words.cert, &design, words.rewrite)
+    check_file(
+        alloc,
+        shelf,
+        words.cert,
+        words.is_long,
+        &design,
+        words.rewrite,
+    )
 }

@@ -13,6 +13,7 @@ use crate::checking::check;
 use crate::generating::generate;
 use crate::measuring::measure;
 use crate::planning::plan;
+use crate::resuming::resume;
 use crate::shaping::shape;
 use crate::stop::Stop;
 use crate::work::Work;
@@ -49,6 +50,7 @@ fn obey<R: Threads + Sync, S: Shelf, G: Gate>(
     match command {
         CommandWords::Plan(words) => plan(rt, alloc, &words, shelf, gate),
         CommandWords::Check(words) => check(alloc, &words, shelf),
+        CommandWords::Resume(words) => resume(rt, alloc, &words, shelf, gate),
         CommandWords::Measure(words) => measure(alloc, &words, shelf),
         CommandWords::Shape(words) => shape(alloc, &words, shelf),
         CommandWords::Gen(words) => generate(rt, alloc, &words, gate),

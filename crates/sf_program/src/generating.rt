@@ -220,7 +220,7 @@ pub fn generate<R: Threads + Sync, G: Gate>(
     ensures refused { IfErr result (λ stop. Stops stop (λ why. GenRead (gen_seen words.now) (Err why))) }
     ensures tells { TellsNoLoad result }
 {
-    test_budget(alloc, words.nodes, u64::from(words.count))?;
+    test_budget(alloc, false, words.nodes, u64::from(words.count))?;
     let texts = made_texts(alloc, words)?;
     let parts = read_back(alloc, words, &texts)?;
     let design = made_design(alloc, words, parts)?;

@@ -8,6 +8,7 @@
 
 mod answering;
 mod budget;
+mod certificates;
 mod checking;
 mod commands;
 mod designs;
@@ -21,6 +22,7 @@ mod planning;
 mod program;
 mod reading;
 mod refusals;
+mod resuming;
 mod rewriting;
 mod shaping;
 mod stop;

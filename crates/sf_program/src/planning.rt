@@ -3,14 +3,15 @@
 ghost use Rattle.std.specs.Prelude.{◌≡◌, IfOk};
 ghost use Rattle.sf_model.specs.Admitted.{HasPinsInRange, HasSizes, IsAdmitted};
 ghost use Rattle.sf_model.specs.Legal.{block_count};
-ghost use Rattle.sf_certificate.specs.Valid.{decided};
+ghost use Rattle.sf_certificate.specs.Valid.{IsValid, decided};
 ghost use Rattle.sf_pl_writer.specs.Length.{IsScale};
+ghost use Rattle.sf_standard.specs.Standard.{standard, part_value};
 ghost use Rattle.sf_words.specs.Seen.{plan_seen, text_of};
 ghost use Rattle.sf_words.specs.Meaning.{plan};
 ghost use Rattle.sf_program.specs.Answer.{Obeys};
 ghost use Rattle.sf_program.specs.Loads.{ReadsShelf, TellsNoLoad};
 ghost use Rattle.sf_program.specs.Outcome.{Ends};
-ghost use Rattle.sf_program.specs.Planned.{IsAnswered, IsSearched, BudgetedDesign, PlanRead};
+ghost use Rattle.sf_program.specs.Planned.{IsAnswered, IsReported, BudgetedDesign, PlanRead};
 ghost use Rattle.sf_program.specs.Planned.{budget_of};
 ghost use Rattle.sf_program.specs.Stores.{Gives};
 ghost use Rattle.sf_program.specs.Weighed.{weighed_in};
@@ -48,26 +49,26 @@ fn within_budget(alloc: Global, words: &PlanWords<'_>, read: Weighed) -> Result<
 {
     admitted_parts_keep_limits();
     let blocks = read.parts.blocks.as_slice().len() as u64;
-    match test_budget(alloc, words.nodes, blocks) {
+    match test_budget(alloc, words.is_long, words.nodes, blocks) {
         Ok(()) => make_design(alloc, &words.design, words.weights, read),
         Err(stop) => Err(stop),
     }
 }
 
-/// What is told of the search of a design.
-fn tell_found(
+/// What is told of a search of a design.
+pub fn tell_found(
     alloc: Global,
     design: &Design,
-    options: SearchOptions,
     found: Found,
     names: Names<'_>,
 ) -> Result<Work, NoMemory>
-    requires searched { IsSearched design.now options.workers options.nodes found.cert }
+    requires valid { IsValid design.now (standard design.now) (part_value design.now) found.cert }
+    requires blocks { found.cert.blocks ≡ block_count design.now }
     requires plan { found.plan ≡ found.cert.plan }
     requires decided { found.decided ≡ decided found.cert.tags }
     requires scale { IsScale names.scale }
     ensures { let names = names.entry in IfOk result (Gives
-        (IsAnswered design.now options.workers options.nodes names.scale names.cert.now (text_of names.pl))) }
+        (IsReported design.now names.scale names.cert.now (text_of names.pl) found.cert)) }
 {
     let Found {
         plan,
@@ -126,5 +127,5 @@ pub fn search_design<R: Threads + Sync, G: Gate>(
     let nodes = budget_of(nodes, u64::from(design.block_count()));
     let options = SearchOptions { workers, nodes };
     let found = search(rt, alloc, design, &Standard, options, gate)?;
-    tell_found(alloc, design, options, found, names)
+    tell_found(alloc, design, found, names)
 }

@@ -3,11 +3,12 @@
 ghost use Rattle.std.specs.Prelude.{◌≡◌, ◌≢◌, ◌≤◌, ◌⊎◌, map, Some, OnOk, OnErr, IsFalse, string_bytes};
 ghost use Rattle.std.specs.Io.KnownBytes.{Appends};
 ghost use Rattle.sf_io.specs.Outside.{Contents, Rose};
-ghost use Rattle.sf_words.specs.Meaning.{Command, GenOptions, PlanOptions, gen, plan, Means};
+ghost use Rattle.sf_words.specs.Meaning.{Command, GenOptions, PlanOptions, ResumeOptions, Means};
+ghost use Rattle.sf_words.specs.Meaning.{gen, plan, resume};
 ghost use Rattle.sf_program.specs.Answer.{IsAnswer, IsDone, IsHalted, IsSilent, RefusesWords};
 ghost use Rattle.sf_program.specs.Answer.{StoreOrPrintFailed};
 ghost use Rattle.sf_program.specs.Complete.{IsTaken, MayEnd};
-ghost use Rattle.sf_program.specs.Headline.{HasSearched, IsHeadline};
+ghost use Rattle.sf_program.specs.Headline.{HasSearched, IsHeadline, IsHeadlineOn};
 ghost use Rattle.sf_program.specs.Generated.{GenRead};
 ghost use Rattle.sf_program.specs.Outcome.{lost};
 ghost use Rattle.sf_program.specs.Planned.{PlanRead};
@@ -79,6 +80,8 @@ pub fn run<R: Threads + Sync, S: Shelf, K: Sink, G: Gate>(
         (K.seen out.old).taken (K.seen out.new).taken result }
     ensures generated { HasSearched result → (o : GenOptions) → Means (map string_bytes words.now) (gen o) →
         IsHeadline (GenRead o) o.nodes (K.seen out.old).taken (K.seen out.new).taken result }
+    ensures resumed { HasSearched result → (o : ResumeOptions) → Means (map string_bytes words.now) (resume o) →
+        IsHeadlineOn o (S.seen shelf.old).holds (K.seen out.old).taken (K.seen out.new).taken result }
 
     // Where nothing fails, the answer that the words and the texts on the shelf have is stored and printed
     // whole. The checker says Yes to each certificate that is stored, and each closed subproblem of it

@@ -1,13 +1,13 @@
 //! From the named files to the parts of a design.
 
-ghost use Rattle.std.specs.Prelude.{◌≡◌, ◌≤◌, length, codes, All, IfOk, IfSome};
+ghost use Rattle.std.specs.Prelude.{◌≡◌, ◌≤◌, ◌^◌, length, codes, All, IfOk, IfSome};
 ghost use Rattle.sf_words.specs.Seen.{input_seen, text_of};
 ghost use Rattle.sf_model.specs.Admitted.{HasPinsInRange, HasSizes, IsSized};
 ghost use Rattle.sf_gsrc.specs.Join.{nets_in};
 ghost use Rattle.sf_gsrc.specs.Ranges.{HasPinsInAnyRange};
 ghost use Rattle.sf_program.specs.Loads.{ReadsShelf, TellsNoLoad};
 ghost use Rattle.sf_program.specs.Outcome.{Ends};
-ghost use Rattle.sf_program.specs.Reading.{TextRead, BlocksRead, NetsRead, PlacesRead, YalRead, YalWeighed};
+ghost use Rattle.sf_program.specs.Reading.{TextRead, TextWithin, BlocksRead, NetsRead, PlacesRead, YalRead, YalWeighed};
 ghost use Rattle.sf_program.specs.Reading.{IfNamed, JoinedRead, GsrcRead, PartsRead};
 ghost use Rattle.sf_program.specs.Weighed.{weighed_in};
 
@@ -24,19 +24,33 @@ use sf_words::InputFiles;
 use std::alloc::Global;
 
 /// The most bytes that a file may have: 64 MiB.
-const FILE_LIMIT: u64 = 67_108_864;
+pub const FILE_LIMIT: u64 = 67_108_864;
+
+/// The bytes under a name, of which there may be so many.
+pub fn load_within<S: Shelf>(
+    alloc: Global,
+    shelf: &mut S,
+    name: &str,
+    limit: u64,
+) -> Result<Vec<u8>, Stop>
+    requires { limit ≤ 2 ^ 36 }
+    ensures text { Ends (λ v. v.items) result (TextWithin limit (S.seen shelf.old).holds name.now) }
+    ensures shelf { ReadsShelf (S.seen shelf.old) (S.seen shelf.new) result }
+{
+    match shelf.load(name, limit) {
+        Ok(text) => Ok(text),
+        Err(LoadFault::TooLong) => Err(over_limit(alloc, "file", limit + 1, limit)?),
+        Err(LoadFault::Failed) => Err(Stop::ReadFault),
+        Err(LoadFault::NoMemory) => Err(Stop::NoMemory),
+    }
+}
 
 /// The bytes under a name.
 pub fn load_text<S: Shelf>(alloc: Global, shelf: &mut S, name: &str) -> Result<Vec<u8>, Stop>
     ensures text { Ends (λ v. v.items) result (TextRead (S.seen shelf.old).holds name.now) }
     ensures shelf { ReadsShelf (S.seen shelf.old) (S.seen shelf.new) result }
 {
-    match shelf.load(name, FILE_LIMIT) {
-        Ok(text) => Ok(text),
-        Err(LoadFault::TooLong) => Err(over_limit(alloc, "file", FILE_LIMIT + 1, FILE_LIMIT)?),
-        Err(LoadFault::Failed) => Err(Stop::ReadFault),
-        Err(LoadFault::NoMemory) => Err(Stop::NoMemory),
-    }
+    load_within(alloc, shelf, name, FILE_LIMIT)
 }
 
 /// What a blocks file stands for.

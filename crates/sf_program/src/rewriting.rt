@@ -1,8 +1,8 @@
 //! A certificate that is stored anew: where it is valid, each closed subproblem names the first part of the
 //! bound that is at least the cost.
 
-ghost use Rattle.std.specs.Prelude.{◌≡◌, ◌≤◌, Some, Ok, Err, IfErr, IfOk};
-ghost use Rattle.sf_certificate.specs.Reading.{cert_read, said_by};
+ghost use Rattle.std.specs.Prelude.{◌≡◌, Some, Err, IfErr, IfOk};
+ghost use Rattle.sf_certificate.specs.Reading.{cert_read};
 ghost use Rattle.sf_certificate.specs.Valid.{IsValid};
 ghost use Rattle.sf_checker.specs.Answers.{IsAnswer};
 ghost use Rattle.sf_model.specs.Legal.{block_count};
@@ -13,29 +13,16 @@ ghost use Rattle.sf_program.specs.Outcome.{Stops};
 ghost use Rattle.sf_program.specs.Reading.{Judged};
 ghost use Rattle.sf_program.specs.Stores.{Gives, stored_in};
 
-use crate::answering::{answer_work, cert_fault};
+use crate::answering::answer_work;
+use crate::certificates::read_cert;
 use crate::plan_answer::stored_cert;
 use crate::stop::Stop;
 use crate::work::{Store, Work, no_stores};
 use sf_bounds::Standard;
-use sf_certificate::{Cert, read};
+use sf_certificate::Cert;
 use sf_checker::{Answer, check, name_parts};
 use sf_model::Design;
 use std::alloc::{AllocError as NoMemory, Global};
-
-/// The certificate that a text says.
-fn read_cert(alloc: Global, text: &[u8], design: &Design) -> Result<Cert, Stop>
-    ensures cert { IfOk result (λ c. cert_read (block_count design.now) text.now ≡ Ok (said_by c)) }
-    ensures blocks { IfOk result (λ c. c.blocks ≡ block_count design.now) }
-    ensures refused { IfErr result (λ stop.
-        Stops stop (λ why. Judged (cert_read (block_count design.now) text.now) cert_refusal (Err why))) }
-    ensures tells { TellsNoLoad result }
-{
-    match read(alloc, text, design.block_count()) {
-        Ok(cert) => Ok(cert),
-        Err(fault) => Err(cert_fault(alloc, fault)?),
-    }
-}
 
 /// The store of a valid certificate with its parts named anew.
 fn stored_anew(

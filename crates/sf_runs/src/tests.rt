@@ -10,6 +10,7 @@ mod many;
 mod measuring;
 mod planning;
 mod reading;
+mod resuming;
 mod rewriting;
 mod shaping;
 mod texts;

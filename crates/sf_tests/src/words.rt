@@ -21,7 +21,10 @@ const TAKEN: &str = "--outline 1048576x1
 --area-weight 0 --wire-weight 65535
 --net-weights w=w
 --workers 00000000000000000016
---nodes 1";
+--nodes 1
+--long
+--long --nodes 4000001
+--nodes 1000000000000 --long";
 
 /// More words behind those of a plan, with which they have none.
 const REFUSED: &str = "--outline 1048577x1
@@ -46,8 +49,14 @@ const REFUSED: &str = "--outline 1048577x1
 --workers 000000000000000000016
 --nodes 0
 --nodes 4000001
+--nodes 1000000000001 --long
+--nodes 0 --long
 --nodes +1
 --nodes
+--long=on
+--long on
+--long --long
+--cert-out e
 --yal b
 --fixed=on
 --fixed on
@@ -67,6 +76,25 @@ help
 -h
 --version
 -V";
+
+/// More words behind those of a search that goes on, with which they have a meaning.
+const GOES_ON: &str = "--nodes 1
+--nodes 4000000 --workers 16 --pl-out e
+--long --nodes 1000000000000
+--nodes 1 --net-weights w --wire-weight 1 --fixed";
+
+/// More words behind those of a search that goes on, with which they have none.
+const GOES_NOWHERE: &str = "
+--nodes 0
+--nodes 4000001
+--nodes 1000000000001 --long
+--nodes 1 --workers 0
+--nodes 1 --workers 17
+--nodes 1 --rewrite e
+--nodes 1 --cert-out e
+--nodes 1 --placed p
+--nodes 1 --pl-out -e
+--long";
 
 /// Lists of words without a meaning, the empty list first.
 const WITHOUT: &str = "
@@ -88,7 +116,17 @@ check --cert d --format gsrc --blocks a --rewrite
 check --cert d --format gsrc --blocks a --rewrite=
 check --cert d --format gsrc --blocks a --rewrite -r
 check --cert d --format gsrc --blocks a --rewrite r --rewrite r
+resume --cert d --nodes 1 --format gsrc --blocks a
+resume --cert-out d --nodes 1 --format gsrc --blocks a
+resume --cert c --cert-out d --nodes 1 --format gsrc
+resume --cert c --cert-out -d --nodes 1 --format gsrc --blocks a
+check --cert c --cert-out d --format gsrc --blocks a
+check --cert c --long=on --format gsrc --blocks a
 measure --placed p --format gsrc --blocks a --rewrite r
+measure --placed p --format gsrc --blocks a --long
+shape --format gsrc --blocks a --expr e --long
+gen --seed 7 --count 4 --out g --long
+gen --seed 7 --count 4 --out g --nodes 4000001
 shape --format gsrc --blocks a --expr e --rewrite r
 shape --format gsrc --blocks a --expr e --net-weights w
 gen --seed 7 --count 4 --out g --net-weights w
@@ -135,12 +173,21 @@ fn has_meaning(alloc: Global, texts: &[&str]) -> Result<bool, Fail> {
 #[test]
 fn all_options(rt: HostRuntime) -> Result<(), Fail> {
     let alloc = rt.alloc();
-    let search = "--cert d --pl-out e --workers 16 --nodes 4000000";
+    let search = "--cert d --pl-out e --workers 16 --nodes 1000000000000 --long";
+    let goes_on = "--cert d --cert-out e --pl-out f --workers 16 --nodes 1000000000000 --long";
     let rows = [
         ["plan", GSRC, DESIGN, WEIGHTS, search],
         ["plan", YAL, DESIGN, WEIGHTS, search],
-        ["check", GSRC, DESIGN, WEIGHTS, "--cert d --rewrite e"],
-        ["check", YAL, DESIGN, WEIGHTS, "--cert d --rewrite e"],
+        [
+            "check",
+            GSRC,
+            DESIGN,
+            WEIGHTS,
+            "--cert d --rewrite e --long",
+        ],
+        ["check", YAL, DESIGN, WEIGHTS, "--cert d --rewrite e --long"],
+        ["resume", GSRC, DESIGN, WEIGHTS, goes_on],
+        ["resume", YAL, DESIGN, WEIGHTS, goes_on],
         ["measure", GSRC, DESIGN, WEIGHTS, "--placed d"],
         ["measure", YAL, DESIGN, WEIGHTS, "--placed d"],
         ["shape", GSRC, DESIGN, "", "--expr d"],
@@ -198,6 +245,28 @@ fn values_of_plan(rt: HostRuntime) -> Result<(), Fail> {
     Ok(())
 }
 
+/// So it is of `resume`, whose budget may be as great as that of a long search.
+#[test]
+fn values_of_resume(rt: HostRuntime) -> Result<(), Fail> {
+    let alloc = rt.alloc();
+    let words = spaced(
+        alloc,
+        &[
+            "resume --cert c --cert-out d --long --nodes 0000004000001",
+            YAL,
+        ],
+    )?;
+    let Some(CommandWords::Resume(read)) = read_words(alloc, &words)? else {
+        return Err("resume".into());
+    };
+    assert!(rt; read.cert == "c" && read.cert_out == "d" && read.pl_out.is_none());
+    assert_eq!(rt;
+        (read.workers, read.nodes, read.is_long),
+        (1, 4_000_001, true)
+    );
+    Ok(())
+}
+
 /// The outline of `shape` is in scaled units.
 #[test]
 fn values_of_shape(rt: HostRuntime) -> Result<(), Fail> {
@@ -242,6 +311,13 @@ fn edges(rt: HostRuntime) -> Result<(), Fail> {
     }
     for more in REFUSED.lines() {
         assert!(rt; !has_meaning(alloc, &[plan, more])?, "{more}");
+    }
+    let resume = "resume --cert c --cert-out d --format gsrc --blocks a";
+    for more in GOES_ON.lines() {
+        assert!(rt; has_meaning(alloc, &[resume, more])?, "{more}");
+    }
+    for more in GOES_NOWHERE.lines() {
+        assert!(rt; !has_meaning(alloc, &[resume, more])?, "{more}");
     }
     for list in WITHOUT.lines() {
         assert!(rt; !has_meaning(alloc, &[list])?, "{list}");

@@ -1,9 +1,6 @@
 -- One more option, and one more command.
 use Rattle.std.proofs.Common.{◌≡◌, refl, List, [], ◌∷◌, ◌++◌}
-use Rattle.clap.specs.Words.{App, with_rule, with_subcommand}
-use Rattle.sf_words.specs.declared.options.Key.{Key}
-use Rattle.sf_words.specs.declared.options.Mode.{Mode}
-use Rattle.sf_words.specs.App.{with_keys, with_modes, rule_of_key, subcommand_for}
+use Rattle.sf_words.proofs.Common.{App, with_rule, with_subcommand, Key, Mode, with_keys, with_modes, rule_of_key, subcommand_for}
 
 -- a command with one more option at the end is the command with the others, and then with this one
 pub with_keys-push : (app : App) (keys : List Key) (key : Key) → with_keys app (keys ++ key ∷ []) ≡ with_rule (with_keys app keys) (rule_of_key key)

@@ -1,11 +1,8 @@
 -- What clap's texts mean is what the words mean.
 use Rattle.std.proofs.Common.{◌≡◌, List, Option, Some, None, option_map, sym, ap, subst, ◌∙◌}
-use Rattle.clap.specs.Words.{Row, Text}
-use Rattle.sf_words.specs.declared.options.Mode.{Mode}
-use Rattle.sf_words.specs.Words.{Token, HasForm}
-use Rattle.sf_words.specs.Meaning.{Command, Values, value_in, mode_of, Says, Means, HasNoMeaning}
+use Rattle.clap.specs.Words.{Text}
+use Rattle.sf_words.proofs.Common.{Row, Mode, Token, HasForm, Command, Values, value_in, mode_of, Says, Means, HasNoMeaning, texts_in, rows_for}
 use Rattle.sf_words.proofs.Unique.{form_unique}
-use Rattle.sf_words.specs.Kept.{texts_in, rows_for}
 use Rattle.sf_words.proofs.KeptTexts.{texts_are}
 
 -- what clap gives as a subcommand's rows are the rows that were found

@@ -1,14 +1,8 @@
 -- What clap keeps is what the options have.
 use Rattle.std.proofs.Common.{◌≡◌, ◌≢◌, true, false, List, Option, Some, None, map, refl, ap, ◌∙◌, codes}
-use Rattle.std.specs.Str.{bytes_eq}
-use Rattle.clap.specs.Words.{Row, Text, first_of}
-use Rattle.sf_words.specs.declared.options.Key.{Key}
-use Rattle.sf_words.specs.declared.options.Mode.{Mode}
-use Rattle.sf_words.specs.Table.{key_text, is_flag, keys_of}
-use Rattle.sf_words.specs.Words.{Token, AreOptions}
-use Rattle.sf_words.specs.Meaning.{value_in}
+use Rattle.sf_words.proofs.Common.{bytes_eq, Row, first_of, Key, Mode, key_text, is_flag, keys_of, Token, AreOptions, value_in, flag_text, texts_in, row_of, rows_for}
+use Rattle.clap.specs.Words.{Text}
 use Rattle.sf_words.proofs.Lookup.{bytes_eq-other}
-use Rattle.sf_words.specs.Kept.{flag_text, texts_in, row_of, rows_for}
 use Rattle.sf_words.proofs.Rows.{texts_kept, texts_in_rows}
 
 -- a flag whose text is not `true` is not given

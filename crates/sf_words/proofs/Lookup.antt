@@ -1,10 +1,7 @@
 -- The text of an option among others.
 use Rattle.std.proofs.Common.{◌≡◌, ◌≢◌, true, false, Option, Some, None, IfNone, ap}
-use Rattle.std.specs.Str.{bytes_eq}
-use Rattle.std.proofs.lemmas.Bool.{false_from_ne_true}
+use Rattle.sf_words.proofs.Common.{bytes_eq, false_from_ne_true, Key, Text, key_text}
 use Rattle.std.proofs.lemmas.Slice.Eq.{bytes_eq-Decides}
-use Rattle.sf_words.specs.declared.options.Key.{Key}
-use Rattle.sf_words.specs.Table.{Text, key_text}
 use Rattle.sf_words.proofs.Texts.{key_text-injective}
 
 -- different texts compare as different

@@ -1,7 +1,6 @@
 -- The defaults of the options that take numbers.
 use Rattle.std.proofs.Common.{IfSome, lit≤}
-use Rattle.sf_words.specs.declared.options.Key.{Key}
-use Rattle.sf_words.specs.declared.options.Key.TheVariants.{PerUnit, Shapes, AreaWeight, WireWeight, Workers}
+use Rattle.sf_words.proofs.Common.{Key, PerUnit, Shapes, AreaWeight, WireWeight, Workers}
 use Rattle.sf_words.specs.Numbers.{range, default_of, IsAllowed}
 
 -- a default is in the range of its option

@@ -1,16 +1,9 @@
 -- The options that clap knows.
 use Rattle.std.proofs.Common.{◌≡◌, inl, inr, Bool, not, ◌&&◌, List, [], ◌∷◌, Some, Contains, map, find, is_some, refl, ap, ◌∙◌, arith, zero, suc}
-use Rattle.std.specs.Str.{bytes_eq}
-use Rattle.clap.specs.Words.{Rule, Text}
-use Rattle.clap.specs.Simple.{filled}
-use Rattle.clap.specs.Walk.{arg_by_id, arg_by_long, has_long}
-use Rattle.std.proofs.lemmas.Bool.{cases_Bool, cond_both}
+use Rattle.sf_words.proofs.Common.{bytes_eq, Rule, filled, arg_by_id, arg_by_long, has_long, cases_Bool, cond_both, Key, key_text, is_flag, value_rule, flag_rule, full}
+use Rattle.clap.specs.Words.{Text}
 use Rattle.std.proofs.Math.Bool.{or-false}
-use Rattle.sf_words.specs.declared.options.Key.{Key}
-use Rattle.sf_words.specs.Table.{key_text, is_flag}
 use Rattle.sf_words.proofs.Lookup.{same_text, named_same}
-use Rattle.sf_words.specs.App.{value_rule, flag_rule}
-use Rattle.sf_words.specs.Kept.{full}
 
 -- a test that tells flags and other options by their names tells all options by their names
 tells : (p : Rule → Bool) (k : Key) → ((name : Text) → p (filled (flag_rule name)) ≡ bytes_eq name (key_text k)) → ((name : Text) → p (filled (value_rule name)) ≡ bytes_eq name (key_text k))

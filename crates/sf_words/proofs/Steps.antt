@@ -1,15 +1,9 @@
 -- What a walk makes of the words of one option.
 use Rattle.std.proofs.Common.{◌≡◌, ℕ, true, false, ◌==◌, List, [], ◌∷◌, ◌++◌, Some, None, Contains, map, refl, ◌∙◌}
-use Rattle.clap.specs.Words.{Rule, Shape, Text}
-use Rattle.clap.specs.Simple.{filled}
-use Rattle.clap.specs.Walk.{Walk, Held, idle, option, walked, reacted, settled, arg_by_id, arg_by_long, has_row}
-use Rattle.clap.specs.Takes.{settle_passes, turn_passes}
+use Rattle.clap.specs.Words.{Text}
+use Rattle.sf_words.proofs.Common.{Rule, Shape, filled, Walk, Held, idle, option, walked, reacted, settled, arg_by_id, arg_by_long, has_row, settle_passes, turn_passes, Key, key_text, is_flag, value_rule, flag_rule, full}
 use Rattle.sf_words.proofs.Lookup.{same_text}
-use Rattle.sf_words.specs.declared.options.Key.{Key}
-use Rattle.sf_words.specs.Table.{key_text, is_flag}
-use Rattle.sf_words.specs.App.{value_rule, flag_rule}
 use Rattle.sf_words.proofs.Texts.{named}
-use Rattle.sf_words.specs.Kept.{full}
 use Rattle.sf_words.proofs.Rules.{find_id, find_long}
 
 -- the walk between two options

@@ -1,10 +1,6 @@
 -- The options that words are made of are determined by the words.
 use Rattle.std.proofs.Common.{◌≡◌, ◌≢◌, ℕ, true, false, List, [], ◌∷◌, ◌++◌, Contains, refl, ◌≤◌, length, get_or, drop, take, subst, ◌<◌, zero, suc, ◌-◌, map, arith, sym, ap, ap₂, ◌∙◌}
-use Rattle.std.proofs.lemmas.List.{append-nil, take_all}
-use Rattle.sf_words.specs.declared.options.Key.{Key}
-use Rattle.sf_words.specs.declared.options.Mode.{Mode}
-use Rattle.sf_words.specs.Table.{Text, key_text, is_flag, keys_of}
-use Rattle.sf_words.specs.Words.{Token, attached, spaced, alone, key_of, key_word, before, words_of, IsValue, IsShaped, IsNew, AreOptions}
+use Rattle.sf_words.proofs.Common.{append-nil, take_all, Key, Mode, Text, key_text, is_flag, keys_of, Token, attached, spaced, alone, key_of, key_word, before, words_of, IsValue, IsShaped, IsNew, AreOptions}
 use Rattle.sf_words.proofs.Texts.{key_text-injective, attached_unique, attached_not_alone}
 
 -- the words of options, in front of others

@@ -1,15 +1,10 @@
 -- A list of words has at most one meaning.
-use Rattle.std.proofs.Common.{◌≡◌, ℕ, List, Option, Some, None, MatchOption, codes, refl, sym, ap, subst, ◌∙◌}
-use Rattle.sf_words.specs.declared.options.Mode.{Mode}
-use Rattle.sf_words.specs.declared.options.Key.{Key}
-use Rattle.sf_words.specs.declared.options.Key.TheVariants.{PerUnit, Shapes, Outline, AreaWeight, WireWeight, Workers, Nodes, Seed, Count}
-use Rattle.sf_words.specs.Table.{Text}
-use Rattle.sf_words.specs.Words.{Token, HasForm}
-use Rattle.sf_words.specs.Numbers.{IsWithin, SaysNumber, SaysOptional, range}
+use Rattle.std.proofs.Common.{◌≡◌, ℕ, List, Bool, Option, Some, None, MatchOption, codes, refl, sym, ap, subst, ◌∙◌}
+use Rattle.sf_words.proofs.Common.{Mode, Key, PerUnit, Shapes, Outline, AreaWeight, WireWeight, Workers, Seed, Count, Text, Token, HasForm, Values, value_in, Input, gsrc, yal, InputSays, DesignOptions, DesignSays, WeightOptions, WeightsSay, PlanOptions, PlanSays, CheckOptions, CheckSays, ResumeOptions, ResumeSays, MeasureOptions, MeasureSays, ShapeOptions, ShapeSays, KindsSay, GenOptions, GenSays, Command, plan, check, resume, measure, shape, gen, mode_of, Says, Means}
+use Rattle.sf_words.specs.Numbers.{IsWithin, SaysNumber, SaysNodes, range}
 use Rattle.sf_words.specs.declared.command.Kinds.{Kinds}
 use Rattle.sf_words.specs.declared.command.Kinds.TheVariants.{Hard, Mixed}
 use Rattle.sf_words.specs.Outline.{OutlineSays}
-use Rattle.sf_words.specs.Meaning.{Values, value_in, Input, gsrc, yal, InputSays, DesignOptions, DesignSays, WeightOptions, WeightsSay, PlanOptions, PlanSays, CheckOptions, CheckSays, MeasureOptions, MeasureSays, ShapeOptions, ShapeSays, KindsSay, GenOptions, GenSays, Command, plan, check, measure, shape, gen, mode_of, Says, Means}
 use Rattle.sf_words.proofs.Texts.{mode_text-injective}
 use Rattle.sf_words.proofs.Tokens.{options_unique, heads_same, tails_same}
 
@@ -23,14 +18,14 @@ pub number_unique : (key : Key) (text : Option Text) (m n : ℕ) → SaysNumber 
 number_unique key None m n g h = cc
 number_unique key (Some text) m n g h = within_unique (range key) text m n g h
 
--- an option without a default says at most one number, and never both one and none
-pub optional_unique : (key : Key) (text : Option Text) (m n : Option ℕ) → SaysOptional key text m → SaysOptional key text n → m ≡ n
-optional_unique key None None None g h = refl
-optional_unique key (Some text) (Some m) (Some n) g h = ap Some (within_unique (range key) text m n g h)
-optional_unique key None None (Some n) g h = absurd h
-optional_unique key None (Some m) n g h = absurd g
-optional_unique key (Some text) None n g h = absurd g
-optional_unique key (Some text) (Some m) None g h = absurd h
+-- the budget's option says at most one number, and never both one and none
+pub nodes_unique : (a b : Bool) (text : Option Text) (m n : Option ℕ) → a ≡ b → SaysNodes a text m → SaysNodes b text n → m ≡ n
+nodes_unique a b None None None e g h = refl
+nodes_unique a b (Some text) (Some m) (Some n) e g h = cc (e, g.value, h.value)
+nodes_unique a b None None (Some n) e g h = absurd h
+nodes_unique a b None (Some m) n e g h = absurd g
+nodes_unique a b (Some text) None n e g h = absurd g
+nodes_unique a b (Some text) (Some m) None e g h = absurd h
 
 -- an option has at most one text
 texts_same : (r : Option Text) (x y : Text) → r ≡ Some x → r ≡ Some y → x ≡ y
@@ -76,8 +71,9 @@ plan_unique v a b g h =
     let cert = texts_same _ _ _ g.cert h.cert in
     let pl_out = sym g.pl_out ∙ h.pl_out in
     let workers = number_unique Workers _ _ _ g.workers h.workers in
-    let nodes = optional_unique Nodes _ _ _ g.nodes h.nodes in
-    λ i. record { design = design i; weights = weights i; cert = cert i; pl_out = pl_out i; workers = workers i; nodes = nodes i }
+    let long = g.is_long ∙ sym h.is_long in
+    let nodes = nodes_unique _ _ _ _ _ long g.nodes h.nodes in
+    λ i. record { design = design i; weights = weights i; cert = cert i; pl_out = pl_out i; workers = workers i; nodes = nodes i; is_long = long i }
 
 -- the options say at most one `check`
 check_unique : (v : Values) (a b : CheckOptions) → CheckSays v a → CheckSays v b → a ≡ b
@@ -86,7 +82,25 @@ check_unique v a b g h =
     let weights = weights_unique v _ _ g.weights h.weights in
     let cert = texts_same _ _ _ g.cert h.cert in
     let rewrite = sym g.rewrite ∙ h.rewrite in
-    λ i. record { design = design i; weights = weights i; cert = cert i; rewrite = rewrite i }
+    let long = g.is_long ∙ sym h.is_long in
+    λ i. record { design = design i; weights = weights i; cert = cert i; rewrite = rewrite i; is_long = long i }
+
+-- a number that is there is one
+some_same : (m n : ℕ) → Some m ≡ Some n → m ≡ n
+some_same m n e = cc
+
+-- the options say at most one `resume`
+resume_unique : (v : Values) (a b : ResumeOptions) → ResumeSays v a → ResumeSays v b → a ≡ b
+resume_unique v a b g h =
+    let design = design_unique v _ _ g.design h.design in
+    let weights = weights_unique v _ _ g.weights h.weights in
+    let cert = texts_same _ _ _ g.cert h.cert in
+    let cert_out = texts_same _ _ _ g.cert_out h.cert_out in
+    let pl_out = sym g.pl_out ∙ h.pl_out in
+    let workers = number_unique Workers _ _ _ g.workers h.workers in
+    let long = g.is_long ∙ sym h.is_long in
+    let nodes = some_same _ _ (nodes_unique _ _ _ _ _ long g.nodes h.nodes) in
+    λ i. record { design = design i; weights = weights i; cert = cert i; cert_out = cert_out i; pl_out = pl_out i; workers = workers i; nodes = nodes i; is_long = long i }
 
 -- the options say at most one `measure`
 measure_unique : (v : Values) (a b : MeasureOptions) → MeasureSays v a → MeasureSays v b → a ≡ b
@@ -117,7 +131,7 @@ gen_unique v a b g h =
     let seed = number_unique Seed _ _ _ g.seed h.seed in
     let count = number_unique Count _ _ _ g.count h.count in
     let kinds = kinds_unique _ _ _ g.kinds h.kinds in
-    let nodes = optional_unique Nodes _ _ _ g.nodes h.nodes in
+    let nodes = nodes_unique _ _ _ _ _ refl g.nodes h.nodes in
     let out = texts_same _ _ _ g.out h.out in
     λ i. record { seed = seed i; count = count i; kinds = kinds i; nodes = nodes i; out = out i }
 
@@ -125,6 +139,7 @@ gen_unique v a b g h =
 says_unique : (v : Values) (c d : Command) → mode_of c ≡ mode_of d → Says v c → Says v d → c ≡ d
 says_unique v (plan a) (plan b) e g h = ap plan (plan_unique v a b g h)
 says_unique v (check a) (check b) e g h = ap check (check_unique v a b g h)
+says_unique v (resume a) (resume b) e g h = ap resume (resume_unique v a b g h)
 says_unique v (measure a) (measure b) e g h = ap measure (measure_unique v a b g h)
 says_unique v (shape a) (shape b) e g h = ap shape (shape_unique v a b g h)
 says_unique v (gen a) (gen b) e g h = ap gen (gen_unique v a b g h)

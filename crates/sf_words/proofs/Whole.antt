@@ -1,19 +1,9 @@
 -- The whole command line.
 use Rattle.std.proofs.Common.{◌≡◌, Bool, true, false, ◌&&◌, List, [], ◌∷◌, ◌++◌, Option, Some, map, fold, is_some, refl, sym, ap, ◌∙◌, append_assoc}
 use Rattle.std.specs.List.{list_all}
-use Rattle.std.proofs.lemmas.Bool.{and_from}
-use Rattle.std.proofs.lemmas.List.{append-nil}
-use Rattle.clap.specs.Words.{Rule, Row, Text, Shape, is_simple, subcommand_of, takes}
-use Rattle.clap.specs.Simple.{built, names_of, entered, rows_at, argument_words}
-use Rattle.clap.specs.Walk.{Walk, Held, Names, stop_after, walked, walk, walk_from, nothing_held, idle, finished, rows_after, with_default}
-use Rattle.clap.specs.Takes.{walk_passes, settle_passes, turn_passes, entered_passes, level_passes, default_passes, is_valid, built_takes}
+use Rattle.sf_words.proofs.Common.{and_from, append-nil, Rule, Row, Shape, is_simple, subcommand_of, takes, built, names_of, entered, rows_at, argument_words, Walk, Held, Names, stop_after, walked, walk, walk_from, nothing_held, idle, finished, rows_after, with_default, walk_passes, settle_passes, turn_passes, entered_passes, level_passes, default_passes, is_valid, built_takes, Mode, Plan, modes, mode_text, key_text, is_flag, keys_of, Token, words_of, AreOptions, HasForm, floorplan, full, rows_for}
+use Rattle.clap.specs.Words.{Text}
 use Rattle.clap.proofs.OnLiterals.{clap_on_literals}
-use Rattle.sf_words.specs.declared.options.Mode.{Mode}
-use Rattle.sf_words.specs.declared.options.Mode.TheVariants.{Plan}
-use Rattle.sf_words.specs.Table.{modes, mode_text, key_text, is_flag, keys_of}
-use Rattle.sf_words.specs.Words.{Token, words_of, AreOptions, HasForm}
-use Rattle.sf_words.specs.App.{floorplan}
-use Rattle.sf_words.specs.Kept.{full, rows_for}
 use Rattle.sf_words.proofs.Steps.{leaf}
 use Rattle.sf_words.proofs.Walks.{absent_at_first, walked_all, Walked}
 

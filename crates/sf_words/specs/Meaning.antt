@@ -1,13 +1,13 @@
 -- What the words mean: a command with its options and defaults.
-use Rattle.std.specs.Prelude.{◌≡◌, ℕ, ◌+◌, ◌⊎◌, ◌<◌, Bool, cond, List, [], ◌∷◌, Option, Some, None, MatchOption, is_some, codes}
+use Rattle.std.specs.Prelude.{◌≡◌, ℕ, ◌+◌, ◌⊎◌, ◌<◌, Bool, false, cond, List, [], ◌∷◌, Option, Some, None, MatchOption, is_some, codes}
 use Rattle.std.specs.Str.{bytes_eq}
 use Rattle.sf_words.specs.declared.options.Mode.{Mode}
-use Rattle.sf_words.specs.declared.options.Mode.TheVariants.{Plan, Check, Measure, Shape, Gen}
+use Rattle.sf_words.specs.declared.options.Mode.TheVariants.{Plan, Check, Resume, Measure, Shape, Gen}
 use Rattle.sf_words.specs.declared.options.Key.{Key}
-use Rattle.sf_words.specs.declared.options.Key.TheVariants.{Format, Blocks, Nets, Pl, Yal, PerUnit, Fixed, Shapes, Outline, AreaWeight, WireWeight, NetWeights, Cert, PlOut, Rewrite, Workers, Nodes, Placed, Expr, Seed, Count, Kinds as KindsKey, Out}
+use Rattle.sf_words.specs.declared.options.Key.TheVariants.{Format, Blocks, Nets, Pl, Yal, PerUnit, Fixed, Shapes, Outline, AreaWeight, WireWeight, NetWeights, Cert, CertOut, PlOut, Rewrite, Workers, Nodes, Long, Placed, Expr, Seed, Count, Kinds as KindsKey, Out}
 use Rattle.sf_words.specs.Table.{Text, key_text}
 use Rattle.sf_words.specs.Words.{Token, key_of, value_of, HasForm}
-use Rattle.sf_words.specs.Numbers.{SaysNumber, SaysOptional}
+use Rattle.sf_words.specs.Numbers.{SaysNumber, SaysNodes}
 use Rattle.sf_words.specs.Outline.{OutlineSays}
 use Rattle.sf_words.specs.declared.command.Kinds.{Kinds}
 use Rattle.sf_words.specs.declared.command.Kinds.TheVariants.{Hard, Mixed}
@@ -63,7 +63,7 @@ pub record WeightsSay (v : Values) (o : WeightOptions) : Type 0 where
   pub some : 0 < o.area + o.wire
   pub net_weights : v NetWeights ≡ o.net_weights
 
--- the options of `plan`
+-- the options of `plan`; a long search may have a greater budget
 pub record PlanOptions : Type 0 where
   pub design : DesignOptions
   pub weights : WeightOptions
@@ -71,6 +71,7 @@ pub record PlanOptions : Type 0 where
   pub pl_out : Option Text
   pub workers : ℕ
   pub nodes : Option ℕ
+  pub is_long : Bool
 
 -- what the options of `plan` say
 pub record PlanSays (v : Values) (o : PlanOptions) : Type 0 where
@@ -79,14 +80,16 @@ pub record PlanSays (v : Values) (o : PlanOptions) : Type 0 where
   pub cert : v Cert ≡ Some o.cert
   pub pl_out : v PlOut ≡ o.pl_out
   pub workers : SaysNumber Workers (v Workers) o.workers
-  pub nodes : SaysOptional Nodes (v Nodes) o.nodes
+  pub nodes : SaysNodes o.is_long (v Nodes) o.nodes
+  pub is_long : o.is_long ≡ is_some (v Long)
 
--- the options of `check`
+-- the options of `check`; the certificate of a long search may have a longer text
 pub record CheckOptions : Type 0 where
   pub design : DesignOptions
   pub weights : WeightOptions
   pub cert : Text
   pub rewrite : Option Text
+  pub is_long : Bool
 
 -- what the options of `check` say
 pub record CheckSays (v : Values) (o : CheckOptions) : Type 0 where
@@ -94,6 +97,29 @@ pub record CheckSays (v : Values) (o : CheckOptions) : Type 0 where
   pub weights : WeightsSay v o.weights
   pub cert : v Cert ≡ Some o.cert
   pub rewrite : v Rewrite ≡ o.rewrite
+  pub is_long : o.is_long ≡ is_some (v Long)
+
+-- the options of `resume`: those of a certificate that is read, and those of the search that goes on from it
+pub record ResumeOptions : Type 0 where
+  pub design : DesignOptions
+  pub weights : WeightOptions
+  pub cert : Text
+  pub cert_out : Text
+  pub pl_out : Option Text
+  pub workers : ℕ
+  pub nodes : ℕ
+  pub is_long : Bool
+
+-- what the options of `resume` say
+pub record ResumeSays (v : Values) (o : ResumeOptions) : Type 0 where
+  pub design : DesignSays v o.design
+  pub weights : WeightsSay v o.weights
+  pub cert : v Cert ≡ Some o.cert
+  pub cert_out : v CertOut ≡ Some o.cert_out
+  pub pl_out : v PlOut ≡ o.pl_out
+  pub workers : SaysNumber Workers (v Workers) o.workers
+  pub nodes : SaysNodes o.is_long (v Nodes) (Some o.nodes)
+  pub is_long : o.is_long ≡ is_some (v Long)
 
 -- the options of `measure`
 pub record MeasureOptions : Type 0 where
@@ -140,13 +166,14 @@ pub record GenSays (v : Values) (o : GenOptions) : Type 0 where
   pub seed : SaysNumber Seed (v Seed) o.seed
   pub count : SaysNumber Count (v Count) o.count
   pub kinds : KindsSay (v KindsKey) o.kinds
-  pub nodes : SaysOptional Nodes (v Nodes) o.nodes
+  pub nodes : SaysNodes false (v Nodes) o.nodes
   pub out : v Out ≡ Some o.out
 
 -- a command with its options
 pub data Command : Type 0 where
   plan : PlanOptions → Command
   check : CheckOptions → Command
+  resume : ResumeOptions → Command
   measure : MeasureOptions → Command
   shape : ShapeOptions → Command
   gen : GenOptions → Command
@@ -155,6 +182,7 @@ pub data Command : Type 0 where
 abbrev pub mode_of : Command → Mode
 mode_of (plan o) = Plan
 mode_of (check o) = Check
+mode_of (resume o) = Resume
 mode_of (measure o) = Measure
 mode_of (shape o) = Shape
 mode_of (gen o) = Gen
@@ -163,6 +191,7 @@ mode_of (gen o) = Gen
 abbrev pub Says : Values → Command → Type 0
 Says v (plan o) = PlanSays v o
 Says v (check o) = CheckSays v o
+Says v (resume o) = ResumeSays v o
 Says v (measure o) = MeasureSays v o
 Says v (shape o) = ShapeSays v o
 Says v (gen o) = GenSays v o

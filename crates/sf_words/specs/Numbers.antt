@@ -1,21 +1,25 @@
 -- Whole numbers in words, and the ranges and defaults of the options that take them.
-use Rattle.std.specs.Prelude.{◌≡◌, ℕ, ◌≤◌, Option, Some, None, MatchOption}
+use Rattle.std.specs.Prelude.{◌≡◌, ℕ, ◌≤◌, Bool, true, false, Option, Some, None, MatchOption}
 use Rattle.sf_lex.specs.Whole.{whole_read}
 use Rattle.sf_words.specs.declared.options.Key.{Key}
-use Rattle.sf_words.specs.declared.options.Key.TheVariants.{PerUnit, Shapes, AreaWeight, WireWeight, Workers, Nodes, Seed, Count}
+use Rattle.sf_words.specs.declared.options.Key.TheVariants.{PerUnit, Shapes, AreaWeight, WireWeight, Workers, Seed, Count}
 use Rattle.sf_words.specs.Table.{Text}
 
--- the least and the greatest number that an option takes, where it takes a number
+-- the least and the greatest number that an option takes, where it takes a number by itself
 unfoldable pub range : Key → Option (ℕ × ℕ)
 range PerUnit = Some (1, 1000)
 range Shapes = Some (2, 256)
 range AreaWeight = Some (0, 65_535)
 range WireWeight = Some (0, 65_535)
 range Workers = Some (1, 16)
-range Nodes = Some (1, 4_000_000)
 range Count = Some (1, 320)
 range Seed = Some (0, 18_446_744_073_709_551_615)
 range key = None
+
+-- the least and the greatest budget of a search, by whether it is a long one
+unfoldable pub nodes_range : Bool → ℕ × ℕ
+nodes_range false = (1, 4_000_000)
+nodes_range true = (1, 1_000_000_000_000)
 
 -- the number that an option has where it isn't given
 unfoldable pub default_of : Key → Option ℕ
@@ -44,8 +48,8 @@ abbrev pub SaysNumber : Key → Option Text → ℕ → Type 0
 SaysNumber key None n = default_of key ≡ Some n
 SaysNumber key (Some text) n = IsInRange key text n
 
--- what an option says that takes a number and has no default in the table
-abbrev pub SaysOptional : Key → Option Text → Option ℕ → Type 0
-SaysOptional key None None = Unit {0}
-SaysOptional key (Some text) (Some n) = IsInRange key text n
-SaysOptional key text n = ⊥
+-- what the budget's option says, by whether the search is a long one; it has no default in the table
+abbrev pub SaysNodes : Bool → Option Text → Option ℕ → Type 0
+SaysNodes is_long None None = Unit {0}
+SaysNodes is_long (Some text) (Some n) = IsWithin text n (nodes_range is_long)
+SaysNodes is_long text n = ⊥

@@ -2,16 +2,17 @@
 use Rattle.std.specs.Prelude.{List, ℕ, Option, option_map}
 use Rattle.std.specs.Borrow.{Bor}
 use Rattle.sf_words.specs.Table.{Text}
-use Rattle.sf_words.specs.Meaning.{Input, gsrc, yal, DesignOptions, WeightOptions, PlanOptions, CheckOptions, MeasureOptions, ShapeOptions, GenOptions, Command, plan, check, measure, shape, gen}
+use Rattle.sf_words.specs.Meaning.{Input, gsrc, yal, DesignOptions, WeightOptions, PlanOptions, CheckOptions, ResumeOptions, MeasureOptions, ShapeOptions, GenOptions, Command, plan, check, resume, measure, shape, gen}
 use Rattle.sf_words.specs.declared.command.DesignWords.{DesignWords}
 use Rattle.sf_words.specs.declared.command.WeightWords.{WeightWords}
 use Rattle.sf_words.specs.declared.command.PlanWords.{PlanWords}
 use Rattle.sf_words.specs.declared.command.CheckWords.{CheckWords}
+use Rattle.sf_words.specs.declared.command.ResumeWords.{ResumeWords}
 use Rattle.sf_words.specs.declared.command.MeasureWords.{MeasureWords}
 use Rattle.sf_words.specs.declared.command.ShapeWords.{ShapeWords}
 use Rattle.sf_words.specs.declared.command.GenWords.{GenWords}
 use Rattle.sf_words.specs.declared.command.CommandWords.{CommandWords}
-use Rattle.sf_words.specs.declared.command.CommandWords.TheVariants.{Plan, Check, Measure, Shape, Gen}
+use Rattle.sf_words.specs.declared.command.CommandWords.TheVariants.{Plan, Check, Resume, Measure, Shape, Gen}
 use Rattle.sf_words.specs.declared.command.InputFiles.{InputFiles}
 use Rattle.sf_words.specs.declared.command.InputFiles.TheVariants.{Gsrc, Yal}
 use Rattle.sf_words.specs.declared.settings.Setting.{Setting}
@@ -43,11 +44,15 @@ weights_seen o = record { area = o.area; wire = o.wire; net_weights = text_of o.
 
 -- the options of `plan`
 abbrev pub plan_seen : PlanWords → PlanOptions
-plan_seen o = record { design = design_seen o.design; weights = weights_seen o.weights; cert = o.cert.now; pl_out = text_of o.pl_out; workers = o.workers; nodes = o.nodes }
+plan_seen o = record { design = design_seen o.design; weights = weights_seen o.weights; cert = o.cert.now; pl_out = text_of o.pl_out; workers = o.workers; nodes = o.nodes; is_long = o.is_long }
 
 -- the options of `check`
 abbrev pub check_seen : CheckWords → CheckOptions
-check_seen o = record { design = design_seen o.design; weights = weights_seen o.weights; cert = o.cert.now; rewrite = text_of o.rewrite }
+check_seen o = record { design = design_seen o.design; weights = weights_seen o.weights; cert = o.cert.now; rewrite = text_of o.rewrite; is_long = o.is_long }
+
+-- the options of `resume`
+abbrev pub resume_seen : ResumeWords → ResumeOptions
+resume_seen o = record { design = design_seen o.design; weights = weights_seen o.weights; cert = o.cert.now; cert_out = o.cert_out.now; pl_out = text_of o.pl_out; workers = o.workers; nodes = o.nodes; is_long = o.is_long }
 
 -- the options of `measure`
 abbrev pub measure_seen : MeasureWords → MeasureOptions
@@ -65,6 +70,7 @@ gen_seen o = record { seed = o.seed; count = o.count; kinds = o.kinds; nodes = o
 abbrev pub command_seen : CommandWords → Command
 command_seen (Plan o) = plan (plan_seen o)
 command_seen (Check o) = check (check_seen o)
+command_seen (Resume o) = resume (resume_seen o)
 command_seen (Measure o) = measure (measure_seen o)
 command_seen (Shape o) = shape (shape_seen o)
 command_seen (Gen o) = gen (gen_seen o)

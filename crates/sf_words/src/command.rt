@@ -63,10 +63,12 @@ pub struct PlanWords<'a> {
     pub workers: u16,
     /// The greatest number of decisions. Its default and its limit depend on the number of blocks.
     pub nodes: Option<u64>,
+    /// Whether the limit by the number of blocks is lifted.
+    pub is_long: bool,
     ghost workers_low: { 1 ≤ workers },
     ghost workers_high: { workers ≤ 16 },
     ghost nodes_low: { ForSome nodes (λ n. 1 ≤ n) },
-    ghost nodes_high: { ForSome nodes (λ n. n ≤ 4_000_000) },
+    ghost nodes_high: { ForSome nodes (λ n. n ≤ 1_000_000_000_000) },
 }
 
 /// The options of `check`.
@@ -78,6 +80,31 @@ pub struct CheckWords<'a> {
     pub cert: &'a str,
     /// The file that the certificate is stored in anew where it is valid.
     pub rewrite: Option<&'a str>,
+    /// Whether the certificate may be longer than other files.
+    pub is_long: bool,
+}
+
+/// The options of `resume`.
+#[derive(Clone, Copy, Debug)]
+pub struct ResumeWords<'a> {
+    pub design: DesignWords<'a>,
+    pub weights: WeightWords<'a>,
+    /// The file of the certificate from which the search goes on.
+    pub cert: &'a str,
+    /// The file that the new certificate is stored in.
+    pub cert_out: &'a str,
+    /// The file that the plan is stored in.
+    pub pl_out: Option<&'a str>,
+    pub workers: u16,
+    /// The greatest number of decisions beyond those of the certificate.
+    pub nodes: u64,
+    /// Whether the limit by the number of blocks is lifted, and the certificate may be longer than other
+    /// files.
+    pub is_long: bool,
+    ghost workers_low: { 1 ≤ workers },
+    ghost workers_high: { workers ≤ 16 },
+    ghost nodes_low: { 1 ≤ nodes },
+    ghost nodes_high: { nodes ≤ 1_000_000_000_000 },
 }
 
 /// The options of `measure`.
@@ -130,6 +157,8 @@ pub enum CommandWords<'a> {
     Plan(PlanWords<'a>),
     /// Checks a certificate.
     Check(CheckWords<'a>),
+    /// Goes on with a search from its certificate.
+    Resume(ResumeWords<'a>),
     /// Measures a floorplan that is given.
     Measure(MeasureWords<'a>),
     /// Prints the shape curve of an expression.

@@ -18,7 +18,7 @@ mod settings;
 
 pub use command::{
     CheckWords, CommandWords, DesignWords, GenWords, InputFiles, Kinds, MeasureWords, PlanWords,
-    ShapeWords, WeightWords,
+    ResumeWords, ShapeWords, WeightWords,
 };
 pub use line::read_words;
 pub use meaning::meaning_is_unique;

@@ -4,19 +4,19 @@ ghost use Rattle.sf_words.specs.declared.options.Key.{Key};
 ghost use Rattle.sf_words.specs.Table.{Text};
 ghost use Rattle.sf_words.specs.Kept.{texts_of};
 ghost use Rattle.sf_words.specs.Meaning.{InputSays, DesignSays, WeightsSay, PlanSays, CheckSays};
-ghost use Rattle.sf_words.specs.Meaning.{MeasureSays, ShapeSays, KindsSay, GenSays};
+ghost use Rattle.sf_words.specs.Meaning.{ResumeSays, MeasureSays, ShapeSays, KindsSay, GenSays};
 ghost use Rattle.sf_words.specs.Meaning.{Command, Says, Means, mode_of, IsReading};
 ghost use Rattle.sf_words.specs.Seen.{text_of, input_seen, design_seen, weights_seen, plan_seen, check_seen};
-ghost use Rattle.sf_words.specs.Seen.{measure_seen, shape_seen, gen_seen, command_seen};
+ghost use Rattle.sf_words.specs.Seen.{resume_seen, measure_seen, shape_seen, gen_seen, command_seen};
 
 use crate::command::{
     CheckWords, CommandWords, DesignWords, GenWords, InputFiles, Kinds, MeasureWords, PlanWords,
-    ShapeWords, WeightWords,
+    ResumeWords, ShapeWords, WeightWords,
 };
 use crate::options::{Key, Mode};
 use crate::outline::read_outline;
 use crate::parsed::{Parsed, is_text};
-use crate::ranges::{number, optional_number};
+use crate::ranges::{nodes, number};
 use sf_lex::Scale;
 
 /// Reads the files of a design in the format of GSRC.
@@ -106,17 +106,19 @@ fn read_weights<'a>(texts: &Parsed<'_, 'a>) -> Option<WeightWords<'a>>
 }
 
 /// The options of `plan`.
-#[tactic(auto, unfolding(crate::specs::Numbers::range))]
+#[tactic(auto, unfolding(crate::specs::Numbers::range, crate::specs::Numbers::nodes_range))]
 fn read_plan<'a>(texts: &Parsed<'_, 'a>) -> Option<PlanWords<'a>>
     ensures { IsReading (PlanSays (texts_of texts.now)) plan_seen result }
 {
+    let is_long = texts.text(Key::Long).is_some();
     Some(PlanWords {
         design: read_design(texts)?,
         weights: read_weights(texts)?,
         cert: texts.text(Key::Cert)?,
         pl_out: texts.text(Key::PlOut),
         workers: number(Key::Workers, texts.text(Key::Workers))? as u16,
-        nodes: optional_number(Key::Nodes, texts.text(Key::Nodes))?,
+        nodes: nodes(is_long, texts.text(Key::Nodes))?,
+        is_long,
     })
 }
 
@@ -129,6 +131,25 @@ fn read_check<'a>(texts: &Parsed<'_, 'a>) -> Option<CheckWords<'a>>
         weights: read_weights(texts)?,
         cert: texts.text(Key::Cert)?,
         rewrite: texts.text(Key::Rewrite),
+        is_long: texts.text(Key::Long).is_some(),
+    })
+}
+
+/// The options of `resume`.
+#[tactic(auto, unfolding(crate::specs::Numbers::range, crate::specs::Numbers::nodes_range))]
+fn read_resume<'a>(texts: &Parsed<'_, 'a>) -> Option<ResumeWords<'a>>
+    ensures { IsReading (ResumeSays (texts_of texts.now)) resume_seen result }
+{
+    let is_long = texts.text(Key::Long).is_some();
+    Some(ResumeWords {
+        design: read_design(texts)?,
+        weights: read_weights(texts)?,
+        cert: texts.text(Key::Cert)?,
+        cert_out: texts.text(Key::CertOut)?,
+        pl_out: texts.text(Key::PlOut),
+        workers: number(Key::Workers, texts.text(Key::Workers))? as u16,
+        nodes: nodes(is_long, texts.text(Key::Nodes))??,
+        is_long,
     })
 }
 
@@ -172,7 +193,7 @@ fn read_kinds(text: Option<&str>) -> Option<Kinds>
 }
 
 /// The options of `gen`.
-#[tactic(auto, unfolding(crate::specs::Numbers::range))]
+#[tactic(auto, unfolding(crate::specs::Numbers::range, crate::specs::Numbers::nodes_range))]
 fn read_gen<'a>(texts: &Parsed<'_, 'a>) -> Option<GenWords<'a>>
     ensures { IsReading (GenSays (texts_of texts.now)) gen_seen result }
 {
@@ -180,7 +201,7 @@ fn read_gen<'a>(texts: &Parsed<'_, 'a>) -> Option<GenWords<'a>>
         seed: number(Key::Seed, texts.text(Key::Seed))?,
         count: number(Key::Count, texts.text(Key::Count))? as u16,
         kinds: read_kinds(texts.text(Key::Kinds))?,
-        nodes: optional_number(Key::Nodes, texts.text(Key::Nodes))?,
+        nodes: nodes(false, texts.text(Key::Nodes))?,
         out: texts.text(Key::Out)?,
     })
 }
@@ -194,6 +215,7 @@ pub fn read_command<'a>(mode: Mode, texts: &Parsed<'_, 'a>) -> Option<CommandWor
     match mode {
         Mode::Plan => Some(CommandWords::Plan(read_plan(texts)?)),
         Mode::Check => Some(CommandWords::Check(read_check(texts)?)),
+        Mode::Resume => Some(CommandWords::Resume(read_resume(texts)?)),
         Mode::Measure => Some(CommandWords::Measure(read_measure(texts)?)),
         Mode::Shape => Some(CommandWords::Shape(read_shape(texts)?)),
         Mode::Gen => Some(CommandWords::Gen(read_gen(texts)?)),

@@ -9,6 +9,7 @@ ghost use Rattle.sf_words.specs.Table.{modes, mode_text, key_text, is_flag, keys
 pub enum Mode {
     Plan,
     Check,
+    Resume,
     Measure,
     Shape,
     Gen,
@@ -30,10 +31,12 @@ pub enum Key {
     WireWeight,
     NetWeights,
     Cert,
+    CertOut,
     PlOut,
     Rewrite,
     Workers,
     Nodes,
+    Long,
     Placed,
     Expr,
     Seed,
@@ -76,6 +79,7 @@ impl Mode {
         &[
             Mode::Plan,
             Mode::Check,
+            Mode::Resume,
             Mode::Measure,
             Mode::Shape,
             Mode::Gen,
@@ -91,9 +95,20 @@ impl Mode {
         match self {
             Mode::Plan => (
                 "plan",
-                weighed_keys![Key::Cert, Key::PlOut, Key::Workers, Key::Nodes],
+                weighed_keys![Key::Cert, Key::PlOut, Key::Workers, Key::Nodes, Key::Long],
             ),
-            Mode::Check => ("check", weighed_keys![Key::Cert, Key::Rewrite]),
+            Mode::Check => ("check", weighed_keys![Key::Cert, Key::Rewrite, Key::Long]),
+            Mode::Resume => (
+                "resume",
+                weighed_keys![
+                    Key::Cert,
+                    Key::CertOut,
+                    Key::PlOut,
+                    Key::Workers,
+                    Key::Nodes,
+                    Key::Long
+                ],
+            ),
             Mode::Measure => ("measure", weighed_keys![Key::Placed]),
             Mode::Shape => ("shape", design_keys![Key::Expr]),
             Mode::Gen => (
@@ -138,10 +153,12 @@ impl Key {
             Key::WireWeight => "wire-weight",
             Key::NetWeights => "net-weights",
             Key::Cert => "cert",
+            Key::CertOut => "cert-out",
             Key::PlOut => "pl-out",
             Key::Rewrite => "rewrite",
             Key::Workers => "workers",
             Key::Nodes => "nodes",
+            Key::Long => "long",
             Key::Placed => "placed",
             Key::Expr => "expr",
             Key::Seed => "seed",
@@ -156,7 +173,7 @@ impl Key {
     pub fn is_flag(self) -> bool
         ensures { result ≡ is_flag self }
     {
-        matches!(self, Key::Fixed)
+        matches!(self, Key::Fixed | Key::Long)
     }
 }
 

@@ -1,13 +1,13 @@
 //! The whole numbers that options take: their ranges and defaults.
-ghost use Rattle.std.specs.Prelude.{◌≡◌, ℕ, Option, IfSome, IfNone, option_map};
-ghost use Rattle.sf_words.specs.Numbers.{range, default_of, IsInRange, IsAllowed};
-ghost use Rattle.sf_words.specs.Numbers.{SaysNumber, SaysOptional};
+ghost use Rattle.std.specs.Prelude.{◌≡◌, ◌≤◌, ℕ, Option, IfSome, IfNone, option_map};
+ghost use Rattle.sf_words.specs.Numbers.{range, nodes_range, default_of, IsInRange, IsWithin, IsAllowed};
+ghost use Rattle.sf_words.specs.Numbers.{SaysNumber, SaysNodes};
 
 use crate::options::Key;
 use sf_lex::read_whole;
 
 impl Key {
-    /// The least and the greatest number that the option takes, where it takes a number.
+    /// The least and the greatest number that the option takes, where it takes a number by itself.
     #[tactic(auto, unfolding(crate::specs::Numbers::range))]
     fn range(self) -> Option<(u64, u64)>
         ensures { result ≡ range self }
@@ -17,7 +17,6 @@ impl Key {
             Key::Shapes => Some((2, 256)),
             Key::AreaWeight | Key::WireWeight => Some((0, 65_535)),
             Key::Workers => Some((1, 16)),
-            Key::Nodes => Some((1, 4_000_000)),
             Key::Count => Some((1, 320)),
             Key::Seed => Some((0, u64::MAX)),
             _ => None,
@@ -38,15 +37,25 @@ impl Key {
     }
 }
 
+/// Reads a number from the least to the greatest.
+fn read_within(range: (u64, u64), text: &str) -> Option<u64>
+    ensures number { IfSome result (λ n. IsWithin text.now n range) }
+    ensures low { IfSome result (λ n. range.0 ≤ n) }
+    ensures high { IfSome result (λ n. n ≤ range.1) }
+    ensures none { IfNone result ((n : ℕ) → IsWithin text.now n range → ⊥) }
+{
+    let (least, greatest) = range;
+    let n = read_whole(text.as_bytes(), greatest)?;
+    if least <= n { Some(n) } else { None }
+}
+
 /// Reads a number of an option.
 fn read_in_range(key: Key, text: &str) -> Option<u64>
     ensures number { IfSome result (IsInRange key text.now) }
     ensures allowed { IfSome result (IsAllowed key) }
     ensures none { IfNone result ((n : ℕ) → IsInRange key text.now n → ⊥) }
 {
-    let (least, greatest) = key.range()?;
-    let n = read_whole(text.as_bytes(), greatest)?;
-    if least <= n { Some(n) } else { None }
+    read_within(key.range()?, text)
 }
 
 /// The number of an option that has a default, or must be given.
@@ -62,16 +71,29 @@ pub fn number(key: Key, text: Option<&str>) -> Option<u64>
     }
 }
 
-/// The number of an option that may be left out.
-pub fn optional_number(key: Key, text: Option<&str>) -> Option<Option<u64>>
-    ensures number { IfSome result (λ n. SaysOptional key (option_map (λ s. s.now) text.entry) n) }
-    ensures allowed { IfSome result (λ o. IfSome o (IsAllowed key)) }
+/// The least and the greatest budget of a search, which may be a long one.
+#[tactic(auto, unfolding(crate::specs::Numbers::nodes_range))]
+fn nodes_range(is_long: bool) -> (u64, u64)
+    ensures { result ≡ nodes_range is_long }
+{
+    if is_long {
+        (1, 1_000_000_000_000)
+    } else {
+        (1, 4_000_000)
+    }
+}
+
+/// The budget of a search, which may be left out.
+pub fn nodes(is_long: bool, text: Option<&str>) -> Option<Option<u64>>
+    ensures number { IfSome result (λ n. SaysNodes is_long (option_map (λ s. s.now) text.entry) n) }
+    ensures low { IfSome result (λ o. IfSome o (λ n. (nodes_range is_long).0 ≤ n)) }
+    ensures high { IfSome result (λ o. IfSome o (λ n. n ≤ (nodes_range is_long).1)) }
     ensures none { IfNone result ((n : Option ℕ)
-        → SaysOptional key (option_map (λ s. s.now) text.entry) n → ⊥) }
+        → SaysNodes is_long (option_map (λ s. s.now) text.entry) n → ⊥) }
 {
     match text {
         None => Some(None),
-        Some(text) => match read_in_range(key, text) {
+        Some(text) => match read_within(nodes_range(is_long), text) {
             Some(n) => Some(Some(n)),
             None => None,
         },

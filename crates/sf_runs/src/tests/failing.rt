@@ -42,6 +42,16 @@ const REWRITE: Row = Row {
     ..CHECK
 };
 
+/// Two loads, for the blocks and the certificate, then two stores.
+const RESUME: Row = Row {
+    command: "resume --format gsrc --blocks a.blocks --cert a.cert",
+    options: "--cert-out b.cert --pl-out a.out --nodes 1",
+    files: &[("a.blocks", ONE), ("a.cert", ONE_CERT)],
+    ..GIVEN
+};
+
+const ONE_PLACE: &[u8] = b"UCLA pl 1.0\nb0 0 0 DIMS = (3, 4) : N\n";
+
 const PADDED_PLACES: &[u8] = b"UCLA pl 1.0\nb0 0 0 DIMS = (2, 2) : N\np0 10 0\n";
 
 const CASES: &[Case] = &[
@@ -144,6 +154,40 @@ const CASES: &[Case] = &[
             status: Status::WriteFault,
             stored: &[("b.cert", ONE_CERT)],
             ..REWRITE
+        },
+    },
+    Case {
+        call: 2,
+        put: 0,
+        row: Row {
+            status: Status::ReadFault,
+            ..RESUME
+        },
+    },
+    Case {
+        call: 3,
+        put: 0,
+        row: Row {
+            status: Status::WriteFault,
+            ..RESUME
+        },
+    },
+    Case {
+        call: 4,
+        put: 0,
+        row: Row {
+            status: Status::WriteFault,
+            stored: &[("b.cert", ONE_CERT)],
+            ..RESUME
+        },
+    },
+    Case {
+        call: 0,
+        put: 1,
+        row: Row {
+            status: Status::WriteFault,
+            stored: &[("b.cert", ONE_CERT), ("a.out", ONE_PLACE)],
+            ..RESUME
         },
     },
 ];

@@ -132,6 +132,28 @@ fn past_the_limits(rt: HostRuntime) -> Result<(), Fail> {
     Ok(())
 }
 
+/// A certificate that decides as many subproblems as the limit allows is gone on from by a long search alone.
+#[test]
+fn past_a_certificate(rt: HostRuntime) -> Result<(), Fail> {
+    let alloc = rt.alloc();
+    let mut shelf = shelf(alloc, 320)?;
+    plan(&rt, alloc, &mut shelf, "")?;
+    let resume =
+        "resume --format gsrc --blocks a.blocks --nets a.nets --pl a.pl --cert a.cert --cert-out b.cert --nodes 1";
+    let words = words_of(alloc, &[resume])?;
+    let (status, printed) = answer(&rt, alloc, &words, &mut shelf, 0)?;
+    assert_eq!(rt; status, Status::OverLimit);
+    assert_eq!(rt; printed.as_str(), "error OverLimit nodes 1927 1926\n");
+    assert!(rt; shelf.bytes("b.cert").is_none());
+    let words = words_of(alloc, &[resume, "--long"])?;
+    let (status, printed) = answer(&rt, alloc, &words, &mut shelf, 0)?;
+    assert_eq!(rt; status, Status::Done);
+    for line in ["cost 32000", "bound 32000", "decided 1927"] {
+        assert!(rt; has_line(printed.as_str(), line), "{line}");
+    }
+    Ok(())
+}
+
 /// Rows are kept of 1,500 nets of 320 blocks, and not of 1,600. Each block has the area 100, and the middles
 /// of the two blocks of a net are 10 apart at least, which is 20 in doubled coordinates.
 #[test]

@@ -1,11 +1,5 @@
 use Rattle.std.proofs.Common.{Option, Err, IfOk, subst}
-use Rattle.std.specs.Prelude.{IfErr}
-use Rattle.sf_io.specs.Outside.{Contents}
-use Rattle.sf_model.specs.Legal.{block_count}
-use Rattle.sf_words.specs.Seen.{check_seen}
-use Rattle.sf_program.specs.Checked.{CertRead, JudgedFile}
-use Rattle.sf_program.specs.Outcome.{Stops}
-use Rattle.sf_program.specs.Stores.{stored_in}
+use Rattle.sf_program.proofs.Common.{IfErr, Contents, block_count, check_seen, CertRead, JudgedFile, Stops, stored_in}
 use Rattle.sf_program.proofs.Pieces.{check-obeyed}
 use Rattle.sf_program.proofs.checking.check.Goals as goal
 
@@ -15,5 +9,5 @@ returns-clause-answer g c =
     let design = c.in_ok-design.design in
     let same = c.in_ok-design.ensures.shelf.0.unchanged in
     check-obeyed (g.S.Shelf.seen c.args.shelf.now).holds o design c.in_ok-design.ensures.design c.check_file.result
-    (subst (λ (h : Option Contents). IfOk c.check_file.result (λ w. JudgedFile h o.cert design o.rewrite w.status (stored_in w.stores.items) w.text.items)) same c.check_file.ensures.answer)
-    (subst (λ (h : Option Contents). IfErr c.check_file.result (λ stop. Stops stop (λ why. CertRead h o.cert (block_count design) (Err why)))) same c.check_file.ensures.refused)
+    (subst (λ (h : Option Contents). IfOk c.check_file.result (λ w. JudgedFile o.is_long h o.cert design o.rewrite w.status (stored_in w.stores.items) w.text.items)) same c.check_file.ensures.answer)
+    (subst (λ (h : Option Contents). IfErr c.check_file.result (λ stop. Stops stop (λ why. CertRead o.is_long h o.cert (block_count design) (Err why)))) same c.check_file.ensures.refused)

@@ -1,7 +1,6 @@
 use Rattle.std.proofs.Common.{[], Err, ap}
-use Rattle.sf_model.specs.Legal.{block_count}
+use Rattle.sf_program.proofs.Common.{block_count, standard, part_value}
 use Rattle.sf_certificate.specs.Reading.{cert_read}
-use Rattle.sf_standard.specs.Standard.{standard, part_value}
 use Rattle.sf_program.proofs.Pieces.{cert-stops}
 use Rattle.sf_program.proofs.checking.check_text.Goals as goal
 

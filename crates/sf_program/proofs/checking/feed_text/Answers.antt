@@ -1,8 +1,5 @@
 use Rattle.std.proofs.Common.{◌≡◌, ℕ, List, [], ◌++◌, length, refl, ap, sym, subst, ◌∙◌, append_assoc, append-nil, arith}
-use Rattle.std.proofs.lemmas.Bool.Decides.{nat_tests}
-use Rattle.std.proofs.lemmas.List.{take-append-drop}
-use Rattle.sf_standard.specs.Standard.{standard, part_value}
-use Rattle.sf_checker.specs.Feeding.{IsFed}
+use Rattle.sf_program.proofs.Common.{nat_tests, take-append-drop, standard, part_value, IsFed}
 use Rattle.sf_program.proofs.Pieces.{no-bytes}
 use Rattle.sf_program.proofs.checking.feed_text.Goals as goal
 

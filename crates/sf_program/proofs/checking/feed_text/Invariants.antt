@@ -1,7 +1,5 @@
 use Rattle.std.proofs.Common.{◌≡◌, ℕ, List, ◌++◌, length}
-use Rattle.sf_model.specs.declared.design.Design.{Design}
-use Rattle.sf_standard.specs.Standard.{standard, part_value}
-use Rattle.sf_checker.specs.Feeding.{IsFed}
+use Rattle.sf_program.proofs.Common.{Design, standard, part_value, IsFed}
 use Rattle.sf_program.proofs.checking.feed_text.Given as goal
 
 abbrev pub invariant-loop-rest : goal.invariant-loop-rest

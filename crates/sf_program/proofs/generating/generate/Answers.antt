@@ -1,11 +1,5 @@
-use Rattle.std.proofs.Common.{◌≡◌, ◌++◌, ℕ, List, None, Ok, Err, inl, ap, sym, subst, ◌∙◌}
-use Rattle.std.proofs.lemmas.Result.{err_from_is_err_and}
-use Rattle.sf_io.specs.declared.status.Status.{Status}
-use Rattle.sf_model.specs.Legal.{block_count}
-use Rattle.sf_words.specs.Seen.{gen_seen}
-use Rattle.sf_program.specs.Generated.{GenRead, cert_name}
-use Rattle.sf_program.specs.Planned.{BudgetTested, IsAnswered, budget_of}
-use Rattle.sf_program.specs.Stores.{Stored, stored_in}
+use Rattle.std.proofs.Common.{◌≡◌, ◌++◌, ℕ, false, List, None, Ok, Err, inl, ap, sym, subst, ◌∙◌}
+use Rattle.sf_program.proofs.Common.{err_from_is_err_and, Status, block_count, gen_seen, GenRead, cert_name, BudgetTested, IsAnswered, budget_of, Stored, stored_in}
 use Rattle.sf_program.proofs.Made.{never-stops}
 use Rattle.sf_program.proofs.generating.generate.Goals as goal
 
@@ -28,8 +22,8 @@ returns-clause-answer g c =
     let found = c.in_ok-searched.searched in
     let stores = stored_in found.stores.items in
     let name : c.as_str.result.now ≡ cert_name o = c.as_str.ensures.value ∙ c.in_ok-cert.ensures in
-    let tested : BudgetTested words.nodes words.count (Ok (budget_of words.nodes words.count)) =
-    subst (λ (n : ℕ). BudgetTested words.nodes n (Ok (budget_of words.nodes n))) c.from.ensures c.in_ok-test_budget.ensures.budget in
+    let tested : BudgetTested false words.nodes words.count (Ok (budget_of words.nodes words.count)) =
+    subst (λ (n : ℕ). BudgetTested false words.nodes n (Ok (budget_of words.nodes n))) c.from.ensures c.in_ok-test_budget.ensures.budget in
     let named : IsAnswered design 1 budget 1 (cert_name o) None found.status stores found.text.items =
     subst (λ (n : List ℕ). IsAnswered design 1 budget 1 n None found.status stores found.text.items) name c.in_ok-searched.ensures in
     let stated : IsAnswered design 1 budget 1 (cert_name o) None c.in_ok-work.work.status stores found.text.items =

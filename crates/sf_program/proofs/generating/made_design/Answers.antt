@@ -3,14 +3,8 @@ use Rattle.sf_gsrc.proofs.NetLaws as nets
 use Rattle.sf_gsrc.proofs.PlaceLaws as places
 use Rattle.sf_gsrc.proofs.StandingLaws as blocks
 use Rattle.sf_model.specs.declared.fault.BuildFault.{BuildFault}
-use Rattle.sf_model.specs.declared.raw.Parts.{Parts}
+use Rattle.sf_program.proofs.Common.{Parts, gen_seen, TextsStand, both_weights, by_default, kinds_of, parts_made, HasNoneFor, Ends, DesignMade, WeighedParts, alike, weighed_in}
 use Rattle.sf_model.specs.Admitted.{HasPinsInRange, HasSizes, IsAdmitted}
-use Rattle.sf_words.specs.Seen.{gen_seen}
-use Rattle.sf_program.specs.Generated.{TextsStand, both_weights, by_default, kinds_of, parts_made}
-use Rattle.sf_soft_shapes.specs.Listed.{HasNoneFor}
-use Rattle.sf_program.specs.Outcome.{Ends}
-use Rattle.sf_program.specs.Reading.{DesignMade}
-use Rattle.sf_program.specs.Weighed.{WeighedParts, alike, weighed_in}
 use Rattle.sf_program.proofs.Made.{made-never, made-ok}
 use Rattle.sf_program.proofs.generating.made_design.Goals as goal
 

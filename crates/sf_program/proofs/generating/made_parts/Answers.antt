@@ -1,12 +1,5 @@
 use Rattle.std.proofs.Common.{◌≡◌, Ok, Some}
-use Rattle.sf_gsrc.specs.declared.output.GsrcBlocks.{GsrcBlocks}
-use Rattle.sf_gsrc.specs.declared.output.GsrcNets.{GsrcNets}
-use Rattle.sf_gsrc.specs.declared.output.GsrcPlaces.{GsrcPlaces}
-use Rattle.sf_gsrc.specs.Join.{joined}
-use Rattle.sf_words.specs.Meaning.{GenOptions}
-use Rattle.sf_words.specs.Seen.{gen_seen}
-use Rattle.sf_program.specs.Generated.{blocks_said, kinds_of, nets_said, parts_made, places_said}
-use Rattle.sf_program.specs.Refusals.{join_refusal}
+use Rattle.sf_program.proofs.Common.{GsrcBlocks, GsrcNets, GsrcPlaces, joined, GenOptions, gen_seen, blocks_said, kinds_of, nets_said, parts_made, places_said, join_refusal}
 use Rattle.sf_program.proofs.Made.{judged-is, judged-never}
 use Rattle.sf_program.proofs.generating.made_parts.Goals as goal
 

@@ -1,7 +1,5 @@
 use Rattle.std.proofs.Common.{◌≡◌, ◌++◌, ◌∷◌, [], ◌*◌, arith, ap, ◌∙◌, codes, string_bytes}
-use Rattle.std.specs.Fmt.{decimal}
-use Rattle.sf_model.specs.Cost.{right_end, upper_end, spots_cost}
-use Rattle.sf_model.specs.Wire.{wire}
+use Rattle.sf_program.proofs.Common.{decimal, right_end, upper_end, spots_cost, wire}
 use Rattle.sf_program.proofs.Legal.{area_small, lines_joined, legal_same}
 use Rattle.sf_program.proofs.measuring.legal_text.Goals as goal
 

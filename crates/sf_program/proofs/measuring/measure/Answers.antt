@@ -1,11 +1,5 @@
 use Rattle.std.proofs.Common.{List, Option, Ok, Err, ap, inl, refl, subst, ◌∙◌}
-use Rattle.std.proofs.lemmas.Result.{err_from_is_err_and}
-use Rattle.sf_io.specs.Outside.{Contents}
-use Rattle.sf_model.specs.declared.plan.Spot.{Spot}
-use Rattle.sf_place.specs.Verdict.{IsVerdict}
-use Rattle.sf_words.specs.Seen.{measure_seen}
-use Rattle.sf_program.specs.Measured.{SpotsRead, MeasureRead, verdict_text}
-use Rattle.sf_program.specs.Outcome.{Stops}
+use Rattle.sf_program.proofs.Common.{err_from_is_err_and, Contents, Spot, IsVerdict, measure_seen, SpotsRead, MeasureRead, verdict_text, Stops}
 use Rattle.sf_program.proofs.Stages.{stops-map}
 use Rattle.sf_program.proofs.measuring.measure.Goals as goal
 

@@ -1,7 +1,6 @@
 use Rattle.std.proofs.Common.{List, codes, sym, subst}
 use Rattle.std.specs.List.{All}
-use Rattle.sf_gsrc.specs.declared.output.Place.{Place}
-use Rattle.sf_program.specs.PlacedLines.{HasNearPlace}
+use Rattle.sf_program.proofs.Common.{Place, HasNearPlace}
 use Rattle.sf_program.proofs.NearPlaces.{read_near}
 use Rattle.sf_program.proofs.Stages.{uncounted}
 use Rattle.sf_program.proofs.measuring.read_spots.Goals as goal

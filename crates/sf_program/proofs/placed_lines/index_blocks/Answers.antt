@@ -1,9 +1,6 @@
 use Rattle.std.proofs.Common.{◌≡◌, ◌≤◌, arith, length, subst, true}
-use Rattle.std.specs.Prelude.{is_some, List}
+use Rattle.sf_program.proofs.Common.{is_some, List, take_all, Block, value_in}
 use Rattle.std.specs.List.{All}
-use Rattle.std.proofs.lemmas.List.{take_all}
-use Rattle.sf_model.specs.declared.parts.Block.{Block}
-use Rattle.sf_names.specs.Values.{value_in}
 use Rattle.sf_program.proofs.Placing.{no_line_more, none_indexed, one_name_more}
 use Rattle.sf_program.proofs.placed_lines.index_blocks.Goals as goal
 

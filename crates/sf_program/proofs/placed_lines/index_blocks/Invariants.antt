@@ -1,8 +1,6 @@
 use Rattle.std.proofs.Common.{◌≡◌, true, take}
-use Rattle.std.specs.Prelude.{is_some}
+use Rattle.sf_program.proofs.Common.{is_some, Block, value_in}
 use Rattle.std.specs.List.{All}
-use Rattle.sf_model.specs.declared.parts.Block.{Block}
-use Rattle.sf_names.specs.Values.{value_in}
 use Rattle.sf_program.proofs.Placing.{HasNoLine}
 use Rattle.sf_program.proofs.placed_lines.index_blocks.Given as goal
 

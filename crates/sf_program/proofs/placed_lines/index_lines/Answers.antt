@@ -1,11 +1,9 @@
 use Rattle.std.proofs.Common.{◌-◌, List, Some, ap, arith, subst, sym, ◌∙◌}
 use Rattle.std.specs.Map.{update}
 use Rattle.std.specs.Str.{bytes_eq}
-use Rattle.sf_names.specs.Values.{value_in}
+use Rattle.sf_program.proofs.Common.{value_in, Place, IsIndex}
 use Rattle.sf_program.specs.declared.placed_lines.Lines.{Lines}
 use Rattle.std.proofs.Math.Seq.{drop-length}
-use Rattle.sf_gsrc.specs.declared.output.Place.{Place}
-use Rattle.sf_program.specs.PlacedLines.{IsIndex}
 use Rattle.sf_program.proofs.Placing.{indexed_before, passed_over}
 use Rattle.sf_program.proofs.placed_lines.index_lines.Goals as goal
 

@@ -1,7 +1,5 @@
 use Rattle.std.proofs.Common.{◌≡◌, arith, sym, subst, true}
-use Rattle.std.specs.Prelude.{is_some}
-use Rattle.sf_model.specs.declared.parts.Block.{Block}
-use Rattle.sf_names.specs.Values.{value_in}
+use Rattle.sf_program.proofs.Common.{is_some, Block, value_in}
 use Rattle.sf_program.proofs.Placing.{one_spot_more, numbered_more, near_more}
 use Rattle.sf_program.proofs.placed_lines.place_blocks.Goals as goal
 

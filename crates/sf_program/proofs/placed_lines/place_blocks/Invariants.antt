@@ -1,8 +1,5 @@
 use Rattle.std.proofs.Common.{◌≡◌, map, length, drop}
-use Rattle.std.specs.Prelude.{All}
-use Rattle.std.specs.List.{range_with_len}
-use Rattle.sf_place.specs.Spots.{HasNearCorner}
-use Rattle.sf_program.specs.Measured.{spots_said}
+use Rattle.sf_program.proofs.Common.{All, range_with_len, HasNearCorner, spots_said}
 use Rattle.sf_program.proofs.Placing.{after}
 use Rattle.sf_program.proofs.placed_lines.place_blocks.Given as goal
 

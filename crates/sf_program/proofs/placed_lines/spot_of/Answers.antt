@@ -1,11 +1,6 @@
 use Rattle.std.proofs.Common.{◌≡◌, ◌<◌, ◌∷◌, [], List, length, Some, Err, ap, sym, subst, ◌∙◌, rules, codes}
-use Rattle.sf_model.specs.declared.plan.Spot.{Spot}
-use Rattle.sf_gsrc.specs.declared.output.Place.{Place}
+use Rattle.sf_program.proofs.Common.{Spot, Place, lines_named, spot_said, Ends, LinesAre, IsOnly, HasNearPlace, design_fault}
 use Rattle.sf_program.specs.declared.placed_lines.Lines.TheVariants.{Without, One, More}
-use Rattle.sf_program.specs.Measured.{lines_named, spot_said}
-use Rattle.sf_program.specs.Outcome.{Ends}
-use Rattle.sf_program.specs.PlacedLines.{LinesAre, IsOnly, HasNearPlace}
-use Rattle.sf_program.specs.Refusals.{design_fault}
 use Rattle.sf_program.proofs.Placing.{kept_is}
 use Rattle.sf_program.proofs.Stages.{refused-stops}
 use Rattle.sf_program.proofs.placed_lines.spot_of.Goals as goal

@@ -1,7 +1,5 @@
 use Rattle.std.proofs.Common.{sym, subst, arith}
-use Rattle.sf_model.specs.Legal.{HasEachOnce}
-use Rattle.sf_model.specs.Tree.{tree_of}
-use Rattle.sf_place.specs.Verdict.{AreLegal}
+use Rattle.sf_program.proofs.Common.{HasEachOnce, tree_of, AreLegal}
 use Rattle.sf_checker.proofs.Plans.{once, leaves-few, has-sides}
 use Rattle.sf_program.proofs.Fitting.{its-legal, its-fits}
 use Rattle.sf_program.proofs.plan_answer.measure_plan.Goals as goal

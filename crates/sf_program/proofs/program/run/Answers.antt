@@ -1,8 +1,7 @@
 use Rattle.std.proofs.Common.{inl, map, string_bytes, sym, subst}
-use Rattle.sf_program.specs.Answer.{Answers}
-use Rattle.sf_program.specs.Stores.{stored_in}
+use Rattle.sf_program.proofs.Common.{Answers, stored_in}
 use Rattle.sf_program.proofs.Complete.{run-ends}
-use Rattle.sf_program.proofs.Headline.{done-of, generated-headline, planned-headline, searched-answer}
+use Rattle.sf_program.proofs.Headline.{done-of, generated-headline, planned-headline, resumed-headline, searched-answer}
 use Rattle.sf_program.proofs.Statuses.{answer-status, halted-before, not-silent}
 use Rattle.sf_program.proofs.program.run.Goals as goal
 
@@ -33,6 +32,19 @@ returns-in-Ok-clause-generated g c = λ searched.
     let taken_then = (g.K.Sink.seen c.finish.new.out).taken in
     let status = c.finish.result in
     generated-headline words before after taken taken_then status
+    (done-of words before (g.S.Shelf.seen c.work.new.shelf).holds after taken taken_then c.in-Ok.work.status status (stored_in c.in-Ok.work.stores.items) c.in-Ok.work.text.items
+    c.work.ensures.read.unchanged c.in-Ok.ensures.answer (c.finish.ensures.done (searched-answer status searched)))
+    searched
+
+pub returns-in-Ok-clause-resumed : goal.returns-in-Ok-clause-resumed
+returns-in-Ok-clause-resumed g c = λ searched.
+    let words = map string_bytes c.args.words.now in
+    let before = (g.S.Shelf.seen c.args.shelf.now).holds in
+    let after = (g.S.Shelf.seen c.finish.new.shelf).holds in
+    let taken = (g.K.Sink.seen c.args.out.now).taken in
+    let taken_then = (g.K.Sink.seen c.finish.new.out).taken in
+    let status = c.finish.result in
+    resumed-headline words before after taken taken_then status
     (done-of words before (g.S.Shelf.seen c.work.new.shelf).holds after taken taken_then c.in-Ok.work.status status (stored_in c.in-Ok.work.stores.items) c.in-Ok.work.text.items
     c.work.ensures.read.unchanged c.in-Ok.ensures.answer (c.finish.ensures.done (searched-answer status searched)))
     searched

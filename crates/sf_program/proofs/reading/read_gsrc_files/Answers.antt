@@ -1,10 +1,5 @@
 use Rattle.std.proofs.Common.{◌∙◌, codes, length, Ok, Err, subst}
-use Rattle.std.proofs.lemmas.Result.{err_from_is_err_and}
-use Rattle.sf_gsrc.specs.Join.{nets_in}
-use Rattle.sf_words.specs.Seen.{text_of}
-use Rattle.sf_program.specs.Outcome.{Stops}
-use Rattle.sf_program.specs.Reading.{IfNamed, JoinedRead, NetsRead, PlacesRead, WeightsRead}
-use Rattle.sf_program.specs.Weighed.{weighed_in}
+use Rattle.sf_program.proofs.Common.{err_from_is_err_and, nets_in, text_of, Stops, IfNamed, JoinedRead, NetsRead, PlacesRead, WeightsRead, weighed_in}
 use Rattle.sf_program.proofs.Stages.{PlacedRead, WeighedRead, behind-blocks, behind-nets, behind-places, reads-then, then-ends, then-stops, uncounted}
 use Rattle.sf_program.proofs.reading.read_gsrc_files.Goals as goal
 

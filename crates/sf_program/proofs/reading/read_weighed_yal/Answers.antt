@@ -1,8 +1,5 @@
 use Rattle.std.proofs.Common.{ℕ, length, Err, inl, inr, refl, ap, subst}
-use Rattle.std.proofs.lemmas.Result.{err_from_is_err_and}
-use Rattle.sf_words.specs.Seen.{text_of}
-use Rattle.sf_program.specs.Outcome.{Stops}
-use Rattle.sf_program.specs.Reading.{WeightsRead, YalWeighed}
+use Rattle.sf_program.proofs.Common.{err_from_is_err_and, text_of, Stops, WeightsRead, YalWeighed}
 use Rattle.sf_program.proofs.Stages.{stops-map}
 use Rattle.sf_program.proofs.reading.read_weighed_yal.Goals as goal
 

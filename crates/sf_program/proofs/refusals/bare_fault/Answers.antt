@@ -1,6 +1,5 @@
 use Rattle.std.proofs.Common.{inl, refl, ap, ◌∙◌}
-use Rattle.sf_io.specs.declared.status.Status.TheVariants.{BadInput}
-use Rattle.sf_program.specs.Outcome.{refused}
+use Rattle.sf_program.proofs.Common.{BadInput, refused}
 use Rattle.sf_program.proofs.refusals.bare_fault.Goals as goal
 
 pub returns : goal.returns

@@ -1,6 +1,5 @@
 use Rattle.std.proofs.Common.{inr, refl, ap, ◌∙◌}
-use Rattle.sf_io.specs.declared.status.Status.TheVariants.{OverLimit}
-use Rattle.sf_program.specs.Outcome.{refused}
+use Rattle.sf_program.proofs.Common.{OverLimit, refused}
 use Rattle.sf_program.proofs.refusals.over_limit.Goals as goal
 
 pub returns : goal.returns

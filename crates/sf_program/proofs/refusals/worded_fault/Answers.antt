@@ -1,7 +1,5 @@
 use Rattle.std.proofs.Common.{◌≡◌, ◌++◌, ◌∷◌, [], List, ℕ, inl, refl, ap, ◌∙◌, append_assoc, rules, codes, string_bytes}
-use Rattle.std.specs.Fmt.{decimal}
-use Rattle.sf_io.specs.declared.status.Status.TheVariants.{BadInput}
-use Rattle.sf_program.specs.Outcome.{refused}
+use Rattle.sf_program.proofs.Common.{decimal, BadInput, refused}
 use Rattle.sf_program.proofs.refusals.worded_fault.Goals as goal
 
 joined : (a b c d : List ℕ) → (a ++ 32 ∷ (b ++ 32 ∷ (c ++ 32 ∷ []))) ++ (d ++ 10 ∷ []) ≡ a ++ 32 ∷ (b ++ 32 ∷ (c ++ 32 ∷ (d ++ 10 ∷ [])))

@@ -1,6 +1,5 @@
 use Rattle.std.proofs.Common.{◌≡◌, ◌++◌, take, string_bytes}
-use Rattle.std.specs.List.{flat_map}
-use Rattle.sf_program.specs.Shaped.{point_line}
+use Rattle.sf_program.proofs.Common.{flat_map, point_line}
 use Rattle.sf_program.proofs.shaping.push_points.Given as goal
 
 abbrev pub invariant-loop-point : goal.invariant-loop-point

@@ -1,13 +1,6 @@
 use Rattle.std.proofs.Common.{List, Option, Ok, Err, inl, refl, subst, sym}
-use Rattle.std.proofs.lemmas.Result.{err_from_is_err_and}
-use Rattle.sf_io.specs.Outside.{Contents}
-use Rattle.sf_model.specs.Legal.{block_count}
+use Rattle.sf_program.proofs.Common.{err_from_is_err_and, Contents, block_count, IsRootCurve, root, shape_seen, IsCurveText, ShapeRead, TokensRead, Stops}
 use Rattle.sf_polish.specs.declared.expr.Token.{Token}
-use Rattle.sf_curves.specs.Choices.{IsRootCurve}
-use Rattle.sf_node.specs.Subproblem.{root}
-use Rattle.sf_words.specs.Seen.{shape_seen}
-use Rattle.sf_program.specs.Shaped.{IsCurveText, ShapeRead, TokensRead}
-use Rattle.sf_program.specs.Outcome.{Stops}
 use Rattle.sf_program.proofs.Stages.{stops-map}
 use Rattle.sf_program.proofs.shaping.shape.Goals as goal
 

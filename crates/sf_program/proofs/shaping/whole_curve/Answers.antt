@@ -1,7 +1,6 @@
 use Rattle.std.proofs.Common.{ap, sym, subst, ◌∙◌}
-use Rattle.sf_curves.specs.Choices.{AreSpans}
+use Rattle.sf_program.proofs.Common.{AreSpans, root}
 use Rattle.sf_node.specs.Parts.{Parts}
-use Rattle.sf_node.specs.Subproblem.{root}
 use Rattle.sf_node.proofs.Reached.{root-subproblem}
 use Rattle.sf_bounds.proofs.Building.{curve_spans}
 use Rattle.sf_program.proofs.shaping.whole_curve.Goals as goal

@@ -1,8 +1,5 @@
 use Rattle.std.proofs.Common.{◌≡◌, ◌+◌, ◌++◌, ◌∷◌, [], ap, ap₂, ◌∙◌, take, get_or, length, arith, ◌≤◌}
-use Rattle.std.proofs.lemmas.List.{take_more, take_all}
-use Rattle.clap.specs.Words.{App, with_subcommand}
-use Rattle.sf_words.specs.declared.options.Mode.TheVariants.{Plan}
-use Rattle.sf_words.specs.App.{bare, with_modes, floorplan}
+use Rattle.sf_words.proofs.Common.{take_more, take_all, App, with_subcommand, Plan, bare, with_modes, floorplan}
 use Rattle.sf_words.proofs.Build.{with_modes-push}
 use Rattle.sf_words.proofs.line.floorplan.Goals as goal
 

@@ -1,7 +1,5 @@
 use Rattle.std.proofs.Common.{◌≡◌, take}
-use Rattle.clap.specs.Words.{app_of}
-use Rattle.sf_words.specs.Table.{modes}
-use Rattle.sf_words.specs.App.{bare, with_modes}
+use Rattle.sf_words.proofs.Common.{app_of, modes, bare, with_modes}
 use Rattle.sf_words.proofs.line.floorplan.Given as goal
 
 abbrev pub invariant-loop-mode : goal.invariant-loop-mode

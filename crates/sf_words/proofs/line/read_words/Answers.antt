@@ -1,10 +1,7 @@
 use Rattle.std.proofs.Common.{map, string_bytes}
 use Rattle.std.proofs.lemmas.Option.{IfSome_then}
-use Rattle.clap.specs.Words.{found_of, rows_of}
-use Rattle.sf_words.specs.Table.{mode_text}
-use Rattle.sf_words.specs.Seen.{token_of, command_seen}
+use Rattle.sf_words.proofs.Common.{found_of, rows_of, mode_text, token_of, command_seen, rows_for, texts_of}
 use Rattle.sf_words.proofs.Lookup.{none_weaker}
-use Rattle.sf_words.specs.Kept.{rows_for, texts_of}
 use Rattle.sf_words.proofs.FoundMeaning.{rows_same, means, has_none}
 use Rattle.sf_words.proofs.line.read_words.Goals as goal
 

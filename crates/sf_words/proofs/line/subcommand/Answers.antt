@@ -1,8 +1,5 @@
 use Rattle.std.proofs.Common.{◌≡◌, ◌+◌, ◌++◌, ◌∷◌, [], ap, ◌∙◌, take, get_or}
-use Rattle.std.proofs.lemmas.List.{take_more}
-use Rattle.clap.specs.Words.{App, with_rule}
-use Rattle.sf_words.specs.declared.options.Key.TheVariants.{Format}
-use Rattle.sf_words.specs.App.{rule_of_key}
+use Rattle.sf_words.proofs.Common.{take_more, App, with_rule, Format, rule_of_key}
 use Rattle.sf_words.proofs.Build.{with_keys-push}
 use Rattle.sf_words.proofs.line.subcommand.Goals as goal
 

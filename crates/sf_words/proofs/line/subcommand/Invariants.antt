@@ -1,8 +1,6 @@
 use Rattle.std.proofs.Common.{◌≡◌, take, false}
-use Rattle.clap.specs.Words.{app_of, new_app}
+use Rattle.sf_words.proofs.Common.{app_of, new_app, mode_text, keys_of, with_keys}
 use Rattle.clap.specs.declared.builder.command.Command.TheViews.{out-Command}
-use Rattle.sf_words.specs.Table.{mode_text, keys_of}
-use Rattle.sf_words.specs.App.{with_keys}
 use Rattle.sf_words.proofs.line.subcommand.Given as goal
 
 abbrev pub invariant-loop-key : goal.invariant-loop-key

@@ -1,6 +1,5 @@
 use Rattle.std.proofs.Common.{◌≢◌, ℕ, ◌<◌, get_or}
-use Rattle.sf_words.specs.declared.options.Key.{Key}
-use Rattle.sf_words.specs.Table.{key_text}
+use Rattle.sf_words.proofs.Common.{Key, key_text}
 use Rattle.sf_words.proofs.options.find_key.Given as goal
 
 abbrev pub invariant-loop-key : goal.invariant-loop-key

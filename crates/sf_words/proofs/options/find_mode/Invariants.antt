@@ -1,6 +1,5 @@
 use Rattle.std.proofs.Common.{◌≢◌, ℕ, ◌<◌, get_or}
-use Rattle.sf_words.specs.declared.options.Mode.{Mode}
-use Rattle.sf_words.specs.Table.{modes, mode_text}
+use Rattle.sf_words.proofs.Common.{Mode, modes, mode_text}
 use Rattle.sf_words.proofs.options.find_mode.Given as goal
 
 abbrev pub invariant-loop-mode : goal.invariant-loop-mode

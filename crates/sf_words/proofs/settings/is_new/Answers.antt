@@ -1,9 +1,7 @@
 use Rattle.std.proofs.Common.{◌≡◌, ◌≢◌, arith, [], sym, ◌∙◌}
-use Rattle.std.proofs.lemmas.List.{map_more}
-use Rattle.sf_words.specs.declared.options.Key.TheVariants.{Format}
+use Rattle.sf_words.proofs.Common.{map_more, Format, token_of}
 use Rattle.sf_words.specs.declared.settings.Setting.{Setting}
 use Rattle.sf_words.specs.declared.settings.Setting.TheVariants.{Attached}
-use Rattle.sf_words.specs.Seen.{token_of}
 use Rattle.sf_words.proofs.Tokens.{IsNew-push, IsNew-index}
 use Rattle.sf_words.proofs.settings.is_new.Goals as goal
 

@@ -1,6 +1,5 @@
 use Rattle.std.proofs.Common.{take, map}
-use Rattle.sf_words.specs.Words.{IsNew}
-use Rattle.sf_words.specs.Seen.{token_of}
+use Rattle.sf_words.proofs.Common.{IsNew, token_of}
 use Rattle.sf_words.proofs.settings.is_new.Given as goal
 
 abbrev pub invariant-loop-setting : goal.invariant-loop-setting

@@ -1,6 +1,5 @@
 use Rattle.std.proofs.Common.{sym, subst, ◌∙◌, string_bytes}
-use Rattle.sf_words.specs.declared.options.Mode.{Mode}
-use Rattle.sf_words.specs.Words.{AreOptions}
+use Rattle.sf_words.proofs.Common.{Mode, AreOptions}
 use Rattle.sf_words.proofs.Texts.{mode_text-injective}
 use Rattle.sf_words.proofs.Tokens.{first_of_map, heads_same, tails_same}
 use Rattle.sf_words.proofs.settings.read_form.Goals as goal

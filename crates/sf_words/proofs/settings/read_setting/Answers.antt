@@ -1,6 +1,5 @@
 use Rattle.std.proofs.Common.{◌≡◌, arith, ◌∷◌, ◌++◌, ◌∙◌, sym, subst, string_bytes, map, drop, take, length, ◌-◌, ap, false, true}
-use Rattle.sf_words.specs.Table.{Text, key_text}
-use Rattle.sf_words.specs.Words.{attached, before, IsShaped, IsValue, key_word}
+use Rattle.sf_words.proofs.Common.{Text, key_text, attached, before, IsShaped, IsValue, key_word}
 use Rattle.sf_words.proofs.Tokens.{attached_only, spaced_only, first_of_map, none_of_map, heads_same}
 use Rattle.sf_words.proofs.settings.read_setting.Goals as goal
 use Rattle.sf_words.proofs.settings.read_setting.Goals.{else-not-is_flag-via-then-not-is_flag+else-is_value, else-not-is_flag-via-else-not-is_flag}

@@ -1,8 +1,5 @@
 use Rattle.std.proofs.Common.{◌≡◌, ◌<◌, arith, ◌∷◌, [], ◌++◌, sym, ap, ◌∙◌, map, string_bytes, length, IsTrue, Contains}
-use Rattle.std.proofs.lemmas.List.{map-append, nil_from_length}
-use Rattle.sf_words.specs.Table.{keys_of}
-use Rattle.sf_words.specs.Words.{IsNew, key_of}
-use Rattle.sf_words.specs.Seen.{token_of}
+use Rattle.sf_words.proofs.Common.{map-append, nil_from_length, keys_of, IsNew, key_of, token_of}
 use Rattle.sf_words.proofs.Tokens.{ahead, no_more, not_twice, ahead-push, ahead-nil, AreOptions-push, some_of_map}
 use Rattle.sf_words.proofs.settings.read_settings.Goals as goal
 

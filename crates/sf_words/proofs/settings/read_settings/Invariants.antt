@@ -1,7 +1,5 @@
 use Rattle.std.proofs.Common.{◌≡◌, map, string_bytes, length}
-use Rattle.sf_words.specs.Table.{keys_of}
-use Rattle.sf_words.specs.Words.{AreOptions}
-use Rattle.sf_words.specs.Seen.{token_of}
+use Rattle.sf_words.proofs.Common.{keys_of, AreOptions, token_of}
 use Rattle.sf_words.proofs.Tokens.{ahead}
 use Rattle.sf_words.proofs.settings.read_settings.Given as goal
 

@@ -1,8 +1,7 @@
 use Rattle.std.proofs.Common.{◌≡◌, ◌≢◌, ◌∙◌, sym, ap, codes, option_map, Some, IsTrue}
-use Rattle.clap.specs.Words.{found_of, first_of, rows_of, Text}
+use Rattle.clap.specs.Words.{Text}
+use Rattle.sf_words.proofs.Common.{found_of, first_of, rows_of, key_text, flag_text, texts_of}
 use Rattle.clap.proofs.WalkLemmas.{first_value-rows}
-use Rattle.sf_words.specs.Table.{key_text}
-use Rattle.sf_words.specs.Kept.{flag_text, texts_of}
 use Rattle.sf_words.proofs.KeptTexts.{not_true, texts_in_value, texts_in_flag}
 use Rattle.sf_words.proofs.parsed.Parsed.text.Goals as goal
 

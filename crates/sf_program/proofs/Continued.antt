@@ -1,0 +1,29 @@
+-- A certificate that is read, and what is answered to it.
+use Rattle.std.proofs.Common.{◌≡◌, inl, inr, Bool, ℕ, List, Option, Result, Ok, Err, IfOk, refl, sym, subst}
+use Rattle.sf_program.proofs.Common.{IfErr, Contents, Design, block_count, Cert, ResumeOptions, resume, Stop, Stops, Ends, DesignRead, Judged, TextWithin, Obeys, cert_limit, cert_refusal, CertLoaded, IsTakenUp, ResumeRead, SumTested, stored_in}
+use Rattle.sf_certificate.specs.Reading.{cert_read, said_by}
+use Rattle.sf_program.specs.declared.work.Work.{Work}
+use Rattle.sf_program.proofs.Stages.{stops-map}
+
+-- what a text says, or its first fault, is what the file of the text says
+pub cert-loaded : (is_long : Bool) (held : Option Contents) (name text said : List ℕ) (design : Design) → TextWithin (cert_limit is_long) held name (Ok text) → said ≡ text → (r : Result Cert Stop)
+    → IfOk r (λ c. cert_read (block_count design) said ≡ Ok (said_by c))
+    → IfErr r (λ stop. Stops stop (λ why. Judged (cert_read (block_count design) said) cert_refusal (Err why))) → Ends (λ c. c) r (CertLoaded is_long held name design)
+cert-loaded is_long held name text said design read same (Ok c) told stopped =
+    inl (text, read, subst (λ r. Judged r cert_refusal (Ok (said_by c))) (sym (subst (λ t. cert_read (block_count design) t ≡ Ok (said_by c)) same told)) refl)
+cert-loaded is_long held name text said design read same (Err stop) told stopped =
+    stops-map (λ why. Judged (cert_read (block_count design) said) cert_refusal (Err why)) (λ why. CertLoaded is_long held name design (Err why))
+    (λ why p. inl (text, read, subst (λ t. Judged (cert_read (block_count design) t) cert_refusal (Err why)) same p)) stop stopped
+
+-- the design comes before the certificate, and the certificate before its sum
+module _ (held : Option Contents) (o : ResumeOptions) (design : Design) (read : DesignRead held o.design o.weights (Ok design)) where
+  -- a file that says no certificate ends the command
+  pub resume-stops : (stop : Stop) → Stops stop (λ why. CertLoaded o.is_long held o.cert design (Err why)) → Stops stop (λ why. ResumeRead held o (Err why))
+  resume-stops = stops-map (λ why. CertLoaded o.is_long held o.cert design (Err why)) (λ why. ResumeRead held o (Err why)) (λ why p. inl (design, read, inr (why, p, refl)))
+
+  -- what is answered to the certificate is what `resume` answers
+  pub resume-obeyed : (cert : Cert) → CertLoaded o.is_long held o.cert design (Ok cert) → (r : Result Work Stop) → IfOk r (λ w. IsTakenUp o design cert w.status (stored_in w.stores.items) w.text.items)
+      → IfOk r (λ w. SumTested o.is_long o.nodes design cert (Ok cert)) → IfErr r (λ stop. Stops stop (λ why. SumTested o.is_long o.nodes design cert (Err why))) → Obeys (resume o) held r
+  resume-obeyed cert loaded (Ok w) told within stopped = record { design = design; cert = cert; reads = inl (design, read, (refl, inl (cert, loaded, within))); taken_up = told }
+  resume-obeyed cert loaded (Err stop) told within stopped =
+      stops-map (λ why. SumTested o.is_long o.nodes design cert (Err why)) (λ why. ResumeRead held o (Err why)) (λ why p. inl (design, read, inl (cert, loaded, p))) stop stopped

@@ -1,0 +1,5 @@
+pub mod Reading
+pub mod Reach
+pub mod Apart
+pub mod Grafted
+pub mod Resumed
