@@ -40,19 +40,21 @@ fn area_of_curves(
     Ok(area_part(&scratch.curves))
 }
 
-/// What this area costs, which the items and the unused blocks need; none where they have no room.
+/// What this area costs, which the items and the unused blocks need, or the floor that the design knows where
+/// that is more; none where they have no room.
 fn cost_of(needed: u64, design: &Design, node: &Node) -> Option<u64>
     requires { IsNeeded design.now node.now needed }
     ensures { IsAreaCostOrNone design.now node.now result }
 {
-    if needed > u64::from(design.outline.w) * u64::from(design.outline.h) {
+    let area = needed.max(design.area_floor);
+    if area > u64::from(design.outline.w) * u64::from(design.outline.h) {
         return None;
     }
-    Some(u64::from(design.weights.area) * needed)
+    Some(u64::from(design.weights.area) * area)
 }
 
-/// What the area costs at least that the items and the unused blocks need; none where one of them fits in
-/// no way, or they have no room. It is measured by the frames of the path where each span is whole and no
+/// What the area costs at least that the items and the unused blocks need, or that the design knows to be
+/// needed; none where one of them fits in no way, or they have no room. It is measured by the frames of the path where each span is whole and no
 /// more points are needed than are kept, else from curves that are made anew.
 pub fn area_cost(
     frames: &mut Frames,

@@ -15,8 +15,8 @@ pub use Rattle.sf_checker.specs.declared.answer.Answer.{Answer}
 pub use Rattle.sf_checker.specs.declared.answer.Why.{Why}
 pub use Rattle.sf_checker.specs.declared.answer.Why.TheVariants.{BadChildren, BadPlan, BadSplit, BoundDiffers, CostDiffers, NotClosed}
 pub use Rattle.sf_checker.specs.declared.stage.Stage.TheVariants.{Fault, Opening, Tree}
-pub use Rattle.sf_model.specs.Legal.{Fits, HasEachOnce, IsLegal, block_count, shapes_of}
-pub use Rattle.sf_model.specs.Tree.{Above, Beside, HasBlocksBelow, HasSides, Leaf, leaf_count, leaves}
+pub use Rattle.sf_model.specs.Legal.{Fits, IsLegal, block_count, shapes_of}
+pub use Rattle.sf_model.specs.Tree.{Above, Beside, HasBlocksBelow, HasEachOnce, HasSides, Leaf, leaf_count, leaves}
 pub use Rattle.sf_model.specs.declared.TheConstants.{MAX}
 pub use Rattle.sf_model.specs.declared.design.Design.{Design}
 pub use Rattle.sf_node.specs.Parts.{Parts}

@@ -171,6 +171,13 @@ module _ {B : Type 0} (value : B → Design → Parts → ℕ) (part_value : B �
         subst (λ d. IsStage d (value bounds own) (part_value bounds own) text stage) (sym fed.serves)
         (subst (λ v. IsStage design v (part_value bounds own) text stage) (sym same-bound) (subst (λ v. IsStage design bound v text stage) (sym same-part) fed.stage))
 
+  -- an answer by the checking's own design and bounds is one by those that the text was fed for
+  pub fed-answer : (text : List ℕ) (stage : Stage) (answer : Answer) → IsFed value part_value design bound part text (own, bounds, stage)
+      → IsAnswerTo own (value bounds own) (part_value bounds own) text answer → IsAnswerTo design bound part text answer
+  fed-answer text stage answer fed told =
+      subst (λ v. IsAnswerTo design bound v text answer) (same-part text stage fed) (subst (λ v. IsAnswerTo design v (part_value bounds own) text answer) (same-bound text stage fed)
+      (subst (λ d. IsAnswerTo d (value bounds own) (part_value bounds own) text answer) fed.serves told))
+
   -- a text that is longer by a piece leads to the stage that the piece leads to
   pub fed-more : {X E : Type 0} (text piece : List ℕ) (old new : Stage) (r : Result X E) → IsFed value part_value design bound part text (own, bounds, old)
       → ((text : List ℕ) → IsStage own (value bounds own) (part_value bounds own) text old → OnOk r (IsStage own (value bounds own) (part_value bounds own) (text ++ piece) new))

@@ -2,12 +2,12 @@
 pub use Prim.Native.Nat.{zero}
 pub use Rattle.sf_model.specs.Admitted.{HasPinsInRange, IsAdmitted, IsFirstOf, IsKindWithin, IsPinInRange, IsPlaceWithin, KeepsLimits, at_pin_name, at_placed_name, block_of, duplicates, first, is_index, is_wired, missing_places, name_faults, no_blocks, over, over_counts, over_kind, over_limits, over_place, over_places, pad_of, repeated_names, unknowns, unplaced_faults}
 pub use Rattle.sf_model.specs.Built.{HasShapeChoices, IsDesignOf, IsNetOf, IsOutline, IsWeighted, design_blocks, design_pads, first_shapeless, named_pins, pin_at, pin_of, placed_pad}
-pub use Rattle.sf_model.specs.Legal.{Fits, HasEachOnce, IsLegal, block_count}
+pub use Rattle.sf_model.specs.Legal.{Fits, IsLegal, block_count}
 pub use Rattle.sf_model.specs.Limits.{IsCoordinate, IsDoubledCoordinate, IsPinSet, IsShapeChoice, IsShapeList, IsThere, IsWithinLimits, pin_number, pin_order}
 pub use Rattle.sf_model.specs.Numbers.{IsNetMade, same_pin}
 pub use Rattle.sf_model.specs.Rules.{rule_faults}
 pub use Rattle.sf_model.specs.Table.{IsTableOf, place_in}
-pub use Rattle.sf_model.specs.Tree.{Above, Beside, HasBlocksBelow, IsInside, Leaf, Overlaps, Tree, height, leaves, spots_at, spots_of, width}
+pub use Rattle.sf_model.specs.Tree.{Above, Beside, HasBlocksBelow, HasEachOnce, IsInside, Leaf, Overlaps, Tree, height, leaves, spots_at, spots_of, width}
 pub use Rattle.sf_model.specs.declared.design.Design.{Design}
 pub use Rattle.sf_model.specs.declared.fault.BuildFault.{BuildFault}
 pub use Rattle.sf_model.specs.declared.parts.Block.{Block}

@@ -100,8 +100,8 @@ limits_hold parts lists outline weights blocks pads nets admitted choices sides 
     }))
 
 -- what is built from parts is their design
-pub is_design : (parts : Parts) (lists : List (List Shape)) (outline : Outline) (weights : Weights) (net_weights : List ℕ) (design : Design) → HasShapeChoices parts.blocks lists → design.blocks ≡ design_blocks parts.blocks lists → design.pads ≡ design_pads parts → AllZip (IsNetMade parts) parts.nets design.nets → design.outline ≡ outline → design.weights ≡ weights → map (λ n. n.weight) design.nets ≡ net_weights → IsDesignOf parts lists outline weights net_weights design
-is_design parts lists outline weights net_weights design choices blocks pads made outline_is weights_are net_weights_are = record {
+pub is_design : (parts : Parts) (lists : List (List Shape)) (outline : Outline) (weights : Weights) (net_weights : List ℕ) (design : Design) → HasShapeChoices parts.blocks lists → design.blocks ≡ design_blocks parts.blocks lists → design.pads ≡ design_pads parts → AllZip (IsNetMade parts) parts.nets design.nets → design.outline ≡ outline → design.weights ≡ weights → map (λ n. n.weight) design.nets ≡ net_weights → design.area_floor ≡ 0 → IsDesignOf parts lists outline weights net_weights design
+is_design parts lists outline weights net_weights design choices blocks pads made outline_is weights_are net_weights_are no_floor = record {
   block_count = ap (λ bs. length bs) blocks ∙ length_blocks parts.blocks lists choices.one_each;
   blocks = blocks;
   pads = pads;
@@ -110,4 +110,5 @@ is_design parts lists outline weights net_weights design choices blocks pads mad
   outline_is = outline_is;
   weights_are = weights_are;
   net_weights_are = net_weights_are;
+  no_floor = no_floor;
 }

@@ -2,6 +2,7 @@
 use Rattle.std.proofs.Common.{◌≡◌, ℕ, zero, suc, ◌<◌, List, [], ◌∷◌, map, drop, length, get_or, ◌⊎◌, inl, inr, refl, ap, sym, ◌∙◌, arith}
 use Rattle.std.proofs.Props.{props}
 use Rattle.sf_model.proofs.Common.{AllByRecursion, AllPairs, Contains, zip, All-contains, recursion_from_All, IsDesignOf, IsNetOf, IsWithinLimits, pin_order, Design, Block, Pad, Net, Pin, Shape, Parts, RawNet}
+use Rattle.sf_model.specs.AreaFloor.{IsAreaFloorIn}
 use Rattle.sf_model.specs.declared.parts.Outline.{Outline}
 use Rattle.sf_model.specs.declared.parts.Weights.{Weights}
 
@@ -98,24 +99,31 @@ same_nets parts (r ∷ rs) (n ∷ ns) (m ∷ ms) i j a b w =
 one_proof : (blocks : List Block) (pads : List Pad) (nets : List Net) (outline : Outline) (weights : Weights) → IsProp (IsWithinLimits blocks pads nets outline weights)
 one_proof blocks pads nets outline weights = hlevel props
 
--- the design of these fields
-design_of : (blocks : List Block) (pads : List Pad) (nets : List Net) (outline : Outline) (weights : Weights) → IsWithinLimits blocks pads nets outline weights → Design
-design_of blocks pads nets outline weights kept = record { blocks = blocks; pads = pads; nets = nets; outline = outline; weights = weights; limits = kept }
+-- there is one way to show a floor
+one_floor : (blocks : List Block) (outline : Outline) (floor : ℕ) → IsProp (IsAreaFloorIn blocks outline floor)
+one_floor blocks outline floor = hlevel props
 
--- a design is the one of its fields, whatever shows that they keep the limits
-IsOf : Design → List Block → List Pad → List Net → Outline → Weights → Type 0
-IsOf d blocks pads nets outline weights = (kept : IsWithinLimits blocks pads nets outline weights) → d ≡ design_of blocks pads nets outline weights kept
+-- the design of these fields
+design_of : (blocks : List Block) (pads : List Pad) (nets : List Net) (outline : Outline) (weights : Weights) (floor : ℕ) → IsWithinLimits blocks pads nets outline weights → IsAreaFloorIn blocks outline floor → Design
+design_of blocks pads nets outline weights floor kept floored = record { blocks = blocks; pads = pads; nets = nets; outline = outline; weights = weights; area_floor = floor; limits = kept; floored = floored }
+
+-- a design is the one of its fields, whatever shows that they keep the limits and that the floor is one
+IsOf : Design → List Block → List Pad → List Net → Outline → Weights → ℕ → Type 0
+IsOf d blocks pads nets outline weights floor =
+    (kept : IsWithinLimits blocks pads nets outline weights) (floored : IsAreaFloorIn blocks outline floor) → d ≡ design_of blocks pads nets outline weights floor kept floored
 
 -- a design is the one of its own fields
-own : (d : Design) → IsOf d d.blocks d.pads d.nets d.outline d.weights
+own : (d : Design) → IsOf d d.blocks d.pads d.nets d.outline d.weights d.area_floor
 unfolding IsOf design_of
-own d kept = ap (design_of d.blocks d.pads d.nets d.outline d.weights) (one_proof d.blocks d.pads d.nets d.outline d.weights d.limits kept)
+own d kept floored =
+    ap (λ k. design_of d.blocks d.pads d.nets d.outline d.weights d.area_floor k d.floored) (one_proof d.blocks d.pads d.nets d.outline d.weights d.limits kept)
+    ∙ ap (design_of d.blocks d.pads d.nets d.outline d.weights d.area_floor kept) (one_floor d.blocks d.outline d.area_floor d.floored floored)
 
 -- two designs of the same fields are the same
-same_design : (d e : Design) → d.blocks ≡ e.blocks → d.pads ≡ e.pads → d.nets ≡ e.nets → d.outline ≡ e.outline → d.weights ≡ e.weights → d ≡ e
+pub same_design : (d e : Design) → d.blocks ≡ e.blocks → d.pads ≡ e.pads → d.nets ≡ e.nets → d.outline ≡ e.outline → d.weights ≡ e.weights → d.area_floor ≡ e.area_floor → d ≡ e
 unfolding IsOf design_of
-same_design d e b p n o w =
-    let k : IsOf d e.blocks e.pads e.nets e.outline e.weights = rw (← b, ← p, ← n, ← o, ← w) (own d) in k e.limits
+same_design d e b p n o w f =
+    let k : IsOf d e.blocks e.pads e.nets e.outline e.weights e.area_floor = rw (← b, ← p, ← n, ← o, ← w, ← f) (own d) in k e.limits e.floored
 
 -- two designs of the same parts, lists and weights are the same
 pub determined : (parts : Parts) (lists : List (List Shape)) (outline : Outline) (weights : Weights) (net_weights : List ℕ) (d e : Design) → IsDesignOf parts lists outline weights net_weights d → IsDesignOf parts lists outline weights net_weights e → d ≡ e
@@ -125,3 +133,4 @@ determined parts lists outline weights net_weights d e a b = same_design d e
     (same_nets parts parts.nets d.nets e.nets a.net_count b.net_count (recursion_from_All (λ (n : RawNet × Net). IsNetOf parts n.0 n.1) (zip parts.nets d.nets) a.nets) (recursion_from_All (λ (n : RawNet × Net). IsNetOf parts n.0 n.1) (zip parts.nets e.nets) b.nets) (a.net_weights_are ∙ sym b.net_weights_are))
     (a.outline_is ∙ sym b.outline_is)
     (a.weights_are ∙ sym b.weights_are)
+    (a.no_floor ∙ sym b.no_floor)

@@ -16,5 +16,6 @@ pub mod Moved
 pub mod PinsThere
 pub mod NetSets
 pub mod Designs
+pub mod Floored
 pub mod Paired
 pub mod Determined

@@ -77,7 +77,7 @@ pub record IsNetOf (parts : Parts) (read : RawNet) (net : Net) : Type 0 where
 abbrev pub HasNetWeights : Parts → List ℕ → Type 0
 HasNetWeights parts net_weights = length net_weights ≡ length parts.nets
 
--- the design of these parts with these lists: a block, and a net with its weight, for each one read, in their order
+-- the design of these parts with these lists: a block, and a net with its weight, for each one read, in their order. It knows nothing of its area
 pub record IsDesignOf (parts : Parts) (lists : List (List Shape)) (outline : Outline) (weights : Weights) (net_weights : List ℕ) (design : Design) : Type 0 where
   pub block_count : length design.blocks ≡ length parts.blocks
   pub blocks : design.blocks ≡ design_blocks parts.blocks lists
@@ -87,3 +87,4 @@ pub record IsDesignOf (parts : Parts) (lists : List (List Shape)) (outline : Out
   pub outline_is : design.outline ≡ outline
   pub weights_are : design.weights ≡ weights
   pub net_weights_are : map (λ n. n.weight) design.nets ≡ net_weights
+  pub no_floor : design.area_floor ≡ 0

@@ -141,6 +141,7 @@ impl Design {
             nets,
             outline,
             weights,
+            area_floor: 0,
         })
     }
 }

@@ -3,7 +3,8 @@
 //! A reader hands over `Parts`. `Parts::admit` tests them and names their first fault, and `Design::build`
 //! makes the design of admitted parts, with a list of shapes for each block. The crate stands on std alone.
 //! The crates above rest on `IsAdmitted` and `IsDesignOf` of these two calls, on the limits that each
-//! `Design` carries, and on the definitions of slicing trees, wire length and cost in specs/.
+//! `Design` carries, on the floor of its area that it may know, and on the definitions of slicing trees,
+//! wire length and cost in specs/.
 #![tactic(auto)]
 
 mod admit;
@@ -29,7 +30,9 @@ pub use admit::admitted_parts_keep_limits;
 pub use cost_text::push_cost;
 pub use design::Design;
 pub use fault::{BuildFault, Limit};
-pub use laws::{costs_are_bounded, designs_are_determined, spots_fill_plans};
+pub use laws::{
+    costs_are_bounded, designs_are_determined, floors_change_no_plan, spots_fill_plans,
+};
 pub use limits::{MOST_COORDINATE, MOST_PINS, MOST_SIDE};
 pub use lists::{BlockList, NetList, PadList, Pins, Shapes};
 pub use name::Name;

@@ -12,7 +12,8 @@ use Rattle.sf_model.specs.declared.design.Design.{Design}
 use Rattle.sf_model.specs.declared.parts.Net.{Net}
 use Rattle.sf_model.specs.declared.parts.Pin.{Pin}
 use Rattle.sf_model.specs.declared.parts.Shape.{Shape}
-use Rattle.sf_model.specs.Legal.{HasEachOnce, IsLegal, Fits, block_count, shapes_of}
+use Rattle.sf_model.specs.Legal.{IsLegal, Fits, block_count, shapes_of}
+use Rattle.sf_model.specs.Tree.{HasEachOnce}
 use Rattle.sf_model.specs.Cost.{right_end, upper_end, cost, spots_cost}
 use Rattle.sf_model.proofs.Each.{each-append, each-weaker, each-left, each-right, EachPair}
 use Rattle.sf_model.proofs.Places.{spots-inside, spots-apart}

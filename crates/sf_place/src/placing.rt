@@ -2,8 +2,8 @@
 
 ghost use Rattle.std.specs.Prelude.{◌≡◌, ℕ, ◌+◌, ◌*◌, ◌<◌, ◌≤◌, ◌^◌, length, Contains, IfOk};
 ghost use Rattle.sf_model.specs.declared.design.Design.{Design as DesignValue};
-ghost use Rattle.sf_model.specs.Tree.{tree_of, width, height, leaf_count, spots_at, spots_of, HasBlocksBelow};
-ghost use Rattle.sf_model.specs.Legal.{HasEachOnce, IsLegal, Fits};
+ghost use Rattle.sf_model.specs.Tree.{tree_of, width, height, leaf_count, spots_at, spots_of, HasBlocksBelow, HasEachOnce};
+ghost use Rattle.sf_model.specs.Legal.{IsLegal, Fits};
 ghost use Rattle.sf_model.specs.Wire.{spot_of, wire};
 ghost use Rattle.sf_model.specs.Cost.{cost, spots_cost};
 ghost use Rattle.sf_place.specs.Spots.{IsByNumber, by_number, with_spots};

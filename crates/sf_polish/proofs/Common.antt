@@ -2,8 +2,8 @@
 pub use Rattle.sf_lex.specs.Scan.{LineWord, last_line_of, line_words, numbered, numbered_words, words_of_line, words_of_lines}
 pub use Rattle.sf_model.proofs.Counting.{length-at_most_once, length-each_once, length-leaves_once}
 pub use Rattle.sf_model.proofs.Each.{each-append, each-left, each-right}
-pub use Rattle.sf_model.specs.Legal.{Fits, HasEachOnce, IsLegal, block_count, shapes_of}
-pub use Rattle.sf_model.specs.Tree.{Above, Beside, HasBlocksBelow, Leaf, Tree, height, leaves, spots_at, spots_of, tree_of, width}
+pub use Rattle.sf_model.specs.Legal.{Fits, IsLegal, block_count, shapes_of}
+pub use Rattle.sf_model.specs.Tree.{Above, Beside, HasBlocksBelow, HasEachOnce, Leaf, Tree, height, leaves, spots_at, spots_of, tree_of, width}
 pub use Rattle.sf_model.specs.declared.parts.Shape.{Shape}
 pub use Rattle.sf_polish.specs.Normal.{Alternates, IsBallot, IsNormal, ends_in, is_block, is_operand, is_outside, last_or, operands, operators, same_operator}
 pub use Rattle.sf_polish.specs.Postfix.{IsSkewed, Spells, is_above, is_beside, postfix, shape_at}

@@ -1,8 +1,7 @@
 //! Expressions and plans correspond, and so do expressions and their texts.
 
 ghost use Rattle.std.specs.Prelude.{◌≡◌, ◌<◌, ◌≤◌, ◌^◌, ◌++◌, ℕ, List, Ok, length};
-ghost use Rattle.sf_model.specs.Legal.{HasEachOnce};
-ghost use Rattle.sf_model.specs.Tree.{Tree};
+ghost use Rattle.sf_model.specs.Tree.{Tree, HasEachOnce};
 ghost use Rattle.sf_polish.specs.declared.expr.Expr.{Expr};
 ghost use Rattle.sf_polish.specs.declared.expr.Token.{Token};
 ghost use Rattle.sf_polish.specs.Normal.{IsNormal};

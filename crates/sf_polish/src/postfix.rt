@@ -1,8 +1,7 @@
 //! Plans turned into expressions.
 
 ghost use Rattle.std.specs.Prelude.{◌≡◌, ◌++◌, length, replicate, IfOk, OnOk};
-ghost use Rattle.sf_model.specs.Tree.{tree_of, HasBlocksBelow};
-ghost use Rattle.sf_model.specs.Legal.{HasEachOnce};
+ghost use Rattle.sf_model.specs.Tree.{tree_of, HasBlocksBelow, HasEachOnce};
 ghost use Rattle.sf_polish.specs.Normal.{IsNormal};
 ghost use Rattle.sf_polish.specs.Postfix.{postfix, IsSkewed, Spells};
 ghost use Rattle.sf_polish.specs.Shaping.{no_shape, with_leaves};

@@ -1,7 +1,7 @@
 -- The standard bound is its value from area and wires; no part of it is above it, and where wires cost nothing each part is the bound.
 use Rattle.std.proofs.Common.{◌≡◌, ℕ, ◌+◌, ◌*◌, ◌^◌, ◌<◌, ◌≤◌, max, List, [], ◌∷◌, length, arith, refl, ap, sym, subst, ◌∙◌, inl, inr, Bool, true, false}
 use Rattle.std.specs.Prelude.{◌==◌, ◌||◌, if◌then◌else◌}
-use Rattle.sf_standard.proofs.Common.{Contains, sum_by, nat_lt, list_any, mul-le-mul, mul-le-mul_left, and_parts, ne_eqb, cases_lt, cond_both, cond-true, cond-false, ltb-false, sum_by-cons, Design, Net, Pin, MAX, cost, Tree, width, height, spots_of, wire, IsSubproblem, Parts, is_complete, is_solved, subproblem-spans, Contains-head, Item, items_of, fitting, range_part, pair_part, hull_part, extent_in, area, least_of, least_cost, has_none, needed_area, pins_part, weighed_part, wire_part, pins_by, wires_by, plans_of, bounded, open_value, standard, part_value, has_single_spans, AllHavePlans}
+use Rattle.sf_standard.proofs.Common.{Contains, sum_by, nat_lt, list_any, mul-le-mul, mul-le-mul_left, and_parts, ne_eqb, cases_lt, cond_both, cond-true, cond-false, ltb-false, sum_by-cons, Design, Net, Pin, MAX, cost, Tree, width, height, spots_of, wire, IsSubproblem, Parts, is_complete, is_solved, subproblem-spans, Contains-head, Item, items_of, fitting, range_part, pair_part, hull_part, extent_in, area, least_of, least_cost, has_none, needed_area, area_part, pins_part, weighed_part, wire_part, pins_by, wires_by, plans_of, bounded, open_value, standard, part_value, has_single_spans, AllHavePlans}
 use Rattle.sf_model.proofs.Bounded.{cost-below}
 use Rattle.sf_node.specs.declared.part.Part.{Part}
 use Rattle.sf_node.specs.declared.part.Part.TheVariants as by
@@ -21,10 +21,10 @@ branch-le false x y z le = le
 -- more wires cost no less
 bounded-more : (design : Design) (plans : List (List Tree)) (v w : ℕ) → v ≤ w → bounded design v plans ≤ bounded design w plans
 bounded-more design plans v w le =
-    let a = design.weights.area * needed_area plans in
+    let a = design.weights.area * area_part design plans in
     let x = design.weights.wire * v in
     let y = design.weights.wire * w in
-    let lt = nat_lt (design.outline.w * design.outline.h) (needed_area plans) in
+    let lt = nat_lt (design.outline.w * design.outline.h) (area_part design plans) in
     branch-le (list_any has_none plans) MAX (if lt then MAX else (a + x)) (if lt then MAX else (a + y))
     (branch-le lt MAX (a + x) (a + y) (omega (arith, mul-le-mul_left design.weights.wire le)))
 
@@ -35,7 +35,7 @@ no-wires design w free = omega (arith, ap (λ n. n * w) free)
 -- where wires cost nothing, their length does not matter
 bounded-free : (design : Design) (plans : List (List Tree)) (v w : ℕ) → design.weights.wire ≡ 0 → bounded design v plans ≡ bounded design w plans
 bounded-free design plans v w free =
-    ap (λ n. if list_any has_none plans then MAX else (if nat_lt (design.outline.w * design.outline.h) (needed_area plans) then MAX else (design.weights.area * needed_area plans + n)))
+    ap (λ n. if list_any has_none plans then MAX else (if nat_lt (design.outline.w * design.outline.h) (area_part design plans) then MAX else (design.weights.area * area_part design plans + n)))
     (no-wires design v free ∙ sym (no-wires design w free))
 
 -- the greatest of the three parts of the wire of a net
@@ -75,7 +75,7 @@ areas-free design node = no-areas design node design.nets
 open-most : (design : Design) (node : Parts) → open_value design node ≤ MAX
 open-most design node =
     let plans = plans_of design node in
-    let a = needed_area plans in
+    let a = area_part design plans in
     let total = design.weights.area * a + design.weights.wire * wire_part design node in
     let lt = nat_lt (design.outline.w * design.outline.h) a in
     cond_both (list_any has_none plans) MAX (if lt then MAX else total) (λ v. v ≤ MAX)
@@ -126,7 +126,7 @@ module _ (design : Design) (node : Parts) (free : design.weights.wire ≡ 0) (su
     whole = whole-item design node sub (solved-complete design node solved)
 
     -- a plan of the least area is no dearer than the area that is needed
-    least-le : (t : Tree) → Contains (fitting design node whole.0) t → least_of (cost design) (fitting design node whole.0) ≤ design.weights.area * needed_area (plans_of design node) + design.weights.wire * wire_part design node
+    least-le : (t : Tree) → Contains (fitting design node whole.0) t → least_of (cost design) (fitting design node whole.0) ≤ design.weights.area * area_part design (plans_of design node) + design.weights.wire * wire_part design node
     least-le t here =
         elim (least_of-reached area (fitting design node whole.0)) [
           | inl none ↦ (let fit = (fitting-belongs design node whole.0 t sub (solved-complete design node solved) whole.1 here).1 in
@@ -134,7 +134,7 @@ module _ (design : Design) (node : Parts) (free : design.weights.wire ≡ 0) (su
               let h : height t ≤ 2 ^ 20 = omega (arith, fit.1, design.limits.height.1) in
               let room : area t ≤ 2 ^ 20 * 2 ^ 20 = mul-le-mul w h in
               absurd (omega (arith, none, room, least_of-le area (fitting design node whole.0) t here)))
-          | inr k ↦ (let areas : design.weights.area * area k.0 ≤ design.weights.area * needed_area (plans_of design node) = mul-le-mul_left design.weights.area (omega (arith, k.2, first-needed design node whole.0 whole.1.items)) in
+          | inr k ↦ (let areas : design.weights.area * area k.0 ≤ design.weights.area * area_part design (plans_of design node) = mul-le-mul_left design.weights.area (omega (arith, k.2, first-needed design node whole.0 whole.1.items)) in
               let wires : design.weights.wire * wire design (spots_of k.0) ≡ 0 = no-wires design (wire design (spots_of k.0)) free in
               omega (arith, areas, wires, least_of-le (cost design) (fitting design node whole.0) k.0 k.1))
         ]
@@ -144,8 +144,8 @@ module _ (design : Design) (node : Parts) (free : design.weights.wire ≡ 0) (su
     by-plans [] e = omega (arith, no-plan design node whole.0 whole.1.items e, ap (least_of (cost design)) e)
     by-plans (t ∷ ts) e =
         let plans = plans_of design node in
-        let total = design.weights.area * needed_area plans + design.weights.wire * wire_part design node in
-        let lt = nat_lt (design.outline.w * design.outline.h) (needed_area plans) in
+        let total = design.weights.area * area_part design plans + design.weights.wire * wire_part design node in
+        let lt = nat_lt (design.outline.w * design.outline.h) (area_part design plans) in
         let here : Contains (fitting design node whole.0) t = subst (λ v. Contains v t) (sym e) (Contains-head t ts) in
         let fit = (fitting-belongs design node whole.0 t sub (solved-complete design node solved) whole.1 here).1 in
         let most : least_of (cost design) (fitting design node whole.0) ≤ MAX = omega (arith, cost-below design t fit, least_of-le (cost design) (fitting design node whole.0) t here) in

@@ -1,6 +1,8 @@
 -- Worked values of the bound and of costs, in small designs.
 use Rattle.std.proofs.Common.{◌≡◌, ℕ, List, [], ◌∷◌, length, refl}
 use Rattle.sf_standard.proofs.Common.{pos, Design, Net, Outline, Pin, Shape, IsWithinLimits, Tree, Leaf, Beside, Above, spots_of, wire, cost, root, walk, extended, standard, part_value}
+use Rattle.sf_model.proofs.Floored.{no_floor}
+use Rattle.sf_model.specs.AreaFloor.{IsAreaFloorIn}
 use Rattle.sf_model.specs.declared.parts.Block.{Block}
 use Rattle.sf_model.specs.declared.parts.Pad.{Pad}
 use Rattle.sf_model.specs.declared.parts.Pin.TheVariants as pin
@@ -40,7 +42,7 @@ weights wire = record { area = 1; wire = wire }
 module _ (limits : IsWithinLimits (block (shape 3 4 ∷ shape 4 3 ∷ []) ∷ []) [] [] wide (weights 0)) where
   -- one block of two shapes
   abbrev lone_design : Design
-  lone_design = record { blocks = block (shape 3 4 ∷ shape 4 3 ∷ []) ∷ []; pads = []; nets = []; outline = wide; weights = weights 0; limits = limits }
+  lone_design = record { blocks = block (shape 3 4 ∷ shape 4 3 ∷ []) ∷ []; pads = []; nets = []; outline = wide; weights = weights 0; area_floor = 0; limits = limits; floored = no_floor (block (shape 3 4 ∷ shape 4 3 ∷ []) ∷ []) wide }
 
   -- its tree has two subproblems: the root, and the block
   lone_full : full lone_design ≡ 2
@@ -57,7 +59,7 @@ module _ (limits : IsWithinLimits (block (shape 3 4 ∷ shape 4 3 ∷ []) ∷ []
 module _ (limits : IsWithinLimits (block (shape 2 3 ∷ []) ∷ block (shape 3 2 ∷ []) ∷ []) [] [] wide (weights 0)) where
   -- two blocks of one shape each
   abbrev hard_design : Design
-  hard_design = record { blocks = block (shape 2 3 ∷ []) ∷ block (shape 3 2 ∷ []) ∷ []; pads = []; nets = []; outline = wide; weights = weights 0; limits = limits }
+  hard_design = record { blocks = block (shape 2 3 ∷ []) ∷ block (shape 3 2 ∷ []) ∷ []; pads = []; nets = []; outline = wide; weights = weights 0; area_floor = 0; limits = limits; floored = no_floor (block (shape 2 3 ∷ []) ∷ block (shape 3 2 ∷ []) ∷ []) wide }
 
   -- the first beside the second
   abbrev hard_plan : Tree
@@ -86,7 +88,7 @@ module _ (limits : IsWithinLimits (block (shape 2 3 ∷ []) ∷ block (shape 3 2
 module _ (limits : IsWithinLimits (block (shape 2 2 ∷ []) ∷ block (shape 2 2 ∷ []) ∷ []) [] (net (pin.Block 0 ∷ pin.Block 1 ∷ []) ∷ []) wide (weights 1)) where
   -- two squares and a net that joins them
   abbrev joined_design : Design
-  joined_design = record { blocks = block (shape 2 2 ∷ []) ∷ block (shape 2 2 ∷ []) ∷ []; pads = []; nets = net (pin.Block 0 ∷ pin.Block 1 ∷ []) ∷ []; outline = wide; weights = weights 1; limits = limits }
+  joined_design = record { blocks = block (shape 2 2 ∷ []) ∷ block (shape 2 2 ∷ []) ∷ []; pads = []; nets = net (pin.Block 0 ∷ pin.Block 1 ∷ []) ∷ []; outline = wide; weights = weights 1; area_floor = 0; limits = limits; floored = no_floor (block (shape 2 2 ∷ []) ∷ block (shape 2 2 ∷ []) ∷ []) wide }
 
   -- the one beside the other
   abbrev joined_plan : Tree
@@ -115,7 +117,7 @@ module _ (limits : IsWithinLimits (block (shape 2 2 ∷ []) ∷ block (shape 2 2
 module _ (limits : IsWithinLimits (block (shape 2 2 ∷ []) ∷ block (shape 2 2 ∷ []) ∷ []) [] (pair 3 ∷ []) wide (weights 1)) where
   -- the same with a net of weight 3
   abbrev heavy_design : Design
-  heavy_design = record { blocks = block (shape 2 2 ∷ []) ∷ block (shape 2 2 ∷ []) ∷ []; pads = []; nets = pair 3 ∷ []; outline = wide; weights = weights 1; limits = limits }
+  heavy_design = record { blocks = block (shape 2 2 ∷ []) ∷ block (shape 2 2 ∷ []) ∷ []; pads = []; nets = pair 3 ∷ []; outline = wide; weights = weights 1; area_floor = 0; limits = limits; floored = no_floor (block (shape 2 2 ∷ []) ∷ block (shape 2 2 ∷ []) ∷ []) wide }
 
   -- its wire counts three times
   heavy_wire : wire heavy_design (spots_of (Beside (Leaf 0 (shape 2 2)) (Leaf 1 (shape 2 2)))) ≡ 12
@@ -132,7 +134,7 @@ module _ (limits : IsWithinLimits (block (shape 2 2 ∷ []) ∷ block (shape 2 2
 module _ (limits : IsWithinLimits (block (shape 2 2 ∷ []) ∷ block (shape 2 2 ∷ []) ∷ []) [] (pair 0 ∷ []) wide (weights 1)) where
   -- the same with a net of weight 0
   abbrev free_design : Design
-  free_design = record { blocks = block (shape 2 2 ∷ []) ∷ block (shape 2 2 ∷ []) ∷ []; pads = []; nets = pair 0 ∷ []; outline = wide; weights = weights 1; limits = limits }
+  free_design = record { blocks = block (shape 2 2 ∷ []) ∷ block (shape 2 2 ∷ []) ∷ []; pads = []; nets = pair 0 ∷ []; outline = wide; weights = weights 1; area_floor = 0; limits = limits; floored = no_floor (block (shape 2 2 ∷ []) ∷ block (shape 2 2 ∷ []) ∷ []) wide }
 
   -- its wire does not count in the cost
   free_cost : cost free_design (Above (Leaf 0 (shape 2 2)) (Leaf 1 (shape 2 2))) ≡ 8
@@ -145,7 +147,7 @@ module _ (limits : IsWithinLimits (block (shape 2 2 ∷ []) ∷ block (shape 2 2
 module _ (limits : IsWithinLimits (block (shape 2 2 ∷ []) ∷ []) (pad 10 0 ∷ []) (net (pin.Block 0 ∷ pin.Pad 0 ∷ []) ∷ []) wide (weights 1)) where
   -- a square and a pad that is far from it
   abbrev distant_design : Design
-  distant_design = record { blocks = block (shape 2 2 ∷ []) ∷ []; pads = pad 10 0 ∷ []; nets = net (pin.Block 0 ∷ pin.Pad 0 ∷ []) ∷ []; outline = wide; weights = weights 1; limits = limits }
+  distant_design = record { blocks = block (shape 2 2 ∷ []) ∷ []; pads = pad 10 0 ∷ []; nets = net (pin.Block 0 ∷ pin.Pad 0 ∷ []) ∷ []; outline = wide; weights = weights 1; area_floor = 0; limits = limits; floored = no_floor (block (shape 2 2 ∷ []) ∷ []) wide }
 
   -- the square stands at the corner
   distant_cost : cost distant_design (Leaf 0 (shape 2 2)) ≡ 24
@@ -158,7 +160,7 @@ module _ (limits : IsWithinLimits (block (shape 2 2 ∷ []) ∷ []) (pad 10 0 �
 module _ (limits : IsWithinLimits (block (shape 1 4 ∷ shape 2 2 ∷ shape 3 2 ∷ []) ∷ []) (pad 10 0 ∷ []) (net (pin.Block 0 ∷ pin.Pad 0 ∷ []) ∷ []) wide (weights 10)) where
   -- a block of three shapes and a pad, where wire weighs 10
   abbrev soft_design : Design
-  soft_design = record { blocks = block (shape 1 4 ∷ shape 2 2 ∷ shape 3 2 ∷ []) ∷ []; pads = pad 10 0 ∷ []; nets = net (pin.Block 0 ∷ pin.Pad 0 ∷ []) ∷ []; outline = wide; weights = weights 10; limits = limits }
+  soft_design = record { blocks = block (shape 1 4 ∷ shape 2 2 ∷ shape 3 2 ∷ []) ∷ []; pads = pad 10 0 ∷ []; nets = net (pin.Block 0 ∷ pin.Pad 0 ∷ []) ∷ []; outline = wide; weights = weights 10; area_floor = 0; limits = limits; floored = no_floor (block (shape 1 4 ∷ shape 2 2 ∷ shape 3 2 ∷ []) ∷ []) wide }
 
   -- the cost of the highest shape
   high_cost : cost soft_design (Leaf 0 (shape 1 4)) ≡ 234
@@ -215,7 +217,7 @@ module _ (limits : IsWithinLimits (block (shape 1 4 ∷ shape 2 2 ∷ shape 3 2 
 module _ (limits : IsWithinLimits (block (shape 2 2 ∷ []) ∷ block (shape 2 2 ∷ []) ∷ []) (pad 0 0 ∷ pad 10 0 ∷ []) (net (pin.Block 0 ∷ pin.Pad 0 ∷ []) ∷ net (pin.Block 0 ∷ pin.Block 1 ∷ []) ∷ net (pin.Block 1 ∷ pin.Pad 1 ∷ []) ∷ []) wide (weights 1)) where
   -- two squares in a chain between two pads
   abbrev chained_design : Design
-  chained_design = record { blocks = block (shape 2 2 ∷ []) ∷ block (shape 2 2 ∷ []) ∷ []; pads = pad 0 0 ∷ pad 10 0 ∷ []; nets = net (pin.Block 0 ∷ pin.Pad 0 ∷ []) ∷ net (pin.Block 0 ∷ pin.Block 1 ∷ []) ∷ net (pin.Block 1 ∷ pin.Pad 1 ∷ []) ∷ []; outline = wide; weights = weights 1; limits = limits }
+  chained_design = record { blocks = block (shape 2 2 ∷ []) ∷ block (shape 2 2 ∷ []) ∷ []; pads = pad 0 0 ∷ pad 10 0 ∷ []; nets = net (pin.Block 0 ∷ pin.Pad 0 ∷ []) ∷ net (pin.Block 0 ∷ pin.Block 1 ∷ []) ∷ net (pin.Block 1 ∷ pin.Pad 1 ∷ []) ∷ []; outline = wide; weights = weights 1; area_floor = 0; limits = limits; floored = no_floor (block (shape 2 2 ∷ []) ∷ block (shape 2 2 ∷ []) ∷ []) wide }
 
   -- at the root
   chained_root_bound : standard chained_design (root chained_design) ≡ 18
@@ -228,3 +230,12 @@ module _ (limits : IsWithinLimits (block (shape 2 2 ∷ []) ∷ block (shape 2 2
   -- one above the other they do not
   chained_above_cost : cost chained_design (Above (Leaf 0 (shape 2 2)) (Leaf 1 (shape 2 2))) ≡ 40
   chained_above_cost = refl
+
+module _ (limits : IsWithinLimits (block (shape 2 3 ∷ []) ∷ block (shape 3 2 ∷ []) ∷ []) [] [] wide (weights 0)) (floored : IsAreaFloorIn (block (shape 2 3 ∷ []) ∷ block (shape 3 2 ∷ []) ∷ []) wide 15) where
+  -- the same two blocks where the design knows that no floorplan has an area below 15
+  abbrev floored_design : Design
+  floored_design = record { blocks = block (shape 2 3 ∷ []) ∷ block (shape 3 2 ∷ []) ∷ []; pads = []; nets = []; outline = wide; weights = weights 0; area_floor = 15; limits = limits; floored = floored }
+
+  -- the value at the root is that floor, and not 12, the sum of the areas
+  floored_root_bound : standard floored_design (root floored_design) ≡ 15
+  floored_root_bound = refl

@@ -43,6 +43,10 @@ needed_area plans =
     max (sum (map (least_of area) plans))
     (greatest (map (least_of width) plans) * greatest (map (least_of height) plans))
 
+-- the area that is taken to be needed: what the plans of the parts need, or what the design knows of its area where that is more
+abbrev pub area_part : Design → List (List Tree) → ℕ
+area_part design plans = max (needed_area plans) design.area_floor
+
 -- what a wire that joins these pins is at least: the greatest of range, pair and hull, and nothing with fewer than two pins
 abbrev pub pins_part : Design → Parts → List Pin → ℕ
 pins_part design node pins =
@@ -82,12 +86,12 @@ plans_of design node = map (fitting design node) (items_of node ++ unused node)
 abbrev pub AllHavePlans : Design → Parts → Type 0
 AllHavePlans design node = list_any has_none (plans_of design node) ≡ false
 
--- what these wires and the area cost that the plans of some parts need, or MAX where a part has no plan or they have no room
+-- what these wires and the area cost that is needed for some parts, or MAX where a part has no plan or they have no room
 abbrev pub bounded : Design → ℕ → List (List Tree) → ℕ
 bounded design wires plans =
     if list_any has_none plans then MAX
-    else (if nat_lt (design.outline.w * design.outline.h) (needed_area plans) then MAX
-    else (design.weights.area * needed_area plans + design.weights.wire * wires))
+    else (if nat_lt (design.outline.w * design.outline.h) (area_part design plans) then MAX
+    else (design.weights.area * area_part design plans + design.weights.wire * wires))
 
 -- the value from the area that the items and the unused blocks need and from the wires of the nets
 abbrev pub open_value : Design → Parts → ℕ

@@ -4,13 +4,12 @@ pub use Rattle.sf_curves.specs.Choices.{size_of}
 pub use Rattle.sf_curves.specs.Direction.{plan_in, size_in}
 pub use Rattle.sf_curves.specs.Points.{IsCovered, IsCurveOf, IsLeastArea, IsNoLarger, IsWithin, area_of}
 pub use Rattle.sf_curves.specs.declared.direction.Direction.{Direction}
-pub use Rattle.sf_model.specs.Legal.{block_count, shapes_of}
+pub use Rattle.sf_model.specs.Legal.{IsAreaFloor, block_count, shapes_of}
 pub use Rattle.sf_model.specs.Tree.{Leaf, Tree, leaves, tree_of}
 pub use Rattle.sf_model.specs.declared.design.Design.{Design}
 pub use Rattle.sf_model.specs.declared.parts.Outline.{Outline}
 pub use Rattle.sf_model.specs.declared.parts.Shape.{Shape}
 pub use Rattle.sf_subsets.specs.Covering.{AreLeasts, IsCoveredWithin}
-pub use Rattle.sf_subsets.specs.Floors.{IsAreaFloor}
 pub use Rattle.sf_subsets.specs.Gathering.{AddsSmall, AddsSplits, AreMade, IsJoined, IsPlanOfSize, IsTable, curve_at, limit_of}
 pub use Rattle.sf_subsets.specs.Sets.{IsPart, IsPlanOf, IsSplit, total}
 pub use Rattle.std.proofs.Math.Nat.{mul-le-mul}

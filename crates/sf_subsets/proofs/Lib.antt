@@ -7,3 +7,4 @@ pub mod Filled
 pub mod Blocks
 pub mod Splits
 pub mod Areas
+pub mod Learned

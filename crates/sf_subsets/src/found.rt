@@ -2,8 +2,7 @@
 
 ghost use Rattle.std.specs.Prelude.{◌≡◌, ◌-◌, ◌*◌, ◌^◌, ◌<◌, ◌≤◌, All, IfOk, MatchOption};
 ghost use Rattle.sf_curves.specs.Points.{IsLeastArea, area_of};
-ghost use Rattle.sf_model.specs.Legal.{block_count};
-ghost use Rattle.sf_subsets.specs.Floors.{IsAreaFloor};
+ghost use Rattle.sf_model.specs.Legal.{IsAreaFloor, block_count};
 ghost use Rattle.sf_subsets.specs.Gathering.{IsFoundBelow};
 ghost use Rattle.sf_subsets.specs.declared.limits.TheConstants.{MOST_BLOCKS};
 

@@ -3,9 +3,9 @@
 ghost use Rattle.std.specs.Prelude.{◌^◌, ◌<◌, ◌≤◌, IfOk, MatchOption};
 ghost use Rattle.sf_curves.specs.Points.{area_of};
 ghost use Rattle.sf_model.specs.Cost.{NoneFits};
-ghost use Rattle.sf_model.specs.Legal.{block_count};
+ghost use Rattle.sf_model.specs.Legal.{IsAreaFloor, block_count};
 ghost use Rattle.sf_model.specs.Tree.{tree_of};
-ghost use Rattle.sf_subsets.specs.Floors.{IsAreaFloor, IsLeastPlan, IsLeastSize};
+ghost use Rattle.sf_subsets.specs.Floors.{IsLeastPlan, IsLeastSize};
 ghost use Rattle.sf_subsets.specs.declared.limits.TheConstants.{MOST_BLOCKS};
 
 use crate::budget::total_of;
@@ -87,7 +87,7 @@ pub fn least_plan(alloc: Global, design: &Design) -> Result<Option<LeastPlan>, N
         if let Some(least) = least_plan_below(alloc, design, limit)? {
             return Ok(Some(least));
         }
-        limit += (limit - blocks) / 2 + 1;
+        limit += (limit - blocks) / 4 + 1;
     }
     least_plan_below(alloc, design, outline_area(design) + 1)
 }

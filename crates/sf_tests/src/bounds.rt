@@ -71,6 +71,7 @@ fn four_squares(alloc: Global, outer: u8, inner: u8, padded: u8) -> Result<Desig
         nets: NetList::from_vec(nets),
         outline: WIDE,
         weights: Weights { area: 1, wire: 1 },
+        area_floor: 0,
     })
 }
 

@@ -95,6 +95,7 @@ pub fn bare(alloc: Global, blocks: Vec<Block>, outline: Outline, wire: u16) -> D
         nets: NetList::from_vec(Vec::new(alloc)),
         outline,
         weights: Weights { area: 1, wire },
+        area_floor: 0,
     }
 }
 
@@ -123,6 +124,7 @@ pub fn two_squares(alloc: Global, weight: u8) -> Result<Design, AllocError>
         nets: NetList::from_vec(vec![in alloc; both]?),
         outline: WIDE,
         weights: Weights { area: 1, wire: 1 },
+        area_floor: 0,
     })
 }
 
@@ -140,6 +142,7 @@ pub fn three_shapes(alloc: Global) -> Result<Design, AllocError>
         nets: NetList::from_vec(vec![in alloc; net]?),
         outline: WIDE,
         weights: Weights { area: 1, wire: 10 },
+        area_floor: 0,
     })
 }
 

@@ -40,6 +40,7 @@ fn one_block(alloc: Global) -> Result<Design, AllocError>
         nets: NetList::from_vec(vec![in alloc; net]?),
         outline: Outline { w: 25, h: 40 },
         weights: Weights { area: 1, wire: 1 },
+        area_floor: 0,
     })
 }
 

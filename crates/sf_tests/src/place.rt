@@ -1,8 +1,7 @@
 //! Placements of small designs, worked out by hand.
 
 ghost use Rattle.std.specs.Prelude.{◌≤◌};
-ghost use Rattle.sf_model.specs.Legal.{HasEachOnce};
-ghost use Rattle.sf_model.specs.Tree.{HasSides, leaf_count, tree_of};
+ghost use Rattle.sf_model.specs.Tree.{HasSides, leaf_count, tree_of, HasEachOnce};
 
 use crate::designs::{FLAT, NARROW, spot, two_blocks};
 use sf_model::{Outline, Plan, Shape, Spot};

@@ -102,6 +102,7 @@ fn squares_and_pad(alloc: Global) -> Result<Design, AllocError> {
         nets: NetList::from_vec(vec![in alloc; net]?),
         outline: WIDE,
         weights: Weights { area: 1, wire: 1 },
+        area_floor: 0,
     })
 }
 

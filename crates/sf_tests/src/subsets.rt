@@ -6,7 +6,7 @@ ghost use Rattle.sf_model.specs.Limits.{IsSide};
 
 use crate::designs::{bare, block};
 use sf_model::{Design, Outline, Shape};
-use sf_subsets::{least_plan, least_plan_below, least_size_below};
+use sf_subsets::{learn_area, least_plan, least_plan_below, least_size_below};
 use std::alloc::{AllocError, Global};
 use std::test::Fail;
 
@@ -68,5 +68,26 @@ fn outlines_count(rt: HostRuntime) -> Result<(), Fail> {
     assert_eq!(rt; least_in(alloc, 4, 2)?, Some(8), "just one above the other");
     assert_eq!(rt; least_in(alloc, 4, 1)?, None, "each alone");
     assert_eq!(rt; least_in(alloc, 3, 9)?, None, "not even each alone");
+    Ok(())
+}
+
+/// What a design of these two blocks knows of its area in an outline, and whether a floorplan came with that.
+fn learned_in(alloc: Global, w: u32, h: u32) -> Result<(u64, bool), AllocError>
+    requires width { IsSide w }
+    requires height { IsSide h }
+{
+    let long = block(alloc, Shape { w: 4, h: 1 })?;
+    let small = block(alloc, Shape { w: 1, h: 1 })?;
+    let mut design = bare(alloc, vec![in alloc; long, small]?, Outline { w, h }, 0);
+    let plan = learn_area(alloc, &mut design)?;
+    Ok((design.area_floor, plan.is_some()))
+}
+
+#[test]
+fn designs_learn_their_areas(rt: HostRuntime) -> Result<(), Fail> {
+    let alloc = rt.alloc();
+    assert_eq!(rt; learned_in(alloc, 100, 100)?, (5, true), "wide");
+    assert_eq!(rt; learned_in(alloc, 4, 2)?, (8, true), "one above the other");
+    assert_eq!(rt; learned_in(alloc, 4, 1)?, (5, false), "none fits");
     Ok(())
 }

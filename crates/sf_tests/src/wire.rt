@@ -32,6 +32,7 @@ fn row(alloc: Global, both: u8, own: u8) -> Result<Design, AllocError>
         nets: NetList::from_vec(nets),
         outline: Outline { w: 9, h: 9 },
         weights: Weights { area: 1, wire: 1 },
+        area_floor: 0,
     })
 }
 
