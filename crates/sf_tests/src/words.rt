@@ -1,7 +1,7 @@
 //! The words of each command with all of its options, and lists of words at the edges of the table of
 //! options.
 
-use sf_words::{CommandWords, InputFiles, Kinds, read_words};
+use sf_words::{BoundsChoice, CommandWords, InputFiles, Kinds, read_words};
 use std::alloc::{AllocError, Global};
 use std::test::Fail;
 
@@ -24,7 +24,12 @@ const TAKEN: &str = "--outline 1048576x1
 --nodes 1
 --long
 --long --nodes 4000001
---nodes 1000000000000 --long";
+--nodes 1000000000000 --long
+--starts 64 --moves 100000 --start-seed 18446744073709551615 --improve 1000000000
+--starts 0 --improve 0
+--moves 1 --start-seed 0
+--bounds standard
+--bounds=strong";
 
 /// More words behind those of a plan, with which they have none.
 const REFUSED: &str = "--outline 1048577x1
@@ -56,6 +61,20 @@ const REFUSED: &str = "--outline 1048577x1
 --long=on
 --long on
 --long --long
+--starts 65
+--starts -1
+--starts
+--starts 1 --starts 1
+--moves 0
+--moves 100001
+--start-seed 18446744073709551616
+--improve 0
+--improve 1 --moves 1
+--starts 1 --improve 1000000001
+--bounds weak
+--bounds STRONG
+--bounds
+--bounds strong --bounds strong
 --cert-out e
 --yal b
 --fixed=on
@@ -81,7 +100,8 @@ help
 const GOES_ON: &str = "--nodes 1
 --nodes 4000000 --workers 16 --pl-out e
 --long --nodes 1000000000000
---nodes 1 --net-weights w --wire-weight 1 --fixed";
+--nodes 1 --net-weights w --wire-weight 1 --fixed
+--nodes 1 --bounds strong";
 
 /// More words behind those of a search that goes on, with which they have none.
 const GOES_NOWHERE: &str = "
@@ -94,6 +114,11 @@ const GOES_NOWHERE: &str = "
 --nodes 1 --cert-out e
 --nodes 1 --placed p
 --nodes 1 --pl-out -e
+--nodes 1 --starts 1
+--nodes 1 --moves 1
+--nodes 1 --start-seed 1
+--nodes 1 --improve 1
+--nodes 1 --bounds weak
 --long";
 
 /// Lists of words without a meaning, the empty list first.
@@ -122,6 +147,12 @@ resume --cert c --cert-out d --nodes 1 --format gsrc
 resume --cert c --cert-out -d --nodes 1 --format gsrc --blocks a
 check --cert c --cert-out d --format gsrc --blocks a
 check --cert c --long=on --format gsrc --blocks a
+check --cert c --starts 1 --format gsrc --blocks a
+check --cert c --bounds weak --format gsrc --blocks a
+measure --placed p --format gsrc --blocks a --bounds strong
+measure --placed p --format gsrc --blocks a --starts 1
+shape --format gsrc --blocks a --expr e --bounds strong
+shape --format gsrc --blocks a --expr e --moves 1
 measure --placed p --format gsrc --blocks a --rewrite r
 measure --placed p --format gsrc --blocks a --long
 shape --format gsrc --blocks a --expr e --long
@@ -130,6 +161,9 @@ gen --seed 7 --count 4 --out g --nodes 4000001
 shape --format gsrc --blocks a --expr e --rewrite r
 shape --format gsrc --blocks a --expr e --net-weights w
 gen --seed 7 --count 4 --out g --net-weights w
+gen --seed 7 --count 4 --out g --starts 1
+gen --seed 7 --count 4 --out g --start-seed 1
+gen --seed 7 --count 4 --out g --bounds strong
 gen --seed 7 --count 4 --out g --rewrite r
 gen --seed 7 --seed 7 --count 4 --out g
 gen --seed 7 --count 321 --out g
@@ -169,42 +203,51 @@ fn has_meaning(alloc: Global, texts: &[&str]) -> Result<bool, Fail> {
     Ok(read_words(alloc, &words)?.is_some())
 }
 
+/// The options of a search.
+const SEARCH: &str =
+    "--cert d --pl-out e --workers 16 --nodes 1000000000000 --long --bounds strong --starts 8 --moves 10 --start-seed 1 --improve 9";
+
+/// The options of a check.
+const CHECK: &str = "--cert d --rewrite e --long --bounds strong";
+
+/// The options of a search that goes on.
+const GOING_ON: &str =
+    "--cert d --cert-out e --pl-out f --workers 16 --nodes 1000000000000 --long --bounds strong";
+
+/// Each command with all of its options that go with a format.
+const ALL: [[&str; 5]; 11] = [
+    ["plan", GSRC, DESIGN, WEIGHTS, SEARCH],
+    ["plan", YAL, DESIGN, WEIGHTS, SEARCH],
+    ["check", GSRC, DESIGN, WEIGHTS, CHECK],
+    ["check", YAL, DESIGN, WEIGHTS, CHECK],
+    ["resume", GSRC, DESIGN, WEIGHTS, GOING_ON],
+    ["resume", YAL, DESIGN, WEIGHTS, GOING_ON],
+    ["measure", GSRC, DESIGN, WEIGHTS, "--placed d"],
+    ["measure", YAL, DESIGN, WEIGHTS, "--placed d"],
+    ["shape", GSRC, DESIGN, "", "--expr d"],
+    ["shape", YAL, DESIGN, "", "--expr d"],
+    [
+        "gen",
+        "--seed 7",
+        "--count 4 --kinds mixed",
+        "--nodes 9",
+        "--out g",
+    ],
+];
+
+/// Whether the words of these texts have a meaning, with valued options as `--name value` and as `--name=value`.
+fn have_meaning(alloc: Global, texts: [&str; 5]) -> Result<(bool, bool), Fail> {
+    let words = spaced(alloc, &texts)?;
+    let joined = attached(alloc, &words)?;
+    let is_spaced = read_words(alloc, &words)?.is_some();
+    Ok((is_spaced, read_words(alloc, &joined)?.is_some()))
+}
+
 /// Each command takes all of its options that go with a format, in both spellings.
 #[test]
 fn all_options(rt: HostRuntime) -> Result<(), Fail> {
-    let alloc = rt.alloc();
-    let search = "--cert d --pl-out e --workers 16 --nodes 1000000000000 --long";
-    let goes_on = "--cert d --cert-out e --pl-out f --workers 16 --nodes 1000000000000 --long";
-    let rows = [
-        ["plan", GSRC, DESIGN, WEIGHTS, search],
-        ["plan", YAL, DESIGN, WEIGHTS, search],
-        [
-            "check",
-            GSRC,
-            DESIGN,
-            WEIGHTS,
-            "--cert d --rewrite e --long",
-        ],
-        ["check", YAL, DESIGN, WEIGHTS, "--cert d --rewrite e --long"],
-        ["resume", GSRC, DESIGN, WEIGHTS, goes_on],
-        ["resume", YAL, DESIGN, WEIGHTS, goes_on],
-        ["measure", GSRC, DESIGN, WEIGHTS, "--placed d"],
-        ["measure", YAL, DESIGN, WEIGHTS, "--placed d"],
-        ["shape", GSRC, DESIGN, "", "--expr d"],
-        ["shape", YAL, DESIGN, "", "--expr d"],
-        [
-            "gen",
-            "--seed 7",
-            "--count 4 --kinds mixed",
-            "--nodes 9",
-            "--out g",
-        ],
-    ];
-    for row in rows {
-        let words = spaced(alloc, &row)?;
-        assert!(rt; read_words(alloc, &words)?.is_some(), "{row:?} spaced");
-        let words = attached(alloc, &words)?;
-        assert!(rt; read_words(alloc, &words)?.is_some(), "{row:?} attached");
+    for row in ALL {
+        assert_eq!(rt; have_meaning(rt.alloc(), row)?, (true, true));
     }
     Ok(())
 }
@@ -242,6 +285,54 @@ fn values_of_plan(rt: HostRuntime) -> Result<(), Fail> {
         (read.design.width, read.design.height),
         (1_048_576, 1_048_576)
     );
+    Ok(())
+}
+
+/// Where no walks are asked for, there are none, of 1,000 trials; what is given reaches `plan`.
+#[test]
+fn values_of_starts(rt: HostRuntime) -> Result<(), Fail> {
+    let alloc = rt.alloc();
+    let given = "--starts 3 --moves 00100000 --start-seed 18446744073709551615 --improve 0";
+    for (more, values) in [
+        ("", (0, 1000, 0, None)),
+        ("--starts 64", (64, 1000, 0, None)),
+        (given, (3, 100_000, u64::MAX, Some(0))),
+    ] {
+        let words = spaced(alloc, &["plan --cert c", more, YAL])?;
+        let Some(CommandWords::Plan(read)) = read_words(alloc, &words)? else {
+            return Err("plan".into());
+        };
+        let starts = read.starts;
+        let told = (starts.count, starts.moves, starts.seed, starts.improve);
+        assert!(rt; told == values, "{more}");
+    }
+    Ok(())
+}
+
+/// The bound of each command that takes one is the standard one where none is given.
+#[test]
+fn values_of_bounds(rt: HostRuntime) -> Result<(), Fail> {
+    let alloc = rt.alloc();
+    for (more, chosen) in [
+        ("", BoundsChoice::Standard),
+        ("--bounds standard", BoundsChoice::Standard),
+        ("--bounds strong", BoundsChoice::Strong),
+    ] {
+        for command in [
+            "plan --cert c",
+            "check --cert c",
+            "resume --cert c --cert-out d --nodes 1",
+        ] {
+            let words = spaced(alloc, &[command, more, YAL])?;
+            let bounds = match read_words(alloc, &words)? {
+                Some(CommandWords::Plan(read)) => read.bounds,
+                Some(CommandWords::Check(read)) => read.bounds,
+                Some(CommandWords::Resume(read)) => read.bounds,
+                _ => return Err("command".into()),
+            };
+            assert!(rt; bounds == chosen, "{command} {more}");
+        }
+    }
     Ok(())
 }
 

@@ -9,13 +9,13 @@ unfoldable pub use Rattle.sf_words.specs.App.{floorplan}
 pub use Rattle.sf_words.specs.App.{bare, flag_rule, rule_of_key, subcommand_for, value_rule, with_keys, with_modes}
 unfoldable pub use Rattle.sf_words.specs.Kept.{texts_of}
 pub use Rattle.sf_words.specs.Kept.{flag_text, full, row, row_of, rows_for, text_in_row, texts_in}
-pub use Rattle.sf_words.specs.Meaning.{CheckOptions, CheckSays, Command, DesignOptions, DesignSays, GenOptions, GenSays, HasNoMeaning, Input, InputSays, KindsSay, Means, MeasureOptions, MeasureSays, PlanOptions, PlanSays, ResumeOptions, ResumeSays, Says, ShapeOptions, ShapeSays, Values, WeightOptions, WeightsSay, check, gen, gsrc, measure, mode_of, plan, resume, shape, value_in, yal}
+pub use Rattle.sf_words.specs.Meaning.{BoundsSay, CheckOptions, CheckSays, Command, DesignOptions, DesignSays, GenOptions, GenSays, HasNoMeaning, Input, InputSays, KindsSay, Means, MeasureOptions, MeasureSays, PlanOptions, PlanSays, ResumeOptions, ResumeSays, Says, ShapeOptions, ShapeSays, StartOptions, StartsSay, Values, WeightOptions, WeightsSay, check, gen, gsrc, measure, mode_of, plan, resume, shape, value_in, yal}
 pub use Rattle.sf_words.specs.Seen.{command_seen, token_of}
 unfoldable pub use Rattle.sf_words.specs.Table.{is_flag, key_text, keys_of, mode_text, modes}
 pub use Rattle.sf_words.specs.Table.{Text}
 pub use Rattle.sf_words.specs.Words.{AreOptions, HasForm, IsNew, IsShaped, IsValue, Token, alone, attached, before, key_of, key_word, spaced, value_of, words_of}
 pub use Rattle.sf_words.specs.declared.options.Key.{Key}
-pub use Rattle.sf_words.specs.declared.options.Key.TheVariants.{AreaWeight, Blocks, Cert, CertOut, Count, Expr, Fixed, Format, Kinds, Long, NetWeights, Nets, Nodes, Out, Outline, PerUnit, Pl, PlOut, Placed, Rewrite, Seed, Shapes, WireWeight, Workers, Yal}
+pub use Rattle.sf_words.specs.declared.options.Key.TheVariants.{AreaWeight, Blocks, Bounds, Cert, CertOut, Count, Expr, Fixed, Format, Improve, Kinds, Long, Moves, NetWeights, Nets, Nodes, Out, Outline, PerUnit, Pl, PlOut, Placed, Rewrite, Seed, Shapes, StartSeed, Starts, WireWeight, Workers, Yal}
 pub use Rattle.sf_words.specs.declared.options.Mode.{Mode}
 pub use Rattle.sf_words.specs.declared.options.Mode.TheVariants.{Plan}
 pub use Rattle.std.proofs.lemmas.Bool.{and_from, cases_Bool, cond_both, false_from_ne_true, or_parts}

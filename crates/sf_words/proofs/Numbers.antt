@@ -1,6 +1,6 @@
 -- The defaults of the options that take numbers.
 use Rattle.std.proofs.Common.{IfSome, lit≤}
-use Rattle.sf_words.proofs.Common.{Key, PerUnit, Shapes, AreaWeight, WireWeight, Workers}
+use Rattle.sf_words.proofs.Common.{Key, PerUnit, Shapes, AreaWeight, WireWeight, Workers, Starts, Moves, StartSeed}
 use Rattle.sf_words.specs.Numbers.{range, default_of, IsAllowed}
 
 -- a default is in the range of its option
@@ -11,4 +11,7 @@ default_allowed Shapes = (lit≤ tt, lit≤ tt)
 default_allowed AreaWeight = (lit≤ tt, lit≤ tt)
 default_allowed WireWeight = (lit≤ tt, lit≤ tt)
 default_allowed Workers = (lit≤ tt, lit≤ tt)
+default_allowed Starts = (lit≤ tt, lit≤ tt)
+default_allowed Moves = (lit≤ tt, lit≤ tt)
+default_allowed StartSeed = (lit≤ tt, lit≤ tt)
 default_allowed key = tt

@@ -1,7 +1,9 @@
 -- A list of words has at most one meaning.
 use Rattle.std.proofs.Common.{◌≡◌, ℕ, List, Bool, Option, Some, None, MatchOption, codes, refl, sym, ap, subst, ◌∙◌}
-use Rattle.sf_words.proofs.Common.{Mode, Key, PerUnit, Shapes, Outline, AreaWeight, WireWeight, Workers, Seed, Count, Text, Token, HasForm, Values, value_in, Input, gsrc, yal, InputSays, DesignOptions, DesignSays, WeightOptions, WeightsSay, PlanOptions, PlanSays, CheckOptions, CheckSays, ResumeOptions, ResumeSays, MeasureOptions, MeasureSays, ShapeOptions, ShapeSays, KindsSay, GenOptions, GenSays, Command, plan, check, resume, measure, shape, gen, mode_of, Says, Means}
-use Rattle.sf_words.specs.Numbers.{IsWithin, SaysNumber, SaysNodes, range}
+use Rattle.sf_words.proofs.Common.{Mode, Key, PerUnit, Shapes, Outline, AreaWeight, WireWeight, Workers, Starts, Moves, StartSeed, Seed, Count, Text, Token, HasForm, Values, value_in, Input, gsrc, yal, InputSays, DesignOptions, DesignSays, WeightOptions, WeightsSay, StartOptions, StartsSay, BoundsSay, PlanOptions, PlanSays, CheckOptions, CheckSays, ResumeOptions, ResumeSays, MeasureOptions, MeasureSays, ShapeOptions, ShapeSays, KindsSay, GenOptions, GenSays, Command, plan, check, resume, measure, shape, gen, mode_of, Says, Means}
+use Rattle.sf_words.specs.Numbers.{IsWithin, SaysNumber, SaysIfGiven, SaysNodes, range, nodes_range}
+use Rattle.sf_words.specs.declared.command.BoundsChoice.{BoundsChoice}
+use Rattle.sf_words.specs.declared.command.BoundsChoice.TheVariants.{Standard, Strong}
 use Rattle.sf_words.specs.declared.command.Kinds.{Kinds}
 use Rattle.sf_words.specs.declared.command.Kinds.TheVariants.{Hard, Mixed}
 use Rattle.sf_words.specs.Outline.{OutlineSays}
@@ -18,14 +20,18 @@ pub number_unique : (key : Key) (text : Option Text) (m n : ℕ) → SaysNumber 
 number_unique key None m n g h = cc
 number_unique key (Some text) m n g h = within_unique (range key) text m n g h
 
--- the budget's option says at most one number, and never both one and none
+-- an option without a default says at most one number, and never both one and none
+given_unique : (a b : ℕ × ℕ) (text : Option Text) (m n : Option ℕ) → a ≡ b → SaysIfGiven a text m → SaysIfGiven b text n → m ≡ n
+given_unique a b None None None e g h = refl
+given_unique a b (Some text) (Some m) (Some n) e g h = cc (e, g.value, h.value)
+given_unique a b None None (Some n) e g h = absurd h
+given_unique a b None (Some m) n e g h = absurd g
+given_unique a b (Some text) None n e g h = absurd g
+given_unique a b (Some text) (Some m) None e g h = absurd h
+
+-- the budget's option says at most one number
 pub nodes_unique : (a b : Bool) (text : Option Text) (m n : Option ℕ) → a ≡ b → SaysNodes a text m → SaysNodes b text n → m ≡ n
-nodes_unique a b None None None e g h = refl
-nodes_unique a b (Some text) (Some m) (Some n) e g h = cc (e, g.value, h.value)
-nodes_unique a b None None (Some n) e g h = absurd h
-nodes_unique a b None (Some m) n e g h = absurd g
-nodes_unique a b (Some text) None n e g h = absurd g
-nodes_unique a b (Some text) (Some m) None e g h = absurd h
+nodes_unique a b text m n e g h = given_unique _ _ text m n (ap nodes_range e) g h
 
 -- an option has at most one text
 texts_same : (r : Option Text) (x y : Text) → r ≡ Some x → r ≡ Some y → x ≡ y
@@ -63,6 +69,23 @@ weights_unique v a b g h =
     let net_weights = sym g.net_weights ∙ h.net_weights in
     λ i. record { area = area i; wire = wire i; net_weights = net_weights i }
 
+-- the options say the walks in at most one way
+starts_unique : (v : Values) (a b : StartOptions) → StartsSay v a → StartsSay v b → a ≡ b
+starts_unique v a b g h =
+    let count = number_unique Starts _ _ _ g.count h.count in
+    let moves = number_unique Moves _ _ _ g.moves h.moves in
+    let seed = number_unique StartSeed _ _ _ g.seed h.seed in
+    let improve = given_unique _ _ _ _ _ refl g.improve h.improve in
+    λ i. record { count = count i; moves = moves i; seed = seed i; improve = improve i }
+
+-- the option says at most one bound
+bounds_unique : (text : Option Text) (a b : BoundsChoice) → BoundsSay text a → BoundsSay text b → a ≡ b
+bounds_unique None a b g h = g ∙ sym h
+bounds_unique (Some text) Standard Standard g h = refl
+bounds_unique (Some text) Strong Strong g h = refl
+bounds_unique (Some text) Strong Standard g h = let bad : codes "strong" ≡ codes "standard" = sym g ∙ h in cc
+bounds_unique (Some text) Standard Strong g h = let bad : codes "strong" ≡ codes "standard" = sym h ∙ g in cc
+
 -- the options say at most one `plan`
 plan_unique : (v : Values) (a b : PlanOptions) → PlanSays v a → PlanSays v b → a ≡ b
 plan_unique v a b g h =
@@ -73,7 +96,9 @@ plan_unique v a b g h =
     let workers = number_unique Workers _ _ _ g.workers h.workers in
     let long = g.is_long ∙ sym h.is_long in
     let nodes = nodes_unique _ _ _ _ _ long g.nodes h.nodes in
-    λ i. record { design = design i; weights = weights i; cert = cert i; pl_out = pl_out i; workers = workers i; nodes = nodes i; is_long = long i }
+    let starts = starts_unique v _ _ g.starts h.starts in
+    let bounds = bounds_unique _ _ _ g.bounds h.bounds in
+    λ i. record { design = design i; weights = weights i; cert = cert i; pl_out = pl_out i; workers = workers i; nodes = nodes i; is_long = long i; starts = starts i; bounds = bounds i }
 
 -- the options say at most one `check`
 check_unique : (v : Values) (a b : CheckOptions) → CheckSays v a → CheckSays v b → a ≡ b
@@ -83,7 +108,8 @@ check_unique v a b g h =
     let cert = texts_same _ _ _ g.cert h.cert in
     let rewrite = sym g.rewrite ∙ h.rewrite in
     let long = g.is_long ∙ sym h.is_long in
-    λ i. record { design = design i; weights = weights i; cert = cert i; rewrite = rewrite i; is_long = long i }
+    let bounds = bounds_unique _ _ _ g.bounds h.bounds in
+    λ i. record { design = design i; weights = weights i; cert = cert i; rewrite = rewrite i; is_long = long i; bounds = bounds i }
 
 -- a number that is there is one
 some_same : (m n : ℕ) → Some m ≡ Some n → m ≡ n
@@ -100,7 +126,8 @@ resume_unique v a b g h =
     let workers = number_unique Workers _ _ _ g.workers h.workers in
     let long = g.is_long ∙ sym h.is_long in
     let nodes = some_same _ _ (nodes_unique _ _ _ _ _ long g.nodes h.nodes) in
-    λ i. record { design = design i; weights = weights i; cert = cert i; cert_out = cert_out i; pl_out = pl_out i; workers = workers i; nodes = nodes i; is_long = long i }
+    let bounds = bounds_unique _ _ _ g.bounds h.bounds in
+    λ i. record { design = design i; weights = weights i; cert = cert i; cert_out = cert_out i; pl_out = pl_out i; workers = workers i; nodes = nodes i; is_long = long i; bounds = bounds i }
 
 -- the options say at most one `measure`
 measure_unique : (v : Values) (a b : MeasureOptions) → MeasureSays v a → MeasureSays v b → a ≡ b

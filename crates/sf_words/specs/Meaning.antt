@@ -4,11 +4,13 @@ use Rattle.std.specs.Str.{bytes_eq}
 use Rattle.sf_words.specs.declared.options.Mode.{Mode}
 use Rattle.sf_words.specs.declared.options.Mode.TheVariants.{Plan, Check, Resume, Measure, Shape, Gen}
 use Rattle.sf_words.specs.declared.options.Key.{Key}
-use Rattle.sf_words.specs.declared.options.Key.TheVariants.{Format, Blocks, Nets, Pl, Yal, PerUnit, Fixed, Shapes, Outline, AreaWeight, WireWeight, NetWeights, Cert, CertOut, PlOut, Rewrite, Workers, Nodes, Long, Placed, Expr, Seed, Count, Kinds as KindsKey, Out}
+use Rattle.sf_words.specs.declared.options.Key.TheVariants.{Format, Blocks, Nets, Pl, Yal, PerUnit, Fixed, Shapes, Outline, AreaWeight, WireWeight, NetWeights, Cert, CertOut, PlOut, Rewrite, Workers, Nodes, Long, Starts, Moves, StartSeed, Improve, Bounds, Placed, Expr, Seed, Count, Kinds as KindsKey, Out}
 use Rattle.sf_words.specs.Table.{Text, key_text}
 use Rattle.sf_words.specs.Words.{Token, key_of, value_of, HasForm}
-use Rattle.sf_words.specs.Numbers.{SaysNumber, SaysNodes}
+use Rattle.sf_words.specs.Numbers.{SaysNumber, SaysIfGiven, SaysNodes, improve_range}
 use Rattle.sf_words.specs.Outline.{OutlineSays}
+use Rattle.sf_words.specs.declared.command.BoundsChoice.{BoundsChoice}
+use Rattle.sf_words.specs.declared.command.BoundsChoice.TheVariants.{Standard, Strong}
 use Rattle.sf_words.specs.declared.command.Kinds.{Kinds}
 use Rattle.sf_words.specs.declared.command.Kinds.TheVariants.{Hard, Mixed}
 
@@ -63,6 +65,32 @@ pub record WeightsSay (v : Values) (o : WeightOptions) : Type 0 where
   pub some : 0 < o.area + o.wire
   pub net_weights : v NetWeights ≡ o.net_weights
 
+-- The walks that a search may begin with: how many there are, how many trials each has, the seed of the first, and how
+-- many trials make better what each finds, if that is told.
+pub record StartOptions : Type 0 where
+  pub count : ℕ
+  pub moves : ℕ
+  pub seed : ℕ
+  pub improve : Option ℕ
+
+-- what the options of the walks say; where none are asked for, none are to be made better
+pub record StartsSay (v : Values) (o : StartOptions) : Type 0 where
+  pub count : SaysNumber Starts (v Starts) o.count
+  pub moves : SaysNumber Moves (v Moves) o.moves
+  pub seed : SaysNumber StartSeed (v StartSeed) o.seed
+  pub improve : SaysIfGiven improve_range (v Improve) o.improve
+  pub asked : v Starts ≡ None → v Improve ≡ None
+
+-- how a bound is written
+abbrev pub bounds_text : BoundsChoice → Text
+bounds_text Standard = codes "standard"
+bounds_text Strong = codes "strong"
+
+-- what the option says, given or not
+abbrev pub BoundsSay : Option Text → BoundsChoice → Type 0
+BoundsSay None bounds = bounds ≡ Standard
+BoundsSay (Some text) bounds = text ≡ bounds_text bounds
+
 -- the options of `plan`; a long search may have a greater budget
 pub record PlanOptions : Type 0 where
   pub design : DesignOptions
@@ -72,6 +100,8 @@ pub record PlanOptions : Type 0 where
   pub workers : ℕ
   pub nodes : Option ℕ
   pub is_long : Bool
+  pub starts : StartOptions
+  pub bounds : BoundsChoice
 
 -- what the options of `plan` say
 pub record PlanSays (v : Values) (o : PlanOptions) : Type 0 where
@@ -82,6 +112,8 @@ pub record PlanSays (v : Values) (o : PlanOptions) : Type 0 where
   pub workers : SaysNumber Workers (v Workers) o.workers
   pub nodes : SaysNodes o.is_long (v Nodes) o.nodes
   pub is_long : o.is_long ≡ is_some (v Long)
+  pub starts : StartsSay v o.starts
+  pub bounds : BoundsSay (v Bounds) o.bounds
 
 -- the options of `check`; the certificate of a long search may have a longer text
 pub record CheckOptions : Type 0 where
@@ -90,6 +122,7 @@ pub record CheckOptions : Type 0 where
   pub cert : Text
   pub rewrite : Option Text
   pub is_long : Bool
+  pub bounds : BoundsChoice
 
 -- what the options of `check` say
 pub record CheckSays (v : Values) (o : CheckOptions) : Type 0 where
@@ -98,6 +131,7 @@ pub record CheckSays (v : Values) (o : CheckOptions) : Type 0 where
   pub cert : v Cert ≡ Some o.cert
   pub rewrite : v Rewrite ≡ o.rewrite
   pub is_long : o.is_long ≡ is_some (v Long)
+  pub bounds : BoundsSay (v Bounds) o.bounds
 
 -- the options of `resume`: those of a certificate that is read, and those of the search that goes on from it
 pub record ResumeOptions : Type 0 where
@@ -109,6 +143,7 @@ pub record ResumeOptions : Type 0 where
   pub workers : ℕ
   pub nodes : ℕ
   pub is_long : Bool
+  pub bounds : BoundsChoice
 
 -- what the options of `resume` say
 pub record ResumeSays (v : Values) (o : ResumeOptions) : Type 0 where
@@ -120,6 +155,7 @@ pub record ResumeSays (v : Values) (o : ResumeOptions) : Type 0 where
   pub workers : SaysNumber Workers (v Workers) o.workers
   pub nodes : SaysNodes o.is_long (v Nodes) (Some o.nodes)
   pub is_long : o.is_long ≡ is_some (v Long)
+  pub bounds : BoundsSay (v Bounds) o.bounds
 
 -- the options of `measure`
 pub record MeasureOptions : Type 0 where

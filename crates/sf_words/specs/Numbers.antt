@@ -2,7 +2,7 @@
 use Rattle.std.specs.Prelude.{◌≡◌, ℕ, ◌≤◌, Bool, true, false, Option, Some, None, MatchOption}
 use Rattle.sf_lex.specs.Whole.{whole_read}
 use Rattle.sf_words.specs.declared.options.Key.{Key}
-use Rattle.sf_words.specs.declared.options.Key.TheVariants.{PerUnit, Shapes, AreaWeight, WireWeight, Workers, Seed, Count}
+use Rattle.sf_words.specs.declared.options.Key.TheVariants.{PerUnit, Shapes, AreaWeight, WireWeight, Workers, Starts, Moves, StartSeed, Seed, Count}
 use Rattle.sf_words.specs.Table.{Text}
 
 -- the least and the greatest number that an option takes, where it takes a number by itself
@@ -12,6 +12,9 @@ range Shapes = Some (2, 256)
 range AreaWeight = Some (0, 65_535)
 range WireWeight = Some (0, 65_535)
 range Workers = Some (1, 16)
+range Starts = Some (0, 64)
+range Moves = Some (1, 100_000)
+range StartSeed = Some (0, 18_446_744_073_709_551_615)
 range Count = Some (1, 320)
 range Seed = Some (0, 18_446_744_073_709_551_615)
 range key = None
@@ -21,6 +24,10 @@ unfoldable pub nodes_range : Bool → ℕ × ℕ
 nodes_range false = (1, 4_000_000)
 nodes_range true = (1, 1_000_000_000_000)
 
+-- the least and the greatest number of trials that make a start better
+unfoldable pub improve_range : ℕ × ℕ
+improve_range = (0, 1_000_000_000)
+
 -- the number that an option has where it isn't given
 unfoldable pub default_of : Key → Option ℕ
 default_of PerUnit = Some 1
@@ -28,6 +35,9 @@ default_of Shapes = Some 16
 default_of AreaWeight = Some 1
 default_of WireWeight = Some 0
 default_of Workers = Some 1
+default_of Starts = Some 0
+default_of Moves = Some 1_000
+default_of StartSeed = Some 0
 default_of key = None
 
 -- one to twenty digits are a number in a range
@@ -48,8 +58,12 @@ abbrev pub SaysNumber : Key → Option Text → ℕ → Type 0
 SaysNumber key None n = default_of key ≡ Some n
 SaysNumber key (Some text) n = IsInRange key text n
 
--- what the budget's option says, by whether the search is a long one; it has no default in the table
+-- what an option says that takes the numbers of a range and has no default in the table
+abbrev pub SaysIfGiven : ℕ × ℕ → Option Text → Option ℕ → Type 0
+SaysIfGiven range None None = Unit {0}
+SaysIfGiven range (Some text) (Some n) = IsWithin text n range
+SaysIfGiven range text n = ⊥
+
+-- what the budget's option says, by whether the search is a long one
 abbrev pub SaysNodes : Bool → Option Text → Option ℕ → Type 0
-SaysNodes is_long None None = Unit {0}
-SaysNodes is_long (Some text) (Some n) = IsWithin text n (nodes_range is_long)
-SaysNodes is_long text n = ⊥
+SaysNodes is_long = SaysIfGiven (nodes_range is_long)

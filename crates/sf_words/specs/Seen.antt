@@ -2,9 +2,10 @@
 use Rattle.std.specs.Prelude.{List, ℕ, Option, option_map}
 use Rattle.std.specs.Borrow.{Bor}
 use Rattle.sf_words.specs.Table.{Text}
-use Rattle.sf_words.specs.Meaning.{Input, gsrc, yal, DesignOptions, WeightOptions, PlanOptions, CheckOptions, ResumeOptions, MeasureOptions, ShapeOptions, GenOptions, Command, plan, check, resume, measure, shape, gen}
+use Rattle.sf_words.specs.Meaning.{Input, gsrc, yal, DesignOptions, WeightOptions, StartOptions, PlanOptions, CheckOptions, ResumeOptions, MeasureOptions, ShapeOptions, GenOptions, Command, plan, check, resume, measure, shape, gen}
 use Rattle.sf_words.specs.declared.command.DesignWords.{DesignWords}
 use Rattle.sf_words.specs.declared.command.WeightWords.{WeightWords}
+use Rattle.sf_words.specs.declared.command.StartWords.{StartWords}
 use Rattle.sf_words.specs.declared.command.PlanWords.{PlanWords}
 use Rattle.sf_words.specs.declared.command.CheckWords.{CheckWords}
 use Rattle.sf_words.specs.declared.command.ResumeWords.{ResumeWords}
@@ -42,17 +43,21 @@ design_seen o = record { input = input_seen o.input; per_unit = o.scale.per_unit
 abbrev pub weights_seen : WeightWords → WeightOptions
 weights_seen o = record { area = o.area; wire = o.wire; net_weights = text_of o.net_weights }
 
+-- the options of the walks
+abbrev pub starts_seen : StartWords → StartOptions
+starts_seen o = record { count = o.count; moves = o.moves; seed = o.seed; improve = o.improve }
+
 -- the options of `plan`
 abbrev pub plan_seen : PlanWords → PlanOptions
-plan_seen o = record { design = design_seen o.design; weights = weights_seen o.weights; cert = o.cert.now; pl_out = text_of o.pl_out; workers = o.workers; nodes = o.nodes; is_long = o.is_long }
+plan_seen o = record { design = design_seen o.design; weights = weights_seen o.weights; cert = o.cert.now; pl_out = text_of o.pl_out; workers = o.workers; nodes = o.nodes; is_long = o.is_long; starts = starts_seen o.starts; bounds = o.bounds }
 
 -- the options of `check`
 abbrev pub check_seen : CheckWords → CheckOptions
-check_seen o = record { design = design_seen o.design; weights = weights_seen o.weights; cert = o.cert.now; rewrite = text_of o.rewrite; is_long = o.is_long }
+check_seen o = record { design = design_seen o.design; weights = weights_seen o.weights; cert = o.cert.now; rewrite = text_of o.rewrite; is_long = o.is_long; bounds = o.bounds }
 
 -- the options of `resume`
 abbrev pub resume_seen : ResumeWords → ResumeOptions
-resume_seen o = record { design = design_seen o.design; weights = weights_seen o.weights; cert = o.cert.now; cert_out = o.cert_out.now; pl_out = text_of o.pl_out; workers = o.workers; nodes = o.nodes; is_long = o.is_long }
+resume_seen o = record { design = design_seen o.design; weights = weights_seen o.weights; cert = o.cert.now; cert_out = o.cert_out.now; pl_out = text_of o.pl_out; workers = o.workers; nodes = o.nodes; is_long = o.is_long; bounds = o.bounds }
 
 -- the options of `measure`
 abbrev pub measure_seen : MeasureWords → MeasureOptions

@@ -3,7 +3,7 @@ use Rattle.std.specs.Prelude.{ℕ, Bool, true, false, List, [], ◌∷◌, ◌++
 use Rattle.sf_words.specs.declared.options.Mode.{Mode}
 use Rattle.sf_words.specs.declared.options.Mode.TheVariants.{Plan, Check, Resume, Measure, Shape, Gen}
 use Rattle.sf_words.specs.declared.options.Key.{Key}
-use Rattle.sf_words.specs.declared.options.Key.TheVariants.{Format, Blocks, Nets, Pl, Yal, PerUnit, Fixed, Shapes, Outline, AreaWeight, WireWeight, NetWeights, Cert, CertOut, PlOut, Rewrite, Workers, Nodes, Long, Placed, Expr, Seed, Count, Kinds, Out}
+use Rattle.sf_words.specs.declared.options.Key.TheVariants.{Format, Blocks, Nets, Pl, Yal, PerUnit, Fixed, Shapes, Outline, AreaWeight, WireWeight, NetWeights, Cert, CertOut, PlOut, Rewrite, Workers, Nodes, Long, Starts, Moves, StartSeed, Improve, Bounds, Placed, Expr, Seed, Count, Kinds, Out}
 
 -- a text is the list of its bytes
 abbrev pub Text : Type 0
@@ -43,6 +43,11 @@ key_text Rewrite = codes "rewrite"
 key_text Workers = codes "workers"
 key_text Nodes = codes "nodes"
 key_text Long = codes "long"
+key_text Starts = codes "starts"
+key_text Moves = codes "moves"
+key_text StartSeed = codes "start-seed"
+key_text Improve = codes "improve"
+key_text Bounds = codes "bounds"
 key_text Placed = codes "placed"
 key_text Expr = codes "expr"
 key_text Seed = codes "seed"
@@ -66,9 +71,9 @@ weight_keys = AreaWeight ∷ WireWeight ∷ NetWeights ∷ []
 
 -- the options of each command
 unfoldable pub keys_of : Mode → List Key
-keys_of Plan = design_keys ++ (weight_keys ++ (Cert ∷ PlOut ∷ Workers ∷ Nodes ∷ Long ∷ []))
-keys_of Check = design_keys ++ (weight_keys ++ (Cert ∷ Rewrite ∷ Long ∷ []))
-keys_of Resume = design_keys ++ (weight_keys ++ (Cert ∷ CertOut ∷ PlOut ∷ Workers ∷ Nodes ∷ Long ∷ []))
+keys_of Plan = design_keys ++ (weight_keys ++ (Cert ∷ PlOut ∷ Workers ∷ Nodes ∷ Long ∷ Starts ∷ Moves ∷ StartSeed ∷ Improve ∷ Bounds ∷ []))
+keys_of Check = design_keys ++ (weight_keys ++ (Cert ∷ Rewrite ∷ Long ∷ Bounds ∷ []))
+keys_of Resume = design_keys ++ (weight_keys ++ (Cert ∷ CertOut ∷ PlOut ∷ Workers ∷ Nodes ∷ Long ∷ Bounds ∷ []))
 keys_of Measure = design_keys ++ (weight_keys ++ (Placed ∷ []))
 keys_of Shape = design_keys ++ (Expr ∷ [])
 keys_of Gen = Nodes ∷ Seed ∷ Count ∷ Kinds ∷ Out ∷ []

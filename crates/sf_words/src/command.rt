@@ -51,6 +51,32 @@ pub struct WeightWords<'a> {
     ghost some: { 0 < area + wire },
 }
 
+/// The walks that a search may begin with.
+#[derive(Clone, Copy, Debug)]
+pub struct StartWords {
+    /// How many walks there are.
+    pub count: u16,
+    /// How many trials a walk has.
+    pub moves: u32,
+    /// The seed of the first walk; each further one has the next.
+    pub seed: u64,
+    /// How many trials make better what a walk finds. Their default depends on the number of blocks.
+    pub improve: Option<u64>,
+    ghost count_high: { count ≤ 64 },
+    ghost moves_low: { 1 ≤ moves },
+    ghost moves_high: { moves ≤ 100_000 },
+    ghost improve_high: { ForSome improve (λ n. n ≤ 1_000_000_000) },
+}
+
+/// Which bound closes subproblems.
+#[derive(Clone, Copy, Debug, PartialEq, Eq)]
+pub enum BoundsChoice {
+    /// The standard bound of the design as it is read.
+    Standard,
+    /// The same, of a design that knows more of itself.
+    Strong,
+}
+
 /// The options of `plan`.
 #[derive(Clone, Copy, Debug)]
 pub struct PlanWords<'a> {
@@ -65,6 +91,8 @@ pub struct PlanWords<'a> {
     pub nodes: Option<u64>,
     /// Whether the limit by the number of blocks is lifted.
     pub is_long: bool,
+    pub starts: StartWords,
+    pub bounds: BoundsChoice,
     ghost workers_low: { 1 ≤ workers },
     ghost workers_high: { workers ≤ 16 },
     ghost nodes_low: { ForSome nodes (λ n. 1 ≤ n) },
@@ -82,6 +110,8 @@ pub struct CheckWords<'a> {
     pub rewrite: Option<&'a str>,
     /// Whether the certificate may be longer than other files.
     pub is_long: bool,
+    /// The bound that the certificate is judged by.
+    pub bounds: BoundsChoice,
 }
 
 /// The options of `resume`.
@@ -101,6 +131,7 @@ pub struct ResumeWords<'a> {
     /// Whether the limit by the number of blocks is lifted, and the certificate may be longer than other
     /// files.
     pub is_long: bool,
+    pub bounds: BoundsChoice,
     ghost workers_low: { 1 ≤ workers },
     ghost workers_high: { workers ≤ 16 },
     ghost nodes_low: { 1 ≤ nodes },

@@ -17,8 +17,8 @@ mod ranges;
 mod settings;
 
 pub use command::{
-    CheckWords, CommandWords, DesignWords, GenWords, InputFiles, Kinds, MeasureWords, PlanWords,
-    ResumeWords, ShapeWords, WeightWords,
+    BoundsChoice, CheckWords, CommandWords, DesignWords, GenWords, InputFiles, Kinds, MeasureWords,
+    PlanWords, ResumeWords, ShapeWords, StartWords, WeightWords,
 };
 pub use line::read_words;
 pub use meaning::meaning_is_unique;

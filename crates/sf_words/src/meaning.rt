@@ -3,20 +3,20 @@ ghost use Rattle.std.specs.Prelude.{◌≡◌, List, Some, IfSome, IfNone, codes
 ghost use Rattle.sf_words.specs.declared.options.Key.{Key};
 ghost use Rattle.sf_words.specs.Table.{Text};
 ghost use Rattle.sf_words.specs.Kept.{texts_of};
-ghost use Rattle.sf_words.specs.Meaning.{InputSays, DesignSays, WeightsSay, PlanSays, CheckSays};
-ghost use Rattle.sf_words.specs.Meaning.{ResumeSays, MeasureSays, ShapeSays, KindsSay, GenSays};
+ghost use Rattle.sf_words.specs.Meaning.{InputSays, DesignSays, WeightsSay, StartsSay, BoundsSay, PlanSays};
+ghost use Rattle.sf_words.specs.Meaning.{CheckSays, ResumeSays, MeasureSays, ShapeSays, KindsSay, GenSays};
 ghost use Rattle.sf_words.specs.Meaning.{Command, Says, Means, mode_of, IsReading};
-ghost use Rattle.sf_words.specs.Seen.{text_of, input_seen, design_seen, weights_seen, plan_seen, check_seen};
-ghost use Rattle.sf_words.specs.Seen.{resume_seen, measure_seen, shape_seen, gen_seen, command_seen};
+ghost use Rattle.sf_words.specs.Seen.{text_of, input_seen, design_seen, weights_seen, starts_seen, plan_seen};
+ghost use Rattle.sf_words.specs.Seen.{check_seen, resume_seen, measure_seen, shape_seen, gen_seen, command_seen};
 
 use crate::command::{
-    CheckWords, CommandWords, DesignWords, GenWords, InputFiles, Kinds, MeasureWords, PlanWords,
-    ResumeWords, ShapeWords, WeightWords,
+    BoundsChoice, CheckWords, CommandWords, DesignWords, GenWords, InputFiles, Kinds, MeasureWords,
+    PlanWords, ResumeWords, ShapeWords, StartWords, WeightWords,
 };
 use crate::options::{Key, Mode};
 use crate::outline::read_outline;
 use crate::parsed::{Parsed, is_text};
-use crate::ranges::{nodes, number};
+use crate::ranges::{nodes, number, trials};
 use sf_lex::Scale;
 
 /// Reads the files of a design in the format of GSRC.
@@ -105,6 +105,40 @@ fn read_weights<'a>(texts: &Parsed<'_, 'a>) -> Option<WeightWords<'a>>
     })
 }
 
+/// The walks that a search may begin with.
+#[tactic(auto, unfolding(crate::specs::Numbers::range))]
+fn read_starts(texts: &Parsed<'_, '_>) -> Option<StartWords>
+    ensures { IsReading (StartsSay (texts_of texts.now)) starts_seen result }
+{
+    if texts.text(Key::Starts).is_none() && texts.text(Key::Improve).is_some() {
+        return None;
+    }
+    Some(StartWords {
+        count: number(Key::Starts, texts.text(Key::Starts))? as u16,
+        moves: number(Key::Moves, texts.text(Key::Moves))? as u32,
+        seed: number(Key::StartSeed, texts.text(Key::StartSeed))?,
+        improve: trials(texts.text(Key::Improve))?,
+    })
+}
+
+/// Which bound closes subproblems.
+fn read_bounds(text: Option<&str>) -> Option<BoundsChoice>
+    ensures { IsReading (BoundsSay (text_of text.entry)) (λ bounds. bounds) result }
+{
+    match text {
+        None => Some(BoundsChoice::Standard),
+        Some(text) => {
+            if text == "standard" {
+                Some(BoundsChoice::Standard)
+            } else if text == "strong" {
+                Some(BoundsChoice::Strong)
+            } else {
+                None
+            }
+        }
+    }
+}
+
 /// The options of `plan`.
 #[tactic(auto, unfolding(crate::specs::Numbers::range, crate::specs::Numbers::nodes_range))]
 fn read_plan<'a>(texts: &Parsed<'_, 'a>) -> Option<PlanWords<'a>>
@@ -119,6 +153,8 @@ fn read_plan<'a>(texts: &Parsed<'_, 'a>) -> Option<PlanWords<'a>>
         workers: number(Key::Workers, texts.text(Key::Workers))? as u16,
         nodes: nodes(is_long, texts.text(Key::Nodes))?,
         is_long,
+        starts: read_starts(texts)?,
+        bounds: read_bounds(texts.text(Key::Bounds))?,
     })
 }
 
@@ -132,6 +168,7 @@ fn read_check<'a>(texts: &Parsed<'_, 'a>) -> Option<CheckWords<'a>>
         cert: texts.text(Key::Cert)?,
         rewrite: texts.text(Key::Rewrite),
         is_long: texts.text(Key::Long).is_some(),
+        bounds: read_bounds(texts.text(Key::Bounds))?,
     })
 }
 
@@ -150,6 +187,7 @@ fn read_resume<'a>(texts: &Parsed<'_, 'a>) -> Option<ResumeWords<'a>>
         workers: number(Key::Workers, texts.text(Key::Workers))? as u16,
         nodes: nodes(is_long, texts.text(Key::Nodes))??,
         is_long,
+        bounds: read_bounds(texts.text(Key::Bounds))?,
     })
 }
 

@@ -37,6 +37,11 @@ pub enum Key {
     Workers,
     Nodes,
     Long,
+    Starts,
+    Moves,
+    StartSeed,
+    Improve,
+    Bounds,
     Placed,
     Expr,
     Seed,
@@ -95,9 +100,23 @@ impl Mode {
         match self {
             Mode::Plan => (
                 "plan",
-                weighed_keys![Key::Cert, Key::PlOut, Key::Workers, Key::Nodes, Key::Long],
+                weighed_keys![
+                    Key::Cert,
+                    Key::PlOut,
+                    Key::Workers,
+                    Key::Nodes,
+                    Key::Long,
+                    Key::Starts,
+                    Key::Moves,
+                    Key::StartSeed,
+                    Key::Improve,
+                    Key::Bounds
+                ],
             ),
-            Mode::Check => ("check", weighed_keys![Key::Cert, Key::Rewrite, Key::Long]),
+            Mode::Check => (
+                "check",
+                weighed_keys![Key::Cert, Key::Rewrite, Key::Long, Key::Bounds],
+            ),
             Mode::Resume => (
                 "resume",
                 weighed_keys![
@@ -106,7 +125,8 @@ impl Mode {
                     Key::PlOut,
                     Key::Workers,
                     Key::Nodes,
-                    Key::Long
+                    Key::Long,
+                    Key::Bounds
                 ],
             ),
             Mode::Measure => ("measure", weighed_keys![Key::Placed]),
@@ -159,6 +179,11 @@ impl Key {
             Key::Workers => "workers",
             Key::Nodes => "nodes",
             Key::Long => "long",
+            Key::Starts => "starts",
+            Key::Moves => "moves",
+            Key::StartSeed => "start-seed",
+            Key::Improve => "improve",
+            Key::Bounds => "bounds",
             Key::Placed => "placed",
             Key::Expr => "expr",
             Key::Seed => "seed",

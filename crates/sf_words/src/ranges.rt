@@ -1,7 +1,7 @@
 //! The whole numbers that options take: their ranges and defaults.
 ghost use Rattle.std.specs.Prelude.{◌≡◌, ◌≤◌, ℕ, Option, IfSome, IfNone, option_map};
-ghost use Rattle.sf_words.specs.Numbers.{range, nodes_range, default_of, IsInRange, IsWithin, IsAllowed};
-ghost use Rattle.sf_words.specs.Numbers.{SaysNumber, SaysNodes};
+ghost use Rattle.sf_words.specs.Numbers.{range, nodes_range, improve_range, default_of, IsInRange, IsWithin};
+ghost use Rattle.sf_words.specs.Numbers.{IsAllowed, SaysNumber, SaysIfGiven, SaysNodes};
 
 use crate::options::Key;
 use sf_lex::read_whole;
@@ -17,8 +17,10 @@ impl Key {
             Key::Shapes => Some((2, 256)),
             Key::AreaWeight | Key::WireWeight => Some((0, 65_535)),
             Key::Workers => Some((1, 16)),
+            Key::Starts => Some((0, 64)),
+            Key::Moves => Some((1, 100_000)),
             Key::Count => Some((1, 320)),
-            Key::Seed => Some((0, u64::MAX)),
+            Key::Seed | Key::StartSeed => Some((0, u64::MAX)),
             _ => None,
         }
     }
@@ -31,7 +33,8 @@ impl Key {
         match self {
             Key::PerUnit | Key::AreaWeight | Key::Workers => Some(1),
             Key::Shapes => Some(16),
-            Key::WireWeight => Some(0),
+            Key::Moves => Some(1000),
+            Key::WireWeight | Key::Starts | Key::StartSeed => Some(0),
             _ => None,
         }
     }
@@ -83,6 +86,23 @@ fn nodes_range(is_long: bool) -> (u64, u64)
     }
 }
 
+/// The number of an option that may be left out.
+fn if_given(range: (u64, u64), text: Option<&str>) -> Option<Option<u64>>
+    ensures number { IfSome result (λ n. SaysIfGiven range (option_map (λ s. s.now) text.entry) n) }
+    ensures low { IfSome result (λ o. IfSome o (λ n. range.0 ≤ n)) }
+    ensures high { IfSome result (λ o. IfSome o (λ n. n ≤ range.1)) }
+    ensures none { IfNone result ((n : Option ℕ)
+        → SaysIfGiven range (option_map (λ s. s.now) text.entry) n → ⊥) }
+{
+    match text {
+        None => Some(None),
+        Some(text) => match read_within(range, text) {
+            Some(n) => Some(Some(n)),
+            None => None,
+        },
+    }
+}
+
 /// The budget of a search, which may be left out.
 pub fn nodes(is_long: bool, text: Option<&str>) -> Option<Option<u64>>
     ensures number { IfSome result (λ n. SaysNodes is_long (option_map (λ s. s.now) text.entry) n) }
@@ -91,11 +111,16 @@ pub fn nodes(is_long: bool, text: Option<&str>) -> Option<Option<u64>>
     ensures none { IfNone result ((n : Option ℕ)
         → SaysNodes is_long (option_map (λ s. s.now) text.entry) n → ⊥) }
 {
-    match text {
-        None => Some(None),
-        Some(text) => match read_within(nodes_range(is_long), text) {
-            Some(n) => Some(Some(n)),
-            None => None,
-        },
-    }
+    if_given(nodes_range(is_long), text)
+}
+
+/// How many trials make a start better, which may be left out.
+#[tactic(auto, unfolding(crate::specs::Numbers::improve_range))]
+pub fn trials(text: Option<&str>) -> Option<Option<u64>>
+    ensures number { IfSome result (λ n. SaysIfGiven improve_range (option_map (λ s. s.now) text.entry) n) }
+    ensures high { IfSome result (λ o. IfSome o (λ n. n ≤ 1_000_000_000)) }
+    ensures none { IfNone result ((n : Option ℕ)
+        → SaysIfGiven improve_range (option_map (λ s. s.now) text.entry) n → ⊥) }
+{
+    if_given((0, 1_000_000_000), text)
 }

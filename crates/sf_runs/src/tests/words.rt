@@ -116,14 +116,14 @@ const YAL: &[Text] = &[
 ];
 
 const ALL_OF_PLAN: Row = Row {
-    options: "--per-unit 1 --fixed --shapes 16 --outline 1048576x1048576 --area-weight 1 --wire-weight 1 --net-weights a.weights --cert a.cert --pl-out a.out --workers 1 --nodes 20",
+    options: "--per-unit 1 --fixed --shapes 16 --outline 1048576x1048576 --area-weight 1 --wire-weight 1 --net-weights a.weights --cert a.cert --pl-out a.out --workers 1 --nodes 20 --starts 0 --moves 9 --start-seed 1 --improve 9 --bounds standard",
     printed: Printed::Whole(CELL_LINES),
     stored: &[("a.cert", CELL_CERT), ("a.out", CELL_PLACES)],
     ..GIVEN
 };
 
 const CHECK: Row = Row {
-    options: "--per-unit 1 --fixed --shapes 16 --outline 1048576x1048576 --area-weight 1 --wire-weight 1 --net-weights a.weights --cert a.cert --rewrite b.cert",
+    options: "--per-unit 1 --fixed --shapes 16 --outline 1048576x1048576 --area-weight 1 --wire-weight 1 --net-weights a.weights --cert a.cert --rewrite b.cert --bounds standard",
     printed: Printed::Whole("status Yes\ncost 32\nbound 32\ndecided 9\n"),
     stored: &[("b.cert", CELL_CERT)],
     ..GIVEN
