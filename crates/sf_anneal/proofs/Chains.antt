@@ -4,8 +4,7 @@ use Rattle.std.specs.Prelude.{◌==◌, count_by}
 use Rattle.std.proofs.Common.{append_assoc}
 use Rattle.std.proofs.lemmas.Bool.Decides.{eqb_tells}
 use Rattle.std.proofs.lemmas.List.Sums.{sum_by-append, sum_by-cons}
-use Rattle.sf_model.specs.Legal.{HasEachOnce}
-use Rattle.sf_model.specs.Tree.{Tree, Leaf, Beside, leaves}
+use Rattle.sf_model.specs.Tree.{Tree, Leaf, Beside, leaves, HasEachOnce}
 use Rattle.sf_model.proofs.Each.{each-append}
 use Rattle.sf_polish.specs.Postfix.{IsSkewed, postfix}
 use Rattle.sf_polish.specs.Shaping.{no_shape}

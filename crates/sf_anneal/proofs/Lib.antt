@@ -11,3 +11,10 @@ pub mod Walks
 pub mod Collected
 pub mod Least
 pub mod OneWalk
+pub mod Levels
+pub mod Renewing
+pub mod Joined
+pub mod Rooted
+pub mod Costs
+pub mod Laying
+pub mod KeptParts

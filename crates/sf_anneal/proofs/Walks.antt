@@ -45,6 +45,18 @@ kept-one P rise now next a b = by_test (nat_le next.1 (min (now.1 + rise) MAX))
     by_test true = b
     by_test false = a
 
+-- the same of tokens with their cost
+pub kept-visit : (P : Visit → Type 0) (rise : ℕ) (now next : Visit) → P now → P next → P (kept rise now next)
+kept-visit P rise now next a b = by_test (nat_le next.1 (min (now.1 + rise) MAX))
+  where
+    by_test : (x : Bool) → P (if x then next else now)
+    by_test true = b
+    by_test false = a
+
+-- of two equal ones either is kept
+pub kept-same : (rise : ℕ) (now next : Visit) → next ≡ now → now ≡ kept rise now next
+kept-same rise now next e = kept-visit (λ v. now ≡ v) rise now next refl (sym e)
+
 -- and of the cheaper ones
 pub cheaper-one : (P : List Token → Type 0) (best next : Visit) → P best.0 → P next.0 → P (cheaper best next).0
 cheaper-one P best next a b = by_test (nat_lt next.1 best.1)

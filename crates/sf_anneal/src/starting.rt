@@ -91,6 +91,7 @@ pub fn starts<R: Threads + Sync>(
 {
     let results: Result<Vec<Option<(Expr, u64)>>, NoMemory> = (0..usize::from(count))
         .into_par_iter()
+        .with_min_len(1)
         .map(
             |number: usize| -> Result<Option<(Expr, u64)>, NoMemory>
                 ensures { IfOk result (IsOwnWalk design.entry.now seed moves number) }
@@ -115,6 +116,7 @@ pub fn improved_starts<R: Threads + Sync>(
 {
     let results: Result<Vec<Option<(Expr, u64)>>, NoMemory> = (0..usize::from(count))
         .into_par_iter()
+        .with_min_len(1)
         .map(
             |number: usize| -> Result<Option<(Expr, u64)>, NoMemory>
                 ensures { IfOk result (IsImproved design.entry.now seed moves number) }

@@ -1,6 +1,8 @@
 use Rattle.std.proofs.Common.{◌≡◌, ◌+◌, ◌*◌, ◌-◌, length}
 use Rattle.sf_model.specs.Legal.{block_count}
 use Rattle.sf_polish.specs.Normal.{IsNormal}
+use Rattle.sf_anneal.specs.Measured.{IsCost}
+use Rattle.sf_anneal.specs.Parts.{IsReady}
 use Rattle.sf_anneal.specs.Visits.{visit_of}
 use Rattle.sf_anneal.specs.Walk.{Visit, Walks, chain}
 use Rattle.sf_anneal.proofs.walking.one_start.Given as goal
@@ -12,6 +14,9 @@ invariant-loop-trial g l =
       now : IsNormal n l.now.tokens.items;
       best : IsNormal n l.best.tokens.items;
       long : length l.next.tokens.items + 1 ≡ 2 * n;
+      costs : IsCost l.fn.design l.now.tokens.items l.now.cost;
+      spots : length l.spots.items ≡ n;
+      ready : IsReady l.fn.design l.parts l.now.tokens.items;
       walks : (end : Visit) → Walks l.fn.design l.height l.fn.moves (l.trials - l.trial) (g.R.Rng.stream l.words) (visit_of l.now) (visit_of l.best) end
           → Walks l.fn.design l.height l.fn.moves l.trials (g.R.Rng.stream l.fn.words) (chain n, l.first) (chain n, l.first) end;
     }

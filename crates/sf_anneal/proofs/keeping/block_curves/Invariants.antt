@@ -1,0 +1,7 @@
+use Rattle.std.proofs.Common.{◌≡◌, ℕ, ◌<◌, [], length}
+use Rattle.std.specs.Prelude.{slice_index_or}
+use Rattle.sf_anneal.specs.Parts.{IsBlockCurve}
+use Rattle.sf_anneal.proofs.keeping.block_curves.Given as goal
+
+abbrev pub invariant-loop-block : goal.invariant-loop-block
+invariant-loop-block l = record { many : length l.curves.items ≡ l.block; each : (b : ℕ) → b < l.block → IsBlockCurve l.design b (slice_index_or l.curves.items b []) }
