@@ -116,7 +116,7 @@ class Trial:
 
 def tried(trial, blocks):
     """The cost in one go, and the legs of each number of workers."""
-    status, whole = trial.run("plan", "--cert", "o.cert", "--nodes", MOST)
+    status, whole = trial.run("plan", "--cert", "o.cert", "--nodes", MOST, "--long")
     if status not in (0, 1):
         return None, []
     legs = []

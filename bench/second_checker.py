@@ -14,6 +14,7 @@ from fractions import Fraction
 
 MAX = 2**64 - 1
 MOST_SIDE = 1_048_576
+MOST_KNOWN = 16
 LETTERS = "arphf"
 NUMBER = "(0|[1-9][0-9]{0,19})"
 COUNT = r"(NumSoftRectangularBlocks|NumHardRectilinearBlocks|NumTerminals|NumNets|NumPins|NetDegree)([ \t\r:]|$)"
@@ -71,6 +72,8 @@ class Design:
             if words[0] in terminals:
                 points[words[0]] = tuple(2 * scaled(word, self.unit) for word in words[1:3])
         self.nets = self.pin_sets(options, points) if "nets" in options else []
+        knows = options.get("bounds") == "strong" and len(self.shapes) <= MOST_KNOWN
+        self.floor = least_area(self.shapes, self.sides) if knows else 0
 
     def hard(self, words):
         numbers = re.sub(r"[(),]", " ", " ".join(words[2:])).split()
@@ -101,6 +104,53 @@ class Design:
             weights[scaled(words[0], 1)] = scaled(words[1], 1)
         nets = ((weight, blocks, [points[pad] for pad in pads]) for weight, (blocks, pads) in zip(weights, nets))
         return [net for net in nets if len(net[1]) + len(net[2]) > 1]
+
+
+def undominated(sizes):
+    """Of these sizes those to which no other is as small both ways."""
+    kept = []
+    for w, h in sorted(set(sizes)):
+        if not kept or h < kept[-1][1]:
+            kept.append((w, h))
+    return kept
+
+
+def sizes_of_sets(shapes, sides, least, dead):
+    """For each set of blocks the undominated sizes of its plans in the outline that waste at most so much: whose area is at
+    most that much above the least areas of the blocks. A set is a number whose bit b is 1 where block b is in it."""
+    total, tables = [0], [[]]
+    for members in range(1, 2 ** len(shapes)):
+        block = members.bit_length() - 1
+        rest = members - 2**block
+        total.append(total[rest] + least[block])
+        found = list(shapes[block]) if not rest else []
+        part = rest
+        while part:
+            for lw, lh in tables[members - part] if tables[part] else []:
+                for rw, rh in tables[part]:
+                    found += [(lw + rw, max(lh, rh)), (max(lw, rw), lh + rh)]
+            part = (part - 1) & rest
+        limit = total[members] + dead
+        tables.append(undominated((w, h) for w, h in found if w <= sides[0] and h <= sides[1] and w * h <= limit))
+    return tables
+
+
+def least_area(shapes, sides):
+    """The least area of all floorplans that fit, or one more than that of the outline where none fits. The waste that is
+    allowed grows until a floorplan is found, or nothing that fits wastes more."""
+    within = [[(w, h) for w, h in listed if w <= sides[0] and h <= sides[1]] for listed in shapes]
+    outline = sides[0] * sides[1]
+    if not all(within):
+        return outline + 1
+    least = [min(w * h for w, h in listed) for listed in within]
+    dead = sum(least) // 256
+    while True:
+        whole = sizes_of_sets(within, sides, least, dead)[-1]
+        if whole:
+            return min(w * h for w, h in whole)
+        if sum(least) + dead >= outline:
+            return outline + 1
+        dead += dead // 4 + 1
 
 
 def cost_of(design, tokens, shape):
@@ -176,7 +226,7 @@ def values(design, tokens, spans):
     if all(parts):
         areas = sum(min(w * h for w, h in sizes) for sizes in parts)
         widest, highest = (max(min(size[i] for size in sizes) for sizes in parts) for i in (0, 1))
-        area = max(areas, widest * highest)
+        area = max(areas, widest * highest, design.floor)
     fits = area <= design.sides[0] * design.sides[1]
     nets = [(weight, net_parts(design, extents, items, complete, *pins)) for weight, *pins in design.nets if design.wire_weight]
     wires = [0] + [sum(weight * by[way] for weight, by in nets) for way in range(3)] + [sum(weight * max(by) for weight, by in nets)]

@@ -15,8 +15,8 @@ pub use Rattle.sf_io.specs.declared.status.Status.{Status}
 pub use Rattle.sf_io.specs.declared.status.Status.TheVariants.{BadInput, Done, No, NoMemory, NoneFits, Open, OverLimit, ReadFault, Usage, WriteFault}
 pub use Rattle.sf_lex.specs.Results.{◌>>=◌}
 pub use Rattle.sf_model.specs.Cost.{IsFloor, cost, right_end, spots_cost, upper_end}
-pub use Rattle.sf_model.specs.Legal.{Fits, HasEachOnce, IsLegal, block_count}
-pub use Rattle.sf_model.specs.Tree.{Tree, height, spots_of, tree_of, width}
+pub use Rattle.sf_model.specs.Legal.{Fits, IsLegal, block_count}
+pub use Rattle.sf_model.specs.Tree.{HasEachOnce, Tree, height, spots_of, tree_of, width}
 pub use Rattle.sf_model.specs.Wire.{wire}
 pub use Rattle.sf_model.specs.declared.design.Design.{Design}
 pub use Rattle.sf_model.specs.declared.parts.Block.{Block}
@@ -33,12 +33,13 @@ pub use Rattle.sf_program.specs.Answer.{Answers, CommandAnswer, CommandRefuses, 
 pub use Rattle.sf_program.specs.Checked.{CertRead, CheckRead, IsChecked, IsJudged, IsRenamed, IsRewritten, IsStoredAnew, JudgedFile, JudgedText, answer_status, answer_text, cert_limit, cert_refusal}
 pub use Rattle.sf_program.specs.Generated.{DesignGenerated, GenRead, IsGenerated, TextsStand, blocks_said, both_weights, by_default, cert_name, kinds_of, nets_said, parts_made, places_said, texts_stored}
 pub use Rattle.sf_program.specs.Loads.{IsCounted, IsNoLoad, Reads, TellsNoLoad}
+pub use Rattle.sf_program.specs.Knowing.{KnownRead, MadeKnown}
 unfoldable pub use Rattle.sf_program.specs.Measured.{spot_said}
 pub use Rattle.sf_program.specs.Measured.{IsMeasured, MeasureRead, SpotsPlaced, SpotsRead, legal_text, lines_named, sized_spot, spots_said, verdict_status, verdict_text}
 pub use Rattle.sf_program.specs.OneAnswer.{Answer, AskForOneWorker, AtMostOne, GivesOne, HasBlocksOf, HasOneWorker, IsAnswerTo, IsDoneBy, IsSaid, IsTold, refusal}
 pub use Rattle.sf_program.specs.Outcome.{Ends, IsFault, IsRefusal, Refusal, Refuses, Stops, Then, lost, refused}
 pub use Rattle.sf_program.specs.PlacedLines.{AreIndexed, AreKept, HasNearPlace, IsIndex, IsOnly, LinesAre, with_line}
-pub use Rattle.sf_program.specs.Planned.{AreMeasures, BudgetTested, BudgetedDesign, CountTested, IsAnswered, IsEnding, IsPlanned, IsReported, IsSearched, PlanRead, budget_of, outcome_status, placement_stores}
+pub use Rattle.sf_program.specs.Planned.{AreMeasures, BudgetTested, BudgetedDesign, CountTested, IsAnswered, IsEnding, IsPlanned, IsReported, IsSearched, PlanDesign, PlanRead, budget_of, outcome_status, placement_stores}
 pub use Rattle.sf_program.specs.Reading.{Admitted, BlocksRead, Built, DesignMade, DesignRead, GsrcRead, IfNamed, JoinedRead, Judged, ListsMade, NetsRead, PartsAdmitted, PartsRead, PlacesRead, Said, TextRead, TextWithin, Weighed, WeightsRead, With, YalRead, YalWeighed, outline_of, weights_of}
 pub use Rattle.sf_program.specs.Refusals.{build_refusal, design_fault, gsrc_refusal, join_refusal, line_of, weight_refusal, yal_refusal}
 pub use Rattle.sf_program.specs.Resumed.{CertLoaded, CertTaken, IsContinued, IsGood, IsGoneOn, IsRejected, IsSearchedOn, IsTakenUp, ResumeRead, SumTested}

@@ -8,7 +8,7 @@ use Rattle.sf_program.specs.Planned as planned
 use Rattle.sf_program.proofs.Endings.{said-ends, judged-ends, checked-ends, taken-up-ends}
 use Rattle.sf_program.proofs.Once.{no-refusal}
 use Rattle.sf_program.proofs.OneChecked.{check-read-one, measure-read-one, shape-read-one}
-use Rattle.sf_program.proofs.OneDesign.{plan-one}
+use Rattle.sf_program.proofs.OneKnown.{plan-one}
 use Rattle.sf_program.proofs.OneResumed.{resume-read-one}
 use Rattle.sf_program.proofs.OneSearched.{gen-one}
 

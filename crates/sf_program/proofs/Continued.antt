@@ -1,6 +1,6 @@
 -- A certificate that is read, and what is answered to it.
 use Rattle.std.proofs.Common.{◌≡◌, inl, inr, Bool, ℕ, List, Option, Result, Ok, Err, IfOk, refl, sym, subst}
-use Rattle.sf_program.proofs.Common.{IfErr, Contents, Design, block_count, Cert, ResumeOptions, resume, Stop, Stops, Ends, DesignRead, Judged, TextWithin, Obeys, cert_limit, cert_refusal, CertLoaded, IsTakenUp, ResumeRead, SumTested, stored_in}
+use Rattle.sf_program.proofs.Common.{IfErr, Contents, Design, block_count, Cert, ResumeOptions, resume, Stop, Stops, Ends, KnownRead, Judged, TextWithin, Obeys, cert_limit, cert_refusal, CertLoaded, IsTakenUp, ResumeRead, SumTested, stored_in}
 use Rattle.sf_certificate.specs.Reading.{cert_read, said_by}
 use Rattle.sf_program.specs.declared.work.Work.{Work}
 use Rattle.sf_program.proofs.Stages.{stops-map}
@@ -16,7 +16,7 @@ cert-loaded is_long held name text said design read same (Err stop) told stopped
     (λ why p. inl (text, read, subst (λ t. Judged (cert_read (block_count design) t) cert_refusal (Err why)) same p)) stop stopped
 
 -- the design comes before the certificate, and the certificate before its sum
-module _ (held : Option Contents) (o : ResumeOptions) (design : Design) (read : DesignRead held o.design o.weights (Ok design)) where
+module _ (held : Option Contents) (o : ResumeOptions) (design : Design) (read : KnownRead held o.design o.weights o.bounds (Ok design)) where
   -- a file that says no certificate ends the command
   pub resume-stops : (stop : Stop) → Stops stop (λ why. CertLoaded o.is_long held o.cert design (Err why)) → Stops stop (λ why. ResumeRead held o (Err why))
   resume-stops = stops-map (λ why. CertLoaded o.is_long held o.cert design (Err why)) (λ why. ResumeRead held o (Err why)) (λ why p. inl (design, read, inr (why, p, refl)))

@@ -78,9 +78,9 @@ no-search : (status : Status) → IsRefusal status → HasSearched status → �
 no-search status is h = elim is [ inl e ↦ subst HasSearched e h | inr e ↦ subst HasSearched e h ]
 
 -- an answered search, with the design that was read or generated
-answered-headline : (Stands : Result Design Refusal → Type 0) (nodes : Option ℕ) (taken taken_then : Option (List ℕ)) (status : Status) (design : Design) (workers scale : ℕ) (name : List ℕ) (pl : Option (List ℕ)) (stored : List Stored) (printed : List ℕ)
-    → Stands (Ok design) → IsAnswered design workers (budget_of nodes (block_count design)) scale name pl status stored printed → Appends taken taken_then printed → IsHeadline Stands nodes taken taken_then status
-answered-headline Stands nodes taken taken_then status design workers scale name pl stored printed stands answered prints =
+answered-headline : (Stands : Result Design Refusal → Type 0) (nodes : Option ℕ) (taken taken_then : Option (List ℕ)) (status : Status) (design : Design) (workers : ℕ) (start : Option (Expr × ℕ)) (scale : ℕ) (name : List ℕ) (pl : Option (List ℕ)) (stored : List Stored) (printed : List ℕ)
+    → Stands (Ok design) → IsAnswered design workers (budget_of nodes (block_count design)) start scale name pl status stored printed → Appends taken taken_then printed → IsHeadline Stands nodes taken taken_then status
+answered-headline Stands nodes taken taken_then status design workers start scale name pl stored printed stands answered prints =
     let s = answered.searched in
     let found = reported-finds design (budget_of nodes (block_count design)) (full design) scale name pl answered.cert status stored printed s.valid s.few s.spent s.ended answered.reported in
     record { design = design; stands = stands; report = found.0; finding = found.1; prints = subst (Appends taken taken_then) found.2 prints }
@@ -89,13 +89,13 @@ module _ (before : Option Contents) (taken taken_then : Option (List ℕ)) (stat
   -- an answer of `plan` by a status of a search has the headline
   plan-headline : (o : PlanOptions) (stored : List Stored) (printed : List ℕ) → CommandAnswer (plan o) before status stored printed → Appends taken taken_then printed → IsHeadline (PlanRead before o) o.nodes taken taken_then status
   plan-headline o stored printed (inl p) prints =
-      answered-headline (PlanRead before o) o.nodes taken taken_then status p.design o.workers o.design.per_unit o.cert o.pl_out stored printed p.reads p.answered prints
+      answered-headline (PlanRead before o) o.nodes taken taken_then status p.design o.workers p.start o.design.per_unit o.cert o.pl_out stored printed p.reads p.answered prints
   plan-headline o stored printed (inr r) prints = absurd (no-search status r.0 searched)
 
   -- so has one of `gen`
   gen-headline : (o : GenOptions) (stored : List Stored) (printed : List ℕ) → CommandAnswer (gen o) before status stored printed → Appends taken taken_then printed → IsHeadline (GenRead o) o.nodes taken taken_then status
   gen-headline o stored printed (inl p) prints =
-      answered-headline (GenRead o) o.nodes taken taken_then status p.design 1 1 (cert_name o) None p.searched printed p.made p.answered prints
+      answered-headline (GenRead o) o.nodes taken taken_then status p.design 1 None 1 (cert_name o) None p.searched printed p.made p.answered prints
   gen-headline o stored printed (inr r) prints = absurd (no-search status r.0 searched)
 
   -- so has one of `resume`, which is an answer of a search where the certificate is valid

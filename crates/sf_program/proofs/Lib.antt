@@ -12,6 +12,7 @@ pub mod Statuses
 pub mod Made
 pub mod Once
 pub mod OneDesign
+pub mod OneKnown
 pub mod OneChecked
 pub mod OneResumed
 pub mod OneSearched
@@ -20,3 +21,4 @@ pub mod Complete
 pub mod Headline
 pub mod Pieces
 pub mod Continued
+pub mod Searched

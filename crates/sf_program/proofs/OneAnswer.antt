@@ -6,7 +6,7 @@ use Rattle.sf_program.specs.Planned as planned
 use Rattle.sf_program.proofs.Endings.{said-ends, judged-ends, checked-ends, taken-up-ends}
 use Rattle.sf_program.proofs.Once.{no-refusal, same-refusal}
 use Rattle.sf_program.proofs.OneChecked.{HasOneName, check-read-one, checked-one, checked-reads, measure-read-one, measured-one, measured-reads, shape-read-one, shaped-one, shaped-reads}
-use Rattle.sf_program.proofs.OneDesign.{plan-one}
+use Rattle.sf_program.proofs.OneKnown.{plan-one}
 use Rattle.sf_program.proofs.OneResumed.{resume-read-one}
 use Rattle.sf_program.proofs.OneSearched.{HasOneCert, gen-one, generated-one, planned-one}
 
@@ -87,7 +87,7 @@ module _ (contents : Contents) where
   command-one : HasOneCert → HasOneName → (command : Command) → HasOneWorker command → AtMostOne (IsOf command contents)
   command-one certs names (plan o) single =
       one-of contents.may_fail (planned.PlanRead (Some contents) o) (plan-one contents o) (λ a. planned.IsPlanned o (Some contents) a.0 a.1 a.2) (planned-reads o)
-      (λ a b p q. let same = planned-one certs contents o single a b p q in triple a b same.0 same.1 same.2)
+      (λ a b p q. let same = planned-one certs contents o single.0 single.1 single.2 a b p q in triple a b same.0 same.1 same.2)
   command-one certs names (check o) single =
       one-of contents.may_fail (CheckRead (Some contents) o) (check-read-one contents o) (λ a. IsChecked o (Some contents) a.0 a.1 a.2) (checked-reads contents o)
       (λ a b p q. let same = checked-one contents o names a b p q in triple a b same.0 same.1 same.2)

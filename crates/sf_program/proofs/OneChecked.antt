@@ -1,6 +1,6 @@
 -- The commands that search nothing have one answer each.
 use Rattle.std.proofs.Common.{◌≡◌, inl, inr, ℕ, ◌+◌, suc, List, [], ◌∷◌, ◌++◌, map, length, Option, Some, None, Result, Ok, Err, refl, sym, ap, subst, ◌∙◌, arith}
-use Rattle.sf_program.proofs.Common.{Bool, codes, flat_map, range_with_len, Contents, Design, Block, Spot, block_count, root, IsRootCurve, ◌>>=◌, Place, IsByNumber, IsVerdict, standard, part_value, Cert, cert_text, AreTrees, IsValid, CheckOptions, MeasureOptions, ShapeOptions, CertRead, CheckRead, IsChecked, IsJudged, IsRenamed, IsRewritten, JudgedFile, answer_status, answer_text, cert_limit, cert_refusal, IsMeasured, MeasureRead, SpotsPlaced, SpotsRead, lines_named, sized_spot, spot_said, spots_said, verdict_status, verdict_text, Answer, AtMostOne, GivesOne, Refusal, DesignRead, Judged, PlacesRead, Said, TextRead, TextWithin, With, Stored, IsCurveText, IsLeast, IsShaped, ShapeRead, TokensRead, areas_alone, expr_refusal, least_line, point_line}
+use Rattle.sf_program.proofs.Common.{Bool, codes, flat_map, range_with_len, Contents, Design, Block, Spot, block_count, root, IsRootCurve, ◌>>=◌, Place, IsByNumber, IsVerdict, standard, part_value, Cert, cert_text, AreTrees, IsValid, CheckOptions, MeasureOptions, ShapeOptions, CertRead, CheckRead, IsChecked, IsJudged, IsRenamed, IsRewritten, JudgedFile, answer_status, answer_text, cert_limit, cert_refusal, IsMeasured, MeasureRead, SpotsPlaced, SpotsRead, lines_named, sized_spot, spot_said, spots_said, verdict_status, verdict_text, Answer, AtMostOne, GivesOne, Refusal, DesignRead, KnownRead, Judged, PlacesRead, Said, TextRead, TextWithin, With, Stored, IsCurveText, IsLeast, IsShaped, ShapeRead, TokensRead, areas_alone, expr_refusal, least_line, point_line}
 use Rattle.sf_model.specs.declared.parts.Shape.{Shape}
 use Rattle.sf_polish.specs.declared.expr.Token.{Token}
 use Rattle.sf_polish.specs.Reading.{tokens_read}
@@ -17,6 +17,7 @@ use Rattle.sf_checker.specs.declared.answer.Answer.TheVariants.{Yes, No}
 use Rattle.sf_checker.specs.Answers.{IsAnswer}
 use Rattle.sf_checker.proofs.OneAnswer.{one-answer}
 use Rattle.sf_program.proofs.Once.{once, then-one, said-one, judged-one, text-one, within-one, with-one, same-value}
+use Rattle.sf_program.proofs.OneKnown.{known-one}
 use Rattle.sf_program.proofs.OneDesign.{design-one, places-one}
 
 -- ---- check
@@ -29,7 +30,7 @@ cert-one is_long contents name blocks =
 -- so the design and the certificate that are read are one
 pub check-read-one : (contents : Contents) (o : CheckOptions) → GivesOne contents.may_fail (CheckRead (Some contents) o)
 check-read-one contents o =
-    then-one (DesignRead (Some contents) o.design o.weights) (λ design. CertRead o.is_long (Some contents) o.cert (block_count design)) (design-one contents o.design o.weights) (λ design. cert-one o.is_long contents o.cert (block_count design))
+    then-one (KnownRead (Some contents) o.design o.weights o.bounds) (λ design. CertRead o.is_long (Some contents) o.cert (block_count design)) (known-one contents o.design o.weights o.bounds) (λ design. cert-one o.is_long contents o.cert (block_count design))
 
 -- certificates of which a text says the same are one
 pub said-cert : (c d : Cert) → said_by c ≡ said_by d → c ≡ d
@@ -84,7 +85,7 @@ module _ (contents : Contents) (o : CheckOptions) where
   -- the answers of `check` are one
   pub checked-one : HasOneName → (a b : Answer) → IsChecked o (Some contents) a.0 a.1 a.2 → IsChecked o (Some contents) b.0 b.1 b.2 → (a.0 ≡ b.0) × (a.1 ≡ b.1) × (a.2 ≡ b.2)
   checked-one names a b p q =
-      let design = same-value (DesignRead (Some contents) o.design o.weights) (design-one contents o.design o.weights) p.design q.design p.reads q.reads in
+      let design = same-value (KnownRead (Some contents) o.design o.weights o.bounds) (known-one contents o.design o.weights o.bounds) p.design q.design p.reads q.reads in
       file-one names q.design a b (subst (λ (d : Design). JudgedFile o.is_long (Some contents) o.cert d o.rewrite a.0 a.1 a.2) design p.file) q.file
 
   -- what is checked was read

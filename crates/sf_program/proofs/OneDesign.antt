@@ -1,6 +1,6 @@
 -- The texts stand for one design, or are refused for one reason.
 use Rattle.std.proofs.Common.{◌≡◌, ◌≤◌, inl, inr, ℕ, suc, List, [], ◌∷◌, map, length, Option, Some, None, Result, Ok, Err, refl, sym, ap, subst, ◌∙◌, arith}
-use Rattle.sf_program.proofs.Common.{Bool, codes, Contents, Design, Block, Parts, AreListsOf, GsrcBlocks, GsrcNets, GsrcPlaces, places_read, PlacesStandFor, first_twice, joined, names_of, nets_in, numbered, placed_once, placed_parts, unplaced_parts, Input, gsrc, yal, DesignOptions, PlanOptions, WeightOptions, AtMostOne, GivesOne, HasBlocksOf, Refusal, Then, BudgetTested, BudgetedDesign, CountTested, budget_of, PlanRead, Admitted, BlocksRead, Built, DesignMade, DesignRead, GsrcRead, IfNamed, JoinedRead, Judged, ListsMade, NetsRead, PartsAdmitted, PartsRead, PlacesRead, Said, TextRead, Weighed, WeightsRead, YalRead, YalWeighed, outline_of, weights_of, build_refusal, gsrc_refusal, join_refusal, weight_refusal, yal_refusal, WeighedParts}
+use Rattle.sf_program.proofs.Common.{Bool, codes, Contents, Design, Block, Parts, AreListsOf, GsrcBlocks, GsrcNets, GsrcPlaces, places_read, PlacesStandFor, first_twice, joined, names_of, nets_in, numbered, placed_once, placed_parts, unplaced_parts, Input, gsrc, yal, DesignOptions, PlanOptions, WeightOptions, AtMostOne, GivesOne, HasBlocksOf, Refusal, Then, BudgetTested, BudgetedDesign, CountTested, budget_of, PlanDesign, Admitted, BlocksRead, Built, DesignMade, DesignRead, GsrcRead, IfNamed, JoinedRead, Judged, ListsMade, NetsRead, PartsAdmitted, PartsRead, PlacesRead, Said, TextRead, Weighed, WeightsRead, YalRead, YalWeighed, outline_of, weights_of, build_refusal, gsrc_refusal, join_refusal, weight_refusal, yal_refusal, WeighedParts}
 use Rattle.std.specs.List.{All}
 use Rattle.std.specs.Option.{option_map}
 use Rattle.sf_model.specs.declared.fault.BuildFault.TheVariants.{NoShape}
@@ -184,8 +184,8 @@ count-one is_long count blocks (Err v) (Ok y) a b = let within = b.1 a.0 in let 
 count-one is_long count blocks (Err v) (Err w) a b = ap Err (a.2 ∙ sym b.2)
 
 -- so what `plan` reads is one design
-pub plan-one : (contents : Contents) (o : PlanOptions) → GivesOne contents.may_fail (PlanRead (Some contents) o)
-plan-one contents o =
+pub designed-one : (contents : Contents) (o : PlanOptions) → GivesOne contents.may_fail (PlanDesign (Some contents) o)
+designed-one contents o =
     then-one (PartsAdmitted (Some contents) o.design o.weights) (BudgetedDesign o) (parts-admitted-one contents o.design o.weights)
     (λ read. then-one (BudgetTested o.is_long o.nodes (length read.parts.blocks)) (λ budget. DesignMade o.design o.weights read) (once (BudgetTested o.is_long o.nodes (length read.parts.blocks)) (count-one o.is_long (budget_of o.nodes (length read.parts.blocks)) (length read.parts.blocks))) (λ budget. once (DesignMade o.design o.weights read) (made-one o.design o.weights read)))
 
@@ -213,9 +213,9 @@ budgeted-made : (o : PlanOptions) (read : WeighedParts) (design : Design) → Bu
 budgeted-made o read design h = elim h [ inl m ↦ m.2 | inr m ↦ (let e = m.2 in absurd (cc)) ]
 
 -- so what `plan` reads has the blocks that its files name
-pub plan-blocks : (contents : Contents) (o : PlanOptions) (read : WeighedParts) (design : Design) → PartsRead (Some contents) o.design.per_unit o.design.input o.weights.net_weights (Ok read) → PlanRead (Some contents) o (Ok design)
+pub designed-blocks : (contents : Contents) (o : PlanOptions) (read : WeighedParts) (design : Design) → PartsRead (Some contents) o.design.per_unit o.design.input o.weights.net_weights (Ok read) → PlanDesign (Some contents) o (Ok design)
     → HasBlocksOf read.parts.blocks design
-plan-blocks contents o read design said stands =
+designed-blocks contents o read design said stands =
     elim stands [
       | inl m ↦ subst (λ (p : WeighedParts). HasBlocksOf p.parts.blocks design) (admitted-parts contents o.design o.weights read m.0 said m.1) (made-blocks o.design o.weights m.0 design (budgeted-made o m.0 design m.2))
       | inr m ↦ (let e = m.2 in absurd (cc))

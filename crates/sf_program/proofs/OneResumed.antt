@@ -1,10 +1,10 @@
 -- What `resume` reads is one design and one certificate, or is refused for one reason.
 use Rattle.std.proofs.Common.{Bool, ℕ, ◌+◌, List, Some, Ok, Err, ap, sym, ◌∙◌, arith}
-use Rattle.sf_program.proofs.Common.{Contents, Design, block_count, Cert, decided, ResumeOptions, AtMostOne, GivesOne, Refusal, DesignRead, With, CertLoaded, CertRead, CertTaken, CountTested, ResumeRead, SumTested}
+use Rattle.sf_program.proofs.Common.{Contents, Design, block_count, Cert, decided, ResumeOptions, AtMostOne, GivesOne, Refusal, KnownRead, With, CertLoaded, CertRead, CertTaken, CountTested, ResumeRead, SumTested}
 use Rattle.sf_certificate.specs.Reading.{said_by}
 use Rattle.sf_program.proofs.Once.{no-refusal, once, same-refusal, same-value, then-one, with-one}
 use Rattle.sf_program.proofs.OneChecked.{cert-one, said-cert}
-use Rattle.sf_program.proofs.OneDesign.{design-one}
+use Rattle.sf_program.proofs.OneKnown.{known-one}
 
 -- a file says one certificate, or has one fault
 loaded-one : (is_long : Bool) (contents : Contents) (name : List ℕ) (design : Design) → GivesOne contents.may_fail (CertLoaded is_long (Some contents) name design)
@@ -31,6 +31,6 @@ sum-one is_long nodes design cert (Err v) (Err w) a b = ap Err (a.1.2 ∙ sym b.
 -- so the design and the certificate that are read are one
 pub resume-read-one : (contents : Contents) (o : ResumeOptions) → GivesOne contents.may_fail (ResumeRead (Some contents) o)
 resume-read-one contents o =
-    then-one (DesignRead (Some contents) o.design o.weights) (With (CertTaken (Some contents) o)) (design-one contents o.design o.weights)
+    then-one (KnownRead (Some contents) o.design o.weights o.bounds) (With (CertTaken (Some contents) o)) (known-one contents o.design o.weights o.bounds)
     (λ design. with-one (CertTaken (Some contents) o) design
     (then-one (CertLoaded o.is_long (Some contents) o.cert design) (SumTested o.is_long o.nodes design) (loaded-one o.is_long contents o.cert design) (λ cert. once (SumTested o.is_long o.nodes design cert) (sum-one o.is_long o.nodes design cert))))

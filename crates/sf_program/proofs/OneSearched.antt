@@ -1,11 +1,17 @@
 -- A search by one worker has one answer, where its certificate is the only one.
-use Rattle.std.proofs.Common.{◌≡◌, ℕ, ◌*◌, Bool, false, List, ◌∷◌, ◌++◌, Option, Some, None, Ok, Err, refl, sym, ap, subst, ◌∙◌, arith}
+use Rattle.std.proofs.Common.{◌≡◌, ℕ, ◌*◌, Bool, false, List, [], ◌∷◌, ◌++◌, length, Option, Some, None, Ok, Err, refl, sym, ap, subst, ◌∙◌, arith}
 use Rattle.sf_program.proofs.Common.{Contents, Design, Spot, block_count, Tree, width, height, spots_of, wire, Expr, spells-one, by_number, Cert, decided, cert_text, Outcome, GenOptions, PlanOptions, DesignGenerated, GenRead, IsGenerated, by_default, both_weights, cert_name, parts_made, texts_stored, Answer, AtMostOne, GivesOne, BudgetTested, IsAnswered, IsEnding, AreMeasures, IsPlanned, IsReported, IsSearched, PlanRead, budget_of, outcome_status, placement_stores, Stored, alike}
+use Rattle.sf_anneal.specs.Starts.{IsImprovedStarts, first_least}
+use Rattle.sf_words.specs.declared.command.BoundsChoice.{BoundsChoice}
+use Rattle.sf_words.specs.declared.command.BoundsChoice.TheVariants.{Standard, Strong}
+use Rattle.sf_known.specs.Known.{IsKnownBy, cheaper}
+use Rattle.sf_program.specs.Begun.{IsBegun}
 use Rattle.sf_pl_writer.specs.declared.report.Outcome.TheVariants as word
 use Rattle.sf_pl_writer.specs.ReportText.{report_text}
 use Rattle.sf_program.specs.Planned.{IsTold}
 use Rattle.sf_program.proofs.Once.{once, then-one, same-value}
-use Rattle.sf_program.proofs.OneDesign.{count-one, made-one, plan-one}
+use Rattle.sf_program.proofs.OneKnown.{plan-one}
+use Rattle.sf_program.proofs.OneDesign.{count-one, made-one}
 
 -- a cost and a bound have one ending
 ending-one : (cost bound : ℕ) (s t : Outcome) → IsEnding cost bound s → IsEnding cost bound t → s ≡ t
@@ -62,14 +68,35 @@ pub gen-one : (any : Bool) (o : GenOptions) → GivesOne any (GenRead o)
 gen-one any o =
     then-one (BudgetTested false o.nodes o.count) (λ budget. DesignGenerated o) (once (BudgetTested false o.nodes o.count) (count-one false (budget_of o.nodes o.count) o.count)) (λ budget. once (DesignGenerated o) (generated-design o))
 
--- only one certificate is that of a search by one worker
+-- no walks find no plan
+none-found : (results : List (Option (Expr × ℕ))) → length results ≡ 0 → first_least results ≡ None
+none-found [] h = refl
+none-found (r ∷ rs) h = absurd (omega (arith, h))
+
+-- so a search that asks for none begins with none
+none-begun : (design : Design) (seed count moves : ℕ) (start : Option (Expr × ℕ)) → count ≡ 0 → IsImprovedStarts design seed count moves start → start ≡ None
+none-begun design seed count moves start none s = s.no_dearer.none (s.starts.least ∙ none-found s.starts.results (s.starts.many ∙ none))
+
+-- so does one for which none is known
+none-known : (bounds : BoundsChoice) (design : Design) (known : Option (Expr × ℕ)) → bounds ≡ Standard → IsKnownBy bounds design known → known ≡ None
+none-known Standard design known plain h = h
+none-known Strong design known plain h = absurd (let e : Strong ≡ Standard = plain in cc)
+
+-- a search that asks for neither begins with no plan
+none-first : (o : PlanOptions) (design : Design) (start : Option (Expr × ℕ)) → o.starts.count ≡ 0 → o.bounds ≡ Standard → IsBegun o design start → start ≡ None
+none-first o design start bare plain b =
+    let walked = none-begun design o.starts.seed o.starts.count o.starts.moves b.walked bare b.walks in
+    let known = none-known o.bounds design b.known plain b.knows in
+    b.is ∙ ap (λ w. cheaper w b.known) walked ∙ known
+
+-- only one certificate is that of a search by one worker that begins with no plan
 abbrev pub HasOneCert : Type 0
-HasOneCert = (design : Design) (budget : ℕ) → AtMostOne (IsSearched design 1 budget)
+HasOneCert = (design : Design) (budget : ℕ) → AtMostOne (IsSearched design 1 budget None)
 
 module _ (certs : HasOneCert) where
   -- the answers of a search by one worker are one
   pub answered-one : (design : Design) (budget scale : ℕ) (name : List ℕ) (pl : Option (List ℕ)) (a b : Answer)
-      → IsAnswered design 1 budget scale name pl a.0 a.1 a.2 → IsAnswered design 1 budget scale name pl b.0 b.1 b.2 → (a.0 ≡ b.0) × (a.1 ≡ b.1) × (a.2 ≡ b.2)
+      → IsAnswered design 1 budget None scale name pl a.0 a.1 a.2 → IsAnswered design 1 budget None scale name pl b.0 b.1 b.2 → (a.0 ≡ b.0) × (a.1 ≡ b.1) × (a.2 ≡ b.2)
   answered-one design budget scale name pl a b p q =
       let cert = certs design budget p.cert q.cert p.searched q.searched in
       let r = subst (λ (c : Cert). IsReported design scale name pl c a.0 a.1 a.2) cert p.reported in
@@ -80,17 +107,20 @@ module _ (certs : HasOneCert) where
       (r.status_is ∙ ap outcome_status said ∙ sym s.status_is, both.0, both.1)
 
   -- so are those of `plan`
-  pub planned-one : (contents : Contents) (o : PlanOptions) → o.workers ≡ 1 → (a b : Answer) → IsPlanned o (Some contents) a.0 a.1 a.2 → IsPlanned o (Some contents) b.0 b.1 b.2 → (a.0 ≡ b.0) × (a.1 ≡ b.1) × (a.2 ≡ b.2)
-  planned-one contents o single a b p q =
+  pub planned-one : (contents : Contents) (o : PlanOptions) → o.workers ≡ 1 → o.starts.count ≡ 0 → o.bounds ≡ Standard → (a b : Answer) → IsPlanned o (Some contents) a.0 a.1 a.2 → IsPlanned o (Some contents) b.0 b.1 b.2 → (a.0 ≡ b.0) × (a.1 ≡ b.1) × (a.2 ≡ b.2)
+  planned-one contents o single bare plain a b p q =
       let design = same-value (PlanRead (Some contents) o) (plan-one contents o) p.design q.design p.reads q.reads in
-      let By : ℕ → Design → Answer → Type 0 = λ n d x. IsAnswered d n (budget_of o.nodes (block_count d)) o.design.per_unit o.cert o.pl_out x.0 x.1 x.2 in
+      let By : ℕ → Option (Expr × ℕ) → Design → Answer → Type 0 = λ n s d x. IsAnswered d n (budget_of o.nodes (block_count d)) s o.design.per_unit o.cert o.pl_out x.0 x.1 x.2 in
+      let first = none-first o p.design p.start bare plain p.begun in
+      let second = none-first o q.design q.start bare plain q.begun in
       answered-one q.design (budget_of o.nodes (block_count q.design)) o.design.per_unit o.cert o.pl_out a b
-      (subst (λ n. By n q.design a) single (subst (λ (d : Design). By o.workers d a) design p.answered)) (subst (λ n. By n q.design b) single q.answered)
+      (subst (λ n. By n None q.design a) single (subst (λ (d : Design). By o.workers None d a) design (subst (λ s. By o.workers s p.design a) first p.answered)))
+      (subst (λ n. By n None q.design b) single (subst (λ s. By o.workers s q.design b) second q.answered))
 
   -- and those of `gen`
   pub generated-one : (o : GenOptions) (a b : Answer) → IsGenerated o a.0 a.1 a.2 → IsGenerated o b.0 b.1 b.2 → (a.0 ≡ b.0) × (a.1 ≡ b.1) × (a.2 ≡ b.2)
   generated-one o a b p q =
       let design = same-value (GenRead o) (gen-one false o) p.design q.design p.made q.made in
-      let answered = subst (λ (d : Design). IsAnswered d 1 (budget_of o.nodes (block_count d)) 1 (cert_name o) None a.0 p.searched a.2) design p.answered in
+      let answered = subst (λ (d : Design). IsAnswered d 1 (budget_of o.nodes (block_count d)) None 1 (cert_name o) None a.0 p.searched a.2) design p.answered in
       let same = answered-one q.design (budget_of o.nodes (block_count q.design)) 1 (cert_name o) None (a.0, p.searched, a.2) (b.0, q.searched, b.2) answered q.answered in
       (same.0, p.stored_is ∙ ap (λ (ss : List Stored). texts_stored o ++ ss) same.1 ∙ sym q.stored_is, same.2)

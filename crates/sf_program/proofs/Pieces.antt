@@ -1,6 +1,6 @@
 -- A text that is fed in pieces: its answer, and what its fault says.
 use Rattle.std.proofs.Common.{◌≡◌, inl, ℕ, List, [], ◌∷◌, length, arith, refl, subst, sym, Option, None, Result, Ok, Err, IfOk, Bool}
-use Rattle.sf_program.proofs.Common.{IfErr, Contents, Design, block_count, standard, part_value, CheckOptions, Command, check, Stop, Refuses, Stops, DesignRead, Judged, TextWithin, Cert, cert_text, IsValid, CommandRefuses, IsOwnAnswer, Obeys, CertRead, CheckRead, IsJudged, IsRewritten, IsStoredAnew, JudgedFile, JudgedText, answer_status, answer_text, cert_limit, cert_refusal, Stored, stored_in}
+use Rattle.sf_program.proofs.Common.{IfErr, Contents, Design, block_count, standard, part_value, CheckOptions, Command, check, Stop, Refuses, Stops, KnownRead, Judged, TextWithin, Cert, cert_text, IsValid, CommandRefuses, IsOwnAnswer, Obeys, CertRead, CheckRead, IsJudged, IsRewritten, IsStoredAnew, JudgedFile, JudgedText, answer_status, answer_text, cert_limit, cert_refusal, Stored, stored_in}
 use Rattle.sf_certificate.specs.declared.fault.CertFault.{CertFault}
 use Rattle.sf_certificate.specs.Reading.{Said, cert_read, said_by}
 use Rattle.sf_checker.specs.declared.answer.Answer.{Answer}
@@ -62,7 +62,7 @@ told-file is_long held name text said design rewrite named read same given (Ok w
 told-file is_long held name text said design rewrite named read same given (Err stop) h = tt
 
 -- the design comes before the certificate
-module _ (held : Option Contents) (o : CheckOptions) (design : Design) (read : DesignRead held o.design o.weights (Ok design)) where
+module _ (held : Option Contents) (o : CheckOptions) (design : Design) (read : KnownRead held o.design o.weights o.bounds (Ok design)) where
   -- what is told of the certificate's file, and a fault of it, is what `check` tells of the design
   pub check-obeyed : (r : Result Work Stop) → IfOk r (λ w. JudgedFile o.is_long held o.cert design o.rewrite w.status (stored_in w.stores.items) w.text.items)
       → IfErr r (λ stop. Stops stop (λ why. CertRead o.is_long held o.cert (block_count design) (Err why))) → Obeys (check o) held r

@@ -35,11 +35,11 @@ module _ {E : Type 0} (design : Design) (scale : ℕ) (name : List ℕ) (pl : Op
   told-reported said cert plan valid same ending (Err e) told status = tt
 
   -- with its report the certificate of a search from the root is the search's answer
-  pub searched-answered : (workers budget : ℕ) (cert : Cert) → IsSearched design workers budget cert → (r : Result Work E)
+  pub searched-answered : (workers budget : ℕ) (start : Option (Expr × ℕ)) (cert : Cert) → IsSearched design workers budget start cert → (r : Result Work E)
       → IfOk r (λ w. IsReported design scale name pl cert w.status (stored_in w.stores.items) w.text.items)
-      → IfOk r (λ w. IsAnswered design workers budget scale name pl w.status (stored_in w.stores.items) w.text.items)
-  searched-answered workers budget cert searched (Ok w) reported = record { cert = cert; searched = searched; reported = reported }
-  searched-answered workers budget cert searched (Err e) reported = tt
+      → IfOk r (λ w. IsAnswered design workers budget start scale name pl w.status (stored_in w.stores.items) w.text.items)
+  searched-answered workers budget start cert searched (Ok w) reported = record { cert = cert; searched = searched; reported = reported }
+  searched-answered workers budget start cert searched (Err e) reported = tt
 
   -- so is that of one that went on from another
   pub gone-on : (old : Cert) (budget : ℕ) (cert : Cert) → IsGood design old → IsSearchedOn design old budget cert → (r : Result Work E)

@@ -22,7 +22,8 @@ use Rattle.sf_checker.specs.Answers.{IsAnswer, is_yes}
 use Rattle.sf_words.specs.Meaning.{CheckOptions}
 use Rattle.sf_program.specs.Outcome.{Refusal, Then}
 use Rattle.sf_program.specs.Refusals.{line_of, bad_input, no_line}
-use Rattle.sf_program.specs.Reading.{TextWithin, Judged, DesignRead}
+use Rattle.sf_program.specs.Reading.{TextWithin, Judged}
+use Rattle.sf_program.specs.Knowing.{KnownRead}
 use Rattle.sf_program.specs.Stores.{Stored}
 
 -- a text that is no certificate; want of memory has no line, and is not met
@@ -45,7 +46,7 @@ CertRead is_long held name blocks = Then (TextWithin (cert_limit is_long) held n
 
 -- the design first, and then the certificate for its blocks
 abbrev pub CheckRead : Option Contents → CheckOptions → Result Said Refusal → Type 0
-CheckRead held o = Then (DesignRead held o.design o.weights) (λ design. CertRead o.is_long held o.cert (block_count design))
+CheckRead held o = Then (KnownRead held o.design o.weights o.bounds) (λ design. CertRead o.is_long held o.cert (block_count design))
 
 -- the words for a failure, with `none` for MAX
 abbrev pub why_words : Why → List (List ℕ)
@@ -109,5 +110,5 @@ pub record JudgedFile (is_long : Bool) (held : Option Contents) (name : List ℕ
 -- the files stand for a design and a certificate, which is judged
 pub record IsChecked (o : CheckOptions) (before : Option Contents) (status : Status) (stored : List Stored) (printed : List ℕ) : Type 0 where
   pub design : Design
-  pub reads : DesignRead before o.design o.weights (Ok design)
+  pub reads : KnownRead before o.design o.weights o.bounds (Ok design)
   pub file : JudgedFile o.is_long before o.cert design o.rewrite status stored printed

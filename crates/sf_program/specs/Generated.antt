@@ -109,5 +109,5 @@ pub record IsGenerated (o : GenOptions) (status : Status) (stored : List Stored)
   pub design : Design
   pub made : GenRead o (Ok design)
   pub searched : List Stored
-  pub answered : IsAnswered design 1 (budget_of o.nodes (block_count design)) 1 (cert_name o) None status searched printed
+  pub answered : IsAnswered design 1 (budget_of o.nodes (block_count design)) None 1 (cert_name o) None status searched printed
   pub stored_is : stored ≡ texts_stored o ++ searched

@@ -2,6 +2,8 @@ pub mod Outcome
 pub mod Refusals
 pub mod Weighed
 pub mod Reading
+pub mod Knowing
+pub mod Begun
 pub mod Loads
 pub mod Stores
 pub mod Planned

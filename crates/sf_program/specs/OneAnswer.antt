@@ -8,6 +8,7 @@ use Rattle.sf_model.specs.declared.raw.RawBlock.{RawBlock}
 use Rattle.sf_model.specs.Admitted.{block_names}
 use Rattle.sf_model.specs.Legal.{block_count}
 use Rattle.sf_words.specs.Meaning.{Command, plan, resume, Means}
+use Rattle.sf_words.specs.declared.command.BoundsChoice.TheVariants.{Standard}
 use Rattle.sf_program.specs.Answer.{Answers}
 use Rattle.sf_program.specs.Outcome.{Refusal, refused, lost}
 use Rattle.sf_program.specs.Stores.{AfterStores, Stored}
@@ -53,12 +54,12 @@ pub record IsDoneBy (a : Answer) (before after : Option Contents) (taken taken_t
 abbrev pub refusal : Status → List ℕ → Answer
 refusal status line = (status, [], line)
 
--- several workers settle subproblems in an order that is not told, and `resume` searches as they do with one too: only a search by one from the root is a function of its design
+-- several workers settle subproblems in an order that is not told, and a search that goes on or that begins with a plan is as theirs with one too: only one by one worker, from the root and from nothing, is said to be a function of its design
 abbrev pub HasOneWorker : Command → Type 0
-HasOneWorker (plan o) = o.workers ≡ 1
+HasOneWorker (plan o) = (o.workers ≡ 1) × (o.starts.count ≡ 0) × (o.bounds ≡ Standard)
 HasOneWorker (resume o) = ⊥
 HasOneWorker other = ⊤
 
--- the words ask for no search by several workers, nor for one that goes on
+-- the words ask for no search by several workers, nor for one that goes on or that begins with a plan
 abbrev pub AskForOneWorker : List (List ℕ) → Type 0
 AskForOneWorker words = (command : Command) → Means words command → HasOneWorker command

@@ -1,5 +1,5 @@
 -- What the command `plan` answers.
-use Rattle.std.specs.Prelude.{◌≡◌, ℕ, ◌+◌, ◌*◌, ◌/◌, ◌<◌, ◌≤◌, min, List, [], ◌∷◌, length, codes, Option, Some, None, Result, Ok, Err, Bool, true, IsFalse}
+use Rattle.std.specs.Prelude.{◌≡◌, ℕ, ◌+◌, ◌*◌, ◌/◌, ◌<◌, ◌≤◌, min, List, [], ◌∷◌, length, codes, Option, Some, None, IfSome, Result, Ok, Err, Bool, true, IsFalse}
 use Rattle.sf_io.specs.Outside.{Contents}
 use Rattle.sf_io.specs.declared.status.Status.{Status}
 use Rattle.sf_io.specs.declared.status.Status.TheVariants.{Done, NoneFits, Open}
@@ -32,6 +32,8 @@ use Rattle.sf_words.specs.Meaning.{PlanOptions}
 use Rattle.sf_program.specs.Outcome.{Refusal, Then}
 use Rattle.sf_program.specs.Refusals.{over_limit}
 use Rattle.sf_program.specs.Reading.{PartsAdmitted, DesignMade}
+use Rattle.sf_program.specs.Knowing.{MadeKnown}
+use Rattle.sf_program.specs.Begun.{IsBegun}
 use Rattle.sf_program.specs.Stores.{Stored}
 use Rattle.sf_program.specs.Weighed.{WeighedParts}
 
@@ -58,8 +60,12 @@ abbrev pub BudgetedDesign : PlanOptions → WeighedParts → Result Design Refus
 BudgetedDesign o read = Then (BudgetTested o.is_long o.nodes (length read.parts.blocks)) (λ budget. DesignMade o.design o.weights read)
 
 -- the files stand for this design, and the budget is within its limit
+abbrev pub PlanDesign : Option Contents → PlanOptions → Result Design Refusal → Type 0
+PlanDesign held o = Then (PartsAdmitted held o.design o.weights) (BudgetedDesign o)
+
+-- which knows what was asked for
 abbrev pub PlanRead : Option Contents → PlanOptions → Result Design Refusal → Type 0
-PlanRead held o = Then (PartsAdmitted held o.design o.weights) (BudgetedDesign o)
+PlanRead held o = Then (PlanDesign held o) (MadeKnown o.bounds)
 
 -- how a search ended: optimal, with no plan since none fits, or with its budget spent
 abbrev pub IsEnding : ℕ → ℕ → Outcome → Type 0
@@ -97,15 +103,16 @@ IsTold design scale name pl said cert (Some expr) stored printed =
     × (stored ≡ (name, cert_text cert) ∷ placement_stores design scale pl spots)
     × (printed ≡ report_text (record { word = said; cost = cert.cost; bound = cert.bound; decided = decided cert.tags; size = (w, h); area = w * h; wire = wires; plan = Some expr }))
 
--- the certificate of a search of the design by so many workers with this budget: valid by the standard bound and its parts, each closed subproblem naming the first part that is at least the cost, and with one worker found by the turns of the search core
-pub record IsSearched (design : Design) (workers budget : ℕ) (cert : Cert) : Type 0 where
+-- the certificate of a search of the design by so many workers with this budget, which begins with a plan of so high a cost, or with none: valid by the standard bound and its parts, each closed subproblem naming the first part that is at least the cost, the cost no higher than that of the plan that it began with, and where it began with none, with one worker found by the turns of the search core
+pub record IsSearched (design : Design) (workers budget : ℕ) (start : Option (Expr × ℕ)) (cert : Cert) : Type 0 where
   pub valid : IsValid design (standard design) (part_value design) cert
   pub named : AllNameFirst design (part_value design) cert.cost cert.tags
   pub blocks : cert.blocks ≡ block_count design
   pub few : decided cert.tags ≤ budget
   pub spent : cert.bound < cert.cost → decided cert.tags ≡ budget
   pub ended : full design ≤ budget → cert.bound ≡ cert.cost
-  pub run : workers ≡ 1 → IsCertOf design (turns design (standard design) budget (opening design (standard design) 1)) cert
+  pub lower : IfSome start (λ plan. cert.cost ≤ plan.1)
+  pub run : workers ≡ 1 → start ≡ None → IsCertOf design (turns design (standard design) budget (opening design (standard design) 1)) cert
 
 -- the certificate of a search, and what of it is stored and printed
 pub record IsReported (design : Design) (scale : ℕ) (cert_name : List ℕ) (pl_name : Option (List ℕ)) (cert : Cert) (status : Status) (stored : List Stored) (printed : List ℕ) : Type 0 where
@@ -118,13 +125,15 @@ pub record IsReported (design : Design) (scale : ℕ) (cert_name : List ℕ) (pl
   pub told : IsTold design scale cert_name pl_name said cert cert.plan stored printed
 
 -- the answer of a search
-pub record IsAnswered (design : Design) (workers budget scale : ℕ) (cert_name : List ℕ) (pl_name : Option (List ℕ)) (status : Status) (stored : List Stored) (printed : List ℕ) : Type 0 where
+pub record IsAnswered (design : Design) (workers budget : ℕ) (start : Option (Expr × ℕ)) (scale : ℕ) (cert_name : List ℕ) (pl_name : Option (List ℕ)) (status : Status) (stored : List Stored) (printed : List ℕ) : Type 0 where
   pub cert : Cert
-  pub searched : IsSearched design workers budget cert
+  pub searched : IsSearched design workers budget start cert
   pub reported : IsReported design scale cert_name pl_name cert status stored printed
 
--- the files stand for a design, and this is the answer of its search
+-- the files stand for a design, and this is the answer of its search, which begins with what walks find or with what is known
 pub record IsPlanned (o : PlanOptions) (before : Option Contents) (status : Status) (stored : List Stored) (printed : List ℕ) : Type 0 where
   pub design : Design
   pub reads : PlanRead before o (Ok design)
-  pub answered : IsAnswered design o.workers (budget_of o.nodes (block_count design)) o.design.per_unit o.cert o.pl_out status stored printed
+  pub start : Option (Expr × ℕ)
+  pub begun : IsBegun o design start
+  pub answered : IsAnswered design o.workers (budget_of o.nodes (block_count design)) start o.design.per_unit o.cert o.pl_out status stored printed

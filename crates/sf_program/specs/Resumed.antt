@@ -18,7 +18,8 @@ use Rattle.sf_words.specs.Meaning.{ResumeOptions}
 use Rattle.sf_program.specs.Outcome.{Refusal, Then}
 use Rattle.sf_program.specs.Planned.{CountTested, IsReported}
 use Rattle.sf_program.specs.Checked.{CertRead, answer_text}
-use Rattle.sf_program.specs.Reading.{DesignRead, With}
+use Rattle.sf_program.specs.Reading.{With}
+use Rattle.sf_program.specs.Knowing.{KnownRead}
 use Rattle.sf_program.specs.Stores.{Stored}
 
 -- the certificate that the text under the name says
@@ -41,7 +42,7 @@ CertTaken held o design = Then (CertLoaded o.is_long held o.cert design) (SumTes
 
 -- the design first, and then the certificate for its blocks
 abbrev pub ResumeRead : Option Contents → ResumeOptions → Result (Design × Cert) Refusal → Type 0
-ResumeRead held o = Then (DesignRead held o.design o.weights) (With (CertTaken held o))
+ResumeRead held o = Then (KnownRead held o.design o.weights o.bounds) (With (CertTaken held o))
 
 -- a certificate that is not valid: the line of its first failure, and nothing is stored
 pub record IsRejected (design : Design) (cert : Cert) (status : Status) (stored : List Stored) (printed : List ℕ) : Type 0 where

@@ -18,7 +18,7 @@ ghost use Rattle.sf_program.specs.Stores.{Gives};
 
 use crate::answering::{answer_work, cert_fault};
 use crate::certificates::load_cert;
-use crate::designs::read_design;
+use crate::designs::read_known;
 use crate::rewriting::rewrite_text;
 use crate::stop::Stop;
 use crate::work::{Work, no_stores};
@@ -105,7 +105,7 @@ pub fn check<S: Shelf>(alloc: Global, words: &CheckWords<'_>, shelf: &mut S) -> 
     ensures answer { Obeys (check (check_seen words.now)) (S.seen shelf.old).holds result }
     ensures shelf { ReadsShelf (S.seen shelf.old) (S.seen shelf.new) result }
 {
-    let design = read_design(alloc, shelf, &words.design, words.weights)?;
+    let design = read_known(alloc, shelf, &words.design, words.weights, words.bounds)?;
     check_file(
         alloc,
         shelf,

@@ -4,6 +4,7 @@ ghost use Rattle.std.specs.Prelude.{◌≡◌, IfOk, None};
 ghost use Rattle.sf_model.specs.Admitted.{HasPinsInRange, HasSizes, IsAdmitted};
 ghost use Rattle.sf_model.specs.Built.{HasShapeChoices, first_shapeless};
 ghost use Rattle.sf_words.specs.Seen.{design_seen, weights_seen};
+ghost use Rattle.sf_program.specs.Knowing.{KnownRead};
 ghost use Rattle.sf_program.specs.Loads.{ReadsShelf, TellsNoLoad};
 ghost use Rattle.sf_program.specs.Outcome.{Ends};
 ghost use Rattle.sf_program.specs.Reading.{Admitted, Built, DesignMade, DesignRead, ListsMade, PartsAdmitted};
@@ -14,9 +15,10 @@ use crate::refusals::build_fault;
 use crate::stop::Stop;
 use crate::weighed::Weighed;
 use sf_io::Shelf;
+use sf_known::know_alone;
 use sf_model::{BuildFault, Design, Outline, Parts, Shapes, Weights};
 use sf_soft_shapes::lists;
-use sf_words::{DesignWords, WeightWords};
+use sf_words::{BoundsChoice, DesignWords, WeightWords};
 use std::alloc::Global;
 
 /// The parts, where they may become a design.
@@ -129,4 +131,21 @@ pub fn read_design<S: Shelf>(
 {
     let read = read_admitted(alloc, shelf, words, weights)?;
     make_design(alloc, words, weights, read)
+}
+
+/// The design for which the named files stand, which knows what was asked for.
+pub fn read_known<S: Shelf>(
+    alloc: Global,
+    shelf: &mut S,
+    words: &DesignWords<'_>,
+    weights: WeightWords<'_>,
+    bounds: BoundsChoice,
+) -> Result<Design, Stop>
+    ensures design { Ends (λ x. x) result (KnownRead (S.seen shelf.old).holds
+        (design_seen words.now) (weights_seen weights.entry) bounds) }
+    ensures shelf { ReadsShelf (S.seen shelf.old) (S.seen shelf.new) result }
+{
+    let design = read_design(alloc, shelf, words, weights)?;
+    let known = know_alone(alloc, bounds, design)?;
+    Ok(known)
 }

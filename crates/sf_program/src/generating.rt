@@ -230,7 +230,7 @@ pub fn generate<R: Threads + Sync, G: Gate>(
         pl: None,
         scale: 1,
     };
-    let searched = search_design(rt, alloc, &design, words.nodes, 1, names, gate)?;
+    let searched = search_design(rt, alloc, &design, None, words.nodes, 1, names, gate)?;
     let stores = text_stores(alloc, words, texts)?;
     let work = put_behind(stores, searched)?;
     Ok(work)

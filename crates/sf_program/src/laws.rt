@@ -48,7 +48,8 @@ pub fn designs_are_one()
 }
 
 /// On a shelf that tells what it holds, words have at most one answer, unless they ask for a search by
-/// several workers or for one that goes on: its status, what is stored and what is printed follow from the words and the texts. A
+/// several workers, for one that goes on, or for one that begins with a plan: its status, what is
+/// stored and what is printed follow from the words and the texts. A
 /// refusal is the only answer, however many workers the words ask for. So what a run does where nothing
 /// fails is what any answer to its words says.
 pub fn answers_are_one()

@@ -25,6 +25,7 @@ mod refusals;
 mod resuming;
 mod rewriting;
 mod shaping;
+mod starting;
 mod stop;
 mod weighed;
 mod weighing;

@@ -1,6 +1,7 @@
 //! The command `plan`.
 
-ghost use Rattle.std.specs.Prelude.{◌≡◌, IfOk};
+ghost use Rattle.std.specs.Prelude.{◌≡◌, ◌≤◌, IfOk, IfSome, None};
+ghost use Rattle.sf_anneal.specs.Measured.{IsFloorplan};
 ghost use Rattle.sf_model.specs.Admitted.{HasPinsInRange, HasSizes, IsAdmitted};
 ghost use Rattle.sf_model.specs.Legal.{block_count};
 ghost use Rattle.sf_certificate.specs.Valid.{IsValid, decided};
@@ -9,30 +10,34 @@ ghost use Rattle.sf_standard.specs.Standard.{standard, part_value};
 ghost use Rattle.sf_words.specs.Seen.{plan_seen, text_of};
 ghost use Rattle.sf_words.specs.Meaning.{plan};
 ghost use Rattle.sf_program.specs.Answer.{Obeys};
+ghost use Rattle.sf_known.specs.Known.{IsKnownBy};
 ghost use Rattle.sf_program.specs.Loads.{ReadsShelf, TellsNoLoad};
 ghost use Rattle.sf_program.specs.Outcome.{Ends};
-ghost use Rattle.sf_program.specs.Planned.{IsAnswered, IsReported, BudgetedDesign, PlanRead};
-ghost use Rattle.sf_program.specs.Planned.{budget_of};
+ghost use Rattle.sf_program.specs.Planned.{IsAnswered, IsReported, IsSearched, BudgetedDesign};
+ghost use Rattle.sf_program.specs.Planned.{PlanDesign, PlanRead, budget_of};
 ghost use Rattle.sf_program.specs.Stores.{Gives};
 ghost use Rattle.sf_program.specs.Weighed.{weighed_in};
 
 use crate::budget::{budget_of, test_budget};
 use crate::designs::{make_design, read_admitted};
 use crate::plan_answer::{Ended, Names, ending_of, tell_none, tell_plan};
+use crate::starting::find_start;
 use crate::stop::Stop;
 use crate::weighed::Weighed;
 use crate::work::Work;
 use sf_bounds::Standard;
 use sf_io::{Gate, Shelf};
+use sf_known::{Known, cheaper, know};
 use sf_model::{Design, admitted_parts_keep_limits};
-use sf_rounds::{Found, SearchOptions, search};
+use sf_polish::Expr;
+use sf_rounds::{Found, SearchOptions, search, search_below};
 use sf_words::PlanWords;
 use std::alloc::{AllocError as NoMemory, Global};
 use std::thread::Threads;
 
 /// The design for which the named files stand, where the budget is within its limit.
 fn read_plan<S: Shelf>(alloc: Global, shelf: &mut S, words: &PlanWords<'_>) -> Result<Design, Stop>
-    ensures design { Ends (λ x. x) result (PlanRead (S.seen shelf.old).holds (plan_seen words.now)) }
+    ensures design { Ends (λ x. x) result (PlanDesign (S.seen shelf.old).holds (plan_seen words.now)) }
     ensures shelf { ReadsShelf (S.seen shelf.old) (S.seen shelf.new) result }
 {
     let read = read_admitted(alloc, shelf, &words.design, words.weights)?;
@@ -53,6 +58,24 @@ fn within_budget(alloc: Global, words: &PlanWords<'_>, read: Weighed) -> Result<
         Ok(()) => make_design(alloc, &words.design, words.weights, read),
         Err(stop) => Err(stop),
     }
+}
+
+/// This design where it knows what was asked for, and the plan that is known.
+fn read_known_plan<S: Shelf>(
+    alloc: Global,
+    shelf: &mut S,
+    words: &PlanWords<'_>,
+) -> Result<Known, Stop>
+    ensures design { Ends (λ known. known.design) result
+        (PlanRead (S.seen shelf.old).holds (plan_seen words.now)) }
+    ensures plan { IfOk result (λ known. IsKnownBy words.now.bounds known.design known.plan) }
+    ensures floorplan { IfOk result (λ known.
+        IfSome known.plan (λ p. IsFloorplan known.design p.0 p.1)) }
+    ensures shelf { ReadsShelf (S.seen shelf.old) (S.seen shelf.new) result }
+{
+    let design = read_plan(alloc, shelf, words)?;
+    let known = know(alloc, words.bounds, design)?;
+    Ok(known)
 }
 
 /// What is told of a search of a design.
@@ -99,33 +122,74 @@ pub fn plan<R: Threads + Sync, S: Shelf, G: Gate>(
     ensures answer { Obeys (plan (plan_seen words.now)) (S.seen shelf.old).holds result }
     ensures shelf { ReadsShelf (S.seen shelf.old) (S.seen shelf.new) result }
 {
-    let design = read_plan(alloc, shelf, words)?;
+    let Known {
+        design,
+        plan: known,
+    } = read_known_plan(alloc, shelf, words)?;
+    let walked = find_start(rt, alloc, &design, words.starts)?;
+    let start = cheaper(walked, known);
     let names = Names {
         cert: words.cert,
         pl: words.pl_out,
         scale: words.design.scale.per_unit,
     };
-    let work = search_design(rt, alloc, &design, words.nodes, words.workers, names, gate)?;
+    let (nodes, workers) = (words.nodes, words.workers);
+    let work = search_design(rt, alloc, &design, start, nodes, workers, names, gate)?;
     Ok(work)
 }
 
-/// Searches a design with the budget that was asked for, and tells what was found.
+/// Searches a design with the budget that was asked for, from this plan of this cost on where there is one,
+/// and tells what was found.
 pub fn search_design<R: Threads + Sync, G: Gate>(
     rt: &R,
     alloc: Global,
     design: &Design,
+    start: Option<(Expr, u64)>,
     nodes: Option<u64>,
     workers: u16,
     names: Names<'_>,
     gate: &G,
 ) -> Result<Work, NoMemory>
+    requires start { IfSome start (λ plan. IsFloorplan design.now plan.0 plan.1) }
+    requires workers { (1 ≤ workers) × (workers ≤ 16) }
     requires scale { IsScale names.scale }
     ensures { let budget = budget_of nodes (block_count design.now) in
         let names = names.entry in IfOk result (Gives
-        (IsAnswered design.now workers budget names.scale names.cert.now (text_of names.pl))) }
+        (IsAnswered design.now workers budget start names.scale names.cert.now (text_of names.pl))) }
 {
     let nodes = budget_of(nodes, u64::from(design.block_count()));
     let options = SearchOptions { workers, nodes };
-    let found = search(rt, alloc, design, &Standard, options, gate)?;
+    let found = search_from(rt, alloc, design, start, options, gate)?;
     tell_found(alloc, design, found, names)
+}
+
+/// The search of a design, from this plan of this cost on where there is one.
+fn search_from<R: Threads + Sync, G: Gate>(
+    rt: &R,
+    alloc: Global,
+    design: &Design,
+    start: Option<(Expr, u64)>,
+    options: SearchOptions,
+    gate: &G,
+) -> Result<Found, NoMemory>
+    requires start { IfSome start (λ plan. IsFloorplan design.now plan.0 plan.1) }
+    requires workers { (1 ≤ options.workers) × (options.workers ≤ 16) }
+    ensures searched { IfOk result (λ found.
+        IsSearched design.now options.workers options.nodes start found.cert) }
+    ensures plan { IfOk result (λ found. found.plan ≡ found.cert.plan) }
+    ensures decided { IfOk result (λ found. found.decided ≡ decided found.cert.tags) }
+{
+    match start {
+        None => search(rt, alloc, design, &Standard, options, gate),
+        Some((plan, cost)) => search_below(
+            rt,
+            alloc,
+            design,
+            &Standard,
+            Some(plan),
+            cost,
+            options,
+            gate,
+        ),
+    }
 }

@@ -15,7 +15,7 @@ ghost use Rattle.sf_program.specs.Stores.{Gives};
 use crate::answering::answer_work;
 use crate::budget::test_count;
 use crate::certificates::read_cert_file;
-use crate::designs::read_design;
+use crate::designs::read_known;
 use crate::plan_answer::Names;
 use crate::planning::tell_found;
 use crate::stop::Stop;
@@ -125,7 +125,7 @@ pub fn resume<R: Threads + Sync, S: Shelf, G: Gate>(
     ensures answer { Obeys (resume (resume_seen words.now)) (S.seen shelf.old).holds result }
     ensures shelf { ReadsShelf (S.seen shelf.old) (S.seen shelf.new) result }
 {
-    let design = read_design(alloc, shelf, &words.design, words.weights)?;
+    let design = read_known(alloc, shelf, &words.design, words.weights, words.bounds)?;
     let cert = read_cert_file(alloc, shelf, words.cert, words.is_long, &design)?;
     take_up(rt, alloc, &design, words, cert, gate)
 }

@@ -1,12 +1,12 @@
 -- A plan that belongs to a subproblem has the form of a certificate's plan.
-use Rattle.std.proofs.Common.{◌≡◌, ℕ, ◌<◌, ◌≤◌, ◌==◌, List, [], ◌∷◌, All, cond, arith, ap, subst, ◌∙◌, inl, inr, Bool}
+use Rattle.std.proofs.Common.{◌≡◌, ℕ, ◌<◌, ◌≤◌, ◌==◌, List, [], ◌∷◌, length, All, cond, arith, ap, subst, ◌∙◌, inl, inr, Bool}
 use Rattle.sf_rounds.proofs.Common.{count_by, Contains, AllByRecursion, get_or_default, sum_by-cons, recursion_from_All, All-contains, Design, IsLegal, block_count, shapes_of, Expr, Parts, IsPlanOf, IsWritable}
 use Rattle.std.proofs.lemmas.Bool.Decides.{eqb_tells}
 use Rattle.sf_model.specs.declared.parts.Shape.{Shape}
 use Rattle.sf_model.specs.Limits.{IsSide}
 use Rattle.sf_model.specs.Tree.{Tree, leaves}
 use Rattle.sf_polish.specs.Normal.{IsNormal}
-use Rattle.sf_polish.specs.Postfix.{Spells, shape_at}
+use Rattle.sf_polish.specs.Postfix.{IsSkewed, Spells, shape_at}
 use Rattle.sf_polish.proofs.Normality.{postfix-normal}
 
 -- a leaf of the block, and what holds of all leaves
@@ -41,10 +41,14 @@ module _ (design : Design) (tree : Tree) (expr : Expr) (legal : IsLegal design t
       let same = found.holds.0 ∙ ap (shape_at expr.shapes) found.block in
       subst (λ s. IsSide s.w × IsSide s.h) same (All-contains (λ s. IsSide s.w × IsSide s.h) (shapes_of design b) found.leaf.1 list.choice.sides listed)
 
--- a plan of a subproblem is a normal expression with a shape for each block, so it can be written
+  -- a skewed plan is a normal expression with a shape for each block, so it can be written
+  pub can-write : IsSkewed tree → length expr.shapes ≡ block_count design → IsWritable (block_count design) expr
+  can-write skewed one_each = record {
+    normal = subst (IsNormal (block_count design)) spells.tokens (postfix-normal (block_count design) tree legal.blocks skewed);
+    one_each = one_each;
+    sides = λ k d h. subst (λ s. IsSide s.w × IsSide s.h) (get_or_default expr.shapes k (record { w = 0; h = 0 }) d h) (side-at k (omega (arith, h, one_each)));
+  }
+
+-- so can a plan of a subproblem
 pub plan-formed : (design : Design) (node : Parts) (expr : Expr) (z : ℕ) → IsPlanOf design node expr z → IsWritable (block_count design) expr
-plan-formed design node expr z p = record {
-  normal = subst (IsNormal (block_count design)) p.spells.tokens (postfix-normal (block_count design) p.tree p.belongs.legal.blocks p.belongs.skewed);
-  one_each = p.one_each;
-  sides = λ k d h. subst (λ s. IsSide s.w × IsSide s.h) (get_or_default expr.shapes k (record { w = 0; h = 0 }) d h) (side-at design p.tree expr p.belongs.legal p.spells k (omega (arith, h, p.one_each)));
-}
+plan-formed design node expr z p = can-write design p.tree expr p.belongs.legal p.spells p.belongs.skewed p.one_each

@@ -1,14 +1,14 @@
 //! The whole search, to its certificate.
 
-ghost use Rattle.std.specs.Prelude.{◌≡◌, ◌≤◌, ◌∷◌, [], IfOk};
+ghost use Rattle.std.specs.Prelude.{◌≡◌, ◌≤◌, ◌∷◌, [], ℕ, IfOk};
 ghost use Rattle.sf_cursor.specs.declared.stretch.Stretch.{Stretch as StretchValue};
 ghost use Rattle.sf_cursor.specs.Stretches.{waits};
-ghost use Rattle.sf_model.specs.declared.TheConstants.{MAX as max};
 ghost use Rattle.sf_node.specs.Subproblem.{root};
 ghost use Rattle.sf_search_core.specs.Outcome.{opening};
 ghost use Rattle.sf_rounds.specs.Turns.{turns, TurnsAreAccepted};
 ghost use Rattle.sf_rounds.specs.Found.{IsFound, IsCertOf};
 ghost use Rattle.sf_rounds.specs.Legs.{IsLeg};
+ghost use Rattle.sf_rounds.specs.Run.{IsBest};
 
 use crate::leaving::{Opened, leave_open};
 use crate::legs::{Leg, go_on, left_of};
@@ -65,7 +65,7 @@ pub fn search<R: Threads + Sync, B: Bounds, G: Gate>(
 {
     let SearchOptions { workers, nodes } = options;
     if workers >= 2 && workers <= 16 {
-        in_teams(rt, alloc, design, bounds, options, gate)
+        search_below(rt, alloc, design, bounds, None, MAX, options, gate)
     } else {
         alone(alloc, design, bounds, nodes, gate)
     }
@@ -113,23 +113,29 @@ fn alone<B: Bounds, G: Gate>(
     })
 }
 
-/// The search by several workers.
-fn in_teams<R: Threads + Sync, B: Bounds, G: Gate>(
+/// The search in rounds from the root, also with one worker, where a plan is known that costs `value`, or none
+/// and `value` is MAX. No plan is found but one that costs less.
+pub fn search_below<R: Threads + Sync, B: Bounds, G: Gate>(
     rt: &R,
     alloc: Global,
     design: &Design,
     bounds: &B,
+    best: Option<Expr>,
+    value: u64,
     options: SearchOptions,
     gate: &G,
 ) -> Result<Found, NoMemory>
+    requires best { IsBest design.now value best }
     requires workers { (1 ≤ options.workers) × (options.workers ≤ 16) }
-    ensures { IfOk result (IsFound design.now (B.Values.value bounds.now design.now)
+    ensures found { IfOk result (IsFound design.now (B.Values.value bounds.now design.now)
         (B.part_value bounds.now design.now) options.nodes) }
+    ensures lower { IfOk result (λ found. found.cost ≤ value) }
 {
     let cursor = Cursor::new(alloc, design, bounds)?;
     let whole = vec![in alloc; Stretch { cursor, floor: 0 }]?;
-    let leg = go_on(rt, alloc, design, bounds, whole, None, MAX, options, gate)?;
-    certified(alloc, design, bounds, options.nodes, leg)
+    let leg = go_on(rt, alloc, design, bounds, whole, best, value, options, gate)?;
+    let found = certified(alloc, design, bounds, options.nodes, leg)?;
+    Ok(found)
 }
 
 /// What a search of teams from the root hands over.
@@ -140,11 +146,12 @@ fn certified<B: Bounds>(
     nodes: u64,
     leg: Leg,
 ) -> Result<Found, NoMemory>
-    requires searched { (s : StretchValue) × (waits design.now s ≡ root design.now ∷ [])
+    requires searched { (s : StretchValue) × (value : ℕ) × (waits design.now s ≡ root design.now ∷ [])
         × IsLeg design.now (B.Values.value bounds.now design.now)
-        (B.part_value bounds.now design.now) (s ∷ []) max nodes leg }
-    ensures { IfOk result (IsFound design.now (B.Values.value bounds.now design.now)
+        (B.part_value bounds.now design.now) (s ∷ []) value nodes leg }
+    ensures found { IfOk result (IsFound design.now (B.Values.value bounds.now design.now)
         (B.part_value bounds.now design.now) nodes) }
+    ensures cost { IfOk result (λ found. found.cost ≡ leg.value) }
 {
     let Leg {
         left,

@@ -68,6 +68,12 @@ const THIRD_CERT: &[u8] =
 const SOFT_CERT: &[u8] =
     b"slicing-certificate 2\nblocks 1\ncost 196\nbound 196\nplan 0:3x2\ntree\nE\nS 0\nC h\nS 0\nC h\nC h\n";
 
+const EQUALS_CLOSED_CERT: &[u8] =
+    b"slicing-certificate 2\nblocks 2\ncost 12\nbound 12\nplan 0:2x3 1:2x3 *\ntree\nC a\n";
+
+const BEGUN_CERT: &[u8] =
+    b"slicing-certificate 2\nblocks 2\ncost 15\nbound 12\nplan 0:2x3 1:3x2 *\ntree\nE\nO\nO\n";
+
 const EQUALS_LINES: &str =
     "status Optimal\ncost 12\nbound 12\ndecided 6\nsize 4 3\narea 12\nwire 0\nplan 0:2x3 1:2x3 *\n";
 
@@ -235,6 +241,44 @@ const BUDGETS: &[Row] = &[
     },
 ];
 
+/// The search begins with what walks find, where they find a floorplan.
+const STARTS: &[Row] = &[
+    Row {
+        options: "--starts 1 --moves 1",
+        files: &[("a.blocks", EQUALS)],
+        printed: Printed::Whole(
+            "status Optimal\ncost 12\nbound 12\ndecided 1\nsize 4 3\narea 12\nwire 0\nplan 0:2x3 1:2x3 *\n",
+        ),
+        stored: &[("a.cert", EQUALS_CLOSED_CERT)],
+        ..PLAN
+    },
+    Row {
+        options: "--fixed --starts 2 --improve 9 --nodes 1",
+        files: &[("a.blocks", TWO)],
+        status: Status::Open,
+        printed: Printed::Whole(
+            "status Open\ncost 15\nbound 12\ndecided 1\nsize 5 3\narea 15\nwire 0\nplan 0:2x3 1:3x2 *\n",
+        ),
+        stored: &[("a.cert", BEGUN_CERT)],
+        ..PLAN
+    },
+    Row {
+        options: "--starts 1 --start-seed 7",
+        files: &[("a.blocks", HUGE_PAIR)],
+        status: Status::NoneFits,
+        printed: Printed::Whole(NONE_LINES),
+        stored: &[("a.cert", PAIR_NONE_CERT)],
+        ..PLAN
+    },
+    Row {
+        options: "--starts 0 --moves 9 --start-seed 1 --improve 9",
+        files: &[("a.blocks", EQUALS)],
+        printed: Printed::Whole(EQUALS_LINES),
+        stored: &[("a.cert", EQUALS_CERT)],
+        ..PLAN
+    },
+];
+
 /// Plans of which some lines are free.
 const FREE: &[Row] = &[
     Row {
@@ -267,5 +311,5 @@ const FREE: &[Row] = &[
 
 #[test]
 fn plans(rt: HostRuntime) -> Result<(), Fail> {
-    assert_rows(&rt, rt.alloc(), &[ROWS, UNFIT, BUDGETS, FREE])
+    assert_rows(&rt, rt.alloc(), &[ROWS, UNFIT, BUDGETS, STARTS, FREE])
 }

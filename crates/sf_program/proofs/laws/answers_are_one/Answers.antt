@@ -9,7 +9,7 @@ use Rattle.sf_program.proofs.laws.answers_are_one.Goals as goal
 
 pub returns : goal.returns
 returns c =
-    let certs : HasOneCert = λ design budget first second p q. c.certificates_are_one.ensures design (standard design) (part_value design) (turns design (standard design) budget (opening design (standard design) 1)) first second (c.parts_are_below.ensures design) p.valid q.valid (p.blocks ∙ sym q.blocks) (p.run refl) (q.run refl) p.named q.named in
+    let certs : HasOneCert = λ design budget first second p q. c.certificates_are_one.ensures design (standard design) (part_value design) (turns design (standard design) budget (opening design (standard design) 1)) first second (c.parts_are_below.ensures design) p.valid q.valid (p.blocks ∙ sym q.blocks) (p.run refl refl) (q.run refl refl) p.named q.named in
     let names : HasOneName = one-name (λ design tags cost tree. c.full_parts_close.ensures design (standard design) (part_value design) cost tags (c.parts_are_below.ensures design) tree) (λ design cost first second. c.first_parts_are_one.ensures design (part_value design) cost first second) in
     record {
       answer = λ words contents. words-one contents certs names words;

@@ -1,4 +1,5 @@
-use Rattle.sf_program.proofs.OneDesign.{design-one, plan-one, design-blocks, plan-blocks, joined-blocks}
+use Rattle.sf_program.proofs.OneKnown.{plan-one, plan-blocks}
+use Rattle.sf_program.proofs.OneDesign.{design-one, design-blocks, joined-blocks}
 use Rattle.sf_program.proofs.laws.designs_are_one.Goals as goal
 
 pub returns : goal.returns

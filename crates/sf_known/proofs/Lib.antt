@@ -1,0 +1,2 @@
+pub mod OneKnown
+pub mod Spelled

@@ -1,0 +1,62 @@
+-- A search that begins with a plan, or with none.
+use Rattle.std.proofs.Common.{◌≡◌, ◌<◌, ◌≤◌, ℕ, Option, Some, None, Result, Ok, Err, IfOk, inl, inr, sym, subst, ◌∙◌}
+use Rattle.sf_program.proofs.Common.{Design, block_count, Expr, HasCost, IsSearched, decided, part_value, standard}
+use Rattle.sf_anneal.specs.Measured.{IsFloorplan}
+use Rattle.sf_polish.specs.Text.{IsWritable}
+use Rattle.sf_search_core.specs.Outcome.{opening}
+use Rattle.sf_rounds.specs.declared.to_certificate.Found.{Found}
+use Rattle.sf_rounds.specs.Found.{IsCertOf, IsFound}
+use Rattle.sf_rounds.specs.Turns.{turns}
+use Rattle.sf_rounds.proofs.Formed.{can-write}
+use Rattle.std.specs.Prelude.{IfSome, nat_lt}
+use Rattle.std.proofs.lemmas.Bool.{cases_Bool}
+use Rattle.sf_known.specs.Known.{cheaper}
+use Rattle.std.proofs.lemmas.Result.{IfOk-weaker}
+
+-- a floorplan costs what is said and can be written
+pub floorplan-costs : (design : Design) (expr : Expr) (z : ℕ) → IsFloorplan design expr z → HasCost design expr z × IsWritable (block_count design) expr
+floorplan-costs design expr z p =
+    (record { tree = p.tree; spells = p.spells; legal = p.legal; fits = p.fits; costs = sym p.costs }, can-write design p.tree expr p.legal p.spells p.skewed p.one_each)
+
+-- what a search hands over, whose cost is no higher than that of the plan that it began with
+pub found-searched : (design : Design) (workers budget : ℕ) (start : Option (Expr × ℕ)) (found : Found) → IsFound design (standard design) (part_value design) budget found → IfSome start (λ plan. found.cert.cost ≤ plan.1)
+    → (workers ≡ 1 → start ≡ None → IsCertOf design (turns design (standard design) budget (opening design (standard design) 1)) found.cert) → IsSearched design workers budget start found.cert
+found-searched design workers budget start found e lower run = record {
+  valid = e.valid;
+  named = e.named;
+  blocks = e.blocks;
+  few = subst (λ k. k ≤ budget) e.decided_is e.few;
+  spent = λ below. sym e.decided_is ∙ e.spent (subst (λ b. b < found.cost) (sym e.bound_is) (subst (λ z. found.cert.bound < z) (sym e.cost_is) below));
+  ended = λ large. sym e.bound_is ∙ e.ended large ∙ e.cost_is;
+  lower = lower;
+  run = run;
+}
+
+-- what is handed over beside the certificate is its own
+module _ {E : Type 0} (design : Design) (budget : ℕ) (r : Result Found E) (e : IfOk r (IsFound design (standard design) (part_value design) budget)) where
+  -- the plan is that of the certificate
+  pub own-plan : IfOk r (λ found. found.plan ≡ found.cert.plan)
+  own-plan = IfOk-weaker r _ _ (λ found h. h.plan_is) e
+
+  -- so is the count
+  pub own-count : IfOk r (λ found. found.decided ≡ decided found.cert.tags)
+  own-count = IfOk-weaker r _ _ (λ found h. h.decided_is) e
+
+-- a search that begins with no plan
+pub fresh-searched : {E : Type 0} (design : Design) (workers budget : ℕ) (r : Result Found E) → IfOk r (IsFound design (standard design) (part_value design) budget)
+    → IfOk r (λ found. workers ≡ 1 → IsCertOf design (turns design (standard design) budget (opening design (standard design) 1)) found.cert) → IfOk r (λ found. IsSearched design workers budget None found.cert)
+fresh-searched design workers budget (Ok found) e run = found-searched design workers budget None found e tt (λ single none. run single)
+fresh-searched design workers budget (Err w) e run = tt
+
+-- a search that begins with one
+pub begun-searched : {E : Type 0} (design : Design) (workers budget : ℕ) (plan : Expr) (cost : ℕ) (r : Result Found E) → IfOk r (IsFound design (standard design) (part_value design) budget) → IfOk r (λ found. found.cost ≤ cost)
+    → IfOk r (λ found. IsSearched design workers budget (Some (plan, cost)) found.cert)
+begun-searched design workers budget plan cost (Ok found) e lower =
+    found-searched design workers budget (Some (plan, cost)) found e (subst (λ z. z ≤ cost) e.cost_is lower) (λ single none. absurd (cc))
+begun-searched design workers budget plan cost (Err w) e lower = tt
+
+-- what holds of two plans, where there are any, holds of the cheaper one
+pub cheaper-holds : (P : Expr × ℕ → Type 0) (a b : Option (Expr × ℕ)) → IfSome a P → IfSome b P → IfSome (cheaper a b) P
+cheaper-holds P None b h k = k
+cheaper-holds P (Some p) None h k = h
+cheaper-holds P (Some p) (Some q) h k = elim (cases_Bool (nat_lt q.1 p.1)) [ inl e ↦ rw e k | inr e ↦ rw e h ]

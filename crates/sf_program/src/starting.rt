@@ -1,0 +1,46 @@
+//! Plans to begin a search with.
+
+ghost use Rattle.std.specs.Prelude.{◌≡◌, ◌*◌, ◌≤◌, IfOk, IfSome, IfNone};
+ghost use Rattle.sf_anneal.specs.Measured.{IsFloorplan};
+ghost use Rattle.sf_anneal.specs.Starts.{IsImprovedStarts};
+
+use sf_anneal::improved_starts;
+use sf_model::Design;
+use sf_polish::Expr;
+use sf_words::StartWords;
+use std::alloc::{AllocError as NoMemory, Global};
+use std::thread::Threads;
+
+/// How many trials make better what a walk finds: what was asked for, or its default.
+fn trials_of(improve: Option<u64>, blocks: u16) -> u32
+    requires told { IfSome improve (λ n. n ≤ 1_000_000_000) }
+    requires blocks { blocks ≤ 320 }
+    ensures told { IfSome improve (λ n. result ≡ n) }
+    ensures default { IfNone improve (result ≡ 2_000 * blocks) }
+{
+    match improve {
+        Some(trials) => trials as u32,
+        None => 2000 * u32::from(blocks),
+    }
+}
+
+/// The least of what the walks that were asked for find, each made better, with its cost. None where they find
+/// no floorplan, or none was asked for.
+pub fn find_start<R: Threads + Sync>(
+    rt: &R,
+    alloc: Global,
+    design: &Design,
+    words: StartWords,
+) -> Result<Option<(Expr, u64)>, NoMemory>
+    ensures begun { IfOk result (IsImprovedStarts design.now words.seed words.count words.moves) }
+    ensures floorplan { IfOk result (λ start. IfSome start (λ plan. IsFloorplan design.now plan.0 plan.1)) }
+{
+    let StartWords {
+        count,
+        moves,
+        seed,
+        ..
+    } = words;
+    let trials = trials_of(words.improve, design.block_count());
+    improved_starts(rt, alloc, design, seed, count, moves, trials)
+}
