@@ -32,6 +32,7 @@ mod places;
 mod weights;
 
 pub use blocks::{blocks_stand_for_one, read_blocks};
+pub use content::next_content;
 pub use fault::{GsrcFault, JoinFault, WeightFault};
 pub use join::join_parts;
 pub use laws::{

@@ -26,6 +26,8 @@ mod gsrc;
 #[cfg(test)]
 mod incumbent;
 #[cfg(test)]
+mod jobs;
+#[cfg(test)]
 mod lex;
 #[cfg(test)]
 mod model;
@@ -45,6 +47,8 @@ mod search_core;
 mod soft_shapes;
 #[cfg(test)]
 mod subsets;
+#[cfg(test)]
+mod team;
 #[cfg(test)]
 mod wire;
 #[cfg(test)]

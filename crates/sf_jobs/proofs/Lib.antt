@@ -1,0 +1,6 @@
+mod Common
+mod Tokens
+mod Meant
+mod Lines
+mod Four
+mod Texts
