@@ -3,9 +3,6 @@
 ghost use Rattle.std.specs.Prelude.{◌≡◌, ◌+◌, ◌≤◌, ◌<◌, length, take, IfOk, OnOk, OnErr, IsErrOf};
 ghost use Rattle.sf_io.specs.Outside.{one_more};
 
-#[cfg(test)]
-mod counts;
-
 use crate::again::{read_some, write_some, write_whole};
 use crate::{Failed, Gate, LoadFault, Shelf, Sink};
 use std::alloc::Global;

@@ -5,9 +5,6 @@ ghost use Rattle.std.specs.Prelude.{OnOk, OnErr, IsErr, IsErrOf, Contains};
 ghost use Rattle.std.specs.Option.{option_map};
 ghost use Rattle.sf_io.specs.Outside.{one_more, HoldsMore, MayFail, Stores, StoresPart, KeepsOthers};
 
-#[cfg(test)]
-mod counts;
-
 use crate::outside::copy_within;
 use crate::{Failed, LoadFault, Shelf, Sink};
 use std::alloc::{AllocError as NoMemory, Global};
