@@ -86,33 +86,33 @@ fn push_tags(text: &mut String, tags: &[Tag]) -> Result<(), NoMemory>
 {
     for tag in tags {
         push_tag(text, *tag)?;
-        text.push('\n')?;
     }
     Ok(())
 }
 
-/// What a tag says, without the end of its line.
+/// Adds the line of a tag.
 fn push_tag(text: &mut String, tag: Tag) -> Result<(), NoMemory>
     ensures fits { OnOk result (FitsTag tag) }
-    ensures text { OnOk result (string_bytes text.new ≡ string_bytes text.old ++ tag_text tag) }
+    ensures text { OnOk result (string_bytes text.new
+        ≡ string_bytes text.old ++ (tag_text tag ++ 10 ∷ [])) }
 {
     match tag {
-        Tag::Extend => text.push('E'),
-        Tag::Split(block) => write!(text, "S {block}"),
+        Tag::Extend => text.push_str("E\n"),
+        Tag::Split(block) => write!(text, "S {block}\n"),
         Tag::Closed(part) => text.push_str(closed_line(part)),
-        Tag::Open => text.push('O'),
+        Tag::Open => text.push_str("O\n"),
     }
 }
 
 /// The line of a closed subproblem that names this part.
 fn closed_line(part: Part) -> &'static str
-    ensures { result.now ≡ tag_text (Closed part) }
+    ensures { result.now ≡ tag_text (Closed part) ++ 10 ∷ [] }
 {
     match part {
-        Part::Area => "C a",
-        Part::Range => "C r",
-        Part::Pair => "C p",
-        Part::Hull => "C h",
-        Part::Full => "C f",
+        Part::Area => "C a\n",
+        Part::Range => "C r\n",
+        Part::Pair => "C p\n",
+        Part::Hull => "C h\n",
+        Part::Full => "C f\n",
     }
 }

@@ -19,6 +19,15 @@ renamed-alike cost (Closed Area ∷ tags) kept = ap (λ ts. Closed Full ∷ ts) 
 renamed-alike cost (Closed p ∷ tags) [] = ap (λ ts. Closed Full ∷ ts) (renamed-alike cost tags [])
 renamed-alike cost (Closed p ∷ tags) (values ∷ kept) = ap (λ ts. Closed Full ∷ ts) (renamed-alike cost tags kept)
 
+-- where nothing is kept, nothing is named anew
+pub renamed-none : (cost : ℕ) (tags : List Tag) → tags ≡ renamed cost tags []
+renamed-none cost [] = refl
+renamed-none cost (Extend ∷ tags) = ap (λ ts. Extend ∷ ts) (renamed-none cost tags)
+renamed-none cost (Split b ∷ tags) = ap (λ ts. Split b ∷ ts) (renamed-none cost tags)
+renamed-none cost (Open ∷ tags) = ap (λ ts. Open ∷ ts) (renamed-none cost tags)
+renamed-none cost (Closed Area ∷ tags) = ap (λ ts. Closed Area ∷ ts) (renamed-none cost tags)
+renamed-none cost (Closed p ∷ tags) = ap (λ ts. Closed p ∷ ts) (renamed-none cost tags)
+
 -- naming the first part changes nothing of a tag but the name
 pub named-alike : (part : Part → ℕ) (cost : ℕ) (tag : Tag) → unnamed (with_first_part part cost tag) ≡ unnamed tag
 named-alike part cost Extend = refl

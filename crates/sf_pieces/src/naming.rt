@@ -30,6 +30,9 @@ fn closed(values: &PartValues, cost: u64) -> Tag
 pub fn name_all(tags: &mut [Tag], kept: &[PartValues], cost: u64)
     ensures { tags.new ≡ renamed cost tags.old kept.now }
 {
+    if kept.is_empty() {
+        return;
+    }
     let mut next = 0;
     for tag in tags.iter_mut() {
         if is_late(*tag)
