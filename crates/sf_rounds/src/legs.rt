@@ -19,8 +19,12 @@ use std::alloc::{AllocError as NoMemory, Global};
 use std::mem;
 use std::thread::Threads;
 
-/// How many subproblems a worker may decide in a round at most.
-const MOST: u64 = 65_536;
+/// How many subproblems of one block a worker may decide in a round at most. Of more blocks it is so much less, so
+/// that rounds take about as long.
+const MOST: u64 = 4_194_304;
+
+/// How many times as many subproblems as were decided before a worker may decide in the next round.
+const GROWTH: u64 = 4;
 
 /// What a team leaves: the stretches that are left open, the pieces of what it decided, and the best plan with
 /// its cost.
@@ -106,12 +110,14 @@ fn step<R: Threads + Sync, B: Bounds, G: Gate>(
 
 /// How many subproblems a worker may decide in the next round, after so many. The first rounds are short, so
 /// that the workers stay near where one alone would be: a chain that comes to a plan has a decision for each
-/// token.
+/// token. Later ones are long, since threads that are started anew take a while to be spread over processors.
 fn longest(decided: u64, design: &Design) -> u64
     ensures { 0 < result }
 {
-    let chain = u64::from(design.block_count()).saturating_mul(2);
-    decided.max(chain).clamp(1, MOST)
+    let blocks = u64::from(design.block_count()).max(1);
+    let chain = blocks.saturating_mul(2);
+    let most = (MOST / blocks).max(1);
+    decided.saturating_mul(GROWTH).max(chain).clamp(1, most)
 }
 
 /// The decisions that are left, shared out evenly, and at most so many for each worker.

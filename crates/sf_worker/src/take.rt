@@ -8,8 +8,9 @@ ghost use Rattle.sf_worker.specs.Takes.{IsFound, IsStolen, PutsAll, SamePuts};
 use sf_cursor::Stretch;
 use sf_frontier::{Owner, Place, Served, Thief};
 
-/// How often a worker without a task tries to steal one before it ends its pass.
-const TRIES: u32 = 400;
+/// How often a worker without a task tries to steal one before it ends its pass: for longer than a victim takes
+/// between two looks at its deque.
+const TRIES: u32 = 10_000;
 
 /// The first task, else one of its own, else a stolen one.
 pub fn find<T: Served>(first: &mut Option<Stretch>, place: &mut Place<T>) -> Option<Stretch>

@@ -136,6 +136,7 @@ pub fn walk_over<'a, T: Served, B: Bounds, G: Gate>(
         (B.part_value bounds.now design.now) stretch state.old state.new) }
 {
     let slice = slice(design);
+    let has_others = !state.place.thieves.is_empty();
     let mut hand = Hand::at(stretch, design, bounds)?;
     let mut value = go(state, &mut hand, design, bounds, word, gate, given)?;
     while state.quota > 0 {
@@ -143,7 +144,7 @@ pub fn walk_over<'a, T: Served, B: Bounds, G: Gate>(
             put_down(state, hand)?;
             return Ok(());
         }
-        let wanted = state.quota % slice == 0;
+        let wanted = has_others && state.quota % slice == 0;
         share(state, &mut hand, design, bounds, value, wanted)?;
         value = go(state, &mut hand, design, bounds, word, gate, given)?;
     }
