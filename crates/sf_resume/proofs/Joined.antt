@@ -1,6 +1,6 @@
 -- Old pieces and new ones together hold one tree.
 use Rattle.std.proofs.Common.{◌≡◌, ℕ, ◌+◌, ◌≤◌, List, [], ◌∷◌, ◌++◌, map, All, arith, refl, ap, sym, subst, ◌∙◌, IsPermutation, Option}
-use Rattle.sf_resume.proofs.Common.{AllByRecursion, flat_map, All-append, All-from_recursion, recursion_from_All, Design, each-left, each-weaker, Expr, Part, Parts, root, children, Mark, Tag, Extend, Split, Closed, Open, IsFair, made, marks, AreTrees, IsValid, decided, least, left_open, one_decided, trees-first, total, total-append, total-flat_map, total-map, total-permutation, total-same, Piece, IsRead, marks_in, open_mark, told_by}
+use Rattle.sf_resume.proofs.Common.{AllByRecursion, flat_map, All-append, All-from_recursion, recursion_from_All, Design, IsConserved, each-left, each-weaker, Expr, Part, Parts, root, children, Mark, Tag, Extend, Split, Closed, Open, IsFair, made, marks, AreTrees, IsValid, decided, least, left_open, one_decided, trees-first, total, total-append, total-flat_map, total-map, total-permutation, total-same, Piece, IsRead, marks_in, open_mark, told_by}
 use Rattle.std.proofs.lemmas.List.Concat.{flat_map-append}
 use Rattle.std.proofs.lemmas.List.Sorted.{All-permutation, IsPermutation-sym}
 use Rattle.sf_node.specs.ByPart.{ArePartsOf}
@@ -11,6 +11,7 @@ use Rattle.sf_certificate.proofs.Merged.{decided-total, if_open, least-same, ope
 use Rattle.sf_certificate.proofs.Named.{unnamed-decided}
 use Rattle.sf_pieces.specs.Laid.{HoldTree, IsLaid, open_in}
 use Rattle.sf_pieces.specs.Naming.{AreNamed}
+use Rattle.sf_pieces.specs.Searched.{IsAssembled, IsSearched}
 use Rattle.sf_pieces.proofs.Laid.{open-in-total}
 use Rattle.sf_pieces.proofs.Searched.{all-read, decided-told, fair-named, kids-told, nodes-told, open-told}
 use Rattle.sf_pieces.proofs.Weights.{nodes-permute}
@@ -42,6 +43,14 @@ fair-lower part before cost Open node low h = tt
 total-none : {X : Type 0} (xs : List X) → total (λ x. 0) xs ≡ 0
 total-none [] = refl
 total-none (x ∷ xs) = omega (arith, total-none xs)
+
+-- a tree that decides nothing leaves its root open
+undecided : (part : Parts → Part → ℕ) (cost : ℕ) (node : Parts) (tags : List Tag) → AreTrees part cost (node ∷ []) tags → decided tags ≡ 0 → left_open (node ∷ []) tags ≡ node ∷ []
+undecided part cost node [] h none = absurd h
+undecided part cost node (Extend ∷ tags) h none = absurd (omega (arith, none))
+undecided part cost node (Split b ∷ tags) h none = absurd (omega (arith, none))
+undecided part cost node (Closed p ∷ tags) h none = absurd (omega (arith, none))
+undecided part cost node (Open ∷ tags) h none = refl
 
 module _ (design : Design) (value : Parts → ℕ) (part : Parts → Part → ℕ) (parts : ArePartsOf design value part) (tags : List Tag) (before : ℕ) (old new : List Piece) (cost bound : ℕ) (entries : List Entry) (left : List Parts)
     (c : CanGraft design value part tags before old new cost bound entries left) (named : List Piece) (is : AreNamed cost new named) where
@@ -153,3 +162,40 @@ module _ (design : Design) (value : Parts → ℕ) (part : Parts → Part → �
         cost_is = alike.cost ∙ l.cost_is;
         bound_is = alike.bound ∙ l.bound_is;
       }
+
+module _ (design : Design) (value : Parts → ℕ) (part : Parts → Part → ℕ) (parts : ArePartsOf design value part) (tags : List Tag) (before : ℕ) (old new : List Piece) (cost bound : ℕ) (entries : List Entry) (left : List Parts)
+    (c : CanGraft design value part tags before old new cost bound entries left) (none : old ≡ []) where
+  -- nothing was decided before
+  none-decided : decided tags ≡ 0
+  none-decided =
+      let one = root design ∷ [] in
+      let g : Mark → ℕ = λ m. one_decided m.tag in
+      let opened = left_open one tags in
+      let a = total-permutation g (told_by design old ++ map open_mark opened) (marks one tags) c.told_old in
+      let b : total g (map open_mark opened) ≡ total (λ n. g (open_mark n)) opened = total-map g open_mark opened in
+      let z : total (λ (n : Parts). 0) opened ≡ 0 = total-none opened in
+      let o : total g (told_by design old) ≡ 0 = ap (λ ps. total g (told_by design ps)) none in
+      let count : decided tags ≡ total g (marks one tags) = decided-total part before one tags c.trees in
+      omega (arith, a, b, z, o, count, total-append g (told_by design old) (map open_mark opened))
+
+  -- so the new pieces are those of a search from the root
+  pub searched-alone : IsSearched design value part cost bound new entries left
+  searched-alone = record {
+    parts = parts;
+    conserved = subst (λ ns. IsConserved value ns entries left) (undecided part before (root design) tags c.trees none-decided) c.conserved;
+    told = c.told;
+    fresh = c.fresh;
+    lowest = c.lowest;
+  }
+
+  -- and its certificate is that of the whole
+  pub assembled-alone : (plan : Option Expr) (cert : Cert) → IsAssembled design value part entries left plan cost bound cert → IsGrafted design value part tags entries plan cost bound cert
+  assembled-alone plan cert is = record {
+    valid = is.valid;
+    named = is.named;
+    counted = omega (arith, is.counted, none-decided);
+    blocks = is.blocks;
+    plan_is = is.plan_is;
+    cost_is = is.cost_is;
+    bound_is = is.bound_is;
+  }
