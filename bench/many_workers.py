@@ -2,9 +2,9 @@
 """Tries many workers: python3 bench/many_workers.py PATH/floorplan [DESIGNS [FOLDER]]
 
 Thirty designs (or the first DESIGNS of them) are generated, of 2 to 5 hard or mixed blocks with nets. Each is planned
-by one worker and by 2 to 16, with a budget that suffices for most, and `check` is asked of each certificate. Where both
-searches end, several workers must find the cost of one. Printed is a line for each design; the first answer that is not as
-it should be ends the run with status 1.
+by one worker and by 2 to 16, with a budget that suffices and with a small one, and `check` is asked of each certificate, and
+second_checker.py of each that decides few subproblems, which takes it a second. Where both searches end, several workers must
+find the cost of one. Printed is a line for each design; the first answer that is not as it should be ends the run with status 1.
 """
 import os
 import subprocess
@@ -14,7 +14,9 @@ import tempfile
 DESIGNS = 30
 WORKERS = range(2, 17)
 KINDS = ("hard", "mixed")
-BUDGET = "20000"
+BUDGETS = ("200", "200000")
+FEW = 3000
+SECOND = os.path.join(os.path.dirname(os.path.abspath(__file__)), "second_checker.py")
 
 
 def run(words):
@@ -26,15 +28,17 @@ def fail(seed, workers, what):
     sys.exit("seed %d, %s workers: %s" % (seed, workers, what))
 
 
-def planned(program, design, seed, workers):
+def planned(program, design, seed, workers, budget):
     """The cost where the search ended, and None where the budget was spent."""
     words = design + ["--cert", "w.cert"]
-    status, lines = run([program, "plan"] + words + ["--workers", str(workers), "--nodes", BUDGET])
+    status, lines = run([program, "plan"] + words + ["--workers", str(workers), "--nodes", budget])
     if status not in (0, 3):
         fail(seed, workers, "plan ended with status %d" % status)
-    status, said = run([program, "check"] + words)
-    if status != 0 or said.get("status") != "Yes":
-        fail(seed, workers, "check said %s" % said.get("status"))
+    is_small = int(lines["decided"]) <= FEW
+    for checker in [[program, "check"]] + [[sys.executable, SECOND]] * is_small:
+        status, said = run(checker + words)
+        if status != 0 or said.get("status") != "Yes":
+            fail(seed, workers, "%s said %s" % (" ".join(checker), said.get("status")))
     return lines["cost"] if lines["cost"] == lines["bound"] else None
 
 
@@ -48,14 +52,16 @@ def main():
         if status not in (0, 3):
             fail(seed, "one", "gen ended with status %d" % status)
         design = ["--format", "gsrc", "--blocks", "w.blocks", "--nets", "w.nets", "--pl", "w.pl", "--wire-weight", "1"]
-        alone = planned(program, design, seed, 1)
-        ended = 0
-        for workers in WORKERS:
-            together = planned(program, design, seed, workers)
-            ended += together is not None
-            if alone is not None and together is not None and together != alone:
-                fail(seed, workers, "cost %s and not %s" % (together, alone))
-        print("seed %d, %d %s blocks: cost %s; %d of %d searches ended" % (seed, count, kinds, alone or "open", ended, len(WORKERS)), flush=True)
+        alone, ended = None, 0
+        for budget in BUDGETS:
+            alone = planned(program, design, seed, 1, budget)
+            for workers in WORKERS:
+                together = planned(program, design, seed, workers, budget)
+                ended += together is not None
+                if alone is not None and together is not None and together != alone:
+                    fail(seed, workers, "cost %s and not %s" % (together, alone))
+        tried = len(WORKERS) * len(BUDGETS)
+        print("seed %d, %d %s blocks: cost %s; %d of %d searches ended" % (seed, count, kinds, alone or "open", ended, tried), flush=True)
 
 
 if __name__ == "__main__":

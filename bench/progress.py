@@ -56,7 +56,7 @@ def main():
         with open(blocks, "w") as file:
             file.write("UCSC blocks 1.0\nNumSoftRectangularBlocks : 0\nNumHardRectilinearBlocks : 7\nNumTerminals : 0\n")
             file.writelines("s%d hardrectilinear 4 (0, 0) (0, %d) (%d, %d) (%d, 0)\n" % (n, n, n, n, n) for n in range(1, 8))
-        words = [program, "plan", "--format", "gsrc", "--blocks", blocks, "--cert", os.path.join(folder, "squares.cert"), "--nodes", str(BUDGET)]
+        words = [program, "plan", "--format", "gsrc", "--blocks", blocks, "--cert", os.path.join(folder, "squares.cert"), "--nodes", str(BUDGET), "--long"]
         plain = subprocess.run(words, stdout=subprocess.PIPE, stderr=subprocess.PIPE)
         same("standard error without a terminal", plain.stderr, b"")
         # The start script sees the terminal by itself; the program alone is told.
