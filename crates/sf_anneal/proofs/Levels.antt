@@ -1,12 +1,15 @@
 -- How many parts the first tokens of a normal expression leave.
-use Rattle.std.proofs.Common.{◌≡◌, ℕ, zero, suc, ◌+◌, ◌<◌, ◌≤◌, List, length, take, arith, refl, ap, true, false, not}
+use Rattle.std.proofs.Common.{◌≡◌, ℕ, zero, suc, ◌+◌, ◌<◌, ◌≤◌, List, length, take, arith, refl, ap, true, false, not, inl, inr, subst}
 use Rattle.std.proofs.Math.Seq.{take-length}
+use Rattle.std.proofs.lemmas.Bool.{cases_lt}
 use Rattle.std.proofs.lemmas.List.Sums.{count_by_more_no, count_by_more_yes}
 use Rattle.sf_polish.proofs.Normality.{both-kinds}
 use Rattle.sf_polish.specs.declared.expr.Token.TheVariants as token
 use Rattle.sf_anneal.proofs.Common.{Token, IsNormal, is_operand, operands, operators}
 use Rattle.sf_anneal.proofs.Places.{normal-operands}
-use Rattle.sf_anneal.specs.Parts.{level, token_at}
+use Rattle.sf_model.specs.declared.design.Design.{Design}
+use Rattle.sf_model.specs.declared.parts.Shape.{Shape}
+use Rattle.sf_anneal.specs.Parts.{AreParts, IsPart, level, token_at}
 
 -- no tokens leave none
 pub level-none : (ts : List Token) → level ts 0 ≡ 0
@@ -46,3 +49,28 @@ module _ (n : ℕ) (ts : List Token) (normal : IsNormal n ts) where
   none-before zero le h = omega arith
   none-before (suc left) le h =
       absurd (omega (arith, h, level-some (suc left) (omega arith) le, ap operands (take-length ts), ap operators (take-length ts), both-kinds ts, normal-operands n ts normal, normal.whole))
+
+  module _ (design : Design) (count : ℕ) (before : ℕ → ℕ) (curve : ℕ → List Shape) (parts : AreParts design ts count before curve) (inside : count ≤ length ts) where
+    -- a part more, by its token
+    level-more : (k : ℕ) → k < count → ((j : ℕ) → 1 ≤ j → j ≤ k → level ts j ≡ level ts (before j) + 1) → (t : Token) → token_at ts k ≡ t → IsPart design before curve k t → level ts (k + 1) ≡ level ts (before (k + 1)) + 1
+    level-more k lt lower token.Beside at p =
+        let left = parts.lower k (omega (arith, lt)) in
+        omega (arith, level-joint k (omega (arith, lt, inside)) (ap is_operand at), lower k (omega (arith, left, p.some)) (omega arith), lower (before k) p.some (omega (arith, left)), ap (level ts) p.stands)
+    level-more k lt lower token.Above at p =
+        let left = parts.lower k (omega (arith, lt)) in
+        omega (arith, level-joint k (omega (arith, lt, inside)) (ap is_operand at), lower k (omega (arith, left, p.some)) (omega arith), lower (before k) p.some (omega (arith, left)), ap (level ts) p.stands)
+    level-more k lt lower (token.Block b) at p =
+        omega (arith, level-block k (omega (arith, lt, inside)) (ap is_operand at), ap (level ts) p.stands)
+
+    -- so all parts up to this one
+    levels-below : (m k : ℕ) → 1 ≤ k → k ≤ m → m ≤ count → level ts k ≡ level ts (before k) + 1
+    levels-below zero k some h le = absurd (omega (arith, some, h))
+    levels-below (suc m) k some h le = elim (cases_lt m k) [
+      | inl over ↦ (let e : m + 1 ≡ k = omega (arith, over, h) in
+          subst (λ v. level ts v ≡ level ts (before v) + 1) e (level-more m (omega (arith, le)) (λ j one below. levels-below m j one below (omega (arith, le))) (token_at ts m) refl (parts.each m (omega (arith, le)))))
+      | inr below ↦ levels-below m k some below (omega (arith, le))
+    ]
+
+    -- each part leaves one more than the tokens before it
+    pub parts-levels : (k : ℕ) → 1 ≤ k → k ≤ count → level ts k ≡ level ts (before k) + 1
+    parts-levels k some h = levels-below count k some h (omega arith)

@@ -16,7 +16,7 @@ use Rattle.sf_curves.specs.declared.direction.Direction.TheVariants as way
 use Rattle.sf_anneal.specs.declared.parts.Moved.{Moved}
 use Rattle.sf_anneal.specs.declared.parts.Parts.{Parts}
 use Rattle.sf_anneal.specs.Parts.{AreKnown, AreParts, AreRenewed, IsAsKnown, IsBlockCurve, IsJointPart, IsPart, before_in, chosen_curve, curve_by, kept_in, known_curve, level, moved_curve, token_at}
-use Rattle.sf_anneal.proofs.Levels.{left-some, level-block, level-joint, level-none}
+use Rattle.sf_anneal.proofs.Levels.{left-some, level-block, level-joint, level-none, parts-levels}
 
 -- a joint of the same numbers and curves
 joint-like : (join : Shape → Shape → Shape) (o : Outline) (a a' b b' h h' : ℕ) (p p' q q' r r' : List Shape) → a ≡ a' → b ≡ b' → h ≡ h' → p ≡ p' → q ≡ q' → r ≡ r' → IsJointPart join o a b h p q r → IsJointPart join o a' b' h' p' q' r'
@@ -199,3 +199,26 @@ module _ (design : Design) (blocks : List (List Shape)) (now : Parts) (known tok
             (subst (λ v. IsCombination (size_in d) design.outline v (known_curve blocks now known k) (known_curve blocks now known (k + 1))) (ap (known_curve blocks now known) same ∙ sym a) joint.sizes)),
         subst (AllPairs IsSlimmer) there joint.falls,
       )
+
+  -- where no curve is fresh, one of the tokens with which both begin is the known one
+  front-curve : (next : Moved) (count : ℕ) → ((k : ℕ) → k < count → token_at tokens k ≡ token_at known k) → ((k : ℕ) → slice_index_or next.fresh.items k false ≡ false) → (k : ℕ) → 1 ≤ count → k ≤ count → moved_curve blocks now next tokens k ≡ known_curve blocks now known k
+  front-curve next count same fresh k some h =
+      ap (λ f. curve_by blocks (token_at tokens (k - 1)) (chosen_curve now next f k)) (fresh k) ∙ ap (λ t. curve_by blocks t (kept_in now.curves.items k)) (same (k - 1) (omega (arith, some, h)))
+
+  -- the parts of the tokens with which both begin, where all are taken as they are known
+  pub front-renewed : (n : ℕ) (next : Moved) (count : ℕ) → IsNormal n tokens → count ≤ length tokens → count ≤ length known → ((k : ℕ) → k < count → token_at tokens k ≡ token_at known k) → AreKnown design blocks now known
+      → next.before.items ≡ now.before.items → ((k : ℕ) → slice_index_or next.fresh.items k false ≡ false) → AreRenewed design blocks now next known tokens count
+  front-renewed n next count normal inside few same parts before fresh =
+      let eb : (k : ℕ) → before_in now.before.items k ≡ before_in next.before.items k = λ k. sym (ap (λ v. before_in v k) before) in
+      let own : AreParts design tokens count (before_in next.before.items) (moved_curve blocks now next tokens) = record {
+        lower = λ k h. subst (λ v. v ≤ k - 1) (eb k) (parts.lower k (omega (arith, h, few)));
+        each = λ k lt.
+            part-like design (before_in now.before.items) (before_in next.before.items) (known_curve blocks now known) (moved_curve blocks now next tokens) k count lt
+            (omega (arith, parts.lower k (omega (arith, lt, few)))) (λ j h. eb j) (λ j h. sym (front-curve next count same fresh j (omega (arith, lt)) h)) (token_at tokens k)
+            (subst (IsPart design (before_in now.before.items) (known_curve blocks now known) k) (sym (same k lt)) (parts.each k (omega (arith, lt, few))));
+      } in
+      record {
+        parts = own;
+        same = λ k some h flag. (omega (arith, h, few), front-curve next count same fresh k (omega (arith, some, h)) h);
+        levels = parts-levels n tokens normal design count (before_in next.before.items) (moved_curve blocks now next tokens) own inside;
+      }

@@ -45,6 +45,20 @@ fn stands_at(tokens: &[Token], place: usize, token: Token) -> bool
     }
 }
 
+/// How many tokens both expressions begin with.
+fn common_front(known: &[Token], tokens: &[Token]) -> usize
+    ensures known { result ≤ length known.now }
+    ensures inside { result ≤ length tokens.now }
+    ensures same { (k : ℕ) → k < result → token_at tokens.now k ≡ token_at known.now k }
+{
+    for (place, token) in tokens.iter().enumerate() {
+        if !stands_at(known, place, *token) {
+            return place;
+        }
+    }
+    tokens.len()
+}
+
 /// The curve of a part of the moved expression.
 pub fn curve_of<'a>(
     blocks: &'a [Curve],
@@ -268,7 +282,20 @@ impl Moved {
         }
     }
 
-    /// Finds the parts of an expression, which may differ from the known one anywhere.
+    /// Takes all parts as they are known.
+    fn begin_as(&mut self, now: &Parts)
+        requires before { length self.old.before.items ≡ length now.now.before.items }
+        ensures before { self.new.before.items ≡ now.now.before.items }
+        ensures many { length self.new.fresh.items ≡ length self.old.fresh.items }
+        ensures fresh { (k : ℕ) → slice_index_or self.new.fresh.items k false ≡ false }
+        ensures curves { self.new.curves.items ≡ self.old.curves.items }
+    {
+        self.before.copy_from_slice(&now.before);
+        self.fresh.fill(false);
+    }
+
+    /// Finds the parts of an expression, which may differ from the known one anywhere. Those of the tokens with
+    /// which both begin are known.
     pub fn renew(
         &mut self,
         design: &Design,
@@ -286,7 +313,8 @@ impl Moved {
         ensures moved { OnOk result (AreMoved design.now blocks.now now.now self.new tokens.now) }
         ensures whole { OnOk result (before_in self.new.before.items (length tokens.now) ≡ 0) }
     {
-        for place in 0..tokens.len() {
+        self.begin_as(now);
+        for place in common_front(known, tokens)..tokens.len() {
             self.step(design, blocks, known, now, tokens, place)?;
         }
         Ok(())
