@@ -1,5 +1,5 @@
 #!/usr/bin/env python3
-"""Measures and tests strong bounds: python3 bench/strong.py PATH/floorplan [speed] [squares] [small]
+"""Measures and tests strong bounds: python3 bench/strong.py PATH/floorplan [speed] [squares] [small] [native=FOLDER]
 
 speed: generated designs of 10 to 16 blocks, hard and mixed, seeds 1 to 10, areas alone: what `plan --bounds strong` and
 `check --bounds strong` take of one processor, and the greatest memory; printed is the worst of each ten beside its aim.
@@ -7,7 +7,10 @@ squares: squares of the sides 1 to n for n up to 12: the areas are the published
 checker's own table up to 12.
 small: 200 generated designs of 2 to 7 blocks: the cost is that of the search without strong bounds; both checkers say Yes
 to the certificate, and No to one whose cost is one less.
-Without a choice all three run. The first difference, or an aim that is missed, ends the run with status 1.
+native=FOLDER: the folder has areadp.cpp, a native program for such tables. It is built with the budgets of dead space that
+the program takes one after another, and the processor time of all these tables is compared with that of `check`: designs
+of 14 and 16 blocks, hard and mixed, seeds 1 to 5. A table should take at most 3 times the native one.
+Without a choice the first three run. The first difference, or an aim that is missed, ends the run with status 1.
 """
 import os
 import re
@@ -23,6 +26,19 @@ STRONG = ["--bounds", "strong"]
 AIMS = {10: 0.2, 12: 1, 14: 3, 16: 12}
 MEMORY = 200
 PUBLISHED = [1, 6, 15, 35, 60, 99, 154]
+NATIVE_MOST = 3
+NATIVE_MAIN = """
+int main(int, char** v) {
+  n = atoi(v[2]); d = ::gen_design(atoi(v[3]), n, v[1]); A.assign(1u << n, 0);
+  for (u32 S = 1; S < 1u << n; S++) {
+    u64 least = ~0ull; for (auto& p : d.shapes[__builtin_ctz(S)]) least = std::min(least, (u64)p.w * p.h);
+    A[S] = A[S & (S - 1)] + least;
+  }
+  T = A[(1u << n) - 1]; Res r; double t = 0;
+  for (u64 D = T / 256; ; D += (D + 1) / 4 + 1) { r = run(D); t += r.t; if (r.best != ~0ull) break; }
+  printf("%lu %.4f\\n", (unsigned long)r.best, t);
+}
+"""
 
 
 def fail(what):
@@ -79,6 +95,29 @@ def speed(program, folder):
                 fail("an aim is missed")
 
 
+def native(program, folder, source):
+    with open(os.path.join(source, "areadp.cpp")) as file:
+        text = file.read().split("int main")[0] + NATIVE_MAIN
+    with open(os.path.join(folder, "tables.cpp"), "w") as file:
+        file.write(text)
+    tables = os.path.join(folder, "tables")
+    subprocess.run(["g++", "-O2", "-I", source, "-o", tables, tables + ".cpp"], check=True)
+    for kinds in ("hard", "mixed"):
+        for count in (14, 16):
+            own = other = 0
+            for seed in range(1, 6):
+                files = generated(program, folder, seed, count, kinds)
+                cert, plan = planned(program, files, folder, STRONG)
+                own += min(measured([program, "check", *files, "--cert", cert, *STRONG])[2] for _ in range(3))
+                area, taken = min((measured([tables, kinds, str(count), str(seed)])[1].split() for _ in range(3)), key=lambda said: float(said[1]))
+                other += float(taken)
+                if area != line_of(plan[1], "cost"):
+                    fail("%s %d seed %d: area %s, natively %s" % (kinds, count, seed, line_of(plan[1], "cost"), area))
+            print("%s %d blocks: tables %.2f s, natively %.2f s, %.2f times" % (kinds, count, own, other, own / other), flush=True)
+            if own > NATIVE_MOST * other:
+                fail("an aim is missed")
+
+
 def squares(program, folder):
     for most in range(1, 13):
         base = os.path.join(folder, "squares.blocks")
@@ -123,7 +162,10 @@ def main():
     program = os.path.abspath(sys.argv[1])
     with tempfile.TemporaryDirectory() as folder:
         for choice in sys.argv[2:] or ["speed", "squares", "small"]:
-            {"speed": speed, "squares": squares, "small": small}[choice](program, folder)
+            if choice.startswith("native="):
+                native(program, folder, choice.split("=", 1)[1])
+            else:
+                {"speed": speed, "squares": squares, "small": small}[choice](program, folder)
 
 
 if __name__ == "__main__":
