@@ -1,2 +1,3 @@
 pub mod OneKnown
 pub mod Spelled
+pub mod Beginning

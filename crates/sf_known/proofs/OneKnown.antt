@@ -1,8 +1,14 @@
 -- What a design knows is one thing, and changes no block.
-use Rattle.std.proofs.Common.{◌≡◌, inl, inr, sym, ap, ◌∙◌}
+use Rattle.std.proofs.Common.{◌≡◌, ℕ, List, length, inl, inr, sym, ap, subst, ◌∙◌}
 use Rattle.std.proofs.lemmas.Bool.{cases_lt}
 use Rattle.sf_model.specs.declared.design.Design.{Design}
-use Rattle.sf_model.specs.Legal.{block_count}
+use Rattle.sf_anneal.specs.Measured.{IsFloorplan}
+use Rattle.sf_model.proofs.Floored.{cost-same, legal-same}
+use Rattle.sf_model.specs.Floored.{HasFloor}
+use Rattle.sf_model.specs.Legal.{Fits, block_count}
+use Rattle.sf_model.specs.declared.parts.Block.{Block}
+use Rattle.sf_model.specs.declared.parts.Outline.{Outline}
+use Rattle.sf_polish.specs.declared.expr.Expr.{Expr}
 use Rattle.sf_subsets.proofs.Learned.{knowing-one}
 use Rattle.sf_words.specs.declared.command.BoundsChoice.{BoundsChoice}
 use Rattle.sf_words.specs.declared.command.BoundsChoice.TheVariants.{Standard, Strong}
@@ -24,4 +30,25 @@ known-blocks Strong design known h =
     elim (cases_lt 16 (block_count design)) [
       | inl many ↦ ap (λ (d : Design). d.blocks) (h.many many)
       | inr few ↦ (h.few few).has.blocks
+    ]
+
+-- with a floor of its area a design has the floorplans that it had, at their costs
+floored-floorplan : (old : Design) (floor : ℕ) (new : Design) (expr : Expr) (z : ℕ) → HasFloor old floor new → IsFloorplan old expr z → IsFloorplan new expr z
+floored-floorplan old floor new expr z has p = record {
+  tree = p.tree;
+  spells = p.spells;
+  one_each = p.one_each ∙ ap (λ (bs : List Block). length bs) (sym has.blocks);
+  legal = (legal-same old floor new p.tree has).0 p.legal;
+  skewed = p.skewed;
+  fits = subst (λ (o : Outline). Fits o p.tree) (sym has.outline) p.fits;
+  costs = p.costs ∙ sym (cost-same old floor new p.tree has);
+}
+
+-- so has one that knows what was asked for
+pub known-floorplan : (bounds : BoundsChoice) (design known : Design) (expr : Expr) (z : ℕ) → Knows bounds design known → IsFloorplan design expr z → IsFloorplan known expr z
+known-floorplan Standard design known expr z h p = subst (λ (d : Design). IsFloorplan d expr z) (sym h) p
+known-floorplan Strong design known expr z h p =
+    elim (cases_lt 16 (block_count design)) [
+      | inl many ↦ subst (λ (d : Design). IsFloorplan d expr z) (sym (h.many many)) p
+      | inr few ↦ (let k = h.few few in floored-floorplan design k.floor known expr z k.has p)
     ]

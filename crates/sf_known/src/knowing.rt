@@ -4,12 +4,13 @@ ghost use Rattle.std.specs.Prelude.{◌≡◌, ◌≤◌, IfOk, IfSome, MatchOpt
 ghost use Rattle.sf_anneal.specs.Measured.{IsFloorplan};
 ghost use Rattle.sf_model.specs.Cost.{NoneFits};
 ghost use Rattle.sf_model.specs.Legal.{block_count};
-ghost use Rattle.sf_subsets.specs.Floors.{KnowsArea};
+ghost use Rattle.sf_model.specs.Tree.{tree_of};
+ghost use Rattle.sf_subsets.specs.Floors.{IsFitting, KnowsArea};
 ghost use Rattle.sf_known.specs.Known.{HasKnownArea, IsKnownBy, Knows};
 ghost use Rattle.sf_known.specs.declared.knowing.TheConstants.{FEW_BLOCKS};
 
-use crate::spelling::spelled;
-use sf_model::Design;
+use crate::spelling::{plan_found, spelled};
+use sf_model::{Design, Plan};
 use sf_polish::Expr;
 use sf_subsets::learn_area;
 use sf_words::BoundsChoice;
@@ -26,29 +27,40 @@ pub struct Known {
     pub plan: Option<(Expr, u64)>,
 }
 
-/// The design that knows what the bounds that were asked for take into account, and the plan that is known.
-pub fn know(alloc: Global, bounds: BoundsChoice, design: Design) -> Result<Known, NoMemory>
+/// The design that knows what the bounds that were asked for take into account, and the plan that is known. The
+/// floorplan that walks found, if they found one, limits what has to be looked at for that.
+pub fn know(
+    alloc: Global,
+    bounds: BoundsChoice,
+    design: Design,
+    walked: &Option<(Expr, u64)>,
+) -> Result<Known, NoMemory>
+    requires { IfSome walked.now (λ p. IsFloorplan design p.0 p.1) }
     ensures knows { IfOk result (λ known. Knows bounds design known.design) }
     ensures plan { IfOk result (λ known. IsKnownBy bounds known.design known.plan) }
     ensures floorplan { IfOk result (λ known.
         IfSome known.plan (λ p. IsFloorplan known.design p.0 p.1)) }
 {
     match bounds {
-        BoundsChoice::Strong if design.block_count() <= FEW_BLOCKS => know_few(alloc, design),
+        BoundsChoice::Strong if design.block_count() <= FEW_BLOCKS => {
+            let walked = plan_found(alloc, walked)?;
+            know_few(alloc, design, walked)
+        }
         BoundsChoice::Standard | BoundsChoice::Strong => Ok(Known { design, plan: None }),
     }
 }
 
 /// The same of a design of few blocks.
-fn know_few(alloc: Global, design: Design) -> Result<Known, NoMemory>
+fn know_few(alloc: Global, design: Design, walked: Option<Plan>) -> Result<Known, NoMemory>
     requires few { block_count design ≤ FEW_BLOCKS }
+    requires walked { IfSome walked (λ plan. IsFitting design (tree_of plan)) }
     ensures knows { IfOk result (λ known. KnowsArea design known.design) }
     ensures plan { IfOk result (λ known. MatchOption known.plan
         (NoneFits known.design)
         (λ p. HasKnownArea known.design p.0 p.1)) }
 {
     let mut design = design;
-    match learn_area(alloc, &mut design)? {
+    match learn_area(alloc, &mut design, walked)? {
         None => Ok(Known { design, plan: None }),
         Some(plan) => {
             let plan = Some(spelled(alloc, &design, plan)?);
@@ -64,7 +76,7 @@ pub fn know_alone(alloc: Global, bounds: BoundsChoice, design: Design) -> Result
     match bounds {
         BoundsChoice::Strong if design.block_count() <= FEW_BLOCKS => {
             let mut known = design;
-            learn_area(alloc, &mut known)?;
+            learn_area(alloc, &mut known, None)?;
             Ok(known)
         }
         BoundsChoice::Standard | BoundsChoice::Strong => Ok(design),

@@ -1,11 +1,11 @@
 -- A search by one worker has one answer, where its certificate is the only one.
-use Rattle.std.proofs.Common.{◌≡◌, ℕ, ◌*◌, Bool, false, List, [], ◌∷◌, ◌++◌, length, Option, Some, None, Ok, Err, refl, sym, ap, subst, ◌∙◌, arith}
+use Rattle.std.proofs.Common.{◌≡◌, inl, ℕ, ◌*◌, Bool, false, List, [], ◌∷◌, ◌++◌, length, Option, Some, None, Ok, Err, refl, sym, ap, subst, ◌∙◌, arith}
 use Rattle.sf_program.proofs.Common.{Contents, Design, Spot, block_count, Tree, width, height, spots_of, wire, Expr, spells-one, by_number, Cert, decided, cert_text, Outcome, GenOptions, PlanOptions, DesignGenerated, GenRead, IsGenerated, by_default, both_weights, cert_name, parts_made, texts_stored, Answer, AtMostOne, GivesOne, BudgetTested, IsAnswered, IsEnding, AreMeasures, IsPlanned, IsReported, IsSearched, PlanRead, budget_of, outcome_status, placement_stores, Stored, alike}
 use Rattle.sf_anneal.specs.Starts.{IsImprovedStarts, first_least}
 use Rattle.sf_words.specs.declared.command.BoundsChoice.{BoundsChoice}
 use Rattle.sf_words.specs.declared.command.BoundsChoice.TheVariants.{Standard, Strong}
 use Rattle.sf_known.specs.Known.{IsKnownBy, cheaper}
-use Rattle.sf_program.specs.Begun.{IsBegun}
+use Rattle.sf_known.specs.Begun.{IsBegun}
 use Rattle.sf_pl_writer.specs.declared.report.Outcome.TheVariants as word
 use Rattle.sf_pl_writer.specs.ReportText.{report_text}
 use Rattle.sf_program.specs.Planned.{IsTold}
@@ -83,11 +83,11 @@ none-known Standard design known plain h = h
 none-known Strong design known plain h = absurd (let e : Strong ≡ Standard = plain in cc)
 
 -- a search that asks for neither begins with no plan
-none-first : (o : PlanOptions) (design : Design) (start : Option (Expr × ℕ)) → o.starts.count ≡ 0 → o.bounds ≡ Standard → IsBegun o design start → start ≡ None
-none-first o design start bare plain b =
+none-first : (o : PlanOptions) (design known : Design) (start : Option (Expr × ℕ)) → o.starts.count ≡ 0 → o.bounds ≡ Standard → IsBegun o.starts o.bounds design known start → start ≡ None
+none-first o design known start bare plain b =
     let walked = none-begun design o.starts.seed o.starts.count o.starts.moves b.walked bare b.walks in
-    let known = none-known o.bounds design b.known plain b.knows in
-    b.is ∙ ap (λ w. cheaper w b.known) walked ∙ known
+    let least = none-known o.bounds known b.least plain b.knows in
+    b.is ∙ ap (λ w. cheaper w b.least) walked ∙ least
 
 -- only one certificate is that of a search by one worker that begins with no plan
 abbrev pub HasOneCert : Type 0
@@ -109,10 +109,10 @@ module _ (certs : HasOneCert) where
   -- so are those of `plan`
   pub planned-one : (contents : Contents) (o : PlanOptions) → o.workers ≡ 1 → o.starts.count ≡ 0 → o.bounds ≡ Standard → (a b : Answer) → IsPlanned o (Some contents) a.0 a.1 a.2 → IsPlanned o (Some contents) b.0 b.1 b.2 → (a.0 ≡ b.0) × (a.1 ≡ b.1) × (a.2 ≡ b.2)
   planned-one contents o single bare plain a b p q =
-      let design = same-value (PlanRead (Some contents) o) (plan-one contents o) p.design q.design p.reads q.reads in
+      let design = same-value (PlanRead (Some contents) o) (plan-one contents o) p.design q.design (inl (p.read, p.stands, p.knows)) (inl (q.read, q.stands, q.knows)) in
       let By : ℕ → Option (Expr × ℕ) → Design → Answer → Type 0 = λ n s d x. IsAnswered d n (budget_of o.nodes (block_count d)) s o.design.per_unit o.cert o.pl_out x.0 x.1 x.2 in
-      let first = none-first o p.design p.start bare plain p.begun in
-      let second = none-first o q.design q.start bare plain q.begun in
+      let first = none-first o p.read p.design p.start bare plain p.begun in
+      let second = none-first o q.read q.design q.start bare plain q.begun in
       answered-one q.design (budget_of o.nodes (block_count q.design)) o.design.per_unit o.cert o.pl_out a b
       (subst (λ n. By n None q.design a) single (subst (λ (d : Design). By o.workers None d a) design (subst (λ s. By o.workers s p.design a) first p.answered)))
       (subst (λ n. By n None q.design b) single (subst (λ s. By o.workers s q.design b) second q.answered))

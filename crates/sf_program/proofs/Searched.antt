@@ -8,9 +8,7 @@ use Rattle.sf_rounds.specs.declared.to_certificate.Found.{Found}
 use Rattle.sf_rounds.specs.Found.{IsCertOf, IsFound}
 use Rattle.sf_rounds.specs.Turns.{turns}
 use Rattle.sf_rounds.proofs.Formed.{can-write}
-use Rattle.std.specs.Prelude.{IfSome, nat_lt}
-use Rattle.std.proofs.lemmas.Bool.{cases_Bool}
-use Rattle.sf_known.specs.Known.{cheaper}
+use Rattle.std.specs.Prelude.{IfSome}
 use Rattle.std.proofs.lemmas.Result.{IfOk-weaker}
 
 -- a floorplan costs what is said and can be written
@@ -54,9 +52,3 @@ pub begun-searched : {E : Type 0} (design : Design) (workers budget : ℕ) (plan
 begun-searched design workers budget plan cost (Ok found) e lower =
     found-searched design workers budget (Some (plan, cost)) found e (subst (λ z. z ≤ cost) e.cost_is lower) (λ single none. absurd (cc))
 begun-searched design workers budget plan cost (Err w) e lower = tt
-
--- what holds of two plans, where there are any, holds of the cheaper one
-pub cheaper-holds : (P : Expr × ℕ → Type 0) (a b : Option (Expr × ℕ)) → IfSome a P → IfSome b P → IfSome (cheaper a b) P
-cheaper-holds P None b h k = k
-cheaper-holds P (Some p) None h k = h
-cheaper-holds P (Some p) (Some q) h k = elim (cases_Bool (nat_lt q.1 p.1)) [ inl e ↦ rw e k | inr e ↦ rw e h ]

@@ -3,7 +3,6 @@ pub mod Refusals
 pub mod Weighed
 pub mod Reading
 pub mod Knowing
-pub mod Begun
 pub mod Loads
 pub mod Stores
 pub mod Planned

@@ -33,7 +33,8 @@ use Rattle.sf_program.specs.Outcome.{Refusal, Then}
 use Rattle.sf_program.specs.Refusals.{over_limit}
 use Rattle.sf_program.specs.Reading.{PartsAdmitted, DesignMade}
 use Rattle.sf_program.specs.Knowing.{MadeKnown}
-use Rattle.sf_program.specs.Begun.{IsBegun}
+use Rattle.sf_known.specs.Begun.{IsBegun}
+use Rattle.sf_known.specs.Known.{Knows}
 use Rattle.sf_program.specs.Stores.{Stored}
 use Rattle.sf_program.specs.Weighed.{WeighedParts}
 
@@ -130,10 +131,12 @@ pub record IsAnswered (design : Design) (workers budget : ℕ) (start : Option (
   pub searched : IsSearched design workers budget start cert
   pub reported : IsReported design scale cert_name pl_name cert status stored printed
 
--- the files stand for a design, and this is the answer of its search, which begins with what walks find or with what is known
+-- the files stand for a design, and this is the answer of its search where it knows what was asked for, which begins with what walks find or with what is known
 pub record IsPlanned (o : PlanOptions) (before : Option Contents) (status : Status) (stored : List Stored) (printed : List ℕ) : Type 0 where
+  pub read : Design
+  pub stands : PlanDesign before o (Ok read)
   pub design : Design
-  pub reads : PlanRead before o (Ok design)
+  pub knows : Knows o.bounds read design
   pub start : Option (Expr × ℕ)
-  pub begun : IsBegun o design start
+  pub begun : IsBegun o.starts o.bounds read design start
   pub answered : IsAnswered design o.workers (budget_of o.nodes (block_count design)) start o.design.per_unit o.cert o.pl_out status stored printed

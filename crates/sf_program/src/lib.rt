@@ -25,7 +25,6 @@ mod refusals;
 mod resuming;
 mod rewriting;
 mod shaping;
-mod starting;
 mod stop;
 mod weighed;
 mod weighing;

@@ -10,24 +10,22 @@ ghost use Rattle.sf_standard.specs.Standard.{standard, part_value};
 ghost use Rattle.sf_words.specs.Seen.{plan_seen, text_of};
 ghost use Rattle.sf_words.specs.Meaning.{plan};
 ghost use Rattle.sf_program.specs.Answer.{Obeys};
-ghost use Rattle.sf_known.specs.Known.{IsKnownBy};
 ghost use Rattle.sf_program.specs.Loads.{ReadsShelf, TellsNoLoad};
 ghost use Rattle.sf_program.specs.Outcome.{Ends};
 ghost use Rattle.sf_program.specs.Planned.{IsAnswered, IsReported, IsSearched, BudgetedDesign};
-ghost use Rattle.sf_program.specs.Planned.{PlanDesign, PlanRead, budget_of};
+ghost use Rattle.sf_program.specs.Planned.{PlanDesign, budget_of};
 ghost use Rattle.sf_program.specs.Stores.{Gives};
 ghost use Rattle.sf_program.specs.Weighed.{weighed_in};
 
 use crate::budget::{budget_of, test_budget};
 use crate::designs::{make_design, read_admitted};
 use crate::plan_answer::{Ended, Names, ending_of, tell_none, tell_plan};
-use crate::starting::find_start;
 use crate::stop::Stop;
 use crate::weighed::Weighed;
 use crate::work::Work;
 use sf_bounds::Standard;
 use sf_io::{Gate, Shelf};
-use sf_known::{Known, cheaper, know};
+use sf_known::{Begun, begin};
 use sf_model::{Design, admitted_parts_keep_limits};
 use sf_polish::Expr;
 use sf_rounds::{Found, SearchOptions, search, search_below};
@@ -58,24 +56,6 @@ fn within_budget(alloc: Global, words: &PlanWords<'_>, read: Weighed) -> Result<
         Ok(()) => make_design(alloc, &words.design, words.weights, read),
         Err(stop) => Err(stop),
     }
-}
-
-/// This design where it knows what was asked for, and the plan that is known.
-fn read_known_plan<S: Shelf>(
-    alloc: Global,
-    shelf: &mut S,
-    words: &PlanWords<'_>,
-) -> Result<Known, Stop>
-    ensures design { Ends (λ known. known.design) result
-        (PlanRead (S.seen shelf.old).holds (plan_seen words.now)) }
-    ensures plan { IfOk result (λ known. IsKnownBy words.now.bounds known.design known.plan) }
-    ensures floorplan { IfOk result (λ known.
-        IfSome known.plan (λ p. IsFloorplan known.design p.0 p.1)) }
-    ensures shelf { ReadsShelf (S.seen shelf.old) (S.seen shelf.new) result }
-{
-    let design = read_plan(alloc, shelf, words)?;
-    let known = know(alloc, words.bounds, design)?;
-    Ok(known)
 }
 
 /// What is told of a search of a design.
@@ -122,12 +102,8 @@ pub fn plan<R: Threads + Sync, S: Shelf, G: Gate>(
     ensures answer { Obeys (plan (plan_seen words.now)) (S.seen shelf.old).holds result }
     ensures shelf { ReadsShelf (S.seen shelf.old) (S.seen shelf.new) result }
 {
-    let Known {
-        design,
-        plan: known,
-    } = read_known_plan(alloc, shelf, words)?;
-    let walked = find_start(rt, alloc, &design, words.starts)?;
-    let start = cheaper(walked, known);
+    let design = read_plan(alloc, shelf, words)?;
+    let Begun { design, start } = begin(rt, alloc, design, words.starts, words.bounds)?;
     let names = Names {
         cert: words.cert,
         pl: words.pl_out,

@@ -92,8 +92,3 @@ least-plan design limit found least h plan is = (
     least = subst (IsAreaFloor design) (sym is) h.least.plan.least;
   },
 )
-
--- the last pass tells the least area or that none fits
-pub last-pass : (design : Design) (most : ℕ) (found : Option LeastPlan) → most ≡ design.outline.w * design.outline.h → MatchOption found (IsAreaFloor design (most + 1)) (λ least. (least.area < most + 1) × IsLeastPlan design (tree_of least.plan) least.area) → MatchOption found (NoneFits design) (λ least. IsLeastPlan design (tree_of least.plan) least.area)
-last-pass design most None is h = none-fits design (subst (λ v. IsAreaFloor design (v + 1)) is h)
-last-pass design most (Some least) is h = h.1

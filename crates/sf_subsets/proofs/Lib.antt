@@ -7,4 +7,5 @@ pub mod Filled
 pub mod Blocks
 pub mod Splits
 pub mod Areas
+pub mod Sizes
 pub mod Learned

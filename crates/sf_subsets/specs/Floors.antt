@@ -9,6 +9,11 @@ use Rattle.sf_model.specs.Tree.{Tree, width, height}
 use Rattle.sf_curves.specs.Choices.{size_of}
 use Rattle.sf_curves.specs.Points.{area_of}
 
+-- a floorplan that fits
+pub record IsFitting (design : Design) (tree : Tree) : Type 0 where
+  pub legal : IsLegal design tree
+  pub fits : Fits design.outline tree
+
 -- a floorplan that fits, its area, and that none that fits has a lesser one
 pub record IsLeastPlan (design : Design) (tree : Tree) (area : ℕ) : Type 0 where
   pub legal : IsLegal design tree

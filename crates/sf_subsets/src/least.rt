@@ -1,11 +1,11 @@
 //! The least area of all floorplans.
 
-ghost use Rattle.std.specs.Prelude.{◌^◌, ◌<◌, ◌≤◌, IfOk, MatchOption};
+ghost use Rattle.std.specs.Prelude.{◌≡◌, ◌+◌, ◌*◌, ◌^◌, ◌<◌, ◌≤◌, IfOk, IfSome, MatchOption};
 ghost use Rattle.sf_curves.specs.Points.{area_of};
 ghost use Rattle.sf_model.specs.Cost.{NoneFits};
 ghost use Rattle.sf_model.specs.Legal.{IsAreaFloor, block_count};
-ghost use Rattle.sf_model.specs.Tree.{tree_of};
-ghost use Rattle.sf_subsets.specs.Floors.{IsLeastPlan, IsLeastSize};
+ghost use Rattle.sf_model.specs.Tree.{tree_of, width, height};
+ghost use Rattle.sf_subsets.specs.Floors.{IsFitting, IsLeastPlan, IsLeastSize};
 ghost use Rattle.sf_subsets.specs.declared.limits.TheConstants.{MOST_BLOCKS};
 
 use crate::budget::total_of;
@@ -14,6 +14,7 @@ use crate::leasts::leasts_of;
 use crate::tracing::plan_of_size;
 use sf_curves::{Point, area};
 use sf_model::{Design, Plan};
+use sf_place::size;
 use std::alloc::{AllocError as NoMemory, Global};
 
 /// A floorplan of least area, and that area in squares of scaled whole units.
@@ -71,23 +72,105 @@ fn blocks_area(alloc: Global, design: &Design) -> Result<u64, NoMemory>
     Ok(total_of(&leasts, all_blocks(design.block_count())))
 }
 
-/// A floorplan of least area that fits, or nothing where none fits. A table costs the more the more it may
-/// waste, so the limit begins a little above the area of the blocks and rises until a floorplan is found; one
-/// that wastes more than all blocks take is sought at once among all that fit.
-pub fn least_plan(alloc: Global, design: &Design) -> Result<Option<LeastPlan>, NoMemory>
+/// An area that no floorplan of least area passes: that of a known one, or one more than the outline's.
+fn most_area(design: &Design, known: &Option<Plan>) -> u64
+    requires { IfSome known.now (λ plan. IsFitting design.now (tree_of plan)) }
+    ensures most { MatchOption known.now
+        (result ≡ design.now.outline.w * design.now.outline.h + 1)
+        (λ plan. width (tree_of plan) * height (tree_of plan) ≡ result) }
+    ensures small { result ≤ 2 ^ 40 + 1 }
+{
+    match known {
+        Some(plan) => {
+            let (width, height) = size(plan);
+            width * height
+        }
+        None => outline_area(design) + 1,
+    }
+}
+
+/// How much the first table may waste: little, and where a floorplan is known three eighths of what that wastes,
+/// which is mostly not much less than one of least area does.
+fn first_waste(blocks: u64, most: u64, known: &Option<Plan>) -> u64
+    requires small { most ≤ 2 ^ 40 + 1 }
+    ensures { result ≤ blocks }
+{
+    match known {
+        Some(_) => (most.saturating_sub(blocks) * 3 / 8).clamp(blocks / 256, blocks / 64),
+        None => blocks / 256,
+    }
+}
+
+/// A floorplan of least area, unless that is `most` or more than twice what the blocks take. A table costs the more
+/// the more it may waste, so its limit begins a little above the area of the blocks and rises until a floorplan is
+/// found.
+fn least_rising(
+    alloc: Global,
+    design: &Design,
+    blocks: u64,
+    first: u64,
+    most: u64,
+) -> Result<Option<LeastPlan>, NoMemory>
     requires few { block_count design.now ≤ MOST_BLOCKS }
-    ensures { IfOk result (λ found. MatchOption found
-        (NoneFits design.now)
+    requires blocks { blocks ≤ 2 ^ 46 }
+    requires first { first ≤ blocks }
+    requires most { most ≤ 2 ^ 40 + 1 }
+    ensures { IfOk result (λ found. IfSome found
         (λ least. IsLeastPlan design.now (tree_of least.plan) least.area)) }
 {
-    let blocks = blocks_area(alloc, design)?;
-    let last = outline_area(design).min(2 * blocks);
-    let mut limit = blocks + blocks / 256 + 1;
-    while limit <= last {
+    let mut limit = blocks + first + 1;
+    while limit < most && limit <= 2 * blocks {
         if let Some(least) = least_plan_below(alloc, design, limit)? {
             return Ok(Some(least));
         }
         limit += (limit - blocks) / 4 + 1;
     }
-    least_plan_below(alloc, design, outline_area(design) + 1)
+    Ok(None)
+}
+
+/// A floorplan of less area than this if there is one, and else the known one, which has just this area.
+fn least_or_known(
+    alloc: Global,
+    design: &Design,
+    most: u64,
+    known: Option<Plan>,
+) -> Result<Option<LeastPlan>, NoMemory>
+    requires few { block_count design.now ≤ MOST_BLOCKS }
+    requires known { IfSome known (λ plan. IsFitting design.now (tree_of plan)) }
+    requires most { MatchOption known
+        (most ≡ design.now.outline.w * design.now.outline.h + 1)
+        (λ plan. width (tree_of plan) * height (tree_of plan) ≡ most) }
+    ensures { IfOk result (λ found. MatchOption found
+        (NoneFits design.now)
+        (λ least. IsLeastPlan design.now (tree_of least.plan) least.area)) }
+{
+    if let Some(least) = least_plan_below(alloc, design, most)? {
+        return Ok(Some(least));
+    }
+    match known {
+        Some(plan) => Ok(Some(LeastPlan { plan, area: most })),
+        None => Ok(None),
+    }
+}
+
+/// A floorplan of least area that fits, or nothing where none fits. A known one limits what the last table may
+/// waste, and is handed back where none has less area.
+pub fn least_plan(
+    alloc: Global,
+    design: &Design,
+    known: Option<Plan>,
+) -> Result<Option<LeastPlan>, NoMemory>
+    requires few { block_count design.now ≤ MOST_BLOCKS }
+    requires known { IfSome known (λ plan. IsFitting design.now (tree_of plan)) }
+    ensures { IfOk result (λ found. MatchOption found
+        (NoneFits design.now)
+        (λ least. IsLeastPlan design.now (tree_of least.plan) least.area)) }
+{
+    let most = most_area(design, &known);
+    let blocks = blocks_area(alloc, design)?;
+    let first = first_waste(blocks, most, &known);
+    match least_rising(alloc, design, blocks, first, most)? {
+        Some(least) => Ok(Some(least)),
+        None => least_or_known(alloc, design, most, known),
+    }
 }

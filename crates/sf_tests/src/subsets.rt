@@ -34,7 +34,7 @@ fn squares_take_published_areas(rt: HostRuntime) -> Result<(), Fail> {
     for most in 1..8 {
         let area = AREAS[most - 1];
         let design = squares(alloc, most as u32)?;
-        let least = least_plan(alloc, &design)?.ok_or("none fits")?;
+        let least = least_plan(alloc, &design, None)?.ok_or("none fits")?;
         assert_eq!(rt; least.area, area, "{most}");
         assert!(rt; least_size_below(alloc, &design, area)?.is_none(), "{most}");
         let size = least_size_below(alloc, &design, area + 1)?.ok_or("none below")?;
@@ -54,7 +54,7 @@ fn least_in(alloc: Global, w: u32, h: u32) -> Result<Option<u64>, AllocError>
     let long = block(alloc, Shape { w: 4, h: 1 })?;
     let small = block(alloc, Shape { w: 1, h: 1 })?;
     let design = bare(alloc, vec![in alloc; long, small]?, Outline { w, h }, 0);
-    match least_plan(alloc, &design)? {
+    match least_plan(alloc, &design, None)? {
         Some(least) => Ok(Some(least.area)),
         None => Ok(None),
     }
@@ -79,7 +79,7 @@ fn learned_in(alloc: Global, w: u32, h: u32) -> Result<(u64, bool), AllocError>
     let long = block(alloc, Shape { w: 4, h: 1 })?;
     let small = block(alloc, Shape { w: 1, h: 1 })?;
     let mut design = bare(alloc, vec![in alloc; long, small]?, Outline { w, h }, 0);
-    let plan = learn_area(alloc, &mut design)?;
+    let plan = learn_area(alloc, &mut design, None)?;
     Ok((design.area_floor, plan.is_some()))
 }
 

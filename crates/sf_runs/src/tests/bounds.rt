@@ -39,6 +39,12 @@ const ROWS: &[Row] = &[
         ..PLAN
     },
     Row {
+        options: "--bounds strong --starts 2 --improve 9",
+        files: &[("a.blocks", FOUR_SQUARES)],
+        printed: Printed::Lines("status Optimal\ncost 35\nbound 35\ndecided 1\narea 35\n"),
+        ..PLAN
+    },
+    Row {
         options: "--fixed --outline 4x4 --bounds strong",
         files: &[("a.blocks", TWO)],
         status: Status::NoneFits,

@@ -1,15 +1,27 @@
-//! Plans to begin a search with.
+//! What a search begins with.
 
 ghost use Rattle.std.specs.Prelude.{◌≡◌, ◌*◌, ◌≤◌, IfOk, IfSome, IfNone};
 ghost use Rattle.sf_anneal.specs.Measured.{IsFloorplan};
 ghost use Rattle.sf_anneal.specs.Starts.{IsImprovedStarts};
+ghost use Rattle.sf_known.specs.Begun.{IsBegun};
+ghost use Rattle.sf_known.specs.Known.{Knows};
+ghost use Rattle.sf_words.specs.Seen.{starts_seen};
 
+use crate::choosing::cheaper;
+use crate::knowing::know;
 use sf_anneal::improved_starts;
 use sf_model::Design;
 use sf_polish::Expr;
-use sf_words::StartWords;
+use sf_words::{BoundsChoice, StartWords};
 use std::alloc::{AllocError as NoMemory, Global};
 use std::thread::Threads;
+
+/// A design that knows what was asked for, and the plan that its search begins with, with its cost.
+#[derive(Drop)]
+pub struct Begun {
+    pub design: Design,
+    pub start: Option<(Expr, u64)>,
+}
 
 /// How many trials make better what a walk finds: what was asked for, or its default.
 fn trials_of(improve: Option<u64>, blocks: u16) -> u32
@@ -26,7 +38,7 @@ fn trials_of(improve: Option<u64>, blocks: u16) -> u32
 
 /// The least of what the walks that were asked for find, each made better, with its cost. None where they find
 /// no floorplan, or none was asked for.
-pub fn find_start<R: Threads + Sync>(
+fn find_start<R: Threads + Sync>(
     rt: &R,
     alloc: Global,
     design: &Design,
@@ -43,4 +55,28 @@ pub fn find_start<R: Threads + Sync>(
     } = words;
     let trials = trials_of(words.improve, design.block_count());
     improved_starts(rt, alloc, design, seed, count, moves, trials)
+}
+
+/// Lets the design know what was asked for, and begins with the cheaper of what walks find and of what is known
+/// then. The walks come first: the area of what they find limits the table of what is known.
+pub fn begin<R: Threads + Sync>(
+    rt: &R,
+    alloc: Global,
+    design: Design,
+    starts: StartWords,
+    bounds: BoundsChoice,
+) -> Result<Begun, NoMemory>
+    ensures knows { IfOk result (λ begun. Knows bounds design begun.design) }
+    ensures begun { IfOk result (λ begun.
+        IsBegun (starts_seen starts) bounds design begun.design begun.start) }
+    ensures floorplan { IfOk result (λ begun.
+        IfSome begun.start (λ plan. IsFloorplan begun.design plan.0 plan.1)) }
+{
+    let walked = find_start(rt, alloc, &design, starts)?;
+    let known = know(alloc, bounds, design, &walked)?;
+    let start = cheaper(walked, known.plan);
+    Ok(Begun {
+        design: known.design,
+        start,
+    })
 }

@@ -1,0 +1,16 @@
+-- The plan that a search begins with.
+use Rattle.std.specs.Prelude.{◌≡◌, ℕ, Option}
+use Rattle.sf_model.specs.declared.design.Design.{Design}
+use Rattle.sf_anneal.specs.Starts.{IsImprovedStarts}
+use Rattle.sf_polish.specs.declared.expr.Expr.{Expr}
+use Rattle.sf_known.specs.Known.{IsKnownBy, cheaper}
+use Rattle.sf_words.specs.declared.command.BoundsChoice.{BoundsChoice}
+use Rattle.sf_words.specs.Meaning.{StartOptions}
+
+-- the cheaper of a plan that costs no more than the least of what the walks that are asked for find, and of the one that is known by the bounds; none where there is neither. The walks go over the design as it was read, and the other one has the same floorplans and knows what was asked for
+pub record IsBegun (starts : StartOptions) (bounds : BoundsChoice) (design known : Design) (start : Option (Expr × ℕ)) : Type 0 where
+  pub walked : Option (Expr × ℕ)
+  pub least : Option (Expr × ℕ)
+  pub walks : IsImprovedStarts design starts.seed starts.count starts.moves walked
+  pub knows : IsKnownBy bounds known least
+  pub is : start ≡ cheaper walked least

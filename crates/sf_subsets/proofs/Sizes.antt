@@ -1,0 +1,33 @@
+-- A floorplan that fits has few leaves, of which no side is too long.
+use Rattle.std.proofs.Common.{◌<◌, ◌≤◌, ℕ, [], arith}
+use Rattle.sf_subsets.proofs.Common.{All-contains, Contains, Design, Shape, Tree, block_count, leaves, shapes_of}
+use Rattle.std.specs.List.{AllByRecursion}
+use Rattle.std.proofs.lemmas.List.Elements.{recursion_from_All}
+use Rattle.sf_model.proofs.Each.{each-left, each-right}
+use Rattle.sf_model.specs.Limits.{IsSide}
+use Rattle.sf_model.specs.Tree.{Leaf, Beside, Above, HasSides, leaf_count}
+use Rattle.sf_place.proofs.ByNumber.{plan-leaves}
+use Rattle.sf_subsets.specs.Floors.{IsFitting}
+
+-- it has few leaves
+pub fitting-few : (design : Design) (tree : Tree) → IsFitting design tree → leaf_count tree ≤ 320
+fitting-few design tree h = omega (arith, plan-leaves (block_count design) tree h.legal.blocks, design.limits.few_blocks)
+
+-- leaves of the design's blocks, in shapes of their lists, have sides that keep the limit
+sided : (design : Design) (t : Tree) → AllByRecursion (λ leaf. leaf.0 < block_count design) (leaves t) → AllByRecursion (λ leaf. Contains (shapes_of design leaf.0) leaf.1) (leaves t) → HasSides t
+sided design (Leaf b s) below listed =
+    All-contains (λ z. IsSide z.w × IsSide z.h) (shapes_of design b) s (design.limits.shapes b (record { name = []; shapes = [] }) below.0).choice.sides listed.0
+sided design (Beside l r) below listed =
+    let P : ℕ × Shape → Type 0 = λ leaf. leaf.0 < block_count design in
+    let Q : ℕ × Shape → Type 0 = λ leaf. Contains (shapes_of design leaf.0) leaf.1 in
+    (sided design l (each-left P (leaves l) (leaves r) below) (each-left Q (leaves l) (leaves r) listed), sided design r (each-right P (leaves l) (leaves r) below) (each-right Q (leaves l) (leaves r) listed))
+sided design (Above l r) below listed =
+    let P : ℕ × Shape → Type 0 = λ leaf. leaf.0 < block_count design in
+    let Q : ℕ × Shape → Type 0 = λ leaf. Contains (shapes_of design leaf.0) leaf.1 in
+    (sided design l (each-left P (leaves l) (leaves r) below) (each-left Q (leaves l) (leaves r) listed), sided design r (each-right P (leaves l) (leaves r) below) (each-right Q (leaves l) (leaves r) listed))
+
+-- so has a floorplan
+pub fitting-sides : (design : Design) (tree : Tree) → IsFitting design tree → HasSides tree
+fitting-sides design tree h =
+    sided design tree (recursion_from_All (λ leaf. leaf.0 < block_count design) (leaves tree) h.legal.blocks.no_other)
+    (recursion_from_All (λ leaf. Contains (shapes_of design leaf.0) leaf.1) (leaves tree) h.legal.listed)
