@@ -10,5 +10,5 @@ unfoldable pub use Rattle.sf_words.specs.Table.{mode_text, modes, key_text, is_f
 pub use Rattle.sf_words.specs.Table.{Text}
 pub use Rattle.sf_words.specs.Words.{Token, spaced, attached, alone, key_of, key_word, value_of, before, words_of, IsValue, IsShaped, IsNew, AreOptions, HasForm}
 pub use Rattle.sf_words.specs.Meaning.{Values, value_in, PlanOptions, PlanSays, Command, plan, mode_of, Means, HasNoMeaning}
-pub use Rattle.sf_jobs.specs.Job.{Job, given, IsWire, IsBudget, with_option, words_of_job, with_cert, Asks}
+pub use Rattle.sf_jobs.specs.Job.{Job, given, IsWire, IsBudget, with_option, words_of_job, with_cert, Asks, IsPlain}
 pub use Rattle.sf_jobs.specs.Plan.{AreValues, options_of}

@@ -1,7 +1,7 @@
 -- What a job's words mean.
 use Rattle.std.proofs.Common.{◌≡◌, ◌⊎◌, inl, inr, ℕ, true, false, List, [], ◌∷◌, Option, Some, None, IfSome, IfNone, option_map, codes, refl, sym, subst, arith}
 use Rattle.sf_lex.specs.Whole.{whole_read}
-use Rattle.sf_jobs.proofs.Common.{ForSome, Key, Format, Blocks, Nets, Pl, WireWeight, Nodes, Cert, Plan, mode_text, modes, key_text, is_flag, keys_of, Text, Token, spaced, words_of, IsValue, Values, value_in, PlanOptions, PlanSays, plan, Means, HasNoMeaning, Job, given, IsWire, IsBudget, with_option, words_of_job, with_cert, Asks, AreValues, options_of}
+use Rattle.sf_jobs.proofs.Common.{ForSome, Key, Format, Blocks, Nets, Pl, WireWeight, Nodes, Cert, Plan, mode_text, modes, key_text, is_flag, keys_of, Text, Token, spaced, words_of, IsValue, Values, value_in, PlanOptions, PlanSays, plan, Means, HasNoMeaning, Job, given, IsWire, IsBudget, with_option, words_of_job, with_cert, Asks, IsPlain, AreValues, options_of}
 use Rattle.sf_words.specs.Numbers.{range, nodes_range, default_of, SaysNodes}
 use Rattle.sf_words.specs.declared.command.PlanWords.{PlanWords}
 use Rattle.sf_words.specs.Seen.{plan_seen}
@@ -166,6 +166,11 @@ no_values b nets pl w nodes c none = elim (value_or b) [
     ]
   ]
 ]
+
+-- the options of a job are plain
+pub plain : (b : Text) (nets pl : Option Text) (wire : ℕ) (n : Option ℕ) (r : Option PlanWords) → IfSome r (λ w. plan_seen w ≡ options_of b nets pl wire n) → IfSome (option_map plan_seen r) IsPlain
+plain b nets pl wire n None same = tt
+plain b nets pl wire n (Some w) same = subst IsPlain (sym same) (record { per_unit = refl; pl_out = refl; workers = refl; starts = refl; bounds = refl })
 
 -- what was read of a job is what its words ask for
 pub asks : (job : Job) (b : Text) (nets pl : Option Text) (wire : ℕ) (n : Option ℕ) (r : Option PlanWords) → b ≡ job.blocks → nets ≡ given job.nets → pl ≡ given job.pl

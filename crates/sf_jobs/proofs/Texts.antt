@@ -2,7 +2,7 @@
 use Rattle.std.proofs.Common.{◌≡◌, ℕ, ◌+◌, ◌<◌, ◌≤◌, List, [], ◌∷◌, ◌++◌, length, map, take, sym, ap, ◌∙◌, arith}
 use Rattle.std.specs.Prelude.{slice_index_or}
 use Rattle.std.proofs.lemmas.List.{append-nil, append_assoc, map-append, take_more, take_all, length-map, length-take-le}
-use Rattle.sf_jobs.specs.declared.told.ToldJob.{ToldJob}
+use Rattle.sf_jobs.specs.declared.told.Answer.{Answer}
 use Rattle.sf_jobs.specs.Seen.{told_seen}
 use Rattle.sf_jobs.specs.Told.{Told, job_line, texts_from, batch_text}
 
@@ -19,7 +19,7 @@ texts_more n (x ∷ xs) y =
     ∙ ap (λ k. (job_text n x ++ texts_from (n + 1) xs) ++ job_text k y) (omega arith)
 
 -- the text with one job more
-pub one_more : (all : List ToldJob) (k : ℕ) (x : ToldJob) (old new : List ℕ) → k < length all → x ≡ slice_index_or all k x → old ≡ batch_text (map told_seen (take k all))
+pub one_more : (all : List Answer) (k : ℕ) (x : Answer) (old new : List ℕ) → k < length all → x ≡ slice_index_or all k x → old ≡ batch_text (map told_seen (take k all))
     → new ≡ old ++ (job_line k x.status ++ x.text.items) → new ≡ batch_text (map told_seen (take (k + 1) all))
 one_more all k x old new b at was more =
     let front = map told_seen (take k all) in
@@ -31,5 +31,5 @@ one_more all k x old new b at was more =
     ∙ sym (texts_more 0 front (told_seen x)) ∙ ap batch_text (sym next)
 
 -- the text of all
-pub all_of : (all : List ToldJob) (k : ℕ) (text : List ℕ) → length all ≤ k → text ≡ batch_text (map told_seen (take k all)) → text ≡ batch_text (map told_seen all)
+pub all_of : (all : List Answer) (k : ℕ) (text : List ℕ) → length all ≤ k → text ≡ batch_text (map told_seen (take k all)) → text ≡ batch_text (map told_seen all)
 all_of all k text b was = was ∙ ap (λ l. batch_text (map told_seen l)) (take_all k all b)

@@ -1,5 +1,5 @@
 -- A job of a jobs file: its line, the words that it stands for, and what these ask for.
-use Rattle.std.specs.Prelude.{◌≡◌, ℕ, List, [], ◌∷◌, Option, Some, None, MatchOption, cond, codes}
+use Rattle.std.specs.Prelude.{◌≡◌, ℕ, List, [], ◌∷◌, Option, Some, None, IfSome, MatchOption, cond, codes}
 use Rattle.std.specs.Str.{bytes_eq, IsUtf8}
 use Rattle.sf_lex.specs.Text.{words}
 use Rattle.sf_lex.specs.Scan.{Line}
@@ -10,6 +10,7 @@ use Rattle.sf_words.specs.Table.{Text}
 use Rattle.sf_words.specs.Words.{IsValue}
 use Rattle.sf_words.specs.Numbers.{IsWithin}
 use Rattle.sf_words.specs.Meaning.{PlanOptions, plan, Means, HasNoMeaning}
+use Rattle.sf_words.specs.declared.command.BoundsChoice.TheVariants.{Standard}
 
 -- the five words of a job's line
 pub record Job : Type 0 where
@@ -73,11 +74,20 @@ abbrev pub Asks : Job → Option PlanOptions → Type 0
 Asks job None = (cert : Text) → IsValue cert → HasNoMeaning (words_of_job job cert)
 Asks job (Some o) = (cert : Text) → IsValue cert → Means (words_of_job job cert) (plan (with_cert o cert))
 
+-- a search by one worker from no plan, by the standard bounds, in the unit of the files and with no placement to store
+pub record IsPlain (o : PlanOptions) : Type 0 where
+  pub per_unit : o.design.per_unit ≡ 1
+  pub pl_out : o.pl_out ≡ None
+  pub workers : o.workers ≡ 1
+  pub starts : o.starts.count ≡ 0
+  pub bounds : o.bounds ≡ Standard
+
 -- the line is a job, and its words mean this
 pub record SaysJob (line : Line) (asked : Option PlanOptions) : Type 0 where
   pub job : Job
   pub is_job : IsJob line job
   pub asks : Asks job asked
+  pub plain : IfSome asked IsPlain
 
 -- the line is no job
 abbrev pub IsNoJob : Line → Type 0

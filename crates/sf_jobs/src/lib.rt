@@ -17,5 +17,5 @@ mod words;
 pub use fault::JobsFault;
 pub use jobs::read_jobs;
 pub use team::read_team_words;
-pub use told::{ToldJob, batch_status, batch_text};
+pub use told::{Answer, batch_status, batch_text};
 pub use words::TeamWords;

@@ -8,9 +8,9 @@ ghost use Rattle.sf_jobs.specs.Told.{batch_text, batch_status};
 use sf_io::Status;
 use std::alloc::{AllocError as NoMemory, Global};
 
-/// How a job ended, and what is printed of it.
+/// How a job, or a whole batch, ended, and what is printed of it.
 #[derive(Drop)]
-pub struct ToldJob {
+pub struct Answer {
     pub status: Status,
     pub text: Vec<u8>,
 }
@@ -32,7 +32,7 @@ fn job_line(alloc: Global, number: usize, status: Status) -> Result<String, NoMe
 }
 
 /// Puts a job's line and its text behind those of the jobs before it.
-fn push_job(alloc: Global, all: &mut Vec<u8>, number: usize, told: &ToldJob) -> Result<(), NoMemory>
+fn push_job(alloc: Global, all: &mut Vec<u8>, number: usize, told: &Answer) -> Result<(), NoMemory>
     ensures { IfOk result (λ done. all.new.items
         ≡ all.old.items ++ (job_line number told.now.status ++ told.now.text.items)) }
 {
@@ -43,7 +43,7 @@ fn push_job(alloc: Global, all: &mut Vec<u8>, number: usize, told: &ToldJob) -> 
 }
 
 /// The texts of all jobs in their order, each behind a line with its number and its status.
-pub fn batch_text(alloc: Global, all: &[ToldJob]) -> Result<Vec<u8>, NoMemory>
+pub fn batch_text(alloc: Global, all: &[Answer]) -> Result<Vec<u8>, NoMemory>
     ensures { IfOk result (λ text. text.items ≡ batch_text (map told_seen all.now)) }
 {
     let mut text = Vec::new(alloc);
@@ -62,7 +62,7 @@ fn is_search_end(status: Status) -> bool
 
 /// The first status of a job that isn't that of a search which came to its end, or `Done` where there is
 /// none.
-pub fn batch_status(all: &[ToldJob]) -> Status
+pub fn batch_status(all: &[Answer]) -> Status
     ensures { result ≡ batch_status (map told_seen all.now) }
 {
     match all.split_first() {

@@ -23,7 +23,7 @@ use std::alloc::Global;
 use std::thread::Threads;
 
 /// The answer to words that mean nothing.
-fn usage(alloc: Global) -> Result<Work, Status>
+pub fn usage(alloc: Global) -> Result<Work, Status>
     ensures status { IfOk result (λ w. w.status ≡ Status.Usage) }
     ensures stores { IfOk result (λ w. stored_in w.stores.items ≡ []) }
     ensures text { IfOk result (λ w. w.text.items ≡ usage_line) }

@@ -30,5 +30,12 @@ mod weighed;
 mod weighing;
 mod work;
 
+pub use commands::usage;
 pub use laws::taken_texts_are_answered;
+pub use plan_answer::Names;
+pub use planning::{read_plan, search_design};
 pub use program::{run, run_unfailing};
+pub use reading::load_text;
+pub use refusals::{bare_fault, over_limit};
+pub use stop::Stop;
+pub use work::Work;

@@ -2,7 +2,7 @@
 //! the batch program.
 
 use sf_io::Status;
-use sf_jobs::{JobsFault, ToldJob, batch_status, batch_text, read_jobs, read_team_words};
+use sf_jobs::{JobsFault, Answer, batch_status, batch_text, read_jobs, read_team_words};
 use sf_words::InputFiles;
 use std::alloc::{AllocError, Global};
 use std::test::Fail;
@@ -129,7 +129,7 @@ fn texts_of_jobs(rt: HostRuntime) -> Result<(), Fail> {
     ];
     let mut all = Vec::new(alloc);
     for (status, text) in rows {
-        all.push(ToldJob {
+        all.push(Answer {
             status,
             text: Vec::from_slice(alloc, text.as_bytes())?,
         })?;

@@ -1,7 +1,7 @@
 use Rattle.std.proofs.Common.{sym, ap, ◌∙◌}
 use Rattle.sf_jobs.proofs.Common.{given}
 use Rattle.sf_jobs.specs.Seen.{job_of}
-use Rattle.sf_jobs.proofs.Meant.{asks}
+use Rattle.sf_jobs.proofs.Meant.{asks, plain}
 use Rattle.sf_jobs.proofs.plan.read_job.Goals as goal
 
 pub returns-clause-job : goal.returns-clause-job
@@ -12,4 +12,5 @@ returns-clause-job c =
       is_job = record { words_are = sym c.in_ok-fields.ensures; blocks = c.in_ok-blocks.ensures.text; nets = c.in_ok-nets.ensures.text; pl = c.in_ok-pl.ensures.text; wire = (c.in_ok-wire.wire, c.in_ok-wire.ensures.wire); nodes = (c.in_ok-nodes.nodes, c.in_ok-nodes.ensures.nodes) };
       asks = asks (job_of fields) _ _ _ _ _ c.plan_words.result c.in_ok-blocks.ensures.name (c.given.ensures ∙ ap given c.in_ok-nets.ensures.name) (c.given-2.ensures ∙ ap given c.in_ok-pl.ensures.name)
           c.in_ok-wire.ensures.wire c.in_ok-nodes.ensures.nodes said.options said.values said.none;
+      plain = plain _ _ _ _ _ c.plan_words.result said.options;
     }

@@ -1,0 +1,110 @@
+-- What the line of a job comes to.
+use Rattle.std.proofs.Common.{◌≡◌, ◌⊎◌, inl, inr, ℕ, List, [], ◌∷◌, Option, Some, None, Ok, Err, refl, sym, subst, arith}
+use Rattle.sf_io.specs.Outside.{Contents}
+use Rattle.sf_io.specs.declared.status.Status.{Status}
+use Rattle.sf_io.specs.declared.status.Status.TheVariants.{Usage}
+use Rattle.sf_lex.specs.Scan.{Line}
+use Rattle.sf_model.specs.declared.design.Design.{Design}
+use Rattle.sf_model.specs.Legal.{block_count}
+use Rattle.sf_polish.specs.declared.expr.Expr.{Expr}
+use Rattle.sf_certificate.specs.declared.cert.Cert.{Cert}
+use Rattle.sf_certificate.specs.Text.{cert_text}
+use Rattle.sf_pl_writer.specs.declared.report.Outcome.{Outcome}
+use Rattle.sf_words.specs.Table.{Text}
+use Rattle.sf_words.specs.Meaning.{PlanOptions, plan}
+use Rattle.sf_jobs.specs.Job.{IsPlain, SaysJob, with_cert}
+use Rattle.sf_jobs.specs.Told.{Told}
+use Rattle.sf_program.specs.Answer.{usage_line}
+use Rattle.sf_known.specs.Begun.{IsBegun}
+use Rattle.sf_known.specs.Known.{IsKnownBy, Knows}
+use Rattle.sf_program.specs.Outcome.{Stops, refused, lost}
+use Rattle.sf_program.specs.Planned.{IsAnswered, IsTold, PlanDesign, budget_of}
+use Rattle.sf_program.specs.Stores.{Stored}
+use Rattle.sf_program.specs.declared.stop.Stop.{Stop}
+use Rattle.sf_program.specs.declared.stop.Stop.TheVariants.{Refused, ReadFault, NoMemory}
+use Rattle.sf_batch.specs.declared.job.BuiltJob.{BuiltJob}
+use Rattle.sf_batch.specs.Alone.{LacksMemory, LineComesTo, told_of}
+use Rattle.sf_batch.specs.Built.{StandsFor}
+
+-- words that mean nothing
+pub meaningless : (held : Option Contents) (line : Line) (told : Told) → SaysJob line None → ((told.status ≡ Usage) × (told.text ≡ usage_line)) ⊎ LacksMemory told → LineComesTo held line told
+meaningless held line told says ends = (
+  says.job,
+  says.is_job,
+  elim ends [
+    | inl h ↦ inl (λ cert v. ([], inl (says.asks cert v, h.0, refl, h.1)))
+    | inr h ↦ inr (inr h)
+  ],
+)
+
+-- a job whose design can't be built
+pub stopped : (held : Option Contents) (line : Line) (o : PlanOptions) (stop : Stop) → SaysJob line (Some o) → Stops stop (λ why. PlanDesign held o (Err why)) → LineComesTo held line (told_of stop)
+stopped held line o (Refused status text) says why =
+    (says.job, says.is_job, inl (λ cert v. ([], inr (plan (with_cert o cert), says.asks cert v, inr (why.0, inr (refused status text.items, why.1, refl), refl)))))
+stopped held line o ReadFault says why =
+    (says.job, says.is_job, inr (inl (record { status_is = refl; silent = refl; loses = λ cert v. (plan (with_cert o cert), says.asks cert v, inr (lost, why, refl)) })))
+stopped held line o NoMemory says why = (says.job, says.is_job, inr (inr (refl, refl)))
+
+-- what is stored of a search has the name of its certificate, and nothing of what is printed does
+retold : (design : Design) (said : Outcome) (cert : Cert) (expr : Option Expr) (name : Text) (stored : List Stored) (printed : List ℕ)
+    → IsTold design 1 [] None said cert expr stored printed → (stored_so : List Stored) × IsTold design 1 name None said cert expr stored_so printed
+retold design said cert None name stored printed told = ((name, cert_text cert) ∷ [], (refl, told.1))
+retold design said cert (Some expr) name stored printed told = ((name, cert_text cert) ∷ [], (told.0, told.1, told.2, told.3, told.4, refl, told.6))
+
+-- the same of a whole answer
+renamed : (design : Design) (budget : ℕ) (name : Text) (status : Status) (stored : List Stored) (printed : List ℕ)
+    → IsAnswered design 1 budget None 1 [] None status stored printed → (stored_so : List Stored) × IsAnswered design 1 budget None 1 name None status stored_so printed
+renamed design budget name status stored printed a =
+    let r = a.reported in
+    let told = retold design r.said a.cert a.cert.plan name stored printed r.told in (
+      told.0,
+      record {
+        cert = a.cert;
+        searched = a.searched;
+        reported = record { floor = r.floor; accepted = r.accepted; said = r.said; ending = r.ending; status_is = r.status_is; told = told.1 };
+      },
+    )
+
+-- the standard bounds let a design know nothing more
+known : (o : PlanOptions) (design : Design) → IsPlain o → Knows o.bounds design design
+known o design p = subst (λ b. Knows b design design) (sym p.bounds) refl
+
+-- a plain search begins with no plan
+from_nothing : (o : PlanOptions) (design : Design) → IsPlain o → IsBegun o.starts o.bounds design design None
+from_nothing o design p = record {
+  walked = None;
+  least = None;
+  walks = record {
+    was = None;
+    starts = record { results = []; many = sym p.starts; walks = λ i d below. absurd (let e = p.starts in omega arith); least = refl };
+    no_dearer = record { some = λ q e. absurd (cc); none = λ e. refl };
+  };
+  knows = subst (λ b. IsKnownBy b design None) (sym p.bounds) refl;
+  is = refl;
+}
+
+-- a job whose design is built
+pub built : (held : Option Contents) (line : Line) (o : PlanOptions) (job : BuiltJob) → SaysJob line (Some o) → PlanDesign held o (Ok job.design) → job.nodes ≡ o.nodes → StandsFor held line job
+built held line o job says reads nodes = λ told tells. (
+  says.job,
+  says.is_job,
+  inl (λ cert v.
+      let design = job.design in
+      let p = says.plain in
+      let named = renamed design (budget_of job.nodes (block_count design)) cert told.status tells.0 told.text tells.1 in (
+        named.0,
+        inr (
+          plan (with_cert o cert),
+          says.asks cert v,
+          inl (record {
+            read = design;
+            stands = reads;
+            design = design;
+            knows = known o design p;
+            start = None;
+            begun = from_nothing (with_cert o cert) design (record { per_unit = p.per_unit; pl_out = p.pl_out; workers = p.workers; starts = p.starts; bounds = p.bounds });
+            answered = rw (p.workers, p.per_unit, p.pl_out, sym nodes) named.1;
+          }),
+        ),
+      )),
+)

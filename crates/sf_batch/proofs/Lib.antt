@@ -1,0 +1,5 @@
+mod Coming
+mod Counts
+mod Reading
+mod Tables
+mod Answering

@@ -1,0 +1,7 @@
+use Rattle.std.specs.Prelude.{◌≡◌, All, length}
+use Rattle.sf_jobs.specs.Seen.{told_seen}
+use Rattle.sf_batch.specs.Alone.{LacksMemory}
+use Rattle.sf_batch.proofs.doing.undone.Given as goal
+
+abbrev pub invariant-loop : goal.invariant-loop
+invariant-loop l = (length l.table.items ≡ l.counter) × All (λ answer. LacksMemory (told_seen answer)) l.table.items

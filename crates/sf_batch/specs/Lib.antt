@@ -1,0 +1,4 @@
+pub mod Alone
+pub mod Built
+pub mod Batch
+pub mod Progress
