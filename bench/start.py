@@ -4,7 +4,8 @@
 A copy of `floorplan` stands in a small repository of its own, with a stand-in for the kit's `rt` that proves nothing and
 whose program prints its words and ends with the status that its first word names. The script is called by links, through
 CDPATH, from other folders, twice at once, without `rt`, with a kit that changed, with sources and tests that changed, with
-a build that fails, in a folder that can't be written, and with an allocator that is told how to lay out heaps. The first answer that isn't as it should be ends the run.
+a build that fails, in a folder that can't be written, by the name of the batch program, and with an allocator that is
+told how to lay out heaps. The first answer that isn't as it should be ends the run.
 """
 import os
 import re
@@ -22,7 +23,7 @@ if [ "$1" = version ]; then cat %(folder)s/kit; exit; fi
 echo "$1" >>%(folder)s/calls
 if [ -e %(folder)s/broken ]; then echo "error: a goal is open"; exit 1; fi
 if [ "$1" = lib ]; then sleep "$(cat %(folder)s/pause)"; exit; fi
-mkdir -p out && cp %(folder)s/program out/floorplan && echo "error Usage" && exit 2
+mkdir -p out && cp %(folder)s/program out/${PWD##*/} && echo "error Usage" && exit 2
 """
 PROGRAM = """#!/bin/sh
 if [ "$1" = sleep ]; then exec sleep 60; fi
@@ -36,12 +37,12 @@ class Trial:
     def __init__(self, folder):
         self.folder, self.top = folder, os.path.join(folder, "a repository")
         self.script = os.path.join(self.top, "floorplan")
-        for name in ("low", "other", "floorplan"):
+        for name in ("low", "other", "floorplan", "floorbatch"):
             os.makedirs(os.path.join(self.top, "crates", name, "src"))
         os.makedirs(self.path("caller"))
         os.makedirs(self.path("bin"))
         shutil.copy(SCRIPT, self.script)
-        for name, text in (("crates.txt", "floorplan: low kit\nother:\nlow: kit\n"), ("HANDLES", "none\n"), ("crates/low/src/lib.rt", "a\n"), ("crates/low/src/tests.rt", "b\n")):
+        for name, text in (("crates.txt", "floorplan: low kit\nother:\nfloorbatch: low\nlow: kit\n"), ("HANDLES", "none\n"), ("crates/low/src/lib.rt", "a\n"), ("crates/low/src/tests.rt", "b\n")):
             self.write(os.path.join(self.top, name), text)
         for name, text in (("kit", "kit 1\n"), ("pause", "0\n"), ("bin/rt", RT % {"folder": folder}), ("program", PROGRAM)):
             self.write(self.path(name), text)
@@ -141,6 +142,17 @@ def statuses(trial):
     print("a signal ends the program too")
 
 
+def twin(trial):
+    """Called by its other name the script starts the other program, which is built by itself."""
+    twin = os.path.join(trial.top, "floorbatch")
+    os.symlink("floorplan", twin)
+    trial.call("the batch program", [twin, "x"], told="floorbatch: crate 2 of 2: floorbatch", builds=1)
+    trial.call("the batch program again", [twin, "x"])
+    trial.call("the floorplanner beside it", [trial.script, "x"])
+    for status, told in ((2, "are not --jobs FILE"), (3, ""), (7, "jobs file"), (8, "printed"), (9, "memory")):
+        trial.call("status %d of a batch" % status, [twin, "x"], status, told, env={"STATUS": str(status)})
+
+
 def heaps(trial):
     """How memory is laid out is asked for behind what the caller asks for, and never against it."""
     pad, pages = "glibc.malloc.top_pad=67108864", "glibc.malloc.hugetlb=1"
@@ -159,6 +171,7 @@ def main():
         places(trial)
         changes(trial)
         statuses(trial)
+        twin(trial)
         heaps(trial)
 
 

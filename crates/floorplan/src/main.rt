@@ -1,45 +1,27 @@
 //! The program: the words, files and standard output of the host, handed to the floorplanner's one call.
 #![tactic(auto)]
 
-ghost use Rattle.std.specs.Prelude.{◌≡◌, drop, map, IfOk, IfSome, string_bytes};
+ghost use Rattle.std.specs.Prelude.{◌≡◌, map, IfSome, string_bytes};
 ghost use Rattle.std.specs.Process.{exit_status};
-ghost use Rattle.std.specs.Vec.Iter.{into_iter_items};
 ghost use Rattle.sf_io.specs.declared.status.Status.{Status};
 ghost use Rattle.floorplan.specs.Ending.{MayEnd, NamesBudget};
-ghost use Rattle.floorplan.specs.Number.{number};
+ghost use Rattle.sf_host.specs.Number.{number};
 
 mod progress;
 
 use progress::{AfterProgress, Progress};
+use sf_host::{code_of, host_words};
 use sf_io::{HostShelf, HostSink, OpenGate, Status};
 use sf_program::run;
 use sf_words::{CommandWords, read_words};
 use std::alloc::{AllocError as NoMemory, Global};
 use std::env;
-use std::io::ErrorKind;
 use std::process::ExitCode;
 use std::thread::Threads;
 
 /// Set and not empty where the standard error is a terminal on which the progress of a search is to be
 /// told. The program can't ask the system for it; its start script does.
 const TOLD_WHERE: &str = "FLOORPLAN_PROGRESS";
-
-/// All words but the first, which is the program's name.
-fn behind_the_name(alloc: Global, all: env::Args) -> Result<Vec<String>, NoMemory>
-    ensures { IfOk result (λ words. words.items ≡ drop 1 (into_iter_items all)) }
-{
-    all.skip(1).collect(alloc)
-}
-
-/// The words after the program's name. Words that are no text are taken as no words, which mean nothing.
-fn host_words(rt: HostRuntime) -> Result<Vec<String>, NoMemory> {
-    let alloc = rt.alloc();
-    match env::args(&rt) {
-        Ok(all) => behind_the_name(alloc, all),
-        Err(fault) if fault.kind() == ErrorKind::OutOfMemory => Err(NoMemory),
-        Err(_) => Ok(Vec::new(alloc)),
-    }
-}
 
 /// The budget that the words name, where they name one.
 fn named_budget(alloc: Global, words: &[String]) -> Option<u64>
@@ -77,13 +59,6 @@ fn answer<T: Threads + Sync>(rt: HostRuntime, threads: &T, words: &[String]) -> 
             status
         }
     }
-}
-
-/// What the process ends with.
-fn code_of(status: Status) -> ExitCode
-    ensures { exit_status result ≡ number status }
-{
-    ExitCode::from(status as u8)
 }
 
 /// Does what the words ask for, and says what the process ends with.

@@ -1,5 +1,5 @@
 -- Stages that only read the shelf, one after another.
-use Rattle.std.proofs.Common.{◌≡◌, ◌∙◌, ◌≤◌, arith}
+use Rattle.std.proofs.Common.{◌∙◌, arith}
 use Rattle.sf_io.specs.Outside.{ShelfSeen}
 use Rattle.sf_program.specs.Loads.{Reads}
 

@@ -1,9 +1,9 @@
 -- Tables of answers, and how each step keeps them.
-use Rattle.std.proofs.Common.{◌≡◌, inl, inr, ℕ, zero, suc, ◌+◌, ◌<◌, ◌≤◌, set, map, take, drop, List, [], ◌∷◌, ◌++◌, length, Option, Some, None, Ok, Err, Result, refl, sym, ap, subst, ◌∙◌, arith}
+use Rattle.std.proofs.Common.{◌≡◌, inr, ℕ, zero, suc, ◌+◌, ◌<◌, ◌≤◌, set, map, take, drop, List, [], ◌∷◌, ◌++◌, length, Option, Some, Ok, Err, Result, refl, sym, ap, subst, ◌∙◌, arith}
 use Rattle.std.specs.Prelude.{All, OnOk, OnErr, slice_get, slice_index_or}
 use Rattle.std.specs.List.{AllZip}
 use Rattle.std.specs.Option.{ForSome}
-use Rattle.std.proofs.lemmas.List.{map-set, length-map, length-set}
+use Rattle.std.proofs.lemmas.List.{map-set, length-map}
 use Rattle.std.proofs.lemmas.List.Elements.{All-append}
 use Rattle.std.proofs.lemmas.Option.{get_or_from_slice_get, slice_get_within}
 use Rattle.std.proofs.lemmas.Slice.Zip.{AllZip-long}
@@ -66,10 +66,12 @@ told_one held lines faults now then table given k line answer is at comes rose =
     let all = map told_seen table in
     let told = told_seen answer in
     subst (λ l. IsUnderWay held lines faults then l given) (sym (map-set told_seen table k answer)) (record {
-      each = placed held lines all k line told is.each at comes;
+      done = record {
+        each = placed held lines all k line told is.done.each at comes;
+        counted = counted_less (lost_jobs all + lost_one told.status) (lost_jobs (set all k told)) faults faults then (lost_set all k told) (omega arith)
+            (counted_both (lost_jobs all) (lost_one told.status) faults now then is.done.counted rose);
+      };
       given_fit = is.given_fit;
-      counted = counted_less (lost_jobs all + lost_one told.status) (lost_jobs (set all k told)) faults faults then (lost_set all k told) (omega arith)
-          (counted_both (lost_jobs all) (lost_one told.status) faults now then is.counted rose);
     })
 
 -- jobs that stand as undone lost no file
@@ -91,13 +93,18 @@ each_undone held (l ∷ ls) (o ∷ os) (t ∷ ts) says size all =
     ((says.0.job, says.0.is_job, inr (inr (all zero t (omega arith)))), each_undone held ls os ts says.1 (omega arith) (λ k d b. all (suc k) d (omega arith)))
 
 -- nothing is done yet
-pub undone_yet : (held : Option Contents) (lines : List Line) (asked : List (Option PlanOptions)) (faults : ℕ) (table : List Answer)
-    → AllZip SaysJob lines asked → length table ≡ length asked → All (λ a. LacksMemory (told_seen a)) table → IsUnderWay held lines faults faults (map told_seen table) []
-undone_yet held lines asked faults table says size all = record {
-  each = each_undone held lines asked table says size all;
+undone_yet : (held : Option Contents) (lines : List Line) (asked : List (Option PlanOptions)) (faults : ℕ) (items : List Answer)
+    → AllZip SaysJob lines asked → length items ≡ length asked → All (λ a. LacksMemory (told_seen a)) items → IsUnderWay held lines faults faults (map told_seen items) []
+undone_yet held lines asked faults items says size all = record {
+  done = record { each = each_undone held lines asked items says size all; counted = let z = lost_undone items all in omega arith };
   given_fit = λ k d b. absurd (omega arith);
-  counted = let z = lost_undone table all in omega arith;
 }
+
+-- the same of a table that has these items, and of a team that was given nothing
+pub begins : (held : Option Contents) (lines : List Line) (asked : List (Option PlanOptions)) (faults : ℕ) (items table : List Answer) (team : List BuiltJob)
+    → AllZip SaysJob lines asked → length items ≡ length asked → All (λ a. LacksMemory (told_seen a)) items → table ≡ items → team ≡ [] → IsUnderWay held lines faults faults (map told_seen table) team
+begins held lines asked faults items table team says size all same none =
+    subst (λ t. IsUnderWay held lines faults faults (map told_seen t) team) (sym same) (subst (IsUnderWay held lines faults faults (map told_seen items)) (sym none) (undone_yet held lines asked faults items says size all))
 
 -- the line of a job
 pub line_at : {X : Type 0} (v : X → Option PlanOptions) (lines : List Line) (jobs : List X) (k : ℕ) (x : X) → AllZip SaysJob lines (map v jobs) → k < length jobs → x ≡ slice_index_or jobs k x
@@ -112,7 +119,10 @@ line_at v (l ∷ ls) (j ∷ js) (suc k) x says b e = line_at v ls js k x says.1 
 -- a job is given to the team
 pub given_one : (held : Option Contents) (lines : List Line) (faults now then : ℕ) (all : List Told) (given more : List BuiltJob)
     → IsUnderWay held lines faults now all given → now ≤ then → All (FitsLine held lines) more → IsUnderWay held lines faults then all more
-given_one held lines faults now then all given more is later fit = record { each = is.each; given_fit = fit; counted = let c = is.counted in omega arith }
+given_one held lines faults now then all given more is later fit = record {
+  done = record { each = is.done.each; counted = let c = is.done.counted in omega arith };
+  given_fit = fit;
+}
 
 -- what holds of one
 only : (P : BuiltJob → Type 0) (x : BuiltJob) → P x → All P (x ∷ [])
@@ -167,5 +177,5 @@ found_within held lines faults then table given all is zip = λ k d b f e.
     let of = subst (IsFoundOf given) e (found_all given all zip k d b) in
     let line = found_line held lines given f is.given_fit of in
     let below = slice_get_within lines f.number line.0 line.1 in
-    let size = AllZip-long (LineComesTo held) lines (map told_seen table) is.each in
+    let size = AllZip-long (LineComesTo held) lines (map told_seen table) is.done.each in
     let same = length-map table told_seen in omega arith

@@ -1,5 +1,5 @@
 -- A job whose design is built, and what its search comes to.
-use Rattle.std.specs.Prelude.{◌≡◌, ⊤, ℕ, List, [], Option, None, Some}
+use Rattle.std.specs.Prelude.{◌≡◌, ⊤, List, [], Option, None, Some}
 use Rattle.sf_io.specs.Outside.{Contents}
 use Rattle.sf_lex.specs.Scan.{Line}
 use Rattle.sf_model.specs.Legal.{block_count}

@@ -27,8 +27,12 @@ IsCounted faults faults_then (begun.Built job) = ⊤
 abbrev pub FitsLine : Option Contents → List Line → BuiltJob → Type 0
 FitsLine held lines job = (line : Line) × (slice_get lines job.number ≡ Some line) × StandsFor held line job
 
--- each line has what it comes to, each job that the team was given stands for its line, and the lost jobs are no more than the loads that failed
-pub record IsUnderWay (held : Option Contents) (lines : List Line) (faults faults_then : ℕ) (all : List Told) (given : List BuiltJob) : Type 0 where
+-- each line has what it comes to, and the jobs that lost a file are no more than the loads that failed
+pub record AreDone (held : Option Contents) (lines : List Line) (faults faults_then : ℕ) (all : List Told) : Type 0 where
   pub each : AllZip (LineComesTo held) lines all
-  pub given_fit : All (FitsLine held lines) given
   pub counted : RoseBy (lost_jobs all) faults faults_then
+
+-- so it is at every moment, since a job may always end for want of memory; and each job that the team was given stands for its line
+pub record IsUnderWay (held : Option Contents) (lines : List Line) (faults faults_then : ℕ) (all : List Told) (given : List BuiltJob) : Type 0 where
+  pub done : AreDone held lines faults faults_then all
+  pub given_fit : All (FitsLine held lines) given

@@ -1,10 +1,9 @@
 //! Answers that no search gives.
 
-ghost use Rattle.std.specs.Prelude.{◌≡◌, ◌⊎◌, []};
+ghost use Rattle.std.specs.Prelude.{◌≡◌, ◌⊎◌};
 ghost use Rattle.sf_jobs.specs.Seen.{told_seen};
 ghost use Rattle.sf_program.specs.Answer.{usage_line};
-ghost use Rattle.sf_batch.specs.Alone.{LacksMemory, silent};
-ghost use Rattle.sf_batch.specs.Alone.{told_of};
+ghost use Rattle.sf_batch.specs.Alone.{LacksMemory, silent, told_of};
 
 use sf_io::Status;
 use sf_jobs::Answer;

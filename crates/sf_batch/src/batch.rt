@@ -16,13 +16,11 @@ use std::sync::{Arc, Wait};
 use std::thread::Threads;
 
 /// What the words are answered, before anything is printed.
-fn answer<R: Threads + Wait + Sync + Copy + Send + 'static, S: Shelf, G: Gate + Drop + Send + 'static>(
-    rt: &R,
-    alloc: Global,
-    words: &[String],
-    shelf: &mut S,
-    gate: Arc<G>,
-) -> Answer
+fn answer<
+    R: Threads + Wait + Sync + Copy + Send + 'static,
+    S: Shelf,
+    G: Gate + Drop + Send + 'static,
+>(rt: &R, alloc: Global, words: &[String], shelf: &mut S, gate: Arc<G>) -> Answer
     ensures answer { BatchAnswers (map string_bytes words.now)
         (S.seen shelf.old) (S.seen shelf.new) result.status result.text.items }
     ensures reads { Reads (S.seen shelf.old) (S.seen shelf.new) }
@@ -38,14 +36,12 @@ fn answer<R: Threads + Wait + Sync + Copy + Send + 'static, S: Shelf, G: Gate + 
 
 /// Plans the designs of a jobs file with a team of threads, prints what each job prints alone, in the order of
 /// the jobs, and says how the batch ended. The words are those after the program's name.
-pub fn run_batch<R: Threads + Wait + Sync + Copy + Send + 'static, S: Shelf, K: Sink, G: Gate + Drop + Send + 'static>(
-    rt: &R,
-    alloc: Global,
-    words: &[String],
-    shelf: &mut S,
-    out: &mut K,
-    gate: Arc<G>,
-) -> Status
+pub fn run_batch<
+    R: Threads + Wait + Sync + Copy + Send + 'static,
+    S: Shelf,
+    K: Sink,
+    G: Gate + Drop + Send + 'static,
+>(rt: &R, alloc: Global, words: &[String], shelf: &mut S, out: &mut K, gate: Arc<G>) -> Status
     // The answer is printed whole: each job's text as the job prints it alone, in the order of the jobs, or
     // the one line of words or a jobs file that are refused, or nothing.
     ensures answer { result ≢ Status.WriteFault → (printed : List ℕ)

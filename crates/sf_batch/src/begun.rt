@@ -1,6 +1,6 @@
 //! How a job begins: its files are read and its design is built, or it is refused.
 
-ghost use Rattle.std.specs.Prelude.{◌≡◌, option_map};
+ghost use Rattle.std.specs.Prelude.{option_map};
 ghost use Rattle.sf_lex.specs.Scan.{Line};
 ghost use Rattle.sf_words.specs.Seen.{plan_seen};
 ghost use Rattle.sf_jobs.specs.Job.{SaysJob};

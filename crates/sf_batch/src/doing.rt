@@ -1,6 +1,6 @@
 //! Doing all jobs of a jobs file with a team of threads.
 
-ghost use Rattle.std.specs.Prelude.{◌≡◌, ◌≤◌, ◌<◌, ◌++◌, ℕ, List, All, length, map, option_map, IfOk, IfSome, Option};
+ghost use Rattle.std.specs.Prelude.{◌≡◌, ◌<◌, ℕ, List, All, length, map, option_map, IfOk, Option};
 ghost use Rattle.std.specs.List.{AllZip};
 ghost use Rattle.std.specs.Option.{ForSome};
 ghost use Rattle.sf_io.specs.Outside.{Contents};
@@ -10,10 +10,9 @@ ghost use Rattle.sf_jobs.specs.Job.{SaysJob};
 ghost use Rattle.sf_jobs.specs.Seen.{told_seen};
 ghost use Rattle.sf_program.specs.Loads.{Reads};
 ghost use Rattle.sf_batch.specs.declared.job.BuiltJob.{BuiltJob};
-ghost use Rattle.sf_batch.specs.Alone.{LacksMemory, LineComesTo};
-ghost use Rattle.sf_batch.specs.Batch.{RoseBy, lost_jobs};
+ghost use Rattle.sf_batch.specs.Alone.{LacksMemory};
 ghost use Rattle.sf_batch.specs.Built.{IsFound};
-ghost use Rattle.sf_batch.specs.Progress.{FitsLine, IsUnderWay};
+ghost use Rattle.sf_batch.specs.Progress.{AreDone, FitsLine, IsUnderWay};
 
 use crate::answers::silent;
 use crate::begun::{Begun, begin_job};
@@ -92,7 +91,11 @@ fn note_found(table: &mut [Answer], mut all: Vec<Option<FoundJob>>)
 }
 
 /// What each job comes to, in the order of the jobs.
-pub fn do_jobs<R: Threads + Wait + Sync + Copy + Send + 'static, S: Shelf, G: Gate + Drop + Send + 'static>(
+pub fn do_jobs<
+    R: Threads + Wait + Sync + Copy + Send + 'static,
+    S: Shelf,
+    G: Gate + Drop + Send + 'static,
+>(
     rt: &R,
     alloc: Global,
     jobs: &[Option<PlanWords<'_>>],
@@ -102,19 +105,19 @@ pub fn do_jobs<R: Threads + Wait + Sync + Copy + Send + 'static, S: Shelf, G: Ga
 ) -> Result<Vec<Answer>, NoMemory>
     requires team { 0 < team }
     requires lines { (lines : List Line) × AllZip SaysJob lines (map (option_map plan_seen) jobs.now) }
-    ensures each { (lines : List Line) → AllZip SaysJob lines (map (option_map plan_seen) jobs.now) →
-        IfOk result (λ all. AllZip (LineComesTo (S.seen shelf.old).holds) lines (map told_seen all.items)) }
-    ensures counted { IfOk result (λ all.
-        RoseBy (lost_jobs (map told_seen all.items)) (S.seen shelf.old).load_faults (S.seen shelf.new).load_faults) }
+    ensures done { (lines : List Line) → AllZip SaysJob lines (map (option_map plan_seen) jobs.now) →
+        let first = S.seen shelf.old in IfOk result (λ all.
+        AreDone first.holds lines first.load_faults (S.seen shelf.new).load_faults (map told_seen all.items)) }
     ensures reads { Reads (S.seen shelf.old) (S.seen shelf.new) }
 {
     let mut table = undone(alloc, jobs.len())?;
     let worker = *rt;
-    let does = Arc::new(alloc, move |job: &BuiltJob| -> Option<FoundJob>
-        ensures { IsFound job.now result }
-    {
-        search_job(&worker, alloc, job, &*gate)
-    })?;
+    let does = Arc::new(
+        alloc,
+        move |job: &BuiltJob| -> Option<FoundJob>
+            ensures { IsFound job.now result }
+        { search_job(&worker, alloc, job, &*gate) },
+    )?;
     let mut team = start_team::<R, BuiltJob, FoundJob, Searched, _>(*rt, alloc, &does, team)?;
     begin_all(rt, alloc, jobs, shelf, &mut team, &mut table);
     let found = team.finish(rt, &*does);

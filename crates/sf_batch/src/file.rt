@@ -1,6 +1,6 @@
 //! The answer to a jobs file.
 
-ghost use Rattle.std.specs.Prelude.{◌≡◌, ◌<◌, ℕ, List, Ok, Err, IfOk, IfErr, map, option_map};
+ghost use Rattle.std.specs.Prelude.{◌<◌, ℕ, List, Ok, Err, IfOk, IfErr, map, option_map};
 ghost use Rattle.sf_words.specs.Seen.{plan_seen};
 ghost use Rattle.sf_jobs.specs.Jobs.{JobsRefused};
 ghost use Rattle.sf_program.specs.Loads.{IsNoLoad, ReadsShelf, TellsNoLoad};
@@ -42,7 +42,11 @@ fn parse_jobs(alloc: Global, text: &[u8]) -> Result<Vec<Option<PlanWords<'_>>>, 
 }
 
 /// What the jobs of this text come to.
-fn answer_text<R: Threads + Wait + Sync + Copy + Send + 'static, S: Shelf, G: Gate + Drop + Send + 'static>(
+fn answer_text<
+    R: Threads + Wait + Sync + Copy + Send + 'static,
+    S: Shelf,
+    G: Gate + Drop + Send + 'static,
+>(
     rt: &R,
     alloc: Global,
     text: &[u8],
@@ -65,13 +69,11 @@ fn answer_text<R: Threads + Wait + Sync + Copy + Send + 'static, S: Shelf, G: Ga
 }
 
 /// What the jobs file comes to that the words name.
-pub fn answer_file<R: Threads + Wait + Sync + Copy + Send + 'static, S: Shelf, G: Gate + Drop + Send + 'static>(
-    rt: &R,
-    alloc: Global,
-    words: &TeamWords<'_>,
-    shelf: &mut S,
-    gate: Arc<G>,
-) -> Result<Answer, Stop>
+pub fn answer_file<
+    R: Threads + Wait + Sync + Copy + Send + 'static,
+    S: Shelf,
+    G: Gate + Drop + Send + 'static,
+>(rt: &R, alloc: Global, words: &TeamWords<'_>, shelf: &mut S, gate: Arc<G>) -> Result<Answer, Stop>
     ensures batch { IfOk result (λ a. (text : List ℕ)
         × TextRead (S.seen shelf.old).holds words.now.jobs.now (Ok text)
         × IsBatch (S.seen shelf.old) (S.seen shelf.new) text a.status a.text.items) }

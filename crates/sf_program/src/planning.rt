@@ -34,7 +34,11 @@ use std::alloc::{AllocError as NoMemory, Global};
 use std::thread::Threads;
 
 /// The design for which the named files stand, where the budget is within its limit.
-pub fn read_plan<S: Shelf>(alloc: Global, shelf: &mut S, words: &PlanWords<'_>) -> Result<Design, Stop>
+pub fn read_plan<S: Shelf>(
+    alloc: Global,
+    shelf: &mut S,
+    words: &PlanWords<'_>,
+) -> Result<Design, Stop>
     ensures design { Ends (λ x. x) result (PlanDesign (S.seen shelf.old).holds (plan_seen words.now)) }
     ensures shelf { ReadsShelf (S.seen shelf.old) (S.seen shelf.new) result }
 {

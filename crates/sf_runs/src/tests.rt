@@ -1,5 +1,6 @@
 //! Whole runs over a shelf and a sink in memory, as tables of what is given and what is answered.
 
+mod batch;
 mod bounds;
 mod by_bytes;
 mod checking;

@@ -2,7 +2,7 @@
 //! the batch program.
 
 use sf_io::Status;
-use sf_jobs::{JobsFault, Answer, batch_status, batch_text, read_jobs, read_team_words};
+use sf_jobs::{Answer, JobsFault, batch_status, batch_text, read_jobs, read_team_words};
 use sf_words::InputFiles;
 use std::alloc::{AllocError, Global};
 use std::test::Fail;

@@ -1,6 +1,5 @@
-use Rattle.std.proofs.Common.{refl, sym, subst, option_map, Some}
+use Rattle.std.proofs.Common.{refl, sym, subst}
 use Rattle.sf_words.specs.Seen.{plan_seen}
-use Rattle.sf_jobs.specs.Job.{SaysJob}
 use Rattle.sf_jobs.specs.Seen.{told_seen}
 use Rattle.sf_batch.specs.Alone.{LineComesTo}
 use Rattle.sf_batch.proofs.Coming.{meaningless, stopped, built}

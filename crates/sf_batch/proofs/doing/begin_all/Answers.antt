@@ -4,7 +4,6 @@ use Rattle.sf_words.specs.Seen.{plan_seen}
 use Rattle.sf_jobs.specs.Seen.{told_seen}
 use Rattle.sf_batch.specs.Alone.{LineComesTo}
 use Rattle.sf_batch.specs.Built.{StandsFor}
-use Rattle.sf_batch.specs.Progress.{IsUnderWay}
 use Rattle.sf_batch.proofs.Counts.{counted_one}
 use Rattle.sf_batch.proofs.Reading.{reads_both}
 use Rattle.sf_batch.proofs.Tables.{given_one, line_at, told_one}

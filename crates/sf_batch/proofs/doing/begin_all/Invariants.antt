@@ -14,5 +14,5 @@ invariant-loop-number g l =
     let seen = g.S.Shelf.seen l.shelf in
     Reads first seen
     × ((lines : List Line) (faults : ℕ) → AllZip SaysJob lines (map (option_map plan_seen) l.jobs)
-        → IsUnderWay first.holds lines faults first.load_faults (map told_seen l.fn.table) l.fn.team
-        → IsUnderWay first.holds lines faults seen.load_faults (map told_seen l.table) l.team)
+    → IsUnderWay first.holds lines faults first.load_faults (map told_seen l.fn.table) l.fn.team
+    → IsUnderWay first.holds lines faults seen.load_faults (map told_seen l.table) l.team)

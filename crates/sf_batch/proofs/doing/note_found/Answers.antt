@@ -1,4 +1,4 @@
-use Rattle.std.proofs.Common.{◌<◌, arith, length, subst, sym}
+use Rattle.std.proofs.Common.{◌<◌, arith, length, subst}
 use Rattle.std.specs.Prelude.{Some}
 use Rattle.std.specs.Option.{ForSome}
 use Rattle.std.proofs.lemmas.List.{length-set}

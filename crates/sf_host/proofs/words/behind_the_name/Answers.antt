@@ -3,7 +3,7 @@ use Rattle.std.specs.Vec.Iter.{into_iter_items}
 use Rattle.std.proofs.lemmas.Iterator.{items_from_collect}
 use Rattle.std.proofs.lemmas.Iterator.Adapters.{YieldsList-from_skip, YieldsList-from_vec}
 use Rattle.std.proofs.lemmas.Iterator.Consumers.{YieldsList-at}
-use Rattle.floorplan.proofs.behind_the_name.Goals as goal
+use Rattle.sf_host.proofs.words.behind_the_name.Goals as goal
 
 pub returns : goal.returns
 returns c =
