@@ -3,7 +3,9 @@
 //! one after another, each of which gives a value or the refusal that ends the call; what is stored and
 //! printed is made before anything is stored. The program crate, which holds `main` alone, uses the clauses
 //! of `run`: the answer that the words and the texts on the shelf have is stored and printed whole, a fault
-//! is told only where one was counted, and where something failed it is said what was stored and printed.
+//! is told only where one was counted, and where something failed it is said what was stored and printed. The
+//! batch program uses the stages of `plan` by themselves: `read_plan`, which gives a design or the reason why
+//! there is none, and `search_design`, which searches one and makes its texts.
 #![tactic(auto)]
 
 mod answering;
