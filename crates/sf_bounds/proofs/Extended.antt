@@ -1,16 +1,9 @@
--- Children by extending: each is one token more.
+-- Children by a block: they keep the standard bound of their parent.
 use Rattle.std.proofs.Common.{◌≡◌, ℕ, List, [], ◌∷◌, ◌++◌, length, ap, sym, subst, ◌∙◌, false, ◌-◌, refl, arith, length-append}
-use Rattle.sf_bounds.proofs.Common.{slice_get, Contains, Some, Contains-append_right, Design, Parts, is_complete, IsSubproblem, CanStep, after, step_of, next_tokens, extended, next-can, after-subproblem, steps-after, Contains-head, standard, Contains-from_map, each-contains, block_keeps}
+use Rattle.sf_bounds.proofs.Common.{slice_get, Some, Design, Parts, is_complete, CanStep, after, steps-after, standard, block_keeps}
 use Rattle.sf_node.specs.declared.step.Step.{Step}
 use Rattle.sf_node.specs.declared.step.Step.TheVariants.{Block}
 use Rattle.sf_node.specs.Later.{IsChildOf}
-
--- a child by extending, between others, with its parent's value
-pub child_born : (design : Design) (bound : Parts → ℕ) (value : ℕ) (parent : Parts) (before : List Parts) (child : Parts) (behind : List Parts) → IsSubproblem design parent → value ≡ bound parent → before ++ child ∷ behind ≡ extended parent → IsChildOf design bound value child
-child_born design bound value parent before child behind sub worth e =
-    let c : Contains (extended parent) child = subst (λ v. Contains v child) e (Contains-append_right before (child ∷ behind) child (Contains-head child behind)) in
-    let k = Contains-from_map (λ t. after parent (step_of t)) (next_tokens parent) child c in
-    record { parent = parent; step = step_of k.0; sub = sub; can = each-contains (λ t. CanStep parent (step_of t)) (next_tokens parent) k.0 (next-can parent) k.1; is = sym k.2; worth = worth }
 
 -- the last place of a list holds what was put behind the others
 get-last : {X : Type 0} (xs : List X) (x : X) (i : ℕ) → i ≡ length xs → slice_get (xs ++ x ∷ []) i ≡ Some x
@@ -18,10 +11,6 @@ get-last [] x i e = ap (slice_get (x ∷ [])) e
 get-last (y ∷ xs) x i e = ap (slice_get (y ∷ (xs ++ x ∷ []))) e ∙ get-last xs x (length xs) refl
 
 module _ (design : Design) (bound : Parts → ℕ) (value : ℕ) (child : Parts) (c : IsChildOf design bound value child) where
-  -- the child is a subproblem
-  pub child_of : IsSubproblem design child
-  child_of = subst (IsSubproblem design) (sym c.is) (after-subproblem design c.parent c.step c.sub c.can)
-
   -- the last step of the child is the one by which it came
   last_step : (steps : List Step) (s : Step) → steps ≡ child.steps → Some s ≡ slice_get steps (length steps - 1) → c.step ≡ s
   last_step steps s e k =

@@ -1,26 +1,5 @@
 mod Common
-pub mod Building
-pub mod Folded
-pub mod UnusedCurves
-pub mod Leasts
-pub mod AreaLink
-pub mod OpenValue
-pub mod ToNat
-pub mod Shifting
-pub mod ModestExtents
-pub mod LaidTokens
-pub mod SeatTable
-pub mod PinLoops
-pub mod Meeting
-pub mod Pairing
-pub mod Ranges
-pub mod ReadyLayout
-pub mod Hulls
-pub mod NetParts
-pub mod OnlyPlan
 pub mod Extended
-pub mod LeastArea
-pub mod OnePlan
 pub mod Shares
 pub mod RowLaws
 pub mod Weights
@@ -30,4 +9,3 @@ pub mod NetRows
 pub mod NetStarted
 pub mod NetTotal
 pub mod PartCosts
-pub mod PartSums

@@ -4,10 +4,10 @@ use Rattle.sf_bounds.proofs.Common.{sum_by, range_with_len, get_or-append_right,
 use Rattle.sf_polish.specs.declared.expr.Token.TheVariants as token
 use Rattle.sf_standard.specs.Items as item
 use Rattle.sf_curves.specs.declared.direction.Direction.TheVariants.{Beside, Above}
-use Rattle.sf_bounds.proofs.LaidTokens.{few-numbers}
+use Rattle.sf_nets.proofs.LaidTokens.{few-numbers}
 use Rattle.sf_bounds.proofs.NetKept.{stored-appended, frame-pushed}
 use Rattle.sf_bounds.proofs.RowLaws.{row-hull, row-joined, pushed-near}
-use Rattle.sf_bounds.proofs.ModestExtents.{joined-length, item-small}
+use Rattle.sf_nets.proofs.ModestExtents.{joined-length, item-small}
 use Rattle.sf_bounds.proofs.Weights.{weight-at}
 
 -- the extent of a block in its whole span has no side beyond the limit

@@ -6,7 +6,7 @@ use Rattle.sf_model.specs.declared.parts.Pin.TheVariants as pin
 use Rattle.sf_standard.specs.Items as item
 use Rattle.sf_bounds.proofs.NetKept.{row-moves}
 use Rattle.sf_bounds.proofs.NetPushed.{whole-small}
-use Rattle.sf_bounds.proofs.PinLoops.{near_pad, near_met, near_anywhere}
+use Rattle.sf_nets.proofs.PinLoops.{near_pad, near_met, near_anywhere}
 use Rattle.sf_bounds.proofs.RowLaws.{row-near, homes-x, homes-y}
 use Rattle.sf_bounds.proofs.Weights.{one-counts, sum-of_weight}
 use Rattle.sf_bounds.proofs.Shares.{interval}

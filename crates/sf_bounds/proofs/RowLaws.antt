@@ -5,9 +5,9 @@ use Rattle.sf_bounds.proofs.Common.{fold, AllByRecursion, ints, map-append, appe
 use Rattle.sf_model.specs.declared.parts.Pin.TheVariants as pin
 use Rattle.sf_standard.specs.Items as item
 use Rattle.sf_curves.specs.declared.direction.Direction.TheVariants.{Beside, Above}
-use Rattle.sf_bounds.proofs.Meeting.{gap-shared}
+use Rattle.sf_nets.proofs.Meeting.{gap-shared}
 use Rattle.sf_bounds.proofs.Shares.{interval, moved, IsHome, home-near, share-append, share-moved, near-share}
-use Rattle.sf_bounds.proofs.ModestExtents.{IsSmallOffset, offsets-small}
+use Rattle.sf_nets.proofs.ModestExtents.{IsSmallOffset, offsets-small}
 
 -- the places of the pins' blocks in two lists together are those in the first and then those in the second
 pins-append : (pins : List Pin) (xs ys : List Offset) → of_pins pins (xs ++ ys) ≡ of_pins pins xs ++ of_pins pins ys

@@ -49,12 +49,6 @@ weight-at nets j d lt = get_or-map (λ n. n.weight) (of_weight nets) j d 0 lt
 pub weighed-inside : (design : Design) (j : ℕ) (d : Net) → j < length (weighed_nets design) → IsNet design (get_or (weighed_nets design) j d).pins
 weighed-inside design j d lt = All-filter (λ n. nat_lt 0 n.weight) (λ n. IsNet design n.pins) design.nets (λ i e h. (design.limits.pins i e h).in_range) j d lt
 
--- a part as often as a weight says is not too great
-pub weighed_small : (weight part : ℕ) → weight < 256 → part ≤ 2800000000 → weight * part ≤ 714000000000
-weighed_small weight part light h =
-    let w : weight ≤ 255 = omega (arith, light) in
-    mul-le-mul w h
-
 -- a sum over numbers, with one more
 pub sum-more : (f : ℕ → ℕ) (a n : ℕ) → sum_by f (range_with_len a (n + 1)) ≡ sum_by f (range_with_len a n) + f (a + n)
 sum-more f a zero =

@@ -1,10 +1,3 @@
-pub mod Cheapest
-pub mod Serving
-pub mod Curves
-pub mod Layout
-pub mod Least
-pub mod Ends
-pub mod Only
+pub mod Memory
 pub mod Open
-pub mod Pins
 pub mod Rows

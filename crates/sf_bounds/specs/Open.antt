@@ -1,12 +1,11 @@
 -- How the code goes, and nothing that the crate promises: what the area and the wires of a subproblem cost.
-use Rattle.std.specs.Prelude.{◌≡◌, ℕ, ◌+◌, ◌*◌, ◌^◌, ◌<◌, ◌≤◌, Option, MatchOption}
+use Rattle.std.specs.Prelude.{◌≡◌, ℕ, ◌+◌, ◌*◌, ◌^◌, ◌<◌, Option, MatchOption}
 use Rattle.sf_model.specs.declared.design.Design.{Design}
 use Rattle.sf_model.specs.declared.TheConstants.{MAX}
-use Rattle.sf_node.specs.declared.part.Part.{Part}
-use Rattle.sf_node.specs.declared.part.Part.TheVariants.{Range, Pair, Hull, Full}
 use Rattle.sf_node.specs.Parts.{Parts}
 use Rattle.sf_standard.specs.Standard.{wires_by, plans_of, bounded, AllHavePlans}
-use Rattle.sf_bounds.specs.declared.wire_parts.WireParts.{WireParts}
+use Rattle.sf_nets.specs.declared.wire_parts.WireParts.{WireParts}
+use Rattle.sf_nets.specs.WireParts.{AreAtMost, AreByPart}
 
 -- what the area costs at least where each item and each unused block has a plan and they have room: the value is that with what the wires cost
 pub record IsAreaCost (design : Design) (node : Parts) (v : ℕ) : Type 0 where
@@ -18,25 +17,7 @@ pub record IsAreaCost (design : Design) (node : Parts) (v : ℕ) : Type 0 where
 abbrev pub IsAreaCostOrNone : Design → Parts → Option ℕ → Type 0
 IsAreaCostOrNone design node found = MatchOption found ((wires : ℕ) → bounded design wires (plans_of design node) ≡ MAX) (IsAreaCost design node)
 
--- the numbers that belong to the parts with wires
-pub record AreByPart (f : Part → ℕ) (w : WireParts) : Type 0 where
-  pub range : w.range ≡ f Range
-  pub pair : w.pair ≡ f Pair
-  pub hull : w.hull ≡ f Hull
-  pub full : w.full ≡ f Full
-
--- what the wires take at least by each part of the bound
-abbrev pub AreWireParts : Design → Parts → WireParts → Type 0
-AreWireParts design node w = AreByPart (wires_by design node) w
-
--- none of them is greater
-pub record AreAtMost (most : ℕ) (w : WireParts) : Type 0 where
-  pub range : w.range ≤ most
-  pub pair : w.pair ≤ most
-  pub hull : w.hull ≤ most
-  pub full : w.full ≤ most
-
--- what they cost
+-- what the wires cost by each part of the bound
 pub record AreWireCosts (design : Design) (node : Parts) (w : WireParts) : Type 0 where
   pub values : AreByPart (λ part. design.weights.wire * wires_by design node part) w
   pub small : AreAtMost (2 ^ 63) w

@@ -30,9 +30,9 @@ use Rattle.sf_bounds.specs.declared.net_frame.Cell.{Cell}
 use Rattle.sf_bounds.specs.declared.net_frame.NetFrame.{NetFrame}
 use Rattle.sf_bounds.specs.declared.net_frame.Nets.{Nets}
 use Rattle.sf_bounds.specs.declared.net_frame.Wires.{Wires}
-use Rattle.sf_bounds.specs.declared.reach.Reach.{Reach}
-use Rattle.sf_bounds.specs.Pins.{pad_reach}
-use Rattle.sf_bounds.specs.Ends.{IsFitReach, shared, met, endless, anywhere, reach_gap}
+use Rattle.sf_nets.specs.declared.reach.Reach.{Reach}
+use Rattle.sf_nets.specs.Pins.{pad_reach}
+use Rattle.sf_nets.specs.Ends.{IsFitReach, shared, met, endless, anywhere, reach_gap}
 
 -- the pins that count: none where they are fewer than two
 abbrev pub counted : List Pin → List Pin

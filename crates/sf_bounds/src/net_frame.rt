@@ -1,7 +1,7 @@
 //! What is kept of the nets along a path.
 
-use crate::reach::Reach;
 use sf_curves::Direction;
+use sf_nets::Reach;
 use sf_polish::Token;
 use sf_standard::Extent;
 

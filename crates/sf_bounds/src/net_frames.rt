@@ -1,10 +1,11 @@
 //! The frames of nets along the path that was measured last.
 
 ghost use Rattle.std.specs.Prelude.{◌≡◌, length, is_some, true, IfOk, IfSome, OnOk};
+ghost use Rattle.sf_model.specs.declared.design.Design.{Design as DesignValue};
 ghost use Rattle.sf_node.specs.declared.part.Part.TheVariants.{Range, Pair};
 ghost use Rattle.sf_node.specs.Children.{IsSubproblem};
 ghost use Rattle.sf_standard.specs.Standard.{wires_by};
-ghost use Rattle.sf_bounds.specs.Open.{AreWireParts};
+ghost use Rattle.sf_nets.specs.WireParts.{AreWireParts};
 ghost use Rattle.sf_bounds.specs.Rows.{AreKeptOrNone, AreFirst, IsEnding, framed, changed};
 
 use crate::net_back::back_to;
@@ -12,9 +13,8 @@ use crate::net_frame::{Changing, Ending, Nets};
 use crate::net_push::extend;
 use crate::net_start::start;
 use crate::net_total::{ending_of, framed, steady_sums, total_by, total_parts};
-use crate::scratch::Scratch;
-use crate::wire_parts::WireParts;
 use sf_model::Design;
+use sf_nets::{Scratch, WireParts};
 use sf_node::{Node, Part};
 use std::alloc::AllocError as NoMemory;
 use std::marker::Model;
@@ -22,23 +22,20 @@ use std::marker::Model;
 /// How many cells are kept at most.
 const MOST_CELLS: usize = 1_000_000;
 
-/// What the nets take along the path that was measured last, for one design. A contract sees that design.
+/// What the nets take along the path that was measured last. A contract sees what is kept, which is of one
+/// design (`AreKeptOrNone`).
 #[derive(Drop)]
-pub struct NetFrames<'a> {
-    design: &'a Design,
+pub struct NetFrames {
     kept: Option<Nets>,
 }
 
-impl<'a> Model for NetFrames<'a> {
-    ghost use Rattle.sf_model.specs.declared.design.Design.{Design};
+impl Model for NetFrames {
+    ghost use Rattle.std.specs.Prelude.{Option};
+    ghost use Rattle.sf_bounds.specs.declared.net_frame.Nets.{Nets};
 
-    ghost Value = { Design };
+    ghost Value = { Option Nets };
 
-    ghost use Rattle.sf_bounds.specs.Rows.{AreKeptOrNone};
-
-    ghost view = { λ s. s.design.now };
-
-    ghost invariant = { λ s. AreKeptOrNone s.design.now s.kept };
+    ghost view = { λ s. s.kept };
 }
 
 /// Makes what holds before any token, which is done once for a design. It stands apart from what is done at
@@ -100,12 +97,12 @@ fn follow(
     Ok(Some(ending))
 }
 
-impl<'a> NetFrames<'a> {
-    /// No frame yet.
-    pub fn new(design: &'a Design) -> NetFrames<'a>
-        ensures { result ≡ design.now }
+impl NetFrames {
+    /// No frame yet, so that they are of any design.
+    pub fn new() -> NetFrames
+        ensures { (design : DesignValue) → AreKeptOrNone design result }
     {
-        NetFrames { design, kept: None }
+        NetFrames { kept: None }
     }
 
     /// What the wires of a subproblem take at least by each part of the bound. Or none, where a span is not
@@ -113,16 +110,17 @@ impl<'a> NetFrames<'a> {
     pub fn measure(
         &mut self,
         scratch: &mut Scratch,
+        design: &Design,
         node: &Node,
     ) -> Result<Option<WireParts>, NoMemory>
-        requires subproblem { IsSubproblem self.old node.now }
-        ensures measured { IfOk result (λ found. IfSome found (AreWireParts self.old node.now)) }
-        ensures same { self.new ≡ self.old }
+        requires subproblem { IsSubproblem design.now node.now }
+        requires kept { AreKeptOrNone design.now self.old }
+        ensures measured { IfOk result (λ found. IfSome found (AreWireParts design.now node.now)) }
+        ensures kept { AreKeptOrNone design.now self.new }
     {
         if node.steps().len() != node.tokens().len() {
             return Ok(None);
         }
-        let design = self.design;
         let Some(ending) = follow(&mut self.kept, scratch, design, node)? else {
             return Ok(None);
         };
@@ -136,17 +134,18 @@ impl<'a> NetFrames<'a> {
     fn measure_steady(
         &mut self,
         scratch: &mut Scratch,
+        design: &Design,
         node: &Node,
     ) -> Result<Option<(u64, u64)>, NoMemory>
-        requires subproblem { IsSubproblem self.old node.now }
+        requires subproblem { IsSubproblem design.now node.now }
+        requires kept { AreKeptOrNone design.now self.old }
         requires whole { length node.now.steps ≡ length node.now.tokens }
         ensures range { IfOk result (λ found. IfSome found (λ sums.
-            sums.0 ≡ wires_by self.old node.now Range)) }
+            sums.0 ≡ wires_by design.now node.now Range)) }
         ensures pair { IfOk result (λ found. IfSome found (λ sums.
-            sums.1 ≡ wires_by self.old node.now Pair)) }
-        ensures same { self.new ≡ self.old }
+            sums.1 ≡ wires_by design.now node.now Pair)) }
+        ensures kept { AreKeptOrNone design.now self.new }
     {
-        let design = self.design;
         if !fill(&mut self.kept, scratch, design)? {
             return Ok(None);
         }
@@ -161,16 +160,17 @@ impl<'a> NetFrames<'a> {
     fn measure_changing(
         &mut self,
         scratch: &mut Scratch,
+        design: &Design,
         node: &Node,
         part: Changing,
     ) -> Result<Option<u64>, NoMemory>
-        requires subproblem { IsSubproblem self.old node.now }
+        requires subproblem { IsSubproblem design.now node.now }
+        requires kept { AreKeptOrNone design.now self.old }
         requires whole { length node.now.steps ≡ length node.now.tokens }
         ensures measured { IfOk result (λ found. IfSome found (λ wires.
-            wires ≡ wires_by self.old node.now (changed part))) }
-        ensures same { self.new ≡ self.old }
+            wires ≡ wires_by design.now node.now (changed part))) }
+        ensures kept { AreKeptOrNone design.now self.new }
     {
-        let design = self.design;
         let Some(ending) = follow(&mut self.kept, scratch, design, node)? else {
             return Ok(None);
         };
@@ -184,29 +184,31 @@ impl<'a> NetFrames<'a> {
     pub fn measure_part(
         &mut self,
         scratch: &mut Scratch,
+        design: &Design,
         node: &Node,
         part: Part,
     ) -> Result<Option<u64>, NoMemory>
-        requires subproblem { IsSubproblem self.old node.now }
+        requires subproblem { IsSubproblem design.now node.now }
+        requires kept { AreKeptOrNone design.now self.old }
         ensures measured { IfOk result (λ found. IfSome found (λ wires.
-            wires ≡ wires_by self.old node.now part)) }
-        ensures same { self.new ≡ self.old }
+            wires ≡ wires_by design.now node.now part)) }
+        ensures kept { AreKeptOrNone design.now self.new }
     {
         if node.steps().len() != node.tokens().len() {
             return Ok(None);
         }
         match part {
             Part::Area => Ok(None),
-            Part::Range => match self.measure_steady(scratch, node)? {
+            Part::Range => match self.measure_steady(scratch, design, node)? {
                 Some((range, _)) => Ok(Some(range)),
                 None => Ok(None),
             },
-            Part::Pair => match self.measure_steady(scratch, node)? {
+            Part::Pair => match self.measure_steady(scratch, design, node)? {
                 Some((_, pair)) => Ok(Some(pair)),
                 None => Ok(None),
             },
-            Part::Hull => self.measure_changing(scratch, node, Changing::Hull),
-            Part::Full => self.measure_changing(scratch, node, Changing::Full),
+            Part::Hull => self.measure_changing(scratch, design, node, Changing::Hull),
+            Part::Full => self.measure_changing(scratch, design, node, Changing::Full),
         }
     }
 }

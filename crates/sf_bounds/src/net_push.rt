@@ -7,11 +7,11 @@ ghost use Rattle.sf_curves.specs.Direction.{token_in};
 ghost use Rattle.sf_frames.specs.Kept.{items_at, IsNext};
 ghost use Rattle.sf_bounds.specs.Rows.{AreKept, AreTop, AreWires};
 
-use crate::laying::joined_extent;
 use crate::net_frame::{BlockRow, NetFrame, Nets, Wires};
 use crate::net_rows::join_rows;
 use sf_curves::{Direction, operator};
 use sf_model::Design;
+use sf_nets::joined_extent;
 use sf_node::Node;
 use sf_polish::Token;
 use std::alloc::AllocError as NoMemory;

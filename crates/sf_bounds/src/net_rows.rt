@@ -2,15 +2,13 @@
 
 ghost use Rattle.std.specs.Prelude.{◌≡◌, ◌<◌, ◌≤◌, ◌+◌, ◌*◌, ◌++◌, ℕ, length, map, All, IfOk};
 ghost use Rattle.std.specs.List.{range_with_len};
-ghost use Rattle.sf_bounds.specs.Ends.{IsFitReach};
+ghost use Rattle.sf_nets.specs.Ends.{IsFitReach};
 ghost use Rattle.sf_bounds.specs.Rows.{pushed, pushed_reach, joined_reach, cell_of, joined_cell, cell_at};
 ghost use Rattle.sf_bounds.specs.Rows.{AreSums, AreSmall, IsFitCell, IsLonger};
 
-use crate::meet::{met, reach_gap};
 use crate::net_frame::{Cell, Wires};
-use crate::reach::Reach;
-use crate::wires::weighed;
 use sf_curves::Direction;
+use sf_nets::{Reach, met, reach_gap, weighed};
 use sf_standard::{Extent, Interval};
 use std::alloc::AllocError as NoMemory;
 

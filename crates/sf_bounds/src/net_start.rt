@@ -6,22 +6,17 @@ ghost use Rattle.sf_model.specs.Limits.{IsThere};
 ghost use Rattle.sf_node.specs.Subproblem.{root};
 ghost use Rattle.sf_standard.specs.Hull.{contains_pin};
 ghost use Rattle.sf_standard.specs.Standard.{weighed_part, wire_part};
-ghost use Rattle.sf_bounds.specs.Layout.{Tells};
-ghost use Rattle.sf_bounds.specs.Pins.{IsNet, IsLayout};
+ghost use Rattle.sf_bound.specs.Only.{Tells};
+ghost use Rattle.sf_nets.specs.Pins.{IsNet, IsLayout};
 ghost use Rattle.sf_bounds.specs.Rows.{counted, of_weight, weighed_nets, weights_of, whole_extent, own_reach};
 ghost use Rattle.sf_bounds.specs.Rows.{block_cell, with_pad, pads_share, start_cell};
 ghost use Rattle.sf_bounds.specs.Rows.{IsFitCell, AreBlockRows, AreKept};
 
-use crate::layout::Layout;
-use crate::meet::met;
 use crate::net_frame::{BlockRow, Cell, Nets, Wires};
-use crate::one_part::net_by;
-use crate::pins::pad_reach;
-use crate::reach::{ANYWHERE, Reach};
-use crate::scratch::Scratch;
-use crate::wires::{prepare, weighed};
-use crate::wires_by::all_wires;
 use sf_model::{Design, Net, Pin};
+use sf_nets::{
+    ANYWHERE, Layout, Reach, Scratch, all_wires, met, net_by, pad_reach, prepare, weighed,
+};
 use sf_node::{Node, Part};
 use sf_standard::{Extent, Interval};
 use std::alloc::{AllocError as NoMemory, Global};

@@ -1,19 +1,19 @@
 //! The values of the parts of the standard bound.
 
-ghost use Rattle.std.specs.Prelude.{◌≡◌, ◌≤◌, ◌*◌, ◌^◌, Some, IfOk};
+ghost use Rattle.std.specs.Prelude.{◌≡◌, ◌≤◌, ◌*◌, ◌^◌, IfOk};
 ghost use Rattle.sf_node.specs.Children.{IsSubproblem};
 ghost use Rattle.sf_node.specs.ByPart.{AreValues};
 ghost use Rattle.sf_standard.specs.Standard.{standard, part_value, wires_by, AllHavePlans};
-ghost use Rattle.sf_bounds.specs.Open.{AreWireParts, AreWireCosts};
-ghost use Rattle.sf_bounds.specs.Serving.{MayServe};
+ghost use Rattle.sf_nets.specs.WireParts.{AreWireParts};
+ghost use Rattle.sf_bounds.specs.Open.{AreWireCosts};
+ghost use Rattle.sf_bounds.specs.Memory.{IsMemoryOf};
+ghost use Rattle.sf_bounds.specs.Rows.{AreKeptOrNone};
 
 use crate::net_frames::NetFrames;
 use crate::room::Room;
-use crate::scratch::Scratch;
 use crate::value::area_cost;
-use crate::wire_parts::{self, WireParts};
-use crate::wires_by::{all_wires, wires_by};
 use sf_model::{Design, MAX};
+use sf_nets::{NO_WIRES, Scratch, WireParts, all_wires, wires_by};
 use sf_node::{Node, Part, PartValues};
 use sf_standard::{standard_is_open, wires_are_bounded};
 use std::alloc::AllocError as NoMemory;
@@ -45,14 +45,14 @@ fn wire_costs(
 ) -> Result<WireParts, NoMemory>
     requires subproblem { IsSubproblem design.now node.now }
     requires plans { AllHavePlans design.now node.now }
-    requires serves { nets.old ≡ design.now }
+    requires kept { AreKeptOrNone design.now nets.old }
     ensures costs { IfOk result (AreWireCosts design.now node.now) }
-    ensures serves { nets.new ≡ design.now }
+    ensures kept { AreKeptOrNone design.now nets.new }
 {
     if design.weights.wire == 0 {
-        return Ok(wire_parts::NONE);
+        return Ok(NO_WIRES);
     }
-    if let Some(wires) = nets.measure(scratch, node)? {
+    if let Some(wires) = nets.measure(scratch, design, node)? {
         return Ok(costs_of(wires, design, node));
     }
     let wires = all_wires(scratch, design, node)?;
@@ -71,18 +71,18 @@ fn wire_cost(
 ) -> Result<u64, NoMemory>
     requires subproblem { IsSubproblem design.now node.now }
     requires plans { AllHavePlans design.now node.now }
-    requires serves { nets.old ≡ design.now }
+    requires kept { AreKeptOrNone design.now nets.old }
     ensures cost { IfOk result (λ cost.
         cost ≡ design.now.weights.wire * wires_by design.now node.now part) }
     ensures small { IfOk result (λ cost. cost ≤ 2 ^ 63) }
-    ensures serves { nets.new ≡ design.now }
+    ensures kept { AreKeptOrNone design.now nets.new }
 {
     let weight = u64::from(design.weights.wire);
     if weight == 0 {
         return Ok(0);
     }
     wires_are_bounded();
-    if let Some(wires) = nets.measure_part(scratch, node, part)? {
+    if let Some(wires) = nets.measure_part(scratch, design, node, part)? {
         return Ok(weight * wires);
     }
     let wires = wires_by(scratch, design, node, part)?;
@@ -91,26 +91,22 @@ fn wire_cost(
 
 /// The value of the bound with those of the parts below it, all measured at once: from the area that is
 /// needed and the wires, at a solved subproblem too.
-pub fn all_values<'a>(
-    room: &mut Room<'a>,
-    design: &'a Design,
+pub fn all_values(
+    room: &mut Room,
+    design: &Design,
     node: &Node,
 ) -> Result<(u64, PartValues), NoMemory>
     requires subproblem { IsSubproblem design.now node.now }
-    requires serves { MayServe room.old design.now }
+    requires serves { IsMemoryOf design.now room.old }
     ensures value { IfOk result (λ v. v.0 ≡ standard design.now node.now) }
     ensures parts { IfOk result (λ v. AreValues (part_value design.now node.now) v.1) }
-    ensures serves { room.new ≡ Some design.now }
+    ensures serves { IsMemoryOf design.now room.new }
 {
     standard_is_open();
-    room.serve(design);
-    let Some(kept) = &mut room.kept else {
-        unreachable!()
-    };
-    let Some(area) = area_cost(&mut kept.frames, &mut room.scratch, design, node)? else {
+    let Some(area) = area_cost(&mut room.frames, &mut room.anew, design, node)? else {
         return Ok((MAX, all_alike(MAX)));
     };
-    let wires = wire_costs(&mut kept.nets, &mut room.scratch, design, node)?;
+    let wires = wire_costs(&mut room.nets, &mut room.scratch, design, node)?;
     let parts = PartValues {
         area,
         range: area + wires.range,
@@ -134,29 +130,25 @@ pub fn all_alike(value: u64) -> PartValues
 
 /// The value of one part, measured without the others: what the area and the wires cost by it, or the mark of
 /// no cost. That of the area looks at no net.
-pub fn part_value<'a>(
-    room: &mut Room<'a>,
-    design: &'a Design,
+pub fn part_value(
+    room: &mut Room,
+    design: &Design,
     node: &Node,
     part: Part,
 ) -> Result<u64, NoMemory>
     requires subproblem { IsSubproblem design.now node.now }
-    requires serves { MayServe room.old design.now }
+    requires serves { IsMemoryOf design.now room.old }
     ensures value { IfOk result (λ v. v ≡ part_value design.now node.now part) }
-    ensures serves { room.new ≡ Some design.now }
+    ensures serves { IsMemoryOf design.now room.new }
 {
     standard_is_open();
-    room.serve(design);
-    let Some(kept) = &mut room.kept else {
-        unreachable!()
-    };
-    let Some(area) = area_cost(&mut kept.frames, &mut room.scratch, design, node)? else {
+    let Some(area) = area_cost(&mut room.frames, &mut room.anew, design, node)? else {
         return Ok(MAX);
     };
     match part {
         Part::Area => Ok(area),
         Part::Range | Part::Pair | Part::Hull | Part::Full => {
-            let wires = wire_cost(&mut kept.nets, &mut room.scratch, design, node, part)?;
+            let wires = wire_cost(&mut room.nets, &mut room.scratch, design, node, part)?;
             Ok(area + wires)
         }
     }

@@ -1,58 +1,43 @@
 //! The memory of one worker.
 
-ghost use Rattle.std.specs.Prelude.{◌≡◌, Some, None};
-ghost use Rattle.sf_bounds.specs.Serving.{MayServe};
+ghost use Rattle.sf_model.specs.declared.design.Design.{Design as DesignValue};
 
-use crate::kept::Kept;
-use crate::scratch::Scratch;
-use sf_model::Design;
+use crate::net_frames::NetFrames;
+use sf_frames::{Anew, Frames};
+use sf_nets::Scratch;
 use std::alloc::Global;
 use std::marker::Model;
 
-/// Memory of one worker, for the subproblems of one design. A contract sees it as the design that it
-/// serves, or none.
+/// Memory of one worker: the frames of areas and of nets along the path that it measured last. A contract sees
+/// what is kept, which is of one design (`IsMemoryOf`).
 #[derive(Drop)]
-pub struct Room<'a> {
-    pub(crate) kept: Option<Kept<'a>>,
+pub struct Room {
+    pub(crate) frames: Frames,
+    pub(crate) nets: NetFrames,
+    pub(crate) anew: Anew,
     pub(crate) scratch: Scratch,
 }
 
-impl<'a> Model for Room<'a> {
-    ghost use Rattle.std.specs.Prelude.{Option};
-    ghost use Rattle.sf_model.specs.declared.design.Design.{Design};
+impl Model for Room {
+    ghost use Rattle.sf_bounds.specs.Memory.{Memory};
 
-    ghost Value = { Option Design };
+    ghost Value = { Memory };
 
-    ghost view = { λ r. r.kept };
+    ghost view = { λ r. record { frames = r.frames; nets = r.nets } };
 }
 
-impl<'a> Room<'a> {
-    /// A room that serves no design yet, and takes memory as the calls need it.
-    pub fn new(alloc: Global) -> Room<'a>
-        ensures { result ≡ None }
+impl Room {
+    ghost use Rattle.sf_bounds.specs.Memory.{IsMemoryOf};
+
+    /// A room that keeps nothing yet, and takes memory as the calls need it.
+    pub fn new(alloc: Global) -> Room
+        ensures { (design : DesignValue) → IsMemoryOf design result }
     {
         Room {
-            kept: None,
+            frames: Frames::new(alloc),
+            nets: NetFrames::new(),
+            anew: Anew::new(alloc),
             scratch: Scratch::new(alloc),
         }
-    }
-
-    /// From now on it serves this design.
-    pub fn serve(&mut self, design: &'a Design)
-        requires { MayServe self.old design.now }
-        ensures { self.new ≡ Some design.now }
-    {
-        if self.kept.is_none() {
-            self.begin(design);
-        }
-    }
-
-    /// Begins to serve a design. It stands apart, so that a room which serves one already pays nothing for
-    /// it.
-    #[inline(never)]
-    fn begin(&mut self, design: &'a Design)
-        ensures { self.new ≡ Some design.now }
-    {
-        self.kept = Some(Kept::new(self.scratch.alloc, design));
     }
 }

@@ -2,13 +2,11 @@
 
 ghost use Rattle.std.specs.Prelude.{◌≡◌, ◌*◌, max, IfOk};
 ghost use Rattle.sf_node.specs.Children.{IsSubproblem};
-ghost use Rattle.sf_frames.specs.Groups.{IsNeeded, IsNeededOrNone};
+ghost use Rattle.sf_frames.specs.Groups.{IsNeeded};
+ghost use Rattle.sf_frames.specs.Kept.{IsStoredPath};
 ghost use Rattle.sf_bounds.specs.Open.{IsAreaCostOrNone};
 
-use crate::area::area_part;
-use crate::groups::group_curves;
-use crate::scratch::Scratch;
-use sf_frames::{Frames, Measured, Sums};
+use sf_frames::{Anew, Frames, Measured, Sums};
 use sf_model::Design;
 use sf_node::Node;
 use std::alloc::AllocError as NoMemory;
@@ -19,25 +17,6 @@ fn needed(sums: Sums) -> u64
 {
     let box_area = u64::from(sums.w) * u64::from(sums.h);
     sums.area.max(box_area)
-}
-
-/// The same from curves that are made anew.
-fn area_of_curves(
-    scratch: &mut Scratch,
-    design: &Design,
-    node: &Node,
-) -> Result<Option<u64>, NoMemory>
-    requires { IsSubproblem design.now node.now }
-    ensures { IfOk result (IsNeededOrNone design.now node.now) }
-{
-    group_curves(
-        &mut scratch.curves,
-        &mut scratch.stock,
-        scratch.alloc,
-        design,
-        node,
-    )?;
-    Ok(area_part(&scratch.curves))
 }
 
 /// What this area costs, which the items and the unused blocks need, or the floor that the design knows where
@@ -58,24 +37,24 @@ fn cost_of(needed: u64, design: &Design, node: &Node) -> Option<u64>
 /// more points are needed than are kept, else from curves that are made anew.
 pub fn area_cost(
     frames: &mut Frames,
-    scratch: &mut Scratch,
+    anew: &mut Anew,
     design: &Design,
     node: &Node,
 ) -> Result<Option<u64>, NoMemory>
     requires subproblem { IsSubproblem design.now node.now }
-    requires serves { frames.old ≡ design.now }
+    requires serves { IsStoredPath design.now frames.old }
     ensures cost { IfOk result (IsAreaCostOrNone design.now node.now) }
-    ensures serves { frames.new ≡ design.now }
+    ensures serves { IsStoredPath design.now frames.new }
 {
     if node.steps().len() == node.tokens().len() {
-        let measured = frames.measure(node)?;
+        let measured = frames.measure(design, node)?;
         match measured {
             Measured::Takes(sums) => return Ok(cost_of(needed(sums), design, node)),
             Measured::FitsInNoWay => return Ok(None),
             Measured::TooLarge => {}
         }
     }
-    let Some(area) = area_of_curves(scratch, design, node)? else {
+    let Some(area) = anew.needed_area(design, node)? else {
         return Ok(None);
     };
     Ok(cost_of(area, design, node))

@@ -150,7 +150,7 @@ still-faulty design text more e faulty rest = ap (cert_read (block_count design)
 -- a stage that can take the next byte holds one way at most
 pub ready-way : (design : Design) (bound : Parts → ℕ) (stage : Stage) → IsReady design bound stage → HoldsOneWay design stage
 ready-way design bound (Opening bytes) ready = tt
-ready-way design bound (Tree body) ready = one-way design bound body.judge.walk.path ready.at
+ready-way design bound (Tree body) ready = one-way design bound body.judge.walk.path ready
 ready-way design bound (Fault fault) ready = tt
 
 -- ---- the design and the bounds of a checking

@@ -5,7 +5,6 @@ use Rattle.sf_node.specs.declared.part.Part.{Part}
 use Rattle.sf_node.specs.Parts.{Parts}
 use Rattle.sf_node.specs.Later.{pending}
 use Rattle.sf_node.specs.Subproblem.{root}
-use Rattle.sf_bounds.specs.Serving.{MayServe}
 use Rattle.sf_certificate.specs.declared.cert.Cert.{Cert}
 use Rattle.sf_certificate.specs.declared.tag.Tag.{Tag}
 use Rattle.sf_certificate.specs.declared.tag.Tag.TheVariants.{Extend, Split, Closed, Open}
@@ -33,16 +32,14 @@ pub record Stand : Type 0 where
 abbrev pub progress_of : Design → Stand → Progress
 progress_of design walk = record { waiting = pending design walk.more walk.path.node; low = walk.low; decided = walk.decided; number = walk.number }
 
--- where the walk stands, the design that the room serves, and the first failure so far
+-- where the walk stands, and the first failure so far
 pub record Judged : Type 0 where
   pub walk : Stand
-  pub room : Option Design
   pub found : Option Why
 
 -- the walk can go on
-pub record IsSteady (design : Design) (bound : Parts → ℕ) (judge : Judged) : Type 0 where
-  pub at : IsPath design bound judge.walk.path
-  pub serves : MayServe judge.room design
+abbrev pub IsSteady : Design → (Parts → ℕ) → Judged → Type 0
+IsSteady design bound judge = IsPath design bound judge.walk.path
 
 -- the plan is right and the walk went over these tags, the first of the certificate; or this is what fails first
 abbrev pub IsFound : Design → (Parts → ℕ) → (Parts → Part → ℕ) → Cert → List Tag → Judged → Type 0

@@ -7,7 +7,7 @@ ghost use Rattle.sf_checker.specs.Answers.{IsAnswer, is_yes};
 
 use crate::answer::Answer;
 use crate::judge::Judge;
-use sf_bounds::Bounds;
+use sf_bound::Bounds;
 use sf_certificate::Cert;
 use sf_model::Design;
 use std::alloc::{AllocError as NoMemory, Global};
@@ -29,8 +29,9 @@ pub fn check<B: Bounds>(
         IfOk result (λ a. (is_yes a ≡ true) ↔ IsValid design.now value part cert.now) }
 {
     let mut judge = Judge::new(alloc, design, bounds, &cert.plan, cert.cost)?;
+    let mut room = bounds.room(alloc);
     for tag in cert.tags.as_slice() {
-        judge.take(design, bounds, cert.cost, *tag)?;
+        judge.take(design, bounds, cert.cost, *tag, &mut room)?;
     }
     Ok(judge.answer(cert.cost, cert.bound))
 }

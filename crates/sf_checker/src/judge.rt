@@ -10,7 +10,7 @@ ghost use Rattle.sf_checker.specs.declared.answer.Why.TheVariants.{BadPlan, Cost
 use crate::answer::{Answer, Why};
 use crate::planning::plan_cost;
 use crate::walk::Walk;
-use sf_bounds::{Bounds, Room};
+use sf_bound::Bounds;
 use sf_certificate::Tag;
 use sf_model::Design;
 use sf_polish::Expr;
@@ -19,18 +19,17 @@ use std::marker::Model;
 
 /// The walk over the tags that came, and the first failure so far, if there is one.
 #[derive(Drop)]
-pub struct Judge<'a> {
+pub struct Judge {
     walk: Walk,
-    room: Room<'a>,
     found: Option<Why>,
 }
 
-impl<'a> Model for Judge<'a> {
+impl Model for Judge {
     ghost use Rattle.sf_checker.specs.Standing.{Judged};
 
     ghost Value = { Judged };
 
-    ghost view = { λ j. record { walk = j.walk; room = j.room; found = j.found } };
+    ghost view = { λ j. record { walk = j.walk; found = j.found } };
 }
 
 /// What is wrong with the plan and its cost.
@@ -59,7 +58,7 @@ fn plan_fault(
     }
 }
 
-impl<'a> Judge<'a> {
+impl Judge {
     ghost use Rattle.std.specs.Prelude.{List, [], ◌∷◌, ◌++◌, OnOk};
     ghost use Rattle.sf_model.specs.declared.design.Design.{Design as DesignValue};
     ghost use Rattle.sf_node.specs.declared.part.Part.{Part};
@@ -71,11 +70,11 @@ impl<'a> Judge<'a> {
     /// Before the first tag of a certificate of this plan and this cost.
     pub fn new<B: Bounds>(
         alloc: Global,
-        design: &'a Design,
+        design: &Design,
         bounds: &B,
         plan: &Option<Expr>,
         cost: u64,
-    ) -> Result<Judge<'a>, NoMemory>
+    ) -> Result<Judge, NoMemory>
         requires { MatchOption plan.now ⊤ (IsWritable (block_count design.now)) }
         ensures steady { IfOk result
             (λ judge. IsSteady design.now (B.Values.value bounds.now design.now) judge) }
@@ -86,30 +85,32 @@ impl<'a> Judge<'a> {
     {
         let found = plan_fault(alloc, design, plan, cost)?;
         let walk = Walk::new(alloc, design, bounds, cost)?;
-        let room = Room::new(alloc);
-        Ok(Judge { walk, room, found })
+        Ok(Judge { walk, found })
     }
 
     /// One tag more.
     pub fn take<B: Bounds>(
         &mut self,
-        design: &'a Design,
+        design: &Design,
         bounds: &B,
         cost: u64,
         tag: Tag,
+        room: &mut B::Room,
     ) -> Result<(), NoMemory>
         requires steady { IsSteady design.now (B.Values.value bounds.now design.now) self.old }
+        requires serves { B.serves room.old design.now }
         ensures steady { OnOk result (IsSteady design.now (B.Values.value bounds.now design.now) self.new) }
         ensures found { let value = B.Values.value bounds.now design.now in
             let part = B.part_value bounds.now design.now in
             (cert : CertValue) (tags more : List TagValue) → cert.cost ≡ cost → cert.tags ≡ tags ++ tag ∷ more
             → IsFound design.now value part cert tags self.old
             → OnOk result (IsFound design.now value part cert (tags ++ tag ∷ []) self.new) }
+        ensures serves { B.serves room.new design.now }
     {
         if self.found.is_some() {
             return Ok(());
         }
-        if let Err(why) = self.walk.visit(design, bounds, cost, tag, &mut self.room)? {
+        if let Err(why) = self.walk.visit(design, bounds, cost, tag, room)? {
             self.found = Some(why);
         }
         Ok(())

@@ -5,12 +5,11 @@ ghost use Rattle.sf_model.specs.Legal.{block_count};
 ghost use Rattle.sf_node.specs.ByPart.{ArePartsOf};
 ghost use Rattle.sf_node.specs.Children.{IsSubproblem};
 ghost use Rattle.sf_node.specs.Subproblem.{root};
-ghost use Rattle.sf_bounds.specs.Serving.{MayServe};
 ghost use Rattle.sf_certificate.specs.Marks.{IsFair};
 ghost use Rattle.sf_certificate.specs.Named.{AllNameFirst, AreAlikeButNames, NamesFirst, unnamed};
 ghost use Rattle.sf_certificate.specs.Valid.{AreTrees, IsValid};
 
-use sf_bounds::{Bounds, Room};
+use sf_bound::Bounds;
 use sf_certificate::{Cert, Tag, TagList};
 use sf_cursor::Cursor;
 use sf_model::Design;
@@ -19,20 +18,20 @@ use std::alloc::{AllocError as NoMemory, Global};
 
 /// The tag with the first part that closes the subproblem, where it closes it. The area, which is the first
 /// part of all, stays and is not measured.
-fn name_tag<'a, B: Bounds>(
-    design: &'a Design,
+fn name_tag<B: Bounds>(
+    design: &Design,
     bounds: &B,
     node: &Node,
     cost: u64,
     tag: Tag,
-    room: &mut Room<'a>,
+    room: &mut B::Room,
 ) -> Result<Tag, NoMemory>
     requires subproblem { IsSubproblem design.now node.now }
     requires fair { IsFair (B.part_value bounds.now design.now) cost tag node.now }
-    requires serves { MayServe room.old design.now }
+    requires serves { B.serves room.old design.now }
     ensures named { IfOk result (λ t. NamesFirst (B.part_value bounds.now design.now) cost t node.now) }
     ensures alike { IfOk result (λ t. unnamed t ≡ unnamed tag) }
-    ensures serves { MayServe room.new design.now }
+    ensures serves { B.serves room.new design.now }
 {
     match tag {
         Tag::Closed(Part::Range | Part::Pair | Part::Hull | Part::Full) => {
@@ -56,7 +55,7 @@ fn name_tags<B: Bounds>(
         tags.new.items) }
     ensures alike { OnOk result (map unnamed tags.new.items ≡ map unnamed tags.old.items) }
 {
-    let mut room = Room::new(alloc);
+    let mut room = bounds.room(alloc);
     let mut cursor = Cursor::new(alloc, design, bounds)?;
     let mut at = 0;
     let mut more = true;

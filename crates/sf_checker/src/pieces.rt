@@ -5,7 +5,7 @@ ghost use Rattle.sf_checker.specs.declared.pieces.FinishFault.TheVariants as fau
 
 use crate::answer::Answer;
 use crate::stage::Stage;
-use sf_bounds::Bounds;
+use sf_bound::Bounds;
 use sf_certificate::{CertFault, Opening};
 use sf_model::Design;
 use std::alloc::{AllocError, Global};
@@ -36,7 +36,8 @@ pub struct Checking<'a, B: Bounds> {
     design: &'a Design,
     bounds: &'a B,
     alloc: Global,
-    stage: Stage<'a>,
+    room: B::Room,
+    stage: Stage,
 }
 
 impl<'a, B: Bounds> Model for Checking<'a, B> {
@@ -48,7 +49,8 @@ impl<'a, B: Bounds> Model for Checking<'a, B> {
 
     ghost view = { λ c. (c.design.now, c.bounds.now, c.stage) };
 
-    ghost invariant = { λ c. IsBetween c.design.now (B.Values.value c.bounds.now c.design.now) c.stage };
+    ghost invariant = { λ c. IsBetween c.design.now (B.Values.value c.bounds.now c.design.now) c.stage
+        × B.serves c.room c.design.now };
 }
 
 impl<'a, B: Bounds> Checking<'a, B> {
@@ -75,6 +77,7 @@ impl<'a, B: Bounds> Checking<'a, B> {
             design,
             bounds,
             alloc,
+            room: bounds.room(alloc),
             stage: Stage::Opening(Opening::new(alloc)),
         })
     }
@@ -88,7 +91,7 @@ impl<'a, B: Bounds> Checking<'a, B> {
         ensures spent { OnErr result (IsSpent self.new) }
         ensures stays { IsSpent self.old → IsErr result }
     {
-        self.stage.feed(self.alloc, self.design, self.bounds, piece)
+        self.stage.feed(self.alloc, self.design, self.bounds, piece, &mut self.room)
     }
 
     /// The answer to the certificate that the fed text spells, or the first fault of the text, however it was
@@ -103,7 +106,14 @@ impl<'a, B: Bounds> Checking<'a, B> {
             → result ≡ Err (fault.Text e) → cert_read (block_count design) text ≡ Err e }
         ensures stays { IsSpent self.entry → result ≡ Err fault.NoMemory }
     {
-        match self.stage.finish(self.alloc, self.design, self.bounds) {
+        let Checking {
+            design,
+            bounds,
+            alloc,
+            mut room,
+            stage,
+        } = self;
+        match stage.finish(alloc, design, bounds, &mut room) {
             Ok(answer) => Ok(answer),
             Err(CertFault::NoMemory) => Err(FinishFault::NoMemory),
             Err(fault) => Err(FinishFault::Text(fault)),

@@ -12,25 +12,25 @@ ghost use Rattle.sf_checker.specs.Feeding.{IsAnswerTo};
 use crate::answer::Answer;
 use crate::checking::check;
 use crate::judge::Judge;
-use sf_bounds::Bounds;
+use sf_bound::Bounds;
 use sf_certificate::{ByteReader, CertFault, Header, Opening, read};
 use sf_model::Design;
 use std::alloc::{AllocError, Global};
 
 /// A text whose header was read: what it says, the reader of the tree, and what is found of the tags so far.
 #[derive(Drop)]
-pub struct Body<'a> {
+pub struct Body {
     header: Header,
     reader: ByteReader,
-    judge: Judge<'a>,
+    judge: Judge,
 }
 
 /// A text up to the end of its header, one whose header was read, or one that has a fault, whatever follows.
 /// Where memory was wanting, that is the fault.
 #[derive(Drop)]
-pub enum Stage<'a> {
+pub enum Stage {
     Opening(Opening),
-    Tree(Body<'a>),
+    Tree(Body),
     Fault(CertFault),
 }
 
@@ -51,7 +51,7 @@ fn answer_whole<B: Bounds>(
     Ok(answer)
 }
 
-impl<'a> Body<'a> {
+impl Body {
     ghost use Rattle.sf_checker.specs.Feeding.{AnswersAt, FaultsAt};
     ghost use Rattle.sf_checker.specs.Stages.{FaultsOn, FeedsOn, IsBody, IsFaulty};
     ghost use Rattle.sf_checker.specs.Standing.{IsSteady};
@@ -59,10 +59,10 @@ impl<'a> Body<'a> {
     /// At the first byte behind the header.
     fn new<B: Bounds>(
         alloc: Global,
-        design: &'a Design,
+        design: &Design,
         bounds: &B,
         opening: &Opening,
-    ) -> Result<Body<'a>, CertFault>
+    ) -> Result<Body, CertFault>
         requires { IsHeader opening.now }
         ensures steady { IfOk result
             (λ body. IsSteady design.now (B.Values.value bounds.now design.now) body.judge) }
@@ -83,11 +83,13 @@ impl<'a> Body<'a> {
     /// A piece more.
     fn feed<B: Bounds>(
         &mut self,
-        design: &'a Design,
+        design: &Design,
         bounds: &B,
         piece: &[u8],
+        room: &mut B::Room,
     ) -> Result<(), CertFault>
         requires steady { IsSteady design.now (B.Values.value bounds.now design.now) self.old.judge }
+        requires serves { B.serves room.old design.now }
         ensures steady { OnOk result (IsSteady design.now (B.Values.value bounds.now design.now)
             self.new.judge) }
         ensures fed { let value = B.Values.value bounds.now design.now in
@@ -96,13 +98,15 @@ impl<'a> Body<'a> {
         ensures fault { let value = B.Values.value bounds.now design.now in
             let part = B.part_value bounds.now design.now in
             FaultsOn design.now value part (stages.Tree self.old) piece.now result }
+        ensures serves { B.serves room.new design.now }
     {
         let blocks = design.block_count();
         let mut at = 0;
         while at < piece.len() {
             let taken = self.reader.take(&piece[at..], blocks)?;
             if let Some(tag) = taken.tag {
-                self.judge.take(design, bounds, self.header.cost, tag)?;
+                self.judge
+                    .take(design, bounds, self.header.cost, tag, room)?;
             }
             at += taken.bytes;
         }
@@ -110,14 +114,20 @@ impl<'a> Body<'a> {
     }
 
     /// The answer, after the last byte.
-    fn finish<B: Bounds>(self, design: &'a Design, bounds: &B) -> Result<Answer, CertFault>
+    fn finish<B: Bounds>(
+        self,
+        design: &Design,
+        bounds: &B,
+        room: &mut B::Room,
+    ) -> Result<Answer, CertFault>
         requires steady { IsSteady design.now (B.Values.value bounds.now design.now) self.judge }
+        requires serves { B.serves room.old design.now }
         ensures answer { let value = B.Values.value bounds.now design.now in
             let part = B.part_value bounds.now design.now in
-            AnswersAt design.now value part (stages.Tree self.entry) result }
+            AnswersAt design.now value part (stages.Tree self) result }
         ensures fault { let value = B.Values.value bounds.now design.now in
             let part = B.part_value bounds.now design.now in
-            FaultsAt design.now value part (stages.Tree self.entry) result }
+            FaultsAt design.now value part (stages.Tree self) result }
     {
         let Body {
             header,
@@ -125,13 +135,13 @@ impl<'a> Body<'a> {
             mut judge,
         } = self;
         if let Some(tag) = reader.finish(design.block_count())? {
-            judge.take(design, bounds, header.cost, tag)?;
+            judge.take(design, bounds, header.cost, tag, room)?;
         }
         Ok(judge.answer(header.cost, header.bound))
     }
 }
 
-impl<'a> Stage<'a> {
+impl Stage {
     ghost use Rattle.sf_checker.specs.Feeding.{AnswersAt, FaultsAt};
     ghost use Rattle.sf_checker.specs.Stages.{FaultsOn, FeedsOn, IsOutside, IsReady, IsStage, IsWanting};
 
@@ -146,22 +156,25 @@ impl<'a> Stage<'a> {
     pub fn feed<B: Bounds>(
         &mut self,
         alloc: Global,
-        design: &'a Design,
+        design: &Design,
         bounds: &B,
         piece: &[u8],
+        room: &mut B::Room,
     ) -> Result<(), AllocError>
         requires ready { IsReady design.now (B.Values.value bounds.now design.now) self.old }
+        requires serves { B.serves room.old design.now }
         ensures ready { IsReady design.now (B.Values.value bounds.now design.now) self.new }
         ensures fed { let value = B.Values.value bounds.now design.now in
             let part = B.part_value bounds.now design.now in
             FeedsOn design.now value part self.old piece.now result self.new }
         ensures spent { OnErr result (IsWanting self.new) }
         ensures stays { IsWanting self.old → IsErr result }
+        ensures serves { B.serves room.new design.now }
     {
         if self.is_wanting() {
             return Err(AllocError);
         }
-        match self.advance(alloc, design, bounds, piece) {
+        match self.advance(alloc, design, bounds, piece, room) {
             Ok(()) => Ok(()),
             Err(fault) => self.stop(fault),
         }
@@ -184,11 +197,13 @@ impl<'a> Stage<'a> {
     fn advance<B: Bounds>(
         &mut self,
         alloc: Global,
-        design: &'a Design,
+        design: &Design,
         bounds: &B,
         piece: &[u8],
+        room: &mut B::Room,
     ) -> Result<(), CertFault>
         requires ready { IsReady design.now (B.Values.value bounds.now design.now) self.old }
+        requires serves { B.serves room.old design.now }
         ensures ready { OnOk result (IsReady design.now (B.Values.value bounds.now design.now) self.new) }
         ensures fed { let value = B.Values.value bounds.now design.now in
             let part = B.part_value bounds.now design.now in
@@ -196,11 +211,12 @@ impl<'a> Stage<'a> {
         ensures fault { let value = B.Values.value bounds.now design.now in
             let part = B.part_value bounds.now design.now in
             FaultsOn design.now value part self.old piece.now result }
+        ensures serves { B.serves room.new design.now }
     {
         let opened = self.open(alloc, design, bounds, piece)?;
         match self {
             Stage::Opening(_) => Ok(()),
-            Stage::Tree(body) => body.feed(design, bounds, &piece[opened..]),
+            Stage::Tree(body) => body.feed(design, bounds, &piece[opened..], room),
             Stage::Fault(fault) => Err(*fault),
         }
     }
@@ -210,7 +226,7 @@ impl<'a> Stage<'a> {
     fn open<B: Bounds>(
         &mut self,
         alloc: Global,
-        design: &'a Design,
+        design: &Design,
         bounds: &B,
         piece: &[u8],
     ) -> Result<usize, CertFault>
@@ -246,7 +262,7 @@ impl<'a> Stage<'a> {
     fn begin<B: Bounds>(
         &mut self,
         alloc: Global,
-        design: &'a Design,
+        design: &Design,
         bounds: &B,
         byte: u8,
     ) -> Result<(), CertFault>
@@ -276,21 +292,23 @@ impl<'a> Stage<'a> {
     pub fn finish<B: Bounds>(
         self,
         alloc: Global,
-        design: &'a Design,
+        design: &Design,
         bounds: &B,
+        room: &mut B::Room,
     ) -> Result<Answer, CertFault>
         requires ready { IsReady design.now (B.Values.value bounds.now design.now) self }
+        requires serves { B.serves room.old design.now }
         ensures answer { let value = B.Values.value bounds.now design.now in
             let part = B.part_value bounds.now design.now in
-            AnswersAt design.now value part self.entry result }
+            AnswersAt design.now value part self result }
         ensures fault { let value = B.Values.value bounds.now design.now in
             let part = B.part_value bounds.now design.now in
-            FaultsAt design.now value part self.entry result }
-        ensures stays { IsWanting self.entry → result ≡ Err NoMemory }
+            FaultsAt design.now value part self result }
+        ensures stays { IsWanting self → result ≡ Err NoMemory }
     {
         match self {
             Stage::Opening(opening) => answer_whole(alloc, design, bounds, opening.text()),
-            Stage::Tree(body) => body.finish(design, bounds),
+            Stage::Tree(body) => body.finish(design, bounds, room),
             Stage::Fault(fault) => Err(fault),
         }
     }

@@ -1,9 +1,7 @@
 -- The curves of joined items, and the operands of tokens.
-use Rattle.std.proofs.Common.{◌≡◌, ℕ, ◌+◌, ◌-◌, ◌<◌, ◌≤◌, List, [], ◌∷◌, map, get_or, refl, sym, ap, ◌∙◌, subst, arith, All}
-use Rattle.sf_frames.proofs.Common.{Contains, IsFalse, AllByRecursion, All-contains, Contains-get_or, Design, Shape, Tree, Leaf, Beside, Above, Token, is_outside, Parts, IsWithin, IsNoLarger, IsCovered, IsCurveOf, IsCombination, beside_size, above_size, shapes_in, Item, plans, pairs, fits, fitting, size_of, IsItemCurve, Contains-map, Contains-from_map, Contains-filter, Contains-from_filter, Contains-pairs, Contains-from_pairs, fits-true}
+use Rattle.std.proofs.Common.{◌≡◌, ℕ, ◌-◌, List, [], map, get_or, refl, sym, ap, ◌∙◌, subst, arith, All}
+use Rattle.sf_frames.proofs.Common.{Contains, All-contains, Contains-get_or, Design, Shape, Tree, Leaf, Beside, Above, Parts, IsWithin, IsNoLarger, IsCovered, IsCurveOf, IsCombination, beside_size, above_size, shapes_in, Item, plans, pairs, fits, fitting, size_of, IsItemCurve, Contains-map, Contains-from_map, Contains-filter, Contains-from_filter, Contains-pairs, Contains-from_pairs, fits-true}
 use Rattle.sf_polish.specs.declared.expr.Token.TheVariants as token
-use Rattle.sf_polish.proofs.Stack.{Reads}
-use Rattle.sf_polish.proofs.Normality.{inside-number}
 use Rattle.sf_standard.specs.Items as item
 use Rattle.sf_standard.proofs.Exact.{fits-from}
 
@@ -78,17 +76,3 @@ curve-joined over plan join way design node l r ls rs c cl cr k =
           let found = All-contains (λ q. IsCovered o c (join a.1 q)) rs b.1 first (b.0, b.2, b.3) (omega (arith, le.0, fit.0), omega (arith, le.1, fit.1)) in
           (found.0, found.1, found.2, found.3, (omega (arith, found.4.0, le.0), omega (arith, found.4.1, le.1)));
     }
-
--- the rest of the tokens finds its operands
-abbrev pub Runs : ℕ → ℕ → List Token → Type 0
-Runs n depth [] = Unit {0}
-Runs n depth (token.Block b ∷ tokens) = (b < n) × Runs n (depth + 1) tokens
-Runs n depth (token.Beside ∷ tokens) = (2 ≤ depth) × Runs n (depth - 1) tokens
-Runs n depth (token.Above ∷ tokens) = (2 ≤ depth) × Runs n (depth - 1) tokens
-
--- tokens that leave g items when h stand there before, each block below n, find their operands
-pub runs-from : (n h g : ℕ) (ts : List Token) → Reads h ts g → AllByRecursion (λ t. IsFalse (is_outside n t)) ts → Runs n h ts
-runs-from n h g [] r i = tt
-runs-from n h g (token.Block b ∷ ts) r i = (inside-number n b i.0, runs-from n (h + 1) g ts r i.1)
-runs-from n h g (token.Beside ∷ ts) r i = (r.0, runs-from n (h - 1) g ts r.1 i.1)
-runs-from n h g (token.Above ∷ ts) r i = (r.0, runs-from n (h - 1) g ts r.1 i.1)

@@ -13,3 +13,8 @@ pub mod Smallness
 pub mod Starting
 pub mod Pushing
 pub mod Rooms
+pub mod Building
+pub mod UnusedCurves
+pub mod AreaParts
+pub mod AreaLink
+pub mod GroupAreas

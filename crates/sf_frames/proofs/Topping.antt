@@ -6,7 +6,7 @@ use Rattle.sf_standard.specs.Items as item
 use Rattle.sf_standard.proofs.Appended.{read-append, read-block}
 use Rattle.sf_curves.specs.declared.direction.Direction.TheVariants.{Beside, Above}
 use Rattle.sf_frames.specs.declared.stored.Stored.{Stored}
-use Rattle.sf_frames.proofs.Joining.{Runs, runs-from}
+use Rattle.sf_standard.proofs.Operands.{Runs, runs-from}
 use Rattle.sf_frames.proofs.Ways.{read-joined}
 
 -- tokens that follow find their operands among the items after those before them

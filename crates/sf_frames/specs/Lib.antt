@@ -8,3 +8,6 @@ pub mod Measured
 pub mod Kept
 -- how much it keeps
 pub mod Room
+-- how curves are made anew
+pub mod Anew
+pub mod AreaPart

@@ -1,6 +1,7 @@
 //! The frames of the path that was measured last.
 
 ghost use Rattle.std.specs.Prelude.{◌≡◌, ◌≢◌, length, IfOk};
+ghost use Rattle.sf_model.specs.declared.design.Design.{Design as DesignValue};
 ghost use Rattle.sf_node.specs.Children.{IsSubproblem};
 
 use crate::cut::back_to;
@@ -14,41 +15,39 @@ use sf_node::Node;
 use std::alloc::{AllocError as NoMemory, Global};
 use std::marker::Model;
 
-/// The frames of the path that was measured last, for one design. A contract sees that design; `list` is a
-/// buffer for the next curve. No more is kept than `MOST_POINTS` and `MOST_FRAMES` say: from the frame on
-/// that would pass them the path is not kept.
+/// The frames of the path that was measured last. A contract sees what is kept, which is of one design
+/// (`IsStoredPath`); `list` is a buffer for the next curve. No more is kept than `MOST_POINTS` and `MOST_FRAMES`
+/// say: from the frame on that would pass them the path is not kept.
 #[derive(Drop)]
-pub struct Frames<'a> {
-    design: &'a Design,
+pub struct Frames {
     alloc: Global,
     stored: Stored,
     list: Vec<Point>,
 }
 
-impl<'a> Model for Frames<'a> {
-    ghost use Rattle.sf_model.specs.declared.design.Design.{Design};
+impl Model for Frames {
+    ghost use Rattle.sf_frames.specs.declared.stored.Stored.{Stored};
 
-    ghost Value = { Design };
+    ghost Value = { Stored };
 
-    ghost use Rattle.sf_frames.specs.Kept.{IsStoredPath};
     ghost use Rattle.sf_frames.specs.Room.{IsWithinRoom};
 
-    ghost view = { λ s. s.design.now };
+    ghost view = { λ s. s.stored };
 
-    ghost invariant = { λ s. IsStoredPath s.design.now s.stored × IsWithinRoom s.stored };
+    ghost invariant = { λ s. IsWithinRoom s.stored };
 }
 
-impl<'a> Frames<'a> {
+impl Frames {
     ghost use Rattle.sf_frames.specs.Measured.{IsMeasured};
+    ghost use Rattle.sf_frames.specs.Kept.{IsStoredPath};
     ghost use Rattle.sf_frames.specs.Room.{HasRoom};
     ghost use Rattle.sf_frames.specs.declared.measured.Measured.TheVariants.{TooLarge};
 
-    /// No frame yet.
-    pub fn new(alloc: Global, design: &'a Design) -> Frames<'a>
-        ensures { result ≡ design.now }
+    /// No frame yet, so that they are of any design.
+    pub fn new(alloc: Global) -> Frames
+        ensures { (design : DesignValue) → IsStoredPath design result }
     {
         Frames {
-            design,
             alloc,
             stored: Stored {
                 points: Vec::new(alloc),
@@ -64,14 +63,14 @@ impl<'a> Frames<'a> {
     /// measured by which it differs from the path before. The answer is `TooLarge` just where the path needs
     /// more points than are kept: those of the blocks' whole curves, and of the curve of each item that an
     /// operator makes.
-    pub fn measure(&mut self, node: &Node) -> Result<Measured, NoMemory>
-        requires subproblem { IsSubproblem self.old node.now }
+    pub fn measure(&mut self, design: &Design, node: &Node) -> Result<Measured, NoMemory>
+        requires subproblem { IsSubproblem design.now node.now }
         requires whole { length node.now.steps ≡ length node.now.tokens }
-        ensures measured { IfOk result (IsMeasured self.old node.now) }
-        ensures room { IfOk result (λ found. found ≢ TooLarge → HasRoom self.old node.now.tokens) }
-        ensures same { self.new ≡ self.old }
+        requires serves { IsStoredPath design.now self.old }
+        ensures measured { IfOk result (IsMeasured design.now node.now) }
+        ensures room { IfOk result (λ found. found ≢ TooLarge → HasRoom design.now node.now.tokens) }
+        ensures serves { IsStoredPath design.now self.new }
     {
-        let design = self.design;
         fill(&mut self.stored, self.alloc, design)?;
         back_to(&mut self.stored, design, node.tokens());
         let kept = extend(&mut self.stored, &mut self.list, design, node)?;

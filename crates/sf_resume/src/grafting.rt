@@ -10,7 +10,7 @@ ghost use Rattle.sf_certificate.specs.declared.tag.Tag.{Tag};
 ghost use Rattle.sf_certificate.specs.Valid.{HasCost};
 ghost use Rattle.sf_resume.specs.Grafted.{CanGraft, IsGrafted};
 
-use sf_bounds::Bounds;
+use sf_bound::Bounds;
 use sf_certificate::Cert;
 use sf_checker::name_parts;
 use sf_model::Design;

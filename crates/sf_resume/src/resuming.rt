@@ -7,7 +7,7 @@ ghost use Rattle.sf_resume.specs.Resumed.{IsResumed};
 
 use crate::cutting::{Apart, cut_apart};
 use crate::grafting::graft;
-use sf_bounds::Bounds;
+use sf_bound::Bounds;
 use sf_certificate::{Cert, Tag};
 use sf_io::Gate;
 use sf_model::Design;

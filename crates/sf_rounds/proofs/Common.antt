@@ -1,6 +1,5 @@
 -- The imports that the proof files of this crate share.
-pub use Rattle.sf_bounds.specs.Cheapest.{IsLeastTrace, IsPlanOf}
-pub use Rattle.sf_bounds.specs.Serving.{MayServe}
+pub use Rattle.sf_bound.specs.Cheapest.{IsLeastTrace, IsPlanOf}
 pub use Rattle.sf_certificate.proofs.AfterTags.{least-min, marks-more, marks-then, open-all, opens, waiting-more}
 pub use Rattle.sf_certificate.proofs.Merged.{least-same, marks-good}
 pub use Rattle.sf_certificate.proofs.MergedCert.{merged-formed, plan-cost, task-bounds}

@@ -77,7 +77,6 @@ module _ {T : Type 0} where
     pub log : j.state.log.items ≡ []
     pub kept : j.state.kept.items ≡ []
     pub best : j.state.best ≡ None
-    pub room : j.state.room ≡ None
     pub seat : j.state.seat ≡ record { word = word.id; seen = value; offered = MAX; parts = 1 }
     pub first : j.state.first ≡ task
     pub quota_is : j.state.quota ≡ quota
@@ -89,7 +88,6 @@ module _ {T : Type 0} where
       log = h.log;
       kept = h.kept;
       best = h.best;
-      room = h.room;
       seat = h.seat;
       taken = ap (λ (p : Place T). p.owner.taken) h.place_is ∙ new.0.1;
       stolen = λ w. ap (λ (p : Place T). thieves_weigh w p.thieves.items) h.place_is ∙ none-stolen place.thieves.items new.1 w;
@@ -182,7 +180,7 @@ module _ {T : Type 0} where
   same-fresh value word (j ∷ js) (k ∷ ks) h fs =
       let F = IsFresh value word in
       let f = All-head F j js fs in
-      All-cons F k ks (subst F (sym h.0.2) (record { log = f.log; kept = f.kept; best = f.best; room = f.room; seat = f.seat; taken = f.taken; stolen = f.stolen })) (same-fresh value word js ks h.1 (All-tail F j js fs))
+      All-cons F k ks (subst F (sym h.0.2) (record { log = f.log; kept = f.kept; best = f.best; seat = f.seat; taken = f.taken; stolen = f.stolen })) (same-fresh value word js ks h.1 (All-tail F j js fs))
 
   -- each worker has its first stretch and its quota still as stretches are put
   same-firsts : (ts : List Stretch) (qs : List ℕ) (js ks : List (Job T)) → EachTwo IsSameBut js ks → FirstsAre ts qs js → FirstsAre ts qs ks

@@ -7,7 +7,7 @@ use Rattle.sf_node.specs.Parts.{Parts}
 use Rattle.sf_node.specs.Subproblem.{root, is_solved}
 use Rattle.sf_node.specs.Full.{IsFirstSplit, full}
 use Rattle.sf_node.specs.declared.part.Part.{Part}
-use Rattle.sf_bounds.specs.Cheapest.{IsPlanOf, IsLeastTrace}
+use Rattle.sf_bound.specs.Cheapest.{IsPlanOf, IsLeastTrace}
 use Rattle.sf_search_core.specs.declared.entry.Entry.{Entry}
 use Rattle.sf_search_core.specs.declared.entry.Kind.TheVariants as kind
 use Rattle.sf_search_core.specs.State.{State}

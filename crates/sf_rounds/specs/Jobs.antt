@@ -59,7 +59,6 @@ module _ {T : Type 0} where
     pub log : j.state.log.items ≡ []
     pub kept : j.state.kept.items ≡ []
     pub best : j.state.best ≡ None
-    pub room : j.state.room ≡ None
     pub seat : j.state.seat ≡ record { word = word.id; seen = value; offered = MAX; parts = 1 }
     pub taken : j.state.place.owner.taken ≡ []
     pub stolen : (w : Stretch → ℕ) → thieves_weigh w j.state.place.thieves.items ≡ 0

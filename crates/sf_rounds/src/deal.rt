@@ -7,7 +7,7 @@ ghost use Rattle.sf_frontier.specs.Team.{IsTeam, IsNewPlace};
 ghost use Rattle.sf_rounds.specs.Jobs.{Dealt, IsSeated, with_put, Handed};
 
 use crate::job::{Job, RoundWork};
-use sf_bounds::{Bounds, Room};
+use sf_bound::Bounds;
 use sf_cursor::Stretch;
 use sf_frontier::{Place, Served};
 use sf_incumbent::{Incumbent, Seat};
@@ -17,7 +17,7 @@ use std::alloc::{AllocError as NoMemory, Global};
 
 /// Stretch i goes to worker i modulo their number: the first of each stands apart, and the others are put into
 /// its deque.
-pub fn deal<'a, T: Served, B: Bounds>(
+pub fn deal<T: Served, B: Bounds>(
     alloc: Global,
     design: &Design,
     bounds: &B,
@@ -25,7 +25,7 @@ pub fn deal<'a, T: Served, B: Bounds>(
     seat: &mut Seat,
     places: Vec<Place<T>>,
     work: RoundWork<'_>,
-) -> Result<Vec<Job<'a, T>>, NoMemory>
+) -> Result<Vec<Job<T>>, NoMemory>
     requires team { Serves T.serves design.now (B.Values.value bounds.now design.now) }
     requires deques { IsTeam places.items × (length places.items ≡ length work.quotas.now) }
     requires new { All IsNewPlace places.items }
@@ -49,14 +49,14 @@ pub fn deal<'a, T: Served, B: Bounds>(
 
 /// The workers in their places, each with its first stretch and a seat of the word. The stretches stand in
 /// reverse.
-fn seated<'a, T: Served>(
+fn seated<T: Served>(
     alloc: Global,
     word: &Incumbent,
     seat: &mut Seat,
     places: Vec<Place<T>>,
     stretches: &mut Vec<Stretch>,
     quotas: &[u64],
-) -> Result<Vec<Job<'a, T>>, NoMemory>
+) -> Result<Vec<Job<T>>, NoMemory>
     requires quotas { length places.items ≡ length quotas.now }
     requires seat { (seat.old.word ≡ word.now.id) × (seat.old.parts ≡ length quotas.now + 1) }
     ensures seated { IfOk result
@@ -76,7 +76,6 @@ fn seated<'a, T: Served>(
             seat: word.split(seat),
             log: Vec::new(alloc),
             best: None,
-            room: Room::new(alloc),
             quota: quotas[number],
             kept: Vec::new(alloc),
         };
@@ -89,10 +88,10 @@ fn seated<'a, T: Served>(
 
 /// Puts the stretches into the deques of the workers, stretch i into that of worker i modulo their number. The
 /// last one is put first, so that an owner takes the first of its stretches first.
-fn hand_out<'a, T: Served, B: Bounds>(
+fn hand_out<T: Served, B: Bounds>(
     design: &Design,
     bounds: &B,
-    jobs: &mut Vec<Job<'a, T>>,
+    jobs: &mut Vec<Job<T>>,
     mut stretches: Vec<Stretch>,
 ) -> Result<(), NoMemory>
     requires team { Serves T.serves design.now (B.Values.value bounds.now design.now) }
@@ -108,10 +107,10 @@ fn hand_out<'a, T: Served, B: Bounds>(
 }
 
 /// Puts a stretch into the worker's deque.
-fn put<'a, T: Served, B: Bounds>(
+fn put<T: Served, B: Bounds>(
     design: &Design,
     bounds: &B,
-    job: &mut Job<'a, T>,
+    job: &mut Job<T>,
     stretch: Stretch,
 ) -> Result<(), NoMemory>
     requires team { Serves T.serves design.now (B.Values.value bounds.now design.now) }

@@ -15,17 +15,17 @@ use sf_worker::WorkerState;
 use std::alloc::{AllocError as NoMemory, Global};
 
 /// Takes the workers apart, where none of them ran out of memory, and joins their seats into one.
-pub fn gather<'a, T: Served>(
+pub fn gather<T: Served>(
     alloc: Global,
     design: &Design,
     word: &Incumbent,
     seat: &mut Seat,
-    jobs: Vec<Job<'a, T>>,
+    jobs: Vec<Job<T>>,
 ) -> Result<Gathering<T>, NoMemory>
     requires seat { (seat.old.word ≡ word.now.id) × (seat.old.offered ≡ MAX) }
     requires done { All (IsDone design.now word.now) jobs.items }
     ensures { IfOk result
-        (λ r. Gathers design.now jobs.entry.items seat.old seat.new r.places.items r.pieces.items
+        (λ r. Gathers design.now jobs.items seat.old seat.new r.places.items r.pieces.items
         r.left.items r.best) }
 {
     let mut all = Gathering {
@@ -41,17 +41,17 @@ pub fn gather<'a, T: Served>(
 }
 
 /// Adds what one worker leaves.
-fn add<'a, T: Served>(
+fn add<T: Served>(
     all: &mut Gathering<T>,
     design: &Design,
     word: &Incumbent,
     seat: &mut Seat,
-    job: Job<'a, T>,
+    job: Job<T>,
 ) -> Result<(), NoMemory>
     requires seat { seat.old.word ≡ word.now.id }
     requires done { IsDone design.now word.now job }
     requires best { IsBest design.now all.old.best seat.old.offered }
-    ensures { IfOk result (λ _. Adds design.now job.entry seat.old seat.new all.old all.new) }
+    ensures { IfOk result (λ _. Adds design.now job seat.old seat.new all.old all.new) }
 {
     let Job { state, end } = job;
     end?;
@@ -62,7 +62,6 @@ fn add<'a, T: Served>(
         seat: other,
         mut log,
         best,
-        room: _,
         quota: _,
         mut kept,
     } = state;

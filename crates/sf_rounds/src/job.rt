@@ -16,8 +16,8 @@ pub struct RoundWork<'a> {
 
 /// One worker, and how its pass ended.
 #[derive(Drop)]
-pub struct Job<'a, T: Served> {
-    pub state: WorkerState<'a, T>,
+pub struct Job<T: Served> {
+    pub state: WorkerState<T>,
     pub end: Result<PassEnd, NoMemory>,
 }
 

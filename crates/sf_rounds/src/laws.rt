@@ -11,7 +11,7 @@ ghost use Rattle.sf_certificate.specs.Named.{AllNameFirst};
 ghost use Rattle.sf_certificate.specs.Valid.{IsValid};
 ghost use Rattle.sf_rounds.specs.Found.{IsCertOf};
 
-use sf_bounds::solved_plans_are_one;
+use sf_bound::solved_plans_are_one;
 use sf_certificate::{first_parts_are_one, full_parts_close, trees_are_one};
 
 /// A state has one certificate that names the first parts. So with one worker the certificate and its plan

@@ -1,11 +1,10 @@
 //! What a search leaves open.
 
 ghost use Rattle.std.specs.Prelude.{◌≡◌, All, IfOk};
-ghost use Rattle.sf_bounds.specs.Serving.{MayServe};
 ghost use Rattle.sf_cursor.specs.Stretches.{IsStretch};
 ghost use Rattle.sf_rounds.specs.Legs.{AreLeftOpen};
 
-use sf_bounds::{Bounds, Room};
+use sf_bound::Bounds;
 use sf_cursor::Stretch;
 use sf_model::Design;
 use sf_pieces::Piece;
@@ -31,7 +30,7 @@ pub fn leave_open<B: Bounds>(
     ensures { IfOk result (AreLeftOpen design.now (B.Values.value bounds.now design.now)
         (B.part_value bounds.now design.now) value stretches.items) }
 {
-    let mut room = Room::new(alloc);
+    let mut room = bounds.room(alloc);
     let mut opened = Opened {
         pieces: Vec::new(alloc),
         bound: value,

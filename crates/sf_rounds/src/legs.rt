@@ -9,7 +9,7 @@ use crate::job::RoundOut;
 use crate::parting::parts_of;
 use crate::rounds::round;
 use crate::to_certificate::SearchOptions;
-use sf_bounds::Bounds;
+use sf_bound::Bounds;
 use sf_cursor::Stretch;
 use sf_io::{Gate, OpenGate};
 use sf_model::Design;

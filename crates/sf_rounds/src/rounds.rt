@@ -9,7 +9,7 @@ use crate::deal::deal;
 use crate::gather::gather;
 use crate::job::{Gathering, RoundOut, RoundWork};
 use crate::run::run_all;
-use sf_bounds::Bounds;
+use sf_bound::Bounds;
 use sf_cursor::Stretch;
 use sf_frontier::{Finish, Served, finish, team};
 use sf_incumbent::Incumbent;

@@ -5,7 +5,7 @@ ghost use Rattle.sf_worker.specs.Took.{IsReady, Serves};
 ghost use Rattle.sf_rounds.specs.Jobs.{Ran, EachTwo};
 
 use crate::job::Job;
-use sf_bounds::Bounds;
+use sf_bound::Bounds;
 use sf_frontier::Served;
 use sf_incumbent::Incumbent;
 use sf_io::Gate;
@@ -15,19 +15,19 @@ use std::thread;
 use std::thread::Threads;
 
 /// Runs all workers at once, and gives them back.
-pub fn run_all<'a, R: Threads + Sync, T: Served + Sync, B: Bounds, G: Gate>(
+pub fn run_all<R: Threads + Sync, T: Served + Sync, B: Bounds, G: Gate>(
     rt: &R,
-    mut jobs: Vec<Job<'a, T>>,
-    design: &'a Design,
+    mut jobs: Vec<Job<T>>,
+    design: &Design,
     bounds: &B,
     word: &Incumbent,
     gate: &G,
-) -> Vec<Job<'a, T>>
+) -> Vec<Job<T>>
     requires team { Serves T.serves design.now (B.Values.value bounds.now design.now) }
     requires ready { All (λ j. IsReady design.now (B.Values.value bounds.now design.now) j.state
         × (j.state.seat.word ≡ word.now.id)) jobs.items }
     ensures { EachTwo (Ran design.now (B.Values.value bounds.now design.now)
-        (B.part_value bounds.now design.now)) jobs.entry.items result.items }
+        (B.part_value bounds.now design.now)) jobs.items result.items }
 {
     let threads = jobs.len();
     if threads == 0 {

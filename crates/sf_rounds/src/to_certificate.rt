@@ -13,7 +13,7 @@ ghost use Rattle.sf_rounds.specs.Run.{IsBest};
 use crate::leaving::{Opened, leave_open};
 use crate::legs::{Leg, go_on, left_of};
 use crate::one_walk::search_walk;
-use sf_bounds::{Bounds, Room};
+use sf_bound::Bounds;
 use sf_certificate::{Cert, TagList};
 use sf_cursor::{Cursor, Stretch};
 use sf_io::Gate;
@@ -88,7 +88,7 @@ fn alone<B: Bounds, G: Gate>(
         IfOk result (λ found.
         TurnsAreAccepted design.now value nodes (opening design.now value 1)) }
 {
-    let mut room = Room::new(alloc);
+    let mut room = bounds.room(alloc);
     let mut walk = search_walk(alloc, design, bounds, nodes, gate, &mut room)?;
     let cost = walk.word();
     let decided = walk.count() as u64;

@@ -2,7 +2,7 @@
 
 ghost use Rattle.std.specs.Prelude.{◌≡◌};
 
-use sf_bounds::{Bounds, Room};
+use sf_bound::Bounds;
 use sf_certificate::Tag;
 use sf_cursor::{Cursor, Stretch};
 use sf_model::{Design, MAX};
@@ -35,7 +35,6 @@ impl Model for Walk {
 
 impl Walk {
     ghost use Rattle.std.specs.Prelude.{◌++◌, length, true, IfOk};
-    ghost use Rattle.sf_bounds.specs.Serving.{MayServe};
     ghost use Rattle.sf_worker.specs.declared.visit.Visit.{Visit};
     ghost use Rattle.sf_worker.specs.InHand.{IsHand};
     ghost use Rattle.sf_pieces.specs.Naming.{renamed};
@@ -100,20 +99,20 @@ impl Walk {
     }
 
     /// Visits the subproblem that is next.
-    pub fn step<'a, B: Bounds>(
+    pub fn step<B: Bounds>(
         &mut self,
-        design: &'a Design,
+        design: &Design,
         bounds: &B,
-        room: &mut Room<'a>,
+        room: &mut B::Room,
     ) -> Result<(), NoMemory>
         requires hand { IsHand design.now (B.Values.value bounds.now design.now) self.old.hand }
         requires more { self.old.hand.more ≡ true }
-        requires serves { MayServe room.old design.now }
+        requires serves { B.serves room.old design.now }
         ensures moved { IfOk result
             (λ done. (seen : Visit)
             × IsMove design.now (B.Values.value bounds.now design.now)
             (B.part_value bounds.now design.now) self.old seen self.new) }
-        ensures serves { MayServe room.new design.now }
+        ensures serves { B.serves room.new design.now }
     {
         let valued = self.hand.value(design, bounds, room)?;
         let seen = decide(design, bounds, self.hand.node(), valued.value, self.word)?;
@@ -130,17 +129,17 @@ impl Walk {
 
     /// Leaves all open that is not visited yet. The answer is the least of the cost found and of their
     /// values.
-    pub fn leave_open<'a, B: Bounds>(
+    pub fn leave_open<B: Bounds>(
         &mut self,
-        design: &'a Design,
+        design: &Design,
         bounds: &B,
-        room: &mut Room<'a>,
+        room: &mut B::Room,
     ) -> Result<u64, NoMemory>
         requires hand { IsHand design.now (B.Values.value bounds.now design.now) self.old.hand }
-        requires serves { MayServe room.old design.now }
+        requires serves { B.serves room.old design.now }
         ensures left { IfOk result
             (IsLeftOpen design.now (B.Values.value bounds.now design.now) self.old self.new) }
-        ensures serves { MayServe room.new design.now }
+        ensures serves { B.serves room.new design.now }
     {
         self.hand.leave_open(design, bounds, room, self.word)
     }

@@ -1,7 +1,7 @@
 -- The standard bound is its value from area and wires; no part of it is above it, and where wires cost nothing each part is the bound.
 use Rattle.std.proofs.Common.{◌≡◌, ℕ, ◌+◌, ◌*◌, ◌^◌, ◌<◌, ◌≤◌, max, List, [], ◌∷◌, length, arith, refl, ap, sym, subst, ◌∙◌, inl, inr, Bool, true, false}
-use Rattle.std.specs.Prelude.{◌==◌, ◌||◌, if◌then◌else◌}
-use Rattle.sf_standard.proofs.Common.{Contains, sum_by, nat_lt, list_any, mul-le-mul, mul-le-mul_left, and_parts, ne_eqb, cases_lt, cond_both, cond-true, cond-false, ltb-false, sum_by-cons, Design, Net, Pin, MAX, cost, Tree, width, height, spots_of, wire, IsSubproblem, Parts, is_complete, is_solved, subproblem-spans, Contains-head, Item, items_of, fitting, range_part, pair_part, hull_part, extent_in, area, least_of, least_cost, has_none, needed_area, area_part, pins_part, weighed_part, wire_part, pins_by, wires_by, plans_of, bounded, open_value, standard, part_value, has_single_spans, AllHavePlans}
+use Rattle.std.specs.Prelude.{if◌then◌else◌}
+use Rattle.sf_standard.proofs.Common.{Contains, sum_by, nat_lt, list_any, mul-le-mul, mul-le-mul_left, cases_lt, cond_both, cond-true, cond-false, ltb-false, sum_by-cons, Design, Net, Pin, MAX, cost, Tree, width, height, spots_of, wire, IsSubproblem, Parts, is_complete, is_solved, subproblem-spans, Contains-head, Item, items_of, fitting, range_part, pair_part, hull_part, extent_in, area, least_of, least_cost, has_none, needed_area, area_part, pins_part, weighed_part, wire_part, pins_by, wires_by, plans_of, bounded, open_value, standard, part_value, AllHavePlans}
 use Rattle.sf_model.proofs.Bounded.{cost-below}
 use Rattle.sf_node.specs.declared.part.Part.{Part}
 use Rattle.sf_node.specs.declared.part.Part.TheVariants as by
@@ -11,7 +11,8 @@ use Rattle.sf_standard.proofs.Exact.{IsWholeItem, whole-item, fitting-belongs, l
 use Rattle.sf_standard.proofs.Listed.{each-from, sum_by-le_each}
 use Rattle.sf_standard.proofs.Shortness.{wires-short}
 use Rattle.sf_standard.proofs.Singles.{no-plan, first-needed, single_spans_are_open}
-use Rattle.sf_standard.proofs.Soundness.{bounded-le, solved-complete}
+use Rattle.sf_bound.proofs.Whole.{solved-complete, solved_single}
+use Rattle.sf_standard.proofs.Soundness.{bounded-le}
 
 -- what stands in the other branch is no more
 branch-le : (t : Bool) (x y z : ℕ) → y ≤ z → (if t then x else y) ≤ (if t then x else z)
@@ -180,13 +181,6 @@ areas_are_all design node by.Range free sub = all-same design node free sub by.R
 areas_are_all design node by.Pair free sub = all-same design node free sub by.Pair
 areas_are_all design node by.Hull free sub = all-same design node free sub by.Hull
 areas_are_all design node by.Full free sub = refl
-
--- where wires count, the spans of a solved subproblem are single
-pub solved_single : (design : Design) (node : Parts) → is_solved design node ≡ true → 0 < design.weights.wire → has_single_spans node ≡ true
-solved_single design node solved wires =
-    let zero_wire : (design.weights.wire == 0) ≡ false = ne_eqb design.weights.wire 0 (λ e. absurd (omega (arith, e, wires))) in
-    ap (λ b. b || has_single_spans node) (sym zero_wire)
-    ∙ (and_parts (is_complete node) (design.weights.wire == 0 || has_single_spans node) solved).1
 
 -- the bound is the value from area and wires
 pub standard_is_open : (design : Design) (node : Parts) → IsSubproblem design node → standard design node ≡ open_value design node

@@ -32,7 +32,7 @@ pub use Rattle.std.proofs.Math.Nat.{mul-le-mul, mul-le-mul_left, mul-le-mul_righ
 pub use Rattle.std.proofs.lemmas.Bool.{and_from, and_parts, cases_eq, cases_lt, cond-false, cond-true, cond_both, eq-eqb, eqb-true, le-leb, leb-true, ltb-false, ltb-true, ne_eqb, true≢false}
 pub use Rattle.std.proofs.lemmas.Int.{clamps, ints}
 pub use Rattle.std.proofs.lemmas.List.{get_or_past, map-append, nil_from_length}
-pub use Rattle.std.proofs.lemmas.List.Elements.{All-contains, All-from_recursion, Contains-append_cases, Contains-append_left, Contains-append_right, recursion_from_All}
+pub use Rattle.std.proofs.lemmas.List.Elements.{All-contains, Contains-append_cases, Contains-append_left, Contains-append_right, recursion_from_All}
 pub use Rattle.std.proofs.lemmas.List.Sums.{sum-map, sum_by-append, sum_by-cons}
 pub use Rattle.std.specs.List.{AllByRecursion, flat_map, list_all, list_any, range_with_len}
 pub use Rattle.std.specs.Prelude.{Contains, IsFalse, count_by, drop, filter, fold, nat_abs, nat_le, nat_lt, neg_ℤ, negsuc, not, pos, slice_index_or, slice_range, sum, sum_by, ℤ, ⊤}

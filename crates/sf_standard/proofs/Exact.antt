@@ -1,18 +1,16 @@
 -- At a solved subproblem the standard bound is the least cost of a plan that belongs to it and fits.
-use Rattle.std.proofs.Common.{◌≡◌, ℕ, ◌<◌, ◌≤◌, List, [], ◌∷◌, ◌++◌, length, take, append_assoc, append-nil, arith, refl, ap, sym, subst, ◌∙◌, ◌⊎◌, inl, inr, Bool, true, false}
-use Rattle.sf_standard.proofs.Common.{Contains, count_by, IsFalse, nat_le, ⊤, AllByRecursion, and_parts, leb-true, cases_lt, cond-true, All-from_recursion, recursion_from_All, Design, Shape, Outline, MAX, cost, Fits, block_count, shapes_of, Tree, Leaf, Beside, Above, width, height, leaves, each-append, each-left, each-right, each-weaker, Token, is_block, is_outside, postfix, IsSkewed, is_beside, is_above, Parts, Belongs, is_complete, is_solved, span_of, IsSubproblem, subproblem-spans, Contains-head, Contains-tail, shapes_in, Item, read, items_of, plans, fits, fitting, item_of, least_of, least_cost, open_value, standard}
-use Rattle.std.proofs.Math.Seq.{take-append_seam}
+use Rattle.std.proofs.Common.{◌≡◌, ℕ, ◌≤◌, List, [], ◌∷◌, ◌++◌, append_assoc, append-nil, arith, refl, ap, sym, subst, ◌∙◌, ◌⊎◌, inl, inr, Bool, true, false}
+use Rattle.sf_standard.proofs.Common.{Contains, IsFalse, nat_le, ⊤, and_parts, leb-true, cases_lt, cond-true, Design, Shape, Outline, MAX, cost, Fits, block_count, Tree, Leaf, Beside, Above, width, height, leaves, each-append, Token, postfix, IsSkewed, is_beside, is_above, Parts, Belongs, is_complete, is_solved, IsSubproblem, subproblem-spans, Contains-head, Contains-tail, shapes_in, Item, read, items_of, plans, fits, fitting, item_of, least_of, least_cost, open_value, standard}
 use Rattle.sf_polish.specs.declared.expr.Expr.{Expr}
 use Rattle.sf_polish.specs.declared.expr.Token.TheVariants as token
-use Rattle.sf_polish.proofs.Stack.{count_by-postfix}
-use Rattle.sf_polish.proofs.Normality.{inside-number, normal-spelled}
+use Rattle.sf_polish.proofs.Normality.{normal-spelled}
 use Rattle.sf_node.specs.Bounds.{IsExactAtEnd}
-use Rattle.sf_node.proofs.Halves.{in_span}
 use Rattle.sf_node.proofs.Normalised.{complete-normal}
 use Rattle.sf_standard.specs.Items as item
 use Rattle.sf_standard.proofs.Listed.{Contains-from_map, Contains-from_filter, Contains-from_pairs}
 use Rattle.sf_standard.proofs.Cutting.{AreListed}
-use Rattle.sf_standard.proofs.Soundness.{solved-complete, standard_is_sound}
+use Rattle.sf_bound.proofs.Whole.{listed-belongs, solved-complete}
+use Rattle.sf_standard.proofs.Soundness.{standard_is_sound}
 
 -- reading the postfix of a plan puts its item on the stack
 pub read-postfix : (t : Tree) (items : List Item) (rest : List Token) → read items (postfix t ++ rest) ≡ read (item_of t ∷ items) rest
@@ -114,16 +112,6 @@ fits-from o t h =
     let k = and_parts (nat_le (width t) o.w) (nat_le (height t) o.h) h in
     (leb-true (width t) o.w k.0, leb-true (height t) o.h k.1)
 
--- where no token names a block past the last, no leaf does
-leaves-inside : (n : ℕ) (t : Tree) → AllByRecursion (λ x. IsFalse (is_outside n x)) (postfix t) → AllByRecursion (λ leaf. leaf.0 < n) (leaves t)
-leaves-inside n (Leaf b s) h = (inside-number n b h.0, tt)
-leaves-inside n (Beside l r) h =
-    let both = each-left (λ x. IsFalse (is_outside n x)) (postfix l ++ postfix r) (token.Beside ∷ []) h in
-    each-append (λ leaf. leaf.0 < n) (leaves l) (leaves r) (leaves-inside n l (each-left _ (postfix l) (postfix r) both)) (leaves-inside n r (each-right _ (postfix l) (postfix r) both))
-leaves-inside n (Above l r) h =
-    let both = each-left (λ x. IsFalse (is_outside n x)) (postfix l ++ postfix r) (token.Above ∷ []) h in
-    each-append (λ leaf. leaf.0 < n) (leaves l) (leaves r) (leaves-inside n l (each-left _ (postfix l) (postfix r) both)) (leaves-inside n r (each-right _ (postfix l) (postfix r) both))
-
 -- the least value is reached, where there is one
 pub least_of-reached : (f : Tree → ℕ) (ts : List Tree) → (least_of f ts ≡ MAX) ⊎ ((t : Tree) × Contains ts t × (f t ≡ least_of f ts))
 least_of-reached f [] = inl refl
@@ -159,33 +147,6 @@ whole-item design node sub complete =
         tokens = sym (postfix-item k.0) ∙ spelled;
       },
     )
-
--- the blocks of a plan whose postfix is the tokens of a complete subproblem
-pub spelled-inside : (design : Design) (node : Parts) (t : Tree) → IsSubproblem design node → is_complete node ≡ true → postfix t ≡ node.tokens → AllByRecursion (λ leaf. leaf.0 < block_count design) (leaves t)
-spelled-inside design node t sub complete spelled =
-    let n = block_count design in
-    let normal = complete-normal design node sub (subproblem-spans design node sub) complete in
-    leaves-inside n t (subst (AllByRecursion (λ x. IsFalse (is_outside n x))) (sym spelled) (recursion_from_All (λ x. IsFalse (is_outside n x)) node.tokens normal.no_other))
-
--- a skewed plan with the tokens of a complete subproblem and shapes from the spans belongs to it
-pub listed-belongs : (design : Design) (node : Parts) (t : Tree) → IsSubproblem design node → is_complete node ≡ true → postfix t ≡ node.tokens → IsSkewed t → AreListed (shapes_in design node.spans) t → Belongs design node t
-listed-belongs design node t sub complete spelled skewed listed =
-    let n = block_count design in
-    let normal = complete-normal design node sub (subproblem-spans design node sub) complete in
-    record {
-      skewed = skewed;
-      legal = record {
-        blocks = record {
-          each_once = λ b lt. sym (count_by-postfix b t) ∙ ap (count_by (is_block b)) spelled ∙ normal.each_once b lt;
-          no_other = All-from_recursion (λ leaf. leaf.0 < n) (leaves t) (spelled-inside design node t sub complete spelled);
-        };
-        listed = All-from_recursion (λ leaf. Contains (shapes_of design leaf.0) leaf.1) (leaves t)
-            (each-weaker (λ leaf. Contains (shapes_in design node.spans leaf.0) leaf.1) (λ leaf. Contains (shapes_of design leaf.0) leaf.1)
-            (λ leaf h. let s = in_span (shapes_of design leaf.0) (span_of node leaf.0).0 (span_of node leaf.0).1 leaf.1 h in (s.at, s.within, s.is)) (leaves t) listed);
-      };
-      begins = ap (take (length node.tokens)) (spelled ∙ sym (append-nil node.tokens)) ∙ take-append_seam node.tokens [];
-      chosen = All-from_recursion (λ leaf. Contains (shapes_in design node.spans leaf.0) leaf.1) (leaves t) listed;
-    }
 
 -- the fitting plans of the one item of a complete subproblem belong to it
 pub fitting-belongs : (design : Design) (node : Parts) (i : Item) (t : Tree) → IsSubproblem design node → is_complete node ≡ true → IsWholeItem node i → Contains (fitting design node i) t → Belongs design node t × Fits design.outline t

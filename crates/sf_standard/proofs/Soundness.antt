@@ -1,16 +1,13 @@
 -- The standard bound is sound.
 use Rattle.std.proofs.Common.{◌≡◌, ◌+◌, ◌*◌, ◌≤◌, max, [], ◌∷◌, map, length, arith, ap, sym, subst, ◌∙◌, true}
 use Rattle.std.specs.Prelude.{if◌then◌else◌}
-use Rattle.sf_standard.proofs.Common.{nat_lt, list_any, mul-le-mul, mul-le-mul_left, cond_both, and_parts, ltb-true, true≢false, Design, MAX, cost, Fits, block_count, Tree, Parts, Belongs, is_complete, is_solved, subproblem-spans, items_of, fitting, item_of, area, least_cost, has_none, needed_area, area_part, wire_part, plans_of, open_value, standard}
+use Rattle.sf_standard.proofs.Common.{nat_lt, list_any, mul-le-mul, mul-le-mul_left, cond_both, ltb-true, true≢false, Design, MAX, cost, Fits, block_count, Tree, Parts, Belongs, is_solved, subproblem-spans, items_of, fitting, item_of, area, least_cost, has_none, needed_area, area_part, wire_part, plans_of, open_value, standard}
 use Rattle.sf_model.proofs.Floored.{own_floor}
 use Rattle.sf_node.specs.Bounds.{IsSound}
+use Rattle.sf_bound.proofs.Whole.{solved-complete}
 use Rattle.sf_standard.proofs.Grown.{part-self}
 use Rattle.sf_standard.proofs.Cutting.{cut, part-fitting, least_of-le, needed-area, none-empty}
 use Rattle.sf_standard.proofs.NetWires.{nets-le}
-
--- a solved subproblem is complete
-pub solved-complete : (design : Design) (node : Parts) → is_solved design node ≡ true → is_complete node ≡ true
-solved-complete design node h = (and_parts _ _ h).0
 
 -- the value from area and wires is no more than what a plan of the subproblem costs
 pub bounded-le : (design : Design) (node : Parts) (tree : Tree) → length node.spans ≡ block_count design → Belongs design node tree → Fits design.outline tree → open_value design node ≤ cost design tree

@@ -2,12 +2,13 @@
 
 ghost use Rattle.std.specs.Prelude.{IfOk, IfSome};
 ghost use Rattle.sf_node.specs.Children.{IsSubproblem};
-ghost use Rattle.sf_bounds.specs.Serving.{MayServe};
+ghost use Rattle.sf_bounds.specs.Memory.{IsMemoryOf};
 
 use crate::designs::{
     FLAT, NARROW, SQUARE, WIDE, bare, block, block_of, net, node_at, pad, three_shapes, two_squares,
 };
-use sf_bounds::{Bounds, Room, Standard, solve};
+use sf_bound::{Bounds, solve};
+use sf_bounds::{Room, Standard};
 use sf_model::{BlockList, Design, MAX, NetList, Outline, PadList, Pin, Weights};
 use sf_node::{Node, Part, PartValues};
 use std::alloc::{AllocError, Global};
@@ -28,14 +29,14 @@ fn halves(design: &Design, node: &Node) -> Result<Option<(Node, Node)>, AllocErr
 }
 
 /// The values of the two halves of a subproblem, and of the halves of the second one.
-fn values_of_halves<'a>(
-    design: &'a Design,
-    room: &mut Room<'a>,
+fn values_of_halves(
+    design: &Design,
+    room: &mut Room,
     whole: &Node,
 ) -> Result<Option<[u64; 4]>, AllocError>
     requires whole { IsSubproblem design.now whole.now }
-    requires serves { MayServe room.old design.now }
-    ensures serves { MayServe room.new design.now }
+    requires serves { IsMemoryOf design.now room.old }
+    ensures serves { IsMemoryOf design.now room.new }
 {
     let Some((high, low)) = halves(design, whole)? else {
         return Ok(None);
@@ -91,29 +92,29 @@ const ITEMS: [(&[usize], u64); 7] = [
 const WEIGHTED: [(&[usize], u64); 2] = [(&[0, 0, 0, 0, 1], 42), (&[0, 0, 0, 0, 0, 0, 0], 48)];
 
 /// The value of the subproblem that is reached over the children at these places.
-fn value_at<'a>(
+fn value_at(
     alloc: Global,
-    design: &'a Design,
-    room: &mut Room<'a>,
+    design: &Design,
+    room: &mut Room,
     places: &[usize],
 ) -> Result<u64, AllocError>
-    requires serves { MayServe room.old design.now }
-    ensures serves { MayServe room.new design.now }
+    requires serves { IsMemoryOf design.now room.old }
+    ensures serves { IsMemoryOf design.now room.new }
 {
     let node = node_at(alloc, design, places)?;
     Standard.bound(design, &node, room)
 }
 
 /// Asserts that the subproblems over these places have these values, one after another in one room.
-fn assert_values<'a>(
+fn assert_values(
     rt: &impl Abort,
     alloc: Global,
-    design: &'a Design,
-    room: &mut Room<'a>,
+    design: &Design,
+    room: &mut Room,
     rows: &[(&[usize], u64)],
 ) -> Result<(), Fail>
-    requires serves { MayServe room.old design.now }
-    ensures serves { MayServe room.new design.now }
+    requires serves { IsMemoryOf design.now room.old }
+    ensures serves { IsMemoryOf design.now room.new }
 {
     for (places, value) in rows {
         assert_eq!(rt;
@@ -133,7 +134,7 @@ const THREE_SHAPES: [(&[usize], u64); 2] = [(&[], 24), (&[0], 194)];
 fn measures(rt: HostRuntime) -> Result<(), Fail> {
     let alloc = rt.alloc();
     let design = three_shapes(alloc)?;
-    let mut room = Room::new(alloc);
+    let mut room = Standard.room(alloc);
     assert_values(&rt, alloc, &design, &mut room, &THREE_SHAPES)?;
     let whole = node_at(alloc, &design, &[0])?;
     let of_halves = values_of_halves(&design, &mut room, &whole)?;
@@ -146,7 +147,7 @@ fn measures(rt: HostRuntime) -> Result<(), Fail> {
 fn measures_items(rt: HostRuntime) -> Result<(), Fail> {
     let alloc = rt.alloc();
     let design = four_squares(alloc, 1, 1, 1)?;
-    let mut room = Room::new(alloc);
+    let mut room = Standard.room(alloc);
     assert_values(&rt, alloc, &design, &mut room, &ITEMS)
 }
 
@@ -156,7 +157,7 @@ fn measures_one_weight(rt: HostRuntime) -> Result<(), Fail> {
     let alloc = rt.alloc();
     for (weight, value) in [(1u8, 12u64), (3, 20), (0, 8)] {
         let design = two_squares(alloc, weight)?;
-        let mut room = Room::new(alloc);
+        let mut room = Standard.room(alloc);
         // 0 1 *
         let of_row = value_at(alloc, &design, &mut room, &[0, 0, 0])?;
         assert_eq!(rt; of_row, value);
@@ -169,7 +170,7 @@ fn measures_one_weight(rt: HostRuntime) -> Result<(), Fail> {
 fn measures_weights(rt: HostRuntime) -> Result<(), Fail> {
     let alloc = rt.alloc();
     let design = four_squares(alloc, 0, 2, 3)?;
-    let mut room = Room::new(alloc);
+    let mut room = Standard.room(alloc);
     assert_values(&rt, alloc, &design, &mut room, &WEIGHTED)
 }
 
@@ -185,16 +186,16 @@ fn value_of(full: u64, parts: &PartValues, part: Part) -> u64 {
 }
 
 /// Asserts that these are the values of the parts, asked for one by one and all at once.
-fn assert_parts<'a>(
+fn assert_parts(
     rt: &impl Abort,
-    design: &'a Design,
+    design: &Design,
     node: &Node,
-    room: &mut Room<'a>,
+    room: &mut Room,
     rows: &[(Part, u64)],
 ) -> Result<(), Fail>
     requires node { IsSubproblem design.now node.now }
-    requires serves { MayServe room.old design.now }
-    ensures serves { MayServe room.new design.now }
+    requires serves { IsMemoryOf design.now room.old }
+    ensures serves { IsMemoryOf design.now room.new }
 {
     let (full, parts) = Standard.all_values(design, node, room)?;
     for (part, value) in rows {
@@ -240,7 +241,7 @@ const OF_HIGH: [(Part, u64); 5] = [
 fn measures_parts(rt: HostRuntime) -> Result<(), Fail> {
     let alloc = rt.alloc();
     let design = three_shapes(alloc)?;
-    let mut room = Room::new(alloc);
+    let mut room = Standard.room(alloc);
     let start = node_at(alloc, &design, &[])?;
     assert_parts(&rt, &design, &start, &mut room, &OF_ROOT)?;
     let whole = node_at(alloc, &design, &[0])?;
@@ -274,7 +275,7 @@ fn solves_no_areas(rt: HostRuntime) -> Result<(), Fail> {
     let design = too_large(alloc, 0)?;
     let whole = node_at(alloc, &design, &[0])?;
     assert_eq!(rt; has_solution(alloc, &design, &whole)?, Some(false));
-    let mut room = Room::new(alloc);
+    let mut room = Standard.room(alloc);
     assert_eq!(rt; Standard.bound(&design, &whole, &mut room)?, MAX);
     Ok(())
 }

@@ -13,7 +13,6 @@ use Rattle.sf_node.specs.Parts.{Parts}
 use Rattle.sf_node.specs.Subproblem.{root}
 use Rattle.sf_node.specs.Children.{walk}
 use Rattle.sf_node.specs.Later.{pending}
-use Rattle.sf_bounds.specs.Serving.{MayServe}
 use Rattle.sf_search_core.specs.declared.entry.Entry.{Entry}
 use Rattle.sf_search_core.specs.declared.entry.Kind.{Kind}
 use Rattle.sf_search_core.specs.declared.entry.Kind.TheVariants as kind
@@ -173,7 +172,7 @@ module _ {T : Type 0} (design : Design) (bound : Parts → ℕ) where
 
   -- one visit
   pub did-visit : (part : Parts → Part → ℕ) (old new : WorkerState T) (hand hand' : HandView) (x : List Parts) → left_of design hand ≡ x → hand.more ≡ true → IsVisited design bound part hand old.seat hand' new.seat new.best
-      → new ≡ record old { seat = new.seat; best = new.best; room = new.room; quota = new.quota } → new.quota + 1 ≡ old.quota → Did design bound old new x (left_of design hand')
+      → new ≡ record old { seat = new.seat; best = new.best; quota = new.quota } → new.quota + 1 ≡ old.quota → Did design bound old new x (left_of design hand')
   did-visit part old new hand hand' x same more v frame quota =
       let e = v.entry in
       let node = hand.path.node in
@@ -289,10 +288,10 @@ module _ {T : Type 0} (design : Design) (bound : Parts → ℕ) where
 
     -- the first visit of a stretch
     pub walking-start : (old new : WorkerState T) (stretch : Stretch) (hand hand' : HandView) → IsStart design bound stretch hand → IsVisited design bound part hand old.seat hand' new.seat new.best
-        → new ≡ record old { seat = new.seat; best = new.best; room = new.room; quota = new.quota } → new.quota + 1 ≡ old.quota → MayServe new.room design
+        → new ≡ record old { seat = new.seat; best = new.best; quota = new.quota } → new.quota + 1 ≡ old.quota
         → Walking design bound part old new (waits design stretch) hand' stretch.cursor.node
     unfolding did-visit
-    walking-start old new stretch hand hand' s v frame quota serves =
+    walking-start old new stretch hand hand' s v frame quota =
         let mark : Mark = record { node = hand.path.node; tag = v.tag } in
         let empty : marks_of design hand ≡ [] = ap (marks (whole_of design hand)) s.none in
         let marks_are : marks_of design hand' ≡ mark ∷ [] = v.followed.marks_are ∙ ap (λ ms. ms ++ mark ∷ []) empty in
@@ -307,15 +306,14 @@ module _ {T : Type 0} (design : Design) (bound : Parts → ℕ) where
           kept = ap (λ (z : WorkerState T). z.kept.items) frame ∙ sym (append-nil old.kept.items);
           first = ap (λ (z : WorkerState T). z.first) frame;
           best = v.best;
-          serves = serves;
         }
 
     -- one visit more
     pub walking-on : (old mid new : WorkerState T) (before : List Parts) (hand hand' : HandView) (node : Parts) → Walking design bound part old mid before hand node → hand.more ≡ true → IsVisited design bound part hand mid.seat hand' new.seat new.best
-        → new ≡ record mid { seat = new.seat; best = new.best; room = new.room; quota = new.quota } → new.quota + 1 ≡ mid.quota → MayServe new.room design
+        → new ≡ record mid { seat = new.seat; best = new.best; quota = new.quota } → new.quota + 1 ≡ mid.quota
         → Walking design bound part old new before hand' node
     unfolding did-visit did-trans
-    walking-on old mid new before hand hand' node w more v frame quota serves =
+    walking-on old mid new before hand hand' node w more v frame quota =
         let mark : Mark = record { node = hand.path.node; tag = v.tag } in
         let did = did-visit part mid new hand hand' (left_of design hand) refl more v frame quota in
         record {
@@ -329,7 +327,6 @@ module _ {T : Type 0} (design : Design) (bound : Parts → ℕ) where
           kept = ap (λ (z : WorkerState T). z.kept.items) frame ∙ w.kept ∙ ap (λ z. old.kept.items ++ z) (sym (append-nil w.did.refused));
           first = ap (λ (z : WorkerState T). z.first) frame ∙ w.first;
           best = v.best;
-          serves = serves;
         }
 
     -- one cut, or none
@@ -348,7 +345,6 @@ module _ {T : Type 0} (design : Design) (bound : Parts → ℕ) where
           kept = s.kept ∙ ap (λ z. z ++ s.refused) w.kept ∙ append_assoc old.kept.items w.did.refused s.refused;
           first = ap (λ (z : WorkerState T). z.first) s.frame ∙ w.first;
           best = subst (λ (k : Knows). IsBest design new.best k.offered) (sym seat) (subst (λ b. IsBest design b mid.seat.offered) (sym best) w.best);
-          serves = subst (λ r. MayServe r design) (sym (ap (λ (z : WorkerState T). z.room) s.frame)) w.serves;
         }
 
     -- the piece is put down
@@ -395,7 +391,6 @@ module _ {T : Type 0} (design : Design) (bound : Parts → ℕ) where
           decided = w.decided;
           first = first ∙ w.first;
           best = subst (λ (k : Knows). IsBest design new.best k.offered) (sym seat) (subst (λ b. IsBest design b mid.seat.offered) (sym best) w.best);
-          serves = subst (λ r. MayServe r design) (sym (ap (λ (z : WorkerState T). z.room) p.frame)) w.serves;
         }
 
 -- the stretch that was in `first` is the one found
@@ -548,7 +543,6 @@ module _ {T : Type 0} (design : Design) (bound : Parts → ℕ) (part : Parts �
   ready-on S b m c s f o = record {
     first = subst (λ t. IfSome t (IsStretch design bound)) (sym (o.first ∙ first-gone b.first m.first s f.found_is.0)) tt;
     best = o.best;
-    serves = o.serves;
   }
 
   -- one stretch more

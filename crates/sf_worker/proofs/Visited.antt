@@ -18,7 +18,7 @@ use Rattle.sf_certificate.specs.declared.tag.Tag.{Tag}
 use Rattle.sf_certificate.specs.declared.tag.Tag.TheVariants as tags
 use Rattle.sf_certificate.specs.Marks.{made, tag_of, MaySplit}
 use Rattle.sf_certificate.specs.Named.{unnamed}
-use Rattle.sf_bounds.specs.Cheapest.{IsPlanOf}
+use Rattle.sf_bound.specs.Cheapest.{IsPlanOf}
 use Rattle.sf_incumbent.specs.Seen.{Knows}
 use Rattle.sf_worker.specs.declared.visit.Visit.{Visit}
 use Rattle.sf_worker.specs.declared.visit.Visit.TheVariants.{Closed, Solved, Extended, Split}

@@ -5,7 +5,7 @@ use Rattle.sf_model.specs.declared.TheConstants.{MAX}
 use Rattle.sf_polish.specs.declared.expr.Expr.{Expr}
 use Rattle.sf_node.specs.Parts.{Parts}
 use Rattle.sf_node.specs.Subproblem.{is_solved}
-use Rattle.sf_bounds.specs.Cheapest.{IsPlanOf}
+use Rattle.sf_bound.specs.Cheapest.{IsPlanOf}
 use Rattle.sf_search_core.specs.declared.entry.Entry.{Entry}
 use Rattle.sf_search_core.specs.declared.entry.Kind.TheVariants as kind
 use Rattle.sf_search_core.specs.Conserved.{IsDecided}

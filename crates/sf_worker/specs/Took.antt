@@ -18,7 +18,6 @@ use Rattle.sf_pieces.specs.declared.piece.Piece.{Piece}
 use Rattle.sf_worker.specs.declared.state.WorkerState.{WorkerState}
 use Rattle.sf_worker.specs.declared.state.PassEnd.{PassEnd}
 use Rattle.sf_worker.specs.declared.state.PassEnd.TheVariants.{QuotaSpent, FoundNothing}
-use Rattle.sf_bounds.specs.Serving.{MayServe}
 use Rattle.sf_worker.specs.Tasks.{IsEntry, IsBest, Solves}
 use Rattle.sf_worker.specs.InHand.{HandView, IsHand, marks_of, left_of}
 use Rattle.sf_pieces.specs.Naming.{AreKept}
@@ -114,7 +113,6 @@ module _ {T : Type 0} where
   pub record IsReady (design : Design) (bound : Parts → ℕ) (s : WorkerState T) : Type 0 where
     pub first : IfSome s.first (IsStretch design bound)
     pub best : IsBest design s.best s.seat.offered
-    pub serves : MayServe s.room design
 
   -- what was decided, and the stretches that the deque refused. As multisets, what was taken, what was in hand and the children of what was decided are what was decided,
   -- what was put, what was refused and what is in hand
@@ -163,7 +161,6 @@ module _ {T : Type 0} where
     pub kept : new.kept.items ≡ old.kept.items ++ did.refused
     pub first : new.first ≡ old.first
     pub best : IsBest design new.best new.seat.offered
-    pub serves : MayServe new.room design
 
   -- some of the stretch in hand may have been given away, and what was put before may have been taken out and put again
   pub record IsShared (design : Design) (bound : Parts → ℕ) (old : WorkerState T) (hand : HandView) (new : WorkerState T) (hand' : HandView) : Type 0 where
@@ -213,4 +210,3 @@ module _ {T : Type 0} where
     pub decided : Any (λ (e : Entry). e.node ≡ stretch.cursor.node) passed.did.logged
     pub first : new.first ≡ old.first
     pub best : IsBest design new.best new.seat.offered
-    pub serves : MayServe new.room design

@@ -3,7 +3,7 @@
 ghost use Rattle.std.specs.Prelude.{◌≡◌};
 
 use crate::visit::Visit;
-use sf_bounds::{Bounds, Room, child_bound};
+use sf_bound::{Bounds, child_bound};
 use sf_certificate::Tag;
 use sf_cursor::{Cursor, Stretch};
 use sf_model::Design;
@@ -52,7 +52,6 @@ impl Model for Hand {
 
 impl Hand {
     ghost use Rattle.std.specs.Prelude.{◌≤◌, ◌++◌, [], length, true, false, IfOk, IfSome, OnOk, MatchOption};
-    ghost use Rattle.sf_bounds.specs.Serving.{MayServe};
     ghost use Rattle.sf_certificate.specs.Marks.{MaySplit};
     ghost use Rattle.sf_cursor.specs.Path.{IsPath};
     ghost use Rattle.sf_cursor.specs.Stretches.{IsStretch};
@@ -170,18 +169,18 @@ impl Hand {
     }
 
     /// Leaves all open that is not visited yet. The answer is the least of `low` and of the values there.
-    pub fn leave_open<'a, B: Bounds>(
+    pub fn leave_open<B: Bounds>(
         &mut self,
-        design: &'a Design,
+        design: &Design,
         bounds: &B,
-        room: &mut Room<'a>,
+        room: &mut B::Room,
         low: u64,
     ) -> Result<u64, NoMemory>
         requires hand { IsHand design.now (B.Values.value bounds.now design.now) self.old }
-        requires serves { MayServe room.old design.now }
+        requires serves { B.serves room.old design.now }
         ensures left { IfOk result
             (IsLeftOpen design.now (B.Values.value bounds.now design.now) low self.old self.new) }
-        ensures serves { MayServe room.new design.now }
+        ensures serves { B.serves room.new design.now }
     {
         let mut low = low;
         while self.more {
@@ -196,17 +195,17 @@ impl Hand {
     }
 
     /// The value of the subproblem that is next, and those of the parts where they came with it.
-    pub fn value<'a, B: Bounds>(
+    pub fn value<B: Bounds>(
         &self,
-        design: &'a Design,
+        design: &Design,
         bounds: &B,
-        room: &mut Room<'a>,
+        room: &mut B::Room,
     ) -> Result<Valued, NoMemory>
         requires at { IsPath design.now (B.Values.value bounds.now design.now) self.now.path }
-        requires serves { MayServe room.old design.now }
+        requires serves { B.serves room.old design.now }
         ensures valued { IfOk result (IsValued (B.Values.value bounds.now design.now)
             (B.part_value bounds.now design.now) self.now.path.node) }
-        ensures serves { MayServe room.new design.now }
+        ensures serves { B.serves room.new design.now }
     {
         match self.cursor.parent_value(design, bounds) {
             Some(value) if bounds.keeps_value(self.cursor.node()) => {
@@ -225,19 +224,19 @@ impl Hand {
     /// The tag of a visit that decided against `word`. A closed subproblem names the first part that is at least
     /// the word, a solved one the first that is at least its own value; where that is not the area the values of
     /// the parts are kept, since the cost may fall.
-    pub fn tag<'a, B: Bounds>(
+    pub fn tag<B: Bounds>(
         &mut self,
-        design: &'a Design,
+        design: &Design,
         bounds: &B,
         seen: &Visit,
         valued: Valued,
         word: u64,
-        room: &mut Room<'a>,
+        room: &mut B::Room,
     ) -> Result<Tag, NoMemory>
         requires at { IsPath design.now (B.Values.value bounds.now design.now) self.old.path }
         requires valued { IsValued (B.Values.value bounds.now design.now)
             (B.part_value bounds.now design.now) self.old.path.node valued }
-        requires serves { MayServe room.old design.now }
+        requires serves { B.serves room.old design.now }
         ensures tag { IfOk result
             (λ tag. tag ≡ tag_after (B.Values.value bounds.now design.now)
             (B.part_value bounds.now design.now) self.old.path.node seen.now word) }
@@ -247,7 +246,7 @@ impl Hand {
               kept = self.old.kept ++ kept_for
                   (B.part_value bounds.now design.now self.old.path.node) tag;
             }) }
-        ensures serves { MayServe room.new design.now }
+        ensures serves { B.serves room.new design.now }
     {
         let cost = match seen {
             Visit::Closed => word,

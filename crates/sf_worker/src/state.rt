@@ -1,6 +1,5 @@
 //! What a worker has, and why its pass ends.
 
-use sf_bounds::Room;
 use sf_cursor::Stretch;
 use sf_frontier::{Place, Served};
 use sf_incumbent::Seat;
@@ -16,14 +15,13 @@ pub enum PassEnd {
 
 /// What one worker has. The quota is the number of decisions that are left to it.
 #[derive(Drop)]
-pub struct WorkerState<'a, T: Served> {
+pub struct WorkerState<T: Served> {
     pub number: usize,
     pub first: Option<Stretch>,
     pub place: Place<T>,
     pub seat: Seat,
     pub log: Vec<Piece>,
     pub best: Option<(Expr, u64)>,
-    pub room: Room<'a>,
     pub quota: u64,
     pub kept: Vec<Stretch>,
 }

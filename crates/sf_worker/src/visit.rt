@@ -4,7 +4,7 @@ ghost use Rattle.std.specs.Prelude.{◌≡◌, IfOk};
 ghost use Rattle.sf_node.specs.Children.{IsSubproblem};
 ghost use Rattle.sf_worker.specs.Decided.{IsVisit};
 
-use sf_bounds::{Bounds, solve};
+use sf_bound::{Bounds, solve};
 use sf_model::Design;
 use sf_node::{Node, Values};
 use sf_polish::Expr;

@@ -1,7 +1,6 @@
 //! A walk over one stretch.
 
 ghost use Rattle.std.specs.Prelude.{◌≡◌, ◌+◌, ◌<◌, ◌≤◌, true, OnOk};
-ghost use Rattle.sf_bounds.specs.Serving.{MayServe};
 ghost use Rattle.sf_cursor.specs.Stretches.{IsStretch};
 ghost use Rattle.sf_worker.specs.Tasks.{IsBest};
 ghost use Rattle.sf_worker.specs.InHand.{IsHand, IsVisited};
@@ -11,7 +10,7 @@ use crate::hand::Hand;
 use crate::one_visit::visit_next;
 use crate::state::WorkerState;
 use crate::take::put;
-use sf_bounds::Bounds;
+use sf_bound::Bounds;
 use sf_cursor::Stretch;
 use sf_frontier::Served;
 use sf_incumbent::Incumbent;
@@ -30,10 +29,11 @@ fn slice(design: &Design) -> u64
 
 /// One decision of the quota, of which so many were given in this pass. The answer is the value that it was made
 /// against.
-fn go<'a, T: Served, B: Bounds, G: Gate>(
-    state: &mut WorkerState<'a, T>,
+fn go<T: Served, B: Bounds, G: Gate>(
+    state: &mut WorkerState<T>,
     hand: &mut Hand,
-    design: &'a Design,
+    room: &mut B::Room,
+    design: &Design,
     bounds: &B,
     word: &Incumbent,
     gate: &G,
@@ -45,7 +45,7 @@ fn go<'a, T: Served, B: Bounds, G: Gate>(
     requires hand { IsHand design.now (B.Values.value bounds.now design.now) hand.old }
     requires more { hand.old.more ≡ true }
     requires best { IsBest design.now state.old.best state.old.seat.offered }
-    requires serves { MayServe state.old.room design.now }
+    requires serves { B.serves room.old design.now }
     ensures visited { OnOk result (IsVisited design.now (B.Values.value bounds.now design.now)
         (B.part_value bounds.now design.now) hand.old state.old.seat hand.new state.new.seat state.new.best) }
     ensures quota { OnOk result (state.new.quota + 1 ≡ state.old.quota) }
@@ -53,17 +53,16 @@ fn go<'a, T: Served, B: Bounds, G: Gate>(
         ≡ record state.old {
           seat = state.new.seat;
           best = state.new.best;
-          room = state.new.room;
           quota = state.new.quota;
         }) }
-    ensures serves { OnOk result (MayServe state.new.room design.now) }
+    ensures serves { B.serves room.new design.now }
 {
     gate.at(state.number, given - state.quota);
     let value = visit_next(
         hand,
         &mut state.seat,
         &mut state.best,
-        &mut state.room,
+        room,
         design,
         bounds,
         word,
@@ -74,8 +73,8 @@ fn go<'a, T: Served, B: Bounds, G: Gate>(
 
 /// Where it is time to look and the own deque is empty, what waits on the shallowest level goes there, unless
 /// the value closes it all.
-fn share<'a, T: Served, V: Values>(
-    state: &mut WorkerState<'a, T>,
+fn share<T: Served, V: Values>(
+    state: &mut WorkerState<T>,
     hand: &mut Hand,
     design: &Design,
     values: &V,
@@ -104,7 +103,7 @@ fn share<'a, T: Served, V: Values>(
 }
 
 /// Logs the piece, and keeps what is left of the stretch.
-fn put_down<'a, T: Served>(state: &mut WorkerState<'a, T>, hand: Hand) -> Result<(), NoMemory>
+fn put_down<T: Served>(state: &mut WorkerState<T>, hand: Hand) -> Result<(), NoMemory>
     ensures { OnOk result (IsPutDown state.old hand state.new) }
 {
     let (piece, rest) = hand.into_parts();
@@ -116,10 +115,11 @@ fn put_down<'a, T: Served>(state: &mut WorkerState<'a, T>, hand: Hand) -> Result
 }
 
 /// Walks over a stretch until it is at its end or the quota is spent, of which so many were given in this pass.
-pub fn walk_over<'a, T: Served, B: Bounds, G: Gate>(
-    state: &mut WorkerState<'a, T>,
+pub fn walk_over<T: Served, B: Bounds, G: Gate>(
+    state: &mut WorkerState<T>,
     stretch: Stretch,
-    design: &'a Design,
+    room: &mut B::Room,
+    design: &Design,
     bounds: &B,
     word: &Incumbent,
     gate: &G,
@@ -131,14 +131,15 @@ pub fn walk_over<'a, T: Served, B: Bounds, G: Gate>(
     requires given { state.old.quota ≤ given }
     requires stretch { IsStretch design.now (B.Values.value bounds.now design.now) stretch }
     requires best { IsBest design.now state.old.best state.old.seat.offered }
-    requires serves { MayServe state.old.room design.now }
-    ensures { OnOk result (IsWalkedOver design.now (B.Values.value bounds.now design.now)
+    requires serves { B.serves room.old design.now }
+    ensures walked { OnOk result (IsWalkedOver design.now (B.Values.value bounds.now design.now)
         (B.part_value bounds.now design.now) stretch state.old state.new) }
+    ensures serves { B.serves room.new design.now }
 {
     let slice = slice(design);
     let has_others = !state.place.thieves.is_empty();
     let mut hand = Hand::at(stretch, design, bounds)?;
-    let mut value = go(state, &mut hand, design, bounds, word, gate, given)?;
+    let mut value = go(state, &mut hand, room, design, bounds, word, gate, given)?;
     while state.quota > 0 {
         if !hand.more() {
             put_down(state, hand)?;
@@ -146,7 +147,7 @@ pub fn walk_over<'a, T: Served, B: Bounds, G: Gate>(
         }
         let wanted = has_others && state.quota % slice == 0;
         share(state, &mut hand, design, bounds, value, wanted)?;
-        value = go(state, &mut hand, design, bounds, word, gate, given)?;
+        value = go(state, &mut hand, room, design, bounds, word, gate, given)?;
     }
     put_down(state, hand)?;
     Ok(())

@@ -6,7 +6,7 @@ ghost use Rattle.sf_worker.specs.Took.{IsReady, Serves, Passed, PassEnds};
 use crate::state::{PassEnd, WorkerState};
 use crate::take::find;
 use crate::walking::walk_over;
-use sf_bounds::Bounds;
+use sf_bound::Bounds;
 use sf_frontier::Served;
 use sf_incumbent::Incumbent;
 use sf_io::Gate;
@@ -14,9 +14,9 @@ use sf_model::Design;
 use std::alloc::AllocError as NoMemory;
 
 /// Walks over stretches until the quota is spent or none was found.
-pub fn pass<'a, T: Served, B: Bounds, G: Gate>(
-    state: &mut WorkerState<'a, T>,
-    design: &'a Design,
+pub fn pass<T: Served, B: Bounds, G: Gate>(
+    state: &mut WorkerState<T>,
+    design: &Design,
     bounds: &B,
     word: &Incumbent,
     gate: &G,
@@ -30,11 +30,12 @@ pub fn pass<'a, T: Served, B: Bounds, G: Gate>(
         (B.part_value bounds.now design.now) state.old state.new []) × PassEnds state.old state.new p end) }
 {
     let given = state.quota;
+    let mut room = bounds.room(*state.log.allocator());
     while state.quota > 0 {
         let Some(stretch) = find(&mut state.first, &mut state.place) else {
             return Ok(PassEnd::FoundNothing);
         };
-        walk_over(state, stretch, design, bounds, word, gate, given)?;
+        walk_over(state, stretch, &mut room, design, bounds, word, gate, given)?;
     }
     Ok(PassEnd::QuotaSpent)
 }

@@ -1,6 +1,6 @@
 use Rattle.std.proofs.Common.{◌≡◌, ◌<◌, [], ◌∷◌, ◌++◌, map, take, arith, ap, ◌∙◌, length, length-append, get_or}
 use Rattle.sf_bounds.proofs.Common.{take_all, length-take-le, sum_by_more, root, weighed_part, of_weight, start_cell}
-use Rattle.sf_bounds.proofs.NetParts.{net_inside}
+use Rattle.sf_nets.proofs.NetParts.{net_inside}
 use Rattle.sf_bounds.proofs.Weights.{few-kept, of_weight-more, row-step}
 use Rattle.sf_bounds.proofs.net_start.push_start.Goals as goal
 

@@ -7,11 +7,11 @@ pub returns-clause-parts : goal.returns-clause-parts
 returns-clause-parts c =
     let d = c.args.design.now in
     let n = c.args.node.now in
-    parts-are d n c.in-Some-2.area c.in_ok-wires.wires (subst (IsAreaCostOrNone d n) c.in-Some-2.is c.in_ok-area.ensures.cost) c.in_ok-wires.ensures.costs
+    parts-are d n c.in-Some.area c.in_ok-wires.wires (subst (IsAreaCostOrNone d n) c.in-Some.is c.in_ok-area.ensures.cost) c.in_ok-wires.ensures.costs
 
 pub returns-clause-value : goal.returns-clause-value
 returns-clause-value c =
     let d = c.args.design.now in
     let n = c.args.node.now in
-    full-is d n c.in-Some-2.area c.in_ok-wires.wires (subst (IsAreaCostOrNone d n) c.in-Some-2.is c.in_ok-area.ensures.cost) c.in_ok-wires.ensures.costs
+    full-is d n c.in-Some.area c.in_ok-wires.wires (subst (IsAreaCostOrNone d n) c.in-Some.is c.in_ok-area.ensures.cost) c.in_ok-wires.ensures.costs
     ∙ sym (c.standard_is_open.ensures d n c.requires.subproblem)

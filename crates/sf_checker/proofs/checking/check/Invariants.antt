@@ -6,4 +6,5 @@ abbrev pub invariant-loop-tag : goal.invariant-loop-tag
 invariant-loop-tag g l = record {
   steady : IsSteady l.design (g.B.Values.value l.bounds l.design) l.judge;
   found : IsFound l.design (g.B.Values.value l.bounds l.design) (g.B.Bounds.part_value l.bounds l.design) l.cert (take l.tag-index l.tag-items) l.judge;
+  serves : g.B.Bounds.serves l.room l.design;
 }

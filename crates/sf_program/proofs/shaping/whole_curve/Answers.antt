@@ -2,7 +2,7 @@ use Rattle.std.proofs.Common.{ap, sym, subst, ◌∙◌}
 use Rattle.sf_program.proofs.Common.{AreSpans, root}
 use Rattle.sf_node.specs.Parts.{Parts}
 use Rattle.sf_node.proofs.Reached.{root-subproblem}
-use Rattle.sf_bounds.proofs.Building.{curve_spans}
+use Rattle.sf_bound.proofs.Spans.{curve_spans}
 use Rattle.sf_program.proofs.shaping.whole_curve.Goals as goal
 
 pub root_curve-requires-clause-spans : goal.root_curve-requires-clause-spans

@@ -20,9 +20,8 @@ loop-place-preserved g c =
           (record {
             place_is = refl;
             log = c.new.ensures.items;
-            kept = c.new-in-loop-place-2.ensures.items;
+            kept = c.new-in-loop-place.ensures.items;
             best = refl;
-            room = c.new-in-loop-place.ensures;
             seat = c.split.ensures.other ∙ ap (λ (k : Knows). record { word = word.id; seen = k.seen; offered = MAX; parts = 1 }) i.0.seat;
             first = next.0;
             quota_is = ap (slice_index quotas) i.2;

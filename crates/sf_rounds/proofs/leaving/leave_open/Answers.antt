@@ -1,5 +1,5 @@
 use Rattle.std.proofs.Common.{◌≡◌, [], ◌∷◌, ◌++◌, All, length, ap, sym, subst, ◌∙◌, rules, append-nil, append_assoc}
-use Rattle.sf_rounds.proofs.Common.{All-head, All-tail, IsStretch, MayServe, nil_from_length}
+use Rattle.sf_rounds.proofs.Common.{All-head, All-tail, IsStretch, nil_from_length}
 use Rattle.sf_rounds.proofs.LeftOpen.{opening-done, opening-more, opening-none}
 use Rattle.sf_rounds.proofs.leaving.leave_open.Goals as goal
 
@@ -16,7 +16,7 @@ loop-stretch-init g c =
     record {
       opening = opening-none design bound (g.B.Bounds.part_value c.args.bounds.now design) c.args.value _ c.new.ensures.items;
       all = same;
-      serves = subst (λ room. MayServe room design) (sym c.new-room.ensures) tt;
+      serves = c.room-room.ensures design;
       rest = subst (All (IsStretch design bound)) (sym same) c.requires;
     }
 

@@ -1,5 +1,5 @@
 use Rattle.std.proofs.Common.{◌≡◌, ◌∷◌, [], length}
-use Rattle.sf_rounds.proofs.Common.{MayServe, root, marks, AreKept, IsRun}
+use Rattle.sf_rounds.proofs.Common.{root, marks, AreKept, IsRun}
 use Rattle.sf_rounds.proofs.one_walk.search_walk.Given as goal
 
 abbrev pub invariant-loop-step : goal.invariant-loop-step
@@ -7,5 +7,5 @@ invariant-loop-step g l = record {
   run : IsRun l.design (g.B.Values.value l.bounds l.design) l.step l.walk;
   kept : AreKept (g.B.Bounds.part_value l.bounds l.design) l.walk.word (marks (root l.design ∷ []) l.walk.hand.tags) l.walk.hand.kept;
   count : length l.walk.hand.tags ≡ l.step;
-  serves : MayServe l.room l.design;
+  serves : g.B.Bounds.serves l.room l.design;
 }

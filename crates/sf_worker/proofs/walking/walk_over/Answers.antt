@@ -7,7 +7,7 @@ pub loop-state-init : goal.loop-state-init
 loop-state-init g c =
     let design = c.args.design.now in
     let e = c.in_ok-value.ensures in
-    walking-start design (g.B.Values.value c.args.bounds.now design) (g.B.Bounds.part_value c.args.bounds.now design) c.args.state.now c.go.new.state c.args.stretch c.in_ok-hand.hand c.go.new.hand c.in_ok-hand.ensures e.visited e.frame e.quota e.serves
+    (walking-start design (g.B.Values.value c.args.bounds.now design) (g.B.Bounds.part_value c.args.bounds.now design) c.args.state.now c.go.new.state c.args.stretch c.in_ok-hand.hand c.go.new.hand c.in_ok-hand.ensures e.visited e.frame e.quota, e.serves)
 
 pub loop-state-preserved : goal.loop-state-preserved
 loop-state-preserved g c =
@@ -18,19 +18,21 @@ loop-state-preserved g c =
     let before = waits design c.args.stretch in
     let node = c.args.stretch.cursor.node in
     let s = c.in_ok-share.ensures in
-    let e = c.in_ok-value-2.ensures in
-    walking-on design bound part old c.share.new.state c.go-in-loop-state.new.state before c.share.new.hand c.go-in-loop-state.new.hand node
-    (walking-shared design bound part old c.loop-state.state c.share.new.state before c.loop-state.hand c.share.new.hand node c.loop-state.invariant s) s.more e.visited e.frame e.quota e.serves
+    let e = c.in_ok-value-2.ensures in (
+      walking-on design bound part old c.share.new.state c.go-in-loop-state.new.state before c.share.new.hand c.go-in-loop-state.new.hand node
+          (walking-shared design bound part old c.loop-state.state c.share.new.state before c.loop-state.hand c.share.new.hand node c.loop-state.invariant.0 s) s.more e.visited e.frame e.quota,
+      e.serves,
+    )
 
-pub returns-then-not-more : goal.returns-then-not-more
-returns-then-not-more g c =
+pub returns-then-not-more-clause-walked : goal.returns-then-not-more-clause-walked
+returns-then-not-more-clause-walked g c =
     let design = c.args.design.now in
-    walked design (g.B.Values.value c.args.bounds.now design) (g.B.Bounds.part_value c.args.bounds.now design) c.args.state.now c.loop-state.state c.put_down.new.state c.args.stretch c.loop-state.hand c.loop-state.invariant c.in_ok-put_down.ensures
+    walked design (g.B.Values.value c.args.bounds.now design) (g.B.Bounds.part_value c.args.bounds.now design) c.args.state.now c.loop-state.state c.put_down.new.state c.args.stretch c.loop-state.hand c.loop-state.invariant.0 c.in_ok-put_down.ensures
     (inl (sym c.more.ensures ∙ c.if-not-more.true))
 
-pub returns : goal.returns
-returns g c =
+pub returns-clause-walked : goal.returns-clause-walked
+returns-clause-walked g c =
     let design = c.args.design.now in
     let spent : c.loop-state.state.quota ≡ 0 = omega arith in
-    walked design (g.B.Values.value c.args.bounds.now design) (g.B.Bounds.part_value c.args.bounds.now design) c.args.state.now c.loop-state.state c.put_down-2.new.state c.args.stretch c.loop-state.hand c.loop-state.invariant c.in_ok-put_down-2.ensures
+    walked design (g.B.Values.value c.args.bounds.now design) (g.B.Bounds.part_value c.args.bounds.now design) c.args.state.now c.loop-state.state c.put_down-2.new.state c.args.stretch c.loop-state.hand c.loop-state.invariant.0 c.in_ok-put_down-2.ensures
     (inr spent)

@@ -12,7 +12,7 @@ returns-clause-fed g c design bound part text fed =
 pub invariant_of-self : goal.invariant_of-self
 invariant_of-self g c =
     let inside = c.self.inside in
-    record { ready = c.feed.ensures.ready; way = ready-way inside.design.now (g.B.Values.value inside.bounds.now inside.design.now) c.feed.new.self c.feed.ensures.ready }
+    (record { ready = c.feed.ensures.ready; way = ready-way inside.design.now (g.B.Values.value inside.bounds.now inside.design.now) c.feed.new.self c.feed.ensures.ready }, c.feed.ensures.serves)
 
 pub returns-clause-way : goal.returns-clause-way
 returns-clause-way g c =

@@ -33,6 +33,7 @@ loop-at-preserved g c =
       | in-Some+in_ok-take w ↦ record {
         inside = inside;
         steady = subst (λ (b : Body). IsSteady design value b.judge) (sym w.self-is) w.in_ok-take.ensures.steady;
+        serves = subst (λ room. g.B.Bounds.serves room design) (sym w.room-is) w.in_ok-take.ensures.serves;
         reads = λ text b. subst (IsBody design value part (text ++ take (at + count) piece)) (sym w.self-is)
             (subst (λ t. IsBody design value part t (record { header = body.header; reader = c.take.new.self; judge = w.take-in-Some.new.self })) (past-bytes text piece at count)
             (body-tag design value part (text ++ take at piece) n body c.block_count-blocks.ensures (c.loop-at.invariant.reads text b) (take count (rest_of piece at)) c.take.new.self w.take-in-Some.new.self w.in-Some.tag
@@ -41,6 +42,7 @@ loop-at-preserved g c =
       | in_default w ↦ record {
         inside = inside;
         steady = subst (λ (b : Body). IsSteady design value b.judge) (sym w.self-is) c.loop-at.invariant.steady;
+        serves = subst (λ room. g.B.Bounds.serves room design) (sym w.room-is) c.loop-at.invariant.serves;
         reads = λ text b. subst (IsBody design value part (text ++ take (at + count) piece)) (sym w.self-is)
             (subst (λ t. IsBody design value part t (record { header = body.header; reader = c.take.new.self; judge = body.judge })) (past-bytes text piece at count)
             (body-none design value part (text ++ take at piece) n body c.block_count-blocks.ensures (c.loop-at.invariant.reads text b) (take count (rest_of piece at)) c.take.new.self

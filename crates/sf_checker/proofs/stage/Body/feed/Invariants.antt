@@ -6,6 +6,7 @@ abbrev pub invariant-loop-at : goal.invariant-loop-at
 invariant-loop-at g l = record {
   inside : l.at ≤ length l.piece;
   steady : IsSteady l.design (g.B.Values.value l.bounds l.design) l.self.judge;
+  serves : g.B.Bounds.serves l.room l.design;
   reads : (text : List ℕ) → IsBody l.design (g.B.Values.value l.bounds l.design) (g.B.Bounds.part_value l.bounds l.design) text l.fn.self → IsBody l.design (g.B.Values.value l.bounds l.design) (g.B.Bounds.part_value l.bounds l.design) (text ++ take l.at l.piece) l.self;
 }
 

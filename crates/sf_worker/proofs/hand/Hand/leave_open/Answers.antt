@@ -1,5 +1,4 @@
-use Rattle.std.proofs.Common.{◌≡◌, ap, sym, subst, refl, ◌∙◌, true, false}
-use Rattle.sf_bounds.specs.Serving.{MayServe}
+use Rattle.std.proofs.Common.{◌≡◌, ap, sym, subst, ◌∙◌, true}
 use Rattle.sf_worker.specs.InHand.{HandView}
 use Rattle.sf_worker.proofs.Hands.{opened-all, opened-less, opened-low, opened-marks}
 use Rattle.sf_worker.proofs.hand.Hand.leave_open.Goals.{in-None+in_ok-value-in-None, in-Some+in_ok-value-in-Some}
@@ -27,7 +26,7 @@ loop-self-preserved g c =
           c.min-low.ensures ∙ i.lowest;
       kept = f.kept ∙ i.kept;
       serves = elim c.match-parent_value.branch [
-        | in-None+in_ok-value-in-None w ↦ subst (λ room. MayServe room design) (sym (w.room-is ∙ w.bound.ensures.serves)) refl
-        | in-Some+in_ok-value-in-Some w ↦ subst (λ room. MayServe room design) (sym (w.room-is ∙ w.child_bound.ensures.serves)) refl
+        | in-None+in_ok-value-in-None w ↦ subst (λ room. g.B.Bounds.serves room design) (sym w.room-is) w.bound.ensures.serves
+        | in-Some+in_ok-value-in-Some w ↦ subst (λ room. g.B.Bounds.serves room design) (sym w.room-is) w.child_bound.ensures.serves
       ];
     }

@@ -1,5 +1,4 @@
 use Rattle.std.proofs.Common.{◌≡◌, ◌++◌, map, length}
-use Rattle.sf_bounds.specs.Serving.{MayServe}
 use Rattle.sf_certificate.specs.Valid.{least}
 use Rattle.sf_pieces.specs.Told.{open_mark}
 use Rattle.sf_worker.specs.InHand.{IsHand, left_of, marks_of}
@@ -11,7 +10,7 @@ invariant-loop-self g l = record {
   marked : marks_of l.design l.self ++ map open_mark (left_of l.design l.self) ≡ marks_of l.design l.initial.self ++ map open_mark (left_of l.design l.initial.self);
   lowest : least l.low (map (g.B.Values.value l.bounds l.design) (left_of l.design l.self)) ≡ least l.fn.low (map (g.B.Values.value l.bounds l.design) (left_of l.design l.initial.self));
   kept : l.self.kept ≡ l.initial.self.kept;
-  serves : MayServe l.room l.design;
+  serves : g.B.Bounds.serves l.room l.design;
 }
 
 abbrev pub decreases-loop-self : goal.decreases-loop-self

@@ -1,0 +1,7 @@
+mod Common
+pub mod Spans
+pub mod Whole
+pub mod OnlyPlan
+pub mod LeastArea
+pub mod OnePlan
+pub mod ChildOf

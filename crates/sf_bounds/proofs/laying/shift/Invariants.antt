@@ -1,7 +1,0 @@
-use Rattle.std.proofs.Common.{◌≡◌}
-use Rattle.sf_bounds.specs.Layout.{moved, reseated}
-use Rattle.sf_bounds.proofs.Shifting.{shifted}
-use Rattle.sf_bounds.proofs.laying.shift.Given as goal
-
-abbrev pub invariant-loop-place : goal.invariant-loop-place
-invariant-loop-place l = l.seats.items ≡ shifted (reseated l.item (moved l.way l.by)) l.start l.place l.initial.seats.items

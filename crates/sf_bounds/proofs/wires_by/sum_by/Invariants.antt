@@ -1,5 +1,0 @@
-use Rattle.sf_bounds.proofs.PartSums.{IsSumBefore}
-use Rattle.sf_bounds.proofs.wires_by.sum_by.Given as goal
-
-abbrev pub invariant-loop-net : goal.invariant-loop-net
-invariant-loop-net l = IsSumBefore l.design l.node l.part l.net-index l.sum

@@ -1,5 +1,0 @@
-use Rattle.sf_bounds.proofs.PartSums.{ArePartsBefore}
-use Rattle.sf_bounds.proofs.wires_by.sum_parts.Given as goal
-
-abbrev pub invariant-loop-net : goal.invariant-loop-net
-invariant-loop-net l = ArePartsBefore l.design l.node l.net-index l.sums

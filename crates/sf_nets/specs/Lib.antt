@@ -1,0 +1,4 @@
+pub mod Ends
+pub mod Layout
+pub mod Pins
+pub mod WireParts
