@@ -11,8 +11,8 @@ programs at once that share nothing. Printed are, per case, the least of all tim
   how many times the work of one program four programs do at once on this machine, and how much faster four workers are than
   one, over that. Wanted, of the cases with a million decisions and more, are 2.5 times as fast where the four programs do 3.3
   times the work and more, and else 0.75 of what they do;
-  greatest resident memory per decision, above that of a search of one decision, and each team's over one worker's. Wanted are
-  at most 1.5.
+  greatest resident memory per decision, of those beyond a quarter of the budget: what a search takes before, and threads with
+  their stacks and heaps, are not counted; and each team's over one worker's. Wanted are at most 1.5.
 
 A figure that is not as wanted has a mark behind it. The program runs with memory laid out as `./floorplan` has it. Memory is told by
 GNU time, which starts each run: a process that is started by this script begins with the size of the script. Times want a machine
@@ -32,7 +32,7 @@ CASES = [
     ("area-7", 7, 0, 1800000, 1.5, True),
     ("area-20", 20, 0, 4000000, 1.5, True),
     ("area-100", 100, 0, 1000000, 2.5, False),
-    ("area-320", 320, 0, 2000000, 2.5, False),
+    ("area-320", 320, 0, 1000000, 2.5, False),
     ("wire-6", 6, 12, 1000000, 1.5, True),
     ("wire-20", 20, 40, 1000000, 1.5, True),
     ("wire-50", 50, 100, 300000, 1.5, False),
@@ -69,18 +69,15 @@ def words_of(blocks, nets):
     return words + (["--wire-weight", "1"] if nets else [])
 
 
-def ways_of(program, design, nodes):
-    """The words of each way to search, and those of the smallest search. A team of one is there where `resume` is."""
+def ways_of(program, design):
+    """The words of each way to search, without the number of decisions."""
     plan, resume = [program, "plan"] + design, [program, "resume"] + design
-    budget = ["--nodes", str(nodes)] + (["--long"] if Run(plan + ["--nodes", "1", "--cert", "w.cert", "--long"]).status != 2 else [])
     Run(plan + ["--nodes", "1", "--cert", "open.cert"])
-    ways = {"one": plan + budget + ["--workers", "1", "--cert", "w.cert"]}
-    alone = resume + ["--workers", "1", "--cert", os.path.abspath("open.cert"), "--cert-out", "w.cert"]
-    if Run(alone + ["--nodes", "1"]).status != 2:
-        ways["1"] = alone + budget
+    ways = {"one": plan + ["--long", "--workers", "1", "--cert", "w.cert"]}
+    ways["1"] = resume + ["--long", "--workers", "1", "--cert", os.path.abspath("open.cert"), "--cert-out", "w.cert"]
     for workers in ("2", "4"):
-        ways[workers] = plan + budget + ["--workers", workers, "--cert", "w.cert"]
-    return ways, plan + ["--nodes", "1", "--cert", "w.cert"]
+        ways[workers] = plan + ["--long", "--workers", workers, "--cert", "w.cert"]
+    return ways
 
 
 def four_at_once(words):
@@ -100,17 +97,17 @@ def judged(figure, is_as_wanted):
 
 
 def measure(program, name, blocks, nets, nodes, most, is_timed):
-    ways, smallest = ways_of(program, words_of(blocks, nets), nodes)
+    ways = ways_of(program, words_of(blocks, nets))
     least, four = {}, None
     for _ in range(TIMES):
-        bare = Run(smallest).memory
         for way, words in ways.items():
-            run = Run(words)
+            part, run = (Run(words + ["--nodes", str(budget)]) for budget in (nodes // 4, nodes))
             if run.status not in (0, 3):
                 sys.exit("%s, %s: status %d" % (name, way, run.status))
-            taken = (run.processor / run.decided, run.wall / run.decided, max(0, run.memory - bare) / run.decided)
+            memory = max(0, run.memory - part.memory) / max(1, run.decided - part.decided)
+            taken = (run.processor / run.decided, run.wall / run.decided, memory)
             least[way] = tuple(map(min, taken, least.get(way, taken)))
-        taken = four_at_once(ways["one"]) / nodes
+        taken = four_at_once(ways["one"] + ["--nodes", str(nodes)]) / nodes
         four = taken if four is None else min(four, taken)
     one = least["one"]
     print("%s, %d decisions" % (name, nodes))
