@@ -3,7 +3,7 @@ use Rattle.std.proofs.Common.{◌≡◌, ℕ, List, None, refl}
 use Rattle.sf_io.specs.declared.status.Status.{Status}
 use Rattle.sf_io.specs.declared.status.Status.TheVariants.{Done, NoneFits, Usage, Open, No, BadInput, OverLimit, ReadFault, WriteFault, NoMemory}
 use Rattle.sf_program.specs.Answer.{IsAnswer, IsDone, RefusesWords}
-use Rattle.sf_program.specs.Outcome.{lost}
+use Rattle.sf_designs.specs.Outcome.{lost}
 use Rattle.floorplan.specs.Ending.{HasAnswer, MayEnd}
 
 -- an answer that is done is one that the words have

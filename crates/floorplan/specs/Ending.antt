@@ -4,7 +4,7 @@ use Rattle.sf_io.specs.declared.status.Status.{Status}
 use Rattle.sf_io.specs.declared.status.Status.TheVariants.{ReadFault, WriteFault, NoMemory}
 use Rattle.sf_words.specs.Meaning.{GenOptions, PlanOptions, ResumeOptions, gen, plan, resume, Means}
 use Rattle.sf_program.specs.Answer.{Answers, RefusesWords}
-use Rattle.sf_program.specs.Outcome.{lost}
+use Rattle.sf_designs.specs.Outcome.{lost}
 use Rattle.sf_program.specs.Stores.{Stored}
 
 -- the words have an answer of this status

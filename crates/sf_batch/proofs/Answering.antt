@@ -12,10 +12,10 @@ use Rattle.sf_jobs.specs.Job.{words_of_job}
 use Rattle.sf_jobs.specs.Team.{TeamOptions, TeamSays}
 use Rattle.sf_jobs.specs.Told.{Told, batch_status, is_search_end}
 use Rattle.sf_program.specs.Answer.{IsAnswer}
-use Rattle.sf_program.specs.Loads.{IsCounted}
-use Rattle.sf_program.specs.Outcome.{Stops}
-use Rattle.sf_program.specs.declared.stop.Stop.{Stop}
-use Rattle.sf_program.specs.declared.stop.Stop.TheVariants.{Refused, ReadFault, NoMemory}
+use Rattle.sf_designs.specs.Loads.{IsCounted}
+use Rattle.sf_designs.specs.Outcome.{Stops}
+use Rattle.sf_designs.specs.declared.stop.Stop.{Stop}
+use Rattle.sf_designs.specs.declared.stop.Stop.TheVariants.{Refused, ReadFault, NoMemory}
 use Rattle.sf_program.proofs.Statuses.{answer-status}
 use Rattle.sf_batch.specs.Alone.{LineComesTo, told_of}
 use Rattle.sf_batch.specs.Batch.{BatchAnswers, JobsRead}

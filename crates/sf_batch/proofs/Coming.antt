@@ -17,11 +17,11 @@ use Rattle.sf_jobs.specs.Told.{Told}
 use Rattle.sf_program.specs.Answer.{usage_line}
 use Rattle.sf_known.specs.Begun.{IsBegun}
 use Rattle.sf_known.specs.Known.{IsKnownBy, Knows}
-use Rattle.sf_program.specs.Outcome.{Stops, refused, lost}
+use Rattle.sf_designs.specs.Outcome.{Stops, refused, lost}
 use Rattle.sf_program.specs.Planned.{IsAnswered, IsTold, PlanDesign, budget_of}
 use Rattle.sf_program.specs.Stores.{Stored}
-use Rattle.sf_program.specs.declared.stop.Stop.{Stop}
-use Rattle.sf_program.specs.declared.stop.Stop.TheVariants.{Refused, ReadFault, NoMemory}
+use Rattle.sf_designs.specs.declared.stop.Stop.{Stop}
+use Rattle.sf_designs.specs.declared.stop.Stop.TheVariants.{Refused, ReadFault, NoMemory}
 use Rattle.sf_batch.specs.declared.job.BuiltJob.{BuiltJob}
 use Rattle.sf_batch.specs.Alone.{LacksMemory, LineComesTo, told_of}
 use Rattle.sf_batch.specs.Built.{StandsFor}

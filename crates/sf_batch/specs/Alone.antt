@@ -9,11 +9,11 @@ use Rattle.sf_words.specs.Words.{IsValue}
 use Rattle.sf_jobs.specs.Job.{Job, IsJob, words_of_job}
 use Rattle.sf_jobs.specs.Told.{Told}
 use Rattle.sf_program.specs.Answer.{Answers, RefusesWords}
-use Rattle.sf_program.specs.Outcome.{lost}
+use Rattle.sf_designs.specs.Outcome.{lost}
 use Rattle.sf_program.specs.Stores.{Stored}
-use Rattle.sf_program.specs.declared.stop.Stop.{Stop}
-use Rattle.sf_program.specs.declared.stop.Stop.TheVariants.{Refused}
-use Rattle.sf_program.specs.declared.stop.Stop.TheVariants as stop
+use Rattle.sf_designs.specs.declared.stop.Stop.{Stop}
+use Rattle.sf_designs.specs.declared.stop.Stop.TheVariants.{Refused}
+use Rattle.sf_designs.specs.declared.stop.Stop.TheVariants as stop
 
 -- `plan` answers the words of the job with this status and prints this text, whatever the name of its certificate is; what it would store is left out
 abbrev pub PlanTells : Option Contents → Job → Told → Type 0

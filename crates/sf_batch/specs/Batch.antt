@@ -12,9 +12,9 @@ use Rattle.sf_jobs.specs.declared.fault.JobsFault.TheVariants.{BadLine, TooMany}
 use Rattle.sf_jobs.specs.Team.{TeamOptions, TeamSays}
 use Rattle.sf_jobs.specs.Told.{Told, batch_status, batch_text}
 use Rattle.sf_program.specs.Answer.{usage_line}
-use Rattle.sf_program.specs.Outcome.{Refusal, refused, lost, IsRefusal, Then}
-use Rattle.sf_program.specs.Reading.{TextRead}
-use Rattle.sf_program.specs.Refusals.{bad_input, over_limit}
+use Rattle.sf_designs.specs.Outcome.{Refusal, refused, lost, IsRefusal, Then}
+use Rattle.sf_designs.specs.Reading.{TextRead}
+use Rattle.sf_designs.specs.Refusals.{bad_input, over_limit}
 use Rattle.sf_batch.specs.Alone.{LineComesTo}
 
 -- why the text of a jobs file is refused: a line that is no job, or too many jobs

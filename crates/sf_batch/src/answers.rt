@@ -5,9 +5,10 @@ ghost use Rattle.sf_jobs.specs.Seen.{told_seen};
 ghost use Rattle.sf_program.specs.Answer.{usage_line};
 ghost use Rattle.sf_batch.specs.Alone.{LacksMemory, silent, told_of};
 
+use sf_designs::Stop;
 use sf_io::Status;
 use sf_jobs::Answer;
-use sf_program::{Stop, usage};
+use sf_program::usage;
 use std::alloc::Global;
 
 /// An answer that prints nothing.

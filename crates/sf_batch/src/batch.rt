@@ -4,7 +4,7 @@ ghost use Rattle.std.specs.Prelude.{◌≡◌, ◌≢◌, ℕ, List, map, string
 ghost use Rattle.std.specs.Io.KnownBytes.{Appends};
 ghost use Rattle.sf_io.specs.Outside.{Rose, Took};
 ghost use Rattle.sf_io.specs.declared.status.Status.{Status};
-ghost use Rattle.sf_program.specs.Loads.{Reads};
+ghost use Rattle.sf_designs.specs.Loads.{Reads};
 ghost use Rattle.sf_batch.specs.Batch.{BatchAnswers};
 
 use crate::answers::{answer_of, usage_answer};

@@ -4,7 +4,7 @@ ghost use Rattle.std.specs.Prelude.{option_map};
 ghost use Rattle.sf_lex.specs.Scan.{Line};
 ghost use Rattle.sf_words.specs.Seen.{plan_seen};
 ghost use Rattle.sf_jobs.specs.Job.{SaysJob};
-ghost use Rattle.sf_program.specs.Loads.{Reads};
+ghost use Rattle.sf_designs.specs.Loads.{Reads};
 ghost use Rattle.sf_batch.specs.Progress.{Begins, IsCounted};
 
 use crate::answers::{answer_of, usage_answer};

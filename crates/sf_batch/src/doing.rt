@@ -8,7 +8,7 @@ ghost use Rattle.sf_lex.specs.Scan.{Line};
 ghost use Rattle.sf_words.specs.Seen.{plan_seen};
 ghost use Rattle.sf_jobs.specs.Job.{SaysJob};
 ghost use Rattle.sf_jobs.specs.Seen.{told_seen};
-ghost use Rattle.sf_program.specs.Loads.{Reads};
+ghost use Rattle.sf_designs.specs.Loads.{Reads};
 ghost use Rattle.sf_batch.specs.declared.job.BuiltJob.{BuiltJob};
 ghost use Rattle.sf_batch.specs.Alone.{LacksMemory};
 ghost use Rattle.sf_batch.specs.Built.{IsFound};

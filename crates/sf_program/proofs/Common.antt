@@ -32,21 +32,21 @@ pub use Rattle.sf_polish.specs.declared.expr.Expr.{Expr}
 pub use Rattle.sf_program.specs.Answer.{Answers, CommandAnswer, CommandRefuses, IsAnswer, IsDone, IsOwnAnswer, IsRefused, IsSilent, Obeys, RefusesWords, StoreOrPrintFailed}
 pub use Rattle.sf_program.specs.Checked.{CertRead, CheckRead, IsChecked, IsJudged, IsRenamed, IsRewritten, IsStoredAnew, JudgedFile, JudgedText, answer_status, answer_text, cert_limit, cert_refusal}
 pub use Rattle.sf_program.specs.Generated.{DesignGenerated, GenRead, IsGenerated, TextsStand, blocks_said, both_weights, by_default, cert_name, kinds_of, nets_said, parts_made, places_said, texts_stored}
-pub use Rattle.sf_program.specs.Loads.{IsCounted, IsNoLoad, Reads, TellsNoLoad}
+pub use Rattle.sf_designs.specs.Loads.{IsCounted, IsNoLoad, Reads, TellsNoLoad}
 pub use Rattle.sf_program.specs.Knowing.{KnownRead, MadeKnown}
 unfoldable pub use Rattle.sf_program.specs.Measured.{spot_said}
 pub use Rattle.sf_program.specs.Measured.{IsMeasured, MeasureRead, SpotsPlaced, SpotsRead, legal_text, lines_named, sized_spot, spots_said, verdict_status, verdict_text}
 pub use Rattle.sf_program.specs.OneAnswer.{Answer, AskForOneWorker, AtMostOne, GivesOne, HasBlocksOf, HasOneWorker, IsAnswerTo, IsDoneBy, IsSaid, IsTold, refusal}
-pub use Rattle.sf_program.specs.Outcome.{Ends, IsFault, IsRefusal, Refusal, Refuses, Stops, Then, lost, refused}
+pub use Rattle.sf_designs.specs.Outcome.{Ends, IsFault, IsRefusal, Refusal, Refuses, Stops, Then, lost, refused}
 pub use Rattle.sf_program.specs.PlacedLines.{AreIndexed, AreKept, HasNearPlace, IsIndex, IsOnly, LinesAre, with_line}
 pub use Rattle.sf_program.specs.Planned.{AreMeasures, BudgetTested, BudgetedDesign, CountTested, IsAnswered, IsEnding, IsPlanned, IsReported, IsSearched, PlanDesign, PlanRead, budget_of, outcome_status, placement_stores}
-pub use Rattle.sf_program.specs.Reading.{Admitted, BlocksRead, Built, DesignMade, DesignRead, GsrcRead, IfNamed, JoinedRead, Judged, ListsMade, NetsRead, PartsAdmitted, PartsRead, PlacesRead, Said, TextRead, TextWithin, Weighed, WeightsRead, With, YalRead, YalWeighed, outline_of, weights_of}
-pub use Rattle.sf_program.specs.Refusals.{build_refusal, design_fault, gsrc_refusal, join_refusal, line_of, weight_refusal, yal_refusal}
+pub use Rattle.sf_designs.specs.Reading.{Admitted, BlocksRead, Built, DesignMade, DesignRead, GsrcRead, IfNamed, JoinedRead, Judged, ListsMade, NetsRead, PartsAdmitted, PartsRead, PlacesRead, Said, TextRead, TextWithin, Weighed, WeightsRead, With, YalRead, YalWeighed, outline_of, weights_of}
+pub use Rattle.sf_designs.specs.Refusals.{build_refusal, design_fault, gsrc_refusal, join_refusal, line_of, weight_refusal, yal_refusal}
 pub use Rattle.sf_program.specs.Resumed.{CertLoaded, CertTaken, IsContinued, IsGood, IsGoneOn, IsRejected, IsSearchedOn, IsTakenUp, ResumeRead, SumTested}
 pub use Rattle.sf_program.specs.Shaped.{IsCurveText, IsLeast, IsShaped, ShapeRead, TokensRead, areas_alone, expr_refusal, least_line, point_line}
 pub use Rattle.sf_program.specs.Stores.{AfterStores, StoppedAt, Stored, stored_in}
-pub use Rattle.sf_program.specs.Weighed.{WeighedParts, alike, weighed_in}
-pub use Rattle.sf_program.specs.declared.stop.Stop.{Stop}
+pub use Rattle.sf_designs.specs.Weighed.{WeighedParts, alike, weighed_in}
+pub use Rattle.sf_designs.specs.declared.stop.Stop.{Stop}
 pub use Rattle.sf_soft_shapes.specs.Listed.{AreListsOf, HasNoneFor}
 pub use Rattle.sf_standard.specs.Standard.{part_value, standard}
 pub use Rattle.sf_words.proofs.Unique.{meaning_unique}

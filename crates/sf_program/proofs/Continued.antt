@@ -3,7 +3,7 @@ use Rattle.std.proofs.Common.{◌≡◌, inl, inr, Bool, ℕ, List, Option, Resu
 use Rattle.sf_program.proofs.Common.{IfErr, Contents, Design, block_count, Cert, ResumeOptions, resume, Stop, Stops, Ends, KnownRead, Judged, TextWithin, Obeys, cert_limit, cert_refusal, CertLoaded, IsTakenUp, ResumeRead, SumTested, stored_in}
 use Rattle.sf_certificate.specs.Reading.{cert_read, said_by}
 use Rattle.sf_program.specs.declared.work.Work.{Work}
-use Rattle.sf_program.proofs.Stages.{stops-map}
+use Rattle.sf_designs.proofs.Stages.{stops-map}
 
 -- what a text says, or its first fault, is what the file of the text says
 pub cert-loaded : (is_long : Bool) (held : Option Contents) (name text said : List ℕ) (design : Design) → TextWithin (cert_limit is_long) held name (Ok text) → said ≡ text → (r : Result Cert Stop)

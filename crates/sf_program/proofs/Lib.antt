@@ -1,7 +1,5 @@
 mod Common
-pub mod Stages
 pub mod Fitting
-pub mod YalRefused
 pub mod Told
 pub mod Printed
 pub mod Legal

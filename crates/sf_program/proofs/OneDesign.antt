@@ -21,7 +21,7 @@ use Rattle.sf_gsrc.proofs.WeightLaws as weight_laws
 use Rattle.sf_yal.specs.Standing as yals
 use Rattle.sf_yal.specs.Parts.{yal_read}
 use Rattle.sf_yal.proofs.Standing as yal_laws
-use Rattle.sf_program.proofs.Stages.{PlacedRead, WeighedRead, WiredRead}
+use Rattle.sf_designs.proofs.Stages.{PlacedRead, WeighedRead, WiredRead}
 use Rattle.sf_program.proofs.Once.{once, then-one, said-one, judged-one, text-one, named-one, same-value}
 
 -- ---- the parts

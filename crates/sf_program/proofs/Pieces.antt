@@ -9,7 +9,7 @@ use Rattle.sf_program.specs.declared.work.Work.{Work}
 use Rattle.sf_certificate.specs.Named.{AllNameFirst, AreAlikeButNames}
 use Rattle.sf_checker.specs.Answers.{IsAnswer}
 use Rattle.sf_checker.proofs.Answered.{answered}
-use Rattle.sf_program.proofs.Stages.{refused-stops, stops-map}
+use Rattle.sf_designs.proofs.Stages.{refused-stops, stops-map}
 
 -- a text of no length has no bytes
 pub no-bytes : (bytes : List ℕ) → length bytes ≡ 0 → bytes ≡ []

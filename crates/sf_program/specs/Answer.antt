@@ -6,9 +6,9 @@ use Rattle.sf_io.specs.declared.status.Status.{Status}
 use Rattle.sf_io.specs.declared.status.Status.TheVariants.{Usage, ReadFault, WriteFault, NoMemory}
 use Rattle.sf_pl_writer.specs.Length.{IsScale}
 use Rattle.sf_words.specs.Meaning.{Command, plan, check, resume, measure, shape, gen, Means, HasNoMeaning}
-use Rattle.sf_program.specs.declared.stop.Stop.{Stop}
+use Rattle.sf_designs.specs.declared.stop.Stop.{Stop}
 use Rattle.sf_program.specs.declared.work.Work.{Work}
-use Rattle.sf_program.specs.Outcome.{Refusal, IsRefusal, Stops, refused}
+use Rattle.sf_designs.specs.Outcome.{Refusal, IsRefusal, Stops, refused}
 use Rattle.sf_program.specs.Planned.{IsPlanned, PlanRead}
 use Rattle.sf_program.specs.Checked.{IsChecked, CheckRead}
 use Rattle.sf_program.specs.Resumed.{IsContinued, ResumeRead}

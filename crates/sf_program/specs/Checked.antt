@@ -20,9 +20,9 @@ use Rattle.sf_checker.specs.declared.answer.Answer.{Answer}
 use Rattle.sf_checker.specs.declared.answer.Answer.TheVariants.{Yes, No}
 use Rattle.sf_checker.specs.Answers.{IsAnswer, is_yes}
 use Rattle.sf_words.specs.Meaning.{CheckOptions}
-use Rattle.sf_program.specs.Outcome.{Refusal, Then}
-use Rattle.sf_program.specs.Refusals.{line_of, bad_input, no_line}
-use Rattle.sf_program.specs.Reading.{TextWithin, Judged}
+use Rattle.sf_designs.specs.Outcome.{Refusal, Then}
+use Rattle.sf_designs.specs.Refusals.{line_of, bad_input, no_line}
+use Rattle.sf_designs.specs.Reading.{TextWithin, Judged}
 use Rattle.sf_program.specs.Knowing.{KnownRead}
 use Rattle.sf_program.specs.Stores.{Stored}
 

@@ -20,11 +20,11 @@ use Rattle.sf_gen.specs.Texts.{blocks_text, nets_text, pl_text}
 use Rattle.sf_words.specs.declared.command.Kinds.{Kinds}
 use Rattle.sf_words.specs.declared.command.Kinds.TheVariants.{Hard, Mixed}
 use Rattle.sf_words.specs.Meaning.{gsrc, DesignOptions, GenOptions, WeightOptions}
-use Rattle.sf_program.specs.Outcome.{Refusal, Then}
+use Rattle.sf_designs.specs.Outcome.{Refusal, Then}
 use Rattle.sf_program.specs.Planned.{BudgetTested, IsAnswered, budget_of}
-use Rattle.sf_program.specs.Reading.{DesignMade}
+use Rattle.sf_designs.specs.Reading.{DesignMade}
 use Rattle.sf_program.specs.Stores.{Stored}
-use Rattle.sf_program.specs.Weighed.{alike}
+use Rattle.sf_designs.specs.Weighed.{alike}
 
 -- the kinds of blocks that the words name
 abbrev pub kinds_of : Kinds → GenKinds

@@ -19,7 +19,7 @@ use Rattle.sf_resume.specs.Resumed.{full_open}
 use Rattle.sf_words.specs.Meaning.{ResumeOptions}
 use Rattle.sf_pl_writer.specs.declared.report.Report.{Report}
 use Rattle.sf_pl_writer.specs.ReportText.{report_text}
-use Rattle.sf_program.specs.Outcome.{Refusal}
+use Rattle.sf_designs.specs.Outcome.{Refusal}
 use Rattle.sf_program.specs.Planned.{budget_of}
 use Rattle.sf_program.specs.Resumed.{IsGood, ResumeRead}
 

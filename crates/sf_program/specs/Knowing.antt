@@ -5,8 +5,8 @@ use Rattle.sf_model.specs.declared.design.Design.{Design}
 use Rattle.sf_known.specs.Known.{Knows}
 use Rattle.sf_words.specs.declared.command.BoundsChoice.{BoundsChoice}
 use Rattle.sf_words.specs.Meaning.{DesignOptions, WeightOptions}
-use Rattle.sf_program.specs.Outcome.{Refusal, Then}
-use Rattle.sf_program.specs.Reading.{DesignRead}
+use Rattle.sf_designs.specs.Outcome.{Refusal, Then}
+use Rattle.sf_designs.specs.Reading.{DesignRead}
 
 -- the design that knows what the bounds that were asked for take into account; nothing is refused
 abbrev pub MadeKnown : BoundsChoice → Design → Result Design Refusal → Type 0

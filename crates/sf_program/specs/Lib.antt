@@ -1,9 +1,4 @@
-pub mod Outcome
-pub mod Refusals
-pub mod Weighed
-pub mod Reading
 pub mod Knowing
-pub mod Loads
 pub mod Stores
 pub mod Planned
 pub mod Checked

@@ -17,9 +17,9 @@ use Rattle.sf_place.specs.declared.verdict.Verdict.{Verdict}
 use Rattle.sf_place.specs.declared.verdict.Verdict.TheVariants.{Legal, Unlisted, Outside, Overlap}
 use Rattle.sf_place.specs.Verdict.{IsVerdict}
 use Rattle.sf_words.specs.Meaning.{MeasureOptions}
-use Rattle.sf_program.specs.Outcome.{Refusal, Then}
-use Rattle.sf_program.specs.Reading.{PlacesRead, DesignRead, With}
-use Rattle.sf_program.specs.Refusals.{design_fault, line_of}
+use Rattle.sf_designs.specs.Outcome.{Refusal, Then}
+use Rattle.sf_designs.specs.Reading.{PlacesRead, DesignRead, With}
+use Rattle.sf_designs.specs.Refusals.{design_fault, line_of}
 
 -- the lines of a placed file that have this name
 abbrev pub lines_named : List ℕ → List Place → List Place

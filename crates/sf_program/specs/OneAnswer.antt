@@ -10,7 +10,7 @@ use Rattle.sf_model.specs.Legal.{block_count}
 use Rattle.sf_words.specs.Meaning.{Command, plan, resume, Means}
 use Rattle.sf_words.specs.declared.command.BoundsChoice.TheVariants.{Standard}
 use Rattle.sf_program.specs.Answer.{Answers}
-use Rattle.sf_program.specs.Outcome.{Refusal, refused, lost}
+use Rattle.sf_designs.specs.Outcome.{Refusal, refused, lost}
 use Rattle.sf_program.specs.Stores.{AfterStores, Stored}
 
 -- this is so of one thing at most

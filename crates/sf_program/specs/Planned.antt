@@ -29,14 +29,14 @@ use Rattle.sf_pl_writer.specs.declared.report.Outcome.TheVariants as word
 use Rattle.sf_pl_writer.specs.PlText.{pl_text}
 use Rattle.sf_pl_writer.specs.ReportText.{report_text}
 use Rattle.sf_words.specs.Meaning.{PlanOptions}
-use Rattle.sf_program.specs.Outcome.{Refusal, Then}
-use Rattle.sf_program.specs.Refusals.{over_limit}
-use Rattle.sf_program.specs.Reading.{PartsAdmitted, DesignMade}
+use Rattle.sf_designs.specs.Outcome.{Refusal, Then}
+use Rattle.sf_designs.specs.Refusals.{over_limit}
+use Rattle.sf_designs.specs.Reading.{PartsAdmitted, DesignMade}
 use Rattle.sf_program.specs.Knowing.{MadeKnown}
 use Rattle.sf_known.specs.Begun.{IsBegun}
 use Rattle.sf_known.specs.Known.{Knows}
 use Rattle.sf_program.specs.Stores.{Stored}
-use Rattle.sf_program.specs.Weighed.{WeighedParts}
+use Rattle.sf_designs.specs.Weighed.{WeighedParts}
 
 -- how many subproblems of so many blocks may be decided
 abbrev pub node_limit : ℕ → ℕ

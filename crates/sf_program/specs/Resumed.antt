@@ -15,10 +15,10 @@ use Rattle.sf_checker.specs.declared.answer.Answer.TheVariants.{No}
 use Rattle.sf_checker.specs.Answers.{IsAnswer}
 use Rattle.sf_resume.specs.Resumed.{full_open}
 use Rattle.sf_words.specs.Meaning.{ResumeOptions}
-use Rattle.sf_program.specs.Outcome.{Refusal, Then}
+use Rattle.sf_designs.specs.Outcome.{Refusal, Then}
 use Rattle.sf_program.specs.Planned.{CountTested, IsReported}
 use Rattle.sf_program.specs.Checked.{CertRead, answer_text}
-use Rattle.sf_program.specs.Reading.{With}
+use Rattle.sf_designs.specs.Reading.{With}
 use Rattle.sf_program.specs.Knowing.{KnownRead}
 use Rattle.sf_program.specs.Stores.{Stored}
 

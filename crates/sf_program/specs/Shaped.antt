@@ -17,9 +17,9 @@ use Rattle.sf_curves.specs.Choices.{IsRootCurve}
 use Rattle.sf_curves.specs.Points.{IsLeastArea, area_of}
 use Rattle.sf_node.specs.Subproblem.{root}
 use Rattle.sf_words.specs.Meaning.{ShapeOptions, WeightOptions}
-use Rattle.sf_program.specs.Outcome.{Refusal, Then}
-use Rattle.sf_program.specs.Reading.{DesignRead, Said, TextRead, With}
-use Rattle.sf_program.specs.Refusals.{bad_input, line_of, no_line}
+use Rattle.sf_designs.specs.Outcome.{Refusal, Then}
+use Rattle.sf_designs.specs.Reading.{DesignRead, Said, TextRead, With}
+use Rattle.sf_designs.specs.Refusals.{bad_input, line_of, no_line}
 
 -- a text that spells no expression; want of memory has no line, and is not met
 abbrev pub expr_refusal : ExprFault → Refusal

@@ -1,12 +1,11 @@
 //! How many subproblems a search may decide.
 
 ghost use Rattle.std.specs.Prelude.{◌≡◌, ◌≤◌, ◌<◌};
-ghost use Rattle.sf_program.specs.Loads.{TellsNoLoad};
-ghost use Rattle.sf_program.specs.Outcome.{Ends};
+ghost use Rattle.sf_designs.specs.Loads.{TellsNoLoad};
+ghost use Rattle.sf_designs.specs.Outcome.{Ends};
 ghost use Rattle.sf_program.specs.Planned.{node_limit, budget_of, BudgetTested, CountTested};
 
-use crate::refusals::over_limit;
-use crate::stop::Stop;
+use sf_designs::{Stop, over_limit};
 use std::alloc::Global;
 
 /// The limit of what a search of so many blocks decides, where it is no long one.

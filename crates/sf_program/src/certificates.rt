@@ -4,15 +4,14 @@ ghost use Rattle.std.specs.Prelude.{◌≡◌, ◌≤◌, ◌^◌, Ok, Err, IfEr
 ghost use Rattle.sf_certificate.specs.Reading.{cert_read, said_by};
 ghost use Rattle.sf_model.specs.Legal.{block_count};
 ghost use Rattle.sf_program.specs.Checked.{cert_limit, cert_refusal};
-ghost use Rattle.sf_program.specs.Loads.{ReadsShelf, TellsNoLoad};
-ghost use Rattle.sf_program.specs.Outcome.{Ends, Stops};
-ghost use Rattle.sf_program.specs.Reading.{Judged, TextWithin};
+ghost use Rattle.sf_designs.specs.Loads.{ReadsShelf, TellsNoLoad};
+ghost use Rattle.sf_designs.specs.Outcome.{Ends, Stops};
+ghost use Rattle.sf_designs.specs.Reading.{Judged, TextWithin};
 ghost use Rattle.sf_program.specs.Resumed.{CertLoaded};
 
 use crate::answering::cert_fault;
-use crate::reading::{FILE_LIMIT, load_within};
-use crate::stop::Stop;
 use sf_certificate::{Cert, read};
+use sf_designs::{FILE_LIMIT, Stop, load_within};
 use sf_io::Shelf;
 use sf_model::Design;
 use std::alloc::Global;

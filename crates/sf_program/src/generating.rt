@@ -7,18 +7,15 @@ ghost use Rattle.sf_words.specs.Seen.{gen_seen};
 ghost use Rattle.sf_program.specs.Generated.{DesignGenerated, GenRead, IsGenerated, blocks_made, blocks_said};
 ghost use Rattle.sf_program.specs.Generated.{kinds_of, nets_made, nets_said, parts_made, pl_made};
 ghost use Rattle.sf_program.specs.Generated.{places_said, texts_stored};
-ghost use Rattle.sf_program.specs.Loads.{TellsNoLoad};
-ghost use Rattle.sf_program.specs.Outcome.{IsFault, Stops};
+ghost use Rattle.sf_designs.specs.Loads.{TellsNoLoad};
+ghost use Rattle.sf_designs.specs.Outcome.{IsFault, Stops};
 ghost use Rattle.sf_program.specs.Stores.{Gives, stored_in};
 
 use crate::budget::test_budget;
-use crate::designs::make_design;
-use crate::parsing::{join, parse_blocks, parse_nets, parse_places};
 use crate::plan_answer::Names;
 use crate::planning::search_design;
-use crate::stop::Stop;
-use crate::weighed::Weighed;
 use crate::work::{Store, Work};
+use sf_designs::{Stop, Weighed, join, make_design, parse_blocks, parse_nets, parse_places};
 use sf_gen::{
     GenTexts, blocks_are_read, blocks_have_shapes, design_of, nets_are_read, parts_are_admitted,
     places_are_read,

@@ -10,10 +10,10 @@ ghost use Rattle.sf_program.specs.Answer.{IsDone, RefusesWords};
 ghost use Rattle.sf_program.specs.Complete.{IsOwnEnd, IsTaken};
 ghost use Rattle.sf_program.specs.OneAnswer.{Answer, AskForOneWorker, AtMostOne, GivesOne, HasBlocksOf};
 ghost use Rattle.sf_program.specs.OneAnswer.{IsAnswerTo, IsDoneBy, refusal};
-ghost use Rattle.sf_program.specs.Outcome.{IsRefusal, lost};
+ghost use Rattle.sf_designs.specs.Outcome.{IsRefusal, lost};
 ghost use Rattle.sf_program.specs.Planned.{PlanRead};
-ghost use Rattle.sf_program.specs.Reading.{BlocksRead, DesignRead, GsrcRead, PartsRead};
-ghost use Rattle.sf_program.specs.Weighed.{WeighedParts};
+ghost use Rattle.sf_designs.specs.Reading.{BlocksRead, DesignRead, GsrcRead, PartsRead};
+ghost use Rattle.sf_designs.specs.Weighed.{WeighedParts};
 
 use sf_certificate::{first_parts_are_one, full_parts_close};
 use sf_curves::traces_are_one;

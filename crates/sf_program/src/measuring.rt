@@ -9,15 +9,13 @@ ghost use Rattle.sf_place.specs.Verdict.{AreLegal, IsVerdict};
 ghost use Rattle.sf_words.specs.Meaning.{measure};
 ghost use Rattle.sf_words.specs.Seen.{measure_seen};
 ghost use Rattle.sf_program.specs.Answer.{Obeys};
-ghost use Rattle.sf_program.specs.Loads.{ReadsShelf};
+ghost use Rattle.sf_designs.specs.Loads.{ReadsShelf};
 ghost use Rattle.sf_program.specs.Measured.{SpotsRead, legal_text, verdict_status, verdict_text};
-ghost use Rattle.sf_program.specs.Outcome.{Ends};
+ghost use Rattle.sf_designs.specs.Outcome.{Ends};
 
-use crate::designs::read_design;
 use crate::placed_lines::place_blocks;
-use crate::reading::read_places_file;
-use crate::stop::Stop;
 use crate::work::Work;
+use sf_designs::{Stop, read_design, read_places_file};
 use sf_io::{Shelf, Status};
 use sf_model::{Design, Spot};
 use sf_place::{Verdict, check_spots};

@@ -4,13 +4,12 @@ ghost use Rattle.std.specs.Prelude.{◌≡◌, ◌≤◌, List, [], length, is_s
 ghost use Rattle.sf_gsrc.specs.declared.output.Place.{Place};
 ghost use Rattle.sf_names.specs.Values.{value_in};
 ghost use Rattle.sf_place.specs.Spots.{HasNearCorner, IsByNumber};
-ghost use Rattle.sf_program.specs.Loads.{TellsNoLoad};
+ghost use Rattle.sf_designs.specs.Loads.{TellsNoLoad};
 ghost use Rattle.sf_program.specs.Measured.{lines_named, side_in_spot, sized_spot, spot_said, spots_said};
-ghost use Rattle.sf_program.specs.Outcome.{Ends};
+ghost use Rattle.sf_designs.specs.Outcome.{Ends};
 ghost use Rattle.sf_program.specs.PlacedLines.{AreIndexed, IsIndex, HasNearPlace, with_line};
 
-use crate::refusals::named_fault;
-use crate::stop::Stop;
+use sf_designs::{Stop, named_fault};
 use sf_gsrc::Place;
 use sf_model::{Block, MOST_SIDE, Name, Spot};
 use sf_names::{NameMap, TextHash};

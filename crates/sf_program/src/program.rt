@@ -10,7 +10,7 @@ ghost use Rattle.sf_program.specs.Answer.{StoreOrPrintFailed};
 ghost use Rattle.sf_program.specs.Complete.{IsTaken, MayEnd};
 ghost use Rattle.sf_program.specs.Headline.{HasSearched, IsHeadline, IsHeadlineOn};
 ghost use Rattle.sf_program.specs.Generated.{GenRead};
-ghost use Rattle.sf_program.specs.Outcome.{lost};
+ghost use Rattle.sf_designs.specs.Outcome.{lost};
 ghost use Rattle.sf_program.specs.Planned.{PlanRead};
 ghost use Rattle.sf_program.specs.Stores.{AfterStores, StoppedAt, stored_in};
 

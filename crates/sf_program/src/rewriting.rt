@@ -8,19 +8,19 @@ ghost use Rattle.sf_checker.specs.Answers.{IsAnswer};
 ghost use Rattle.sf_model.specs.Legal.{block_count};
 ghost use Rattle.sf_standard.specs.Standard.{standard, part_value};
 ghost use Rattle.sf_program.specs.Checked.{IsJudged, IsRewritten, IsStoredAnew, JudgedText, cert_refusal};
-ghost use Rattle.sf_program.specs.Loads.{TellsNoLoad};
-ghost use Rattle.sf_program.specs.Outcome.{Stops};
-ghost use Rattle.sf_program.specs.Reading.{Judged};
+ghost use Rattle.sf_designs.specs.Loads.{TellsNoLoad};
+ghost use Rattle.sf_designs.specs.Outcome.{Stops};
+ghost use Rattle.sf_designs.specs.Reading.{Judged};
 ghost use Rattle.sf_program.specs.Stores.{Gives, stored_in};
 
 use crate::answering::answer_work;
 use crate::certificates::read_cert;
 use crate::plan_answer::stored_cert;
-use crate::stop::Stop;
 use crate::work::{Store, Work, no_stores};
 use sf_bounds::Standard;
 use sf_certificate::Cert;
 use sf_checker::{Answer, check, name_parts};
+use sf_designs::Stop;
 use sf_model::Design;
 use std::alloc::{AllocError as NoMemory, Global};
 

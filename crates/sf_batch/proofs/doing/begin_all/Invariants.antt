@@ -4,7 +4,7 @@ use Rattle.sf_lex.specs.Scan.{Line}
 use Rattle.sf_words.specs.Seen.{plan_seen}
 use Rattle.sf_jobs.specs.Job.{SaysJob}
 use Rattle.sf_jobs.specs.Seen.{told_seen}
-use Rattle.sf_program.specs.Loads.{Reads}
+use Rattle.sf_designs.specs.Loads.{Reads}
 use Rattle.sf_batch.specs.Progress.{IsUnderWay}
 use Rattle.sf_batch.proofs.doing.begin_all.Given as goal
 

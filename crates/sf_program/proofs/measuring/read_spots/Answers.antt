@@ -2,7 +2,7 @@ use Rattle.std.proofs.Common.{List, codes, sym, subst}
 use Rattle.std.specs.List.{All}
 use Rattle.sf_program.proofs.Common.{Place, HasNearPlace}
 use Rattle.sf_program.proofs.NearPlaces.{read_near}
-use Rattle.sf_program.proofs.Stages.{uncounted}
+use Rattle.sf_designs.proofs.Stages.{uncounted}
 use Rattle.sf_program.proofs.measuring.read_spots.Goals as goal
 
 pub place_blocks-requires-clause-near : goal.place_blocks-requires-clause-near

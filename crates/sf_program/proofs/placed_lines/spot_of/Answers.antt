@@ -2,7 +2,7 @@ use Rattle.std.proofs.Common.{◌≡◌, ◌<◌, ◌∷◌, [], List, length, S
 use Rattle.sf_program.proofs.Common.{Spot, Place, lines_named, spot_said, Ends, LinesAre, IsOnly, HasNearPlace, design_fault}
 use Rattle.sf_program.specs.declared.placed_lines.Lines.TheVariants.{Without, One, More}
 use Rattle.sf_program.proofs.Placing.{kept_is}
-use Rattle.sf_program.proofs.Stages.{refused-stops}
+use Rattle.sf_designs.proofs.Stages.{refused-stops}
 use Rattle.sf_program.proofs.placed_lines.spot_of.Goals as goal
 
 pub bounds-lines-line : goal.bounds-lines-line

@@ -1,0 +1,3 @@
+mod Common
+pub mod Stages
+pub mod YalRefused

@@ -1,0 +1,5 @@
+pub mod Outcome
+pub mod Refusals
+pub mod Weighed
+pub mod Reading
+pub mod Loads
