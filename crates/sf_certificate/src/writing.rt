@@ -1,21 +1,29 @@
 //! The text of a certificate.
 
 ghost use Rattle.std.specs.Prelude.{◌≡◌, ◌<◌, ◌^◌, [], ◌∷◌, ◌++◌, All, IfOk, OnOk, string_bytes, codes};
-ghost use Rattle.std.specs.Prelude.{length, MatchOption, Ok, ⊤};
+ghost use Rattle.std.specs.Prelude.{◌+◌, ◌≤◌, length, take, MatchOption, Ok, ⊤};
 ghost use Rattle.std.specs.Fmt.{decimal};
 ghost use Rattle.sf_polish.specs.Normal.{IsNormal};
-ghost use Rattle.sf_certificate.specs.declared.tag.Tag.TheVariants.{Closed};
+ghost use Rattle.sf_certificate.specs.declared.tag.Tag.TheVariants.{Split};
 ghost use Rattle.sf_certificate.specs.Reading.{cert_read, said_by};
-ghost use Rattle.sf_certificate.specs.Text.{plan_text, header_lines, text_of_lines, tag_text, tags_text};
-ghost use Rattle.sf_certificate.specs.Text.{cert_text, FitsTag};
+ghost use Rattle.sf_certificate.specs.Text.{plan_text, header_lines, text_of_lines, part_text, tag_text};
+ghost use Rattle.sf_certificate.specs.Text.{tags_text, cert_text, FitsTag};
+ghost use Rattle.sf_certificate.specs.declared.writing.TheConstants.{ROW, LONGEST};
 ghost use Rattle.sf_model.specs.CostText.{cost_text};
 
 use crate::cert::Cert;
 use crate::tag::Tag;
+use itoa::Buffer;
 use sf_model::push_cost;
 use sf_node::Part;
 use sf_polish::{Expr, push_expr};
 use std::alloc::{AllocError as NoMemory, Global};
+
+/// How many bytes are put together before they are added to the text.
+const ROW: usize = 4096;
+
+/// No line of a tag has more bytes: an `S`, a space, five digits and the end of the line.
+const LONGEST: usize = 8;
 
 /// The text of a certificate, of the second version: a header of six lines, then one line for each tag.
 pub fn write(alloc: Global, cert: &Cert) -> Result<Vec<u8>, NoMemory>
@@ -23,10 +31,11 @@ pub fn write(alloc: Global, cert: &Cert) -> Result<Vec<u8>, NoMemory>
     // What is written is read as the same certificate.
     ensures read_back { IfOk result (λ text. cert_read cert.now.blocks text.items ≡ Ok (said_by cert.now)) }
 {
-    let mut text = String::new(alloc);
-    push_header(&mut text, cert)?;
+    let mut header = String::new(alloc);
+    push_header(&mut header, cert)?;
+    let mut text = header.into_bytes();
     push_tags(&mut text, cert.tags.as_slice())?;
-    Ok(text.into_bytes())
+    Ok(text)
 }
 
 /// The lines before the tree.
@@ -79,40 +88,89 @@ fn push_plan(text: &mut String, plan: &Option<Expr>) -> Result<(), NoMemory>
     Ok(())
 }
 
-/// Adds the lines of the tags.
-fn push_tags(text: &mut String, tags: &[Tag]) -> Result<(), NoMemory>
+/// Adds the lines of the tags. They are put together in a row of bytes, which is added where it has no place for
+/// another line.
+fn push_tags(text: &mut Vec<u8>, tags: &[Tag]) -> Result<(), NoMemory>
     ensures fits { OnOk result (All FitsTag tags.now) }
-    ensures text { OnOk result (string_bytes text.new ≡ string_bytes text.old ++ tags_text tags.now) }
+    ensures text { OnOk result (text.new.items ≡ text.old.items ++ tags_text tags.now) }
 {
+    let mut row = [0; ROW];
+    let mut end = 0;
     for tag in tags {
-        push_tag(text, *tag)?;
+        let at = make_room(text, &row, end)?;
+        end = put_tag(&mut row, at, *tag);
     }
+    text.extend_from_slice(&row[..end])?;
     Ok(())
 }
 
-/// Adds the line of a tag.
-fn push_tag(text: &mut String, tag: Tag) -> Result<(), NoMemory>
-    ensures fits { OnOk result (FitsTag tag) }
-    ensures text { OnOk result (string_bytes text.new
-        ≡ string_bytes text.old ++ (tag_text tag ++ 10 ∷ [])) }
+/// Adds the bytes of the row where it has no place for another line. The answer is where the next line begins.
+#[inline(always)]
+fn make_room(text: &mut Vec<u8>, row: &[u8; ROW], end: usize) -> Result<usize, NoMemory>
+    requires within { end ≤ ROW }
+    ensures room { IfOk result (λ at. at + LONGEST ≤ ROW) }
+    ensures text { IfOk result (λ at. text.new.items ++ take at row.now
+        ≡ text.old.items ++ take end row.now) }
+{
+    if end + LONGEST <= ROW {
+        return Ok(end);
+    }
+    text.extend_from_slice(&row[..end])?;
+    Ok(0)
+}
+
+/// Puts the line of a tag at a place of the row. The answer is where it ends.
+#[inline(always)]
+fn put_tag(row: &mut [u8; ROW], at: usize, tag: Tag) -> usize
+    requires room { at + LONGEST ≤ ROW }
+    ensures fits { FitsTag tag }
+    ensures end { result ≤ at + LONGEST }
+    ensures line { take result row.new ≡ take at row.old ++ (tag_text tag ++ 10 ∷ []) }
 {
     match tag {
-        Tag::Extend => text.push_str("E\n"),
-        Tag::Split(block) => write!(text, "S {block}\n"),
-        Tag::Closed(part) => text.push_str(closed_line(part)),
-        Tag::Open => text.push_str("O\n"),
+        Tag::Extend => put(row, at, b"E\n"),
+        Tag::Split(block) => put_split(row, at, block),
+        Tag::Closed(part) => put(row, at, &[b'C', b' ', letter(part), b'\n']),
+        Tag::Open => put(row, at, b"O\n"),
     }
 }
 
-/// The line of a closed subproblem that names this part.
-fn closed_line(part: Part) -> &'static str
-    ensures { result.now ≡ tag_text (Closed part) ++ 10 ∷ [] }
+/// Puts the line of a split.
+fn put_split(row: &mut [u8; ROW], at: usize, block: u16) -> usize
+    requires room { at + LONGEST ≤ ROW }
+    ensures end { result ≤ at + LONGEST }
+    ensures line { take result row.new ≡ take at row.old ++ (tag_text (Split block) ++ 10 ∷ []) }
+{
+    let mut digits = Buffer::new();
+    let at = put(row, at, b"S ");
+    let at = put(row, at, digits.format(block).as_bytes());
+    put(row, at, b"\n")
+}
+
+/// Puts bytes at a place of the row. The answer is where they end.
+#[inline(always)]
+fn put(row: &mut [u8; ROW], at: usize, bytes: &[u8]) -> usize
+    requires room { at + length bytes.now ≤ ROW }
+    ensures end { result ≡ at + length bytes.now }
+    ensures bytes { take result row.new ≡ take at row.old ++ bytes.now }
+{
+    let mut end = at;
+    for byte in bytes {
+        row[end] = *byte;
+        end += 1;
+    }
+    end
+}
+
+/// The letter of a part.
+fn letter(part: Part) -> u8
+    ensures { result ∷ [] ≡ part_text part }
 {
     match part {
-        Part::Area => "C a\n",
-        Part::Range => "C r\n",
-        Part::Pair => "C p\n",
-        Part::Hull => "C h\n",
-        Part::Full => "C f\n",
+        Part::Area => b'a',
+        Part::Range => b'r',
+        Part::Pair => b'p',
+        Part::Hull => b'h',
+        Part::Full => b'f',
     }
 }

@@ -6,5 +6,6 @@ use Rattle.sf_certificate.proofs.writing.push_tags.Goals as goal
 pub loop-tag-preserved : goal.loop-tag-preserved
 loop-tag-preserved c = record {
   text = grind (arith, common_steps);
-  fits = All-more FitsTag c.args.tags.now c.loop-tag.tag-index Extend c.loop-tag-test.true c.loop-tag.invariant.fits c.in_ok-push_tag.ensures.fits;
+  fits = All-more FitsTag c.args.tags.now c.loop-tag.tag-index Extend c.loop-tag-test.true c.loop-tag.invariant.fits c.put_tag-end.ensures.fits;
+  room = omega (arith, c.in_ok-at.ensures.room, c.put_tag-end.ensures.end);
 }
