@@ -36,7 +36,7 @@ use Rattle.sf_pieces.proofs.Names.{kept-lower}
 use Rattle.sf_worker.specs.InHand.{HandView, IsStart, IsVisited, left_of, whole_of, marks_of}
 use Rattle.sf_pieces.specs.declared.piece.Piece.{Piece}
 use Rattle.sf_worker.specs.declared.state.PassEnd.TheVariants.{QuotaSpent, FoundNothing}
-use Rattle.sf_worker.specs.Took.{Did, Logs, Passed, IsOver, PassEnds, IsReady, IsDecidedFirst, Walking, IsPutDown, IsWalkedOver, rest_at, NeverFell, ThievesNeverFell, IsShared, on_stretch, thieves_weigh, maybe_weighs, taken_of, first_of, put_of, stretches_weigh}
+use Rattle.sf_worker.specs.Took.{Did, Logs, Passed, IsOver, PassEnds, IsReady, IsDecidedFirst, Walking, IsPutDown, IsWalkedInto, IsWalkedOver, rest_at, rest_waits, NeverFell, ThievesNeverFell, IsShared, on_stretch, thieves_weigh, maybe_weighs, taken_of, first_of, put_of, stretches_weigh}
 use Rattle.sf_worker.specs.Takes.{IsFirst, IsFound, SamePuts}
 use Rattle.sf_worker.proofs.Thieves.{fell-trans, thieves_fell-trans, thieves_fell-rose, thieves_never_fell, never_fell}
 
@@ -88,19 +88,14 @@ first-not None first' h = (refl, h)
 first-not (Some t) first' h = absurd (let e = h.1 in cc)
 
 -- what is left of the stretch in hand stands for what is not visited yet
-rest-waits : (design : Design) (more : Bool) (path : Path) (floor : ℕ) → waiting design floor more path.node ≡ flat_map (waits design) (rest_at more path floor)
-rest-waits design true path floor = sym (append-nil (waiting design floor true path.node))
-rest-waits design false path floor = refl
+rest-left : (design : Design) (more : Bool) (path : Path) (floor : ℕ) → waiting design floor more path.node ≡ rest_waits design (rest_at more path floor)
+rest-left design true path floor = refl
+rest-left design false path floor = refl
 
 -- it is a stretch of the design
-rest-are : (design : Design) (bound : Parts → ℕ) (more : Bool) (path : Path) (floor : ℕ) → (more ≡ true → IsStretch design bound (record { cursor = path; floor = floor })) → All (IsStretch design bound) (rest_at more path floor)
-rest-are design bound true path floor h = All-cons (IsStretch design bound) (record { cursor = path; floor = floor }) [] (h refl) (All-nil (IsStretch design bound))
-rest-are design bound false path floor h = All-nil (IsStretch design bound)
-
--- it is one or none
-rest-over : (more : Bool) (path : Path) (floor : ℕ) (Z : Type 0) → Z → (rest_at more path floor ≡ []) ⊎ ((length (rest_at more path floor) ≡ 1) × Z)
-rest-over true path floor Z z = inr (refl, z)
-rest-over false path floor Z z = inl refl
+rest-is : (design : Design) (bound : Parts → ℕ) (more : Bool) (path : Path) (floor : ℕ) → (more ≡ true → IsStretch design bound (record { cursor = path; floor = floor })) → IfSome (rest_at more path floor) (IsStretch design bound)
+rest-is design bound true path floor h = h refl
+rest-is design bound false path floor h = tt
 
 module _ {T : Type 0} (design : Design) (bound : Parts → ℕ) where
   -- two steps, one after another
@@ -347,11 +342,10 @@ module _ {T : Type 0} (design : Design) (bound : Parts → ℕ) where
           best = subst (λ (k : Knows). IsBest design new.best k.offered) (sym seat) (subst (λ b. IsBest design b mid.seat.offered) (sym best) w.best);
         }
 
-    -- the piece is put down
-    pub walked : (old mid new : WorkerState T) (stretch : Stretch) (hand : HandView) → Walking design bound part old mid (waits design stretch) hand stretch.cursor.node → IsPutDown mid hand new → (hand.more ≡ false) ⊎ (mid.quota ≡ 0) → IsWalkedOver design bound part stretch old new
+    -- a walk whose piece is logged
+    pub walked-into : (old mid new : WorkerState T) (stretch : Stretch) (hand : HandView) (rest : Option Stretch) → Walking design bound part old mid (waits design stretch) hand stretch.cursor.node → IsPutDown mid hand new rest → IsWalkedInto design bound part stretch old new rest
     unfolding did-also
-    walked old mid new stretch hand w p over =
-        let rest = rest_at hand.more hand.path hand.floor in
+    walked-into old mid new stretch hand rest w p =
         let seat : new.seat ≡ mid.seat = ap (λ (z : WorkerState T). z.seat) p.frame in
         let best : new.best ≡ mid.best = ap (λ (z : WorkerState T). z.best) p.frame in
         let quota : new.quota ≡ mid.quota = ap (λ (z : WorkerState T). z.quota) p.frame in
@@ -359,35 +353,67 @@ module _ {T : Type 0} (design : Design) (bound : Parts → ℕ) where
         let first : new.first ≡ mid.first = ap (λ (z : WorkerState T). z.first) p.frame in
         let same : marks_in design p.piece ≡ marks_of design hand = ap (λ ss. marks (pending design true (walk (root design) ss)) p.piece.tags.items) p.first ∙ ap (marks (whole_of design hand)) p.tags in
         let one : flat_map (marks_in design) (p.piece ∷ []) ≡ marks_of design hand = append-nil (marks_in design p.piece) ∙ same in
-        let rest_is : left_of design hand ≡ flat_map (waits design) rest = rest-waits design hand.more hand.path hand.floor in
-        let did = did-also old mid new (waits design stretch) (left_of design hand) (flat_map (waits design) rest) w.did rest_is quota seat place first in
+        let left : left_of design hand ≡ rest_waits design rest = rest-left design hand.more hand.path hand.floor ∙ ap (rest_waits design) (sym p.rest_is) in
+        record {
+          did = did-also old mid new (waits design stretch) (left_of design hand) (rest_waits design rest) w.did left quota seat place first;
+          logs = record {
+            pieces = p.piece ∷ [];
+            log = p.log ∙ ap (λ z. z ++ p.piece ∷ []) w.log;
+            told = w.told ∙ sym (ap (map unnamed_mark) one);
+            read = All-cons (λ q. (map (λ (m : Mark). m.tag) (marks_in design q) ≡ q.tags.items) × (0 < length q.tags.items)) p.piece [] (
+              ap (map (λ (m : Mark). m.tag)) same ∙ w.hand_is.read ∙ sym p.tags,
+              (let some = some-length (λ (e : Entry). e.node ≡ stretch.cursor.node) w.did.logged w.decided in
+                  let a = length-map w.did.logged mark_of in
+                  let b = length-map (marks_of design hand) unnamed_mark in
+                  let c = length-map (marks_of design hand) (λ (m : Mark). m.tag) in
+                  omega (arith, some, a, b, c, ap length w.told, ap length w.hand_is.read, ap length p.tags)),
+            ) (All-nil (λ q. (map (λ (m : Mark). m.tag) (marks_in design q) ≡ q.tags.items) × (0 < length q.tags.items)));
+            kept_parts = All-cons (λ q. AreKept part new.seat.seen (marks_in design q) q.kept.items) p.piece []
+                (subst (λ ms. AreKept part new.seat.seen ms p.piece.kept.items) (sym same) (subst (AreKept part new.seat.seen (marks_of design hand)) (sym p.values) (subst (λ (k : Knows). AreKept part k.seen (marks_of design hand) hand.kept) (sym seat) w.kept_parts)))
+                (All-nil (λ q. AreKept part new.seat.seen (marks_in design q) q.kept.items));
+          };
+          kept = ap (λ (z : WorkerState T). z.kept.items) p.frame ∙ w.kept;
+          rest_is = subst (λ r. IfSome r (IsStretch design bound)) (sym p.rest_is) (rest-is design bound hand.more hand.path hand.floor (λ e. record { at = w.hand_is.at; above = w.hand_is.above e }));
+          decided = w.decided;
+          first = first ∙ w.first;
+          best = subst (λ (k : Knows). IsBest design new.best k.offered) (sym seat) (subst (λ b. IsBest design b mid.seat.offered) (sym best) w.best);
+        }
+
+    -- where nothing is left the walk is over
+    pub over-ended : (old new : WorkerState T) (stretch : Stretch) → IsWalkedInto design bound part stretch old new None → IsWalkedOver design bound part stretch old new
+    over-ended old new stretch w = record {
+      passed = record { rest = []; did = w.did; logs = w.logs; kept = w.kept ∙ sym (append-nil (old.kept.items ++ w.did.refused)); rest_are = All-nil (IsStretch design bound) };
+      over = inl refl;
+      decided = w.decided;
+      first = w.first;
+      best = w.best;
+    }
+
+    -- where the quota is spent what is left is kept
+    pub over-spent : (old mid new : WorkerState T) (stretch rest : Stretch) → IsWalkedInto design bound part stretch old mid (Some rest) → new ≡ record mid { kept = new.kept } → new.kept.items ≡ mid.kept.items ++ rest ∷ [] → mid.quota ≡ 0
+        → IsWalkedOver design bound part stretch old new
+    unfolding did-also
+    over-spent old mid new stretch rest w frame kept spent =
+        let seat : new.seat ≡ mid.seat = ap (λ (z : WorkerState T). z.seat) frame in
+        let quota : new.quota ≡ mid.quota = ap (λ (z : WorkerState T). z.quota) frame in
+        let place : new.place ≡ mid.place = ap (λ (z : WorkerState T). z.place) frame in
+        let first : new.first ≡ mid.first = ap (λ (z : WorkerState T). z.first) frame in
+        let best : new.best ≡ mid.best = ap (λ (z : WorkerState T). z.best) frame in
         record {
           passed = record {
-            rest = rest;
-            did = did;
+            rest = rest ∷ [];
+            did = did-also old mid new (waits design stretch) (waits design rest) (flat_map (waits design) (rest ∷ [])) w.did (sym (append-nil (waits design rest))) quota seat place first;
             logs = record {
-              pieces = p.piece ∷ [];
-              log = p.log ∙ ap (λ z. z ++ p.piece ∷ []) w.log;
-              told = w.told ∙ sym (ap (map unnamed_mark) one);
-              read = All-cons (λ q. (map (λ (m : Mark). m.tag) (marks_in design q) ≡ q.tags.items) × (0 < length q.tags.items)) p.piece [] (
-                ap (map (λ (m : Mark). m.tag)) same ∙ w.hand_is.read ∙ sym p.tags,
-                (let some = some-length (λ (e : Entry). e.node ≡ stretch.cursor.node) w.did.logged w.decided in
-                    let a = length-map w.did.logged mark_of in
-                    let b = length-map (marks_of design hand) unnamed_mark in
-                    let c = length-map (marks_of design hand) (λ (m : Mark). m.tag) in
-                    omega (arith, some, a, b, c, ap length w.told, ap length w.hand_is.read, ap length p.tags)),
-              ) (All-nil (λ q. (map (λ (m : Mark). m.tag) (marks_in design q) ≡ q.tags.items) × (0 < length q.tags.items)));
-              kept_parts = All-cons (λ q. AreKept part new.seat.seen (marks_in design q) q.kept.items) p.piece []
-                  (subst (λ ms. AreKept part new.seat.seen ms p.piece.kept.items) (sym same) (subst (AreKept part new.seat.seen (marks_of design hand)) (sym p.values) (subst (λ (k : Knows). AreKept part k.seen (marks_of design hand) hand.kept) (sym seat) w.kept_parts)))
-                  (All-nil (λ q. AreKept part new.seat.seen (marks_in design q) q.kept.items));
+              pieces = w.logs.pieces;
+              log = ap (λ (z : WorkerState T). z.log.items) frame ∙ w.logs.log;
+              told = w.logs.told;
+              read = w.logs.read;
+              kept_parts = subst (λ (k : Knows). All (λ (p : Piece). AreKept part k.seen (marks_in design p) p.kept.items) w.logs.pieces) (sym seat) w.logs.kept_parts;
             };
-            kept = p.kept ∙ ap (λ z. z ++ rest) w.kept;
-            rest_are = rest-are design bound hand.more hand.path hand.floor (λ e. record { at = w.hand_is.at; above = w.hand_is.above e });
+            kept = kept ∙ ap (λ z. z ++ rest ∷ []) w.kept;
+            rest_are = All-cons (IsStretch design bound) rest [] w.rest_is (All-nil (IsStretch design bound));
           };
-          over = elim over [
-            | inl none ↦ inl (ap (λ m. rest_at m hand.path hand.floor) none)
-            | inr spent ↦ rest-over hand.more hand.path hand.floor (new.quota ≡ 0) (quota ∙ spent)
-          ];
+          over = inr (refl, quota ∙ spent);
           decided = w.decided;
           first = first ∙ w.first;
           best = subst (λ (k : Knows). IsBest design new.best k.offered) (sym seat) (subst (λ b. IsBest design b mid.seat.offered) (sym best) w.best);
@@ -422,6 +448,19 @@ module _ {T : Type 0} (design : Design) (bound : Parts → ℕ) (part : Parts �
         read = All-append Read p.pieces q.pieces p.read q.read;
         kept_parts = All-append (Kept c.seat.seen) p.pieces q.pieces (All-weaker (Kept b.seat.seen) (Kept c.seat.seen) (λ x k. kept-lower part b.seat.seen c.seat.seen (marks_in design x) x.kept.items lower k) p.pieces p.kept_parts) q.kept_parts;
       }
+
+  -- what was left is walked into as well
+  pub into-on : (a b c : WorkerState T) (stretch next : Stretch) (rest : Option Stretch) → IsWalkedInto design bound part stretch a b (Some next) → IsWalkedInto design bound part next b c rest → IsWalkedInto design bound part stretch a c rest
+  unfolding did-trans
+  into-on a b c stretch next rest p q = record {
+    did = did-trans design bound a b c (waits design stretch) (waits design next) (rest_waits design rest) p.did q.did;
+    logs = logs-trans a b c p.did.logged q.did.logged q.did.seen p.logs q.logs;
+    kept = q.kept ∙ (ap (λ z. z ++ q.did.refused) p.kept ∙ append_assoc a.kept.items p.did.refused q.did.refused);
+    rest_is = q.rest_is;
+    decided = any-left (λ (e : Entry). e.node ≡ stretch.cursor.node) p.did.logged q.did.logged p.decided;
+    first = q.first ∙ p.first;
+    best = q.best;
+  }
 
   -- two passes, the first of which left nothing of its last stretch
   pub passed-trans : (a b c : WorkerState T) (x : List Parts) (p : Passed design bound part a b x) → p.rest ≡ [] → Passed design bound part b c [] → Passed design bound part a c x

@@ -84,9 +84,14 @@ abbrev pub Serves : (Stretch → Type 0) → Design → (Parts → ℕ) → Type
 Serves S design bound = (s : Stretch) → (S s → IsStretch design bound s) × (IsStretch design bound s → S s)
 
 -- what is left of the stretch in hand
-abbrev pub rest_at : Bool → Path → ℕ → List Stretch
-rest_at true path floor = record { cursor = path; floor = floor } ∷ []
-rest_at false path floor = []
+abbrev pub rest_at : Bool → Path → ℕ → Option Stretch
+rest_at true path floor = Some (record { cursor = path; floor = floor })
+rest_at false path floor = None
+
+-- the subproblems that what is left of a stretch stands for
+abbrev pub rest_waits : Design → Option Stretch → List Parts
+rest_waits design (Some s) = waits design s
+rest_waits design None = []
 
 module _ {T : Type 0} where
   -- the weight of what a worker took, from its own deque and by its thieves
@@ -179,15 +184,15 @@ module _ {T : Type 0} where
     pub refusals : CountsAll old.place.owner.refused_puts new.place.owner.refused_puts refused
     pub empty_takes : NeverFell old.place.owner.empty_takes new.place.owner.empty_takes
 
-  -- the piece is logged, and what is left of the stretch is kept
-  pub record IsPutDown (old : WorkerState T) (hand : HandView) (new : WorkerState T) : Type 0 where
+  -- the piece is logged, and what is left of the stretch is handed back
+  pub record IsPutDown (old : WorkerState T) (hand : HandView) (new : WorkerState T) (rest : Option Stretch) : Type 0 where
     pub piece : Piece
     pub log : new.log.items ≡ old.log.items ++ piece ∷ []
     pub first : piece.first.items ≡ hand.first
     pub tags : piece.tags.items ≡ hand.tags
     pub values : piece.kept.items ≡ hand.kept
-    pub kept : new.kept.items ≡ old.kept.items ++ rest_at hand.more hand.path hand.floor
-    pub frame : new ≡ record old { log = new.log; kept = new.kept }
+    pub rest_is : rest ≡ rest_at hand.more hand.path hand.floor
+    pub frame : new ≡ record old { log = new.log }
 
   -- all counts of empty takes rose, or stand at the greatest
   abbrev pub NothingFound : WorkerState T → WorkerState T → Type 0
@@ -202,6 +207,16 @@ module _ {T : Type 0} where
     abbrev pub PassEnds : (old new : WorkerState T) → Passed design bound part old new before → PassEnd → Type 0
     PassEnds old new p QuotaSpent = (new.quota ≡ 0) × (length p.rest ≤ 1) × (0 < old.quota → IsDecidedFirst old.first new.first p.did.logged) × (old.quota ≡ 0 → new.first ≡ old.first)
     PassEnds old new p FoundNothing = (0 < new.quota) × (p.rest ≡ []) × IsDecidedFirst old.first new.first p.did.logged × NothingFound old new
+
+  -- a walk over the first part of a stretch: its first subproblem was decided, and what is left of it is neither decided nor kept
+  pub record IsWalkedInto (design : Design) (bound : Parts → ℕ) (part : Parts → Part → ℕ) (stretch : Stretch) (old new : WorkerState T) (rest : Option Stretch) : Type 0 where
+    pub did : Did design bound old new (waits design stretch) (rest_waits design rest)
+    pub logs : Logs design part old new did.logged
+    pub kept : new.kept.items ≡ old.kept.items ++ did.refused
+    pub rest_is : IfSome rest (IsStretch design bound)
+    pub decided : Any (λ (e : Entry). e.node ≡ stretch.cursor.node) did.logged
+    pub first : new.first ≡ old.first
+    pub best : IsBest design new.best new.seat.offered
 
   -- a walk over a stretch: its first subproblem was decided, and it ended at the stretch's end or the quota's
   pub record IsWalkedOver (design : Design) (bound : Parts → ℕ) (part : Parts → Part → ℕ) (stretch : Stretch) (old new : WorkerState T) : Type 0 where

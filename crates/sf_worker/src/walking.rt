@@ -1,10 +1,10 @@
 //! A walk over one stretch.
 
-ghost use Rattle.std.specs.Prelude.{◌≡◌, ◌+◌, ◌<◌, ◌≤◌, true, OnOk};
+ghost use Rattle.std.specs.Prelude.{◌≡◌, ◌+◌, ◌<◌, ◌≤◌, true, IfOk, OnOk};
 ghost use Rattle.sf_cursor.specs.Stretches.{IsStretch};
 ghost use Rattle.sf_worker.specs.Tasks.{IsBest};
 ghost use Rattle.sf_worker.specs.InHand.{IsHand, IsVisited};
-ghost use Rattle.sf_worker.specs.Took.{IsPutDown, IsShared, IsWalkedOver, Serves};
+ghost use Rattle.sf_worker.specs.Took.{IsPutDown, IsShared, IsWalkedInto, IsWalkedOver, Serves};
 
 use crate::hand::Hand;
 use crate::one_visit::visit_next;
@@ -18,6 +18,10 @@ use sf_io::Gate;
 use sf_model::Design;
 use sf_node::Values;
 use std::alloc::AllocError as NoMemory;
+
+/// How many tags a piece has at most. What is left of a longer walk goes on as a piece of its own, so that no
+/// list of tags grows far in the heap of a thread.
+const MOST_TAGS: usize = 65_536;
 
 /// After how many decisions a worker looks whether it shares what it has in hand: sooner where nets count, since
 /// a decision takes longer there.
@@ -102,19 +106,52 @@ fn share<T: Served, V: Values>(
     Ok(())
 }
 
-/// Logs the piece, and keeps what is left of the stretch.
-fn put_down<T: Served>(state: &mut WorkerState<T>, hand: Hand) -> Result<(), NoMemory>
-    ensures { OnOk result (IsPutDown state.old hand state.new) }
+/// Logs the piece. The answer is what is left of the stretch, if anything is.
+fn put_down<T: Served>(state: &mut WorkerState<T>, hand: Hand) -> Result<Option<Stretch>, NoMemory>
+    ensures { IfOk result (IsPutDown state.old hand state.new) }
 {
     let (piece, rest) = hand.into_parts();
     state.log.push(piece)?;
-    if let Some(rest) = rest {
-        state.kept.push(rest)?;
-    }
-    Ok(())
+    Ok(rest)
 }
 
-/// Walks over a stretch until it is at its end or the quota is spent, of which so many were given in this pass.
+/// Walks over a stretch until it is at its end, the quota is spent or the piece is as long as one may be. The
+/// answer is what is left of the stretch, if anything is.
+fn walk_into<T: Served, B: Bounds, G: Gate>(
+    state: &mut WorkerState<T>,
+    stretch: Stretch,
+    room: &mut B::Room,
+    design: &Design,
+    bounds: &B,
+    word: &Incumbent,
+    gate: &G,
+    given: u64,
+) -> Result<Option<Stretch>, NoMemory>
+    requires team { Serves T.serves design.now (B.Values.value bounds.now design.now) }
+    requires word { state.old.seat.word ≡ word.now.id }
+    requires quota { 0 < state.old.quota }
+    requires given { state.old.quota ≤ given }
+    requires stretch { IsStretch design.now (B.Values.value bounds.now design.now) stretch }
+    requires best { IsBest design.now state.old.best state.old.seat.offered }
+    requires serves { B.serves room.old design.now }
+    ensures walked { IfOk result (IsWalkedInto design.now (B.Values.value bounds.now design.now)
+        (B.part_value bounds.now design.now) stretch state.old state.new) }
+    ensures serves { B.serves room.new design.now }
+{
+    let slice = slice(design);
+    let has_others = !state.place.thieves.is_empty();
+    let mut hand = Hand::at(stretch, design, bounds)?;
+    let mut value = go(state, &mut hand, room, design, bounds, word, gate, given)?;
+    while state.quota > 0 && hand.more() && hand.count() < MOST_TAGS {
+        let wanted = has_others && state.quota % slice == 0;
+        share(state, &mut hand, design, bounds, value, wanted)?;
+        value = go(state, &mut hand, room, design, bounds, word, gate, given)?;
+    }
+    put_down(state, hand)
+}
+
+/// Walks over a stretch, piece by piece, until it is at its end or the quota is spent, of which so many were
+/// given in this pass. What is left of it then is kept.
 pub fn walk_over<T: Served, B: Bounds, G: Gate>(
     state: &mut WorkerState<T>,
     stretch: Stretch,
@@ -136,19 +173,13 @@ pub fn walk_over<T: Served, B: Bounds, G: Gate>(
         (B.part_value bounds.now design.now) stretch state.old state.new) }
     ensures serves { B.serves room.new design.now }
 {
-    let slice = slice(design);
-    let has_others = !state.place.thieves.is_empty();
-    let mut hand = Hand::at(stretch, design, bounds)?;
-    let mut value = go(state, &mut hand, room, design, bounds, word, gate, given)?;
-    while state.quota > 0 {
-        if !hand.more() {
-            put_down(state, hand)?;
+    let mut rest = walk_into(state, stretch, room, design, bounds, word, gate, given)?;
+    while let Some(stretch) = rest {
+        if state.quota == 0 {
+            state.kept.push(stretch)?;
             return Ok(());
         }
-        let wanted = has_others && state.quota % slice == 0;
-        share(state, &mut hand, design, bounds, value, wanted)?;
-        value = go(state, &mut hand, room, design, bounds, word, gate, given)?;
+        rest = walk_into(state, stretch, room, design, bounds, word, gate, given)?;
     }
-    put_down(state, hand)?;
     Ok(())
 }

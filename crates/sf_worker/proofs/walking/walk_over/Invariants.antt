@@ -1,11 +1,10 @@
-use Rattle.sf_cursor.specs.Stretches.{waits}
-use Rattle.sf_worker.specs.Took.{Walking}
+use Rattle.sf_worker.specs.Took.{IsWalkedInto}
 use Rattle.sf_worker.proofs.walking.walk_over.Given as goal
 
-abbrev pub invariant-loop-state : goal.invariant-loop-state
-invariant-loop-state g l =
-    Walking l.fn.design (g.B.Values.value l.fn.bounds l.fn.design) (g.B.Bounds.part_value l.fn.bounds l.fn.design) l.fn.state l.state (waits l.fn.design l.fn.stretch) l.hand l.fn.stretch.cursor.node
+abbrev pub invariant-loop-rest : goal.invariant-loop-rest
+invariant-loop-rest g l =
+    IsWalkedInto l.fn.design (g.B.Values.value l.fn.bounds l.fn.design) (g.B.Bounds.part_value l.fn.bounds l.fn.design) l.fn.stretch l.fn.state l.state l.rest
     × g.B.Bounds.serves l.room l.fn.design
 
-abbrev pub decreases-loop-state : goal.decreases-loop-state
-decreases-loop-state g l = l.state.quota
+abbrev pub decreases-loop-rest : goal.decreases-loop-rest
+decreases-loop-rest g l = l.state.quota
