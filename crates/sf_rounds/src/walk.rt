@@ -98,7 +98,8 @@ impl Walk {
         (tags, best)
     }
 
-    /// Visits the subproblem that is next.
+    /// Visits the subproblem that is next. Inlined into the one loop that calls it.
+    #[inline(always)]
     pub fn step<B: Bounds>(
         &mut self,
         design: &Design,

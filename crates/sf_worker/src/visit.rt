@@ -19,7 +19,9 @@ pub enum Visit {
     Split(u16),
 }
 
-/// Decides a subproblem with its bound against a value that some plan costs, or that none does.
+/// Decides a subproblem with its bound against a value that some plan costs, or that none does. Inlined, since
+/// of most subproblems a comparison or two decides.
+#[inline(always)]
 pub fn decide<B: Bounds>(
     design: &Design,
     bounds: &B,
