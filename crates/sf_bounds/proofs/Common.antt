@@ -3,7 +3,7 @@ pub use Rattle.sf_nets.specs.Ends.{IsFitInterval, IsFitReach, anywhere, endless,
 pub use Rattle.sf_nets.specs.Layout.{IsModestExtent, joined_extent}
 pub use Rattle.sf_bounds.specs.Open.{AreWireCosts, IsAreaCost, IsAreaCostOrNone}
 pub use Rattle.sf_nets.specs.Pins.{IsNet, pad_reach}
-pub use Rattle.sf_bounds.specs.Rows.{AreBlockRows, AreStored, AreSums, AreTop, AreWires, IsFitCell, IsLonger, IsNetEnd, IsNetFrame, IsRow, IsStart, block_cell, cell_at, cell_of, changed, counted, first_end, joined_cell, joined_reach, of_weight, own_reach, pads_share, part, pins_at, pushed, pushed_reach, row, start_cell, token_of, weighed_cell, weighed_hull, weighed_nets, weights_of, whole_extent, with_pad}
+pub use Rattle.sf_bounds.specs.Rows.{AreBlockRows, AreStored, AreSums, AreTop, AreWires, IsFitCell, IsLonger, IsNetEnd, IsNetFrame, IsRow, IsStart, block_cell, cell_at, cell_of, changed, counted, first_end, joined_cell, joined_reach, lefts_of, of_weight, own_reach, pads_share, part, pins_at, pushed, pushed_reach, row, start_cell, token_of, weighed_cell, weighed_hull, weighed_lefts, weighed_nets, weights_of, whole_extent, with_pad}
 pub use Rattle.sf_bounds.specs.declared.net_frame.BlockRow.{BlockRow}
 pub use Rattle.sf_bounds.specs.declared.net_frame.Cell.{Cell}
 pub use Rattle.sf_bounds.specs.declared.net_frame.NetFrame.{NetFrame}
@@ -34,7 +34,7 @@ pub use Rattle.sf_standard.proofs.Sides.{IsSmallExtent, span-small}
 pub use Rattle.sf_standard.proofs.Unmoved.{block_keeps, lone-hull, sum_by-same}
 pub use Rattle.sf_standard.specs.Hull.{contains_pin, extent_of, gap, hull_of, hull_part, item_extent, moved_right, moved_up, of_pins, offset_x, offset_y, offsets, pads_x, pads_y, pair_part, range_part, to_nat}
 pub use Rattle.sf_standard.specs.Items.{Item, item_in, items_of, read}
-pub use Rattle.sf_standard.specs.Standard.{area, greatest, least_of, net_part, open_value, part_value, pins_by, standard, weighed_part, wire_part, wires_by}
+pub use Rattle.sf_standard.specs.Standard.{area, full_part, greatest, least_of, net_part, open_value, part_value, pins_by, rest_part, standard, weighed_part, wire_part, wires_by}
 pub use Rattle.sf_standard.specs.declared.hull.Extent.{Extent}
 pub use Rattle.sf_standard.specs.declared.hull.Interval.{Interval}
 pub use Rattle.sf_standard.specs.declared.hull.Offset.{Offset}

@@ -3,6 +3,7 @@ pub mod Extended
 pub mod Shares
 pub mod RowLaws
 pub mod Weights
+pub mod Lefts
 pub mod NetKept
 pub mod NetPushed
 pub mod NetRows

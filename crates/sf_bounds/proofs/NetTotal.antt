@@ -1,8 +1,9 @@
 -- What the wires take after all tokens.
 use Rattle.std.proofs.Common.{◌≡◌, ℕ, ◌+◌, ◌-◌, ◌*◌, ◌<◌, ◌≤◌, max, List, [], ◌∷◌, length, take, get_or, refl, sym, ap, ◌∙◌, subst, arith, All, true, false}
 use Rattle.std.specs.Prelude.{if◌then◌else◌}
-use Rattle.sf_bounds.proofs.Common.{nat_lt, sum_by, take_all, get_or_default, recursion_from_All, sum_by_more, Design, Net, Pin, Range, Pair, Hull, Parts, root, is_complete, IsSubproblem, shapes_in, Item, read, items_of, item_in, extent_of, offsets, hull_of, hull_part, range_part, pair_part, net_part, weighed_part, wire_part, pins_by, wires_by, whole-item, sum_by-same, token_in, Direction, items_at, IsNext, BlockRow, Cell, NetFrame, Wires, Reach, anywhere, met, reach_gap, IsNet, counted, weighed_nets, weights_of, pins_at, whole_extent, row, part, pads_share, joined_reach, cell_at, IsFitCell, AreWires, AreStored, AreTop}
+use Rattle.sf_bounds.proofs.Common.{nat_lt, sum_by, take_all, get_or_default, recursion_from_All, sum_by_more, Design, Net, Pin, Range, Pair, Hull, Parts, root, is_complete, IsSubproblem, shapes_in, Item, read, items_of, item_in, extent_of, offsets, hull_of, hull_part, range_part, pair_part, net_part, weighed_part, wire_part, pins_by, wires_by, whole-item, sum_by-same, token_in, Direction, items_at, IsNext, BlockRow, Cell, NetFrame, Wires, Reach, anywhere, met, reach_gap, IsNet, counted, weighed_nets, weighed_lefts, lefts_of, weights_of, pins_at, whole_extent, row, part, pads_share, joined_reach, cell_at, IsFitCell, AreWires, AreStored, AreTop}
 use Rattle.sf_frames.proofs.WholeSpans.{whole-spans}
+use Rattle.sf_bounds.proofs.Lefts.{rest-more}
 use Rattle.sf_bounds.proofs.NetPushed.{whole-small, item-few, top-items, row-is}
 use Rattle.sf_bounds.proofs.NetRows.{cell-fits}
 use Rattle.sf_bounds.proofs.NetStarted.{no-hull, no-hulls, near-pads, IsThere}
@@ -81,6 +82,14 @@ open-total design node cells w n sub whole all incomplete m =
     m.total ∙ ap (λ v. sum_by (λ net. net.weight * part design (whole_extent design) v (counted net.pins)) (weighed_nets design)) items
     ∙ sum-of_weight now design.nets
     ∙ sym (sum_by-same (weighed_part design node) (λ net. net.weight * now net) (λ net. ap (λ v. net.weight * v) (open-part design node net sub whole incomplete)) design.nets)
+
+-- the part of a net in the row of the last frame is that of the subproblem
+pub open-cell : (design : Design) (node : Parts) (cells : List Cell) (w : Wires) (n : ℕ) → IsSubproblem design node → length node.steps ≡ length node.tokens → n ≡ length node.tokens → is_complete node ≡ false → AreWires design cells (items_at node.tokens n) w
+    → (j : ℕ) → j < length (weighed_nets design) → (cell_at cells (w.at + j)).part ≡ net_part design node (get_or (weighed_nets design) j (record { pins = []; weight = 0 }))
+open-cell design node cells w n sub whole all incomplete m j lt =
+    let items : items_at node.tokens n ≡ items_of node = ap (read []) (take_all n node.tokens (omega (arith, all))) in
+    m.each j lt ∙ ap (λ v. part design (whole_extent design) v (pins_at design j)) items
+    ∙ sym (open-part design node (get_or (weighed_nets design) j (record { pins = []; weight = 0 })) sub whole incomplete)
 
 -- in a complete one with the pads
 closed-part : (design : Design) (node : Parts) (net : Net) (i : Item) → IsSubproblem design node → length node.steps ≡ length node.tokens → is_complete node ≡ true → items_of node ≡ i ∷ [] → length (offsets (whole_extent design) i) ≤ 320 → IsNet design net.pins →
@@ -178,3 +187,8 @@ module _ (design : Design) (node : Parts) (cells : List Cell) (blocks : List Blo
     hull-total-more is_total =
         let more : weight * gap ≡ (net_at j).weight * pins_by design node (net_at j).pins Hull = ap (λ w. w * gap) weight-is ∙ ap (λ v. (net_at j).weight * v) (is_gap ∙ hull-at j lt) in
         omega (arith, is_total, more, sum_by_more (λ (n : Net). n.weight * pins_by design node n.pins Hull) (weighed_nets design) j (record { pins = []; weight = 0 }) lt)
+
+    -- of the greatest by what is left
+    pub rest-total-more : (rest left value : ℕ) → left ≡ get_or (lefts_of design) j 0 → value ≡ max (cell_at cells (start.at + j)).part gap → rest ≡ sum_by (λ n. n.0 * net_part design node n.1) (take j (weighed_lefts design)) → rest + left * value ≡ sum_by (λ n. n.0 * net_part design node n.1) (take (j + 1) (weighed_lefts design))
+    rest-total-more rest left value is_left is_value is_rest =
+        rest-more design (net_part design node) j lt rest left value is_left (is_value ∙ ap (max (cell_at cells (start.at + j)).part) is_gap ∙ part-at j lt) is_rest

@@ -1,5 +1,5 @@
 -- How the code goes, and nothing that the crate promises: what is kept of the nets that count along a path of tokens whose spans are whole.
-use Rattle.std.specs.Prelude.{◌≡◌, ℕ, ◌+◌, ◌*◌, ◌-◌, ◌<◌, ◌≤◌, max, List, [], ◌∷◌, ◌++◌, length, map, take, filter, fold, sum_by, All, AllPairs, true, false, nat_lt, if◌then◌else◌, pos, ◌+ℤ◌, int_lt, Option, Some, IfSome, slice_index_or}
+use Rattle.std.specs.Prelude.{◌≡◌, ℕ, ◌+◌, ◌*◌, ◌-◌, ◌<◌, ◌≤◌, max, List, [], ◌∷◌, ◌++◌, length, map, take, zip, filter, fold, sum_by, All, AllPairs, true, false, nat_lt, if◌then◌else◌, pos, ◌+ℤ◌, int_lt, Option, Some, IfSome, slice_index_or}
 use Rattle.std.specs.List.{range_with_len}
 use Rattle.sf_model.specs.declared.design.Design.{Design}
 use Rattle.sf_model.specs.declared.parts.Net.{Net}
@@ -49,6 +49,14 @@ weighed_nets design = of_weight design.nets
 -- their weights
 abbrev pub weights_of : List Net → List ℕ
 weights_of nets = map (λ n. n.weight) (of_weight nets)
+
+-- those of a design with what paths leave of them
+abbrev pub weighed_lefts : Design → List (ℕ × Net)
+weighed_lefts design = filter (λ n. nat_lt 0 n.1.weight) (zip design.routes.left design.nets)
+
+-- that alone
+abbrev pub lefts_of : Design → List ℕ
+lefts_of design = map (λ n. n.0) (weighed_lefts design)
 
 -- the counted pins of one of them by number
 abbrev pub pins_at : Design → ℕ → List Pin
@@ -210,9 +218,10 @@ pub record AreStored (design : Design) (tokens : List Token) (cells : List Cell)
   pub start_is : IsStart design cells blocks start
   pub frames_are : AreNetFrames design tokens cells (first_end design start) frames
 
--- with the weights of the nets that count, and the sums of the ranges and of the pairs, which no token changes
+-- with the weights of the nets that count and what paths leave of them, and the sums of the ranges and of the pairs, which no token changes
 pub record AreKept (design : Design) (tokens : List Token) (nets : Nets) : Type 0 where
   pub weights : nets.weights.items ≡ weights_of design.nets
+  pub lefts : nets.lefts.items ≡ lefts_of design
   pub ranges : nets.ranges ≡ wires_by design (root design) Range
   pub pairs : nets.pairs ≡ wires_by design (root design) Pair
   pub stored : AreStored design tokens nets.cells.items nets.blocks.items nets.start nets.frames.items

@@ -44,7 +44,7 @@ pub struct NetFrame {
 
 /// What is kept of a path: in one list the cells of all rows, the row of each block, the wires before any
 /// token with what the pads share, the frames, and the weights of the nets that count, of which a row has a
-/// cell each. The sums of the ranges and of the pairs are the same along all paths.
+/// cell each, with what is left of them by the paths from pad to pad. The sums of the ranges and of the pairs are the same along all paths.
 #[derive(Drop)]
 pub struct Nets {
     pub cells: Vec<Cell>,
@@ -52,8 +52,18 @@ pub struct Nets {
     pub start: Wires,
     pub frames: Vec<NetFrame>,
     pub weights: Vec<u8>,
+    pub lefts: Vec<u8>,
     pub ranges: u64,
     pub pairs: u64,
+}
+
+/// What the wires take at least after all tokens: the sum over the nets, the same sum of the gaps alone, and
+/// that by what paths leave of the nets.
+#[derive(Clone, Copy, Debug, PartialEq, Eq)]
+pub struct Totals {
+    pub sum: u64,
+    pub hull: u64,
+    pub rest: u64,
 }
 
 /// A part of the wires that tokens change: the gaps in the items alone, or the greatest of these with range

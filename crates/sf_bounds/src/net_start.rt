@@ -8,7 +8,8 @@ ghost use Rattle.sf_standard.specs.Hull.{contains_pin};
 ghost use Rattle.sf_standard.specs.Standard.{weighed_part, wire_part};
 ghost use Rattle.sf_bound.specs.Only.{Tells};
 ghost use Rattle.sf_nets.specs.Pins.{IsNet, IsLayout};
-ghost use Rattle.sf_bounds.specs.Rows.{counted, of_weight, weighed_nets, weights_of, whole_extent, own_reach};
+ghost use Rattle.sf_bounds.specs.Rows.{counted, of_weight, weighed_nets, weights_of, lefts_of};
+ghost use Rattle.sf_bounds.specs.Rows.{whole_extent, own_reach};
 ghost use Rattle.sf_bounds.specs.Rows.{block_cell, with_pad, pads_share, start_cell};
 ghost use Rattle.sf_bounds.specs.Rows.{IsFitCell, AreBlockRows, AreKept};
 
@@ -74,6 +75,19 @@ fn weights_of(alloc: Global, nets: &[Net]) -> Result<Vec<u8>, NoMemory>
         }
     }
     Ok(weights)
+}
+
+/// What paths leave of the weights of the nets that count.
+fn lefts_of(alloc: Global, design: &Design) -> Result<Vec<u8>, NoMemory>
+    ensures { IfOk result (λ lefts. lefts.items ≡ lefts_of design.now) }
+{
+    let mut lefts = Vec::new(alloc);
+    for (number, net) in design.nets.as_slice().iter().enumerate() {
+        if net.weight > 0 {
+            lefts.push(design.left_of(number))?;
+        }
+    }
+    Ok(lefts)
 }
 
 /// Puts the cell of a net at the end, where the net counts.
@@ -222,6 +236,7 @@ pub fn start(scratch: &mut Scratch, design: &Design) -> Result<Nets, NoMemory>
     let parts = all_wires(scratch, design, &node)?;
     prepare(scratch, design, &node)?;
     let weights = weights_of(alloc, design.nets.as_slice())?;
+    let lefts = lefts_of(alloc, design)?;
     let mut cells = Vec::new(alloc);
     let blocks = push_block_rows(&mut cells, alloc, design, &scratch.layout.extents)?;
     let at = cells.len();
@@ -238,6 +253,7 @@ pub fn start(scratch: &mut Scratch, design: &Design) -> Result<Nets, NoMemory>
         start: Wires { at, sum, hull: 0 },
         frames: Vec::new(alloc),
         weights,
+        lefts,
         ranges: parts.range,
         pairs: parts.pair,
     })

@@ -1,24 +1,24 @@
 //! What the wires take after all tokens, read off the rows of a path.
 
-ghost use Rattle.std.specs.Prelude.{◌≡◌, ◌<◌, ◌≤◌, ◌+◌, length, IfSome};
+ghost use Rattle.std.specs.Prelude.{◌≡◌, ◌<◌, ◌≤◌, ◌+◌, ◌^◌, length, IfSome};
 ghost use Rattle.sf_node.specs.declared.part.Part.TheVariants.{Range, Pair, Hull};
 ghost use Rattle.sf_node.specs.Children.{IsSubproblem};
-ghost use Rattle.sf_standard.specs.Standard.{wire_part, wires_by};
+ghost use Rattle.sf_standard.specs.Standard.{full_part, rest_part, wire_part, wires_by};
 ghost use Rattle.sf_curves.specs.Direction.{token_in};
 ghost use Rattle.sf_frames.specs.Kept.{IsNext};
 ghost use Rattle.sf_nets.specs.Ends.{IsFitReach, met, reach_gap};
 ghost use Rattle.sf_nets.specs.WireParts.{AreWireParts};
-ghost use Rattle.sf_bounds.specs.declared.net_frame.Ending.TheVariants.{Joined};
+ghost use Rattle.sf_bounds.specs.declared.net_frame.Ending.TheVariants.{Joined, Open};
 ghost use Rattle.sf_bounds.specs.Rows.{pushed_reach, joined_reach, cell_at, framed};
 ghost use Rattle.sf_bounds.specs.Rows.{changed, tokens_of};
 ghost use Rattle.sf_bounds.specs.Rows.{IsEnding, IsFitCell, AreKept, AreTop};
 
-use crate::net_frame::{Cell, Changing, Ending, NetFrame, Nets};
+use crate::net_frame::{Cell, Changing, Ending, NetFrame, Nets, Totals};
 use crate::net_push::{top_pair, wires_after};
 use crate::net_rows::joined_reach;
 use sf_curves::Direction;
 use sf_model::Design;
-use sf_nets::{WireParts, met, reach_gap, weighed};
+use sf_nets::{WireParts, met, reach_gap, weighed, with_paths};
 use sf_node::Node;
 use sf_polish::Token;
 use sf_standard::Extent;
@@ -96,51 +96,104 @@ fn joined_gap(
     gap_with_pads(direction, left.extent, of_left, of_right, start)
 }
 
-/// What the wires take at least where the last operator leaves one item, in which the pads count too, and the
-/// gaps alone. Its row is made and read in one pass and not kept. Inlined where the direction is known.
+/// What the wires take at least where the last operator leaves one item, in which the pads count too. Its row
+/// is made and read in one pass and not kept. Inlined where the direction is known.
 #[inline(always)]
-fn joined_totals(nets: &Nets, design: &Design, node: &Node, direction: Direction) -> (u64, u64)
+fn joined_totals(nets: &Nets, design: &Design, node: &Node, direction: Direction) -> Totals
     requires subproblem { IsSubproblem design.now node.now }
     requires whole { length node.now.steps ≡ length node.now.tokens }
     requires kept { AreKept design.now node.now.tokens nets.now }
     requires ending { IsEnding node.now (Joined direction) }
     requires all { length nets.now.frames.items ≡ framed (Joined direction) node.now.tokens }
-    ensures full { result.0 ≡ wire_part design.now node.now }
-    ensures hull { result.1 ≡ wires_by design.now node.now Hull }
+    ensures sum { result.sum ≡ wire_part design.now node.now }
+    ensures hull { result.hull ≡ wires_by design.now node.now Hull }
+    ensures rest { result.rest ≡ rest_part design.now node.now }
+    ensures small { result.rest ≤ 2 ^ 60 }
 {
     let (left, right) = top_pair(nets, design, node, direction);
-    let mut full = 0;
+    let mut sum = 0;
     let mut hull = 0;
+    let mut rest = 0;
     for net in 0..nets.weights.len() {
         let weight = nets.weights[net];
+        let spare = nets.lefts[net];
         let start = nets.cells[nets.start.at + net];
         let gap = joined_gap(nets, design, node, direction, left, right, net);
-        full += weighed(weight, u64::from(start.part).max(gap));
+        let part = u64::from(start.part).max(gap);
+        sum += weighed(weight, part);
         hull += weighed(weight, gap);
+        rest += weighed(spare, part);
     }
-    (full, hull)
+    Totals { sum, hull, rest }
 }
 
-/// What the wires take at least after all tokens, and the gaps alone. Inlined, so that the one which is not
-/// read is not summed.
+/// What the wires take at least in an incomplete subproblem by what paths leave of the nets: read off the row
+/// of the last frame.
 #[inline(always)]
-fn totals(nets: &Nets, design: &Design, node: &Node, ending: Ending) -> (u64, u64)
+fn open_rest(nets: &Nets, design: &Design, node: &Node) -> u64
+    requires subproblem { IsSubproblem design.now node.now }
+    requires whole { length node.now.steps ≡ length node.now.tokens }
+    requires kept { AreKept design.now node.now.tokens nets.now }
+    requires ending { IsEnding node.now Open }
+    requires all { length nets.now.frames.items ≡ length node.now.tokens }
+    ensures rest { result ≡ rest_part design.now node.now }
+    ensures small { result ≤ 2 ^ 60 }
+{
+    let at = wires_after(nets, design, node, nets.frames.len()).at;
+    let mut rest = 0;
+    for net in 0..nets.lefts.len() {
+        let spare = nets.lefts[net];
+        let cell = nets.cells[at + net];
+        rest += weighed(spare, u64::from(cell.part));
+    }
+    rest
+}
+
+/// What the wires take at least after all tokens. Inlined, so that what is not read is not summed.
+#[inline(always)]
+fn totals(nets: &Nets, design: &Design, node: &Node, ending: Ending) -> Totals
     requires subproblem { IsSubproblem design.now node.now }
     requires whole { length node.now.steps ≡ length node.now.tokens }
     requires kept { AreKept design.now node.now.tokens nets.now }
     requires ending { IsEnding node.now ending }
     requires all { length nets.now.frames.items ≡ framed ending node.now.tokens }
-    ensures full { result.0 ≡ wire_part design.now node.now }
-    ensures hull { result.1 ≡ wires_by design.now node.now Hull }
+    ensures sum { result.sum ≡ wire_part design.now node.now }
+    ensures hull { result.hull ≡ wires_by design.now node.now Hull }
+    ensures rest { result.rest ≡ rest_part design.now node.now }
+    ensures small { result.rest ≤ 2 ^ 60 }
 {
     match ending {
         Ending::Joined(Direction::Beside) => joined_totals(nets, design, node, Direction::Beside),
         Ending::Joined(Direction::Above) => joined_totals(nets, design, node, Direction::Above),
         Ending::Open => {
             let wires = wires_after(nets, design, node, nets.frames.len());
-            (wires.sum, wires.hull)
+            Totals {
+                sum: wires.sum,
+                hull: wires.hull,
+                rest: open_rest(nets, design, node),
+            }
         }
     }
+}
+
+/// What the wires take at least by nets or by paths, and the gaps alone. Where the ends of the paths lie nowhere
+/// apart, what is left of the nets is not looked at.
+#[inline(always)]
+fn full_and_hull(nets: &Nets, design: &Design, node: &Node, ending: Ending) -> (u64, u64)
+    requires subproblem { IsSubproblem design.now node.now }
+    requires whole { length node.now.steps ≡ length node.now.tokens }
+    requires kept { AreKept design.now node.now.tokens nets.now }
+    requires ending { IsEnding node.now ending }
+    requires all { length nets.now.frames.items ≡ framed ending node.now.tokens }
+    ensures full { result.0 ≡ full_part design.now node.now }
+    ensures hull { result.1 ≡ wires_by design.now node.now Hull }
+{
+    if design.routes.wires == 0 {
+        let alone = totals(nets, design, node, ending);
+        return (alone.sum, alone.hull);
+    }
+    let both = totals(nets, design, node, ending);
+    (with_paths(design, both.sum, both.rest), both.hull)
 }
 
 /// What the wires take at least after all tokens, by each part of the bound.
@@ -152,7 +205,7 @@ pub fn total_parts(nets: &Nets, design: &Design, node: &Node, ending: Ending) ->
     requires all { length nets.now.frames.items ≡ framed ending node.now.tokens }
     ensures { AreWireParts design.now node.now result }
 {
-    let (full, hull) = totals(nets, design, node, ending);
+    let (full, hull) = full_and_hull(nets, design, node, ending);
     WireParts {
         range: nets.ranges,
         pair: nets.pairs,
@@ -171,7 +224,7 @@ pub fn total_by(nets: &Nets, design: &Design, node: &Node, ending: Ending, part:
     requires all { length nets.now.frames.items ≡ framed ending node.now.tokens }
     ensures { result ≡ wires_by design.now node.now (changed part) }
 {
-    let (full, hull) = totals(nets, design, node, ending);
+    let (full, hull) = full_and_hull(nets, design, node, ending);
     match part {
         Changing::Hull => hull,
         Changing::Full => full,

@@ -1,6 +1,7 @@
 -- What is built from admitted parts is their design, and keeps the limits.
 use Rattle.std.proofs.Common.{◌≡◌, ℕ, ◌<◌, ◌≤◌, ◌^◌, ℤ, nat_abs, Bool, true, false, IsTrue, cond, List, [], ◌∷◌, map, length, get_or, Option, Some, None, IfSome, refl, sym, ap, ◌∙◌, subst, arith}
 use Rattle.sf_model.proofs.Common.{All, AllByRecursion, AllZip, filter_map, sum_by, zip, ints, All-from_recursion, recursion_from_All, sum_by-cons, IsAdmitted, IsPlaceWithin, HasShapeChoices, IsDesignOf, IsNetOf, IsOutline, IsWeighted, design_blocks, design_pads, placed_pad, first_shapeless, IsCoordinate, IsPinSet, IsShapeList, IsWithinLimits, IsShapeChoice, IsNetMade, Design, Block, Net, Pad, Shape, Parts, RawBlock, RawNet, RawPad}
+use Rattle.sf_model.specs.Paths.{no_paths}
 use Rattle.sf_model.specs.declared.parts.Outline.{Outline}
 use Rattle.sf_model.specs.declared.parts.Weights.{Weights}
 use Rattle.sf_model.proofs.Limited.{limits_kept}
@@ -100,8 +101,8 @@ limits_hold parts lists outline weights blocks pads nets admitted choices sides 
     }))
 
 -- what is built from parts is their design
-pub is_design : (parts : Parts) (lists : List (List Shape)) (outline : Outline) (weights : Weights) (net_weights : List ℕ) (design : Design) → HasShapeChoices parts.blocks lists → design.blocks ≡ design_blocks parts.blocks lists → design.pads ≡ design_pads parts → AllZip (IsNetMade parts) parts.nets design.nets → design.outline ≡ outline → design.weights ≡ weights → map (λ n. n.weight) design.nets ≡ net_weights → design.area_floor ≡ 0 → IsDesignOf parts lists outline weights net_weights design
-is_design parts lists outline weights net_weights design choices blocks pads made outline_is weights_are net_weights_are no_floor = record {
+pub is_design : (parts : Parts) (lists : List (List Shape)) (outline : Outline) (weights : Weights) (net_weights : List ℕ) (design : Design) → HasShapeChoices parts.blocks lists → design.blocks ≡ design_blocks parts.blocks lists → design.pads ≡ design_pads parts → AllZip (IsNetMade parts) parts.nets design.nets → design.outline ≡ outline → design.weights ≡ weights → map (λ n. n.weight) design.nets ≡ net_weights → design.area_floor ≡ 0 → design.routes.paths ≡ no_paths → IsDesignOf parts lists outline weights net_weights design
+is_design parts lists outline weights net_weights design choices blocks pads made outline_is weights_are net_weights_are no_floor unrouted = record {
   block_count = ap (λ bs. length bs) blocks ∙ length_blocks parts.blocks lists choices.one_each;
   blocks = blocks;
   pads = pads;
@@ -111,4 +112,5 @@ is_design parts lists outline weights net_weights design choices blocks pads mad
   weights_are = weights_are;
   net_weights_are = net_weights_are;
   no_floor = no_floor;
+  unrouted = unrouted;
 }

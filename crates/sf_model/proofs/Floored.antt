@@ -1,6 +1,6 @@
--- A design that learns a floor of its area keeps its floorplans and what they cost.
+-- A design that learns a floor of its area, or is given paths, keeps its floorplans and what they cost.
 use Rattle.std.proofs.Common.{◌≡◌, ℕ, ◌+◌, ◌*◌, List, [], ◌∷◌, length, map, arith, refl, ap, sym, subst, ◌∙◌}
-use Rattle.std.specs.Prelude.{◌↔◌, pos, ◌*ℤ◌, sum_by, All, Contains, slice_index_or}
+use Rattle.std.specs.Prelude.{◌↔◌, pos, ◌*ℤ◌, sum_by, All, Contains}
 use Rattle.std.proofs.lemmas.List.Sums.{sum_by-cons}
 use Rattle.sf_model.proofs.Common.{Tree, leaves, width, height, spots_of, HasEachOnce, IsLegal, Design, Pad, Pin, Net, Spot}
 use Rattle.sf_model.proofs.Determined.{same_design}
@@ -8,11 +8,15 @@ use Rattle.sf_model.specs.AreaFloor.{shapes_at, IsAreaFloorIn}
 use Rattle.sf_model.specs.Cost.{cost}
 use Rattle.sf_model.specs.Floored.{HasFloor}
 use Rattle.sf_model.specs.Legal.{IsAreaFloor}
+use Rattle.sf_model.specs.Paths.{pad_in}
+use Rattle.sf_model.specs.Routed.{HasPaths}
 use Rattle.sf_model.specs.Wire.{pin_x, pin_y, spread, net_wire, weighed_wire, wire}
 use Rattle.sf_model.specs.declared.parts.Block.{Block}
 use Rattle.sf_model.specs.declared.parts.Outline.{Outline}
 use Rattle.sf_model.specs.declared.parts.Pin.TheVariants as pin
 use Rattle.sf_model.specs.declared.parts.Weights.{Weights}
+use Rattle.sf_model.specs.declared.paths.Paths.{Paths}
+use Rattle.sf_model.specs.declared.paths.Routes.{Routes}
 
 -- the floor that a design carries is one
 pub own_floor : (design : Design) → IsAreaFloor design design.area_floor
@@ -36,12 +40,12 @@ module _ (d e : Design) (pads : e.pads ≡ d.pads) (spots : List Spot) where
   -- pins lie at the same places
   pin_x-same : (p : Pin) → pin_x e spots p ≡ pin_x d spots p
   pin_x-same (pin.Block b) = refl
-  pin_x-same (pin.Pad p) = ap (λ (ps : List Pad). pos 2 *ℤ (slice_index_or ps p (record { name = []; x = pos 0; y = pos 0 })).x) pads
+  pin_x-same (pin.Pad p) = ap (λ (ps : List Pad). pos 2 *ℤ (pad_in ps p).x) pads
 
   -- upward too
   pin_y-same : (p : Pin) → pin_y e spots p ≡ pin_y d spots p
   pin_y-same (pin.Block b) = refl
-  pin_y-same (pin.Pad p) = ap (λ (ps : List Pad). pos 2 *ℤ (slice_index_or ps p (record { name = []; x = pos 0; y = pos 0 })).y) pads
+  pin_y-same (pin.Pad p) = ap (λ (ps : List Pad). pos 2 *ℤ (pad_in ps p).y) pads
 
   -- so each net has the same wire
   net_wire-same : (net : Net) → net_wire e spots net ≡ net_wire d spots net
@@ -57,11 +61,15 @@ module _ (d e : Design) (pads : e.pads ≡ d.pads) (spots : List Spot) where
       ap (sum_by (weighed_wire e spots)) nets
       ∙ sum_by-same (weighed_wire e spots) (weighed_wire d spots) (λ net. ap (λ n. net.weight * n) (net_wire-same net)) d.nets
 
--- a floorplan costs the same
+-- where pads, nets and weights are the same a floorplan costs the same
+pub cost-of : (d e : Design) (tree : Tree) → e.pads ≡ d.pads → e.nets ≡ d.nets → e.weights ≡ d.weights → cost e tree ≡ cost d tree
+cost-of d e tree pads nets weights =
+    ap (λ (w : Weights). w.area * (width tree * height tree) + w.wire * wire e (spots_of tree)) weights
+    ∙ ap (λ n. d.weights.area * (width tree * height tree) + d.weights.wire * n) (wire-same d e pads (spots_of tree) nets)
+
+-- with a floor, too
 pub cost-same : (old : Design) (floor : ℕ) (new : Design) (tree : Tree) → HasFloor old floor new → cost new tree ≡ cost old tree
-cost-same old floor new tree h =
-    ap (λ (w : Weights). w.area * (width tree * height tree) + w.wire * wire new (spots_of tree)) h.weights
-    ∙ ap (λ n. old.weights.area * (width tree * height tree) + old.weights.wire * n) (wire-same old new h.pads (spots_of tree) h.nets)
+cost-same old floor new tree h = cost-of old new tree h.pads h.nets h.weights
 
 -- what is a floorplan of some blocks is one of the same blocks
 legal-of : (d e : Design) (tree : Tree) → d.blocks ≡ e.blocks → IsLegal d tree → IsLegal e tree
@@ -70,10 +78,22 @@ legal-of d e tree same h = record {
   listed = subst (λ (bs : List Block). All (λ leaf. Contains (shapes_at bs leaf.0) leaf.1) (leaves tree)) same h.listed;
 }
 
--- the floorplans are the same
+-- so the floorplans are the same
+both-legal : (d e : Design) (tree : Tree) → e.blocks ≡ d.blocks → IsLegal d tree ↔ IsLegal e tree
+both-legal d e tree same = (legal-of d e tree (sym same), legal-of e d tree same)
+
+-- with a floor
 pub legal-same : (old : Design) (floor : ℕ) (new : Design) (tree : Tree) → HasFloor old floor new → IsLegal old tree ↔ IsLegal new tree
-legal-same old floor new tree h = (legal-of old new tree (sym h.blocks), legal-of new old tree h.blocks)
+legal-same old floor new tree h = both-legal old new tree h.blocks
+
+-- and with paths
+pub legal-routed : (old : Design) (paths : Paths) (new : Design) (tree : Tree) → HasPaths old paths new → IsLegal old tree ↔ IsLegal new tree
+legal-routed old paths new tree h = both-legal old new tree h.blocks
 
 -- each floor makes one design
 pub floor-one : (old : Design) (floor : ℕ) (a b : Design) → HasFloor old floor a → HasFloor old floor b → a ≡ b
-floor-one old floor a b p q = same_design a b (p.blocks ∙ sym q.blocks) (p.pads ∙ sym q.pads) (p.nets ∙ sym q.nets) (p.outline ∙ sym q.outline) (p.weights ∙ sym q.weights) (p.floor_is ∙ sym q.floor_is)
+floor-one old floor a b p q = same_design a b (p.blocks ∙ sym q.blocks) (p.pads ∙ sym q.pads) (p.nets ∙ sym q.nets) (p.outline ∙ sym q.outline) (p.weights ∙ sym q.weights) (p.floor_is ∙ sym q.floor_is) (ap (λ (r : Routes). r.paths) (p.routes ∙ sym q.routes))
+
+-- each choice of paths makes one
+pub paths-one : (old : Design) (paths : Paths) (a b : Design) → HasPaths old paths a → HasPaths old paths b → a ≡ b
+paths-one old paths a b p q = same_design a b (p.blocks ∙ sym q.blocks) (p.pads ∙ sym q.pads) (p.nets ∙ sym q.nets) (p.outline ∙ sym q.outline) (p.weights ∙ sym q.weights) (p.floor ∙ sym q.floor) (p.paths_are ∙ sym q.paths_are)

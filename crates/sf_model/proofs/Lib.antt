@@ -18,4 +18,5 @@ pub mod NetSets
 pub mod Designs
 pub mod Floored
 pub mod Paired
+pub mod Used
 pub mod Determined

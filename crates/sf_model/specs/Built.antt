@@ -3,6 +3,7 @@ use Rattle.std.specs.Prelude.{◌≡◌, ℕ, ◌+◌, ◌<◌, ◌≤◌, ◌�
 use Rattle.std.specs.Option.{option_map}
 use Rattle.sf_model.specs.Admitted.{block_of, pad_of}
 use Rattle.sf_model.specs.Limits.{IsSide, IsShapeChoice, pin_order}
+use Rattle.sf_model.specs.Paths.{no_paths}
 use Rattle.sf_model.specs.declared.design.Design.{Design}
 use Rattle.sf_model.specs.declared.parts.Block.{Block}
 use Rattle.sf_model.specs.declared.parts.Net.{Net}
@@ -77,7 +78,7 @@ pub record IsNetOf (parts : Parts) (read : RawNet) (net : Net) : Type 0 where
 abbrev pub HasNetWeights : Parts → List ℕ → Type 0
 HasNetWeights parts net_weights = length net_weights ≡ length parts.nets
 
--- the design of these parts with these lists: a block, and a net with its weight, for each one read, in their order. It knows nothing of its area
+-- the design of these parts with these lists: a block, and a net with its weight, for each one read, in their order. It knows nothing of its area, and has no paths
 pub record IsDesignOf (parts : Parts) (lists : List (List Shape)) (outline : Outline) (weights : Weights) (net_weights : List ℕ) (design : Design) : Type 0 where
   pub block_count : length design.blocks ≡ length parts.blocks
   pub blocks : design.blocks ≡ design_blocks parts.blocks lists
@@ -88,3 +89,4 @@ pub record IsDesignOf (parts : Parts) (lists : List (List Shape)) (outline : Out
   pub weights_are : design.weights ≡ weights
   pub net_weights_are : map (λ n. n.weight) design.nets ≡ net_weights
   pub no_floor : design.area_floor ≡ 0
+  pub unrouted : design.routes.paths ≡ no_paths

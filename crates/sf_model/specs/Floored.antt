@@ -9,4 +9,5 @@ pub record HasFloor (old : Design) (floor : ℕ) (new : Design) : Type 0 where
   pub nets : new.nets ≡ old.nets
   pub outline : new.outline ≡ old.outline
   pub weights : new.weights ≡ old.weights
+  pub routes : new.routes ≡ old.routes
   pub floor_is : new.area_floor ≡ floor

@@ -135,13 +135,6 @@ impl Design {
         let nets = nets_of(alloc, &parts, net_weights)?;
         let pads = placed_pads(alloc, parts.pads_in, parts.pads)?;
         let blocks = blocks_of(alloc, parts.blocks, lists)?;
-        Ok(Design {
-            blocks,
-            pads,
-            nets,
-            outline,
-            weights,
-            area_floor: 0,
-        })
+        Ok(Design::new(alloc, blocks, pads, nets, outline, weights)?)
     }
 }

@@ -3,7 +3,7 @@
 //! A reader hands over `Parts`. `Parts::admit` tests them and names their first fault, and `Design::build`
 //! makes the design of admitted parts, with a list of shapes for each block. The crate stands on std alone.
 //! The crates above rest on `IsAdmitted` and `IsDesignOf` of these two calls, on the limits that each
-//! `Design` carries, on the floor of its area that it may know, and on the definitions of slicing trees,
+//! `Design` carries, on the floor of its area and the paths that it may know, and on the definitions of slicing trees,
 //! wire length and cost in specs/.
 #![tactic(auto)]
 
@@ -21,9 +21,11 @@ mod names;
 mod nets;
 mod pad_places;
 mod parts;
+mod paths;
 mod plan;
 mod raw;
 mod raw_lists;
+mod routing;
 mod table;
 
 pub use admit::admitted_parts_keep_limits;
@@ -31,12 +33,14 @@ pub use cost_text::push_cost;
 pub use design::Design;
 pub use fault::{BuildFault, Limit};
 pub use laws::{
-    costs_are_bounded, designs_are_determined, floors_change_no_plan, spots_fill_plans,
+    costs_are_bounded, designs_are_determined, floors_change_no_plan, paths_change_no_plan,
+    spots_fill_plans,
 };
 pub use limits::{MOST_COORDINATE, MOST_PINS, MOST_SIDE};
-pub use lists::{BlockList, NetList, PadList, Pins, Shapes};
+pub use lists::{BlockList, NetList, NetWeights, PadList, PathList, Pins, Shapes, Steps};
 pub use name::Name;
 pub use parts::{Block, Net, Outline, Pad, Pin, Shape, Weights};
+pub use paths::{Path, PathFault, Paths, Routes, Step};
 pub use plan::{Plan, Spot};
 pub use raw::{Kind, Parts, RawBlock, RawNet, RawPad, RawPin};
 pub use raw_lists::{NameList, RawBlockList, RawNetList, RawPadList, RawPins};

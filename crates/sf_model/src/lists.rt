@@ -3,6 +3,7 @@
 ghost use Rattle.std.specs.Prelude.{◌≡◌};
 
 use crate::parts::{Block, Net, Pad, Pin, Shape};
+use crate::paths::{Path, Step};
 use std::marker::Model;
 
 /// The shapes of a block.
@@ -189,6 +190,98 @@ impl NetList {
 
     /// Its items, lent.
     pub fn as_slice(&self) -> &[Net]
+        ensures { result.now ≡ self.now }
+    {
+        &self.items
+    }
+}
+
+/// The steps of a path.
+#[derive(Debug, Drop)]
+pub struct Steps {
+    items: Vec<Step>,
+}
+
+impl Model for Steps {
+    ghost use Rattle.std.specs.Prelude.{List};
+    ghost use Rattle.sf_model.specs.declared.paths.Step.{Step};
+
+    ghost Value = { List Step };
+
+    ghost view = { λ list. list.items.items };
+}
+
+impl Steps {
+    /// The list of these items.
+    pub fn from_vec(items: Vec<Step>) -> Steps
+        ensures { result ≡ items.items }
+    {
+        Steps { items }
+    }
+
+    /// Its items, lent.
+    pub fn as_slice(&self) -> &[Step]
+        ensures { result.now ≡ self.now }
+    {
+        &self.items
+    }
+}
+
+/// Paths of one axis.
+#[derive(Debug, Drop)]
+pub struct PathList {
+    items: Vec<Path>,
+}
+
+impl Model for PathList {
+    ghost use Rattle.std.specs.Prelude.{List};
+    ghost use Rattle.sf_model.specs.declared.paths.Path.{Path};
+
+    ghost Value = { List Path };
+
+    ghost view = { λ list. list.items.items };
+}
+
+impl PathList {
+    /// The list of these items.
+    pub fn from_vec(items: Vec<Path>) -> PathList
+        ensures { result ≡ items.items }
+    {
+        PathList { items }
+    }
+
+    /// Its items, lent.
+    pub fn as_slice(&self) -> &[Path]
+        ensures { result.now ≡ self.now }
+    {
+        &self.items
+    }
+}
+
+/// A weight for each net, by the net's number.
+#[derive(Debug, Drop)]
+pub struct NetWeights {
+    items: Vec<u8>,
+}
+
+impl Model for NetWeights {
+    ghost use Rattle.std.specs.Prelude.{List, ℕ};
+
+    ghost Value = { List ℕ };
+
+    ghost view = { λ list. list.items.items };
+}
+
+impl NetWeights {
+    /// The list of these items.
+    pub fn from_vec(items: Vec<u8>) -> NetWeights
+        ensures { result ≡ items.items }
+    {
+        NetWeights { items }
+    }
+
+    /// Its items, lent.
+    pub fn as_slice(&self) -> &[u8]
         ensures { result.now ≡ self.now }
     {
         &self.items

@@ -1,6 +1,9 @@
 -- The sums over the nets, by each part of the bound.
-use Rattle.std.proofs.Common.{max, ◌≡◌, ℕ, ◌+◌, ◌*◌, ◌<◌, ◌≤◌, take, length, get_or, arith, ap, sym, ◌∙◌}
-use Rattle.sf_nets.proofs.Common.{sum_by, sum_by_more, Design, Net, Range, Pair, Hull, Full, Parts, pins_by, WireParts, AreByPart, AreAtMost}
+use Rattle.std.proofs.Common.{max, ◌≡◌, ℕ, ◌+◌, ◌*◌, ◌<◌, ◌≤◌, List, [], take, length, get_or, arith, ap, sym, subst, ◌∙◌}
+use Rattle.sf_nets.proofs.Common.{sum_by, sum_by_more, get_or_default, Design, Net, Range, Pair, Hull, Full, Parts, pins_by, WireParts, AreByPart, AreAtMost}
+use Rattle.std.specs.Prelude.{zip}
+use Rattle.std.proofs.lemmas.Slice.Zip.{get_or-zip, length-zip}
+use Rattle.sf_model.proofs.Used.{lefts-count, lefts-most}
 use Rattle.sf_node.specs.declared.part.Part.{Part}
 use Rattle.sf_nets.proofs.WeighedParts.{weighed_small}
 
@@ -22,6 +25,23 @@ pub record ArePartsBefore (design : Design) (node : Parts) (i : ℕ) (sums : Wir
 pub record IsSumBefore (design : Design) (node : Parts) (part : Part) (i sum : ℕ) : Type 0 where
   pub value : sum ≡ sum_by (of_net design node part) (take i design.nets)
   pub small : sum ≤ 714000000000 * i
+
+-- what a net takes by a part, as often as paths leave of its weight
+abbrev pub of_left : Design → Parts → Part → ℕ × Net → ℕ
+of_left design node part n = n.0 * pins_by design node n.1.pins part
+
+-- each net with what paths leave of its weight
+abbrev pub lefts : Design → List (ℕ × Net)
+lefts design = zip design.routes.left design.nets
+
+-- the sum over the first nets by what is left of them
+pub record IsRestBefore (design : Design) (node : Parts) (part : Part) (i rest : ℕ) : Type 0 where
+  pub value : rest ≡ sum_by (of_left design node part) (take i (lefts design))
+  pub small : rest ≤ 714000000000 * i
+
+-- as many are left as there are nets
+pub lefts-few : (design : Design) → length (lefts design) ≡ length design.nets
+lefts-few design = omega (arith, length-zip design.routes.left design.nets, lefts-count design)
 
 module _ (design : Design) (node : Parts) (i : ℕ) (net : Net) (lt : i < length design.nets) (at : net ≡ get_or design.nets i net) where
   -- the sum with one net more
@@ -79,4 +99,33 @@ module _ (design : Design) (node : Parts) (i : ℕ) (net : Net) (lt : i < length
           hull = omega (arith, before.small.hull);
           full = omega (arith, before.small.full);
         };
+      }
+
+  -- what is left of the net
+  abbrev left : ℕ
+  left = get_or design.routes.left i 0
+
+  -- the sum by what is left, with one net more
+  rest-more : (part : Part) → sum_by (of_left design node part) (take (i + 1) (lefts design)) ≡ sum_by (of_left design node part) (take i (lefts design)) + left * pins_by design node net.pins part
+  rest-more part =
+      let one = of_left design node part in
+      let there : i < length design.routes.left = omega (arith, lt, lefts-count design) in
+      let last : get_or (lefts design) i (0, net) ≡ (left, net) = get_or-zip design.routes.left design.nets i (0, net) there lt ∙ ap (λ (n : Net). (left, n)) (sym at) in
+      sum_by_more one (lefts design) i (0, net) (omega (arith, lt, lefts-few design)) ∙ ap (λ n. sum_by one (take i (lefts design)) + one n) last
+
+  -- as the loop has it
+  pub rest-adds : (part : Part) (rest weight wire : ℕ) → IsRestBefore design node part i rest → weight ≡ left → wire ≡ pins_by design node net.pins part → wire ≤ 2800000000 → weight < 256 → IsRestBefore design node part (i + 1) (rest + weight * wire)
+  rest-adds part rest weight wire before same is small light = record {
+    value = omega (arith, before.value, rest-more part, ap (λ n. n * wire) same, ap (λ n. left * n) is);
+    small = omega (arith, before.small, weighed_small weight wire light small);
+  }
+
+  -- of a net of weight 0 nothing is left
+  pub rest-none : (part : Part) (rest : ℕ) → IsRestBefore design node part i rest → net.weight ≡ 0 → IsRestBefore design node part (i + 1) rest
+  rest-none part rest before free =
+      let most : left ≤ net.weight = subst (λ (n : Net). left ≤ n.weight) (sym (at ∙ get_or_default design.nets i net (record { pins = []; weight = 0 }) lt)) (lefts-most design i lt) in
+      let none : left ≡ 0 = omega (arith, most, free) in
+      record {
+        value = omega (arith, before.value, rest-more part, ap (λ n. n * pins_by design node net.pins part) none);
+        small = omega (arith, before.small);
       }

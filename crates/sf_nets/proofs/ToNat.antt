@@ -3,11 +3,6 @@ use Rattle.std.proofs.Common.{◌≡◌, arith, refl}
 use Rattle.std.specs.Prelude.{◌≤ℤ◌}
 use Rattle.sf_nets.proofs.Common.{ℤ, pos, negsuc, nat_abs, ints, to_nat}
 
--- an integer of at most 0 counts as 0
-pub to_nat_none : (z : ℤ) → z ≤ℤ pos 0 → to_nat z ≡ 0
-to_nat_none (pos n) h = omega (arith, ints, h)
-to_nat_none (negsuc n) h = refl
-
 -- an integer of at least 0 counts as its distance from 0
 pub to_nat_abs : (z : ℤ) → pos 0 ≤ℤ z → to_nat z ≡ nat_abs z
 to_nat_abs (pos n) h = refl

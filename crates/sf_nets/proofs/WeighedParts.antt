@@ -1,5 +1,5 @@
 -- A part of a net as often as its weight says.
-use Rattle.std.proofs.Common.{◌≡◌, ℕ, ◌*◌, ◌<◌, ◌≤◌, arith}
+use Rattle.std.proofs.Common.{ℕ, ◌*◌, ◌<◌, ◌≤◌, arith}
 use Rattle.sf_nets.proofs.Common.{mul-le-mul}
 
 -- a part as often as a weight says is not too great

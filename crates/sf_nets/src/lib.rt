@@ -2,7 +2,8 @@
 //!
 //! Each block of the subproblem has an extent, and a seat in the item that it stands in (`layout`); by these
 //! the crate tells for each net how far its pins are apart at least: over the outline, by two of its blocks, and
-//! within each item. `all_wires` sums all parts of the bound over the nets, and `wires_by` one of them alone. It
+//! within each item. `all_wires` sums all parts of the bound over the nets, and `wires_by` one of them alone; by the
+//! full part the wires are what paths make of them, where that is more (`with_paths`). It
 //! stands on `sf_standard`, which defines these parts. The crate above uses that the sums are those of the
 //! definition (`AreWireParts`), and of single nets that the values of a net's parts are (`net_by`), to begin
 //! what it keeps of nets along a path.
@@ -29,6 +30,6 @@ pub use one_part::net_by;
 pub use pins::pad_reach;
 pub use reach::{ANYWHERE, Reach};
 pub use scratch::Scratch;
-pub use sums::{all_wires, wires_by};
+pub use sums::{all_wires, wires_by, with_paths};
 pub use wire_parts::{NO_WIRES, WireParts};
 pub use wires::{prepare, weighed};

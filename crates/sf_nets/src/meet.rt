@@ -29,7 +29,7 @@ pub fn met(first: Reach, second: Reach) -> Reach
 }
 
 /// How far the lower end lies above the upper one, or 0.
-#[tactic(auto, using(crate::proofs::ToNat::to_nat_none, crate::proofs::ToNat::to_nat_abs))]
+#[tactic(auto, using(sf_model::proofs::Used::to_nat_none, crate::proofs::ToNat::to_nat_abs))]
 fn difference(interval: Interval) -> u64
     requires near { IsFitInterval interval }
     ensures is { result ≡ to_nat (interval.low -ℤ interval.high) }

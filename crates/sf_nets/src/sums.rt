@@ -1,6 +1,6 @@
 //! What the wires of all nets are at least, by all parts of the bound at once or by one of them alone.
 
-ghost use Rattle.std.specs.Prelude.{◌≡◌, ◌≤◌, length, IfOk};
+ghost use Rattle.std.specs.Prelude.{◌≡◌, ◌≤◌, ◌+◌, ◌^◌, max, length, IfOk};
 ghost use Rattle.sf_node.specs.Children.{IsSubproblem};
 ghost use Rattle.sf_standard.specs.Standard.{wires_by};
 ghost use Rattle.sf_nets.specs.WireParts.{AreWireParts};
@@ -16,6 +16,15 @@ use sf_model::Design;
 use sf_node::{Node, Part};
 use std::alloc::AllocError as NoMemory;
 
+/// What the wires are at least by the nets alone or by paths, whichever is more: how far the ends of the
+/// paths are apart, with the sum over what these leave of the nets.
+pub fn with_paths(design: &Design, sum: u64, rest: u64) -> u64
+    requires { rest ≤ 2 ^ 60 }
+    ensures { result ≡ max sum (design.now.routes.wires + rest) }
+{
+    sum.max(design.routes.wires + rest)
+}
+
 /// All four sums in one pass. The pins of a net of weight 0 are not looked at.
 fn sum_parts(reaches: &mut [Reach], design: &Design, node: &Node, layout: &Layout) -> WireParts
     requires subproblem { IsSubproblem design.now node.now }
@@ -24,13 +33,18 @@ fn sum_parts(reaches: &mut [Reach], design: &Design, node: &Node, layout: &Layou
     ensures { AreWireParts design.now node.now result }
 {
     let mut sums = NO_WIRES;
-    for net in design.nets.as_slice() {
+    let mut rest = 0;
+    for (number, net) in design.nets.as_slice().iter().enumerate() {
         if net.weight > 0 {
             let parts = net_parts(reaches, design, node, layout, net);
             sums = sums.with_net(net.weight, parts);
+            rest += weighed(design.left_of(number), parts.full);
         }
     }
-    sums
+    WireParts {
+        full: with_paths(design, sums.full, rest),
+        ..sums
+    }
 }
 
 /// The sum of one part. The pins of a net of weight 0 are not looked at.
@@ -41,13 +55,18 @@ fn sum_by(reaches: &mut [Reach], design: &Design, node: &Node, layout: &Layout, 
     ensures { result ≡ wires_by design.now node.now part }
 {
     let mut sum = 0;
-    for net in design.nets.as_slice() {
+    let mut rest = 0;
+    for (number, net) in design.nets.as_slice().iter().enumerate() {
         if net.weight > 0 {
             let wire = net_by(reaches, design, node, layout, net, part);
             sum += weighed(net.weight, wire);
+            rest += weighed(design.left_of(number), wire);
         }
     }
-    sum
+    match part {
+        Part::Full => with_paths(design, sum, rest),
+        Part::Area | Part::Range | Part::Pair | Part::Hull => sum,
+    }
 }
 
 /// What the wires of the nets are at least by each part of the bound.

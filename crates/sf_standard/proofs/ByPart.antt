@@ -1,17 +1,19 @@
 -- The standard bound is its value from area and wires; no part of it is above it, and where wires cost nothing each part is the bound.
 use Rattle.std.proofs.Common.{◌≡◌, ℕ, ◌+◌, ◌*◌, ◌^◌, ◌<◌, ◌≤◌, max, List, [], ◌∷◌, length, arith, refl, ap, sym, subst, ◌∙◌, inl, inr, Bool, true, false}
 use Rattle.std.specs.Prelude.{if◌then◌else◌}
-use Rattle.sf_standard.proofs.Common.{Contains, sum_by, nat_lt, list_any, mul-le-mul, mul-le-mul_left, cases_lt, cond_both, cond-true, cond-false, ltb-false, sum_by-cons, Design, Net, Pin, MAX, cost, Tree, width, height, spots_of, wire, IsSubproblem, Parts, is_complete, is_solved, subproblem-spans, Contains-head, Item, items_of, fitting, range_part, pair_part, hull_part, extent_in, area, least_of, least_cost, has_none, needed_area, area_part, pins_part, weighed_part, wire_part, pins_by, wires_by, plans_of, bounded, open_value, standard, part_value, AllHavePlans}
+use Rattle.sf_standard.proofs.Common.{Contains, sum_by, nat_lt, list_any, mul-le-mul, mul-le-mul_left, cases_lt, cond_both, cond-true, cond-false, ltb-false, sum_by-cons, Design, Net, Pin, MAX, cost, Tree, width, height, spots_of, wire, IsSubproblem, Parts, is_complete, is_solved, subproblem-spans, Contains-head, Item, items_of, fitting, range_part, pair_part, hull_part, extent_in, area, least_of, least_cost, has_none, area_part, pins_part, weighed_part, wire_part, full_part, pins_by, nets_by, wires_by, plans_of, bounded, open_value, standard, part_value, AllHavePlans}
 use Rattle.sf_model.proofs.Bounded.{cost-below}
+use Rattle.sf_model.specs.Paths.{no_paths, path_wires}
 use Rattle.sf_node.specs.declared.part.Part.{Part}
 use Rattle.sf_node.specs.declared.part.Part.TheVariants as by
 use Rattle.sf_node.specs.ByPart.{ArePartsOf}
 use Rattle.sf_standard.proofs.Cutting.{least_of-le}
 use Rattle.sf_standard.proofs.Exact.{IsWholeItem, whole-item, fitting-belongs, least_of-reached, standard_is_exact}
 use Rattle.sf_standard.proofs.Listed.{each-from, sum_by-le_each}
-use Rattle.sf_standard.proofs.Shortness.{wires-short}
+use Rattle.sf_standard.proofs.Shortness.{full-short}
 use Rattle.sf_standard.proofs.Singles.{no-plan, first-needed, single_spans_are_open}
 use Rattle.sf_bound.proofs.Whole.{solved-complete, solved_single}
+use Rattle.sf_standard.proofs.PathWires.{no-pull}
 use Rattle.sf_standard.proofs.Soundness.{bounded-le}
 
 -- what stands in the other branch is no more
@@ -54,14 +56,22 @@ pins-le design node pins by.Hull = branch-le (nat_lt (length pins) 2) 0 (hull_pa
 pins-le design node pins by.Full = omega arith
 
 -- no part of the wires of all nets is above all of them
-pub wires-le : (design : Design) (node : Parts) (part : Part) → wires_by design node part ≤ wire_part design node
-wires-le design node part =
+nets-most : (design : Design) (node : Parts) (part : Part) → nets_by design node part ≤ wire_part design node
+nets-most design node part =
     sum_by-le_each (λ net. net.weight * pins_by design node net.pins part) (weighed_part design node) design.nets
     (each-from (λ net. net.weight * pins_by design node net.pins part ≤ weighed_part design node net) design.nets (λ net _. mul-le-mul_left net.weight (pins-le design node net.pins part)))
 
+-- nor above what the wires are at least, paths or not
+pub wires-le : (design : Design) (node : Parts) (part : Part) → wires_by design node part ≤ full_part design node
+wires-le design node by.Area = omega (arith, nets-most design node by.Area)
+wires-le design node by.Range = omega (arith, nets-most design node by.Range)
+wires-le design node by.Pair = omega (arith, nets-most design node by.Pair)
+wires-le design node by.Hull = omega (arith, nets-most design node by.Hull)
+wires-le design node by.Full = omega arith
+
 -- where each group has a plan, no part of the wires reaches 2^47
 pub wires-small : (design : Design) (node : Parts) (part : Part) → AllHavePlans design node → wires_by design node part < 2 ^ 47
-wires-small design node part have = omega (arith, wires-le design node part, wires-short design node have)
+wires-small design node part have = omega (arith, wires-le design node part, full-short design node have)
 
 -- areas know no wires
 no-areas : (design : Design) (node : Parts) (nets : List Net) → sum_by (λ net. net.weight * pins_by design node net.pins by.Area) nets ≡ 0
@@ -77,7 +87,7 @@ open-most : (design : Design) (node : Parts) → open_value design node ≤ MAX
 open-most design node =
     let plans = plans_of design node in
     let a = area_part design plans in
-    let total = design.weights.area * a + design.weights.wire * wire_part design node in
+    let total = design.weights.area * a + design.weights.wire * full_part design node in
     let lt = nat_lt (design.outline.w * design.outline.h) a in
     cond_both (list_any has_none plans) MAX (if lt then MAX else total) (λ v. v ≤ MAX)
     (λ _. omega arith)
@@ -87,9 +97,9 @@ open-most design node =
     let small : a ≤ 2 ^ 40 = omega (arith, room, ltb-false (design.outline.w * design.outline.h) a has_room) in
     let area_weight : design.weights.area ≤ 65535 = omega (arith, design.limits.area_weight) in
     let wire_weight : design.weights.wire ≤ 65535 = omega (arith, design.limits.wire_weight) in
-    let short : wire_part design node ≤ 2 ^ 47 = omega (arith, wires-short design node some) in
+    let short : full_part design node ≤ 2 ^ 47 = omega (arith, full-short design node some) in
     let areas : design.weights.area * a ≤ 65535 * 2 ^ 40 = mul-le-mul area_weight small in
-    let wires : design.weights.wire * wire_part design node ≤ 65535 * 2 ^ 47 = mul-le-mul wire_weight short in
+    let wires : design.weights.wire * full_part design node ≤ 65535 * 2 ^ 47 = mul-le-mul wire_weight short in
     omega (arith, areas, wires))))
 
 -- the value from area and wires is no more than the bound
@@ -106,7 +116,7 @@ open-below design node sub = by-end (is_solved design node) refl
 
 -- the value with one part of the wires is no more than the bound
 below : (design : Design) (node : Parts) (part : Part) → IsSubproblem design node → bounded design (wires_by design node part) (plans_of design node) ≤ standard design node
-below design node part sub = omega (arith, bounded-more design (plans_of design node) (wires_by design node part) (wire_part design node) (wires-le design node part), open-below design node sub)
+below design node part sub = omega (arith, bounded-more design (plans_of design node) (wires_by design node part) (full_part design node) (wires-le design node part), open-below design node sub)
 
 -- no part of the bound is above it
 part-below : (design : Design) (node : Parts) (part : Part) → IsSubproblem design node → part_value design node part ≤ standard design node
@@ -127,7 +137,7 @@ module _ (design : Design) (node : Parts) (free : design.weights.wire ≡ 0) (su
     whole = whole-item design node sub (solved-complete design node solved)
 
     -- a plan of the least area is no dearer than the area that is needed
-    least-le : (t : Tree) → Contains (fitting design node whole.0) t → least_of (cost design) (fitting design node whole.0) ≤ design.weights.area * area_part design (plans_of design node) + design.weights.wire * wire_part design node
+    least-le : (t : Tree) → Contains (fitting design node whole.0) t → least_of (cost design) (fitting design node whole.0) ≤ design.weights.area * area_part design (plans_of design node) + design.weights.wire * full_part design node
     least-le t here =
         elim (least_of-reached area (fitting design node whole.0)) [
           | inl none ↦ (let fit = (fitting-belongs design node whole.0 t sub (solved-complete design node solved) whole.1 here).1 in
@@ -145,7 +155,7 @@ module _ (design : Design) (node : Parts) (free : design.weights.wire ≡ 0) (su
     by-plans [] e = omega (arith, no-plan design node whole.0 whole.1.items e, ap (least_of (cost design)) e)
     by-plans (t ∷ ts) e =
         let plans = plans_of design node in
-        let total = design.weights.area * area_part design plans + design.weights.wire * wire_part design node in
+        let total = design.weights.area * area_part design plans + design.weights.wire * full_part design node in
         let lt = nat_lt (design.outline.w * design.outline.h) (area_part design plans) in
         let here : Contains (fitting design node whole.0) t = subst (λ v. Contains v t) (sym e) (Contains-head t ts) in
         let fit = (fitting-belongs design node whole.0 t sub (solved-complete design node solved) whole.1 here).1 in
@@ -171,7 +181,7 @@ module _ (design : Design) (node : Parts) (free : design.weights.wire ≡ 0) (su
   -- where wires cost nothing, the value with any part of the wires is the bound
   all-same : (part : Part) → bounded design (wires_by design node part) (plans_of design node) ≡ standard design node
   all-same part =
-      bounded-free design (plans_of design node) (wires_by design node part) (wire_part design node) free
+      bounded-free design (plans_of design node) (wires_by design node part) (full_part design node) free
       ∙ omega (arith, standard-le, open-below design node sub)
 
 -- then each part of the bound is the bound
@@ -193,3 +203,13 @@ standard_is_open design node sub =
       | inr free ↦ (let none : design.weights.wire ≡ 0 = omega (arith, free) in
           omega (arith, standard-le design node none sub, open-below design node sub))
     ]
+
+-- it is nowhere below its value from the nets alone
+pub nets-below : (design : Design) (node : Parts) → IsSubproblem design node → bounded design (wire_part design node) (plans_of design node) ≤ standard design node
+nets-below design node sub = omega (arith, bounded-more design (plans_of design node) (wire_part design node) (full_part design node) (omega arith), open-below design node sub)
+
+-- and without paths it is that value
+pub without-paths : (design : Design) (node : Parts) → IsSubproblem design node → design.routes.paths ≡ no_paths → standard design node ≡ bounded design (wire_part design node) (plans_of design node)
+without-paths design node sub none =
+    let no_wires : design.routes.wires ≡ 0 = design.routed.wires_are ∙ ap (path_wires design.pads) none in
+    standard_is_open design node sub ∙ ap (λ w. bounded design w (plans_of design node)) (no-pull design node no_wires)

@@ -24,7 +24,7 @@ pub use Rattle.sf_polish.specs.Postfix.{IsSkewed, is_above, is_beside, postfix}
 pub use Rattle.sf_polish.specs.declared.expr.Token.{Token}
 pub use Rattle.sf_standard.specs.Hull.{block_pins, contains_pin, extent_in, extent_of, gap, greatest_two, greatest_with, hull_of, hull_part, item_extent, moved_right, moved_up, of_pins, offset_x, offset_y, offsets, pads_x, pads_y, pair_part, point, range_part, range_x, range_y, small_side, to_nat}
 pub use Rattle.sf_standard.specs.Items.{Item, fits, fitting, item_of, items_of, plans, read, unused}
-pub use Rattle.sf_standard.specs.Standard.{AllHavePlans, area, area_part, bounded, greatest, has_none, has_single_spans, least_cost, least_of, needed_area, net_part, open_value, part_value, pins_by, pins_part, plans_of, standard, weighed_part, wire_part, wires_by}
+pub use Rattle.sf_standard.specs.Standard.{AllHavePlans, area, area_part, bounded, full_part, greatest, has_none, has_single_spans, least_cost, least_of, needed_area, net_part, nets_by, open_value, part_value, pins_by, pins_part, plans_of, rest_part, standard, weighed_part, wire_part, wires_by}
 pub use Rattle.sf_standard.specs.declared.hull.Extent.{Extent}
 pub use Rattle.sf_standard.specs.declared.hull.Interval.{Interval}
 pub use Rattle.sf_standard.specs.declared.hull.Offset.{Offset}
@@ -35,4 +35,4 @@ pub use Rattle.std.proofs.lemmas.List.{get_or_past, map-append, nil_from_length}
 pub use Rattle.std.proofs.lemmas.List.Elements.{All-contains, Contains-append_cases, Contains-append_left, Contains-append_right, recursion_from_All}
 pub use Rattle.std.proofs.lemmas.List.Sums.{sum-map, sum_by-append, sum_by-cons}
 pub use Rattle.std.specs.List.{AllByRecursion, flat_map, list_all, list_any, range_with_len}
-pub use Rattle.std.specs.Prelude.{Contains, IsFalse, count_by, drop, filter, fold, nat_abs, nat_le, nat_lt, neg_ℤ, negsuc, not, pos, slice_index_or, slice_range, sum, sum_by, ℤ, ⊤}
+pub use Rattle.std.specs.Prelude.{Contains, IsFalse, count_by, drop, filter, fold, nat_abs, nat_le, nat_lt, neg_ℤ, negsuc, not, pos, slice_index_or, slice_range, sum, sum_by, zip, ℤ, ⊤}

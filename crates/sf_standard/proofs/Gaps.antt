@@ -3,6 +3,7 @@ use Rattle.std.proofs.Common.{ℕ, ◌+◌, ◌≤◌, max, min, List, [], ◌�
 use Rattle.std.specs.Prelude.{◌+ℤ◌, ◌-ℤ◌, ◌≤ℤ◌}
 use Rattle.sf_standard.proofs.Common.{Contains, fold, ℤ, pos, negsuc, nat_abs, AllByRecursion, ints, clamps, Shape, spread, EachPair, each-weaker, not_in_nil, Extent, Interval, extent_of, to_nat, gap, greatest_with, greatest_two}
 use Rattle.std.specs.Int.{int_max, int_min}
+use Rattle.sf_model.proofs.Used.{to_nat-le}
 use Rattle.sf_standard.proofs.Listed.{each-contains}
 
 -- all lie between two numbers that are the spread apart
@@ -87,11 +88,6 @@ low-most a b (i ∷ is) h e = low-most (int_max a i.low) b is (omega (arith, int
 pub high-least : (a b : ℤ) (is : List Interval) → b ≤ℤ a → AllByRecursion (λ i. b ≤ℤ i.high) is → b ≤ℤ fold (λ z j. int_min z j.high) a is
 high-least a b [] h e = h
 high-least a b (i ∷ is) h e = high-least (int_min a i.high) b is (omega (arith, ints, clamps, h, e.0)) e.1
-
--- a number that is at most a natural one is so when it is cut at 0
-pub to_nat-le : (z : ℤ) (n : ℕ) → z ≤ℤ pos n → to_nat z ≤ n
-to_nat-le (pos m) n h = omega (arith, ints, h)
-to_nat-le (negsuc m) n h = omega arith
 
 -- the interval, moved by d, holds one of the numbers
 pub record Holds (d : ℤ) (zs : List ℤ) (i : Interval) : Type 0 where

@@ -1,13 +1,20 @@
 -- Where each part of a subproblem has a plan in the outline, its wires are short.
-use Rattle.std.proofs.Common.{◌≡◌, ℕ, ◌+◌, ◌*◌, ◌^◌, ◌<◌, ◌≤◌, max, List, [], ◌∷◌, ◌++◌, map, length, arith, refl, sym, subst, inl, inr, Bool, true, false, cond}
+use Rattle.std.proofs.Common.{◌≡◌, ℕ, ◌+◌, ◌-◌, ◌*◌, ◌^◌, ◌<◌, ◌≤◌, max, List, [], ◌∷◌, ◌++◌, map, length, arith, refl, ap, sym, subst, inl, inr, Bool, true, false, cond}
 use Rattle.std.specs.Prelude.{◌≤ℤ◌, ◌-ℤ◌, ◌||◌}
-use Rattle.sf_standard.proofs.Common.{Contains, sum_by, nat_lt, ℤ, pos, neg_ℤ, fold, AllByRecursion, list_any, mul-le-mul, ints, cases_lt, cond_both, true≢false, get_or_past, recursion_from_All, sum_by-cons, Design, Net, Pin, Shape, IsCoordinate, Tree, width, height, leaves, pad_at, each-append, each-weaker, each-map, each-left, Parts, is_complete, Contains-head, shapes_in, Item, items_of, unused, plans, fits, fitting, item_of, Extent, Interval, Offset, gap, point, range_x, range_y, range_part, greatest_with, greatest_two, block_pins, small_side, pair_part, item_extent, moved_right, moved_up, offsets, offset_x, offset_y, of_pins, pads_x, pads_y, hull_of, hull_part, extent_in, has_none, net_part, weighed_part, wire_part, AllHavePlans}
+use Rattle.sf_standard.proofs.Common.{Contains, sum_by, zip, nat_lt, ℤ, pos, neg_ℤ, fold, AllByRecursion, list_any, mul-le-mul, mul-le-mul_left, ints, cases_lt, cond_both, true≢false, get_or_past, recursion_from_All, sum_by-cons, Design, Net, Pin, Shape, IsCoordinate, Tree, width, height, leaves, pad_at, each-append, each-weaker, each-map, each-left, Parts, is_complete, Contains-head, shapes_in, Item, items_of, unused, plans, fits, fitting, item_of, Extent, Interval, Offset, gap, point, range_x, range_y, range_part, greatest_with, greatest_two, block_pins, small_side, pair_part, item_extent, moved_right, moved_up, offsets, offset_x, offset_y, of_pins, pads_x, pads_y, hull_of, hull_part, extent_in, has_none, net_part, weighed_part, wire_part, rest_part, full_part, AllHavePlans}
 use Rattle.std.specs.Int.{int_max, int_min}
 use Rattle.sf_model.specs.declared.parts.Pad.{Pad}
 use Rattle.sf_model.specs.declared.parts.Pin.TheVariants as pin
+use Rattle.sf_model.proofs.Used.{Spare, axis-spare, by_number, exchange, paths-nets, pulls-small, steps_of, to_nat-le}
+use Rattle.sf_model.specs.Axes.{place_on}
+use Rattle.sf_model.specs.Paths.{ArePathsOfAxis, IsPath, left_from, pull, uses}
+use Rattle.sf_model.specs.declared.paths.Path.{Path}
+use Rattle.sf_model.specs.declared.paths.Paths.{Paths}
+use Rattle.sf_model.specs.declared.routing.Axis.{Axis}
+use Rattle.sf_model.specs.declared.routing.Axis.TheVariants.{Across, Upward}
 use Rattle.sf_standard.specs.Items as item
 use Rattle.sf_standard.proofs.Exact.{plans-are, fits-from}
-use Rattle.sf_standard.proofs.Gaps.{low-most, high-least, to_nat-le, of-extent, IsOfExtent}
+use Rattle.sf_standard.proofs.Gaps.{low-most, high-least, of-extent, IsOfExtent}
 use Rattle.sf_standard.proofs.Listed.{each-joined, Contains-from_filter}
 use Rattle.sf_standard.proofs.NetWires.{of-item-extent, each-of_pins}
 use Rattle.sf_standard.proofs.Sides.{span-small}
@@ -209,3 +216,49 @@ module _ (design : Design) (node : Parts) where
     -- those of all nets stay below 2^47
     pub wires-short : wire_part design node < 2 ^ 47
     wires-short = omega (arith, sum-short design.nets (recursion_from_All (λ net. net.weight < 2 ^ 8) design.nets design.limits.net_weights), design.limits.few_nets)
+
+    -- so do the ends of paths with what these leave of the nets
+    routes-short : (paths : Paths) (i : ℕ) (nets : List Net) → Spare paths.across i nets → Spare paths.upward i nets → AllByRecursion (λ net. net.weight < 2 ^ 8) nets
+        → 2 ^ 22 * by_number (λ j net. uses j paths.across * 1) i nets + 2 ^ 22 * by_number (λ j net. uses j paths.upward * 1) i nets
+        + sum_by (λ n. n.0 * net_part design node n.1) (zip (left_from i paths nets) nets) ≤ 255 * 2 ^ 23 * length nets
+    routes-short paths i [] a u light = omega arith
+    routes-short paths i (net ∷ nets) a u light =
+        let left = net.weight - max (uses i paths.across) (uses i paths.upward) in
+        omega (
+          arith,
+          a.0,
+          u.0,
+          light.0,
+          mul-le-mul_left left (net-short net),
+          routes-short paths (i + 1) nets a.1 u.1 light.1,
+          sum_by-cons (λ (n : ℕ × Net). n.0 * net_part design node n.1) (left, net) (zip (left_from (i + 1) paths nets) nets),
+        )
+
+    -- the ends of the paths of an axis are apart by this for each use at most
+    pulls-short : (axis : Axis) (paths : List Path) → ArePathsOfAxis design.pads design.nets paths → sum_by (pull (place_on axis design.pads)) paths ≤ 2 ^ 22 * by_number (λ j net. uses j paths * 1) 0 design.nets
+    pulls-short axis paths h =
+        let each = recursion_from_All (IsPath design.pads design.nets) paths h.each in
+        omega (
+          arith,
+          pulls-small axis design.pads design.nets paths design.limits.places each,
+          exchange (λ net. 1) design.nets (steps_of paths) (paths-nets design.pads design.nets paths each),
+        )
+
+    -- by nets or by paths, the wires stay below 2^47
+    pub full-short : full_part design node < 2 ^ 47
+    full-short =
+        let paths = design.routes.paths in
+        let legal = design.routed.legal in
+        let left : rest_part design node ≡ sum_by (λ n. n.0 * net_part design node n.1) (zip (left_from 0 paths design.nets) design.nets) =
+        ap (λ l. sum_by (λ n. n.0 * net_part design node n.1) (zip l design.nets)) design.routed.left_is in
+        omega (
+          arith,
+          wires-short,
+          left,
+          design.routed.wires_are,
+          pulls-short Across paths.across legal.across,
+          pulls-short Upward paths.upward legal.upward,
+          routes-short paths 0 design.nets (axis-spare design.pads design.nets paths.across legal.across) (axis-spare design.pads design.nets paths.upward legal.upward)
+              (recursion_from_All (λ net. net.weight < 2 ^ 8) design.nets design.limits.net_weights),
+          design.limits.few_nets,
+        )

@@ -1,6 +1,6 @@
 -- Where each span has one place, the value of a complete subproblem from area and wires is what its one plan costs.
 use Rattle.std.proofs.Common.{◌≡◌, ℕ, suc, ◌+◌, ◌*◌, ◌-◌, ◌<◌, ◌≤◌, max, List, [], ◌∷◌, ◌++◌, length, length-take, map, arith, refl, ap, sym, subst, ◌∙◌, inl, inr, Bool, true, false}
-use Rattle.sf_standard.proofs.Common.{zero, Contains, sum_by, drop, nat_lt, slice_range, slice_index_or, ℤ, pos, not, AllByRecursion, list_any, list_all, mul-le-mul, mul-le-mul_left, ints, and_parts, ltb-false, ltb-true, cond_both, cond-true, recursion_from_All, Contains-append_left, Contains-append_right, sum-map, sum_by-cons, Design, Net, Pin, Shape, Spot, MAX, cost, Fits, block_count, shapes_of, IsPinSet, pin_number, pin_count, Tree, Leaf, Beside, Above, width, height, leaves, spots_at, spots_of, spot_of, pad_at, pin_x, pin_y, spread, net_wire, weighed_wire, wire, each-append, each-left, each-right, each-weaker, each-map, IsSubproblem, Parts, Belongs, is_complete, is_solved, is_wide, span_of, subproblem-spans, Contains-head, Extent, Offset, shapes_in, Item, items_of, unused, plans, fits, fitting, item_of, extent_of, point, range_part, pair_part, item_extent, offsets, moved_right, moved_up, offset_x, offset_y, contains_pin, of_pins, pads_x, pads_y, hull_of, hull_part, extent_in, area, least_of, least_cost, has_none, needed_area, area_part, net_part, weighed_part, wire_part, plans_of, open_value, standard, has_single_spans}
+use Rattle.sf_standard.proofs.Common.{zero, Contains, sum_by, drop, nat_lt, slice_range, slice_index_or, ℤ, pos, not, AllByRecursion, list_any, list_all, mul-le-mul, mul-le-mul_left, ints, and_parts, ltb-false, ltb-true, cond_both, cond-true, recursion_from_All, Contains-append_left, Contains-append_right, sum-map, sum_by-cons, Design, Net, Pin, Shape, Spot, MAX, cost, Fits, block_count, shapes_of, IsPinSet, pin_number, pin_count, Tree, Leaf, Beside, Above, width, height, leaves, spots_at, spots_of, spot_of, pad_at, pin_x, pin_y, spread, net_wire, weighed_wire, wire, each-append, each-left, each-right, each-weaker, each-map, IsSubproblem, Parts, Belongs, is_complete, is_solved, is_wide, span_of, subproblem-spans, Contains-head, Extent, Offset, shapes_in, Item, items_of, unused, plans, fits, fitting, item_of, extent_of, point, range_part, pair_part, item_extent, offsets, moved_right, moved_up, offset_x, offset_y, contains_pin, of_pins, pads_x, pads_y, hull_of, hull_part, extent_in, area, least_of, least_cost, has_none, needed_area, area_part, net_part, weighed_part, wire_part, full_part, plans_of, open_value, standard, has_single_spans}
 use Rattle.std.specs.Prelude.{◌||◌, if◌then◌else◌}
 use Rattle.sf_model.specs.declared.parts.Pin.TheVariants as pin
 use Rattle.sf_model.proofs.Bounded.{cost-below}
@@ -133,7 +133,7 @@ no-plan design node i one e =
     let none : list_any has_none (plans_of design node) ≡ true =
     ap (λ is. list_any has_none (map (fitting design node) (is ++ unused node))) one
     ∙ ap (λ ts. has_none ts || list_any has_none (map (fitting design node) (unused node))) e in
-    cond-true (list_any has_none (plans_of design node)) MAX (if nat_lt (design.outline.w * design.outline.h) (area_part design (plans_of design node)) then MAX else (design.weights.area * area_part design (plans_of design node) + design.weights.wire * wire_part design node)) none
+    cond-true (list_any has_none (plans_of design node)) MAX (if nat_lt (design.outline.w * design.outline.h) (area_part design (plans_of design node)) then MAX else (design.weights.area * area_part design (plans_of design node) + design.weights.wire * full_part design node)) none
 
 module _ (design : Design) (node : Parts) (tree : Tree) (spans : length node.spans ≡ block_count design) (belongs : Belongs design node tree) (fit : Fits design.outline tree) (complete : is_complete node ≡ true) (single : has_single_spans node ≡ true) where
   -- the extents of the blocks in their spans
@@ -306,11 +306,12 @@ module _ (design : Design) (node : Parts) (tree : Tree) (spans : length node.spa
   cost-le : cost design tree ≤ open_value design node
   cost-le =
       let none = cost-below design tree fit in
-      let total : cost design tree ≤ design.weights.area * area_part design groups + design.weights.wire * wire_part design node =
-      omega (arith, mul-le-mul_left design.weights.area area-le, mul-le-mul_left design.weights.wire wires-le) in
-      cond_both (list_any has_none groups) MAX (if nat_lt (design.outline.w * design.outline.h) (area_part design groups) then MAX else (design.weights.area * area_part design groups + design.weights.wire * wire_part design node)) (λ v. cost design tree ≤ v)
+      let most : wire design (spots_of tree) ≤ full_part design node = omega (arith, wires-le) in
+      let total : cost design tree ≤ design.weights.area * area_part design groups + design.weights.wire * full_part design node =
+      omega (arith, mul-le-mul_left design.weights.area area-le, mul-le-mul_left design.weights.wire most) in
+      cond_both (list_any has_none groups) MAX (if nat_lt (design.outline.w * design.outline.h) (area_part design groups) then MAX else (design.weights.area * area_part design groups + design.weights.wire * full_part design node)) (λ v. cost design tree ≤ v)
       (λ _. omega (arith, none))
-      (λ _. cond_both (nat_lt (design.outline.w * design.outline.h) (area_part design groups)) MAX (design.weights.area * area_part design groups + design.weights.wire * wire_part design node) (λ v. cost design tree ≤ v)
+      (λ _. cond_both (nat_lt (design.outline.w * design.outline.h) (area_part design groups)) MAX (design.weights.area * area_part design groups + design.weights.wire * full_part design node) (λ v. cost design tree ≤ v)
       (λ _. omega (arith, none))
       (λ _. total))
 

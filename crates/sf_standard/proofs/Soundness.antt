@@ -1,24 +1,24 @@
 -- The standard bound is sound.
-use Rattle.std.proofs.Common.{◌≡◌, ◌+◌, ◌*◌, ◌≤◌, max, [], ◌∷◌, map, length, arith, ap, sym, subst, ◌∙◌, true}
+use Rattle.std.proofs.Common.{◌≡◌, ◌+◌, ◌*◌, ◌≤◌, [], ◌∷◌, map, length, arith, ap, sym, subst, ◌∙◌, true}
 use Rattle.std.specs.Prelude.{if◌then◌else◌}
-use Rattle.sf_standard.proofs.Common.{nat_lt, list_any, mul-le-mul, mul-le-mul_left, cond_both, ltb-true, true≢false, Design, MAX, cost, Fits, block_count, Tree, Parts, Belongs, is_solved, subproblem-spans, items_of, fitting, item_of, area, least_cost, has_none, needed_area, area_part, wire_part, plans_of, open_value, standard}
+use Rattle.sf_standard.proofs.Common.{nat_lt, list_any, mul-le-mul, mul-le-mul_left, cond_both, ltb-true, true≢false, Design, MAX, cost, Fits, block_count, Tree, Parts, Belongs, is_solved, subproblem-spans, items_of, fitting, item_of, area, least_cost, has_none, area_part, full_part, plans_of, open_value, standard}
 use Rattle.sf_model.proofs.Floored.{own_floor}
 use Rattle.sf_node.specs.Bounds.{IsSound}
 use Rattle.sf_bound.proofs.Whole.{solved-complete}
 use Rattle.sf_standard.proofs.Grown.{part-self}
 use Rattle.sf_standard.proofs.Cutting.{cut, part-fitting, least_of-le, needed-area, none-empty}
-use Rattle.sf_standard.proofs.NetWires.{nets-le}
+use Rattle.sf_standard.proofs.PathWires.{full-le}
 
 -- the value from area and wires is no more than what a plan of the subproblem costs
 pub bounded-le : (design : Design) (node : Parts) (tree : Tree) → length node.spans ≡ block_count design → Belongs design node tree → Fits design.outline tree → open_value design node ≤ cost design tree
 bounded-le design node tree spans belongs fit =
     let plans = plans_of design node in
     let part : area_part design plans ≤ area tree = omega (arith, needed-area design node tree spans belongs fit, own_floor design tree belongs.legal fit) in
-    let total : design.weights.area * area_part design plans + design.weights.wire * wire_part design node ≤ cost design tree =
-    omega (arith, mul-le-mul_left design.weights.area part, mul-le-mul_left design.weights.wire (nets-le design node tree spans belongs fit)) in
-    cond_both (list_any has_none plans) MAX (if nat_lt (design.outline.w * design.outline.h) (area_part design plans) then MAX else (design.weights.area * area_part design plans + design.weights.wire * wire_part design node)) (λ v. v ≤ cost design tree)
+    let total : design.weights.area * area_part design plans + design.weights.wire * full_part design node ≤ cost design tree =
+    omega (arith, mul-le-mul_left design.weights.area part, mul-le-mul_left design.weights.wire (full-le design node tree spans belongs fit)) in
+    cond_both (list_any has_none plans) MAX (if nat_lt (design.outline.w * design.outline.h) (area_part design plans) then MAX else (design.weights.area * area_part design plans + design.weights.wire * full_part design node)) (λ v. v ≤ cost design tree)
     (λ e. absurd (true≢false (sym e ∙ none-empty design node tree spans belongs fit)))
-    (λ _. cond_both (nat_lt (design.outline.w * design.outline.h) (area_part design plans)) MAX (design.weights.area * area_part design plans + design.weights.wire * wire_part design node) (λ v. v ≤ cost design tree)
+    (λ _. cond_both (nat_lt (design.outline.w * design.outline.h) (area_part design plans)) MAX (design.weights.area * area_part design plans + design.weights.wire * full_part design node) (λ v. v ≤ cost design tree)
     (λ e. absurd (omega (arith, ltb-true (design.outline.w * design.outline.h) (area_part design plans) e, part, mul-le-mul fit.0 fit.1)))
     (λ _. total))
 

@@ -1,6 +1,6 @@
 -- A child by a block that leaves the subproblem incomplete has the bound of its parent.
 use Rattle.std.proofs.Common.{◌≡◌, ◌≢◌, ℕ, suc, ◌+◌, ◌*◌, ◌<◌, ◌≤◌, max, List, [], ◌∷◌, ◌++◌, length, map, append_assoc, arith, refl, ap, sym, ◌∙◌, inl, inr, Bool, true, false, cond, ◌==◌}
-use Rattle.sf_standard.proofs.Common.{zero, sum, sum_by, filter, count_by, nat_lt, not, ℤ, pos, negsuc, list_all, list_any, range_with_len, ints, cases_eq, cond-true, cond-false, eqb-true, ne_eqb, eq-eqb, map-append, sum_by-cons, sum_by-append, sum-map, Design, Net, Pin, Shape, MAX, Tree, width, height, Token, is_block, Parts, is_complete, is_solved, is_wide, IsSubproblem, CanStep, after, is_unused, subproblem-spans, Contains-head, shapes_in, items_of, unused, fitting, extent_of, to_nat, gap, range_part, pair_part, offset_x, offset_y, contains_pin, hull_of, hull_part, extent_in, least_of, area, least_cost, has_none, greatest, needed_area, area_part, net_part, weighed_part, wire_part, plans_of, bounded, open_value, standard}
+use Rattle.sf_standard.proofs.Common.{zero, sum, sum_by, zip, filter, count_by, nat_lt, not, ℤ, pos, negsuc, list_all, list_any, range_with_len, ints, cases_eq, cond-true, cond-false, eqb-true, ne_eqb, eq-eqb, map-append, sum_by-cons, sum_by-append, sum-map, Design, Net, Pin, Shape, MAX, Tree, width, height, Token, is_block, Parts, is_complete, is_solved, is_wide, IsSubproblem, CanStep, after, is_unused, subproblem-spans, Contains-head, shapes_in, items_of, unused, fitting, extent_of, to_nat, gap, range_part, pair_part, offset_x, offset_y, contains_pin, hull_of, hull_part, extent_in, least_of, area, least_cost, has_none, greatest, needed_area, area_part, net_part, weighed_part, wire_part, rest_part, full_part, plans_of, bounded, open_value, standard}
 use Rattle.std.specs.Prelude.{◌||◌, ◌&&◌, if◌then◌else◌, ◌-ℤ◌, ◌≤ℤ◌}
 use Rattle.sf_polish.specs.declared.expr.Token.TheVariants as token
 use Rattle.sf_node.specs.declared.step.Step.TheVariants as step
@@ -230,11 +230,13 @@ module _ (design : Design) (node : Parts) (b : ℕ) (sub : IsSubproblem design n
       let vs = moves.back in
       let whole = λ (none : Bool) (a w : ℕ). (if none then MAX else (if nat_lt (design.outline.w * design.outline.h) a then MAX else (design.weights.area * a + design.weights.wire * w))) in
       let nets : wire_part design grown ≡ wire_part design node = sum_by-same (weighed_part design grown) (weighed_part design node) weighed-same design.nets in
-      ap (bounded design (wire_part design grown)) moves.is
-      ∙ ap (λ t. whole t (area_part design (x ∷ (ws ++ vs))) (wire_part design grown)) (sym (any-move has_none ws vs x))
-      ∙ ap (λ a. whole (list_any has_none (ws ++ x ∷ vs)) (max a design.area_floor) (wire_part design grown)) (area-same ws vs x)
-      ∙ ap (λ w. whole (list_any has_none (ws ++ x ∷ vs)) (area_part design (ws ++ x ∷ vs)) w) nets
-      ∙ sym (ap (bounded design (wire_part design node)) moves.was)
+      let rests : rest_part design grown ≡ rest_part design node = sum_by-same (λ n. n.0 * net_part design grown n.1) (λ n. n.0 * net_part design node n.1) (λ n. ap (λ v. n.0 * v) (net-same n.1)) (zip design.routes.left design.nets) in
+      let wires : full_part design grown ≡ full_part design node = ap (λ v. max v (design.routes.wires + rest_part design grown)) nets ∙ ap (λ v. max (wire_part design node) (design.routes.wires + v)) rests in
+      ap (bounded design (full_part design grown)) moves.is
+      ∙ ap (λ t. whole t (area_part design (x ∷ (ws ++ vs))) (full_part design grown)) (sym (any-move has_none ws vs x))
+      ∙ ap (λ a. whole (list_any has_none (ws ++ x ∷ vs)) (max a design.area_floor) (full_part design grown)) (area-same ws vs x)
+      ∙ ap (λ w. whole (list_any has_none (ws ++ x ∷ vs)) (area_part design (ws ++ x ∷ vs)) w) wires
+      ∙ sym (ap (bounded design (full_part design node)) moves.was)
 
   -- a subproblem that is not complete is not solved
   unsolved : (parts : Parts) → is_complete parts ≡ false → is_solved design parts ≡ false

@@ -2,11 +2,14 @@
 use Rattle.std.proofs.Common.{◌≡◌, ℕ, List, [], ◌∷◌, length, refl}
 use Rattle.sf_standard.proofs.Common.{pos, Design, Net, Outline, Pin, Shape, IsWithinLimits, Tree, Leaf, Beside, Above, spots_of, wire, cost, root, walk, extended, standard, part_value}
 use Rattle.sf_model.proofs.Floored.{no_floor}
+use Rattle.sf_model.proofs.Used.{none-routes, unrouted}
 use Rattle.sf_model.specs.AreaFloor.{IsAreaFloorIn}
+use Rattle.sf_model.specs.Paths.{AreRoutes}
 use Rattle.sf_model.specs.declared.parts.Block.{Block}
 use Rattle.sf_model.specs.declared.parts.Pad.{Pad}
 use Rattle.sf_model.specs.declared.parts.Pin.TheVariants as pin
 use Rattle.sf_model.specs.declared.parts.Weights.{Weights}
+use Rattle.sf_model.specs.declared.paths.Routes.{Routes}
 use Rattle.sf_node.specs.declared.step.Step.TheVariants as step
 use Rattle.sf_node.specs.declared.part.Part.TheVariants as by
 use Rattle.sf_node.specs.Full.{full}
@@ -42,7 +45,7 @@ weights wire = record { area = 1; wire = wire }
 module _ (limits : IsWithinLimits (block (shape 3 4 ∷ shape 4 3 ∷ []) ∷ []) [] [] wide (weights 0)) where
   -- one block of two shapes
   abbrev lone_design : Design
-  lone_design = record { blocks = block (shape 3 4 ∷ shape 4 3 ∷ []) ∷ []; pads = []; nets = []; outline = wide; weights = weights 0; area_floor = 0; limits = limits; floored = no_floor (block (shape 3 4 ∷ shape 4 3 ∷ []) ∷ []) wide }
+  lone_design = record { blocks = block (shape 3 4 ∷ shape 4 3 ∷ []) ∷ []; pads = []; nets = []; outline = wide; weights = weights 0; area_floor = 0; routes = unrouted []; limits = limits; floored = no_floor (block (shape 3 4 ∷ shape 4 3 ∷ []) ∷ []) wide; routed = none-routes [] [] }
 
   -- its tree has two subproblems: the root, and the block
   lone_full : full lone_design ≡ 2
@@ -59,7 +62,7 @@ module _ (limits : IsWithinLimits (block (shape 3 4 ∷ shape 4 3 ∷ []) ∷ []
 module _ (limits : IsWithinLimits (block (shape 2 3 ∷ []) ∷ block (shape 3 2 ∷ []) ∷ []) [] [] wide (weights 0)) where
   -- two blocks of one shape each
   abbrev hard_design : Design
-  hard_design = record { blocks = block (shape 2 3 ∷ []) ∷ block (shape 3 2 ∷ []) ∷ []; pads = []; nets = []; outline = wide; weights = weights 0; area_floor = 0; limits = limits; floored = no_floor (block (shape 2 3 ∷ []) ∷ block (shape 3 2 ∷ []) ∷ []) wide }
+  hard_design = record { blocks = block (shape 2 3 ∷ []) ∷ block (shape 3 2 ∷ []) ∷ []; pads = []; nets = []; outline = wide; weights = weights 0; area_floor = 0; routes = unrouted []; limits = limits; floored = no_floor (block (shape 2 3 ∷ []) ∷ block (shape 3 2 ∷ []) ∷ []) wide; routed = none-routes [] [] }
 
   -- the first beside the second
   abbrev hard_plan : Tree
@@ -88,7 +91,7 @@ module _ (limits : IsWithinLimits (block (shape 2 3 ∷ []) ∷ block (shape 3 2
 module _ (limits : IsWithinLimits (block (shape 2 2 ∷ []) ∷ block (shape 2 2 ∷ []) ∷ []) [] (net (pin.Block 0 ∷ pin.Block 1 ∷ []) ∷ []) wide (weights 1)) where
   -- two squares and a net that joins them
   abbrev joined_design : Design
-  joined_design = record { blocks = block (shape 2 2 ∷ []) ∷ block (shape 2 2 ∷ []) ∷ []; pads = []; nets = net (pin.Block 0 ∷ pin.Block 1 ∷ []) ∷ []; outline = wide; weights = weights 1; area_floor = 0; limits = limits; floored = no_floor (block (shape 2 2 ∷ []) ∷ block (shape 2 2 ∷ []) ∷ []) wide }
+  joined_design = record { blocks = block (shape 2 2 ∷ []) ∷ block (shape 2 2 ∷ []) ∷ []; pads = []; nets = net (pin.Block 0 ∷ pin.Block 1 ∷ []) ∷ []; outline = wide; weights = weights 1; area_floor = 0; routes = unrouted (net (pin.Block 0 ∷ pin.Block 1 ∷ []) ∷ []); limits = limits; floored = no_floor (block (shape 2 2 ∷ []) ∷ block (shape 2 2 ∷ []) ∷ []) wide; routed = none-routes [] (net (pin.Block 0 ∷ pin.Block 1 ∷ []) ∷ []) }
 
   -- the one beside the other
   abbrev joined_plan : Tree
@@ -117,7 +120,7 @@ module _ (limits : IsWithinLimits (block (shape 2 2 ∷ []) ∷ block (shape 2 2
 module _ (limits : IsWithinLimits (block (shape 2 2 ∷ []) ∷ block (shape 2 2 ∷ []) ∷ []) [] (pair 3 ∷ []) wide (weights 1)) where
   -- the same with a net of weight 3
   abbrev heavy_design : Design
-  heavy_design = record { blocks = block (shape 2 2 ∷ []) ∷ block (shape 2 2 ∷ []) ∷ []; pads = []; nets = pair 3 ∷ []; outline = wide; weights = weights 1; area_floor = 0; limits = limits; floored = no_floor (block (shape 2 2 ∷ []) ∷ block (shape 2 2 ∷ []) ∷ []) wide }
+  heavy_design = record { blocks = block (shape 2 2 ∷ []) ∷ block (shape 2 2 ∷ []) ∷ []; pads = []; nets = pair 3 ∷ []; outline = wide; weights = weights 1; area_floor = 0; routes = unrouted (pair 3 ∷ []); limits = limits; floored = no_floor (block (shape 2 2 ∷ []) ∷ block (shape 2 2 ∷ []) ∷ []) wide; routed = none-routes [] (pair 3 ∷ []) }
 
   -- its wire counts three times
   heavy_wire : wire heavy_design (spots_of (Beside (Leaf 0 (shape 2 2)) (Leaf 1 (shape 2 2)))) ≡ 12
@@ -134,7 +137,7 @@ module _ (limits : IsWithinLimits (block (shape 2 2 ∷ []) ∷ block (shape 2 2
 module _ (limits : IsWithinLimits (block (shape 2 2 ∷ []) ∷ block (shape 2 2 ∷ []) ∷ []) [] (pair 0 ∷ []) wide (weights 1)) where
   -- the same with a net of weight 0
   abbrev free_design : Design
-  free_design = record { blocks = block (shape 2 2 ∷ []) ∷ block (shape 2 2 ∷ []) ∷ []; pads = []; nets = pair 0 ∷ []; outline = wide; weights = weights 1; area_floor = 0; limits = limits; floored = no_floor (block (shape 2 2 ∷ []) ∷ block (shape 2 2 ∷ []) ∷ []) wide }
+  free_design = record { blocks = block (shape 2 2 ∷ []) ∷ block (shape 2 2 ∷ []) ∷ []; pads = []; nets = pair 0 ∷ []; outline = wide; weights = weights 1; area_floor = 0; routes = unrouted (pair 0 ∷ []); limits = limits; floored = no_floor (block (shape 2 2 ∷ []) ∷ block (shape 2 2 ∷ []) ∷ []) wide; routed = none-routes [] (pair 0 ∷ []) }
 
   -- its wire does not count in the cost
   free_cost : cost free_design (Above (Leaf 0 (shape 2 2)) (Leaf 1 (shape 2 2))) ≡ 8
@@ -147,7 +150,7 @@ module _ (limits : IsWithinLimits (block (shape 2 2 ∷ []) ∷ block (shape 2 2
 module _ (limits : IsWithinLimits (block (shape 2 2 ∷ []) ∷ []) (pad 10 0 ∷ []) (net (pin.Block 0 ∷ pin.Pad 0 ∷ []) ∷ []) wide (weights 1)) where
   -- a square and a pad that is far from it
   abbrev distant_design : Design
-  distant_design = record { blocks = block (shape 2 2 ∷ []) ∷ []; pads = pad 10 0 ∷ []; nets = net (pin.Block 0 ∷ pin.Pad 0 ∷ []) ∷ []; outline = wide; weights = weights 1; area_floor = 0; limits = limits; floored = no_floor (block (shape 2 2 ∷ []) ∷ []) wide }
+  distant_design = record { blocks = block (shape 2 2 ∷ []) ∷ []; pads = pad 10 0 ∷ []; nets = net (pin.Block 0 ∷ pin.Pad 0 ∷ []) ∷ []; outline = wide; weights = weights 1; area_floor = 0; routes = unrouted (net (pin.Block 0 ∷ pin.Pad 0 ∷ []) ∷ []); limits = limits; floored = no_floor (block (shape 2 2 ∷ []) ∷ []) wide; routed = none-routes (pad 10 0 ∷ []) (net (pin.Block 0 ∷ pin.Pad 0 ∷ []) ∷ []) }
 
   -- the square stands at the corner
   distant_cost : cost distant_design (Leaf 0 (shape 2 2)) ≡ 24
@@ -160,7 +163,7 @@ module _ (limits : IsWithinLimits (block (shape 2 2 ∷ []) ∷ []) (pad 10 0 �
 module _ (limits : IsWithinLimits (block (shape 1 4 ∷ shape 2 2 ∷ shape 3 2 ∷ []) ∷ []) (pad 10 0 ∷ []) (net (pin.Block 0 ∷ pin.Pad 0 ∷ []) ∷ []) wide (weights 10)) where
   -- a block of three shapes and a pad, where wire weighs 10
   abbrev soft_design : Design
-  soft_design = record { blocks = block (shape 1 4 ∷ shape 2 2 ∷ shape 3 2 ∷ []) ∷ []; pads = pad 10 0 ∷ []; nets = net (pin.Block 0 ∷ pin.Pad 0 ∷ []) ∷ []; outline = wide; weights = weights 10; area_floor = 0; limits = limits; floored = no_floor (block (shape 1 4 ∷ shape 2 2 ∷ shape 3 2 ∷ []) ∷ []) wide }
+  soft_design = record { blocks = block (shape 1 4 ∷ shape 2 2 ∷ shape 3 2 ∷ []) ∷ []; pads = pad 10 0 ∷ []; nets = net (pin.Block 0 ∷ pin.Pad 0 ∷ []) ∷ []; outline = wide; weights = weights 10; area_floor = 0; routes = unrouted (net (pin.Block 0 ∷ pin.Pad 0 ∷ []) ∷ []); limits = limits; floored = no_floor (block (shape 1 4 ∷ shape 2 2 ∷ shape 3 2 ∷ []) ∷ []) wide; routed = none-routes (pad 10 0 ∷ []) (net (pin.Block 0 ∷ pin.Pad 0 ∷ []) ∷ []) }
 
   -- the cost of the highest shape
   high_cost : cost soft_design (Leaf 0 (shape 1 4)) ≡ 234
@@ -217,7 +220,7 @@ module _ (limits : IsWithinLimits (block (shape 1 4 ∷ shape 2 2 ∷ shape 3 2 
 module _ (limits : IsWithinLimits (block (shape 2 2 ∷ []) ∷ block (shape 2 2 ∷ []) ∷ []) (pad 0 0 ∷ pad 10 0 ∷ []) (net (pin.Block 0 ∷ pin.Pad 0 ∷ []) ∷ net (pin.Block 0 ∷ pin.Block 1 ∷ []) ∷ net (pin.Block 1 ∷ pin.Pad 1 ∷ []) ∷ []) wide (weights 1)) where
   -- two squares in a chain between two pads
   abbrev chained_design : Design
-  chained_design = record { blocks = block (shape 2 2 ∷ []) ∷ block (shape 2 2 ∷ []) ∷ []; pads = pad 0 0 ∷ pad 10 0 ∷ []; nets = net (pin.Block 0 ∷ pin.Pad 0 ∷ []) ∷ net (pin.Block 0 ∷ pin.Block 1 ∷ []) ∷ net (pin.Block 1 ∷ pin.Pad 1 ∷ []) ∷ []; outline = wide; weights = weights 1; area_floor = 0; limits = limits; floored = no_floor (block (shape 2 2 ∷ []) ∷ block (shape 2 2 ∷ []) ∷ []) wide }
+  chained_design = record { blocks = block (shape 2 2 ∷ []) ∷ block (shape 2 2 ∷ []) ∷ []; pads = pad 0 0 ∷ pad 10 0 ∷ []; nets = net (pin.Block 0 ∷ pin.Pad 0 ∷ []) ∷ net (pin.Block 0 ∷ pin.Block 1 ∷ []) ∷ net (pin.Block 1 ∷ pin.Pad 1 ∷ []) ∷ []; outline = wide; weights = weights 1; area_floor = 0; routes = unrouted (net (pin.Block 0 ∷ pin.Pad 0 ∷ []) ∷ net (pin.Block 0 ∷ pin.Block 1 ∷ []) ∷ net (pin.Block 1 ∷ pin.Pad 1 ∷ []) ∷ []); limits = limits; floored = no_floor (block (shape 2 2 ∷ []) ∷ block (shape 2 2 ∷ []) ∷ []) wide; routed = none-routes (pad 0 0 ∷ pad 10 0 ∷ []) (net (pin.Block 0 ∷ pin.Pad 0 ∷ []) ∷ net (pin.Block 0 ∷ pin.Block 1 ∷ []) ∷ net (pin.Block 1 ∷ pin.Pad 1 ∷ []) ∷ []) }
 
   -- at the root
   chained_root_bound : standard chained_design (root chained_design) ≡ 18
@@ -234,8 +237,32 @@ module _ (limits : IsWithinLimits (block (shape 2 2 ∷ []) ∷ block (shape 2 2
 module _ (limits : IsWithinLimits (block (shape 2 3 ∷ []) ∷ block (shape 3 2 ∷ []) ∷ []) [] [] wide (weights 0)) (floored : IsAreaFloorIn (block (shape 2 3 ∷ []) ∷ block (shape 3 2 ∷ []) ∷ []) wide 15) where
   -- the same two blocks where the design knows that no floorplan has an area below 15
   abbrev floored_design : Design
-  floored_design = record { blocks = block (shape 2 3 ∷ []) ∷ block (shape 3 2 ∷ []) ∷ []; pads = []; nets = []; outline = wide; weights = weights 0; area_floor = 15; limits = limits; floored = floored }
+  floored_design = record { blocks = block (shape 2 3 ∷ []) ∷ block (shape 3 2 ∷ []) ∷ []; pads = []; nets = []; outline = wide; weights = weights 0; area_floor = 15; routes = unrouted []; limits = limits; floored = floored; routed = none-routes [] [] }
 
   -- the value at the root is that floor, and not 12, the sum of the areas
   floored_root_bound : standard floored_design (root floored_design) ≡ 15
   floored_root_bound = refl
+
+-- the nets of the two squares in a chain
+abbrev chain : List Net
+chain = net (pin.Block 0 ∷ pin.Pad 0 ∷ []) ∷ net (pin.Block 0 ∷ pin.Block 1 ∷ []) ∷ net (pin.Block 1 ∷ pin.Pad 1 ∷ []) ∷ []
+
+-- a path along the chain, 20 from end to end in doubled units, which leaves nothing of the nets
+abbrev chain_routes : Routes
+chain_routes = record {
+  paths = record {
+    across = record { first = pin.Pad 0; steps = record { net = 0; to = pin.Block 0 } ∷ record { net = 1; to = pin.Block 1 } ∷ record { net = 2; to = pin.Pad 1 } ∷ [] } ∷ [];
+    upward = [];
+  };
+  left = 0 ∷ 0 ∷ 0 ∷ [];
+  wires = 20;
+}
+
+module _ (limits : IsWithinLimits (block (shape 2 2 ∷ []) ∷ block (shape 2 2 ∷ []) ∷ []) (pad 0 0 ∷ pad 10 0 ∷ []) chain wide (weights 1)) (routed : AreRoutes (pad 0 0 ∷ pad 10 0 ∷ []) chain chain_routes) where
+  -- the same chain where the design has this path
+  abbrev routed_design : Design
+  routed_design = record { blocks = block (shape 2 2 ∷ []) ∷ block (shape 2 2 ∷ []) ∷ []; pads = pad 0 0 ∷ pad 10 0 ∷ []; nets = chain; outline = wide; weights = weights 1; area_floor = 0; routes = chain_routes; limits = limits; floored = no_floor (block (shape 2 2 ∷ []) ∷ block (shape 2 2 ∷ []) ∷ []) wide; routed = routed }
+
+  -- the value at the root is the area 8 with these 20, and not 18
+  routed_root_bound : standard routed_design (root routed_design) ≡ 28
+  routed_root_bound = refl

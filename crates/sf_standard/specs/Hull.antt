@@ -1,10 +1,11 @@
 -- What the wire of a net is at least: range, pair and hull, each defined over the list of the net's pins.
-use Rattle.std.specs.Prelude.{ℕ, ◌+◌, ◌*◌, max, min, List, [], ◌∷◌, ◌++◌, map, fold, Bool, true, false, cond, ◌==◌, if◌then◌else◌, ℤ, pos, negsuc, ◌-ℤ◌, ◌*ℤ◌}
+use Rattle.std.specs.Prelude.{ℕ, ◌+◌, ◌*◌, max, min, List, [], ◌∷◌, ◌++◌, map, fold, Bool, true, false, cond, ◌==◌, if◌then◌else◌, ℤ, pos, ◌-ℤ◌, ◌*ℤ◌}
 use Rattle.std.specs.Int.{int_max, int_min}
 use Rattle.sf_model.specs.declared.design.Design.{Design}
 use Rattle.sf_model.specs.declared.parts.Pin.{Pin}
 use Rattle.sf_model.specs.declared.parts.Pin.TheVariants as pin
 use Rattle.sf_model.specs.declared.parts.Shape.{Shape}
+pub use Rattle.sf_model.specs.Paths.{to_nat}
 use Rattle.sf_model.specs.Spans.{shapes_in}
 use Rattle.sf_model.specs.Wire.{pad_at}
 use Rattle.sf_node.specs.Parts.{Parts}
@@ -26,11 +27,6 @@ extent_of (s ∷ ss) = record {
 -- the least and the greatest sides of a block by the shapes in its span
 abbrev pub extent_in : Design → Parts → ℕ → Extent
 extent_in design node b = extent_of (shapes_in design node.spans b)
-
--- the number, or 0 below 0
-abbrev pub to_nat : ℤ → ℕ
-to_nat (pos n) = n
-to_nat (negsuc n) = 0
 
 -- the greatest lower end less the least upper end, or 0
 abbrev pub gap : List Interval → ℕ

@@ -1,5 +1,5 @@
 -- The standard bound of a subproblem.
-use Rattle.std.specs.Prelude.{◌≡◌, ℕ, ◌+◌, ◌*◌, max, min, List, [], ◌∷◌, ◌++◌, length, map, sum, sum_by, Bool, false, not, nat_lt, ◌==◌, if◌then◌else◌}
+use Rattle.std.specs.Prelude.{◌≡◌, ℕ, ◌+◌, ◌*◌, max, min, List, [], ◌∷◌, ◌++◌, length, map, zip, sum, sum_by, Bool, false, not, nat_lt, ◌==◌, if◌then◌else◌}
 use Rattle.std.specs.List.{list_all, list_any}
 use Rattle.sf_model.specs.declared.design.Design.{Design}
 use Rattle.sf_model.specs.declared.parts.Net.{Net}
@@ -66,6 +66,14 @@ weighed_part design node net = net.weight * net_part design node net
 abbrev pub wire_part : Design → Parts → ℕ
 wire_part design node = sum_by (weighed_part design node) design.nets
 
+-- the same by what paths leave of each net's weight
+abbrev pub rest_part : Design → Parts → ℕ
+rest_part design node = sum_by (λ n. n.0 * net_part design node n.1) (zip design.routes.left design.nets)
+
+-- what the wires are at least, by the nets alone or by paths, whichever is more: how far the ends of the paths are apart, with what these leave of the nets
+abbrev pub full_part : Design → Parts → ℕ
+full_part design node = max (wire_part design node) (design.routes.wires + rest_part design node)
+
 -- what one part of the bound takes the wire that joins these pins to be at least, nothing with fewer than two pins; areas know no wires
 abbrev pub pins_by : Design → Parts → List Pin → Part → ℕ
 pins_by design node pins by.Area = 0
@@ -75,8 +83,13 @@ pins_by design node pins by.Hull = if nat_lt (length pins) 2 then 0 else hull_pa
 pins_by design node pins by.Full = pins_part design node pins
 
 -- the sum over all nets, each as often as its weight says
+abbrev pub nets_by : Design → Parts → Part → ℕ
+nets_by design node part = sum_by (λ net. net.weight * pins_by design node net.pins part) design.nets
+
+-- what one part of the bound takes all wires to be at least: the full one looks at paths too
 abbrev pub wires_by : Design → Parts → Part → ℕ
-wires_by design node part = sum_by (λ net. net.weight * pins_by design node net.pins part) design.nets
+wires_by design node by.Full = full_part design node
+wires_by design node part = nets_by design node part
 
 -- the plans of each item and of each unused block
 abbrev pub plans_of : Design → Parts → List (List Tree)
@@ -93,9 +106,9 @@ bounded design wires plans =
     else (if nat_lt (design.outline.w * design.outline.h) (area_part design plans) then MAX
     else (design.weights.area * area_part design plans + design.weights.wire * wires))
 
--- the value from the area that the items and the unused blocks need and from the wires of the nets
+-- the value from the area that the items and the unused blocks need and from the wires
 abbrev pub open_value : Design → Parts → ℕ
-open_value design node = bounded design (wire_part design node) (plans_of design node)
+open_value design node = bounded design (full_part design node) (plans_of design node)
 
 -- the value that the standard bound gives a subproblem: the least cost where it is solved
 abbrev pub standard : Design → Parts → ℕ

@@ -1,6 +1,6 @@
 //! The laws of the standard bound.
 
-ghost use Rattle.std.specs.Prelude.{◌≡◌, ℕ, ◌<◌, ◌^◌, IsFalse};
+ghost use Rattle.std.specs.Prelude.{◌≡◌, ℕ, ◌<◌, ◌≤◌, ◌^◌, IsFalse};
 ghost use Rattle.sf_model.specs.declared.design.Design.{Design};
 ghost use Rattle.sf_node.specs.declared.step.Step.TheVariants.{Block};
 ghost use Rattle.sf_node.specs.declared.part.Part.{Part};
@@ -9,7 +9,9 @@ ghost use Rattle.sf_node.specs.ByPart.{ArePartsOf};
 ghost use Rattle.sf_node.specs.Children.{IsSubproblem, CanStep, after};
 ghost use Rattle.sf_node.specs.Parts.{Parts};
 ghost use Rattle.sf_node.specs.Subproblem.{is_complete};
+ghost use Rattle.sf_model.specs.Paths.{no_paths};
 ghost use Rattle.sf_standard.specs.Standard.{standard, open_value, part_value, wires_by, AllHavePlans};
+ghost use Rattle.sf_standard.specs.Standard.{bounded, plans_of, wire_part};
 
 /// No plan that belongs to a subproblem and fits costs less than the standard bound, which is the least
 /// cost at a solved one.
@@ -51,4 +53,14 @@ pub fn wires_are_bounded()
 pub fn standard_is_open()
     ensures { (design : Design) (node : Parts) → IsSubproblem design node
         → standard design node ≡ open_value design node }
+{}
+
+/// Paths only raise the standard bound: it is nowhere below its value from the nets alone, and without paths it
+/// is that value.
+pub fn paths_only_raise()
+    ensures above { (design : Design) (node : Parts) → IsSubproblem design node
+        → bounded design (wire_part design node) (plans_of design node) ≤ standard design node }
+    ensures none { (design : Design) (node : Parts) → IsSubproblem design node
+        → design.routes.paths ≡ no_paths
+        → standard design node ≡ bounded design (wire_part design node) (plans_of design node) }
 {}

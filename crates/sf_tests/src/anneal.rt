@@ -92,7 +92,7 @@ fn moves_by_hand(rt: HostRuntime) {
 }
 
 /// The blocks that a text spells.
-fn blocks_of(alloc: Global, text: &[u8]) -> Result<GsrcBlocks, Fail>
+pub fn blocks_of(alloc: Global, text: &[u8]) -> Result<GsrcBlocks, Fail>
     ensures { IfOk result (λ out. All (λ b. IsSized b.kind) out.blocks) }
 {
     blocks_have_sizes();
@@ -100,7 +100,7 @@ fn blocks_of(alloc: Global, text: &[u8]) -> Result<GsrcBlocks, Fail>
 }
 
 /// The nets that a text spells.
-fn nets_of(alloc: Global, text: &[u8]) -> Result<Option<GsrcNets>, Fail>
+pub fn nets_of(alloc: Global, text: &[u8]) -> Result<Option<GsrcNets>, Fail>
     ensures { IfOk result (λ nets. IfSome nets (λ out. HasPinsInAnyRange out.nets)) }
 {
     nets_name_their_pins();
@@ -108,7 +108,7 @@ fn nets_of(alloc: Global, text: &[u8]) -> Result<Option<GsrcNets>, Fail>
 }
 
 /// The parts to which blocks, nets and places are joined.
-fn joined(
+pub fn joined(
     alloc: Global,
     blocks: GsrcBlocks,
     nets: Option<GsrcNets>,
@@ -137,22 +137,32 @@ fn parts_of(alloc: Global, seed: u64, count: u16) -> Result<Parts, Fail>
     joined(alloc, blocks, nets, Some(places))
 }
 
-/// A generated design in an outline with room for all of its plans, whose areas count once and whose wires as
-/// often as this.
-fn generated(alloc: Global, seed: u64, count: u16, wire: u16) -> Result<Design, Fail>
-    requires some { 1 ≤ count }
-    requires few { count ≤ 320 }
+/// The design of these parts in an outline with room for all of its plans, whose areas count once and whose
+/// wires as often as this, and the first net as often as that.
+pub fn built(alloc: Global, parts: Parts, wire: u16, first: u8) -> Result<Design, Fail>
+    requires pins { HasPinsInRange parts }
+    requires sizes { HasSizes parts }
 {
-    let parts = parts_of(alloc, seed, count)?;
     parts.admit(alloc)?;
     let lists = lists(alloc, &parts, 16, false)?;
-    let net_weights = vec![in alloc; 1; parts.nets.as_slice().len()]?;
+    let mut net_weights = vec![in alloc; 1; parts.nets.as_slice().len()]?;
+    if !net_weights.is_empty() {
+        net_weights[0] = first;
+    }
     let outline = Outline {
         w: 1_048_576,
         h: 1_048_576,
     };
     let weights = Weights { area: 1, wire };
     Ok(Design::build(alloc, parts, lists, outline, weights, &net_weights)?)
+}
+
+/// A generated design.
+fn generated(alloc: Global, seed: u64, count: u16, wire: u16) -> Result<Design, Fail>
+    requires some { 1 ≤ count }
+    requires few { count ≤ 320 }
+{
+    built(alloc, parts_of(alloc, seed, count)?, wire, 1)
 }
 
 /// The cost and the expression of what was found, in a text.

@@ -66,14 +66,14 @@ fn four_squares(alloc: Global, outer: u8, inner: u8, padded: u8) -> Result<Desig
         net(alloc, Pin::Block(1), Pin::Block(2), inner)?,
         net(alloc, Pin::Block(3), Pin::Pad(0), padded)?,
     ]?;
-    Ok(Design {
-        blocks: BlockList::from_vec(blocks),
-        pads: PadList::from_vec(vec![in alloc; pad]?),
-        nets: NetList::from_vec(nets),
-        outline: WIDE,
-        weights: Weights { area: 1, wire: 1 },
-        area_floor: 0,
-    })
+    Design::new(
+        alloc,
+        BlockList::from_vec(blocks),
+        PadList::from_vec(vec![in alloc; pad]?),
+        NetList::from_vec(nets),
+        WIDE,
+        Weights { area: 1, wire: 1 },
+    )
 }
 
 /// Places of children, and the values there with weights of 1: of no token; 0 1 *; 0 1 * 2 *; 0 1 * 2 +;
@@ -106,7 +106,7 @@ fn value_at(
 }
 
 /// Asserts that the subproblems over these places have these values, one after another in one room.
-fn assert_values(
+pub fn assert_values(
     rt: &impl Abort,
     alloc: Global,
     design: &Design,
@@ -254,7 +254,7 @@ fn measures_parts(rt: HostRuntime) -> Result<(), Fail> {
 fn too_large(alloc: Global, wire: u16) -> Result<Design, AllocError> {
     let block = block_of(alloc, vec![in alloc; NARROW, FLAT]?)?;
     let outline = Outline { w: 2, h: 2 };
-    Ok(bare(alloc, vec![in alloc; block]?, outline, wire))
+    bare(alloc, vec![in alloc; block]?, outline, wire)
 }
 
 /// Whether a subproblem has a solution, where it is solved.

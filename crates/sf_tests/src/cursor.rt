@@ -15,7 +15,7 @@ use std::test::Fail;
 fn two_blocks(alloc: Global) -> Result<Design, AllocError> {
     let first = block_of(alloc, vec![in alloc; NARROW, FLAT]?)?;
     let second = block(alloc, SQUARE)?;
-    Ok(bare(alloc, vec![in alloc; first, second]?, WIDE, 1))
+    bare(alloc, vec![in alloc; first, second]?, WIDE, 1)
 }
 
 /// A split of the first block where all tokens are there and it has two shapes.

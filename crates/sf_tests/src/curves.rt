@@ -14,7 +14,7 @@ use std::test::Fail;
 fn two_turned(alloc: Global) -> Result<Design, AllocError> {
     let first = block_of(alloc, vec![in alloc; NARROW, FLAT]?)?;
     let second = block_of(alloc, vec![in alloc; NARROW, FLAT]?)?;
-    Ok(bare(alloc, vec![in alloc; first, second]?, WIDE, 0))
+    bare(alloc, vec![in alloc; first, second]?, WIDE, 0)
 }
 
 /// The span of each block that has all of its shapes.

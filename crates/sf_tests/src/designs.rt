@@ -85,18 +85,23 @@ pub fn spot(block: u16, x: i64, y: i64, shape: Shape) -> Spot
 }
 
 /// A design of these blocks without pads and nets, whose areas count once and whose wires as often as this.
-pub fn bare(alloc: Global, blocks: Vec<Block>, outline: Outline, wire: u16) -> Design
+pub fn bare(
+    alloc: Global,
+    blocks: Vec<Block>,
+    outline: Outline,
+    wire: u16,
+) -> Result<Design, AllocError>
     requires { IsWithinLimits blocks.items [] [] outline (record { area = 1; wire = wire }) }
-    ensures { result.blocks ≡ blocks.items }
+    ensures { IfOk result (λ design. design.blocks ≡ blocks.items) }
 {
-    Design {
-        blocks: BlockList::from_vec(blocks),
-        pads: PadList::from_vec(Vec::new(alloc)),
-        nets: NetList::from_vec(Vec::new(alloc)),
+    Design::new(
+        alloc,
+        BlockList::from_vec(blocks),
+        PadList::from_vec(Vec::new(alloc)),
+        NetList::from_vec(Vec::new(alloc)),
         outline,
-        weights: Weights { area: 1, wire },
-        area_floor: 0,
-    }
+        Weights { area: 1, wire },
+    )
 }
 
 /// A block 2x3 and a block 3x2, area alone.
@@ -109,7 +114,7 @@ pub fn two_blocks(alloc: Global, outline: Outline) -> Result<Design, AllocError>
 {
     let first = block(alloc, NARROW)?;
     let second = block(alloc, FLAT)?;
-    Ok(bare(alloc, vec![in alloc; first, second]?, outline, 0))
+    bare(alloc, vec![in alloc; first, second]?, outline, 0)
 }
 
 /// Two blocks 2x2 and a net of both of this weight.
@@ -118,14 +123,14 @@ pub fn two_squares(alloc: Global, weight: u8) -> Result<Design, AllocError>
 {
     let blocks = vec![in alloc; block(alloc, SQUARE)?, block(alloc, SQUARE)?]?;
     let both = net(alloc, Pin::Block(0), Pin::Block(1), weight)?;
-    Ok(Design {
-        blocks: BlockList::from_vec(blocks),
-        pads: PadList::from_vec(Vec::new(alloc)),
-        nets: NetList::from_vec(vec![in alloc; both]?),
-        outline: WIDE,
-        weights: Weights { area: 1, wire: 1 },
-        area_floor: 0,
-    })
+    Design::new(
+        alloc,
+        BlockList::from_vec(blocks),
+        PadList::from_vec(Vec::new(alloc)),
+        NetList::from_vec(vec![in alloc; both]?),
+        WIDE,
+        Weights { area: 1, wire: 1 },
+    )
 }
 
 /// One block in three shapes, a pad, and a net of both, with wire weight 10.
@@ -136,14 +141,14 @@ pub fn three_shapes(alloc: Global) -> Result<Design, AllocError>
     let block = block_of(alloc, shapes)?;
     let pad = pad(alloc, 10, 0)?;
     let net = net(alloc, Pin::Block(0), Pin::Pad(0), 1)?;
-    Ok(Design {
-        blocks: BlockList::from_vec(vec![in alloc; block]?),
-        pads: PadList::from_vec(vec![in alloc; pad]?),
-        nets: NetList::from_vec(vec![in alloc; net]?),
-        outline: WIDE,
-        weights: Weights { area: 1, wire: 10 },
-        area_floor: 0,
-    })
+    Design::new(
+        alloc,
+        BlockList::from_vec(vec![in alloc; block]?),
+        PadList::from_vec(vec![in alloc; pad]?),
+        NetList::from_vec(vec![in alloc; net]?),
+        WIDE,
+        Weights { area: 1, wire: 10 },
+    )
 }
 
 /// The child with one more token at this place, or the subproblem itself where none stands there.

@@ -16,7 +16,7 @@ impl Served for AnyStretch {
 
 fn one_block(alloc: Global) -> Result<Design, AllocError> {
     let block = block(alloc, Shape { w: 1, h: 1 })?;
-    Ok(bare(alloc, vec![in alloc; block]?, WIDE, 0))
+    bare(alloc, vec![in alloc; block]?, WIDE, 0)
 }
 
 /// A stretch from the root with this floor.

@@ -34,6 +34,8 @@ mod model;
 #[cfg(test)]
 mod node;
 #[cfg(test)]
+mod paths;
+#[cfg(test)]
 mod pl_writer;
 #[cfg(test)]
 mod place;

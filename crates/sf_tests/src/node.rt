@@ -58,7 +58,7 @@ fn three_blocks(alloc: Global, turned: bool) -> Result<(Design, Plan), AllocErro
     let first = block(alloc, NARROW)?;
     let second = block(alloc, NARROW)?;
     let third = block(alloc, NARROW)?;
-    let design = bare(alloc, vec![in alloc; first, second, third]?, WIDE, 0);
+    let design = bare(alloc, vec![in alloc; first, second, third]?, WIDE, 0)?;
     let plan = three_leaves(alloc, NARROW, turned)?;
     Ok((design, plan))
 }
@@ -139,7 +139,7 @@ fn hard_and_turned(alloc: Global) -> Result<(Design, Plan), AllocError>
 {
     let first = block(alloc, NARROW)?;
     let second = block_of(alloc, vec![in alloc; NARROW, FLAT]?)?;
-    let design = bare(alloc, vec![in alloc; first, second]?, WIDE, 0);
+    let design = bare(alloc, vec![in alloc; first, second]?, WIDE, 0)?;
     let plan = narrow_beside_flat(alloc)?;
     Ok((design, plan))
 }

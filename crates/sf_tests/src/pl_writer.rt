@@ -34,14 +34,14 @@ fn one_block(alloc: Global) -> Result<Design, AllocError>
         y: 1205,
     };
     let net = net(alloc, Pin::Block(0), Pin::Pad(1), 1)?;
-    Ok(Design {
-        blocks: BlockList::from_vec(vec![in alloc; block]?),
-        pads: PadList::from_vec(vec![in alloc; alone, pad]?),
-        nets: NetList::from_vec(vec![in alloc; net]?),
-        outline: Outline { w: 25, h: 40 },
-        weights: Weights { area: 1, wire: 1 },
-        area_floor: 0,
-    })
+    Design::new(
+        alloc,
+        BlockList::from_vec(vec![in alloc; block]?),
+        PadList::from_vec(vec![in alloc; alone, pad]?),
+        NetList::from_vec(vec![in alloc; net]?),
+        Outline { w: 25, h: 40 },
+        Weights { area: 1, wire: 1 },
+    )
 }
 
 #[test]

@@ -74,7 +74,7 @@ fn five_squares(alloc: Global) -> Result<Design, AllocError> {
         block(alloc, Shape { w: 4, h: 4 })?,
         block(alloc, Shape { w: 5, h: 5 })?,
     ]?;
-    Ok(bare(alloc, blocks, WIDE, 0))
+    bare(alloc, blocks, WIDE, 0)
 }
 
 /// The squares of the sides 1 to 5 fit into no less than an area of 60 (Korf 2003).
@@ -96,14 +96,14 @@ fn squares_and_pad(alloc: Global) -> Result<Design, AllocError> {
     let blocks = vec![in alloc; block(alloc, SQUARE)?, block(alloc, SQUARE)?]?;
     let pad = pad(alloc, 3, 1)?;
     let net = net(alloc, Pin::Block(0), Pin::Pad(0), 1)?;
-    Ok(Design {
-        blocks: BlockList::from_vec(blocks),
-        pads: PadList::from_vec(vec![in alloc; pad]?),
-        nets: NetList::from_vec(vec![in alloc; net]?),
-        outline: WIDE,
-        weights: Weights { area: 1, wire: 1 },
-        area_floor: 0,
-    })
+    Design::new(
+        alloc,
+        BlockList::from_vec(blocks),
+        PadList::from_vec(vec![in alloc; pad]?),
+        NetList::from_vec(vec![in alloc; net]?),
+        WIDE,
+        Weights { area: 1, wire: 1 },
+    )
 }
 
 /// The first plan costs 8 for its area and 4 for the net, so no area closes its subproblem yet. A later plan

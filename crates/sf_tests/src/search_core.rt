@@ -25,7 +25,7 @@ enum Try {
 /// A block 2x3 or 3x2.
 fn one_block(alloc: Global) -> Result<Design, AllocError> {
     let block = block_of(alloc, vec![in alloc; NARROW, FLAT]?)?;
-    Ok(bare(alloc, vec![in alloc; block]?, WIDE, 0))
+    bare(alloc, vec![in alloc; block]?, WIDE, 0)
 }
 
 /// The bounds of the children that a way of branching makes.

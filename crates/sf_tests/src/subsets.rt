@@ -21,7 +21,7 @@ fn squares(alloc: Global, most: u32) -> Result<Design, AllocError>
         blocks.push(block(alloc, Shape { w: side, h: side })?)?;
     }
     let outline = Outline { w: 1_000, h: 1_000 };
-    Ok(bare(alloc, blocks, outline, 0))
+    bare(alloc, blocks, outline, 0)
 }
 
 /// The published areas of the least rectangles that hold squares of sides 1 to n, which slicing floorplans
@@ -53,7 +53,7 @@ fn least_in(alloc: Global, w: u32, h: u32) -> Result<Option<u64>, AllocError>
 {
     let long = block(alloc, Shape { w: 4, h: 1 })?;
     let small = block(alloc, Shape { w: 1, h: 1 })?;
-    let design = bare(alloc, vec![in alloc; long, small]?, Outline { w, h }, 0);
+    let design = bare(alloc, vec![in alloc; long, small]?, Outline { w, h }, 0)?;
     match least_plan(alloc, &design, None)? {
         Some(least) => Ok(Some(least.area)),
         None => Ok(None),
@@ -78,7 +78,7 @@ fn learned_in(alloc: Global, w: u32, h: u32) -> Result<(u64, bool), AllocError>
 {
     let long = block(alloc, Shape { w: 4, h: 1 })?;
     let small = block(alloc, Shape { w: 1, h: 1 })?;
-    let mut design = bare(alloc, vec![in alloc; long, small]?, Outline { w, h }, 0);
+    let mut design = bare(alloc, vec![in alloc; long, small]?, Outline { w, h }, 0)?;
     let plan = learn_area(alloc, &mut design, None)?;
     Ok((design.area_floor, plan.is_some()))
 }

@@ -2,9 +2,10 @@
 
 ghost use Rattle.std.specs.Prelude.{◌≡◌, ◌∷◌, [], IfOk, length};
 ghost use Rattle.sf_model.specs.Legal.{block_count, shapes_of};
+ghost use Rattle.sf_place.specs.Verdict.{AreLegal};
 
 use crate::designs::{SQUARE, block, net, pad, spot};
-use sf_model::{BlockList, Design, NetList, Outline, PadList, Pin, Plan, Weights};
+use sf_model::{BlockList, Design, NetList, Outline, PadList, Pin, Plan, Spot, Weights};
 use sf_place::{Verdict, check_spots};
 use sf_wire::{cost, net_wire, spots_cost, spots_size, wire};
 use std::alloc::{AllocError, Global};
@@ -26,14 +27,28 @@ fn row(alloc: Global, both: u8, own: u8) -> Result<Design, AllocError>
         net(alloc, Pin::Block(0), Pin::Block(1), both)?,
         net(alloc, Pin::Block(1), Pin::Pad(1), own)?,
     ]?;
-    Ok(Design {
-        blocks: BlockList::from_vec(blocks),
-        pads: PadList::from_vec(pads),
-        nets: NetList::from_vec(nets),
-        outline: Outline { w: 9, h: 9 },
-        weights: Weights { area: 1, wire: 1 },
-        area_floor: 0,
-    })
+    Design::new(
+        alloc,
+        BlockList::from_vec(blocks),
+        PadList::from_vec(pads),
+        NetList::from_vec(nets),
+        Outline { w: 9, h: 9 },
+        Weights { area: 1, wire: 1 },
+    )
+}
+
+/// What the nets of both and of the second block alone take, what all take by their weights, and what a placement
+/// costs.
+fn measured(design: &Design, spots: &[Spot]) -> [u64; 4]
+    requires legal { AreLegal design.now spots.now }
+    requires nets { length design.now.nets ≡ 3 }
+{
+    [
+        net_wire(design, 1, spots),
+        net_wire(design, 2, spots),
+        wire(design, spots),
+        spots_cost(design, spots),
+    ]
 }
 
 #[test]
@@ -44,10 +59,7 @@ fn wires_of_a_row(rt: HostRuntime) -> Result<(), Fail> {
     for (both, own, wires, costs) in [(1u8, 1u8, 24u64, 32u64), (3, 0, 12, 20), (0, 0, 0, 8)] {
         let design = row(alloc, both, own)?;
         assert!(rt; check_spots(&design, &placed) == Verdict::Legal);
-        assert_eq!(rt; net_wire(&design, 1, &placed), 4);
-        assert_eq!(rt; net_wire(&design, 2, &placed), 16);
-        assert_eq!(rt; wire(&design, &placed), wires);
-        assert_eq!(rt; spots_cost(&design, &placed), costs);
+        assert_eq!(rt; measured(&design, &placed), [4, 16, wires, costs]);
     }
     Ok(())
 }

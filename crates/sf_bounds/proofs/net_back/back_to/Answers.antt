@@ -13,6 +13,7 @@ returns-clause-kept c =
     let same = begins-same (map token_of N.frames.items) c.args.tokens.now c.common.result common n fewer in
     record {
       weights = c.requires.weights;
+      lefts = c.requires.lefts;
       ranges = c.requires.ranges;
       pairs = c.requires.pairs;
       stored = stored-back c.args.design.now c.args.tokens.now N.cells.items c.truncate-2.new.self.items N.blocks.items N.start N.frames.items c.truncate.new.self.items n c.end_of-end.result no_frame c.requires.stored

@@ -18,6 +18,7 @@ returns-clause-kept c =
     let count : c.len-below.result ≡ length N.frames.items = omega (arith, c.len-below.ensures) in
     record {
       weights = c.requires.kept.weights;
+      lefts = c.requires.kept.lefts;
       ranges = c.requires.kept.ranges;
       pairs = c.requires.kept.pairs;
       stored = block-pushed D c.args.node.now N.cells.items N.blocks.items N.start N.frames.items c.push.new.self.items c.args.block x x w c.len-below.result c.len-end.result c.requires.subproblem c.requires.kept.stored c.requires.next

@@ -20,6 +20,7 @@ returns-in_err-wires-clause-kept c =
     let N = c.args.nets.now in
     record {
       weights = c.requires.kept.weights;
+      lefts = c.requires.kept.lefts;
       ranges = c.requires.kept.ranges;
       pairs = c.requires.kept.pairs;
       stored = stored-longer c.args.design.now c.args.node.now.tokens N.cells.items c.join_rows.new.cells.items N.blocks.items N.start N.frames.items c.requires.kept.stored c.in_err-wires.ensures.fit c.in_err-wires.ensures.longer;
@@ -40,6 +41,7 @@ returns-in_err-push-clause-kept c =
     let N = c.args.nets.now in
     record {
       weights = c.requires.kept.weights;
+      lefts = c.requires.kept.lefts;
       ranges = c.requires.kept.ranges;
       pairs = c.requires.kept.pairs;
       stored = subst (AreStored c.args.design.now c.args.node.now.tokens c.join_rows.new.cells.items N.blocks.items N.start) (sym c.in_err-push.ensures.items)
@@ -58,6 +60,7 @@ returns-clause-kept c =
     let f = joined_cell N.cells.items c.args.direction l.extent l.row r.row u.at in
     record {
       weights = c.requires.kept.weights;
+      lefts = c.requires.kept.lefts;
       ranges = c.requires.kept.ranges;
       pairs = c.requires.kept.pairs;
       stored = joined-pushed D c.args.node.now N.cells.items N.blocks.items N.start N.frames.items c.args.direction l r c.requires.subproblem c.requires.kept.stored c.requires.next c.top_pair.ensures u c.wires_after-under.ensures

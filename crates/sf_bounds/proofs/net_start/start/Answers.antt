@@ -8,6 +8,7 @@ returns c =
     let D = c.args.design.now in
     record {
       weights = c.in_ok-weights.ensures ∙ ap weights_of c.as_slice.ensures;
+      lefts = c.in_ok-lefts.ensures;
       ranges = c.in_ok-parts.ensures.range ∙ ap (λ n. wires_by D n Range) c.in_ok-node.ensures;
       pairs = c.in_ok-parts.ensures.pair ∙ ap (λ n. wires_by D n Pair) c.in_ok-node.ensures;
       stored = subst (AreStored D [] c.push_start.new.cells.items c.in_ok-blocks.blocks.items (let w : Wires = record { at = c.len-at.result; sum = c.in_ok-sum.sum; hull = 0 } in w)) (sym c.new.ensures.items)

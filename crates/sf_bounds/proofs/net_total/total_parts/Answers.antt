@@ -8,6 +8,6 @@ returns c =
     record {
       range = c.requires.kept.ranges ∙ same-ranges D c.args.node.now c.requires.subproblem c.requires.whole;
       pair = c.requires.kept.pairs ∙ same-pairs D c.args.node.now c.requires.subproblem c.requires.whole;
-      hull = c.totals-full.ensures.hull;
-      full = c.totals-full.ensures.full;
+      hull = c.full_and_hull-full.ensures.hull;
+      full = c.full_and_hull-full.ensures.full;
     }

@@ -1,5 +1,6 @@
-use Rattle.sf_nets.proofs.PartSums.{ArePartsBefore}
+use Rattle.sf_node.specs.declared.part.Part.TheVariants.{Full}
+use Rattle.sf_nets.proofs.PartSums.{ArePartsBefore, IsRestBefore}
 use Rattle.sf_nets.proofs.sums.sum_parts.Given as goal
 
-abbrev pub invariant-loop-net : goal.invariant-loop-net
-invariant-loop-net l = ArePartsBefore l.design l.node l.net-index l.sums
+abbrev pub invariant-loop-number : goal.invariant-loop-number
+invariant-loop-number l = ArePartsBefore l.design l.node l.number l.sums × IsRestBefore l.design l.node Full l.number l.rest

@@ -42,4 +42,4 @@ three-legal design a b d s tree e f g h is =
 pub returns-clause-legal : goal.returns-clause-legal
 returns-clause-legal c =
     three-legal _ c.in_ok-first.first c.in_ok-second.second c.in_ok-third.third (record { w = 2; h = 3 }) _
-    (c.bare-design.ensures ∙ c.in_ok-vec.ensures.items) c.in_ok-first.ensures c.in_ok-second.ensures c.in_ok-third.ensures c.in_ok-plan.ensures.leaves
+    (c.in_ok-design.ensures ∙ c.in_ok-vec.ensures.items) c.in_ok-first.ensures c.in_ok-second.ensures c.in_ok-third.ensures c.in_ok-plan.ensures.leaves

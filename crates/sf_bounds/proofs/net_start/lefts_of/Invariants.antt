@@ -1,0 +1,7 @@
+use Rattle.std.proofs.Common.{◌≡◌, ℕ, map, take}
+use Rattle.std.specs.Prelude.{filter, nat_lt, zip}
+use Rattle.sf_bounds.proofs.Common.{Net}
+use Rattle.sf_bounds.proofs.net_start.lefts_of.Given as goal
+
+abbrev pub invariant-loop-number : goal.invariant-loop-number
+invariant-loop-number l = l.lefts.items ≡ map (λ n. n.0) (filter (λ n. nat_lt 0 n.1.weight) (take l.number (zip l.design.routes.left l.design.nets)))
