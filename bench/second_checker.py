@@ -3,7 +3,7 @@
 
 Written from docs/DEFINITIONS.md and docs/FORMATS.md, it keeps to their words and order and shares nothing else with the
 program. OPTIONS are those of `floorplan check` on a GSRC design, each as `--name value`, and it prints, stores and ends as
-that does, for certificates of both versions that are valid, that are not, and whose text is refused. The design's own texts
+that does, for certificates of each version that are valid, that are not, and whose text is refused. The design's own texts
 must be without a fault. It works slowly and plainly, and isn't for large designs.
 """
 import itertools
@@ -53,8 +53,9 @@ def scaled(word, scale):
 
 
 class Design:
-    """The shapes of each block, the weight and the pins of each net (blocks, and doubled points of pads), the outline and
-    the weights of area and wire."""
+    """The shapes of each block, the doubled points of the pads, the weight and the pins of each net (numbers of blocks and of
+    pads), the outline and the weights of area and wire; and what paths leave of each net's weight, and how far their ends are
+    apart."""
 
     def __init__(self, options):
         self.unit, self.fixed, self.most = int(options.get("per-unit", 1)), "fixed" in options, int(options.get("shapes", 16))
@@ -71,8 +72,10 @@ class Design:
         for words in (line.split() for line in (plain_lines(options["pl"]) if "pl" in options else [])):
             if words[0] in terminals:
                 points[words[0]] = tuple(2 * scaled(word, self.unit) for word in words[1:3])
-        self.nets = self.pin_sets(options, points) if "nets" in options else []
-        knows = options.get("bounds") == "strong" and len(self.shapes) <= MOST_KNOWN
+        self.points = [points[name] for name in terminals] if "pl" in options else []
+        self.nets = self.pin_sets(options, terminals if "pl" in options else []) if "nets" in options else []
+        self.left, self.pull, self.strong = [weight for weight, _, _ in self.nets], 0, options.get("bounds") == "strong"
+        knows = self.strong and len(self.shapes) <= MOST_KNOWN
         self.floor = least_area(self.shapes, self.sides) if knows else 0
 
     def hard(self, words):
@@ -89,7 +92,7 @@ class Design:
         step = (len(allowed) - 1, self.most - 1)
         return allowed if step[0] <= step[1] else [allowed[j * step[0] // step[1]] for j in range(self.most)]
 
-    def pin_sets(self, options, points):
+    def pin_sets(self, options, pads):
         nets = []
         for line in plain_lines(options["nets"]):
             pin = line.split()[0]
@@ -97,13 +100,35 @@ class Design:
                 nets += [(set(), set())] if line.startswith("NetDegree") else []
             elif pin in self.names:
                 nets[-1][0].add(self.names.index(pin))
-            elif pin in points:
-                nets[-1][1].add(pin)
+            elif pin in pads:
+                nets[-1][1].add(pads.index(pin))
         weights = [1] * len(nets)
         for words in (line.split() for line in (content_lines(options["net-weights"]) if "net-weights" in options else [])):
             weights[scaled(words[0], 1)] = scaled(words[1], 1)
-        nets = ((weight, blocks, [points[pad] for pad in pads]) for weight, (blocks, pads) in zip(weights, nets))
-        return [net for net in nets if len(net[1]) + len(net[2]) > 1]
+        return [(weight, *pins) for weight, pins in zip(weights, nets)]
+
+    def take_paths(self, paths):
+        """Tests the paths, across and upward, and takes them into the bound."""
+        number, lefts = 0, []
+        for way, listed in enumerate(paths):
+            left = [weight for weight, _, _ in self.nets]
+            for path in listed:
+                self.take_path(path, left, number)
+                self.pull += max(0, self.points[path[-1]][way] - self.points[path[0]][way])
+                number += 1
+            lefts.append(left)
+        self.left = [min(both) for both in zip(*lefts)]
+
+    def take_path(self, path, left, number):
+        """Takes the nets of a path, which lie between its pins, off what is left of their weights."""
+        ends = [0, len(path) - 1]
+        for at in range(1, len(path), 2):
+            if path[at] >= len(self.nets):
+                say_no("BadPath", number)
+            _, blocks, pads = self.nets[path[at]]
+            if not all(path[pin] in (pads if pin in ends else blocks) for pin in (at - 1, at + 1)) or left[path[at]] == 0:
+                say_no("BadPath", number)
+            left[path[at]] -= 1
 
 
 def undominated(sizes):
@@ -167,8 +192,8 @@ def cost_of(design, tokens, shape):
     w, h, corners = stack.pop()
     wire = 0
     for weight, blocks, pads in design.nets:
-        pins = [tuple(2 * corner + side for corner, side in zip(corners[b], shape[b])) for b in blocks] + pads
-        wire += weight * sum(max(way) - min(way) for way in zip(*pins))
+        pins = [tuple(2 * corner + side for corner, side in zip(corners[b], shape[b])) for b in blocks]
+        wire += weight * sum(max(way) - min(way) for way in zip(*pins, *(design.points[pad] for pad in pads)))
     return design.area_weight * w * h + design.wire_weight * wire if w <= design.sides[0] and h <= design.sides[1] else MAX
 
 
@@ -197,7 +222,7 @@ def joined(design, token, left, right):
 
 def net_parts(design, extents, items, complete, blocks, pads):
     """Range, pair and hull."""
-    points = [[(x, x), (y, y)] for x, y in pads]
+    points = [[(x, x), (y, y)] for x, y in (design.points[pad] for pad in pads)]
     anywhere = [[(low, 2 * side - low) for (low, _), side in zip(extents[b], design.sides)] for b in blocks]
     small = sorted(min(low for low, _ in extents[b]) for b in blocks)
     hull = 0
@@ -210,7 +235,7 @@ def net_parts(design, extents, items, complete, blocks, pads):
 
 def values(design, tokens, spans):
     """What each part of the bound is worth at a subproblem: areas alone, with ranges, with pairs and with hulls, and all of
-    it, which is the standard bound."""
+    it, which is the standard bound, with paths where there are some."""
     shapes = [listed[first:end] for listed, (first, end) in zip(design.shapes, spans)]
     complete = len(tokens) == 2 * len(spans) - 1
     extents = [[(min(sides), max(sides)) for sides in zip(*left)] for left in shapes]
@@ -228,8 +253,11 @@ def values(design, tokens, spans):
         widest, highest = (max(min(size[i] for size in sizes) for sizes in parts) for i in (0, 1))
         area = max(areas, widest * highest, design.floor)
     fits = area <= design.sides[0] * design.sides[1]
-    nets = [(weight, net_parts(design, extents, items, complete, *pins)) for weight, *pins in design.nets if design.wire_weight]
-    wires = [0] + [sum(weight * by[way] for weight, by in nets) for way in range(3)] + [sum(weight * max(by) for weight, by in nets)]
+    parts = [net_parts(design, extents, items, complete, *pins) for _, *pins in design.nets if design.wire_weight]
+    nets = [(weight, by) for (weight, _, _), by in zip(design.nets, parts)]
+    rest = design.pull + sum(left * max(by) for left, by in zip(design.left, parts))
+    whole = max(rest, sum(weight * max(by) for weight, by in nets))
+    wires = [0] + [sum(weight * by[way] for weight, by in nets) for way in range(3)] + [whole]
     worth = [design.area_weight * area + design.wire_weight * wire if fits else MAX for wire in wires]
     if complete and design.wire_weight and all(len(left) == 1 for left in shapes):
         worth[4] = cost_of(design, tokens, [left[0] for left in shapes])
@@ -260,10 +288,35 @@ def read_plan(words, count, line):
     return tokens, shapes
 
 
+def read_paths(lines, number, label, last):
+    """The paths of an axis, each as the numbers of its line, and the number of the line behind them."""
+    if number > len(lines):
+        refuse("BadHeader", last)
+    form = re.fullmatch("%s[ \t\r]+%s" % (label, NUMBER), lines[number - 1].strip(" \t\r"))
+    if not form or int(form.group(1)) > MAX:
+        refuse("BadHeader", number)
+    paths = []
+    for number in range(number + 1, number + 1 + int(form.group(1))):
+        if number > len(lines):
+            refuse("BadHeader", last)
+        words = re.findall(r"[^ \t\r]+", lines[number - 1])
+        numbers = [int(word) if re.fullmatch(NUMBER, word) else MAX for word in words]
+        if len(words) < 3 or len(words) % 2 == 0 or max(numbers[::2]) > 65_535 or max(numbers[1::2]) > 4_294_967_295:
+            refuse("BadHeader", number)
+        paths.append(numbers)
+    return paths, number + 1
+
+
 def read_header(lines, count, last):
-    """The version, the stated cost and bound, and the plan or None."""
-    values = {}
-    for number, label in enumerate(("slicing-certificate", "blocks", "cost", "bound", "plan", "tree"), 1):
+    """The version, the stated cost and bound, the plan or None, the paths across and upward, and the number of the line behind
+    the header."""
+    values, paths, number = {}, ([], []), 0
+    for label in ("slicing-certificate", "blocks", "cost", "bound", "plan", "tree"):
+        number += 1
+        if label == "tree" and values["slicing-certificate"] == 3:
+            across, number = read_paths(lines, number, "across", last)
+            upward, number = read_paths(lines, number, "upward", last)
+            paths = (across, upward)
         if number > len(lines):
             refuse("BadHeader", last)
         word, *rest = re.findall(r"[^ \t\r]+", lines[number - 1]) or [""]
@@ -273,12 +326,12 @@ def read_header(lines, count, last):
             values[label] = None if rest == ["none"] else read_plan(rest, count, number)
         elif rest == ["none"] or rest and re.fullmatch(NUMBER, rest[0]) and int(rest[0]) < MAX:
             values[label] = MAX if rest == ["none"] else int(rest[0])
-        wanted = {"slicing-certificate": (1, 2), "blocks": (count,)}.get(label, (values.get(label),))
+        wanted = {"slicing-certificate": (1, 2, 3), "blocks": (count,)}.get(label, (values.get(label),))
         if rest and label not in values or values.get(label) not in wanted:
             refuse("BadHeader", number)
         if label == "plan" and (values["plan"] is None) != (values["cost"] == MAX):
             refuse("BadHeader", number)
-    return values["slicing-certificate"], values["cost"], values["bound"], values["plan"]
+    return values["slicing-certificate"], values["cost"], values["bound"], values["plan"], paths, number + 1
 
 
 def read_tree(words, count, version, last):
@@ -287,7 +340,7 @@ def read_tree(words, count, version, last):
     for word, line in words:
         if not waiting:
             refuse("Trailing", line)
-        second = {"S": "[0-9]{1,20}", "C": "[%s]" % LETTERS if version == 2 else ""}.get(word, "")
+        second = {"S": "[0-9]{1,20}", "C": "[%s]" % LETTERS if version > 1 else ""}.get(word, "")
         named = next(words, (None,))[0] if second else ""
         if named is None:
             break
@@ -334,11 +387,15 @@ def walk(design, tags, cost):
     return least, named
 
 
-def written(count, cost, bound, plan, tags):
-    """The text of a certificate, of version 2."""
-    header = ["slicing-certificate 2", "blocks %d" % count, "cost " + said(cost), "bound " + said(bound)]
+def written(count, cost, bound, plan, paths, tags):
+    """The text of a certificate, of version 2, or of version 3 where it has paths."""
+    version = 3 if any(paths) else 2
+    header = ["slicing-certificate %d" % version, "blocks %d" % count, "cost " + said(cost), "bound " + said(bound)]
     words = [str(token) if token in ("*", "+") else "%d:%dx%d" % (token, *plan[1][token]) for token in plan[0]] if plan else ["none"]
-    lines = header + [" ".join(["plan"] + words), "tree"] + [tag if tag in "EO" else "%s %s" % (tag, named) for tag, named in tags]
+    header.append(" ".join(["plan"] + words))
+    for label, listed in zip(("across", "upward"), paths) if any(paths) else []:
+        header += ["%s %d" % (label, len(listed))] + [" ".join(map(str, path)) for path in listed]
+    lines = header + ["tree"] + [tag if tag in "EO" else "%s %s" % (tag, named) for tag, named in tags]
     return "".join(line + "\n" for line in lines)
 
 
@@ -346,21 +403,23 @@ def check(design, text, rewrite):
     words = [(word, number) for number, line in enumerate(text.split("\n"), 1) for word in re.findall(r"[^ \t\r]+", line)]
     last = words[-1][1] if words else 0
     lines = text.removesuffix("\n").split("\n") if text else []
-    version, cost, bound, plan = read_header(lines, len(design.shapes), last)
-    tags = read_tree([(word, line) for word, line in words if line > 6], len(design.shapes), version, last)
+    version, cost, bound, plan, paths, first = read_header(lines, len(design.shapes), last)
+    tags = read_tree([(word, line) for word, line in words if line >= first], len(design.shapes), version, last)
     if plan:
         costs = cost_of(design, *plan)
         if costs == MAX or any(plan[1][b] not in listed for b, listed in enumerate(design.shapes)):
             say_no("BadPlan")
         if costs != cost:
             say_no("CostDiffers", said(cost), said(costs))
+    if design.strong:
+        design.take_paths(paths)
     least, named = walk(design, tags, cost)
     if least != bound:
         say_no("BoundDiffers", said(bound), said(least))
     decided = sum(tag != "O" for tag, _ in tags)
     if rewrite:
         with open(rewrite, "w") as file:
-            file.write(written(len(design.shapes), cost, bound, plan, named))
+            file.write(written(len(design.shapes), cost, bound, plan, paths, named))
     raise Ended(0, "status Yes\ncost %s\nbound %s\ndecided %d" % (said(cost), said(bound), decided))
 
 

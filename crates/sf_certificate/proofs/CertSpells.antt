@@ -7,15 +7,15 @@ use Rattle.sf_certificate.proofs.TreeReads.{read-spells}
 module _ (blocks last : ℕ) (said : Said) where
   -- the tags that are read spell a tree, behind a header
   said-tags : (header : Header) (words : List LineWord) (r : Result (List Tag) CertFault) → tree_read header.version blocks last words ≡ r
-      → (r >>= λ tags. Ok (record { blocks = blocks; plan = header.plan; cost = header.cost; bound = header.bound; tags = tags })) ≡ Ok said → spell_tree blocks said.tags ≡ true
+      → (r >>= λ tags. Ok (record { blocks = blocks; plan = header.plan; cost = header.cost; bound = header.bound; paths = header.paths; tags = tags })) ≡ Ok said → spell_tree blocks said.tags ≡ true
   said-tags header words (Ok tags) t e =
-      let same : record { blocks = blocks; plan = header.plan; cost = header.cost; bound = header.bound; tags = tags } ≡ said = cc in
+      let same : record { blocks = blocks; plan = header.plan; cost = header.cost; bound = header.bound; paths = header.paths; tags = tags } ≡ said = cc in
       subst (λ ts. spell_tree blocks ts ≡ true) (ap (λ (s : Said). s.tags) same) (read-spells blocks last (tags_said header.version last None words) (first_place ∷ []) tags t)
   said-tags header words (Err fault) t e = absurd (cc)
 
   -- whatever the header is
   said-header : (r : Result Header CertFault)
-      → (r >>= λ header. tree_read header.version blocks last (words_of_lines header.others) >>= λ tags. Ok (record { blocks = blocks; plan = header.plan; cost = header.cost; bound = header.bound; tags = tags })) ≡ Ok said
+      → (r >>= λ header. tree_read header.version blocks last (words_of_lines header.others) >>= λ tags. Ok (record { blocks = blocks; plan = header.plan; cost = header.cost; bound = header.bound; paths = header.paths; tags = tags })) ≡ Ok said
       → spell_tree blocks said.tags ≡ true
   said-header (Ok header) e = said-tags header (words_of_lines header.others) (tree_read header.version blocks last (words_of_lines header.others)) refl e
   said-header (Err fault) e = absurd (cc)

@@ -1,17 +1,19 @@
 -- The imports that the proof files of this crate share.
-pub use Rattle.sf_certificate.specs.Bytes.{Bytewise, IsHeader, begun_word, bytes_on, first_byte, past_blank, said_with, words_on}
+pub use Rattle.sf_certificate.specs.Bytes.{Bytewise, IsHeader, IsOther, IsPart, IsTree, begun_word, bytes_on, ended_from, first_byte, open_from, past_blank, said_with, words_on}
 pub use Rattle.sf_certificate.specs.Form.{IsFormed, no_plan}
 pub use Rattle.sf_certificate.specs.Marks.{IsFair, given_marks, made, marks, tag_of, waiting_after}
 pub use Rattle.sf_certificate.specs.Places.{after_block, after_operator, ending_of, ending_or, extended_places, first_place, is_above, is_beside, is_full, may_above, may_beside, one_deeper, place_of, places_under, spell_tree, spell_trees, when_so}
 pub use Rattle.sf_certificate.specs.Reader.{Reader, read_on, with_some, with_tags}
-unfoldable pub use Rattle.sf_certificate.specs.Reading.{cert_read, header_read, tags_said, tree_from}
-pub use Rattle.sf_certificate.specs.Reading.{Header, Said, agreeing, by_letter, closed_by, cost_in, cost_of_word, exactly, letter_of, line_by, line_read, number_in, only_word, part_of, plan_in, plan_of_rest, plan_or, plan_read, said_by, second_by, split_by, tag_at, tag_by, tree_read, value_after, value_in, version_in, version_of, version_of_word, with_tag, word_in}
+unfoldable pub use Rattle.sf_certificate.specs.Reading.{cert_read, header_read, paths_read, tags_said, tree_from}
+pub use Rattle.sf_certificate.specs.Reading.{Header, Said, agreeing, axis_read, both_read, by_letter, closed_by, cost_in, cost_of_word, count_in, exactly, letter_of, line_by, line_read, number_in, only_word, part_of, path_by, path_in, path_said, pin_before, plan_in, plan_of_rest, plan_or, plan_read, plan_said, said_by, second_by, split_by, step_by, step_in, steps_said, tag_at, tag_by, tree_read, value_after, value_in, version_in, version_of, version_of_word, with_step, with_tag, word_in}
 pub use Rattle.sf_certificate.specs.Text.{FitsTag, cert_text, header_lines, plan_text, tag_text, text_of_lines}
 pub use Rattle.sf_certificate.specs.Valid.{AreTrees, HasCost, IsValid, decided, least, left_open, one_decided}
 pub use Rattle.sf_certificate.specs.declared.cert.Cert.{Cert}
 pub use Rattle.sf_certificate.specs.declared.fault.CertFault.{CertFault}
 pub use Rattle.sf_certificate.specs.declared.fault.CertFault.TheVariants.{NoMemory, TooDeep, Trailing, Truncated}
 pub use Rattle.sf_certificate.specs.declared.mark.Mark.{Mark}
+pub use Rattle.sf_model.specs.declared.paths.Path.{Path}
+pub use Rattle.sf_model.specs.declared.paths.Paths.{Paths}
 pub use Rattle.sf_certificate.specs.declared.place.Place.{Place}
 pub use Rattle.sf_certificate.specs.declared.tag.Tag.{Tag}
 pub use Rattle.sf_certificate.specs.declared.tag.Tag.TheVariants.{Closed, Extend, Open, Split}

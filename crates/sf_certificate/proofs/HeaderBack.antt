@@ -1,6 +1,6 @@
 -- A header that was written is read as it was.
-use Rattle.std.proofs.Common.{◌≡◌, ℕ, ◌^◌, ◌<◌, List, [], ◌∷◌, ◌++◌, length, map, arith, refl, ap, sym, ◌∙◌, Bool, true, false, cond, ◌==◌, Option, Some, None, Ok}
-use Rattle.sf_certificate.proofs.Common.{codes, filter, AllByRecursion, list_all, join_with_byte, slice_split, onto_first, decimal, nat_tests, decimal_nonempty, recursion_from_All, is_line_feed, is_blank_byte, has_none, is_not_empty, LineWord, and_parts, eqb-true, eq-eqb, words-blank, Expr, Token, shaped_text, expr_text, IsWritable, Two, no_plan, plan_text, value_after, value_in, version_of, version_of_word, version_in, exactly, number_in, cost_of_word, cost_in, only_word, word_in, plan_read, plan_or, agreeing, plan_of_rest, plan_in}
+use Rattle.std.proofs.Common.{◌≡◌, ℕ, ◌^◌, ◌<◌, ◌≤◌, List, [], ◌∷◌, ◌++◌, length, map, arith, refl, ap, sym, ◌∙◌, Bool, true, false, cond, ◌==◌, Option, Some, None, Ok}
+use Rattle.sf_certificate.proofs.Common.{codes, filter, AllByRecursion, list_all, join_with_byte, slice_split, onto_first, decimal, nat_tests, decimal_nonempty, recursion_from_All, is_line_feed, is_blank_byte, has_none, is_not_empty, LineWord, and_parts, eqb-true, eq-eqb, words-blank, Expr, Token, shaped_text, expr_text, IsWritable, no_plan, plan_text, value_after, value_in, version_of, version_of_word, version_in, exactly, number_in, cost_of_word, cost_in, count_in, only_word, word_in, plan_read, plan_or, agreeing, plan_of_rest, plan_in}
 use Rattle.std.specs.Option.{option_and_then}
 use Rattle.std.specs.Str.{bytes_eq}
 use Rattle.sf_model.specs.declared.TheConstants.{MAX}
@@ -31,11 +31,17 @@ number-back label n e a b h =
     ∙ ap (exactly n) (plain_written n n h (omega arith))
     ∙ ap (λ t. cond t (Some n) None) (eq-eqb n n refl)
 
--- what is written is of the second version
-pub version-back : (label : List ℕ) → bytes_eq label label ≡ true → 0 < length label → has_none is_blank_byte label ≡ true → version_in label (label ++ 32 ∷ decimal 2) ≡ Some Two
-version-back label e a b =
-    ap (option_and_then version_of_word) (value-back label (decimal 2) e a b (decimal_nonempty 2 (omega arith)) (decimal-solid 2 (omega arith)))
-    ∙ ap (option_and_then version_of) (plain_written 2 2 (omega arith) (omega arith))
+-- a version behind a label is read as that of its number
+pub version-back : (label : List ℕ) (n : ℕ) → bytes_eq label label ≡ true → 0 < length label → has_none is_blank_byte label ≡ true → n ≤ 3 → version_in label (label ++ 32 ∷ decimal n) ≡ version_of n
+version-back label n e a b h =
+    ap (option_and_then version_of_word) (value-back label (decimal n) e a b (decimal_nonempty n (omega (arith, h))) (decimal-solid n (omega (arith, h))))
+    ∙ ap (option_and_then version_of) (plain_written n 3 (omega (arith, h)) h)
+
+-- a count behind a label is read as it is
+pub count-back : (label : List ℕ) (n : ℕ) → bytes_eq label label ≡ true → 0 < length label → has_none is_blank_byte label ≡ true → n < 2 ^ 64 → count_in label (label ++ 32 ∷ decimal n) ≡ Some n
+count-back label n e a b h =
+    ap (option_and_then (plain_read 18446744073709551615)) (value-back label (decimal n) e a b (decimal_nonempty n h) (decimal-solid n h))
+    ∙ plain_written n 18446744073709551615 h (omega (arith, h))
 
 -- a digit is no blank, and not the first letter of `none`
 digit-other : (d : ℕ) → is_digit d ≡ true → (is_blank_byte d ≡ false) × ((d == 110) ≡ false)

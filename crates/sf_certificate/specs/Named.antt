@@ -40,4 +40,5 @@ pub record AreAlikeButNames (old new : Cert) : Type 0 where
   pub plan : new.plan ≡ old.plan
   pub cost : new.cost ≡ old.cost
   pub bound : new.bound ≡ old.bound
+  pub paths : new.paths ≡ old.paths
   pub tags : map unnamed new.tags ≡ map unnamed old.tags

@@ -1,6 +1,6 @@
--- What a text of either version is read as: the certificate that it spells, or its first fault.
-use Rattle.std.specs.Prelude.{◌≡◌, ℕ, ◌==◌, nat_lt, List, [], ◌∷◌, ◌++◌, codes, Option, Some, None, Result, Ok, Err, if◌then◌else◌}
-use Rattle.std.specs.Option.{option_and_then}
+-- What a text of any version is read as: the certificate that it spells, or its first fault.
+use Rattle.std.specs.Prelude.{◌≡◌, ℕ, zero, suc, ◌==◌, nat_lt, List, [], ◌∷◌, ◌++◌, codes, Option, Some, None, Result, Ok, Err, if◌then◌else◌}
+use Rattle.std.specs.Option.{option_and_then, option_map}
 use Rattle.std.specs.Str.{bytes_eq}
 use Rattle.sf_lex.specs.Text.{lines, words, is_blank_byte}
 use Rattle.sf_lex.specs.Scan.{Line, LineWord, numbered, words_of_lines, last_line_of}
@@ -9,6 +9,8 @@ use Rattle.sf_lex.specs.declared.field.Gap.TheVariants.{Blanks}
 use Rattle.sf_lex.specs.Whole.{whole_read, plain_read}
 use Rattle.sf_lex.specs.Results.{◌>>=◌}
 use Rattle.sf_model.specs.declared.TheConstants.{MAX}
+use Rattle.sf_model.specs.declared.parts.Pin.{Pin}
+use Rattle.sf_model.specs.declared.parts.Pin.TheVariants.{Block, Pad}
 use Rattle.sf_polish.specs.declared.expr.Expr.{Expr}
 use Rattle.sf_polish.specs.declared.fault.ExprFault.{ExprFault}
 use Rattle.sf_polish.specs.Reading.{expr_read}
@@ -23,11 +25,14 @@ use Rattle.sf_certificate.specs.declared.letter.Letter.TheVariants.{Whole, First
 use Rattle.sf_certificate.specs.declared.letter.Second.{Second}
 use Rattle.sf_certificate.specs.declared.letter.TagSaid.{TagSaid}
 use Rattle.sf_certificate.specs.declared.letter.Second.TheVariants as second
+use Rattle.sf_model.specs.declared.paths.Path.{Path}
+use Rattle.sf_model.specs.declared.paths.Paths.{Paths}
+use Rattle.sf_model.specs.declared.paths.Step.{Step as PathStep}
 use Rattle.sf_certificate.specs.declared.place.Place.{Place}
 use Rattle.sf_certificate.specs.declared.tag.Tag.{Tag}
 use Rattle.sf_certificate.specs.declared.tag.Tag.TheVariants.{Extend, Split, Closed, Open}
 use Rattle.sf_certificate.specs.declared.version.Version.{Version}
-use Rattle.sf_certificate.specs.declared.version.Version.TheVariants.{One, Two}
+use Rattle.sf_certificate.specs.declared.version.Version.TheVariants.{One, Two, Three}
 use Rattle.sf_certificate.specs.Places.{first_place, places_under}
 
 -- ---- the header: each line by itself
@@ -45,11 +50,11 @@ value_in label line = value_after label (words is_blank_byte line)
 
 -- the version that is named by a number
 abbrev pub version_of : ℕ → Option Version
-version_of n = if n == 1 then Some One else (if n == 2 then Some Two else None)
+version_of n = if n == 1 then Some One else (if n == 2 then Some Two else (if n == 3 then Some Three else None))
 
--- 1 or 2, without zeros at the front
+-- 1, 2 or 3, without zeros at the front
 abbrev pub version_of_word : List ℕ → Option Version
-version_of_word word = option_and_then version_of (plain_read 2 word)
+version_of_word word = option_and_then version_of (plain_read 3 word)
 
 -- a label and a version
 abbrev pub version_in : List ℕ → List ℕ → Option Version
@@ -110,6 +115,55 @@ plan_said blocks line = if bytes_eq (first_word Blanks line) (codes "plan") then
 abbrev pub plan_in : ℕ → ℕ → List ℕ → Option (Option Expr)
 plan_in blocks cost line = agreeing cost (plan_said blocks line)
 
+-- a label and a count, without zeros at the front
+abbrev pub count_in : List ℕ → List ℕ → Option ℕ
+count_in label line = option_and_then (plain_read 18_446_744_073_709_551_615) (value_in label line)
+
+-- ---- the header: the line of a path
+
+-- the pin of a number, by the words behind it: a pad at the end of a line, and else a block
+abbrev pub pin_before : List (List ℕ) → ℕ → Pin
+pin_before [] n = Pad n
+pin_before (word ∷ words) n = Block n
+
+-- a step, where there are a net and a pin
+abbrev pub step_by : Option ℕ → Option Pin → Option PathStep
+step_by None to = None
+step_by (Some net) None = None
+step_by (Some net) (Some to) = Some (record { net = net; to = to })
+
+-- the step that a net and a pin say, by the words behind them
+abbrev pub step_in : List ℕ → List ℕ → List (List ℕ) → Option PathStep
+step_in net to words = step_by (plain_read 4_294_967_295 net) (option_map (pin_before words) (plain_read 65_535 to))
+
+-- a step in front of those that follow
+abbrev pub with_step : Option PathStep → Option (List PathStep) → Option (List PathStep)
+with_step None steps = None
+with_step (Some s) None = None
+with_step (Some s) (Some steps) = Some (s ∷ steps)
+
+-- the steps that words say, a net and a pin by turns
+abbrev pub steps_said : List (List ℕ) → Option (List PathStep)
+steps_said [] = Some []
+steps_said (net ∷ []) = None
+steps_said (net ∷ to ∷ words) = with_step (step_in net to words) (steps_said words)
+
+-- a path of a step at least
+abbrev pub path_by : Option ℕ → Option (List PathStep) → Option Path
+path_by None steps = None
+path_by (Some pad) None = None
+path_by (Some pad) (Some []) = None
+path_by (Some pad) (Some (s ∷ steps)) = Some (record { first = Pad pad; steps = s ∷ steps })
+
+-- the path that words say
+abbrev pub path_said : List (List ℕ) → Option Path
+path_said [] = None
+path_said (pad ∷ words) = path_by (plain_read 65_535 pad) (steps_said words)
+
+-- a line of a path
+abbrev pub path_in : List ℕ → Option Path
+path_in line = path_said (words is_blank_byte line)
+
 -- ---- the header: one line after another
 
 -- a line that stands as shown gives its value, and the lines behind it are left
@@ -127,15 +181,39 @@ abbrev pub ReadsLine : {X Y : Type 0} → ℕ → (List ℕ → Option X) → (Y
 ReadsLine last rule value old new (Ok y) = line_read last rule old ≡ Ok (value y, new)
 ReadsLine last rule value old new (Err fault) = line_read last rule old ≡ Err fault
 
+-- so many lines, each of a path
+unfoldable pub paths_read : ℕ → ℕ → List Line → Result (List Path × List Line) CertFault
+paths_read last zero all = Ok ([], all)
+paths_read last (suc n) all = do
+  path ← line_read last path_in all
+  others ← paths_read last n path.1
+  Ok (path.0 ∷ others.0, others.1)
+
+-- the lines of an axis: how many paths it has, and these
+abbrev pub axis_read : ℕ → List ℕ → List Line → Result (List Path × List Line) CertFault
+axis_read last label all = do
+  count ← line_read last (count_in label) all
+  paths_read last count.0 count.1
+
+-- the paths of a version: the first two have none
+abbrev pub both_read : Version → ℕ → List Line → Result (Paths × List Line) CertFault
+both_read One last all = Ok (record { across = []; upward = [] }, all)
+both_read Two last all = Ok (record { across = []; upward = [] }, all)
+both_read Three last all = do
+  across ← axis_read last (codes "across") all
+  upward ← axis_read last (codes "upward") across.1
+  Ok (record { across = across.0; upward = upward.0 }, upward.1)
+
 -- what the header says, and the lines behind it
 pub record Header : Type 0 where
   pub version : Version
   pub plan : Option Expr
   pub cost : ℕ
   pub bound : ℕ
+  pub paths : Paths
   pub others : List Line
 
--- the six lines in turn
+-- its lines in turn
 unfoldable pub header_read : ℕ → ℕ → List Line → Result Header CertFault
 header_read blocks last all = do
   title ← line_read last (version_in (codes "slicing-certificate")) all
@@ -143,15 +221,17 @@ header_read blocks last all = do
   cost ← line_read last (cost_in (codes "cost")) count.1
   bound ← line_read last (cost_in (codes "bound")) cost.1
   plan ← line_read last (plan_in blocks cost.0) bound.1
-  tree ← line_read last (word_in (codes "tree")) plan.1
-  Ok (record { version = title.0; plan = plan.0; cost = cost.0; bound = bound.0; others = tree.1 })
+  paths ← both_read title.0 last plan.1
+  tree ← line_read last (word_in (codes "tree")) paths.1
+  Ok (record { version = title.0; plan = plan.0; cost = cost.0; bound = bound.0; paths = paths.0; others = tree.1 })
 
 -- ---- the tree
 
--- what a `C` says: in the first version all of a tag, and in the second a part is to be named
+-- what a `C` says: in the first version all of a tag, and in the later ones a part is to be named
 abbrev pub closed_word : Version → Letter
 closed_word One = Whole (Closed Full)
 closed_word Two = First second.Part
+closed_word Three = First second.Part
 
 -- what a word of this one byte says as the first of a tag
 abbrev pub letter_by : Version → ℕ → Option Letter
@@ -245,15 +325,16 @@ pub record Said : Type 0 where
   pub plan : Option Expr
   pub cost : ℕ
   pub bound : ℕ
+  pub paths : Paths
   pub tags : List Tag
 
 -- what a certificate says
 abbrev pub said_by : Cert → Said
-said_by cert = record { blocks = cert.blocks; plan = cert.plan; cost = cert.cost; bound = cert.bound; tags = cert.tags }
+said_by cert = record { blocks = cert.blocks; plan = cert.plan; cost = cert.cost; bound = cert.bound; paths = cert.paths; tags = cert.tags }
 
 -- the header, and then the tree
 unfoldable pub cert_read : ℕ → List ℕ → Result Said CertFault
 cert_read blocks text = do
   header ← header_read blocks (last_line_of text) (numbered 1 (lines text))
   tags ← tree_read header.version blocks (last_line_of text) (words_of_lines header.others)
-  Ok (record { blocks = blocks; plan = header.plan; cost = header.cost; bound = header.bound; tags = tags })
+  Ok (record { blocks = blocks; plan = header.plan; cost = header.cost; bound = header.bound; paths = header.paths; tags = tags })

@@ -1,6 +1,6 @@
 //! The header of a certificate's text, line by line.
 
-ghost use Rattle.std.specs.Prelude.{◌≡◌, ◌≢◌, ◌==◌, [], ◌∷◌, if◌then◌else◌, IfOk, IfErr, MatchOption};
+ghost use Rattle.std.specs.Prelude.{◌≡◌, ◌≢◌, ◌==◌, [], ◌∷◌, if◌then◌else◌, IfOk, IfErr, IsTrue, MatchOption};
 ghost use Rattle.std.specs.Prelude.{Ok, Err, Some, None, ⊤};
 ghost use Rattle.std.specs.Option.{option_copied};
 ghost use Rattle.sf_lex.specs.Whole.{plain_read};
@@ -9,14 +9,16 @@ ghost use Rattle.sf_model.specs.declared.TheConstants.{MAX};
 ghost use Rattle.sf_polish.specs.Text.{IsWritable};
 ghost use Rattle.sf_certificate.specs.declared.fault.CertFault.TheVariants.{BadHeader, NoMemory};
 ghost use Rattle.sf_certificate.specs.Form.{no_plan};
+ghost use Rattle.sf_certificate.specs.Paths.{all_lead};
 ghost use Rattle.sf_certificate.specs.Reading.{value_in, version_of, version_of_word, version_in, number_in};
 ghost use Rattle.sf_certificate.specs.Reading.{cost_of_word, cost_in, word_in, plan_said, plan_in, line_read};
 ghost use Rattle.sf_certificate.specs.Reading.{header_read, exactly, ReadsLine};
 
 use crate::fault::CertFault;
+use crate::path_reading::read_paths;
 use crate::version::Version;
 use sf_lex::{Gap, Scan, Word, last_line, next_field, read_plain, split_word};
-use sf_model::MAX;
+use sf_model::{MAX, Paths};
 use sf_polish::{Expr, ExprFault, read_expr};
 use std::alloc::Global;
 
@@ -27,9 +29,10 @@ pub struct Header {
     pub plan: Option<Expr>,
     pub cost: u64,
     pub bound: u64,
+    pub paths: Paths,
 }
 
-/// The six lines of the header.
+/// The lines of the header.
 pub fn read_header(
     alloc: Global,
     scan: &mut Scan,
@@ -42,9 +45,11 @@ pub fn read_header(
           plan = h.plan;
           cost = h.cost;
           bound = h.bound;
+          paths = h.paths;
           others = numbered_rest scan.new;
         })) }
     ensures agrees { IfOk result (λ h. no_plan h.plan ≡ (h.cost == MAX)) }
+    ensures lead { IfOk result (λ h. IsTrue (all_lead h.paths)) }
     ensures writable { IfOk result (λ h. MatchOption h.plan ⊤ (IsWritable blocks)) }
     ensures fault { IfErr result (λ e. e ≢ NoMemory
         → header_read blocks (last_line_of text.now) (numbered_rest scan.old) ≡ Err e) }
@@ -54,12 +59,14 @@ pub fn read_header(
     let cost = read_cost(scan, text, b"cost")?;
     let bound = read_cost(scan, text, b"bound")?;
     let plan = read_plan(alloc, scan, text, blocks, cost)?;
+    let paths = read_paths(alloc, scan, text, version)?;
     read_only(scan, text, b"tree")?;
     Ok(Header {
         version,
         plan,
         cost,
         bound,
+        paths,
     })
 }
 
@@ -157,7 +164,7 @@ fn plan_of_line(alloc: Global, line: &Word, blocks: u16) -> Result<Option<Expr>,
 }
 
 /// The next line; one that isn't there is missed at the last line of the text.
-fn next_line<'a>(scan: &mut Scan<'a>, text: &[u8]) -> Result<Word<'a>, CertFault>
+pub fn next_line<'a>(scan: &mut Scan<'a>, text: &[u8]) -> Result<Word<'a>, CertFault>
     ensures line { IfOk result (λ line. numbered_rest scan.old ≡ line_of line ∷ numbered_rest scan.new) }
     ensures fault { IfErr result (λ e. (e ≡ BadHeader (last_line_of text.now))
         × (numbered_rest scan.old ≡ [])) }
@@ -169,7 +176,7 @@ fn next_line<'a>(scan: &mut Scan<'a>, text: &[u8]) -> Result<Word<'a>, CertFault
 }
 
 /// The word behind a label, in a line of the two.
-fn value_in<'a>(line: &'a [u8], label: &[u8]) -> Option<&'a [u8]>
+pub fn value_in<'a>(line: &'a [u8], label: &[u8]) -> Option<&'a [u8]>
     ensures { option_copied result ≡ value_in label.now line.now }
 {
     let (first, rest) = next_field(line, Gap::Blanks)?;
@@ -195,7 +202,7 @@ fn version_in(line: &[u8], label: &[u8]) -> Option<Version>
 fn version_of_word(word: &[u8]) -> Option<Version>
     ensures { result ≡ version_of_word word.now }
 {
-    match read_plain(word, 2) {
+    match read_plain(word, 3) {
         Some(number) => version_of(number),
         None => None,
     }
@@ -208,6 +215,7 @@ fn version_of(number: u64) -> Option<Version>
     match number {
         1 => Some(Version::One),
         2 => Some(Version::Two),
+        3 => Some(Version::Three),
         _ => None,
     }
 }
@@ -254,7 +262,7 @@ fn cost_of_word(word: &[u8]) -> Option<u64>
 }
 
 /// Whether the line is this word alone.
-fn is_only(line: &[u8], word: &[u8]) -> bool
+pub fn is_only(line: &[u8], word: &[u8]) -> bool
     ensures { (if result then Some word.now else None) ≡ word_in word.now line.now }
 {
     match next_field(line, Gap::Blanks) {

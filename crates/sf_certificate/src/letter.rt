@@ -57,7 +57,7 @@ fn closed_word(version: Version) -> Letter
 {
     match version {
         Version::One => Letter::Whole(Tag::Closed(Part::Full)),
-        Version::Two => Letter::First(Second::Part),
+        Version::Two | Version::Three => Letter::First(Second::Part),
     }
 }
 

@@ -1,7 +1,9 @@
 //! The text of a certificate up to the end of its header.
 
 ghost use Rattle.std.specs.Prelude.{◌≡◌, ◌≢◌, ◌==◌, ℕ, List, ◌∷◌, ◌++◌, [], IfOk, IfErr, MatchOption, IsTrue};
-ghost use Rattle.std.specs.Prelude.{IsFalse, ⊤, Ok, Err};
+ghost use Rattle.std.specs.Prelude.{IsFalse, ⊤, Ok, Err, ◌≤◌, length};
+ghost use Rattle.std.specs.List.{count_by};
+ghost use Rattle.sf_lex.specs.Text.{is_line_feed};
 ghost use Rattle.sf_model.specs.declared.TheConstants.{MAX};
 ghost use Rattle.sf_polish.specs.Text.{IsWritable};
 ghost use Rattle.sf_certificate.specs.declared.fault.CertFault.TheVariants.{NoMemory};
@@ -11,32 +13,36 @@ ghost use Rattle.sf_certificate.specs.Reading.{cert_read};
 
 use crate::bytes::ByteReader;
 use crate::fault::CertFault;
-use crate::header::{Header, read_header};
+use crate::header::{Header, is_only, read_header};
 use sf_lex::{Scan, last_line};
 use std::alloc::{AllocError, Global};
 use std::marker::Model;
 
-/// How many lines the header has.
-const HEADER_LINES: u64 = 6;
-
-/// The bytes of a text so far, of which the header has not ended yet or ends with the last. Contracts see the
-/// bytes.
+/// The bytes of a text so far, of which the header has not ended yet or ends with the last, and where their
+/// last line begins. Contracts see the bytes.
 #[derive(Drop)]
 pub struct Opening {
     text: Vec<u8>,
-    lines: u64,
+    line: usize,
 }
 
 impl Model for Opening {
-    ghost use Rattle.std.specs.Prelude.{◌≡◌, ℕ, List};
-    ghost use Rattle.std.specs.List.{count_by};
-    ghost use Rattle.sf_lex.specs.Text.{is_line_feed};
+    ghost use Rattle.std.specs.Prelude.{◌≡◌, ◌≤◌, ℕ, [], List, length, drop};
+    ghost use Rattle.sf_certificate.specs.Bytes.{open_from};
 
     ghost Value = { List ℕ };
 
     ghost view = { λ o. o.text.items };
 
-    ghost invariant = { λ o. o.lines ≡ count_by is_line_feed o.text.items };
+    ghost invariant = { λ o. (o.line ≤ length o.text.items) × (drop o.line o.text.items ≡ open_from [] o.text.items) };
+}
+
+/// How many lines LF ends.
+fn line_count(text: &[u8]) -> u64
+    ensures count { result ≡ count_by is_line_feed text.now }
+    ensures bound { result ≤ length text.now }
+{
+    text.iter().filter(|byte| **byte == b'\n').count() as u64
 }
 
 impl Opening {
@@ -46,7 +52,7 @@ impl Opening {
     {
         Opening {
             text: Vec::new(alloc),
-            lines: 0,
+            line: 0,
         }
     }
 
@@ -64,12 +70,14 @@ impl Opening {
         ensures part { IfOk result (λ whole. IsFalse whole → IsPart self.new) }
         ensures whole { IfOk result (λ whole. IsTrue whole → IsHeader self.new) }
     {
+        let begin = self.line;
+        let end = self.text.len();
         self.text.push(byte)?;
         if byte != b'\n' {
             return Ok(false);
         }
-        self.lines += 1;
-        Ok(self.lines == HEADER_LINES)
+        self.line = self.text.len();
+        Ok(is_only(&self.text[begin..end], b"tree"))
     }
 
     /// The header, and a reader at the first byte behind it.
@@ -87,7 +95,7 @@ impl Opening {
         let reader = ByteReader::new(
             alloc,
             header.version,
-            HEADER_LINES + 1,
+            line_count(&self.text) + 1,
             last_line(&self.text),
         )?;
         Ok((header, reader))

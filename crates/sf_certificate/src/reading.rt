@@ -1,7 +1,8 @@
 //! Reading the text of a certificate.
 
-ghost use Rattle.std.specs.Prelude.{◌≡◌, ◌≢◌, ◌≤◌, IfOk, IfErr, Ok};
+ghost use Rattle.std.specs.Prelude.{◌≡◌, ◌≢◌, ◌≤◌, IfOk, IfErr, IsTrue, Ok};
 ghost use Rattle.sf_certificate.specs.declared.fault.CertFault.TheVariants.{NoMemory};
+ghost use Rattle.sf_certificate.specs.Paths.{all_lead};
 ghost use Rattle.sf_certificate.specs.Reading.{said_by, cert_read};
 
 use crate::cert::Cert;
@@ -12,11 +13,12 @@ use crate::tree::read_tree;
 use sf_lex::Scan;
 use std::alloc::Global;
 
-/// The certificate that a text of either version spells for so many blocks, or the first fault of the text.
+/// The certificate that a text of any version spells for so many blocks, or the first fault of the text.
 pub fn read(alloc: Global, text: &[u8], blocks: u16) -> Result<Cert, CertFault>
     requires some { 1 ≤ blocks }
     requires few { blocks ≤ 320 }
     ensures ok { IfOk result (λ c. cert_read blocks text.now ≡ Ok (said_by c)) }
+    ensures lead { IfOk result (λ c. IsTrue (all_lead c.paths)) }
     ensures blocks { IfOk result (λ c. c.blocks ≡ blocks) }
     ensures fault { IfErr result (λ e. e ≢ NoMemory → cert_read blocks text.now ≡ Err e) }
 {
@@ -28,6 +30,7 @@ pub fn read(alloc: Global, text: &[u8], blocks: u16) -> Result<Cert, CertFault>
         plan: header.plan,
         cost: header.cost,
         bound: header.bound,
+        paths: header.paths,
         tags: TagList::from_vec(tags),
     })
 }

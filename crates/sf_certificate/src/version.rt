@@ -1,9 +1,10 @@
 //! The versions of a certificate's text.
 
-/// How a closed subproblem stands in a text: by a `C` alone, or with a letter for the part of the bound that
-/// closes it.
+/// How a certificate stands in a text. In the first version a closed subproblem is a `C` alone; in the later
+/// ones a letter names the part of the bound that closes it, and in the third paths stand before the tree.
 #[derive(Clone, Copy, Debug, PartialEq, Eq)]
 pub enum Version {
     One,
     Two,
+    Three,
 }

@@ -1,20 +1,22 @@
 //! The text of a certificate.
 
 ghost use Rattle.std.specs.Prelude.{◌≡◌, ◌<◌, ◌^◌, [], ◌∷◌, ◌++◌, All, IfOk, OnOk, string_bytes, codes};
-ghost use Rattle.std.specs.Prelude.{◌+◌, ◌≤◌, length, take, MatchOption, Ok, ⊤};
+ghost use Rattle.std.specs.Prelude.{◌+◌, ◌≤◌, length, take, MatchOption, IsTrue, Ok, ⊤};
 ghost use Rattle.std.specs.Fmt.{decimal};
 ghost use Rattle.sf_polish.specs.Normal.{IsNormal};
 ghost use Rattle.sf_certificate.specs.declared.tag.Tag.TheVariants.{Split};
 ghost use Rattle.sf_certificate.specs.Reading.{cert_read, said_by};
-ghost use Rattle.sf_certificate.specs.Text.{plan_text, header_lines, text_of_lines, part_text, tag_text};
-ghost use Rattle.sf_certificate.specs.Text.{tags_text, cert_text, FitsTag};
+ghost use Rattle.sf_certificate.specs.Text.{plan_text, header_lines, text_of_lines, tag_text, tags_text};
+ghost use Rattle.sf_certificate.specs.Text.{cert_text, plan_lines, version_text, part_text, FitsTag};
+ghost use Rattle.sf_certificate.specs.Paths.{FitsPaths, all_lead};
 ghost use Rattle.sf_certificate.specs.declared.writing.TheConstants.{ROW, LONGEST};
 ghost use Rattle.sf_model.specs.CostText.{cost_text};
 
 use crate::cert::Cert;
+use crate::path_writing::{has_none, push_paths};
 use crate::tag::Tag;
 use itoa::Buffer;
-use sf_model::push_cost;
+use sf_model::{Paths, push_cost};
 use sf_node::Part;
 use sf_polish::{Expr, push_expr};
 use std::alloc::{AllocError as NoMemory, Global};
@@ -25,11 +27,13 @@ const ROW: usize = 4096;
 /// No line of a tag has more bytes: an `S`, a space, five digits and the end of the line.
 const LONGEST: usize = 8;
 
-/// The text of a certificate, of the second version: a header of six lines, then one line for each tag.
+/// The text of a certificate, of the second version, or of the third where it has paths: a header, then one
+/// line for each tag.
 pub fn write(alloc: Global, cert: &Cert) -> Result<Vec<u8>, NoMemory>
     ensures text { IfOk result (λ text. text.items ≡ cert_text cert.now) }
-    // What is written is read as the same certificate.
-    ensures read_back { IfOk result (λ text. cert_read cert.now.blocks text.items ≡ Ok (said_by cert.now)) }
+    // What is written is read as the same certificate, where its paths lead from pad to pad.
+    ensures read_back { IfOk result (λ text. IsTrue (all_lead cert.now.paths)
+        → cert_read cert.now.blocks text.items ≡ Ok (said_by cert.now)) }
 {
     let mut header = String::new(alloc);
     push_header(&mut header, cert)?;
@@ -38,28 +42,61 @@ pub fn write(alloc: Global, cert: &Cert) -> Result<Vec<u8>, NoMemory>
     Ok(text)
 }
 
-/// The lines before the tree.
+/// The lines before the tree, and its own.
 fn push_header(text: &mut String, cert: &Cert) -> Result<(), NoMemory>
     ensures cost { OnOk result (cert.now.cost < 2 ^ 64) }
     ensures bound { OnOk result (cert.now.bound < 2 ^ 64) }
+    ensures paths { OnOk result (FitsPaths cert.now.paths) }
     ensures text { OnOk result (string_bytes text.new
         ≡ string_bytes text.old
-        ++ text_of_lines (header_lines cert.now.blocks cert.now.plan cert.now.cost cert.now.bound)) }
+        ++ text_of_lines (header_lines cert.now.blocks cert.now.plan cert.now.cost cert.now.bound cert.now.paths)) }
 {
-    push_title(text, cert.blocks)?;
-    push_cost_line(text, "cost", cert.cost)?;
-    push_cost_line(text, "bound", cert.bound)?;
-    push_plan(text, &cert.plan)?;
+    push_plan_lines(text, cert)?;
+    push_paths(text, &cert.paths)?;
     text.push_str("tree\n")?;
     Ok(())
 }
 
-/// The first two lines.
-fn push_title(text: &mut String, blocks: u16) -> Result<(), NoMemory>
-    ensures { OnOk result (string_bytes text.new
-        ≡ string_bytes text.old ++ (codes "slicing-certificate 2\nblocks " ++ (decimal blocks ++ 10 ∷ []))) }
+/// The lines before the paths.
+fn push_plan_lines(text: &mut String, cert: &Cert) -> Result<(), NoMemory>
+    ensures cost { OnOk result (cert.now.cost < 2 ^ 64) }
+    ensures bound { OnOk result (cert.now.bound < 2 ^ 64) }
+    ensures text { OnOk result (string_bytes text.new
+        ≡ string_bytes text.old
+        ++ text_of_lines (plan_lines cert.now.blocks cert.now.plan cert.now.cost cert.now.bound cert.now.paths)) }
 {
-    write!(text, "slicing-certificate 2\nblocks {blocks}\n")
+    push_version(text, &cert.paths)?;
+    push_blocks(text, cert.blocks)?;
+    push_cost_line(text, "cost", cert.cost)?;
+    push_cost_line(text, "bound", cert.bound)?;
+    push_plan(text, &cert.plan)?;
+    Ok(())
+}
+
+/// The line of the version.
+fn push_version(text: &mut String, paths: &Paths) -> Result<(), NoMemory>
+    ensures { OnOk result (string_bytes text.new
+        ≡ string_bytes text.old ++ (codes "slicing-certificate " ++ (version_text paths.now ++ 10 ∷ []))) }
+{
+    text.push_str("slicing-certificate ")?;
+    text.push_str(version_of(paths))?;
+    text.push_str("\n")?;
+    Ok(())
+}
+
+/// The version of a certificate with these paths.
+fn version_of(paths: &Paths) -> &'static str
+    ensures { result.now ≡ version_text paths.now }
+{
+    if has_none(paths) { "2" } else { "3" }
+}
+
+/// The line of the number of blocks.
+fn push_blocks(text: &mut String, blocks: u16) -> Result<(), NoMemory>
+    ensures { OnOk result (string_bytes text.new
+        ≡ string_bytes text.old ++ (codes "blocks " ++ (decimal blocks ++ 10 ∷ []))) }
+{
+    write!(text, "blocks {blocks}\n")
 }
 
 /// A line with a label and a cost.

@@ -82,13 +82,14 @@ module _ (design : Design) (bound : Parts → ℕ) (part : Parts → Part → �
           plan = body.header.plan;
           cost = body.header.cost;
           bound = body.header.bound;
+          paths = body.header.paths;
           tags = all;
           form = record {
             some_block = design.limits.some_block;
             few_blocks = design.limits.few_blocks;
             planned = λ expr e. subst (λ p. MatchOption p ⊤ (IsWritable k)) e b.writable;
             unplanned = b.agrees;
-            tree = cert-spells k text (record { blocks = k; plan = body.header.plan; cost = body.header.cost; bound = body.header.bound; tags = all }) reads;
+            tree = cert-spells k text (record { blocks = k; plan = body.header.plan; cost = body.header.cost; bound = body.header.bound; paths = body.header.paths; tags = all }) reads;
           };
         } in
         record { cert = cert; reads = reads; answered = answered cert refl refl refl refl refl }

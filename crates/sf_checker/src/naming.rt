@@ -99,6 +99,7 @@ pub fn name_parts<B: Bounds>(
         plan,
         cost,
         bound,
+        paths,
         tags,
     } = cert;
     let mut tags = tags.into_vec();
@@ -109,6 +110,7 @@ pub fn name_parts<B: Bounds>(
         plan,
         cost,
         bound,
+        paths,
         tags: TagList::from_vec(tags),
     })
 }

@@ -199,10 +199,10 @@ laid-formed design part cost n told tags plan e tree planned =
 
 -- the certificate of such tags
 pub laid-cert : (design : Design) (value : Parts → ℕ) (part : Parts → Part → ℕ) (pieces : List Piece) (plan : Option Expr) (cost bound : ℕ) (cert : Cert)
-    → cert.blocks ≡ block_count design → cert.plan ≡ plan → cert.cost ≡ cost → cert.bound ≡ bound → IsTreeOf design part cost (told_by design pieces) cert.tags
+    → cert.blocks ≡ block_count design → cert.plan ≡ plan → cert.cost ≡ cost → cert.bound ≡ bound → cert.paths ≡ design.routes.paths → IsTreeOf design part cost (told_by design pieces) cert.tags
     → MatchOption plan (cost ≡ MAX) (λ expr. HasCost design expr cost × IsWritable (block_count design) expr)
     → bound ≡ least cost (map value (open_in (told_by design pieces))) → IsLaid design value part pieces plan cost bound cert
-laid-cert design value part pieces plan cost bound cert n p c b tree planned low =
+laid-cert design value part pieces plan cost bound cert n p c b paths tree planned low =
     record {
       valid = record {
         plan = subst (λ z. MatchOption cert.plan (z ≡ MAX) (λ expr. HasCost design expr z)) (sym c) (subst (λ q. MatchOption q (cost ≡ MAX) (λ expr. HasCost design expr cost)) (sym p) (plan-cost design cost plan planned));
@@ -214,4 +214,5 @@ laid-cert design value part pieces plan cost bound cert n p c b tree planned low
       plan_is = p;
       cost_is = c;
       bound_is = b;
+      paths_is = paths;
     }

@@ -285,4 +285,5 @@ module _ (design : Design) (value : Parts → ℕ) (part : Parts → Part → �
         plan_is = laid.plan_is;
         cost_is = laid.cost_is;
         bound_is = laid.bound_is;
+        paths_is = laid.paths_is;
       }

@@ -33,7 +33,7 @@ pub record HoldTree (design : Design) (part : Parts → Part → ℕ) (cost : �
   pub once : IsPermutation (root design ∷ flat_map (λ m. made m.tag m.node) (told_by design pieces)) (map (λ m. m.node) (told_by design pieces))
   pub fair : All (λ m. IsFair part cost m.tag m.node) (told_by design pieces)
 
--- the certificate is valid, its tree has just the subproblems and tags of the pieces, and plan, cost and bound are these
+-- the certificate is valid, its tree has just the subproblems and tags of the pieces, plan, cost and bound are these, and the paths are those of the design
 pub record IsLaid (design : Design) (value : Parts → ℕ) (part : Parts → Part → ℕ) (pieces : List Piece) (plan : Option Expr) (cost bound : ℕ) (cert : Cert) : Type 0 where
   pub valid : IsValid design value part cert
   pub same : IsPermutation (told_by design pieces) (marks (root design ∷ []) cert.tags)
@@ -41,3 +41,4 @@ pub record IsLaid (design : Design) (value : Parts → ℕ) (part : Parts → Pa
   pub plan_is : cert.plan ≡ plan
   pub cost_is : cert.cost ≡ cost
   pub bound_is : cert.bound ≡ bound
+  pub paths_is : cert.paths ≡ design.routes.paths

@@ -13,7 +13,7 @@ ghost use Rattle.sf_pieces.specs.Laid.{HoldTree, IsLaid, open_in};
 ghost use Rattle.sf_pieces.specs.Told.{told_by};
 
 use crate::piece::Piece;
-use sf_certificate::{Cert, Tag, TagList, compare_steps};
+use sf_certificate::{Cert, Tag, TagList, compare_steps, copy_paths};
 use sf_model::Design;
 use sf_polish::Expr;
 use std::alloc::{AllocError as NoMemory, Global};
@@ -41,11 +41,13 @@ pub fn lay(
     sort(&mut pieces)?;
     let tags = TagList::from_vec(tags_of(alloc, pieces)?);
     let blocks = design.block_count();
+    let paths = copy_paths(alloc, &design.routes.paths)?;
     Ok(Cert {
         blocks,
         plan,
         cost,
         bound,
+        paths,
         tags,
     })
 }

@@ -34,7 +34,7 @@ check-read-one contents o =
 
 -- certificates of which a text says the same are one
 pub said-cert : (c d : Cert) → said_by c ≡ said_by d → c ≡ d
-said-cert c d e = same-cert c d (ap (λ (s : CertSaid). s.blocks) e) (ap (λ (s : CertSaid). s.plan) e) (ap (λ (s : CertSaid). s.cost) e) (ap (λ (s : CertSaid). s.bound) e) (ap (λ (s : CertSaid). s.tags) e)
+said-cert c d e = same-cert c d (ap (λ (s : CertSaid). s.blocks) e) (ap (λ (s : CertSaid). s.plan) e) (ap (λ (s : CertSaid). s.cost) e) (ap (λ (s : CertSaid). s.bound) e) (ap (λ (s : CertSaid). s.paths) e) (ap (λ (s : CertSaid). s.tags) e)
 
 -- a valid certificate is renamed in one way
 abbrev pub HasOneName : Type 0
@@ -55,7 +55,7 @@ one-name close ones design old valid c d p q =
     let named : (x : Cert) → IsRenamed design old x → AllNameFirst design (part_value design) old.cost x.tags = λ x h. subst (λ z. AllNameFirst design (part_value design) z x.tags) h.alike.cost h.named in
     let trees = subst (AreTrees (part_value design) old.cost (root design ∷ [])) (sym p.alike.tags) (close design old.tags old.cost valid.tree) in
     let tags = ones design old.cost c.tags d.tags trees (p.alike.tags ∙ sym q.alike.tags) (named c p) (named d q) in
-    same-cert c d (p.alike.blocks ∙ sym q.alike.blocks) (p.alike.plan ∙ sym q.alike.plan) (p.alike.cost ∙ sym q.alike.cost) (p.alike.bound ∙ sym q.alike.bound) tags
+    same-cert c d (p.alike.blocks ∙ sym q.alike.blocks) (p.alike.plan ∙ sym q.alike.plan) (p.alike.cost ∙ sym q.alike.cost) (p.alike.bound ∙ sym q.alike.bound) (p.alike.paths ∙ sym q.alike.paths) tags
 
 module _ (names : HasOneName) (design : Design) (cert : Cert) where
   -- what is stored of a certificate with one answer is one

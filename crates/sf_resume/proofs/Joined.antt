@@ -161,6 +161,7 @@ module _ (design : Design) (value : Parts → ℕ) (part : Parts → Part → �
         plan_is = alike.plan ∙ l.plan_is;
         cost_is = alike.cost ∙ l.cost_is;
         bound_is = alike.bound ∙ l.bound_is;
+        paths_is = alike.paths ∙ l.paths_is;
       }
 
 module _ (design : Design) (value : Parts → ℕ) (part : Parts → Part → ℕ) (parts : ArePartsOf design value part) (tags : List Tag) (before : ℕ) (old new : List Piece) (cost bound : ℕ) (entries : List Entry) (left : List Parts)
@@ -198,4 +199,5 @@ module _ (design : Design) (value : Parts → ℕ) (part : Parts → Part → �
     plan_is = is.plan_is;
     cost_is = is.cost_is;
     bound_is = is.bound_is;
+    paths_is = is.paths_is;
   }

@@ -97,6 +97,7 @@ module _ (design : Design) (value : Parts → ℕ) (part : Parts → Part → �
     plan_is = p ∙ sym g.plan_is;
     cost_is = c ∙ sym g.cost_is;
     bound_is = b ∙ sym g.bound_is;
+    paths_is = g.paths_is;
     decided_is = d;
     lower = omega (arith, c, gone.gone.fell);
     few = omega (arith, d, g.counted, gone.few);

@@ -36,3 +36,4 @@ pub record IsGrafted (design : Design) (value : Parts → ℕ) (part : Parts →
   pub plan_is : cert.plan ≡ plan
   pub cost_is : cert.cost ≡ cost
   pub bound_is : cert.bound ≡ bound
+  pub paths_is : cert.paths ≡ design.routes.paths

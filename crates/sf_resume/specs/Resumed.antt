@@ -23,6 +23,7 @@ pub record IsResumed (design : Design) (value : Parts → ℕ) (part : Parts →
   pub plan_is : found.plan ≡ found.cert.plan
   pub cost_is : found.cost ≡ found.cert.cost
   pub bound_is : found.bound ≡ found.cert.bound
+  pub paths_is : found.cert.paths ≡ design.routes.paths
   pub decided_is : found.decided ≡ decided found.cert.tags
   -- the cost is no higher than it was, and what was decided before stays so
   pub lower : found.cost ≤ read.cost

@@ -103,6 +103,7 @@ module _ (design : Design) (bound : Parts → ℕ) (part : Parts → Part → �
             plan_is = plan ∙ sym (ap (λ (c : Cert). c.plan) same ∙ made.plan_is);
             cost_is = cost ∙ sym (ap (λ (c : Cert). c.cost) same ∙ made.cost_is);
             bound_is = low ∙ sym (ap (λ (c : Cert). c.bound) same ∙ made.bound_is);
+            paths_is = ap (λ (c : Cert). c.paths) same ∙ made.paths_is;
             decided_is = count ∙ sym (ap (λ (c : Cert). decided c.tags) same ∙ made.counted);
             few = omega (arith, count, h.few);
             spent = λ below. count ∙ spent-open (some-below bound leg.value left (subst (λ n. n < leg.value) o.lowest (subst (λ n. opened.bound < n) cost (subst (λ n. n < found.cost) low below))));

@@ -40,6 +40,7 @@ pub record IsCertOf (design : Design) (state : State) (cert : Cert) : Type 0 whe
   pub placed : IsPermutation (given_marks state.entries state.waiting) (marks (root design ∷ []) (map unnamed cert.tags))
   pub cost : cert.cost ≡ state.word
   pub bound : cert.bound ≡ least state.word (map (λ task. task.bound) state.waiting)
+  pub paths : cert.paths ≡ design.routes.paths
   pub plan : IsFirst design state cert.plan
 
 -- a split is of the first block whose span isn't single, at a complete subproblem that isn't solved
@@ -61,6 +62,7 @@ pub record IsFound (design : Design) (bound : Parts → ℕ) (part : Parts → P
   pub plan_is : found.plan ≡ found.cert.plan
   pub cost_is : found.cost ≡ found.cert.cost
   pub bound_is : found.bound ≡ found.cert.bound
+  pub paths_is : found.cert.paths ≡ design.routes.paths
   pub decided_is : found.decided ≡ decided found.cert.tags
   -- the budget is kept, and spent where the bound is below the cost
   pub few : found.decided ≤ budget

@@ -14,7 +14,7 @@ use crate::leaving::{Opened, leave_open};
 use crate::legs::{Leg, go_on, left_of};
 use crate::one_walk::search_walk;
 use sf_bound::Bounds;
-use sf_certificate::{Cert, TagList};
+use sf_certificate::{Cert, TagList, copy_paths};
 use sf_cursor::{Cursor, Stretch};
 use sf_io::Gate;
 use sf_model::{Design, MAX, Shapes};
@@ -97,11 +97,13 @@ fn alone<B: Bounds, G: Gate>(
     let (tags, best) = walk.into_named();
     let blocks = design.block_count();
     let tags = TagList::from_vec(tags);
+    let paths = copy_paths(alloc, &design.routes.paths)?;
     let cert = Cert {
         blocks,
         plan: best,
         cost,
         bound,
+        paths,
         tags,
     };
     Ok(Found {

@@ -1,6 +1,7 @@
 //! Texts that are read, and the first fault of texts that are not.
 
 use sf_certificate::{CertFault, Tag, read, write};
+use sf_model::{Pin, Step};
 use sf_node::Part;
 use std::test::Fail;
 
@@ -50,8 +51,49 @@ fn writes_the_parts_that_it_read(rt: HostRuntime) -> Result<(), Fail> {
     Ok(())
 }
 
+/// A text of the third version is written as it was read: a path from pad 3 by net 5 to block 2 and by net 7 to pad
+/// 0, one from pad 1 by net 4 to pad 2, and one upward.
+#[test]
+fn reads_paths(rt: HostRuntime) -> Result<(), Fail> {
+    let alloc = rt.alloc();
+    let text =
+        b"slicing-certificate 3\nblocks 3\ncost none\nbound 0\nplan none\nacross 2\n3 5 2 7 0\n1 4 2\nupward 1\n0 9 1\ntree\nO\n";
+    let cert = read(alloc, text, 3)?;
+    let paths = cert.paths.across.as_slice();
+    assert_eq!(rt; paths.len(), 2);
+    assert_eq!(rt; paths[0].first, Pin::Pad(3));
+    let steps = [
+        Step {
+            net: 5,
+            to: Pin::Block(2),
+        },
+        Step {
+            net: 7,
+            to: Pin::Pad(0),
+        },
+    ];
+    assert_eq!(rt; paths[0].steps.as_slice(), steps.as_slice());
+    assert_eq!(rt; cert.paths.upward.as_slice().len(), 1);
+    let written = write(alloc, &cert)?;
+    assert_eq!(rt; written.as_slice(), text.as_slice());
+    Ok(())
+}
+
+/// A text of the third version without paths is written in the second one.
+#[test]
+fn reads_no_paths(rt: HostRuntime) -> Result<(), Fail> {
+    let alloc = rt.alloc();
+    let text =
+        b"slicing-certificate 3\nblocks 2\ncost none\nbound 0\nplan none\nacross 0\nupward 0\ntree\nC f\n";
+    let cert = read(alloc, text, 2)?;
+    let same = b"slicing-certificate 2\nblocks 2\ncost none\nbound 0\nplan none\ntree\nC f\n";
+    let written = write(alloc, &cert)?;
+    assert_eq!(rt; written.as_slice(), same.as_slice());
+    Ok(())
+}
+
 /// Texts of two blocks, each with the first of its faults.
-const FAULTS: [(&[u8], CertFault); 14] = [
+const FAULTS: [(&[u8], CertFault); 22] = [
     (
         b"slicing-certificate 1\nblocks 2\ncost 12\nbound 12\nplan 0:2x3 1:2x3 *\ntree\nE\nE\n",
         CertFault::Truncated(8),
@@ -76,9 +118,9 @@ const FAULTS: [(&[u8], CertFault); 14] = [
         b"slicing-certificate 1\n blocks  2\ncost none\nbound 12\nplan none\n",
         CertFault::BadHeader(5),
     ),
-    // No third version, and no zeros in front of the second.
+    // No fourth version, and no zeros in front of the second.
     (
-        b"slicing-certificate 3\nblocks 2\ncost none\nbound 12\nplan none\ntree\nO\n",
+        b"slicing-certificate 4\nblocks 2\ncost none\nbound 12\nplan none\ntree\nO\n",
         CertFault::BadHeader(1),
     ),
     (
@@ -110,6 +152,41 @@ const FAULTS: [(&[u8], CertFault); 14] = [
     (
         b"slicing-certificate 2\nblocks 2\ncost none\nbound 12\nplan none\ntree\nC a\nC\n",
         CertFault::Trailing(8),
+    ),
+    // The third one has paths, or says that there are none.
+    (
+        b"slicing-certificate 3\nblocks 2\ncost none\nbound 0\nplan none\ntree\nO\n",
+        CertFault::BadHeader(6),
+    ),
+    (
+        b"slicing-certificate 2\nblocks 2\ncost none\nbound 0\nplan none\nacross 0\nupward 0\ntree\nO\n",
+        CertFault::BadHeader(6),
+    ),
+    // An even number of numbers, too few, a block and a net past their limits.
+    (
+        b"slicing-certificate 3\nblocks 2\ncost none\nbound 0\nplan none\nacross 1\n0 1 1 2\nupward 0\ntree\nO\n",
+        CertFault::BadHeader(7),
+    ),
+    (
+        b"slicing-certificate 3\nblocks 2\ncost none\nbound 0\nplan none\nacross 1\n0\nupward 0\ntree\nO\n",
+        CertFault::BadHeader(7),
+    ),
+    (
+        b"slicing-certificate 3\nblocks 2\ncost none\nbound 0\nplan none\nacross 0\nupward 1\n0 1 65536 2 1\ntree\nO\n",
+        CertFault::BadHeader(8),
+    ),
+    (
+        b"slicing-certificate 3\nblocks 2\ncost none\nbound 0\nplan none\nacross 1\n0 4294967296 1\nupward 0\ntree\nO\n",
+        CertFault::BadHeader(7),
+    ),
+    // Fewer paths than are told, and a text that breaks off among them.
+    (
+        b"slicing-certificate 3\nblocks 2\ncost none\nbound 0\nplan none\nacross 2\n0 1 1\nupward 0\ntree\nO\n",
+        CertFault::BadHeader(8),
+    ),
+    (
+        b"slicing-certificate 3\nblocks 2\ncost none\nbound 0\nplan none\nacross 2\n0 1 1\n",
+        CertFault::BadHeader(7),
     ),
 ];
 

@@ -56,4 +56,6 @@ mod wire;
 #[cfg(test)]
 mod words;
 #[cfg(test)]
+mod wrong_paths;
+#[cfg(test)]
 mod yal;

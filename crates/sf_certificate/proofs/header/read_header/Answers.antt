@@ -32,12 +32,18 @@ returns-in_err-plan-clause-fault c =
     let p = err_from_is_err_and c.from_residual-in_err-plan.result c.from_residual-in_err-plan.ensures.1 in
     rw (p.1, p.2) (λ ne. rw (c.in_ok-version.ensures, c.in_ok-read_number.ensures, c.in_ok-cost.ensures, c.in_ok-bound.ensures, c.in_err-plan.ensures.fault ne) refl)
 
+pub returns-in_err-paths-clause-fault : goal.returns-in_err-paths-clause-fault
+unfolding header_read
+returns-in_err-paths-clause-fault c =
+    let p = err_from_is_err_and c.from_residual-in_err-paths.result c.from_residual-in_err-paths.ensures.1 in
+    rw (p.1, p.2) (λ ne. rw (c.in_ok-version.ensures, c.in_ok-read_number.ensures, c.in_ok-cost.ensures, c.in_ok-bound.ensures, c.in_ok-plan.ensures.line, c.in_err-paths.ensures.fault ne) refl)
+
 pub returns-in_err-read_only-clause-fault : goal.returns-in_err-read_only-clause-fault
 unfolding header_read
 returns-in_err-read_only-clause-fault c =
     let p = err_from_is_err_and c.from_residual-in_err-read_only.result c.from_residual-in_err-read_only.ensures.1 in
-    rw (p.1, p.2) (λ ne. rw (c.in_ok-version.ensures, c.in_ok-read_number.ensures, c.in_ok-cost.ensures, c.in_ok-bound.ensures, c.in_ok-plan.ensures.line, c.in_err-read_only.ensures) refl)
+    rw (p.1, p.2) (λ ne. rw (c.in_ok-version.ensures, c.in_ok-read_number.ensures, c.in_ok-cost.ensures, c.in_ok-bound.ensures, c.in_ok-plan.ensures.line, c.in_ok-paths.ensures.paths, c.in_err-read_only.ensures) refl)
 
 pub returns-clause-header : goal.returns-clause-header
 unfolding header_read
-returns-clause-header c = rw (c.in_ok-version.ensures, c.in_ok-read_number.ensures, c.in_ok-cost.ensures, c.in_ok-bound.ensures, c.in_ok-plan.ensures.line, c.in_ok-read_only.ensures) refl
+returns-clause-header c = rw (c.in_ok-version.ensures, c.in_ok-read_number.ensures, c.in_ok-cost.ensures, c.in_ok-bound.ensures, c.in_ok-plan.ensures.line, c.in_ok-paths.ensures.paths, c.in_ok-read_only.ensures) refl

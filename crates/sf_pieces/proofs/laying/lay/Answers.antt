@@ -19,5 +19,5 @@ returns c = λ value part holds low.
     let design = c.args.design.now in
     let told = told_by design c.args.pieces.items in
     let tree = laid-tree design part c.args.cost c.args.pieces.items holds c.sort.new.pieces.items c.sort.ensures.moved c.in_ok-sort.ensures.sorted in
-    laid-cert design value part c.args.pieces.items c.args.plan c.args.cost c.args.bound _ c.block_count-blocks.ensures refl refl refl
+    laid-cert design value part c.args.pieces.items c.args.plan c.args.cost c.args.bound _ c.block_count-blocks.ensures refl refl refl c.in_ok-paths.ensures
     (subst (IsTreeOf design part c.args.cost told) (sym (c.from_vec-tags.ensures ∙ c.in_ok-tags_of.ensures)) tree) c.requires.planned low

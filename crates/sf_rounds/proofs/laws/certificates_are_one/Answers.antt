@@ -21,4 +21,4 @@ returns c = λ design bound part state first second parts valid other blocks one
     let plan : first.plan ≡ second.plan =
     same-plan design state (c.solved_plans_are_one.ensures design) (entries-good design part state first tree one) first.plan second.plan
     (first.form.unplanned ∙ ap (λ n. n == MAX) cost ∙ sym second.form.unplanned) one.plan two.plan in
-    same-cert first second blocks plan cost (one.bound ∙ sym two.bound) tags
+    same-cert first second blocks plan cost (one.bound ∙ sym two.bound) (one.paths ∙ sym two.paths) tags

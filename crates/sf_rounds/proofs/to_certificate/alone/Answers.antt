@@ -43,6 +43,7 @@ returns g c =
         plan_is = search rules;
         cost_is = refl;
         bound_is = refl;
+        paths_is = c.in_ok-paths.ensures;
         decided_is = c.count-decided.ensures ∙ sym (decided-are design bound part parts state walk b c.word-cost.result c.in_ok-bound.bound c.from_vec-tags.result c.into_named-tags.result.1 c.word-cost.ensures low.hand.lowest tags plan);
         few = omega (arith, c.count-decided.ensures, c.in_ok-walk.ensures.few);
         spent = λ below. c.count-decided.ensures ∙ spent-as design bound state walk b part parts.full c.word-cost.result c.in_ok-bound.bound (map unnamed c.from_vec-tags.result) c.into_named-tags.result.1 c.word-cost.ensures low.hand.lowest plain plan c.args.nodes c.in_ok-walk.ensures.spent below;
@@ -55,6 +56,7 @@ returns g c =
         placed = (merged-as design bound state walk b part parts.full c.word-cost.result c.in_ok-bound.bound (map unnamed c.from_vec-tags.result) c.into_named-tags.result.1 c.word-cost.ensures low.hand.lowest plain plan).placed;
         cost = c.word-cost.ensures ∙ sym b.word;
         bound = stated-by-word design bound state walk b part parts.full c.word-cost.result c.in_ok-bound.bound (map unnamed c.from_vec-tags.result) c.into_named-tags.result.1 c.word-cost.ensures low.hand.lowest plain plan;
+        paths = c.in_ok-paths.ensures;
         plan = first-as design bound state walk b part parts.full c.word-cost.result c.in_ok-bound.bound (map unnamed c.from_vec-tags.result) c.into_named-tags.result.1 c.word-cost.ensures low.hand.lowest plain plan;
       };
       accepted = c.in_ok-walk.ensures.run.accepted;
