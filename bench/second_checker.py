@@ -77,6 +77,7 @@ class Design:
         self.left, self.pull, self.strong = [weight for weight, _, _ in self.nets], 0, options.get("bounds") == "strong"
         knows = self.strong and len(self.shapes) <= MOST_KNOWN
         self.floor = least_area(self.shapes, self.sides) if knows else 0
+        self.bounds = options.get("bounds")
 
     def hard(self, words):
         numbers = re.sub(r"[(),]", " ", " ".join(words[2:])).split()
@@ -233,9 +234,22 @@ def net_parts(design, extents, items, complete, blocks, pads):
     return gaps(anywhere + points), sum(small[-2:]) if len(small) > 1 else 0, hull
 
 
+def pairs_need(design, extents):
+    """What the pairs of the first blocks say by their least sides, where the bound that was chosen asks for it: that two of
+    them need an area, and that two of them have no room."""
+    least = [[low for low, _ in extent] for extent in extents[:16]]
+    says = [0]
+    for (w, h), (v, g) in itertools.combinations(least, 2):
+        if design.bounds in ("pair", "both"):
+            says.append(design.area_weight * min((w + v) * max(h, g), (h + g) * max(w, v)))
+        if design.bounds in ("fit", "both") and w + v > design.sides[0] and h + g > design.sides[1]:
+            says.append(MAX)
+    return max(says)
+
+
 def values(design, tokens, spans):
     """What each part of the bound is worth at a subproblem: areas alone, with ranges, with pairs and with hulls, and all of
-    it, which is the standard bound, with paths where there are some."""
+    it, which is the bound that was chosen."""
     shapes = [listed[first:end] for listed, (first, end) in zip(design.shapes, spans)]
     complete = len(tokens) == 2 * len(spans) - 1
     extents = [[(min(sides), max(sides)) for sides in zip(*left)] for left in shapes]
@@ -263,6 +277,7 @@ def values(design, tokens, spans):
         worth[4] = cost_of(design, tokens, [left[0] for left in shapes])
     if complete and not design.wire_weight:
         worth[4] = MAX if areas is None else design.area_weight * areas
+    worth[4] = max(worth[4], pairs_need(design, extents))
     return dict(zip(LETTERS, worth))
 
 

@@ -10,6 +10,8 @@ use Rattle.sf_polish.specs.declared.expr.Expr.{Expr}
 use Rattle.sf_certificate.specs.declared.cert.Cert.{Cert}
 use Rattle.sf_certificate.specs.Text.{cert_text}
 use Rattle.sf_pl_writer.specs.declared.report.Outcome.{Outcome}
+use Rattle.sf_words.specs.declared.command.BoundsChoice.{BoundsChoice}
+use Rattle.sf_words.specs.declared.command.BoundsChoice.TheVariants.{Standard}
 use Rattle.sf_words.specs.Table.{Text}
 use Rattle.sf_words.specs.Meaning.{PlanOptions, plan}
 use Rattle.sf_jobs.specs.Job.{IsPlain, SaysJob, with_cert}
@@ -53,7 +55,7 @@ retold design said cert (Some expr) name stored printed told = ((name, cert_text
 
 -- the same of a whole answer
 renamed : (design : Design) (budget : ℕ) (name : Text) (status : Status) (stored : List Stored) (printed : List ℕ)
-    → IsAnswered design 1 budget None 1 [] None status stored printed → (stored_so : List Stored) × IsAnswered design 1 budget None 1 name None status stored_so printed
+    → IsAnswered Standard design 1 budget None 1 [] None status stored printed → (stored_so : List Stored) × IsAnswered Standard design 1 budget None 1 name None status stored_so printed
 renamed design budget name status stored printed a =
     let r = a.reported in
     let told = retold design r.said a.cert a.cert.plan name stored printed r.told in (
@@ -103,7 +105,7 @@ built held line o job says reads nodes = λ told tells. (
             knows = known o design p;
             start = None;
             begun = from_nothing (with_cert o cert) design (record { per_unit = p.per_unit; pl_out = p.pl_out; workers = p.workers; starts = p.starts; bounds = p.bounds });
-            answered = rw (p.workers, p.per_unit, p.pl_out, sym nodes) named.1;
+            answered = rw (p.bounds, p.workers, p.per_unit, p.pl_out, sym nodes) named.1;
           }),
         ),
       )),

@@ -3,6 +3,7 @@ use Rattle.std.specs.Prelude.{◌≡◌, ⊤, List, [], Option, None, Some}
 use Rattle.sf_io.specs.Outside.{Contents}
 use Rattle.sf_lex.specs.Scan.{Line}
 use Rattle.sf_model.specs.Legal.{block_count}
+use Rattle.sf_words.specs.declared.command.BoundsChoice.TheVariants.{Standard}
 use Rattle.sf_jobs.specs.Told.{Told}
 use Rattle.sf_jobs.specs.Seen.{told_seen}
 use Rattle.sf_program.specs.Planned.{IsAnswered, budget_of}
@@ -13,7 +14,7 @@ use Rattle.sf_batch.specs.Alone.{LineComesTo}
 
 -- the status and the text of a search of the design by one worker, with the job's budget and from no plan
 abbrev pub SearchTells : BuiltJob → Told → Type 0
-SearchTells job told = (stored : List Stored) × IsAnswered job.design 1 (budget_of job.nodes (block_count job.design)) None 1 [] None told.status stored told.text
+SearchTells job told = (stored : List Stored) × IsAnswered Standard job.design 1 (budget_of job.nodes (block_count job.design)) None 1 [] None told.status stored told.text
 
 -- what is found of a job: under its number, what a search of it tells; or nothing, for want of memory
 abbrev pub IsFound : BuiltJob → Option FoundJob → Type 0

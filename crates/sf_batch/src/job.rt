@@ -7,6 +7,7 @@ use sf_jobs::Answer;
 use sf_model::Design;
 use sf_program::{Names, search_design};
 use sf_team::Gives;
+use sf_words::BoundsChoice;
 use std::alloc::Global;
 use std::thread::Threads;
 
@@ -49,7 +50,17 @@ pub fn search_job<R: Threads + Sync, G: Gate>(
         pl: None,
         scale: 1,
     };
-    let Ok(work) = search_design(rt, alloc, &job.design, None, job.nodes, 1, names, gate) else {
+    let Ok(work) = search_design(
+        rt,
+        alloc,
+        BoundsChoice::Standard,
+        &job.design,
+        None,
+        job.nodes,
+        1,
+        names,
+        gate,
+    ) else {
         return None;
     };
     Some(FoundJob {

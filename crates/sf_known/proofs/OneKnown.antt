@@ -11,12 +11,15 @@ use Rattle.sf_model.specs.declared.parts.Outline.{Outline}
 use Rattle.sf_polish.specs.declared.expr.Expr.{Expr}
 use Rattle.sf_subsets.proofs.Learned.{knowing-one}
 use Rattle.sf_words.specs.declared.command.BoundsChoice.{BoundsChoice}
-use Rattle.sf_words.specs.declared.command.BoundsChoice.TheVariants.{Standard, Strong}
+use Rattle.sf_words.specs.declared.command.BoundsChoice.TheVariants.{Standard, Strong, Pair, Fit, Both}
 use Rattle.sf_known.specs.Known.{Knows}
 
 -- by the same bounds a design gets to know one thing
 pub knows-one : (bounds : BoundsChoice) (design first second : Design) → Knows bounds design first → Knows bounds design second → first ≡ second
 knows-one Standard design first second p q = p ∙ sym q
+knows-one Pair design first second p q = p ∙ sym q
+knows-one Fit design first second p q = p ∙ sym q
+knows-one Both design first second p q = p ∙ sym q
 knows-one Strong design first second p q =
     elim (cases_lt 16 (block_count design)) [
       | inl many ↦ p.many many ∙ sym (q.many many)
@@ -26,6 +29,9 @@ knows-one Strong design first second p q =
 -- it keeps its blocks
 pub known-blocks : (bounds : BoundsChoice) (design known : Design) → Knows bounds design known → known.blocks ≡ design.blocks
 known-blocks Standard design known h = ap (λ (d : Design). d.blocks) h
+known-blocks Pair design known h = ap (λ (d : Design). d.blocks) h
+known-blocks Fit design known h = ap (λ (d : Design). d.blocks) h
+known-blocks Both design known h = ap (λ (d : Design). d.blocks) h
 known-blocks Strong design known h =
     elim (cases_lt 16 (block_count design)) [
       | inl many ↦ ap (λ (d : Design). d.blocks) (h.many many)
@@ -47,6 +53,9 @@ floored-floorplan old floor new expr z has p = record {
 -- so has one that knows what was asked for
 pub known-floorplan : (bounds : BoundsChoice) (design known : Design) (expr : Expr) (z : ℕ) → Knows bounds design known → IsFloorplan design expr z → IsFloorplan known expr z
 known-floorplan Standard design known expr z h p = subst (λ (d : Design). IsFloorplan d expr z) (sym h) p
+known-floorplan Pair design known expr z h p = subst (λ (d : Design). IsFloorplan d expr z) (sym h) p
+known-floorplan Fit design known expr z h p = subst (λ (d : Design). IsFloorplan d expr z) (sym h) p
+known-floorplan Both design known expr z h p = subst (λ (d : Design). IsFloorplan d expr z) (sym h) p
 known-floorplan Strong design known expr z h p =
     elim (cases_lt 16 (block_count design)) [
       | inl many ↦ subst (λ (d : Design). IsFloorplan d expr z) (sym (h.many many)) p

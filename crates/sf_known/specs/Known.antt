@@ -8,7 +8,7 @@ use Rattle.sf_anneal.specs.Measured.{IsFloorplan}
 use Rattle.sf_polish.specs.declared.expr.Expr.{Expr}
 use Rattle.sf_subsets.specs.Floors.{KnowsArea}
 use Rattle.sf_words.specs.declared.command.BoundsChoice.{BoundsChoice}
-use Rattle.sf_words.specs.declared.command.BoundsChoice.TheVariants.{Standard, Strong}
+use Rattle.sf_words.specs.declared.command.BoundsChoice.TheVariants.{Strong}
 
 -- the first design where it knows more: one of at most 16 blocks knows its least area, and a larger one is as it was
 pub record KnowsMore (design known : Design) : Type 0 where
@@ -17,8 +17,8 @@ pub record KnowsMore (design known : Design) : Type 0 where
 
 -- the first design where it knows what the bounds that were asked for take into account
 abbrev pub Knows : BoundsChoice → Design → Design → Type 0
-Knows Standard design known = known ≡ design
 Knows Strong design known = KnowsMore design known
+Knows bounds design known = known ≡ design
 
 -- a plan that fits and costs so much, whose area is the floor that the design knows
 pub record HasKnownArea (design : Design) (expr : Expr) (z : ℕ) : Type 0 where
@@ -32,8 +32,8 @@ pub record IsKnownPlan (design : Design) (plan : Option (Expr × ℕ)) : Type 0 
 
 -- the plan that is known by the bounds that were asked for
 abbrev pub IsKnownBy : BoundsChoice → Design → Option (Expr × ℕ) → Type 0
-IsKnownBy Standard design plan = plan ≡ None
 IsKnownBy Strong design plan = IsKnownPlan design plan
+IsKnownBy bounds design plan = plan ≡ None
 
 -- of two plans the cheaper one, and the first where they cost the same
 abbrev pub cheaper : Option (Expr × ℕ) → Option (Expr × ℕ) → Option (Expr × ℕ)

@@ -46,7 +46,11 @@ pub fn know(
             let walked = plan_found(alloc, walked)?;
             know_few(alloc, design, walked)
         }
-        BoundsChoice::Standard | BoundsChoice::Strong => Ok(Known { design, plan: None }),
+        BoundsChoice::Standard
+        | BoundsChoice::Strong
+        | BoundsChoice::Pair
+        | BoundsChoice::Fit
+        | BoundsChoice::Both => Ok(Known { design, plan: None }),
     }
 }
 
@@ -79,6 +83,10 @@ pub fn know_alone(alloc: Global, bounds: BoundsChoice, design: Design) -> Result
             learn_area(alloc, &mut known, None)?;
             Ok(known)
         }
-        BoundsChoice::Standard | BoundsChoice::Strong => Ok(design),
+        BoundsChoice::Standard
+        | BoundsChoice::Strong
+        | BoundsChoice::Pair
+        | BoundsChoice::Fit
+        | BoundsChoice::Both => Ok(design),
     }
 }

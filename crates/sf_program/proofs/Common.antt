@@ -48,7 +48,8 @@ pub use Rattle.sf_program.specs.Stores.{AfterStores, StoppedAt, Stored, stored_i
 pub use Rattle.sf_designs.specs.Weighed.{WeighedParts, alike, weighed_in}
 pub use Rattle.sf_designs.specs.declared.stop.Stop.{Stop}
 pub use Rattle.sf_soft_shapes.specs.Listed.{AreListsOf, HasNoneFor}
-pub use Rattle.sf_standard.specs.Standard.{part_value, standard}
+pub use Rattle.sf_program.specs.Chosen.{chosen_part, chosen_value}
+pub use Rattle.sf_words.specs.declared.command.BoundsChoice.{BoundsChoice}
 pub use Rattle.sf_words.proofs.Unique.{meaning_unique}
 pub use Rattle.sf_words.specs.Meaning.{CheckOptions, Command, DesignOptions, GenOptions, Input, Means, MeasureOptions, PlanOptions, ResumeOptions, ShapeOptions, WeightOptions, check, gen, gsrc, measure, plan, resume, shape, yal}
 pub use Rattle.sf_words.specs.Seen.{check_seen, gen_seen, measure_seen, resume_seen, shape_seen, text_of}

@@ -23,7 +23,7 @@ module _ (held : Option Contents) (o : ResumeOptions) (design : Design) (read : 
 
   -- what is answered to the certificate is what `resume` answers
   pub resume-obeyed : (cert : Cert) → CertLoaded o.is_long held o.cert design (Ok cert) → (r : Result Work Stop) → IfOk r (λ w. IsTakenUp o design cert w.status (stored_in w.stores.items) w.text.items)
-      → IfOk r (λ w. SumTested o.is_long o.nodes design cert (Ok cert)) → IfErr r (λ stop. Stops stop (λ why. SumTested o.is_long o.nodes design cert (Err why))) → Obeys (resume o) held r
+      → IfOk r (λ w. SumTested o.bounds o.is_long o.nodes design cert (Ok cert)) → IfErr r (λ stop. Stops stop (λ why. SumTested o.bounds o.is_long o.nodes design cert (Err why))) → Obeys (resume o) held r
   resume-obeyed cert loaded (Ok w) told within stopped = record { design = design; cert = cert; reads = inl (design, read, (refl, inl (cert, loaded, within))); taken_up = told }
   resume-obeyed cert loaded (Err stop) told within stopped =
-      stops-map (λ why. SumTested o.is_long o.nodes design cert (Err why)) (λ why. ResumeRead held o (Err why)) (λ why p. inl (design, read, inl (cert, loaded, p))) stop stopped
+      stops-map (λ why. SumTested o.bounds o.is_long o.nodes design cert (Err why)) (λ why. ResumeRead held o (Err why)) (λ why p. inl (design, read, inl (cert, loaded, p))) stop stopped

@@ -1,6 +1,6 @@
 -- An answer of `plan` says what the headline says.
 use Rattle.std.proofs.Common.{◌≡◌, inl, inr, Bool, true, false, ℕ, ◌+◌, ◌*◌, ◌<◌, ◌≤◌, MatchOption, List, Option, Some, None, Result, Ok, refl, sym, ap, subst, ◌∙◌, arith}
-use Rattle.sf_program.proofs.Common.{nat_lt, nat_tests, Contents, Status, Done, NoneFits, Usage, Open, No, BadInput, OverLimit, ReadFault, WriteFault, NoMemory, Design, Spot, block_count, cost, IsFloor, width, height, spots_of, wire, Expr, spells-one, Cert, HasCost, decided, Outcome, Command, GenOptions, Means, PlanOptions, ResumeOptions, gen, plan, resume, meaning_unique, Answers, CommandAnswer, IsAnswer, IsDone, GenRead, cert_name, Refusal, IsRefusal, IsAnswered, IsEnding, IsReported, IsGood, AreMeasures, PlanRead, budget_of, outcome_status, AfterStores, Stored}
+use Rattle.sf_program.proofs.Common.{BoundsChoice, nat_lt, nat_tests, Contents, Status, Done, NoneFits, Usage, Open, No, BadInput, OverLimit, ReadFault, WriteFault, NoMemory, Design, Spot, block_count, cost, IsFloor, width, height, spots_of, wire, Expr, spells-one, Cert, HasCost, decided, Outcome, Command, GenOptions, Means, PlanOptions, ResumeOptions, gen, plan, resume, meaning_unique, Answers, CommandAnswer, IsAnswer, IsDone, GenRead, cert_name, Refusal, IsRefusal, IsAnswered, IsEnding, IsReported, IsGood, AreMeasures, PlanRead, budget_of, outcome_status, AfterStores, Stored}
 use Rattle.std.specs.Io.KnownBytes.{Appends}
 use Rattle.sf_model.specs.declared.TheConstants.{MAX}
 use Rattle.sf_model.proofs.Bounded.{floor-none}
@@ -11,6 +11,7 @@ use Rattle.sf_pl_writer.specs.declared.report.Report.{Report}
 use Rattle.sf_pl_writer.specs.ReportText.{report_text}
 use Rattle.sf_program.specs.Headline.{HasSearched, IsEnd, IsFinding, IsHeadline, IsHeadlineOn, IsPlanOf}
 use Rattle.sf_program.specs.Planned.{IsTold}
+use Rattle.sf_words.specs.declared.command.BoundsChoice.TheVariants.{Standard}
 
 -- the report of a certificate, with what is measured of its plan
 abbrev report_of : Outcome → Cert → ℕ × ℕ → ℕ → ℕ → Option Expr → Report
@@ -67,9 +68,9 @@ module _ (design : Design) (budget all scale : ℕ) (name : List ℕ) (pl : Opti
       (report, record { plan = measured-plan design cert said expr t.0 t.1 t.2 t.3 t.4 v; floor = floor; few = few; end = ends-as design budget all report said floor spent ended ending }, t.6)
 
 -- the report of a valid certificate that keeps its budget says what was found
-reported-finds : (design : Design) (budget all scale : ℕ) (name : List ℕ) (pl : Option (List ℕ)) (cert : Cert) (status : Status) (stored : List Stored) (printed : List ℕ) → IsGood design cert → decided cert.tags ≤ budget
-    → (cert.bound < cert.cost → decided cert.tags ≡ budget) → (all ≤ budget → cert.bound ≡ cert.cost) → IsReported design scale name pl cert status stored printed → Finds design budget all status printed
-reported-finds design budget all scale name pl cert status stored printed valid few spent ended a =
+reported-finds : (bounds : BoundsChoice) (design : Design) (budget all scale : ℕ) (name : List ℕ) (pl : Option (List ℕ)) (cert : Cert) (status : Status) (stored : List Stored) (printed : List ℕ) → IsGood bounds design cert → decided cert.tags ≤ budget
+    → (cert.bound < cert.cost → decided cert.tags ≡ budget) → (all ≤ budget → cert.bound ≡ cert.cost) → IsReported bounds design scale name pl cert status stored printed → Finds design budget all status printed
+reported-finds bounds design budget all scale name pl cert status stored printed valid few spent ended a =
     subst (λ s. Finds design budget all s printed) (sym a.status_is)
     (told-finds design budget all scale name pl a.said cert few spent ended a.floor a.ending cert.plan stored printed valid.plan a.told)
 
@@ -78,24 +79,24 @@ no-search : (status : Status) → IsRefusal status → HasSearched status → �
 no-search status is h = elim is [ inl e ↦ subst HasSearched e h | inr e ↦ subst HasSearched e h ]
 
 -- an answered search, with the design that was read or generated
-answered-headline : (Stands : Result Design Refusal → Type 0) (nodes : Option ℕ) (taken taken_then : Option (List ℕ)) (status : Status) (design : Design) (workers : ℕ) (start : Option (Expr × ℕ)) (scale : ℕ) (name : List ℕ) (pl : Option (List ℕ)) (stored : List Stored) (printed : List ℕ)
-    → Stands (Ok design) → IsAnswered design workers (budget_of nodes (block_count design)) start scale name pl status stored printed → Appends taken taken_then printed → IsHeadline Stands nodes taken taken_then status
-answered-headline Stands nodes taken taken_then status design workers start scale name pl stored printed stands answered prints =
+answered-headline : (Stands : Result Design Refusal → Type 0) (nodes : Option ℕ) (taken taken_then : Option (List ℕ)) (status : Status) (bounds : BoundsChoice) (design : Design) (workers : ℕ) (start : Option (Expr × ℕ)) (scale : ℕ) (name : List ℕ) (pl : Option (List ℕ)) (stored : List Stored) (printed : List ℕ)
+    → Stands (Ok design) → IsAnswered bounds design workers (budget_of nodes (block_count design)) start scale name pl status stored printed → Appends taken taken_then printed → IsHeadline Stands nodes taken taken_then status
+answered-headline Stands nodes taken taken_then status bounds design workers start scale name pl stored printed stands answered prints =
     let s = answered.searched in
-    let found = reported-finds design (budget_of nodes (block_count design)) (full design) scale name pl answered.cert status stored printed s.valid s.few s.spent s.ended answered.reported in
+    let found = reported-finds bounds design (budget_of nodes (block_count design)) (full design) scale name pl answered.cert status stored printed s.valid s.few s.spent s.ended answered.reported in
     record { design = design; stands = stands; report = found.0; finding = found.1; prints = subst (Appends taken taken_then) found.2 prints }
 
 module _ (before : Option Contents) (taken taken_then : Option (List ℕ)) (status : Status) (searched : HasSearched status) where
   -- an answer of `plan` by a status of a search has the headline
   plan-headline : (o : PlanOptions) (stored : List Stored) (printed : List ℕ) → CommandAnswer (plan o) before status stored printed → Appends taken taken_then printed → IsHeadline (PlanRead before o) o.nodes taken taken_then status
   plan-headline o stored printed (inl p) prints =
-      answered-headline (PlanRead before o) o.nodes taken taken_then status p.design o.workers p.start o.design.per_unit o.cert o.pl_out stored printed (inl (p.read, p.stands, p.knows)) p.answered prints
+      answered-headline (PlanRead before o) o.nodes taken taken_then status o.bounds p.design o.workers p.start o.design.per_unit o.cert o.pl_out stored printed (inl (p.read, p.stands, p.knows)) p.answered prints
   plan-headline o stored printed (inr r) prints = absurd (no-search status r.0 searched)
 
   -- so has one of `gen`
   gen-headline : (o : GenOptions) (stored : List Stored) (printed : List ℕ) → CommandAnswer (gen o) before status stored printed → Appends taken taken_then printed → IsHeadline (GenRead o) o.nodes taken taken_then status
   gen-headline o stored printed (inl p) prints =
-      answered-headline (GenRead o) o.nodes taken taken_then status p.design 1 None 1 (cert_name o) None p.searched printed p.made p.answered prints
+      answered-headline (GenRead o) o.nodes taken taken_then status Standard p.design 1 None 1 (cert_name o) None p.searched printed p.made p.answered prints
   gen-headline o stored printed (inr r) prints = absurd (no-search status r.0 searched)
 
   -- so has one of `resume`, which is an answer of a search where the certificate is valid
@@ -104,7 +105,7 @@ module _ (before : Option Contents) (taken taken_then : Option (List ℕ)) (stat
     | inl r ↦ absurd (subst HasSearched r.status_is searched)
     | inr g ↦ (let s = g.searched in
         let old = p.cert in
-        let found = reported-finds p.design (decided old.tags + o.nodes) (decided old.tags + full_open p.design old) o.design.per_unit o.cert_out o.pl_out g.cert status stored printed s.valid s.few s.spent (λ large. s.ended (omega (arith, large))) g.reported in
+        let found = reported-finds o.bounds p.design (decided old.tags + o.nodes) (decided old.tags + full_open p.design old) o.design.per_unit o.cert_out o.pl_out g.cert status stored printed s.valid s.few s.spent (λ large. s.ended (omega (arith, large))) g.reported in
         record { design = p.design; old = old; stands = p.reads; good = g.good; report = found.0; finding = found.1; prints = subst (Appends taken taken_then) found.2 prints })
   ]
   resume-headline o stored printed (inr r) prints = absurd (no-search status r.0 searched)

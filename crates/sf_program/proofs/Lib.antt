@@ -1,5 +1,6 @@
 mod Common
 pub mod Fitting
+pub mod ChosenLaws
 pub mod Told
 pub mod Printed
 pub mod Legal

@@ -1,6 +1,6 @@
 -- The commands that search nothing have one answer each.
 use Rattle.std.proofs.Common.{◌≡◌, inl, inr, ℕ, ◌+◌, suc, List, [], ◌∷◌, ◌++◌, map, length, Option, Some, None, Result, Ok, Err, refl, sym, ap, subst, ◌∙◌, arith}
-use Rattle.sf_program.proofs.Common.{Bool, codes, flat_map, range_with_len, Contents, Design, Block, Spot, block_count, root, IsRootCurve, ◌>>=◌, Place, IsByNumber, IsVerdict, standard, part_value, Cert, cert_text, AreTrees, IsValid, CheckOptions, MeasureOptions, ShapeOptions, CertRead, CheckRead, IsChecked, IsJudged, IsRenamed, IsRewritten, JudgedFile, answer_status, answer_text, cert_limit, cert_refusal, IsMeasured, MeasureRead, SpotsPlaced, SpotsRead, lines_named, sized_spot, spot_said, spots_said, verdict_status, verdict_text, Answer, AtMostOne, GivesOne, Refusal, DesignRead, KnownRead, Judged, PlacesRead, Said, TextRead, TextWithin, With, Stored, IsCurveText, IsLeast, IsShaped, ShapeRead, TokensRead, areas_alone, expr_refusal, least_line, point_line}
+use Rattle.sf_program.proofs.Common.{Bool, codes, flat_map, range_with_len, Contents, Design, Block, Spot, block_count, root, IsRootCurve, ◌>>=◌, Place, IsByNumber, IsVerdict, BoundsChoice, chosen_value, chosen_part, Cert, cert_text, AreTrees, IsValid, CheckOptions, MeasureOptions, ShapeOptions, CertRead, CheckRead, IsChecked, IsJudged, IsRenamed, IsRewritten, JudgedFile, answer_status, answer_text, cert_limit, cert_refusal, IsMeasured, MeasureRead, SpotsPlaced, SpotsRead, lines_named, sized_spot, spot_said, spots_said, verdict_status, verdict_text, Answer, AtMostOne, GivesOne, Refusal, DesignRead, KnownRead, Judged, PlacesRead, Said, TextRead, TextWithin, With, Stored, IsCurveText, IsLeast, IsShaped, ShapeRead, TokensRead, areas_alone, expr_refusal, least_line, point_line}
 use Rattle.sf_model.specs.declared.parts.Shape.{Shape}
 use Rattle.sf_polish.specs.declared.expr.Token.{Token}
 use Rattle.sf_polish.specs.Reading.{tokens_read}
@@ -38,55 +38,55 @@ said-cert c d e = same-cert c d (ap (λ (s : CertSaid). s.blocks) e) (ap (λ (s 
 
 -- a valid certificate is renamed in one way
 abbrev pub HasOneName : Type 0
-HasOneName = (design : Design) (old : Cert) → IsValid design (standard design) (part_value design) old → AtMostOne (IsRenamed design old)
+HasOneName = (bounds : BoundsChoice) (design : Design) (old : Cert) → IsValid design (chosen_value bounds design) (chosen_part bounds design) old → AtMostOne (IsRenamed bounds design old)
 
 -- the laws of trees by which it is so: the full values close what any part closes, and the first parts follow from the tree
 abbrev pub FullClose : Type 0
-FullClose = (design : Design) (tags : List Tag) (cost : ℕ) → AreTrees (part_value design) cost (root design ∷ []) tags → AreTrees (part_value design) cost (root design ∷ []) (map unnamed tags)
+FullClose = (bounds : BoundsChoice) (design : Design) (tags : List Tag) (cost : ℕ) → AreTrees (chosen_part bounds design) cost (root design ∷ []) tags → AreTrees (chosen_part bounds design) cost (root design ∷ []) (map unnamed tags)
 
 -- two lists of tags with the same tree, which both name the first parts, are one
 abbrev pub FirstAreOne : Type 0
-FirstAreOne = (design : Design) (cost : ℕ) (first second : List Tag) → AreTrees (part_value design) cost (root design ∷ []) (map unnamed first) → map unnamed first ≡ map unnamed second
-    → AllNameFirst design (part_value design) cost first → AllNameFirst design (part_value design) cost second → first ≡ second
+FirstAreOne = (bounds : BoundsChoice) (design : Design) (cost : ℕ) (first second : List Tag) → AreTrees (chosen_part bounds design) cost (root design ∷ []) (map unnamed first) → map unnamed first ≡ map unnamed second
+    → AllNameFirst design (chosen_part bounds design) cost first → AllNameFirst design (chosen_part bounds design) cost second → first ≡ second
 
 -- by both laws a valid certificate is renamed in one way
 pub one-name : FullClose → FirstAreOne → HasOneName
-one-name close ones design old valid c d p q =
-    let named : (x : Cert) → IsRenamed design old x → AllNameFirst design (part_value design) old.cost x.tags = λ x h. subst (λ z. AllNameFirst design (part_value design) z x.tags) h.alike.cost h.named in
-    let trees = subst (AreTrees (part_value design) old.cost (root design ∷ [])) (sym p.alike.tags) (close design old.tags old.cost valid.tree) in
-    let tags = ones design old.cost c.tags d.tags trees (p.alike.tags ∙ sym q.alike.tags) (named c p) (named d q) in
+one-name close ones bounds design old valid c d p q =
+    let named : (x : Cert) → IsRenamed bounds design old x → AllNameFirst design (chosen_part bounds design) old.cost x.tags = λ x h. subst (λ z. AllNameFirst design (chosen_part bounds design) z x.tags) h.alike.cost h.named in
+    let trees = subst (AreTrees (chosen_part bounds design) old.cost (root design ∷ [])) (sym p.alike.tags) (close bounds design old.tags old.cost valid.tree) in
+    let tags = ones bounds design old.cost c.tags d.tags trees (p.alike.tags ∙ sym q.alike.tags) (named c p) (named d q) in
     same-cert c d (p.alike.blocks ∙ sym q.alike.blocks) (p.alike.plan ∙ sym q.alike.plan) (p.alike.cost ∙ sym q.alike.cost) (p.alike.bound ∙ sym q.alike.bound) (p.alike.paths ∙ sym q.alike.paths) tags
 
-module _ (names : HasOneName) (design : Design) (cert : Cert) where
+module _ (names : HasOneName) (bounds : BoundsChoice) (design : Design) (cert : Cert) where
   -- what is stored of a certificate with one answer is one
-  rewritten-one : (rewrite : Option (List ℕ)) (answer : Checked) (ss ts : List Stored) → IsAnswer design (standard design) (part_value design) cert answer
-      → IsRewritten design cert rewrite answer ss → IsRewritten design cert rewrite answer ts → ss ≡ ts
+  rewritten-one : (rewrite : Option (List ℕ)) (answer : Checked) (ss ts : List Stored) → IsAnswer design (chosen_value bounds design) (chosen_part bounds design) cert answer
+      → IsRewritten bounds design cert rewrite answer ss → IsRewritten bounds design cert rewrite answer ts → ss ≡ ts
   rewritten-one None answer ss ts right p q = p ∙ sym q
   rewritten-one (Some name) (No why) ss ts right p q = p ∙ sym q
   rewritten-one (Some name) (Yes cost bound decided) ss ts right p q =
-      let same = names design cert right.valid p.0 q.0 p.1 q.1 in
+      let same = names bounds design cert right.valid p.0 q.0 p.1 q.1 in
       p.2 ∙ ap (λ (c : Cert). let all : List Stored = (name, cert_text c) ∷ [] in all) same ∙ sym q.2
 
   -- what is told and stored of a certificate is one
-  judged-one-way : (rewrite : Option (List ℕ)) (a b : Answer) → IsJudged design cert rewrite a.0 a.1 a.2 → IsJudged design cert rewrite b.0 b.1 b.2 → (a.0 ≡ b.0) × (a.1 ≡ b.1) × (a.2 ≡ b.2)
+  judged-one-way : (rewrite : Option (List ℕ)) (a b : Answer) → IsJudged bounds design cert rewrite a.0 a.1 a.2 → IsJudged bounds design cert rewrite b.0 b.1 b.2 → (a.0 ≡ b.0) × (a.1 ≡ b.1) × (a.2 ≡ b.2)
   judged-one-way rewrite a b p q =
-      let answer = one-answer design (standard design) (part_value design) cert p.answer q.answer p.answered q.answered in
-      let stored = subst (λ (x : Checked). IsRewritten design cert rewrite x a.1) answer p.rewritten in
+      let answer = one-answer design (chosen_value bounds design) (chosen_part bounds design) cert p.answer q.answer p.answered q.answered in
+      let stored = subst (λ (x : Checked). IsRewritten bounds design cert rewrite x a.1) answer p.rewritten in
       (p.status_is ∙ ap answer_status answer ∙ sym q.status_is, rewritten-one rewrite q.answer a.1 b.1 q.answered stored q.rewritten, p.prints ∙ ap answer_text answer ∙ sym q.prints)
 
 module _ (contents : Contents) (o : CheckOptions) where
   -- so is what is told and stored of the certificate under a name
-  file-one : HasOneName → (design : Design) (a b : Answer) → JudgedFile o.is_long (Some contents) o.cert design o.rewrite a.0 a.1 a.2 → JudgedFile o.is_long (Some contents) o.cert design o.rewrite b.0 b.1 b.2
+  file-one : HasOneName → (design : Design) (a b : Answer) → JudgedFile o.bounds o.is_long (Some contents) o.cert design o.rewrite a.0 a.1 a.2 → JudgedFile o.bounds o.is_long (Some contents) o.cert design o.rewrite b.0 b.1 b.2
       → (a.0 ≡ b.0) × (a.1 ≡ b.1) × (a.2 ≡ b.2)
   file-one names design a b p q =
       let same = said-cert p.cert q.cert (same-value (CertRead o.is_long (Some contents) o.cert (block_count design)) (cert-one o.is_long contents o.cert (block_count design)) (said_by p.cert) (said_by q.cert) p.reads q.reads) in
-      judged-one-way names design q.cert o.rewrite a b (subst (λ (c : Cert). IsJudged design c o.rewrite a.0 a.1 a.2) same p.judged) q.judged
+      judged-one-way names o.bounds design q.cert o.rewrite a b (subst (λ (c : Cert). IsJudged o.bounds design c o.rewrite a.0 a.1 a.2) same p.judged) q.judged
 
   -- the answers of `check` are one
   pub checked-one : HasOneName → (a b : Answer) → IsChecked o (Some contents) a.0 a.1 a.2 → IsChecked o (Some contents) b.0 b.1 b.2 → (a.0 ≡ b.0) × (a.1 ≡ b.1) × (a.2 ≡ b.2)
   checked-one names a b p q =
       let design = same-value (KnownRead (Some contents) o.design o.weights o.bounds) (known-one contents o.design o.weights o.bounds) p.design q.design p.reads q.reads in
-      file-one names q.design a b (subst (λ (d : Design). JudgedFile o.is_long (Some contents) o.cert d o.rewrite a.0 a.1 a.2) design p.file) q.file
+      file-one names q.design a b (subst (λ (d : Design). JudgedFile o.bounds o.is_long (Some contents) o.cert d o.rewrite a.0 a.1 a.2) design p.file) q.file
 
   -- what is checked was read
   pub checked-reads : (a : Answer) → IsChecked o (Some contents) a.0 a.1 a.2 → (said : CertSaid) × CheckRead (Some contents) o (Ok said)

@@ -3,7 +3,7 @@ use Rattle.std.proofs.Common.{◌≡◌, inl, ℕ, ◌*◌, Bool, false, List, [
 use Rattle.sf_program.proofs.Common.{Contents, Design, Spot, block_count, Tree, width, height, spots_of, wire, Expr, spells-one, by_number, Cert, decided, cert_text, Outcome, GenOptions, PlanOptions, DesignGenerated, GenRead, IsGenerated, by_default, both_weights, cert_name, parts_made, texts_stored, Answer, AtMostOne, GivesOne, BudgetTested, IsAnswered, IsEnding, AreMeasures, IsPlanned, IsReported, IsSearched, PlanRead, budget_of, outcome_status, placement_stores, Stored, alike}
 use Rattle.sf_anneal.specs.Starts.{IsImprovedStarts, first_least}
 use Rattle.sf_words.specs.declared.command.BoundsChoice.{BoundsChoice}
-use Rattle.sf_words.specs.declared.command.BoundsChoice.TheVariants.{Standard, Strong}
+use Rattle.sf_words.specs.declared.command.BoundsChoice.TheVariants.{Standard, Strong, Pair, Fit, Both}
 use Rattle.sf_known.specs.Known.{IsKnownBy, cheaper}
 use Rattle.sf_known.specs.Begun.{IsBegun}
 use Rattle.sf_pl_writer.specs.declared.report.Outcome.TheVariants as word
@@ -78,12 +78,15 @@ none-begun : (design : Design) (seed count moves : ℕ) (start : Option (Expr ×
 none-begun design seed count moves start none s = s.no_dearer.none (s.starts.least ∙ none-found s.starts.results (s.starts.many ∙ none))
 
 -- so does one for which none is known
-none-known : (bounds : BoundsChoice) (design : Design) (known : Option (Expr × ℕ)) → bounds ≡ Standard → IsKnownBy bounds design known → known ≡ None
+none-known : (bounds : BoundsChoice) (design : Design) (known : Option (Expr × ℕ)) → (bounds ≡ Strong → ⊥) → IsKnownBy bounds design known → known ≡ None
 none-known Standard design known plain h = h
-none-known Strong design known plain h = absurd (let e : Strong ≡ Standard = plain in cc)
+none-known Strong design known plain h = absurd (plain refl)
+none-known Pair design known plain h = h
+none-known Fit design known plain h = h
+none-known Both design known plain h = h
 
 -- a search that asks for neither begins with no plan
-none-first : (o : PlanOptions) (design known : Design) (start : Option (Expr × ℕ)) → o.starts.count ≡ 0 → o.bounds ≡ Standard → IsBegun o.starts o.bounds design known start → start ≡ None
+none-first : (o : PlanOptions) (design known : Design) (start : Option (Expr × ℕ)) → o.starts.count ≡ 0 → (o.bounds ≡ Strong → ⊥) → IsBegun o.starts o.bounds design known start → start ≡ None
 none-first o design known start bare plain b =
     let walked = none-begun design o.starts.seed o.starts.count o.starts.moves b.walked bare b.walks in
     let least = none-known o.bounds known b.least plain b.knows in
@@ -91,15 +94,15 @@ none-first o design known start bare plain b =
 
 -- only one certificate is that of a search by one worker that begins with no plan
 abbrev pub HasOneCert : Type 0
-HasOneCert = (design : Design) (budget : ℕ) → AtMostOne (IsSearched design 1 budget None)
+HasOneCert = (bounds : BoundsChoice) (design : Design) (budget : ℕ) → AtMostOne (IsSearched bounds design 1 budget None)
 
 module _ (certs : HasOneCert) where
   -- the answers of a search by one worker are one
-  pub answered-one : (design : Design) (budget scale : ℕ) (name : List ℕ) (pl : Option (List ℕ)) (a b : Answer)
-      → IsAnswered design 1 budget None scale name pl a.0 a.1 a.2 → IsAnswered design 1 budget None scale name pl b.0 b.1 b.2 → (a.0 ≡ b.0) × (a.1 ≡ b.1) × (a.2 ≡ b.2)
-  answered-one design budget scale name pl a b p q =
-      let cert = certs design budget p.cert q.cert p.searched q.searched in
-      let r = subst (λ (c : Cert). IsReported design scale name pl c a.0 a.1 a.2) cert p.reported in
+  pub answered-one : (bounds : BoundsChoice) (design : Design) (budget scale : ℕ) (name : List ℕ) (pl : Option (List ℕ)) (a b : Answer)
+      → IsAnswered bounds design 1 budget None scale name pl a.0 a.1 a.2 → IsAnswered bounds design 1 budget None scale name pl b.0 b.1 b.2 → (a.0 ≡ b.0) × (a.1 ≡ b.1) × (a.2 ≡ b.2)
+  answered-one bounds design budget scale name pl a b p q =
+      let cert = certs bounds design budget p.cert q.cert p.searched q.searched in
+      let r = subst (λ (c : Cert). IsReported bounds design scale name pl c a.0 a.1 a.2) cert p.reported in
       let s = q.reported in
       let said = ending-one q.cert.cost q.cert.bound r.said s.said r.ending s.ending in
       let told = subst (λ (w : Outcome). IsTold design scale name pl w q.cert q.cert.plan a.1 a.2) said r.told in
@@ -107,13 +110,13 @@ module _ (certs : HasOneCert) where
       (r.status_is ∙ ap outcome_status said ∙ sym s.status_is, both.0, both.1)
 
   -- so are those of `plan`
-  pub planned-one : (contents : Contents) (o : PlanOptions) → o.workers ≡ 1 → o.starts.count ≡ 0 → o.bounds ≡ Standard → (a b : Answer) → IsPlanned o (Some contents) a.0 a.1 a.2 → IsPlanned o (Some contents) b.0 b.1 b.2 → (a.0 ≡ b.0) × (a.1 ≡ b.1) × (a.2 ≡ b.2)
+  pub planned-one : (contents : Contents) (o : PlanOptions) → o.workers ≡ 1 → o.starts.count ≡ 0 → (o.bounds ≡ Strong → ⊥) → (a b : Answer) → IsPlanned o (Some contents) a.0 a.1 a.2 → IsPlanned o (Some contents) b.0 b.1 b.2 → (a.0 ≡ b.0) × (a.1 ≡ b.1) × (a.2 ≡ b.2)
   planned-one contents o single bare plain a b p q =
       let design = same-value (PlanRead (Some contents) o) (plan-one contents o) p.design q.design (inl (p.read, p.stands, p.knows)) (inl (q.read, q.stands, q.knows)) in
-      let By : ℕ → Option (Expr × ℕ) → Design → Answer → Type 0 = λ n s d x. IsAnswered d n (budget_of o.nodes (block_count d)) s o.design.per_unit o.cert o.pl_out x.0 x.1 x.2 in
+      let By : ℕ → Option (Expr × ℕ) → Design → Answer → Type 0 = λ n s d x. IsAnswered o.bounds d n (budget_of o.nodes (block_count d)) s o.design.per_unit o.cert o.pl_out x.0 x.1 x.2 in
       let first = none-first o p.read p.design p.start bare plain p.begun in
       let second = none-first o q.read q.design q.start bare plain q.begun in
-      answered-one q.design (budget_of o.nodes (block_count q.design)) o.design.per_unit o.cert o.pl_out a b
+      answered-one o.bounds q.design (budget_of o.nodes (block_count q.design)) o.design.per_unit o.cert o.pl_out a b
       (subst (λ n. By n None q.design a) single (subst (λ (d : Design). By o.workers None d a) design (subst (λ s. By o.workers s p.design a) first p.answered)))
       (subst (λ n. By n None q.design b) single (subst (λ s. By o.workers s q.design b) second q.answered))
 
@@ -121,6 +124,6 @@ module _ (certs : HasOneCert) where
   pub generated-one : (o : GenOptions) (a b : Answer) → IsGenerated o a.0 a.1 a.2 → IsGenerated o b.0 b.1 b.2 → (a.0 ≡ b.0) × (a.1 ≡ b.1) × (a.2 ≡ b.2)
   generated-one o a b p q =
       let design = same-value (GenRead o) (gen-one false o) p.design q.design p.made q.made in
-      let answered = subst (λ (d : Design). IsAnswered d 1 (budget_of o.nodes (block_count d)) None 1 (cert_name o) None a.0 p.searched a.2) design p.answered in
-      let same = answered-one q.design (budget_of o.nodes (block_count q.design)) 1 (cert_name o) None (a.0, p.searched, a.2) (b.0, q.searched, b.2) answered q.answered in
+      let answered = subst (λ (d : Design). IsAnswered Standard d 1 (budget_of o.nodes (block_count d)) None 1 (cert_name o) None a.0 p.searched a.2) design p.answered in
+      let same = answered-one Standard q.design (budget_of o.nodes (block_count q.design)) 1 (cert_name o) None (a.0, p.searched, a.2) (b.0, q.searched, b.2) answered q.answered in
       (same.0, p.stored_is ∙ ap (λ (ss : List Stored). texts_stored o ++ ss) same.1 ∙ sym q.stored_is, same.2)

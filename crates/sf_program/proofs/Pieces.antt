@@ -1,6 +1,6 @@
 -- A text that is fed in pieces: its answer, and what its fault says.
 use Rattle.std.proofs.Common.{◌≡◌, inl, ℕ, List, [], ◌∷◌, length, arith, refl, subst, sym, Option, None, Result, Ok, Err, IfOk, Bool}
-use Rattle.sf_program.proofs.Common.{IfErr, Contents, Design, block_count, standard, part_value, CheckOptions, Command, check, Stop, Refuses, Stops, KnownRead, Judged, TextWithin, Cert, cert_text, IsValid, CommandRefuses, IsOwnAnswer, Obeys, CertRead, CheckRead, IsJudged, IsRewritten, IsStoredAnew, JudgedFile, JudgedText, answer_status, answer_text, cert_limit, cert_refusal, Stored, stored_in}
+use Rattle.sf_program.proofs.Common.{IfErr, Contents, Design, block_count, BoundsChoice, chosen_value, chosen_part, CheckOptions, Command, check, Stop, Refuses, Stops, KnownRead, Judged, TextWithin, Cert, cert_text, IsValid, CommandRefuses, IsOwnAnswer, Obeys, CertRead, CheckRead, IsJudged, IsRewritten, IsStoredAnew, JudgedFile, JudgedText, answer_status, answer_text, cert_limit, cert_refusal, Stored, stored_in}
 use Rattle.sf_certificate.specs.declared.fault.CertFault.{CertFault}
 use Rattle.sf_certificate.specs.Reading.{Said, cert_read, said_by}
 use Rattle.sf_checker.specs.declared.answer.Answer.{Answer}
@@ -22,49 +22,49 @@ cert-stops read fault stop e r =
     refused-stops (λ why. Judged read cert_refusal (Err why)) (cert_refusal fault) (subst (λ x. Judged x cert_refusal (Err (cert_refusal fault))) (sym e) refl) stop r
 
 -- an answer that stores nothing
-pub told-text : (design : Design) (text : List ℕ) (answer : Answer) (work : Work) → IsAnswerTo design (standard design) (part_value design) text answer
+pub told-text : (bounds : BoundsChoice) (design : Design) (text : List ℕ) (answer : Answer) (work : Work) → IsAnswerTo design (chosen_value bounds design) (chosen_part bounds design) text answer
     → work.status ≡ answer_status answer → stored_in work.stores.items ≡ [] → work.text.items ≡ answer_text answer
-    → JudgedText design text None work.status (stored_in work.stores.items) work.text.items
-told-text design text answer work a status stores printed = record {
+    → JudgedText bounds design text None work.status (stored_in work.stores.items) work.text.items
+told-text bounds design text answer work a status stores printed = record {
   cert = a.cert;
   reads = a.reads;
   judged = record { answer = answer; answered = a.answered; status_is = status; rewritten = stores; prints = printed };
 }
 
 -- a certificate that is valid, and names the first parts, is stored in place of one that it is like
-pub stored-anew : {A E : Type 0} (design : Design) (old new : Cert) (name : List ℕ) → AreAlikeButNames old new → AllNameFirst design (part_value design) new.cost new.tags → IsValid design (standard design) (part_value design) new
-    → (stores : A → List Stored) (r : Result A E) → IfOk r (λ a. stores a ≡ (name, cert_text new) ∷ []) → IfOk r (λ a. IsStoredAnew design old name (stores a))
-stored-anew design old new name alike first valid stores (Ok a) h =
-    (new, record { alike = alike; named = first; accepted = λ answer so. (answered design (standard design) (part_value design) new answer so).1 valid }, h)
-stored-anew design old new name alike first valid stores (Err e) h = tt
+pub stored-anew : {A E : Type 0} (bounds : BoundsChoice) (design : Design) (old new : Cert) (name : List ℕ) → AreAlikeButNames old new → AllNameFirst design (chosen_part bounds design) new.cost new.tags → IsValid design (chosen_value bounds design) (chosen_part bounds design) new
+    → (stores : A → List Stored) (r : Result A E) → IfOk r (λ a. stores a ≡ (name, cert_text new) ∷ []) → IfOk r (λ a. IsStoredAnew bounds design old name (stores a))
+stored-anew bounds design old new name alike first valid stores (Ok a) h =
+    (new, record { alike = alike; named = first; accepted = λ answer so. (answered design (chosen_value bounds design) (chosen_part bounds design) new answer so).1 valid }, h)
+stored-anew bounds design old new name alike first valid stores (Err e) h = tt
 
 -- an answer with what is stored of its certificate
-pub told-cert : {E : Type 0} (design : Design) (cert : Cert) (rewrite : Option (List ℕ)) (answer : Answer) (all : List Stored) → IsAnswer design (standard design) (part_value design) cert answer → IsRewritten design cert rewrite answer all
+pub told-cert : {E : Type 0} (bounds : BoundsChoice) (design : Design) (cert : Cert) (rewrite : Option (List ℕ)) (answer : Answer) (all : List Stored) → IsAnswer design (chosen_value bounds design) (chosen_part bounds design) cert answer → IsRewritten bounds design cert rewrite answer all
     → (r : Result Work E) → IfOk r (λ w. w.status ≡ answer_status answer) → IfOk r (λ w. stored_in w.stores.items ≡ all) → IfOk r (λ w. w.text.items ≡ answer_text answer)
-    → IfOk r (λ w. IsJudged design cert rewrite w.status (stored_in w.stores.items) w.text.items)
-told-cert design cert rewrite answer all so kept (Ok w) status stores printed = record {
+    → IfOk r (λ w. IsJudged bounds design cert rewrite w.status (stored_in w.stores.items) w.text.items)
+told-cert bounds design cert rewrite answer all so kept (Ok w) status stores printed = record {
   answer = answer;
   answered = so;
   status_is = status;
-  rewritten = subst (IsRewritten design cert rewrite answer) (sym stores) kept;
+  rewritten = subst (IsRewritten bounds design cert rewrite answer) (sym stores) kept;
   prints = printed;
 }
-told-cert design cert rewrite answer all so kept (Err e) status stores printed = tt
+told-cert bounds design cert rewrite answer all so kept (Err e) status stores printed = tt
 
 -- what is told of the text that is read under a name
-pub told-file : (is_long : Bool) (held : Option Contents) (name text said : List ℕ) (design : Design) (rewrite named : Option (List ℕ)) → TextWithin (cert_limit is_long) held name (Ok text) → said ≡ text → named ≡ rewrite → (r : Result Work Stop)
-    → IfOk r (λ w. JudgedText design said rewrite w.status (stored_in w.stores.items) w.text.items) → IfOk r (λ w. JudgedFile is_long held name design named w.status (stored_in w.stores.items) w.text.items)
-told-file is_long held name text said design rewrite named read same given (Ok w) h = record {
+pub told-file : (bounds : BoundsChoice) (is_long : Bool) (held : Option Contents) (name text said : List ℕ) (design : Design) (rewrite named : Option (List ℕ)) → TextWithin (cert_limit is_long) held name (Ok text) → said ≡ text → named ≡ rewrite → (r : Result Work Stop)
+    → IfOk r (λ w. JudgedText bounds design said rewrite w.status (stored_in w.stores.items) w.text.items) → IfOk r (λ w. JudgedFile bounds is_long held name design named w.status (stored_in w.stores.items) w.text.items)
+told-file bounds is_long held name text said design rewrite named read same given (Ok w) h = record {
   cert = h.cert;
   reads = inl (text, read, subst (λ r. Judged r cert_refusal (Ok (said_by h.cert))) (sym (subst (λ t. cert_read (block_count design) t ≡ Ok (said_by h.cert)) same h.reads)) refl);
-  judged = subst (λ n. IsJudged design h.cert n w.status (stored_in w.stores.items) w.text.items) (sym given) h.judged;
+  judged = subst (λ n. IsJudged bounds design h.cert n w.status (stored_in w.stores.items) w.text.items) (sym given) h.judged;
 }
-told-file is_long held name text said design rewrite named read same given (Err stop) h = tt
+told-file bounds is_long held name text said design rewrite named read same given (Err stop) h = tt
 
 -- the design comes before the certificate
 module _ (held : Option Contents) (o : CheckOptions) (design : Design) (read : KnownRead held o.design o.weights o.bounds (Ok design)) where
   -- what is told of the certificate's file, and a fault of it, is what `check` tells of the design
-  pub check-obeyed : (r : Result Work Stop) → IfOk r (λ w. JudgedFile o.is_long held o.cert design o.rewrite w.status (stored_in w.stores.items) w.text.items)
+  pub check-obeyed : (r : Result Work Stop) → IfOk r (λ w. JudgedFile o.bounds o.is_long held o.cert design o.rewrite w.status (stored_in w.stores.items) w.text.items)
       → IfErr r (λ stop. Stops stop (λ why. CertRead o.is_long held o.cert (block_count design) (Err why))) → Obeys (check o) held r
   check-obeyed (Ok w) told stopped = record { design = design; reads = read; file = told }
   check-obeyed (Err stop) told stopped = stops-map (λ why. CertRead o.is_long held o.cert (block_count design) (Err why)) (λ why. CheckRead held o (Err why)) (λ why p. inl (design, read, p)) stop stopped

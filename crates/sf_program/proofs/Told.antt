@@ -1,12 +1,11 @@
 -- What is told of a search is its answer.
 use Rattle.std.proofs.Common.{◌≡◌, ◌≤◌, ℕ, List, [], ◌∷◌, map, Option, Result, Ok, Err, arith, subst}
-use Rattle.sf_program.proofs.Common.{IfOk, Design, root, Expr, Cert, least, left_open, standard, part_value, Outcome, IsAnswered, IsEnding, IsReported, IsSearched, IsGood, IsGoneOn, IsSearchedOn, outcome_status, stored_in}
+use Rattle.sf_program.proofs.Common.{IfOk, Design, root, Expr, Cert, least, left_open, BoundsChoice, chosen_value, chosen_part, Outcome, IsAnswered, IsEnding, IsReported, IsSearched, IsGood, IsGoneOn, IsSearchedOn, outcome_status, stored_in}
 use Rattle.sf_certificate.proofs.Floor.{certificate-floor}
 use Rattle.sf_checker.proofs.Answered.{answered}
-use Rattle.sf_standard.proofs.ByPart.{parts_are_below}
-use Rattle.sf_standard.proofs.Soundness.{standard_is_sound}
 use Rattle.sf_program.specs.declared.work.Work.{Work}
 use Rattle.sf_program.specs.Planned.{IsTold}
+use Rattle.sf_program.proofs.ChosenLaws.{chosen-parts, chosen-sound}
 
 -- the least of numbers from a first one is at most that
 least-below : (n : ℕ) (xs : List ℕ) → least n xs ≤ n
@@ -14,19 +13,19 @@ least-below n [] = omega arith
 least-below n (x ∷ xs) = omega (arith, least-below n xs)
 
 -- the bound of a valid certificate is at most its cost
-pub bound-below : (design : Design) (cert : Cert) → IsGood design cert → cert.bound ≤ cert.cost
-bound-below design cert valid =
-    omega (arith, valid.stated, least-below cert.cost (map (standard design) (left_open (root design ∷ []) cert.tags)))
+pub bound-below : (bounds : BoundsChoice) (design : Design) (cert : Cert) → IsGood bounds design cert → cert.bound ≤ cert.cost
+bound-below bounds design cert valid =
+    omega (arith, valid.stated, least-below cert.cost (map (chosen_value bounds design) (left_open (root design ∷ []) cert.tags)))
 
-module _ {E : Type 0} (design : Design) (scale : ℕ) (name : List ℕ) (pl : Option (List ℕ)) where
+module _ {E : Type 0} (bounds : BoundsChoice) (design : Design) (scale : ℕ) (name : List ℕ) (pl : Option (List ℕ)) where
   -- what is told of a valid certificate is its report
-  pub told-reported : (said : Outcome) (cert : Cert) (plan : Option Expr) → IsGood design cert → plan ≡ cert.plan → IsEnding cert.cost cert.bound said → (r : Result Work E)
+  pub told-reported : (said : Outcome) (cert : Cert) (plan : Option Expr) → IsGood bounds design cert → plan ≡ cert.plan → IsEnding cert.cost cert.bound said → (r : Result Work E)
       → IfOk r (λ w. IsTold design scale name pl said cert plan (stored_in w.stores.items) w.text.items)
       → IfOk r (λ w. w.status ≡ outcome_status said)
-      → IfOk r (λ w. IsReported design scale name pl cert w.status (stored_in w.stores.items) w.text.items)
+      → IfOk r (λ w. IsReported bounds design scale name pl cert w.status (stored_in w.stores.items) w.text.items)
   told-reported said cert plan valid same ending (Ok w) told status = record {
-    floor = certificate-floor design (standard design) (part_value design) cert (standard_is_sound design) (parts_are_below design) valid;
-    accepted = λ answer answered_so. (answered design (standard design) (part_value design) cert answer answered_so).1 valid;
+    floor = certificate-floor design (chosen_value bounds design) (chosen_part bounds design) cert (chosen-sound bounds design) (chosen-parts bounds design) valid;
+    accepted = λ answer answered_so. (answered design (chosen_value bounds design) (chosen_part bounds design) cert answer answered_so).1 valid;
     said = said;
     ending = ending;
     status_is = status;
@@ -35,15 +34,15 @@ module _ {E : Type 0} (design : Design) (scale : ℕ) (name : List ℕ) (pl : Op
   told-reported said cert plan valid same ending (Err e) told status = tt
 
   -- with its report the certificate of a search from the root is the search's answer
-  pub searched-answered : (workers budget : ℕ) (start : Option (Expr × ℕ)) (cert : Cert) → IsSearched design workers budget start cert → (r : Result Work E)
-      → IfOk r (λ w. IsReported design scale name pl cert w.status (stored_in w.stores.items) w.text.items)
-      → IfOk r (λ w. IsAnswered design workers budget start scale name pl w.status (stored_in w.stores.items) w.text.items)
+  pub searched-answered : (workers budget : ℕ) (start : Option (Expr × ℕ)) (cert : Cert) → IsSearched bounds design workers budget start cert → (r : Result Work E)
+      → IfOk r (λ w. IsReported bounds design scale name pl cert w.status (stored_in w.stores.items) w.text.items)
+      → IfOk r (λ w. IsAnswered bounds design workers budget start scale name pl w.status (stored_in w.stores.items) w.text.items)
   searched-answered workers budget start cert searched (Ok w) reported = record { cert = cert; searched = searched; reported = reported }
   searched-answered workers budget start cert searched (Err e) reported = tt
 
   -- so is that of one that went on from another
-  pub gone-on : (old : Cert) (budget : ℕ) (cert : Cert) → IsGood design old → IsSearchedOn design old budget cert → (r : Result Work E)
-      → IfOk r (λ w. IsReported design scale name pl cert w.status (stored_in w.stores.items) w.text.items)
-      → IfOk r (λ w. IsGoneOn design old budget scale name pl w.status (stored_in w.stores.items) w.text.items)
+  pub gone-on : (old : Cert) (budget : ℕ) (cert : Cert) → IsGood bounds design old → IsSearchedOn bounds design old budget cert → (r : Result Work E)
+      → IfOk r (λ w. IsReported bounds design scale name pl cert w.status (stored_in w.stores.items) w.text.items)
+      → IfOk r (λ w. IsGoneOn bounds design old budget scale name pl w.status (stored_in w.stores.items) w.text.items)
   gone-on old budget cert good searched (Ok w) reported = record { good = good; cert = cert; searched = searched; reported = reported }
   gone-on old budget cert good searched (Err e) reported = tt

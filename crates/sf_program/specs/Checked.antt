@@ -6,7 +6,6 @@ use Rattle.sf_io.specs.declared.status.Status.{Status}
 use Rattle.sf_io.specs.declared.status.Status.TheVariants as status
 use Rattle.sf_model.specs.declared.design.Design.{Design}
 use Rattle.sf_model.specs.Legal.{block_count}
-use Rattle.sf_standard.specs.Standard.{standard, part_value}
 use Rattle.sf_certificate.specs.declared.cert.Cert.{Cert}
 use Rattle.sf_certificate.specs.declared.fault.CertFault.{CertFault}
 use Rattle.sf_certificate.specs.declared.fault.CertFault.TheVariants as fault
@@ -19,7 +18,9 @@ use Rattle.sf_checker.specs.declared.answer.Why.TheVariants.{BadPlan, CostDiffer
 use Rattle.sf_checker.specs.declared.answer.Answer.{Answer}
 use Rattle.sf_checker.specs.declared.answer.Answer.TheVariants.{Yes, No}
 use Rattle.sf_checker.specs.Answers.{IsAnswer, is_yes}
+use Rattle.sf_words.specs.declared.command.BoundsChoice.{BoundsChoice}
 use Rattle.sf_words.specs.Meaning.{CheckOptions}
+use Rattle.sf_program.specs.Chosen.{chosen_value, chosen_part}
 use Rattle.sf_designs.specs.Outcome.{Refusal, Then}
 use Rattle.sf_designs.specs.Refusals.{line_of, bad_input, no_line}
 use Rattle.sf_designs.specs.Reading.{TextWithin, Judged}
@@ -72,43 +73,43 @@ answer_status (Yes cost bound decided) = status.Done
 answer_status (No why) = status.No
 
 -- the same certificate, each closed subproblem naming the first part of the bound that is at least the cost; the checker says Yes to it
-pub record IsRenamed (design : Design) (old new : Cert) : Type 0 where
+pub record IsRenamed (bounds : BoundsChoice) (design : Design) (old new : Cert) : Type 0 where
   pub alike : AreAlikeButNames old new
-  pub named : AllNameFirst design (part_value design) new.cost new.tags
-  pub accepted : (answer : Answer) → IsAnswer design (standard design) (part_value design) new answer → is_yes answer ≡ true
+  pub named : AllNameFirst design (chosen_part bounds design) new.cost new.tags
+  pub accepted : (answer : Answer) → IsAnswer design (chosen_value bounds design) (chosen_part bounds design) new answer → is_yes answer ≡ true
 
 -- the certificate is stored under the name with its parts named so
-abbrev pub IsStoredAnew : Design → Cert → List ℕ → List Stored → Type 0
-IsStoredAnew design cert name stored = (new : Cert) × IsRenamed design cert new × (stored ≡ (name, cert_text new) ∷ [])
+abbrev pub IsStoredAnew : BoundsChoice → Design → Cert → List ℕ → List Stored → Type 0
+IsStoredAnew bounds design cert name stored = (new : Cert) × IsRenamed bounds design cert new × (stored ≡ (name, cert_text new) ∷ [])
 
 -- what is stored of a certificate with this answer: nothing at No, nor where no name is given
-abbrev pub IsRewritten : Design → Cert → Option (List ℕ) → Answer → List Stored → Type 0
-IsRewritten design cert None answer stored = stored ≡ []
-IsRewritten design cert (Some name) (No why) stored = stored ≡ []
-IsRewritten design cert (Some name) (Yes cost bound decided) stored = IsStoredAnew design cert name stored
+abbrev pub IsRewritten : BoundsChoice → Design → Cert → Option (List ℕ) → Answer → List Stored → Type 0
+IsRewritten bounds design cert None answer stored = stored ≡ []
+IsRewritten bounds design cert (Some name) (No why) stored = stored ≡ []
+IsRewritten bounds design cert (Some name) (Yes cost bound decided) stored = IsStoredAnew bounds design cert name stored
 
--- the checker's answer to a certificate by the standard bound and its parts, and what is stored and printed of it
-pub record IsJudged (design : Design) (cert : Cert) (rewrite : Option (List ℕ)) (status : Status) (stored : List Stored) (printed : List ℕ) : Type 0 where
+-- the checker's answer to a certificate by the chosen bound and its parts, and what is stored and printed of it
+pub record IsJudged (bounds : BoundsChoice) (design : Design) (cert : Cert) (rewrite : Option (List ℕ)) (status : Status) (stored : List Stored) (printed : List ℕ) : Type 0 where
   pub answer : Answer
-  pub answered : IsAnswer design (standard design) (part_value design) cert answer
+  pub answered : IsAnswer design (chosen_value bounds design) (chosen_part bounds design) cert answer
   pub status_is : status ≡ answer_status answer
-  pub rewritten : IsRewritten design cert rewrite answer stored
+  pub rewritten : IsRewritten bounds design cert rewrite answer stored
   pub prints : printed ≡ answer_text answer
 
 -- the text says a certificate for the blocks of the design, which is judged
-pub record JudgedText (design : Design) (text : List ℕ) (rewrite : Option (List ℕ)) (status : Status) (stored : List Stored) (printed : List ℕ) : Type 0 where
+pub record JudgedText (bounds : BoundsChoice) (design : Design) (text : List ℕ) (rewrite : Option (List ℕ)) (status : Status) (stored : List Stored) (printed : List ℕ) : Type 0 where
   pub cert : Cert
   pub reads : cert_read (block_count design) text ≡ Ok (said_by cert)
-  pub judged : IsJudged design cert rewrite status stored printed
+  pub judged : IsJudged bounds design cert rewrite status stored printed
 
 -- the text under the name does
-pub record JudgedFile (is_long : Bool) (held : Option Contents) (name : List ℕ) (design : Design) (rewrite : Option (List ℕ)) (status : Status) (stored : List Stored) (printed : List ℕ) : Type 0 where
+pub record JudgedFile (bounds : BoundsChoice) (is_long : Bool) (held : Option Contents) (name : List ℕ) (design : Design) (rewrite : Option (List ℕ)) (status : Status) (stored : List Stored) (printed : List ℕ) : Type 0 where
   pub cert : Cert
   pub reads : CertRead is_long held name (block_count design) (Ok (said_by cert))
-  pub judged : IsJudged design cert rewrite status stored printed
+  pub judged : IsJudged bounds design cert rewrite status stored printed
 
 -- the files stand for a design and a certificate, which is judged
 pub record IsChecked (o : CheckOptions) (before : Option Contents) (status : Status) (stored : List Stored) (printed : List ℕ) : Type 0 where
   pub design : Design
   pub reads : KnownRead before o.design o.weights o.bounds (Ok design)
-  pub file : JudgedFile o.is_long before o.cert design o.rewrite status stored printed
+  pub file : JudgedFile o.bounds o.is_long before o.cert design o.rewrite status stored printed

@@ -21,6 +21,7 @@ use Rattle.sf_words.specs.declared.command.Kinds.{Kinds}
 use Rattle.sf_words.specs.declared.command.Kinds.TheVariants.{Hard, Mixed}
 use Rattle.sf_words.specs.Meaning.{gsrc, DesignOptions, GenOptions, WeightOptions}
 use Rattle.sf_designs.specs.Outcome.{Refusal, Then}
+use Rattle.sf_words.specs.declared.command.BoundsChoice.TheVariants.{Standard}
 use Rattle.sf_program.specs.Planned.{BudgetTested, IsAnswered, budget_of}
 use Rattle.sf_designs.specs.Reading.{DesignMade}
 use Rattle.sf_program.specs.Stores.{Stored}
@@ -109,5 +110,5 @@ pub record IsGenerated (o : GenOptions) (status : Status) (stored : List Stored)
   pub design : Design
   pub made : GenRead o (Ok design)
   pub searched : List Stored
-  pub answered : IsAnswered design 1 (budget_of o.nodes (block_count design)) None 1 (cert_name o) None status searched printed
+  pub answered : IsAnswered Standard design 1 (budget_of o.nodes (block_count design)) None 1 (cert_name o) None status searched printed
   pub stored_is : stored ≡ texts_stored o ++ searched

@@ -65,7 +65,7 @@ pub record IsHeadlineOn (o : ResumeOptions) (before : Option Contents) (taken ta
   pub design : Design
   pub old : Cert
   pub stands : ResumeRead before o (Ok (design, old))
-  pub good : IsGood design old
+  pub good : IsGood o.bounds design old
   pub report : Report
   pub finding : IsFinding design (decided old.tags + o.nodes) (decided old.tags + full_open design old) status report
   pub prints : Appends taken taken_then (report_text report)

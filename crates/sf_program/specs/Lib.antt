@@ -1,4 +1,5 @@
 pub mod Knowing
+pub mod Chosen
 pub mod Stores
 pub mod Planned
 pub mod Checked

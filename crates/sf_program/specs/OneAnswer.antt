@@ -1,5 +1,5 @@
 -- That words and texts have one answer: what it is said of, and what is left open.
-use Rattle.std.specs.Prelude.{◌≡◌, ⊤, ℕ, List, [], map, length, Option, Some, Bool, IsTrue, Result, Ok, Err}
+use Rattle.std.specs.Prelude.{◌≡◌, ◌≢◌, ⊤, ℕ, List, [], map, length, Option, Some, Bool, IsTrue, Result, Ok, Err}
 use Rattle.std.specs.Io.KnownBytes.{Appends}
 use Rattle.sf_io.specs.Outside.{Contents}
 use Rattle.sf_io.specs.declared.status.Status.{Status}
@@ -8,7 +8,7 @@ use Rattle.sf_model.specs.declared.raw.RawBlock.{RawBlock}
 use Rattle.sf_model.specs.Admitted.{block_names}
 use Rattle.sf_model.specs.Legal.{block_count}
 use Rattle.sf_words.specs.Meaning.{Command, plan, resume, Means}
-use Rattle.sf_words.specs.declared.command.BoundsChoice.TheVariants.{Standard}
+use Rattle.sf_words.specs.declared.command.BoundsChoice.TheVariants.{Strong}
 use Rattle.sf_program.specs.Answer.{Answers}
 use Rattle.sf_designs.specs.Outcome.{Refusal, refused, lost}
 use Rattle.sf_program.specs.Stores.{AfterStores, Stored}
@@ -56,7 +56,7 @@ refusal status line = (status, [], line)
 
 -- several workers settle subproblems in an order that is not told, and a search that goes on or that begins with a plan is as theirs with one too: only one by one worker, from the root and from nothing, is said to be a function of its design
 abbrev pub HasOneWorker : Command → Type 0
-HasOneWorker (plan o) = (o.workers ≡ 1) × (o.starts.count ≡ 0) × (o.bounds ≡ Standard)
+HasOneWorker (plan o) = (o.workers ≡ 1) × (o.starts.count ≡ 0) × (o.bounds ≢ Strong)
 HasOneWorker (resume o) = ⊥
 HasOneWorker other = ⊤
 

@@ -13,8 +13,9 @@ use Rattle.sf_model.specs.Wire.{wire}
 use Rattle.sf_polish.specs.declared.expr.Expr.{Expr}
 use Rattle.sf_polish.specs.Postfix.{Spells}
 use Rattle.sf_place.specs.Spots.{by_number}
+use Rattle.sf_node.specs.declared.part.Part.{Part}
 use Rattle.sf_node.specs.Full.{full}
-use Rattle.sf_standard.specs.Standard.{standard, part_value}
+use Rattle.sf_node.specs.Parts.{Parts}
 use Rattle.sf_search_core.specs.Outcome.{opening}
 use Rattle.sf_certificate.specs.declared.cert.Cert.{Cert}
 use Rattle.sf_certificate.specs.Named.{AllNameFirst}
@@ -28,11 +29,13 @@ use Rattle.sf_pl_writer.specs.declared.report.Outcome.{Outcome}
 use Rattle.sf_pl_writer.specs.declared.report.Outcome.TheVariants as word
 use Rattle.sf_pl_writer.specs.PlText.{pl_text}
 use Rattle.sf_pl_writer.specs.ReportText.{report_text}
+use Rattle.sf_words.specs.declared.command.BoundsChoice.{BoundsChoice}
 use Rattle.sf_words.specs.Meaning.{PlanOptions}
 use Rattle.sf_designs.specs.Outcome.{Refusal, Then}
 use Rattle.sf_designs.specs.Refusals.{over_limit}
 use Rattle.sf_designs.specs.Reading.{PartsAdmitted, DesignMade}
 use Rattle.sf_program.specs.Knowing.{MadeKnown}
+use Rattle.sf_program.specs.Chosen.{chosen_value, chosen_part}
 use Rattle.sf_known.specs.Begun.{IsBegun}
 use Rattle.sf_known.specs.Known.{Knows}
 use Rattle.sf_program.specs.Stores.{Stored}
@@ -104,32 +107,36 @@ IsTold design scale name pl said cert (Some expr) stored printed =
     × (stored ≡ (name, cert_text cert) ∷ placement_stores design scale pl spots)
     × (printed ≡ report_text (record { word = said; cost = cert.cost; bound = cert.bound; decided = decided cert.tags; size = (w, h); area = w * h; wire = wires; plan = Some expr }))
 
--- the certificate of a search of the design by so many workers with this budget, which begins with a plan of so high a cost, or with none: valid by the standard bound and its parts, each closed subproblem naming the first part that is at least the cost, the cost no higher than that of the plan that it began with, and where it began with none, with one worker found by the turns of the search core
-pub record IsSearched (design : Design) (workers budget : ℕ) (start : Option (Expr × ℕ)) (cert : Cert) : Type 0 where
-  pub valid : IsValid design (standard design) (part_value design) cert
-  pub named : AllNameFirst design (part_value design) cert.cost cert.tags
+-- the certificate of a search of the design by so many workers with this budget, which begins with a plan of so high a cost, or with none: valid by a bound and its parts, each closed subproblem naming the first part that is at least the cost, the cost no higher than that of the plan that it began with, and where it began with none, with one worker found by the turns of the search core
+pub record IsSearchedBy (value : Parts → ℕ) (part : Parts → Part → ℕ) (design : Design) (workers budget : ℕ) (start : Option (Expr × ℕ)) (cert : Cert) : Type 0 where
+  pub valid : IsValid design value part cert
+  pub named : AllNameFirst design part cert.cost cert.tags
   pub blocks : cert.blocks ≡ block_count design
   pub few : decided cert.tags ≤ budget
   pub spent : cert.bound < cert.cost → decided cert.tags ≡ budget
   pub ended : full design ≤ budget → cert.bound ≡ cert.cost
   pub lower : IfSome start (λ plan. cert.cost ≤ plan.1)
-  pub run : workers ≡ 1 → start ≡ None → IsCertOf design (turns design (standard design) budget (opening design (standard design) 1)) cert
+  pub run : workers ≡ 1 → start ≡ None → IsCertOf design (turns design value budget (opening design value 1)) cert
+
+-- the same by the bound that was chosen
+abbrev pub IsSearched : BoundsChoice → Design → ℕ → ℕ → Option (Expr × ℕ) → Cert → Type 0
+IsSearched bounds design = IsSearchedBy (chosen_value bounds design) (chosen_part bounds design) design
 
 -- the certificate of a search, and what of it is stored and printed
-pub record IsReported (design : Design) (scale : ℕ) (cert_name : List ℕ) (pl_name : Option (List ℕ)) (cert : Cert) (status : Status) (stored : List Stored) (printed : List ℕ) : Type 0 where
+pub record IsReported (bounds : BoundsChoice) (design : Design) (scale : ℕ) (cert_name : List ℕ) (pl_name : Option (List ℕ)) (cert : Cert) (status : Status) (stored : List Stored) (printed : List ℕ) : Type 0 where
   -- no floorplan that fits costs less than the bound, and the checker says Yes to the certificate
   pub floor : IsFloor design cert.bound
-  pub accepted : (answer : Answer) → IsAnswer design (standard design) (part_value design) cert answer → is_yes answer ≡ true
+  pub accepted : (answer : Answer) → IsAnswer design (chosen_value bounds design) (chosen_part bounds design) cert answer → is_yes answer ≡ true
   pub said : Outcome
   pub ending : IsEnding cert.cost cert.bound said
   pub status_is : status ≡ outcome_status said
   pub told : IsTold design scale cert_name pl_name said cert cert.plan stored printed
 
 -- the answer of a search
-pub record IsAnswered (design : Design) (workers budget : ℕ) (start : Option (Expr × ℕ)) (scale : ℕ) (cert_name : List ℕ) (pl_name : Option (List ℕ)) (status : Status) (stored : List Stored) (printed : List ℕ) : Type 0 where
+pub record IsAnswered (bounds : BoundsChoice) (design : Design) (workers budget : ℕ) (start : Option (Expr × ℕ)) (scale : ℕ) (cert_name : List ℕ) (pl_name : Option (List ℕ)) (status : Status) (stored : List Stored) (printed : List ℕ) : Type 0 where
   pub cert : Cert
-  pub searched : IsSearched design workers budget start cert
-  pub reported : IsReported design scale cert_name pl_name cert status stored printed
+  pub searched : IsSearched bounds design workers budget start cert
+  pub reported : IsReported bounds design scale cert_name pl_name cert status stored printed
 
 -- the files stand for a design, and this is the answer of its search where it knows what was asked for, which begins with what walks find or with what is known
 pub record IsPlanned (o : PlanOptions) (before : Option Contents) (status : Status) (stored : List Stored) (printed : List ℕ) : Type 0 where
@@ -139,4 +146,4 @@ pub record IsPlanned (o : PlanOptions) (before : Option Contents) (status : Stat
   pub knows : Knows o.bounds read design
   pub start : Option (Expr × ℕ)
   pub begun : IsBegun o.starts o.bounds read design start
-  pub answered : IsAnswered design o.workers (budget_of o.nodes (block_count design)) start o.design.per_unit o.cert o.pl_out status stored printed
+  pub answered : IsAnswered o.bounds design o.workers (budget_of o.nodes (block_count design)) start o.design.per_unit o.cert o.pl_out status stored printed

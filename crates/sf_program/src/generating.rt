@@ -24,7 +24,7 @@ use sf_gsrc::{GsrcBlocks, GsrcNets, GsrcPlaces};
 use sf_io::Gate;
 use sf_lex::Scale;
 use sf_model::{Design, MOST_SIDE, Parts};
-use sf_words::{DesignWords, GenWords, InputFiles, Kinds, WeightWords};
+use sf_words::{BoundsChoice, DesignWords, GenWords, InputFiles, Kinds, WeightWords};
 use std::alloc::{AllocError as NoMemory, Global};
 use std::thread::Threads;
 
@@ -227,7 +227,17 @@ pub fn generate<R: Threads + Sync, G: Gate>(
         pl: None,
         scale: 1,
     };
-    let searched = search_design(rt, alloc, &design, None, words.nodes, 1, names, gate)?;
+    let searched = search_design(
+        rt,
+        alloc,
+        BoundsChoice::Standard,
+        &design,
+        None,
+        words.nodes,
+        1,
+        names,
+        gate,
+    )?;
     let stores = text_stores(alloc, words, texts)?;
     let work = put_behind(stores, searched)?;
     Ok(work)

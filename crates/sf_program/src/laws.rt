@@ -21,7 +21,6 @@ use sf_model::designs_are_determined;
 use sf_place::verdicts_are_one;
 use sf_rounds::certificates_are_one;
 use sf_soft_shapes::lists_are_determined;
-use sf_standard::parts_are_below;
 
 /// On a shelf that tells what it holds, the named files stand for at most one design, or are refused for at
 /// most one reason, and never both; a file is lost beside that only where any load may fail. The design has
@@ -68,7 +67,6 @@ pub fn answers_are_one()
     verdicts_are_one();
     traces_are_one();
     certificates_are_one();
-    parts_are_below();
     full_parts_close();
     first_parts_are_one();
 }

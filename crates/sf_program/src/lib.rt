@@ -12,8 +12,10 @@ mod answering;
 mod budget;
 mod certificates;
 mod checking;
+mod chosen;
 mod commands;
 mod generating;
+mod judging;
 mod knowing;
 mod laws;
 mod measuring;
@@ -23,6 +25,7 @@ mod planning;
 mod program;
 mod resuming;
 mod rewriting;
+mod searching;
 mod shaping;
 mod work;
 

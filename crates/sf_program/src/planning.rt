@@ -4,30 +4,30 @@ ghost use Rattle.std.specs.Prelude.{◌≡◌, ◌≤◌, IfOk, IfSome, None};
 ghost use Rattle.sf_anneal.specs.Measured.{IsFloorplan};
 ghost use Rattle.sf_model.specs.Admitted.{HasPinsInRange, HasSizes, IsAdmitted};
 ghost use Rattle.sf_model.specs.Legal.{block_count};
-ghost use Rattle.sf_certificate.specs.Valid.{IsValid, decided};
+ghost use Rattle.sf_certificate.specs.Valid.{decided};
 ghost use Rattle.sf_pl_writer.specs.Length.{IsScale};
-ghost use Rattle.sf_standard.specs.Standard.{standard, part_value};
 ghost use Rattle.sf_words.specs.Seen.{plan_seen, text_of};
 ghost use Rattle.sf_words.specs.Meaning.{plan};
 ghost use Rattle.sf_program.specs.Answer.{Obeys};
 ghost use Rattle.sf_designs.specs.Loads.{ReadsShelf, TellsNoLoad};
 ghost use Rattle.sf_designs.specs.Outcome.{Ends};
-ghost use Rattle.sf_program.specs.Planned.{IsAnswered, IsReported, IsSearched, BudgetedDesign};
+ghost use Rattle.sf_program.specs.Planned.{IsAnswered, IsReported, BudgetedDesign};
 ghost use Rattle.sf_program.specs.Planned.{PlanDesign, budget_of};
+ghost use Rattle.sf_program.specs.Resumed.{IsGood};
 ghost use Rattle.sf_program.specs.Stores.{Gives};
 ghost use Rattle.sf_designs.specs.Weighed.{weighed_in};
 
 use crate::budget::{budget_of, test_budget};
+use crate::chosen::search_chosen;
 use crate::plan_answer::{Ended, Names, ending_of, tell_none, tell_plan};
 use crate::work::Work;
-use sf_bounds::Standard;
 use sf_designs::{Stop, Weighed, make_design, read_admitted};
 use sf_io::{Gate, Shelf};
 use sf_known::{Begun, begin};
 use sf_model::{Design, admitted_parts_keep_limits};
 use sf_polish::Expr;
-use sf_rounds::{Found, SearchOptions, search, search_below};
-use sf_words::PlanWords;
+use sf_rounds::{Found, SearchOptions};
+use sf_words::{BoundsChoice, PlanWords};
 use std::alloc::{AllocError as NoMemory, Global};
 use std::thread::Threads;
 
@@ -63,17 +63,18 @@ fn within_budget(alloc: Global, words: &PlanWords<'_>, read: Weighed) -> Result<
 /// What is told of a search of a design.
 pub fn tell_found(
     alloc: Global,
+    bounds: BoundsChoice,
     design: &Design,
     found: Found,
     names: Names<'_>,
 ) -> Result<Work, NoMemory>
-    requires valid { IsValid design.now (standard design.now) (part_value design.now) found.cert }
+    requires valid { IsGood bounds design.now found.cert }
     requires blocks { found.cert.blocks ≡ block_count design.now }
     requires plan { found.plan ≡ found.cert.plan }
     requires decided { found.decided ≡ decided found.cert.tags }
     requires scale { IsScale names.scale }
     ensures { let names = names.entry in IfOk result (Gives
-        (IsReported design.now names.scale names.cert.now (text_of names.pl) found.cert)) }
+        (IsReported bounds design.now names.scale names.cert.now (text_of names.pl) found.cert)) }
 {
     let Found {
         plan,
@@ -112,7 +113,17 @@ pub fn plan<R: Threads + Sync, S: Shelf, G: Gate>(
         scale: words.design.scale.per_unit,
     };
     let (nodes, workers) = (words.nodes, words.workers);
-    let work = search_design(rt, alloc, &design, start, nodes, workers, names, gate)?;
+    let work = search_design(
+        rt,
+        alloc,
+        words.bounds,
+        &design,
+        start,
+        nodes,
+        workers,
+        names,
+        gate,
+    )?;
     Ok(work)
 }
 
@@ -121,6 +132,7 @@ pub fn plan<R: Threads + Sync, S: Shelf, G: Gate>(
 pub fn search_design<R: Threads + Sync, G: Gate>(
     rt: &R,
     alloc: Global,
+    bounds: BoundsChoice,
     design: &Design,
     start: Option<(Expr, u64)>,
     nodes: Option<u64>,
@@ -133,41 +145,10 @@ pub fn search_design<R: Threads + Sync, G: Gate>(
     requires scale { IsScale names.scale }
     ensures { let budget = budget_of nodes (block_count design.now) in
         let names = names.entry in IfOk result (Gives
-        (IsAnswered design.now workers budget start names.scale names.cert.now (text_of names.pl))) }
+        (IsAnswered bounds design.now workers budget start names.scale names.cert.now (text_of names.pl))) }
 {
     let nodes = budget_of(nodes, u64::from(design.block_count()));
     let options = SearchOptions { workers, nodes };
-    let found = search_from(rt, alloc, design, start, options, gate)?;
-    tell_found(alloc, design, found, names)
-}
-
-/// The search of a design, from this plan of this cost on where there is one.
-fn search_from<R: Threads + Sync, G: Gate>(
-    rt: &R,
-    alloc: Global,
-    design: &Design,
-    start: Option<(Expr, u64)>,
-    options: SearchOptions,
-    gate: &G,
-) -> Result<Found, NoMemory>
-    requires start { IfSome start (λ plan. IsFloorplan design.now plan.0 plan.1) }
-    requires workers { (1 ≤ options.workers) × (options.workers ≤ 16) }
-    ensures searched { IfOk result (λ found.
-        IsSearched design.now options.workers options.nodes start found.cert) }
-    ensures plan { IfOk result (λ found. found.plan ≡ found.cert.plan) }
-    ensures decided { IfOk result (λ found. found.decided ≡ decided found.cert.tags) }
-{
-    match start {
-        None => search(rt, alloc, design, &Standard, options, gate),
-        Some((plan, cost)) => search_below(
-            rt,
-            alloc,
-            design,
-            &Standard,
-            Some(plan),
-            cost,
-            options,
-            gate,
-        ),
-    }
+    let found = search_chosen(rt, alloc, bounds, design, start, options, gate)?;
+    tell_found(alloc, bounds, design, found, names)
 }

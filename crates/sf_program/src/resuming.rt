@@ -15,13 +15,13 @@ ghost use Rattle.sf_program.specs.Stores.{Gives};
 use crate::answering::answer_work;
 use crate::budget::test_count;
 use crate::certificates::read_cert_file;
+use crate::chosen::{check_chosen, resume_chosen};
 use crate::knowing::read_known;
 use crate::plan_answer::Names;
 use crate::planning::tell_found;
 use crate::work::{Work, no_stores};
-use sf_bounds::Standard;
 use sf_certificate::Cert;
-use sf_checker::{Answer, check};
+use sf_checker::Answer;
 use sf_designs::Stop;
 use sf_io::{Gate, Shelf};
 use sf_model::Design;
@@ -39,23 +39,24 @@ fn go_on<R: Threads + Sync, G: Gate>(
     cert: Cert,
     gate: &G,
 ) -> Result<Work, NoMemory>
-    requires good { IsGood design.now cert }
+    requires good { IsGood words.now.bounds design.now cert }
     requires blocks { cert.blocks ≡ block_count design.now }
     requires scale { IsScale words.now.design.scale.per_unit }
     ensures { let o = resume_seen words.now in IfOk result (Gives
-        (IsGoneOn design.now cert o.nodes o.design.per_unit o.cert_out o.pl_out)) }
+        (IsGoneOn o.bounds design.now cert o.nodes o.design.per_unit o.cert_out o.pl_out)) }
 {
     let options = SearchOptions {
         workers: words.workers,
         nodes: words.nodes,
     };
-    let found = sf_resume::resume(rt, alloc, design, &Standard, cert, options, gate)?;
+    let bounds = words.bounds;
+    let found = resume_chosen(rt, alloc, bounds, design, cert, options, gate)?;
     let names = Names {
         cert: words.cert_out,
         pl: words.pl_out,
         scale: words.design.scale.per_unit,
     };
-    tell_found(alloc, design, found, names)
+    tell_found(alloc, bounds, design, found, names)
 }
 
 /// Goes on from a certificate that decides so many subproblems, where these and the budget together are
@@ -69,16 +70,16 @@ fn go_on_within<R: Threads + Sync, G: Gate>(
     count: u64,
     gate: &G,
 ) -> Result<Work, Stop>
-    requires good { IsGood design.now cert }
+    requires good { IsGood words.now.bounds design.now cert }
     requires blocks { cert.blocks ≡ block_count design.now }
     requires count { count ≡ decided cert.tags }
     requires scale { IsScale words.now.design.scale.per_unit }
     ensures answer { let o = resume_seen words.now in IfOk result (Gives
-        (IsGoneOn design.now cert o.nodes o.design.per_unit o.cert_out o.pl_out)) }
+        (IsGoneOn o.bounds design.now cert o.nodes o.design.per_unit o.cert_out o.pl_out)) }
     ensures within { let o = resume_seen words.now in
-        IfOk result (λ w. SumTested o.is_long o.nodes design.now cert (Ok cert)) }
+        IfOk result (λ w. SumTested o.bounds o.is_long o.nodes design.now cert (Ok cert)) }
     ensures refused { let o = resume_seen words.now in IfErr result (λ stop.
-        Stops stop (λ why. SumTested o.is_long o.nodes design.now cert (Err why))) }
+        Stops stop (λ why. SumTested o.bounds o.is_long o.nodes design.now cert (Err why))) }
     ensures tells { TellsNoLoad result }
 {
     let blocks = u64::from(design.block_count());
@@ -100,12 +101,12 @@ fn take_up<R: Threads + Sync, G: Gate>(
     requires scale { IsScale words.now.design.scale.per_unit }
     ensures answer { IfOk result (Gives (IsTakenUp (resume_seen words.now) design.now cert)) }
     ensures within { let o = resume_seen words.now in
-        IfOk result (λ w. SumTested o.is_long o.nodes design.now cert (Ok cert)) }
+        IfOk result (λ w. SumTested o.bounds o.is_long o.nodes design.now cert (Ok cert)) }
     ensures refused { let o = resume_seen words.now in IfErr result (λ stop.
-        Stops stop (λ why. SumTested o.is_long o.nodes design.now cert (Err why))) }
+        Stops stop (λ why. SumTested o.bounds o.is_long o.nodes design.now cert (Err why))) }
     ensures tells { TellsNoLoad result }
 {
-    let answer = check(alloc, design, &Standard, &cert)?;
+    let answer = check_chosen(alloc, words.bounds, design, &cert)?;
     match answer {
         Answer::Yes(_, _, count) => go_on_within(rt, alloc, design, words, cert, count, gate),
         Answer::No(_) => Ok(answer_work(alloc, answer, no_stores(alloc))?),

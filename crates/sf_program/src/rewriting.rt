@@ -3,78 +3,94 @@
 
 ghost use Rattle.std.specs.Prelude.{◌≡◌, Some, Err, IfErr, IfOk};
 ghost use Rattle.sf_certificate.specs.Reading.{cert_read};
-ghost use Rattle.sf_certificate.specs.Valid.{IsValid};
 ghost use Rattle.sf_checker.specs.Answers.{IsAnswer};
 ghost use Rattle.sf_model.specs.Legal.{block_count};
-ghost use Rattle.sf_standard.specs.Standard.{standard, part_value};
+ghost use Rattle.sf_program.specs.Chosen.{chosen_part, chosen_value};
 ghost use Rattle.sf_program.specs.Checked.{IsJudged, IsRewritten, IsStoredAnew, JudgedText, cert_refusal};
 ghost use Rattle.sf_designs.specs.Loads.{TellsNoLoad};
 ghost use Rattle.sf_designs.specs.Outcome.{Stops};
 ghost use Rattle.sf_designs.specs.Reading.{Judged};
+ghost use Rattle.sf_program.specs.Resumed.{IsGood};
 ghost use Rattle.sf_program.specs.Stores.{Gives, stored_in};
 
 use crate::answering::answer_work;
 use crate::certificates::read_cert;
+use crate::chosen::{check_chosen, name_chosen};
 use crate::plan_answer::stored_cert;
 use crate::work::{Store, Work, no_stores};
-use sf_bounds::Standard;
 use sf_certificate::Cert;
-use sf_checker::{Answer, check, name_parts};
+use sf_checker::Answer;
 use sf_designs::Stop;
 use sf_model::Design;
+use sf_words::BoundsChoice;
 use std::alloc::{AllocError as NoMemory, Global};
 
 /// The store of a valid certificate with its parts named anew.
 fn stored_anew(
     alloc: Global,
+    bounds: BoundsChoice,
     design: &Design,
     cert: Cert,
     name: &str,
 ) -> Result<Vec<Store>, NoMemory>
     requires blocks { cert.blocks ≡ block_count design.now }
-    requires valid { IsValid design.now (standard design.now) (part_value design.now) cert }
-    ensures { IfOk result (λ all. IsStoredAnew design.now cert name.now (stored_in all.items)) }
+    requires valid { IsGood bounds design.now cert }
+    ensures { IfOk result (λ all. IsStoredAnew bounds design.now cert name.now (stored_in all.items)) }
 {
-    let cert = name_parts(alloc, design, &Standard, cert)?;
+    let cert = name_chosen(alloc, bounds, design, cert)?;
     stored_cert(alloc, &cert, name)
 }
 
 /// What is stored of a certificate with this answer.
 fn stores_of(
     alloc: Global,
+    bounds: BoundsChoice,
     design: &Design,
     cert: Cert,
     answer: Answer,
     name: &str,
 ) -> Result<Vec<Store>, NoMemory>
     requires blocks { cert.blocks ≡ block_count design.now }
-    requires answered { IsAnswer design.now (standard design.now) (part_value design.now) cert answer }
-    ensures { IfOk result (λ all. IsRewritten design.now cert (Some name.now) answer (stored_in all.items)) }
+    requires answered { IsAnswer design.now (chosen_value bounds design.now)
+        (chosen_part bounds design.now) cert answer }
+    ensures { IfOk result (λ all. IsRewritten bounds design.now cert (Some name.now) answer (stored_in all.items)) }
 {
     match answer {
-        Answer::Yes(_, _, _) => stored_anew(alloc, design, cert, name),
+        Answer::Yes(_, _, _) => stored_anew(alloc, bounds, design, cert, name),
         Answer::No(_) => Ok(no_stores(alloc)),
     }
 }
 
 /// What is told of a certificate, and stored of it under this name.
-fn rewrite_cert(alloc: Global, design: &Design, cert: Cert, name: &str) -> Result<Work, NoMemory>
+fn rewrite_cert(
+    alloc: Global,
+    bounds: BoundsChoice,
+    design: &Design,
+    cert: Cert,
+    name: &str,
+) -> Result<Work, NoMemory>
     requires { cert.blocks ≡ block_count design.now }
-    ensures { IfOk result (Gives (IsJudged design.now cert (Some name.now))) }
+    ensures { IfOk result (Gives (IsJudged bounds design.now cert (Some name.now))) }
 {
-    let answer = check(alloc, design, &Standard, &cert)?;
-    let stores = stores_of(alloc, design, cert, answer, name)?;
+    let answer = check_chosen(alloc, bounds, design, &cert)?;
+    let stores = stores_of(alloc, bounds, design, cert, answer, name)?;
     answer_work(alloc, answer, stores)
 }
 
 /// What is told of the certificate that a text says, and stored of it under this name.
-pub fn rewrite_text(alloc: Global, text: &[u8], design: &Design, name: &str) -> Result<Work, Stop>
-    ensures answer { IfOk result (Gives (JudgedText design.now text.now (Some name.now))) }
+pub fn rewrite_text(
+    alloc: Global,
+    bounds: BoundsChoice,
+    text: &[u8],
+    design: &Design,
+    name: &str,
+) -> Result<Work, Stop>
+    ensures answer { IfOk result (Gives (JudgedText bounds design.now text.now (Some name.now))) }
     ensures refused { IfErr result (λ stop.
         Stops stop (λ why. Judged (cert_read (block_count design.now) text.now) cert_refusal (Err why))) }
     ensures tells { TellsNoLoad result }
 {
     let cert = read_cert(alloc, text, design)?;
-    let work = rewrite_cert(alloc, design, cert, name)?;
+    let work = rewrite_cert(alloc, bounds, design, cert, name)?;
     Ok(work)
 }

@@ -29,7 +29,10 @@ const TAKEN: &str = "--outline 1048576x1
 --starts 0 --improve 0
 --moves 1 --start-seed 0
 --bounds standard
---bounds=strong";
+--bounds=strong
+--bounds pair
+--bounds=fit
+--bounds both";
 
 /// More words behind those of a plan, with which they have none.
 const REFUSED: &str = "--outline 1048577x1
@@ -73,6 +76,7 @@ const REFUSED: &str = "--outline 1048577x1
 --starts 1 --improve 1000000001
 --bounds weak
 --bounds STRONG
+--bounds pairs
 --bounds
 --bounds strong --bounds strong
 --cert-out e
@@ -317,6 +321,9 @@ fn values_of_bounds(rt: HostRuntime) -> Result<(), Fail> {
         ("", BoundsChoice::Standard),
         ("--bounds standard", BoundsChoice::Standard),
         ("--bounds strong", BoundsChoice::Strong),
+        ("--bounds pair", BoundsChoice::Pair),
+        ("--bounds fit", BoundsChoice::Fit),
+        ("--bounds both", BoundsChoice::Both),
     ] {
         for command in [
             "plan --cert c",

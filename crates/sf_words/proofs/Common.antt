@@ -9,7 +9,7 @@ unfoldable pub use Rattle.sf_words.specs.App.{floorplan}
 pub use Rattle.sf_words.specs.App.{bare, flag_rule, rule_of_key, subcommand_for, value_rule, with_keys, with_modes}
 unfoldable pub use Rattle.sf_words.specs.Kept.{texts_of}
 pub use Rattle.sf_words.specs.Kept.{flag_text, full, row, row_of, rows_for, text_in_row, texts_in}
-pub use Rattle.sf_words.specs.Meaning.{BoundsSay, CheckOptions, CheckSays, Command, DesignOptions, DesignSays, GenOptions, GenSays, HasNoMeaning, Input, InputSays, KindsSay, Means, MeasureOptions, MeasureSays, PlanOptions, PlanSays, ResumeOptions, ResumeSays, Says, ShapeOptions, ShapeSays, StartOptions, StartsSay, Values, WeightOptions, WeightsSay, check, gen, gsrc, measure, mode_of, plan, resume, shape, value_in, yal}
+pub use Rattle.sf_words.specs.Meaning.{BoundsSay, bounds_text, CheckOptions, CheckSays, Command, DesignOptions, DesignSays, GenOptions, GenSays, HasNoMeaning, Input, InputSays, KindsSay, Means, MeasureOptions, MeasureSays, PlanOptions, PlanSays, ResumeOptions, ResumeSays, Says, ShapeOptions, ShapeSays, StartOptions, StartsSay, Values, WeightOptions, WeightsSay, check, gen, gsrc, measure, mode_of, plan, resume, shape, value_in, yal}
 pub use Rattle.sf_words.specs.Seen.{command_seen, token_of}
 unfoldable pub use Rattle.sf_words.specs.Table.{is_flag, key_text, keys_of, mode_text, modes}
 pub use Rattle.sf_words.specs.Table.{Text}

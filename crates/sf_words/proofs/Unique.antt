@@ -1,9 +1,10 @@
 -- A list of words has at most one meaning.
-use Rattle.std.proofs.Common.{◌≡◌, ℕ, List, Bool, Option, Some, None, MatchOption, codes, refl, sym, ap, subst, ◌∙◌}
-use Rattle.sf_words.proofs.Common.{Mode, Key, PerUnit, Shapes, Outline, AreaWeight, WireWeight, Workers, Starts, Moves, StartSeed, Seed, Count, Text, Token, HasForm, Values, value_in, Input, gsrc, yal, InputSays, DesignOptions, DesignSays, WeightOptions, WeightsSay, StartOptions, StartsSay, BoundsSay, PlanOptions, PlanSays, CheckOptions, CheckSays, ResumeOptions, ResumeSays, MeasureOptions, MeasureSays, ShapeOptions, ShapeSays, KindsSay, GenOptions, GenSays, Command, plan, check, resume, measure, shape, gen, mode_of, Says, Means}
+use Rattle.std.proofs.Common.{◌≡◌, ℕ, List, Bool, Option, Some, None, MatchOption, codes, length, ◌+◌, ◌==◌, refl, sym, ap, subst, ◌∙◌}
+use Rattle.std.specs.Prelude.{if◌then◌else◌, slice_index_or}
+use Rattle.sf_words.proofs.Common.{Mode, Key, PerUnit, Shapes, Outline, AreaWeight, WireWeight, Workers, Starts, Moves, StartSeed, Seed, Count, Text, Token, HasForm, Values, value_in, Input, gsrc, yal, InputSays, DesignOptions, DesignSays, WeightOptions, WeightsSay, StartOptions, StartsSay, BoundsSay, bounds_text, PlanOptions, PlanSays, CheckOptions, CheckSays, ResumeOptions, ResumeSays, MeasureOptions, MeasureSays, ShapeOptions, ShapeSays, KindsSay, GenOptions, GenSays, Command, plan, check, resume, measure, shape, gen, mode_of, Says, Means}
 use Rattle.sf_words.specs.Numbers.{IsWithin, SaysNumber, SaysIfGiven, SaysNodes, range, nodes_range}
 use Rattle.sf_words.specs.declared.command.BoundsChoice.{BoundsChoice}
-use Rattle.sf_words.specs.declared.command.BoundsChoice.TheVariants.{Standard, Strong}
+use Rattle.sf_words.specs.declared.command.BoundsChoice.TheVariants.{Standard, Strong, Pair, Fit, Both}
 use Rattle.sf_words.specs.declared.command.Kinds.{Kinds}
 use Rattle.sf_words.specs.declared.command.Kinds.TheVariants.{Hard, Mixed}
 use Rattle.sf_words.specs.Outline.{OutlineSays}
@@ -78,13 +79,25 @@ starts_unique v a b g h =
     let improve = given_unique _ _ _ _ _ refl g.improve h.improve in
     λ i. record { count = count i; moves = moves i; seed = seed i; improve = improve i }
 
+-- the bound of a text, by its length and its second letter
+bounds_back : Text → BoundsChoice
+bounds_back text =
+    let n = length text + slice_index_or text 1 0 in
+    if n == 124 then Standard else (if n == 122 then Strong else (if n == 101 then Pair else (if n == 108 then Fit else Both)))
+
+-- each text leads back to its bound
+bounds_told : (bounds : BoundsChoice) → bounds_back (bounds_text bounds) ≡ bounds
+unfolding bounds_back
+bounds_told Standard = refl
+bounds_told Strong = refl
+bounds_told Pair = refl
+bounds_told Fit = refl
+bounds_told Both = refl
+
 -- the option says at most one bound
 bounds_unique : (text : Option Text) (a b : BoundsChoice) → BoundsSay text a → BoundsSay text b → a ≡ b
 bounds_unique None a b g h = g ∙ sym h
-bounds_unique (Some text) Standard Standard g h = refl
-bounds_unique (Some text) Strong Strong g h = refl
-bounds_unique (Some text) Strong Standard g h = let bad : codes "strong" ≡ codes "standard" = sym g ∙ h in cc
-bounds_unique (Some text) Standard Strong g h = let bad : codes "strong" ≡ codes "standard" = sym h ∙ g in cc
+bounds_unique (Some text) a b g h = sym (bounds_told a) ∙ ap bounds_back (sym g ∙ h) ∙ bounds_told b
 
 -- the options say at most one `plan`
 plan_unique : (v : Values) (a b : PlanOptions) → PlanSays v a → PlanSays v b → a ≡ b

@@ -10,7 +10,7 @@ use Rattle.sf_words.specs.Words.{Token, key_of, value_of, HasForm}
 use Rattle.sf_words.specs.Numbers.{SaysNumber, SaysIfGiven, SaysNodes, improve_range}
 use Rattle.sf_words.specs.Outline.{OutlineSays}
 use Rattle.sf_words.specs.declared.command.BoundsChoice.{BoundsChoice}
-use Rattle.sf_words.specs.declared.command.BoundsChoice.TheVariants.{Standard, Strong}
+use Rattle.sf_words.specs.declared.command.BoundsChoice.TheVariants.{Standard, Strong, Pair, Fit, Both}
 use Rattle.sf_words.specs.declared.command.Kinds.{Kinds}
 use Rattle.sf_words.specs.declared.command.Kinds.TheVariants.{Hard, Mixed}
 
@@ -85,6 +85,9 @@ pub record StartsSay (v : Values) (o : StartOptions) : Type 0 where
 abbrev pub bounds_text : BoundsChoice → Text
 bounds_text Standard = codes "standard"
 bounds_text Strong = codes "strong"
+bounds_text Pair = codes "pair"
+bounds_text Fit = codes "fit"
+bounds_text Both = codes "both"
 
 -- what the option says, given or not
 abbrev pub BoundsSay : Option Text → BoundsChoice → Type 0

@@ -75,6 +75,12 @@ pub enum BoundsChoice {
     Standard,
     /// The same, of a design that knows more of itself.
     Strong,
+    /// The greater of the standard bound and of what the area costs that a pair of blocks needs.
+    Pair,
+    /// The standard bound, and that a pair of blocks has no room.
+    Fit,
+    /// The greater of these two.
+    Both,
 }
 
 /// The options of `plan`.

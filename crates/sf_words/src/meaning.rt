@@ -132,6 +132,12 @@ fn read_bounds(text: Option<&str>) -> Option<BoundsChoice>
                 Some(BoundsChoice::Standard)
             } else if text == "strong" {
                 Some(BoundsChoice::Strong)
+            } else if text == "pair" {
+                Some(BoundsChoice::Pair)
+            } else if text == "fit" {
+                Some(BoundsChoice::Fit)
+            } else if text == "both" {
+                Some(BoundsChoice::Both)
             } else {
                 None
             }

@@ -8,7 +8,7 @@ use std::test::Fail;
 const RESUME_WORDS: &str = "resume --format gsrc --blocks a.blocks --cert a.cert --cert-out b.cert";
 
 /// A search that goes on from a certificate of blocks alone.
-const RESUME: Row = Row {
+pub const RESUME: Row = Row {
     command: RESUME_WORDS,
     ..GIVEN
 };
@@ -22,7 +22,7 @@ const OTHER_BOUND: &[u8] =
     b"slicing-certificate 2\nblocks 2\ncost none\nbound 13\nplan none\ntree\nE\nO\nO\n";
 
 /// Nothing is decided.
-const OPEN_ROOT: &[u8] =
+pub const OPEN_ROOT: &[u8] =
     b"slicing-certificate 2\nblocks 2\ncost none\nbound 12\nplan none\ntree\nO\n";
 
 /// Nothing is decided, and the text ends before its tree.

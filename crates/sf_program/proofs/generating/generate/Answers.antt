@@ -1,5 +1,6 @@
 use Rattle.std.proofs.Common.{◌≡◌, ◌++◌, ℕ, false, List, None, Ok, Err, inl, ap, sym, subst, ◌∙◌}
 use Rattle.sf_program.proofs.Common.{err_from_is_err_and, Status, block_count, gen_seen, GenRead, cert_name, BudgetTested, IsAnswered, budget_of, Stored, stored_in}
+use Rattle.sf_words.specs.declared.command.BoundsChoice.TheVariants.{Standard}
 use Rattle.sf_program.proofs.Made.{never-stops}
 use Rattle.sf_program.proofs.generating.generate.Goals as goal
 
@@ -24,14 +25,14 @@ returns-clause-answer g c =
     let name : c.as_str.result.now ≡ cert_name o = c.as_str.ensures.value ∙ c.in_ok-cert.ensures in
     let tested : BudgetTested false words.nodes words.count (Ok (budget_of words.nodes words.count)) =
     subst (λ (n : ℕ). BudgetTested false words.nodes n (Ok (budget_of words.nodes n))) c.from.ensures c.in_ok-test_budget.ensures.budget in
-    let named : IsAnswered design 1 budget None 1 (cert_name o) None found.status stores found.text.items =
-    subst (λ (n : List ℕ). IsAnswered design 1 budget None 1 n None found.status stores found.text.items) name c.in_ok-searched.ensures in
-    let stated : IsAnswered design 1 budget None 1 (cert_name o) None c.in_ok-work.work.status stores found.text.items =
-    subst (λ (s : Status). IsAnswered design 1 budget None 1 (cert_name o) None s stores found.text.items) (sym c.in_ok-work.ensures.status) named in
+    let named : IsAnswered Standard design 1 budget None 1 (cert_name o) None found.status stores found.text.items =
+    subst (λ (n : List ℕ). IsAnswered Standard design 1 budget None 1 n None found.status stores found.text.items) name c.in_ok-searched.ensures in
+    let stated : IsAnswered Standard design 1 budget None 1 (cert_name o) None c.in_ok-work.work.status stores found.text.items =
+    subst (λ (s : Status). IsAnswered Standard design 1 budget None 1 (cert_name o) None s stores found.text.items) (sym c.in_ok-work.ensures.status) named in
     record {
       design = design;
       made = inl (budget_of words.nodes words.count, tested, c.in_ok-design.ensures.design);
       searched = stores;
-      answered = subst (λ (t : List ℕ). IsAnswered design 1 budget None 1 (cert_name o) None c.in_ok-work.work.status stores t) (sym (ap (λ v. v.items) c.in_ok-work.ensures.text)) stated;
+      answered = subst (λ (t : List ℕ). IsAnswered Standard design 1 budget None 1 (cert_name o) None c.in_ok-work.work.status stores t) (sym (ap (λ v. v.items) c.in_ok-work.ensures.text)) stated;
       stored_is = c.in_ok-work.ensures.stores ∙ ap (λ (ss : List Stored). ss ++ stores) c.in_ok-stores.ensures;
     }

@@ -7,8 +7,8 @@ pub returns : goal.returns
 returns g c =
     let o = resume_seen c.args.words.now in
     let found = c.in_ok-found.found in
-    let e = c.in_ok-found.ensures.resumed in
-    gone-on c.args.design.now o.design.per_unit o.cert_out o.pl_out c.args.cert o.nodes found.cert c.requires.good
+    let e = c.in_ok-found.ensures in
+    gone-on o.bounds c.args.design.now o.design.per_unit o.cert_out o.pl_out c.args.cert o.nodes found.cert c.requires.good
     (record {
       valid = e.valid;
       named = e.named;

@@ -1,0 +1,4 @@
+pub mod Keeping
+pub mod Pairs
+pub mod Greater
+pub mod Lawful
