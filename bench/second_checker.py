@@ -54,8 +54,7 @@ def scaled(word, scale):
 
 class Design:
     """The shapes of each block, the doubled points of the pads, the weight and the pins of each net (numbers of blocks and of
-    pads), the outline and the weights of area and wire; and what paths leave of each net's weight, and how far their ends are
-    apart."""
+    pads), the outline and the weights of area and wire."""
 
     def __init__(self, options):
         self.unit, self.fixed, self.most = int(options.get("per-unit", 1)), "fixed" in options, int(options.get("shapes", 16))
@@ -74,10 +73,9 @@ class Design:
                 points[words[0]] = tuple(2 * scaled(word, self.unit) for word in words[1:3])
         self.points = [points[name] for name in terminals] if "pl" in options else []
         self.nets = self.pin_sets(options, terminals if "pl" in options else []) if "nets" in options else []
-        self.left, self.pull, self.strong = [weight for weight, _, _ in self.nets], 0, options.get("bounds") == "strong"
-        knows = self.strong and len(self.shapes) <= MOST_KNOWN
-        self.floor = least_area(self.shapes, self.sides) if knows else 0
         self.bounds = options.get("bounds")
+        knows = self.bounds == "strong" and len(self.shapes) <= MOST_KNOWN
+        self.floor = least_area(self.shapes, self.sides) if knows else 0
 
     def hard(self, words):
         numbers = re.sub(r"[(),]", " ", " ".join(words[2:])).split()
@@ -107,29 +105,6 @@ class Design:
         for words in (line.split() for line in (content_lines(options["net-weights"]) if "net-weights" in options else [])):
             weights[scaled(words[0], 1)] = scaled(words[1], 1)
         return [(weight, *pins) for weight, pins in zip(weights, nets)]
-
-    def take_paths(self, paths):
-        """Tests the paths, across and upward, and takes them into the bound."""
-        number, lefts = 0, []
-        for way, listed in enumerate(paths):
-            left = [weight for weight, _, _ in self.nets]
-            for path in listed:
-                self.take_path(path, left, number)
-                self.pull += max(0, self.points[path[-1]][way] - self.points[path[0]][way])
-                number += 1
-            lefts.append(left)
-        self.left = [min(both) for both in zip(*lefts)]
-
-    def take_path(self, path, left, number):
-        """Takes the nets of a path, which lie between its pins, off what is left of their weights."""
-        ends = [0, len(path) - 1]
-        for at in range(1, len(path), 2):
-            if path[at] >= len(self.nets):
-                say_no("BadPath", number)
-            _, blocks, pads = self.nets[path[at]]
-            if not all(path[pin] in (pads if pin in ends else blocks) for pin in (at - 1, at + 1)) or left[path[at]] == 0:
-                say_no("BadPath", number)
-            left[path[at]] -= 1
 
 
 def undominated(sizes):
@@ -267,11 +242,8 @@ def values(design, tokens, spans):
         widest, highest = (max(min(size[i] for size in sizes) for sizes in parts) for i in (0, 1))
         area = max(areas, widest * highest, design.floor)
     fits = area <= design.sides[0] * design.sides[1]
-    parts = [net_parts(design, extents, items, complete, *pins) for _, *pins in design.nets if design.wire_weight]
-    nets = [(weight, by) for (weight, _, _), by in zip(design.nets, parts)]
-    rest = design.pull + sum(left * max(by) for left, by in zip(design.left, parts))
-    whole = max(rest, sum(weight * max(by) for weight, by in nets))
-    wires = [0] + [sum(weight * by[way] for weight, by in nets) for way in range(3)] + [whole]
+    nets = [(weight, net_parts(design, extents, items, complete, *pins)) for weight, *pins in design.nets if design.wire_weight]
+    wires = [0] + [sum(weight * by[way] for weight, by in nets) for way in range(3)] + [sum(weight * max(by) for weight, by in nets)]
     worth = [design.area_weight * area + design.wire_weight * wire if fits else MAX for wire in wires]
     if complete and design.wire_weight and all(len(left) == 1 for left in shapes):
         worth[4] = cost_of(design, tokens, [left[0] for left in shapes])
@@ -426,8 +398,6 @@ def check(design, text, rewrite):
             say_no("BadPlan")
         if costs != cost:
             say_no("CostDiffers", said(cost), said(costs))
-    if design.strong:
-        design.take_paths(paths)
     least, named = walk(design, tags, cost)
     if least != bound:
         say_no("BoundDiffers", said(bound), said(least))
