@@ -41,7 +41,7 @@ MOST_MEMORY = 1.5
 WORK_OF_FOUR, FASTER, FASTER_THAN_FOUR = 3.3, 2.5, 0.75
 TIMES = 5
 TIME = "/usr/bin/time"
-HEAPS = "glibc.malloc.top_pad=67108864:glibc.malloc.hugetlb=1"
+HEAPS = "glibc.malloc.top_pad=1048576"
 
 
 class Run:

@@ -44,7 +44,7 @@ WORKERS = (1, 2, 4)
 OVER_LIMIT = 6
 TIMES = 3
 SPEED_TIMES = 7
-HEAPS = "glibc.malloc.top_pad=67108864:glibc.malloc.hugetlb=1"
+HEAPS = "glibc.malloc.top_pad=1048576"
 
 
 class Run:
