@@ -7,7 +7,7 @@ use sf_standard::Extent;
 
 /// What is kept of one net that counts: what its blocks in an item share, the greatest of its range, its
 /// pair and its gaps in the items so far, and the greatest of the gaps alone.
-#[derive(Clone, Copy, Debug, PartialEq, Eq)]
+#[derive(Clone, Copy)]
 pub struct Cell {
     pub reach: Reach,
     pub part: u32,
@@ -15,7 +15,7 @@ pub struct Cell {
 }
 
 /// A block as an item by itself: its sides, and where its row begins, a cell for each net that counts.
-#[derive(Clone, Copy, Debug, PartialEq, Eq)]
+#[derive(Clone, Copy)]
 pub struct BlockRow {
     pub extent: Extent,
     pub row: usize,
@@ -23,7 +23,7 @@ pub struct BlockRow {
 
 /// What the wires of the nets take at least: where the parts of the nets begin, their sum, each as often as
 /// its net's weight says, and the same sum of the gaps alone.
-#[derive(Clone, Copy, Debug, PartialEq, Eq)]
+#[derive(Clone, Copy)]
 pub struct Wires {
     pub at: usize,
     pub sum: u64,
@@ -32,7 +32,7 @@ pub struct Wires {
 
 /// What one token makes: the sides of its item, where the item's row begins, how many tokens made the items
 /// under it, the wires after it, and how many cells there were after it.
-#[derive(Clone, Copy, Debug, PartialEq, Eq)]
+#[derive(Clone, Copy)]
 pub struct NetFrame {
     pub token: Token,
     pub extent: Extent,
@@ -59,7 +59,7 @@ pub struct Nets {
 
 /// What the wires take at least after all tokens: the sum over the nets, the same sum of the gaps alone, and
 /// that by what paths leave of the nets.
-#[derive(Clone, Copy, Debug, PartialEq, Eq)]
+#[derive(Clone, Copy)]
 pub struct Totals {
     pub sum: u64,
     pub hull: u64,
@@ -68,7 +68,7 @@ pub struct Totals {
 
 /// A part of the wires that tokens change: the gaps in the items alone, or the greatest of these with range
 /// and pair.
-#[derive(Clone, Copy, Debug, PartialEq, Eq)]
+#[derive(Clone, Copy)]
 pub enum Changing {
     Hull,
     Full,
@@ -76,7 +76,7 @@ pub enum Changing {
 
 /// How the tokens of a subproblem end: items are left open, or an operator joins two into the one that is
 /// left.
-#[derive(Clone, Copy, Debug, PartialEq, Eq)]
+#[derive(Clone, Copy)]
 pub enum Ending {
     Open,
     Joined(Direction),

@@ -11,28 +11,28 @@ use sf_lex::read_whole;
 use sf_node::Part;
 
 /// What the second word of a tag is to say: the block of a split, or the part that closes a subproblem.
-#[derive(Clone, Copy, Debug, PartialEq, Eq)]
+#[derive(Clone, Copy)]
 pub enum Second {
     Block,
     Part,
 }
 
 /// What the first word of a tag says: all of it, or what its second word is to say.
-#[derive(Clone, Copy, Debug, PartialEq, Eq)]
+#[derive(Clone, Copy)]
 pub enum Letter {
     Whole(Tag),
     First(Second),
 }
 
 /// A tag whose first word was read, and the line of that word.
-#[derive(Clone, Copy, Debug, PartialEq, Eq)]
+#[derive(Clone, Copy)]
 pub struct HalfTag {
     pub second: Second,
     pub line: u64,
 }
 
 /// What the words of a tag say, or the fault that they have, and the line of the first word.
-#[derive(Clone, Copy, Debug, PartialEq, Eq)]
+#[derive(Clone, Copy)]
 pub struct TagSaid {
     pub line: u64,
     pub tag: Result<Tag, CertFault>,

@@ -6,7 +6,7 @@ ghost use Rattle.sf_curves.specs.Direction.{token_in};
 use sf_polish::Token;
 
 /// How two rooms are joined: the right one beside the left, or the upper one above the lower.
-#[derive(Clone, Copy, Debug, PartialEq, Eq)]
+#[derive(Clone, Copy)]
 pub enum Direction {
     Beside,
     Above,

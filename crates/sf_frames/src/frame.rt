@@ -6,7 +6,7 @@ use sf_polish::Token;
 
 /// A shape curve, which lies in the list of all points, and what its room takes at least; nothing where it
 /// has no point.
-#[derive(Clone, Copy, Debug, PartialEq, Eq)]
+#[derive(Clone, Copy)]
 pub struct Kept {
     pub from: usize,
     pub to: usize,
@@ -15,7 +15,7 @@ pub struct Kept {
 
 /// What one token makes: the curve of its item, how many tokens made the items under it, how many points
 /// there were after it, and the sums over all items and unused blocks after it.
-#[derive(Clone, Copy, Debug, PartialEq, Eq)]
+#[derive(Clone, Copy)]
 pub struct Frame {
     pub token: Token,
     pub curve: Kept,

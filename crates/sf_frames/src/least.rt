@@ -7,7 +7,7 @@ ghost use Rattle.sf_frames.specs.Least.{IsLeastOf, AllSmall};
 use sf_curves::{Point, area, least_area_point};
 
 /// The least area, width and height of a curve's points.
-#[derive(Clone, Copy, Debug, PartialEq, Eq)]
+#[derive(Clone, Copy)]
 pub struct Least {
     pub area: u64,
     pub w: u32,

@@ -10,7 +10,7 @@ use crate::sums::Sums;
 
 /// What the items and the unused blocks of a subproblem take, where each fits in some way. Or that the frames
 /// would need too many points.
-#[derive(Clone, Copy, Debug, PartialEq, Eq)]
+#[derive(Clone, Copy)]
 pub enum Measured {
     TooLarge,
     FitsInNoWay,

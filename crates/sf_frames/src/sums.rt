@@ -6,7 +6,7 @@ ghost use Rattle.sf_frames.specs.Sums.{AreWithin, joined};
 use crate::least::Least;
 
 /// The sum of the least areas of some groups, and their greatest least sides.
-#[derive(Clone, Copy, Debug, PartialEq, Eq)]
+#[derive(Clone, Copy)]
 pub struct Sums {
     pub area: u64,
     pub w: u32,

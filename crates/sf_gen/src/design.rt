@@ -12,7 +12,7 @@ use crate::texts::{ByteList, GenTexts};
 use std::alloc::{AllocError as NoMemory, Global};
 
 /// Whether each block is hard, or every second one is soft.
-#[derive(Clone, Copy, Debug, PartialEq, Eq)]
+#[derive(Clone, Copy)]
 pub enum Kinds {
     Hard,
     Mixed,

@@ -9,14 +9,14 @@ use rand_pcg::Lcg64Xsh32;
 use std::alloc::{AllocError as NoMemory, Global};
 
 /// The sides of a block.
-#[derive(Clone, Copy, Debug, PartialEq, Eq)]
+#[derive(Clone, Copy)]
 pub struct Size {
     pub w: u8,
     pub h: u8,
 }
 
 /// The two blocks that a net joins, by number.
-#[derive(Clone, Copy, Debug, PartialEq, Eq)]
+#[derive(Clone, Copy)]
 pub struct Ends {
     pub a: u16,
     pub b: u16,

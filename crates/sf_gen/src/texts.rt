@@ -5,7 +5,7 @@ ghost use Rattle.std.specs.Prelude.{◌≡◌};
 use std::marker::Model;
 
 /// The bytes of a text.
-#[derive(Debug, Drop)]
+#[derive(Drop)]
 pub struct ByteList {
     items: Vec<u8>,
 }
@@ -42,7 +42,7 @@ impl ByteList {
 }
 
 /// The texts of a design, one for each kind of GSRC file.
-#[derive(Debug, Drop)]
+#[derive(Drop)]
 pub struct GenTexts {
     pub blocks: ByteList,
     pub nets: ByteList,

@@ -17,7 +17,7 @@ use sf_model::{Kind, Name, NameList, RawBlock, RawBlockList};
 use std::alloc::Global;
 
 /// The counts, blocks and pads of the lines so far.
-#[derive(Debug, Drop)]
+#[derive(Drop)]
 pub struct Found {
     soft: Option<Count>,
     hard: Option<Count>,

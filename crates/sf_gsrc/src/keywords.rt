@@ -7,7 +7,7 @@ ghost use Rattle.sf_gsrc.specs.Keywords.{count_word, counted_of, form_of, meanin
 use sf_lex::{Gap, split_at_byte, split_word};
 
 /// What a count line counts.
-#[derive(Clone, Copy, Debug, PartialEq, Eq)]
+#[derive(Clone, Copy)]
 pub enum Counted {
     Soft,
     Hard,
@@ -15,7 +15,7 @@ pub enum Counted {
 }
 
 /// What the second word of a line says of the first.
-#[derive(Clone, Copy, Debug, PartialEq, Eq)]
+#[derive(Clone, Copy)]
 pub enum Form {
     Soft,
     Hard,

@@ -16,7 +16,7 @@ use sf_lex::{
 use sf_model::Kind;
 
 /// What a line says that is no count line.
-#[derive(Clone, Copy, Debug)]
+#[derive(Clone, Copy)]
 pub enum Statement<'a> {
     Block(&'a [u8], Kind),
     Pad(&'a [u8]),

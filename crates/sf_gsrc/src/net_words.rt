@@ -7,7 +7,7 @@ ghost use Rattle.sf_gsrc.specs.Keywords.{net_word_of};
 use crate::keywords::meaning_in;
 
 /// What a count line of a nets file says.
-#[derive(Clone, Copy, Debug, PartialEq, Eq)]
+#[derive(Clone, Copy)]
 pub enum NetWord {
     Nets,
     Pins,

@@ -20,7 +20,7 @@ use std::alloc::{AllocError, Global};
 use std::mem;
 
 /// The count, the nets before the last, and the degree and the pins of the last.
-#[derive(Debug, Drop)]
+#[derive(Drop)]
 pub struct NetsFound {
     count: Option<Count>,
     degree: Option<Count>,

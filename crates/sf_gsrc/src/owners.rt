@@ -15,7 +15,7 @@ use sf_names::NameMap;
 use std::alloc::{AllocError, Global};
 
 /// Of what a name is: of a block, of a pad, or of both. Of several blocks or pads the first counts.
-#[derive(Clone, Copy, Debug, PartialEq, Eq)]
+#[derive(Clone, Copy)]
 pub enum Owner {
     Block(u32),
     Pad(u32),

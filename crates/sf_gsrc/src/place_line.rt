@@ -13,7 +13,7 @@ use crate::fault::LineFault;
 use sf_lex::{Gap, LENGTH_LIMIT, Scale, next_field, read_decimal, read_signed, split_word};
 
 /// A name at its place, and its size where the line tells one.
-#[derive(Clone, Copy, Debug)]
+#[derive(Clone, Copy)]
 pub struct PlaceLine<'a> {
     pub name: &'a [u8],
     pub x: i64,

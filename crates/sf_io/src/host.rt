@@ -163,7 +163,7 @@ impl<P: Print + Drop> Sink for HostSink<P> {
 }
 
 /// The gate of a real run, which does nothing.
-#[derive(Clone, Copy, Debug, Default)]
+#[derive(Clone, Copy, Default)]
 pub struct OpenGate;
 
 impl Gate for OpenGate {

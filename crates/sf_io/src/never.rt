@@ -68,7 +68,7 @@ impl Shelf for NeverShelf {
 }
 
 /// A sink that takes every piece whole and keeps nothing.
-#[derive(Clone, Copy, Debug, Default)]
+#[derive(Clone, Copy, Default)]
 pub struct NeverSink;
 
 impl Sink for NeverSink {

@@ -6,7 +6,7 @@ ghost use Rattle.sf_jobs.specs.declared.fault.JobsFault.TheVariants.{NoMemory};
 use std::alloc::AllocError;
 
 /// Why a jobs file is refused.
-#[derive(Clone, Copy, Debug, PartialEq, Eq)]
+#[derive(Clone, Copy, Debug)]
 pub enum JobsFault {
     /// The line of this number is no job.
     BadLine(u64),

@@ -3,7 +3,7 @@
 ghost use Rattle.std.specs.Prelude.{◌≤◌};
 
 /// What the words of the batch program give.
-#[derive(Clone, Copy, Debug)]
+#[derive(Clone, Copy)]
 pub struct TeamWords<'a> {
     /// The file of the jobs.
     pub jobs: &'a str,

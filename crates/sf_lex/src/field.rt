@@ -6,7 +6,7 @@ ghost use Rattle.sf_lex.specs.Text.{words};
 ghost use Rattle.sf_lex.specs.Gap.{is_gap, first_word, after_word};
 
 /// What counts as a blank in a line, or in a part of it.
-#[derive(Clone, Copy, Debug, PartialEq, Eq)]
+#[derive(Clone, Copy, PartialEq, Eq)]
 pub enum Gap {
     /// Space, tab, CR and LF.
     Blanks,

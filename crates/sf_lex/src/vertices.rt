@@ -13,7 +13,7 @@ use crate::number::{LENGTH_LIMIT, NumberFault, read_signed};
 use crate::scale::Scale;
 
 /// Why a list of vertices can't be read.
-#[derive(Clone, Copy, Debug, PartialEq, Eq)]
+#[derive(Clone, Copy)]
 pub enum VertexFault {
     /// A word is missing.
     Missing,
@@ -30,14 +30,14 @@ impl From<NumberFault> for VertexFault {
 }
 
 /// The sides of a box.
-#[derive(Clone, Copy, Debug, PartialEq, Eq)]
+#[derive(Clone, Copy)]
 pub struct BoxSize {
     pub w: u64,
     pub h: u64,
 }
 
 /// The bounding box of some vertices.
-#[derive(Clone, Copy, Debug)]
+#[derive(Clone, Copy)]
 struct Corners {
     left: i64,
     right: i64,

@@ -7,7 +7,7 @@ use crate::name::Name;
 use std::alloc::AllocError;
 
 /// A quantity that has a limit.
-#[derive(Clone, Copy, Debug, PartialEq, Eq)]
+#[derive(Clone, Copy, Debug)]
 pub enum Limit {
     Blocks,
     Pads,

@@ -7,7 +7,7 @@ use crate::paths::{Path, Step};
 use std::marker::Model;
 
 /// The shapes of a block.
-#[derive(Debug, Drop)]
+#[derive(Drop)]
 pub struct Shapes {
     items: Vec<Shape>,
 }
@@ -45,7 +45,7 @@ impl Shapes {
 }
 
 /// The blocks of a design, by number.
-#[derive(Debug, Drop)]
+#[derive(Drop)]
 pub struct BlockList {
     items: Vec<Block>,
 }
@@ -83,7 +83,7 @@ impl BlockList {
 }
 
 /// The pads of a design, by number.
-#[derive(Debug, Drop)]
+#[derive(Drop)]
 pub struct PadList {
     items: Vec<Pad>,
 }
@@ -121,7 +121,7 @@ impl PadList {
 }
 
 /// The pins of a net.
-#[derive(Debug, Drop)]
+#[derive(Drop)]
 pub struct Pins {
     items: Vec<Pin>,
 }
@@ -159,7 +159,7 @@ impl Pins {
 }
 
 /// The nets of a design, by number.
-#[derive(Debug, Drop)]
+#[derive(Drop)]
 pub struct NetList {
     items: Vec<Net>,
 }
@@ -197,7 +197,7 @@ impl NetList {
 }
 
 /// The steps of a path.
-#[derive(Debug, Drop)]
+#[derive(Drop)]
 pub struct Steps {
     items: Vec<Step>,
 }
@@ -228,7 +228,7 @@ impl Steps {
 }
 
 /// Paths of one axis.
-#[derive(Debug, Drop)]
+#[derive(Drop)]
 pub struct PathList {
     items: Vec<Path>,
 }
@@ -259,7 +259,7 @@ impl PathList {
 }
 
 /// A weight for each net, by the net's number.
-#[derive(Debug, Drop)]
+#[derive(Drop)]
 pub struct NetWeights {
     items: Vec<u8>,
 }

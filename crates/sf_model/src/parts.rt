@@ -11,14 +11,14 @@ pub struct Shape {
 }
 
 /// A block and the shapes that it may take, by width, then height.
-#[derive(Debug, Drop)]
+#[derive(Drop)]
 pub struct Block {
     pub name: Name,
     pub shapes: Shapes,
 }
 
 /// A point at which wires end, in scaled whole units. It takes no room.
-#[derive(Debug, Drop)]
+#[derive(Drop)]
 pub struct Pad {
     pub name: Name,
     pub x: i32,
@@ -33,14 +33,14 @@ pub enum Pin {
 }
 
 /// A set of pins, blocks before pads and each by number, and how often its wire counts.
-#[derive(Debug, Drop)]
+#[derive(Drop)]
 pub struct Net {
     pub pins: Pins,
     pub weight: u8,
 }
 
 /// The rectangle that floorplans are to fit, with its lower left corner at (0, 0), in scaled whole units.
-#[derive(Clone, Copy, Debug, PartialEq, Eq)]
+#[derive(Clone, Copy)]
 pub struct Outline {
     pub w: u32,
     pub h: u32,
@@ -48,7 +48,7 @@ pub struct Outline {
 
 /// How often the area counts, in squares of scaled whole units, and how often the wires of all nets count,
 /// in doubled scaled whole units.
-#[derive(Clone, Copy, Debug, PartialEq, Eq)]
+#[derive(Clone, Copy)]
 pub struct Weights {
     pub area: u16,
     pub wire: u16,

@@ -15,14 +15,14 @@ pub struct Step {
 }
 
 /// A path from a pin, step by step.
-#[derive(Debug, Drop)]
+#[derive(Drop)]
 pub struct Path {
     pub first: Pin,
     pub steps: Steps,
 }
 
 /// Paths from left to right, and paths from below upward.
-#[derive(Debug, Drop)]
+#[derive(Drop)]
 pub struct Paths {
     pub across: PathList,
     pub upward: PathList,
@@ -30,7 +30,7 @@ pub struct Paths {
 
 /// Paths with what follows from them: what neither axis uses of the weight of each net, and how far the ends
 /// of all paths are apart along their axes, in doubled scaled whole units.
-#[derive(Debug, Drop)]
+#[derive(Drop)]
 pub struct Routes {
     pub paths: Paths,
     pub left: NetWeights,

@@ -12,21 +12,21 @@ pub enum Kind {
 }
 
 /// A block, with its sides or its area in scaled whole units.
-#[derive(Debug, Drop)]
+#[derive(Drop)]
 pub struct RawBlock {
     pub name: Name,
     pub kind: Kind,
 }
 
 /// A pad and its place in scaled whole units, where the text tells one.
-#[derive(Debug, Drop)]
+#[derive(Drop)]
 pub struct RawPad {
     pub name: Name,
     pub place: Option<(i64, i64)>,
 }
 
 /// A pin of a net: by name, or by the place of its block or pad.
-#[derive(Debug, Drop)]
+#[derive(Drop)]
 pub enum RawPin {
     Named(Name),
     Block(u32),
@@ -34,14 +34,14 @@ pub enum RawPin {
 }
 
 /// The pins of a net as they are listed, with their repeats.
-#[derive(Debug, Drop)]
+#[derive(Drop)]
 pub struct RawNet {
     pub pins: RawPins,
 }
 
 /// All that the texts of a design say. `strangers` are the placed names that no block and no pad has, and
 /// `pads_in` is false where no text places the pads, which are then left out of all nets.
-#[derive(Debug, Drop)]
+#[derive(Drop)]
 pub struct Parts {
     pub blocks: RawBlockList,
     pub pads: RawPadList,

@@ -7,7 +7,7 @@ use crate::raw::{RawBlock, RawNet, RawPad, RawPin};
 use std::marker::Model;
 
 /// Blocks in the order of the text.
-#[derive(Debug, Drop)]
+#[derive(Drop)]
 pub struct RawBlockList {
     items: Vec<RawBlock>,
 }
@@ -45,7 +45,7 @@ impl RawBlockList {
 }
 
 /// Pads in the order of the text.
-#[derive(Debug, Drop)]
+#[derive(Drop)]
 pub struct RawPadList {
     items: Vec<RawPad>,
 }
@@ -83,7 +83,7 @@ impl RawPadList {
 }
 
 /// The pins of a net, as listed.
-#[derive(Debug, Drop)]
+#[derive(Drop)]
 pub struct RawPins {
     items: Vec<RawPin>,
 }
@@ -121,7 +121,7 @@ impl RawPins {
 }
 
 /// Nets in the order of the text.
-#[derive(Debug, Drop)]
+#[derive(Drop)]
 pub struct RawNetList {
     items: Vec<RawNet>,
 }
@@ -159,7 +159,7 @@ impl RawNetList {
 }
 
 /// Names in the order of the text.
-#[derive(Debug, Drop)]
+#[derive(Drop)]
 pub struct NameList {
     items: Vec<Name>,
 }

@@ -4,21 +4,21 @@ use crate::reach::Reach;
 use sf_standard::{Extent, Offset};
 
 /// An item on the stack: its least and greatest sides, and how many blocks it has.
-#[derive(Clone, Copy, Debug, PartialEq, Eq)]
+#[derive(Clone, Copy)]
 pub struct Held {
     pub extent: Extent,
     pub blocks: usize,
 }
 
 /// The item in which a block stands, by its place on the stack, and where in it.
-#[derive(Clone, Copy, Debug, PartialEq, Eq)]
+#[derive(Clone, Copy)]
 pub struct Seat {
     pub item: usize,
     pub offset: Offset,
 }
 
 /// The item in which a pin counts, by its place on the stack, and where the pin lies from the item's corner.
-#[derive(Clone, Copy, Debug)]
+#[derive(Clone, Copy)]
 pub struct Home {
     pub item: usize,
     pub reach: Reach,
@@ -26,7 +26,7 @@ pub struct Home {
 
 /// What the pins of a block are measured by: its lesser side, where it lies anywhere in the outline, and
 /// its home if it stands in an item.
-#[derive(Clone, Copy, Debug)]
+#[derive(Clone, Copy)]
 pub struct Standing {
     pub side: u64,
     pub range: Reach,

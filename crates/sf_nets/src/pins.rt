@@ -17,7 +17,7 @@ use sf_model::{Design, MOST_SIDE, Pin};
 use sf_standard::Interval;
 
 /// The greatest side and the greatest sum of two sides so far.
-#[derive(Clone, Copy, Debug)]
+#[derive(Clone, Copy)]
 pub struct Pair {
     pub most: Option<u64>,
     pub sum: u64,
@@ -111,7 +111,7 @@ fn narrowed(reach: Reach, home: Option<Home>) -> Reach
 
 /// What the pins of a net share anywhere in the outline, the pair of their blocks, and what they share in the
 /// one item of a complete subproblem.
-#[derive(Clone, Copy, Debug)]
+#[derive(Clone, Copy)]
 pub struct PinParts {
     pub range: Reach,
     pub pair: Pair,

@@ -4,7 +4,7 @@ use sf_standard::Interval;
 
 /// What some intervals across and upward share: the greatest lower end and the least upper end of each. In
 /// doubled units.
-#[derive(Clone, Copy, Debug, PartialEq, Eq)]
+#[derive(Clone, Copy)]
 pub struct Reach {
     pub across: Interval,
     pub upward: Interval,

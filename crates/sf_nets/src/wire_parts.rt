@@ -7,7 +7,7 @@ use crate::wires::weighed;
 
 /// What wires take at least, by range, by pair, by hull and by the greatest of these: of one net, or summed
 /// over all nets, each as often as its weight says.
-#[derive(Clone, Copy, Debug, PartialEq, Eq)]
+#[derive(Clone, Copy)]
 pub struct WireParts {
     pub range: u64,
     pub pair: u64,

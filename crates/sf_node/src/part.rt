@@ -16,7 +16,7 @@ pub enum Part {
 }
 
 /// The values of all parts but the full one, at one subproblem, in the units of costs.
-#[derive(Clone, Copy, Debug, PartialEq, Eq)]
+#[derive(Clone, Copy)]
 pub struct PartValues {
     pub area: u64,
     pub range: u64,

@@ -7,7 +7,7 @@ use sf_model::Pin;
 use std::alloc::{AllocError, Global};
 
 /// A place on a way: a pin, or a net that was entered or that is about to be left.
-#[derive(Clone, Copy, Debug, PartialEq, Eq)]
+#[derive(Clone, Copy)]
 enum Place {
     Pin(Pin),
     Entry(u32),
@@ -16,7 +16,7 @@ enum Place {
 
 /// How a place was come to: not at all, as a start, by a hook with a path more, by a hook with a path fewer, or
 /// within a net.
-#[derive(Clone, Copy, Debug, PartialEq, Eq)]
+#[derive(Clone, Copy, PartialEq, Eq)]
 enum Way {
     Unseen,
     Start,
@@ -26,7 +26,7 @@ enum Way {
 }
 
 /// From which pads to which others paths are sought: from those up to a level to those from another level on.
-#[derive(Clone, Copy, Debug)]
+#[derive(Clone, Copy)]
 pub struct Span {
     pub low: u64,
     pub high: u64,

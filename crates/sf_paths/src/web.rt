@@ -4,7 +4,7 @@ use sf_model::{Design, Net, Pin};
 use std::alloc::{AllocError, Global};
 
 /// A pin of a net.
-#[derive(Clone, Copy, Debug, PartialEq, Eq)]
+#[derive(Clone, Copy)]
 pub struct Hook {
     pub net: u32,
     pub pin: Pin,

@@ -12,7 +12,7 @@ use sf_polish::{Expr, push_expr};
 use std::alloc::{AllocError as NoMemory, Global};
 
 /// How a search ended.
-#[derive(Clone, Copy, Debug, PartialEq, Eq)]
+#[derive(Clone, Copy)]
 pub enum Outcome {
     Optimal,
     NoneFits,

@@ -37,7 +37,7 @@ impl Token {
 }
 
 /// A list of tokens.
-#[derive(Debug, Drop)]
+#[derive(Drop)]
 pub struct Tokens {
     items: Vec<Token>,
 }
@@ -75,7 +75,7 @@ impl Tokens {
 }
 
 /// A plan in postfix, and the shape of each block by number, in scaled whole units.
-#[derive(Debug, Drop)]
+#[derive(Drop)]
 pub struct Expr {
     pub tokens: Tokens,
     pub shapes: Shapes,

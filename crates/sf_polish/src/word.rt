@@ -10,7 +10,7 @@ use sf_lex::{read_plain, split_at_byte};
 use sf_model::{MOST_SIDE, Shape};
 
 /// An operator, or a block in a shape.
-#[derive(Clone, Copy, Debug, PartialEq, Eq)]
+#[derive(Clone, Copy)]
 pub enum Piece {
     Beside,
     Above,

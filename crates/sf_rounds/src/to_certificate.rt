@@ -24,7 +24,7 @@ use std::alloc::{AllocError as NoMemory, Global};
 use std::thread::Threads;
 
 /// How many workers are asked for, and how many subproblems may be decided.
-#[derive(Clone, Copy, Debug, PartialEq, Eq)]
+#[derive(Clone, Copy)]
 pub struct SearchOptions {
     pub workers: u16,
     pub nodes: u64,

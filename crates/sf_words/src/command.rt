@@ -5,7 +5,7 @@ ghost use Rattle.std.specs.Option.{ForSome};
 use sf_lex::Scale;
 
 /// The files that tell a design, by the format that was chosen.
-#[derive(Clone, Copy, Debug)]
+#[derive(Clone, Copy)]
 pub enum InputFiles<'a> {
     /// The files of the GSRC floorplan benchmarks.
     Gsrc {
@@ -20,7 +20,7 @@ pub enum InputFiles<'a> {
 }
 
 /// The options that tell a design.
-#[derive(Clone, Copy, Debug)]
+#[derive(Clone, Copy)]
 pub struct DesignWords<'a> {
     pub input: InputFiles<'a>,
     /// How many scaled units one unit of the file is: 1, 10, 100 or 1000.
@@ -42,7 +42,7 @@ pub struct DesignWords<'a> {
 }
 
 /// What counts in a cost.
-#[derive(Clone, Copy, Debug)]
+#[derive(Clone, Copy)]
 pub struct WeightWords<'a> {
     pub area: u16,
     pub wire: u16,
@@ -52,7 +52,7 @@ pub struct WeightWords<'a> {
 }
 
 /// The walks that a search may begin with.
-#[derive(Clone, Copy, Debug)]
+#[derive(Clone, Copy)]
 pub struct StartWords {
     /// How many walks there are.
     pub count: u16,
@@ -69,7 +69,7 @@ pub struct StartWords {
 }
 
 /// Which bound closes subproblems.
-#[derive(Clone, Copy, Debug, PartialEq, Eq)]
+#[derive(Clone, Copy)]
 pub enum BoundsChoice {
     /// The standard bound of the design as it is read.
     Standard,
@@ -84,7 +84,7 @@ pub enum BoundsChoice {
 }
 
 /// The options of `plan`.
-#[derive(Clone, Copy, Debug)]
+#[derive(Clone, Copy)]
 pub struct PlanWords<'a> {
     pub design: DesignWords<'a>,
     pub weights: WeightWords<'a>,
@@ -106,7 +106,7 @@ pub struct PlanWords<'a> {
 }
 
 /// The options of `check`.
-#[derive(Clone, Copy, Debug)]
+#[derive(Clone, Copy)]
 pub struct CheckWords<'a> {
     pub design: DesignWords<'a>,
     pub weights: WeightWords<'a>,
@@ -121,7 +121,7 @@ pub struct CheckWords<'a> {
 }
 
 /// The options of `resume`.
-#[derive(Clone, Copy, Debug)]
+#[derive(Clone, Copy)]
 pub struct ResumeWords<'a> {
     pub design: DesignWords<'a>,
     pub weights: WeightWords<'a>,
@@ -145,7 +145,7 @@ pub struct ResumeWords<'a> {
 }
 
 /// The options of `measure`.
-#[derive(Clone, Copy, Debug)]
+#[derive(Clone, Copy)]
 pub struct MeasureWords<'a> {
     pub design: DesignWords<'a>,
     pub weights: WeightWords<'a>,
@@ -154,7 +154,7 @@ pub struct MeasureWords<'a> {
 }
 
 /// The options of `shape`.
-#[derive(Clone, Copy, Debug)]
+#[derive(Clone, Copy)]
 pub struct ShapeWords<'a> {
     pub design: DesignWords<'a>,
     /// The file of the expression whose curve is printed.
@@ -162,7 +162,7 @@ pub struct ShapeWords<'a> {
 }
 
 /// Which blocks a generated design has.
-#[derive(Clone, Copy, Debug, PartialEq, Eq)]
+#[derive(Clone, Copy, PartialEq, Eq)]
 pub enum Kinds {
     /// Hard blocks alone.
     Hard,
@@ -171,7 +171,7 @@ pub enum Kinds {
 }
 
 /// The options of `gen`.
-#[derive(Clone, Copy, Debug)]
+#[derive(Clone, Copy)]
 pub struct GenWords<'a> {
     pub seed: u64,
     /// How many blocks are generated.
@@ -188,7 +188,7 @@ pub struct GenWords<'a> {
 }
 
 /// A command with its options.
-#[derive(Clone, Copy, Debug)]
+#[derive(Clone, Copy)]
 pub enum CommandWords<'a> {
     /// Searches the slicing floorplan of least cost.
     Plan(PlanWords<'a>),

@@ -7,7 +7,7 @@ use std::alloc::{AllocError, Global};
 use std::marker::Model;
 
 /// A word of the text. It has at least one byte.
-#[derive(Debug, Drop)]
+#[derive(Drop)]
 pub struct Label<'a> {
     bytes: &'a [u8],
 }
@@ -47,7 +47,7 @@ impl<'a> Label<'a> {
 }
 
 /// An instance as its statement says it: its line, its name, its module's name, and the bytes of its signals.
-#[derive(Debug, Drop)]
+#[derive(Drop)]
 pub struct Instance<'a> {
     pub line: u64,
     pub name: Label<'a>,

@@ -6,7 +6,7 @@ ghost use Rattle.sf_yal.specs.Reading.{module_begun};
 use sf_lex::BoxSize;
 
 /// The section of a module in which its next statement stands.
-#[derive(Clone, Copy, Debug, PartialEq, Eq)]
+#[derive(Clone, Copy, PartialEq, Eq)]
 pub enum Section {
     /// Outside of its lists.
     Body,
@@ -18,7 +18,7 @@ pub enum Section {
 
 /// What its statements have said of the module so far: whether it has a type, whether that is PARENT,
 /// whether it has a list, and its box.
-#[derive(Clone, Copy, Debug)]
+#[derive(Clone, Copy)]
 pub struct OpenModule {
     pub section: Section,
     pub is_typed: bool,
