@@ -9,7 +9,8 @@ use Rattle.sf_certificate.specs.declared.letter.Letter.TheVariants.{First, Whole
 use Rattle.sf_certificate.specs.declared.letter.Second.{Second}
 use Rattle.sf_certificate.specs.declared.letter.TagSaid.{TagSaid}
 use Rattle.sf_certificate.specs.declared.version.Version.TheVariants.{Three}
-use Rattle.sf_certificate.specs.Paths.{FitsPaths, all_lead, has_no_paths, is_none}
+use Rattle.sf_model.specs.Paths.{all_lead}
+use Rattle.sf_certificate.specs.Paths.{FitsPaths, has_no_paths, is_none}
 use Rattle.sf_certificate.specs.Text.{paths_if_any, plan_lines, version_text}
 use Rattle.sf_certificate.proofs.HeaderReads.{header-whole, cert-whole}
 use Rattle.sf_certificate.proofs.WrittenBack.{lines-ended, line-append, decimal-line, tags-lines, tags-back}

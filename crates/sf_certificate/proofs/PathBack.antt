@@ -9,7 +9,8 @@ use Rattle.sf_lex.specs.Whole.{plain_read}
 use Rattle.sf_lex.proofs.WrittenNumbers.{plain_written}
 use Rattle.sf_model.specs.declared.paths.Step.{Step}
 use Rattle.sf_certificate.specs.declared.version.Version.TheVariants.{Three}
-use Rattle.sf_certificate.specs.Paths.{FitsAxis, FitsPath, FitsPaths, FitsStep, all_lead, axis_lines, is_pad, leads, number_of, path_lines, path_text, reach_pad, step_text}
+use Rattle.sf_model.specs.Paths.{all_lead, leads, names_pad, reach_pad}
+use Rattle.sf_certificate.specs.Paths.{FitsAxis, FitsPath, FitsPaths, FitsStep, axis_lines, number_of, path_lines, path_text, step_text}
 use Rattle.sf_certificate.proofs.Common.{codes, AllByRecursion, flat_map, list_all, decimal, decimal_nonempty, recursion_from_All, is_line_feed, is_blank_byte, has_none, words, and_parts, words-blank, words-last, words-written, numbered, Path, Paths, path_by, path_said, path_in, pin_before, step_by, step_in, with_step, steps_said, line_by, paths_read, axis_read, both_read}
 use Rattle.sf_certificate.proofs.WrittenBack.{decimal-line, decimal-solid, line-append}
 use Rattle.sf_certificate.proofs.HeaderBack.{count-back}
@@ -42,12 +43,12 @@ steps-words (s ∷ steps) h =
     ∙ ap (λ (ws : List (List ℕ)). net ∷ ws) (word-steps to steps (decimal_nonempty (number_of s.to) to_small) (decimal-solid (number_of s.to) to_small) (steps-words steps h.1))
 
 -- a pad is that of its number
-pad-of : (p : Pin) → is_pad p ≡ true → Pad (number_of p) ≡ p
+pad-of : (p : Pin) → names_pad p ≡ true → Pad (number_of p) ≡ p
 pad-of (Block b) h = absurd cc
 pad-of (Pad n) h = refl
 
 -- a pin that is none is the block of its number
-block-of : (p : Pin) → not (is_pad p) ≡ true → Block (number_of p) ≡ p
+block-of : (p : Pin) → not (names_pad p) ≡ true → Block (number_of p) ≡ p
 block-of (Block b) h = refl
 block-of (Pad n) h = absurd cc
 
@@ -62,12 +63,12 @@ step-back s behind fits pin =
 steps-back : (s : Step) (steps : List Step) → AllByRecursion FitsStep (s ∷ steps) → reach_pad (s ∷ steps) ≡ true → steps_said (number_words (s ∷ steps)) ≡ Some (s ∷ steps)
 steps-back s [] h r = ap (λ o. with_step o (Some [])) (step-back s [] h.0 (pad-of s.to r))
 steps-back s (t ∷ steps) h r =
-    let both = and_parts (not (is_pad s.to)) (reach_pad (t ∷ steps)) r in
+    let both = and_parts (not (names_pad s.to)) (reach_pad (t ∷ steps)) r in
     ap (λ o. with_step o (steps_said (number_words (t ∷ steps)))) (step-back s (number_words (t ∷ steps)) h.0 (block-of s.to both.0))
     ∙ ap (with_step (Some s)) (steps-back t steps h.1 both.1)
 
 -- the words of a path are read as the path
-said-back : (first : Pin) (steps : List Step) → number_of first < 2 ^ 16 → AllByRecursion FitsStep steps → is_pad first ≡ true → reach_pad steps ≡ true → path_said (decimal (number_of first) ∷ number_words steps) ≡ Some (record { first = first; steps = steps })
+said-back : (first : Pin) (steps : List Step) → number_of first < 2 ^ 16 → AllByRecursion FitsStep steps → names_pad first ≡ true → reach_pad steps ≡ true → path_said (decimal (number_of first) ∷ number_words steps) ≡ Some (record { first = first; steps = steps })
 said-back first [] small h pad r = absurd cc
 said-back first (s ∷ steps) small h pad r =
     ap (λ o. path_by o (steps_said (number_words (s ∷ steps)))) (plain_written (number_of first) 65535 (omega (arith, small)) (omega (arith, small)))
@@ -77,7 +78,7 @@ said-back first (s ∷ steps) small h pad r =
 -- the line of a path is read as the path
 path-back : (path : Path) → FitsPath path → leads path ≡ true → path_in (path_text path) ≡ Some path
 path-back path fits lead =
-    let both = and_parts (is_pad path.first) (reach_pad path.steps) lead in
+    let both = and_parts (names_pad path.first) (reach_pad path.steps) lead in
     let small : number_of path.first < 2 ^ 64 = omega (arith, fits.first) in
     let steps = recursion_from_All FitsStep path.steps fits.steps in
     ap path_said (word-steps (decimal (number_of path.first)) path.steps (decimal_nonempty (number_of path.first) small) (decimal-solid (number_of path.first) small) (steps-words path.steps steps))

@@ -5,7 +5,7 @@ use Rattle.sf_lex.specs.Results.{◌>>=◌}
 use Rattle.sf_lex.specs.Whole.{plain_read}
 use Rattle.sf_certificate.specs.declared.version.Version.TheVariants.{One, Three}
 use Rattle.sf_model.specs.declared.paths.Step.{Step}
-use Rattle.sf_certificate.specs.Paths.{all_lead, leads, reach_pad}
+use Rattle.sf_model.specs.Paths.{all_lead, leads, reach_pad}
 use Rattle.sf_certificate.proofs.Common.{codes, and_from, list_all, is_blank_byte, words, Line, Version, Two, Path, Paths, count_in, path_by, path_said, path_in, pin_before, step_by, with_step, steps_said, line_by, line_read, paths_read, axis_read, both_read}
 
 -- one reading after another gives what the second gives of the first

@@ -1,35 +1,12 @@
 -- How paths stand in a text, and what their lines are read as.
-use Rattle.std.specs.Prelude.{ℕ, ◌<◌, ◌^◌, List, [], ◌∷◌, ◌++◌, length, map, All, codes, Bool, true, false, not, ◌&&◌}
+use Rattle.std.specs.Prelude.{ℕ, ◌<◌, ◌^◌, List, [], ◌∷◌, ◌++◌, length, map, All, codes, Bool, true, false, ◌&&◌}
 use Rattle.std.specs.Fmt.{decimal}
-use Rattle.std.specs.List.{flat_map, list_all}
+use Rattle.std.specs.List.{flat_map}
 use Rattle.sf_model.specs.declared.parts.Pin.{Pin}
 use Rattle.sf_model.specs.declared.parts.Pin.TheVariants.{Block, Pad}
 use Rattle.sf_model.specs.declared.paths.Path.{Path}
 use Rattle.sf_model.specs.declared.paths.Paths.{Paths}
 use Rattle.sf_model.specs.declared.paths.Step.{Step}
-
--- ---- paths that numbers alone say
-
--- a pin is a pad
-abbrev pub is_pad : Pin → Bool
-is_pad (Block b) = false
-is_pad (Pad p) = true
-
--- the steps go by way of blocks to a pad
-abbrev pub reach_pad : List Step → Bool
-reach_pad [] = false
-reach_pad (s ∷ []) = is_pad s.to
-reach_pad (s ∷ t ∷ steps) = not (is_pad s.to) && reach_pad (t ∷ steps)
-
--- a path leads from a pad by way of blocks to a pad
-abbrev pub leads : Path → Bool
-leads path = is_pad path.first && reach_pad path.steps
-
--- each path of both axes does
-abbrev pub all_lead : Paths → Bool
-all_lead paths = list_all leads paths.across && list_all leads paths.upward
-
--- ---- how they stand in a text
 
 -- the number of a pin among the blocks or among the pads
 abbrev pub number_of : Pin → ℕ

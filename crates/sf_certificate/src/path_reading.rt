@@ -5,8 +5,8 @@ ghost use Rattle.std.specs.Option.{option_map};
 ghost use Rattle.sf_lex.specs.Text.{words, is_blank_byte};
 ghost use Rattle.sf_lex.specs.Scan.{numbered_rest, last_line_of};
 ghost use Rattle.sf_lex.specs.Whole.{plain_read};
+ghost use Rattle.sf_model.specs.Paths.{all_lead};
 ghost use Rattle.sf_certificate.specs.declared.fault.CertFault.TheVariants.{BadHeader, NoMemory};
-ghost use Rattle.sf_certificate.specs.Paths.{all_lead};
 ghost use Rattle.sf_certificate.specs.Reading.{count_in, path_in, step_in, steps_said, pin_before};
 ghost use Rattle.sf_certificate.specs.Reading.{line_read, paths_read, axis_read, both_read, ReadsLine};
 

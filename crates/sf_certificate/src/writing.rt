@@ -8,8 +8,9 @@ ghost use Rattle.sf_certificate.specs.declared.tag.Tag.TheVariants.{Split};
 ghost use Rattle.sf_certificate.specs.Reading.{cert_read, said_by};
 ghost use Rattle.sf_certificate.specs.Text.{plan_text, header_lines, text_of_lines, tag_text, tags_text};
 ghost use Rattle.sf_certificate.specs.Text.{cert_text, plan_lines, version_text, part_text, FitsTag};
-ghost use Rattle.sf_certificate.specs.Paths.{FitsPaths, all_lead};
+ghost use Rattle.sf_certificate.specs.Paths.{FitsPaths};
 ghost use Rattle.sf_certificate.specs.declared.writing.TheConstants.{ROW, LONGEST};
+ghost use Rattle.sf_model.specs.Paths.{all_lead};
 ghost use Rattle.sf_model.specs.CostText.{cost_text};
 
 use crate::cert::Cert;

@@ -56,7 +56,7 @@ module _ (d e : Design) (pads : e.pads ≡ d.pads) (spots : List Spot) where
   )
 
   -- and all nets have
-  wire-same : e.nets ≡ d.nets → wire e spots ≡ wire d spots
+  pub wire-same : e.nets ≡ d.nets → wire e spots ≡ wire d spots
   wire-same nets =
       ap (sum_by (weighed_wire e spots)) nets
       ∙ sum_by-same (weighed_wire e spots) (weighed_wire d spots) (λ net. ap (λ n. net.weight * n) (net_wire-same net)) d.nets

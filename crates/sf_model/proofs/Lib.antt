@@ -20,3 +20,4 @@ pub mod Floored
 pub mod Paired
 pub mod Used
 pub mod Determined
+pub mod FirstWrong

@@ -1,15 +1,16 @@
 -- Paths: what they use of the nets, and how far their ends are apart.
-use Rattle.std.proofs.Common.{◌≡◌, ℕ, suc, ◌+◌, ◌-◌, ◌*◌, ◌<◌, ◌≤◌, ◌^◌, max, min, Bool, true, false, List, [], ◌∷◌, ◌++◌, map, length, take, drop, get_or, arith, refl, ap, sym, subst, ◌∙◌, cond}
-use Rattle.std.specs.Prelude.{◌↔◌, ◌==◌, IsTrue, ◌-ℤ◌, ◌≤ℤ◌, zip, ◌||◌, neg_ℤ, negsuc}
+use Rattle.std.proofs.Common.{◌≡◌, ℕ, suc, ◌+◌, ◌-◌, ◌*◌, ◌<◌, ◌≤◌, ◌^◌, max, min, Bool, true, false, List, [], ◌∷◌, ◌++◌, map, length, take, drop, get_or, arith, refl, ap, sym, subst, inl, inr, ◌∙◌, cond}
+use Rattle.std.specs.Prelude.{◌↔◌, ◌==◌, ◌&&◌, not, IsTrue, ◌-ℤ◌, ◌≤ℤ◌, zip, ◌||◌, neg_ℤ, negsuc}
+use Rattle.std.specs.List.{list_all}
 use Rattle.std.proofs.Math.Nat.{add-mul}
-use Rattle.std.proofs.lemmas.Bool.{eq-eqb, eqb-true}
+use Rattle.std.proofs.lemmas.Bool.{and_from, cases_lt, eq-eqb, eqb-true}
 use Rattle.std.proofs.lemmas.List.{ext_get_or, get_or-map, get_or-take, length-take-le}
 use Rattle.std.proofs.lemmas.List.Sums.{sum_by-append}
 use Rattle.std.proofs.lemmas.Grind.{flat_map-append}
 use Rattle.sf_model.proofs.Common.{zero, All, AllByRecursion, Contains, recursion_from_All, All-push, nat_tests, ints, cond-true, sum_by, sum_by-cons, count_by, flat_map, take_more, take_all, ℤ, pos, ⊤, Design, Net, Pad, Pin, IsCoordinate}
 use Rattle.sf_model.proofs.Each.{each-append}
 use Rattle.sf_model.proofs.Walks.{drop_step}
-use Rattle.sf_model.specs.Paths.{ArePathsOfAxis, AreRoutes, IsFirstWrong, IsHop, IsPath, end_of, has_pin, hops, is_pad, is_pin, last_of, left_from, net_in, no_paths, pull, to_nat, uses}
+use Rattle.sf_model.specs.Paths.{AreLegal, ArePathsOfAxis, AreRoutes, IsFirstWrong, IsHop, IsPath, all_lead, end_of, has_pin, hops, is_pad, is_pin, last_of, leads, left_from, names_pad, net_in, no_paths, pad_x, pad_y, pull, reach_pad, to_nat, uses}
 use Rattle.sf_model.specs.Axes.{place_on, IsFirstWrongOfAxis}
 use Rattle.sf_model.specs.declared.parts.Pin.TheVariants as pin
 use Rattle.sf_model.specs.declared.paths.Path.{Path}
@@ -85,13 +86,13 @@ walk-nets nets p [] w = tt
 walk-nets nets p (s ∷ ss) w = (w.0.there, walk-nets nets s.to ss w.1)
 
 -- those of a path's steps
-pub path-nets : (pads : List Pad) (nets : List Net) (path : Path) → IsPath pads nets path → AreNets nets path.steps
-path-nets pads nets path h = walk-nets nets path.first path.steps (recursion_from_All (IsHop nets) (hops path) h.walked)
+pub path-nets : (at : Pin → ℤ) (pads : List Pad) (nets : List Net) (path : Path) → IsPath at pads nets path → AreNets nets path.steps
+path-nets at pads nets path h = walk-nets nets path.first path.steps (recursion_from_All (IsHop nets) (hops path) h.walked)
 
 -- and those of all paths
-pub paths-nets : (pads : List Pad) (nets : List Net) (paths : List Path) → AllByRecursion (IsPath pads nets) paths → AreNets nets (steps_of paths)
-paths-nets pads nets [] h = tt
-paths-nets pads nets (path ∷ paths) h = each-append (λ s. s.net < length nets) path.steps (steps_of paths) (path-nets pads nets path h.0) (paths-nets pads nets paths h.1)
+pub paths-nets : (at : Pin → ℤ) (pads : List Pad) (nets : List Net) (paths : List Path) → AllByRecursion (IsPath at pads nets) paths → AreNets nets (steps_of paths)
+paths-nets at pads nets [] h = tt
+paths-nets at pads nets (path ∷ paths) h = each-append (λ s. s.net < length nets) path.steps (steps_of paths) (path-nets at pads nets path h.0) (paths-nets at pads nets paths h.1)
 
 -- what steps use, counted step by step, is what they use counted net by net
 pub exchange : (e : Net → ℕ) (nets : List Net) (ss : List Step) → AreNets nets ss → sum_by (λ s. e (net_in nets s.net)) ss ≤ by_number (λ i net. count_by (λ s. s.net == i) ss * e net) 0 nets
@@ -132,8 +133,8 @@ spare-from paths i (net ∷ nets) h =
     next i k = omega arith
 
 -- so legal paths do
-pub axis-spare : (pads : List Pad) (nets : List Net) (paths : List Path) → ArePathsOfAxis pads nets paths → Spare paths 0 nets
-axis-spare pads nets paths h = spare-from paths 0 nets (λ k lt. subst (λ j. uses j paths ≤ (net_in nets k).weight) (none k) (h.spare k lt))
+pub axis-spare : (at : Pin → ℤ) (pads : List Pad) (nets : List Net) (paths : List Path) → ArePathsOfAxis at pads nets paths → Spare paths 0 nets
+axis-spare at pads nets paths h = spare-from paths 0 nets (λ k lt. subst (λ j. uses j paths ≤ (net_in nets k).weight) (none k) (h.spare k lt))
   where
     none : (k : ℕ) → k ≡ 0 + k
     none k = omega arith
@@ -146,12 +147,12 @@ few-uses paths i [] s w = omega arith
 few-uses paths i (net ∷ nets) s w = omega (arith, s.0, w.0, few-uses paths (i + 1) nets s.1 w.1)
 
 -- so legal paths have few steps
-pub few-steps : (pads : List Pad) (nets : List Net) (paths : List Path) → ArePathsOfAxis pads nets paths → All (λ n. n.weight < 2 ^ 8) nets → sum_by (λ (s : Step). 1) (steps_of paths) ≤ 255 * length nets
-few-steps pads nets paths h w =
+pub few-steps : (at : Pin → ℤ) (pads : List Pad) (nets : List Net) (paths : List Path) → ArePathsOfAxis at pads nets paths → All (λ n. n.weight < 2 ^ 8) nets → sum_by (λ (s : Step). 1) (steps_of paths) ≤ 255 * length nets
+few-steps at pads nets paths h w =
     omega (
       arith,
-      exchange (λ net. 1) nets (steps_of paths) (paths-nets pads nets paths (recursion_from_All (IsPath pads nets) paths h.each)),
-      few-uses paths 0 nets (axis-spare pads nets paths h) (recursion_from_All (λ (n : Net). n.weight < 2 ^ 8) nets w),
+      exchange (λ net. 1) nets (steps_of paths) (paths-nets at pads nets paths (recursion_from_All (IsPath at pads nets) paths h.each)),
+      few-uses paths 0 nets (axis-spare at pads nets paths h) (recursion_from_All (λ (n : Net). n.weight < 2 ^ 8) nets w),
     )
 
 -- Distances.
@@ -194,7 +195,7 @@ pull-small at path first last = cases path.steps refl
         omega (arith, some, to_nat-le (at (end_of path) -ℤ at path.first) (2 ^ 22) (omega (arith, ints, first.0, last.1)))
 
 -- nor do all paths together
-pub pulls-small : (axis : Axis) (pads : List Pad) (nets : List Net) (paths : List Path) → All (λ p. IsCoordinate p.x × IsCoordinate p.y) pads → AllByRecursion (IsPath pads nets) paths → sum_by (pull (place_on axis pads)) paths ≤ 2 ^ 22 * sum_by (λ (s : Step). 1) (steps_of paths)
+pub pulls-small : (axis : Axis) (pads : List Pad) (nets : List Net) (paths : List Path) → All (λ p. IsCoordinate p.x × IsCoordinate p.y) pads → AllByRecursion (IsPath (place_on axis pads) pads nets) paths → sum_by (pull (place_on axis pads)) paths ≤ 2 ^ 22 * sum_by (λ (s : Step). 1) (steps_of paths)
 pulls-small axis pads nets [] places h = omega arith
 pulls-small axis pads nets (path ∷ paths) places h =
     let at = place_on axis pads in
@@ -207,9 +208,10 @@ pulls-small axis pads nets (path ∷ paths) places h =
     )
 
 -- the ends of an axis' paths are apart by this at most
-pub pulled-small : (axis : Axis) (pads : List Pad) (nets : List Net) (paths : List Path) → ArePathsOfAxis pads nets paths → All (λ p. IsCoordinate p.x × IsCoordinate p.y) pads → All (λ n. n.weight < 2 ^ 8) nets → length nets ≤ 65536 → sum_by (pull (place_on axis pads)) paths ≤ 2 ^ 46
+pub pulled-small : (axis : Axis) (pads : List Pad) (nets : List Net) (paths : List Path) → ArePathsOfAxis (place_on axis pads) pads nets paths → All (λ p. IsCoordinate p.x × IsCoordinate p.y) pads → All (λ n. n.weight < 2 ^ 8) nets → length nets ≤ 65536 → sum_by (pull (place_on axis pads)) paths ≤ 2 ^ 46
 pulled-small axis pads nets paths h places light few =
-    omega (arith, few, few-steps pads nets paths h light, pulls-small axis pads nets paths places (recursion_from_All (IsPath pads nets) paths h.each))
+    let at = place_on axis pads in
+    omega (arith, few, few-steps at pads nets paths h light, pulls-small axis pads nets paths places (recursion_from_All (IsPath at pads nets) paths h.each))
 
 -- One path more.
 
@@ -268,8 +270,20 @@ weight-at nets k lt = get_or-map (λ (n : Net). n.weight) nets k (record { pins 
 -- Paths of both axes.
 
 -- no path is legal
-pub none-legal : (pads : List Pad) (nets : List Net) → ArePathsOfAxis pads nets []
-none-legal pads nets = record { each = λ k d lt. absurd (omega arith); spare = λ i lt. omega arith }
+pub none-legal : (at : Pin → ℤ) (pads : List Pad) (nets : List Net) → ArePathsOfAxis at pads nets []
+none-legal at pads nets = record { each = λ k d lt. absurd (omega arith); spare = λ i lt. omega arith }
+
+-- the paths of an axis lead from pads to pads
+axis-leads : (at : Pin → ℤ) (pads : List Pad) (nets : List Net) (paths : List Path) → AllByRecursion (IsPath at pads nets) paths → list_all leads paths ≡ true
+axis-leads at pads nets [] h = refl
+axis-leads at pads nets (path ∷ paths) h = and_from (leads path) (list_all leads paths) h.0.leads (axis-leads at pads nets paths h.1)
+
+-- so legal paths do
+pub legal-leads : (pads : List Pad) (nets : List Net) (paths : Paths) → AreLegal pads nets paths → IsTrue (all_lead paths)
+legal-leads pads nets paths h =
+    and_from (list_all leads paths.across) (list_all leads paths.upward)
+    (axis-leads (pad_x pads) pads nets paths.across (recursion_from_All (IsPath (pad_x pads) pads nets) paths.across h.across.each))
+    (axis-leads (pad_y pads) pads nets paths.upward (recursion_from_All (IsPath (pad_y pads) pads nets) paths.upward h.upward.each))
 
 -- what follows from no paths
 abbrev pub unrouted : List Net → Routes
@@ -277,7 +291,7 @@ unrouted nets = record { paths = no_paths; left = map (λ (n : Net). n.weight) n
 
 -- does
 pub none-routes : (pads : List Pad) (nets : List Net) → AreRoutes pads nets (unrouted nets)
-none-routes pads nets = record { legal = record { across = none-legal pads nets; upward = none-legal pads nets }; left_is = sym (left-none 0 nets); wires_are = refl }
+none-routes pads nets = record { legal = record { across = none-legal (pad_x pads) pads nets; upward = none-legal (pad_y pads) pads nets }; left_is = sym (left-none 0 nets); wires_are = refl }
 
 -- Of a design.
 
@@ -292,7 +306,7 @@ lefts-most design k lt = omega (arith, ap (λ (l : List ℕ). get_or l k 0) desi
 -- the ends of its paths are apart by this at most
 pub routes-small : (design : Design) → design.routes.wires ≤ 2 ^ 47
 routes-small design =
-    let small = λ (axis : Axis) (paths : List Path) (h : ArePathsOfAxis design.pads design.nets paths). pulled-small axis design.pads design.nets paths h design.limits.places design.limits.net_weights design.limits.few_nets in
+    let small = λ (axis : Axis) (paths : List Path) (h : ArePathsOfAxis (place_on axis design.pads) design.pads design.nets paths). pulled-small axis design.pads design.nets paths h design.limits.places design.limits.net_weights design.limits.few_nets in
     omega (
       arith,
       design.routed.wires_are,
@@ -311,13 +325,26 @@ hop-fails nets path items i at same lt walks none all =
     let more = subst (λ ss. Walks nets at (drop i ss)) (sym same) left in
     none (subst (Walks nets at) (drop_step items i d lt) more).0
 
+-- a step to a pad reaches it where it is the last one
+pub reach-at-pad : (s : Step) (ss : List Step) → names_pad s.to ≡ true → reach_pad (s ∷ ss) ≡ (length ss == 0)
+reach-at-pad s [] pad = pad
+reach-at-pad s (t ∷ ss) pad =
+    let over : reach_pad (s ∷ t ∷ ss) ≡ false = ap (λ b. not b && reach_pad (t ∷ ss)) pad in
+    let more : (length (t ∷ ss) == 0) ≡ false = grind (arith, nat_tests) in
+    over ∙ sym more
+
+-- one to a block as the steps behind it do
+pub reach-past-block : (s : Step) (ss : List Step) → names_pad s.to ≡ false → reach_pad (s ∷ ss) ≡ reach_pad ss
+reach-past-block s [] block = block
+reach-past-block s (t ∷ ss) block = ap (λ b. not b && reach_pad (t ∷ ss)) block
+
 -- what holds of each of one path more holds of that path
 pub at-last : (P : Path → Type 0) (paths : List Path) (n : ℕ) (path : Path) → n < length paths → path ≡ get_or paths n path → All P (take (n + 1) paths) → P path
 at-last P paths n path lt is all =
     let there = all n path (omega (arith, length-take-le (n + 1) paths (omega (arith, lt)))) in
     subst P (get_or-take (n + 1) paths n path (omega arith) ∙ sym is) there
 
-module _ (pads : List Pad) (nets : List Net) (paths : List Path) (n : ℕ) (path : Path) (steps : List Step) (lt : n < length paths) (is : path ≡ get_or paths n path) (same : steps ≡ path.steps) where
+module _ (at : Pin → ℤ) (pads : List Pad) (nets : List Net) (paths : List Path) (n : ℕ) (path : Path) (steps : List Step) (lt : n < length paths) (is : path ≡ get_or paths n path) (same : steps ≡ path.steps) where
   -- how often the first paths and this one use a net
   one-more : (i : ℕ) → uses i (take (n + 1) paths) ≡ uses i (take n paths) + count_by (λ (s : Step). s.net == i) steps
   one-more i =
@@ -327,7 +354,7 @@ module _ (pads : List Pad) (nets : List Net) (paths : List Path) (n : ℕ) (path
 
   module _ (left : List ℕ) (taken : (k : ℕ) → k < length nets → get_or left k 0 + uses k (take n paths) ≡ (net_in nets k).weight) where
     -- where it uses a net more often than is left, they are not legal together
-    pub over-wrong : (i : ℕ) → i < length nets → get_or left i 0 < count_by (λ (s : Step). s.net == i) steps → ¬ (ArePathsOfAxis pads nets (take (n + 1) paths))
+    pub over-wrong : (i : ℕ) → i < length nets → get_or left i 0 < count_by (λ (s : Step). s.net == i) steps → ¬ (ArePathsOfAxis at pads nets (take (n + 1) paths))
     over-wrong i inside over legal = omega (arith, taken i inside, over, legal.spare i inside, one-more i)
 
     module _ (new : List ℕ) (now : (k : ℕ) → k < length nets → get_or new k 0 + count_by (λ (s : Step). s.net == k) steps ≡ get_or left k 0) where
@@ -336,9 +363,9 @@ module _ (pads : List Pad) (nets : List Net) (paths : List Path) (n : ℕ) (path
       taken-more k inside = omega (arith, taken k inside, now k inside, one-more k)
 
       -- then they are legal together
-      pub axis-more : ArePathsOfAxis pads nets (take n paths) → IsPath pads nets path → ArePathsOfAxis pads nets (take (n + 1) paths)
+      pub axis-more : ArePathsOfAxis at pads nets (take n paths) → IsPath at pads nets path → ArePathsOfAxis at pads nets (take (n + 1) paths)
       axis-more before fine = record {
-        each = subst (All (IsPath pads nets)) (sym (take_more paths n path lt ∙ ap (λ (p : Path). take n paths ++ p ∷ []) (sym is))) (All-push (IsPath pads nets) (take n paths) path before.each fine);
+        each = subst (All (IsPath at pads nets)) (sym (take_more paths n path lt ∙ ap (λ (p : Path). take n paths ++ p ∷ []) (sym is))) (All-push (IsPath at pads nets) (take n paths) path before.each fine);
         spare = λ k inside. omega (arith, taken-more k inside);
       }
 
@@ -350,8 +377,23 @@ none-made pads nets across upward left a u l =
     (subst (λ (ps : List Path). AreRoutes pads nets (record { paths = record { across = []; upward = ps }; left = left; wires = 0 })) (sym u)
     (subst (λ (ws : List ℕ). AreRoutes pads nets (record { paths = no_paths; left = ws; wires = 0 })) (sym l) (none-routes pads nets)))
 
+-- the first wrong path of those across is so among all
+pub wrong-across : (pads : List Pad) (nets : List Net) (paths : Paths) (n : ℕ) → IsFirstWrongOfAxis (pad_x pads) pads nets paths.across n → IsFirstWrong pads nets paths n
+wrong-across pads nets paths n h =
+    let none : n - length paths.across ≡ 0 = elim (cases_lt n (length paths.across)) [
+      | inl within ↦ omega arith
+      | inr past ↦ absurd (h.wrong (subst (ArePathsOfAxis (pad_x pads) pads nets) (take_all n paths.across past ∙ sym (take_all (n + 1) paths.across (omega arith))) h.before))
+    ] in
+    record {
+      before = record {
+        across = h.before;
+        upward = subst (λ k. ArePathsOfAxis (pad_y pads) pads nets (take k paths.upward)) (sym none) (none-legal (pad_y pads) pads nets);
+      };
+      wrong = λ legal. h.wrong legal.across;
+    }
+
 -- the first wrong path of those upward is so among all
-pub wrong-upward : (pads : List Pad) (nets : List Net) (paths : Paths) (n : ℕ) → ArePathsOfAxis pads nets paths.across → IsFirstWrongOfAxis pads nets paths.upward n → IsFirstWrong pads nets paths (length paths.across + n)
+pub wrong-upward : (pads : List Pad) (nets : List Net) (paths : Paths) (n : ℕ) → ArePathsOfAxis (pad_x pads) pads nets paths.across → IsFirstWrongOfAxis (pad_y pads) pads nets paths.upward n → IsFirstWrong pads nets paths (length paths.across + n)
 wrong-upward pads nets paths n across h =
     let a = length paths.across in
     let all : take (a + n) paths.across ≡ paths.across = take_all (a + n) paths.across (omega arith) in
@@ -359,10 +401,10 @@ wrong-upward pads nets paths n across h =
     let more : a + n + 1 - a ≡ n + 1 = omega arith in
     record {
       before = record {
-        across = subst (ArePathsOfAxis pads nets) (sym all) across;
-        upward = subst (λ k. ArePathsOfAxis pads nets (take k paths.upward)) (sym these) h.before;
+        across = subst (ArePathsOfAxis (pad_x pads) pads nets) (sym all) across;
+        upward = subst (λ k. ArePathsOfAxis (pad_y pads) pads nets (take k paths.upward)) (sym these) h.before;
       };
-      wrong = λ legal. h.wrong (subst (λ k. ArePathsOfAxis pads nets (take k paths.upward)) more legal.upward);
+      wrong = λ legal. h.wrong (subst (λ k. ArePathsOfAxis (pad_y pads) pads nets (take k paths.upward)) more legal.upward);
     }
 
 -- the number of a path that a fault names

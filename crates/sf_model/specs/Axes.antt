@@ -14,6 +14,6 @@ place_on Across = pad_x
 place_on Upward = pad_y
 
 -- the paths before number n are legal, and with it they are not
-pub record IsFirstWrongOfAxis (pads : List Pad) (nets : List Net) (paths : List Path) (n : ℕ) : Type 0 where
-  pub before : ArePathsOfAxis pads nets (take n paths)
-  pub wrong : ¬ (ArePathsOfAxis pads nets (take (n + 1) paths))
+pub record IsFirstWrongOfAxis (at : Pin → ℤ) (pads : List Pad) (nets : List Net) (paths : List Path) (n : ℕ) : Type 0 where
+  pub before : ArePathsOfAxis at pads nets (take n paths)
+  pub wrong : ¬ (ArePathsOfAxis at pads nets (take (n + 1) paths))

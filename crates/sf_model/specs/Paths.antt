@@ -1,6 +1,6 @@
 -- Paths from pad to pad by way of nets and blocks: which are legal, how far their ends are apart, and what they leave of the nets.
-use Rattle.std.specs.Prelude.{◌≡◌, ℕ, ◌+◌, ◌-◌, ◌<◌, ◌≤◌, max, Bool, false, ◌==◌, nat_lt, IsTrue, List, [], ◌∷◌, length, map, take, zip, All, sum_by, count_by, flat_map, slice_index_or, ℤ, pos, negsuc, ◌-ℤ◌, ◌*ℤ◌}
-use Rattle.std.specs.List.{list_any}
+use Rattle.std.specs.Prelude.{◌≡◌, ℕ, ◌+◌, ◌-◌, ◌<◌, ◌≤◌, max, Bool, true, false, not, ◌&&◌, ◌==◌, nat_lt, IsTrue, List, [], ◌∷◌, length, map, take, zip, All, sum_by, count_by, flat_map, slice_index_or, ℤ, pos, negsuc, ◌-ℤ◌, ◌*ℤ◌, ◌≤ℤ◌}
+use Rattle.std.specs.List.{list_all, list_any}
 use Rattle.sf_model.specs.declared.parts.Net.{Net}
 use Rattle.sf_model.specs.declared.parts.Pad.{Pad}
 use Rattle.sf_model.specs.declared.parts.Pin.{Pin}
@@ -34,6 +34,25 @@ abbrev pub is_pad : List Pad → Pin → Bool
 is_pad pads (pin.Block b) = false
 is_pad pads (pin.Pad p) = nat_lt p (length pads)
 
+-- the pin is that of a pad, whether it is there or not
+abbrev pub names_pad : Pin → Bool
+names_pad (pin.Block b) = false
+names_pad (pin.Pad p) = true
+
+-- the steps go by way of blocks to a pad
+abbrev pub reach_pad : List Step → Bool
+reach_pad [] = false
+reach_pad (s ∷ []) = names_pad s.to
+reach_pad (s ∷ t ∷ steps) = not (names_pad s.to) && reach_pad (t ∷ steps)
+
+-- a path leads from a pad by way of blocks to a pad
+abbrev pub leads : Path → Bool
+leads path = names_pad path.first && reach_pad path.steps
+
+-- each path of both axes does
+abbrev pub all_lead : Paths → Bool
+all_lead paths = list_all leads paths.across && list_all leads paths.upward
+
 -- the pin before each step, with the step
 abbrev pub hops : Path → List (Pin × Step)
 hops path = zip (path.first ∷ map (λ s. s.to) path.steps) path.steps
@@ -53,25 +72,37 @@ last_of p (s ∷ ss) = last_of s.to ss
 abbrev pub end_of : Path → Pin
 end_of path = last_of path.first path.steps
 
--- the path walks from a pad to a pad
-pub record IsPath (pads : List Pad) (nets : List Net) (path : Path) : Type 0 where
+-- the path walks from a pad by way of blocks to a pad that doesn't stand before the first one, where pins stand along an axis as `at` says
+pub record IsPath (at : Pin → ℤ) (pads : List Pad) (nets : List Net) (path : Path) : Type 0 where
   pub walked : All (IsHop nets) (hops path)
+  pub leads : IsTrue (leads path)
   pub first : IsTrue (is_pad pads path.first)
   pub last : IsTrue (is_pad pads (end_of path))
+  pub ahead : at path.first ≤ℤ at (end_of path)
 
 -- how often paths use net i
 abbrev pub uses : ℕ → List Path → ℕ
 uses i paths = count_by (λ s. s.net == i) (flat_map (λ path. path.steps) paths)
 
--- the paths of one axis: each walks from pad to pad, and they use no net more often than its weight
-pub record ArePathsOfAxis (pads : List Pad) (nets : List Net) (paths : List Path) : Type 0 where
-  pub each : All (IsPath pads nets) paths
+-- the paths of one axis: each walks ahead from pad to pad, and they use no net more often than its weight
+pub record ArePathsOfAxis (at : Pin → ℤ) (pads : List Pad) (nets : List Net) (paths : List Path) : Type 0 where
+  pub each : All (IsPath at pads nets) paths
   pub spare : (i : ℕ) → i < length nets → uses i paths ≤ (net_in nets i).weight
+
+-- where a pad stands across, doubled
+abbrev pub pad_x : List Pad → Pin → ℤ
+pad_x pads (pin.Block b) = pos 0
+pad_x pads (pin.Pad p) = pos 2 *ℤ (pad_in pads p).x
+
+-- the same upward
+abbrev pub pad_y : List Pad → Pin → ℤ
+pad_y pads (pin.Block b) = pos 0
+pad_y pads (pin.Pad p) = pos 2 *ℤ (pad_in pads p).y
 
 -- legal paths
 pub record AreLegal (pads : List Pad) (nets : List Net) (paths : Paths) : Type 0 where
-  pub across : ArePathsOfAxis pads nets paths.across
-  pub upward : ArePathsOfAxis pads nets paths.upward
+  pub across : ArePathsOfAxis (pad_x pads) pads nets paths.across
+  pub upward : ArePathsOfAxis (pad_y pads) pads nets paths.upward
 
 -- the first n paths, those across first
 abbrev pub first_paths : ℕ → Paths → Paths
@@ -86,16 +117,6 @@ pub record IsFirstWrong (pads : List Pad) (nets : List Net) (paths : Paths) (n :
 abbrev pub to_nat : ℤ → ℕ
 to_nat (pos n) = n
 to_nat (negsuc n) = 0
-
--- where a pad stands across, doubled
-abbrev pub pad_x : List Pad → Pin → ℤ
-pad_x pads (pin.Block b) = pos 0
-pad_x pads (pin.Pad p) = pos 2 *ℤ (pad_in pads p).x
-
--- the same upward
-abbrev pub pad_y : List Pad → Pin → ℤ
-pad_y pads (pin.Block b) = pos 0
-pad_y pads (pin.Pad p) = pos 2 *ℤ (pad_in pads p).y
 
 -- how far a path's end lies behind its beginning, or 0 where it lies before it
 abbrev pub pull : (Pin → ℤ) → Path → ℕ

@@ -33,8 +33,8 @@ pub use cost_text::push_cost;
 pub use design::Design;
 pub use fault::{BuildFault, Limit};
 pub use laws::{
-    costs_are_bounded, designs_are_determined, floors_change_no_plan, paths_change_no_plan,
-    spots_fill_plans,
+    costs_are_bounded, designs_are_determined, floors_change_no_plan, legal_paths_lead,
+    paths_change_no_plan, spots_fill_plans,
 };
 pub use limits::{MOST_COORDINATE, MOST_PINS, MOST_SIDE};
 pub use lists::{BlockList, NetList, NetWeights, PadList, PathList, Pins, Shapes, Steps};

@@ -1,9 +1,10 @@
 //! Whether paths are legal, and what follows from them.
 
-ghost use Rattle.std.specs.Prelude.{◌≡◌, ◌≢◌, ◌↔◌, ℕ, ◌+◌, ◌<◌, ◌≤◌, ◌^◌, ◌==◌, ℤ, List, map, take, length};
+ghost use Rattle.std.specs.Prelude.{◌≡◌, ◌≢◌, ◌↔◌, ℕ, ◌+◌, ◌<◌, ◌≤◌, ◌^◌, ◌==◌, ℤ, ◌≤ℤ◌, List, map, take, length};
 ghost use Rattle.std.specs.Prelude.{min, All, Some, None, IsTrue, IsFalse, IsSome, IfOk, IfErr, IfSome};
 ghost use Rattle.std.specs.Prelude.{slice_index, sum_by, count_by};
-ghost use Rattle.sf_model.specs.Paths.{has_pin, is_pad, hops, IsHop, IsPath, last_of, end_of, uses};
+ghost use Rattle.sf_model.specs.Paths.{has_pin, is_pad, names_pad, reach_pad, leads};
+ghost use Rattle.sf_model.specs.Paths.{hops, IsHop, IsPath, last_of, end_of, uses};
 ghost use Rattle.sf_model.specs.Paths.{ArePathsOfAxis, AreLegal, IsFirstWrong, pull, pad_x, pad_y, AreRoutes};
 ghost use Rattle.sf_model.specs.Paths.{no_paths, net_in};
 ghost use Rattle.sf_model.specs.Axes.{place_on, IsFirstWrongOfAxis};
@@ -109,12 +110,67 @@ fn end_of(path: &Path) -> Pin
     at
 }
 
-/// Whether a path walks from a pad to a pad.
-fn is_path(design: &Design, path: &Path) -> bool
-    ensures { IsTrue result ↔ IsPath design.now.pads design.now.nets path.now }
+/// Whether a pin is that of a pad, whether it is there or not.
+fn names_pad(pin: Pin) -> bool
+    ensures { result ≡ names_pad pin }
+{
+    match pin {
+        Pin::Block(_) => false,
+        Pin::Pad(_) => true,
+    }
+}
+
+/// Whether steps go by way of blocks to a pad.
+fn reach_pad(steps: &[Step]) -> bool
+    ensures { result ≡ reach_pad steps.now }
+{
+    for number in 0..steps.len() {
+        if names_pad(steps[number].to) {
+            return number + 1 == steps.len();
+        }
+    }
+    false
+}
+
+/// Whether a path leads from a pad by way of blocks to a pad.
+fn leads(path: &Path) -> bool
+    ensures { result ≡ leads path.now }
+{
+    names_pad(path.first) && reach_pad(path.steps.as_slice())
+}
+
+/// Where a pad stands along an axis, doubled.
+fn place_on(axis: Axis, pads: &[Pad], pin: Pin) -> i64
+    requires { IsTrue (is_pad pads.now pin) }
+    ensures { result ≡ place_on axis pads.now pin }
+{
+    let Pin::Pad(pad) = pin else { unreachable!() };
+    let pad = &pads[usize::from(pad)];
+    match axis {
+        Axis::Across => 2 * i64::from(pad.x),
+        Axis::Upward => 2 * i64::from(pad.y),
+    }
+}
+
+/// Whether a path's end doesn't stand before its beginning along an axis.
+fn is_ahead(axis: Axis, pads: &[Pad], path: &Path) -> bool
+    requires first { IsTrue (is_pad pads.now path.now.first) }
+    requires last { IsTrue (is_pad pads.now (end_of path.now)) }
+    ensures { IsTrue result ↔ (place_on axis pads.now path.now.first ≤ℤ place_on axis pads.now (end_of path.now)) }
+{
+    place_on(axis, pads, path.first) <= place_on(axis, pads, end_of(path))
+}
+
+/// Whether a path walks along an axis from a pad by way of blocks to a pad that doesn't stand before it.
+fn is_path(axis: Axis, design: &Design, path: &Path) -> bool
+    ensures { IsTrue result
+        ↔ IsPath (place_on axis design.now.pads) design.now.pads design.now.nets path.now }
 {
     let pads = design.pads.as_slice();
-    walks(design.nets.as_slice(), path) && is_pad(pads, path.first) && is_pad(pads, end_of(path))
+    if !walks(design.nets.as_slice(), path) || !leads(path) {
+        return false;
+    }
+    is_pad(pads, path.first) && is_pad(pads, end_of(path)) && is_ahead(axis, pads, path)
 }
 
 /// Takes the nets of some steps off what is left of each net's weight. At false one of them is used more
@@ -139,50 +195,39 @@ fn take_nets(left: &mut Vec<u8>, steps: &[Step]) -> bool
 }
 
 /// The first wrong path of an axis; none if they are legal, and then their nets are taken off the weights.
-fn first_wrong(left: &mut Vec<u8>, design: &Design, paths: &[Path]) -> Option<usize>
+fn first_wrong(left: &mut Vec<u8>, axis: Axis, design: &Design, paths: &[Path]) -> Option<usize>
     requires { left.old.items ≡ map (λ n. n.weight) design.now.nets }
-    ensures wrong { IfSome result (IsFirstWrongOfAxis design.now.pads design.now.nets paths.now) }
-    ensures legal { result ≡ None → ArePathsOfAxis design.now.pads design.now.nets paths.now }
+    ensures wrong { IfSome result
+        (IsFirstWrongOfAxis (place_on axis design.now.pads) design.now.pads design.now.nets paths.now) }
+    ensures legal { result ≡ None
+        → ArePathsOfAxis (place_on axis design.now.pads) design.now.pads design.now.nets paths.now }
     ensures len { length left.new.items ≡ length left.old.items }
     ensures taken { result ≡ None → (i : ℕ) → i < length left.old.items
         → slice_index left.new.items i + uses i paths.now ≡ slice_index left.old.items i }
 {
     for number in 0..paths.len() {
         let path = &paths[number];
-        if !is_path(design, path) || !take_nets(left, path.steps.as_slice()) {
+        if !is_path(axis, design, path) || !take_nets(left, path.steps.as_slice()) {
             return Some(number);
         }
     }
     None
 }
 
-/// Where a pad stands along an axis, doubled.
-fn place_on(axis: Axis, pads: &[Pad], pin: Pin) -> i64
-    requires { IsTrue (is_pad pads.now pin) }
-    ensures { result ≡ place_on axis pads.now pin }
-{
-    let Pin::Pad(pad) = pin else { unreachable!() };
-    let pad = &pads[usize::from(pad)];
-    match axis {
-        Axis::Across => 2 * i64::from(pad.x),
-        Axis::Upward => 2 * i64::from(pad.y),
-    }
-}
-
 /// How far a path's end lies behind its beginning along an axis.
 fn pull(axis: Axis, design: &Design, path: &Path) -> u64
-    requires { IsPath design.now.pads design.now.nets path.now }
+    requires { IsPath (place_on axis design.now.pads) design.now.pads design.now.nets path.now }
     ensures { result ≡ pull (place_on axis design.now.pads) path.now }
 {
     let pads = design.pads.as_slice();
     let first = place_on(axis, pads, path.first);
     let end = place_on(axis, pads, end_of(path));
-    if end > first { (end - first) as u64 } else { 0 }
+    (end - first) as u64
 }
 
 /// The same of all paths of an axis.
 fn pulled(axis: Axis, design: &Design, paths: &[Path]) -> u64
-    requires { ArePathsOfAxis design.now.pads design.now.nets paths.now }
+    requires { ArePathsOfAxis (place_on axis design.now.pads) design.now.pads design.now.nets paths.now }
     ensures is { result ≡ sum_by (pull (place_on axis design.now.pads)) paths.now }
     ensures small { result ≤ 2 ^ 46 }
 {
@@ -217,10 +262,10 @@ pub fn routes_of(alloc: Global, design: &Design, paths: Paths) -> Result<Routes,
     let mut upward_left = weights_of(alloc, design.nets.as_slice())?;
     let across = paths.across.as_slice();
     let upward = paths.upward.as_slice();
-    if let Some(number) = first_wrong(&mut left, design, across) {
+    if let Some(number) = first_wrong(&mut left, Axis::Across, design, across) {
         return Err(PathFault::BadPath(number));
     }
-    if let Some(number) = first_wrong(&mut upward_left, design, upward) {
+    if let Some(number) = first_wrong(&mut upward_left, Axis::Upward, design, upward) {
         return Err(PathFault::BadPath(across.len() + number));
     }
     keep_least(&mut left, &upward_left);

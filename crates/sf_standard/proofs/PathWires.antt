@@ -33,22 +33,22 @@ walk-le at nets p (s ∷ ss) w =
 
 module _ (pads : List Pad) (nets : List Net) (at place : Pin → ℤ) (same : (p : Pin) → IsTrue (is_pad pads p) → place p ≡ at p) where
   -- a path pulls no more than the nets that it uses are wide
-  path-le : (path : Path) → IsPath pads nets path → pull place path ≤ walked at nets path.steps
+  path-le : (path : Path) → IsPath place pads nets path → pull place path ≤ walked at nets path.steps
   path-le path h =
       to_nat-le (place (end_of path) -ℤ place path.first) (walked at nets path.steps)
       (omega (arith, ints, walk-le at nets path.first path.steps (recursion_from_All (IsHop nets) (hops path) h.walked), same path.first h.first, same (end_of path) h.last))
 
   -- nor do all paths together
-  walks-le : (paths : List Path) → AllByRecursion (IsPath pads nets) paths → sum_by (pull place) paths ≤ walked at nets (steps_of paths)
+  walks-le : (paths : List Path) → AllByRecursion (IsPath place pads nets) paths → sum_by (pull place) paths ≤ walked at nets (steps_of paths)
   walks-le [] h = omega arith
   walks-le (path ∷ paths) h =
       omega (arith, path-le path h.0, walks-le paths h.1, sum_by-cons (pull place) path paths, sum_by-append (λ (s : Step). extent at (net_in nets s.net)) path.steps (steps_of paths))
 
   -- net by net
-  paths-le : (paths : List Path) → ArePathsOfAxis pads nets paths → sum_by (pull place) paths ≤ by_number (λ i net. uses i paths * extent at net) 0 nets
+  paths-le : (paths : List Path) → ArePathsOfAxis place pads nets paths → sum_by (pull place) paths ≤ by_number (λ i net. uses i paths * extent at net) 0 nets
   paths-le paths h =
-      let each = recursion_from_All (IsPath pads nets) paths h.each in
-      omega (arith, walks-le paths each, exchange (extent at) nets (steps_of paths) (paths-nets pads nets paths each))
+      let each = recursion_from_All (IsPath place pads nets) paths h.each in
+      omega (arith, walks-le paths each, exchange (extent at) nets (steps_of paths) (paths-nets place pads nets paths each))
 
 -- a net's wire is what paths use of it and what is left
 net-le : (w a b x y part : ℕ) → a ≤ w → b ≤ w → part ≤ x + y → a * x + b * y + (w - max a b) * part ≤ w * (x + y)
@@ -102,7 +102,7 @@ module _ (design : Design) (node : Parts) (tree : Tree) (spans : length node.spa
         design.routed.wires_are,
         paths-le design.pads design.nets (pin_x design spots) (pad_x design.pads) (at-pad_x design spots) paths.across legal.across,
         paths-le design.pads design.nets (pin_y design spots) (pad_y design.pads) (at-pad_y design spots) paths.upward legal.upward,
-        nets-use design spots (net_part design node) paths 0 design.nets (axis-spare design.pads design.nets paths.across legal.across) (axis-spare design.pads design.nets paths.upward legal.upward)
+        nets-use design spots (net_part design node) paths 0 design.nets (axis-spare (pad_x design.pads) design.pads design.nets paths.across legal.across) (axis-spare (pad_y design.pads) design.pads design.nets paths.upward legal.upward)
             (each-weaker (λ net. IsPinSet (block_count design) (length design.pads) net.pins) (λ net. net_part design node net ≤ net_wire design spots net) (net_part-le design node tree spans belongs fit) design.nets
             (recursion_from_All (λ net. IsPinSet (block_count design) (length design.pads) net.pins) design.nets design.limits.pins)),
       )

@@ -235,13 +235,14 @@ module _ (design : Design) (node : Parts) where
         )
 
     -- the ends of the paths of an axis are apart by this for each use at most
-    pulls-short : (axis : Axis) (paths : List Path) → ArePathsOfAxis design.pads design.nets paths → sum_by (pull (place_on axis design.pads)) paths ≤ 2 ^ 22 * by_number (λ j net. uses j paths * 1) 0 design.nets
+    pulls-short : (axis : Axis) (paths : List Path) → ArePathsOfAxis (place_on axis design.pads) design.pads design.nets paths → sum_by (pull (place_on axis design.pads)) paths ≤ 2 ^ 22 * by_number (λ j net. uses j paths * 1) 0 design.nets
     pulls-short axis paths h =
-        let each = recursion_from_All (IsPath design.pads design.nets) paths h.each in
+        let at = place_on axis design.pads in
+        let each = recursion_from_All (IsPath at design.pads design.nets) paths h.each in
         omega (
           arith,
           pulls-small axis design.pads design.nets paths design.limits.places each,
-          exchange (λ net. 1) design.nets (steps_of paths) (paths-nets design.pads design.nets paths each),
+          exchange (λ net. 1) design.nets (steps_of paths) (paths-nets at design.pads design.nets paths each),
         )
 
     -- by nets or by paths, the wires stay below 2^47
@@ -258,7 +259,7 @@ module _ (design : Design) (node : Parts) where
           design.routed.wires_are,
           pulls-short Across paths.across legal.across,
           pulls-short Upward paths.upward legal.upward,
-          routes-short paths 0 design.nets (axis-spare design.pads design.nets paths.across legal.across) (axis-spare design.pads design.nets paths.upward legal.upward)
+          routes-short paths 0 design.nets (axis-spare (place_on Across design.pads) design.pads design.nets paths.across legal.across) (axis-spare (place_on Upward design.pads) design.pads design.nets paths.upward legal.upward)
               (recursion_from_All (λ net. net.weight < 2 ^ 8) design.nets design.limits.net_weights),
           design.limits.few_nets,
         )

@@ -158,7 +158,7 @@ pub fn built(alloc: Global, parts: Parts, wire: u16, first: u8) -> Result<Design
 }
 
 /// A generated design.
-fn generated(alloc: Global, seed: u64, count: u16, wire: u16) -> Result<Design, Fail>
+pub fn generated(alloc: Global, seed: u64, count: u16, wire: u16) -> Result<Design, Fail>
     requires some { 1 ≤ count }
     requires few { count ≤ 320 }
 {

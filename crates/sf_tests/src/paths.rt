@@ -1,11 +1,13 @@
-//! Paths from pad to pad on three blocks, with values of the bound that were worked out by hand.
+//! Paths from pad to pad on three blocks, with values of the bound that were worked out by hand, and paths that
+//! were found.
 
-use crate::anneal::{blocks_of, built, joined, nets_of};
+use crate::anneal::{blocks_of, built, generated, joined, nets_of};
 use crate::bounds::assert_values;
 use sf_bound::Bounds;
 use sf_bounds::Standard;
 use sf_gsrc::read_pl;
-use sf_model::{Design, Path, PathFault, PathList, Paths, Pin, Step, Steps};
+use sf_model::{Design, Path, PathList, Paths, Pin, Step, Steps};
+use sf_paths::find_paths;
 use std::alloc::{AllocError, Global};
 use std::test::Fail;
 
@@ -22,54 +24,60 @@ const NETS: &[u8] =
 const PLACES: &[u8] = b"UCLA pl 1.0\np 0 0\nq 10 0\nr 0 12\n";
 
 /// The design of these texts, whose first net has the weight 2.
-fn chain(alloc: Global) -> Result<Design, Fail> {
+pub fn chain(alloc: Global) -> Result<Design, Fail> {
     let blocks = blocks_of(alloc, BLOCKS)?;
     let nets = nets_of(alloc, NETS)?;
     let places = read_pl(alloc, PLACES, 1)?;
     built(alloc, joined(alloc, blocks, nets, Some(places))?, 1, 2)
 }
 
+/// A path as its first pin and its steps, each a net and a pin.
+pub type Written = (Pin, &'static [(u32, Pin)]);
+
 /// The path along the chain, from pad 0 to pad 1.
-const ALONG: [Step; 4] = [
-    Step {
-        net: 0,
-        to: Pin::Block(0),
-    },
-    Step {
-        net: 1,
-        to: Pin::Block(1),
-    },
-    Step {
-        net: 2,
-        to: Pin::Block(2),
-    },
-    Step {
-        net: 3,
-        to: Pin::Pad(1),
-    },
-];
+pub const ALONG: Written = (
+    Pin::Pad(0),
+    &[
+        (0, Pin::Block(0)),
+        (1, Pin::Block(1)),
+        (2, Pin::Block(2)),
+        (3, Pin::Pad(1)),
+    ],
+);
 
 /// The path from pad 0 over the first block to pad 2.
-const ABOVE: [Step; 2] = [
-    Step {
-        net: 0,
-        to: Pin::Block(0),
-    },
-    Step {
-        net: 4,
-        to: Pin::Pad(2),
-    },
-];
+pub const ABOVE: Written = (Pin::Pad(0), &[(0, Pin::Block(0)), (4, Pin::Pad(2))]);
 
-/// A path from pad 0.
-fn path(alloc: Global, steps: &[Step]) -> Result<Path, AllocError> {
-    let mut list = Vec::with_capacity(alloc, steps.len())?;
-    for step in steps {
-        list.push(*step)?;
+/// The path that is written so.
+fn path_of(alloc: Global, written: Written) -> Result<Path, AllocError> {
+    let mut steps = Vec::new(alloc);
+    for (net, to) in written.1 {
+        steps.push(Step { net: *net, to: *to })?;
     }
     Ok(Path {
-        first: Pin::Pad(0),
-        steps: Steps::from_vec(list),
+        first: written.0,
+        steps: Steps::from_vec(steps),
+    })
+}
+
+/// The paths that are written so.
+fn list_of(alloc: Global, written: &[Written]) -> Result<PathList, AllocError> {
+    let mut paths = Vec::new(alloc);
+    for path in written {
+        paths.push(path_of(alloc, *path)?)?;
+    }
+    Ok(PathList::from_vec(paths))
+}
+
+/// Those across and those upward.
+pub fn paths_of(
+    alloc: Global,
+    across: &[Written],
+    upward: &[Written],
+) -> Result<Paths, AllocError> {
+    Ok(Paths {
+        across: list_of(alloc, across)?,
+        upward: list_of(alloc, upward)?,
     })
 }
 
@@ -96,30 +104,42 @@ const ROUTED: [(&[usize], u64); 5] = [
     (&[0, 0, 0, 0, 1], 88),
 ];
 
-/// The bound before and after the design is given paths. The path along the chain can't go there twice.
+/// The bound before the design is given paths.
+#[test]
+fn nets_count_alone(rt: HostRuntime) -> Result<(), Fail> {
+    let alloc = rt.alloc();
+    let design = chain(alloc)?;
+    let mut room = Standard.room(alloc);
+    assert_values(&rt, alloc, &design, &mut room, &ALONE)
+}
+
+/// The bound of the design with both paths.
 #[test]
 fn paths_raise_the_bound(rt: HostRuntime) -> Result<(), Fail> {
     let alloc = rt.alloc();
     let mut design = chain(alloc)?;
-    let mut room = Standard.room(alloc);
-    assert_values(&rt, alloc, &design, &mut room, &ALONE)?;
-    let twice = vec![in alloc; path(alloc, &ALONG)?, path(alloc, &ALONG)?]?;
-    let refused = design.set_paths(
-        alloc,
-        Paths {
-            across: PathList::from_vec(twice),
-            upward: PathList::from_vec(Vec::new(alloc)),
-        },
-    );
-    assert_eq!(rt; refused, Err(PathFault::BadPath(1)));
-    let set = design.set_paths(
-        alloc,
-        Paths {
-            across: PathList::from_vec(vec![in alloc; path(alloc, &ALONG)?]?),
-            upward: PathList::from_vec(vec![in alloc; path(alloc, &ABOVE)?]?),
-        },
-    );
-    assert_eq!(rt; set, Ok(()));
+    design.set_paths(alloc, paths_of(alloc, &[ALONG], &[ABOVE])?)?;
     let mut room = Standard.room(alloc);
     assert_values(&rt, alloc, &design, &mut room, &ROUTED)
+}
+
+/// How far the ends of the paths are apart that are found for a design, which takes them all.
+fn found_wires(alloc: Global, design: &mut Design) -> Result<u64, Fail> {
+    let paths = find_paths(alloc, design)?;
+    design.set_paths(alloc, paths)?;
+    Ok(design.routes.wires)
+}
+
+/// Paths that are found are legal. Of the three blocks there is one across, from pad 0 to pad 1, and one upward,
+/// from pad 0 to pad 2.
+#[test]
+fn takes_the_paths_that_are_found(rt: HostRuntime) -> Result<(), Fail> {
+    let alloc = rt.alloc();
+    let wires = found_wires(alloc, &mut chain(alloc)?)?;
+    assert_eq!(rt; wires, 44);
+    for seed in 1..4 {
+        let wires = found_wires(alloc, &mut generated(alloc, seed, 20, 1)?)?;
+        assert!(rt; wires > 0);
+    }
+    Ok(())
 }

@@ -1,120 +1,100 @@
 //! Paths that a design takes, and the first of those that it refuses.
 
-use crate::designs::{FLAT, NARROW, WIDE, block, net, pad};
-use sf_model::{
-    BlockList, Design, NetList, PadList, Path, PathFault, PathList, Paths, Pin, Step, Steps,
-    Weights,
-};
-use std::alloc::{AllocError, Global};
+use crate::paths::{ABOVE, ALONG, Written, chain, paths_of};
+use sf_model::{PathFault, Pin};
+use std::alloc::AllocError;
 use std::test::Fail;
 
-/// A path as its first pin and its steps, each a net and a pin.
-type Written = (Pin, &'static [(u32, Pin)]);
+/// From pad 0 to the first block and back, by the net of weight 2.
+const BACK: Written = (Pin::Pad(0), &[(0, Pin::Block(0)), (0, Pin::Pad(0))]);
 
-/// From the left pad by block 0 to the right one.
-const THROUGH: Written = (Pin::Pad(0), &[(0, Pin::Block(0)), (1, Pin::Pad(1))]);
+/// From pad 2 over the first block to pad 0: no way across, and downward.
+const BELOW: Written = (Pin::Pad(2), &[(4, Pin::Block(0)), (0, Pin::Pad(0))]);
 
-/// The same way by block 1 and back, so that net 2, whose weight is 2, is used twice.
-const ROUND: Written = (
+/// From pad 1 over the last block and the first one to pad 0: from right to left.
+const LEFT: Written = (
+    Pin::Pad(1),
+    &[(3, Pin::Block(2)), (5, Pin::Block(0)), (0, Pin::Pad(0))],
+);
+
+/// Along the chain, but between its first two blocks to and fro.
+const TO_AND_FRO: Written = (
     Pin::Pad(0),
     &[
         (0, Pin::Block(0)),
-        (2, Pin::Block(1)),
-        (2, Pin::Block(0)),
-        (1, Pin::Pad(1)),
+        (1, Pin::Block(1)),
+        (1, Pin::Block(0)),
+        (4, Pin::Pad(2)),
     ],
 );
 
-/// Lists of paths across, each with the number of the first that is refused.
-const CASES: [(&[Written], Option<usize>); 11] = [
-    (&[], None),
-    (&[THROUGH], None),
-    (&[ROUND], None),
-    // From right to left the ends are no way apart, but the path is one.
-    (
-        &[(Pin::Pad(1), &[(1, Pin::Block(0)), (0, Pin::Pad(0))])],
-        None,
-    ),
-    // A net twice, in one path and in two.
-    (
-        &[(Pin::Pad(0), &[(0, Pin::Block(0)), (0, Pin::Pad(0))])],
-        Some(0),
-    ),
-    (&[THROUGH, THROUGH], Some(1)),
-    // A weight of two is passed.
-    (
-        &[(
-            Pin::Pad(0),
-            &[
-                (0, Pin::Block(0)),
-                (2, Pin::Block(1)),
-                (2, Pin::Block(0)),
-                (2, Pin::Block(1)),
-                (2, Pin::Block(0)),
-                (1, Pin::Pad(1)),
-            ],
-        )],
-        Some(0),
-    ),
+/// From pad 2 to pad 1, by nets that have room for it, but over pad 0.
+const OVER_A_PAD: Written = (
+    Pin::Pad(2),
+    &[
+        (4, Pin::Block(0)),
+        (0, Pin::Pad(0)),
+        (0, Pin::Block(0)),
+        (5, Pin::Block(2)),
+        (3, Pin::Pad(1)),
+    ],
+);
+
+/// Lists of paths across and upward, with the number of the first that is refused.
+const CASES: [(&[Written], &[Written], Option<usize>); 22] = [
+    (&[], &[], None),
+    (&[ALONG], &[ABOVE], None),
+    // Ends that are equally far along.
+    (&[ABOVE], &[ALONG], None),
+    (&[BACK], &[BACK], None),
+    (&[BELOW], &[], None),
+    // Ends in the wrong order.
+    (&[LEFT], &[], Some(0)),
+    (&[ALONG], &[BELOW], Some(1)),
+    // A net of weight 1 twice, in one path and in two.
+    (&[TO_AND_FRO], &[], Some(0)),
+    (&[ALONG, ALONG], &[], Some(1)),
+    // One of weight 2 twice, and a third time.
+    (&[ALONG, ABOVE], &[], None),
+    (&[ALONG, BACK], &[], Some(1)),
+    (&[ABOVE, BACK], &[], Some(1)),
+    // Each axis has a count of its own, and the second one's is passed.
+    (&[ALONG], &[ALONG], None),
+    (&[ALONG, ABOVE], &[ALONG, ALONG], Some(3)),
     // A pin that isn't on the net, behind a step and before it.
     (
-        &[(Pin::Pad(0), &[(0, Pin::Block(1)), (1, Pin::Pad(1))])],
+        &[(Pin::Pad(0), &[(0, Pin::Block(1)), (4, Pin::Pad(2))])],
+        &[],
         Some(0),
     ),
     (
-        &[(Pin::Pad(1), &[(0, Pin::Block(0)), (1, Pin::Pad(1))])],
+        &[],
+        &[(Pin::Pad(1), &[(0, Pin::Block(0)), (4, Pin::Pad(2))])],
         Some(0),
     ),
     // A net that isn't there.
     (
-        &[(Pin::Pad(0), &[(3, Pin::Block(0)), (1, Pin::Pad(1))])],
+        &[(Pin::Pad(0), &[(6, Pin::Block(0)), (4, Pin::Pad(2))])],
+        &[],
         Some(0),
     ),
-    // No end at a pad.
-    (&[(Pin::Pad(0), &[(0, Pin::Block(0))])], Some(0)),
+    // No end at a pad, and no beginning at one.
+    (&[ALONG, (Pin::Pad(0), &[(0, Pin::Block(0))])], &[], Some(1)),
+    (&[(Pin::Block(0), &[(4, Pin::Pad(2))])], &[], Some(0)),
+    // Over a pad.
+    (&[OVER_A_PAD], &[], Some(0)),
+    // No step at all, at a pad and at a block.
+    (&[(Pin::Pad(0), &[])], &[], Some(0)),
+    (&[], &[ABOVE, (Pin::Block(0), &[])], Some(1)),
 ];
 
-/// Two blocks between two pads: nets 0 and 1 join block 0 to the left pad and to the right one, and net 2, of weight
-/// 2, joins the blocks.
-fn between_pads(alloc: Global) -> Result<Design, AllocError> {
-    let blocks = BlockList::from_vec(vec![in alloc; block(alloc, NARROW)?, block(alloc, FLAT)?]?);
-    let pads = PadList::from_vec(vec![in alloc; pad(alloc, 0, 0)?, pad(alloc, 10, 4)?]?);
-    let nets = NetList::from_vec(vec![in alloc;
-        net(alloc, Pin::Block(0), Pin::Pad(0), 1)?,
-        net(alloc, Pin::Block(0), Pin::Pad(1), 1)?,
-        net(alloc, Pin::Block(0), Pin::Block(1), 2)?,
-    ]?);
-    let weights = Weights { area: 1, wire: 1 };
-    Design::new(alloc, blocks, pads, nets, WIDE, weights)
-}
-
-/// The paths that are written so.
-fn paths_of(alloc: Global, written: &[Written]) -> Result<PathList, AllocError> {
-    let mut paths = Vec::new(alloc);
-    for (first, steps) in written {
-        let mut walk = Vec::new(alloc);
-        for (net, to) in *steps {
-            walk.push(Step { net: *net, to: *to })?;
-        }
-        paths.push(Path {
-            first: *first,
-            steps: Steps::from_vec(walk),
-        })?;
-    }
-    Ok(PathList::from_vec(paths))
-}
-
-/// Paths that walk from pad to pad within the nets' weights are taken, and of others the first is named.
+/// Legal paths are taken, and of others the first is named.
 #[test]
 fn takes_paths_or_names_the_first_wrong_one(rt: HostRuntime) -> Result<(), Fail> {
     let alloc = rt.alloc();
-    for (written, wrong) in CASES {
-        let mut design = between_pads(alloc)?;
-        let paths = Paths {
-            across: paths_of(alloc, written)?,
-            upward: paths_of(alloc, &[])?,
-        };
-        let found = match design.set_paths(alloc, paths) {
+    for (across, upward, wrong) in CASES {
+        let mut design = chain(alloc)?;
+        let found = match design.set_paths(alloc, paths_of(alloc, across, upward)?) {
             Ok(()) => None,
             Err(PathFault::BadPath(number)) => Some(number),
             Err(PathFault::NoMemory) => return Err(AllocError.into()),

@@ -1,6 +1,6 @@
 use Rattle.std.specs.List.{list_all}
 use Rattle.std.proofs.lemmas.Bool.{and_from}
-use Rattle.sf_certificate.specs.Paths.{leads}
+use Rattle.sf_model.specs.Paths.{leads}
 use Rattle.sf_certificate.proofs.Common.{codes, last_line_of, numbered_rest}
 use Rattle.sf_certificate.proofs.PathsLead.{axis-leads}
 use Rattle.sf_certificate.proofs.path_reading.read_paths.Goals as goal

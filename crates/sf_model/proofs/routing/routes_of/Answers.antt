@@ -2,16 +2,22 @@ use Rattle.std.proofs.Common.{◌≡◌, ℕ, ◌+◌, ◌<◌, get_or, map, min
 use Rattle.std.specs.Prelude.{List}
 use Rattle.sf_model.proofs.Common.{sum_by, length-map, Net}
 use Rattle.sf_model.specs.declared.paths.Path.{Path}
-use Rattle.sf_model.proofs.Used.{bad, left-is, two-left, wrong-upward}
+use Rattle.sf_model.proofs.Used.{bad, left-is, two-left, wrong-across, wrong-upward}
 use Rattle.sf_model.specs.Paths.{ArePathsOfAxis, IsFirstWrong, pad_x, pad_y, pull}
 use Rattle.sf_model.specs.Axes.{IsFirstWrongOfAxis}
 use Rattle.sf_model.proofs.routing.routes_of.Goals as goal
 
+pub returns-in-Some-clause-wrong : goal.returns-in-Some-clause-wrong
+returns-in-Some-clause-wrong c = λ n same.
+    let D = c.args.design.now in
+    let across : IsFirstWrongOfAxis (pad_x D.pads) D.pads D.nets c.args.paths.across c.in-Some.number = subst (λ (ps : List Path). IsFirstWrongOfAxis (pad_x D.pads) D.pads D.nets ps c.in-Some.number) c.as_slice-across.ensures c.in-Some.ensures.wrong in
+    subst (IsFirstWrong D.pads D.nets c.args.paths) (bad same) (wrong-across D.pads D.nets c.args.paths c.in-Some.number across)
+
 pub returns-in-Some-first_wrong-clause-wrong : goal.returns-in-Some-first_wrong-clause-wrong
 returns-in-Some-first_wrong-clause-wrong c = λ n same.
     let D = c.args.design.now in
-    let across : ArePathsOfAxis D.pads D.nets c.args.paths.across = subst (λ (ps : List Path). ArePathsOfAxis D.pads D.nets ps) c.as_slice-across.ensures (c.in_default.ensures.legal refl) in
-    let upward : IsFirstWrongOfAxis D.pads D.nets c.args.paths.upward c.in-Some-first_wrong.number = subst (λ (ps : List Path). IsFirstWrongOfAxis D.pads D.nets ps c.in-Some-first_wrong.number) c.as_slice-upward.ensures c.in-Some-first_wrong.ensures.wrong in
+    let across : ArePathsOfAxis (pad_x D.pads) D.pads D.nets c.args.paths.across = subst (λ (ps : List Path). ArePathsOfAxis (pad_x D.pads) D.pads D.nets ps) c.as_slice-across.ensures (c.in_default.ensures.legal refl) in
+    let upward : IsFirstWrongOfAxis (pad_y D.pads) D.pads D.nets c.args.paths.upward c.in-Some-first_wrong.number = subst (λ (ps : List Path). IsFirstWrongOfAxis (pad_y D.pads) D.pads D.nets ps c.in-Some-first_wrong.number) c.as_slice-upward.ensures c.in-Some-first_wrong.ensures.wrong in
     let number : length c.args.paths.across + c.in-Some-first_wrong.number ≡ n = omega (arith, ap length c.as_slice-across.ensures, bad same) in
     subst (IsFirstWrong D.pads D.nets c.args.paths) number (wrong-upward D.pads D.nets c.args.paths c.in-Some-first_wrong.number across upward)
 
@@ -31,8 +37,8 @@ returns-clause-legal c =
     (ap (λ (l : List ℕ). get_or l k 0) c.from_vec.ensures ∙ c.keep_least.ensures.least k (omega (arith, low, count, c.first_wrong.ensures.len)) ∙ ap (λ (l : List ℕ). min (get_or c.first_wrong.new.left.items k 0) (get_or l k 0)) c.deref.ensures.value) in
     record {
       legal = record {
-        across = subst (λ (ps : List Path). ArePathsOfAxis D.pads D.nets ps) c.as_slice-across.ensures (c.in_default.ensures.legal refl);
-        upward = subst (λ (ps : List Path). ArePathsOfAxis D.pads D.nets ps) c.as_slice-upward.ensures (c.in_default-first_wrong.ensures.legal refl);
+        across = subst (λ (ps : List Path). ArePathsOfAxis (pad_x D.pads) D.pads D.nets ps) c.as_slice-across.ensures (c.in_default.ensures.legal refl);
+        upward = subst (λ (ps : List Path). ArePathsOfAxis (pad_y D.pads) D.pads D.nets ps) c.as_slice-upward.ensures (c.in_default-first_wrong.ensures.legal refl);
       };
       left_is = left-is D.nets P c.from_vec.result (ap (λ (l : List ℕ). length l) c.from_vec.ensures ∙ len) (λ k low. one k low);
       wires_are = omega (arith, c.pulled.ensures.is, c.pulled-2.ensures.is, ap (sum_by (pull (pad_x D.pads))) c.as_slice-across.ensures, ap (sum_by (pull (pad_y D.pads))) c.as_slice-upward.ensures);
