@@ -41,7 +41,7 @@ impl Model for ByteReader {
 }
 
 /// What was taken of a piece: how many bytes, and the tag that they end, if they end one.
-#[derive(Clone, Copy, Debug, PartialEq, Eq)]
+#[derive(Clone, Copy)]
 pub struct Taken {
     pub tag: Option<Tag>,
     pub bytes: usize,
@@ -91,6 +91,8 @@ impl ByteReader {
     }
 
     /// The bytes of a piece up to its first blank, and that blank with them; or all of a piece that has none.
+    /// Inlined, since it is called for each word of a tree, by a loop for each bound.
+    #[inline(always)]
     pub fn take(&mut self, piece: &[u8], blocks: u16) -> Result<Taken, CertFault>
         requires { blocks ≤ 320 }
         ensures inside { IfOk result (λ taken. taken.bytes ≤ length piece.now) }
@@ -128,6 +130,7 @@ impl ByteReader {
 
     /// Ends a word whose last bytes are these, at a blank that is not taken yet. The answer is the tag that
     /// it ends, if it ends one.
+    #[inline(always)]
     fn end_run(&mut self, run: &[u8], blocks: u16) -> Result<Option<Tag>, CertFault>
         requires few { blocks ≤ 320 }
         requires run { has_none is_blank_byte run.now ≡ true }
