@@ -1,21 +1,22 @@
 -- Old pieces and new ones together hold one tree.
 use Rattle.std.proofs.Common.{◌≡◌, ℕ, ◌+◌, ◌≤◌, List, [], ◌∷◌, ◌++◌, map, All, arith, refl, ap, sym, subst, ◌∙◌, IsPermutation, Option}
-use Rattle.sf_resume.proofs.Common.{AllByRecursion, flat_map, All-append, All-from_recursion, recursion_from_All, Design, IsConserved, each-left, each-weaker, Expr, Part, Parts, root, children, Mark, Tag, Extend, Split, Closed, Open, IsFair, made, marks, AreTrees, IsValid, decided, least, left_open, one_decided, trees-first, total, total-append, total-flat_map, total-map, total-permutation, total-same, Piece, IsRead, marks_in, open_mark, told_by}
+use Rattle.sf_resume.proofs.Common.{AllByRecursion, flat_map, All-append, All-from_recursion, recursion_from_All, Design, each-left, each-weaker, Expr, Part, Parts, root, children, Mark, Tag, Extend, Split, Closed, Open, IsFair, made, marks, AreTrees, IsValid, decided, least, left_open, one_decided, trees-first, total, total-append, total-flat_map, total-map, total-permutation, total-same, Piece, IsRead, marks_in, open_mark, told_by}
 use Rattle.std.proofs.lemmas.List.Concat.{flat_map-append}
 use Rattle.std.proofs.lemmas.List.Sorted.{All-permutation, IsPermutation-sym}
 use Rattle.sf_node.specs.ByPart.{ArePartsOf}
 use Rattle.sf_search_core.specs.declared.entry.Entry.{Entry}
 use Rattle.sf_certificate.specs.declared.cert.Cert.{Cert}
-use Rattle.sf_certificate.specs.Named.{AllNameFirst, AreAlikeButNames}
+use Rattle.sf_certificate.specs.Named.{AllNameFirst, AreAlikeButNames, NamesFirst}
 use Rattle.sf_certificate.proofs.Merged.{decided-total, if_open, least-same, open-total}
 use Rattle.sf_certificate.proofs.Named.{unnamed-decided}
 use Rattle.sf_pieces.specs.Laid.{HoldTree, IsLaid, open_in}
 use Rattle.sf_pieces.specs.Naming.{AreNamed}
-use Rattle.sf_pieces.specs.Searched.{IsAssembled, IsSearched}
 use Rattle.sf_pieces.proofs.Laid.{open-in-total}
-use Rattle.sf_pieces.proofs.Searched.{all-read, decided-told, fair-named, kids-told, nodes-told, open-told}
+use Rattle.sf_pieces.proofs.Searched.{all-first, all-read, decided-told, fair-named, kids-told, nodes-told, open-told}
 use Rattle.sf_pieces.proofs.Weights.{nodes-permute}
+use Rattle.sf_resume.specs.Early.{IsEarly}
 use Rattle.sf_resume.specs.Grafted.{CanGraft, IsGrafted}
+use Rattle.sf_resume.proofs.FirstNames.{early-first}
 
 -- each tag of trees is fair
 trees-fair : (part : Parts → Part → ℕ) (cost : ℕ) (nodes : List Parts) (tags : List Tag) → AreTrees part cost nodes tags → AllByRecursion (λ m. IsFair part cost m.tag m.node) (marks nodes tags)
@@ -43,14 +44,6 @@ fair-lower part before cost Open node low h = tt
 total-none : {X : Type 0} (xs : List X) → total (λ x. 0) xs ≡ 0
 total-none [] = refl
 total-none (x ∷ xs) = omega (arith, total-none xs)
-
--- a tree that decides nothing leaves its root open
-undecided : (part : Parts → Part → ℕ) (cost : ℕ) (node : Parts) (tags : List Tag) → AreTrees part cost (node ∷ []) tags → decided tags ≡ 0 → left_open (node ∷ []) tags ≡ node ∷ []
-undecided part cost node [] h none = absurd h
-undecided part cost node (Extend ∷ tags) h none = absurd (omega (arith, none))
-undecided part cost node (Split b ∷ tags) h none = absurd (omega (arith, none))
-undecided part cost node (Closed p ∷ tags) h none = absurd (omega (arith, none))
-undecided part cost node (Open ∷ tags) h none = refl
 
 module _ (design : Design) (value : Parts → ℕ) (part : Parts → Part → ℕ) (parts : ArePartsOf design value part) (tags : List Tag) (before : ℕ) (old new : List Piece) (cost bound : ℕ) (entries : List Entry) (left : List Parts)
     (c : CanGraft design value part tags before old new cost bound entries left) (named : List Piece) (is : AreNamed cost new named) where
@@ -164,40 +157,14 @@ module _ (design : Design) (value : Parts → ℕ) (part : Parts → Part → �
         paths_is = alike.paths ∙ l.paths_is;
       }
 
-module _ (design : Design) (value : Parts → ℕ) (part : Parts → Part → ℕ) (parts : ArePartsOf design value part) (tags : List Tag) (before : ℕ) (old new : List Piece) (cost bound : ℕ) (entries : List Entry) (left : List Parts)
-    (c : CanGraft design value part tags before old new cost bound entries left) (none : old ≡ []) where
-  -- nothing was decided before
-  none-decided : decided tags ≡ 0
-  none-decided =
-      let one = root design ∷ [] in
-      let g : Mark → ℕ = λ m. one_decided m.tag in
-      let opened = left_open one tags in
-      let a = total-permutation g (told_by design old ++ map open_mark opened) (marks one tags) c.told_old in
-      let b : total g (map open_mark opened) ≡ total (λ n. g (open_mark n)) opened = total-map g open_mark opened in
-      let z : total (λ (n : Parts). 0) opened ≡ 0 = total-none opened in
-      let o : total g (told_by design old) ≡ 0 = ap (λ ps. total g (told_by design ps)) none in
-      let count : decided tags ≡ total g (marks one tags) = decided-total part before one tags c.trees in
-      omega (arith, a, b, z, o, count, total-append g (told_by design old) (map open_mark opened))
-
-  -- so the new pieces are those of a search from the root
-  pub searched-alone : IsSearched design value part cost bound new entries left
-  searched-alone = record {
-    parts = parts;
-    conserved = subst (λ ns. IsConserved value ns entries left) (undecided part before (root design) tags c.trees none-decided) c.conserved;
-    told = c.told;
-    fresh = c.fresh;
-    lowest = c.lowest;
-  }
-
-  -- and its certificate is that of the whole
-  pub assembled-alone : (plan : Option Expr) (cert : Cert) → IsAssembled design value part entries left plan cost bound cert → IsGrafted design value part tags entries plan cost bound cert
-  assembled-alone plan cert is = record {
-    valid = is.valid;
-    named = is.named;
-    counted = omega (arith, is.counted, none-decided);
-    blocks = is.blocks;
-    plan_is = is.plan_is;
-    cost_is = is.cost_is;
-    bound_is = is.bound_is;
-    paths_is = is.paths_is;
-  }
+  -- the certificate as it is laid, where the old pieces name no part but the area
+  pub grafted-named : (plan : Option Expr) (laid : Cert) → IsLaid design value part (old ++ named) plan cost bound laid → All IsEarly old → IsGrafted design value part tags entries plan cost bound laid
+  grafted-named plan laid l early =
+      let Names : Mark → Type 0 = λ m. NamesFirst part cost m.tag m.node in
+      let names : All Names (told_by design (old ++ named)) =
+      subst (All Names) (sym (flat_map-append (marks_in design) old named))
+      (All-append Names (told_by design old) (told_by design named) (All-from_recursion Names (told_by design old) (early-first design part cost old early fair-old))
+      (All-from_recursion Names (told_by design named) (all-first design part cost new named is c.told.kept))) in
+      let first : AllNameFirst design part cost laid.tags = All-permutation Names (told_by design (old ++ named)) (marks one laid.tags) l.same names in
+      grafted-cert plan laid laid l (record { blocks = refl; plan = refl; cost = refl; bound = refl; paths = refl; tags = refl }) l.valid
+      (subst (λ z. AllNameFirst design part z laid.tags) (sym l.cost_is) first)

@@ -10,17 +10,19 @@ ghost use Rattle.sf_certificate.specs.declared.tag.Tag.{Tag};
 ghost use Rattle.sf_certificate.specs.Valid.{HasCost};
 ghost use Rattle.sf_resume.specs.Grafted.{CanGraft, IsGrafted};
 
+use crate::early::are_early;
 use sf_bound::Bounds;
 use sf_certificate::Cert;
 use sf_checker::name_parts;
 use sf_model::Design;
-use sf_pieces::{Piece, assemble, lay, name_pieces};
+use sf_pieces::{Piece, lay, name_pieces};
 use sf_polish::Expr;
 use std::alloc::{AllocError as NoMemory, Global};
 
 /// The certificate of a tree that goes on where it was left open: the old pieces and the new ones laid end to
-/// end, and each closed subproblem named by the first part that is at least the new cost. For the old ones the
-/// parts are measured anew; where there are none, what the new pieces keep names all.
+/// end, and each closed subproblem named by the first part that is at least the new cost. What the new pieces
+/// keep names theirs. The area of an old one stays its first part; only where an old one is closed by another
+/// part the parts are measured anew.
 pub fn graft<B: Bounds>(
     alloc: Global,
     design: &Design,
@@ -42,12 +44,13 @@ pub fn graft<B: Bounds>(
         → CanGraft design.now value part tags before old.items new.items cost bound entries left
         → IsGrafted design.now value part tags entries plan cost bound cert) }
 {
-    if old.is_empty() {
-        return assemble(alloc, design, new, plan, cost, bound);
-    }
+    let is_named = are_early(&old);
     let mut named = name_pieces(alloc, new, cost)?;
     old.append(&mut named)?;
     let laid = lay(alloc, design, old, plan, cost, bound)?;
+    if is_named {
+        return Ok(laid);
+    }
     let cert = name_parts(alloc, design, bounds, laid)?;
     Ok(cert)
 }
