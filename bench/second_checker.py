@@ -3,8 +3,9 @@
 
 Written from docs/DEFINITIONS.md and docs/FORMATS.md, it keeps to their words and order and shares nothing else with the
 program. OPTIONS are those of `floorplan check` on a GSRC design, each as `--name value`, and it prints, stores and ends as
-that does, for certificates of each version that are valid, that are not, and whose text is refused. The design's own texts
-must be without a fault. It works slowly and plainly, and isn't for large designs.
+that does, for certificates of each version that are valid, that are not, and whose text is refused. With `--bounds strong` it
+tests the paths of a certificate and counts them, and else it passes them over. The design's own texts must be without a fault.
+It works slowly and plainly, and isn't for large designs.
 """
 import itertools
 import math
@@ -54,7 +55,7 @@ def scaled(word, scale):
 
 class Design:
     """The shapes of each block, the doubled points of the pads, the weight and the pins of each net (numbers of blocks and of
-    pads), the outline and the weights of area and wire."""
+    pads), the outline and the weights of area and wire; and what paths pull, and what they leave of each net's weight."""
 
     def __init__(self, options):
         self.unit, self.fixed, self.most = int(options.get("per-unit", 1)), "fixed" in options, int(options.get("shapes", 16))
@@ -73,6 +74,7 @@ class Design:
                 points[words[0]] = tuple(2 * scaled(word, self.unit) for word in words[1:3])
         self.points = [points[name] for name in terminals] if "pl" in options else []
         self.nets = self.pin_sets(options, terminals if "pl" in options else []) if "nets" in options else []
+        self.pulled, self.left = 0, [weight for weight, _, _ in self.nets]
         self.bounds = options.get("bounds")
         knows = self.bounds == "strong" and len(self.shapes) <= MOST_KNOWN
         self.floor = least_area(self.shapes, self.sides) if knows else 0
@@ -105,6 +107,34 @@ class Design:
         for words in (line.split() for line in (content_lines(options["net-weights"]) if "net-weights" in options else [])):
             weights[scaled(words[0], 1)] = scaled(words[1], 1)
         return [(weight, *pins) for weight, pins in zip(weights, nets)]
+
+
+def leads(design, axis, path):
+    """Whether a path leads from a pad over blocks to a pad that isn't before it on the axis, where each step's net is there and
+    has the pin before the step and the one behind it."""
+    pins = [(1, block) for block in path[2:-2:2]]
+    pins = [(2, path[0]), *pins, (2, path[-1])]
+    for net, *ends in zip(path[1::2], pins, pins[1:]):
+        if net >= len(design.nets) or any(number not in design.nets[net][kind] for kind, number in ends):
+            return False
+    return design.points[path[0]][axis] <= design.points[path[-1]][axis]
+
+
+def take_paths(design, paths):
+    """Has the bound count paths from pad to pad, those across and those upward, where all are legal."""
+    number = 0
+    for axis, listed in enumerate(paths):
+        spare = [weight for weight, _, _ in design.nets]
+        for path in listed:
+            if not leads(design, axis, path):
+                say_no("BadPath", number)
+            for net in path[1::2]:
+                spare[net] -= 1
+                if spare[net] < 0:
+                    say_no("BadPath", number)
+            design.pulled += design.points[path[-1]][axis] - design.points[path[0]][axis]
+            number += 1
+        design.left = list(map(min, design.left, spare))
 
 
 def undominated(sizes):
@@ -243,7 +273,9 @@ def values(design, tokens, spans):
         area = max(areas, widest * highest, design.floor)
     fits = area <= design.sides[0] * design.sides[1]
     nets = [(weight, net_parts(design, extents, items, complete, *pins)) for weight, *pins in design.nets if design.wire_weight]
-    wires = [0] + [sum(weight * by[way] for weight, by in nets) for way in range(3)] + [sum(weight * max(by) for weight, by in nets)]
+    wires = [0] + [sum(weight * by[way] for weight, by in nets) for way in range(3)]
+    rest = sum(left * max(by) for left, (_, by) in zip(design.left, nets))
+    wires.append(max(sum(weight * max(by) for weight, by in nets), design.pulled + rest))
     worth = [design.area_weight * area + design.wire_weight * wire if fits else MAX for wire in wires]
     if complete and design.wire_weight and all(len(left) == 1 for left in shapes):
         worth[4] = cost_of(design, tokens, [left[0] for left in shapes])
@@ -398,6 +430,8 @@ def check(design, text, rewrite):
             say_no("BadPlan")
         if costs != cost:
             say_no("CostDiffers", said(cost), said(costs))
+    if design.bounds == "strong":
+        take_paths(design, paths)
     least, named = walk(design, tags, cost)
     if least != bound:
         say_no("BoundDiffers", said(bound), said(least))
@@ -408,9 +442,13 @@ def check(design, text, rewrite):
     raise Ended(0, "status Yes\ncost %s\nbound %s\ndecided %d" % (said(cost), said(bound), decided))
 
 
+def options_of(words):
+    words = iter(words)
+    return {name[2:]: name == "--fixed" or next(words) for name in words}
+
+
 def main():
-    words = iter(sys.argv[1:])
-    options = {name[2:]: name == "--fixed" or next(words) for name in words}
+    options = options_of(sys.argv[1:])
     try:
         check(Design(options), read_file(options["cert"]), options.get("rewrite"))
     except Ended as answer:

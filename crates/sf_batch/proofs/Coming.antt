@@ -19,6 +19,7 @@ use Rattle.sf_jobs.specs.Told.{Told}
 use Rattle.sf_program.specs.Answer.{usage_line}
 use Rattle.sf_known.specs.Begun.{IsBegun}
 use Rattle.sf_known.specs.Known.{IsKnownBy, Knows}
+use Rattle.sf_known.proofs.Taken.{as-it-was}
 use Rattle.sf_designs.specs.Outcome.{Stops, refused, lost}
 use Rattle.sf_program.specs.Planned.{IsAnswered, IsTold, PlanDesign, budget_of}
 use Rattle.sf_program.specs.Stores.{Stored}
@@ -102,9 +103,13 @@ built held line o job says reads nodes = λ told tells. (
             read = design;
             stands = reads;
             design = design;
-            knows = known o design p;
             start = None;
-            begun = from_nothing (with_cert o cert) design (record { per_unit = p.per_unit; pl_out = p.pl_out; workers = p.workers; starts = p.starts; bounds = p.bounds });
+            begun = record {
+              known = design;
+              knows = known o design p;
+              routes = as-it-was o.bounds design;
+              begun = from_nothing (with_cert o cert) design (record { per_unit = p.per_unit; pl_out = p.pl_out; workers = p.workers; starts = p.starts; bounds = p.bounds });
+            };
             answered = rw (p.bounds, p.workers, p.per_unit, p.pl_out, sym nodes) named.1;
           }),
         ),

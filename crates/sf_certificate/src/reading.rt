@@ -1,8 +1,8 @@
 //! Reading the text of a certificate.
 
-ghost use Rattle.std.specs.Prelude.{◌≡◌, ◌≢◌, ◌≤◌, IfOk, IfErr, IsTrue, Ok};
+ghost use Rattle.std.specs.Prelude.{◌≡◌, ◌≢◌, ◌≤◌, IfOk, IfErr, IsTrue, Ok, Err};
+ghost use Rattle.sf_model.specs.Paths.{all_lead};
 ghost use Rattle.sf_certificate.specs.declared.fault.CertFault.TheVariants.{NoMemory};
-ghost use Rattle.sf_certificate.specs.Paths.{all_lead};
 ghost use Rattle.sf_certificate.specs.Reading.{said_by, cert_read};
 
 use crate::cert::Cert;
@@ -11,6 +11,7 @@ use crate::header::read_header;
 use crate::tag::TagList;
 use crate::tree::read_tree;
 use sf_lex::Scan;
+use sf_model::Paths;
 use std::alloc::Global;
 
 /// The certificate that a text of any version spells for so many blocks, or the first fault of the text.
@@ -33,4 +34,15 @@ pub fn read(alloc: Global, text: &[u8], blocks: u16) -> Result<Cert, CertFault>
         paths: header.paths,
         tags: TagList::from_vec(tags),
     })
+}
+
+/// The paths in the header of a text, or the first fault of the header. The tree is not read.
+pub fn stored_paths(alloc: Global, text: &[u8], blocks: u16) -> Result<Paths, CertFault>
+    ensures paths { IfOk result (λ paths.
+        IfOk (cert_read blocks text.now) (λ said. said.paths ≡ paths)) }
+    ensures fault { IfErr result (λ e. e ≢ NoMemory → cert_read blocks text.now ≡ Err e) }
+{
+    let mut scan = Scan::new(text);
+    let header = read_header(alloc, &mut scan, text, blocks)?;
+    Ok(header.paths)
 }

@@ -12,7 +12,7 @@ use Rattle.sf_node.specs.Subproblem.{root}
 use Rattle.sf_certificate.specs.declared.cert.Cert.{Cert}
 use Rattle.sf_certificate.specs.Valid.{HasCost, AreTrees, left_open, least, decided, IsValid}
 use Rattle.sf_checker.specs.declared.answer.Why.{Why}
-use Rattle.sf_checker.specs.declared.answer.Why.TheVariants.{BadPlan, CostDiffers, BoundDiffers}
+use Rattle.sf_checker.specs.declared.answer.Why.TheVariants.{BadPath, BadPlan, CostDiffers, BoundDiffers}
 use Rattle.sf_checker.specs.declared.answer.Answer.{Answer}
 use Rattle.sf_checker.specs.declared.answer.Answer.TheVariants.{Yes, No}
 use Rattle.sf_checker.specs.Walking.{walked, start}
@@ -76,3 +76,9 @@ IsAnswer design bound part cert (No why) = IsFirst design bound part cert why
 abbrev pub is_yes : Answer → Bool
 is_yes (Yes z low count) = true
 is_yes (No why) = false
+
+-- what is answered where a path is not legal: a failure of plan or cost comes first, and all else behind it
+abbrev pub with_bad_path : ℕ → Answer → Answer
+with_bad_path n (No BadPlan) = No BadPlan
+with_bad_path n (No (CostDiffers said is)) = No (CostDiffers said is)
+with_bad_path n other = No (BadPath n)

@@ -21,7 +21,7 @@ mod planning;
 mod stage;
 mod walk;
 
-pub use answer::{Answer, Why};
+pub use answer::{Answer, Why, with_bad_path};
 pub use checking::check;
 pub use naming::name_parts;
 pub use pieces::{Checking, FinishFault};

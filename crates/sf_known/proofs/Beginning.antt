@@ -4,7 +4,9 @@ use Rattle.std.specs.Prelude.{IfSome, nat_lt}
 use Rattle.std.proofs.lemmas.Bool.{cases_Bool}
 use Rattle.sf_anneal.specs.Measured.{IsFloorplan}
 use Rattle.sf_known.proofs.OneKnown.{known-floorplan}
+use Rattle.sf_known.proofs.Taken.{routed-floorplan}
 use Rattle.sf_known.specs.Known.{Knows, cheaper}
+use Rattle.sf_known.specs.Routed.{IsRouted}
 use Rattle.sf_model.specs.declared.design.Design.{Design}
 use Rattle.sf_polish.specs.declared.expr.Expr.{Expr}
 use Rattle.sf_words.specs.declared.command.BoundsChoice.{BoundsChoice}
@@ -19,3 +21,8 @@ cheaper-holds P (Some p) (Some q) h k = elim (cases_Bool (nat_lt q.1 p.1)) [ inl
 pub walked-floorplan : (bounds : BoundsChoice) (design known : Design) (walked : Option (Expr × ℕ)) → Knows bounds design known → IfSome walked (λ plan. IsFloorplan design plan.0 plan.1) → IfSome walked (λ plan. IsFloorplan known plan.0 plan.1)
 walked-floorplan bounds design known None knows h = h
 walked-floorplan bounds design known (Some plan) knows h = known-floorplan bounds design known plan.0 plan.1 knows h
+
+-- a floorplan that a search begins with is one of the design with paths
+pub routed-start : (bounds : BoundsChoice) (design routed : Design) (start : Option (Expr × ℕ)) → IsRouted bounds design routed → IfSome start (λ plan. IsFloorplan design plan.0 plan.1) → IfSome start (λ plan. IsFloorplan routed plan.0 plan.1)
+routed-start bounds design routed None routes h = h
+routed-start bounds design routed (Some plan) routes h = routed-floorplan bounds design routed plan.0 plan.1 routes h

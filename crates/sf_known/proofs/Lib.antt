@@ -1,3 +1,4 @@
 pub mod OneKnown
+pub mod Taken
 pub mod Spelled
 pub mod Beginning

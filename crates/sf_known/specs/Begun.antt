@@ -3,7 +3,8 @@ use Rattle.std.specs.Prelude.{◌≡◌, ℕ, Option}
 use Rattle.sf_model.specs.declared.design.Design.{Design}
 use Rattle.sf_anneal.specs.Starts.{IsImprovedStarts}
 use Rattle.sf_polish.specs.declared.expr.Expr.{Expr}
-use Rattle.sf_known.specs.Known.{IsKnownBy, cheaper}
+use Rattle.sf_known.specs.Known.{IsKnownBy, Knows, cheaper}
+use Rattle.sf_known.specs.Routed.{IsRouted}
 use Rattle.sf_words.specs.declared.command.BoundsChoice.{BoundsChoice}
 use Rattle.sf_words.specs.Meaning.{StartOptions}
 
@@ -14,3 +15,10 @@ pub record IsBegun (starts : StartOptions) (bounds : BoundsChoice) (design known
   pub walks : IsImprovedStarts design starts.seed starts.count starts.moves walked
   pub knows : IsKnownBy bounds known least
   pub is : start ≡ cheaper walked least
+
+-- what a search begins with: the design that knows what was asked for, with the paths that were found for it, and a plan or none
+pub record IsBeginning (starts : StartOptions) (bounds : BoundsChoice) (design routed : Design) (start : Option (Expr × ℕ)) : Type 0 where
+  pub known : Design
+  pub knows : Knows bounds design known
+  pub routes : IsRouted bounds known routed
+  pub begun : IsBegun starts bounds design known start

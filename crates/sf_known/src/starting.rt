@@ -3,12 +3,12 @@
 ghost use Rattle.std.specs.Prelude.{◌≡◌, ◌*◌, ◌≤◌, IfOk, IfSome, IfNone};
 ghost use Rattle.sf_anneal.specs.Measured.{IsFloorplan};
 ghost use Rattle.sf_anneal.specs.Starts.{IsImprovedStarts};
-ghost use Rattle.sf_known.specs.Begun.{IsBegun};
-ghost use Rattle.sf_known.specs.Known.{Knows};
+ghost use Rattle.sf_known.specs.Begun.{IsBeginning};
 ghost use Rattle.sf_words.specs.Seen.{starts_seen};
 
 use crate::choosing::cheaper;
 use crate::knowing::know;
+use crate::routing::find_routes;
 use sf_anneal::improved_starts;
 use sf_model::Design;
 use sf_polish::Expr;
@@ -16,7 +16,8 @@ use sf_words::{BoundsChoice, StartWords};
 use std::alloc::{AllocError as NoMemory, Global};
 use std::thread::Threads;
 
-/// A design that knows what was asked for, and the plan that its search begins with, with its cost.
+/// A design that knows what was asked for, with the paths that were found for it, and the plan that its search
+/// begins with, with its cost.
 #[derive(Drop)]
 pub struct Begun {
     pub design: Design,
@@ -58,7 +59,8 @@ fn find_start<R: Threads + Sync>(
 }
 
 /// Lets the design know what was asked for, and begins with the cheaper of what walks find and of what is known
-/// then. The walks come first: the area of what they find limits the table of what is known.
+/// then. The walks come first: the area of what they find limits the table of what is known. Paths come last:
+/// neither walks nor the table look at them.
 pub fn begin<R: Threads + Sync>(
     rt: &R,
     alloc: Global,
@@ -66,17 +68,14 @@ pub fn begin<R: Threads + Sync>(
     starts: StartWords,
     bounds: BoundsChoice,
 ) -> Result<Begun, NoMemory>
-    ensures knows { IfOk result (λ begun. Knows bounds design begun.design) }
-    ensures begun { IfOk result (λ begun.
-        IsBegun (starts_seen starts) bounds design begun.design begun.start) }
+    ensures begins { IfOk result (λ begun.
+        IsBeginning (starts_seen starts) bounds design begun.design begun.start) }
     ensures floorplan { IfOk result (λ begun.
         IfSome begun.start (λ plan. IsFloorplan begun.design plan.0 plan.1)) }
 {
     let walked = find_start(rt, alloc, &design, starts)?;
     let known = know(alloc, bounds, design, &walked)?;
     let start = cheaper(walked, known.plan);
-    Ok(Begun {
-        design: known.design,
-        start,
-    })
+    let design = find_routes(alloc, bounds, known.design)?;
+    Ok(Begun { design, start })
 }

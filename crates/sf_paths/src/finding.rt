@@ -9,7 +9,7 @@ use sf_model::{Design, Path, PathList, Paths};
 use std::alloc::{AllocError, Global};
 
 /// How many places and hooks are looked at along an axis at most.
-const STEPS: u64 = 30_000_000;
+const STEPS: u64 = 20_000_000;
 
 /// Paths from pad to pad of a design, from left to right and from below upward, those whose ends are farthest
 /// apart first.

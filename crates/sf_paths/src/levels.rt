@@ -4,10 +4,10 @@ use sf_model::{Pad, Pin};
 use std::alloc::{AllocError, Global};
 
 /// How many levels there are.
-pub const LEVELS: u64 = 16;
+pub const LEVELS: u64 = 8;
 
 /// An axis along which paths lead: from left to right, or from below upward.
-#[derive(Clone, Copy, Debug, PartialEq, Eq)]
+#[derive(Clone, Copy)]
 pub enum Axis {
     Across,
     Upward,

@@ -29,4 +29,4 @@ module _ (P : Status → Type 0) (done : P Done) where
   -- of what is answered to a certificate from which a search is to go on
   pub taken-up-ends : P NoneFits → P Open → P No → (o : ResumeOptions) (design : Design) (cert : Cert) (status : Status) (stored : List Stored) (printed : List ℕ) → IsTakenUp o design cert status stored printed → P status
   taken-up-ends none still failed o design cert status stored printed h =
-      elim h [ inl r ↦ subst P (sym r.status_is) failed | inr g ↦ subst P (sym g.reported.status_is) (said-ends none still g.reported.said) ]
+      elim h [ inl r ↦ subst P (sym r.status_is) failed | inr g ↦ subst P (sym g.gone_on.reported.status_is) (said-ends none still g.gone_on.reported.said) ]

@@ -1,6 +1,6 @@
 -- An answer of `plan` says what the headline says.
-use Rattle.std.proofs.Common.{◌≡◌, inl, inr, Bool, true, false, ℕ, ◌+◌, ◌*◌, ◌<◌, ◌≤◌, MatchOption, List, Option, Some, None, Result, Ok, refl, sym, ap, subst, ◌∙◌, arith}
-use Rattle.sf_program.proofs.Common.{BoundsChoice, nat_lt, nat_tests, Contents, Status, Done, NoneFits, Usage, Open, No, BadInput, OverLimit, ReadFault, WriteFault, NoMemory, Design, Spot, block_count, cost, IsFloor, width, height, spots_of, wire, Expr, spells-one, Cert, HasCost, decided, Outcome, Command, GenOptions, Means, PlanOptions, ResumeOptions, gen, plan, resume, meaning_unique, Answers, CommandAnswer, IsAnswer, IsDone, GenRead, cert_name, Refusal, IsRefusal, IsAnswered, IsEnding, IsReported, IsGood, AreMeasures, PlanRead, budget_of, outcome_status, AfterStores, Stored}
+use Rattle.std.proofs.Common.{◌≡◌, inl, inr, Bool, true, false, ℕ, ◌+◌, ◌*◌, ◌<◌, ◌≤◌, MatchOption, List, length, Option, Some, None, Result, Ok, refl, sym, ap, subst, ◌∙◌, arith}
+use Rattle.sf_program.proofs.Common.{BoundsChoice, nat_lt, nat_tests, Contents, Status, Done, NoneFits, Usage, Open, No, BadInput, OverLimit, ReadFault, WriteFault, NoMemory, Block, Design, Spot, block_count, cost, IsFloor, width, height, spots_of, wire, Expr, spells-one, Cert, HasCost, decided, Outcome, Command, GenOptions, Means, PlanOptions, ResumeOptions, gen, plan, resume, meaning_unique, Answers, CommandAnswer, IsAnswer, IsDone, GenRead, cert_name, Refusal, IsRefusal, IsAnswered, IsEnding, IsReported, IsGood, AreMeasures, PlanRead, budget_of, outcome_status, AfterStores, Stored}
 use Rattle.std.specs.Io.KnownBytes.{Appends}
 use Rattle.sf_model.specs.declared.TheConstants.{MAX}
 use Rattle.sf_model.proofs.Bounded.{floor-none}
@@ -11,6 +11,11 @@ use Rattle.sf_pl_writer.specs.declared.report.Report.{Report}
 use Rattle.sf_pl_writer.specs.ReportText.{report_text}
 use Rattle.sf_program.specs.Headline.{HasSearched, IsEnd, IsFinding, IsHeadline, IsHeadlineOn, IsPlanOf}
 use Rattle.sf_program.specs.Planned.{IsTold}
+use Rattle.sf_known.specs.Routed.{IsRouted}
+use Rattle.sf_known.proofs.Taken.{as-it-was, takes-paths}
+use Rattle.sf_model.specs.declared.paths.Paths.{Paths}
+use Rattle.sf_model.specs.Routed.{HasPaths}
+use Rattle.sf_program.proofs.Routed.{finding-back, full-same, open-same}
 use Rattle.sf_words.specs.declared.command.BoundsChoice.TheVariants.{Standard}
 
 -- the report of a certificate, with what is measured of its plan
@@ -78,35 +83,50 @@ reported-finds bounds design budget all scale name pl cert status stored printed
 no-search : (status : Status) → IsRefusal status → HasSearched status → ⊥
 no-search status is h = elim is [ inl e ↦ subst HasSearched e h | inr e ↦ subst HasSearched e h ]
 
+-- what was found of a design with paths was found of the design without them
+finds-back : (design : Design) (paths : Paths) (routed : Design) (budget budget_then all all_then : ℕ) (status : Status) (printed : List ℕ) → HasPaths design paths routed → budget ≡ budget_then → all ≡ all_then
+    → Finds routed budget all status printed → Finds design budget_then all_then status printed
+finds-back design paths routed budget budget_then all all_then status printed h same whole f =
+    (f.0, subst (λ n. IsFinding design n all_then status f.0) same (subst (λ n. IsFinding design budget n status f.0) whole (finding-back design paths routed h budget all status f.0 f.1)), f.2)
+
 -- an answered search, with the design that was read or generated
-answered-headline : (Stands : Result Design Refusal → Type 0) (nodes : Option ℕ) (taken taken_then : Option (List ℕ)) (status : Status) (bounds : BoundsChoice) (design : Design) (workers : ℕ) (start : Option (Expr × ℕ)) (scale : ℕ) (name : List ℕ) (pl : Option (List ℕ)) (stored : List Stored) (printed : List ℕ)
-    → Stands (Ok design) → IsAnswered bounds design workers (budget_of nodes (block_count design)) start scale name pl status stored printed → Appends taken taken_then printed → IsHeadline Stands nodes taken taken_then status
-answered-headline Stands nodes taken taken_then status bounds design workers start scale name pl stored printed stands answered prints =
+answered-headline : (Stands : Result Design Refusal → Type 0) (nodes : Option ℕ) (taken taken_then : Option (List ℕ)) (status : Status) (bounds : BoundsChoice) (read design : Design) (workers : ℕ) (start : Option (Expr × ℕ)) (scale : ℕ) (name : List ℕ) (pl : Option (List ℕ)) (stored : List Stored) (printed : List ℕ)
+    → Stands (Ok read) → IsRouted bounds read design → IsAnswered bounds design workers (budget_of nodes (block_count design)) start scale name pl status stored printed → Appends taken taken_then printed → IsHeadline Stands nodes taken taken_then status
+answered-headline Stands nodes taken taken_then status bounds read design workers start scale name pl stored printed stands routes answered prints =
     let s = answered.searched in
+    let h = takes-paths bounds read routes.0 design routes.1 in
     let found = reported-finds bounds design (budget_of nodes (block_count design)) (full design) scale name pl answered.cert status stored printed s.valid s.few s.spent s.ended answered.reported in
-    record { design = design; stands = stands; report = found.0; finding = found.1; prints = subst (Appends taken taken_then) found.2 prints }
+    let budget = ap (λ (bs : List Block). budget_of nodes (length bs)) h.blocks in
+    let back = finds-back read design.routes.paths design (budget_of nodes (block_count design)) (budget_of nodes (block_count read)) (full design) (full read) status printed h budget (full-same read design.routes.paths design h) found in
+    record { design = read; stands = stands; report = back.0; finding = back.1; prints = subst (Appends taken taken_then) back.2 prints }
 
 module _ (before : Option Contents) (taken taken_then : Option (List ℕ)) (status : Status) (searched : HasSearched status) where
   -- an answer of `plan` by a status of a search has the headline
   plan-headline : (o : PlanOptions) (stored : List Stored) (printed : List ℕ) → CommandAnswer (plan o) before status stored printed → Appends taken taken_then printed → IsHeadline (PlanRead before o) o.nodes taken taken_then status
   plan-headline o stored printed (inl p) prints =
-      answered-headline (PlanRead before o) o.nodes taken taken_then status o.bounds p.design o.workers p.start o.design.per_unit o.cert o.pl_out stored printed (inl (p.read, p.stands, p.knows)) p.answered prints
+      answered-headline (PlanRead before o) o.nodes taken taken_then status o.bounds p.begun.known p.design o.workers p.start o.design.per_unit o.cert o.pl_out stored printed (inl (p.read, p.stands, p.begun.knows)) p.begun.routes p.answered prints
   plan-headline o stored printed (inr r) prints = absurd (no-search status r.0 searched)
 
   -- so has one of `gen`
   gen-headline : (o : GenOptions) (stored : List Stored) (printed : List ℕ) → CommandAnswer (gen o) before status stored printed → Appends taken taken_then printed → IsHeadline (GenRead o) o.nodes taken taken_then status
   gen-headline o stored printed (inl p) prints =
-      answered-headline (GenRead o) o.nodes taken taken_then status Standard p.design 1 None 1 (cert_name o) None p.searched printed p.made p.answered prints
+      answered-headline (GenRead o) o.nodes taken taken_then status Standard p.design p.design 1 None 1 (cert_name o) None p.searched printed p.made (as-it-was Standard p.design) p.answered prints
   gen-headline o stored printed (inr r) prints = absurd (no-search status r.0 searched)
 
   -- so has one of `resume`, which is an answer of a search where the certificate is valid
   resume-headline : (o : ResumeOptions) (stored : List Stored) (printed : List ℕ) → CommandAnswer (resume o) before status stored printed → Appends taken taken_then printed → IsHeadlineOn o before taken taken_then status
   resume-headline o stored printed (inl p) prints = elim p.taken_up [
     | inl r ↦ absurd (subst HasSearched r.status_is searched)
-    | inr g ↦ (let s = g.searched in
+    | inr w ↦ (let g = w.gone_on in
+        let s = g.searched in
         let old = p.cert in
-        let found = reported-finds o.bounds p.design (decided old.tags + o.nodes) (decided old.tags + full_open p.design old) o.design.per_unit o.cert_out o.pl_out g.cert status stored printed s.valid s.few s.spent (λ large. s.ended (omega (arith, large))) g.reported in
-        record { design = p.design; old = old; stands = p.reads; good = g.good; report = found.0; finding = found.1; prints = subst (Appends taken taken_then) found.2 prints })
+        let design = p.design in
+        let routed = w.routed in
+        let h = takes-paths o.bounds design old.paths routed w.takes in
+        let budget = decided old.tags + o.nodes in
+        let found = reported-finds o.bounds routed budget (decided old.tags + full_open routed old) o.design.per_unit o.cert_out o.pl_out g.cert status stored printed s.valid s.few s.spent (λ large. s.ended (omega (arith, large))) g.reported in
+        let back = finds-back design routed.routes.paths routed budget budget (decided old.tags + full_open routed old) (decided old.tags + full_open design old) status printed h refl (ap (λ n. decided old.tags + n) (open-same design routed.routes.paths routed h old)) found in
+        record { design = design; old = old; stands = p.reads; good = (routed, w.takes, g.good); report = back.0; finding = back.1; prints = subst (Appends taken taken_then) back.2 prints })
   ]
   resume-headline o stored printed (inr r) prints = absurd (no-search status r.0 searched)
 

@@ -12,11 +12,13 @@ pub mod Made
 pub mod Once
 pub mod OneDesign
 pub mod OneKnown
+pub mod ByChoice
 pub mod OneChecked
 pub mod OneResumed
 pub mod OneSearched
 pub mod OneAnswer
 pub mod Complete
+pub mod Routed
 pub mod Headline
 pub mod Pieces
 pub mod Continued

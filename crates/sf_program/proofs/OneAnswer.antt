@@ -73,7 +73,7 @@ silent-one Is one a b p q = let same = one a b p.0 q.0 in triple a b same.0 (p.1
 module _ (contents : Contents) where
   -- what is planned was read
   planned-reads : (o : PlanOptions) (a : Answer) → planned.IsPlanned o (Some contents) a.0 a.1 a.2 → (design : Design) × planned.PlanRead (Some contents) o (Ok design)
-  planned-reads o a p = (p.design, inl (p.read, p.stands, p.knows))
+  planned-reads o a p = (p.begun.known, inl (p.read, p.stands, p.begun.knows))
 
   -- what is gone on with was read
   continued-reads : (o : ResumeOptions) (a : Answer) → IsContinued o (Some contents) a.0 a.1 a.2 → (both : Design × Cert) × ResumeRead (Some contents) o (Ok both)

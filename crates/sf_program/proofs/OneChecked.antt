@@ -1,6 +1,6 @@
 -- The commands that search nothing have one answer each.
 use Rattle.std.proofs.Common.{◌≡◌, inl, inr, ℕ, ◌+◌, suc, List, [], ◌∷◌, ◌++◌, map, length, Option, Some, None, Result, Ok, Err, refl, sym, ap, subst, ◌∙◌, arith}
-use Rattle.sf_program.proofs.Common.{Bool, codes, flat_map, range_with_len, Contents, Design, Block, Spot, block_count, root, IsRootCurve, ◌>>=◌, Place, IsByNumber, IsVerdict, BoundsChoice, chosen_value, chosen_part, Cert, cert_text, AreTrees, IsValid, CheckOptions, MeasureOptions, ShapeOptions, CertRead, CheckRead, IsChecked, IsJudged, IsRenamed, IsRewritten, JudgedFile, answer_status, answer_text, cert_limit, cert_refusal, IsMeasured, MeasureRead, SpotsPlaced, SpotsRead, lines_named, sized_spot, spot_said, spots_said, verdict_status, verdict_text, Answer, AtMostOne, GivesOne, Refusal, DesignRead, KnownRead, Judged, PlacesRead, Said, TextRead, TextWithin, With, Stored, IsCurveText, IsLeast, IsShaped, ShapeRead, TokensRead, areas_alone, expr_refusal, least_line, point_line}
+use Rattle.sf_program.proofs.Common.{Bool, codes, flat_map, range_with_len, Contents, Design, Block, Spot, block_count, root, IsRootCurve, ◌>>=◌, Place, IsByNumber, IsVerdict, BoundsChoice, chosen_part, Cert, cert_text, AreTrees, CheckOptions, MeasureOptions, ShapeOptions, CertRead, CheckRead, IsChecked, IsJudged, IsRenamed, IsRewritten, JudgedFile, answer_status, answer_text, cert_limit, cert_refusal, IsMeasured, MeasureRead, SpotsPlaced, SpotsRead, lines_named, sized_spot, spot_said, spots_said, verdict_status, verdict_text, Answer, AtMostOne, GivesOne, Refusal, DesignRead, KnownRead, Judged, PlacesRead, Said, TextRead, TextWithin, With, Stored, IsCurveText, IsLeast, IsShaped, ShapeRead, TokensRead, areas_alone, expr_refusal, least_line, point_line}
 use Rattle.sf_model.specs.declared.parts.Shape.{Shape}
 use Rattle.sf_polish.specs.declared.expr.Token.{Token}
 use Rattle.sf_polish.specs.Reading.{tokens_read}
@@ -14,8 +14,10 @@ use Rattle.sf_certificate.specs.Reading.{Said as CertSaid, cert_read, said_by}
 use Rattle.sf_certificate.proofs.OneCert.{same-cert}
 use Rattle.sf_checker.specs.declared.answer.Answer.{Answer as Checked}
 use Rattle.sf_checker.specs.declared.answer.Answer.TheVariants.{Yes, No}
-use Rattle.sf_checker.specs.Answers.{IsAnswer}
-use Rattle.sf_checker.proofs.OneAnswer.{one-answer}
+use Rattle.sf_known.proofs.Taken.{takes-one}
+use Rattle.sf_program.proofs.ByChoice.{chosen-one, yes-good}
+use Rattle.sf_program.specs.Checked.{IsChosenAnswer}
+use Rattle.sf_program.specs.Resumed.{IsGoodWithPaths}
 use Rattle.sf_program.proofs.Once.{once, then-one, said-one, judged-one, text-one, within-one, with-one, same-value}
 use Rattle.sf_program.proofs.OneKnown.{known-one}
 use Rattle.sf_program.proofs.OneDesign.{design-one, places-one}
@@ -38,7 +40,7 @@ said-cert c d e = same-cert c d (ap (λ (s : CertSaid). s.blocks) e) (ap (λ (s 
 
 -- a valid certificate is renamed in one way
 abbrev pub HasOneName : Type 0
-HasOneName = (bounds : BoundsChoice) (design : Design) (old : Cert) → IsValid design (chosen_value bounds design) (chosen_part bounds design) old → AtMostOne (IsRenamed bounds design old)
+HasOneName = (bounds : BoundsChoice) (design : Design) (old : Cert) → IsGoodWithPaths bounds design old → AtMostOne (IsRenamed bounds design old)
 
 -- the laws of trees by which it is so: the full values close what any part closes, and the first parts follow from the tree
 abbrev pub FullClose : Type 0
@@ -51,26 +53,29 @@ FirstAreOne = (bounds : BoundsChoice) (design : Design) (cost : ℕ) (first seco
 
 -- by both laws a valid certificate is renamed in one way
 pub one-name : FullClose → FirstAreOne → HasOneName
-one-name close ones bounds design old valid c d p q =
-    let named : (x : Cert) → IsRenamed bounds design old x → AllNameFirst design (chosen_part bounds design) old.cost x.tags = λ x h. subst (λ z. AllNameFirst design (chosen_part bounds design) z x.tags) h.alike.cost h.named in
-    let trees = subst (AreTrees (chosen_part bounds design) old.cost (root design ∷ [])) (sym p.alike.tags) (close bounds design old.tags old.cost valid.tree) in
-    let tags = ones bounds design old.cost c.tags d.tags trees (p.alike.tags ∙ sym q.alike.tags) (named c p) (named d q) in
+one-name close ones bounds design old good c d p q =
+    let routed = good.0 in
+    let same : (x : Cert) (h : IsRenamed bounds design old x) → h.routed ≡ routed = λ x h. takes-one bounds design old.paths h.routed routed h.takes good.1 in
+    let first : (x : Cert) (h : IsRenamed bounds design old x) → AllNameFirst routed (chosen_part bounds routed) x.cost x.tags = λ x h. subst (λ (e : Design). AllNameFirst e (chosen_part bounds e) x.cost x.tags) (same x h) h.named in
+    let named : (x : Cert) → IsRenamed bounds design old x → AllNameFirst routed (chosen_part bounds routed) old.cost x.tags = λ x h. subst (λ z. AllNameFirst routed (chosen_part bounds routed) z x.tags) h.alike.cost (first x h) in
+    let trees = subst (AreTrees (chosen_part bounds routed) old.cost (root routed ∷ [])) (sym p.alike.tags) (close bounds routed old.tags old.cost good.2.tree) in
+    let tags = ones bounds routed old.cost c.tags d.tags trees (p.alike.tags ∙ sym q.alike.tags) (named c p) (named d q) in
     same-cert c d (p.alike.blocks ∙ sym q.alike.blocks) (p.alike.plan ∙ sym q.alike.plan) (p.alike.cost ∙ sym q.alike.cost) (p.alike.bound ∙ sym q.alike.bound) (p.alike.paths ∙ sym q.alike.paths) tags
 
 module _ (names : HasOneName) (bounds : BoundsChoice) (design : Design) (cert : Cert) where
   -- what is stored of a certificate with one answer is one
-  rewritten-one : (rewrite : Option (List ℕ)) (answer : Checked) (ss ts : List Stored) → IsAnswer design (chosen_value bounds design) (chosen_part bounds design) cert answer
+  rewritten-one : (rewrite : Option (List ℕ)) (answer : Checked) (ss ts : List Stored) → IsChosenAnswer bounds design cert answer
       → IsRewritten bounds design cert rewrite answer ss → IsRewritten bounds design cert rewrite answer ts → ss ≡ ts
   rewritten-one None answer ss ts right p q = p ∙ sym q
   rewritten-one (Some name) (No why) ss ts right p q = p ∙ sym q
   rewritten-one (Some name) (Yes cost bound decided) ss ts right p q =
-      let same = names bounds design cert right.valid p.0 q.0 p.1 q.1 in
+      let same = names bounds design cert (yes-good bounds design cert (Yes cost bound decided) refl right) p.0 q.0 p.1 q.1 in
       p.2 ∙ ap (λ (c : Cert). let all : List Stored = (name, cert_text c) ∷ [] in all) same ∙ sym q.2
 
   -- what is told and stored of a certificate is one
   judged-one-way : (rewrite : Option (List ℕ)) (a b : Answer) → IsJudged bounds design cert rewrite a.0 a.1 a.2 → IsJudged bounds design cert rewrite b.0 b.1 b.2 → (a.0 ≡ b.0) × (a.1 ≡ b.1) × (a.2 ≡ b.2)
   judged-one-way rewrite a b p q =
-      let answer = one-answer design (chosen_value bounds design) (chosen_part bounds design) cert p.answer q.answer p.answered q.answered in
+      let answer = chosen-one bounds design cert p.answer q.answer p.answered q.answered in
       let stored = subst (λ (x : Checked). IsRewritten bounds design cert rewrite x a.1) answer p.rewritten in
       (p.status_is ∙ ap answer_status answer ∙ sym q.status_is, rewritten-one rewrite q.answer a.1 b.1 q.answered stored q.rewritten, p.prints ∙ ap answer_text answer ∙ sym q.prints)
 

@@ -6,6 +6,7 @@ use Rattle.sf_words.specs.declared.command.BoundsChoice.{BoundsChoice}
 use Rattle.sf_words.specs.declared.command.BoundsChoice.TheVariants.{Standard, Strong, Pair, Fit, Both}
 use Rattle.sf_known.specs.Known.{IsKnownBy, cheaper}
 use Rattle.sf_known.specs.Begun.{IsBegun}
+use Rattle.sf_known.specs.Routed.{IsRouted}
 use Rattle.sf_pl_writer.specs.declared.report.Outcome.TheVariants as word
 use Rattle.sf_pl_writer.specs.ReportText.{report_text}
 use Rattle.sf_program.specs.Planned.{IsTold}
@@ -85,6 +86,14 @@ none-known Pair design known plain h = h
 none-known Fit design known plain h = h
 none-known Both design known plain h = h
 
+-- and it has no paths but its own
+plain-routes : (bounds : BoundsChoice) (design routed : Design) → (bounds ≡ Strong → ⊥) → IsRouted bounds design routed → routed ≡ design
+plain-routes Standard design routed plain h = h.1
+plain-routes Strong design routed plain h = absurd (plain refl)
+plain-routes Pair design routed plain h = h.1
+plain-routes Fit design routed plain h = h.1
+plain-routes Both design routed plain h = h.1
+
 -- a search that asks for neither begins with no plan
 none-first : (o : PlanOptions) (design known : Design) (start : Option (Expr × ℕ)) → o.starts.count ≡ 0 → (o.bounds ≡ Strong → ⊥) → IsBegun o.starts o.bounds design known start → start ≡ None
 none-first o design known start bare plain b =
@@ -112,10 +121,11 @@ module _ (certs : HasOneCert) where
   -- so are those of `plan`
   pub planned-one : (contents : Contents) (o : PlanOptions) → o.workers ≡ 1 → o.starts.count ≡ 0 → (o.bounds ≡ Strong → ⊥) → (a b : Answer) → IsPlanned o (Some contents) a.0 a.1 a.2 → IsPlanned o (Some contents) b.0 b.1 b.2 → (a.0 ≡ b.0) × (a.1 ≡ b.1) × (a.2 ≡ b.2)
   planned-one contents o single bare plain a b p q =
-      let design = same-value (PlanRead (Some contents) o) (plan-one contents o) p.design q.design (inl (p.read, p.stands, p.knows)) (inl (q.read, q.stands, q.knows)) in
+      let known = same-value (PlanRead (Some contents) o) (plan-one contents o) p.begun.known q.begun.known (inl (p.read, p.stands, p.begun.knows)) (inl (q.read, q.stands, q.begun.knows)) in
+      let design = plain-routes o.bounds p.begun.known p.design plain p.begun.routes ∙ known ∙ sym (plain-routes o.bounds q.begun.known q.design plain q.begun.routes) in
       let By : ℕ → Option (Expr × ℕ) → Design → Answer → Type 0 = λ n s d x. IsAnswered o.bounds d n (budget_of o.nodes (block_count d)) s o.design.per_unit o.cert o.pl_out x.0 x.1 x.2 in
-      let first = none-first o p.read p.design p.start bare plain p.begun in
-      let second = none-first o q.read q.design q.start bare plain q.begun in
+      let first = none-first o p.read p.begun.known p.start bare plain p.begun.begun in
+      let second = none-first o q.read q.begun.known q.start bare plain q.begun.begun in
       answered-one o.bounds q.design (budget_of o.nodes (block_count q.design)) o.design.per_unit o.cert o.pl_out a b
       (subst (λ n. By n None q.design a) single (subst (λ (d : Design). By o.workers None d a) design (subst (λ s. By o.workers s p.design a) first p.answered)))
       (subst (λ n. By n None q.design b) single (subst (λ s. By o.workers s q.design b) second q.answered))

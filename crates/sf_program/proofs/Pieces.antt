@@ -1,14 +1,15 @@
 -- A text that is fed in pieces: its answer, and what its fault says.
 use Rattle.std.proofs.Common.{◌≡◌, inl, ℕ, List, [], ◌∷◌, length, arith, refl, subst, sym, Option, None, Result, Ok, Err, IfOk, Bool}
-use Rattle.sf_program.proofs.Common.{IfErr, Contents, Design, block_count, BoundsChoice, chosen_value, chosen_part, CheckOptions, Command, check, Stop, Refuses, Stops, KnownRead, Judged, TextWithin, Cert, cert_text, IsValid, CommandRefuses, IsOwnAnswer, Obeys, CertRead, CheckRead, IsJudged, IsRewritten, IsStoredAnew, JudgedFile, JudgedText, answer_status, answer_text, cert_limit, cert_refusal, Stored, stored_in}
+use Rattle.sf_program.proofs.Common.{IfErr, Contents, Design, block_count, BoundsChoice, chosen_part, CheckOptions, Command, check, Stop, Refuses, Stops, KnownRead, Judged, TextWithin, Cert, cert_text, CommandRefuses, IsOwnAnswer, Obeys, CertRead, CheckRead, IsJudged, IsRewritten, IsStoredAnew, JudgedFile, JudgedText, answer_status, answer_text, cert_limit, cert_refusal, Stored, stored_in}
 use Rattle.sf_certificate.specs.declared.fault.CertFault.{CertFault}
 use Rattle.sf_certificate.specs.Reading.{Said, cert_read, said_by}
 use Rattle.sf_checker.specs.declared.answer.Answer.{Answer}
-use Rattle.sf_checker.specs.Feeding.{IsAnswerTo}
+use Rattle.sf_known.specs.Routed.{Takes}
+use Rattle.sf_program.proofs.ByChoice.{good-yes}
+use Rattle.sf_program.specs.Checked.{IsChosenAnswer, IsTextAnswer}
+use Rattle.sf_program.specs.Resumed.{IsGood}
 use Rattle.sf_program.specs.declared.work.Work.{Work}
 use Rattle.sf_certificate.specs.Named.{AllNameFirst, AreAlikeButNames}
-use Rattle.sf_checker.specs.Answers.{IsAnswer}
-use Rattle.sf_checker.proofs.Answered.{answered}
 use Rattle.sf_designs.proofs.Stages.{refused-stops, stops-map}
 
 -- a text of no length has no bytes
@@ -22,7 +23,7 @@ cert-stops read fault stop e r =
     refused-stops (λ why. Judged read cert_refusal (Err why)) (cert_refusal fault) (subst (λ x. Judged x cert_refusal (Err (cert_refusal fault))) (sym e) refl) stop r
 
 -- an answer that stores nothing
-pub told-text : (bounds : BoundsChoice) (design : Design) (text : List ℕ) (answer : Answer) (work : Work) → IsAnswerTo design (chosen_value bounds design) (chosen_part bounds design) text answer
+pub told-text : (bounds : BoundsChoice) (design : Design) (text : List ℕ) (answer : Answer) (work : Work) → IsTextAnswer bounds design text answer
     → work.status ≡ answer_status answer → stored_in work.stores.items ≡ [] → work.text.items ≡ answer_text answer
     → JudgedText bounds design text None work.status (stored_in work.stores.items) work.text.items
 told-text bounds design text answer work a status stores printed = record {
@@ -31,15 +32,16 @@ told-text bounds design text answer work a status stores printed = record {
   judged = record { answer = answer; answered = a.answered; status_is = status; rewritten = stores; prints = printed };
 }
 
--- a certificate that is valid, and names the first parts, is stored in place of one that it is like
-pub stored-anew : {A E : Type 0} (bounds : BoundsChoice) (design : Design) (old new : Cert) (name : List ℕ) → AreAlikeButNames old new → AllNameFirst design (chosen_part bounds design) new.cost new.tags → IsValid design (chosen_value bounds design) (chosen_part bounds design) new
-    → (stores : A → List Stored) (r : Result A E) → IfOk r (λ a. stores a ≡ (name, cert_text new) ∷ []) → IfOk r (λ a. IsStoredAnew bounds design old name (stores a))
-stored-anew bounds design old new name alike first valid stores (Ok a) h =
-    (new, record { alike = alike; named = first; accepted = λ answer so. (answered design (chosen_value bounds design) (chosen_part bounds design) new answer so).1 valid }, h)
-stored-anew bounds design old new name alike first valid stores (Err e) h = tt
+-- a certificate that is valid for the design that took its paths, and names the first parts, is stored in place of one that it is like
+pub stored-anew : {A E : Type 0} (bounds : BoundsChoice) (routed : Design) (old new : Cert) (name : List ℕ) → AreAlikeButNames old new → AllNameFirst routed (chosen_part bounds routed) new.cost new.tags → IsGood bounds routed new
+    → (stores : A → List Stored) (r : Result A E) → IfOk r (λ a. stores a ≡ (name, cert_text new) ∷ []) → IfOk r (λ a. (design : Design) → Takes bounds design old.paths routed → IsStoredAnew bounds design old name (stores a))
+stored-anew bounds routed old new name alike first valid stores (Ok a) h = λ design takes.
+    let again = subst (λ ps. Takes bounds design ps routed) (sym alike.paths) takes in
+    (new, record { alike = alike; routed = routed; takes = takes; named = first; accepted = good-yes bounds design new (routed, again, valid) }, h)
+stored-anew bounds routed old new name alike first valid stores (Err e) h = tt
 
 -- an answer with what is stored of its certificate
-pub told-cert : {E : Type 0} (bounds : BoundsChoice) (design : Design) (cert : Cert) (rewrite : Option (List ℕ)) (answer : Answer) (all : List Stored) → IsAnswer design (chosen_value bounds design) (chosen_part bounds design) cert answer → IsRewritten bounds design cert rewrite answer all
+pub told-cert : {E : Type 0} (bounds : BoundsChoice) (design : Design) (cert : Cert) (rewrite : Option (List ℕ)) (answer : Answer) (all : List Stored) → IsChosenAnswer bounds design cert answer → IsRewritten bounds design cert rewrite answer all
     → (r : Result Work E) → IfOk r (λ w. w.status ≡ answer_status answer) → IfOk r (λ w. stored_in w.stores.items ≡ all) → IfOk r (λ w. w.text.items ≡ answer_text answer)
     → IfOk r (λ w. IsJudged bounds design cert rewrite w.status (stored_in w.stores.items) w.text.items)
 told-cert bounds design cert rewrite answer all so kept (Ok w) status stores printed = record {

@@ -26,6 +26,7 @@ found-searched value part design workers budget start found e lower run = record
   valid = e.valid;
   named = e.named;
   blocks = e.blocks;
+  paths = e.paths_is;
   few = subst (λ k. k ≤ budget) e.decided_is e.few;
   spent = λ below. sym e.decided_is ∙ e.spent (subst (λ b. b < found.cost) (sym e.bound_is) (subst (λ z. found.cert.bound < z) (sym e.cost_is) below));
   ended = λ large. sym e.bound_is ∙ e.ended large ∙ e.cost_is;

@@ -2,7 +2,7 @@
 use Rattle.std.proofs.Common.{◌≡◌, ◌≤◌, ℕ, List, [], ◌∷◌, map, Option, Result, Ok, Err, arith, subst}
 use Rattle.sf_program.proofs.Common.{IfOk, Design, root, Expr, Cert, least, left_open, BoundsChoice, chosen_value, chosen_part, Outcome, IsAnswered, IsEnding, IsReported, IsSearched, IsGood, IsGoneOn, IsSearchedOn, outcome_status, stored_in}
 use Rattle.sf_certificate.proofs.Floor.{certificate-floor}
-use Rattle.sf_checker.proofs.Answered.{answered}
+use Rattle.sf_program.proofs.ByChoice.{good-yes}
 use Rattle.sf_program.specs.declared.work.Work.{Work}
 use Rattle.sf_program.specs.Planned.{IsTold}
 use Rattle.sf_program.proofs.ChosenLaws.{chosen-parts, chosen-sound}
@@ -25,7 +25,7 @@ module _ {E : Type 0} (bounds : BoundsChoice) (design : Design) (scale : ℕ) (n
       → IfOk r (λ w. IsReported bounds design scale name pl cert w.status (stored_in w.stores.items) w.text.items)
   told-reported said cert plan valid same ending (Ok w) told status = record {
     floor = certificate-floor design (chosen_value bounds design) (chosen_part bounds design) cert (chosen-sound bounds design) (chosen-parts bounds design) valid;
-    accepted = λ answer answered_so. (answered design (chosen_value bounds design) (chosen_part bounds design) cert answer answered_so).1 valid;
+    accepted = λ read answer takes so. good-yes bounds read cert (design, takes, valid) answer so;
     said = said;
     ending = ending;
     status_is = status;

@@ -1,5 +1,5 @@
 -- What the command `check` answers.
-use Rattle.std.specs.Prelude.{◌≡◌, ℕ, ◌^◌, List, [], ◌∷◌, ◌++◌, codes, Option, Some, None, Result, Ok, Bool, true, false}
+use Rattle.std.specs.Prelude.{◌≡◌, ℕ, ◌^◌, ◌⊎◌, List, [], ◌∷◌, ◌++◌, codes, Option, Some, None, Result, Ok, Bool, true, false}
 use Rattle.std.specs.Fmt.{decimal}
 use Rattle.sf_io.specs.Outside.{Contents}
 use Rattle.sf_io.specs.declared.status.Status.{Status}
@@ -14,10 +14,11 @@ use Rattle.sf_certificate.specs.Reading.{Said, said_by, cert_read}
 use Rattle.sf_certificate.specs.Text.{cert_text}
 use Rattle.sf_model.specs.CostText.{cost_text}
 use Rattle.sf_checker.specs.declared.answer.Why.{Why}
-use Rattle.sf_checker.specs.declared.answer.Why.TheVariants.{BadPlan, CostDiffers, NotClosed, BoundDiffers, BadSplit, BadChildren}
+use Rattle.sf_checker.specs.declared.answer.Why.TheVariants.{BadPlan, CostDiffers, NotClosed, BoundDiffers, BadSplit, BadChildren, BadPath}
 use Rattle.sf_checker.specs.declared.answer.Answer.{Answer}
 use Rattle.sf_checker.specs.declared.answer.Answer.TheVariants.{Yes, No}
-use Rattle.sf_checker.specs.Answers.{IsAnswer, is_yes}
+use Rattle.sf_checker.specs.Answers.{IsAnswer, is_yes, with_bad_path}
+use Rattle.sf_known.specs.Routed.{Breaks, Takes}
 use Rattle.sf_words.specs.declared.command.BoundsChoice.{BoundsChoice}
 use Rattle.sf_words.specs.Meaning.{CheckOptions}
 use Rattle.sf_program.specs.Chosen.{chosen_value, chosen_part}
@@ -57,6 +58,7 @@ why_words (NotClosed node bound cost) = codes "NotClosed" ∷ decimal node ∷ c
 why_words (BoundDiffers said is) = codes "BoundDiffers" ∷ cost_text said ∷ cost_text is ∷ []
 why_words (BadSplit node) = codes "BadSplit" ∷ decimal node ∷ []
 why_words (BadChildren node) = codes "BadChildren" ∷ decimal node ∷ []
+why_words (BadPath path) = codes "BadPath" ∷ decimal path ∷ []
 
 -- four lines for a valid certificate, and one with the first failure
 abbrev pub answer_text : Answer → List ℕ
@@ -72,11 +74,37 @@ abbrev pub answer_status : Answer → Status
 answer_status (Yes cost bound decided) = status.Done
 answer_status (No why) = status.No
 
+-- the checker's answer by the chosen bound, for the design that takes the certificate's paths
+pub record IsAnswerWithPaths (bounds : BoundsChoice) (design : Design) (cert : Cert) (answer : Answer) : Type 0 where
+  pub routed : Design
+  pub takes : Takes bounds design cert.paths routed
+  pub answered : IsAnswer routed (chosen_value bounds routed) (chosen_part bounds routed) cert answer
+
+-- the answer to a certificate of which a path is not legal: the first such path, behind a failure of plan or cost
+pub record IsWrongPathAnswer (bounds : BoundsChoice) (design : Design) (cert : Cert) (answer : Answer) : Type 0 where
+  pub path : ℕ
+  pub breaks : Breaks bounds design cert.paths path
+  pub found : Answer
+  pub answered : IsAnswer design (chosen_value bounds design) (chosen_part bounds design) cert found
+  pub is : answer ≡ with_bad_path path found
+
+-- the answer to a certificate by the chosen bound
+abbrev pub IsChosenAnswer : BoundsChoice → Design → Cert → Answer → Type 0
+IsChosenAnswer bounds design cert answer = IsAnswerWithPaths bounds design cert answer ⊎ IsWrongPathAnswer bounds design cert answer
+
+-- the text says a certificate for the blocks of the design, and this is the answer to it
+pub record IsTextAnswer (bounds : BoundsChoice) (design : Design) (text : List ℕ) (answer : Answer) : Type 0 where
+  pub cert : Cert
+  pub reads : cert_read (block_count design) text ≡ Ok (said_by cert)
+  pub answered : IsChosenAnswer bounds design cert answer
+
 -- the same certificate, each closed subproblem naming the first part of the bound that is at least the cost; the checker says Yes to it
 pub record IsRenamed (bounds : BoundsChoice) (design : Design) (old new : Cert) : Type 0 where
   pub alike : AreAlikeButNames old new
-  pub named : AllNameFirst design (chosen_part bounds design) new.cost new.tags
-  pub accepted : (answer : Answer) → IsAnswer design (chosen_value bounds design) (chosen_part bounds design) new answer → is_yes answer ≡ true
+  pub routed : Design
+  pub takes : Takes bounds design old.paths routed
+  pub named : AllNameFirst routed (chosen_part bounds routed) new.cost new.tags
+  pub accepted : (answer : Answer) → IsChosenAnswer bounds design new answer → is_yes answer ≡ true
 
 -- the certificate is stored under the name with its parts named so
 abbrev pub IsStoredAnew : BoundsChoice → Design → Cert → List ℕ → List Stored → Type 0
@@ -91,7 +119,7 @@ IsRewritten bounds design cert (Some name) (Yes cost bound decided) stored = IsS
 -- the checker's answer to a certificate by the chosen bound and its parts, and what is stored and printed of it
 pub record IsJudged (bounds : BoundsChoice) (design : Design) (cert : Cert) (rewrite : Option (List ℕ)) (status : Status) (stored : List Stored) (printed : List ℕ) : Type 0 where
   pub answer : Answer
-  pub answered : IsAnswer design (chosen_value bounds design) (chosen_part bounds design) cert answer
+  pub answered : IsChosenAnswer bounds design cert answer
   pub status_is : status ≡ answer_status answer
   pub rewritten : IsRewritten bounds design cert rewrite answer stored
   pub prints : printed ≡ answer_text answer

@@ -21,7 +21,7 @@ use Rattle.sf_pl_writer.specs.declared.report.Report.{Report}
 use Rattle.sf_pl_writer.specs.ReportText.{report_text}
 use Rattle.sf_designs.specs.Outcome.{Refusal}
 use Rattle.sf_program.specs.Planned.{budget_of}
-use Rattle.sf_program.specs.Resumed.{IsGood, ResumeRead}
+use Rattle.sf_program.specs.Resumed.{IsGoodWithPaths, ResumeRead}
 
 -- the printed plan is a slicing floorplan of the design's blocks, each once and in a listed shape, that stays within the outline; cost, size, area and wire are its own
 pub record IsPlanOf (design : Design) (report : Report) (expr : Expr) : Type 0 where
@@ -65,7 +65,7 @@ pub record IsHeadlineOn (o : ResumeOptions) (before : Option Contents) (taken ta
   pub design : Design
   pub old : Cert
   pub stands : ResumeRead before o (Ok (design, old))
-  pub good : IsGood o.bounds design old
+  pub good : IsGoodWithPaths o.bounds design old
   pub report : Report
   pub finding : IsFinding design (decided old.tags + o.nodes) (decided old.tags + full_open design old) status report
   pub prints : Appends taken taken_then (report_text report)

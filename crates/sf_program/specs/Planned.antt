@@ -22,7 +22,9 @@ use Rattle.sf_certificate.specs.Named.{AllNameFirst}
 use Rattle.sf_certificate.specs.Valid.{IsValid, decided}
 use Rattle.sf_certificate.specs.Text.{cert_text}
 use Rattle.sf_checker.specs.declared.answer.Answer.{Answer}
-use Rattle.sf_checker.specs.Answers.{IsAnswer, is_yes}
+use Rattle.sf_checker.specs.Answers.{is_yes}
+use Rattle.sf_known.specs.Routed.{Takes}
+use Rattle.sf_program.specs.Checked.{IsChosenAnswer}
 use Rattle.sf_rounds.specs.Turns.{turns}
 use Rattle.sf_rounds.specs.Found.{IsCertOf}
 use Rattle.sf_pl_writer.specs.declared.report.Outcome.{Outcome}
@@ -36,8 +38,7 @@ use Rattle.sf_designs.specs.Refusals.{over_limit}
 use Rattle.sf_designs.specs.Reading.{PartsAdmitted, DesignMade}
 use Rattle.sf_program.specs.Knowing.{MadeKnown}
 use Rattle.sf_program.specs.Chosen.{chosen_value, chosen_part}
-use Rattle.sf_known.specs.Begun.{IsBegun}
-use Rattle.sf_known.specs.Known.{Knows}
+use Rattle.sf_known.specs.Begun.{IsBeginning}
 use Rattle.sf_program.specs.Stores.{Stored}
 use Rattle.sf_designs.specs.Weighed.{WeighedParts}
 
@@ -107,11 +108,12 @@ IsTold design scale name pl said cert (Some expr) stored printed =
     × (stored ≡ (name, cert_text cert) ∷ placement_stores design scale pl spots)
     × (printed ≡ report_text (record { word = said; cost = cert.cost; bound = cert.bound; decided = decided cert.tags; size = (w, h); area = w * h; wire = wires; plan = Some expr }))
 
--- the certificate of a search of the design by so many workers with this budget, which begins with a plan of so high a cost, or with none: valid by a bound and its parts, each closed subproblem naming the first part that is at least the cost, the cost no higher than that of the plan that it began with, and where it began with none, with one worker found by the turns of the search core
+-- the certificate of a search of the design by so many workers with this budget, which begins with a plan of so high a cost, or with none: valid by a bound and its parts, with the paths of the design, each closed subproblem naming the first part that is at least the cost, the cost no higher than that of the plan that it began with, and where it began with none, with one worker found by the turns of the search core
 pub record IsSearchedBy (value : Parts → ℕ) (part : Parts → Part → ℕ) (design : Design) (workers budget : ℕ) (start : Option (Expr × ℕ)) (cert : Cert) : Type 0 where
   pub valid : IsValid design value part cert
   pub named : AllNameFirst design part cert.cost cert.tags
   pub blocks : cert.blocks ≡ block_count design
+  pub paths : cert.paths ≡ design.routes.paths
   pub few : decided cert.tags ≤ budget
   pub spent : cert.bound < cert.cost → decided cert.tags ≡ budget
   pub ended : full design ≤ budget → cert.bound ≡ cert.cost
@@ -124,9 +126,9 @@ IsSearched bounds design = IsSearchedBy (chosen_value bounds design) (chosen_par
 
 -- the certificate of a search, and what of it is stored and printed
 pub record IsReported (bounds : BoundsChoice) (design : Design) (scale : ℕ) (cert_name : List ℕ) (pl_name : Option (List ℕ)) (cert : Cert) (status : Status) (stored : List Stored) (printed : List ℕ) : Type 0 where
-  -- no floorplan that fits costs less than the bound, and the checker says Yes to the certificate
+  -- no floorplan that fits costs less than the bound, and the answer to the certificate is Yes, whatever paths the design had before it took those of the certificate
   pub floor : IsFloor design cert.bound
-  pub accepted : (answer : Answer) → IsAnswer design (chosen_value bounds design) (chosen_part bounds design) cert answer → is_yes answer ≡ true
+  pub accepted : (read : Design) (answer : Answer) → Takes bounds read cert.paths design → IsChosenAnswer bounds read cert answer → is_yes answer ≡ true
   pub said : Outcome
   pub ending : IsEnding cert.cost cert.bound said
   pub status_is : status ≡ outcome_status said
@@ -138,12 +140,11 @@ pub record IsAnswered (bounds : BoundsChoice) (design : Design) (workers budget 
   pub searched : IsSearched bounds design workers budget start cert
   pub reported : IsReported bounds design scale cert_name pl_name cert status stored printed
 
--- the files stand for a design, and this is the answer of its search where it knows what was asked for, which begins with what walks find or with what is known
+-- the files stand for a design, and this is the answer of its search where it knows what was asked for and has the paths that were found, which begins with what walks find or with what is known
 pub record IsPlanned (o : PlanOptions) (before : Option Contents) (status : Status) (stored : List Stored) (printed : List ℕ) : Type 0 where
   pub read : Design
   pub stands : PlanDesign before o (Ok read)
   pub design : Design
-  pub knows : Knows o.bounds read design
   pub start : Option (Expr × ℕ)
-  pub begun : IsBegun o.starts o.bounds read design start
+  pub begun : IsBeginning o.starts o.bounds read design start
   pub answered : IsAnswered o.bounds design o.workers (budget_of o.nodes (block_count design)) start o.design.per_unit o.cert o.pl_out status stored printed

@@ -11,14 +11,14 @@ use Rattle.sf_certificate.specs.Reading.{said_by}
 use Rattle.sf_certificate.specs.Valid.{IsValid, decided}
 use Rattle.sf_checker.specs.declared.answer.Why.{Why}
 use Rattle.sf_checker.specs.declared.answer.Answer.TheVariants.{No}
-use Rattle.sf_checker.specs.Answers.{IsAnswer}
+use Rattle.sf_known.specs.Routed.{Takes}
 use Rattle.sf_resume.specs.Resumed.{full_open}
 use Rattle.sf_words.specs.declared.command.BoundsChoice.{BoundsChoice}
 use Rattle.sf_words.specs.Meaning.{ResumeOptions}
 use Rattle.sf_program.specs.Chosen.{chosen_value, chosen_part}
 use Rattle.sf_designs.specs.Outcome.{Refusal, Then}
 use Rattle.sf_program.specs.Planned.{CountTested, IsReported}
-use Rattle.sf_program.specs.Checked.{CertRead, answer_text}
+use Rattle.sf_program.specs.Checked.{CertRead, IsChosenAnswer, answer_text}
 use Rattle.sf_designs.specs.Reading.{With}
 use Rattle.sf_program.specs.Knowing.{KnownRead}
 use Rattle.sf_program.specs.Stores.{Stored}
@@ -32,10 +32,14 @@ CertLoaded is_long held name design (Err why) = CertRead is_long held name (bloc
 abbrev pub IsGood : BoundsChoice → Design → Cert → Type 0
 IsGood bounds design cert = IsValid design (chosen_value bounds design) (chosen_part bounds design) cert
 
+-- the same for the design that takes the certificate's paths
+abbrev pub IsGoodWithPaths : BoundsChoice → Design → Cert → Type 0
+IsGoodWithPaths bounds design cert = (routed : Design) × Takes bounds design cert.paths routed × IsGood bounds routed cert
+
 -- where it is valid, the subproblems that it decides and the budget are counted together against the limit; the budget alone is not
 abbrev pub SumTested : BoundsChoice → Bool → ℕ → Design → Cert → Result Cert Refusal → Type 0
-SumTested bounds is_long nodes design cert (Ok same) = (same ≡ cert) × (IsGood bounds design cert → CountTested is_long (decided cert.tags + nodes) (block_count design) (Ok (decided cert.tags + nodes)))
-SumTested bounds is_long nodes design cert (Err why) = IsGood bounds design cert × CountTested is_long (decided cert.tags + nodes) (block_count design) (Err why)
+SumTested bounds is_long nodes design cert (Ok same) = (same ≡ cert) × (IsGoodWithPaths bounds design cert → CountTested is_long (decided cert.tags + nodes) (block_count design) (Ok (decided cert.tags + nodes)))
+SumTested bounds is_long nodes design cert (Err why) = IsGoodWithPaths bounds design cert × CountTested is_long (decided cert.tags + nodes) (block_count design) (Err why)
 
 -- the certificate of a design, and then the limit
 abbrev pub CertTaken : Option Contents → ResumeOptions → Design → Result Cert Refusal → Type 0
@@ -47,18 +51,19 @@ ResumeRead held o = Then (KnownRead held o.design o.weights o.bounds) (With (Cer
 
 -- a certificate that is not valid: the line of its first failure, and nothing is stored
 pub record IsRejected (bounds : BoundsChoice) (design : Design) (cert : Cert) (status : Status) (stored : List Stored) (printed : List ℕ) : Type 0 where
-  pub invalid : IsGood bounds design cert → ⊥
+  pub invalid : IsGoodWithPaths bounds design cert → ⊥
   pub why : Why
-  pub answered : IsAnswer design (chosen_value bounds design) (chosen_part bounds design) cert (No why)
+  pub answered : IsChosenAnswer bounds design cert (No why)
   pub status_is : status ≡ NotValid
   pub unstored : stored ≡ []
   pub prints : printed ≡ answer_text (No why)
 
--- the certificate of a search that went on from an older one with this budget: valid for the whole space of plans, each closed subproblem naming the first part that is at least the cost; exactly so many more are decided where the bound stays below the cost, and it doesn't where the budget is that of all subproblems at and below those that were open
+-- the certificate of a search that went on from an older one with this budget: valid for the whole space of plans, with the paths of the design, each closed subproblem naming the first part that is at least the cost; exactly so many more are decided where the bound stays below the cost, and it doesn't where the budget is that of all subproblems at and below those that were open
 pub record IsSearchedOn (bounds : BoundsChoice) (design : Design) (old : Cert) (budget : ℕ) (cert : Cert) : Type 0 where
   pub valid : IsGood bounds design cert
   pub named : AllNameFirst design (chosen_part bounds design) cert.cost cert.tags
   pub blocks : cert.blocks ≡ block_count design
+  pub paths : cert.paths ≡ design.routes.paths
   pub lower : cert.cost ≤ old.cost
   pub few : decided cert.tags ≤ decided old.tags + budget
   pub spent : cert.bound < cert.cost → decided cert.tags ≡ decided old.tags + budget
@@ -71,10 +76,16 @@ pub record IsGoneOn (bounds : BoundsChoice) (design : Design) (old : Cert) (budg
   pub searched : IsSearchedOn bounds design old budget cert
   pub reported : IsReported bounds design scale cert_name pl_name cert status stored printed
 
+-- the same for the design that takes the certificate's paths
+pub record IsGoneOnWithPaths (o : ResumeOptions) (design : Design) (old : Cert) (status : Status) (stored : List Stored) (printed : List ℕ) : Type 0 where
+  pub routed : Design
+  pub takes : Takes o.bounds design old.paths routed
+  pub gone_on : IsGoneOn o.bounds routed old o.nodes o.design.per_unit o.cert_out o.pl_out status stored printed
+
 -- what is answered to a certificate
 abbrev pub IsTakenUp : ResumeOptions → Design → Cert → Status → List Stored → List ℕ → Type 0
 IsTakenUp o design cert status stored printed =
-    IsRejected o.bounds design cert status stored printed ⊎ IsGoneOn o.bounds design cert o.nodes o.design.per_unit o.cert_out o.pl_out status stored printed
+    IsRejected o.bounds design cert status stored printed ⊎ IsGoneOnWithPaths o design cert status stored printed
 
 -- the files stand for a design and a certificate, and this is answered to it
 pub record IsContinued (o : ResumeOptions) (before : Option Contents) (status : Status) (stored : List Stored) (printed : List ℕ) : Type 0 where

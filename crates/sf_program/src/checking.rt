@@ -15,9 +15,9 @@ ghost use Rattle.sf_program.specs.Stores.{Gives};
 
 use crate::answering::answer_work;
 use crate::certificates::load_cert;
-use crate::chosen::check_text;
 use crate::knowing::read_known;
 use crate::rewriting::rewrite_text;
+use crate::with_paths::answer_text;
 use crate::work::{Work, no_stores};
 use sf_designs::Stop;
 use sf_io::Shelf;
@@ -30,14 +30,14 @@ fn judge_text(
     alloc: Global,
     bounds: BoundsChoice,
     text: &[u8],
-    design: &Design,
+    design: Design,
 ) -> Result<Work, Stop>
-    ensures answer { IfOk result (Gives (JudgedText bounds design.now text.now None)) }
+    ensures answer { IfOk result (Gives (JudgedText bounds design text.now None)) }
     ensures refused { IfErr result (λ stop.
-        Stops stop (λ why. Judged (cert_read (block_count design.now) text.now) cert_refusal (Err why))) }
+        Stops stop (λ why. Judged (cert_read (block_count design) text.now) cert_refusal (Err why))) }
     ensures tells { TellsNoLoad result }
 {
-    let answer = check_text(alloc, bounds, text, design)?;
+    let answer = answer_text(alloc, bounds, text, design)?;
     let work = answer_work(alloc, answer, no_stores(alloc))?;
     Ok(work)
 }
@@ -49,12 +49,12 @@ fn check_file<S: Shelf>(
     shelf: &mut S,
     name: &str,
     is_long: bool,
-    design: &Design,
+    design: Design,
     rewrite: Option<&str>,
 ) -> Result<Work, Stop>
     ensures answer { let rewrite = text_of rewrite.entry in IfOk result
-        (Gives (JudgedFile bounds is_long (S.seen shelf.old).holds name.now design.now rewrite)) }
-    ensures refused { let blocks = block_count design.now in IfErr result (λ stop.
+        (Gives (JudgedFile bounds is_long (S.seen shelf.old).holds name.now design rewrite)) }
+    ensures refused { let blocks = block_count design in IfErr result (λ stop.
         Stops stop (λ why. CertRead is_long (S.seen shelf.old).holds name.now blocks (Err why))) }
     ensures shelf { ReadsShelf (S.seen shelf.old) (S.seen shelf.new) result }
 {
@@ -78,7 +78,7 @@ pub fn check<S: Shelf>(alloc: Global, words: &CheckWords<'_>, shelf: &mut S) -> 
         shelf,
         words.cert,
         words.is_long,
-        &design,
+        design,
         words.rewrite,
     )
 }

@@ -27,6 +27,7 @@ mod resuming;
 mod rewriting;
 mod searching;
 mod shaping;
+mod with_paths;
 mod work;
 
 pub use commands::usage;

@@ -1,6 +1,6 @@
 //! The command `resume`: the search goes on from what a certificate leaves open.
 
-ghost use Rattle.std.specs.Prelude.{◌≡◌, Ok, Err, IfErr, IfOk};
+ghost use Rattle.std.specs.Prelude.{◌≡◌, ◌+◌, Ok, Err, IfErr, IfOk};
 ghost use Rattle.sf_certificate.specs.Valid.{decided};
 ghost use Rattle.sf_model.specs.Legal.{block_count};
 ghost use Rattle.sf_pl_writer.specs.Length.{IsScale};
@@ -9,16 +9,18 @@ ghost use Rattle.sf_words.specs.Seen.{resume_seen, text_of};
 ghost use Rattle.sf_program.specs.Answer.{Obeys};
 ghost use Rattle.sf_designs.specs.Loads.{ReadsShelf, TellsNoLoad};
 ghost use Rattle.sf_designs.specs.Outcome.{Stops};
+ghost use Rattle.sf_program.specs.Planned.{CountTested};
 ghost use Rattle.sf_program.specs.Resumed.{IsGoneOn, IsGood, IsTakenUp, SumTested};
 ghost use Rattle.sf_program.specs.Stores.{Gives};
 
 use crate::answering::answer_work;
 use crate::budget::test_count;
 use crate::certificates::read_cert_file;
-use crate::chosen::{check_chosen, resume_chosen};
+use crate::chosen::resume_chosen;
 use crate::knowing::read_known;
 use crate::plan_answer::Names;
 use crate::planning::tell_found;
+use crate::with_paths::answer_cert;
 use crate::work::{Work, no_stores};
 use sf_certificate::Cert;
 use sf_checker::Answer;
@@ -76,10 +78,11 @@ fn go_on_within<R: Threads + Sync, G: Gate>(
     requires scale { IsScale words.now.design.scale.per_unit }
     ensures answer { let o = resume_seen words.now in IfOk result (Gives
         (IsGoneOn o.bounds design.now cert o.nodes o.design.per_unit o.cert_out o.pl_out)) }
-    ensures within { let o = resume_seen words.now in
-        IfOk result (λ w. SumTested o.bounds o.is_long o.nodes design.now cert (Ok cert)) }
-    ensures refused { let o = resume_seen words.now in IfErr result (λ stop.
-        Stops stop (λ why. SumTested o.bounds o.is_long o.nodes design.now cert (Err why))) }
+    ensures within { let o = resume_seen words.now in let sum = decided cert.tags + o.nodes in
+        IfOk result (λ w. CountTested o.is_long sum (block_count design.now) (Ok sum)) }
+    ensures refused { let o = resume_seen words.now in let sum = decided cert.tags + o.nodes in
+        IfErr result (λ stop.
+        Stops stop (λ why. CountTested o.is_long sum (block_count design.now) (Err why))) }
     ensures tells { TellsNoLoad result }
 {
     let blocks = u64::from(design.block_count());
@@ -88,27 +91,29 @@ fn go_on_within<R: Threads + Sync, G: Gate>(
     Ok(go_on(rt, alloc, design, words, cert, gate)?)
 }
 
-/// What is answered to a certificate: the first failure of one that isn't valid, or what is found beyond it.
+/// What is answered to a certificate: the first failure of one that isn't valid, or what is found beyond it,
+/// where the design has taken its paths.
 fn take_up<R: Threads + Sync, G: Gate>(
     rt: &R,
     alloc: Global,
-    design: &Design,
+    design: Design,
     words: &ResumeWords<'_>,
     cert: Cert,
     gate: &G,
 ) -> Result<Work, Stop>
-    requires blocks { cert.blocks ≡ block_count design.now }
+    requires blocks { cert.blocks ≡ block_count design }
     requires scale { IsScale words.now.design.scale.per_unit }
-    ensures answer { IfOk result (Gives (IsTakenUp (resume_seen words.now) design.now cert)) }
+    ensures answer { IfOk result (Gives (IsTakenUp (resume_seen words.now) design cert)) }
     ensures within { let o = resume_seen words.now in
-        IfOk result (λ w. SumTested o.bounds o.is_long o.nodes design.now cert (Ok cert)) }
+        IfOk result (λ w. SumTested o.bounds o.is_long o.nodes design cert (Ok cert)) }
     ensures refused { let o = resume_seen words.now in IfErr result (λ stop.
-        Stops stop (λ why. SumTested o.bounds o.is_long o.nodes design.now cert (Err why))) }
+        Stops stop (λ why. SumTested o.bounds o.is_long o.nodes design cert (Err why))) }
     ensures tells { TellsNoLoad result }
 {
-    let answer = check_chosen(alloc, words.bounds, design, &cert)?;
+    let mut routed = design;
+    let answer = answer_cert(alloc, words.bounds, &mut routed, &cert)?;
     match answer {
-        Answer::Yes(_, _, count) => go_on_within(rt, alloc, design, words, cert, count, gate),
+        Answer::Yes(_, _, count) => go_on_within(rt, alloc, &routed, words, cert, count, gate),
         Answer::No(_) => Ok(answer_work(alloc, answer, no_stores(alloc))?),
     }
 }
@@ -128,5 +133,5 @@ pub fn resume<R: Threads + Sync, S: Shelf, G: Gate>(
 {
     let design = read_known(alloc, shelf, &words.design, words.weights, words.bounds)?;
     let cert = read_cert_file(alloc, shelf, words.cert, words.is_long, &design)?;
-    take_up(rt, alloc, &design, words, cert, gate)
+    take_up(rt, alloc, design, words, cert, gate)
 }

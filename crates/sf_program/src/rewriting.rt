@@ -1,11 +1,12 @@
 //! A certificate that is stored anew: where it is valid, each closed subproblem names the first part of the
 //! bound that is at least the cost.
 
-ghost use Rattle.std.specs.Prelude.{◌≡◌, Some, Err, IfErr, IfOk};
+ghost use Rattle.std.specs.Prelude.{◌≡◌, Some, Err, IfErr, IfOk, true};
 ghost use Rattle.sf_certificate.specs.Reading.{cert_read};
-ghost use Rattle.sf_checker.specs.Answers.{IsAnswer};
+ghost use Rattle.sf_checker.specs.Answers.{is_yes};
+ghost use Rattle.sf_known.specs.Routed.{Takes};
+ghost use Rattle.sf_model.specs.declared.design.Design.{Design as DesignValue};
 ghost use Rattle.sf_model.specs.Legal.{block_count};
-ghost use Rattle.sf_program.specs.Chosen.{chosen_part, chosen_value};
 ghost use Rattle.sf_program.specs.Checked.{IsJudged, IsRewritten, IsStoredAnew, JudgedText, cert_refusal};
 ghost use Rattle.sf_designs.specs.Loads.{TellsNoLoad};
 ghost use Rattle.sf_designs.specs.Outcome.{Stops};
@@ -15,8 +16,9 @@ ghost use Rattle.sf_program.specs.Stores.{Gives, stored_in};
 
 use crate::answering::answer_work;
 use crate::certificates::read_cert;
-use crate::chosen::{check_chosen, name_chosen};
+use crate::chosen::name_chosen;
 use crate::plan_answer::stored_cert;
+use crate::with_paths::answer_cert;
 use crate::work::{Store, Work, no_stores};
 use sf_certificate::Cert;
 use sf_checker::Answer;
@@ -25,7 +27,7 @@ use sf_model::Design;
 use sf_words::BoundsChoice;
 use std::alloc::{AllocError as NoMemory, Global};
 
-/// The store of a valid certificate with its parts named anew.
+/// The store of a certificate that is valid for the design that took its paths, with its parts named anew.
 fn stored_anew(
     alloc: Global,
     bounds: BoundsChoice,
@@ -35,13 +37,14 @@ fn stored_anew(
 ) -> Result<Vec<Store>, NoMemory>
     requires blocks { cert.blocks ≡ block_count design.now }
     requires valid { IsGood bounds design.now cert }
-    ensures { IfOk result (λ all. IsStoredAnew bounds design.now cert name.now (stored_in all.items)) }
+    ensures { IfOk result (λ all. (before : DesignValue) → Takes bounds before cert.paths design.now
+        → IsStoredAnew bounds before cert name.now (stored_in all.items)) }
 {
     let cert = name_chosen(alloc, bounds, design, cert)?;
     stored_cert(alloc, &cert, name)
 }
 
-/// What is stored of a certificate with this answer.
+/// What is stored of a certificate with this answer, where a valid one is so for the design that took its paths.
 fn stores_of(
     alloc: Global,
     bounds: BoundsChoice,
@@ -51,9 +54,10 @@ fn stores_of(
     name: &str,
 ) -> Result<Vec<Store>, NoMemory>
     requires blocks { cert.blocks ≡ block_count design.now }
-    requires answered { IsAnswer design.now (chosen_value bounds design.now)
-        (chosen_part bounds design.now) cert answer }
-    ensures { IfOk result (λ all. IsRewritten bounds design.now cert (Some name.now) answer (stored_in all.items)) }
+    requires valid { is_yes answer ≡ true → IsGood bounds design.now cert }
+    ensures { IfOk result (λ all. (before : DesignValue)
+        → (is_yes answer ≡ true → Takes bounds before cert.paths design.now)
+        → IsRewritten bounds before cert (Some name.now) answer (stored_in all.items)) }
 {
     match answer {
         Answer::Yes(_, _, _) => stored_anew(alloc, bounds, design, cert, name),
@@ -65,15 +69,16 @@ fn stores_of(
 fn rewrite_cert(
     alloc: Global,
     bounds: BoundsChoice,
-    design: &Design,
+    design: Design,
     cert: Cert,
     name: &str,
 ) -> Result<Work, NoMemory>
-    requires { cert.blocks ≡ block_count design.now }
-    ensures { IfOk result (Gives (IsJudged bounds design.now cert (Some name.now))) }
+    requires { cert.blocks ≡ block_count design }
+    ensures { IfOk result (Gives (IsJudged bounds design cert (Some name.now))) }
 {
-    let answer = check_chosen(alloc, bounds, design, &cert)?;
-    let stores = stores_of(alloc, bounds, design, cert, answer, name)?;
+    let mut routed = design;
+    let answer = answer_cert(alloc, bounds, &mut routed, &cert)?;
+    let stores = stores_of(alloc, bounds, &routed, cert, answer, name)?;
     answer_work(alloc, answer, stores)
 }
 
@@ -82,15 +87,15 @@ pub fn rewrite_text(
     alloc: Global,
     bounds: BoundsChoice,
     text: &[u8],
-    design: &Design,
+    design: Design,
     name: &str,
 ) -> Result<Work, Stop>
-    ensures answer { IfOk result (Gives (JudgedText bounds design.now text.now (Some name.now))) }
+    ensures answer { IfOk result (Gives (JudgedText bounds design text.now (Some name.now))) }
     ensures refused { IfErr result (λ stop.
-        Stops stop (λ why. Judged (cert_read (block_count design.now) text.now) cert_refusal (Err why))) }
+        Stops stop (λ why. Judged (cert_read (block_count design) text.now) cert_refusal (Err why))) }
     ensures tells { TellsNoLoad result }
 {
-    let cert = read_cert(alloc, text, design)?;
+    let cert = read_cert(alloc, text, &design)?;
     let work = rewrite_cert(alloc, bounds, design, cert, name)?;
     Ok(work)
 }

@@ -10,6 +10,7 @@ mod generating;
 mod limits;
 mod many;
 mod measuring;
+mod paths;
 mod planning;
 mod reading;
 mod resuming;

@@ -155,6 +155,7 @@ fn why_text(alloc: Global, why: Why) -> Result<String, AllocError> {
         Why::BoundDiffers(said, is) => differs_text(alloc, "BoundDiffers", said, is),
         Why::BadSplit(node) => format!(in alloc; "status No BadSplit {node}\n"),
         Why::BadChildren(node) => format!(in alloc; "status No BadChildren {node}\n"),
+        Why::BadPath(path) => format!(in alloc; "status No BadPath {path}\n"),
     }
 }
 

@@ -13,6 +13,7 @@ returns g c =
       valid = e.valid;
       named = e.named;
       blocks = e.blocks;
+      paths = e.paths_is;
       lower = subst (λ z. z ≤ c.args.cert.cost) e.cost_is e.lower;
       few = subst (λ k. k ≤ decided c.args.cert.tags + o.nodes) e.decided_is e.few;
       spent = λ below. sym e.decided_is ∙ e.spent (subst (λ b. b < found.cost) (sym e.bound_is) (subst (λ z. found.cert.bound < z) (sym e.cost_is) below));
