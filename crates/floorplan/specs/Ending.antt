@@ -1,8 +1,8 @@
 -- How a run over the files and the output of the system may end, and what budget its words name. Nothing is told of what the files hold and of what the output takes: so an answer is one that the words have over some files.
-use Rattle.std.specs.Prelude.{◌≡◌, ◌⊎◌, ⊤, ℕ, List, Some, None}
+use Rattle.std.specs.Prelude.{◌≡◌, ⊤, ℕ, List, Some, None}
 use Rattle.sf_io.specs.declared.status.Status.{Status}
 use Rattle.sf_io.specs.declared.status.Status.TheVariants.{ReadFault, WriteFault, NoMemory}
-use Rattle.sf_words.specs.Meaning.{GenOptions, PlanOptions, ResumeOptions, gen, plan, resume, Means}
+use Rattle.sf_words.specs.Meaning.{Command, gen, plan, resume}
 use Rattle.sf_program.specs.Answer.{Answers, RefusesWords}
 use Rattle.sf_designs.specs.Outcome.{lost}
 use Rattle.sf_program.specs.Stores.{Stored}
@@ -18,9 +18,9 @@ MayEnd words WriteFault = (status : Status) × HasAnswer words status
 MayEnd words NoMemory = ⊤
 MayEnd words status = HasAnswer words status
 
--- the words mean a search, from the root or from a certificate, that makes at most so many decisions
-abbrev pub NamesBudget : List (List ℕ) → ℕ → Type 0
-NamesBudget words nodes =
-    ((o : PlanOptions) × Means words (plan o) × (o.nodes ≡ Some nodes))
-    ⊎ (((o : ResumeOptions) × Means words (resume o) × (o.nodes ≡ nodes))
-    ⊎ ((o : GenOptions) × Means words (gen o) × (o.nodes ≡ Some nodes)))
+-- the command is a search, from the root or from a certificate, whose budget is named
+abbrev pub NamesBudget : Command → ℕ → Type 0
+NamesBudget (plan o) nodes = o.nodes ≡ Some nodes
+NamesBudget (resume o) nodes = o.nodes ≡ nodes
+NamesBudget (gen o) nodes = o.nodes ≡ Some nodes
+NamesBudget other nodes = ⊥

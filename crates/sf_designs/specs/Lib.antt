@@ -3,3 +3,4 @@ pub mod Refusals
 pub mod Weighed
 pub mod Reading
 pub mod Loads
+pub mod Losses

@@ -8,6 +8,7 @@
 #![tactic(auto)]
 
 mod designs;
+mod losses;
 mod parsing;
 mod reading;
 mod refusals;
@@ -16,6 +17,7 @@ mod weighed;
 mod weighing;
 
 pub use designs::{make_design, read_admitted, read_design};
+pub use losses::{Losses, count_losses, lossy_file};
 pub use parsing::{join, parse_blocks, parse_nets, parse_places};
 pub use reading::{FILE_LIMIT, load_text, load_within, read_places_file};
 pub use refusals::{bare_fault, named_fault, over_limit};

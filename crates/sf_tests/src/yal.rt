@@ -2,7 +2,7 @@
 
 use sf_lex::NumberFault;
 use sf_model::{Kind, RawPin};
-use sf_yal::{YalFault, read_yal};
+use sf_yal::{YalFault, read_yal, yal_losses};
 use std::test::Fail;
 
 /// Two instances between two pads, in a row of three nets.
@@ -120,5 +120,22 @@ fn kindly(rt: HostRuntime) -> Result<(), Fail> {
     assert_eq!(rt; nets.len(), 2);
     assert!(rt; matches!(nets[0].pins.as_slice(), [RawPin::Block(0)]));
     assert!(rt; matches!(nets[1].pins.as_slice(), [RawPin::Block(0), RawPin::Pad(0)]));
+    Ok(())
+}
+
+/// A parent whose terminals have coordinates, a side, or nothing, and two modules of the type PAD.
+const LOSSY: &[u8] =
+    b"MODULE a; TYPE GENERAL; DIMENSIONS 0 0 2 2; IOLIST; s B; ENDIOLIST; ENDMODULE;
+MODULE vdd; TYPE PAD; DIMENSIONS 0 0 1 1; ENDMODULE; module gnd; type pad; dimensions 0 0 1 1; endmodule;
+MODULE top; TYPE PARENT; IOLIST; p PI 0 0; q PO LEFT 3 1 M1; /* r PO; */ s PO; ENDIOLIST;
+NETWORK; u a p q; v vdd q; ENDNETWORK; ENDMODULE;";
+
+/// Terminals without coordinates are counted of the parent alone, and all modules of the type PAD.
+#[test]
+fn losses(rt: HostRuntime) -> Result<(), Fail> {
+    for (text, unplaced, pad_modules) in [(LOSSY, 2, 2), (TWO_CELLS, 0, 0)] {
+        let losses = yal_losses(rt.alloc(), text, 10)?;
+        assert!(rt; losses.unplaced == unplaced && losses.pad_modules == pad_modules);
+    }
     Ok(())
 }

@@ -15,3 +15,4 @@ pub mod Sound
 pub mod InstanceBlocks
 pub mod Standing
 pub mod Ranges
+pub mod CountSteps

@@ -4,7 +4,7 @@ use Rattle.sf_yal.proofs.Common.{onto_first, cases_Bool, words, is_blank_byte, Y
 use Rattle.sf_yal.proofs.Stepping.{Fails-then}
 
 -- there is a piece
-record Filled (xs : List (List ℕ)) : Type 0 where
+pub record Filled (xs : List (List ℕ)) : Type 0 where
   pub first : List ℕ
   pub more : List (List ℕ)
   pub is : xs ≡ first ∷ more
@@ -14,7 +14,7 @@ onto_filled : (b : ℕ) (xs : List (List ℕ)) → Filled xs → Filled (onto_fi
 onto_filled b xs f = record { first = b ∷ f.first; more = f.more; is = rw f.is refl }
 
 -- bytes have a piece
-filled : (bytes : List ℕ) → Filled (pieces bytes)
+pub filled : (bytes : List ℕ) → Filled (pieces bytes)
 filled [] = record { first = []; more = []; is = refl }
 filled (b ∷ bytes) = elim (cases_Bool (is_semicolon b)) [
   | inl e ↦ record { first = []; more = pieces bytes; is = rw e refl }

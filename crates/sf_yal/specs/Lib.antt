@@ -11,3 +11,4 @@ pub mod Standing
 pub mod Reading
 pub mod Parts
 pub mod Using
+pub mod Losses

@@ -24,3 +24,7 @@ keyword_of word = if is_key (codes "MODULE") word then keys.Module
 -- the type of the module that the others are instances in
 abbrev pub is_parent_word : List ℕ → Bool
 is_parent_word word = is_key (codes "PARENT") word
+
+-- the type of modules that other tools take for pads
+abbrev pub is_pad_word : List ℕ → Bool
+is_pad_word word = is_key (codes "PAD") word

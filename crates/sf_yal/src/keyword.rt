@@ -1,10 +1,10 @@
 //! Words that have a meaning.
 
 ghost use Rattle.std.specs.Prelude.{◌≡◌};
-ghost use Rattle.sf_yal.specs.Words.{is_key, keyword_of, is_parent_word};
+ghost use Rattle.sf_yal.specs.Words.{is_key, keyword_of, is_pad_word, is_parent_word};
 
 /// What the first word of a statement means.
-#[derive(Clone, Copy, Debug, PartialEq, Eq)]
+#[derive(Clone, Copy, PartialEq, Eq)]
 pub enum Keyword {
     Module,
     EndModule,
@@ -29,6 +29,13 @@ pub fn is_parent(word: &[u8]) -> bool
     ensures { result ≡ is_parent_word word.now }
 {
     is_word(word, b"PARENT")
+}
+
+/// The word is PAD.
+pub fn is_pad(word: &[u8]) -> bool
+    ensures { result ≡ is_pad_word word.now }
+{
+    is_word(word, b"PAD")
 }
 
 /// What the word means.

@@ -19,6 +19,7 @@ mod found;
 mod instance;
 mod keyword;
 mod laws;
+mod losses;
 mod nets;
 mod open_module;
 mod piece;
@@ -27,4 +28,5 @@ mod vertices;
 
 pub use fault::YalFault;
 pub use laws::parts_keep_ranges;
+pub use losses::{YalLosses, yal_losses};
 pub use read::{read_yal, stands_for_one};

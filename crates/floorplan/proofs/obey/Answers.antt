@@ -1,6 +1,6 @@
 use Rattle.std.proofs.Common.{map, string_bytes}
 use Rattle.floorplan.proofs.Endings.{may-end}
-use Rattle.floorplan.proofs.answer.Goals as goal
+use Rattle.floorplan.proofs.obey.Goals as goal
 
 pub returns-in-None : goal.returns-in-None
 returns-in-None g c =
