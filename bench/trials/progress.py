@@ -1,5 +1,5 @@
 #!/usr/bin/env python3
-"""Tries what a terminal shows of a long search: python3 bench/progress.py [PATH/floorplan]
+"""Tries what a terminal shows of a long search: python3 bench/trials/progress.py [PATH/floorplan]
 
 PATH is the start script by default. Squares of the sides 1 to 7 are planned with a budget of 300,000 decisions, once with
 pipes, once with a terminal of its own in the place of the standard error, and once with one terminal for both outputs.
@@ -13,7 +13,7 @@ import subprocess
 import sys
 import tempfile
 
-TOP = os.path.dirname(os.path.dirname(os.path.abspath(__file__)))
+TOP = os.path.dirname(os.path.dirname(os.path.dirname(os.path.abspath(__file__))))
 BUDGET, STRIDE = 300_000, 65_536
 CLEAR = b"\r\x1b[K"
 

@@ -1,5 +1,5 @@
 #!/usr/bin/env python3
-"""Tries the start script: python3 bench/start.py
+"""Tries the start script: python3 bench/trials/start.py
 
 A copy of `floorplan` stands in a small repository of its own, with a stand-in for the kit's `rt` that proves nothing and
 whose program prints its words and ends with the status that its first word names. The script is called by links, through
@@ -16,7 +16,7 @@ import sys
 import tempfile
 import time
 
-SCRIPT = os.path.join(os.path.dirname(os.path.dirname(os.path.abspath(__file__))), "floorplan")
+SCRIPT = os.path.join(os.path.dirname(os.path.dirname(os.path.dirname(os.path.abspath(__file__)))), "floorplan")
 
 RT = """#!/bin/sh
 if [ "$1" = version ]; then cat %(folder)s/kit; exit; fi

@@ -1,5 +1,5 @@
 #!/usr/bin/env python3
-"""Measures the readers: python3 bench/readers.py PATH/floorplan [FOLDER]
+"""Measures the readers: python3 bench/measures/readers.py PATH/floorplan [FOLDER]
 
 Writes three designs into FOLDER (a temporary one by default) and lets the built program read each of them, with a budget
 of one decision, so that nearly all of the time is reading, admitting and building:

@@ -1,5 +1,5 @@
 #!/usr/bin/env python3
-"""Lets the outside of the built program fail: python3 bench/faults.py PATH/floorplan [FOLDER]
+"""Lets the outside of the built program fail: python3 bench/trials/faults.py PATH/floorplan [FOLDER]
 
 Each case is run once undisturbed, and then once for each allocation that it makes, with this one refused. A run with a
 refused allocation has to answer NoMemory with nothing stored and nothing printed, or what the undisturbed run answers, or

@@ -1,5 +1,5 @@
 #!/usr/bin/env python3
-"""Measures teams of workers: python3 bench/teams.py PATH/floorplan [CASE..]
+"""Measures teams of workers: python3 bench/measures/teams.py PATH/floorplan [CASE..]
 
 Each case is one of run.py's designs with a budget. In turn, several times each, it is searched by one worker (`plan --workers 1`,
 one walk), by teams of one (`resume` from a certificate that leaves all but the root open), of two and of four workers, and by four
@@ -25,7 +25,8 @@ import tempfile
 import time
 
 sys.dont_write_bytecode = True
-from run import write_design
+sys.path.append(os.path.dirname(os.path.dirname(os.path.abspath(__file__))))
+from common import write_design
 
 #         name     blocks nets   decisions  most processor time, as fast as four programs
 CASES = [

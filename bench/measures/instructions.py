@@ -1,5 +1,5 @@
 #!/usr/bin/env python3
-"""Counts instructions: python3 bench/instructions.py PATH/floorplan [FOLDER]
+"""Counts instructions: python3 bench/measures/instructions.py PATH/floorplan [FOLDER]
 
 The designs of run.py with smaller budgets, and two of them again with so great an area weight that the area closes most
 leaves, each planned, and its certificate checked, under `valgrind --tool=callgrind`. The counts don't depend on what else
@@ -14,7 +14,8 @@ import sys
 import tempfile
 
 sys.dont_write_bytecode = True
-from run import write_design
+sys.path.append(os.path.dirname(os.path.dirname(os.path.abspath(__file__))))
+from common import write_design
 
 #        name       blocks  nets   budget  area weight
 CASES = [

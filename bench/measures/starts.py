@@ -1,15 +1,13 @@
 #!/usr/bin/env python3
-"""Measures annealed starts: python3 bench/starts.py PATH/floorplan [PATH/annealer]
+"""Measures annealed starts: python3 bench/measures/starts.py PATH/floorplan [PATH/annealer]
 
-Four things are measured, of designs that `gen` makes:
+Three things are measured, of designs that `gen` makes:
 
   the processor time of one trial of a walk, and of one trial of the improvement behind it: that of a run with many trials less that
   of a run with few, by the number of trials between, the least of three. Where the path of the native annealer is given, the same
   of that program on the same designs, in turn with it, and how many times its time the program takes;
   the wall time of `--starts 8`, whose walks are shared out among threads, and of its eight walks one after another, each by a run
   of its own;
-  whether the same words print the same, byte for byte, with as many processors as there are, with two and with one, and whether
-  the least cost of the eight runs is that of the one;
   the processor time of one decision of a search by one worker that begins with a plan, the chain of all blocks or one step beside
   it, and of one that begins with none, the least of three. Wanted are at most 1.5 times as much, and 2.5 times where a design has
   100 blocks and more; a figure that is not as wanted has a mark behind it.
@@ -23,6 +21,8 @@ import tempfile
 import time
 
 sys.dont_write_bytecode = True
+sys.path.append(os.path.dirname(os.path.dirname(os.path.abspath(__file__))))
+from common import started_words
 
 #        blocks, wire weight, trials of the walk, trials of the improvement
 CASES = [
@@ -43,11 +43,10 @@ TIMES = 3
 FEW = 1
 
 
-def run(words, processors=None):
+def run(words):
     """What the words print, their wall time and their processor time."""
-    bind = (lambda: os.sched_setaffinity(0, processors)) if processors else None
     begun = time.monotonic()
-    process = subprocess.Popen(words, stdout=subprocess.PIPE, preexec_fn=bind)
+    process = subprocess.Popen(words, stdout=subprocess.PIPE)
     out = process.stdout.read()
     _, status, usage = os.wait4(process.pid, 0)
     wall = time.monotonic() - begun
@@ -60,15 +59,9 @@ def made(program, blocks):
     run([program, "gen", "--seed", "1", "--count", str(blocks), "--out", "s", "--nodes", "1"])
 
 
-def words_of(program, wire, starts, moves, improve, seed=0):
-    design = ["--format", "gsrc", "--blocks", "s.blocks", "--nets", "s.nets", "--pl", "s.pl", "--wire-weight", str(wire)]
-    walks = ["--starts", str(starts), "--moves", str(moves), "--improve", str(improve), "--start-seed", str(seed)]
-    return [program, "plan", *design, *walks, "--cert", "s.cert"]
-
-
 def bare_words(program, wire, starts, moves, improve, seed=0):
-    """The same, with a budget of one decision."""
-    return words_of(program, wire, starts, moves, improve, seed) + ["--nodes", "1"]
+    """The words of `plan` with walks and a budget of one decision."""
+    return started_words(program, wire, starts, moves, improve, seed) + ["--nodes", "1"]
 
 
 def native_words(annealer, blocks, wire, moves, improve):
@@ -102,23 +95,12 @@ def trial_row(program, annealer, blocks, wire, walk, improvement):
     print("| " + " | ".join(row) + " |", flush=True)
 
 
-def cost_in(out):
-    return int(dict(line.split(" ", 1) for line in out.decode().splitlines())["cost"])
-
-
 def shared_row(program, blocks, wire, moves, improve):
     made(program, blocks)
     words = bare_words(program, wire, 8, moves, improve)
     together = min(run(words)[1] for _ in range(TIMES))
-    alone, costs = 0, []
-    for seed in range(8):
-        out, wall, _ = run(bare_words(program, wire, 1, moves, improve, seed))
-        alone += wall
-        costs.append(cost_in(out))
-    own = sorted(os.sched_getaffinity(0))
-    printed = {run(words, own[:many])[0] for many in {1, min(2, len(own)), len(own)}}
-    same = "yes" if len(printed) == 1 and cost_in(printed.pop()) == min(costs) else "no !"
-    print("| %d | %d | %.2f s | %.2f s | %.2f | %s |" % (blocks, wire, together, alone, alone / together, same), flush=True)
+    alone = sum(run(bare_words(program, wire, 1, moves, improve, seed))[1] for seed in range(8))
+    print("| %d | %d | %.2f s | %.2f s | %.2f |" % (blocks, wire, together, alone, alone / together), flush=True)
 
 
 def decision_row(program, blocks, wire, nodes, most):
@@ -126,7 +108,7 @@ def decision_row(program, blocks, wire, nodes, most):
     least = {}
     for _ in range(TIMES):
         for starts in (0, 1):
-            words = words_of(program, wire, starts, 1, 0) + ["--long"]
+            words = started_words(program, wire, starts, 1, 0) + ["--long"]
             few, many = (words + ["--nodes", str(n)] for n in (1, nodes))
             out, _, taken = run(many)
             decided = int(dict(line.split(" ", 1) for line in out.decode().splitlines())["decided"])
@@ -144,8 +126,8 @@ def main():
     print("|---|---|---|---|---|---|---|---|")
     for case in CASES:
         trial_row(program, annealer, *case)
-    print("\n| Blocks | wire weight | eight walks in threads | in turn | faster | the same |")
-    print("|---|---|---|---|---|---|")
+    print("\n| Blocks | wire weight | eight walks in threads | in turn | faster |")
+    print("|---|---|---|---|---|")
     for case in SHARED:
         shared_row(program, *case)
     print("\n| Blocks | wire weight | budget | a decision without a start | with one | ratio |")

@@ -1,5 +1,5 @@
 #!/usr/bin/env python3
-"""Tries many workers: python3 bench/many_workers.py PATH/floorplan [DESIGNS [FOLDER]]
+"""Tries many workers: python3 bench/trials/many_workers.py PATH/floorplan [DESIGNS [FOLDER]]
 
 Thirty designs (or the first DESIGNS of them) are generated, of 2 to 5 hard or mixed blocks with nets. Each is planned
 by one worker and by 2 to 16, with a budget that suffices and with a small one, and `check` is asked of each certificate, and
@@ -11,12 +11,15 @@ import subprocess
 import sys
 import tempfile
 
+sys.dont_write_bytecode = True
+sys.path.append(os.path.dirname(os.path.dirname(os.path.abspath(__file__))))
+from common import SECOND
+
 DESIGNS = 30
 WORKERS = range(2, 17)
 KINDS = ("hard", "mixed")
 BUDGETS = ("200", "200000")
 FEW = 3000
-SECOND = os.path.join(os.path.dirname(os.path.abspath(__file__)), "second_checker.py")
 
 
 def run(words):

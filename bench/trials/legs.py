@@ -1,5 +1,5 @@
 #!/usr/bin/env python3
-"""Tries searches that go on from a certificate: python3 bench/legs.py PATH/floorplan [DESIGNS [FOLDER]]
+"""Tries searches that go on from a certificate: python3 bench/trials/legs.py PATH/floorplan [DESIGNS [FOLDER]]
 
 Twelve designs (or DESIGNS of them) are generated, of 2 to 5 hard or mixed blocks with nets, and each is planned in one go.
 Then a search is spent at 1,000 decisions, and gone on with in legs of 1,000 by 1, 2 and 4 workers until it ends. `check`

@@ -1,5 +1,5 @@
 #!/usr/bin/env python3
-"""How many blocks a proof of the optimum is within reach of: python3 bench/reach.py PATH/floorplan [FOLDER]
+"""How many blocks a proof of the optimum is within reach of: python3 bench/measures/reach.py PATH/floorplan [FOLDER]
 
 Ten designs of each size and kind are generated into FOLDER (a temporary one by default) and planned by one worker with
 the greatest budget that `--nodes` takes, once for areas alone and once with the 2n nets and four pads of the design. Printed

@@ -1,5 +1,5 @@
 #!/usr/bin/env python3
-"""What the gate takes, part by part: python3 bench/gate.py run FILE [WORD..], or python3 bench/gate.py sum FILE..
+"""What the gate takes, part by part: python3 bench/measures/gate.py run FILE [WORD..], or python3 bench/measures/gate.py sum FILE..
 
 `run` runs `rt ci WORD..` at the top of the repository and hands on what it prints: with no word that is the gate, with
 `--anew` all of it from nothing, with names of crates these and those below them. Meanwhile it looks every quarter of a

@@ -1,11 +1,9 @@
 #!/usr/bin/env python3
-"""Measures the built program: python3 bench/run.py PATH/floorplan [FOLDER]
+"""Measures the built program: python3 bench/measures/run.py PATH/floorplan [FOLDER]
 
 Each case is a design that this script writes into FOLDER (a temporary one by default), and the words of one run on it.
-The designs follow from a number by a rule of their own: block i is w by h with w and h from 4 to 32, and net j joins
-two blocks, taken one after another from the generator, begun at the number
-of blocks, x -> 6364136223846793005 x + 1442695040888963407 mod 2^64, of
-which the upper 31 bits are used. Printed are, per case: processor time, the decided subproblems, decisions per second,
+The designs follow from the number of blocks (`write_design` of common.py): block i is w by h with w and h from 4 to 32, and
+net j joins two blocks. Printed are, per case: processor time, the decided subproblems, decisions per second,
 greatest resident memory, bytes of certificate per decided subproblem, the gap between cost and bound, and, where the
 case asks for it, the time of `check` on the certificate.
 """
@@ -13,6 +11,10 @@ import os
 import subprocess
 import sys
 import tempfile
+
+sys.dont_write_bytecode = True
+sys.path.append(os.path.dirname(os.path.dirname(os.path.abspath(__file__))))
+from common import write_design
 
 #        name               blocks  nets   words                                              check too
 CASES = [
@@ -24,28 +26,6 @@ CASES = [
     ("wire-20", 20, 40, ["--wire-weight", "1", "--nodes", "100000"], True),
     ("wire-100", 100, 200, ["--wire-weight", "1", "--nodes", "19148"], True),
 ]
-
-
-def numbers(seed):
-    x = seed
-    while True:
-        x = (6364136223846793005 * x + 1442695040888963407) % 2**64
-        yield x >> 33
-
-
-def write_design(blocks, nets):
-    stream = numbers(blocks)
-    lines = ["UCSC blocks 1.0", "NumSoftRectangularBlocks : 0", "NumHardRectilinearBlocks : %d" % blocks, "NumTerminals : 0"]
-    for i in range(blocks):
-        w, h = 4 + next(stream) % 29, 4 + next(stream) % 29
-        lines.append("b%d hardrectilinear 4 (0, 0) (0, %d) (%d, %d) (%d, 0)" % (i, h, w, h, w))
-    with open("d.blocks", "w") as file:
-        file.write("\n".join(lines) + "\n")
-    lines = ["UCLA nets 1.0", "NumNets : %d" % nets, "NumPins : %d" % (2 * nets)]
-    for _ in range(nets):
-        lines += ["NetDegree : 2", "b%d B" % (next(stream) % blocks), "b%d B" % (next(stream) % blocks)]
-    with open("d.nets", "w") as file:
-        file.write("\n".join(lines) + "\n")
 
 
 def timed(words):

@@ -1,5 +1,5 @@
 #!/usr/bin/env python3
-"""Lets no thread start: python3 bench/no_threads.py PATH/floorplan [FOLDER]
+"""Lets no thread start: python3 bench/trials/no_threads.py PATH/floorplan [FOLDER]
 
 Some generated designs are planned by 2, 4 and 16 workers, each twice: as it is, and with no second process allowed, so that
 the system refuses every thread. Then the caller does the work of all workers. Both runs must end with the same status, cost

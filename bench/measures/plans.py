@@ -1,5 +1,5 @@
 #!/usr/bin/env python3
-"""What annealed starts bring: python3 bench/plans.py PATH/floorplan [BLOCKS..]
+"""What annealed starts bring: python3 bench/measures/plans.py PATH/floorplan [BLOCKS..]
 
 Each line of best.txt names a design that `gen` makes, two weights, and the least cost known of a plan of it. Each of these, or each
 of so many blocks where numbers are given, is planned by

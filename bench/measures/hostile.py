@@ -1,5 +1,5 @@
 #!/usr/bin/env python3
-"""Measures the dearest texts of 64 MiB: python3 bench/hostile.py PATH/floorplan [FOLDER [CASE ..]]
+"""Measures the dearest texts of 64 MiB: python3 bench/measures/hostile.py PATH/floorplan [FOLDER [CASE ..]]
 
 Writes texts into FOLDER (a temporary one by default) that fill all of the bytes that a file may have with the things of
 which a reader keeps most, or over which it takes longest, and lets the built program read each of them, and then texts of

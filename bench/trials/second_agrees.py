@@ -1,12 +1,14 @@
 #!/usr/bin/env python3
-"""Asks two checkers: python3 bench/second_agrees.py PATH/floorplan [FOLDER]
+"""Asks two checkers: python3 bench/trials/second_agrees.py PATH/floorplan [FOLDER]
 
 Designs of hard and soft blocks, with and without nets and pads, are written or generated into FOLDER (a temporary one by
-default) and planned with several weights (those of nets among them, made by chance), outlines and budgets. Each certificate, many damaged copies of it, and some trees
-made by chance, which show what one part of the bound is worth at one subproblem, are given to `floorplan check`, with
-`--rewrite` and without, and to second_checker.py, which must print the same, end with the same status and store the same
-certificate anew; and what `plan` stores is stored anew as it is. Printed is a line for each design with the answers that
-came; the first difference ends the run with status 1, and leaves the certificate.
+default) and planned with several weights (those of nets among them, made by chance), outlines and budgets. Each certificate,
+many damaged copies of it, copies with other paths from pad to pad, legal and not, and some trees made by chance, which show
+what one part of the bound is worth at one subproblem, are given to `floorplan check`, with `--rewrite` and without, and to
+second_checker.py, which must print the same, end with the same status and store the same certificate anew; and what `plan`
+stores is stored anew as it is. A walk between pads is made by chance too, so that paths occur with each bound. Printed is a
+line for each design with how many paths its certificate has and the answers that came; the first difference ends the run with
+status 1, and leaves the certificate.
 """
 import collections
 import os
@@ -17,12 +19,14 @@ import sys
 import tempfile
 
 sys.dont_write_bytecode = True
-from second_checker import LETTERS, next_tokens
+sys.path.append(os.path.dirname(os.path.dirname(os.path.abspath(__file__))))
+from common import SECOND, TOP, paths_in
+from second_checker import LETTERS, Design, leads, next_tokens, options_of
 
-SECOND = os.path.join(os.path.dirname(os.path.abspath(__file__)), "second_checker.py")
-EXAMPLES = os.path.join(os.path.dirname(os.path.dirname(SECOND)), "examples")
+EXAMPLES = os.path.join(TOP, "examples")
 
 CHANCES = 12
+WALKS = 6
 
 #          design                          options of plan and check                                         budget
 CASES = [
@@ -38,6 +42,10 @@ CASES = [
     ("five", "--wire-weight 2 --bounds strong", 200),
     ("two", "--outline 4x5 --fixed --bounds strong", None),
     ("gen --seed 9 --count 6 --kinds mixed", "--wire-weight 1 --bounds strong", 100),
+    ("five", "--wire-weight 1 --net-weights CHANCE --bounds strong", 300),
+    ("gen --seed 8 --count 4 --kinds hard", "--wire-weight 3 --outline 60x50 --bounds strong", 200),
+    ("gen --seed 2 --count 7 --kinds hard", "--wire-weight 1 --net-weights CHANCE --bounds strong", 100),
+    ("gen --seed 4 --count 18 --kinds mixed", "--wire-weight 1 --bounds strong", 30),
     ("five", "--outline 20x24 --bounds pair", None),
     ("five", "--wire-weight 2 --bounds both", 200),
     ("two", "--outline 4x4 --fixed --bounds fit", None),
@@ -87,8 +95,10 @@ def changed_number(label, step):
 
 
 def unnamed(text):
-    """The same certificate as a text of version 1, which names no parts."""
-    return re.sub(r"(?m)^C .$", "C", text.replace("slicing-certificate 2", "slicing-certificate 1"))
+    """The same certificate, without its paths, as a text of version 1, which names no parts."""
+    lines = text.splitlines()
+    whole = ["slicing-certificate 1", *lines[1:5], *lines[lines.index("tree") :]]
+    return re.sub(r"(?m)^C .$", "C", "".join(line + "\n" for line in whole))
 
 
 def one_tag(old, new):
@@ -125,6 +135,75 @@ DAMAGE = [
 ]
 
 
+def routed(text, paths):
+    """The same certificate with these paths in place of its own."""
+    lines = text.splitlines()
+    listed = []
+    for label, axis in zip(("across", "upward"), paths):
+        listed += ["%s %d" % (label, len(axis))] + [" ".join(map(str, path)) for path in axis]
+    whole = ["slicing-certificate 3", *lines[1:5], *listed, *lines[lines.index("tree") :]]
+    return "".join(line + "\n" for line in whole)
+
+
+def walk_by_chance(design, dice):
+    """A walk from a pad over nets and blocks, to a pad if it doesn't end before: its numbers."""
+    nets = [(number, sorted(blocks), sorted(pads)) for number, (_, blocks, pads) in enumerate(design.nets)]
+    number, blocks, pads = dice.choice([net for net in nets if net[2]])
+    walk = [dice.choice(pads)]
+    for _ in range(12):
+        ends = pads if not blocks or pads and dice.random() < 0.5 else blocks
+        walk += [number, dice.choice(ends)]
+        if ends is pads:
+            break
+        number, blocks, pads = dice.choice([net for net in nets if walk[-1] in net[1]])
+    return walk
+
+
+def walks_by_chance(design, dice):
+    """A few walks for each axis; in most cases just those that lead forward."""
+    if not any(pads for _, _, pads in design.nets):
+        return [[], []]
+    paths = [[walk_by_chance(design, dice) for _ in range(dice.randrange(4))] for _ in range(2)]
+    if dice.random() < 0.3:
+        return paths
+    return [[walk for walk in listed if leads(design, axis, walk)] for axis, listed in enumerate(paths)]
+
+
+def other_number(first):
+    """One of the numbers of a path, from the first on every second one, is another one."""
+    def change(path, dice):
+        place = dice.randrange(first, len(path), 2)
+        return path[:place] + [dice.randrange(max(path) + 2)] + path[place + 1 :]
+    return change
+
+
+PATH_DAMAGE = [
+    other_number(0), other_number(1), other_number(2), lambda path, _: path[::-1],
+    # A net twice, with the pin behind it; to the pad at the end and back; to the pad before; no further than a block; no way.
+    lambda path, _: path[:3] + path[1:], lambda path, _: path + path[-2::-1], lambda path, _: path[:2] + path[:1],
+    lambda path, _: path[:-2] or path, lambda path, _: path[:1], lambda path, _: path[:-1],
+    lambda path, _: path[:-1] + [65_535], lambda path, _: [65_536] + path[1:], lambda path, _: path[:1] + [4_294_967_296] + path[2:],
+]
+
+LIST_DAMAGE = [
+    lambda across, upward: (upward, across), lambda across, upward: (across + across, upward), lambda across, upward: (across, upward + upward[:1]),
+    lambda across, upward: (across[::-1], upward[::-1]), lambda across, upward: (across[1:], upward), lambda across, upward: (across, []),
+    lambda across, upward: ([], []), lambda across, upward: (across + upward, across + upward),
+]
+
+
+def damaged_paths(text, paths, dice):
+    """The certificate with paths of which one is damaged, or with others of them."""
+    texts = [routed(text, change(*paths)) for change in LIST_DAMAGE]
+    for change in PATH_DAMAGE:
+        copies = [list(axis) for axis in paths]
+        axis = dice.choice([axis for axis in copies if axis])
+        place = dice.randrange(len(axis))
+        axis[place] = change(axis[place], dice)
+        texts.append(routed(text, copies))
+    return texts + [re.sub(r"(?m)^(across|upward) .*$", r"\1 1", routed(text, paths))]
+
+
 def tree_by_chance(blocks, dice):
     """A certificate without a plan: of its tree one leaf is closed by some part, and all others are open."""
     tags, waiting = [], [()]
@@ -151,6 +230,23 @@ def rewritten(words, name):
         return said, file.read()
 
 
+def texts_with_paths(text, design, dice):
+    """Copies of a certificate, and trees by chance, with its paths, with damaged ones and with others; just some copies, where
+    the bound that was chosen passes paths over."""
+    chosen = [walks_by_chance(design, dice) for _ in range(WALKS)]
+    own = paths_in(text)
+    texts = [routed(text, paths) for paths in chosen]
+    if design.bounds != "strong":
+        return texts
+    for paths in [own] * CHANCES + chosen:
+        if any(paths):
+            texts.append(routed(tree_by_chance(len(design.shapes), dice), paths))
+    for paths in [own] + chosen[:2]:
+        if any(paths):
+            texts += damaged_paths(text, paths, dice)
+    return texts
+
+
 def main():
     program = os.path.abspath(sys.argv[1])
     folder = sys.argv[2] if len(sys.argv) > 2 else tempfile.mkdtemp()
@@ -168,6 +264,7 @@ def main():
         seen = collections.Counter()
         blocks = int(whole.split()[3])
         texts = [damage(whole, dice) for damage in DAMAGE] + [tree_by_chance(blocks, dice) for _ in range(CHANCES)]
+        texts += texts_with_paths(whole, Design(options_of(words[2:])), dice)
         for text in dict.fromkeys(texts):
             with open(cert, "w", newline="") as file:
                 file.write(text)
@@ -178,7 +275,8 @@ def main():
             kind = said[1].split()
             seen[kind[2] if kind[1] == "No" else kind[4] if kind[1] == "BadInput" else kind[1]] += 1
         count += sum(seen.values())
-        print(design, options, ":", ", ".join("%s %d" % pair for pair in sorted(seen.items())), flush=True)
+        paths = sum(map(len, paths_in(whole)))
+        print(design, options, ":", "%d paths;" % paths, ", ".join("%s %d" % pair for pair in sorted(seen.items())), flush=True)
     print("the same answer to %d certificates" % count)
 
 

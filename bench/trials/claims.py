@@ -1,16 +1,16 @@
 #!/usr/bin/env python3
-"""Looks up what docs/CLAIMS.md names: python3 bench/claims.py
+"""Looks up what docs/CLAIMS.md names: python3 bench/trials/claims.py
 
 Each row of its tables names calls, clauses and tests. Looked for are: the call as a function of its crate, handed out at the
 root unless the row says otherwise; each clause as an `ensures` of one of the row's calls, or a definition in a `specs` folder,
-and behind a definition and a colon its fields; each test as a function under `#[test]`, and each script in bench/. Printed is a
+and behind a definition and a colon its fields; each test as a function under `#[test]`, and each script in bench/trials. Printed is a
 line for each name that isn't there, and how many were looked up; a missing one ends the run with status 1.
 """
 import os
 import re
 import sys
 
-TOP = os.path.dirname(os.path.dirname(os.path.abspath(__file__)))
+TOP = os.path.dirname(os.path.dirname(os.path.dirname(os.path.abspath(__file__))))
 CRATES = os.path.join(TOP, "crates")
 PROGRAMS = ("floorplan", "floorbatch")
 TESTS = {"runs/": "sf_runs/src/tests/", "io": "sf_io/src/tests", "": "sf_tests/src/"}
@@ -106,7 +106,7 @@ def tests_in(cell):
             for name in named.group(2).split(", "):
                 yield os.path.join(CRATES, file), name
         elif part.endswith(".py"):
-            yield os.path.join(TOP, "bench", part), None
+            yield os.path.join(TOP, "bench", "trials", part), None
 
 
 def unfound_tests(tests):
