@@ -8,7 +8,8 @@ use crate::blocks::blocks_text;
 use crate::drawn::{draw_ends, draw_sizes, generator};
 use crate::nets::nets_text;
 use crate::pl::pl_text;
-use crate::texts::{ByteList, GenTexts};
+use crate::texts::GenTexts;
+use sf_model::Items;
 use std::alloc::{AllocError as NoMemory, Global};
 
 /// Whether each block is hard, or every second one is soft.
@@ -30,8 +31,8 @@ pub fn design_of(alloc: Global, seed: u64, count: u16, kinds: Kinds) -> Result<G
     let sizes = draw_sizes(alloc, &mut rng, count)?;
     let ends = draw_ends(alloc, &mut rng, count)?;
     Ok(GenTexts {
-        blocks: ByteList::from_vec(blocks_text(alloc, &sizes, kinds)?),
-        nets: ByteList::from_vec(nets_text(alloc, &ends)?),
-        pl: ByteList::from_vec(pl_text(alloc, count)?),
+        blocks: Items::from_vec(blocks_text(alloc, &sizes, kinds)?),
+        nets: Items::from_vec(nets_text(alloc, &ends)?),
+        pl: Items::from_vec(pl_text(alloc, count)?),
     })
 }

@@ -19,4 +19,4 @@ pub use design::{Kinds, design_of};
 pub use laws::{
     blocks_are_read, blocks_have_shapes, nets_are_read, parts_are_admitted, places_are_read,
 };
-pub use texts::{ByteList, GenTexts};
+pub use texts::GenTexts;

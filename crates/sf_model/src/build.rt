@@ -11,12 +11,10 @@ ghost use Rattle.sf_model.specs.declared.fault.BuildFault.TheVariants.{NoMemory,
 use crate::design::Design;
 use crate::fault::BuildFault;
 use crate::limits::MOST_COORDINATE;
-use crate::lists::{BlockList, PadList, Shapes};
 use crate::name::Name;
 use crate::nets::nets_of;
-use crate::parts::{Block, Outline, Pad, Weights};
-use crate::raw::{Parts, RawBlock, RawPad};
-use crate::raw_lists::{RawBlockList, RawPadList};
+use crate::parts::{Block, BlockList, Outline, Pad, PadList, Shapes, Weights};
+use crate::raw::{Parts, RawBlock, RawBlockList, RawPad, RawPadList};
 use std::alloc::{AllocError, Global};
 
 /// The name of the first block whose list is empty.

@@ -13,9 +13,9 @@ mod cost_text;
 mod design;
 mod fault;
 mod index;
+mod items;
 mod laws;
 mod limits;
-mod lists;
 mod name;
 mod names;
 mod nets;
@@ -24,7 +24,6 @@ mod parts;
 mod paths;
 mod plan;
 mod raw;
-mod raw_lists;
 mod routing;
 mod table;
 
@@ -32,18 +31,22 @@ pub use admit::admitted_parts_keep_limits;
 pub use cost_text::push_cost;
 pub use design::Design;
 pub use fault::{BuildFault, Limit};
+pub use items::Items;
 pub use laws::{
     costs_are_bounded, designs_are_determined, floors_change_no_plan, legal_paths_lead,
     paths_change_no_plan, spots_fill_plans,
 };
 pub use limits::{MOST_COORDINATE, MOST_PINS, MOST_SIDE};
-pub use lists::{BlockList, NetList, NetWeights, PadList, PathList, Pins, Shapes, Steps};
 pub use name::Name;
-pub use parts::{Block, Net, Outline, Pad, Pin, Shape, Weights};
-pub use paths::{Path, PathFault, Paths, Routes, Step};
+pub use parts::{
+    Block, BlockList, Net, NetList, Outline, Pad, PadList, Pin, Pins, Shape, Shapes, Weights,
+};
+pub use paths::{NetWeights, Path, PathFault, PathList, Paths, Routes, Step, Steps};
 pub use plan::{Plan, Spot};
-pub use raw::{Kind, Parts, RawBlock, RawNet, RawPad, RawPin};
-pub use raw_lists::{NameList, RawBlockList, RawNetList, RawPadList, RawPins};
+pub use raw::{
+    Kind, NameList, Parts, RawBlock, RawBlockList, RawNet, RawNetList, RawPad, RawPadList, RawPin,
+    RawPins,
+};
 
 /// No cost: the greatest number, which every cost is below.
 pub const MAX: u64 = 18_446_744_073_709_551_615;

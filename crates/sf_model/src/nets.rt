@@ -10,8 +10,7 @@ ghost use Rattle.sf_model.specs.Limits.{pin_order};
 ghost use Rattle.sf_model.specs.Numbers.{AreNumbersOf, IsNetMade, same_pin};
 
 use crate::index::Index;
-use crate::lists::{NetList, Pins};
-use crate::parts::{Net, Pin};
+use crate::parts::{Net, NetList, Pin, Pins};
 use crate::raw::{Parts, RawNet, RawPad, RawPin};
 use std::alloc::{AllocError, Global};
 

@@ -1,6 +1,6 @@
 //! What a design consists of: blocks, pads, nets, outline and weights.
 
-use crate::lists::{Pins, Shapes};
+use crate::items::Items;
 use crate::name::Name;
 
 /// The sides of a block, or of a room for blocks, in scaled whole units.
@@ -10,12 +10,18 @@ pub struct Shape {
     pub h: u32,
 }
 
+/// The shapes of a block.
+pub type Shapes = Items<Shape>;
+
 /// A block and the shapes that it may take, by width, then height.
 #[derive(Drop)]
 pub struct Block {
     pub name: Name,
     pub shapes: Shapes,
 }
+
+/// The blocks of a design, by number.
+pub type BlockList = Items<Block>;
 
 /// A point at which wires end, in scaled whole units. It takes no room.
 #[derive(Drop)]
@@ -25,6 +31,9 @@ pub struct Pad {
     pub y: i32,
 }
 
+/// The pads of a design, by number.
+pub type PadList = Items<Pad>;
+
 /// A block or a pad by its number.
 #[derive(Clone, Copy, Debug, PartialEq, Eq)]
 pub enum Pin {
@@ -32,12 +41,18 @@ pub enum Pin {
     Pad(u16),
 }
 
+/// The pins of a net.
+pub type Pins = Items<Pin>;
+
 /// A set of pins, blocks before pads and each by number, and how often its wire counts.
 #[derive(Drop)]
 pub struct Net {
     pub pins: Pins,
     pub weight: u8,
 }
+
+/// The nets of a design, by number.
+pub type NetList = Items<Net>;
 
 /// The rectangle that floorplans are to fit, with its lower left corner at (0, 0), in scaled whole units.
 #[derive(Clone, Copy)]

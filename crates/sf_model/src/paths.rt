@@ -3,7 +3,7 @@
 ghost use Rattle.std.specs.Prelude.{◌≡◌};
 ghost use Rattle.sf_model.specs.declared.paths.PathFault.TheVariants.{NoMemory};
 
-use crate::lists::{NetWeights, PathList, Steps};
+use crate::items::Items;
 use crate::parts::Pin;
 use std::alloc::AllocError;
 
@@ -14,6 +14,9 @@ pub struct Step {
     pub to: Pin,
 }
 
+/// The steps of a path.
+pub type Steps = Items<Step>;
+
 /// A path from a pin, step by step.
 #[derive(Drop)]
 pub struct Path {
@@ -21,12 +24,18 @@ pub struct Path {
     pub steps: Steps,
 }
 
+/// Paths of one axis.
+pub type PathList = Items<Path>;
+
 /// Paths from left to right, and paths from below upward.
 #[derive(Drop)]
 pub struct Paths {
     pub across: PathList,
     pub upward: PathList,
 }
+
+/// A weight for each net, by the net's number.
+pub type NetWeights = Items<u8>;
 
 /// Paths with what follows from them: what neither axis uses of the weight of each net, and how far the ends
 /// of all paths are apart along their axes, in doubled scaled whole units.

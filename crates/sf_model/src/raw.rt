@@ -1,7 +1,7 @@
 //! Blocks, pads and nets as they stand in a text.
 
+use crate::items::Items;
 use crate::name::Name;
-use crate::raw_lists::{NameList, RawBlockList, RawNetList, RawPadList, RawPins};
 
 /// What kind of block it is: a hard one by its sides, or a soft one by its area and the least and greatest
 /// height over width, these two in millionths.
@@ -18,12 +18,18 @@ pub struct RawBlock {
     pub kind: Kind,
 }
 
+/// Blocks in the order of the text.
+pub type RawBlockList = Items<RawBlock>;
+
 /// A pad and its place in scaled whole units, where the text tells one.
 #[derive(Drop)]
 pub struct RawPad {
     pub name: Name,
     pub place: Option<(i64, i64)>,
 }
+
+/// Pads in the order of the text.
+pub type RawPadList = Items<RawPad>;
 
 /// A pin of a net: by name, or by the place of its block or pad.
 #[derive(Drop)]
@@ -33,11 +39,20 @@ pub enum RawPin {
     Pad(u32),
 }
 
+/// The pins of a net in the order of the text.
+pub type RawPins = Items<RawPin>;
+
 /// The pins of a net as they are listed, with their repeats.
 #[derive(Drop)]
 pub struct RawNet {
     pub pins: RawPins,
 }
+
+/// Nets in the order of the text.
+pub type RawNetList = Items<RawNet>;
+
+/// Names in the order of the text.
+pub type NameList = Items<Name>;
 
 /// All that the texts of a design say. `strangers` are the placed names that no block and no pad has, and
 /// `pads_in` is false where no text places the pads, which are then left out of all nets.

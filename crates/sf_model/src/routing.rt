@@ -12,9 +12,8 @@ ghost use Rattle.sf_model.specs.declared.parts.Pad.{Pad as PadValue};
 ghost use Rattle.sf_model.specs.declared.paths.PathFault.TheVariants.{BadPath};
 
 use crate::design::Design;
-use crate::lists::{NetWeights, PathList};
 use crate::parts::{Net, Pad, Pin};
-use crate::paths::{Path, PathFault, Paths, Routes, Step};
+use crate::paths::{NetWeights, Path, PathFault, PathList, Paths, Routes, Step};
 use std::alloc::{AllocError, Global};
 
 /// An axis along which paths lead: from left to right, or from below upward.

@@ -21,5 +21,5 @@ pub use laws::children_share_plans;
 pub use node::{Node, used_blocks};
 pub use part::{Part, PartValues};
 pub use step::Step;
-pub use task::{Task, Tasks};
+pub use task::Task;
 pub use values::Values;

@@ -2,8 +2,7 @@
 
 ghost use Rattle.std.specs.Prelude.{◌≡◌};
 
-use sf_model::Shapes;
-use std::marker::Model;
+use sf_model::{Items, Shapes};
 
 /// An operand or an operator of a plan in postfix. An operator joins the last two items: the last one
 /// stands to the right of the other (`Beside`), or on top of it (`Above`).
@@ -37,42 +36,7 @@ impl Token {
 }
 
 /// A list of tokens.
-#[derive(Drop)]
-pub struct Tokens {
-    items: Vec<Token>,
-}
-
-impl Model for Tokens {
-    ghost use Rattle.std.specs.Prelude.{List};
-    ghost use Rattle.sf_polish.specs.declared.expr.Token.{Token};
-
-    ghost Value = { List Token };
-
-    ghost view = { λ s. s.items.items };
-}
-
-impl Tokens {
-    /// The list of these tokens.
-    pub fn from_vec(items: Vec<Token>) -> Tokens
-        ensures { result ≡ items.items }
-    {
-        Tokens { items }
-    }
-
-    /// Its tokens.
-    pub fn into_vec(self) -> Vec<Token>
-        ensures { result.items ≡ self }
-    {
-        self.items
-    }
-
-    /// Its tokens, lent.
-    pub fn as_slice(&self) -> &[Token]
-        ensures { result.now ≡ self.now }
-    {
-        &self.items
-    }
-}
+pub type Tokens = Items<Token>;
 
 /// A plan in postfix, and the shape of each block by number, in scaled whole units.
 #[derive(Drop)]

@@ -36,9 +36,9 @@ fn bounds_of(alloc: Global, design: &Design, node: &Node, how: How) -> Result<Co
     match how {
         How::Extend => {
             let children = node.extend_children(design)?;
-            Ok(Costs::new(Vec::from_elem(alloc, 7, children.len())?))
+            Ok(Costs::from_vec(Vec::from_elem(alloc, 7, children.len())?))
         }
-        How::Split(_) => Ok(Costs::new(vec![in alloc; 7, 7]?)),
+        How::Split(_) => Ok(Costs::from_vec(vec![in alloc; 7, 7]?)),
     }
 }
 
@@ -49,7 +49,7 @@ fn held_bounds(alloc: Global, design: &Design, pool: &Pool, how: How) -> Result<
     ensures { IfOk result (λ costs. AreBounds (λ node. 7) how costs (held_by pool.now 0)) }
 {
     match pool.held(0) {
-        None => Ok(Costs::new(Vec::new(alloc))),
+        None => Ok(Costs::from_vec(Vec::new(alloc))),
         Some(task) => bounds_of(alloc, design, &task.node, how),
     }
 }
