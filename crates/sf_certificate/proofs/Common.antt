@@ -1,30 +1,18 @@
 -- The imports that the proof files of this crate share.
-pub use Rattle.sf_certificate.specs.Bytes.{Bytewise, IsHeader, IsOther, IsPart, IsTree, begun_word, bytes_on, ended_from, first_byte, open_from, past_blank, said_with, words_on}
 pub use Rattle.sf_certificate.specs.Form.{IsFormed, no_plan}
 pub use Rattle.sf_certificate.specs.Marks.{IsFair, given_marks, made, marks, tag_of, waiting_after}
 pub use Rattle.sf_certificate.specs.Places.{after_block, after_operator, ending_of, ending_or, extended_places, first_place, is_above, is_beside, is_full, may_above, may_beside, one_deeper, place_of, places_under, spell_tree, spell_trees, when_so}
-pub use Rattle.sf_certificate.specs.Reader.{Reader, read_on, with_some, with_tags}
-unfoldable pub use Rattle.sf_certificate.specs.Reading.{cert_read, header_read, paths_read, tags_said, tree_from}
-pub use Rattle.sf_certificate.specs.Reading.{Header, Said, agreeing, axis_read, both_read, by_letter, closed_by, cost_in, cost_of_word, count_in, exactly, letter_of, line_by, line_read, number_in, only_word, part_of, path_by, path_in, path_said, pin_before, plan_in, plan_of_rest, plan_or, plan_read, plan_said, said_by, second_by, split_by, step_by, step_in, steps_said, tag_at, tag_by, tree_read, value_after, value_in, version_in, version_of, version_of_word, with_step, with_tag, word_in}
-pub use Rattle.sf_certificate.specs.Text.{FitsTag, cert_text, header_lines, plan_text, tag_text, text_of_lines}
+pub use Rattle.sf_certificate.specs.Said.{Said, said_by}
 pub use Rattle.sf_certificate.specs.Valid.{AreTrees, HasCost, IsValid, decided, least, left_open, one_decided}
 pub use Rattle.sf_certificate.specs.declared.cert.Cert.{Cert}
-pub use Rattle.sf_certificate.specs.declared.fault.CertFault.{CertFault}
-pub use Rattle.sf_certificate.specs.declared.fault.CertFault.TheVariants.{NoMemory, TooDeep, Trailing, Truncated}
 pub use Rattle.sf_certificate.specs.declared.mark.Mark.{Mark}
-pub use Rattle.sf_model.specs.declared.paths.Path.{Path}
-pub use Rattle.sf_model.specs.declared.paths.Paths.{Paths}
 pub use Rattle.sf_certificate.specs.declared.place.Place.{Place}
 pub use Rattle.sf_certificate.specs.declared.tag.Tag.{Tag}
 pub use Rattle.sf_certificate.specs.declared.tag.Tag.TheVariants.{Closed, Extend, Open, Split}
-pub use Rattle.sf_certificate.specs.declared.version.Version.{Version}
-pub use Rattle.sf_certificate.specs.declared.version.Version.TheVariants.{Two}
-pub use Rattle.sf_lex.proofs.Spelled.{first_fails, lines-written, words-blank, words-last, words-written}
-pub use Rattle.sf_lex.specs.Scan.{Line, LineWord, last_line_of, last_word_line, numbered, numbered_rest, numbered_words, words_of_line, words_of_lines}
-pub use Rattle.sf_lex.specs.Text.{Cursor, has_none, is_blank_byte, is_line_feed, is_not_empty, line_at, lines, words}
 pub use Rattle.sf_model.proofs.Each.{EachPair, EachPair-append, EachPair-map, EachPair-weaker, Some, Some-left, Some-right, each-any, each-append, each-map, each-weaker}
 pub use Rattle.sf_model.specs.Legal.{Fits, block_count}
 pub use Rattle.sf_model.specs.declared.design.Design.{Design}
+pub use Rattle.sf_model.specs.declared.paths.Paths.{Paths}
 pub use Rattle.sf_node.proofs.Reached.{extended-subproblems, root-belongs, root-subproblem, split-subproblems, steps-after, subproblem-spans}
 pub use Rattle.sf_node.specs.Children.{IsSubproblem, after, extended, is_unused, may_join, next_tokens, split, step_of, walk, when}
 pub use Rattle.sf_node.specs.Order.{rank, step_cmp, steps_cmp}
@@ -34,19 +22,16 @@ pub use Rattle.sf_node.specs.declared.part.Part.{Part}
 pub use Rattle.sf_node.specs.declared.part.Part.TheVariants.{Area, Full, Hull, Pair, Range}
 pub use Rattle.sf_node.specs.declared.step.Step.{Step}
 pub use Rattle.sf_node.specs.declared.task.Task.{Task}
-pub use Rattle.sf_polish.specs.Text.{IsWritable, expr_text, shaped_text}
+pub use Rattle.sf_polish.specs.Text.{IsWritable}
 pub use Rattle.sf_polish.specs.declared.expr.Expr.{Expr}
 pub use Rattle.sf_polish.specs.declared.expr.Token.{Token}
-pub use Rattle.std.proofs.lemmas.Bool.{and_from, and_parts, cases_eq, cond-false, cond_both, eq-eqb, eqb-true, ne_eqb}
+pub use Rattle.std.proofs.lemmas.Bool.{and_from, cases_eq, cond-false, cond_both, eq-eqb, ne_eqb}
 pub use Rattle.std.proofs.lemmas.Bool.Decides.{nat_tests}
 pub use Rattle.std.proofs.lemmas.Cmp.{lists_total, nat_cmp_total, on_total, tied_itself}
-pub use Rattle.std.proofs.lemmas.Fmt.{decimal_digit, decimal_nonempty}
-pub use Rattle.std.proofs.lemmas.List.{length-set, map-append, nil_from_length, reverse-append, take-append-drop, take_all, take_more, take_more_set}
-pub use Rattle.std.proofs.lemmas.List.Elements.{All-more, recursion_from_All}
+pub use Rattle.std.proofs.lemmas.List.{map-append, reverse-append}
+pub use Rattle.std.proofs.lemmas.List.Elements.{recursion_from_All}
 pub use Rattle.std.proofs.lemmas.List.Sorted.{IsPermutation-append_right, IsPermutation-reverse, sum_by-IsPermutation}
 pub use Rattle.std.proofs.lemmas.List.Sums.{sum_by-cons}
-pub use Rattle.std.proofs.lemmas.Result.{err_from_is_err_and}
-pub use Rattle.std.specs.Fmt.{decimal}
-pub use Rattle.std.specs.List.{AllByRecursion, count_by, flat_map, join_with_byte, list_all, onto_first, position_or_len, range_with_len, slice_get, slice_split}
+pub use Rattle.std.specs.List.{AllByRecursion, flat_map, range_with_len}
 pub use Rattle.std.specs.Ordering.{is_lt, ordering_reverse, ordering_then}
-pub use Rattle.std.specs.Prelude.{IfErr, IfOk, IsFalse, MatchOption, None, [], codes, filter, nat_le, nat_lt, not, replicate, ⊤}
+pub use Rattle.std.specs.Prelude.{IsFalse, MatchOption, filter, nat_le, nat_lt, not, replicate, ⊤}

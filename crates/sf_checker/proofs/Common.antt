@@ -1,7 +1,7 @@
 -- The imports that the proof files of this crate share.
 pub use Rattle.sf_certificate.specs.Named.{AllNameFirst, NamesFirst, unnamed}
 pub use Rattle.sf_certificate.specs.Places.{place_of, places_under, spell_tree, spell_trees}
-pub use Rattle.sf_certificate.specs.Reading.{cert_read, with_tag}
+pub use Rattle.sf_cert_text.specs.Reading.{cert_read, with_tag}
 pub use Rattle.sf_certificate.specs.Valid.{AreTrees, HasCost, IsValid, decided, least, left_open, one_decided}
 pub use Rattle.sf_certificate.specs.declared.cert.Cert.{Cert}
 pub use Rattle.sf_certificate.specs.declared.tag.Tag.{Tag}

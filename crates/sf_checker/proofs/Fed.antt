@@ -2,13 +2,13 @@
 use Rattle.sf_checker.proofs.Common.{take-suc, take-add, take-append-drop, take_all, length-drop, MatchOption, OnOk, ⊤, Design, MAX, block_count, Part, Parts, Cert, Tag, cert_read, with_tag, Answer, Opening, Tree, Fault, IsAnswer, Judged, IsFound, HoldsOneWay, IsBody, IsFaulty, IsReady, IsStage}
 use Rattle.std.proofs.Common.{◌≡◌, ℕ, suc, ◌+◌, ◌-◌, ◌<◌, length, take, drop, get_or, arith, List, [], ◌∷◌, ◌++◌, refl, ap, sym, subst, ◌∙◌, append_assoc, append-nil, ◌==◌, Result, Ok, Err}
 use Rattle.sf_polish.specs.Text.{IsWritable}
-use Rattle.sf_certificate.specs.declared.fault.CertFault.{CertFault}
-use Rattle.sf_certificate.specs.declared.header.Header.{Header}
+use Rattle.sf_cert_text.specs.declared.fault.CertFault.{CertFault}
+use Rattle.sf_cert_text.specs.declared.header.Header.{Header}
 use Rattle.sf_certificate.specs.Form.{no_plan}
-use Rattle.sf_certificate.specs.Bytes.{Bytewise, bytes_on, said_with}
-use Rattle.sf_certificate.specs.Reader.{with_tags}
-use Rattle.sf_certificate.proofs.TreeReads.{with_tags-more, with_tags-none}
-use Rattle.sf_certificate.proofs.CertSpells.{cert-spells}
+use Rattle.sf_cert_text.specs.Bytes.{Bytewise, bytes_on, said_with}
+use Rattle.sf_cert_text.specs.Reader.{with_tags}
+use Rattle.sf_cert_text.proofs.TreeReads.{with_tags-more, with_tags-none}
+use Rattle.sf_cert_text.proofs.CertSpells.{cert-spells}
 use Rattle.sf_cursor.proofs.Ways.{one-way}
 use Rattle.sf_checker.specs.declared.stage.Body.{Body}
 use Rattle.sf_checker.specs.declared.stage.Stage.{Stage}

@@ -5,9 +5,10 @@ use Rattle.sf_model.specs.Legal.{block_count}
 use Rattle.sf_node.specs.declared.part.Part.{Part}
 use Rattle.sf_node.specs.Parts.{Parts}
 use Rattle.sf_certificate.specs.declared.cert.Cert.{Cert}
-use Rattle.sf_certificate.specs.declared.fault.CertFault.{CertFault}
-use Rattle.sf_certificate.specs.declared.fault.CertFault.TheVariants.{NoMemory}
-use Rattle.sf_certificate.specs.Reading.{cert_read, said_by}
+use Rattle.sf_cert_text.specs.declared.fault.CertFault.{CertFault}
+use Rattle.sf_cert_text.specs.declared.fault.CertFault.TheVariants.{NoMemory}
+use Rattle.sf_certificate.specs.Said.{said_by}
+use Rattle.sf_cert_text.specs.Reading.{cert_read}
 use Rattle.sf_checker.specs.declared.answer.Answer.{Answer}
 use Rattle.sf_checker.specs.declared.stage.Stage.{Stage}
 use Rattle.sf_checker.specs.Answers.{IsAnswer}

@@ -8,13 +8,13 @@ use Rattle.sf_polish.specs.Text.{IsWritable}
 use Rattle.sf_node.specs.declared.part.Part.{Part}
 use Rattle.sf_node.specs.Parts.{Parts}
 use Rattle.sf_certificate.specs.declared.cert.Cert.{Cert}
-use Rattle.sf_certificate.specs.declared.fault.CertFault.{CertFault}
-use Rattle.sf_certificate.specs.declared.fault.CertFault.TheVariants.{NoMemory}
+use Rattle.sf_cert_text.specs.declared.fault.CertFault.{CertFault}
+use Rattle.sf_cert_text.specs.declared.fault.CertFault.TheVariants.{NoMemory}
 use Rattle.sf_certificate.specs.declared.tag.Tag.{Tag}
 use Rattle.sf_certificate.specs.Form.{no_plan}
-use Rattle.sf_certificate.specs.Bytes.{IsPart, bytes_on, said_with}
-use Rattle.sf_certificate.specs.Reading.{cert_read}
-use Rattle.sf_certificate.specs.Reader.{with_tags}
+use Rattle.sf_cert_text.specs.Bytes.{IsPart, bytes_on, said_with}
+use Rattle.sf_cert_text.specs.Reading.{cert_read}
+use Rattle.sf_cert_text.specs.Reader.{with_tags}
 use Rattle.sf_cursor.specs.Path.{IsOneWay}
 use Rattle.sf_checker.specs.declared.stage.Body.{Body}
 use Rattle.sf_checker.specs.declared.stage.Stage.{Stage}

@@ -6,7 +6,7 @@ ghost use Rattle.sf_checker.specs.declared.pieces.FinishFault.TheVariants as fau
 use crate::answer::Answer;
 use crate::stage::Stage;
 use sf_bound::Bounds;
-use sf_certificate::{CertFault, Opening};
+use sf_cert_text::{CertFault, Opening};
 use sf_model::Design;
 use std::alloc::{AllocError, Global};
 use std::marker::Model;
@@ -59,8 +59,8 @@ impl<'a, B: Bounds> Checking<'a, B> {
     ghost use Rattle.sf_model.specs.Legal.{block_count};
     ghost use Rattle.sf_node.specs.declared.part.Part.{Part};
     ghost use Rattle.sf_node.specs.Parts.{Parts};
-    ghost use Rattle.sf_certificate.specs.declared.fault.CertFault.{CertFault as FaultValue};
-    ghost use Rattle.sf_certificate.specs.Reading.{cert_read};
+    ghost use Rattle.sf_cert_text.specs.declared.fault.CertFault.{CertFault as FaultValue};
+    ghost use Rattle.sf_cert_text.specs.Reading.{cert_read};
     ghost use Rattle.sf_checker.specs.Feeding.{IsAnswerTo, IsFed, IsSpent, KeepsOneWay};
 
     /// Nothing is fed yet.

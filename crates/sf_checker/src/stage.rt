@@ -3,9 +3,9 @@
 ghost use Rattle.std.specs.Prelude.{◌≡◌, ◌≢◌, ℕ, ◌≤◌, List, [], ◌∷◌, ◌++◌, length, take, IfOk, IfErr, OnOk};
 ghost use Rattle.std.specs.Prelude.{OnErr, IsErr, IsTrue, ◌↔◌, Err};
 ghost use Rattle.sf_model.specs.Legal.{block_count};
-ghost use Rattle.sf_certificate.specs.declared.fault.CertFault.TheVariants.{NoMemory};
-ghost use Rattle.sf_certificate.specs.Bytes.{IsHeader};
-ghost use Rattle.sf_certificate.specs.Reading.{cert_read};
+ghost use Rattle.sf_cert_text.specs.declared.fault.CertFault.TheVariants.{NoMemory};
+ghost use Rattle.sf_cert_text.specs.Bytes.{IsHeader};
+ghost use Rattle.sf_cert_text.specs.Reading.{cert_read};
 ghost use Rattle.sf_checker.specs.declared.stage.Stage.TheVariants as stages;
 ghost use Rattle.sf_checker.specs.Feeding.{IsAnswerTo};
 
@@ -13,7 +13,7 @@ use crate::answer::Answer;
 use crate::checking::check;
 use crate::judge::Judge;
 use sf_bound::Bounds;
-use sf_certificate::{ByteReader, CertFault, Header, Opening, read};
+use sf_cert_text::{ByteReader, CertFault, Header, Opening, read};
 use sf_model::Design;
 use std::alloc::{AllocError, Global};
 

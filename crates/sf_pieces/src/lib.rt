@@ -2,7 +2,8 @@
 //!
 //! A walk puts down its tags from one subproblem on in preorder, as one piece. The law of pieces
 //! (`pieces_make_trees`) says that pieces which stand in the order of their first paths are the tree when they have
-//! just its subproblems. Beside it stands how the parts of the bound are named once the cost is known (`name_all`).
+//! just its subproblems. Beside it stands how the parts of the bound are named once the cost is known (`name_all`),
+//! which changes no tag but those that name another part than the area (`is_late`).
 #![tactic(auto)]
 
 mod assembling;
@@ -14,5 +15,5 @@ mod piece;
 pub use assembling::{assemble, name_pieces};
 pub use laws::pieces_make_trees;
 pub use laying::lay;
-pub use naming::name_all;
+pub use naming::{is_late, name_all};
 pub use piece::Piece;

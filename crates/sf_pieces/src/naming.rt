@@ -9,7 +9,7 @@ use sf_certificate::Tag;
 use sf_node::{Part, PartValues};
 
 /// Whether a tag names another part than the area.
-fn is_late(tag: Tag) -> bool
+pub fn is_late(tag: Tag) -> bool
     ensures { result ≡ is_late tag }
 {
     match tag {

@@ -2,8 +2,9 @@
 use Rattle.std.proofs.Common.{◌≡◌, ℕ, inl, inr, refl, ap, sym, subst, ◌∙◌, true, List, length, Option, Some, None, Result, Ok}
 use Rattle.std.specs.Prelude.{IfNone, IfOk, IfSome}
 use Rattle.sf_program.proofs.Common.{Block, Design, BoundsChoice, Cert, IsGood, block_count, chosen_part, chosen_value}
-use Rattle.sf_certificate.specs.declared.fault.CertFault.{CertFault}
-use Rattle.sf_certificate.specs.Reading.{Said, cert_read, said_by}
+use Rattle.sf_cert_text.specs.declared.fault.CertFault.{CertFault}
+use Rattle.sf_certificate.specs.Said.{Said, said_by}
+use Rattle.sf_cert_text.specs.Reading.{cert_read}
 use Rattle.sf_checker.specs.Feeding.{IsAnswerTo}
 use Rattle.sf_known.proofs.Taken.{breaks-one, takes-one, takes-paths, takes-unbroken}
 use Rattle.sf_known.specs.Routed.{Breaks, Takes}

@@ -1,5 +1,5 @@
 -- The imports that the proof files of this crate share.
-pub use Rattle.sf_certificate.specs.Text.{cert_text}
+pub use Rattle.sf_cert_text.specs.Text.{cert_text}
 pub use Rattle.sf_certificate.specs.Valid.{AreTrees, HasCost, IsValid, decided, least, left_open}
 pub use Rattle.sf_certificate.specs.declared.cert.Cert.{Cert}
 pub use Rattle.sf_checker.specs.Feeding.{IsFed}

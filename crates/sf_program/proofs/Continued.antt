@@ -1,7 +1,8 @@
 -- A certificate that is read, and what is answered to it.
 use Rattle.std.proofs.Common.{◌≡◌, inl, inr, Bool, ℕ, ◌+◌, List, [], Option, Result, Ok, Err, IfOk, refl, ap, sym, subst, ◌∙◌}
 use Rattle.sf_program.proofs.Common.{IfErr, BoundsChoice, Contents, CountTested, Design, IsGoneOn, IsRejected, answer_status, answer_text, block_count, decided, Cert, ResumeOptions, resume, Stop, Stops, Ends, KnownRead, Judged, TextWithin, Obeys, cert_limit, cert_refusal, CertLoaded, IsTakenUp, ResumeRead, SumTested, stored_in}
-use Rattle.sf_certificate.specs.Reading.{cert_read, said_by}
+use Rattle.sf_certificate.specs.Said.{said_by}
+use Rattle.sf_cert_text.specs.Reading.{cert_read}
 use Rattle.sf_program.specs.declared.work.Work.{Work}
 use Rattle.sf_designs.proofs.Stages.{stops-map}
 use Rattle.sf_checker.specs.declared.answer.Answer.{Answer}

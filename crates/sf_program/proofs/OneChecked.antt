@@ -10,7 +10,8 @@ use Rattle.sf_curves.proofs.OneTrace.{one-curve, one-least}
 use Rattle.sf_place.proofs.OneVerdict.{one-verdict}
 use Rattle.sf_certificate.specs.declared.tag.Tag.{Tag}
 use Rattle.sf_certificate.specs.Named.{AllNameFirst, unnamed}
-use Rattle.sf_certificate.specs.Reading.{Said as CertSaid, cert_read, said_by}
+use Rattle.sf_certificate.specs.Said.{Said as CertSaid, said_by}
+use Rattle.sf_cert_text.specs.Reading.{cert_read}
 use Rattle.sf_certificate.proofs.OneCert.{same-cert}
 use Rattle.sf_checker.specs.declared.answer.Answer.{Answer as Checked}
 use Rattle.sf_checker.specs.declared.answer.Answer.TheVariants.{Yes, No}

@@ -7,11 +7,12 @@ use Rattle.sf_io.specs.declared.status.Status.TheVariants as status
 use Rattle.sf_model.specs.declared.design.Design.{Design}
 use Rattle.sf_model.specs.Legal.{block_count}
 use Rattle.sf_certificate.specs.declared.cert.Cert.{Cert}
-use Rattle.sf_certificate.specs.declared.fault.CertFault.{CertFault}
-use Rattle.sf_certificate.specs.declared.fault.CertFault.TheVariants as fault
+use Rattle.sf_cert_text.specs.declared.fault.CertFault.{CertFault}
+use Rattle.sf_cert_text.specs.declared.fault.CertFault.TheVariants as fault
 use Rattle.sf_certificate.specs.Named.{AllNameFirst, AreAlikeButNames}
-use Rattle.sf_certificate.specs.Reading.{Said, said_by, cert_read}
-use Rattle.sf_certificate.specs.Text.{cert_text}
+use Rattle.sf_certificate.specs.Said.{Said, said_by}
+use Rattle.sf_cert_text.specs.Reading.{cert_read}
+use Rattle.sf_cert_text.specs.Text.{cert_text}
 use Rattle.sf_model.specs.CostText.{cost_text}
 use Rattle.sf_checker.specs.declared.answer.Why.{Why}
 use Rattle.sf_checker.specs.declared.answer.Why.TheVariants.{BadPlan, CostDiffers, NotClosed, BoundDiffers, BadSplit, BadChildren, BadPath}

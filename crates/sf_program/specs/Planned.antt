@@ -20,7 +20,7 @@ use Rattle.sf_search_core.specs.Outcome.{opening}
 use Rattle.sf_certificate.specs.declared.cert.Cert.{Cert}
 use Rattle.sf_certificate.specs.Named.{AllNameFirst}
 use Rattle.sf_certificate.specs.Valid.{IsValid, decided}
-use Rattle.sf_certificate.specs.Text.{cert_text}
+use Rattle.sf_cert_text.specs.Text.{cert_text}
 use Rattle.sf_checker.specs.declared.answer.Answer.{Answer}
 use Rattle.sf_checker.specs.Answers.{is_yes}
 use Rattle.sf_known.specs.Routed.{Takes}

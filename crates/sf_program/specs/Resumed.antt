@@ -7,7 +7,7 @@ use Rattle.sf_model.specs.declared.design.Design.{Design}
 use Rattle.sf_model.specs.Legal.{block_count}
 use Rattle.sf_certificate.specs.declared.cert.Cert.{Cert}
 use Rattle.sf_certificate.specs.Named.{AllNameFirst}
-use Rattle.sf_certificate.specs.Reading.{said_by}
+use Rattle.sf_certificate.specs.Said.{said_by}
 use Rattle.sf_certificate.specs.Valid.{IsValid, decided}
 use Rattle.sf_checker.specs.declared.answer.Why.{Why}
 use Rattle.sf_checker.specs.declared.answer.Answer.TheVariants.{No}

@@ -10,7 +10,7 @@ ghost use Rattle.sf_designs.specs.Refusals.{line_of};
 ghost use Rattle.sf_program.specs.Stores.{stored_in};
 
 use crate::work::{Store, Work};
-use sf_certificate::CertFault;
+use sf_cert_text::CertFault;
 use sf_checker::{Answer, Why};
 use sf_designs::{Stop, bare_fault};
 use sf_io::Status;

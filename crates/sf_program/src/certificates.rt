@@ -1,7 +1,8 @@
 //! The certificate of a named file.
 
 ghost use Rattle.std.specs.Prelude.{◌≡◌, ◌≤◌, ◌^◌, Ok, Err, IfErr, IfOk};
-ghost use Rattle.sf_certificate.specs.Reading.{cert_read, said_by};
+ghost use Rattle.sf_certificate.specs.Said.{said_by};
+ghost use Rattle.sf_cert_text.specs.Reading.{cert_read};
 ghost use Rattle.sf_model.specs.Legal.{block_count};
 ghost use Rattle.sf_program.specs.Checked.{cert_limit, cert_refusal};
 ghost use Rattle.sf_designs.specs.Loads.{ReadsShelf, TellsNoLoad};
@@ -10,7 +11,8 @@ ghost use Rattle.sf_designs.specs.Reading.{Judged, TextWithin};
 ghost use Rattle.sf_program.specs.Resumed.{CertLoaded};
 
 use crate::answering::cert_fault;
-use sf_certificate::{Cert, read};
+use sf_cert_text::read;
+use sf_certificate::Cert;
 use sf_designs::{FILE_LIMIT, Stop, load_within};
 use sf_io::Shelf;
 use sf_model::Design;

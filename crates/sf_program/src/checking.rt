@@ -1,7 +1,7 @@
 //! The command `check`: a certificate is judged, and stored anew where it is valid and that is asked for.
 
 ghost use Rattle.std.specs.Prelude.{None, Err, IfErr, IfOk};
-ghost use Rattle.sf_certificate.specs.Reading.{cert_read};
+ghost use Rattle.sf_cert_text.specs.Reading.{cert_read};
 ghost use Rattle.sf_model.specs.Legal.{block_count};
 ghost use Rattle.sf_words.specs.Meaning.{check};
 ghost use Rattle.sf_words.specs.Seen.{check_seen, text_of};

@@ -3,7 +3,7 @@
 ghost use Rattle.std.specs.Prelude.{◌≡◌, ◌≤◌, ◌↔◌, Err, IfErr, IfOk, IfSome, true};
 ghost use Rattle.sf_anneal.specs.Measured.{IsFloorplan};
 ghost use Rattle.sf_certificate.specs.Named.{AllNameFirst, AreAlikeButNames};
-ghost use Rattle.sf_certificate.specs.Reading.{cert_read};
+ghost use Rattle.sf_cert_text.specs.Reading.{cert_read};
 ghost use Rattle.sf_certificate.specs.Valid.{decided};
 ghost use Rattle.sf_checker.specs.Answers.{IsAnswer, is_yes};
 ghost use Rattle.sf_checker.specs.Feeding.{IsAnswerTo};

@@ -1,7 +1,7 @@
 //! The text of a certificate, fed to the checker in pieces.
 
 ghost use Rattle.std.specs.Prelude.{◌++◌, ℕ, List, Err, IfErr, IfOk, OnOk};
-ghost use Rattle.sf_certificate.specs.Reading.{cert_read};
+ghost use Rattle.sf_cert_text.specs.Reading.{cert_read};
 ghost use Rattle.sf_checker.specs.Feeding.{IsAnswerTo, IsFed};
 ghost use Rattle.sf_model.specs.declared.design.Design.{Design as DesignValue};
 ghost use Rattle.sf_model.specs.Legal.{block_count};

@@ -4,7 +4,7 @@ ghost use Rattle.std.specs.Prelude.{◌≡◌, ◌≤◌, ◌++◌, ◌∷◌, [
 ghost use Rattle.std.specs.Prelude.{Some, string_bytes};
 ghost use Rattle.sf_model.specs.Legal.{block_count};
 ghost use Rattle.sf_polish.specs.Text.{IsWritable};
-ghost use Rattle.sf_certificate.specs.Text.{cert_text};
+ghost use Rattle.sf_cert_text.specs.Text.{cert_text};
 ghost use Rattle.sf_certificate.specs.Valid.{HasCost, decided};
 ghost use Rattle.sf_pl_writer.specs.Length.{IsScale};
 ghost use Rattle.sf_words.specs.Seen.{text_of};
@@ -12,7 +12,8 @@ ghost use Rattle.sf_program.specs.Planned.{IsEnding, AreMeasures, IsTold, outcom
 ghost use Rattle.sf_program.specs.Stores.{stored_in};
 
 use crate::work::{Store, Work};
-use sf_certificate::{Cert, write};
+use sf_cert_text::write;
+use sf_certificate::Cert;
 use sf_io::Status;
 use sf_model::{Design, MAX, MOST_SIDE, Spot};
 use sf_pl_writer::{Outcome, Report, pl_text, report_text};

@@ -2,7 +2,7 @@
 //! bound that is at least the cost.
 
 ghost use Rattle.std.specs.Prelude.{◌≡◌, Some, Err, IfErr, IfOk, true};
-ghost use Rattle.sf_certificate.specs.Reading.{cert_read};
+ghost use Rattle.sf_cert_text.specs.Reading.{cert_read};
 ghost use Rattle.sf_checker.specs.Answers.{is_yes};
 ghost use Rattle.sf_known.specs.Routed.{Takes};
 ghost use Rattle.sf_model.specs.declared.design.Design.{Design as DesignValue};

@@ -1,7 +1,7 @@
 //! Certificates judged for the design that takes their paths.
 
 ghost use Rattle.std.specs.Prelude.{◌≡◌, Err, IfErr, IfNone, IfOk, IfSome, true};
-ghost use Rattle.sf_certificate.specs.Reading.{cert_read};
+ghost use Rattle.sf_cert_text.specs.Reading.{cert_read};
 ghost use Rattle.sf_checker.specs.Answers.{is_yes, with_bad_path};
 ghost use Rattle.sf_known.specs.Routed.{Takes};
 ghost use Rattle.sf_model.specs.Legal.{block_count};
@@ -13,7 +13,8 @@ ghost use Rattle.sf_program.specs.Resumed.{IsGood};
 
 use crate::answering::cert_fault;
 use crate::chosen::{check_chosen, check_text};
-use sf_certificate::{Cert, copy_paths, stored_paths};
+use sf_cert_text::stored_paths;
+use sf_certificate::{Cert, copy_paths};
 use sf_checker::{Answer, with_bad_path};
 use sf_designs::Stop;
 use sf_known::take_paths;

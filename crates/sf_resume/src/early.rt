@@ -1,22 +1,9 @@
 //! Pieces whose tags name the first part of all, whatever the cost.
 
-ghost use Rattle.std.specs.Prelude.{◌≡◌, ◌↔◌, All, IsFalse, IsTrue};
-ghost use Rattle.sf_pieces.specs.Naming.{is_late};
+ghost use Rattle.std.specs.Prelude.{◌↔◌, All, IsTrue};
 ghost use Rattle.sf_resume.specs.Early.{IsEarly};
 
-use sf_certificate::Tag;
-use sf_node::Part;
-use sf_pieces::Piece;
-
-/// Whether a tag names another part than the area.
-fn is_late(tag: Tag) -> bool
-    ensures { result ≡ is_late tag }
-{
-    match tag {
-        Tag::Closed(Part::Area) | Tag::Extend | Tag::Split(_) | Tag::Open => false,
-        Tag::Closed(_) => true,
-    }
-}
+use sf_pieces::{Piece, is_late};
 
 /// Whether no tag of a piece names another part than the area.
 fn is_early(piece: &Piece) -> bool

@@ -1,6 +1,7 @@
 //! Texts that are read, and the first fault of texts that are not.
 
-use sf_certificate::{CertFault, Tag, read, write};
+use sf_cert_text::{CertFault, read, write};
+use sf_certificate::Tag;
 use sf_model::{Pin, Step};
 use sf_node::Part;
 use std::test::Fail;

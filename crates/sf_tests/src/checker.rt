@@ -5,7 +5,8 @@ ghost use Rattle.sf_model.specs.Legal.{block_count};
 
 use crate::designs::{WIDE, three_shapes, two_blocks, two_squares};
 use sf_bounds::Standard;
-use sf_certificate::{CertFault, Tag, read};
+use sf_cert_text::{CertFault, read};
+use sf_certificate::Tag;
 use sf_checker::{Answer, Checking, FinishFault, Why, check, name_parts};
 use sf_model::Design;
 use sf_node::Part;

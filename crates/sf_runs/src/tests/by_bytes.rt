@@ -7,7 +7,7 @@ ghost use Rattle.sf_model.specs.Admitted.{HasPinsInRange, HasSizes, IsSized};
 use super::checking::{JUDGED, UNREADABLE};
 use super::{assert_printed, shelf_of, words_of};
 use sf_bounds::Standard;
-use sf_certificate::CertFault;
+use sf_cert_text::CertFault;
 use sf_checker::{Answer, Checking, FinishFault, Why};
 use sf_gsrc::{
     GsrcBlocks, GsrcNets, GsrcPlaces, blocks_have_sizes, join_parts, joined_parts_keep_ranges,

@@ -1,7 +1,7 @@
 //! The numbers of the faults of texts: each reader counts its faults from 1, and each has a text that shows
 //! it. Want of memory, which no text shows, is the last.
 
-use sf_certificate::{CertFault, read};
+use sf_cert_text::{CertFault, read};
 use sf_gsrc::{
     GsrcFault, JoinFault, WeightFault, join_parts, read_blocks, read_nets, read_pl, read_weights,
 };

@@ -1,6 +1,0 @@
-use Rattle.std.proofs.Common.{◌≡◌, ℕ, List, ◌++◌, take}
-use Rattle.sf_certificate.specs.Bytes.{bytes_on}
-use Rattle.sf_certificate.proofs.bytes.ByteReader.keep_run.Given as goal
-
-abbrev pub invariant-loop-byte : goal.invariant-loop-byte
-invariant-loop-byte l = (n : ℕ) (rest : List ℕ) → bytes_on n l.fn.self (take l.byte-index l.run ++ rest) ≡ bytes_on n l.self rest

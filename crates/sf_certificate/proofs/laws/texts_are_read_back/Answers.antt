@@ -1,5 +1,0 @@
-use Rattle.sf_certificate.proofs.CertBack.{cert-back}
-use Rattle.sf_certificate.proofs.laws.texts_are_read_back.Goals as goal
-
-pub returns : goal.returns
-returns c = λ cert cost bound paths fits lead. cert-back cert cost bound paths lead fits
