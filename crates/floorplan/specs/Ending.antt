@@ -5,7 +5,7 @@ use Rattle.sf_io.specs.declared.status.Status.TheVariants.{ReadFault, WriteFault
 use Rattle.sf_words.specs.Meaning.{Command, gen, plan, resume}
 use Rattle.sf_program.specs.Answer.{Answers, RefusesWords}
 use Rattle.sf_designs.specs.Outcome.{lost}
-use Rattle.sf_program.specs.Stores.{Stored}
+use Rattle.sf_designs.specs.Stores.{Stored}
 
 -- the words have an answer of this status
 abbrev pub HasAnswer : List (List ℕ) → Status → Type 0

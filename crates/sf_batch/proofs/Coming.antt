@@ -22,7 +22,7 @@ use Rattle.sf_known.specs.Known.{IsKnownBy, Knows}
 use Rattle.sf_known.proofs.Taken.{as-it-was}
 use Rattle.sf_designs.specs.Outcome.{Stops, refused, lost}
 use Rattle.sf_program.specs.Planned.{IsAnswered, IsTold, PlanDesign, budget_of}
-use Rattle.sf_program.specs.Stores.{Stored}
+use Rattle.sf_designs.specs.Stores.{Stored}
 use Rattle.sf_designs.specs.declared.stop.Stop.{Stop}
 use Rattle.sf_designs.specs.declared.stop.Stop.TheVariants.{Refused, ReadFault, NoMemory}
 use Rattle.sf_batch.specs.declared.job.BuiltJob.{BuiltJob}

@@ -10,7 +10,7 @@ use Rattle.sf_jobs.specs.Job.{Job, IsJob, words_of_job}
 use Rattle.sf_jobs.specs.Told.{Told}
 use Rattle.sf_program.specs.Answer.{Answers, RefusesWords}
 use Rattle.sf_designs.specs.Outcome.{lost}
-use Rattle.sf_program.specs.Stores.{Stored}
+use Rattle.sf_designs.specs.Stores.{Stored}
 use Rattle.sf_designs.specs.declared.stop.Stop.{Stop}
 use Rattle.sf_designs.specs.declared.stop.Stop.TheVariants.{Refused}
 use Rattle.sf_designs.specs.declared.stop.Stop.TheVariants as stop

@@ -7,7 +7,7 @@ use Rattle.sf_words.specs.declared.command.BoundsChoice.TheVariants.{Standard}
 use Rattle.sf_jobs.specs.Told.{Told}
 use Rattle.sf_jobs.specs.Seen.{told_seen}
 use Rattle.sf_program.specs.Planned.{IsAnswered, budget_of}
-use Rattle.sf_program.specs.Stores.{Stored}
+use Rattle.sf_designs.specs.Stores.{Stored}
 use Rattle.sf_batch.specs.declared.job.BuiltJob.{BuiltJob}
 use Rattle.sf_batch.specs.declared.job.FoundJob.{FoundJob}
 use Rattle.sf_batch.specs.Alone.{LineComesTo}

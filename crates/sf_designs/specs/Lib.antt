@@ -4,3 +4,4 @@ pub mod Weighed
 pub mod Reading
 pub mod Loads
 pub mod Losses
+pub mod Stores

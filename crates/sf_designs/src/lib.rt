@@ -15,6 +15,7 @@ mod refusals;
 mod stop;
 mod weighed;
 mod weighing;
+mod work;
 
 pub use designs::{make_design, read_admitted, read_design};
 pub use losses::{Losses, count_losses, lossy_file};
@@ -23,3 +24,4 @@ pub use reading::{FILE_LIMIT, load_text, load_within, read_places_file};
 pub use refusals::{bare_fault, named_fault, over_limit};
 pub use stop::Stop;
 pub use weighed::Weighed;
+pub use work::{Store, Work, no_stores};

@@ -3,7 +3,7 @@ use Rattle.std.proofs.Common.{◌≡◌, inl, inr, Bool, ℕ, ◌+◌, List, [],
 use Rattle.sf_program.proofs.Common.{IfErr, BoundsChoice, Contents, CountTested, Design, IsGoneOn, IsRejected, answer_status, answer_text, block_count, decided, Cert, ResumeOptions, resume, Stop, Stops, Ends, KnownRead, Judged, TextWithin, Obeys, cert_limit, cert_refusal, CertLoaded, IsTakenUp, ResumeRead, SumTested, stored_in}
 use Rattle.sf_certificate.specs.Said.{said_by}
 use Rattle.sf_cert_text.specs.Reading.{cert_read}
-use Rattle.sf_program.specs.declared.work.Work.{Work}
+use Rattle.sf_designs.specs.declared.work.Work.{Work}
 use Rattle.sf_designs.proofs.Stages.{stops-map}
 use Rattle.sf_checker.specs.declared.answer.Answer.{Answer}
 use Rattle.sf_checker.specs.declared.answer.Answer.TheVariants.{No}

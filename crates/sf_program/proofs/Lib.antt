@@ -3,9 +3,6 @@ pub mod Fitting
 pub mod ChosenLaws
 pub mod Told
 pub mod Printed
-pub mod Legal
-pub mod NearPlaces
-pub mod Placing
 pub mod Endings
 pub mod Statuses
 pub mod Made

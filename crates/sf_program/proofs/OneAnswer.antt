@@ -1,7 +1,7 @@
 -- Words and texts have one answer.
 use Rattle.std.proofs.Common.{◌≡◌, ◌⊎◌, inl, inr, Bool, ℕ, List, [], Option, Some, Result, Ok, Err, refl, sym, subst, ◌∙◌}
 use Rattle.sf_program.proofs.Common.{Contents, Status, Usage, BadInput, OverLimit, Design, Command, GenOptions, PlanOptions, plan, check, resume, measure, shape, gen, ResumeOptions, IsContinued, ResumeRead, Cert, meaning_unique, CommandAnswer, IsDone, IsRefused, CheckRead, IsChecked, GenRead, IsGenerated, Answer, AskForOneWorker, AtMostOne, GivesOne, HasOneWorker, IsAnswerTo, IsDoneBy, refusal, Refusal, IsRefusal, refused, IsShaped, ShapeRead}
-use Rattle.sf_program.specs.Measured as measured
+use Rattle.sf_measuring.specs.Measured as measured
 use Rattle.sf_program.specs.Planned as planned
 use Rattle.sf_program.proofs.Endings.{said-ends, judged-ends, checked-ends, taken-up-ends}
 use Rattle.sf_program.proofs.Once.{no-refusal, same-refusal}

@@ -9,7 +9,7 @@ use Rattle.sf_known.specs.Routed.{Takes}
 use Rattle.sf_program.proofs.ByChoice.{good-yes}
 use Rattle.sf_program.specs.Checked.{IsChosenAnswer, IsTextAnswer}
 use Rattle.sf_program.specs.Resumed.{IsGood}
-use Rattle.sf_program.specs.declared.work.Work.{Work}
+use Rattle.sf_designs.specs.declared.work.Work.{Work}
 use Rattle.sf_certificate.specs.Named.{AllNameFirst, AreAlikeButNames}
 use Rattle.sf_designs.proofs.Stages.{refused-stops, stops-map}
 

@@ -7,15 +7,15 @@ use Rattle.sf_io.specs.declared.status.Status.TheVariants.{Usage, ReadFault, Wri
 use Rattle.sf_pl_writer.specs.Length.{IsScale}
 use Rattle.sf_words.specs.Meaning.{Command, plan, check, resume, measure, shape, gen, Means, HasNoMeaning}
 use Rattle.sf_designs.specs.declared.stop.Stop.{Stop}
-use Rattle.sf_program.specs.declared.work.Work.{Work}
-use Rattle.sf_designs.specs.Outcome.{Refusal, IsRefusal, Stops, refused}
+use Rattle.sf_designs.specs.declared.work.Work.{Work}
+use Rattle.sf_designs.specs.Outcome.{Refusal, IsRefusal, refused}
 use Rattle.sf_program.specs.Planned.{IsPlanned, PlanRead}
 use Rattle.sf_program.specs.Checked.{IsChecked, CheckRead}
 use Rattle.sf_program.specs.Resumed.{IsContinued, ResumeRead}
-use Rattle.sf_program.specs.Measured.{IsMeasured, MeasureRead}
-use Rattle.sf_program.specs.Shaped.{IsShaped, ShapeRead}
+use Rattle.sf_measuring.specs.Measured.{IsMeasured, MeasureRead}
+use Rattle.sf_measuring.specs.Shaped.{IsShaped, ShapeRead}
 use Rattle.sf_program.specs.Generated.{IsGenerated, GenRead}
-use Rattle.sf_program.specs.Stores.{Stored, AfterStores, Gives, StoppedAt}
+use Rattle.sf_designs.specs.Stores.{Stored, AfterStores, Obeyed, StoppedAt}
 
 -- what the command answers where no stage refuses; none but `plan`, `gen`, `resume` and `check` with `--rewrite` stores anything
 abbrev pub IsOwnAnswer : Command → Option Contents → Status → List Stored → List ℕ → Type 0
@@ -37,8 +37,7 @@ CommandRefuses (gen o) before why = GenRead o (Err why)
 
 -- the command is obeyed: with an answer of its own, or a stop where a stage refuses, or for want of memory
 abbrev pub Obeys : Command → Option Contents → Result Work Stop → Type 0
-Obeys command before (Ok work) = Gives (IsOwnAnswer command before) work
-Obeys command before (Err stop) = Stops stop (CommandRefuses command before)
+Obeys command before result = Obeyed (IsOwnAnswer command before) (CommandRefuses command before) result
 
 -- such a refusal as an answer: its line is printed, and nothing is stored; where a file can't be loaded there is none
 abbrev pub IsRefused : (Refusal → Type 0) → Status → List Stored → List ℕ → Type 0

@@ -27,7 +27,7 @@ use Rattle.sf_designs.specs.Outcome.{Refusal, Then}
 use Rattle.sf_designs.specs.Refusals.{line_of, bad_input, no_line}
 use Rattle.sf_designs.specs.Reading.{TextWithin, Judged}
 use Rattle.sf_program.specs.Knowing.{KnownRead}
-use Rattle.sf_program.specs.Stores.{Stored}
+use Rattle.sf_designs.specs.Stores.{Stored}
 
 -- a text that is no certificate; want of memory has no line, and is not met
 abbrev pub cert_refusal : CertFault → Refusal

@@ -8,8 +8,8 @@ use Rattle.sf_designs.specs.Outcome.{Refusal}
 use Rattle.sf_program.specs.Planned.{PlanRead}
 use Rattle.sf_program.specs.Checked.{CheckRead}
 use Rattle.sf_program.specs.Resumed.{ResumeRead}
-use Rattle.sf_program.specs.Measured.{MeasureRead}
-use Rattle.sf_program.specs.Shaped.{ShapeRead}
+use Rattle.sf_measuring.specs.Measured.{MeasureRead}
+use Rattle.sf_measuring.specs.Shaped.{ShapeRead}
 use Rattle.sf_program.specs.Generated.{GenRead}
 use Rattle.sf_program.specs.Headline.{HasSearched}
 

@@ -24,7 +24,7 @@ use Rattle.sf_designs.specs.Outcome.{Refusal, Then}
 use Rattle.sf_words.specs.declared.command.BoundsChoice.TheVariants.{Standard}
 use Rattle.sf_program.specs.Planned.{BudgetTested, IsAnswered, budget_of}
 use Rattle.sf_designs.specs.Reading.{DesignMade}
-use Rattle.sf_program.specs.Stores.{Stored}
+use Rattle.sf_designs.specs.Stores.{Stored}
 use Rattle.sf_designs.specs.Weighed.{alike}
 
 -- the kinds of blocks that the words name

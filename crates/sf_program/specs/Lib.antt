@@ -1,13 +1,9 @@
 pub mod Knowing
 pub mod Chosen
-pub mod Stores
 pub mod Planned
 pub mod Checked
 pub mod Resumed
-pub mod Measured
-pub mod Shaped
 pub mod Generated
-pub mod PlacedLines
 pub mod Answer
 pub mod Headline
 pub mod OneAnswer

@@ -11,7 +11,7 @@ use Rattle.sf_words.specs.Meaning.{Command, plan, resume, Means}
 use Rattle.sf_words.specs.declared.command.BoundsChoice.TheVariants.{Strong}
 use Rattle.sf_program.specs.Answer.{Answers}
 use Rattle.sf_designs.specs.Outcome.{Refusal, refused, lost}
-use Rattle.sf_program.specs.Stores.{AfterStores, Stored}
+use Rattle.sf_designs.specs.Stores.{AfterStores, Stored}
 
 -- this is so of one thing at most
 abbrev pub AtMostOne : {X : Type 0} → (X → Type 0) → Type 0

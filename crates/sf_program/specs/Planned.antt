@@ -39,7 +39,7 @@ use Rattle.sf_designs.specs.Reading.{PartsAdmitted, DesignMade}
 use Rattle.sf_program.specs.Knowing.{MadeKnown}
 use Rattle.sf_program.specs.Chosen.{chosen_value, chosen_part}
 use Rattle.sf_known.specs.Begun.{IsBeginning}
-use Rattle.sf_program.specs.Stores.{Stored}
+use Rattle.sf_designs.specs.Stores.{Stored}
 use Rattle.sf_designs.specs.Weighed.{WeighedParts}
 
 -- how many subproblems of so many blocks may be decided

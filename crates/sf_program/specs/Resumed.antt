@@ -21,7 +21,7 @@ use Rattle.sf_program.specs.Planned.{CountTested, IsReported}
 use Rattle.sf_program.specs.Checked.{CertRead, IsChosenAnswer, answer_text}
 use Rattle.sf_designs.specs.Reading.{With}
 use Rattle.sf_program.specs.Knowing.{KnownRead}
-use Rattle.sf_program.specs.Stores.{Stored}
+use Rattle.sf_designs.specs.Stores.{Stored}
 
 -- the certificate that the text under the name says
 abbrev pub CertLoaded : Bool → Option Contents → List ℕ → Design → Result Cert Refusal → Type 0

@@ -7,12 +7,11 @@ ghost use Rattle.sf_checker.specs.declared.answer.Answer.TheVariants as answers;
 ghost use Rattle.sf_program.specs.Checked.{answer_status, answer_text, cert_refusal, why_words};
 ghost use Rattle.sf_designs.specs.Outcome.{Refuses};
 ghost use Rattle.sf_designs.specs.Refusals.{line_of};
-ghost use Rattle.sf_program.specs.Stores.{stored_in};
+ghost use Rattle.sf_designs.specs.Stores.{stored_in};
 
-use crate::work::{Store, Work};
 use sf_cert_text::CertFault;
 use sf_checker::{Answer, Why};
-use sf_designs::{Stop, bare_fault};
+use sf_designs::{Stop, Store, Work, bare_fault};
 use sf_io::Status;
 use sf_model::push_cost;
 use std::alloc::{AllocError as NoMemory, Global};

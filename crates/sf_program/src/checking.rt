@@ -11,15 +11,14 @@ ghost use Rattle.sf_program.specs.Checked.{cert_refusal};
 ghost use Rattle.sf_designs.specs.Loads.{Reads, ReadsShelf, TellsNoLoad};
 ghost use Rattle.sf_designs.specs.Outcome.{Stops};
 ghost use Rattle.sf_designs.specs.Reading.{Judged};
-ghost use Rattle.sf_program.specs.Stores.{Gives};
+ghost use Rattle.sf_designs.specs.Stores.{Gives};
 
 use crate::answering::answer_work;
 use crate::certificates::load_cert;
 use crate::knowing::read_known;
 use crate::rewriting::rewrite_text;
 use crate::with_paths::answer_text;
-use crate::work::{Work, no_stores};
-use sf_designs::Stop;
+use sf_designs::{Stop, Work, no_stores};
 use sf_io::Shelf;
 use sf_model::Design;
 use sf_words::{BoundsChoice, CheckWords};

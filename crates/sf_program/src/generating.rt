@@ -9,13 +9,14 @@ ghost use Rattle.sf_program.specs.Generated.{kinds_of, nets_made, nets_said, par
 ghost use Rattle.sf_program.specs.Generated.{places_said, texts_stored};
 ghost use Rattle.sf_designs.specs.Loads.{TellsNoLoad};
 ghost use Rattle.sf_designs.specs.Outcome.{IsFault, Stops};
-ghost use Rattle.sf_program.specs.Stores.{Gives, stored_in};
+ghost use Rattle.sf_designs.specs.Stores.{Gives, stored_in};
 
 use crate::budget::test_budget;
 use crate::plan_answer::Names;
 use crate::planning::search_design;
-use crate::work::{Store, Work};
-use sf_designs::{Stop, Weighed, join, make_design, parse_blocks, parse_nets, parse_places};
+use sf_designs::{
+    Stop, Store, Weighed, Work, join, make_design, parse_blocks, parse_nets, parse_places,
+};
 use sf_gen::{
     GenTexts, blocks_are_read, blocks_have_shapes, design_of, nets_are_read, parts_are_admitted,
     places_are_read,

@@ -9,11 +9,11 @@ ghost use Rattle.sf_certificate.specs.Valid.{HasCost, decided};
 ghost use Rattle.sf_pl_writer.specs.Length.{IsScale};
 ghost use Rattle.sf_words.specs.Seen.{text_of};
 ghost use Rattle.sf_program.specs.Planned.{IsEnding, AreMeasures, IsTold, outcome_status, placement_stores};
-ghost use Rattle.sf_program.specs.Stores.{stored_in};
+ghost use Rattle.sf_designs.specs.Stores.{stored_in};
 
-use crate::work::{Store, Work};
 use sf_cert_text::write;
 use sf_certificate::Cert;
+use sf_designs::{Store, Work};
 use sf_io::Status;
 use sf_model::{Design, MAX, MOST_SIDE, Spot};
 use sf_pl_writer::{Outcome, Report, pl_text, report_text};

@@ -14,14 +14,13 @@ ghost use Rattle.sf_designs.specs.Outcome.{Ends};
 ghost use Rattle.sf_program.specs.Planned.{IsAnswered, IsReported, BudgetedDesign};
 ghost use Rattle.sf_program.specs.Planned.{PlanDesign, budget_of};
 ghost use Rattle.sf_program.specs.Resumed.{IsGood};
-ghost use Rattle.sf_program.specs.Stores.{Gives};
+ghost use Rattle.sf_designs.specs.Stores.{Gives};
 ghost use Rattle.sf_designs.specs.Weighed.{weighed_in};
 
 use crate::budget::{budget_of, test_budget};
 use crate::chosen::search_chosen;
 use crate::plan_answer::{Ended, Names, ending_of, tell_none, tell_plan};
-use crate::work::Work;
-use sf_designs::{Stop, Weighed, make_design, read_admitted};
+use sf_designs::{Stop, Weighed, Work, make_design, read_admitted};
 use sf_io::{Gate, Shelf};
 use sf_known::{Begun, begin};
 use sf_model::{Design, admitted_parts_keep_limits};

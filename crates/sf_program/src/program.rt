@@ -12,11 +12,11 @@ ghost use Rattle.sf_program.specs.Headline.{HasSearched, IsHeadline, IsHeadlineO
 ghost use Rattle.sf_program.specs.Generated.{GenRead};
 ghost use Rattle.sf_designs.specs.Outcome.{lost};
 ghost use Rattle.sf_program.specs.Planned.{PlanRead};
-ghost use Rattle.sf_program.specs.Stores.{AfterStores, StoppedAt, stored_in};
+ghost use Rattle.sf_designs.specs.Stores.{AfterStores, StoppedAt, stored_in};
 
 use crate::commands::work;
 use crate::laws::{answers_are_one, taken_texts_are_answered};
-use crate::work::{Store, Work};
+use sf_designs::{Store, Work};
 use sf_io::{Failed, Gate, NeverShelf, NeverSink, Shelf, Sink, Status, write_all};
 use std::alloc::Global;
 use std::thread::Threads;

@@ -1,0 +1,4 @@
+mod Common
+pub mod Legal
+pub mod NearPlaces
+pub mod Placing

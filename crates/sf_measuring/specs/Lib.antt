@@ -1,0 +1,3 @@
+pub mod Measured
+pub mod Shaped
+pub mod PlacedLines
