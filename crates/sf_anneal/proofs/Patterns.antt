@@ -17,12 +17,6 @@ normal-like blocks ts us normal count inside len reads alt = record {
 pub one-length : (ts us : List Token) → length us ≡ length ts → IsNormal ((length ts + 1) / 2) us → AreNormal us
 one-length ts us e normal = subst (λ n. IsNormal ((n + 1) / 2) us) (sym e) normal
 
--- normal tokens of some blocks are normal by their length
-pub by-length : (blocks : ℕ) (ts : List Token) → IsNormal blocks ts → AreNormal ts
-by-length blocks ts normal =
-    let e : blocks ≡ (length ts + 1) / 2 = omega (arith, normal.whole) in
-    subst (λ n. IsNormal n ts) e normal
-
 -- and the other way round
 pub of-length : (blocks : ℕ) (ts : List Token) → length ts + 1 ≡ 2 * blocks → AreNormal ts → IsNormal blocks ts
 of-length blocks ts e normal =

@@ -66,11 +66,6 @@ joint-operator : (d : Direction) → is_operand (token_in d) ≡ false
 joint-operator way.Beside = refl
 joint-operator way.Above = refl
 
--- the curve that was made is the chosen one
-pub made-chosen : (now : Parts) (next : Moved) (k : ℕ) (fresh : Bool) → (fresh ≡ false → kept_in next.curves.items k ≡ kept_in now.curves.items k) → kept_in next.curves.items k ≡ chosen_curve now next fresh k
-made-chosen now next k true h = refl
-made-chosen now next k false h = h refl
-
 module _ (design : Design) (blocks : List (List Shape)) (now : Parts) (known tokens : List Token) where
   -- one part more
   renewed-more : (next next' : Moved) (k before : ℕ) (fresh : Bool) → AreRenewed design blocks now next known tokens k → k + 1 < length next.before.items → k + 1 < length next.fresh.items

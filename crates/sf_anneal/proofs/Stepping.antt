@@ -169,10 +169,6 @@ module _ (ts : List Token) (i : ℕ) (h : i + 1 < length ts) (normal : AreNormal
         λ may. back-apart (take i ts) (drop (i + 2) ts) b.0 (token.Block 0) first (subst (Alternating (token.Block 0)) after (first-free (stepped ts i) may.1.alternates)),
       )
 
-  -- where both are of one kind they may not
-  pub may-not : is_operand first ≡ is_operand second → ¬ (MayStep ts i)
-  may-not e may = may.0 e
-
   -- the step is its own inverse
   pub stepped-twice : MayStep ts i → MayStep (stepped ts i) i × (stepped (stepped ts i) i ≡ ts)
   stepped-twice may =

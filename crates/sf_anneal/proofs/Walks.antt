@@ -53,10 +53,6 @@ kept-visit P rise now next a b = by_test (nat_le next.1 (min (now.1 + rise) MAX)
     by_test true = b
     by_test false = a
 
--- of two equal ones either is kept
-pub kept-same : (rise : ℕ) (now next : Visit) → next ≡ now → now ≡ kept rise now next
-kept-same rise now next e = kept-visit (λ v. now ≡ v) rise now next refl (sym e)
-
 -- and of the cheaper ones
 pub cheaper-one : (P : List Token → Type 0) (best next : Visit) → P best.0 → P next.0 → P (cheaper best next).0
 cheaper-one P best next a b = by_test (nat_lt next.1 best.1)

@@ -27,21 +27,6 @@ module _ (line : List ℕ) (done : List Step) (rest : List ℕ) (saying : IsSayi
       ∙ sym (ap (λ ws. steps_before done (steps_said ws)) (e ∙ ap (λ (ws : List (List ℕ)). net ∷ ws) f))
       ∙ saying
 
-  -- no words more
-  pub saying-done : words is_blank_byte rest ≡ [] → Some done ≡ steps_said (words is_blank_byte line)
-  saying-done e = ap (λ (ss : List Step). Some ss) (sym (append-nil done)) ∙ sym (ap (λ ws. steps_before done (steps_said ws)) e) ∙ saying
-
-  -- a net without a pin
-  pub saying-odd : (net after : List ℕ) → words is_blank_byte rest ≡ net ∷ words is_blank_byte after → words is_blank_byte after ≡ [] → None ≡ steps_said (words is_blank_byte line)
-  saying-odd net after e f = sym (ap (λ ws. steps_before done (steps_said ws)) (e ∙ ap (λ (ws : List (List ℕ)). net ∷ ws) f)) ∙ saying
-
-  -- a net and a pin that are none
-  pub saying-wrong : (net to after behind : List ℕ) → words is_blank_byte rest ≡ net ∷ words is_blank_byte after → words is_blank_byte after ≡ to ∷ words is_blank_byte behind → None ≡ step_in net to (words is_blank_byte behind) → None ≡ steps_said (words is_blank_byte line)
-  saying-wrong net to after behind e f g =
-      ap (λ o. steps_before done (with_step o (steps_said (words is_blank_byte behind)))) g
-      ∙ sym (ap (λ ws. steps_before done (steps_said ws)) (e ∙ ap (λ (ws : List (List ℕ)). net ∷ ws) f))
-      ∙ saying
-
 -- ---- lines
 
 -- paths in front of those that lines say

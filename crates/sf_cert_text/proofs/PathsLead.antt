@@ -102,20 +102,3 @@ pub axis-leads : (last : ℕ) (label : List ℕ) (all : List Line) (r : List Pat
 axis-leads last label all r e =
     let count = bind_ok (line_read last (count_in label) all) (λ count. paths_read last count.0 count.1) r e in
     paths-lead last count.0.0 count.0.1 r count.2
-
--- of both axes
-pub both-lead : (version : Version) (last : ℕ) (all : List Line) (r : Paths × List Line) → both_read version last all ≡ Ok r → all_lead r.0 ≡ true
-both-lead One last all r e =
-    let none : Paths × List Line = (record { across = []; upward = [] }, all) in
-    let same : none ≡ r = cc in
-    subst (λ (p : Paths × List Line). all_lead p.0 ≡ true) same refl
-both-lead Two last all r e =
-    let none : Paths × List Line = (record { across = []; upward = [] }, all) in
-    let same : none ≡ r = cc in
-    subst (λ (p : Paths × List Line). all_lead p.0 ≡ true) same refl
-both-lead Three last all r e =
-    let across = bind_ok (axis_read last (codes "across") all) (λ across. axis_read last (codes "upward") across.1 >>= λ upward. Ok (record { across = across.0; upward = upward.0 }, upward.1)) r e in
-    let upward = bind_ok (axis_read last (codes "upward") across.0.1) (λ upward. Ok (record { across = across.0.0; upward = upward.0 }, upward.1)) r across.2 in
-    let both : Paths × List Line = (record { across = across.0.0; upward = upward.0.0 }, upward.0.1) in
-    let same : both ≡ r = cc in
-    subst (λ (p : Paths × List Line). all_lead p.0 ≡ true) same (and_from (list_all leads across.0.0) (list_all leads upward.0.0) (axis-leads last (codes "across") all across.0 across.1) (axis-leads last (codes "upward") across.0.1 upward.0 upward.1))

@@ -98,10 +98,6 @@ goes_on all rest rest' found found' asked asked' line said r e says next more = 
   kept = λ few. subst (AllZip SaysJob (r.done ++ line ∷ [])) (sym (more (omega (arith, few, next)))) (zip-more r.done asked line said (r.kept (omega (arith, few, next))) says);
 }
 
--- the first line that is no job
-pub first_bad : (all rest rest' : List Line) (found : ℕ) (asked : List (Option PlanOptions)) (line : Line) → IsReading all rest found asked → rest ≡ line ∷ rest' → IsNoJob line → IsFirstBad all line.number
-first_bad all rest rest' found asked line r e bad = record { before = r.done; line = line; after = rest'; lines_are = r.lines_are ∙ ap (λ l. r.done ++ l) e; good = r.good; bad = bad; number_is = refl }
-
 -- all lines are read
 whole : (all rest : List Line) (found : ℕ) (asked : List (Option PlanOptions)) (r : IsReading all rest found asked) → rest ≡ [] → r.done ≡ all
 whole all rest found asked r e = sym (r.lines_are ∙ ap (λ l. r.done ++ l) e ∙ append-nil r.done)

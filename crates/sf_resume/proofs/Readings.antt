@@ -38,26 +38,6 @@ module _ (design : Design) (bound : Parts → ℕ) (tags : List Tag) where
   no-tags : (node : Parts) (nodes : List Parts) (rest : List Tag) → rest ≡ [] → AreTreesOf (node ∷ nodes) rest → ⊥
   no-tags node nodes rest e trees = subst (AreTreesOf (node ∷ nodes)) e trees
 
-  -- before the first tag
-  pub read-none : (r : Reading) → AreSomeTree design tags → IsPath design bound r.cursor → r.cursor.node ≡ root design → r.more ≡ true → r.at ≡ 0 → IsReading design bound tags r
-  read-none r tree way node more at =
-      let first : pending design r.more r.cursor.node ≡ root design ∷ [] = ap (λ b. pending design b r.cursor.node) more ∙ ap (pending design true) node in
-      record {
-        way = way;
-        waiting = ap (λ n. waiting_after (root design ∷ []) (take n tags)) at ∙ sym first;
-        trees = subst (λ n. AreTreesOf (pending design r.more r.cursor.node) (drop n tags)) (sym at) (subst (λ ns. AreTreesOf ns tags) (sym first) tree);
-      }
-
-  -- the same reading with another cursor at the same subproblem
-  pub read-copy : (old new : Reading) → IsReading design bound tags old → IsPath design bound new.cursor → new.at ≡ old.at → new.more ≡ old.more → new.cursor.node ≡ old.cursor.node → IsReading design bound tags new
-  read-copy old new r way at more node =
-      let same : pending design new.more new.cursor.node ≡ pending design old.more old.cursor.node = ap (λ b. pending design b new.cursor.node) more ∙ ap (pending design old.more) node in
-      record {
-        way = way;
-        waiting = ap (λ n. waiting_after (root design ∷ []) (take n tags)) at ∙ r.waiting ∙ sym same;
-        trees = subst (λ ns. AreTreesOf ns (drop new.at tags)) (sym same) (subst (λ n. AreTreesOf (pending design old.more old.cursor.node) (drop n tags)) (sym at) r.trees);
-      }
-
   module _ (old : Reading) (r : IsReading design bound tags old) (more : old.more ≡ true) where
     -- what is next, and what is behind it
     trees-here : AreTreesOf (pending design true old.cursor.node) (drop old.at tags)

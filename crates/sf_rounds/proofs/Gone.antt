@@ -17,11 +17,6 @@ first-of : {X : Type 0} (xs : List X) → 0 < length xs → (x : X) × (slice_ge
 first-of [] h = absurd (omega (arith, h))
 first-of (x ∷ xs) h = (x, refl)
 
--- a list is empty or not
-empty-or : {X : Type 0} (xs : List X) → (xs ≡ []) ⊎ (0 < length xs)
-empty-or [] = inl refl
-empty-or (x ∷ xs) = inr (omega arith)
-
 -- where one is found there are some
 some-length : {X : Type 0} (P : X → Type 0) (xs : List X) → Any P xs → 0 < length xs
 some-length P xs h = (let b = h.2 in omega (arith, b))

@@ -16,17 +16,6 @@ module _ (design : Design) (bound : Parts → ℕ) where
   pub cut-none : (s : Stretch) → IsStretch design bound s → IsCut design bound s s None
   cut-none s is = record { are = All-cons (IsStretch design bound) s [] is (All-nil (IsStretch design bound)); same = sym (append-nil (waits design s)) }
 
-  -- a stretch that is cut at a level keeps what comes first
-  pub cut-some : (s : Stretch) (part : Path) (level : ℕ) → IsStretch design bound s → IsParted design bound s.floor s.cursor part level → IsCut design bound s (record { cursor = s.cursor; floor = level }) (Some (record { cursor = part; floor = s.floor }))
-  cut-some s part level is p =
-      let P = IsStretch design bound in
-      let first : Stretch = record { cursor = s.cursor; floor = level } in
-      let other : Stretch = record { cursor = part; floor = s.floor } in
-      record {
-        are = All-cons P first (other ∷ []) (record { at = is.at; above = p.keeps }) (All-cons P other [] (record { at = p.at; above = p.lower }) (All-nil P));
-        same = p.cut ∙ ap (λ z. waits design first ++ z) (sym (append-nil (waits design other)));
-      }
-
   -- these are some first ones, cut into parts
   pub record IsParting (done : List Stretch) (parts : List Stretch) : Type 0 where
     pub are : All (IsStretch design bound) parts
@@ -63,10 +52,6 @@ module _ (design : Design) (bound : Parts → ℕ) where
     pub are : All (IsStretch design bound) parts
     pub rest_is : IsStretch design bound rest
     pub same : waits design stretch ≡ all_waits design parts ++ waits design rest
-
-  -- before the first cut
-  pub adding-none : (stretch : Stretch) (old : List Stretch) → IsStretch design bound stretch → IsAdding stretch old old stretch
-  adding-none stretch old is = record { parts = []; added = sym (append-nil old); are = All-nil (IsStretch design bound); rest_is = is; same = refl }
 
   -- one cut more
   pub adding-more : (stretch : Stretch) (old now new : List Stretch) (rest first other : Stretch) → IsAdding stretch old now rest → IsCut design bound rest first (Some other) → new ≡ now ++ first ∷ [] → IsAdding stretch old new other

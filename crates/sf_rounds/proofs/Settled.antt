@@ -310,8 +310,3 @@ all-decided design bound state nodes core first spent h =
       | inl some ↦ absurd (omega (arith, few, spent some, h, length-map {B = Parts} tasks (λ (task : Task). task.node), length-append state.waiting (held_tasks state)))
       | inr none ↦ omega arith
     ])
-
--- where the least of the cost and the bounds of the tasks lies below the cost, a task is left, and then nothing is spare
-pub spare-none : (z : ℕ) (ts : List Task) (spare : ℕ) → (0 < length ts → spare ≡ 0) → least z (map (λ (t : Task). t.bound) ts) < z → spare ≡ 0
-spare-none z [] spare spent below = absurd (omega (arith, below))
-spare-none z (t ∷ ts) spare spent below = spent (omega arith)

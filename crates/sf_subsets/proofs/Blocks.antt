@@ -18,12 +18,6 @@ least-le points p q h c =
       | inr e ↦ omega (arith, e.0)
     ]
 
--- the least area on the curve of a block's shapes
-pub least-of_curve : (design : Design) (b : ℕ) (points : List Shape) (p : Shape) → IsCurveOf design.outline (shapes_of design b) points → IsLeastArea points p → IsLeastOf design b (area_of p)
-least-of_curve design b points p curve h s c fit =
-    let x : Any (λ q. IsNoLarger q s) points = All-contains (IsCovered design.outline points) (shapes_of design b) s curve.covers c fit in
-    omega (arith, least-le points p x.1 h (x.0, x.2, x.3), area-no_larger x.1 s x.4)
-
 -- a size that lies in the outline is small
 pub within-small : (o : Outline) (p : Shape) → IsSide o.w → IsSide o.h → IsWithin o p → area_of p ≤ 2 ^ 40
 within-small o p wide high fit =
@@ -36,32 +30,9 @@ pub least-small : (o : Outline) (points : List Shape) (p : Shape) → IsSide o.w
 least-small o points p wide high within h =
     within-small o p wide high (All-contains (IsWithin o) points p within h.found)
 
--- past the last block there are no shapes
-no_shapes : (design : Design) (b : ℕ) → block_count design ≤ b → shapes_of design b ≡ []
-no_shapes design b past = ap (λ v. v.shapes) (get_or_past design.blocks b record { name = []; shapes = [] } past)
-
 -- the least areas of the first blocks
 abbrev pub AreFirstLeasts : Design → ℕ → List ℕ → Type 0
 AreFirstLeasts design n leasts = (length leasts ≡ n) × ((b : ℕ) → b < n → IsLeastOf design b (get_or leasts b 0))
-
--- one more
-pub leasts-push : (design : Design) (n : ℕ) (old new : List ℕ) (least : ℕ) → new ≡ old ++ least ∷ [] → AreFirstLeasts design n old → IsLeastOf design n least → AreFirstLeasts design (n + 1) new
-leasts-push design n old new least is h l = (
-  omega (arith, ap length is, length-append old (least ∷ []), h.0),
-  λ b lt. elim (cases_lt b n) [
-    | inl below ↦ subst (IsLeastOf design b) (sym (ap (λ v. get_or v b 0) is ∙ get_or_append_left old (least ∷ []) 0 b (omega (arith, below, h.0)))) (h.1 b below)
-    | inr ge ↦ (let e : n ≡ b = omega arith in
-        subst (λ v. IsLeastOf design v (get_or new v 0)) e (subst (IsLeastOf design n) (sym (ap (λ v. get_or v n 0) is ∙ get_or_push old least 0 n h.0)) l))
-  ],
-)
-
--- all of them
-pub leasts-all : (design : Design) (leasts : List ℕ) → AreFirstLeasts design (block_count design) leasts → AreLeasts design leasts
-leasts-all design leasts h b s c fit =
-    elim (cases_lt b (block_count design)) [
-      | inl lt ↦ h.1 b lt s c fit
-      | inr ge ↦ absurd (not_in_nil s (subst (λ v. Contains v s) (no_shapes design b ge) c))
-    ]
 
 -- no block from n on is counted, so each is below n
 below-all : (n : ℕ) (xs : List (ℕ × Shape)) → ((b : ℕ) → n ≤ b → count_by (λ leaf. leaf.0 == b) xs ≡ 0) → AllByRecursion (λ leaf. leaf.0 < n) xs

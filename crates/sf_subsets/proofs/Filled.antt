@@ -105,21 +105,3 @@ table-push design budget size old new points is floors table h = record {
   ];
   floors = floors;
 }
-
--- one more curve with its floor
-pub floors-push : (old new : Table) (points : List Shape) (floor : ℕ) → new.curves.items ≡ old.curves.items ++ points ∷ [] → new.floors.items ≡ old.floors.items ++ floor ∷ [] → HasFloors old → All (λ p. floor ≤ area_of p) points → floor ≤ 2 ^ 50 → HasFloors new
-floors-push old new points floor curves floors h least small = record {
-  count = omega (arith, ap length curves, ap length floors, length-append old.curves.items (points ∷ []), length-append old.floors.items (floor ∷ []), h.count);
-  floors = λ set lt. elim (cases_lt set (length old.curves.items)) [
-    | inl below ↦ (
-        let f : get_or new.floors.items set 0 ≡ get_or old.floors.items set 0 = ap (λ v. get_or v set 0) floors ∙ get_or_append_left old.floors.items (floor ∷ []) 0 set (omega (arith, below, h.count)) in
-        let c : curve_at new.curves.items set ≡ curve_at old.curves.items set = ap (λ v. curve_at v set) curves ∙ get_or_append_left old.curves.items (points ∷ []) [] set below in
-        subst (λ v. All (λ p. v ≤ area_of p) (curve_at new.curves.items set)) (sym f) (subst (All (λ p. get_or old.floors.items set 0 ≤ area_of p)) (sym c) (h.floors set below)))
-    | inr ge ↦ (
-        let e : length old.curves.items ≡ set = omega (arith, lt, ge, ap length curves, length-append old.curves.items (points ∷ [])) in
-        let f : get_or new.floors.items set 0 ≡ floor = ap (λ v. get_or v set 0) floors ∙ get_or_push old.floors.items floor 0 set (omega (arith, e, h.count)) in
-        let c : curve_at new.curves.items set ≡ points = ap (λ v. curve_at v set) curves ∙ get_or_push old.curves.items points [] set e in
-        subst (λ v. All (λ p. v ≤ area_of p) (curve_at new.curves.items set)) (sym f) (subst (All (λ p. floor ≤ area_of p)) (sym c) least))
-  ];
-  small = subst (All (λ n. n ≤ 2 ^ 50)) (sym floors) (All-push (λ n. n ≤ 2 ^ 50) old.floors.items floor h.small small);
-}

@@ -17,11 +17,6 @@ module _ (old : Design) (floor : ℕ) (new : Design) (has : HasFloor old floor n
     least = λ t legal fits. p.least t ((legal-same old floor new t has).1 legal) (subst (λ (o : Outline). Fits o t) has.outline fits);
   }
 
-  -- where none fits none does
-  pub none-kept : NoneFits old → NoneFits new
-  none-kept none tree legal fits =
-      none tree ((legal-same old floor new tree has).1 legal) (subst (λ (o : Outline). Fits o tree) has.outline fits)
-
 -- two numbers that are the least area are one
 area-one : (design : Design) (a b : ℕ) → IsAreaOf design a → IsAreaOf design b → a ≡ b
 area-one design a b (inl p) (inl q) =

@@ -16,10 +16,6 @@ only : {X : Type 0} (P : X → Type 0) (x y : X) → P x → Contains (x ∷ [])
 only P x y p c = let e : c.0 ≡ 0 = let h = c.1 in omega arith in subst P (ap (λ k. slice_index_or (x ∷ []) k y) (sym e) ∙ c.2) p
 
 module _ {J D : Type 0} (gives : J → Option D → Type 0) where
-  -- no answers are answers to anything
-  pub no_answers : (taken : List (Message J)) → AreAnswers gives taken []
-  no_answers taken d c = let h = c.1 in absurd (omega arith)
-
   -- messages more behind
   pub answers_wider : (taken more : List (Message J)) (all : List (Done D)) → AreAnswers gives taken all → AreAnswers gives (taken ++ more) all
   answers_wider taken more all h d c = let a = h d c in (a.0, Contains-append_left taken more a.0 a.1, a.2)
@@ -57,10 +53,6 @@ module _ {J D : Type 0} (gives : J → Option D → Type 0) where
       subst (λ (u : Hand J). AreAnswers gives u.taken new) (sym e) (subst (AreAnswers gives (v.taken ++ x ∷ [])) (sym more) all)
 
 module _ {J : Type 0} where
-  -- the caller at the beginning
-  pub caller_begins : (jobs : List J) → IsCaller jobs (hand true [] [])
-  caller_begins jobs = record { sends = refl; sent = λ y c. let h = c.1 in absurd (omega arith) }
-
   -- the caller after one message more
   caller_sent : (jobs : List J) (v : Hand J) (x : Message J) → IsCaller jobs v → IsMessageOf jobs x → IsCaller jobs (hand v.sends (v.sent ++ x ∷ []) v.taken)
   caller_sent jobs v x is of = record { sends = is.sends; sent = λ y c. ⊎_elim (λ b. is.sent y b) (λ b. only (IsMessageOf jobs) x y of b) (Contains-append_cases v.sent (x ∷ []) y c) }

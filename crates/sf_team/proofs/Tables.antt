@@ -104,10 +104,6 @@ module _ {J D : Type 0} (gives : J → Option D → Type 0) where
   pub right_last : (jobs : List J) (xs : List (Done D)) (d : Done D) (old : List (Done D)) → old ≡ xs ++ d ∷ [] → AreRight gives jobs old → ComesTo gives jobs d.number d.answer
   right_last jobs xs d old e h = h d (subst (λ l. Contains l d) (sym e) (Contains-append_right xs (d ∷ []) d (0, omega arith, refl)))
 
-  -- no jobs have no answers
-  pub table_begins : IsTable gives [] []
-  table_begins = record { count = refl; right = λ k d b. absurd (omega arith) }
-
   -- one answer more in the table
   pub table_noted : (jobs : List J) (table : List (Option D)) (number : ℕ) (answer : D) → IsTable gives jobs table → ComesTo gives jobs number answer → IsTable gives jobs (set table number (Some answer))
   table_noted jobs table number answer is comes = record {
@@ -138,10 +134,6 @@ module _ {J D : Type 0} (gives : J → Option D → Type 0) where
     pub count : length table ≡ length jobs
     pub full : (k : ℕ) (d : Option D) (j : J) → k < number → slice_get jobs k ≡ Some j → gives j (slice_index_or table k d)
     pub right : (k : ℕ) (d : Option D) → k < length table → RightAt gives jobs k (slice_index_or table k d)
-
-  -- before any is filled
-  pub filled_begins : (jobs : List J) (table : List (Option D)) → IsTable gives jobs table → IsFilled jobs 0 table
-  filled_begins jobs table is = record { count = is.count; full = λ k d j b e. absurd (omega arith); right = is.right }
 
   -- what the answer of a job may be in its place
   right_answer : (jobs : List J) (number : ℕ) (j : J) (answer : Option D) → slice_get jobs number ≡ Some j → gives j answer → RightAt gives jobs number answer

@@ -34,22 +34,3 @@ module _ (S : Stretch → Type 0) where
         put = λ w. (let k : sum_by w new.put ≡ sum_by w (old.put ++ x ∷ []) = ap (λ (o : OwnerView). sum_by w o.put) e in omega (arith, k, sum_by-append w old.put (x ∷ [])));
         refusals = (omega (arith, r), λ h. omega (arith, r));
       }
-
-  -- tasks that were put or kept one after another
-  pub puts-more : (a b c : OwnerView) (kept kept' kept'' done : List Stretch) (x : Stretch) → PutsAll S a b kept kept' done → PutsAll S b c kept' kept'' (x ∷ []) → PutsAll S a c kept kept'' (x ∷ done)
-  puts-more a b c kept kept' kept'' done x p q = record {
-    refused = p.refused ++ q.refused;
-    kept_are = q.kept_are ∙ (ap (λ z. z ++ q.refused) p.kept_are ∙ append_assoc kept p.refused q.refused);
-    served = All-append S p.refused q.refused p.served q.served;
-    deque = q.deque ∙ p.deque;
-    taken = q.taken ∙ p.taken;
-    empty_takes = q.empty_takes ∙ p.empty_takes;
-    put = λ w. omega (arith, p.put w, q.put w, sum_by-append w p.refused q.refused, sum_by-cons w x done, sum_by-cons w x []);
-    refusals = (
-      omega (arith, p.refusals.0, q.refusals.0),
-      λ h.
-          let n = q.refusals.1 h in
-          let m = p.refusals.1 (omega (arith, h, q.refusals.0)) in
-          omega (arith, n, m, length-append p.refused q.refused),
-    );
-  }

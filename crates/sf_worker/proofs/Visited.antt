@@ -75,13 +75,6 @@ entry-plain design bound node (Solved expr) value p d = absurd p
 entry-plain design bound node Extended value p d = (d, tt)
 entry-plain design bound node (Split b) value p d = ((d.below, d.wide), d.first)
 
--- the tag may stand at the subproblem that was visited
-pub tag-may : (design : Design) (bound : Parts → ℕ) (part : Parts → Part → ℕ) (node : Parts) (seen : Visit) (value : ℕ) → IsVisit design bound node value seen → MaySplit (tag_after bound part node seen value) node
-tag-may design bound part node Closed value d = tt
-tag-may design bound part node (Solved expr) value d = tt
-tag-may design bound part node Extended value d = tt
-tag-may design bound part node (Split b) value d = d.wide
-
 module _ (design : Design) (bound : Parts → ℕ) (part : Parts → Part → ℕ) (old tagged new : HandView) (seat : Knows) (seen : Visit) (tag : Tag) (value : ℕ)
     (below : value ≤ seat.seen) (visit : IsVisit design bound old.path.node value seen) (is : tag ≡ tag_after bound part old.path.node seen value)
     (mid : tagged ≡ record old { kept = old.kept ++ kept_for (part old.path.node) tag }) (f : IsFollowed design bound tagged tag new) (same_kept : new.kept ≡ tagged.kept) where
