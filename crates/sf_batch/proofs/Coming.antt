@@ -17,7 +17,7 @@ use Rattle.sf_words.specs.Meaning.{PlanOptions, plan}
 use Rattle.sf_jobs.specs.Job.{IsPlain, SaysJob, with_cert}
 use Rattle.sf_jobs.specs.Told.{Told}
 use Rattle.sf_program.specs.Answer.{usage_line}
-use Rattle.sf_known.specs.Begun.{IsBegun}
+use Rattle.sf_known.specs.Initial.{IsInitialPlan}
 use Rattle.sf_known.specs.Known.{IsKnownBy, Knows}
 use Rattle.sf_known.proofs.Taken.{as-it-was}
 use Rattle.sf_designs.specs.Outcome.{Stops, refused, lost}
@@ -73,7 +73,7 @@ known : (o : PlanOptions) (design : Design) → IsPlain o → Knows o.bounds des
 known o design p = subst (λ b. Knows b design design) (sym p.bounds) refl
 
 -- a plain search begins with no plan
-from_nothing : (o : PlanOptions) (design : Design) → IsPlain o → IsBegun o.starts o.bounds design design None
+from_nothing : (o : PlanOptions) (design : Design) → IsPlain o → IsInitialPlan o.starts o.bounds design design None
 from_nothing o design p = record {
   walked = None;
   least = None;

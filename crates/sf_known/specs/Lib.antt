@@ -1,3 +1,3 @@
 pub mod Known
-pub mod Begun
+pub mod Initial
 pub mod Routed

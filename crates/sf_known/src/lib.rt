@@ -5,7 +5,7 @@
 //! these, on the walks of `sf_anneal`, on the options of the command line, and on the expressions and costs of
 //! plans. The crates above use that the design is the one that was asked for (`Knows`), of which there is one, that
 //! paths are taken or the first wrong one is told (`Takes`, `Breaks`), and what a search begins with
-//! (`IsBeginning`).
+//! (`IsSearchInput`).
 #![tactic(auto)]
 
 mod choosing;

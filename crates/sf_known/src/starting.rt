@@ -3,7 +3,7 @@
 ghost use Rattle.std.specs.Prelude.{◌≡◌, ◌*◌, ◌≤◌, IfOk, IfSome, IfNone};
 ghost use Rattle.sf_anneal.specs.Measured.{IsFloorplan};
 ghost use Rattle.sf_anneal.specs.Starts.{IsImprovedStarts};
-ghost use Rattle.sf_known.specs.Begun.{IsBeginning};
+ghost use Rattle.sf_known.specs.Initial.{IsSearchInput};
 ghost use Rattle.sf_words.specs.Seen.{starts_seen};
 
 use crate::choosing::cheaper;
@@ -69,7 +69,7 @@ pub fn begin<R: Threads + Sync>(
     bounds: BoundsChoice,
 ) -> Result<Begun, NoMemory>
     ensures begins { IfOk result (λ begun.
-        IsBeginning (starts_seen starts) bounds design begun.design begun.start) }
+        IsSearchInput (starts_seen starts) bounds design begun.design begun.start) }
     ensures floorplan { IfOk result (λ begun.
         IfSome begun.start (λ plan. IsFloorplan begun.design plan.0 plan.1)) }
 {

@@ -5,7 +5,7 @@ use Rattle.sf_anneal.specs.Starts.{IsImprovedStarts, first_least}
 use Rattle.sf_words.specs.declared.command.BoundsChoice.{BoundsChoice}
 use Rattle.sf_words.specs.declared.command.BoundsChoice.TheVariants.{Standard, Strong, Pair, Fit, Both}
 use Rattle.sf_known.specs.Known.{IsKnownBy, cheaper}
-use Rattle.sf_known.specs.Begun.{IsBegun}
+use Rattle.sf_known.specs.Initial.{IsInitialPlan}
 use Rattle.sf_known.specs.Routed.{IsRouted}
 use Rattle.sf_pl_writer.specs.declared.report.Outcome.TheVariants as word
 use Rattle.sf_pl_writer.specs.ReportText.{report_text}
@@ -95,7 +95,7 @@ plain-routes Fit design routed plain h = h.1
 plain-routes Both design routed plain h = h.1
 
 -- a search that asks for neither begins with no plan
-none-first : (o : PlanOptions) (design known : Design) (start : Option (Expr × ℕ)) → o.starts.count ≡ 0 → (o.bounds ≡ Strong → ⊥) → IsBegun o.starts o.bounds design known start → start ≡ None
+none-first : (o : PlanOptions) (design known : Design) (start : Option (Expr × ℕ)) → o.starts.count ≡ 0 → (o.bounds ≡ Strong → ⊥) → IsInitialPlan o.starts o.bounds design known start → start ≡ None
 none-first o design known start bare plain b =
     let walked = none-begun design o.starts.seed o.starts.count o.starts.moves b.walked bare b.walks in
     let least = none-known o.bounds known b.least plain b.knows in

@@ -38,7 +38,7 @@ use Rattle.sf_designs.specs.Refusals.{over_limit}
 use Rattle.sf_designs.specs.Reading.{PartsAdmitted, DesignMade}
 use Rattle.sf_program.specs.Knowing.{MadeKnown}
 use Rattle.sf_program.specs.Chosen.{chosen_value, chosen_part}
-use Rattle.sf_known.specs.Begun.{IsBeginning}
+use Rattle.sf_known.specs.Initial.{IsSearchInput}
 use Rattle.sf_designs.specs.Stores.{Stored}
 use Rattle.sf_designs.specs.Weighed.{WeighedParts}
 
@@ -146,5 +146,5 @@ pub record IsPlanned (o : PlanOptions) (before : Option Contents) (status : Stat
   pub stands : PlanDesign before o (Ok read)
   pub design : Design
   pub start : Option (Expr × ℕ)
-  pub begun : IsBeginning o.starts o.bounds read design start
+  pub begun : IsSearchInput o.starts o.bounds read design start
   pub answered : IsAnswered o.bounds design o.workers (budget_of o.nodes (block_count design)) start o.design.per_unit o.cert o.pl_out status stored printed
