@@ -7,9 +7,9 @@ use Rattle.sf_program.specs.Planned.{IsSearchedBy}
 use Rattle.sf_anneal.specs.Measured.{IsFloorplan}
 use Rattle.sf_polish.specs.Text.{IsWritable}
 use Rattle.sf_search_core.specs.Outcome.{opening}
-use Rattle.sf_rounds.specs.declared.to_certificate.Found.{Found}
-use Rattle.sf_rounds.specs.Found.{IsCertOf, IsFound}
-use Rattle.sf_rounds.specs.Turns.{turns}
+use Rattle.sf_rounds.specs.declared.found.Found.{Found}
+use Rattle.sf_search.specs.Found.{IsCertOf, IsFound}
+use Rattle.sf_search.specs.Turns.{turns}
 use Rattle.sf_rounds.proofs.Formed.{can-write}
 use Rattle.std.specs.Prelude.{IfSome}
 use Rattle.std.proofs.lemmas.Result.{IfOk-weaker}

@@ -25,8 +25,8 @@ use Rattle.sf_checker.specs.declared.answer.Answer.{Answer}
 use Rattle.sf_checker.specs.Answers.{is_yes}
 use Rattle.sf_known.specs.Routed.{Takes}
 use Rattle.sf_program.specs.Checked.{IsChosenAnswer}
-use Rattle.sf_rounds.specs.Turns.{turns}
-use Rattle.sf_rounds.specs.Found.{IsCertOf}
+use Rattle.sf_search.specs.Turns.{turns}
+use Rattle.sf_search.specs.Found.{IsCertOf}
 use Rattle.sf_pl_writer.specs.declared.report.Outcome.{Outcome}
 use Rattle.sf_pl_writer.specs.declared.report.Outcome.TheVariants as word
 use Rattle.sf_pl_writer.specs.PlText.{pl_text}

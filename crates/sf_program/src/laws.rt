@@ -19,7 +19,7 @@ use sf_certificate::{first_parts_are_one, full_parts_close};
 use sf_curves::traces_are_one;
 use sf_model::designs_are_determined;
 use sf_place::verdicts_are_one;
-use sf_rounds::certificates_are_one;
+use sf_search::certificates_are_one;
 use sf_soft_shapes::lists_are_determined;
 
 /// On a shelf that tells what it holds, the named files stand for at most one design, or are refused for at

@@ -9,7 +9,8 @@ use sf_bound::Bounds;
 use sf_io::Gate;
 use sf_model::Design;
 use sf_polish::Expr;
-use sf_rounds::{Found, SearchOptions, search, search_below};
+use sf_rounds::{Found, SearchOptions};
+use sf_search::{search, search_below};
 use std::alloc::{AllocError as NoMemory, Global};
 use std::thread::Threads;
 

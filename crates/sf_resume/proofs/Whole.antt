@@ -10,7 +10,7 @@ use Rattle.sf_count.specs.Given.{full_of}
 use Rattle.sf_cursor.specs.declared.stretch.Stretch.{Stretch}
 use Rattle.sf_rounds.specs.declared.leaving.Opened.{Opened}
 use Rattle.sf_rounds.specs.declared.legs.Leg.{Leg}
-use Rattle.sf_rounds.specs.declared.to_certificate.Found.{Found}
+use Rattle.sf_rounds.specs.declared.found.Found.{Found}
 use Rattle.sf_rounds.specs.Legs.{AreLeftOpen, IsLeg}
 use Rattle.sf_rounds.specs.Rounds.{all_waits}
 use Rattle.sf_rounds.specs.Run.{IsBest}

@@ -9,7 +9,7 @@ use Rattle.sf_certificate.specs.declared.cert.Cert.{Cert}
 use Rattle.sf_certificate.specs.Named.{AllNameFirst}
 use Rattle.sf_certificate.specs.Valid.{IsValid, decided, left_open}
 use Rattle.sf_count.specs.Given.{full_of}
-use Rattle.sf_rounds.specs.declared.to_certificate.Found.{Found}
+use Rattle.sf_rounds.specs.declared.found.Found.{Found}
 
 -- the full counts of what a certificate leaves open, in sum
 abbrev pub full_open : Design → Cert → ℕ

@@ -8,7 +8,6 @@ ghost use Rattle.sf_rounds.specs.Legs.{IsAbsorbed, IsLeg, IsStep, tags_in};
 use crate::job::RoundOut;
 use crate::parting::parts_of;
 use crate::rounds::round;
-use crate::to_certificate::SearchOptions;
 use sf_bound::Bounds;
 use sf_cursor::Stretch;
 use sf_io::{Gate, OpenGate};
@@ -25,6 +24,13 @@ const MOST: u64 = 4_194_304;
 
 /// How many times as many subproblems as were decided before a worker may decide in the next round.
 const GROWTH: u64 = 4;
+
+/// How many workers are asked for, and how many subproblems may be decided.
+#[derive(Clone, Copy)]
+pub struct SearchOptions {
+    pub workers: u16,
+    pub nodes: u64,
+}
 
 /// What a team leaves: the stretches that are left open, the pieces of what it decided, and the best plan with
 /// its cost.

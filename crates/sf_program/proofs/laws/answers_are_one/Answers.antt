@@ -1,5 +1,5 @@
 use Rattle.std.proofs.Common.{refl, sym, ◌∙◌}
-use Rattle.sf_rounds.specs.Turns.{turns}
+use Rattle.sf_search.specs.Turns.{turns}
 use Rattle.sf_search_core.specs.Outcome.{opening}
 use Rattle.sf_program.specs.Chosen.{chosen_part, chosen_value}
 use Rattle.sf_program.proofs.ChosenLaws.{chosen-parts}

@@ -1,0 +1,1 @@
+use Rattle.sf_search.proofs.walk.Walk.leave_open.Goals as goal
