@@ -28,6 +28,9 @@ const ROW: usize = 4096;
 /// No line of a tag has more bytes: an `S`, a space, five digits and the end of the line.
 const LONGEST: usize = 8;
 
+/// How many bytes the line of a closed subproblem has, which are most of a long text: what is laid out for each tag.
+const CLOSED: usize = 4;
+
 /// The text of a certificate, of the second version, or of the third where it has paths: a header, then one
 /// line for each tag.
 pub fn write(alloc: Global, cert: &Cert) -> Result<Vec<u8>, NoMemory>
@@ -39,7 +42,9 @@ pub fn write(alloc: Global, cert: &Cert) -> Result<Vec<u8>, NoMemory>
     let mut header = String::new(alloc);
     push_header(&mut header, cert)?;
     let mut text = header.into_bytes();
-    push_tags(&mut text, cert.tags.as_slice())?;
+    let tags = cert.tags.as_slice();
+    text.reserve(tags.len().saturating_mul(CLOSED))?;
+    push_tags(&mut text, tags)?;
     Ok(text)
 }
 

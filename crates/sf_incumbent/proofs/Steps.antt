@@ -8,7 +8,7 @@ use lib.ListN.{get_elem?}
 use Rattle.atomic_table.specs.Table.{State, Me, step, Allows, Splits, Joins, keeps}
 use Rattle.atomic_table.proofs.Lists.{at_set, at_snoc, set_else, at_longer}
 use Rattle.sf_incumbent.specs.declared.rule.View.{View}
-use Rattle.sf_incumbent.specs.Rule.{most, view, split_seat, new_seat, joined_seat, empty_seat, IsLive, IsWord, IsIncumbent, Looks, Offers}
+use Rattle.sf_incumbent.specs.Rule.{most, view, place, split_seat, new_seat, joined_seat, empty_seat, IsLive, IsWord, IsIncumbent, Looks, Offers}
 
 -- the parts of a seat
 abbrev parts : View → ℕ
@@ -95,37 +95,38 @@ module _ (start seats word new : ℕ) (views : List View) (seat : ℕ) (v w : Vi
         | no ne ↦ (j, u, (set_else views seat j w ne ∙ live.0, live.1), is)
       ])
 
--- the table's first word and the seats keep the rule of the word
+-- the word in its table and the seats keep the rule of the word
 abbrev Holds : ℕ → ℕ → State (Unit {0}) View → Type 0
 Holds start seats s = IsIncumbent start seats s.words s.views
 
--- the first word, changed by a function that keeps 0, is what the function makes of it
-word_after : (f : ℕ → ℕ) → f 0 ≡ 0 → (ws : List ℕ) → slice_index (set ws 0 (f (slice_index ws 0))) 0 ≡ f (slice_index ws 0)
-word_after f e [] = sym e
-word_after f e (x ∷ xs) = refl
+-- a word, changed by a function that keeps 0, is what the function makes of it
+word_after : (f : ℕ → ℕ) → f 0 ≡ 0 → (i : ℕ) (ws : List ℕ) → slice_index (set ws i (f (slice_index ws i))) i ≡ f (slice_index ws i)
+word_after f e i [] = sym e
+word_after f e zero (x ∷ xs) = refl
+word_after f e (suc i) (x ∷ xs) = word_after f e i xs
 
 -- a seat with a part may load the word: the rule stays kept, and the seat has seen what it found
 pub looks : (start seats slots seat : ℕ) (me : Me (Unit {0}) View) → 0 < me.0.parts
-    → Allows (Holds start seats) slots seat me 0 (λ n. n) (Looks (step slots 0 0 0 none) me)
+    → Allows (Holds start seats) slots seat me place (λ n. n) (Looks (step slots place 0 0 none) me)
 looks start seats slots seat me some_part s h homes at fits =
     let v : View = me.0 in
-    let word : ℕ = slice_index s.words 0 in
+    let word : ℕ = slice_index s.words place in
     let w : View = view word v.offered v.parts in
     let below : (word ≤ v.seen) × (word ≤ v.offered) = h.below_seats seat v (at, some_part) in (
       w,
       keeps,
       tt,
-      subst (λ (n : ℕ). IsWord start seats n (set s.views seat w)) (sym (word_after (λ n. n) refl s.words))
+      subst (λ (n : ℕ). IsWord start seats n (set s.views seat w)) (sym (word_after (λ n. n) refl place s.words))
           (after start seats word word s.views seat v w h at some_part refl (omega arith) (omega arith) below.1 (others start seats word word s.views seat v w h at some_part refl refl (λ e. e))),
       (refl, below.0, below.1),
     )
 
 -- a seat with a part may lower the word to its cost: the rule stays kept, and the seat has offered the cost
 pub offers : (start seats slots seat cost : ℕ) (me : Me (Unit {0}) View) → 0 < me.0.parts
-    → Allows (Holds start seats) slots seat me 0 (λ n. min n cost) (Offers (step slots 0 cost 0 none) me)
+    → Allows (Holds start seats) slots seat me place (λ n. min n cost) (Offers (step slots place cost 0 none) me)
 offers start seats slots seat cost me some_part s h homes at fits =
     let v : View = me.0 in
-    let word : ℕ = slice_index s.words 0 in
+    let word : ℕ = slice_index s.words place in
     let w : View = view (min word cost) (min v.offered cost) v.parts in
     let below : (word ≤ v.seen) × (word ≤ v.offered) = h.below_seats seat v (at, some_part) in
     let new : ℕ = min word cost in
@@ -137,7 +138,7 @@ offers start seats slots seat cost me some_part s h homes at fits =
       w,
       keeps,
       tt,
-      subst (λ (n : ℕ). IsWord start seats n (set s.views seat w)) (sym (word_after (λ n. min n cost) (omega arith) s.words))
+      subst (λ (n : ℕ). IsWord start seats n (set s.views seat w)) (sym (word_after (λ n. min n cost) (omega arith) place s.words))
           (after start seats word new s.views seat v w h at some_part refl (omega arith) (omega arith) (omega arith) one),
       (refl, below.0, below.1),
     )
@@ -145,7 +146,7 @@ offers start seats slots seat cost me some_part s h homes at fits =
 -- a seat with two parts or more may be split, and the rule stays kept
 pub splits : (start seats seat : ℕ) (v : View) → 2 ≤ v.parts → Splits (Holds start seats) seat v (split_seat v) (new_seat v)
 splits start seats seat v two s h at =
-    let word : ℕ = slice_index s.words 0 in
+    let word : ℕ = slice_index s.words place in
     let mid : List View = set s.views seat (split_seat v) in
     let below : (word ≤ v.seen) × (word ≤ v.offered) = h.below_seats seat v (at, omega arith) in
     let low : word ≤ most = let a = h.small in let b = h.below_start in omega arith in
@@ -177,7 +178,7 @@ splits start seats seat v two s h at =
 -- two seats with parts may be joined, and the rule stays kept
 pub joins : (start seats seat : ℕ) (v : View) (other : ℕ) (w : View) → 0 < v.parts → 0 < w.parts → Joins (Holds start seats) seat v other w (joined_seat v w) empty_seat
 joins start seats seat v other w vs ws s h at apart at' =
-    let word : ℕ = slice_index s.words 0 in
+    let word : ℕ = slice_index s.words place in
     let both : View = joined_seat v w in
     let mid : List View = set s.views seat both in
     let end : List View = set mid other empty_seat in
@@ -230,7 +231,8 @@ least start seats seat word views v h at some_part all =
       below.0,
     )
 
--- a word that is found at the first place is the first word
-pub first_word : (ws : List ℕ) (n : ℕ) → get_elem? ws 0 ≡ some n → slice_index ws 0 ≡ n
-first_word [] n e = absurd (some-ne-none n (sym e))
-first_word (x ∷ xs) n e = some-injective x n e
+-- a word that is found at a place is the word there
+pub word_at : (i : ℕ) (ws : List ℕ) (n : ℕ) → get_elem? ws i ≡ some n → slice_index ws i ≡ n
+word_at i [] n e = absurd (some-ne-none n (sym e))
+word_at zero (x ∷ xs) n e = some-injective x n e
+word_at (suc i) (x ∷ xs) n e = word_at i xs n e

@@ -46,9 +46,13 @@ pub record IsWord (start seats word : ℕ) (views : List View) : Type 0 where
   pub parts_add_up : sum_by (λ (v : View). v.parts) views ≡ seats
   pub idle : (seat : ℕ) (v : View) → get_elem? views seat ≡ some v → v.parts ≡ 0 → v.offered ≡ most
 
--- the table's first word is that word
+-- where the word stands in its table, whose other words nobody reads or writes
+abbrev pub place : ℕ
+place = 16
+
+-- the table has that word at its place
 abbrev pub IsIncumbent : ℕ → ℕ → List ℕ → List View → Type 0
-IsIncumbent start seats words views = IsWord start seats (slice_index words 0) views
+IsIncumbent start seats words views = IsWord start seats (slice_index words place) views
 
 -- what a load tells: the word found, which is at most what the seat had seen and offered
 abbrev pub Looks : Step (Unit {0}) → Me (Unit {0}) View → ℕ → Me (Unit {0}) View → Type 0

@@ -19,6 +19,13 @@ use atomic_table::Table;
 use std::alloc::{AllocError as NoMemory, Global};
 use std::marker::Model;
 
+/// Where the word stands in its table.
+const PLACE: usize = 16;
+
+/// How many words its table has. Those before and behind it keep whatever else lies in memory and is written often
+/// out of its cache lines, since each decision of each worker reads it.
+const WORDS: usize = 33;
+
 /// The word.
 #[derive(Drop)]
 pub struct Incumbent {
@@ -34,7 +41,7 @@ impl Model for Incumbent {
       seats = w.table.shared.key.seats;
     } };
 
-    ghost invariant = { λ w. (w.table.shared.table_id.words ≡ 1) × (w.table.shared.table_id.slots ≡ 0) };
+    ghost invariant = { λ w. (w.table.shared.table_id.words ≡ 33) × (w.table.shared.table_id.slots ≡ 0) };
 }
 
 /// What one holder knows of the word: the least value that it has seen, the least that it has offered, and
@@ -65,7 +72,9 @@ impl Incumbent {
         ensures seat { IfOk result
             (λ r. r.1 ≡ record { word = r.0.id; seen = start; offered = u64.MAX; parts = seats }) }
     {
-        let (table, seat) = Table::of_words(alloc, &[start], &Opening { start, seats })?;
+        let mut words = [0; WORDS];
+        words[PLACE] = start;
+        let (table, seat) = Table::of_words(alloc, &words, &Opening { start, seats })?;
         Ok((Incumbent { table }, Seat { seat }))
     }
 
@@ -88,7 +97,7 @@ impl Incumbent {
         ensures seat { seat.new ≡ record seat.old { seen = result } }
         ensures fresh { (result ≤ seat.old.seen) × (result ≤ seat.old.offered) }
     {
-        self.table.shared.load::<Looks>(&mut seat.seat, 0)
+        self.table.shared.load::<Looks>(&mut seat.seat, PLACE)
     }
 
     /// One fetch-min. The answer is the lesser of the cost and the word found.
@@ -100,7 +109,7 @@ impl Incumbent {
         let found = self
             .table
             .shared
-            .fetch_min::<Offers>(&mut seat.seat, 0, cost);
+            .fetch_min::<Offers>(&mut seat.seat, PLACE, cost);
         found.min(cost)
     }
 
@@ -129,7 +138,7 @@ impl Incumbent {
         let Incumbent { table } = self;
         let Seat { seat } = seat;
         let closed = table.close_with(seat);
-        let word = closed.word(0);
+        let word = closed.word(PLACE);
         closed.free();
         word
     }

@@ -20,10 +20,10 @@ use std::thread::Threads;
 
 /// How many subproblems of one block a worker may decide in a round at most. Of more blocks it is so much less, so
 /// that rounds take about as long.
-const MOST: u64 = 4_194_304;
+const MOST: u64 = 67_108_864;
 
 /// How many times as many subproblems as were decided before a worker may decide in the next round.
-const GROWTH: u64 = 4;
+const GROWTH: u64 = 16;
 
 /// How many workers are asked for, and how many subproblems may be decided.
 #[derive(Clone, Copy)]
@@ -116,7 +116,8 @@ fn step<R: Threads + Sync, B: Bounds, G: Gate>(
 
 /// How many subproblems a worker may decide in the next round, after so many. The first rounds are short, so
 /// that the workers stay near where one alone would be: a chain that comes to a plan has a decision for each
-/// token. Later ones are long, since threads that are started anew take a while to be spread over processors.
+/// token. Later ones are long, and there are few of them, since threads that are started anew share a processor for
+/// some hundredths of a second before the system spreads them over all.
 fn longest(decided: u64, design: &Design) -> u64
     ensures { 0 < result }
 {

@@ -7,5 +7,5 @@ pub returns-clause-read_back : goal.returns-clause-read_back
 returns-clause-read_back c lead =
     let cert = c.args.cert.now in
     let text : c.push_tags.new.text.items ≡ cert_text cert = search rules in
-    let fits : All FitsTag cert.tags = subst (λ (ts : List Tag). All FitsTag ts) c.as_slice.ensures c.in_ok-push_tags.ensures.fits in
+    let fits : All FitsTag cert.tags = subst (λ (ts : List Tag). All FitsTag ts) c.as_slice-tags.ensures c.in_ok-push_tags.ensures.fits in
     ap (cert_read cert.blocks) text ∙ cert-back cert c.in_ok-push_header.ensures.cost c.in_ok-push_header.ensures.bound c.in_ok-push_header.ensures.paths lead fits
