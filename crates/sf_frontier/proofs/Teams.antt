@@ -1,5 +1,5 @@
 -- Rings of deques, opened at one worker, and what is left of a team, one deque at a time.
-use Rattle.std.proofs.Common.{◌≡◌, ℕ, ◌<◌, List, [], ◌∷◌, ◌++◌, length, drop, reverse, map, All, sym, ap, ◌∙◌, subst, refl, arith, length-append, append-nil, append_assoc, inl, inr}
+use Rattle.std.proofs.Common.{◌≡◌, ℕ, ◌<◌, ◌≤◌, List, [], ◌∷◌, ◌++◌, length, drop, reverse, map, All, sym, ap, ◌∙◌, subst, refl, arith, length-append, append-nil, append_assoc, inl, inr}
 use Rattle.std.specs.Prelude.{sum_by}
 use Rattle.std.specs.List.{flat_map}
 use Rattle.std.proofs.lemmas.List.Sums.{sum_by-append, sum_by-cons}
@@ -8,7 +8,7 @@ use Rattle.std.proofs.lemmas.List.{nil_from_length, map-append, reverse-append, 
 use Rattle.sf_cursor.specs.declared.stretch.Stretch.{Stretch}
 use Rattle.sf_frontier.specs.Ends.{Deque, OwnerView, ThiefView, with_stolen, IsDrained}
 use Rattle.sf_frontier.specs.Fair.{SameTasks}
-use Rattle.sf_frontier.specs.Team.{thief_deques_of, turned, owners_of, deques_of, preys_of, stolen_by, AreSettled, IsTeam, IsFinished, IsNewOwner, IsNewThief, IsNewPlace}
+use Rattle.sf_frontier.specs.Team.{thief_deques_of, turned, owners_of, deques_of, preys_of, stolen_by, AreSettled, IsTeam, IsFinished, IsNewOwner, IsNewThief, IsNewPlace, HasSlots}
 use Rattle.sf_frontier.specs.declared.place.Place.{Place}
 pub use Rattle.sf_frontier.proofs.Steps.{all_front}
 use Rattle.sf_frontier.proofs.Steps.{all_back}
@@ -314,3 +314,7 @@ module _ {T : Type 0} where
         ),
         All-push IsNewPlace ps p h.new (subst IsNewOwner (sym eo) h.owner, subst (All IsNewThief) (sym et) (All-cons IsNewThief t [] new (All-nil IsNewThief))),
       )
+
+  -- a place whose owner's deque has so many slots joins those that have
+  pub slots-more : (slots : ℕ) (ps qs : List (Place T)) (p : Place T) (o : OwnerView) → qs ≡ ps ++ p ∷ [] → All (HasSlots slots) ps → p.owner ≡ o → slots ≤ o.deque.first_slots → All (HasSlots slots) qs
+  slots-more slots ps qs p o e all eo wide = subst (All (HasSlots slots)) (sym e) (All-push (HasSlots slots) ps p all (subst (λ (x : OwnerView). slots ≤ x.deque.first_slots) (sym eo) wide))

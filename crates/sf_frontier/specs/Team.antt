@@ -1,5 +1,5 @@
 -- A team: each worker's owner and thieves, and what was put and taken.
-use Rattle.std.specs.Prelude.{◌≡◌, ℕ, ◌⊎◌, ◌<◌, List, [], ◌∷◌, ◌++◌, sum_by, map, length, All, ⊤}
+use Rattle.std.specs.Prelude.{◌≡◌, ℕ, ◌⊎◌, ◌<◌, ◌≤◌, List, [], ◌∷◌, ◌++◌, sum_by, map, length, All, ⊤}
 use Rattle.std.specs.List.{flat_map}
 use Rattle.sf_cursor.specs.declared.stretch.Stretch.{Stretch}
 use Rattle.sf_frontier.specs.Ends.{Deque, OwnerView, ThiefView, with_stolen, IsDrained}
@@ -58,6 +58,10 @@ module _ {T : Type 0} where
   -- the owner of the place is new, and so are its thieves
   abbrev pub IsNewPlace : Place T → Type 0
   IsNewPlace place = IsNewOwner place.owner × All IsNewThief place.thieves.items
+
+  -- the worker's deque was made with so many slots or more: none of the first so many puts comes back
+  abbrev pub HasSlots : ℕ → Place T → Type 0
+  HasSlots slots place = slots ≤ place.owner.deque.first_slots
 
   -- of each deque, what was put is what its owner took, what its thief took, and what is left of it; what the owner put and did not take is, in its order, what the thief took and what is left
   pub record IsFinished (places : List (Place T)) (left : List Stretch) : Type 0 where

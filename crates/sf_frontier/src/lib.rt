@@ -6,7 +6,8 @@
 //! property of tasks, is chosen by its caller (`Served`). The crates above use that of each deque, whatever
 //! the schedule, what was put is what its owner took, what its thief took and what is left (`IsFinished`),
 //! and that every task that is taken or left is served. An owner takes the last of what it put and did not
-//! take, and its thief the first (`last`, `IsDrained`).
+//! take, and its thief the first (`last`, `IsDrained`). None of the first 64 puts at a deque comes back (`slots`,
+//! `refused`).
 #![tactic(auto)]
 
 mod ends;

@@ -1,7 +1,7 @@
 //! A team: a deque for each worker, and a thief at the next one.
 
 ghost use Rattle.std.specs.Prelude.{◌≡◌, ◌<◌, ◌≤◌, length, All, IfOk};
-ghost use Rattle.sf_frontier.specs.Team.{IsTeam, IsNewPlace, IsNewOwner, IsNewThief};
+ghost use Rattle.sf_frontier.specs.Team.{IsTeam, IsNewPlace, IsNewOwner, IsNewThief, HasSlots};
 
 use crate::ends::{Owner, Thief};
 use crate::place::Place;
@@ -18,6 +18,7 @@ pub fn team<T: Served>(alloc: Global, workers: u16) -> Result<Vec<Place<T>>, NoM
     requires { 1 ≤ workers }
     ensures team { IfOk result (λ places. IsTeam places.items × (length places.items ≡ workers)) }
     ensures new { IfOk result (λ places. All IsNewPlace places.items) }
+    ensures slots { IfOk result (λ places. All (HasSlots 64) places.items) }
 {
     let owner = Owner::alone(alloc, FIRST_SLOTS)?;
     if workers == 1 {
@@ -42,8 +43,10 @@ fn ring<T: Served>(
     requires some { 1 ≤ workers }
     requires deque { (owner.deque ≡ first.deque) × (owner.deque.parts ≡ 2) }
     requires new { IsNewOwner owner × IsNewThief first }
+    requires slots { 64 ≤ owner.deque.first_slots }
     ensures team { IfOk result (λ places. IsTeam places.items × (length places.items ≡ workers)) }
     ensures new { IfOk result (λ places. All IsNewPlace places.items) }
+    ensures slots { IfOk result (λ places. All (HasSlots 64) places.items) }
 {
     let mut places = Vec::new(alloc);
     for _ in 1..workers {

@@ -1,6 +1,7 @@
 -- An answer of `plan` says what the headline says.
 use Rattle.std.proofs.Common.{◌≡◌, inl, inr, Bool, true, false, ℕ, ◌+◌, ◌*◌, ◌<◌, ◌≤◌, MatchOption, List, length, Option, Some, None, Result, Ok, refl, sym, ap, subst, ◌∙◌, arith}
 use Rattle.sf_program.proofs.Common.{BoundsChoice, nat_lt, nat_tests, Contents, Status, Done, NoneFits, Usage, Open, No, BadInput, OverLimit, ReadFault, WriteFault, NoMemory, Block, Design, Spot, block_count, cost, IsFloor, width, height, spots_of, wire, Expr, spells-one, Cert, HasCost, decided, Outcome, Command, GenOptions, Means, PlanOptions, ResumeOptions, gen, plan, resume, meaning_unique, Answers, CommandAnswer, IsAnswer, IsDone, GenRead, cert_name, Refusal, IsRefusal, IsAnswered, IsEnding, IsReported, IsGood, AreMeasures, PlanRead, budget_of, outcome_status, AfterStores, Stored}
+use Rattle.std.specs.Io.{StartsWith}
 use Rattle.std.specs.Io.KnownBytes.{Appends}
 use Rattle.sf_model.specs.declared.TheConstants.{MAX}
 use Rattle.sf_model.proofs.Bounded.{floor-none}
@@ -9,7 +10,7 @@ use Rattle.sf_resume.specs.Resumed.{full_open}
 use Rattle.sf_pl_writer.specs.declared.report.Outcome.TheVariants as word
 use Rattle.sf_pl_writer.specs.declared.report.Report.{Report}
 use Rattle.sf_pl_writer.specs.ReportText.{report_text}
-use Rattle.sf_program.specs.Headline.{HasSearched, IsEnd, IsFinding, IsHeadline, IsHeadlineOn, IsPlanOf}
+use Rattle.sf_program.specs.Headline.{HasSearched, IsEnd, IsFinding, IsHeadline, IsHeadlineOn, IsPlanOf, first_line}
 use Rattle.sf_program.specs.Planned.{IsTold}
 use Rattle.sf_known.specs.Routed.{IsRouted}
 use Rattle.sf_known.proofs.Taken.{as-it-was, takes-paths}
@@ -21,6 +22,12 @@ use Rattle.sf_words.specs.declared.command.BoundsChoice.TheVariants.{Standard}
 -- the report of a certificate, with what is measured of its plan
 abbrev report_of : Outcome → Cert → ℕ × ℕ → ℕ → ℕ → Option Expr → Report
 report_of said cert size area wires expr = record { word = said; cost = cert.cost; bound = cert.bound; decided = decided cert.tags; size = size; area = area; wire = wires; plan = expr }
+
+-- its first line is that of the status
+begins-with : (said : Outcome) (cert : Cert) (size : ℕ × ℕ) (area wires : ℕ) (expr : Option Expr) → StartsWith (report_text (report_of said cert size area wires expr)) (first_line (outcome_status said))
+begins-with word.Optimal cert size area wires expr = refl
+begins-with word.NoneFits cert size area wires expr = refl
+begins-with word.Open cert size area wires expr = refl
 
 -- what is not at most another number is greater
 smaller : (m n : ℕ) (b : Bool) → nat_lt m n ≡ b → (n ≤ m → ⊥) → m < n
@@ -67,10 +74,10 @@ module _ (design : Design) (budget all scale : ℕ) (name : List ℕ) (pl : Opti
       → Finds design budget all (outcome_status said) printed
   told-finds None stored printed v t =
       let report = report_of said cert (0, 0) 0 0 None in
-      (report, record { plan = v; floor = floor; few = few; end = ends-as design budget all report said floor spent ended ending }, t.1)
+      (report, record { plan = v; floor = floor; few = few; end = ends-as design budget all report said floor spent ended ending; begins = begins-with said cert (0, 0) 0 0 None }, t.1)
   told-finds (Some expr) stored printed v t =
       let report = report_of said cert (t.1, t.2) (t.1 * t.2) t.3 (Some expr) in
-      (report, record { plan = measured-plan design cert said expr t.0 t.1 t.2 t.3 t.4 v; floor = floor; few = few; end = ends-as design budget all report said floor spent ended ending }, t.6)
+      (report, record { plan = measured-plan design cert said expr t.0 t.1 t.2 t.3 t.4 v; floor = floor; few = few; end = ends-as design budget all report said floor spent ended ending; begins = begins-with said cert (t.1, t.2) (t.1 * t.2) t.3 (Some expr) }, t.6)
 
 -- the report of a valid certificate that keeps its budget says what was found
 reported-finds : (bounds : BoundsChoice) (design : Design) (budget all scale : ℕ) (name : List ℕ) (pl : Option (List ℕ)) (cert : Cert) (status : Status) (stored : List Stored) (printed : List ℕ) → IsGood bounds design cert → decided cert.tags ≤ budget

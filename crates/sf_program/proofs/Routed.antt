@@ -111,4 +111,5 @@ module _ (design : Design) (paths : Paths) (routed : Design) (h : HasPaths desig
     floor = floor-back report.bound p.floor;
     few = p.few;
     end = end-back budget all report status p.end;
+    begins = p.begins;
   }

@@ -1,5 +1,6 @@
 -- The main theorem: what a run of `plan`, `gen` or `resume` that ends with status 0, 1 or 3 has found, in terms of floorplans alone, whatever the schedule and the number of workers.
-use Rattle.std.specs.Prelude.{◌≡◌, ⊤, ℕ, ◌+◌, ◌*◌, ◌<◌, ◌≤◌, List, Option, Result, Ok, MatchOption}
+use Rattle.std.specs.Prelude.{◌≡◌, ⊤, ℕ, ◌+◌, ◌*◌, ◌<◌, ◌≤◌, List, [], Option, Result, Ok, MatchOption, codes}
+use Rattle.std.specs.Io.{StartsWith}
 use Rattle.std.specs.Io.KnownBytes.{Appends}
 use Rattle.sf_io.specs.Outside.{Contents}
 use Rattle.sf_io.specs.declared.status.Status.{Status}
@@ -45,12 +46,21 @@ IsEnd design budget all report status.NoneFits = (report.bound ≡ MAX) × NoneF
 IsEnd design budget all report status.Open = (report.bound < report.cost) × (report.decided ≡ budget) × (budget < all)
 IsEnd design budget all report other = ⊥
 
+-- the first line that is printed at status 0, at 1 and at 3
+abbrev pub first_line : Status → List ℕ
+first_line status.Done = codes "status Optimal\n"
+first_line status.NoneFits = codes "status NoneFits\n"
+first_line status.Open = codes "status Open\n"
+first_line other = []
+
 -- the plan is one of the design, or there is none; no floorplan that fits costs less than the bound; and the status says which of three ends the search came to
 pub record IsFinding (design : Design) (budget all : ℕ) (status : Status) (report : Report) : Type 0 where
   pub plan : MatchOption report.plan (report.cost ≡ MAX) (IsPlanOf design report)
   pub floor : IsFloor design report.bound
   pub few : report.decided ≤ budget
   pub end : IsEnd design budget all report status
+  -- what is printed begins with the line of the status
+  pub begins : StartsWith (report_text report) (first_line status)
 
 -- what was read or generated stands for a design, and what was printed is the report of what was found of it
 pub record IsHeadline (Stands : Result Design Refusal → Type 0) (nodes : Option ℕ) (taken taken_then : Option (List ℕ)) (status : Status) : Type 0 where

@@ -27,7 +27,7 @@ mod searching;
 mod with_paths;
 
 pub use commands::usage;
-pub use laws::taken_texts_are_answered;
+pub use laws::{answers_are_one, designs_are_one, taken_texts_are_answered};
 pub use plan_answer::Names;
 pub use planning::{read_plan, search_design};
 pub use program::{run, run_unfailing};
