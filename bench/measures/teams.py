@@ -31,24 +31,31 @@ from common import write_design
 #         name     blocks nets   decisions  most processor time, as fast as four programs
 CASES = [
     ("area-7", 7, 0, 1800000, 1.5, True),
-    ("area-20", 20, 0, 4000000, 1.5, True),
+    ("area-20", 20, 0, 12000000, 1.5, True),
     ("area-100", 100, 0, 1000000, 2.5, False),
     ("area-320", 320, 0, 1000000, 2.5, False),
     ("wire-6", 6, 12, 1000000, 1.5, True),
-    ("wire-20", 20, 40, 1000000, 1.5, True),
+    ("wire-20", 20, 40, 4000000, 1.5, True),
     ("wire-50", 50, 100, 300000, 1.5, False),
 ]
 MOST_MEMORY = 1.5
 WORK_OF_FOUR, FASTER, FASTER_THAN_FOUR = 3.3, 2.5, 0.75
-TIMES = 5
+TIMES = 9
 TIME = "/usr/bin/time"
 HEAPS = "glibc.malloc.top_pad=1048576"
+
+
+def remove(folder):
+    """Removes the certificate that a run will store: to cut an old one off takes a while, which is none of the search."""
+    if os.path.exists(folder + "/w.cert"):
+        os.remove(folder + "/w.cert")
 
 
 class Run:
     """One run: its processor and wall time in seconds, its memory in bytes, its status and how many it decided."""
 
     def __init__(self, words):
+        remove(".")
         begun = time.monotonic()
         timed = [TIME, "--quiet", "-f", "%M", "-o", "memory.kb"] + words
         process = subprocess.Popen(timed, stdout=subprocess.PIPE, stderr=subprocess.DEVNULL)
@@ -83,10 +90,12 @@ def ways_of(program, design):
 
 def four_at_once(words):
     """The wall time of four programs that share nothing."""
+    for number in range(4):
+        os.makedirs(str(number), exist_ok=True)
+        remove(str(number))
     begun = time.monotonic()
     running = []
     for number in range(4):
-        os.makedirs(str(number), exist_ok=True)
         running.append(subprocess.Popen(words, cwd=str(number), stdout=subprocess.DEVNULL, stderr=subprocess.DEVNULL))
     for process in running:
         process.wait()
@@ -108,10 +117,10 @@ def measure(program, name, blocks, nets, nodes, most, is_timed):
             memory = max(0, run.memory - part.memory) / max(1, run.decided - part.decided)
             taken = (run.processor / run.decided, run.wall / run.decided, memory)
             least[way] = tuple(map(min, taken, least.get(way, taken)))
-        taken = four_at_once(ways["one"] + ["--nodes", str(nodes)]) / nodes
+        taken = four_at_once(ways["one"] + ["--nodes", str(nodes)]) / run.decided
         four = taken if four is None else min(four, taken)
     one = least["one"]
-    print("%s, %d decisions" % (name, nodes))
+    print("%s, %d decisions" % (name, run.decided))
     for way, (processor, wall, memory) in least.items():
         who = "one worker" if way == "one" else "team of " + way
         over = processor / one[0], memory / one[2] if one[2] else 1

@@ -2,10 +2,8 @@
 
 mod batch;
 mod bounds;
-mod by_bytes;
 mod checking;
 mod failing;
-mod faults;
 mod generating;
 mod limits;
 mod many;
@@ -170,6 +168,35 @@ fn has_line(text: &str, wanted: &str) -> bool {
     false
 }
 
+/// Whether a run printed what it was to print.
+fn is_printed(wanted: Printed, printed: &str) -> bool {
+    match wanted {
+        Printed::Whole(text) => printed == text,
+        Printed::Lines(lines) => {
+            for line in lines.lines() {
+                if !has_line(printed, line) {
+                    return false;
+                }
+            }
+            true
+        }
+    }
+}
+
+/// Whether the words of these texts over the shelf come to this status, and print this.
+fn comes_to(
+    rt: &(impl Threads + Sync),
+    alloc: Global,
+    shelf: &mut MemShelf,
+    texts: &[&str],
+    status: Status,
+    wanted: Printed,
+) -> Result<bool, Fail> {
+    let words = words_of(alloc, texts)?;
+    let (found, printed) = answer(rt, alloc, &words, shelf, 0)?;
+    Ok(found == status && is_printed(wanted, printed.as_str()))
+}
+
 /// What stands under this name.
 fn text_of<'a>(texts: &[(&str, &'a [u8])], wanted: &str) -> Option<&'a [u8]> {
     for (name, text) in texts {
@@ -180,52 +207,47 @@ fn text_of<'a>(texts: &[(&str, &'a [u8])], wanted: &str) -> Option<&'a [u8]> {
     None
 }
 
-/// A run printed what the row says.
-fn assert_printed(rt: &impl Abort, row: &Row, printed: &str) {
-    let (command, options) = (row.command, row.options);
-    match row.printed {
-        Printed::Whole(text) => assert_eq!(rt; printed, text, "{command} {options}"),
-        Printed::Lines(lines) => {
-            for line in lines.lines() {
-                assert!(rt;
-                    has_line(printed, line),
-                    "{command} {options}: {line} in {printed}"
-                );
-            }
-        }
-    }
-}
-
-/// The name holds what the row says of it.
-fn assert_held(rt: &impl Abort, row: &Row, name: &str, held: Option<&[u8]>) {
-    let (command, options) = (row.command, row.options);
+/// Whether the name holds what the row says of it.
+fn is_held(row: &Row, name: &str, held: Option<&[u8]>) -> bool {
     let stored = text_of(row.stored, name);
-    if matches!(row.printed, Printed::Whole(_)) || stored.is_some() {
-        assert!(rt;
-            held == stored.or(text_of(row.files, name)),
-            "{name} after {command} {options}"
-        );
-    }
+    let is_told = matches!(row.printed, Printed::Whole(_)) || stored.is_some();
+    !is_told || held == stored.or(text_of(row.files, name))
 }
 
-/// Runs the words over the row's files, with a failing call and a failing put where these numbers aren't 0.
-fn assert_words(
-    rt: &(impl Abort + Threads + Sync),
+/// What differs from the row where the words run over its files, with a failing call and a failing put where these
+/// numbers aren't 0: the status, what is printed, or what a name holds.
+fn difference(
+    rt: &(impl Threads + Sync),
     alloc: Global,
     row: &Row,
     words: &[String],
     failing_call: u64,
     failing_put: u64,
-) -> Result<(), Fail> {
-    let (command, options) = (row.command, row.options);
+) -> Result<Option<&'static str>, Fail> {
     let mut shelf = shelf_of(alloc, row.files, failing_call)?;
     let (status, printed) = answer(rt, alloc, words, &mut shelf, failing_put)?;
-    assert_eq!(rt; status, row.status, "{command} {options}");
-    assert_printed(rt, row, printed.as_str());
-    for name in NAMES {
-        assert_held(rt, row, name, shelf.bytes(name));
+    if status != row.status {
+        return Ok(Some("status"));
     }
-    Ok(())
+    if !is_printed(row.printed, printed.as_str()) {
+        return Ok(Some("printed"));
+    }
+    for name in NAMES {
+        if !is_held(row, name, shelf.bytes(name)) {
+            return Ok(Some(name));
+        }
+    }
+    Ok(None)
+}
+
+/// The same of the row's own words, where nothing fails.
+fn row_difference(
+    rt: &(impl Threads + Sync),
+    alloc: Global,
+    row: &Row,
+) -> Result<Option<&'static str>, Fail> {
+    let words = words_of(alloc, &[row.command, row.options])?;
+    difference(rt, alloc, row, &words, 0, 0)
 }
 
 /// Runs each row of these tables.
@@ -236,36 +258,44 @@ fn assert_rows(
 ) -> Result<(), Fail> {
     for rows in tables {
         for row in *rows {
-            let words = words_of(alloc, &[row.command, row.options])?;
-            assert_words(rt, alloc, row, &words, 0, 0)?;
+            let differs = row_difference(rt, alloc, row)?;
+            let (command, options) = (row.command, row.options);
+            assert!(rt; differs.is_none(), "{command} {options}: {differs:?}");
         }
     }
     Ok(())
 }
 
-/// Runs the words over files that are refused: the line is printed, and nothing is stored. So it is too where
-/// a store keeps a part and a put takes three bytes.
-fn assert_refused(
-    rt: &(impl Abort + Threads + Sync),
+/// Whether the words over files that are refused print this line, and store nothing, over a shelf whose stores keep a
+/// part and a sink that takes three bytes a put.
+fn is_refused_in_parts(
+    rt: &(impl Threads + Sync),
     alloc: Global,
     words: &[String],
     files: &[(&str, &[u8])],
     line: &str,
-) -> Result<(), Fail> {
-    let mut shelf = shelf_of(alloc, files, 0)?;
-    let (status, printed) = answer(rt, alloc, words, &mut shelf, 0)?;
-    assert_eq!(rt; status, Status::BadInput, "{line}");
-    assert_eq!(rt; printed.as_str(), line);
-    let mut parts = PartShelf::new(shelf, 0);
+) -> Result<bool, Fail> {
+    let mut parts = PartShelf::new(shelf_of(alloc, files, 0)?, 0);
     let mut out = PartSink::new(alloc, line.len());
     let status = run(rt, alloc, words, &mut parts, &mut out, &OpenGate);
-    assert_eq!(rt; status, Status::BadInput, "{line} in parts");
-    assert!(rt; out.bytes() == line.as_bytes(), "{line} in parts");
     for name in NAMES {
-        assert!(rt;
-            parts.bytes(name) == text_of(files, name),
-            "{name} after {line}"
-        );
+        if parts.bytes(name) != text_of(files, name) {
+            return Ok(false);
+        }
     }
-    Ok(())
+    Ok(status == Status::BadInput && out.bytes() == line.as_bytes())
+}
+
+/// Whether they do so there, and print this line over a shelf and a sink that take all.
+fn is_refused(
+    rt: &(impl Threads + Sync),
+    alloc: Global,
+    words: &[String],
+    files: &[(&str, &[u8])],
+    line: &str,
+) -> Result<bool, Fail> {
+    let mut shelf = shelf_of(alloc, files, 0)?;
+    let (status, printed) = answer(rt, alloc, words, &mut shelf, 0)?;
+    let is_told = status == Status::BadInput && printed.as_str() == line;
+    Ok(is_told && is_refused_in_parts(rt, alloc, words, files, line)?)
 }

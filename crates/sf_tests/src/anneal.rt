@@ -18,6 +18,7 @@ use sf_polish::{Expr, Token, is_normal, push_expr};
 use sf_soft_shapes::lists;
 use std::alloc::{AllocError, Global};
 use std::test::Fail;
+use std::thread::Threads;
 
 /// `0 1 * 2 +`
 const BOTH: [Token; 5] = [
@@ -66,29 +67,37 @@ fn stepped(tokens: [Token; 5], i: usize) -> Option<[Token; 5]> {
     Some(tokens)
 }
 
+/// `1 0 * 2 +`
+const EXCHANGED: [Token; 5] = [
+    Token::Block(1),
+    Token::Block(0),
+    Token::Beside,
+    Token::Block(2),
+    Token::Above,
+];
+
+/// `0 1 2 * +`
+const TOGETHER: [Token; 5] = [
+    Token::Block(0),
+    Token::Block(1),
+    Token::Block(2),
+    Token::Beside,
+    Token::Above,
+];
+
 /// Each of the three moves, and steps that would leave operators side by side or one with too few operands.
 #[test]
 fn moves_by_hand(rt: HostRuntime) {
-    let exchanged = [
-        Token::Block(1),
-        Token::Block(0),
-        Token::Beside,
-        Token::Block(2),
-        Token::Above,
-    ];
-    let together = [
-        Token::Block(0),
-        Token::Block(1),
-        Token::Block(2),
-        Token::Beside,
-        Token::Above,
-    ];
-    assert!(rt; swapped(BOTH, 0) == Some(exchanged));
-    assert!(rt; flipped(BOTH, 0) == Some(ONE));
-    assert!(rt; stepped(BOTH, 2) == Some(together));
-    assert!(rt; stepped(BOTH, 1).is_none());
-    assert!(rt; stepped(ONE, 2).is_none());
-    assert!(rt; stepped(together, 2) == Some(BOTH));
+    for (found, wanted) in [
+        (swapped(BOTH, 0), Some(EXCHANGED)),
+        (flipped(BOTH, 0), Some(ONE)),
+        (stepped(BOTH, 2), Some(TOGETHER)),
+        (stepped(BOTH, 1), None),
+        (stepped(ONE, 2), None),
+        (stepped(TOGETHER, 2), Some(BOTH)),
+    ] {
+        assert!(rt; found == wanted, "{wanted:?}");
+    }
 }
 
 /// The blocks that a text spells.
@@ -179,30 +188,66 @@ fn found_text(alloc: Global, found: &Option<(Expr, u64)>) -> Result<String, Allo
     Ok(text)
 }
 
+/// What one walk over four blocks with wires finds.
+fn one_walk(alloc: Global) -> Result<String, Fail> {
+    let design = generated(alloc, 7, 4, 1)?;
+    let found = one_start(alloc, &design, &mut Lcg64Xsh32::new(3, 2), 100)?;
+    Ok(found_text(alloc, &found)?)
+}
+
+/// What four walks over six blocks find, whose wires count as often as this.
+fn four_walks(rt: &(impl Threads + Sync), alloc: Global, wire: u16) -> Result<String, Fail> {
+    let design = generated(alloc, 2, 6, wire)?;
+    let found = starts(rt, alloc, &design, 0, 4, 300)?;
+    Ok(found_text(alloc, &found)?)
+}
+
 /// Walks that an independent program made in the same words: with wires, without, and the least of four.
 #[test]
 fn walks_of_another_program(rt: HostRuntime) -> Result<(), Fail> {
     let alloc = rt.alloc();
-    let wired = generated(alloc, 7, 4, 1)?;
-    let mut words = Lcg64Xsh32::new(3, 2);
-    let one = one_start(alloc, &wired, &mut words, 100)?;
-    assert_eq!(rt;
-        found_text(alloc, &one)?.as_str(),
-        "1549 1:12x8 2:5x5 * 0:22x28 + 3:7x30 *"
-    );
-    let flat = generated(alloc, 2, 6, 0)?;
-    let four = starts(&rt, alloc, &flat, 0, 4, 300)?;
-    assert_eq!(rt;
-        found_text(alloc, &four)?.as_str(),
-        "2436 4:32x20 0:32x7 + 1:10x5 3:19x19 + * 5:29x29 * 2:4x26 *"
-    );
-    let six = generated(alloc, 2, 6, 1)?;
-    let four = starts(&rt, alloc, &six, 0, 4, 300)?;
-    assert_eq!(rt;
-        found_text(alloc, &four)?.as_str(),
-        "3843 2:4x26 1:5x10 * 4:20x32 * 5:29x29 * 0:7x32 * 3:19x19 *"
-    );
+    assert!(rt; one_walk(alloc)?.as_str() == "1549 1:12x8 2:5x5 * 0:22x28 + 3:7x30 *");
+    let flat = "2436 4:32x20 0:32x7 + 1:10x5 3:19x19 + * 5:29x29 * 2:4x26 *";
+    assert!(rt; four_walks(&rt, alloc, 0)?.as_str() == flat);
+    let wired = "3843 2:4x26 1:5x10 * 4:20x32 * 5:29x29 * 0:7x32 * 3:19x19 *";
+    assert!(rt; four_walks(&rt, alloc, 1)?.as_str() == wired);
     Ok(())
+}
+
+/// What the walk with this seed finds, made better.
+fn improved(alloc: Global, seed: u64) -> Result<Option<(Expr, u64)>, Fail> {
+    let design = generated(alloc, 2, 6, 1)?;
+    match one_start(alloc, &design, &mut Lcg64Xsh32::new(seed, 2), 300)? {
+        Some(found) => Ok(Some(improve(alloc, &design, found, seed, 2000)?)),
+        None => Ok(None),
+    }
+}
+
+/// What it costs, or more than the walks where it finds nothing.
+fn improved_cost(alloc: Global, seed: u64) -> Result<u64, Fail> {
+    match improved(alloc, seed)? {
+        Some((_, cost)) => Ok(cost),
+        None => Ok(3843),
+    }
+}
+
+/// The first of four seeds whose walk costs the least once it is made better, if that is less than without.
+fn least_seed(alloc: Global) -> Result<Option<u64>, Fail> {
+    let mut least = (3843, None);
+    for seed in 0..4 {
+        let cost = improved_cost(alloc, seed)?;
+        if cost < least.0 {
+            least = (cost, Some(seed));
+        }
+    }
+    Ok(least.1)
+}
+
+/// What four walks in threads find, made better.
+fn improved_in_threads(rt: &(impl Threads + Sync), alloc: Global) -> Result<String, Fail> {
+    let design = generated(alloc, 2, 6, 1)?;
+    let found = improved_starts(rt, alloc, &design, 0, 4, 300, 2000)?;
+    Ok(found_text(alloc, &found)?)
 }
 
 /// An improvement costs less than the walk where there is something to be gained, and the answer of several
@@ -210,31 +255,8 @@ fn walks_of_another_program(rt: HostRuntime) -> Result<(), Fail> {
 #[test]
 fn improvements_in_threads(rt: HostRuntime) -> Result<(), Fail> {
     let alloc = rt.alloc();
-    let design = generated(alloc, 2, 6, 1)?;
-    let threads = improved_starts(&rt, alloc, &design, 0, 4, 300, 2000)?;
-    let mut least: Option<(Expr, u64)> = None;
-    for seed in 0..4 {
-        let mut words = Lcg64Xsh32::new(seed, 2);
-        let Some(found) = one_start(alloc, &design, &mut words, 300)? else {
-            continue;
-        };
-        let better = improve(alloc, &design, found, seed, 2000)?;
-        let is_least = match &least {
-            Some(before) => better.1 < before.1,
-            None => true,
-        };
-        if is_least {
-            least = Some(better);
-        }
-    }
-    assert_eq!(rt;
-        found_text(alloc, &threads)?.as_str(),
-        found_text(alloc, &least)?.as_str()
-    );
-    let less = match &threads {
-        Some((_, cost)) => *cost < 3843,
-        None => false,
-    };
-    assert!(rt; less);
+    let seed = least_seed(alloc)?.ok_or("no gain")?;
+    let wanted = found_text(alloc, &improved(alloc, seed)?)?;
+    assert!(rt; improved_in_threads(&rt, alloc)?.as_str() == wanted.as_str());
     Ok(())
 }

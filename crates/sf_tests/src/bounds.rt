@@ -10,10 +10,8 @@ use crate::designs::{
 use sf_bound::{Bounds, solve};
 use sf_bounds::{Room, Standard};
 use sf_model::{BlockList, Design, MAX, NetList, Outline, PadList, Pin, Weights};
-use sf_node::{Node, Part, PartValues};
+use sf_node::{Node, Part};
 use std::alloc::{AllocError, Global};
-use std::process::Abort;
-use std::test::Fail;
 
 /// The two halves of a subproblem by its first wide span.
 fn halves(design: &Design, node: &Node) -> Result<Option<(Node, Node)>, AllocError>
@@ -28,6 +26,18 @@ fn halves(design: &Design, node: &Node) -> Result<Option<(Node, Node)>, AllocErr
     Ok(Some(pair))
 }
 
+/// The values of two subproblems.
+fn values_of(design: &Design, room: &mut Room, pair: &(Node, Node)) -> Result<[u64; 2], AllocError>
+    requires first { IsSubproblem design.now pair.now.0 }
+    requires second { IsSubproblem design.now pair.now.1 }
+    requires serves { IsMemoryOf design.now room.old }
+    ensures serves { IsMemoryOf design.now room.new }
+{
+    let first = Standard.bound(design, &pair.0, room)?;
+    let second = Standard.bound(design, &pair.1, room)?;
+    Ok([first, second])
+}
+
 /// The values of the two halves of a subproblem, and of the halves of the second one.
 fn values_of_halves(
     design: &Design,
@@ -38,16 +48,14 @@ fn values_of_halves(
     requires serves { IsMemoryOf design.now room.old }
     ensures serves { IsMemoryOf design.now room.new }
 {
-    let Some((high, low)) = halves(design, whole)? else {
+    let Some(pair) = halves(design, whole)? else {
         return Ok(None);
     };
-    let first = Standard.bound(design, &high, room)?;
-    let second = Standard.bound(design, &low, room)?;
-    let Some((square, wide)) = halves(design, &low)? else {
+    let [first, second] = values_of(design, room, &pair)?;
+    let Some(pair) = halves(design, &pair.1)? else {
         return Ok(None);
     };
-    let third = Standard.bound(design, &square, room)?;
-    let fourth = Standard.bound(design, &wide, room)?;
+    let [third, fourth] = values_of(design, room, &pair)?;
     Ok(Some([first, second, third, fourth]))
 }
 
@@ -105,149 +113,116 @@ fn value_at(
     Standard.bound(design, &node, room)
 }
 
-/// Asserts that the subproblems over these places have these values, one after another in one room.
-pub fn assert_values(
-    rt: &impl Abort,
+/// Whether the subproblems over these places have these values, one after another in one room.
+pub fn have_values(
     alloc: Global,
     design: &Design,
     room: &mut Room,
     rows: &[(&[usize], u64)],
-) -> Result<(), Fail>
+) -> Result<bool, AllocError>
     requires serves { IsMemoryOf design.now room.old }
     ensures serves { IsMemoryOf design.now room.new }
 {
     for (places, value) in rows {
-        assert_eq!(rt;
-            value_at(alloc, design, room, places)?,
-            *value,
-            "{places:?}"
-        );
+        if value_at(alloc, design, room, places)? != *value {
+            return Ok(false);
+        }
     }
-    Ok(())
+    Ok(true)
 }
 
 /// Of one block of three shapes: the root, and the complete subproblem.
 const THREE_SHAPES: [(&[usize], u64); 2] = [(&[], 24), (&[0], 194)];
 
-/// The bound of these two before and after that of the halves.
-#[test]
-fn measures(rt: HostRuntime) -> Result<(), Fail> {
-    let alloc = rt.alloc();
+/// The values of the halves, if these two have theirs before.
+fn halves_of_three(alloc: Global) -> Result<Option<[u64; 4]>, AllocError> {
     let design = three_shapes(alloc)?;
     let mut room = Standard.room(alloc);
-    assert_values(&rt, alloc, &design, &mut room, &THREE_SHAPES)?;
+    if !have_values(alloc, &design, &mut room, &THREE_SHAPES)? {
+        return Ok(None);
+    }
     let whole = node_at(alloc, &design, &[0])?;
-    let of_halves = values_of_halves(&design, &mut room, &whole)?;
-    assert_eq!(rt; of_halves, Some([234, 194, 204, 196]));
-    assert_values(&rt, alloc, &design, &mut room, &THREE_SHAPES)
+    values_of_halves(&design, &mut room, &whole)
+}
+
+/// The bound of these two before that of the halves.
+#[test]
+fn measures(rt: HostRuntime) {
+    assert!(rt; halves_of_three(rt.alloc()) == Ok(Some([234, 194, 204, 196])));
+}
+
+/// Whether the subproblems of four squares with nets of these weights have these values.
+fn squares_have(
+    alloc: Global,
+    weights: [u8; 3],
+    rows: &[(&[usize], u64)],
+) -> Result<bool, AllocError> {
+    let design = four_squares(alloc, weights[0], weights[1], weights[2])?;
+    have_values(alloc, &design, &mut Standard.room(alloc), rows)
 }
 
 /// Nets of blocks in one item, in two, and with a pad.
 #[test]
-fn measures_items(rt: HostRuntime) -> Result<(), Fail> {
-    let alloc = rt.alloc();
-    let design = four_squares(alloc, 1, 1, 1)?;
-    let mut room = Standard.room(alloc);
-    assert_values(&rt, alloc, &design, &mut room, &ITEMS)
+fn measures_items(rt: HostRuntime) {
+    assert!(rt; squares_have(rt.alloc(), [1, 1, 1], &ITEMS) == Ok(true));
+}
+
+/// The value of `0 1 *` of two squares and a net of both with this weight.
+fn row_value(alloc: Global, weight: u8) -> Result<u64, AllocError> {
+    let design = two_squares(alloc, weight)?;
+    value_at(alloc, &design, &mut Standard.room(alloc), &[0, 0, 0])
 }
 
 /// A net counts as often as its weight says.
 #[test]
-fn measures_one_weight(rt: HostRuntime) -> Result<(), Fail> {
-    let alloc = rt.alloc();
+fn measures_one_weight(rt: HostRuntime) {
     for (weight, value) in [(1u8, 12u64), (3, 20), (0, 8)] {
-        let design = two_squares(alloc, weight)?;
-        let mut room = Standard.room(alloc);
-        // 0 1 *
-        let of_row = value_at(alloc, &design, &mut room, &[0, 0, 0])?;
-        assert_eq!(rt; of_row, value);
+        assert!(rt; row_value(rt.alloc(), weight) == Ok(value), "{weight}");
     }
-    Ok(())
 }
 
 /// So do several nets, in an incomplete subproblem and in a complete one.
 #[test]
-fn measures_weights(rt: HostRuntime) -> Result<(), Fail> {
-    let alloc = rt.alloc();
-    let design = four_squares(alloc, 0, 2, 3)?;
-    let mut room = Standard.room(alloc);
-    assert_values(&rt, alloc, &design, &mut room, &WEIGHTED)
+fn measures_weights(rt: HostRuntime) {
+    assert!(rt; squares_have(rt.alloc(), [0, 2, 3], &WEIGHTED) == Ok(true));
 }
 
-/// The value of one part among all that were measured at once.
-fn value_of(full: u64, parts: &PartValues, part: Part) -> u64 {
-    match part {
-        Part::Area => parts.area,
-        Part::Range => parts.range,
-        Part::Pair => parts.pair,
-        Part::Hull => parts.hull,
-        Part::Full => full,
-    }
-}
-
-/// Asserts that these are the values of the parts, asked for one by one and all at once.
-fn assert_parts(
-    rt: &impl Abort,
-    design: &Design,
-    node: &Node,
-    room: &mut Room,
-    rows: &[(Part, u64)],
-) -> Result<(), Fail>
+/// The area, the range, the pair, the hull and the full value, measured at once, and the hull by itself.
+fn values_of_parts(design: &Design, node: &Node, room: &mut Room) -> Result<[u64; 6], AllocError>
     requires node { IsSubproblem design.now node.now }
     requires serves { IsMemoryOf design.now room.old }
     ensures serves { IsMemoryOf design.now room.new }
 {
     let (full, parts) = Standard.all_values(design, node, room)?;
-    for (part, value) in rows {
-        let alone = Standard.part(design, node, *part, room)?;
-        assert_eq!(rt;
-            (alone, value_of(full, &parts, *part)),
-            (*value, *value),
-            "{part:?}"
-        );
-    }
-    Ok(())
+    let hull = Standard.part(design, node, Part::Hull, room)?;
+    Ok([parts.area, parts.range, parts.pair, parts.hull, full, hull])
 }
 
-/// The parts at the root of one block of three shapes.
-const OF_ROOT: [(Part, u64); 5] = [
-    (Part::Area, 4),
-    (Part::Range, 24),
-    (Part::Pair, 4),
-    (Part::Hull, 4),
-    (Part::Full, 24),
+/// Of one block of three shapes: the root, the complete subproblem, and that with the shape 1 by 4 alone.
+const PARTS: [[u64; 6]; 3] = [
+    [4, 24, 4, 4, 24, 4],
+    [4, 24, 4, 194, 194, 194],
+    [4, 44, 4, 234, 234, 234],
 ];
 
-/// The same at the complete subproblem.
-const OF_WHOLE: [(Part, u64); 5] = [
-    (Part::Area, 4),
-    (Part::Range, 24),
-    (Part::Pair, 4),
-    (Part::Hull, 194),
-    (Part::Full, 194),
-];
-
-/// The same with the shape 1 by 4 alone.
-const OF_HIGH: [(Part, u64); 5] = [
-    (Part::Area, 4),
-    (Part::Range, 44),
-    (Part::Pair, 4),
-    (Part::Hull, 234),
-    (Part::Full, 234),
-];
-
-/// The parts asked for one by one are those asked for together.
-#[test]
-fn measures_parts(rt: HostRuntime) -> Result<(), Fail> {
-    let alloc = rt.alloc();
+/// The parts of these three.
+fn parts_of_three(alloc: Global) -> Result<Option<[[u64; 6]; 3]>, AllocError> {
     let design = three_shapes(alloc)?;
     let mut room = Standard.room(alloc);
-    let start = node_at(alloc, &design, &[])?;
-    assert_parts(&rt, &design, &start, &mut room, &OF_ROOT)?;
-    let whole = node_at(alloc, &design, &[0])?;
-    assert_parts(&rt, &design, &whole, &mut room, &OF_WHOLE)?;
-    let (high, _low) = halves(&design, &whole)?.ok_or("no halves")?;
-    assert_parts(&rt, &design, &high, &mut room, &OF_HIGH)
+    let start = values_of_parts(&design, &Node::root(alloc, &design)?, &mut room)?;
+    let node = node_at(alloc, &design, &[0])?;
+    let whole = values_of_parts(&design, &node, &mut room)?;
+    let Some(pair) = halves(&design, &node)? else {
+        return Ok(None);
+    };
+    let high = values_of_parts(&design, &pair.0, &mut room)?;
+    Ok(Some([start, whole, high]))
+}
+
+/// Each part by itself, and one that is asked for alone.
+#[test]
+fn measures_parts(rt: HostRuntime) {
+    assert!(rt; parts_of_three(rt.alloc()) == Ok(Some(PARTS)));
 }
 
 /// A block of 2 by 3 or 3 by 2 in an outline of 2 by 2, with this wire weight.
@@ -268,27 +243,36 @@ fn has_solution(alloc: Global, design: &Design, node: &Node) -> Result<Option<bo
     Ok(Some(found.is_some()))
 }
 
-/// Where only areas count and no shape fits, the one complete subproblem has no solution.
-#[test]
-fn solves_no_areas(rt: HostRuntime) -> Result<(), Fail> {
-    let alloc = rt.alloc();
+/// Whether the one complete subproblem has a solution where only areas count, and its value.
+fn solved_by_area(alloc: Global) -> Result<(Option<bool>, u64), AllocError> {
     let design = too_large(alloc, 0)?;
     let whole = node_at(alloc, &design, &[0])?;
-    assert_eq!(rt; has_solution(alloc, &design, &whole)?, Some(false));
-    let mut room = Standard.room(alloc);
-    assert_eq!(rt; Standard.bound(&design, &whole, &mut room)?, MAX);
-    Ok(())
+    let solved = has_solution(alloc, &design, &whole)?;
+    let value = Standard.bound(&design, &whole, &mut Standard.room(alloc))?;
+    Ok((solved, value))
+}
+
+/// Where only areas count and no shape fits, the one complete subproblem has no solution.
+#[test]
+fn solves_no_areas(rt: HostRuntime) {
+    assert!(rt; solved_by_area(rt.alloc()) == Ok((Some(false), MAX)));
+}
+
+/// Whether the complete subproblem and its halves have a solution where wires count.
+fn solved_by_wire(alloc: Global) -> Result<Option<[Option<bool>; 3]>, AllocError> {
+    let design = too_large(alloc, 1)?;
+    let node = node_at(alloc, &design, &[0])?;
+    let whole = has_solution(alloc, &design, &node)?;
+    let Some(pair) = halves(&design, &node)? else {
+        return Ok(None);
+    };
+    let high = has_solution(alloc, &design, &pair.0)?;
+    let wide = has_solution(alloc, &design, &pair.1)?;
+    Ok(Some([whole, high, wide]))
 }
 
 /// Where wires count it is not solved, and neither shape by itself has a solution.
 #[test]
-fn solves_no_wires(rt: HostRuntime) -> Result<(), Fail> {
-    let alloc = rt.alloc();
-    let design = too_large(alloc, 1)?;
-    let whole = node_at(alloc, &design, &[0])?;
-    assert_eq!(rt; has_solution(alloc, &design, &whole)?, None);
-    let (high, wide) = halves(&design, &whole)?.ok_or("no halves")?;
-    assert_eq!(rt; has_solution(alloc, &design, &high)?, Some(false));
-    assert_eq!(rt; has_solution(alloc, &design, &wide)?, Some(false));
-    Ok(())
+fn solves_no_wires(rt: HostRuntime) {
+    assert!(rt; solved_by_wire(rt.alloc()) == Ok(Some([None, Some(false), Some(false)])));
 }

@@ -10,9 +10,7 @@ use sf_certificate::Tag;
 use sf_checker::{Answer, Checking, FinishFault, Why, check, name_parts};
 use sf_model::Design;
 use sf_node::Part;
-use std::alloc::Global;
-use std::process::Abort;
-use std::test::Fail;
+use std::alloc::{AllocError, Global};
 
 /// The answer to a text that comes byte by byte.
 fn byte_by_byte(alloc: Global, design: &Design, text: &[u8]) -> Result<Answer, FinishFault> {
@@ -67,33 +65,50 @@ const BY_PART: [(&[u8], Answer); 2] = [
     ),
 ];
 
-/// Asserts that each text has its answer, as a whole and byte by byte.
-fn assert_answers(
-    rt: &impl Abort,
-    alloc: Global,
-    design: &Design,
-    rows: &[(&[u8], Answer)],
-) -> Result<(), Fail>
+/// The answer to a text as a whole.
+fn answer_of(alloc: Global, design: &Design, text: &[u8]) -> Result<Answer, CertFault>
     requires { block_count design.now ≡ 2 }
 {
-    for (text, answer) in rows {
-        let cert = read(alloc, text, 2)?;
-        assert_eq!(rt; check(alloc, design, &Standard, &cert)?, *answer);
-        assert_eq!(rt; byte_by_byte(alloc, design, text), Ok(*answer));
+    let cert = read(alloc, text, 2)?;
+    Ok(check(alloc, design, &Standard, &cert)?)
+}
+
+/// Whether a text about two hard blocks has this answer, as a whole and byte by byte.
+fn is_answered_by_area(alloc: Global, text: &[u8], answer: Answer) -> Result<bool, AllocError> {
+    let design = two_blocks(alloc, WIDE)?;
+    Ok(
+        answer_of(alloc, &design, text) == Ok(answer)
+            && byte_by_byte(alloc, &design, text) == Ok(answer),
+    )
+}
+
+#[test]
+fn answers_the_first_failure(rt: HostRuntime) {
+    for (text, answer) in BY_AREA {
+        assert!(rt;
+            is_answered_by_area(rt.alloc(), text, answer) == Ok(true),
+            "{answer:?}"
+        );
     }
-    Ok(())
+}
+
+/// The same of a text about two squares.
+fn is_answered_by_part(alloc: Global, text: &[u8], answer: Answer) -> Result<bool, AllocError> {
+    let design = two_squares(alloc, 1)?;
+    Ok(
+        answer_of(alloc, &design, text) == Ok(answer)
+            && byte_by_byte(alloc, &design, text) == Ok(answer),
+    )
 }
 
 #[test]
-fn answers_the_first_failure(rt: HostRuntime) -> Result<(), Fail> {
-    let design = two_blocks(rt.alloc(), WIDE)?;
-    assert_answers(&rt, rt.alloc(), &design, &BY_AREA)
-}
-
-#[test]
-fn measures_the_part_that_is_named(rt: HostRuntime) -> Result<(), Fail> {
-    let design = two_squares(rt.alloc(), 1)?;
-    assert_answers(&rt, rt.alloc(), &design, &BY_PART)
+fn measures_the_part_that_is_named(rt: HostRuntime) {
+    for (text, answer) in BY_PART {
+        assert!(rt;
+            is_answered_by_part(rt.alloc(), text, answer) == Ok(true),
+            "{answer:?}"
+        );
+    }
 }
 
 /// Whether the text's certificate is valid and has these tags once it names the first parts.
@@ -113,11 +128,10 @@ fn is_named(
     }
 }
 
-#[test]
-fn names_the_first_parts(rt: HostRuntime) -> Result<(), Fail> {
-    let alloc = rt.alloc();
-    let squares = two_squares(alloc, 1)?;
-    let pairs = [
+/// Whether a text about two squares closes by the pairs.
+fn names_pairs(alloc: Global) -> Result<bool, CertFault> {
+    let design = two_squares(alloc, 1)?;
+    let tags = [
         Tag::Extend,
         Tag::Extend,
         Tag::Extend,
@@ -127,9 +141,13 @@ fn names_the_first_parts(rt: HostRuntime) -> Result<(), Fail> {
     ];
     let text =
         b"slicing-certificate 1\nblocks 2\ncost 12\nbound 12\nplan 0:2x2 1:2x2 *\ntree\nE E E C C C\n";
-    assert!(rt; is_named(alloc, &squares, 2, text, &pairs)?);
-    let shapes = three_shapes(alloc)?;
-    let hulls = [
+    is_named(alloc, &design, 2, text, &tags)
+}
+
+/// Whether a text about a block of three shapes closes by the hulls.
+fn names_hulls(alloc: Global) -> Result<bool, CertFault> {
+    let design = three_shapes(alloc)?;
+    let tags = [
         Tag::Extend,
         Tag::Split(0),
         Tag::Closed(Part::Hull),
@@ -139,8 +157,13 @@ fn names_the_first_parts(rt: HostRuntime) -> Result<(), Fail> {
     ];
     let text =
         b"slicing-certificate 1\nblocks 1\ncost 196\nbound 196\nplan 0:3x2\ntree\nE S 0 C S 0 C C\n";
-    assert!(rt; is_named(alloc, &shapes, 1, text, &hulls)?);
-    Ok(())
+    is_named(alloc, &design, 1, text, &tags)
+}
+
+#[test]
+fn names_the_first_parts(rt: HostRuntime) {
+    assert!(rt; names_pairs(rt.alloc()) == Ok(true));
+    assert!(rt; names_hulls(rt.alloc()) == Ok(true));
 }
 
 /// Texts, each with the first of its faults.
@@ -167,15 +190,18 @@ const FAULTS: [(&[u8], CertFault); 5] = [
     ),
 ];
 
-#[test]
-fn tells_the_first_fault_of_a_text(rt: HostRuntime) -> Result<(), Fail> {
-    let alloc = rt.alloc();
+/// The answer to a text about two hard blocks that comes byte by byte.
+fn answer_to(alloc: Global, text: &[u8]) -> Result<Answer, FinishFault> {
     let design = two_blocks(alloc, WIDE)?;
+    byte_by_byte(alloc, &design, text)
+}
+
+#[test]
+fn tells_the_first_fault_of_a_text(rt: HostRuntime) {
     for (text, fault) in FAULTS {
-        assert_eq!(rt;
-            byte_by_byte(alloc, &design, text),
-            Err(FinishFault::Text(fault))
+        assert!(rt;
+            answer_to(rt.alloc(), text) == Err(FinishFault::Text(fault)),
+            "{fault:?}"
         );
     }
-    Ok(())
 }

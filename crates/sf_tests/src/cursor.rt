@@ -7,9 +7,8 @@ use sf_certificate::Tag;
 use sf_cursor::Cursor;
 use sf_model::Design;
 use sf_node::Step::{Above, Beside, Block as Named, Left, Right};
-use sf_node::{Node, Part};
+use sf_node::{Node, Part, Step};
 use std::alloc::{AllocError, Global};
-use std::test::Fail;
 
 /// A block 2x3 or 3x2 and a block 2x2.
 fn two_blocks(alloc: Global) -> Result<Design, AllocError> {
@@ -31,44 +30,45 @@ fn tag_of(node: &Node) -> Tag
     }
 }
 
-/// The cursor comes to each subproblem once, in preorder.
-#[test]
-fn walks_in_preorder(rt: HostRuntime) -> Result<(), Fail> {
-    let alloc = rt.alloc();
+/// The steps of each subproblem in turn, and the span of the first block.
+const ROWS: [(&[Step], (u16, u16)); 17] = [
+    (&[], (0, 2)),
+    (&[Named(0)], (0, 2)),
+    (&[Named(0), Named(1)], (0, 2)),
+    (&[Named(0), Named(1), Beside], (0, 2)),
+    (&[Named(0), Named(1), Beside, Left(0)], (0, 1)),
+    (&[Named(0), Named(1), Beside, Right(0)], (1, 2)),
+    (&[Named(0), Named(1), Above], (0, 2)),
+    (&[Named(0), Named(1), Above, Left(0)], (0, 1)),
+    (&[Named(0), Named(1), Above, Right(0)], (1, 2)),
+    (&[Named(1)], (0, 2)),
+    (&[Named(1), Named(0)], (0, 2)),
+    (&[Named(1), Named(0), Beside], (0, 2)),
+    (&[Named(1), Named(0), Beside, Left(0)], (0, 1)),
+    (&[Named(1), Named(0), Beside, Right(0)], (1, 2)),
+    (&[Named(1), Named(0), Above], (0, 2)),
+    (&[Named(1), Named(0), Above, Left(0)], (0, 1)),
+    (&[Named(1), Named(0), Above, Right(0)], (1, 2)),
+];
+
+/// Whether the cursor comes to these subproblems, and to no more.
+fn walks_so(alloc: Global) -> Result<bool, AllocError> {
     let design = two_blocks(alloc)?;
     let mut cursor = Cursor::new(alloc, &design, &Seven)?;
-    // The steps of each subproblem in turn, and the span of the first block.
-    let rows = [
-        ([].as_slice(), (0, 2)),
-        ([Named(0)].as_slice(), (0, 2)),
-        ([Named(0), Named(1)].as_slice(), (0, 2)),
-        ([Named(0), Named(1), Beside].as_slice(), (0, 2)),
-        ([Named(0), Named(1), Beside, Left(0)].as_slice(), (0, 1)),
-        ([Named(0), Named(1), Beside, Right(0)].as_slice(), (1, 2)),
-        ([Named(0), Named(1), Above].as_slice(), (0, 2)),
-        ([Named(0), Named(1), Above, Left(0)].as_slice(), (0, 1)),
-        ([Named(0), Named(1), Above, Right(0)].as_slice(), (1, 2)),
-        ([Named(1)].as_slice(), (0, 2)),
-        ([Named(1), Named(0)].as_slice(), (0, 2)),
-        ([Named(1), Named(0), Beside].as_slice(), (0, 2)),
-        ([Named(1), Named(0), Beside, Left(0)].as_slice(), (0, 1)),
-        ([Named(1), Named(0), Beside, Right(0)].as_slice(), (1, 2)),
-        ([Named(1), Named(0), Above].as_slice(), (0, 2)),
-        ([Named(1), Named(0), Above, Left(0)].as_slice(), (0, 1)),
-        ([Named(1), Named(0), Above, Right(0)].as_slice(), (1, 2)),
-    ];
     let mut more = true;
-    for (steps, span) in rows {
-        assert!(rt; more);
-        assert_eq!(rt; cursor.node().steps(), steps);
-        assert_eq!(rt;
-            cursor.node().spans(),
-            [span, (0, 1)].as_slice(),
-            "{steps:?}"
-        );
-        let tag = tag_of(cursor.node());
+    for (steps, span) in ROWS {
+        let node = cursor.node();
+        if !more || node.steps() != steps || node.spans() != [span, (0, 1)].as_slice() {
+            return Ok(false);
+        }
+        let tag = tag_of(node);
         more = cursor.follow(&design, &Seven, tag, Some(7))?;
     }
-    assert!(rt; !more);
-    Ok(())
+    Ok(!more)
+}
+
+/// The cursor comes to each subproblem once, in preorder.
+#[test]
+fn walks_in_preorder(rt: HostRuntime) {
+    assert!(rt; walks_so(rt.alloc()) == Ok(true));
 }

@@ -3,12 +3,11 @@
 ghost use Rattle.std.specs.Prelude.{IfOk};
 ghost use Rattle.sf_curves.specs.Choices.{AreSpans};
 
-use crate::designs::{FLAT, NARROW, WIDE, bare, block_of, three_shapes};
+use crate::designs::{FLAT, NARROW, SQUARE, WIDE, bare, block_of, three_shapes};
 use sf_curves::{Curve, Point, root_curve, trace};
 use sf_model::{Design, Outline, Shape};
-use sf_polish::{Expr, Token, is_normal};
+use sf_polish::{Token, is_normal};
 use std::alloc::{AllocError, Global};
-use std::test::Fail;
 
 /// Two hard blocks of 2 by 3, which may be turned.
 fn two_turned(alloc: Global) -> Result<Design, AllocError> {
@@ -28,37 +27,43 @@ fn whole_spans(alloc: Global, design: &Design) -> Result<Vec<(u16, u16)>, AllocE
     Ok(spans)
 }
 
-/// The curve of an expression whose blocks may take any of their shapes; none where it isn't normal.
-fn whole_curve(
+/// Whether an expression whose blocks may take any of their shapes has the curve of these points, of which the first
+/// one is that of least area, and the narrowest plan that is no higher than this has these shapes.
+fn is_curve(
     alloc: Global,
     design: &Design,
     tokens: &[Token],
-) -> Result<Option<Curve>, AllocError> {
-    let spans = whole_spans(alloc, design)?;
-    if !is_normal(tokens, design.blocks.as_slice().len() as u16) {
-        return Ok(None);
-    }
-    let curve = root_curve(alloc, design, tokens, &spans)?;
-    Ok(Some(curve))
-}
-
-/// The expression of the narrowest point that is no higher than this.
-fn traced(
-    alloc: Global,
-    design: &Design,
-    tokens: &[Token],
+    points: &[Point],
     height: u32,
-) -> Result<Option<Expr>, AllocError> {
+    shapes: &[Shape],
+) -> Result<bool, AllocError> {
     let spans = whole_spans(alloc, design)?;
     if !is_normal(tokens, design.blocks.as_slice().len() as u16) {
-        return Ok(None);
+        return Ok(false);
     }
     let curve = root_curve(alloc, design, tokens, &spans)?;
     let Some(point) = curve.narrowest(height) else {
-        return Ok(None);
+        return Ok(false);
     };
     let expr = trace(alloc, design, tokens, &spans, point)?;
-    Ok(Some(expr))
+    Ok(
+        curve.points() == points
+            && curve.least_area() == points.first().copied()
+            && expr.shapes.as_slice() == shapes,
+    )
+}
+
+/// The same of two blocks that are joined by this operator.
+fn is_joined(
+    alloc: Global,
+    operator: Token,
+    points: &[Point],
+    height: u32,
+    shape: Shape,
+) -> Result<bool, AllocError> {
+    let design = two_turned(alloc)?;
+    let tokens = [Token::Block(0), Token::Block(1), operator];
+    is_curve(alloc, &design, &tokens, points, height, &[shape, shape])
 }
 
 /// The operator of two blocks, the points of their curve, the height of a room, and the shape of either block
@@ -80,86 +85,83 @@ const JOINED: [(Token, [Point; 2], u32, Shape); 2] = [
 
 /// Both points of either curve have the area 12, so the first is the one of least area.
 #[test]
-fn two_blocks_are_joined(rt: HostRuntime) -> Result<(), Fail> {
-    let alloc = rt.alloc();
-    let design = two_turned(alloc)?;
+fn two_blocks_are_joined(rt: HostRuntime) {
     for (operator, points, height, shape) in JOINED {
-        let tokens = [Token::Block(0), Token::Block(1), operator];
-        let curve = whole_curve(alloc, &design, &tokens)?.ok_or("not normal")?;
-        assert!(rt; curve.points() == points.as_slice(), "{operator:?}");
-        assert!(rt; curve.least_area() == Some(points[0]), "{operator:?}");
-        let expr = traced(alloc, &design, &tokens, height)?.ok_or("no point")?;
-        assert!(rt; expr.tokens.as_slice() == tokens.as_slice(), "{operator:?}");
         assert!(rt;
-            expr.shapes.as_slice() == [shape, shape].as_slice(),
-            "{operator:?}"
+            is_joined(rt.alloc(), operator, &points, height, shape) == Ok(true),
+            "{height}"
         );
     }
-    Ok(())
+}
+
+/// The same of one block of three shapes, of which the narrowest that is no higher than 2 is a square.
+fn is_one(alloc: Global) -> Result<bool, AllocError> {
+    let design = three_shapes(alloc)?;
+    let points = [Point { w: 1, h: 4 }, Point { w: 2, h: 2 }];
+    is_curve(alloc, &design, &[Token::Block(0)], &points, 2, &[SQUARE])
 }
 
 #[test]
-fn one_block(rt: HostRuntime) -> Result<(), Fail> {
-    let alloc = rt.alloc();
-    let design = three_shapes(alloc)?;
-    let tokens = [Token::Block(0)];
-    let curve = whole_curve(alloc, &design, &tokens)?.ok_or("not normal")?;
-    assert!(rt; curve.points() == [Point { w: 1, h: 4 }, Point { w: 2, h: 2 }].as_slice());
-    assert!(rt; curve.least_area() == Some(Point { w: 1, h: 4 }));
-    let expr = traced(alloc, &design, &tokens, 2)?.ok_or("no point")?;
-    assert!(rt; expr.shapes.as_slice() == [Shape { w: 2, h: 2 }].as_slice());
-    Ok(())
+fn one_block(rt: HostRuntime) {
+    assert!(rt; is_one(rt.alloc()) == Ok(true));
 }
 
 /// Shapes in no order. Of those with a width of 4 one is higher than the other, 5 by 5 is larger than 4 by
 /// 5, 2 by 7 comes twice, and 1 by 12 is higher than the outline.
-#[test]
-fn shapes_in_no_order(rt: HostRuntime) -> Result<(), Fail> {
-    let alloc = rt.alloc();
-    let shapes = [
-        Shape { w: 6, h: 2 },
-        Shape { w: 4, h: 6 },
-        Shape { w: 1, h: 12 },
-        Shape { w: 5, h: 5 },
-        Shape { w: 2, h: 7 },
-        Shape { w: 4, h: 5 },
-        Shape { w: 2, h: 7 },
-    ];
+const SHAPES: [Shape; 7] = [
+    Shape { w: 6, h: 2 },
+    Shape { w: 4, h: 6 },
+    Shape { w: 1, h: 12 },
+    Shape { w: 5, h: 5 },
+    Shape { w: 2, h: 7 },
+    Shape { w: 4, h: 5 },
+    Shape { w: 2, h: 7 },
+];
+
+/// Whether all of them have these points in an outline of 10 by 10.
+fn all_have(alloc: Global, points: &[Point]) -> Result<bool, AllocError> {
     let outline = Outline { w: 10, h: 10 };
-    let all = Curve::of_shapes(alloc, shapes.as_slice(), 0, 7, outline)?;
+    let curve = Curve::of_shapes(alloc, SHAPES.as_slice(), 0, 7, outline)?;
+    Ok(curve.points() == points)
+}
+
+/// Whether the second to the fourth have these points.
+fn some_have(alloc: Global, points: &[Point]) -> Result<bool, AllocError> {
+    let curve = Curve::of_shapes(alloc, SHAPES.as_slice(), 1, 4, WIDE)?;
+    Ok(curve.points() == points)
+}
+
+#[test]
+fn shapes_in_no_order(rt: HostRuntime) {
     let points = [
         Point { w: 2, h: 7 },
         Point { w: 4, h: 5 },
         Point { w: 6, h: 2 },
     ];
-    assert!(rt; all.points() == points.as_slice());
-    let some = Curve::of_shapes(alloc, shapes.as_slice(), 1, 4, WIDE)?;
+    assert!(rt; all_have(rt.alloc(), &points) == Ok(true));
     let points = [
         Point { w: 1, h: 12 },
         Point { w: 4, h: 6 },
         Point { w: 5, h: 5 },
     ];
-    assert!(rt; some.points() == points.as_slice());
-    Ok(())
+    assert!(rt; some_have(rt.alloc(), &points) == Ok(true));
+}
+
+/// Whether 1 by 4 or 4 by 1 above 2 by 3 or 3 by 2 has these points in this outline.
+fn above_has(alloc: Global, outline: Outline, points: &[Point]) -> Result<bool, AllocError> {
+    let lower = Curve::of_shapes(alloc, &[NARROW, FLAT], 0, 2, WIDE)?;
+    let shapes = [Shape { w: 1, h: 4 }, Shape { w: 4, h: 1 }];
+    let upper = Curve::of_shapes(alloc, &shapes, 0, 2, WIDE)?;
+    Ok(lower.above(alloc, &upper, outline)?.points() == points)
 }
 
 #[test]
-fn two_above(rt: HostRuntime) -> Result<(), Fail> {
-    let alloc = rt.alloc();
-    let shapes = [NARROW, FLAT];
-    let lower = Curve::of_shapes(alloc, shapes.as_slice(), 0, 2, WIDE)?;
-    let shapes = [Shape { w: 1, h: 4 }, Shape { w: 4, h: 1 }];
-    let upper = Curve::of_shapes(alloc, shapes.as_slice(), 0, 2, WIDE)?;
-    let curve = lower.above(alloc, &upper, WIDE)?;
+fn two_above(rt: HostRuntime) {
     let points = [
         Point { w: 2, h: 7 },
         Point { w: 3, h: 6 },
         Point { w: 4, h: 3 },
     ];
-    assert!(rt; curve.points() == points.as_slice());
-    let low = Outline { w: 100, h: 6 };
-    let curve = lower.above(alloc, &upper, low)?;
-    let points = [Point { w: 3, h: 6 }, Point { w: 4, h: 3 }];
-    assert!(rt; curve.points() == points.as_slice());
-    Ok(())
+    assert!(rt; above_has(rt.alloc(), WIDE, &points) == Ok(true));
+    assert!(rt; above_has(rt.alloc(), Outline { w: 100, h: 6 }, &points[1..]) == Ok(true));
 }

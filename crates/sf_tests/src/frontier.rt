@@ -6,7 +6,6 @@ use sf_cursor::{Cursor, Stretch};
 use sf_frontier::{Owner, Place, Served, finish, team};
 use sf_model::{Design, Shape};
 use std::alloc::{AllocError, Global};
-use std::test::Fail;
 
 struct AnyStretch;
 
@@ -29,7 +28,10 @@ fn stretch(alloc: Global, design: &Design, floor: usize) -> Result<Stretch, Allo
 
 /// The floor of a stretch that there may be.
 fn floor_of(stretch: Option<Stretch>) -> Option<usize> {
-    stretch.map(|stretch| stretch.floor)
+    match stretch {
+        Some(stretch) => Some(stretch.floor),
+        None => None,
+    }
 }
 
 /// The floor of what the first thief takes.
@@ -38,38 +40,64 @@ fn stolen(place: &mut Place<AnyStretch>) -> Option<usize> {
     floor_of(thief.take())
 }
 
-#[test]
-fn a_thousand_puts_succeed(rt: HostRuntime) -> Result<(), Fail> {
-    let alloc = rt.alloc();
+/// Whether a thousand stretches are put.
+fn thousand_are_put(alloc: Global) -> Result<bool, AllocError> {
     let design = one_block(alloc)?;
     let mut owner = Owner::<AnyStretch>::alone(alloc, 2)?;
     for floor in 0..1000 {
-        let one = stretch(alloc, &design, floor)?;
-        assert!(rt; owner.put(one).is_ok());
+        if owner.put(stretch(alloc, &design, floor)?).is_err() {
+            return Ok(false);
+        }
     }
-    Ok(())
+    Ok(true)
 }
 
 #[test]
-fn the_thief_takes_the_first_and_the_owner_the_last(rt: HostRuntime) -> Result<(), Fail> {
-    let alloc = rt.alloc();
+fn a_thousand_puts_succeed(rt: HostRuntime) {
+    assert!(rt; thousand_are_put(rt.alloc()) == Ok(true));
+}
+
+/// Whether the owner of a place puts three stretches.
+fn three_are_put(
+    alloc: Global,
+    design: &Design,
+    place: &mut Place<AnyStretch>,
+) -> Result<bool, AllocError> {
+    for floor in 0..3 {
+        if place.owner.put(stretch(alloc, design, floor)?).is_err() {
+            return Ok(false);
+        }
+    }
+    Ok(true)
+}
+
+/// The first of two places puts three stretches. The floors of what the second owner takes, of what the first one's
+/// thief takes, of what the second one's does, and of what the first owner takes then.
+fn floors_taken(alloc: Global) -> Result<Option<[Option<usize>; 4]>, AllocError> {
     let design = one_block(alloc)?;
     let mut places = team::<AnyStretch>(alloc, 2)?;
-    for floor in 0..3 {
-        let one = stretch(alloc, &design, floor)?;
-        assert!(rt; places[0].owner.put(one).is_ok());
+    if !three_are_put(alloc, &design, &mut places[0])? {
+        return Ok(None);
     }
-    assert_eq!(rt; floor_of(places[1].owner.take()), None);
-    assert_eq!(rt; stolen(&mut places[0]), None);
-    assert_eq!(rt; stolen(&mut places[1]), Some(0));
-    assert_eq!(rt; floor_of(places[0].owner.take()), Some(2));
-    Ok(())
+    let other = floor_of(places[1].owner.take());
+    let own = stolen(&mut places[0]);
+    let first = stolen(&mut places[1]);
+    let last = floor_of(places[0].owner.take());
+    Ok(Some([other, own, first, last]))
 }
 
 #[test]
-fn nothing_is_left_of_a_new_team(rt: HostRuntime) -> Result<(), Fail> {
-    let alloc = rt.alloc();
+fn the_thief_takes_the_first_and_the_owner_the_last(rt: HostRuntime) {
+    assert!(rt; floors_taken(rt.alloc()) == Ok(Some([None, None, Some(0), Some(2)])));
+}
+
+/// How many stretches are left of a team of three.
+fn left_of_three(alloc: Global) -> Result<usize, AllocError> {
     let places = team::<AnyStretch>(alloc, 3)?;
-    assert_eq!(rt; finish(alloc, places)?.left.as_slice().len(), 0);
-    Ok(())
+    Ok(finish(alloc, places)?.left.as_slice().len())
+}
+
+#[test]
+fn nothing_is_left_of_a_new_team(rt: HostRuntime) {
+    assert!(rt; left_of_three(rt.alloc()) == Ok(0));
 }

@@ -28,29 +28,33 @@ const WHOLES: [(&[u8], bool, u64, Option<u64>); 6] = [
     (b"01", true, 9, None),
 ];
 
+/// The whole number that a word is, plain or with zeros in front.
+fn whole(word: &[u8], plain: bool, limit: u64) -> Option<u64> {
+    if plain {
+        read_plain(word, limit)
+    } else {
+        read_whole(word, limit)
+    }
+}
+
 /// Decimals, areas, coordinates and whole numbers.
 #[test]
 fn numbers(rt: HostRuntime) {
     for (word, scale, read) in DECIMALS {
-        assert_eq!(rt; read_decimal(word, scale, LIMIT), read);
+        assert!(rt; read_decimal(word, scale, LIMIT) == read, "{read:?}");
     }
     for (word, plain, limit, read) in WHOLES {
-        let found = if plain {
-            read_plain(word, limit)
-        } else {
-            read_whole(word, limit)
-        };
-        assert_eq!(rt; found, read);
+        assert!(rt; whole(word, plain, limit) == read, "{read:?}");
     }
-    assert_eq!(rt; read_area(b"2.3", 1, LIMIT), Ok(3));
-    assert_eq!(rt; read_signed(b"-1.5", 10, LIMIT), Ok(-15));
+    assert!(rt; read_area(b"2.3", 1, LIMIT) == Ok(3));
+    assert!(rt; read_signed(b"-1.5", 10, LIMIT) == Ok(-15));
 }
 
-/// A word or a line, with the place and the number of the line at which it begins.
-fn told(word: Option<Word<'_>>) -> Option<(&[u8], usize, u64)> {
+/// Whether a word or a line is this text, at this place, and begins in the line of this number.
+fn is_at(word: Option<Word<'_>>, text: &[u8], from: usize, line: u64) -> bool {
     match word {
-        None => None,
-        Some(Word { text, from, line }) => Some((text, from, line)),
+        Some(word) => word.text == text && word.from == from && word.line == line,
+        None => false,
     }
 }
 
@@ -58,21 +62,12 @@ fn told(word: Option<Word<'_>>) -> Option<(&[u8], usize, u64)> {
 #[test]
 fn words_and_lines(rt: HostRuntime) {
     let text = b"ab c\r\n\n\td\n \n";
-    assert_eq!(rt; (last_line(text), last_line(b" \n")), (3, 0));
     let mut scan = Scan::new(text);
-    let found = [
-        told(scan.next_word()),
-        told(scan.next_line()),
-        told(scan.next_word()),
-        told(scan.next_word()),
-    ];
-    let wanted = [
-        Some((b"ab".as_slice(), 0, 1)),
-        Some((b" c\r".as_slice(), 2, 1)),
-        Some((b"d".as_slice(), 8, 3)),
-        None,
-    ];
-    assert_eq!(rt; found.as_slice(), wanted.as_slice());
-    assert_eq!(rt; count_fields(b"(1, 2)=(3", Gap::Sizes), 3);
-    assert_eq!(rt; split_word(b" a:b", Gap::Colons).0, b"a".as_slice());
+    assert!(rt; is_at(scan.next_word(), b"ab", 0, 1));
+    assert!(rt; is_at(scan.next_line(), b" c\r", 2, 1));
+    assert!(rt; is_at(scan.next_word(), b"d", 8, 3));
+    assert!(rt; scan.next_word().is_none());
+    assert!(rt; last_line(text) == 3 && last_line(b" \n") == 0);
+    assert!(rt; count_fields(b"(1, 2)=(3", Gap::Sizes) == 3);
+    assert!(rt; split_word(b" a:b", Gap::Colons).0 == b"a".as_slice());
 }

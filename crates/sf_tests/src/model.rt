@@ -1,6 +1,6 @@
 //! Admission of small parts, and their design.
 
-ghost use Rattle.std.specs.Prelude.{◌≡◌, ◌<◌, length, vec_len, All, IfOk};
+ghost use Rattle.std.specs.Prelude.{◌≡◌, length, vec_len, All, IfOk};
 ghost use Rattle.sf_model.specs.Admitted.{IsAdmitted, HasPinsInRange};
 ghost use Rattle.sf_model.specs.Limits.{IsShapeChoice};
 
@@ -9,14 +9,13 @@ use sf_model::{
     RawNet, RawNetList, RawPad, RawPadList, RawPin, RawPins, Shape, Shapes, Weights,
 };
 use std::alloc::{AllocError, Global};
-use std::test::Fail;
 
-/// Squares of these names.
-fn squares(alloc: Global, names: &[Name], side: u64) -> Result<RawBlockList, AllocError> {
+/// Squares that have these letters as names.
+fn squares(alloc: Global, letters: &[u8], side: u64) -> Result<RawBlockList, AllocError> {
     let mut blocks = Vec::new(alloc);
-    for name in names {
+    for letter in letters {
         blocks.push(RawBlock {
-            name: Name::new(alloc, name.as_bytes())?,
+            name: Name::new(alloc, &[*letter])?,
             kind: Kind::Hard { w: side, h: side },
         })?;
     }
@@ -35,43 +34,42 @@ fn number_of(fault: &BuildFault) -> u8 {
     }
 }
 
+/// The number of the fault of squares of these names, or 0 where they are admitted.
+fn number_of_squares(alloc: Global, letters: &[u8], side: u64) -> Result<u8, AllocError> {
+    let parts = Parts {
+        blocks: squares(alloc, letters, side)?,
+        pads: RawPadList::from_vec(Vec::new(alloc)),
+        nets: RawNetList::from_vec(Vec::new(alloc)),
+        strangers: NameList::from_vec(Vec::new(alloc)),
+        pads_in: true,
+    };
+    Ok(match parts.admit(alloc) {
+        Ok(()) => 0,
+        Err(fault) => number_of(&fault),
+    })
+}
+
+/// The names of squares, their side, and the number of their fault.
+const SQUARES: [(&[u8], u64, u8); 4] = [
+    (b"ab", 3, 0),
+    (b"baab", 3, 1),
+    (b"baab", 1_048_577, 2),
+    (b"", 3, 3),
+];
+
 /// Parts are admitted, or refused with their first fault.
 #[test]
-fn admits(rt: HostRuntime) -> Result<(), Fail> {
-    let alloc = rt.alloc();
-    let names = vec![in alloc; Name::new(alloc, b"a")?, Name::new(alloc, b"b")?]?;
-    let twice = vec![in alloc;
-        Name::new(alloc, b"b")?,
-        Name::new(alloc, b"a")?,
-        Name::new(alloc, b"a")?,
-        Name::new(alloc, b"b")?,
-    ]?;
-    let none = vec![in alloc]?;
-    for (number, side, list) in [
-        (0u8, 3, &names),
-        (1, 3, &twice),
-        (2, 1_048_577, &twice),
-        (3, 3, &none),
-    ] {
-        let parts = Parts {
-            blocks: squares(alloc, list, side)?,
-            pads: RawPadList::from_vec(Vec::new(alloc)),
-            nets: RawNetList::from_vec(Vec::new(alloc)),
-            strangers: NameList::from_vec(Vec::new(alloc)),
-            pads_in: true,
-        };
-        let found = match parts.admit(alloc) {
-            Ok(()) => 0,
-            Err(fault) => number_of(&fault),
-        };
-        assert_eq!(rt; found, number);
+fn admits(rt: HostRuntime) {
+    for (letters, side, number) in SQUARES {
+        assert!(rt;
+            number_of_squares(rt.alloc(), letters, side) == Ok(number),
+            "{number}"
+        );
     }
-    Ok(())
 }
 
 /// A block a, a pad p without a place and a pad q with one, and a net of a pin of this name and of a twice.
-fn one_block(alloc: Global, name: &[u8]) -> Result<Parts, AllocError>
-    requires { 0 < length name.now }
+fn one_block(alloc: Global, letter: u8) -> Result<Parts, AllocError>
     ensures pins { IfOk result (λ parts. HasPinsInRange parts) }
     ensures one { IfOk result (λ parts. length parts.blocks ≡ 1) }
     ensures one_net { IfOk result (λ parts. length parts.nets ≡ 1) }
@@ -89,7 +87,7 @@ fn one_block(alloc: Global, name: &[u8]) -> Result<Parts, AllocError>
         place: Some((5, -2)),
     };
     let pins = vec![in alloc;
-        RawPin::Named(Name::new(alloc, name)?),
+        RawPin::Named(Name::new(alloc, &[letter])?),
         RawPin::Named(Name::new(alloc, b"a")?),
         RawPin::Named(Name::new(alloc, b"a")?),
     ]?;
@@ -114,6 +112,23 @@ fn one_list(alloc: Global) -> Result<Vec<Shapes>, AllocError>
     Ok(vec![in alloc; shapes]?)
 }
 
+/// Whether the design is the one that is wanted.
+fn is_wanted(design: &Design) -> bool {
+    match (
+        design.blocks.as_slice(),
+        design.pads.as_slice(),
+        design.nets.as_slice(),
+    ) {
+        ([_], [pad], [net]) => {
+            pad.x == 5
+                && pad.y == -2
+                && net.weight == 200
+                && matches!(net.pins.as_slice(), [Pin::Block(0), Pin::Pad(0)])
+        }
+        _ => false,
+    }
+}
+
 /// 0 where the design is the one that is wanted.
 fn built(alloc: Global, parts: Parts) -> Result<u8, BuildFault>
     requires admitted { IsAdmitted parts }
@@ -123,48 +138,27 @@ fn built(alloc: Global, parts: Parts) -> Result<u8, BuildFault>
 {
     let lists = one_list(alloc)?;
     let outline = Outline { w: 10, h: 10 };
-    let design = Design::build(
-        alloc,
-        parts,
-        lists,
-        outline,
-        Weights { area: 1, wire: 0 },
-        &[200],
-    )?;
-    let pads = design.pads.as_slice();
-    let nets = design.nets.as_slice();
-    if design.blocks.as_slice().len() != 1 || pads.len() != 1 || nets.len() != 1 {
-        return Ok(6);
-    }
-    let pins = nets[0].pins.as_slice();
-    if nets[0].weight != 200 {
-        return Ok(5);
-    }
-    if pads[0].x == 5 && pads[0].y == -2 && pins == [Pin::Block(0), Pin::Pad(0)].as_slice() {
-        Ok(0)
-    } else {
-        Ok(7)
+    let weights = Weights { area: 1, wire: 0 };
+    let design = Design::build(alloc, parts, lists, outline, weights, &[200])?;
+    Ok(if is_wanted(&design) { 0 } else { 7 })
+}
+
+/// The number of the fault of the parts with a pin of this name, or 0 where their design is the one that is wanted.
+fn number_of_pin(alloc: Global, letter: u8) -> Result<u8, BuildFault> {
+    let parts = one_block(alloc, letter)?;
+    match parts.admit(alloc) {
+        Ok(()) => built(alloc, parts),
+        Err(fault) => Ok(number_of(&fault)),
     }
 }
 
 /// A design has what was read, and a list of shapes for each block.
 #[test]
-fn builds(rt: HostRuntime) -> Result<(), Fail> {
-    let alloc = rt.alloc();
-    for (number, name) in [
-        (0u8, b"q".as_slice()),
-        (4, b"p".as_slice()),
-        (5, b"z".as_slice()),
-    ] {
-        let parts = one_block(alloc, name)?;
-        let found = match parts.admit(alloc) {
-            Ok(()) => match built(alloc, parts) {
-                Ok(found) => found,
-                Err(_) => 8,
-            },
-            Err(fault) => number_of(&fault),
-        };
-        assert_eq!(rt; found, number);
+fn builds(rt: HostRuntime) {
+    for (letter, number) in [(b'q', 0), (b'p', 4), (b'z', 5)] {
+        assert!(rt;
+            matches!(number_of_pin(rt.alloc(), letter), Ok(found) if found == number),
+            "{number}"
+        );
     }
-    Ok(())
 }

@@ -9,10 +9,71 @@ ghost use Rattle.sf_node.specs.Children.{IsSubproblem};
 
 use crate::designs::{self, FLAT, NARROW, WIDE, bare, block, block_of, node_at};
 use sf_model::{Design, Plan, Shape};
-use sf_node::{Node, Step, belongs};
+use sf_node::{Node, belongs};
 use sf_polish::Token;
 use std::alloc::{AllocError, Global};
-use std::test::Fail;
+
+const A: Token = Token::Block(0);
+
+const B: Token = Token::Block(1);
+
+const C: Token = Token::Block(2);
+
+/// Places of children, the tokens of the subproblem there, and whether the plan of two blocks belongs to it.
+const TWO: [(&[usize], &[Token], bool); 6] = [
+    (&[], &[], true),
+    (&[0], &[A], true),
+    (&[0, 0], &[A, B], true),
+    (&[0, 0, 0], &[A, B, Token::Beside], true),
+    (&[1], &[B], false),
+    (&[0, 0, 1], &[A, B, Token::Above], false),
+];
+
+/// Whether the plan of three blocks is turned, and the same of it.
+const THREE: [(bool, &[usize], &[Token], bool); 12] = [
+    (false, &[0, 0, 2], &[A, B, C], false),
+    (true, &[0, 0, 2], &[A, B, C], false),
+    (false, &[0, 0, 0], &[A, B, Token::Beside], true),
+    (true, &[0, 0, 0], &[A, B, Token::Beside], false),
+    (false, &[0, 0, 1], &[A, B, Token::Above], false),
+    (true, &[0, 0, 1], &[A, B, Token::Above], true),
+    (
+        false,
+        &[0, 0, 0, 0, 1],
+        &[A, B, Token::Beside, C, Token::Above],
+        true,
+    ),
+    (
+        true,
+        &[0, 0, 0, 0, 1],
+        &[A, B, Token::Beside, C, Token::Above],
+        false,
+    ),
+    (
+        false,
+        &[0, 0, 1, 0, 0],
+        &[A, B, Token::Above, C, Token::Beside],
+        false,
+    ),
+    (
+        true,
+        &[0, 0, 1, 0, 0],
+        &[A, B, Token::Above, C, Token::Beside],
+        true,
+    ),
+    (
+        false,
+        &[0, 0, 0, 0, 0],
+        &[A, B, Token::Beside, C, Token::Beside],
+        false,
+    ),
+    (
+        true,
+        &[0, 0, 0, 0, 0],
+        &[A, B, Token::Beside, C, Token::Beside],
+        false,
+    ),
+];
 
 /// The plan with a leaf 2x3 beside a leaf 3x2.
 fn narrow_beside_flat(alloc: Global) -> Result<Plan, AllocError>
@@ -63,72 +124,63 @@ fn three_blocks(alloc: Global, turned: bool) -> Result<(Design, Plan), AllocErro
     Ok((design, plan))
 }
 
-/// The subproblem over these places, and whether the plan belongs to it.
-fn belongs_at(alloc: Global, places: &[usize]) -> Result<(Node, bool), AllocError> {
+/// Whether the plan belongs to a copy of the subproblem over these places, if that has these tokens.
+fn belongs_at(
+    alloc: Global,
+    design: &Design,
+    plan: &Plan,
+    places: &[usize],
+    tokens: &[Token],
+) -> Result<Option<bool>, AllocError>
+    requires legal { IsLegal design.now (tree_of plan.now) }
+    requires skewed { IsSkewed (tree_of plan.now) }
+{
+    let node = node_at(alloc, design, places)?.copy()?;
+    if node.tokens() != tokens {
+        return Ok(None);
+    }
+    Ok(Some(belongs(alloc, plan, &node, design)?))
+}
+
+/// The same of the plan of two blocks.
+fn two_belong_at(
+    alloc: Global,
+    places: &[usize],
+    tokens: &[Token],
+) -> Result<Option<bool>, AllocError> {
     let (design, plan) = two_blocks(alloc)?;
-    let node = node_at(alloc, &design, places)?;
-    let answer = belongs(alloc, &plan, &node, &design)?;
-    Ok((node, answer))
+    belongs_at(alloc, &design, &plan, places, tokens)
 }
 
 /// A plan belongs to each subproblem on the way to it, and to none that turns off.
 #[test]
-fn belongs_along_its_path(rt: HostRuntime) -> Result<(), Fail> {
-    let path = [Token::Block(0), Token::Block(1), Token::Beside];
-    let above = [Token::Block(0), Token::Block(1), Token::Above];
-    let none = [0usize; 0];
-    let rows = [
-        (none.as_slice(), &path[0..0], true),
-        ([0].as_slice(), &path[0..1], true),
-        ([0, 0].as_slice(), &path[0..2], true),
-        ([0, 0, 0].as_slice(), path.as_slice(), true),
-        ([1].as_slice(), &path[1..2], false),
-        ([0, 0, 1].as_slice(), above.as_slice(), false),
-    ];
-    for (places, tokens, answer) in rows {
-        let (node, belongs) = belongs_at(rt.alloc(), places)?;
-        assert_eq!(rt; node.tokens(), tokens);
-        assert_eq!(rt; belongs, answer, "{tokens:?}");
+fn belongs_along_its_path(rt: HostRuntime) {
+    for (places, tokens, answer) in TWO {
+        assert!(rt;
+            two_belong_at(rt.alloc(), places, tokens) == Ok(Some(answer)),
+            "{tokens:?}"
+        );
     }
-    Ok(())
 }
 
-/// The subproblem over these places, and whether the plan of three blocks belongs to it.
+/// The same of a plan of three blocks.
 fn three_belong_at(
     alloc: Global,
     turned: bool,
     places: &[usize],
-) -> Result<(Node, bool), AllocError> {
+    tokens: &[Token],
+) -> Result<Option<bool>, AllocError> {
     let (design, plan) = three_blocks(alloc, turned)?;
-    let node = node_at(alloc, &design, places)?;
-    let answer = belongs(alloc, &plan, &node, &design)?;
-    Ok((node, answer))
+    belongs_at(alloc, &design, &plan, places, tokens)
 }
 
 /// Three blocks in a row, one beside another or one above another, belong where their tokens lead.
 #[test]
-fn three_belong_each_way(rt: HostRuntime) -> Result<(), Fail> {
-    let (a, b, c) = (Token::Block(0), Token::Block(1), Token::Block(2));
-    let apart = [a, b, c];
-    let straight = [a, b, Token::Beside, c, Token::Above];
-    let turned = [a, b, Token::Above, c, Token::Beside];
-    let chain = [a, b, Token::Beside, c, Token::Beside];
-    let rows = [
-        ([0, 0, 2].as_slice(), apart.as_slice(), false, false),
-        ([0, 0, 0].as_slice(), &straight[0..3], true, false),
-        ([0, 0, 1].as_slice(), &turned[0..3], false, true),
-        ([0, 0, 0, 0, 1].as_slice(), straight.as_slice(), true, false),
-        ([0, 0, 1, 0, 0].as_slice(), turned.as_slice(), false, true),
-        ([0, 0, 0, 0, 0].as_slice(), chain.as_slice(), false, false),
-    ];
-    for (places, tokens, above, beside) in rows {
-        for (turned, answer) in [(false, above), (true, beside)] {
-            let (node, belongs) = three_belong_at(rt.alloc(), turned, places)?;
-            assert_eq!(rt; node.tokens(), tokens);
-            assert_eq!(rt; belongs, answer, "{tokens:?}");
-        }
+fn three_belong_each_way(rt: HostRuntime) {
+    for (turned, places, tokens, answer) in THREE {
+        let found = three_belong_at(rt.alloc(), turned, places, tokens);
+        assert!(rt; found == Ok(Some(answer)), "{turned} {tokens:?}");
     }
-    Ok(())
 }
 
 /// A block 2x3 and a block that may be turned, by area alone, and the plan with the first beside the second,
@@ -171,29 +223,11 @@ fn lying_belongs_at(
 
 /// A plan belongs only where the shape of each block stands in the block's span, whatever its tokens.
 #[test]
-fn belongs_within_its_spans(rt: HostRuntime) -> Result<(), Fail> {
-    let none = [0usize; 0];
-    for places in [none.as_slice(), [0].as_slice(), [0, 0, 0].as_slice()] {
-        let (span, belongs) = lying_belongs_at(rt.alloc(), places, false)?;
-        assert_eq!(rt; span, Some((0, 1)), "{places:?}");
-        assert!(rt; !belongs, "{places:?}");
-        let (span, belongs) = lying_belongs_at(rt.alloc(), places, true)?;
-        assert_eq!(rt; span, Some((1, 2)), "{places:?}");
-        assert!(rt; belongs, "{places:?}");
+fn belongs_within_its_spans(rt: HostRuntime) {
+    for places in [[].as_slice(), &[0], &[0, 0, 0]] {
+        for (right, span) in [(false, (0, 1)), (true, (1, 2))] {
+            let found = lying_belongs_at(rt.alloc(), places, right);
+            assert!(rt; found == Ok((Some(span), right)), "{places:?}");
+        }
     }
-    Ok(())
-}
-
-/// A copy has the same steps, tokens and spans.
-#[test]
-fn copies_all(rt: HostRuntime) -> Result<(), Fail> {
-    let alloc = rt.alloc();
-    let (design, _) = two_blocks(alloc)?;
-    let copy = node_at(alloc, &design, [0, 0, 0].as_slice())?.copy()?;
-    let steps = [Step::Block(0), Step::Block(1), Step::Beside];
-    let tokens = [Token::Block(0), Token::Block(1), Token::Beside];
-    assert_eq!(rt; copy.steps(), steps.as_slice());
-    assert_eq!(rt; copy.tokens(), tokens.as_slice());
-    assert_eq!(rt; copy.spans(), [(0, 1), (0, 1)].as_slice());
-    Ok(())
 }

@@ -2,7 +2,7 @@
 //! were found.
 
 use crate::anneal::{blocks_of, built, generated, joined, nets_of};
-use crate::bounds::assert_values;
+use crate::bounds::have_values;
 use sf_bound::Bounds;
 use sf_bounds::Standard;
 use sf_gsrc::read_pl;
@@ -104,28 +104,36 @@ const ROUTED: [(&[usize], u64); 5] = [
     (&[0, 0, 0, 0, 1], 88),
 ];
 
+/// Whether the subproblems of the chain have these values.
+fn chain_has(alloc: Global, rows: &[(&[usize], u64)]) -> Result<bool, Fail> {
+    let design = chain(alloc)?;
+    Ok(have_values(alloc, &design, &mut Standard.room(alloc), rows)?)
+}
+
 /// The bound before the design is given paths.
 #[test]
 fn nets_count_alone(rt: HostRuntime) -> Result<(), Fail> {
-    let alloc = rt.alloc();
-    let design = chain(alloc)?;
-    let mut room = Standard.room(alloc);
-    assert_values(&rt, alloc, &design, &mut room, &ALONE)
+    assert!(rt; chain_has(rt.alloc(), &ALONE)?);
+    Ok(())
+}
+
+/// The same of the chain with both paths.
+fn routed_chain_has(alloc: Global, rows: &[(&[usize], u64)]) -> Result<bool, Fail> {
+    let mut design = chain(alloc)?;
+    design.set_paths(alloc, paths_of(alloc, &[ALONG], &[ABOVE])?)?;
+    Ok(have_values(alloc, &design, &mut Standard.room(alloc), rows)?)
 }
 
 /// The bound of the design with both paths.
 #[test]
 fn paths_raise_the_bound(rt: HostRuntime) -> Result<(), Fail> {
-    let alloc = rt.alloc();
-    let mut design = chain(alloc)?;
-    design.set_paths(alloc, paths_of(alloc, &[ALONG], &[ABOVE])?)?;
-    let mut room = Standard.room(alloc);
-    assert_values(&rt, alloc, &design, &mut room, &ROUTED)
+    assert!(rt; routed_chain_has(rt.alloc(), &ROUTED)?);
+    Ok(())
 }
 
 /// How far the ends of the paths are apart that are found for a design, which takes them all.
-fn found_wires(alloc: Global, design: &mut Design) -> Result<u64, Fail> {
-    let paths = find_paths(alloc, design)?;
+fn found_wires(alloc: Global, mut design: Design) -> Result<u64, Fail> {
+    let paths = find_paths(alloc, &design)?;
     design.set_paths(alloc, paths)?;
     Ok(design.routes.wires)
 }
@@ -135,11 +143,12 @@ fn found_wires(alloc: Global, design: &mut Design) -> Result<u64, Fail> {
 #[test]
 fn takes_the_paths_that_are_found(rt: HostRuntime) -> Result<(), Fail> {
     let alloc = rt.alloc();
-    let wires = found_wires(alloc, &mut chain(alloc)?)?;
-    assert_eq!(rt; wires, 44);
+    assert!(rt; found_wires(alloc, chain(alloc)?)? == 44);
     for seed in 1..4 {
-        let wires = found_wires(alloc, &mut generated(alloc, seed, 20, 1)?)?;
-        assert!(rt; wires > 0);
+        assert!(rt;
+            found_wires(alloc, generated(alloc, seed, 20, 1)?)? > 0,
+            "{seed}"
+        );
     }
     Ok(())
 }

@@ -2,6 +2,7 @@
 
 ghost use Rattle.std.specs.Prelude.{◌≡◌, IfOk};
 ghost use Rattle.sf_model.specs.Legal.{block_count};
+ghost use Rattle.sf_pl_writer.specs.Length.{IsScale};
 
 use crate::designs::{net, spot};
 use sf_model::{
@@ -11,7 +12,6 @@ use sf_model::{
 use sf_pl_writer::{Outcome, Report, pl_text, report_text};
 use sf_polish::{Expr, Token, Tokens, is_normal};
 use std::alloc::{AllocError, Global};
-use std::test::Fail;
 
 const SHAPE: Shape = Shape { w: 25, h: 40 };
 
@@ -44,27 +44,28 @@ fn one_block(alloc: Global) -> Result<Design, AllocError>
     )
 }
 
-#[test]
-fn writes_places(rt: HostRuntime) -> Result<(), Fail> {
-    let alloc = rt.alloc();
+/// Whether the placement has this text at so many units.
+fn are_places(alloc: Global, scale: u64, wanted: &[u8]) -> Result<bool, AllocError>
+    requires { IsScale scale }
+{
     let design = one_block(alloc)?;
-    let spot = spot(0, 0, 0, SHAPE);
-    let tenths = pl_text(alloc, &design, &[spot], 10)?;
-    let wanted = b"UCLA pl 1.0\nb0 0 0 DIMS = (2.5, 4) : N\np1 -0.5 120.5\n";
-    assert_eq!(rt; tenths.as_slice(), wanted.as_slice());
-    let whole = pl_text(alloc, &design, &[spot], 1)?;
-    let wanted = b"UCLA pl 1.0\nb0 0 0 DIMS = (25, 40) : N\np1 -5 1205\n";
-    assert_eq!(rt; whole.as_slice(), wanted.as_slice());
-    let thousandths = pl_text(alloc, &design, &[spot], 1000)?;
-    let wanted = b"UCLA pl 1.0\nb0 0 0 DIMS = (0.025, 0.04) : N\np1 -0.005 1.205\n";
-    assert_eq!(rt; thousandths.as_slice(), wanted.as_slice());
-    Ok(())
+    let text = pl_text(alloc, &design, &[spot(0, 0, 0, SHAPE)], scale)?;
+    Ok(text.as_slice() == wanted)
 }
 
 #[test]
-fn writes_reports(rt: HostRuntime) -> Result<(), Fail> {
-    let alloc = rt.alloc();
-    let mut report = Report {
+fn writes_places(rt: HostRuntime) {
+    let tenths = b"UCLA pl 1.0\nb0 0 0 DIMS = (2.5, 4) : N\np1 -0.5 120.5\n";
+    assert!(rt; are_places(rt.alloc(), 10, tenths) == Ok(true));
+    let whole = b"UCLA pl 1.0\nb0 0 0 DIMS = (25, 40) : N\np1 -5 1205\n";
+    assert!(rt; are_places(rt.alloc(), 1, whole) == Ok(true));
+    let thousandths = b"UCLA pl 1.0\nb0 0 0 DIMS = (0.025, 0.04) : N\np1 -0.005 1.205\n";
+    assert!(rt; are_places(rt.alloc(), 1000, thousandths) == Ok(true));
+}
+
+/// Whether a report without a plan has this text.
+fn is_none_told(alloc: Global, wanted: &[u8]) -> Result<bool, AllocError> {
+    let report = Report {
         word: Outcome::NoneFits,
         cost: MAX,
         bound: MAX,
@@ -74,16 +75,19 @@ fn writes_reports(rt: HostRuntime) -> Result<(), Fail> {
         wire: 0,
         plan: None,
     };
-    let wanted =
-        b"status NoneFits\ncost none\nbound none\ndecided 1\nsize none\narea none\nwire none\nplan none\n";
-    let text = report_text(alloc, &report)?;
-    assert_eq!(rt; text.as_slice(), wanted.as_slice());
+    Ok(report_text(alloc, &report)?.as_slice() == wanted)
+}
+
+/// Whether a report with a plan of one block has this text.
+fn is_plan_told(alloc: Global, wanted: &[u8]) -> Result<bool, AllocError> {
     let expr = Expr {
         tokens: Tokens::from_vec(vec![in alloc; Token::Block(0)]?),
         shapes: Shapes::from_vec(vec![in alloc; Shape { w: 3, h: 4 }]?),
     };
-    assert!(rt; is_normal(expr.tokens.as_slice(), 1));
-    report = Report {
+    if !is_normal(expr.tokens.as_slice(), 1) {
+        return Ok(false);
+    }
+    let report = Report {
         word: Outcome::Optimal,
         cost: 12,
         bound: 12,
@@ -93,9 +97,15 @@ fn writes_reports(rt: HostRuntime) -> Result<(), Fail> {
         wire: 0,
         plan: Some(expr),
     };
-    let wanted =
+    Ok(report_text(alloc, &report)?.as_slice() == wanted)
+}
+
+#[test]
+fn writes_reports(rt: HostRuntime) {
+    let none =
+        b"status NoneFits\ncost none\nbound none\ndecided 1\nsize none\narea none\nwire none\nplan none\n";
+    assert!(rt; is_none_told(rt.alloc(), none) == Ok(true));
+    let plan =
         b"status Optimal\ncost 12\nbound 12\ndecided 2\nsize 3 4\narea 12\nwire 0\nplan 0:3x4\n";
-    let text = report_text(alloc, &report)?;
-    assert_eq!(rt; text.as_slice(), wanted.as_slice());
-    Ok(())
+    assert!(rt; is_plan_told(rt.alloc(), plan) == Ok(true));
 }

@@ -1,11 +1,12 @@
 //! Texts of tokens and of expressions, their faults, and plans of two and three blocks.
 
+ghost use Rattle.std.specs.Prelude.{◌≡◌, IfOk};
+ghost use Rattle.sf_model.specs.Tree.{Above, Beside, HasEachOnce, tree_of};
+ghost use Rattle.sf_polish.specs.Postfix.{IsSkewed};
+
 use sf_model::{Plan, Shape};
-use sf_polish::{
-    ExprFault, Token, expr_of, is_normal, normalise, plan_of, read_expr, read_tokens, write_expr,
-};
+use sf_polish::{ExprFault, expr_of, normalise, plan_of, read_expr, read_tokens, write_expr};
 use std::alloc::{AllocError, Global};
-use std::test::Fail;
 
 /// The number of a fault and its line, and zeros where there is none.
 fn fault_of<T: Drop>(outcome: Result<T, ExprFault>) -> (u8, u64) {
@@ -20,59 +21,87 @@ fn fault_of<T: Drop>(outcome: Result<T, ExprFault>) -> (u8, u64) {
     }
 }
 
-/// The fault of a text of tokens of so many blocks.
-fn tokens_fault(rt: &HostRuntime, text: &str, blocks: u16) -> (u8, u64) {
-    fault_of(read_tokens(rt.alloc(), text.as_bytes(), blocks))
-}
+/// Texts of tokens of so many blocks, each with its fault; of several the one of the first word is told.
+const TOKENS: [(&str, u16, (u8, u64)); 13] = [
+    ("0 1 *", 2, (0, 0)),
+    ("\t0\r\n1\n\n*  \n", 2, (0, 0)),
+    ("0 1 * *", 2, (2, 1)),
+    ("0 *", 2, (2, 1)),
+    ("0 0 *", 2, (4, 1)),
+    ("0", 2, (5, 1)),
+    (" \n", 2, (5, 0)),
+    ("0\n1\n \n", 2, (2, 2)),
+    ("0 1 2\n* *", 3, (3, 2)),
+    ("0 1 + 2 +", 3, (0, 0)),
+    ("0\n01 *", 2, (1, 2)),
+    ("0 2 *", 2, (1, 1)),
+    ("0 1 **", 2, (1, 1)),
+];
 
-/// The fault of an expression of two blocks.
-fn expr_fault(rt: &HostRuntime, text: &str) -> (u8, u64) {
-    fault_of(read_expr(rt.alloc(), text.as_bytes(), 2))
-}
-
-/// Texts of tokens of two blocks, by line.
-#[test]
-fn token_texts(rt: HostRuntime) {
-    assert_eq!(rt; tokens_fault(&rt, "0 1 *", 2), (0, 0));
-    assert_eq!(rt; tokens_fault(&rt, "\t0\r\n1\n\n*  \n", 2), (0, 0));
-    assert_eq!(rt; tokens_fault(&rt, "0 1 * *", 2), (2, 1));
-    assert_eq!(rt; tokens_fault(&rt, "0 *", 2), (2, 1));
-    assert_eq!(rt; tokens_fault(&rt, "0 0 *", 2), (4, 1));
-    assert_eq!(rt; tokens_fault(&rt, "0", 2), (5, 1));
-    assert_eq!(rt; tokens_fault(&rt, " \n", 2), (5, 0));
-    assert_eq!(rt; tokens_fault(&rt, "0\n1\n \n", 2), (2, 2));
-}
+/// The same of expressions of two blocks.
+const EXPRESSIONS: [(&str, (u8, u64)); 5] = [
+    ("0:2x3 1:1048576x1 *", (0, 0)),
+    ("0:2x3 1:1048577x1 *", (1, 1)),
+    ("0:2x0 1:3x2 *", (1, 1)),
+    ("0 1 *", (1, 1)),
+    ("0:2x3\n0:3x2\n*", (4, 2)),
+];
 
 /// Of several faults the one of the first word is told.
 #[test]
 fn faults_by_word(rt: HostRuntime) {
-    assert_eq!(rt; tokens_fault(&rt, "0 1 2\n* *", 3), (3, 2));
-    assert_eq!(rt; tokens_fault(&rt, "0 1 + 2 +", 3), (0, 0));
-    assert_eq!(rt; tokens_fault(&rt, "0\n01 *", 2), (1, 2));
-    assert_eq!(rt; tokens_fault(&rt, "0 2 *", 2), (1, 1));
-    assert_eq!(rt; tokens_fault(&rt, "0 1 **", 2), (1, 1));
-    assert_eq!(rt; expr_fault(&rt, "0:2x3 1:1048576x1 *"), (0, 0));
-    assert_eq!(rt; expr_fault(&rt, "0:2x3 1:1048577x1 *"), (1, 1));
-    assert_eq!(rt; expr_fault(&rt, "0:2x0 1:3x2 *"), (1, 1));
-    assert_eq!(rt; expr_fault(&rt, "0 1 *"), (1, 1));
-    assert_eq!(rt; expr_fault(&rt, "0:2x3\n0:3x2\n*"), (4, 2));
+    for (text, blocks, fault) in TOKENS {
+        let found = fault_of(read_tokens(rt.alloc(), text.as_bytes(), blocks));
+        assert!(rt; found == fault, "{text}");
+    }
+    for (text, fault) in EXPRESSIONS {
+        let found = fault_of(read_expr(rt.alloc(), text.as_bytes(), 2));
+        assert!(rt; found == fault, "{text}");
+    }
+}
+
+/// One plan beside another.
+fn beside(alloc: Global, left: Plan, right: Plan) -> Result<Plan, AllocError>
+    ensures { IfOk result (λ plan. tree_of plan ≡ Beside (tree_of left) (tree_of right)) }
+{
+    Ok(Plan::Beside(Box::new(alloc, left)?, Box::new(alloc, right)?))
+}
+
+/// One plan below another.
+fn above(alloc: Global, lower: Plan, upper: Plan) -> Result<Plan, AllocError>
+    ensures { IfOk result (λ plan. tree_of plan ≡ Above (tree_of lower) (tree_of upper)) }
+{
+    Ok(Plan::Above(Box::new(alloc, lower)?, Box::new(alloc, upper)?))
+}
+
+/// Blocks 2x3, 3x2 and 1x1.
+const FIRST: Plan = Plan::Leaf(0, Shape { w: 2, h: 3 });
+
+const SECOND: Plan = Plan::Leaf(1, Shape { w: 3, h: 2 });
+
+const THIRD: Plan = Plan::Leaf(2, Shape { w: 1, h: 1 });
+
+/// The text of a plan.
+fn written(alloc: Global, plan: &Plan, blocks: u16) -> Result<Vec<u8>, AllocError>
+    requires skewed { IsSkewed (tree_of plan.now) }
+    requires each_once { HasEachOnce blocks (tree_of plan.now) }
+{
+    let expr = expr_of(alloc, plan, blocks)?;
+    write_expr(alloc, &expr)
+}
+
+/// Whether the plan of two blocks side by side has this text, which is read as it.
+fn is_two(alloc: Global, wanted: &[u8]) -> Result<bool, ExprFault> {
+    let plan = normalise(alloc, beside(alloc, FIRST, SECOND)?)?;
+    let text = written(alloc, &plan, 2)?;
+    let read = read_expr(alloc, &text, 2)?;
+    Ok(text.as_slice() == wanted && matches!(plan_of(alloc, &read)?, Plan::Beside(_, _)))
 }
 
 /// A plan of two blocks is written and read again.
 #[test]
-fn plan_of_two(rt: HostRuntime) -> Result<(), Fail> {
-    let alloc = rt.alloc();
-    let left = Box::new(alloc, Plan::Leaf(0, Shape { w: 2, h: 3 }))?;
-    let right = Box::new(alloc, Plan::Leaf(1, Shape { w: 3, h: 2 }))?;
-    let plan = normalise(alloc, Plan::Beside(left, right))?;
-    let expr = expr_of(alloc, &plan, 2)?;
-    assert!(rt; is_normal(expr.tokens.as_slice(), 2));
-    let text = write_expr(alloc, &expr)?;
-    assert_eq!(rt; text.as_slice(), b"0:2x3 1:3x2 *".as_slice());
-    let read = read_expr(alloc, &text, 2)?;
-    let plan = plan_of(alloc, &read)?;
-    assert!(rt; matches!(plan, Plan::Beside(_, _)));
-    Ok(())
+fn plan_of_two(rt: HostRuntime) {
+    assert!(rt; matches!(is_two(rt.alloc(), b"0:2x3 1:3x2 *"), Ok(true)));
 }
 
 /// Expressions of three blocks, of which the first two are joined first, or the last two.
@@ -85,66 +114,40 @@ const THREES: [&str; 6] = [
     "0:2x3 1:3x2 2:1x1 + *",
 ];
 
+/// Whether a text of three blocks is read and written as it was.
+fn is_kept(alloc: Global, text: &[u8]) -> Result<bool, ExprFault> {
+    let expr = read_expr(alloc, text, 3)?;
+    Ok(write_expr(alloc, &expr)?.as_slice() == text)
+}
+
 /// What was read is written as it was.
 #[test]
-fn written_as_read(rt: HostRuntime) -> Result<(), Fail> {
-    let alloc = rt.alloc();
+fn written_as_read(rt: HostRuntime) {
     for text in THREES {
-        let expr = read_expr(alloc, text.as_bytes(), 3)?;
-        let written = write_expr(alloc, &expr)?;
-        assert_eq!(rt; str::from_utf8(&written)?, text);
+        assert!(rt;
+            matches!(is_kept(rt.alloc(), text.as_bytes()), Ok(true)),
+            "{text}"
+        );
     }
-    Ok(())
+}
+
+/// Whether the first block beside the other two, one above the other, has this text.
+fn is_upper(alloc: Global, wanted: &[u8]) -> Result<bool, AllocError> {
+    let plan = beside(alloc, FIRST, above(alloc, SECOND, THIRD)?)?;
+    Ok(written(alloc, &plan, 3)?.as_slice() == wanted)
+}
+
+/// Whether the last block above the other two, side by side, has this text.
+fn is_lower(alloc: Global, wanted: &[u8]) -> Result<bool, AllocError> {
+    let plan = above(alloc, beside(alloc, FIRST, SECOND)?, THIRD)?;
+    Ok(written(alloc, &plan, 3)?.as_slice() == wanted)
 }
 
 /// A plan with one operator inside the other is written with the inner one first.
 #[test]
-fn plans_of_three(rt: HostRuntime) -> Result<(), Fail> {
-    let alloc = rt.alloc();
-    let [first, second, third] = [
-        Shape { w: 2, h: 3 },
-        Shape { w: 3, h: 2 },
-        Shape { w: 1, h: 1 },
-    ];
-    let upper = Plan::Above(
-        Box::new(alloc, Plan::Leaf(1, second))?,
-        Box::new(alloc, Plan::Leaf(2, third))?,
-    );
-    let plan = Plan::Beside(
-        Box::new(alloc, Plan::Leaf(0, first))?,
-        Box::new(alloc, upper)?,
-    );
-    let expr = expr_of(alloc, &plan, 3)?;
-    let text = write_expr(alloc, &expr)?;
-    assert_eq!(rt; str::from_utf8(&text)?, "0:2x3 1:3x2 2:1x1 + *");
-    let lower = Plan::Beside(
-        Box::new(alloc, Plan::Leaf(0, first))?,
-        Box::new(alloc, Plan::Leaf(1, second))?,
-    );
-    let plan = Plan::Above(
-        Box::new(alloc, lower)?,
-        Box::new(alloc, Plan::Leaf(2, third))?,
-    );
-    let expr = expr_of(alloc, &plan, 3)?;
-    let text = write_expr(alloc, &expr)?;
-    assert_eq!(rt; str::from_utf8(&text)?, "0:2x3 1:3x2 * 2:1x1 +");
-    Ok(())
-}
-
-/// A block 1x2.
-fn leaf(block: u16) -> Plan {
-    Plan::Leaf(block, Shape { w: 1, h: 2 })
-}
-
-/// Two plans, one above the other by that operator, and side by side by each other token.
-fn joined(alloc: Global, operator: Token, first: Plan, second: Plan) -> Result<Plan, AllocError> {
-    let first = Box::new(alloc, first)?;
-    let second = Box::new(alloc, second)?;
-    if operator == Token::Above {
-        Ok(Plan::Above(first, second))
-    } else {
-        Ok(Plan::Beside(first, second))
-    }
+fn plans_of_three(rt: HostRuntime) {
+    assert!(rt; is_upper(rt.alloc(), b"0:2x3 1:3x2 2:1x1 + *") == Ok(true));
+    assert!(rt; is_lower(rt.alloc(), b"0:2x3 1:3x2 * 2:1x1 +") == Ok(true));
 }
 
 /// Whether two of the three blocks are joined first, and then the last.
@@ -160,15 +163,27 @@ fn leans_left(plan: &Plan) -> bool {
     }
 }
 
+/// Whether a plan leans to the left once it is made skewed, and doesn't before.
+fn leans_then(alloc: Global, plan: Plan) -> Result<bool, AllocError> {
+    let leans_before = leans_left(&plan);
+    Ok(leans_left(&normalise(alloc, plan)?) && !leans_before)
+}
+
+/// So do three blocks side by side that lean to the right.
+fn row_leans_then(alloc: Global) -> Result<bool, AllocError> {
+    let plan = beside(alloc, FIRST, beside(alloc, SECOND, THIRD)?)?;
+    leans_then(alloc, plan)
+}
+
+/// So do three blocks one above the other.
+fn pile_leans_then(alloc: Global) -> Result<bool, AllocError> {
+    let plan = above(alloc, FIRST, above(alloc, SECOND, THIRD)?)?;
+    leans_then(alloc, plan)
+}
+
 /// Three blocks that lean to the right, side by side and one above the other.
 #[test]
-fn three_blocks_are_made_skewed(rt: HostRuntime) -> Result<(), Fail> {
-    let alloc = rt.alloc();
-    for operator in [Token::Beside, Token::Above] {
-        let last = joined(alloc, operator, leaf(1), leaf(2))?;
-        let plan = joined(alloc, operator, leaf(0), last)?;
-        assert!(rt; !leans_left(&plan), "{operator:?}");
-        assert!(rt; leans_left(&normalise(alloc, plan)?), "{operator:?}");
-    }
-    Ok(())
+fn three_blocks_are_made_skewed(rt: HostRuntime) {
+    assert!(rt; row_leans_then(rt.alloc()) == Ok(true));
+    assert!(rt; pile_leans_then(rt.alloc()) == Ok(true));
 }

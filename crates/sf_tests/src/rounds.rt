@@ -14,7 +14,6 @@ use sf_rounds::{Found, SearchOptions};
 use sf_search::search;
 use std::alloc::{AllocError, Global};
 use std::sync::atomic::{AtomicU64, Ordering};
-use std::test::Fail;
 use std::thread::Threads;
 
 /// What so many workers find within this budget.
@@ -31,37 +30,45 @@ fn searched(
     search(rt, alloc, design, &Standard, options, &OpenGate)
 }
 
-#[test]
-fn searches_two_hard_blocks(rt: HostRuntime) -> Result<(), Fail> {
-    let alloc = rt.alloc();
+/// Cost, bound and count of the decided, of what so many workers find of two hard blocks.
+fn found_of_two(
+    rt: &(impl Threads + Sync),
+    alloc: Global,
+    workers: u16,
+    nodes: u64,
+) -> Result<(u64, u64, u64), AllocError> {
     let design = two_blocks(alloc, WIDE)?;
-    // The budget, and then cost, bound and count of the decided.
-    let rows = [
-        (0, (MAX, 12, 0)),
-        (5, (15, 12, 5)),
-        (9, (15, 15, 9)),
-        (100, (15, 15, 9)),
-    ];
-    for (nodes, answer) in rows {
-        let found = searched(&rt, alloc, &design, 1, nodes)?;
-        assert_eq!(rt;
-            (found.cost, found.bound, found.decided),
-            answer,
+    let found = searched(rt, alloc, &design, workers, nodes)?;
+    Ok((found.cost, found.bound, found.decided))
+}
+
+/// The budget, and then cost, bound and count of the decided.
+const BUDGETS: [(u64, (u64, u64, u64)); 4] = [
+    (0, (MAX, 12, 0)),
+    (5, (15, 12, 5)),
+    (9, (15, 15, 9)),
+    (100, (15, 15, 9)),
+];
+
+#[test]
+fn searches_two_hard_blocks(rt: HostRuntime) {
+    for (nodes, answer) in BUDGETS {
+        assert!(rt;
+            found_of_two(&rt, rt.alloc(), 1, nodes) == Ok(answer),
             "budget {nodes}"
         );
     }
-    Ok(())
 }
 
 #[test]
-fn several_workers_search_two_hard_blocks(rt: HostRuntime) -> Result<(), Fail> {
-    let alloc = rt.alloc();
-    let design = two_blocks(alloc, WIDE)?;
+fn several_workers_search_two_hard_blocks(rt: HostRuntime) -> Result<(), AllocError> {
     for workers in 2..=16 {
-        let found = searched(&rt, alloc, &design, workers, 100)?;
-        assert_eq!(rt; (found.cost, found.bound), (15, 15), "{workers} workers");
-        let found = searched(&rt, alloc, &design, workers, 5)?;
-        assert_eq!(rt; found.decided, 5, "{workers} workers");
+        let (cost, bound, _) = found_of_two(&rt, rt.alloc(), workers, 100)?;
+        let (_, _, decided) = found_of_two(&rt, rt.alloc(), workers, 5)?;
+        assert!(rt;
+            cost == 15 && bound == 15 && decided == 5,
+            "{workers} workers"
+        );
     }
     Ok(())
 }
@@ -78,17 +85,20 @@ fn five_squares(alloc: Global) -> Result<Design, AllocError> {
     bare(alloc, blocks, WIDE, 0)
 }
 
+/// How many subproblems two workers decide of them, and the answer to what they store.
+fn decided_of_five(rt: &(impl Threads + Sync), alloc: Global) -> Result<(u64, Answer), AllocError> {
+    let design = five_squares(alloc)?;
+    let found = searched(rt, alloc, &design, 2, 10_000)?;
+    let answer = check(alloc, &design, &Standard, &found.cert)?;
+    Ok((found.decided, answer))
+}
+
 /// The squares of the sides 1 to 5 fit into no less than an area of 60 (Korf 2003).
 #[test]
-fn two_workers_prove_an_optimum(rt: HostRuntime) -> Result<(), Fail> {
-    let alloc = rt.alloc();
-    let design = five_squares(alloc)?;
-    let found = searched(&rt, alloc, &design, 2, 10_000)?;
-    assert_eq!(rt; (found.cost, found.bound), (60, 60));
-    let many = found.decided > 5000;
-    assert!(rt; many);
-    let answer = check(alloc, &design, &Standard, &found.cert)?;
-    assert_eq!(rt; answer, Answer::Yes(60, 60, found.decided));
+fn two_workers_prove_an_optimum(rt: HostRuntime) -> Result<(), AllocError> {
+    let (decided, answer) = decided_of_five(&rt, rt.alloc())?;
+    assert!(rt; decided > 5000, "{decided}");
+    assert!(rt; answer == Answer::Yes(60, 60, decided));
     Ok(())
 }
 
@@ -107,28 +117,34 @@ fn squares_and_pad(alloc: Global) -> Result<Design, AllocError> {
     )
 }
 
+/// The tags of their search.
+const TAGS: [Tag; 9] = [
+    Tag::Extend,
+    Tag::Extend,
+    Tag::Extend,
+    Tag::Closed(Part::Area),
+    Tag::Closed(Part::Area),
+    Tag::Extend,
+    Tag::Extend,
+    Tag::Closed(Part::Area),
+    Tag::Closed(Part::Area),
+];
+
+/// Whether one worker finds the cost and the bound 8, by these tags.
+fn has_tags(rt: &(impl Threads + Sync), alloc: Global) -> Result<bool, AllocError> {
+    let design = squares_and_pad(alloc)?;
+    let found = searched(rt, alloc, &design, 1, 100)?;
+    Ok(
+        (found.cost, found.bound, found.decided) == (8, 8, 9)
+            && found.cert.tags.as_slice() == TAGS.as_slice(),
+    )
+}
+
 /// The first plan costs 8 for its area and 4 for the net, so no area closes its subproblem yet. A later plan
 /// costs 8.
 #[test]
-fn names_are_those_of_the_last_cost(rt: HostRuntime) -> Result<(), Fail> {
-    let alloc = rt.alloc();
-    let design = squares_and_pad(alloc)?;
-    let found = searched(&rt, alloc, &design, 1, 100)?;
-    assert_eq!(rt; (found.cost, found.bound, found.decided), (8, 8, 9));
-    let area = Tag::Closed(Part::Area);
-    let tags = [
-        Tag::Extend,
-        Tag::Extend,
-        Tag::Extend,
-        area,
-        area,
-        Tag::Extend,
-        Tag::Extend,
-        area,
-        area,
-    ];
-    assert_eq!(rt; found.cert.tags.as_slice(), tags.as_slice());
-    Ok(())
+fn names_are_those_of_the_last_cost(rt: HostRuntime) {
+    assert!(rt; has_tags(&rt, rt.alloc()) == Ok(true));
 }
 
 /// What a gate heard of one worker: its decisions in all, those in the round that is on, and the rounds.
@@ -191,63 +207,76 @@ impl Gate for Counting {
     }
 }
 
-/// Two workers decide all but the root in one round, before which the caller decides the root.
-#[test]
-fn the_gate_is_told_the_count_of_decisions_before(rt: HostRuntime) -> Result<(), Fail> {
-    let alloc = rt.alloc();
+/// What a search counted, and what its gate heard of it: the decisions, those that it heard of, the steps that were
+/// miscounted, and the rounds of either worker.
+type Counts = (u64, u64, u64, (u64, u64));
+
+/// What is counted where so many workers search a design through.
+fn counted(
+    rt: &(impl Threads + Sync),
+    alloc: Global,
+    design: &Design,
+    workers: u16,
+) -> Result<Counts, AllocError> {
+    let gate = nothing_counted();
+    let options = SearchOptions {
+        workers,
+        nodes: 10_000,
+    };
+    let found = search(rt, alloc, design, &Standard, options, &gate)?;
+    let first = gate.first.rounds.load(Ordering::SeqCst);
+    let second = gate.second.rounds.load(Ordering::SeqCst);
+    let miscounted = gate.miscounted.load(Ordering::SeqCst);
+    Ok((found.decided, gate.told(), miscounted, (first, second)))
+}
+
+/// The same of two hard blocks.
+fn counted_of_two(
+    rt: &(impl Threads + Sync),
+    alloc: Global,
+    workers: u16,
+) -> Result<Counts, AllocError> {
     let design = two_blocks(alloc, WIDE)?;
-    // The workers, the decisions that no gate hears of, and the rounds of either worker.
+    counted(rt, alloc, &design, workers)
+}
+
+/// A worker alone decides all in one round. Two workers decide all but the root in one, before which the caller
+/// decides the root, of which no gate hears.
+#[test]
+fn the_gate_is_told_the_count_of_decisions_before(rt: HostRuntime) -> Result<(), AllocError> {
     for (workers, without_gate, rounds) in [(1, 0, (1, 0)), (2, 1, (1, 1))] {
-        let gate = nothing_counted();
-        let options = SearchOptions {
-            workers,
-            nodes: 100,
-        };
-        let found = search(&rt, alloc, &design, &Standard, options, &gate)?;
-        let first = gate.first.rounds.load(Ordering::SeqCst);
-        let second = gate.second.rounds.load(Ordering::SeqCst);
-        assert_eq!(rt; (first, second), rounds, "{workers} workers");
-        assert_eq!(rt;
-            gate.miscounted.load(Ordering::SeqCst),
-            0,
-            "{workers} workers"
-        );
-        assert_eq!(rt;
-            gate.told().wrapping_add(without_gate),
-            found.decided,
+        let (decided, told, miscounted, found) = counted_of_two(&rt, rt.alloc(), workers)?;
+        assert!(rt;
+            told.wrapping_add(without_gate) == decided && miscounted == 0 && found == rounds,
             "{workers} workers"
         );
     }
     Ok(())
 }
 
+/// The same of five squares.
+fn counted_of_five(
+    rt: &(impl Threads + Sync),
+    alloc: Global,
+    workers: u16,
+) -> Result<Counts, AllocError> {
+    let design = five_squares(alloc)?;
+    counted(rt, alloc, &design, workers)
+}
+
 /// Two workers take many rounds. The caller decides the root, and later one subproblem at a time where what is left
 /// can't be cut in two; the first worker decides one at least in each round. A worker alone counts through.
 #[test]
-fn each_round_counts_its_decisions_anew(rt: HostRuntime) -> Result<(), Fail> {
-    let alloc = rt.alloc();
-    let design = five_squares(alloc)?;
-    for workers in 1..=2 {
-        let gate = nothing_counted();
-        let options = SearchOptions {
-            workers,
-            nodes: 10_000,
-        };
-        let found = search(&rt, alloc, &design, &Standard, options, &gate)?;
-        assert_eq!(rt;
-            gate.miscounted.load(Ordering::SeqCst),
-            0,
-            "{workers} workers"
-        );
-        let rounds = gate.first.rounds.load(Ordering::SeqCst);
-        let untold = found.decided.wrapping_sub(gate.told());
-        if workers == 1 {
-            assert_eq!(rt; (rounds, untold), (1, 0));
-        } else {
-            assert!(rt; untold > 0);
-            let many = rounds > 3;
-            assert!(rt; many, "{rounds} rounds");
-        }
-    }
+fn each_round_counts_its_decisions_anew(rt: HostRuntime) -> Result<(), AllocError> {
+    let (decided, told, miscounted, (rounds, _)) = counted_of_five(&rt, rt.alloc(), 1)?;
+    assert!(rt;
+        told == decided && miscounted == 0 && rounds == 1,
+        "{rounds} rounds"
+    );
+    let (decided, told, miscounted, (rounds, _)) = counted_of_five(&rt, rt.alloc(), 2)?;
+    assert!(rt;
+        told < decided && miscounted == 0 && rounds > 3,
+        "{rounds} rounds"
+    );
     Ok(())
 }

@@ -1,9 +1,8 @@
 //! The words of each command with all of its options, and lists of words at the edges of the table of
 //! options.
 
-use sf_words::{BoundsChoice, CommandWords, InputFiles, Kinds, read_words};
+use sf_words::{BoundsChoice, CommandWords, InputFiles, Kinds, PlanWords, StartWords, read_words};
 use std::alloc::{AllocError, Global};
-use std::test::Fail;
 
 const GSRC: &str = "--format gsrc --blocks a --nets b --pl c";
 
@@ -175,6 +174,28 @@ gen --seed 18446744073709551616 --count 4 --out g
 gen --seed 7 --count 4 --kinds soft --out g
 gen --help";
 
+/// Words in front of others, these others, one list a line, and whether they have a meaning.
+const LISTS: [(&str, &str, bool); 6] = [
+    ("plan --cert d --format gsrc --blocks a", TAKEN, true),
+    ("plan --cert d --format gsrc --blocks a", REFUSED, false),
+    (
+        "resume --cert c --cert-out d --format gsrc --blocks a",
+        GOES_ON,
+        true,
+    ),
+    (
+        "resume --cert c --cert-out d --format gsrc --blocks a",
+        GOES_NOWHERE,
+        false,
+    ),
+    ("", WITHOUT, false),
+    (
+        "gen --seed 18446744073709551615",
+        "--count 320 --out g",
+        true,
+    ),
+];
+
 /// The words of these texts, valued options as `--name value`.
 fn spaced(alloc: Global, texts: &[&str]) -> Result<Vec<String>, AllocError> {
     let mut words = Vec::new(alloc);
@@ -201,10 +222,18 @@ fn attached(alloc: Global, words: &[String]) -> Result<Vec<String>, AllocError> 
     Ok(joined)
 }
 
+/// What these words mean, if anything.
+fn meaning<'a>(alloc: Global, words: &'a [String]) -> Result<Option<CommandWords<'a>>, AllocError> {
+    match read_words(alloc, words) {
+        Ok(read) => Ok(read),
+        Err(_) => Err(AllocError),
+    }
+}
+
 /// Whether the words of these texts have a meaning.
-fn has_meaning(alloc: Global, texts: &[&str]) -> Result<bool, Fail> {
+fn has_meaning(alloc: Global, texts: &[&str]) -> Result<bool, AllocError> {
     let words = spaced(alloc, texts)?;
-    Ok(read_words(alloc, &words)?.is_some())
+    Ok(meaning(alloc, &words)?.is_some())
 }
 
 /// The options of a search.
@@ -240,83 +269,129 @@ const ALL: [[&str; 5]; 11] = [
 ];
 
 /// Whether the words of these texts have a meaning, with valued options as `--name value` and as `--name=value`.
-fn have_meaning(alloc: Global, texts: [&str; 5]) -> Result<(bool, bool), Fail> {
-    let words = spaced(alloc, &texts)?;
+fn have_meaning(alloc: Global, texts: &[&str]) -> Result<bool, AllocError> {
+    let words = spaced(alloc, texts)?;
     let joined = attached(alloc, &words)?;
-    let is_spaced = read_words(alloc, &words)?.is_some();
-    Ok((is_spaced, read_words(alloc, &joined)?.is_some()))
+    Ok(meaning(alloc, &words)?.is_some() && meaning(alloc, &joined)?.is_some())
 }
 
 /// Each command takes all of its options that go with a format, in both spellings.
 #[test]
-fn all_options(rt: HostRuntime) -> Result<(), Fail> {
-    for row in ALL {
-        assert_eq!(rt; have_meaning(rt.alloc(), row)?, (true, true));
+fn all_options(rt: HostRuntime) {
+    for row in &ALL {
+        assert!(rt; have_meaning(rt.alloc(), row) == Ok(true));
     }
-    Ok(())
 }
 
-/// What the words say reaches `gen`, and what they leave out has its default.
+/// Lists of words at the edges: those with a meaning, and those without.
 #[test]
-fn values_of_gen(rt: HostRuntime) -> Result<(), Fail> {
-    let alloc = rt.alloc();
-    let words = spaced(alloc, &["gen --seed=7 --count 004 --out g"])?;
-    let Some(CommandWords::Gen(read)) = read_words(alloc, &words)? else {
-        return Err("gen".into());
-    };
-    assert_eq!(rt; (read.seed, read.count, read.nodes), (7, 4, None));
-    assert!(rt; read.kinds == Kinds::Hard && read.out == "g");
-    Ok(())
-}
-
-/// So it is of `plan`.
-#[test]
-fn values_of_plan(rt: HostRuntime) -> Result<(), Fail> {
-    let alloc = rt.alloc();
-    let words = spaced(alloc, &["plan --cert=x=y", YAL])?;
-    let Some(CommandWords::Plan(read)) = read_words(alloc, &words)? else {
-        return Err("plan".into());
-    };
-    assert!(rt; matches!(read.design.input, InputFiles::Yal { file: "a" }));
-    assert!(rt; read.cert == "x=y" && read.pl_out.is_none() && !read.design.is_fixed);
-    assert_eq!(rt;
-        (read.weights.area, read.weights.wire, read.workers),
-        (1, 0, 1)
-    );
-    assert!(rt; read.weights.net_weights.is_none());
-    assert_eq!(rt; (read.design.scale.per_unit, read.design.shapes), (1, 16));
-    assert_eq!(rt;
-        (read.design.width, read.design.height),
-        (1_048_576, 1_048_576)
-    );
-    Ok(())
-}
-
-/// Where no walks are asked for, there are none, of 1,000 trials; what is given reaches `plan`.
-#[test]
-fn values_of_starts(rt: HostRuntime) -> Result<(), Fail> {
-    let alloc = rt.alloc();
-    let given = "--starts 3 --moves 00100000 --start-seed 18446744073709551615 --improve 0";
-    for (more, values) in [
-        ("", (0, 1000, 0, None)),
-        ("--starts 64", (64, 1000, 0, None)),
-        (given, (3, 100_000, u64::MAX, Some(0))),
-    ] {
-        let words = spaced(alloc, &["plan --cert c", more, YAL])?;
-        let Some(CommandWords::Plan(read)) = read_words(alloc, &words)? else {
-            return Err("plan".into());
-        };
-        let starts = read.starts;
-        let told = (starts.count, starts.moves, starts.seed, starts.improve);
-        assert!(rt; told == values, "{more}");
+fn edges(rt: HostRuntime) {
+    for (front, lists, meaning) in LISTS {
+        for list in lists.lines() {
+            assert!(rt;
+                has_meaning(rt.alloc(), &[front, list]) == Ok(meaning),
+                "{list}"
+            );
+        }
     }
-    Ok(())
+}
+
+/// Words of commands. `has_values` says what each of them says.
+const VALUES: [&str; 9] = [
+    "gen --seed=7 --count 004 --out g",
+    "plan --cert=x=y --format yal --yal a",
+    "plan --cert c --starts 64 --format yal --yal a",
+    "plan --cert c --starts 3 --moves 00100000 --start-seed 18446744073709551615 --improve 0 --format yal --yal a",
+    "resume --cert c --cert-out d --long --nodes 0000004000001 --format yal --yal a",
+    "shape --expr e --outline .50x007.25 --per-unit 0100 --format gsrc --blocks a --nets b --pl c",
+    "measure --placed p --net-weights w --format yal --yal a",
+    "check --cert c --rewrite=x=y --format yal --yal a",
+    "check --cert c --format yal --yal a",
+];
+
+/// Whether these are the defaults of `plan` with a certificate in `x=y` for the YAL file `a`.
+fn is_plan_alone(read: &PlanWords<'_>) -> bool {
+    matches!(read.design.input, InputFiles::Yal { file: "a" })
+        && read.cert == "x=y"
+        && read.pl_out.is_none()
+        && !read.design.is_fixed
+        && (read.weights.area, read.weights.wire, read.workers) == (1, 0, 1)
+        && read.weights.net_weights.is_none()
+        && (read.design.scale.per_unit, read.design.shapes) == (1, 16)
+        && (read.design.width, read.design.height) == (1_048_576, 1_048_576)
+        && has_starts(read.starts, 0, 1000, 0, None)
+}
+
+/// Whether the walks have these values.
+fn has_starts(read: StartWords, count: u16, moves: u32, seed: u64, improve: Option<u64>) -> bool {
+    read.count == count && read.moves == moves && read.seed == seed && read.improve == improve
+}
+
+/// Whether a command says what the words at this place say.
+fn has_values(read: &CommandWords<'_>, place: usize) -> bool {
+    match (place, read) {
+        (0, CommandWords::Gen(read)) => {
+            read.seed == 7
+                && read.count == 4
+                && read.nodes.is_none()
+                && read.kinds == Kinds::Hard
+                && read.out == "g"
+        }
+        (1, CommandWords::Plan(read)) => is_plan_alone(read),
+        (2, CommandWords::Plan(read)) => has_starts(read.starts, 64, 1000, 0, None),
+        (3, CommandWords::Plan(read)) => has_starts(read.starts, 3, 100_000, u64::MAX, Some(0)),
+        (4, CommandWords::Resume(read)) => {
+            read.cert == "c"
+                && read.cert_out == "d"
+                && read.pl_out.is_none()
+                && read.workers == 1
+                && read.nodes == 4_000_001
+                && read.is_long
+        }
+        (5, CommandWords::Shape(read)) => read.design.width == 50 && read.design.height == 725,
+        (6, CommandWords::Measure(read)) => read.weights.net_weights == Some("w"),
+        (7, CommandWords::Check(read)) => read.cert == "c" && read.rewrite == Some("x=y"),
+        (8, CommandWords::Check(read)) => read.cert == "c" && read.rewrite.is_none(),
+        _ => false,
+    }
+}
+
+/// Whether the words at this place are read with their values.
+fn are_read(alloc: Global, place: usize, text: &str) -> Result<bool, AllocError> {
+    let words = spaced(alloc, &[text])?;
+    match meaning(alloc, &words)? {
+        Some(read) => Ok(has_values(&read, place)),
+        None => Ok(false),
+    }
+}
+
+/// What the words say reaches the command, and what they leave out has its default.
+#[test]
+fn values(rt: HostRuntime) {
+    for (place, text) in VALUES.iter().enumerate() {
+        assert!(rt; are_read(rt.alloc(), place, text) == Ok(true), "{text}");
+    }
+}
+
+/// Whether a command with these options is to take this bound.
+fn takes_bound(
+    alloc: Global,
+    command: &str,
+    more: &str,
+    chosen: BoundsChoice,
+) -> Result<bool, AllocError> {
+    let words = spaced(alloc, &[command, more, YAL])?;
+    Ok(match meaning(alloc, &words)? {
+        Some(CommandWords::Plan(read)) => read.bounds == chosen,
+        Some(CommandWords::Check(read)) => read.bounds == chosen,
+        Some(CommandWords::Resume(read)) => read.bounds == chosen,
+        _ => false,
+    })
 }
 
 /// The bound of each command that takes one is the standard one where none is given.
 #[test]
-fn values_of_bounds(rt: HostRuntime) -> Result<(), Fail> {
-    let alloc = rt.alloc();
+fn values_of_bounds(rt: HostRuntime) {
     for (more, chosen) in [
         ("", BoundsChoice::Standard),
         ("--bounds standard", BoundsChoice::Standard),
@@ -330,101 +405,8 @@ fn values_of_bounds(rt: HostRuntime) -> Result<(), Fail> {
             "check --cert c",
             "resume --cert c --cert-out d --nodes 1",
         ] {
-            let words = spaced(alloc, &[command, more, YAL])?;
-            let bounds = match read_words(alloc, &words)? {
-                Some(CommandWords::Plan(read)) => read.bounds,
-                Some(CommandWords::Check(read)) => read.bounds,
-                Some(CommandWords::Resume(read)) => read.bounds,
-                _ => return Err("command".into()),
-            };
-            assert!(rt; bounds == chosen, "{command} {more}");
+            let is_taken = takes_bound(rt.alloc(), command, more, chosen);
+            assert!(rt; is_taken == Ok(true), "{command} {more}");
         }
     }
-    Ok(())
-}
-
-/// So it is of `resume`, whose budget may be as great as that of a long search.
-#[test]
-fn values_of_resume(rt: HostRuntime) -> Result<(), Fail> {
-    let alloc = rt.alloc();
-    let words = spaced(
-        alloc,
-        &[
-            "resume --cert c --cert-out d --long --nodes 0000004000001",
-            YAL,
-        ],
-    )?;
-    let Some(CommandWords::Resume(read)) = read_words(alloc, &words)? else {
-        return Err("resume".into());
-    };
-    assert!(rt; read.cert == "c" && read.cert_out == "d" && read.pl_out.is_none());
-    assert_eq!(rt;
-        (read.workers, read.nodes, read.is_long),
-        (1, 4_000_001, true)
-    );
-    Ok(())
-}
-
-/// The outline of `shape` is in scaled units.
-#[test]
-fn values_of_shape(rt: HostRuntime) -> Result<(), Fail> {
-    let alloc = rt.alloc();
-    let words = spaced(
-        alloc,
-        &["shape --expr e --outline .50x007.25 --per-unit 0100", GSRC],
-    )?;
-    let Some(CommandWords::Shape(read)) = read_words(alloc, &words)? else {
-        return Err("shape".into());
-    };
-    assert_eq!(rt; (read.design.width, read.design.height), (50, 725));
-    Ok(())
-}
-
-/// The files that `measure` and `check` may name reach them.
-#[test]
-fn values_of_measure_and_check(rt: HostRuntime) -> Result<(), Fail> {
-    let alloc = rt.alloc();
-    let words = spaced(alloc, &["measure --placed p --net-weights w", YAL])?;
-    let Some(CommandWords::Measure(read)) = read_words(alloc, &words)? else {
-        return Err("measure".into());
-    };
-    assert!(rt; read.weights.net_weights == Some("w"));
-    for (more, rewrite) in [("", None), ("--rewrite=x=y", Some("x=y"))] {
-        let words = spaced(alloc, &["check --cert c", more, YAL])?;
-        let Some(CommandWords::Check(read)) = read_words(alloc, &words)? else {
-            return Err("check".into());
-        };
-        assert!(rt; read.cert == "c" && read.rewrite == rewrite, "{more}");
-    }
-    Ok(())
-}
-
-/// Lists of words at the edges: those with a meaning, and those without.
-#[test]
-fn edges(rt: HostRuntime) -> Result<(), Fail> {
-    let alloc = rt.alloc();
-    let plan = "plan --cert d --format gsrc --blocks a";
-    for more in TAKEN.lines() {
-        assert!(rt; has_meaning(alloc, &[plan, more])?, "{more}");
-    }
-    for more in REFUSED.lines() {
-        assert!(rt; !has_meaning(alloc, &[plan, more])?, "{more}");
-    }
-    let resume = "resume --cert c --cert-out d --format gsrc --blocks a";
-    for more in GOES_ON.lines() {
-        assert!(rt; has_meaning(alloc, &[resume, more])?, "{more}");
-    }
-    for more in GOES_NOWHERE.lines() {
-        assert!(rt; !has_meaning(alloc, &[resume, more])?, "{more}");
-    }
-    for list in WITHOUT.lines() {
-        assert!(rt; !has_meaning(alloc, &[list])?, "{list}");
-    }
-    assert!(rt;
-        has_meaning(
-            alloc,
-            &["gen --seed 18446744073709551615 --count 320 --out g"]
-        )?
-    );
-    Ok(())
 }

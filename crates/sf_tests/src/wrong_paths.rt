@@ -2,7 +2,7 @@
 
 use crate::paths::{ABOVE, ALONG, Written, chain, paths_of};
 use sf_model::{PathFault, Pin};
-use std::alloc::AllocError;
+use std::alloc::{AllocError, Global};
 use std::test::Fail;
 
 /// From pad 0 to the first block and back, by the net of weight 2.
@@ -88,18 +88,28 @@ const CASES: [(&[Written], &[Written], Option<usize>); 22] = [
     (&[], &[ABOVE, (Pin::Block(0), &[])], Some(1)),
 ];
 
+/// The number of the first of these paths that the chain refuses, if it refuses one.
+fn first_wrong(
+    alloc: Global,
+    across: &[Written],
+    upward: &[Written],
+) -> Result<Option<usize>, Fail> {
+    let mut design = chain(alloc)?;
+    match design.set_paths(alloc, paths_of(alloc, across, upward)?) {
+        Ok(()) => Ok(None),
+        Err(PathFault::BadPath(number)) => Ok(Some(number)),
+        Err(PathFault::NoMemory) => Err(AllocError.into()),
+    }
+}
+
 /// Legal paths are taken, and of others the first is named.
 #[test]
 fn takes_paths_or_names_the_first_wrong_one(rt: HostRuntime) -> Result<(), Fail> {
-    let alloc = rt.alloc();
     for (across, upward, wrong) in CASES {
-        let mut design = chain(alloc)?;
-        let found = match design.set_paths(alloc, paths_of(alloc, across, upward)?) {
-            Ok(()) => None,
-            Err(PathFault::BadPath(number)) => Some(number),
-            Err(PathFault::NoMemory) => return Err(AllocError.into()),
-        };
-        assert_eq!(rt; found, wrong);
+        assert!(rt;
+            first_wrong(rt.alloc(), across, upward)? == wrong,
+            "{wrong:?}"
+        );
     }
     Ok(())
 }

@@ -1,9 +1,11 @@
 //! YAL texts of few modules, and the first fault of others.
 
+ghost use Rattle.std.specs.Prelude.{◌≤◌, length};
+
 use sf_lex::NumberFault;
-use sf_model::{Kind, RawPin};
+use sf_model::{Kind, Parts, RawPin};
 use sf_yal::{YalFault, read_yal, yal_losses};
-use std::test::Fail;
+use std::alloc::{AllocError, Global};
 
 /// Two instances between two pads, in a row of three nets.
 const TWO_CELLS: &[u8] = b"/* two cells */
@@ -15,32 +17,33 @@ IOLIST; p PI 0 0 1 M1; q PO 10 0 1 M1; ENDIOLIST;
 NETWORK; u a p n; v b n q; ENDNETWORK; ENDMODULE;
 ";
 
+/// Whether these are the parts of the two cells.
+fn are_two_cells(parts: &Parts) -> bool {
+    match (
+        parts.blocks.as_slice(),
+        parts.pads.as_slice(),
+        parts.nets.as_slice(),
+    ) {
+        ([u, v], [_, q], [first, middle, last]) => {
+            u.name.as_bytes() == b"u".as_slice()
+                && matches!(u.kind, Kind::Hard { w: 20, h: 20 })
+                && v.name.as_bytes() == b"v".as_slice()
+                && q.name.as_bytes() == b"q".as_slice()
+                && q.place == Some((100, 0))
+                && matches!(first.pins.as_slice(), [RawPin::Block(0), RawPin::Pad(0)])
+                && matches!(middle.pins.as_slice(), [RawPin::Block(0), RawPin::Block(1)])
+                && matches!(last.pins.as_slice(), [RawPin::Block(1), RawPin::Pad(1)])
+                && parts.pads_in
+                && parts.strangers.as_slice().is_empty()
+        }
+        _ => false,
+    }
+}
+
 /// Instances are blocks, terminals with places are pads, and signals are nets.
 #[test]
-fn two_cells(rt: HostRuntime) -> Result<(), Fail> {
-    let out = read_yal(rt.alloc(), TWO_CELLS, 10)?;
-    let blocks = out.blocks.into_vec();
-    assert_eq!(rt; blocks.len(), 2);
-    assert_eq!(rt; blocks[0].name.as_bytes(), b"u".as_slice());
-    assert_eq!(rt; blocks[0].kind, Kind::Hard { w: 20, h: 20 });
-    assert_eq!(rt; blocks[1].name.as_bytes(), b"v".as_slice());
-    let pads = out.pads.into_vec();
-    assert_eq!(rt; pads.len(), 2);
-    assert_eq!(rt; pads[1].name.as_bytes(), b"q".as_slice());
-    assert_eq!(rt; pads[1].place, Some((100, 0)));
-    let nets = out.nets.into_vec();
-    assert_eq!(rt; nets.len(), 3);
-    assert!(rt; matches!(nets[0].pins.as_slice(), [RawPin::Block(0), RawPin::Pad(0)]));
-    assert!(rt;
-        matches!(
-            nets[1].pins.as_slice(),
-            [RawPin::Block(0), RawPin::Block(1)]
-        )
-    );
-    assert!(rt; matches!(nets[2].pins.as_slice(), [RawPin::Block(1), RawPin::Pad(1)]));
-    assert!(rt; out.pads_in);
-    assert_eq!(rt; out.strangers.as_slice().len(), 0);
-    Ok(())
+fn two_cells(rt: HostRuntime) {
+    assert!(rt; matches!(&read_yal(rt.alloc(), TWO_CELLS, 10), Ok(parts) if are_two_cells(parts)));
 }
 
 /// Texts with a fault each, and some with two.
@@ -89,16 +92,22 @@ fn has_fault(text: usize, fault: &YalFault) -> bool {
     }
 }
 
+/// Whether the text at this place is refused by its fault.
+fn is_refused(alloc: Global, place: usize, text: &[u8]) -> bool
+    requires { length text.now ≤ 67_108_864 }
+{
+    match read_yal(alloc, text, 1) {
+        Ok(_) => false,
+        Err(fault) => has_fault(place, &fault),
+    }
+}
+
 /// Each text is refused by its first fault.
 #[test]
-fn first_faults(rt: HostRuntime) -> Result<(), Fail> {
-    for (i, text) in TEXTS.iter().enumerate() {
-        match read_yal(rt.alloc(), text, 1) {
-            Ok(_) => assert!(rt; false, "{i}"),
-            Err(fault) => assert!(rt; has_fault(i, &fault), "{i}"),
-        }
+fn first_faults(rt: HostRuntime) {
+    for (place, text) in TEXTS.iter().enumerate() {
+        assert!(rt; is_refused(rt.alloc(), place, text), "{place}");
     }
-    Ok(())
 }
 
 /// Words between modules, comments within words, terminals without a place and statements of no meaning.
@@ -106,21 +115,27 @@ const KINDLY: &[u8] =
     b"stray words; MODULE t/**/x; TYPE/* */PARENT; ; IOLIST later; p PI 1 -2.5e; p PI +.5 -2; p PI 9 9.7;
 ENDIOLIST; NETWORK; u a n n/*,*/p; ENDNETWORK; other; ENDMODULE; Module a; Dimensions -1 0.5 3 1; EndModule;";
 
+/// Whether these are the parts of that text.
+fn are_kindly(parts: &Parts) -> bool {
+    match (
+        parts.blocks.as_slice(),
+        parts.pads.as_slice(),
+        parts.nets.as_slice(),
+    ) {
+        ([block], [pad], [first, last]) => {
+            matches!(block.kind, Kind::Hard { w: 40, h: 5 })
+                && pad.place == Some((5, -20))
+                && matches!(first.pins.as_slice(), [RawPin::Block(0)])
+                && matches!(last.pins.as_slice(), [RawPin::Block(0), RawPin::Pad(0)])
+        }
+        _ => false,
+    }
+}
+
 /// What has no meaning is passed over.
 #[test]
-fn kindly(rt: HostRuntime) -> Result<(), Fail> {
-    let out = read_yal(rt.alloc(), KINDLY, 10)?;
-    let blocks = out.blocks.into_vec();
-    assert_eq!(rt; blocks.len(), 1);
-    assert_eq!(rt; blocks[0].kind, Kind::Hard { w: 40, h: 5 });
-    let pads = out.pads.into_vec();
-    assert_eq!(rt; pads.len(), 1);
-    assert_eq!(rt; pads[0].place, Some((5, -20)));
-    let nets = out.nets.into_vec();
-    assert_eq!(rt; nets.len(), 2);
-    assert!(rt; matches!(nets[0].pins.as_slice(), [RawPin::Block(0)]));
-    assert!(rt; matches!(nets[1].pins.as_slice(), [RawPin::Block(0), RawPin::Pad(0)]));
-    Ok(())
+fn kindly(rt: HostRuntime) {
+    assert!(rt; matches!(&read_yal(rt.alloc(), KINDLY, 10), Ok(parts) if are_kindly(parts)));
 }
 
 /// A parent whose terminals have coordinates, a side, or nothing, and two modules of the type PAD.
@@ -132,7 +147,7 @@ NETWORK; u a p q; v vdd q; ENDNETWORK; ENDMODULE;";
 
 /// Terminals without coordinates are counted of the parent alone, and all modules of the type PAD.
 #[test]
-fn losses(rt: HostRuntime) -> Result<(), Fail> {
+fn losses(rt: HostRuntime) -> Result<(), AllocError> {
     for (text, unplaced, pad_modules) in [(LOSSY, 2, 2), (TWO_CELLS, 0, 0)] {
         let losses = yal_losses(rt.alloc(), text, 10)?;
         assert!(rt; losses.unplaced == unplaced && losses.pad_modules == pad_modules);

@@ -73,15 +73,26 @@ fn batch_answer<R: Threads + Wait + Sync + Copy + Send + 'static>(
     Ok((status, String::from_str(alloc, printed)?))
 }
 
+/// Whether a batch of these jobs answers and prints this.
+fn is_told<R: Threads + Wait + Sync + Copy + Send + 'static>(
+    rt: &R,
+    alloc: Global,
+    words: &str,
+    jobs: &'static [u8],
+    status: Status,
+    printed: &str,
+) -> Result<bool, Fail> {
+    let files = [("jobs", jobs), ("a.blocks", ONE), ("b.blocks", EQUALS)];
+    let gate = Arc::new(alloc, OpenGate)?;
+    let answer = batch_answer(rt, alloc, words, &files, gate)?;
+    Ok(answer.0 == status && answer.1.as_str() == printed)
+}
+
 #[test]
 fn batches_are_told_in_order(rt: HostRuntime) -> Result<(), Fail> {
-    let alloc = rt.alloc();
     for (words, jobs, status, printed) in ROWS {
-        let files = [("jobs", jobs), ("a.blocks", ONE), ("b.blocks", EQUALS)];
-        let gate = Arc::new(alloc, OpenGate)?;
-        let answer = batch_answer(&rt, alloc, words, &files, gate)?;
         assert!(rt;
-            answer.0 == status && answer.1.as_str() == printed,
+            is_told(&rt, rt.alloc(), words, jobs, status, printed)?,
             "{words}"
         );
     }
@@ -102,8 +113,11 @@ fn two_jobs_are_done_at_once(rt: HostRuntime) -> Result<(), Fail> {
     let files = [("jobs", jobs), ("b.blocks", EQUALS)];
     let theirs = Arc::try_clone(&gate)?;
     let (status, _) = batch_answer(&rt, alloc, "--jobs jobs --team 2", &files, theirs)?;
-    assert_eq!(rt; status, Status::Done);
-    assert_eq!(rt; gate.came.load(Ordering::SeqCst), 2);
-    assert!(rt; !gate.turns_ran_out.load(Ordering::SeqCst));
+    let came = gate.came.load(Ordering::SeqCst);
+    let ran_out = gate.turns_ran_out.load(Ordering::SeqCst);
+    assert!(rt;
+        status == Status::Done && came == 2 && !ran_out,
+        "{came} came"
+    );
     Ok(())
 }

@@ -5,11 +5,13 @@ use super::texts::{
     JOINED_CERT, NOWHERE, ONE, PADDED, SOFT, SQUARES, TO_PAD, TWO, TWO_CERT, TWO_UNNAMED,
 };
 use super::{
-    CHECK, CHECK_WIRED, CHECK_WORDS, GIVEN, Printed, Row, Text, answer, assert_printed,
-    assert_refused, assert_rows, has_line, shelf_of, words_of,
+    CHECK, CHECK_WIRED, CHECK_WORDS, GIVEN, Printed, Row, Text, answer, assert_rows, has_line,
+    is_refused, shelf_of, words_of,
 };
 use sf_io::Status;
+use std::alloc::Global;
 use std::test::Fail;
+use std::thread::Threads;
 
 const THREE: &[u8] = b"UCSC blocks 1.0
 NumSoftRectangularBlocks : 0
@@ -53,7 +55,7 @@ const NO_COST: &[u8] =
     b"slicing-certificate 1\nblocks 1\ncost 18446744073709551615\nbound 12\nplan 0:3x4\ntree\nE\nC\n";
 
 /// Certificates that are read and judged.
-pub const JUDGED: &[Row] = &[
+const JUDGED: &[Row] = &[
     Row {
         options: "--fixed",
         files: &[("a.blocks", TWO), ("a.cert", TWO_UNNAMED)],
@@ -167,25 +169,32 @@ fn certificates(rt: HostRuntime) -> Result<(), Fail> {
     assert_rows(&rt, rt.alloc(), &[JUDGED, UNREADABLE])
 }
 
-#[test]
-fn a_tree_without_end(rt: HostRuntime) -> Result<(), Fail> {
-    let alloc = rt.alloc();
+/// Whether a tree of so many splits without an end is refused with this line.
+fn is_endless(
+    rt: &(impl Threads + Sync),
+    alloc: Global,
+    splits: u64,
+    line: &str,
+) -> Result<bool, Fail> {
     let mut text = String::from_str(
         alloc,
         "slicing-certificate 1\nblocks 1\ncost 12\nbound 12\nplan 0:3x4\ntree\n",
     )?;
-    for _ in 0..3201 {
+    for _ in 0..splits {
         text.push_str("S 0\n")?;
     }
-    let files = [("a.blocks", ONE), ("a.cert", text.as_bytes())];
     let words = words_of(alloc, &[CHECK_WORDS])?;
-    assert_refused(
-        &rt,
-        alloc,
-        &words,
-        &files,
-        "error BadInput cert 3207 TooDeep\n",
-    )
+    let files = [("a.blocks", ONE), ("a.cert", text.as_bytes())];
+    is_refused(rt, alloc, &words, &files, line)
+}
+
+#[test]
+fn a_tree_without_end(rt: HostRuntime) -> Result<(), Fail> {
+    let too_deep = "error BadInput cert 3207 TooDeep\n";
+    assert!(rt; is_endless(&rt, rt.alloc(), 3201, too_deep)?);
+    let cut_off = "error BadInput cert 3205 Truncated\n";
+    assert!(rt; is_endless(&rt, rt.alloc(), 3199, cut_off)?);
+    Ok(())
 }
 
 const SOFT_FILES: &[Text] = &[("a.blocks", SOFT), ("a.nets", TO_PAD), ("a.pl", FAR_PAD)];
@@ -278,21 +287,28 @@ const BOUNDS: [Closed; 11] = [
     },
 ];
 
+/// Whether the answer names the node and its bound.
+fn is_named(rt: &(impl Threads + Sync), alloc: Global, closed: &Closed) -> Result<bool, Fail> {
+    let (blocks, tree, named) = (closed.blocks, closed.tree, closed.node_and_bound);
+    let cert = format!(in alloc;
+        "slicing-certificate 1\nblocks {blocks}\ncost none\nbound none\nplan none\ntree\n{tree}\n"
+    )?;
+    let mut shelf = shelf_of(alloc, closed.files, 0)?;
+    shelf.add("a.cert", cert.as_bytes())?;
+    let words = words_of(alloc, &[closed.command, closed.options])?;
+    let (status, printed) = answer(rt, alloc, &words, &mut shelf, 0)?;
+    let said = format!(in alloc; "status No NotClosed {named} none\n")?;
+    Ok(status == Status::No && printed.as_str() == said.as_str())
+}
+
 #[test]
 fn bounds(rt: HostRuntime) -> Result<(), Fail> {
-    let alloc = rt.alloc();
-    for closed in BOUNDS {
-        let (blocks, tree, named) = (closed.blocks, closed.tree, closed.node_and_bound);
-        let cert = format!(in alloc;
-            "slicing-certificate 1\nblocks {blocks}\ncost none\nbound none\nplan none\ntree\n{tree}\n"
-        )?;
-        let said = format!(in alloc; "status No NotClosed {named} none\n")?;
-        let mut shelf = shelf_of(alloc, closed.files, 0)?;
-        shelf.add("a.cert", cert.as_bytes())?;
-        let words = words_of(alloc, &[closed.command, closed.options])?;
-        let (status, printed) = answer(&rt, alloc, &words, &mut shelf, 0)?;
-        assert_eq!(rt; status, Status::No, "{tree}");
-        assert_eq!(rt; printed.as_str(), said.as_str(), "{tree}");
+    for closed in &BOUNDS {
+        assert!(rt;
+            is_named(&rt, rt.alloc(), closed)?,
+            "{}",
+            closed.node_and_bound
+        );
     }
     Ok(())
 }
@@ -322,23 +338,40 @@ const DESIGNS: [(&str, &str, &[Text]); 13] = [
     ("", "--nodes 6", &[("a.blocks", EQUALS)]),
 ];
 
+const DESIGN: &str = "--format gsrc --blocks a.blocks --cert a.cert";
+
+/// Whether the certificate that is stored with these options is valid, and the plan's report has its lines.
+fn is_valid(
+    rt: &(impl Threads + Sync),
+    alloc: Global,
+    options: &str,
+    budget: &str,
+    files: &[Text],
+) -> Result<bool, Fail> {
+    let mut shelf = shelf_of(alloc, files, 0)?;
+    let plan = words_of(alloc, &["plan", DESIGN, options, budget])?;
+    let (_, planned) = answer(rt, alloc, &plan, &mut shelf, 0)?;
+    let check = words_of(alloc, &["check", DESIGN, options])?;
+    let (status, checked) = answer(rt, alloc, &check, &mut shelf, 0)?;
+    let mut lines = checked.lines();
+    if status != Status::Done || lines.next() != Some("status Yes") {
+        return Ok(false);
+    }
+    for line in lines {
+        if !has_line(planned.as_str(), line) {
+            return Ok(false);
+        }
+    }
+    Ok(true)
+}
+
 #[test]
 fn stored_certificates(rt: HostRuntime) -> Result<(), Fail> {
-    let alloc = rt.alloc();
-    let design = "--format gsrc --blocks a.blocks --cert a.cert";
     for (options, budget, files) in DESIGNS {
-        let mut shelf = shelf_of(alloc, files, 0)?;
-        let plan = words_of(alloc, &["plan", design, options, budget])?;
-        let (_, planned) = answer(&rt, alloc, &plan, &mut shelf, 0)?;
-        assert!(rt; shelf.bytes("a.cert").is_some(), "{options} {budget}");
-        let check = words_of(alloc, &["check", design, options])?;
-        let (status, checked) = answer(&rt, alloc, &check, &mut shelf, 0)?;
-        assert_eq!(rt; status, Status::Done, "{options} {budget}");
-        let mut lines = checked.lines();
-        assert_eq!(rt; lines.next(), Some("status Yes"), "{options} {budget}");
-        for line in lines {
-            assert!(rt; has_line(planned.as_str(), line), "{line} in {planned}");
-        }
+        assert!(rt;
+            is_valid(&rt, rt.alloc(), options, budget, files)?,
+            "{options} {budget}"
+        );
     }
     Ok(())
 }

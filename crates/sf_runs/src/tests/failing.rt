@@ -5,13 +5,12 @@ use super::reading::{READ, REFUSED};
 use super::texts::{FAR_PAD, ONE, ONE_CERT, PADDED, PADDED_CERT, PADDED_LINES, TO_PAD};
 use super::words::{AT_ENDS, MEANINGLESS};
 use super::{
-    CHECK, GIVEN, NAMES, PLAN, PLAN_WIRED, Printed, Row, assert_held, assert_printed, assert_words,
-    shelf_of, words_of,
+    CHECK, GIVEN, NAMES, PLAN, PLAN_WIRED, Printed, Row, difference, is_held, is_printed, shelf_of,
+    words_of,
 };
 use sf_io::{OpenGate, PartShelf, PartSink, Status};
 use sf_program::run;
 use std::alloc::Global;
-use std::process::Abort;
 use std::test::Fail;
 use std::thread::Threads;
 
@@ -192,12 +191,22 @@ const CASES: &[Case] = &[
     },
 ];
 
+/// What differs from the row of a run.
+fn case_difference(
+    rt: &(impl Threads + Sync),
+    alloc: Global,
+    case: &Case,
+) -> Result<Option<&'static str>, Fail> {
+    let words = words_of(alloc, &[case.row.command, case.row.options])?;
+    difference(rt, alloc, &case.row, &words, case.call, case.put)
+}
+
 #[test]
 fn failing_calls(rt: HostRuntime) -> Result<(), Fail> {
-    let alloc = rt.alloc();
     for case in CASES {
-        let words = words_of(alloc, &[case.row.command, case.row.options])?;
-        assert_words(&rt, alloc, &case.row, &words, case.call, case.put)?;
+        let differs = case_difference(&rt, rt.alloc(), case)?;
+        let (command, call, put) = (case.row.command, case.call, case.put);
+        assert!(rt; differs.is_none(), "{command} {call} {put}: {differs:?}");
     }
     Ok(())
 }
@@ -363,34 +372,41 @@ const PARTS: &[Part] = &[
     },
 ];
 
-/// Runs the row over a shelf and a sink that take only a part.
-fn assert_part(rt: &(impl Abort + Threads + Sync), alloc: Global, part: &Part) -> Result<(), Fail> {
-    let row = &part.row;
-    let (command, options) = (row.command, row.options);
-    let words = words_of(alloc, &[command, options])?;
+/// What differs from the row over a shelf and a sink that take only a part.
+fn part_difference(
+    rt: &(impl Threads + Sync),
+    alloc: Global,
+    row: &Row,
+    part: &Part,
+) -> Result<Option<&'static str>, Fail> {
+    let words = words_of(alloc, &[row.command, row.options])?;
     let mut shelf = PartShelf::new(shelf_of(alloc, row.files, part.load)?, part.whole);
     let mut out = PartSink::new(alloc, part.room);
     let status = run(rt, alloc, &words, &mut shelf, &mut out, &OpenGate);
-    assert_eq!(rt; status, row.status, "{command} {options}");
-    assert_printed(rt, row, str::from_utf8(out.bytes())?);
-    for name in NAMES {
-        assert_held(rt, row, name, shelf.bytes(name));
+    if status != row.status {
+        return Ok(Some("status"));
     }
-    Ok(())
+    if !is_printed(row.printed, str::from_utf8(out.bytes())?) {
+        return Ok(Some("printed"));
+    }
+    for name in NAMES {
+        if !is_held(row, name, shelf.bytes(name)) {
+            return Ok(Some(name));
+        }
+    }
+    Ok(None)
 }
 
 #[test]
 fn parts_of_calls(rt: HostRuntime) -> Result<(), Fail> {
     for part in PARTS {
-        assert_part(&rt, rt.alloc(), part)?;
+        let differs = part_difference(&rt, rt.alloc(), &part.row, part)?;
+        assert!(rt; differs.is_none(), "{}: {differs:?}", part.row.command);
     }
     for rows in [READ, REFUSED, UNREADABLE, MEANINGLESS, AT_ENDS] {
         for row in rows {
-            let part = Part {
-                row: *row,
-                ..ALL_DONE
-            };
-            assert_part(&rt, rt.alloc(), &part)?;
+            let differs = part_difference(&rt, rt.alloc(), row, &ALL_DONE)?;
+            assert!(rt; differs.is_none(), "{}: {differs:?}", row.command);
         }
     }
     Ok(())

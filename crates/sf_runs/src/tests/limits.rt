@@ -1,9 +1,8 @@
 //! Texts past the limits of pads, nets, pins and files, which lines by the thousand make.
 
-use super::{PLAN_WORDS, PLAN_YAL, answer, words_of};
+use super::{PLAN_WORDS, PLAN_YAL, Printed, comes_to};
 use sf_io::{MemShelf, Status};
 use std::alloc::{AllocError, Global};
-use std::process::Abort;
 use std::test::Fail;
 use std::thread::Threads;
 
@@ -62,43 +61,54 @@ fn text_of(alloc: Global, past: &Past) -> Result<String, AllocError> {
     Ok(text)
 }
 
-/// Runs a search over the text, which is refused.
-fn assert_past(rt: &(impl Abort + Threads + Sync), alloc: Global, past: &Past) -> Result<(), Fail> {
-    let words = words_of(alloc, &[PLAN_WORDS, past.options])?;
+/// Whether a search over the text is refused.
+fn is_past(rt: &(impl Threads + Sync), alloc: Global, past: &Past) -> Result<bool, Fail> {
     let mut shelf = MemShelf::new(alloc, Vec::new(alloc));
     shelf.add("a.blocks", BLOCK)?;
     shelf.add(past.file, text_of(alloc, past)?.as_bytes())?;
-    let (status, printed) = answer(rt, alloc, &words, &mut shelf, 0)?;
-    assert_eq!(rt; status, Status::OverLimit, "{}", past.printed);
-    assert_eq!(rt; printed.as_str(), past.printed);
-    Ok(())
+    let words = [PLAN_WORDS, past.options];
+    let printed = Printed::Whole(past.printed);
+    comes_to(rt, alloc, &mut shelf, &words, Status::OverLimit, printed)
 }
 
 #[test]
 fn past_each_limit(rt: HostRuntime) -> Result<(), Fail> {
     for past in PAST {
-        assert_past(&rt, rt.alloc(), past)?;
+        assert!(rt; is_past(&rt, rt.alloc(), past)?, "{}", past.printed);
     }
     Ok(())
 }
 
 #[test]
 fn past_the_limit_of_pins(rt: HostRuntime) -> Result<(), Fail> {
-    assert_past(&rt, rt.alloc(), &PINS)
+    assert!(rt; is_past(&rt, rt.alloc(), &PINS)?);
+    Ok(())
+}
+
+/// Whether a file of so many bytes is refused.
+fn is_too_long(
+    rt: &(impl Threads + Sync),
+    alloc: Global,
+    bytes: usize,
+    printed: &'static str,
+) -> Result<bool, Fail> {
+    let mut shelf = MemShelf::new(alloc, Vec::new(alloc));
+    shelf.add("a.yal", &Vec::from_elem(alloc, b' ', bytes)?)?;
+    let printed = Printed::Whole(printed);
+    comes_to(
+        rt,
+        alloc,
+        &mut shelf,
+        &[PLAN_YAL.command],
+        Status::OverLimit,
+        printed,
+    )
 }
 
 /// A file of one byte more than 64 MiB.
 #[test]
 fn past_the_limit_of_files(rt: HostRuntime) -> Result<(), Fail> {
-    let alloc = rt.alloc();
-    let words = words_of(alloc, &[PLAN_YAL.command])?;
-    let mut shelf = MemShelf::new(alloc, Vec::new(alloc));
-    shelf.add("a.yal", &vec![in alloc; b' '; 67_108_865]?)?;
-    let (status, printed) = answer(&rt, alloc, &words, &mut shelf, 0)?;
-    assert_eq!(rt; status, Status::OverLimit);
-    assert_eq!(rt;
-        printed.as_str(),
-        "error OverLimit file 67108865 67108864\n"
-    );
+    let line = "error OverLimit file 67108865 67108864\n";
+    assert!(rt; is_too_long(&rt, rt.alloc(), 67_108_865, line)?);
     Ok(())
 }

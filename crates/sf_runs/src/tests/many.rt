@@ -1,6 +1,6 @@
 //! The greatest number of blocks: 320 blocks 10x10 in files with comments and CR LF, and one more.
 
-use super::{PLAN_WIRED, answer, has_line, words_of};
+use super::{PLAN_WIRED, Printed, answer, comes_to, words_of};
 use sf_io::{MemShelf, Status};
 use std::alloc::{AllocError, Global};
 use std::test::Fail;
@@ -64,37 +64,65 @@ fn count_lines(text: &str, wanted: &str) -> u64 {
     count
 }
 
-/// What a search with these options answers and prints.
-fn plan(
+/// Whether a search with these options comes to this status, and prints this.
+fn plans_to(
     rt: &(impl Threads + Sync),
     alloc: Global,
     shelf: &mut MemShelf,
     options: &'static str,
-) -> Result<(Status, String), Fail> {
-    let words = words_of(alloc, &[PLAN_WIRED.command, options])?;
-    answer(rt, alloc, &words, shelf, 0)
+    status: Status,
+    printed: Printed,
+) -> Result<bool, Fail> {
+    let words = [PLAN_WIRED.command, options];
+    comes_to(rt, alloc, shelf, &words, status, printed)
+}
+
+/// What is printed of the plan of so many blocks in a chain.
+fn chain_report(alloc: Global, count: u64) -> Result<String, AllocError> {
+    let chain = chain(alloc, count)?;
+    format!(in alloc;
+        "status Optimal\ncost 32000\nbound 32000\ndecided 1926\nsize 3200 10\narea 32000\nwire 20\nplan {chain}\n"
+    )
+}
+
+/// What its certificate begins with.
+fn chain_head(alloc: Global, count: u64) -> Result<String, AllocError> {
+    let chain = chain(alloc, count)?;
+    format!(in alloc;
+        "slicing-certificate 2\nblocks {count}\ncost 32000\nbound 32000\nplan {chain}\ntree\n"
+    )
+}
+
+/// How often the certificate's tree is extended, closed and open, and how many lines it has, where it begins so.
+fn tree_counts(cert: &str, head: &str) -> Option<[u64; 4]> {
+    if !cert.starts_with(head) {
+        return None;
+    }
+    let lines = cert.lines().count() as u64;
+    Some([
+        count_lines(cert, "E"),
+        count_lines(cert, "C a"),
+        count_lines(cert, "O"),
+        lines,
+    ])
+}
+
+/// The same of the certificate that is stored with the plan of 320 blocks, where its report is printed.
+fn chain_counts(rt: &(impl Threads + Sync), alloc: Global) -> Result<Option<[u64; 4]>, Fail> {
+    let mut shelf = shelf(alloc, 320)?;
+    let words = words_of(alloc, &[PLAN_WIRED.command])?;
+    let (status, printed) = answer(rt, alloc, &words, &mut shelf, 0)?;
+    if status != Status::Done || printed.as_str() != chain_report(alloc, 320)?.as_str() {
+        return Ok(None);
+    }
+    let cert = str::from_utf8(shelf.bytes("a.cert").unwrap_or(b""))?;
+    Ok(tree_counts(cert, chain_head(alloc, 320)?.as_str()))
 }
 
 #[test]
 fn a_chain(rt: HostRuntime) -> Result<(), Fail> {
-    let alloc = rt.alloc();
-    let mut shelf = shelf(alloc, 320)?;
-    let (status, printed) = plan(&rt, alloc, &mut shelf, "")?;
-    assert_eq!(rt; status, Status::Done);
-    let chain = chain(alloc, 320)?;
-    let wanted = format!(in alloc;
-        "status Optimal\ncost 32000\nbound 32000\ndecided 1926\nsize 3200 10\narea 32000\nwire 20\nplan {chain}\n"
-    )?;
-    assert_eq!(rt; printed.as_str(), wanted.as_str());
-    let cert = str::from_utf8(shelf.bytes("a.cert").unwrap_or(b""))?;
-    let head = format!(in alloc;
-        "slicing-certificate 2\nblocks 320\ncost 32000\nbound 32000\nplan {chain}\ntree\n"
-    )?;
-    assert!(rt; cert.starts_with(head.as_str()));
-    assert_eq!(rt; count_lines(cert, "E"), 639);
-    assert_eq!(rt; count_lines(cert, "C a"), 1287);
-    assert_eq!(rt; count_lines(cert, "O"), 100_794);
-    assert_eq!(rt; cert.lines().count(), 6 + 639 + 1287 + 100_794);
+    let lines = 6 + 639 + 1287 + 100_794;
+    assert!(rt; chain_counts(&rt, rt.alloc())? == Some([639, 1287, 100_794, lines]));
     Ok(())
 }
 
@@ -103,68 +131,88 @@ fn a_chain(rt: HostRuntime) -> Result<(), Fail> {
 fn the_first_plan(rt: HostRuntime) -> Result<(), Fail> {
     let alloc = rt.alloc();
     let mut shelf = shelf(alloc, 320)?;
-    let (status, printed) = plan(&rt, alloc, &mut shelf, "--nodes 639")?;
-    assert_eq!(rt; status, Status::Open);
-    for line in ["status Open", "cost none", "plan none"] {
-        assert!(rt; has_line(printed.as_str(), line), "{line}");
-    }
-    let (status, printed) = plan(&rt, alloc, &mut shelf, "--nodes 640")?;
-    assert_eq!(rt; status, Status::Done);
-    for line in ["cost 32000", "bound 32000", "decided 640"] {
-        assert!(rt; has_line(printed.as_str(), line), "{line}");
-    }
+    let none = Printed::Lines("status Open\ncost none\nplan none");
+    assert!(rt; plans_to(&rt, alloc, &mut shelf, "--nodes 639", Status::Open, none)?);
+    let first = Printed::Lines("cost 32000\nbound 32000\ndecided 640");
+    assert!(rt; plans_to(&rt, alloc, &mut shelf, "--nodes 640", Status::Done, first)?);
     Ok(())
+}
+
+/// Whether a search of so many blocks is refused with this line, and stores nothing.
+fn is_past(
+    rt: &(impl Threads + Sync),
+    alloc: Global,
+    count: u64,
+    options: &'static str,
+    line: &'static str,
+) -> Result<bool, Fail> {
+    let mut shelf = shelf(alloc, count)?;
+    let printed = Printed::Whole(line);
+    let is_told = plans_to(rt, alloc, &mut shelf, options, Status::OverLimit, printed)?;
+    Ok(is_told && shelf.bytes("a.cert").is_none())
 }
 
 #[test]
 fn past_the_limits(rt: HostRuntime) -> Result<(), Fail> {
-    let alloc = rt.alloc();
-    let mut most = shelf(alloc, 320)?;
-    let (status, printed) = plan(&rt, alloc, &mut most, "--nodes 1927")?;
-    assert_eq!(rt; status, Status::OverLimit);
-    assert_eq!(rt; printed.as_str(), "error OverLimit nodes 1927 1926\n");
-    assert!(rt; most.bytes("a.cert").is_none());
-    let mut more = shelf(alloc, 321)?;
-    let (status, printed) = plan(&rt, alloc, &mut more, "")?;
-    assert_eq!(rt; status, Status::OverLimit);
-    assert_eq!(rt; printed.as_str(), "error OverLimit blocks 321 320\n");
-    assert!(rt; more.bytes("a.cert").is_none());
+    let nodes = "error OverLimit nodes 1927 1926\n";
+    assert!(rt; is_past(&rt, rt.alloc(), 320, "--nodes 1927", nodes)?);
+    let blocks = "error OverLimit blocks 321 320\n";
+    assert!(rt; is_past(&rt, rt.alloc(), 321, "", blocks)?);
     Ok(())
 }
+
+const RESUME: &str =
+    "resume --format gsrc --blocks a.blocks --nets a.nets --pl a.pl --cert a.cert --cert-out b.cert --nodes 1";
 
 /// A certificate that decides as many subproblems as the limit allows is gone on from by a long search alone.
 #[test]
 fn past_a_certificate(rt: HostRuntime) -> Result<(), Fail> {
     let alloc = rt.alloc();
     let mut shelf = shelf(alloc, 320)?;
-    plan(&rt, alloc, &mut shelf, "")?;
-    let resume =
-        "resume --format gsrc --blocks a.blocks --nets a.nets --pl a.pl --cert a.cert --cert-out b.cert --nodes 1";
-    let words = words_of(alloc, &[resume])?;
-    let (status, printed) = answer(&rt, alloc, &words, &mut shelf, 0)?;
-    assert_eq!(rt; status, Status::OverLimit);
-    assert_eq!(rt; printed.as_str(), "error OverLimit nodes 1927 1926\n");
+    let planned = Printed::Lines("decided 1926");
+    assert!(rt; plans_to(&rt, alloc, &mut shelf, "", Status::Done, planned)?);
+    let past = Printed::Whole("error OverLimit nodes 1927 1926\n");
+    assert!(rt; comes_to(&rt, alloc, &mut shelf, &[RESUME], Status::OverLimit, past)?);
     assert!(rt; shelf.bytes("b.cert").is_none());
-    let words = words_of(alloc, &[resume, "--long"])?;
-    let (status, printed) = answer(&rt, alloc, &words, &mut shelf, 0)?;
-    assert_eq!(rt; status, Status::Done);
-    for line in ["cost 32000", "bound 32000", "decided 1927"] {
-        assert!(rt; has_line(printed.as_str(), line), "{line}");
-    }
+    let lines = Printed::Lines("cost 32000\nbound 32000\ndecided 1927");
+    assert!(rt;
+        comes_to(
+            &rt,
+            alloc,
+            &mut shelf,
+            &[RESUME, "--long"],
+            Status::Done,
+            lines
+        )?
+    );
     Ok(())
+}
+
+/// Whether the first decision over 320 blocks and so many nets has this bound.
+fn has_bound(
+    rt: &(impl Threads + Sync),
+    alloc: Global,
+    nets: u64,
+    bound: &'static str,
+) -> Result<bool, Fail> {
+    let mut shelf = shelf(alloc, 320)?;
+    shelf.add("a.nets", nets_text(alloc, nets)?.as_bytes())?;
+    let printed = Printed::Lines(bound);
+    plans_to(
+        rt,
+        alloc,
+        &mut shelf,
+        "--wire-weight 1 --nodes 1",
+        Status::Open,
+        printed,
+    )
 }
 
 /// Rows are kept of 1,500 nets of 320 blocks, and not of 1,600. Each block has the area 100, and the middles
 /// of the two blocks of a net are 10 apart at least, which is 20 in doubled coordinates.
 #[test]
 fn nets_with_rows_and_without(rt: HostRuntime) -> Result<(), Fail> {
-    let alloc = rt.alloc();
-    for (nets, bound) in [(1500, "bound 62000"), (1600, "bound 64000")] {
-        let mut shelf = shelf(alloc, 320)?;
-        shelf.add("a.nets", nets_text(alloc, nets)?.as_bytes())?;
-        let (status, printed) = plan(&rt, alloc, &mut shelf, "--wire-weight 1 --nodes 1")?;
-        assert_eq!(rt; status, Status::Open);
-        assert!(rt; has_line(printed.as_str(), bound), "{bound} in {printed}");
-    }
+    assert!(rt; has_bound(&rt, rt.alloc(), 1500, "bound 62000")?);
+    assert!(rt; has_bound(&rt, rt.alloc(), 1600, "bound 64000")?);
     Ok(())
 }

@@ -4,9 +4,11 @@ use super::texts::{
     CELL_BLOCKS, CELL_CERT, CELL_LINES, CELL_NETS, CELL_PADS, CELL_PLACES, CELLS, JOINED, NOWHERE,
     ONE_CERT, ONE_LINES, PADDED, SQUARES, TO_PAD,
 };
-use super::{PLAN, PLAN_WIRED, PLAN_YAL, Printed, Row, assert_refused, assert_rows, words_of};
+use super::{PLAN, PLAN_WIRED, PLAN_YAL, Printed, Row, assert_rows, is_refused, words_of};
 use sf_io::Status;
+use std::alloc::Global;
 use std::test::Fail;
+use std::thread::Threads;
 
 const LOOSE: &[u8] = b"UCSC blocks 1.0
 NumSoftRectangularBlocks : 0
@@ -315,15 +317,24 @@ fn designs(rt: HostRuntime) -> Result<(), Fail> {
     assert_rows(&rt, rt.alloc(), &[READ, REFUSED])
 }
 
+/// Whether a text with this line of a block is refused for this fault.
+fn is_line_refused(
+    rt: &(impl Threads + Sync),
+    alloc: Global,
+    line: &str,
+    fault: &str,
+) -> Result<bool, Fail> {
+    let text = format!(in alloc; "{BEFORE_BLOCK}{line}\n")?;
+    let said = format!(in alloc; "error BadInput blocks 5 {fault}\n")?;
+    let words = words_of(alloc, &[PLAN.command])?;
+    let files = [("a.blocks", text.as_bytes())];
+    is_refused(rt, alloc, &words, &files, said.as_str())
+}
+
 #[test]
 fn lines_of_a_block(rt: HostRuntime) -> Result<(), Fail> {
-    let alloc = rt.alloc();
-    let words = words_of(alloc, &[PLAN.command])?;
     for (line, fault) in BLOCK_LINES {
-        let text = format!(in alloc; "{BEFORE_BLOCK}{line}\n")?;
-        let said = format!(in alloc; "error BadInput blocks 5 {fault}\n")?;
-        let files = [("a.blocks", text.as_bytes())];
-        assert_refused(&rt, alloc, &words, &files, said.as_str())?;
+        assert!(rt; is_line_refused(&rt, rt.alloc(), line, fault)?, "{line}");
     }
     Ok(())
 }

@@ -1,9 +1,11 @@
 //! Searches that go on from a certificate.
 
 use super::texts::{CLOSED_ROOT, EQUALS, TWO};
-use super::{GIVEN, Printed, Row, answer, assert_rows, has_line, shelf_of, words_of};
-use sf_io::Status;
+use super::{GIVEN, Printed, Row, answer, assert_rows, comes_to, has_line, shelf_of, words_of};
+use sf_io::{MemShelf, Status};
+use std::alloc::Global;
 use std::test::Fail;
+use std::thread::Threads;
 
 const RESUME_WORDS: &str = "resume --format gsrc --blocks a.blocks --cert a.cert --cert-out b.cert";
 
@@ -203,34 +205,50 @@ fn rejected(rt: HostRuntime) -> Result<(), Fail> {
     assert_rows(&rt, rt.alloc(), &[REJECTED])
 }
 
+/// How a search ends that goes on by one decision, where what it stores is valid.
+fn ends_step(
+    rt: &(impl Threads + Sync),
+    alloc: Global,
+    shelf: &mut MemShelf,
+    workers: &str,
+) -> Result<Option<Status>, Fail> {
+    let step = "--cert b.cert --cert-out b.cert --nodes 1 --fixed";
+    let words = words_of(
+        alloc,
+        &["resume --format gsrc --blocks a.blocks", step, workers],
+    )?;
+    let (status, printed) = answer(rt, alloc, &words, shelf, 0)?;
+    let check = ["check --format gsrc --blocks a.blocks --fixed --cert b.cert"];
+    let is_valid = comes_to(rt, alloc, shelf, &check, Status::Done, Printed::Lines(""))?;
+    if !is_valid || (status != Status::Open && !has_line(printed.as_str(), "cost 15")) {
+        return Ok(None);
+    }
+    Ok(Some(status))
+}
+
+/// How it ends after at most twenty such steps from an open root.
+fn ends_one_by_one(
+    rt: &(impl Threads + Sync),
+    alloc: Global,
+    workers: &str,
+) -> Result<Option<Status>, Fail> {
+    let mut shelf = shelf_of(alloc, &[("a.blocks", TWO), ("b.cert", OPEN_ROOT)], 0)?;
+    for _ in 0..20 {
+        let ended = ends_step(rt, alloc, &mut shelf, workers)?;
+        if ended != Some(Status::Open) {
+            return Ok(ended);
+        }
+    }
+    Ok(None)
+}
+
 /// A search of two blocks decides nine subproblems; gone on with one by one, it comes to the same cost, and
 /// each certificate on the way is valid.
 #[test]
 fn one_by_one(rt: HostRuntime) -> Result<(), Fail> {
-    let alloc = rt.alloc();
     for workers in ["--workers 1", "--workers 2", "--workers 4"] {
-        let mut shelf = shelf_of(alloc, &[("a.blocks", TWO), ("b.cert", OPEN_ROOT)], 0)?;
-        let mut last = Status::Open;
-        for _ in 0..20 {
-            let step = "--cert b.cert --cert-out b.cert --nodes 1 --fixed";
-            let resume = words_of(
-                alloc,
-                &["resume --format gsrc --blocks a.blocks", step, workers],
-            )?;
-            let (status, printed) = answer(&rt, alloc, &resume, &mut shelf, 0)?;
-            let check = words_of(
-                alloc,
-                &["check --format gsrc --blocks a.blocks --fixed --cert b.cert"],
-            )?;
-            let (checked, said) = answer(&rt, alloc, &check, &mut shelf, 0)?;
-            assert_eq!(rt; checked, Status::Done, "{said}");
-            last = status;
-            if status != Status::Open {
-                assert!(rt; has_line(printed.as_str(), "cost 15"), "{printed}");
-                break;
-            }
-        }
-        assert_eq!(rt; last, Status::Done, "{workers}");
+        let ended = ends_one_by_one(&rt, rt.alloc(), workers)?;
+        assert!(rt; ended == Some(Status::Done), "{workers}");
     }
     Ok(())
 }

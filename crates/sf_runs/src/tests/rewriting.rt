@@ -4,9 +4,11 @@ use super::texts::{
     CELL_BLOCKS, CELL_CERT, CELL_NETS, CELL_PADS, CLOSED_ROOT, JOINED, JOINED_CERT, ONE, SQUARES,
     TWO, TWO_CERT, TWO_UNNAMED,
 };
-use super::{GIVEN, Printed, Row, answer, assert_rows, shelf_of, words_of};
+use super::{GIVEN, Printed, Row, assert_rows, comes_to, shelf_of};
 use sf_io::Status;
+use std::alloc::Global;
 use std::test::Fail;
+use std::thread::Threads;
 
 const REWRITE: Row = Row {
     command: "check --format gsrc --blocks a.blocks --cert a.cert --rewrite b.cert",
@@ -70,31 +72,41 @@ fn rewritten_certificates(rt: HostRuntime) -> Result<(), Fail> {
     assert_rows(&rt, rt.alloc(), &[ROWS])
 }
 
-/// With two workers the order of the decisions is free, and so are the tags; the parts that they name are
-/// not.
-#[test]
-fn what_several_workers_store(rt: HostRuntime) -> Result<(), Fail> {
-    let alloc = rt.alloc();
-    let design = "--format gsrc --blocks a.blocks --nets a.nets --pl a.pl --wire-weight 1";
+const DESIGN: &str =
+    "--format gsrc --blocks a.blocks --nets a.nets --pl a.pl --wire-weight 1 --cert a.cert";
+
+/// Whether what so many workers store is stored anew as it was, and is this, if one is given.
+fn is_kept(
+    rt: &(impl Threads + Sync),
+    alloc: Global,
+    workers: &str,
+    cert: Option<&[u8]>,
+) -> Result<bool, Fail> {
     let files = [
         ("a.blocks", CELL_BLOCKS),
         ("a.nets", CELL_NETS),
         ("a.pl", CELL_PADS),
     ];
-    for (workers, cert) in [("1", Some(CELL_CERT)), ("2", None)] {
-        let mut shelf = shelf_of(alloc, &files, 0)?;
-        let plan = words_of(alloc, &["plan", design, "--cert a.cert --workers", workers])?;
-        let (status, _) = answer(&rt, alloc, &plan, &mut shelf, 0)?;
-        assert_eq!(rt; status, Status::Done, "{workers}");
-        let check = words_of(alloc, &["check", design, "--cert a.cert --rewrite b.cert"])?;
-        let (status, _) = answer(&rt, alloc, &check, &mut shelf, 0)?;
-        assert_eq!(rt; status, Status::Done, "{workers}");
-        assert!(rt; shelf.bytes("b.cert").is_some(), "{workers}");
-        assert!(rt; shelf.bytes("b.cert") == shelf.bytes("a.cert"), "{workers}");
-        assert!(rt;
-            cert.is_none() || shelf.bytes("a.cert") == cert,
-            "{workers}"
-        );
-    }
+    let mut shelf = shelf_of(alloc, &files, 0)?;
+    let plan = ["plan", DESIGN, "--workers", workers];
+    let check = ["check", DESIGN, "--rewrite b.cert"];
+    let none = Printed::Lines("");
+    let is_done = comes_to(rt, alloc, &mut shelf, &plan, Status::Done, none)?
+        && comes_to(rt, alloc, &mut shelf, &check, Status::Done, none)?;
+    let stored = shelf.bytes("b.cert");
+    Ok(
+        is_done
+            && stored.is_some()
+            && stored == shelf.bytes("a.cert")
+            && (cert.is_none() || stored == cert),
+    )
+}
+
+/// With two workers the order of the decisions is free, and so are the tags; the parts that they name are
+/// not.
+#[test]
+fn what_several_workers_store(rt: HostRuntime) -> Result<(), Fail> {
+    assert!(rt; is_kept(&rt, rt.alloc(), "1", Some(CELL_CERT))?);
+    assert!(rt; is_kept(&rt, rt.alloc(), "2", None)?);
     Ok(())
 }

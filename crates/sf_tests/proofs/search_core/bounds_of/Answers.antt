@@ -11,4 +11,4 @@ returns-in_ok-from_elem-in-Extend c =
     let nodes = branched (kind_of c.args.how) node in
     let is : nodes ≡ extended node = ap (λ how. branched (kind_of how) node) c.in-Extend.is in
     let many : length nodes ≡ c.len.result = omega (arith, ap length is, ap length c.in_ok-children-in-Extend.ensures, c.len.ensures) in
-    c.new.ensures ∙ c.in_ok-from_elem-in-Extend.ensures.items_if_clones_equal (λ y e. cc) ∙ splat_is_map nodes c.len.result 7 many
+    c.from_vec.ensures ∙ c.in_ok-from_elem-in-Extend.ensures.items_if_clones_equal (λ y e. cc) ∙ splat_is_map nodes c.len.result 7 many
