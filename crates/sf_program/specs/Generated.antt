@@ -105,6 +105,12 @@ GenRead o = Then (BudgetTested false o.nodes o.count) (λ budget. DesignGenerate
 abbrev pub texts_stored : GenOptions → List Stored
 texts_stored o = (blocks_name o, blocks_made o) ∷ (nets_name o, nets_made o) ∷ (pl_name o, pl_made o) ∷ []
 
+-- the answer of the search of the generated design
+pub record IsMadeSearched (o : GenOptions) (status : Status) (stored : List Stored) (printed : List ℕ) : Type 0 where
+  pub design : Design
+  pub made : DesignGenerated o (Ok design)
+  pub answered : IsAnswered Standard design 1 (budget_of o.nodes (block_count design)) None 1 (cert_name o) None status stored printed
+
 -- the design is generated, its texts are stored, and what follows is the answer of its search
 pub record IsGenerated (o : GenOptions) (status : Status) (stored : List Stored) (printed : List ℕ) : Type 0 where
   pub design : Design

@@ -29,11 +29,11 @@ fn judge_text(
     alloc: Global,
     bounds: BoundsChoice,
     text: &[u8],
-    design: Design,
+    design: &mut Design,
 ) -> Result<Work, Stop>
-    ensures answer { IfOk result (Gives (JudgedText bounds design text.now None)) }
+    ensures answer { IfOk result (Gives (JudgedText bounds design.old text.now None)) }
     ensures refused { IfErr result (λ stop.
-        Stops stop (λ why. Judged (cert_read (block_count design) text.now) cert_refusal (Err why))) }
+        Stops stop (λ why. Judged (cert_read (block_count design.old) text.now) cert_refusal (Err why))) }
     ensures tells { TellsNoLoad result }
 {
     let answer = answer_text(alloc, bounds, text, design)?;
@@ -48,12 +48,12 @@ fn check_file<S: Shelf>(
     shelf: &mut S,
     name: &str,
     is_long: bool,
-    design: Design,
+    design: &mut Design,
     rewrite: Option<&str>,
 ) -> Result<Work, Stop>
     ensures answer { let rewrite = text_of rewrite.entry in IfOk result
-        (Gives (JudgedFile bounds is_long (S.seen shelf.old).holds name.now design rewrite)) }
-    ensures refused { let blocks = block_count design in IfErr result (λ stop.
+        (Gives (JudgedFile bounds is_long (S.seen shelf.old).holds name.now design.old rewrite)) }
+    ensures refused { let blocks = block_count design.old in IfErr result (λ stop.
         Stops stop (λ why. CertRead is_long (S.seen shelf.old).holds name.now blocks (Err why))) }
     ensures shelf { ReadsShelf (S.seen shelf.old) (S.seen shelf.new) result }
 {
@@ -70,14 +70,14 @@ pub fn check<S: Shelf>(alloc: Global, words: &CheckWords<'_>, shelf: &mut S) -> 
     ensures answer { Obeys (check (check_seen words.now)) (S.seen shelf.old).holds result }
     ensures shelf { ReadsShelf (S.seen shelf.old) (S.seen shelf.new) result }
 {
-    let design = read_known(alloc, shelf, &words.design, words.weights, words.bounds)?;
+    let mut design = read_known(alloc, shelf, &words.design, words.weights, words.bounds)?;
     check_file(
         alloc,
         words.bounds,
         shelf,
         words.cert,
         words.is_long,
-        design,
+        &mut design,
         words.rewrite,
     )
 }

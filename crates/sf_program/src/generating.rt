@@ -1,14 +1,17 @@
 //! The command `gen`: a design made from a number.
 
-ghost use Rattle.std.specs.Prelude.{◌≡◌, ◌++◌, All, Ok, Err, IfErr, IfOk, string_bytes};
+ghost use Rattle.std.specs.Prelude.{◌≡◌, ◌++◌, ◌∷◌, [], All, None, Ok, Err, IfErr, IfOk, string_bytes};
 ghost use Rattle.sf_gsrc.specs.Ranges.{HasPinsInAnyRange};
 ghost use Rattle.sf_model.specs.Admitted.{HasPinsInRange, HasSizes, IsSized};
+ghost use Rattle.sf_model.specs.Legal.{block_count};
 ghost use Rattle.sf_words.specs.Seen.{gen_seen};
-ghost use Rattle.sf_program.specs.Generated.{DesignGenerated, GenRead, IsGenerated, blocks_made, blocks_said};
+ghost use Rattle.sf_program.specs.Generated.{DesignGenerated, GenRead, IsGenerated, IsMadeSearched};
+ghost use Rattle.sf_program.specs.Generated.{blocks_made, blocks_said, cert_name};
 ghost use Rattle.sf_program.specs.Generated.{kinds_of, nets_made, nets_said, parts_made, pl_made};
 ghost use Rattle.sf_program.specs.Generated.{places_said, texts_stored};
 ghost use Rattle.sf_designs.specs.Loads.{TellsNoLoad};
 ghost use Rattle.sf_designs.specs.Outcome.{IsFault, Stops};
+ghost use Rattle.sf_program.specs.Planned.{IsAnswered, budget_of};
 ghost use Rattle.sf_designs.specs.Stores.{Gives, stored_in};
 
 use crate::budget::test_budget;
@@ -167,6 +170,22 @@ fn made_design(alloc: Global, words: &GenWords<'_>, parts: Parts) -> Result<Desi
     make_design(alloc, &told, both_weights, read)
 }
 
+/// One more store: these bytes under the base and an ending.
+fn push_text(
+    alloc: Global,
+    stores: &mut Vec<Store>,
+    words: &GenWords<'_>,
+    ending: &str,
+    bytes: Vec<u8>,
+) -> Result<(), NoMemory>
+    ensures { IfOk result (λ done. stored_in stores.new.items ≡ stored_in stores.old.items
+        ++ (words.now.out.now ++ ending.now, bytes.items) ∷ []) }
+{
+    let name = file_name(alloc, words, ending)?;
+    stores.push(Store { name, bytes })?;
+    Ok(())
+}
+
 /// The stores of the three texts.
 fn text_stores(alloc: Global, words: &GenWords<'_>, texts: GenTexts) -> Result<Vec<Store>, NoMemory>
     requires blocks { texts.blocks ≡ blocks_made (gen_seen words.now) }
@@ -175,18 +194,15 @@ fn text_stores(alloc: Global, words: &GenWords<'_>, texts: GenTexts) -> Result<V
     ensures { IfOk result (λ stores. stored_in stores.items ≡ texts_stored (gen_seen words.now)) }
 {
     let mut stores = Vec::new(alloc);
-    stores.push(Store {
-        name: file_name(alloc, words, ".blocks")?,
-        bytes: texts.blocks.into_vec(),
-    })?;
-    stores.push(Store {
-        name: file_name(alloc, words, ".nets")?,
-        bytes: texts.nets.into_vec(),
-    })?;
-    stores.push(Store {
-        name: file_name(alloc, words, ".pl")?,
-        bytes: texts.pl.into_vec(),
-    })?;
+    push_text(
+        alloc,
+        &mut stores,
+        words,
+        ".blocks",
+        texts.blocks.into_vec(),
+    )?;
+    push_text(alloc, &mut stores, words, ".nets", texts.nets.into_vec())?;
+    push_text(alloc, &mut stores, words, ".pl", texts.pl.into_vec())?;
     Ok(stores)
 }
 
@@ -207,6 +223,76 @@ fn put_behind(mut stores: Vec<Store>, searched: Work) -> Result<Work, NoMemory>
     })
 }
 
+/// What the search of a generated design tells, with one worker.
+fn search_made<R: Threads + Sync, G: Gate>(
+    rt: &R,
+    alloc: Global,
+    words: &GenWords<'_>,
+    design: &Design,
+    gate: &G,
+) -> Result<Work, NoMemory>
+    ensures { let o = gen_seen words.now in IfOk result (Gives (IsAnswered BoundsChoice.Standard design.now 1
+        (budget_of o.nodes (block_count design.now)) None 1 (cert_name o) None)) }
+{
+    let cert = file_name(alloc, words, ".cert")?;
+    let names = Names {
+        cert: cert.as_str(),
+        pl: None,
+        scale: 1,
+    };
+    search_design(
+        rt,
+        alloc,
+        BoundsChoice::Standard,
+        design,
+        None,
+        words.nodes,
+        1,
+        names,
+        gate,
+    )
+}
+
+/// What the search of the design of the three texts tells.
+fn search_texts<R: Threads + Sync, G: Gate>(
+    rt: &R,
+    alloc: Global,
+    words: &GenWords<'_>,
+    texts: &GenTexts,
+    gate: &G,
+) -> Result<Work, Stop>
+    requires blocks { texts.now.blocks ≡ blocks_made (gen_seen words.now) }
+    requires nets { texts.now.nets ≡ nets_made (gen_seen words.now) }
+    requires pl { texts.now.pl ≡ pl_made (gen_seen words.now) }
+    ensures answer { IfOk result (Gives (IsMadeSearched (gen_seen words.now))) }
+    ensures never { IfErr result IsFault }
+    ensures tells { TellsNoLoad result }
+{
+    let parts = read_back(alloc, words, texts)?;
+    let design = made_design(alloc, words, parts)?;
+    let work = search_made(rt, alloc, words, &design, gate)?;
+    Ok(work)
+}
+
+/// The answer of a search, behind the stores of the three texts.
+fn put_behind_texts(
+    alloc: Global,
+    words: &GenWords<'_>,
+    texts: GenTexts,
+    searched: Work,
+) -> Result<Work, NoMemory>
+    requires blocks { texts.blocks ≡ blocks_made (gen_seen words.now) }
+    requires nets { texts.nets ≡ nets_made (gen_seen words.now) }
+    requires pl { texts.pl ≡ pl_made (gen_seen words.now) }
+    ensures stores { IfOk result (λ w. stored_in w.stores.items
+        ≡ texts_stored (gen_seen words.now) ++ stored_in searched.stores.items) }
+    ensures status { IfOk result (λ w. w.status ≡ searched.status) }
+    ensures text { IfOk result (λ w. w.text ≡ searched.text) }
+{
+    let stores = text_stores(alloc, words, texts)?;
+    put_behind(stores, searched)
+}
+
 /// Makes a design from a number, stores its texts, and searches it as `plan` does, with one worker.
 pub fn generate<R: Threads + Sync, G: Gate>(
     rt: &R,
@@ -220,26 +306,7 @@ pub fn generate<R: Threads + Sync, G: Gate>(
 {
     test_budget(alloc, false, words.nodes, u64::from(words.count))?;
     let texts = made_texts(alloc, words)?;
-    let parts = read_back(alloc, words, &texts)?;
-    let design = made_design(alloc, words, parts)?;
-    let cert = file_name(alloc, words, ".cert")?;
-    let names = Names {
-        cert: cert.as_str(),
-        pl: None,
-        scale: 1,
-    };
-    let searched = search_design(
-        rt,
-        alloc,
-        BoundsChoice::Standard,
-        &design,
-        None,
-        words.nodes,
-        1,
-        names,
-        gate,
-    )?;
-    let stores = text_stores(alloc, words, texts)?;
-    let work = put_behind(stores, searched)?;
+    let searched = search_texts(rt, alloc, words, &texts, gate)?;
+    let work = put_behind_texts(alloc, words, texts, searched)?;
     Ok(work)
 }

@@ -95,24 +95,23 @@ fn go_on_within<R: Threads + Sync, G: Gate>(
 fn take_up<R: Threads + Sync, G: Gate>(
     rt: &R,
     alloc: Global,
-    design: Design,
+    design: &mut Design,
     words: &ResumeWords<'_>,
     cert: Cert,
     gate: &G,
 ) -> Result<Work, Stop>
-    requires blocks { cert.blocks ≡ block_count design }
+    requires blocks { cert.blocks ≡ block_count design.old }
     requires scale { IsScale words.now.design.scale.per_unit }
-    ensures answer { IfOk result (Gives (IsTakenUp (resume_seen words.now) design cert)) }
+    ensures answer { IfOk result (Gives (IsTakenUp (resume_seen words.now) design.old cert)) }
     ensures within { let o = resume_seen words.now in
-        IfOk result (λ w. SumTested o.bounds o.is_long o.nodes design cert (Ok cert)) }
+        IfOk result (λ w. SumTested o.bounds o.is_long o.nodes design.old cert (Ok cert)) }
     ensures refused { let o = resume_seen words.now in IfErr result (λ stop.
-        Stops stop (λ why. SumTested o.bounds o.is_long o.nodes design cert (Err why))) }
+        Stops stop (λ why. SumTested o.bounds o.is_long o.nodes design.old cert (Err why))) }
     ensures tells { TellsNoLoad result }
 {
-    let mut routed = design;
-    let answer = answer_cert(alloc, words.bounds, &mut routed, &cert)?;
+    let answer = answer_cert(alloc, words.bounds, design, &cert)?;
     match answer {
-        Answer::Yes(_, _, count) => go_on_within(rt, alloc, &routed, words, cert, count, gate),
+        Answer::Yes(_, _, count) => go_on_within(rt, alloc, design, words, cert, count, gate),
         Answer::No(_) => Ok(answer_work(alloc, answer, no_stores(alloc))?),
     }
 }
@@ -130,7 +129,7 @@ pub fn resume<R: Threads + Sync, S: Shelf, G: Gate>(
     ensures answer { Obeys (resume (resume_seen words.now)) (S.seen shelf.old).holds result }
     ensures shelf { ReadsShelf (S.seen shelf.old) (S.seen shelf.new) result }
 {
-    let design = read_known(alloc, shelf, &words.design, words.weights, words.bounds)?;
+    let mut design = read_known(alloc, shelf, &words.design, words.weights, words.bounds)?;
     let cert = read_cert_file(alloc, shelf, words.cert, words.is_long, &design)?;
-    take_up(rt, alloc, design, words, cert, gate)
+    take_up(rt, alloc, &mut design, words, cert, gate)
 }

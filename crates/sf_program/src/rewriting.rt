@@ -68,16 +68,15 @@ fn stores_of(
 fn rewrite_cert(
     alloc: Global,
     bounds: BoundsChoice,
-    design: Design,
+    design: &mut Design,
     cert: Cert,
     name: &str,
 ) -> Result<Work, NoMemory>
-    requires { cert.blocks ≡ block_count design }
-    ensures { IfOk result (Gives (IsJudged bounds design cert (Some name.now))) }
+    requires { cert.blocks ≡ block_count design.old }
+    ensures { IfOk result (Gives (IsJudged bounds design.old cert (Some name.now))) }
 {
-    let mut routed = design;
-    let answer = answer_cert(alloc, bounds, &mut routed, &cert)?;
-    let stores = stores_of(alloc, bounds, &routed, cert, answer, name)?;
+    let answer = answer_cert(alloc, bounds, design, &cert)?;
+    let stores = stores_of(alloc, bounds, design, cert, answer, name)?;
     answer_work(alloc, answer, stores)
 }
 
@@ -86,15 +85,15 @@ pub fn rewrite_text(
     alloc: Global,
     bounds: BoundsChoice,
     text: &[u8],
-    design: Design,
+    design: &mut Design,
     name: &str,
 ) -> Result<Work, Stop>
-    ensures answer { IfOk result (Gives (JudgedText bounds design text.now (Some name.now))) }
+    ensures answer { IfOk result (Gives (JudgedText bounds design.old text.now (Some name.now))) }
     ensures refused { IfErr result (λ stop.
-        Stops stop (λ why. Judged (cert_read (block_count design) text.now) cert_refusal (Err why))) }
+        Stops stop (λ why. Judged (cert_read (block_count design.old) text.now) cert_refusal (Err why))) }
     ensures tells { TellsNoLoad result }
 {
-    let cert = read_cert(alloc, text, &design)?;
+    let cert = read_cert(alloc, text, design)?;
     let work = rewrite_cert(alloc, bounds, design, cert, name)?;
     Ok(work)
 }

@@ -72,16 +72,15 @@ pub fn answer_text(
     alloc: Global,
     bounds: BoundsChoice,
     text: &[u8],
-    design: Design,
+    routed: &mut Design,
 ) -> Result<Answer, Stop>
-    ensures answer { IfOk result (IsTextAnswer bounds design text.now) }
+    ensures answer { IfOk result (IsTextAnswer bounds routed.old text.now) }
     ensures refused { IfErr result (λ stop.
-        Stops stop (λ why. Judged (cert_read (block_count design) text.now) cert_refusal (Err why))) }
+        Stops stop (λ why. Judged (cert_read (block_count routed.old) text.now) cert_refusal (Err why))) }
     ensures tells { TellsNoLoad result }
 {
-    let mut routed = design;
-    let paths = text_paths(alloc, text, &routed)?;
-    let wrong = take_paths(alloc, bounds, &mut routed, paths)?;
-    let found = check_text(alloc, bounds, text, &routed)?;
+    let paths = text_paths(alloc, text, routed)?;
+    let wrong = take_paths(alloc, bounds, routed, paths)?;
+    let found = check_text(alloc, bounds, text, routed)?;
     Ok(with_wrong_path(found, wrong))
 }
