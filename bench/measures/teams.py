@@ -1,9 +1,10 @@
 #!/usr/bin/env python3
 """Measures teams of workers: python3 bench/measures/teams.py PATH/floorplan [CASE..]
 
-Each case is one of run.py's designs with a budget. In turn, several times each, it is searched by one worker (`plan --workers 1`,
-one walk), by teams of one (`resume` from a certificate that leaves all but the root open), of two and of four workers, and by four
-programs at once that share nothing. Printed are, per case, the least of all times:
+Each case is one of run.py's designs with a budget. In turn, nine times each, or three where no wall time is wanted, it is
+searched by one worker (`plan --workers 1`, one walk), by teams of one (`resume` from a certificate that leaves all but the
+root open), of two and of four workers, and by four programs at once that share nothing. Printed are, per case, the least of
+all times:
 
   processor time per decision of one worker and of each team, and each team's over one worker's. Wanted are at most 1.5, and 2.5
   where a design has 100 blocks and more;
@@ -40,7 +41,7 @@ CASES = [
 ]
 MOST_MEMORY = 1.5
 WORK_OF_FOUR, FASTER, FASTER_THAN_FOUR = 3.3, 2.5, 0.75
-TIMES = 9
+TIMES, FEWER_TIMES = 9, 3
 TIME = "/usr/bin/time"
 HEAPS = "glibc.malloc.top_pad=1048576"
 
@@ -109,7 +110,7 @@ def judged(figure, is_as_wanted):
 def measure(program, name, blocks, nets, nodes, most, is_timed):
     ways = ways_of(program, words_of(blocks, nets))
     least, four = {}, None
-    for _ in range(TIMES):
+    for _ in range(TIMES if is_timed else FEWER_TIMES):
         for way, words in ways.items():
             part, run = (Run(words + ["--nodes", str(budget)]) for budget in (nodes // 4, nodes))
             if run.status not in (0, 3):
