@@ -1,18 +1,8 @@
 -- The chain is a normal expression.
-use Rattle.std.proofs.Common.{◌≡◌, ℕ, zero, suc, ◌<◌, ◌≤◌, [], ◌∷◌, ◌++◌, arith, refl, ap, subst, ◌∙◌, cond, inl, inr}
-use Rattle.std.specs.Prelude.{◌==◌, count_by}
+use Rattle.std.proofs.Common.{◌≡◌, ℕ, zero, suc, ◌<◌, ◌≤◌, [], ◌∷◌, ◌++◌, arith, refl, ap, subst, ◌∙◌, cond, inl, inr, ◌==◌, count_by}
 use Rattle.std.proofs.Common.{append_assoc}
-use Rattle.std.proofs.lemmas.Bool.Decides.{eqb_tells}
-use Rattle.std.proofs.lemmas.List.Sums.{sum_by-append, sum_by-cons}
-use Rattle.sf_model.specs.Tree.{Tree, Leaf, Beside, leaves, HasEachOnce}
-use Rattle.sf_model.proofs.Each.{each-append}
-use Rattle.sf_polish.specs.Postfix.{IsSkewed, postfix}
-use Rattle.sf_polish.specs.Shaping.{no_shape}
-use Rattle.sf_polish.proofs.Normality.{postfix-normal}
-use Rattle.sf_model.specs.declared.parts.Shape.{Shape}
 use Rattle.sf_polish.specs.declared.expr.Token.TheVariants as token
-use Rattle.sf_anneal.proofs.Common.{AllByRecursion, All-from_recursion, IsNormal, cases_lt}
-use Rattle.sf_anneal.specs.Walk.{chain}
+use Rattle.sf_anneal.proofs.Common.{AllByRecursion, All-from_recursion, IsNormal, cases_lt, eqb_tells, sum_by-append, sum_by-cons, Tree, Leaf, Beside, leaves, HasEachOnce, each-append, IsSkewed, postfix, no_shape, postfix-normal, Shape, chain}
 
 -- the blocks from 0 to n side by side
 abbrev row : ℕ → Tree

@@ -1,12 +1,6 @@
 -- What threads gave in order.
-use Rattle.std.proofs.Common.{◌≡◌, ℕ, zero, suc, ◌+◌, ◌<◌, List, [], ◌∷◌, length, map, refl, ap, subst, arith}
-use Rattle.std.specs.Prelude.{Option, Result, Ok, IfOk, slice_index_or}
-use Rattle.std.specs.List.{AllZip, range_with_len}
-use Rattle.std.specs.declared.alloc.AllocError.{AllocError}
-use Rattle.sf_model.specs.declared.design.Design.{Design}
-use Rattle.sf_polish.specs.declared.expr.Expr.{Expr}
-use Rattle.sf_anneal.specs.Starts.{IsImproved, IsNoDearer, words_of}
-use Rattle.sf_anneal.specs.Walk.{IsWalk}
+use Rattle.std.proofs.Common.{◌≡◌, ℕ, zero, suc, ◌+◌, ◌<◌, List, [], ◌∷◌, length, map, refl, ap, subst, arith, Option, Result, Ok, IfOk, slice_index_or}
+use Rattle.sf_anneal.proofs.Common.{AllZip, range_with_len, AllocError, Design, Expr, IsImproved, IsNoDearer, words_of, IsWalk}
 
 -- what holds of each number and what it gave holds of what stands at its place
 pub gave-at : {X E : Type 0} (P : ℕ → Result X E → Type 0) (Q : ℕ → X → Type 0) (a n : ℕ) (ys : List X) → ((i : ℕ) (y : X) → P i (Ok y) → Q i y) → AllZip P (range_with_len a n) (map (λ y. Ok y) ys)

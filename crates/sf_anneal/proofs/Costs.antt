@@ -1,28 +1,9 @@
 -- What the root curve tells of the cost of an expression.
-use Rattle.std.proofs.Common.{◌≡◌, ℕ, ◌+◌, ◌-◌, ◌*◌, ◌^◌, ◌≤◌, List, [], length, take, mul-le-mul, arith, refl, ap, sym, subst, ◌∙◌}
-use Rattle.std.specs.Prelude.{Contains, Some, None, replicate}
-use Rattle.std.proofs.Math.Seq.{take-length}
-use Rattle.std.proofs.lemmas.List.Elements.{All-contains}
-use Rattle.std.proofs.lemmas.List.{length-replicate}
-use Rattle.sf_model.specs.declared.TheConstants.{MAX}
-use Rattle.sf_model.specs.declared.design.Design.{Design}
-use Rattle.sf_model.specs.declared.parts.Shape.{Shape}
-use Rattle.sf_model.specs.declared.plan.Spot.{Spot}
-use Rattle.sf_model.specs.Cost.{cost}
-use Rattle.sf_model.specs.Legal.{block_count}
-use Rattle.sf_model.specs.Tree.{Tree, spots_of}
+use Rattle.std.proofs.Common.{◌≡◌, ℕ, ◌+◌, ◌-◌, ◌*◌, ◌^◌, ◌≤◌, List, [], length, take, mul-le-mul, arith, refl, ap, sym, subst, ◌∙◌, Contains, Some, None, replicate}
 use Rattle.sf_model.specs.Wire.{wire}
-use Rattle.sf_polish.specs.declared.expr.Expr.{Expr}
-use Rattle.sf_polish.specs.declared.expr.Token.{Token}
-use Rattle.sf_polish.specs.Shaping.{no_shape, with_leaves}
-use Rattle.sf_polish.proofs.Shaped.{length-with_leaves, once-of_normal, spelled-by}
-use Rattle.sf_curves.specs.Choices.{IsRootCurve}
-use Rattle.sf_curves.specs.Points.{IsLeastArea, IsWithin, area_of}
 use Rattle.sf_place.proofs.ByNumber.{plan-legal, plan-placed, plan-wire}
 use Rattle.sf_place.specs.Verdict.{AreLegal}
-use Rattle.sf_anneal.specs.Measured.{IsCost, IsTraced, whole_spans}
-use Rattle.sf_anneal.specs.Parts.{AreParts, IsLaid, IsTaken, stretch}
-use Rattle.sf_anneal.proofs.Common.{IsNormal}
+use Rattle.sf_anneal.proofs.Common.{IsNormal, take-length, All-contains, length-replicate, MAX, Design, Shape, Spot, cost, block_count, Tree, spots_of, Expr, Token, no_shape, with_leaves, length-with_leaves, once-of_normal, spelled-by, IsRootCurve, IsLeastArea, IsWithin, area_of, IsCost, IsTraced, whole_spans, AreParts, IsLaid, IsTaken, stretch}
 use Rattle.sf_anneal.proofs.Joined.{IsRight}
 use Rattle.sf_anneal.proofs.Rooted.{part-right, part-taken}
 use Rattle.sf_anneal.proofs.Tracing.{choice-fits, choice-legal}

@@ -1,8 +1,6 @@
 -- The operators of a run are turned.
-use Rattle.std.proofs.Common.{◌≡◌, ℕ, suc, ◌+◌, ◌≤◌, List, [], ◌∷◌, ◌++◌, length, take, drop, append-nil, arith, refl, ap, sym, ◌∙◌, Bool, true, false, cond, not}
-use Rattle.std.specs.Prelude.{◌==◌, if◌then◌else◌}
-use Rattle.std.proofs.lemmas.List.{drop_all, take_all}
-use Rattle.sf_anneal.proofs.Common.{AllByRecursion, All-from_recursion, recursion_from_All, IsFalse, count_by, map, sum_by-cons, Token, is_operand, is_block, is_outside, same_operator, IsNormal, Alternating, normal-reads, first-free, begun_by, runs_from, runs, flipped_from, flipped, turned}
+use Rattle.std.proofs.Common.{◌≡◌, ℕ, suc, ◌+◌, ◌≤◌, List, [], ◌∷◌, ◌++◌, length, take, drop, append-nil, arith, refl, ap, sym, ◌∙◌, Bool, true, false, cond, not, ◌==◌, if◌then◌else◌}
+use Rattle.sf_anneal.proofs.Common.{AllByRecursion, All-from_recursion, recursion_from_All, IsFalse, count_by, map, sum_by-cons, Token, is_operand, is_block, is_outside, same_operator, IsNormal, Alternating, normal-reads, first-free, begun_by, runs_from, runs, flipped_from, flipped, turned, drop_all, take_all}
 use Rattle.sf_polish.specs.declared.expr.Token.TheVariants as token
 use Rattle.sf_anneal.proofs.Patterns.{normal-like, Reads-like}
 

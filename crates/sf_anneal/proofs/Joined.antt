@@ -1,31 +1,10 @@
 -- Root curves and traces of a block, and of two expressions that are joined.
-use Rattle.std.proofs.Common.{◌≡◌, ℕ, zero, suc, length, get_or, ◌<◌, ◌≤◌, List, [], ◌∷◌, ◌++◌, All, AllPairs, arith, refl, ap, sym, subst, ◌∙◌, inl, inr, ◌⊎◌}
-use Rattle.std.specs.Prelude.{Contains}
-use Rattle.std.specs.List.{AllByRecursion}
-use Rattle.std.proofs.lemmas.Bool.{cases_lt}
-use Rattle.std.proofs.lemmas.List.Elements.{All-contains, All-from_recursion, Contains-get_or, recursion_from_All}
-use Rattle.sf_model.proofs.Each.{each-append, each-left, each-right}
-use Rattle.sf_model.specs.declared.design.Design.{Design}
-use Rattle.sf_model.specs.declared.parts.Outline.{Outline}
-use Rattle.sf_model.specs.declared.parts.Shape.{Shape}
-use Rattle.sf_model.specs.Spans.{shapes_in}
-use Rattle.sf_model.specs.Tree.{Tree, Leaf, Beside, Above, leaves}
-use Rattle.sf_polish.specs.declared.expr.Token.{Token}
+use Rattle.std.proofs.Common.{◌≡◌, ℕ, zero, suc, length, get_or, ◌<◌, ◌≤◌, List, [], ◌∷◌, ◌++◌, All, AllPairs, arith, refl, ap, sym, subst, ◌∙◌, inl, inr, ◌⊎◌, Contains}
+use Rattle.sf_anneal.proofs.Common.{AllByRecursion, cases_lt, All-contains, All-from_recursion, Contains-get_or, recursion_from_All, each-append, each-left, each-right, Design, Outline, Shape, shapes_in, Tree, Leaf, Beside, Above, leaves, Token, postfix, no_shape, one-form, form-postfix, above_small, beside_small, AllPairs-head, AllPairs-tail, Contains-cons_cases, Contains-head, Contains-tail, IsChoice, IsRootCurve, size_of, plan_in, size_in, token_in, CoversJoins, IsCombination, IsCovered, IsLowest, IsNarrowest, IsNoLarger, IsSlimmer, IsWithin, above_size, beside_size, Direction, whole_spans, IsBlockCurve, IsTaken}
 use Rattle.sf_polish.specs.declared.expr.Token.TheVariants as token
-use Rattle.sf_polish.specs.Postfix.{postfix}
-use Rattle.sf_polish.specs.Shaping.{no_shape}
 use Rattle.sf_curves.proofs.Choosing.{Grows, just-sized}
-use Rattle.sf_curves.proofs.Forms.{one-form, form-postfix}
-use Rattle.sf_curves.proofs.Joints.{above_small, beside_small}
-use Rattle.sf_curves.proofs.Members.{AllPairs-head, AllPairs-tail, Contains-cons_cases, Contains-head, Contains-tail}
-use Rattle.sf_curves.specs.Choices.{IsChoice, IsRootCurve, size_of}
-use Rattle.sf_curves.specs.Direction.{plan_in, size_in, token_in}
 use Rattle.sf_curves.specs.Forms.{form}
-use Rattle.sf_curves.specs.Points.{CoversJoins, IsCombination, IsCovered, IsLowest, IsNarrowest, IsNoLarger, IsSlimmer, IsWithin, above_size, beside_size}
-use Rattle.sf_curves.specs.declared.direction.Direction.{Direction}
 use Rattle.sf_curves.specs.declared.direction.Direction.TheVariants as way
-use Rattle.sf_anneal.specs.Measured.{whole_spans}
-use Rattle.sf_anneal.specs.Parts.{IsBlockCurve, IsTaken}
 
 -- a joined room grows with both
 grows : (d : Direction) → Grows (size_in d)

@@ -1,16 +1,7 @@
 -- What was found for moved tokens is kept for them.
-use Rattle.std.proofs.Common.{◌≡◌, ℕ, ◌+◌, ◌-◌, ◌*◌, ◌<◌, List, ◌++◌, length, take, drop, arith, ap, false, subst, sym, ◌∙◌}
-use Rattle.std.specs.Prelude.{slice_index_or}
-use Rattle.sf_model.specs.declared.design.Design.{Design}
-use Rattle.sf_model.specs.declared.parts.Shape.{Shape}
-use Rattle.std.proofs.Math.Seq.{take-append_seam}
-use Rattle.sf_model.specs.declared.plan.Spot.{Spot}
-use Rattle.sf_model.specs.Legal.{block_count}
-use Rattle.sf_polish.specs.declared.expr.Token.{Token}
+use Rattle.std.proofs.Common.{◌≡◌, ℕ, ◌+◌, ◌-◌, ◌*◌, ◌<◌, List, ◌++◌, length, take, drop, arith, ap, false, subst, sym, ◌∙◌, slice_index_or}
+use Rattle.sf_anneal.proofs.Common.{Design, Shape, take-append_seam, Spot, block_count, Token, Moved, Parts, AreBlockCurves, AreKnown, AreMoved, HaveRoom, IsFound, IsReady, before_in, chosen_curve, curve_by, kept_in, known_curve, moved_curve, token_at}
 use Rattle.sf_anneal.specs.declared.keeping.Kept.{Kept}
-use Rattle.sf_anneal.specs.declared.parts.Moved.{Moved}
-use Rattle.sf_anneal.specs.declared.parts.Parts.{Parts}
-use Rattle.sf_anneal.specs.Parts.{AreBlockCurves, AreKnown, AreMoved, HaveRoom, IsFound, IsReady, before_in, chosen_curve, curve_by, kept_in, known_curve, moved_curve, token_at}
 use Rattle.sf_anneal.proofs.Renewing.{parts-like}
 
 -- the curves that were chosen are those of the known parts

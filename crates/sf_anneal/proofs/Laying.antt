@@ -1,17 +1,10 @@
 -- The rooms of joined parts, and the spots of their blocks.
-use Rattle.std.proofs.Common.{◌≡◌, ℕ, ◌+◌, ◌-◌, ◌<◌, ◌≤◌, List, length, arith, ap, sym, subst, ◌∙◌}
-use Rattle.std.specs.Prelude.{Any, Contains, pos, slice_set}
-use Rattle.sf_model.specs.declared.design.Design.{Design}
-use Rattle.sf_model.specs.declared.parts.Shape.{Shape}
-use Rattle.sf_model.specs.declared.plan.Spot.{Spot}
+use Rattle.std.proofs.Common.{◌≡◌, ℕ, ◌+◌, ◌-◌, ◌<◌, ◌≤◌, List, length, arith, ap, sym, subst, ◌∙◌, Any, Contains, pos, slice_set}
+use Rattle.sf_anneal.proofs.Common.{Design, Shape, Spot, Token, above_small, above_thin, beside_low, beside_small, IsLowest, IsNarrowest, IsNoLarger, above_size, beside_size, AreParts, IsBlockPart, IsJointPart, IsLaid, IsPart, IsTaken, token_at}
 use Rattle.sf_model.specs.Tree.{Leaf, Beside, Above, height, spots_at, width}
-use Rattle.sf_polish.specs.declared.expr.Token.{Token}
 use Rattle.sf_polish.specs.declared.expr.Token.TheVariants as token
 use Rattle.sf_place.proofs.Writes.{placed_append}
 use Rattle.sf_place.specs.Spots.{with_spots}
-use Rattle.sf_curves.proofs.Joints.{above_small, above_thin, beside_low, beside_small}
-use Rattle.sf_curves.specs.Points.{IsLowest, IsNarrowest, IsNoLarger, above_size, beside_size}
-use Rattle.sf_anneal.specs.Parts.{AreParts, IsBlockPart, IsJointPart, IsLaid, IsPart, IsTaken, token_at}
 use Rattle.sf_anneal.proofs.Joined.{taken-above, taken-beside, taken-block}
 use Rattle.sf_anneal.proofs.Rooted.{own, own-above, own-beside, own-block, part-right}
 

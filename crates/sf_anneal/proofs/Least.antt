@@ -1,11 +1,6 @@
 -- The first of least cost among several results.
-use Rattle.std.proofs.Common.{◌≡◌, ℕ, zero, suc, ◌<◌, ◌≤◌, List, [], ◌∷◌, length, Bool, true, false, refl, ap, sym, subst, ◌∙◌, inl, inr, arith, ◌⊎◌}
-use Rattle.std.specs.Prelude.{Option, Some, None, IfSome, Contains, fold, nat_lt, slice_index_or, if◌then◌else◌}
-use Rattle.std.proofs.lemmas.Bool.{ltb-true, ltb-false}
-use Rattle.std.proofs.lemmas.List.{get_or_default}
-use Rattle.sf_curves.proofs.Members.{Contains-head, Contains-tail}
-use Rattle.sf_polish.specs.declared.expr.Expr.{Expr}
-use Rattle.sf_anneal.specs.Starts.{IsNoDearer, first_least, lesser}
+use Rattle.std.proofs.Common.{◌≡◌, ℕ, zero, suc, ◌<◌, ◌≤◌, List, [], ◌∷◌, length, Bool, true, false, refl, ap, sym, subst, ◌∙◌, inl, inr, arith, ◌⊎◌, Option, Some, None, IfSome, Contains, fold, nat_lt, slice_index_or, if◌then◌else◌}
+use Rattle.sf_anneal.proofs.Common.{ltb-true, ltb-false, get_or_default, Contains-head, Contains-tail, Expr, IsNoDearer, first_least, lesser}
 
 -- what holds of both holds of the lesser
 lesser-one : (P : Expr × ℕ → Type 0) (a b : Option (Expr × ℕ)) → IfSome a P → IfSome b P → IfSome (lesser a b) P

@@ -1,15 +1,8 @@
 -- How many parts the first tokens of a normal expression leave.
 use Rattle.std.proofs.Common.{◌≡◌, ℕ, zero, suc, ◌+◌, ◌<◌, ◌≤◌, List, length, take, arith, refl, ap, true, false, not, inl, inr, subst}
-use Rattle.std.proofs.Math.Seq.{take-length}
-use Rattle.std.proofs.lemmas.Bool.{cases_lt}
-use Rattle.std.proofs.lemmas.List.Sums.{count_by_more_no, count_by_more_yes}
-use Rattle.sf_polish.proofs.Normality.{both-kinds}
 use Rattle.sf_polish.specs.declared.expr.Token.TheVariants as token
-use Rattle.sf_anneal.proofs.Common.{Token, IsNormal, is_operand, operands, operators}
+use Rattle.sf_anneal.proofs.Common.{Token, IsNormal, is_operand, operands, operators, take-length, cases_lt, count_by_more_no, count_by_more_yes, both-kinds, Design, Shape, AreParts, IsPart, level, token_at}
 use Rattle.sf_anneal.proofs.Places.{normal-operands}
-use Rattle.sf_model.specs.declared.design.Design.{Design}
-use Rattle.sf_model.specs.declared.parts.Shape.{Shape}
-use Rattle.sf_anneal.specs.Parts.{AreParts, IsPart, level, token_at}
 
 -- no tokens leave none
 pub level-none : (ts : List Token) → level ts 0 ≡ 0

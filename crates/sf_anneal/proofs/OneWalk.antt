@@ -1,24 +1,7 @@
 -- Words determine what a walk finds.
-use Rattle.std.proofs.Common.{◌≡◌, ℕ, zero, suc, ◌+◌, ◌*◌, ◌-◌, ◌%◌, ◌≤◌, List, [], refl, ap, sym, subst, ◌∙◌, inl, inr, arith}
-use Rattle.std.specs.Prelude.{Option, Some, None, slice_index_or}
-use Rattle.std.proofs.lemmas.Bool.Decides.{eqb_tells}
-use Rattle.std.proofs.lemmas.List.{ext_get_or}
-use Rattle.std.proofs.lemmas.List.Edits.{length-swap}
-use Rattle.rand_core.specs.Stream.{Stream, next_u32}
-use Rattle.sf_model.specs.declared.design.Design.{Design}
-use Rattle.sf_model.specs.Cost.{cost}
-use Rattle.sf_model.specs.Legal.{block_count}
-use Rattle.sf_polish.specs.declared.expr.Expr.{Expr}
-use Rattle.sf_polish.specs.Postfix.{Spells}
-use Rattle.sf_polish.proofs.Spelling.{spells-one}
-use Rattle.sf_curves.specs.Choices.{IsTraceOf}
-use Rattle.sf_curves.specs.Points.{IsLeastArea}
-use Rattle.sf_curves.proofs.Members.{not_in_nil}
+use Rattle.std.proofs.Common.{◌≡◌, ℕ, zero, suc, ◌+◌, ◌*◌, ◌-◌, ◌%◌, ◌≤◌, List, [], refl, ap, sym, subst, ◌∙◌, inl, inr, arith, Option, Some, None, slice_index_or}
 use Rattle.sf_curves.proofs.OneTrace.{one-curve, one-least, one-trace}
-use Rattle.sf_anneal.specs.Measured.{IsCost, IsMeasure, IsTraced, cost_of, whole_spans}
-use Rattle.sf_anneal.specs.Starts.{IsStarts, first_least, words_of}
-use Rattle.sf_anneal.specs.Walk.{IsMoveOf, IsStepped, IsWalk, Visit, Walks, chain, cheaper, height, kept, slack, trials}
-use Rattle.sf_anneal.proofs.Common.{IsNormal, Token, runs, stepped}
+use Rattle.sf_anneal.proofs.Common.{IsNormal, Token, runs, stepped, eqb_tells, ext_get_or, length-swap, Stream, next_u32, Design, cost, block_count, Expr, Spells, spells-one, IsTraceOf, IsLeastArea, not_in_nil, IsCost, IsMeasure, IsTraced, cost_of, whole_spans, IsStarts, first_least, words_of, IsMoveOf, IsStepped, IsWalk, Visit, Walks, chain, cheaper, height, kept, slack, trials}
 use Rattle.sf_anneal.proofs.Chains.{chain-normal}
 use Rattle.sf_anneal.proofs.Flipping.{flipped-normal}
 use Rattle.sf_anneal.proofs.Patterns.{of-length}

@@ -1,8 +1,7 @@
 -- How many operands and runs normal tokens have.
 use Rattle.std.proofs.Common.{◌≡◌, ℕ, ◌+◌, ◌≤◌, List, [], ◌∷◌, arith, Bool, true, false, cond, not}
-use Rattle.sf_polish.proofs.Normality.{both-kinds}
 use Rattle.sf_polish.specs.declared.expr.Token.TheVariants as token
-use Rattle.sf_anneal.proofs.Common.{Token, IsNormal, Reads-counts, normal-reads, is_operand, operands, operators, runs, runs_from, sum_by-cons}
+use Rattle.sf_anneal.proofs.Common.{Token, IsNormal, Reads-counts, normal-reads, is_operand, operands, operators, runs, runs_from, sum_by-cons, both-kinds}
 
 -- one operator less than operands, and as many operands as blocks
 pub normal-operands : (n : ℕ) (ts : List Token) → IsNormal n ts → operands ts ≡ n

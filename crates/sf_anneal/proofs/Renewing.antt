@@ -1,21 +1,8 @@
 -- The parts of moved tokens, found one after another.
-use Rattle.std.proofs.Common.{◌≡◌, ℕ, ◌+◌, ◌-◌, ◌<◌, ◌≤◌, List, [], length, arith, refl, ap, sym, subst, ◌∙◌, Bool, true, false, inl, inr}
-use Rattle.std.specs.Prelude.{AllPairs, slice_index_or, slice_set, if◌then◌else◌}
-use Rattle.std.proofs.lemmas.Bool.{cases_lt}
-use Rattle.std.proofs.lemmas.List.{get_or-set_other, get_or-set_same}
-use Rattle.sf_model.specs.declared.design.Design.{Design}
-use Rattle.sf_model.specs.declared.parts.Outline.{Outline}
-use Rattle.sf_model.specs.declared.parts.Shape.{Shape}
-use Rattle.sf_polish.specs.declared.expr.Token.{Token}
+use Rattle.std.proofs.Common.{◌≡◌, ℕ, ◌+◌, ◌-◌, ◌<◌, ◌≤◌, List, [], length, arith, refl, ap, sym, subst, ◌∙◌, Bool, false, inl, inr, AllPairs, slice_index_or, slice_set, if◌then◌else◌}
+use Rattle.sf_anneal.proofs.Common.{cases_lt, get_or-set_other, get_or-set_same, Design, Outline, Shape, Token, IsNormal, is_operand, size_in, token_in, IsCombination, IsSlimmer, Direction, Moved, Parts, AreKnown, AreParts, AreRenewed, IsAsKnown, IsBlockCurve, IsJointPart, IsPart, before_in, chosen_curve, curve_by, kept_in, known_curve, level, moved_curve, token_at}
 use Rattle.sf_polish.specs.declared.expr.Token.TheVariants as token
-use Rattle.sf_polish.specs.Normal.{IsNormal, is_operand}
-use Rattle.sf_curves.specs.Direction.{size_in, token_in}
-use Rattle.sf_curves.specs.Points.{IsCombination, IsSlimmer}
-use Rattle.sf_curves.specs.declared.direction.Direction.{Direction}
 use Rattle.sf_curves.specs.declared.direction.Direction.TheVariants as way
-use Rattle.sf_anneal.specs.declared.parts.Moved.{Moved}
-use Rattle.sf_anneal.specs.declared.parts.Parts.{Parts}
-use Rattle.sf_anneal.specs.Parts.{AreKnown, AreParts, AreRenewed, IsAsKnown, IsBlockCurve, IsJointPart, IsPart, before_in, chosen_curve, curve_by, kept_in, known_curve, level, moved_curve, token_at}
 use Rattle.sf_anneal.proofs.Levels.{left-some, level-block, level-joint, level-none, parts-levels}
 
 -- a joint of the same numbers and curves

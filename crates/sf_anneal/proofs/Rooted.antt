@@ -1,17 +1,8 @@
 -- The parts of an expression have their root curves, and plans of each size on them.
-use Rattle.std.proofs.Common.{◌≡◌, ℕ, zero, suc, ◌+◌, ◌-◌, ◌<◌, ◌≤◌, List, [], ◌∷◌, ◌++◌, length, take, drop, get_or, arith, refl, ap, sym, subst, ◌∙◌}
-use Rattle.std.specs.Prelude.{Contains}
-use Rattle.std.proofs.Math.Seq.{drop-cons, drop-nil, take-add, take-suc}
-use Rattle.std.proofs.lemmas.List.{get_or-drop, length-drop}
-use Rattle.std.proofs.lemmas.List.Elements.{All-contains}
-use Rattle.sf_model.specs.declared.design.Design.{Design}
-use Rattle.sf_model.specs.declared.parts.Shape.{Shape}
-use Rattle.sf_model.specs.Tree.{Tree, Leaf, Beside, Above}
-use Rattle.sf_polish.specs.declared.expr.Token.{Token}
+use Rattle.std.proofs.Common.{◌≡◌, ℕ, zero, suc, ◌+◌, ◌-◌, ◌<◌, ◌≤◌, List, [], ◌∷◌, ◌++◌, length, take, drop, get_or, arith, refl, ap, sym, subst, ◌∙◌, Contains}
+use Rattle.sf_anneal.proofs.Common.{drop-cons, drop-nil, take-add, take-suc, get_or-drop, length-drop, All-contains, Design, Shape, Tree, Leaf, Beside, Above, Token, IsJoinOf, above_size, beside_size, AreParts, IsPart, IsTaken, stretch, token_at}
 use Rattle.sf_polish.specs.declared.expr.Token.TheVariants as token
-use Rattle.sf_curves.specs.Points.{IsJoinOf, above_size, beside_size}
 use Rattle.sf_curves.specs.declared.direction.Direction.TheVariants as way
-use Rattle.sf_anneal.specs.Parts.{AreParts, IsPart, IsTaken, stretch, token_at}
 use Rattle.sf_anneal.proofs.Joined.{IsRight, joined_tokens, right-block, right-joined, some-lowest, some-narrowest, taken-above, taken-beside, taken-block}
 
 -- what is dropped in two steps

@@ -1,11 +1,6 @@
 -- The span of each block that is its whole list.
 use Rattle.std.proofs.Common.{◌≡◌, ℕ, ◌-◌, ◌<◌, ◌≤◌, [], length, take, drop, arith, ap, sym, subst, ◌∙◌}
-use Rattle.std.proofs.lemmas.List.{get_or-map, length-map, take_all}
-use Rattle.sf_model.specs.declared.design.Design.{Design}
-use Rattle.sf_model.specs.Legal.{block_count, shapes_of}
-use Rattle.sf_model.specs.Spans.{span_in, shapes_in}
-use Rattle.sf_curves.specs.Choices.{AreSpans}
-use Rattle.sf_anneal.specs.Measured.{whole_spans}
+use Rattle.sf_anneal.proofs.Common.{get_or-map, length-map, take_all, Design, block_count, shapes_of, span_in, shapes_in, AreSpans, whole_spans}
 
 -- the span of a block
 pub whole-at : (design : Design) (b : ℕ) → b < block_count design → span_in (whole_spans design) b ≡ (0, length (shapes_of design b))

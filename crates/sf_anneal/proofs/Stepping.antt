@@ -1,11 +1,6 @@
 -- An operand and an operator that stand side by side change places.
-use Rattle.std.proofs.Common.{◌≡◌, ◌≢◌, ℕ, suc, ◌+◌, ◌-◌, ◌/◌, ◌<◌, ◌≤◌, List, [], ◌∷◌, ◌++◌, length, get_or, set, take, drop, arith, refl, ap, sym, subst, ◌∙◌, Bool, true, false, cond, not}
-use Rattle.std.specs.Prelude.{◌↔◌}
-use Rattle.std.proofs.lemmas.List.{take-append-drop, length-take}
-use Rattle.std.proofs.lemmas.List.Edits.{swap_is, length-swap, swapped_from_swap}
-use Rattle.std.proofs.lemmas.List.Sorted.{sum_by-IsPermutation, All-permutation, length_permutation, IsPermutation-swap}
-use Rattle.std.proofs.Math.Seq.{drop-cons}
-use Rattle.sf_anneal.proofs.Common.{IsFalse, Token, is_operand, is_block, is_outside, same_operator, last_or, operands, operators, IsNormal, Reads, Reads-append, Reads-split, Reads-counts, Alternating, Alternating-append, Alternating-after, Alternating-before, normal-reads, first-free, AreNormal, stepped, MayStep, MayFollow, MayPrecede}
+use Rattle.std.proofs.Common.{◌≡◌, ◌≢◌, ℕ, suc, ◌+◌, ◌-◌, ◌/◌, ◌<◌, ◌≤◌, List, [], ◌∷◌, ◌++◌, length, get_or, set, take, drop, arith, refl, ap, sym, subst, ◌∙◌, Bool, true, false, cond, not, ◌↔◌}
+use Rattle.sf_anneal.proofs.Common.{IsFalse, Token, is_operand, is_block, is_outside, same_operator, last_or, operands, operators, IsNormal, Reads, Reads-append, Reads-split, Reads-counts, Alternating, Alternating-append, Alternating-after, Alternating-before, normal-reads, first-free, AreNormal, stepped, MayStep, MayFollow, MayPrecede, take-append-drop, length-take, swap_is, length-swap, swapped_from_swap, sum_by-IsPermutation, All-permutation, length_permutation, IsPermutation-swap, drop-cons}
 use Rattle.sf_polish.specs.declared.expr.Token.TheVariants as token
 use Rattle.sf_anneal.proofs.Patterns.{normal-like, one-length, Alternating-free, not-block}
 use Rattle.sf_anneal.proofs.Swapping.{swap-twice}

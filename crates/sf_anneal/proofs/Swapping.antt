@@ -1,11 +1,6 @@
 -- Two operands change places.
 use Rattle.std.proofs.Common.{◌≡◌, ℕ, zero, suc, ◌+◌, ◌<◌, List, [], ◌∷◌, length, get_or, set, arith, refl, ap, sym, subst, ◌∙◌, inl, inr, true, cond}
-use Rattle.std.proofs.lemmas.List.{get_or-set_same, get_or-set_other, ext_get_or}
-use Rattle.std.proofs.lemmas.List.Edits.{swap_is, length-swap, swapped_from_swap}
-use Rattle.std.proofs.lemmas.List.Sorted.{sum_by-IsPermutation, All-permutation, length_permutation, IsPermutation-swap}
-use Rattle.std.proofs.lemmas.Bool.Decides.{eqb_tells}
-use Rattle.std.proofs.Math.Seq.{map-set_same}
-use Rattle.sf_anneal.proofs.Common.{IsFalse, map, swap, sum_by-cons, Token, is_operand, is_block, is_outside, operands, IsNormal, normal-reads, first-free, operand_place, swapped}
+use Rattle.sf_anneal.proofs.Common.{IsFalse, map, swap, sum_by-cons, Token, is_operand, is_block, is_outside, operands, IsNormal, normal-reads, first-free, operand_place, swapped, get_or-set_same, get_or-set_other, ext_get_or, swap_is, length-swap, swapped_from_swap, sum_by-IsPermutation, All-permutation, length_permutation, IsPermutation-swap, eqb_tells, map-set_same}
 use Rattle.sf_polish.specs.declared.expr.Token.TheVariants as token
 use Rattle.sf_anneal.proofs.Patterns.{normal-like, Reads-like, place-like, kind, Alternating-like, operand-kind}
 

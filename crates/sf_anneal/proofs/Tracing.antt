@@ -1,19 +1,6 @@
 -- What a trace says of the plan that it spells.
-use Rattle.std.proofs.Common.{◌≡◌, ℕ, ◌<◌, List, [], ◌∷◌, subst, sym}
-use Rattle.std.specs.Prelude.{Contains}
-use Rattle.std.proofs.lemmas.List.Elements.{All-contains, All-from_recursion, recursion_from_All}
-use Rattle.sf_model.specs.declared.design.Design.{Design}
-use Rattle.sf_model.specs.declared.parts.Shape.{Shape}
-use Rattle.sf_model.specs.Legal.{IsLegal, Fits, block_count, shapes_of}
-use Rattle.sf_model.specs.Spans.{shapes_in}
-use Rattle.sf_model.specs.Tree.{Tree, leaves}
-use Rattle.sf_polish.specs.declared.expr.Expr.{Expr}
-use Rattle.sf_polish.proofs.Shaped.{once-of_normal}
-use Rattle.sf_curves.specs.Choices.{IsChoice, IsRootCurve, size_of}
-use Rattle.sf_curves.specs.Points.{IsWithin}
-use Rattle.sf_curves.proofs.Forms.{skewed-of_normal}
-use Rattle.sf_anneal.specs.Measured.{whole_spans, IsFloorplan, IsTraced}
-use Rattle.sf_anneal.proofs.Common.{AllByRecursion, IsNormal, Token}
+use Rattle.std.proofs.Common.{◌≡◌, ℕ, ◌<◌, List, [], ◌∷◌, subst, sym, Contains}
+use Rattle.sf_anneal.proofs.Common.{AllByRecursion, IsNormal, Token, All-contains, All-from_recursion, recursion_from_All, Design, Shape, IsLegal, Fits, block_count, shapes_of, shapes_in, Tree, leaves, Expr, once-of_normal, IsChoice, IsRootCurve, size_of, IsWithin, skewed-of_normal, whole_spans, IsFloorplan, IsTraced}
 use Rattle.sf_anneal.proofs.Spans.{whole-shapes}
 
 -- what follows from two properties holds of all elements of which both hold

@@ -1,16 +1,9 @@
 -- The steps of a walk.
-use Rattle.std.proofs.Common.{◌≡◌, ℕ, suc, ◌+◌, ◌*◌, ◌/◌, ◌%◌, ◌<◌, List, arith, refl, ap, sym, subst, ◌∙◌}
+use Rattle.std.proofs.Common.{◌≡◌, ℕ, suc, ◌+◌, ◌*◌, ◌/◌, ◌%◌, ◌<◌, List, arith, refl, ap, sym, subst, ◌∙◌, nat_le, nat_lt, if◌then◌else◌}
 use Rattle.std.proofs.Common.{Bool, true, false, min}
-use Rattle.std.specs.Prelude.{nat_le, nat_lt, if◌then◌else◌}
 use Rattle.std.proofs.Math.Nat.{mul-add-div}
 use native.Mathlib.Nat.{div-div-eq-div-mul}
-use Rattle.sf_model.specs.declared.TheConstants.{MAX}
-use Rattle.sf_anneal.proofs.Common.{Token}
-use Rattle.rand_core.specs.Stream.{Stream, next_u32}
-use Rattle.sf_model.specs.declared.design.Design.{Design}
-use Rattle.sf_model.specs.Legal.{block_count}
-use Rattle.sf_anneal.specs.Walk.{IsMoved, Visit, Walks, cheaper, kept, slack}
-use Rattle.sf_anneal.specs.Measured.{IsCost}
+use Rattle.sf_anneal.proofs.Common.{Token, MAX, Stream, next_u32, Design, block_count, IsMoved, Visit, Walks, cheaper, kept, slack, IsCost}
 
 -- a walk with one trial fewer left, after these words, these moved tokens and what was kept of them
 pub walks-on : (design : Design) (c moves less : ℕ) (s : Stream) (now best end next : Visit) (k p : ℕ) (t u : Stream) → (k, t) ≡ next_u32 s → (p, u) ≡ next_u32 t → IsMoved (block_count design) k p now.0 next.0 → IsCost design next.0 next.1

@@ -1,24 +1,10 @@
 -- The answer of the batch program.
 use Rattle.std.proofs.Common.{◌≡◌, ◌∙◌, inl, inr, ℕ, List, [], ◌∷◌, Err, Option, refl, sym, subst, arith}
-use Rattle.std.specs.List.{AllZip}
+use Rattle.sf_batch.proofs.Common.{AllZip, Contents, Rose, ShelfSeen, Status, WriteFault, Line, Text, words_of_job, Told, batch_status, is_search_end, IsAnswer, IsCounted, Stops, Stop, Refused, ReadFault, NoMemory, LineComesTo, told_of, BatchAnswers, JobsRead}
 use Rattle.std.proofs.lemmas.Bool.{cases_Bool}
-use Rattle.sf_io.specs.Outside.{Contents, Rose, ShelfSeen}
-use Rattle.sf_io.specs.declared.status.Status.{Status}
-use Rattle.sf_io.specs.declared.status.Status.TheVariants.{WriteFault}
 use Rattle.sf_io.specs.declared.status.Status.TheVariants as status
-use Rattle.sf_lex.specs.Scan.{Line}
-use Rattle.sf_words.specs.Table.{Text}
-use Rattle.sf_jobs.specs.Job.{words_of_job}
 use Rattle.sf_jobs.specs.Team.{TeamOptions, TeamSays}
-use Rattle.sf_jobs.specs.Told.{Told, batch_status, is_search_end}
-use Rattle.sf_program.specs.Answer.{IsAnswer}
-use Rattle.sf_designs.specs.Loads.{IsCounted}
-use Rattle.sf_designs.specs.Outcome.{Stops}
-use Rattle.sf_designs.specs.declared.stop.Stop.{Stop}
-use Rattle.sf_designs.specs.declared.stop.Stop.TheVariants.{Refused, ReadFault, NoMemory}
 use Rattle.sf_program.proofs.Statuses.{answer-status}
-use Rattle.sf_batch.specs.Alone.{LineComesTo, told_of}
-use Rattle.sf_batch.specs.Batch.{BatchAnswers, JobsRead}
 use Rattle.sf_batch.proofs.Counts.{counted_some}
 
 -- a jobs file that is refused or can't be loaded

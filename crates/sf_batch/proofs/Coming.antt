@@ -1,33 +1,16 @@
 -- What the line of a job comes to.
 use Rattle.std.proofs.Common.{◌≡◌, ◌⊎◌, inl, inr, ℕ, List, [], ◌∷◌, Option, Some, None, Ok, Err, refl, sym, subst, arith}
-use Rattle.sf_io.specs.Outside.{Contents}
-use Rattle.sf_io.specs.declared.status.Status.{Status}
-use Rattle.sf_io.specs.declared.status.Status.TheVariants.{Usage}
-use Rattle.sf_lex.specs.Scan.{Line}
+use Rattle.sf_batch.proofs.Common.{Contents, Status, Usage, Line, Outcome, Text, PlanOptions, plan, IsPlain, SaysJob, with_cert, Told, usage_line, Stops, refused, lost, IsAnswered, IsTold, PlanDesign, budget_of, Stop, Refused, ReadFault, NoMemory, BuiltJob, LacksMemory, LineComesTo, told_of, StandsFor}
 use Rattle.sf_model.specs.declared.design.Design.{Design}
 use Rattle.sf_model.specs.Legal.{block_count}
 use Rattle.sf_polish.specs.declared.expr.Expr.{Expr}
 use Rattle.sf_certificate.specs.declared.cert.Cert.{Cert}
 use Rattle.sf_cert_text.specs.Text.{cert_text}
-use Rattle.sf_pl_writer.specs.declared.report.Outcome.{Outcome}
-use Rattle.sf_words.specs.declared.command.BoundsChoice.{BoundsChoice}
 use Rattle.sf_words.specs.declared.command.BoundsChoice.TheVariants.{Standard}
-use Rattle.sf_words.specs.Table.{Text}
-use Rattle.sf_words.specs.Meaning.{PlanOptions, plan}
-use Rattle.sf_jobs.specs.Job.{IsPlain, SaysJob, with_cert}
-use Rattle.sf_jobs.specs.Told.{Told}
-use Rattle.sf_program.specs.Answer.{usage_line}
 use Rattle.sf_known.specs.Initial.{IsInitialPlan}
 use Rattle.sf_known.specs.Known.{IsKnownBy, Knows}
 use Rattle.sf_known.proofs.Taken.{as-it-was}
-use Rattle.sf_designs.specs.Outcome.{Stops, refused, lost}
-use Rattle.sf_program.specs.Planned.{IsAnswered, IsTold, PlanDesign, budget_of}
 use Rattle.sf_designs.specs.Stores.{Stored}
-use Rattle.sf_designs.specs.declared.stop.Stop.{Stop}
-use Rattle.sf_designs.specs.declared.stop.Stop.TheVariants.{Refused, ReadFault, NoMemory}
-use Rattle.sf_batch.specs.declared.job.BuiltJob.{BuiltJob}
-use Rattle.sf_batch.specs.Alone.{LacksMemory, LineComesTo, told_of}
-use Rattle.sf_batch.specs.Built.{StandsFor}
 
 -- words that mean nothing
 pub meaningless : (held : Option Contents) (line : Line) (told : Told) → SaysJob line None → ((told.status ≡ Usage) × (told.text ≡ usage_line)) ⊎ LacksMemory told → LineComesTo held line told

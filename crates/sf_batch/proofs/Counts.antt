@@ -1,15 +1,8 @@
 -- Counts of failed loads.
 use Rattle.std.proofs.Common.{◌≡◌, ℕ, ◌+◌, ◌≤◌, List, [], ◌∷◌, refl, sym, subst, arith, cond}
-use Rattle.sf_io.specs.Outside.{Rose}
-use Rattle.sf_io.specs.declared.status.Status.{Status}
+use Rattle.sf_batch.proofs.Common.{Rose, Status, Outcome, outcome_status, Told, batch_status, is_search_end, BuiltJob, RoseBy, lost_jobs, lost_one, SearchTells}
 use Rattle.sf_io.specs.declared.status.Status.TheVariants.{Done, NoneFits, Usage, Open, No, BadInput, OverLimit, ReadFault, WriteFault, NoMemory}
-use Rattle.sf_pl_writer.specs.declared.report.Outcome.{Outcome}
 use Rattle.sf_pl_writer.specs.declared.report.Outcome.TheVariants as word
-use Rattle.sf_program.specs.Planned.{outcome_status}
-use Rattle.sf_jobs.specs.Told.{Told, batch_status, is_search_end}
-use Rattle.sf_batch.specs.declared.job.BuiltJob.{BuiltJob}
-use Rattle.sf_batch.specs.Batch.{RoseBy, lost_jobs, lost_one}
-use Rattle.sf_batch.specs.Built.{SearchTells}
 
 -- a search that ended lost no file
 ends : (said : Outcome) → lost_one (outcome_status said) ≡ 0

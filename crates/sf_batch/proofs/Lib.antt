@@ -1,3 +1,4 @@
+mod Common
 mod Coming
 mod Counts
 mod Reading

@@ -1,7 +1,6 @@
 -- Stages that only read the shelf, one after another.
 use Rattle.std.proofs.Common.{◌∙◌, arith}
-use Rattle.sf_io.specs.Outside.{ShelfSeen}
-use Rattle.sf_designs.specs.Loads.{Reads}
+use Rattle.sf_batch.proofs.Common.{ShelfSeen, Reads}
 
 -- two stages, one after the other
 pub reads_both : (a b c : ShelfSeen) → Reads a b → Reads b c → Reads a c

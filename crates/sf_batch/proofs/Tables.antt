@@ -1,25 +1,9 @@
 -- Tables of answers, and how each step keeps them.
-use Rattle.std.proofs.Common.{◌≡◌, inr, ℕ, zero, suc, ◌+◌, ◌<◌, ◌≤◌, set, map, take, drop, List, [], ◌∷◌, ◌++◌, length, Option, Some, Ok, Err, Result, refl, sym, ap, subst, ◌∙◌, arith}
-use Rattle.std.specs.Prelude.{All, OnOk, OnErr, slice_get, slice_index_or}
-use Rattle.std.specs.List.{AllZip}
-use Rattle.std.specs.Option.{ForSome}
-use Rattle.std.proofs.lemmas.List.{map-set, length-map}
-use Rattle.std.proofs.lemmas.List.Elements.{All-append}
+use Rattle.std.proofs.Common.{◌≡◌, inr, ℕ, zero, suc, ◌+◌, ◌<◌, ◌≤◌, set, map, take, drop, List, [], ◌∷◌, ◌++◌, length, Option, Some, Ok, Err, Result, refl, sym, ap, subst, ◌∙◌, arith, All, OnOk, OnErr, slice_get, slice_index_or}
+use Rattle.sf_batch.proofs.Common.{AllZip, ForSome, map-set, length-map, All-append, AllZip-long, Contents, Line, PlanOptions, SaysJob, Told, told_seen, BuiltJob, LacksMemory, LineComesTo, RoseBy, lost_jobs, lost_one, IsFound, FitsLine, IsUnderWay}
 use Rattle.std.proofs.lemmas.Option.{get_or_from_slice_get, slice_get_within}
-use Rattle.std.proofs.lemmas.Slice.Zip.{AllZip-long}
-use Rattle.sf_io.specs.Outside.{Contents}
-use Rattle.sf_lex.specs.Scan.{Line}
-use Rattle.sf_words.specs.Meaning.{PlanOptions}
-use Rattle.sf_jobs.specs.Job.{SaysJob}
-use Rattle.sf_jobs.specs.Told.{Told}
-use Rattle.sf_jobs.specs.Seen.{told_seen}
 use Rattle.sf_jobs.specs.declared.told.Answer.{Answer}
-use Rattle.sf_batch.specs.declared.job.BuiltJob.{BuiltJob}
 use Rattle.sf_batch.specs.declared.job.FoundJob.{FoundJob}
-use Rattle.sf_batch.specs.Alone.{LacksMemory, LineComesTo}
-use Rattle.sf_batch.specs.Batch.{RoseBy, lost_jobs, lost_one}
-use Rattle.sf_batch.specs.Built.{IsFound}
-use Rattle.sf_batch.specs.Progress.{FitsLine, IsUnderWay}
 use Rattle.sf_batch.proofs.Counts.{counted_both, counted_less, searched_keeps}
 
 -- what is there is one

@@ -1,7 +1,6 @@
 -- One plan belongs to a complete subproblem whose spans are single, and one expression tells it.
 use Rattle.std.proofs.Common.{◌≡◌, ℕ, map, arith, sym, subst, ◌∙◌, refl, true, not}
-use Rattle.sf_bound.proofs.Common.{list_all, range_with_len, length-map-range_with_len, get_or-map-range_with_len, Design, block_count, Tree, Expr, normal-spelled, Parts, Belongs, is_complete, is_wide, IsSubproblem, complete-normal, subproblem-spans, IsPlanOf, Tells, first_shape}
-use Rattle.sf_polish.specs.Postfix.{Spells}
+use Rattle.sf_bound.proofs.Common.{list_all, range_with_len, length-map-range_with_len, get_or-map-range_with_len, Design, block_count, Tree, Expr, normal-spelled, Parts, Belongs, is_complete, is_wide, IsSubproblem, complete-normal, subproblem-spans, IsPlanOf, Tells, first_shape, Spells}
 use Rattle.sf_polish.proofs.Shaped.{one-expression}
 use Rattle.sf_bound.proofs.OnlyPlan.{alone}
 

@@ -1,12 +1,8 @@
 -- Where each span has one place, one plan belongs to a complete subproblem.
 use Rattle.std.proofs.Common.{◌≡◌, ℕ, suc, ◌+◌, ◌*◌, ◌<◌, ◌≤◌, List, [], ◌∷◌, length, length-append, get_or, arith, refl, ap, sym, subst, ◌∙◌, Bool, true, false, not}
-use Rattle.sf_bound.proofs.Common.{Contains, slice_index_or, nat_lt, AllByRecursion, list_all, and_parts, eqb-true, ltb-false, take_all, get_or_default, All-from_recursion, recursion_from_All, All-contains, zero, Design, Shape, block_count, shapes_of, IsLegal, IsSide, Tree, Leaf, Beside, Above, leaves, leaf_count, HasSides, length-leaves, each-left, each-right, Expr, Parts, Belongs, is_complete, is_wide, span_of, IsSubproblem, subproblem-spans, shapes_in, Tells, first_shape}
+use Rattle.sf_bound.proofs.Common.{Contains, slice_index_or, nat_lt, AllByRecursion, list_all, and_parts, eqb-true, ltb-false, take_all, get_or_default, All-from_recursion, recursion_from_All, All-contains, zero, Design, Shape, block_count, shapes_of, IsLegal, IsSide, Tree, Leaf, Beside, Above, leaves, leaf_count, HasSides, length-leaves, each-left, each-right, Expr, Parts, Belongs, is_complete, is_wide, span_of, IsSubproblem, subproblem-spans, shapes_in, Tells, first_shape, postfix, IsSkewed, Spells, shape_at, length-postfix, in_span, from_in_span, are-spans}
 use Rattle.sf_bound.proofs.Whole.{listed-belongs, spelled-inside}
-use Rattle.sf_polish.specs.Postfix.{postfix, IsSkewed, Spells, shape_at}
 use Rattle.sf_polish.proofs.Spelling.{spells-one}
-use Rattle.sf_polish.proofs.Stack.{length-postfix}
-use Rattle.sf_node.proofs.Halves.{in_span, from_in_span}
-use Rattle.sf_node.proofs.Spanned.{are-spans}
 
 -- what follows from two properties holds of all elements of which both hold
 each-both : {X : Type 0} (P Q R : X → Type 0) → ((x : X) → P x → Q x → R x) → (xs : List X) → AllByRecursion P xs → AllByRecursion Q xs → AllByRecursion R xs

@@ -1,7 +1,6 @@
 -- The spans of a subproblem, as those ask for them who read shapes by them.
 use Rattle.std.proofs.Common.{◌≡◌, ℕ, ◌<◌, ◌≤◌, length}
-use Rattle.sf_bound.proofs.Common.{Design, shapes_of, Parts, span_of, IsSubproblem, AreSpans}
-use Rattle.sf_node.proofs.Spanned.{are-spans}
+use Rattle.sf_bound.proofs.Common.{Design, shapes_of, Parts, span_of, IsSubproblem, AreSpans, are-spans}
 
 -- the span of a block
 pub span_count : (design : Design) (node : Parts) → IsSubproblem design node → length node.spans ≡ length design.blocks

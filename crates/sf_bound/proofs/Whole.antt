@@ -1,12 +1,8 @@
 -- What belongs to a complete subproblem: the plans that its tokens spell, with shapes from its spans. A solved one is complete.
-use Rattle.std.proofs.Common.{◌≡◌, ℕ, ◌<◌, [], ◌∷◌, ◌++◌, length, take, append-nil, arith, ap, sym, subst, ◌∙◌, true, false}
-use Rattle.std.specs.Prelude.{◌==◌, ◌||◌, not}
+use Rattle.std.proofs.Common.{◌≡◌, ℕ, ◌<◌, [], ◌∷◌, ◌++◌, length, take, append-nil, arith, ap, sym, subst, ◌∙◌, true, false, ◌==◌, ◌||◌, not}
 use Rattle.std.proofs.Math.Seq.{take-append_seam}
-use Rattle.sf_bound.proofs.Common.{and_parts, ne_eqb, list_all, is_wide, Design, Parts, Belongs, is_complete, is_solved, Tree, Leaf, Beside, Above, leaves, AllByRecursion, IsFalse, is_outside, is_block, postfix, IsSkewed, each-left, each-right, each-append, each-weaker, IsSubproblem, block_count, shapes_of, complete-normal, subproblem-spans, recursion_from_All, All-from_recursion, Contains, count_by, shapes_in, span_of}
+use Rattle.sf_bound.proofs.Common.{and_parts, ne_eqb, list_all, is_wide, Design, Parts, Belongs, is_complete, is_solved, Tree, Leaf, Beside, Above, leaves, AllByRecursion, IsFalse, is_outside, is_block, postfix, IsSkewed, each-left, each-right, each-append, each-weaker, IsSubproblem, block_count, shapes_of, complete-normal, subproblem-spans, recursion_from_All, All-from_recursion, Contains, count_by, shapes_in, span_of, count_by-postfix, inside-number, in_span}
 use Rattle.sf_polish.specs.declared.expr.Token.TheVariants as token
-use Rattle.sf_polish.proofs.Stack.{count_by-postfix}
-use Rattle.sf_polish.proofs.Normality.{inside-number}
-use Rattle.sf_node.proofs.Halves.{in_span}
 
 -- a solved subproblem is complete
 pub solved-complete : (design : Design) (node : Parts) → is_solved design node ≡ true → is_complete node ≡ true

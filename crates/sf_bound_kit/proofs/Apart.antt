@@ -1,8 +1,7 @@
 -- Of two blocks of a floorplan one lies beside the other or above it, so that no plan costs less than what two blocks need.
 use Rattle.std.proofs.Common.{◌≡◌, ℕ, ◌*◌, ◌<◌, ◌≤◌, min, map, All, arith, ap, inl, inr, true}
-use Rattle.sf_bound_kit.proofs.Common.{mul-le-mul_left, cond_both, ints, AllByRecursion, list_any, range_with_len, EachPair-map, each-map, each-weaker, Design, MAX, cost, Fits, block_count, Tree, width, height, spots_of, spot_of, subproblem-spans, IsSubproblem, Parts, Belongs, IsBelowAll, greatest, area_of_two, each_two, first_sides, sides_in, have_no_room, pair_area, pair_fit}
+use Rattle.sf_bound_kit.proofs.Common.{mul-le-mul_left, cond_both, ints, AllByRecursion, list_any, range_with_len, EachPair-map, each-map, each-weaker, Design, MAX, cost, Fits, block_count, Tree, width, height, spots_of, spot_of, subproblem-spans, IsSubproblem, Parts, Belongs, IsBelowAll, greatest, area_of_two, each_two, first_sides, sides_in, have_no_room, pair_area, pair_fit, each-any}
 use Rattle.std.proofs.lemmas.List.Elements.{All-from_recursion}
-use Rattle.sf_model.proofs.Each.{each-any}
 use Rattle.sf_standard.proofs.Listed.{EachPair-of}
 use Rattle.sf_standard.proofs.NetWires.{extent-of}
 use Rattle.sf_standard.proofs.Placed.{IsFirst, placed, spots-first}

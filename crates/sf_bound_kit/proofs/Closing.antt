@@ -1,16 +1,12 @@
 -- A certificate without an open leaf stays valid with a bound whose parts are no lower.
 use Rattle.std.proofs.Common.{◌≡◌, ℕ, ◌≤◌, List, [], ◌∷◌, ◌++◌, map, refl, arith, ap, sym, ◌∙◌, ◌⊎◌, inl, inr}
-use Rattle.sf_bound_kit.proofs.Common.{Contains, Design, Parts, Part, root}
+use Rattle.sf_bound_kit.proofs.Common.{Contains, Design, Parts, Part, root, extended, split, standard, part_value, greater, greater_part, kit_value, kit_part}
 use Rattle.sf_curves.proofs.Members.{Contains-head, Contains-tail}
-use Rattle.sf_node.specs.Children.{extended, split}
 use Rattle.sf_node.specs.declared.part.Part.TheVariants as by
-use Rattle.sf_standard.specs.Standard.{standard, part_value}
 use Rattle.sf_certificate.specs.declared.cert.Cert.{Cert}
 use Rattle.sf_certificate.specs.declared.tag.Tag.{Tag}
 use Rattle.sf_certificate.specs.declared.tag.Tag.TheVariants.{Extend, Split, Closed, Open}
 use Rattle.sf_certificate.specs.Valid.{AreTrees, IsValid, left_open, least}
-use Rattle.sf_bound_kit.specs.Greater.{greater, greater_part}
-use Rattle.sf_bound_kit.specs.Keeping.{kit_value, kit_part}
 
 -- parts that are no lower close what was closed
 more-closed : (p q : Parts → Part → ℕ) (cost : ℕ) → ((node : Parts) (part : Part) → p node part ≤ q node part) → (nodes : List Parts) (tags : List Tag) → AreTrees p cost nodes tags → AreTrees q cost nodes tags

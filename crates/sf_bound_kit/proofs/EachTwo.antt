@@ -1,8 +1,7 @@
 -- What holds of each two of a list.
 use Rattle.std.proofs.Common.{◌≡◌, ℕ, suc, ◌+◌, ◌<◌, ◌≤◌, max, List, [], ◌∷◌, ◌++◌, map, arith, refl, ap, sym, ◌∙◌, Bool, true, false, ◌||◌, inl, inr}
 use Rattle.std.proofs.Math.Bool.{or_assoc}
-use Rattle.std.proofs.lemmas.Bool.{or_cases}
-use Rattle.sf_bound_kit.proofs.Common.{zero, AllByRecursion, fold, list_any, range_with_len, EachPair, each-append, each-map, Shape, each_two, greatest}
+use Rattle.sf_bound_kit.proofs.Common.{zero, AllByRecursion, fold, list_any, range_with_len, EachPair, each-append, each-map, Shape, each_two, greatest, or_cases}
 
 -- what holds between each two holds of each pair
 pub each-two : (P : Shape × Shape → Type 0) (ss : List Shape) → EachPair (λ s t. P (s, t)) ss → AllByRecursion P (each_two ss)

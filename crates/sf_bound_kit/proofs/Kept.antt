@@ -1,13 +1,9 @@
 -- Children that keep their parent's value.
 use Rattle.std.proofs.Common.{◌≡◌, ℕ, refl, sym, arith}
-use Rattle.sf_bound_kit.proofs.Common.{Design, Parts, IsSubproblem}
-use Rattle.sf_node.specs.Children.{after}
+use Rattle.sf_bound_kit.proofs.Common.{Design, Parts, IsSubproblem, after, standard, greater, Keeps, kit_value}
 use Rattle.sf_node.specs.Later.{IsChildOf}
 use Rattle.sf_node.specs.declared.step.Step.{Step}
-use Rattle.sf_standard.specs.Standard.{standard}
 use Rattle.sf_bound.proofs.ChildOf.{child_of}
-use Rattle.sf_bound_kit.specs.Greater.{greater}
-use Rattle.sf_bound_kit.specs.Keeping.{Keeps, kit_value}
 
 -- a child, with the value of its parent by another bound
 child-by : (design : Design) (f g : Parts → ℕ) (value : ℕ) (child : Parts) (c : IsChildOf design f value child) → IsChildOf design g (g c.parent) child

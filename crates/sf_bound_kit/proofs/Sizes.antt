@@ -1,6 +1,5 @@
 -- What two sizes need that lie beside one another or above one another.
-use Rattle.std.proofs.Common.{◌≡◌, ℕ, ◌+◌, ◌*◌, ◌≤◌, max, arith, ◌⊎◌, inl, inr, true}
-use Rattle.std.specs.Prelude.{nat_lt}
+use Rattle.std.proofs.Common.{◌≡◌, ℕ, ◌+◌, ◌*◌, ◌≤◌, max, arith, ◌⊎◌, inl, inr, true, nat_lt}
 use Rattle.sf_bound_kit.proofs.Common.{mul-le-mul, and_parts, ltb-true, Outline, Shape, area_of_two, have_no_room}
 
 -- a product of lesser numbers is no greater

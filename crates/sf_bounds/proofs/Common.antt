@@ -1,20 +1,18 @@
 -- The imports that the proof files of this crate share.
-pub use Rattle.sf_nets.specs.Ends.{IsFitInterval, IsFitReach, anywhere, endless, met, reach_gap, shared}
-pub use Rattle.sf_nets.specs.Layout.{IsModestExtent, joined_extent}
 pub use Rattle.sf_bounds.specs.Open.{AreWireCosts, IsAreaCost, IsAreaCostOrNone}
-pub use Rattle.sf_nets.specs.Pins.{IsNet, pad_reach}
-pub use Rattle.sf_bounds.specs.Rows.{AreBlockRows, AreStored, AreSums, AreTop, AreWires, IsFitCell, IsLonger, IsNetEnd, IsNetFrame, IsRow, IsStart, block_cell, cell_at, cell_of, changed, counted, first_end, joined_cell, joined_reach, lefts_of, of_weight, own_reach, pads_share, part, pins_at, pushed, pushed_reach, row, start_cell, token_of, weighed_cell, weighed_hull, weighed_lefts, weighed_nets, weights_of, whole_extent, with_pad}
+pub use Rattle.sf_bounds.specs.Rows.{AreBlockRows, AreKept, AreStored, AreSums, AreTop, AreWires, IsEnding, IsFitCell, IsLonger, IsNetEnd, IsNetFrame, IsRow, IsStart, block_cell, cell_at, cell_of, changed, counted, first_end, framed, joined_cell, joined_reach, lefts_of, of_weight, own_reach, pads_share, part, pins_at, pushed, pushed_reach, row, start_cell, token_of, weighed_cell, weighed_hull, weighed_lefts, weighed_nets, weights_of, whole_extent, with_pad}
 pub use Rattle.sf_bounds.specs.declared.net_frame.BlockRow.{BlockRow}
 pub use Rattle.sf_bounds.specs.declared.net_frame.Cell.{Cell}
 pub use Rattle.sf_bounds.specs.declared.net_frame.NetFrame.{NetFrame}
 pub use Rattle.sf_bounds.specs.declared.net_frame.Wires.{Wires}
-pub use Rattle.sf_nets.specs.declared.reach.Reach.{Reach}
-pub use Rattle.sf_nets.specs.declared.wire_parts.WireParts.{WireParts}
 pub use Rattle.sf_curves.specs.Direction.{token_in}
 pub use Rattle.sf_curves.specs.declared.direction.Direction.{Direction}
-pub use Rattle.sf_frames.proofs.Topping.{AreThere, LiesOn, block-inside, items-block, items-joined, pair-are, pair-there, take-next}
+pub use Rattle.sf_curves.specs.declared.direction.Direction.TheVariants.{Above, Beside}
+pub use Rattle.sf_frames.proofs.Switching.{begins-same, items-same}
+pub use Rattle.sf_frames.proofs.Topping.{AreThere, LiesOn, block-inside, items-block, items-joined, pair-are, pair-there, some-first, take-next}
 pub use Rattle.sf_frames.specs.Kept.{IsNext, items_at, no_token}
 pub use Rattle.sf_model.proofs.Each.{each-append, each-map, each-weaker}
+pub use Rattle.sf_model.proofs.Used.{lefts-count, lefts-most}
 pub use Rattle.sf_model.specs.Legal.{block_count}
 pub use Rattle.sf_model.specs.Limits.{pin_count, pin_number}
 pub use Rattle.sf_model.specs.Spans.{shapes_in}
@@ -22,6 +20,12 @@ pub use Rattle.sf_model.specs.Tree.{width}
 pub use Rattle.sf_model.specs.declared.design.Design.{Design}
 pub use Rattle.sf_model.specs.declared.parts.Net.{Net}
 pub use Rattle.sf_model.specs.declared.parts.Pin.{Pin}
+pub use Rattle.sf_nets.proofs.ModestExtents.{IsSmallOffset, item-small, joined-length, offsets-small}
+pub use Rattle.sf_nets.specs.Ends.{IsFitInterval, IsFitReach, anywhere, endless, met, reach_gap, shared}
+pub use Rattle.sf_nets.specs.Layout.{IsModestExtent, joined_extent}
+pub use Rattle.sf_nets.specs.Pins.{IsNet, pad_reach}
+pub use Rattle.sf_nets.specs.declared.reach.Reach.{Reach}
+pub use Rattle.sf_nets.specs.declared.wire_parts.WireParts.{WireParts}
 pub use Rattle.sf_node.proofs.Reached.{steps-after}
 pub use Rattle.sf_node.specs.Children.{CanStep, IsSubproblem, after}
 pub use Rattle.sf_node.specs.Parts.{Parts}
@@ -45,5 +49,6 @@ pub use Rattle.std.proofs.lemmas.List.{append-nil, get_or-append_right, get_or-m
 pub use Rattle.std.proofs.lemmas.List.Elements.{All-append, All-filter, All-from_recursion, All-push, filter-append, recursion_from_All}
 pub use Rattle.std.proofs.lemmas.List.FromFn.{get_or-map-range_with_len, length-map-range_with_len, map-range_with_len_more}
 pub use Rattle.std.proofs.lemmas.List.Sums.{sum_by-cons, sum_by_more}
+pub use Rattle.std.proofs.lemmas.Slice.Zip.{get_or-zip, length-zip}
 pub use Rattle.std.specs.List.{AllByRecursion, range_with_len}
 pub use Rattle.std.specs.Prelude.{Some, cond, fold, int_lt, nat_lt, neg_ℤ, pos, slice_get, sum, sum_by, ℤ}

@@ -1,9 +1,6 @@
 -- What paths leave of the nets that count.
-use Rattle.std.proofs.Common.{◌≡◌, ℕ, zero, suc, ◌+◌, ◌*◌, ◌<◌, ◌≤◌, List, [], ◌∷◌, ◌++◌, length, take, map, get_or, refl, sym, ap, ◌∙◌, subst, arith, Bool, true, false}
-use Rattle.std.specs.Prelude.{filter, zip}
-use Rattle.std.proofs.lemmas.Slice.Zip.{get_or-zip, length-zip}
-use Rattle.sf_bounds.proofs.Common.{nat_lt, sum_by, cond-true, cond-false, cond_both, ltb-false, lt-ltb, le-ltb, take_more, map-append, length-map, get_or-map, get_or_default, filter-append, AllByRecursion, sum_by-cons, sum_by_more, Design, Net, Parts, net_part, rest_part, of_weight, weighed_nets, weighed_lefts, lefts_of}
-use Rattle.sf_model.proofs.Used.{lefts-count, lefts-most}
+use Rattle.std.proofs.Common.{◌≡◌, ℕ, suc, ◌+◌, ◌*◌, ◌<◌, ◌≤◌, List, [], ◌∷◌, ◌++◌, length, take, map, get_or, refl, sym, ap, ◌∙◌, arith, Bool, true, false, filter, zip}
+use Rattle.sf_bounds.proofs.Common.{nat_lt, sum_by, cond-true, cond-false, cond_both, ltb-false, lt-ltb, le-ltb, take_more, length-map, get_or-map, filter-append, AllByRecursion, sum_by-cons, sum_by_more, Design, Net, of_weight, weighed_nets, weighed_lefts, lefts_of, get_or-zip, length-zip, lefts-count, lefts-most}
 
 -- the net counts
 abbrev counts : ℕ × Net → Bool

@@ -1,10 +1,9 @@
 -- Rows and frames through changes of the list of cells.
 use Rattle.std.proofs.Common.{◌≡◌, ℕ, ◌+◌, ◌<◌, ◌≤◌, List, [], ◌∷◌, ◌++◌, length, take, map, get_or, sym, ap, ◌∙◌, subst, inl, inr, arith, length-append, All}
-use Rattle.sf_bounds.proofs.Common.{take-take, take-append-le, get_or-take, get_or_push, get_or_append_left, length_push, length-take-le, take_all, map-append, take-map, length-map, cases_lt, Design, Token, Item, items_at, IsNext, take-next, BlockRow, Cell, NetFrame, Wires, anywhere, weighed_nets, cell_at, IsFitCell, IsLonger, IsRow, AreWires, AreBlockRows, first_end, IsStart, IsNetFrame, AreStored, IsNetEnd, token_of}
+use Rattle.sf_bounds.proofs.Common.{take-take, take-append-le, get_or-take, get_or_push, get_or_append_left, length_push, length-take-le, take_all, map-append, take-map, length-map, cases_lt, Design, Token, Item, items_at, IsNext, take-next, BlockRow, Cell, NetFrame, Wires, anywhere, weighed_nets, cell_at, IsFitCell, IsLonger, IsRow, AreWires, AreBlockRows, first_end, IsStart, IsNetFrame, AreStored, IsNetEnd, token_of, begins-same, items-same}
 use Rattle.std.proofs.lemmas.List.Quantifiers.{all_pairs_push}
 use Rattle.sf_polish.specs.declared.expr.Token.TheVariants as token
 use Rattle.sf_frames.proofs.Keeping.{end-between, end-within}
-use Rattle.sf_frames.proofs.Switching.{begins-same, items-same}
 
 -- a frame that stands for none
 abbrev pub no_frame : NetFrame

@@ -1,13 +1,11 @@
 -- The frame of one token more.
 use Rattle.std.proofs.Common.{◌≡◌, ℕ, suc, ◌+◌, ◌-◌, ◌*◌, ◌<◌, ◌≤◌, max, List, [], ◌∷◌, ◌++◌, length, take, map, get_or, refl, sym, ap, ◌∙◌, subst, arith, length-append, All, false}
-use Rattle.sf_bounds.proofs.Common.{sum_by, range_with_len, get_or-append_right, get_or-take, length-take-le, length-map-range_with_len, get_or-map-range_with_len, sum_by-cons, Design, Net, Pin, Token, numbers, Parts, root, IsSubproblem, Extent, Item, read, item_in, item_extent, offsets, hull_part, lone-hull, sum_by-same, token_in, Direction, items_at, IsNext, items-block, items-joined, block-inside, LiesOn, AreThere, pair-there, pair-are, BlockRow, Cell, NetFrame, Wires, IsFitReach, anywhere, reach_gap, joined_extent, IsModestExtent, counted, weighed_nets, weights_of, pins_at, whole_extent, row, part, pushed_reach, joined_reach, cell_at, joined_cell, weighed_cell, weighed_hull, AreSums, IsFitCell, IsRow, AreWires, first_end, IsStart, IsNetFrame, AreStored, AreTop, IsSmallExtent, span-small}
+use Rattle.sf_bounds.proofs.Common.{sum_by, range_with_len, get_or-append_right, get_or-take, length-take-le, length-map-range_with_len, get_or-map-range_with_len, sum_by-cons, Design, Net, Pin, Token, numbers, Parts, root, IsSubproblem, Extent, Item, read, item_in, item_extent, offsets, hull_part, lone-hull, sum_by-same, token_in, Direction, items_at, IsNext, items-block, items-joined, block-inside, LiesOn, AreThere, pair-there, pair-are, BlockRow, Cell, NetFrame, Wires, IsFitReach, anywhere, reach_gap, joined_extent, IsModestExtent, counted, weighed_nets, weights_of, pins_at, whole_extent, row, part, pushed_reach, joined_reach, cell_at, joined_cell, weighed_cell, weighed_hull, AreSums, IsFitCell, IsRow, AreWires, first_end, IsStart, IsNetFrame, AreStored, AreTop, IsSmallExtent, span-small, Beside, Above, joined-length, item-small}
 use Rattle.sf_polish.specs.declared.expr.Token.TheVariants as token
 use Rattle.sf_standard.specs.Items as item
-use Rattle.sf_curves.specs.declared.direction.Direction.TheVariants.{Beside, Above}
 use Rattle.sf_nets.proofs.LaidTokens.{few-numbers}
 use Rattle.sf_bounds.proofs.NetKept.{stored-appended, frame-pushed}
 use Rattle.sf_bounds.proofs.RowLaws.{row-hull, row-joined, pushed-near}
-use Rattle.sf_nets.proofs.ModestExtents.{joined-length, item-small}
 use Rattle.sf_bounds.proofs.Weights.{weight-at}
 
 -- the extent of a block in its whole span has no side beyond the limit

@@ -1,6 +1,5 @@
 -- The rows of blocks, and what holds before any token.
-use Rattle.std.proofs.Common.{◌≡◌, ℕ, ◌+◌, ◌-◌, ◌*◌, ◌<◌, ◌≤◌, max, List, [], ◌∷◌, ◌++◌, length, take, map, get_or, refl, sym, ap, ◌∙◌, subst, inl, inr, arith, length-append, All, Bool, true, false}
-use Rattle.std.specs.Prelude.{if◌then◌else◌}
+use Rattle.std.proofs.Common.{◌≡◌, ℕ, ◌+◌, ◌-◌, ◌*◌, ◌<◌, ◌≤◌, max, List, [], ◌∷◌, ◌++◌, length, take, map, get_or, refl, sym, ap, ◌∙◌, subst, inl, inr, arith, length-append, All, Bool, true, false, if◌then◌else◌}
 use Rattle.sf_bounds.proofs.Common.{fold, pos, nat_lt, cond, sum_by, AllByRecursion, ints, clamps, cases_lt, cond_both, get_or-append_right, get_or_append_left, get_or_push, get_or-map, length_push, length-map, take_all, take-append-le, All-append, All-from_recursion, recursion_from_All, sum_by-cons, Design, Net, Pin, block_count, pin_number, pin_count, root, Extent, Interval, Offset, Item, gap, hull_of, offsets, offset_x, offset_y, contains_pin, of_pins, range_part, pair_part, hull_part, pads_x, pads_y, net_part, weighed_part, wire_part, sum_by-same, BlockRow, Cell, Reach, IsFitInterval, IsFitReach, shared, met, endless, anywhere, IsNet, pad_reach, counted, of_weight, weighed_nets, pins_at, whole_extent, row, with_pad, pads_share, part, own_reach, cell_at, block_cell, start_cell, IsFitCell, IsRow, AreBlockRows, AreStored}
 use Rattle.sf_model.specs.declared.parts.Pin.TheVariants as pin
 use Rattle.sf_standard.specs.Items as item

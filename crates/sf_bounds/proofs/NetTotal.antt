@@ -1,6 +1,5 @@
 -- What the wires take after all tokens.
-use Rattle.std.proofs.Common.{◌≡◌, ℕ, ◌+◌, ◌-◌, ◌*◌, ◌<◌, ◌≤◌, max, List, [], ◌∷◌, length, take, get_or, refl, sym, ap, ◌∙◌, subst, arith, All, true, false}
-use Rattle.std.specs.Prelude.{if◌then◌else◌}
+use Rattle.std.proofs.Common.{◌≡◌, ℕ, ◌+◌, ◌-◌, ◌*◌, ◌<◌, ◌≤◌, max, List, [], ◌∷◌, length, take, get_or, refl, sym, ap, ◌∙◌, subst, arith, All, true, false, if◌then◌else◌}
 use Rattle.sf_bounds.proofs.Common.{nat_lt, sum_by, take_all, get_or_default, recursion_from_All, sum_by_more, Design, Net, Pin, Range, Pair, Hull, Parts, root, is_complete, IsSubproblem, shapes_in, Item, read, items_of, item_in, extent_of, offsets, hull_of, hull_part, range_part, pair_part, net_part, weighed_part, wire_part, pins_by, wires_by, whole-item, sum_by-same, token_in, Direction, items_at, IsNext, BlockRow, Cell, NetFrame, Wires, Reach, anywhere, met, reach_gap, IsNet, counted, weighed_nets, weighed_lefts, lefts_of, weights_of, pins_at, whole_extent, row, part, pads_share, joined_reach, cell_at, IsFitCell, AreWires, AreStored, AreTop}
 use Rattle.sf_frames.proofs.WholeSpans.{whole-spans}
 use Rattle.sf_bounds.proofs.Lefts.{rest-more}

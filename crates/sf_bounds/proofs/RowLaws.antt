@@ -1,13 +1,10 @@
 -- The row of an item, from those of its parts, and what it tells of the hull.
-use Rattle.std.proofs.Common.{◌≡◌, ℕ, ◌+◌, ◌*◌, ◌≤◌, List, [], ◌∷◌, ◌++◌, length, map, refl, ap, sym, ◌∙◌, subst, arith, length-append, true, false}
-use Rattle.std.specs.Prelude.{if◌then◌else◌, ◌-ℤ◌}
-use Rattle.sf_bounds.proofs.Common.{fold, AllByRecursion, ints, map-append, append-nil, length-map, Design, Pin, each-append, each-map, each-weaker, Extent, Interval, Offset, Item, item_in, to_nat, gap, item_extent, offsets, offset_x, offset_y, moved_right, moved_up, contains_pin, of_pins, pads_x, pads_y, hull_of, Direction, Reach, IsFitInterval, IsFitReach, shared, met, endless, anywhere, reach_gap, pad_reach, row, with_pad, pads_share, pushed, pushed_reach, joined_reach, IsSmallExtent}
+use Rattle.std.proofs.Common.{◌≡◌, ℕ, ◌+◌, ◌*◌, ◌≤◌, List, [], ◌∷◌, ◌++◌, length, map, refl, ap, sym, ◌∙◌, subst, arith, length-append, true, false, if◌then◌else◌, ◌-ℤ◌}
+use Rattle.sf_bounds.proofs.Common.{fold, AllByRecursion, ints, map-append, append-nil, length-map, Design, Pin, each-append, each-map, each-weaker, Extent, Interval, Offset, Item, item_in, to_nat, gap, item_extent, offsets, offset_x, offset_y, moved_right, moved_up, contains_pin, of_pins, pads_x, pads_y, hull_of, Direction, Reach, IsFitInterval, IsFitReach, shared, met, endless, anywhere, reach_gap, pad_reach, row, with_pad, pads_share, pushed, pushed_reach, joined_reach, IsSmallExtent, Beside, Above, IsSmallOffset, offsets-small}
 use Rattle.sf_model.specs.declared.parts.Pin.TheVariants as pin
 use Rattle.sf_standard.specs.Items as item
-use Rattle.sf_curves.specs.declared.direction.Direction.TheVariants.{Beside, Above}
 use Rattle.sf_nets.proofs.Meeting.{gap-shared}
 use Rattle.sf_bounds.proofs.Shares.{interval, moved, IsHome, home-near, share-append, share-moved, near-share}
-use Rattle.sf_nets.proofs.ModestExtents.{IsSmallOffset, offsets-small}
 
 -- the places of the pins' blocks in two lists together are those in the first and then those in the second
 pins-append : (pins : List Pin) (xs ys : List Offset) → of_pins pins (xs ++ ys) ≡ of_pins pins xs ++ of_pins pins ys

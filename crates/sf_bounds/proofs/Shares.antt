@@ -1,6 +1,5 @@
 -- What intervals share, where they are appended and where all are pushed.
-use Rattle.std.proofs.Common.{◌≡◌, ℕ, ◌*◌, List, [], ◌∷◌, ◌++◌, map, refl, ap, sym, ◌∙◌, arith, false}
-use Rattle.std.specs.Prelude.{◌≤ℤ◌, ◌+ℤ◌}
+use Rattle.std.proofs.Common.{◌≡◌, ℕ, ◌*◌, List, [], ◌∷◌, ◌++◌, map, refl, ap, sym, ◌∙◌, arith, false, ◌≤ℤ◌, ◌+ℤ◌}
 use Rattle.sf_bounds.proofs.Common.{fold, pos, neg_ℤ, int_lt, ℤ, AllByRecursion, ints, clamps, cond-false, Interval, IsFitInterval, shared, endless, pushed}
 
 -- intervals with equal ends are equal

@@ -1,6 +1,6 @@
 -- The nets that count: those whose weight is above 0.
 use Rattle.std.proofs.Common.{◌≡◌, ℕ, zero, suc, ◌+◌, ◌*◌, ◌<◌, ◌≤◌, List, [], ◌∷◌, ◌++◌, length, take, map, get_or, refl, sym, ap, ◌∙◌, arith, append_assoc}
-use Rattle.sf_bounds.proofs.Common.{nat_lt, sum_by, range_with_len, mul-le-mul, cond-true, cond-false, cond_both, ltb-false, lt-ltb, le-ltb, take_more, map-append, length-map, get_or-map, filter-append, All-filter, sum_by-cons, Design, Net, Cell, IsNet, of_weight, weighed_nets, weights_of}
+use Rattle.sf_bounds.proofs.Common.{nat_lt, sum_by, range_with_len, cond-true, cond-false, cond_both, ltb-false, lt-ltb, le-ltb, take_more, map-append, length-map, get_or-map, filter-append, All-filter, sum_by-cons, Design, Net, Cell, IsNet, of_weight, weighed_nets, weights_of}
 
 -- the nets that count of two lists are those of the first and then those of the second
 pub of_weight-append : (ns ms : List Net) → of_weight (ns ++ ms) ≡ of_weight ns ++ of_weight ms

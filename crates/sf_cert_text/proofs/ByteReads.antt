@@ -1,12 +1,7 @@
 -- The tree of a text, read byte by byte.
-use Rattle.std.proofs.Common.{◌≡◌, ℕ, ◌+◌, ◌≤◌, List, [], ◌∷◌, ◌++◌, length, take, drop, arith, refl, ap, sym, subst, ◌∙◌, Bool, true, false, append_assoc, length-append, Option, Some, None, Result, Ok, Err}
-use Rattle.std.specs.Prelude.{◌≢◌}
-use Rattle.sf_cert_text.proofs.Common.{IfOk, IfErr, count_by, position_or_len, slice_get, nat_tests, take-append-drop, is_blank_byte, is_line_feed, has_none, LineWord, last_word_line, first_fails, CertFault, NoMemory, Tag, Version, letter_of, part_of, by_letter, split_by, closed_by, second_by, tags_said, tree_from, Reader, read_on, with_some, Bytewise, begun_word, bytes_on, past_blank, words_on}
+use Rattle.std.proofs.Common.{◌≡◌, ℕ, ◌+◌, ◌≤◌, List, [], ◌∷◌, ◌++◌, length, take, drop, arith, refl, ap, sym, subst, ◌∙◌, Bool, true, false, append_assoc, length-append, Option, Some, None, Result, Ok, Err, ◌≢◌}
+use Rattle.sf_cert_text.proofs.Common.{IfOk, IfErr, count_by, position_or_len, slice_get, nat_tests, take-append-drop, is_blank_byte, is_line_feed, has_none, LineWord, last_word_line, first_fails, CertFault, NoMemory, Tag, Version, letter_of, part_of, by_letter, split_by, closed_by, second_by, tags_said, tree_from, Reader, read_on, with_some, Bytewise, begun_word, bytes_on, past_blank, words_on, whole_read, words_from, IsRun, IsEnded, run_of, ended_of, words_from-run, words_from-gap, HalfTag, Second}
 use Rattle.std.proofs.Math.Seq.{take-add}
-use Rattle.sf_lex.specs.Whole.{whole_read}
-use Rattle.sf_lex.proofs.WordLines.{words_from, IsRun, IsEnded, run_of, ended_of, words_from-run, words_from-gap}
-use Rattle.sf_cert_text.specs.declared.letter.HalfTag.{HalfTag}
-use Rattle.sf_cert_text.specs.declared.letter.Second.{Second}
 use Rattle.sf_cert_text.specs.declared.letter.Second.TheVariants as second
 
 -- a word without a blank is a run

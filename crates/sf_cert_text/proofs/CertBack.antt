@@ -1,17 +1,6 @@
 -- The text of a whole certificate is read as the certificate, by its lines one after another.
 use Rattle.std.proofs.Common.{◌≡◌, ℕ, ◌+◌, ◌^◌, ◌<◌, List, [], ◌∷◌, ◌++◌, map, All, arith, refl, ap, sym, ◌∙◌, Bool, true, false, Option, Some, None, Ok, Err, append-nil, append_assoc}
-use Rattle.sf_cert_text.proofs.Common.{codes, AllByRecursion, decimal, decimal_digit, recursion_from_All, and_parts, lines, is_line_feed, has_none, LineWord, numbered, words_of_lines, last_line_of, Expr, IsWritable, Cert, Path, Paths, Version, Two, first_place, plan_text, header_lines, tag_text, text_of_lines, cert_text, FitsTag, version_in, by_letter, letter_of, line_by, both_read, header_read, tag_by, tags_said, tree_from, tree_read, cert_read, said_by}
-use Rattle.sf_model.specs.CostText.{cost_text}
-use Rattle.sf_cert_text.specs.declared.fault.CertFault.TheVariants.{BadTag}
-use Rattle.sf_cert_text.specs.declared.letter.HalfTag.{HalfTag}
-use Rattle.sf_cert_text.specs.declared.letter.Letter.{Letter}
-use Rattle.sf_cert_text.specs.declared.letter.Letter.TheVariants.{First, Whole}
-use Rattle.sf_cert_text.specs.declared.letter.Second.{Second}
-use Rattle.sf_cert_text.specs.declared.letter.TagSaid.{TagSaid}
-use Rattle.sf_cert_text.specs.declared.version.Version.TheVariants.{Three}
-use Rattle.sf_model.specs.Paths.{all_lead}
-use Rattle.sf_cert_text.specs.Paths.{FitsPaths, has_no_paths, is_none}
-use Rattle.sf_cert_text.specs.Text.{paths_if_any, plan_lines, version_text}
+use Rattle.sf_cert_text.proofs.Common.{codes, AllByRecursion, decimal, decimal_digit, recursion_from_All, and_parts, lines, is_line_feed, has_none, LineWord, numbered, words_of_lines, last_line_of, Expr, IsWritable, Cert, Path, Paths, Version, Two, first_place, plan_text, header_lines, tag_text, text_of_lines, cert_text, FitsTag, version_in, by_letter, letter_of, line_by, both_read, header_read, tag_by, tags_said, tree_from, tree_read, cert_read, said_by, cost_text, BadTag, HalfTag, Letter, First, Whole, Second, TagSaid, Three, all_lead, FitsPaths, has_no_paths, is_none, paths_if_any, plan_lines, version_text}
 use Rattle.sf_cert_text.proofs.HeaderReads.{header-whole, cert-whole}
 use Rattle.sf_cert_text.proofs.WrittenBack.{lines-ended, line-append, decimal-line, tags-lines, tags-back}
 use Rattle.sf_cert_text.proofs.HeaderBack.{version-back, number-back, cost-back, plan-back, expr-line, cost-line}

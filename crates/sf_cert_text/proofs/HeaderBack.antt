@@ -1,21 +1,13 @@
 -- A header that was written is read as it was.
-use Rattle.std.proofs.Common.{◌≡◌, ℕ, ◌^◌, ◌<◌, ◌≤◌, List, [], ◌∷◌, ◌++◌, length, map, arith, refl, ap, sym, ◌∙◌, Bool, true, false, cond, ◌==◌, Option, Some, None, Ok}
-use Rattle.sf_cert_text.proofs.Common.{codes, filter, AllByRecursion, list_all, join_with_byte, slice_split, onto_first, decimal, nat_tests, decimal_nonempty, recursion_from_All, is_line_feed, is_blank_byte, has_none, is_not_empty, LineWord, and_parts, eqb-true, eq-eqb, words-blank, Expr, Token, shaped_text, expr_text, IsWritable, no_plan, plan_text, value_after, value_in, version_of, version_of_word, version_in, exactly, number_in, cost_of_word, cost_in, count_in, only_word, word_in, plan_read, plan_or, agreeing, plan_of_rest, plan_in}
-use Rattle.std.specs.Option.{option_and_then}
-use Rattle.std.specs.Str.{bytes_eq}
+use Rattle.std.proofs.Common.{◌≡◌, ℕ, ◌^◌, ◌<◌, ◌≤◌, List, [], ◌∷◌, ◌++◌, length, map, arith, refl, ap, sym, ◌∙◌, Bool, true, false, cond, ◌==◌, Option, Some, None, Ok, option_and_then, bytes_eq}
+use Rattle.sf_cert_text.proofs.Common.{codes, filter, AllByRecursion, list_all, join_with_byte, slice_split, onto_first, decimal, nat_tests, decimal_nonempty, recursion_from_All, is_line_feed, is_blank_byte, has_none, is_not_empty, LineWord, and_parts, eqb-true, eq-eqb, words-blank, Expr, Token, shaped_text, expr_text, IsWritable, no_plan, plan_text, value_after, value_in, version_of, version_of_word, version_in, exactly, number_in, cost_of_word, cost_in, count_in, only_word, word_in, plan_read, plan_or, agreeing, plan_of_rest, plan_in, is_digit, plain_read, words_from-gap, digits_written, plain_written, below, cost_text}
 use Rattle.sf_model.specs.declared.TheConstants.{MAX}
-use Rattle.sf_lex.specs.Number.{is_digit}
-use Rattle.sf_lex.specs.Whole.{plain_read}
-use Rattle.sf_lex.proofs.WordLines.{words_from-gap}
-use Rattle.sf_lex.proofs.WrittenNumbers.{digits_written, plain_written}
 use Rattle.sf_polish.specs.declared.expr.Token.TheVariants as token
 use Rattle.sf_polish.specs.Normal.{is_outside}
 use Rattle.sf_polish.specs.Postfix.{shape_at}
 use Rattle.sf_polish.specs.Reading.{expr_read}
-use Rattle.sf_polish.proofs.WordTexts.{below}
 use Rattle.sf_polish.proofs.Respelled.{expr-written}
 use Rattle.sf_polish.proofs.TextLaws.{spelled-expr}
-use Rattle.sf_model.specs.CostText.{cost_text}
 use Rattle.sf_cert_text.proofs.WrittenBack.{words-labelled, decimal-solid, decimal-line, line-append}
 
 -- ---- a label and a value

@@ -1,6 +1,5 @@
 -- The header of a text, read line by line.
-use Rattle.std.proofs.Common.{◌≡◌, ℕ, List, drop, refl, ap, ◌∙◌, Option, Result, Ok, Err}
-use Rattle.std.specs.Prelude.{IfOk}
+use Rattle.std.proofs.Common.{◌≡◌, ℕ, List, drop, refl, ap, ◌∙◌, Option, Result, Ok, Err, IfOk}
 use Rattle.sf_lex.specs.Results.{◌>>=◌}
 use Rattle.sf_cert_text.proofs.Common.{codes, Cursor, lines, line_at, Line, numbered, numbered_rest, words_of_lines, last_line_of, Expr, Tag, Version, Paths, Header, version_in, number_in, cost_in, plan_in, word_in, line_read, both_read, header_read, tree_read, cert_read, Said, CertFault}
 

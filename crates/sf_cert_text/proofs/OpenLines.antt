@@ -1,7 +1,6 @@
 -- The lines of a text that goes on byte by byte.
 use Rattle.std.proofs.Common.{◌≡◌, ℕ, zero, suc, ◌≤◌, List, [], ◌∷◌, ◌++◌, ◌-◌, length, take, drop, arith, refl, ap, sym, subst, ◌∙◌, Bool, true, false, cond, Some, None, append_assoc, length-append}
-use Rattle.sf_cert_text.proofs.Common.{AllByRecursion, count_by, eqb-true, sum_by-cons, is_line_feed, has_none, lines, lines-written, codes, word_in, IsHeader, IsOther, IsPart, IsTree, ended_from, open_from}
-use Rattle.std.proofs.lemmas.List.{drop_all, length-drop}
+use Rattle.sf_cert_text.proofs.Common.{AllByRecursion, count_by, eqb-true, sum_by-cons, is_line_feed, has_none, lines, lines-written, codes, word_in, IsHeader, IsOther, IsPart, IsTree, ended_from, open_from, drop_all, length-drop}
 use Rattle.sf_cert_text.proofs.WrittenBack.{line-append}
 
 -- what a byte more does to the lines of a text

@@ -1,7 +1,6 @@
 -- A text whose header is there is read as the header and the bytes behind it.
 use Rattle.std.proofs.Common.{◌≡◌, ℕ, suc, ◌+◌, List, [], ◌∷◌, ◌++◌, length, arith, refl, ap, sym, ◌∙◌, append_assoc, append-nil, Result, Ok, Err}
-use Rattle.sf_cert_text.proofs.Common.{AllByRecursion, count_by, is_line_feed, lines, Line, numbered, words_of_line, words_of_lines, last_word_line, last_line_of, CertFault, Tag, Header, header_read, tree_read, cert_read, IsHeader, IsOther, first_byte, bytes_on, said_with}
-use Rattle.std.proofs.lemmas.Grind.{flat_map-append}
+use Rattle.sf_cert_text.proofs.Common.{AllByRecursion, count_by, is_line_feed, lines, Line, numbered, words_of_line, words_of_lines, last_word_line, last_line_of, CertFault, Tag, Header, header_read, tree_read, cert_read, IsHeader, IsOther, first_byte, bytes_on, said_with, flat_map-append}
 use Rattle.sf_cert_text.proofs.ByteReads.{last-append}
 use Rattle.sf_cert_text.proofs.TreeLine.{header-ends, with_lines}
 

@@ -1,17 +1,8 @@
 -- Paths that were written are read as they were.
-use Rattle.std.proofs.Common.{◌≡◌, ℕ, suc, ◌+◌, ◌^◌, ◌<◌, List, [], ◌∷◌, ◌++◌, length, map, arith, refl, ap, sym, ◌∙◌, true, not, Some, Ok, append_assoc, append-nil}
-use Rattle.std.specs.Option.{option_map}
-use Rattle.std.specs.Str.{bytes_eq}
+use Rattle.std.proofs.Common.{◌≡◌, ℕ, suc, ◌+◌, ◌^◌, ◌<◌, List, [], ◌∷◌, ◌++◌, length, map, arith, refl, ap, sym, ◌∙◌, true, not, Some, Ok, append_assoc, append-nil, option_map, bytes_eq}
 use Rattle.sf_model.specs.declared.parts.Pin.{Pin}
-use Rattle.sf_model.specs.declared.parts.Pin.TheVariants.{Block, Pad}
 use Rattle.sf_lex.specs.Results.{◌>>=◌}
-use Rattle.sf_lex.specs.Whole.{plain_read}
-use Rattle.sf_lex.proofs.WrittenNumbers.{plain_written}
-use Rattle.sf_model.specs.declared.paths.Step.{Step}
-use Rattle.sf_cert_text.specs.declared.version.Version.TheVariants.{Three}
-use Rattle.sf_model.specs.Paths.{all_lead, leads, names_pad, reach_pad}
-use Rattle.sf_cert_text.specs.Paths.{FitsAxis, FitsPath, FitsPaths, FitsStep, axis_lines, number_of, path_lines, path_text, step_text}
-use Rattle.sf_cert_text.proofs.Common.{codes, AllByRecursion, flat_map, list_all, decimal, decimal_nonempty, recursion_from_All, is_line_feed, is_blank_byte, has_none, words, and_parts, words-blank, words-last, words-written, numbered, Path, Paths, path_by, path_said, path_in, pin_before, step_by, step_in, with_step, steps_said, line_by, paths_read, axis_read, both_read}
+use Rattle.sf_cert_text.proofs.Common.{codes, AllByRecursion, flat_map, list_all, decimal, decimal_nonempty, recursion_from_All, is_line_feed, is_blank_byte, has_none, words, and_parts, words-blank, words-last, words-written, numbered, Path, Paths, path_by, path_said, path_in, pin_before, step_by, step_in, with_step, steps_said, line_by, paths_read, axis_read, both_read, Block, Pad, plain_read, plain_written, Step, Three, all_lead, leads, names_pad, reach_pad, FitsAxis, FitsPath, FitsPaths, FitsStep, axis_lines, number_of, path_lines, path_text, step_text}
 use Rattle.sf_cert_text.proofs.WrittenBack.{decimal-line, decimal-solid, line-append}
 use Rattle.sf_cert_text.proofs.HeaderBack.{count-back}
 

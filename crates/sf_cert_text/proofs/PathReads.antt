@@ -1,8 +1,7 @@
 -- Lines of paths, and the words of a line, read one after another.
 use Rattle.std.proofs.Common.{◌≡◌, ℕ, suc, ◌+◌, ◌-◌, ◌<◌, List, [], ◌∷◌, ◌++◌, arith, refl, ap, sym, ◌∙◌, append_assoc, append-nil, Option, Some, None, Result, Ok, Err}
 use Rattle.sf_lex.specs.Results.{◌>>=◌}
-use Rattle.sf_model.specs.declared.paths.Step.{Step}
-use Rattle.sf_cert_text.proofs.Common.{words, is_blank_byte, Line, CertFault, Path, path_in, step_in, with_step, steps_said, line_read, paths_read}
+use Rattle.sf_cert_text.proofs.Common.{words, is_blank_byte, Line, CertFault, Path, path_in, step_in, with_step, steps_said, line_read, paths_read, Step}
 
 -- steps in front of those that words say
 abbrev pub steps_before : List Step → Option (List Step) → Option (List Step)

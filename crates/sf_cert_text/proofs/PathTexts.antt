@@ -1,10 +1,6 @@
 -- The text of a header, line by line.
 use Rattle.std.proofs.Common.{◌≡◌, ℕ, ◌+◌, ◌<◌, List, [], ◌∷◌, ◌++◌, length, map, take, get_or, ap, sym, ◌∙◌, append_assoc, append-nil}
-use Rattle.std.proofs.lemmas.Grind.{flat_map-append}
-use Rattle.std.proofs.lemmas.List.{map-append, take_more}
-use Rattle.sf_model.specs.declared.paths.Step.{Step}
-use Rattle.sf_cert_text.specs.Paths.{path_text, step_text}
-use Rattle.sf_cert_text.proofs.Common.{codes, flat_map, Path, text_of_lines}
+use Rattle.sf_cert_text.proofs.Common.{codes, flat_map, Path, text_of_lines, flat_map-append, map-append, take_more, Step, path_text, step_text}
 
 -- lines one after another
 lines-both : (first second : List (List ℕ)) → text_of_lines (first ++ second) ≡ text_of_lines first ++ text_of_lines second

@@ -1,12 +1,7 @@
 -- The paths of a certificate that was read lead from pads to pads.
-use Rattle.std.proofs.Common.{◌≡◌, ℕ, zero, suc, List, [], ◌∷◌, refl, subst, true, Option, Some, None, Result, Ok, Err}
-use Rattle.std.specs.Option.{option_map}
+use Rattle.std.proofs.Common.{◌≡◌, ℕ, zero, suc, List, [], ◌∷◌, refl, subst, true, Option, Some, None, Result, Ok, Err, option_map}
 use Rattle.sf_lex.specs.Results.{◌>>=◌}
-use Rattle.sf_lex.specs.Whole.{plain_read}
-use Rattle.sf_cert_text.specs.declared.version.Version.TheVariants.{One, Three}
-use Rattle.sf_model.specs.declared.paths.Step.{Step}
-use Rattle.sf_model.specs.Paths.{all_lead, leads, reach_pad}
-use Rattle.sf_cert_text.proofs.Common.{codes, and_from, list_all, is_blank_byte, words, Line, Version, Two, Path, Paths, count_in, path_by, path_said, path_in, pin_before, step_by, with_step, steps_said, line_by, line_read, paths_read, axis_read, both_read}
+use Rattle.sf_cert_text.proofs.Common.{and_from, list_all, is_blank_byte, words, Line, Path, count_in, path_by, path_said, path_in, pin_before, step_by, with_step, steps_said, line_by, line_read, paths_read, axis_read, plain_read, Step, leads, reach_pad}
 
 -- one reading after another gives what the second gives of the first
 bind_ok : {A B E : Type 0} (r : Result A E) (f : A → Result B E) (y : B) → (r >>= f) ≡ Ok y → (x : A) × (r ≡ Ok x) × (f x ≡ Ok y)

@@ -1,17 +1,11 @@
 -- No line of a header but its last is the word `tree`, so that it is read alike whatever stands behind that.
-use Rattle.std.proofs.Common.{◌≡◌, ℕ, zero, suc, List, [], ◌∷◌, ◌++◌, length, arith, refl, ap, sym, ◌∙◌, Bool, true, false, cond, Option, Some, None, Result, Ok, Err, inl, inr}
-use Rattle.std.specs.Option.{option_and_then}
-use Rattle.std.specs.Str.{bytes_eq}
-use Rattle.std.proofs.lemmas.Bool.{cases_lt}
+use Rattle.std.proofs.Common.{◌≡◌, ℕ, zero, suc, List, [], ◌∷◌, ◌++◌, length, arith, refl, ap, sym, ◌∙◌, Bool, true, false, cond, Option, Some, None, Result, Ok, Err, inl, inr, option_and_then, bytes_eq}
 use Rattle.std.proofs.lemmas.Slice.Eq.{bytes_eq-Decides}
 use Rattle.sf_lex.specs.Results.{◌>>=◌}
 use Rattle.sf_lex.specs.Gap.{first_word}
 use Rattle.sf_lex.specs.declared.field.Gap.TheVariants.{Blanks}
-use Rattle.sf_lex.specs.Whole.{plain_read}
 use Rattle.sf_lex.proofs.Pieces.{words_none, words_some}
-use Rattle.sf_cert_text.specs.declared.fault.CertFault.TheVariants.{BadHeader}
-use Rattle.sf_cert_text.specs.declared.version.Version.TheVariants.{One, Three}
-use Rattle.sf_cert_text.proofs.Common.{codes, AllByRecursion, is_blank_byte, words, Line, Expr, CertFault, Version, Two, Header, Path, Paths, value_after, value_in, version_of_word, version_in, exactly, number_in, cost_of_word, cost_in, count_in, only_word, word_in, plan_in, path_by, path_said, path_in, line_by, line_read, paths_read, axis_read, both_read, header_read, IsTree, IsOther}
+use Rattle.sf_cert_text.proofs.Common.{codes, AllByRecursion, is_blank_byte, words, Line, Expr, CertFault, Version, Two, Header, Path, Paths, value_after, value_in, version_of_word, version_in, exactly, number_in, cost_of_word, cost_in, count_in, only_word, word_in, plan_in, path_by, path_said, path_in, line_by, line_read, paths_read, axis_read, both_read, header_read, IsTree, IsOther, cases_lt, plain_read, BadHeader, One, Three}
 
 -- ---- the line itself
 

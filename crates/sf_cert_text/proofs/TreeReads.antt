@@ -1,9 +1,6 @@
 -- The tree of a text, read tag by tag.
 use Rattle.std.proofs.Common.{◌≡◌, ℕ, ◌<◌, ◌≤◌, List, [], ◌∷◌, ◌++◌, arith, refl, ap, sym, subst, ◌∙◌, Bool, true, false, cond, append_assoc, append-nil, ◌&&◌, Option, Some, None, Result, Ok, Err}
-use Rattle.sf_cert_text.proofs.Common.{nat_lt, nat_tests, LineWord, CertFault, TooDeep, Truncated, Trailing, Place, Tag, Version, places_under, spell_trees, letter_of, by_letter, tag_by, tags_said, with_tag, tag_at, tree_from, Reader, read_on, with_tags}
-use Rattle.sf_cert_text.specs.declared.letter.HalfTag.{HalfTag}
-use Rattle.sf_cert_text.specs.declared.letter.Letter.{Letter}
-use Rattle.sf_cert_text.specs.declared.letter.TagSaid.{TagSaid}
+use Rattle.sf_cert_text.proofs.Common.{nat_lt, nat_tests, LineWord, CertFault, TooDeep, Truncated, Trailing, Place, Tag, Version, places_under, spell_trees, letter_of, by_letter, tag_by, tags_said, with_tag, tag_at, tree_from, Reader, read_on, with_tags, HalfTag, Letter, TagSaid}
 
 -- one tag more before what follows
 pub with_tags-more : (tags : List Tag) (tag : Tag) (r : Result (List Tag) CertFault) → with_tags tags (with_tag tag r) ≡ with_tags (tags ++ tag ∷ []) r

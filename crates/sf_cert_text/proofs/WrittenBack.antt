@@ -1,11 +1,7 @@
 -- Lines, words and tags that were written are read as they were.
 use Rattle.std.proofs.Common.{◌≡◌, ℕ, ◌+◌, ◌^◌, ◌<◌, List, [], ◌∷◌, ◌++◌, length, map, arith, refl, ap, ◌∙◌, true, cond, not, None, Result, Ok, Err, append_assoc}
-use Rattle.sf_cert_text.proofs.Common.{nat_lt, AllByRecursion, decimal, nat_tests, decimal_nonempty, lines, words, is_line_feed, is_blank_byte, has_none, LineWord, numbered, words_of_line, words_of_lines, and_parts, lines-written, words-written, words-last, CertFault, TooDeep, Place, Part, Area, Range, Pair, Hull, Full, Tag, Extend, Split, Closed, Open, Two, places_under, spell_trees, tag_text, text_of_lines, FitsTag, tags_said, split_by, with_tag, tree_from}
+use Rattle.sf_cert_text.proofs.Common.{nat_lt, AllByRecursion, decimal, nat_tests, decimal_nonempty, lines, words, is_line_feed, is_blank_byte, has_none, LineWord, numbered, words_of_line, words_of_lines, and_parts, lines-written, words-written, words-last, CertFault, TooDeep, Place, Part, Area, Range, Pair, Hull, Full, Tag, Extend, Split, Closed, Open, Two, places_under, spell_trees, tag_text, text_of_lines, FitsTag, tags_said, split_by, with_tag, tree_from, is_digit, digits_written, whole_written, all-weaker, TagSaid}
 use Rattle.std.proofs.lemmas.List.Folds.{list_all-append}
-use Rattle.sf_lex.specs.Number.{is_digit}
-use Rattle.sf_lex.proofs.WrittenNumbers.{digits_written, whole_written}
-use Rattle.sf_polish.proofs.WordTexts.{all-weaker}
-use Rattle.sf_cert_text.specs.declared.letter.TagSaid.{TagSaid}
 
 -- ---- lines
 

@@ -10,10 +10,13 @@ pub use Rattle.sf_certificate.specs.declared.place.Place.{Place}
 pub use Rattle.sf_certificate.specs.declared.tag.Tag.{Tag}
 pub use Rattle.sf_certificate.specs.declared.tag.Tag.TheVariants.{Closed, Extend, Open, Split}
 pub use Rattle.sf_model.proofs.Each.{EachPair, EachPair-append, EachPair-map, EachPair-weaker, Some, Some-left, Some-right, each-any, each-append, each-map, each-weaker}
+pub use Rattle.sf_model.specs.Cost.{IsFloor, cost}
 pub use Rattle.sf_model.specs.Legal.{Fits, block_count}
 pub use Rattle.sf_model.specs.declared.design.Design.{Design}
 pub use Rattle.sf_model.specs.declared.paths.Paths.{Paths}
+pub use Rattle.sf_node.proofs.Halves.{each-both, split-some}
 pub use Rattle.sf_node.proofs.Reached.{extended-subproblems, root-belongs, root-subproblem, split-subproblems, steps-after, subproblem-spans}
+pub use Rattle.sf_node.specs.ByPart.{ArePartsOf, first_part}
 pub use Rattle.sf_node.specs.Children.{IsSubproblem, after, extended, is_unused, may_join, next_tokens, split, step_of, walk, when}
 pub use Rattle.sf_node.specs.Order.{rank, step_cmp, steps_cmp}
 pub use Rattle.sf_node.specs.Parts.{Parts}
@@ -25,6 +28,7 @@ pub use Rattle.sf_node.specs.declared.task.Task.{Task}
 pub use Rattle.sf_polish.specs.Text.{IsWritable}
 pub use Rattle.sf_polish.specs.declared.expr.Expr.{Expr}
 pub use Rattle.sf_polish.specs.declared.expr.Token.{Token}
+pub use Rattle.sf_search_core.specs.declared.entry.Entry.{Entry}
 pub use Rattle.std.proofs.lemmas.Bool.{and_from, cases_eq, cond-false, cond_both, eq-eqb, ne_eqb}
 pub use Rattle.std.proofs.lemmas.Bool.Decides.{nat_tests}
 pub use Rattle.std.proofs.lemmas.Cmp.{lists_total, nat_cmp_total, on_total, tied_itself}

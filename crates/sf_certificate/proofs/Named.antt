@@ -1,7 +1,6 @@
 -- Trees whose closed subproblems name other parts.
 use Rattle.std.proofs.Common.{◌≡◌, ℕ, ◌≤◌, List, [], ◌∷◌, ◌++◌, map, arith, refl, ap, sym, subst, ◌∙◌, ◌&&◌}
-use Rattle.sf_certificate.proofs.Common.{nat_lt, AllByRecursion, nat_tests, recursion_from_All, Design, each-append, Part, Full, Parts, root, IsSubproblem, root-subproblem, Mark, Place, Tag, made, marks, waiting_after, IsFair, first_place, places_under, spell_trees, spell_tree, AreTrees, left_open, decided}
-use Rattle.sf_node.specs.ByPart.{ArePartsOf, first_part}
+use Rattle.sf_certificate.proofs.Common.{nat_lt, AllByRecursion, nat_tests, recursion_from_All, Design, each-append, Part, Full, Parts, root, IsSubproblem, root-subproblem, Mark, Place, Tag, made, marks, waiting_after, IsFair, first_place, places_under, spell_trees, spell_tree, AreTrees, left_open, decided, ArePartsOf, first_part}
 use Rattle.sf_certificate.specs.Named.{NamesFirst, AllNameFirst, unnamed, unnamed_mark}
 use Rattle.sf_certificate.proofs.Growth.{made-subproblems, trees-first, trees-step}
 

@@ -1,11 +1,9 @@
 -- The answer that the walk leads to, and that it is Yes just where the certificate is valid.
-use Rattle.std.proofs.Common.{◌≡◌, ◌≢◌, ℕ, [], ◌∷◌, map, arith, refl, ap, sym, subst, ◌∙◌, true, inl, inr, Ok, Option, Some, None}
-use Rattle.std.specs.Prelude.{◌↔◌}
-use Rattle.sf_checker.proofs.Common.{MatchOption, All, Contains, Design, leaves, block_count, shapes_of, Fits, MAX, Expr, Part, Parts, root, Cert, place_of, spell_trees, HasCost, IsValid, Why, Answer, Progress, walked, start, IsPlanRight, IsUnfit, IsOtherBound, IsFirst, IsRight, IsAnswer, is_yes}
+use Rattle.std.proofs.Common.{◌≡◌, ◌≢◌, ℕ, [], ◌∷◌, map, arith, refl, ap, sym, subst, ◌∙◌, true, inl, inr, Ok, Option, Some, None, ◌↔◌}
+use Rattle.sf_checker.proofs.Common.{MatchOption, All, Contains, Design, leaves, block_count, shapes_of, Fits, MAX, Expr, Part, Parts, root, Cert, place_of, spell_trees, HasCost, IsValid, Why, Answer, Progress, walked, start, IsPlanRight, IsUnfit, IsOtherBound, IsFirst, IsRight, IsAnswer, is_yes, Yes, No}
 use Rattle.sf_model.specs.Cost.{cost}
 use Rattle.sf_polish.proofs.Spelling.{spells-one}
 use Rattle.sf_node.proofs.Reached.{root-subproblem}
-use Rattle.sf_checker.specs.declared.answer.Answer.TheVariants.{Yes, No}
 use Rattle.sf_checker.proofs.Walks.{IsSeen, seen, faulty}
 
 -- a plan has one cost

@@ -1,18 +1,14 @@
 -- What a text has come to, byte by byte.
-use Rattle.sf_checker.proofs.Common.{take-suc, take-add, take-append-drop, take_all, length-drop, MatchOption, OnOk, ⊤, Design, MAX, block_count, Part, Parts, Cert, Tag, cert_read, with_tag, Answer, Opening, Tree, Fault, IsAnswer, Judged, IsFound, HoldsOneWay, IsBody, IsFaulty, IsReady, IsStage}
+use Rattle.sf_checker.proofs.Common.{take-suc, take-add, take-append-drop, take_all, length-drop, MatchOption, OnOk, ⊤, Design, MAX, block_count, Part, Parts, Cert, Tag, cert_read, with_tag, Answer, Opening, Tree, Fault, IsAnswer, Judged, IsFound, HoldsOneWay, IsBody, IsFaulty, IsReady, IsStage, IsWritable, no_plan, Body, IsAnswerTo, IsFed}
 use Rattle.std.proofs.Common.{◌≡◌, ℕ, suc, ◌+◌, ◌-◌, ◌<◌, length, take, drop, get_or, arith, List, [], ◌∷◌, ◌++◌, refl, ap, sym, subst, ◌∙◌, append_assoc, append-nil, ◌==◌, Result, Ok, Err}
-use Rattle.sf_polish.specs.Text.{IsWritable}
 use Rattle.sf_cert_text.specs.declared.fault.CertFault.{CertFault}
 use Rattle.sf_cert_text.specs.declared.header.Header.{Header}
-use Rattle.sf_certificate.specs.Form.{no_plan}
 use Rattle.sf_cert_text.specs.Bytes.{Bytewise, bytes_on, said_with}
 use Rattle.sf_cert_text.specs.Reader.{with_tags}
 use Rattle.sf_cert_text.proofs.TreeReads.{with_tags-more, with_tags-none}
 use Rattle.sf_cert_text.proofs.CertSpells.{cert-spells}
 use Rattle.sf_cursor.proofs.Ways.{one-way}
-use Rattle.sf_checker.specs.declared.stage.Body.{Body}
 use Rattle.sf_checker.specs.declared.stage.Stage.{Stage}
-use Rattle.sf_checker.specs.Feeding.{IsAnswerTo, IsFed}
 
 module _ (design : Design) (bound : Parts → ℕ) (part : Parts → Part → ℕ) (text : List ℕ) where
   -- the header was read

@@ -1,7 +1,6 @@
 -- What is found, tag by tag.
-use Rattle.std.proofs.Common.{◌≡◌, ◌⊎◌, inl, inr, ℕ, suc, ◌+◌, ◌<◌, length, false, List, [], ◌∷◌, ◌++◌, take, drop, get_or, arith, refl, ap, sym, subst, ◌∙◌, append_assoc, Option, Some, None, Result, Ok, Err}
+use Rattle.std.proofs.Common.{◌≡◌, ◌⊎◌, inl, inr, ℕ, suc, ◌+◌, ◌<◌, length, false, List, [], ◌∷◌, ◌++◌, take, drop, get_or, arith, refl, ap, sym, subst, ◌∙◌, append_assoc, Option, Some, None, Result, Ok, Err, ◌≢◌}
 use Rattle.sf_checker.proofs.Common.{drop-cons, take-suc, take-append-drop, MatchOption, is_some, Design, block_count, Part, Parts, root, Cert, Tag, Why, BadPlan, CostDiffers, BoundDiffers, IsPlanRight, IsBadPlan, IsOtherCost, IsFirst, IsRight, Progress, visited, walked, and_then, start, Stand, Judged, IsFound, progress_of}
-use Rattle.std.specs.Prelude.{◌≢◌}
 use Rattle.sf_checker.proofs.Answered.{answer-yes, answer-bound}
 use Rattle.sf_checker.proofs.Walks.{walked-append, walked-one}
 

@@ -1,14 +1,9 @@
 -- The walk that names the first parts.
-use Rattle.sf_checker.proofs.Common.{drop-cons, map-set_same, take_more_set, take_all, drop-set-lt, drop_all, All, MatchOption, slice_set, Design, MAX, Part, Parts, root, Cert, Tag, NamesFirst, AllNameFirst, unnamed, spell_tree, AreTrees, IsValid, HasCost, left_open, least}
-use Rattle.std.proofs.lemmas.List.Elements.{All-append, All-from_recursion}
+use Rattle.sf_checker.proofs.Common.{drop-cons, map-set_same, take_more_set, take_all, drop-set-lt, drop_all, All, MatchOption, slice_set, Design, MAX, Part, Parts, root, Cert, Tag, NamesFirst, AllNameFirst, unnamed, spell_tree, AreTrees, IsValid, HasCost, left_open, least, All-append, All-from_recursion, IsFormed, made, marks, waiting_after, IsFair, marks-more, waiting-more, trees-first}
 use Rattle.std.proofs.Common.{◌≡◌, ℕ, suc, ◌+◌, ◌<◌, List, [], ◌∷◌, ◌++◌, length, map, take, drop, get_or, arith, ap, sym, subst, ◌∙◌, Bool, true, false, inl, inr}
 use Rattle.std.proofs.lemmas.Bool.{cases_lt}
 use Rattle.sf_node.specs.ByPart.{ArePartsOf}
 use Rattle.sf_node.specs.Later.{behind, pending}
-use Rattle.sf_certificate.specs.Form.{IsFormed}
-use Rattle.sf_certificate.specs.Marks.{made, marks, waiting_after, IsFair}
-use Rattle.sf_certificate.proofs.AfterTags.{marks-more, waiting-more}
-use Rattle.sf_certificate.proofs.Growth.{trees-first}
 use Rattle.sf_certificate.proofs.Named.{unnamed-made, unnamed-open, unnamed-tree, full-close, first-close}
 use Rattle.sf_cursor.specs.Path.{Path, IsPath}
 

@@ -1,7 +1,6 @@
 -- A certificate has one answer.
 use Rattle.std.proofs.Common.{◌≡◌, ℕ, [], ◌∷◌, inl, inr, refl, ap, sym, subst, ◌∙◌, Option, Some, Result, Err}
-use Rattle.sf_checker.proofs.Common.{Design, Expr, Part, Parts, root, Cert, HasCost, Why, CostDiffers, BoundDiffers, Answer, Progress, walked, start, IsPlanRight, IsBadPlan, IsOtherCost, IsBadTree, IsOtherBound, IsFirst, IsAnswer}
-use Rattle.sf_checker.specs.declared.answer.Answer.TheVariants.{Yes, No}
+use Rattle.sf_checker.proofs.Common.{Design, Expr, Part, Parts, root, Cert, HasCost, Why, CostDiffers, BoundDiffers, Answer, Progress, walked, start, IsPlanRight, IsBadPlan, IsOtherCost, IsBadTree, IsOtherBound, IsFirst, IsAnswer, Yes, No}
 use Rattle.sf_checker.proofs.Answered.{cost-one, unfit-costless, plan-of, first-invalid}
 use Rattle.sf_checker.proofs.Walks.{faulty}
 

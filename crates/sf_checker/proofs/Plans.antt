@@ -1,16 +1,12 @@
 -- The plan that a certificate's expression spells.
 use Rattle.std.proofs.Common.{◌≡◌, ℕ, ◌≤◌, List, length, All, arith, sym, subst}
-use Rattle.sf_checker.proofs.Common.{Contains, Design, HasEachOnce, IsLegal, Fits, block_count, shapes_of, Leaf, Beside, Above, leaves, leaf_count, HasSides, HasBlocksBelow, Expr, IsUnfit}
-use Rattle.std.specs.List.{AllByRecursion}
-use Rattle.std.proofs.lemmas.List.Elements.{All-from_recursion, recursion_from_All}
+use Rattle.sf_checker.proofs.Common.{Contains, Design, HasEachOnce, IsLegal, Fits, block_count, shapes_of, Leaf, Beside, Above, leaves, leaf_count, HasSides, HasBlocksBelow, Expr, IsUnfit, AllByRecursion, All-from_recursion, recursion_from_All, each-append, each-left, each-right, IsWritable}
 use Rattle.sf_model.specs.declared.parts.Shape.{Shape}
 use Rattle.sf_model.specs.Limits.{IsSide}
 use Rattle.sf_model.specs.Tree.{Tree}
-use Rattle.sf_model.proofs.Each.{each-append, each-left, each-right}
 use Rattle.sf_place.proofs.ByNumber.{plan-leaves}
 use Rattle.sf_model.proofs.BlocksBelow.{once-below}
 use Rattle.sf_polish.specs.Postfix.{Spells, shape_at}
-use Rattle.sf_polish.specs.Text.{IsWritable}
 use Rattle.sf_polish.proofs.Shaped.{once-of_normal}
 use Rattle.sf_checker.specs.Listed.{HasListedShapes}
 

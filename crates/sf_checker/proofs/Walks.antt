@@ -1,14 +1,9 @@
 -- What the walk keeps and finds.
 use Rattle.std.proofs.Common.{◌≡◌, ℕ, ◌+◌, ◌<◌, ◌≤◌, min, List, [], ◌∷◌, ◌++◌, length, map, arith, refl, ap, sym, subst, ◌∙◌, Bool, true, false, cond, ◌&&◌, inl, inr, ◌⊎◌, Option, Some, None, Result, Ok, Err}
-use Rattle.sf_checker.proofs.Common.{nat_lt, map-append, Design, block_count, Part, Parts, is_complete, is_wide, span_of, Tag, Extend, Split, Closed, Open, place_of, places_under, spell_trees, AreTrees, left_open, least, decided, one_decided, Why, NotClosed, BadSplit, BadChildren, Progress, fault_at, low_after, walk_past, unless, visited, walked, and_then}
-use Rattle.std.specs.List.{AllByRecursion}
+use Rattle.sf_checker.proofs.Common.{nat_lt, map-append, Design, block_count, Part, Parts, is_complete, is_wide, span_of, Tag, Extend, Split, Closed, Open, place_of, places_under, spell_trees, AreTrees, left_open, least, decided, one_decided, Why, NotClosed, BadSplit, BadChildren, Progress, fault_at, low_after, walk_past, unless, visited, walked, and_then, AllByRecursion, each-append, made, IsFair, least-min, made-subproblems, trees-first}
 use Rattle.std.proofs.lemmas.Bool.Decides.{nat_tests}
-use Rattle.sf_model.proofs.Each.{each-append}
 use Rattle.sf_node.specs.Children.{extended, split, can_split, IsSubproblem}
-use Rattle.sf_certificate.specs.Marks.{made, IsFair}
-use Rattle.sf_certificate.proofs.AfterTags.{least-min}
 use Rattle.sf_certificate.proofs.Places.{places-made}
-use Rattle.sf_certificate.proofs.Growth.{made-subproblems, trees-first}
 
 -- a choice of a failure that gives none was not taken
 some-else : (b : Bool) (why : Why) → cond b (Some why) None ≡ None → b ≡ false

@@ -1,26 +1,13 @@
 -- From some subproblems on there are at most as many entries as their full counts.
-use Rattle.std.proofs.Common.{◌≡◌, ℕ, ◌+◌, ◌*◌, ◌≤◌, List, [], ◌∷◌, ◌++◌, length, map, arith, refl, ap, inl, inr, false}
-use Rattle.std.specs.Prelude.{sum_by, ◌&&◌, ◌||◌, ◌==◌, not}
-use Rattle.std.specs.List.{AllByRecursion, flat_map, list_all}
-use Rattle.std.proofs.lemmas.Bool.{cond-true, cond-false}
-use Rattle.std.proofs.lemmas.List.Sums.{sum_by-append, sum_by-cons}
+use Rattle.std.proofs.Common.{◌≡◌, ℕ, ◌+◌, ◌*◌, ◌≤◌, List, [], ◌∷◌, ◌++◌, length, map, arith, refl, ap, inl, inr, false, sum_by, ◌&&◌, ◌||◌, ◌==◌, not, flat_map}
+use Rattle.sf_count.proofs.Common.{AllByRecursion, list_all, cond-true, cond-false, sum_by-append, sum_by-cons, Design, Some, Step, Parts, root, is_complete, is_solved, is_wide, after, extended, split, CanWalk, walk, IsSubproblem, first_wide_from, Entry, BranchesFirst, AllBranchFirst, full_of}
 use Rattle.std.proofs.lemmas.List.Sorted.{sum_by-IsPermutation}
 use Rattle.std.proofs.lemmas.List.Elements.{recursion_from_All}
 use Rattle.std.proofs.lemmas.List.{length-map}
-use Rattle.sf_model.specs.declared.design.Design.{Design}
 use Rattle.sf_model.specs.declared.parts.Block.{Block}
-use Rattle.sf_model.proofs.Each.{Some}
-use Rattle.sf_node.specs.declared.step.Step.{Step}
-use Rattle.sf_node.specs.Parts.{Parts}
-use Rattle.sf_node.specs.Subproblem.{root, is_complete, is_solved, is_wide}
-use Rattle.sf_node.specs.Children.{after, extended, split, CanWalk, walk, IsSubproblem}
-use Rattle.sf_node.specs.Full.{first_wide_from}
-use Rattle.sf_search_core.specs.declared.entry.Entry.{Entry}
 use Rattle.sf_search_core.specs.declared.entry.Kind.{Kind}
 use Rattle.sf_search_core.specs.declared.entry.Kind.TheVariants.{Extended, Split, Closed}
 use Rattle.sf_search_core.specs.Conserved.{IsConserved, IsDecided, branched, children}
-use Rattle.sf_count.specs.Few.{BranchesFirst, AllBranchFirst}
-use Rattle.sf_count.specs.Given.{full_of}
 use Rattle.sf_count.proofs.Depths.{left, left-after, unused-most, size_of, full-branches, full-positive}
 
 -- after a walk no more steps lead on than before it

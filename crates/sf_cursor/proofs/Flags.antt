@@ -1,21 +1,10 @@
 -- Which blocks are there, one step on and one step back.
-use Rattle.std.proofs.Common.{◌≡◌, ℕ, ◌+◌, ◌*◌, ◌<◌, ◌≤◌, List, [], ◌∷◌, ◌++◌, length, get_or, set, length-set, length-append, arith, refl, ap, sym, ◌∙◌, Bool, true, false, not}
-use Rattle.std.specs.Prelude.{nat_le}
+use Rattle.std.proofs.Common.{◌≡◌, ℕ, ◌+◌, ◌*◌, ◌<◌, ◌≤◌, List, [], ◌∷◌, ◌++◌, length, get_or, set, length-set, length-append, arith, refl, ap, sym, ◌∙◌, Bool, true, false, not, nat_le}
 use Rattle.std.proofs.lemmas.Bool.Decides.{nat_tests}
-use Rattle.std.proofs.lemmas.List.{get_or-set_same, get_or-set_other, get_or_default}
-use Rattle.sf_model.specs.declared.design.Design.{Design}
+use Rattle.sf_cursor.proofs.Common.{get_or-set_same, get_or-set_other, get_or_default, Design, is_operand, is_block, operands, ends_in, Step, Beside, Above, Block, Left, Right, Parts, root, after, walk, may_join, is_unused, CanStep, IsSubproblem, count-more, subproblem-shallow, spans-after, AreUsed, flags_after, step_blocks, NamesOne}
 use Rattle.sf_polish.specs.declared.expr.Token.{Token}
 use Rattle.sf_polish.specs.declared.expr.Token.TheVariants as token
-use Rattle.sf_polish.specs.Normal.{is_operand, is_block, operands, ends_in}
 use Rattle.sf_polish.proofs.Normality.{both-kinds}
-use Rattle.sf_node.specs.declared.step.Step.{Step}
-use Rattle.sf_node.specs.declared.step.Step.TheVariants.{Beside, Above, Block, Left, Right}
-use Rattle.sf_node.specs.Parts.{Parts}
-use Rattle.sf_node.specs.Subproblem.{root}
-use Rattle.sf_node.specs.Children.{after, walk, may_join, is_unused, CanStep, IsSubproblem}
-use Rattle.sf_node.proofs.Depth.{count-more, subproblem-shallow}
-use Rattle.sf_node.proofs.Reached.{spans-after}
-use Rattle.sf_cursor.specs.Path.{AreUsed, flags_after, step_blocks, NamesOne}
 
 -- another token leaves a block as it was, used or not
 unused-more : (b : ℕ) (ts : List Token) (t : Token) → is_block b t ≡ false → is_unused b (ts ++ t ∷ []) ≡ is_unused b ts

@@ -1,3 +1,4 @@
+mod Common
 pub mod Ways
 pub mod Flags
 pub mod Parting

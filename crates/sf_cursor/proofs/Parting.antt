@@ -1,18 +1,7 @@
 -- A stretch is cut at the shallowest level that has later siblings.
-use Rattle.std.proofs.Common.{◌≡◌, ℕ, suc, ◌+◌, ◌-◌, ◌<◌, ◌≤◌, List, [], ◌∷◌, ◌++◌, map, take, get_or, length, append_assoc, append-nil, length-append, arith, refl, ap, sym, subst, ◌∙◌, true, inl, inr}
-use Prim.Native.Nat.{zero}
-use Rattle.std.proofs.lemmas.List.{take_more, take_all, length-take-le}
+use Rattle.std.proofs.Common.{◌≡◌, ℕ, suc, ◌+◌, ◌-◌, ◌<◌, ◌≤◌, List, [], ◌∷◌, ◌++◌, map, take, get_or, length, append_assoc, append-nil, length-append, arith, ap, sym, subst, ◌∙◌, true, inl, inr, IfSome}
+use Rattle.sf_cursor.proofs.Common.{zero, take_more, length-take-le, Design, Step, Parts, root, after, walk, CanStep, CanWalk, later, behind, steps-after, Level, Path, AreLevels, IsPath, IsParted, beyond, waiting}
 use Rattle.std.proofs.lemmas.Bool.{cases_eq}
-use Rattle.sf_model.specs.declared.design.Design.{Design}
-use Rattle.sf_node.specs.declared.step.Step.{Step}
-use Rattle.sf_node.specs.Parts.{Parts}
-use Rattle.sf_node.specs.Subproblem.{root}
-use Rattle.sf_node.specs.Children.{after, walk, CanStep, CanWalk, IsSubproblem}
-use Rattle.sf_node.specs.Later.{later, behind}
-use Rattle.sf_node.proofs.Reached.{steps-after, walk-append}
-use Rattle.std.specs.Prelude.{IfSome}
-use Rattle.sf_cursor.specs.declared.level.Level.{Level}
-use Rattle.sf_cursor.specs.Path.{Path, AreLevels, IsPath, IsParted, beyond, waiting}
 use Rattle.sf_cursor.proofs.Ways.{beyond-after, beyond-none, over, farther}
 
 -- a cursor on the way to another one's subproblem, with nothing beyond the floor

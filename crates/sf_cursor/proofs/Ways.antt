@@ -1,23 +1,8 @@
 -- The levels of a way, one step on and one step back.
-use Rattle.std.proofs.Common.{◌≡◌, ℕ, suc, ◌+◌, ◌-◌, ◌<◌, ◌≤◌, List, [], ◌∷◌, ◌++◌, map, take, length, length-append, arith, refl, ap, sym, subst, ◌∙◌, true, false, Option, Some}
-use Prim.Native.Nat.{zero}
-use Rattle.std.specs.Prelude.{slice_get, IfSome}
+use Rattle.std.proofs.Common.{◌≡◌, ℕ, suc, ◌+◌, ◌-◌, ◌<◌, ◌≤◌, List, [], ◌∷◌, ◌++◌, map, take, length, length-append, arith, refl, ap, sym, subst, ◌∙◌, true, false, Option, Some, slice_get, IfSome}
+use Rattle.sf_cursor.proofs.Common.{zero, same_from_push, nil_from_length, length_push, Design, operands, Step, Left, Parts, root, after, walk, extended, split, CanStep, IsSubproblem, later, extending, halved, HalvesOne, IsChildOf, subproblem-shallow, steps-after, after-subproblem, subproblem-spans, spans-after, came-from, behind-append, later-can, extending-can, extending-is, Level, Path, IsLevel, AreLevels, AreUsed, flags_after, step_blocks, NamesOne, IsPath, IsBack, IsOneWay, most_steps, beyond, waiting}
 use Rattle.std.specs.List.{AllByRecursion}
-use Rattle.std.proofs.lemmas.List.{same_from_push, nil_from_length, length_push}
 use Rattle.std.proofs.lemmas.Option.{IfSome_then}
-use Rattle.sf_model.specs.declared.design.Design.{Design}
-use Rattle.sf_polish.specs.Normal.{operands}
-use Rattle.sf_node.specs.declared.step.Step.{Step}
-use Rattle.sf_node.specs.declared.step.Step.TheVariants.{Left}
-use Rattle.sf_node.specs.Parts.{Parts}
-use Rattle.sf_node.specs.Subproblem.{root}
-use Rattle.sf_node.specs.Children.{after, walk, extended, split, CanStep, IsSubproblem}
-use Rattle.sf_node.specs.Later.{later, extending, behind, pending, halved, HalvesOne, IsChildOf}
-use Rattle.sf_node.proofs.Depth.{subproblem-shallow}
-use Rattle.sf_node.proofs.Reached.{steps-after, after-subproblem, subproblem-spans, spans-after}
-use Rattle.sf_node.proofs.Later.{came-from, behind-append, later-can, extending-can, extending-is}
-use Rattle.sf_cursor.specs.declared.level.Level.{Level}
-use Rattle.sf_cursor.specs.Path.{Path, IsLevel, AreLevels, AreUsed, flags_after, step_blocks, NamesOne, IsPath, IsBack, IsOneWay, most_steps, beyond, waiting}
 use Rattle.sf_cursor.proofs.Flags.{used-on, used-back, operands-after, names-one}
 
 -- one step more

@@ -1,10 +1,7 @@
 -- The curve of a tree of curves is the root curve of its tokens.
 use Rattle.std.proofs.Common.{◌≡◌, ℕ, List, arith, refl, ap, sym, subst, ◌∙◌, All, AllPairs}
-use Rattle.sf_curves.proofs.Common.{Contains, All-contains, All-from_recursion, recursion_from_All, Contains-get_or, Outline, Shape, Tree, Leaf, Beside, Above, leaves, Token, postfix, no_shape, IsChoice, IsRootCurve, TakesFrom, size_of, form, curve_of, form_of, IsCurveTree, IsTraced, IsChosen, IsSized, IsSlimmer, IsWithin, IsNoLarger, IsCovered, CoversJoins, IsJoinOf, beside_size, above_size}
+use Rattle.sf_curves.proofs.Common.{Contains, All-contains, All-from_recursion, recursion_from_All, Contains-get_or, Outline, Shape, Tree, Leaf, Beside, Above, leaves, Token, postfix, no_shape, IsChoice, IsRootCurve, TakesFrom, size_of, form, curve_of, form_of, IsCurveTree, IsTraced, IsChosen, IsSized, IsSlimmer, IsWithin, IsNoLarger, IsCovered, CoversJoins, IsJoinOf, beside_size, above_size, Design, each-append, each-left, each-right, CurveTree}
 use Rattle.std.specs.List.{AllByRecursion}
-use Rattle.sf_model.specs.declared.design.Design.{Design}
-use Rattle.sf_model.proofs.Each.{each-append, each-left, each-right}
-use Rattle.sf_curves.specs.declared.curve_tree.CurveTree.{CurveTree}
 use Rattle.sf_curves.specs.declared.curve_tree.CurveTree.TheVariants as tree
 use Rattle.sf_model.specs.Spans.{shapes_in}
 use Rattle.sf_curves.proofs.Forms.{same-form, form-tokens}

@@ -1,13 +1,9 @@
 -- A plan without its shapes is known by its tokens.
 use Rattle.std.proofs.Common.{◌≡◌, ℕ, List, [], refl, ap, sym, subst, ◌∙◌}
-use Rattle.sf_curves.proofs.Common.{replicate, length-replicate, All-from_recursion, Tree, Leaf, Beside, Above, leaves, HasBlocksBelow, Token, postfix, IsSkewed, shape_at, Spells, no_shape, with_leaves, once-of_normal, spelled-by, form, form_of}
-use Rattle.sf_model.proofs.Each.{each-append}
-use Rattle.sf_polish.specs.declared.expr.Expr.{Expr}
-use Rattle.sf_polish.specs.Normal.{IsNormal}
+use Rattle.sf_curves.proofs.Common.{replicate, length-replicate, All-from_recursion, Tree, Leaf, Beside, Above, leaves, HasBlocksBelow, Token, postfix, IsSkewed, shape_at, Spells, no_shape, with_leaves, once-of_normal, spelled-by, form, form_of, each-append, Expr, IsNormal, CurveTree}
 use Rattle.sf_polish.proofs.Normality.{normal-spelled}
 use Rattle.sf_model.proofs.BlocksBelow.{once-below}
 use Rattle.sf_polish.proofs.Spelling.{HasShapes, spells-one}
-use Rattle.sf_curves.specs.declared.curve_tree.CurveTree.{CurveTree}
 use Rattle.sf_curves.specs.declared.curve_tree.CurveTree.TheVariants as tree
 
 -- a plan without its shapes has the same tokens

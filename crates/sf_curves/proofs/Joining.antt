@@ -1,8 +1,7 @@
 -- The sizes of two rooms that are joined: those of rooms one above the other are those of the turned rooms side by side.
 use Rattle.std.proofs.Common.{◌≡◌, ℕ, ◌+◌, ◌<◌, ◌≤◌, ◌⊎◌, inl, inr, List, [], ◌∷◌, ◌++◌, length, map, reverse, drop, refl, sym, ap, ◌∙◌, subst, arith}
-use Rattle.sf_curves.proofs.Common.{map-append, reverse-append, drop_all, AllPairs, Shape, Outline, IsSlimmer, IsCombination, AddsWithin, beside_size}
+use Rattle.sf_curves.proofs.Common.{map-append, reverse-append, drop_all, AllPairs, Shape, Outline, IsSlimmer, IsCombination, AddsWithin, beside_size, size_in}
 use Rattle.sf_curves.specs.Combining.{point_after, shared_side, by_width}
-use Rattle.sf_curves.specs.Direction.{size_in}
 use Rattle.sf_curves.specs.declared.direction.Direction.{Direction}
 use Rattle.sf_curves.specs.declared.direction.Direction.TheVariants.{Beside, Above}
 use Rattle.sf_curves.proofs.Merge.{IsMerging, IsCombined, front, merging-begins, combined, all_covered, advance_left, advance_right, advance_both, at_front, back_left, back_right}

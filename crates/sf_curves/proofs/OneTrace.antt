@@ -1,10 +1,7 @@
 -- Tokens and spans have one root curve, a curve has one point of least area, and a point leads to one plan.
 use Rattle.std.proofs.Common.{◌≡◌, ℕ, ◌<◌, ◌≤◌, ◌⊎◌, inl, inr, length, List, [], ◌∷◌, arith, refl, sym, ap, ◌∙◌, subst}
-use Rattle.sf_curves.proofs.Common.{AllPairs, Any, Contains, cases_lt, All-contains, Shape, Tree, Leaf, Beside, Above, Token, postfix, Spells, no_shape, once-of_normal, one-expression, IsSlimmer, IsWithin, IsNoLarger, IsCovered, IsLeastArea, IsNarrowest, IsLowest, area_of, IsChoice, IsRootCurve, IsNarrowestOf, IsLowestOf, IsTraceOf, TakesFrom, size_of, form}
-use Rattle.sf_model.specs.declared.design.Design.{Design}
+use Rattle.sf_curves.proofs.Common.{AllPairs, Any, Contains, cases_lt, All-contains, Shape, Tree, Leaf, Beside, Above, Token, postfix, Spells, no_shape, once-of_normal, one-expression, IsSlimmer, IsWithin, IsNoLarger, IsCovered, IsLeastArea, IsNarrowest, IsLowest, area_of, IsChoice, IsRootCurve, IsNarrowestOf, IsLowestOf, IsTraceOf, TakesFrom, size_of, form, Design, Expr, IsNormal}
 use Rattle.sf_model.specs.Legal.{block_count}
-use Rattle.sf_polish.specs.declared.expr.Expr.{Expr}
-use Rattle.sf_polish.specs.Normal.{IsNormal}
 use Rattle.sf_curves.proofs.Forms.{one-form, form-postfix}
 use Rattle.sf_curves.proofs.Members.{AllPairs-head, AllPairs-tail, Contains-cons_cases, Contains-head, Contains-tail, not_in_nil}
 use Rattle.sf_curves.proofs.OnCurve.{one_point, same_point}

@@ -1,14 +1,11 @@
 -- Shapes in order, by width, then height.
-use Rattle.std.proofs.Common.{◌≡◌, ℕ, ◌+◌, ◌<◌, List, length, get_or, take, false, true≢false, refl, sym, subst, arith, Bor}
-use Rattle.sf_curves.proofs.Common.{All, AllPairs, IsSortedByKey, take_more, All-push, All-weaker, all_pairs_push, Shape, IsNoLater}
+use Rattle.std.proofs.Common.{◌≡◌, ℕ, ◌+◌, ◌<◌, List, length, get_or, take, false, true≢false, refl, sym, subst, arith, Bor, is_lt, nat_cmp, Ordering, Less, Equal, Greater}
+use Rattle.sf_curves.proofs.Common.{All, AllPairs, IsSortedByKey, take_more, All-push, All-weaker, all_pairs_push, Shape, IsNoLater, ranks_by, sorted_far}
 use Rattle.std.specs.Cmp.{IsTotalOrder}
 use Rattle.std.specs.Fn.{Called, ComputesKey}
-use Rattle.std.specs.Ordering.{is_lt, nat_cmp, ordering_then, MatchOrdering}
-use Rattle.std.specs.declared.cmp.Ordering.{Ordering}
-use Rattle.std.specs.declared.cmp.Ordering.TheVariants.{Less, Equal, Greater}
+use Rattle.std.specs.Ordering.{ordering_then, MatchOrdering}
 use Rattle.std.proofs.lemmas.Cmp.{ranked, nat_cmp_total, on_total, then_total}
 use Rattle.std.proofs.lemmas.Fn.{always_returns_same}
-use Rattle.std.proofs.lemmas.List.Sorted.{ranks_by, sorted_far}
 use denote.Param.Members.{Mut}
 
 -- no later than what stands no later is no later

@@ -1,7 +1,6 @@
 -- Stages one after another.
 use Rattle.std.proofs.Common.{inl, inr, ℕ, List, length, Option, Result, Ok, Err, refl, sym, subst, codes, arith, ◌∙◌}
-use Rattle.sf_designs.proofs.Common.{IfErr, Contents, ShelfSeen, GsrcBlocks, GsrcNets, GsrcPlaces, nets_in, Stop, IsCounted, Reads, TellsNoLoad, Refusal, refused, lost, Then, Refuses, Stops, Ends, BlocksRead, GsrcRead, IfNamed, JoinedRead, NetsRead, PlacesRead, WeightsRead, WeighedParts, weighed_in}
-use Rattle.sf_designs.specs.declared.stop.Stop.TheVariants.{Refused, ReadFault, NoMemory}
+use Rattle.sf_designs.proofs.Common.{IfErr, Contents, ShelfSeen, GsrcBlocks, GsrcNets, GsrcPlaces, nets_in, Stop, IsCounted, Reads, TellsNoLoad, Refusal, refused, lost, Then, Refuses, Stops, Ends, BlocksRead, GsrcRead, IfNamed, JoinedRead, NetsRead, PlacesRead, WeightsRead, WeighedParts, weighed_in, Refused, ReadFault, NoMemory}
 use Rattle.sf_designs.specs.declared.weighed.Weighed.{Weighed}
 
 -- what ends a call for one reason ends it for each reason that follows

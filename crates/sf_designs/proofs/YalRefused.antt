@@ -1,10 +1,9 @@
 -- A YAL text that is refused.
 use Rattle.std.proofs.Common.{◌≡◌, Result, Err, refl, subst}
-use Rattle.sf_designs.proofs.Common.{Parts, Stop, IsNoLoad, Refusal, Refuses, Stops, Said, yal_refusal}
+use Rattle.sf_designs.proofs.Common.{Parts, Stop, IsNoLoad, Refusal, Refuses, Stops, Said, yal_refusal, Refused, ReadFault, NoMemory}
 use Rattle.sf_yal.specs.declared.fault.YalFault.{YalFault}
 use Rattle.sf_yal.specs.declared.fault.YalFault.TheVariants as yal
 use Rattle.sf_yal.specs.Reading.{Gives}
-use Rattle.sf_designs.specs.declared.stop.Stop.TheVariants.{Refused, ReadFault, NoMemory}
 use Rattle.sf_designs.proofs.Stages.{refused-stops}
 
 module _ (Stands : Parts → Type 0) (first : Result Parts YalFault) where

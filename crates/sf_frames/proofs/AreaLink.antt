@@ -1,7 +1,6 @@
 -- What the code sums over curves is the definition's area part.
 use Rattle.std.proofs.Common.{◌≡◌, ℕ, ◌*◌, ◌≤◌, List, [], ◌∷◌, ◌++◌, map, reverse, max, refl, ap, ◌∙◌, arith}
-use Rattle.sf_frames.proofs.Common.{sum, sum_by, AllZip, mul-le-mul, reverse-append, map-append, sum_by-append, sum_by-cons, sum-map, Design, Shape, Tree, width, height, Parts, IsNoLarger, area_of, Item, items_of, unused, fitting, area, least_of, greatest, needed_area, size_of, AreItemCurves, AreGroupCurves, IsItemCurve, least_by, width_of, height_of, sum_by-map}
-use Rattle.sf_frames.specs.AreaPart.{IsAreaPart}
+use Rattle.sf_frames.proofs.Common.{sum, sum_by, AllZip, mul-le-mul, reverse-append, map-append, sum_by-append, sum_by-cons, sum-map, Design, Shape, Tree, width, height, Parts, IsNoLarger, area_of, Item, items_of, unused, fitting, area, least_of, greatest, needed_area, size_of, AreItemCurves, AreGroupCurves, IsItemCurve, least_by, width_of, height_of, sum_by-map, IsAreaPart}
 use Rattle.sf_frames.proofs.ItemLeasts.{least-item}
 
 -- a sum is the same over the list reversed

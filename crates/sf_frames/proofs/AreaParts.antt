@@ -1,7 +1,6 @@
 -- The sums of the least areas of some curves, and their greatest least sides.
 use Rattle.std.proofs.Common.{◌≡◌, ◌≢◌, ℕ, ◌+◌, ◌*◌, ◌<◌, ◌≤◌, List, [], ◌∷◌, ◌++◌, length, get_or, take, map, max, sym, ap, ◌∙◌, subst, arith}
-use Rattle.sf_frames.proofs.Common.{All, sum_by, mul-le-mul, map_more, get_or_default, sum_by-append, All-more, take_more, Shape, area_of, greatest, least_by, width_of, height_of, IsLeastOf, AllSmall}
-use Rattle.sf_frames.specs.declared.least.Least.{Least}
+use Rattle.sf_frames.proofs.Common.{All, sum_by, mul-le-mul, map_more, get_or_default, sum_by-append, All-more, take_more, Shape, area_of, greatest, least_by, width_of, height_of, IsLeastOf, AllSmall, Least}
 use Rattle.sf_frames.proofs.Leasts.{least_small, least_width_small, least_height_small}
 
 -- the greatest number with one more is the greater of both

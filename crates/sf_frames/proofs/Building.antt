@@ -1,11 +1,9 @@
 -- The stack's curves are those of the items that the passed tokens leave.
 use Rattle.std.proofs.Common.{◌≡◌, ℕ, ◌+◌, ◌-◌, ◌<◌, List, [], ◌∷◌, ◌++◌, length, reverse, take, drop, get_or, sym, ap, ◌∙◌, subst, arith}
-use Rattle.sf_frames.proofs.Common.{AllZip, reverse-append, length_push, drop_more, take_more, Design, Shape, Beside, Above, Token, Parts, IsSubproblem, subproblem-begun, IsCombination, beside_size, above_size, shapes_in, Item, read, IsJoined, IsStep, IsItemCurve}
+use Rattle.sf_frames.proofs.Common.{AllZip, reverse-append, length_push, drop_more, take_more, Design, Shape, Beside, Above, Token, Parts, IsSubproblem, subproblem-begun, IsCombination, beside_size, above_size, shapes_in, Item, read, IsJoined, IsStep, IsItemCurve, Runs, runs-from, read-append, read-block}
 use Rattle.sf_frames.proofs.Joining.{curve-joined, curve-block, beside-way, above-way}
-use Rattle.sf_standard.proofs.Operands.{Runs, runs-from}
 use Rattle.sf_polish.specs.declared.expr.Token.TheVariants as token
 use Rattle.sf_standard.specs.Items as item
-use Rattle.sf_standard.proofs.Appended.{read-append, read-block}
 
 -- the rest of the tokens finds its operands, and the curves are those of the items that the passed tokens
 -- leave

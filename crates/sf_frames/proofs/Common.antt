@@ -6,6 +6,7 @@ pub use Rattle.sf_curves.specs.Direction.{plan_in, size_in, token_in}
 pub use Rattle.sf_curves.specs.Points.{IsCombination, IsCovered, IsCurveOf, IsLeastArea, IsNoLarger, IsSlimmer, IsWithin, above_size, area_of, beside_size}
 pub use Rattle.sf_curves.specs.declared.direction.Direction.{Direction}
 pub use Rattle.sf_frames.specs.Anew.{AddsUnused, AreGroupCurves, AreItemCurves, IsJoined, IsStep}
+pub use Rattle.sf_frames.specs.AreaPart.{IsAreaPart}
 pub use Rattle.sf_frames.specs.Curves.{IsItemCurve}
 pub use Rattle.sf_frames.specs.Kept.{AreWhole, IsCommon, IsEndOf, IsFrame, IsKept, IsNext, IsStored, IsStoredIn, IsStoredPath, IsTight, added, at_end, groups_at, items_at, made_for, needed, no_token, path, point_count, points_of, token_of, ways}
 pub use Rattle.sf_frames.specs.Least.{AllSmall, IsLeastOf, height_of, least_by, width_of}
@@ -14,13 +15,16 @@ pub use Rattle.sf_frames.specs.Sums.{AreSums, AreSumsOrNone, AreWithin, IsLeastF
 pub use Rattle.sf_frames.specs.declared.frame.Frame.{Frame}
 pub use Rattle.sf_frames.specs.declared.frame.Kept.{Kept}
 pub use Rattle.sf_frames.specs.declared.least.Least.{Least}
+pub use Rattle.sf_frames.specs.declared.stored.Stored.{Stored}
 pub use Rattle.sf_frames.specs.declared.sums.Sums.{Sums}
 pub use Rattle.sf_model.proofs.Counting.{length-at_most_once}
 pub use Rattle.sf_model.proofs.Each.{each-append, each-left, each-right, each-weaker}
 pub use Rattle.sf_model.specs.Legal.{block_count, shapes_of}
 pub use Rattle.sf_model.specs.Spans.{shapes_in}
 pub use Rattle.sf_model.specs.Tree.{Above, Beside, Leaf, Tree, height, width}
+pub use Rattle.sf_model.specs.declared.TheConstants.{MAX}
 pub use Rattle.sf_model.specs.declared.design.Design.{Design}
+pub use Rattle.sf_model.specs.declared.parts.Outline.{Outline}
 pub use Rattle.sf_model.specs.declared.parts.Shape.{Shape}
 pub use Rattle.sf_node.proofs.Normalised.{complete-normal, subproblem-begun}
 pub use Rattle.sf_node.proofs.Reached.{subproblem-spans}
@@ -30,8 +34,11 @@ pub use Rattle.sf_node.specs.Subproblem.{is_complete, root, span_of}
 pub use Rattle.sf_polish.proofs.Normality.{count-numbers, length-numbers, numbers, numbers-below}
 pub use Rattle.sf_polish.specs.Normal.{is_block, is_operand, operands}
 pub use Rattle.sf_polish.specs.declared.expr.Token.{Token}
-pub use Rattle.sf_standard.proofs.Cutting.{fits-true, least_of-le}
+pub use Rattle.sf_standard.proofs.Appended.{read-append, read-block}
+pub use Rattle.sf_standard.proofs.Cutting.{each-below, fits-true, least_of-le}
+pub use Rattle.sf_standard.proofs.Exact.{fits-from}
 pub use Rattle.sf_standard.proofs.Listed.{Contains-filter, Contains-from_filter, Contains-from_map, Contains-from_pairs, Contains-map, Contains-pairs, sum_by-map}
+pub use Rattle.sf_standard.proofs.Operands.{Runs, runs-from}
 pub use Rattle.sf_standard.specs.Items.{Block, Item, fits, fitting, item_in, items_of, pairs, plans, read, unused}
 pub use Rattle.sf_standard.specs.Standard.{area, greatest, has_none, least_of, needed_area, plans_of}
 pub use Rattle.std.proofs.Math.Nat.{mul-le-mul}

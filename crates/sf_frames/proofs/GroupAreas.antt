@@ -1,11 +1,9 @@
 -- What the curves of the groups say of the value of a subproblem that is not solved.
-use Rattle.std.proofs.Common.{◌≡◌, ◌≢◌, ℕ, suc, ◌+◌, ◌-◌, ◌≤◌, List, [], ◌∷◌, ◌++◌, length, map, reverse, refl, sym, ap, ◌∙◌, subst, arith, Bool, true, false, All, length-append}
-use Rattle.sf_frames.proofs.Common.{zero, Any, Option, Some, None, MatchOption, filter, AllZip, AllByRecursion, list_any, range_with_len, reverse-append, length-reverse, length-map, true≢false, cond_both, recursion_from_All, All-from_recursion, Design, Shape, block_count, length-at_most_once, each-append, each-left, each-right, Token, numbers, length-numbers, count-numbers, numbers-below, Parts, IsSubproblem, is_unused, subproblem-begun, subproblem-spans, Item, read, items_of, unused, fitting, has_none, AreGroupCurves, IsItemCurve, AllSmall}
-use Rattle.std.specs.Prelude.{◌||◌}
+use Rattle.std.proofs.Common.{◌≡◌, ◌≢◌, ℕ, suc, ◌+◌, ◌-◌, ◌≤◌, List, [], ◌∷◌, ◌++◌, length, map, reverse, refl, sym, ap, ◌∙◌, subst, arith, Bool, true, false, All, length-append, ◌||◌}
+use Rattle.sf_frames.proofs.Common.{zero, Any, Option, Some, None, MatchOption, filter, AllZip, AllByRecursion, list_any, range_with_len, reverse-append, length-reverse, length-map, true≢false, cond_both, recursion_from_All, All-from_recursion, Design, Shape, block_count, length-at_most_once, each-append, each-left, each-right, Token, numbers, length-numbers, count-numbers, numbers-below, Parts, IsSubproblem, is_unused, subproblem-begun, subproblem-spans, Item, read, items_of, unused, fitting, has_none, AreGroupCurves, IsItemCurve, AllSmall, IsAreaPart}
 use Rattle.sf_polish.specs.declared.expr.Token.TheVariants as token
 use Rattle.sf_polish.proofs.Stack.{Reads, Reads-counts}
 use Rattle.sf_standard.specs.Items as item
-use Rattle.sf_frames.specs.AreaPart.{IsAreaPart}
 use Rattle.sf_frames.specs.Groups.{group_plans, IsNeeded, IsNeededOrNone}
 use Rattle.sf_frames.proofs.AreaLink.{area-link}
 use Rattle.sf_frames.proofs.ItemLeasts.{item-some, item-none}

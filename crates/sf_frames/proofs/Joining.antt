@@ -1,9 +1,8 @@
 -- The curves of joined items, and the operands of tokens.
 use Rattle.std.proofs.Common.{◌≡◌, ℕ, ◌-◌, List, [], map, get_or, refl, sym, ap, ◌∙◌, subst, arith, All}
-use Rattle.sf_frames.proofs.Common.{Contains, All-contains, Contains-get_or, Design, Shape, Tree, Leaf, Beside, Above, Parts, IsWithin, IsNoLarger, IsCovered, IsCurveOf, IsCombination, beside_size, above_size, shapes_in, Item, plans, pairs, fits, fitting, size_of, IsItemCurve, Contains-map, Contains-from_map, Contains-filter, Contains-from_filter, Contains-pairs, Contains-from_pairs, fits-true}
+use Rattle.sf_frames.proofs.Common.{Contains, All-contains, Contains-get_or, Design, Shape, Tree, Leaf, Beside, Above, Parts, IsWithin, IsNoLarger, IsCovered, IsCurveOf, IsCombination, beside_size, above_size, shapes_in, Item, plans, pairs, fits, fitting, size_of, IsItemCurve, Contains-map, Contains-from_map, Contains-filter, Contains-from_filter, Contains-pairs, Contains-from_pairs, fits-true, fits-from}
 use Rattle.sf_polish.specs.declared.expr.Token.TheVariants as token
 use Rattle.sf_standard.specs.Items as item
-use Rattle.sf_standard.proofs.Exact.{fits-from}
 
 -- a curve of a block
 pub curve-block : (design : Design) (node : Parts) (b : ℕ) (c : List Shape) → IsCurveOf design.outline (shapes_in design node.spans b) c → IsItemCurve design node c (item.Block b)

@@ -1,8 +1,6 @@
 -- The least values of a curve.
 use Rattle.std.proofs.Common.{◌≡◌, ◌≢◌, ℕ, zero, suc, ◌-◌, ◌<◌, ◌≤◌, inl, inr, List, [], ◌∷◌, length, get_or, refl, sym, ap, ◌∙◌, subst, arith}
-use Rattle.sf_frames.proofs.Common.{All, AllPairs, Contains, mul-le-mul, get_or_default, cases_lt, Contains-get_or, Shape, IsSlimmer, IsLeastArea, IsWithin, IsNoLarger, IsCurveOf, area_of, not_in_nil, Contains-cons_cases, All-head, All-tail, least_by, width_of, height_of, IsLeastOf, AllSmall}
-use Rattle.sf_model.specs.declared.TheConstants.{MAX}
-use Rattle.sf_model.specs.declared.parts.Outline.{Outline}
+use Rattle.sf_frames.proofs.Common.{All, AllPairs, Contains, mul-le-mul, get_or_default, cases_lt, Contains-get_or, Shape, IsSlimmer, IsLeastArea, IsWithin, IsNoLarger, IsCurveOf, area_of, not_in_nil, Contains-cons_cases, All-head, All-tail, least_by, width_of, height_of, IsLeastOf, AllSmall, MAX, Outline}
 
 -- the least value is at most that of each point
 pub least_by-le : (f : Shape → ℕ) (xs : List Shape) (x : Shape) → Contains xs x → least_by f xs ≤ f x

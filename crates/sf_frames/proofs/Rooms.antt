@@ -1,13 +1,11 @@
 -- How many points are kept, and how many the tokens of a path need.
 use Rattle.std.proofs.Common.{◌≡◌, ℕ, zero, suc, ◌+◌, ◌-◌, ◌<◌, ◌≤◌, List, [], ◌∷◌, ◌++◌, length, map, get_or, refl, sym, ap, ◌∙◌, subst, inl, inr, cond, arith, length-drop}
-use Rattle.sf_frames.proofs.Common.{AllPairs, All, Contains, sum_by, nat_lt, slice_range, cases_lt, cond-true, cond-false, lt-ltb, le-ltb, get_or-map, get_or-take, get_or_append_left, get_or_push, length_push, length-map, length-take-le, take_all, All-tail, sum_by-cons, sum_by_push, Design, Shape, block_count, Token, Parts, IsSubproblem, IsSlimmer, IsCurveOf, AllPairs-tail, Item, Block, Direction, Frame, Kept, token_in, items_at, points_of, point_count, token_of, made_for, added, needed, no_token, IsKept, IsStored, IsStoredPath, IsNext, IsWithinRoom, HasFrames, IsTopCurve, Adds, NeedsMore, HasRoom}
+use Rattle.sf_frames.proofs.Common.{AllPairs, All, Contains, sum_by, nat_lt, slice_range, cases_lt, cond-true, cond-false, lt-ltb, le-ltb, get_or-map, get_or-take, get_or_append_left, get_or_push, length_push, length-map, length-take-le, take_all, All-tail, sum_by-cons, sum_by_push, Design, Shape, block_count, Token, Parts, IsSubproblem, IsSlimmer, IsCurveOf, AllPairs-tail, Item, Block, Direction, Frame, Kept, token_in, items_at, points_of, point_count, token_of, made_for, added, needed, no_token, IsKept, IsStored, IsStoredPath, IsNext, IsWithinRoom, HasFrames, IsTopCurve, Adds, NeedsMore, HasRoom, Outline, Stored}
 use Rattle.sf_model.specs.declared.parts.Block.{Block as Block'}
-use Rattle.sf_model.specs.declared.parts.Outline.{Outline}
 use Rattle.sf_polish.specs.declared.expr.Token.TheVariants as token
 use Rattle.sf_node.proofs.Depth.{subproblem-shallow}
 use Rattle.sf_curves.specs.declared.direction.Direction.TheVariants.{Beside, Above}
 use Rattle.sf_frames.specs.declared.limits.TheConstants.{MOST_POINTS}
-use Rattle.sf_frames.specs.declared.stored.Stored.{Stored}
 use Rattle.sf_frames.proofs.Switching.{stored-own}
 
 -- 1 for a size that is no narrower than this, and 0 else

@@ -1,11 +1,8 @@
 -- Least areas and their sums are machine numbers.
-use Rattle.std.proofs.Common.{◌≡◌, ℕ, suc, ◌+◌, ◌*◌, ◌≤◌, List, [], ◌∷◌, ◌++◌, length, take, drop, map, refl, ap, subst, arith, true, false, length-append}
-use Rattle.std.specs.Prelude.{◌||◌}
-use Rattle.sf_frames.proofs.Common.{sum_by, filter, Contains, Bool, cond, Option, Some, None, list_any, range_with_len, mul-le-mul, cond_both, length-map, take-append-drop, sum_by-cons, sum_by-append, sum-map, Design, block_count, Tree, Token, is_operand, operands, Parts, root, is_unused, IsSubproblem, subproblem-begun, Contains-head, Item, read, unused, plans, area, least_of, has_none, least_of-le, Least, Sums, path, items_at, ways, groups_at, IsLeastFor, IsLeastOrNone, AreSums, AreSumsOrNone, AreWithin}
+use Rattle.std.proofs.Common.{◌≡◌, ℕ, suc, ◌+◌, ◌*◌, ◌≤◌, List, [], ◌∷◌, ◌++◌, length, take, drop, map, refl, ap, subst, arith, true, false, length-append, ◌||◌}
+use Rattle.sf_frames.proofs.Common.{sum_by, filter, Contains, Bool, cond, Option, Some, None, list_any, range_with_len, mul-le-mul, cond_both, length-map, take-append-drop, sum_by-cons, sum_by-append, sum-map, Design, block_count, Tree, Token, is_operand, operands, Parts, root, is_unused, IsSubproblem, subproblem-begun, Contains-head, Item, read, unused, plans, area, least_of, has_none, least_of-le, Least, Sums, path, items_at, ways, groups_at, IsLeastFor, IsLeastOrNone, AreSums, AreSumsOrNone, AreWithin, length-at_most_once, numbers, length-numbers, count-numbers, numbers-below}
 use Rattle.std.proofs.lemmas.List.FromFn.{length-range_with_len}
-use Rattle.sf_model.proofs.Counting.{length-at_most_once}
 use Rattle.sf_polish.specs.declared.expr.Token.TheVariants as token
-use Rattle.sf_polish.proofs.Normality.{numbers, length-numbers, count-numbers, numbers-below}
 use Rattle.sf_standard.specs.Items as item
 use Rattle.sf_frames.proofs.Summing.{others, groups-before}
 use Rattle.sf_frames.proofs.Joining.{sizes-within}

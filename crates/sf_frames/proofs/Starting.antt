@@ -1,8 +1,6 @@
 -- The sums over all blocks.
-use Rattle.std.proofs.Common.{◌≡◌, ℕ, suc, ◌+◌, ◌-◌, ◌*◌, ◌<◌, ◌≤◌, max, List, [], ◌∷◌, ◌++◌, length, map, get_or, refl, sym, ap, ◌∙◌, subst, arith, Bool, true, false}
-use Prim.Native.Nat.{zero}
-use Rattle.std.specs.Prelude.{◌||◌}
-use Rattle.sf_frames.proofs.Common.{filter, cond, list_any, range_with_len, length-map, sum_by-cons, sum-map, Design, Shape, block_count, Tree, Token, root, is_unused, area, least_of, has_none, Kept, Least, ways, groups_at, AreWhole, IsLeastFor, IsLeastOrNone, AreSums}
+use Rattle.std.proofs.Common.{◌≡◌, ℕ, suc, ◌+◌, ◌-◌, ◌*◌, ◌<◌, ◌≤◌, max, List, [], ◌∷◌, ◌++◌, length, map, get_or, refl, sym, ap, ◌∙◌, subst, arith, Bool, true, false, ◌||◌}
+use Rattle.sf_frames.proofs.Common.{filter, cond, list_any, range_with_len, length-map, sum_by-cons, sum-map, Design, Shape, block_count, Tree, Token, root, is_unused, area, least_of, has_none, Kept, Least, ways, groups_at, AreWhole, IsLeastFor, IsLeastOrNone, AreSums, zero}
 use Rattle.sf_standard.specs.Items as item
 
 -- the groups of the blocks from the number b on, of which there are n

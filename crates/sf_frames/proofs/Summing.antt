@@ -1,11 +1,8 @@
 -- The sums over the groups after two items became one.
-use Rattle.std.proofs.Common.{◌≡◌, ℕ, suc, ◌+◌, ◌-◌, ◌≤◌, max, List, [], ◌∷◌, ◌++◌, length, map, take, refl, sym, ap, ◌∙◌, subst, arith, Bool, true, false, ◌==◌}
-use Rattle.std.specs.Prelude.{◌||◌}
-use Rattle.sf_frames.proofs.Common.{Contains, filter, count_by, cond, Option, Some, None, list_any, range_with_len, eqb-true, true≢false, sum_by-cons, sum_by-append, sum-map, Design, Tree, width, height, Token, is_block, root, is_unused, size_of, IsNoLarger, not_in_nil, Contains-head, Contains-tail, shapes_in, Item, fits, plans, unused, item_in, area, least_of, has_none, Contains-filter, Contains-from_filter, Contains-from_pairs, fits-true, least_of-le, Direction, Least, Sums, token_in, plan_in, size_in, path, items_at, ways, groups_at, IsNext, IsLeastFor, IsLeastOrNone, AreSums, AreSumsOrNone, joined}
-use Rattle.sf_model.specs.declared.TheConstants.{MAX}
+use Rattle.std.proofs.Common.{◌≡◌, ℕ, suc, ◌+◌, ◌-◌, ◌≤◌, max, List, [], ◌∷◌, ◌++◌, length, map, take, refl, sym, ap, ◌∙◌, subst, arith, Bool, true, false, ◌==◌, ◌||◌}
+use Rattle.sf_frames.proofs.Common.{Contains, filter, count_by, cond, Option, Some, None, list_any, range_with_len, eqb-true, true≢false, sum_by-cons, sum_by-append, sum-map, Design, Tree, width, height, Token, is_block, root, is_unused, size_of, IsNoLarger, not_in_nil, Contains-head, Contains-tail, shapes_in, Item, fits, plans, unused, item_in, area, least_of, has_none, Contains-filter, Contains-from_filter, Contains-from_pairs, fits-true, least_of-le, Direction, Least, Sums, token_in, plan_in, size_in, path, items_at, ways, groups_at, IsNext, IsLeastFor, IsLeastOrNone, AreSums, AreSumsOrNone, joined, MAX, fits-from}
 use Rattle.sf_polish.specs.declared.expr.Token.TheVariants as token
 use Rattle.sf_standard.specs.Items as item
-use Rattle.sf_standard.proofs.Exact.{fits-from}
 use Rattle.sf_curves.specs.declared.direction.Direction.TheVariants.{Beside, Above}
 use Rattle.sf_frames.proofs.Topping.{take-next, items-joined}
 use Rattle.sf_frames.proofs.Ways.{way_in}

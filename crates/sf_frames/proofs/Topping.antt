@@ -1,12 +1,9 @@
 -- The items that one token more leaves.
 use Rattle.std.proofs.Common.{◌≡◌, ℕ, zero, suc, ◌+◌, ◌-◌, ◌<◌, ◌≤◌, List, [], ◌∷◌, ◌++◌, length, vec_len, take, drop, get_or, sym, ap, ◌∙◌, subst, arith}
-use Rattle.sf_frames.proofs.Common.{None, take_more, drop_more, take-append-drop, Design, Shape, Token, Parts, IsSubproblem, subproblem-begun, Item, read, item_in, Direction, Frame, token_in, items_at, no_token, IsFrame, IsStoredIn, IsNext}
+use Rattle.sf_frames.proofs.Common.{None, take_more, drop_more, take-append-drop, Design, Shape, Token, Parts, IsSubproblem, subproblem-begun, Item, read, item_in, Direction, Frame, token_in, items_at, no_token, IsFrame, IsStoredIn, IsNext, read-append, read-block, Stored, Runs, runs-from}
 use Rattle.sf_polish.specs.declared.expr.Token.TheVariants as token
 use Rattle.sf_standard.specs.Items as item
-use Rattle.sf_standard.proofs.Appended.{read-append, read-block}
 use Rattle.sf_curves.specs.declared.direction.Direction.TheVariants.{Beside, Above}
-use Rattle.sf_frames.specs.declared.stored.Stored.{Stored}
-use Rattle.sf_standard.proofs.Operands.{Runs, runs-from}
 use Rattle.sf_frames.proofs.Ways.{read-joined}
 
 -- tokens that follow find their operands among the items after those before them

@@ -1,10 +1,9 @@
 -- The curves of the unused blocks below k stand behind those of the items.
 use Rattle.std.proofs.Common.{◌≡◌, ℕ, ◌+◌, ◌<◌, List, [], ◌∷◌, ◌++◌, length, map, append_assoc, append-nil, sym, ap, ◌∙◌, subst, arith, refl, cond, Bool, true, false}
-use Rattle.sf_frames.proofs.Common.{filter, count_by, AllZip, AllByRecursion, range_with_len, cond-true, cond-false, ne_eqb, map-append, Design, Shape, each-weaker, is_block, Parts, IsSubproblem, is_unused, is_complete, complete-normal, subproblem-spans, IsCurveOf, shapes_in, Item, unused, AreItemCurves, AddsUnused, AreGroupCurves, IsItemCurve}
+use Rattle.sf_frames.proofs.Common.{filter, count_by, AllZip, AllByRecursion, range_with_len, cond-true, cond-false, ne_eqb, map-append, Design, Shape, each-weaker, is_block, Parts, IsSubproblem, is_unused, is_complete, complete-normal, subproblem-spans, IsCurveOf, shapes_in, Item, unused, AreItemCurves, AddsUnused, AreGroupCurves, IsItemCurve, each-below}
 use Rattle.sf_frames.proofs.Joining.{curve-block}
 use Rattle.sf_node.proofs.Grown.{filter-more}
 use Rattle.sf_standard.specs.Items as item
-use Rattle.sf_standard.proofs.Cutting.{each-below}
 
 -- the unused blocks with numbers below k, each as an item by itself
 abbrev pub unused_below : Parts → ℕ → List Item

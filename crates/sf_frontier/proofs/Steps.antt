@@ -1,16 +1,12 @@
 -- Each step keeps the rule of a deque.
-use Rattle.std.proofs.Common.{Bool, if◌then◌else◌, ◌≡◌, ◌≢◌, ℕ, zero, suc, ◌+◌, ◌<◌, ◌≤◌, List, [], ◌∷◌, ◌++◌, length, set, drop, All, refl, sym, ap, ◌∙◌, subst, ⊎_elim, arith, length-append, append_assoc, append-nil}
-use Rattle.std.specs.Prelude.{sum_by}
-use Rattle.std.proofs.lemmas.List.Sums.{sum_by-cons, sum_by-append, sum_by_push}
-use Rattle.std.proofs.lemmas.List.Elements.{All-append, All-cons, All-nil, All-take, All-drop}
+use Rattle.std.proofs.Common.{Bool, if◌then◌else◌, ◌≡◌, ◌≢◌, ℕ, zero, suc, ◌+◌, ◌<◌, ◌≤◌, List, [], ◌∷◌, ◌++◌, length, set, drop, All, refl, sym, ap, ◌∙◌, subst, ⊎_elim, arith, length-append, append_assoc, append-nil, sum_by}
+use Rattle.sf_frontier.proofs.Common.{sum_by-cons, sum_by-append, sum_by_push, All-append, All-cons, All-nil, All-take, All-drop, Stretch, view, ends, IdleIsEmpty, IsOrdered, weight_put, weight_taken, Balanced, Put, Taken, Stolen, IsAllTaken, back_alone, front_alone, both_ends, no_end}
 use lib.Seq.{take-append_seam, drop-append_seam}
 use mathlib.Core.Option.{some, some-ne-none, some-injective}
 use lib.ListN.{get_elem?}
 use Rattle.crossbeam_deque.specs.Tasks.{Pushes, Takes, Pops, Finds, Forks, Merges}
 use Rattle.crossbeam_deque.proofs.Lists.{at_set, at_snoc}
-use Rattle.sf_cursor.specs.declared.stretch.Stretch.{Stretch}
 use Rattle.sf_frontier.specs.declared.rule.View.{View}
-use Rattle.sf_frontier.specs.Fair.{view, ends, IdleIsEmpty, IsOrdered, weight_put, weight_taken, Balanced, Put, Taken, Stolen, IsAllTaken, back_alone, front_alone, both_ends, no_end}
 
 -- the total after one view became another
 total_set : (f : View → ℕ) (views : List View) (port : ℕ) (v w : View) → get_elem? views port ≡ some v → sum_by f (set views port w) + f v ≡ sum_by f views + f w

@@ -1,15 +1,7 @@
 -- Rings of deques, opened at one worker, and what is left of a team, one deque at a time.
-use Rattle.std.proofs.Common.{◌≡◌, ℕ, ◌<◌, ◌≤◌, List, [], ◌∷◌, ◌++◌, length, drop, reverse, map, All, sym, ap, ◌∙◌, subst, refl, arith, length-append, append-nil, append_assoc, inl, inr}
-use Rattle.std.specs.Prelude.{sum_by}
-use Rattle.std.specs.List.{flat_map}
-use Rattle.std.proofs.lemmas.List.Sums.{sum_by-append, sum_by-cons}
-use Rattle.std.proofs.lemmas.List.Elements.{All-push, All-head, All-nil, All-cons}
+use Rattle.std.proofs.Common.{◌≡◌, ℕ, ◌<◌, ◌≤◌, List, [], ◌∷◌, ◌++◌, length, drop, reverse, map, All, sym, ap, ◌∙◌, subst, refl, arith, length-append, append-nil, append_assoc, inl, inr, sum_by, flat_map}
+use Rattle.sf_frontier.proofs.Common.{sum_by-append, sum_by-cons, All-push, All-head, All-nil, All-cons, Stretch, Deque, OwnerView, ThiefView, with_stolen, IsDrained, SameTasks, thief_deques_of, turned, owners_of, deques_of, preys_of, stolen_by, AreSettled, IsTeam, IsFinished, IsNewOwner, IsNewThief, IsNewPlace, HasSlots, Place}
 use Rattle.std.proofs.lemmas.List.{nil_from_length, map-append, reverse-append, same_from_push}
-use Rattle.sf_cursor.specs.declared.stretch.Stretch.{Stretch}
-use Rattle.sf_frontier.specs.Ends.{Deque, OwnerView, ThiefView, with_stolen, IsDrained}
-use Rattle.sf_frontier.specs.Fair.{SameTasks}
-use Rattle.sf_frontier.specs.Team.{thief_deques_of, turned, owners_of, deques_of, preys_of, stolen_by, AreSettled, IsTeam, IsFinished, IsNewOwner, IsNewThief, IsNewPlace, HasSlots}
-use Rattle.sf_frontier.specs.declared.place.Place.{Place}
 pub use Rattle.sf_frontier.proofs.Steps.{all_front}
 use Rattle.sf_frontier.proofs.Steps.{all_back}
 

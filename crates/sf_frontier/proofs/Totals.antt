@@ -1,11 +1,6 @@
 -- Over all deques of a team, however tasks are weighed: what was put is what was taken and what is left.
-use Rattle.std.proofs.Common.{◌≡◌, ℕ, ◌+◌, List, [], ◌∷◌, ◌++◌, map, arith, ap, refl}
-use Rattle.std.specs.Prelude.{sum_by}
-use Rattle.std.proofs.lemmas.List.Sums.{sum_by-append, sum_by-cons}
-use Rattle.sf_cursor.specs.declared.stretch.Stretch.{Stretch}
-use Rattle.sf_frontier.specs.Ends.{OwnerView}
-use Rattle.sf_frontier.specs.Team.{turned, owners_of, stolen_by, AreSettled, IsFinished}
-use Rattle.sf_frontier.specs.declared.place.Place.{Place}
+use Rattle.std.proofs.Common.{◌≡◌, ℕ, ◌+◌, List, [], ◌∷◌, ◌++◌, map, arith, ap, refl, sum_by}
+use Rattle.sf_frontier.proofs.Common.{sum_by-append, sum_by-cons, Stretch, OwnerView, turned, owners_of, stolen_by, AreSettled, IsFinished, Place}
 
 -- a sum over what a function gives is the sum over the elements
 sum_map : {X Y : Type 0} (f : Y → ℕ) (g : X → Y) (xs : List X) → sum_by f (map g xs) ≡ sum_by (λ x. f (g x)) xs

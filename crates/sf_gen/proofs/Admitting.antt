@@ -1,10 +1,8 @@
 -- The parts of a generated design may become a design.
-use Rattle.std.proofs.Common.{◌≡◌, ℕ, zero, suc, ◌+◌, ◌*◌, ◌-◌, ◌%◌, ◌<◌, ◌≤◌, ◌^◌, ◌==◌, Bool, true, false, cond, List, [], ◌∷◌, ◌++◌, length, refl, sym, ap, ◌∙◌, inl, inr, arith, lit<}
-use Rattle.sf_gen.proofs.Common.{map, min, sum_by, Some, pos, decimal, AllByRecursion, flat_map, list_any, cases_eq, false_from_ne_true, le-ltb, nat_tests, decimal_digit, decimal_injective, length-map, sum_by-cons, RawBlock, Kinds, Ends, Size, named_parts, raw_block, raw_blocks, raw_nets, raw_pads, parts_of, sizes, ends, net_count, indexed, is_soft, block_name, pad_name, pad_pins, pins_of, nets_pins, square}
-use Rattle.std.specs.Str.{bytes_eq}
+use Rattle.std.proofs.Common.{◌≡◌, ℕ, zero, suc, ◌+◌, ◌*◌, ◌-◌, ◌%◌, ◌<◌, ◌≤◌, ◌^◌, ◌==◌, Bool, true, false, cond, List, [], ◌∷◌, ◌++◌, length, refl, sym, ap, ◌∙◌, inl, inr, arith, lit<, bytes_eq}
+use Rattle.sf_gen.proofs.Common.{map, min, sum_by, Some, pos, decimal, AllByRecursion, flat_map, list_any, cases_eq, false_from_ne_true, le-ltb, nat_tests, decimal_digit, decimal_injective, length-map, sum_by-cons, RawBlock, Kinds, Ends, Size, named_parts, raw_block, raw_blocks, raw_nets, raw_pads, parts_of, sizes, ends, net_count, indexed, is_soft, block_name, pad_name, pad_pins, pins_of, nets_pins, square, BuildFault}
 use Rattle.std.proofs.lemmas.Slice.Eq.{bytes_eq-Decides}
 use Rattle.std.proofs.Math.Bool.{or-true, and-false}
-use Rattle.sf_model.specs.declared.fault.BuildFault.{BuildFault}
 use Rattle.sf_model.specs.declared.fault.BuildFault.TheVariants as fault
 use Rattle.sf_model.specs.declared.fault.Limit.{Limit}
 use Rattle.sf_model.specs.declared.fault.Limit.TheVariants as limit

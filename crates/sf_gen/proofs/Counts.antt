@@ -1,7 +1,6 @@
 -- The counts of soft and of hard blocks, and of pins.
 use Rattle.std.proofs.Common.{◌≡◌, ℕ, zero, suc, ◌+◌, ◌*◌, ◌/◌, ◌%◌, ◌≤◌, ◌==◌, Bool, true, false, cond, List, [], ◌∷◌, length, refl, sym, ap, ◌∙◌, arith}
-use Rattle.sf_gen.proofs.Common.{not, count_by, sum_by, range_with_len, nat_tests, length-filter, sum_by-cons, length-range_with_len, Kinds, Ends, net_count, indexed, is_soft, soft_count, hard_count, pins_of, nets_pins, pad_name, pad_pins}
-use Rattle.std.specs.Int.{div_ceil}
+use Rattle.sf_gen.proofs.Common.{not, count_by, sum_by, range_with_len, nat_tests, length-filter, sum_by-cons, length-range_with_len, Kinds, Ends, net_count, indexed, is_soft, soft_count, hard_count, pins_of, nets_pins, pad_name, pad_pins, div_ceil}
 use Rattle.std.proofs.lemmas.List.Filters.{length-filter_both}
 use Rattle.sf_gen.specs.declared.design.Kinds.TheVariants.{Hard, Mixed}
 

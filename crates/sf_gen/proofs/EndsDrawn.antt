@@ -1,7 +1,6 @@
 -- What is drawn keeps to its limits.
 use Rattle.std.proofs.Common.{◌≡◌, ℕ, ◌+◌, ◌*◌, ◌%◌, ◌<◌, ◌≤◌, ◌==◌, true, false, cond, List, [], ◌∷◌, length, ◌∙◌, arith}
-use Rattle.sf_gen.proofs.Common.{map, sum_by, AllByRecursion, range_with_len, nat_tests, length-map-range_with_len, Ends, ends, ends_at, net_count, size_at, sizes, word, indexed, pad_name, pad_pins, pins_of, nets_pins}
-use Rattle.sf_model.proofs.Each.{each-any, each-map}
+use Rattle.sf_gen.proofs.Common.{map, sum_by, AllByRecursion, range_with_len, nat_tests, length-map-range_with_len, Ends, ends, ends_at, net_count, size_at, sizes, word, indexed, pad_name, pad_pins, pins_of, nets_pins, each-any, each-map}
 use Rattle.sf_gen.proofs.Counts.{length-indexed, all_pins, few_nets, pad_count}
 use Rattle.sf_gen.proofs.BlockLines.{IsSmall}
 use Rattle.sf_gen.proofs.NetsRead.{IsName, of_block, of_pad, IsNet}

@@ -1,8 +1,7 @@
 -- The words of a generator, one after another.
 use Rattle.std.proofs.Common.{◌≡◌, ℕ, zero, suc, ◌+◌, refl, sym, ap, add-one}
 use Rattle.rand_pcg.specs.Lcg.{Lcg, next_state, state_after}
-use Rattle.rand_pcg.specs.Pcg.{pcg32, multiplier_64}
-use Rattle.sf_gen.specs.Words.{start, after}
+use Rattle.sf_gen.proofs.Common.{pcg32, multiplier_64, start, after}
 
 -- n steps after a first one lead to the same state as one step after n
 later : (w m p n s : ℕ) → state_after w m p n (next_state w m p s) ≡ next_state w m p (state_after w m p n s)

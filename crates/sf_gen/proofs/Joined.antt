@@ -1,6 +1,5 @@
 -- The parts that the texts are joined to.
-use Rattle.std.proofs.Common.{◌≡◌, ℕ, Bool, true, false, List, [], refl, ap}
-use Rattle.std.specs.Prelude.{◌||◌}
+use Rattle.std.proofs.Common.{◌≡◌, ℕ, Bool, true, false, List, [], refl, ap, ◌||◌}
 use Rattle.sf_gen.proofs.Common.{not, map, Some, Ok, codes, RawBlock, Kinds, blocks_out, nets_out, places_out, named_parts, pad_list, parts_of, raw_blocks, sizes, ends}
 use Rattle.sf_gsrc.specs.Join.{has_name, strangers_of, joined, numbered}
 

@@ -1,12 +1,8 @@
 -- AllByRecursion block has a shape.
-use Rattle.std.proofs.Common.{◌≡◌, ℕ, zero, suc, ◌+◌, ◌*◌, ◌-◌, ◌/◌, ◌<◌, ◌≤◌, ◌==◌, Bool, true, false, cond, List, [], ◌∷◌, refl, sym, ap, ◌∙◌, inl, inr, arith}
-use Rattle.std.specs.Prelude.{◌||◌}
-use Rattle.sf_gen.proofs.Common.{map, max, min, nat_le, zip, Some, None, AllByRecursion, range_with_len, cases_lt, All-head, All-tail, RawBlock, Kinds, Size, raw_block, raw_blocks, sizes, is_soft}
-use Rattle.std.specs.Option.{option_map}
+use Rattle.std.proofs.Common.{◌≡◌, ℕ, zero, suc, ◌+◌, ◌*◌, ◌-◌, ◌/◌, ◌<◌, ◌≤◌, ◌==◌, Bool, true, false, cond, List, [], ◌∷◌, refl, sym, ap, ◌∙◌, inl, inr, arith, ◌||◌, option_map}
+use Rattle.sf_gen.proofs.Common.{map, max, min, nat_le, zip, Some, None, AllByRecursion, range_with_len, cases_lt, All-head, All-tail, RawBlock, Kinds, Size, raw_block, raw_blocks, sizes, is_soft, mul-le-mul, mul-le-mul_right, BuildFault}
 use Rattle.std.proofs.lemmas.Grind.{div_ceil_times}
-use Rattle.std.proofs.Math.Nat.{mul-le-mul, mul-le-mul_right}
 use Rattle.sf_model.specs.Built.{first_shapeless}
-use Rattle.sf_model.specs.declared.fault.BuildFault.{BuildFault}
 use Rattle.sf_model.specs.declared.fault.BuildFault.TheVariants.{NoShape}
 use Rattle.sf_model.specs.declared.parts.Shape.{Shape}
 use Rattle.sf_model.specs.declared.raw.Kind.TheVariants as kind

@@ -1,7 +1,6 @@
 -- The lines of a text that was written piece by piece.
 use Rattle.std.proofs.Common.{◌≡◌, ℕ, ◌+◌, true, List, [], ◌∷◌, ◌++◌, refl, sym, ap, ◌∙◌, append_assoc}
-use Rattle.sf_gen.proofs.Common.{AllByRecursion, AllZip, flat_map, append-nil, lines, is_line_feed, has_none, Line, numbered, first_word, Blanks, first_fails, content, content_of, is_content_word}
-use Rattle.sf_model.proofs.Each.{each-append}
+use Rattle.sf_gen.proofs.Common.{AllByRecursion, AllZip, flat_map, append-nil, lines, is_line_feed, has_none, Line, numbered, first_word, Blanks, first_fails, content, content_of, is_content_word, each-append}
 
 -- a text has these lines, and the last of them is ended
 pub record IsLines (t : List ℕ) (ls : List (List ℕ)) : Type 0 where

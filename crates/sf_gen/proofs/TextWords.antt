@@ -1,11 +1,8 @@
 -- The words of a line that was written.
-use Rattle.std.proofs.Common.{◌≡◌, ℕ, ◌+◌, ◌<◌, ◌≤◌, ◌^◌, Bool, true, false, List, [], ◌∷◌, ◌++◌, length, take, drop, refl, ap, ◌∙◌, arith, mul-one}
-use Rattle.std.specs.Prelude.{◌*◌, ◌==◌}
-use Rattle.sf_gen.proofs.Common.{nat_lt, Ok, Some, pos, codes, decimal, list_all, prefix_len, position_or_len, before_first, after_first, nat_tests, decimal_nonempty, append-nil, drop_all, words, is_line_feed, is_not_empty, has_none, is_gap, without_gap, first_word, after_word, is_digit, is_point, number_of, scaled, decimal_of, decimal_read, area_read, signed_read, with_value, Blanks, Colons, Points, Sizes, and_parts, words-last, first_fails, is_content_word, is_colon, count_said}
-use Rattle.std.specs.Int.{div_ceil}
+use Rattle.std.proofs.Common.{◌≡◌, ℕ, ◌+◌, ◌<◌, ◌≤◌, ◌^◌, Bool, true, false, List, [], ◌∷◌, ◌++◌, length, take, drop, refl, ap, ◌∙◌, arith, mul-one, ◌*◌, ◌==◌}
+use Rattle.sf_gen.proofs.Common.{nat_lt, Ok, Some, pos, codes, decimal, list_all, prefix_len, position_or_len, before_first, after_first, nat_tests, decimal_nonempty, append-nil, drop_all, words, is_line_feed, is_not_empty, has_none, is_gap, without_gap, first_word, after_word, is_digit, is_point, number_of, scaled, decimal_of, decimal_read, area_read, signed_read, with_value, Blanks, Colons, Points, Sizes, and_parts, words-last, first_fails, is_content_word, is_colon, count_said, div_ceil, Gap}
 use Rattle.std.proofs.Math.Numerals.{one-add}
 use Rattle.std.proofs.Math.Seq.{take-append_seam, drop-append_seam, take-length, drop-length}
-use Rattle.sf_lex.specs.declared.field.Gap.{Gap}
 use Rattle.sf_lex.proofs.WrittenNumbers.{digits_written, number_written, decimal_written, no_point_in_digit, filled}
 use Rattle.sf_gen.proofs.TextLines.{Reads, none, ended, piece, reads_line}
 

@@ -1,8 +1,6 @@
 -- A line of a hard block says its box.
 use Rattle.std.proofs.Common.{◌≡◌, ◌≢◌, ℕ, ◌*◌, ◌≤◌, length, List, ◌∷◌, Result, Ok, refl}
-use Rattle.sf_gsrc.proofs.Common.{le-ltb, ne_eqb, ◌>>=◌, map_err, count_in_word, vertex_fault, box_said, hard_said}
-use Rattle.sf_lex.specs.Vertices.{box_read}
-use Rattle.sf_lex.specs.declared.vertices.BoxSize.{BoxSize}
+use Rattle.sf_gsrc.proofs.Common.{le-ltb, ne_eqb, ◌>>=◌, map_err, count_in_word, vertex_fault, box_said, hard_said, box_read, BoxSize}
 use Rattle.sf_lex.specs.declared.vertices.VertexFault.{VertexFault}
 
 -- behind a count of enough vertices stands what the box of these says

@@ -1,7 +1,6 @@
 -- The parts that are joined.
 use Rattle.std.proofs.Common.{◌≡◌, ℕ, true, List, [], ◌∷◌, map, Option, Some, None, Ok, refl, sym, ap, ◌∙◌}
-use Rattle.sf_gsrc.proofs.Common.{RawPad, RawNet, GsrcBlocks, Place, pads_at, strangers_of, placed_once, placed_parts, pads_once}
-use Rattle.sf_gsrc.specs.declared.fault.JoinFault.{JoinFault}
+use Rattle.sf_gsrc.proofs.Common.{RawPad, RawNet, GsrcBlocks, Place, pads_at, strangers_of, placed_once, placed_parts, pads_once, JoinFault}
 use Rattle.sf_gsrc.specs.declared.fault.JoinFault.TheVariants as faults
 use Rattle.sf_gsrc.proofs.Results.{ok_is, err_not_ok}
 

@@ -1,12 +1,10 @@
 -- One entry more.
 use Rattle.std.proofs.Common.{◌≡◌, ℕ, false, List, [], ◌∷◌, ◌++◌, Option, Some, None, Result, Err, if◌then◌else◌, refl, sym, ap, ◌∙◌}
-use Rattle.sf_gsrc.proofs.Common.{is_some, cons_option, append-nil, filter_map-append, Line, words, RawBlock, GsrcFault, LineFault, Colons, Counted, Count, is_gap, BlockIs, PadIs, count_said, Entry, CountIs, ItemIs, or_else, count_at, count_in, block_at, pad_at, count_after, entry_at, fault_at, Fails}
+use Rattle.sf_gsrc.proofs.Common.{is_some, cons_option, append-nil, filter_map-append, Line, words, RawBlock, GsrcFault, LineFault, Colons, Counted, Count, is_gap, BlockIs, PadIs, count_said, Entry, CountIs, ItemIs, or_else, count_at, count_in, block_at, pad_at, count_after, entry_at, fault_at, Fails, BadLine, BadNumber, ZeroSide, IsFound, count_kept, with_count}
 use Rattle.sf_gsrc.specs.declared.fault.GsrcFault.TheVariants as faults
-use Rattle.sf_gsrc.specs.declared.fault.LineFault.TheVariants.{BadLine, BadNumber, ZeroSide}
 use Rattle.sf_gsrc.specs.declared.keywords.Counted.TheVariants as counts
 use Rattle.sf_gsrc.specs.declared.found.Found.{Found}
 use Rattle.sf_gsrc.proofs.Results.{none_of, or_else-None}
-use Rattle.sf_gsrc.specs.Found.{IsFound, count_kept, with_count}
 
 -- the first that is there of three, however they are grouped
 or_else_assoc : {X : Type 0} (a b c : Option X) → or_else a (or_else b c) ≡ or_else (or_else a b) c

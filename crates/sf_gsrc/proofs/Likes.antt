@@ -1,10 +1,6 @@
 -- The first name that has a like anywhere is the first that stands again behind its line.
 use Rattle.std.proofs.Common.{◌≡◌, ℕ, ◌+◌, ◌||◌, nat_lt, Bool, true, false, cond, if◌then◌else◌, Some, List, [], ◌∷◌, ◌++◌, refl, sym, ap, ◌∙◌, append_assoc, arith}
-use Rattle.sf_gsrc.proofs.Common.{count_by, find, bytes_eq, nat_tests, has_name, has_like, first_twice, first_again}
-use Rattle.std.proofs.lemmas.List.Sums.{sum_by-append, sum_by-cons}
-use Rattle.std.proofs.lemmas.List.Folds.{list_any-append}
-use Rattle.std.proofs.lemmas.Slice.Eq.{bytes_eq-Decides}
-use Rattle.std.proofs.Math.Bool.{or-true}
+use Rattle.sf_gsrc.proofs.Common.{count_by, find, bytes_eq, nat_tests, has_name, has_like, first_twice, first_again, sum_by-append, sum_by-cons, list_any-append, bytes_eq-Decides, or-true}
 
 -- how often a name stands among these
 abbrev often : List (List ℕ) → List ℕ → ℕ

@@ -1,12 +1,8 @@
 -- Names in maps.
-use Rattle.std.proofs.Common.{◌≡◌, ℕ, suc, ◌+◌, ◌<◌, Bool, true, false, cond, List, [], ◌∷◌, ◌++◌, length, map, take, drop, get_or, Option, Some, None, refl, sym, ap, ◌∙◌, add-one, ℤ}
-use Rattle.std.specs.Prelude.{◌||◌}
-use Rattle.sf_gsrc.proofs.Common.{is_some, not, filter, list_any, bytes_eq, Place, map-append, append-nil, filter-append, RawBlock, RawPad, names_of, has_name, place_of, pads_at, is_known, strangers_of, first_again, PlacesByName, IsNameSet}
-use Rattle.std.specs.Map.{update}
+use Rattle.std.proofs.Common.{◌≡◌, ℕ, suc, ◌+◌, ◌<◌, Bool, true, false, cond, List, [], ◌∷◌, ◌++◌, length, map, take, drop, get_or, Option, Some, None, refl, sym, ap, ◌∙◌, add-one, ℤ, ◌||◌}
+use Rattle.sf_gsrc.proofs.Common.{is_some, not, filter, list_any, bytes_eq, Place, map-append, append-nil, filter-append, RawBlock, RawPad, names_of, has_name, place_of, pads_at, is_known, strangers_of, first_again, PlacesByName, IsNameSet, update, or_assoc, list_any_more}
 use Rattle.sf_names.specs.Values.{value_in}
-use Rattle.std.proofs.Math.Bool.{or_assoc}
 use Rattle.std.proofs.Math.Seq.{drop-cons}
-use Rattle.std.proofs.lemmas.List.Folds.{list_any_more}
 
 -- ---- places, from the last to the first
 

@@ -1,12 +1,9 @@
 -- A nets file stands for nets exactly where reading gives them.
-use Rattle.std.proofs.Common.{◌≡◌, ℕ, ◌+◌, ◌≤◌, Bool, true, false, List, [], ◌∷◌, ◌++◌, length, map, Option, Some, None, Result, Ok, Err, refl, sym, ap, subst, ◌∙◌, append_assoc, arith, eq-eqb}
-use Rattle.std.specs.Prelude.{◌==◌}
-use Rattle.sf_gsrc.proofs.Common.{codes, is_some, AllZip, filter_map, eqb-true, length-append, append-nil, Line, first_word, Blanks, RawNet, RawPin, Named, GsrcFault, LineFault, Count, net_word_by, content_of, read_from, last_of, NetEntry, NetSaid, NetsAre, PinsAre, DegreeIs, PinIs, nets_said, degree_said, last_pins, earlier_nets, with_last, nets_of, degree_kept, net_entry_at, number_of_line, net_entry_by, net_entry_after, net_entries_from, nets_counted, nets_finished, nets_read, SaysNetBy, SaysNet, nets_count, net_part, net_lines, net_of, NetsStandFor}
-use Rattle.std.specs.List.{flat_map}
+use Rattle.std.proofs.Common.{◌≡◌, ℕ, ◌+◌, ◌≤◌, Bool, true, false, List, [], ◌∷◌, ◌++◌, length, map, Option, Some, None, Result, Ok, Err, refl, sym, ap, subst, ◌∙◌, append_assoc, arith, eq-eqb, ◌==◌, flat_map}
+use Rattle.sf_gsrc.proofs.Common.{codes, is_some, AllZip, filter_map, eqb-true, length-append, append-nil, Line, first_word, Blanks, RawNet, RawPin, Named, GsrcFault, LineFault, Count, net_word_by, content_of, read_from, last_of, NetEntry, NetSaid, NetsAre, PinsAre, DegreeIs, PinIs, nets_said, degree_said, last_pins, earlier_nets, with_last, nets_of, degree_kept, net_entry_at, number_of_line, net_entry_by, net_entry_after, net_entries_from, nets_counted, nets_finished, nets_read, SaysNetBy, SaysNet, nets_count, net_part, net_lines, net_of, NetsStandFor, GsrcNets}
 use Rattle.sf_gsrc.specs.declared.fault.GsrcFault.TheVariants as faults
 use Rattle.sf_gsrc.specs.declared.net_words.NetWord.{NetWord}
 use Rattle.sf_gsrc.specs.declared.net_words.NetWord.TheVariants as net_words
-use Rattle.sf_gsrc.specs.declared.output.GsrcNets.{GsrcNets}
 use Rattle.sf_gsrc.proofs.Results.{bind_ok, ok_is, err_not_ok, none_of, compared_ok, opened_ok}
 
 -- ---- what earlier lines leave open

@@ -1,7 +1,6 @@
 -- A pl file stands for places exactly where reading gives them.
 use Rattle.std.proofs.Common.{◌≡◌, ℕ, List, [], ◌∷◌, ◌++◌, Result, Ok, Err, refl, sym, ap, subst, ◌∙◌, append_assoc}
-use Rattle.sf_gsrc.proofs.Common.{codes, AllZip, append-nil, Line, GsrcFault, LineFault, Place, content_of, read_from, at_number, place_at, places_behind, places_from, places_read, SaysPlace, PlacesStandFor}
-use Rattle.sf_gsrc.specs.declared.output.GsrcPlaces.{GsrcPlaces}
+use Rattle.sf_gsrc.proofs.Common.{codes, AllZip, append-nil, Line, GsrcFault, LineFault, Place, content_of, read_from, at_number, place_at, places_behind, places_from, places_read, SaysPlace, PlacesStandFor, GsrcPlaces}
 use Rattle.sf_gsrc.specs.PlaceLine.{place_said}
 use Rattle.sf_gsrc.proofs.Results.{bind_ok, ok_is, opened_ok}
 

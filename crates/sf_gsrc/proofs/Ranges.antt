@@ -1,11 +1,7 @@
 -- The pins of a nets file are named, and joining keeps blocks and nets.
 use Rattle.std.proofs.Common.{◌≡◌, ℕ, true, false, List, [], ◌∷◌, length, map, Option, Some, None, Ok, refl, cond, ap, subst, ◌∙◌}
-use Rattle.sf_gsrc.proofs.Common.{IfSome, All, length-map, All-nil, All-cons, All-same, RawBlock, RawNet, RawPad, Named, IsPinInRange, IsSized, HasSizes, HasPinsInRange, GsrcBlocks, net_of, NetsStandFor, first_twice, has_numbers, joined, names_of, nets_in, numbered, numbered_net, numbered_nets, placed_once, placed_parts, unplaced_parts}
-use Rattle.sf_model.specs.declared.raw.Parts.{Parts}
-use Rattle.sf_gsrc.specs.declared.fault.JoinFault.{JoinFault}
+use Rattle.sf_gsrc.proofs.Common.{IfSome, All, length-map, All-nil, All-cons, All-same, RawBlock, RawNet, RawPad, Named, IsPinInRange, IsSized, HasSizes, HasPinsInRange, GsrcBlocks, net_of, NetsStandFor, first_twice, has_numbers, joined, names_of, nets_in, numbered, numbered_net, numbered_nets, placed_once, placed_parts, unplaced_parts, Parts, JoinFault, GsrcNets, GsrcPlaces}
 use Rattle.sf_gsrc.specs.declared.fault.JoinFault.TheVariants as faults
-use Rattle.sf_gsrc.specs.declared.output.GsrcNets.{GsrcNets}
-use Rattle.sf_gsrc.specs.declared.output.GsrcPlaces.{GsrcPlaces}
 use Rattle.sf_gsrc.specs.Ranges.{HasPinsInAnyRange}
 use Rattle.sf_gsrc.proofs.Numbered.{nets_in_range_still}
 use Rattle.sf_gsrc.proofs.Results.{done, ok_is, err_not_ok}

@@ -1,6 +1,5 @@
 -- What a result says of the steps that gave it, and what options and counts say.
-use Rattle.std.proofs.Common.{◌≡◌, ℕ, Bool, true, false, List, [], ◌∷◌, Option, Some, None, Result, Ok, Err, refl, if◌then◌else◌}
-use Rattle.std.specs.Prelude.{◌==◌}
+use Rattle.std.proofs.Common.{◌≡◌, ℕ, Bool, true, false, List, [], ◌∷◌, Option, Some, None, Result, Ok, Err, refl, if◌then◌else◌, ◌==◌}
 use Rattle.sf_gsrc.proofs.Common.{IfOk, is_some, eqb-true, Line, ◌>>=◌, GsrcFault, Count, Fails, Gives, compared, is_title, opened, or_else}
 use Rattle.sf_gsrc.specs.declared.fault.GsrcFault.TheVariants as faults
 

@@ -1,13 +1,9 @@
 -- Each block of a blocks file has a size.
-use Rattle.std.proofs.Common.{◌≡◌, ◌<◌, ℕ, Bool, true, false, List, [], ◌∷◌, Option, Some, None, Result, Ok, Err, refl, sym, subst, arith, nat_lt, ◌*◌}
-use Rattle.std.specs.Prelude.{◌==◌, ◌||◌, if◌then◌else◌}
-use Rattle.sf_gsrc.proofs.Common.{length, All, AllZip, nat_tests, All-nil, All-cons, All-same, Line, words, is_gap, first_word, after_word, Blanks, Points, RawBlock, IsSized, LineFault, Counted, GsrcBlocks, form_of, ◌>>=◌, map_err, Item, BlockIs, PadIs, area_in_word, aspect_in_word, count_in_word, vertex_fault, soft_said, box_said, hard_said, form_said, plain_said, counted_by, Entry, Said, CountIs, ItemIs, blocks_in, SaysBy, SaysEntry, StandsFor}
+use Rattle.std.proofs.Common.{◌≡◌, ◌<◌, ℕ, Bool, true, false, List, [], ◌∷◌, Option, Some, None, Result, Ok, Err, refl, sym, subst, arith, nat_lt, ◌*◌, ◌==◌, ◌||◌, if◌then◌else◌}
+use Rattle.sf_gsrc.proofs.Common.{length, All, AllZip, nat_tests, All-nil, All-cons, All-same, Line, words, is_gap, first_word, after_word, Blanks, Points, RawBlock, IsSized, LineFault, Counted, GsrcBlocks, form_of, ◌>>=◌, map_err, Item, BlockIs, PadIs, area_in_word, aspect_in_word, count_in_word, vertex_fault, soft_said, box_said, hard_said, form_said, plain_said, counted_by, Entry, Said, CountIs, ItemIs, blocks_in, SaysBy, SaysEntry, StandsFor, BadLine, ZeroSide, box_read, BoxSize}
 use Rattle.sf_model.specs.declared.raw.Kind.TheVariants as kinds
-use Rattle.sf_gsrc.specs.declared.fault.LineFault.TheVariants.{BadLine, ZeroSide}
 use Rattle.sf_gsrc.specs.declared.keywords.Form.{Form}
 use Rattle.sf_gsrc.specs.declared.keywords.Form.TheVariants as forms
-use Rattle.sf_lex.specs.Vertices.{box_read}
-use Rattle.sf_lex.specs.declared.vertices.BoxSize.{BoxSize}
 use Rattle.sf_gsrc.proofs.Results.{bind_ok, done, ok_is, err_not_ok}
 
 -- a block has a size

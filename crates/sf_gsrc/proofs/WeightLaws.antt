@@ -1,7 +1,6 @@
 -- A weights file stands for weights exactly where reading gives them.
 use Rattle.std.proofs.Common.{◌≡◌, ℕ, ◌<◌, ◌==◌, Bool, true, false, List, [], ◌∷◌, ◌++◌, length, map, is_some, if◌then◌else◌, ◌||◌, nat_lt, Option, Some, None, Result, Ok, Err, refl, sym, ap, subst, ◌∙◌, append_assoc, lt-ltb, ltb-true}
-use Rattle.sf_gsrc.proofs.Common.{AllByRecursion, AllZip, IsDistinct, append-nil, or_parts, is_gap, Line, words, Blanks, WeightFault, content_of, or_else, read_from, ◌>>=◌, NetWeight, SaysWeight, WeightsStandFor, net_in_word, new_net, number_on, pair_after, two_words, weight_after, weight_in_word, weight_of, weight_said, weights_from, weights_of, weights_read}
-use Rattle.std.proofs.lemmas.List.FromFn.{length-map-range_with_len}
+use Rattle.sf_gsrc.proofs.Common.{AllByRecursion, AllZip, IsDistinct, append-nil, or_parts, is_gap, Line, words, Blanks, WeightFault, content_of, or_else, read_from, ◌>>=◌, NetWeight, SaysWeight, WeightsStandFor, net_in_word, new_net, number_on, pair_after, two_words, weight_after, weight_in_word, weight_of, weight_said, weights_from, weights_of, weights_read, length-map-range_with_len}
 use Rattle.sf_lex.specs.declared.number.NumberFault.{NumberFault}
 use Rattle.sf_gsrc.specs.declared.fault.WeightFault.TheVariants.{BadLine, RepeatedNet, UnknownNet}
 use Rattle.sf_gsrc.proofs.Results.{bind_ok, err_not_ok, ok_is}

@@ -1,11 +1,8 @@
 -- Lines of a weights file one after another, as the loop takes them.
-use Rattle.std.proofs.Common.{◌≡◌, ◌≢◌, ℕ, ◌<◌, ◌==◌, Bool, true, false, List, [], ◌∷◌, ◌++◌, length, map, replicate, get_or, set, take, drop, is_some, if◌then◌else◌, Option, Some, None, Result, Ok, Err, refl, sym, ap, subst, ◌∙◌, inl, inr, arith, lt-ltb, eq-eqb, ne_eqb}
-use Rattle.sf_gsrc.proofs.Common.{range_with_len, eqb_tells, ext_get_or, length-set, length-replicate, get_or-replicate, get_or-set_same, get_or-set_other, is_gap, Line, words, Blanks, WeightFault, content_of, or_else, GivesWeights, NetWeight, net_in_word, number_on, two_words, weight_after, weight_in_word, weight_of, weight_said, weights_from, weights_of, weights_read}
-use Rattle.std.specs.Option.{unwrap_or}
+use Rattle.std.proofs.Common.{◌≡◌, ◌≢◌, ℕ, ◌<◌, ◌==◌, Bool, true, false, List, [], ◌∷◌, ◌++◌, length, map, replicate, get_or, set, take, drop, is_some, if◌then◌else◌, Option, Some, None, Result, Ok, Err, refl, sym, ap, subst, ◌∙◌, inl, inr, arith, lt-ltb, eq-eqb, ne_eqb, unwrap_or}
+use Rattle.sf_gsrc.proofs.Common.{range_with_len, eqb_tells, ext_get_or, length-set, length-replicate, get_or-replicate, get_or-set_same, get_or-set_other, is_gap, Line, words, Blanks, WeightFault, content_of, or_else, GivesWeights, NetWeight, net_in_word, number_on, two_words, weight_after, weight_in_word, weight_of, weight_said, weights_from, weights_of, weights_read, length-map-range_with_len, get_or-map-range_with_len, KeepsWeights}
 use Rattle.std.proofs.lemmas.Grind.{common_steps}
-use Rattle.std.proofs.lemmas.List.FromFn.{length-map-range_with_len, get_or-map-range_with_len}
 use Rattle.sf_gsrc.specs.declared.fault.WeightFault.TheVariants.{BadLine, BadNumber, UnknownNet, RepeatedNet, NoMemory}
-use Rattle.sf_gsrc.specs.WeightsKept.{KeepsWeights}
 use Rattle.sf_gsrc.proofs.Results.{none_of, or_else-None}
 
 -- ---- what is kept

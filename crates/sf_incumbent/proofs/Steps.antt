@@ -1,6 +1,5 @@
 -- Each step keeps the rule of the word.
-use Rattle.std.proofs.Common.{◌≡◌, ◌≢◌, ◌⊎◌, ℕ, zero, suc, ◌+◌, ◌<◌, ◌≤◌, List, [], ◌∷◌, ◌++◌, set, min, refl, sym, ap, ◌∙◌, subst, inl, inr, ⊎_elim, arith}
-use Rattle.std.specs.Prelude.{sum_by, slice_index}
+use Rattle.std.proofs.Common.{◌≡◌, ◌≢◌, ◌⊎◌, ℕ, zero, suc, ◌+◌, ◌<◌, ◌≤◌, List, [], ◌∷◌, ◌++◌, set, min, refl, sym, ap, ◌∙◌, subst, inl, inr, ⊎_elim, arith, sum_by, slice_index}
 use native.Mathlib.Decide.{ℕ_discrete, dec_le}
 use Rattle.std.proofs.lemmas.List.Sums.{sum_by-cons}
 use mathlib.Core.Option.{some, none, some-ne-none, some-injective}
@@ -8,7 +7,7 @@ use lib.ListN.{get_elem?}
 use Rattle.atomic_table.specs.Table.{State, Me, step, Allows, Splits, Joins, keeps}
 use Rattle.atomic_table.proofs.Lists.{at_set, at_snoc, set_else, at_longer}
 use Rattle.sf_incumbent.specs.declared.rule.View.{View}
-use Rattle.sf_incumbent.specs.Rule.{most, view, place, split_seat, new_seat, joined_seat, empty_seat, IsLive, IsWord, IsIncumbent, Looks, Offers}
+use Rattle.sf_incumbent.proofs.Common.{most, view, place, split_seat, new_seat, joined_seat, empty_seat, IsLive, IsWord, IsIncumbent, Looks, Offers}
 
 -- the parts of a seat
 abbrev parts : View → ℕ

@@ -1,8 +1,6 @@
 -- How what a sink took grows, one put after another.
 use Rattle.std.proofs.Common.{ℕ, List, ◌++◌, take, drop, Option, Some, None, append_assoc}
-use Rattle.std.proofs.lemmas.List.{take-append-drop}
-use Rattle.std.specs.Io.KnownBytes.{Appends}
-use Rattle.sf_io.specs.Outside.{Took}
+use Rattle.sf_io.proofs.Common.{take-append-drop, Appends, Took}
 
 -- two pieces one after another are one piece
 pub Appends-append : (a b c : Option (List ℕ)) (xs ys : List ℕ) → Appends a b xs → Appends b c ys → Appends a c (xs ++ ys)

@@ -1,15 +1,10 @@
 -- Lines that were read so far, and how many there may be.
-use Rattle.std.proofs.Common.{◌≡◌, inl, inr, ℕ, zero, suc, ◌+◌, ◌<◌, ◌≤◌, List, [], ◌∷◌, ◌++◌, length, Option, refl, sym, ap, subst, ◌∙◌, arith}
-use Rattle.std.specs.List.{All, AllZip, onto_first}
-use Rattle.std.proofs.lemmas.Bool.{cases_Bool}
-use Rattle.std.proofs.lemmas.List.{append-nil}
+use Rattle.std.proofs.Common.{◌≡◌, inl, inr, ℕ, zero, suc, ◌+◌, ◌<◌, ◌≤◌, List, [], ◌∷◌, ◌++◌, length, Option, refl, sym, ap, subst, ◌∙◌, arith, All, append-nil}
+use Rattle.std.specs.List.{AllZip, onto_first}
 use Rattle.std.proofs.lemmas.List.Elements.{All-append}
 use Rattle.sf_lex.specs.Text.{lines, is_line_feed}
-use Rattle.sf_lex.specs.Scan.{numbered}
-use Rattle.sf_gsrc.specs.Blocks.{content, content_of, is_content}
-use Rattle.sf_jobs.proofs.Common.{Line, PlanOptions}
-use Rattle.sf_jobs.specs.Job.{SaysJob, IsNoJob}
-use Rattle.sf_jobs.specs.Jobs.{HasJob, JobsStand, IsFirstBad}
+use Rattle.sf_jobs.proofs.Common.{Line, PlanOptions, cases_Bool, numbered, content, content_of, is_content, SaysJob}
+use Rattle.sf_jobs.specs.Jobs.{HasJob, JobsStand}
 
 -- ---- a text has no more lines than bytes
 

@@ -1,10 +1,7 @@
 -- The texts of jobs, one after another.
-use Rattle.std.proofs.Common.{◌≡◌, ℕ, ◌+◌, ◌<◌, ◌≤◌, List, [], ◌∷◌, ◌++◌, length, map, take, sym, ap, ◌∙◌, arith}
-use Rattle.std.specs.Prelude.{slice_index_or}
-use Rattle.std.proofs.lemmas.List.{append-nil, append_assoc, map-append, take_more, take_all, length-map, length-take-le}
+use Rattle.std.proofs.Common.{◌≡◌, ℕ, ◌+◌, ◌<◌, ◌≤◌, List, [], ◌∷◌, ◌++◌, length, map, take, sym, ap, ◌∙◌, arith, slice_index_or, append-nil, append_assoc}
+use Rattle.sf_jobs.proofs.Common.{map-append, take_more, take_all, length-map, length-take-le, told_seen, Told, job_line, texts_from, batch_text}
 use Rattle.sf_jobs.specs.declared.told.Answer.{Answer}
-use Rattle.sf_jobs.specs.Seen.{told_seen}
-use Rattle.sf_jobs.specs.Told.{Told, job_line, texts_from, batch_text}
 
 -- a job's line and its text
 abbrev job_text : ℕ → Told → List ℕ

@@ -1,7 +1,6 @@
 -- The options that a job's words are made of, and words that are those of no options.
 use Rattle.std.proofs.Common.{◌≡◌, ◌≢◌, ◌⊎◌, inl, inr, zero, suc, Bool, true, false, ◌==◌, cond, List, [], ◌∷◌, Option, Some, None, Contains, refl, sym, ap, subst, ◌∙◌, arith}
-use Rattle.std.proofs.lemmas.Bool.{cases_Bool}
-use Rattle.sf_jobs.proofs.Common.{bytes_eq, bytes_eq-Decides, Key, Plan, mode_text, key_text, is_flag, keys_of, Text, Token, spaced, attached, alone, key_of, key_word, before, words_of, IsValue, IsShaped, IsNew, AreOptions, HasForm, mode_of, HasNoMeaning}
+use Rattle.sf_jobs.proofs.Common.{bytes_eq, bytes_eq-Decides, Key, Plan, mode_text, key_text, is_flag, keys_of, Text, Token, spaced, attached, alone, key_of, key_word, before, words_of, IsValue, IsShaped, IsNew, AreOptions, HasForm, mode_of, HasNoMeaning, cases_Bool}
 use Rattle.sf_words.proofs.Texts.{key_text-injective, mode_text-injective}
 use Rattle.sf_words.proofs.Tokens.{ahead, spaced_only, heads_same, tails_same, no_more}
 

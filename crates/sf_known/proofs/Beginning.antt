@@ -1,15 +1,8 @@
 -- What walks find and what is known are floorplans of the design that knows more.
-use Rattle.std.proofs.Common.{ℕ, Option, Some, None, inl, inr}
-use Rattle.std.specs.Prelude.{IfSome, nat_lt}
-use Rattle.std.proofs.lemmas.Bool.{cases_Bool}
-use Rattle.sf_anneal.specs.Measured.{IsFloorplan}
+use Rattle.std.proofs.Common.{ℕ, Option, Some, None, inl, inr, IfSome, nat_lt}
+use Rattle.sf_known.proofs.Common.{cases_Bool, IsFloorplan, Knows, cheaper, IsRouted, Design, Expr, BoundsChoice}
 use Rattle.sf_known.proofs.OneKnown.{known-floorplan}
 use Rattle.sf_known.proofs.Taken.{routed-floorplan}
-use Rattle.sf_known.specs.Known.{Knows, cheaper}
-use Rattle.sf_known.specs.Routed.{IsRouted}
-use Rattle.sf_model.specs.declared.design.Design.{Design}
-use Rattle.sf_polish.specs.declared.expr.Expr.{Expr}
-use Rattle.sf_words.specs.declared.command.BoundsChoice.{BoundsChoice}
 
 -- what holds of two plans, where there are any, holds of the cheaper one
 pub cheaper-holds : (P : Expr × ℕ → Type 0) (a b : Option (Expr × ℕ)) → IfSome a P → IfSome b P → IfSome (cheaper a b) P

@@ -1,3 +1,4 @@
+mod Common
 pub mod OneKnown
 pub mod Taken
 pub mod Spelled

@@ -1,18 +1,8 @@
 -- What a design knows is one thing, and changes no block.
 use Rattle.std.proofs.Common.{◌≡◌, ℕ, List, length, inl, inr, sym, ap, subst, ◌∙◌}
-use Rattle.std.proofs.lemmas.Bool.{cases_lt}
-use Rattle.sf_model.specs.declared.design.Design.{Design}
-use Rattle.sf_anneal.specs.Measured.{IsFloorplan}
-use Rattle.sf_model.proofs.Floored.{cost-same, legal-same}
+use Rattle.sf_known.proofs.Common.{cases_lt, Design, IsFloorplan, cost-same, legal-same, Fits, block_count, Block, Outline, Expr, BoundsChoice, Standard, Strong, Pair, Fit, Both, Knows}
 use Rattle.sf_model.specs.Floored.{HasFloor}
-use Rattle.sf_model.specs.Legal.{Fits, block_count}
-use Rattle.sf_model.specs.declared.parts.Block.{Block}
-use Rattle.sf_model.specs.declared.parts.Outline.{Outline}
-use Rattle.sf_polish.specs.declared.expr.Expr.{Expr}
 use Rattle.sf_subsets.proofs.Learned.{knowing-one}
-use Rattle.sf_words.specs.declared.command.BoundsChoice.{BoundsChoice}
-use Rattle.sf_words.specs.declared.command.BoundsChoice.TheVariants.{Standard, Strong, Pair, Fit, Both}
-use Rattle.sf_known.specs.Known.{Knows}
 
 -- by the same bounds a design gets to know one thing
 pub knows-one : (bounds : BoundsChoice) (design first second : Design) → Knows bounds design first → Knows bounds design second → first ≡ second

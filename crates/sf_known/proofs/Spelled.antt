@@ -1,15 +1,9 @@
 -- A plan with the leaves of a floorplan is one, and what a floorplan's expression spells fits.
-use Rattle.std.proofs.Common.{◌≡◌, List, length, sym, subst}
-use Rattle.std.specs.Prelude.{ℕ, All, Contains, count_by, ◌==◌, ◌<◌}
-use Rattle.sf_model.specs.declared.design.Design.{Design}
+use Rattle.std.proofs.Common.{◌≡◌, List, length, sym, subst, ℕ, All, Contains, count_by, ◌==◌, ◌<◌}
+use Rattle.sf_known.proofs.Common.{Design, IsLegal, block_count, shapes_of, Fits, Tree, leaves, IsFloorplan, Expr}
 use Rattle.sf_model.specs.declared.parts.Shape.{Shape}
-use Rattle.sf_model.specs.Legal.{IsLegal, block_count, shapes_of}
-use Rattle.sf_model.specs.Legal.{Fits}
-use Rattle.sf_model.specs.Tree.{Tree, leaves}
-use Rattle.sf_anneal.specs.Measured.{IsFloorplan}
 use Rattle.sf_polish.specs.Normal.{IsNormal}
 use Rattle.sf_polish.specs.Postfix.{Spells}
-use Rattle.sf_polish.specs.declared.expr.Expr.{Expr}
 use Rattle.sf_polish.proofs.Normality.{postfix-normal}
 use Rattle.sf_polish.proofs.Spelling.{spells-one}
 use Rattle.sf_subsets.specs.Floors.{IsFitting}

@@ -1,18 +1,9 @@
 -- A design with paths has the floorplans that it had.
 use Rattle.std.proofs.Common.{◌≡◌, ℕ, List, length, refl, ap, sym, subst, ◌∙◌}
-use Rattle.sf_model.specs.declared.design.Design.{Design}
-use Rattle.sf_model.specs.declared.parts.Block.{Block}
-use Rattle.sf_model.specs.declared.parts.Outline.{Outline}
+use Rattle.sf_known.proofs.Common.{Design, Block, Outline, Fits, cost-of, legal-routed, paths-one, IsFloorplan, Expr, BoundsChoice, Standard, Strong, Pair, Fit, Both, Breaks, IsRouted, Takes}
 use Rattle.sf_model.specs.declared.paths.Paths.{Paths}
-use Rattle.sf_model.specs.Legal.{Fits}
 use Rattle.sf_model.specs.Routed.{HasPaths}
-use Rattle.sf_model.proofs.Floored.{cost-of, legal-routed, paths-one}
 use Rattle.sf_model.proofs.FirstWrong.{first-wrong-one, legal-unbroken}
-use Rattle.sf_anneal.specs.Measured.{IsFloorplan}
-use Rattle.sf_polish.specs.declared.expr.Expr.{Expr}
-use Rattle.sf_words.specs.declared.command.BoundsChoice.{BoundsChoice}
-use Rattle.sf_words.specs.declared.command.BoundsChoice.TheVariants.{Standard, Strong, Pair, Fit, Both}
-use Rattle.sf_known.specs.Routed.{Breaks, IsRouted, Takes}
 
 -- a design has its own paths
 pub own-paths : (design : Design) → HasPaths design design.routes.paths design

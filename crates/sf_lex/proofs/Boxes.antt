@@ -1,10 +1,8 @@
 -- The box that is kept vertex by vertex is the bounding box.
 use Rattle.std.proofs.Common.{◌≡◌, List, [], ◌∷◌, Result, Ok, Err, refl, ap, ◌∙◌, ℤ}
-use Rattle.sf_lex.proofs.Common.{map, fold, box_of, corner, grow, corners_of, size_of_corners}
+use Rattle.sf_lex.proofs.Common.{map, fold, box_of, corner, grow, corners_of, size_of_corners, Corners, VertexFault}
 use Rattle.std.specs.Int.{int_min, int_max}
 use Rattle.sf_lex.specs.declared.vertices.BoxSize.{BoxSize}
-use Rattle.sf_lex.specs.declared.vertices.Corners.{Corners}
-use Rattle.sf_lex.specs.declared.vertices.VertexFault.{VertexFault}
 use Rattle.sf_lex.specs.Results.{◌>>=◌}
 
 -- the right side is the greatest of the places across

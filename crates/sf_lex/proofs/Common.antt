@@ -1,12 +1,15 @@
 -- The imports that the proof files of this crate share.
 pub use Rattle.sf_lex.specs.Corners.{corner, corners_of, corners_read, grow, grown, size_of_corners}
 pub use Rattle.sf_lex.specs.Gap.{is_gap}
-unfoldable pub use Rattle.sf_lex.specs.Number.{decimal_read}
 pub use Rattle.sf_lex.specs.Number.{Decimal, decimal_of, is_digit, is_point, number_of, scaled, unit}
-pub use Rattle.sf_lex.specs.Scan.{Line, LineWord, numbered, words_of_line, words_of_lines}
+unfoldable pub use Rattle.sf_lex.specs.Number.{decimal_read}
+pub use Rattle.sf_lex.specs.Scan.{Line, LineWord, last_line_of, last_word_line, numbered, numbered_words, words_of_line, words_of_lines}
 pub use Rattle.sf_lex.specs.Text.{has_none, is_blank_byte, is_line_feed, is_not_empty, line_at, lines, words}
-unfoldable pub use Rattle.sf_lex.specs.Vertices.{vertices_of}
 pub use Rattle.sf_lex.specs.Vertices.{box_of, vertex_of}
+unfoldable pub use Rattle.sf_lex.specs.Vertices.{vertices_of}
+pub use Rattle.sf_lex.specs.declared.vertices.Corners.{Corners}
+pub use Rattle.sf_lex.specs.declared.vertices.VertexFault.{VertexFault}
+pub use Rattle.std.proofs.Math.Nat.{mul-add-div_right, mul-add-mod_self_right, mul-le-mul_left, mul-le-mul_right, one-le-pow, pow-le-pow_right, pow-suc}
 pub use Rattle.std.proofs.Math.Numerals.{one-add}
 pub use Rattle.std.proofs.lemmas.Bool.{and_parts, cases_lt, not-true, true≢false}
 pub use Rattle.std.proofs.lemmas.Bool.Decides.{nat_tests}

@@ -1,9 +1,7 @@
 -- Vertices one after another, as the loop takes them.
 use Rattle.std.proofs.Common.{◌≡◌, ℕ, suc, ◌-◌, ◌+◌, ◌≤◌, ◌<◌, List, ◌∷◌, Result, Ok, Err, refl, sym, ap, ◌∙◌, arith, ℤ}
-use Rattle.sf_lex.specs.declared.vertices.VertexFault.{VertexFault}
-use Rattle.sf_lex.specs.declared.vertices.Corners.{Corners}
 use Rattle.sf_lex.specs.Results.{◌>>=◌}
-use Rattle.sf_lex.proofs.Common.{vertex_of, vertices_of, corner, grow, grown, corners_of, corners_read}
+use Rattle.sf_lex.proofs.Common.{vertex_of, vertices_of, corner, grow, grown, corners_of, corners_read, VertexFault, Corners}
 
 -- the box of the first vertex grows by the others
 first_of : (v : ℤ × ℤ) (read : Result (List (ℤ × ℤ)) VertexFault) → ((read >>= λ others. Ok (v ∷ others)) >>= λ vertices. Ok (corners_of vertices)) ≡ grown (corner v) read

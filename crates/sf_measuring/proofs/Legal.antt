@@ -1,8 +1,7 @@
 -- The area of a legal placement, and the lines that tell it.
 use Rattle.std.proofs.Common.{◌≡◌, ℕ, ◌*◌, ◌^◌, ◌≤◌, List, [], ◌∷◌, ◌++◌, arith, ap, ◌∙◌, append_assoc, codes}
 use Rattle.std.proofs.Math.Nat.{mul-le-mul_left, mul_comm}
-use Rattle.sf_measuring.proofs.Common.{AllByRecursion, recursion_from_All, Design, Spot, right_end, upper_end, AreLegal, LiesIn, legal_text, line_of}
-use Rattle.std.proofs.lemmas.Int.{ints}
+use Rattle.sf_measuring.proofs.Common.{AllByRecursion, recursion_from_All, Design, Spot, right_end, upper_end, AreLegal, LiesIn, legal_text, line_of, ints}
 use Rattle.sf_model.specs.declared.parts.Outline.{Outline}
 
 -- spots in the outline end at its width at most

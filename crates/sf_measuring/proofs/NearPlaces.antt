@@ -1,9 +1,6 @@
 -- A coordinate that is read is near.
-use Rattle.std.proofs.Common.{◌≡◌, ◌==◌, ℕ, ◌≤◌, Bool, true, false, cond, List, [], ◌∷◌, length, Option, Some, None, Result, Ok, Err, refl, subst, arith, inl, inr}
-use Rattle.std.specs.Prelude.{◌≤ℤ◌, ◌%◌, ◌/◌}
-use Rattle.sf_measuring.proofs.Common.{ℤ, pos, neg_ℤ, nat_lt, AllZip, nat_tests, All-nil, All-cons, GsrcPlaces, Place, ◌>>=◌, PlacesStandFor, SaysPlace, Contents, PlacesRead, HasNearPlace}
-use Rattle.std.specs.List.{All}
-use Rattle.std.proofs.lemmas.Int.{ints}
+use Rattle.std.proofs.Common.{◌≡◌, ◌==◌, ℕ, ◌≤◌, Bool, true, false, cond, List, [], ◌∷◌, length, Option, Some, None, Result, Ok, Err, refl, subst, arith, inl, inr, ◌≤ℤ◌, ◌%◌, ◌/◌, All}
+use Rattle.sf_measuring.proofs.Common.{ℤ, pos, neg_ℤ, nat_lt, AllZip, nat_tests, All-nil, All-cons, GsrcPlaces, Place, ◌>>=◌, PlacesStandFor, SaysPlace, Contents, PlacesRead, HasNearPlace, ints}
 use Rattle.sf_lex.specs.Scan.{Line}
 use Rattle.sf_lex.specs.Number.{Decimal, decimal_of, decimal_read, signed_read, value_or_fault, exact_value, scaled, unit, value_within, with_value}
 use Rattle.sf_lex.specs.declared.number.NumberFault.{NumberFault}

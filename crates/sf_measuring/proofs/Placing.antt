@@ -1,15 +1,8 @@
 -- The lines of a placed file by name, and the spots of the blocks one after another.
-use Rattle.std.proofs.Common.{◌≡◌, ℕ, suc, ◌+◌, ◌<◌, Bool, true, false, cond, List, [], ◌∷◌, ◌++◌, length, map, take, drop, get_or, Option, Some, None, Result, Ok, Err, refl, sym, ap, subst, ◌∙◌, add-one, arith, append_assoc}
-use Rattle.sf_measuring.proofs.Common.{is_some, range_with_len, All-nil, All-cons, All-append, All-more, All-weaker, HasNearCorner, map-append, get_or_default, Block, Spot, Place, ◌>>=◌, value_in, lines_named, spot_said, spots_said, Refusal, IsOnly, LinesAre, with_line, AreKept, AreIndexed, IsIndex}
-use Rattle.std.specs.Str.{bytes_eq}
-use Rattle.std.specs.Map.{update}
-use Rattle.std.specs.Option.{option_map}
-use Rattle.std.specs.List.{All}
+use Rattle.std.proofs.Common.{◌≡◌, ℕ, suc, ◌+◌, ◌<◌, Bool, true, false, cond, List, [], ◌∷◌, ◌++◌, length, map, take, drop, get_or, Option, Some, None, Result, Ok, Err, refl, sym, ap, subst, ◌∙◌, add-one, arith, append_assoc, bytes_eq, option_map, All}
+use Rattle.sf_measuring.proofs.Common.{is_some, range_with_len, All-nil, All-cons, All-append, All-more, All-weaker, HasNearCorner, map-append, get_or_default, Block, Spot, Place, ◌>>=◌, value_in, lines_named, spot_said, spots_said, Refusal, IsOnly, LinesAre, with_line, AreKept, AreIndexed, IsIndex, update, drop-cons, Lines, Without, One, More}
 use Rattle.std.proofs.lemmas.List.FromFn.{map-range_with_len_more}
 use Rattle.std.proofs.lemmas.Slice.Eq.{bytes_eq-Decides}
-use Rattle.std.proofs.Math.Seq.{drop-cons}
-use Rattle.sf_measuring.specs.declared.placed_lines.Lines.{Lines}
-use Rattle.sf_measuring.specs.declared.placed_lines.Lines.TheVariants.{Without, One, More}
 
 -- ---- the index, from the last line to the first
 

@@ -1,9 +1,6 @@
 -- What is built from admitted parts is their design, and keeps the limits.
 use Rattle.std.proofs.Common.{◌≡◌, ℕ, ◌<◌, ◌≤◌, ◌^◌, ℤ, nat_abs, Bool, true, false, IsTrue, cond, List, [], ◌∷◌, map, length, get_or, Option, Some, None, IfSome, refl, sym, ap, ◌∙◌, subst, arith}
-use Rattle.sf_model.proofs.Common.{All, AllByRecursion, AllZip, filter_map, sum_by, zip, ints, All-from_recursion, recursion_from_All, sum_by-cons, IsAdmitted, IsPlaceWithin, HasShapeChoices, IsDesignOf, IsNetOf, IsOutline, IsWeighted, design_blocks, design_pads, placed_pad, first_shapeless, IsCoordinate, IsPinSet, IsShapeList, IsWithinLimits, IsShapeChoice, IsNetMade, Design, Block, Net, Pad, Shape, Parts, RawBlock, RawNet, RawPad}
-use Rattle.sf_model.specs.Paths.{no_paths}
-use Rattle.sf_model.specs.declared.parts.Outline.{Outline}
-use Rattle.sf_model.specs.declared.parts.Weights.{Weights}
+use Rattle.sf_model.proofs.Common.{All, AllByRecursion, AllZip, filter_map, sum_by, zip, ints, All-from_recursion, recursion_from_All, sum_by-cons, IsAdmitted, IsPlaceWithin, HasShapeChoices, IsDesignOf, IsNetOf, IsOutline, IsWeighted, design_blocks, design_pads, placed_pad, first_shapeless, IsCoordinate, IsPinSet, IsShapeList, IsWithinLimits, IsShapeChoice, IsNetMade, Design, Block, Net, Pad, Shape, Parts, RawBlock, RawNet, RawPad, no_paths, Outline, Weights}
 use Rattle.sf_model.proofs.Limited.{limits_kept}
 use Rattle.sf_model.proofs.Paired.{zip_length}
 use Rattle.sf_model.proofs.PinsThere.{all_kept, few_placed}

@@ -1,13 +1,7 @@
 -- A design is determined by what it is built from.
 use Rattle.std.proofs.Common.{◌≡◌, ℕ, zero, suc, ◌<◌, List, [], ◌∷◌, map, drop, length, get_or, ◌⊎◌, inl, inr, refl, ap, sym, ◌∙◌, arith}
 use Rattle.std.proofs.Props.{props}
-use Rattle.sf_model.proofs.Common.{AllByRecursion, AllPairs, Contains, zip, All-contains, recursion_from_All, IsDesignOf, IsNetOf, IsWithinLimits, pin_order, Design, Block, Pad, Net, Pin, Shape, Parts, RawNet}
-use Rattle.sf_model.specs.AreaFloor.{IsAreaFloorIn}
-use Rattle.sf_model.specs.Paths.{AreRoutes, left_from, path_wires}
-use Rattle.sf_model.specs.declared.parts.Outline.{Outline}
-use Rattle.sf_model.specs.declared.parts.Weights.{Weights}
-use Rattle.sf_model.specs.declared.paths.Paths.{Paths}
-use Rattle.sf_model.specs.declared.paths.Routes.{Routes}
+use Rattle.sf_model.proofs.Common.{AllByRecursion, AllPairs, Contains, zip, All-contains, recursion_from_All, IsDesignOf, IsNetOf, IsWithinLimits, pin_order, Design, Block, Pad, Net, Pin, Shape, Parts, RawNet, IsAreaFloorIn, AreRoutes, left_from, path_wires, Outline, Weights, Paths, Routes}
 
 -- an empty list contains nothing
 none : {X : Type 0} (y : X) → Contains [] y → ⊥

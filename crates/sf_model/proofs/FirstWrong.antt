@@ -1,16 +1,6 @@
 -- The first wrong path is one, and legal paths have none.
-use Rattle.std.proofs.Common.{◌≡◌, ℕ, zero, suc, ◌+◌, ◌-◌, ◌≤◌, inl, inr, List, [], ◌∷◌, length, take, drop, arith, refl, ap, sym, subst, ◌∙◌, cond}
-use Rattle.std.specs.Prelude.{◌==◌, ℤ}
-use Rattle.std.proofs.lemmas.Bool.{cases_lt}
-use Rattle.std.proofs.lemmas.Grind.{flat_map-append}
-use Rattle.std.proofs.lemmas.List.{take-append-drop}
-use Rattle.std.proofs.lemmas.List.Elements.{All-take}
-use Rattle.std.proofs.lemmas.List.Sums.{sum_by-append}
-use Rattle.sf_model.proofs.Common.{sum_by, flat_map, Net, Pad, Pin}
-use Rattle.sf_model.specs.Paths.{AreLegal, ArePathsOfAxis, IsFirstWrong, IsPath, first_paths, pad_x, pad_y, uses}
-use Rattle.sf_model.specs.declared.paths.Path.{Path}
-use Rattle.sf_model.specs.declared.paths.Paths.{Paths}
-use Rattle.sf_model.specs.declared.paths.Step.{Step}
+use Rattle.std.proofs.Common.{◌≡◌, ℕ, zero, suc, ◌+◌, ◌-◌, ◌≤◌, inl, inr, List, [], ◌∷◌, length, take, drop, arith, refl, ap, sym, subst, ◌∙◌, cond, ◌==◌, ℤ}
+use Rattle.sf_model.proofs.Common.{sum_by, flat_map, Net, Pad, Pin, cases_lt, flat_map-append, take-append-drop, All-take, sum_by-append, AreLegal, ArePathsOfAxis, IsFirstWrong, IsPath, first_paths, pad_x, pad_y, uses, Path, Paths, Step}
 
 -- the first of the first items are the first
 take-take : {X : Type 0} (n m : ℕ) (xs : List X) → n ≤ m → take n (take m xs) ≡ take n xs

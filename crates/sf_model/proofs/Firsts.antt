@@ -1,7 +1,6 @@
 -- The first of two lists, one after the other.
 use Rattle.std.proofs.Common.{◌≡◌, ◌≢◌, Result, Ok, Err, IsErrAnd, ℕ, ◌+◌, ◌<◌, length, get_or, drop, List, [], ◌∷◌, ◌++◌, Some, ap, sym, ◌∙◌}
-use Rattle.sf_model.proofs.Common.{flat_map, first, IsFirstOf, BuildFault}
-use Rattle.sf_model.specs.declared.fault.BuildFault.TheVariants.{NoMemory}
+use Rattle.sf_model.proofs.Common.{flat_map, first, IsFirstOf, BuildFault, NoMemory}
 use Rattle.sf_model.proofs.Walks.{drop_step}
 
 -- the first of the first list is the first of both

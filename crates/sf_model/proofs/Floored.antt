@@ -1,22 +1,10 @@
 -- A design that learns a floor of its area, or is given paths, keeps its floorplans and what they cost.
-use Rattle.std.proofs.Common.{◌≡◌, ℕ, ◌+◌, ◌*◌, List, [], ◌∷◌, length, map, arith, refl, ap, sym, subst, ◌∙◌}
-use Rattle.std.specs.Prelude.{◌↔◌, pos, ◌*ℤ◌, sum_by, All, Contains}
-use Rattle.std.proofs.lemmas.List.Sums.{sum_by-cons}
-use Rattle.sf_model.proofs.Common.{Tree, leaves, width, height, spots_of, HasEachOnce, IsLegal, Design, Pad, Pin, Net, Spot}
+use Rattle.std.proofs.Common.{◌≡◌, ℕ, ◌+◌, ◌*◌, List, [], ◌∷◌, length, map, arith, refl, ap, sym, subst, ◌∙◌, ◌↔◌, pos, ◌*ℤ◌, sum_by, All, Contains}
+use Rattle.sf_model.proofs.Common.{Tree, leaves, width, height, spots_of, HasEachOnce, IsLegal, Design, Pad, Pin, Net, Spot, sum_by-cons, shapes_at, IsAreaFloorIn, cost, IsAreaFloor, pad_in, pin_x, pin_y, spread, net_wire, weighed_wire, wire, Block, Outline, Weights, Paths, Routes}
 use Rattle.sf_model.proofs.Determined.{same_design}
-use Rattle.sf_model.specs.AreaFloor.{shapes_at, IsAreaFloorIn}
-use Rattle.sf_model.specs.Cost.{cost}
 use Rattle.sf_model.specs.Floored.{HasFloor}
-use Rattle.sf_model.specs.Legal.{IsAreaFloor}
-use Rattle.sf_model.specs.Paths.{pad_in}
 use Rattle.sf_model.specs.Routed.{HasPaths}
-use Rattle.sf_model.specs.Wire.{pin_x, pin_y, spread, net_wire, weighed_wire, wire}
-use Rattle.sf_model.specs.declared.parts.Block.{Block}
-use Rattle.sf_model.specs.declared.parts.Outline.{Outline}
 use Rattle.sf_model.specs.declared.parts.Pin.TheVariants as pin
-use Rattle.sf_model.specs.declared.parts.Weights.{Weights}
-use Rattle.sf_model.specs.declared.paths.Paths.{Paths}
-use Rattle.sf_model.specs.declared.paths.Routes.{Routes}
 
 -- the floor that a design carries is one
 pub own_floor : (design : Design) → IsAreaFloor design design.area_floor

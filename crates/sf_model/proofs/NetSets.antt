@@ -1,7 +1,6 @@
 -- The set of the pins of a net: sorted, and without repeats.
 use Rattle.std.proofs.Common.{◌≡◌, ℕ, ◌+◌, ◌<◌, ◌≤◌, ◌^◌, true, List, [], ◌∷◌, length, get_or, Option, Some, None, refl, ap, sym, subst, ◌∙◌, arith, eq-eqb}
-use Rattle.sf_model.proofs.Common.{All, AllPairs, Contains, list_any, filter_map, cons_option, IsPermutation, nat_tests, All-contains, list_any_at, Any-from_list_any, IsAdmitted, IsPinInRange, HasPinsInRange, design_pads, named_pins, pin_of, pin_number, pin_order, IsThere, IsNetMade, same_pin, Net, Pin, Parts, RawNet}
-use Rattle.std.proofs.lemmas.List.Sorted.{All-permutation, Contains-permutation, IsPermutation-sym, length_permutation}
+use Rattle.sf_model.proofs.Common.{All, AllPairs, Contains, list_any, filter_map, cons_option, IsPermutation, nat_tests, All-contains, list_any_at, Any-from_list_any, IsAdmitted, IsPinInRange, HasPinsInRange, design_pads, named_pins, pin_of, pin_number, pin_order, IsThere, IsNetMade, same_pin, Net, Pin, Parts, RawNet, All-permutation, Contains-permutation, IsPermutation-sym, length_permutation}
 use Rattle.sf_model.specs.declared.parts.Pin.TheVariants as pin
 use Rattle.sf_model.proofs.Limited.{limits_kept}
 use Rattle.sf_model.proofs.PinsThere.{few_placed, pins_there}

@@ -1,8 +1,6 @@
 -- The pads that the nets of admitted parts name have a place, and a number below that of the placed pads.
-use Rattle.std.proofs.Common.{◌≡◌, ℕ, zero, suc, ◌+◌, ◌<◌, ◌≤◌, ℤ, Bool, true, false, ◌&&◌, ◌||◌, cond, List, [], ◌∷◌, ◌++◌, length, take, get_or, Option, Some, None, is_some, is_none, IfSome, refl, ap, sym, ◌∙◌, arith, eq-eqb}
-use Rattle.sf_model.proofs.Common.{All, AllByRecursion, Contains, list_any, flat_map, filter_map, cons_option, count_by, All-from_recursion, recursion_from_All, Contains-get_or, list_any-append, list_any_at, sum_by-cons, sum_by-take-le, count_by_more_yes, count_by-le-length, first, unplaced_faults, missing_places, is_wired, is_index, block_of, pad_of, IsPinInRange, IsAdmitted, no_blocks, over_limits, name_faults, duplicates, unknowns, placed_pad, design_pads, pin_at, pin_of, named_pins, IsThere, BuildFault, Pad, Parts, RawBlock, RawNet, RawPad, RawPin}
-use Rattle.std.specs.Option.{option_map}
-use Rattle.sf_model.specs.declared.fault.BuildFault.TheVariants.{MissingPlace}
+use Rattle.std.proofs.Common.{◌≡◌, ℕ, zero, suc, ◌+◌, ◌<◌, ◌≤◌, ℤ, Bool, true, false, ◌&&◌, ◌||◌, cond, List, [], ◌∷◌, ◌++◌, length, take, get_or, Option, Some, None, is_some, is_none, IfSome, refl, ap, sym, ◌∙◌, arith, eq-eqb, option_map}
+use Rattle.sf_model.proofs.Common.{All, AllByRecursion, Contains, list_any, flat_map, filter_map, cons_option, count_by, All-from_recursion, recursion_from_All, Contains-get_or, list_any-append, list_any_at, sum_by-cons, sum_by-take-le, count_by_more_yes, count_by-le-length, first, unplaced_faults, missing_places, is_wired, is_index, block_of, pad_of, IsPinInRange, IsAdmitted, no_blocks, over_limits, name_faults, duplicates, unknowns, placed_pad, design_pads, pin_at, pin_of, named_pins, IsThere, BuildFault, Pad, Parts, RawBlock, RawNet, RawPad, RawPin, MissingPlace}
 use Rattle.sf_model.specs.declared.parts.Pin.TheVariants as pin
 use Rattle.sf_model.specs.declared.raw.RawPin.TheVariants as raw
 use Rattle.sf_model.proofs.Limited.{right_none}

@@ -1,8 +1,7 @@
 -- Tables of names, as names come to stand before those that are there.
-use Rattle.std.proofs.Common.{◌≡◌, IfSome, ℕ, ◌+◌, ◌<◌, map, length, Bool, true, false, ◌&&◌, ◌||◌, cond, nat_eq, List, [], ◌∷◌, Option, Some, None, is_some, refl, ap, sym, ◌∙◌, arith}
+use Rattle.std.proofs.Common.{◌≡◌, IfSome, ℕ, ◌+◌, ◌<◌, map, length, Bool, true, false, ◌&&◌, ◌||◌, cond, nat_eq, List, [], ◌∷◌, Option, Some, None, is_some, refl, ap, sym, ◌∙◌, arith, bytes_eq}
 use Rattle.sf_model.proofs.Common.{list_any, position_from, nat_tests, length-map, first, repeated_names, place_in, IsTableOf}
 use Rattle.std.specs.Map.{update}
-use Rattle.std.specs.Str.{bytes_eq}
 use Rattle.sf_model.specs.declared.table.NameTable.{NameTable}
 
 -- whether numbers are equal doesn't depend on which comes first

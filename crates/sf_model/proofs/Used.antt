@@ -1,24 +1,11 @@
 -- Paths: what they use of the nets, and how far their ends are apart.
-use Rattle.std.proofs.Common.{◌≡◌, ℕ, suc, ◌+◌, ◌-◌, ◌*◌, ◌<◌, ◌≤◌, ◌^◌, max, min, Bool, true, false, List, [], ◌∷◌, ◌++◌, map, length, take, drop, get_or, arith, refl, ap, sym, subst, inl, inr, ◌∙◌, cond}
-use Rattle.std.specs.Prelude.{◌↔◌, ◌==◌, ◌&&◌, not, IsTrue, ◌-ℤ◌, ◌≤ℤ◌, zip, ◌||◌, neg_ℤ, negsuc}
-use Rattle.std.specs.List.{list_all}
-use Rattle.std.proofs.Math.Nat.{add-mul}
-use Rattle.std.proofs.lemmas.Bool.{and_from, cases_lt, eq-eqb, eqb-true}
-use Rattle.std.proofs.lemmas.List.{ext_get_or, get_or-map, get_or-take, length-take-le}
-use Rattle.std.proofs.lemmas.List.Sums.{sum_by-append}
-use Rattle.std.proofs.lemmas.Grind.{flat_map-append}
-use Rattle.sf_model.proofs.Common.{zero, All, AllByRecursion, Contains, recursion_from_All, All-push, nat_tests, ints, cond-true, sum_by, sum_by-cons, count_by, flat_map, take_more, take_all, ℤ, pos, ⊤, Design, Net, Pad, Pin, IsCoordinate}
+use Rattle.std.proofs.Common.{◌≡◌, ℕ, suc, ◌+◌, ◌-◌, ◌*◌, ◌<◌, ◌≤◌, ◌^◌, max, min, Bool, true, false, List, [], ◌∷◌, ◌++◌, map, length, take, drop, get_or, arith, refl, ap, sym, subst, inl, inr, ◌∙◌, cond, ◌↔◌, ◌==◌, ◌&&◌, not, IsTrue, ◌-ℤ◌, ◌≤ℤ◌, zip, ◌||◌, neg_ℤ, negsuc}
+use Rattle.sf_model.proofs.Common.{zero, All, AllByRecursion, Contains, recursion_from_All, All-push, nat_tests, ints, cond-true, sum_by, sum_by-cons, count_by, flat_map, take_more, take_all, ℤ, pos, ⊤, Design, Net, Pad, Pin, IsCoordinate, list_all, add-mul, and_from, cases_lt, eq-eqb, eqb-true, ext_get_or, get_or-map, get_or-take, length-take-le, sum_by-append, flat_map-append, AreLegal, ArePathsOfAxis, AreRoutes, IsFirstWrong, IsHop, IsPath, all_lead, end_of, has_pin, hops, is_pad, is_pin, last_of, leads, left_from, names_pad, net_in, no_paths, pad_x, pad_y, pull, reach_pad, to_nat, uses, place_on, IsFirstWrongOfAxis, Path, Paths, Routes, Step}
 use Rattle.sf_model.proofs.Each.{each-append}
 use Rattle.sf_model.proofs.Walks.{drop_step}
-use Rattle.sf_model.specs.Paths.{AreLegal, ArePathsOfAxis, AreRoutes, IsFirstWrong, IsHop, IsPath, all_lead, end_of, has_pin, hops, is_pad, is_pin, last_of, leads, left_from, names_pad, net_in, no_paths, pad_x, pad_y, pull, reach_pad, to_nat, uses}
-use Rattle.sf_model.specs.Axes.{place_on, IsFirstWrongOfAxis}
 use Rattle.sf_model.specs.declared.parts.Pin.TheVariants as pin
-use Rattle.sf_model.specs.declared.paths.Path.{Path}
 use Rattle.sf_model.specs.declared.paths.PathFault.{PathFault}
 use Rattle.sf_model.specs.declared.paths.PathFault.TheVariants.{BadPath, NoMemory}
-use Rattle.sf_model.specs.declared.paths.Paths.{Paths}
-use Rattle.sf_model.specs.declared.paths.Routes.{Routes}
-use Rattle.sf_model.specs.declared.paths.Step.{Step}
 use Rattle.sf_model.specs.declared.routing.Axis.{Axis}
 use Rattle.sf_model.specs.declared.routing.Axis.TheVariants.{Across, Upward}
 

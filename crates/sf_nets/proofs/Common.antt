@@ -3,9 +3,9 @@ pub use Prim.Native.Nat.{zero}
 pub use Rattle.sf_bound.specs.Only.{Tells}
 pub use Rattle.sf_curves.proofs.Members.{Contains-cons_cases, Contains-head, Contains-tail, not_in_nil}
 pub use Rattle.sf_curves.specs.declared.direction.Direction.{Direction}
-pub use Rattle.sf_standard.proofs.Operands.{Runs, runs-from}
 pub use Rattle.sf_model.proofs.Counting.{length-at_most_once}
 pub use Rattle.sf_model.proofs.Each.{each-append, each-left, each-map, each-weaker}
+pub use Rattle.sf_model.proofs.Used.{lefts-count, lefts-most, routes-small}
 pub use Rattle.sf_model.specs.Legal.{block_count}
 pub use Rattle.sf_model.specs.Limits.{pin_count, pin_number}
 pub use Rattle.sf_model.specs.declared.design.Design.{Design}
@@ -26,15 +26,18 @@ pub use Rattle.sf_node.proofs.Normalised.{subproblem-begun}
 pub use Rattle.sf_node.specs.Children.{IsSubproblem}
 pub use Rattle.sf_node.specs.Parts.{Parts}
 pub use Rattle.sf_node.specs.Subproblem.{is_complete}
+pub use Rattle.sf_node.specs.declared.part.Part.{Part}
 pub use Rattle.sf_node.specs.declared.part.Part.TheVariants.{Full, Hull, Pair, Range}
 pub use Rattle.sf_polish.proofs.Normality.{count-numbers, numbers, numbers-below}
 pub use Rattle.sf_polish.specs.declared.expr.Token.{Token}
 pub use Rattle.sf_standard.proofs.Exact.{whole-item}
 pub use Rattle.sf_standard.proofs.Listed.{Contains-from_map, Contains-map, count-cons, count-head, each-contains, each-from, each-joined, sum_by-map}
+pub use Rattle.sf_standard.proofs.Operands.{Runs, runs-from}
+pub use Rattle.sf_standard.proofs.PathWires.{no-pull}
 pub use Rattle.sf_standard.proofs.Sides.{IsSmallExtent, span-small}
 pub use Rattle.sf_standard.specs.Hull.{block_pins, contains_pin, extent_in, extent_of, gap, greatest_two, greatest_with, hull_of, hull_part, item_extent, moved_right, moved_up, of_pins, offset_x, offset_y, offsets, pads_x, pads_y, pair_part, point, range_part, range_x, range_y, small_side, to_nat}
 pub use Rattle.sf_standard.specs.Items.{Item, item_in, items_of, read}
-pub use Rattle.sf_standard.specs.Standard.{greatest, pins_by}
+pub use Rattle.sf_standard.specs.Standard.{greatest, nets_by, pins_by, wires_by}
 pub use Rattle.sf_standard.specs.declared.hull.Extent.{Extent}
 pub use Rattle.sf_standard.specs.declared.hull.Interval.{Interval}
 pub use Rattle.sf_standard.specs.declared.hull.Offset.{Offset}

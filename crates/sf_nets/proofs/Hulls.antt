@@ -1,6 +1,5 @@
 -- What the pins of a net share in each item tells the hull part.
-use Rattle.std.proofs.Common.{◌≡◌, ◌≢◌, ℕ, ◌+◌, ◌*◌, ◌<◌, ◌≤◌, max, List, [], ◌∷◌, ◌++◌, length, reverse, map, get_or, arith, refl, ap, sym, subst, ◌∙◌, ◌⊎◌, inl, inr, Bool, true, false, ◌==◌, cond}
-use Rattle.std.specs.Prelude.{if◌then◌else◌, ◌-ℤ◌}
+use Rattle.std.proofs.Common.{◌≡◌, ◌≢◌, ℕ, ◌+◌, ◌*◌, ◌<◌, ◌≤◌, max, List, [], ◌∷◌, ◌++◌, length, reverse, map, get_or, arith, refl, ap, sym, subst, ◌∙◌, ◌⊎◌, inl, inr, Bool, true, false, ◌==◌, cond, if◌then◌else◌, ◌-ℤ◌}
 use Rattle.sf_nets.proofs.Common.{Contains, fold, Option, Some, None, IfSome, pos, AllByRecursion, cases_eq, ne_eqb, eq-eqb, eqb-true, cond-true, cond-false, cond_both, reverse-append, length-reverse, get_or_default, recursion_from_All, All-contains, Contains-append_cases, Contains-append_left, Contains-append_right, Contains-get_or, Design, Pin, block_count, pin_number, pin_count, each-weaker, Parts, is_complete, IsSubproblem, Contains-cons_cases, Contains-head, Contains-tail, not_in_nil, Extent, Interval, Offset, Item, items_of, to_nat, gap, point, offsets, offset_x, offset_y, contains_pin, of_pins, pads_x, pads_y, hull_of, hull_part, extent_in, whole-item, Contains-map, Contains-from_map, Home, Layout, Reach, seat_at, IsFitInterval, IsFitReach, shared, met, anywhere, reach_gap, IsNet, IsLayout, extent_from, home_in, standing_at, pad_reach, pin_home, narrowed, narrowed_in, shared_in, shared_homes, home_gap, greatest_gap}
 use Rattle.sf_model.specs.declared.parts.Pin.TheVariants as pin
 use Rattle.sf_model.specs.Wire.{pad_at}

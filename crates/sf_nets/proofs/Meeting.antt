@@ -1,6 +1,5 @@
 -- What intervals share tells their gap, whatever their order.
-use Rattle.std.proofs.Common.{◌≡◌, List, [], ◌∷◌, arith, refl, ap, ◌∙◌}
-use Rattle.std.specs.Prelude.{◌≤ℤ◌, ◌-ℤ◌}
+use Rattle.std.proofs.Common.{◌≡◌, List, [], ◌∷◌, arith, refl, ap, ◌∙◌, ◌≤ℤ◌, ◌-ℤ◌}
 use Rattle.sf_nets.proofs.Common.{Contains, fold, ℤ, pos, neg_ℤ, AllByRecursion, ints, clamps, not_in_nil, Contains-head, Contains-tail, Interval, to_nat, gap, each-contains, each-from, IsFitEnd, IsFitInterval, shared, endless}
 use Rattle.std.specs.Int.{int_max, int_min}
 use Rattle.sf_standard.proofs.Gaps.{low-member, high-member, low-most, high-least}

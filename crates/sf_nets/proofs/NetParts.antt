@@ -1,6 +1,5 @@
 -- The parts of a net make its bound.
-use Rattle.std.proofs.Common.{◌≡◌, ℕ, ◌+◌, ◌<◌, ◌≤◌, max, List, [], ◌∷◌, map, length, get_or, refl, ap, sym, subst, ◌∙◌, arith, true, false}
-use Rattle.std.specs.Prelude.{if◌then◌else◌}
+use Rattle.std.proofs.Common.{◌≡◌, ℕ, ◌+◌, ◌<◌, ◌≤◌, max, List, [], ◌∷◌, map, length, get_or, refl, ap, sym, subst, ◌∙◌, arith, true, false, if◌then◌else◌}
 use Rattle.sf_nets.proofs.Common.{nat_lt, None, AllByRecursion, cond-false, le-ltb, length-reverse, recursion_from_All, Design, Net, Pin, block_count, pin_number, pin_count, Range, Pair, Hull, Parts, is_complete, IsSubproblem, items_of, gap, range_x, range_y, range_part, pair_part, small_side, block_pins, greatest_two, hull_part, extent_in, pins_by, whole-item, Layout, WireParts, anywhere, reach_gap, AreByPart, IsNet, IsLayout, IsReady, block_range, standing_at, pin_range, shared_ranges, paired_sides, shared_homes, shared_in, greatest_gap}
 use Rattle.sf_model.specs.declared.parts.Pin.TheVariants as pin
 use Rattle.sf_nets.proofs.Hulls.{open_hull, whole_hull}

@@ -1,10 +1,7 @@
 -- The sums over the nets, by each part of the bound.
-use Rattle.std.proofs.Common.{max, ◌≡◌, ℕ, ◌+◌, ◌*◌, ◌<◌, ◌≤◌, List, [], take, length, get_or, arith, ap, sym, subst, ◌∙◌}
-use Rattle.sf_nets.proofs.Common.{sum_by, sum_by_more, get_or_default, Design, Net, Range, Pair, Hull, Full, Parts, pins_by, WireParts, AreByPart, AreAtMost}
-use Rattle.std.specs.Prelude.{zip}
+use Rattle.std.proofs.Common.{max, ◌≡◌, ℕ, ◌+◌, ◌*◌, ◌<◌, ◌≤◌, List, [], take, length, get_or, arith, ap, sym, subst, ◌∙◌, zip}
+use Rattle.sf_nets.proofs.Common.{sum_by, sum_by_more, get_or_default, Design, Net, Range, Pair, Hull, Full, Parts, pins_by, WireParts, AreByPart, AreAtMost, lefts-count, lefts-most, Part}
 use Rattle.std.proofs.lemmas.Slice.Zip.{get_or-zip, length-zip}
-use Rattle.sf_model.proofs.Used.{lefts-count, lefts-most}
-use Rattle.sf_node.specs.declared.part.Part.{Part}
 use Rattle.sf_nets.proofs.WeighedParts.{weighed_small}
 
 -- the greatest of the parts is no greater than what none of them is above

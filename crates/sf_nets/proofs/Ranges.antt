@@ -1,6 +1,5 @@
 -- What the ranges of a net's pins share tells the range part.
-use Rattle.std.proofs.Common.{◌≡◌, ℕ, ◌+◌, ◌<◌, List, [], ◌∷◌, map, length, refl, ap, ◌∙◌}
-use Rattle.std.specs.Prelude.{◌-ℤ◌}
+use Rattle.std.proofs.Common.{◌≡◌, ℕ, ◌+◌, ◌<◌, List, [], ◌∷◌, map, length, refl, ap, ◌∙◌, ◌-ℤ◌}
 use Rattle.sf_nets.proofs.Common.{fold, recursion_from_All, Design, Pin, pin_number, pin_count, each-map, each-weaker, Interval, to_nat, gap, Standing, Reach, IsFitInterval, shared, met, anywhere, reach_gap, IsNet, IsReady, pin_range, shared_ranges}
 use Rattle.sf_nets.proofs.Meeting.{gap-shared}
 use Rattle.sf_nets.proofs.PinLoops.{near_range}

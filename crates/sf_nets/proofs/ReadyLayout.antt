@@ -1,6 +1,5 @@
 -- A layout of a subproblem is one that pins can be read by, and its homes are the places of the blocks in the items.
-use Rattle.std.proofs.Common.{◌≡◌, ℕ, suc, ◌+◌, ◌<◌, ◌≤◌, List, [], ◌∷◌, length, reverse, map, get_or, arith, refl, ap, sym, subst, ◌∙◌, ◌⊎◌, inl, inr, All, ◌==◌}
-use Rattle.std.specs.Prelude.{if◌then◌else◌}
+use Rattle.std.proofs.Common.{◌≡◌, ℕ, suc, ◌+◌, ◌<◌, ◌≤◌, List, [], ◌∷◌, length, reverse, map, get_or, arith, refl, ap, sym, subst, ◌∙◌, ◌⊎◌, inl, inr, All, ◌==◌, if◌then◌else◌}
 use Rattle.sf_nets.proofs.Common.{Contains, count_by, Option, Some, None, IfSome, zero, ints, cases_eq, ne_eqb, eq-eqb, cond-true, cond-false, length-map, Contains-append_cases, Contains-append_left, Contains-append_right, All-contains, Design, block_count, Parts, Contains-cons_cases, Contains-head, Contains-tail, not_in_nil, Extent, Offset, Item, items_of, offsets, extent_in, Contains-map, Contains-from_map, count-cons, count-head, Home, Layout, Seat, Standing, Tells, IsModestOffset, AreModest, held_of, seat_at, seats_from, IsFitReach, anywhere, IsLayout, IsReadyAt, IsReady, extent_from, home_in, last_home, block_range, standing_at, standing_by, IsSmallExtent, span-small}
 use Rattle.sf_nets.proofs.ModestExtents.{are-modest}
 

@@ -1,6 +1,5 @@
 -- The table of standings, seat by seat.
-use Rattle.std.proofs.Common.{◌≡◌, ◌≢◌, ℕ, ◌+◌, ◌<◌, List, [], ◌∷◌, ◌++◌, length, take, get_or, arith, refl, ap, sym, subst, ◌∙◌, inl, inr, ◌==◌, length-set, get_or-set_same, get_or-set_other}
-use Rattle.std.specs.Prelude.{if◌then◌else◌}
+use Rattle.std.proofs.Common.{◌≡◌, ◌≢◌, ℕ, ◌+◌, ◌<◌, List, [], ◌∷◌, ◌++◌, length, take, get_or, arith, refl, ap, sym, subst, ◌∙◌, inl, inr, ◌==◌, length-set, get_or-set_same, get_or-set_other, if◌then◌else◌}
 use Rattle.sf_nets.proofs.Common.{slice_set, Option, Some, None, cases_eq, ne_eqb, eq-eqb, cond-true, cond-false, take_more, Design, Extent, Home, Seat, Standing, Tells, anywhere, extent_from, home_in, last_home, standing_of, standing_at, standing_by}
 
 -- with one seat more, the last home of its block is that of this seat, and of any other block the one before

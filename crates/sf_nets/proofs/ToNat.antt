@@ -1,6 +1,5 @@
 -- What an integer is as a number of at least 0.
-use Rattle.std.proofs.Common.{◌≡◌, arith, refl}
-use Rattle.std.specs.Prelude.{◌≤ℤ◌}
+use Rattle.std.proofs.Common.{◌≡◌, arith, refl, ◌≤ℤ◌}
 use Rattle.sf_nets.proofs.Common.{ℤ, pos, negsuc, nat_abs, ints, to_nat}
 
 -- an integer of at least 0 counts as its distance from 0

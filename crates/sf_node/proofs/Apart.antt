@@ -1,8 +1,7 @@
 -- No plan belongs to two children of a subproblem by extending.
 use Rattle.std.proofs.Common.{◌≡◌, ℕ, ◌+◌, ◌<◌, ◌≤◌, List, [], ◌∷◌, ◌++◌, length, map, take, length-append, arith, refl, ap, sym, subst, ◌∙◌, Bool, true, false}
-use Rattle.sf_node.proofs.Common.{append_cancel_left, filter, AllPairs, AllByRecursion, range_with_len, Design, Tree, block_count, Any-from_recursion, EachPair, EachPair-append, EachPair-map, EachPair-filter, EachPair-range, EachPair-weaker, AllPairs-from_recursion, each-append, each-map, each-filter, each-range, Token, postfix, Parts, Belongs, is_complete, may_join, is_unused, when, next_tokens, step_of, after, extended}
+use Rattle.sf_node.proofs.Common.{append_cancel_left, filter, AllPairs, AllByRecursion, range_with_len, Design, Tree, block_count, Any-from_recursion, EachPair, EachPair-append, EachPair-map, EachPair-filter, EachPair-range, EachPair-weaker, AllPairs-from_recursion, each-append, each-map, each-filter, each-range, Token, postfix, Parts, Belongs, is_complete, may_join, is_unused, when, next_tokens, step_of, after, extended, BelongsToOne}
 use Rattle.sf_polish.specs.declared.expr.Token.TheVariants as token
-use Rattle.sf_node.specs.Laws.{BelongsToOne}
 use Rattle.sf_node.proofs.Cover.{extended-some}
 
 -- a number for each token, no two alike

@@ -1,8 +1,6 @@
 -- Whether tokens begin with others, by comparing token by token.
-use Rattle.std.proofs.Common.{◌≡◌, ℕ, List, length, take, refl, ap, sym, ◌∙◌, ◌==◌, Bool, true, false}
-use Rattle.std.specs.Prelude.{◌↔◌}
+use Rattle.std.proofs.Common.{◌≡◌, ℕ, List, length, take, refl, ap, sym, ◌∙◌, ◌==◌, Bool, true, false, ◌↔◌, Decides}
 use Rattle.sf_node.proofs.Common.{IsTrue, true≢false, eqb-true, eq-eqb, Token, BeginsWith}
-use Rattle.std.specs.Bool.{Decides}
 use Rattle.std.specs.Cmp.Lexicographic.{pointwise}
 use Rattle.std.proofs.lemmas.Slice.Eq.{slice_eq-Decides}
 use Rattle.sf_polish.specs.declared.expr.Token.TheVariants.{Beside, Above, Block}

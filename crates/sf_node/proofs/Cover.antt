@@ -1,10 +1,8 @@
 -- A plan of an incomplete subproblem belongs to exactly one of its children.
 use Rattle.std.proofs.Common.{◌≡◌, ℕ, ◌+◌, ◌*◌, ◌<◌, ◌≤◌, List, [], ◌∷◌, ◌++◌, length, map, take, drop, append_assoc, length-take, length-drop, take-append-drop, cond, arith, refl, ap, sym, subst, ◌∙◌, ◌==◌, Bool, true, false, inl, inr}
-use Rattle.sf_node.proofs.Common.{count_by, filter, AllByRecursion, range_with_len, and_from, le-leb, eq-eqb, ne_eqb, eqb-false, not_from_false, cases_lt, recursion_from_All, sum_by-cons, sum_by-append, Design, Tree, leaves, IsLegal, block_count, Some, Some-left, Some-right, Some-map, Some-filter, Some-range, Token, is_block, operands, operators, ends_in, postfix, Parts, Belongs, is_complete, may_join, is_unused, when, next_tokens, step_of, after, extended}
+use Rattle.sf_node.proofs.Common.{count_by, filter, AllByRecursion, range_with_len, and_from, le-leb, eq-eqb, ne_eqb, eqb-false, not_from_false, cases_lt, recursion_from_All, sum_by-cons, sum_by-append, Design, Tree, leaves, IsLegal, block_count, Some, Some-left, Some-right, Some-map, Some-filter, Some-range, Token, is_block, operands, operators, ends_in, postfix, Parts, Belongs, is_complete, may_join, is_unused, when, next_tokens, step_of, after, extended, length-leaves, two-before, another-before, count_by-postfix, length-postfix}
 use Rattle.std.proofs.Math.Seq.{take-append_seam}
-use Rattle.sf_model.proofs.Counting.{length-leaves}
 use Rattle.sf_polish.specs.declared.expr.Token.TheVariants as token
-use Rattle.sf_polish.proofs.Stack.{two-before, another-before, count_by-postfix, length-postfix}
 
 -- no element has a key that all keys are below
 count-none : {X : Type 0} (key : X → ℕ) (n b : ℕ) → n ≤ b → (xs : List X) → AllByRecursion (λ x. key x < n) xs → count_by (λ x. key x == b) xs ≡ 0

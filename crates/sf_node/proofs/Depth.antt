@@ -1,9 +1,8 @@
 -- No subproblem is deeper than 10 n - 1 steps, where there are n blocks of at most 256 shapes.
 use Rattle.std.proofs.Common.{◌≡◌, ℕ, suc, ◌+◌, ◌-◌, ◌*◌, ◌/◌, ◌<◌, ◌≤◌, min, List, [], ◌∷◌, ◌++◌, length, map, get_or, length-set, length-append, arith, refl, ap, sym, subst, ◌∙◌, ◌==◌, Bool, true, false, not, cond, ◌&&◌, inl, inr}
-use Rattle.sf_node.proofs.Common.{zero, IsTrue, nat_lt, nat_le, count_by, slice_set, AllByRecursion, range_with_len, length-map, cond_both, sum_by-cons, sum_by-append, recursion_from_All, Design, block_count, Some, Some-range, Token, operands, operators, is_operand, is_block, Step, Beside, Above, Block, Left, Right, Parts, root, span_of, may_join, is_unused, after, with_token, with_span, middle, CanStep, CanWalk, walk, IsSubproblem}
+use Rattle.sf_node.proofs.Common.{zero, IsTrue, nat_lt, nat_le, count_by, slice_set, AllByRecursion, range_with_len, length-map, cond_both, sum_by-cons, sum_by-append, recursion_from_All, Design, block_count, Some, Some-range, Token, operands, operators, is_operand, is_block, Step, Beside, Above, Block, Left, Right, Parts, root, span_of, may_join, is_unused, after, with_token, with_span, middle, CanStep, CanWalk, walk, IsSubproblem, IsShapeList}
 use Rattle.std.proofs.lemmas.Bool.Decides.{nat_tests}
 use Rattle.sf_model.specs.declared.parts.Block.{Block as BlockValue}
-use Rattle.sf_model.specs.Limits.{IsShapeList}
 use Rattle.sf_polish.specs.declared.expr.Token.TheVariants as token
 
 -- the sum of f over a list

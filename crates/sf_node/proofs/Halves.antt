@@ -1,9 +1,6 @@
 -- A plan of a subproblem belongs to exactly one half of a span that is split.
 use Rattle.std.proofs.Common.{◌≡◌, ℕ, ◌+◌, ◌-◌, ◌<◌, ◌≤◌, min, List, [], ◌∷◌, length, drop, get_or, All, AllPairs, cond, length-take, length-drop, get_or-take, get_or-drop, arith, refl, ap, sym, subst, ◌∙◌, ◌==◌, Bool, ◌⊎◌, inl, inr, get_or-set_same, get_or-set_other}
-use Rattle.sf_node.proofs.Common.{count_by, Contains, slice_range, slice_set, AllByRecursion, cases_eq, cases_lt, eq-eqb, ne_eqb, recursion_from_All, All-from_recursion, sum_by-cons, Design, Shape, Tree, leaves, block_count, shapes_of, Some, Any-from_recursion, AllPairs-from_recursion, each-weaker, Parts, Belongs, span_of, middle, split, CanSplit}
-use Rattle.sf_model.specs.Limits.{IsBefore}
-use Rattle.sf_model.specs.Spans.{span_in, shapes_in}
-use Rattle.sf_node.specs.Laws.{BelongsToOne}
+use Rattle.sf_node.proofs.Common.{count_by, Contains, slice_range, slice_set, AllByRecursion, cases_eq, cases_lt, eq-eqb, ne_eqb, recursion_from_All, All-from_recursion, sum_by-cons, Design, Shape, Tree, leaves, block_count, shapes_of, Some, Any-from_recursion, AllPairs-from_recursion, each-weaker, Parts, Belongs, span_of, middle, split, CanSplit, IsBefore, span_in, shapes_in, BelongsToOne}
 
 -- x stands at a place of xs from one number on and before another
 pub record InSpan {X : Type 0} (xs : List X) (from to : ℕ) (x : X) : Type 0 where

@@ -1,8 +1,7 @@
 -- Moves among the subproblems that are not visited yet.
 use Rattle.std.proofs.Common.{◌≡◌, ℕ, suc, ◌+◌, ◌-◌, ◌<◌, List, [], ◌∷◌, ◌++◌, map, length, get_or, set, take, append_assoc, append-nil, length-append, arith, refl, ap, sym, subst, ◌∙◌, Bool, true, false, cond}
-use Rattle.sf_node.proofs.Common.{filter, AllByRecursion, range_with_len, map-append, set-set, set-get_or, take_at, cond-true, cond-false, Design, each-append, each-map, Token, Step, Beside, Above, Block, Left, Right, Parts, root, span_of, may_join, is_unused, when, step_of, after, extended, CanStep, CanWalk, walk, with_span, IsSubproblem}
+use Rattle.sf_node.proofs.Common.{filter, AllByRecursion, range_with_len, map-append, set-set, set-get_or, take_at, cond-true, cond-false, Design, each-append, each-map, Token, Step, Beside, Above, Block, Left, Right, Parts, root, span_of, may_join, is_unused, when, step_of, after, extended, CanStep, CanWalk, walk, with_span, IsSubproblem, when_step, blocks_from, later, extending, behind, pending}
 use Rattle.sf_polish.specs.declared.expr.Token.TheVariants as token
-use Rattle.sf_node.specs.Later.{when_step, blocks_from, later, extending, behind, pending}
 use Rattle.sf_node.proofs.Reached.{walk-append, steps-after, each-below, each-passing}
 
 -- ---- the steps by blocks, one number on

@@ -1,9 +1,7 @@
 -- The tokens of a complete subproblem are normal.
 use Rattle.std.proofs.Common.{◌≡◌, ℕ, ◌+◌, ◌-◌, ◌*◌, ◌<◌, ◌≤◌, List, [], ◌∷◌, ◌++◌, length, length-set, arith, refl, ap, sym, subst, ◌∙◌, ◌==◌, Bool, true, false, cond, not, inl, inr}
-use Rattle.sf_node.proofs.Common.{count_by, IsFalse, nat_le, nat_lt, AllByRecursion, and_parts, not_from_true, lt-ltb, leb-true, eqb-true, ne_eqb, eq-eqb, cases_eq, true≢false, length-map, All-from_recursion, sum_by-cons, sum_by-append, Design, block_count, each-append, Token, is_operand, is_block, is_outside, same_operator, last_or, ends_in, operands, operators, IsNormal, Step, Beside, Above, Block, Left, Right, Parts, root, is_complete, may_join, is_unused, after, CanStep, CanWalk, walk, IsSubproblem}
-use Rattle.sf_model.proofs.Counting.{each-once_by_length}
+use Rattle.sf_node.proofs.Common.{count_by, IsFalse, nat_le, nat_lt, AllByRecursion, and_parts, not_from_true, lt-ltb, leb-true, eqb-true, ne_eqb, eq-eqb, cases_eq, true≢false, length-map, All-from_recursion, sum_by-cons, sum_by-append, Design, block_count, each-append, Token, is_operand, is_block, is_outside, same_operator, last_or, ends_in, operands, operators, IsNormal, Step, Beside, Above, Block, Left, Right, Parts, root, is_complete, may_join, is_unused, after, CanStep, CanWalk, walk, IsSubproblem, each-once_by_length, Reads, Reads-append, Reads-counts, Alternating, Alternating-append}
 use Rattle.sf_polish.specs.declared.expr.Token.TheVariants as token
-use Rattle.sf_polish.proofs.Stack.{Reads, Reads-append, Reads-counts, Alternating, Alternating-append}
 use Rattle.sf_polish.proofs.Normality.{Reads-first, Reads-ballot, alternates, numbers, length-numbers, count-numbers, numbers-below, both-kinds}
 
 -- what holds of the tokens of each subproblem

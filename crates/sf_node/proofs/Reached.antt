@@ -1,7 +1,6 @@
 -- Each child of a subproblem of the design is one, and each skewed floorplan belongs to the root.
 use Rattle.std.proofs.Common.{◌≡◌, ℕ, suc, ◌+◌, ◌<◌, ◌≤◌, List, [], ◌∷◌, ◌++◌, length, map, length-set, arith, refl, ap, sym, subst, ◌∙◌, Bool, true, false}
-use Rattle.sf_node.proofs.Common.{zero, Contains, slice_range, filter, AllByRecursion, range_with_len, get_or-map, length-map, cond_both, recursion_from_All, All-from_recursion, Design, Shape, Tree, leaves, IsLegal, block_count, shapes_of, each-append, each-map, each-weaker, Token, IsSkewed, Step, Beside, Above, Block, Left, Right, Parts, Belongs, root, span_of, may_join, is_unused, when, next_tokens, step_of, after, extended, split, CanSplit, CanStep, CanWalk, walk, IsSubproblem}
-use Rattle.sf_model.specs.Spans.{shapes_in}
+use Rattle.sf_node.proofs.Common.{zero, Contains, slice_range, filter, AllByRecursion, range_with_len, get_or-map, length-map, cond_both, recursion_from_All, All-from_recursion, Design, Shape, Tree, leaves, IsLegal, block_count, shapes_of, each-append, each-map, each-weaker, Token, IsSkewed, Step, Beside, Above, Block, Left, Right, Parts, Belongs, root, span_of, may_join, is_unused, when, next_tokens, step_of, after, extended, split, CanSplit, CanStep, CanWalk, walk, IsSubproblem, shapes_in}
 use Rattle.sf_polish.specs.declared.expr.Token.TheVariants as token
 use Rattle.sf_node.proofs.Halves.{InSpan, from_in_span, each-both}
 

@@ -1,6 +1,5 @@
 -- Whether a plan belongs to a subproblem, by its expression.
-use Rattle.std.proofs.Common.{◌≡◌, ℕ, ◌<◌, List, All, arith, sym, subst}
-use Rattle.std.specs.Prelude.{◌↔◌}
+use Rattle.std.proofs.Common.{◌≡◌, ℕ, ◌<◌, List, All, arith, sym, subst, ◌↔◌}
 use Rattle.sf_node.proofs.Common.{recursion_from_All, All-from_recursion, Design, Shape, Tree, leaves, IsLegal, block_count, Token, IsSkewed, Spells, shape_at, Parts, IsInSpan, AreInSpans, Belongs, BeginsWith}
 use Rattle.sf_polish.specs.declared.expr.Expr.{Expr}
 use Rattle.sf_node.proofs.Halves.{one-has, each-both}

@@ -1,10 +1,7 @@
 -- What comes next in preorder comes after in the order of steps.
 use Rattle.std.proofs.Common.{◌≡◌, ℕ, suc, ◌+◌, ◌-◌, ◌*◌, ◌<◌, ◌≤◌, List, [], ◌∷◌, ◌++◌, map, length, append_assoc, length-append, arith, refl, ap, sym, subst, ◌∙◌, true, false, Bool, inl, inr, Less, Equal}
-use Rattle.sf_pieces.proofs.Common.{zero, filter, range_with_len, ordering_then, cases_eq, Design, Step, Parts, root, after, walk, may_join, is_unused, IsSubproblem, when_step, blocks_from, later, behind, rank, step_cmp, steps_cmp, steps-after, Tag, made}
-use Rattle.std.proofs.lemmas.Bool.Decides.{nat_tests}
+use Rattle.sf_pieces.proofs.Common.{zero, filter, range_with_len, ordering_then, cases_eq, Design, Step, Parts, root, after, walk, may_join, is_unused, IsSubproblem, when_step, blocks_from, later, behind, rank, step_cmp, steps_cmp, steps-after, Tag, made, nat_tests, Beside, Above, Block, Left, Right, blocks-used, blocks-unused, behind-append, came-from}
 use Rattle.sf_polish.specs.declared.expr.Token.TheVariants as token
-use Rattle.sf_node.specs.declared.step.Step.TheVariants.{Beside, Above, Block, Left, Right}
-use Rattle.sf_node.proofs.Later.{blocks-used, blocks-unused, behind-append, came-from}
 use Rattle.sf_pieces.proofs.Line.{has-last}
 use Rattle.sf_pieces.proofs.Branching.{firsts, firsts-made, first-next, later-next, steps-walk}
 

@@ -1,10 +1,7 @@
 -- Runs with just the marks of a tree, in the order of their first paths, are the tree in preorder.
-use Rattle.std.proofs.Common.{◌≡◌, ℕ, min, List, [], ◌∷◌, ◌++◌, map, arith, refl, ap, sym, subst, ◌∙◌, true, false, Bool, Less}
-use Rattle.sf_pieces.proofs.Common.{AllByRecursion, is_lt, ordering_reverse, map-append, Design, EachPair, EachPair-map, EachPair-weaker, each-map, total, total-map, Parts, root, after, CanStep, IsSubproblem, later, behind, pending, rank, steps_cmp, root-subproblem, Mark, Tag, made, marks, MaySplit, tags_alike, tags_alike-refl, tags_alike-same, IsGood}
-use Rattle.std.specs.declared.cmp.Ordering.{Ordering}
-use Rattle.std.proofs.lemmas.Cmp.{on_total, nat_cmp_total, lists_total, tied_itself}
+use Rattle.std.proofs.Common.{◌≡◌, ℕ, min, List, [], ◌∷◌, ◌++◌, map, arith, refl, ap, sym, subst, ◌∙◌, true, false, Bool, Less, Ordering}
+use Rattle.sf_pieces.proofs.Common.{AllByRecursion, is_lt, ordering_reverse, map-append, Design, EachPair, EachPair-map, EachPair-weaker, each-map, total, total-map, Parts, root, after, CanStep, IsSubproblem, later, behind, pending, rank, steps_cmp, root-subproblem, Mark, Tag, made, marks, MaySplit, tags_alike, tags_alike-refl, tags_alike-same, IsGood, on_total, nat_cmp_total, lists_total, tied_itself, alike, alike-refl, alike-same, same-node}
 use Rattle.sf_certificate.proofs.Ascending.{marks-rising}
-use Rattle.sf_certificate.proofs.Growth.{alike, alike-refl, alike-same, same-node}
 use Rattle.sf_pieces.proofs.Pieces.{laid}
 use Rattle.sf_pieces.proofs.Preorder as line
 use Rattle.sf_pieces.proofs.Tree.{marked, IsOrder, pieces-assemble}

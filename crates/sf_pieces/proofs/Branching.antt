@@ -1,11 +1,9 @@
 -- The tree of subproblems branches as the laws of lines ask.
 use Rattle.std.proofs.Common.{◌≡◌, ℕ, suc, ◌+◌, ◌-◌, ◌<◌, ◌≤◌, List, [], ◌∷◌, ◌++◌, map, length, append_assoc, append-nil, arith, refl, ap, sym, subst, ◌∙◌, true, false, Bool, ◌⊎◌, inl, inr}
-use Rattle.sf_pieces.proofs.Common.{zero, filter, AllByRecursion, range_with_len, cases_eq, Design, Step, Parts, root, after, walk, may_join, is_unused, CanStep, IsSubproblem, when_step, blocks_from, later, extending, behind, steps-after, after-subproblem, Tag, Extend, Split, Closed, Open, made, MaySplit}
+use Rattle.sf_pieces.proofs.Common.{zero, filter, AllByRecursion, range_with_len, cases_eq, Design, Step, Parts, root, after, walk, may_join, is_unused, CanStep, IsSubproblem, when_step, blocks_from, later, extending, behind, steps-after, after-subproblem, Tag, Extend, Split, Closed, Open, made, MaySplit, Beside, Above, Block, Left, Right, blocks-used, blocks-unused, later-can, extending-can, extending-is, came-from}
 use Rattle.sf_polish.specs.declared.expr.Token.TheVariants as token
-use Rattle.sf_node.specs.declared.step.Step.TheVariants.{Beside, Above, Block, Left, Right}
-use Rattle.sf_node.proofs.Later.{blocks-used, blocks-unused, later-can, extending-can, extending-is, came-from}
 use Rattle.sf_pieces.proofs.Preorder as line
-use Rattle.sf_pieces.proofs.Preorder.{Begins, CameFrom, IsBranching}
+use Rattle.sf_pieces.proofs.Preorder.{Begins, IsBranching}
 
 -- the steps to the children that a tag makes
 abbrev pub firsts : Tag → Parts → List Step

@@ -1,19 +1,13 @@
 -- Pieces that hold one tree, in the order of their first paths, are that tree in preorder.
 use Rattle.std.proofs.Common.{◌≡◌, ℕ, suc, ◌<◌, List, [], ◌∷◌, ◌++◌, length, map, arith, refl, ap, sym, subst, ◌∙◌, inl, inr, IsPermutation, Option}
-use Rattle.sf_pieces.proofs.Common.{zero, MatchOption, AllByRecursion, flat_map, cases_lt, map-append, All-from_recursion, recursion_from_All, All-permutation, Design, each-any, each-append, each-weaker, Part, Parts, root, IsSubproblem, root-subproblem, Mark, Tag, Extend, Split, Closed, Open, IsFair, MaySplit, made, marks, if_open, least-same, marks-good, marks-tags, open-total, total, total-append, total-flat_map, total-map, total-permutation, Piece, AreInOrder, IsGood, IsRead, marks_in, told_by}
+use Rattle.sf_pieces.proofs.Common.{zero, MatchOption, AllByRecursion, flat_map, cases_lt, map-append, All-from_recursion, recursion_from_All, All-permutation, Design, each-any, each-append, each-weaker, Part, Parts, root, IsSubproblem, root-subproblem, Mark, Tag, Extend, Split, Closed, Open, IsFair, MaySplit, made, marks, if_open, least-same, marks-good, marks-tags, open-total, total, total-append, total-flat_map, total-map, total-permutation, Piece, AreInOrder, IsGood, IsRead, marks_in, told_by, Expr, each-both, Cert, AreTrees, HasCost, least, left_open, IsBalanced, IsGrown, grown, made-deeper, made-subproblems, HoldTree, IsLaid, open_at, open_in}
 use Rattle.sf_model.specs.declared.TheConstants.{MAX}
 use Rattle.sf_model.specs.Legal.{block_count}
-use Rattle.sf_polish.specs.declared.expr.Expr.{Expr}
 use Rattle.sf_polish.specs.Text.{IsWritable}
 use Rattle.sf_node.proofs.Depth.{subproblem-shallow}
-use Rattle.sf_node.proofs.Halves.{each-both}
-use Rattle.sf_certificate.specs.declared.cert.Cert.{Cert}
 use Rattle.sf_certificate.specs.Form.{IsFormed}
-use Rattle.sf_certificate.specs.Valid.{AreTrees, HasCost, least, left_open}
-use Rattle.sf_certificate.proofs.Growth.{IsBalanced, IsGrown, grown, made-deeper, made-subproblems}
 use Rattle.sf_certificate.proofs.MergedCert.{plan-cost, planned-for, planned-or-none}
 use Rattle.sf_certificate.proofs.Places.{trees-spelled}
-use Rattle.sf_pieces.specs.Laid.{HoldTree, IsLaid, open_at, open_in}
 use Rattle.sf_pieces.proofs.Runs.{order-pairs, pieces-tree}
 use Rattle.sf_pieces.proofs.Weights.{marks-permute}
 

@@ -1,9 +1,7 @@
 -- The names that the search puts down, and those that it hands over.
 use Rattle.std.proofs.Common.{◌≡◌, ℕ, ◌≤◌, List, [], ◌∷◌, ◌++◌, map, All, refl, ap, sym, subst, ◌∙◌, arith, append_assoc, append-nil, cond, leb, inl, inr}
-use Rattle.sf_pieces.proofs.Common.{AllByRecursion, flat_map, cases_Bool, leb-true, le-leb, cond-false, cond_both, flat_map_more, All-nil, All-cons, All-append, All-weaker, All-from_recursion, recursion_from_All, Part, Area, Range, Pair, Hull, Full, Parts, Mark, Tag, Extend, Split, Closed, Open, made, marks, with_first_part, kept_for, AreKept, renamed}
+use Rattle.sf_pieces.proofs.Common.{AllByRecursion, flat_map, cases_Bool, leb-true, le-leb, cond-false, cond_both, flat_map_more, All-nil, All-cons, All-append, All-weaker, All-from_recursion, recursion_from_All, Part, Area, Range, Pair, Hull, Full, Parts, Mark, Tag, Extend, Split, Closed, Open, made, marks, with_first_part, kept_for, AreKept, renamed, first_part, NamesFirst, unnamed}
 use Rattle.sf_node.specs.declared.part.PartValues.{PartValues}
-use Rattle.sf_node.specs.ByPart.{first_part}
-use Rattle.sf_certificate.specs.Named.{NamesFirst, unnamed}
 
 -- ---- what is kept of a closed subproblem
 

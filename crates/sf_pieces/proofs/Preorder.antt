@@ -1,6 +1,6 @@
 -- The preorder line of a tree that is given by its steps, and how a tree of steps branches.
-use Rattle.std.specs.Prelude.{◌≡◌, List, [], ◌∷◌, ◌++◌, map, ◌⊎◌}
-use Rattle.std.specs.List.{AllByRecursion}
+use Rattle.std.proofs.Common.{◌≡◌, List, [], ◌∷◌, ◌++◌, map, ◌⊎◌}
+use Rattle.sf_pieces.proofs.Common.{AllByRecursion}
 
 module _ {N S T : Type 0} (after : N → S → N) (later : N → S → List S) (firsts : T → N → List S) where
   -- where steps lead

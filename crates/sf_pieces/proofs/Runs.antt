@@ -1,12 +1,10 @@
 -- Pieces as runs of tags: the law of pieces.
-use Rattle.std.proofs.Common.{◌≡◌, ℕ, suc, ◌<◌, List, [], ◌∷◌, ◌++◌, length, get_or, All, arith, refl, ap, sym, subst, ◌∙◌, Bool, true, false, Bor, IsPermutation}
-use Rattle.sf_pieces.proofs.Common.{IsSortedBy, AllByRecursion, is_lt, recursion_from_All, ranks_by, sorted_far, Design, EachPair, Parts, root, walk, pending, rank, steps_cmp, Mark, Tag, marks, total, total-permutation, Piece, AreInOrder, IsGood, marks_in, told_by}
-use Rattle.std.specs.declared.cmp.Ordering.{Ordering}
+use Rattle.std.proofs.Common.{◌≡◌, ℕ, suc, ◌<◌, List, [], ◌∷◌, ◌++◌, length, get_or, All, arith, refl, ap, sym, subst, ◌∙◌, Bool, true, false, Bor, IsPermutation, Ordering}
+use Rattle.sf_pieces.proofs.Common.{IsSortedBy, AllByRecursion, is_lt, recursion_from_All, ranks_by, sorted_far, Design, EachPair, Parts, root, walk, pending, rank, steps_cmp, Mark, Tag, marks, total, total-permutation, Piece, AreInOrder, IsGood, marks_in, told_by, on_total, nat_cmp_total, lists_total}
 use Rattle.std.specs.Cmp.{IsStrictWeakOrder}
 use Rattle.std.specs.Fn.{Called, ComparesAs}
 use Rattle.std.proofs.lemmas.Fn.{always_returns_same}
 use denote.Param.Members.{Mut}
-use Rattle.std.proofs.lemmas.Cmp.{on_total, nat_cmp_total, lists_total}
 use Rattle.sf_pieces.proofs.Branching.{steps-walk}
 use Rattle.sf_pieces.proofs.Assembled.{Run, all_marks, assembled}
 

@@ -1,20 +1,12 @@
 -- The pieces of a search, named, hold one tree, and their certificate is that of the search.
 use Rattle.std.proofs.Common.{◌≡◌, ℕ, ◌+◌, ◌<◌, ◌≤◌, List, [], ◌∷◌, ◌++◌, length, map, All, arith, refl, ap, sym, subst, ◌∙◌, true, IsPermutation, Option}
-use Rattle.sf_pieces.proofs.Common.{⊤, AllByRecursion, flat_map, length-map, map-append, All-from_recursion, recursion_from_All, All-permutation, IsPermutation-map, IsPermutation-trans, Design, each-any, each-append, each-left, each-map, Part, Step, Full, Parts, root, walk, pending, Mark, Tag, IsFair, made, marks, tag_of, decided-total, if_open, least-same, total, total-append, total-each, total-flat_map, total-map, total-permutation, total-same, Piece, AreKept, AreNamed, renamed, shape_of, shape_named, AreTold, IsRead, mark_of, marks_in, open_mark, told_by}
-use Rattle.std.proofs.lemmas.Bool.Decides.{nat_tests}
+use Rattle.sf_pieces.proofs.Common.{⊤, AllByRecursion, flat_map, length-map, map-append, All-from_recursion, recursion_from_All, All-permutation, IsPermutation-map, IsPermutation-trans, Design, each-any, each-append, each-left, each-map, Part, Step, Full, Parts, root, walk, pending, Mark, Tag, IsFair, made, marks, tag_of, decided-total, if_open, least-same, total, total-append, total-each, total-flat_map, total-map, total-permutation, total-same, Piece, AreKept, AreNamed, renamed, shape_of, shape_named, AreTold, IsRead, mark_of, marks_in, open_mark, told_by, nat_tests, Expr, first_part, each-both, Cert, NamesFirst, unnamed, unnamed_mark, least, one_decided, HoldTree, IsLaid, open_in}
 use Rattle.std.proofs.lemmas.List.Folds.{flat_map-map}
-use Rattle.sf_polish.specs.declared.expr.Expr.{Expr}
-use Rattle.sf_node.specs.ByPart.{first_part}
-use Rattle.sf_node.proofs.Halves.{each-both}
 use Rattle.sf_search_core.specs.declared.entry.Entry.{Entry}
 use Rattle.sf_search_core.specs.declared.entry.Kind.{Kind}
 use Rattle.sf_search_core.specs.Conserved.{IsDecided, branched, children}
-use Rattle.sf_certificate.specs.declared.cert.Cert.{Cert}
-use Rattle.sf_certificate.specs.Named.{NamesFirst, unnamed, unnamed_mark}
-use Rattle.sf_certificate.specs.Valid.{least, one_decided}
 use Rattle.sf_certificate.proofs.MergedTree.{all-fair}
 use Rattle.sf_certificate.proofs.Named.{unnamed-made, unnamed-marks}
-use Rattle.sf_pieces.specs.Laid.{HoldTree, IsLaid, open_in}
 use Rattle.sf_pieces.specs.Searched.{IsAssembled, IsSearched}
 use Rattle.sf_pieces.proofs.Laid.{each-flat_map, each-unmap, open-in-total}
 use Rattle.sf_pieces.proofs.Names.{name-first, renamed-alike}

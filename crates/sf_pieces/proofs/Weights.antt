@@ -1,6 +1,5 @@
 -- Lists that weigh the same, however their subproblems are weighed, are permutations.
-use Rattle.std.proofs.Common.{◌≡◌, ℕ, zero, suc, ◌<◌, ◌≤◌, List, [], ◌∷◌, length, get_or, arith, refl, ap, sym, ◌∙◌, Bool, true, false}
-use Rattle.std.specs.Prelude.{◌==◌, ◌&&◌}
+use Rattle.std.proofs.Common.{◌≡◌, ℕ, zero, suc, ◌<◌, ◌≤◌, List, [], ◌∷◌, length, get_or, arith, refl, ap, sym, ◌∙◌, Bool, true, false, ◌==◌, ◌&&◌}
 use Rattle.sf_pieces.proofs.Common.{sum_by, IsPermutation, remove, eqb-true, eq-eqb, IsPermutation-refl, IsPermutation-sym, IsPermutation-trans, IsPermutation-cons, IsPermutation-remove, sum_by-IsPermutation, Area, Range, Pair, Hull, Full, Step, Parts, Mark, Tag, total, total-same}
 use Rattle.std.proofs.lemmas.List.Sums.{sum_by-cons}
 use Rattle.sf_certificate.specs.declared.tag.Tag.TheVariants as tag

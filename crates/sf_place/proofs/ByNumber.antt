@@ -1,21 +1,11 @@
 -- The spots of a plan by block number: the same wire, the same ends, and a legal placement.
-use Rattle.std.proofs.Common.{length-append, ◌≡◌, ℕ, suc, ◌+◌, ◌*◌, ◌<◌, ◌≤◌, max, List, [], ◌∷◌, map, length, get_or, All, AllPairs, arith, refl, sym, ap, subst, ◌∙◌, ◌==◌, cond, inl, inr}
-use Prim.Native.Nat.{zero}
-use Rattle.std.specs.Prelude.{◌+ℤ◌}
-use Rattle.sf_place.proofs.Common.{count_by, Contains, slice_set, pos, nat_abs, sum_by, AllByRecursion, range_with_len, nat_tests, ints, Spot, Tree, Leaf, Beside, Above, width, height, leaves, leaf_count, spots_at, spots_of, Overlaps, IsInside, spot_of, pin_x, pin_y, net_wire, weighed_wire, wire, spread, IsByNumber, by_number, with_spots, AreLegal, IsListed, LiesIn}
-use Rattle.std.proofs.lemmas.Bool.{cases_lt}
-use Rattle.std.proofs.lemmas.List.{get_or-set_same, get_or-set_other, length-set}
-use Rattle.std.proofs.lemmas.List.Sums.{sum_by-append, sum_by-cons}
+use Rattle.std.proofs.Common.{length-append, ◌≡◌, ℕ, suc, ◌+◌, ◌*◌, ◌<◌, ◌≤◌, max, List, [], ◌∷◌, map, length, get_or, All, AllPairs, arith, refl, sym, ap, subst, ◌∙◌, ◌==◌, cond, inl, inr, ◌+ℤ◌}
+use Rattle.sf_place.proofs.Common.{count_by, Contains, slice_set, pos, nat_abs, sum_by, AllByRecursion, range_with_len, nat_tests, ints, Spot, Tree, Leaf, Beside, Above, width, height, leaves, leaf_count, spots_at, spots_of, Overlaps, IsInside, spot_of, pin_x, pin_y, net_wire, weighed_wire, wire, spread, IsByNumber, by_number, with_spots, AreLegal, IsListed, LiesIn, zero, cases_lt, get_or-set_same, get_or-set_other, length-set, sum_by-append, sum_by-cons, Design, IsLegal, Fits, block_count, shapes_of, HasEachOnce, right_end, upper_end, cost, spots_cost, each-append, each-weaker, each-left, each-right, EachPair}
 use Rattle.std.proofs.lemmas.List.Elements.{recursion_from_All}
 use Rattle.std.proofs.lemmas.List.FromFn.{fill_by_all, length-map-range_with_len, get_or-map-range_with_len}
-use Rattle.sf_model.specs.declared.design.Design.{Design}
 use Rattle.sf_model.specs.declared.parts.Net.{Net}
 use Rattle.sf_model.specs.declared.parts.Pin.{Pin}
 use Rattle.sf_model.specs.declared.parts.Shape.{Shape}
-use Rattle.sf_model.specs.Legal.{IsLegal, Fits, block_count, shapes_of}
-use Rattle.sf_model.specs.Tree.{HasEachOnce}
-use Rattle.sf_model.specs.Cost.{right_end, upper_end, cost, spots_cost}
-use Rattle.sf_model.proofs.Each.{each-append, each-weaker, each-left, each-right, EachPair}
 use Rattle.sf_model.proofs.Places.{spots-inside, spots-apart}
 use Rattle.sf_model.proofs.Ends.{right_end-spots_of, upper_end-spots_of}
 use Rattle.sf_model.proofs.Counting.{length-leaves_once}

@@ -1,9 +1,6 @@
 -- The spot that a list has for a block.
 use Rattle.std.proofs.Common.{max, ◌≡◌, ℕ, ◌+◌, ◌≤◌, List, [], ◌∷◌, arith, refl, ◌==◌, cond}
-use Rattle.sf_place.proofs.Common.{count_by, AllByRecursion, nat_tests, Spot, spot_of}
-use Rattle.std.proofs.lemmas.Bool.{cond_both}
-use Rattle.std.proofs.lemmas.List.Sums.{sum_by-cons}
-use Rattle.sf_model.proofs.Each.{EachPair}
+use Rattle.sf_place.proofs.Common.{count_by, AllByRecursion, nat_tests, Spot, spot_of, cond_both, sum_by-cons, EachPair}
 
 -- how many spots of the list are of the block
 abbrev pub count : ℕ → List Spot → ℕ

@@ -1,7 +1,6 @@
 -- In a list by number, the spot at a place is the spot of the block of that number.
 use Rattle.std.proofs.Common.{All, AllPairs, ◌≡◌, ℕ, suc, ◌+◌, ◌<◌, List, [], ◌∷◌, map, length, get_or, ap, sym, subst, ◌∙◌, arith}
-use Prim.Native.Nat.{zero}
-use Rattle.sf_place.proofs.Common.{range_with_len, nat_tests, Spot, spot_of, Overlaps, IsByNumber, OverlapsNoLater}
+use Rattle.sf_place.proofs.Common.{range_with_len, nat_tests, Spot, spot_of, Overlaps, IsByNumber, OverlapsNoLater, zero}
 use Rattle.sf_place.proofs.Found.{block-spot_of}
 
 -- in spots of blocks a, a + 1 and so on each block is found at its place

@@ -1,7 +1,6 @@
 -- Spots by number have one verdict.
 use Rattle.std.proofs.Common.{◌≡◌, ℕ, ◌<◌, List, All, ap, ◌∙◌, refl, subst, arith}
-use Rattle.sf_model.specs.declared.design.Design.{Design}
-use Rattle.sf_place.proofs.Common.{Spot, IsByNumber, IsFirstOverlapping, IsFirstWithout, IsLeastPair, IsListed, IsVerdict, LiesIn}
+use Rattle.sf_place.proofs.Common.{Spot, IsByNumber, IsFirstOverlapping, IsFirstWithout, IsLeastPair, IsListed, IsVerdict, LiesIn, Design}
 use Rattle.sf_place.specs.declared.verdict.Verdict.{Verdict}
 use Rattle.sf_place.specs.declared.verdict.Verdict.TheVariants as verdict
 use Rattle.sf_place.proofs.Legality.{none_without, none_over}

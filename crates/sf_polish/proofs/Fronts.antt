@@ -1,10 +1,7 @@
 -- A front is what a normal expression begins with: with the blocks that are missing and operators behind them it becomes one.
-use Rattle.std.proofs.Common.{◌≡◌, ◌≢◌, ℕ, zero, suc, ◌+◌, ◌-◌, ◌*◌, ◌<◌, ◌≤◌, Bool, true, false, not, ◌&&◌, cond, List, [], ◌∷◌, ◌++◌, length, append_assoc, append-nil, arith, refl, ap, sym, subst, ◌∙◌, inl, inr}
-use Rattle.std.specs.Prelude.{◌==◌}
-use Rattle.sf_polish.proofs.Common.{count_by, list_all, range_with_len, cases_lt, eqb_tells, nat_tests, All-from_recursion, recursion_from_All, sum_by-append, length-at_most_once, each-left, Token, is_block, is_operand, is_outside, same_operator, last_or, ends_in, operands, operators, IsBallot, IsNormal, is_named}
-use Rattle.std.proofs.Math.Seq.{take-length}
+use Rattle.std.proofs.Common.{◌≡◌, ◌≢◌, ℕ, zero, suc, ◌+◌, ◌-◌, ◌*◌, ◌<◌, ◌≤◌, Bool, true, false, not, ◌&&◌, cond, List, [], ◌∷◌, ◌++◌, length, append_assoc, append-nil, arith, refl, ap, sym, subst, ◌∙◌, inl, inr, ◌==◌}
+use Rattle.sf_polish.proofs.Common.{count_by, list_all, range_with_len, cases_lt, eqb_tells, nat_tests, All-from_recursion, recursion_from_All, sum_by-append, length-at_most_once, each-left, Token, is_block, is_operand, is_outside, same_operator, last_or, ends_in, operands, operators, IsBallot, IsNormal, is_named, take-length, IsFront}
 use Rattle.sf_polish.specs.declared.expr.Token.TheVariants as token
-use Rattle.sf_polish.specs.Refused.{IsFront}
 use Rattle.sf_polish.proofs.Normality.{Reads-first, Reads-ballot, alternates, first-free, reads-from, numbers, length-numbers, count-numbers, numbers-below, both-kinds, normal-reads}
 use Rattle.sf_polish.proofs.SoFar.{IsFaultless, front-block, front-beside, front-above, front-normal, all-named, uncounted-outside}
 use Rattle.sf_polish.proofs.Stack.{Reads-split, Reads-counts, Alternating-before}

@@ -1,8 +1,6 @@
 -- Flags that say for each block whether it is among the tokens.
-use Rattle.std.proofs.Common.{◌≡◌, ℕ, ◌+◌, ◌<◌, Bool, true, false, List, [], ◌∷◌, ◌++◌, length, get_or, map, arith, refl, ap, sym, ◌∙◌, inl, inr}
-use Rattle.std.specs.Prelude.{◌==◌, ◌≢◌}
-use Rattle.sf_polish.proofs.Common.{slice_set, replicate, Ok, Err, list_all, range_with_len, eqb_tells, get_or-set_same, get_or-set_other, length-set, get_or-replicate, length-replicate, Token, MissingBlock, NotBallot, is_block, operands, operators, is_named, whole_tokens}
-use Rattle.std.proofs.lemmas.List.Folds.{list_any-append, list_all-map}
+use Rattle.std.proofs.Common.{◌≡◌, ℕ, ◌+◌, ◌<◌, Bool, true, false, List, [], ◌∷◌, ◌++◌, length, get_or, map, arith, refl, ap, sym, ◌∙◌, inl, inr, ◌==◌, ◌≢◌}
+use Rattle.sf_polish.proofs.Common.{slice_set, replicate, Ok, Err, list_all, range_with_len, eqb_tells, get_or-set_same, get_or-set_other, length-set, get_or-replicate, length-replicate, Token, MissingBlock, NotBallot, is_block, operands, operators, is_named, whole_tokens, list_any-append, list_all-map}
 use Rattle.std.proofs.lemmas.List.FromFn.{fill_by_all, get_or-map-range_with_len}
 use Rattle.std.proofs.Math.Bool.{or-true, or-false}
 use Rattle.sf_polish.specs.declared.expr.Token.TheVariants as token

@@ -1,10 +1,8 @@
 -- A text that is refused stops being that of a normal expression where its fault says so.
-use Rattle.std.proofs.Common.{◌≡◌, ℕ, ◌+◌, ◌<◌, ◌^◌, Bool, true, false, not, cond, List, [], ◌∷◌, ◌++◌, Option, Some, None, Result, Ok, Err, append_assoc, append-nil, arith, refl, ap, sym, subst, ◌∙◌, ◌⊎◌, inl, inr}
-use Rattle.std.specs.Prelude.{◌==◌}
-use Rattle.sf_polish.proofs.Common.{nat_le, AllZip, list_all, range_with_len, eqb_tells, leb_tells, option_map, LineWord, line_words, last_line_of, Shape, Token, ExprFault, BadToken, NotBallot, NotNormal, RepeatedBlock, MissingBlock, NoMemory, Piece, is_operand, is_outside, ends_in, operands, operators, is_named, operator_after, token_after, whole_tokens, tokens_from, tokens_read, expr_read, expr_of_parts, Fails, ◌>>=◌, token_of, token_in, piece_in, shaped_token_in}
+use Rattle.std.proofs.Common.{◌≡◌, ℕ, ◌+◌, ◌<◌, ◌^◌, Bool, true, false, not, cond, List, [], ◌∷◌, ◌++◌, Option, Some, None, Result, Ok, Err, append_assoc, append-nil, arith, refl, ap, sym, subst, ◌∙◌, ◌⊎◌, inl, inr, ◌==◌}
+use Rattle.sf_polish.proofs.Common.{nat_le, AllZip, list_all, range_with_len, eqb_tells, leb_tells, option_map, LineWord, line_words, last_line_of, Shape, Token, ExprFault, BadToken, NotBallot, NotNormal, RepeatedBlock, MissingBlock, NoMemory, Piece, is_operand, is_outside, ends_in, operands, operators, is_named, operator_after, token_after, whole_tokens, tokens_from, tokens_read, expr_read, expr_of_parts, Fails, ◌>>=◌, token_of, token_in, piece_in, shaped_token_in, WritesToken, WritesShaped, IsWordFault, IsEndFault, IsFaultAt, GoesWrong}
 use Rattle.sf_polish.specs.declared.expr.Token.TheVariants as token
 use Rattle.sf_polish.specs.declared.word.Piece.TheVariants as piece
-use Rattle.sf_polish.specs.Refused.{WritesToken, WritesShaped, IsWordFault, IsEndFault, IsFaultAt, GoesWrong}
 use Rattle.sf_polish.proofs.Fronts.{faultless-front, missing}
 use Rattle.sf_polish.proofs.ReadSteps.{tokens-step, tokens-end}
 use Rattle.sf_polish.proofs.SoFar.{IsFaultless, front-start, front-next, all-named}

@@ -1,11 +1,7 @@
 -- The words of an expression's text are those that were written.
 use Rattle.std.proofs.Common.{◌≡◌, ℕ, ◌^◌, ◌<◌, true, false, not, List, [], ◌∷◌, ◌++◌, length, arith, refl, ap, ◌∙◌, length-append, append-nil}
-use Rattle.sf_polish.proofs.Common.{map, decimal, AllByRecursion, join_with_byte, nat_tests, length-map, recursion_from_All, not-true, and_parts, LineWord, numbered, words_of_line, words_of_lines, Expr, Token, is_outside, shape_at, no_shape, shaped_text, expr_words, expr_text, spelled_words, IsWritable, SpellsExpr}
-use Rattle.std.proofs.lemmas.List.Folds.{list_all-append}
-use Rattle.sf_lex.specs.Number.{is_digit}
-use Rattle.sf_lex.specs.Text.{lines, words, is_blank_byte, is_line_feed, has_none}
+use Rattle.sf_polish.proofs.Common.{map, decimal, AllByRecursion, join_with_byte, nat_tests, length-map, recursion_from_All, not-true, and_parts, LineWord, numbered, words_of_line, words_of_lines, Expr, Token, is_outside, shape_at, no_shape, shaped_text, expr_words, expr_text, spelled_words, IsWritable, SpellsExpr, list_all-append, is_digit, lines, words, is_blank_byte, is_line_feed, has_none, digits_written}
 use Rattle.sf_lex.proofs.Spelled.{words-written, words-last}
-use Rattle.sf_lex.proofs.WrittenNumbers.{digits_written}
 use Rattle.sf_polish.specs.declared.expr.Token.TheVariants as token
 use Rattle.sf_polish.proofs.WordTexts.{all-weaker, below}
 

@@ -1,8 +1,7 @@
 -- A plan with the same leaves, size and spots is as legal, fits as well and costs the same.
 use Rattle.std.proofs.Common.{◌≡◌, ◌<◌, All, arith, ap, sym, subst, ◌∙◌, ◌==◌}
-use Rattle.sf_polish.proofs.Common.{count_by, Contains, Tree, leaves, width, height, spots_of, IsLegal, Fits, block_count, shapes_of, IsSamePlace}
+use Rattle.sf_polish.proofs.Common.{count_by, Contains, Tree, leaves, width, height, spots_of, IsLegal, Fits, block_count, shapes_of, IsSamePlace, cost, weighed}
 use Rattle.sf_model.specs.declared.design.Design.{Design}
-use Rattle.sf_model.specs.Cost.{cost, weighed}
 
 -- a plan with the leaves of a legal one is legal
 pub same-legal : (design : Design) (s t : Tree) → leaves s ≡ leaves t → IsLegal design t → IsLegal design s

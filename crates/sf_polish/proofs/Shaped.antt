@@ -1,8 +1,6 @@
 -- A plan with each block once is spelled by its postfix and the shapes of its leaves.
-use Rattle.std.proofs.Common.{◌≡◌, ℕ, ◌+◌, ◌<◌, ◌≤◌, true, false, cond, List, [], ◌∷◌, ◌++◌, length, arith, refl, ap, sym, subst, ◌∙◌, inl, inr}
-use Rattle.std.specs.Prelude.{◌==◌, ◌≢◌}
-use Rattle.sf_polish.proofs.Common.{count_by, AllByRecursion, cases_lt, eqb_tells, ext_get_or, get_or-set_same, get_or-set_other, length-set, All-from_recursion, recursion_from_All, sum_by-cons, sum_by-append, Shape, HasEachOnce, Tree, Leaf, Beside, Above, leaves, HasBlocksBelow, each-append, each-left, each-right, Expr, Token, is_outside, IsNormal, postfix, shape_at, Spells, no_shape, with_leaves}
-use Rattle.sf_model.proofs.BlocksBelow.{once-below}
+use Rattle.std.proofs.Common.{◌≡◌, ℕ, ◌+◌, ◌<◌, ◌≤◌, true, false, cond, List, [], ◌∷◌, ◌++◌, length, arith, refl, ap, sym, subst, ◌∙◌, inl, inr, ◌==◌, ◌≢◌}
+use Rattle.sf_polish.proofs.Common.{count_by, AllByRecursion, cases_lt, eqb_tells, ext_get_or, get_or-set_same, get_or-set_other, length-set, All-from_recursion, recursion_from_All, sum_by-cons, sum_by-append, Shape, HasEachOnce, Tree, Leaf, Beside, Above, leaves, HasBlocksBelow, each-append, each-left, each-right, Expr, Token, is_outside, IsNormal, postfix, shape_at, Spells, no_shape, with_leaves, once-below}
 use Rattle.sf_polish.specs.declared.expr.Token.TheVariants as tokens
 use Rattle.sf_polish.proofs.Normality.{inside-number}
 use Rattle.sf_polish.proofs.Spelling.{HasShapes}

@@ -1,6 +1,5 @@
 -- Tokens that are read one after another without a fault are the front of normal tokens, and at the end they are normal.
-use Rattle.std.proofs.Common.{◌≡◌, ℕ, zero, suc, ◌+◌, ◌-◌, ◌<◌, ◌≤◌, Bool, true, false, cond, not, List, [], ◌∷◌, ◌++◌, Option, Some, None, Result, Ok, Err, append_assoc, append-nil, arith, refl, ap, sym, subst, ◌∙◌, inl, inr}
-use Rattle.std.specs.Prelude.{◌==◌, ◌||◌}
+use Rattle.std.proofs.Common.{◌≡◌, ℕ, zero, suc, ◌+◌, ◌-◌, ◌<◌, ◌≤◌, Bool, true, false, cond, not, List, [], ◌∷◌, ◌++◌, Option, Some, None, Result, Ok, Err, append_assoc, append-nil, arith, refl, ap, sym, subst, ◌∙◌, inl, inr, ◌==◌, ◌||◌}
 use Rattle.sf_polish.proofs.Common.{count_by, nat_le, map, AllByRecursion, list_all, range_with_len, eqb_tells, leb_tells, All-from_recursion, recursion_from_All, sum_by-cons, sum_by-append, cases_lt, and_parts, length-each_once, each-append, each-right, LineWord, Token, ExprFault, NotBallot, NotNormal, RepeatedBlock, MissingBlock, is_block, is_outside, same_operator, last_or, ends_in, operands, operators, IsNormal, is_named, operator_after, token_after, whole_tokens, tokens_from, ◌>>=◌}
 use Rattle.sf_polish.specs.declared.expr.Token.TheVariants as token
 use Rattle.sf_polish.proofs.Normality.{Reads-ballot, alternates, numbers, length-numbers, count-numbers, numbers-below, inside-number, both-kinds, normal-reads, first-free}

@@ -1,8 +1,7 @@
 -- The steps of reading tokens onto a list of plans, whose last is the top.
 use Rattle.std.proofs.Common.{◌≡◌, ℕ, suc, ◌+◌, ◌-◌, ◌<◌, ◌≤◌, List, [], ◌∷◌, ◌++◌, length, drop, get_or, length-append, arith, refl, ap, sym, subst, ◌∙◌}
-use Rattle.std.proofs.Math.Seq.{drop-cons}
 use Rattle.std.proofs.Math.ListN.{drop_of_length-le}
-use Rattle.sf_polish.proofs.Common.{Shape, Tree, Leaf, Beside, Above, tree_of, Token, shape_at, Expr, IsNormal}
+use Rattle.sf_polish.proofs.Common.{Shape, Tree, Leaf, Beside, Above, tree_of, Token, shape_at, Expr, IsNormal, drop-cons}
 use Rattle.sf_model.specs.declared.plan.Plan.{Plan}
 use Rattle.sf_polish.specs.declared.expr.Token.TheVariants as token
 use Rattle.sf_polish.proofs.Stack.{Reads}

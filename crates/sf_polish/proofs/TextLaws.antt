@@ -1,8 +1,6 @@
 -- What a text is read as is what its words spell, and the other way round.
-use Rattle.std.proofs.Common.{◌≡◌, ℕ, ◌^◌, ◌<◌, ◌≤◌, true, false, cond, List, [], ◌∷◌, ◌++◌, length, Option, Some, None, Result, Ok, Err, arith, refl, ap, sym, subst, ◌∙◌, inl, inr}
-use Rattle.std.specs.Prelude.{◌==◌}
-use Rattle.sf_polish.proofs.Common.{count_by, map, replicate, slice_set, decimal, AllByRecursion, option_map, eqb_tells, get_or-set_same, get_or-set_other, get_or_default, length-replicate, ext_get_or, recursion_from_All, LineWord, line_words, last_line_of, Shape, Expr, Token, ExprFault, Piece, is_block, is_outside, shape_at, is_named, tokens_from, shapes_with, shapes_from, tokens_read, expr_of_parts, expr_read, ◌>>=◌, no_shape, token_text, shape_text, shaped_text, IsWritable, SpellsTokens, SpellsExpr, token_in, piece_in, shaped_token_in, token_of}
-use Rattle.sf_model.specs.Limits.{IsSide}
+use Rattle.std.proofs.Common.{◌≡◌, ℕ, ◌^◌, ◌<◌, ◌≤◌, true, false, cond, List, [], ◌∷◌, ◌++◌, length, Option, Some, None, Result, Ok, Err, arith, refl, ap, sym, subst, ◌∙◌, inl, inr, ◌==◌}
+use Rattle.sf_polish.proofs.Common.{count_by, map, replicate, slice_set, decimal, AllByRecursion, option_map, eqb_tells, get_or-set_same, get_or-set_other, get_or_default, length-replicate, ext_get_or, recursion_from_All, LineWord, line_words, last_line_of, Shape, Expr, Token, ExprFault, Piece, is_block, is_outside, shape_at, is_named, tokens_from, shapes_with, shapes_from, tokens_read, expr_of_parts, expr_read, ◌>>=◌, no_shape, token_text, shape_text, shaped_text, IsWritable, SpellsTokens, SpellsExpr, token_in, piece_in, shaped_token_in, token_of, IsSide}
 use Rattle.sf_polish.specs.declared.expr.Token.TheVariants as token
 use Rattle.sf_polish.specs.declared.word.Piece.TheVariants as piece
 use Rattle.sf_polish.proofs.Fronts.{at-most-once}

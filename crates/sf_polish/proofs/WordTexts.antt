@@ -1,14 +1,9 @@
 -- What a word spells, and how that is written, correspond.
-use Rattle.std.proofs.Common.{◌≡◌, ℕ, suc, ◌+◌, ◌^◌, ◌<◌, ◌≤◌, Bool, true, false, cond, not, List, [], ◌∷◌, ◌++◌, length, get_or, Option, Some, None, arith, refl, ap, sym, subst, ◌∙◌, inl, inr, lit<}
-use Rattle.std.specs.Prelude.{◌==◌, ◌||◌, ◌&&◌}
-use Rattle.sf_polish.proofs.Common.{nat_lt, nat_le, decimal, list_all, position_or_len, before_first, after_first, option_map, nat_tests, eqb_tells, length-append, not-true, and_parts, Shape, Token, Piece, is_outside, shape_at, token_text, shape_text, is_byte, is_colon, is_times, when_is, block_in, side_in, shape_of_sides, shape_in, token_in, block_of_parts, piece_in, token_of}
+use Rattle.std.proofs.Common.{◌≡◌, ℕ, suc, ◌+◌, ◌^◌, ◌<◌, ◌≤◌, Bool, true, false, cond, not, List, [], ◌∷◌, ◌++◌, length, get_or, Option, Some, None, arith, refl, ap, sym, subst, ◌∙◌, inl, inr, lit<, ◌==◌, ◌||◌, ◌&&◌}
+use Rattle.sf_polish.proofs.Common.{nat_lt, nat_le, decimal, list_all, position_or_len, before_first, after_first, option_map, nat_tests, eqb_tells, length-append, not-true, and_parts, Shape, Token, Piece, is_outside, shape_at, token_text, shape_text, is_byte, is_colon, is_times, when_is, block_in, side_in, shape_of_sides, shape_in, token_in, block_of_parts, piece_in, token_of, is_digit, number_of, is_not_empty, has_none, digits_model, digits_written, plain_written, IsSide}
 use Rattle.std.proofs.lemmas.Fmt.{decimal-digits_value, decimal_nonempty}
 use Rattle.std.proofs.Math.Numerals.{one-add}
-use Rattle.sf_lex.specs.Number.{is_digit, number_of}
-use Rattle.sf_lex.specs.Text.{is_not_empty, has_none}
 use Rattle.sf_lex.specs.Whole.{is_plain, begins_with_zero, up_to, plain_read}
-use Rattle.sf_lex.proofs.WrittenNumbers.{digits_model, digits_written, plain_written}
-use Rattle.sf_model.specs.Limits.{IsSide}
 use Rattle.sf_polish.specs.declared.expr.Token.TheVariants as token
 use Rattle.sf_polish.specs.declared.word.Piece.TheVariants as piece
 

@@ -1,23 +1,14 @@
 -- Certificates judged for the design that takes their paths: each has one answer, which is Yes where it is valid.
-use Rattle.std.proofs.Common.{◌≡◌, ℕ, inl, inr, refl, ap, sym, subst, ◌∙◌, true, List, length, Option, Some, None, Result, Ok}
-use Rattle.std.specs.Prelude.{IfNone, IfOk, IfSome}
-use Rattle.sf_program.proofs.Common.{Block, Design, BoundsChoice, Cert, IsGood, block_count, chosen_part, chosen_value}
-use Rattle.sf_cert_text.specs.declared.fault.CertFault.{CertFault}
+use Rattle.std.proofs.Common.{◌≡◌, ℕ, inl, inr, refl, ap, sym, subst, ◌∙◌, true, List, length, Option, Some, None, Result, Ok, IfNone, IfOk, IfSome}
+use Rattle.sf_program.proofs.Common.{Block, Design, BoundsChoice, Cert, IsGood, block_count, chosen_part, chosen_value, CertFault, cert_read, breaks-one, takes-one, takes-paths, takes-unbroken, Breaks, Takes, Paths, Why, IsChosenAnswer, IsAnswerWithPaths, IsTextAnswer, IsGoodWithPaths}
 use Rattle.sf_certificate.specs.Said.{Said, said_by}
-use Rattle.sf_cert_text.specs.Reading.{cert_read}
 use Rattle.sf_checker.specs.Feeding.{IsAnswerTo}
-use Rattle.sf_known.proofs.Taken.{breaks-one, takes-one, takes-paths, takes-unbroken}
-use Rattle.sf_known.specs.Routed.{Breaks, Takes}
-use Rattle.sf_model.specs.declared.paths.Paths.{Paths}
 use Rattle.sf_checker.specs.declared.answer.Answer.{Answer}
 use Rattle.sf_checker.specs.declared.answer.Answer.TheVariants.{Yes, No}
-use Rattle.sf_checker.specs.declared.answer.Why.{Why}
 use Rattle.sf_checker.specs.declared.answer.Why.TheVariants.{BadPlan, CostDiffers, NotClosed, BoundDiffers, BadSplit, BadChildren, BadPath}
 use Rattle.sf_checker.specs.Answers.{IsAnswer, is_yes, with_bad_path}
 use Rattle.sf_checker.proofs.Answered.{answered}
 use Rattle.sf_checker.proofs.OneAnswer.{one-answer}
-use Rattle.sf_program.specs.Checked.{IsChosenAnswer, IsAnswerWithPaths, IsTextAnswer}
-use Rattle.sf_program.specs.Resumed.{IsGoodWithPaths}
 
 -- where a path is not legal the answer is No
 broken-no : (n : ℕ) (found : Answer) → is_yes (with_bad_path n found) ≡ true → ⊥

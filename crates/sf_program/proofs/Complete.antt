@@ -1,8 +1,7 @@
 -- What every stage takes is answered, and not refused.
 use Rattle.std.proofs.Common.{◌≡◌, inl, inr, ℕ, Bool, true, false, List, Option, Some, Result, Err, refl, sym, ◌∙◌, subst}
-use Rattle.sf_program.proofs.Common.{IsFalse, Contents, Status, Done, NoneFits, Usage, Open, No, BadInput, OverLimit, ReadFault, WriteFault, NoMemory, Command, plan, check, resume, measure, shape, gen, Means, meaning_unique, Answers, CommandAnswer, CommandRefuses, IsAnswer, IsRefused, RefusesWords, CheckRead, GenRead, Answer, GivesOne, IsAnswerTo, Refusal, refused, lost, ResumeRead, ShapeRead, Stored}
+use Rattle.sf_program.proofs.Common.{IsFalse, Contents, Status, Done, NoneFits, Usage, Open, No, BadInput, OverLimit, ReadFault, WriteFault, NoMemory, Command, plan, check, resume, measure, shape, gen, Means, meaning_unique, Answers, CommandAnswer, CommandRefuses, IsAnswer, IsRefused, RefusesWords, CheckRead, GenRead, Answer, GivesOne, IsAnswerTo, Refusal, refused, lost, ResumeRead, ShapeRead, Stored, HasSearched}
 use Rattle.sf_program.specs.Complete.{EndsJudging, EndsResuming, HasValue, IsOwnEnd, IsTaken, MayEnd}
-use Rattle.sf_program.specs.Headline.{HasSearched}
 use Rattle.sf_measuring.specs.Measured as measured
 use Rattle.sf_program.specs.Planned as planned
 use Rattle.sf_program.proofs.Endings.{said-ends, judged-ends, checked-ends, taken-up-ends}

@@ -1,17 +1,9 @@
 -- A certificate that is read, and what is answered to it.
 use Rattle.std.proofs.Common.{◌≡◌, inl, inr, Bool, ℕ, ◌+◌, List, [], Option, Result, Ok, Err, IfOk, refl, ap, sym, subst, ◌∙◌}
-use Rattle.sf_program.proofs.Common.{IfErr, BoundsChoice, Contents, CountTested, Design, IsGoneOn, IsRejected, answer_status, answer_text, block_count, decided, Cert, ResumeOptions, resume, Stop, Stops, Ends, KnownRead, Judged, TextWithin, Obeys, cert_limit, cert_refusal, CertLoaded, IsTakenUp, ResumeRead, SumTested, stored_in}
-use Rattle.sf_certificate.specs.Said.{said_by}
-use Rattle.sf_cert_text.specs.Reading.{cert_read}
-use Rattle.sf_designs.specs.declared.work.Work.{Work}
-use Rattle.sf_designs.proofs.Stages.{stops-map}
+use Rattle.sf_program.proofs.Common.{IfErr, BoundsChoice, Contents, CountTested, Design, IsGoneOn, IsRejected, answer_status, answer_text, block_count, decided, Cert, ResumeOptions, resume, Stop, Stops, Ends, KnownRead, Judged, TextWithin, Obeys, cert_limit, cert_refusal, CertLoaded, IsTakenUp, ResumeRead, SumTested, stored_in, said_by, cert_read, Work, stops-map, Why, Takes, IsChosenAnswer, IsGoodWithPaths}
 use Rattle.sf_checker.specs.declared.answer.Answer.{Answer}
 use Rattle.sf_checker.specs.declared.answer.Answer.TheVariants.{No}
-use Rattle.sf_checker.specs.declared.answer.Why.{Why}
-use Rattle.sf_known.specs.Routed.{Takes}
 use Rattle.sf_program.proofs.ByChoice.{no-good}
-use Rattle.sf_program.specs.Checked.{IsChosenAnswer}
-use Rattle.sf_program.specs.Resumed.{IsGoodWithPaths}
 
 -- what a text says, or its first fault, is what the file of the text says
 pub cert-loaded : (is_long : Bool) (held : Option Contents) (name text said : List ℕ) (design : Design) → TextWithin (cert_limit is_long) held name (Ok text) → said ≡ text → (r : Result Cert Stop)

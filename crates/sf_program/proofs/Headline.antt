@@ -1,23 +1,13 @@
 -- An answer of `plan` says what the headline says.
 use Rattle.std.proofs.Common.{◌≡◌, inl, inr, Bool, true, false, ℕ, ◌+◌, ◌*◌, ◌<◌, ◌≤◌, MatchOption, List, length, Option, Some, None, Result, Ok, refl, sym, ap, subst, ◌∙◌, arith}
-use Rattle.sf_program.proofs.Common.{BoundsChoice, nat_lt, nat_tests, Contents, Status, Done, NoneFits, Usage, Open, No, BadInput, OverLimit, ReadFault, WriteFault, NoMemory, Block, Design, Spot, block_count, cost, IsFloor, width, height, spots_of, wire, Expr, spells-one, Cert, HasCost, decided, Outcome, Command, GenOptions, Means, PlanOptions, ResumeOptions, gen, plan, resume, meaning_unique, Answers, CommandAnswer, IsAnswer, IsDone, GenRead, cert_name, Refusal, IsRefusal, IsAnswered, IsEnding, IsReported, IsGood, AreMeasures, PlanRead, budget_of, outcome_status, AfterStores, Stored}
+use Rattle.sf_program.proofs.Common.{BoundsChoice, nat_lt, nat_tests, Contents, Status, Done, NoneFits, Usage, Open, No, BadInput, OverLimit, ReadFault, WriteFault, NoMemory, Block, Design, Spot, block_count, cost, IsFloor, width, height, spots_of, wire, Expr, spells-one, Cert, HasCost, decided, Outcome, Command, GenOptions, Means, PlanOptions, ResumeOptions, gen, plan, resume, meaning_unique, Answers, CommandAnswer, IsAnswer, IsDone, GenRead, cert_name, Refusal, IsRefusal, IsAnswered, IsEnding, IsReported, IsGood, AreMeasures, PlanRead, budget_of, outcome_status, AfterStores, Stored, full, full_open, Report, report_text, HasSearched, IsEnd, IsFinding, IsHeadline, IsHeadlineOn, IsPlanOf, first_line, IsRouted, as-it-was, takes-paths, Paths, HasPaths, Standard}
 use Rattle.std.specs.Io.{StartsWith}
 use Rattle.std.specs.Io.KnownBytes.{Appends}
 use Rattle.sf_model.specs.declared.TheConstants.{MAX}
 use Rattle.sf_model.proofs.Bounded.{floor-none}
-use Rattle.sf_node.specs.Full.{full}
-use Rattle.sf_resume.specs.Resumed.{full_open}
 use Rattle.sf_pl_writer.specs.declared.report.Outcome.TheVariants as word
-use Rattle.sf_pl_writer.specs.declared.report.Report.{Report}
-use Rattle.sf_pl_writer.specs.ReportText.{report_text}
-use Rattle.sf_program.specs.Headline.{HasSearched, IsEnd, IsFinding, IsHeadline, IsHeadlineOn, IsPlanOf, first_line}
 use Rattle.sf_program.specs.Planned.{IsTold}
-use Rattle.sf_known.specs.Routed.{IsRouted}
-use Rattle.sf_known.proofs.Taken.{as-it-was, takes-paths}
-use Rattle.sf_model.specs.declared.paths.Paths.{Paths}
-use Rattle.sf_model.specs.Routed.{HasPaths}
 use Rattle.sf_program.proofs.Routed.{finding-back, full-same, open-same}
-use Rattle.sf_words.specs.declared.command.BoundsChoice.TheVariants.{Standard}
 
 -- the report of a certificate, with what is measured of its plan
 abbrev report_of : Outcome → Cert → ℕ × ℕ → ℕ → ℕ → Option Expr → Report

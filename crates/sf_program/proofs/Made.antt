@@ -1,8 +1,6 @@
 -- Generated texts are never refused.
 use Rattle.std.proofs.Common.{◌≡◌, inl, inr, Result, Ok, Err, sym, subst, ◌∙◌}
-use Rattle.sf_program.proofs.Common.{IfErr, IfOk, Design, HasNoneFor, DesignOptions, WeightOptions, Stop, Refusal, Ends, IsFault, Stops, DesignMade, Judged, Said, WeighedParts}
-use Rattle.sf_model.specs.declared.fault.BuildFault.{BuildFault}
-use Rattle.sf_designs.proofs.Stages.{stops-map}
+use Rattle.sf_program.proofs.Common.{IfErr, IfOk, Design, HasNoneFor, DesignOptions, WeightOptions, Stop, Refusal, Ends, IsFault, Stops, DesignMade, Judged, Said, WeighedParts, BuildFault, stops-map}
 
 module _ {X F : Type 0} (first : Result X F) (refusal : F → Refusal) (out : X) (read : first ≡ Ok out) where
   -- what reads as a value has no fault

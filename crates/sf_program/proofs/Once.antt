@@ -1,7 +1,6 @@
 -- Stages that give one value or one refusal, one after another.
-use Rattle.std.proofs.Common.{◌≡◌, inl, inr, ℕ, List, length, Option, Some, None, Result, Ok, Err, refl, sym, ap, subst, ◌∙◌, arith}
+use Rattle.std.proofs.Common.{◌≡◌, inl, inr, ℕ, List, length, Option, Some, None, Result, Ok, Err, refl, sym, ap, subst, ◌∙◌, arith, ◌^◌}
 use Rattle.sf_program.proofs.Common.{Bool, IsTrue, Contents, HoldsMore, Design, Refusal, refused, lost, Then, AtMostOne, GivesOne, IsSaid, IsTold, IfNamed, Judged, Said, TextRead, TextWithin, With}
-use Rattle.std.specs.Prelude.{◌^◌}
 
 -- what is so of one thing at most is so on each shelf
 pub once : {any : Bool} {X : Type 0} (P : Result X Refusal → Type 0) → AtMostOne P → GivesOne any P

@@ -1,24 +1,17 @@
 -- The commands that search nothing have one answer each.
 use Rattle.std.proofs.Common.{◌≡◌, inl, inr, ℕ, ◌+◌, suc, List, [], ◌∷◌, ◌++◌, map, length, Option, Some, None, Result, Ok, Err, refl, sym, ap, subst, ◌∙◌, arith}
-use Rattle.sf_program.proofs.Common.{Bool, codes, flat_map, range_with_len, Contents, Design, Block, Spot, block_count, root, IsRootCurve, ◌>>=◌, Place, IsByNumber, IsVerdict, BoundsChoice, chosen_part, Cert, cert_text, AreTrees, CheckOptions, MeasureOptions, ShapeOptions, CertRead, CheckRead, IsChecked, IsJudged, IsRenamed, IsRewritten, JudgedFile, answer_status, answer_text, cert_limit, cert_refusal, IsMeasured, MeasureRead, SpotsPlaced, SpotsRead, lines_named, sized_spot, spot_said, spots_said, verdict_status, verdict_text, Answer, AtMostOne, GivesOne, Refusal, DesignRead, KnownRead, Judged, PlacesRead, Said, TextRead, TextWithin, With, Stored, IsCurveText, IsLeast, IsShaped, ShapeRead, TokensRead, areas_alone, expr_refusal, least_line, point_line}
-use Rattle.sf_model.specs.declared.parts.Shape.{Shape}
+use Rattle.sf_program.proofs.Common.{Bool, codes, flat_map, range_with_len, Contents, Design, Block, Spot, block_count, root, IsRootCurve, ◌>>=◌, Place, IsByNumber, IsVerdict, BoundsChoice, chosen_part, Cert, cert_text, AreTrees, CheckOptions, MeasureOptions, ShapeOptions, CertRead, CheckRead, IsChecked, IsJudged, IsRenamed, IsRewritten, JudgedFile, answer_status, answer_text, cert_limit, cert_refusal, IsMeasured, MeasureRead, SpotsPlaced, SpotsRead, lines_named, sized_spot, spot_said, spots_said, verdict_status, verdict_text, Answer, AtMostOne, GivesOne, Refusal, DesignRead, KnownRead, Judged, PlacesRead, Said, TextRead, TextWithin, With, Stored, IsCurveText, IsLeast, IsShaped, ShapeRead, TokensRead, areas_alone, expr_refusal, least_line, point_line, Shape, SpellsTokens, AllNameFirst, unnamed, cert_read, takes-one, IsChosenAnswer, IsGoodWithPaths}
 use Rattle.sf_polish.specs.declared.expr.Token.{Token}
 use Rattle.sf_polish.specs.Reading.{tokens_read}
-use Rattle.sf_polish.specs.Text.{SpellsTokens}
 use Rattle.sf_polish.proofs.TextLaws.{spelled-tokens}
 use Rattle.sf_curves.proofs.OneTrace.{one-curve, one-least}
 use Rattle.sf_place.proofs.OneVerdict.{one-verdict}
 use Rattle.sf_certificate.specs.declared.tag.Tag.{Tag}
-use Rattle.sf_certificate.specs.Named.{AllNameFirst, unnamed}
 use Rattle.sf_certificate.specs.Said.{Said as CertSaid, said_by}
-use Rattle.sf_cert_text.specs.Reading.{cert_read}
 use Rattle.sf_certificate.proofs.OneCert.{same-cert}
 use Rattle.sf_checker.specs.declared.answer.Answer.{Answer as Checked}
 use Rattle.sf_checker.specs.declared.answer.Answer.TheVariants.{Yes, No}
-use Rattle.sf_known.proofs.Taken.{takes-one}
 use Rattle.sf_program.proofs.ByChoice.{chosen-one, yes-good}
-use Rattle.sf_program.specs.Checked.{IsChosenAnswer}
-use Rattle.sf_program.specs.Resumed.{IsGoodWithPaths}
 use Rattle.sf_program.proofs.Once.{once, then-one, said-one, judged-one, text-one, within-one, with-one, same-value}
 use Rattle.sf_program.proofs.OneKnown.{known-one}
 use Rattle.sf_program.proofs.OneDesign.{design-one, places-one}

@@ -1,18 +1,10 @@
 -- The texts stand for one design, or are refused for one reason.
-use Rattle.std.proofs.Common.{◌≡◌, ◌≤◌, inl, inr, ℕ, suc, List, [], ◌∷◌, map, length, Option, Some, None, Result, Ok, Err, refl, sym, ap, subst, ◌∙◌, arith}
-use Rattle.sf_program.proofs.Common.{Bool, codes, Contents, Design, Block, Parts, AreListsOf, GsrcBlocks, GsrcNets, GsrcPlaces, places_read, PlacesStandFor, first_twice, joined, names_of, nets_in, numbered, placed_once, placed_parts, unplaced_parts, Input, gsrc, yal, DesignOptions, PlanOptions, WeightOptions, AtMostOne, GivesOne, HasBlocksOf, Refusal, Then, BudgetTested, BudgetedDesign, CountTested, budget_of, PlanDesign, Admitted, BlocksRead, Built, DesignMade, DesignRead, GsrcRead, IfNamed, JoinedRead, Judged, ListsMade, NetsRead, PartsAdmitted, PartsRead, PlacesRead, Said, TextRead, Weighed, WeightsRead, YalRead, YalWeighed, outline_of, weights_of, build_refusal, gsrc_refusal, join_refusal, weight_refusal, yal_refusal, WeighedParts}
-use Rattle.std.specs.List.{All}
-use Rattle.std.specs.Option.{option_map}
+use Rattle.std.proofs.Common.{◌≡◌, ◌≤◌, inl, inr, ℕ, suc, List, [], ◌∷◌, map, length, Option, Some, None, Result, Ok, Err, refl, sym, ap, subst, ◌∙◌, arith, All, option_map}
+use Rattle.sf_program.proofs.Common.{Bool, codes, Contents, Design, Block, Parts, AreListsOf, GsrcBlocks, GsrcNets, GsrcPlaces, places_read, PlacesStandFor, first_twice, joined, names_of, nets_in, numbered, placed_once, placed_parts, unplaced_parts, Input, gsrc, yal, DesignOptions, PlanOptions, WeightOptions, AtMostOne, GivesOne, HasBlocksOf, Refusal, Then, BudgetTested, BudgetedDesign, CountTested, budget_of, PlanDesign, Admitted, BlocksRead, Built, DesignMade, DesignRead, GsrcRead, IfNamed, JoinedRead, Judged, ListsMade, NetsRead, PartsAdmitted, PartsRead, PlacesRead, Said, TextRead, Weighed, WeightsRead, YalRead, YalWeighed, outline_of, weights_of, build_refusal, gsrc_refusal, join_refusal, weight_refusal, yal_refusal, WeighedParts, Shape, RawBlock, StandsFor, blocks_read, nets_read, NetsStandFor, PlacedRead, WeighedRead, WiredRead}
 use Rattle.sf_model.specs.declared.fault.BuildFault.TheVariants.{NoShape}
-use Rattle.sf_model.specs.declared.parts.Shape.{Shape}
-use Rattle.sf_model.specs.declared.raw.RawBlock.{RawBlock}
 use Rattle.sf_model.specs.Built.{design_blocks, first_shapeless}
 use Rattle.sf_model.proofs.Determined.{determined}
 use Rattle.sf_soft_shapes.proofs.Determined.{all-lists, one-fault, fault-empty}
-use Rattle.sf_gsrc.specs.Standing.{StandsFor}
-use Rattle.sf_gsrc.specs.Blocks.{blocks_read}
-use Rattle.sf_gsrc.specs.Nets.{nets_read}
-use Rattle.sf_gsrc.specs.NetsStanding.{NetsStandFor}
 use Rattle.sf_gsrc.specs.Weights.{weights_read, WeightsStandFor}
 use Rattle.sf_gsrc.proofs.StandingLaws as block_laws
 use Rattle.sf_gsrc.proofs.NetLaws as net_laws
@@ -21,7 +13,6 @@ use Rattle.sf_gsrc.proofs.WeightLaws as weight_laws
 use Rattle.sf_yal.specs.Standing as yals
 use Rattle.sf_yal.specs.Parts.{yal_read}
 use Rattle.sf_yal.proofs.Standing as yal_laws
-use Rattle.sf_designs.proofs.Stages.{PlacedRead, WeighedRead, WiredRead}
 use Rattle.sf_program.proofs.Once.{once, then-one, said-one, judged-one, text-one, named-one, same-value}
 
 -- ---- the parts

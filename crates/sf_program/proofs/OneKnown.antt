@@ -1,9 +1,7 @@
 -- What a design knows is one thing, and changes no block.
 use Rattle.std.proofs.Common.{◌≡◌, inl, inr, List, map, length, Some, Ok, Err, ap, ◌∙◌}
-use Rattle.sf_program.proofs.Common.{Contents, Design, Block, DesignOptions, PlanOptions, WeightOptions, AtMostOne, GivesOne, HasBlocksOf, PlanDesign, PlanRead, DesignRead, PartsRead, KnownRead, MadeKnown, WeighedParts}
-use Rattle.sf_model.specs.declared.raw.RawBlock.{RawBlock}
+use Rattle.sf_program.proofs.Common.{Contents, Design, Block, DesignOptions, PlanOptions, WeightOptions, AtMostOne, GivesOne, HasBlocksOf, PlanDesign, PlanRead, DesignRead, PartsRead, KnownRead, MadeKnown, WeighedParts, RawBlock, BoundsChoice}
 use Rattle.sf_known.proofs.OneKnown.{knows-one, known-blocks}
-use Rattle.sf_words.specs.declared.command.BoundsChoice.{BoundsChoice}
 use Rattle.sf_program.proofs.Once.{once, then-one}
 use Rattle.sf_program.proofs.OneDesign.{design-one, designed-one, designed-blocks}
 

@@ -1,7 +1,6 @@
 -- What `resume` reads is one design and one certificate, or is refused for one reason.
 use Rattle.std.proofs.Common.{Bool, ℕ, ◌+◌, List, Some, Ok, Err, ap, sym, ◌∙◌, arith}
-use Rattle.sf_program.proofs.Common.{BoundsChoice, Contents, Design, block_count, Cert, decided, ResumeOptions, AtMostOne, GivesOne, Refusal, KnownRead, With, CertLoaded, CertRead, CertTaken, CountTested, ResumeRead, SumTested}
-use Rattle.sf_certificate.specs.Said.{said_by}
+use Rattle.sf_program.proofs.Common.{BoundsChoice, Contents, Design, block_count, Cert, decided, ResumeOptions, AtMostOne, GivesOne, Refusal, KnownRead, With, CertLoaded, CertRead, CertTaken, CountTested, ResumeRead, SumTested, said_by}
 use Rattle.sf_program.proofs.Once.{no-refusal, once, same-refusal, same-value, then-one, with-one}
 use Rattle.sf_program.proofs.OneChecked.{cert-one, said-cert}
 use Rattle.sf_program.proofs.OneKnown.{known-one}

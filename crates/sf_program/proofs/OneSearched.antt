@@ -1,14 +1,10 @@
 -- A search by one worker has one answer, where its certificate is the only one.
 use Rattle.std.proofs.Common.{◌≡◌, inl, ℕ, ◌*◌, Bool, false, List, [], ◌∷◌, ◌++◌, length, Option, Some, None, Ok, Err, refl, sym, ap, subst, ◌∙◌, arith}
-use Rattle.sf_program.proofs.Common.{Contents, Design, Spot, block_count, Tree, width, height, spots_of, wire, Expr, spells-one, by_number, Cert, decided, cert_text, Outcome, GenOptions, PlanOptions, DesignGenerated, GenRead, IsGenerated, by_default, both_weights, cert_name, parts_made, texts_stored, Answer, AtMostOne, GivesOne, BudgetTested, IsAnswered, IsEnding, AreMeasures, IsPlanned, IsReported, IsSearched, PlanRead, budget_of, outcome_status, placement_stores, Stored, alike}
+use Rattle.sf_program.proofs.Common.{Contents, Design, Spot, block_count, Tree, width, height, spots_of, wire, Expr, spells-one, by_number, Cert, decided, cert_text, Outcome, GenOptions, PlanOptions, DesignGenerated, GenRead, IsGenerated, by_default, both_weights, cert_name, parts_made, texts_stored, Answer, AtMostOne, GivesOne, BudgetTested, IsAnswered, IsEnding, AreMeasures, IsPlanned, IsReported, IsSearched, PlanRead, budget_of, outcome_status, placement_stores, Stored, alike, BoundsChoice, Standard, Strong, Pair, Fit, Both, IsRouted, report_text}
 use Rattle.sf_anneal.specs.Starts.{IsImprovedStarts, first_least}
-use Rattle.sf_words.specs.declared.command.BoundsChoice.{BoundsChoice}
-use Rattle.sf_words.specs.declared.command.BoundsChoice.TheVariants.{Standard, Strong, Pair, Fit, Both}
 use Rattle.sf_known.specs.Known.{IsKnownBy, cheaper}
 use Rattle.sf_known.specs.Initial.{IsInitialPlan}
-use Rattle.sf_known.specs.Routed.{IsRouted}
 use Rattle.sf_pl_writer.specs.declared.report.Outcome.TheVariants as word
-use Rattle.sf_pl_writer.specs.ReportText.{report_text}
 use Rattle.sf_program.specs.Planned.{IsTold}
 use Rattle.sf_program.proofs.Once.{once, then-one, same-value}
 use Rattle.sf_program.proofs.OneKnown.{plan-one}

@@ -1,17 +1,9 @@
 -- A text that is fed in pieces: its answer, and what its fault says.
 use Rattle.std.proofs.Common.{◌≡◌, inl, ℕ, List, [], ◌∷◌, length, arith, refl, subst, sym, Option, None, Result, Ok, Err, IfOk, Bool}
-use Rattle.sf_program.proofs.Common.{IfErr, Contents, Design, block_count, BoundsChoice, chosen_part, CheckOptions, Command, check, Stop, Refuses, Stops, KnownRead, Judged, TextWithin, Cert, cert_text, CommandRefuses, IsOwnAnswer, Obeys, CertRead, CheckRead, IsJudged, IsRewritten, IsStoredAnew, JudgedFile, JudgedText, answer_status, answer_text, cert_limit, cert_refusal, Stored, stored_in}
-use Rattle.sf_cert_text.specs.declared.fault.CertFault.{CertFault}
+use Rattle.sf_program.proofs.Common.{IfErr, Contents, Design, block_count, BoundsChoice, chosen_part, CheckOptions, Command, check, Stop, Refuses, Stops, KnownRead, Judged, TextWithin, Cert, cert_text, CommandRefuses, IsOwnAnswer, Obeys, CertRead, CheckRead, IsJudged, IsRewritten, IsStoredAnew, JudgedFile, JudgedText, answer_status, answer_text, cert_limit, cert_refusal, Stored, stored_in, CertFault, cert_read, Takes, IsChosenAnswer, IsTextAnswer, IsGood, Work, AllNameFirst, AreAlikeButNames, refused-stops, stops-map}
 use Rattle.sf_certificate.specs.Said.{Said, said_by}
-use Rattle.sf_cert_text.specs.Reading.{cert_read}
 use Rattle.sf_checker.specs.declared.answer.Answer.{Answer}
-use Rattle.sf_known.specs.Routed.{Takes}
 use Rattle.sf_program.proofs.ByChoice.{good-yes}
-use Rattle.sf_program.specs.Checked.{IsChosenAnswer, IsTextAnswer}
-use Rattle.sf_program.specs.Resumed.{IsGood}
-use Rattle.sf_designs.specs.declared.work.Work.{Work}
-use Rattle.sf_certificate.specs.Named.{AllNameFirst, AreAlikeButNames}
-use Rattle.sf_designs.proofs.Stages.{refused-stops, stops-map}
 
 -- a text of no length has no bytes
 pub no-bytes : (bytes : List ℕ) → length bytes ≡ 0 → bytes ≡ []

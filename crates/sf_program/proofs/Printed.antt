@@ -1,6 +1,6 @@
 -- The four lines for a valid certificate.
 use Rattle.std.proofs.Common.{◌≡◌, ◌++◌, ◌∷◌, [], List, ℕ, ap, ◌∙◌, sym, append_assoc, codes}
-use Rattle.sf_designs.specs.Refusals.{line_of}
+use Rattle.sf_program.proofs.Common.{line_of}
 
 -- a line that goes on after its last word
 goes-on : (word rest : List ℕ) → word ++ 10 ∷ rest ≡ (word ++ 10 ∷ []) ++ rest

@@ -1,24 +1,11 @@
 -- What was found of a design with paths is found of the design without them.
-use Rattle.std.proofs.Common.{◌≡◌, ℕ, zero, suc, ◌+◌, ◌*◌, ◌≤◌, Bool, List, [], ◌∷◌, length, map, Option, Some, None, refl, ap, sym, subst, ◌∙◌, MatchOption}
-use Rattle.std.specs.Prelude.{sum_by, ◌==◌, ◌&&◌, ◌||◌, not, if◌then◌else◌}
-use Rattle.std.specs.List.{list_all}
-use Rattle.sf_program.proofs.Common.{Block, Design, Expr, IsFloor, Status, Done, NoneFits, Usage, Open, No, BadInput, OverLimit, ReadFault, WriteFault, NoMemory, cost, root, spots_of}
+use Rattle.std.proofs.Common.{◌≡◌, ℕ, zero, suc, ◌+◌, ◌*◌, ◌≤◌, Bool, List, [], ◌∷◌, length, map, Option, Some, None, refl, ap, sym, subst, ◌∙◌, MatchOption, sum_by, ◌==◌, ◌&&◌, ◌||◌, not, if◌then◌else◌}
+use Rattle.sf_program.proofs.Common.{Block, Design, Expr, IsFloor, Status, Done, NoneFits, Usage, Open, No, BadInput, OverLimit, ReadFault, WriteFault, NoMemory, cost, root, spots_of, list_all, Paths, Fits, HasPaths, Tree, branches, full, full_below, is_complete, is_solved, is_wide, Cert, left_open, Report, full_open, IsEnd, IsFinding, IsPlanOf}
 use Rattle.sf_model.specs.declared.parts.Outline.{Outline}
 use Rattle.sf_model.specs.declared.parts.Weights.{Weights}
-use Rattle.sf_model.specs.declared.paths.Paths.{Paths}
-use Rattle.sf_model.specs.Legal.{Fits}
-use Rattle.sf_model.specs.Routed.{HasPaths}
-use Rattle.sf_model.specs.Tree.{Tree}
 use Rattle.sf_model.proofs.Floored.{cost-of, legal-routed, wire-same}
 use Rattle.sf_node.specs.Parts.{Parts}
-use Rattle.sf_node.specs.Full.{branches, full, full_below}
-use Rattle.sf_node.specs.Subproblem.{is_complete, is_solved, is_wide}
 use Rattle.sf_standard.proofs.Unmoved.{sum_by-same}
-use Rattle.sf_certificate.specs.declared.cert.Cert.{Cert}
-use Rattle.sf_certificate.specs.Valid.{left_open}
-use Rattle.sf_pl_writer.specs.declared.report.Report.{Report}
-use Rattle.sf_resume.specs.Resumed.{full_open}
-use Rattle.sf_program.specs.Headline.{IsEnd, IsFinding, IsPlanOf}
 
 -- how many subproblems there are at and below one
 abbrev full_of : Design → Parts → ℕ

@@ -1,18 +1,11 @@
 -- A search that begins with a plan, or with none.
-use Rattle.std.proofs.Common.{◌≡◌, ◌<◌, ◌≤◌, ℕ, Option, Some, None, Result, Ok, Err, IfOk, inl, inr, sym, subst, ◌∙◌}
-use Rattle.sf_program.proofs.Common.{Design, block_count, Expr, HasCost, decided}
+use Rattle.std.proofs.Common.{◌≡◌, ◌<◌, ◌≤◌, ℕ, Option, Some, None, Result, Ok, Err, IfOk, sym, subst, ◌∙◌, IfSome}
+use Rattle.sf_program.proofs.Common.{Design, block_count, Expr, HasCost, decided, Part, IsSearchedBy, IsWritable, opening, turns, IfOk-weaker}
 use Rattle.sf_node.specs.Parts.{Parts}
-use Rattle.sf_node.specs.declared.part.Part.{Part}
-use Rattle.sf_program.specs.Planned.{IsSearchedBy}
 use Rattle.sf_anneal.specs.Measured.{IsFloorplan}
-use Rattle.sf_polish.specs.Text.{IsWritable}
-use Rattle.sf_search_core.specs.Outcome.{opening}
 use Rattle.sf_rounds.specs.declared.found.Found.{Found}
 use Rattle.sf_search.specs.Found.{IsCertOf, IsFound}
-use Rattle.sf_search.specs.Turns.{turns}
 use Rattle.sf_rounds.proofs.Formed.{can-write}
-use Rattle.std.specs.Prelude.{IfSome}
-use Rattle.std.proofs.lemmas.Result.{IfOk-weaker}
 
 -- a floorplan costs what is said and can be written
 pub floorplan-costs : (design : Design) (expr : Expr) (z : ℕ) → IsFloorplan design expr z → HasCost design expr z × IsWritable (block_count design) expr

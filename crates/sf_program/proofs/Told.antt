@@ -1,9 +1,8 @@
 -- What is told of a search is its answer.
 use Rattle.std.proofs.Common.{◌≡◌, ◌≤◌, ℕ, List, [], ◌∷◌, map, Option, Result, Ok, Err, arith, subst}
-use Rattle.sf_program.proofs.Common.{IfOk, Design, root, Expr, Cert, least, left_open, BoundsChoice, chosen_value, chosen_part, Outcome, IsAnswered, IsEnding, IsReported, IsSearched, IsGood, IsGoneOn, IsSearchedOn, outcome_status, stored_in}
+use Rattle.sf_program.proofs.Common.{IfOk, Design, root, Expr, Cert, least, left_open, BoundsChoice, chosen_value, chosen_part, Outcome, IsAnswered, IsEnding, IsReported, IsSearched, IsGood, IsGoneOn, IsSearchedOn, outcome_status, stored_in, Work}
 use Rattle.sf_certificate.proofs.Floor.{certificate-floor}
 use Rattle.sf_program.proofs.ByChoice.{good-yes}
-use Rattle.sf_designs.specs.declared.work.Work.{Work}
 use Rattle.sf_program.specs.Planned.{IsTold}
 use Rattle.sf_program.proofs.ChosenLaws.{chosen-parts, chosen-sound}
 

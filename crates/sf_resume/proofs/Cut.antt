@@ -1,11 +1,7 @@
 -- A tree cut into runs of decided subproblems and stretches of open ones.
 use Rattle.std.proofs.Common.{◌≡◌, ◌≢◌, ℕ, ◌+◌, ◌-◌, ◌<◌, List, [], ◌∷◌, ◌++◌, length, map, take, drop, All, arith, refl, ap, sym, subst, ◌∙◌, true, false, append-nil}
-use Rattle.sf_resume.proofs.Common.{AllByRecursion, flat_map, All-append, All-cons, All-nil, recursion_from_All, Design, Parts, root, walk, behind, pending, Mark, Tag, Extend, Split, Closed, Open, made, marks, waiting_after, left_open, marks-then, trees-first, total, total-append, total-map, Piece, IsRead, marks_in, open_mark, told_by, Reading, IsApart, IsDecidedRun, IsOpenRun, AreTreesOf, IsReading, IsReadOn, opens}
-use Rattle.std.proofs.lemmas.List.Concat.{flat_map-append}
-use Rattle.sf_cursor.specs.declared.stretch.Stretch.{Stretch}
+use Rattle.sf_resume.proofs.Common.{AllByRecursion, flat_map, All-append, All-cons, All-nil, recursion_from_All, Design, Parts, root, walk, behind, pending, Mark, Tag, Extend, Split, Closed, Open, made, marks, waiting_after, left_open, marks-then, trees-first, total, total-append, total-map, Piece, IsRead, marks_in, open_mark, told_by, Reading, IsApart, IsDecidedRun, IsOpenRun, AreTreesOf, IsReading, IsReadOn, opens, flat_map-append, Stretch, marks-permute, Apart}
 use Rattle.sf_cursor.specs.Stretches.{IsStretch, waits}
-use Rattle.sf_pieces.proofs.Weights.{marks-permute}
-use Rattle.sf_resume.specs.declared.cutting.Apart.{Apart}
 use Rattle.sf_resume.proofs.Reached.{behind-cut}
 use Rattle.sf_resume.proofs.Readings.{read-end, read-shorter}
 

@@ -1,13 +1,7 @@
 -- What pieces name that name no part but the area.
 use Rattle.std.proofs.Common.{◌≡◌, ℕ, List, [], ◌∷◌, ◌++◌, All, arith, true, false, IsFalse}
-use Rattle.sf_resume.proofs.Common.{AllByRecursion, recursion_from_All, Design, Part, Parts, root, walk, pending, Mark, Tag, Extend, Split, Closed, Open, IsFair, made, marks, Piece, marks_in, told_by}
-use Rattle.std.proofs.lemmas.Bool.{le-leb}
-use Rattle.sf_node.proofs.Halves.{each-both}
+use Rattle.sf_resume.proofs.Common.{AllByRecursion, recursion_from_All, Design, Part, Parts, root, walk, pending, Mark, Tag, Extend, Split, Closed, Open, IsFair, made, marks, Piece, marks_in, told_by, le-leb, each-both, NamesFirst, is_late, each-flat_map, IsEarly}
 use Rattle.sf_node.specs.declared.part.Part.TheVariants.{Area, Range, Pair, Hull, Full}
-use Rattle.sf_certificate.specs.Named.{NamesFirst}
-use Rattle.sf_pieces.specs.Naming.{is_late}
-use Rattle.sf_pieces.proofs.Laid.{each-flat_map}
-use Rattle.sf_resume.specs.Early.{IsEarly}
 
 -- the area is the first part of all
 names-first : (part : Parts → Part → ℕ) (cost : ℕ) (tag : Tag) (node : Parts) → is_late tag ≡ false → IsFair part cost tag node → NamesFirst part cost tag node

@@ -1,15 +1,10 @@
 -- What a search decided that went on from open subproblems.
 use Rattle.std.proofs.Common.{◌≡◌, ℕ, suc, ◌+◌, ◌<◌, ◌≤◌, List, [], ◌∷◌, ◌++◌, length, map, arith, subst, inl, inr}
-use Rattle.sf_resume.proofs.Common.{zero, sum_by, AllByRecursion, flat_map, cases_lt, All-from_recursion, recursion_from_All, Design, each-any, each-append, each-left, each-weaker, Part, Parts, IsSubproblem, IsConserved, IsDecided, branched, children, Tag, Extend, Split, Closed, Open, IsFair, made, tag_of, AreTrees, decided, left_open, one_decided, made-deeper, made-subproblems, total}
-use Rattle.std.proofs.lemmas.List.Sorted.{All-permutation}
+use Rattle.sf_resume.proofs.Common.{zero, sum_by, AllByRecursion, flat_map, cases_lt, All-from_recursion, recursion_from_All, Design, each-any, each-append, each-left, each-weaker, Part, Parts, IsSubproblem, IsConserved, IsDecided, branched, children, Tag, Extend, Split, Closed, Open, IsFair, made, tag_of, AreTrees, decided, left_open, one_decided, made-deeper, made-subproblems, total, All-permutation, each-both, Entry, full_of, each-flat_map, each-unmap}
 use Rattle.sf_model.proofs.Each as each
-use Rattle.sf_node.proofs.Halves.{each-both}
-use Rattle.sf_search_core.specs.declared.entry.Entry.{Entry}
 use Rattle.sf_search_core.specs.declared.entry.Kind.{Kind}
 use Rattle.sf_count.specs.Few.{AllBranchFirst}
-use Rattle.sf_count.specs.Given.{full_of}
 use Rattle.sf_count.proofs.Given.{given-few}
-use Rattle.sf_pieces.proofs.Laid.{each-flat_map, each-unmap}
 
 -- ---- counts
 

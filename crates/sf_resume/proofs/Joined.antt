@@ -1,21 +1,10 @@
 -- Old pieces and new ones together hold one tree.
 use Rattle.std.proofs.Common.{◌≡◌, ℕ, ◌+◌, ◌≤◌, List, [], ◌∷◌, ◌++◌, map, All, arith, refl, ap, sym, subst, ◌∙◌, IsPermutation, Option}
-use Rattle.sf_resume.proofs.Common.{AllByRecursion, flat_map, All-append, All-from_recursion, recursion_from_All, Design, each-left, each-weaker, Expr, Part, Parts, root, children, Mark, Tag, Extend, Split, Closed, Open, IsFair, made, marks, AreTrees, IsValid, decided, least, left_open, one_decided, trees-first, total, total-append, total-flat_map, total-map, total-permutation, total-same, Piece, IsRead, marks_in, open_mark, told_by}
-use Rattle.std.proofs.lemmas.List.Concat.{flat_map-append}
-use Rattle.std.proofs.lemmas.List.Sorted.{All-permutation, IsPermutation-sym}
+use Rattle.sf_resume.proofs.Common.{AllByRecursion, flat_map, All-append, All-from_recursion, recursion_from_All, Design, each-left, each-weaker, Expr, Part, Parts, root, children, Mark, Tag, Extend, Split, Closed, Open, IsFair, made, marks, AreTrees, IsValid, decided, least, left_open, one_decided, trees-first, total, total-append, total-flat_map, total-map, total-permutation, total-same, Piece, IsRead, marks_in, open_mark, told_by, flat_map-append, All-permutation, IsPermutation-sym, Entry, Cert, AllNameFirst, AreAlikeButNames, NamesFirst, HoldTree, IsLaid, open_in, AreNamed, open-in-total, nodes-permute, IsEarly, CanGraft, IsGrafted}
 use Rattle.sf_node.specs.ByPart.{ArePartsOf}
-use Rattle.sf_search_core.specs.declared.entry.Entry.{Entry}
-use Rattle.sf_certificate.specs.declared.cert.Cert.{Cert}
-use Rattle.sf_certificate.specs.Named.{AllNameFirst, AreAlikeButNames, NamesFirst}
 use Rattle.sf_certificate.proofs.Merged.{decided-total, if_open, least-same, open-total}
 use Rattle.sf_certificate.proofs.Named.{unnamed-decided}
-use Rattle.sf_pieces.specs.Laid.{HoldTree, IsLaid, open_in}
-use Rattle.sf_pieces.specs.Naming.{AreNamed}
-use Rattle.sf_pieces.proofs.Laid.{open-in-total}
 use Rattle.sf_pieces.proofs.Searched.{all-first, all-read, decided-told, fair-named, kids-told, nodes-told, open-told}
-use Rattle.sf_pieces.proofs.Weights.{nodes-permute}
-use Rattle.sf_resume.specs.Early.{IsEarly}
-use Rattle.sf_resume.specs.Grafted.{CanGraft, IsGrafted}
 use Rattle.sf_resume.proofs.FirstNames.{early-first}
 
 -- each tag of trees is fair

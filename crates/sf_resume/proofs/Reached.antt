@@ -1,7 +1,6 @@
 -- How far a stretch over open subproblems reaches: up to the next subproblem that is less deep than all before it.
 use Rattle.std.proofs.Common.{◌≡◌, ℕ, suc, ◌+◌, ◌<◌, ◌≤◌, min, List, [], ◌∷◌, ◌++◌, length, map, take, drop, arith, refl, ap, sym, subst, ◌∙◌, Bool, true, false, Option, Some, None, append_assoc, append-nil, length-append, cond}
-use Rattle.sf_resume.proofs.Common.{zero, nat_lt, unwrap_or, AllByRecursion, ltb-true, map-append, Design, each-any, each-append, each-map, each-weaker, Parts, root, after, behind, later, pending, steps-after, Tag, Open, waiting_after, waiting-more, beyond, waiting, Reading, IsReach, floor_of, IsReading, IsReadOn, opens}
-use Rattle.sf_node.specs.declared.step.Step.{Step}
+use Rattle.sf_resume.proofs.Common.{zero, nat_lt, unwrap_or, AllByRecursion, ltb-true, map-append, Design, each-any, each-append, each-map, each-weaker, Parts, root, after, behind, later, pending, steps-after, Tag, Open, waiting_after, waiting-more, beyond, waiting, Reading, IsReach, floor_of, IsReading, IsReadOn, opens, Step}
 use Rattle.sf_cursor.proofs.Ways.{beyond-none}
 use Rattle.sf_resume.proofs.Readings.{read-then}
 

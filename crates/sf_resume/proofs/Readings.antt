@@ -1,8 +1,7 @@
 -- One tag after another is read.
 use Rattle.std.proofs.Common.{◌≡◌, ℕ, suc, ◌+◌, ◌-◌, ◌<◌, List, [], ◌∷◌, ◌++◌, length, take, drop, get_or, arith, ap, sym, subst, ◌∙◌, true, false, inl, inr, append_assoc, length-append}
-use Rattle.sf_resume.proofs.Common.{zero, cases_lt, drop_all, take_all, take_more, Design, Part, Parts, root, after, walk, CanStep, CanWalk, behind, pending, Tag, Extend, Split, Closed, Open, IsFair, MaySplit, made, waiting_after, AreTrees, waiting-more, trees-first, trees-step, IsPath, Reading, AreSomeTree, AreTreesOf, IsReading, IsReadOn}
+use Rattle.sf_resume.proofs.Common.{zero, cases_lt, drop_all, take_all, take_more, Design, Part, Parts, root, after, walk, CanStep, CanWalk, behind, pending, Tag, Extend, Split, Closed, Open, IsFair, MaySplit, made, waiting_after, AreTrees, waiting-more, trees-first, trees-step, IsPath, Reading, AreTreesOf, IsReading, IsReadOn, Step}
 use Rattle.std.proofs.Math.Seq.{drop-cons}
-use Rattle.sf_node.specs.declared.step.Step.{Step}
 
 -- a tag that is fair by some parts is so whatever closes
 fair-any : (part : Parts → Part → ℕ) (cost : ℕ) (tag : Tag) (node : Parts) → IsFair part cost tag node → IsFair (λ n p. 0) 0 tag node

@@ -1,22 +1,15 @@
 -- A search that went on from a certificate, as a whole.
 use Rattle.std.proofs.Common.{◌≡◌, ◌≢◌, ℕ, ◌<◌, ◌≤◌, List, [], ◌∷◌, ◌++◌, length, map, arith, refl, ap, sym, subst, ◌∙◌, Option, Some, None, append-nil}
-use Rattle.sf_resume.proofs.Common.{MatchOption, sum_by, Design, Expr, Part, Parts, root, root-subproblem, IsConserved, HasCost, IsValid, decided, least, left_open, Piece, AreTold, IsApart}
+use Rattle.sf_resume.proofs.Common.{MatchOption, sum_by, Design, Expr, Part, Parts, root, root-subproblem, IsConserved, HasCost, IsValid, decided, least, left_open, Piece, AreTold, IsApart, Cert, AllNameFirst, full_of, Stretch, all_waits, Apart, CanGraft, IsGrafted}
 use Rattle.sf_model.specs.declared.TheConstants.{MAX}
 use Rattle.sf_model.specs.Legal.{block_count}
 use Rattle.sf_polish.specs.Text.{IsWritable}
-use Rattle.sf_certificate.specs.declared.cert.Cert.{Cert}
-use Rattle.sf_certificate.specs.Named.{AllNameFirst}
-use Rattle.sf_count.specs.Given.{full_of}
-use Rattle.sf_cursor.specs.declared.stretch.Stretch.{Stretch}
 use Rattle.sf_rounds.specs.declared.leaving.Opened.{Opened}
 use Rattle.sf_rounds.specs.declared.legs.Leg.{Leg}
 use Rattle.sf_rounds.specs.declared.found.Found.{Found}
 use Rattle.sf_rounds.specs.Legs.{AreLeftOpen, IsLeg}
-use Rattle.sf_rounds.specs.Rounds.{all_waits}
 use Rattle.sf_rounds.specs.Run.{IsBest}
 use Rattle.sf_rounds.proofs.Told.{told-both}
-use Rattle.sf_resume.specs.declared.cutting.Apart.{Apart}
-use Rattle.sf_resume.specs.Grafted.{CanGraft, IsGrafted}
 use Rattle.sf_resume.specs.Resumed.{IsResumed}
 use Rattle.sf_resume.proofs.Gone.{gone-few, left-subs}
 

@@ -17,11 +17,13 @@ pub use Rattle.sf_model.specs.Legal.{IsLegal, block_count, shapes_of}
 pub use Rattle.sf_model.specs.declared.TheConstants.{MAX}
 pub use Rattle.sf_model.specs.declared.design.Design.{Design}
 pub use Rattle.sf_node.specs.Parts.{Parts}
-pub use Rattle.sf_node.specs.Subproblem.{is_solved}
+pub use Rattle.sf_node.specs.Subproblem.{is_solved, root}
 pub use Rattle.sf_node.specs.declared.part.Part.{Part}
 pub use Rattle.sf_pieces.proofs.Names.{kept-lower, kept-open}
+pub use Rattle.sf_pieces.proofs.Weights.{nodes-permute}
 pub use Rattle.sf_pieces.specs.Naming.{AreKept}
 pub use Rattle.sf_pieces.specs.Told.{AreTold, IsRead, mark_of, marks_in, open_mark}
+pub use Rattle.sf_pieces.specs.declared.piece.Piece.{Piece}
 pub use Rattle.sf_polish.specs.Text.{IsWritable}
 pub use Rattle.sf_polish.specs.declared.expr.Expr.{Expr}
 pub use Rattle.sf_rounds.specs.Jobs.{Adds, Dealt, EachTwo, FirstsAre, Gathers, Handed, IsDone, IsFresh, IsSameBut, IsSeated, Passes, Ran, as_list, has_weight, log_of, open_of, place_of, with_put}
@@ -35,13 +37,15 @@ pub use Rattle.sf_search_core.specs.declared.entry.Entry.{Entry}
 pub use Rattle.sf_search_core.specs.declared.entry.Kind.{Kind}
 pub use Rattle.sf_worker.proofs.Doing.{any-left, any-right}
 pub use Rattle.sf_worker.specs.Tasks.{IsBest, IsEntry, IsPlan, Solves}
-pub use Rattle.sf_worker.specs.Took.{IsDecidedFirst, PassEnds, Passed, children_weigh, first_of, maybe_weighs, nodes_weigh, on_stretch, put_of, stretches_weigh, taken_of, thieves_weigh}
+pub use Rattle.sf_worker.specs.Took.{IsDecidedFirst, IsReady, PassEnds, Passed, children_weigh, first_of, maybe_weighs, nodes_weigh, on_stretch, put_of, stretches_weigh, taken_of, thieves_weigh}
+pub use Rattle.sf_worker.specs.declared.state.PassEnd.{PassEnd}
 pub use Rattle.std.proofs.lemmas.Bool.{cases_lt}
+pub use Rattle.std.proofs.lemmas.Bool.Decides.{eqb_tells, nat_tests}
 pub use Rattle.std.proofs.lemmas.List.{drop_all, flat_map_more, get_or_default, length-map, map-append, nil_from_length, reverse-append, reverse-reverse, take_all, take_more}
 pub use Rattle.std.proofs.lemmas.List.Concat.{flat_map-append}
 pub use Rattle.std.proofs.lemmas.List.Elements.{All-append, All-cons, All-contains, All-drop, All-head, All-nil, All-push, All-tail, All-weaker, recursion_from_All}
 pub use Rattle.std.proofs.lemmas.List.Sorted.{All-permutation, IsPermutation-append, IsPermutation-append_comm, IsPermutation-append_left, IsPermutation-append_right, IsPermutation-refl, IsPermutation-reverse, IsPermutation-sym, IsPermutation-trans, length_permutation, sum_by-IsPermutation}
-pub use Rattle.std.proofs.lemmas.List.Sums.{sum_by-append, sum_by-cons, sum_by-set, sum_by_push}
+pub use Rattle.std.proofs.lemmas.List.Sums.{sum_by-append, sum_by-cons, sum_by-drop_more, sum_by-set, sum_by_push}
 pub use Rattle.std.proofs.lemmas.Result.{IfOk-at_ok, IfOk-weaker}
 pub use Rattle.std.specs.List.{AllByRecursion, flat_map}
 pub use Rattle.std.specs.Prelude.{Any, Contains, IfOk, IfSome, IsOk, IsPermutation, IsTrue, MatchOption, None, Option, Some, count_by, reverse, slice_get, slice_index, slice_index_or, sum, sum_by}

@@ -1,7 +1,6 @@
 -- How stretches are dealt to the workers of a round.
-use Rattle.std.proofs.Common.{◌≡◌, ℕ, zero, suc, ◌+◌, ◌-◌, ◌<◌, List, [], ◌∷◌, ◌++◌, length, map, take, drop, set, get_or, reverse, All, ap, sym, ◌∙◌, subst, refl, arith, length-append}
+use Rattle.std.proofs.Common.{◌≡◌, ℕ, zero, suc, ◌+◌, ◌-◌, ◌<◌, List, [], ◌∷◌, ◌++◌, length, map, take, drop, set, get_or, reverse, All, ap, sym, ◌∙◌, subst, refl, arith, length-append, option_to_list}
 use Rattle.sf_rounds.proofs.Common.{sum_by, Option, Some, None, IfSome, MatchOption, slice_get, nil_from_length, map-append, reverse-append, reverse-reverse, take_more, take_all, drop_all, sum_by-cons, sum_by-append, sum_by-set, All-nil, All-cons, All-head, All-tail, All-push, All-drop, All-permutation, IsPermutation-reverse, IsPermutation-sym, sum_by-IsPermutation, MAX, all_front, all_last, Design, Stretch, Parts, Word, Knows, ThiefView, Place, IsTeam, IsNewPlace, IsNewThief, deques_of, preys_of, thief_deques_of, IsStretch, first_of, put_of, on_stretch, maybe_weighs, stretches_weigh, thieves_weigh, Job, EachTwo, IsFresh, IsSeated, IsSameBut, Handed, Dealt, FirstsAre, place_of, has_weight, with_put}
-use Rattle.std.specs.Option.{option_to_list}
 use Rattle.sf_rounds.proofs.Team.{team_same}
 
 -- the stretch at the end of the reversed list is the next one

@@ -1,7 +1,6 @@
 -- A plan that belongs to a subproblem has the form of a certificate's plan.
 use Rattle.std.proofs.Common.{◌≡◌, ℕ, ◌<◌, ◌≤◌, ◌==◌, List, [], ◌∷◌, length, All, cond, arith, ap, subst, ◌∙◌, inl, inr, Bool}
-use Rattle.sf_rounds.proofs.Common.{count_by, Contains, AllByRecursion, get_or_default, sum_by-cons, recursion_from_All, All-contains, Design, IsLegal, block_count, shapes_of, Expr, Parts, IsPlanOf, IsWritable}
-use Rattle.std.proofs.lemmas.Bool.Decides.{eqb_tells}
+use Rattle.sf_rounds.proofs.Common.{count_by, Contains, AllByRecursion, get_or_default, sum_by-cons, recursion_from_All, All-contains, Design, IsLegal, block_count, shapes_of, Expr, Parts, IsPlanOf, IsWritable, eqb_tells}
 use Rattle.sf_model.specs.declared.parts.Shape.{Shape}
 use Rattle.sf_model.specs.Limits.{IsSide}
 use Rattle.sf_model.specs.Tree.{Tree, leaves}

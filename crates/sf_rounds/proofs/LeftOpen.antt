@@ -1,10 +1,8 @@
 -- What stretches leave open.
-use Rattle.std.proofs.Common.{◌≡◌, ℕ, ◌<◌, ◌+◌, min, List, [], ◌∷◌, ◌++◌, map, length, All, ap, sym, ◌∙◌, subst, refl, arith, true, append-nil, length-append}
-use Rattle.sf_rounds.proofs.Common.{flat_map-append, map-append, IsPermutation, IsPermutation-refl, All-nil, All-cons, Design, Stretch, Part, Parts, Mark, marks, least, least-min, unnamed_mark, AreKept, AreTold, IsRead, kept-open, marks_in, open_mark, waits, all_waits, AreLeftOpen}
-use Rattle.sf_node.specs.Subproblem.{root}
+use Rattle.std.proofs.Common.{◌≡◌, ℕ, ◌<◌, ◌+◌, min, List, [], ◌∷◌, ◌++◌, map, length, ap, sym, ◌∙◌, subst, refl, arith, true, append-nil}
+use Rattle.sf_rounds.proofs.Common.{flat_map-append, map-append, IsPermutation, IsPermutation-refl, All-nil, All-cons, Design, Stretch, Part, Parts, Mark, marks, least, least-min, unnamed_mark, AreKept, AreTold, IsRead, kept-open, marks_in, open_mark, waits, all_waits, AreLeftOpen, root, Piece}
 use Rattle.sf_node.specs.Children.{walk}
 use Rattle.sf_node.specs.Later.{pending}
-use Rattle.sf_pieces.specs.declared.piece.Piece.{Piece}
 use Rattle.sf_rounds.specs.declared.leaving.Opened.{Opened}
 use Rattle.sf_worker.specs.InHand.{HandView, IsStart, IsLeftOpen, left_of, marks_of, whole_of}
 use Rattle.sf_rounds.proofs.Told.{told-none, told-both}

@@ -1,8 +1,6 @@
 -- Stretches and their parts.
 use Rattle.std.proofs.Common.{◌≡◌, ℕ, ◌≤◌, List, [], ◌∷◌, ◌++◌, length, All, ap, sym, ◌∙◌, subst, refl, arith, append-nil, append_assoc, length-append}
-use Rattle.sf_rounds.proofs.Common.{Some, None, IsPermutation, flat_map-append, length_permutation, sum_by-IsPermutation, All-nil, All-cons, All-append, All-head, All-tail, Design, Stretch, Parts, IsStretch, on_stretch, waits, all_waits, AddsParts, AreParts, IsCut}
-use Rattle.sf_cursor.specs.Path.{Path, IsParted}
-use Rattle.sf_pieces.proofs.Weights.{nodes-permute}
+use Rattle.sf_rounds.proofs.Common.{Some, None, IsPermutation, flat_map-append, length_permutation, sum_by-IsPermutation, All-nil, All-cons, All-append, All-head, All-tail, Design, Stretch, Parts, IsStretch, on_stretch, waits, all_waits, AddsParts, AreParts, IsCut, nodes-permute}
 use Rattle.sf_rounds.proofs.Whole.{stretches-weigh}
 
 module _ (design : Design) (bound : Parts → ℕ) where

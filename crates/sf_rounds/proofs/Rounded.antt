@@ -1,7 +1,6 @@
 -- What a round leaves, from what its workers did.
-use Rattle.std.proofs.Common.{◌≡◌, ℕ, zero, suc, ◌<◌, ◌≤◌, ◌⊎◌, inl, inr, min, List, [], ◌∷◌, ◌++◌, length, All, ap, sym, ◌∙◌, subst, arith}
-use Rattle.sf_rounds.proofs.Common.{Any, Option, Some, None, MatchOption, IsTrue, cases_lt, All-append, All-weaker, All-nil, All-cons, All-head, All-tail, Design, MAX, Expr, Stretch, Part, Parts, is_solved, Entry, Kind, IsDecided, Word, Knows, Place, IsFinished, IsStretch, IsPlan, IsEntry, Solves, IsBest, Job, RoundOut, AreTold, EachTwo, IsFresh, Dealt, Gathers, IsRound}
-use Rattle.sf_pieces.specs.declared.piece.Piece.{Piece}
+use Rattle.std.proofs.Common.{◌≡◌, ℕ, zero, suc, ◌<◌, ◌≤◌, ◌⊎◌, inl, inr, min, List, [], ◌∷◌, ◌++◌, All, ap, sym, ◌∙◌, subst, arith}
+use Rattle.sf_rounds.proofs.Common.{Any, Option, Some, None, MatchOption, IsTrue, cases_lt, All-append, All-weaker, All-nil, All-cons, All-head, All-tail, Design, MAX, Expr, Stretch, Part, Parts, is_solved, Entry, Kind, IsDecided, Word, Knows, Place, IsFinished, IsStretch, IsPlan, IsEntry, Solves, IsBest, Job, RoundOut, AreTold, EachTwo, IsFresh, Dealt, Gathers, IsRound, Piece}
 use Rattle.sf_search_core.specs.declared.entry.Kind.TheVariants.{Closed}
 use Rattle.sf_rounds.proofs.Whole.{Went, entries_in, conserved, all_entries, all_open, all_named, all_few, all_told}
 use Rattle.sf_rounds.proofs.Team.{all_solved, all_firsts}

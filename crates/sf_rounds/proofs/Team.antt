@@ -1,8 +1,7 @@
 -- The team of a round stays the same, and what all workers did.
 use Rattle.std.proofs.Common.{◌≡◌, ℕ, zero, suc, ◌<◌, ◌≤◌, inl, inr, List, [], ◌∷◌, ◌++◌, map, length, take, drop, All, ap, sym, ◌∙◌, subst, refl, arith}
-use Rattle.sf_rounds.proofs.Common.{sum_by, Any, Some, IfSome, slice_get, slice_index_or, sum_by-cons, All-cons, All-head, All-tail, Design, MAX, Stretch, Part, Parts, Entry, Word, Knows, Deque, ThiefView, Place, IsTeam, turned, deques_of, preys_of, thief_deques_of, Solves, IsDecidedFirst, Passed, PassEnds, any-left, any-right, Job, EachTwo, IsFresh, FirstsAre, place_of}
+use Rattle.sf_rounds.proofs.Common.{sum_by, Any, Some, IfSome, slice_get, slice_index_or, sum_by-cons, All-cons, All-head, All-tail, Design, MAX, Stretch, Part, Parts, Entry, Word, Knows, Deque, ThiefView, Place, IsTeam, turned, deques_of, preys_of, thief_deques_of, Solves, IsDecidedFirst, Passed, PassEnds, any-left, any-right, Job, EachTwo, IsFresh, FirstsAre, place_of, PassEnd}
 use lib.Seq.{take-append_seam}
-use Rattle.sf_worker.specs.declared.state.PassEnd.{PassEnd}
 use Rattle.sf_worker.specs.declared.state.PassEnd.TheVariants.{QuotaSpent, FoundNothing}
 use Rattle.sf_rounds.proofs.Whole.{Went, entries_in}
 

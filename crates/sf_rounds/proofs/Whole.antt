@@ -1,13 +1,8 @@
 -- What all workers of a round did.
-use Rattle.std.proofs.Common.{◌≡◌, ℕ, ◌+◌, ◌≤◌, List, [], ◌∷◌, ◌++◌, map, length, All, ap, sym, ◌∙◌, subst, refl, arith, append-nil, length-append}
-use Rattle.sf_rounds.proofs.Common.{sum_by, sum, Option, Some, None, IfOk, IfSome, IsOk, IsPermutation, flat_map, map-append, sum_by-cons, sum_by-append, All-nil, All-cons, All-head, All-tail, All-append, All-weaker, IfOk-weaker, IsPermutation-refl, Design, Stretch, Part, Parts, Entry, unnamed_mark, children, Word, Knows, ThiefView, Place, IsFinished, stolen_by, IsStretch, IsBest, IsEntry, AreKept, AreTold, IsRead, kept-lower, mark_of, marks_in, put_of, taken_of, thieves_weigh, on_stretch, maybe_weighs, stretches_weigh, waits, nodes_weigh, children_weigh, Job, Passed, PassEnds, EachTwo, Passes, Ran, IsFresh, IsDone, FirstsAre, Dealt, place_of, log_of, open_of, as_list, has_weight, all_waits}
-use Rattle.std.specs.Prelude.{OnOk, Result, Ok, Err}
+use Rattle.std.proofs.Common.{◌≡◌, ℕ, ◌+◌, ◌≤◌, List, [], ◌∷◌, ◌++◌, map, length, All, ap, sym, ◌∙◌, subst, refl, arith, append-nil, length-append, OnOk, Result, Ok, Err}
+use Rattle.sf_rounds.proofs.Common.{sum_by, sum, Option, Some, None, IfOk, IfSome, IsOk, IsPermutation, flat_map, map-append, sum_by-cons, sum_by-append, All-nil, All-cons, All-head, All-tail, All-append, All-weaker, IfOk-weaker, IsPermutation-refl, Design, Stretch, Part, Parts, Entry, unnamed_mark, children, Word, Knows, ThiefView, Place, IsFinished, stolen_by, IsStretch, IsBest, IsEntry, AreKept, AreTold, IsRead, kept-lower, mark_of, marks_in, put_of, taken_of, thieves_weigh, on_stretch, maybe_weighs, stretches_weigh, waits, nodes_weigh, children_weigh, Job, Passed, PassEnds, EachTwo, Passes, Ran, IsFresh, IsDone, FirstsAre, Dealt, place_of, log_of, open_of, as_list, has_weight, all_waits, Piece, nodes-permute, IsReady, PassEnd}
 use Rattle.sf_frontier.proofs.Totals.{finished-total}
-use Rattle.sf_pieces.specs.declared.piece.Piece.{Piece}
 use Rattle.sf_rounds.proofs.Told.{plain-append}
-use Rattle.sf_pieces.proofs.Weights.{nodes-permute}
-use Rattle.sf_worker.specs.Took.{IsReady}
-use Rattle.sf_worker.specs.declared.state.PassEnd.{PassEnd}
 
 -- the weight of what a function gives is the sum over the elements
 pub weigh_map : {X : Type 0} (w : Parts → ℕ) (f : X → Parts) (xs : List X) → sum_by w (map f xs) ≡ sum_by (λ x. w (f x)) xs

@@ -1,10 +1,9 @@
 -- The certificate of a search beside the machine: its tags, and all that is not visited yet is open.
 use Rattle.std.proofs.Common.{◌≡◌, ℕ, suc, List, [], ◌∷◌, ◌++◌, map, reverse, length, arith, refl, ap, sym, subst, ◌∙◌, append-nil, IsPermutation}
-use Rattle.sf_search.proofs.Common.{AllByRecursion, length-map, reverse-reverse, IsPermutation-reverse, Design, Task, Part, Full, Parts, root, Entry, Kind, State, IsCoreState, Mark, Tag, Extend, Split, Open, made, marks, tag_of, given_marks, waiting_after, IsFair, AreTrees, left_open, least, decided, opens, marks-then, open-all, least-same, IsMerged, all-fair, task_at, mark_of, IsStage}
+use Rattle.sf_search.proofs.Common.{AllByRecursion, length-map, reverse-reverse, IsPermutation-reverse, Design, Task, Part, Full, Parts, root, Entry, Kind, State, IsCoreState, Mark, Tag, Extend, Split, Open, made, marks, tag_of, given_marks, waiting_after, IsFair, AreTrees, left_open, least, decided, opens, marks-then, open-all, least-same, IsMerged, all-fair, task_at, mark_of, IsStage, turned}
 use Rattle.sf_search_core.specs.declared.entry.Kind.TheVariants as kind
 use Rattle.sf_certificate.proofs.Totals.{total, total-permutation}
 use Rattle.sf_certificate.proofs.Growth.{trees-step}
-use Rattle.sf_certificate.proofs.MergedCert.{turned}
 
 -- fair tags are trees as far as they go
 trees-then : (part : Parts → Part → ℕ) (cost : ℕ) (nodes : List Parts) (tags more : List Tag) → length (marks nodes tags) ≡ length tags → AllByRecursion (λ m. IsFair part cost m.tag m.node) (marks nodes tags) → AreTrees part cost (waiting_after nodes tags) more → AreTrees part cost nodes (tags ++ more)

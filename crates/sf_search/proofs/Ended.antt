@@ -1,9 +1,6 @@
 -- What a search hands over, from the state of the machine beside it.
 use Rattle.std.proofs.Common.{◌≡◌, ℕ, ◌<◌, ◌≤◌, List, [], ◌++◌, map, length, All, arith, refl, ap, sym, subst, ◌∙◌, Option, Some, None, Bool, true, false}
-use Rattle.sf_search.proofs.Common.{MatchOption, length-map, length-reverse, recursion_from_All, All-from_recursion, Design, MAX, block_count, each-left, each-weaker, Expr, IsWritable, Task, Part, Full, Parts, IsSubproblem, Entry, State, held_tasks, Tag, tag_of, unnamed, HasCost, least, decided, opens, IsMerged, task-bounds, entries-few, IsFirst, task_at, WalkView, IsBeside, waiting}
-use Rattle.sf_node.specs.Full.{full}
-use Rattle.sf_worker.specs.InHand.{left_of}
-use Rattle.sf_rounds.specs.Run.{IsBest}
+use Rattle.sf_search.proofs.Common.{MatchOption, length-map, length-reverse, recursion_from_All, All-from_recursion, Design, MAX, block_count, each-left, each-weaker, Expr, IsWritable, Task, Part, Full, Parts, IsSubproblem, Entry, State, held_tasks, Tag, tag_of, unnamed, HasCost, least, decided, opens, IsMerged, task-bounds, entries-few, IsFirst, task_at, WalkView, IsBeside, waiting, full, left_of, IsBest}
 use Rattle.sf_search.proofs.Settled.{all-decided}
 use Rattle.sf_search.proofs.Certified.{certified, lowest-is}
 

@@ -1,10 +1,8 @@
 -- The certificate of a search with one worker: as that without names, and each closed subproblem names the first part that is at least the cost.
 use Rattle.std.proofs.Common.{◌≡◌, ℕ, List, [], ◌∷◌, ◌++◌, map, length, refl, ap, sym, subst, ◌∙◌, Option}
-use Rattle.sf_search.proofs.Common.{MatchOption, IsTrue, AllByRecursion, map-append, recursion_from_All, All-from_recursion, Design, MAX, block_count, Expr, Part, PartValues, Parts, ArePartsOf, root, State, Mark, Tag, Extend, Split, Closed, Open, IsFormed, made, marks, waiting_after, AllNameFirst, unnamed, AreTrees, HasCost, left_open, least, decided, opens, marks-then, merged-formed, task-bounds, plan-cost, IsMerged, first-close, unnamed-open, unnamed-decided, unnamed-tree, unnamed-waiting, SplitsFirst, AllSplitFirst, AreKept, renamed, renamed-alike, kept-open, name-first, WalkView, IsBeside, open_mark}
+use Rattle.sf_search.proofs.Common.{MatchOption, IsTrue, AllByRecursion, map-append, recursion_from_All, All-from_recursion, Design, MAX, block_count, Expr, Part, PartValues, Parts, ArePartsOf, root, State, Mark, Tag, Extend, Split, Closed, Open, IsFormed, made, marks, waiting_after, AllNameFirst, unnamed, AreTrees, HasCost, left_open, least, decided, opens, marks-then, merged-formed, task-bounds, plan-cost, IsMerged, first-close, unnamed-open, unnamed-decided, unnamed-tree, unnamed-waiting, SplitsFirst, AllSplitFirst, AreKept, renamed, renamed-alike, kept-open, name-first, WalkView, IsBeside, open_mark, IsLeftOpen, left_of, marks_of}
 use Rattle.sf_node.proofs.Depth.{subproblem-shallow}
 use Rattle.sf_search.proofs.Ended.{valued, merged-as, planned-as, stated-as, decided-as}
-use Rattle.sf_search.specs.Stage.{IsLeftOpen}
-use Rattle.sf_worker.specs.InHand.{left_of, marks_of}
 use Rattle.sf_search.proofs.SplitMarks.{marks-first}
 
 -- equal costs, tags and kept values give equal renamed tags

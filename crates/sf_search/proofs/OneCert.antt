@@ -1,9 +1,7 @@
 -- Two certificates of one state are the same.
 use Rattle.std.proofs.Common.{◌≡◌, ℕ, ◌<◌, List, [], ◌∷◌, ◌++◌, map, arith, refl, ap, sym, subst, ◌∙◌, Option, Some, None, true}
-use Rattle.sf_search.proofs.Common.{AllByRecursion, All-from_recursion, recursion_from_All, All-permutation, IsPermutation-sym, Design, each-left, each-right, Expr, Task, Part, Parts, root, is_solved, IsSubproblem, IsPlanOf, IsLeastTrace, Entry, State, Mark, Open, no_plan, given_marks, marks, tag_of, unnamed, AreTrees, marks-good, each-unmap, IsCertOf, IsFirst, IsOfFirst}
-use Rattle.sf_node.proofs.Reached.{root-subproblem}
+use Rattle.sf_search.proofs.Common.{AllByRecursion, All-from_recursion, recursion_from_All, All-permutation, IsPermutation-sym, Design, each-left, each-right, Expr, Task, Part, Parts, root, is_solved, IsSubproblem, IsPlanOf, IsLeastTrace, Entry, State, Mark, Open, no_plan, given_marks, marks, tag_of, unnamed, AreTrees, marks-good, each-unmap, IsCertOf, IsFirst, IsOfFirst, root-subproblem, Cert}
 use Rattle.sf_search_core.specs.declared.entry.Kind.TheVariants as kind
-use Rattle.sf_certificate.specs.declared.cert.Cert.{Cert}
 
 -- the entry of a closed subproblem
 abbrev closed : Parts → ℕ → Entry

@@ -1,13 +1,8 @@
 -- A search beside the machine, from its start on and over one visit.
-use Rattle.std.proofs.Common.{◌≡◌, ℕ, suc, ◌+◌, ◌<◌, ◌≤◌, List, [], ◌∷◌, ◌++◌, map, reverse, length, arith, refl, ap, sym, subst, ◌∙◌, Option, Some, None, true, false, length-append}
-use Rattle.sf_search.proofs.Common.{map-append, Design, MAX, Expr, Part, PartValues, Parts, root, behind, IsPlanOf, State, opening, Mark, Tag, made, marks, waiting_after, unnamed, marks-more, unnamed-waiting, named-alike, kept-more, Solved, Extended, turn, turns, turn_events, AreAccepted, TurnsAreAccepted, IsFirst, kept_for, AreKept, best_after, task_at, IsStage, IsVisit, tag_at, tag_after, cost_at, WalkView, IsMove, IsBeside, IsRun, IsWhole, waiting}
-use Rattle.sf_cursor.specs.Path.{beyond}
+use Rattle.std.proofs.Common.{◌≡◌, ℕ, suc, ◌+◌, ◌<◌, ◌≤◌, List, [], ◌∷◌, ◌++◌, map, reverse, length, arith, refl, ap, sym, subst, ◌∙◌, Option, None, true, false, length-append}
+use Rattle.sf_search.proofs.Common.{map-append, Design, MAX, Expr, Part, PartValues, Parts, root, behind, IsPlanOf, State, opening, Mark, Tag, made, marks, waiting_after, unnamed, marks-more, unnamed-waiting, named-alike, kept-more, Solved, Extended, turn, turns, turn_events, AreAccepted, TurnsAreAccepted, IsFirst, kept_for, AreKept, best_after, task_at, IsStage, IsVisit, tag_at, tag_after, cost_at, WalkView, IsMove, IsBeside, IsRun, IsWhole, waiting, beyond, Visit, IsPlain, HandView, IsFollowed, IsHand, left_of, marks_of, IsBest}
 use Rattle.sf_search_core.proofs.Outcome.{opening-core}
-use Rattle.sf_worker.specs.declared.visit.Visit.{Visit}
 use Rattle.sf_worker.specs.declared.visit.Visit.TheVariants.{Closed, Split}
-use Rattle.sf_worker.proofs.Visited.{IsPlain}
-use Rattle.sf_worker.specs.InHand.{HandView, IsFollowed, IsHand, left_of, marks_of}
-use Rattle.sf_rounds.specs.Run.{IsBest}
 use Rattle.sf_search.proofs.Settled.{taken-is, turned-is, first-is, accepted-is, plan-cost, turns-still, accepted-still}
 use Rattle.sf_rounds.proofs.Formed.{plan-formed}
 use Rattle.sf_search.proofs.Stage.{mid, some, taken, turn-is, next-is, stage-next}

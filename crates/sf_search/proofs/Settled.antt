@@ -1,17 +1,11 @@
 -- The states that the events of a turn make.
-use Rattle.std.proofs.Common.{◌≡◌, ℕ, suc, ◌-◌, ◌<◌, ◌≤◌, min, List, [], ◌∷◌, ◌++◌, map, length, All, arith, refl, ap, sym, subst, ◌∙◌, Option, Some, None, Result, Ok, Err, Bool, true, false, not, length-append, append_assoc, eq-eqb, inl, inr}
+use Rattle.std.proofs.Common.{◌≡◌, ℕ, suc, ◌-◌, ◌<◌, ◌≤◌, min, List, [], ◌∷◌, ◌++◌, map, length, All, arith, refl, ap, sym, subst, ◌∙◌, Option, Some, None, Result, Ok, Err, Bool, true, false, not, length-append, append_assoc, eq-eqb, inl, inr, ◌==◌, ◌&&◌, ◌||◌, is_ok}
 use Prim.Native.Nat.{zero}
-use Rattle.std.specs.Prelude.{◌==◌, ◌&&◌, ◌||◌}
-use Rattle.sf_search.proofs.Common.{IsOk, IfOk, slice_set, slice_get, nat_le, remove, list_all, lt-ltb, cond-true, cond-false, cases_lt, length-map, All-push, All-weaker, Design, Expr, Task, Parts, is_complete, is_solved, is_wide, span_of, extended, split, CanSplit, IsPlanOf, Entry, State, next_of, after_event, after_events, HasCost, least, first_wide, IsSolvedBy, IsVisit, BranchesFirst, AllBranchFirst, entries-few, IsCoreState, held_tasks, settling, turn_of, turn_events, turn, turns, AreAccepted, TurnsAreAccepted, IsOfFirst, IsFirst, IsIdle, Decides, IsTurned, IsSettled, best_after}
-use Rattle.std.specs.Result.{is_ok}
+use Rattle.sf_search.proofs.Common.{IsOk, IfOk, slice_set, slice_get, nat_le, remove, list_all, lt-ltb, cond-true, cond-false, cases_lt, length-map, All-push, All-weaker, Design, Expr, Task, Parts, is_complete, is_solved, is_wide, span_of, extended, split, CanSplit, IsPlanOf, Entry, State, next_of, after_event, after_events, HasCost, least, first_wide, IsSolvedBy, IsVisit, BranchesFirst, AllBranchFirst, entries-few, IsCoreState, held_tasks, settling, turn_of, turn_events, turn, turns, AreAccepted, TurnsAreAccepted, IsOfFirst, IsFirst, IsIdle, Decides, IsTurned, IsSettled, best_after, Take, Replace, Close, Offer, not-lt, replaced, replace-done, Visit, full}
 use Rattle.sf_search_core.specs.declared.entry.Kind.TheVariants as kind
-use Rattle.sf_search_core.specs.declared.event.Event.TheVariants.{Take, Replace, Close, Offer}
 use Rattle.sf_search_core.specs.declared.event.How.TheVariants as how
 use Rattle.sf_search_core.specs.Events.{held_in, held_by, applied, take, close, offer, may_branch}
-use Rattle.sf_search_core.proofs.Replaced.{not-lt, replaced, replace-done}
-use Rattle.sf_worker.specs.declared.visit.Visit.{Visit}
 use Rattle.sf_worker.specs.declared.visit.Visit.TheVariants.{Closed, Solved, Extended, Split}
-use Rattle.sf_node.specs.Full.{full}
 
 -- a number is not at most one that is less
 not-le : (a b : ℕ) → b < a → nat_le a b ≡ false

@@ -1,19 +1,14 @@
 -- One turn of the machine is one visit of the search in preorder.
-use Rattle.std.proofs.Common.{◌≡◌, ℕ, suc, ◌-◌, ◌<◌, min, List, [], ◌∷◌, ◌++◌, map, reverse, length, drop, get_or, arith, refl, ap, sym, subst, ◌∙◌, Option, Some, None, Ok, true, not, length-append, append-nil}
-use Rattle.std.specs.Prelude.{◌&&◌}
-use Rattle.sf_search.proofs.Common.{slice_set, slice_get, remove, lt-ltb, map-append, reverse-append, take_at, drop_all, Design, Task, Parts, root, is_wide, span_of, extended, split, CanSplit, Entry, State, branched, IsCoreState, next_of, after_event, after_events, first_wide, Tag, made, marks, tag_of, marks-more, waiting-more, Solved, Extended, settling, turn_of, turn, task_at, mark_of, IsStage, IsVisit, tag_at, cost_at}
+use Rattle.std.proofs.Common.{◌≡◌, ℕ, suc, ◌-◌, ◌<◌, min, List, [], ◌∷◌, ◌++◌, map, reverse, length, drop, get_or, arith, refl, ap, sym, subst, ◌∙◌, Option, Some, None, Ok, true, not, length-append, append-nil, ◌&&◌}
+use Rattle.sf_search.proofs.Common.{slice_set, slice_get, remove, lt-ltb, map-append, reverse-append, take_at, drop_all, Design, Task, Parts, root, is_wide, span_of, extended, split, CanSplit, Entry, State, branched, IsCoreState, next_of, after_event, after_events, first_wide, Tag, made, marks, tag_of, marks-more, waiting-more, Solved, Extended, settling, turn_of, turn, task_at, mark_of, IsStage, IsVisit, tag_at, cost_at, Take, Replace, Close, Offer, replaced, replace-done, Visit, kind_of}
 use Rattle.std.proofs.Math.Seq.{get_or-append_seam}
 use Rattle.std.proofs.lemmas.Option.{slice_get-get_or}
 use Rattle.sf_search_core.specs.declared.entry.Kind.TheVariants as kind
-use Rattle.sf_search_core.specs.declared.event.Event.TheVariants.{Take, Replace, Close, Offer}
 use Rattle.sf_search_core.specs.declared.event.How.{How}
 use Rattle.sf_search_core.specs.declared.event.How.TheVariants as how
 use Rattle.sf_search_core.specs.Events.{held_in, held_by, applied, take as taking, replace, kind_of as way_kind, may_branch, tasks, AreBounds}
-use Rattle.sf_search_core.proofs.Replaced.{replaced, replace-done}
 use Rattle.sf_search_core.proofs.Applied.{applied-kept}
-use Rattle.sf_worker.specs.declared.visit.Visit.{Visit}
 use Rattle.sf_worker.specs.declared.visit.Visit.TheVariants.{Closed, Split}
-use Rattle.sf_worker.specs.Decided.{kind_of}
 use Rattle.sf_search.proofs.Settled.{closed, close-done, offer-done, settling-closed, settling-solved, settling-split, settling-extended, ok-const}
 
 -- a list without its last element is what stood before it

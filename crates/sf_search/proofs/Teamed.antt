@@ -1,15 +1,11 @@
 -- What a search of teams hands over.
-use Rattle.std.proofs.Common.{◌≡◌, ◌≢◌, ℕ, ◌+◌, ◌<◌, ◌≤◌, inl, inr, List, [], ◌∷◌, ◌++◌, map, length, All, arith, ap, sym, subst, ◌∙◌, append-nil}
-use Rattle.sf_search.proofs.Common.{AllByRecursion, All-from_recursion, recursion_from_All, IsPermutation-sym, All-permutation, cases_lt, nil_from_length, sum_by-cons, Design, Stretch, Part, Parts, root, IsSubproblem, ArePartsOf, each-left, each-map, Entry, IsConserved, Mark, marks, AllNameFirst, IsValid, unnamed, unnamed_mark, unnamed-marks, marks-good, each-unmap, least, decided, SplitsFirst, AllSplitFirst, mark_of, open_mark, AreTold, waits, all_waits, IsLeg, AreLeftOpen, tags_in}
+use Rattle.std.proofs.Common.{◌≡◌, ◌≢◌, ℕ, ◌+◌, ◌<◌, ◌≤◌, inl, inr, List, [], ◌∷◌, ◌++◌, map, length, arith, ap, sym, subst, ◌∙◌, append-nil}
+use Rattle.sf_search.proofs.Common.{AllByRecursion, All-from_recursion, recursion_from_All, IsPermutation-sym, All-permutation, cases_lt, nil_from_length, sum_by-cons, Design, Stretch, Part, Parts, root, IsSubproblem, ArePartsOf, each-left, each-map, Entry, IsConserved, Mark, marks, AllNameFirst, IsValid, unnamed, unnamed_mark, unnamed-marks, marks-good, each-unmap, least, decided, SplitsFirst, AllSplitFirst, mark_of, open_mark, AreTold, waits, all_waits, IsLeg, AreLeftOpen, tags_in, full, root-subproblem, Cert, IsFound}
 use Rattle.sf_model.proofs.Each.{Some}
-use Rattle.sf_node.specs.Full.{full}
-use Rattle.sf_node.proofs.Reached.{root-subproblem}
-use Rattle.sf_certificate.specs.declared.cert.Cert.{Cert}
 use Rattle.sf_count.specs.Given.{full_of}
 use Rattle.sf_count.proofs.Given.{given-few}
 use Rattle.sf_pieces.specs.declared.piece.Piece.{Piece}
 use Rattle.sf_pieces.specs.Searched.{IsAssembled, IsSearched}
-use Rattle.sf_search.specs.Found.{IsFound}
 use Rattle.sf_rounds.specs.declared.leaving.Opened.{Opened}
 use Rattle.sf_rounds.specs.declared.legs.Leg.{Leg}
 use Rattle.sf_rounds.specs.declared.found.Found.{Found}

@@ -1,10 +1,7 @@
 -- Whatever event is accepted, its tests give what its change asks for, so that it keeps a core state.
-use Rattle.std.proofs.Common.{◌≡◌, ℕ, suc, ◌<◌, ◌≤◌, List, [], ◌∷◌, ◌++◌, map, reverse, length, arith, refl, ap, sym, subst, append-nil, ◌∙◌, Option, Some, None, Result, Ok, ◌⊎◌, inl, inr, Bool, true, false, cond, not, ◌==◌}
-use Rattle.sf_search_core.proofs.Common.{zero, IfOk, slice_get, slice_set, nat_lt, AllByRecursion, and_parts, eqb-true, ltb-true, true≢false, cases_lt, lt-ltb, All-from_recursion, All-nil, Design, Task, Parts, is_complete, is_solved, is_wide, span_of, IsSubproblem, Event, Take, Replace, Close, Offer, Refusal, State, IsDecided, branched, IsCoreState, held_in, held_by, kind_of, may_branch, tasks, take, replace, close, offer, applied, AreBounds, CanCome}
-use Rattle.std.specs.Prelude.{◌&&◌}
-use Rattle.sf_node.proofs.Reached.{extended-subproblems, split-subproblems}
+use Rattle.std.proofs.Common.{◌≡◌, ℕ, suc, ◌<◌, ◌≤◌, List, [], ◌∷◌, ◌++◌, map, reverse, length, arith, refl, ap, sym, subst, append-nil, ◌∙◌, Option, Some, None, Result, Ok, ◌⊎◌, inl, inr, Bool, true, false, cond, not, ◌==◌, ◌&&◌}
+use Rattle.sf_search_core.proofs.Common.{zero, IfOk, slice_get, slice_set, nat_lt, AllByRecursion, and_parts, eqb-true, ltb-true, true≢false, cases_lt, lt-ltb, All-from_recursion, All-nil, Design, Task, Parts, is_complete, is_solved, is_wide, span_of, IsSubproblem, Event, Take, Replace, Close, Offer, Refusal, State, IsDecided, branched, IsCoreState, held_in, held_by, kind_of, may_branch, tasks, take, replace, close, offer, applied, AreBounds, CanCome, extended-subproblems, split-subproblems, How}
 use Rattle.sf_search_core.specs.declared.entry.Kind.TheVariants as kind
-use Rattle.sf_search_core.specs.declared.event.How.{How}
 use Rattle.sf_search_core.specs.declared.event.How.TheVariants as how
 use Rattle.sf_search_core.proofs.Kept.{take-kept, decide-kept, offer-kept, held-valued}
 

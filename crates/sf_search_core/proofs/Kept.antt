@@ -1,10 +1,7 @@
 -- The changes that events make keep a core state: a task changes its place, becomes its children or an entry, or lowers the word.
 use Rattle.std.proofs.Common.{◌≡◌, ℕ, suc, ◌<◌, ◌≤◌, min, List, [], ◌∷◌, ◌++◌, map, reverse, length, get_or, All, append_assoc, append-nil, arith, refl, ap, sym, subst, ◌∙◌, Option, Some, None, ◌⊎◌, inl, inr, IsPermutation}
-use Rattle.sf_search_core.proofs.Common.{zero, Any, IsTrue, remove, slice_get, slice_set, filter_map, flat_map, cases_lt, map-append, All-append, All-head, All-push, All-tail, All-weaker, Design, Task, Parts, root, is_solved, IsSubproblem, Entry, State, IsConserved, IsDecided, branched, children, IsCoreState}
+use Rattle.sf_search_core.proofs.Common.{zero, Any, IsTrue, remove, slice_get, slice_set, filter_map, flat_map, cases_lt, map-append, All-append, All-head, All-push, All-tail, All-weaker, Design, Task, Parts, root, is_solved, IsSubproblem, Entry, State, IsConserved, IsDecided, branched, children, IsCoreState, IsPermutation-refl, IsPermutation-sym, IsPermutation-trans, IsPermutation-cons, IsPermutation-middle, IsPermutation-append_left, IsPermutation-append_right, IsPermutation-append_comm, IsPermutation-map, IsPermutation-remove, IsPermutation-reverse, All-permutation, Contains-permutation, MAX, Kind}
 use Rattle.std.proofs.lemmas.Grind.{flat_map-append}
-use Rattle.std.proofs.lemmas.List.Sorted.{IsPermutation-refl, IsPermutation-sym, IsPermutation-trans, IsPermutation-cons, IsPermutation-middle, IsPermutation-append_left, IsPermutation-append_right, IsPermutation-append_comm, IsPermutation-map, IsPermutation-remove, IsPermutation-reverse, All-permutation, Contains-permutation}
-use Rattle.sf_model.specs.declared.TheConstants.{MAX}
-use Rattle.sf_search_core.specs.declared.entry.Kind.{Kind}
 
 -- the tasks that are held
 abbrev tasks_in : List (Option Task) → List Task

@@ -1,8 +1,6 @@
 -- What a core state tells of a design's floorplans.
 use Rattle.std.proofs.Common.{◌≡◌, ℕ, suc, ◌+◌, ◌<◌, ◌≤◌, max, List, [], ◌∷◌, ◌++◌, length, map, replicate, get_or, All, arith, refl, ap, sym, subst, ◌∙◌, inl, inr, ◌⊎◌, None, Result, Ok, Err, IsPermutation}
-use Rattle.sf_search_core.proofs.Common.{zero, AllByRecursion, flat_map, filter_map, IsTrue, map-append, recursion_from_All, All-nil, All-from_recursion, Design, Task, Parts, Belongs, root, is_solved, after, step_of, next_tokens, IsSubproblem, Entry, Event, Refusal, State, IsDecided, branched, children, IsCoreState, held_tasks, undecided, applied, CanCome}
-use Rattle.std.proofs.lemmas.List.Sorted.{IsPermutation-sym, IsPermutation-refl}
-use Rattle.sf_model.specs.declared.TheConstants.{MAX}
+use Rattle.sf_search_core.proofs.Common.{zero, AllByRecursion, flat_map, filter_map, IsTrue, map-append, recursion_from_All, All-nil, All-from_recursion, Design, Task, Parts, Belongs, root, is_solved, after, step_of, next_tokens, IsSubproblem, Entry, Event, Refusal, State, IsDecided, branched, children, IsCoreState, held_tasks, undecided, applied, CanCome, IsPermutation-sym, IsPermutation-refl, MAX, extended-subproblems, split-subproblems, root-subproblem, root-belongs, subproblem-spans, Kind, least}
 use Rattle.sf_model.specs.Tree.{Tree}
 use Rattle.sf_model.specs.Legal.{Fits}
 use Rattle.sf_model.specs.Cost.{cost, IsFloor}
@@ -16,10 +14,7 @@ use Rattle.sf_node.specs.declared.step.Step.TheVariants.{Beside, Above, Block, L
 use Rattle.sf_node.specs.Bounds.{IsSound, IsExactAtEnd, IsReached}
 use Rattle.sf_node.proofs.Cover.{extended-some}
 use Rattle.sf_node.proofs.Halves.{split-some}
-use Rattle.sf_node.proofs.Reached.{extended-subproblems, split-subproblems, root-subproblem, root-belongs, subproblem-spans}
-use Rattle.sf_search_core.specs.declared.entry.Kind.{Kind}
 use Rattle.sf_search_core.specs.declared.entry.Kind.TheVariants as kind
-use Rattle.sf_search_core.specs.Least.{least}
 use Rattle.sf_search_core.specs.Outcome.{opening, next_of, after_event, after_events, CanAllCome, IsPlanCost, floor_of, IsOutcome}
 use Rattle.sf_search_core.proofs.Kept.{Any-permutation}
 use Rattle.sf_search_core.proofs.Applied.{applied-kept}

@@ -1,7 +1,6 @@
 -- What a Replace answers, by the tests that it passes.
 use Rattle.std.proofs.Common.{◌≡◌, ℕ, suc, ◌<◌, ◌≤◌, List, [], ◌∷◌, ◌++◌, map, reverse, length, get_or, append_assoc, arith, refl, ap, sym, subst, ◌∙◌, Option, Some, None, Result, Ok, Err, true, false, cond, not, ◌⊎◌, inl, inr}
-use Rattle.sf_search_core.proofs.Common.{zero, IfOk, slice_set, slice_get, nat_lt, lt-ltb, cond-true, cond-false, length-map, reverse-append, Design, Task, Parts, IsSubproblem, Event, Replace, Refusal, Entry, State, branched, IsCoreState, held_in, held_by, kind_of, may_branch, tasks, replace, applied, AreBounds, AreChildren, CanCome, IsBranching, Answers}
-use Rattle.sf_search_core.specs.declared.event.How.{How}
+use Rattle.sf_search_core.proofs.Common.{zero, IfOk, slice_set, slice_get, nat_lt, lt-ltb, cond-true, cond-false, length-map, reverse-append, Design, Task, Parts, IsSubproblem, Event, Replace, Refusal, Entry, State, branched, IsCoreState, held_in, held_by, kind_of, may_branch, tasks, replace, applied, AreBounds, AreChildren, CanCome, IsBranching, Answers, How}
 use Rattle.sf_search_core.specs.declared.refusal.Refusal.TheVariants as refusal
 use Rattle.sf_search_core.proofs.Kept.{held-valued}
 use Rattle.sf_search_core.proofs.Applied.{held-some, applied-kept}

@@ -1,13 +1,7 @@
 -- A block has one list: also where no width is allowed, though then any empty interval tells its widths.
-use Rattle.std.proofs.Common.{◌≡◌, ℕ, ◌<◌, ◌≤◌, ◌⊎◌, inl, inr, Bool, true, List, [], ◌∷◌, length, map, Option, Some, None, refl, ap, sym, ◌∙◌, arith}
-use Rattle.std.specs.Prelude.{nat_le}
-use Rattle.sf_soft_shapes.proofs.Common.{AllByRecursion, zip, nat_tests, Shape, RawBlock, AreFirstLists, AreListsOf, HasNoneFor, IsListOf, height_at, shape, width_count, widths}
-use Rattle.std.specs.Option.{option_map}
-use Rattle.std.proofs.lemmas.List.Elements.{recursion_from_All}
-use Rattle.std.proofs.lemmas.Bool.{cases_lt}
-use Rattle.sf_model.specs.Built.{first_shapeless}
+use Rattle.std.proofs.Common.{◌≡◌, ℕ, ◌<◌, ◌≤◌, ◌⊎◌, inl, inr, Bool, true, List, [], ◌∷◌, length, map, Option, Some, None, refl, ap, sym, ◌∙◌, arith, nat_le, option_map}
+use Rattle.sf_soft_shapes.proofs.Common.{AllByRecursion, zip, nat_tests, Shape, RawBlock, AreFirstLists, AreListsOf, HasNoneFor, IsListOf, height_at, shape, width_count, widths, recursion_from_All, cases_lt, first_shapeless, NoShape}
 use Rattle.sf_model.specs.declared.fault.BuildFault.{BuildFault}
-use Rattle.sf_model.specs.declared.fault.BuildFault.TheVariants.{NoShape}
 use Rattle.sf_model.specs.declared.raw.Kind.{Kind}
 use Rattle.sf_model.specs.declared.raw.Kind.TheVariants as kind
 

@@ -1,7 +1,6 @@
 -- A wider block of the same area is no higher.
 use Rattle.std.proofs.Common.{◌≡◌, ℕ, ◌+◌, ◌*◌, ◌<◌, ◌≤◌, arith}
-use Rattle.std.proofs.Math.Nat.{mul-le-mul_left, mul-le-mul_right}
-use Rattle.sf_soft_shapes.proofs.Common.{div_ceil_times, height_at, IsLowEnough, IsHighEnough}
+use Rattle.sf_soft_shapes.proofs.Common.{div_ceil_times, height_at, IsLowEnough, IsHighEnough, mul-le-mul_left, mul-le-mul_right}
 
 -- q * b is not below x where q * a reaches x, so that d passes q by nothing
 past : (q d a b x : ℕ) → a ≤ b → x ≤ q * a → d * b < x + b → q < d → ⊥

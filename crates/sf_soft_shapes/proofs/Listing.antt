@@ -1,8 +1,6 @@
 -- The lists of the blocks, as one more comes.
 use Rattle.std.proofs.Common.{◌≡◌, ℕ, zero, suc, ◌<◌, ◌≤◌, Bool, List, [], ◌∷◌, ◌++◌, length, get_or, Some, None, refl, ap, sym, subst, arith}
-use Rattle.sf_soft_shapes.proofs.Common.{All, zip, Shape, RawBlock, AreFirstLists, IsListOf}
-use Rattle.std.proofs.lemmas.List.Elements.{All-append}
-use Rattle.sf_model.specs.Built.{first_shapeless}
+use Rattle.sf_soft_shapes.proofs.Common.{All, zip, Shape, RawBlock, AreFirstLists, IsListOf, All-append, first_shapeless}
 
 -- the empty list of a type
 abbrev none_of : (Y : Type 0) → List Y

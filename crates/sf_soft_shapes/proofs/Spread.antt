@@ -1,8 +1,6 @@
 -- Shapes put at the end of those at earlier widths.
 use Rattle.std.proofs.Common.{◌≡◌, ℕ, ◌+◌, ◌-◌, ◌*◌, ◌/◌, ◌<◌, ◌≤◌, inl, inr, true, false, nat_le, List, [], ◌∷◌, ◌++◌, length, get_or, map, ap, sym, subst, ◌∙◌, arith}
-use Rattle.sf_soft_shapes.proofs.Common.{range_with_len, nat_tests, div_ceil_times, IsSide, IsShapeChoice, Shape, shape, height_at, width_count, widths, IsAllowed, IsSoftList}
-use Rattle.std.proofs.Math.Nat.{mul-le-mul_right, div-mul-le_self, div-le_of_le-mul, le-div_iff_mul-le, zero-mul}
-use Rattle.std.proofs.lemmas.Bool.{cases_lt}
+use Rattle.sf_soft_shapes.proofs.Common.{range_with_len, nat_tests, div_ceil_times, IsSide, IsShapeChoice, Shape, shape, height_at, width_count, widths, IsAllowed, IsSoftList, mul-le-mul_right, div-mul-le_self, div-le_of_le-mul, le-div_iff_mul-le, zero-mul, cases_lt}
 use Rattle.std.proofs.lemmas.List.FromFn.{map-range_with_len_more, get_or-map-range_with_len, length-map-range_with_len}
 use Rattle.std.proofs.lemmas.List.{map-append, length-map}
 use Rattle.std.proofs.lemmas.Simd.{map-map}

@@ -1,9 +1,6 @@
 -- The standard bound is its value from area and wires; no part of it is above it, and where wires cost nothing each part is the bound.
-use Rattle.std.proofs.Common.{◌≡◌, ℕ, ◌+◌, ◌*◌, ◌^◌, ◌<◌, ◌≤◌, max, List, [], ◌∷◌, length, arith, refl, ap, sym, subst, ◌∙◌, inl, inr, Bool, true, false}
-use Rattle.std.specs.Prelude.{if◌then◌else◌}
-use Rattle.sf_standard.proofs.Common.{Contains, sum_by, nat_lt, list_any, mul-le-mul, mul-le-mul_left, cases_lt, cond_both, cond-true, cond-false, ltb-false, sum_by-cons, Design, Net, Pin, MAX, cost, Tree, width, height, spots_of, wire, IsSubproblem, Parts, is_complete, is_solved, subproblem-spans, Contains-head, Item, items_of, fitting, range_part, pair_part, hull_part, extent_in, area, least_of, least_cost, has_none, area_part, pins_part, weighed_part, wire_part, full_part, pins_by, nets_by, wires_by, plans_of, bounded, open_value, standard, part_value, AllHavePlans}
-use Rattle.sf_model.proofs.Bounded.{cost-below}
-use Rattle.sf_model.specs.Paths.{no_paths, path_wires}
+use Rattle.std.proofs.Common.{◌≡◌, ℕ, ◌+◌, ◌*◌, ◌^◌, ◌<◌, ◌≤◌, max, List, [], ◌∷◌, length, arith, refl, ap, sym, subst, ◌∙◌, inl, inr, Bool, true, false, if◌then◌else◌}
+use Rattle.sf_standard.proofs.Common.{Contains, sum_by, nat_lt, list_any, mul-le-mul, mul-le-mul_left, cases_lt, cond_both, cond-true, cond-false, ltb-false, sum_by-cons, Design, Net, Pin, MAX, cost, Tree, width, height, spots_of, wire, IsSubproblem, Parts, is_complete, is_solved, subproblem-spans, Contains-head, Item, items_of, fitting, range_part, pair_part, hull_part, extent_in, area, least_of, least_cost, has_none, area_part, pins_part, weighed_part, wire_part, full_part, pins_by, nets_by, wires_by, plans_of, bounded, open_value, standard, part_value, AllHavePlans, cost-below, no_paths, path_wires, solved-complete, solved_single}
 use Rattle.sf_node.specs.declared.part.Part.{Part}
 use Rattle.sf_node.specs.declared.part.Part.TheVariants as by
 use Rattle.sf_node.specs.ByPart.{ArePartsOf}
@@ -12,7 +9,6 @@ use Rattle.sf_standard.proofs.Exact.{IsWholeItem, whole-item, fitting-belongs, l
 use Rattle.sf_standard.proofs.Listed.{each-from, sum_by-le_each}
 use Rattle.sf_standard.proofs.Shortness.{full-short}
 use Rattle.sf_standard.proofs.Singles.{no-plan, first-needed, single_spans_are_open}
-use Rattle.sf_bound.proofs.Whole.{solved-complete, solved_single}
 use Rattle.sf_standard.proofs.PathWires.{no-pull}
 use Rattle.sf_standard.proofs.Soundness.{bounded-le}
 

@@ -1,10 +1,8 @@
 -- The items of a subproblem and its unused blocks are subtrees of each of its plans.
-use Rattle.std.proofs.Common.{◌≡◌, ℕ, suc, ◌+◌, ◌*◌, ◌<◌, ◌≤◌, List, [], ◌∷◌, ◌++◌, map, length, drop, take-append-drop, length-append, append-nil, arith, refl, ap, sym, subst, ◌∙◌, inl, inr, ◌==◌, Bool, true, false, cond}
-use Rattle.sf_standard.proofs.Common.{zero, Contains, count_by, filter, sum_by, nat_le, AllByRecursion, range_with_len, list_any, mul-le-mul, eqb-true, ne_eqb, and_from, le-leb, nil_from_length, sum_by-cons, sum_by-append, sum-map, recursion_from_All, Design, Shape, Outline, Fits, block_count, Tree, Leaf, Beside, Above, width, height, leaves, each-append, each-weaker, each-map, each-left, each-right, EachPair-filter, EachPair-range, Token, is_block, postfix, Parts, Belongs, is_complete, is_unused, Contains-cons_cases, Contains-head, Contains-tail, not_in_nil, shapes_in, Item, items_of, unused, plans, fits, fitting, item_of, area, least_of, has_none, greatest, needed_area}
-use Rattle.std.specs.Prelude.{◌||◌}
+use Rattle.std.proofs.Common.{◌≡◌, ℕ, suc, ◌+◌, ◌*◌, ◌<◌, ◌≤◌, List, [], ◌∷◌, ◌++◌, map, length, drop, take-append-drop, length-append, append-nil, arith, refl, ap, sym, subst, ◌∙◌, inl, inr, ◌==◌, Bool, true, false, cond, ◌||◌}
+use Rattle.sf_standard.proofs.Common.{zero, Contains, count_by, filter, sum_by, nat_le, AllByRecursion, range_with_len, list_any, mul-le-mul, eqb-true, ne_eqb, and_from, le-leb, nil_from_length, sum_by-cons, sum_by-append, sum-map, recursion_from_All, Design, Shape, Outline, Fits, block_count, Tree, Leaf, Beside, Above, width, height, leaves, each-append, each-weaker, each-map, each-left, each-right, EachPair-filter, EachPair-range, Token, is_block, postfix, Parts, Belongs, is_complete, is_unused, Contains-cons_cases, Contains-head, Contains-tail, not_in_nil, shapes_in, Item, items_of, unused, plans, fits, fitting, item_of, area, least_of, has_none, greatest, needed_area, count_by-postfix, length-postfix}
 use Rattle.sf_model.proofs.Counting.{length-leaves}
 use Rattle.sf_polish.specs.declared.expr.Token.TheVariants as token
-use Rattle.sf_polish.proofs.Stack.{count_by-postfix, length-postfix}
 use Rattle.sf_standard.specs.Items as item
 use Rattle.sf_standard.proofs.Grown.{grow, grow-append, grow-postfix, read-grow, IsPart, part-self, blocks_of, grown-parts, own_area, grown-area}
 use Rattle.sf_standard.proofs.Listed.{each-contains, each-from, Contains-map, Contains-filter, Contains-from_filter, Contains-pairs, count-cons, sum_by-le_list, sum_by-map, sum_by-le_each}

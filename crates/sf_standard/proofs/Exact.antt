@@ -1,15 +1,11 @@
 -- At a solved subproblem the standard bound is the least cost of a plan that belongs to it and fits.
 use Rattle.std.proofs.Common.{◌≡◌, ℕ, ◌≤◌, List, [], ◌∷◌, ◌++◌, append_assoc, append-nil, arith, refl, ap, sym, subst, ◌∙◌, ◌⊎◌, inl, inr, Bool, true, false}
-use Rattle.sf_standard.proofs.Common.{Contains, IsFalse, nat_le, ⊤, and_parts, leb-true, cases_lt, cond-true, Design, Shape, Outline, MAX, cost, Fits, block_count, Tree, Leaf, Beside, Above, width, height, leaves, each-append, Token, postfix, IsSkewed, is_beside, is_above, Parts, Belongs, is_complete, is_solved, IsSubproblem, subproblem-spans, Contains-head, Contains-tail, shapes_in, Item, read, items_of, plans, fits, fitting, item_of, least_of, least_cost, open_value, standard}
+use Rattle.sf_standard.proofs.Common.{Contains, IsFalse, nat_le, ⊤, and_parts, leb-true, cases_lt, cond-true, Design, Shape, Outline, MAX, cost, Fits, block_count, Tree, Leaf, Beside, Above, width, height, leaves, each-append, Token, postfix, IsSkewed, is_beside, is_above, Parts, Belongs, is_complete, is_solved, IsSubproblem, subproblem-spans, Contains-head, Contains-tail, shapes_in, Item, read, items_of, plans, fits, fitting, item_of, least_of, least_cost, open_value, standard, normal-spelled, IsExactAtEnd, complete-normal, listed-belongs, solved-complete}
 use Rattle.sf_polish.specs.declared.expr.Expr.{Expr}
 use Rattle.sf_polish.specs.declared.expr.Token.TheVariants as token
-use Rattle.sf_polish.proofs.Normality.{normal-spelled}
-use Rattle.sf_node.specs.Bounds.{IsExactAtEnd}
-use Rattle.sf_node.proofs.Normalised.{complete-normal}
 use Rattle.sf_standard.specs.Items as item
 use Rattle.sf_standard.proofs.Listed.{Contains-from_map, Contains-from_filter, Contains-from_pairs}
 use Rattle.sf_standard.proofs.Cutting.{AreListed}
-use Rattle.sf_bound.proofs.Whole.{listed-belongs, solved-complete}
 use Rattle.sf_standard.proofs.Soundness.{standard_is_sound}
 
 -- reading the postfix of a plan puts its item on the stack

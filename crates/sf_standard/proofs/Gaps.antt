@@ -1,9 +1,6 @@
 -- Numbers that lie in intervals are spread at least as far as the gap between these.
-use Rattle.std.proofs.Common.{ℕ, ◌+◌, ◌≤◌, max, min, List, [], ◌∷◌, arith}
-use Rattle.std.specs.Prelude.{◌+ℤ◌, ◌-ℤ◌, ◌≤ℤ◌}
-use Rattle.sf_standard.proofs.Common.{Contains, fold, ℤ, pos, negsuc, nat_abs, AllByRecursion, ints, clamps, Shape, spread, EachPair, each-weaker, not_in_nil, Extent, Interval, extent_of, to_nat, gap, greatest_with, greatest_two}
-use Rattle.std.specs.Int.{int_max, int_min}
-use Rattle.sf_model.proofs.Used.{to_nat-le}
+use Rattle.std.proofs.Common.{ℕ, ◌+◌, ◌≤◌, max, min, List, [], ◌∷◌, arith, ◌+ℤ◌, ◌-ℤ◌, ◌≤ℤ◌}
+use Rattle.sf_standard.proofs.Common.{Contains, fold, ℤ, pos, negsuc, nat_abs, AllByRecursion, ints, clamps, Shape, spread, EachPair, each-weaker, not_in_nil, Extent, Interval, extent_of, to_nat, gap, greatest_with, greatest_two, int_max, int_min, to_nat-le}
 use Rattle.sf_standard.proofs.Listed.{each-contains}
 
 -- all lie between two numbers that are the spread apart

@@ -1,6 +1,5 @@
 -- The range, pair and hull parts are no more than a net's wire in any plan of the subproblem that fits.
-use Rattle.std.proofs.Common.{◌≡◌, ℕ, ◌+◌, ◌*◌, ◌<◌, ◌≤◌, max, List, [], ◌∷◌, ◌++◌, map, length, arith, refl, ap, sym, subst, ◌∙◌, inl, inr, Bool, true, false, cond}
-use Rattle.std.specs.Prelude.{◌≤ℤ◌}
+use Rattle.std.proofs.Common.{◌≡◌, ℕ, ◌+◌, ◌*◌, ◌<◌, ◌≤◌, max, List, [], ◌∷◌, ◌++◌, map, length, arith, refl, ap, sym, subst, ◌∙◌, inl, inr, Bool, true, false, cond, ◌≤ℤ◌}
 use Rattle.sf_standard.proofs.Common.{Contains, nat_lt, ℤ, pos, mul-le-mul_left, AllByRecursion, ints, cond_both, true≢false, recursion_from_All, Design, Net, Pin, Spot, Fits, block_count, IsPinSet, pin_order, pin_number, pin_count, Tree, Leaf, Beside, Above, width, height, leaves, spots_at, spots_of, spot_of, pin_x, pin_y, net_wire, weighed_wire, wire, each-append, each-weaker, each-map, each-left, each-right, EachPair, EachPair-map, Parts, Belongs, is_complete, Contains-head, Contains-tail, Contains-append_left, Contains-append_right, shapes_in, Item, items_of, item_of, Extent, Offset, range_x, range_y, range_part, block_pins, small_side, pair_part, item_extent, moved_right, moved_up, offsets, offset_x, offset_y, contains_pin, of_pins, pads_x, pads_y, hull_of, hull_part, extent_in, net_part, weighed_part, wire_part}
 use Rattle.sf_model.specs.declared.parts.Pin.TheVariants as pin
 use Rattle.sf_standard.proofs.Grown.{IsPart, part-self}

@@ -1,9 +1,7 @@
 -- The operands of tokens.
 use Rattle.std.proofs.Common.{ℕ, ◌+◌, ◌-◌, ◌<◌, ◌≤◌, List, [], ◌∷◌}
-use Rattle.sf_standard.proofs.Common.{IsFalse, AllByRecursion, Token, is_outside}
+use Rattle.sf_standard.proofs.Common.{IsFalse, AllByRecursion, Token, is_outside, Reads, inside-number}
 use Rattle.sf_polish.specs.declared.expr.Token.TheVariants as token
-use Rattle.sf_polish.proofs.Stack.{Reads}
-use Rattle.sf_polish.proofs.Normality.{inside-number}
 
 -- the rest of the tokens finds its operands
 abbrev pub Runs : ℕ → ℕ → List Token → Type 0

@@ -1,14 +1,7 @@
 -- The ends of paths, with what the paths leave of the nets, are no further apart than the wires of a plan are long.
-use Rattle.std.proofs.Common.{◌≡◌, ℕ, ◌+◌, ◌-◌, ◌*◌, ◌≤◌, max, List, [], ◌∷◌, map, length, arith, refl, ap, ◌∙◌}
-use Rattle.std.specs.Prelude.{IsTrue, ◌-ℤ◌, ◌≤ℤ◌}
-use Rattle.std.proofs.Math.Nat.{mul-add, add-mul}
-use Rattle.sf_standard.proofs.Common.{sum_by, zip, ℤ, pos, mul-le-mul_left, mul-le-mul_right, AllByRecursion, ints, recursion_from_All, sum_by-append, sum_by-cons, Design, Net, Pin, Spot, Fits, block_count, IsPinSet, Tree, spots_of, spread, pin_x, pin_y, net_wire, weighed_wire, wire, each-weaker, Parts, Belongs, net_part, wire_part, rest_part, full_part}
-use Rattle.sf_model.proofs.Used.{Walks, Spare, axis-spare, by_number, exchange, has_pin-Contains, paths-nets, steps_of, to_nat-le}
-use Rattle.sf_model.specs.Paths.{ArePathsOfAxis, IsHop, IsPath, end_of, hops, is_pad, last_of, left_from, net_in, pad_x, pad_y, pull, uses}
-use Rattle.sf_model.specs.declared.parts.Pad.{Pad}
+use Rattle.std.proofs.Common.{◌≡◌, ℕ, ◌+◌, ◌-◌, ◌*◌, ◌≤◌, max, List, [], ◌∷◌, map, length, arith, refl, ap, ◌∙◌, IsTrue, ◌-ℤ◌, ◌≤ℤ◌}
+use Rattle.sf_standard.proofs.Common.{sum_by, zip, ℤ, pos, mul-le-mul_left, mul-le-mul_right, AllByRecursion, ints, recursion_from_All, sum_by-append, sum_by-cons, Design, Net, Pin, Spot, Fits, block_count, IsPinSet, Tree, spots_of, spread, pin_x, pin_y, net_wire, weighed_wire, wire, each-weaker, Parts, Belongs, net_part, wire_part, rest_part, full_part, mul-add, add-mul, Walks, Spare, axis-spare, by_number, exchange, has_pin-Contains, paths-nets, steps_of, to_nat-le, ArePathsOfAxis, IsHop, IsPath, end_of, hops, is_pad, last_of, left_from, net_in, pad_x, pad_y, pull, uses, Pad, Path, Paths}
 use Rattle.sf_model.specs.declared.parts.Pin.TheVariants as pin
-use Rattle.sf_model.specs.declared.paths.Path.{Path}
-use Rattle.sf_model.specs.declared.paths.Paths.{Paths}
 use Rattle.sf_model.specs.declared.paths.Step.{Step}
 use Rattle.sf_standard.proofs.Gaps.{apart-le-spread}
 use Rattle.sf_standard.proofs.Listed.{Contains-map}

@@ -1,6 +1,5 @@
 -- Where the blocks of a floorplan stand.
-use Rattle.std.proofs.Common.{◌≡◌, ℕ, ◌+◌, ◌<◌, ◌≤◌, List, [], ◌∷◌, ◌++◌, arith, refl, ap, sym, subst, ◌∙◌, ◌⊎◌, inl, inr, ◌==◌, Bool, true, false, cond}
-use Rattle.std.specs.Prelude.{◌+ℤ◌, ◌≤ℤ◌}
+use Rattle.std.proofs.Common.{◌≡◌, ℕ, ◌+◌, ◌<◌, ◌≤◌, List, [], ◌∷◌, ◌++◌, arith, refl, ap, sym, subst, ◌∙◌, ◌⊎◌, inl, inr, ◌==◌, Bool, true, false, cond, ◌+ℤ◌, ◌≤ℤ◌}
 use Rattle.sf_standard.proofs.Common.{Contains, count_by, pos, AllByRecursion, cases_eq, cond-true, cond-false, eq-eqb, ne_eqb, ints, sum_by-append, recursion_from_All, Contains-append_left, Contains-append_right, Design, Shape, Spot, IsLegal, block_count, Tree, Leaf, Beside, Above, width, height, leaves, spots_at, spots_of, IsInside, spot_of, each-append, each-weaker, EachPair, EachPair-append, Contains-cons_cases, Contains-head, Contains-tail, not_in_nil}
 use Rattle.sf_model.proofs.Places.{Within, spots-within, spots-inside}
 use Rattle.sf_standard.proofs.Listed.{each-contains, each-from, count-head, count-cons, count-some}

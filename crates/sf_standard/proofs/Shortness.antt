@@ -1,15 +1,8 @@
 -- Where each part of a subproblem has a plan in the outline, its wires are short.
-use Rattle.std.proofs.Common.{◌≡◌, ℕ, ◌+◌, ◌-◌, ◌*◌, ◌^◌, ◌<◌, ◌≤◌, max, List, [], ◌∷◌, ◌++◌, map, length, arith, refl, ap, sym, subst, inl, inr, Bool, true, false, cond}
-use Rattle.std.specs.Prelude.{◌≤ℤ◌, ◌-ℤ◌, ◌||◌}
-use Rattle.sf_standard.proofs.Common.{Contains, sum_by, zip, nat_lt, ℤ, pos, neg_ℤ, fold, AllByRecursion, list_any, mul-le-mul, mul-le-mul_left, ints, cases_lt, cond_both, true≢false, get_or_past, recursion_from_All, sum_by-cons, Design, Net, Pin, Shape, IsCoordinate, Tree, width, height, leaves, pad_at, each-append, each-weaker, each-map, each-left, Parts, is_complete, Contains-head, shapes_in, Item, items_of, unused, plans, fits, fitting, item_of, Extent, Interval, Offset, gap, point, range_x, range_y, range_part, greatest_with, greatest_two, block_pins, small_side, pair_part, item_extent, moved_right, moved_up, offsets, offset_x, offset_y, of_pins, pads_x, pads_y, hull_of, hull_part, extent_in, has_none, net_part, weighed_part, wire_part, rest_part, full_part, AllHavePlans}
-use Rattle.std.specs.Int.{int_max, int_min}
-use Rattle.sf_model.specs.declared.parts.Pad.{Pad}
+use Rattle.std.proofs.Common.{◌≡◌, ℕ, ◌+◌, ◌-◌, ◌*◌, ◌^◌, ◌<◌, ◌≤◌, max, List, [], ◌∷◌, ◌++◌, map, length, arith, refl, ap, sym, subst, inl, inr, Bool, true, false, cond, ◌≤ℤ◌, ◌-ℤ◌, ◌||◌}
+use Rattle.sf_standard.proofs.Common.{Contains, sum_by, zip, nat_lt, ℤ, pos, neg_ℤ, fold, AllByRecursion, list_any, mul-le-mul, mul-le-mul_left, ints, cases_lt, cond_both, true≢false, get_or_past, recursion_from_All, sum_by-cons, Design, Net, Pin, Shape, IsCoordinate, Tree, width, height, leaves, pad_at, each-append, each-weaker, each-map, each-left, Parts, is_complete, Contains-head, shapes_in, Item, items_of, unused, plans, fits, fitting, item_of, Extent, Interval, Offset, gap, point, range_x, range_y, range_part, greatest_with, greatest_two, block_pins, small_side, pair_part, item_extent, moved_right, moved_up, offsets, offset_x, offset_y, of_pins, pads_x, pads_y, hull_of, hull_part, extent_in, has_none, net_part, weighed_part, wire_part, rest_part, full_part, AllHavePlans, int_max, int_min, Pad, Spare, axis-spare, by_number, exchange, paths-nets, pulls-small, steps_of, to_nat-le, ArePathsOfAxis, IsPath, left_from, pull, uses, Path, Paths}
 use Rattle.sf_model.specs.declared.parts.Pin.TheVariants as pin
-use Rattle.sf_model.proofs.Used.{Spare, axis-spare, by_number, exchange, paths-nets, pulls-small, steps_of, to_nat-le}
 use Rattle.sf_model.specs.Axes.{place_on}
-use Rattle.sf_model.specs.Paths.{ArePathsOfAxis, IsPath, left_from, pull, uses}
-use Rattle.sf_model.specs.declared.paths.Path.{Path}
-use Rattle.sf_model.specs.declared.paths.Paths.{Paths}
 use Rattle.sf_model.specs.declared.routing.Axis.{Axis}
 use Rattle.sf_model.specs.declared.routing.Axis.TheVariants.{Across, Upward}
 use Rattle.sf_standard.specs.Items as item

@@ -1,9 +1,7 @@
 -- Where each span has one place, the value of a complete subproblem from area and wires is what its one plan costs.
-use Rattle.std.proofs.Common.{◌≡◌, ℕ, suc, ◌+◌, ◌*◌, ◌-◌, ◌<◌, ◌≤◌, max, List, [], ◌∷◌, ◌++◌, length, length-take, map, arith, refl, ap, sym, subst, ◌∙◌, inl, inr, Bool, true, false}
-use Rattle.sf_standard.proofs.Common.{zero, Contains, sum_by, drop, nat_lt, slice_range, slice_index_or, ℤ, pos, not, AllByRecursion, list_any, list_all, mul-le-mul, mul-le-mul_left, ints, and_parts, ltb-false, ltb-true, cond_both, cond-true, recursion_from_All, Contains-append_left, Contains-append_right, sum-map, sum_by-cons, Design, Net, Pin, Shape, Spot, MAX, cost, Fits, block_count, shapes_of, IsPinSet, pin_number, pin_count, Tree, Leaf, Beside, Above, width, height, leaves, spots_at, spots_of, spot_of, pad_at, pin_x, pin_y, spread, net_wire, weighed_wire, wire, each-append, each-left, each-right, each-weaker, each-map, IsSubproblem, Parts, Belongs, is_complete, is_solved, is_wide, span_of, subproblem-spans, Contains-head, Extent, Offset, shapes_in, Item, items_of, unused, plans, fits, fitting, item_of, extent_of, point, range_part, pair_part, item_extent, offsets, moved_right, moved_up, offset_x, offset_y, contains_pin, of_pins, pads_x, pads_y, hull_of, hull_part, extent_in, area, least_of, least_cost, has_none, needed_area, area_part, net_part, weighed_part, wire_part, full_part, plans_of, open_value, standard, has_single_spans}
-use Rattle.std.specs.Prelude.{◌||◌, if◌then◌else◌}
+use Rattle.std.proofs.Common.{◌≡◌, ℕ, suc, ◌+◌, ◌*◌, ◌-◌, ◌<◌, ◌≤◌, max, List, [], ◌∷◌, ◌++◌, length, length-take, map, arith, refl, ap, sym, subst, ◌∙◌, inl, inr, Bool, true, false, ◌||◌, if◌then◌else◌}
+use Rattle.sf_standard.proofs.Common.{zero, Contains, sum_by, drop, nat_lt, slice_range, slice_index_or, ℤ, pos, not, AllByRecursion, list_any, list_all, mul-le-mul, mul-le-mul_left, ints, and_parts, ltb-false, ltb-true, cond_both, cond-true, recursion_from_All, Contains-append_left, Contains-append_right, sum-map, sum_by-cons, Design, Net, Pin, Shape, Spot, MAX, cost, Fits, block_count, shapes_of, IsPinSet, pin_number, pin_count, Tree, Leaf, Beside, Above, width, height, leaves, spots_at, spots_of, spot_of, pad_at, pin_x, pin_y, spread, net_wire, weighed_wire, wire, each-append, each-left, each-right, each-weaker, each-map, IsSubproblem, Parts, Belongs, is_complete, is_solved, is_wide, span_of, subproblem-spans, Contains-head, Extent, Offset, shapes_in, Item, items_of, unused, plans, fits, fitting, item_of, extent_of, point, range_part, pair_part, item_extent, offsets, moved_right, moved_up, offset_x, offset_y, contains_pin, of_pins, pads_x, pads_y, hull_of, hull_part, extent_in, area, least_of, least_cost, has_none, needed_area, area_part, net_part, weighed_part, wire_part, full_part, plans_of, open_value, standard, has_single_spans, cost-below}
 use Rattle.sf_model.specs.declared.parts.Pin.TheVariants as pin
-use Rattle.sf_model.proofs.Bounded.{cost-below}
 use Rattle.sf_standard.specs.Items as item
 use Rattle.sf_standard.proofs.Cutting.{AreListed, cut, belongs-listed, least_of-le}
 use Rattle.sf_standard.proofs.Exact.{IsWholeItem, whole-item, fitting-belongs, plans-are, least_of-reached}

@@ -1,10 +1,6 @@
 -- The standard bound is sound.
-use Rattle.std.proofs.Common.{◌≡◌, ◌+◌, ◌*◌, ◌≤◌, [], ◌∷◌, map, length, arith, ap, sym, subst, ◌∙◌, true}
-use Rattle.std.specs.Prelude.{if◌then◌else◌}
-use Rattle.sf_standard.proofs.Common.{nat_lt, list_any, mul-le-mul, mul-le-mul_left, cond_both, ltb-true, true≢false, Design, MAX, cost, Fits, block_count, Tree, Parts, Belongs, is_solved, subproblem-spans, items_of, fitting, item_of, area, least_cost, has_none, area_part, full_part, plans_of, open_value, standard}
-use Rattle.sf_model.proofs.Floored.{own_floor}
-use Rattle.sf_node.specs.Bounds.{IsSound}
-use Rattle.sf_bound.proofs.Whole.{solved-complete}
+use Rattle.std.proofs.Common.{◌≡◌, ◌+◌, ◌*◌, ◌≤◌, [], ◌∷◌, map, length, arith, ap, sym, subst, ◌∙◌, true, if◌then◌else◌}
+use Rattle.sf_standard.proofs.Common.{nat_lt, list_any, mul-le-mul, mul-le-mul_left, cond_both, ltb-true, true≢false, Design, MAX, cost, Fits, block_count, Tree, Parts, Belongs, is_solved, subproblem-spans, items_of, fitting, item_of, area, least_cost, has_none, area_part, full_part, plans_of, open_value, standard, own_floor, IsSound, solved-complete}
 use Rattle.sf_standard.proofs.Grown.{part-self}
 use Rattle.sf_standard.proofs.Cutting.{cut, part-fitting, least_of-le, needed-area, none-empty}
 use Rattle.sf_standard.proofs.PathWires.{full-le}

@@ -1,10 +1,8 @@
 -- A child by a block that leaves the subproblem incomplete has the bound of its parent.
-use Rattle.std.proofs.Common.{◌≡◌, ◌≢◌, ℕ, suc, ◌+◌, ◌*◌, ◌<◌, ◌≤◌, max, List, [], ◌∷◌, ◌++◌, length, map, append_assoc, arith, refl, ap, sym, ◌∙◌, inl, inr, Bool, true, false, cond, ◌==◌}
-use Rattle.sf_standard.proofs.Common.{zero, sum, sum_by, zip, filter, count_by, nat_lt, not, ℤ, pos, negsuc, list_all, list_any, range_with_len, ints, cases_eq, cond-true, cond-false, eqb-true, ne_eqb, eq-eqb, map-append, sum_by-cons, sum_by-append, sum-map, Design, Net, Pin, Shape, MAX, Tree, width, height, Token, is_block, Parts, is_complete, is_solved, is_wide, IsSubproblem, CanStep, after, is_unused, subproblem-spans, Contains-head, shapes_in, items_of, unused, fitting, extent_of, to_nat, gap, range_part, pair_part, offset_x, offset_y, contains_pin, hull_of, hull_part, extent_in, least_of, area, least_cost, has_none, greatest, needed_area, area_part, net_part, weighed_part, wire_part, rest_part, full_part, plans_of, bounded, open_value, standard}
-use Rattle.std.specs.Prelude.{◌||◌, ◌&&◌, if◌then◌else◌, ◌-ℤ◌, ◌≤ℤ◌}
+use Rattle.std.proofs.Common.{◌≡◌, ◌≢◌, ℕ, suc, ◌+◌, ◌*◌, ◌<◌, ◌≤◌, max, List, [], ◌∷◌, ◌++◌, length, map, append_assoc, arith, refl, ap, sym, ◌∙◌, inl, inr, Bool, true, false, cond, ◌==◌, ◌||◌, ◌&&◌, if◌then◌else◌, ◌-ℤ◌, ◌≤ℤ◌}
+use Rattle.sf_standard.proofs.Common.{zero, sum, sum_by, zip, filter, count_by, nat_lt, not, ℤ, pos, negsuc, list_all, list_any, range_with_len, ints, cases_eq, cond-true, cond-false, eqb-true, ne_eqb, eq-eqb, map-append, sum_by-cons, sum_by-append, sum-map, Design, Net, Pin, Shape, MAX, Tree, width, height, Token, is_block, Parts, is_complete, is_solved, is_wide, IsSubproblem, CanStep, after, is_unused, subproblem-spans, Contains-head, shapes_in, items_of, unused, fitting, extent_of, to_nat, gap, range_part, pair_part, offset_x, offset_y, contains_pin, hull_of, hull_part, extent_in, least_of, area, least_cost, has_none, greatest, needed_area, area_part, net_part, weighed_part, wire_part, rest_part, full_part, plans_of, bounded, open_value, standard, complete-normal}
 use Rattle.sf_polish.specs.declared.expr.Token.TheVariants as token
 use Rattle.sf_node.specs.declared.step.Step.TheVariants as step
-use Rattle.sf_node.proofs.Normalised.{complete-normal}
 use Rattle.sf_standard.specs.Items as item
 use Rattle.sf_standard.proofs.Gaps.{least-member, most-member}
 use Rattle.sf_standard.proofs.Appended.{read-append, read-block}

@@ -1,18 +1,12 @@
 -- Worked values of the bound and of costs, in small designs.
 use Rattle.std.proofs.Common.{◌≡◌, ℕ, List, [], ◌∷◌, length, refl}
-use Rattle.sf_standard.proofs.Common.{pos, Design, Net, Outline, Pin, Shape, IsWithinLimits, Tree, Leaf, Beside, Above, spots_of, wire, cost, root, walk, extended, standard, part_value}
-use Rattle.sf_model.proofs.Floored.{no_floor}
-use Rattle.sf_model.proofs.Used.{none-routes, unrouted}
+use Rattle.sf_standard.proofs.Common.{pos, Design, Net, Outline, Pin, Shape, IsWithinLimits, Tree, Leaf, Beside, Above, spots_of, wire, cost, root, walk, extended, standard, part_value, no_floor, none-routes, unrouted, AreRoutes, Block, Pad, full}
 use Rattle.sf_model.specs.AreaFloor.{IsAreaFloorIn}
-use Rattle.sf_model.specs.Paths.{AreRoutes}
-use Rattle.sf_model.specs.declared.parts.Block.{Block}
-use Rattle.sf_model.specs.declared.parts.Pad.{Pad}
 use Rattle.sf_model.specs.declared.parts.Pin.TheVariants as pin
 use Rattle.sf_model.specs.declared.parts.Weights.{Weights}
 use Rattle.sf_model.specs.declared.paths.Routes.{Routes}
 use Rattle.sf_node.specs.declared.step.Step.TheVariants as step
 use Rattle.sf_node.specs.declared.part.Part.TheVariants as by
-use Rattle.sf_node.specs.Full.{full}
 
 -- a shape by its sides
 abbrev shape : ℕ → ℕ → Shape

@@ -1,12 +1,7 @@
 -- The sizes that are gathered for a set.
 use Rattle.std.proofs.Common.{◌≡◌, ℕ, ◌+◌, ◌-◌, ◌<◌, ◌≤◌, ◌⊎◌, inl, inr, List, [], ◌∷◌, ◌++◌, length, get_or, take, arith, ap, sym, subst}
-use Rattle.sf_subsets.proofs.Common.{AddsSmall, AddsSplits, All, All-contains, Any, Contains, Direction, IsCovered, IsCoveredWithin, IsNoLarger, IsPart, Outline, Shape, area_of, bit_and, cases_lt, curve_at, not_in_nil, size_in}
-use Rattle.std.proofs.lemmas.List.{take_more}
-use Rattle.std.proofs.lemmas.List.Elements.{Contains-append_left, Contains-push, Contains-push_cases}
+use Rattle.sf_subsets.proofs.Common.{AddsSmall, AddsSplits, All, All-contains, Any, Contains, Direction, IsCovered, IsCoveredWithin, IsNoLarger, IsPart, Outline, Shape, area_of, bit_and, cases_lt, curve_at, not_in_nil, size_in, take_more, Contains-append_left, Contains-push, Contains-push_cases, IsCombination, IsJoinOf, CoversPair, AddsJoins, AddsPair}
 use Rattle.sf_curves.specs.declared.direction.Direction.TheVariants as d
-use Rattle.sf_curves.specs.Points.{IsCombination, IsJoinOf}
-use Rattle.sf_subsets.specs.Covering.{CoversPair}
-use Rattle.sf_subsets.specs.Gathering.{AddsJoins, AddsPair}
 use Rattle.sf_subsets.proofs.Bits.{part-le, next-part}
 use Rattle.sf_subsets.proofs.Law.{area-no_larger, area-in}
 

@@ -1,14 +1,7 @@
 -- The least area of all floorplans, from the curve of all blocks.
 use Rattle.std.proofs.Common.{◌≡◌, ℕ, ◌+◌, ◌*◌, ◌-◌, ◌^◌, ◌<◌, ◌≤◌, inl, inr, min, List, arith, ap, sym, subst, ◌∙◌, Option, Some, None}
-use Rattle.sf_subsets.proofs.Common.{All, All-contains, Any, AreLeasts, AreMade, Contains, Design, IsAreaFloor, IsLeastArea, IsNoLarger, IsPlanOfSize, IsTable, IsWithin, MatchOption, Shape, area_of, block_count, cases_lt, curve_at, limit_of, mul-le-mul, size_of, total, tree_of}
-use Rattle.sf_model.specs.Cost.{NoneFits}
-use Rattle.sf_model.specs.Limits.{IsSide}
-use Rattle.sf_subsets.specs.declared.budget.Budget.{Budget}
+use Rattle.sf_subsets.proofs.Common.{All, All-contains, Any, AreLeasts, AreMade, Contains, Design, IsAreaFloor, IsLeastArea, IsNoLarger, IsPlanOfSize, IsTable, IsWithin, MatchOption, Shape, area_of, block_count, cases_lt, curve_at, limit_of, mul-le-mul, size_of, total, tree_of, NoneFits, IsSide, Budget, LeastPlan, Table, IsLeastPlan, IsFoundBelow}
 use Rattle.sf_subsets.specs.declared.found.Found.{Found}
-use Rattle.sf_subsets.specs.declared.least.LeastPlan.{LeastPlan}
-use Rattle.sf_subsets.specs.declared.table.Table.{Table}
-use Rattle.sf_subsets.specs.Floors.{IsLeastPlan}
-use Rattle.sf_subsets.specs.Gathering.{IsFoundBelow}
 use Rattle.sf_subsets.proofs.Bits.{below_power}
 use Rattle.sf_subsets.proofs.Plans.{total-le-area}
 use Rattle.sf_subsets.proofs.Law.{legal-plan, area-no_larger}

@@ -1,8 +1,6 @@
 -- Sets as numbers: unions, parts, and how the parts of a set are met in falling order.
 use Rattle.std.proofs.Common.{◌≡◌, ℕ, zero, suc, ◌+◌, ◌-◌, ◌*◌, ◌/◌, ◌%◌, ◌^◌, ◌<◌, ◌≤◌, inl, inr, min, List, [], ◌∷◌, get_or, arith, refl, ap, sym, subst, ◌∙◌, add-one}
-use Rattle.sf_subsets.proofs.Common.{IsPart, IsSplit, bit_and, bit_at, bit_at-zero, cases_lt, total}
-use Rattle.std.specs.Int.{trailing_zeros, w64}
-use Rattle.std.proofs.lemmas.Nat.Bits.{bit_at_lowest, bit_at-suc, same_from_bits, bit_at_above, bit_at_and, bit_at_cat_low, bit_at_cat_high, bit_at-lt, bit_at-trailing_zeros}
+use Rattle.sf_subsets.proofs.Common.{IsPart, IsSplit, bit_and, bit_at, bit_at-zero, cases_lt, total, trailing_zeros, w64, bit_at_lowest, bit_at-suc, same_from_bits, bit_at_above, bit_at_and, bit_at_cat_low, bit_at_cat_high, bit_at-lt, bit_at-trailing_zeros}
 
 -- without their lowest bits too one is the union of the others
 split-half : (a b s : ℕ) → IsSplit a b s → IsSplit (a / 2) (b / 2) (s / 2)

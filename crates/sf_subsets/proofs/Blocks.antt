@@ -1,14 +1,6 @@
 -- The least areas of blocks, and the plans of all blocks.
-use Rattle.std.proofs.Common.{◌≡◌, ℕ, ◌+◌, ◌-◌, ◌^◌, ◌<◌, ◌≤◌, ◌⊎◌, inl, inr, List, [], ◌∷◌, ◌++◌, length, get_or, cond, arith, refl, ap, sym, ◌∙◌, subst, ◌==◌, length-append}
-use Rattle.sf_subsets.proofs.Common.{All, All-contains, Any, AreLeasts, Contains, Design, IsCovered, IsCurveOf, IsLeastArea, IsNoLarger, IsPlanOf, IsWithin, Outline, Shape, Tree, area_of, block_count, cases_lt, count_by, eqb_tells, leaves, mul-le-mul, not_in_nil, shapes_of, sum_by-cons}
-use Rattle.std.specs.List.{AllByRecursion}
-use Rattle.std.proofs.lemmas.Nat.Bits.{bit_at_ones, bit_at_ones_above}
-use Rattle.std.proofs.lemmas.List.{get_or_append_left, get_or_push, get_or_past}
-use Rattle.std.proofs.lemmas.List.Elements.{All-from_recursion}
-use Rattle.sf_model.specs.Legal.{IsLegal}
-use Rattle.sf_model.specs.Limits.{IsSide}
-use Rattle.sf_subsets.specs.Covering.{IsLeastOf}
-use Rattle.sf_subsets.proofs.Law.{area-no_larger}
+use Rattle.std.proofs.Common.{◌≡◌, ℕ, ◌+◌, ◌-◌, ◌^◌, ◌<◌, ◌≤◌, ◌⊎◌, inl, inr, List, [], ◌∷◌, ◌++◌, length, get_or, cond, arith, refl, ap, ◌∙◌, ◌==◌}
+use Rattle.sf_subsets.proofs.Common.{All, All-contains, Contains, Design, IsLeastArea, IsPlanOf, IsWithin, Outline, Shape, Tree, area_of, block_count, cases_lt, count_by, eqb_tells, leaves, mul-le-mul, sum_by-cons, AllByRecursion, bit_at_ones, bit_at_ones_above, All-from_recursion, IsLegal, IsSide, IsLeastOf}
 
 -- the point of least area is no larger than each
 pub least-le : (points : List Shape) (p q : Shape) → IsLeastArea points p → Contains points q → area_of p ≤ area_of q

@@ -1,12 +1,6 @@
 -- The curve of a set from what was gathered for it, and the table.
-use Rattle.std.proofs.Common.{◌≡◌, ℕ, ◌+◌, ◌-◌, ◌^◌, ◌<◌, ◌≤◌, ◌⊎◌, inl, inr, List, [], ◌∷◌, ◌++◌, length, get_or, arith, refl, ap, sym, ◌∙◌, subst, length-append}
-use Rattle.sf_subsets.proofs.Common.{AddsSmall, AddsSplits, All, All-contains, Any, AreLeasts, Contains, Design, IsCovered, IsCoveredWithin, IsCurveOf, IsJoined, IsNoLarger, IsTable, IsWithin, Outline, Shape, area_of, cases_lt, curve_at, limit_of, not_in_nil, shapes_of, size_in}
-use Rattle.std.proofs.lemmas.List.{get_or_append_left, get_or_push}
-use Rattle.std.proofs.lemmas.List.Elements.{All-nil, All-push}
-use Rattle.sf_curves.proofs.Members.{Any-weaker, Contains-head}
-use Rattle.sf_subsets.specs.declared.budget.Budget.{Budget}
-use Rattle.sf_subsets.specs.declared.table.Table.{Table}
-use Rattle.sf_subsets.specs.Gathering.{HasFloors, IsMade, IsSetCurve, IsSplitJoin}
+use Rattle.std.proofs.Common.{◌≡◌, ℕ, ◌+◌, ◌-◌, ◌^◌, ◌<◌, ◌≤◌, ◌⊎◌, inl, inr, List, [], ◌∷◌, ◌++◌, length, arith, refl, ap, sym, ◌∙◌, subst, length-append}
+use Rattle.sf_subsets.proofs.Common.{AddsSmall, AddsSplits, All-contains, Any, AreLeasts, Contains, Design, IsCovered, IsCoveredWithin, IsCurveOf, IsJoined, IsNoLarger, IsTable, IsWithin, Outline, Shape, cases_lt, curve_at, limit_of, not_in_nil, shapes_of, size_in, get_or_append_left, get_or_push, All-nil, Any-weaker, Contains-head, Budget, Table, HasFloors, IsMade, IsSetCurve, IsSplitJoin}
 use Rattle.sf_subsets.proofs.Law.{filled-covers, set-some}
 use Rattle.sf_subsets.proofs.Added.{covered-kept}
 

@@ -1,17 +1,8 @@
 -- A curve covers the plans of a set where it covers what the curves of each split join to.
 use Rattle.std.proofs.Common.{◌≡◌, ℕ, ◌+◌, ◌-◌, ◌^◌, ◌<◌, ◌≤◌, inl, inr, List, [], ◌∷◌, cond, arith, refl, ap, sym, subst, ◌==◌}
-use Rattle.sf_subsets.proofs.Common.{Any, AreLeasts, Contains, Design, Direction, IsCoveredWithin, IsNoLarger, IsPart, IsPlanOf, IsSplit, IsWithin, Leaf, Outline, Shape, Tree, area_of, bit_at, bit_at-zero, block_count, cases_lt, count_by, eqb_tells, leaves, mul-le-mul, shapes_of, size_in, size_of, sum_by-cons, total}
-use Rattle.std.specs.List.{AllByRecursion}
-use Rattle.std.proofs.lemmas.Nat.Bits.{same_from_bits, bit_at_above, bit_at_ones, bit_at_ones_above}
-use Rattle.std.proofs.lemmas.List.Elements.{recursion_from_All}
-use Rattle.std.proofs.lemmas.Bool.{ne_eqb}
-use Rattle.sf_model.specs.Legal.{IsLegal}
-use Rattle.sf_model.specs.Tree.{Beside, Above}
+use Rattle.sf_subsets.proofs.Common.{Any, AreLeasts, Contains, Design, Direction, IsCoveredWithin, IsNoLarger, IsPart, IsPlanOf, IsSplit, IsWithin, Leaf, Outline, Shape, Tree, area_of, bit_at, bit_at-zero, block_count, cases_lt, count_by, eqb_tells, leaves, mul-le-mul, shapes_of, size_in, size_of, sum_by-cons, total, AllByRecursion, same_from_bits, bit_at_above, bit_at_ones, bit_at_ones_above, recursion_from_All, ne_eqb, IsLegal, Beside, Above, beside_size, above_size, Any-weaker, CoversPair, Covers}
 use Rattle.sf_curves.specs.declared.direction.Direction.TheVariants as d
-use Rattle.sf_curves.specs.Points.{beside_size, above_size}
-use Rattle.sf_curves.proofs.Members.{Any-weaker}
 use Rattle.sf_curves.proofs.OnCurve.{same_point}
-use Rattle.sf_subsets.specs.Covering.{CoversPair, Covers}
 use Rattle.sf_subsets.proofs.Bits.{split-total, split-sum, top-below, top-here, top-above}
 use Rattle.sf_subsets.proofs.Plans.{IsCut, cut-beside, cut-above, leaf-here, leaf-other, leaf-listed, area-beside, area-above, total-le-area}
 

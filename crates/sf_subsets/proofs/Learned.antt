@@ -1,11 +1,8 @@
 -- A design has one least area, and where it knows that its floorplans are the same.
 use Rattle.std.proofs.Common.{◌≡◌, ℕ, arith, sym, subst, ◌∙◌, inl, inr}
 use Rattle.sf_model.proofs.Floored.{floor-one, legal-same}
-use Rattle.sf_model.specs.Cost.{NoneFits}
 use Rattle.sf_model.specs.Floored.{HasFloor}
-use Rattle.sf_model.specs.Legal.{Fits}
-use Rattle.sf_subsets.proofs.Common.{Design, Outline, Tree}
-use Rattle.sf_subsets.specs.Floors.{IsAreaOf, IsLeastPlan, KnowsArea}
+use Rattle.sf_subsets.proofs.Common.{Design, Outline, Tree, Fits, IsAreaOf, IsLeastPlan, KnowsArea}
 
 module _ (old : Design) (floor : ℕ) (new : Design) (has : HasFloor old floor new) where
   -- a least plan stays one

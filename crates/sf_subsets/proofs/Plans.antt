@@ -1,17 +1,7 @@
 -- Plans of sets of blocks, and their parts.
 use Rattle.std.proofs.Common.{◌≡◌, ℕ, ◌+◌, ◌-◌, ◌*◌, ◌^◌, ◌<◌, ◌≤◌, inl, inr, max, List, [], ◌++◌, cond, arith, refl, ap, sym, subst, ◌∙◌, ◌==◌}
-use Rattle.sf_subsets.proofs.Common.{All, AreLeasts, Contains, Design, Direction, IsPart, IsPlanOf, IsPlanOfSize, IsSplit, Leaf, Shape, Tree, area_of, bit_at, bit_at-zero, cases_lt, count_by, eqb_tells, leaves, mul-le-mul, plan_in, shapes_of, size_in, size_of, sum_by-cons, total}
-use Rattle.std.proofs.Math.Nat.{mul-le-mul_left}
-use Rattle.std.proofs.lemmas.Nat.Bits.{bit_at-lt}
-use Rattle.std.proofs.lemmas.List.Sums.{sum_by-append}
-use Rattle.std.proofs.lemmas.List.Elements.{recursion_from_All, All-from_recursion, All-head, All-append, All-cons, All-nil}
-use Rattle.std.proofs.lemmas.Bool.{ne_eqb}
-use Rattle.sf_model.specs.Legal.{Fits}
-use Rattle.sf_model.specs.Tree.{Beside, Above}
-use Rattle.sf_model.proofs.Each.{each-left, each-right}
+use Rattle.sf_subsets.proofs.Common.{All, AreLeasts, Contains, Design, Direction, IsPart, IsPlanOf, IsPlanOfSize, IsSplit, Leaf, Shape, Tree, area_of, bit_at, bit_at-zero, cases_lt, count_by, eqb_tells, leaves, mul-le-mul, plan_in, shapes_of, size_in, size_of, sum_by-cons, total, mul-le-mul_left, bit_at-lt, sum_by-append, recursion_from_All, All-from_recursion, All-head, All-append, All-cons, All-nil, ne_eqb, Fits, Beside, Above, each-left, each-right, beside_size, above_size, times}
 use Rattle.sf_curves.specs.declared.direction.Direction.TheVariants as d
-use Rattle.sf_curves.specs.Points.{beside_size, above_size}
-use Rattle.sf_subsets.specs.Sets.{times}
 use Rattle.sf_subsets.proofs.Bits.{split-total, total-one, gather, gather-bit, no_bit, below_power, top-below, top-here, top-above, rest-split}
 
 -- a leaf has its block once

@@ -1,13 +1,7 @@
 -- A floorplan that fits has few leaves, of which no side is too long.
 use Rattle.std.proofs.Common.{◌<◌, ◌≤◌, ℕ, [], arith}
-use Rattle.sf_subsets.proofs.Common.{All-contains, Contains, Design, Shape, Tree, block_count, leaves, shapes_of}
-use Rattle.std.specs.List.{AllByRecursion}
-use Rattle.std.proofs.lemmas.List.Elements.{recursion_from_All}
-use Rattle.sf_model.proofs.Each.{each-left, each-right}
-use Rattle.sf_model.specs.Limits.{IsSide}
-use Rattle.sf_model.specs.Tree.{Leaf, Beside, Above, HasSides, leaf_count}
+use Rattle.sf_subsets.proofs.Common.{All-contains, Contains, Design, Shape, Tree, block_count, leaves, shapes_of, AllByRecursion, recursion_from_All, each-left, each-right, IsSide, Leaf, Beside, Above, HasSides, leaf_count, IsFitting}
 use Rattle.sf_place.proofs.ByNumber.{plan-leaves}
-use Rattle.sf_subsets.specs.Floors.{IsFitting}
 
 -- it has few leaves
 pub fitting-few : (design : Design) (tree : Tree) → IsFitting design tree → leaf_count tree ≤ 320

@@ -1,8 +1,7 @@
 -- Splits that lead to a size, and the plans that they lead to.
 use Rattle.std.proofs.Common.{◌≡◌, ◌≢◌, ℕ, zero, suc, ◌-◌, ◌^◌, ◌<◌, ◌≤◌, inl, inr, List, length, arith, refl, sym, subst}
-use Rattle.sf_subsets.proofs.Common.{All, All-contains, AreMade, Contains, Design, Direction, IsJoined, IsPart, IsPlanOfSize, Leaf, Shape, Tree, bit_and, cases_lt, curve_at, plan_in, size_in}
+use Rattle.sf_subsets.proofs.Common.{All, All-contains, AreMade, Contains, Design, Direction, IsJoined, IsPart, IsPlanOfSize, Leaf, Shape, Tree, bit_and, cases_lt, curve_at, plan_in, size_in, IsMade, IsSplitJoin, IsSplitOf}
 use Rattle.sf_subsets.specs.declared.splitting.Split.{Split}
-use Rattle.sf_subsets.specs.Gathering.{IsMade, IsSplitJoin, IsSplitOf}
 use Rattle.sf_subsets.proofs.Bits.{next-part}
 use Rattle.sf_subsets.proofs.Plans.{leaf_alone_plan, parts-joined}
 

@@ -1,3 +1,4 @@
+mod Common
 mod Moves
 mod Right
 mod Tables

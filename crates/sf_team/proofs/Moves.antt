@@ -1,13 +1,9 @@
 -- Each step keeps the rule.
-use Rattle.std.proofs.Common.{◌≡◌, ◌≢◌, ◌⊎◌, ℕ, zero, suc, true, false, true≢false, List, [], ◌∷◌, ◌++◌, set, sym, refl, ap, ◌∙◌, subst, ⊎_elim, inl, inr, arith}
-use Rattle.std.specs.Prelude.{Contains}
-use Rattle.std.proofs.lemmas.List.Elements.{Contains-append_left, Contains-append_right, Contains-append_cases}
+use Rattle.std.proofs.Common.{◌≡◌, ◌≢◌, ◌⊎◌, ℕ, zero, suc, true, false, true≢false, List, [], ◌∷◌, ◌++◌, set, sym, refl, ap, ◌∙◌, subst, ⊎_elim, inl, inr, arith, Contains}
+use Rattle.sf_team.proofs.Common.{Contains-append_left, Contains-append_right, Contains-append_cases, Message, Hand, hand, AreAmong, Fits, OneSends}
 use mathlib.Core.Option.{some, some-injective, some-ne-none}
 use lib.ListN.{get_elem?}
 use Rattle.crossbeam_channel.specs.Fifo.{Pushes, Pops, Forks, Merges, Learns}
-use Rattle.sf_team.specs.declared.message.Message.{Message}
-use Rattle.sf_team.specs.declared.rule.Hand.{Hand}
-use Rattle.sf_team.specs.Rule.{hand, AreAmong, Fits, OneSends}
 
 module _ {J : Type 0} where
   -- what stands in a list where one place changed

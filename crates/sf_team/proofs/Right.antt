@@ -1,15 +1,7 @@
 -- Answers to messages, and what the caller knows of them.
-use Rattle.std.proofs.Common.{◌≡◌, ℕ, zero, suc, true, List, [], ◌∷◌, ◌++◌, refl, ap, ◌∙◌, sym, subst, ⊎_elim, arith, length}
-use Rattle.std.specs.Prelude.{Contains, slice_get, Some, Option, slice_index_or, MatchResult, Result, Ok, Err}
-use Rattle.std.proofs.lemmas.List.Elements.{Contains-append_left, Contains-append_right, Contains-append_cases}
-use Rattle.std.specs.Arc.{arc_value}
+use Rattle.std.proofs.Common.{◌≡◌, ℕ, zero, suc, List, [], ◌∷◌, ◌++◌, refl, ap, ◌∙◌, sym, subst, ⊎_elim, arith, length, Contains, slice_get, Some, Option, slice_index_or, MatchResult, Result, Ok, Err}
+use Rattle.sf_team.proofs.Common.{Contains-append_left, Contains-append_right, Contains-append_cases, arc_value, Message, Work, Stop, Done, Hand, IsMessageOf, IsAnswerTo, AreAnswers, ComesTo, AreRight, AreAmong, IsCaller, hand}
 use Rattle.sf_team.specs.declared.message.Numbered.{Numbered}
-use Rattle.sf_team.specs.declared.message.Message.{Message}
-use Rattle.sf_team.specs.declared.message.Message.TheVariants.{Work, Stop}
-use Rattle.sf_team.specs.declared.message.Done.{Done}
-use Rattle.sf_team.specs.declared.rule.Hand.{Hand}
-use Rattle.sf_team.specs.Answers.{IsMessageOf, IsAnswerTo, AreAnswers, ComesTo, AreRight}
-use Rattle.sf_team.specs.Rule.{AreAmong, IsCaller, hand}
 
 -- what is in a list of one element
 only : {X : Type 0} (P : X → Type 0) (x y : X) → P x → Contains (x ∷ []) y → P y

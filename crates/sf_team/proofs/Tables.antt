@@ -1,14 +1,10 @@
 -- Tables of answers, and lists.
-use Rattle.std.proofs.Common.{◌≡◌, inl, inr, ℕ, zero, suc, ◌+◌, nat_lt, set, map, ◌<◌, List, [], ◌∷◌, ◌++◌, refl, ap, ◌∙◌, sym, subst, arith, length, take, drop}
-use Rattle.std.specs.Prelude.{Contains, slice_get, Some, None, Option, slice_index_or, All}
+use Rattle.std.proofs.Common.{◌≡◌, inl, inr, ℕ, zero, suc, ◌+◌, nat_lt, set, map, ◌<◌, List, [], ◌∷◌, ◌++◌, refl, ap, ◌∙◌, sym, subst, arith, length, take, drop, Contains, slice_get, Some, None, Option, slice_index_or, All, option_map}
 use Rattle.std.specs.List.{AllZip}
-use Rattle.std.specs.Option.{option_map}
 use Rattle.std.proofs.lemmas.Option.{slice_get-map, slice_get-get_or}
 use Rattle.std.proofs.lemmas.Bool.{cases_Bool}
 use Rattle.std.proofs.lemmas.Bool.Decides.{nat_tests}
-use Rattle.std.proofs.lemmas.List.Elements.{Contains-append_left, Contains-append_right}
-use Rattle.sf_team.specs.declared.message.Done.{Done}
-use Rattle.sf_team.specs.Answers.{ComesTo, AreRight, RightAt, IsTable}
+use Rattle.sf_team.proofs.Common.{Contains-append_left, Contains-append_right, Done, ComesTo, AreRight, RightAt, IsTable}
 
 -- a fact of each place, after one of them changed
 set_all : {X : Type 0} (F : ℕ → X → Type 0) (l : List X) (i : ℕ) (v : X) → ((k : ℕ) (d : X) → k < length l → F k (slice_index_or l k d)) → F i v

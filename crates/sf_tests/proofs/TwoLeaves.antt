@@ -1,12 +1,6 @@
 -- Two leaves side by side, each in a shape of its block's list, are a floorplan of two blocks.
-use Rattle.std.proofs.Common.{◌≡◌, ℕ, suc, ◌<◌, List, [], ◌∷◌, arith, refl, sym, subst, ◌==◌}
-use Prim.Native.Nat.{zero}
-use Rattle.std.specs.Prelude.{Contains, count_by}
-use Rattle.std.proofs.lemmas.List.Elements.{All-from_recursion}
-use Rattle.sf_model.specs.declared.design.Design.{Design}
-use Rattle.sf_model.specs.declared.parts.Shape.{Shape}
-use Rattle.sf_model.specs.Tree.{Tree, Leaf, Beside}
-use Rattle.sf_model.specs.Legal.{IsLegal, block_count, shapes_of}
+use Rattle.std.proofs.Common.{◌≡◌, ℕ, suc, ◌<◌, List, [], ◌∷◌, arith, refl, sym, subst, ◌==◌, Contains, count_by}
+use Rattle.sf_tests.proofs.Common.{zero, All-from_recursion, Design, Shape, Tree, Leaf, Beside, IsLegal, block_count, shapes_of}
 
 -- the first leaf is the only one of the first block, and the second of the second
 each-once : (s t : Shape) (b : ℕ) → b < 2 → count_by (λ (leaf : ℕ × Shape). leaf.0 == b) ((0, s) ∷ (1, t) ∷ []) ≡ 1

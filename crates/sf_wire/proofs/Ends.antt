@@ -1,13 +1,9 @@
 -- The greatest ends of spots, one spot more, and of spots in an outline.
-use Rattle.std.proofs.Common.{◌≡◌, ℕ, ◌+◌, ◌<◌, ◌≤◌, max, List, [], ◌∷◌, length, get_or, take, arith, ap}
-use Rattle.std.specs.Prelude.{◌+ℤ◌}
-use Rattle.sf_wire.proofs.Common.{pos, nat_abs, ints, right_end, upper_end}
+use Rattle.std.proofs.Common.{◌≡◌, ℕ, ◌+◌, ◌<◌, ◌≤◌, max, List, [], ◌∷◌, length, get_or, take, arith, ap, ◌+ℤ◌}
+use Rattle.sf_wire.proofs.Common.{pos, nat_abs, ints, right_end, upper_end, take_more, Spot, LiesIn}
 use Rattle.std.specs.List.{AllByRecursion}
-use Rattle.std.proofs.lemmas.List.{take_more}
 use Rattle.sf_model.specs.declared.parts.Outline.{Outline}
-use Rattle.sf_model.specs.declared.plan.Spot.{Spot}
 use Rattle.sf_model.proofs.Ends.{right_end-append, upper_end-append}
-use Rattle.sf_place.specs.Verdict.{LiesIn}
 
 -- with one spot more
 pub right_end_more : (ss : List Spot) (i : ℕ) (d : Spot) → i < length ss → right_end (take (i + 1) ss) ≡ max (right_end (take i ss)) (nat_abs ((get_or ss i d).x +ℤ pos (get_or ss i d).w))

@@ -1,8 +1,6 @@
 -- A fold over the coordinates of pins, one pin more, and what keeps it near.
-use Rattle.std.proofs.Common.{◌≡◌, ℕ, ◌+◌, ◌<◌, ◌≤◌, List, [], ◌∷◌, map, length, get_or, take, ap, sym, subst, ◌∙◌, arith}
-use Rattle.std.specs.Prelude.{◌-ℤ◌}
-use Rattle.sf_wire.proofs.Common.{ℤ, fold, nat_abs, int_max, int_min, ints, clamps, Pin, spread, IsDoubledCoordinate}
-use Rattle.std.proofs.lemmas.List.{take_more, take_all, map-append}
+use Rattle.std.proofs.Common.{◌≡◌, ℕ, ◌+◌, ◌<◌, ◌≤◌, List, [], ◌∷◌, map, length, get_or, take, ap, sym, subst, ◌∙◌, arith, ◌-ℤ◌}
+use Rattle.sf_wire.proofs.Common.{ℤ, fold, nat_abs, int_max, int_min, ints, clamps, Pin, spread, IsDoubledCoordinate, take_more, take_all, map-append}
 use Rattle.std.proofs.lemmas.List.Sums.{fold-append}
 use mir.Syntax.{w64}
 use mir.Val.{to_z, of_z}

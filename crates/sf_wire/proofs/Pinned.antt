@@ -1,8 +1,7 @@
 -- The pins of the nets of a design are blocks and pads of it.
 use Rattle.std.proofs.Common.{◌≡◌, ℕ, suc, ◌<◌, List, ◌∷◌, length, get_or, subst, sym, arith, ap}
-use Rattle.sf_model.specs.declared.design.Design.{Design}
 use Rattle.sf_model.specs.declared.parts.Net.{Net}
-use Rattle.sf_wire.proofs.Common.{Pin, IsThere}
+use Rattle.sf_wire.proofs.Common.{Pin, IsThere, Design}
 use Rattle.sf_model.specs.Legal.{block_count}
 use Rattle.sf_wire.specs.Nets.{HasPins}
 

@@ -2,10 +2,7 @@
 use Rattle.std.proofs.Common.{◌≡◌, ℕ, ◌*◌, ◌^◌, ◌<◌, ◌≤◌, List, All, arith}
 use Rattle.std.proofs.Math.Nat.{mul-le-mul}
 use Rattle.std.proofs.lemmas.List.Elements.{recursion_from_All}
-use Rattle.sf_model.specs.declared.design.Design.{Design}
-use Rattle.sf_model.specs.declared.plan.Spot.{Spot}
-use Rattle.sf_model.specs.Cost.{right_end, upper_end}
-use Rattle.sf_place.specs.Verdict.{LiesIn}
+use Rattle.sf_wire.proofs.Common.{Design, Spot, right_end, upper_end, LiesIn}
 use Rattle.sf_wire.proofs.Ends.{right_end_most, upper_end_most}
 
 -- a placement in the outline whose wire is short has a small cost

@@ -1,6 +1,6 @@
 -- What stands behind two hyphens.
 use Rattle.std.proofs.Common.{◌≡◌, ◌≢◌, ℕ, List, ◌∷◌, Option, Some, None, MatchOption, Bor, sym, ap, ◌∙◌}
-use Rattle.sf_words.specs.Table.{Text}
+use Rattle.sf_words.proofs.Common.{Text}
 
 -- a text that begins with a hyphen begins with two just where the rest begins with one, and the same is left
 pub behind_two : (bs tail : Text) (r : Option (Bor (List ℕ))) → bs ≡ 45 ∷ tail

@@ -1,7 +1,6 @@
 -- The defaults of the options that take numbers.
 use Rattle.std.proofs.Common.{IfSome, lit≤}
-use Rattle.sf_words.proofs.Common.{Key, PerUnit, Shapes, AreaWeight, WireWeight, Workers, Starts, Moves, StartSeed}
-use Rattle.sf_words.specs.Numbers.{range, default_of, IsAllowed}
+use Rattle.sf_words.proofs.Common.{Key, PerUnit, Shapes, AreaWeight, WireWeight, Workers, Starts, Moves, StartSeed, range, default_of, IsAllowed}
 
 -- a default is in the range of its option
 pub default_allowed : (key : Key) → IfSome (default_of key) (IsAllowed key)

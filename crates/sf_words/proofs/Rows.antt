@@ -1,9 +1,7 @@
 -- The texts of options in the rows that clap keeps.
 use Rattle.std.proofs.Common.{◌≡◌, ◌⊎◌, inl, inr, Bool, true, false, cond, List, [], ◌∷◌, ◌++◌, Some, None, map, fold, refl, sym, ap, ◌∙◌, codes, subst}
-use Rattle.sf_words.proofs.Common.{bytes_eq, cases_Bool, Row, first_of, with_default, has_row, more_values, Key, key_text, is_flag, Mode, Token, attached, spaced, alone, key_of, value_of, IsShaped, AreOptions, value_in, full, row_of, text_in_row, flag_text, texts_in}
+use Rattle.sf_words.proofs.Common.{bytes_eq, cases_Bool, Row, first_of, with_default, has_row, more_values, Key, key_text, is_flag, Mode, Token, attached, spaced, alone, key_of, value_of, IsShaped, AreOptions, value_in, full, row_of, text_in_row, flag_text, texts_in, DefaultValue, AsWritten}
 use Rattle.clap.specs.Words.{Text}
-use Rattle.clap.specs.declared.parser.matches.ValueSource.TheVariants.{DefaultValue}
-use Rattle.clap.specs.declared.builder.value_parser.Reading.TheVariants.{AsWritten}
 use Rattle.sf_words.proofs.Lookup.{named_same}
 use Rattle.sf_words.proofs.Walks.{at_row-absent}
 

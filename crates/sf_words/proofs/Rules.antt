@@ -1,8 +1,7 @@
 -- The options that clap knows.
 use Rattle.std.proofs.Common.{◌≡◌, inl, inr, Bool, not, ◌&&◌, List, [], ◌∷◌, Some, Contains, map, find, is_some, refl, ap, ◌∙◌, arith, zero, suc}
-use Rattle.sf_words.proofs.Common.{bytes_eq, Rule, filled, arg_by_id, arg_by_long, has_long, cases_Bool, cond_both, Key, key_text, is_flag, value_rule, flag_rule, full}
+use Rattle.sf_words.proofs.Common.{bytes_eq, Rule, filled, arg_by_id, arg_by_long, has_long, cases_Bool, cond_both, Key, key_text, is_flag, value_rule, flag_rule, full, or-false}
 use Rattle.clap.specs.Words.{Text}
-use Rattle.std.proofs.Math.Bool.{or-false}
 use Rattle.sf_words.proofs.Lookup.{same_text, named_same}
 
 -- a test that tells flags and other options by their names tells all options by their names

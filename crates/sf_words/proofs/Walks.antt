@@ -1,9 +1,7 @@
 -- What a walk makes of options in any order and both spellings.
 use Rattle.std.proofs.Common.{◌≡◌, inl, inr, true, false, ◌==◌, List, [], ◌∷◌, ◌++◌, Some, Contains, map, fold, refl, sym, ap, ◌∙◌, arith, codes, append_assoc}
-use Rattle.sf_words.proofs.Common.{cases_Bool, or_parts, append-nil, bytes_eq, Row, Walk, Held, walked, reacted, settled, with_values, without, at_row, has_row, more_values, settle_passes, walk_passes, Key, Mode, key_text, keys_of, Token, attached, spaced, alone, key_of, before, words_of, IsShaped, IsNew, AreOptions, full, row, row_of}
+use Rattle.sf_words.proofs.Common.{cases_Bool, or_parts, append-nil, bytes_eq, Row, Walk, Held, walked, reacted, settled, with_values, without, at_row, has_row, more_values, settle_passes, walk_passes, Key, Mode, key_text, keys_of, Token, attached, spaced, alone, key_of, before, words_of, IsShaped, IsNew, AreOptions, full, row, row_of, CommandLine, AsWritten}
 use Rattle.clap.specs.Words.{Text}
-use Rattle.clap.specs.declared.parser.matches.ValueSource.TheVariants.{CommandLine}
-use Rattle.clap.specs.declared.builder.value_parser.Reading.TheVariants.{AsWritten}
 use Rattle.sf_words.proofs.Lookup.{other_text}
 use Rattle.sf_words.proofs.Steps.{between, valued, flag, leaf, value_by_id, attached_word, first_word, flag_word, second_word, attached_passes, first_passes, flag_passes, second_passes, value_settles}
 

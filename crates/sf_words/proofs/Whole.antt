@@ -1,9 +1,7 @@
 -- The whole command line.
 use Rattle.std.proofs.Common.{◌≡◌, Bool, true, false, ◌&&◌, List, [], ◌∷◌, ◌++◌, Option, Some, map, fold, is_some, refl, sym, ap, ◌∙◌, append_assoc}
-use Rattle.std.specs.List.{list_all}
-use Rattle.sf_words.proofs.Common.{and_from, append-nil, Rule, Row, Shape, is_simple, subcommand_of, takes, built, names_of, entered, rows_at, argument_words, Walk, Held, Names, stop_after, walked, walk, walk_from, nothing_held, idle, finished, rows_after, with_default, walk_passes, settle_passes, turn_passes, entered_passes, level_passes, default_passes, is_valid, built_takes, Mode, Plan, modes, mode_text, key_text, is_flag, keys_of, Token, words_of, AreOptions, HasForm, floorplan, full, rows_for}
+use Rattle.sf_words.proofs.Common.{and_from, append-nil, Rule, Row, Shape, is_simple, subcommand_of, takes, built, names_of, entered, rows_at, argument_words, Walk, Held, Names, stop_after, walked, walk, walk_from, nothing_held, idle, finished, rows_after, with_default, walk_passes, settle_passes, turn_passes, entered_passes, level_passes, default_passes, is_valid, built_takes, Mode, Plan, modes, mode_text, key_text, is_flag, keys_of, Token, words_of, AreOptions, HasForm, floorplan, full, rows_for, list_all, clap_on_literals}
 use Rattle.clap.specs.Words.{Text}
-use Rattle.clap.proofs.OnLiterals.{clap_on_literals}
 use Rattle.sf_words.proofs.Steps.{leaf}
 use Rattle.sf_words.proofs.Walks.{absent_at_first, walked_all, Walked}
 

@@ -1,43 +1,14 @@
 -- What several steps of a worker did, one after another.
-use Rattle.std.proofs.Common.{◌≡◌, ℕ, zero, suc, ◌+◌, ◌<◌, ◌≤◌, ◌⊎◌, inl, inr, List, [], ◌∷◌, ◌++◌, length, map, ap, sym, ◌∙◌, subst, refl, arith, true, false, Bool, All, append-nil, append_assoc, length-append}
-use Rattle.std.specs.Prelude.{sum_by, Any, Option, Some, None, IfSome}
-use Rattle.std.specs.List.{flat_map}
-use Rattle.std.proofs.lemmas.Bool.{cases_lt}
-use Rattle.std.proofs.lemmas.List.{map-append, length-map}
+use Rattle.std.proofs.Common.{◌≡◌, ℕ, zero, suc, ◌+◌, ◌<◌, ◌≤◌, ◌⊎◌, inl, inr, List, [], ◌∷◌, ◌++◌, length, map, ap, sym, ◌∙◌, subst, refl, arith, true, false, Bool, All, append-nil, append_assoc, length-append, sum_by, Any, Option, Some, None, IfSome, flat_map}
+use Rattle.sf_worker.proofs.Common.{cases_lt, map-append, length-map, sum_by-append, sum_by-cons, All-nil, All-cons, All-append, All-weaker, Design, Part, Parts, root, walk, pending, Mark, Tag, made, marks, tag_of, unnamed, unnamed_mark, Stretch, Path, beyond, waiting, IsStretch, waits, Knows, thief_deques_of, WorkerState, IsEntry, IsBest, Solves, AreKept, marks_in, mark_of, kept-lower, HandView, IsStart, IsVisited, left_of, whole_of, marks_of, Did, Logs, Passed, IsOver, PassEnds, IsReady, IsDecidedFirst, Walking, IsPutDown, IsWalkedInto, IsWalkedOver, rest_at, rest_waits, NeverFell, ThievesNeverFell, IsShared, on_stretch, thieves_weigh, maybe_weighs, taken_of, first_of, put_of, stretches_weigh, IsFirst, IsFound, SamePuts}
 use Rattle.std.proofs.lemmas.List.Concat.{flat_map-append}
-use Rattle.std.proofs.lemmas.List.Sums.{sum_by-append, sum_by-cons}
-use Rattle.std.proofs.lemmas.List.Elements.{All-nil, All-cons, All-append, All-weaker}
-use Rattle.sf_model.specs.declared.design.Design.{Design}
-use Rattle.sf_node.specs.declared.part.Part.{Part}
-use Rattle.sf_node.specs.Parts.{Parts}
-use Rattle.sf_node.specs.Subproblem.{root}
-use Rattle.sf_node.specs.Children.{walk}
-use Rattle.sf_node.specs.Later.{pending}
 use Rattle.sf_search_core.specs.declared.entry.Entry.{Entry}
 use Rattle.sf_search_core.specs.declared.entry.Kind.{Kind}
 use Rattle.sf_search_core.specs.declared.entry.Kind.TheVariants as kind
 use Rattle.sf_search_core.specs.Conserved.{children, branched}
-use Rattle.sf_certificate.specs.declared.mark.Mark.{Mark}
-use Rattle.sf_certificate.specs.declared.tag.Tag.{Tag}
 use Rattle.sf_certificate.specs.declared.tag.Tag.TheVariants as tags
-use Rattle.sf_certificate.specs.Marks.{made, marks, tag_of}
-use Rattle.sf_certificate.specs.Named.{unnamed, unnamed_mark}
-use Rattle.sf_cursor.specs.declared.stretch.Stretch.{Stretch}
-use Rattle.sf_cursor.specs.Path.{Path, beyond, waiting}
-use Rattle.sf_cursor.specs.Stretches.{IsStretch, waits}
-use Rattle.sf_incumbent.specs.Seen.{Knows}
-use Rattle.sf_frontier.specs.Ends.{OwnerView}
-use Rattle.sf_frontier.specs.Team.{thief_deques_of}
-use Rattle.sf_worker.specs.declared.state.WorkerState.{WorkerState}
-use Rattle.sf_worker.specs.Tasks.{IsEntry, IsBest, Solves}
-use Rattle.sf_pieces.specs.Naming.{AreKept}
-use Rattle.sf_pieces.specs.Told.{marks_in, mark_of}
-use Rattle.sf_pieces.proofs.Names.{kept-lower}
-use Rattle.sf_worker.specs.InHand.{HandView, IsStart, IsVisited, left_of, whole_of, marks_of}
 use Rattle.sf_pieces.specs.declared.piece.Piece.{Piece}
 use Rattle.sf_worker.specs.declared.state.PassEnd.TheVariants.{QuotaSpent, FoundNothing}
-use Rattle.sf_worker.specs.Took.{Did, Logs, Passed, IsOver, PassEnds, IsReady, IsDecidedFirst, Walking, IsPutDown, IsWalkedInto, IsWalkedOver, rest_at, rest_waits, NeverFell, ThievesNeverFell, IsShared, on_stretch, thieves_weigh, maybe_weighs, taken_of, first_of, put_of, stretches_weigh}
-use Rattle.sf_worker.specs.Takes.{IsFirst, IsFound, SamePuts}
 use Rattle.sf_worker.proofs.Thieves.{fell-trans, thieves_fell-trans, thieves_fell-rose, thieves_never_fell, never_fell}
 
 module _ {X : Type 0} (P : X → Type 0) where

@@ -1,22 +1,9 @@
 -- One visit, and one cut, of a stretch in hand.
-use Rattle.std.proofs.Common.{◌≡◌, ℕ, ◌+◌, ◌<◌, ◌≤◌, min, List, [], ◌∷◌, ◌++◌, length, map, refl, ap, sym, subst, ◌∙◌, arith, true, false, append-nil, append_assoc}
-use Rattle.std.proofs.lemmas.List.{map-append}
-use Rattle.sf_model.specs.declared.design.Design.{Design}
-use Rattle.sf_node.specs.Parts.{Parts}
-use Rattle.sf_node.specs.Subproblem.{root}
-use Rattle.sf_node.specs.Children.{walk, IsSubproblem}
-use Rattle.sf_node.specs.Later.{behind, pending}
-use Rattle.sf_certificate.specs.declared.mark.Mark.{Mark}
-use Rattle.sf_certificate.specs.declared.tag.Tag.{Tag}
-use Rattle.sf_certificate.specs.Marks.{made, marks, waiting_after}
-use Rattle.sf_certificate.specs.Valid.{least}
+use Rattle.std.proofs.Common.{◌≡◌, ℕ, ◌+◌, ◌<◌, ◌≤◌, min, [], ◌∷◌, ◌++◌, length, map, refl, ap, sym, subst, ◌∙◌, arith, true, false, append-nil, append_assoc}
+use Rattle.sf_worker.proofs.Common.{map-append, Design, Parts, root, walk, IsSubproblem, behind, pending, Mark, Tag, made, marks, waiting_after, least, open_mark, Stretch, IsStretch, waits, HandView, IsHand, IsStart, IsFollowed, IsLeftOpen, IsParted, left_of, whole_of, marks_of}
 use Rattle.sf_certificate.specs.declared.tag.Tag.TheVariants.{Open}
 use Rattle.sf_certificate.proofs.AfterTags.{least-min, marks-more, waiting-more}
-use Rattle.sf_pieces.specs.Told.{open_mark}
-use Rattle.sf_cursor.specs.declared.stretch.Stretch.{Stretch}
-use Rattle.sf_cursor.specs.Path.{Path, IsPath, IsParted as IsCut, beyond, waiting}
-use Rattle.sf_cursor.specs.Stretches.{IsStretch, waits}
-use Rattle.sf_worker.specs.InHand.{HandView, IsHand, IsStart, IsFollowed, IsLeftOpen, IsParted, left_of, whole_of, marks_of}
+use Rattle.sf_cursor.specs.Path.{IsPath, IsParted as IsCut, beyond, waiting}
 
 -- a tag was put down
 pub followed : (design : Design) (bound : Parts → ℕ) (old new : HandView) (tag : Tag) → IsHand design bound old → old.more ≡ true → new.first ≡ old.first → new.floor ≡ old.floor → new.tags ≡ old.tags ++ tag ∷ []

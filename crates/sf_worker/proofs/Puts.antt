@@ -1,11 +1,6 @@
 -- What is put or kept, one task after another.
-use Rattle.std.proofs.Common.{◌≡◌, List, [], ◌∷◌, ◌++◌, refl, sym, ap, ◌∙◌, arith, append-nil, append_assoc, length-append}
-use Rattle.std.specs.Prelude.{sum_by}
-use Rattle.std.proofs.lemmas.List.Sums.{sum_by-append, sum_by-cons}
-use Rattle.std.proofs.lemmas.List.Elements.{All-append, All-nil}
-use Rattle.sf_cursor.specs.declared.stretch.Stretch.{Stretch}
-use Rattle.sf_frontier.specs.Ends.{OwnerView, with_put}
-use Rattle.sf_worker.specs.Takes.{PutsAll}
+use Rattle.std.proofs.Common.{◌≡◌, List, [], ◌∷◌, ◌++◌, refl, sym, ap, ◌∙◌, arith, append-nil, sum_by}
+use Rattle.sf_worker.proofs.Common.{sum_by-append, All-nil, Stretch, OwnerView, with_put, PutsAll}
 
 module _ (S : Stretch → Type 0) where
   -- where there is no task to put, nothing changes

@@ -1,17 +1,6 @@
 -- What a worker shares of the stretch in hand.
-use Rattle.std.proofs.Common.{◌≡◌, ℕ, ◌+◌, ◌≤◌, List, [], ◌∷◌, ◌++◌, ap, sym, ◌∙◌, subst, refl, arith, true, All, append-nil}
-use Rattle.std.specs.Prelude.{sum_by}
-use Rattle.std.proofs.lemmas.List.Sums.{sum_by-append}
-use Rattle.std.proofs.lemmas.List.Elements.{All-nil, All-weaker}
-use Rattle.sf_model.specs.declared.design.Design.{Design}
-use Rattle.sf_node.specs.Parts.{Parts}
-use Rattle.sf_cursor.specs.declared.stretch.Stretch.{Stretch}
-use Rattle.sf_cursor.specs.Stretches.{IsStretch, waits}
-use Rattle.sf_frontier.specs.Ends.{OwnerView, one_more, with_put}
-use Rattle.sf_worker.specs.declared.state.WorkerState.{WorkerState}
-use Rattle.sf_worker.specs.InHand.{HandView, IsHand, IsParted, left_of, marks_of}
-use Rattle.sf_worker.specs.Took.{IsShared, NeverFell, Serves, on_stretch}
-use Rattle.sf_worker.specs.Takes.{PutsAll}
+use Rattle.std.proofs.Common.{◌≡◌, ℕ, ◌+◌, ◌≤◌, List, [], ◌∷◌, ◌++◌, ap, sym, ◌∙◌, refl, arith, true, append-nil, sum_by}
+use Rattle.sf_worker.proofs.Common.{sum_by-append, All-nil, All-weaker, Design, Parts, Stretch, IsStretch, waits, OwnerView, one_more, WorkerState, HandView, IsHand, IsParted, left_of, marks_of, IsShared, NeverFell, Serves, on_stretch, PutsAll}
 
 -- the owner between what it took and what it puts
 pub record IsTaken (old mid : OwnerView) (took : List Stretch) : Type 0 where

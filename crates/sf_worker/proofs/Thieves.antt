@@ -1,12 +1,7 @@
 -- Tries at thieves, one after another.
-use Rattle.std.proofs.Common.{◌≡◌, ℕ, zero, suc, ◌+◌, ◌<◌, ◌≤◌, List, [], ◌∷◌, ◌++◌, length, set, get_or, refl, ap, ◌∙◌, arith}
-use Rattle.std.specs.Prelude.{sum_by, ⊤, Option, Some, None}
-use Rattle.std.proofs.lemmas.List.Sums.{sum_by-set, sum_by-append, sum_by-cons}
-use Rattle.sf_cursor.specs.declared.stretch.Stretch.{Stretch}
-use Rattle.sf_frontier.specs.Ends.{ThiefView, one_more}
-use Rattle.sf_frontier.specs.Team.{thief_deques_of}
-use Rattle.sf_worker.specs.Takes.{IsStolen}
-use Rattle.sf_worker.specs.Took.{maybe_weighs, thieves_weigh, NeverFell, Rose, ThievesNeverFell, ThievesRose}
+use Rattle.std.proofs.Common.{◌≡◌, ℕ, zero, suc, ◌+◌, ◌<◌, ◌≤◌, List, [], ◌∷◌, ◌++◌, length, set, get_or, refl, ap, ◌∙◌, arith, sum_by, Some, None}
+use Rattle.std.specs.Prelude.{⊤}
+use Rattle.sf_worker.proofs.Common.{sum_by-set, sum_by-append, sum_by-cons, Stretch, ThiefView, one_more, thief_deques_of, IsStolen, thieves_weigh, NeverFell, Rose, ThievesNeverFell, ThievesRose}
 
 -- the first i thieves were tried and had nothing
 abbrev pub Tried : ℕ → List ThiefView → List ThiefView → Type 0

@@ -1,32 +1,14 @@
 -- What one visit did, from what was read, decided, named and put down.
-use Rattle.std.proofs.Common.{◌≡◌, ℕ, ◌<◌, ◌≤◌, ◌+◌, List, [], ◌∷◌, ◌++◌, map, min, refl, ap, sym, subst, ◌∙◌, arith, true, Option, Some, All}
-use Rattle.std.specs.Prelude.{⊤, None}
-use Rattle.std.proofs.lemmas.List.Elements.{All-weaker}
-use Rattle.sf_model.specs.declared.design.Design.{Design}
+use Rattle.std.proofs.Common.{◌≡◌, ℕ, ◌<◌, ◌≤◌, ◌+◌, [], ◌∷◌, ◌++◌, min, refl, ap, sym, subst, ◌∙◌, arith, Option, Some, None}
+use Rattle.std.specs.Prelude.{⊤}
+use Rattle.sf_worker.proofs.Common.{Design, Part, Parts, Tag, tag_of, unnamed, Knows, AreKept, kept_for, IsVisit, kind_of, tag_at, tag_after, cost_at, IsEntry, IsBest, HandView, IsFollowed, IsVisited, marks_of, named-alike, kept-lower, kept-more}
 use Rattle.sf_model.specs.declared.TheConstants.{MAX}
 use Rattle.sf_polish.specs.declared.expr.Expr.{Expr}
-use Rattle.sf_node.specs.declared.part.Part.{Part}
-use Rattle.sf_node.specs.declared.part.Part.TheVariants.{Area}
-use Rattle.sf_node.specs.declared.part.PartValues.{PartValues}
-use Rattle.sf_node.specs.Parts.{Parts}
-use Rattle.sf_search_core.specs.declared.entry.Entry.{Entry}
-use Rattle.sf_search_core.specs.declared.entry.Kind.{Kind}
 use Rattle.sf_search_core.specs.declared.entry.Kind.TheVariants as kind
-use Rattle.sf_search_core.specs.Conserved.{branched}
-use Rattle.sf_certificate.specs.declared.mark.Mark.{Mark}
-use Rattle.sf_certificate.specs.declared.tag.Tag.{Tag}
 use Rattle.sf_certificate.specs.declared.tag.Tag.TheVariants as tags
-use Rattle.sf_certificate.specs.Marks.{made, tag_of, MaySplit}
-use Rattle.sf_certificate.specs.Named.{unnamed}
 use Rattle.sf_bound.specs.Cheapest.{IsPlanOf}
-use Rattle.sf_incumbent.specs.Seen.{Knows}
 use Rattle.sf_worker.specs.declared.visit.Visit.{Visit}
 use Rattle.sf_worker.specs.declared.visit.Visit.TheVariants.{Closed, Solved, Extended, Split}
-use Rattle.sf_pieces.specs.Naming.{AreKept, kept_for, with_first_part}
-use Rattle.sf_worker.specs.Decided.{IsVisit, kind_of, tag_at, tag_after, cost_at}
-use Rattle.sf_worker.specs.Tasks.{IsEntry, IsBest, Solves}
-use Rattle.sf_worker.specs.InHand.{HandView, IsFollowed, IsVisited, marks_of}
-use Rattle.sf_pieces.proofs.Names.{named-alike, kept-lower, kept-more}
 
 -- the tag of a visit tells the entry
 unnamed-tag : (seen : Visit) → unnamed (tag_at seen) ≡ tag_of (kind_of seen)

@@ -1,9 +1,7 @@
 -- What is counted of statements one after another, as the loop takes their pieces.
 use Rattle.std.proofs.Common.{◌≡◌, ℕ, ◌+◌, List, [], ◌∷◌, refl, sym, ap, ◌∙◌, subst}
-use Rattle.sf_yal.proofs.Common.{words, is_blank_byte, pieces, feeds, statements}
+use Rattle.sf_yal.proofs.Common.{words, is_blank_byte, pieces, feeds, statements, Counting, counted, counted_all}
 use Rattle.sf_yal.proofs.StatementSteps.{Filled, filled}
-use Rattle.sf_yal.specs.declared.losses.Counting.{Counting}
-use Rattle.sf_yal.specs.Losses.{counted, counted_all}
 
 -- what is counted with the words of all pieces but the last
 unfoldable pub counted_pieces : ℕ → Counting → List (List ℕ) → Counting

@@ -1,9 +1,6 @@
 -- Statements are cut in just one way.
 use Rattle.std.proofs.Common.{◌≡◌, Bool, true, false, List, [], ◌∷◌, ◌++◌, refl, sym, ap, subst, ◌∙◌, append_assoc, append-nil}
-use Rattle.sf_yal.proofs.Common.{All, flat_map, fold, fold-append, Worded, key, ListKind, Terminals, Network, Listing, Section, Single, Listed, Module, Item, Stray, Whole, Rest, Nothing, InModule, InList, Cut, listing_text, section_text, module_text, item_text, rest_text, opens_module, opener, stands_alone, closes, IsSection, IsModule, IsItem, IsRest, AreCut}
-use Rattle.std.proofs.lemmas.Grind.{flat_map-append}
-use Rattle.std.proofs.lemmas.List.Elements.{All-nil, All-head, All-tail, All-push}
-use Rattle.sf_yal.specs.declared.keyword.Keyword.{Keyword}
+use Rattle.sf_yal.proofs.Common.{All, flat_map, fold, fold-append, Worded, key, ListKind, Terminals, Network, Listing, Section, Single, Listed, Module, Item, Stray, Whole, Rest, Nothing, InModule, InList, Cut, listing_text, section_text, module_text, item_text, rest_text, opens_module, opener, stands_alone, closes, IsSection, IsModule, IsItem, IsRest, AreCut, flat_map-append, All-nil, All-head, All-tail, All-push, Keyword}
 use Rattle.sf_yal.specs.declared.keyword.Keyword.TheVariants as keys
 
 -- what f gives of one item more

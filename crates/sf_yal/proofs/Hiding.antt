@@ -1,7 +1,6 @@
 -- One step through a text with comments.
 use Rattle.std.proofs.Common.{◌≡◌, inl, inr, ℕ, suc, ◌<◌, Bool, true, false, List, [], ◌∷◌, ◌++◌, length, get_or, drop, refl, sym, ap, ◌∙◌, append_assoc, arith}
-use Rattle.sf_yal.proofs.Common.{not, cases_Bool}
-use Rattle.sf_yal.specs.Comments.{has_mark, is_mark_of, shown, hide, ends_inside}
+use Rattle.sf_yal.proofs.Common.{not, cases_Bool, has_mark, is_mark_of, shown, hide, ends_inside}
 
 -- a mark is two blanks, and behind it it is the other way round
 at_mark : (inside : Bool) (rest : List ℕ) → has_mark inside rest ≡ true → (hide inside rest ≡ 32 ∷ 32 ∷ hide (not inside) (drop 2 rest)) × (ends_inside inside rest ≡ ends_inside (not inside) (drop 2 rest))

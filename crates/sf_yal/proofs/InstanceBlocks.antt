@@ -1,8 +1,6 @@
 -- The blocks of instances, and the first fault of one, as reading finds them.
-use Rattle.std.proofs.Common.{◌≡◌, ◌≢◌, ◌⊎◌, inl, inr, ℕ, ◌<◌, Bool, true, false, List, [], ◌∷◌, ◌++◌, map, Option, Some, None, Ok, Err, refl, sym, ap, subst, ◌∙◌, arith, append_assoc, append-nil}
-use Rattle.std.specs.Prelude.{◌==◌}
-use Rattle.sf_yal.proofs.Common.{slice_get, AllZip, option_map, cases_Bool, eqb-true, eqb-false, eq-eqb, ne_eqb, nat_tests, RawBlock, index_of, YalFault, BoxSize, Instance, Module, name_of, box_of, box_if, box_at, IsBlockOf, SizeFault, PlaceFault, InstanceFault, FirstInstanceFault, size_or_none, size_at, boxed, block_by, block_of, blocks_from}
-use Rattle.std.proofs.lemmas.Option.{slice_get-map}
+use Rattle.std.proofs.Common.{◌≡◌, ◌≢◌, ◌⊎◌, inl, inr, ℕ, ◌<◌, Bool, true, false, List, [], ◌∷◌, ◌++◌, map, Option, Some, None, Ok, Err, refl, sym, ap, subst, ◌∙◌, arith, append_assoc, append-nil, ◌==◌}
+use Rattle.sf_yal.proofs.Common.{slice_get, AllZip, option_map, cases_Bool, eqb-true, eqb-false, eq-eqb, ne_eqb, nat_tests, RawBlock, index_of, YalFault, BoxSize, Instance, Module, name_of, box_of, box_if, box_at, IsBlockOf, SizeFault, PlaceFault, InstanceFault, FirstInstanceFault, size_or_none, size_at, boxed, block_by, block_of, blocks_from, slice_get-map}
 use Rattle.sf_model.specs.declared.raw.Kind.TheVariants as kinds
 use Rattle.sf_yal.specs.declared.fault.YalFault.TheVariants as faults
 use Rattle.sf_yal.proofs.Results.{done, ok_is, failed, err_is, err_not_ok, ok_not_err, bind_ok, bind_err}

@@ -1,12 +1,9 @@
 -- Blocks have sizes, and pins are of blocks and pads that are there.
-use Rattle.std.proofs.Common.{◌≡◌, inl, inr, ℕ, ◌+◌, ◌≤◌, ◌<◌, List, [], ◌∷◌, length, map, Option, Some, None, ap, sym, subst, ◌∙◌, arith}
-use Rattle.sf_yal.proofs.Common.{IfSome, AllZip, cases_Bool, length-map, RawBlock, RawNet, RawPad, RawPin, Parts, index_of, has_name, IsBlockOf, Instance, Module, modules, pads_of, instances_of, block_pins, pad_pins, net_of, signals_of, StandsFor}
-use Rattle.std.specs.List.{All}
-use Rattle.std.proofs.lemmas.List.Elements.{All-nil, All-cons, All-append}
+use Rattle.std.proofs.Common.{◌≡◌, inl, inr, ℕ, ◌+◌, ◌≤◌, ◌<◌, List, [], ◌∷◌, length, map, Option, Some, None, ap, sym, subst, ◌∙◌, arith, All}
+use Rattle.sf_yal.proofs.Common.{IfSome, AllZip, cases_Bool, length-map, RawBlock, RawNet, RawPad, RawPin, Parts, index_of, has_name, IsBlockOf, Instance, Module, modules, pads_of, instances_of, block_pins, pad_pins, net_of, signals_of, StandsFor, All-nil, All-cons, All-append, index_bound}
 use Rattle.std.proofs.lemmas.Slice.Zip.{AllZip-long}
 use Rattle.sf_model.specs.Admitted.{IsPinInRange, IsSized, HasSizes, HasPinsInRange}
 use Rattle.sf_model.specs.declared.raw.RawPin.TheVariants as pins
-use Rattle.sf_names.proofs.Indexes.{index_bound}
 
 -- ---- sizes
 

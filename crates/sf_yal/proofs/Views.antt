@@ -1,11 +1,9 @@
 -- What the reader keeps is seen in the cut of what it has read.
-use Rattle.std.proofs.Common.{◌≡◌, inl, inr, ℕ, suc, Bool, true, false, cond, List, [], ◌∷◌, ◌++◌, length, map, Option, Some, None, Result, Ok, Err, refl, sym, ap, subst, ◌∙◌, append_assoc, append-nil, ℤ}
-use Rattle.std.specs.Prelude.{◌||◌, ◌&&◌}
-use Rattle.sf_yal.proofs.Common.{is_some, flat_map, fold, list_any, option_map, option_or, length-map, map-append, fold-append, cases_Bool, or_left, or_parts, or_right, true≢false, RawPad, has_name, YalFault, BoxSize, ◌>>=◌, length_read, number_in, dimensions_said, Instance, Worded, key, ListKind, Terminals, Network, Listing, Section, Single, Listed, Module, Item, Stray, Whole, Rest, Nothing, InModule, InList, Cut, closes, name_of, is_type_key, is_type, is_list, word_of, is_parent_type, is_parent, box_behind, section_box, box_in, box_of, in_section, in_module, if_parent, modules_in, closed, open_module, parent_place, in_rest, point_of, pad_at, pads_of, instance_at, instances_of, name_fault, type_fault, box_fault, point_fault, terminal_fault, instance_fault, outside_fault, body_fault, list_fault, fault_in, fault_at, Reading, module_begun, module_opened, module_said, type_taken, parent_taken, type_said, size_taken, box_said, list_opened, list_closed, module_closed, outside_said, in_body_said, pad_taken, placed_said, terminal_said, instance_said, in_terminals_said, in_network_said, said_in, after_words}
+use Rattle.std.proofs.Common.{◌≡◌, inl, inr, ℕ, suc, Bool, true, false, cond, List, [], ◌∷◌, ◌++◌, length, map, Option, Some, None, Result, Ok, Err, refl, sym, ap, subst, ◌∙◌, append_assoc, append-nil, ℤ, ◌||◌, ◌&&◌}
+use Rattle.sf_yal.proofs.Common.{is_some, flat_map, fold, list_any, option_map, option_or, length-map, map-append, fold-append, cases_Bool, or_left, or_parts, or_right, true≢false, RawPad, has_name, YalFault, BoxSize, ◌>>=◌, length_read, number_in, dimensions_said, Instance, Worded, key, ListKind, Terminals, Network, Listing, Section, Single, Listed, Module, Item, Stray, Whole, Rest, Nothing, InModule, InList, Cut, closes, name_of, is_type_key, is_type, is_list, word_of, is_parent_type, is_parent, box_behind, section_box, box_in, box_of, in_section, in_module, if_parent, modules_in, closed, open_module, parent_place, in_rest, point_of, pad_at, pads_of, instance_at, instances_of, name_fault, type_fault, box_fault, point_fault, terminal_fault, instance_fault, outside_fault, body_fault, list_fault, fault_in, fault_at, Reading, module_begun, module_opened, module_said, type_taken, parent_taken, type_said, size_taken, box_said, list_opened, list_closed, module_closed, outside_said, in_body_said, pad_taken, placed_said, terminal_said, instance_said, in_terminals_said, in_network_said, said_in, after_words, Keyword}
 use Rattle.std.proofs.lemmas.List.Folds.{list_any-append}
 use Rattle.std.proofs.Math.Bool.{or-false}
 use Rattle.sf_lex.specs.declared.number.NumberFault.{NumberFault}
-use Rattle.sf_yal.specs.declared.keyword.Keyword.{Keyword}
 use Rattle.sf_yal.specs.declared.keyword.Keyword.TheVariants as keys
 use Rattle.sf_yal.specs.declared.open_module.OpenModule.{OpenModule}
 use Rattle.sf_yal.specs.declared.open_module.Section.TheVariants as sections

@@ -1,9 +1,5 @@
 use Rattle.std.proofs.Common.{◌≡◌, ℕ, ◌+◌, ◌<◌, ◌∙◌, List, [], ◌∷◌, ◌++◌, length, length-append, get_or, ap, sym, subst, arith, inl, inr}
-use Rattle.std.proofs.Math.Seq.{get_or-append_seam}
-use Rattle.std.proofs.lemmas.Bool.{cases_lt}
-use Rattle.std.proofs.lemmas.List.{get_or_append_left}
-use Rattle.sf_model.specs.declared.parts.Shape.{Shape}
-use Rattle.sf_anneal.specs.Parts.{IsBlockCurve}
+use Rattle.sf_anneal.proofs.Common.{get_or-append_seam, cases_lt, get_or_append_left, Shape, IsBlockCurve}
 use Rattle.sf_anneal.proofs.keeping.block_curves.Goals as goal
 
 -- what holds of each by its number holds with one more of which it does

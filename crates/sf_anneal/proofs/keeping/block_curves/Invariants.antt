@@ -1,6 +1,5 @@
-use Rattle.std.proofs.Common.{◌≡◌, ℕ, ◌<◌, [], length}
-use Rattle.std.specs.Prelude.{slice_index_or}
-use Rattle.sf_anneal.specs.Parts.{IsBlockCurve}
+use Rattle.std.proofs.Common.{◌≡◌, ℕ, ◌<◌, [], length, slice_index_or}
+use Rattle.sf_anneal.proofs.Common.{IsBlockCurve}
 use Rattle.sf_anneal.proofs.keeping.block_curves.Given as goal
 
 abbrev pub invariant-loop-block : goal.invariant-loop-block

@@ -1,5 +1,5 @@
 use Rattle.std.proofs.Common.{subst, sym}
-use Rattle.sf_curves.specs.Choices.{AreSpans}
+use Rattle.sf_anneal.proofs.Common.{AreSpans}
 use Rattle.sf_anneal.proofs.Spans.{whole-are}
 use Rattle.sf_anneal.proofs.keeping.own_curve.Goals as goal
 

@@ -1,9 +1,5 @@
 use Rattle.std.proofs.Common.{◌≡◌, sym, subst}
-use Rattle.sf_model.specs.Legal.{Fits, IsLegal}
-use Rattle.sf_model.specs.Cost.{cost}
-use Rattle.sf_model.specs.Tree.{tree_of}
-use Rattle.sf_polish.proofs.Spelling.{spells-one}
-use Rattle.sf_curves.specs.Choices.{AreSpans, IsRootCurve, IsTraceOf}
+use Rattle.sf_anneal.proofs.Common.{Fits, IsLegal, cost, tree_of, spells-one, AreSpans, IsRootCurve, IsTraceOf}
 use Rattle.sf_anneal.proofs.Spans.{whole-are}
 use Rattle.sf_anneal.proofs.Tracing.{choice-fits, choice-legal, traced-floorplan}
 use Rattle.sf_anneal.proofs.measuring.measure.Goals as goal

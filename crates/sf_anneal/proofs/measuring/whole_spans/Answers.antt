@@ -1,5 +1,5 @@
 use Rattle.std.proofs.Common.{◌∙◌, length, map, ap}
-use Rattle.std.proofs.lemmas.List.{take_all}
+use Rattle.sf_anneal.proofs.Common.{take_all}
 use Rattle.sf_anneal.proofs.measuring.whole_spans.Goals as goal
 
 pub returns : goal.returns

@@ -1,5 +1,5 @@
 use Rattle.std.proofs.Common.{◌≡◌, ◌≤◌, ◌++◌, take, drop}
-use Rattle.sf_anneal.specs.Moves.{flipped, flipped_from}
+use Rattle.sf_anneal.proofs.Common.{flipped, flipped_from}
 use Rattle.sf_anneal.proofs.moves.flip_chain.Given as goal
 
 abbrev pub invariant-loop-token : goal.invariant-loop-token

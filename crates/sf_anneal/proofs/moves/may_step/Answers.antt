@@ -1,6 +1,5 @@
 use Rattle.std.proofs.Common.{◌+◌, ◌-◌, drop, length, arith, subst, sym}
-use Rattle.std.proofs.lemmas.List.{length-drop, take_all}
-use Rattle.sf_anneal.proofs.Common.{MayPrecede}
+use Rattle.sf_anneal.proofs.Common.{MayPrecede, length-drop, take_all}
 use Rattle.sf_anneal.proofs.Stepping.{first, may-back, may-forward}
 use Rattle.sf_anneal.proofs.moves.may_step.Goals as goal
 

@@ -1,6 +1,5 @@
 use Rattle.std.proofs.Common.{◌≡◌, ◌+◌, ◌<◌, drop}
-use Rattle.sf_polish.specs.Normal.{operands}
-use Rattle.sf_anneal.specs.Moves.{operand_place}
+use Rattle.sf_anneal.proofs.Common.{operands, operand_place}
 use Rattle.sf_anneal.proofs.moves.operand_place.Given as goal
 
 abbrev pub invariant-loop-place : goal.invariant-loop-place

@@ -1,5 +1,5 @@
 use Rattle.std.proofs.Common.{◌≡◌, ◌≤◌, drop}
-use Rattle.sf_anneal.specs.Moves.{runs, runs_from}
+use Rattle.sf_anneal.proofs.Common.{runs, runs_from}
 use Rattle.sf_anneal.proofs.moves.run_count.Given as goal
 
 abbrev pub invariant-loop-token : goal.invariant-loop-token

@@ -1,6 +1,5 @@
 use Rattle.std.proofs.Common.{◌+◌, ◌/◌, length, subst, sym}
-use Rattle.std.proofs.lemmas.List.Edits.{length-swap}
-use Rattle.sf_anneal.proofs.Common.{AreNormal, operand_place, swapped}
+use Rattle.sf_anneal.proofs.Common.{AreNormal, operand_place, swapped, length-swap}
 use Rattle.sf_anneal.proofs.Patterns.{one-length}
 use Rattle.sf_anneal.proofs.Swapping.{swapped-normal}
 use Rattle.sf_anneal.proofs.moves.swap_operands.Goals as goal

@@ -1,5 +1,5 @@
 use Rattle.std.proofs.Common.{◌≡◌, ℕ, ◌<◌, ◌≤◌, length}
-use Rattle.sf_anneal.specs.Parts.{token_at}
+use Rattle.sf_anneal.proofs.Common.{token_at}
 use Rattle.sf_anneal.proofs.parts.common_front.Given as goal
 
 abbrev pub invariant-loop-place : goal.invariant-loop-place

@@ -1,5 +1,5 @@
 use Rattle.std.proofs.Common.{◌≡◌}
-use Rattle.sf_anneal.specs.Starts.{first_least}
+use Rattle.sf_anneal.proofs.Common.{first_least}
 use Rattle.sf_anneal.proofs.starting.first_least.Given as goal
 
 abbrev pub invariant-loop-found : goal.invariant-loop-found

@@ -1,9 +1,5 @@
-use Rattle.std.proofs.Common.{◌≡◌, ◌∙◌, ◌-◌, ap, refl, sym, subst, arith}
-use Rattle.std.specs.Prelude.{IfSome}
-use Rattle.std.specs.List.{range_with_len}
-use Rattle.rayon.specs.Numbers.{nat_range}
-use Rattle.sf_anneal.specs.Measured.{IsFloorplan}
-use Rattle.sf_anneal.specs.Starts.{IsImproved, IsNoDearer, first_least}
+use Rattle.std.proofs.Common.{◌≡◌, ◌∙◌, ◌-◌, ap, refl, sym, subst, arith, IfSome}
+use Rattle.sf_anneal.proofs.Common.{range_with_len, nat_range, IsFloorplan, IsImproved, IsNoDearer, first_least}
 use Rattle.sf_anneal.proofs.Collected.{Better, before-count, before-dearer, before-walk, found-before, gave, gave-at, gave-count}
 use Rattle.sf_anneal.proofs.Least.{least-no-dearer, least-one}
 use Rattle.sf_anneal.proofs.starting.improved_starts.Goals as goal

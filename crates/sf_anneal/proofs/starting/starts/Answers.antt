@@ -1,11 +1,5 @@
-use Rattle.std.proofs.Common.{◌≡◌, ℕ, ◌∙◌, ◌-◌, ap, sym, subst, arith}
-use Rattle.std.specs.Prelude.{Option, Result, IfOk, IfSome}
-use Rattle.std.specs.List.{range_with_len}
-use Rattle.std.specs.declared.alloc.AllocError.{AllocError}
-use Rattle.rayon.specs.Numbers.{nat_range}
-use Rattle.sf_polish.specs.declared.expr.Expr.{Expr}
-use Rattle.sf_anneal.specs.Measured.{IsFloorplan}
-use Rattle.sf_anneal.specs.Starts.{IsOwnWalk, first_least}
+use Rattle.std.proofs.Common.{◌≡◌, ℕ, ◌∙◌, ◌-◌, ap, sym, subst, arith, Option, Result, IfOk, IfSome}
+use Rattle.sf_anneal.proofs.Common.{range_with_len, AllocError, nat_range, Expr, IsFloorplan, IsOwnWalk, first_least}
 use Rattle.sf_anneal.proofs.Least.{least-one}
 use Rattle.sf_anneal.proofs.Collected.{gave, gave-at, gave-count}
 use Rattle.sf_anneal.proofs.starting.starts.Goals as goal

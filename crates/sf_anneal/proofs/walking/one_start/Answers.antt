@@ -1,11 +1,6 @@
 use Rattle.std.proofs.Common.{◌≡◌, ◌+◌, ◌-◌, ◌∙◌, length, sym, ap, subst, arith}
 use Rattle.std.proofs.lemmas.Result.{IfOk-weaker}
-use Rattle.sf_model.specs.Legal.{block_count}
-use Rattle.sf_polish.specs.Normal.{IsNormal}
-use Rattle.sf_anneal.specs.Measured.{IsCost, IsMeasure}
-use Rattle.sf_anneal.specs.Parts.{IsReady}
-use Rattle.sf_anneal.specs.Visits.{visit_of}
-use Rattle.sf_anneal.specs.Walk.{IsWalk, Visit, Walks, chain, height, trials}
+use Rattle.sf_anneal.proofs.Common.{block_count, IsNormal, IsCost, IsMeasure, IsReady, visit_of, IsWalk, Visit, Walks, chain, height, trials}
 use Rattle.sf_anneal.proofs.Chains.{chain-normal}
 use Rattle.sf_anneal.proofs.KeptParts.{written-long}
 use Rattle.sf_anneal.proofs.Walks.{cheaper-one, kept-one, kept-visit, walks-end, walks-step}

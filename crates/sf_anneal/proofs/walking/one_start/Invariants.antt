@@ -1,10 +1,5 @@
 use Rattle.std.proofs.Common.{◌≡◌, ◌+◌, ◌*◌, ◌-◌, length}
-use Rattle.sf_model.specs.Legal.{block_count}
-use Rattle.sf_polish.specs.Normal.{IsNormal}
-use Rattle.sf_anneal.specs.Measured.{IsCost}
-use Rattle.sf_anneal.specs.Parts.{IsReady}
-use Rattle.sf_anneal.specs.Visits.{visit_of}
-use Rattle.sf_anneal.specs.Walk.{Visit, Walks, chain}
+use Rattle.sf_anneal.proofs.Common.{block_count, IsNormal, IsCost, IsReady, visit_of, Visit, Walks, chain}
 use Rattle.sf_anneal.proofs.walking.one_start.Given as goal
 
 abbrev pub invariant-loop-trial : goal.invariant-loop-trial

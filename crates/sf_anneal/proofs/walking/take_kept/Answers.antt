@@ -1,6 +1,5 @@
 use Rattle.std.proofs.Common.{subst, sym, ap}
-use Rattle.sf_anneal.specs.Parts.{IsReady}
-use Rattle.sf_anneal.specs.Walk.{Visit}
+use Rattle.sf_anneal.proofs.Common.{IsReady, Visit}
 use Rattle.sf_anneal.proofs.KeptParts.{kept-ready}
 use Rattle.sf_anneal.proofs.walking.take_kept.Goals as goal
 

@@ -1,6 +1,5 @@
 use Rattle.std.proofs.Common.{map, string_bytes, sym, subst}
-use Rattle.sf_jobs.specs.Seen.{team_seen}
-use Rattle.sf_batch.specs.Batch.{BatchAnswers}
+use Rattle.sf_batch.proofs.Common.{team_seen, BatchAnswers}
 use Rattle.sf_batch.proofs.Answering.{answered_stop}
 use Rattle.sf_batch.proofs.batch.answer.Goals as goal
 

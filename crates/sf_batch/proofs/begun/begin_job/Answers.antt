@@ -1,7 +1,5 @@
 use Rattle.std.proofs.Common.{refl, sym, subst}
-use Rattle.sf_words.specs.Seen.{plan_seen}
-use Rattle.sf_jobs.specs.Seen.{told_seen}
-use Rattle.sf_batch.specs.Alone.{LineComesTo}
+use Rattle.sf_batch.proofs.Common.{plan_seen, told_seen, LineComesTo}
 use Rattle.sf_batch.proofs.Coming.{meaningless, stopped, built}
 use Rattle.sf_batch.proofs.begun.begin_job.Goals as goal
 

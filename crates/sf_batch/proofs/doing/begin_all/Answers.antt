@@ -1,9 +1,5 @@
-use Rattle.std.proofs.Common.{◌≡◌, arith, map, option_map, sym, subst}
-use Rattle.std.specs.Prelude.{slice_get, Some}
-use Rattle.sf_words.specs.Seen.{plan_seen}
-use Rattle.sf_jobs.specs.Seen.{told_seen}
-use Rattle.sf_batch.specs.Alone.{LineComesTo}
-use Rattle.sf_batch.specs.Built.{StandsFor}
+use Rattle.std.proofs.Common.{◌≡◌, arith, map, option_map, sym, subst, slice_get, Some}
+use Rattle.sf_batch.proofs.Common.{plan_seen, told_seen, LineComesTo, StandsFor}
 use Rattle.sf_batch.proofs.Counts.{counted_one}
 use Rattle.sf_batch.proofs.Reading.{reads_both}
 use Rattle.sf_batch.proofs.Tables.{given_one, line_at, told_one}

@@ -1,11 +1,5 @@
-use Rattle.std.specs.Prelude.{ℕ, List, map, option_map}
-use Rattle.std.specs.List.{AllZip}
-use Rattle.sf_lex.specs.Scan.{Line}
-use Rattle.sf_words.specs.Seen.{plan_seen}
-use Rattle.sf_jobs.specs.Job.{SaysJob}
-use Rattle.sf_jobs.specs.Seen.{told_seen}
-use Rattle.sf_designs.specs.Loads.{Reads}
-use Rattle.sf_batch.specs.Progress.{IsUnderWay}
+use Rattle.std.proofs.Common.{ℕ, List, map, option_map}
+use Rattle.sf_batch.proofs.Common.{AllZip, Line, plan_seen, SaysJob, told_seen, Reads, IsUnderWay}
 use Rattle.sf_batch.proofs.doing.begin_all.Given as goal
 
 abbrev pub invariant-loop-number : goal.invariant-loop-number

@@ -1,10 +1,5 @@
-use Rattle.std.proofs.Common.{◌≡◌, ◌<◌, ◌∙◌, ap, arith, length, map, option_map, sym, subst}
-use Rattle.std.specs.Prelude.{All}
-use Rattle.std.specs.Option.{ForSome}
-use Rattle.std.proofs.lemmas.List.{length-map}
-use Rattle.sf_words.specs.Seen.{plan_seen}
-use Rattle.sf_jobs.specs.Seen.{told_seen}
-use Rattle.sf_batch.specs.Progress.{AreDone, IsUnderWay}
+use Rattle.std.proofs.Common.{◌≡◌, ◌<◌, ◌∙◌, ap, arith, length, map, option_map, sym, subst, All}
+use Rattle.sf_batch.proofs.Common.{ForSome, length-map, plan_seen, told_seen, AreDone, IsUnderWay}
 use Rattle.sf_batch.proofs.Tables.{begins, found_within, last_table, whole}
 use Rattle.sf_batch.proofs.doing.do_jobs.Goals as goal
 

@@ -1,8 +1,5 @@
-use Rattle.std.proofs.Common.{◌<◌, arith, length, subst}
-use Rattle.std.specs.Prelude.{Some}
-use Rattle.std.specs.Option.{ForSome}
-use Rattle.std.proofs.lemmas.List.{length-set}
-use Rattle.std.proofs.lemmas.List.Elements.{All-pop}
+use Rattle.std.proofs.Common.{◌<◌, arith, length, subst, Some}
+use Rattle.sf_batch.proofs.Common.{ForSome, length-set, All-pop}
 use Rattle.sf_batch.proofs.Tables.{IsFoundOf, found_all, found_one}
 use Rattle.sf_batch.proofs.doing.note_found.Goals as goal
 

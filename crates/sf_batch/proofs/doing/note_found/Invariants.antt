@@ -1,12 +1,5 @@
-use Rattle.std.specs.Prelude.{◌<◌, ℕ, List, All, Option, length, map, vec_len}
-use Rattle.std.specs.List.{AllZip}
-use Rattle.std.specs.Option.{ForSome}
-use Rattle.sf_io.specs.Outside.{Contents}
-use Rattle.sf_lex.specs.Scan.{Line}
-use Rattle.sf_jobs.specs.Seen.{told_seen}
-use Rattle.sf_batch.specs.declared.job.BuiltJob.{BuiltJob}
-use Rattle.sf_batch.specs.Built.{IsFound}
-use Rattle.sf_batch.specs.Progress.{IsUnderWay}
+use Rattle.std.proofs.Common.{◌<◌, ℕ, List, All, Option, length, map, vec_len}
+use Rattle.sf_batch.proofs.Common.{AllZip, ForSome, Contents, Line, told_seen, BuiltJob, IsFound, IsUnderWay}
 use Rattle.sf_batch.proofs.Tables.{IsFoundOf}
 use Rattle.sf_batch.proofs.doing.note_found.Given as goal
 

@@ -1,6 +1,5 @@
-use Rattle.std.specs.Prelude.{◌≡◌, All, length}
-use Rattle.sf_jobs.specs.Seen.{told_seen}
-use Rattle.sf_batch.specs.Alone.{LacksMemory}
+use Rattle.std.proofs.Common.{◌≡◌, All, length}
+use Rattle.sf_batch.proofs.Common.{told_seen, LacksMemory}
 use Rattle.sf_batch.proofs.doing.undone.Given as goal
 
 abbrev pub invariant-loop : goal.invariant-loop

@@ -1,12 +1,6 @@
 use Rattle.std.proofs.Common.{◌∙◌, ap, arith, map, option_map, sym, subst}
-use Rattle.std.specs.List.{AllZip}
-use Rattle.std.proofs.lemmas.Slice.Zip.{AllZip-long}
+use Rattle.sf_batch.proofs.Common.{AllZip, AllZip-long, plan_seen, SaysJob, told_seen, batch_status, batch_text, LineComesTo}
 use Rattle.sf_gsrc.specs.Blocks.{content_of}
-use Rattle.sf_words.specs.Seen.{plan_seen}
-use Rattle.sf_jobs.specs.Job.{SaysJob}
-use Rattle.sf_jobs.specs.Seen.{told_seen}
-use Rattle.sf_jobs.specs.Told.{batch_status, batch_text}
-use Rattle.sf_batch.specs.Alone.{LineComesTo}
 use Rattle.sf_batch.proofs.file.answer_text.Goals as goal
 
 pub returns-clause-batch : goal.returns-clause-batch

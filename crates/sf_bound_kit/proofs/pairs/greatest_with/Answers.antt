@@ -1,6 +1,5 @@
 use Rattle.std.proofs.Common.{ℕ, max, arith}
-use Rattle.sf_nets.proofs.PinLoops.{fold_whole}
-use Rattle.sf_bound_kit.proofs.Common.{Shape, area_of_two}
+use Rattle.sf_bound_kit.proofs.Common.{Shape, area_of_two, fold_whole}
 use Rattle.sf_bound_kit.proofs.EachTwo.{greatest-folded}
 use Rattle.sf_bound_kit.proofs.pairs.greatest_with.Goals as goal
 

@@ -1,5 +1,4 @@
-use Rattle.std.proofs.Common.{◌≡◌, ℕ, ◌<◌, length}
-use Rattle.std.specs.Prelude.{slice_index_or}
+use Rattle.std.proofs.Common.{◌≡◌, ℕ, ◌<◌, length, slice_index_or}
 use Rattle.sf_bound_kit.proofs.Common.{Shape, sides_in}
 use Rattle.sf_bound_kit.proofs.sides.first_sides.Given as goal
 

@@ -1,6 +1,5 @@
 use Rattle.std.proofs.Common.{ap, sym, ◌∙◌}
-use Rattle.sf_nets.proofs.PinLoops.{fold_whole}
-use Rattle.sf_bound_kit.proofs.Common.{least_sides}
+use Rattle.sf_bound_kit.proofs.Common.{least_sides, fold_whole}
 use Rattle.sf_bound_kit.proofs.Table.{with_least, least_folded}
 use Rattle.sf_bound_kit.proofs.sides.least_sides.Goals as goal
 

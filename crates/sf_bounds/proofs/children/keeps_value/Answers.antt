@@ -1,5 +1,4 @@
-use Rattle.std.proofs.Common.{◌≡◌, Bool, true, false, refl, sym, ◌∙◌}
-use Rattle.std.specs.Prelude.{not}
+use Rattle.std.proofs.Common.{◌≡◌, Bool, true, false, refl, sym, ◌∙◌, not}
 use Rattle.sf_bounds.proofs.Extended.{block_child}
 use Rattle.sf_bounds.proofs.children.keeps_value.Goals as goal
 

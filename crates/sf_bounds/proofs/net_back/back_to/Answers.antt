@@ -1,6 +1,5 @@
 use Rattle.std.proofs.Common.{◌≡◌, ◌≤◌, take, map, length, ap, subst, arith}
-use Rattle.sf_bounds.proofs.Common.{length-take-le, token_of}
-use Rattle.sf_frames.proofs.Switching.{begins-same}
+use Rattle.sf_bounds.proofs.Common.{length-take-le, token_of, begins-same}
 use Rattle.sf_bounds.proofs.NetKept.{no_frame, stored-back}
 use Rattle.sf_bounds.proofs.net_back.back_to.Goals as goal
 

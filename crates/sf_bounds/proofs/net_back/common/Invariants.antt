@@ -1,5 +1,5 @@
 use Rattle.std.proofs.Common.{◌≡◌, ◌-◌, ◌≤◌, take, map, length}
-use Rattle.sf_bounds.specs.Rows.{token_of}
+use Rattle.sf_bounds.proofs.Common.{token_of}
 use Rattle.sf_bounds.proofs.net_back.common.Given as goal
 
 abbrev pub invariant-loop-count : goal.invariant-loop-count

@@ -1,5 +1,5 @@
 use Rattle.std.proofs.Common.{◌-◌, ◌≤◌, length}
-use Rattle.sf_bounds.specs.Rows.{AreKept}
+use Rattle.sf_bounds.proofs.Common.{AreKept}
 use Rattle.sf_bounds.proofs.net_push.extend.Given as goal
 
 abbrev pub invariant-loop-tokens : goal.invariant-loop-tokens

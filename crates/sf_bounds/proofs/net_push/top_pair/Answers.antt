@@ -1,5 +1,5 @@
 use Rattle.std.proofs.Common.{◌-◌, length, arith}
-use Rattle.sf_frames.proofs.Topping.{some-first}
+use Rattle.sf_bounds.proofs.Common.{some-first}
 use Rattle.sf_bounds.proofs.NetPushed.{top-right, top-both}
 use Rattle.sf_bounds.proofs.net_push.top_pair.Goals as goal
 

@@ -1,6 +1,5 @@
-use Rattle.std.proofs.Common.{◌≡◌, ◌≤◌, ◌+◌, ◌++◌, length, map, All}
+use Rattle.std.proofs.Common.{◌≡◌, ◌≤◌, ◌+◌, ◌++◌, length, map, All, vec_capacity}
 use Rattle.sf_bounds.proofs.Common.{range_with_len, joined_cell, AreSums, IsFitCell}
-use Rattle.std.specs.Vec.{vec_capacity}
 use Rattle.sf_bounds.proofs.net_rows.join_rows.Given as goal
 
 abbrev pub invariant-loop-net : goal.invariant-loop-net

@@ -1,5 +1,5 @@
 use Rattle.std.proofs.Common.{sym, subst}
-use Rattle.sf_nets.specs.Ends.{IsFitReach}
+use Rattle.sf_bounds.proofs.Common.{IsFitReach}
 use Rattle.sf_bounds.proofs.net_rows.joined_reach.Goals as goal
 
 pub returns-clause-near : goal.returns-clause-near

@@ -1,5 +1,5 @@
 use Rattle.std.proofs.Common.{◌≡◌, drop}
-use Rattle.sf_standard.specs.Hull.{contains_pin}
+use Rattle.sf_bounds.proofs.Common.{contains_pin}
 use Rattle.sf_bounds.proofs.net_start.contains.Given as goal
 
 abbrev pub invariant-loop-pin : goal.invariant-loop-pin

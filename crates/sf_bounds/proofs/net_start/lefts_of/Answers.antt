@@ -1,8 +1,5 @@
-use Rattle.std.proofs.Common.{◌≡◌, ℕ, ◌+◌, ◌<◌, ◌≤◌, ◌++◌, [], ◌∷◌, length, take, map, get_or, ap, sym, ◌∙◌, append-nil, arith}
-use Rattle.std.specs.Prelude.{filter, nat_lt, zip}
-use Rattle.std.proofs.lemmas.Slice.Zip.{length-zip}
-use Rattle.sf_model.proofs.Used.{lefts-count}
-use Rattle.sf_bounds.proofs.Common.{Net, map-append, take_all}
+use Rattle.std.proofs.Common.{◌≡◌, ℕ, ◌+◌, ◌<◌, ◌≤◌, ◌++◌, [], ◌∷◌, length, take, map, get_or, ap, sym, ◌∙◌, append-nil, arith, filter, nat_lt, zip}
+use Rattle.sf_bounds.proofs.Common.{Net, map-append, take_all, length-zip, lefts-count}
 use Rattle.sf_bounds.proofs.Lefts.{left-counts, left-free, lefts-more}
 use Rattle.sf_bounds.proofs.net_start.lefts_of.Goals as goal
 use Rattle.sf_bounds.proofs.net_start.lefts_of.Goals.{then-net-gt0+in_ok-push, else-net-gt0}

@@ -1,6 +1,4 @@
-use Rattle.std.proofs.Common.{◌≡◌, ℕ, map, take}
-use Rattle.std.specs.Prelude.{filter, nat_lt, zip}
-use Rattle.sf_bounds.proofs.Common.{Net}
+use Rattle.std.proofs.Common.{◌≡◌, ℕ, map, take, filter, nat_lt, zip}
 use Rattle.sf_bounds.proofs.net_start.lefts_of.Given as goal
 
 abbrev pub invariant-loop-number : goal.invariant-loop-number

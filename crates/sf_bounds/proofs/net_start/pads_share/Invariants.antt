@@ -1,5 +1,5 @@
 use Rattle.std.proofs.Common.{◌≡◌, take}
-use Rattle.sf_bounds.specs.Rows.{pads_share}
+use Rattle.sf_bounds.proofs.Common.{pads_share}
 use Rattle.sf_bounds.proofs.net_start.pads_share.Given as goal
 
 abbrev pub invariant-loop-pin : goal.invariant-loop-pin

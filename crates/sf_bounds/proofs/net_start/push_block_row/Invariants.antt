@@ -1,5 +1,5 @@
 use Rattle.std.proofs.Common.{◌≡◌, ◌++◌, map, take}
-use Rattle.sf_bounds.specs.Rows.{block_cell, of_weight}
+use Rattle.sf_bounds.proofs.Common.{block_cell, of_weight}
 use Rattle.sf_bounds.proofs.net_start.push_block_row.Given as goal
 
 abbrev pub invariant-loop-net : goal.invariant-loop-net

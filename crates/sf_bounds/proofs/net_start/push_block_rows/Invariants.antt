@@ -1,4 +1,4 @@
-use Rattle.sf_bounds.specs.Rows.{AreBlockRows}
+use Rattle.sf_bounds.proofs.Common.{AreBlockRows}
 use Rattle.sf_bounds.proofs.net_start.push_block_rows.Given as goal
 
 abbrev pub invariant-loop-block : goal.invariant-loop-block

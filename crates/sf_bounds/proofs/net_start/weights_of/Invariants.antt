@@ -1,5 +1,5 @@
 use Rattle.std.proofs.Common.{◌≡◌, take}
-use Rattle.sf_bounds.specs.Rows.{weights_of}
+use Rattle.sf_bounds.proofs.Common.{weights_of}
 use Rattle.sf_bounds.proofs.net_start.weights_of.Given as goal
 
 abbrev pub invariant-loop-net : goal.invariant-loop-net

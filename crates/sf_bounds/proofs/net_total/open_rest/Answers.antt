@@ -1,4 +1,4 @@
-use Rattle.std.proofs.Common.{◌≡◌, ℕ, ◌+◌, ◌*◌, ◌<◌, ◌≤◌, arith, ap, sym, subst, length, get_or, ◌∙◌}
+use Rattle.std.proofs.Common.{◌≡◌, ℕ, ◌+◌, ◌*◌, ◌<◌, ◌≤◌, arith, ap, length, get_or, ◌∙◌}
 use Rattle.sf_bounds.proofs.Common.{sum_by, take_all, get_or_default, net_part, Cell, weighed_nets, weighed_lefts}
 use Rattle.sf_bounds.proofs.Lefts.{length-lefts, length-lefts_of, rest-more, sum-lefts}
 use Rattle.sf_bounds.proofs.NetTotal.{open-cell, read-cell, read-fits}

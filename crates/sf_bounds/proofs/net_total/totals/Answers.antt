@@ -1,5 +1,5 @@
 use Rattle.std.proofs.Common.{◌≡◌, length, ap, subst, ◌∙◌, arith}
-use Rattle.sf_bounds.specs.Rows.{IsEnding, framed}
+use Rattle.sf_bounds.proofs.Common.{IsEnding, framed}
 use Rattle.sf_bounds.proofs.NetTotal.{open-total, open-hulls}
 use Rattle.sf_bounds.proofs.net_total.totals.Goals as goal
 

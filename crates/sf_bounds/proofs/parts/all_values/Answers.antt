@@ -1,5 +1,5 @@
 use Rattle.std.proofs.Common.{sym, subst, ◌∙◌}
-use Rattle.sf_bounds.specs.Open.{IsAreaCostOrNone}
+use Rattle.sf_bounds.proofs.Common.{IsAreaCostOrNone}
 use Rattle.sf_bounds.proofs.PartCosts.{full-is, parts-are}
 use Rattle.sf_bounds.proofs.parts.all_values.Goals as goal
 

@@ -1,7 +1,4 @@
-use Rattle.std.specs.List.{list_all}
-use Rattle.std.proofs.lemmas.Bool.{and_from}
-use Rattle.sf_model.specs.Paths.{leads}
-use Rattle.sf_cert_text.proofs.Common.{codes, last_line_of, numbered_rest}
+use Rattle.sf_cert_text.proofs.Common.{codes, last_line_of, numbered_rest, list_all, and_from, leads}
 use Rattle.sf_cert_text.proofs.PathsLead.{axis-leads}
 use Rattle.sf_cert_text.proofs.path_reading.read_paths.Goals as goal
 

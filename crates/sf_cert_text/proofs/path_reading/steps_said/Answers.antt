@@ -1,5 +1,5 @@
 use Rattle.std.proofs.Common.{sym, subst, List}
-use Rattle.sf_model.specs.declared.paths.Step.{Step}
+use Rattle.sf_cert_text.proofs.Common.{Step}
 use Rattle.sf_cert_text.proofs.PathReads.{IsSaying, saying-more}
 use Rattle.sf_cert_text.proofs.path_reading.steps_said.Goals as goal
 

@@ -1,6 +1,5 @@
 use Rattle.std.proofs.Common.{subst}
-use Rattle.sf_cert_text.specs.Paths.{FitsPath}
-use Rattle.sf_cert_text.proofs.Common.{All-more}
+use Rattle.sf_cert_text.proofs.Common.{All-more, FitsPath}
 use Rattle.sf_cert_text.proofs.PathTexts.{lines-more}
 use Rattle.sf_cert_text.proofs.path_writing.push_each.Goals as goal
 

@@ -1,6 +1,5 @@
 use Rattle.std.proofs.Common.{◌≡◌, ◌++◌, All, map, take, string_bytes}
-use Rattle.sf_cert_text.specs.Paths.{FitsPath, path_text}
-use Rattle.sf_cert_text.specs.Text.{text_of_lines}
+use Rattle.sf_cert_text.proofs.Common.{FitsPath, path_text, text_of_lines}
 use Rattle.sf_cert_text.proofs.path_writing.push_each.Given as goal
 
 abbrev pub invariant-loop-path : goal.invariant-loop-path

@@ -1,7 +1,4 @@
-use Rattle.sf_model.specs.declared.parts.Pin.TheVariants.{Block}
-use Rattle.sf_model.specs.declared.paths.Step.{Step}
-use Rattle.sf_cert_text.specs.Paths.{FitsStep}
-use Rattle.sf_cert_text.proofs.Common.{All-more}
+use Rattle.sf_cert_text.proofs.Common.{All-more, Block, Step, FitsStep}
 use Rattle.sf_cert_text.proofs.PathTexts.{steps-more}
 use Rattle.sf_cert_text.proofs.path_writing.push_steps.Goals as goal
 

@@ -1,6 +1,5 @@
-use Rattle.std.proofs.Common.{◌≡◌, ◌++◌, All, take, string_bytes}
-use Rattle.std.specs.List.{flat_map}
-use Rattle.sf_cert_text.specs.Paths.{FitsStep, step_text}
+use Rattle.std.proofs.Common.{◌≡◌, ◌++◌, All, take, string_bytes, flat_map}
+use Rattle.sf_cert_text.proofs.Common.{FitsStep, step_text}
 use Rattle.sf_cert_text.proofs.path_writing.push_steps.Given as goal
 
 abbrev pub invariant-loop-step : goal.invariant-loop-step

@@ -1,5 +1,4 @@
-use Rattle.std.proofs.Common.{ap, sym, ◌∙◌}
-use Rattle.std.specs.Prelude.{◌∷◌}
+use Rattle.std.proofs.Common.{ap, sym, ◌∙◌, ◌∷◌}
 use Rattle.sf_cert_text.proofs.Common.{None, [], numbered_words, last_line_of, first_place, tags_said, tree_read, read_on}
 use Rattle.sf_cert_text.proofs.TreeReads.{reading-done, read-spells}
 use Rattle.sf_cert_text.proofs.tree.read_tree.Goals as goal

@@ -1,5 +1,5 @@
 use Rattle.std.proofs.Common.{string_bytes}
-use Rattle.sf_cert_text.specs.Text.{paths_if_any, plan_lines}
+use Rattle.sf_cert_text.proofs.Common.{paths_if_any, plan_lines}
 use Rattle.sf_cert_text.proofs.PathTexts.{header-text}
 use Rattle.sf_cert_text.proofs.writing.push_header.Goals as goal
 

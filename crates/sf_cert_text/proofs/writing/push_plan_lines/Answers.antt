@@ -1,8 +1,5 @@
-use Rattle.std.proofs.Common.{string_bytes}
-use Rattle.std.specs.Fmt.{decimal}
-use Rattle.sf_model.specs.CostText.{cost_text}
-use Rattle.sf_cert_text.proofs.Common.{codes, plan_text}
-use Rattle.sf_cert_text.specs.Text.{labelled, version_text}
+use Rattle.std.proofs.Common.{string_bytes, decimal}
+use Rattle.sf_cert_text.proofs.Common.{codes, plan_text, cost_text, labelled, version_text}
 use Rattle.sf_cert_text.proofs.PathTexts.{five-lines}
 use Rattle.sf_cert_text.proofs.writing.push_plan_lines.Goals as goal
 

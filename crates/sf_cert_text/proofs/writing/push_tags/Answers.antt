@@ -1,6 +1,5 @@
 use Rattle.std.proofs.Common.{arith}
-use Rattle.std.proofs.lemmas.Grind.{common_steps}
-use Rattle.sf_cert_text.proofs.Common.{All-more, Extend, FitsTag}
+use Rattle.sf_cert_text.proofs.Common.{All-more, Extend, FitsTag, common_steps}
 use Rattle.sf_cert_text.proofs.writing.push_tags.Goals as goal
 
 pub loop-tag-preserved : goal.loop-tag-preserved

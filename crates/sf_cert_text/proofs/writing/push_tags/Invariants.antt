@@ -1,5 +1,5 @@
 use Rattle.std.proofs.Common.{◌≡◌, ◌≤◌, ◌++◌, All, take}
-use Rattle.sf_cert_text.specs.Text.{tags_text, FitsTag}
+use Rattle.sf_cert_text.proofs.Common.{tags_text, FitsTag}
 use Rattle.sf_cert_text.proofs.writing.push_tags.Given as goal
 
 abbrev pub invariant-loop-tag : goal.invariant-loop-tag

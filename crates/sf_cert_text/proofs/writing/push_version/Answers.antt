@@ -1,6 +1,5 @@
 use Rattle.std.proofs.Common.{ap, ◌∙◌, ◌∷◌, [], ◌++◌, List, ℕ, string_bytes}
-use Rattle.sf_cert_text.proofs.Common.{codes}
-use Rattle.sf_cert_text.specs.Text.{version_text}
+use Rattle.sf_cert_text.proofs.Common.{codes, version_text}
 use Rattle.sf_cert_text.proofs.PathTexts.{three-parts}
 use Rattle.sf_cert_text.proofs.writing.push_version.Goals as goal
 

@@ -1,5 +1,5 @@
 use Rattle.std.proofs.Common.{take}
-use Rattle.sf_checker.specs.Standing.{IsSteady, IsFound}
+use Rattle.sf_checker.proofs.Common.{IsSteady, IsFound}
 use Rattle.sf_checker.proofs.checking.check.Given as goal
 
 abbrev pub invariant-loop-tag : goal.invariant-loop-tag

@@ -1,5 +1,5 @@
 use Rattle.std.proofs.Common.{◌≡◌, map, refl, ap, sym, subst, ◌∙◌}
-use Rattle.sf_certificate.specs.Named.{AllNameFirst, unnamed}
+use Rattle.sf_checker.proofs.Common.{AllNameFirst, unnamed}
 use Rattle.sf_checker.proofs.Names.{formed-named, valid-named}
 use Rattle.sf_checker.proofs.naming.name_parts.Goals as goal
 

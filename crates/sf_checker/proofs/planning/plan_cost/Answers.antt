@@ -1,5 +1,5 @@
 use Rattle.std.proofs.Common.{◌≡◌, sym, true, arith}
-use Rattle.sf_model.specs.Tree.{tree_of}
+use Rattle.sf_checker.proofs.Common.{tree_of}
 use Rattle.sf_checker.proofs.Plans.{blocks-below, leaves-few, has-sides, listed-legal, unlisted-unfit, large-unfit}
 use Rattle.sf_checker.proofs.planning.plan_cost.Goals as goal
 

@@ -1,5 +1,5 @@
 use Rattle.std.proofs.Common.{ap, sym, ◌∙◌}
-use Rattle.sf_cert_text.specs.Reading.{cert_read}
+use Rattle.sf_checker.proofs.Common.{cert_read}
 use Rattle.sf_checker.proofs.stage.answer_whole.Goals as goal
 
 pub returns-clause-answer : goal.returns-clause-answer

@@ -1,6 +1,5 @@
 use Rattle.std.proofs.Common.{subst, sym, inl, inr, arith}
-use Rattle.sf_curves.proofs.Common.{AllPairs, IsSlimmer, IsCombination}
-use Rattle.sf_curves.specs.Direction.{size_in}
+use Rattle.sf_curves.proofs.Common.{AllPairs, IsSlimmer, IsCombination, size_in}
 use Rattle.sf_curves.proofs.Joining.{joining-begins, first-on, second-on, both-on, joining-ends, joining-falls}
 use Rattle.sf_curves.proofs.combining.combine.Goals as goal
 use Rattle.sf_curves.proofs.combining.combine.Goals.{then-loop-i-test+else-j-second, else-loop-i-test}

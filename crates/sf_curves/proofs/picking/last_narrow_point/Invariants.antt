@@ -1,5 +1,5 @@
 use Rattle.std.proofs.Common.{ℕ, ◌+◌, ◌<◌, ◌≤◌, get_or, length}
-use Rattle.sf_model.specs.declared.parts.Shape.{Shape}
+use Rattle.sf_curves.proofs.Common.{Shape}
 use Rattle.sf_curves.proofs.picking.last_narrow_point.Given as goal
 
 abbrev pub invariant-loop-back : goal.invariant-loop-back

@@ -1,6 +1,5 @@
 use Rattle.std.proofs.Common.{subst, sym, length, ◌≡◌, ◌∙◌}
-use Rattle.sf_model.specs.Tree.{HasEachOnce}
-use Rattle.sf_curves.proofs.Common.{tree_of, Spells, once-of_normal, IsTraceOf, curve_of}
+use Rattle.sf_curves.proofs.Common.{tree_of, Spells, once-of_normal, IsTraceOf, curve_of, HasEachOnce}
 use Rattle.sf_curves.proofs.Choosing.{curve-traced, curve-covers, tree-traced, chosen-form, chosen-choice, sized-takes, same-points, just-sized}
 use Rattle.sf_curves.proofs.Forms.{skewed-of_normal}
 use Rattle.sf_curves.proofs.Members.{IfOk-weaker}

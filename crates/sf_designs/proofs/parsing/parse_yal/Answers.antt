@@ -1,6 +1,6 @@
 use Rattle.sf_yal.specs.Parts.{yal_read}
 use Rattle.sf_yal.specs.Standing.{StandsFor}
-use Rattle.sf_designs.specs.Refusals.{yal_refusal}
+use Rattle.sf_designs.proofs.Common.{yal_refusal}
 use Rattle.sf_designs.proofs.YalRefused.{yal-stops, refused-tells}
 use Rattle.sf_designs.proofs.parsing.parse_yal.Goals as goal
 

@@ -1,5 +1,5 @@
 use Rattle.std.proofs.Common.{arith, subst}
-use Rattle.sf_frames.specs.Least.{IsLeastOf}
+use Rattle.sf_frames.proofs.Common.{IsLeastOf}
 use Rattle.sf_frames.proofs.AreaParts.{summed_item, item_area_small, product_small}
 use Rattle.sf_frames.proofs.area.area_part.Goals as goal
 

@@ -1,5 +1,5 @@
 use Rattle.std.proofs.Common.{◌≡◌, ◌-◌, ◌≤◌, take, map, length}
-use Rattle.sf_frames.specs.Kept.{token_of}
+use Rattle.sf_frames.proofs.Common.{token_of}
 use Rattle.sf_frames.proofs.cut.common.Given as goal
 
 abbrev pub invariant-loop-count : goal.invariant-loop-count

@@ -1,5 +1,5 @@
 use Rattle.std.proofs.Common.{arith, sym, ◌∙◌}
-use Rattle.sf_node.proofs.Reached.{subproblem-spans}
+use Rattle.sf_frames.proofs.Common.{subproblem-spans}
 use Rattle.sf_frames.proofs.UnusedCurves.{adding-more, adding-ends, adds-none}
 use Rattle.sf_frames.proofs.groups.group_curves.Goals as goal
 

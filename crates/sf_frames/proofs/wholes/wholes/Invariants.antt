@@ -1,5 +1,5 @@
 use Rattle.std.proofs.Common.{◌≡◌, ◌≤◌, ◌*◌, length}
-use Rattle.sf_frames.specs.Kept.{AreWhole}
+use Rattle.sf_frames.proofs.Common.{AreWhole}
 use Rattle.sf_frames.proofs.wholes.wholes.Given as goal
 
 abbrev pub invariant-loop-block : goal.invariant-loop-block

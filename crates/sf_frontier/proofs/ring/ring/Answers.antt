@@ -1,7 +1,5 @@
 use Rattle.std.proofs.Common.{◌≤◌, All, length, ap, sym, subst, arith}
-use Rattle.std.proofs.lemmas.List.Elements.{All-nil}
-use Rattle.sf_frontier.specs.Ends.{OwnerView}
-use Rattle.sf_frontier.specs.Team.{HasSlots}
+use Rattle.sf_frontier.proofs.Common.{All-nil, OwnerView, HasSlots}
 use Rattle.sf_frontier.proofs.Teams.{IsGrowing, growing-start, growing-more, growing-closed, new-pair, slots-more}
 use Rattle.sf_frontier.proofs.ring.ring.Goals as goal
 

@@ -1,5 +1,5 @@
 use Rattle.std.proofs.Common.{◌≡◌, ◌+◌, ◌≤◌, length, All}
-use Rattle.sf_frontier.specs.Team.{HasSlots}
+use Rattle.sf_frontier.proofs.Common.{HasSlots}
 use Rattle.sf_frontier.proofs.Teams.{IsGrowing}
 use Rattle.sf_frontier.proofs.ring.ring.Given as goal
 

@@ -1,7 +1,5 @@
 use Rattle.std.proofs.Common.{List, [], ◌∷◌, ◌++◌, ap, ◌∙◌, append_assoc}
-use Rattle.std.proofs.lemmas.List.Elements.{All-append, All-cons, All-nil}
-use Rattle.sf_frontier.specs.Ends.{OwnerView}
-use Rattle.sf_cursor.specs.declared.stretch.Stretch.{Stretch}
+use Rattle.sf_frontier.proofs.Common.{All-append, All-cons, All-nil, OwnerView, Stretch}
 use Rattle.sf_frontier.proofs.Teams.{last-first}
 use Rattle.sf_frontier.proofs.settle.drain.Goals as goal
 

@@ -1,5 +1,5 @@
 use Rattle.std.proofs.Common.{◌≡◌, List, ◌-◌, ◌++◌, length, reverse, All}
-use Rattle.sf_cursor.specs.declared.stretch.Stretch.{Stretch}
+use Rattle.sf_frontier.proofs.Common.{Stretch}
 use Rattle.sf_frontier.proofs.settle.drain.Given as goal
 
 abbrev pub invariant-loop-owner : goal.invariant-loop-owner

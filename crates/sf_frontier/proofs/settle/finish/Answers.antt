@@ -1,8 +1,5 @@
 use Rattle.std.proofs.Common.{◌≡◌, ◌∙◌, List, [], ◌++◌, All, length, ap, sym, subst, arith, rules}
-use Rattle.std.proofs.lemmas.List.Elements.{All-append, All-nil}
-use Rattle.sf_cursor.specs.declared.stretch.Stretch.{Stretch}
-use Rattle.sf_frontier.specs.Ends.{ThiefView, with_stolen}
-use Rattle.sf_frontier.specs.Team.{IsFinished}
+use Rattle.sf_frontier.proofs.Common.{All-append, All-nil, Stretch, ThiefView, with_stolen, IsFinished}
 use Rattle.sf_frontier.proofs.Teams.{IsSettling, settling-start, settling-more, settling-thief, settling-some, settling-done, lone-part, lone-done}
 use Rattle.sf_frontier.proofs.settle.finish.Goals as goal
 

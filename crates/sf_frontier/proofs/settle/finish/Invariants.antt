@@ -1,6 +1,6 @@
 use Rattle.std.proofs.Common.{length, All}
 use Rattle.crossbeam_deque.specs.Handles.{stealer_deque, view as pass_view}
-use Rattle.sf_frontier.specs.Ends.{ThiefView}
+use Rattle.sf_frontier.proofs.Common.{ThiefView}
 use Rattle.sf_frontier.proofs.Teams.{IsSettling}
 use Rattle.sf_frontier.proofs.settle.finish.Given as goal
 

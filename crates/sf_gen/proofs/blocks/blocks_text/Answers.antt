@@ -1,5 +1,5 @@
 use Rattle.std.proofs.Common.{ap, refl, ◌∙◌, append_assoc}
-use Rattle.sf_gen.specs.Texts.{blocks_text}
+use Rattle.sf_gen.proofs.Common.{blocks_text}
 use Rattle.sf_gen.proofs.blocks.blocks_text.Goals as goal
 
 pub returns : goal.returns

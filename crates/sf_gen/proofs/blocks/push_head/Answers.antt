@@ -1,5 +1,5 @@
 use Rattle.std.proofs.Common.{◌≡◌, ◌-◌, arith}
-use Rattle.sf_gen.specs.Texts.{hard_count}
+use Rattle.sf_gen.proofs.Common.{hard_count}
 use Rattle.sf_gen.proofs.Counts.{all_blocks}
 use Rattle.sf_gen.proofs.blocks.push_head.Goals as goal
 

@@ -1,5 +1,5 @@
 use Rattle.std.proofs.Common.{ap, sym, ◌∙◌}
-use Rattle.sf_gen.specs.Texts.{soft_count}
+use Rattle.sf_gen.proofs.Common.{soft_count}
 use Rattle.sf_gen.proofs.Counts.{soft_of_hard, soft_of_mixed}
 use Rattle.sf_gen.proofs.blocks.soft_among.Goals as goal
 

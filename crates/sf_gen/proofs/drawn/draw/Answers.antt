@@ -1,6 +1,5 @@
 use Rattle.std.proofs.Common.{ap, ◌∙◌}
-use Rattle.rand_pcg.specs.Pcg.{pcg32}
-use Rattle.sf_gen.specs.Words.{word}
+use Rattle.sf_gen.proofs.Common.{pcg32, word}
 use Rattle.sf_gen.proofs.Generator.{one_more}
 use Rattle.sf_gen.proofs.drawn.draw.Goals as goal
 

@@ -1,4 +1,4 @@
-use Rattle.sf_gen.specs.Drawn.{ends_at}
+use Rattle.sf_gen.proofs.Common.{ends_at}
 use Rattle.sf_gen.proofs.Growing.{one_drawn}
 use Rattle.sf_gen.proofs.drawn.draw_ends.Goals as goal
 

@@ -1,4 +1,4 @@
-use Rattle.sf_gen.specs.Drawn.{size_at}
+use Rattle.sf_gen.proofs.Common.{size_at}
 use Rattle.sf_gen.proofs.Growing.{one_drawn}
 use Rattle.sf_gen.proofs.drawn.draw_sizes.Goals as goal
 

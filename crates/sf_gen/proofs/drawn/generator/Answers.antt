@@ -1,5 +1,5 @@
 use Rattle.std.proofs.Common.{◌∙◌}
-use Rattle.sf_gen.specs.Words.{start}
+use Rattle.sf_gen.proofs.Common.{start}
 use Rattle.sf_gen.proofs.Generator.{first}
 use Rattle.sf_gen.proofs.drawn.generator.Goals as goal
 

@@ -1,5 +1,5 @@
 use Rattle.std.proofs.Common.{ap, ◌∙◌, refl}
-use Rattle.sf_gen.specs.Texts.{nets_text}
+use Rattle.sf_gen.proofs.Common.{nets_text}
 use Rattle.sf_gen.proofs.nets.nets_text.Goals as goal
 
 pub returns : goal.returns

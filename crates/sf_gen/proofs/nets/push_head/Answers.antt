@@ -1,5 +1,5 @@
 use Rattle.std.proofs.Common.{length, ◌≡◌}
-use Rattle.sf_gen.specs.Texts.{nets_pins, pins_of}
+use Rattle.sf_gen.proofs.Common.{nets_pins, pins_of}
 use Rattle.sf_gen.proofs.Counts.{all_pins, length-indexed}
 use Rattle.sf_gen.proofs.nets.push_head.Goals as goal
 

@@ -1,5 +1,5 @@
 use Rattle.std.proofs.Common.{◌≡◌, ◌++◌, length, ap, refl, ◌∙◌, append_assoc, arith}
-use Rattle.sf_gen.specs.Texts.{pad_pins, pin_lines, pins_of}
+use Rattle.sf_gen.proofs.Common.{pad_pins, pin_lines, pins_of}
 use Rattle.sf_gen.proofs.nets.push_net.Goals as goal
 
 pub returns : goal.returns

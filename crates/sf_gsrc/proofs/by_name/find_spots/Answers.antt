@@ -1,6 +1,6 @@
 use Rattle.std.proofs.Common.{◌≡◌, ◌-◌, w64, rules, arith, refl, sym, ◌∙◌}
 use Rattle.std.proofs.lemmas.Int.{to_z-of_z}
-use Rattle.sf_gsrc.specs.Join.{names_of}
+use Rattle.sf_gsrc.proofs.Common.{names_of}
 use Rattle.sf_gsrc.proofs.Likes.{first_twice_is}
 use Rattle.sf_gsrc.proofs.Names.{one_place_more}
 use Rattle.sf_gsrc.proofs.by_name.find_spots.Goals as goal

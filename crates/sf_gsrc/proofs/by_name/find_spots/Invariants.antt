@@ -1,4 +1,4 @@
-use Rattle.std.specs.Option.{option_map}
+use Rattle.std.proofs.Common.{option_map}
 use Rattle.sf_gsrc.proofs.Names.{AreKnown}
 use Rattle.sf_gsrc.proofs.by_name.find_spots.Given as goal
 

@@ -1,5 +1,5 @@
 use Rattle.std.proofs.Common.{map, ◌∙◌}
-use Rattle.sf_gsrc.specs.Join.{is_known}
+use Rattle.sf_gsrc.proofs.Common.{is_known}
 use Rattle.sf_gsrc.proofs.Names.{known_is, no_stranger, one_stranger_more}
 use Rattle.sf_gsrc.proofs.by_name.find_strangers.Goals as goal
 

@@ -1,5 +1,5 @@
 use Rattle.std.proofs.Common.{◌≡◌, map}
-use Rattle.sf_gsrc.specs.Join.{strangers_of}
+use Rattle.sf_gsrc.proofs.Common.{strangers_of}
 use Rattle.sf_gsrc.proofs.by_name.find_strangers.Given as goal
 
 abbrev pub invariant-loop-place : goal.invariant-loop-place

@@ -1,5 +1,4 @@
-use Rattle.std.proofs.Common.{map, take}
-use Rattle.std.specs.Prelude.{◌||◌}
+use Rattle.std.proofs.Common.{map, take, ◌||◌}
 use Rattle.sf_gsrc.proofs.Common.{has_name, IsNameSet}
 use Rattle.sf_gsrc.proofs.by_name.known_names.Given as goal
 

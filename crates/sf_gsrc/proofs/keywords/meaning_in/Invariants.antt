@@ -1,5 +1,5 @@
 use Rattle.std.proofs.Common.{◌≡◌, map, drop}
-use Rattle.sf_gsrc.specs.Keywords.{meaning_in}
+use Rattle.sf_gsrc.proofs.Common.{meaning_in}
 use Rattle.sf_gsrc.proofs.keywords.meaning_in.Given as goal
 
 abbrev pub invariant-loop-text : goal.invariant-loop-text

@@ -1,4 +1,4 @@
-use Rattle.sf_gsrc.specs.NetsStanding.{NetsStandFor}
+use Rattle.sf_gsrc.proofs.Common.{NetsStandFor}
 use Rattle.sf_gsrc.proofs.Results.{holds_if_read}
 use Rattle.sf_gsrc.proofs.NetLaws.{stands_from_read, read_from_stands}
 use Rattle.sf_gsrc.proofs.nets.read_nets.Goals as goal

@@ -1,6 +1,6 @@
 use Rattle.std.proofs.Common.{arith}
 use Rattle.std.proofs.lemmas.List.Edits.{map_over_more}
-use Rattle.sf_gsrc.specs.Join.{numbered_pin}
+use Rattle.sf_gsrc.proofs.Common.{numbered_pin}
 use Rattle.sf_gsrc.proofs.numbering.number_pins.Goals as goal
 
 pub loop-pin-preserved : goal.loop-pin-preserved

@@ -1,4 +1,4 @@
-use Rattle.sf_gsrc.specs.Places.{PlacesStandFor}
+use Rattle.sf_gsrc.proofs.Common.{PlacesStandFor}
 use Rattle.sf_gsrc.proofs.Results.{holds_if_read}
 use Rattle.sf_gsrc.proofs.PlaceLaws.{stands_from_read, read_from_stands}
 use Rattle.sf_gsrc.proofs.places.read_pl.Goals as goal

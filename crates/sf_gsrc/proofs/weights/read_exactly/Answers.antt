@@ -1,5 +1,5 @@
 use Rattle.std.proofs.Common.{◌≡◌, ◌∙◌, ap, length, refl, sym}
-use Rattle.std.proofs.lemmas.Result.{err_from_is_err_and}
+use Rattle.sf_gsrc.proofs.Common.{err_from_is_err_and}
 use Rattle.sf_gsrc.proofs.WeightSteps.{gives, refuses, written_back}
 use Rattle.sf_gsrc.proofs.weights.read_exactly.Goals as goal
 

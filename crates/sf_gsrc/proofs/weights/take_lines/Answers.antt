@@ -1,4 +1,4 @@
-use Rattle.std.proofs.lemmas.Result.{err_from_is_err_and}
+use Rattle.sf_gsrc.proofs.Common.{err_from_is_err_and}
 use Rattle.sf_gsrc.proofs.LineSteps.{fails, goes_on, is_done}
 use Rattle.sf_gsrc.proofs.weights.take_lines.Goals as goal
 

@@ -1,6 +1,5 @@
 use Rattle.std.proofs.Common.{List, [], ◌∷◌, ◌++◌, length}
-use Rattle.sf_gsrc.proofs.Common.{numbered_rest, content, NetWeight, weight_after, weights_from}
-use Rattle.sf_gsrc.specs.WeightsKept.{KeepsWeights}
+use Rattle.sf_gsrc.proofs.Common.{numbered_rest, content, NetWeight, weight_after, weights_from, KeepsWeights}
 use Rattle.sf_gsrc.proofs.LineSteps.{IsReading}
 use Rattle.sf_gsrc.proofs.weights.take_lines.Given as goal
 

@@ -1,8 +1,6 @@
-use Rattle.std.proofs.Common.{◌≡◌, ℕ, List, min, ap, sym, ◌∙◌, arith}
-use Rattle.std.specs.Prelude.{slice_index}
+use Rattle.std.proofs.Common.{◌≡◌, ℕ, List, min, ap, sym, ◌∙◌, arith, slice_index}
 use lib.ListN.{get_elem?}
-use Rattle.sf_incumbent.specs.Rule.{place}
-use Rattle.sf_incumbent.specs.Seen.{Word, Knows}
+use Rattle.sf_incumbent.proofs.Common.{place, Word, Knows}
 use Rattle.sf_incumbent.proofs.Steps.{least, word_at}
 use Rattle.sf_incumbent.proofs.Incumbent.finish.Goals as goal
 

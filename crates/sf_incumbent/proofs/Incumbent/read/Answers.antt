@@ -1,5 +1,5 @@
 use Rattle.std.proofs.Common.{ap, sym, ◌∙◌, arith}
-use Rattle.sf_incumbent.specs.Seen.{Word, Knows}
+use Rattle.sf_incumbent.proofs.Common.{Word, Knows}
 use Rattle.sf_incumbent.proofs.Steps.{looks}
 use Rattle.sf_incumbent.proofs.Incumbent.read.Goals as goal
 

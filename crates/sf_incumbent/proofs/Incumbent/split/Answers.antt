@@ -1,5 +1,5 @@
 use Rattle.std.proofs.Common.{◌≡◌, ap, sym, ◌∙◌, arith}
-use Rattle.sf_incumbent.specs.Seen.{Word, Knows}
+use Rattle.sf_incumbent.proofs.Common.{Word, Knows}
 use Rattle.sf_incumbent.proofs.Steps.{splits}
 use Rattle.sf_incumbent.proofs.Incumbent.split.Goals as goal
 

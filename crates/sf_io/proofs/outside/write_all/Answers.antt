@@ -1,7 +1,7 @@
 use Rattle.std.proofs.Common.{◌≡◌, ◌+◌, ◌-◌, length, take, drop, ◌++◌, arith, rules}
 use Rattle.std.proofs.lemmas.Grind.{common_steps}
 use Rattle.std.proofs.Math.Seq.{take-add}
-use Rattle.sf_io.specs.Outside.{Took}
+use Rattle.sf_io.proofs.Common.{Took}
 use Rattle.sf_io.proofs.TakenLemmas.{Appends-append, Took-prefix}
 use Rattle.sf_io.proofs.outside.write_all.Goals as goal
 

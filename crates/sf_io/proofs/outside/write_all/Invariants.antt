@@ -1,5 +1,5 @@
 use Rattle.std.proofs.Common.{length, ◌-◌, ◌≤◌, take}
-use Rattle.std.specs.Io.KnownBytes.{Appends}
+use Rattle.sf_io.proofs.Common.{Appends}
 use Rattle.sf_io.proofs.outside.write_all.Given as goal
 
 abbrev pub invariant-loop-at : goal.invariant-loop-at

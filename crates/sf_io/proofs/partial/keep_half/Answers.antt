@@ -1,6 +1,5 @@
 use Rattle.std.proofs.Common.{ap, inl, inr, drop, length, take, ◌/◌}
-use Rattle.std.proofs.lemmas.List.{take-append-drop}
-use Rattle.sf_io.specs.Outside.{Held}
+use Rattle.sf_io.proofs.Common.{take-append-drop, Held}
 use Rattle.sf_io.proofs.partial.keep_half.Goals as goal
 
 pub returns-in-Ok-clause-part : goal.returns-in-Ok-clause-part

@@ -1,6 +1,5 @@
 use Rattle.std.proofs.Common.{◌∙◌, refl, ap, map, option_map, arith, ◌∷◌, []}
-use Rattle.std.proofs.lemmas.List.{map-append}
-use Rattle.sf_words.specs.Seen.{plan_seen}
+use Rattle.sf_jobs.proofs.Common.{map-append, plan_seen}
 use Rattle.sf_jobs.proofs.Lines.{goes_on, bounded, few_lines, all_stand, all_many}
 use Rattle.sf_jobs.proofs.jobs.read_jobs.Goals.{then-found-lt-MOST_JOBS+in_ok-push, else-found-lt-MOST_JOBS}
 use Rattle.sf_jobs.proofs.jobs.read_jobs.Goals as goal

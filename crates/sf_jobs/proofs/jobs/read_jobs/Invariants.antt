@@ -1,7 +1,5 @@
-use Rattle.std.specs.Prelude.{map, option_map, length}
-use Rattle.sf_lex.specs.Scan.{numbered_rest}
-use Rattle.sf_gsrc.specs.Blocks.{content, content_of}
-use Rattle.sf_words.specs.Seen.{plan_seen}
+use Rattle.std.proofs.Common.{map, option_map, length}
+use Rattle.sf_jobs.proofs.Common.{numbered_rest, content, content_of, plan_seen}
 use Rattle.sf_jobs.proofs.Lines.{IsReading}
 use Rattle.sf_jobs.proofs.jobs.read_jobs.Given as goal
 

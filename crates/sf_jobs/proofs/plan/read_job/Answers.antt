@@ -1,6 +1,5 @@
 use Rattle.std.proofs.Common.{sym, ap, ◌∙◌}
-use Rattle.sf_jobs.proofs.Common.{given}
-use Rattle.sf_jobs.specs.Seen.{job_of}
+use Rattle.sf_jobs.proofs.Common.{given, job_of}
 use Rattle.sf_jobs.proofs.Meant.{asks, plain}
 use Rattle.sf_jobs.proofs.plan.read_job.Goals as goal
 

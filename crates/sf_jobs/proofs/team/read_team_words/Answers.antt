@@ -1,5 +1,5 @@
 use Rattle.std.proofs.Common.{List, ℕ, string_bytes, sym, subst, ◌∙◌}
-use Rattle.sf_words.specs.Numbers.{IsWithin}
+use Rattle.sf_jobs.proofs.Common.{IsWithin}
 use Rattle.sf_jobs.proofs.Four.{four, last_same}
 use Rattle.sf_jobs.proofs.team.read_team_words.Goals as goal
 

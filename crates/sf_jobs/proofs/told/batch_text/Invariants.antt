@@ -1,6 +1,5 @@
-use Rattle.std.specs.Prelude.{◌≡◌, map, take}
-use Rattle.sf_jobs.specs.Seen.{told_seen}
-use Rattle.sf_jobs.specs.Told.{batch_text}
+use Rattle.std.proofs.Common.{◌≡◌, map, take}
+use Rattle.sf_jobs.proofs.Common.{told_seen, batch_text}
 use Rattle.sf_jobs.proofs.told.batch_text.Given as goal
 
 abbrev pub invariant-loop-number : goal.invariant-loop-number

@@ -1,4 +1,4 @@
-use Rattle.sf_model.specs.Tree.{tree_of}
+use Rattle.sf_known.proofs.Common.{tree_of}
 use Rattle.sf_known.proofs.Spelled.{floorplan-fitting, floorplan-normal}
 use Rattle.sf_known.proofs.spelling.plan_found.Goals as goal
 

@@ -1,5 +1,5 @@
 use Rattle.std.proofs.Common.{◌*◌, arith, ap, sym, subst, ◌∙◌}
-use Rattle.sf_model.specs.Tree.{tree_of, width, height, HasEachOnce}
+use Rattle.sf_known.proofs.Common.{tree_of, width, height, HasEachOnce}
 use Rattle.sf_known.proofs.Spelled.{leaves-legal}
 use Rattle.sf_known.proofs.spelling.spelled.Goals as goal
 

@@ -1,6 +1,5 @@
-use Rattle.std.proofs.Common.{sym, subst}
-use Rattle.std.specs.Prelude.{IfSome}
-use Rattle.sf_anneal.specs.Measured.{IsFloorplan}
+use Rattle.std.proofs.Common.{sym, subst, IfSome}
+use Rattle.sf_known.proofs.Common.{IsFloorplan}
 use Rattle.sf_known.proofs.Beginning.{cheaper-holds, routed-start, walked-floorplan}
 use Rattle.sf_known.proofs.starting.begin.Goals as goal
 

@@ -1,5 +1,5 @@
 use Rattle.std.proofs.Common.{◌≡◌, min, take}
-use Rattle.sf_lex.specs.Number.{number_of}
+use Rattle.sf_lex.proofs.Common.{number_of}
 use Rattle.sf_lex.proofs.digits.number.Given as goal
 
 abbrev pub invariant-loop-digit : goal.invariant-loop-digit

@@ -1,5 +1,5 @@
 use Rattle.std.proofs.Common.{arith, length, ap}
-use Rattle.sf_lex.specs.Gap.{is_gap}
+use Rattle.sf_lex.proofs.Common.{is_gap}
 use Rattle.sf_lex.proofs.WordCount.{length-words}
 use Rattle.sf_lex.proofs.field.count_fields.Goals as goal
 

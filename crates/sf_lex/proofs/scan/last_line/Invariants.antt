@@ -1,5 +1,5 @@
 use Rattle.std.proofs.Common.{◌≡◌, length}
-use Rattle.sf_lex.specs.Scan.{numbered_words, last_word_line, last_line_of}
+use Rattle.sf_lex.proofs.Common.{numbered_words, last_word_line, last_line_of}
 use Rattle.sf_lex.proofs.scan.last_line.Given as goal
 
 abbrev pub invariant-loop-word : goal.invariant-loop-word

@@ -1,6 +1,5 @@
 use Rattle.std.proofs.Common.{List, Option, Ok, Err, ap, inl, refl, subst, ◌∙◌}
-use Rattle.sf_measuring.proofs.Common.{err_from_is_err_and, Contents, Spot, IsVerdict, measure_seen, SpotsRead, MeasureRead, verdict_text, Stops}
-use Rattle.sf_designs.proofs.Stages.{stops-map}
+use Rattle.sf_measuring.proofs.Common.{err_from_is_err_and, Contents, Spot, IsVerdict, measure_seen, SpotsRead, MeasureRead, verdict_text, Stops, stops-map}
 use Rattle.sf_measuring.proofs.measuring.measure.Goals as goal
 
 pub returns-in_err-spots-clause-answer : goal.returns-in_err-spots-clause-answer

@@ -1,8 +1,6 @@
-use Rattle.std.proofs.Common.{List, codes, sym, subst}
-use Rattle.std.specs.List.{All}
-use Rattle.sf_measuring.proofs.Common.{Place, HasNearPlace}
+use Rattle.std.proofs.Common.{List, codes, sym, subst, All}
+use Rattle.sf_measuring.proofs.Common.{Place, HasNearPlace, uncounted}
 use Rattle.sf_measuring.proofs.NearPlaces.{read_near}
-use Rattle.sf_designs.proofs.Stages.{uncounted}
 use Rattle.sf_measuring.proofs.measuring.read_spots.Goals as goal
 
 pub place_blocks-requires-clause-near : goal.place_blocks-requires-clause-near

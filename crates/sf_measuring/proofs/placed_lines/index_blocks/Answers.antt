@@ -1,6 +1,5 @@
-use Rattle.std.proofs.Common.{◌≡◌, ◌≤◌, arith, length, subst, true}
+use Rattle.std.proofs.Common.{◌≡◌, ◌≤◌, arith, length, subst, true, All}
 use Rattle.sf_measuring.proofs.Common.{is_some, List, take_all, Block, value_in}
-use Rattle.std.specs.List.{All}
 use Rattle.sf_measuring.proofs.Placing.{no_line_more, none_indexed, one_name_more}
 use Rattle.sf_measuring.proofs.placed_lines.index_blocks.Goals as goal
 

@@ -1,6 +1,5 @@
-use Rattle.std.proofs.Common.{◌≡◌, true, take}
+use Rattle.std.proofs.Common.{◌≡◌, true, take, All}
 use Rattle.sf_measuring.proofs.Common.{is_some, Block, value_in}
-use Rattle.std.specs.List.{All}
 use Rattle.sf_measuring.proofs.Placing.{HasNoLine}
 use Rattle.sf_measuring.proofs.placed_lines.index_blocks.Given as goal
 

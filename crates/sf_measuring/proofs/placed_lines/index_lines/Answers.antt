@@ -1,9 +1,5 @@
-use Rattle.std.proofs.Common.{◌-◌, List, Some, ap, arith, subst, sym, ◌∙◌}
-use Rattle.std.specs.Map.{update}
-use Rattle.std.specs.Str.{bytes_eq}
-use Rattle.sf_measuring.proofs.Common.{value_in, Place, IsIndex}
-use Rattle.sf_measuring.specs.declared.placed_lines.Lines.{Lines}
-use Rattle.std.proofs.Math.Seq.{drop-length}
+use Rattle.std.proofs.Common.{◌-◌, List, Some, ap, arith, subst, sym, ◌∙◌, bytes_eq}
+use Rattle.sf_measuring.proofs.Common.{value_in, Place, IsIndex, update, Lines, drop-length}
 use Rattle.sf_measuring.proofs.Placing.{indexed_before, passed_over}
 use Rattle.sf_measuring.proofs.placed_lines.index_lines.Goals as goal
 

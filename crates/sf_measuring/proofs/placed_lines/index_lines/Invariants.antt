@@ -1,5 +1,5 @@
 use Rattle.std.proofs.Common.{drop}
-use Rattle.sf_measuring.specs.PlacedLines.{IsIndex}
+use Rattle.sf_measuring.proofs.Common.{IsIndex}
 use Rattle.sf_measuring.proofs.placed_lines.index_lines.Given as goal
 
 abbrev pub invariant-loop-i : goal.invariant-loop-i

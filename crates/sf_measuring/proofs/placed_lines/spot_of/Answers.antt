@@ -1,8 +1,6 @@
 use Rattle.std.proofs.Common.{◌≡◌, ◌<◌, ◌∷◌, [], List, length, Some, Err, ap, sym, subst, ◌∙◌, rules, codes}
-use Rattle.sf_measuring.proofs.Common.{Spot, Place, lines_named, spot_said, Ends, LinesAre, IsOnly, HasNearPlace, design_fault}
-use Rattle.sf_measuring.specs.declared.placed_lines.Lines.TheVariants.{Without, One, More}
+use Rattle.sf_measuring.proofs.Common.{Spot, Place, lines_named, spot_said, Ends, LinesAre, IsOnly, HasNearPlace, design_fault, Without, One, More, refused-stops}
 use Rattle.sf_measuring.proofs.Placing.{kept_is}
-use Rattle.sf_designs.proofs.Stages.{refused-stops}
 use Rattle.sf_measuring.proofs.placed_lines.spot_of.Goals as goal
 
 pub bounds-lines-line : goal.bounds-lines-line

@@ -1,4 +1,4 @@
-use Rattle.sf_designs.proofs.Stages.{uncounted}
+use Rattle.sf_measuring.proofs.Common.{uncounted}
 use Rattle.sf_measuring.proofs.shaping.read_tokens_file.Goals as goal
 
 pub returns-clause-shelf : goal.returns-clause-shelf

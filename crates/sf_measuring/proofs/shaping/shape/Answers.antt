@@ -1,7 +1,6 @@
 use Rattle.std.proofs.Common.{List, Option, Ok, Err, inl, refl, subst, sym}
-use Rattle.sf_measuring.proofs.Common.{err_from_is_err_and, Contents, block_count, IsRootCurve, root, shape_seen, IsCurveText, ShapeRead, TokensRead, Stops}
+use Rattle.sf_measuring.proofs.Common.{err_from_is_err_and, Contents, block_count, IsRootCurve, root, shape_seen, IsCurveText, ShapeRead, TokensRead, Stops, stops-map}
 use Rattle.sf_polish.specs.declared.expr.Token.{Token}
-use Rattle.sf_designs.proofs.Stages.{stops-map}
 use Rattle.sf_measuring.proofs.shaping.shape.Goals as goal
 
 pub returns-in_err-tokens-clause-answer : goal.returns-in_err-tokens-clause-answer

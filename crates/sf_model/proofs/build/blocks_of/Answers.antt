@@ -1,5 +1,5 @@
 use Rattle.std.proofs.Common.{◌≡◌, length, arith}
-use Rattle.sf_model.specs.Built.{design_blocks}
+use Rattle.sf_model.proofs.Common.{design_blocks}
 use Rattle.sf_model.proofs.Moved.{moved, blocks_cut}
 use Rattle.sf_model.proofs.build.blocks_of.Goals as goal
 

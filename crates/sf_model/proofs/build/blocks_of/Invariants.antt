@@ -1,5 +1,5 @@
 use Rattle.std.proofs.Common.{◌≡◌, ◌++◌, reverse, vec_len}
-use Rattle.sf_model.specs.Built.{design_blocks}
+use Rattle.sf_model.proofs.Common.{design_blocks}
 use Rattle.sf_model.proofs.build.blocks_of.Given as goal
 
 abbrev pub invariant-loop-block : goal.invariant-loop-block

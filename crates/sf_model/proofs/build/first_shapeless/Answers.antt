@@ -1,5 +1,5 @@
 use Rattle.std.proofs.Common.{◌<◌, ◌∙◌, length, get_or, arith}
-use Rattle.std.proofs.lemmas.Bool.Decides.{nat_tests}
+use Rattle.sf_model.proofs.Common.{nat_tests}
 use Rattle.sf_model.proofs.Shapeless.{shapeless_step}
 use Rattle.sf_model.proofs.build.first_shapeless.Goals as goal
 

@@ -1,5 +1,5 @@
 use Rattle.std.proofs.Common.{◌≡◌, drop}
-use Rattle.sf_model.specs.Built.{first_shapeless}
+use Rattle.sf_model.proofs.Common.{first_shapeless}
 use Rattle.sf_model.proofs.build.first_shapeless.Given as goal
 
 abbrev pub invariant-loop-i : goal.invariant-loop-i

@@ -1,6 +1,5 @@
 use Rattle.std.proofs.Common.{◌≡◌, drop}
-use Rattle.sf_model.proofs.Common.{flat_map, first, at_placed_name, rule_faults}
-use Rattle.sf_model.specs.declared.names.NameRule.TheVariants.{NotBoth}
+use Rattle.sf_model.proofs.Common.{flat_map, first, at_placed_name, rule_faults, NotBoth}
 use Rattle.sf_model.proofs.names.check_placed.Given as goal
 
 abbrev pub invariant-loop-pad : goal.invariant-loop-pad

@@ -1,6 +1,5 @@
 use Rattle.std.proofs.Common.{◌≡◌, drop}
-use Rattle.sf_model.proofs.Common.{flat_map, first, rule_faults}
-use Rattle.sf_model.specs.declared.names.NameRule.TheVariants.{Known}
+use Rattle.sf_model.proofs.Common.{flat_map, first, rule_faults, Known}
 use Rattle.sf_model.proofs.names.check_strangers.Given as goal
 
 abbrev pub invariant-loop-name : goal.invariant-loop-name

@@ -1,6 +1,5 @@
 use Rattle.std.proofs.Common.{rules}
-use Rattle.std.proofs.lemmas.List.Sorted.{IsNonDecreasingBy-from_sort_by_key}
-use Rattle.sf_model.specs.Limits.{pin_order}
+use Rattle.sf_model.proofs.Common.{IsNonDecreasingBy-from_sort_by_key, pin_order}
 use Rattle.sf_model.proofs.nets.sort.Goals as goal
 
 pub returns-clause-ascending : goal.returns-clause-ascending

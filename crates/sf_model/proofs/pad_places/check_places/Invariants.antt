@@ -1,5 +1,5 @@
 use Rattle.std.proofs.Common.{◌≡◌, drop}
-use Rattle.sf_model.specs.Admitted.{first, unplaced_faults, is_wired}
+use Rattle.sf_model.proofs.Common.{first, unplaced_faults, is_wired}
 use Rattle.sf_model.proofs.pad_places.check_places.Given as goal
 
 abbrev pub invariant-loop-i : goal.invariant-loop-i

@@ -1,5 +1,5 @@
 use Rattle.std.proofs.Common.{◌≡◌, drop}
-use Rattle.sf_model.specs.Paths.{end_of, last_of}
+use Rattle.sf_model.proofs.Common.{end_of, last_of}
 use Rattle.sf_model.proofs.routing.end_of.Given as goal
 
 abbrev pub invariant-loop-step : goal.invariant-loop-step

@@ -1,10 +1,6 @@
-use Rattle.std.proofs.Common.{◌≡◌, ℕ, ◌<◌, length, get_or, ap, sym, subst, ◌∙◌, arith, All}
-use Rattle.std.proofs.lemmas.Bool.{true≢false}
-use Rattle.sf_model.proofs.Common.{All-from_recursion, length-map, Net}
+use Rattle.std.proofs.Common.{◌≡◌, ℕ, ◌<◌, length, get_or, ap, sym, subst, ◌∙◌, arith, All, true≢false}
+use Rattle.sf_model.proofs.Common.{All-from_recursion, length-map, Net, place_on, IsPath, Step}
 use Rattle.sf_model.proofs.Used.{at-last, axis-more, over-wrong, path-nets, taken-more, weight-at}
-use Rattle.sf_model.specs.Axes.{place_on}
-use Rattle.sf_model.specs.Paths.{IsPath}
-use Rattle.sf_model.specs.declared.paths.Step.{Step}
 use Rattle.sf_model.proofs.routing.first_wrong.Goals.{then-not-is_path-via-then-not-is_path, then-not-is_path-via-else-not-is_path+then-not-take_nets}
 use Rattle.sf_model.proofs.routing.first_wrong.Goals as goal
 

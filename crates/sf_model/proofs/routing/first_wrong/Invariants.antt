@@ -1,6 +1,5 @@
 use Rattle.std.proofs.Common.{◌≡◌, ℕ, ◌+◌, ◌<◌, length, get_or, take}
-use Rattle.sf_model.specs.Axes.{place_on}
-use Rattle.sf_model.specs.Paths.{ArePathsOfAxis, uses}
+use Rattle.sf_model.proofs.Common.{place_on, ArePathsOfAxis, uses}
 use Rattle.sf_model.proofs.routing.first_wrong.Given as goal
 
 abbrev pub invariant-loop-number : goal.invariant-loop-number

@@ -1,6 +1,5 @@
 use Rattle.std.proofs.Common.{◌≡◌, take, false}
-use Rattle.std.specs.List.{list_any}
-use Rattle.sf_model.specs.Paths.{is_pin}
+use Rattle.sf_model.proofs.Common.{list_any, is_pin}
 use Rattle.sf_model.proofs.routing.has_pin.Given as goal
 
 abbrev pub invariant-loop-other : goal.invariant-loop-other

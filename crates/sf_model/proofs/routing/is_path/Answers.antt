@@ -1,6 +1,5 @@
-use Rattle.std.proofs.Common.{sym, subst, ◌∙◌, All}
-use Rattle.std.proofs.lemmas.Bool.{true≢false}
-use Rattle.sf_model.specs.Paths.{IsHop, hops}
+use Rattle.std.proofs.Common.{sym, subst, ◌∙◌, All, true≢false}
+use Rattle.sf_model.proofs.Common.{IsHop, hops}
 use Rattle.sf_model.proofs.routing.is_path.Goals.{then-not-walks-via-then-not-walks, then-not-walks-via-else-not-walks+then-not-leads}
 use Rattle.sf_model.proofs.routing.is_path.Goals as goal
 

@@ -1,7 +1,5 @@
 use Rattle.std.proofs.Common.{◌+◌, ◌<◌, length, ap, arith}
-use Rattle.std.proofs.lemmas.List.Sums.{sum_by_more, sum_by-take-le}
-use Rattle.sf_model.specs.Axes.{place_on}
-use Rattle.sf_model.specs.Paths.{pull}
+use Rattle.sf_model.proofs.Common.{sum_by_more, sum_by-take-le, place_on, pull}
 use Rattle.sf_model.proofs.Used.{pulled-small}
 use Rattle.sf_model.proofs.routing.pulled.Goals as goal
 

@@ -1,7 +1,5 @@
 use Rattle.std.proofs.Common.{◌≡◌, take}
-use Rattle.sf_model.proofs.Common.{sum_by}
-use Rattle.sf_model.specs.Axes.{place_on}
-use Rattle.sf_model.specs.Paths.{pull}
+use Rattle.sf_model.proofs.Common.{sum_by, place_on, pull}
 use Rattle.sf_model.proofs.routing.pulled.Given as goal
 
 abbrev pub invariant-loop-path : goal.invariant-loop-path

@@ -1,10 +1,6 @@
-use Rattle.std.proofs.Common.{◌≡◌, ℕ, ◌+◌, ◌<◌, get_or, map, min, ap, subst, ◌∙◌, arith, refl, length}
-use Rattle.std.specs.Prelude.{List}
-use Rattle.sf_model.proofs.Common.{sum_by, length-map, Net}
-use Rattle.sf_model.specs.declared.paths.Path.{Path}
+use Rattle.std.proofs.Common.{◌≡◌, ℕ, ◌+◌, ◌<◌, get_or, map, min, ap, subst, ◌∙◌, arith, refl, length, List}
+use Rattle.sf_model.proofs.Common.{sum_by, length-map, Net, Path, ArePathsOfAxis, IsFirstWrong, pad_x, pad_y, pull, IsFirstWrongOfAxis}
 use Rattle.sf_model.proofs.Used.{bad, left-is, two-left, wrong-across, wrong-upward}
-use Rattle.sf_model.specs.Paths.{ArePathsOfAxis, IsFirstWrong, pad_x, pad_y, pull}
-use Rattle.sf_model.specs.Axes.{IsFirstWrongOfAxis}
 use Rattle.sf_model.proofs.routing.routes_of.Goals as goal
 
 pub returns-in-Some-clause-wrong : goal.returns-in-Some-clause-wrong

@@ -1,10 +1,6 @@
-use Rattle.std.proofs.Common.{◌≡◌, ℕ, ◌+◌, ◌<◌, length, get_or, arith, refl, cond, ◌∙◌}
-use Rattle.std.specs.Prelude.{◌==◌}
-use Rattle.std.proofs.lemmas.Bool.{cond-true, eq-eqb}
-use Rattle.std.proofs.lemmas.List.{get_or_default}
-use Rattle.std.proofs.lemmas.List.Sums.{sum_by_more, sum_by-take-le}
+use Rattle.std.proofs.Common.{◌≡◌, ℕ, ◌+◌, ◌<◌, length, get_or, arith, refl, cond, ◌∙◌, ◌==◌}
+use Rattle.sf_model.proofs.Common.{cond-true, eq-eqb, get_or_default, sum_by_more, sum_by-take-le, Step}
 use Rattle.sf_model.specs.declared.parts.Pin.TheVariants as pin
-use Rattle.sf_model.specs.declared.paths.Step.{Step}
 use Rattle.sf_model.proofs.routing.take_nets.Goals as goal
 
 pub returns-then-index-eq0-clause-over : goal.returns-then-index-eq0-clause-over

@@ -1,5 +1,4 @@
-use Rattle.std.proofs.Common.{◌≡◌, ℕ, ◌+◌, ◌<◌, length, get_or, take}
-use Rattle.std.specs.Prelude.{count_by, ◌==◌}
+use Rattle.std.proofs.Common.{◌≡◌, ℕ, ◌+◌, ◌<◌, length, get_or, take, count_by, ◌==◌}
 use Rattle.sf_model.proofs.routing.take_nets.Given as goal
 
 abbrev pub invariant-loop-step : goal.invariant-loop-step

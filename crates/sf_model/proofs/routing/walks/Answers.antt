@@ -1,5 +1,4 @@
-use Rattle.std.proofs.Common.{arith, sym, ◌∙◌}
-use Rattle.std.proofs.lemmas.Bool.{true≢false}
+use Rattle.std.proofs.Common.{arith, sym, ◌∙◌, true≢false}
 use Rattle.sf_model.proofs.Used.{hop-fails}
 use Rattle.sf_model.proofs.routing.walks.Goals as goal
 

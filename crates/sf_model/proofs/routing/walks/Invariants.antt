@@ -1,5 +1,4 @@
-use Rattle.std.proofs.Common.{drop}
-use Rattle.std.specs.Prelude.{◌↔◌}
+use Rattle.std.proofs.Common.{drop, ◌↔◌}
 use Rattle.sf_model.proofs.Used.{Walks}
 use Rattle.sf_model.proofs.routing.walks.Given as goal
 

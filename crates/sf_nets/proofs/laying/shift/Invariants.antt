@@ -1,5 +1,5 @@
 use Rattle.std.proofs.Common.{◌≡◌}
-use Rattle.sf_nets.specs.Layout.{moved, reseated}
+use Rattle.sf_nets.proofs.Common.{moved, reseated}
 use Rattle.sf_nets.proofs.Shifting.{shifted}
 use Rattle.sf_nets.proofs.laying.shift.Given as goal
 

@@ -1,5 +1,5 @@
 use Rattle.std.proofs.Common.{◌≡◌, take}
-use Rattle.sf_nets.specs.Pins.{shared_ranges, paired_sides, shared_homes}
+use Rattle.sf_nets.proofs.Common.{shared_ranges, paired_sides, shared_homes}
 use Rattle.sf_nets.proofs.pins.pin_parts.Given as goal
 
 abbrev pub invariant-loop-pin : goal.invariant-loop-pin

@@ -1,6 +1,5 @@
 use Rattle.std.proofs.Common.{◌≡◌, ◌+◌, ◌<◌, ◌≤◌, ◌^◌, arith, ap, sym, subst, ◌∙◌, length, get_or}
-use Rattle.sf_nets.proofs.Common.{sum_by, take_all, Full, Hull, Pair, Range}
-use Rattle.sf_node.specs.declared.part.Part.{Part}
+use Rattle.sf_nets.proofs.Common.{sum_by, take_all, Full, Hull, Pair, Range, Part}
 use Rattle.sf_nets.proofs.NetParts.{net_inside}
 use Rattle.sf_nets.proofs.PartSums.{ArePartsBefore, IsRestBefore, lefts, lefts-few, net-counts, net-free, of_left, of_net, rest-adds, rest-none}
 use Rattle.sf_nets.proofs.sums.parts_and_rest.Goals.{then-net-gt0, else-net-gt0}

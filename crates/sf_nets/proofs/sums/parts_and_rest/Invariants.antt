@@ -1,4 +1,4 @@
-use Rattle.sf_node.specs.declared.part.Part.TheVariants.{Full}
+use Rattle.sf_nets.proofs.Common.{Full}
 use Rattle.sf_nets.proofs.PartSums.{ArePartsBefore, IsRestBefore}
 use Rattle.sf_nets.proofs.sums.parts_and_rest.Given as goal
 

@@ -1,6 +1,5 @@
 use Rattle.std.proofs.Common.{◌≡◌, refl, ap, sym, subst, ◌∙◌, inl, inr}
-use Rattle.sf_standard.specs.Standard.{nets_by, wires_by}
-use Rattle.sf_node.specs.declared.part.Part.{Part}
+use Rattle.sf_nets.proofs.Common.{nets_by, wires_by, Part}
 use Rattle.sf_nets.proofs.sums.sum_by.Goals as goal
 
 pub returns-in-Full : goal.returns-in-Full

@@ -1,5 +1,5 @@
 use Rattle.std.proofs.Common.{◌≡◌, arith, sym, ◌∙◌}
-use Rattle.sf_standard.proofs.PathWires.{no-pull}
+use Rattle.sf_nets.proofs.Common.{no-pull}
 use Rattle.sf_nets.proofs.sums.sum_parts.Goals as goal
 
 pub returns-then-design-eq0 : goal.returns-then-design-eq0

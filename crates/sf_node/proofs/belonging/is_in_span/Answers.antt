@@ -1,5 +1,5 @@
 use Rattle.std.proofs.Common.{length, arith, ap, sym, subst}
-use Rattle.sf_model.specs.Legal.{shapes_of}
+use Rattle.sf_node.proofs.Common.{shapes_of}
 use Rattle.sf_node.proofs.Reached.{subproblem-spans}
 use Rattle.sf_node.proofs.Spanned.{IsSpan, are-spans}
 use Rattle.sf_node.proofs.belonging.is_in_span.Goals as goal

@@ -1,4 +1,4 @@
-use Rattle.sf_pieces.specs.Naming.{AreNamed}
+use Rattle.sf_pieces.proofs.Common.{AreNamed}
 use Rattle.sf_pieces.proofs.assembling.name_pieces.Given as goal
 
 abbrev pub invariant-loop-piece : goal.invariant-loop-piece

@@ -1,6 +1,6 @@
 use Rattle.std.proofs.Common.{refl, ◌∙◌, subst, sym}
 use Rattle.sf_pieces.proofs.Laid.{IsTreeOf, laid-cert, laid-formed, laid-tree}
-use Rattle.sf_pieces.specs.Told.{told_by}
+use Rattle.sf_pieces.proofs.Common.{told_by}
 use Rattle.sf_pieces.proofs.laying.lay.Goals as goal
 
 pub invariant_of-result : goal.invariant_of-result

@@ -1,7 +1,5 @@
 use Rattle.std.proofs.Common.{◌≡◌, length, arith, subst, sym}
-use Rattle.std.proofs.lemmas.Bool.Decides.{nat_tests}
-use Rattle.std.proofs.lemmas.List.{nil_from_length}
-use Rattle.sf_pieces.specs.Naming.{renamed}
+use Rattle.sf_pieces.proofs.Common.{nat_tests, nil_from_length, renamed}
 use Rattle.sf_pieces.proofs.Names.{renamed-none}
 use Rattle.sf_pieces.proofs.naming.name_all.Goals as goal
 

@@ -1,5 +1,5 @@
 use Rattle.std.proofs.Common.{◌≡◌, ◌≤◌, ◌++◌, length, take, drop}
-use Rattle.sf_pieces.specs.Naming.{renamed}
+use Rattle.sf_pieces.proofs.Common.{renamed}
 use Rattle.sf_pieces.proofs.naming.name_all.Given as goal
 
 abbrev pub invariant-loop-tag : goal.invariant-loop-tag

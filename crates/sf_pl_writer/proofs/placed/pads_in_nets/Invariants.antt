@@ -1,5 +1,5 @@
 use Rattle.std.proofs.Common.{◌≡◌, ℕ, ◌<◌, false, length, get_or, take}
-use Rattle.sf_pl_writer.specs.PlText.{stands_in}
+use Rattle.sf_pl_writer.proofs.Common.{stands_in}
 use Rattle.sf_pl_writer.proofs.placed.pads_in_nets.Given as goal
 
 abbrev pub invariant-loop-net : goal.invariant-loop-net

@@ -1,9 +1,5 @@
-use Rattle.std.proofs.Common.{◌≡◌, ◌++◌, ap, ◌∙◌, string_bytes, rules}
-use Rattle.std.specs.Prelude.{codes}
-use Rattle.std.proofs.lemmas.Int.{to_z-of_z}
-use mir.Syntax.{w32, w64}
-use mir.Val.{SFits, to_z, of_z}
-use Rattle.sf_pl_writer.specs.PlText.{place_text}
+use Rattle.std.proofs.Common.{◌≡◌, ◌++◌, ap, ◌∙◌, string_bytes, rules, codes}
+use Rattle.sf_pl_writer.proofs.Common.{to_z-of_z, w32, w64, SFits, to_z, of_z, place_text}
 use Rattle.sf_pl_writer.proofs.Lines.{line_of}
 use Rattle.sf_pl_writer.proofs.placed.push_pad.Goals as goal
 

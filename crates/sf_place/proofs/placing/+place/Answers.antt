@@ -1,5 +1,5 @@
 use Rattle.std.proofs.Common.{arith, ap}
-use Rattle.sf_model.specs.Tree.{leaf_count, tree_of}
+use Rattle.sf_place.proofs.Common.{leaf_count, tree_of}
 use Rattle.sf_place.proofs.placing.+place.Goals as goal
 
 pub returns-in-Leaf-clause-narrow : goal.returns-in-Leaf-clause-narrow

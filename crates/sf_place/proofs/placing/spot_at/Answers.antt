@@ -1,5 +1,5 @@
 use Rattle.std.proofs.Common.{sym}
-use Rattle.std.proofs.lemmas.List.{get_or_default}
+use Rattle.sf_place.proofs.Common.{get_or_default}
 use Rattle.sf_place.proofs.Numbered.{spot_of_numbered, block_numbered}
 use Rattle.sf_place.proofs.placing.spot_at.Goals as goal
 

@@ -1,8 +1,6 @@
 use Rattle.std.proofs.Common.{arith, ap, ℕ, ◌≡◌, length, List, take, drop, ◌++◌, sym, subst, ◌∙◌}
 use Rattle.std.proofs.Math.Seq.{take-append_seam}
-use Rattle.sf_place.proofs.Common.{Spot, tree_of, spots_of, HasBlocksBelow, spot_of, wire, by_number, AreLegal}
-use Rattle.sf_model.specs.Legal.{block_count}
-use Rattle.sf_model.specs.Cost.{spots_cost}
+use Rattle.sf_place.proofs.Common.{Spot, tree_of, spots_of, HasBlocksBelow, spot_of, wire, by_number, AreLegal, block_count, spots_cost}
 use Rattle.sf_place.proofs.ByNumber.{plan-leaves, plan-placed, plan-spot_of, plan-wire, plan-cost, plan-legal}
 use Rattle.sf_model.proofs.BlocksBelow.{once-below}
 use Rattle.sf_place.proofs.placing.spots.Goals as goal

@@ -1,4 +1,4 @@
-use Rattle.sf_place.specs.Verdict.{IsListed, LiesIn}
+use Rattle.sf_place.proofs.Common.{IsListed, LiesIn}
 use Rattle.sf_place.proofs.Legality.{none_without, none_over}
 use Rattle.sf_place.proofs.verdict.check_spots.Goals as goal
 

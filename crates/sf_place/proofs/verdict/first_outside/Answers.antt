@@ -1,5 +1,5 @@
 use Rattle.std.proofs.Common.{arith}
-use Rattle.sf_place.specs.Verdict.{LiesIn}
+use Rattle.sf_place.proofs.Common.{LiesIn}
 use Rattle.sf_place.proofs.Numbered.{all_by_number}
 use Rattle.sf_place.proofs.verdict.first_outside.Goals as goal
 

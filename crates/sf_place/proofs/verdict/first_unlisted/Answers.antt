@@ -1,6 +1,6 @@
 use Rattle.std.proofs.Common.{arith, subst}
 use borrow.Author.Count.{below_more}
-use Rattle.sf_place.specs.Verdict.{IsListed}
+use Rattle.sf_place.proofs.Common.{IsListed}
 use Rattle.sf_place.proofs.Numbered.{all_by_number}
 use Rattle.sf_place.proofs.verdict.first_unlisted.Goals as goal
 

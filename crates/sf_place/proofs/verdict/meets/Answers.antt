@@ -1,5 +1,5 @@
 use Rattle.std.proofs.Common.{arith}
-use Rattle.std.proofs.lemmas.Int.{ints}
+use Rattle.sf_place.proofs.Common.{ints}
 use Rattle.sf_place.proofs.verdict.meets.Goals as goal
 
 pub returns-then-from-other_from : goal.returns-then-from-other_from

@@ -1,5 +1,5 @@
 use Rattle.std.proofs.Common.{arith}
-use Rattle.std.proofs.lemmas.Int.{ints}
+use Rattle.sf_place.proofs.Common.{ints}
 use Rattle.sf_place.proofs.verdict.overlaps.Goals as goal
 
 pub returns-then-meets : goal.returns-then-meets

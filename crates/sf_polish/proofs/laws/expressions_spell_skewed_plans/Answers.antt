@@ -1,5 +1,5 @@
 use Rattle.std.proofs.Common.{subst}
-use Rattle.sf_polish.specs.Normal.{IsNormal}
+use Rattle.sf_polish.proofs.Common.{IsNormal}
 use Rattle.sf_polish.proofs.Normality.{normal-spelled, postfix-normal}
 use Rattle.sf_polish.proofs.Shaped.{one-expression, once-of_normal}
 use Rattle.sf_polish.proofs.Spelling.{spells-one}

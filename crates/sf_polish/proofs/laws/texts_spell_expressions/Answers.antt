@@ -1,4 +1,4 @@
-use Rattle.sf_polish.specs.Text.{expr_text}
+use Rattle.sf_polish.proofs.Common.{expr_text}
 use Rattle.sf_polish.proofs.Respelled.{expr-written}
 use Rattle.sf_polish.proofs.TextLaws.{expr-spelled, spelled-expr}
 use Rattle.sf_polish.proofs.laws.texts_spell_expressions.Goals as goal

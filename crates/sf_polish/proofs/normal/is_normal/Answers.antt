@@ -1,5 +1,4 @@
-use Rattle.std.proofs.Common.{arith, rules}
-use Rattle.std.specs.Prelude.{IsTrue}
+use Rattle.std.proofs.Common.{arith, rules, IsTrue}
 use Rattle.sf_polish.proofs.normal.is_normal.Goals as goal
 
 pub returns : goal.returns

@@ -1,7 +1,6 @@
 use Rattle.std.proofs.Common.{◌++◌, length, ap, sym, subst, ◌∙◌}
-use Rattle.sf_polish.proofs.Common.{length-replicate, tree_of, HasBlocksBelow, IsNormal, postfix, no_shape}
+use Rattle.sf_polish.proofs.Common.{length-replicate, tree_of, HasBlocksBelow, IsNormal, postfix, no_shape, once-below}
 use Rattle.sf_polish.proofs.Shaped.{spelled-by}
-use Rattle.sf_model.proofs.BlocksBelow.{once-below}
 use Rattle.sf_polish.proofs.Normality.{postfix-normal}
 use Rattle.sf_polish.proofs.postfix.expr_of.Goals as goal
 

@@ -1,5 +1,4 @@
-use Rattle.std.proofs.Common.{◌∙◌, string_bytes}
-use Rattle.std.specs.Fmt.{decimal}
+use Rattle.std.proofs.Common.{◌∙◌, string_bytes, decimal}
 use Rattle.sf_model.specs.CostText.{cost_text}
 use Rattle.sf_program.proofs.Printed.{yes-lines}
 use Rattle.sf_program.proofs.answering.yes_text.Goals as goal

@@ -1,5 +1,5 @@
 use Rattle.sf_program.proofs.Continued.{cert-loaded}
-use Rattle.sf_designs.proofs.Stages.{uncounted}
+use Rattle.sf_program.proofs.Common.{uncounted}
 use Rattle.sf_program.proofs.certificates.read_cert_file.Goals as goal
 
 pub returns-clause-cert : goal.returns-clause-cert

@@ -1,5 +1,5 @@
 use Rattle.std.proofs.Common.{None, ap}
-use Rattle.sf_words.specs.Seen.{text_of}
+use Rattle.sf_program.proofs.Common.{text_of}
 use Rattle.sf_program.proofs.Pieces.{told-file}
 use Rattle.sf_program.proofs.checking.check_file.Goals as goal
 

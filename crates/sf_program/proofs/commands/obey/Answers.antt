@@ -1,6 +1,5 @@
 use Rattle.std.proofs.Common.{arith, refl}
-use Rattle.sf_program.proofs.Common.{gen, gen_seen}
-use Rattle.sf_designs.proofs.Stages.{uncounted}
+use Rattle.sf_program.proofs.Common.{gen, gen_seen, uncounted}
 use Rattle.sf_program.proofs.Pieces.{obeyed}
 use Rattle.sf_program.proofs.commands.obey.Goals as goal
 

@@ -1,6 +1,5 @@
 use Rattle.std.proofs.Common.{◌≡◌, ◌++◌, ℕ, false, List, None, Ok, Err, inl, ap, sym, subst, ◌∙◌}
-use Rattle.sf_program.proofs.Common.{err_from_is_err_and, Status, block_count, gen_seen, GenRead, cert_name, BudgetTested, IsAnswered, budget_of, Stored, stored_in}
-use Rattle.sf_words.specs.declared.command.BoundsChoice.TheVariants.{Standard}
+use Rattle.sf_program.proofs.Common.{err_from_is_err_and, Status, block_count, gen_seen, GenRead, cert_name, BudgetTested, IsAnswered, budget_of, stored_in, Standard}
 use Rattle.sf_program.proofs.Made.{never-stops}
 use Rattle.sf_program.proofs.generating.generate.Goals as goal
 

@@ -2,8 +2,7 @@ use Rattle.std.proofs.Common.{false, sym, subst, arith, ap, ◌∙◌}
 use Rattle.sf_gsrc.proofs.NetLaws as nets
 use Rattle.sf_gsrc.proofs.PlaceLaws as places
 use Rattle.sf_gsrc.proofs.StandingLaws as blocks
-use Rattle.sf_model.specs.declared.fault.BuildFault.{BuildFault}
-use Rattle.sf_program.proofs.Common.{Parts, gen_seen, TextsStand, both_weights, by_default, kinds_of, parts_made, HasNoneFor, Ends, DesignMade, WeighedParts, alike, weighed_in}
+use Rattle.sf_program.proofs.Common.{Parts, gen_seen, TextsStand, both_weights, by_default, kinds_of, parts_made, HasNoneFor, Ends, DesignMade, WeighedParts, alike, weighed_in, BuildFault}
 use Rattle.sf_model.specs.Admitted.{HasPinsInRange, HasSizes, IsAdmitted}
 use Rattle.sf_program.proofs.Made.{made-never, made-ok}
 use Rattle.sf_program.proofs.generating.made_design.Goals as goal

@@ -1,5 +1,5 @@
 use Rattle.std.proofs.Common.{◌≡◌, ◌++◌}
-use Rattle.sf_designs.specs.Stores.{stored_in}
+use Rattle.sf_program.proofs.Common.{stored_in}
 use Rattle.sf_program.proofs.generating.put_behind.Given as goal
 
 abbrev pub invariant-loop-store : goal.invariant-loop-store

@@ -1,7 +1,6 @@
 use Rattle.std.proofs.Common.{◌≡◌, ℕ, List, ◌++◌, length}
-use Rattle.sf_program.proofs.Common.{Design, IsFed}
+use Rattle.sf_program.proofs.Common.{Design, IsFed, Part}
 use Rattle.sf_node.specs.Parts.{Parts}
-use Rattle.sf_node.specs.declared.part.Part.{Part}
 use Rattle.sf_program.proofs.judging.feed_text.Given as goal
 
 abbrev pub invariant-loop-rest : goal.invariant-loop-rest

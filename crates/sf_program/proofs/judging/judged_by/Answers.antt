@@ -1,6 +1,5 @@
 use Rattle.std.proofs.Common.{[], Err, ap}
-use Rattle.sf_program.proofs.Common.{block_count}
-use Rattle.sf_cert_text.specs.Reading.{cert_read}
+use Rattle.sf_program.proofs.Common.{block_count, cert_read}
 use Rattle.sf_program.proofs.Pieces.{cert-stops}
 use Rattle.sf_program.proofs.judging.judged_by.Goals as goal
 

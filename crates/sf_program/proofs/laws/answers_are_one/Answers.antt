@@ -1,7 +1,5 @@
 use Rattle.std.proofs.Common.{refl, sym, ◌∙◌}
-use Rattle.sf_search.specs.Turns.{turns}
-use Rattle.sf_search_core.specs.Outcome.{opening}
-use Rattle.sf_program.specs.Chosen.{chosen_part, chosen_value}
+use Rattle.sf_program.proofs.Common.{turns, opening, chosen_part, chosen_value}
 use Rattle.sf_program.proofs.ChosenLaws.{chosen-parts}
 use Rattle.sf_program.proofs.OneAnswer.{words-done, words-one, words-refused}
 use Rattle.sf_program.proofs.OneChecked.{HasOneName, one-name}

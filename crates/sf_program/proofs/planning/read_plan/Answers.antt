@@ -1,4 +1,4 @@
-use Rattle.sf_designs.proofs.Stages.{uncounted}
+use Rattle.sf_program.proofs.Common.{uncounted}
 use Rattle.sf_program.proofs.planning.read_plan.Goals as goal
 
 pub returns-clause-shelf : goal.returns-clause-shelf

@@ -1,5 +1,5 @@
 use Rattle.std.proofs.Common.{sym, ◌∙◌}
-use Rattle.sf_words.specs.Seen.{text_of}
+use Rattle.sf_program.proofs.Common.{text_of}
 use Rattle.sf_program.proofs.Told.{bound-below, told-reported}
 use Rattle.sf_program.proofs.planning.tell_found.Goals as goal
 

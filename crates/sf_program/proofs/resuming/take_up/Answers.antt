@@ -1,6 +1,5 @@
 use Rattle.std.proofs.Common.{inl, ap, refl, ◌∙◌}
-use Rattle.sf_checker.specs.Answers.{is_yes}
-use Rattle.sf_program.proofs.Common.{resume_seen}
+use Rattle.sf_program.proofs.Common.{resume_seen, is_yes}
 use Rattle.sf_program.proofs.ByChoice.{no-good}
 use Rattle.sf_program.proofs.Continued.{rejected, sum-past, taken-up}
 use Rattle.sf_program.proofs.resuming.take_up.Goals as goal

@@ -1,5 +1,5 @@
 use Rattle.std.proofs.Common.{Some}
-use Rattle.sf_designs.specs.Stores.{stored_in}
+use Rattle.sf_program.proofs.Common.{stored_in}
 use Rattle.sf_program.proofs.Pieces.{told-cert}
 use Rattle.sf_program.proofs.rewriting.rewrite_cert.Goals as goal
 

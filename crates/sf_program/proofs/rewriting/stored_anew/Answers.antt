@@ -1,4 +1,4 @@
-use Rattle.sf_designs.specs.Stores.{stored_in}
+use Rattle.sf_program.proofs.Common.{stored_in}
 use Rattle.sf_program.proofs.Pieces.{stored-anew}
 use Rattle.sf_program.proofs.rewriting.stored_anew.Goals as goal
 

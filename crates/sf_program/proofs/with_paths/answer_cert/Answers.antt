@@ -1,6 +1,5 @@
-use Rattle.std.proofs.Common.{Ok, ap, subst}
-use Rattle.std.specs.Prelude.{IfSome}
-use Rattle.sf_known.specs.Routed.{Breaks, Takes}
+use Rattle.std.proofs.Common.{Ok, ap, subst, IfSome}
+use Rattle.sf_program.proofs.Common.{Breaks, Takes}
 use Rattle.sf_program.proofs.ByChoice.{behind}
 use Rattle.sf_program.proofs.with_paths.answer_cert.Goals as goal
 

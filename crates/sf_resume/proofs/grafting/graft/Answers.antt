@@ -1,6 +1,5 @@
 use Rattle.std.proofs.Common.{All, subst, sym}
-use Rattle.sf_pieces.specs.Laid.{HoldTree}
-use Rattle.sf_resume.specs.Early.{IsEarly}
+use Rattle.sf_resume.proofs.Common.{HoldTree, IsEarly}
 use Rattle.sf_resume.proofs.Joined.{grafted-cert, grafted-laid, grafted-named, grafted-tree}
 use Rattle.sf_resume.proofs.grafting.graft.Goals as goal
 

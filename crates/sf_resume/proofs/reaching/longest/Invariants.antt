@@ -1,5 +1,5 @@
 use Rattle.std.proofs.Common.{◌≤◌, ◌-◌, length}
-use Rattle.sf_resume.specs.Reach.{IsReach}
+use Rattle.sf_resume.proofs.Common.{IsReach}
 use Rattle.sf_resume.proofs.Reached.{IsAhead}
 use Rattle.sf_resume.proofs.reaching.longest.Given as goal
 

@@ -1,5 +1,5 @@
 use Rattle.std.proofs.Common.{◌≡◌, ◌≤◌, take}
-use Rattle.sf_certificate.specs.Valid.{decided}
+use Rattle.sf_resume.proofs.Common.{decided}
 use Rattle.sf_resume.proofs.resuming.decided_by.Given as goal
 
 abbrev pub invariant-loop-tag : goal.invariant-loop-tag

@@ -1,6 +1,5 @@
 use Rattle.std.proofs.Common.{◌∷◌, [], refl, ap, sym, subst, ◌∙◌}
-use Rattle.sf_resume.proofs.Common.{IsApart, AreSomeTree, root, decided}
-use Rattle.sf_rounds.specs.Rounds.{all_waits}
+use Rattle.sf_resume.proofs.Common.{IsApart, AreSomeTree, root, decided, all_waits}
 use Rattle.sf_resume.proofs.Readings.{trees-any}
 use Rattle.sf_resume.proofs.Whole.{best-planned, can-graft, resumed}
 use Rattle.sf_resume.proofs.resuming.resume.Goals as goal

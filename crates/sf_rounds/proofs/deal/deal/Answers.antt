@@ -1,5 +1,5 @@
 use Rattle.std.proofs.Common.{length}
-use Rattle.sf_cursor.specs.Stretches.{IsStretch}
+use Rattle.sf_rounds.proofs.Common.{IsStretch}
 use Rattle.sf_rounds.proofs.Dealing.{dealt, left-stretches, turned-stretches, handed-turned}
 use Rattle.sf_rounds.proofs.deal.deal.Goals as goal
 

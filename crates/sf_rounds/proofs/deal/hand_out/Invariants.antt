@@ -1,5 +1,5 @@
 use Rattle.std.proofs.Common.{◌<◌, length, All}
-use Rattle.sf_cursor.specs.Stretches.{IsStretch}
+use Rattle.sf_rounds.proofs.Common.{IsStretch}
 use Rattle.sf_rounds.proofs.Dealing.{IsHanding}
 use Rattle.sf_rounds.proofs.deal.hand_out.Given as goal
 

@@ -1,7 +1,5 @@
-use Rattle.std.proofs.Common.{◌≡◌, List, ◌++◌, ap, sym, ◌∙◌, subst, append_assoc}
-use Rattle.sf_rounds.proofs.Common.{Stretch, Knows, IsBest, IfOk-at_ok, as_list}
-use Rattle.std.specs.Result.{is_ok}
-use Rattle.sf_worker.specs.declared.state.PassEnd.{PassEnd}
+use Rattle.std.proofs.Common.{◌≡◌, List, ◌++◌, ap, sym, ◌∙◌, subst, append_assoc, is_ok}
+use Rattle.sf_rounds.proofs.Common.{Stretch, Knows, IsBest, IfOk-at_ok, as_list, PassEnd}
 use Rattle.sf_rounds.proofs.gather.add.Goals as goal
 
 pub returns : goal.returns

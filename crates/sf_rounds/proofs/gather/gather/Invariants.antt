@@ -1,5 +1,5 @@
 use Rattle.std.proofs.Common.{◌≡◌, All}
-use Rattle.sf_rounds.specs.Jobs.{IsDone, Gathers}
+use Rattle.sf_rounds.proofs.Common.{IsDone, Gathers}
 use Rattle.sf_rounds.proofs.gather.gather.Given as goal
 
 abbrev pub invariant-loop-job : goal.invariant-loop-job

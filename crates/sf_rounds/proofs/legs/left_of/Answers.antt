@@ -1,7 +1,5 @@
 use Rattle.std.proofs.Common.{ℕ, length, ap, arith}
-use Rattle.std.proofs.lemmas.List.Sums.{sum_by-drop_more}
-use Rattle.sf_rounds.proofs.Common.{drop_all, tags_in}
-use Rattle.sf_pieces.specs.declared.piece.Piece.{Piece}
+use Rattle.sf_rounds.proofs.Common.{drop_all, tags_in, sum_by-drop_more, Piece}
 use Rattle.sf_rounds.proofs.legs.left_of.Goals as goal
 
 pub overflow_sub-left : goal.overflow_sub-left

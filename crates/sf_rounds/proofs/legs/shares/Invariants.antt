@@ -1,5 +1,4 @@
-use Rattle.std.proofs.Common.{◌≡◌, ◌+◌, ◌<◌, ◌≤◌, length}
-use Rattle.std.specs.Prelude.{sum, slice_index_or}
+use Rattle.std.proofs.Common.{◌≡◌, ◌+◌, ◌<◌, ◌≤◌, length, sum, slice_index_or}
 use Rattle.sf_rounds.proofs.legs.shares.Given as goal
 
 abbrev pub invariant-loop-worker : goal.invariant-loop-worker

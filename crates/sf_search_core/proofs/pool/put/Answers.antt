@@ -1,5 +1,5 @@
 use Rattle.std.proofs.Common.{◌∙◌, ◌++◌, reverse, ap, arith, List}
-use Rattle.sf_node.specs.declared.task.Task.{Task}
+use Rattle.sf_search_core.proofs.Common.{Task}
 use Rattle.sf_search_core.proofs.Replaced.{put-last}
 use Rattle.sf_search_core.proofs.pool.put.Goals as goal
 

@@ -1,7 +1,5 @@
-use Rattle.std.proofs.Common.{◌≡◌, ◌≤◌, List, [], ◌∷◌, ◌++◌, length, get_or, subst, ap, sym, ◌∙◌, ◌<◌, Some, Err, arith}
-use Rattle.sf_soft_shapes.proofs.Common.{IsShapeChoice, Shape, RawBlock, IsListOf}
-use Rattle.std.specs.Option.{option_map}
-use Rattle.sf_model.specs.declared.fault.BuildFault.TheVariants.{NoShape}
+use Rattle.std.proofs.Common.{◌≡◌, ◌≤◌, List, [], ◌∷◌, ◌++◌, length, get_or, subst, ap, sym, ◌∙◌, ◌<◌, Some, Err, arith, option_map}
+use Rattle.sf_soft_shapes.proofs.Common.{IsShapeChoice, Shape, RawBlock, IsListOf, NoShape}
 use Rattle.sf_soft_shapes.proofs.Listing.{lists_start, lists_grow, all_one, all_shaped, none_after}
 use Rattle.sf_soft_shapes.proofs.listed.lists.Goals as goal
 

@@ -1,5 +1,5 @@
 use Rattle.std.proofs.Common.{◌+◌, ◌/◌, rules, arith}
-use Rattle.sf_soft_shapes.specs.Ends.{IsHighEnough}
+use Rattle.sf_soft_shapes.proofs.Common.{IsHighEnough}
 use Rattle.sf_soft_shapes.proofs.Heights.{narrow_down}
 use Rattle.sf_soft_shapes.proofs.soft.greatest_width.Goals as goal
 

@@ -1,5 +1,5 @@
 use Rattle.std.proofs.Common.{◌+◌, ◌/◌, rules, arith}
-use Rattle.sf_soft_shapes.specs.Ends.{IsLowEnough}
+use Rattle.sf_soft_shapes.proofs.Common.{IsLowEnough}
 use Rattle.sf_soft_shapes.proofs.Heights.{wide_up}
 use Rattle.sf_soft_shapes.proofs.soft.least_width.Goals as goal
 

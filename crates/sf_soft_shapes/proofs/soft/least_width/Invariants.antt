@@ -1,5 +1,5 @@
 use Rattle.std.proofs.Common.{ℕ, ◌+◌, ◌-◌, ◌^◌, ◌<◌, ◌≤◌}
-use Rattle.sf_soft_shapes.specs.Ends.{IsLowEnough}
+use Rattle.sf_soft_shapes.proofs.Common.{IsLowEnough}
 use Rattle.sf_soft_shapes.proofs.soft.least_width.Given as goal
 
 abbrev pub invariant-loop-low : goal.invariant-loop-low

@@ -1,6 +1,5 @@
 use Rattle.std.proofs.Common.{◌≡◌, ◌<◌, ◌≤◌, ◌+◌, ◌*◌, ◌/◌, ◌%◌, ℕ, List, length, get_or, drop, arith, ap}
-use Rattle.sf_subsets.proofs.Common.{total}
-use Rattle.std.proofs.lemmas.List.{drop_more}
+use Rattle.sf_subsets.proofs.Common.{total, drop_more}
 use Rattle.sf_subsets.proofs.budget.total_of.Goals as goal
 use Rattle.sf_subsets.proofs.budget.total_of.Goals.{then-left-eq1, else-left-eq1}
 

@@ -1,6 +1,5 @@
-use Rattle.std.proofs.Common.{◌≡◌, ◌+◌, ◌*◌, ◌-◌, ◌^◌, ◌<◌, ◌≤◌, List, [], min, arith, ap, subst, ◌∙◌}
+use Rattle.std.proofs.Common.{◌≡◌, ◌+◌, ◌*◌, ◌-◌, ◌^◌, ◌<◌, ◌≤◌, List, [], min, arith, ap, subst, ◌∙◌, Some, None}
 use Rattle.sf_subsets.proofs.Common.{All, IsLeastArea, Shape, area_of, block_count, curve_at, get_or_default, total}
-use Rattle.std.specs.Prelude.{Some, None}
 use Rattle.sf_subsets.proofs.Bits.{below_power}
 use Rattle.sf_subsets.proofs.Areas.{floor-by_total, floor-whole, least-found}
 use Rattle.sf_subsets.proofs.found.find_below.Goals as goal

@@ -1,7 +1,5 @@
 use Rattle.std.proofs.Common.{subst}
-use Rattle.sf_subsets.proofs.Common.{AddsSmall, size_in}
-use Rattle.std.proofs.lemmas.Result.{on_ok_weaker}
-use Rattle.sf_curves.specs.Points.{IsCombination}
+use Rattle.sf_subsets.proofs.Common.{AddsSmall, size_in, on_ok_weaker, IsCombination}
 use Rattle.sf_subsets.proofs.Added.{combination-added}
 use Rattle.sf_subsets.proofs.gathering.gather_joins.Goals as goal
 

@@ -1,6 +1,5 @@
 use Rattle.std.proofs.Common.{inl, inr, arith, ap, ◌∙◌, subst}
-use Rattle.sf_subsets.proofs.Common.{AddsSmall}
-use Rattle.std.proofs.lemmas.List.{take_all}
+use Rattle.sf_subsets.proofs.Common.{AddsSmall, take_all}
 use Rattle.sf_subsets.proofs.Added.{adds-none, adds-at}
 use Rattle.sf_subsets.proofs.gathering.push_small.Goals as goal
 use Rattle.sf_subsets.proofs.gathering.push_small.Goals.{then-area-limit+in_ok-push, else-area-limit}

@@ -1,8 +1,5 @@
 use Rattle.std.proofs.Common.{Option, MatchOption, sym, subst}
-use Rattle.sf_subsets.proofs.Common.{tree_of}
-use Rattle.sf_model.specs.Cost.{NoneFits}
-use Rattle.sf_subsets.specs.declared.least.LeastPlan.{LeastPlan}
-use Rattle.sf_subsets.specs.Floors.{IsLeastPlan}
+use Rattle.sf_subsets.proofs.Common.{tree_of, NoneFits, LeastPlan, IsLeastPlan}
 use Rattle.sf_subsets.proofs.Learned.{least-kept}
 use Rattle.sf_subsets.proofs.learning.learn_area.Goals as goal
 

@@ -1,6 +1,5 @@
 use Rattle.std.proofs.Common.{◌≡◌, ◌-◌, ◌^◌, ap, subst, sym, ◌∙◌}
-use Rattle.sf_subsets.proofs.Common.{AreMade, Contains, IsAreaFloor, IsPlanOfSize, MatchOption, block_count, curve_at, tree_of}
-use Rattle.sf_subsets.specs.Gathering.{IsFoundBelow}
+use Rattle.sf_subsets.proofs.Common.{AreMade, Contains, IsAreaFloor, IsPlanOfSize, MatchOption, block_count, curve_at, tree_of, IsFoundBelow}
 use Rattle.sf_subsets.proofs.Areas.{least-plan}
 use Rattle.sf_subsets.proofs.least.least_plan_below.Goals as goal
 

@@ -1,6 +1,5 @@
 use Rattle.std.proofs.Common.{◌≡◌, ◌+◌, ◌^◌, ◌≤◌, arith, subst}
-use Rattle.sf_subsets.proofs.Common.{IsTable, IsWithin, area_of}
-use Rattle.std.proofs.lemmas.List.Elements.{All-weaker}
+use Rattle.sf_subsets.proofs.Common.{IsTable, IsWithin, area_of, All-weaker}
 use Rattle.sf_subsets.proofs.Bits.{power-more}
 use Rattle.sf_subsets.proofs.Blocks.{within-small}
 use Rattle.sf_subsets.proofs.Filled.{table-push}

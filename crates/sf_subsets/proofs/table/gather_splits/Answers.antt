@@ -1,6 +1,5 @@
 use Rattle.std.proofs.Common.{◌≡◌, ◌-◌, length, arith, subst}
-use Rattle.sf_subsets.proofs.Common.{AddsSplits, curve_at}
-use Rattle.sf_subsets.specs.Gathering.{AddsPair}
+use Rattle.sf_subsets.proofs.Common.{AddsSplits, curve_at, AddsPair}
 use Rattle.sf_subsets.proofs.Bits.{common-part, part-le}
 use Rattle.sf_subsets.proofs.Added.{splits-begin, splits-next}
 use Rattle.sf_subsets.proofs.table.gather_splits.Goals as goal

@@ -1,6 +1,5 @@
 use Rattle.std.proofs.Common.{◌≡◌, ◌+◌, ◌<◌, ◌^◌, ◌⊎◌, List, [], inl, inr, arith, ap, sym, subst, ◌∙◌}
-use Rattle.sf_subsets.proofs.Common.{AddsSmall, AddsSplits, IfOk-weaker, IsCurveOf, IsPart, Shape, limit_of, shapes_of}
-use Rattle.sf_subsets.specs.Gathering.{IsSetCurve}
+use Rattle.sf_subsets.proofs.Common.{AddsSmall, AddsSplits, IfOk-weaker, IsCurveOf, IsPart, Shape, limit_of, shapes_of, IsSetCurve}
 use Rattle.sf_subsets.proofs.Bits.{part-of_set}
 use Rattle.sf_subsets.proofs.Filled.{set-filled}
 use Rattle.sf_subsets.proofs.table.set_curve.Goals as goal

@@ -1,7 +1,5 @@
 use Rattle.std.proofs.Common.{◌∙◌, refl, subst, arith, map, length, ◌<◌}
-use Rattle.std.specs.Arc.{arc_value}
-use Rattle.std.proofs.lemmas.Fn.{says_at}
-use Rattle.std.proofs.lemmas.List.{length-map}
+use Rattle.sf_team.proofs.Common.{arc_value, says_at, length-map}
 use Rattle.sf_team.proofs.Tables.{filled_set, filled_kept, filled_all, job_of}
 use Rattle.sf_team.proofs.join.fill.Goals.{then-is_none+in-Some-1, then-is_none+in-None-1, else-is_none}
 use Rattle.sf_team.proofs.join.fill.Goals as goal

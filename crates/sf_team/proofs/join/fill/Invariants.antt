@@ -1,5 +1,5 @@
-use Rattle.std.specs.Prelude.{map}
-use Rattle.std.specs.Arc.{arc_value}
+use Rattle.std.proofs.Common.{map}
+use Rattle.sf_team.proofs.Common.{arc_value}
 use Rattle.sf_team.proofs.Tables.{IsFilled}
 use Rattle.sf_team.proofs.join.fill.Given as goal
 

@@ -1,8 +1,5 @@
 use Rattle.std.proofs.Common.{◌≡◌, ◌∙◌, ap, sym, subst}
-use Rattle.crossbeam_channel.specs.Claims.{view, IsSeatAt}
-use Rattle.crossbeam_channel.specs.Ends.{sends_on}
-use Rattle.sf_team.specs.declared.rule.Hand.{Hand}
-use Rattle.sf_team.specs.Rule.{AreAmong, IsCaller}
+use Rattle.sf_team.proofs.Common.{view, IsSeatAt, sends_on, Hand, AreAmong, IsCaller}
 use Rattle.sf_team.proofs.Moves.{merges, knows}
 use Rattle.sf_team.proofs.Right.{joined_right, caller_joined}
 use Rattle.sf_team.proofs.Tables.{last_of, front_of}

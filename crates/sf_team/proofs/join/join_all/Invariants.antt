@@ -1,8 +1,5 @@
-use Rattle.std.specs.Prelude.{◌≡◌, List, All, vec_len}
-use Rattle.crossbeam_channel.specs.Claims.{view, IsSeatAt}
-use Rattle.crossbeam_channel.specs.Ends.{sends_on}
-use Rattle.sf_team.specs.Answers.{IsTable}
-use Rattle.sf_team.specs.Rule.{IsCaller}
+use Rattle.std.proofs.Common.{◌≡◌, List, All, vec_len}
+use Rattle.sf_team.proofs.Common.{view, IsSeatAt, sends_on, IsTable, IsCaller}
 use Rattle.sf_team.proofs.join.join_all.Given as goal
 
 abbrev pub invariant-loop-handle : goal.invariant-loop-handle

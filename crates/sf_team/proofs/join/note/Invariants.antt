@@ -1,5 +1,5 @@
-use Rattle.std.specs.Prelude.{List, vec_len}
-use Rattle.sf_team.specs.Answers.{AreRight, IsTable}
+use Rattle.std.proofs.Common.{List, vec_len}
+use Rattle.sf_team.proofs.Common.{AreRight, IsTable}
 use Rattle.sf_team.proofs.join.note.Given as goal
 
 abbrev pub invariant-loop-done : goal.invariant-loop-done

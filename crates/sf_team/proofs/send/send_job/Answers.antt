@@ -1,11 +1,5 @@
-use Rattle.std.proofs.Common.{◌≡◌, ◌∙◌, ap, sym, subst, map, ◌∷◌, [], ◌++◌, length}
-use Rattle.std.specs.Prelude.{Some, slice_get}
-use Rattle.std.specs.Arc.{arc_value}
-use Rattle.std.proofs.lemmas.List.{map-append, length-map}
-use Rattle.crossbeam_channel.specs.Claims.{view}
-use Rattle.crossbeam_channel.specs.Err.{send_message}
-use Rattle.sf_team.specs.declared.message.Message.TheVariants.{Work}
-use Rattle.sf_team.specs.Rule.{IsCaller}
+use Rattle.std.proofs.Common.{◌≡◌, ◌∙◌, ap, sym, subst, map, ◌∷◌, [], ◌++◌, length, Some, slice_get}
+use Rattle.sf_team.proofs.Common.{arc_value, map-append, length-map, view, send_message, Work, IsCaller}
 use Rattle.sf_team.proofs.Moves.{sends}
 use Rattle.sf_team.proofs.Right.{after_send, caller_more, last_got}
 use Rattle.sf_team.proofs.send.send_job.Goals as goal

@@ -1,8 +1,5 @@
 use Rattle.std.proofs.Common.{◌≡◌, List}
-use Rattle.crossbeam_channel.specs.Claims.{view}
-use Rattle.crossbeam_channel.specs.Err.{send_message}
-use Rattle.sf_team.specs.declared.message.Message.TheVariants.{Stop}
-use Rattle.sf_team.specs.Rule.{IsCaller}
+use Rattle.sf_team.proofs.Common.{view, send_message, Stop, IsCaller}
 use Rattle.sf_team.proofs.Moves.{sends}
 use Rattle.sf_team.proofs.Right.{after_send}
 use Rattle.sf_team.proofs.send.stop_all.Goals as goal

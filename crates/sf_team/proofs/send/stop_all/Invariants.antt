@@ -1,7 +1,5 @@
-use Rattle.std.specs.Prelude.{List}
-use Rattle.crossbeam_channel.specs.Claims.{view, IsSeatAt}
-use Rattle.crossbeam_channel.specs.Ends.{sends_on}
-use Rattle.sf_team.specs.Rule.{IsCaller}
+use Rattle.std.proofs.Common.{List}
+use Rattle.sf_team.proofs.Common.{view, IsSeatAt, sends_on, IsCaller}
 use Rattle.sf_team.proofs.send.stop_all.Given as goal
 
 abbrev pub invariant-loop : goal.invariant-loop

@@ -1,6 +1,5 @@
 use Rattle.std.proofs.Common.{sym, subst, ◌∙◌, ap}
-use Rattle.crossbeam_channel.specs.Claims.{IsSeatAt}
-use Rattle.crossbeam_channel.specs.Ends.{sends_on}
+use Rattle.sf_team.proofs.Common.{IsSeatAt, sends_on}
 use Rattle.sf_team.proofs.start.spawn.Goals as goal
 
 pub spawn_with-started-requires-clause-keeps : goal.spawn_with-started-requires-clause-keeps

@@ -1,6 +1,5 @@
-use Rattle.std.specs.Prelude.{◌≡◌, All}
-use Rattle.crossbeam_channel.specs.Claims.{view, IsSeatAt}
-use Rattle.crossbeam_channel.specs.Ends.{sends_on}
+use Rattle.std.proofs.Common.{◌≡◌, All}
+use Rattle.sf_team.proofs.Common.{view, IsSeatAt, sends_on}
 use Rattle.sf_team.proofs.start.start_all.Given as goal
 
 abbrev pub invariant-loop : goal.invariant-loop

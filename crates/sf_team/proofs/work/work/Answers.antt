@@ -1,9 +1,5 @@
-use Rattle.std.proofs.lemmas.Fn.{says_at}
-use Rattle.std.specs.Prelude.{Some}
-use Rattle.std.proofs.Common.{refl, sym, subst}
-use Rattle.crossbeam_channel.specs.Claims.{view}
-use Rattle.sf_team.specs.declared.rule.Hand.{Hand}
-use Rattle.sf_team.specs.Answers.{AreAnswers}
+use Rattle.sf_team.proofs.Common.{says_at, view, Hand, AreAnswers}
+use Rattle.std.proofs.Common.{refl, sym, subst, Some}
 use Rattle.sf_team.proofs.Moves.{takes}
 use Rattle.sf_team.proofs.Right.{stopped, worked}
 use Rattle.sf_team.proofs.work.work.Goals.{in-Some-does, in_default}

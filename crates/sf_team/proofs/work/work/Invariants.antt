@@ -1,6 +1,4 @@
-use Rattle.crossbeam_channel.specs.Claims.{view, IsSeatAt}
-use Rattle.crossbeam_channel.specs.Ends.{receives_on}
-use Rattle.sf_team.specs.Answers.{AreAnswers}
+use Rattle.sf_team.proofs.Common.{view, IsSeatAt, receives_on, AreAnswers}
 use Rattle.sf_team.proofs.work.work.Given as goal
 
 abbrev pub invariant-loop : goal.invariant-loop

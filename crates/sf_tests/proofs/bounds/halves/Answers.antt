@@ -1,7 +1,5 @@
 use Rattle.std.proofs.Common.{arith, sym, subst}
-use Rattle.std.specs.List.{AllByRecursion}
-use Rattle.sf_node.specs.Children.{IsSubproblem}
-use Rattle.sf_node.proofs.Reached.{subproblem-spans, split-subproblems}
+use Rattle.sf_tests.proofs.Common.{AllByRecursion, IsSubproblem, subproblem-spans, split-subproblems}
 use Rattle.sf_tests.proofs.bounds.halves.Goals as goal
 
 pub first_wide-requires : goal.first_wide-requires

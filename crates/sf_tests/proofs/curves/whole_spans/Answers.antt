@@ -1,8 +1,6 @@
-use Rattle.std.proofs.Common.{◌≡◌, ℕ, ◌<◌, ◌≤◌, List, [], length, map, ap, sym, subst, ◌∙◌, arith}
-use Rattle.std.specs.Prelude.{slice_index_or}
+use Rattle.std.proofs.Common.{◌≡◌, ℕ, ◌<◌, ◌≤◌, List, [], length, map, ap, sym, subst, ◌∙◌, arith, slice_index_or}
 use Rattle.std.proofs.lemmas.List.{get_or-map, length-map, take_all}
-use Rattle.sf_model.specs.declared.design.Design.{Design}
-use Rattle.sf_model.specs.Legal.{shapes_of}
+use Rattle.sf_tests.proofs.Common.{Design, shapes_of}
 use Rattle.sf_model.specs.Spans.{span_in}
 use Rattle.sf_curves.specs.Choices.{AreSpans}
 use Rattle.sf_tests.proofs.curves.whole_spans.Goals as goal

@@ -1,7 +1,5 @@
 use Rattle.std.proofs.Common.{All, arith, sym, subst}
-use Rattle.std.proofs.lemmas.List.Elements.{All-get_or, All-from_recursion}
-use Rattle.sf_node.specs.Children.{IsSubproblem, extended}
-use Rattle.sf_node.proofs.Reached.{extended-subproblems}
+use Rattle.sf_tests.proofs.Common.{All-get_or, All-from_recursion, IsSubproblem, extended, extended-subproblems}
 use Rattle.sf_tests.proofs.designs.child.Goals as goal
 
 pub returns-then-place-len : goal.returns-then-place-len

@@ -1,6 +1,5 @@
 use Rattle.std.proofs.Common.{sym, subst}
-use Rattle.sf_node.specs.Children.{IsSubproblem}
-use Rattle.sf_node.proofs.Reached.{root-subproblem}
+use Rattle.sf_tests.proofs.Common.{IsSubproblem, root-subproblem}
 use Rattle.sf_tests.proofs.designs.node_at.Goals as goal
 
 pub loop-place-init : goal.loop-place-init

@@ -1,4 +1,4 @@
-use Rattle.sf_node.specs.Children.{IsSubproblem}
+use Rattle.sf_tests.proofs.Common.{IsSubproblem}
 use Rattle.sf_tests.proofs.designs.node_at.Given as goal
 
 abbrev pub invariant-loop-place : goal.invariant-loop-place

@@ -1,7 +1,5 @@
 use Rattle.std.proofs.Common.{rules, sym, subst}
-use Rattle.std.specs.List.{AllByRecursion}
-use Rattle.sf_node.specs.Children.{CanSplit, IsSubproblem}
-use Rattle.sf_node.proofs.Reached.{split-subproblems}
+use Rattle.sf_tests.proofs.Common.{AllByRecursion, CanSplit, IsSubproblem, split-subproblems}
 use Rattle.sf_tests.proofs.node.half.Goals as goal
 use Rattle.sf_tests.proofs.node.half.Goals.{then-right, else-right}
 

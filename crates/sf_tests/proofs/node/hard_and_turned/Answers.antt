@@ -1,6 +1,5 @@
-use Rattle.std.proofs.Common.{List, [], length, ap, ◌∙◌}
-use Rattle.std.specs.Prelude.{slice_index_or}
-use Rattle.sf_model.specs.declared.parts.Block.{Block}
+use Rattle.std.proofs.Common.{List, [], length, ap, ◌∙◌, slice_index_or}
+use Rattle.sf_tests.proofs.Common.{Block}
 use Rattle.sf_tests.proofs.TwoLeaves.{only-shape, second-shape, two-legal}
 use Rattle.sf_tests.proofs.node.hard_and_turned.Goals as goal
 

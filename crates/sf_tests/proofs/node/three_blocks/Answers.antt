@@ -1,12 +1,5 @@
-use Rattle.std.proofs.Common.{◌≡◌, ℕ, suc, ◌<◌, List, [], ◌∷◌, length, All, arith, refl, ap, sym, subst, ◌∙◌, ◌==◌}
-use Prim.Native.Nat.{zero}
-use Rattle.std.specs.Prelude.{Contains, count_by, slice_index_or}
-use Rattle.std.proofs.lemmas.List.Elements.{All-from_recursion}
-use Rattle.sf_model.specs.declared.design.Design.{Design}
-use Rattle.sf_model.specs.declared.parts.Block.{Block}
-use Rattle.sf_model.specs.declared.parts.Shape.{Shape}
-use Rattle.sf_model.specs.Tree.{Tree, leaves}
-use Rattle.sf_model.specs.Legal.{IsLegal, block_count, shapes_of}
+use Rattle.std.proofs.Common.{◌≡◌, ℕ, suc, ◌<◌, List, [], ◌∷◌, length, All, arith, refl, ap, sym, subst, ◌∙◌, ◌==◌, Contains, count_by, slice_index_or}
+use Rattle.sf_tests.proofs.Common.{zero, All-from_recursion, Design, Block, Shape, Tree, leaves, IsLegal, block_count, shapes_of}
 use Rattle.sf_tests.proofs.TwoLeaves.{only-shape}
 use Rattle.sf_tests.proofs.node.three_blocks.Goals as goal
 

@@ -1,6 +1,6 @@
 use Rattle.std.proofs.Common.{◌≡◌, length, arith, ap, ◌∙◌}
 use Rattle.std.proofs.lemmas.Simd.{splat_is_map}
-use Rattle.sf_node.specs.Children.{extended}
+use Rattle.sf_tests.proofs.Common.{extended}
 use Rattle.sf_search_core.specs.Conserved.{branched}
 use Rattle.sf_search_core.specs.Events.{kind_of}
 use Rattle.sf_tests.proofs.search_core.bounds_of.Goals as goal

@@ -1,5 +1,4 @@
-use Rattle.std.proofs.Common.{◌≡◌, ◌+◌, length}
-use Rattle.std.specs.Prelude.{All}
+use Rattle.std.proofs.Common.{◌≡◌, ◌+◌, length, All}
 use Rattle.sf_model.specs.Limits.{IsShapeList}
 use Rattle.sf_tests.proofs.subsets.squares.Given as goal
 

@@ -1,5 +1,5 @@
 use Rattle.std.proofs.Common.{◌≡◌, take}
-use Rattle.sf_model.specs.Cost.{right_end, upper_end}
+use Rattle.sf_wire.proofs.Common.{right_end, upper_end}
 use Rattle.sf_wire.proofs.costs.spots_size.Given as goal
 
 abbrev pub invariant-loop-spot : goal.invariant-loop-spot

@@ -1,6 +1,5 @@
 use Rattle.std.proofs.Common.{arith, subst}
-use Rattle.std.proofs.lemmas.Int.{clamps, ints, to_z-of_z}
-use Rattle.sf_place.specs.Verdict.{LiesIn}
+use Rattle.sf_wire.proofs.Common.{clamps, ints, to_z-of_z, LiesIn}
 use Rattle.sf_wire.proofs.wires.point_of.Goals as goal
 
 pub returns-in-Block-clause-near_x : goal.returns-in-Block-clause-near_x

@@ -1,6 +1,5 @@
 use Rattle.std.proofs.Common.{◌∙◌, ap, map, string_bytes}
-use Rattle.std.proofs.lemmas.Result.{IfErr-weaker, IfOk-weaker}
-use Rattle.sf_words.proofs.Common.{App, is_simple, subcommand_of, takes, token_of}
+use Rattle.sf_words.proofs.Common.{App, is_simple, subcommand_of, takes, token_of, IfErr-weaker, IfOk-weaker}
 use Rattle.sf_words.proofs.Whole.{simple, taken, found}
 use Rattle.sf_words.proofs.line.parse.Goals as goal
 

@@ -1,6 +1,5 @@
 use Rattle.std.proofs.Common.{◌≡◌, take, false}
-use Rattle.sf_words.proofs.Common.{app_of, new_app, mode_text, keys_of, with_keys}
-use Rattle.clap.specs.declared.builder.command.Command.TheViews.{out-Command}
+use Rattle.sf_words.proofs.Common.{app_of, new_app, mode_text, keys_of, with_keys, out-Command}
 use Rattle.sf_words.proofs.line.subcommand.Given as goal
 
 abbrev pub invariant-loop-key : goal.invariant-loop-key

@@ -1,7 +1,5 @@
 use Rattle.std.proofs.Common.{◌≡◌, false, Bool, ap, ◌∙◌, ◌||◌, rules}
-use Rattle.std.proofs.lemmas.Result.{IfOk-weaker}
-use Rattle.std.proofs.Math.Bool.{or-false}
-use Rattle.clap.specs.declared.builder.command.Command.TheViews.{out-Command}
+use Rattle.sf_words.proofs.Common.{IfOk-weaker, or-false, out-Command}
 use Rattle.sf_words.proofs.line.with_key.Goals as goal
 
 pub returns-then-is_flag-clause-local : goal.returns-then-is_flag-clause-local

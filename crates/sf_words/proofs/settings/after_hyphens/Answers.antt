@@ -1,5 +1,5 @@
 use Rattle.std.proofs.Common.{arith, ◌∷◌}
-use Rattle.std.proofs.lemmas.Str.Pattern.{strip_prefix_char}
+use Rattle.sf_words.proofs.Common.{strip_prefix_char}
 use Rattle.sf_words.proofs.Hyphens.{behind_two}
 use Rattle.sf_words.proofs.settings.after_hyphens.Goals as goal
 

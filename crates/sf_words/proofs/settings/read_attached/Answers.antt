@@ -1,6 +1,5 @@
 use Rattle.std.proofs.Common.{arith}
-use Rattle.std.proofs.lemmas.Str.Pattern.{split_after}
-use Rattle.sf_words.specs.Table.{key_text}
+use Rattle.sf_words.proofs.Common.{split_after, key_text}
 use Rattle.sf_words.proofs.Texts.{inner_at, named}
 use Rattle.sf_words.proofs.settings.read_attached.Goals as goal
 

@@ -1,5 +1,5 @@
 use Rattle.std.proofs.Common.{subst}
-use Rattle.sf_worker.specs.Decided.{IsVisit}
+use Rattle.sf_worker.proofs.Common.{IsVisit}
 use Rattle.sf_worker.proofs.Visited.{plain-of, offered-small, visited-plain, visited-solved}
 use Rattle.sf_worker.proofs.one_visit.visit_next.Goals as goal
 

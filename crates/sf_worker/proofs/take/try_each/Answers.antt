@@ -1,5 +1,5 @@
 use Rattle.std.proofs.Common.{◌≡◌, ℕ, ◌+◌, ◌<◌, length, ap, ◌∙◌, arith, suc, subst, slice_set}
-use Rattle.sf_frontier.specs.Ends.{ThiefView}
+use Rattle.sf_worker.proofs.Common.{ThiefView}
 use Rattle.sf_worker.proofs.Thieves.{Tried, tried-none, tried-one_more, tried-length, tried-rose, tried-fell, tried-deques, tried-weigh, same_deques, fell_set, weigh_set}
 use Rattle.sf_worker.proofs.take.try_each.Goals as goal
 

@@ -1,8 +1,5 @@
-use Rattle.std.proofs.Common.{◌≡◌, ap, sym, ◌∙◌, refl, true, false}
-use Rattle.std.specs.Prelude.{MatchOption, Option, Some, None}
-use Rattle.sf_cursor.specs.declared.stretch.Stretch.{Stretch}
-use Rattle.sf_worker.specs.InHand.{HandView}
-use Rattle.sf_worker.specs.Took.{rest_at}
+use Rattle.std.proofs.Common.{◌≡◌, ap, sym, ◌∙◌, refl, true, false, MatchOption, Option, Some, None}
+use Rattle.sf_worker.proofs.Common.{Stretch, HandView, rest_at}
 use Rattle.sf_worker.proofs.walking.put_down.Goals as goal
 
 -- what is left of the hand's stretch

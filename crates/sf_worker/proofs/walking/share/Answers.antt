@@ -1,6 +1,5 @@
-use Rattle.std.proofs.Common.{◌≡◌, ◌∷◌, [], ap, sym, subst, ◌∙◌, refl, arith}
-use Rattle.std.specs.Prelude.{MatchOption, sum_by}
-use Rattle.sf_worker.specs.InHand.{HandView, IsHand, IsParted, left_of, marks_of}
+use Rattle.std.proofs.Common.{◌≡◌, ◌∷◌, [], ap, sym, subst, ◌∙◌, refl, arith, MatchOption, sum_by}
+use Rattle.sf_worker.proofs.Common.{HandView, IsHand, IsParted, left_of, marks_of}
 use Rattle.sf_worker.proofs.Puts.{puts-none}
 use Rattle.sf_worker.proofs.Sharing.{shared-none, shared, taken-one, taken-none, cut-weighs}
 use Rattle.sf_worker.proofs.walking.share.Goals as goal

@@ -1,6 +1,5 @@
 use Rattle.std.proofs.lemmas.Result.{IfOk-weaker}
-use Rattle.sf_cursor.specs.Stretches.{waits}
-use Rattle.sf_worker.specs.Took.{IsPutDown, IsWalkedInto}
+use Rattle.sf_worker.proofs.Common.{waits, IsPutDown, IsWalkedInto}
 use Rattle.sf_worker.proofs.Doing.{walking-start, walking-on, walking-shared, walked-into}
 use Rattle.sf_worker.proofs.walking.walk_into.Goals as goal
 

@@ -1,5 +1,4 @@
-use Rattle.sf_cursor.specs.Stretches.{waits}
-use Rattle.sf_worker.specs.Took.{Walking}
+use Rattle.sf_worker.proofs.Common.{waits, Walking}
 use Rattle.sf_worker.proofs.walking.walk_into.Given as goal
 
 abbrev pub invariant-loop-state : goal.invariant-loop-state

@@ -1,5 +1,5 @@
 use Rattle.std.proofs.Common.{◌≡◌, subst, refl, arith}
-use Rattle.sf_worker.specs.Took.{IsWalkedInto}
+use Rattle.sf_worker.proofs.Common.{IsWalkedInto}
 use Rattle.sf_worker.proofs.Doing.{into-on, over-ended, over-spent}
 use Rattle.sf_worker.proofs.walking.walk_over.Goals as goal
 

@@ -1,4 +1,4 @@
-use Rattle.sf_worker.specs.Took.{IsWalkedInto}
+use Rattle.sf_worker.proofs.Common.{IsWalkedInto}
 use Rattle.sf_worker.proofs.walking.walk_over.Given as goal
 
 abbrev pub invariant-loop-rest : goal.invariant-loop-rest

@@ -1,4 +1,4 @@
-use Rattle.std.proofs.lemmas.Result.{err_from_is_err_and}
+use Rattle.sf_yal.proofs.Common.{err_from_is_err_and}
 use Rattle.sf_yal.proofs.Stepping.{goes_on, fails, is_done}
 use Rattle.sf_yal.proofs.blocks.read_instances.Goals as goal
 

@@ -1,6 +1,5 @@
 use Rattle.std.proofs.Common.{◌≡◌, ◌<◌, false, length, length-append, sym, ap, ◌∙◌, arith}
-use Rattle.std.proofs.lemmas.Bool.Decides.{nat_tests}
-use Rattle.sf_yal.specs.Comments.{hide}
+use Rattle.sf_yal.proofs.Common.{nat_tests, hide}
 use Rattle.sf_yal.proofs.Hiding.{hides_mark, hides_other, length_hide}
 use Rattle.sf_yal.proofs.comments.hide_comments.Goals as goal
 

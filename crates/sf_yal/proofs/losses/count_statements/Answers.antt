@@ -1,7 +1,5 @@
 use Rattle.std.proofs.Common.{arith, refl, ap, sym, ◌∙◌}
-use Rattle.sf_yal.proofs.Common.{pieces}
-use Rattle.sf_yal.specs.declared.losses.Counting.{Counting}
-use Rattle.sf_yal.specs.Losses.{begun}
+use Rattle.sf_yal.proofs.Common.{pieces, Counting, begun}
 use Rattle.sf_yal.proofs.CountSteps.{by_pieces, counts_on, counts_all}
 use Rattle.sf_yal.proofs.losses.count_statements.Goals as goal
 

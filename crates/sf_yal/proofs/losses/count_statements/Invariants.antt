@@ -1,6 +1,5 @@
 use Rattle.std.proofs.Common.{◌≡◌, ◌+◌, ◌≤◌, length}
-use Rattle.sf_yal.proofs.Common.{pieces}
-use Rattle.sf_yal.specs.Losses.{begun}
+use Rattle.sf_yal.proofs.Common.{pieces, begun}
 use Rattle.sf_yal.proofs.CountSteps.{counted_pieces}
 use Rattle.sf_yal.proofs.losses.count_statements.Given as goal
 

@@ -1,6 +1,5 @@
 use Rattle.std.proofs.Common.{rules, ◌≡◌, ℕ, List, Some, None, length, refl, ap, ◌∙◌}
-use Rattle.sf_yal.proofs.Common.{slice_get, option_map, bytes_of, index_of}
-use Rattle.std.proofs.lemmas.Option.{slice_get-map, slice_get_read}
+use Rattle.sf_yal.proofs.Common.{slice_get, option_map, bytes_of, index_of, slice_get-map, slice_get_read}
 use denote.Ref.{Bor}
 use Rattle.sf_yal.proofs.NetSteps.{no_pad}
 use Rattle.sf_yal.proofs.nets.add_pad.Goals as goal

@@ -1,5 +1,5 @@
 use Rattle.std.proofs.Common.{ap, ◌∙◌, ℕ, List}
-use Rattle.sf_yal.specs.Using.{used_in, with_pads, signals_in}
+use Rattle.sf_yal.proofs.Common.{used_in, with_pads, signals_in}
 use Rattle.sf_yal.proofs.NetsBySignal.{nets_are}
 use Rattle.sf_yal.proofs.nets.read_nets.Goals as goal
 

@@ -1,5 +1,5 @@
 use Rattle.std.proofs.Common.{◌≡◌, drop}
-use Rattle.sf_yal.specs.Using.{used_in, used_by, signals_in, nothing_used}
+use Rattle.sf_yal.proofs.Common.{used_in, used_by, signals_in, nothing_used}
 use Rattle.sf_yal.proofs.nets.use_instances.Given as goal
 
 abbrev pub invariant-loop-place : goal.invariant-loop-place

@@ -1,5 +1,5 @@
 use Rattle.std.proofs.Common.{◌∙◌}
-use Rattle.sf_yal.specs.Reading.{reading_in}
+use Rattle.sf_yal.proofs.Common.{reading_in}
 use Rattle.sf_yal.proofs.Making.{parts_are, signals_are}
 use Rattle.sf_yal.proofs.read.into_parts.Goals as goal
 

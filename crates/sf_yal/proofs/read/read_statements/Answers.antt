@@ -1,5 +1,5 @@
 use Rattle.std.proofs.Common.{arith, refl}
-use Rattle.std.proofs.lemmas.Result.{err_from_is_err_and}
+use Rattle.sf_yal.proofs.Common.{err_from_is_err_and}
 use Rattle.sf_yal.proofs.StatementSteps.{goes_on, last_goes_on, fails, is_done, last_done}
 use Rattle.sf_yal.proofs.read.read_statements.Goals as goal
 

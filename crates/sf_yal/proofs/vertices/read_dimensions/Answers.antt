@@ -1,5 +1,5 @@
 use Rattle.std.proofs.Common.{arith, sym, ◌∙◌}
-use Rattle.sf_lex.specs.Text.{words, is_blank_byte}
+use Rattle.sf_yal.proofs.Common.{words, is_blank_byte}
 use Rattle.sf_yal.proofs.Dimensions.{dimensions_are}
 use Rattle.sf_yal.proofs.vertices.read_dimensions.Goals as goal
 

@@ -1,7 +1,5 @@
-use Rattle.std.proofs.Common.{◌≡◌, ◌+◌, ◌-◌, ◌∙◌, length, set, ap, subst, sym, arith}
-use Rattle.std.specs.Prelude.{Contains}
-use Rattle.sf_curves.specs.Points.{IsLowest, IsNarrowest}
-use Rattle.sf_anneal.specs.Parts.{IsLaid, before_in, moved_curve, stretch}
+use Rattle.std.proofs.Common.{◌≡◌, ◌+◌, ◌-◌, ◌∙◌, length, set, ap, subst, sym, arith, Contains}
+use Rattle.sf_anneal.proofs.Common.{IsLowest, IsNarrowest, IsLaid, before_in, moved_curve, stretch}
 use Rattle.sf_anneal.proofs.Laying.{laid-above, laid-beside, laid-block}
 use Rattle.sf_anneal.proofs.keeping.Kept.+place.Goals as goal
 

@@ -1,7 +1,5 @@
 use Rattle.std.proofs.Common.{◌≡◌, ◌+◌, ◌-◌, ◌*◌, ◌^◌, ◌≤◌, ◌∙◌, mul-le-mul, refl, ap, subst, sym, arith}
-use Rattle.sf_curves.specs.Points.{IsLeastArea, area_of}
-use Rattle.sf_anneal.specs.Measured.{IsCost}
-use Rattle.sf_anneal.specs.Parts.{before_in, moved_curve}
+use Rattle.sf_anneal.proofs.Common.{IsLeastArea, area_of, IsCost, before_in, moved_curve}
 use Rattle.sf_anneal.proofs.Costs.{area-most, root-flat, root-none, root-priced}
 use Rattle.sf_anneal.proofs.keeping.Kept.cost.Goals as goal
 

@@ -1,5 +1,5 @@
 use Rattle.std.proofs.Common.{subst, sym}
-use Rattle.sf_anneal.specs.Parts.{AreBlockCurves}
+use Rattle.sf_anneal.proofs.Common.{AreBlockCurves}
 use Rattle.sf_anneal.proofs.keeping.Kept.cost_of_moved.Goals as goal
 
 pub renew-requires-clause-curves : goal.renew-requires-clause-curves

@@ -1,6 +1,5 @@
-use Rattle.std.proofs.Common.{◌≡◌, ℕ, ◌≤◌, ◌<◌, length, false}
-use Rattle.std.specs.Prelude.{slice_index_or}
-use Rattle.sf_anneal.specs.Parts.{HaveRoom, chosen_curve, kept_in}
+use Rattle.std.proofs.Common.{◌≡◌, ℕ, ◌≤◌, ◌<◌, length, false, slice_index_or}
+use Rattle.sf_anneal.proofs.Common.{HaveRoom, chosen_curve, kept_in}
 use Rattle.sf_anneal.proofs.keeping.Kept.keep.Given as goal
 
 abbrev pub invariant-loop-part : goal.invariant-loop-part

@@ -1,8 +1,5 @@
-use Rattle.std.proofs.Common.{◌≡◌, ◌+◌, ◌-◌, ◌∙◌, ◌≤◌, length, ap, subst, sym, arith}
-use Rattle.std.specs.Prelude.{Any, Contains}
-use Rattle.std.proofs.lemmas.Grind.{get_or_default_zero}
-use Rattle.sf_curves.specs.Points.{IsNarrowest}
-use Rattle.sf_anneal.specs.Parts.{before_in, moved_curve}
+use Rattle.std.proofs.Common.{◌≡◌, ◌+◌, ◌-◌, ◌∙◌, ◌≤◌, length, ap, subst, sym, arith, Any, Contains}
+use Rattle.sf_anneal.proofs.Common.{get_or_default_zero, IsNarrowest, before_in, moved_curve}
 use Rattle.sf_anneal.proofs.Laying.{are-beside}
 use Rattle.sf_anneal.proofs.keeping.Kept.rooms_beside.Goals as goal
 

@@ -1,5 +1,5 @@
 use Rattle.std.proofs.Common.{◌∙◌}
-use Rattle.std.proofs.lemmas.Bool.{OnTrue_at}
+use Rattle.sf_anneal.proofs.Common.{OnTrue_at}
 use Rattle.sf_anneal.proofs.Renewing.{joint-some, known-joint}
 use Rattle.sf_anneal.proofs.parts.Moved.find.Goals as goal
 

@@ -1,10 +1,5 @@
-use Rattle.std.proofs.Common.{◌≡◌, ◌+◌, ◌∙◌, List, AllPairs, get_or, set, sym, subst, ap, arith}
-use Rattle.std.specs.Prelude.{if◌then◌else◌}
-use Rattle.std.proofs.lemmas.Grind.{get_or_default_zero}
-use Rattle.sf_model.specs.declared.parts.Shape.{Shape}
-use Rattle.sf_curves.specs.Direction.{size_in}
-use Rattle.sf_curves.specs.Points.{IsCombination, IsSlimmer}
-use Rattle.sf_anneal.specs.Parts.{before_in, kept_in, moved_curve}
+use Rattle.std.proofs.Common.{◌≡◌, ◌+◌, ◌∙◌, List, AllPairs, get_or, set, sym, subst, ap, arith, if◌then◌else◌}
+use Rattle.sf_anneal.proofs.Common.{get_or_default_zero, Shape, size_in, IsCombination, IsSlimmer, before_in, kept_in, moved_curve}
 use Rattle.sf_anneal.proofs.Renewing.{renewed-joint}
 use Rattle.sf_anneal.proofs.parts.Moved.join.Goals as goal
 

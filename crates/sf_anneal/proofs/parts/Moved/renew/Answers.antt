@@ -1,8 +1,7 @@
 use Rattle.std.proofs.Common.{◌≡◌, ◌≤◌, ◌∙◌, length, ap, subst, arith}
-use Rattle.sf_model.specs.Legal.{block_count}
+use Rattle.sf_anneal.proofs.Common.{block_count, AreRenewed, before_in}
 use Rattle.sf_anneal.proofs.Levels.{none-before}
 use Rattle.sf_anneal.proofs.Renewing.{front-renewed}
-use Rattle.sf_anneal.specs.Parts.{AreRenewed, before_in}
 use Rattle.sf_anneal.proofs.parts.Moved.renew.Goals as goal
 
 pub loop-place-init : goal.loop-place-init

@@ -1,5 +1,5 @@
 use Rattle.std.proofs.Common.{◌+◌, length}
-use Rattle.sf_anneal.specs.Parts.{AreRenewed, HaveRoom}
+use Rattle.sf_anneal.proofs.Common.{AreRenewed, HaveRoom}
 use Rattle.sf_anneal.proofs.parts.Moved.renew.Given as goal
 
 abbrev pub invariant-loop-place : goal.invariant-loop-place

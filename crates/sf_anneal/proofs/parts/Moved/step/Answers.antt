@@ -1,10 +1,6 @@
-use Rattle.std.proofs.Common.{◌≡◌, ◌<◌, subst, arith}
-use Rattle.std.specs.Prelude.{IsFalse}
-use Rattle.std.proofs.lemmas.Bool.Decides.{nat_tests}
-use Rattle.sf_model.specs.Legal.{block_count}
-use Rattle.sf_polish.specs.Normal.{is_outside}
+use Rattle.std.proofs.Common.{◌≡◌, ◌<◌, subst, arith, IsFalse}
+use Rattle.sf_anneal.proofs.Common.{nat_tests, block_count, is_outside, token_at}
 use Rattle.sf_polish.specs.declared.expr.Token.TheVariants as token
-use Rattle.sf_anneal.specs.Parts.{token_at}
 use Rattle.sf_anneal.proofs.Renewing.{renewed-block}
 use Rattle.sf_anneal.proofs.parts.Moved.step.Goals as goal
 

@@ -1,5 +1,5 @@
 use Rattle.std.proofs.Common.{◌≡◌, ◌∷◌, subst, arith}
-use Rattle.sf_cert_text.specs.Bytes.{Bytewise, bytes_on}
+use Rattle.sf_cert_text.proofs.Common.{Bytewise, bytes_on}
 use Rattle.sf_cert_text.proofs.ByteReads.{run-of, long-kept}
 use Rattle.sf_cert_text.proofs.bytes.ByteReader.keep.Goals as goal
 

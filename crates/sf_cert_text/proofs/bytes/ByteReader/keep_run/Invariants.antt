@@ -1,5 +1,5 @@
 use Rattle.std.proofs.Common.{◌≡◌, ℕ, List, ◌++◌, take}
-use Rattle.sf_cert_text.specs.Bytes.{bytes_on}
+use Rattle.sf_cert_text.proofs.Common.{bytes_on}
 use Rattle.sf_cert_text.proofs.bytes.ByteReader.keep_run.Given as goal
 
 abbrev pub invariant-loop-byte : goal.invariant-loop-byte

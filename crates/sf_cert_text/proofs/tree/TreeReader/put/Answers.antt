@@ -1,5 +1,5 @@
 use Rattle.std.proofs.Common.{ap, sym, ◌∙◌, arith}
-use Rattle.std.proofs.lemmas.Result.{err_from_is_err_and}
+use Rattle.sf_cert_text.proofs.Common.{err_from_is_err_and}
 use Rattle.sf_cert_text.proofs.TreeReads.{put-trailing, put-fault, put-deep, put-tag}
 use Rattle.sf_cert_text.proofs.tree.TreeReader.put.Goals as goal
 

@@ -1,6 +1,5 @@
 use Rattle.std.proofs.Common.{ap, sym, ◌∙◌, ◌∷◌, Some, None}
-use Rattle.sf_cert_text.proofs.Common.{LineWord, letter_of, tags_said}
-use Rattle.sf_cert_text.specs.declared.letter.Letter.TheVariants.{Whole, First}
+use Rattle.sf_cert_text.proofs.Common.{LineWord, letter_of, tags_said, Whole, First}
 use Rattle.sf_cert_text.proofs.TreeReads.{second-said, letter-said}
 use Rattle.sf_cert_text.proofs.tree.TreeReader.said.Goals as goal
 

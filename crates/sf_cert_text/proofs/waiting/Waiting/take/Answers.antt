@@ -1,5 +1,5 @@
 use Rattle.std.proofs.Common.{◌≡◌, ◌-◌, ◌∷◌, List, length, take, get_or, ap, sym, ◌∙◌, arith}
-use Rattle.sf_certificate.specs.declared.place.Place.{Place}
+use Rattle.sf_cert_text.proofs.Common.{Place}
 use Rattle.sf_cert_text.proofs.Frames.{places-popped, places-lessened}
 use Rattle.sf_cert_text.proofs.waiting.Waiting.take.Goals as goal
 use Rattle.sf_cert_text.proofs.waiting.Waiting.take.Goals.{then-frame-eq1, else-frame-eq1}

@@ -1,5 +1,5 @@
 use Rattle.std.proofs.Common.{sym, subst, ◌∙◌}
-use Rattle.sf_checker.specs.Standing.{Judged, IsFound}
+use Rattle.sf_checker.proofs.Common.{Judged, IsFound}
 use Rattle.sf_checker.proofs.Judged.{judged-yes, judged-bound}
 use Rattle.sf_checker.proofs.judge.Judge.answer.Goals as goal
 

@@ -1,5 +1,5 @@
 use Rattle.std.proofs.Common.{◌≡◌, sym, subst, ◌∙◌, None}
-use Rattle.sf_checker.specs.Standing.{Judged, IsFound}
+use Rattle.sf_checker.proofs.Common.{Judged, IsFound}
 use Rattle.sf_checker.proofs.Judged.{found-next, found-fault, none-of}
 use Rattle.sf_checker.proofs.judge.Judge.take.Goals as goal
 

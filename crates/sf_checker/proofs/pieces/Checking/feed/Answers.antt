@@ -1,5 +1,5 @@
 use Rattle.std.proofs.Common.{sym, subst}
-use Rattle.sf_checker.specs.Feeding.{IsFed}
+use Rattle.sf_checker.proofs.Common.{IsFed}
 use Rattle.sf_checker.proofs.Fed.{fed-more, ready-way}
 use Rattle.sf_checker.proofs.pieces.Checking.feed.Goals as goal
 

@@ -1,7 +1,5 @@
 use Rattle.std.proofs.Common.{ℕ, ◌+◌, ◌≤◌, ◌++◌, List, length, take, ap, sym, subst, arith}
-use Rattle.sf_checker.proofs.Common.{length-drop, Part, Parts, IsBody, IsFaulty, IsSteady}
-use Rattle.std.proofs.lemmas.Result.{err_from_is_err_and}
-use Rattle.sf_checker.specs.declared.stage.Body.{Body}
+use Rattle.sf_checker.proofs.Common.{length-drop, Part, Parts, IsBody, IsFaulty, IsSteady, err_from_is_err_and, Body}
 use Rattle.sf_checker.proofs.Fed.{body-tag, body-none, body-fault, rest_of, rest-is, past-bytes, past-all}
 use Rattle.sf_checker.proofs.stage.Body.feed.Goals as goal
 use Rattle.sf_checker.proofs.stage.Body.feed.Goals.{in-Some+in_ok-take, in_default}

@@ -1,5 +1,4 @@
-use Rattle.std.proofs.Common.{◌≡◌, ℕ, List, ◌++◌, length, take, sym, subst, arith}
-use Rattle.std.specs.Prelude.{◌≢◌}
+use Rattle.std.proofs.Common.{◌≡◌, ℕ, List, ◌++◌, length, take, sym, subst, arith, ◌≢◌}
 use Rattle.sf_checker.proofs.Common.{OnOk, IfErr, take_all, Part, Parts, Tree, Fault, IsBody, IsFaulty, IsOutside, IsStage}
 use Rattle.sf_cert_text.specs.declared.fault.CertFault.TheVariants.{NoMemory}
 use Rattle.sf_checker.proofs.Fed.{past-all}

@@ -1,6 +1,5 @@
 use Rattle.std.proofs.Common.{ℕ, ◌+◌, List, ◌++◌, take, ap, subst, ◌∙◌, append_assoc, arith}
-use Rattle.std.proofs.lemmas.Result.{err_from_is_err_and}
-use Rattle.sf_checker.proofs.Common.{Part, Parts, IsFaulty, IsStage}
+use Rattle.sf_checker.proofs.Common.{Part, Parts, IsFaulty, IsStage, err_from_is_err_and}
 use Rattle.sf_checker.proofs.Fed.{past-byte, rest_of, past-all, still-faulty}
 use Rattle.sf_checker.proofs.stage.Stage.open.Goals as goal
 

@@ -1,5 +1,5 @@
 use Rattle.std.proofs.Common.{ℕ, ◌≤◌, ◌-◌, List, ◌++◌, length, take}
-use Rattle.sf_checker.specs.Stages.{IsReady, IsStage}
+use Rattle.sf_checker.proofs.Common.{IsReady, IsStage}
 use Rattle.sf_checker.proofs.stage.Stage.open.Given as goal
 
 abbrev pub invariant-loop-opened : goal.invariant-loop-opened

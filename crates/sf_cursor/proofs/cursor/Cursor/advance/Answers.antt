@@ -1,6 +1,6 @@
 use Rattle.std.proofs.Common.{sym, ◌∙◌, arith}
 use Rattle.sf_cursor.proofs.Ways.{next-can, passed, turned, beyond-none, farther}
-use Rattle.sf_node.specs.Subproblem.{root}
+use Rattle.sf_cursor.proofs.Common.{root}
 use Rattle.sf_cursor.proofs.cursor.Cursor.advance.Goals as goal
 
 pub enter-requires-clause-can : goal.enter-requires-clause-can

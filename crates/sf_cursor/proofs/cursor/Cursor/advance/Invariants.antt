@@ -1,7 +1,5 @@
 use Rattle.std.proofs.Common.{◌≡◌, length}
-use Rattle.sf_node.specs.Subproblem.{root}
-use Rattle.sf_node.specs.Later.{behind}
-use Rattle.sf_cursor.specs.Path.{IsPath, beyond}
+use Rattle.sf_cursor.proofs.Common.{root, behind, IsPath, beyond}
 use Rattle.sf_cursor.proofs.cursor.Cursor.advance.Given as goal
 
 abbrev pub invariant-loop-step : goal.invariant-loop-step

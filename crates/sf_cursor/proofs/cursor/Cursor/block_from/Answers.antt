@@ -1,5 +1,5 @@
 use Rattle.std.proofs.Common.{◌<◌, length, arith, ap, ◌∙◌, true, false}
-use Rattle.sf_node.proofs.Later.{blocks-used, blocks-unused}
+use Rattle.sf_cursor.proofs.Common.{blocks-used, blocks-unused}
 use Rattle.sf_cursor.proofs.Flags.{flag-of}
 use Rattle.sf_cursor.proofs.Ways.{few-spans}
 use Rattle.sf_cursor.proofs.cursor.Cursor.block_from.Goals as goal

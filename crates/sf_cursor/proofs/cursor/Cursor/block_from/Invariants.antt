@@ -1,5 +1,5 @@
 use Rattle.std.proofs.Common.{◌≡◌}
-use Rattle.sf_node.specs.Later.{blocks_from}
+use Rattle.sf_cursor.proofs.Common.{blocks_from}
 use Rattle.sf_cursor.proofs.cursor.Cursor.block_from.Given as goal
 
 abbrev pub invariant-loop-block : goal.invariant-loop-block

@@ -1,8 +1,5 @@
 use Rattle.std.proofs.Common.{ap, ◌∙◌, ◌++◌, ◌∷◌, [], arith, true}
-use Rattle.sf_node.specs.Children.{after}
-use Rattle.sf_node.specs.Later.{halved}
-use Rattle.sf_cursor.specs.declared.level.Level.{Level}
-use Rattle.sf_cursor.specs.Path.{flags_after}
+use Rattle.sf_cursor.proofs.Common.{after, halved, Level, flags_after}
 use Rattle.sf_cursor.proofs.Flags.{few-operands, named-most}
 use Rattle.sf_cursor.proofs.Ways.{few-on, path-on}
 use Rattle.sf_cursor.proofs.cursor.Cursor.enter.Goals as goal

@@ -1,8 +1,6 @@
 use Rattle.std.proofs.Common.{◌≡◌, ◌∙◌, arith, true}
-use Rattle.sf_node.specs.Later.{behind, pending}
+use Rattle.sf_cursor.proofs.Common.{behind, pending, root, beyond, waiting}
 use Rattle.std.proofs.lemmas.Result.{IfOk-weaker}
-use Rattle.sf_node.specs.Subproblem.{root}
-use Rattle.sf_cursor.specs.Path.{beyond, waiting}
 use Rattle.sf_cursor.proofs.Ways.{first-can, extended-first, extended-none, farther}
 use Rattle.sf_cursor.proofs.cursor.Cursor.extend.Goals as goal
 

@@ -1,9 +1,5 @@
-use Rattle.std.proofs.Common.{◌≡◌, ◌++◌, sym, subst, arith}
-use Rattle.sf_node.specs.Later.{behind, pending}
-use Rattle.std.specs.Prelude.{true}
-use Rattle.sf_node.specs.Subproblem.{root}
-use Rattle.sf_node.specs.declared.step.Step.TheVariants.{Left}
-use Rattle.sf_cursor.specs.Path.{beyond, waiting}
+use Rattle.std.proofs.Common.{◌≡◌, ◌++◌, sym, subst, arith, true}
+use Rattle.sf_cursor.proofs.Common.{behind, pending, root, Left, beyond, waiting}
 use Rattle.sf_certificate.specs.Marks.{made}
 use Rattle.sf_cursor.proofs.Ways.{split-first, farther}
 use Rattle.sf_cursor.proofs.cursor.Cursor.follow_to.Goals as goal

@@ -1,5 +1,5 @@
 use Rattle.std.proofs.Common.{◌≡◌, ap, ◌∙◌, length, not}
-use Rattle.sf_polish.specs.Normal.{ends_in}
+use Rattle.sf_cursor.proofs.Common.{ends_in}
 use Rattle.sf_cursor.proofs.Flags.{joins-yes, joins-no}
 use Rattle.sf_cursor.proofs.cursor.Cursor.joins.Goals as goal
 

@@ -1,6 +1,5 @@
 use Rattle.std.proofs.Common.{◌-◌, length, take, ap, subst, sym, ◌∙◌, arith, false}
-use Rattle.sf_node.specs.Later.{HalvesOne}
-use Rattle.sf_cursor.specs.Path.{flags_after, NamesOne}
+use Rattle.sf_cursor.proofs.Common.{HalvesOne, flags_after, NamesOne}
 use Rattle.sf_cursor.proofs.Ways.{last-as, halves-one, path-back, names-back, names-few}
 use Rattle.sf_cursor.proofs.cursor.Cursor.leave.Goals as goal
 

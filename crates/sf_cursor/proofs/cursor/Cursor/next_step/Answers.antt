@@ -1,5 +1,5 @@
 use Rattle.std.proofs.Common.{subst, arith}
-use Rattle.sf_node.specs.Children.{CanStep}
+use Rattle.sf_cursor.proofs.Common.{CanStep}
 use Rattle.sf_cursor.proofs.Ways.{few-spans}
 use Rattle.sf_cursor.proofs.cursor.Cursor.next_step.Goals as goal
 

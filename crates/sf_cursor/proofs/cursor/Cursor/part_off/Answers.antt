@@ -1,6 +1,5 @@
-use Rattle.std.proofs.Common.{◌≡◌, ◌<◌, length, get_or, ap, ◌∙◌, arith, sym, subst}
-use Rattle.std.specs.Prelude.{IfSome}
-use Rattle.sf_node.specs.declared.step.Step.TheVariants.{Beside}
+use Rattle.std.proofs.Common.{◌≡◌, ◌<◌, length, get_or, ap, ◌∙◌, arith, sym, subst, IfSome}
+use Rattle.sf_cursor.proofs.Common.{Beside}
 use Rattle.sf_cursor.proofs.Ways.{next-can}
 use Rattle.sf_cursor.proofs.cursor.Cursor.part_off.Goals.{in-Some-get, in-None}
 use Rattle.sf_cursor.proofs.Parting.{way-value, way-can, way-on, way-parts}

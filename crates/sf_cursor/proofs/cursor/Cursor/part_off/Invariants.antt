@@ -1,4 +1,3 @@
-use Rattle.sf_cursor.specs.Path.{IsPath}
 use Rattle.sf_cursor.proofs.Parting.{IsOnWay}
 use Rattle.sf_cursor.proofs.cursor.Cursor.part_off.Given as goal
 

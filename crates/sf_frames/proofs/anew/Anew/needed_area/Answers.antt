@@ -1,5 +1,5 @@
 use Rattle.std.proofs.Common.{sym, subst}
-use Rattle.sf_frames.specs.Anew.{AreGroupCurves}
+use Rattle.sf_frames.proofs.Common.{AreGroupCurves}
 use Rattle.sf_frames.proofs.GroupAreas.{few_groups, small_groups, needed_or_none}
 use Rattle.sf_frames.proofs.anew.Anew.needed_area.Goals as goal
 

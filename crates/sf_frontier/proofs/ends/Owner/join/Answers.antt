@@ -1,5 +1,5 @@
 use Rattle.std.proofs.Common.{ap, ◌∙◌}
-use Rattle.sf_frontier.specs.Ends.{OwnerView}
+use Rattle.sf_frontier.proofs.Common.{OwnerView}
 use Rattle.sf_frontier.proofs.Steps.{merges, stole_none}
 use Rattle.sf_frontier.proofs.ends.Owner.join.Goals as goal
 

@@ -1,5 +1,5 @@
 use Rattle.std.proofs.Common.{ap, ◌∙◌}
-use Rattle.sf_frontier.specs.Ends.{OwnerView}
+use Rattle.sf_frontier.proofs.Common.{OwnerView}
 use Rattle.sf_frontier.proofs.Steps.{forks, has_front}
 use Rattle.sf_frontier.proofs.ends.Owner.thief.Goals as goal
 

@@ -1,4 +1,4 @@
-use Rattle.sf_gsrc.specs.Owners.{owner_found}
+use Rattle.sf_gsrc.proofs.Common.{owner_found}
 use Rattle.sf_gsrc.proofs.OwnerSteps.{block_put}
 use Rattle.sf_gsrc.proofs.owners.Owners.put_block.Goals as goal
 

@@ -1,5 +1,5 @@
 use Rattle.std.proofs.Common.{◌∙◌}
-use Rattle.sf_gsrc.specs.Owners.{owner_found}
+use Rattle.sf_gsrc.proofs.Common.{owner_found}
 use Rattle.sf_gsrc.proofs.OwnerSteps.{pad_put}
 use Rattle.sf_gsrc.proofs.owners.Owners.put_pad.Goals as goal
 

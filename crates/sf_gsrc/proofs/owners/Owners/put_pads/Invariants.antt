@@ -1,5 +1,5 @@
 use Rattle.std.proofs.Common.{ℕ, List, [], drop, map}
-use Rattle.sf_gsrc.specs.Owners.{AreOwners, AreOwnersFrom}
+use Rattle.sf_gsrc.proofs.Common.{AreOwners, AreOwnersFrom}
 use Rattle.sf_gsrc.proofs.owners.Owners.put_pads.Given as goal
 
 abbrev pub invariant-loop-i : goal.invariant-loop-i

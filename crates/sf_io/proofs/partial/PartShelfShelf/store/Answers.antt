@@ -1,5 +1,5 @@
 use Rattle.std.proofs.Common.{ap, inl}
-use Rattle.sf_io.specs.Outside.{Held}
+use Rattle.sf_io.proofs.Common.{Held}
 use Rattle.sf_io.proofs.partial.PartShelfShelf.store.Goals as goal
 
 pub returns-in-Err-clause-part : goal.returns-in-Err-clause-part

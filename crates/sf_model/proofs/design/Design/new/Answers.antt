@@ -1,7 +1,5 @@
-use Rattle.std.proofs.Common.{subst}
-use Rattle.sf_model.proofs.Common.{Net}
-use Rattle.std.specs.Prelude.{List}
-use Rattle.sf_model.specs.Paths.{AreRoutes}
+use Rattle.std.proofs.Common.{subst, List}
+use Rattle.sf_model.proofs.Common.{Net, AreRoutes}
 use Rattle.sf_model.proofs.Floored.{no_floor}
 use Rattle.sf_model.proofs.design.Design.new.Goals as goal
 

@@ -1,5 +1,5 @@
 use Rattle.std.proofs.Common.{◌∙◌}
-use Rattle.sf_model.specs.declared.raw.RawBlock.{RawBlock}
+use Rattle.sf_model.proofs.Common.{RawBlock}
 use Rattle.sf_model.proofs.Tables.{place_within}
 use Rattle.sf_model.proofs.index.Index.block_of.Goals as goal
 

@@ -1,5 +1,5 @@
 use Rattle.std.proofs.Common.{◌∙◌}
-use Rattle.sf_model.specs.Admitted.{block_names}
+use Rattle.sf_model.proofs.Common.{block_names}
 use Rattle.sf_model.proofs.Tables.{table_has}
 use Rattle.sf_model.proofs.index.Index.is_block.Goals as goal
 

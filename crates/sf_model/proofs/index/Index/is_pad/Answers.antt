@@ -1,5 +1,5 @@
 use Rattle.std.proofs.Common.{◌∙◌}
-use Rattle.sf_model.specs.Admitted.{pad_names}
+use Rattle.sf_model.proofs.Common.{pad_names}
 use Rattle.sf_model.proofs.Tables.{table_has}
 use Rattle.sf_model.proofs.index.Index.is_pad.Goals as goal
 

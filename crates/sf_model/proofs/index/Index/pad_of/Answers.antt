@@ -1,5 +1,5 @@
 use Rattle.std.proofs.Common.{◌∙◌}
-use Rattle.sf_model.specs.declared.raw.RawPad.{RawPad}
+use Rattle.sf_model.proofs.Common.{RawPad}
 use Rattle.sf_model.proofs.Tables.{place_within}
 use Rattle.sf_model.proofs.index.Index.pad_of.Goals as goal
 

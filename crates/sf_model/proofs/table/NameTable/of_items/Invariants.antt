@@ -1,5 +1,5 @@
 use Rattle.std.proofs.Common.{◌≡◌, ◌≤◌, List, ℕ, drop, length, map}
-use Rattle.sf_model.specs.Table.{IsTableOf}
+use Rattle.sf_model.proofs.Common.{IsTableOf}
 use Rattle.sf_model.proofs.table.NameTable.of_items.Given as goal
 
 abbrev pub invariant-loop-left : goal.invariant-loop-left

@@ -1,7 +1,6 @@
-use Rattle.std.proofs.Common.{◌≡◌, ◌+◌, ℕ, true, false, Option, is_some, sym, ◌∙◌, ap}
+use Rattle.std.proofs.Common.{◌≡◌, ◌+◌, ℕ, true, false, Option, is_some, sym, ◌∙◌, ap, bytes_eq}
 use Rattle.std.proofs.lemmas.Map.Text.{btree_map_updates_str}
 use Rattle.sf_model.proofs.Common.{list_any, place_in}
-use Rattle.std.specs.Str.{bytes_eq}
 use Rattle.sf_model.proofs.Tables.{found_put, repeats_again, repeats_once, position_any}
 use Rattle.sf_model.proofs.table.NameTable.put.Goals as goal
 

@@ -1,5 +1,5 @@
 use Rattle.std.proofs.Common.{◌∙◌, ap}
-use Rattle.sf_names.specs.Values.{value_in}
+use Rattle.sf_names.proofs.Common.{value_in}
 use Rattle.sf_names.proofs.Lookups.{value_found}
 use Rattle.sf_names.proofs.map.NameMap.get.Goals as goal
 

@@ -1,5 +1,5 @@
 use Rattle.std.proofs.Common.{◌∙◌, ap}
-use Rattle.sf_names.specs.Names.{index_of}
+use Rattle.sf_names.proofs.Common.{index_of}
 use Rattle.sf_names.proofs.Indexes.{position_index}
 use Rattle.sf_names.proofs.names.Names.index_of.Goals as goal
 

@@ -1,5 +1,5 @@
 use Rattle.std.proofs.Common.{◌≡◌, sym, ap, ◌∙◌}
-use Rattle.sf_names.specs.Names.{bytes_of, index_of, noted}
+use Rattle.sf_names.proofs.Common.{bytes_of, index_of, noted}
 use Rattle.sf_names.proofs.Indexes.{new_index, old_index, keys_noted}
 use Rattle.sf_names.proofs.names.Names.note.Goals as goal
 

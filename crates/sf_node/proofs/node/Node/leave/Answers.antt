@@ -1,6 +1,5 @@
 use Rattle.std.proofs.Common.{ap, ◌∙◌}
-use Rattle.sf_node.proofs.Common.{Left, Right, after, middle, span_of}
-use Rattle.sf_node.specs.Later.{halved}
+use Rattle.sf_node.proofs.Common.{Left, Right, after, middle, span_of, halved}
 use Rattle.sf_node.specs.contracts.node.Node.{the_view}
 use Rattle.sf_node.proofs.Later.{put-back}
 use Rattle.sf_node.proofs.node.Node.leave.Goals as goal

@@ -1,5 +1,5 @@
 use Rattle.std.proofs.Common.{sym, ◌∙◌, ap}
-use Rattle.std.specs.List.{list_all}
+use Rattle.sf_polish.proofs.Common.{list_all}
 use Rattle.sf_polish.proofs.Named.{whole_tokens-missing, whole_tokens-unbalanced, whole_tokens-whole}
 use Rattle.sf_polish.proofs.reading.Reading.finish.Goals as goal
 

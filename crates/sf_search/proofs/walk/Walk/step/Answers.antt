@@ -1,7 +1,5 @@
 use Rattle.std.proofs.Common.{◌≡◌, ap, sym, subst, ◌∙◌}
-use Rattle.sf_search.proofs.Common.{Some, Solved, IsMove, IsVisit, WalkView, best_after, cost_at}
-use Rattle.sf_worker.proofs.Visited.{plain-of}
-use Rattle.sf_worker.specs.InHand.{HandView, IsFollowed}
+use Rattle.sf_search.proofs.Common.{Some, Solved, IsMove, IsVisit, WalkView, best_after, cost_at, plain-of, HandView, IsFollowed}
 use Rattle.sf_search.proofs.Runs.{moved, plain-best, plain-word}
 use Rattle.sf_search.proofs.walk.Walk.step.Goals.{in-Some-1, in-None-1}
 use Rattle.sf_search.proofs.walk.Walk.step.Goals as goal

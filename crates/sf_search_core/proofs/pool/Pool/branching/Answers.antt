@@ -1,5 +1,5 @@
 use Rattle.std.proofs.Common.{◌≤◌, sym, subst, ◌∙◌, arith}
-use Rattle.sf_search_core.specs.State.{State}
+use Rattle.sf_search_core.proofs.Common.{State}
 use Rattle.sf_search_core.proofs.Replaced.{replace-not_below, replace-no_step, held-at}
 use Rattle.sf_search_core.proofs.pool.Pool.branching.Goals as goal
 

@@ -1,5 +1,5 @@
 use Rattle.std.proofs.Common.{◌≡◌, Ok, ap, sym, ◌∙◌, map}
-use Rattle.sf_node.specs.declared.task.Task.{Task}
+use Rattle.sf_search_core.proofs.Common.{Task}
 use Rattle.sf_search_core.proofs.Replaced.{replace-branching, children-are, held-at, replaced-is}
 use Rattle.sf_search_core.proofs.pool.Pool.turn_into.Goals as goal
 

@@ -1,6 +1,5 @@
 use Rattle.std.proofs.Common.{◌∙◌, sym, subst, map}
-use Rattle.std.specs.Arc.{arc_value}
-use Rattle.sf_team.specs.Answers.{IsTable}
+use Rattle.sf_team.proofs.Common.{arc_value, IsTable}
 use Rattle.sf_team.proofs.Tables.{whole}
 use Rattle.sf_team.proofs.team.Team.finish.Goals as goal
 

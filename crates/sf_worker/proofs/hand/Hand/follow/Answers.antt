@@ -1,9 +1,5 @@
 use Rattle.std.proofs.Common.{◌≡◌, ◌≤◌, ◌∷◌, [], ◌++◌, length, true, ap, subst, ◌∙◌}
-use Rattle.sf_node.specs.Subproblem.{root}
-use Rattle.sf_node.specs.Later.{behind, pending}
-use Rattle.sf_certificate.specs.Marks.{made}
-use Rattle.sf_cursor.specs.Path.{beyond, waiting}
-use Rattle.sf_worker.specs.InHand.{HandView}
+use Rattle.sf_worker.proofs.Common.{root, behind, pending, made, beyond, waiting, HandView}
 use Rattle.sf_worker.proofs.Hands.{followed}
 use Rattle.sf_worker.proofs.hand.Hand.follow.Goals as goal
 

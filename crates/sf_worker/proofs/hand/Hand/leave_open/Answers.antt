@@ -1,6 +1,6 @@
 use Rattle.std.proofs.Common.{◌≡◌, ap, sym, subst, ◌∙◌, true}
-use Rattle.sf_worker.specs.InHand.{HandView}
-use Rattle.sf_worker.proofs.Hands.{opened-all, opened-less, opened-low, opened-marks}
+use Rattle.sf_worker.proofs.Common.{HandView}
+use Rattle.sf_worker.proofs.Hands.{opened-low, opened-marks}
 use Rattle.sf_worker.proofs.hand.Hand.leave_open.Goals.{in-None+in_ok-value-in-None, in-Some+in_ok-value-in-Some}
 use Rattle.sf_worker.proofs.hand.Hand.leave_open.Goals as goal
 

@@ -1,7 +1,5 @@
 use Rattle.std.proofs.Common.{◌≡◌, ◌++◌, map, length}
-use Rattle.sf_certificate.specs.Valid.{least}
-use Rattle.sf_pieces.specs.Told.{open_mark}
-use Rattle.sf_worker.specs.InHand.{IsHand, left_of, marks_of}
+use Rattle.sf_worker.proofs.Common.{least, open_mark, IsHand, left_of, marks_of}
 use Rattle.sf_worker.proofs.hand.Hand.leave_open.Given as goal
 
 abbrev pub invariant-loop-self : goal.invariant-loop-self

@@ -1,5 +1,5 @@
 use Rattle.std.proofs.Common.{◌≤◌, length, arith}
-use Rattle.std.proofs.lemmas.Grind.{common_steps}
+use Rattle.sf_yal.proofs.Common.{common_steps}
 use Rattle.sf_yal.proofs.NetSteps.{set_pins, none_there}
 use Rattle.sf_yal.proofs.nets.Used.add_pin.Goals as goal
 

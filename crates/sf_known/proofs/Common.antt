@@ -1,0 +1,14 @@
+-- The imports that the proof files of this crate share.
+pub use Rattle.sf_anneal.specs.Measured.{IsFloorplan}
+pub use Rattle.sf_known.specs.Known.{Knows, cheaper}
+pub use Rattle.sf_known.specs.Routed.{Breaks, IsRouted, Takes}
+pub use Rattle.sf_model.proofs.Floored.{cost-of, cost-same, legal-routed, legal-same, paths-one}
+pub use Rattle.sf_model.specs.Legal.{Fits, IsLegal, block_count, shapes_of}
+pub use Rattle.sf_model.specs.Tree.{HasEachOnce, Tree, height, leaves, tree_of, width}
+pub use Rattle.sf_model.specs.declared.design.Design.{Design}
+pub use Rattle.sf_model.specs.declared.parts.Block.{Block}
+pub use Rattle.sf_model.specs.declared.parts.Outline.{Outline}
+pub use Rattle.sf_polish.specs.declared.expr.Expr.{Expr}
+pub use Rattle.sf_words.specs.declared.command.BoundsChoice.{BoundsChoice}
+pub use Rattle.sf_words.specs.declared.command.BoundsChoice.TheVariants.{Both, Fit, Pair, Standard, Strong}
+pub use Rattle.std.proofs.lemmas.Bool.{cases_Bool, cases_lt}
