@@ -22,9 +22,6 @@ use std::thread::Threads;
 /// that rounds take about as long.
 const MOST: u64 = 67_108_864;
 
-/// How many times as many subproblems as were decided before a worker may decide in the next round.
-const GROWTH: u64 = 16;
-
 /// How many workers are asked for, and how many subproblems may be decided.
 #[derive(Clone, Copy)]
 pub struct SearchOptions {
@@ -114,17 +111,21 @@ fn step<R: Threads + Sync, B: Bounds, G: Gate>(
     Ok(out)
 }
 
-/// How many subproblems a worker may decide in the next round, after so many. The first rounds are short, so
-/// that the workers stay near where one alone would be: a chain that comes to a plan has a decision for each
-/// token. Later ones are long, and there are few of them, since threads that are started anew share a processor for
-/// some hundredths of a second before the system spreads them over all.
+/// How many subproblems a worker may decide in the next round, after so many. The first round is short, so that the
+/// workers stay near where one alone would be: a chain that comes to a plan has a decision for each token. Later ones
+/// are long, and there are few of them, since threads that are started anew share a processor for some hundredths of
+/// a second before the system spreads them over all.
 fn longest(decided: u64, design: &Design) -> u64
     ensures { 0 < result }
 {
     let blocks = u64::from(design.block_count()).max(1);
     let chain = blocks.saturating_mul(2);
-    let most = (MOST / blocks).max(1);
-    decided.saturating_mul(GROWTH).max(chain).clamp(1, most)
+    let most = if decided < chain {
+        chain
+    } else {
+        MOST / blocks
+    };
+    most.max(1)
 }
 
 /// The decisions that are left, shared out evenly, and at most so many for each worker.
