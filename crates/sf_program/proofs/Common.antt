@@ -12,22 +12,13 @@ pub use Rattle.sf_checker.specs.declared.answer.Why.{Why}
 pub use Rattle.sf_curves.specs.Choices.{IsRootCurve}
 pub use Rattle.sf_designs.proofs.Stages.{PlacedRead, WeighedRead, WiredRead, refused-stops, stops-map, uncounted}
 pub use Rattle.sf_designs.specs.Loads.{Reads}
-pub use Rattle.sf_designs.specs.Outcome.{Ends, IsFault, IsRefusal, Refusal, Refuses, Stops, Then, lost, refused}
+pub use Rattle.sf_designs.specs.Outcome.{Ends, IsRefusal, Refusal, Refuses, Stops, Then, lost, refused}
 pub use Rattle.sf_designs.specs.Reading.{Admitted, BlocksRead, Built, DesignMade, DesignRead, GsrcRead, IfNamed, JoinedRead, Judged, ListsMade, NetsRead, PartsAdmitted, PartsRead, PlacesRead, Said, TextRead, TextWithin, Weighed, WeightsRead, With, YalRead, YalWeighed, outline_of, weights_of}
 pub use Rattle.sf_designs.specs.Refusals.{build_refusal, gsrc_refusal, join_refusal, line_of, weight_refusal, yal_refusal}
 pub use Rattle.sf_designs.specs.Stores.{AfterStores, StoppedAt, Stored, stored_in}
-pub use Rattle.sf_designs.specs.Weighed.{WeighedParts, alike, weighed_in}
+pub use Rattle.sf_designs.specs.Weighed.{WeighedParts, alike}
 pub use Rattle.sf_designs.specs.declared.stop.Stop.{Stop}
 pub use Rattle.sf_designs.specs.declared.work.Work.{Work}
-pub use Rattle.sf_gsrc.specs.Blocks.{blocks_read}
-pub use Rattle.sf_gsrc.specs.Join.{first_twice, joined, names_of, nets_in, numbered, placed_once, placed_parts, unplaced_parts}
-pub use Rattle.sf_gsrc.specs.Nets.{nets_read}
-pub use Rattle.sf_gsrc.specs.NetsStanding.{NetsStandFor}
-pub use Rattle.sf_gsrc.specs.Places.{PlacesStandFor, places_read}
-pub use Rattle.sf_gsrc.specs.Standing.{StandsFor}
-pub use Rattle.sf_gsrc.specs.declared.output.GsrcBlocks.{GsrcBlocks}
-pub use Rattle.sf_gsrc.specs.declared.output.GsrcNets.{GsrcNets}
-pub use Rattle.sf_gsrc.specs.declared.output.GsrcPlaces.{GsrcPlaces}
 pub use Rattle.sf_gsrc.specs.declared.output.Place.{Place}
 pub use Rattle.sf_io.specs.Outside.{Contents, HoldsMore, Rose, ShelfSeen, SinkSeen}
 pub use Rattle.sf_io.specs.declared.status.Status.{Status}
@@ -43,12 +34,10 @@ pub use Rattle.sf_model.specs.Routed.{HasPaths}
 pub use Rattle.sf_model.specs.Tree.{HasEachOnce, Tree, height, spots_of, tree_of, width}
 pub use Rattle.sf_model.specs.Wire.{wire}
 pub use Rattle.sf_model.specs.declared.design.Design.{Design}
-pub use Rattle.sf_model.specs.declared.fault.BuildFault.{BuildFault}
 pub use Rattle.sf_model.specs.declared.parts.Block.{Block}
 pub use Rattle.sf_model.specs.declared.parts.Shape.{Shape}
 pub use Rattle.sf_model.specs.declared.paths.Paths.{Paths}
 pub use Rattle.sf_model.specs.declared.plan.Spot.{Spot}
-pub use Rattle.sf_model.specs.declared.raw.Parts.{Parts}
 pub use Rattle.sf_model.specs.declared.raw.RawBlock.{RawBlock}
 pub use Rattle.sf_node.specs.Full.{branches, full, full_below}
 pub use Rattle.sf_node.specs.Subproblem.{is_complete, is_solved, is_wide, root}
@@ -64,7 +53,7 @@ pub use Rattle.sf_polish.specs.declared.expr.Expr.{Expr}
 pub use Rattle.sf_program.specs.Answer.{Answers, CommandAnswer, CommandRefuses, IsAnswer, IsDone, IsOwnAnswer, IsRefused, IsSilent, Obeys, RefusesWords, StoreOrPrintFailed}
 pub use Rattle.sf_program.specs.Checked.{CertRead, CheckRead, IsAnswerWithPaths, IsChecked, IsChosenAnswer, IsJudged, IsRenamed, IsRewritten, IsStoredAnew, IsTextAnswer, JudgedFile, JudgedText, answer_status, answer_text, cert_limit, cert_refusal}
 pub use Rattle.sf_program.specs.Chosen.{chosen_part, chosen_value}
-pub use Rattle.sf_program.specs.Generated.{DesignGenerated, GenRead, IsGenerated, TextsStand, blocks_said, both_weights, by_default, cert_name, kinds_of, nets_said, parts_made, places_said, texts_stored}
+pub use Rattle.sf_program.specs.Generated.{GenRead, IsGenerated, cert_name}
 pub use Rattle.sf_program.specs.Headline.{HasSearched, IsEnd, IsFinding, IsHeadline, IsHeadlineOn, IsPlanOf, first_line}
 pub use Rattle.sf_program.specs.Knowing.{KnownRead, MadeKnown}
 pub use Rattle.sf_program.specs.OneAnswer.{Answer, AskForOneWorker, AtMostOne, GivesOne, HasBlocksOf, HasOneWorker, IsAnswerTo, IsDoneBy, IsSaid, IsTold, refusal}
@@ -73,7 +62,6 @@ pub use Rattle.sf_program.specs.Resumed.{CertLoaded, CertTaken, IsContinued, IsG
 pub use Rattle.sf_resume.specs.Resumed.{full_open}
 pub use Rattle.sf_search.specs.Turns.{turns}
 pub use Rattle.sf_search_core.specs.Outcome.{opening}
-pub use Rattle.sf_soft_shapes.specs.Listed.{AreListsOf, HasNoneFor}
 pub use Rattle.sf_words.proofs.Unique.{meaning_unique}
 pub use Rattle.sf_words.specs.Meaning.{CheckOptions, Command, DesignOptions, GenOptions, Input, Means, MeasureOptions, PlanOptions, ResumeOptions, ShapeOptions, WeightOptions, check, gen, gsrc, measure, plan, resume, shape, yal}
 pub use Rattle.sf_words.specs.Seen.{check_seen, gen_seen, resume_seen, text_of}

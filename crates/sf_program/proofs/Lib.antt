@@ -5,7 +5,6 @@ pub mod Told
 pub mod Printed
 pub mod Endings
 pub mod Statuses
-pub mod Made
 pub mod Once
 pub mod OneDesign
 pub mod OneKnown

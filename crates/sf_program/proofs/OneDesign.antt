@@ -1,6 +1,17 @@
 -- The texts stand for one design, or are refused for one reason.
 use Rattle.std.proofs.Common.{◌≡◌, ◌≤◌, inl, inr, ℕ, suc, List, [], ◌∷◌, map, length, Option, Some, None, Result, Ok, Err, refl, sym, ap, subst, ◌∙◌, arith, All, option_map}
-use Rattle.sf_program.proofs.Common.{Bool, codes, Contents, Design, Block, Parts, AreListsOf, GsrcBlocks, GsrcNets, GsrcPlaces, places_read, PlacesStandFor, first_twice, joined, names_of, nets_in, numbered, placed_once, placed_parts, unplaced_parts, Input, gsrc, yal, DesignOptions, PlanOptions, WeightOptions, AtMostOne, GivesOne, HasBlocksOf, Refusal, Then, BudgetTested, BudgetedDesign, CountTested, budget_of, PlanDesign, Admitted, BlocksRead, Built, DesignMade, DesignRead, GsrcRead, IfNamed, JoinedRead, Judged, ListsMade, NetsRead, PartsAdmitted, PartsRead, PlacesRead, Said, TextRead, Weighed, WeightsRead, YalRead, YalWeighed, outline_of, weights_of, build_refusal, gsrc_refusal, join_refusal, weight_refusal, yal_refusal, WeighedParts, Shape, RawBlock, StandsFor, blocks_read, nets_read, NetsStandFor, PlacedRead, WeighedRead, WiredRead}
+use Rattle.sf_gsrc.specs.Blocks.{blocks_read}
+use Rattle.sf_gsrc.specs.Join.{first_twice, joined, names_of, nets_in, numbered, placed_once, placed_parts, unplaced_parts}
+use Rattle.sf_gsrc.specs.Nets.{nets_read}
+use Rattle.sf_gsrc.specs.NetsStanding.{NetsStandFor}
+use Rattle.sf_gsrc.specs.Places.{places_read, PlacesStandFor}
+use Rattle.sf_gsrc.specs.Standing.{StandsFor}
+use Rattle.sf_gsrc.specs.declared.output.GsrcBlocks.{GsrcBlocks}
+use Rattle.sf_gsrc.specs.declared.output.GsrcNets.{GsrcNets}
+use Rattle.sf_gsrc.specs.declared.output.GsrcPlaces.{GsrcPlaces}
+use Rattle.sf_model.specs.declared.raw.Parts.{Parts}
+use Rattle.sf_soft_shapes.specs.Listed.{AreListsOf}
+use Rattle.sf_program.proofs.Common.{Bool, codes, Contents, Design, Block, Input, gsrc, yal, DesignOptions, PlanOptions, WeightOptions, AtMostOne, GivesOne, HasBlocksOf, Refusal, Then, BudgetTested, BudgetedDesign, CountTested, budget_of, PlanDesign, Admitted, BlocksRead, Built, DesignMade, DesignRead, GsrcRead, IfNamed, JoinedRead, Judged, ListsMade, NetsRead, PartsAdmitted, PartsRead, PlacesRead, Said, TextRead, Weighed, WeightsRead, YalRead, YalWeighed, outline_of, weights_of, build_refusal, gsrc_refusal, join_refusal, weight_refusal, yal_refusal, WeighedParts, Shape, RawBlock, PlacedRead, WeighedRead, WiredRead}
 use Rattle.sf_model.specs.declared.fault.BuildFault.TheVariants.{NoShape}
 use Rattle.sf_model.specs.Built.{design_blocks, first_shapeless}
 use Rattle.sf_model.proofs.Determined.{determined}

@@ -1,6 +1,7 @@
 -- A search by one worker has one answer, where its certificate is the only one.
 use Rattle.std.proofs.Common.{◌≡◌, inl, ℕ, ◌*◌, Bool, false, List, [], ◌∷◌, ◌++◌, length, Option, Some, None, Ok, Err, refl, sym, ap, subst, ◌∙◌, arith}
-use Rattle.sf_program.proofs.Common.{Contents, Design, Spot, block_count, Tree, width, height, spots_of, wire, Expr, spells-one, by_number, Cert, decided, cert_text, Outcome, GenOptions, PlanOptions, DesignGenerated, GenRead, IsGenerated, by_default, both_weights, cert_name, parts_made, texts_stored, Answer, AtMostOne, GivesOne, BudgetTested, IsAnswered, IsEnding, AreMeasures, IsPlanned, IsReported, IsSearched, PlanRead, budget_of, outcome_status, placement_stores, Stored, alike, BoundsChoice, Standard, Strong, Pair, Fit, Both, IsRouted, report_text}
+use Rattle.sf_generated.specs.Made.{DesignGenerated, by_default, both_weights, parts_made, texts_stored}
+use Rattle.sf_program.proofs.Common.{Contents, Design, Spot, block_count, Tree, width, height, spots_of, wire, Expr, spells-one, by_number, Cert, decided, cert_text, Outcome, GenOptions, PlanOptions, GenRead, IsGenerated, cert_name, Answer, AtMostOne, GivesOne, BudgetTested, IsAnswered, IsEnding, AreMeasures, IsPlanned, IsReported, IsSearched, PlanRead, budget_of, outcome_status, placement_stores, Stored, alike, BoundsChoice, Standard, Strong, Pair, Fit, Both, IsRouted, report_text}
 use Rattle.sf_anneal.specs.Starts.{IsImprovedStarts, first_least}
 use Rattle.sf_known.specs.Known.{IsKnownBy, cheaper}
 use Rattle.sf_known.specs.Initial.{IsInitialPlan}

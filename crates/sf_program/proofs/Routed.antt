@@ -1,6 +1,6 @@
 -- What was found of a design with paths is found of the design without them.
 use Rattle.std.proofs.Common.{◌≡◌, ℕ, zero, suc, ◌+◌, ◌*◌, ◌≤◌, Bool, List, [], ◌∷◌, length, map, Option, Some, None, refl, ap, sym, subst, ◌∙◌, MatchOption, sum_by, ◌==◌, ◌&&◌, ◌||◌, not, if◌then◌else◌}
-use Rattle.sf_program.proofs.Common.{Block, Design, Expr, IsFloor, Status, Done, NoneFits, Usage, Open, No, BadInput, OverLimit, ReadFault, WriteFault, NoMemory, cost, root, spots_of, list_all, Paths, Fits, HasPaths, Tree, branches, full, full_below, is_complete, is_solved, is_wide, Cert, left_open, Report, full_open, IsEnd, IsFinding, IsPlanOf}
+use Rattle.sf_program.proofs.Common.{Block, Design, Expr, IsFloor, Status, Done, NoneFits, Usage, Open, No, BadInput, OverLimit, ReadFault, WriteFault, NoMemory, root, spots_of, list_all, Paths, Fits, HasPaths, Tree, branches, full, full_below, is_complete, is_solved, is_wide, Cert, left_open, Report, full_open, IsEnd, IsFinding, IsPlanOf}
 use Rattle.sf_model.specs.declared.parts.Outline.{Outline}
 use Rattle.sf_model.specs.declared.parts.Weights.{Weights}
 use Rattle.sf_model.proofs.Floored.{cost-of, legal-routed, wire-same}

@@ -1,5 +1,5 @@
 -- What a run may answer, by its words and by the texts on the shelf: the status, what is stored and what is printed.
-use Rattle.std.specs.Prelude.{◌≡◌, ◌⊎◌, ⊤, ℕ, List, [], Option, Result, Ok, Err, codes}
+use Rattle.std.specs.Prelude.{◌≡◌, ◌⊎◌, ⊤, ℕ, List, [], Option, Result, Err, codes}
 use Rattle.std.specs.Io.KnownBytes.{Appends}
 use Rattle.sf_io.specs.Outside.{Contents, Rose, ShelfSeen, SinkSeen, Took}
 use Rattle.sf_io.specs.declared.status.Status.{Status}

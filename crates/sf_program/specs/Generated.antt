@@ -1,115 +1,22 @@
 -- What `gen` answers: the texts of a generated design are stored, and then it is searched as `plan` searches it.
-use Rattle.std.specs.Prelude.{◌≡◌, ℕ, List, [], ◌∷◌, ◌++◌, codes, false, None, Some, Result, Ok, Err}
+use Rattle.std.specs.Prelude.{◌≡◌, ℕ, List, ◌++◌, codes, false, None, Result, Ok}
 use Rattle.sf_io.specs.declared.status.Status.{Status}
 use Rattle.sf_model.specs.declared.design.Design.{Design}
-use Rattle.sf_model.specs.declared.raw.Parts.{Parts}
-use Rattle.sf_model.specs.Admitted.{IsAdmitted}
 use Rattle.sf_model.specs.Legal.{block_count}
-use Rattle.sf_gsrc.specs.declared.output.GsrcBlocks.{GsrcBlocks}
-use Rattle.sf_gsrc.specs.declared.output.GsrcNets.{GsrcNets}
-use Rattle.sf_gsrc.specs.declared.output.GsrcPlaces.{GsrcPlaces}
-use Rattle.sf_gsrc.specs.Standing.{StandsFor}
-use Rattle.sf_gsrc.specs.NetsStanding.{NetsStandFor}
-use Rattle.sf_gsrc.specs.Places.{PlacesStandFor}
-use Rattle.sf_gsrc.specs.Join.{joined}
-use Rattle.sf_gen.specs.declared.design.Kinds.{Kinds as GenKinds}
-use Rattle.sf_gen.specs.declared.design.Kinds.TheVariants as made
-use Rattle.sf_gen.specs.Designs.{blocks_out, nets_out, parts_of, places_out}
-use Rattle.sf_gen.specs.Drawn.{ends, sizes}
-use Rattle.sf_gen.specs.Texts.{blocks_text, nets_text, pl_text}
-use Rattle.sf_words.specs.declared.command.Kinds.{Kinds}
-use Rattle.sf_words.specs.declared.command.Kinds.TheVariants.{Hard, Mixed}
-use Rattle.sf_words.specs.Meaning.{gsrc, DesignOptions, GenOptions, WeightOptions}
+use Rattle.sf_words.specs.Meaning.{GenOptions}
 use Rattle.sf_designs.specs.Outcome.{Refusal, Then}
+use Rattle.sf_generated.specs.Made.{DesignGenerated, texts_stored}
 use Rattle.sf_words.specs.declared.command.BoundsChoice.TheVariants.{Standard}
 use Rattle.sf_program.specs.Planned.{BudgetTested, IsAnswered, budget_of}
-use Rattle.sf_designs.specs.Reading.{DesignMade}
 use Rattle.sf_designs.specs.Stores.{Stored}
-use Rattle.sf_designs.specs.Weighed.{alike}
-
--- the kinds of blocks that the words name
-abbrev pub kinds_of : Kinds → GenKinds
-kinds_of Hard = made.Hard
-kinds_of Mixed = made.Mixed
-
--- the names of the files begin with the base
-abbrev pub blocks_name : GenOptions → List ℕ
-blocks_name o = o.out ++ codes ".blocks"
-
--- the name of the nets
-abbrev pub nets_name : GenOptions → List ℕ
-nets_name o = o.out ++ codes ".nets"
-
--- the name of the places
-abbrev pub pl_name : GenOptions → List ℕ
-pl_name o = o.out ++ codes ".pl"
 
 -- the name of the certificate
 abbrev pub cert_name : GenOptions → List ℕ
 cert_name o = o.out ++ codes ".cert"
 
--- the three texts
-abbrev pub blocks_made : GenOptions → List ℕ
-blocks_made o = blocks_text (kinds_of o.kinds) (sizes o.seed o.count)
-
--- the nets file of a number
-abbrev pub nets_made : GenOptions → List ℕ
-nets_made o = nets_text (ends o.seed o.count)
-
--- the pl file of a number
-abbrev pub pl_made : GenOptions → List ℕ
-pl_made o = pl_text o.count
-
--- what the three texts say, and the parts to which that is joined
-abbrev pub blocks_said : GenOptions → GsrcBlocks
-blocks_said o = blocks_out (kinds_of o.kinds) (sizes o.seed o.count)
-
--- the nets for which its text stands
-abbrev pub nets_said : GenOptions → GsrcNets
-nets_said o = nets_out (ends o.seed o.count)
-
--- the places for which its text stands
-abbrev pub places_said : GenOptions → GsrcPlaces
-places_said o = places_out o.count
-
--- the parts to which the three are joined
-abbrev pub parts_made : GenOptions → Parts
-parts_made o = parts_of (kinds_of o.kinds) o.seed o.count
-
--- the design options of `plan` where none is given
-abbrev pub by_default : DesignOptions
-by_default = record { input = gsrc [] None None; per_unit = 1; is_fixed = false; shapes = 16; width = 1_048_576; height = 1_048_576 }
-
--- an area weight and a wire weight of 1, and no weights of nets named
-abbrev pub both_weights : WeightOptions
-both_weights = record { area = 1; wire = 1; net_weights = None }
-
--- the three texts stand for the parts, which may become a design
-pub record TextsStand (o : GenOptions) : Type 0 where
-  pub blocks : StandsFor 1 (blocks_made o) (blocks_said o)
-  pub nets : NetsStandFor (nets_made o) (nets_said o)
-  pub places : PlacesStandFor 1 (pl_made o) (places_said o)
-  pub joins : joined (blocks_said o) (Some (nets_said o)) (Some (places_said o)) ≡ Ok (parts_made o)
-  pub admitted : IsAdmitted (parts_made o)
-
--- the design of the generated texts, which are never refused
-abbrev pub DesignGenerated : GenOptions → Result Design Refusal → Type 0
-DesignGenerated o (Ok design) = TextsStand o × DesignMade by_default both_weights (alike (parts_made o)) (Ok design)
-DesignGenerated o (Err why) = ⊥
-
 -- the budget is tested first
 abbrev pub GenRead : GenOptions → Result Design Refusal → Type 0
 GenRead o = Then (BudgetTested false o.nodes o.count) (λ budget. DesignGenerated o)
-
--- the three texts are stored in this order, before the certificate
-abbrev pub texts_stored : GenOptions → List Stored
-texts_stored o = (blocks_name o, blocks_made o) ∷ (nets_name o, nets_made o) ∷ (pl_name o, pl_made o) ∷ []
-
--- the answer of the search of the generated design
-pub record IsMadeSearched (o : GenOptions) (status : Status) (stored : List Stored) (printed : List ℕ) : Type 0 where
-  pub design : Design
-  pub made : DesignGenerated o (Ok design)
-  pub answered : IsAnswered Standard design 1 (budget_of o.nodes (block_count design)) None 1 (cert_name o) None status stored printed
 
 -- the design is generated, its texts are stored, and what follows is the answer of its search
 pub record IsGenerated (o : GenOptions) (status : Status) (stored : List Stored) (printed : List ℕ) : Type 0 where

@@ -1,7 +1,13 @@
 use Rattle.std.proofs.Common.{◌≡◌, Ok, Some}
-use Rattle.sf_program.proofs.Common.{GsrcBlocks, GsrcNets, GsrcPlaces, joined, GenOptions, gen_seen, blocks_said, kinds_of, nets_said, parts_made, places_said, join_refusal}
-use Rattle.sf_program.proofs.Made.{judged-is, judged-never}
-use Rattle.sf_program.proofs.generating.made_parts.Goals as goal
+use Rattle.sf_designs.specs.Refusals.{join_refusal}
+use Rattle.sf_gsrc.specs.Join.{joined}
+use Rattle.sf_gsrc.specs.declared.output.GsrcBlocks.{GsrcBlocks}
+use Rattle.sf_gsrc.specs.declared.output.GsrcNets.{GsrcNets}
+use Rattle.sf_gsrc.specs.declared.output.GsrcPlaces.{GsrcPlaces}
+use Rattle.sf_words.specs.Meaning.{GenOptions}
+use Rattle.sf_generated.proofs.Common.{gen_seen, blocks_said, kinds_of, nets_said, parts_made, places_said}
+use Rattle.sf_generated.proofs.Made.{judged-is, judged-never}
+use Rattle.sf_generated.proofs.reading.made_parts.Goals as goal
 
 -- what is read of the three texts is joined as what they say
 joined-so : (o : GenOptions) (b : GsrcBlocks) (n : GsrcNets) (p : GsrcPlaces) → b ≡ blocks_said o → n ≡ nets_said o → p ≡ places_said o

@@ -1,8 +1,10 @@
 use Rattle.std.proofs.Common.{◌≡◌, Ok, codes, sym, subst}
 use Rattle.sf_gsrc.proofs.StandingLaws.{stands_from_read, stands_once_only}
-use Rattle.sf_program.proofs.Common.{gen_seen, blocks_said, kinds_of, gsrc_refusal, blocks_read, StandsFor}
-use Rattle.sf_program.proofs.Made.{said-is, said-never}
-use Rattle.sf_program.proofs.generating.made_blocks.Goals as goal
+use Rattle.sf_gsrc.specs.Blocks.{blocks_read}
+use Rattle.sf_gsrc.specs.Standing.{StandsFor}
+use Rattle.sf_generated.proofs.Common.{gen_seen, blocks_said, kinds_of, gsrc_refusal}
+use Rattle.sf_generated.proofs.Made.{said-is, said-never}
+use Rattle.sf_generated.proofs.reading.made_blocks.Goals as goal
 
 pub returns-clause-is : goal.returns-clause-is
 returns-clause-is c =

@@ -1,8 +1,9 @@
 use Rattle.std.proofs.Common.{◌≡◌, Ok, codes, sym, subst}
-use Rattle.sf_program.proofs.Common.{places_read, PlacesStandFor, gen_seen, places_said, gsrc_refusal}
 use Rattle.sf_gsrc.proofs.PlaceLaws.{stands_from_read, stands_once_only}
-use Rattle.sf_program.proofs.Made.{said-is, said-never}
-use Rattle.sf_program.proofs.generating.made_places.Goals as goal
+use Rattle.sf_gsrc.specs.Places.{places_read, PlacesStandFor}
+use Rattle.sf_generated.proofs.Common.{gen_seen, places_said, gsrc_refusal}
+use Rattle.sf_generated.proofs.Made.{said-is, said-never}
+use Rattle.sf_generated.proofs.reading.made_places.Goals as goal
 
 pub returns-clause-is : goal.returns-clause-is
 returns-clause-is c =

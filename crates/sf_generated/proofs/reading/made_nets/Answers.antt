@@ -1,8 +1,10 @@
 use Rattle.std.proofs.Common.{◌≡◌, Ok, codes, sym, subst}
 use Rattle.sf_gsrc.proofs.NetLaws.{stands_from_read, stands_once_only}
-use Rattle.sf_program.proofs.Common.{gen_seen, nets_said, gsrc_refusal, nets_read, NetsStandFor}
-use Rattle.sf_program.proofs.Made.{said-is, said-never}
-use Rattle.sf_program.proofs.generating.made_nets.Goals as goal
+use Rattle.sf_gsrc.specs.Nets.{nets_read}
+use Rattle.sf_gsrc.specs.NetsStanding.{NetsStandFor}
+use Rattle.sf_generated.proofs.Common.{gen_seen, nets_said, gsrc_refusal}
+use Rattle.sf_generated.proofs.Made.{said-is, said-never}
+use Rattle.sf_generated.proofs.reading.made_nets.Goals as goal
 
 pub returns-clause-is : goal.returns-clause-is
 returns-clause-is c =

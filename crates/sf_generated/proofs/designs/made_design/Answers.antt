@@ -2,10 +2,13 @@ use Rattle.std.proofs.Common.{false, sym, subst, arith, ap, ◌∙◌}
 use Rattle.sf_gsrc.proofs.NetLaws as nets
 use Rattle.sf_gsrc.proofs.PlaceLaws as places
 use Rattle.sf_gsrc.proofs.StandingLaws as blocks
-use Rattle.sf_program.proofs.Common.{Parts, gen_seen, TextsStand, both_weights, by_default, kinds_of, parts_made, HasNoneFor, Ends, DesignMade, WeighedParts, alike, weighed_in, BuildFault}
+use Rattle.sf_designs.specs.Weighed.{alike, weighed_in}
+use Rattle.sf_generated.specs.Made.{TextsStand, both_weights, by_default}
 use Rattle.sf_model.specs.Admitted.{HasPinsInRange, HasSizes, IsAdmitted}
-use Rattle.sf_program.proofs.Made.{made-never, made-ok}
-use Rattle.sf_program.proofs.generating.made_design.Goals as goal
+use Rattle.sf_model.specs.declared.raw.Parts.{Parts}
+use Rattle.sf_generated.proofs.Common.{gen_seen, kinds_of, parts_made, HasNoneFor, Ends, DesignMade, WeighedParts, BuildFault}
+use Rattle.sf_generated.proofs.Made.{made-never, made-ok}
+use Rattle.sf_generated.proofs.designs.made_design.Goals as goal
 
 pub make_design-requires-clause-admitted : goal.make_design-requires-clause-admitted
 make_design-requires-clause-admitted c =

@@ -1,6 +1,13 @@
 -- Generated texts are never refused.
 use Rattle.std.proofs.Common.{◌≡◌, inl, inr, Result, Ok, Err, sym, subst, ◌∙◌}
-use Rattle.sf_program.proofs.Common.{IfErr, IfOk, Design, HasNoneFor, DesignOptions, WeightOptions, Stop, Refusal, Ends, IsFault, Stops, DesignMade, Judged, Said, WeighedParts, BuildFault, stops-map}
+use Rattle.sf_designs.proofs.Stages.{stops-map}
+use Rattle.sf_designs.specs.Outcome.{Refusal, IsFault, Stops}
+use Rattle.sf_designs.specs.Reading.{Judged, Said}
+use Rattle.sf_designs.specs.declared.stop.Stop.{Stop}
+use Rattle.sf_model.specs.declared.design.Design.{Design}
+use Rattle.sf_words.specs.Meaning.{DesignOptions, WeightOptions}
+use Rattle.std.specs.Prelude.{IfErr, IfOk}
+use Rattle.sf_generated.proofs.Common.{HasNoneFor, Ends, DesignMade, WeighedParts, BuildFault}
 
 module _ {X F : Type 0} (first : Result X F) (refusal : F → Refusal) (out : X) (read : first ≡ Ok out) where
   -- what reads as a value has no fault
