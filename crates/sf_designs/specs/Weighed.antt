@@ -1,6 +1,7 @@
 -- Parts, and a weight for each of their nets.
 use Rattle.std.specs.Prelude.{ℕ, List, length, replicate}
 use Rattle.sf_model.specs.declared.raw.Parts.{Parts}
+use Rattle.sf_designs.specs.declared.weighed.AdmittedParts.{AdmittedParts}
 use Rattle.sf_designs.specs.declared.weighed.Weighed.{Weighed}
 
 -- parts, and a weight for each of their nets
@@ -10,7 +11,11 @@ pub record WeighedParts : Type 0 where
 
 -- what the code has of them
 abbrev pub weighed_in : Weighed → WeighedParts
-weighed_in w = record { parts = w.parts; net_weights = w.net_weights.items }
+weighed_in w = record { parts = w.read.parts; net_weights = w.net_weights.items }
+
+-- the same of admitted parts
+abbrev pub admitted_in : AdmittedParts → WeighedParts
+admitted_in a = weighed_in a.weighed
 
 -- parts whose nets have the weight 1
 abbrev pub alike : Parts → WeighedParts

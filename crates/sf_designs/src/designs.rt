@@ -1,32 +1,30 @@
 //! From parts to a design.
 
 ghost use Rattle.std.specs.Prelude.{◌≡◌, IfOk, None};
-ghost use Rattle.sf_model.specs.Admitted.{HasPinsInRange, HasSizes, IsAdmitted};
 ghost use Rattle.sf_model.specs.Built.{HasShapeChoices, first_shapeless};
 ghost use Rattle.sf_words.specs.Seen.{design_seen, weights_seen};
 ghost use Rattle.sf_designs.specs.Loads.{ReadsShelf, TellsNoLoad};
 ghost use Rattle.sf_designs.specs.Outcome.{Ends};
 ghost use Rattle.sf_designs.specs.Reading.{Admitted, Built, DesignMade, DesignRead, ListsMade, PartsAdmitted};
-ghost use Rattle.sf_designs.specs.Weighed.{weighed_in};
+ghost use Rattle.sf_designs.specs.Weighed.{admitted_in, weighed_in};
 
 use crate::reading::read_parts;
 use crate::refusals::build_fault;
 use crate::stop::Stop;
-use crate::weighed::Weighed;
+use crate::weighed::{AdmittedParts, Weighed};
 use sf_io::Shelf;
-use sf_model::{BuildFault, Design, Outline, Parts, Shapes, Weights};
+use sf_model::{BuildFault, Design, Outline, Shapes, Weights};
 use sf_soft_shapes::lists;
 use sf_words::{DesignWords, WeightWords};
 use std::alloc::Global;
 
 /// The parts, where they may become a design.
-pub fn admit(alloc: Global, read: Weighed) -> Result<Weighed, Stop>
-    requires pins { HasPinsInRange read.parts }
-    ensures admitted { Ends weighed_in result (Admitted (weighed_in read)) }
+pub fn admit(alloc: Global, weighed: Weighed) -> Result<AdmittedParts, Stop>
+    ensures admitted { Ends admitted_in result (Admitted (weighed_in weighed)) }
     ensures tells { TellsNoLoad result }
 {
-    match read.parts.admit(alloc) {
-        Ok(()) => Ok(read),
+    match weighed.read.parts.admit(alloc) {
+        Ok(()) => Ok(AdmittedParts { weighed }),
         Err(fault) => Err(build_fault(alloc, fault)?),
     }
 }
@@ -37,28 +35,33 @@ pub fn read_admitted<S: Shelf>(
     shelf: &mut S,
     words: &DesignWords<'_>,
     weights: WeightWords<'_>,
-) -> Result<Weighed, Stop>
-    ensures parts { Ends weighed_in result
+) -> Result<AdmittedParts, Stop>
+    ensures parts { Ends admitted_in result
         (PartsAdmitted (S.seen shelf.old).holds (design_seen words.now) (weights_seen weights.entry)) }
-    ensures admitted { IfOk result (λ read. IsAdmitted read.parts) }
-    ensures pins { IfOk result (λ read. HasPinsInRange read.parts) }
-    ensures sizes { IfOk result (λ read. HasSizes read.parts) }
     ensures shelf { ReadsShelf (S.seen shelf.old) (S.seen shelf.new) result }
 {
-    let read = read_parts(alloc, shelf, words.scale, words.input, weights.net_weights)?;
-    admit(alloc, read)
+    let weighed = read_parts(alloc, shelf, words.scale, words.input, weights.net_weights)?;
+    admit(alloc, weighed)
 }
 
 /// The shapes of each block, or what is refused of them.
-fn make_lists(alloc: Global, words: &DesignWords<'_>, parts: &Parts) -> Result<Vec<Shapes>, Stop>
-    requires admitted { IsAdmitted parts.now }
-    requires sizes { HasSizes parts.now }
-    ensures lists { Ends (λ v. v.items) result (ListsMade (design_seen words.now) parts.now) }
-    ensures choices { IfOk result (λ v. HasShapeChoices parts.now.blocks v.items) }
-    ensures shaped { IfOk result (λ v. first_shapeless parts.now.blocks v.items ≡ None) }
+fn make_lists(
+    alloc: Global,
+    words: &DesignWords<'_>,
+    admitted: &AdmittedParts,
+) -> Result<Vec<Shapes>, Stop>
+    ensures lists { Ends (λ v. v.items) result
+        (ListsMade (design_seen words.now) admitted.now.weighed.read.parts) }
+    ensures choices { IfOk result (λ v. HasShapeChoices admitted.now.weighed.read.parts.blocks v.items) }
+    ensures shaped { IfOk result (λ v. first_shapeless admitted.now.weighed.read.parts.blocks v.items ≡ None) }
     ensures tells { TellsNoLoad result }
 {
-    match lists(alloc, parts, words.shapes, words.is_fixed) {
+    match lists(
+        alloc,
+        &admitted.weighed.read.parts,
+        words.shapes,
+        words.is_fixed,
+    ) {
         Ok(lists) => Ok(lists),
         Err(fault) => Err(build_fault(alloc, fault)?),
     }
@@ -69,15 +72,13 @@ fn build(
     alloc: Global,
     words: &DesignWords<'_>,
     weights: WeightWords<'_>,
-    read: Weighed,
+    admitted: AdmittedParts,
     lists: Vec<Shapes>,
 ) -> Result<Design, Stop>
-    requires admitted { IsAdmitted read.parts }
-    requires pins { HasPinsInRange read.parts }
-    requires choices { HasShapeChoices read.parts.blocks lists.items }
-    requires shaped { first_shapeless read.parts.blocks lists.items ≡ None }
+    requires choices { HasShapeChoices admitted.weighed.read.parts.blocks lists.items }
+    requires shaped { first_shapeless admitted.weighed.read.parts.blocks lists.items ≡ None }
     ensures design { Ends (λ x. x) result
-        (Built (design_seen words.now) (weights_seen weights.entry) (weighed_in read) lists.items) }
+        (Built (design_seen words.now) (weights_seen weights.entry) (admitted_in admitted) lists.items) }
     ensures tells { TellsNoLoad result }
 {
     let outline = Outline {
@@ -88,8 +89,8 @@ fn build(
         area: weights.area,
         wire: weights.wire,
     };
-    let Weighed { parts, net_weights } = read;
-    match Design::build(alloc, parts, lists, outline, weights, &net_weights) {
+    let Weighed { read, net_weights } = admitted.weighed;
+    match Design::build(alloc, read.parts, lists, outline, weights, &net_weights) {
         Ok(design) => Ok(design),
         Err(BuildFault::NoMemory) => Err(Stop::NoMemory),
         Err(_) => unreachable!(),
@@ -101,17 +102,14 @@ pub fn make_design(
     alloc: Global,
     words: &DesignWords<'_>,
     weights: WeightWords<'_>,
-    read: Weighed,
+    admitted: AdmittedParts,
 ) -> Result<Design, Stop>
-    requires admitted { IsAdmitted read.parts }
-    requires pins { HasPinsInRange read.parts }
-    requires sizes { HasSizes read.parts }
     ensures design { Ends (λ x. x) result
-        (DesignMade (design_seen words.now) (weights_seen weights.entry) (weighed_in read)) }
+        (DesignMade (design_seen words.now) (weights_seen weights.entry) (admitted_in admitted)) }
     ensures tells { TellsNoLoad result }
 {
-    match make_lists(alloc, words, &read.parts) {
-        Ok(lists) => build(alloc, words, weights, read, lists),
+    match make_lists(alloc, words, &admitted) {
+        Ok(lists) => build(alloc, words, weights, admitted, lists),
         Err(stop) => Err(stop),
     }
 }
@@ -127,6 +125,6 @@ pub fn read_design<S: Shelf>(
         (DesignRead (S.seen shelf.old).holds (design_seen words.now) (weights_seen weights.entry)) }
     ensures shelf { ReadsShelf (S.seen shelf.old) (S.seen shelf.new) result }
 {
-    let read = read_admitted(alloc, shelf, words, weights)?;
-    make_design(alloc, words, weights, read)
+    let admitted = read_admitted(alloc, shelf, words, weights)?;
+    make_design(alloc, words, weights, admitted)
 }

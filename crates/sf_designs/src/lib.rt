@@ -23,5 +23,5 @@ pub use parsing::{join, parse_blocks, parse_nets, parse_places};
 pub use reading::{FILE_LIMIT, load_text, load_within, read_places_file};
 pub use refusals::{bare_fault, named_fault, over_limit};
 pub use stop::Stop;
-pub use weighed::Weighed;
+pub use weighed::{AdmittedParts, ReadParts, Weighed};
 pub use work::{Store, Work, no_stores};

@@ -1,7 +1,7 @@
 //! Texts to what they stand for, or to their refusal.
 
 ghost use Rattle.std.specs.Prelude.{◌≡◌, ◌≤◌, ◌^◌, length, codes, All, IfOk, IfSome};
-ghost use Rattle.sf_model.specs.Admitted.{HasPinsInRange, HasSizes, IsSized};
+ghost use Rattle.sf_model.specs.Admitted.{IsSized};
 ghost use Rattle.sf_gsrc.specs.Blocks.{blocks_read};
 ghost use Rattle.sf_gsrc.specs.Join.{joined, nets_in};
 ghost use Rattle.sf_gsrc.specs.Nets.{nets_read};
@@ -19,12 +19,12 @@ ghost use Rattle.sf_designs.specs.Refusals.{gsrc_refusal, weight_refusal, yal_re
 
 use crate::refusals::{gsrc_fault, named_fault, weight_fault, yal_fault};
 use crate::stop::Stop;
+use crate::weighed::ReadParts;
 use sf_gsrc::{
     GsrcBlocks, GsrcNets, GsrcPlaces, JoinFault, blocks_have_sizes, join_parts,
     joined_parts_keep_ranges, nets_name_their_pins, read_blocks, read_nets, read_pl, read_weights,
 };
 use sf_lex::Scale;
-use sf_model::Parts;
 use sf_yal::{parts_keep_ranges, read_yal};
 use std::alloc::Global;
 
@@ -87,17 +87,15 @@ pub fn parse_weights(alloc: Global, text: &[u8], nets: u64) -> Result<Vec<u8>, S
 }
 
 /// What a YAL file stands for.
-pub fn parse_yal(alloc: Global, text: &[u8], scale: Scale) -> Result<Parts, Stop>
+pub fn parse_yal(alloc: Global, text: &[u8], scale: Scale) -> Result<ReadParts, Stop>
     requires size { length text.now ≤ 2 ^ 26 }
     ensures tells { TellsNoLoad result }
-    ensures said { let per_unit = scale.per_unit in Ends (λ x. x) result
+    ensures said { let per_unit = scale.per_unit in Ends (λ read. read.parts) result
         (Said (yals.StandsFor per_unit text.now) (yal_read per_unit text.now) yal_refusal) }
-    ensures sizes { IfOk result HasSizes }
-    ensures pins { IfOk result HasPinsInRange }
 {
     parts_keep_ranges();
     match read_yal(alloc, text, scale.per_unit) {
-        Ok(parts) => Ok(parts),
+        Ok(parts) => Ok(ReadParts { parts }),
         Err(fault) => Err(yal_fault(alloc, fault)?),
     }
 }
@@ -108,18 +106,16 @@ pub fn join(
     blocks: GsrcBlocks,
     nets: Option<GsrcNets>,
     places: Option<GsrcPlaces>,
-) -> Result<Parts, Stop>
+) -> Result<ReadParts, Stop>
     requires sizes { All (λ b. IsSized b.kind) blocks.blocks }
     requires pins { IfSome nets (λ out. HasPinsInAnyRange out.nets) }
     ensures tells { TellsNoLoad result }
-    ensures said { Ends (λ x. x) result (Judged (joined blocks nets places) join_refusal) }
-    ensures nets { IfOk result (λ parts. length parts.nets ≡ length (nets_in nets)) }
-    ensures sizes { IfOk result HasSizes }
-    ensures pins { IfOk result HasPinsInRange }
+    ensures said { Ends (λ read. read.parts) result (Judged (joined blocks nets places) join_refusal) }
+    ensures nets { IfOk result (λ read. length read.parts.nets ≡ length (nets_in nets)) }
 {
     joined_parts_keep_ranges();
     match join_parts(alloc, blocks, nets, places) {
-        Ok(parts) => Ok(parts),
+        Ok(parts) => Ok(ReadParts { parts }),
         Err(JoinFault::PlacedTwice(name)) => Err(named_fault(alloc, "DuplicateName", &name)?),
         Err(JoinFault::NoMemory) => Err(Stop::NoMemory),
     }

@@ -2,7 +2,7 @@
 
 ghost use Rattle.std.specs.Prelude.{◌≡◌, ◌≤◌, ◌^◌, length, codes, All, IfOk, IfSome};
 ghost use Rattle.sf_words.specs.Seen.{input_seen, text_of};
-ghost use Rattle.sf_model.specs.Admitted.{HasPinsInRange, HasSizes, IsSized};
+ghost use Rattle.sf_model.specs.Admitted.{IsSized};
 ghost use Rattle.sf_gsrc.specs.Join.{nets_in};
 ghost use Rattle.sf_gsrc.specs.Ranges.{HasPinsInAnyRange};
 ghost use Rattle.sf_designs.specs.Loads.{ReadsShelf, TellsNoLoad};
@@ -14,12 +14,11 @@ ghost use Rattle.sf_designs.specs.Weighed.{weighed_in};
 use crate::parsing::{join, parse_blocks, parse_nets, parse_places, parse_yal};
 use crate::refusals::over_limit;
 use crate::stop::Stop;
-use crate::weighed::Weighed;
+use crate::weighed::{ReadParts, Weighed};
 use crate::weighing::read_net_weights;
 use sf_gsrc::{GsrcBlocks, GsrcNets, GsrcPlaces};
 use sf_io::{LoadFault, Shelf};
 use sf_lex::Scale;
-use sf_model::Parts;
 use sf_words::InputFiles;
 use std::alloc::Global;
 
@@ -100,10 +99,8 @@ fn read_yal_file<S: Shelf>(
     shelf: &mut S,
     scale: Scale,
     name: &str,
-) -> Result<Parts, Stop>
-    ensures parts { Ends (λ x. x) result (YalRead (S.seen shelf.old).holds scale.per_unit name.now) }
-    ensures sizes { IfOk result HasSizes }
-    ensures pins { IfOk result HasPinsInRange }
+) -> Result<ReadParts, Stop>
+    ensures parts { Ends (λ read. read.parts) result (YalRead (S.seen shelf.old).holds scale.per_unit name.now) }
     ensures shelf { ReadsShelf (S.seen shelf.old) (S.seen shelf.new) result }
 {
     let text = load_text(alloc, shelf, name)?;
@@ -155,12 +152,10 @@ fn join_weighed(
     requires pins { IfSome nets (λ out. HasPinsInAnyRange out.nets) }
     requires one_each { length net_weights.items ≡ length (nets_in nets) }
     ensures parts { Ends weighed_in result (JoinedRead blocks nets places net_weights.items) }
-    ensures sizes { IfOk result (λ read. HasSizes read.parts) }
-    ensures pins { IfOk result (λ read. HasPinsInRange read.parts) }
     ensures tells { TellsNoLoad result }
 {
-    let parts = join(alloc, blocks, nets, places)?;
-    Ok(Weighed { parts, net_weights })
+    let read = join(alloc, blocks, nets, places)?;
+    Ok(Weighed { read, net_weights })
 }
 
 /// How many nets there are.
@@ -186,8 +181,6 @@ fn read_gsrc_files<S: Shelf>(
     ensures parts { let held = (S.seen shelf.old).holds in let scale = scale.per_unit in
         Ends weighed_in result
         (GsrcRead held scale blocks.now (text_of nets.entry) (text_of pl.entry) (text_of weights.entry)) }
-    ensures sizes { IfOk result (λ read. HasSizes read.parts) }
-    ensures pins { IfOk result (λ read. HasPinsInRange read.parts) }
     ensures shelf { ReadsShelf (S.seen shelf.old) (S.seen shelf.new) result }
 {
     let blocks = read_blocks_file(alloc, shelf, scale, blocks)?;
@@ -207,14 +200,12 @@ fn read_weighed_yal<S: Shelf>(
 ) -> Result<Weighed, Stop>
     ensures parts { Ends weighed_in result
         (YalWeighed (S.seen shelf.old).holds scale.per_unit file.now (text_of weights.entry)) }
-    ensures sizes { IfOk result (λ read. HasSizes read.parts) }
-    ensures pins { IfOk result (λ read. HasPinsInRange read.parts) }
     ensures shelf { ReadsShelf (S.seen shelf.old) (S.seen shelf.new) result }
 {
-    let parts = read_yal_file(alloc, shelf, scale, file)?;
-    let nets = parts.nets.as_slice().len();
+    let read = read_yal_file(alloc, shelf, scale, file)?;
+    let nets = read.parts.nets.as_slice().len();
     let net_weights = read_net_weights(alloc, shelf, nets, weights)?;
-    Ok(Weighed { parts, net_weights })
+    Ok(Weighed { read, net_weights })
 }
 
 /// All that the files of a design say, with the weights of its nets.
@@ -227,8 +218,6 @@ pub fn read_parts<S: Shelf>(
 ) -> Result<Weighed, Stop>
     ensures parts { Ends weighed_in result
         (PartsRead (S.seen shelf.old).holds scale.per_unit (input_seen input.entry) (text_of weights.entry)) }
-    ensures pins { IfOk result (λ read. HasPinsInRange read.parts) }
-    ensures sizes { IfOk result (λ read. HasSizes read.parts) }
     ensures shelf { ReadsShelf (S.seen shelf.old) (S.seen shelf.new) result }
 {
     match input {

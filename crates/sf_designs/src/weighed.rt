@@ -1,16 +1,34 @@
-//! Parts, and a weight for each of their nets.
+//! Parts as they are read, with a weight for each of their nets, and those of them that may become a design.
 
 ghost use Rattle.std.specs.Prelude.{◌≡◌, IfOk, length, replicate};
+ghost use Rattle.std.proofs.Props.{props};
+ghost use Rattle.sf_model.specs.Admitted.{HasPinsInRange, HasSizes, IsAdmitted};
+ghost use Rattle.sf_model.specs.Props.{IsPinInRange-prop, IsSized-prop};
 
 use sf_model::Parts;
 use std::alloc::{AllocError as NoMemory, Global};
 
+/// Parts, as the texts of a design say them.
+#[derive(Drop)]
+pub struct ReadParts {
+    pub parts: Parts,
+    pub ghost sizes: { HasSizes parts } by { Prim.hlevel (props, IsSized-prop) },
+    pub ghost pins: { HasPinsInRange parts } by { Prim.hlevel (props, IsPinInRange-prop) },
+}
+
 /// Parts, and a weight for each of their nets.
 #[derive(Drop)]
 pub struct Weighed {
-    pub parts: Parts,
+    pub read: ReadParts,
     pub net_weights: Vec<u8>,
-    ghost one_each: { length net_weights.items ≡ length parts.nets },
+    ghost one_each: { length net_weights.items ≡ length read.parts.nets },
+}
+
+/// Parts that may become a design, and a weight for each of their nets.
+#[derive(Drop)]
+pub struct AdmittedParts {
+    pub weighed: Weighed,
+    pub ghost admitted: { IsAdmitted weighed.read.parts } by { Prim.hlevel props },
 }
 
 /// The weight 1 for each of so many nets.
@@ -24,11 +42,11 @@ impl Weighed {
     ghost use Rattle.sf_designs.specs.Weighed.{alike, weighed_in};
 
     /// Parts whose nets have the weight 1.
-    pub fn alike(alloc: Global, parts: Parts) -> Result<Weighed, NoMemory>
-        ensures alike { IfOk result (λ read. weighed_in read ≡ alike parts) }
-        ensures parts { IfOk result (λ read. read.parts ≡ parts) }
+    pub fn alike(alloc: Global, read: ReadParts) -> Result<Weighed, NoMemory>
+        ensures alike { IfOk result (λ weighed. weighed_in weighed ≡ alike read.parts) }
+        ensures parts { IfOk result (λ weighed. weighed.read.parts ≡ read.parts) }
     {
-        let net_weights = same_weights(alloc, parts.nets.as_slice().len())?;
-        Ok(Weighed { parts, net_weights })
+        let net_weights = same_weights(alloc, read.parts.nets.as_slice().len())?;
+        Ok(Weighed { read, net_weights })
     }
 }

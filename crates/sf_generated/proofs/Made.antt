@@ -29,14 +29,14 @@ module _ {X F : Type 0} (first : Result X F) (refusal : F → Refusal) (out : X)
   judged-same r h = subst (λ f. Judged f refusal r) read h
 
   -- the value is the one that is there
-  pub judged-is : (r : Result X Stop) → Ends (λ x. x) r (Judged first refusal) → IfOk r (λ x. x ≡ out)
-  judged-is (Ok x) h = let k : Ok x ≡ Ok out = judged-same (Ok x) h in cc
-  judged-is (Err stop) h = tt
+  pub judged-is : {A : Type 0} (seen : A → X) (r : Result A Stop) → Ends seen r (Judged first refusal) → IfOk r (λ a. seen a ≡ out)
+  judged-is seen (Ok a) h = let k : Ok (seen a) ≡ Ok out = judged-same (Ok (seen a)) h in cc
+  judged-is seen (Err stop) h = tt
 
   -- and is never refused
-  pub judged-never : (r : Result X Stop) → Ends (λ x. x) r (Judged first refusal) → IfErr r IsFault
-  judged-never (Ok x) h = tt
-  judged-never (Err stop) h = stops-map (λ why. Judged first refusal (Err why)) (λ why. ⊥) (λ why s. let k : Err why ≡ Ok out = judged-same (Err why) s in absurd (cc)) stop h
+  pub judged-never : {A : Type 0} (seen : A → X) (r : Result A Stop) → Ends seen r (Judged first refusal) → IfErr r IsFault
+  judged-never seen (Ok a) h = tt
+  judged-never seen (Err stop) h = stops-map (λ why. Judged first refusal (Err why)) (λ why. ⊥) (λ why s. let k : Err why ≡ Ok out = judged-same (Err why) s in absurd (cc)) stop h
 
 -- each block has a shape
 module _ (o : DesignOptions) (w : WeightOptions) (read : WeighedParts) (shaped : (fault : BuildFault) → HasNoneFor o.shapes o.is_fixed read.parts.blocks fault → ⊥) where

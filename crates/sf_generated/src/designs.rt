@@ -1,7 +1,6 @@
 //! From a number to a design and the stores of its texts.
 
 ghost use Rattle.std.specs.Prelude.{◌≡◌, Ok, IfErr, IfOk};
-ghost use Rattle.sf_model.specs.Admitted.{HasPinsInRange, HasSizes};
 ghost use Rattle.sf_words.specs.Seen.{gen_seen};
 ghost use Rattle.sf_designs.specs.Loads.{TellsNoLoad};
 ghost use Rattle.sf_designs.specs.Outcome.{IsFault};
@@ -10,12 +9,12 @@ ghost use Rattle.sf_generated.specs.Made.{DesignGenerated, parts_made, texts_sto
 
 use crate::reading::read_back;
 use crate::texts::{made_texts, text_stores};
-use sf_designs::{Stop, Store, Weighed, make_design};
+use sf_designs::{AdmittedParts, ReadParts, Stop, Store, Weighed, make_design};
 use sf_gen::{
     blocks_are_read, blocks_have_shapes, nets_are_read, parts_are_admitted, places_are_read,
 };
 use sf_lex::Scale;
-use sf_model::{Design, MOST_SIDE, Parts};
+use sf_model::{Design, MOST_SIDE};
 use sf_words::{DesignWords, GenWords, InputFiles, WeightWords};
 use std::alloc::Global;
 
@@ -27,10 +26,8 @@ pub struct Generated {
 }
 
 /// The design of the generated parts.
-fn made_design(alloc: Global, words: &GenWords<'_>, parts: Parts) -> Result<Design, Stop>
-    requires is { parts ≡ parts_made (gen_seen words.now) }
-    requires sizes { HasSizes parts }
-    requires pins { HasPinsInRange parts }
+fn made_design(alloc: Global, words: &GenWords<'_>, read: ReadParts) -> Result<Design, Stop>
+    requires is { read.parts ≡ parts_made (gen_seen words.now) }
     ensures design { IfOk result (λ d. DesignGenerated (gen_seen words.now) (Ok d)) }
     ensures never { IfErr result IsFault }
     ensures tells { TellsNoLoad result }
@@ -57,8 +54,8 @@ fn made_design(alloc: Global, words: &GenWords<'_>, parts: Parts) -> Result<Desi
         wire: 1,
         net_weights: None,
     };
-    let read = Weighed::alike(alloc, parts)?;
-    make_design(alloc, &told, both_weights, read)
+    let weighed = Weighed::alike(alloc, read)?;
+    make_design(alloc, &told, both_weights, AdmittedParts { weighed })
 }
 
 /// The design that the number of the words gives, read from its own texts, and the stores of these.
@@ -69,8 +66,8 @@ pub fn generate_design(alloc: Global, words: &GenWords<'_>) -> Result<Generated,
     ensures tells { TellsNoLoad result }
 {
     let texts = made_texts(alloc, words)?;
-    let parts = read_back(alloc, words, &texts)?;
-    let design = made_design(alloc, words, parts)?;
+    let read = read_back(alloc, words, &texts)?;
+    let design = made_design(alloc, words, read)?;
     let stores = text_stores(alloc, words, texts)?;
     Ok(Generated { design, stores })
 }

@@ -2,18 +2,17 @@
 
 ghost use Rattle.std.specs.Prelude.{◌≡◌, All, IfErr, IfOk};
 ghost use Rattle.sf_gsrc.specs.Ranges.{HasPinsInAnyRange};
-ghost use Rattle.sf_model.specs.Admitted.{HasPinsInRange, HasSizes, IsSized};
+ghost use Rattle.sf_model.specs.Admitted.{IsSized};
 ghost use Rattle.sf_words.specs.Seen.{gen_seen};
 ghost use Rattle.sf_designs.specs.Loads.{TellsNoLoad};
 ghost use Rattle.sf_designs.specs.Outcome.{IsFault};
 ghost use Rattle.sf_generated.specs.Made.{blocks_made, blocks_said, nets_made, nets_said, parts_made};
 ghost use Rattle.sf_generated.specs.Made.{pl_made, places_said};
 
-use sf_designs::{Stop, join, parse_blocks, parse_nets, parse_places};
+use sf_designs::{ReadParts, Stop, join, parse_blocks, parse_nets, parse_places};
 use sf_gen::{GenTexts, blocks_are_read, nets_are_read, parts_are_admitted, places_are_read};
 use sf_gsrc::{GsrcBlocks, GsrcNets, GsrcPlaces};
 use sf_lex::Scale;
-use sf_model::Parts;
 use sf_words::GenWords;
 use std::alloc::Global;
 
@@ -59,15 +58,13 @@ fn made_parts(
     blocks: GsrcBlocks,
     nets: GsrcNets,
     places: GsrcPlaces,
-) -> Result<Parts, Stop>
+) -> Result<ReadParts, Stop>
     requires blocks { blocks ≡ blocks_said (gen_seen words.now) }
     requires nets { nets ≡ nets_said (gen_seen words.now) }
     requires places { places ≡ places_said (gen_seen words.now) }
     requires sizes { All (λ b. IsSized b.kind) blocks.blocks }
     requires pins { HasPinsInAnyRange nets.nets }
-    ensures is { IfOk result (λ parts. parts ≡ parts_made (gen_seen words.now)) }
-    ensures sizes { IfOk result HasSizes }
-    ensures pins { IfOk result HasPinsInRange }
+    ensures is { IfOk result (λ read. read.parts ≡ parts_made (gen_seen words.now)) }
     ensures never { IfErr result IsFault }
     ensures tells { TellsNoLoad result }
 {
@@ -76,13 +73,11 @@ fn made_parts(
 }
 
 /// The parts of the three texts.
-pub fn read_back(alloc: Global, words: &GenWords<'_>, texts: &GenTexts) -> Result<Parts, Stop>
+pub fn read_back(alloc: Global, words: &GenWords<'_>, texts: &GenTexts) -> Result<ReadParts, Stop>
     requires blocks { texts.now.blocks ≡ blocks_made (gen_seen words.now) }
     requires nets { texts.now.nets ≡ nets_made (gen_seen words.now) }
     requires pl { texts.now.pl ≡ pl_made (gen_seen words.now) }
-    ensures is { IfOk result (λ parts. parts ≡ parts_made (gen_seen words.now)) }
-    ensures sizes { IfOk result HasSizes }
-    ensures pins { IfOk result HasPinsInRange }
+    ensures is { IfOk result (λ read. read.parts ≡ parts_made (gen_seen words.now)) }
     ensures never { IfErr result IsFault }
     ensures tells { TellsNoLoad result }
 {

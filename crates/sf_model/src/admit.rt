@@ -7,7 +7,7 @@ ghost use Rattle.sf_model.specs.declared.fault.BuildFault.TheVariants.{NoMemory}
 ghost use Rattle.sf_model.specs.declared.raw.Parts.{Parts};
 
 use crate::fault::BuildFault;
-use crate::index::Index;
+use crate::index::{Index, RangedParts};
 use crate::limits::check_limits;
 use crate::names::{check_duplicates, check_known};
 use crate::pad_places::check_places;
@@ -24,34 +24,31 @@ impl Parts {
         ensures admitted { OnOk result (IsAdmitted self.now) }
         ensures refused { IfErr result (λ fault. fault ≢ NoMemory → first_refusal self.now ≡ Some fault) }
     {
-        check_parts(alloc, self)
+        check_parts(alloc, RangedParts { parts: self })
     }
 }
 
 /// The first fault of parts.
-fn check_parts(alloc: Global, parts: &Parts) -> Result<(), BuildFault>
-    requires { HasPinsInRange parts.now }
-    ensures { IsFirstOf (faults parts.now) result }
+fn check_parts(alloc: Global, ranged: RangedParts<'_>) -> Result<(), BuildFault>
+    ensures { IsFirstOf (faults ranged.entry.parts.now) result }
 {
-    if parts.blocks.as_slice().is_empty() {
+    if ranged.parts.blocks.as_slice().is_empty() {
         return Err(BuildFault::NoBlocks);
     }
-    check_limits(parts)?;
-    check_names(alloc, parts)
+    check_limits(ranged.parts)?;
+    check_names(alloc, ranged)
 }
 
 /// The first fault of the names and places of parts.
-fn check_names(alloc: Global, parts: &Parts) -> Result<(), BuildFault>
-    requires { HasPinsInRange parts.now }
-    ensures { IsFirstOf (name_faults parts.now) result }
+fn check_names(alloc: Global, ranged: RangedParts<'_>) -> Result<(), BuildFault>
+    ensures { IsFirstOf (name_faults ranged.entry.parts.now) result }
 {
-    let index = Index::new(alloc, parts)?;
+    let index = Index::new(alloc, ranged)?;
     check_index(alloc, &index)
 }
 
 /// The same of parts with the tables of their names.
 fn check_index(alloc: Global, index: &Index<'_>) -> Result<(), BuildFault>
-    requires { HasPinsInRange index.now.parts.now }
     ensures { IsFirstOf (name_faults index.now.parts.now) result }
 {
     check_duplicates(alloc, index)?;

@@ -10,6 +10,7 @@ ghost use Rattle.sf_model.specs.declared.fault.BuildFault.TheVariants.{NoMemory,
 
 use crate::design::Design;
 use crate::fault::BuildFault;
+use crate::index::{AdmittedIndex, Index, RangedParts};
 use crate::limits::MOST_COORDINATE;
 use crate::name::Name;
 use crate::nets::nets_of;
@@ -130,7 +131,8 @@ impl Design {
             → option_map NoShape (first_shapeless parts.blocks lists.items) ≡ Some fault) }
     {
         check_shapes(alloc, parts.blocks.as_slice(), &lists)?;
-        let nets = nets_of(alloc, &parts, net_weights)?;
+        let index = Index::new(alloc, RangedParts { parts: &parts })?;
+        let nets = nets_of(alloc, &AdmittedIndex { index }, net_weights)?;
         let pads = placed_pads(alloc, parts.pads_in, parts.pads)?;
         let blocks = blocks_of(alloc, parts.blocks, lists)?;
         Ok(Design::new(alloc, blocks, pads, nets, outline, weights)?)

@@ -1,9 +1,10 @@
-//! Parts with the tables of their names.
+//! Parts whose pins are there, with the tables of their names.
 
 ghost use Rattle.std.specs.Prelude.{◌≡◌, ◌<◌, length, IfOk, IfSome};
 ghost use Rattle.std.proofs.Props.{props};
 ghost use Rattle.sf_model.specs.Admitted.{block_names, pad_names, is_block_name, is_pad_name, block_of};
-ghost use Rattle.sf_model.specs.Admitted.{pad_of, IsPinInRange};
+ghost use Rattle.sf_model.specs.Admitted.{pad_of, HasPinsInRange, IsAdmitted, IsPinInRange};
+ghost use Rattle.sf_model.specs.Props.{IsPinInRange-prop};
 ghost use Rattle.sf_model.specs.Table.{IsTableOf};
 
 use crate::name::Name;
@@ -11,7 +12,14 @@ use crate::raw::{Parts, RawPin};
 use crate::table::NameTable;
 use std::alloc::{AllocError, Global};
 
-/// Parts, and the tables of the names of their blocks and of their pads.
+/// Parts of which each pin that is given by an index is there.
+#[derive(Clone, Copy)]
+pub struct RangedParts<'a> {
+    pub parts: &'a Parts,
+    ghost pins: { HasPinsInRange parts.now } by { Prim.hlevel (props, IsPinInRange-prop) },
+}
+
+/// Such parts, and the tables of the names of their blocks and of their pads.
 #[derive(Drop)]
 pub struct Index<'a> {
     pub parts: &'a Parts,
@@ -19,13 +27,22 @@ pub struct Index<'a> {
     pub pads: NameTable<'a>,
     ghost of_blocks: { IsTableOf blocks 0 (block_names parts.now.blocks) } by { Prim.hlevel props },
     ghost of_pads: { IsTableOf pads 0 (pad_names parts.now.pads) } by { Prim.hlevel props },
+    ghost pins: { HasPinsInRange parts.now } by { Prim.hlevel (props, IsPinInRange-prop) },
+}
+
+/// The same of admitted parts.
+#[derive(Drop)]
+pub struct AdmittedIndex<'a> {
+    pub index: Index<'a>,
+    ghost admitted: { IsAdmitted index.parts.now } by { Prim.hlevel props },
 }
 
 impl<'a> Index<'a> {
     /// The parts with the tables of their names.
-    pub fn new(alloc: Global, parts: &'a Parts) -> Result<Index<'a>, AllocError>
-        ensures { IfOk result (λ index. index.parts.now ≡ parts.now) }
+    pub fn new(alloc: Global, ranged: RangedParts<'a>) -> Result<Index<'a>, AllocError>
+        ensures { IfOk result (λ index. index.parts.now ≡ ranged.entry.parts.now) }
     {
+        let parts = ranged.parts;
         Ok(Index {
             parts,
             blocks: NameTable::of_blocks(alloc, parts.blocks.as_slice())?,

@@ -4,14 +4,14 @@ ghost use Rattle.std.specs.Prelude.{◌≡◌, ◌^◌, ◌<◌, ◌≤◌, leng
 ghost use Rattle.std.specs.Prelude.{map};
 ghost use Rattle.std.specs.List.{list_any, AllZip};
 ghost use Rattle.std.specs.List.Sorted.{IsNonDecreasingBy, IsPermutation};
-ghost use Rattle.sf_model.specs.Admitted.{IsAdmitted, HasPinsInRange, IsPinInRange};
+ghost use Rattle.sf_model.specs.Admitted.{IsPinInRange};
 ghost use Rattle.sf_model.specs.Built.{HasNetWeights, named_pins, pin_of};
 ghost use Rattle.sf_model.specs.Limits.{pin_order};
 ghost use Rattle.sf_model.specs.Numbers.{AreNumbersOf, IsNetMade, same_pin};
 
-use crate::index::Index;
+use crate::index::{AdmittedIndex, Index};
 use crate::parts::{Net, NetList, Pin, Pins};
-use crate::raw::{Parts, RawNet, RawPad, RawPin};
+use crate::raw::{RawNet, RawPad, RawPin};
 use std::alloc::{AllocError, Global};
 
 /// How many pads with a place stand before each pad.
@@ -111,55 +111,53 @@ fn set_of(alloc: Global, pins: &[Pin]) -> Result<Vec<Pin>, AllocError>
 /// The set of the pins of a net, with this weight.
 fn net_of(
     alloc: Global,
-    index: &Index<'_>,
+    admitted: &AdmittedIndex<'_>,
     numbers: &[u16],
     net: &RawNet,
     weight: u8,
 ) -> Result<Net, AllocError>
-    requires admitted { IsAdmitted index.now.parts.now }
-    requires in_range { HasPinsInRange index.now.parts.now }
-    requires numbered { AreNumbersOf numbers.now index.now.parts.now.pads }
-    requires listed { Contains index.now.parts.now.nets net.now }
-    ensures made { IfOk result (λ made. IsNetMade index.now.parts.now net.now made) }
+    requires numbered { AreNumbersOf numbers.now admitted.now.index.parts.now.pads }
+    requires listed { Contains admitted.now.index.parts.now.nets net.now }
+    ensures made { IfOk result (λ made. IsNetMade admitted.now.index.parts.now net.now made) }
     ensures weight { IfOk result (λ made. made.weight ≡ weight) }
 {
-    let mut pins = pins_of(alloc, index, numbers, net.pins.as_slice())?;
+    let mut pins = pins_of(alloc, &admitted.index, numbers, net.pins.as_slice())?;
     sort(&mut pins);
     let pins = Pins::from_vec(set_of(alloc, &pins)?);
     Ok(Net { pins, weight })
 }
 
-/// The nets of indexed parts, each with its weight.
+/// The nets of admitted parts whose pads have these numbers, each with its weight.
 fn nets_in(
     alloc: Global,
-    index: &Index<'_>,
+    admitted: &AdmittedIndex<'_>,
     numbers: &[u16],
     weights: &[u8],
 ) -> Result<NetList, AllocError>
-    requires admitted { IsAdmitted index.now.parts.now }
-    requires in_range { HasPinsInRange index.now.parts.now }
-    requires numbered { AreNumbersOf numbers.now index.now.parts.now.pads }
-    requires one_each { HasNetWeights index.now.parts.now weights.now }
+    requires numbered { AreNumbersOf numbers.now admitted.now.index.parts.now.pads }
+    requires one_each { HasNetWeights admitted.now.index.parts.now weights.now }
     ensures made { IfOk result (λ nets. AllZip
-        (IsNetMade index.now.parts.now) index.now.parts.now.nets nets) }
+        (IsNetMade admitted.now.index.parts.now) admitted.now.index.parts.now.nets nets) }
     ensures weights { IfOk result (λ nets. map (λ n. n.weight) nets ≡ weights.now) }
 {
     let mut nets = Vec::with_capacity(alloc, weights.len())?;
-    for (number, net) in index.parts.nets.as_slice().iter().enumerate() {
-        nets.push(net_of(alloc, index, numbers, net, weights[number])?)?;
+    for (number, net) in admitted.index.parts.nets.as_slice().iter().enumerate() {
+        nets.push(net_of(alloc, admitted, numbers, net, weights[number])?)?;
     }
     Ok(NetList::from_vec(nets))
 }
 
 /// The nets of admitted parts, in their order, each with its weight.
-pub fn nets_of(alloc: Global, parts: &Parts, weights: &[u8]) -> Result<NetList, AllocError>
-    requires admitted { IsAdmitted parts.now }
-    requires in_range { HasPinsInRange parts.now }
-    requires one_each { HasNetWeights parts.now weights.now }
-    ensures made { IfOk result (λ nets. AllZip (IsNetMade parts.now) parts.now.nets nets) }
+pub fn nets_of(
+    alloc: Global,
+    admitted: &AdmittedIndex<'_>,
+    weights: &[u8],
+) -> Result<NetList, AllocError>
+    requires one_each { HasNetWeights admitted.now.index.parts.now weights.now }
+    ensures made { IfOk result (λ nets. AllZip
+        (IsNetMade admitted.now.index.parts.now) admitted.now.index.parts.now.nets nets) }
     ensures weights { IfOk result (λ nets. map (λ n. n.weight) nets ≡ weights.now) }
 {
-    let index = Index::new(alloc, parts)?;
-    let numbers = pad_numbers(alloc, parts.pads.as_slice())?;
-    nets_in(alloc, &index, &numbers, weights)
+    let numbers = pad_numbers(alloc, admitted.index.parts.pads.as_slice())?;
+    nets_in(alloc, admitted, &numbers, weights)
 }

@@ -3,7 +3,7 @@
 ghost use Rattle.std.specs.Prelude.{◌≡◌, ℕ, ◌<◌, ◌||◌, false, length, All, IfOk, vec_len};
 ghost use Rattle.std.specs.Prelude.{slice_index_or};
 ghost use Rattle.std.specs.List.{list_any};
-ghost use Rattle.sf_model.specs.Admitted.{IsFirstOf, HasPinsInRange, IsPinInRange, pad_of, is_index};
+ghost use Rattle.sf_model.specs.Admitted.{IsFirstOf, IsPinInRange, pad_of, is_index};
 ghost use Rattle.sf_model.specs.Admitted.{is_wired, missing_places};
 
 use crate::fault::BuildFault;
@@ -31,7 +31,6 @@ fn mark_wired(wired: &mut [bool], index: &Index<'_>, pins: &[RawPin])
 
 /// Whether each pad is in a net.
 fn wired_pads(alloc: Global, index: &Index<'_>) -> Result<Vec<bool>, AllocError>
-    requires { HasPinsInRange index.now.parts.now }
     ensures len { IfOk result (λ wired. vec_len wired ≡ length index.now.parts.now.pads) }
     ensures marks { IfOk result (λ wired. (i : ℕ) → i < length index.now.parts.now.pads
         → slice_index_or wired.items i false ≡ is_wired index.now.parts.now i) }
@@ -45,7 +44,6 @@ fn wired_pads(alloc: Global, index: &Index<'_>) -> Result<Vec<bool>, AllocError>
 
 /// Tests that each pad of a net has a place, where a text places pads.
 pub fn check_places(alloc: Global, index: &Index<'_>) -> Result<(), BuildFault>
-    requires { HasPinsInRange index.now.parts.now }
     ensures { IsFirstOf (missing_places index.now.parts.now) result }
 {
     if !index.parts.pads_in {

@@ -2,7 +2,6 @@
 
 ghost use Rattle.std.specs.Prelude.{◌≡◌, ◌≤◌, IfOk, IfSome, None};
 ghost use Rattle.sf_anneal.specs.Measured.{IsFloorplan};
-ghost use Rattle.sf_model.specs.Admitted.{HasPinsInRange, HasSizes, IsAdmitted};
 ghost use Rattle.sf_model.specs.Legal.{block_count};
 ghost use Rattle.sf_certificate.specs.Valid.{decided};
 ghost use Rattle.sf_pl_writer.specs.Length.{IsScale};
@@ -15,12 +14,12 @@ ghost use Rattle.sf_program.specs.Planned.{IsAnswered, IsReported, BudgetedDesig
 ghost use Rattle.sf_program.specs.Planned.{PlanDesign, budget_of};
 ghost use Rattle.sf_program.specs.Resumed.{IsGood};
 ghost use Rattle.sf_designs.specs.Stores.{Gives};
-ghost use Rattle.sf_designs.specs.Weighed.{weighed_in};
+ghost use Rattle.sf_designs.specs.Weighed.{admitted_in};
 
 use crate::budget::{budget_of, test_budget};
 use crate::chosen::search_chosen;
 use crate::plan_answer::{Ended, Names, ending_of, tell_none, tell_plan};
-use sf_designs::{Stop, Weighed, Work, make_design, read_admitted};
+use sf_designs::{AdmittedParts, Stop, Work, make_design, read_admitted};
 use sf_io::{Gate, Shelf};
 use sf_known::{Begun, begin};
 use sf_model::{Design, admitted_parts_keep_limits};
@@ -39,22 +38,23 @@ pub fn read_plan<S: Shelf>(
     ensures design { Ends (λ x. x) result (PlanDesign (S.seen shelf.old).holds (plan_seen words.now)) }
     ensures shelf { ReadsShelf (S.seen shelf.old) (S.seen shelf.new) result }
 {
-    let read = read_admitted(alloc, shelf, &words.design, words.weights)?;
-    within_budget(alloc, words, read)
+    let admitted = read_admitted(alloc, shelf, &words.design, words.weights)?;
+    within_budget(alloc, words, admitted)
 }
 
 /// The design of admitted parts, where the budget is within its limit.
-fn within_budget(alloc: Global, words: &PlanWords<'_>, read: Weighed) -> Result<Design, Stop>
-    requires admitted { IsAdmitted read.parts }
-    requires pins { HasPinsInRange read.parts }
-    requires sizes { HasSizes read.parts }
-    ensures design { Ends (λ x. x) result (BudgetedDesign (plan_seen words.now) (weighed_in read)) }
+fn within_budget(
+    alloc: Global,
+    words: &PlanWords<'_>,
+    admitted: AdmittedParts,
+) -> Result<Design, Stop>
+    ensures design { Ends (λ x. x) result (BudgetedDesign (plan_seen words.now) (admitted_in admitted)) }
     ensures tells { TellsNoLoad result }
 {
     admitted_parts_keep_limits();
-    let blocks = read.parts.blocks.as_slice().len() as u64;
+    let blocks = admitted.weighed.read.parts.blocks.as_slice().len() as u64;
     match test_budget(alloc, words.is_long, words.nodes, blocks) {
-        Ok(()) => make_design(alloc, &words.design, words.weights, read),
+        Ok(()) => make_design(alloc, &words.design, words.weights, admitted),
         Err(stop) => Err(stop),
     }
 }

@@ -13,6 +13,4 @@ returns-in_ok-yal_fault-in-Err c =
     record {
       tells = refused-tells stop (yal_refusal fault) c.in_ok-yal_fault-in-Err.ensures.refused;
       said = yal-stops (StandsFor scale text) (yal_read scale text) fault c.read_yal.result stop c.in_ok-yal_fault-in-Err.ensures.real c.in-Err.is c.read_yal.ensures.exact c.in_ok-yal_fault-in-Err.ensures.refused;
-      sizes = tt;
-      pins = tt;
     }

@@ -4,22 +4,17 @@ use Rattle.sf_gsrc.proofs.PlaceLaws as places
 use Rattle.sf_gsrc.proofs.StandingLaws as blocks
 use Rattle.sf_designs.specs.Weighed.{alike, weighed_in}
 use Rattle.sf_generated.specs.Made.{TextsStand, both_weights, by_default}
-use Rattle.sf_model.specs.Admitted.{HasPinsInRange, HasSizes, IsAdmitted}
+use Rattle.sf_model.specs.Admitted.{IsAdmitted}
 use Rattle.sf_model.specs.declared.raw.Parts.{Parts}
 use Rattle.sf_generated.proofs.Common.{gen_seen, kinds_of, parts_made, HasNoneFor, Ends, DesignMade, WeighedParts, BuildFault}
 use Rattle.sf_generated.proofs.Made.{made-never, made-ok}
 use Rattle.sf_generated.proofs.designs.made_design.Goals as goal
 
-pub make_design-requires-clause-admitted : goal.make_design-requires-clause-admitted
-make_design-requires-clause-admitted c =
+pub invariant_of-make_design : goal.invariant_of-make_design
+invariant_of-make_design c =
     let words = c.args.words.now in
-    subst IsAdmitted (sym (c.in_ok-read.ensures.parts ∙ c.requires.is)) (c.parts_are_admitted.ensures.admitted (kinds_of words.kinds) words.seed words.count words.count_low words.count_high)
-
-pub make_design-requires-clause-pins : goal.make_design-requires-clause-pins
-make_design-requires-clause-pins c = subst HasPinsInRange (sym c.in_ok-read.ensures.parts) c.requires.pins
-
-pub make_design-requires-clause-sizes : goal.make_design-requires-clause-sizes
-make_design-requires-clause-sizes c = subst HasSizes (sym c.in_ok-read.ensures.parts) c.requires.sizes
+    let admitted = c.parts_are_admitted.ensures.admitted (kinds_of words.kinds) words.seed words.count words.count_low words.count_high in
+    record { admitted = subst IsAdmitted (sym (c.in_ok-weighed.ensures.parts ∙ c.requires.is)) admitted }
 
 pub returns-clause-design : goal.returns-clause-design
 returns-clause-design c =
@@ -33,13 +28,13 @@ returns-clause-design c =
       admitted = c.parts_are_admitted.ensures.admitted (kinds_of words.kinds) words.seed words.count words.count_low words.count_high;
     } in
     let made : Ends (λ d. d) c.make_design.result (DesignMade by_default both_weights (alike (parts_made o))) =
-    subst (λ (p : WeighedParts). Ends (λ d. d) c.make_design.result (DesignMade by_default both_weights p)) (c.in_ok-read.ensures.alike ∙ ap alike c.requires.is) c.make_design.ensures.design in
+    subst (λ (p : WeighedParts). Ends (λ d. d) c.make_design.result (DesignMade by_default both_weights p)) (c.in_ok-weighed.ensures.alike ∙ ap alike c.requires.is) c.make_design.ensures.design in
     made-ok by_default both_weights (alike (parts_made o)) (TextsStand o) stand c.make_design.result made
 
 pub returns-clause-never : goal.returns-clause-never
 returns-clause-never c =
     let words = c.args.words.now in
-    let none : (fault : BuildFault) → HasNoneFor 16 false c.in_ok-read.read.parts.blocks fault → ⊥ =
-    subst (λ (p : Parts). (fault : BuildFault) → HasNoneFor 16 false p.blocks fault → ⊥) (sym (c.in_ok-read.ensures.parts ∙ c.requires.is))
+    let none : (fault : BuildFault) → HasNoneFor 16 false c.in_ok-weighed.weighed.read.parts.blocks fault → ⊥ =
+    subst (λ (p : Parts). (fault : BuildFault) → HasNoneFor 16 false p.blocks fault → ⊥) (sym (c.in_ok-weighed.ensures.parts ∙ c.requires.is))
     (λ fault h. c.blocks_have_shapes.ensures.never_refused (kinds_of words.kinds) words.seed words.count 16 false fault (omega arith) h) in
-    made-never by_default both_weights (weighed_in c.in_ok-read.read) none c.make_design.result c.make_design.ensures.design
+    made-never by_default both_weights (weighed_in c.in_ok-weighed.weighed) none c.make_design.result c.make_design.ensures.design

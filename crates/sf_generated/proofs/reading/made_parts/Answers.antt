@@ -1,5 +1,6 @@
 use Rattle.std.proofs.Common.{◌≡◌, Ok, Some}
 use Rattle.sf_designs.specs.Refusals.{join_refusal}
+use Rattle.sf_designs.specs.declared.weighed.ReadParts.{ReadParts}
 use Rattle.sf_gsrc.specs.Join.{joined}
 use Rattle.sf_gsrc.specs.declared.output.GsrcBlocks.{GsrcBlocks}
 use Rattle.sf_gsrc.specs.declared.output.GsrcNets.{GsrcNets}
@@ -19,11 +20,11 @@ returns-clause-is c =
     let words = c.args.words.now in
     let o = gen_seen words in
     let so = joined-so o c.args.blocks c.args.nets c.args.places c.requires.blocks c.requires.nets c.requires.places (c.parts_are_admitted.ensures.joined (kinds_of words.kinds) words.seed words.count) in
-    judged-is (joined c.args.blocks (Some c.args.nets) (Some c.args.places)) join_refusal (parts_made o) so c.join.result c.join.ensures.said
+    judged-is (joined c.args.blocks (Some c.args.nets) (Some c.args.places)) join_refusal (parts_made o) so (λ (read : ReadParts). read.parts) c.join.result c.join.ensures.said
 
 pub returns-clause-never : goal.returns-clause-never
 returns-clause-never c =
     let words = c.args.words.now in
     let o = gen_seen words in
     let so = joined-so o c.args.blocks c.args.nets c.args.places c.requires.blocks c.requires.nets c.requires.places (c.parts_are_admitted.ensures.joined (kinds_of words.kinds) words.seed words.count) in
-    judged-never (joined c.args.blocks (Some c.args.nets) (Some c.args.places)) join_refusal (parts_made o) so c.join.result c.join.ensures.said
+    judged-never (joined c.args.blocks (Some c.args.nets) (Some c.args.places)) join_refusal (parts_made o) so (λ (read : ReadParts). read.parts) c.join.result c.join.ensures.said

@@ -10,10 +10,10 @@ loop-number-preserved c =
     let weights = c.args.weights.now in
     let weight = λ (n : Net). n.weight in
     let made = c.in_ok-net_of.field-0 in
-    let item : c.net-item.result ≡ get_or c.args.index.now.parts.now.nets i c.net-item.result = grind (arith, common_steps) in
+    let item : c.net-item.result ≡ get_or c.args.admitted.now.index.parts.now.nets i c.net-item.result = grind (arith, common_steps) in
     let low : i < length weights = omega (arith, c.requires.one_each, all, c.loop-number-test.true) in
     record {
-      made = zip_more (IsNetMade c.args.index.now.parts.now) c.args.index.now.parts.now.nets c.loop-number.nets.items c.push.new.self.items i c.net-item.result made (omega arith) item c.in_ok-push.ensures.items c.loop-number.invariant.made c.in_ok-net_of.ensures.made;
+      made = zip_more (IsNetMade c.args.admitted.now.index.parts.now) c.args.admitted.now.index.parts.now.nets c.loop-number.nets.items c.push.new.self.items i c.net-item.result made (omega arith) item c.in_ok-push.ensures.items c.loop-number.invariant.made c.in_ok-net_of.ensures.made;
       weights =
           ap (map weight) c.in_ok-push.ensures.items
           ∙ map-append weight c.loop-number.nets.items (made ∷ [])
