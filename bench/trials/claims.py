@@ -13,7 +13,7 @@ import sys
 TOP = os.path.dirname(os.path.dirname(os.path.dirname(os.path.abspath(__file__))))
 CRATES = os.path.join(TOP, "crates")
 PROGRAMS = ("floorplan", "floorbatch")
-TESTS = {"runs/": "sf_runs/src/tests/", "io": "sf_io/src/tests", "": "sf_tests/src/"}
+TESTS = {"runs/": "sf_runs/src/tests/", "": "sf_tests/src/"}
 
 
 def files(folder, ending):
@@ -99,10 +99,10 @@ def unfound_clauses(cell, heads, known):
 def tests_in(cell):
     """The names of tests and scripts in the last column, each with the file where it should stand."""
     for part in cell.split("; "):
-        named = re.match(r"(io|runs/\w+|\w+): (.*)", part)
+        named = re.match(r"(runs/\w+|\w+): (.*)", part)
         if named:
             kind = next(key for key in TESTS if named.group(1).startswith(key))
-            file = TESTS[kind] + (named.group(1)[len(kind):] if kind != "io" else "") + ".rt"
+            file = TESTS[kind] + named.group(1)[len(kind):] + ".rt"
             for name in named.group(2).split(", "):
                 yield os.path.join(CRATES, file), name
         elif part.endswith(".py"):

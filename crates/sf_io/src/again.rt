@@ -1,11 +1,12 @@
-//! Reads and writes of the host. One that a signal interrupts is tried again.
+//! Reads and writes of the host, in the loops that a short or an interrupted one wants.
 
 ghost use Rattle.std.specs.Prelude.{◌≤◌, ◌<◌, length, IfOk};
 
 use crate::Failed;
 use std::io::{ErrorKind, Read, Write};
 
-/// Reads some bytes, none only at the end.
+/// Reads some bytes into the front of the piece, none only at the end or where the piece is empty; a read that
+/// a signal interrupts is tried again.
 pub fn read_some<F: Read>(file: &mut F, piece: &mut [u8]) -> Result<usize, Failed>
     ensures { IfOk result (λ n. n ≤ length piece.old) }
 {
@@ -19,7 +20,8 @@ pub fn read_some<F: Read>(file: &mut F, piece: &mut [u8]) -> Result<usize, Faile
     Err(Failed)
 }
 
-/// Writes some of the bytes. A write that takes nothing of some bytes is a fault.
+/// Writes some first bytes; a write that a signal interrupts is tried again, and one that takes nothing of some
+/// bytes is a fault.
 pub fn write_some<F: Write>(file: &mut F, bytes: &[u8]) -> Result<usize, Failed>
     ensures bound { IfOk result (λ n. n ≤ length bytes.now) }
     ensures moves { IfOk result (λ n. 0 < length bytes.now → 0 < n) }

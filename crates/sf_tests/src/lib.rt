@@ -26,6 +26,8 @@ mod gsrc;
 #[cfg(test)]
 mod incumbent;
 #[cfg(test)]
+mod io;
+#[cfg(test)]
 mod jobs;
 #[cfg(test)]
 mod lex;
