@@ -37,15 +37,10 @@ module _ (design : Design) (seed moves : ℕ) where
   before-count a (suc n) [] h = absurd h
   before-count a (suc n) (y ∷ ys) h = ap suc (before-count (a + 1) n ys h.1)
 
-  pub before-walk : (a n : ℕ) (ys : List (Option (Expr × ℕ))) (h : AllZip Better (range_with_len a n) (map (λ y. Ok y) ys)) (k : ℕ) (d : Option (Expr × ℕ)) (m : ℕ) → m ≡ a + k → k < n
-      → IsWalk design (words_of seed m) moves (slice_index_or (found-before a n ys h) k d)
-  before-walk a zero ys h k d m e b = absurd (omega (arith, b))
-  before-walk a (suc n) [] h k d m e b = absurd h
-  before-walk a (suc n) (y ∷ ys) h zero d m e b = let same : a ≡ m = omega (arith, e) in subst (λ i. IsWalk design (words_of seed i) moves h.0.was) same h.0.walk
-  before-walk a (suc n) (y ∷ ys) h (suc k) d m e b = before-walk (a + 1) n ys h.1 k d m (omega (arith, e)) (omega (arith, b))
-
-  pub before-dearer : (a n : ℕ) (ys : List (Option (Expr × ℕ))) (h : AllZip Better (range_with_len a n) (map (λ y. Ok y) ys)) (k : ℕ) (d e : Option (Expr × ℕ)) → k < n → IsNoDearer (slice_index_or (found-before a n ys h) k d) (slice_index_or ys k e)
-  before-dearer a zero ys h k d e b = absurd (omega (arith, b))
-  before-dearer a (suc n) [] h k d e b = absurd h
-  before-dearer a (suc n) (y ∷ ys) h zero d e b = h.0.no_dearer
-  before-dearer a (suc n) (y ∷ ys) h (suc k) d e b = before-dearer (a + 1) n ys h.1 k d e (omega (arith, b))
+  -- what one of them is
+  pub before-each : (a n : ℕ) (ys : List (Option (Expr × ℕ))) (h : AllZip Better (range_with_len a n) (map (λ y. Ok y) ys)) (k : ℕ) (d e : Option (Expr × ℕ)) (m : ℕ) → m ≡ a + k → k < n
+      → IsWalk design (words_of seed m) moves (slice_index_or (found-before a n ys h) k d) × IsNoDearer (slice_index_or (found-before a n ys h) k d) (slice_index_or ys k e)
+  before-each a zero ys h k d e m is b = absurd (omega (arith, b))
+  before-each a (suc n) [] h k d e m is b = absurd h
+  before-each a (suc n) (y ∷ ys) h zero d e m is b = let same : a ≡ m = omega (arith, is) in (subst (λ i. IsWalk design (words_of seed i) moves h.0.was) same h.0.walk, h.0.no_dearer)
+  before-each a (suc n) (y ∷ ys) h (suc k) d e m is b = before-each (a + 1) n ys h.1 k d e m (omega (arith, is)) (omega (arith, b))

@@ -11,13 +11,13 @@ unfoldable pub use Rattle.sf_anneal.specs.Walk.{Walks}
 pub use Rattle.sf_anneal.specs.declared.parts.Moved.{Moved}
 pub use Rattle.sf_anneal.specs.declared.parts.Parts.{Parts}
 pub use Rattle.sf_curves.proofs.Forms.{form-postfix, one-form, skewed-of_normal}
-pub use Rattle.sf_curves.proofs.Joints.{above_small, above_thin, beside_low, beside_small}
-pub use Rattle.sf_curves.proofs.Members.{AllPairs-head, AllPairs-tail, Contains-cons_cases, Contains-head, Contains-tail, not_in_nil}
-pub use Rattle.sf_curves.specs.Choices.{AreSpans, IsChoice, IsRootCurve, IsTraceOf, size_of}
+pub use Rattle.sf_curves.proofs.Joints.{IsFitting, rooms_fit, rooms_small, shared, shared_fit}
+pub use Rattle.sf_curves.proofs.Members.{Contains-head, Contains-tail, not_in_nil}
+pub use Rattle.sf_curves.specs.Choices.{AreSpans, IsChoice, IsRootCurve, IsTraceOf, TakesFrom, size_of}
 pub use Rattle.sf_curves.specs.Direction.{plan_in, size_in, token_in}
-pub use Rattle.sf_curves.specs.Points.{CoversJoins, IsCombination, IsCovered, IsJoinOf, IsLeastArea, IsLowest, IsNarrowest, IsNoLarger, IsSlimmer, IsWithin, above_size, area_of, beside_size}
+pub use Rattle.sf_curves.specs.Points.{IsCombination, IsCovered, IsJoinOf, IsLeastArea, IsLowest, IsNarrowest, IsNoLarger, IsSlimmer, IsWithin, area_of}
 pub use Rattle.sf_curves.specs.declared.direction.Direction.{Direction}
-pub use Rattle.sf_model.proofs.Each.{each-append, each-left, each-right}
+pub use Rattle.sf_model.proofs.Each.{each-append, each-left, each-right, each-weaker}
 pub use Rattle.sf_model.specs.Cost.{cost}
 pub use Rattle.sf_model.specs.Legal.{Fits, IsLegal, block_count, shapes_of}
 pub use Rattle.sf_model.specs.Spans.{shapes_in, span_in}

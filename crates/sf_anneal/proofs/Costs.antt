@@ -53,15 +53,16 @@ module _ (design : Design) (tokens : List Token) (before : ℕ → ℕ) (curve :
   root-right : IsRight design tokens (curve (length tokens))
   root-right = subst (λ ts. IsRight design ts (curve (length tokens))) (stretch-all tokens (before (length tokens)) whole) (part-right design tokens (length tokens) before curve parts (omega arith) (length tokens) some-token (omega arith))
 
-  -- a point of it lies in the outline
-  pub root-within : (p : Shape) → Contains (curve (length tokens)) p → (p.w ≤ 2 ^ 20) × (p.h ≤ 2 ^ 20)
-  root-within p here =
+  -- what the area of a point weighs, within the limits
+  pub rooms-most : (w a : ℕ) (p : Shape) → w ≡ design.weights.area → a ≡ area_of p → Contains (curve (length tokens)) p → w * a ≤ 2 ^ 16 * (2 ^ 20 * 2 ^ 20)
+  rooms-most w a p weight area here =
       let fits = All-contains (IsWithin design.outline) (curve (length tokens)) p root-right.root.within here in
-      (omega (arith, fits.0, design.limits.width.1), omega (arith, fits.1, design.limits.height.1))
-
-  -- an area within the limits
-  pub area-most : (p : Shape) → Contains (curve (length tokens)) p → area_of p ≤ 2 ^ 20 * 2 ^ 20
-  area-most p here = let fits = root-within p here in mul-le-mul fits.0 fits.1
+      let wide : p.w ≤ 2 ^ 20 = omega (arith, fits.0, design.limits.width.1) in
+      let high : p.h ≤ 2 ^ 20 = omega (arith, fits.1, design.limits.height.1) in
+      let few : p.w * p.h ≤ 2 ^ 20 * 2 ^ 20 = mul-le-mul wide high in
+      let light : w ≤ 2 ^ 16 = omega (arith, weight, design.limits.area_weight) in
+      let small : a ≤ 2 ^ 20 * 2 ^ 20 = omega (arith, area, few) in
+      mul-le-mul light small
 
   -- without points
   pub root-none : curve (length tokens) ≡ [] → IsCost design tokens MAX

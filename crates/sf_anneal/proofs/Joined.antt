@@ -1,29 +1,10 @@
 -- Root curves and traces of a block, and of two expressions that are joined.
-use Rattle.std.proofs.Common.{◌≡◌, ℕ, zero, suc, length, get_or, ◌<◌, ◌≤◌, List, [], ◌∷◌, ◌++◌, All, AllPairs, arith, refl, ap, sym, subst, ◌∙◌, inl, inr, ◌⊎◌, Contains}
-use Rattle.sf_anneal.proofs.Common.{AllByRecursion, cases_lt, All-contains, All-from_recursion, Contains-get_or, recursion_from_All, each-append, each-left, each-right, Design, Outline, Shape, shapes_in, Tree, Leaf, Beside, Above, leaves, Token, postfix, no_shape, one-form, form-postfix, above_small, beside_small, AllPairs-head, AllPairs-tail, Contains-cons_cases, Contains-head, Contains-tail, IsChoice, IsRootCurve, size_of, plan_in, size_in, token_in, CoversJoins, IsCombination, IsCovered, IsLowest, IsNarrowest, IsNoLarger, IsSlimmer, IsWithin, above_size, beside_size, Direction, whole_spans, IsBlockCurve, IsTaken}
+use Rattle.std.proofs.Common.{◌≡◌, ℕ, get_or, ◌<◌, ◌≤◌, List, [], ◌∷◌, ◌++◌, All, AllPairs, arith, refl, ap, sym, subst, ◌∙◌, inl, inr, ◌⊎◌, Contains}
+use Rattle.sf_anneal.proofs.Common.{AllByRecursion, cases_lt, All-contains, All-from_recursion, Contains-get_or, recursion_from_All, each-append, each-left, each-right, each-weaker, Design, Shape, shapes_in, Tree, Leaf, Beside, Above, leaves, Token, postfix, no_shape, one-form, form-postfix, rooms_small, shared, IsFitting, Contains-head, Contains-tail, IsChoice, IsRootCurve, TakesFrom, size_of, plan_in, size_in, token_in, IsCombination, IsCovered, IsNoLarger, IsSlimmer, Direction, whole_spans, IsBlockCurve, IsTaken}
 use Rattle.sf_polish.specs.declared.expr.Token.TheVariants as token
-use Rattle.sf_curves.proofs.Choosing.{Grows, just-sized}
+use Rattle.sf_curves.proofs.Choosing.{covers-joined, grows, just-sized}
 use Rattle.sf_curves.specs.Forms.{form}
 use Rattle.sf_curves.specs.declared.direction.Direction.TheVariants as way
-
--- a joined room grows with both
-grows : (d : Direction) → Grows (size_in d)
-grows way.Beside = record { both = λ p q r s h k. (omega (arith, h.0, k.0), omega (arith, h.1, k.1)); left = λ p q. (omega arith, omega arith); right = λ p q. (omega arith, omega arith) }
-grows way.Above = record { both = λ p q r s h k. (omega (arith, h.0, k.0), omega (arith, h.1, k.1)); left = λ p q. (omega arith, omega arith); right = λ p q. (omega arith, omega arith) }
-
--- what is no larger than a size in the outline lies in it
-smaller-within : (o : Outline) (p q : Shape) → IsNoLarger p q → IsWithin o q → IsWithin o p
-smaller-within o p q le fits = (omega (arith, le.0, fits.0), omega (arith, le.1, fits.1))
-
--- the combination of two covered sizes is covered
-covers-joined : (join : Shape → Shape → Shape) → Grows join → (o : Outline) (ls rs c : List Shape) (x y : Shape) → CoversJoins join o ls rs c → IsCovered o ls x → IsCovered o rs y → IsCovered o c (join x y)
-covers-joined join more o ls rs c x y joined left right fits =
-    let a = left (smaller-within o x (join x y) (more.left x y) fits) in
-    let b = right (smaller-within o y (join x y) (more.right x y) fits) in
-    let small = more.both a.1 b.1 x y a.4 b.4 in
-    let first = All-contains (λ p. All (λ q. IsCovered o c (join p q)) rs) ls a.1 joined (a.0, a.2, a.3) in
-    let found = All-contains (λ q. IsCovered o c (join a.1 q)) rs b.1 first (b.0, b.2, b.3) (smaller-within o (join a.1 b.1) (join x y) small fits) in
-    (found.0, found.1, found.2, found.3, (omega (arith, found.4.0, small.0), omega (arith, found.4.1, small.1)))
 
 -- a plan with the tokens of two joined ones is joined from plans with their tokens
 record IsJoinedFrom (d : Direction) (l r t : Tree) : Type 0 where
@@ -161,104 +142,58 @@ module _ (design : Design) where
   pub taken-block : (b : ℕ) (points : List Shape) (p : Shape) → IsBlockCurve design b points → Contains points p → IsTaken design (token.Block b ∷ []) p (Leaf b p)
   taken-block b points p h c = record { choice = leaf-choice b points p h c; sized = refl; takes = refl }
 
-  -- two rooms side by side take their narrowest points
-  pub taken-beside : (ls rs : List Token) (ps qs points : List Shape) (p q t : Shape) (x y : Tree) → IsRight ls ps → IsRight rs qs → IsCombination beside_size design.outline ps qs points → AllPairs IsSlimmer points → Contains points p
-      → IsNarrowest p.h ps q → IsNarrowest p.h qs t → IsTaken design ls q x → IsTaken design rs t y → IsTaken design (joined_tokens way.Beside ls rs) p (Beside x y)
-  taken-beside ls rs ps qs points p q t x y a b comb falls c nl nr l r =
+  -- joined plans take points that fit
+  takes-joined : (d : Direction) (ps qs : List Shape) (p q t : Shape) (x y : Tree) → IsRootCurve design (postfix x) (whole_spans design) ps → IsRootCurve design (postfix y) (whole_spans design) qs → IsFitting d p ps q → IsFitting d p qs t
+      → TakesFrom design (whole_spans design) x q → TakesFrom design (whole_spans design) y t → TakesFrom design (whole_spans design) (plan_in d x y) p
+  takes-joined way.Beside ps qs p q t x y a b fl fr l r = (q, t, record { points = ps; curve = a; narrowest = fl }, record { points = qs; curve = b; narrowest = fr }, l, r)
+  takes-joined way.Above ps qs p q t x y a b fl fr l r = (q, t, record { points = ps; curve = a; lowest = fl }, record { points = qs; curve = b; lowest = fr }, l, r)
+
+  -- two joined rooms take such points
+  pub taken-joined : (d : Direction) (ls rs : List Token) (ps qs points : List Shape) (p q t : Shape) (x y : Tree) → IsRight ls ps → IsRight rs qs → IsCombination (size_in d) design.outline ps qs points → AllPairs IsSlimmer points → Contains points p
+      → IsFitting d p ps q → IsFitting d p qs t → IsTaken design ls q x → IsTaken design rs t y → IsTaken design (joined_tokens d ls rs) p (plan_in d x y)
+  taken-joined d ls rs ps qs points p q t x y a b comb falls c fl fr l r =
       let spans = whole_spans design in
-      let choice = choice-joined way.Beside ls rs x y l.choice r.choice in
-      let root = (right-joined way.Beside ls rs ps qs points a b comb falls).root in
+      let choice = choice-joined d ls rs x y l.choice r.choice in
+      let root = (right-joined d ls rs ps qs points a b comb falls).root in
       let first : IsNoLarger (size_of x) q = subst (λ v. IsNoLarger v q) (sym l.sized) (omega arith, omega arith) in
       let second : IsNoLarger (size_of y) t = subst (λ v. IsNoLarger v t) (sym r.sized) (omega arith, omega arith) in
       record {
         choice = choice;
-        sized = just-sized design (joined_tokens way.Beside ls rs) spans points p (Beside x y) root c choice (beside_small ps qs points p q t (size_of x) (size_of y) comb.traced c nl nr first second);
-        takes = (
-          q,
-          t,
-          record { points = ps; curve = subst (λ ts. IsRootCurve design ts spans ps) (sym l.choice.tokens) a.root; narrowest = nl },
-          record { points = qs; curve = subst (λ ts. IsRootCurve design ts spans qs) (sym r.choice.tokens) b.root; narrowest = nr },
-          l.takes,
-          r.takes,
-        );
+        sized = just-sized design (joined_tokens d ls rs) spans points p (plan_in d x y) root c choice
+            (subst (λ v. IsNoLarger v p) (sym (joined-size d x y)) (rooms_small d ps qs points p q t (size_of x) (size_of y) comb.traced c fl fr first second));
+        takes = takes-joined d ps qs p q t x y (subst (λ ts. IsRootCurve design ts spans ps) (sym l.choice.tokens) a.root) (subst (λ ts. IsRootCurve design ts spans qs) (sym r.choice.tokens) b.root) fl fr l.takes r.takes;
       }
 
-  -- two rooms one above the other take their lowest points
-  pub taken-above : (ls rs : List Token) (ps qs points : List Shape) (p q t : Shape) (x y : Tree) → IsRight ls ps → IsRight rs qs → IsCombination above_size design.outline ps qs points → AllPairs IsSlimmer points → Contains points p
-      → IsLowest p.w ps q → IsLowest p.w qs t → IsTaken design ls q x → IsTaken design rs t y → IsTaken design (joined_tokens way.Above ls rs) p (Above x y)
-  taken-above ls rs ps qs points p q t x y a b comb falls c nl nr l r =
-      let spans = whole_spans design in
-      let choice = choice-joined way.Above ls rs x y l.choice r.choice in
-      let root = (right-joined way.Above ls rs ps qs points a b comb falls).root in
-      let first : IsNoLarger (size_of x) q = subst (λ v. IsNoLarger v q) (sym l.sized) (omega arith, omega arith) in
-      let second : IsNoLarger (size_of y) t = subst (λ v. IsNoLarger v t) (sym r.sized) (omega arith, omega arith) in
-      record {
-        choice = choice;
-        sized = just-sized design (joined_tokens way.Above ls rs) spans points p (Above x y) root c choice (above_small ps qs points p q t (size_of x) (size_of y) comb.traced c nl nr first second);
-        takes = (
-          q,
-          t,
-          record { points = ps; curve = subst (λ ts. IsRootCurve design ts spans ps) (sym l.choice.tokens) a.root; lowest = nl },
-          record { points = qs; curve = subst (λ ts. IsRootCurve design ts spans qs) (sym r.choice.tokens) b.root; lowest = nr },
-          l.takes,
-          r.takes,
-        );
-      }
+-- the point that fits is on the curve
+pub fitting-found : (d : Direction) (p : Shape) (points : List Shape) (q : Shape) → IsFitting d p points q → Contains points q
+fitting-found way.Beside p points q fit = fit.found
+fitting-found way.Above p points q fit = fit.found
 
--- a curve with a point no higher than the limit has a narrowest one
-pub some-narrowest : (limit : ℕ) (points : List Shape) (l : Shape) → AllPairs IsSlimmer points → Contains points l → l.h ≤ limit → (q : Shape) × IsNarrowest limit points q
-some-narrowest limit [] l falls c low = absurd (omega (arith, c.1))
-some-narrowest limit (x ∷ xs) l falls c low = elim (cases_lt limit x.h) [
-  | inl high ↦ elim (Contains-cons_cases x xs l c) [
-    | inl same ↦ absurd (omega (arith, high, low, ap (λ v. v.h) same))
-    | inr there ↦ (let r = some-narrowest limit xs l (AllPairs-tail IsSlimmer x xs falls) there low in (
-      r.0,
-      record {
-        found = Contains-tail x xs r.0 r.1.found;
-        low = r.1.low;
-        least = All-from_recursion (λ q. q.h ≤ limit → r.0.w ≤ q.w) (x ∷ xs) (λ h. absurd (omega (arith, high, h)), recursion_from_All (λ q. q.h ≤ limit → r.0.w ≤ q.w) xs r.1.least);
-      },
-    ))
+-- all points are longer on one side than the limit, or one of the others is the least on the other side
+least-below : (side other : Shape → ℕ) (limit : ℕ) (points : List Shape) → AllByRecursion (λ q. limit < side q) points ⊎ ((p : Shape) × Contains points p × (side p ≤ limit) × AllByRecursion (λ q. side q ≤ limit → other p ≤ other q) points)
+least-below side other limit [] = inl tt
+least-below side other limit (x ∷ xs) = elim (least-below side other limit xs) [
+  | inl none ↦ elim (cases_lt limit (side x)) [
+    | inl long ↦ inl (long, none)
+    | inr fits ↦ inr (x, Contains-head x xs, fits, (λ h. omega arith, each-weaker (λ q. limit < side q) (λ q. side q ≤ limit → other x ≤ other q) (λ q long h. absurd (omega (arith, long, h))) xs none))
   ]
-  | inr lies ↦ (x, record { found = Contains-head x xs; low = lies; least = λ k d lt h. first-least k d lt })
-]
-  where
-    first-least : (k : ℕ) (d : Shape) → k < length (x ∷ xs) → x.w ≤ (get_or (x ∷ xs) k d).w
-    first-least zero d lt = omega arith
-    first-least (suc k) d lt = let f = falls 0 (suc k) d (omega arith) lt in omega (arith, f.0)
-
--- none of the points is so narrow, or one is the lowest of those that are
-no-lowest : (limit : ℕ) (points : List Shape) → AllPairs IsSlimmer points → AllByRecursion (λ q. limit < q.w) points ⊎ ((q : Shape) × IsLowest limit points q)
-no-lowest limit [] falls = inl tt
-no-lowest limit (x ∷ xs) falls = elim (no-lowest limit xs (AllPairs-tail IsSlimmer x xs falls)) [
-  | inl none ↦ elim (cases_lt limit x.w) [
-    | inl wide ↦ inl (wide, none)
-    | inr thin ↦ inr (
-      x,
-      record {
-        found = Contains-head x xs;
-        narrow = thin;
-        least = All-from_recursion (λ q. q.w ≤ limit → x.h ≤ q.h) (x ∷ xs) (λ h. omega arith, each-wide x xs none);
-      },
-    )
+  | inr r ↦ elim (cases_lt limit (side x)) [
+    | inl long ↦ inr (r.0, Contains-tail x xs r.0 r.1, r.2, (λ h. absurd (omega (arith, long, h)), r.3))
+    | inr fits ↦ elim (cases_lt (other r.0) (other x)) [
+      | inl less ↦ inr (r.0, Contains-tail x xs r.0 r.1, r.2, (λ h. omega (arith, less), r.3))
+      | inr more ↦ inr (x, Contains-head x xs, fits, (λ h. omega arith, each-weaker (λ q. side q ≤ limit → other r.0 ≤ other q) (λ q. side q ≤ limit → other x ≤ other q) (λ q f h. let le = f h in omega (arith, le, more)) xs r.3))
+    ]
   ]
-  | inr r ↦ inr (
-    r.0,
-    record {
-      found = Contains-tail x xs r.0 r.1.found;
-      narrow = r.1.narrow;
-      least = All-from_recursion (λ q. q.w ≤ limit → r.0.h ≤ q.h) (x ∷ xs) (λ h. (let f = AllPairs-head IsSlimmer x xs r.0 falls r.1.found in omega (arith, f.1)), recursion_from_All (λ q. q.w ≤ limit → r.0.h ≤ q.h) xs r.1.least);
-    },
-  )
 ]
-  where
-    each-wide : (p : Shape) (ys : List Shape) → AllByRecursion (λ q. limit < q.w) ys → AllByRecursion (λ q. q.w ≤ limit → p.h ≤ q.h) ys
-    each-wide p [] h = tt
-    each-wide p (y ∷ ys) h = (λ k. absurd (omega (arith, h.0, k)), each-wide p ys h.1)
 
--- a curve with a point no wider than the limit has a lowest one
-pub some-lowest : (limit : ℕ) (points : List Shape) (l : Shape) → AllPairs IsSlimmer points → Contains points l → l.w ≤ limit → (q : Shape) × IsLowest limit points q
-some-lowest limit points l falls c thin = elim (no-lowest limit points falls) [
-  | inl none ↦ (let wide = All-contains (λ q. limit < q.w) points l (All-from_recursion (λ q. limit < q.w) points none) c in absurd (omega (arith, wide, thin)))
-  | inr r ↦ r
+-- where a point is within the limit, so is the least one
+some-least : (side other : Shape → ℕ) (limit : ℕ) (points : List Shape) (l : Shape) → Contains points l → side l ≤ limit → (p : Shape) × Contains points p × (side p ≤ limit) × All (λ q. side q ≤ limit → other p ≤ other q) points
+some-least side other limit points l c low = elim (least-below side other limit points) [
+  | inl none ↦ (let long = All-contains (λ q. limit < side q) points l (All-from_recursion (λ q. limit < side q) points none) c in absurd (omega (arith, long, low)))
+  | inr r ↦ (r.0, r.1, r.2, All-from_recursion (λ q. side q ≤ limit → other r.0 ≤ other q) points r.3)
 ]
+
+-- a curve with a point that is short enough for a room has one that fits it
+pub some-fitting : (d : Direction) (p : Shape) (points : List Shape) (l : Shape) → Contains points l → shared d l ≤ shared d p → (q : Shape) × IsFitting d p points q
+some-fitting way.Beside p points l c low = let r = some-least (λ v. v.h) (λ v. v.w) p.h points l c low in (r.0, record { found = r.1; low = r.2; least = r.3 })
+some-fitting way.Above p points l c low = let r = some-least (λ v. v.w) (λ v. v.h) p.w points l c low in (r.0, record { found = r.1; narrow = r.2; least = r.3 })

@@ -2,24 +2,6 @@
 use Rattle.std.proofs.Common.{◌≡◌, ℕ, zero, suc, ◌<◌, ◌≤◌, List, [], ◌∷◌, length, Bool, true, false, refl, ap, sym, subst, ◌∙◌, inl, inr, arith, ◌⊎◌, Option, Some, None, IfSome, Contains, fold, nat_lt, slice_index_or, if◌then◌else◌}
 use Rattle.sf_anneal.proofs.Common.{ltb-true, ltb-false, get_or_default, Contains-head, Contains-tail, Expr, IsNoDearer, first_least, lesser}
 
--- what holds of both holds of the lesser
-lesser-one : (P : Expr × ℕ → Type 0) (a b : Option (Expr × ℕ)) → IfSome a P → IfSome b P → IfSome (lesser a b) P
-lesser-one P None b p q = q
-lesser-one P (Some a) None p q = p
-lesser-one P (Some a) (Some b) p q = by_test (nat_lt b.1 a.1)
-  where
-    by_test : (x : Bool) → IfSome (if x then Some b else Some a) P
-    by_test true = q
-    by_test false = p
-
-fold-one : (P : Expr × ℕ → Type 0) (a : Option (Expr × ℕ)) (xs : List (Option (Expr × ℕ))) → IfSome a P → ((k : ℕ) (d : Option (Expr × ℕ)) → k < length xs → IfSome (slice_index_or xs k d) P) → IfSome (fold lesser a xs) P
-fold-one P a [] p h = p
-fold-one P a (x ∷ xs) p h = fold-one P (lesser a x) xs (lesser-one P a x p (h 0 x (omega arith))) (λ k d b. h (suc k) d (omega (arith, b)))
-
--- what holds of each result holds of the least
-pub least-one : (P : Expr × ℕ → Type 0) (xs : List (Option (Expr × ℕ))) → ((k : ℕ) (d : Option (Expr × ℕ)) → k < length xs → IfSome (slice_index_or xs k d) P) → IfSome (first_least xs) P
-least-one P xs h = fold-one P None xs tt h
-
 -- the second is a result of no greater cost where the first is one
 abbrev pub CostsNoLess : Option (Expr × ℕ) → Option (Expr × ℕ) → Type 0
 CostsNoLess a b = (q : Expr × ℕ) → a ≡ Some q → (p : Expr × ℕ) × (b ≡ Some p) × (p.1 ≤ q.1)
@@ -84,6 +66,14 @@ fold-among a (x ∷ xs) = elim (fold-among (lesser a x) xs) [
 -- the least is one of the results
 pub least-among : (xs : List (Option (Expr × ℕ))) (p : Expr × ℕ) → first_least xs ≡ Some p → Contains xs (Some p)
 least-among xs p e = elim (fold-among None xs) [ inl f ↦ absurd (let z : None ≡ Some p = sym f ∙ e in cc) | inr c ↦ subst (Contains xs) e c ]
+
+-- what holds of each result holds of the least
+pub least-one : (P : Expr × ℕ → Type 0) (xs : List (Option (Expr × ℕ))) → ((k : ℕ) (d : Option (Expr × ℕ)) → k < length xs → IfSome (slice_index_or xs k d) P) → IfSome (first_least xs) P
+least-one P xs h = by_least (first_least xs) refl
+  where
+    by_least : (r : Option (Expr × ℕ)) → first_least xs ≡ r → IfSome r P
+    by_least None e = tt
+    by_least (Some p) e = let c = least-among xs p e in subst (λ r. IfSome r P) c.2 (h c.0 (Some p) c.1)
 
 -- where all results are none the least is
 least-none : (xs : List (Option (Expr × ℕ))) → ((k : ℕ) → k < length xs → slice_index_or xs k None ≡ None) → first_least xs ≡ None

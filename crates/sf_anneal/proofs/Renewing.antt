@@ -41,7 +41,7 @@ joint-part : (design : Design) (before : ℕ → ℕ) (curve : ℕ → List Shap
 joint-part design before curve k way.Beside p = p
 joint-part design before curve k way.Above p = p
 
-part-joint : (design : Design) (before : ℕ → ℕ) (curve : ℕ → List Shape) (k : ℕ) (d : Direction) → IsPart design before curve k (token_in d) → IsJointPart (size_in d) design.outline (before k) (before (before k)) (before (k + 1)) (curve (before k)) (curve k) (curve (k + 1))
+pub part-joint : (design : Design) (before : ℕ → ℕ) (curve : ℕ → List Shape) (k : ℕ) (d : Direction) → IsPart design before curve k (token_in d) → IsJointPart (size_in d) design.outline (before k) (before (before k)) (before (k + 1)) (curve (before k)) (curve k) (curve (k + 1))
 part-joint design before curve k way.Beside p = p
 part-joint design before curve k way.Above p = p
 
@@ -104,15 +104,13 @@ module _ (design : Design) (blocks : List (List Shape)) (now : Parts) (known tok
       → AreRenewed design blocks now next' known tokens (k + 1)
   renewed-block n next next' k b fresh normal lt r room_b room_f eb ef ec at curve same =
       let back : k + 1 - 1 ≡ k = omega arith in
+      let here : moved_curve blocks now next' tokens (k + 1) ≡ slice_index_or blocks b [] =
+      ap (λ t. curve_by blocks t (chosen_curve now next' (slice_index_or next'.fresh.items (k + 1) false) (k + 1))) (ap (token_at tokens) back ∙ at) in
       renewed-more next next' k k fresh r room_b room_f eb ef (λ j h. ap (λ v. kept_in v j) ec) (omega arith)
       (λ at_b at_f kb kc. (
-        let here : moved_curve blocks now next' tokens (k + 1) ≡ slice_index_or blocks b [] =
-            ap (λ t. curve_by blocks t (chosen_curve now next' (slice_index_or next'.fresh.items (k + 1) false) (k + 1))) (ap (token_at tokens) back ∙ at) in
-            subst (IsPart design (before_in next'.before.items) (moved_curve blocks now next' tokens) k) (sym at) (record { stands = at_b; curve = subst (IsBlockCurve design b) (sym here) curve }),
+        subst (IsPart design (before_in next'.before.items) (moved_curve blocks now next' tokens) k) (sym at) (record { stands = at_b; curve = subst (IsBlockCurve design b) (sym here) curve }),
         λ flag. (
             let old = same flag in
-            let here : moved_curve blocks now next' tokens (k + 1) ≡ slice_index_or blocks b [] =
-            ap (λ t. curve_by blocks t (chosen_curve now next' (slice_index_or next'.fresh.items (k + 1) false) (k + 1))) (ap (token_at tokens) back ∙ at) in
             let there : known_curve blocks now known (k + 1) ≡ slice_index_or blocks b [] = ap (λ t. curve_by blocks t (kept_in now.curves.items (k + 1))) (ap (token_at known) back ∙ old.1) in
             (omega (arith, old.0), here ∙ sym there)),
       ))
@@ -136,16 +134,16 @@ module _ (design : Design) (blocks : List (List Shape)) (now : Parts) (known tok
   renewed-joint n next next' k d fresh normal lt r room_b room_f eb ef ec at sizes falls same =
       let back : k + 1 - 1 ≡ k = omega arith in
       let left = before_in next.before.items k in
+      let made : slice_index_or next'.fresh.items (k + 1) false ≡ fresh → moved_curve blocks now next' tokens (k + 1) ≡ chosen_curve now next' fresh (k + 1) =
+      λ at_f. ap (λ t. curve_by blocks t (chosen_curve now next' (slice_index_or next'.fresh.items (k + 1) false) (k + 1))) (ap (token_at tokens) back ∙ at)
+      ∙ joint-curve blocks d (chosen_curve now next' (slice_index_or next'.fresh.items (k + 1) false) (k + 1)) ∙ ap (λ f. chosen_curve now next' f (k + 1)) at_f in
       let operator : is_operand (token_at tokens k) ≡ false = ap is_operand at ∙ joint-operator d in
       let lower = r.parts.lower k (omega arith) in
       let some : 1 ≤ left = joint-some n next k d normal lt r at in
       let beneath = r.parts.lower left (omega (arith, lower)) in
       renewed-more next next' k (before_in next.before.items left) fresh r room_b room_f eb ef ec (omega (arith, beneath, lower))
-      (λ at_b at_f kb kc. (
-        let here : moved_curve blocks now next' tokens (k + 1) ≡ chosen_curve now next' fresh (k + 1) =
-            ap (λ t. curve_by blocks t (chosen_curve now next' (slice_index_or next'.fresh.items (k + 1) false) (k + 1))) (ap (token_at tokens) back ∙ at)
-            ∙ joint-curve blocks d (chosen_curve now next' (slice_index_or next'.fresh.items (k + 1) false) (k + 1)) ∙ ap (λ f. chosen_curve now next' f (k + 1)) at_f in
-            let same_left : left ≡ before_in next'.before.items k = kb k (omega arith) in
+      (λ at_b at_f kb kc. let here = made at_f in (
+        let same_left : left ≡ before_in next'.before.items k = kb k (omega arith) in
             let joint : IsJointPart (size_in d) design.outline left (before_in next.before.items left) (before_in next.before.items left) (moved_curve blocks now next tokens left) (moved_curve blocks now next tokens k) (chosen_curve now next' fresh (k + 1)) =
             record { some = some; stands = refl; sizes = sizes; falls = falls } in
             subst (IsPart design (before_in next'.before.items) (moved_curve blocks now next' tokens) k) (sym at)
@@ -155,9 +153,6 @@ module _ (design : Design) (blocks : List (List Shape)) (now : Parts) (known tok
             same_left (kb left (omega (arith, lower)) ∙ ap (before_in next'.before.items) same_left) (sym at_b) (kc left (omega (arith, lower)) ∙ ap (moved_curve blocks now next' tokens) same_left) (kc k (omega arith)) (sym here) joint)),
         λ flag. (
             let old = same flag in
-            let here : moved_curve blocks now next' tokens (k + 1) ≡ chosen_curve now next' fresh (k + 1) =
-            ap (λ t. curve_by blocks t (chosen_curve now next' (slice_index_or next'.fresh.items (k + 1) false) (k + 1))) (ap (token_at tokens) back ∙ at)
-            ∙ joint-curve blocks d (chosen_curve now next' (slice_index_or next'.fresh.items (k + 1) false) (k + 1)) ∙ ap (λ f. chosen_curve now next' f (k + 1)) at_f in
             let there : known_curve blocks now known (k + 1) ≡ kept_in now.curves.items (k + 1) =
             ap (λ t. curve_by blocks t (kept_in now.curves.items (k + 1))) (ap (token_at known) back ∙ old.1) ∙ joint-curve blocks d (kept_in now.curves.items (k + 1)) in
             (omega (arith, old.0), here ∙ ap (λ f. chosen_curve now next' f (k + 1)) flag ∙ sym there)),
@@ -165,12 +160,13 @@ module _ (design : Design) (blocks : List (List Shape)) (now : Parts) (known tok
       (omega (arith, level-joint n tokens normal k lt operator, r.levels k (omega (arith, some, lower)) (omega arith), r.levels left some (omega (arith, lower))))
 
   -- a joint of the same parts has the known curve
-  pub known-joint : (next : Moved) (k : ℕ) (d : Direction) → AreKnown design blocks now known → AreRenewed design blocks now next known tokens k → 1 ≤ before_in next.before.items k → k < length known → token_at known k ≡ token_in d
+  pub known-joint : (n : ℕ) (next : Moved) (k : ℕ) (d : Direction) → IsNormal n tokens → k < length tokens → token_at tokens k ≡ token_in d → AreKnown design blocks now known → AreRenewed design blocks now next known tokens k → k < length known → token_at known k ≡ token_in d
       → before_in now.before.items k ≡ before_in next.before.items k → slice_index_or next.fresh.items (before_in next.before.items k) false ≡ false → slice_index_or next.fresh.items k false ≡ false
       → IsCombination (size_in d) design.outline (moved_curve blocks now next tokens (before_in next.before.items k)) (moved_curve blocks now next tokens k) (kept_in now.curves.items (k + 1)) × AllPairs IsSlimmer (kept_in now.curves.items (k + 1))
-  known-joint next k d parts r some lt at same left right =
+  known-joint n next k d normal inside op parts r lt at same left right =
       let back : k + 1 - 1 ≡ k = omega arith in
       let lower = r.parts.lower k (omega arith) in
+      let some = joint-some n next k d normal inside r op in
       let joint = part-joint design (before_in now.before.items) (known_curve blocks now known) k d (subst (IsPart design (before_in now.before.items) (known_curve blocks now known) k) at (parts.each k lt)) in
       let there : known_curve blocks now known (k + 1) ≡ kept_in now.curves.items (k + 1) =
       ap (λ t. curve_by blocks t (kept_in now.curves.items (k + 1))) (ap (token_at known) back ∙ at) ∙ joint-curve blocks d (kept_in now.curves.items (k + 1)) in

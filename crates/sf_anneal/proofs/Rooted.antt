@@ -1,9 +1,9 @@
 -- The parts of an expression have their root curves, and plans of each size on them.
 use Rattle.std.proofs.Common.{◌≡◌, ℕ, zero, suc, ◌+◌, ◌-◌, ◌<◌, ◌≤◌, List, [], ◌∷◌, ◌++◌, length, take, drop, get_or, arith, refl, ap, sym, subst, ◌∙◌, Contains}
-use Rattle.sf_anneal.proofs.Common.{drop-cons, drop-nil, take-add, take-suc, get_or-drop, length-drop, All-contains, Design, Shape, Tree, Leaf, Beside, Above, Token, IsJoinOf, above_size, beside_size, AreParts, IsPart, IsTaken, stretch, token_at}
+use Rattle.sf_anneal.proofs.Common.{drop-cons, drop-nil, take-add, take-suc, get_or-drop, length-drop, All-contains, Design, Shape, Tree, Leaf, Token, Direction, IsJoinOf, plan_in, shared_fit, size_in, token_in, AreParts, IsJointPart, IsPart, IsTaken, stretch, token_at}
 use Rattle.sf_polish.specs.declared.expr.Token.TheVariants as token
 use Rattle.sf_curves.specs.declared.direction.Direction.TheVariants as way
-use Rattle.sf_anneal.proofs.Joined.{IsRight, joined_tokens, right-block, right-joined, some-lowest, some-narrowest, taken-above, taken-beside, taken-block}
+use Rattle.sf_anneal.proofs.Joined.{IsRight, joined_tokens, right-block, right-joined, fitting-found, some-fitting, taken-block, taken-joined}
 
 -- what is dropped in two steps
 drop-twice : {X : Type 0} (a m : ℕ) (l : List X) → drop (a + m) l ≡ drop m (drop a l)
@@ -40,14 +40,8 @@ module _ (design : Design) (tokens : List Token) (count : ℕ) (before : ℕ →
   own k = stretch tokens (before k) k
 
   -- the tokens of a joint
-  pub own-beside : (k : ℕ) → k < count → before (k + 1) ≡ before (before k) → token_at tokens k ≡ token.Beside → joined_tokens way.Beside (own (before k)) (own k) ≡ own (k + 1)
-  own-beside k lt stands at =
-      let low = parts.lower k (omega (arith, lt)) in
-      let lower = parts.lower (before k) (omega (arith, lt, low)) in
-      ap (λ t. own (before k) ++ own k ++ t ∷ []) (sym at) ∙ stretch-two tokens (before (before k)) (before k) k (omega (arith, lower)) (omega (arith, low)) (omega (arith, lt, few)) ∙ ap (λ v. stretch tokens v (k + 1)) (sym stands)
-
-  pub own-above : (k : ℕ) → k < count → before (k + 1) ≡ before (before k) → token_at tokens k ≡ token.Above → joined_tokens way.Above (own (before k)) (own k) ≡ own (k + 1)
-  own-above k lt stands at =
+  pub own-joint : (d : Direction) (k : ℕ) → k < count → before (k + 1) ≡ before (before k) → token_at tokens k ≡ token_in d → joined_tokens d (own (before k)) (own k) ≡ own (k + 1)
+  own-joint d k lt stands at =
       let low = parts.lower k (omega (arith, lt)) in
       let lower = parts.lower (before k) (omega (arith, lt, low)) in
       ap (λ t. own (before k) ++ own k ++ t ∷ []) (sym at) ∙ stretch-two tokens (before (before k)) (before k) k (omega (arith, lower)) (omega (arith, low)) (omega (arith, lt, few)) ∙ ap (λ v. stretch tokens v (k + 1)) (sym stands)
@@ -55,78 +49,65 @@ module _ (design : Design) (tokens : List Token) (count : ℕ) (before : ℕ →
   pub own-block : (k b : ℕ) → k < count → before (k + 1) ≡ k → token_at tokens k ≡ token.Block b → token.Block b ∷ [] ≡ own (k + 1)
   own-block k b lt stands at = sym (stretch-one tokens k (before (k + 1)) (omega (arith, lt, few)) stands ∙ ap (λ t. t ∷ []) at)
 
+  -- the joint of a part and the one behind it
+  abbrev IsJoint : Direction → ℕ → Type 0
+  IsJoint d k = IsJointPart (size_in d) design.outline (before k) (before (before k)) (before (k + 1)) (curve (before k)) (curve k) (curve (k + 1))
+
   -- a part has its root curve where all before it have
+  right-joint : (d : Direction) (k : ℕ) → k < count → ((i : ℕ) → 1 ≤ i → i ≤ k → IsRight design (own i) (curve i)) → token_at tokens k ≡ token_in d → IsJoint d k → IsRight design (own (k + 1)) (curve (k + 1))
+  right-joint d k lt each at p =
+      let low = parts.lower k (omega (arith, lt)) in
+      subst (λ ts. IsRight design ts (curve (k + 1))) (own-joint d k lt p.stands at)
+      (right-joined design d (own (before k)) (own k) (curve (before k)) (curve k) (curve (k + 1)) (each (before k) p.some (omega (arith, low))) (each k (omega (arith, low, p.some)) (omega arith)) p.sizes p.falls)
+
   right-behind : (k : ℕ) → k < count → ((i : ℕ) → 1 ≤ i → i ≤ k → IsRight design (own i) (curve i)) → (t : Token) → token_at tokens k ≡ t → IsPart design before curve k t → IsRight design (own (k + 1)) (curve (k + 1))
-  right-behind k lt each token.Beside at p =
-      let low = parts.lower k (omega (arith, lt)) in
-      subst (λ ts. IsRight design ts (curve (k + 1))) (own-beside k lt p.stands at)
-      (right-joined design way.Beside (own (before k)) (own k) (curve (before k)) (curve k) (curve (k + 1)) (each (before k) p.some (omega (arith, low))) (each k (omega (arith, low, p.some)) (omega arith)) p.sizes p.falls)
-  right-behind k lt each token.Above at p =
-      let low = parts.lower k (omega (arith, lt)) in
-      subst (λ ts. IsRight design ts (curve (k + 1))) (own-above k lt p.stands at)
-      (right-joined design way.Above (own (before k)) (own k) (curve (before k)) (curve k) (curve (k + 1)) (each (before k) p.some (omega (arith, low))) (each k (omega (arith, low, p.some)) (omega arith)) p.sizes p.falls)
+  right-behind k lt each token.Beside at p = right-joint way.Beside k lt each at p
+  right-behind k lt each token.Above at p = right-joint way.Above k lt each at p
   right-behind k lt each (token.Block b) at p =
       subst (λ ts. IsRight design ts (curve (k + 1))) (own-block k b lt p.stands at) (right-block design b (curve (k + 1)) p.curve)
 
-  -- each part has its root curve
-  part-right-in : (f k : ℕ) → k ≤ f → 1 ≤ k → k ≤ count → IsRight design (own k) (curve k)
-  part-right-in zero k le some h = absurd (omega (arith, le, some))
-  part-right-in (suc f) zero le some h = absurd (omega (arith, some))
-  part-right-in (suc f) (suc k) le some h =
+  -- what holds of a part where it holds of all before it holds of each
+  each-part : (P : ℕ → Type 0) → ((k : ℕ) → k < count → ((i : ℕ) → 1 ≤ i → i ≤ k → P i) → P (k + 1)) → (f k : ℕ) → k ≤ f → 1 ≤ k → k ≤ count → P k
+  each-part P next zero k le some h = absurd (omega (arith, le, some))
+  each-part P next (suc f) zero le some h = absurd (omega (arith, some))
+  each-part P next (suc f) (suc k) le some h =
       let one : k + 1 ≡ suc k = omega arith in
-      subst (λ v. IsRight design (own v) (curve v)) one
-      (right-behind k (omega (arith, h)) (λ i some' le'. part-right-in f i (omega (arith, le, le')) some' (omega (arith, le', h))) (token_at tokens k) refl (parts.each k (omega (arith, h))))
+      subst P one (next k (omega (arith, h)) (λ i some' le'. each-part P next f i (omega (arith, le, le')) some' (omega (arith, le', h))))
 
+  -- each part has its root curve
   pub part-right : (k : ℕ) → 1 ≤ k → k ≤ count → IsRight design (own k) (curve k)
-  part-right k some h = part-right-in k k (omega arith) some h
+  part-right k some h = each-part (λ v. IsRight design (own v) (curve v)) (λ i lt each. right-behind i lt each (token_at tokens i) refl (parts.each i lt)) k k (omega arith) some h
 
   -- some plan of a part has this size
   abbrev pub HasTaken : ℕ → Shape → Type 0
   HasTaken k p = (t : Tree) × IsTaken design (own k) p t
 
   -- a part has a plan of each size on its curve where all before it have
+  taken-joint : (d : Direction) (k : ℕ) (p : Shape) → k < count → Contains (curve (k + 1)) p → ((i : ℕ) (q : Shape) → 1 ≤ i → i ≤ k → Contains (curve i) q → HasTaken i q) → token_at tokens k ≡ token_in d → IsJoint d k → HasTaken (k + 1) p
+  taken-joint d k p lt here each at part =
+      let low = parts.lower k (omega (arith, lt)) in
+      let ls = curve (before k) in
+      let rs = curve k in
+      let first = part-right (before k) part.some (omega (arith, low, lt)) in
+      let second = part-right k (omega (arith, low, part.some)) (omega (arith, lt)) in
+      let j = All-contains (IsJoinOf (size_in d) ls rs) (curve (k + 1)) p part.sizes.traced here in
+      let fit = shared_fit d j.0 j.1 p j.4 in
+      let q = some-fitting d p ls j.0 j.2 fit.0 in
+      let t = some-fitting d p rs j.1 j.3 fit.1 in
+      let l = each (before k) q.0 part.some (omega (arith, low)) (fitting-found d p ls q.0 q.1) in
+      let r = each k t.0 (omega (arith, low, part.some)) (omega arith) (fitting-found d p rs t.0 t.1) in (
+        plan_in d l.0 r.0,
+        subst (λ ts. IsTaken design ts p (plan_in d l.0 r.0)) (own-joint d k lt part.stands at)
+            (taken-joined design d (own (before k)) (own k) ls rs (curve (k + 1)) p q.0 t.0 l.0 r.0 first second part.sizes part.falls here q.1 t.1 l.1 r.1),
+      )
+
   taken-behind : (k : ℕ) (p : Shape) → k < count → Contains (curve (k + 1)) p → ((i : ℕ) (q : Shape) → 1 ≤ i → i ≤ k → Contains (curve i) q → HasTaken i q) → (t : Token) → token_at tokens k ≡ t → IsPart design before curve k t → HasTaken (k + 1) p
-  taken-behind k p lt here each token.Beside at part =
-      let low = parts.lower k (omega (arith, lt)) in
-      let ls = curve (before k) in
-      let rs = curve k in
-      let first = part-right (before k) part.some (omega (arith, low, lt)) in
-      let second = part-right k (omega (arith, low, part.some)) (omega (arith, lt)) in
-      let j = All-contains (IsJoinOf beside_size ls rs) (curve (k + 1)) p part.sizes.traced here in
-      let q = some-narrowest p.h ls j.0 first.root.falls j.2 (omega (arith, ap (λ v. v.h) j.4)) in
-      let t = some-narrowest p.h rs j.1 second.root.falls j.3 (omega (arith, ap (λ v. v.h) j.4)) in
-      let l = each (before k) q.0 part.some (omega (arith, low)) q.1.found in
-      let r = each k t.0 (omega (arith, low, part.some)) (omega arith) t.1.found in (
-        Beside l.0 r.0,
-        subst (λ ts. IsTaken design ts p (Beside l.0 r.0)) (own-beside k lt part.stands at)
-            (taken-beside design (own (before k)) (own k) ls rs (curve (k + 1)) p q.0 t.0 l.0 r.0 first second part.sizes part.falls here q.1 t.1 l.1 r.1),
-      )
-  taken-behind k p lt here each token.Above at part =
-      let low = parts.lower k (omega (arith, lt)) in
-      let ls = curve (before k) in
-      let rs = curve k in
-      let first = part-right (before k) part.some (omega (arith, low, lt)) in
-      let second = part-right k (omega (arith, low, part.some)) (omega (arith, lt)) in
-      let j = All-contains (IsJoinOf above_size ls rs) (curve (k + 1)) p part.sizes.traced here in
-      let q = some-lowest p.w ls j.0 first.root.falls j.2 (omega (arith, ap (λ v. v.w) j.4)) in
-      let t = some-lowest p.w rs j.1 second.root.falls j.3 (omega (arith, ap (λ v. v.w) j.4)) in
-      let l = each (before k) q.0 part.some (omega (arith, low)) q.1.found in
-      let r = each k t.0 (omega (arith, low, part.some)) (omega arith) t.1.found in (
-        Above l.0 r.0,
-        subst (λ ts. IsTaken design ts p (Above l.0 r.0)) (own-above k lt part.stands at)
-            (taken-above design (own (before k)) (own k) ls rs (curve (k + 1)) p q.0 t.0 l.0 r.0 first second part.sizes part.falls here q.1 t.1 l.1 r.1),
-      )
+  taken-behind k p lt here each token.Beside at part = taken-joint way.Beside k p lt here each at part
+  taken-behind k p lt here each token.Above at part = taken-joint way.Above k p lt here each at part
   taken-behind k p lt here each (token.Block b) at part =
       (Leaf b p, subst (λ ts. IsTaken design ts p (Leaf b p)) (own-block k b lt part.stands at) (taken-block design b (curve (k + 1)) p part.curve here))
 
   -- each part has a plan of each size on its curve
-  part-taken-in : (f k : ℕ) (p : Shape) → k ≤ f → 1 ≤ k → k ≤ count → Contains (curve k) p → HasTaken k p
-  part-taken-in zero k p le some h here = absurd (omega (arith, le, some))
-  part-taken-in (suc f) zero p le some h here = absurd (omega (arith, some))
-  part-taken-in (suc f) (suc k) p le some h here =
-      let one : k + 1 ≡ suc k = omega arith in
-      subst (λ v. HasTaken v p) one
-      (taken-behind k p (omega (arith, h)) (subst (λ v. Contains (curve v) p) (sym one) here) (λ i q some' le' there. part-taken-in f i q (omega (arith, le, le')) some' (omega (arith, le', h)) there) (token_at tokens k) refl (parts.each k (omega (arith, h))))
-
   pub part-taken : (k : ℕ) (p : Shape) → 1 ≤ k → k ≤ count → Contains (curve k) p → HasTaken k p
-  part-taken k p some h here = part-taken-in k k p (omega arith) some h here
+  part-taken k p some h here =
+      each-part (λ v. (q : Shape) → Contains (curve v) q → HasTaken v q) (λ i lt each q there. taken-behind i q lt there (λ j r some' le'. each j some' le' r) (token_at tokens i) refl (parts.each i lt)) k k (omega arith) some h p here

@@ -34,16 +34,26 @@ level-at bound node (s ∷ ss) [] i level all h e = absurd all
 level-at bound node (s ∷ ss) (l ∷ ls) zero level all h e = subst (λ z. IfSome z.value (λ value. value ≡ bound node)) (sym e) all.0.worth
 level-at bound node (s ∷ ss) (l ∷ ls) (suc i) level all h e = level-at bound (after node s) ss ls i level all.1 (omega (arith, h)) e
 
-module _ (design : Design) (bound : Parts → ℕ) (floor : ℕ) (old part : Path) (level : ℕ) (step d : Step) (at : IsPath design bound old) (on : IsOnWay design bound floor old part level) (lt : level < length old.node.steps) (is : step ≡ get_or old.node.steps level d) where
+module _ (design : Design) (bound : Parts → ℕ) (floor : ℕ) (old part : Path) (level : ℕ) (ss : List Step) (d : Step) (at : IsPath design bound old) (on : IsOnWay design bound floor old part level) (same : ss ≡ old.node.steps) (less : level < length ss) where
+  -- the next step of the way
+  abbrev step : Step
+  step = get_or ss level d
+
+  is : step ≡ get_or old.node.steps level d
+  is = ap (λ xs. get_or xs level d) same
+
+  lt : level < length old.node.steps
+  lt = omega (arith, less, ap length same)
+
   -- the cursor stands where the first steps of the way lead
   stands : part.node ≡ walk (root design) (take level old.node.steps)
   stands = on.at.sub.is ∙ ap (walk (root design)) on.steps
 
   -- a level that is kept there has its value
   pub way-value : (levels : List Level) (kept : Level) → levels ≡ old.levels → kept ≡ get_or levels level kept → IfSome kept.value (λ value. value ≡ bound part.node)
-  way-value levels kept same e =
+  way-value levels kept kept-in e =
       subst (λ n. IfSome kept.value (λ value. value ≡ bound n)) (sym stands)
-      (level-at bound (root design) old.node.steps old.levels level kept at.levels lt (subst (λ ls. kept ≡ get_or ls level kept) same e))
+      (level-at bound (root design) old.node.steps old.levels level kept at.levels lt (subst (λ ls. kept ≡ get_or ls level kept) kept-in e))
 
   -- so the next step of the way can be taken
   pub way-can : CanStep part.node step

@@ -1,8 +1,9 @@
 -- The curve of a tree of curves is the root curve of its tokens.
 use Rattle.std.proofs.Common.{◌≡◌, ℕ, List, arith, refl, ap, sym, subst, ◌∙◌, All, AllPairs}
-use Rattle.sf_curves.proofs.Common.{Contains, All-contains, All-from_recursion, recursion_from_All, Contains-get_or, Outline, Shape, Tree, Leaf, Beside, Above, leaves, Token, postfix, no_shape, IsChoice, IsRootCurve, TakesFrom, size_of, form, curve_of, form_of, IsCurveTree, IsTraced, IsChosen, IsSized, IsSlimmer, IsWithin, IsNoLarger, IsCovered, CoversJoins, IsJoinOf, beside_size, above_size, Design, each-append, each-left, each-right, CurveTree}
+use Rattle.sf_curves.proofs.Common.{Contains, All-contains, All-from_recursion, recursion_from_All, Contains-get_or, Outline, Shape, Tree, Leaf, Beside, Above, leaves, Token, postfix, no_shape, IsChoice, IsRootCurve, TakesFrom, size_of, form, curve_of, form_of, IsCurveTree, IsTraced, IsChosen, IsSized, IsSlimmer, IsWithin, IsNoLarger, IsCovered, CoversJoins, IsJoinOf, beside_size, above_size, size_in, Design, each-append, each-left, each-right, CurveTree, Direction}
 use Rattle.std.specs.List.{AllByRecursion}
 use Rattle.sf_curves.specs.declared.curve_tree.CurveTree.TheVariants as tree
+use Rattle.sf_curves.specs.declared.direction.Direction.TheVariants as way
 use Rattle.sf_model.specs.Spans.{shapes_in}
 use Rattle.sf_curves.proofs.Forms.{same-form, form-tokens}
 use Rattle.sf_curves.proofs.OnCurve.{same_point, one_point}
@@ -17,16 +18,13 @@ pub record Grows (join : Shape → Shape → Shape) : Type 0 where
   pub left : (p q : Shape) → IsNoLarger p (join p q)
   pub right : (p q : Shape) → IsNoLarger q (join p q)
 
--- rooms side by side grow with both
-beside-grows : Grows beside_size
-beside-grows = record { both = λ p q r s h k. (omega (arith, h.0, k.0), omega (arith, h.1, k.1)); left = λ p q. (omega arith, omega arith); right = λ p q. (omega arith, omega arith) }
-
--- so do rooms one above the other
-above-grows : Grows above_size
-above-grows = record { both = λ p q r s h k. (omega (arith, h.0, k.0), omega (arith, h.1, k.1)); left = λ p q. (omega arith, omega arith); right = λ p q. (omega arith, omega arith) }
+-- a joined room grows with both
+pub grows : (d : Direction) → Grows (size_in d)
+grows way.Beside = record { both = λ p q r s h k. (omega (arith, h.0, k.0), omega (arith, h.1, k.1)); left = λ p q. (omega arith, omega arith); right = λ p q. (omega arith, omega arith) }
+grows way.Above = record { both = λ p q r s h k. (omega (arith, h.0, k.0), omega (arith, h.1, k.1)); left = λ p q. (omega arith, omega arith); right = λ p q. (omega arith, omega arith) }
 
 -- what is no larger than a size in the outline lies in it
-smaller-within : (o : Outline) (p q : Shape) → IsNoLarger p q → IsWithin o q → IsWithin o p
+pub smaller-within : (o : Outline) (p q : Shape) → IsNoLarger p q → IsWithin o q → IsWithin o p
 smaller-within o p q le fits = (omega (arith, le.0, fits.0), omega (arith, le.1, fits.1))
 
 -- no larger than what is no larger is no larger
@@ -41,11 +39,11 @@ between p q r same le lf =
     same_point q r (omega (arith, le.0, lf.0, w)) (omega (arith, le.1, lf.1, h))
 
 -- the combination of two covered sizes is covered
-covers-joined : (join : Shape → Shape → Shape) → Grows join → (o : Outline) (ls rs c : List Shape) (x y : Shape) → CoversJoins join o ls rs c → IsCovered o ls x → IsCovered o rs y → IsCovered o c (join x y)
-covers-joined join grows o ls rs c x y joined left right fits =
-    let a = left (smaller-within o x (join x y) (grows.left x y) fits) in
-    let b = right (smaller-within o y (join x y) (grows.right x y) fits) in
-    let small = grows.both a.1 b.1 x y a.4 b.4 in
+pub covers-joined : (join : Shape → Shape → Shape) → Grows join → (o : Outline) (ls rs c : List Shape) (x y : Shape) → CoversJoins join o ls rs c → IsCovered o ls x → IsCovered o rs y → IsCovered o c (join x y)
+covers-joined join more o ls rs c x y joined left right fits =
+    let a = left (smaller-within o x (join x y) (more.left x y) fits) in
+    let b = right (smaller-within o y (join x y) (more.right x y) fits) in
+    let small = more.both a.1 b.1 x y a.4 b.4 in
     let first = All-contains (λ p. All (λ q. IsCovered o c (join p q)) rs) ls a.1 joined (a.0, a.2, a.3) in
     let found = All-contains (λ q. IsCovered o c (join a.1 q)) rs b.1 first (b.0, b.2, b.3) (smaller-within o (join a.1 b.1) (join x y) small fits) in
     (found.0, found.1, found.2, found.3, no-larger-still found.1 (join a.1 b.1) (join x y) found.4 small)
@@ -62,7 +60,7 @@ module _ (design : Design) (spans : List (ℕ × ℕ)) where
   covers-tree (tree.Beside' c p l q r) (Beside x y) h e all =
       let el : form x ≡ form_of l = cc in
       let er : form y ≡ form_of r = cc in
-      covers-joined beside_size beside-grows design.outline (curve_of l) (curve_of r) c (size_of x) (size_of y) h.0.covers
+      covers-joined beside_size (grows way.Beside) design.outline (curve_of l) (curve_of r) c (size_of x) (size_of y) h.0.covers
       (covers-tree l x h.1 el (each-left _ (leaves x) (leaves y) all)) (covers-tree r y h.2 er (each-right _ (leaves x) (leaves y) all))
   covers-tree (tree.Beside' c p l q r) (Above x y) h e all = absurd (cc)
   covers-tree (tree.Above' c p l q r) (Leaf k s) h e all = absurd (cc)
@@ -70,7 +68,7 @@ module _ (design : Design) (spans : List (ℕ × ℕ)) where
   covers-tree (tree.Above' c p l q r) (Above x y) h e all =
       let el : form x ≡ form_of l = cc in
       let er : form y ≡ form_of r = cc in
-      covers-joined above_size above-grows design.outline (curve_of l) (curve_of r) c (size_of x) (size_of y) h.0.covers
+      covers-joined above_size (grows way.Above) design.outline (curve_of l) (curve_of r) c (size_of x) (size_of y) h.0.covers
       (covers-tree l x h.1 el (each-left _ (leaves x) (leaves y) all)) (covers-tree r y h.2 er (each-right _ (leaves x) (leaves y) all))
 
   -- some plan of the form of the tree, with shapes from the spans, has this size

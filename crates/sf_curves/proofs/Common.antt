@@ -4,6 +4,7 @@ pub use Rattle.sf_curves.specs.Direction.{size_in}
 pub use Rattle.sf_curves.specs.Forms.{IsChosen, IsCurveTree, IsSized, IsTraced, curve_of, form, form_of}
 pub use Rattle.sf_curves.specs.Points.{AddsWithin, CoversJoins, IsCombination, IsCovered, IsCurveOf, IsJoinOf, IsLeastArea, IsLowest, IsNarrowest, IsNoLarger, IsNoLater, IsShort, IsSlimmer, IsSmaller, IsWithin, above_size, area_of, beside_size}
 pub use Rattle.sf_curves.specs.declared.curve_tree.CurveTree.{CurveTree}
+pub use Rattle.sf_curves.specs.declared.direction.Direction.{Direction}
 pub use Rattle.sf_model.proofs.Each.{each-append, each-left, each-right}
 pub use Rattle.sf_model.specs.Tree.{Above, Beside, HasBlocksBelow, HasEachOnce, Leaf, Tree, leaves, tree_of}
 pub use Rattle.sf_model.specs.declared.design.Design.{Design}

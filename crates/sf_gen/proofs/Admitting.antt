@@ -1,6 +1,6 @@
 -- The parts of a generated design may become a design.
 use Rattle.std.proofs.Common.{◌≡◌, ℕ, zero, suc, ◌+◌, ◌*◌, ◌-◌, ◌%◌, ◌<◌, ◌≤◌, ◌^◌, ◌==◌, Bool, true, false, cond, List, [], ◌∷◌, ◌++◌, length, refl, sym, ap, ◌∙◌, inl, inr, arith, lit<, bytes_eq}
-use Rattle.sf_gen.proofs.Common.{map, min, sum_by, Some, pos, decimal, AllByRecursion, flat_map, list_any, cases_eq, false_from_ne_true, le-ltb, nat_tests, decimal_digit, decimal_injective, length-map, sum_by-cons, RawBlock, Kinds, Ends, Size, named_parts, raw_block, raw_blocks, raw_nets, raw_pads, parts_of, sizes, ends, net_count, indexed, is_soft, block_name, pad_name, pad_pins, pins_of, nets_pins, square, BuildFault}
+use Rattle.sf_gen.proofs.Common.{map, min, sum_by, Some, pos, decimal, AllByRecursion, each-map, flat_map, list_any, cases_eq, false_from_ne_true, le-ltb, nat_tests, decimal_digit, decimal_injective, length-map, sum_by-cons, RawBlock, Kinds, Ends, Size, named_parts, raw_block, raw_blocks, raw_nets, raw_pads, parts_of, sizes, ends, net_count, indexed, is_soft, block_name, pad_name, pad_pins, pins_of, nets_pins, square, BuildFault}
 use Rattle.std.proofs.lemmas.Slice.Eq.{bytes_eq-Decides}
 use Rattle.std.proofs.Math.Bool.{or-true, and-false}
 use Rattle.sf_model.specs.declared.fault.BuildFault.TheVariants as fault
@@ -41,24 +41,21 @@ differ i j h low =
 
 module _ (kinds : Kinds) where
   -- the names of the blocks of these sizes, numbered from i on
-  names_from : ℕ → List Size → List (List ℕ)
+  abbrev names_from : ℕ → List Size → List (List ℕ)
   names_from i sizes = block_names (indexed (raw_block kinds) i sizes)
 
   -- the name of block i is not among the names of blocks with greater numbers
   later_differs : (i j : ℕ) (sizes : List Size) → i < j → j + length sizes ≤ 1000 → list_any (bytes_eq (block_name i)) (names_from j sizes) ≡ false
-  unfolding names_from
   later_differs i j [] h low = refl
   later_differs i j (s ∷ sizes) h low = rw (differ i j h (omega arith)) (later_differs i (j + 1) sizes (omega arith) (omega arith))
 
   -- no name of a block stands twice
   no_repeats : (i : ℕ) (sizes : List Size) → i + length sizes ≤ 1000 → repeated_names (names_from i sizes) ≡ []
-  unfolding names_from
   no_repeats i [] low = refl
   no_repeats i (s ∷ sizes) low = rw (later_differs i (i + 1) sizes (omega arith) (omega arith)) (no_repeats (i + 1) sizes (omega arith))
 
   -- the name of each block from number i on is among these names
   is_found : (a i : ℕ) (sizes : List Size) → i ≤ a → a < i + length sizes → list_any (bytes_eq (block_name a)) (names_from i sizes) ≡ true
-  unfolding names_from
   is_found a i [] low high = absurd (omega arith)
   is_found a i (s ∷ sizes) low high = elim (cases_eq a i) [
     | inl e ↦ rw ((bytes_eq-Decides (decimal a) (decimal i)).1 (ap decimal e)) refl
@@ -67,7 +64,6 @@ module _ (kinds : Kinds) where
 
   -- a name that begins with `p` is not among the names of blocks
   no_pad_is_block : (x : List ℕ) (i : ℕ) (sizes : List Size) → list_any (bytes_eq (112 ∷ x)) (names_from i sizes) ≡ false
-  unfolding names_from
   no_pad_is_block x i [] = refl
   no_pad_is_block x i (s ∷ sizes) = no_pad_is_block x (i + 1) sizes
 
@@ -81,32 +77,22 @@ pad_known n (suc (suc (suc (suc p)))) h = absurd (omega arith)
 
 -- ---- the names of pins
 
--- where no name of the list is a fault, the pins of these names have no fault
-pin_none : (f : List ℕ → List BuildFault) (pins : List (List ℕ)) → AllByRecursion (λ name. f name ≡ []) pins → flat_map (at_pin_name f) (map Named pins) ≡ []
-pin_none f [] h = refl
-pin_none f (name ∷ pins) h = neither (f name) (flat_map (at_pin_name f) (map Named pins)) h.0 (pin_none f pins h.1)
-
--- where no name of a pin is a fault, the nets have no fault at their pins' names
-nets_none : (f : List ℕ → List BuildFault) (nets : List (List (List ℕ))) → AllByRecursion (λ pins. AllByRecursion (λ name. f name ≡ []) pins) nets
-    → at_pin_names f (map (λ pins. record { pins = map Named pins }) nets) ≡ []
-nets_none f [] h = refl
-nets_none f (pins ∷ nets) h =
-    neither (flat_map (at_pin_name f) (map Named pins)) (at_pin_names f (map (λ pins. record { pins = map Named pins }) nets)) (pin_none f pins h.0) (nets_none f nets h.1)
-
 module _ (n : ℕ) (f : List ℕ → List BuildFault) (blocks : (a : ℕ) → a < n → f (block_name a) ≡ []) (pads : (p : ℕ) → p < 4 → f (pad_name p) ≡ []) where
   -- the pad of a net, if there is one, has no fault where no name of a pad has one
-  pads_none : (j : ℕ) → AllByRecursion (λ name. f name ≡ []) (pad_pins j)
-  pads_none j = elim (j % 3 == 0) as (λ b. AllByRecursion (λ name. f name ≡ []) (cond b (pad_name (j % 4) ∷ []) [])) [ true ↦ (pads (j % 4) (omega arith), tt) | false ↦ tt ]
+  pads_none : (j : ℕ) → flat_map (at_pin_name f) (map Named (pad_pins j)) ≡ []
+  pads_none j = elim (j % 3 == 0) as (λ b. flat_map (at_pin_name f) (map Named (cond b (pad_name (j % 4) ∷ []) [])) ≡ []) [ true ↦ neither _ [] (pads (j % 4) (omega arith)) refl | false ↦ refl ]
 
   -- no pin of a net between two blocks has a fault where no name of a block or of a pad has one
-  net_none : (j : ℕ) (e : Ends) → IsAmong n e → AllByRecursion (λ name. f name ≡ []) (pins_of j e)
-  net_none j e among = (blocks e.a among.first, (blocks e.b among.second, pads_none j))
+  net_none : (j : ℕ) (e : Ends) → IsAmong n e → flat_map (at_pin_name f) (map Named (pins_of j e)) ≡ []
+  net_none j e among = rw (blocks e.a among.first, blocks e.b among.second, pads_none j) refl
 
   -- no pin of the nets has a fault where no name of a block or of a pad has one
   pins_none : (seed : ℕ) → 1 ≤ n → at_pin_names f (raw_nets (ends seed n)) ≡ []
   pins_none seed low =
-      nets_none f (nets_pins (ends seed n))
-      (each_indexed (IsAmong n) (λ pins. AllByRecursion (λ name. f name ≡ []) pins) pins_of net_none 0 (ends seed n) (ends_among seed n low))
+      let with_names : List (List ℕ) → RawNet = λ pins. record { pins = map Named pins } in
+      flat_none (λ (m : RawNet). flat_map (at_pin_name f) m.pins) (raw_nets (ends seed n))
+      (each-map (λ (m : RawNet). flat_map (at_pin_name f) m.pins ≡ []) with_names (nets_pins (ends seed n))
+      (each_indexed (IsAmong n) (λ pins. flat_map (at_pin_name f) (map Named pins) ≡ []) pins_of net_none 0 (ends seed n) (ends_among seed n low)))
 
 -- ---- the faults, one kind after another
 
@@ -130,7 +116,7 @@ pins_counted (pins ∷ nets) =
 
 module _ (kinds : Kinds) (seed n : ℕ) (low : 1 ≤ n) (high : n ≤ 320) where
   -- the parts of the generated design, with pins by name
-  parts : Parts
+  abbrev parts : Parts
   parts = named_parts kinds seed n
 
   -- there are n blocks
@@ -139,12 +125,10 @@ module _ (kinds : Kinds) (seed n : ℕ) (low : 1 ≤ n) (high : n ≤ 320) where
 
   -- there is a block, so none of the faults is that there is none
   some_block : no_blocks parts ≡ []
-  unfolding parts
   some_block = let some : (length (raw_blocks kinds (sizes seed n)) == 0) ≡ false = grind (arith, nat_tests, block_count) in rw some refl
 
   -- no count is beyond its limit
   few_counts : over_counts parts ≡ []
-  unfolding parts
   few_counts =
       let nets = raw_nets (ends seed n) in
       let pins = min (sum_by (λ (m : RawNet). length m.pins) nets) (2 ^ 64 - 1) in
@@ -163,7 +147,6 @@ module _ (kinds : Kinds) (seed n : ℕ) (low : 1 ≤ n) (high : n ≤ 320) where
 
   -- no coordinate of a pad is beyond its limit
   near_places : over_places parts ≡ []
-  unfolding parts
   near_places =
       let q = square n in
       let near : q ≤ 1_000_000 = omega (arith, high) in
@@ -171,23 +154,15 @@ module _ (kinds : Kinds) (seed n : ℕ) (low : 1 ≤ n) (high : n ≤ 320) where
       flat_none (λ p. over_place p.place) (raw_pads n)
       (place_within 0 0 zero_near zero_near, (place_within q 0 near zero_near, (place_within 0 q zero_near near, (place_within q q near near, tt))))
 
-  -- there are at most 1000 sizes
-  short : 0 + length (sizes seed n) ≤ 1000
-  short = omega (arith, length-sizes seed n)
-
-  -- a name that is not a block's is not the name of both a block and a pad
-  not_both : (name : List ℕ) → is_block_name parts name ≡ false → if_both parts name ≡ []
-  not_both name e = rw e refl
-
   -- no name stands twice, for two blocks or for a block and a pad
   once_each : duplicates parts ≡ []
-  unfolding parts names_from
   once_each =
       let f = if_both parts in
-      let not_block = λ (x : List ℕ). not_both (112 ∷ x) (no_pad_is_block kinds x 0 (sizes seed n)) in
+      let not_block : (x : List ℕ) → f (112 ∷ x) ≡ [] = λ x. rw (no_pad_is_block kinds x 0 (sizes seed n)) refl in
       let of_blocks : (a : ℕ) → a < n → f (block_name a) ≡ [] = λ a h. rw (and-false (is_block_name parts (block_name a))) refl in
       let of_pads : (p : ℕ) → p < 4 → f (pad_name p) ≡ [] = λ p h. not_block (decimal p) in
-      let names : map fault.DuplicateName (repeated_names (block_names parts.blocks)) ≡ [] = ap (map fault.DuplicateName) (no_repeats kinds 0 (sizes seed n) short) in
+      let names : map fault.DuplicateName (repeated_names (block_names parts.blocks)) ≡ [] =
+      ap (map fault.DuplicateName) (no_repeats kinds 0 (sizes seed n) (omega (arith, length-sizes seed n))) in
       let pins : at_pin_names f parts.nets ≡ [] = pins_none n f of_blocks of_pads seed low in
       let placed : flat_map (at_placed_name f) parts.pads ≡ [] =
       flat_none (at_placed_name f) parts.pads (not_block (48 ∷ []), (not_block (49 ∷ []), (not_block (50 ∷ []), (not_block (51 ∷ []), tt)))) in
@@ -195,28 +170,20 @@ module _ (kinds : Kinds) (seed n : ℕ) (low : 1 ≤ n) (high : n ≤ 320) where
 
   -- each pin has the name of a block or of a pad
   all_known : unknowns parts ≡ []
-  unfolding parts names_from
   all_known =
       let f = if_neither parts in
       let of_blocks : (a : ℕ) → a < n → f (block_name a) ≡ [] = λ a h. rw (is_found kinds a 0 (sizes seed n) (omega arith) (omega (arith, length-sizes seed n, h))) refl in
       let of_pads : (p : ℕ) → p < 4 → f (pad_name p) ≡ [] = λ p h. rw (no_pad_is_block kinds (decimal p) 0 (sizes seed n), pad_known n p h) refl in
       neither (at_pin_names f parts.nets) [] (pins_none n f of_blocks of_pads seed low) refl
 
-  -- no pad lacks its place
-  all_placed : missing_places parts ≡ []
-  unfolding parts
-  all_placed = refl
-
   -- no name has a fault
   no_name_faults : name_faults parts ≡ []
-  no_name_faults = neither _ (missing_places parts) (neither (duplicates parts) (unknowns parts) once_each all_known) all_placed
+  no_name_faults = neither _ (missing_places parts) (neither (duplicates parts) (unknowns parts) once_each all_known) refl
 
   -- no limit is passed
   no_limit_passed : over_limits parts ≡ []
-  unfolding parts
   no_limit_passed = neither _ (over_places parts) (neither (over_counts parts) (flat_map (λ (b : RawBlock). over_kind b.kind) (raw_blocks kinds (sizes seed n))) few_counts small_kinds) near_places
 
   -- the parts of a generated design may become a design
   pub admitted : IsAdmitted (parts_of kinds seed n)
-  unfolding parts
   admitted = refusal_same (named_parts kinds seed n) ∙ ap first (neither _ (name_faults parts) (neither (no_blocks parts) (over_limits parts) some_block no_limit_passed) no_name_faults)

@@ -42,16 +42,9 @@ corners w h = codes " 4 (0, 0) (0, " ++ (decimal h ++ (codes ") (" ++ (decimal w
 corner_words : (w h : ℕ) → small w → small h
     → words (is_gap Points) (corners w h) ≡ codes "4" ∷ codes "0" ∷ codes "0" ∷ codes "0" ∷ decimal h ∷ decimal w ∷ decimal h ∷ decimal w ∷ codes "0" ∷ []
 corner_words w h sw sh =
-    let t4 : List ℕ = decimal w ++ codes ", 0)" in
-    let t3 : List ℕ = decimal h ++ (codes ") (" ++ t4) in
-    let t2 : List ℕ = decimal w ++ (codes ", " ++ t3) in
-    let t1 : List ℕ = decimal h ++ (codes ") (" ++ t2) in
-    let e4 : words (is_gap Points) t4 ≡ decimal w ∷ codes "0" ∷ [] = number_word Points w sw 44 (codes " 0)") refl in
-    let e3 : words (is_gap Points) t3 ≡ decimal h ∷ words (is_gap Points) t4 = number_word Points h sh 41 (codes " (" ++ t4) refl in
-    let e2 : words (is_gap Points) t2 ≡ decimal w ∷ words (is_gap Points) t3 = number_word Points w sw 44 (codes " " ++ t3) refl in
-    let e1 : words (is_gap Points) t1 ≡ decimal h ∷ words (is_gap Points) t2 = number_word Points h sh 41 (codes " (" ++ t2) refl in
-    let front : words (is_gap Points) (corners w h) ≡ codes "4" ∷ codes "0" ∷ codes "0" ∷ codes "0" ∷ words (is_gap Points) t1 = refl in
-    front ∙ rw (e1, e2, e3, e4) refl
+    ap (λ (ws : List (List ℕ)). codes "4" ∷ codes "0" ∷ codes "0" ∷ codes "0" ∷ ws)
+    (number_word Points h sh 41 _ refl ∙ ap (λ (ws : List (List ℕ)). decimal h ∷ ws) (number_word Points w sw 44 _ refl
+    ∙ ap (λ (ws : List (List ℕ)). decimal w ∷ ws) (number_word Points h sh 41 _ refl ∙ ap (λ (ws : List (List ℕ)). decimal h ∷ ws) (number_word Points w sw 44 _ refl))))
 
 -- a small number that was written is read as that coordinate
 place_written : (n : ℕ) → small n → coordinate_of 1 (decimal n) ≡ Ok (pos n)

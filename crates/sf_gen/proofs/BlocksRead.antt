@@ -8,7 +8,7 @@ use Rattle.sf_gsrc.specs.declared.keywords.Counted.TheVariants.{Soft, Hard, Term
 use Rattle.sf_gsrc.specs.Blocks as blocks
 use Rattle.sf_gsrc.specs.Standing.{SaysBy, SaysEntry, counts_of, StandsOnce, StandsFor}
 use Rattle.sf_gen.proofs.Counts.{all_blocks}
-use Rattle.sf_gen.proofs.TextLines.{IsLines, Reads, none, ended, piece, reads_none, reads_line, reads_both, content_is}
+use Rattle.sf_gen.proofs.TextLines.{Reads, none, ended, piece, reads_none, reads_line, reads_both, content_is}
 use Rattle.sf_gen.proofs.TextWords.{count_read, number_said}
 use Rattle.sf_gen.proofs.BlockLines.{IsSmall, hard_block, hard_lines, hard_plain, hard_rest, no_count, name_filled, soft_block, soft_lines, soft_plain, soft_rest}
 
@@ -19,12 +19,11 @@ SaysHere bytes said = (n : ℕ) → SaysBy 1 (record { number = n; bytes = bytes
 -- ---- the lines of the blocks
 
 -- what a line says that gives this block
-said_block : RawBlock → Said
+abbrev said_block : RawBlock → Said
 said_block b = ItemIs (BlockIs b)
 
 -- a line without a count word that gives a block says this block, whatever its number
 plain_says : (bytes : List ℕ) (b : RawBlock) → counted_by bytes ≡ None → plain_said 1 bytes ≡ Ok (BlockIs b) → SaysHere bytes (said_block b)
-unfolding said_block
 plain_says bytes b none says n = subst (λ o. SaysBy 1 (record { number = n; bytes = bytes }) (ItemIs (BlockIs b)) o) (sym none) (BlockIs b, says, refl)
 
 module _ (i : ℕ) (s : Size) (h : i < 2 ^ 64) (f : IsSmall s) where
@@ -46,16 +45,16 @@ blocks_from kinds i (s ∷ sizes) low ok =
 -- ---- the lines of the pads
 
 -- what a line says that gives a pad of this name
-said_pad : List ℕ → Said
+abbrev said_pad : List ℕ → Said
 said_pad name = ItemIs (PadIs name)
 
 -- the lines of the four pads
-pad_lines : List ℕ
+abbrev pad_lines : List ℕ
 pad_lines = codes "p0 terminal\np1 terminal\np2 terminal\np3 terminal\n"
 
 -- the lines of the four pads are read as these pads
 pads_read : Reads SaysHere pad_lines (map said_pad pad_list)
-unfolding pad_lines said_pad counted_of form_of plain_said
+unfolding counted_of form_of plain_said
 pads_read = record {
   bytes = codes "p0 terminal" ∷ codes "p1 terminal" ∷ codes "p2 terminal" ∷ codes "p3 terminal" ∷ [];
   are = piece (codes "p0 terminal") refl (ended (piece (codes "p1 terminal") refl (ended (piece (codes "p2 terminal") refl (ended (piece (codes "p3 terminal") refl (ended none)))))));
@@ -64,17 +63,6 @@ pads_read = record {
 }
 
 -- ---- the counts
-
-module _ (d : ℕ) (le : d ≤ 9_000_000_000_000_000) where
-  -- the count of soft blocks is read as that count
-  soft_count_read : Reads SaysHere (codes "NumSoftRectangularBlocks : " ++ (decimal d ++ codes "\n")) (CountIs Soft d ∷ [])
-  unfolding counted_of
-  soft_count_read = count_read SaysHere d le (codes "NumSoftRectangularBlocks : ") (CountIs Soft d) refl refl (λ n. (d, number_said (codes "NumSoftRectangularBlocks") d le, refl))
-
-  -- the count of hard blocks is read as that count
-  hard_count_read : Reads SaysHere (codes "NumHardRectilinearBlocks : " ++ (decimal d ++ codes "\n")) (CountIs Hard d ∷ [])
-  unfolding counted_of
-  hard_count_read = count_read SaysHere d le (codes "NumHardRectilinearBlocks : ") (CountIs Hard d) refl refl (λ n. (d, number_said (codes "NumHardRectilinearBlocks") d le, refl))
 
 -- the count of terminals is read as 4
 pad_count_read : Reads SaysHere (codes "NumTerminals : 4\n") (CountIs Terminals 4 ∷ [])
@@ -86,13 +74,12 @@ pad_count_read =
 -- ---- entries
 
 -- what the lines say, numbered from n on
-entries : ℕ → List Said → List Entry
+abbrev entries : ℕ → List Said → List Entry
 entries n [] = []
 entries n (s ∷ said) = record { number = n; said = s } ∷ entries (n + 1) said
 
 -- where each line says its part whatever its number, the numbered lines say the numbered entries
 each_entry : (n : ℕ) (bs : List (List ℕ)) (said : List Said) → AllZip SaysHere bs said → AllZip (SaysEntry 1) (numbered n bs) (entries n said)
-unfolding entries
 each_entry n [] [] h = h
 each_entry n [] (s ∷ said) h = absurd h
 each_entry n (b ∷ bs) [] h = absurd h
@@ -100,7 +87,6 @@ each_entry n (b ∷ bs) (s ∷ said) h = ((refl, h.0 n), each_entry (n + 1) bs s
 
 -- what is found among the entries is what is found among what the lines say
 found_of : {Y : Type 0} (h : Said → Option Y) (n : ℕ) (said : List Said) → filter_map (λ (e : Entry). h e.said) (entries n said) ≡ filter_map h said
-unfolding entries
 found_of h n [] = refl
 found_of h n (s ∷ said) = ap (cons_option (h s)) (found_of h (n + 1) said)
 
@@ -111,7 +97,6 @@ IsItem (ItemIs item) = Unit {0}
 
 -- where no line says a count, there is no count of any kind
 no_counts : (which : Counted) (n : ℕ) (said : List Said) → AllByRecursion IsItem said → counts_of which (entries n said) ≡ []
-unfolding entries
 no_counts which n [] ok = refl
 no_counts which n (CountIs k m ∷ said) ok = absurd ok.0
 no_counts which n (ItemIs item ∷ said) ok = no_counts which (n + 1) said ok.1
@@ -123,13 +108,11 @@ all_items f h (x ∷ xs) more ok = (h x, all_items f h xs more ok)
 
 -- the blocks among lines that all give blocks are these blocks
 blocks_kept : (bs : List RawBlock) → filter_map block_at (map said_block bs) ≡ bs
-unfolding said_block
 blocks_kept [] = refl
 blocks_kept (b ∷ bs) = ap (λ l. b ∷ l) (blocks_kept bs)
 
 -- lines that all give blocks give no pad
 no_pads : (bs : List RawBlock) → filter_map pad_at (map said_block bs) ≡ []
-unfolding said_block
 no_pads [] = refl
 no_pads (b ∷ bs) = no_pads bs
 
@@ -153,15 +136,15 @@ count_from p kinds i (s ∷ sizes) =
 
 module _ (kinds : Kinds) (sizes : List Size) (few : length sizes ≤ 1000) (ok : AllByRecursion IsSmall sizes) where
   -- what the lines behind the counts say: the blocks, and then the pads
-  items : List Said
+  abbrev items : List Said
   items = map said_block (raw_blocks kinds sizes) ++ map said_pad pad_list
 
   -- what the lines behind the title say: the three counts, the blocks and the pads
-  said_of : List Said
+  abbrev said_of : List Said
   said_of = CountIs Soft (soft_count kinds (length sizes)) ∷ CountIs Hard (hard_count kinds (length sizes)) ∷ CountIs Terminals 4 ∷ items
 
   -- the text behind the title, line by line
-  behind_title : List ℕ
+  abbrev behind_title : List ℕ
   behind_title =
       (codes "NumSoftRectangularBlocks : " ++ (decimal (soft_count kinds (length sizes)) ++ codes "\n"))
       ++ ((codes "NumHardRectilinearBlocks : " ++ (decimal (hard_count kinds (length sizes)) ++ codes "\n"))
@@ -169,47 +152,44 @@ module _ (kinds : Kinds) (sizes : List Size) (few : length sizes ≤ 1000) (ok :
 
   -- the title and what stands behind it are the text of the blocks
   shape : codes "UCSC blocks 1.0\n" ++ behind_title ≡ blocks_head kinds (length sizes) ++ (block_lines kinds sizes ++ pad_lines)
-  unfolding behind_title
   shape = simp append_assoc refl
 
   -- the text behind the title is read as the counts, the blocks and the pads
   all_read : Reads SaysHere behind_title said_of
-  unfolding behind_title said_of items
+  unfolding counted_of
   all_read =
       let soft = soft_count kinds (length sizes) in
       let hard = hard_count kinds (length sizes) in
       let low : soft ≤ 9_000_000_000_000_000 = omega (arith, all_blocks kinds (length sizes), few) in
       let high : hard ≤ 9_000_000_000_000_000 = omega (arith, all_blocks kinds (length sizes), few) in
-      reads_both SaysHere _ _ _ _ (soft_count_read soft low)
-      (reads_both SaysHere _ _ _ _ (hard_count_read hard high)
+      reads_both SaysHere _ _ _ _
+      (count_read SaysHere soft low (codes "NumSoftRectangularBlocks : ") (CountIs Soft soft) refl refl (λ n. (soft, number_said (codes "NumSoftRectangularBlocks") soft low, refl)))
+      (reads_both SaysHere _ _ _ _
+      (count_read SaysHere hard high (codes "NumHardRectilinearBlocks : ") (CountIs Hard hard) refl refl (λ n. (hard, number_said (codes "NumHardRectilinearBlocks") hard high, refl)))
       (reads_both SaysHere _ _ _ _ pad_count_read (reads_both SaysHere _ _ _ _ (blocks_from kinds 0 sizes (omega (arith, few)) ok) pads_read)))
 
   -- behind the counts no line says a count
   are_items : AllByRecursion IsItem items
-  unfolding items said_block said_pad
   are_items = all_items said_block (λ b. tt) (raw_blocks kinds sizes) (map said_pad pad_list) (tt, (tt, (tt, (tt, tt))))
 
   -- the blocks among these lines are the design's
   blocks_are : filter_map block_at items ≡ raw_blocks kinds sizes
-  unfolding items said_pad
   blocks_are =
       filter_map-append block_at (map said_block (raw_blocks kinds sizes)) (map said_pad pad_list)
       ∙ append-nil (filter_map block_at (map said_block (raw_blocks kinds sizes))) ∙ blocks_kept (raw_blocks kinds sizes)
 
   -- the pads among these lines are the four pads
   pads_are : filter_map pad_at items ≡ pad_list
-  unfolding items said_pad
   pads_are =
       filter_map-append pad_at (map said_block (raw_blocks kinds sizes)) (map said_pad pad_list)
       ∙ ap (λ l. l ++ pad_list) (no_pads (raw_blocks kinds sizes))
 
   -- a count that was said on a line
-  count : ℕ → ℕ → Count
+  abbrev count : ℕ → ℕ → Count
   count line said = record { line = line; said = said }
 
   -- the count of soft blocks stands once, and agrees with the blocks
   softs : StandsOnce Soft (entries 2 said_of) (count_by blocks.is_soft (raw_blocks kinds sizes))
-  unfolding said_of entries count
   softs = record {
     line = 2;
     once = ap (λ l. count 2 (soft_count kinds (length sizes)) ∷ l) (no_counts Soft 5 items are_items) ∙ ap (λ k. count 2 k ∷ []) (sym (count_from (λ b. b) kinds 0 sizes));
@@ -217,7 +197,6 @@ module _ (kinds : Kinds) (sizes : List Size) (few : length sizes ≤ 1000) (ok :
 
   -- the count of hard blocks stands once, and agrees with the blocks
   hards : StandsOnce Hard (entries 2 said_of) (count_by (λ b. not (blocks.is_soft b)) (raw_blocks kinds sizes))
-  unfolding said_of entries count
   hards = record {
     line = 3;
     once = ap (λ l. count 3 (hard_count kinds (length sizes)) ∷ l) (no_counts Hard 5 items are_items) ∙ ap (λ k. count 3 k ∷ []) (sym (count_from not kinds 0 sizes));
@@ -225,20 +204,18 @@ module _ (kinds : Kinds) (sizes : List Size) (few : length sizes ≤ 1000) (ok :
 
   -- the count of terminals stands once, and is 4
   pads : StandsOnce Terminals (entries 2 said_of) 4
-  unfolding said_of entries count
   pads = record { line = 4; once = ap (λ l. count 4 4 ∷ l) (no_counts Terminals 5 items are_items) }
 
   -- the text of the blocks stands for the blocks and the pads
   pub blocks_stand : StandsFor 1 (blocks_head kinds (length sizes) ++ (block_lines kinds sizes ++ codes "p0 terminal\np1 terminal\np2 terminal\np3 terminal\n")) (blocks_out kinds sizes)
-  unfolding said_of is_title pad_lines
+  unfolding is_title
   blocks_stand =
       let title : List ℕ = codes "UCSC blocks 1.0" in
-      let lines_of : IsLines (codes "UCSC blocks 1.0\n" ++ behind_title) (title ∷ all_read.bytes) = piece title refl (ended all_read.are) in
       record {
         title = record { number = 1; bytes = title };
         others = numbered 2 all_read.bytes;
         entries = entries 2 said_of;
-        lines_are = ap content_of (sym shape) ∙ content_is (codes "UCSC blocks 1.0\n" ++ behind_title) title all_read.bytes lines_of refl all_read.filled;
+        lines_are = ap content_of (sym shape) ∙ content_is (codes "UCSC blocks 1.0\n" ++ behind_title) title all_read.bytes (piece title refl (ended all_read.are)) refl all_read.filled;
         titled = refl;
         each = each_entry 2 all_read.bytes said_of all_read.each;
         soft = softs;

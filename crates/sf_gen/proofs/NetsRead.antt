@@ -61,22 +61,6 @@ pins_read (name ∷ more) ok =
 
 -- ---- the lines of a net
 
-module _ (d : ℕ) (le : d ≤ 9_000_000_000_000_000) where
-  -- a line of a degree is read as this degree
-  degree_read : Reads SaysHere (codes "NetDegree : " ++ (decimal d ++ codes "\n")) (DegreeIs d ∷ [])
-  unfolding net_word_of
-  degree_read = count_read SaysHere d le (codes "NetDegree : ") (DegreeIs d) refl refl (λ n. (d, number_said (codes "NetDegree") d le, refl))
-
-  -- a line of the count of nets is read as this count
-  nets_read : Reads SaysHere (codes "NumNets : " ++ (decimal d ++ codes "\n")) (NetsAre d ∷ [])
-  unfolding net_word_of
-  nets_read = count_read SaysHere d le (codes "NumNets : ") (NetsAre d) refl refl (λ n. (d, number_said (codes "NumNets") d le, refl))
-
-  -- a line of the count of pins is read as this count
-  num_pins_read : Reads SaysHere (codes "NumPins : " ++ (decimal d ++ codes "\n")) (PinsAre d ∷ [])
-  unfolding net_word_of
-  num_pins_read = count_read SaysHere d le (codes "NumPins : ") (PinsAre d) refl refl (λ n. (d, number_said (codes "NumPins") d le, refl))
-
 -- at most three pins, and each has a name of a block or of a pad
 pub record IsNet (pins : List (List ℕ)) : Type 0 where
   pub names : AllByRecursion IsName pins
@@ -84,6 +68,7 @@ pub record IsNet (pins : List (List ℕ)) : Type 0 where
 
 -- what is written of a net is read as its degree and its pins
 net_read : (pins : List (List ℕ)) → IsNet pins → Reads SaysHere (net_lines pins) (standing.net_lines pins)
+unfolding net_word_of
 net_read pins h =
     let d = length pins in
     let le : d ≤ 9_000_000_000_000_000 = omega (arith, h.few) in
@@ -91,7 +76,8 @@ net_read pins h =
     let shape : head ++ pin_lines pins ≡ net_lines pins = ap (λ v. codes "NetDegree : " ++ v) (append_assoc (decimal d) (codes "\n") (pin_lines pins)) in
     subst (λ (t : List ℕ). Reads SaysHere t (standing.net_lines pins)) shape
     (reads_both SaysHere head (pin_lines pins) (DegreeIs d ∷ []) (map PinIs pins)
-    (degree_read d le) (pins_read pins h.names))
+    (count_read SaysHere d le (codes "NetDegree : ") (DegreeIs d) refl refl (λ n. (d, number_said (codes "NetDegree") d le, refl)))
+    (pins_read pins h.names))
 
 -- ---- the whole text
 
@@ -123,40 +109,42 @@ no_count_of_nets (pins ∷ nets) =
 
 module _ (nets : List (List (List ℕ))) (fine : AllByRecursion IsNet nets) (few : length nets ≤ 1_000_000) (small : sum_by length nets ≤ 9_000_000_000_000_000) where
   -- what the lines behind the title say: both counts, and then the nets
-  said_of : List NetSaid
+  abbrev said_of : List NetSaid
   said_of = NetsAre (length nets) ∷ PinsAre (sum_by length nets) ∷ flat_map standing.net_lines nets
 
   -- the text behind the title, line by line
-  behind_title : List ℕ
+  abbrev behind_title : List ℕ
   behind_title =
       (codes "NumNets : " ++ (decimal (length nets) ++ codes "\n"))
       ++ ((codes "NumPins : " ++ (decimal (sum_by length nets) ++ codes "\n")) ++ flat_map net_lines nets)
 
   -- the title and what stands behind it are the text of the nets
   shape : codes "UCLA nets 1.0\n" ++ behind_title ≡ nets_head nets ++ flat_map net_lines nets
-  unfolding behind_title
   shape = simp append_assoc refl
 
   -- the text behind the title is read as the counts and the nets
   all_read : Reads SaysHere behind_title said_of
-  unfolding behind_title said_of
+  unfolding net_word_of
   all_read =
       let low : length nets ≤ 9_000_000_000_000_000 = omega (arith, few) in
-      reads_both SaysHere _ _ _ _ (nets_read (length nets) low)
-      (reads_both SaysHere _ _ _ _ (num_pins_read (sum_by length nets) small) (reads_each SaysHere IsNet net_lines standing.net_lines net_read nets fine))
+      let pins = sum_by length nets in
+      reads_both SaysHere _ _ _ _
+      (count_read SaysHere (length nets) low (codes "NumNets : ") (NetsAre (length nets)) refl refl (λ n. (length nets, number_said (codes "NumNets") (length nets) low, refl)))
+      (reads_both SaysHere _ _ _ _
+      (count_read SaysHere pins small (codes "NumPins : ") (PinsAre pins) refl refl (λ n. (pins, number_said (codes "NumPins") pins small, refl)))
+      (reads_each SaysHere IsNet net_lines standing.net_lines net_read nets fine))
 
   -- the text of the nets stands for these nets
   pub nets_stand : NetsStandFor (nets_head nets ++ flat_map net_lines nets) (record { nets = map standing.net_of nets })
-  unfolding said_of is_title
+  unfolding is_title
   nets_stand =
       let title : List ℕ = codes "UCLA nets 1.0" in
-      let lines_of : IsLines (codes "UCLA nets 1.0\n" ++ behind_title) (title ∷ all_read.bytes) = piece title refl (ended all_read.are) in
       record {
         title = record { number = 1; bytes = title };
         others = numbered 2 all_read.bytes;
         said = said_of;
         names = nets;
-        lines_are = ap content_of (sym shape) ∙ content_is (codes "UCLA nets 1.0\n" ++ behind_title) title all_read.bytes lines_of refl all_read.filled;
+        lines_are = ap content_of (sym shape) ∙ content_is (codes "UCLA nets 1.0\n" ++ behind_title) title all_read.bytes (piece title refl (ended all_read.are)) refl all_read.filled;
         titled = refl;
         each = each_numbered SaysNet 2 all_read.bytes said_of all_read.each;
         lines_of_nets = parts_of_nets nets;

@@ -1,12 +1,13 @@
 -- AllByRecursion block has a shape.
 use Rattle.std.proofs.Common.{◌≡◌, ℕ, zero, suc, ◌+◌, ◌*◌, ◌-◌, ◌/◌, ◌<◌, ◌≤◌, ◌==◌, Bool, true, false, cond, List, [], ◌∷◌, refl, sym, ap, ◌∙◌, inl, inr, arith, ◌||◌, option_map}
 use Rattle.sf_gen.proofs.Common.{map, max, min, nat_le, zip, Some, None, AllByRecursion, range_with_len, cases_lt, All-head, All-tail, RawBlock, Kinds, Size, raw_block, raw_blocks, sizes, is_soft, mul-le-mul, mul-le-mul_right, BuildFault}
+use Rattle.std.proofs.Math.Nat.{lt_of_not-le}
 use Rattle.std.proofs.lemmas.Grind.{div_ceil_times}
 use Rattle.sf_model.specs.Built.{first_shapeless}
 use Rattle.sf_model.specs.declared.fault.BuildFault.TheVariants.{NoShape}
 use Rattle.sf_model.specs.declared.parts.Shape.{Shape}
 use Rattle.sf_model.specs.declared.raw.Kind.TheVariants as kind
-use Rattle.sf_soft_shapes.specs.Listed.{shape, height_at, IsAllowed, width_count, widths, IsSoftList, IsListOf, AreFirstLists, AreListsOf, HasNoneFor}
+use Rattle.sf_soft_shapes.specs.Listed.{shape, height_at, IsAllowed, width_count, widths, IsSoftList, IsListOf, AreFirstLists, HasNoneFor}
 use Rattle.sf_gen.proofs.BlockLines.{IsSmall, area_low, area_high}
 use Rattle.sf_gen.proofs.EndsDrawn.{each_indexed, sizes_small}
 
@@ -33,45 +34,31 @@ root_of (suc area) = let before = root_of area in next_root (suc area) before.0 
 
 module _ (area u : ℕ) (r : IsRoot area u) (small : area ≤ 10_000) where
   -- the height for the width u + 1
-  tall : ℕ
+  abbrev tall : ℕ
   tall = height_at area (suc u)
 
   -- width and height hold the area, and less than one row more than it
   holds : (area ≤ tall * suc u) × (tall * suc u < area + suc u)
-  unfolding tall
   holds = div_ceil_times area (suc u) (omega arith)
 
   -- the width is at most 100
   low : u < 100
-  low = elim (cases_lt u 100) [
-    | inl lt ↦ lt
-    | inr le ↦ absurd (omega (arith, r.below, mul-le-mul le le))
-  ]
+  low = lt_of_not-le (λ le. absurd (omega (arith, r.below, mul-le-mul le le)))
 
   -- the height is at most the width
-  not_taller : tall ≤ suc u
-  not_taller = elim (cases_lt (suc u) tall) [
-    | inl lt ↦ absurd (omega (arith, holds.1, r.above, mul-le-mul_right (suc u) lt))
-    | inr le ↦ le
-  ]
+  not_taller : tall < suc (suc u)
+  not_taller = lt_of_not-le (λ le. absurd (omega (arith, holds.1, r.above, mul-le-mul_right (suc u) le)))
 
   -- the height is at least u
-  not_lower : u ≤ tall
-  not_lower = elim (cases_lt tall u) [
-    | inl lt ↦ absurd (omega (arith, holds.0, r.below, mul-le-mul_right (suc u) lt))
-    | inr le ↦ le
-  ]
+  not_lower : u < suc tall
+  not_lower = lt_of_not-le (λ le. absurd (omega (arith, holds.0, r.below, mul-le-mul_right (suc u) le)))
 
   -- the height is at least 1
-  some_height : 1 ≤ tall
-  some_height = elim (cases_lt 0 tall) [
-    | inl lt ↦ lt
-    | inr le ↦ let none : tall ≡ 0 = omega (arith, le) in absurd (omega (arith, holds.0, r.below, ap (λ t. t * suc u) none))
-  ]
+  some_height : 0 < tall
+  some_height = lt_of_not-le (λ le. absurd (omega (arith, holds.0, r.below, mul-le-mul_right (suc u) le)))
 
   -- the width u + 1 is allowed with aspects from 0.5 to 2
   root_allowed : IsAllowed area 500_000 2_000_000 (suc u)
-  unfolding tall
   root_allowed = record {
     some = omega arith;
     width = omega (arith, low);
@@ -118,27 +105,21 @@ kind_filled true k fixed s f h l = soft_filled (s.w * s.h) k (area_low s f) (are
 kind_filled false k fixed s f h l = hard_filled (fixed || (s.w == s.h)) s.w s.h l
 
 -- the block's list is not empty, whichever it is
-HasShape : ℕ → Bool → RawBlock → Type 0
+abbrev HasShape : ℕ → Bool → RawBlock → Type 0
 HasShape k fixed b = IsListOf k fixed b.kind [] → ⊥
 
 -- where no block may have an empty list, none of the blocks that have lists is without a shape
 all_shaped : (k : ℕ) (fixed : Bool) (bs : List RawBlock) (lists : List (List Shape)) → AllByRecursion (HasShape k fixed) bs → AreFirstLists k fixed bs lists → first_shapeless bs lists ≡ None
-unfolding HasShape
 all_shaped k fixed [] lists h are = refl
 all_shaped k fixed (b ∷ bs) [] h are = refl
 all_shaped k fixed (b ∷ bs) ([] ∷ ls) h are = absurd (h.0 (All-head (λ (p : RawBlock × List Shape). IsListOf k fixed p.0.kind p.1) (b, []) (zip bs ls) are))
 all_shaped k fixed (b ∷ bs) ((s ∷ ss) ∷ ls) h are = all_shaped k fixed bs ls h.1 (All-tail (λ (p : RawBlock × List Shape). IsListOf k fixed p.0.kind p.1) (b, s ∷ ss) (zip bs ls) are)
 
 -- among the lists made so far, none of the blocks of a generated design is without a shape
-first_shaped : (kinds : Kinds) (seed n k : ℕ) (fixed : Bool) (lists : List (List Shape)) → 2 ≤ k → AreFirstLists k fixed (raw_blocks kinds (sizes seed n)) lists → first_shapeless (raw_blocks kinds (sizes seed n)) lists ≡ None
-unfolding HasShape
+pub first_shaped : (kinds : Kinds) (seed n k : ℕ) (fixed : Bool) (lists : List (List Shape)) → 2 ≤ k → AreFirstLists k fixed (raw_blocks kinds (sizes seed n)) lists → first_shapeless (raw_blocks kinds (sizes seed n)) lists ≡ None
 first_shaped kinds seed n k fixed lists h are =
     all_shaped k fixed (raw_blocks kinds (sizes seed n)) lists
     (each_indexed IsSmall (HasShape k fixed) (raw_block kinds) (λ i s f l. kind_filled (is_soft kinds i) k fixed s f (omega (arith, h)) l) 0 (sizes seed n) (sizes_small seed n)) are
-
--- no block of a generated design is without a shape
-pub shaped : (kinds : Kinds) (seed n k : ℕ) (fixed : Bool) (lists : List (List Shape)) → 2 ≤ k → AreListsOf k fixed (raw_blocks kinds (sizes seed n)) lists → first_shapeless (raw_blocks kinds (sizes seed n)) lists ≡ None
-shaped kinds seed n k fixed lists h are = first_shaped kinds seed n k fixed lists h are.each
 
 -- no block of a generated design is refused for having no shape
 pub never_refused : (kinds : Kinds) (seed n k : ℕ) (fixed : Bool) (fault : BuildFault) → 2 ≤ k → HasNoneFor k fixed (raw_blocks kinds (sizes seed n)) fault → ⊥

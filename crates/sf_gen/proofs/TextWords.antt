@@ -15,10 +15,6 @@ none_of test fails (d ∷ ds) h =
     let f = and_parts (is_digit d) (list_all is_digit ds) h in
     rw (fails d f.0) (none_of test fails ds f.1)
 
--- a digit is no line feed
-no_feed : (b : ℕ) → is_digit b ≡ true → is_line_feed b ≡ false
-no_feed b e = grind (arith, nat_tests)
-
 -- a digit is no gap between words
 no_gap : (gap : Gap) (b : ℕ) → is_digit b ≡ true → is_gap gap b ≡ false
 no_gap Blanks b e = grind (arith, nat_tests)
@@ -26,14 +22,10 @@ no_gap Colons b e = grind (arith, nat_tests)
 no_gap Points b e = grind (arith, nat_tests)
 no_gap Sizes b e = grind (arith, nat_tests)
 
--- a digit is no colon
-no_colon : (b : ℕ) → is_digit b ≡ true → is_colon b ≡ false
-no_colon b e = grind (arith, nat_tests)
-
 module _ (n : ℕ) (h : n < 2 ^ 64) where
   -- a number that was written has no line feed
   pub decimal_no_feed : has_none is_line_feed (decimal n) ≡ true
-  decimal_no_feed = none_of is_line_feed no_feed (decimal n) (digits_written n h)
+  decimal_no_feed = none_of is_line_feed (λ b e. grind (arith, nat_tests)) (decimal n) (digits_written n h)
 
   -- a number that was written has no gap between words
   pub decimal_no_gap : (gap : Gap) → has_none (is_gap gap) (decimal n) ≡ true
@@ -41,7 +33,7 @@ module _ (n : ℕ) (h : n < 2 ^ 64) where
 
   -- a number that was written has no colon
   pub decimal_no_colon : has_none is_colon (decimal n) ≡ true
-  decimal_no_colon = none_of is_colon no_colon (decimal n) (digits_written n h)
+  decimal_no_colon = none_of is_colon (λ b e. grind (arith, nat_tests)) (decimal n) (digits_written n h)
 
   -- a number that was written is one word
   pub decimal_alone : (gap : Gap) → words (is_gap gap) (decimal n ++ []) ≡ decimal n ∷ []
@@ -110,20 +102,15 @@ module _ (gap : Gap) (ds : List ℕ) (some : 0 < length ds) (n : has_none (is_ga
 
 -- ---- numbers in words
 
--- a digit is neither a minus nor a plus
-head_digit : (d : ℕ) → is_digit d ≡ true → ((d == 45) ≡ false) × ((d == 43) ≡ false)
-head_digit d e =
-    let minus : (d == 45) ≡ false = grind (arith, nat_tests) in
-    let plus : (d == 43) ≡ false = grind (arith, nat_tests) in
-    (minus, plus)
-
 -- digits without a sign are read as the natural number
 signed_digits : (limit : ℕ) (ds : List ℕ) → 0 < length ds → list_all is_digit ds ≡ true → signed_read 1 limit ds ≡ with_value pos (decimal_read 1 limit ds)
 unfolding signed_read
 signed_digits limit [] some h = absurd (omega arith)
 signed_digits limit (d ∷ ds) some h =
-    let f = head_digit d (and_parts (is_digit d) (list_all is_digit ds) h).0 in
-    rw (f.0, f.1) refl
+    let digit = (and_parts (is_digit d) (list_all is_digit ds) h).0 in
+    let minus : (d == 45) ≡ false = grind (arith, nat_tests) in
+    let plus : (d == 43) ≡ false = grind (arith, nat_tests) in
+    rw (minus, plus) refl
 
 -- a coordinate
 pub signed_written : (n limit : ℕ) → n < 2 ^ 64 → n ≤ limit → signed_read 1 limit (decimal n) ≡ Ok (pos n)

@@ -11,7 +11,7 @@ pub use Rattle.sf_gsrc.specs.Nets.{DegreeIs, NetEntry, NetSaid, NetsAre, PinIs, 
 unfoldable pub use Rattle.sf_gsrc.specs.Nets.{nets_read}
 pub use Rattle.sf_gsrc.specs.NetsStanding.{NetsStandFor, SaysNet, SaysNetBy, net_lines, net_of, net_part, nets_count}
 pub use Rattle.sf_gsrc.specs.Owners.{AreOwners, AreOwnersFrom, owner_found, owner_of}
-pub use Rattle.sf_gsrc.specs.Places.{PlacesStandFor, SaysPlace, at_number, place_at, places_behind, places_from}
+pub use Rattle.sf_gsrc.specs.Places.{PlacesStandFor, SaysPlace, at_number, place_at, places_from}
 unfoldable pub use Rattle.sf_gsrc.specs.Places.{places_read}
 pub use Rattle.sf_gsrc.specs.Standing.{SaysBy, SaysEntry, StandsFor, StandsOnce, counts_of}
 pub use Rattle.sf_gsrc.specs.Weights.{GivesWeights, NetWeight, SaysWeight, WeightsStandFor, net_in_word, new_net, number_on, pair_after, weight_after, weight_in_word, weight_of, weight_said, weights_from, weights_of}
@@ -36,7 +36,7 @@ pub use Rattle.sf_lex.specs.Vertices.{box_read}
 pub use Rattle.sf_lex.specs.declared.field.Gap.TheVariants.{Blanks, Colons, Points}
 pub use Rattle.sf_lex.specs.declared.vertices.BoxSize.{BoxSize}
 pub use Rattle.sf_model.proofs.Tables.{bytes_eq_sym, place_within, position_any}
-pub use Rattle.sf_model.specs.Admitted.{HasPinsInRange, HasSizes, IsPinInRange, IsSized, at_pin_name, at_pin_names, block_names, block_of, duplicates, first, first_refusal, if_both, if_neither, is_block_name, is_index, is_pad_name, is_wired, missing_places, name_faults, no_blocks, over_counts, over_kind, over_limits, over_places, pad_names, pad_of, unknowns, unplaced_faults}
+pub use Rattle.sf_model.specs.Admitted.{HasPinsInRange, HasSizes, IsPinInRange, IsSized, at_pin_name, at_pin_names, block_names, block_of, first, first_refusal, if_both, if_neither, is_block_name, is_index, is_pad_name, is_wired, missing_places, pad_names, pad_of, unplaced_faults}
 pub use Rattle.sf_model.specs.declared.raw.Parts.{Parts}
 pub use Rattle.sf_model.specs.declared.raw.RawBlock.{RawBlock}
 pub use Rattle.sf_model.specs.declared.raw.RawNet.{RawNet}

@@ -21,14 +21,6 @@ has_often (n ∷ names) name =
     rw (often-cons n names name, has_often names name)
     (elim (bytes_eq n name) as (λ b. (b || nat_lt 0 (often names name)) ≡ nat_lt 0 (cond b 1 0 + often names name)) [ true ↦ grind (arith, nat_tests) | false ↦ grind (arith, nat_tests) ])
 
--- a name has its own bytes
-same_name : (name : List ℕ) → bytes_eq name name ≡ true
-same_name name = (bytes_eq-Decides name name).1 refl
-
--- names of the same bytes are one
-equal_names : (a b : List ℕ) → bytes_eq a b ≡ true → a ≡ b
-equal_names a b h = (bytes_eq-Decides a b).0 h
-
 -- no name of the rest stands before it
 abbrev IsFresh : List (List ℕ) → List (List ℕ) → Type 0
 IsFresh before rest = (name : List ℕ) → has_name rest name ≡ true → has_name before name ≡ false
@@ -36,7 +28,7 @@ IsFresh before rest = (name : List ℕ) → has_name rest name ≡ true → has_
 -- a name that does not stand before its line has a like exactly where it stands again behind it
 like_is : (before : List (List ℕ)) (name : List ℕ) (rest : List (List ℕ)) → has_name before name ≡ false → has_like (before ++ name ∷ rest) name ≡ has_name rest name
 like_is before name rest fresh =
-    let here : cond {A = ℕ} (bytes_eq name name) 1 0 ≡ 1 = rw (same_name name) refl in
+    let here : cond {A = ℕ} (bytes_eq name name) 1 0 ≡ 1 = rw ((bytes_eq-Decides name name).1 refl) refl in
     let none : nat_lt 0 (often before name) ≡ false = sym (has_often before name) ∙ fresh in
     let all : often (before ++ name ∷ rest) name ≡ often before name + (1 + often rest name) = omega (arith, often-append before (name ∷ rest) name, often-cons name rest name, here) in
     rw (all, has_often rest name) (grind (arith, nat_tests, none))
@@ -44,7 +36,7 @@ like_is before name rest fresh =
 -- a name of the rest does not stand before it either when a name that is not in the rest joins those before
 still_fresh_by : (before : List (List ℕ)) (name : List ℕ) (rest : List (List ℕ)) (n : List ℕ) (b : Bool) → bytes_eq name n ≡ b → has_name rest name ≡ false → has_name before n ≡ false → has_name rest n ≡ true → has_name (before ++ name ∷ []) n ≡ false
 still_fresh_by before name rest n true e none fresh here =
-    absurd (let both : true ≡ false = sym here ∙ ap (has_name rest) (sym (equal_names name n e)) ∙ none in cc)
+    absurd (let both : true ≡ false = sym here ∙ ap (has_name rest) (sym ((bytes_eq-Decides name n).0 e)) ∙ none in cc)
 still_fresh_by before name rest n false e none fresh here = list_any-append (λ m. bytes_eq m n) before (name ∷ []) ∙ rw (fresh, e) refl
 
 -- behind a name that does not stand again the rest is fresh still
@@ -57,7 +49,7 @@ still_fresh before name rest fresh none n here =
 first_of : (before rest : List (List ℕ)) → IsFresh before rest → find (has_like (before ++ rest)) rest ≡ first_again rest
 first_of before [] fresh = refl
 first_of before (name ∷ rest) fresh =
-    rw (like_is before name rest (fresh name (rw (same_name name) refl))) (by_again (has_name rest name) refl (λ again. first_of (before ++ name ∷ []) rest (still_fresh before name rest fresh again)))
+    rw (like_is before name rest (fresh name (rw ((bytes_eq-Decides name name).1 refl) refl))) (by_again (has_name rest name) refl (λ again. first_of (before ++ name ∷ []) rest (still_fresh before name rest fresh again)))
   where
     by_again : (b : Bool) → has_name rest name ≡ b → (has_name rest name ≡ false → find (has_like ((before ++ name ∷ []) ++ rest)) rest ≡ first_again rest)
         → (if b then Some name else find (has_like (before ++ name ∷ rest)) rest) ≡ (if b then Some name else first_again rest)

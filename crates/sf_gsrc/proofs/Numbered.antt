@@ -1,6 +1,6 @@
 -- A numbered pin is of the block and of the pad of the pin that was read, so numbers change no fault of the parts.
 use Rattle.std.proofs.Common.{◌≡◌, ℕ, ◌+◌, ◌<◌, Bool, true, false, ◌&&◌, ◌||◌, cond, map, length, List, [], ◌∷◌, ◌++◌, Option, Some, None, is_some, is_none, refl, ap, sym, ◌∙◌}
-use Rattle.sf_gsrc.proofs.Common.{IfSome, flat_map, sum_by, All, list_any, bytes_eq, length-map, All-map, All-weaker, RawBlock, RawNet, RawPad, RawPin, IsPinInRange, at_pin_name, at_pin_names, block_names, block_of, duplicates, first, first_refusal, if_both, if_neither, is_block_name, is_index, is_pad_name, is_wired, missing_places, name_faults, no_blocks, over_counts, over_kind, over_limits, over_places, pad_names, pad_of, unknowns, unplaced_faults, by_number, has_numbers, numbered, numbered_net, numbered_nets, numbered_pin, sum_by-cons, Parts, place_within, position_any}
+use Rattle.sf_gsrc.proofs.Common.{IfSome, flat_map, sum_by, All, list_any, bytes_eq, length-map, All-map, All-weaker, RawBlock, RawNet, RawPad, RawPin, IsPinInRange, at_pin_name, at_pin_names, block_names, block_of, first_refusal, if_both, if_neither, is_block_name, is_index, is_pad_name, is_wired, missing_places, pad_names, pad_of, unplaced_faults, by_number, has_numbers, numbered, numbered_net, numbered_nets, numbered_pin, sum_by-cons, Parts, place_within, position_any}
 use Rattle.sf_model.specs.declared.fault.BuildFault.{BuildFault}
 use Rattle.sf_model.specs.declared.fault.BuildFault.TheVariants as fault
 use Rattle.sf_model.specs.declared.raw.RawPin.TheVariants as raw
@@ -95,18 +95,6 @@ sum_same blocks pads (n ∷ nets) =
 abbrev with_numbers : Parts → Parts
 with_numbers parts = record parts { nets = map (numbered_net parts.blocks parts.pads) parts.nets }
 
--- numbers change no count that is past its limit
-counts_same : (parts : Parts) → over_counts (with_numbers parts) ≡ over_counts parts
-counts_same parts = rw (length-map parts.nets (numbered_net parts.blocks parts.pads), sum_same parts.blocks parts.pads parts.nets) refl
-
--- numbers change no name that is there twice
-duplicates_same : (parts : Parts) → duplicates (with_numbers parts) ≡ duplicates parts
-duplicates_same parts = rw (names_same parts (if_both parts) (both_same parts)) refl
-
--- numbers change no name that is nowhere
-unknowns_same : (parts : Parts) → unknowns (with_numbers parts) ≡ unknowns parts
-unknowns_same parts = rw (names_same parts (if_neither parts) (neither_same parts)) refl
-
 -- numbers change no pad without a place
 missing_same : (parts : Parts) → missing_places (with_numbers parts) ≡ missing_places parts
 missing_same parts =
@@ -115,11 +103,13 @@ missing_same parts =
 
 -- numbers change no first fault
 faults_same : (parts : Parts) → first_refusal (with_numbers parts) ≡ first_refusal parts
-faults_same parts =
-    ap (λ (o : List BuildFault). first (no_blocks parts ++ (o ++ flat_map (λ (b : RawBlock). over_kind b.kind) parts.blocks ++ over_places parts) ++ name_faults (with_numbers parts))) (counts_same parts)
-    ∙ ap (λ (d : List BuildFault). first (no_blocks parts ++ over_limits parts ++ (d ++ unknowns (with_numbers parts) ++ missing_places (with_numbers parts)))) (duplicates_same parts)
-    ∙ ap (λ (u : List BuildFault). first (no_blocks parts ++ over_limits parts ++ (duplicates parts ++ u ++ missing_places (with_numbers parts)))) (unknowns_same parts)
-    ∙ ap (λ (m : List BuildFault). first (no_blocks parts ++ over_limits parts ++ (duplicates parts ++ unknowns parts ++ m))) (missing_same parts)
+faults_same parts = rw (
+  length-map parts.nets (numbered_net parts.blocks parts.pads),
+  sum_same parts.blocks parts.pads parts.nets,
+  names_same parts (if_both parts) (both_same parts),
+  names_same parts (if_neither parts) (neither_same parts),
+  missing_same parts,
+) refl
 
 -- the same fault is answered first, or none
 pub refusal_same : (parts : Parts) → first_refusal (numbered parts) ≡ first_refusal parts

@@ -4,25 +4,21 @@ use Rattle.sf_gsrc.proofs.Common.{IfSome, All, length-map, All-nil, All-cons, Al
 use Rattle.sf_gsrc.specs.declared.fault.JoinFault.TheVariants as faults
 use Rattle.sf_gsrc.specs.Ranges.{HasPinsInAnyRange}
 use Rattle.sf_gsrc.proofs.Numbered.{nets_in_range_still}
-use Rattle.sf_gsrc.proofs.Results.{done, ok_is, err_not_ok}
+use Rattle.sf_gsrc.proofs.Results.{ok_is, err_not_ok}
 
 -- ---- named pins
 
--- pins by their names are in any range
-named_in_range : (blocks pads : ℕ) (names : List (List ℕ)) → All (IsPinInRange blocks pads) (map Named names)
-named_in_range blocks pads [] = All-nil (IsPinInRange blocks pads)
-named_in_range blocks pads (name ∷ names) = All-cons (IsPinInRange blocks pads) (Named name) (map Named names) tt (named_in_range blocks pads names)
-
--- nets of pins by their names are in any range
-nets_in_range : (blocks pads : ℕ) (names : List (List (List ℕ))) → All (λ n. All (IsPinInRange blocks pads) n.pins) (map net_of names)
-nets_in_range blocks pads [] = All-nil (λ (n : RawNet). All (IsPinInRange blocks pads) n.pins)
-nets_in_range blocks pads (one ∷ names) =
-    All-cons (λ (n : RawNet). All (IsPinInRange blocks pads) n.pins) (net_of one) (map net_of names) (named_in_range blocks pads one) (nets_in_range blocks pads names)
+-- what holds of each that is made of an element holds of a list of them
+all_made : {X Y : Type 0} (P : Y → Type 0) (f : X → Y) → ((x : X) → P (f x)) → (xs : List X) → All P (map f xs)
+all_made P f each [] = All-nil P
+all_made P f each (x ∷ xs) = All-cons P (f x) (map f xs) (each x) (all_made P f each xs)
 
 -- the nets for which a text stands are in any range
 pub nets_named : (text : List ℕ) (out : GsrcNets) → NetsStandFor text out → HasPinsInAnyRange out.nets
 nets_named text out s = record {
-  in_range = λ blocks pads. All-same (λ (n : RawNet). All (IsPinInRange blocks pads) n.pins) out.nets (map net_of s.names) s.nets (nets_in_range blocks pads s.names);
+  in_range = λ blocks pads.
+      All-same (λ (n : RawNet). All (IsPinInRange blocks pads) n.pins) out.nets (map net_of s.names) s.nets
+      (all_made (λ (n : RawNet). All (IsPinInRange blocks pads) n.pins) net_of (λ names. all_made (IsPinInRange blocks pads) Named (λ name. tt) names) s.names);
 }
 
 -- ---- joined parts
@@ -32,19 +28,15 @@ pub record Keeps (blocks : GsrcBlocks) (nets : List RawNet) (parts : Parts) : Ty
   pub blocks_are : parts.blocks ≡ blocks.blocks
   pub nets_are : parts.nets ≡ numbered_nets parts.blocks parts.pads nets
 
--- parts that equal what was made keep what it keeps
-kept_as : (blocks : GsrcBlocks) (nets : List RawNet) (made parts : Parts) → done {E = JoinFault} made ≡ done parts → Keeps blocks nets made → Keeps blocks nets parts
-kept_as blocks nets made parts e k = subst (λ (p : Parts). Keeps blocks nets p) (ok_is {E = JoinFault} made parts e) k
-
 -- parts with no name placed twice keep what was made
 placed_keep : (blocks : GsrcBlocks) (nets : List RawNet) (made parts : Parts) (twice : Option (List ℕ)) → placed_once twice made ≡ Ok parts → Keeps blocks nets made → Keeps blocks nets parts
-placed_keep blocks nets made parts None e k = kept_as blocks nets made parts e k
+placed_keep blocks nets made parts None e k = subst (λ (p : Parts). Keeps blocks nets p) (ok_is {E = JoinFault} made parts e) k
 placed_keep blocks nets made parts (Some name) e k = absurd (err_not_ok (faults.PlacedTwice name) parts e)
 
 -- what is joined keeps the blocks and the nets
 pub joined_keep : (blocks : GsrcBlocks) (nets : Option GsrcNets) (places : Option GsrcPlaces) (parts : Parts) → joined blocks nets places ≡ Ok parts → Keeps blocks (nets_in nets) parts
 joined_keep blocks nets None parts e =
-    kept_as blocks (nets_in nets) (numbered (unplaced_parts blocks (nets_in nets))) parts e (record { blocks_are = refl; nets_are = refl })
+    placed_keep blocks (nets_in nets) (numbered (unplaced_parts blocks (nets_in nets))) parts None e (record { blocks_are = refl; nets_are = refl })
 joined_keep blocks nets (Some places) parts e =
     placed_keep blocks (nets_in nets) (numbered (placed_parts blocks (nets_in nets) places.places)) parts (first_twice (names_of places.places)) e (record { blocks_are = refl; nets_are = refl })
 

@@ -20,6 +20,16 @@ ok_is x y e = cc
 pub err_not_ok : {A E : Type 0} (f : E) (x : A) → Err f ≡ Ok x → ⊥
 err_not_ok f x e = absurd cc
 
+-- where a test lets reading go on, it holds, and the rest is what was read
+pub if_ok : {X E : Type 0} (b : Bool) (f : E) (r : Result X E) (x : X) → (if b then r else Err f) ≡ Ok x → (b ≡ true) × (r ≡ Ok x)
+if_ok true f r x h = (refl, h)
+if_ok false f r x h = absurd cc
+
+-- where a test refuses, and reading goes on, it fails, and the rest is what was read
+pub unless_ok : {X E : Type 0} (b : Bool) (f : E) (r : Result X E) (x : X) → (if b then Err f else r) ≡ Ok x → (b ≡ false) × (r ≡ Ok x)
+unless_ok true f r x h = absurd cc
+unless_ok false f r x h = (refl, h)
+
 -- what is read behind a title has a title of the kind, and the lines behind it are read
 pub opened_ok : {Y : Type 0} (kind : List ℕ) (ls : List Line) (f : ℕ × List Line → Result Y GsrcFault) (y : Y) (P : Type 0) → (opened kind ls >>= f) ≡ Ok y
     → ((title : Line) (others : List Line) → ls ≡ title ∷ others → is_title kind title.bytes ≡ true → f (title.number, others) ≡ Ok y → P) → P
@@ -45,27 +55,17 @@ pub or_else-None : {X : Type 0} (o : Option X) → or_else o None ≡ o
 or_else-None None = refl
 or_else-None (Some x) = refl
 
--- with the test of the count known, a count that let reading go on is the number that was found, and the rest is what was read
-compared_by : {X : Type 0} (count : Count) (found : ℕ) (next : Result X GsrcFault) (x : X) (b : Bool) → (count.said == found) ≡ b → compared count found next ≡ Ok x → (count.said ≡ found) × (next ≡ Ok x)
-compared_by count found next x true e h = (eqb-true count.said found e, rw e at h)
-compared_by count found next x false e h = absurd (err_not_ok (faults.CountDiffers count.line count.said found) x (rw e at h))
-
 -- where a count is compared and reading goes on, it is the number that was found
 pub compared_ok : {X : Type 0} (count : Count) (found : ℕ) (next : Result X GsrcFault) (x : X) → compared count found next ≡ Ok x → (count.said ≡ found) × (next ≡ Ok x)
-compared_ok count found next x h = compared_by count found next x (count.said == found) refl h
-
--- a fault is that of all that hands faults on
-pub Fails-as : {X Y : Type 0} (f : Result X GsrcFault → Result Y GsrcFault) → ((e : GsrcFault) → f (Err e) ≡ Err e)
-    → (fault : GsrcFault) (read : Result X GsrcFault) → Fails fault read → Fails fault (f read)
-Fails-as f keeps faults.NoMemory read h = tt
-Fails-as f keeps (faults.BadTitle n) read h = rw h (keeps (faults.BadTitle n))
-Fails-as f keeps (faults.BadLine n) read h = rw h (keeps (faults.BadLine n))
-Fails-as f keeps (faults.BadNumber n e) read h = rw h (keeps (faults.BadNumber n e))
-Fails-as f keeps (faults.CountDiffers n a b) read h = rw h (keeps (faults.CountDiffers n a b))
-Fails-as f keeps (faults.BadDegree n a b) read h = rw h (keeps (faults.BadDegree n a b))
-Fails-as f keeps (faults.ZeroSide n) read h = rw h (keeps (faults.ZeroSide n))
-Fails-as f keeps (faults.Truncated n) read h = rw h (keeps (faults.Truncated n))
+compared_ok count found next x h = let k = if_ok (count.said == found) _ next x h in (eqb-true count.said found k.0, k.1)
 
 -- a step's fault is that of the steps after one another
 pub Fails-then : {X Y : Type 0} (f : X → Result Y GsrcFault) (fault : GsrcFault) (read : Result X GsrcFault) → Fails fault read → Fails fault (read >>= f)
-Fails-then f fault read h = Fails-as (λ r. r >>= f) (λ e. refl) fault read h
+Fails-then f faults.NoMemory read h = tt
+Fails-then f (faults.BadTitle n) read h = rw h refl
+Fails-then f (faults.BadLine n) read h = rw h refl
+Fails-then f (faults.BadNumber n e) read h = rw h refl
+Fails-then f (faults.CountDiffers n a b) read h = rw h refl
+Fails-then f (faults.BadDegree n a b) read h = rw h refl
+Fails-then f (faults.ZeroSide n) read h = rw h refl
+Fails-then f (faults.Truncated n) read h = rw h refl

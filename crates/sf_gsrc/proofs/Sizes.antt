@@ -1,10 +1,9 @@
 -- Each block of a blocks file has a size.
-use Rattle.std.proofs.Common.{◌≡◌, ◌<◌, ℕ, Bool, true, false, List, [], ◌∷◌, Option, Some, None, Result, Ok, Err, refl, sym, subst, arith, nat_lt, ◌*◌, ◌==◌, ◌||◌, if◌then◌else◌}
-use Rattle.sf_gsrc.proofs.Common.{length, All, AllZip, nat_tests, All-nil, All-cons, All-same, Line, words, is_gap, first_word, after_word, Blanks, Points, RawBlock, IsSized, LineFault, Counted, GsrcBlocks, form_of, ◌>>=◌, map_err, Item, BlockIs, PadIs, area_in_word, aspect_in_word, count_in_word, vertex_fault, soft_said, box_said, hard_said, form_said, plain_said, counted_by, Entry, Said, CountIs, ItemIs, blocks_in, SaysBy, SaysEntry, StandsFor, BadLine, ZeroSide, box_read, BoxSize}
-use Rattle.sf_model.specs.declared.raw.Kind.TheVariants as kinds
+use Rattle.std.proofs.Common.{◌≡◌, ◌<◌, ℕ, false, List, [], ◌∷◌, Option, Some, None, Ok, sym, subst, arith, nat_lt, ◌*◌, ◌==◌, ◌||◌}
+use Rattle.sf_gsrc.proofs.Common.{length, All, AllZip, nat_tests, or_parts, All-nil, All-cons, All-same, Line, words, is_gap, first_word, after_word, Blanks, Points, RawBlock, IsSized, LineFault, Counted, GsrcBlocks, form_of, map_err, Item, BlockIs, PadIs, area_in_word, aspect_in_word, count_in_word, vertex_fault, soft_said, box_said, hard_said, form_said, plain_said, counted_by, Entry, Said, CountIs, ItemIs, blocks_in, SaysBy, SaysEntry, StandsFor, BadLine, box_read, BoxSize}
 use Rattle.sf_gsrc.specs.declared.keywords.Form.{Form}
 use Rattle.sf_gsrc.specs.declared.keywords.Form.TheVariants as forms
-use Rattle.sf_gsrc.proofs.Results.{bind_ok, done, ok_is, err_not_ok}
+use Rattle.sf_gsrc.proofs.Results.{bind_ok, done, ok_is, err_not_ok, unless_ok}
 
 -- a block has a size
 abbrev ItemSized : Item → Type 0
@@ -21,12 +20,6 @@ sized_as made item e h = subst (λ (x : Item). ItemSized x) (ok_is {E = LineFaul
 
 -- ---- what a line says
 
--- a soft block whose area was taken has a size, whether the area is 0 or not
-area_sized : (name : List ℕ) (a low high : ℕ) (item : Item) (b : Bool) → (a == 0) ≡ b
-    → (if b then Err ZeroSide else Ok (BlockIs (record { name = name; kind = kinds.Soft a low high }))) ≡ Ok item → ItemSized item
-area_sized name a low high item true e h = absurd (err_not_ok ZeroSide item h)
-area_sized name a low high item false e h = sized_as (BlockIs (record { name = name; kind = kinds.Soft a low high })) item h (some_size a e)
-
 -- the block of a soft line has a size
 soft_sized : (scale : ℕ) (name : List ℕ) (rest : List (List ℕ)) (item : Item) → soft_said scale name rest ≡ Ok item → ItemSized item
 unfolding soft_said
@@ -37,23 +30,15 @@ soft_sized scale name (area ∷ min ∷ max ∷ more) item h =
     let a = bind_ok (area_in_word scale area) _ item h in
     let low = bind_ok (aspect_in_word min) _ item a.2 in
     let high = bind_ok (aspect_in_word max) _ item low.2 in
-    area_sized name a.0 low.0 high.0 item (a.0 == 0) refl high.2
-
--- a block whose sides were taken has a size, whether they are 0 or not
-box_by : (name : List ℕ) (w h : ℕ) (item : Item) (a b : Bool) → (w == 0) ≡ a → (h == 0) ≡ b
-    → (if a || b then Err ZeroSide else Ok (BlockIs (record { name = name; kind = kinds.Hard w h }))) ≡ Ok item → ItemSized item
-box_by name w h item true b ea eb e = absurd (err_not_ok ZeroSide item e)
-box_by name w h item false true ea eb e = absurd (err_not_ok ZeroSide item e)
-box_by name w h item false false ea eb e = sized_as (BlockIs (record { name = name; kind = kinds.Hard w h })) item e (some_size w ea, some_size h eb)
+    let some = unless_ok (a.0 == 0) _ _ item high.2 in
+    sized_as _ item some.1 (some_size a.0 some.0)
 
 -- the block of a box has a size
 box_sized : (name : List ℕ) (size : BoxSize) (item : Item) → box_said name size ≡ Ok item → ItemSized item
-box_sized name size item h = box_by name size.w size.h item (size.w == 0) (size.h == 0) refl refl h
-
--- the block of an outline has a size
-outline_sized : (name : List ℕ) (read : Result BoxSize LineFault) (item : Item) (b : Bool) → (if b then Err BadLine else (read >>= box_said name)) ≡ Ok item → ItemSized item
-outline_sized name read item true h = absurd (err_not_ok BadLine item h)
-outline_sized name read item false h = let k = bind_ok read (box_said name) item h in box_sized name k.0 item k.2
+box_sized name size item h =
+    let some = unless_ok ((size.w == 0) || (size.h == 0)) _ _ item h in
+    let both = or_parts (size.w == 0) (size.h == 0) some.0 in
+    sized_as _ item some.1 (some_size size.w both.0, some_size size.h both.1)
 
 -- the block of a hard line has a size
 hard_sized : (scale : ℕ) (name : List ℕ) (rest : List (List ℕ)) (item : Item) → hard_said scale name rest ≡ Ok item → ItemSized item
@@ -61,7 +46,9 @@ unfolding hard_said
 hard_sized scale name [] item h = absurd (err_not_ok BadLine item h)
 hard_sized scale name (count ∷ places) item h =
     let k = bind_ok (count_in_word count) _ item h in
-    outline_sized name (map_err vertex_fault (box_read scale k.0 places)) item ((k.0 == 0) || nat_lt (length places) (2 * k.0)) k.2
+    let box = unless_ok ((k.0 == 0) || nat_lt (length places) (2 * k.0)) _ _ item k.2 in
+    let size = bind_ok (map_err vertex_fault (box_read scale k.0 places)) (box_said name) item box.1 in
+    box_sized name size.0 item size.2
 
 -- what a line says has a size, whatever its form
 form_sized : (scale : ℕ) (name rest : List ℕ) (form : Option Form) (item : Item) → form_said scale name rest form ≡ Ok item → ItemSized item

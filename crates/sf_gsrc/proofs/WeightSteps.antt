@@ -1,6 +1,6 @@
 -- Lines of a weights file one after another, as the loop takes them.
 use Rattle.std.proofs.Common.{◌≡◌, ◌≢◌, ℕ, ◌<◌, ◌==◌, Bool, true, false, List, [], ◌∷◌, ◌++◌, length, map, replicate, get_or, set, take, drop, is_some, if◌then◌else◌, Option, Some, None, Result, Ok, Err, refl, sym, ap, subst, ◌∙◌, inl, inr, arith, lt-ltb, eq-eqb, ne_eqb, unwrap_or}
-use Rattle.sf_gsrc.proofs.Common.{range_with_len, eqb_tells, ext_get_or, length-set, length-replicate, get_or-replicate, get_or-set_same, get_or-set_other, is_gap, Line, words, Blanks, WeightFault, content_of, or_else, GivesWeights, NetWeight, net_in_word, number_on, two_words, weight_after, weight_in_word, weight_of, weight_said, weights_from, weights_of, weights_read, length-map-range_with_len, get_or-map-range_with_len, KeepsWeights}
+use Rattle.sf_gsrc.proofs.Common.{range_with_len, eqb_tells, ext_get_or, length-set, length-replicate, get_or-replicate, get_or-set_same, get_or-set_other, is_gap, Line, words, Blanks, WeightFault, content_of, or_else, ◌>>=◌, GivesWeights, NetWeight, net_in_word, number_on, two_words, weight_after, weight_in_word, weight_of, weight_said, weights_from, weights_of, weights_read, length-map-range_with_len, get_or-map-range_with_len, KeepsWeights}
 use Rattle.std.proofs.lemmas.Grind.{common_steps}
 use Rattle.sf_gsrc.specs.declared.fault.WeightFault.TheVariants.{BadLine, BadNumber, UnknownNet, RepeatedNet, NoMemory}
 use Rattle.sf_gsrc.proofs.Results.{none_of, or_else-None}
@@ -8,7 +8,7 @@ use Rattle.sf_gsrc.proofs.Results.{none_of, or_else-None}
 -- ---- what is kept
 
 -- one line more says the weight of its own net alone
-pub weight_said-push : (earlier : List NetWeight) (s : NetWeight) (net : ℕ) → weight_said (earlier ++ s ∷ []) net ≡ or_else (weight_said earlier net) (if s.net == net then Some s.weight else None)
+weight_said-push : (earlier : List NetWeight) (s : NetWeight) (net : ℕ) → weight_said (earlier ++ s ∷ []) net ≡ or_else (weight_said earlier net) (if s.net == net then Some s.weight else None)
 weight_said-push [] s net = refl
 weight_said-push (e ∷ earlier) s net = by_test (e.net == net) (weight_said-push earlier s net)
   where
@@ -40,9 +40,9 @@ none_kept nets = ext_get_or None _ _ (length-replicate nets None ∙ sym (length
     get_or-replicate nets i None None below ∙ sym (get_or-map-range_with_len (weight_said []) 0 nets i i None below (omega arith)))
 
 -- and with one line more
-keeps_more : (nets : ℕ) (kept : List (Option ℕ)) (earlier : List NetWeight) (net weight : ℕ) → KeepsWeights nets kept earlier → net < nets → weight_said earlier net ≡ None
+pub keeps_more : (nets : ℕ) (kept : List (Option ℕ)) (earlier : List NetWeight) (net weight : ℕ) (d : Option ℕ) → KeepsWeights nets kept earlier → net < nets → is_some (get_or kept net d) ≡ false
     → KeepsWeights nets (set kept net (Some weight)) (earlier ++ record { net = net; weight = weight } ∷ [])
-keeps_more nets kept earlier net weight keeps low none =
+keeps_more nets kept earlier net weight d keeps low new =
     let s : NetWeight = record { net = net; weight = weight } in
     let long : length kept ≡ nets = kept_length nets kept earlier keeps in
     ext_get_or None _ _ (length-set {A = Option ℕ} kept net (Some weight) ∙ long ∙ sym (length-map-range_with_len (weight_said (earlier ++ s ∷ [])) 0 nets))
@@ -52,6 +52,7 @@ keeps_more nets kept earlier net weight keeps low none =
     at i below =
         let long : length kept ≡ nets = kept_length nets kept earlier keeps in
         let s : NetWeight = record { net = net; weight = weight } in
+        let none = none_of (weight_said earlier net) (ap is_some (sym (kept_is nets kept earlier net d keeps low)) ∙ new) in
         let there = get_or-map-range_with_len (weight_said (earlier ++ s ∷ [])) 0 nets i i None below (omega arith) in
         elim (eqb_tells net i) [
           | inl e ↦ subst (λ (j : ℕ). get_or (set kept net (Some weight)) j None ≡ weight_said (earlier ++ s ∷ []) j) e.1
@@ -62,28 +63,12 @@ keeps_more nets kept earlier net weight keeps low none =
 
 -- ---- one line
 
--- a net that an earlier line names
-pub repeats : (nets : ℕ) (kept : List (Option ℕ)) (earlier : List NetWeight) (line : Line) (number weight : List ℕ) (net : ℕ) (d : Option ℕ) → KeepsWeights nets kept earlier
-    → two_words (words (is_gap Blanks) line.bytes) ≡ Some (number, weight) → number_on line.number (net_in_word number) ≡ Ok net → net < nets → is_some (get_or kept net d) ≡ true
-    → weight_after nets earlier line ≡ Err (RepeatedNet line.number net)
-repeats nets kept earlier line number weight net d keeps two number_is low there =
-    rw (two, number_is, lt-ltb net nets low, ← kept_is nets kept earlier net d keeps low, there) refl
-
--- a weight that is none
-pub fails_weight : (nets : ℕ) (kept : List (Option ℕ)) (earlier : List NetWeight) (line : Line) (number weight : List ℕ) (net : ℕ) (d : Option ℕ) (fault : WeightFault) → KeepsWeights nets kept earlier
-    → two_words (words (is_gap Blanks) line.bytes) ≡ Some (number, weight) → number_on line.number (net_in_word number) ≡ Ok net → net < nets → is_some (get_or kept net d) ≡ false
-    → number_on line.number (weight_in_word weight) ≡ Err fault → weight_after nets earlier line ≡ Err fault
-fails_weight nets kept earlier line number weight net d fault keeps two number_is low new failed =
-    rw (two, number_is, lt-ltb net nets low, ← kept_is nets kept earlier net d keeps low, new, failed) refl
-
--- a line that gives a weight to a new net
-pub takes : (nets : ℕ) (kept : List (Option ℕ)) (earlier : List NetWeight) (line : Line) (number weight : List ℕ) (net value : ℕ) (d : Option ℕ) → KeepsWeights nets kept earlier
-    → two_words (words (is_gap Blanks) line.bytes) ≡ Some (number, weight) → number_on line.number (net_in_word number) ≡ Ok net → net < nets → is_some (get_or kept net d) ≡ false
-    → number_on line.number (weight_in_word weight) ≡ Ok value
-    → (said : NetWeight) × (weight_after nets earlier line ≡ Ok said) × KeepsWeights nets (set kept net (Some value)) (earlier ++ said ∷ [])
-takes nets kept earlier line number weight net value d keeps two number_is low new weight_is =
-    let none : weight_said earlier net ≡ None = none_of (weight_said earlier net) (ap is_some (sym (kept_is nets kept earlier net d keeps low)) ∙ new) in
-    (record { net = net; weight = value }, rw (two, number_is, lt-ltb net nets low, none, weight_is) refl, keeps_more nets kept earlier net value keeps low none)
+-- a line of two words that begins with the number of a net gives its weight, unless one is kept of the net
+pub net_line : (nets : ℕ) (kept : List (Option ℕ)) (earlier : List NetWeight) (line : Line) (number weight : List ℕ) (net : ℕ) (d : Option ℕ) (b : Bool) (value : Result ℕ WeightFault) → KeepsWeights nets kept earlier
+    → Some (number, weight) ≡ two_words (words (is_gap Blanks) line.bytes) → Ok net ≡ number_on line.number (net_in_word number) → net < nets → is_some (get_or kept net d) ≡ b → value ≡ number_on line.number (weight_in_word weight)
+    → weight_after nets earlier line ≡ ((if b then Err (RepeatedNet line.number net) else Ok net) >>= λ n. value >>= λ w. Ok (record { net = n; weight = w }))
+net_line nets kept earlier line number weight net d b value keeps two number_is low there weight_is =
+    rw (← two, ← number_is, lt-ltb net nets low, ← kept_is nets kept earlier net d keeps low, there, ← weight_is) refl
 
 -- ---- the whole text
 

@@ -81,15 +81,19 @@ module _ (blocks : ℕ) (ts : List Token) (front : IsFaultless blocks ts) where
     | inr p ↦ omega (arith, front-times (token.Block b) c, times-cons c (token.Block b) [], ap {B = ℕ} (λ z. cond z 1 0) p.0, front.times c)
   ]
 
+  -- a front goes on with a token that fits behind it
+  front-more : (t : Token) (depth : ℕ) → ((c : ℕ) → count_by (is_block c) (ts ++ t ∷ []) ≤ 1) → is_outside blocks t ≡ false → Reads front.depth (t ∷ []) depth → same_operator (last_or (token.Block 0) ts) t ≡ false → IsFaultless blocks (ts ++ t ∷ [])
+  front-more t depth times within reads other = record {
+    times = times;
+    inside = each-append _ ts (t ∷ []) front.inside (within, tt);
+    depth = depth;
+    reads = Reads-append ts (t ∷ []) 0 front.depth depth front.reads reads;
+    alternating = Alternating-append (token.Block 0) ts (t ∷ []) front.alternating (other, tt);
+  }
+
   -- a front goes on with a block that it does not name
   pub front-block : (b : ℕ) → is_named b ts ≡ false → is_outside blocks (token.Block b) ≡ false → IsFaultless blocks (ts ++ token.Block b ∷ [])
-  front-block b free within = record {
-    times = λ c. block_times b c free;
-    inside = each-append _ ts (token.Block b ∷ []) front.inside (within, tt);
-    depth = front.depth + 1;
-    reads = Reads-append ts (token.Block b ∷ []) 0 front.depth (front.depth + 1) front.reads refl;
-    alternating = Alternating-append (token.Block 0) ts (token.Block b ∷ []) front.alternating (last_free (last_or (token.Block 0) ts) b, tt);
-  }
+  front-block b free within = front-more (token.Block b) (front.depth + 1) (λ c. block_times b c free) within refl (last_free (last_or (token.Block 0) ts) b)
     where
       last_free : (t : Token) (b : ℕ) → same_operator t (token.Block b) ≡ false
       last_free token.Beside b = refl
@@ -102,23 +106,11 @@ module _ (blocks : ℕ) (ts : List Token) (front : IsFaultless blocks ts) where
 
   -- a front with two plans that wait, and that does not end in Beside, goes on with Beside
   pub front-beside : operators ts + 1 < operands ts → ends_in token.Beside ts ≡ false → IsFaultless blocks (ts ++ token.Beside ∷ [])
-  front-beside more other = record {
-    times = λ c. omega (arith, front-times token.Beside c, times-cons c token.Beside [], front.times c);
-    inside = each-append _ ts (token.Beside ∷ []) front.inside (refl, tt);
-    depth = front.depth - 1;
-    reads = Reads-append ts (token.Beside ∷ []) 0 front.depth (front.depth - 1) front.reads (enough more, refl);
-    alternating = Alternating-append (token.Block 0) ts (token.Beside ∷ []) front.alternating (other, tt);
-  }
+  front-beside more other = front-more token.Beside (front.depth - 1) (λ c. omega (arith, front-times token.Beside c, times-cons c token.Beside [], front.times c)) refl (enough more, refl) other
 
   -- a front with two plans that wait, and that does not end in Above, goes on with Above
   pub front-above : operators ts + 1 < operands ts → ends_in token.Above ts ≡ false → IsFaultless blocks (ts ++ token.Above ∷ [])
-  front-above more other = record {
-    times = λ c. omega (arith, front-times token.Above c, times-cons c token.Above [], front.times c);
-    inside = each-append _ ts (token.Above ∷ []) front.inside (refl, tt);
-    depth = front.depth - 1;
-    reads = Reads-append ts (token.Above ∷ []) 0 front.depth (front.depth - 1) front.reads (enough more, refl);
-    alternating = Alternating-append (token.Block 0) ts (token.Above ∷ []) front.alternating (other, tt);
-  }
+  front-above more other = front-more token.Above (front.depth - 1) (λ c. omega (arith, front-times token.Above c, times-cons c token.Above [], front.times c)) refl (enough more, refl) other
 
 -- ---- what a word that is taken tells
 

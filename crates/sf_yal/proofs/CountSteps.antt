@@ -1,7 +1,7 @@
 -- What is counted of statements one after another, as the loop takes their pieces.
-use Rattle.std.proofs.Common.{◌≡◌, ℕ, ◌+◌, List, [], ◌∷◌, refl, sym, ap, ◌∙◌, subst}
+use Rattle.std.proofs.Common.{◌≡◌, ℕ, ◌+◌, List, [], ◌∷◌, refl, sym, ap, ◌∙◌}
 use Rattle.sf_yal.proofs.Common.{words, is_blank_byte, pieces, feeds, statements, Counting, counted, counted_all}
-use Rattle.sf_yal.proofs.StatementSteps.{Filled, filled}
+use Rattle.sf_yal.proofs.StatementSteps.{filled}
 
 -- what is counted with the words of all pieces but the last
 unfoldable pub counted_pieces : ℕ → Counting → List (List ℕ) → Counting
@@ -17,17 +17,13 @@ by_pieces scale n c (piece ∷ []) = refl
 by_pieces scale n c (piece ∷ next ∷ more) = by_pieces scale (n + feeds piece) (counted scale c (words is_blank_byte piece)) (next ∷ more)
 
 module _ (scale : ℕ) (c : Counting) where
-  -- a piece before others is counted
-  counted_by : (piece : List ℕ) (more : List (List ℕ)) → Filled more → counted_pieces scale c (piece ∷ more) ≡ counted_pieces scale (counted scale c (words is_blank_byte piece)) more
-  unfolding counted_pieces
-  counted_by piece more f = subst (λ (xs : List (List ℕ)). counted_pieces scale c (piece ∷ xs) ≡ counted_pieces scale (counted scale c (words is_blank_byte piece)) xs) (sym f.is) refl
-
   -- a piece that is counted leaves what is counted in all
   pub counts_on : (rest piece after : List ℕ) (next total : Counting) → pieces rest ≡ piece ∷ pieces after → next ≡ counted scale c (words is_blank_byte piece)
       → counted_pieces scale c (pieces rest) ≡ total → counted_pieces scale next (pieces after) ≡ total
+  unfolding counted_pieces
   counts_on rest piece after next total cut said so_far =
-      ap (λ (x : Counting). counted_pieces scale x (pieces after)) said
-      ∙ (sym (counted_by piece (pieces after) (filled after)) ∙ (sym (ap (counted_pieces scale c) cut) ∙ so_far))
+      let here : counted_pieces scale c (pieces rest) ≡ counted_pieces scale (counted scale c (words is_blank_byte piece)) (pieces after) = rw (cut, (filled after).is) refl in
+      ap (λ (x : Counting). counted_pieces scale x (pieces after)) said ∙ sym here ∙ so_far
 
   -- where no statement is left, all is counted
   pub counts_all : (rest : List ℕ) (total : Counting) → pieces rest ≡ rest ∷ [] → counted_pieces scale c (pieces rest) ≡ total → c ≡ total

@@ -71,31 +71,19 @@ module _ (pre : List Worded) (items : List Item) (s : Worded) where
   abbrev items_text : List Worded
   items_text = flat_map item_text items
 
-  -- one statement more outside of all modules
-  stray_cut : opens_module (key s) ≡ false → AreCut pre (record { items = items; rest = Nothing }) → AreCut (pre ++ s ∷ []) (record { items = items ++ Stray s ∷ []; rest = Nothing })
-  stray_cut other a = record {
-    text = ap (λ (xs : List Worded). xs ++ s ∷ []) (a.text ∙ append-nil items_text) ∙ sym (append-nil (flat_map item_text (items ++ Stray s ∷ [])) ∙ flat_push item_text items (Stray s));
-    items = All-push IsItem items (Stray s) a.items other;
-    rest = tt;
-  }
-
   -- the cut keeps its statements, with one more outside of all modules
   outside_cut : (k : Keyword) → key s ≡ k → AreCut pre (record { items = items; rest = Nothing }) → AreCut (pre ++ s ∷ []) (step_outside items s k)
   outside_cut keys.Module e a = record { text = ap (λ (xs : List Worded). xs ++ s ∷ []) (a.text ∙ append-nil items_text); items = a.items; rest = (ap opens_module e, All-nil IsSection) }
-  outside_cut k e a = stray_cut (ap opens_module e) a
+  outside_cut k e a = record {
+    text = ap (λ (xs : List Worded). xs ++ s ∷ []) (a.text ∙ append-nil items_text) ∙ sym (append-nil (flat_map item_text (items ++ Stray s ∷ [])) ∙ flat_push item_text items (Stray s));
+    items = All-push IsItem items (Stray s) a.items (ap opens_module e);
+    rest = tt;
+  }
 
   module _ (m : Module) where
     -- the statements so far, and one more
     body_text : AreCut pre (record { items = items; rest = InModule m }) → pre ++ s ∷ [] ≡ items_text ++ (module_text m ++ s ∷ [])
     body_text a = ap (λ (xs : List Worded). xs ++ s ∷ []) a.text ∙ append_assoc items_text (module_text m) (s ∷ [])
-
-    -- with one that stands by itself in a module
-    single_cut : stands_alone (key s) ≡ true → AreCut pre (record { items = items; rest = InModule m }) → AreCut (pre ++ s ∷ []) (record { items = items; rest = InModule (with_section m (Single s)) })
-    single_cut alone a = record {
-      text = body_text a ∙ ap (λ (xs : List Worded). items_text ++ xs) (section_more m (Single s));
-      items = a.items;
-      rest = (a.rest.0, All-push IsSection m.sections (Single s) a.rest.1 alone);
-    }
 
     -- with one that opens a list
     listing_cut : (kind : ListKind) → key s ≡ opener kind → AreCut pre (record { items = items; rest = InModule m }) → AreCut (pre ++ s ∷ []) (record { items = items; rest = InList m (listing kind s) })
@@ -110,7 +98,11 @@ module _ (pre : List Worded) (items : List Item) (s : Worded) where
     }
     body_cut keys.IoList e a = listing_cut Terminals e a
     body_cut keys.Network e a = listing_cut Network e a
-    body_cut k e a = single_cut (ap stands_alone e) a
+    body_cut k e a = record {
+      text = body_text a ∙ ap (λ (xs : List Worded). items_text ++ xs) (section_more m (Single s));
+      items = a.items;
+      rest = (a.rest.0, All-push IsSection m.sections (Single s) a.rest.1 (ap stands_alone e));
+    }
 
     -- the statements so far, where a list is open, and one more
     list_text : (l : Listing) → AreCut pre (record { items = items; rest = InList m l }) → pre ++ s ∷ [] ≡ items_text ++ (module_text m ++ (listing_text l ++ s ∷ []))

@@ -3,12 +3,12 @@ use Rattle.std.proofs.Common.{◌≡◌, inl, inr, ℕ, suc, ◌<◌, Bool, true
 use Rattle.sf_yal.proofs.Common.{not, cases_Bool, has_mark, is_mark_of, shown, hide, ends_inside}
 
 -- a mark is two blanks, and behind it it is the other way round
-at_mark : (inside : Bool) (rest : List ℕ) → has_mark inside rest ≡ true → (hide inside rest ≡ 32 ∷ 32 ∷ hide (not inside) (drop 2 rest)) × (ends_inside inside rest ≡ ends_inside (not inside) (drop 2 rest))
+pub at_mark : (inside : Bool) (rest : List ℕ) → has_mark inside rest ≡ true → (hide inside rest ≡ 32 ∷ 32 ∷ hide (not inside) (drop 2 rest)) × (ends_inside inside rest ≡ ends_inside (not inside) (drop 2 rest))
 at_mark inside (b ∷ c ∷ rest) e = (rw e refl, rw e refl)
 at_mark inside rest e = absurd cc
 
 -- another byte is shown, and behind it all is as before
-at_other : (inside : Bool) (rest : List ℕ) → 0 < length rest → has_mark inside rest ≡ false → (hide inside rest ≡ shown inside (get_or rest 0 0) ∷ hide inside (drop 1 rest)) × (ends_inside inside rest ≡ ends_inside inside (drop 1 rest))
+pub at_other : (inside : Bool) (rest : List ℕ) → 0 < length rest → has_mark inside rest ≡ false → (hide inside rest ≡ shown inside (get_or rest 0 0) ∷ hide inside (drop 1 rest)) × (ends_inside inside rest ≡ ends_inside inside (drop 1 rest))
 at_other inside [] h e = absurd (omega arith)
 at_other inside (b ∷ []) h e = (refl, refl)
 at_other inside (b ∷ c ∷ rest) h e = (rw e refl, rw e refl)
@@ -18,18 +18,12 @@ pub record IsHiding (out : List ℕ) (inside : Bool) (rest text : List ℕ) : Ty
   pub bytes : out ++ hide inside rest ≡ hide false text
   pub ends : ends_inside inside rest ≡ ends_inside false text
 
--- a mark is hidden
-pub hides_mark : (out : List ℕ) (inside : Bool) (rest text : List ℕ) → IsHiding out inside rest text → has_mark inside rest ≡ true → IsHiding (out ++ 32 ∷ 32 ∷ []) (not inside) (drop 2 rest) text
-hides_mark out inside rest text h e = record {
-  bytes = append_assoc out (32 ∷ 32 ∷ []) (hide (not inside) (drop 2 rest)) ∙ ap (λ (xs : List ℕ). out ++ xs) (sym (at_mark inside rest e).0) ∙ h.bytes;
-  ends = sym (at_mark inside rest e).1 ∙ h.ends;
-}
-
--- another byte is shown or hidden
-pub hides_other : (out : List ℕ) (inside : Bool) (rest text : List ℕ) → IsHiding out inside rest text → 0 < length rest → has_mark inside rest ≡ false → IsHiding (out ++ shown inside (get_or rest 0 0) ∷ []) inside (drop 1 rest) text
-hides_other out inside rest text h some e = record {
-  bytes = append_assoc out (shown inside (get_or rest 0 0) ∷ []) (hide inside (drop 1 rest)) ∙ ap (λ (xs : List ℕ). out ++ xs) (sym (at_other inside rest some e).0) ∙ h.bytes;
-  ends = sym (at_other inside rest some e).1 ∙ h.ends;
+-- these bytes in place of what they stand for
+pub hides : (out front : List ℕ) (inside next : Bool) (rest after text : List ℕ) → IsHiding out inside rest text → (hide inside rest ≡ front ++ hide next after) × (ends_inside inside rest ≡ ends_inside next after)
+    → IsHiding (out ++ front) next after text
+hides out front inside next rest after text h at = record {
+  bytes = append_assoc out front (hide next after) ∙ ap (λ (xs : List ℕ). out ++ xs) (sym at.0) ∙ h.bytes;
+  ends = sym at.1 ∙ h.ends;
 }
 
 -- a text keeps its length

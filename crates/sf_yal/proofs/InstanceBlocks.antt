@@ -1,9 +1,8 @@
 -- The blocks of instances, and the first fault of one, as reading finds them.
-use Rattle.std.proofs.Common.{◌≡◌, ◌≢◌, ◌⊎◌, inl, inr, ℕ, ◌<◌, Bool, true, false, List, [], ◌∷◌, ◌++◌, map, Option, Some, None, Ok, Err, refl, sym, ap, subst, ◌∙◌, arith, append_assoc, append-nil, ◌==◌}
+use Rattle.std.proofs.Common.{◌≡◌, ◌≢◌, ◌⊎◌, inl, inr, ℕ, ◌<◌, Bool, true, false, List, [], ◌∷◌, ◌++◌, map, Option, Some, None, Result, Ok, Err, refl, sym, ap, ◌∙◌, arith, append_assoc, append-nil, ◌==◌}
 use Rattle.sf_yal.proofs.Common.{slice_get, AllZip, option_map, cases_Bool, eqb-true, eqb-false, eq-eqb, ne_eqb, nat_tests, RawBlock, index_of, YalFault, BoxSize, Instance, Module, name_of, box_of, box_if, box_at, IsBlockOf, SizeFault, PlaceFault, InstanceFault, FirstInstanceFault, size_or_none, size_at, boxed, block_by, block_of, blocks_from, slice_get-map}
-use Rattle.sf_model.specs.declared.raw.Kind.TheVariants as kinds
 use Rattle.sf_yal.specs.declared.fault.YalFault.TheVariants as faults
-use Rattle.sf_yal.proofs.Results.{done, ok_is, failed, err_is, err_not_ok, ok_not_err, bind_ok, bind_err}
+use Rattle.sf_yal.proofs.Results.{done, failed, Tells, then_tells, tells_as}
 
 -- a side that is not 0
 some_side : (n : ℕ) → (n == 0) ≡ false → 0 < n
@@ -32,39 +31,44 @@ module _ (scale : ℕ) (all : List Module) (parent : ℕ) where
   size_there k = ap size_or_none (slice_get-map (box_of scale) all k) ∙ box_there (slice_get all k)
 
   module _ (i : Instance) where
-    -- a block with a box, by the tests of its sides
-    sized_by : (k : ℕ) (size : BoxSize) (b : RawBlock) (w h : Bool) → index_of i.module_name names ≡ Some k → k ≢ parent → box_at scale all k ≡ Some size → (size.w == 0) ≡ w → (size.h == 0) ≡ h → boxed i (Some size) ≡ Ok b
-        → IsBlockOf scale all parent i b
-    sized_by k size b true h known child at ew eh read = absurd (err_not_ok (faults.ZeroSide i.line) b (rw ew at read))
-    sized_by k size b false true known child at ew eh read = absurd (err_not_ok (faults.ZeroSide i.line) b (rw (ew, eh) at read))
-    sized_by k size b false false known child at ew eh read = record {
-      place = k;
-      size = size;
-      known = known;
-      child = child;
-      boxed = at;
-      wide = some_side size.w ew;
-      high = some_side size.h eh;
-      block_is = ok_is (record { name = i.name; kind = kinds.Hard size.w size.h }) b (rw (ew, eh) at read);
-    }
+    -- what is read of an instance is its block, or its fault
+    abbrev Told : Option ℕ → Result RawBlock YalFault → Type 0
+    Told o = Tells (IsBlockOf scale all parent i) (PlaceFault scale all parent i o)
 
-    -- a block, if there is a box
-    sized : (k : ℕ) (o : Option BoxSize) (b : RawBlock) → index_of i.module_name names ≡ Some k → k ≢ parent → box_at scale all k ≡ o → boxed i o ≡ Ok b → IsBlockOf scale all parent i b
-    sized k None b known child at read = absurd (err_not_ok (faults.BadStatement i.line) b read)
-    sized k (Some size) b known child at read = sized_by k size b (size.w == 0) (size.h == 0) known child at refl refl read
+    -- with a box, by the tests of its sides
+    sized : (k : ℕ) (size : BoxSize) (w h : Bool) → index_of i.module_name names ≡ Some k → k ≢ parent → box_at scale all k ≡ Some size → (size.w == 0) ≡ w → (size.h == 0) ≡ h
+        → Told (Some k) (boxed i (Some size))
+    sized k size true h known child at ew eh = rw ew (inr (child, rw at (inl (eqb-true size.w 0 ew), refl)))
+    sized k size false true known child at ew eh = rw (ew, eh) (inr (child, rw at (inr (eqb-true size.h 0 eh), refl)))
+    sized k size false false known child at ew eh =
+        rw (ew, eh) (record {
+          place = k;
+          size = size;
+          known = known;
+          child = child;
+          boxed = at;
+          wide = some_side size.w ew;
+          high = some_side size.h eh;
+          block_is = refl;
+        })
 
-    -- a block, if its module is known
-    block_by_from : (o : Option ℕ) (b : RawBlock) → index_of i.module_name names ≡ o → block_by sizes parent i o ≡ Ok b → IsBlockOf scale all parent i b
-    block_by_from None b known read = absurd (err_not_ok (faults.UnknownModule i.line i.module_name) b read)
-    block_by_from (Some k) b known read = elim (cases_Bool (k == parent)) [
-      | inl e ↦ absurd (err_not_ok (faults.UnknownModule i.line i.module_name) b (rw e at read))
-      | inr e ↦ sized k (size_at sizes k) b known (eqb-false k parent e) (sym (size_there k)) (rw e at read)
+    -- with a box or without one
+    box_told : (k : ℕ) (o : Option BoxSize) → index_of i.module_name names ≡ Some k → k ≢ parent → box_at scale all k ≡ o → Told (Some k) (boxed i o)
+    box_told k None known child at = inr (child, rw at refl)
+    box_told k (Some size) known child at = sized k size (size.w == 0) (size.h == 0) known child at refl refl
+
+    -- where its module is known or not
+    place_told : (o : Option ℕ) → index_of i.module_name names ≡ o → Told o (block_by sizes parent i o)
+    place_told None known = refl
+    place_told (Some k) known = elim (cases_Bool (k == parent)) [
+      | inl e ↦ rw e (inl (eqb-true k parent e, refl))
+      | inr e ↦ rw e (box_told k (size_at sizes k) known (eqb-false k parent e) (sym (size_there k)))
     ]
 
-    -- the block that is read is the block of the instance
-    block_from : (b : RawBlock) → block_of names sizes parent i ≡ Ok b → IsBlockOf scale all parent i b
+    -- whatever its module
+    told : Told (index_of i.module_name names) (block_of names sizes parent i)
     unfolding block_of
-    block_from b read = block_by_from (index_of i.module_name names) b refl read
+    told = place_told (index_of i.module_name names) refl
 
     -- the block of the instance is read
     from_block : (b : RawBlock) → IsBlockOf scale all parent i b → block_of names sizes parent i ≡ Ok b
@@ -72,32 +76,6 @@ module _ (scale : ℕ) (all : List Module) (parent : ℕ) where
     from_block b is =
         let box : size_at sizes is.place ≡ Some is.size = size_there is.place ∙ is.boxed in
         rw (is.known, ne_eqb is.place parent is.child, box, no_side is.size.w is.wide, no_side is.size.h is.high) (ap done (sym is.block_is))
-
-    -- the fault of an instance
-
-    -- the fault of a box, by the tests of its sides
-    size_fault_by : (size : BoxSize) (f : YalFault) (w h : Bool) → (size.w == 0) ≡ w → (size.h == 0) ≡ h → boxed i (Some size) ≡ Err f → SizeFault i.line (Some size) f
-    size_fault_by size f true h ew eh read = (inl (eqb-true size.w 0 ew), err_is {A = RawBlock} (faults.ZeroSide i.line) f (rw ew at read))
-    size_fault_by size f false true ew eh read = (inr (eqb-true size.h 0 eh), err_is {A = RawBlock} (faults.ZeroSide i.line) f (rw (ew, eh) at read))
-    size_fault_by size f false false ew eh read = absurd (ok_not_err (record { name = i.name; kind = kinds.Hard size.w size.h }) f (rw (ew, eh) at read))
-
-    -- the fault of the box, or that there is none
-    size_fault : (o : Option BoxSize) (f : YalFault) → boxed i o ≡ Err f → SizeFault i.line o f
-    size_fault None f read = err_is {A = RawBlock} (faults.BadStatement i.line) f read
-    size_fault (Some size) f read = size_fault_by size f (size.w == 0) (size.h == 0) refl refl read
-
-    -- the fault of an instance, where its module is known or not
-    place_fault : (o : Option ℕ) (f : YalFault) → block_by sizes parent i o ≡ Err f → PlaceFault scale all parent i o f
-    place_fault None f read = err_is {A = RawBlock} (faults.UnknownModule i.line i.module_name) f read
-    place_fault (Some k) f read = elim (cases_Bool (k == parent)) [
-      | inl e ↦ inl (eqb-true k parent e, err_is {A = RawBlock} (faults.UnknownModule i.line i.module_name) f (rw e at read))
-      | inr e ↦ inr (eqb-false k parent e, subst (λ (o : Option BoxSize). SizeFault i.line o f) (size_there k) (size_fault (size_at sizes k) f (rw e at read)))
-    ]
-
-    -- the fault that is read is the fault of the instance
-    fault_from : (f : YalFault) → block_of names sizes parent i ≡ Err f → InstanceFault scale all parent i f
-    unfolding block_of
-    fault_from f read = place_fault (index_of i.module_name names) f read
 
     -- a side of 0 is read as a fault
     from_sides : (size : BoxSize) (f : YalFault) (w : Bool) → (size.w == 0) ≡ w → (size.w ≡ 0) ⊎ (size.h ≡ 0) → f ≡ faults.ZeroSide i.line → boxed i (Some size) ≡ Err f
@@ -123,40 +101,34 @@ module _ (scale : ℕ) (all : List Module) (parent : ℕ) where
 
   -- all of them
 
-  -- the blocks that are read are those of the instances
-  pub blocks_all : (earlier : List RawBlock) (instances : List Instance) (blocks : List RawBlock) → blocks_from names sizes parent earlier instances ≡ Ok blocks
-      → (new : List RawBlock) × (blocks ≡ earlier ++ new) × AllZip (IsBlockOf scale all parent) instances new
+  -- the blocks that are read behind earlier ones are those of the instances, and the fault that is read is the first
+  pub blocks_told : (earlier : List RawBlock) (instances : List Instance)
+      → Tells (λ blocks. (new : List RawBlock) × (blocks ≡ earlier ++ new) × AllZip (IsBlockOf scale all parent) instances new) (FirstInstanceFault scale all parent instances) (blocks_from names sizes parent earlier instances)
   unfolding blocks_from
-  blocks_all earlier [] blocks h = ([], ok_is earlier blocks h ∙ sym (append-nil earlier), tt)
-  blocks_all earlier (i ∷ more) blocks h =
-      let k = bind_ok (block_of names sizes parent i) (λ b. blocks_from names sizes parent (earlier ++ b ∷ []) more) blocks h in
-      let rest = blocks_all (earlier ++ k.0 ∷ []) more blocks k.2 in
-      (k.0 ∷ rest.0, rest.1 ∙ append_assoc earlier (k.0 ∷ []) rest.0, (block_from i k.0 k.1, rest.2))
+  blocks_told earlier [] = ([], sym (append-nil earlier), tt)
+  blocks_told earlier (i ∷ more) =
+      then_tells _ _ _ _ (block_of names sizes parent i) (λ b. blocks_from names sizes parent (earlier ++ b ∷ []) more) (told i)
+      (λ f is. record { before = []; i = i; after = more; instances_are = refl; blocks = []; sound = tt; faulty = is })
+      (λ b is. tells_as _ _ _ _ (blocks_from names sizes parent (earlier ++ b ∷ []) more) (blocks_told (earlier ++ b ∷ []) more)
+      (λ blocks k. (b ∷ k.0, k.1 ∙ append_assoc earlier (b ∷ []) k.0, (is, k.2)))
+      (λ f k. record { before = i ∷ k.before; i = k.i; after = k.after; instances_are = ap (λ (xs : List Instance). i ∷ xs) k.instances_are; blocks = b ∷ k.blocks; sound = (is, k.sound); faulty = k.faulty }))
+
+  -- the blocks of some instances are read before the others
+  blocks_on : (earlier : List RawBlock) (before after : List Instance) (blocks : List RawBlock) → AllZip (IsBlockOf scale all parent) before blocks
+      → blocks_from names sizes parent earlier (before ++ after) ≡ blocks_from names sizes parent (earlier ++ blocks) after
+  unfolding blocks_from
+  blocks_on earlier [] after [] each = ap (λ xs. blocks_from names sizes parent xs after) (sym (append-nil earlier))
+  blocks_on earlier [] after (b ∷ blocks) each = absurd each
+  blocks_on earlier (i ∷ before) after [] each = absurd each
+  blocks_on earlier (i ∷ before) after (b ∷ blocks) each =
+      rw (from_block i b each.0) (blocks_on (earlier ++ b ∷ []) before after blocks each.1 ∙ ap (λ xs. blocks_from names sizes parent xs after) (append_assoc earlier (b ∷ []) blocks))
 
   -- the blocks of the instances are read
-  pub all_blocks : (earlier : List RawBlock) (instances : List Instance) (new : List RawBlock) → AllZip (IsBlockOf scale all parent) instances new → blocks_from names sizes parent earlier instances ≡ Ok (earlier ++ new)
+  pub all_read : (instances : List Instance) (blocks : List RawBlock) → AllZip (IsBlockOf scale all parent) instances blocks → blocks_from names sizes parent [] instances ≡ Ok blocks
   unfolding blocks_from
-  all_blocks earlier [] [] each = ap done (sym (append-nil earlier))
-  all_blocks earlier [] (b ∷ new) each = absurd each
-  all_blocks earlier (i ∷ more) [] each = absurd each
-  all_blocks earlier (i ∷ more) (b ∷ new) each = rw (from_block i b each.0) (all_blocks (earlier ++ b ∷ []) more new each.1 ∙ ap done (append_assoc earlier (b ∷ []) new))
-
-  -- the fault that is read is the first
-  pub fault_blocks : (earlier : List RawBlock) (instances : List Instance) (f : YalFault) → blocks_from names sizes parent earlier instances ≡ Err f → FirstInstanceFault scale all parent instances f
-  unfolding blocks_from
-  fault_blocks earlier [] f read = absurd (ok_not_err earlier f read)
-  fault_blocks earlier (i ∷ more) f read = elim (bind_err (block_of names sizes parent i) (λ b. blocks_from names sizes parent (earlier ++ b ∷ []) more) f read) [
-    | inl e ↦ record { before = []; i = i; after = more; instances_are = refl; blocks = []; sound = tt; faulty = fault_from i f e }
-    | inr e ↦
-        let rest = fault_blocks (earlier ++ e.0 ∷ []) more f e.2 in
-        record { before = i ∷ rest.before; i = rest.i; after = rest.after; instances_are = ap (λ (xs : List Instance). i ∷ xs) rest.instances_are; blocks = e.0 ∷ rest.blocks; sound = (block_from i e.0 e.1, rest.sound); faulty = rest.faulty }
-  ]
+  all_read instances blocks each = ap (blocks_from names sizes parent []) (sym (append-nil instances)) ∙ blocks_on [] instances [] blocks each
 
   -- the first fault is read
-  pub blocks_fault : (earlier : List RawBlock) (before : List Instance) (i : Instance) (after : List Instance) (blocks : List RawBlock) (f : YalFault) → AllZip (IsBlockOf scale all parent) before blocks → InstanceFault scale all parent i f
-      → blocks_from names sizes parent earlier (before ++ i ∷ after) ≡ Err f
+  pub first_instance : (instances : List Instance) (f : YalFault) → FirstInstanceFault scale all parent instances f → blocks_from names sizes parent [] instances ≡ Err f
   unfolding blocks_from
-  blocks_fault earlier [] i after [] f each is = rw (from_fault i f is) refl
-  blocks_fault earlier [] i after (b ∷ blocks) f each is = absurd each
-  blocks_fault earlier (x ∷ before) i after [] f each is = absurd each
-  blocks_fault earlier (x ∷ before) i after (b ∷ blocks) f each is = rw (from_block x b each.0) (blocks_fault (earlier ++ b ∷ []) before i after blocks f each.1 is)
+  first_instance instances f is = ap (blocks_from names sizes parent []) is.instances_are ∙ blocks_on [] is.before (is.i ∷ is.after) is.blocks is.sound ∙ rw (from_fault is.i f is.faulty) refl

@@ -1,8 +1,9 @@
 -- The nets that are kept signal by signal are those of the distinct signals.
-use Rattle.std.proofs.Common.{◌≡◌, inl, inr, ℕ, suc, ◌+◌, true, false, List, [], ◌∷◌, ◌++◌, length, Option, Some, None, refl, sym, ap, subst, ◌∙◌, arith, append_assoc, length-append, bytes_eq}
+use Rattle.std.proofs.Common.{◌≡◌, inl, inr, ℕ, suc, ◌+◌, true, false, List, [], ◌∷◌, ◌++◌, length, Option, Some, None, refl, sym, ap, ◌∙◌, arith, append_assoc, length-append, bytes_eq}
 use Rattle.sf_yal.proofs.Common.{map, is_some, fold-append, option_map, cases_Bool, append-nil, map-append, RawNet, RawPin, Once, index_of, has_name, with_signal, with_signals, signals_of, block_pins, net_of, nets_of, Uses, nothing_used, with_pin, with_pin_at, used_at, used_once, used_all, used_by, with_pads}
 use Rattle.sf_model.specs.declared.raw.RawPin.TheVariants as pins
-use Rattle.sf_yal.proofs.SignalPins.{Signals, apart, same_name, has_push_same, has_push_other, pin_of, pins_last, low, with_pin_by, none_cons, once_uses, absent_uses}
+use Rattle.sf_model.proofs.Tables.{bytes_eq_sym}
+use Rattle.sf_yal.proofs.SignalPins.{Signals, same_name, has_push_same, has_push_other, pin_of, pins_last, low, with_pin_by, none_cons, once_uses, absent_uses}
 
 -- the net of a signal without its pad
 abbrev net_use : List Signals → List ℕ → RawNet
@@ -60,21 +61,7 @@ module _ (earlier : List Signals) (taken : Signals) (t : List ℕ) where
   others (s ∷ more) h =
       let k = none_cons t s more h in
       let rest = others more k.1 in
-      ap (λ (x : RawNet). x ∷ nets_for old more) (same_net s (apart s t k.0)) ∙ ap (λ (xs : List RawNet). net_use new s ∷ xs) rest
-
-  -- the net of the first signal
-  found_here : (s : List ℕ) (more : Signals) (k : ℕ) → s ≡ t → k ≡ 0 → index_of t more ≡ None → with_pin_at number k (nets_for old (s ∷ more)) ≡ nets_for new (s ∷ more)
-  found_here s more k same zero_is none =
-      let here : record { pins = with_pin number (block_pins t 0 old) } ≡ net_use new t = ap (λ (ps : List RawPin). record { pins = ps }) pinned in
-      let at_t : with_pin_at number 0 (nets_for old (t ∷ more)) ≡ nets_for new (t ∷ more) = ap (λ (x : RawNet). x ∷ nets_for old more) here ∙ ap (λ (xs : List RawNet). net_use new t ∷ xs) (others more none) in
-      subst (λ (i : ℕ). with_pin_at number i (nets_for old (s ∷ more)) ≡ nets_for new (s ∷ more)) (sym zero_is)
-      (subst (λ (x : List ℕ). with_pin_at number 0 (nets_for old (x ∷ more)) ≡ nets_for new (x ∷ more)) (sym same) at_t)
-
-  -- that of a later one
-  found_there : (s : List ℕ) (more : Signals) (k j : ℕ) → bytes_eq s t ≡ false → k ≡ suc j → with_pin_at number j (nets_for old more) ≡ nets_for new more → with_pin_at number k (nets_for old (s ∷ more)) ≡ nets_for new (s ∷ more)
-  found_there s more k j e next rest =
-      subst (λ (i : ℕ). with_pin_at number i (nets_for old (s ∷ more)) ≡ nets_for new (s ∷ more)) (sym next)
-      (ap (λ (x : RawNet). x ∷ with_pin_at number j (nets_for old more)) (same_net s (apart s t e)) ∙ ap (λ (xs : List RawNet). net_use new s ∷ xs) rest)
+      ap (λ (x : RawNet). x ∷ nets_for old more) (same_net s (sym (bytes_eq_sym s t) ∙ k.0)) ∙ ap (λ (xs : List RawNet). net_use new s ∷ xs) rest
 
   -- the net of a signal that is noted
   found : (signals : Signals) (k : ℕ) → Once signals → index_of t signals ≡ Some k → with_pin_at number k (nets_for old signals) ≡ nets_for new signals
@@ -83,10 +70,11 @@ module _ (earlier : List Signals) (taken : Signals) (t : List ℕ) where
     | inl e ↦
         let same = same_name s t e in
         let here : Some 0 ≡ Some k = rw e at h in
-        found_here s more k same (cc) (subst (λ (x : List ℕ). index_of x more ≡ None) same once.0)
+        let first : k ≡ 0 = cc in
+        rw (first, same) (ap (λ (ps : List RawPin). record { pins = ps } ∷ nets_for old more) pinned ∙ ap (λ (xs : List RawNet). net_use new t ∷ xs) (others more (rw same at once.0)))
     | inr e ↦
         let u = under (index_of t more) k (rw e at h) in
-        found_there s more k u.0 e u.2 (found more u.0 once.1 u.1)
+        rw u.2 (ap (λ (x : RawNet). x ∷ with_pin_at number u.0 (nets_for old more)) (same_net s (sym (bytes_eq_sym s t) ∙ e)) ∙ ap (λ (xs : List RawNet). net_use new s ∷ xs) (found more u.0 once.1 u.1))
   ]
 
   -- the signals so far

@@ -7,17 +7,13 @@ use Rattle.sf_model.specs.declared.raw.RawPin.TheVariants as pins
 
 -- ---- sizes
 
--- a block has the sides of a box
-block_sized : (scale : ℕ) (all : List Module) (parent : ℕ) (i : Instance) (block : RawBlock) → IsBlockOf scale all parent i block → IsSized block.kind
-block_sized scale all parent i block is = subst (λ (b : RawBlock). IsSized b.kind) (sym is.block_is) (is.wide, is.high)
-
--- so have all blocks
+-- blocks have the sides of boxes
 blocks_sized : (scale : ℕ) (all : List Module) (parent : ℕ) (instances : List Instance) (blocks : List RawBlock) → AllZip (IsBlockOf scale all parent) instances blocks → All (λ b. IsSized b.kind) blocks
 blocks_sized scale all parent [] [] each = All-nil (λ (b : RawBlock). IsSized b.kind)
 blocks_sized scale all parent [] (b ∷ blocks) each = absurd each
 blocks_sized scale all parent (i ∷ instances) [] each = absurd each
 blocks_sized scale all parent (i ∷ instances) (b ∷ blocks) each =
-    All-cons (λ (b : RawBlock). IsSized b.kind) b blocks (block_sized scale all parent i b each.0) (blocks_sized scale all parent instances blocks each.1)
+    All-cons (λ (b : RawBlock). IsSized b.kind) b blocks (subst (λ (b : RawBlock). IsSized b.kind) (sym each.0.block_is) (each.0.wide, each.0.high)) (blocks_sized scale all parent instances blocks each.1)
 
 -- the blocks of a text have sizes
 pub parts_sized : (scale : ℕ) (text : List ℕ) (out : Parts) → StandsFor scale text out → HasSizes out

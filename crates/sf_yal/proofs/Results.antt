@@ -1,5 +1,5 @@
 -- Two readings one after the other, and what they give.
-use Rattle.std.proofs.Common.{◌≡◌, ◌⊎◌, inl, inr, Result, Ok, Err, refl, sym, ap}
+use Rattle.std.proofs.Common.{◌≡◌, Result, Ok, Err}
 use Rattle.sf_yal.proofs.Common.{YalFault, ◌>>=◌}
 
 -- a value that is read
@@ -18,20 +18,23 @@ failed f = Err f
 pub err_is : {A : Type 0} (f g : YalFault) → failed {A = A} f ≡ failed g → g ≡ f
 err_is f g e = cc
 
--- a fault is no value
-pub err_not_ok : {A : Type 0} (f : YalFault) (x : A) → Err f ≡ Ok x → ⊥
-err_not_ok f x e = absurd cc
-
 -- a value is no fault
 pub ok_not_err : {A : Type 0} (x : A) (f : YalFault) → Ok x ≡ Err f → ⊥
 ok_not_err x f e = absurd cc
 
--- both of two readings gave a value
-pub bind_ok : {A B : Type 0} (read : Result A YalFault) (f : A → Result B YalFault) (y : B) → (read >>= f) ≡ Ok y → (x : A) × (read ≡ Ok x) × (f x ≡ Ok y)
-bind_ok (Ok x) f y e = (x, refl, e)
-bind_ok (Err d) f y e = absurd cc
+-- P holds of a value that is read, and Q of a fault
+abbrev pub Tells : {A : Type 0} → (A → Type 0) → (YalFault → Type 0) → Result A YalFault → Type 0
+Tells P Q (Ok x) = P x
+Tells P Q (Err f) = Q f
 
--- the first of two readings failed, or the second
-pub bind_err : {A B : Type 0} (read : Result A YalFault) (f : A → Result B YalFault) (g : YalFault) → (read >>= f) ≡ Err g → (read ≡ Err g) ⊎ ((x : A) × (read ≡ Ok x) × (f x ≡ Err g))
-bind_err (Ok x) f g e = inr (x, refl, e)
-bind_err (Err d) f g e = inl (ap failed (sym (err_is d g e)))
+-- two readings, one after the other
+pub then_tells : {A B : Type 0} (P : A → Type 0) (Q : YalFault → Type 0) (R : B → Type 0) (S : YalFault → Type 0) (read : Result A YalFault) (f : A → Result B YalFault) → Tells P Q read
+    → ((g : YalFault) → Q g → S g) → ((x : A) → P x → Tells R S (f x)) → Tells R S (read >>= f)
+then_tells P Q R S (Ok x) f told fault next = next x told
+then_tells P Q R S (Err g) f told fault next = fault g told
+
+-- one reading, and what follows from what it gave
+pub tells_as : {A : Type 0} (P : A → Type 0) (Q : YalFault → Type 0) (R : A → Type 0) (S : YalFault → Type 0) (read : Result A YalFault) → Tells P Q read
+    → ((x : A) → P x → R x) → ((f : YalFault) → Q f → S f) → Tells R S read
+tells_as P Q R S (Ok x) told value fault = value x told
+tells_as P Q R S (Err f) told value fault = fault f told

@@ -2,6 +2,7 @@
 use Rattle.std.proofs.Common.{◌≡◌, inl, inr, ℕ, suc, ◌+◌, ◌<◌, ◌≤◌, Bool, true, false, cond, List, [], ◌∷◌, ◌++◌, length, Option, Some, None, refl, sym, ap, ◌∙◌, arith, length-append, eq-eqb, ◌-◌, bytes_eq}
 use Rattle.sf_yal.proofs.Common.{fold, is_some, slice_get, option_map, append-nil, cases_Bool, false_from_ne_true, ne_eqb, true≢false, RawPin, index_of, has_name, Once, with_signal, with_signals, block_pins, is_block, is_some_block, ends_with, with_pin, push_other, none_under, some_not_none}
 use Rattle.std.proofs.lemmas.Slice.Eq.{bytes_eq-Decides}
+use Rattle.sf_model.proofs.Tables.{bytes_eq_sym}
 use Rattle.sf_model.specs.declared.raw.RawPin.TheVariants as pins
 
 -- names of signals
@@ -22,10 +23,6 @@ same_name a b e = (bytes_eq-Decides a b).0 e
 -- a name passes it
 pub is_same : (a : List ℕ) → bytes_eq a a ≡ true
 is_same a = (bytes_eq-Decides a a).1 refl
-
--- the other name isn't this one
-pub apart : (a b : List ℕ) → bytes_eq a b ≡ false → bytes_eq b a ≡ false
-apart a b h = false_from_ne_true (bytes_eq b a) (λ e. true≢false (sym (is_same a) ∙ ap (bytes_eq a) (sym (same_name b a e)) ∙ h))
 
 -- a place behind one is a place
 pub some_under : (o : Option ℕ) → is_some (option_map suc o) ≡ is_some o
@@ -100,26 +97,25 @@ with_pin_by n t taken before false e h = rw (e, append-nil before, h) refl
 pub none_cons : (t s : List ℕ) (more : Signals) → index_of t (s ∷ more) ≡ None → (bytes_eq s t ≡ false) × (index_of t more ≡ None)
 none_cons t s more h = elim (cases_Bool (bytes_eq s t)) [ inl e ↦ absurd (some_not_none (rw e at h)) | inr e ↦ (e, none_under (index_of t more) (rw e at h)) ]
 
+-- a fold keeps what each of its steps keeps
+fold_keeps : {A X : Type 0} (P : A → Type 0) (f : A → X → A) → ((a : A) (x : X) → P a → P (f a x)) → (a : A) (xs : List X) → P a → P (fold f a xs)
+fold_keeps P f step a [] h = h
+fold_keeps P f step a (x ∷ xs) h = fold_keeps P f step (f a x) xs (step a x h)
+
 -- a new name behind a list without repeats
 pub once_push : (names : Signals) (t : List ℕ) → Once names → index_of t names ≡ None → Once (names ++ t ∷ [])
 once_push [] t once h = (refl, tt)
 once_push (s ∷ more) t once h =
     let k = none_cons t s more h in
-    (push_other s t more (apart s t k.0) ∙ once.0, once_push more t once.1 k.1)
+    (push_other s t more (sym (bytes_eq_sym s t) ∙ k.0) ∙ once.0, once_push more t once.1 k.1)
 
 -- a signal more
 once_with : (seen : Signals) (t : List ℕ) → Once seen → Once (with_signal seen t)
 once_with seen t once = elim (cases_Bool (has_name t seen)) [ inl e ↦ rw e once | inr e ↦ rw e (once_push seen t once (none_of (index_of t seen) e)) ]
 
--- some signals more
-once_all : (seen signals : Signals) → Once seen → Once (with_signals seen signals)
-once_all seen [] once = once
-once_all seen (t ∷ signals) once = once_all (with_signal seen t) signals (once_with seen t once)
-
 -- the signals of all instances
 pub once_uses : (seen : Signals) (uses : List Signals) → Once seen → Once (fold with_signals seen uses)
-once_uses seen [] once = once
-once_uses seen (signals ∷ uses) once = once_uses (with_signals seen signals) uses (once_all seen signals once)
+once_uses = fold_keeps Once with_signals (fold_keeps Once with_signal once_with)
 
 -- ---- a signal that none names
 

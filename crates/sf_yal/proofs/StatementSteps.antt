@@ -21,24 +21,16 @@ filled (b ∷ bytes) = elim (cases_Bool (is_semicolon b)) [
   | inr e ↦ let g = onto_filled b (pieces bytes) (filled bytes) in record { first = g.first; more = g.more; is = rw e g.is }
 ]
 
--- a piece before others is a statement
-statements_by : (n : ℕ) (piece : List ℕ) (more : List (List ℕ)) → Filled more → statements n (piece ∷ more) ≡ statement_at n piece ∷ statements (n + feeds piece) more
-statements_by n piece more f = subst (λ (xs : List (List ℕ)). statements n (piece ∷ xs) ≡ statement_at n piece ∷ statements (n + feeds piece) xs) (sym f.is) refl
-
--- the last piece is that of the others
-last_by : (piece : List ℕ) (more : List (List ℕ)) → Filled more → last_piece (piece ∷ more) ≡ last_piece more
-last_by piece more f = subst (λ (xs : List (List ℕ)). last_piece (piece ∷ xs) ≡ last_piece xs) (sym f.is) refl
-
 -- behind a piece the last one stays the last
 pub last_goes_on : (rest piece after last : List ℕ) → pieces rest ≡ piece ∷ pieces after → last_piece (pieces rest) ≡ last → last_piece (pieces after) ≡ last
-last_goes_on rest piece after last cut so_far = sym (last_by piece (pieces after) (filled after)) ∙ ap last_piece (sym cut) ∙ so_far
+last_goes_on rest piece after last cut so_far = let here : last_piece (pieces rest) ≡ last_piece (pieces after) = rw (cut, (filled after).is) refl in sym here ∙ so_far
 
 module _ (scale n : ℕ) (r : Reading) (rest piece after : List ℕ) (total : Result Reading YalFault) where
   -- the first statement, and those behind it
   split : pieces rest ≡ piece ∷ pieces after → after_statements scale r (statements n (pieces rest))
       ≡ (after_statement scale r (statement_at n piece) >>= λ next. after_statements scale next (statements (n + feeds piece) (pieces after)))
   unfolding after_statements
-  split cut = rw (cut, statements_by n piece (pieces after) (filled after)) refl
+  split cut = rw (cut, (filled after).is) refl
 
   -- a statement that is read leaves what is read in all
   pub goes_on : (line : ℕ) (new : Reading) → pieces rest ≡ piece ∷ pieces after → line ≡ (statement_at n piece).line → after_words scale r line (words is_blank_byte piece) ≡ Ok new

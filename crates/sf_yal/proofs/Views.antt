@@ -117,15 +117,6 @@ box_first scale xs x (Some other) size none e is = absurd cc
 name_more : (ms : List Module) (m n : Module) → name_of n ≡ name_of m → map name_of (ms ++ n ∷ []) ≡ map name_of (ms ++ m ∷ [])
 name_more ms m n e = map-append name_of ms (n ∷ []) ∙ ap (λ (x : List ℕ). map name_of ms ++ x ∷ []) e ∙ sym (map-append name_of ms (m ∷ []))
 
--- no statements
-abbrev no_words : List Worded
-no_words = []
-
--- no words on either way
-cond_same : (b : Bool) → cond b no_words no_words ≡ no_words
-cond_same true = refl
-cond_same false = refl
-
 -- without lists nothing stands in lists
 unlisted_empty : (kind : ListKind) (xs : List Section) → list_any is_list xs ≡ false → flat_map (in_section kind) xs ≡ []
 unlisted_empty kind [] e = refl
@@ -181,15 +172,11 @@ module _ (scale : ℕ) where
 
       -- where there are no lists, nothing stands in them
       empty_either : (kind : ListKind) → list_any is_list m.sections ≡ false → if_parent m (in_module kind m) ≡ []
-      empty_either kind unlisted = rw (unlisted_empty kind m.sections unlisted) (cond_same (is_parent m))
-
-      -- TYPE
-      untyped_box : key s ≡ keys.Type → section_box scale (Single s) ≡ None
-      untyped_box e = rw e refl
+      empty_either kind unlisted = rw (unlisted_empty kind m.sections unlisted) (elim (is_parent m) as (λ b. cond {A = List Worded} b [] [] ≡ []) [ true ↦ refl | false ↦ refl ])
 
       -- TYPE of another module than the parent
       types : key s ≡ keys.Type → is_parent_type (Single s) ≡ false → type_taken (kept (InModule m)) (open_as scale m sections.Body false) ≡ kept (InModule one_more)
-      types e other = grows _ _ _ (any_yes is_type m.sections (Single s) (ap is_type_key e)) other (any_no is_list m.sections (Single s) refl) (box_same scale m.sections (Single s) (untyped_box e))
+      types e other = grows _ _ _ (any_yes is_type m.sections (Single s) (ap is_type_key e)) other (any_no is_list m.sections (Single s) refl) (box_same scale m.sections (Single s) (rw e refl))
 
       -- TYPE PARENT, before all lists
       parent_types : key s ≡ keys.Type → is_parent_word (word_of s.more) ≡ true → is_some (parent_place (ms ++ m ∷ [])) ≡ false → list_any is_list m.sections ≡ false
@@ -198,7 +185,7 @@ module _ (scale : ℕ) where
           let typed = any_yes is_type m.sections (Single s) (ap is_type_key e) in
           let parent : is_parent one_more ≡ true = any_yes is_parent_type m.sections (Single s) (rw (e, is) refl) in
           let listed = any_no is_list m.sections (Single s) refl in
-          let box = box_same scale m.sections (Single s) (untyped_box e) in
+          let box = box_same scale m.sections (Single s) (rw e refl) in
           let empty : (kind : ListKind) → if_parent m (in_module kind m) ≡ if_parent one_more (in_module kind one_more) = λ kind. empty_either kind unlisted ∙ sym (rw parent (in_more kind ∙ unlisted_empty kind m.sections unlisted)) in
           let place : Some (length (map (box_of scale) ms)) ≡ parent_place (ms ++ one_more ∷ []) = ap Some (length-map ms (box_of scale)) ∙ sym (parent_first ms m one_more none parent) in
           λ i. shown scale (Some (record { section = sections.Body; is_typed = sym typed i; is_parent = sym parent i; has_list = sym listed i; size = sym box i })) (name_more ms one_more m refl i) (map (box_of scale) ms) (place i) (pads_with (empty Terminals i)) (instances_with (empty Network i))
@@ -244,11 +231,10 @@ module _ (scale : ℕ) where
         let all : ms ++ m ∷ [] ≡ (ms ++ m ∷ []) ++ [] = sym (append-nil (ms ++ m ∷ [])) in
         λ i. shown scale None (map name_of (all i)) (sym (map-append (box_of scale) ms (m ∷ [])) i) (parent_place (all i)) (pads_in scale (listed Terminals i)) (instances_in (listed Network i))
 
-    module _ (m : Module) (l : Listing) (s : Worded) where
-      -- a statement in a list of a module that is not the parent
-      passes : is_parent m ≡ false → kept (InList m l) ≡ kept (InList m (with_inside l s))
-      passes other =
-          changes m m (InList m l) (InList m (with_inside l s)) (open_view scale (InList m l)) refl refl refl refl (rw other refl) (rw other refl) refl
+    -- a statement in a list of a module that is not the parent
+    passes : (m : Module) (l : Listing) (s : Worded) → is_parent m ≡ false → kept (InList m l) ≡ kept (InList m (with_inside l s))
+    passes m l s other =
+        changes m m (InList m l) (InList m (with_inside l s)) (open_view scale (InList m l)) refl refl refl refl (rw other refl) (rw other refl) refl
 
 -- ---- a statement in a list of the parent
 
@@ -278,8 +264,8 @@ module _ (scale : ℕ) (current : Option OpenModule) (names : List (List ℕ)) (
   numbers : (line : ℕ) (name : List ℕ) (x y : Result ℤ NumberFault)
       → (number_in line x >>= λ a. number_in line y >>= λ b. Ok (pad_taken so_far name (a, b))) ≡ answer (point_fault line (Some (x, y))) (padded (pads ++ pad_at name (Some (x, y))))
   numbers line name (Ok a) (Ok b) =
-      ap (λ (ns : List (List ℕ)). Ok (record { current = current; names = names; sizes = sizes; parent = parent; pad_names = ns; pads = pads ++ record { name = name; place = Some (a, b) } ∷ []; instances = instances }))
-      (sym (map-append (λ (p : RawPad). p.name) pads (record { name = name; place = Some (a, b) } ∷ [])))
+      let one : RawPad = record { name = name; place = Some (a, b) } in
+      ap (λ (ns : List (List ℕ)). Ok (record (padded (pads ++ one ∷ [])) { pad_names = ns })) (sym (map-append (λ (p : RawPad). p.name) pads (one ∷ [])))
   numbers line name (Ok a) (Err f) = refl
   numbers line name (Err f) y = refl
 

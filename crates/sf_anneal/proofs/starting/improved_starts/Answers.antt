@@ -1,6 +1,6 @@
-use Rattle.std.proofs.Common.{◌≡◌, ◌∙◌, ◌-◌, ap, refl, sym, subst, arith, IfSome}
+use Rattle.std.proofs.Common.{◌≡◌, ◌∙◌, ◌-◌, ap, refl, sym, subst, arith, None, IfSome}
 use Rattle.sf_anneal.proofs.Common.{range_with_len, nat_range, IsFloorplan, IsImproved, IsNoDearer, first_least}
-use Rattle.sf_anneal.proofs.Collected.{Better, before-count, before-dearer, before-walk, found-before, gave, gave-at, gave-count}
+use Rattle.sf_anneal.proofs.Collected.{Better, before-count, before-each, found-before, gave, gave-at, gave-count}
 use Rattle.sf_anneal.proofs.Least.{least-no-dearer, least-one}
 use Rattle.sf_anneal.proofs.starting.improved_starts.Goals as goal
 
@@ -27,9 +27,9 @@ returns g c =
     record {
       starts = record {
         was = first_least before;
-        starts = record { results = before; many = before-many; walks = λ i d h. before-walk design seed moves 0 n found.0 given i d i (omega arith) h; least = refl };
+        starts = record { results = before; many = before-many; walks = λ i d h. (before-each design seed moves 0 n found.0 given i d None i (omega arith) h).0; least = refl };
         no_dearer = subst (IsNoDearer (first_least before)) (sym least)
-            (least-no-dearer before found.0 (many ∙ sym before-many) (λ k d e h. before-dearer design seed moves 0 n found.0 given k d e (omega (arith, h, before-many))));
+            (least-no-dearer before found.0 (many ∙ sym before-many) (λ k d e h. (before-each design seed moves 0 n found.0 given k d e k (omega arith) (omega (arith, h, before-many))).1));
       };
       floorplan = subst (λ r. IfSome r (λ pair. IsFloorplan design pair.0 pair.1)) (sym least)
           (least-one (λ pair. IsFloorplan design pair.0 pair.1) found.0 (λ k d h. (own k d k (omega arith) (omega (arith, h, many))).floorplan));

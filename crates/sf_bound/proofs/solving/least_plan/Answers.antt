@@ -20,21 +20,17 @@ trace-requires-clause-spans c = subst (AreSpans c.args.design.now) (sym c.spans-
 
 pub returns-in_default-clause-solution : goal.returns-in_default-clause-solution
 returns-in_default-clause-solution c =
-    let design = c.args.design.now in
-    let curve = c.in_ok-curve.curve in
-    let root = subst (λ v. IsRootCurve design c.args.node.now.tokens v curve) c.spans-spans.ensures (subst (λ v. IsRootCurve design v c.spans-spans.result.now curve) c.tokens-tokens.ensures c.in_ok-curve.ensures) in
-    none-fits design c.args.node.now c.requires.subproblem c.requires.complete curve root (c.in_default.ensures.empty.0 refl)
+    let root = subst (λ v. IsRootCurve c.args.design.now c.args.node.now.tokens v c.in_ok-curve.curve) c.spans-spans.ensures (subst (λ v. IsRootCurve c.args.design.now v c.spans-spans.result.now c.in_ok-curve.curve) c.tokens-tokens.ensures c.in_ok-curve.ensures) in
+    none-fits _ _ c.requires.subproblem c.requires.complete _ root (c.in_default.ensures.empty.0 refl)
 
 pub overflow_mul-result : goal.overflow_mul-result
 overflow_mul-result c =
-    let design = c.args.design.now in
-    let curve = c.in_ok-curve.curve in
-    let root = subst (λ v. IsRootCurve design c.args.node.now.tokens v curve) c.spans-spans.ensures (subst (λ v. IsRootCurve design v c.spans-spans.result.now curve) c.tokens-tokens.ensures c.in_ok-curve.ensures) in
-    let k = least-small design c.args.node.now c.requires.subproblem c.requires.complete curve root c.in-Some.point c.in-Some.ensures.least in
+    let root = subst (λ v. IsRootCurve c.args.design.now c.args.node.now.tokens v c.in_ok-curve.curve) c.spans-spans.ensures (subst (λ v. IsRootCurve c.args.design.now v c.spans-spans.result.now c.in_ok-curve.curve) c.tokens-tokens.ensures c.in_ok-curve.ensures) in
+    let k = least-small _ _ c.requires.subproblem c.requires.complete _ root c.in-Some.point c.in-Some.ensures.least in
     rw (c.from.ensures, c.area.ensures) (omega (arith, k))
 
-pub returns-clause-solution : goal.returns-clause-solution
-returns-clause-solution c =
+pub returns : goal.returns
+returns c =
     let design = c.args.design.now in
     let node = c.args.node.now in
     let curve = c.in_ok-curve.curve in
@@ -44,20 +40,8 @@ returns-clause-solution c =
     let traced = subst (λ v. IsTraceOf design node.tokens v point expr) c.spans-spans.ensures (subst (λ v. IsTraceOf design v c.spans-spans.result.now point expr) c.tokens-tokens.ensures c.in_ok-expr.ensures.traced) in
     let e : design.weights.area * area_of point ≡ c.from.result * c.area.result =
     ap (λ n. n * area_of point) (sym c.from.ensures) ∙ ap (λ n. c.from.result * n) (sym c.area.ensures) in
-    subst (IsCheapest design node expr) e
-    (cheapest design node c.requires.subproblem c.requires.complete curve root point expr c.requires.no_wire c.in-Some.ensures.least c.in_ok-expr.ensures.one_each traced)
-
-pub returns-clause-traced : goal.returns-clause-traced
-returns-clause-traced c =
-    let design = c.args.design.now in
-    let node = c.args.node.now in
-    let curve = c.in_ok-curve.curve in
-    let point = c.in-Some.point in
-    let expr = c.in_ok-expr.expr in
     record {
-      points = curve;
-      point = point;
-      curve = subst (λ v. IsRootCurve design node.tokens v curve) c.spans-spans.ensures (subst (λ v. IsRootCurve design v c.spans-spans.result.now curve) c.tokens-tokens.ensures c.in_ok-curve.ensures);
-      least = c.in-Some.ensures.least;
-      trace = subst (λ v. IsTraceOf design node.tokens v point expr) c.spans-spans.ensures (subst (λ v. IsTraceOf design v c.spans-spans.result.now point expr) c.tokens-tokens.ensures c.in_ok-expr.ensures.traced);
+      solution = subst (IsCheapest design node expr) e
+          (cheapest design node c.requires.subproblem c.requires.complete curve root point expr c.requires.no_wire c.in-Some.ensures.least c.in_ok-expr.ensures.one_each traced);
+      traced = record { points = curve; point = point; curve = root; least = c.in-Some.ensures.least; trace = traced };
     }

@@ -10,13 +10,8 @@ sized_plan-requires-clause-traced c = tree-traced c.args.design.now c.args.spans
 
 pub sized_plan-requires-clause-on_curve : goal.sized_plan-requires-clause-on_curve
 sized_plan-requires-clause-on_curve c =
-    let design = c.args.design.now in
-    let tokens = c.args.tokens.now in
-    let spans = c.args.spans.now in
-    let tree = c.in_ok-tree.tree in
-    same-points design tokens spans c.requires.on_curve.0 (curve_of tree) c.args.point c.requires.on_curve.1
-    (curve-traced design spans tokens tree c.in_ok-tree.ensures.curves c.in_ok-tree.ensures.form)
-    (curve-covers design spans tokens tree c.in_ok-tree.ensures.curves c.in_ok-tree.ensures.form) c.requires.on_curve.2
+    let tree = c.in_ok-tree.ensures in
+    same-points _ _ _ _ (curve_of c.in_ok-tree.tree) c.args.point c.requires.on_curve.1 (curve-traced _ _ _ _ tree.curves tree.form) (curve-covers _ _ _ _ tree.curves tree.form) c.requires.on_curve.2
 
 pub expr_of-requires-clause-skewed : goal.expr_of-requires-clause-skewed
 expr_of-requires-clause-skewed c =

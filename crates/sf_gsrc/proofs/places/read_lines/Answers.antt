@@ -6,13 +6,12 @@ use Rattle.sf_gsrc.proofs.places.read_lines.Goals as goal
 pub returns-in_err-take_line : goal.returns-in_err-take_line
 returns-in_err-take_line c =
     let p = err_from_is_err_and c.from_residual.result c.from_residual.ensures.1 in
-    rw (p.1, p.2) (fails_unless _ _ _ _ _ _ c.in_err-take_line.field-0.0 _ c.loop-line.invariant c.in-Some.ensures.lines c.in_err-take_line.ensures)
+    rw (p.1, p.2) (fails_unless _ _ _ _ _ _ c.in_err-take_line.field-0.0 _ c.loop-line.invariant c.in-Some.ensures.lines (λ past kept. c.in_err-take_line.ensures))
 
 pub loop-line-preserved : goal.loop-line-preserved
 loop-line-preserved c =
-    let r = c.loop-line.invariant in
     let taken = c.in_ok-take_line.ensures in
-    goes_on _ _ _ _ _ _ _ _ r c.in-Some.ensures.lines (taken.0, taken.1, ap (λ (ps : List Place). ps ++ taken.0 ∷ []) r.kept ∙ sym taken.2)
+    goes_on _ _ _ _ _ _ _ _ c.loop-line.invariant c.in-Some.ensures.lines (λ past kept. (taken.0, taken.1, ap (λ (ps : List Place). ps ++ taken.0 ∷ []) kept ∙ sym taken.2))
 
 pub returns : goal.returns
 returns c =

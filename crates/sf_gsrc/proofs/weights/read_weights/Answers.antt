@@ -1,22 +1,20 @@
 use Rattle.std.proofs.Common.{◌≡◌, List, ℕ, length, Result, Ok, Err, subst}
-use Rattle.sf_gsrc.proofs.Common.{IfOk, WeightFault, weights_read, GivesWeights, WeightsStandFor}
+use Rattle.sf_gsrc.proofs.Common.{IfOk, WeightFault, GivesWeights, WeightsStandFor}
 use Rattle.std.specs.Global.{Vec}
 use Rattle.sf_gsrc.proofs.WeightLaws.{stands_from_read, read_from_stands, weights_each}
 use Rattle.sf_gsrc.proofs.weights.read_weights.Goals as goal
 
-is_found : (text : List ℕ) (nets : ℕ) (r : Result (Vec ℕ) WeightFault) → GivesWeights r (weights_read nets text) → IfOk r (λ weights. WeightsStandFor text nets weights.items)
-is_found text nets (Ok weights) given = stands_from_read text nets weights.items given
-is_found text nets (Err e) given = tt
+holds_if_given : (P : List ℕ → Type 0) (read : Result (List ℕ) WeightFault) (r : Result (Vec ℕ) WeightFault) → ((out : List ℕ) → read ≡ Ok out → P out) → GivesWeights r read → IfOk r (λ weights. P weights.items)
+holds_if_given P read (Ok weights) h given = h weights.items given
+holds_if_given P read (Err e) h given = tt
 
 pub returns-clause-stands : goal.returns-clause-stands
-returns-clause-stands c = is_found c.args.text.now c.args.nets c.read_exactly.result c.read_exactly.ensures
-
-are_each : (text : List ℕ) (nets : ℕ) (r : Result (Vec ℕ) WeightFault) → GivesWeights r (weights_read nets text) → IfOk r (λ weights. length weights.items ≡ nets)
-are_each text nets (Ok weights) given = weights_each text nets weights.items (stands_from_read text nets weights.items given)
-are_each text nets (Err e) given = tt
+returns-clause-stands c = holds_if_given (WeightsStandFor c.args.text.now c.args.nets) _ c.read_exactly.result (stands_from_read c.args.text.now c.args.nets) c.read_exactly.ensures
 
 pub returns-clause-one_each : goal.returns-clause-one_each
-returns-clause-one_each c = are_each c.args.text.now c.args.nets c.read_exactly.result c.read_exactly.ensures
+returns-clause-one_each c =
+    holds_if_given (λ out. length out ≡ c.args.nets) _ c.read_exactly.result
+    (λ out read. weights_each c.args.text.now c.args.nets out (stands_from_read c.args.text.now c.args.nets out read)) c.read_exactly.ensures
 
 pub returns-clause-only : goal.returns-clause-only
 returns-clause-only c = λ out stands.

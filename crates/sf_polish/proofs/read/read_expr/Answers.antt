@@ -1,5 +1,5 @@
-use Rattle.std.proofs.Common.{arith, length, ap, sym, subst, ◌∙◌, Ok}
-use Rattle.sf_polish.proofs.Common.{option_map, err_from_is_err_and, IfErr-weaker, line_words, last_line_of, token_after, shapes_with, Fails, token_of, shaped_token_in}
+use Rattle.std.proofs.Common.{arith, ap, sym, subst, ◌∙◌, Ok}
+use Rattle.sf_polish.proofs.Common.{option_map, err_from_is_err_and, IfErr-weaker, line_words, token_after, shapes_with, Fails, token_of}
 use Rattle.sf_polish.proofs.ReadSteps.{reading-step, reading-fails, reading-ends, keeping-step, keeping-ends, fails-at, expr-read, expr-fails}
 use Rattle.sf_polish.proofs.Refused.{expr-refused}
 use Rattle.sf_polish.proofs.TextLaws.{expr-spelled}
@@ -7,36 +7,26 @@ use Rattle.sf_polish.proofs.read.read_expr.Goals as goal
 
 pub loop-word-preserved : goal.loop-word-preserved
 loop-word-preserved c =
-    let blocks = c.args.blocks in
-    let text = c.args.text.now in
-    let before = c.loop-word.reading.tokens.items in
     let taken = c.in_ok-take.ensures.token in (
-      reading-step blocks (last_line_of text) (shaped_token_in blocks) (line_words text) before _ _ _ _ taken.0 c.loop-word.invariant.0 c.in-Some.ensures.numbered
-          (ap (token_after before c.in-Some.word.line) (ap (option_map token_of) (sym c.read_piece-piece.ensures.value) ∙ sym c.token_of.ensures) ∙ taken.1) taken.2,
+      reading-step _ _ _ _ _ _ _ _ _ taken.0 c.loop-word.invariant.0 c.in-Some.ensures.numbered
+          (ap (token_after c.loop-word.reading.tokens.items c.in-Some.word.line) (ap (option_map token_of) (sym c.read_piece-piece.ensures.value) ∙ sym c.token_of.ensures) ∙ taken.1) taken.2,
       c.in_ok-take.ensures.same_blocks ∙ c.loop-word.invariant.1,
-      keeping-step blocks (line_words text) c.loop-word.shapes.items _ _ _ _ c.loop-word.invariant.2 c.in-Some.ensures.numbered (c.keep_shape.ensures ∙ ap (shapes_with c.loop-word.shapes.items) c.read_piece-piece.ensures.value),
+      keeping-step c.args.blocks (line_words c.args.text.now) c.loop-word.shapes.items _ _ _ _ c.loop-word.invariant.2 c.in-Some.ensures.numbered (c.keep_shape.ensures ∙ ap (shapes_with c.loop-word.shapes.items) c.read_piece-piece.ensures.value),
     )
 
 pub returns-in_err-take-clause-fault : goal.returns-in_err-take-clause-fault
 returns-in_err-take-clause-fault c =
-    let blocks = c.args.blocks in
-    let text = c.args.text.now in
-    let before = c.loop-word.reading.tokens.items in
     let e = c.in_err-take.field-0.0 in
     let p = err_from_is_err_and c.from_residual-in_err-take.result c.from_residual-in_err-take.ensures.1 in
-    rw (p.1, p.2) (expr-fails blocks text e (reading-fails blocks (last_line_of text) (shaped_token_in blocks) (line_words text) before _ _ _ e c.loop-word.invariant.0 c.in-Some.ensures.numbered
-    (subst (λ s. Fails e (token_after before c.in-Some.word.line s)) (c.token_of.ensures ∙ ap (option_map token_of) c.read_piece-piece.ensures.value) c.in_err-take.ensures.fault)))
+    rw (p.1, p.2) (expr-fails c.args.blocks c.args.text.now e (reading-fails _ _ _ _ _ _ _ _ e c.loop-word.invariant.0 c.in-Some.ensures.numbered
+    (subst (λ s. Fails e (token_after c.loop-word.reading.tokens.items c.in-Some.word.line s)) (c.token_of.ensures ∙ ap (option_map token_of) c.read_piece-piece.ensures.value) c.in_err-take.ensures.fault)))
 
 pub returns-in_err-tokens-clause-fault : goal.returns-in_err-tokens-clause-fault
 returns-in_err-tokens-clause-fault c =
-    let blocks = c.args.blocks in
-    let text = c.args.text.now in
-    let tokens = c.loop-word.reading.tokens.items in
-    let n = length c.loop-word.reading.named.items in
     let e = c.in_err-tokens.field-0.0 in
-    let all = reading-ends blocks (last_line_of text) (shaped_token_in blocks) (line_words text) tokens _ n c.loop-word.invariant.0 c.in_default.ensures.numbered c.loop-word.invariant.1 in
+    let all = reading-ends _ _ _ _ _ _ _ c.loop-word.invariant.0 c.in_default.ensures.numbered c.loop-word.invariant.1 in
     let p = err_from_is_err_and c.from_residual-in_err-tokens.result c.from_residual-in_err-tokens.ensures.1 in
-    rw (p.1, p.2) (expr-fails blocks text e (fails-at e _ _ all c.in_err-tokens.ensures.fault))
+    rw (p.1, p.2) (expr-fails c.args.blocks c.args.text.now e (fails-at e _ _ all c.in_err-tokens.ensures.fault))
 
 pub returns-in_err-take-clause-refused : goal.returns-in_err-take-clause-refused
 returns-in_err-take-clause-refused c = IfErr-weaker _ _ _ (expr-refused c.args.blocks (omega arith) c.args.text.now) (returns-in_err-take-clause-fault c)
@@ -46,19 +36,9 @@ returns-in_err-tokens-clause-refused c = IfErr-weaker _ _ _ (expr-refused c.args
 
 pub returns-clause-expr : goal.returns-clause-expr
 returns-clause-expr c =
-    let blocks = c.args.blocks in
-    let text = c.args.text.now in
-    let tokens = c.loop-word.reading.tokens.items in
-    let n = length c.loop-word.reading.named.items in
-    let all = reading-ends blocks (last_line_of text) (shaped_token_in blocks) (line_words text) tokens _ n c.loop-word.invariant.0 c.in_default.ensures.numbered c.loop-word.invariant.1 in
-    expr-read blocks text _ _ (all ∙ c.in_ok-tokens.ensures.tokens ∙ ap Ok (sym c.from_vec.ensures)) (keeping-ends blocks (line_words text) c.loop-word.shapes.items _ c.loop-word.invariant.2 c.in_default.ensures.numbered ∙ sym c.from_vec-2.ensures)
+    let all = reading-ends _ _ _ _ _ _ _ c.loop-word.invariant.0 c.in_default.ensures.numbered c.loop-word.invariant.1 in
+    expr-read c.args.blocks c.args.text.now _ _ (all ∙ c.in_ok-tokens.ensures.tokens ∙ ap Ok (sym c.from_vec.ensures))
+    (keeping-ends c.args.blocks (line_words c.args.text.now) c.loop-word.shapes.items _ c.loop-word.invariant.2 c.in_default.ensures.numbered ∙ sym c.from_vec-2.ensures)
 
 pub returns-clause-spelled : goal.returns-clause-spelled
-returns-clause-spelled c =
-    let blocks = c.args.blocks in
-    let text = c.args.text.now in
-    let tokens = c.loop-word.reading.tokens.items in
-    let n = length c.loop-word.reading.named.items in
-    let all = reading-ends blocks (last_line_of text) (shaped_token_in blocks) (line_words text) tokens _ n c.loop-word.invariant.0 c.in_default.ensures.numbered c.loop-word.invariant.1 in
-    expr-spelled blocks (omega arith) text _
-    (expr-read blocks text _ _ (all ∙ c.in_ok-tokens.ensures.tokens ∙ ap Ok (sym c.from_vec.ensures)) (keeping-ends blocks (line_words text) c.loop-word.shapes.items _ c.loop-word.invariant.2 c.in_default.ensures.numbered ∙ sym c.from_vec-2.ensures))
+returns-clause-spelled c = expr-spelled c.args.blocks (omega arith) c.args.text.now _ (returns-clause-expr c)

@@ -9,45 +9,25 @@ pub finish-requires : goal.finish-requires
 finish-requires g c =
     answer-status (map string_bytes c.args.words.now) (g.S.Shelf.seen c.args.shelf.now).holds c.in-Ok.work.status (stored_in c.in-Ok.work.stores.items) c.in-Ok.work.text.items c.in-Ok.ensures.answer
 
+pub returns-in-Ok-clause-answer : goal.returns-in-Ok-clause-answer
+returns-in-Ok-clause-answer g c = λ answered.
+    let words = map string_bytes c.args.words.now in
+    let before = (g.S.Shelf.seen c.args.shelf.now).holds in
+    let after = (g.S.Shelf.seen c.finish.new.shelf).holds in
+    let taken = (g.K.Sink.seen c.args.out.now).taken in
+    let taken_then = (g.K.Sink.seen c.finish.new.out).taken in
+    done-of words before (g.S.Shelf.seen c.work.new.shelf).holds after taken taken_then c.in-Ok.work.status c.finish.result (stored_in c.in-Ok.work.stores.items) c.in-Ok.work.text.items
+    c.work.ensures.read.unchanged c.in-Ok.ensures.answer (c.finish.ensures.done answered)
+
 -- where a search ended, its answer is done
 pub returns-in-Ok-clause-headline : goal.returns-in-Ok-clause-headline
-returns-in-Ok-clause-headline g c = λ searched.
-    let words = map string_bytes c.args.words.now in
-    let before = (g.S.Shelf.seen c.args.shelf.now).holds in
-    let after = (g.S.Shelf.seen c.finish.new.shelf).holds in
-    let taken = (g.K.Sink.seen c.args.out.now).taken in
-    let taken_then = (g.K.Sink.seen c.finish.new.out).taken in
-    let status = c.finish.result in
-    planned-headline words before after taken taken_then status
-    (done-of words before (g.S.Shelf.seen c.work.new.shelf).holds after taken taken_then c.in-Ok.work.status status (stored_in c.in-Ok.work.stores.items) c.in-Ok.work.text.items
-    c.work.ensures.read.unchanged c.in-Ok.ensures.answer (c.finish.ensures.done (searched-answer status searched)))
-    searched
+returns-in-Ok-clause-headline g c = λ searched. planned-headline _ _ _ _ _ _ (returns-in-Ok-clause-answer g c (searched-answer c.finish.result searched)) searched
 
 pub returns-in-Ok-clause-generated : goal.returns-in-Ok-clause-generated
-returns-in-Ok-clause-generated g c = λ searched.
-    let words = map string_bytes c.args.words.now in
-    let before = (g.S.Shelf.seen c.args.shelf.now).holds in
-    let after = (g.S.Shelf.seen c.finish.new.shelf).holds in
-    let taken = (g.K.Sink.seen c.args.out.now).taken in
-    let taken_then = (g.K.Sink.seen c.finish.new.out).taken in
-    let status = c.finish.result in
-    generated-headline words before after taken taken_then status
-    (done-of words before (g.S.Shelf.seen c.work.new.shelf).holds after taken taken_then c.in-Ok.work.status status (stored_in c.in-Ok.work.stores.items) c.in-Ok.work.text.items
-    c.work.ensures.read.unchanged c.in-Ok.ensures.answer (c.finish.ensures.done (searched-answer status searched)))
-    searched
+returns-in-Ok-clause-generated g c = λ searched. generated-headline _ _ _ _ _ _ (returns-in-Ok-clause-answer g c (searched-answer c.finish.result searched)) searched
 
 pub returns-in-Ok-clause-resumed : goal.returns-in-Ok-clause-resumed
-returns-in-Ok-clause-resumed g c = λ searched.
-    let words = map string_bytes c.args.words.now in
-    let before = (g.S.Shelf.seen c.args.shelf.now).holds in
-    let after = (g.S.Shelf.seen c.finish.new.shelf).holds in
-    let taken = (g.K.Sink.seen c.args.out.now).taken in
-    let taken_then = (g.K.Sink.seen c.finish.new.out).taken in
-    let status = c.finish.result in
-    resumed-headline words before after taken taken_then status
-    (done-of words before (g.S.Shelf.seen c.work.new.shelf).holds after taken taken_then c.in-Ok.work.status status (stored_in c.in-Ok.work.stores.items) c.in-Ok.work.text.items
-    c.work.ensures.read.unchanged c.in-Ok.ensures.answer (c.finish.ensures.done (searched-answer status searched)))
-    searched
+returns-in-Ok-clause-resumed g c = λ searched. resumed-headline _ _ _ _ _ _ (returns-in-Ok-clause-answer g c (searched-answer c.finish.result searched)) searched
 
 pub returns-in-Ok-clause-lost : goal.returns-in-Ok-clause-lost
 returns-in-Ok-clause-lost g c = λ e. absurd (not-silent c.finish.result c.finish.ensures.only (inl e))

@@ -24,33 +24,22 @@ loop-ahead-init g c =
 
 pub loop-ahead-preserved-in_ok-end-2 : goal.loop-ahead-preserved-in_ok-end-2
 loop-ahead-preserved-in_ok-end-2 g c =
-    let design = c.args.design.now in
-    let bound = g.V.Values.value c.args.values.now design in
-    let tags = c.args.tags.now in
-    let old = c.args.reading.now in
-    let mid = c.loop-ahead.ahead in
     let new = c.pass-in-Some-Open.new.self in
     let less = c.min-low.ensures ∙ ap (λ n. min c.loop-ahead.low n) (ap length (c.steps.ensures ∙ ap (λ (n : Parts). n.steps) c.node-in-Some-Open.ensures)) in
     let depth = ap length (c.steps-depth-in-Some-Open.ensures ∙ ap (λ (n : Parts). n.steps) c.node-in-Some-Open-2.ensures) in
-    let ahead = ahead-more design bound tags old mid new c.loop-ahead.low c.min-low.result c.loop-ahead.invariant.ahead c.in-Some-Open.ensures.0 c.in_ok-pass-2.ensures less in
+    let ahead = ahead-more _ _ _ _ _ _ c.loop-ahead.low c.min-low.result c.loop-ahead.invariant.ahead c.in-Some-Open.ensures.0 c.in_ok-pass-2.ensures less in
     let here : floor_of new.more (length new.cursor.node.steps) c.min-low.result ≡ Some c.in-Some.less = ap (λ n. floor_of new.more n c.min-low.result) (sym depth) ∙ sym c.in-Some.ensures in
     record {
       ahead = ahead;
-      reached = reach-copy design bound tags old new c.in_ok-end-2.end _ (reach-here design bound tags old new c.min-low.result _ ahead here) c.in_ok-end-2.ensures.reading c.in_ok-end-2.ensures.at;
+      reached = reach-copy _ _ _ _ _ c.in_ok-end-2.end _ (reach-here _ _ _ _ new c.min-low.result _ ahead here) c.in_ok-end-2.ensures.reading c.in_ok-end-2.ensures.at;
       behind = omega (arith, c.in_ok-end-2.ensures.at);
     }
 
 pub loop-ahead-preserved : goal.loop-ahead-preserved
 loop-ahead-preserved g c =
-    let design = c.args.design.now in
-    let bound = g.V.Values.value c.args.values.now design in
-    let tags = c.args.tags.now in
-    let old = c.args.reading.now in
-    let mid = c.loop-ahead.ahead in
-    let new = c.pass-in-Some-Open.new.self in
     let less = c.min-low.ensures ∙ ap (λ n. min c.loop-ahead.low n) (ap length (c.steps.ensures ∙ ap (λ (n : Parts). n.steps) c.node-in-Some-Open.ensures)) in
     record {
-      ahead = ahead-more design bound tags old mid new c.loop-ahead.low c.min-low.result c.loop-ahead.invariant.ahead c.in-Some-Open.ensures.0 c.in_ok-pass-2.ensures less;
+      ahead = ahead-more _ _ _ _ _ _ c.loop-ahead.low c.min-low.result c.loop-ahead.invariant.ahead c.in-Some-Open.ensures.0 c.in_ok-pass-2.ensures less;
       reached = c.loop-ahead.invariant.reached;
       behind = omega (arith, c.in_ok-pass-2.ensures.many, c.loop-ahead.invariant.behind);
     }

@@ -1,6 +1,8 @@
 use Rattle.std.proofs.Common.{◌<◌, ◌≤◌, length, arith}
 use Rattle.sf_yal.proofs.Common.{position_or_len, nat_tests, is_semicolon}
-use Rattle.sf_yal.proofs.Cutting.{split_whole, split_first}
+use Rattle.std.proofs.lemmas.List.{drop-drop}
+use Rattle.std.proofs.lemmas.List.Splits.{slice_split_first}
+use Rattle.sf_yal.proofs.Cutting.{split_whole}
 use Rattle.sf_yal.proofs.piece.next_piece.Goals as goal
 
 pub returns-then-is_empty-clause-pieces : goal.returns-then-is_empty-clause-pieces
@@ -11,4 +13,5 @@ returns-then-is_empty-clause-pieces c =
 pub returns-clause-pieces : goal.returns-clause-pieces
 returns-clause-pieces c =
     let some : position_or_len is_semicolon c.args.bytes.now < length c.args.bytes.now = grind (arith, nat_tests) in
-    rw (c.split_at-2.ensures.back, c.split_at.ensures.front, c.split_at.ensures.back, c.len_before.ensures.value) (split_first is_semicolon c.args.bytes.now some)
+    let behind = drop-drop 1 (position_or_len is_semicolon c.args.bytes.now) c.args.bytes.now in
+    rw (c.split_at-2.ensures.back, c.split_at.ensures.front, c.split_at.ensures.back, c.len_before.ensures.value, behind) (slice_split_first is_semicolon c.args.bytes.now 0 some)
