@@ -14,6 +14,7 @@ use std::alloc::AllocError as NoMemory;
 
 /// Visits the subproblem that is next: decides it against the word, puts its tag down and goes on. The cost of a
 /// plan is offered, which is the best so far. The answer is the value that the word had.
+#[inline(always)]
 pub fn visit_next<B: Bounds>(
     hand: &mut Hand,
     seat: &mut Seat,

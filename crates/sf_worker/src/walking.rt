@@ -23,12 +23,10 @@ use std::alloc::AllocError as NoMemory;
 /// list of tags grows far in the heap of a thread.
 const MOST_TAGS: usize = 65_536;
 
-/// After how many decisions a worker looks whether it shares what it has in hand: sooner where nets count, since
-/// a decision takes longer there.
-fn slice(design: &Design) -> u64
-    ensures { 0 < result }
-{
-    if design.weights.wire == 0 { 64 } else { 16 }
+/// The bits of the quota that are 0 where a worker looks whether it shares what it has in hand: at each 64th decision, or
+/// at each 16th where nets count, since a decision takes longer there.
+fn look_mask(design: &Design) -> u64 {
+    if design.weights.wire == 0 { 63 } else { 15 }
 }
 
 /// One decision of the quota, of which so many were given in this pass. The answer is the value that it was made
@@ -77,6 +75,7 @@ fn go<T: Served, B: Bounds, G: Gate>(
 
 /// Where it is time to look and the own deque is empty, what waits on the shallowest level goes there, unless
 /// the value closes it all.
+#[inline(always)]
 fn share<T: Served, V: Values>(
     state: &mut WorkerState<T>,
     hand: &mut Hand,
@@ -138,12 +137,12 @@ fn walk_into<T: Served, B: Bounds, G: Gate>(
         (B.part_value bounds.now design.now) stretch state.old state.new) }
     ensures serves { B.serves room.new design.now }
 {
-    let slice = slice(design);
+    let mask = look_mask(design);
     let has_others = !state.place.thieves.is_empty();
     let mut hand = Hand::at(stretch, design, bounds)?;
     let mut value = go(state, &mut hand, room, design, bounds, word, gate, given)?;
     while state.quota > 0 && hand.more() && hand.count() < MOST_TAGS {
-        let wanted = has_others && state.quota % slice == 0;
+        let wanted = has_others && state.quota & mask == 0;
         share(state, &mut hand, design, bounds, value, wanted)?;
         value = go(state, &mut hand, room, design, bounds, word, gate, given)?;
     }
