@@ -34,7 +34,7 @@ mod words;
 
 pub use improving::improve;
 pub use laws::{moves_are_their_inverses, walks_are_one};
-pub use measuring::{cost_of, measure, whole_spans};
+pub use measuring::{measure, whole_spans};
 pub use moves::{flip_chain, run_count, swap_operands, swap_step};
 pub use starting::{improved_starts, starts};
 pub use walking::one_start;

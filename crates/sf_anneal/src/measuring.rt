@@ -3,10 +3,10 @@
 ghost use Rattle.std.specs.Prelude.{◌≡◌, ℕ, length, IfOk, IfSome};
 ghost use Rattle.sf_model.specs.Legal.{block_count};
 ghost use Rattle.sf_polish.specs.Normal.{IsNormal};
-ghost use Rattle.sf_anneal.specs.Measured.{whole_spans, cost_of, IsMeasure, IsCost, IsFloorplan};
+ghost use Rattle.sf_anneal.specs.Measured.{whole_spans, IsMeasure, IsFloorplan};
 
 use sf_curves::{root_curve, trace};
-use sf_model::{Design, MAX};
+use sf_model::Design;
 use sf_polish::{Expr, Token, plan_of};
 use sf_wire::cost;
 use std::alloc::{AllocError as NoMemory, Global};
@@ -43,21 +43,4 @@ pub fn measure(
     let plan = plan_of(alloc, &expr)?;
     let cost = cost(alloc, design, &plan)?;
     Ok(Some((expr, cost)))
-}
-
-/// The cost of tokens, or MAX where no size fits.
-pub fn cost_of(
-    alloc: Global,
-    design: &Design,
-    spans: &[(u16, u16)],
-    tokens: &[Token],
-) -> Result<u64, NoMemory>
-    requires normal { IsNormal (block_count design.now) tokens.now }
-    requires whole { spans.now ≡ whole_spans design.now }
-    ensures { IfOk result (IsCost design.now tokens.now) }
-{
-    match measure(alloc, design, spans, tokens)? {
-        Some((_, cost)) => Ok(cost),
-        None => Ok(MAX),
-    }
 }
