@@ -2,7 +2,7 @@
 """Runs all scripts that measure: python3 bench/measures/all.py [PATH/floorplan PATH/floorbatch]
 
 The programs are those that the start script builds, unless others are named. Printed is a line for each script, with how many of
-its figures are not as wanted; its tables are stored. Times want a machine with nothing else to do, and `instructions` valgrind.
+its figures miss their aims; its tables are stored. Times want a machine with nothing else to do, and `instructions` valgrind.
 What the gate takes is left out, since that is hours: see gate.py.
 """
 import sys
@@ -23,6 +23,7 @@ SCRIPTS = {
     "paths": 1,
     "starts": 1,
     "plans": 1,
+    "gaps": 1,
     "teams": 1,
     "workers": 1,
     "reach": 1,

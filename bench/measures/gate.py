@@ -1,14 +1,15 @@
 #!/usr/bin/env python3
 """What the gate takes, part by part: python3 bench/measures/gate.py run FILE [WORD..], or python3 bench/measures/gate.py sum FILE..
 
-`run` runs `rt ci WORD..` at the top of the repository and hands on what it prints: with no word that is the gate, with
+`run` runs `rt ci WORD..` at the top of the repository and passes on what it prints: with no word that is the gate, with
 `--anew` all of it from nothing, with names of crates these and those below them. Meanwhile it looks every quarter of a
 second at the processes below `rt` and stores in FILE, as JSON, the processor time (user and system) of each check: of a
 crate's proof, its tests, the seed that its must-fail edits begin with (the crate's own proof once more, and the check at
-the end that the seed still holds), and each edit. FILE is written anew every twenty seconds, so that a run which is ended leaves what it has seen. `sum` adds up such files, where a part that stands in several counts
-once, as in the last of them. Both print the table of crates, the whole, and the longest chain of proofs that wait for one
-another. What is kept from earlier runs takes no time here, and `rest` is all that isn't a check: `rt` itself, the
-linker, the tests and programs as they run, and what a check takes behind the last look at it.
+the end that the seed still holds), and each edit. FILE is written anew every twenty seconds, so that a run which is ended
+early leaves what it has seen. `sum` adds up such files, where a part that stands in several counts once, as in the last of
+them. Both print the table of crates, the whole, and the longest chain of proofs that wait for one another. What is kept
+from earlier runs takes no time here, and `rest` is all that isn't a check: `rt` itself, the linker, the tests and programs
+as they run, and what a check takes after the last look at it.
 """
 import collections
 import json

@@ -1,12 +1,12 @@
 #!/usr/bin/env python3
-"""Measures the dearest texts of 64 MiB: python3 bench/measures/hostile.py PATH/floorplan [FOLDER [CASE ..]]
+"""Measures the most expensive texts of 64 MiB: python3 bench/measures/hostile.py PATH/floorplan [FOLDER [CASE ..]]
 
 Writes texts into FOLDER (a temporary one by default) that fill all of the bytes that a file may have with the things of
 which a reader keeps most, or over which it takes longest, and lets the built program read each of them, and then texts of
 a half and of a quarter of the bytes:
 
   signals     YAL: one instance, whose signals are all distinct
-  scattered   YAL: the same in an order of chance
+  scattered   YAL: the same in a random order
   long        YAL: as signals, with names of 25 to 29 bytes that begin alike
   alike       YAL: signals of 4,096 bytes that differ at their ends alone
   uses        YAL: instances that all name the same 62 signals

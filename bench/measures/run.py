@@ -1,7 +1,7 @@
 #!/usr/bin/env python3
 """Measures the built program: python3 bench/measures/run.py PATH/floorplan [FOLDER]
 
-Each case is a design that this script writes into FOLDER (a temporary one by default), and the words of one run on it.
+Each case is a design that this script writes into FOLDER (a temporary one by default), and the arguments of one run on it.
 The designs follow from the number of blocks (`write_design` of common.py): block i is w by h with w and h from 4 to 32, and
 net j joins two blocks. Printed are, per case: processor time, the decided subproblems, decisions per second,
 greatest resident memory, bytes of certificate per decided subproblem, the gap between cost and bound, and, where the
@@ -17,6 +17,7 @@ sys.path.append(os.path.dirname(os.path.dirname(os.path.abspath(__file__))))
 from common import write_design
 
 #        name               blocks  nets   words                                              check too
+TIME = "/usr/bin/time"
 CASES = [
     ("area-6", 6, 0, ["--nodes", "200000"], True),
     ("area-7", 7, 0, ["--nodes", "1800000"], True),
@@ -29,11 +30,15 @@ CASES = [
 
 
 def timed(words):
-    process = subprocess.Popen(words, stdout=subprocess.PIPE)
+    """The processor time, the memory in MB, the status and the report. A process that this script starts begins with the size of
+    the script, so GNU time tells the memory."""
+    process = subprocess.Popen([TIME, "--quiet", "-f", "%M", "-o", "memory.kb"] + words, stdout=subprocess.PIPE)
     out = process.stdout.read().decode()
     _, status, usage = os.wait4(process.pid, 0)
+    with open("memory.kb") as told:
+        memory = int(told.read()) / 1024
     lines = dict(line.split(" ", 1) for line in out.splitlines() if " " in line)
-    return usage.ru_utime + usage.ru_stime, usage.ru_maxrss / 1024, os.waitstatus_to_exitcode(status), lines
+    return usage.ru_utime + usage.ru_stime, memory, os.waitstatus_to_exitcode(status), lines
 
 
 def gap(lines):
@@ -60,7 +65,7 @@ def main():
             weight = words[:2] if nets else []
             took, _, status, said = timed([program, "check"] + design + weight + ["--cert", "d.cert"])
             checked = "%.2f s, %s" % (took, said["status"])
-        row = (name, "%.2f s" % seconds, str(decided), "%d" % (decided / seconds), "%d MB" % memory, "%.1f" % (os.path.getsize("d.cert") / decided), gap(lines), checked)
+        row = (name, "%.2f s" % seconds, str(decided), "%d" % (decided / seconds), "%.1f MB" % memory, "%.1f" % (os.path.getsize("d.cert") / decided), gap(lines), checked)
         print("| " + " | ".join(row) + " |")
 
 

@@ -3,16 +3,16 @@
 
 Three things are measured, of designs that `gen` makes:
 
-  the processor time of one trial of a walk, and of one trial of the improvement behind it: that of a run with many trials less that
-  of a run with few, by the number of trials between, the least of three. Where the path of the native annealer is given, the same
-  of that program on the same designs, in turn with it, and how many times its time the program takes;
+  the processor time of one trial of a walk, and of one trial of the improvement after it. It is the time of a run with many trials
+  minus that of a run with few, divided by the difference of their numbers, the least of three. Where the path of the native
+  annealer is given, it is measured in turn on the same designs, with the ratio of the two times;
   the wall time of `--starts 8`, whose walks are shared out among threads, and of its eight walks one after another, each by a run
   of its own;
-  the processor time of one decision of a search by one worker that begins with a plan, the chain of all blocks or one step beside
-  it, and of one that begins with none, the least of three. Wanted are at most 1.5 times as much, and 2.5 times where a design has
-  100 blocks and more; a figure that is not as wanted has a mark behind it.
+  the processor time of one decision of a search by one worker that begins with a plan (the chain of all blocks, or one step from
+  it), and of one that begins with none, the least of three. The first should be at most 1.5 times the second, and 2.5 times where
+  a design has 100 blocks and more; a figure that misses its aim has a mark behind it.
 
-But for the last, each search has a budget of one decision. Times want a machine with nothing else to do.
+In all but the last, each search has a budget of one decision. Times want a machine with nothing else to do.
 """
 import os
 import subprocess

@@ -6,16 +6,16 @@ searched by one worker (`plan --workers 1`, one walk), by teams of one (`resume`
 root open), of two and of four workers, and by four programs at once that share nothing. Printed are, per case, the least of
 all times:
 
-  processor time per decision of one worker and of each team, and each team's over one worker's. Wanted are at most 1.5, and 2.5
-  where a design has 100 blocks and more;
+  processor time per decision of one worker and of each team, and the ratio of each team's to one worker's. Wanted is at most 1.5,
+  and 2.5 where a design has 100 blocks and more;
   wall time per decision, and how much faster two and four workers are than one;
-  how many times the work of one program four programs do at once on this machine, and how much faster four workers are than
-  one, over that. Wanted, of the cases with a million decisions and more, are 2.5 times as fast where the four programs do 3.3
-  times the work and more, and else 0.75 of what they do;
+  how many times the work of one program four programs do at once on this machine, and the speedup of four workers divided by
+  that. Wanted, of the cases with a million decisions and more, is a speedup of 2.5 where the four programs do 3.3 times the work
+  and more, and else of 0.75 times what they do;
   greatest resident memory per decision, of those beyond a quarter of the budget: what a search takes before, and threads with
-  their stacks and heaps, are not counted; and each team's over one worker's. Wanted are at most 1.5.
+  their stacks and heaps, are not counted; and the ratio of each team's to one worker's. Wanted is at most 1.5.
 
-A figure that is not as wanted has a mark behind it. The program runs with memory laid out as `./floorplan` has it. Memory is told by
+A figure that misses its aim has a mark behind it. The program runs with the heap settings of `./floorplan`. Memory is measured by
 GNU time, which starts each run: a process that is started by this script begins with the size of the script. Times want a machine
 with four processors and nothing else to do.
 """
@@ -31,10 +31,10 @@ from common import write_design
 
 #         name     blocks nets   decisions  most processor time, as fast as four programs
 CASES = [
-    ("area-7", 7, 0, 1800000, 1.5, True),
+    ("area-7", 7, 0, 2400000, 1.5, True),
     ("area-20", 20, 0, 12000000, 1.5, True),
-    ("area-100", 100, 0, 1000000, 2.5, False),
-    ("area-320", 320, 0, 1000000, 2.5, False),
+    ("area-100", 100, 0, 4000000, 2.5, False),
+    ("area-320", 320, 0, 4000000, 2.5, False),
     ("wire-6", 6, 12, 1000000, 1.5, True),
     ("wire-20", 20, 40, 4000000, 1.5, True),
     ("wire-50", 50, 100, 300000, 1.5, False),

@@ -2,11 +2,11 @@
 """Measures the search by workers: python3 bench/measures/workers.py PATH/floorplan [TABLE..]
 
 TABLE is results or memory; without one both are printed. Each figure is taken three times. The designs are those of run.py and
-examples/ten. How much faster several workers are than one is told by teams.py. The program runs with memory laid out as
-`./floorplan` has it, unless the caller's environment says otherwise (`GLIBC_TUNABLES`, which may be empty).
+examples/ten. How much faster several workers are than one is measured by teams.py. The program runs with the heap settings of
+`./floorplan`, unless the caller's environment says otherwise (`GLIBC_TUNABLES`, which may be empty).
 
 results  cost, bound and wall time for 1, 2 and 4 workers after 10^3, 10^4, 10^5 and 10^6 decisions. What several workers
-         find depends on how they come, so the greatest cost, the least bound and the longest time of three are printed.
+         find depends on their timing, so the greatest cost, the least bound and the longest time of three are printed.
          A budget above the design's limit is left out.
 
 memory   greatest resident size of a search of 2,000,000 decisions of 7 blocks by 4 workers.
