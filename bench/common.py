@@ -1,4 +1,4 @@
-"""What scripts of both folders use: designs made from a number, runs of a program, and one call that runs all scripts of a folder.
+"""What scripts of both folders use: designs made from a seed, runs of a program, and one call that runs all scripts of a folder.
 
 The designs follow from a generator of their own, x -> 6364136223846793005 x + 1442695040888963407 mod 2^64, of which the upper
 31 bits are used: block i is w by h with w and h from 4 to 32.

@@ -1,7 +1,7 @@
 #!/usr/bin/env python3
 """Looks up what docs/CLAIMS.md names: python3 bench/trials/claims.py
 
-Each row of its tables names calls, clauses and tests. Looked for are: the call as a function of its crate, handed out at the
+Each row of its tables names calls, clauses and tests. Looked for are: the call as a function of its crate, exported at the
 root unless the row says otherwise; each clause as an `ensures` of one of the row's calls, or a definition in a `specs` folder,
 and behind a definition and a colon its fields; each test as a function under `#[test]`, and each script in bench/trials. Printed is a
 line for each name that isn't there, and how many were looked up; a missing one ends the run with status 1.

@@ -1,16 +1,16 @@
 #!/usr/bin/env python3
-"""Lets the outside of the built program fail: python3 bench/trials/faults.py PATH/floorplan [FOLDER]
+"""Makes memory, files and output of the built program fail: python3 bench/trials/faults.py PATH/floorplan [FOLDER]
 
 Each case is run once undisturbed, and then once for each allocation that it makes, with this one refused. A run with a
 refused allocation has to answer NoMemory with nothing stored and nothing printed, or what the undisturbed run answers, or
 a fault of reading or of writing where the memory was wanted to open or to write a file. No run may be ended by a signal.
 
-Then the program's own statuses: words and files for each of 0 to 8, with what is printed.
+Then the program's own statuses: arguments and files for each of 0 to 8, with what is printed.
 
 Last the files and the output of a run are real ones that fail: a full device, a closed stream, a folder that isn't there, a
 folder in the place of a file, and a file of more than 64 MiB.
 
-Wanted are `cc`, with which an object is built that counts allocations and refuses one, and a system with /dev/full.
+Needed are `cc`, with which an object is built that counts allocations and refuses one, and a system with /dev/full.
 """
 import os
 import subprocess

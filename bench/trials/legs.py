@@ -1,11 +1,11 @@
 #!/usr/bin/env python3
-"""Tries searches that go on from a certificate: python3 bench/trials/legs.py PATH/floorplan [DESIGNS [FOLDER]]
+"""Tests searches that go on from a certificate: python3 bench/trials/legs.py PATH/floorplan [DESIGNS [FOLDER]]
 
 Twelve designs (or DESIGNS of them) are generated, of 2 to 5 hard or mixed blocks with nets, and each is planned in one go.
-Then a search is spent at 1,000 decisions, and gone on with in legs of 1,000 by 1, 2 and 4 workers until it ends. `check`
-must say Yes to each certificate on the way; each leg that is spent must have decided 1,000 more; and the cost at the end
+Then a search stops at 1,000 decisions, and goes on in legs of 1,000 by 1, 2 and 4 workers until it ends. `check`
+must say Yes to each certificate on the way; each leg that spends its budget must have decided 1,000 more; and the cost at the end
 must be that of the search in one go. So must it be where a leg goes on from a tree that no search has left: subtrees of the
-one go's certificate are cut out at random, and its root is split before anything else is decided. Printed is a line for each
+certificate of that search are cut out at random, and its root is split before anything else is decided. Printed is a line for each
 design; the first answer that is not as it should be ends the run with status 1.
 """
 import os

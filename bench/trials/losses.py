@@ -1,5 +1,5 @@
 #!/usr/bin/env python3
-"""Tries what is told of a design that is read with loss: python3 bench/trials/losses.py PATH/floorplan
+"""Tests what is reported of a design that is read with loss: python3 bench/trials/losses.py PATH/floorplan
 
 Designs are planned, checked and measured whose terminals have no coordinates, whose modules are of the type PAD, or whose pads have
 no pl file: a line for each must stand on the standard error, with the count, and nothing else there. Where the design is refused,

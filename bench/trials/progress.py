@@ -3,7 +3,7 @@
 
 PATH is the start script by default. Squares of the sides 1 to 7 are planned with a budget of 300,000 decisions, once with
 pipes, once with a terminal of its own in the place of the standard error, and once with one terminal for both outputs.
-The pipes must take the report alone. The terminal must take a line each 65,536 decisions and then one that takes it away;
+The pipes must take the report alone. The terminal must take a line each 65,536 decisions and then one that clears it;
 the standard output must be the same byte for byte; and where both go to one terminal, the line must be gone before the
 report. The first difference ends the run with status 1.
 """

@@ -2,11 +2,11 @@
 """Asks two checkers: python3 bench/trials/second_agrees.py PATH/floorplan [FOLDER]
 
 Designs of hard and soft blocks, with and without nets and pads, are written or generated into FOLDER (a temporary one by
-default) and planned with several weights (those of nets among them, made by chance), outlines and budgets. Each certificate,
-many damaged copies of it, copies with other paths from pad to pad, legal and not, and some trees made by chance, which show
+default) and planned with several weights (random ones of nets among them), outlines and budgets. Each certificate,
+many damaged copies of it, copies with other paths from pad to pad, legal and not, and some random trees, which show
 what one part of the bound is worth at one subproblem, are given to `floorplan check`, with `--rewrite` and without, and to
 second_checker.py, which must print the same, end with the same status and store the same certificate anew; and what `plan`
-stores is stored anew as it is. A walk between pads is made by chance too, so that paths occur with each bound. Printed is a
+stores is stored anew as it is. A random walk between pads is made too, so that paths occur with each bound. Printed is a
 line for each design with how many paths its certificate has and the answers that came; the first difference ends the run with
 status 1, and leaves the certificate.
 """

@@ -2,10 +2,10 @@
 """Tries the start script: python3 bench/trials/start.py
 
 A copy of `floorplan` stands in a small repository of its own, with a stand-in for the kit's `rt` that proves nothing and
-whose program prints its words and ends with the status that its first word names. The script is called by links, through
+whose program prints its arguments and ends with the status that the first one names. The script is called by links, through
 CDPATH, from other folders, twice at once, without `rt`, with a kit that changed, with sources and tests that changed, with
-a build that fails, in a folder that can't be written, by the name of the batch program, and with an allocator that is
-told how to lay out heaps. The first answer that isn't as it should be ends the run.
+a build that fails, in a folder that can't be written, by the name of the batch program, and with heap
+settings of the caller's own. The first answer that isn't as it should be ends the run.
 """
 import os
 import re
