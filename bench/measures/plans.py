@@ -1,14 +1,14 @@
 #!/usr/bin/env python3
-"""What annealed starts bring: python3 bench/measures/plans.py PATH/floorplan [BLOCKS..]
+"""What annealed starts bring: python3 bench/measures/plans.py PATH/floorplan [strong] [BLOCKS..]
 
 Each line of best.txt names a design that `gen` makes, two weights, and the least cost known of a plan of it. Each of these, or each
 of so many blocks where numbers are given, is planned by
 
     plan --starts 4 --nodes 1000
 
-with one worker. Printed are, per design, the cost and how far it is above the least cost known, the dead space of the plan (its
-area over the least areas of its blocks in sum, less one), the bound, the gap (cost less bound over cost), and the wall and the
-processor time. Wanted is, of the designs with an area weight of 1, a cost of at most 2 % above the least one known in the mean,
+with one worker, and with `--bounds strong` where `strong` is given. Printed are, per design, the cost and how far it is above the
+least cost known, the dead space of the plan (its area over the least areas of its blocks in sum, less one), the bound, the gap (cost
+less bound over cost), and the wall and the processor time. Wanted is, of the designs with an area weight of 1, a cost of at most 2 % above the least one known in the mean,
 and of at most 5 % each; a figure that is not as wanted has a mark behind it. Costs don't depend on the machine.
 """
 import os
@@ -69,7 +69,9 @@ def judged(figure, is_as_wanted):
 
 def main():
     program = os.path.abspath(sys.argv[1])
-    sizes = [int(word) for word in sys.argv[2:]]
+    sizes = [int(word) for word in sys.argv[2:] if word != "strong"]
+    if "strong" in sys.argv[2:]:
+        WORDS.extend(["--bounds", "strong"])
     os.chdir(tempfile.mkdtemp())
     print("| Blocks | seed | kinds | area weight | wire weight | cost | least known | above it | dead space | bound | gap | wall time | processor time |")
     print("|---|---|---|---|---|---|---|---|---|---|---|---|---|")
