@@ -8,8 +8,9 @@ of so many blocks where numbers are given, is planned by
 
 with one worker, and with `--bounds strong` where `strong` is given. Printed are, per design, the cost and how far it is above the
 least cost known, the dead space of the plan (its area over the least areas of its blocks in sum, less one), the bound, the gap (cost
-less bound over cost), and the wall and the processor time. Wanted is, of the designs with an area weight of 1, a cost of at most 2 % above the least one known in the mean,
-and of at most 5 % each; a figure that is not as wanted has a mark behind it. Costs don't depend on the machine.
+less bound over cost), and the wall and the processor time. Wanted is, of the designs with an area weight of 1, a cost of at most 2 %
+above the least one known in the mean, and of at most 5 % each; a figure that is not as wanted has a mark behind it. Costs don't
+depend on the machine.
 """
 import os
 import subprocess
