@@ -26,13 +26,14 @@ pub fn read(alloc: Global, text: &[u8], blocks: u16) -> Result<Cert, CertFault>
     let mut scan = Scan::new(text);
     let header = read_header(alloc, &mut scan, text, blocks)?;
     let tags = read_tree(alloc, &mut scan, text, header.version, blocks)?;
+    let tags = TagList::from_vec(alloc, tags)?;
     Ok(Cert {
         blocks,
         plan: header.plan,
         cost: header.cost,
         bound: header.bound,
         paths: header.paths,
-        tags: TagList::from_vec(tags),
+        tags,
     })
 }
 

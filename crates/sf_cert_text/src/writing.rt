@@ -16,7 +16,7 @@ ghost use Rattle.sf_model.specs.CostText.{cost_text};
 
 use crate::path_writing::{has_none, push_paths};
 use itoa::Buffer;
-use sf_certificate::{Cert, Tag};
+use sf_certificate::{Cert, Tag, TagList};
 use sf_model::{Paths, push_cost};
 use sf_node::Part;
 use sf_polish::{Expr, push_expr};
@@ -28,7 +28,8 @@ const ROW: usize = 4096;
 /// No line of a tag has more bytes: an `S`, a space, five digits and the end of the line.
 const LONGEST: usize = 8;
 
-/// How many bytes the line of a closed subproblem has, which are most of a long text: what is laid out for each tag.
+/// How many bytes the line of a closed subproblem has. Most lines of a long text are such, so as many are reserved for
+/// each tag. The lines of other tags, but for a split's, are no longer.
 const CLOSED: usize = 4;
 
 /// The text of a certificate, of the second version, or of the third where it has paths: a header, then one
@@ -42,9 +43,8 @@ pub fn write(alloc: Global, cert: &Cert) -> Result<Vec<u8>, NoMemory>
     let mut header = String::new(alloc);
     push_header(&mut header, cert)?;
     let mut text = header.into_bytes();
-    let tags = cert.tags.as_slice();
-    text.reserve(tags.len().saturating_mul(CLOSED))?;
-    push_tags(&mut text, tags)?;
+    text.reserve(cert.tags.len().saturating_mul(CLOSED))?;
+    push_tags(&mut text, &cert.tags)?;
     Ok(text)
 }
 
@@ -133,18 +133,40 @@ fn push_plan(text: &mut String, plan: &Option<Expr>) -> Result<(), NoMemory>
 
 /// Adds the lines of the tags. They are put together in a row of bytes, which is added where it has no place for
 /// another line.
-fn push_tags(text: &mut Vec<u8>, tags: &[Tag]) -> Result<(), NoMemory>
+fn push_tags(text: &mut Vec<u8>, tags: &TagList) -> Result<(), NoMemory>
     ensures fits { OnOk result (All FitsTag tags.now) }
     ensures text { OnOk result (text.new.items ≡ text.old.items ++ tags_text tags.now) }
 {
     let mut row = [0; ROW];
     let mut end = 0;
-    for tag in tags {
-        let at = make_room(text, &row, end)?;
-        end = put_tag(&mut row, at, *tag);
+    for run in tags.runs() {
+        end = put_run(text, &mut row, end, run)?;
     }
     text.extend_from_slice(&row[..end])?;
     Ok(())
+}
+
+/// Adds the lines of a run. What the row holds ends at `start`, and a full row is added to the text. The answer is
+/// where the lines end in the row.
+#[inline(always)]
+fn put_run(
+    text: &mut Vec<u8>,
+    row: &mut [u8; ROW],
+    start: usize,
+    run: &[Tag],
+) -> Result<usize, NoMemory>
+    requires within { start ≤ ROW }
+    ensures fits { IfOk result (λ _. All FitsTag run.now) }
+    ensures within { IfOk result (λ end. end ≤ ROW) }
+    ensures text { IfOk result (λ end. text.new.items ++ take end row.new
+        ≡ (text.old.items ++ take start row.old) ++ tags_text run.now) }
+{
+    let mut end = start;
+    for tag in run {
+        let at = make_room(text, row, end)?;
+        end = put_tag(row, at, *tag);
+    }
+    Ok(end)
 }
 
 /// Adds the bytes of the row where it has no place for another line. The answer is where the next line begins.

@@ -36,5 +36,5 @@ pub use Rattle.std.proofs.Math.Seq.{drop-cons, map-set_same, take-add, take-suc}
 pub use Rattle.std.proofs.lemmas.List.{drop-set-lt, drop_all, length-drop, map-append, take-append-drop, take_all, take_more_set}
 pub use Rattle.std.proofs.lemmas.List.Elements.{All-append, All-from_recursion, recursion_from_All}
 pub use Rattle.std.proofs.lemmas.Result.{err_from_is_err_and}
-pub use Rattle.std.specs.List.{AllByRecursion}
+pub use Rattle.std.specs.List.{AllByRecursion, flat_map}
 pub use Rattle.std.specs.Prelude.{All, Contains, IfErr, MatchOption, OnOk, is_some, nat_lt, slice_set, ⊤}

@@ -81,12 +81,15 @@ pub none-of : (o : Option Why) → is_some o ≡ false → o ≡ None
 none-of None e = refl
 none-of (Some why) e = absurd (cc)
 
--- the tags before a place, the tag there and those behind it
-pub at-tag : (tags : List Tag) (i : ℕ) (d : Tag) → i < length tags → tags ≡ take i tags ++ get_or tags i d ∷ drop (suc i) tags
-at-tag tags i d h = sym (take-append-drop i tags) ∙ ap (λ ts. take i tags ++ ts) (drop-cons tags i d h)
+-- among the tags before a run, those of the run and those behind it: the tags before a place of the run, the tag there and those behind it
+pub at-tag : (before tags after : List Tag) (i : ℕ) (d : Tag) → i < length tags → before ++ (tags ++ after) ≡ (before ++ take i tags) ++ get_or tags i d ∷ (drop (suc i) tags ++ after)
+at-tag before tags after i d h =
+    let here : tags ≡ take i tags ++ get_or tags i d ∷ drop (suc i) tags = sym (take-append-drop i tags) ∙ ap (λ ts. take i tags ++ ts) (drop-cons tags i d h) in
+    ap (λ ts. before ++ (ts ++ after)) here ∙ ap (λ ts. before ++ ts) (append_assoc (take i tags) (get_or tags i d ∷ drop (suc i) tags) after)
+    ∙ sym (append_assoc before (take i tags) (get_or tags i d ∷ (drop (suc i) tags ++ after)))
 
--- the tags up to a place and the one there
-pub past-tag : (tags : List Tag) (i : ℕ) (d : Tag) → i < length tags → take i tags ++ get_or tags i d ∷ [] ≡ take (i + 1) tags
-past-tag tags i d h =
+-- the tags up to a place of the run and the one there
+pub past-tag : (before tags : List Tag) (i : ℕ) (d : Tag) → i < length tags → (before ++ take i tags) ++ get_or tags i d ∷ [] ≡ before ++ take (i + 1) tags
+past-tag before tags i d h =
     let more : suc i ≡ i + 1 = omega arith in
-    sym (take-suc tags i d h) ∙ ap (λ k. take k tags) more
+    append_assoc before (take i tags) (get_or tags i d ∷ []) ∙ ap (λ ts. before ++ ts) (sym (take-suc tags i d h) ∙ ap (λ k. take k tags) more)

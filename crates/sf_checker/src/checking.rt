@@ -30,8 +30,10 @@ pub fn check<B: Bounds>(
 {
     let mut judge = Judge::new(alloc, design, bounds, &cert.plan, cert.cost)?;
     let mut room = bounds.room(alloc);
-    for tag in cert.tags.as_slice() {
-        judge.take(design, bounds, cert.cost, *tag, &mut room)?;
+    for run in cert.tags.runs() {
+        for tag in run {
+            judge.take(design, bounds, cert.cost, *tag, &mut room)?;
+        }
     }
     Ok(judge.answer(cert.cost, cert.bound))
 }

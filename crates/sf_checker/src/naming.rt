@@ -102,15 +102,16 @@ pub fn name_parts<B: Bounds>(
         paths,
         tags,
     } = cert;
-    let mut tags = tags.into_vec();
+    let mut tags = tags.into_vec(alloc)?;
     parts_are_below(design, bounds);
     name_tags(alloc, design, bounds, cost, &mut tags)?;
+    let named = TagList::from_vec(alloc, tags)?;
     Ok(Cert {
         blocks,
         plan,
         cost,
         bound,
         paths,
-        tags: TagList::from_vec(tags),
+        tags: named,
     })
 }

@@ -39,7 +39,7 @@ pub fn lay(
         → IsLaid design.now value part pieces.items plan cost bound cert) }
 {
     sort(&mut pieces)?;
-    let tags = TagList::from_vec(tags_of(alloc, pieces)?);
+    let tags = TagList::from_runs(runs_of(alloc, pieces)?);
     let blocks = design.block_count();
     let paths = copy_paths(alloc, &design.routes.paths)?;
     Ok(Cert {
@@ -61,22 +61,14 @@ fn sort(pieces: &mut Vec<Piece>) -> Result<(), NoMemory>
     Ok(())
 }
 
-/// The tags of pieces, one piece behind another.
-fn tags_of(alloc: Global, pieces: Vec<Piece>) -> Result<Vec<Tag>, NoMemory>
-    ensures { IfOk result (λ tags. tags.items ≡ flat_map (λ p. p.tags.items) pieces.items) }
+/// The tags of pieces, a run for each.
+fn runs_of(alloc: Global, pieces: Vec<Piece>) -> Result<Vec<Vec<Tag>>, NoMemory>
+    ensures { IfOk result
+        (λ runs. flat_map (λ run. run.items) runs.items ≡ flat_map (λ p. p.tags.items) pieces.items) }
 {
-    let mut tags = Vec::with_capacity(alloc, count_of(&pieces))?;
-    for mut piece in pieces {
-        tags.append(&mut piece.tags)?;
-    }
-    Ok(tags)
-}
-
-/// How many tags pieces have.
-fn count_of(pieces: &[Piece]) -> usize {
-    let mut count: usize = 0;
+    let mut runs = Vec::with_capacity(alloc, pieces.len())?;
     for piece in pieces {
-        count = count.saturating_add(piece.tags.len());
+        runs.push(piece.tags)?;
     }
-    count
+    Ok(runs)
 }

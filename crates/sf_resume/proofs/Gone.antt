@@ -13,6 +13,11 @@ pub decided-more : (tags : List Tag) (tag : Tag) → decided (tags ++ tag ∷ []
 decided-more [] tag = grind arith
 decided-more (t ∷ tags) tag = grind (arith, decided-more tags tag)
 
+-- tags of two lists
+pub decided-append : (tags more : List Tag) → decided (tags ++ more) ≡ decided tags + decided more
+decided-append [] more = omega arith
+decided-append (t ∷ tags) more = grind (arith, decided-append tags more)
+
 -- a tag decides one subproblem at most
 pub one-few : (tag : Tag) → one_decided tag ≤ 1
 one-few tag = grind arith

@@ -8,7 +8,7 @@ ghost use Rattle.sf_resume.specs.Resumed.{IsResumed};
 use crate::cutting::{Apart, cut_apart};
 use crate::grafting::graft;
 use sf_bound::Bounds;
-use sf_certificate::{Cert, Tag};
+use sf_certificate::{Cert, Tag, TagList};
 use sf_io::Gate;
 use sf_model::Design;
 use sf_rounds::{Found, Leg, Opened, SearchOptions, copy_plan, go_on, leave_open};
@@ -44,7 +44,7 @@ pub fn resume<R: Threads + Sync, B: Bounds, G: Gate>(
     let Apart {
         pieces: old,
         stretches,
-    } = cut_apart(alloc, design, bounds, &tags.into_vec())?;
+    } = cut_apart(alloc, design, bounds, &tags.into_vec(alloc)?)?;
     let Leg {
         left,
         pieces: mut new,
@@ -60,7 +60,7 @@ pub fn resume<R: Threads + Sync, B: Bounds, G: Gate>(
     new.append(&mut open)?;
     let plan = copy_plan(alloc, &best)?;
     let cert = graft(alloc, design, bounds, old, new, best, value, bound)?;
-    let decided = decided_by(cert.tags.as_slice());
+    let decided = decided_by(&cert.tags)?;
     Ok(Found {
         plan,
         cost: value,
@@ -80,13 +80,24 @@ fn one_decided(tag: Tag) -> u64
     }
 }
 
-/// How many subproblems the tags decide.
-fn decided_by(tags: &[Tag]) -> u64
-    ensures { result ≡ decided tags.now }
+/// How many subproblems the tags of a run decide.
+fn decided_in(run: &[Tag]) -> u64
+    ensures { result ≡ decided run.now }
 {
     let mut count = 0;
-    for tag in tags {
+    for tag in run {
         count += one_decided(*tag);
     }
     count
+}
+
+/// How many subproblems the tags decide. So many that a `u64` can't count them don't fit into memory.
+fn decided_by(tags: &TagList) -> Result<u64, NoMemory>
+    ensures { IfOk result (λ count. count ≡ decided tags.now) }
+{
+    let mut count: u64 = 0;
+    for run in tags.runs() {
+        count = count.checked_add(decided_in(run)).ok_or(NoMemory)?;
+    }
+    Ok(count)
 }

@@ -77,7 +77,7 @@ fn alone<B: Bounds, G: Gate>(
     let bound = walk.leave_open(design, bounds, &mut room)?;
     let (tags, best) = walk.into_named();
     let blocks = design.block_count();
-    let tags = TagList::from_vec(tags);
+    let tags = TagList::from_vec(alloc, tags)?;
     let paths = copy_paths(alloc, &design.routes.paths)?;
     let cert = Cert {
         blocks,

@@ -123,7 +123,13 @@ fn is_named(
 {
     let cert = read(alloc, text, blocks)?;
     match check(alloc, design, &Standard, &cert)? {
-        Answer::Yes(..) => Ok(name_parts(alloc, design, &Standard, cert)?.tags.as_slice() == tags),
+        Answer::Yes(..) => Ok(
+            name_parts(alloc, design, &Standard, cert)?
+                .tags
+                .into_vec(alloc)?
+                .as_slice()
+                == tags,
+        ),
         Answer::No(_) => Ok(false),
     }
 }

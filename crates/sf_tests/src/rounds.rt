@@ -133,11 +133,15 @@ const TAGS: [Tag; 9] = [
 /// Whether one worker finds the cost and the bound 8, by these tags.
 fn has_tags(rt: &(impl Threads + Sync), alloc: Global) -> Result<bool, AllocError> {
     let design = squares_and_pad(alloc)?;
-    let found = searched(rt, alloc, &design, 1, 100)?;
-    Ok(
-        (found.cost, found.bound, found.decided) == (8, 8, 9)
-            && found.cert.tags.as_slice() == TAGS.as_slice(),
-    )
+    let Found {
+        cost,
+        bound,
+        decided,
+        cert,
+        ..
+    } = searched(rt, alloc, &design, 1, 100)?;
+    let tags = cert.tags.into_vec(alloc)?;
+    Ok((cost, bound, decided) == (8, 8, 9) && tags.as_slice() == TAGS.as_slice())
 }
 
 /// The first plan costs 8 for its area and 4 for the net, so no area closes its subproblem yet. A later plan

@@ -21,4 +21,4 @@ pub returns-clause-ok : goal.returns-clause-ok
 returns-clause-ok c =
     let at = start-lines c.new-scan.result c.args.text.now c.new-scan.ensures.source c.new-scan.ensures.from in
     cert-whole c.args.blocks c.args.text.now _ c.in_ok-tags.tags.items (ap (header_read c.args.blocks (last_line_of c.args.text.now)) (sym at) ∙ c.in_ok-header.ensures.header) c.in_ok-tags.ensures.tags
-    ∙ ap (λ ts. Ok (record { blocks = c.args.blocks; plan = c.in_ok-header.header.plan; cost = c.in_ok-header.header.cost; bound = c.in_ok-header.header.bound; paths = c.in_ok-header.header.paths; tags = ts })) (sym c.from_vec.ensures)
+    ∙ ap (λ ts. Ok (record { blocks = c.args.blocks; plan = c.in_ok-header.header.plan; cost = c.in_ok-header.header.cost; bound = c.in_ok-header.header.bound; paths = c.in_ok-header.header.paths; tags = ts })) (sym c.in_ok-tags-2.ensures)

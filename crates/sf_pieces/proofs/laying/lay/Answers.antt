@@ -10,8 +10,8 @@ invariant_of-result c =
     let part = c.requires.tree.0 in
     let tree = laid-tree design part c.args.cost c.args.pieces.items c.requires.tree.1 c.sort.new.pieces.items c.sort.ensures.moved c.in_ok-sort.ensures.sorted in
     record {
-      form = laid-formed design part c.args.cost c.block_count-blocks.result told c.from_vec-tags.result c.args.plan c.block_count-blocks.ensures
-          (subst (IsTreeOf design part c.args.cost told) (sym (c.from_vec-tags.ensures ∙ c.in_ok-tags_of.ensures)) tree) c.requires.planned;
+      form = laid-formed design part c.args.cost c.block_count-blocks.result told c.from_runs-tags.result c.args.plan c.block_count-blocks.ensures
+          (subst (IsTreeOf design part c.args.cost told) (sym (c.from_runs-tags.ensures ∙ c.in_ok-runs_of.ensures)) tree) c.requires.planned;
     }
 
 pub returns : goal.returns
@@ -20,4 +20,4 @@ returns c = λ value part holds low.
     let told = told_by design c.args.pieces.items in
     let tree = laid-tree design part c.args.cost c.args.pieces.items holds c.sort.new.pieces.items c.sort.ensures.moved c.in_ok-sort.ensures.sorted in
     laid-cert design value part c.args.pieces.items c.args.plan c.args.cost c.args.bound _ c.block_count-blocks.ensures refl refl refl c.in_ok-paths.ensures
-    (subst (IsTreeOf design part c.args.cost told) (sym (c.from_vec-tags.ensures ∙ c.in_ok-tags_of.ensures)) tree) c.requires.planned low
+    (subst (IsTreeOf design part c.args.cost told) (sym (c.from_runs-tags.ensures ∙ c.in_ok-runs_of.ensures)) tree) c.requires.planned low
