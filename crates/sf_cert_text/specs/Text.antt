@@ -1,6 +1,6 @@
 -- The text of a certificate, of the second version, or of the third where it has paths: a header, and one line for each tag in
 -- preorder.
-use Rattle.std.specs.Prelude.{ℕ, ◌<◌, ◌^◌, ⊤, List, [], ◌∷◌, ◌++◌, map, codes, Option, Some, None, if◌then◌else◌}
+use Rattle.std.specs.Prelude.{◌≡◌, ℕ, ◌<◌, ◌≤◌, ◌^◌, ⊤, List, [], ◌∷◌, ◌++◌, length, map, take, codes, Option, Some, None, if◌then◌else◌}
 use Rattle.std.specs.List.{flat_map}
 use Rattle.std.specs.Fmt.{decimal}
 use Rattle.sf_model.specs.CostText.{cost_text}
@@ -59,6 +59,11 @@ tag_text Extend = codes "E"
 tag_text (Split b) = labelled (codes "S") (decimal b)
 tag_text (Closed p) = labelled (codes "C") (part_text p)
 tag_text Open = codes "O"
+
+-- the first n of these bytes are the line of a tag; of a split there are none
+abbrev pub IsShortLine : Tag → List ℕ → ℕ → Type 0
+IsShortLine (Split b) line n = n ≡ 0
+IsShortLine tag line n = (n ≤ length line) × (take n line ≡ tag_text tag ++ 10 ∷ [])
 
 -- LF ends each line
 abbrev pub text_of_lines : List (List ℕ) → List ℕ

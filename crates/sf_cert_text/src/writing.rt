@@ -8,7 +8,7 @@ ghost use Rattle.sf_certificate.specs.declared.tag.Tag.TheVariants.{Split};
 ghost use Rattle.sf_certificate.specs.Said.{said_by};
 ghost use Rattle.sf_cert_text.specs.Reading.{cert_read};
 ghost use Rattle.sf_cert_text.specs.Text.{plan_text, header_lines, text_of_lines, tag_text, tags_text};
-ghost use Rattle.sf_cert_text.specs.Text.{cert_text, plan_lines, version_text, part_text, FitsTag};
+ghost use Rattle.sf_cert_text.specs.Text.{cert_text, plan_lines, version_text, part_text, FitsTag, IsShortLine};
 ghost use Rattle.sf_cert_text.specs.Paths.{FitsPaths};
 ghost use Rattle.sf_cert_text.specs.declared.writing.TheConstants.{ROW, LONGEST};
 ghost use Rattle.sf_model.specs.Paths.{all_lead};
@@ -192,11 +192,25 @@ fn put_tag(row: &mut [u8; ROW], at: usize, tag: Tag) -> usize
     ensures end { result ≤ at + LONGEST }
     ensures line { take result row.new ≡ take at row.old ++ (tag_text tag ++ 10 ∷ []) }
 {
+    if let Tag::Split(block) = tag {
+        return put_split(row, at, block);
+    }
+    let (line, len) = short_line(tag);
+    put(row, at, &line);
+    at + len
+}
+
+/// The line of a tag that is no split, in the first of these bytes, and its length. All four are put whatever the
+/// length, so that the copy takes no branch that depends on the tag. For a split the length is 0.
+#[inline(always)]
+fn short_line(tag: Tag) -> ([u8; CLOSED], usize)
+    ensures { IsShortLine tag result.0 result.1 }
+{
     match tag {
-        Tag::Extend => put(row, at, b"E\n"),
-        Tag::Split(block) => put_split(row, at, block),
-        Tag::Closed(part) => put(row, at, &[b'C', b' ', letter(part), b'\n']),
-        Tag::Open => put(row, at, b"O\n"),
+        Tag::Extend => ([b'E', b'\n', 0, 0], 2),
+        Tag::Split(_) => ([0; CLOSED], 0),
+        Tag::Closed(part) => ([b'C', b' ', letter(part), b'\n'], CLOSED),
+        Tag::Open => ([b'O', b'\n', 0, 0], 2),
     }
 }
 
