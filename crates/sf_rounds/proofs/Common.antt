@@ -26,11 +26,13 @@ pub use Rattle.sf_pieces.specs.Told.{AreTold, IsRead, mark_of, marks_in, open_ma
 pub use Rattle.sf_pieces.specs.declared.piece.Piece.{Piece}
 pub use Rattle.sf_polish.specs.Text.{IsWritable}
 pub use Rattle.sf_polish.specs.declared.expr.Expr.{Expr}
-pub use Rattle.sf_rounds.specs.Jobs.{Adds, Dealt, EachTwo, FirstsAre, Gathers, Handed, IsDone, IsFresh, IsSameBut, IsSeated, Passes, Ran, as_list, has_weight, log_of, open_of, place_of, with_put}
+pub use Rattle.sf_rounds.specs.Accounts.{AreFirst, Begins, IsNew}
+pub use Rattle.sf_rounds.specs.Jobs.{Adds, CanPass, CanStart, Dealt, EachTwo, FirstsAre, Gathers, Handed, IsDone, IsFresh, IsLarger, IsLast, IsPooled, IsRefilled, IsSameBut, IsSeated, Passes, Ran, Worked, as_list, has_weight, log_of, open_of, place_of, with_more, with_put}
 pub use Rattle.sf_rounds.specs.Legs.{AreLeftOpen, IsAbsorbed, IsGone, IsLeg, IsStep, newer, tags_in}
 pub use Rattle.sf_rounds.specs.Parting.{AddsParts, AreParts, IsCut}
 pub use Rattle.sf_rounds.specs.Rounds.{IsRound, all_waits}
 pub use Rattle.sf_rounds.specs.declared.job.Job.{Job}
+pub use Rattle.sf_rounds.specs.declared.job.Member.{Member}
 pub use Rattle.sf_rounds.specs.declared.job.RoundOut.{RoundOut}
 pub use Rattle.sf_search_core.specs.Conserved.{IsDecided, children}
 pub use Rattle.sf_search_core.specs.declared.entry.Entry.{Entry}

@@ -1,5 +1,5 @@
 -- A round goes on from what was decided before.
-use Rattle.std.proofs.Common.{◌≡◌, ◌≢◌, ℕ, ◌+◌, ◌<◌, ◌≤◌, ◌⊎◌, inl, inr, List, [], ◌∷◌, ◌++◌, map, length, All, ap, sym, ◌∙◌, subst, refl, arith, append-nil, length-append}
+use Rattle.std.proofs.Common.{◌≡◌, ℕ, ◌+◌, ◌<◌, ◌≤◌, ◌⊎◌, inl, inr, List, [], ◌∷◌, ◌++◌, map, length, All, ap, sym, ◌∙◌, subst, refl, arith, append-nil, length-append}
 use Rattle.sf_rounds.proofs.Common.{sum_by, Any, Option, Some, None, MatchOption, IsPermutation, slice_get, flat_map, sum_by-append, sum_by-IsPermutation, IsPermutation-refl, All-nil, All-append, All-weaker, Design, block_count, Expr, IsWritable, Stretch, Part, Parts, Entry, IsDecided, children, HasCost, BranchesFirst, IsStretch, IsPlan, IsEntry, Solves, any-left, any-right, AreTold, RoundOut, all_waits, IsGone, IsLeg, IsStep, IsAbsorbed, AreParts, newer, tags_in, nodes-permute}
 use Rattle.sf_rounds.specs.Run.{IsBest}
 use Rattle.sf_rounds.specs.declared.legs.Leg.{Leg}

@@ -1,5 +1,5 @@
 -- What stretches leave open.
-use Rattle.std.proofs.Common.{◌≡◌, ℕ, ◌<◌, ◌+◌, min, List, [], ◌∷◌, ◌++◌, map, length, ap, sym, ◌∙◌, subst, refl, arith, true, append-nil}
+use Rattle.std.proofs.Common.{◌≡◌, ℕ, ◌<◌, min, List, [], ◌∷◌, ◌++◌, map, length, ap, sym, ◌∙◌, subst, refl, arith, true, append-nil}
 use Rattle.sf_rounds.proofs.Common.{flat_map-append, map-append, IsPermutation, IsPermutation-refl, All-nil, All-cons, Design, Stretch, Part, Parts, Mark, marks, least, least-min, unnamed_mark, AreKept, AreTold, IsRead, kept-open, marks_in, open_mark, waits, all_waits, AreLeftOpen, root, Piece}
 use Rattle.sf_node.specs.Children.{walk}
 use Rattle.sf_node.specs.Later.{pending}

@@ -1,11 +1,26 @@
 -- What a round leaves, from what its workers did.
 use Rattle.std.proofs.Common.{◌≡◌, ℕ, zero, suc, ◌<◌, ◌≤◌, ◌⊎◌, inl, inr, min, List, [], ◌∷◌, ◌++◌, All, ap, sym, ◌∙◌, subst, arith}
-use Rattle.sf_rounds.proofs.Common.{Any, Option, Some, None, MatchOption, IsTrue, cases_lt, All-append, All-weaker, All-nil, All-cons, All-head, All-tail, Design, MAX, Expr, Stretch, Part, Parts, is_solved, Entry, Kind, IsDecided, Word, Knows, Place, IsFinished, IsStretch, IsPlan, IsEntry, Solves, IsBest, Job, RoundOut, AreTold, EachTwo, IsFresh, Dealt, Gathers, IsRound, Piece}
+use Rattle.sf_rounds.proofs.Common.{Any, Option, Some, None, MatchOption, IsTrue, slice_index_or, sum, cases_lt, All-append, All-weaker, All-nil, All-cons, All-head, All-tail, Design, MAX, Expr, Stretch, Part, Parts, is_solved, Entry, Kind, IsDecided, Word, Knows, Place, IsFinished, IsStretch, IsPlan, IsEntry, Solves, IsBest, Job, RoundOut, AreTold, EachTwo, IsFresh, Dealt, Gathers, IsRound, Piece}
 use Rattle.sf_search_core.specs.declared.entry.Kind.TheVariants.{Closed}
 use Rattle.sf_rounds.proofs.Whole.{Went, entries_in, conserved, all_entries, all_open, all_named, all_few, all_told}
 use Rattle.sf_rounds.proofs.Team.{all_solved, all_firsts}
 
 module _ (design : Design) (bound : Parts → ℕ) (part : Parts → Part → ℕ) where
+  -- a round of smaller quotas is one of these, where one that has a decision is one that has
+  pub round-within : (given : List Stretch) (quotas smaller : List ℕ) (value : ℕ) (r : RoundOut) → sum smaller ≤ sum quotas → ((i : ℕ) → 1 ≤ slice_index_or quotas i 0 → 1 ≤ slice_index_or smaller i 0)
+      → IsRound design bound part given smaller value r → IsRound design bound part given quotas value r
+  round-within given quotas smaller value r within some h = record {
+    entries = h.entries;
+    told = h.told;
+    conserved = h.conserved;
+    left = h.left;
+    value_is = h.value_is;
+    best = h.best;
+    few = (let f = h.few in omega (arith, f, within));
+    entries_are = h.entries_are;
+    firsts = λ i s e one. h.firsts i s e (some i one);
+  }
+
   -- a number that is at most a closed entry's value is at most its subproblem's bound
   below-closed : (z : ℕ) (k : Kind) (node : Parts) (v : ℕ) → z ≤ v → IsDecided k node (bound node) v → k ≡ Closed → z ≤ bound node
   below-closed z k node v low d e = (let h = subst (λ i. IsDecided i node (bound node) v) e d in omega (arith, low, h))

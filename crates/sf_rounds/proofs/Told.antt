@@ -1,5 +1,5 @@
 -- What pieces tell, of one search and of two.
-use Rattle.std.proofs.Common.{◌≡◌, ℕ, ◌+◌, ◌<◌, ◌≤◌, List, [], ◌∷◌, ◌++◌, map, length, All, ap, sym, ◌∙◌, subst, refl, arith, append_assoc, length-append}
+use Rattle.std.proofs.Common.{◌≡◌, ℕ, ◌+◌, ◌≤◌, List, [], ◌∷◌, ◌++◌, map, length, All, ap, sym, ◌∙◌, subst, refl, arith, append_assoc, length-append}
 use Rattle.sf_rounds.proofs.Common.{IsPermutation, flat_map, flat_map-append, length-map, length_permutation, map-append, sum_by-cons, All-nil, All-head, All-tail, All-append, All-weaker, IsPermutation-append, IsPermutation-append_comm, IsPermutation-append_left, IsPermutation-append_right, IsPermutation-refl, IsPermutation-trans, Design, Part, Parts, Entry, Mark, unnamed_mark, AreKept, AreTold, IsRead, kept-lower, mark_of, marks_in, open_mark, tags_in, Piece}
 use Rattle.sf_certificate.specs.declared.tag.Tag.{Tag}
 

@@ -29,7 +29,7 @@ pub stretches-weigh : (design : Design) (w : Parts → ℕ) (ss : List Stretch) 
 stretches-weigh design w ss = weigh_flat w (waits design) ss
 
 -- what is said of a result that is one holds
-ok-holds : {X E : Type 0} (P : X → Type 0) (r : Result X E) → IsOk r → IfOk r P → (x : X) × P x
+pub ok-holds : {X E : Type 0} (P : X → Type 0) (r : Result X E) → IsOk r → IfOk r P → (x : X) × P x
 ok-holds P (Ok x) ok h = (x, h)
 ok-holds P (Err e) ok h = absurd (cc)
 

@@ -1,5 +1,5 @@
 -- The workers of a round, before and after.
-use Rattle.std.specs.Prelude.{◌≡◌, ℕ, ◌+◌, min, ◌≤◌, ◌⊎◌, ⊤, List, [], ◌∷◌, ◌++◌, map, sum_by, All, Any, Option, Some, None, IfSome, IsOk, IfOk}
+use Rattle.std.specs.Prelude.{◌≡◌, ℕ, ◌+◌, min, ◌<◌, ◌≤◌, ◌⊎◌, ⊤, List, [], ◌∷◌, ◌++◌, map, sum_by, All, Any, Option, Some, None, IfSome, IsOk, IfOk}
 use Rattle.std.specs.List.{flat_map}
 use Rattle.sf_model.specs.declared.design.Design.{Design}
 use Rattle.sf_model.specs.declared.TheConstants.{MAX}
@@ -10,13 +10,16 @@ use Rattle.sf_cursor.specs.declared.stretch.Stretch.{Stretch}
 use Rattle.sf_cursor.specs.Stretches.{IsStretch}
 use Rattle.sf_pieces.specs.declared.piece.Piece.{Piece}
 use Rattle.sf_incumbent.specs.Seen.{Word, Knows}
+use Rattle.sf_budget.specs.Seen.{BudgetView}
 use Rattle.sf_frontier.specs.declared.place.Place.{Place}
 use Rattle.sf_frontier.specs.Ends.{with_put as owner_with}
 use Rattle.sf_frontier.specs.Team.{IsTeam, IsNewPlace}
 use Rattle.sf_worker.specs.declared.state.PassEnd.{PassEnd}
+use Rattle.sf_worker.specs.declared.state.WorkerState.{WorkerState}
 use Rattle.sf_worker.specs.Tasks.{IsBest}
 use Rattle.sf_worker.specs.Took.{IsReady, Passed, PassEnds, first_of, put_of, stretches_weigh, thieves_weigh}
 use Rattle.sf_rounds.specs.declared.job.Job.{Job}
+use Rattle.sf_rounds.specs.declared.job.Member.{Member}
 use Rattle.sf_rounds.specs.declared.job.Gathering.{Gathering}
 
 -- R holds at each place of two lists of one length
@@ -30,6 +33,11 @@ EachTwo R (x ∷ xs) (y ∷ ys) = R x y × EachTwo R xs ys
 abbrev pub as_list : Option Stretch → List Stretch
 as_list (Some s) = s ∷ []
 as_list None = []
+
+-- the stretch that stood last was taken out, or there was none
+abbrev pub IsLast : List Stretch → List Stretch → Option Stretch → Type 0
+IsLast old new None = (old ≡ []) × (new ≡ [])
+IsLast old new (Some s) = old ≡ new ++ s ∷ []
 
 module _ {T : Type 0} where
   -- the place of a worker: its deque, and where it steals
@@ -53,6 +61,45 @@ module _ {T : Type 0} where
   -- what a worker's pass did, where memory sufficed
   abbrev pub Ran : Design → (Parts → ℕ) → (Parts → Part → ℕ) → Job T → Job T → Type 0
   Ran design bound part old new = IfOk new.end (Passes design bound part old new)
+
+  -- the worker with a quota of so many more
+  abbrev pub with_more : Job T → ℕ → Job T
+  with_more j more = record j { state = record j.state { quota = j.state.quota + more } }
+
+  -- the worker had spent its quota, has drawn another, and takes up the stretch that it kept last
+  pub record IsRefilled (old new : WorkerState T) (drawn : ℕ) : Type 0 where
+    pub spent : old.quota ≡ 0
+    pub no_first : old.first ≡ None
+    pub some : 0 < drawn
+    pub last : IsLast old.kept.items new.kept.items new.first
+    pub frame : new ≡ record old { first = new.first; kept = new.kept; quota = drawn }
+
+  -- the conditions of a worker's passes: what it keeps after one is of that pass
+  pub record CanPass (design : Design) (bound : Parts → ℕ) (word : Word) (j : Job T) : Type 0 where
+    pub ready : IsReady design bound j.state
+    pub word_is : j.state.seat.word ≡ word.id
+    pub nothing_kept : j.state.kept.items ≡ []
+
+  -- they hold, and the account is of the budget
+  abbrev pub CanStart : Design → (Parts → ℕ) → Word → BudgetView → Member T → Type 0
+  CanStart design bound word budget m = CanPass design bound word m.job × (m.account.budget ≡ budget.id)
+
+  -- all passes of a worker did what one pass does of a quota that is larger by what the worker drew
+  pub record Worked (design : Design) (bound : Parts → ℕ) (part : Parts → Part → ℕ) (old new : Member T) : Type 0 where
+    pub drawn : ℕ
+    pub account : new.account ≡ record old.account { drawn = old.account.drawn + drawn }
+    pub ran : Ran design bound part (with_more old.job drawn) new.job
+
+  -- the worker with a larger quota
+  abbrev pub IsLarger : Job T → Job T → Type 0
+  IsLarger old new = (more : ℕ) × (new ≡ with_more old more)
+
+  -- each worker did what one pass does of a larger quota, and all of these are larger by no more than the rest
+  pub record IsPooled (design : Design) (bound : Parts → ℕ) (part : Parts → Part → ℕ) (rest : ℕ) (old new : List (Job T)) : Type 0 where
+    pub larger : List (Job T)
+    pub are : EachTwo IsLarger old larger
+    pub within : sum_by (λ j. j.state.quota) larger ≤ sum_by (λ j. j.state.quota) old + rest
+    pub ran : EachTwo (Ran design bound part) larger new
 
   -- a worker at the start of a round
   pub record IsFresh (value : ℕ) (word : Word) (j : Job T) : Type 0 where

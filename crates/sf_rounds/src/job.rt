@@ -1,5 +1,6 @@
 //! The work of a round, what each of its workers has, and what the round leaves.
 
+use sf_budget::Account;
 use sf_cursor::Stretch;
 use sf_frontier::{Place, Served};
 use sf_pieces::Piece;
@@ -7,18 +8,25 @@ use sf_polish::Expr;
 use sf_worker::{PassEnd, WorkerState};
 use std::alloc::AllocError as NoMemory;
 
-/// The work of a round: the stretches, and how many subproblems each worker may decide.
+/// The work of a round: the stretches, and a quota of decisions for each worker.
 #[derive(Drop)]
 pub struct RoundWork<'a> {
     pub stretches: Vec<Stretch>,
     pub quotas: &'a [u64],
 }
 
-/// One worker, and how its pass ended.
+/// One worker, and how its last pass ended.
 #[derive(Drop)]
 pub struct Job<T: Served> {
     pub state: WorkerState<T>,
     pub end: Result<PassEnd, NoMemory>,
+}
+
+/// One worker, and its account of the round's budget.
+#[derive(Drop)]
+pub struct Member<T: Served> {
+    pub job: Job<T>,
+    pub account: Account,
 }
 
 /// What the workers leave. The stretches that stand in deques are still there.

@@ -18,8 +18,8 @@ use std::alloc::{AllocError as NoMemory, Global};
 use std::mem;
 use std::thread::Threads;
 
-/// How many subproblems of one block a worker may decide in a round at most. Of more blocks it is so much less, so
-/// that rounds take about as long.
+/// The largest quota of a worker in a round, for one block. Of more blocks it is so much less, so that rounds take
+/// about as long.
 const MOST: u64 = 67_108_864;
 
 /// How many workers are asked for, and how many subproblems may be decided.
@@ -106,12 +106,12 @@ fn step<R: Threads + Sync, B: Bounds, G: Gate>(
         let out = round(rt, alloc, design, bounds, stretches, &[1], value, &OpenGate)?;
         return Ok(out);
     }
-    let quotas = shares(alloc, budget, longest(decided, design), workers)?;
+    let quotas = quotas_of(alloc, budget, longest(decided, design), workers)?;
     let out = round(rt, alloc, design, bounds, stretches, &quotas, value, gate)?;
     Ok(out)
 }
 
-/// How many subproblems a worker may decide in the next round, after so many. The first round is short, so that the
+/// The largest quota of a worker in the next round, after so many decisions. The first round is short, so that the
 /// workers stay near where one alone would be: a chain that comes to a plan has a decision for each token. Later ones
 /// are long, and there are few of them, since threads that are started anew share a processor for some hundredths of
 /// a second before the system spreads them over all.
@@ -129,7 +129,7 @@ fn longest(decided: u64, design: &Design) -> u64
 }
 
 /// The decisions that are left, shared out evenly, and at most so many for each worker.
-fn shares(alloc: Global, left: u64, most: u64, workers: u16) -> Result<Vec<u64>, NoMemory>
+fn quotas_of(alloc: Global, left: u64, most: u64, workers: u16) -> Result<Vec<u64>, NoMemory>
     requires some { (0 < left) × (0 < most) × (0 < workers) }
     ensures count { IfOk result (λ quotas. length quotas.items ≡ workers) }
     ensures few { IfOk result (λ quotas. sum quotas.items ≤ left) }

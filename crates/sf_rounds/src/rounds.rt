@@ -8,7 +8,7 @@ ghost use Rattle.sf_rounds.specs.Rounds.{IsRound};
 use crate::deal::deal;
 use crate::gather::gather;
 use crate::job::{Gathering, RoundOut, RoundWork};
-use crate::run::run_all;
+use crate::pooling::{first_quotas, run_pooled};
 use sf_bound::Bounds;
 use sf_cursor::Stretch;
 use sf_frontier::{Finish, Served, finish, team};
@@ -21,7 +21,8 @@ use std::marker::Brand;
 use std::thread::Threads;
 
 /// One worker for each quota walks over the stretches, each in a thread of its own, or one after another where
-/// none can be made. What is left of the stretches comes back.
+/// none can be made. A worker that has spent what it began with draws from what is left of all quotas, so that one
+/// may decide more than its own. What is left of the stretches comes back.
 pub fn round<R: Threads + Sync, B: Bounds, G: Gate>(
     rt: &R,
     alloc: Global,
@@ -59,11 +60,17 @@ fn round_as<R: Threads + Sync, T: Served + Sync, B: Bounds, G: Gate>(
         (λ r. IsRound design.now (B.Values.value bounds.now design.now)
         (B.part_value bounds.now design.now) work.entry.stretches.items work.entry.quotas.now value r) }
 {
-    let workers = work.quotas.len() as u16;
+    let RoundWork { stretches, quotas } = work;
+    let workers = quotas.len() as u16;
+    let (first, rest) = first_quotas(alloc, quotas)?;
     let places = team::<T>(alloc, workers)?;
     let (word, mut seat) = Incumbent::new(alloc, value, workers + 1)?;
-    let jobs = deal(alloc, design, bounds, &word, &mut seat, places, work)?;
-    let jobs = run_all(rt, jobs, design, bounds, &word, gate);
+    let begun = RoundWork {
+        stretches,
+        quotas: &first,
+    };
+    let jobs = deal(alloc, design, bounds, &word, &mut seat, places, begun)?;
+    let jobs = run_pooled(rt, alloc, jobs, rest, design, bounds, &word, gate)?;
     let Gathering {
         places,
         pieces,

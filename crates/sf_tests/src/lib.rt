@@ -8,6 +8,8 @@ mod anneal;
 #[cfg(test)]
 mod bounds;
 #[cfg(test)]
+mod budget;
+#[cfg(test)]
 mod certificate;
 #[cfg(test)]
 mod checker;

@@ -447,6 +447,11 @@ module _ {T : Type 0} (design : Design) (bound : Parts → ℕ) (part : Parts �
         rest_are = q.rest_are;
       }
 
+  -- and what both decided
+  pub passed-both : (a b c : WorkerState T) (x : List Parts) (p : Passed design bound part a b x) → p.rest ≡ [] → (q : Passed design bound part b c []) → (r : Passed design bound part a c x) × (r.rest ≡ q.rest) × (r.did.logged ≡ p.did.logged ++ q.did.logged)
+  unfolding passed-trans did-trans did-also
+  passed-both a b c x p none q = (passed-trans a b c x p none q, refl, refl)
+
   -- what a step found: the state with one stretch in hand
   pub record IsStep (S : Stretch → Type 0) (a b : WorkerState T) (found : Option Stretch) : Type 0 where
     pub log : b.log.items ≡ a.log.items

@@ -1,4 +1,4 @@
-use Rattle.std.proofs.Common.{◌≡◌, ◌<◌, [], length, arith, refl, inl, inr, ap, subst}
+use Rattle.std.proofs.Common.{◌<◌, length, arith, refl, inl, inr, ap, subst}
 use Rattle.sf_rounds.proofs.Common.{AreParts, nil_from_length, tags_in, nat_tests}
 use Rattle.sf_rounds.proofs.Gone.{gone-none, goes-on, goes-less, leg-is, step-few}
 use Rattle.sf_rounds.proofs.legs.go_on.Goals.{else-loop-budget-test, then-loop-budget-test+then-is_empty}

@@ -1,4 +1,3 @@
-use Rattle.std.proofs.Common.{◌≡◌, ◌+◌}
 use Rattle.sf_rounds.proofs.Gone.{Goes}
 use Rattle.sf_rounds.proofs.legs.go_on.Given as goal
 

@@ -1,5 +1,5 @@
 use Rattle.std.proofs.Common.{◌≡◌, ◌+◌, ◌<◌, ◌≤◌, length, sum, slice_index_or}
-use Rattle.sf_rounds.proofs.legs.shares.Given as goal
+use Rattle.sf_rounds.proofs.legs.quotas_of.Given as goal
 
 abbrev pub invariant-loop-worker : goal.invariant-loop-worker
 invariant-loop-worker l = record {
