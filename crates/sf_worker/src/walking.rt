@@ -21,12 +21,12 @@ use std::alloc::AllocError as NoMemory;
 
 /// How many tags a piece has at most. What is left of a longer walk goes on as a piece of its own, so that no
 /// list of tags grows far in the heap of a thread.
-const MOST_TAGS: usize = 65_536;
+const MOST_TAGS: usize = 16_384;
 
-/// The bits of the quota that are 0 where a worker looks whether it shares what it has in hand: at each 64th decision, or
-/// at each 16th where nets count, since a decision takes longer there.
+/// The bits of the quota that are 0 where a worker looks whether it shares what it has in hand: at each 256th decision,
+/// or at each 16th where nets count, since a decision takes longer there.
 fn look_mask(design: &Design) -> u64 {
-    if design.weights.wire == 0 { 63 } else { 15 }
+    if design.weights.wire == 0 { 255 } else { 15 }
 }
 
 /// One decision of the quota, of which so many were given in this pass. The answer is the value that it was made
