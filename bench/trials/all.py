@@ -2,7 +2,7 @@
 """Runs all scripts that answer yes or no: python3 bench/trials/all.py [PATH/floorplan PATH/floorbatch]
 
 The programs are those that the start script builds, unless others are named. Printed is a line for each script; one that says no
-ends the run with status 1, once all have run. `no_threads` wants root, `faults` a C compiler.
+ends the run with status 1, once all have run. `no_threads` and `stores` want root, `faults` and `stores` a C compiler.
 """
 import sys
 
@@ -24,6 +24,7 @@ SCRIPTS = {
     "batch": 2,
     "strong": 1,
     "faults": 1,
+    "stores": 1,
     "many_workers": 1,
     "second_agrees": 1,
 }

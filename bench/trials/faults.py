@@ -3,7 +3,8 @@
 
 Each case is run once undisturbed, and then once for each allocation that it makes, with this one refused. A run with a
 refused allocation has to answer NoMemory with nothing stored and nothing printed, or what the undisturbed run answers, or
-a fault of reading or of writing where the memory was wanted to open or to write a file. No run may be ended by a signal.
+a fault of reading or of writing where the memory was wanted to open or to write a file; each file then holds the old text or the
+new one, whole. No run may be ended by a signal.
 
 Then the program's own statuses: arguments and files for each of 0 to 8, with what is printed.
 
@@ -141,9 +142,9 @@ class Folder:
             return (run.returncode, run.stdout.decode(), self.held()), int.from_bytes(file.read(), sys.byteorder)
 
 
-def starts(part, whole):
-    """Each file holds what it should, or a first part of it."""
-    return all(name in whole and whole[name].startswith(text) for name, text in part.items())
+def are_whole(held, before, after):
+    """Each file holds what it should, or what it held."""
+    return all(text in (before.get(name), after.get(name)) for name, text in held.items())
 
 
 def refused_memory(folder):
@@ -156,7 +157,7 @@ def refused_memory(folder):
             told[status] = told.get(status, 0) + 1
             same = status == whole[0] and held.keys() == whole[2].keys() and (name in FREE or (printed, held) == whole[1:])
             silent = status in (7, 9) and printed == "" and held == files
-            halted = status == 8 and whole[1].startswith(printed) and starts(held, whole[2])
+            halted = status == 8 and whole[1].startswith(printed) and are_whole(held, files, whole[2])
             if not (same or silent or halted):
                 bad += 1
                 print("%s: refused allocation %d: status %d, printed %r, stored %s" % (name, number, status, printed, sorted(held)))

@@ -41,6 +41,7 @@ mkdir -p out && cp %(folder)s/program out/$name && echo "error Usage" && exit 2
 """
 PROGRAM = """#!/bin/sh
 if [ "$1" = sleep ]; then exec sleep 60; fi
+if [ "$1" = limit ]; then kill -s XFSZ $$; fi
 if [ "$1" = heaps ]; then echo "words heaps $GLIBC_TUNABLES"; exit; fi
 echo "words $*"
 exit "${STATUS-0}"
@@ -200,6 +201,7 @@ def statuses(trial):
     trial.call("status 7 of resume", unread, 7, "could not be read: none here;", env={"STATUS": "7"})
     unwritten = [trial.script, "resume", "--cert", "none", "--long", "--cert-out=no/b"]
     trial.call("status 8 of resume", unwritten, 8, "could not be written: no;", env={"STATUS": "8"})
+    trial.call("a file past the limit on its size", [trial.script, "limit"])
     process = subprocess.Popen([trial.script, "sleep"], env=trial.env)
     time.sleep(1)
     process.send_signal(signal.SIGTERM)

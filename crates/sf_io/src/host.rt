@@ -3,7 +3,8 @@
 ghost use Rattle.std.specs.Prelude.{◌≡◌, ◌+◌, ◌≤◌, ◌<◌, length, take, IfOk, OnOk, OnErr, IsErrOf};
 ghost use Rattle.sf_io.specs.Outside.{one_more};
 
-use crate::again::{read_some, write_some, write_whole};
+use crate::again::{read_some, write_some};
+use crate::replacing::store_file;
 use crate::{Failed, Gate, LoadFault, Shelf, Sink};
 use std::alloc::Global;
 use std::rt::Files;
@@ -12,7 +13,8 @@ use std::{fs, io};
 /// The most bytes that are read at once.
 const PIECE: usize = 16384;
 
-/// Files, by their paths. The counts begin at 0 and stay at the greatest number of `u64`.
+/// Files, by their paths. A store replaces a file whole or not at all; no clause says so. The counts begin at
+/// 0 and stay at the greatest number of `u64`.
 #[derive(Drop)]
 pub struct HostShelf<R: Files + Drop> {
     rt: R,
@@ -68,9 +70,9 @@ impl<R: Files + Drop> Shelf for HostShelf<R> {
         ensures later { host_store_faults self.old ≤ host_store_faults self.new }
         ensures loads { host_load_faults self.new ≡ host_load_faults self.old }
     {
-        match write_file(&self.rt, name, bytes) {
+        match store_file(&self.rt, self.alloc, name, bytes) {
             Ok(()) => Ok(()),
-            Err(Failed) => {
+            Err(_) => {
                 self.store_faults = self.store_faults.saturating_add(1);
                 Err(Failed)
             }
@@ -110,14 +112,6 @@ fn read_file<R: Files>(rt: &R, alloc: Global, name: &str, limit: u64) -> Result<
         }
     }
     Err(LoadFault::TooLong)
-}
-
-/// Writes a file from its start. Its bytes are nowhere told, so no clause can say that they are these.
-fn write_file<R: Files>(rt: &R, name: &str, bytes: &[u8]) -> Result<(), Failed> {
-    let Ok(mut file) = fs::create(rt, name) else {
-        return Err(Failed);
-    };
-    write_whole(&mut file, bytes)
 }
 
 /// The standard output.

@@ -14,6 +14,7 @@ mod memory;
 mod never;
 mod outside;
 mod partial;
+mod replacing;
 mod status;
 
 pub use again::{read_some, write_some, write_whole};
